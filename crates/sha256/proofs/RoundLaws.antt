@@ -1,0 +1,45 @@
+-- The rounds: the code makes them four at a time, on the words that are stored so far.
+-- Assumes nothing.
+use mathlib.Core.Path.{_≡_, refl, ap, _∙_}
+use mathlib.Core.List.{List}
+use Prim.Native.Nat.{ℕ, zero, suc, _+_, _≤_, _<_}
+use native.Mathlib.Nat.{lt-suc-self, add-zero, add-suc}
+use native.Mathlib.Omega.{arith}
+use lib.ListN.{take, getD}
+use Rattle.sha256.specs.declared.state.State.{State}
+use Rattle.sha256.specs.Constants.{K}
+use Rattle.sha256.specs.Compression.{W, afterRound, afterRounds}
+use Rattle.sha256.specs.Steps.{afterRoundsFrom}
+use Rattle.sha256.proofs.ScheduleLaws.{word-stored}
+
+pub four-rounds : (s s₁ s₂ s₃ r : State) (k w : List ℕ) (t : ℕ) → s₁ ≡ afterRound s (getD k t 0) (getD w t 0) → s₂ ≡ afterRound s₁ (getD k (t + 1) 0) (getD w (t + 1) 0)
+    → s₃ ≡ afterRound s₂ (getD k (t + 2) 0) (getD w (t + 2) 0) → r ≡ afterRound s₃ (getD k (t + 3) 0) (getD w (t + 3) 0) → r ≡ afterRoundsFrom s k w t 4
+unfolding afterRoundsFrom
+four-rounds s s₁ s₂ s₃ r k w t e₁ e₂ e₃ e₄ = rw add-zero (cc)
+
+-- n rounds after t rounds are t + n rounds
+rounds-from : (s : State) (w : List ℕ) (t n : ℕ) → afterRoundsFrom (afterRounds s w t) K w t n ≡ afterRounds s w (t + n)
+unfolding afterRounds afterRoundsFrom
+rounds-from s w t zero = rw add-zero
+rounds-from s w t (suc n) = rw (add-suc, rounds-from s w t n)
+
+-- rounds that see the same words
+rounds-agree : (s : State) (k w w′ : List ℕ) (t n : ℕ) → ((i : ℕ) → i < n → getD w (t + i) 0 ≡ getD w′ (t + i) 0) → afterRoundsFrom s k w t n ≡ afterRoundsFrom s k w′ t n
+unfolding afterRoundsFrom
+rounds-agree s k w w′ t zero h = refl
+rounds-agree s k w w′ t (suc n) h = rw (h n (lt-suc-self n), rounds-agree s k w w′ t n (λ (i : ℕ) (p : i < n). h i (omega arith)))
+
+-- four more rounds on a schedule w whose first u words are stored
+four-stored : (s : State) (block w : List ℕ) (u t : ℕ) (r q : State) → u ≤ 64 → t + 4 ≤ u → take u w ≡ W block u → r ≡ afterRounds s (W block 64) t
+    → q ≡ afterRoundsFrom r K w t 4 → q ≡ afterRounds s (W block 64) (t + 4)
+four-stored s block w u t r q hu h e e₁ e₂ =
+    e₂
+    ∙ rounds-agree r K w (W block 64) t 4 (λ (i : ℕ) (l : i < 4). word-stored block w u (t + i) hu (omega arith) e)
+    ∙ ap (λ (x : State). afterRoundsFrom x K (W block 64) t 4) e₁
+    ∙ rounds-from s (W block 64) t 4
+
+pub eight-stored : (s : State) (block w : List ℕ) (u t : ℕ) (r q p : State) → u ≤ 64 → t + 8 ≤ u → take u w ≡ W block u → r ≡ afterRounds s (W block 64) t
+    → q ≡ afterRoundsFrom r K w t 4 → p ≡ afterRoundsFrom q K w (t + 4) 4 → p ≡ afterRounds s (W block 64) (t + 8)
+eight-stored s block w u t r q p hu h e e₁ e₂ e₃ =
+    let k : t + 4 + 4 ≡ t + 8 = omega arith in
+    four-stored s block w u (t + 4) q p hu (omega arith) e (four-stored s block w u t r q hu (omega arith) e e₁ e₂) e₃ ∙ ap (afterRounds s (W block 64)) k
