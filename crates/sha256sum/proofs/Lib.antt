@@ -1,0 +1,2 @@
+-- Laws of the hexadecimal text.
+pub mod HexLaws
