@@ -1,15 +1,18 @@
 //! SHA-256: the core against NIST's examples and against the independent implementation.
 
 use super::{Options, Tally};
+use crate::core;
 use crate::random::Random;
 use crate::sha256::Sha256;
-use crate::core;
 
 /// The longest message that document 01 lets be hashed.
 const LONGEST: usize = 65_535;
 
-/// The refusal and the digest.
+/// The refusal, and the buffer after the call.
 type Answer = (u8, [u8; 32]);
+
+/// What the buffer holds before each call.
+const BEFORE: [u8; 32] = [0xa5; 32];
 
 /// NIST's examples: those of FIPS 180-4, and the additional ones on bytes of one value.
 fn nist() -> Vec<(Vec<u8>, &'static str)> {
@@ -38,13 +41,19 @@ fn from_hex(text: &str) -> [u8; 32] {
     std::array::from_fn(|i| u8::from_str_radix(&text[2 * i..2 * i + 2], 16).expect("two hexadecimal digits"))
 }
 
-/// Document 01's answer, given the digest.
+/// Document 01's answer, given the digest: a refusal changes nothing.
 fn answer(length: usize, digest: [u8; 32]) -> Answer {
     if length > LONGEST {
-        (2, [0; 32])
+        (2, BEFORE)
     } else {
         (0, digest)
     }
+}
+
+fn core_answer(message: &[u8]) -> Answer {
+    let mut out = BEFORE;
+    let refusal = core::sha256(message, &mut out);
+    (refusal, out)
 }
 
 struct Comparison<'a> {
@@ -68,7 +77,7 @@ impl Comparison<'_> {
 
     fn core(&mut self, what: &str, message: &[u8]) {
         let expected = answer(message.len(), self.independent.digest(message));
-        self.expect(&format!("{what}, {} bytes", message.len()), core::sha256(message), expected);
+        self.expect(&format!("{what}, {} bytes", message.len()), core_answer(message), expected);
     }
 }
 
@@ -80,7 +89,7 @@ pub fn run(options: &Options, tally: &mut Tally) {
         let what = format!("NIST's example of {} bytes", message.len());
         let own = (0, c.independent.digest(&message));
         c.expect(&format!("{what}, independent"), own, (0, digest));
-        c.expect(&format!("{what}, core"), core::sha256(&message), answer(message.len(), digest));
+        c.expect(&format!("{what}, core"), core_answer(&message), answer(message.len(), digest));
     }
     let long = random.bytes(LONGEST + 1);
     for length in (0..=1200).chain(65_400..=LONGEST + 1) {

@@ -1,6 +1,8 @@
 -- `sha256_export::haskumye_sha256` meets its contract.
 -- Assumes nothing.
 use borrow.Author.Needs.{needs}
+use denote.Ref.{now}
+use Rattle.sha256_export.proofs.OutLaws.{written, kept}
 use Rattle.sha256_export.proofs.haskumye_sha256.Statement.{statement}
 use Rattle.sha256_export.proofs.haskumye_sha256.Tie as tie
 
@@ -8,7 +10,12 @@ sha256-requires : tie.Need-sha256-requires
 sha256-requires c κs = search needs
 
 returns : tie.Need-returns
-returns c = ((cc), (cc))
+returns c = let s = c .before .before .sha256 in
+    written (s .result) _ (now (c .before .before .before .before .args .out)) (s .ensures) (c .before .if1 .taken)
+
+returns-2 : tie.Need-returns-2
+returns-2 c = let s = c .before .sha256 in
+    kept (s .result) _ (now (c .before .before .before .args .out)) (s .ensures) (c .if1 .left)
 
 pub haskumye-sha256-spec : {M : Type 1} → statement M
-haskumye-sha256-spec = tie.close (tie.spec sha256-requires returns)
+haskumye-sha256-spec = tie.close (tie.spec sha256-requires returns returns-2)

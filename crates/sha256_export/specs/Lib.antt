@@ -1,0 +1,2 @@
+-- What the exported function leaves in the caller's buffer.
+pub mod Export
