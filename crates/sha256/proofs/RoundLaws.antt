@@ -3,7 +3,7 @@
 use mathlib.Core.Path.{_≡_, refl, ap, _∙_}
 use mathlib.Core.List.{List}
 use Prim.Native.Nat.{ℕ, zero, suc, _+_, _≤_, _<_}
-use native.Mathlib.Nat.{lt-suc-self, add-zero, add-suc}
+use native.Mathlib.Nat.{lt-suc-self, add-zero, add-suc, add-assoc}
 use native.Mathlib.Omega.{arith}
 use lib.ListN.{take, getD}
 use Rattle.sha256.specs.declared.state.State.{State}
@@ -17,6 +17,15 @@ pub four-rounds : (s s₁ s₂ s₃ r : State) (k w : List ℕ) (t : ℕ) → s�
 unfolding afterRoundsFrom
 four-rounds s s₁ s₂ s₃ r k w t e₁ e₂ e₃ e₄ = rw add-zero (cc)
 
+-- n rounds and m more
+rounds-join : (s : State) (k w : List ℕ) (t n m : ℕ) → afterRoundsFrom (afterRoundsFrom s k w t n) k w (t + n) m ≡ afterRoundsFrom s k w t (n + m)
+unfolding afterRoundsFrom
+rounds-join s k w t n zero = rw add-zero
+rounds-join s k w t n (suc m) = rw (add-suc, rounds-join s k w t n m, add-assoc t n m)
+
+pub rounds-then : (s r q : State) (k w : List ℕ) (t n m : ℕ) → r ≡ afterRoundsFrom s k w t n → q ≡ afterRoundsFrom r k w (t + n) m → q ≡ afterRoundsFrom s k w t (n + m)
+rounds-then s r q k w t n m e₁ e₂ = e₂ ∙ ap (λ (x : State). afterRoundsFrom x k w (t + n) m) e₁ ∙ rounds-join s k w t n m
+
 -- n rounds after t rounds are t + n rounds
 rounds-from : (s : State) (w : List ℕ) (t n : ℕ) → afterRoundsFrom (afterRounds s w t) K w t n ≡ afterRounds s w (t + n)
 unfolding afterRounds afterRoundsFrom
@@ -29,17 +38,11 @@ unfolding afterRoundsFrom
 rounds-agree s k w w′ t zero h = refl
 rounds-agree s k w w′ t (suc n) h = rw (h n (lt-suc-self n), rounds-agree s k w w′ t n (λ (i : ℕ) (p : i < n). h i (omega arith)))
 
--- four more rounds on a schedule w whose first u words are stored
-four-stored : (s : State) (block w : List ℕ) (u t : ℕ) (r q : State) → u ≤ 64 → t + 4 ≤ u → take u w ≡ W block u → r ≡ afterRounds s (W block 64) t
-    → q ≡ afterRoundsFrom r K w t 4 → q ≡ afterRounds s (W block 64) (t + 4)
-four-stored s block w u t r q hu h e e₁ e₂ =
+-- n more rounds on a schedule w whose first u words are stored
+pub rounds-stored : (s : State) (block w : List ℕ) (u t n : ℕ) (r q : State) → u ≤ 64 → t + n ≤ u → take u w ≡ W block u → r ≡ afterRounds s (W block 64) t
+    → q ≡ afterRoundsFrom r K w t n → q ≡ afterRounds s (W block 64) (t + n)
+rounds-stored s block w u t n r q hu h e e₁ e₂ =
     e₂
-    ∙ rounds-agree r K w (W block 64) t 4 (λ (i : ℕ) (l : i < 4). word-stored block w u (t + i) hu (omega arith) e)
-    ∙ ap (λ (x : State). afterRoundsFrom x K (W block 64) t 4) e₁
-    ∙ rounds-from s (W block 64) t 4
-
-pub eight-stored : (s : State) (block w : List ℕ) (u t : ℕ) (r q p : State) → u ≤ 64 → t + 8 ≤ u → take u w ≡ W block u → r ≡ afterRounds s (W block 64) t
-    → q ≡ afterRoundsFrom r K w t 4 → p ≡ afterRoundsFrom q K w (t + 4) 4 → p ≡ afterRounds s (W block 64) (t + 8)
-eight-stored s block w u t r q p hu h e e₁ e₂ e₃ =
-    let k : t + 4 + 4 ≡ t + 8 = omega arith in
-    four-stored s block w u (t + 4) q p hu (omega arith) e (four-stored s block w u t r q hu (omega arith) e e₁ e₂) e₃ ∙ ap (afterRounds s (W block 64)) k
+    ∙ rounds-agree r K w (W block 64) t n (λ (i : ℕ) (l : i < n). word-stored block w u (t + i) hu (omega arith) e)
+    ∙ ap (λ (x : State). afterRoundsFrom x K (W block 64) t n) e₁
+    ∙ rounds-from s (W block 64) t n

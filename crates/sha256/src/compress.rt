@@ -77,7 +77,6 @@ const K: [u32; 64] = [
     0xc671_78f2,
 ];
 
-// Four rounds from round t on. Two of these in one turn of a loop leave each of the eight words in its place, so that no turn moves them.
 fn four_rounds(s: State, k: &[u32; 64], w: &[u32; 64], t: usize) -> State
     requires { ⌜ t + 4 ≤ 64 ⌝ }
     ensures { λ r. ⌜ r ≡ afterRoundsFrom s (now (k .entry)) (now (w .entry)) t 4 ⌝ }
@@ -86,6 +85,15 @@ fn four_rounds(s: State, k: &[u32; 64], w: &[u32; 64], t: usize) -> State
     let s2 = round(s1, k[t + 1], w[t + 1]);
     let s3 = round(s2, k[t + 2], w[t + 2]);
     round(s3, k[t + 3], w[t + 3])
+}
+
+// Eight rounds from round t on: they leave each of the eight words in its place, so that a loop over them moves none.
+fn eight_rounds(s: State, k: &[u32; 64], w: &[u32; 64], t: usize) -> State
+    requires { ⌜ t + 8 ≤ 64 ⌝ }
+    ensures { λ r. ⌜ r ≡ afterRoundsFrom s (now (k .entry)) (now (w .entry)) t 8 ⌝ }
+{
+    let r = four_rounds(s, k, w, t);
+    four_rounds(r, k, w, t + 4)
 }
 
 // The 64 rounds. Eight words of the schedule are made beside eight rounds that do not wait for them.
@@ -100,16 +108,11 @@ fn rounds(s: State, block: &[u8]) -> State
     let mut t: usize = 0;
     while t < 48 {
         extend(&mut w, t + 16);
-        let q = four_rounds(r, &k, &w, t);
-        r = four_rounds(q, &k, &w, t + 4);
+        r = eight_rounds(r, &k, &w, t);
         t += 8;
     }
-    while t < 64 {
-        let q = four_rounds(r, &k, &w, t);
-        r = four_rounds(q, &k, &w, t + 4);
-        t += 8;
-    }
-    r
+    let q = eight_rounds(r, &k, &w, 48);
+    eight_rounds(q, &k, &w, 56)
 }
 
 // The hash value after one more block.
