@@ -28,7 +28,9 @@ fn plain(message: &[u8]) -> [u8; 32] {
     out
 }
 
-fn turn(hash: &dyn Fn(&[u8]) -> [u8; 32], message: &[u8]) -> Duration {
+type Hash<'a> = &'a dyn Fn(&[u8]) -> [u8; 32];
+
+fn turn(hash: Hash, message: &[u8]) -> Duration {
     let start = Instant::now();
     for _ in 0..TURN_BYTES / message.len() {
         black_box(hash(black_box(message)));
@@ -38,7 +40,7 @@ fn turn(hash: &dyn Fn(&[u8]) -> [u8; 32], message: &[u8]) -> Duration {
 
 fn main() {
     let independent = Sha256::default();
-    let programs: [&dyn Fn(&[u8]) -> [u8; 32]; 3] = [&proved, &plain, &|m| independent.digest(m)];
+    let programs: [Hash; 3] = [&proved, &plain, &|m| independent.digest(m)];
     println!("SHA-256, nanoseconds a message, best of {TURNS} turns; a ratio above 1 says that the proved core is faster");
     println!("{:>8} {:>10} {:>10} {:>10} {:>12} {:>14}", "bytes", "proved", "gcc -O3", "Rust", "ratio to C", "ratio to Rust");
     for length in LENGTHS {

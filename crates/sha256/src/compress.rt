@@ -10,6 +10,7 @@ ghost use lib.ListN.{length};
 ghost use Rattle.sha256.specs.Compression.{W, afterRounds, compressed};
 ghost use Rattle.sha256.specs.Steps.{afterRoundsFrom};
 
+// The constants of section 4.2.2.
 const K: [u32; 64] = [
     0x428a_2f98,
     0x7137_4491,
@@ -77,6 +78,7 @@ const K: [u32; 64] = [
     0xc671_78f2,
 ];
 
+// Four rounds from round t on.
 fn four_rounds(s: State, k: &[u32; 64], w: &[u32; 64], t: usize) -> State
     requires { ⌜ t + 4 ≤ 64 ⌝ }
     ensures { λ r. ⌜ r ≡ afterRoundsFrom s (now (k .entry)) (now (w .entry)) t 4 ⌝ }

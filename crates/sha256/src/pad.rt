@@ -2,7 +2,7 @@
 use super::compress::compress;
 use super::state::State;
 ghost use mathlib.Core.Path.{_≡_};
-ghost use Prim.Native.Nat.{_+_, _-_, _/_, _%_, _<_, _≤_};
+ghost use Prim.Native.Nat.{_+_, _-_, _/_, _%_, _<_};
 ghost use mathlib.Core.List.{_++_};
 ghost use lib.ListN.{length, replicate};
 ghost use Rattle.sha256.specs.Padding.{zeroBytes, padding, padded};
@@ -23,6 +23,7 @@ fn zero_filled(s: &[u8]) -> [u8; 128]
 }
 
 // The rest of a message of n bytes and its padding, which ends at end; zeros behind it.
+// The length in bits fills three bytes at most, so only these are stored.
 fn padded_rest(rest: &[u8], n: usize, end: usize) -> [u8; 128]
     requires { ⌜ (length (now rest) ≡ n % 64) × (n < 65536) × (end ≡ n % 64 + 9 + zeroBytes n) ⌝ }
     ensures { λ r. ⌜ r ≡ (now (rest .entry) ++ padding n) ++ replicate (128 - end) 0 ⌝ }

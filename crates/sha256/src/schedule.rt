@@ -10,6 +10,7 @@ ghost use Rattle.sha256.specs.Bytes.{wordAt};
 ghost use Rattle.sha256.specs.Compression.{expandedWord, W};
 ghost use Rattle.sha256.specs.Steps.{expandedFrom};
 
+// A byte as a number of 32 bits, with the bound that sums of bytes need.
 fn wide(x: u8) -> u32
     ensures { λ r. ⌜ r ≡ x ⌝ }
     ensures { λ r. ⌜ r < 256 ⌝ }
@@ -17,6 +18,7 @@ fn wide(x: u8) -> u32
     x as u32
 }
 
+// The word whose four bytes stand at place i.
 fn word(b: &[u8], i: usize) -> u32
     requires { ⌜ i + 4 ≤ length (now b) ⌝ }
     ensures { λ r. ⌜ r ≡ wordAt (now (b .entry)) i ⌝ }
@@ -24,6 +26,7 @@ fn word(b: &[u8], i: usize) -> u32
     wide(b[i]) * 16777216 + wide(b[i + 1]) * 65536 + wide(b[i + 2]) * 256 + wide(b[i + 3])
 }
 
+// Word t from the words before it.
 fn expanded_word(w: &[u32; 64], t: usize) -> u32
     requires { ⌜ (16 ≤ t) × (t < 64) ⌝ }
     ensures { λ r. ⌜ r ≡ expandedWord (now (w .entry)) t ⌝ }

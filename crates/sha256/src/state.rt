@@ -9,6 +9,7 @@ ghost use Rattle.sha256.specs.Constants.{initialHash};
 ghost use Rattle.sha256.specs.Compression.{T₁, T₂, afterRound, intermediateHash};
 ghost use Rattle.sha256.specs.Sha256.{digestBytes};
 
+// The words H0 to H7 of a hash value, or the working variables a to h.
 pub struct State {
     pub a: u32,
     pub b: u32,
@@ -35,6 +36,7 @@ pub fn initial_hash() -> State
     }
 }
 
+// The two temporary words of a round, T1 and T2.
 fn temporary1(s: State, k: u32, w: u32) -> u32
     ensures { λ r. ⌜ r ≡ T₁ s k w ⌝ }
 {
@@ -49,6 +51,7 @@ fn temporary2(s: State) -> u32
     wrapping_add_u32(big_sigma0(s.a), maj(s.a, s.b, s.c))
 }
 
+// One round, with its constant k and its word w of the schedule.
 pub fn round(s: State, k: u32, w: u32) -> State
     ensures { λ r. ⌜ r ≡ afterRound s k w ⌝ }
 {
@@ -82,6 +85,7 @@ pub fn intermediate_hash(s: State, r: State) -> State
     }
 }
 
+// The eight words, each with its most significant byte first.
 pub fn digest_bytes(s: State) -> [u8; 32]
     ensures { λ r. ⌜ r ≡ digestBytes s ⌝ }
 {
