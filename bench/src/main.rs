@@ -1,5 +1,5 @@
 //! The speed of SHA-256: the proved core, plain C at gcc -O3 and the independent Rust at opt-level 3, in one run.
-//! The three take turns, and the best of many turns counts, so that what else the machine does weighs little.
+//! The three take short turns, and the best of many counts, so that what else the machine does weighs little.
 
 use haskumye_independent::core;
 use haskumye_independent::sha256::Sha256;
@@ -11,9 +11,9 @@ extern "C" {
 }
 
 const LENGTHS: [usize; 3] = [32, 500, 65_535];
-const TURNS: usize = 100;
+const TURNS: usize = 1000;
 /// Bytes that one turn hashes, at least.
-const TURN_BYTES: usize = 1 << 20;
+const TURN_BYTES: usize = 1 << 17;
 
 fn proved(message: &[u8]) -> [u8; 32] {
     let mut out = [0; 32];
