@@ -90,7 +90,8 @@ returns c =
     let c₂ = c₃ .before .before .before in
     let c₁ = c₂ .before .before .before in
     let a = c₁ .before .before .before .args in
-    four-rounds (a .s) (c₁ .round .result) (c₂ .round2 .result) (c₃ .round3 .result) (c .round4 .result) (now (a .k)) (now (a .w)) (a .t) (c₁ .round .ensures) (c₂ .round2 .ensures) (c₃ .round3 .ensures) (c .round4 .ensures)
+    four-rounds (a .s) (c₁ .round .result) (c₂ .round2 .result) (c₃ .round3 .result) (c .round4 .result) (now (a .k)) (now (a .w)) (a .t)
+    (c₁ .round .ensures) (c₂ .round2 .ensures) (c₃ .round3 .ensures) (c .round4 .ensures)
 
 pub four-rounds-spec : {M : Type 1} → statement M
 four-rounds-spec =

@@ -62,7 +62,8 @@ returns c =
     let a = c .before .before .before .before .before .before in
     let t = c .before .before .padded-rest in
     let m = now (a .args .message) in
-    one-block m (a .args .s) (t .result) (a .pre .1) (c .compress .result) (omega arith) (buffer-front m (t .result) 64 (a .pre .0) (omega arith) (t .ensures)) (c .compress .ensures)
+    let front = buffer-front m (t .result) 64 (a .pre .0) (omega arith) (t .ensures) in
+    one-block m (a .args .s) (t .result) (a .pre .1) (c .compress .result) (omega arith) front (c .compress .ensures)
 
 returns-2 : tie.Need-returns-2
 returns-2 c =
@@ -70,7 +71,8 @@ returns-2 c =
     let t = p .before .before .padded-rest2 in
     let a = p .before .before .before .before .before .before in
     let m = now (a .args .message) in
-    two-blocks m (a .args .s) (t .result) (a .pre .1) (p .compress2 .result) (c .compress3 .result) (omega arith) (omega arith) (buffer-front m (t .result) 128 (a .pre .0) (omega arith) (t .ensures)) (p .compress2 .ensures) (c .compress3 .ensures)
+    let front = buffer-front m (t .result) 128 (a .pre .0) (omega arith) (t .ensures) in
+    two-blocks m (a .args .s) (t .result) (a .pre .1) (p .compress2 .result) (c .compress3 .result) (omega arith) (omega arith) front (p .compress2 .ensures) (c .compress3 .ensures)
 
 pub last-blocks-spec : {M : Type 1} → statement M
 last-blocks-spec =
