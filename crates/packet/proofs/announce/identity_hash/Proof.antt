@@ -1,0 +1,33 @@
+use Rattle.packet.specs.Announce.{keysOf, identityHash}
+use Rattle.packet.proofs.ListLaws.{part-most}
+use mathlib.Core.Path.{sym, ap, _∙_}
+use mathlib.Core.Path.{subst}
+use lib.Dec.{lit≤}
+use lib.Seq.{take-length}
+use Prim.Native.Nat.{ℕ, _≤_}
+use mathlib.Core.List.{List}
+use lib.ListN.{length, take}
+use Rattle.sha256.specs.Sha256.{sha256-of}
+use borrow.Author.Needs.{needs}
+use Rattle.packet.proofs.announce.identity_hash.Statement.{statement}
+use Rattle.packet.proofs.announce.identity_hash.Tie as tie
+
+keys-requires : tie.Need-keys-requires
+keys-requires c κs = search needs
+
+hash-start-requires : tie.Need-hash-start-requires
+unfolding keysOf
+hash-start-requires c κs = (search needs, subst (λ (k : List ℕ). length k ≤ 65535) (sym (c .keys .ensures)) (part-most (c .before .before .args .body .now) 0 64 65535 (lit≤ tt)))
+
+first-sixteen-requires : tie.Need-first-sixteen-requires
+first-sixteen-requires c κs = search needs
+
+returns : tie.Need-returns
+unfolding identityHash
+returns c =
+    c .first-sixteen .ensures
+    ∙ ap (take 16) (c .before .hash-start .ensures ∙ ap sha256-of (take-length (c .before .before .keys .result .now) ∙ c .before .before .keys .ensures))
+
+pub identity-hash-spec : {M : Type 1} → statement M
+identity-hash-spec =
+    tie.close (tie.spec keys-requires hash-start-requires first-sixteen-requires returns)

@@ -1,0 +1,30 @@
+-- Document 01, "Packet layout": packet hash and link id (007).
+use Prim.Native.Nat.{ℕ, _%_}
+use mathlib.Core.List.{List, _∷_, _++_}
+use lib.ListN.{take, replicate}
+use Rattle.sha256.specs.Sha256.{sha256-of}
+use Rattle.octets.specs.Choice.{_then_otherwise_}
+use Rattle.packet.specs.Read.{partsOf, payload, readingRefusal, reads}
+use Rattle.packet.specs.declared.Parts.{Parts}
+use Rattle.packet.specs.declared.PacketHash.{PacketHash}
+use Rattle.packet.specs.declared.LinkId.{LinkId}
+
+-- (header modulo 16), destination, context, payload, in that order
+unfoldable pub hashedPart : Parts → List ℕ → List ℕ
+hashedPart q body = q .header % 16 ∷ (q .destination ++ (q .context ∷ body))
+
+unfoldable pub packetHash : List ℕ → List ℕ
+packetHash p = sha256-of (hashedPart (partsOf p) (payload p))
+
+-- the same with the payload cut to 64 bytes, first 16 bytes of the result
+unfoldable pub linkId : List ℕ → List ℕ
+linkId p = take 16 (sha256-of (hashedPart (partsOf p) (take 64 (payload p))))
+
+-- both refuse like reading, with zeros beside the number
+unfoldable pub packetHashAnswer : ℕ → List ℕ → PacketHash
+packetHashAnswer longest p =
+    record { refusal = readingRefusal longest p; bytes = reads longest p then packetHash p otherwise replicate 32 0 }
+
+unfoldable pub linkIdAnswer : ℕ → List ℕ → LinkId
+linkIdAnswer longest p =
+    record { refusal = readingRefusal longest p; bytes = reads longest p then linkId p otherwise replicate 16 0 }

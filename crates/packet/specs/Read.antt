@@ -1,0 +1,65 @@
+-- Document 01, "Packet layout" and refusals 1, 2 and 3: reading a packet.
+use Prim.Native.Nat.{ℕ}
+use mathlib.Core.Bool.{Bool}
+use mathlib.Core.List.{List}
+use lib.Dec.{eqb, ltb}
+use lib.ListN.{length, drop, getD, replicate}
+use Rattle.octets.specs.Index.{_and_}
+use Rattle.octets.specs.Part.{part}
+use Rattle.octets.specs.Choice.{_then_otherwise_}
+use Rattle.packet.specs.Header.{accessCode, typeTwo}
+use Rattle.packet.specs.declared.Parts.{Parts}
+use Rattle.packet.specs.declared.Reading.{Reading}
+
+-- byte 0: the header
+abbrev pub headerOf : List ℕ → ℕ
+headerOf p = getD p 0 0
+
+-- sixteen bytes of zeros: what the relay address of type 1 reads as
+abbrev pub noAddress : List ℕ
+noAddress = replicate 16 0
+
+-- bytes 1, 2..17, 18: hops, destination, context
+unfoldable pub typeOneParts : List ℕ → Parts
+typeOneParts p =
+    record { header = headerOf p; hops = getD p 1 0; relay = noAddress; destination = part p 2 16; context = getD p 18 0 }
+
+-- bytes 1, 2..17, 18..33, 34: hops, relay address, destination, context
+unfoldable pub typeTwoParts : List ℕ → Parts
+typeTwoParts p =
+    record { header = headerOf p; hops = getD p 1 0; relay = part p 2 16; destination = part p 18 16; context = getD p 34 0 }
+
+unfoldable pub partsOf : List ℕ → Parts
+partsOf p = typeTwo (headerOf p) then typeTwoParts p otherwise typeOneParts p
+
+-- where the payload starts, by the header
+unfoldable pub payloadStart : ℕ → ℕ
+payloadStart header = typeTwo header then 35 otherwise 19
+
+-- the payload: all bytes from there on, none where the packet is shorter
+unfoldable pub payload : List ℕ → List ℕ
+payload p = drop (payloadStart (headerOf p)) p
+
+-- the longest packet
+abbrev pub longestPacket : ℕ
+longestPacket = 500
+
+-- the refusal of a packet where none may be longer than `longest`, or 0
+unfoldable pub readingRefusal : ℕ → List ℕ → ℕ
+readingRefusal longest p =
+    ltb (length p) 19 then 1 otherwise
+    ltb longest (length p) then 2 otherwise
+    accessCode (headerOf p) then 3 otherwise
+    typeTwo (headerOf p) and ltb (length p) 35 then 1 otherwise 0
+
+-- the packet reads
+unfoldable pub reads : ℕ → List ℕ → Bool
+reads longest p = eqb (readingRefusal longest p) 0
+
+-- a refused reading gives parts of zeros beside its number
+abbrev pub noParts : Parts
+noParts = record { header = 0; hops = 0; relay = noAddress; destination = noAddress; context = 0 }
+
+unfoldable pub reading : ℕ → List ℕ → Reading
+reading longest p =
+    record { refusal = readingRefusal longest p; parts = reads longest p then partsOf p otherwise noParts }

@@ -1,0 +1,46 @@
+-- Document 01, "Packet layout" and refusals 6, 2 and 3: writing a packet.
+use Prim.Native.Nat.{ℕ}
+use mathlib.Core.List.{List, _∷_, _++_}
+use lib.Dec.{eqb, ltb}
+use lib.ListN.{length}
+use Rattle.octets.specs.Part.{patch}
+use Rattle.octets.specs.Choice.{_then_otherwise_}
+use Rattle.packet.specs.Header.{accessCode, typeTwo}
+use Rattle.packet.specs.Read.{longestPacket, noAddress}
+use Rattle.packet.specs.declared.Parts.{Parts}
+use Rattle.packet.specs.declared.Written.{Written}
+
+-- the addresses: in type 1 writing ignores the relay address
+unfoldable pub addresses : Parts → List ℕ
+addresses q = typeTwo (q .header) then q .relay ++ q .destination otherwise q .destination
+
+unfoldable pub packetOf : Parts → List ℕ → List ℕ
+packetOf q body = q .header ∷ q .hops ∷ (addresses q ++ (q .context ∷ body))
+
+-- an output buffer must have room for the longest packet, however short this one is
+abbrev pub leastOutput : ℕ
+leastOutput = 500
+
+-- the refusal of a writing into a buffer of `room` bytes, or 0
+unfoldable pub writingRefusal : ℕ → Parts → List ℕ → ℕ
+writingRefusal room q body =
+    ltb room leastOutput then 6 otherwise
+    ltb longestPacket (length (packetOf q body)) then 2 otherwise
+    accessCode (q .header) then 3 otherwise 0
+
+-- the answer, and the output buffer after it: a refusal leaves it as it was, and bytes past the packet stay
+pub record Writing : Type 0 where
+  pub answer : Written
+  pub output : List ℕ
+
+unfoldable pub writing : Parts → List ℕ → List ℕ → Writing
+writing q body output =
+    eqb (writingRefusal (length output) q body) 0
+    then record { answer = record { refusal = 0; length = length (packetOf q body) }; output = patch output 0 (packetOf q body) }
+    otherwise record { answer = record { refusal = writingRefusal (length output) q body; length = 0 }; output = output }
+
+-- the parts as they read back: in type 1 the relay address is zeros
+unfoldable pub readBack : Parts → Parts
+readBack q =
+    typeTwo (q .header) then q otherwise
+    record { header = q .header; hops = q .hops; relay = noAddress; destination = q .destination; context = q .context }

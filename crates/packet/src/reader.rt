@@ -1,0 +1,155 @@
+// Reading a packet: its head alone, never the payload.
+use super::Parts;
+use super::Reading;
+use super::header::access_code;
+use super::header::type_two;
+ghost use mathlib.Core.Path.{_≡_};
+ghost use Prim.Native.Nat.{_≤_};
+ghost use lib.ListN.{length, drop};
+ghost use Rattle.octets.specs.Part.{part};
+ghost use Rattle.packet.specs.Read.{headerOf, typeOneParts, typeTwoParts, partsOf, payloadStart, payload as payloadOf, longestPacket, readingRefusal, noParts, reading};
+
+// The header of a packet, 0 where it has no byte.
+fn header_of(packet: &[u8]) -> u8
+    ensures { λ r. ⌜ r ≡ headerOf (now (packet .entry)) ⌝ }
+{
+    if packet.len() == 0 {
+        return 0;
+    }
+    packet[0]
+}
+
+// Where the payload starts.
+pub fn payload_start(header: u8) -> usize
+    ensures { λ r. ⌜ r ≡ payloadStart header ⌝ }
+{
+    if type_two(header) {
+        return 35;
+    }
+    19
+}
+
+// The bytes of s from place at on, none where s is shorter.
+pub fn from(s: &[u8], at: usize) -> &[u8]
+    ensures { λ r. ⌜ now r ≡ drop at (now (s .entry)) ⌝ }
+{
+    if s.len() < at {
+        let end = s.len();
+        return &s[end..];
+    }
+    &s[at..]
+}
+
+// The n bytes of s from place at on, or those of them that s has.
+pub fn part_of(s: &[u8], at: usize, n: usize) -> &[u8]
+    ensures { λ r. ⌜ now r ≡ part (now (s .entry)) at n ⌝ }
+{
+    let rest = from(s, at);
+    if rest.len() < n {
+        return rest;
+    }
+    &rest[0..n]
+}
+
+// The payload: a part of the packet that was lent, not a copy.
+pub fn payload(packet: &[u8]) -> &[u8]
+    ensures { λ r. ⌜ now r ≡ payloadOf (now (packet .entry)) ⌝ }
+{
+    let at = payload_start(header_of(packet));
+    from(packet, at)
+}
+
+// The refusal of a packet where none may be longer than longest, or 0.
+pub fn reading_refusal(packet: &[u8], longest: usize) -> u8
+    ensures { λ r. ⌜ r ≡ readingRefusal longest (now (packet .entry)) ⌝ }
+{
+    if packet.len() < 19 {
+        return 1;
+    }
+    if longest < packet.len() {
+        return 2;
+    }
+    let header = packet[0];
+    if access_code(header) {
+        return 3;
+    }
+    if type_two(header) {
+        if packet.len() < 35 {
+            return 1;
+        }
+    }
+    0
+}
+
+fn type_one_parts(packet: &[u8]) -> Parts
+    requires { ⌜ 19 ≤ length (now packet) ⌝ }
+    ensures { λ r. ⌜ r ≡ typeOneParts (now (packet .entry)) ⌝ }
+{
+    let destination = octets::address_at(packet, 2);
+    Parts {
+        header: packet[0],
+        hops: packet[1],
+        relay: [0; 16],
+        destination,
+        context: packet[18],
+    }
+}
+
+// The parts at the places of type 2, whatever the header says.
+pub fn type_two_parts(packet: &[u8]) -> Parts
+    requires { ⌜ 35 ≤ length (now packet) ⌝ }
+    ensures { λ r. ⌜ r ≡ typeTwoParts (now (packet .entry)) ⌝ }
+{
+    let relay = octets::address_at(packet, 2);
+    let destination = octets::address_at(packet, 18);
+    Parts {
+        header: packet[0],
+        hops: packet[1],
+        relay,
+        destination,
+        context: packet[34],
+    }
+}
+
+// The parts of a packet that is long enough to have them.
+pub fn parts_of(packet: &[u8]) -> Parts
+    requires { ⌜ payloadStart (headerOf (now packet)) ≤ length (now packet) ⌝ }
+    ensures { λ r. ⌜ r ≡ partsOf (now (packet .entry)) ⌝ }
+{
+    if type_two(packet[0]) {
+        return type_two_parts(packet);
+    }
+    type_one_parts(packet)
+}
+
+fn no_parts() -> Parts
+    ensures { λ r. ⌜ r ≡ noParts ⌝ }
+{
+    Parts {
+        header: 0,
+        hops: 0,
+        relay: [0; 16],
+        destination: [0; 16],
+        context: 0,
+    }
+}
+
+// Reads a packet where none may be longer than longest.
+pub fn read_within(packet: &[u8], longest: usize) -> Reading
+    ensures { λ r. ⌜ r ≡ reading longest (now (packet .entry)) ⌝ }
+{
+    let refusal = reading_refusal(packet, longest);
+    if refusal != 0 {
+        let parts = no_parts();
+        return Reading { refusal, parts };
+    }
+    let parts = parts_of(packet);
+    Reading { refusal: 0, parts }
+}
+
+// Reads a packet of at most 500 bytes.
+pub fn read(packet: &[u8]) -> Reading
+    ensures { λ r. ⌜ r ≡ reading longestPacket (now (packet .entry)) ⌝ }
+{
+    read_within(packet, 500)
+}
