@@ -1,4 +1,4 @@
-# make demo: hash a file with the proved program. make test: the gate. make bench: the speed beside plain C and Rust.
+# make demo: show packets and a digest with the proved programs. make test: the gate. make bench: the speed beside plain C and Rust.
 MAKEFLAGS += --no-print-directory
 FILE ?= README.md
 

@@ -1,0 +1,5 @@
+pub mod TextLaws
+pub mod NumeralLaws
+pub mod WordLaws
+pub mod NameLaws
+pub mod LineLaws
