@@ -1,0 +1,83 @@
+-- What a call answers, in document 01's numbers.
+use Prim.Native.Nat.{ℕ, zero, suc, _+_, _/_, _%_, _^_}
+use mathlib.Core.Bool.{Bool, true, false}
+use mathlib.Core.List.{List, [], _∷_, _++_}
+use lib.Dec.{eqb}
+use Rattle.octets.specs.Choice.{_then_otherwise_}
+use Rattle.rules.specs.Numbers.{portCount}
+use Rattle.rules.specs.Renumbering.{image, preimage}
+use Rattle.rules.specs.declared.Reason.{Reason}
+use Rattle.rules.specs.declared.Reason.the-variants.{NotOurs, Duplicate, BadForm, OwnAnnounce, TooManyHops, NoWayOn, AlreadyKnown, WrongSide, NotSigned, Replay, NotBetter, PortOff, NoRoom, TooLong}
+use Rattle.rules.specs.declared.Verdict.{Verdict}
+use Rattle.rules.specs.declared.Verdict.the-variants.{Drop, Deliver, Forward, Spread, Kept}
+use Rattle.rules.specs.declared.Answer.{Answer}
+use Rattle.rules.specs.declared.Answer.the-variants.{Refused, Judged}
+
+-- the test that dropped the packet
+unfoldable pub reasonNumber : Reason → ℕ
+reasonNumber NotOurs = 1
+reasonNumber Duplicate = 2
+reasonNumber BadForm = 3
+reasonNumber OwnAnnounce = 4
+reasonNumber TooManyHops = 5
+reasonNumber NoWayOn = 6
+reasonNumber AlreadyKnown = 7
+reasonNumber WrongSide = 8
+reasonNumber NotSigned = 9
+reasonNumber Replay = 10
+reasonNumber NotBetter = 11
+reasonNumber PortOff = 12
+reasonNumber NoRoom = 13
+reasonNumber TooLong = 14
+
+-- ---- a port set is a number: bit i says whether port i is in it. Document 01 leaves the encoding free
+unfoldable pub setBelow : (ℕ → Bool) → ℕ → ℕ
+setBelow test zero = 0
+setBelow test (suc n) = setBelow test n + (test n then 2 ^ n otherwise 0)
+
+-- the ports that pass the test
+unfoldable pub portSet : (ℕ → Bool) → ℕ
+portSet test = setBelow test portCount
+
+unfoldable pub inSet : ℕ → ℕ → Bool
+inSet set port = eqb (set / 2 ^ port % 2) 1
+
+-- its ports, rising
+unfoldable pub portsBelow : ℕ → ℕ → List ℕ
+portsBelow set zero = []
+portsBelow set (suc n) = inSet set n then portsBelow set n ++ (n ∷ []) otherwise portsBelow set n
+
+-- ---- what an answer says: document 01's number and values for each case
+pub data Told : Type 0 where
+  refused : (number : ℕ) → Told
+  drop : (test : ℕ) → Told
+  deliver : Told
+  forward : (port length : ℕ) → Told
+  spread : (ports : List ℕ) (length : ℕ) → Told
+  kept : Told
+
+unfoldable pub toldVerdict : Verdict → Told
+toldVerdict (Drop reason) = drop (reasonNumber reason)
+toldVerdict Deliver = deliver
+toldVerdict (Forward port length) = forward port length
+toldVerdict (Spread ports length) = spread (portsBelow ports portCount) length
+toldVerdict Kept = kept
+
+unfoldable pub told : Answer → Told
+told (Refused number) = refused number
+told (Judged verdict) = toldVerdict verdict
+
+-- ---- renamed: a port's image, a set's images, all else equal
+unfoldable pub imageSet : List ℕ → ℕ → ℕ
+imageSet m set = portSet (λ n. inSet set (preimage m n))
+
+unfoldable pub renameVerdict : List ℕ → Verdict → Verdict
+renameVerdict m (Drop reason) = Drop reason
+renameVerdict m Deliver = Deliver
+renameVerdict m (Forward port length) = Forward (image m port) length
+renameVerdict m (Spread ports length) = Spread (imageSet m ports) length
+renameVerdict m Kept = Kept
+
+unfoldable pub renameAnswer : List ℕ → Answer → Answer
+renameAnswer m (Refused number) = Refused number
+renameAnswer m (Judged verdict) = Judged (renameVerdict m verdict)

@@ -1,0 +1,83 @@
+-- Document 01, "Judging a packet": tests in order; the first that holds gives the drop. No table is written here.
+use Prim.Native.Nat.{ℕ}
+use mathlib.Core.Bool.{Bool, true, false}
+use mathlib.Core.List.{List}
+use lib.Dec.{eqb}
+use lib.ListN.{length}
+use Rattle.octets.specs.Part.{patch}
+use Rattle.octets.specs.Choice.{_then_otherwise_, _or_}
+use Rattle.rules.specs.View.{View}
+use Rattle.rules.specs.Arrival.{Arrival, body}
+use Rattle.rules.specs.Ways.{Way, everywhere, by-path, along-link, by-return, blocked, wayOn}
+use Rattle.rules.specs.Tests.{notOurs, duplicate, badForm, ownAnnounce, deliveredHere, tooManyHops, noWayOn, alreadyKnown, wrongSide, notSigned, replay, notBetter, leavingPort, portOff, noRoom}
+use Rattle.rules.specs.Outgoing.{spreadPorts, outgoing, exceeds, grownTooLong}
+use Rattle.rules.specs.declared.Reason.{Reason}
+use Rattle.rules.specs.declared.Reason.the-variants.{NotOurs, Duplicate, BadForm, OwnAnnounce, TooManyHops, NoWayOn, AlreadyKnown, WrongSide, NotSigned, Replay, NotBetter, PortOff, NoRoom, TooLong}
+use Rattle.rules.specs.declared.Verdict.{Verdict}
+use Rattle.rules.specs.declared.Verdict.the-variants.{Drop, Deliver, Forward, Spread, Kept}
+
+-- what is to be done with an accepted packet
+pub data Plan : Type 0 where
+  dropped : Reason → Plan
+  delivered : Plan
+  follows : Way → Plan
+
+-- tests 6 to 14, on the way that the packet would follow
+unfoldable pub onwardPlan : View → Arrival → Way → Plan
+onwardPlan v a w =
+    noWayOn w then dropped NoWayOn otherwise
+    alreadyKnown v a w then dropped AlreadyKnown otherwise
+    wrongSide a w then dropped WrongSide otherwise
+    notSigned a then dropped NotSigned otherwise
+    replay a w then dropped Replay otherwise
+    notBetter a w then dropped NotBetter otherwise
+    portOff v a w then dropped PortOff otherwise
+    noRoom v a w then dropped NoRoom otherwise
+    grownTooLong a w then dropped TooLong otherwise
+    follows w
+
+-- tests 1 to 5; delivery stands at test 4's place
+unfoldable pub plan : View → Arrival → Plan
+plan v a =
+    notOurs v a then dropped NotOurs otherwise
+    duplicate v a then dropped Duplicate otherwise
+    badForm a then dropped BadForm otherwise
+    ownAnnounce v a then dropped OwnAnnounce otherwise
+    deliveredHere v a then delivered otherwise
+    tooManyHops a then dropped TooManyHops otherwise
+    onwardPlan v a (wayOn v a)
+
+-- if that set is empty or the result exceeds 500, the answer is Kept
+unfoldable pub spreadVerdict : ℕ → List ℕ → Verdict
+spreadVerdict ports packet = eqb ports 0 or exceeds packet then Kept otherwise Spread ports (length packet)
+
+-- the answer says drop, deliver, forward (one port), spread (a port set) or kept
+unfoldable pub wayVerdict : View → Arrival → Way → Verdict
+wayVerdict v a (everywhere known) = spreadVerdict (spreadPorts v a) (outgoing v a (everywhere known))
+wayVerdict v a (by-path p) = Forward (leavingPort a (by-path p)) (length (outgoing v a (by-path p)))
+wayVerdict v a (along-link l) = Forward (leavingPort a (along-link l)) (length (outgoing v a (along-link l)))
+wayVerdict v a (by-return t) = Forward (leavingPort a (by-return t)) (length (outgoing v a (by-return t)))
+wayVerdict v a (blocked why) = Drop NoWayOn
+
+unfoldable pub verdict : View → Arrival → Plan → Verdict
+verdict v a (dropped reason) = Drop reason
+verdict v a delivered = Deliver
+verdict v a (follows w) = wayVerdict v a w
+
+-- the payload handed up on delivery is a part of the caller's packet, not a copy
+unfoldable pub handedUp : Arrival → List ℕ
+handedUp a = body a
+
+-- whether a packet leaves
+unfoldable pub leaves : Verdict → Bool
+leaves (Drop reason) = false
+leaves Deliver = false
+leaves (Forward port length) = true
+leaves (Spread ports length) = true
+leaves Kept = false
+
+-- bytes of the output past the packet, and all of it when nothing leaves, stay
+unfoldable pub outputAfter : View → Arrival → Plan → List ℕ → List ℕ
+outputAfter v a (dropped reason) output = output
+outputAfter v a delivered output = output
+outputAfter v a (follows w) output = leaves (wayVerdict v a w) then patch output 0 (outgoing v a w) otherwise output

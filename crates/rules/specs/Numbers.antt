@@ -1,0 +1,70 @@
+-- Document 01, "Numbers".
+use Prim.Native.Nat.{ℕ, _+_, _*_, _^_}
+use mathlib.Core.Bool.{Bool, true, false}
+use lib.Dec.{eqb, ltb}
+use Rattle.octets.specs.Choice.{_then_otherwise_}
+
+-- 16 ports, 0 to 15
+abbrev pub portCount : ℕ
+portCount = 16
+
+-- 64 paths, 16 stored blobs each
+abbrev pub pathCount : ℕ
+pathCount = 64
+
+abbrev pub blobLimit : ℕ
+blobLimit = 16
+
+-- 64 links
+abbrev pub linkCount : ℕ
+linkCount = 64
+
+-- 512 return records
+abbrev pub returnCount : ℕ
+returnCount = 512
+
+-- 1,024 remembered hashes
+abbrev pub hashCount : ℕ
+hashCount = 1024
+
+-- 16 local addresses
+abbrev pub localCount : ℕ
+localCount = 16
+
+-- clock in seconds, below 2^40
+abbrev pub clockLimit : ℕ
+clockLimit = 2 ^ 40
+
+-- a record is live while clock < its expiry
+abbrev pub live : ℕ → ℕ → Bool
+live clock expiry = ltb clock expiry
+
+-- modes: 0 boundary, 1 access point, 2 roaming. Document 01 names the words; the numbers are ours
+abbrev pub modeCount : ℕ
+modeCount = 3
+
+-- path lifetime by the arrival port: boundary 604,800 s, access point 86,400, roaming 21,600
+unfoldable pub pathLifetime : ℕ → ℕ
+pathLifetime mode =
+    eqb mode 0 then 604800 otherwise
+    eqb mode 1 then 86400 otherwise 21600
+
+-- remembered hash 300 s
+abbrev pub hashLifetime : ℕ
+hashLifetime = 300
+
+-- return record 1,800 s
+abbrev pub returnLifetime : ℕ
+returnLifetime = 1800
+
+-- unproved link 6 × (remaining hops + 1) s
+abbrev pub unprovedLifetime : ℕ → ℕ
+unprovedLifetime remaining = 6 * (remaining + 1)
+
+-- proved link 720 s, renewed by each packet carried
+abbrev pub provedLifetime : ℕ
+provedLifetime = 720
+
+-- refusal 7's bound on a stored time
+abbrev pub timeLimit : ℕ
+timeLimit = 2 ^ 40 + 604799

@@ -1,0 +1,106 @@
+-- Document 01, "Numbered refusals": the rows in order, for each call those that concern it. 0 stands for no refusal.
+use Prim.Native.Nat.{ℕ}
+use mathlib.Core.Bool.{Bool, true, false, not}
+use mathlib.Core.List.{List, [], _∷_}
+use lib.Dec.{eqb, ltb, leb}
+use lib.ListN.{length}
+use Rattle.octets.specs.Index.{_and_}
+use Rattle.octets.specs.Choice.{_then_otherwise_, _or_}
+use Rattle.packet.specs.Read.{longestPacket, readingRefusal}
+use Rattle.packet.specs.Write.{leastOutput}
+use Rattle.rules.specs.Numbers.{portCount, localCount, pathCount, linkCount, returnCount, hashCount, blobLimit, modeCount, clockLimit, timeLimit}
+use Rattle.rules.specs.Relay.{Port, Slot, empty, used, Path, Return, Remembered, Relay, lowestFree}
+use Rattle.rules.specs.View.{portOn, isLocal}
+use Rattle.rules.specs.Renumbering.{oneToOne}
+use Rattle.rules.specs.Arrival.{Arrival}
+use Rattle.rules.specs.declared.Link.{Link}
+
+-- ---- row 7, of a relay's tables. Marks and unused records, which only bytes can spoil, are the layout's part of this row
+-- a time over 2^40 + 604,799 is refused
+unfoldable pub timeOk : ℕ → Bool
+timeOk time = leb time timeLimit
+
+-- mode unknown
+unfoldable pub portOk : Port → Bool
+portOk p = ltb (p .mode) modeCount
+
+-- a stored port over 15; blob count outside 1..16 in a used record. Hops are a byte, which no bytes of tables can break
+unfoldable pub pathOk : Path → Bool
+pathOk p =
+    ltb (p .port) portCount
+    and ltb (p .hops) 256
+    and leb 1 (p .blobs .count)
+    and leb (p .blobs .count) blobLimit
+    and timeOk (p .expiry)
+
+unfoldable pub linkOk : Link → Bool
+linkOk l = ltb (l .asking) portCount and ltb (l .answering) portCount and timeOk (l .expiry)
+
+unfoldable pub returnOk : Return → Bool
+returnOk t = ltb (t .arrival) portCount and ltb (t .leaving) portCount and timeOk (t .expiry)
+
+unfoldable pub hashOk : Remembered → Bool
+hashOk m = timeOk (m .expiry)
+
+-- an unused record breaks no rule
+unfoldable pub slotOk : {A : Type 0} → (A → Bool) → Slot A → Bool
+slotOk ok empty = true
+slotOk ok (used x) = ok x
+
+unfoldable pub all : {A : Type 0} → (A → Bool) → List A → Bool
+all ok [] = true
+all ok (x ∷ xs) = ok x and all ok xs
+
+-- a table of the right size, each of whose elements keeps the rule
+unfoldable pub tableOk : {A : Type 0} → ℕ → (A → Bool) → List A → Bool
+tableOk n ok xs = eqb (length xs) n and all ok xs
+
+-- row 7 as far as a relay can break it; no count but those named is stored
+unfoldable pub tablesOk : Relay → Bool
+tablesOk r =
+    timeOk (r .clock)
+    and tableOk portCount portOk (r .ports)
+    and eqb (length (r .locals)) localCount
+    and tableOk pathCount (slotOk pathOk) (r .paths)
+    and tableOk linkCount (slotOk linkOk) (r .links)
+    and tableOk returnCount (slotOk returnOk) (r .returns .slots)
+    and ltb (r .returns .next) returnCount
+    and tableOk hashCount (slotOk hashOk) (r .hashes .slots)
+    and ltb (r .hashes .next) hashCount
+
+-- ---- a packet, with an output buffer of `room` bytes: 7, 6, 4, 5, 1, 2, 3, 1
+unfoldable pub packetRefusal : Relay → Arrival → ℕ → ℕ
+packetRefusal r a room =
+    not (tablesOk r) then 7 otherwise
+    ltb room leastOutput then 6 otherwise
+    not (portOn r (a .port)) then 4 otherwise
+    leb clockLimit (a .clock) or ltb (a .clock) (r .clock) then 5 otherwise
+    readingRefusal longestPacket (a .bytes)
+
+-- ---- renumbering: 7, 8
+unfoldable pub renumberingRefusal : Relay → List ℕ → ℕ
+renumberingRefusal r m =
+    not (tablesOk r) then 7 otherwise
+    not (oneToOne m) then 8 otherwise 0
+
+-- ---- setting a port: 7, 9
+unfoldable pub portSettingRefusal : Relay → ℕ → ℕ → ℕ
+portSettingRefusal r port mode =
+    not (tablesOk r) then 7 otherwise
+    leb portCount port or leb modeCount mode then 9 otherwise 0
+
+-- ---- adding a local address: 7, 11, 10 (11 before 10)
+unfoldable pub emptyLocal : Relay → ℕ
+emptyLocal r = lowestFree (λ address. true) localCount (r .locals)
+
+unfoldable pub addingRefusal : Relay → List ℕ → ℕ
+addingRefusal r address =
+    not (tablesOk r) then 7 otherwise
+    isLocal r address then 11 otherwise
+    leb localCount (emptyLocal r) then 10 otherwise 0
+
+-- ---- removing one: 7, 11
+unfoldable pub removingRefusal : Relay → List ℕ → ℕ
+removingRefusal r address =
+    not (tablesOk r) then 7 otherwise
+    not (isLocal r address) then 11 otherwise 0

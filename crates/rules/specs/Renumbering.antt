@@ -1,0 +1,74 @@
+-- Renumbering: the ports of a relay get other numbers, by a map of 0..15 to itself, given as the list of the sixteen images.
+use Prim.Native.Nat.{ℕ}
+use mathlib.Core.Bool.{Bool, true, false, not}
+use mathlib.Core.List.{List, map}
+use lib.Dec.{eqb, ltb}
+use lib.ListN.{length, getD}
+use Rattle.octets.specs.Index.{_and_, allBelow, first, listOf}
+use Rattle.octets.specs.Choice.{_then_otherwise_}
+use Rattle.rules.specs.Numbers.{portCount}
+use Rattle.rules.specs.Relay.{Port, off, Slot, empty, used, Path, Return, Relay}
+use Rattle.rules.specs.declared.Link.{Link}
+
+-- a port's image; a number outside the sixteen stays
+unfoldable pub image : List ℕ → ℕ → ℕ
+image m port = ltb port portCount then getD m port 0 otherwise port
+
+-- the image of port i differs from those before it
+unfoldable pub differsBefore : List ℕ → ℕ → Bool
+differsBefore m i = allBelow (λ j. not (eqb (getD m j 0) (getD m i 0))) i
+
+-- one-to-one on 0..15: sixteen images, each one of 0..15 and no two equal
+unfoldable pub oneToOne : List ℕ → Bool
+oneToOne m = eqb (length m) portCount and allBelow (λ i. ltb (getD m i 0) portCount and differsBefore m i) portCount
+
+-- the port whose image is n, or 16
+unfoldable pub preimage : List ℕ → ℕ → ℕ
+preimage m n = first (λ i. eqb (getD m i 0) n) portCount
+
+-- each port's settings move with it
+unfoldable pub movedPorts : List ℕ → List Port → List Port
+movedPorts m ports = listOf (λ n. getD ports (preimage m n) off) portCount
+
+-- replaces every stored port, expired records' too; an unused record has none
+unfoldable pub renamePath : List ℕ → Path → Path
+renamePath m p =
+    record { destination = p .destination; port = image m (p .port); hops = p .hops; nextHop = p .nextHop; expiry = p .expiry; blobs = p .blobs }
+
+unfoldable pub renameLink : List ℕ → Link → Link
+renameLink m l =
+    record {
+      id = l .id;
+      asking = image m (l .asking);
+      answering = image m (l .answering);
+      taken = l .taken;
+      remaining = l .remaining;
+      proved = l .proved;
+      expiry = l .expiry;
+    }
+
+unfoldable pub renameReturn : List ℕ → Return → Return
+renameReturn m t =
+    record { key = t .key; arrival = image m (t .arrival); leaving = image m (t .leaving); expiry = t .expiry }
+
+unfoldable pub renameSlot : {A : Type 0} → (A → A) → Slot A → Slot A
+renameSlot rename empty = empty
+renameSlot rename (used x) = used (rename x)
+
+-- renumbering replaces every stored port by its image and moves each port's settings with it, nothing more
+unfoldable pub renumbered : List ℕ → Relay → Relay
+renumbered m r =
+    record {
+      own = r .own;
+      clock = r .clock;
+      ports = movedPorts m (r .ports);
+      locals = r .locals;
+      paths = map (renameSlot (renamePath m)) (r .paths);
+      links = map (renameSlot (renameLink m)) (r .links);
+      returns = record { slots = map (renameSlot (renameReturn m)) (r .returns .slots); next = r .returns .next };
+      hashes = r .hashes;
+    }
+
+-- the composed map is the first map, then the second
+unfoldable pub composed : List ℕ → List ℕ → List ℕ
+composed one two = listOf (λ i. image two (getD one i 0)) portCount

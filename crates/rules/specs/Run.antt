@@ -1,0 +1,79 @@
+-- Sequences of calls: each gets the relay and tally that the one before left, and brings its own packet and output bytes.
+use Prim.Native.Nat.{ℕ}
+use mathlib.Core.Path.{_≡_}
+use mathlib.Core.Bool.{Bool, true, false}
+use mathlib.Core.List.{List, [], _∷_}
+use Rattle.rules.specs.Relay.{Relay}
+use Rattle.rules.specs.Renumbering.{image, oneToOne}
+use Rattle.rules.specs.Arrival.{Arrival}
+use Rattle.rules.specs.Answers.{renameAnswer}
+use Rattle.rules.specs.Calls.{Judgement, packetCall, Setting, setPort, addLocal, removeLocal, renumber}
+use Rattle.rules.specs.declared.Answer.{Answer}
+use Rattle.rules.specs.declared.Tally.{Tally}
+
+pub data Call : Type 0 where
+  packet : (arrival : Arrival) (output : List ℕ) → Call
+  port-setting : (port : ℕ) (on : Bool) (mode : ℕ) → Call
+  adding : (address : List ℕ) → Call
+  removing : (address : List ℕ) → Call
+  renumbering : (images : List ℕ) → Call
+
+-- all that a call returns, and its whole output buffer
+pub data Reply : Type 0 where
+  answered : (answer : Answer) (output : List ℕ) → Reply
+  numbered : (refusal : ℕ) → Reply
+
+pub record Outcome : Type 0 where
+  pub reply : Reply
+  pub relay : Relay
+  pub tally : Tally
+
+unfoldable pub ofJudgement : Judgement → Outcome
+ofJudgement j = record { reply = answered (j .answer) (j .output); relay = j .relay; tally = j .tally }
+
+unfoldable pub ofSetting : Tally → Setting → Outcome
+ofSetting t s = record { reply = numbered (s .refusal); relay = s .relay; tally = t }
+
+unfoldable pub perform : Call → Relay → Tally → Outcome
+perform (packet arrival output) r t = ofJudgement (packetCall arrival r t output)
+perform (port-setting port on mode) r t = ofSetting t (setPort port on mode r)
+perform (adding address) r t = ofSetting t (addLocal address r)
+perform (removing address) r t = ofSetting t (removeLocal address r)
+perform (renumbering images) r t = ofSetting t (renumber images r)
+
+-- what each call of a list replies, and the relay and the tally after it
+unfoldable pub replies : List Call → Relay → Tally → List Reply
+replies [] r t = []
+replies (c ∷ cs) r t = perform c r t .reply ∷ replies cs (perform c r t .relay) (perform c r t .tally)
+
+unfoldable pub relayAfter : List Call → Relay → Tally → Relay
+relayAfter [] r t = r
+relayAfter (c ∷ cs) r t = relayAfter cs (perform c r t .relay) (perform c r t .tally)
+
+unfoldable pub tallyAfter : List Call → Relay → Tally → Tally
+tallyAfter [] r t = t
+tallyAfter (c ∷ cs) r t = tallyAfter cs (perform c r t .relay) (perform c r t .tally)
+
+-- ---- the same with the ports given by their new numbers; a map stays as given
+unfoldable pub renameArrival : List ℕ → Arrival → Arrival
+renameArrival m a = record { bytes = a .bytes; port = image m (a .port); clock = a .clock; signed = a .signed }
+
+unfoldable pub renameCall : List ℕ → Call → Call
+renameCall m (packet arrival output) = packet (renameArrival m arrival) output
+renameCall m (port-setting port on mode) = port-setting (image m port) on mode
+renameCall m (adding address) = adding address
+renameCall m (removing address) = removing address
+renameCall m (renumbering images) = renumbering images
+
+unfoldable pub renameReply : List ℕ → Reply → Reply
+renameReply m (answered answer output) = answered (renameAnswer m answer) output
+renameReply m (numbered refusal) = numbered refusal
+
+-- no call of the list is an accepted renumbering: those that stand there have a map that is refused
+pub data NoRenumbering : List Call → Type 0 where
+  no-call : NoRenumbering []
+  then-packet : {arrival : Arrival} {output : List ℕ} {cs : List Call} → NoRenumbering cs → NoRenumbering (packet arrival output ∷ cs)
+  then-setting : {port : ℕ} {on : Bool} {mode : ℕ} {cs : List Call} → NoRenumbering cs → NoRenumbering (port-setting port on mode ∷ cs)
+  then-adding : {address : List ℕ} {cs : List Call} → NoRenumbering cs → NoRenumbering (adding address ∷ cs)
+  then-removing : {address : List ℕ} {cs : List Call} → NoRenumbering cs → NoRenumbering (removing address ∷ cs)
+  then-refused : {images : List ℕ} {cs : List Call} → oneToOne images ≡ false → NoRenumbering cs → NoRenumbering (renumbering images ∷ cs)

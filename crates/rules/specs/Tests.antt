@@ -1,0 +1,175 @@
+-- Document 01, "Judging a packet": tests 1 to 13, each under its own name. Test 6 has its cases in Ways.antt, and test 14, which reads the
+-- outgoing bytes, stands in Outgoing.antt.
+use Prim.Native.Nat.{ℕ}
+use mathlib.Core.Bool.{Bool, true, false, not}
+use lib.Dec.{eqb, ltb, leb}
+use lib.ListN.{length}
+use Rattle.octets.specs.Index.{_and_}
+use Rattle.octets.specs.Choice.{_then_otherwise_, _or_, same}
+use Rattle.packet.specs.Header.{typeTwo, ofKindSingle, ofKindLink, isData, isAnnounce, isLinkRequest, isProof}
+use Rattle.packet.specs.Hash.{linkId}
+use Rattle.packet.specs.Announce.{emissionOf, leastAnnounce, announcedDestination}
+use Rattle.rules.specs.Numbers.{portCount}
+use Rattle.rules.specs.Relay.{Slot, empty, used}
+use Rattle.rules.specs.View.{View}
+use Rattle.rules.specs.Arrival.{Arrival, header, hops, relayAddress, destination, body, hash, blob, isLinkProof}
+use Rattle.rules.specs.Blobs.{held, isAmong, greatestEmission}
+use Rattle.rules.specs.Ways.{Way, everywhere, by-path, along-link, by-return, blocked}
+use Rattle.rules.specs.declared.Link.{Link}
+
+-- 1. Not ours: type 2, not an announce, relay address not our own.
+unfoldable pub notOurs : View → Arrival → Bool
+notOurs v a = typeTwo (header a) and not (isAnnounce (header a)) and not (same (relayAddress a) (v .own))
+
+-- 2. Duplicate: equal to a live remembered hash. Every packet is tested so
+unfoldable pub testedAsDuplicate : View → Arrival → Bool
+testedAsDuplicate v a = true
+
+unfoldable pub duplicate : View → Arrival → Bool
+duplicate v a = testedAsDuplicate v a and v .remembered (hash a)
+
+-- 3. Bad form:
+-- type 2 proof;
+unfoldable pub typeTwoProof : Arrival → Bool
+typeTwoProof a = typeTwo (header a) and isProof (header a)
+
+-- any type 2 packet of kind link;
+unfoldable pub typeTwoOfKindLink : Arrival → Bool
+typeTwoOfKindLink a = typeTwo (header a) and ofKindLink (header a)
+
+-- announce not of kind single;
+unfoldable pub announceNotSingle : Arrival → Bool
+announceNotSingle a = isAnnounce (header a) and not (ofKindSingle (header a))
+
+-- announce payload under 148 (180 with the context flag);
+unfoldable pub announceTooShort : Arrival → Bool
+announceTooShort a = isAnnounce (header a) and ltb (length (body a)) (leastAnnounce (header a))
+
+-- announce destination not the first 16 of SHA-256(name hash ‖ identity hash);
+unfoldable pub announceOfAnother : Arrival → Bool
+announceOfAnother a = isAnnounce (header a) and not (same (destination a) (announcedDestination (body a)))
+
+-- link request of kind link,
+unfoldable pub requestOfKindLink : Arrival → Bool
+requestOfKindLink a = isLinkRequest (header a) and ofKindLink (header a)
+
+-- or payload under 64;
+unfoldable pub requestTooShort : Arrival → Bool
+requestTooShort a = isLinkRequest (header a) and ltb (length (body a)) 64
+
+-- a link proof whose payload isn't 96 or 99.
+unfoldable pub linkProofLength : Arrival → Bool
+linkProofLength a = isLinkProof a and not (eqb (length (body a)) 96 or eqb (length (body a)) 99)
+
+unfoldable pub badForm : Arrival → Bool
+badForm a =
+    typeTwoProof a
+    or typeTwoOfKindLink a
+    or announceNotSingle a
+    or announceTooShort a
+    or announceOfAnother a
+    or requestOfKindLink a
+    or requestTooShort a
+    or linkProofLength a
+
+-- 4. Own announce: destination local.
+unfoldable pub ownAnnounce : View → Arrival → Bool
+ownAnnounce v a = isAnnounce (header a) and v .local (destination a)
+
+-- Data and link requests to a local address, kind link excepted, are delivered here
+unfoldable pub deliveredHere : View → Arrival → Bool
+deliveredHere v a = (isData (header a) or isLinkRequest (header a)) and not (ofKindLink (header a)) and v .local (destination a)
+
+-- 5. Hops 128 or more.
+unfoldable pub tooManyHops : Arrival → Bool
+tooManyHops a = leb 128 (hops a)
+
+-- 6. No way on: specs/Ways.antt has its cases
+unfoldable pub noWayOn : Way → Bool
+noWayOn (everywhere known) = false
+noWayOn (by-path p) = false
+noWayOn (along-link l) = false
+noWayOn (by-return t) = false
+noWayOn (blocked why) = true
+
+-- 7. Already known: link request whose id is live; link proof for a proved link.
+unfoldable pub isThere : {A : Type 0} → Slot A → Bool
+isThere empty = false
+isThere (used x) = true
+
+unfoldable pub followsProvedLink : Way → Bool
+followsProvedLink (everywhere known) = false
+followsProvedLink (by-path p) = false
+followsProvedLink (along-link l) = l .proved
+followsProvedLink (by-return t) = false
+followsProvedLink (blocked why) = false
+
+unfoldable pub alreadyKnown : View → Arrival → Way → Bool
+alreadyKnown v a w =
+    isLinkRequest (header a) and isThere (v .link (linkId (a .bytes)))
+    or isLinkProof a and followsProvedLink w
+
+-- 8. Wrong side.
+-- from the answering port with hops = remaining
+unfoldable pub fromAnsweringSide : Link → Arrival → Bool
+fromAnsweringSide l a = eqb (a .port) (l .answering) and eqb (hops a) (l .remaining .0)
+
+-- from the asking port with hops = taken
+unfoldable pub fromAskingSide : Link → Arrival → Bool
+fromAskingSide l a = eqb (a .port) (l .asking) and eqb (hops a) (l .taken .0)
+
+-- a link packet from neither side; a link proof must come from the answering side; an ordinary proof must come in by the record's
+-- leaving port
+unfoldable pub wrongSide : Arrival → Way → Bool
+wrongSide a (everywhere known) = false
+wrongSide a (by-path p) = false
+wrongSide a (along-link l) =
+    fromAnsweringSide l a then false otherwise
+    isLinkProof a or not (fromAskingSide l a)
+wrongSide a (by-return t) = not (eqb (a .port) (t .leaving))
+wrongSide a (blocked why) = false
+
+-- 9. Signature word no, for announces and link proofs.
+unfoldable pub notSigned : Arrival → Bool
+notSigned a = (isAnnounce (header a) or isLinkProof a) and not (a .signed)
+
+-- 10. Replay: the announce's blob is stored in its live path.
+unfoldable pub replay : Arrival → Way → Bool
+replay a (everywhere empty) = false
+replay a (everywhere (used p)) = isAmong (blob a) (held (p .blobs))
+replay a (by-path p) = false
+replay a (along-link l) = false
+replay a (by-return t) = false
+replay a (blocked why) = false
+
+-- 11. Not better: emission not above the greatest among stored blobs, and hops not below the stored hops.
+unfoldable pub notBetter : Arrival → Way → Bool
+notBetter a (everywhere empty) = false
+notBetter a (everywhere (used p)) =
+    leb (emissionOf (blob a)) (greatestEmission (held (p .blobs))) and leb (p .hops) (hops a)
+notBetter a (by-path p) = false
+notBetter a (along-link l) = false
+notBetter a (by-return t) = false
+notBetter a (blocked why) = false
+
+-- the port to leave by: the path's, which may be the arrival port; from the answering side the asking port, else the answering port; the
+-- return record's arrival port. An announce leaves by many, and what is blocked by none: 16 is no port
+unfoldable pub leavingPort : Arrival → Way → ℕ
+leavingPort a (everywhere known) = portCount
+leavingPort a (by-path p) = p .port
+leavingPort a (along-link l) = fromAnsweringSide l a then l .asking otherwise l .answering
+leavingPort a (by-return t) = t .arrival
+leavingPort a (blocked why) = portCount
+
+-- 12. Port off: the port to leave by. Announces skip this.
+unfoldable pub portOff : View → Arrival → Way → Bool
+portOff v a w = not (isAnnounce (header a)) and not (v .on (leavingPort a w))
+
+-- 13. No room: a new path or link, and no slot empty or expired. It isn't given otherwise.
+unfoldable pub noRoom : View → Arrival → Way → Bool
+noRoom v a (everywhere empty) = not (v .roomForPath)
+noRoom v a (everywhere (used p)) = false
+noRoom v a (by-path p) = isLinkRequest (header a) and not (v .roomForLink)
+noRoom v a (along-link l) = false
+noRoom v a (by-return t) = false
+noRoom v a (blocked why) = false

@@ -1,0 +1,88 @@
+-- What judging a packet reads of a relay, at a clock, and nothing else. A record that isn't live counts as no record; of two live records
+-- of one key the lower place counts.
+use Prim.Native.Nat.{ℕ}
+use mathlib.Core.Bool.{Bool, true, false}
+use mathlib.Core.List.{List}
+use lib.Dec.{ltb}
+use lib.ListN.{getD}
+use Rattle.octets.specs.Index.{_and_}
+use Rattle.octets.specs.Choice.{same}
+use Rattle.rules.specs.Numbers.{portCount, localCount, pathCount, linkCount, returnCount, hashCount, live}
+use Rattle.rules.specs.Relay.{off, Slot, empty, Path, Return, Remembered, Relay, lowest, lowestFree}
+use Rattle.rules.specs.declared.Link.{Link}
+
+-- ---- ports and local addresses
+-- one of the sixteen, and on
+unfoldable pub portOn : Relay → ℕ → Bool
+portOn r port = ltb port portCount and (getD (r .ports) port off .on)
+
+unfoldable pub portMode : Relay → ℕ → ℕ
+portMode r port = getD (r .ports) port off .mode
+
+-- the lowest place of a local address, or 16
+unfoldable pub localPlace : Relay → List ℕ → ℕ
+localPlace r address = lowest (same address) localCount (r .locals)
+
+unfoldable pub isLocal : Relay → List ℕ → Bool
+isLocal r address = ltb (localPlace r address) localCount
+
+-- ---- the live record of a key
+unfoldable pub isLivePath : ℕ → List ℕ → Path → Bool
+isLivePath clock destination p = same (p .destination) destination and live clock (p .expiry)
+
+unfoldable pub isLiveLink : ℕ → List ℕ → Link → Bool
+isLiveLink clock id l = same (l .id) id and live clock (l .expiry)
+
+unfoldable pub isLiveReturn : ℕ → List ℕ → Return → Bool
+isLiveReturn clock key t = same (t .key) key and live clock (t .expiry)
+
+unfoldable pub isLiveHash : ℕ → List ℕ → Remembered → Bool
+isLiveHash clock hash m = same (m .hash) hash and live clock (m .expiry)
+
+-- where the lowest one lies, or the number of places
+unfoldable pub pathPlace : ℕ → Relay → List ℕ → ℕ
+pathPlace clock r destination = lowest (isLivePath clock destination) pathCount (r .paths)
+
+unfoldable pub linkPlace : ℕ → Relay → List ℕ → ℕ
+linkPlace clock r id = lowest (isLiveLink clock id) linkCount (r .links)
+
+unfoldable pub returnPlace : ℕ → Relay → List ℕ → ℕ
+returnPlace clock r key = lowest (isLiveReturn clock key) returnCount (r .returns .slots)
+
+unfoldable pub hashPlace : ℕ → Relay → List ℕ → ℕ
+hashPlace clock r hash = lowest (isLiveHash clock hash) hashCount (r .hashes .slots)
+
+-- the lowest slot empty or expired, or the number of places
+unfoldable pub freePath : ℕ → Relay → ℕ
+freePath clock r = lowestFree (λ p. live clock (p .expiry)) pathCount (r .paths)
+
+unfoldable pub freeLink : ℕ → Relay → ℕ
+freeLink clock r = lowestFree (λ l. live clock (l .expiry)) linkCount (r .links)
+
+-- ---- the view
+pub record View : Type 0 where
+  pub own : List ℕ
+  pub on : ℕ → Bool
+  pub mode : ℕ → ℕ
+  pub local : List ℕ → Bool
+  pub remembered : List ℕ → Bool
+  pub path : List ℕ → Slot Path
+  pub link : List ℕ → Slot Link
+  pub return : List ℕ → Slot Return
+  pub roomForPath : Bool
+  pub roomForLink : Bool
+
+unfoldable pub viewAt : ℕ → Relay → View
+viewAt clock r =
+    record {
+      own = r .own;
+      on = portOn r;
+      mode = portMode r;
+      local = isLocal r;
+      remembered = λ hash. ltb (hashPlace clock r hash) hashCount;
+      path = λ destination. getD (r .paths) (pathPlace clock r destination) empty;
+      link = λ id. getD (r .links) (linkPlace clock r id) empty;
+      return = λ key. getD (r .returns .slots) (returnPlace clock r key) empty;
+      roomForPath = ltb (freePath clock r) pathCount;
+      roomForLink = ltb (freeLink clock r) linkCount;
+    }

@@ -1,0 +1,143 @@
+-- What an accepted packet writes into the tables, by what was planned. No test is made here.
+use Prim.Native.Nat.{ℕ, _+_, _%_}
+use mathlib.Core.Bool.{Bool, true, false}
+use mathlib.Core.List.{List, map}
+use lib.Dec.{ltb}
+use lib.ListN.{take, set}
+use Rattle.octets.specs.Choice.{_then_otherwise_, _or_}
+use Rattle.packet.specs.Header.{typeTwo, isData}
+use Rattle.packet.specs.Hash.{linkId}
+use Rattle.rules.specs.Numbers.{blobLimit, returnCount, hashCount, pathLifetime, hashLifetime, returnLifetime, unprovedLifetime, provedLifetime}
+use Rattle.rules.specs.Relay.{Slot, empty, used, Ring, Blobs, Path, Return, Relay, holds, withClock, withPaths, withLinks, withReturns, withHashes}
+use Rattle.rules.specs.View.{View, isLiveReturn, pathPlace, linkPlace, returnPlace, freePath, freeLink}
+use Rattle.rules.specs.Arrival.{Arrival, header, hops, relayAddress, destination, hash, blob, isLinkProof}
+use Rattle.rules.specs.Blobs.{oneBlob, addBlob}
+use Rattle.rules.specs.Ways.{Way, everywhere, by-path, along-link, by-return, blocked}
+use Rattle.rules.specs.Answers.{reasonNumber}
+use Rattle.rules.specs.Judging.{Plan, dropped, delivered, follows}
+use Rattle.rules.specs.declared.Link.{Link}
+
+-- a ring of n places: the next one is written, and the one after it is next
+unfoldable pub putNext : {A : Type 0} → ℕ → Slot A → Ring A → Ring A
+putNext n slot ring = record { slots = set (ring .slots) (ring .next) slot; next = (ring .next + 1) % n }
+
+-- ---- remembered hashes
+-- drops 1 and 2 remember nothing
+unfoldable pub remembers : View → Arrival → Plan → Bool
+remembers v a (dropped reason) = ltb 2 (reasonNumber reason)
+remembers v a delivered = true
+remembers v a (follows w) = true
+
+-- the hash is now remembered in the next ring place, the oldest's once 1,024 are held
+unfoldable pub remember : Arrival → Relay → Relay
+remember a r =
+    withHashes
+    (putNext hashCount (used (record { hash = hash a; expiry = a .clock + hashLifetime })) (r .hashes))
+    r
+
+-- ---- paths
+-- an accepted announce sets arrival port, hops, expiry, and next hop (relay address, or the destination if type 1), and adds its blob
+unfoldable pub announcedBlobs : Arrival → Slot Path → Blobs
+announcedBlobs a empty = oneBlob blobLimit (blob a)
+announcedBlobs a (used p) = addBlob blobLimit (blob a) (p .blobs)
+
+unfoldable pub announcedPath : View → Arrival → Slot Path → Path
+announcedPath v a known =
+    record {
+      destination = destination a;
+      port = a .port;
+      hops = hops a;
+      nextHop = typeTwo (header a) then relayAddress a otherwise destination a;
+      expiry = a .clock + pathLifetime (v .mode (a .port));
+      blobs = announcedBlobs a known;
+    }
+
+-- a known path keeps its slot; a new one overwrites the lowest slot empty or expired
+unfoldable pub announcedPlace : Arrival → Slot Path → Relay → ℕ
+announcedPlace a empty r = freePath (a .clock) r
+announcedPlace a (used p) r = pathPlace (a .clock) r (destination a)
+
+unfoldable pub putPath : View → Arrival → Slot Path → Relay → Relay
+putPath v a known r = withPaths (set (r .paths) (announcedPlace a known r) (used (announcedPath v a known))) r
+
+-- ---- return records
+-- first 16 of packet hash, arrival port, leaving port
+unfoldable pub returnKey : Arrival → List ℕ
+returnKey a = take 16 (hash a)
+
+unfoldable pub returnRecord : Arrival → Path → Return
+returnRecord a p =
+    record { key = returnKey a; arrival = a .port; leaving = p .port; expiry = a .clock + returnLifetime }
+
+unfoldable pub emptiedIf : {A : Type 0} → (A → Bool) → Slot A → Slot A
+emptiedIf test slot = holds test slot then empty otherwise slot
+
+unfoldable pub emptiedWhere : {A : Type 0} → (A → Bool) → Ring A → Ring A
+emptiedWhere test ring = record { slots = map (emptiedIf test) (ring .slots); next = ring .next }
+
+-- in the next ring place, and any other live one of the same key is emptied
+unfoldable pub putReturn : Arrival → Path → Relay → Relay
+putReturn a p r =
+    withReturns
+    (putNext returnCount (used (returnRecord a p)) (emptiedWhere (isLiveReturn (a .clock) (returnKey a)) (r .returns)))
+    r
+
+-- an ordinary proof's record is emptied
+unfoldable pub emptyReturn : Arrival → Relay → Relay
+emptyReturn a r =
+    withReturns
+    (record { slots = set (r .returns .slots) (returnPlace (a .clock) r (destination a)) empty; next = r .returns .next })
+    r
+
+-- ---- links
+-- a forwarded link request makes a link record: taken hops (the request's) and remaining hops (the path's) are kept apart
+unfoldable pub linkRecord : Arrival → Path → Link
+linkRecord a p =
+    record {
+      id = linkId (a .bytes);
+      asking = a .port;
+      answering = p .port;
+      taken = record { 0 = hops a };
+      remaining = record { 0 = p .hops };
+      proved = false;
+      expiry = a .clock + unprovedLifetime (p .hops);
+    }
+
+-- in the lowest slot empty or expired
+unfoldable pub putLink : Arrival → Path → Relay → Relay
+putLink a p r = withLinks (set (r .links) (freeLink (a .clock) r) (used (linkRecord a p))) r
+
+-- each packet carried renews the link, and a link proof marks it proved
+unfoldable pub renewedLink : Arrival → Link → Link
+renewedLink a l =
+    record {
+      id = l .id;
+      asking = l .asking;
+      answering = l .answering;
+      taken = l .taken;
+      remaining = l .remaining;
+      proved = l .proved or isLinkProof a;
+      expiry = a .clock + provedLifetime;
+    }
+
+unfoldable pub renewLink : Arrival → Link → Relay → Relay
+renewLink a l r = withLinks (set (r .links) (linkPlace (a .clock) r (destination a)) (used (renewedLink a l))) r
+
+-- ---- all of it
+-- data forwarded by a path makes a return record, a link request a link record
+unfoldable pub writeWay : View → Arrival → Way → Relay → Relay
+writeWay v a (everywhere known) r = putPath v a known r
+writeWay v a (by-path p) r = isData (header a) then putReturn a p r otherwise putLink a p r
+writeWay v a (along-link l) r = renewLink a l r
+writeWay v a (by-return t) r = emptyReturn a r
+writeWay v a (blocked why) r = r
+
+unfoldable pub writePlan : View → Arrival → Plan → Relay → Relay
+writePlan v a (dropped reason) r = r
+writePlan v a delivered r = r
+writePlan v a (follows w) r = writeWay v a w r
+
+-- every accepted packet, dropped or not, sets the last clock
+unfoldable pub enact : View → Arrival → Plan → Relay → Relay
+enact v a plan r =
+    writePlan v a plan (remembers v a plan then remember a (withClock (a .clock) r) otherwise withClock (a .clock) r)

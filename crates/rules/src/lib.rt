@@ -1,0 +1,62 @@
+// The types that the rules of document 01 and the code share. The rules themselves are definitions, in specs/: no function stands here.
+
+// Why a packet was dropped: document 01's tests 1 to 14, in their order. `reasonNumber` of specs/Answers.antt gives the numbers.
+pub enum Reason {
+    NotOurs,
+    Duplicate,
+    BadForm,
+    OwnAnnounce,
+    TooManyHops,
+    NoWayOn,
+    AlreadyKnown,
+    WrongSide,
+    NotSigned,
+    Replay,
+    NotBetter,
+    PortOff,
+    NoRoom,
+    TooLong,
+}
+
+// What was decided of an accepted packet. A length is that of the packet that stands at the output's start.
+pub enum Verdict {
+    Drop(Reason),
+    Deliver,
+    Forward { port: u8, length: usize },
+    Spread { ports: u16, length: usize },
+    Kept,
+}
+
+// What a packet call returns: a refusal's number, or the verdict.
+pub enum Answer {
+    Refused(u8),
+    Judged(Verdict),
+}
+
+// The hops that a link request had taken when it came here: compared only with packets from the asking side.
+pub struct TakenHops(pub u8);
+
+// The hops that remain to the destination, by the path: compared only with packets from the answering side.
+pub struct RemainingHops(pub u8);
+
+// A link: its id, the port of the side that asked for it and of the side that answers, both hop counts, whether it is proved, and when it
+// ends.
+pub struct Link {
+    pub id: [u8; 16],
+    pub asking: u8,
+    pub answering: u8,
+    pub taken: TakenHops,
+    pub remaining: RemainingHops,
+    pub proved: bool,
+    pub expiry: u64,
+}
+
+// Packet calls since fresh, each modulo 2^32: all accepted ones, and those of each answer.
+pub struct Tally {
+    pub total: u32,
+    pub dropped: u32,
+    pub delivered: u32,
+    pub forwarded: u32,
+    pub spread: u32,
+    pub kept: u32,
+}
