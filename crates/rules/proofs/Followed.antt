@@ -1,0 +1,115 @@
+-- What the tests leave of a packet that follows a way: where the way's record was found, and which tests did not hold.
+use Prim.Native.Nat.{ℕ}
+use mathlib.Core.Bool.{true, false, false≢true}
+use mathlib.Core.List.{List}
+use mathlib.Core.Path.{_≡_, refl, ap, _∙_}
+use Rattle.octets.specs.Index.{_and_}
+use Rattle.octets.specs.Choice.{_or_}
+use Rattle.packet.specs.Header.{isAnnounce, isLinkRequest, isProof}
+use Rattle.packet.specs.Hash.{linkId}
+use Rattle.rules.specs.Relay.{Slot, empty, used, Path, Return}
+use Rattle.rules.specs.View.{View}
+use Rattle.rules.specs.Arrival.{Arrival, header, destination, isLinkProof}
+use Rattle.rules.specs.Ways.{Way, everywhere, by-path, along-link, by-return, blocked, pathWay, linkWay, returnWay, wayOn}
+use Rattle.rules.specs.Tests.{duplicate, tooManyHops, isThere, followsProvedLink, alreadyKnown, replay}
+use Rattle.rules.specs.Answers.{reasonNumber}
+use Rattle.rules.specs.Judging.{Plan, dropped, delivered, follows, onwardPlan, plan}
+use Rattle.rules.specs.Writes.{remembers}
+use Rattle.rules.specs.declared.Link.{Link}
+use Rattle.rules.proofs.Choices.{either}
+
+-- the way's record is what the view shows of the packet's destination
+abbrev pub Found : View → Arrival → Way → Type 0
+Found v a (everywhere known) = v .path (destination a) ≡ known
+Found v a (by-path p) = (v .path (destination a) ≡ used p) × (isAnnounce (header a) ≡ false) × (isProof (header a) ≡ false)
+Found v a (along-link l) = v .link (destination a) ≡ used l
+Found v a (by-return t) = v .return (destination a) ≡ used t
+Found v a (blocked why) = Unit {0}
+
+pub record Followed (v : View) (a : Arrival) (w : Way) : Type 0 where
+  pub found : Found v a w
+  pub fewHops : tooManyHops a ≡ false
+  pub unknown : alreadyKnown v a w ≡ false
+  pub newBlob : replay a w ≡ false
+
+abbrev pub Planned : View → Arrival → Plan → Type 0
+Planned v a (dropped reason) = Unit {0}
+Planned v a delivered = Unit {0}
+Planned v a (follows w) = Followed v a w
+
+module _ (v : View) (a : Arrival) where
+  found-path : isAnnounce (header a) ≡ false → isProof (header a) ≡ false → (s : Slot Path) → v .path (destination a) ≡ s → Found v a (pathWay s)
+  unfolding pathWay
+  found-path n m empty e = tt
+  found-path n m (used p) e = (e, n, m)
+
+  found-link : (s : Slot Link) → v .link (destination a) ≡ s → Found v a (linkWay (isLinkProof a) s)
+  unfolding linkWay
+  found-link empty e = tt
+  found-link (used l) e = either (Found v a) (l .proved or isLinkProof a) (λ _. e) (λ _. tt)
+
+  found-return : (s : Slot Return) → v .return (destination a) ≡ s → Found v a (returnWay s)
+  unfolding returnWay
+  found-return empty e = tt
+  found-return (used t) e = e
+
+  found-way : Found v a (wayOn v a)
+  unfolding wayOn
+  found-way =
+      either (Found v a) _ (λ _. refl)
+      (λ n. either (Found v a) _ (λ _. found-link _ refl)
+      (λ _. either (Found v a) _ (λ _. found-return _ refl)
+      (λ m. either (Found v a) _ (λ _. tt)
+      (λ _. found-path n m _ refl))))
+
+  planned-onward : tooManyHops a ≡ false → (w : Way) → Found v a w → Planned v a (onwardPlan v a w)
+  unfolding onwardPlan
+  planned-onward few w f =
+      either (Planned v a) _ (λ _. tt)
+      (λ _. either (Planned v a) _ (λ _. tt)
+      (λ unknown. either (Planned v a) _ (λ _. tt)
+      (λ _. either (Planned v a) _ (λ _. tt)
+      (λ _. either (Planned v a) _ (λ _. tt)
+      (λ newBlob. either (Planned v a) _ (λ _. tt)
+      (λ _. either (Planned v a) _ (λ _. tt)
+      (λ _. either (Planned v a) _ (λ _. tt)
+      (λ _. either (Planned v a) _ (λ _. tt)
+      (λ _. record { found = f; fewHops = few; unknown = unknown; newBlob = newBlob })))))))))
+
+  pub planned : Planned v a (plan v a)
+  unfolding plan
+  planned =
+      either (Planned v a) _ (λ _. tt)
+      (λ _. either (Planned v a) _ (λ _. tt)
+      (λ _. either (Planned v a) _ (λ _. tt)
+      (λ _. either (Planned v a) _ (λ _. tt)
+      (λ _. either (Planned v a) _ (λ _. tt)
+      (λ _. either (Planned v a) _ (λ _. tt)
+      (λ few. planned-onward few (wayOn v a) found-way))))))
+
+  -- a hash that is remembered is that of no duplicate
+  pub remembered-new : remembers v a (plan v a) ≡ true → duplicate v a ≡ false
+  unfolding plan remembers reasonNumber
+  remembered-new =
+      either (λ (todo : Plan). remembers v a todo ≡ true → duplicate v a ≡ false) _ (λ _ h. absurd (false≢true h))
+      (λ _. either (λ (todo : Plan). remembers v a todo ≡ true → duplicate v a ≡ false) _ (λ _ h. absurd (false≢true h)) (λ new _. new))
+
+-- ---- by another view, which shows the same paths, links and return records
+module _ (u v : View) (paths : v .path ≡ u .path) (links : v .link ≡ u .link) (returns : v .return ≡ u .return) (a : Arrival) where
+  found-by : (w : Way) → Found u a w → Found v a w
+  found-by (everywhere known) f = ap (λ (g : List ℕ → Slot Path). g (destination a)) paths ∙ f
+  found-by (by-path p) f = (ap (λ (g : List ℕ → Slot Path). g (destination a)) paths ∙ f .0, f .1, f .2)
+  found-by (along-link l) f = ap (λ (g : List ℕ → Slot Link). g (destination a)) links ∙ f
+  found-by (by-return t) f = ap (λ (g : List ℕ → Slot Return). g (destination a)) returns ∙ f
+  found-by (blocked why) f = tt
+
+  known-by : (w : Way) → alreadyKnown v a w ≡ alreadyKnown u a w
+  unfolding alreadyKnown
+  known-by w =
+      ap (λ (g : List ℕ → Slot Link). isLinkRequest (header a) and isThere (g (linkId (a .bytes))) or isLinkProof a and followsProvedLink w) links
+
+  pub planned-by : (todo : Plan) → Planned u a todo → Planned v a todo
+  planned-by (dropped reason) h = tt
+  planned-by delivered h = tt
+  planned-by (follows w) h =
+      record { found = found-by w (h .found); fewHops = h .fewHops; unknown = known-by w ∙ h .unknown; newBlob = h .newBlob }

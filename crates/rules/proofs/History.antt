@@ -1,0 +1,151 @@
+-- The tally counts history: after any list of calls each counter is what it was at the start plus the number of such accepted packet
+-- calls, modulo 2^32. The numbers are counted over what the calls replied.
+use Prim.Native.Nat.{ℕ, _+_, _%_, _^_, _<_}
+use native.Mathlib.Omega.{arith}
+use mathlib.Core.Bool.{Bool, true, false}
+use mathlib.Core.List.{List, [], _∷_}
+use mathlib.Core.Path.{_≡_, refl, ap, _∙_}
+use lib.Dec.{eqb}
+use lib.ListN.{length}
+use Rattle.octets.specs.Choice.{_then_otherwise_}
+use Rattle.rules.specs.Relay.{Relay}
+use Rattle.rules.specs.View.{viewAt}
+use Rattle.rules.specs.Refusals.{packetRefusal}
+use Rattle.rules.specs.Judging.{plan, verdict}
+use Rattle.rules.specs.Calls.{newTally, up, counted, Judgement, judged, judge, packetCall}
+use Rattle.rules.specs.Run.{Call, packet, port-setting, adding, removing, renumbering, Reply, answered, numbered, ofJudgement, ofSetting, perform, replies, tallyAfter}
+use Rattle.rules.specs.declared.Verdict.{Verdict}
+use Rattle.rules.specs.declared.Verdict.the-variants.{Drop, Deliver, Forward, Spread, Kept}
+use Rattle.rules.specs.declared.Answer.the-variants.{Refused, Judged}
+use Rattle.rules.specs.declared.Tally.{Tally}
+
+-- ---- counting
+-- an accepted packet's answer counts where it is of the kind; a refusal, and what another call returns, doesn't
+abbrev pub counts : (Verdict → Bool) → Reply → ℕ
+counts kind (answered (Refused number) output) = 0
+counts kind (answered (Judged verdict) output) = kind verdict then 1 otherwise 0
+counts kind (numbered refusal) = 0
+
+unfoldable pub number : (Verdict → Bool) → List Reply → ℕ
+number kind [] = 0
+number kind (reply ∷ replies) = counts kind reply + number kind replies
+
+-- which of the five answers it is
+abbrev pub kindOf : Verdict → ℕ
+kindOf (Drop reason) = 0
+kindOf Deliver = 1
+kindOf (Forward port length) = 2
+kindOf (Spread ports length) = 3
+kindOf Kept = 4
+
+abbrev pub isDrop : Verdict → Bool
+isDrop verdict = eqb (kindOf verdict) 0
+
+abbrev pub isDelivery : Verdict → Bool
+isDelivery verdict = eqb (kindOf verdict) 1
+
+abbrev pub isForward : Verdict → Bool
+isForward verdict = eqb (kindOf verdict) 2
+
+abbrev pub isSpread : Verdict → Bool
+isSpread verdict = eqb (kindOf verdict) 3
+
+abbrev pub isKept : Verdict → Bool
+isKept verdict = eqb (kindOf verdict) 4
+
+abbrev pub isAny : Verdict → Bool
+isAny verdict = true
+
+-- ---- one counter
+same-count : (n : ℕ) → n < 2 ^ 32 → n ≡ (n + 0) % 2 ^ 32
+same-count n small = omega arith
+
+-- it goes up by one at a verdict of the kind, and stays at any other
+module _ (kind : Verdict → Bool) (counter : Tally → ℕ)
+    (law : (v : Verdict) (t : Tally) → counter (counted v t) ≡ (kind v then up (counter t) otherwise counter t)) where
+  after-verdict : (v : Verdict) (t : Tally) → counter t < 2 ^ 32 → counter (counted v t) ≡ (counter t + (kind v then 1 otherwise 0)) % 2 ^ 32
+  unfolding up _then_otherwise_
+  after-verdict v t small = law v t ∙ go (kind v)
+    where
+      go : (b : Bool) → (b then up (counter t) otherwise counter t) ≡ (counter t + (b then 1 otherwise 0)) % 2 ^ 32
+      go true = refl
+      go false = same-count (counter t) small
+
+  after-call : (c : Call) (r : Relay) (t : Tally) → counter t < 2 ^ 32
+      → counter (perform c r t .tally) ≡ (counter t + counts kind (perform c r t .reply)) % 2 ^ 32
+  unfolding perform ofJudgement ofSetting packetCall judge judged _then_otherwise_
+  after-call (packet a output) r t small = go (eqb (packetRefusal r a (length output)) 0)
+    where
+      -- `accepted` chooses as the call does
+      result : Bool → Judgement
+      result accepted =
+          accepted then judge a r t output otherwise
+          record { answer = Refused (packetRefusal r a (length output)); relay = r; tally = t; output = output }
+
+      go : (accepted : Bool) → counter (result accepted .tally) ≡ (counter t + counts kind (ofJudgement (result accepted) .reply)) % 2 ^ 32
+      go true = after-verdict (verdict (viewAt (a .clock) r) a (plan (viewAt (a .clock) r) a)) t small
+      go false = same-count (counter t) small
+  after-call (port-setting port on mode) r t small = same-count (counter t) small
+  after-call (adding address) r t small = same-count (counter t) small
+  after-call (removing address) r t small = same-count (counter t) small
+  after-call (renumbering images) r t small = same-count (counter t) small
+
+  after-calls : (cs : List Call) (r : Relay) (t : Tally) → counter t < 2 ^ 32
+      → counter (tallyAfter cs r t) ≡ (counter t + number kind (replies cs r t)) % 2 ^ 32
+  unfolding tallyAfter replies number
+  after-calls [] r t small = same-count (counter t) small
+  after-calls (c ∷ cs) r t small =
+      let e : counter (perform c r t .tally) ≡ (counter t + counts kind (perform c r t .reply)) % 2 ^ 32 = after-call c r t small in
+      let l : counter (perform c r t .tally) < 2 ^ 32 = omega arith in
+      after-calls cs (perform c r t .relay) (perform c r t .tally) l ∙ omega arith
+
+-- ---- all six
+pub record Fits (t : Tally) : Type 0 where
+  pub total : t .total < 2 ^ 32
+  pub dropped : t .dropped < 2 ^ 32
+  pub delivered : t .delivered < 2 ^ 32
+  pub forwarded : t .forwarded < 2 ^ 32
+  pub spread : t .spread < 2 ^ 32
+  pub kept : t .kept < 2 ^ 32
+
+pub record CountsHistory (said : List Reply) (before after : Tally) : Type 0 where
+  pub total : after .total ≡ (before .total + number isAny said) % 2 ^ 32
+  pub dropped : after .dropped ≡ (before .dropped + number isDrop said) % 2 ^ 32
+  pub delivered : after .delivered ≡ (before .delivered + number isDelivery said) % 2 ^ 32
+  pub forwarded : after .forwarded ≡ (before .forwarded + number isForward said) % 2 ^ 32
+  pub spread : after .spread ≡ (before .spread + number isSpread said) % 2 ^ 32
+  pub kept : after .kept ≡ (before .kept + number isKept said) % 2 ^ 32
+
+-- each counter goes up at its own kind
+by-kind : (v : Verdict) (t : Tally)
+    → counted v t ≡ record {
+      total = isAny v then up (t .total) otherwise t .total;
+      dropped = isDrop v then up (t .dropped) otherwise t .dropped;
+      delivered = isDelivery v then up (t .delivered) otherwise t .delivered;
+      forwarded = isForward v then up (t .forwarded) otherwise t .forwarded;
+      spread = isSpread v then up (t .spread) otherwise t .spread;
+      kept = isKept v then up (t .kept) otherwise t .kept;
+    }
+unfolding counted _then_otherwise_
+by-kind (Drop reason) t = refl
+by-kind Deliver t = refl
+by-kind (Forward port length) t = refl
+by-kind (Spread ports length) t = refl
+by-kind Kept t = refl
+
+-- the tally counts history
+pub history : (cs : List Call) (r : Relay) (t : Tally) → Fits t → CountsHistory (replies cs r t) t (tallyAfter cs r t)
+history cs r t small =
+    record {
+      total = after-calls isAny (λ t. t .total) (λ v t. ap (λ (t : Tally). t .total) (by-kind v t)) cs r t (small .total);
+      dropped = after-calls isDrop (λ t. t .dropped) (λ v t. ap (λ (t : Tally). t .dropped) (by-kind v t)) cs r t (small .dropped);
+      delivered = after-calls isDelivery (λ t. t .delivered) (λ v t. ap (λ (t : Tally). t .delivered) (by-kind v t)) cs r t (small .delivered);
+      forwarded = after-calls isForward (λ t. t .forwarded) (λ v t. ap (λ (t : Tally). t .forwarded) (by-kind v t)) cs r t (small .forwarded);
+      spread = after-calls isSpread (λ t. t .spread) (λ v t. ap (λ (t : Tally). t .spread) (by-kind v t)) cs r t (small .spread);
+      kept = after-calls isKept (λ t. t .kept) (λ v t. ap (λ (t : Tally). t .kept) (by-kind v t)) cs r t (small .kept);
+    }
+
+-- since fresh, whatever the relay
+pub history-since-fresh : (cs : List Call) (r : Relay) → CountsHistory (replies cs r newTally) newTally (tallyAfter cs r newTally)
+unfolding newTally
+history-since-fresh cs r = history cs r newTally (omega arith)

@@ -1,0 +1,127 @@
+-- Each record that a call makes of records that keep row 7 keeps it too: its ports, counts and times stay in their ranges.
+use Prim.Native.Nat.{ℕ, _+_, _*_, _%_, _≤_, _<_}
+use native.Mathlib.Nat.{mod-lt}
+use native.Mathlib.Omega.{arith}
+use mathlib.Core.Bool.{Bool, true, false}
+use mathlib.Core.List.{List}
+use mathlib.Core.Path.{_≡_, refl, ap, _∙_}
+use lib.Dec.{ltb, lit≤}
+use borrow.Author.Tests.{lt-ltb, ltb-true, le-leb, leb-true, leb-false}
+use Rattle.octets.proofs.Index.{and-left, and-right, and-both, all-at}
+use Rattle.octets.proofs.Choice.{then-true}
+use Rattle.rules.specs.Numbers.{portCount, blobLimit, clockLimit, timeLimit, pathLifetime}
+use Rattle.rules.specs.Relay.{Slot, empty, used, Path, Return, Ring, holds}
+use Rattle.rules.specs.View.{View}
+use Rattle.rules.specs.Renumbering.{image, oneToOne, renamePath, renameLink, renameReturn, renameSlot}
+use Rattle.rules.specs.Refusals.{timeOk, pathOk, linkOk, returnOk, slotOk, tableOk}
+use Rattle.rules.specs.Arrival.{Arrival, hops}
+use Rattle.rules.specs.Tests.{tooManyHops}
+use Rattle.rules.specs.Writes.{putNext, announcedBlobs, announcedPath, returnRecord, emptiedIf, linkRecord, renewedLink}
+use Rattle.rules.specs.declared.Link.{Link}
+use Rattle.rules.proofs.Choices.{either}
+use Rattle.rules.proofs.Tables.{table-set}
+use Rattle.rules.proofs.BlobLaws.{Counted, one-counted, add-counted}
+
+-- ---- slots and rings
+-- a record that is put into a ring's next place, and the place after it
+module _ {A : Type 0} (ok : A → Bool) (n : ℕ) (some : 0 < n) (s : Slot A) (ring : Ring A) where
+  pub put-next : tableOk n (slotOk ok) (ring .slots) ≡ true → slotOk ok s ≡ true → tableOk n (slotOk ok) (putNext n s ring .slots) ≡ true
+  unfolding putNext
+  put-next h k = table-set (slotOk ok) n (ring .slots) h (ring .next) s k
+
+  pub place-next : ltb (putNext n s ring .next) n ≡ true
+  unfolding putNext
+  place-next = lt-ltb ((ring .next + 1) % n) n (mod-lt (ring .next + 1) some)
+
+pub emptied-ok : {A : Type 0} (ok test : A → Bool) (s : Slot A) → slotOk ok s ≡ true → slotOk ok (emptiedIf test s) ≡ true
+unfolding emptiedIf slotOk
+emptied-ok ok test s h = either (λ (s : Slot _). slotOk ok s ≡ true) (holds test s) (λ _. refl) (λ _. h)
+
+pub slot-renamed : {A : Type 0} (rule : A → Bool) (rename : A → A) → ((x : A) → rule x ≡ true → rule (rename x) ≡ true)
+    → (s : Slot A) → slotOk rule s ≡ true → slotOk rule (renameSlot rename s) ≡ true
+unfolding slotOk renameSlot
+slot-renamed rule rename keeps empty h = refl
+slot-renamed rule rename keeps (used x) h = keeps x h
+
+-- ---- what an accepted packet makes
+lifetime-small : (mode : ℕ) → pathLifetime mode ≤ 604800
+unfolding pathLifetime
+lifetime-small mode =
+    either (λ (n : ℕ). n ≤ 604800) _ (λ _. lit≤ tt)
+    (λ _. either (λ (n : ℕ). n ≤ 604800) _ (λ _. lit≤ tt) (λ _. lit≤ tt))
+
+module _ (p : Path) (h : pathOk p ≡ true) where
+  path-port : ltb (p .port) portCount ≡ true
+  unfolding pathOk
+  path-port = and-left _ _ h
+
+  path-hops : p .hops < 256
+  unfolding pathOk
+  path-hops = ltb-true _ _ (and-left _ _ (and-right _ _ h))
+
+  pub path-counted : Counted blobLimit (p .blobs .count)
+  unfolding pathOk
+  path-counted =
+      let rest = and-right _ _ (and-right _ _ h) in
+      record { some = leb-true _ _ (and-left _ _ rest); most = leb-true _ _ (and-left _ _ (and-right _ _ rest)) }
+
+announced-counted : (a : Arrival) (known : Slot Path) → slotOk pathOk known ≡ true → Counted blobLimit (announcedBlobs a known .count)
+unfolding announcedBlobs slotOk
+announced-counted a empty h = one-counted blobLimit (lit≤ tt) _
+announced-counted a (used p) h = add-counted blobLimit (lit≤ tt) _ (p .blobs) (path-counted p h)
+
+module _ (a : Arrival) (port : a .port < portCount) (clock : a .clock < clockLimit) where
+  arrival-port : ltb (a .port) portCount ≡ true
+  arrival-port = lt-ltb _ _ port
+
+  pub time-small : (lifetime : ℕ) → lifetime ≤ 604800 → timeOk (a .clock + lifetime) ≡ true
+  unfolding timeOk
+  time-small lifetime l = le-leb (a .clock + lifetime) timeLimit (omega arith)
+
+  pub announced-ok : (v : View) (known : Slot Path) → tooManyHops a ≡ false → slotOk pathOk known ≡ true → pathOk (announcedPath v a known) ≡ true
+  unfolding pathOk announcedPath tooManyHops
+  announced-ok v known few h =
+      let l : hops a < 128 = leb-false 128 (hops a) few in
+      let c : Counted blobLimit (announcedBlobs a known .count) = announced-counted a known h in
+      and-both arrival-port
+      (and-both (lt-ltb (hops a) 256 (omega arith))
+      (and-both (le-leb _ _ (c .some))
+      (and-both (le-leb _ _ (c .most)) (time-small _ (lifetime-small _)))))
+
+  pub return-ok : (p : Path) → pathOk p ≡ true → returnOk (returnRecord a p) ≡ true
+  unfolding returnOk returnRecord
+  return-ok p h = and-both arrival-port (and-both (path-port p h) (time-small _ (lit≤ tt)))
+
+  pub link-ok : (p : Path) → pathOk p ≡ true → linkOk (linkRecord a p) ≡ true
+  unfolding linkOk linkRecord
+  link-ok p h =
+      let l : p .hops < 256 = path-hops p h in
+      and-both arrival-port (and-both (path-port p h) (time-small (6 * (p .hops + 1)) (omega arith)))
+
+  pub renewed-ok : (l : Link) → linkOk l ≡ true → linkOk (renewedLink a l) ≡ true
+  unfolding linkOk renewedLink
+  renewed-ok l h = and-both (and-left _ _ h) (and-both (and-left _ _ (and-right _ _ h)) (time-small _ (lit≤ tt)))
+
+-- ---- what a renumbering makes of a record
+module _ (m : List ℕ) (ok : oneToOne m ≡ true) where
+  image-small : (port : ℕ) → ltb port portCount ≡ true → ltb (image m port) portCount ≡ true
+  unfolding image oneToOne
+  image-small port h =
+      ap (λ (n : ℕ). ltb n portCount) (then-true _ _ h)
+      ∙ and-left _ _ (all-at _ portCount port (and-right _ _ ok) (ltb-true _ _ h))
+
+  pub path-renamed : (p : Path) → pathOk p ≡ true → pathOk (renamePath m p) ≡ true
+  unfolding pathOk renamePath
+  path-renamed p h = and-both (image-small _ (and-left _ _ h)) (and-right _ _ h)
+
+  pub link-renamed : (l : Link) → linkOk l ≡ true → linkOk (renameLink m l) ≡ true
+  unfolding linkOk renameLink
+  link-renamed l h =
+      let rest = and-right _ _ h in
+      and-both (image-small _ (and-left _ _ h)) (and-both (image-small _ (and-left _ _ rest)) (and-right _ _ rest))
+
+  pub return-renamed : (t : Return) → returnOk t ≡ true → returnOk (renameReturn m t) ≡ true
+  unfolding returnOk renameReturn
+  return-renamed t h =
+      let rest = and-right _ _ h in
+      and-both (image-small _ (and-left _ _ h)) (and-both (image-small _ (and-left _ _ rest)) (and-right _ _ rest))

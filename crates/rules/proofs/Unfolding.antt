@@ -1,0 +1,89 @@
+-- Names to unfold definitions by: to unfold one of these is to unfold all that its line names, so that a closed call computes.
+use Rattle.sha256.specs.Constants.{K, initialHash}
+use Rattle.sha256.specs.Padding.{padding, padded}
+use Rattle.sha256.specs.Compression.{expandedWord, W, T₁, T₂, afterRound, afterRounds, intermediateHash, compressed}
+use Rattle.sha256.specs.Sha256.{hashAfter, sha256-of}
+use Rattle.octets.specs.Index.{_and_, allBelow, first, listOf}
+use Rattle.octets.specs.Choice.{_then_otherwise_, _or_, same}
+use Rattle.octets.specs.Part.{part, patch}
+use Rattle.octets.specs.BigEndian.{numberFrom, number}
+use Rattle.packet.specs.Header.{accessCode, typeTwo, contextFlag, destinationKind, packetKind}
+use Rattle.packet.specs.Read.{typeOneParts, typeTwoParts, partsOf, payloadStart, payload, readingRefusal, reads, reading}
+use Rattle.packet.specs.Write.{addresses, packetOf}
+use Rattle.packet.specs.Hash.{hashedPart, packetHash, linkId}
+use Rattle.packet.specs.Announce.{keysOf, nameHashOf, blobOf, emissionOf, leastAnnounce, identityHash, announcedDestination}
+use Rattle.rules.specs.Numbers.{pathLifetime}
+use Rattle.rules.specs.Relay.{fresh, withClock, withPorts, withPaths, withLinks, withReturns, withHashes, holds, lowest, free, lowestFree}
+use Rattle.rules.specs.View.{portOn, portMode, localPlace, isLocal, isLivePath, isLiveLink, isLiveReturn, isLiveHash, pathPlace, linkPlace, returnPlace, hashPlace, freePath, freeLink, viewAt}
+use Rattle.rules.specs.Blobs.{held, isAmong, greatest, greatestEmission, oneBlob, addBlob}
+use Rattle.rules.specs.Refusals.{timeOk, portOk, pathOk, linkOk, returnOk, hashOk, slotOk, all, tableOk, tablesOk, packetRefusal, renumberingRefusal, portSettingRefusal}
+use Rattle.rules.specs.Renumbering.{image, differsBefore, oneToOne, preimage, movedPorts, renamePath, renameLink, renameReturn, renameSlot, renumbered}
+use Rattle.rules.specs.Arrival.{isLinkProof}
+use Rattle.rules.specs.Ways.{pathWay, linkWay, returnWay, wayOn}
+use Rattle.rules.specs.Tests.{notOurs, testedAsDuplicate, duplicate, typeTwoProof, typeTwoOfKindLink, announceNotSingle, announceTooShort, announceOfAnother, requestOfKindLink, requestTooShort, linkProofLength, badForm, ownAnnounce, deliveredHere, tooManyHops, noWayOn, isThere, followsProvedLink, alreadyKnown, fromAnsweringSide, fromAskingSide, wrongSide, notSigned, replay, notBetter, leavingPort, portOff, noRoom}
+use Rattle.rules.specs.Answers.{reasonNumber, setBelow, portSet}
+use Rattle.rules.specs.Outgoing.{rewritten, spreadHeader, spreadPacket, spreadPorts, pathPacket, carriedPacket, outgoing, exceeds, grownTooLong}
+use Rattle.rules.specs.Judging.{onwardPlan, plan, spreadVerdict, wayVerdict, verdict, leaves, outputAfter}
+use Rattle.rules.specs.Writes.{putNext, remembers, remember, announcedBlobs, announcedPath, announcedPlace, putPath, returnKey, returnRecord, emptiedIf, emptiedWhere, putReturn, emptyReturn, linkRecord, putLink, renewedLink, renewLink, writeWay, writePlan, enact}
+use Rattle.rules.specs.Calls.{newTally, up, counted, judged, judge, packetCall, settled, setPort, renumber}
+use Rattle.rules.specs.Run.{ofJudgement, ofSetting, perform, replies, relayAfter, tallyAfter}
+
+-- SHA-256
+unfoldable pub hashing : Unit {0}
+unfolding K initialHash padding padded expandedWord W T₁ T₂ afterRound afterRounds intermediateHash compressed hashAfter sha256-of
+hashing = tt
+
+-- lists of bytes
+unfoldable pub lists : Unit {0}
+unfolding _and_ allBelow first listOf _then_otherwise_ _or_ same part patch numberFrom number
+lists = tt
+
+-- packets
+unfoldable pub layout : Unit {0}
+unfolding accessCode typeTwo contextFlag destinationKind packetKind typeOneParts typeTwoParts partsOf payloadStart payload
+    readingRefusal reads reading addresses packetOf hashedPart packetHash linkId keysOf nameHashOf blobOf emissionOf leastAnnounce
+    identityHash announcedDestination
+layout = tt
+
+-- the relay, and what is read of it
+unfoldable pub tables : Unit {0}
+unfolding pathLifetime fresh withClock withPorts withPaths withLinks withReturns withHashes holds lowest free lowestFree portOn portMode
+    localPlace isLocal isLivePath isLiveLink isLiveReturn isLiveHash pathPlace linkPlace returnPlace hashPlace freePath freeLink viewAt held
+    isAmong greatest greatestEmission oneBlob addBlob
+tables = tt
+
+-- refusals and renumbering
+unfoldable pub refusals : Unit {0}
+unfolding timeOk portOk pathOk linkOk returnOk hashOk slotOk all tableOk tablesOk packetRefusal renumberingRefusal portSettingRefusal
+    image differsBefore oneToOne preimage movedPorts renamePath renameLink renameReturn renameSlot renumbered
+refusals = tt
+
+-- the tests
+unfoldable pub tests : Unit {0}
+unfolding isLinkProof pathWay linkWay returnWay wayOn notOurs testedAsDuplicate duplicate typeTwoProof typeTwoOfKindLink
+    announceNotSingle announceTooShort announceOfAnother requestOfKindLink requestTooShort linkProofLength badForm ownAnnounce deliveredHere
+    tooManyHops noWayOn isThere followsProvedLink alreadyKnown fromAnsweringSide fromAskingSide wrongSide notSigned replay notBetter
+    leavingPort portOff noRoom
+tests = tt
+
+-- answers and the bytes that leave
+unfoldable pub answers : Unit {0}
+unfolding reasonNumber setBelow portSet rewritten spreadHeader spreadPacket spreadPorts pathPacket carriedPacket outgoing exceeds
+    grownTooLong onwardPlan plan spreadVerdict wayVerdict verdict leaves outputAfter
+answers = tt
+
+-- what is written
+unfoldable pub writes : Unit {0}
+unfolding putNext remembers remember announcedBlobs announcedPath announcedPlace putPath returnKey returnRecord emptiedIf emptiedWhere
+    putReturn emptyReturn linkRecord putLink renewedLink renewLink writeWay writePlan enact
+writes = tt
+
+-- the calls
+unfoldable pub calls : Unit {0}
+unfolding newTally up counted judged judge packetCall settled setPort renumber ofJudgement ofSetting perform replies relayAfter tallyAfter
+calls = tt
+
+-- all of them but SHA-256
+unfoldable pub rules : Unit {0}
+unfolding lists layout tables refusals tests answers writes calls
+rules = tt

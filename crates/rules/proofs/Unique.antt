@@ -1,0 +1,131 @@
+-- From fresh, no table has two live records of one key, nor a live path two equal blobs, at any clock not below the last.
+use Prim.Native.Nat.{ℕ, _≤_}
+use mathlib.Core.Bool.{true}
+use mathlib.Core.List.{List, [], _∷_}
+use mathlib.Core.Path.{_≡_, refl, sym, subst, _∙_}
+use lib.Dec.{eqb}
+use lib.ListN.{length}
+use borrow.Author.Tests.{ltb-false, eqb-true}
+use Rattle.octets.specs.Choice.{same}
+use Rattle.octets.proofs.Choice.{eq-same}
+use Rattle.packet.specs.Header.{isData}
+use Rattle.rules.specs.Numbers.{localCount, pathCount, linkCount, returnCount, hashCount}
+use Rattle.rules.specs.Relay.{Relay, fresh, lowest, withClock, withPorts, withLocals, withPaths, withLinks, withReturns, withHashes}
+use Rattle.rules.specs.View.{View, viewAt, localPlace, isLocal, pathPlace, linkPlace, returnPlace, hashPlace}
+use Rattle.rules.specs.Renumbering.{renumbered}
+use Rattle.rules.specs.Refusals.{tablesOk, packetRefusal, addingRefusal}
+use Rattle.rules.specs.Arrival.{Arrival, header}
+use Rattle.rules.specs.Ways.{Way, everywhere, by-path, along-link, by-return, blocked}
+use Rattle.rules.specs.Tests.{testedAsDuplicate, duplicate}
+use Rattle.rules.specs.Judging.{Plan, dropped, delivered, follows, plan}
+use Rattle.rules.specs.Writes.{remembers, remember, putPath, putReturn, emptyReturn, putLink, renewLink, writeWay, writePlan, enact}
+use Rattle.rules.specs.Calls.{Judgement, judged, judge, packetCall, settled, setPort, addLocal, removeLocal, renumber}
+use Rattle.rules.specs.Run.{Call, packet, port-setting, adding, removing, renumbering, ofJudgement, ofSetting, perform, relayAfter}
+use Rattle.rules.specs.declared.Tally.{Tally}
+use Rattle.rules.proofs.Choices.{either, row-passed, rows-below}
+use Rattle.rules.proofs.Slots.{every-fresh, single-fresh, none-passes, not-found}
+use Rattle.rules.proofs.Followed.{planned, planned-by, remembered-new}
+use Rattle.rules.proofs.Accepted.{Accepted, accepted-packet}
+use Rattle.rules.proofs.Valid.{Valid, valid-of, now-valid, remember-valid, step-ok, fresh-ok}
+use Rattle.rules.proofs.UniqueAt.{UniqueAt, later, clock-set, port-set, local-added, local-removed, renumbered-unique}
+use Rattle.rules.proofs.UniqueWrites.{plan-unique, remember-unique}
+
+-- at any clock not below the last
+abbrev pub Unique : Relay → Type 0
+Unique r = (clock : ℕ) → r .clock ≤ clock → UniqueAt clock r
+
+pub fresh-unique : (own : List ℕ) → Unique (fresh own)
+unfolding fresh
+fresh-unique own clock l =
+    record {
+      locals = single-fresh _ _ localCount;
+      paths = single-fresh _ _ pathCount;
+      links = single-fresh _ _ linkCount;
+      returns = single-fresh _ _ returnCount;
+      hashes = single-fresh _ _ hashCount;
+      blobs = every-fresh _ _ pathCount;
+      places = every-fresh _ _ pathCount;
+    }
+
+-- ---- the calls
+-- every accepted packet sets the last clock, and nothing after that does
+way-clock : (v : View) (a : Arrival) (w : Way) (s : Relay) → writeWay v a w s .clock ≡ s .clock
+unfolding writeWay putPath putReturn putLink renewLink emptyReturn withPaths withReturns withLinks
+way-clock v a (everywhere known) s = refl
+way-clock v a (by-path p) s = either (λ (t : Relay). t .clock ≡ s .clock) (isData (header a)) (λ _. refl) (λ _. refl)
+way-clock v a (along-link l) s = refl
+way-clock v a (by-return t) s = refl
+way-clock v a (blocked why) s = refl
+
+plan-clock : (v : View) (a : Arrival) (todo : Plan) (s : Relay) → writePlan v a todo s .clock ≡ s .clock
+unfolding writePlan
+plan-clock v a (dropped reason) s = refl
+plan-clock v a delivered s = refl
+plan-clock v a (follows w) s = way-clock v a w s
+
+enact-clock : (v : View) (a : Arrival) (todo : Plan) (r : Relay) → enact v a todo r .clock ≡ a .clock
+unfolding enact withClock remember withHashes
+enact-clock v a todo r =
+    plan-clock v a todo _ ∙ either (λ (s : Relay). s .clock ≡ a .clock) (remembers v a todo) (λ _. refl) (λ _. refl)
+
+enact-unique : (a : Arrival) (r : Relay) → Valid r → Accepted r a → UniqueAt (a .clock) r
+    → UniqueAt (a .clock) (enact (viewAt (a .clock) r) a (plan (viewAt (a .clock) r) a) r)
+unfolding enact viewAt pathPlace linkPlace returnPlace hashPlace duplicate testedAsDuplicate withClock remember withHashes
+enact-unique a r valid accepted u =
+    let v : View = viewAt (a .clock) r in
+    let now : Relay = withClock (a .clock) r in
+    let nowValid : Valid now = now-valid a (accepted .port) (accepted .clock) r valid in
+    let nowUnique : UniqueAt (a .clock) now = clock-set (a .clock) r u (a .clock) in
+    either (λ (s : Relay). UniqueAt (a .clock) (writePlan v a (plan v a) s)) (remembers v a (plan v a))
+    (λ e.
+    plan-unique a (remember a now) (remember-valid a (accepted .port) (accepted .clock) now nowValid)
+    (remember-unique a now nowValid nowUnique (remembered-new v a e)) v (plan v a)
+    (planned-by v (viewAt (a .clock) (remember a now)) refl refl refl a (plan v a) (planned v a)))
+    (λ _.
+    plan-unique a now nowValid nowUnique v (plan v a)
+    (planned-by v (viewAt (a .clock) now) refl refl refl a (plan v a) (planned v a)))
+
+packet-unique : (a : Arrival) (r : Relay) (t : Tally) (output : List ℕ) → Valid r → Unique r → Unique (packetCall a r t output .relay)
+unfolding packetCall judge judged
+packet-unique a r t output valid u =
+    either (λ (j : Judgement). Unique (j .relay)) (eqb (packetRefusal r a (length output)) 0)
+    (λ e clock l.
+    let accepted : Accepted r a = accepted-packet r a (length output) e in
+    let v : View = viewAt (a .clock) r in
+    later (enact v a (plan v a) r) (subst (λ (c : ℕ). c ≤ clock) (enact-clock v a (plan v a) r) l)
+    (enact-unique a r valid accepted (u (a .clock) (accepted .notBefore))))
+    (λ _. u)
+
+settled-unique : (refusal : ℕ) (before after : Relay) → Unique before → (eqb refusal 0 ≡ true → Unique after) → Unique (settled refusal before after .relay)
+unfolding settled
+settled-unique refusal before after u h = either Unique (eqb refusal 0) h (λ _. u)
+
+-- an added local address is none of those there
+adding-unique : (address : List ℕ) (r : Relay) → Valid r → Unique r → Unique (addLocal address r .relay)
+unfolding addLocal addingRefusal isLocal localPlace withLocals
+adding-unique address r valid u =
+    settled-unique _ r _ u
+    (λ e clock l.
+    let size : length (r .locals) ≡ localCount = eqb-true _ _ (valid .locals) in
+    let absent : localCount ≤ lowest (same address) localCount (r .locals) = ltb-false _ _ (row-passed _ 11 _ refl (rows-below _ 7 _ refl e)) in
+    local-added clock r (u clock l) _ address
+    (λ j x o q. none-passes (same address) localCount (r .locals) size (not-found (same address) localCount (r .locals) size absent) j x o (eq-same address x (sym q))))
+
+-- one call keeps it, of a relay that keeps row 7
+pub step-unique : (c : Call) (r : Relay) (t : Tally) → tablesOk r ≡ true → Unique r → Unique (perform c r t .relay)
+unfolding perform ofJudgement ofSetting setPort removeLocal renumber withPorts withLocals renumbered
+step-unique (packet arrival output) r t ok u = packet-unique arrival r t output (valid-of r ok) u
+step-unique (port-setting port on mode) r t ok u = settled-unique _ r _ u (λ _ clock l. port-set clock r (u clock l) _ _)
+step-unique (adding address) r t ok u = adding-unique address r (valid-of r ok) u
+step-unique (removing address) r t ok u = settled-unique _ r _ u (λ _ clock l. local-removed clock r (u clock l) _)
+step-unique (renumbering images) r t ok u = settled-unique _ r _ u (λ _ clock l. renumbered-unique clock r (u clock l) images)
+
+pub stays-unique : (cs : List Call) (r : Relay) (t : Tally) → tablesOk r ≡ true → Unique r → Unique (relayAfter cs r t)
+unfolding relayAfter
+stays-unique [] r t ok u = u
+stays-unique (c ∷ cs) r t ok u =
+    stays-unique cs (perform c r t .relay) (perform c r t .tally) (step-ok c r t ok) (step-unique c r t ok u)
+
+-- after any list of calls on a fresh relay
+pub unique-after : (own : List ℕ) (cs : List Call) (t : Tally) → Unique (relayAfter cs (fresh own) t)
+unique-after own cs t = stays-unique cs (fresh own) t (fresh-ok own) (fresh-unique own)

@@ -1,0 +1,121 @@
+-- What a renumbered relay shows: what the relay shows, renamed.
+use Prim.Native.Nat.{ℕ, _<_}
+use native.Mathlib.Decide.{decLt}
+use native.Mathlib.Omega.{arith}
+use mathlib.Core.Bool.{true, false}
+use mathlib.Core.List.{List, map}
+use mathlib.Core.Path.{_≡_, refl, sym, ap, _∙_}
+use lib.Dec.{ltb}
+use lib.ListN.{length, getD, List·getD-eq-default}
+use borrow.Author.Tests.{lt-ltb, le-ltb}
+use Rattle.octets.specs.Index.{_and_}
+use Rattle.octets.proofs.Index.{and-no, and-yes}
+use Rattle.rules.specs.Relay.{Port, off, empty, Relay}
+use Rattle.rules.specs.Renumbering.{image, oneToOne, renamePath, renameLink, renameReturn, renameSlot, renumbered}
+use Rattle.rules.specs.View.{portOn, portMode, localPlace, isLocal, isLivePath, isLiveLink, isLiveReturn, pathPlace, linkPlace, returnPlace, hashPlace, freePath, freeLink, View, viewAt}
+use Rattle.rules.proofs.Images.{source, source-other, source-image}
+use Rattle.rules.proofs.MovedPorts.{moved-at}
+use Rattle.rules.proofs.SlotsRenamed.{slot-renamed, lowest-renamed, lowestFree-renamed}
+
+-- a view whose ports have other numbers
+unfoldable pub renameView : List ℕ → View → View
+renameView m v =
+    record {
+      own = v .own;
+      on = λ port. v .on (source m port);
+      mode = λ port. v .mode (source m port);
+      local = v .local;
+      remembered = v .remembered;
+      path = λ destination. renameSlot (renamePath m) (v .path destination);
+      link = λ id. renameSlot (renameLink m) (v .link id);
+      return = λ key. renameSlot (renameReturn m) (v .return key);
+      roomForPath = v .roomForPath;
+      roomForLink = v .roomForLink;
+    }
+
+-- 16 is no port
+pub no-port-on : (clock : ℕ) (r : Relay) → viewAt clock r .on 16 ≡ false
+unfolding viewAt portOn
+no-port-on clock r = and-no (getD (r .ports) 16 off .on) refl
+
+-- ---- the places where records lie
+module _ (m : List ℕ) (clock : ℕ) (r : Relay) where
+  pub pathPlace-renamed : (destination : List ℕ) → pathPlace clock (renumbered m r) destination ≡ pathPlace clock r destination
+  unfolding pathPlace isLivePath renumbered renamePath
+  pathPlace-renamed destination = lowest-renamed (renamePath m) (isLivePath clock destination) (λ p. refl) 64 (r .paths)
+
+  pub linkPlace-renamed : (id : List ℕ) → linkPlace clock (renumbered m r) id ≡ linkPlace clock r id
+  unfolding linkPlace isLiveLink renumbered renameLink
+  linkPlace-renamed id = lowest-renamed (renameLink m) (isLiveLink clock id) (λ l. refl) 64 (r .links)
+
+  pub returnPlace-renamed : (key : List ℕ) → returnPlace clock (renumbered m r) key ≡ returnPlace clock r key
+  unfolding returnPlace isLiveReturn renumbered renameReturn
+  returnPlace-renamed key = lowest-renamed (renameReturn m) (isLiveReturn clock key) (λ t. refl) 512 (r .returns .slots)
+
+  pub freePath-renamed : freePath clock (renumbered m r) ≡ freePath clock r
+  unfolding freePath renumbered renamePath
+  freePath-renamed = lowestFree-renamed (renamePath m) (λ p. ltb clock (p .expiry)) (λ p. refl) 64 (r .paths)
+
+  pub freeLink-renamed : freeLink clock (renumbered m r) ≡ freeLink clock r
+  unfolding freeLink renumbered renameLink
+  freeLink-renamed = lowestFree-renamed (renameLink m) (λ l. ltb clock (l .expiry)) (λ l. refl) 64 (r .links)
+
+  path-renamed : (destination : List ℕ)
+      → viewAt clock (renumbered m r) .path destination ≡ renameSlot (renamePath m) (viewAt clock r .path destination)
+  unfolding viewAt renumbered
+  path-renamed destination =
+      ap (λ (i : ℕ). getD (map (renameSlot (renamePath m)) (r .paths)) i empty) (pathPlace-renamed destination)
+      ∙ slot-renamed (renamePath m) (r .paths) (pathPlace clock r destination)
+
+  link-renamed : (id : List ℕ) → viewAt clock (renumbered m r) .link id ≡ renameSlot (renameLink m) (viewAt clock r .link id)
+  unfolding viewAt renumbered
+  link-renamed id =
+      ap (λ (i : ℕ). getD (map (renameSlot (renameLink m)) (r .links)) i empty) (linkPlace-renamed id)
+      ∙ slot-renamed (renameLink m) (r .links) (linkPlace clock r id)
+
+  return-renamed : (key : List ℕ) → viewAt clock (renumbered m r) .return key ≡ renameSlot (renameReturn m) (viewAt clock r .return key)
+  unfolding viewAt renumbered
+  return-renamed key =
+      ap (λ (i : ℕ). getD (map (renameSlot (renameReturn m)) (r .returns .slots)) i empty) (returnPlace-renamed key)
+      ∙ slot-renamed (renameReturn m) (r .returns .slots) (returnPlace clock r key)
+
+  -- ---- a relay of sixteen ports
+  module _ (sixteen : length (r .ports) ≡ 16) where
+    mode-renamed : (n : ℕ) → portMode (renumbered m r) n ≡ portMode r (source m n)
+    unfolding portMode renumbered
+    mode-renamed n = ap (λ (p : Port). p .mode) (moved-at m (r .ports) sixteen n)
+
+    -- a number below 16 may come from nowhere; then it comes from 16, which is as off
+    on-renamed : (n : ℕ) → portOn (renumbered m r) n ≡ portOn r (source m n)
+    unfolding portOn renumbered
+    on-renamed n = ap (λ (p : Port). ltb n 16 and p .on) (moved-at m (r .ports) sixteen n) ∙ go (decLt n 16) (decLt (source m n) 16)
+      where
+        go : Dec (n < 16) → Dec (source m n < 16)
+            → (ltb n 16 and getD (r .ports) (source m n) off .on) ≡ (ltb (source m n) 16 and getD (r .ports) (source m n) off .on)
+        go (yes a) (yes b) = and-yes _ (lt-ltb n 16 a) ∙ sym (and-yes _ (lt-ltb (source m n) 16 b))
+        go (yes a) (no b) =
+            and-yes _ (lt-ltb n 16 a)
+            ∙ ap (λ (p : Port). p .on) (List·getD-eq-default (r .ports) off {n = source m n} (omega arith))
+            ∙ sym (and-no _ (le-ltb (source m n) 16 (omega arith)))
+        go (no a) b =
+            ap (λ (k : ℕ). ltb n 16 and getD (r .ports) k off .on) (source-other m n (omega arith))
+            ∙ sym (ap (portOn r) (source-other m n (omega arith)))
+
+    pub on-image : oneToOne m ≡ true → (n : ℕ) → portOn (renumbered m r) (image m n) ≡ portOn r n
+    on-image ok n = on-renamed (image m n) ∙ ap (portOn r) (source-image m ok n)
+
+    pub view-renamed : viewAt clock (renumbered m r) ≡ renameView m (viewAt clock r)
+    unfolding viewAt renameView renumbered isLocal localPlace hashPlace
+    view-renamed = λ i.
+        record {
+          own = r .own;
+          on = λ n. on-renamed n i;
+          mode = λ n. mode-renamed n i;
+          local = isLocal r;
+          remembered = λ hash. ltb (hashPlace clock r hash) 1024;
+          path = λ destination. path-renamed destination i;
+          link = λ id. link-renamed id i;
+          return = λ key. return-renamed key i;
+          roomForPath = ltb (freePath-renamed i) 64;
+          roomForLink = ltb (freeLink-renamed i) 64;
+        }

@@ -1,0 +1,179 @@
+-- What a renamed packet writes into a renumbered relay: what it wrote, renamed.
+use Prim.Native.Nat.{ℕ, _+_, _%_}
+use mathlib.Core.Bool.{Bool, true}
+use mathlib.Core.List.{List, map}
+use mathlib.Core.Path.{_≡_, refl, sym, ap, ap₂, _∙_}
+use lib.ListN.{set}
+use Rattle.octets.specs.Choice.{_then_otherwise_}
+use Rattle.octets.proofs.Choice.{then-ap}
+use Rattle.packet.specs.Header.{typeTwo, isData}
+use Rattle.rules.specs.Numbers.{pathLifetime}
+use Rattle.rules.specs.Relay.{Slot, empty, used, Path, Return, Relay, withClock, withPaths, withLinks, withReturns, withHashes}
+use Rattle.rules.specs.View.{View, isLiveReturn}
+use Rattle.rules.specs.Renumbering.{image, oneToOne, renamePath, renameLink, renameReturn, renameSlot, renumbered}
+use Rattle.rules.specs.Arrival.{Arrival, header, hops, relayAddress, destination, isLinkProof}
+use Rattle.rules.specs.Ways.{Way, everywhere, by-path, along-link, by-return, blocked}
+use Rattle.rules.specs.Judging.{Plan, dropped, delivered, follows}
+use Rattle.rules.specs.Writes.{putNext, remembers, remember, announcedBlobs, announcedPath, announcedPlace, putPath, returnKey, returnRecord, emptiedIf, emptiedWhere, putReturn, emptyReturn, linkRecord, putLink, renewedLink, renewLink, writeWay, writePlan, enact}
+use Rattle.rules.specs.Run.{renameArrival}
+use Rattle.rules.specs.declared.Link.{Link}
+use Rattle.rules.proofs.Images.{source-image}
+use Rattle.rules.proofs.SlotsRenamed.{set-renamed, emptied-renamed}
+use Rattle.rules.proofs.ViewRenamed.{renameView, pathPlace-renamed, linkPlace-renamed, returnPlace-renamed, freePath-renamed, freeLink-renamed}
+use Rattle.rules.proofs.TestsRenamed.{renameWay}
+use Rattle.rules.proofs.PlanRenamed.{renamePlan}
+
+module _ (m : List ℕ) where
+  -- ---- clock and remembered hashes: nothing is renamed there
+  withClock-renamed : (clock : ℕ) (r : Relay) → withClock clock (renumbered m r) ≡ renumbered m (withClock clock r)
+  unfolding withClock renumbered
+  withClock-renamed clock r = refl
+
+  remember-renamed : (a : Arrival) (r : Relay) → remember (renameArrival m a) (renumbered m r) ≡ renumbered m (remember a r)
+  unfolding remember withHashes renumbered renameArrival
+  remember-renamed a r = refl
+
+  remembers-renamed : (v : View) (a : Arrival) (todo : Plan) → remembers (renameView m v) (renameArrival m a) (renamePlan m todo) ≡ remembers v a todo
+  unfolding remembers renamePlan
+  remembers-renamed v a (dropped reason) = refl
+  remembers-renamed v a delivered = refl
+  remembers-renamed v a (follows w) = refl
+
+  -- ---- one table put in the place of another
+  paths-renamed : (paths : List (Slot Path)) (r : Relay)
+      → withPaths (map (renameSlot (renamePath m)) paths) (renumbered m r) ≡ renumbered m (withPaths paths r)
+  unfolding withPaths renumbered
+  paths-renamed paths r = refl
+
+  links-renamed : (links : List (Slot Link)) (r : Relay)
+      → withLinks (map (renameSlot (renameLink m)) links) (renumbered m r) ≡ renumbered m (withLinks links r)
+  unfolding withLinks renumbered
+  links-renamed links r = refl
+
+  returns-renamed : (slots : List (Slot Return)) (next : ℕ) (r : Relay)
+      → withReturns (record { slots = map (renameSlot (renameReturn m)) slots; next = next }) (renumbered m r)
+      ≡ renumbered m (withReturns (record { slots = slots; next = next }) r)
+  unfolding withReturns renumbered
+  returns-renamed slots next r = refl
+
+  -- ---- links
+  linkRecord-renamed : (a : Arrival) (p : Path) → linkRecord (renameArrival m a) (renamePath m p) ≡ renameLink m (linkRecord a p)
+  unfolding linkRecord renameArrival renamePath renameLink
+  linkRecord-renamed a p = refl
+
+  renewedLink-renamed : (a : Arrival) (l : Link) → renewedLink (renameArrival m a) (renameLink m l) ≡ renameLink m (renewedLink a l)
+  unfolding renewedLink renameArrival renameLink isLinkProof
+  renewedLink-renamed a l = refl
+
+  putLink-renamed : (a : Arrival) (p : Path) (r : Relay)
+      → putLink (renameArrival m a) (renamePath m p) (renumbered m r) ≡ renumbered m (putLink a p r)
+  unfolding putLink renumbered renameArrival renameSlot
+  putLink-renamed a p r =
+      ap (λ (links : List (Slot Link)). withLinks links (renumbered m r))
+      (set-renamed (renameLink m) (r .links) _ _ _ (used (linkRecord a p)) (freeLink-renamed m (a .clock) r) (ap used (linkRecord-renamed a p)))
+      ∙ links-renamed _ r
+
+  renewLink-renamed : (a : Arrival) (l : Link) (r : Relay)
+      → renewLink (renameArrival m a) (renameLink m l) (renumbered m r) ≡ renumbered m (renewLink a l r)
+  unfolding renewLink renumbered renameArrival renameSlot
+  renewLink-renamed a l r =
+      ap (λ (links : List (Slot Link)). withLinks links (renumbered m r))
+      (set-renamed (renameLink m) (r .links) _ _ _ (used (renewedLink a l)) (linkPlace-renamed m (a .clock) r (destination a))
+      (ap used (renewedLink-renamed a l)))
+      ∙ links-renamed _ r
+
+  -- ---- return records
+  returnRecord-renamed : (a : Arrival) (p : Path) → returnRecord (renameArrival m a) (renamePath m p) ≡ renameReturn m (returnRecord a p)
+  unfolding returnRecord returnKey renameArrival renamePath renameReturn
+  returnRecord-renamed a p = refl
+
+  putReturn-renamed : (a : Arrival) (p : Path) (r : Relay)
+      → putReturn (renameArrival m a) (renamePath m p) (renumbered m r) ≡ renumbered m (putReturn a p r)
+  unfolding putReturn putNext emptiedWhere returnKey renumbered renameArrival renameSlot renameReturn isLiveReturn
+  putReturn-renamed a p r =
+      let others : Return → Bool = isLiveReturn (a .clock) (returnKey a) in
+      let next : ℕ = r .returns .next in
+      ap (λ (slots : List (Slot Return)). withReturns (record { slots = slots; next = (next + 1) % 512 }) (renumbered m r))
+      (ap₂ (λ (slots : List (Slot Return)) (t : Return). set slots next (used t))
+      (emptied-renamed (renameReturn m) others (λ t. refl) (r .returns .slots))
+      (returnRecord-renamed a p)
+      ∙ set-renamed (renameReturn m) (map (emptiedIf others) (r .returns .slots)) next next _ (used (returnRecord a p)) refl refl)
+      ∙ returns-renamed _ _ r
+
+  emptyReturn-renamed : (a : Arrival) (r : Relay) → emptyReturn (renameArrival m a) (renumbered m r) ≡ renumbered m (emptyReturn a r)
+  unfolding emptyReturn renumbered renameArrival renameSlot
+  emptyReturn-renamed a r =
+      ap (λ (slots : List (Slot Return)). withReturns (record { slots = slots; next = r .returns .next }) (renumbered m r))
+      (set-renamed (renameReturn m) (r .returns .slots) _ _ empty empty (returnPlace-renamed m (a .clock) r (destination a)) refl)
+      ∙ returns-renamed _ _ r
+
+-- ---- paths: a lifetime goes by the mode of the arrival port
+module _ (m : List ℕ) (ok : oneToOne m ≡ true) where
+  announcedBlobs-renamed : (a : Arrival) (known : Slot Path)
+      → announcedBlobs (renameArrival m a) (renameSlot (renamePath m) known) ≡ announcedBlobs a known
+  unfolding announcedBlobs renameArrival renameSlot renamePath
+  announcedBlobs-renamed a empty = refl
+  announcedBlobs-renamed a (used p) = refl
+
+  announcedPath-renamed : (v : View) (a : Arrival) (known : Slot Path)
+      → announcedPath (renameView m v) (renameArrival m a) (renameSlot (renamePath m) known) ≡ renamePath m (announcedPath v a known)
+  unfolding announcedPath renameView renameArrival renamePath
+  announcedPath-renamed v a known = λ i.
+      record {
+        destination = destination a;
+        port = image m (a .port);
+        hops = hops a;
+        nextHop = typeTwo (header a) then relayAddress a otherwise destination a;
+        expiry = a .clock + pathLifetime (v .mode (source-image m ok (a .port) i));
+        blobs = announcedBlobs-renamed a known i;
+      }
+
+  announcedPlace-renamed : (a : Arrival) (known : Slot Path) (r : Relay)
+      → announcedPlace (renameArrival m a) (renameSlot (renamePath m) known) (renumbered m r) ≡ announcedPlace a known r
+  unfolding announcedPlace renameArrival renameSlot
+  announcedPlace-renamed a empty r = freePath-renamed m (a .clock) r
+  announcedPlace-renamed a (used p) r = pathPlace-renamed m (a .clock) r (destination a)
+
+  putPath-renamed : (v : View) (a : Arrival) (known : Slot Path) (r : Relay)
+      → putPath (renameView m v) (renameArrival m a) (renameSlot (renamePath m) known) (renumbered m r) ≡ renumbered m (putPath v a known r)
+  unfolding putPath renumbered renameSlot
+  putPath-renamed v a known r =
+      ap (λ (paths : List (Slot Path)). withPaths paths (renumbered m r))
+      (set-renamed (renamePath m) (r .paths) _ _ _ (used (announcedPath v a known)) (announcedPlace-renamed a known r)
+      (ap used (announcedPath-renamed v a known)))
+      ∙ paths-renamed m _ r
+
+  -- ---- all of it
+  writeWay-renamed : (v : View) (a : Arrival) (w : Way) (r : Relay)
+      → writeWay (renameView m v) (renameArrival m a) (renameWay m w) (renumbered m r) ≡ renumbered m (writeWay v a w r)
+  unfolding writeWay renameWay renameArrival
+  writeWay-renamed v a (everywhere known) r = putPath-renamed v a known r
+  writeWay-renamed v a (by-path p) r =
+      ap₂ (λ (x y : Relay). isData (header a) then x otherwise y) (putReturn-renamed m a p r) (putLink-renamed m a p r)
+      ∙ sym (then-ap (renumbered m) (isData (header a)) (putReturn a p r) (putLink a p r))
+  writeWay-renamed v a (along-link l) r = renewLink-renamed m a l r
+  writeWay-renamed v a (by-return t) r = emptyReturn-renamed m a r
+  writeWay-renamed v a (blocked why) r = refl
+
+  writePlan-renamed : (v : View) (a : Arrival) (todo : Plan) (r : Relay)
+      → writePlan (renameView m v) (renameArrival m a) (renamePlan m todo) (renumbered m r) ≡ renumbered m (writePlan v a todo r)
+  unfolding writePlan renamePlan
+  writePlan-renamed v a (dropped reason) r = refl
+  writePlan-renamed v a delivered r = refl
+  writePlan-renamed v a (follows w) r = writeWay-renamed v a w r
+
+  pub enact-renamed : (v : View) (a : Arrival) (todo : Plan) (r : Relay)
+      → enact (renameView m v) (renameArrival m a) (renamePlan m todo) (renumbered m r) ≡ renumbered m (enact v a todo r)
+  unfolding enact renameArrival
+  enact-renamed v a todo r =
+      let before : Relay = withClock (a .clock) r in
+      let after : Relay = remembers v a todo then remember a before otherwise before in
+      ap (writePlan (renameView m v) (renameArrival m a) (renamePlan m todo))
+      (ap
+      (λ (b : Bool).
+      b then remember (renameArrival m a) (withClock (a .clock) (renumbered m r)) otherwise withClock (a .clock) (renumbered m r))
+      (remembers-renamed m v a todo)
+      ∙ ap (λ (x : Relay). remembers v a todo then remember (renameArrival m a) x otherwise x) (withClock-renamed m (a .clock) r)
+      ∙ ap (λ (x : Relay). remembers v a todo then x otherwise renumbered m before) (remember-renamed m a before)
+      ∙ sym (then-ap (renumbered m) (remembers v a todo) (remember a before) before))
+      ∙ writePlan-renamed v a todo after
