@@ -1,0 +1,9 @@
+pub mod All
+pub mod Cut
+pub mod Coding
+pub mod Codings
+pub mod Sections
+pub mod Whole
+pub mod Patches
+pub mod Seen
+pub mod Loops

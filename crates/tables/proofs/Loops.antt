@@ -1,0 +1,83 @@
+-- Loops over a section's records, one by one and group by group.
+use Prim.Native.Nat.{ℕ, _+_, _-_, _*_, _≤_, _<_}
+use mathlib.Core.Bool.{Bool, true, false, not}
+use mathlib.Core.List.{List}
+use mathlib.Core.Path.{_≡_, sym, ap, _∙_}
+use lib.Dec.{eqb}
+use lib.ListN.{length, getD, take, drop}
+use borrow.Author.Tests.{not-true, not-false}
+use Rattle.octets.specs.Index.{zeros}
+use Rattle.octets.specs.Choice.{_then_otherwise_}
+use Rattle.octets.specs.Part.{part}
+use Rattle.octets.proofs.Index.{all-none, all-more, all-fails, all-at}
+use Rattle.octets.proofs.Part.{part-range}
+use Rattle.octets.proofs.Rows.{rows-free, rows-more, rows-fails}
+use Rattle.tables.specs.Records.{slotBytesOk}
+use Rattle.tables.specs.Layout.{rowAt, rowsOk}
+use Rattle.tables.specs.Groups.{groupSize, groupOk}
+
+-- what `&t[a..a + w]` holds
+abbrev pub range : List ℕ → ℕ → ℕ → List ℕ
+range t a w = take (a + w - a) (drop a t)
+
+module _ (ok : List ℕ → Bool) (base w : ℕ) (t : List ℕ) where
+  pub none-yet : rowsOk ok base w 0 t ≡ true
+  unfolding rowsOk
+  none-yet = all-none (λ k. ok (rowAt base w t k))
+
+  -- the test r of record i
+  module _ (i : ℕ) {r : Bool} (e : r ≡ ok (range t (base + w * i) w)) where
+    seen : ok (rowAt base w t i) ≡ r
+    seen = sym (e ∙ ap ok (part-range t (base + w * i) w))
+
+    pub row-passes : not r ≡ false → rowsOk ok base w i t ≡ true → rowsOk ok base w (i + 1) t ≡ true
+    unfolding rowsOk
+    row-passes n h = all-more (λ k. ok (rowAt base w t k)) i h (seen ∙ not-false r n)
+
+    pub row-fails : (count : ℕ) → i < count → not r ≡ true → false ≡ rowsOk ok base w count t
+    unfolding rowsOk
+    row-fails count l n = sym (all-fails (λ k. ok (rowAt base w t k)) i count l (seen ∙ not-true r n))
+
+-- ---- the records of a group
+module _ (ok : List ℕ → Bool) (w : ℕ) (s : List ℕ) where
+  pub none-of-group : groupOk ok w 0 s ≡ true
+  unfolding groupOk
+  none-of-group = all-none (λ k. ok (part s (w * k) w))
+
+  module _ (i : ℕ) {r : Bool} (e : r ≡ ok (range s (w * i) w)) where
+    seen-in-group : ok (part s (w * i) w) ≡ r
+    seen-in-group = sym (e ∙ ap ok (part-range s (w * i) w))
+
+    pub record-passes : not r ≡ false → groupOk ok w i s ≡ true → groupOk ok w (i + 1) s ≡ true
+    unfolding groupOk
+    record-passes n h = all-more (λ k. ok (part s (w * k) w)) i h (seen-in-group ∙ not-false r n)
+
+    pub record-fails : (count : ℕ) → i < count → not r ≡ true → false ≡ groupOk ok w count s
+    unfolding groupOk
+    record-fails count l n = sym (all-fails (λ k. ok (part s (w * k) w)) i count l (seen-in-group ∙ not-true r n))
+
+-- ---- the groups
+-- an unused record keeps row 7
+pub unused : (w : ℕ) (ok : List ℕ → Bool) → 0 < w → (b : List ℕ) → zeros w b ≡ true → slotBytesOk w ok b ≡ true
+unfolding slotBytesOk _then_otherwise_ zeros
+unused w ok some b h = rw (all-at (λ k. eqb (getD b k 0) 0) w 0 h some) h
+
+-- a group of zeros
+pub group-free : (ok : List ℕ → Bool) (w : ℕ) (s : List ℕ) → ((b : List ℕ) → zeros w b ≡ true → ok b ≡ true)
+    → length s ≡ w * groupSize → zeros (length s) s ≡ true → true ≡ groupOk ok w groupSize s
+unfolding groupOk
+group-free ok w s free e h = sym (rows-free ok w free groupSize s (ap (λ (k : ℕ). zeros k s) (sym e) ∙ h))
+
+module _ (ok : List ℕ → Bool) (base w : ℕ) (t : List ℕ) (g : ℕ) {r : Bool}
+    (e : r ≡ groupOk ok w groupSize (range t (base + w * groupSize * g) (w * groupSize)))
+    (h : rowsOk ok base w (groupSize * g) t ≡ true) where
+  seen-group : groupOk ok w groupSize (part t (base + w * groupSize * g) (w * groupSize)) ≡ r
+  seen-group = sym (e ∙ ap (groupOk ok w groupSize) (part-range t (base + w * groupSize * g) (w * groupSize)))
+
+  pub group-passes : not r ≡ false → rowsOk ok base w (groupSize * (g + 1)) t ≡ true
+  unfolding rowsOk groupOk
+  group-passes n = rows-more ok w t base groupSize g h (seen-group ∙ not-false r n)
+
+  pub group-fails : (count : ℕ) → groupSize * g + groupSize ≤ count → not r ≡ true → false ≡ rowsOk ok base w count t
+  unfolding rowsOk groupOk
+  group-fails count l n = sym (rows-fails ok w t base groupSize g count l h (seen-group ∙ not-true r n))

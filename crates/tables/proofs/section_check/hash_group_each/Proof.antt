@@ -1,0 +1,72 @@
+use Prim.Native.Nat.{ℕ, _≤_, _-_}
+use mathlib.Core.Path.{_≡_}
+use mathlib.Core.Bool.{true}
+use Rattle.octets.proofs.Index.{ended}
+use Rattle.tables.specs.Places.{hashWidth}
+use Rattle.tables.specs.Records.{hashBytesOk}
+use Rattle.tables.specs.Groups.{groupSize, groupOk}
+use Rattle.tables.proofs.Loops.{none-of-group, record-passes, record-fails}
+use borrow.Author.Needs.{needs}
+use Rattle.tables.proofs.section_check.hash_group_each.Statement.{statement}
+use Rattle.tables.proofs.section_check.hash_group_each.Tie as tie
+
+abbrev Inv-loop : tie.InvT-loop
+Inv-loop s i₀ i = (i ≤ groupSize) × (groupOk hashBytesOk hashWidth i s ≡ true)
+
+abbrev μ-loop : tie.MeasureT-loop
+μ-loop s i₀ i = groupSize - i
+
+loop-holds : tie.Need-loop-holds Inv-loop μ-loop
+loop-holds c = (search needs, none-of-group hashBytesOk hashWidth _)
+
+mul-at : tie.Need-mul-at Inv-loop μ-loop
+mul-at c = search needs
+
+add-hash-ok : tie.Need-add-hash-ok Inv-loop μ-loop
+add-hash-ok c = search needs
+
+sub-hash-ok : tie.Need-sub-hash-ok Inv-loop μ-loop
+sub-hash-ok c = search needs
+
+part-hash-ok-start : tie.Need-part-hash-ok-start Inv-loop μ-loop
+part-hash-ok-start c = search needs
+
+part-hash-ok-end : tie.Need-part-hash-ok-end Inv-loop μ-loop
+part-hash-ok-end c = search needs
+
+hash-ok-requires : tie.Need-hash-ok-requires Inv-loop μ-loop
+hash-ok-requires c κs = search needs
+
+returns : tie.Need-returns Inv-loop μ-loop
+returns c = record-fails hashBytesOk hashWidth _ _ (c .before .hash-ok .ensures) groupSize (c .before .before .before .loop-test .taken) (c .if1 .taken)
+
+add-i : tie.Need-add-i Inv-loop μ-loop
+add-i c = search needs
+
+loop-less : tie.Need-loop-less Inv-loop μ-loop
+loop-less c = search needs
+
+loop-again : tie.Need-loop-again Inv-loop μ-loop
+loop-again c = (search needs, record-passes hashBytesOk hashWidth _ _ (c .before .hash-ok .ensures) (c .if1 .left) (c .before .before .before .before .loop .inv .1))
+
+returns-2 : tie.Need-returns-2 Inv-loop μ-loop
+returns-2 c = ended (λ (k : ℕ). groupOk hashBytesOk hashWidth k (c .before .before .before .args .s .now)) (c .before .loop .inv .0) (c .loop-test .left) (c .before .loop .inv .1)
+
+pub hash-group-each-spec : {M : Type 1} → statement M
+hash-group-each-spec =
+    tie.close
+    (tie.spec
+    Inv-loop
+    μ-loop
+    loop-holds
+    mul-at
+    add-hash-ok
+    sub-hash-ok
+    part-hash-ok-start
+    part-hash-ok-end
+    hash-ok-requires
+    returns
+    add-i
+    loop-less
+    loop-again
+    returns-2)

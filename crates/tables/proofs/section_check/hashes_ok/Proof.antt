@@ -1,0 +1,87 @@
+use Prim.Native.Nat.{ℕ, _≤_, _-_, _*_}
+use mathlib.Core.Path.{_≡_}
+use mathlib.Core.Bool.{true}
+use Rattle.octets.proofs.Index.{ended}
+use Rattle.rules.specs.Numbers.{hashCount}
+use Rattle.tables.specs.Places.{hashWidth, hashesAt}
+use Rattle.tables.specs.Records.{hashBytesOk}
+use Rattle.tables.specs.Layout.{rowsOk}
+use Rattle.tables.specs.Groups.{groupSize}
+use Rattle.tables.proofs.Loops.{none-yet, group-passes, group-fails}
+use native.Mathlib.Omega.{arith}
+use borrow.Author.Needs.{needs}
+use Rattle.tables.proofs.section_check.hashes_ok.Statement.{statement}
+use Rattle.tables.proofs.section_check.hashes_ok.Tie as tie
+
+abbrev Inv-loop : tie.InvT-loop
+Inv-loop t g₀ g = (g ≤ 64) × (rowsOk hashBytesOk hashesAt hashWidth (groupSize * g) t ≡ true)
+
+abbrev μ-loop : tie.MeasureT-loop
+μ-loop t g₀ g = 64 - g
+
+loop-holds : tie.Need-loop-holds Inv-loop μ-loop
+loop-holds c = (search needs, none-yet hashBytesOk hashesAt hashWidth _)
+
+mul-at : tie.Need-mul-at Inv-loop μ-loop
+mul-at c = search needs
+
+mul-at-2 : tie.Need-mul-at-2 Inv-loop μ-loop
+mul-at-2 c = search needs
+
+add-at : tie.Need-add-at Inv-loop μ-loop
+add-at c = search needs
+
+mul-hash-group-ok : tie.Need-mul-hash-group-ok Inv-loop μ-loop
+mul-hash-group-ok c = search needs
+
+add-hash-group-ok : tie.Need-add-hash-group-ok Inv-loop μ-loop
+add-hash-group-ok c = search needs
+
+sub-hash-group-ok : tie.Need-sub-hash-group-ok Inv-loop μ-loop
+sub-hash-group-ok c = search needs
+
+part-hash-group-ok-start : tie.Need-part-hash-group-ok-start Inv-loop μ-loop
+part-hash-group-ok-start c = search needs
+
+part-hash-group-ok-end : tie.Need-part-hash-group-ok-end Inv-loop μ-loop
+part-hash-group-ok-end c = search needs
+
+hash-group-ok-requires : tie.Need-hash-group-ok-requires Inv-loop μ-loop
+hash-group-ok-requires c κs = search needs
+
+returns : tie.Need-returns Inv-loop μ-loop
+returns c = group-fails hashBytesOk hashesAt hashWidth _ _ (c .before .hash-group-ok .ensures) (c .before .before .before .before .loop .inv .1) hashCount (omega arith) (c .if1 .taken)
+
+add-g : tie.Need-add-g Inv-loop μ-loop
+add-g c = search needs
+
+loop-less : tie.Need-loop-less Inv-loop μ-loop
+loop-less c = search needs
+
+loop-again : tie.Need-loop-again Inv-loop μ-loop
+loop-again c = (search needs, group-passes hashBytesOk hashesAt hashWidth _ _ (c .before .hash-group-ok .ensures) (c .before .before .before .before .loop .inv .1) (c .if1 .left))
+
+returns-2 : tie.Need-returns-2 Inv-loop μ-loop
+returns-2 c = ended (λ (k : ℕ). rowsOk hashBytesOk hashesAt hashWidth (groupSize * k) (c .before .before .before .args .t .now)) (c .before .loop .inv .0) (c .loop-test .left) (c .before .loop .inv .1)
+
+pub hashes-ok-spec : {M : Type 1} → statement M
+hashes-ok-spec =
+    tie.close
+    (tie.spec
+    Inv-loop
+    μ-loop
+    loop-holds
+    mul-at
+    mul-at-2
+    add-at
+    mul-hash-group-ok
+    add-hash-group-ok
+    sub-hash-group-ok
+    part-hash-group-ok-start
+    part-hash-group-ok-end
+    hash-group-ok-requires
+    returns
+    add-g
+    loop-less
+    loop-again
+    returns-2)

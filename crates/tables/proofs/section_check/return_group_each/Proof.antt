@@ -1,0 +1,72 @@
+use Prim.Native.Nat.{ℕ, _≤_, _-_}
+use mathlib.Core.Path.{_≡_}
+use mathlib.Core.Bool.{true}
+use Rattle.octets.proofs.Index.{ended}
+use Rattle.tables.specs.Places.{returnWidth}
+use Rattle.tables.specs.Records.{returnBytesOk}
+use Rattle.tables.specs.Groups.{groupSize, groupOk}
+use Rattle.tables.proofs.Loops.{none-of-group, record-passes, record-fails}
+use borrow.Author.Needs.{needs}
+use Rattle.tables.proofs.section_check.return_group_each.Statement.{statement}
+use Rattle.tables.proofs.section_check.return_group_each.Tie as tie
+
+abbrev Inv-loop : tie.InvT-loop
+Inv-loop s i₀ i = (i ≤ groupSize) × (groupOk returnBytesOk returnWidth i s ≡ true)
+
+abbrev μ-loop : tie.MeasureT-loop
+μ-loop s i₀ i = groupSize - i
+
+loop-holds : tie.Need-loop-holds Inv-loop μ-loop
+loop-holds c = (search needs, none-of-group returnBytesOk returnWidth _)
+
+mul-at : tie.Need-mul-at Inv-loop μ-loop
+mul-at c = search needs
+
+add-return-ok : tie.Need-add-return-ok Inv-loop μ-loop
+add-return-ok c = search needs
+
+sub-return-ok : tie.Need-sub-return-ok Inv-loop μ-loop
+sub-return-ok c = search needs
+
+part-return-ok-start : tie.Need-part-return-ok-start Inv-loop μ-loop
+part-return-ok-start c = search needs
+
+part-return-ok-end : tie.Need-part-return-ok-end Inv-loop μ-loop
+part-return-ok-end c = search needs
+
+return-ok-requires : tie.Need-return-ok-requires Inv-loop μ-loop
+return-ok-requires c κs = search needs
+
+returns : tie.Need-returns Inv-loop μ-loop
+returns c = record-fails returnBytesOk returnWidth _ _ (c .before .return-ok .ensures) groupSize (c .before .before .before .loop-test .taken) (c .if1 .taken)
+
+add-i : tie.Need-add-i Inv-loop μ-loop
+add-i c = search needs
+
+loop-less : tie.Need-loop-less Inv-loop μ-loop
+loop-less c = search needs
+
+loop-again : tie.Need-loop-again Inv-loop μ-loop
+loop-again c = (search needs, record-passes returnBytesOk returnWidth _ _ (c .before .return-ok .ensures) (c .if1 .left) (c .before .before .before .before .loop .inv .1))
+
+returns-2 : tie.Need-returns-2 Inv-loop μ-loop
+returns-2 c = ended (λ (k : ℕ). groupOk returnBytesOk returnWidth k (c .before .before .before .args .s .now)) (c .before .loop .inv .0) (c .loop-test .left) (c .before .loop .inv .1)
+
+pub return-group-each-spec : {M : Type 1} → statement M
+return-group-each-spec =
+    tie.close
+    (tie.spec
+    Inv-loop
+    μ-loop
+    loop-holds
+    mul-at
+    add-return-ok
+    sub-return-ok
+    part-return-ok-start
+    part-return-ok-end
+    return-ok-requires
+    returns
+    add-i
+    loop-less
+    loop-again
+    returns-2)

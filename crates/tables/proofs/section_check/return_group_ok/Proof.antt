@@ -1,0 +1,29 @@
+use mathlib.Core.Path.{sym, _∙_}
+use lib.Dec.{lit<}
+use Rattle.tables.specs.Places.{returnWidth}
+use Rattle.tables.specs.Records.{returnBytesOk}
+use Rattle.tables.proofs.Loops.{unused, group-free}
+use borrow.Author.Needs.{needs}
+use Rattle.tables.proofs.section_check.return_group_ok.Statement.{statement}
+use Rattle.tables.proofs.section_check.return_group_ok.Tie as tie
+
+shared-slice-read-if1 : tie.Need-shared-slice-read-if1
+shared-slice-read-if1 c = search needs
+
+is-zero-requires : tie.Need-is-zero-requires
+is-zero-requires c κs = search needs
+
+returns : tie.Need-returns
+unfolding returnBytesOk
+returns c = group-free returnBytesOk returnWidth _ (unused returnWidth _ (lit< tt)) (c .before .before .before .before .before .pre) (sym (c .before .is-zero .ensures) ∙ c .if2 .taken)
+
+return-group-each-requires : tie.Need-return-group-each-requires
+return-group-each-requires c κs = search needs
+
+returns-2 : tie.Need-returns-2
+returns-2 c = search needs
+
+pub return-group-ok-spec : {M : Type 1} → statement M
+return-group-ok-spec =
+    tie.close
+    (tie.spec shared-slice-read-if1 is-zero-requires returns return-group-each-requires returns-2)

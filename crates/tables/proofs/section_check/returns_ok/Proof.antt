@@ -1,0 +1,87 @@
+use Prim.Native.Nat.{ℕ, _≤_, _-_, _*_}
+use mathlib.Core.Path.{_≡_}
+use mathlib.Core.Bool.{true}
+use Rattle.octets.proofs.Index.{ended}
+use Rattle.rules.specs.Numbers.{returnCount}
+use Rattle.tables.specs.Places.{returnWidth, returnsAt}
+use Rattle.tables.specs.Records.{returnBytesOk}
+use Rattle.tables.specs.Layout.{rowsOk}
+use Rattle.tables.specs.Groups.{groupSize}
+use Rattle.tables.proofs.Loops.{none-yet, group-passes, group-fails}
+use native.Mathlib.Omega.{arith}
+use borrow.Author.Needs.{needs}
+use Rattle.tables.proofs.section_check.returns_ok.Statement.{statement}
+use Rattle.tables.proofs.section_check.returns_ok.Tie as tie
+
+abbrev Inv-loop : tie.InvT-loop
+Inv-loop t g₀ g = (g ≤ 32) × (rowsOk returnBytesOk returnsAt returnWidth (groupSize * g) t ≡ true)
+
+abbrev μ-loop : tie.MeasureT-loop
+μ-loop t g₀ g = 32 - g
+
+loop-holds : tie.Need-loop-holds Inv-loop μ-loop
+loop-holds c = (search needs, none-yet returnBytesOk returnsAt returnWidth _)
+
+mul-at : tie.Need-mul-at Inv-loop μ-loop
+mul-at c = search needs
+
+mul-at-2 : tie.Need-mul-at-2 Inv-loop μ-loop
+mul-at-2 c = search needs
+
+add-at : tie.Need-add-at Inv-loop μ-loop
+add-at c = search needs
+
+mul-return-group-ok : tie.Need-mul-return-group-ok Inv-loop μ-loop
+mul-return-group-ok c = search needs
+
+add-return-group-ok : tie.Need-add-return-group-ok Inv-loop μ-loop
+add-return-group-ok c = search needs
+
+sub-return-group-ok : tie.Need-sub-return-group-ok Inv-loop μ-loop
+sub-return-group-ok c = search needs
+
+part-return-group-ok-start : tie.Need-part-return-group-ok-start Inv-loop μ-loop
+part-return-group-ok-start c = search needs
+
+part-return-group-ok-end : tie.Need-part-return-group-ok-end Inv-loop μ-loop
+part-return-group-ok-end c = search needs
+
+return-group-ok-requires : tie.Need-return-group-ok-requires Inv-loop μ-loop
+return-group-ok-requires c κs = search needs
+
+returns : tie.Need-returns Inv-loop μ-loop
+returns c = group-fails returnBytesOk returnsAt returnWidth _ _ (c .before .return-group-ok .ensures) (c .before .before .before .before .loop .inv .1) returnCount (omega arith) (c .if1 .taken)
+
+add-g : tie.Need-add-g Inv-loop μ-loop
+add-g c = search needs
+
+loop-less : tie.Need-loop-less Inv-loop μ-loop
+loop-less c = search needs
+
+loop-again : tie.Need-loop-again Inv-loop μ-loop
+loop-again c = (search needs, group-passes returnBytesOk returnsAt returnWidth _ _ (c .before .return-group-ok .ensures) (c .before .before .before .before .loop .inv .1) (c .if1 .left))
+
+returns-2 : tie.Need-returns-2 Inv-loop μ-loop
+returns-2 c = ended (λ (k : ℕ). rowsOk returnBytesOk returnsAt returnWidth (groupSize * k) (c .before .before .before .args .t .now)) (c .before .loop .inv .0) (c .loop-test .left) (c .before .loop .inv .1)
+
+pub returns-ok-spec : {M : Type 1} → statement M
+returns-ok-spec =
+    tie.close
+    (tie.spec
+    Inv-loop
+    μ-loop
+    loop-holds
+    mul-at
+    mul-at-2
+    add-at
+    mul-return-group-ok
+    add-return-group-ok
+    sub-return-group-ok
+    part-return-group-ok-start
+    part-return-group-ok-end
+    return-group-ok-requires
+    returns
+    add-g
+    loop-less
+    loop-again
+    returns-2)

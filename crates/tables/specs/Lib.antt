@@ -1,0 +1,6 @@
+-- How the tables hold a relay: one buffer of 71,116 bytes. docs/LAYOUT.md draws it.
+pub mod Places
+pub mod Records
+pub mod Layout
+pub mod Shape
+pub mod Groups

@@ -1,0 +1,60 @@
+// Where each section of the tables stands, and how wide its records are: specs/Places.antt in code. Each number once.
+pub const PORT_COUNT: usize = 16;
+
+pub const LOCAL_COUNT: usize = 16;
+
+pub const PATH_COUNT: usize = 64;
+
+pub const BLOB_LIMIT: usize = 16;
+
+pub const LINK_COUNT: usize = 64;
+
+pub const RETURN_COUNT: usize = 512;
+
+pub const HASH_COUNT: usize = 1024;
+
+// Modes: boundary, access point, roaming.
+pub const MODE_COUNT: u8 = 3;
+
+// A stored time over this is refused.
+pub const TIME_LIMIT: u64 = 1_099_512_232_575;
+
+pub const ADDRESS_WIDTH: usize = 16;
+
+pub const TIME_WIDTH: usize = 8;
+
+pub const BLOB_WIDTH: usize = 10;
+
+pub const RING_WIDTH: usize = 2;
+
+pub const PORT_WIDTH: usize = 2;
+
+pub const LOCAL_WIDTH: usize = 17;
+
+pub const PATH_WIDTH: usize = 44 + BLOB_LIMIT * BLOB_WIDTH;
+
+pub const LINK_WIDTH: usize = 30;
+
+pub const RETURN_WIDTH: usize = 27;
+
+pub const HASH_WIDTH: usize = 41;
+
+pub const CLOCK_AT: usize = ADDRESS_WIDTH;
+
+pub const PORTS_AT: usize = CLOCK_AT + TIME_WIDTH;
+
+pub const LOCALS_AT: usize = PORTS_AT + PORT_COUNT * PORT_WIDTH;
+
+pub const PATHS_AT: usize = LOCALS_AT + LOCAL_COUNT * LOCAL_WIDTH;
+
+pub const LINKS_AT: usize = PATHS_AT + PATH_COUNT * PATH_WIDTH;
+
+pub const RETURN_NEXT_AT: usize = LINKS_AT + LINK_COUNT * LINK_WIDTH;
+
+pub const RETURNS_AT: usize = RETURN_NEXT_AT + RING_WIDTH;
+
+pub const HASH_NEXT_AT: usize = RETURNS_AT + RETURN_COUNT * RETURN_WIDTH;
+
+pub const HASHES_AT: usize = HASH_NEXT_AT + RING_WIDTH;
+
+pub const TABLE_SIZE: usize = HASHES_AT + HASH_COUNT * HASH_WIDTH;

@@ -1,0 +1,185 @@
+// Row 7 for each section of the tables, record by record. Returns and hashes go in groups of sixteen, of which one that is all zeros is
+// passed by one OR over its bytes.
+use super::places::HASH_COUNT;
+use super::places::HASH_WIDTH;
+use super::places::HASHES_AT;
+use super::places::LINK_COUNT;
+use super::places::LINK_WIDTH;
+use super::places::LINKS_AT;
+use super::places::LOCAL_COUNT;
+use super::places::LOCAL_WIDTH;
+use super::places::LOCALS_AT;
+use super::places::PATH_COUNT;
+use super::places::PATH_WIDTH;
+use super::places::PATHS_AT;
+use super::places::PORT_COUNT;
+use super::places::PORT_WIDTH;
+use super::places::PORTS_AT;
+use super::places::RETURN_COUNT;
+use super::places::RETURN_WIDTH;
+use super::places::RETURNS_AT;
+use super::record_check::hash_ok;
+use super::record_check::link_ok;
+use super::record_check::local_ok;
+use super::record_check::path_ok;
+use super::record_check::port_ok;
+use super::record_check::return_ok;
+ghost use mathlib.Core.Path.{_≡_};
+ghost use Prim.Native.Nat.{_*_};
+ghost use lib.ListN.{length};
+ghost use Rattle.rules.specs.Numbers.{portCount, localCount, pathCount, linkCount, returnCount, hashCount};
+ghost use Rattle.tables.specs.Places.{portWidth, localWidth, pathWidth, linkWidth, returnWidth, hashWidth, portsAt, localsAt, pathsAt, linksAt, returnsAt, hashesAt, tableSize};
+ghost use Rattle.tables.specs.Records.{portBytesOk, localBytesOk, pathBytesOk, linkBytesOk, returnBytesOk, hashBytesOk};
+ghost use Rattle.tables.specs.Layout.{rowsOk};
+ghost use Rattle.tables.specs.Groups.{groupSize, groupOk};
+
+// Records of a group.
+const GROUP: usize = 16;
+
+pub fn ports_ok(t: &[u8]) -> bool
+    requires { ⌜ length (now t) ≡ tableSize ⌝ }
+    ensures { λ r. ⌜ r ≡ rowsOk portBytesOk portsAt portWidth portCount (now (t .entry)) ⌝ }
+{
+    let mut i = 0;
+    while i < PORT_COUNT {
+        let at = PORTS_AT + PORT_WIDTH * i;
+        if !port_ok(&t[at..at + PORT_WIDTH]) {
+            return false;
+        }
+        i += 1;
+    }
+    true
+}
+
+pub fn locals_ok(t: &[u8]) -> bool
+    requires { ⌜ length (now t) ≡ tableSize ⌝ }
+    ensures { λ r. ⌜ r ≡ rowsOk localBytesOk localsAt localWidth localCount (now (t .entry)) ⌝ }
+{
+    let mut i = 0;
+    while i < LOCAL_COUNT {
+        let at = LOCALS_AT + LOCAL_WIDTH * i;
+        if !local_ok(&t[at..at + LOCAL_WIDTH]) {
+            return false;
+        }
+        i += 1;
+    }
+    true
+}
+
+pub fn paths_ok(t: &[u8]) -> bool
+    requires { ⌜ length (now t) ≡ tableSize ⌝ }
+    ensures { λ r. ⌜ r ≡ rowsOk pathBytesOk pathsAt pathWidth pathCount (now (t .entry)) ⌝ }
+{
+    let mut i = 0;
+    while i < PATH_COUNT {
+        let at = PATHS_AT + PATH_WIDTH * i;
+        if !path_ok(&t[at..at + PATH_WIDTH]) {
+            return false;
+        }
+        i += 1;
+    }
+    true
+}
+
+pub fn links_ok(t: &[u8]) -> bool
+    requires { ⌜ length (now t) ≡ tableSize ⌝ }
+    ensures { λ r. ⌜ r ≡ rowsOk linkBytesOk linksAt linkWidth linkCount (now (t .entry)) ⌝ }
+{
+    let mut i = 0;
+    while i < LINK_COUNT {
+        let at = LINKS_AT + LINK_WIDTH * i;
+        if !link_ok(&t[at..at + LINK_WIDTH]) {
+            return false;
+        }
+        i += 1;
+    }
+    true
+}
+
+// ---- returns
+
+fn return_group_each(s: &[u8]) -> bool
+    requires { ⌜ length (now s) ≡ returnWidth * groupSize ⌝ }
+    ensures { λ r. ⌜ r ≡ groupOk returnBytesOk returnWidth groupSize (now (s .entry)) ⌝ }
+{
+    let mut i = 0;
+    while i < GROUP {
+        let at = RETURN_WIDTH * i;
+        if !return_ok(&s[at..at + RETURN_WIDTH]) {
+            return false;
+        }
+        i += 1;
+    }
+    true
+}
+
+fn return_group_ok(s: &[u8]) -> bool
+    requires { ⌜ length (now s) ≡ returnWidth * groupSize ⌝ }
+    ensures { λ r. ⌜ r ≡ groupOk returnBytesOk returnWidth groupSize (now (s .entry)) ⌝ }
+{
+    if s[0] == 0 {
+        if octets::is_zero(s) {
+            return true;
+        }
+    }
+    return_group_each(s)
+}
+
+pub fn returns_ok(t: &[u8]) -> bool
+    requires { ⌜ length (now t) ≡ tableSize ⌝ }
+    ensures { λ r. ⌜ r ≡ rowsOk returnBytesOk returnsAt returnWidth returnCount (now (t .entry)) ⌝ }
+{
+    let mut g = 0;
+    while g < RETURN_COUNT / GROUP {
+        let at = RETURNS_AT + RETURN_WIDTH * GROUP * g;
+        if !return_group_ok(&t[at..at + RETURN_WIDTH * GROUP]) {
+            return false;
+        }
+        g += 1;
+    }
+    true
+}
+
+// ---- hashes
+
+fn hash_group_each(s: &[u8]) -> bool
+    requires { ⌜ length (now s) ≡ hashWidth * groupSize ⌝ }
+    ensures { λ r. ⌜ r ≡ groupOk hashBytesOk hashWidth groupSize (now (s .entry)) ⌝ }
+{
+    let mut i = 0;
+    while i < GROUP {
+        let at = HASH_WIDTH * i;
+        if !hash_ok(&s[at..at + HASH_WIDTH]) {
+            return false;
+        }
+        i += 1;
+    }
+    true
+}
+
+fn hash_group_ok(s: &[u8]) -> bool
+    requires { ⌜ length (now s) ≡ hashWidth * groupSize ⌝ }
+    ensures { λ r. ⌜ r ≡ groupOk hashBytesOk hashWidth groupSize (now (s .entry)) ⌝ }
+{
+    if s[0] == 0 {
+        if octets::is_zero(s) {
+            return true;
+        }
+    }
+    hash_group_each(s)
+}
+
+pub fn hashes_ok(t: &[u8]) -> bool
+    requires { ⌜ length (now t) ≡ tableSize ⌝ }
+    ensures { λ r. ⌜ r ≡ rowsOk hashBytesOk hashesAt hashWidth hashCount (now (t .entry)) ⌝ }
+{
+    let mut g = 0;
+    while g < HASH_COUNT / GROUP {
+        let at = HASHES_AT + HASH_WIDTH * GROUP * g;
+        if !hash_group_ok(&t[at..at + HASH_WIDTH * GROUP]) {
+            return false;
+        }
+        g += 1;
+    }
+    true
+}
