@@ -1,0 +1,155 @@
+-- What the place that a search gave says of the view, for a caller that has the place in hand.
+use Prim.Native.Nat.{ℕ, _≤_, _<_}
+use mathlib.Core.Bool.{Bool, true, false, false≢true}
+use mathlib.Core.List.{List}
+use mathlib.Core.Path.{_≡_, refl, sym, ap, subst, _∙_}
+use lib.Dec.{eqb, ltb}
+use lib.ListN.{getD, List·getD-eq-default}
+use borrow.Author.Tests.{ltb-true, leb-true}
+use Rattle.octets.specs.Index.{_and_}
+use Rattle.octets.specs.Choice.{_then_otherwise_}
+use Rattle.octets.proofs.Index.{and-left, and-right, all-at, first-holds}
+use Rattle.rules.specs.Numbers.{portCount, localCount, pathCount, linkCount, returnCount, hashCount, blobLimit}
+use Rattle.rules.specs.Relay.{empty, used, Relay, holds, lowest}
+use Rattle.rules.specs.View.{isLivePath, isLiveLink, isLiveReturn, isLocal, localPlace, pathPlace, linkPlace, returnPlace, hashPlace, freePath, freeLink, viewAt}
+use Rattle.rules.specs.Refusals.{pathOk, linkOk, returnOk}
+use Rattle.tables.specs.Places.{pathsAt, pathWidth, linksAt, linkWidth, returnsAt, returnWidth}
+use Rattle.tables.specs.Records.{markOk, slotOf, pathOf, linkOf, returnOf, slotBytesOk, pathBytesOk, linkBytesOk, returnBytesOk}
+use Rattle.tables.specs.Layout.{rowAt, rows, rowsOk, relayOf, wellFormed}
+use Rattle.tables.proofs.Seen.{row-seen, rows-length}
+use Rattle.tables.proofs.Whole.{formed}
+
+-- ---- any table
+module _ {A : Type 0} (test : A → Bool) (read : List ℕ → A) where
+  -- a slot that passes a test is used
+  marked : (b : List ℕ) → holds test (slotOf read b) ≡ true → eqb (getD b 0 0) 0 ≡ false
+  unfolding holds slotOf _then_otherwise_
+  marked b h = go (eqb (getD b 0 0) 0) refl
+    where
+      go : (m : Bool) → eqb (getD b 0 0) 0 ≡ m → eqb (getD b 0 0) 0 ≡ false
+      go true q = absurd (false≢true (rw q at h))
+      go false q = q
+
+  module _ (at width n : ℕ) (t : List ℕ) (i : ℕ) (e : i ≡ lowest test n (rows (slotOf read) at width n t)) where
+    found-marked : i < n → eqb (getD (rowAt at width t i) 0 0) 0 ≡ false
+    unfolding lowest
+    found-marked l =
+        let there : holds test (getD (rows (slotOf read) at width n t) i empty) ≡ true =
+        subst (λ (k : ℕ). holds test (getD (rows (slotOf read) at width n t) k empty) ≡ true) (sym e)
+        (first-holds (λ k. holds test (getD (rows (slotOf read) at width n t) k empty)) n (subst (λ (k : ℕ). k < n) e l)) in
+        marked (rowAt at width t i) (ap (holds test) (sym (row-seen (slotOf read) at width n t i empty l)) ∙ there)
+
+    found : i < n → getD (rows (slotOf read) at width n t) i empty ≡ used (read (rowAt at width t i))
+    unfolding slotOf _then_otherwise_
+    found l = row-seen (slotOf read) at width n t i empty l ∙ rw (found-marked l)
+
+    missing : n ≤ i → getD (rows (slotOf read) at width n t) i empty ≡ empty
+    missing l = List·getD-eq-default (rows (slotOf read) at width n t) empty {n = i} (subst (λ (k : ℕ). k ≤ i) (sym (rows-length (slotOf read) at width n t)) l)
+
+    -- row 7's clauses on a used record's bytes
+    found-ok : (ok : List ℕ → Bool) → rowsOk (slotBytesOk width ok) at width n t ≡ true → i < n → ok (rowAt at width t i) ≡ true
+    unfolding rowsOk slotBytesOk _then_otherwise_
+    found-ok ok h l =
+        and-right _ _ (rw (found-marked l) at (all-at (λ k. slotBytesOk width ok (rowAt at width t k)) n i h l))
+
+-- ---- paths, links and return records
+module _ (t : List ℕ) (clock : ℕ) where
+  module _ (destination : List ℕ) (i : ℕ) (e : i ≡ pathPlace clock (relayOf t) destination) where
+    pub path-found : i < pathCount → viewAt clock (relayOf t) .path destination ≡ used (pathOf (rowAt pathsAt pathWidth t i))
+    unfolding viewAt pathPlace relayOf
+    path-found l =
+        ap (λ (k : ℕ). getD (relayOf t .paths) k empty) (sym e)
+        ∙ found (isLivePath clock destination) pathOf pathsAt pathWidth pathCount t i e l
+
+    pub path-missing : pathCount ≤ i → viewAt clock (relayOf t) .path destination ≡ empty
+    unfolding viewAt pathPlace relayOf
+    path-missing l =
+        ap (λ (k : ℕ). getD (relayOf t .paths) k empty) (sym e)
+        ∙ missing (isLivePath clock destination) pathOf pathsAt pathWidth pathCount t i e l
+
+    module _ (h : wellFormed t ≡ true) (l : i < pathCount) where
+      path-ok : pathOk (pathOf (rowAt pathsAt pathWidth t i)) ≡ true
+      unfolding pathPlace relayOf pathBytesOk
+      path-ok =
+          found-ok (isLivePath clock destination) pathOf pathsAt pathWidth pathCount t i e (λ b. pathOk (pathOf b)) (formed t h .paths) l
+
+      pub path-port-ok : pathOf (rowAt pathsAt pathWidth t i) .port < portCount
+      unfolding pathOk
+      path-port-ok = ltb-true _ _ (and-left _ _ path-ok)
+
+      pub path-blobs-ok : pathOf (rowAt pathsAt pathWidth t i) .blobs .count ≤ blobLimit
+      unfolding pathOk
+      path-blobs-ok = leb-true _ _ (and-left _ _ (and-right _ _ (and-right _ _ (and-right _ _ path-ok))))
+
+  module _ (id : List ℕ) (i : ℕ) (e : i ≡ linkPlace clock (relayOf t) id) where
+    pub link-found : i < linkCount → viewAt clock (relayOf t) .link id ≡ used (linkOf (rowAt linksAt linkWidth t i))
+    unfolding viewAt linkPlace relayOf
+    link-found l =
+        ap (λ (k : ℕ). getD (relayOf t .links) k empty) (sym e)
+        ∙ found (isLiveLink clock id) linkOf linksAt linkWidth linkCount t i e l
+
+    pub link-missing : linkCount ≤ i → viewAt clock (relayOf t) .link id ≡ empty
+    unfolding viewAt linkPlace relayOf
+    link-missing l =
+        ap (λ (k : ℕ). getD (relayOf t .links) k empty) (sym e)
+        ∙ missing (isLiveLink clock id) linkOf linksAt linkWidth linkCount t i e l
+
+    module _ (h : wellFormed t ≡ true) (l : i < linkCount) where
+      link-ok : linkOk (linkOf (rowAt linksAt linkWidth t i)) ≡ true
+      unfolding linkPlace relayOf linkBytesOk
+      link-ok =
+          and-right _ _
+          (found-ok (isLiveLink clock id) linkOf linksAt linkWidth linkCount t i e (λ b. markOk (getD b 21 0) and linkOk (linkOf b)) (formed t h .links) l)
+
+      pub link-asking-ok : linkOf (rowAt linksAt linkWidth t i) .asking < portCount
+      unfolding linkOk
+      link-asking-ok = ltb-true _ _ (and-left _ _ link-ok)
+
+      pub link-answering-ok : linkOf (rowAt linksAt linkWidth t i) .answering < portCount
+      unfolding linkOk
+      link-answering-ok = ltb-true _ _ (and-left _ _ (and-right _ _ link-ok))
+
+  module _ (key : List ℕ) (i : ℕ) (e : i ≡ returnPlace clock (relayOf t) key) where
+    pub return-found : i < returnCount → viewAt clock (relayOf t) .return key ≡ used (returnOf (rowAt returnsAt returnWidth t i))
+    unfolding viewAt returnPlace relayOf
+    return-found l =
+        ap (λ (k : ℕ). getD (relayOf t .returns .slots) k empty) (sym e)
+        ∙ found (isLiveReturn clock key) returnOf returnsAt returnWidth returnCount t i e l
+
+    pub return-missing : returnCount ≤ i → viewAt clock (relayOf t) .return key ≡ empty
+    unfolding viewAt returnPlace relayOf
+    return-missing l =
+        ap (λ (k : ℕ). getD (relayOf t .returns .slots) k empty) (sym e)
+        ∙ missing (isLiveReturn clock key) returnOf returnsAt returnWidth returnCount t i e l
+
+    module _ (h : wellFormed t ≡ true) (l : i < returnCount) where
+      return-ok : returnOk (returnOf (rowAt returnsAt returnWidth t i)) ≡ true
+      unfolding returnPlace relayOf returnBytesOk
+      return-ok =
+          found-ok (isLiveReturn clock key) returnOf returnsAt returnWidth returnCount t i e (λ b. returnOk (returnOf b)) (formed t h .returns) l
+
+      pub return-arrival-ok : returnOf (rowAt returnsAt returnWidth t i) .arrival < portCount
+      unfolding returnOk
+      return-arrival-ok = ltb-true _ _ (and-left _ _ return-ok)
+
+      pub return-leaving-ok : returnOf (rowAt returnsAt returnWidth t i) .leaving < portCount
+      unfolding returnOk
+      return-leaving-ok = ltb-true _ _ (and-left _ _ (and-right _ _ return-ok))
+
+-- ---- what is only there or not
+module _ (clock : ℕ) (r : Relay) (i : ℕ) where
+  pub local-found : (address : List ℕ) → i ≡ localPlace r address → viewAt clock r .local address ≡ ltb i localCount
+  unfolding viewAt isLocal
+  local-found address e = ap (λ (k : ℕ). ltb k localCount) (sym e)
+
+  pub hash-found : (hash : List ℕ) → i ≡ hashPlace clock r hash → viewAt clock r .remembered hash ≡ ltb i hashCount
+  unfolding viewAt
+  hash-found hash e = ap (λ (k : ℕ). ltb k hashCount) (sym e)
+
+  pub path-room : i ≡ freePath clock r → viewAt clock r .roomForPath ≡ ltb i pathCount
+  unfolding viewAt
+  path-room e = ap (λ (k : ℕ). ltb k pathCount) (sym e)
+
+  pub link-room : i ≡ freeLink clock r → viewAt clock r .roomForLink ≡ ltb i linkCount
+  unfolding viewAt
+  link-room e = ap (λ (k : ℕ). ltb k linkCount) (sym e)

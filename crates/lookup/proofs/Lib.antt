@@ -1,0 +1,4 @@
+pub mod Searches
+pub mod Tables
+pub mod HeldBlobs
+pub mod Found

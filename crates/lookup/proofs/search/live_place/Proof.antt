@@ -1,0 +1,60 @@
+use Prim.Native.Nat.{_-_, _≤_}
+use mathlib.Core.Path.{_≡_}
+use Rattle.lookup.specs.Search.{isLiveOf, lowestRow}
+use Rattle.lookup.proofs.Searches.{none-yet, not-here, found-here, nowhere}
+use Rattle.tables.proofs.Coding.{row-end}
+use native.Mathlib.Omega.{arith}
+use borrow.Author.Needs.{needs}
+use Rattle.lookup.proofs.search.live_place.Statement.{statement}
+use Rattle.lookup.proofs.search.live_place.Tie as tie
+
+abbrev Inv-loop : tie.InvT-loop
+Inv-loop tables at width count expiry key clock i₀ i = (i ≤ count) × (lowestRow (isLiveOf key expiry clock) at width i tables ≡ i)
+
+abbrev μ-loop : tie.MeasureT-loop
+μ-loop tables at width count expiry key clock i₀ i = count - i
+
+loop-holds : tie.Need-loop-holds Inv-loop μ-loop
+loop-holds c = (search needs, none-yet _ _ _ _)
+
+record-at-requires : tie.Need-record-at-requires Inv-loop μ-loop
+record-at-requires c κs =
+    let a = c .before .before .before .before .args in
+    omega (arith, row-end (a .at) (a .width) (a .count) (c .before .loop .i) (c .loop-test .taken))
+
+is-live-of-requires : tie.Need-is-live-of-requires Inv-loop μ-loop
+is-live-of-requires c κs = search needs
+
+returns : tie.Need-returns Inv-loop μ-loop
+returns c =
+    let at = c .before .before .before .before in
+    found-here _ _ _ _ _ (c .before .before .record-at .ensures .0) (c .before .is-live-of .ensures) _ (c .before .before .before .loop-test .taken) (c .if1 .taken) (at .loop .inv .1)
+
+add-i : tie.Need-add-i Inv-loop μ-loop
+add-i c = search needs
+
+loop-less : tie.Need-loop-less Inv-loop μ-loop
+loop-less c = search needs
+
+loop-again : tie.Need-loop-again Inv-loop μ-loop
+loop-again c =
+    let at = c .before .before .before .before in
+    (search needs, not-here _ _ _ _ _ (c .before .before .record-at .ensures .0) (c .before .is-live-of .ensures) (c .if1 .left) (at .loop .inv .1))
+
+returns-2 : tie.Need-returns-2 Inv-loop μ-loop
+returns-2 c = nowhere _ _ _ _ (c .before .loop .inv .0) (c .loop-test .left) (c .before .loop .inv .1)
+
+pub live-place-spec : {M : Type 1} → statement M
+live-place-spec =
+    tie.close
+    (tie.spec
+    Inv-loop
+    μ-loop
+    loop-holds
+    record-at-requires
+    is-live-of-requires
+    returns
+    add-i
+    loop-less
+    loop-again
+    returns-2)

@@ -1,0 +1,29 @@
+// The remembered hashes.
+use super::search::live_place;
+use tables::places::HASH_COUNT;
+use tables::places::HASH_WIDTH;
+use tables::places::HASHES_AT;
+ghost use mathlib.Core.Path.{_≡_};
+ghost use lib.ListN.{length};
+ghost use Rattle.rules.specs.View.{hashPlace};
+ghost use Rattle.tables.specs.Places.{tableSize};
+ghost use Rattle.tables.specs.Layout.{relayOf};
+
+// Where a record's expiry stands.
+const EXPIRY_AT: usize = 33;
+
+// The lowest place of a hash that is remembered, or 1,024.
+pub fn hash_place(tables: &[u8], hash: [u8; 32], clock: u64) -> usize
+    requires { ⌜ length (now tables) ≡ tableSize ⌝ }
+    ensures { λ r. ⌜ r ≡ hashPlace clock (relayOf (now (tables .entry))) hash ⌝ }
+{
+    live_place(
+        tables,
+        HASHES_AT,
+        HASH_WIDTH,
+        HASH_COUNT,
+        EXPIRY_AT,
+        &hash,
+        clock,
+    )
+}

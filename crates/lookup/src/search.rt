@@ -1,0 +1,95 @@
+// The searches that the tables share: records of one width, from one place of the tables on, each with its mark first and its key behind it.
+ghost use mathlib.Core.Path.{_≡_};
+ghost use mathlib.Core.Bool.{not};
+ghost use Prim.Native.Nat.{_+_, _*_, _≤_};
+ghost use lib.ListN.{length};
+ghost use Rattle.tables.specs.Places.{timeWidth};
+ghost use Rattle.tables.specs.Layout.{rowAt};
+ghost use Rattle.lookup.specs.Search.{hasKey, isLive, isLiveOf, lowestRow};
+
+// The bytes of the record at a place.
+pub fn record_at(tables: &[u8], at: usize, width: usize, place: usize) -> &[u8]
+    requires { ⌜ at + width * place + width ≤ length (now tables) ⌝ }
+    ensures { λ r. ⌜ (now r ≡ rowAt at width (now (tables .entry)) place) × (length (now r) ≡ width) ⌝ }
+{
+    let start = at + width * place;
+    &tables[start..start + width]
+}
+
+// Whether a record is used and has the key.
+pub fn has_key(b: &[u8], key: &[u8]) -> bool
+    requires { ⌜ 1 + length (now key) ≤ length (now b) ⌝ }
+    ensures { λ r. ⌜ r ≡ hasKey (now (key .entry)) (now (b .entry)) ⌝ }
+{
+    if b[0] == 0 {
+        return false;
+    }
+    octets::equal_at(b, 1, key)
+}
+
+// Whether a record is used and ends after the clock.
+fn is_live(b: &[u8], expiry: usize, clock: u64) -> bool
+    requires { ⌜ expiry + timeWidth ≤ length (now b) ⌝ }
+    ensures { λ r. ⌜ r ≡ isLive expiry clock (now (b .entry)) ⌝ }
+{
+    if b[0] == 0 {
+        return false;
+    }
+    clock < octets::number_of_8_at(b, expiry)
+}
+
+// Whether a record has the key and is live. Most records fail at the key's first byte, before the expiry is read.
+fn is_live_of(b: &[u8], key: &[u8], expiry: usize, clock: u64) -> bool
+    requires { ⌜ (1 + length (now key) ≤ length (now b)) × (expiry + timeWidth ≤ length (now b)) ⌝ }
+    ensures { λ r. ⌜ r ≡ isLiveOf (now (key .entry)) expiry clock (now (b .entry)) ⌝ }
+{
+    if !has_key(b, key) {
+        return false;
+    }
+    clock < octets::number_of_8_at(b, expiry)
+}
+
+// The lowest place of a live record of the key, or count.
+pub fn live_place(
+    tables: &[u8],
+    at: usize,
+    width: usize,
+    count: usize,
+    expiry: usize,
+    key: &[u8],
+    clock: u64,
+) -> usize
+    requires { ⌜ (at + width * count ≤ length (now tables)) × (1 + length (now key) ≤ width) × (expiry + timeWidth ≤ width) ⌝ }
+    ensures { λ r. ⌜ r ≡ lowestRow (isLiveOf (now (key .entry)) expiry clock) at width count (now (tables .entry)) ⌝ }
+{
+    let mut i = 0;
+    while i < count {
+        if is_live_of(record_at(tables, at, width, i), key, expiry, clock) {
+            return i;
+        }
+        i += 1;
+    }
+    count
+}
+
+// The lowest place that is empty or expired, or count.
+pub fn free_place(
+    tables: &[u8],
+    at: usize,
+    width: usize,
+    count: usize,
+    expiry: usize,
+    clock: u64,
+) -> usize
+    requires { ⌜ (at + width * count ≤ length (now tables)) × (expiry + timeWidth ≤ width) ⌝ }
+    ensures { λ r. ⌜ r ≡ lowestRow (λ b. not (isLive expiry clock b)) at width count (now (tables .entry)) ⌝ }
+{
+    let mut i = 0;
+    while i < count {
+        if !is_live(record_at(tables, at, width, i), expiry, clock) {
+            return i;
+        }
+        i += 1;
+    }
+    count
+}
