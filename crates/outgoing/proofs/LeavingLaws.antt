@@ -1,0 +1,126 @@
+-- The laws of what leaves: how long it is, and the bytes that the code writes one after the other.
+use Prim.Native.Nat.{ℕ, _+_, _*_, _/_, _%_, _≤_, _<_}
+use native.Mathlib.Nat.{not-suc-le-zero, le-of-suc-le-suc}
+use native.Mathlib.Omega.{arith}
+use mathlib.Core.Bool.{true, false}
+use mathlib.Core.List.{List, [], _∷_, _++_, append-assoc}
+use mathlib.Core.Path.{_≡_, refl, sym, ap, _∙_}
+use lib.Dec.{eqb}
+use lib.ListN.{length, getD, set, length-drop, length-set}
+use borrow.Author.Tests.{eq-eqb, ne-eqb}
+use Rattle.octets.specs.Part.{patch}
+use Rattle.octets.proofs.Part.{patch-join}
+use Rattle.octets.proofs.Choice.{then-true, then-false}
+use Rattle.packet.specs.Header.{typeTwo}
+use Rattle.packet.specs.Read.{headerOf, noAddress, payloadStart, payload, reads}
+use Rattle.packet.specs.Write.{addresses, packetOf}
+use Rattle.packet.specs.declared.Parts.{Parts}
+use Rattle.packet.proofs.ReadLaws.{start-two, start-one, start-least, reads-readable, parts-hops}
+use Rattle.packet.proofs.WriteLaws.{Wide, packet-length}
+use Rattle.packet.proofs.Widths.{parts-wide}
+use Rattle.rules.specs.Outgoing.{rewritten, spreadHeader, pathPacket, carriedPacket}
+use Rattle.outgoing.specs.Leaving.{alone, rewrittenParts, spreadBytes, spreadLength, pathBytes, carriedBytes}
+
+-- ---- headers: modulo 16 a packet is of type 1, and spread it is of type 2
+last-hop-one : (header : ℕ) → typeTwo (header % 16) ≡ false
+unfolding typeTwo
+last-hop-one header =
+    let bit : header % 16 / 64 % 2 ≡ 0 = omega arith in
+    ap (λ (k : ℕ). eqb k 1) bit
+
+spread-header-two : (header : ℕ) → typeTwo (spreadHeader header) ≡ true
+unfolding typeTwo spreadHeader
+spread-header-two header =
+    let bit : (64 + header / 32 % 2 * 32 + 16 + header % 16) / 64 % 2 ≡ 1 = omega arith in
+    ap (λ (k : ℕ). eqb k 1) bit
+
+pub spread-start : (header : ℕ) → payloadStart (spreadHeader header) ≡ 35
+spread-start header = start-two (spreadHeader header) (spread-header-two header)
+
+-- ---- a packet that reads
+module _ (longest : ℕ) (p : List ℕ) (h : reads longest p ≡ true) where
+  pub whole : payloadStart (headerOf p) ≤ length p
+  whole = reads-readable longest p h .whole
+
+  pub long : 19 ≤ length p
+  long = omega (arith, start-least (headerOf p), whole)
+
+  body-length : payloadStart (headerOf p) + length (payload p) ≡ length p
+  unfolding payload
+  body-length = simp length-drop (omega (arith, whole))
+
+  -- under another header and relay address
+  module _ (header : ℕ) (relay : List ℕ) (wide : length relay ≡ 16) where
+    rewritten-wide : Wide (rewrittenParts header relay p)
+    rewritten-wide = record { relay = wide; destination = parts-wide p whole .destination }
+
+    pub rewritten-length : length (rewritten header relay (alone p)) ≡ payloadStart header + length (payload p)
+    unfolding rewritten
+    rewritten-length = packet-length (rewrittenParts header relay p) (payload p) rewritten-wide
+
+  -- spread
+  pub spread-length : (own : List ℕ) → length own ≡ 16 → length (spreadBytes own p) ≡ spreadLength p
+  unfolding spreadBytes spreadLength
+  spread-length own wide =
+      rewritten-length (spreadHeader (headerOf p)) own wide
+      ∙ ap (λ (k : ℕ). k + length (payload p)) (spread-start (headerOf p))
+
+  pub spread-result : (own : List ℕ) → length own ≡ 16 → (body : List ℕ) → body ≡ payload p → 35 + length body ≡ length (spreadBytes own p)
+  unfolding spreadLength
+  spread-result own wide body e = ap (λ (b : List ℕ). 35 + length b) e ∙ sym (spread-length own wide)
+
+  -- type 1 grows by 16 bytes, so that 484 bytes are the most that spread, and type 2 stays as long
+  pub spread-one : typeTwo (headerOf p) ≡ false → spreadLength p ≡ length p + 16
+  unfolding spreadLength
+  spread-one e = omega (arith, body-length, start-one (headerOf p) e)
+
+  pub spread-two : typeTwo (headerOf p) ≡ true → spreadLength p ≡ length p
+  unfolding spreadLength
+  spread-two e = omega (arith, body-length, start-two (headerOf p) e)
+
+  -- by a path: on the last hop a packet of type 2 loses the relay address, and otherwise it stays as long
+  pub path-room : (payloadStart (headerOf p % 16) + length (payload p) ≤ length p) × (payloadStart (headerOf p) + length (payload p) ≤ length p)
+  path-room =
+      (omega (arith, body-length, start-least (headerOf p), start-one (headerOf p % 16) (last-hop-one (headerOf p))), omega (arith, body-length))
+
+-- ---- what a path's hops decide
+module _ (hops : ℕ) (nextHop p : List ℕ) where
+  pub path-last : hops ≡ 0 → pathBytes hops nextHop p ≡ rewritten (headerOf p % 16) noAddress (alone p)
+  unfolding pathBytes pathPacket
+  path-last e = then-true _ _ (eq-eqb hops 0 e)
+
+  pub path-onward : (hops ≡ 0 → ⊥) → pathBytes hops nextHop p ≡ rewritten (headerOf p) nextHop (alone p)
+  unfolding pathBytes pathPacket
+  path-onward ne = then-false _ _ (ne-eqb hops 0 ne)
+
+-- ---- what the code writes
+-- a head, which is a packet without payload, and the payload behind it
+head-body : (q : Parts) (body : List ℕ) → packetOf q [] ++ body ≡ packetOf q body
+unfolding packetOf
+head-body q body = ap (λ (r : List ℕ). q .header ∷ q .hops ∷ r) (append-assoc (addresses q) (q .context ∷ []) body)
+
+module _ (longest : ℕ) (out own p : List ℕ) (h : reads longest p ≡ true) (wide : length own ≡ 16) (room : spreadLength p ≤ length out) where
+  pub spread-written : patch (patch out 0 (packetOf (rewrittenParts (spreadHeader (headerOf p)) own p) [])) 35 (payload p) ≡ patch out 0 (spreadBytes own p)
+  unfolding spreadBytes rewritten spreadLength
+  spread-written =
+      let q : Parts = rewrittenParts (spreadHeader (headerOf p)) own p in
+      let head : length (packetOf q []) ≡ 35 = packet-length q [] (rewritten-wide longest p h (spreadHeader (headerOf p)) own wide) ∙ ap (λ (k : ℕ). k + 0) (spread-start (headerOf p)) in
+      patch-join out 0 35 (packetOf q []) (payload p) (omega (arith, head)) room ∙ ap (patch out 0) (head-body q (payload p))
+
+-- a packet whose byte 1 is written over
+carry-over : (out p : List ℕ) (v : ℕ) → 1 < length p → patch (patch out 0 p) 1 (v ∷ []) ≡ patch out 0 (set p 1 v)
+unfolding patch
+carry-over out [] v l = absurd (not-suc-le-zero l)
+carry-over out (x ∷ []) v l = absurd (not-suc-le-zero (le-of-suc-le-suc l))
+carry-over out (x ∷ y ∷ p) v l = refl
+
+module _ (p : List ℕ) where
+  carried-is : carriedBytes p ≡ set p 1 (getD p 1 0 + 1)
+  unfolding carriedBytes carriedPacket
+  carried-is = ap (λ (k : ℕ). set p 1 (k + 1)) (parts-hops p)
+
+  pub carried-length : length (carriedBytes p) ≡ length p
+  carried-length = ap length carried-is ∙ length-set p 1 (getD p 1 0 + 1)
+
+  pub carried-written : (out : List ℕ) → 1 < length p → patch (patch out 0 p) 1 ((getD p 1 0 + 1) ∷ []) ≡ patch out 0 (carriedBytes p)
+  carried-written out l = carry-over out p (getD p 1 0 + 1) l ∙ ap (patch out 0) (sym carried-is)

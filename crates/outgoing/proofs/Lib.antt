@@ -1,0 +1,4 @@
+pub mod LeavingLaws
+pub mod RuleLaws
+pub mod FormLaws
+pub mod PortLaws

@@ -1,0 +1,35 @@
+use mathlib.Core.Path.{sym, ap, _∙_}
+use Rattle.outgoing.specs.Leaving.{alone}
+use Rattle.octets.proofs.Index.{and-yes, and-no}
+use Rattle.octets.proofs.Choice.{or-left, or-else}
+use Prim.Native.Nat.{ℕ}
+use mathlib.Core.Path.{_≡_}
+use mathlib.Core.List.{List}
+use mathlib.Core.Bool.{not}
+use lib.Dec.{eqb}
+use lib.ListN.{length}
+use borrow.Author.Tests.{eq-eqb, ne-eqb}
+use Rattle.packet.specs.Read.{payload}
+use Rattle.outgoing.proofs.FormLaws.{proof-length-clauses}
+use borrow.Author.Needs.{needs}
+use Rattle.outgoing.proofs.form.bad_link_proof.Statement.{statement}
+use Rattle.outgoing.proofs.form.bad_link_proof.Tie as tie
+
+is-link-proof-requires : tie.Need-is-link-proof-requires
+is-link-proof-requires c κs = search needs
+
+payload-requires : tie.Need-payload-requires
+payload-requires c κs = search needs
+
+returns : tie.Need-returns
+returns c = sym (proof-length-clauses (alone (c .before .before .before .before .before .args .packet .now)) ∙ and-yes _ (sym (c .before .before .before .is-link-proof .ensures) ∙ c .before .before .if1 .taken) ∙ ap not (or-left _ (eq-eqb (length (payload (c .before .before .before .before .before .args .packet .now))) 96 (sym (ap length (c .before .payload .ensures)) ∙ c .if2 .taken))))
+
+returns-2 : tie.Need-returns-2
+returns-2 c = ap (λ (b : List ℕ). not (eqb (length b) 99)) (c .before .payload .ensures) ∙ sym (proof-length-clauses (alone (c .before .before .before .before .before .args .packet .now)) ∙ and-yes _ (sym (c .before .before .before .is-link-proof .ensures) ∙ c .before .before .if1 .taken) ∙ ap not (or-else _ (ne-eqb (length (payload (c .before .before .before .before .before .args .packet .now))) 96 (λ (q : length (payload (c .before .before .before .before .before .args .packet .now)) ≡ 96). c .if2 .left (ap length (c .before .payload .ensures) ∙ q)))))
+
+returns-3 : tie.Need-returns-3
+returns-3 c = sym (proof-length-clauses (alone (c .before .before .before .args .packet .now)) ∙ and-no _ (sym (c .before .is-link-proof .ensures) ∙ c .if1 .left))
+
+pub bad-link-proof-spec : {M : Type 1} → statement M
+bad-link-proof-spec =
+    tie.close (tie.spec is-link-proof-requires payload-requires returns returns-2 returns-3)

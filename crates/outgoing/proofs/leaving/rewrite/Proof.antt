@@ -1,0 +1,51 @@
+use mathlib.Core.Path.{_≡_, sym, ap, ap₂, _∙_}
+use Prim.Native.Nat.{ℕ, _+_}
+use mathlib.Core.List.{List}
+use lib.ListN.{length}
+use Rattle.octets.specs.Part.{patch}
+use Rattle.packet.specs.Read.{payloadStart}
+use Rattle.packet.specs.Write.{packetOf}
+use Rattle.packet.specs.declared.Parts.{Parts}
+use Rattle.rules.specs.Outgoing.{rewritten}
+use Rattle.outgoing.proofs.LeavingLaws.{rewritten-length}
+use native.Mathlib.Omega.{arith}
+use borrow.Author.Needs.{needs}
+use Rattle.outgoing.proofs.leaving.rewrite.Statement.{statement}
+use Rattle.outgoing.proofs.leaving.rewrite.Tie as tie
+
+rewritten-parts-requires : tie.Need-rewritten-parts-requires
+rewritten-parts-requires c κs = search needs
+
+payload-requires : tie.Need-payload-requires
+payload-requires c κs = search needs
+
+write-packet-requires : tie.Need-write-packet-requires
+write-packet-requires c κs = omega (arith, ap (λ (q : Parts). payloadStart (q .header)) (c .before .before .rewritten-parts .ensures), ap length (c .before .payload .ensures), c .before .before .before .before .before .pre .1)
+
+payload-start-requires : tie.Need-payload-start-requires
+payload-start-requires c κs = search needs
+
+add-result : tie.Need-add-result
+add-result c = search needs
+
+same-length : tie.Need-same-length
+same-length c = search needs
+
+returns : tie.Need-returns
+unfolding rewritten
+returns c =
+    let a = c .before .before .before .before .before .before .before .before .before .args in
+    let wide : length (a .relay) ≡ 16 = search needs in
+    (ap₂ (λ (k : ℕ) (b : List ℕ). k + length b) (c .payload-start .ensures) (c .before .before .before .before .before .payload .ensures) ∙ sym (rewritten-length 500 (a .packet .now) (c .before .before .before .before .before .before .before .before .before .pre .0 .readable) (a .header) (a .relay) wide), c .before .before .before .write-packet .ensures ∙ ap₂ (λ (q : Parts) (b : List ℕ). patch (a .output .now) 0 (packetOf q b)) (c .before .before .before .before .before .before .rewritten-parts .ensures) (c .before .before .before .before .before .payload .ensures))
+
+pub rewrite-spec : {M : Type 1} → statement M
+rewrite-spec =
+    tie.close
+    (tie.spec
+    rewritten-parts-requires
+    payload-requires
+    write-packet-requires
+    payload-start-requires
+    add-result
+    same-length
+    returns)

@@ -1,0 +1,93 @@
+use mathlib.Core.Path.{_≡_, refl, ap, ap₂, _∙_}
+use Prim.Native.Nat.{ℕ, _+_, _-_}
+use mathlib.Core.List.{List, []}
+use lib.ListN.{length}
+use borrow.Rule.Slice.PartMut.{putMid}
+use Rattle.octets.specs.Part.{patch}
+use Rattle.octets.proofs.Part.{patch-range}
+use Rattle.packet.specs.Read.{headerOf, payloadStart}
+use Rattle.packet.specs.Write.{packetOf}
+use Rattle.packet.specs.declared.Parts.{Parts}
+use Rattle.outgoing.specs.Leaving.{rewrittenParts, spreadLength}
+use Rattle.outgoing.proofs.LeavingLaws.{long, spread-start, spread-result, spread-written}
+use native.Mathlib.Omega.{arith}
+use borrow.Author.Needs.{needs}
+use Rattle.outgoing.proofs.leaving.spread.Statement.{statement}
+use Rattle.outgoing.proofs.leaving.spread.Tie as tie
+
+shared-slice-read-spread-header : tie.Need-shared-slice-read-spread-header
+shared-slice-read-spread-header c = omega (arith, long 500 (c .before .before .before .args .packet .now) (c .before .before .before .pre .0 .readable))
+
+spread-header-requires : tie.Need-spread-header-requires
+spread-header-requires c κs = search needs
+
+rewritten-parts-requires : tie.Need-rewritten-parts-requires
+rewritten-parts-requires c κs = search needs
+
+sub-write-packet : tie.Need-sub-write-packet
+sub-write-packet c = search needs
+
+part-write-packet-start : tie.Need-part-write-packet-start
+part-write-packet-start c = search needs
+
+part-write-packet-end : tie.Need-part-write-packet-end
+part-write-packet-end c = search needs
+
+write-packet-requires : tie.Need-write-packet-requires
+unfolding spreadLength
+write-packet-requires c κs = omega (arith, ap (λ (q : Parts). payloadStart (q .header)) (c .before .before .rewritten-parts .ensures) ∙ ap payloadStart (c .before .before .before .spread-header .ensures) ∙ spread-start (headerOf (c .before .before .before .before .before .before .before .args .packet .now)), c .before .before .before .before .before .before .before .pre .1)
+
+payload-requires : tie.Need-payload-requires
+payload-requires c κs = search needs
+
+add-end : tie.Need-add-end
+add-end c = search needs
+
+sub-copy : tie.Need-sub-copy
+sub-copy c = search needs
+
+part-copy-start : tie.Need-part-copy-start
+part-copy-start c = search needs
+
+part-copy-end : tie.Need-part-copy-end
+unfolding spreadLength
+part-copy-end c = omega (arith, ap length (c .payload .ensures), c .before .before .before .write-packet .kept, c .before .before .before .before .before .before .before .before .before .before .before .pre .1)
+
+copy-requires : tie.Need-copy-requires
+copy-requires c κs = search needs
+
+same-length : tie.Need-same-length
+same-length c = search needs
+
+returns : tie.Need-returns
+returns c =
+    let a = c .before .before .before .before .before .before .before .before .before .before .before .before .before .before .before .args in
+    let wide : length (a .own) ≡ 16 = search needs in
+    let written : List ℕ = c .before .before .before .before .before .before .before .write-packet .last .1 .1 .0 in
+    let body : List ℕ = c .before .before .before .before .payload .result .now in (
+      spread-result 500 (a .packet .now) (c .before .before .before .before .before .before .before .before .before .before .before .before .before .before .before .pre .0 .readable) (a .own) wide body (c .before .before .before .before .payload .ensures),
+      ap (putMid 35 (35 + length body - 35) written) (c .before .before .copy .ensures)
+          ∙ patch-range written 35 (length body) body refl
+          ∙ ap₂ (λ (o b : List ℕ). patch o 35 b) (c .before .before .before .before .before .before .before .write-packet .ensures ∙ ap (λ (q : Parts). patch (a .output .now) 0 (packetOf q [])) (c .before .before .before .before .before .before .before .before .before .before .rewritten-parts .ensures ∙ ap (λ (h : ℕ). rewrittenParts h (a .own) (a .packet .now)) (c .before .before .before .before .before .before .before .before .before .before .before .spread-header .ensures))) (c .before .before .before .before .payload .ensures)
+          ∙ spread-written 500 (a .output .now) (a .own) (a .packet .now) (c .before .before .before .before .before .before .before .before .before .before .before .before .before .before .before .pre .0 .readable) wide (c .before .before .before .before .before .before .before .before .before .before .before .before .before .before .before .pre .1),
+    )
+
+pub spread-spec : {M : Type 1} → statement M
+spread-spec =
+    tie.close
+    (tie.spec
+    shared-slice-read-spread-header
+    spread-header-requires
+    rewritten-parts-requires
+    sub-write-packet
+    part-write-packet-start
+    part-write-packet-end
+    write-packet-requires
+    payload-requires
+    add-end
+    sub-copy
+    part-copy-start
+    part-copy-end
+    copy-requires
+    same-length
+    returns)

@@ -1,0 +1,90 @@
+// The packets that leave, written at the start of the output.
+use packet::Parts;
+ghost use mathlib.Core.Path.{_≡_};
+ghost use Prim.Native.Nat.{_+_, _≤_};
+ghost use lib.ListN.{length};
+ghost use Rattle.octets.specs.Part.{patch};
+ghost use Rattle.packet.specs.Read.{longestPacket, payloadStart, payload as payloadOf};
+ghost use Rattle.rules.specs.Outgoing.{spreadHeader, rewritten};
+ghost use Rattle.outgoing.specs.Leaving.{alone, Onward, rewrittenParts, spreadBytes, spreadLength, pathBytes, carriedBytes};
+
+// The header of a spread announce: bits 6 and 4 set, bit 5 and the low four as received.
+pub fn spread_header(header: u8) -> u8
+    ensures { λ r. ⌜ r ≡ spreadHeader header ⌝ }
+{
+    64 + header / 32 % 2 * 32 + 16 + header % 16
+}
+
+// The parts of a packet under another header and relay address, hops + 1.
+fn rewritten_parts(packet: &[u8], header: u8, relay: [u8; 16]) -> Parts
+    requires { ⌜ Onward (now packet) ⌝ }
+    ensures { λ r. ⌜ r ≡ rewrittenParts header relay (now (packet .entry)) ⌝ }
+{
+    let parts = packet::parts_of(packet);
+    let destination = parts.destination;
+    Parts {
+        header,
+        hops: parts.hops + 1,
+        relay,
+        destination,
+        context: parts.context,
+    }
+}
+
+// Writes a packet under another header and relay address, hops + 1, and says how long it is.
+fn rewrite(packet: &[u8], header: u8, relay: [u8; 16], output: &mut [u8]) -> usize
+    requires { ⌜ Onward (now packet) × (payloadStart header + length (payloadOf (now packet)) ≤ length (now output)) ⌝ }
+    ensures { λ r. ⌜ (r ≡ length (rewritten header relay (alone (now (packet .entry))))) × (now (output .exit) ≡ patch (now (output .entry)) 0 (rewritten header relay (alone (now (packet .entry))))) ⌝ }
+{
+    let parts = rewritten_parts(packet, header, relay);
+    let body = packet::payload(packet);
+    packet::write_packet(parts, body, output);
+    packet::payload_start(header) + body.len()
+}
+
+// How long an announce is once spread.
+pub fn spread_length(packet: &[u8]) -> usize
+    ensures { λ r. ⌜ r ≡ spreadLength (now (packet .entry)) ⌝ }
+{
+    35 + packet::payload(packet).len()
+}
+
+// Spreads an announce: the head, which is a packet without payload, and behind it, from byte 35 on, the payload.
+pub fn spread(packet: &[u8], own: [u8; 16], output: &mut [u8]) -> usize
+    requires { ⌜ Onward (now packet) × (spreadLength (now packet) ≤ length (now output)) ⌝ }
+    ensures { λ r. ⌜ (r ≡ length (spreadBytes own (now (packet .entry)))) × (now (output .exit) ≡ patch (now (output .entry)) 0 (spreadBytes own (now (packet .entry)))) ⌝ }
+{
+    let head = rewritten_parts(packet, spread_header(packet[0]), own);
+    packet::write_packet(head, &packet[0..0], output);
+    let body = packet::payload(packet);
+    let end = 35 + body.len();
+    octets::copy(&mut output[35..end], body);
+    end
+}
+
+// Forwards by a path. Stored hops 0: as type 1, header modulo 16. Otherwise type 2, header kept, relay address = next hop.
+pub fn forward_by_path(
+    packet: &[u8],
+    stored_hops: u8,
+    next_hop: [u8; 16],
+    output: &mut [u8],
+) -> usize
+    requires { ⌜ Onward (now packet) × (longestPacket ≤ length (now output)) ⌝ }
+    ensures { λ r. ⌜ (r ≡ length (pathBytes «stored_hops» «next_hop» (now (packet .entry)))) × (now (output .exit) ≡ patch (now (output .entry)) 0 (pathBytes «stored_hops» «next_hop» (now (packet .entry)))) ⌝ }
+{
+    let header = packet[0];
+    if stored_hops == 0 {
+        return rewrite(packet, header % 16, [0u8; 16], output);
+    }
+    rewrite(packet, header, next_hop, output)
+}
+
+// Forwards a link packet or a proof: hops + 1 and otherwise unchanged.
+pub fn carry(packet: &[u8], output: &mut [u8]) -> usize
+    requires { ⌜ Onward (now packet) × (longestPacket ≤ length (now output)) ⌝ }
+    ensures { λ r. ⌜ (r ≡ length (carriedBytes (now (packet .entry)))) × (now (output .exit) ≡ patch (now (output .entry)) 0 (carriedBytes (now (packet .entry)))) ⌝ }
+{
+    octets::copy_at(output, 0, packet);
+    octets::set_at(output, 1, packet[1] + 1);
+    packet.len()
+}
