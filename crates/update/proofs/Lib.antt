@@ -1,0 +1,5 @@
+pub mod Pieces
+pub mod PathWrites
+pub mod Sweep
+pub mod Steps
+pub mod Enacted

@@ -1,0 +1,42 @@
+use mathlib.Core.Path.{_≡_}
+use lib.ListN.{length}
+use Rattle.update.proofs.PathWrites.{one-pieces}
+use borrow.Author.Needs.{needs}
+use Rattle.update.proofs.blobs.one_blob.Statement.{statement}
+use Rattle.update.proofs.blobs.one_blob.Tie as tie
+
+set-at-requires : tie.Need-set-at-requires
+set-at-requires c κs = search needs
+
+slice-aggregate-copy-at : tie.Need-slice-aggregate-copy-at
+slice-aggregate-copy-at c = search needs
+
+copy-at-requires : tie.Need-copy-at-requires
+copy-at-requires c κs = search needs
+
+slice-aggregate-copy-at-2 : tie.Need-slice-aggregate-copy-at-2
+slice-aggregate-copy-at-2 c = search needs
+
+copy-at-requires-2 : tie.Need-copy-at-requires-2
+copy-at-requires-2 c κs = search needs
+
+same-length : tie.Need-same-length
+same-length c = search needs
+
+returns : tie.Need-returns
+returns c =
+    let a = c .before .before .before .before .before .before .before .before .before .before .before .before .before .before .before .args in
+    let wide : length (a .t2) ≡ 10 = search needs in
+    one-pieces (a .s .now) _ _ _ (a .t2) (c .before .before .before .before .before .before .before .before .before .before .before .before .before .before .before .pre) wide (c .before .before .before .before .before .before .before .before .before .before .before .before .set-at .ensures) (c .before .before .before .before .before .before .before .copy-at .ensures) (c .before .before .copy-at2 .ensures)
+
+pub one-blob-spec : {M : Type 1} → statement M
+one-blob-spec =
+    tie.close
+    (tie.spec
+    set-at-requires
+    slice-aggregate-copy-at
+    copy-at-requires
+    slice-aggregate-copy-at-2
+    copy-at-requires-2
+    same-length
+    returns)

@@ -1,0 +1,85 @@
+use Prim.Native.Nat.{ℕ, _+_, _*_, _%_}
+use mathlib.Core.Path.{_≡_, ap, _∙_}
+use mathlib.Core.List.{List}
+use lib.ListN.{length}
+use Rattle.octets.specs.Part.{patch}
+use Rattle.octets.specs.BigEndian.{bigEndian}
+use Rattle.rules.specs.Numbers.{returnCount}
+use Rattle.tables.specs.Places.{ringWidth, returnNextAt, returnsAt, returnWidth}
+use Rattle.update.specs.Written.{returnWritten}
+use Rattle.update.proofs.Pieces.{return-pieces}
+use native.Mathlib.Omega.{arith}
+use borrow.Author.Needs.{needs}
+use Rattle.update.proofs.returns.put_return.Statement.{statement}
+use Rattle.update.proofs.returns.put_return.Tie as tie
+
+mul-at : tie.Need-mul-at
+mul-at c = search needs
+
+add-at : tie.Need-add-at
+add-at c = search needs
+
+set-at-requires : tie.Need-set-at-requires
+set-at-requires c κs = search needs
+
+add-copy-at : tie.Need-add-copy-at
+add-copy-at c = search needs
+
+slice-aggregate-copy-at : tie.Need-slice-aggregate-copy-at
+slice-aggregate-copy-at c = search needs
+
+copy-at-requires : tie.Need-copy-at-requires
+copy-at-requires c κs = search needs
+
+add-copy-at-2 : tie.Need-add-copy-at-2
+add-copy-at-2 c = search needs
+
+slice-aggregate-copy-at-2 : tie.Need-slice-aggregate-copy-at-2
+slice-aggregate-copy-at-2 c = search needs
+
+copy-at-requires-2 : tie.Need-copy-at-requires-2
+copy-at-requires-2 c κs = search needs
+
+add-write-number-at : tie.Need-add-write-number-at
+add-write-number-at c = search needs
+
+write-number-at-requires : tie.Need-write-number-at-requires
+write-number-at-requires c κs = search needs
+
+add-next : tie.Need-add-next
+add-next c = search needs
+
+write-number-at-requires-2 : tie.Need-write-number-at-requires-2
+write-number-at-requires-2 c κs = search needs
+
+same-length : tie.Need-same-length
+same-length c = search needs
+
+returns : tie.Need-returns
+unfolding returnWritten
+returns c =
+    let a = c .before .before .before .before .before .before .before .before .before .before .before .before .before .before .before .before .before .before .before .before .before .before .before .args in
+    let wide : length (a .t3) ≡ 16 = search needs in
+    c .before .before .write-number-at2 .ensures
+    ∙ ap (λ (r : List ℕ). patch r returnNextAt (bigEndian ringWidth ((a .place + 1) % returnCount)))
+    (return-pieces (a .tables .now) (returnsAt + returnWidth * a .place) _ _ _ _ (record { key = a .t3; arrival = a .arrival; leaving = a .leaving; expiry = a .expiry }) wide (omega (arith, c .before .before .before .before .before .before .before .before .before .before .before .before .before .before .before .before .before .before .before .before .before .before .before .pre .0, c .before .before .before .before .before .before .before .before .before .before .before .before .before .before .before .before .before .before .before .before .before .before .before .pre .1)) (c .before .before .before .before .before .before .before .before .before .before .before .before .before .before .before .before .before .before .before .before .set-at .ensures) (c .before .before .before .before .before .before .before .before .before .before .before .before .before .before .before .copy-at .ensures) (c .before .before .before .before .before .before .before .before .before .before .copy-at2 .ensures) (c .before .before .before .before .before .before .write-number-at .ensures))
+
+pub put-return-spec : {M : Type 1} → statement M
+put-return-spec =
+    tie.close
+    (tie.spec
+    mul-at
+    add-at
+    set-at-requires
+    add-copy-at
+    slice-aggregate-copy-at
+    copy-at-requires
+    add-copy-at-2
+    slice-aggregate-copy-at-2
+    copy-at-requires-2
+    add-write-number-at
+    write-number-at-requires
+    add-next
+    write-number-at-requires-2
+    same-length
+    returns)

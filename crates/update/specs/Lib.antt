@@ -1,0 +1,2 @@
+-- What the writes of an accepted packet leave in the tables' bytes.
+pub mod Written

@@ -1,0 +1,87 @@
+-- What each write leaves in the tables' bytes t: a record over the one at its place, and what goes with it.
+use Prim.Native.Nat.{ℕ, _+_, _-_, _*_, _%_}
+use mathlib.Core.List.{List, _∷_, _++_}
+use lib.ListN.{getD}
+use Rattle.octets.specs.Index.{listOf}
+use Rattle.octets.specs.Choice.{_then_otherwise_}
+use Rattle.octets.specs.Part.{part, patch}
+use Rattle.octets.specs.BigEndian.{bigEndian}
+use Rattle.rules.specs.Numbers.{blobLimit, returnCount, hashCount}
+use Rattle.rules.specs.Relay.{empty, used, Blobs, Path, Return, Remembered, holds, withReturns}
+use Rattle.rules.specs.View.{isLiveReturn}
+use Rattle.rules.specs.Writes.{emptiedWhere}
+use Rattle.rules.specs.declared.Link.{Link}
+use Rattle.tables.specs.Places.{addressWidth, timeWidth, ringWidth, blobWidth, pathWidth, linkWidth, returnWidth, hashWidth, clockAt, pathsAt, linksAt, returnNextAt, returnsAt, hashNextAt, hashesAt}
+use Rattle.tables.specs.Records.{exactly, slotOf, slotBytes, pathBytes, linkBytes, returnOf, returnBytes, rememberedBytes}
+use Rattle.tables.specs.Layout.{rowAt, relayOf, bytesOf}
+use Rattle.update.specs.declared.Announced.{Announced}
+
+unfoldable pub clockWritten : List ℕ → ℕ → List ℕ
+clockWritten t clock = patch t clockAt (bigEndian timeWidth clock)
+
+-- ---- a hash at a place of the ring, which moves on
+unfoldable pub hashWritten : List ℕ → ℕ → Remembered → List ℕ
+hashWritten t place m =
+    patch (patch t (hashesAt + hashWidth * place) (slotBytes hashWidth rememberedBytes (used m)))
+    hashNextAt (bigEndian ringWidth ((place + 1) % hashCount))
+
+-- ---- a path
+unfoldable pub pathWritten : List ℕ → ℕ → Path → List ℕ
+pathWritten t place p = patch t (pathsAt + pathWidth * place) (slotBytes pathWidth pathBytes (used p))
+
+-- the path of an announce, with these blobs
+unfoldable pub announced : Announced → Blobs → Path
+announced x blobs =
+    record {
+      destination = x .destination;
+      port = x .port;
+      hops = x .hops;
+      nextHop = x .«next_hop»;
+      expiry = x .expiry;
+      blobs = blobs;
+    }
+
+-- a record's bytes before its blobs
+abbrev pub headWidth : ℕ
+headWidth = 1 + addressWidth + 2 + addressWidth + timeWidth
+
+unfoldable pub headBytes : Announced → List ℕ
+headBytes x =
+    1
+    ∷ (exactly addressWidth (x .destination)
+    ++ (x .port ∷ x .hops ∷ (exactly addressWidth (x .«next_hop») ++ bigEndian timeWidth (x .expiry))))
+
+-- its blobs' bytes: the count, then the places
+abbrev pub blobsWidth : ℕ
+blobsWidth = 1 + blobWidth * blobLimit
+
+-- .. and of the places behind the oldest
+abbrev pub newerWidth : ℕ
+newerWidth = blobWidth * (blobLimit - 1)
+
+-- the blobs that these bytes hold
+unfoldable pub blobsIn : List ℕ → Blobs
+blobsIn s = record { count = getD s 0 0; places = listOf (λ i. part s (1 + blobWidth * i) blobWidth) blobLimit }
+
+-- ---- a link
+unfoldable pub linkWritten : List ℕ → ℕ → Link → List ℕ
+linkWritten t place l = patch t (linksAt + linkWidth * place) (slotBytes linkWidth linkBytes (used l))
+
+-- ---- a return record at a place of the ring, which moves on
+unfoldable pub returnWritten : List ℕ → ℕ → Return → List ℕ
+returnWritten t place x =
+    patch (patch t (returnsAt + returnWidth * place) (slotBytes returnWidth returnBytes (used x)))
+    returnNextAt (bigEndian ringWidth ((place + 1) % returnCount))
+
+-- an emptied one is all zeros
+unfoldable pub returnEmptied : List ℕ → ℕ → List ℕ
+returnEmptied t place = patch t (returnsAt + returnWidth * place) (slotBytes returnWidth returnBytes empty)
+
+-- .. where it is a live one of the key
+unfoldable pub emptiedIfLive : ℕ → List ℕ → List ℕ → ℕ → List ℕ
+emptiedIfLive clock key t place =
+    holds (isLiveReturn clock key) (slotOf returnOf (rowAt returnsAt returnWidth t place)) then returnEmptied t place otherwise t
+
+-- every live one of the key emptied
+unfoldable pub returnsEmptied : ℕ → List ℕ → List ℕ → List ℕ
+returnsEmptied clock key t = bytesOf (withReturns (emptiedWhere (isLiveReturn clock key) (relayOf t .returns)) (relayOf t))

@@ -1,0 +1,47 @@
+// The links.
+use rules::Link;
+use tables::places::LINK_WIDTH;
+use tables::places::LINKS_AT;
+use tables::places::TIME_WIDTH;
+ghost use mathlib.Core.Path.{_≡_};
+ghost use Prim.Native.Nat.{_<_};
+ghost use lib.ListN.{length};
+ghost use Rattle.rules.specs.Numbers.{linkCount};
+ghost use Rattle.tables.specs.Places.{tableSize};
+ghost use Rattle.tables.specs.Records.{markOf};
+ghost use Rattle.update.specs.Written.{linkWritten};
+
+// Where a record's fields stand behind its mark: the id; ports, hops and the proved mark; the expiry.
+const ID_AT: usize = 1;
+
+const PORTS_AT: usize = 17;
+
+const EXPIRY_AT: usize = 22;
+
+fn mark(answer: bool) -> u8
+    ensures { λ r. ⌜ r ≡ markOf answer ⌝ }
+{
+    if answer { 1 } else { 0 }
+}
+
+// Puts a link at a place.
+pub fn put_link(tables: &mut [u8], place: usize, link: Link)
+    requires { ⌜ (length (now tables) ≡ tableSize) × (place < linkCount) ⌝ }
+    ensures { λ _. ⌜ now (tables .exit) ≡ linkWritten (now (tables .entry)) place link ⌝ }
+{
+    let at = LINKS_AT + LINK_WIDTH * place;
+    let id = link.id;
+    let taken = link.taken;
+    let remaining = link.remaining;
+    let between = [
+        link.asking,
+        link.answering,
+        taken.0,
+        remaining.0,
+        mark(link.proved),
+    ];
+    octets::set_at(tables, at, 1);
+    octets::copy_at(tables, at + ID_AT, &id);
+    octets::copy_at(tables, at + PORTS_AT, &between);
+    octets::write_number_at(tables, at + EXPIRY_AT, TIME_WIDTH, link.expiry);
+}

@@ -1,0 +1,67 @@
+// The paths.
+use super::Announced;
+use super::blobs::add_blob;
+use super::blobs::one_blob;
+use tables::places::PATH_WIDTH;
+use tables::places::PATHS_AT;
+use tables::places::TIME_WIDTH;
+ghost use mathlib.Core.Path.{_≡_};
+ghost use Prim.Native.Nat.{_+_, _≤_, _<_};
+ghost use lib.ListN.{length};
+ghost use Rattle.octets.specs.Part.{patch};
+ghost use Rattle.rules.specs.Numbers.{blobLimit, pathCount};
+ghost use Rattle.rules.specs.Blobs.{oneBlob, addBlob};
+ghost use Rattle.tables.specs.Places.{tableSize, pathsAt, pathWidth};
+ghost use Rattle.tables.specs.Records.{blobsOf};
+ghost use Rattle.tables.specs.Layout.{rowAt};
+ghost use Rattle.update.specs.Written.{headWidth, headBytes, announced, pathWritten};
+
+// Where a record's fields stand behind its mark, and how wide its blobs are.
+const DESTINATION_AT: usize = 1;
+
+const PORT_AT: usize = 17;
+
+const NEXT_HOP_AT: usize = 19;
+
+const EXPIRY_AT: usize = 35;
+
+const BLOBS_AT: usize = EXPIRY_AT + TIME_WIDTH;
+
+const BLOBS_WIDTH: usize = PATH_WIDTH - BLOBS_AT;
+
+// Writes what stands before a record's blobs.
+fn put_head(tables: &mut [u8], at: usize, path: Announced)
+    requires { ⌜ at + headWidth ≤ length (now tables) ⌝ }
+    ensures { λ _. ⌜ now (tables .exit) ≡ patch (now (tables .entry)) at (headBytes path) ⌝ }
+{
+    let destination = path.destination;
+    let port_and_hops = [path.port, path.hops];
+    let next_hop = path.next_hop;
+    octets::set_at(tables, at, 1);
+    octets::copy_at(tables, at + DESTINATION_AT, &destination);
+    octets::copy_at(tables, at + PORT_AT, &port_and_hops);
+    octets::copy_at(tables, at + NEXT_HOP_AT, &next_hop);
+    octets::write_number_at(tables, at + EXPIRY_AT, TIME_WIDTH, path.expiry);
+}
+
+// Puts a new path at a place, spare blob places zero.
+pub fn put_new_path(tables: &mut [u8], place: usize, path: Announced, blob: [u8; 10])
+    requires { ⌜ (length (now tables) ≡ tableSize) × (place < pathCount) ⌝ }
+    ensures { λ _. ⌜ now (tables .exit) ≡ pathWritten (now (tables .entry)) place (announced path (oneBlob blobLimit blob)) ⌝ }
+{
+    let at = PATHS_AT + PATH_WIDTH * place;
+    put_head(tables, at, path);
+    let from = at + BLOBS_AT;
+    one_blob(&mut tables[from..from + BLOBS_WIDTH], blob);
+}
+
+// Puts a known path, which keeps its place, with a blob added to those that the record holds.
+pub fn put_known_path(tables: &mut [u8], place: usize, path: Announced, blob: [u8; 10])
+    requires { ⌜ (length (now tables) ≡ tableSize) × (place < pathCount) ⌝ }
+    ensures { λ _. ⌜ now (tables .exit) ≡ pathWritten (now (tables .entry)) place (announced path (addBlob blobLimit blob (blobsOf (rowAt pathsAt pathWidth (now (tables .entry)) place)))) ⌝ }
+{
+    let at = PATHS_AT + PATH_WIDTH * place;
+    put_head(tables, at, path);
+    let from = at + BLOBS_AT;
+    add_blob(&mut tables[from..from + BLOBS_WIDTH], blob);
+}
