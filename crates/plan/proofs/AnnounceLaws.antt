@@ -1,0 +1,139 @@
+-- An announce: tests 9, 10, 11 and 13 are all that can hold of it.
+use Prim.Native.Nat.{ℕ, _≤_, _<_}
+use native.Mathlib.Omega.{arith}
+use mathlib.Core.Bool.{Bool, true, false, not}
+use mathlib.Core.Path.{_≡_, refl, sym, ap, _∙_}
+use mathlib.Core.List.{List}
+use lib.Dec.{leb}
+use lib.ListN.{getD}
+use borrow.Author.Tests.{lt-ltb, le-ltb, le-leb, lt-leb}
+use Rattle.octets.specs.Index.{_and_}
+use Rattle.octets.specs.Choice.{_or_, _then_otherwise_}
+use Rattle.octets.proofs.Choice.{then-true, then-false}
+use Rattle.octets.proofs.Index.{and-no, and-yes}
+use Rattle.packet.specs.Header.{packetKind, isAnnounce, isLinkRequest}
+use Rattle.packet.specs.Announce.{emissionOf}
+use Rattle.packet.proofs.ReadLaws.{parts-hops}
+use Rattle.rules.specs.Relay.{Slot, empty, used, Path, Relay}
+use Rattle.rules.specs.View.{View, pathPlace, freePath, viewAt}
+use Rattle.rules.specs.Arrival.{Arrival, header, hops, destination, blob, isLinkProof}
+use Rattle.rules.specs.Ways.{Way, everywhere, wayOn}
+use Rattle.rules.specs.Tests.{isThere, noWayOn, alreadyKnown, wrongSide, notSigned, replay, notBetter, portOff, noRoom}
+use Rattle.rules.specs.Outgoing.{grownTooLong}
+use Rattle.rules.specs.Judging.{dropped, follows, onwardPlan}
+use Rattle.rules.specs.Writes.{announcedPlace}
+use Rattle.rules.specs.declared.Reason.the-variants.{NotSigned, Replay, NotBetter, NoRoom}
+use Rattle.rules.specs.Numbers.{pathCount}
+use Rattle.rules.specs.Blobs.{held, isAmong, greatestEmission}
+use Rattle.tables.specs.Places.{pathsAt, pathWidth}
+use Rattle.tables.specs.Records.{pathOf}
+use Rattle.tables.specs.Layout.{rowAt, relayOf}
+use Rattle.lookup.proofs.Found.{path-found, path-missing}
+use Rattle.plan.specs.Decided.{decidedWay, decided, onward}
+use Rattle.plan.specs.Kinds.{newPath, knownPath}
+use Rattle.plan.specs.declared.Decision.the-variants.{Drop, Announce}
+use Rattle.plan.proofs.KindLaws.{other-kind, no-link-proof, decided-test}
+
+module _ (a : Arrival) (is : isAnnounce (header a) ≡ true) where
+  no-request : isLinkRequest (header a) ≡ false
+  no-request = other-kind (packetKind (header a)) 1 2 is refl
+
+  no-proof : isLinkProof a ≡ false
+  no-proof = no-link-proof a (other-kind (packetKind (header a)) 1 3 is refl)
+
+  announce-plan : (v : View) (known : Slot Path) → onwardPlan v a (everywhere known)
+      ≡ (not (a .signed) then dropped NotSigned otherwise
+      replay a (everywhere known) then dropped Replay otherwise
+      notBetter a (everywhere known) then dropped NotBetter otherwise
+      noRoom v a (everywhere known) then dropped NoRoom otherwise
+      follows (everywhere known))
+  unfolding onwardPlan noWayOn alreadyKnown wrongSide notSigned portOff grownTooLong _then_otherwise_ _and_ _or_
+  announce-plan v known = rw (no-request, no-proof, is)
+
+  announce-onward : (r : Relay) (known : Slot Path) → viewAt (a .clock) r .path (destination a) ≡ known
+      → onward r a
+      ≡ (not (a .signed) then Drop NotSigned otherwise
+      replay a (everywhere known) then Drop Replay otherwise
+      notBetter a (everywhere known) then Drop NotBetter otherwise
+      noRoom (viewAt (a .clock) r) a (everywhere known) then Drop NoRoom otherwise
+      Announce (announcedPlace a known r) (isThere known))
+  unfolding onward wayOn decided decidedWay
+  announce-onward r known e =
+      let v : View = viewAt (a .clock) r in
+      ap (λ (w : Way). decided r a (onwardPlan v a w)) (then-true _ _ is ∙ ap everywhere e)
+      ∙ ap (decided r a) (announce-plan v known)
+      ∙ simp decided-test
+
+  module _ (r : Relay) where
+    pub announce-unsigned : a .signed ≡ false → Drop NotSigned ≡ onward r a
+    unfolding _then_otherwise_
+    announce-unsigned e = sym (announce-onward r _ refl ∙ rw e)
+
+    announce-new : a .signed ≡ true → viewAt (a .clock) r .path (destination a) ≡ empty → newPath (a .clock) r ≡ onward r a
+    unfolding newPath replay notBetter noRoom viewAt isThere announcedPlace _then_otherwise_
+    announce-new e none = sym (announce-onward r empty none ∙ rw e)
+
+    announce-known : a .signed ≡ true → (p : Path) → viewAt (a .clock) r .path (destination a) ≡ used p
+        → knownPath a p (pathPlace (a .clock) r (destination a)) ≡ onward r a
+    unfolding knownPath noRoom isThere announcedPlace _then_otherwise_
+    announce-known e p there = sym (announce-onward r (used p) there ∙ rw e)
+
+-- ---- on tables, where the search for the path gave place i
+module _ (t : List ℕ) (a : Arrival) (is : isAnnounce (header a) ≡ true) (signed : a .signed ≡ true)
+    {i : ℕ} (e : i ≡ pathPlace (a .clock) (relayOf t) (destination a)) where
+  pub announce-at : i < pathCount → knownPath a (pathOf (rowAt pathsAt pathWidth t i)) i ≡ onward (relayOf t) a
+  announce-at l =
+      ap (knownPath a (pathOf (rowAt pathsAt pathWidth t i))) e
+      ∙ announce-known a is (relayOf t) signed (pathOf (rowAt pathsAt pathWidth t i)) (path-found t (a .clock) (destination a) i e l)
+
+  pub announce-nowhere : pathCount ≤ i → newPath (a .clock) (relayOf t) ≡ onward (relayOf t) a
+  announce-nowhere l = announce-new a is (relayOf t) signed (path-missing t (a .clock) (destination a) i e l)
+
+-- ---- a new path, by the lowest free place
+module _ (clock : ℕ) (r : Relay) {place : ℕ} (e : place ≡ freePath clock r) where
+  pub new-room : place < pathCount → Announce place false ≡ newPath clock r
+  unfolding newPath
+  new-room l =
+      ap (λ (k : ℕ). Announce k false) e
+      ∙ sym (then-false _ _ (ap not (lt-ltb (freePath clock r) pathCount (omega (arith, e, l)))))
+
+  pub new-full : pathCount ≤ place → Drop NoRoom ≡ newPath clock r
+  unfolding newPath
+  new-full l = sym (then-true _ _ (ap not (le-ltb (freePath clock r) pathCount (omega (arith, e, l)))))
+
+-- ---- a known path, by what was read of the announce and of the path
+module _ (a : Arrival) (p : Path) (place : ℕ) {b : List ℕ} (read : b ≡ blob a) where
+  pub known-replay : isAmong b (held (p .blobs)) ≡ true → Drop Replay ≡ knownPath a p place
+  unfolding knownPath replay
+  known-replay old = sym (then-true _ _ (ap (λ (x : List ℕ). isAmong x (held (p .blobs))) (sym read) ∙ old))
+
+  module _ (new : isAmong b (held (p .blobs)) ≡ false) {emission greatest : ℕ}
+      (e : emission ≡ emissionOf b) (g : greatest ≡ greatestEmission (held (p .blobs))) where
+    known-by : (worse : Bool) → (leb (emissionOf (blob a)) (greatestEmission (held (p .blobs))) and leb (p .hops) (hops a)) ≡ worse
+        → knownPath a p place ≡ (worse then Drop NotBetter otherwise Announce place true)
+    unfolding knownPath replay notBetter
+    known-by worse q =
+        then-false _ _ (ap (λ (x : List ℕ). isAmong x (held (p .blobs))) (sym read) ∙ new)
+        ∙ ap (λ (x : Bool). x then Drop NotBetter otherwise Announce place true) q
+
+    emitted : emission ≡ emissionOf (blob a)
+    emitted = e ∙ ap emissionOf read
+
+    pub known-newer : greatest < emission → Announce place true ≡ knownPath a p place
+    unfolding _then_otherwise_
+    known-newer l =
+        sym (known-by false (and-no _ (lt-leb (emissionOf (blob a)) (greatestEmission (held (p .blobs))) (omega (arith, l, emitted, g)))))
+
+    module _ (l : emission ≤ greatest) {stored : ℕ} (s : stored ≡ p .hops) where
+      older : leb (emissionOf (blob a)) (greatestEmission (held (p .blobs))) ≡ true
+      older = le-leb (emissionOf (blob a)) (greatestEmission (held (p .blobs))) (omega (arith, l, emitted, g))
+
+      pub known-nearer : getD (a .bytes) 1 0 < stored → Announce place true ≡ knownPath a p place
+      unfolding _then_otherwise_
+      known-nearer n =
+          sym (known-by false (and-yes _ older ∙ lt-leb (p .hops) (hops a) (omega (arith, n, s, parts-hops (a .bytes)))))
+
+      pub known-worse : stored ≤ getD (a .bytes) 1 0 → Drop NotBetter ≡ knownPath a p place
+      unfolding _then_otherwise_
+      known-worse n =
+          sym (known-by true (and-yes _ older ∙ le-leb (p .hops) (hops a) (omega (arith, n, s, parts-hops (a .bytes)))))

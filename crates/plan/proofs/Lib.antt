@@ -1,0 +1,6 @@
+pub mod KindLaws
+pub mod FirstLaws
+pub mod AnnounceLaws
+pub mod PathLaws
+pub mod LinkLaws
+pub mod ReturnLaws

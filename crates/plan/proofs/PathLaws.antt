@@ -1,0 +1,149 @@
+-- Data and link requests: tests 6, 7, 12 and 13 are all that can hold of them.
+use Prim.Native.Nat.{ℕ, _+_, _*_, _≤_, _<_}
+use native.Mathlib.Omega.{arith}
+use mathlib.Core.Bool.{true, false, not}
+use mathlib.Core.Path.{_≡_, refl, sym, ap, _∙_}
+use mathlib.Core.List.{List}
+use lib.ListN.{length}
+use borrow.Author.Tests.{lt-ltb, le-ltb}
+use Rattle.octets.specs.Index.{_and_}
+use Rattle.octets.specs.Choice.{_or_, _then_otherwise_}
+use Rattle.octets.proofs.Choice.{then-true, then-false}
+use Rattle.octets.proofs.Part.{part-length}
+use Rattle.packet.specs.Header.{packetKind, typeTwo, ofKindLink, isData, isAnnounce, isLinkRequest, isProof}
+use Rattle.packet.specs.Read.{longestPacket, reads}
+use Rattle.packet.specs.Hash.{linkId}
+use Rattle.rules.specs.Numbers.{linkCount, pathCount}
+use Rattle.rules.specs.Relay.{empty, used, Path, Relay}
+use Rattle.rules.specs.View.{View, pathPlace, linkPlace, freeLink, viewAt, portOn}
+use Rattle.rules.specs.Arrival.{Arrival, header, destination, isLinkProof}
+use Rattle.rules.specs.Ways.{Way, by-path, blocked, not-asking, no-path, pathWay, wayOn}
+use Rattle.rules.specs.Tests.{isThere, noWayOn, alreadyKnown, wrongSide, notSigned, replay, notBetter, leavingPort, portOff, noRoom}
+use Rattle.rules.specs.Outgoing.{grownTooLong}
+use Rattle.rules.specs.Judging.{dropped, follows, onwardPlan}
+use Rattle.rules.specs.declared.Reason.the-variants.{NoWayOn, AlreadyKnown, PortOff, NoRoom}
+use Rattle.tables.specs.Places.{pathsAt, pathWidth, tableSize}
+use Rattle.tables.specs.Records.{pathOf}
+use Rattle.tables.specs.Layout.{rowAt, relayOf}
+use Rattle.lookup.proofs.Found.{path-found, path-missing, link-found, link-missing}
+use Rattle.outgoing.proofs.RuleLaws.{never-grown}
+use Rattle.plan.specs.Decided.{decidedWay, decided, onward}
+use Rattle.plan.specs.Kinds.{leaving, sending, requesting}
+use Rattle.plan.specs.declared.Decision.the-variants.{Drop, Data, Request}
+use Rattle.plan.proofs.KindLaws.{other-kind, request-left, no-link-proof, or-false, decided-test, leaves, stays}
+
+module _ (a : Arrival) (announce : isAnnounce (header a) ≡ false) (link : ofKindLink (header a) ≡ false) (proof : isProof (header a) ≡ false) where
+  no-proof : isLinkProof a ≡ false
+  no-proof = no-link-proof a proof
+
+  path-way : (v : View) → wayOn v a ≡ (not (typeTwo (header a)) then blocked not-asking otherwise pathWay (v .path (destination a)))
+  unfolding wayOn
+  path-way v = then-false _ _ announce ∙ then-false _ _ link ∙ then-false _ _ proof
+
+  path-plan : (v : View) (p : Path) → grownTooLong a (by-path p) ≡ false → onwardPlan v a (by-path p)
+      ≡ (isLinkRequest (header a) and isThere (v .link (linkId (a .bytes))) then dropped AlreadyKnown otherwise
+      not (v .on (p .port)) then dropped PortOff otherwise
+      isLinkRequest (header a) and not (v .roomForLink) then dropped NoRoom otherwise
+      follows (by-path p))
+  unfolding onwardPlan noWayOn alreadyKnown wrongSide notSigned replay notBetter leavingPort portOff noRoom _then_otherwise_ _and_ _or_
+  path-plan v p fits = rw (no-proof, or-false (isLinkRequest (header a) and isThere (v .link (linkId (a .bytes)))), announce, fits)
+
+  module _ (r : Relay) where
+    pub path-not-asking : typeTwo (header a) ≡ false → Drop NoWayOn ≡ onward r a
+    unfolding onward onwardPlan noWayOn decided _then_otherwise_
+    path-not-asking one =
+        let v : View = viewAt (a .clock) r in
+        let way : wayOn v a ≡ blocked not-asking = path-way v ∙ rw one in
+        sym (ap (λ (w : Way). decided r a (onwardPlan v a w)) way)
+
+    module _ (two : typeTwo (header a) ≡ true) where
+      path-none : viewAt (a .clock) r .path (destination a) ≡ empty → Drop NoWayOn ≡ onward r a
+      unfolding onward onwardPlan noWayOn decided pathWay _then_otherwise_
+      path-none e =
+          let v : View = viewAt (a .clock) r in
+          let way : wayOn v a ≡ blocked no-path = path-way v ∙ rw two (ap pathWay e) in
+          sym (ap (λ (w : Way). decided r a (onwardPlan v a w)) way)
+
+      module _ (readable : reads longestPacket (a .bytes) ≡ true) (p : Path) (wide : length (p .nextHop) ≡ 16)
+          (there : viewAt (a .clock) r .path (destination a) ≡ used p) where
+        path-onward : onward r a
+            ≡ (isLinkRequest (header a) and isThere (viewAt (a .clock) r .link (linkId (a .bytes))) then Drop AlreadyKnown otherwise
+            not (viewAt (a .clock) r .on (p .port)) then Drop PortOff otherwise
+            isLinkRequest (header a) and not (viewAt (a .clock) r .roomForLink) then Drop NoRoom otherwise
+            decidedWay r a (by-path p))
+        unfolding onward decided pathWay _then_otherwise_
+        path-onward =
+            let v : View = viewAt (a .clock) r in
+            let way : wayOn v a ≡ by-path p = path-way v ∙ rw two (ap pathWay there) in
+            ap (λ (w : Way). decided r a (onwardPlan v a w)) way
+            ∙ ap (decided r a) (path-plan v p (never-grown a readable (by-path p) (λ q e. let m : p ≡ q = cc in ap (λ (x : Path). length (x .nextHop)) (sym m) ∙ wide)))
+            ∙ simp decided-test
+
+        path-data : isData (header a) ≡ true → sending r p (pathPlace (a .clock) r (destination a)) ≡ onward r a
+        unfolding sending leaving viewAt decidedWay _then_otherwise_ _and_
+        path-data is = sym (path-onward ∙ rw (other-kind (packetKind (header a)) 0 2 is refl, is))
+
+        path-request : isData (header a) ≡ false → requesting r a p (pathPlace (a .clock) r (destination a)) ≡ onward r a
+        unfolding requesting leaving viewAt decidedWay _then_otherwise_ _and_
+        path-request other = sym (path-onward ∙ rw (request-left (header a) other announce proof, other))
+
+-- ---- on tables, where the search for the path gave place i
+next-hop-wide : (t : List ℕ) (i : ℕ) → length t ≡ tableSize → i < pathCount → length (pathOf (rowAt pathsAt pathWidth t i) .nextHop) ≡ 16
+unfolding pathOf
+next-hop-wide t i size l =
+    let row : length (rowAt pathsAt pathWidth t i) ≡ pathWidth = part-length t (pathsAt + pathWidth * i) pathWidth (omega (arith, size, l)) in
+    part-length (rowAt pathsAt pathWidth t i) 19 16 (omega (arith, row))
+
+module _ (t : List ℕ) (a : Arrival) (announce : isAnnounce (header a) ≡ false) (link : ofKindLink (header a) ≡ false)
+    (proof : isProof (header a) ≡ false) (two : typeTwo (header a) ≡ true)
+    {i : ℕ} (e : i ≡ pathPlace (a .clock) (relayOf t) (destination a)) where
+  pub path-nowhere : pathCount ≤ i → Drop NoWayOn ≡ onward (relayOf t) a
+  path-nowhere l = path-none a announce link proof (relayOf t) two (path-missing t (a .clock) (destination a) i e l)
+
+  module _ (readable : reads longestPacket (a .bytes) ≡ true) (size : length t ≡ tableSize) (l : i < pathCount) where
+    pub data-at : isData (header a) ≡ true → sending (relayOf t) (pathOf (rowAt pathsAt pathWidth t i)) i ≡ onward (relayOf t) a
+    data-at is =
+        ap (sending (relayOf t) (pathOf (rowAt pathsAt pathWidth t i))) e
+        ∙ path-data a announce link proof (relayOf t) two readable (pathOf (rowAt pathsAt pathWidth t i)) (next-hop-wide t i size l) (path-found t (a .clock) (destination a) i e l) is
+
+    pub request-at : isData (header a) ≡ false → requesting (relayOf t) a (pathOf (rowAt pathsAt pathWidth t i)) i ≡ onward (relayOf t) a
+    request-at other =
+        ap (requesting (relayOf t) a (pathOf (rowAt pathsAt pathWidth t i))) e
+        ∙ path-request a announce link proof (relayOf t) two readable (pathOf (rowAt pathsAt pathWidth t i)) (next-hop-wide t i size l) (path-found t (a .clock) (destination a) i e l) other
+
+-- ---- whether an id is live, by the place that the search gave
+module _ (t : List ℕ) (clock : ℕ) (id : List ℕ) {i : ℕ} (e : i ≡ linkPlace clock (relayOf t) id) where
+  pub id-live : i < linkCount → isThere (viewAt clock (relayOf t) .link id) ≡ true
+  unfolding isThere
+  id-live l = ap isThere (link-found t clock id i e l)
+
+  pub id-free : linkCount ≤ i → isThere (viewAt clock (relayOf t) .link id) ≡ false
+  unfolding isThere
+  id-free l = ap isThere (link-missing t clock id i e l)
+
+-- ---- a link request, by what was read
+module _ (r : Relay) (a : Arrival) (p : Path) (place : ℕ) where
+  pub request-known : isThere (viewAt (a .clock) r .link (linkId (a .bytes))) ≡ true → Drop AlreadyKnown ≡ requesting r a p place
+  unfolding requesting
+  request-known k = sym (then-true _ _ k)
+
+  module _ (new : isThere (viewAt (a .clock) r .link (linkId (a .bytes))) ≡ false) where
+    pub request-off : portOn r (p .port) ≡ false → Drop PortOff ≡ requesting r a p place
+    unfolding requesting
+    request-off off = stays r (p .port) _ off ∙ sym (then-false _ _ new)
+
+    module _ (on : portOn r (p .port) ≡ true) {free : ℕ} (e : free ≡ freeLink (a .clock) r) where
+      pub request-room : free < linkCount → Request place free ≡ requesting r a p place
+      unfolding requesting
+      request-room l =
+          ap (Request place) e
+          ∙ sym (then-false _ _ (ap not (lt-ltb (freeLink (a .clock) r) linkCount (omega (arith, e, l)))))
+          ∙ leaves r (p .port) _ on
+          ∙ sym (then-false _ _ new)
+
+      pub request-full : linkCount ≤ free → Drop NoRoom ≡ requesting r a p place
+      unfolding requesting
+      request-full l =
+          sym (then-true _ _ (ap not (le-ltb (freeLink (a .clock) r) linkCount (omega (arith, e, l)))))
+          ∙ leaves r (p .port) _ on
+          ∙ sym (then-false _ _ new)

@@ -1,0 +1,101 @@
+-- Ordinary proofs: tests 6, 8 and 12 are all that can hold of them.
+use Prim.Native.Nat.{ℕ, _≤_, _<_}
+use native.Mathlib.Omega.{arith}
+use mathlib.Core.Bool.{true, false, not}
+use mathlib.Core.Path.{_≡_, refl, sym, ap, _∙_}
+use mathlib.Core.List.{List}
+use lib.Dec.{eqb}
+use borrow.Author.Tests.{eq-eqb, ne-eqb}
+use Rattle.octets.specs.Index.{_and_}
+use Rattle.octets.specs.Choice.{_or_, _then_otherwise_}
+use Rattle.octets.proofs.Choice.{then-true, then-false}
+use Rattle.packet.specs.Header.{packetKind, ofKindLink, isAnnounce, isLinkRequest, isProof}
+use Rattle.packet.specs.Read.{longestPacket, reads}
+use Rattle.rules.specs.Relay.{empty, used, Return, Relay}
+use Rattle.rules.specs.View.{View, returnPlace, viewAt, portOn}
+use Rattle.rules.specs.Arrival.{Arrival, header, destination, isLinkProof}
+use Rattle.rules.specs.Ways.{Way, by-return, returnWay, wayOn}
+use Rattle.rules.specs.Tests.{noWayOn, alreadyKnown, wrongSide, notSigned, replay, notBetter, leavingPort, portOff, noRoom}
+use Rattle.rules.specs.Outgoing.{grownTooLong}
+use Rattle.rules.specs.Judging.{dropped, follows, onwardPlan}
+use Rattle.rules.specs.declared.Reason.the-variants.{NoWayOn, WrongSide, PortOff}
+use Rattle.rules.specs.Numbers.{returnCount}
+use Rattle.tables.specs.Places.{returnsAt, returnWidth}
+use Rattle.tables.specs.Records.{returnOf}
+use Rattle.tables.specs.Layout.{rowAt, relayOf}
+use Rattle.lookup.proofs.Found.{return-found, return-missing}
+use Rattle.outgoing.proofs.RuleLaws.{never-grown}
+use Rattle.plan.specs.Decided.{decidedWay, decided, onward}
+use Rattle.plan.specs.Kinds.{leaving, returning}
+use Rattle.plan.specs.declared.Decision.the-variants.{Drop, Receipt}
+use Rattle.plan.proofs.KindLaws.{other-kind, no-link-proof-kind, decided-test, leaves, stays}
+
+module _ (a : Arrival) (kind : ofKindLink (header a) ≡ false) (proof : isProof (header a) ≡ true) where
+  no-announce : isAnnounce (header a) ≡ false
+  no-announce = other-kind (packetKind (header a)) 3 1 proof refl
+
+  no-request : isLinkRequest (header a) ≡ false
+  no-request = other-kind (packetKind (header a)) 3 2 proof refl
+
+  no-link-proof : isLinkProof a ≡ false
+  no-link-proof = no-link-proof-kind a kind
+
+  return-way : (v : View) → wayOn v a ≡ returnWay (v .return (destination a))
+  unfolding wayOn
+  return-way v = then-false _ _ no-announce ∙ then-false _ _ kind ∙ then-true _ _ proof
+
+  return-plan : (v : View) (t : Return) → grownTooLong a (by-return t) ≡ false → onwardPlan v a (by-return t)
+      ≡ (wrongSide a (by-return t) then dropped WrongSide otherwise
+      not (v .on (leavingPort a (by-return t))) then dropped PortOff otherwise
+      follows (by-return t))
+  unfolding onwardPlan noWayOn alreadyKnown notSigned replay notBetter portOff noRoom _then_otherwise_ _and_ _or_
+  return-plan v t fits = rw (no-request, no-link-proof, no-announce, fits)
+
+  module _ (r : Relay) where
+    return-none : viewAt (a .clock) r .return (destination a) ≡ empty → Drop NoWayOn ≡ onward r a
+    unfolding onward onwardPlan noWayOn decided returnWay _then_otherwise_
+    return-none e =
+        let v : View = viewAt (a .clock) r in
+        sym (ap (λ (w : Way). decided r a (onwardPlan v a w)) (return-way v ∙ ap returnWay e))
+
+    return-there : reads longestPacket (a .bytes) ≡ true → (t : Return) → viewAt (a .clock) r .return (destination a) ≡ used t
+        → returning r (a .port) t (returnPlace (a .clock) r (destination a)) ≡ onward r a
+    unfolding onward decided decidedWay returning leaving wrongSide leavingPort viewAt returnWay
+    return-there readable t e =
+        let v : View = viewAt (a .clock) r in
+        let fits : grownTooLong a (by-return t) ≡ false =
+        never-grown a readable (by-return t) (λ p q. let z : _≡_ {A = ℕ} 0 1 = cc in absurd (omega arith)) in
+        sym
+        (ap (λ (w : Way). decided r a (onwardPlan v a w)) (return-way v ∙ ap returnWay e)
+        ∙ ap (decided r a) (return-plan v t fits)
+        ∙ simp decided-test)
+
+-- ---- on tables, where the search for the return record gave place i
+module _ (t : List ℕ) (a : Arrival) (kind : ofKindLink (header a) ≡ false) (proof : isProof (header a) ≡ true)
+    {i : ℕ} (e : i ≡ returnPlace (a .clock) (relayOf t) (destination a)) where
+  pub return-nowhere : returnCount ≤ i → Drop NoWayOn ≡ onward (relayOf t) a
+  return-nowhere l = return-none a kind proof (relayOf t) (return-missing t (a .clock) (destination a) i e l)
+
+  pub return-at : reads longestPacket (a .bytes) ≡ true → i < returnCount
+      → returning (relayOf t) (a .port) (returnOf (rowAt returnsAt returnWidth t i)) i ≡ onward (relayOf t) a
+  return-at readable l =
+      ap (returning (relayOf t) (a .port) (returnOf (rowAt returnsAt returnWidth t i))) e
+      ∙ return-there a kind proof (relayOf t) readable (returnOf (rowAt returnsAt returnWidth t i)) (return-found t (a .clock) (destination a) i e l)
+
+-- ---- by what was read of the record
+module _ (r : Relay) (port : ℕ) (t : Return) (place : ℕ) {leaving : ℕ} (read : leaving ≡ t .leaving) where
+  pub receipt-wrong-side : (port ≡ leaving → ⊥) → Drop WrongSide ≡ returning r port t place
+  unfolding returning
+  receipt-wrong-side ne = sym (then-true _ _ (ap not (ne-eqb port (t .leaving) (λ e. ne (e ∙ sym read)))))
+
+  module _ (side : port ≡ leaving) where
+    right : not (eqb port (t .leaving)) ≡ false
+    right = ap not (eq-eqb port (t .leaving) (side ∙ read))
+
+    pub receipt-off : portOn r (t .arrival) ≡ false → Drop PortOff ≡ returning r port t place
+    unfolding returning
+    receipt-off off = stays r (t .arrival) _ off ∙ sym (then-false _ _ right)
+
+    pub receipt-on : {arrival : ℕ} → arrival ≡ t .arrival → portOn r (t .arrival) ≡ true → Receipt place arrival ≡ returning r port t place
+    unfolding returning
+    receipt-on e on = ap (Receipt place) e ∙ leaves r (t .arrival) _ on ∙ sym (then-false _ _ right)

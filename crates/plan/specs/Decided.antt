@@ -1,0 +1,43 @@
+-- What the code decides of an accepted packet: the rules' plan, with the places of the records that it concerns.
+use Prim.Native.Nat.{ℕ}
+use mathlib.Core.List.{List}
+use Rattle.octets.specs.Choice.{_then_otherwise_}
+use Rattle.packet.specs.Header.{isData}
+use Rattle.rules.specs.Relay.{Relay}
+use Rattle.rules.specs.View.{viewAt, pathPlace, linkPlace, returnPlace, freeLink}
+use Rattle.rules.specs.Arrival.{Arrival, header, destination}
+use Rattle.rules.specs.Ways.{Way, everywhere, by-path, along-link, by-return, blocked, wayOn}
+use Rattle.rules.specs.Tests.{isThere, leavingPort}
+use Rattle.rules.specs.Judging.{Plan, dropped, delivered, follows, onwardPlan, plan}
+use Rattle.rules.specs.Writes.{announcedPlace}
+use Rattle.rules.specs.declared.Reason.the-variants.{NoWayOn}
+use Rattle.plan.specs.declared.Arrived.{Arrived}
+use Rattle.plan.specs.declared.Decision.{Decision}
+use Rattle.plan.specs.declared.Decision.the-variants.{Drop, Deliver, Announce, Data, Request, Carry, Receipt}
+
+-- a packet's bytes, and how they came
+abbrev pub arrivalOf : List ℕ → Arrived → Arrival
+arrivalOf bytes m = record { bytes = bytes; port = m .port; clock = m .clock; signed = m .signed }
+
+unfoldable pub decidedWay : Relay → Arrival → Way → Decision
+decidedWay r a (everywhere known) = Announce (announcedPlace a known r) (isThere known)
+decidedWay r a (by-path p) =
+    isData (header a)
+    then Data (pathPlace (a .clock) r (destination a))
+    otherwise Request (pathPlace (a .clock) r (destination a)) (freeLink (a .clock) r)
+decidedWay r a (along-link l) = Carry (linkPlace (a .clock) r (destination a)) (leavingPort a (along-link l))
+decidedWay r a (by-return t) = Receipt (returnPlace (a .clock) r (destination a)) (leavingPort a (by-return t))
+decidedWay r a (blocked why) = Drop NoWayOn
+
+unfoldable pub decided : Relay → Arrival → Plan → Decision
+decided r a (dropped reason) = Drop reason
+decided r a delivered = Deliver
+decided r a (follows w) = decidedWay r a w
+
+-- the decision of an accepted packet
+unfoldable pub decision : Relay → Arrival → Decision
+decision r a = decided r a (plan (viewAt (a .clock) r) a)
+
+-- the decision of tests 6 to 14
+unfoldable pub onward : Relay → Arrival → Decision
+onward r a = decided r a (onwardPlan (viewAt (a .clock) r) a (wayOn (viewAt (a .clock) r) a))

@@ -1,0 +1,72 @@
+-- Tests 6 to 14 for each kind of packet, once its record is found: those that can hold of it, in document 01's order.
+use Prim.Native.Nat.{ℕ}
+use mathlib.Core.Bool.{true, false, not}
+use lib.Dec.{eqb, ltb}
+use Rattle.octets.specs.Choice.{_then_otherwise_}
+use Rattle.packet.specs.Hash.{linkId}
+use Rattle.rules.specs.Numbers.{pathCount, linkCount}
+use Rattle.rules.specs.Relay.{used, Path, Return, Relay}
+use Rattle.rules.specs.View.{portOn, freePath, freeLink, viewAt}
+use Rattle.rules.specs.Arrival.{Arrival}
+use Rattle.rules.specs.Ways.{everywhere}
+use Rattle.rules.specs.Tests.{isThere, fromAnsweringSide, fromAskingSide, replay, notBetter}
+use Rattle.rules.specs.declared.Link.{Link}
+use Rattle.rules.specs.declared.Reason.the-variants.{NoWayOn, AlreadyKnown, WrongSide, NotSigned, Replay, NotBetter, PortOff, NoRoom}
+use Rattle.plan.specs.declared.Decision.{Decision}
+use Rattle.plan.specs.declared.Decision.the-variants.{Drop, Announce, Data, Request, Carry, Receipt}
+
+-- ---- a signed announce
+-- of a new path: 13
+unfoldable pub newPath : ℕ → Relay → Decision
+newPath clock r =
+    not (ltb (freePath clock r) pathCount) then Drop NoRoom otherwise
+    Announce (freePath clock r) false
+
+-- of the known path at a place: 10, 11
+unfoldable pub knownPath : Arrival → Path → ℕ → Decision
+knownPath a p place =
+    replay a (everywhere (used p)) then Drop Replay otherwise
+    notBetter a (everywhere (used p)) then Drop NotBetter otherwise
+    Announce place true
+
+-- ---- 12, by a port
+unfoldable pub leaving : Relay → ℕ → Decision → Decision
+leaving r port decision = not (portOn r port) then Drop PortOff otherwise decision
+
+-- ---- data and link requests, by the path at a place
+unfoldable pub sending : Relay → Path → ℕ → Decision
+sending r p place = leaving r (p .port) (Data place)
+
+-- 7, 12, 13
+unfoldable pub requesting : Relay → Arrival → Path → ℕ → Decision
+requesting r a p place =
+    isThere (viewAt (a .clock) r .link (linkId (a .bytes))) then Drop AlreadyKnown otherwise
+    leaving r (p .port)
+    (not (ltb (freeLink (a .clock) r) linkCount) then Drop NoRoom otherwise
+    Request place (freeLink (a .clock) r))
+
+-- ---- packets of the link at a place
+unfoldable pub carried : Relay → ℕ → ℕ → Decision
+carried r port place = leaving r port (Carry place port)
+
+-- a link proof: 7, 8, 9, 12
+unfoldable pub proving : Relay → Arrival → Link → ℕ → Decision
+proving r a l place =
+    l .proved then Drop AlreadyKnown otherwise
+    not (fromAnsweringSide l a) then Drop WrongSide otherwise
+    not (a .signed) then Drop NotSigned otherwise
+    carried r (l .asking) place
+
+-- any other: 6, 8, 12
+unfoldable pub carrying : Relay → Arrival → Link → ℕ → Decision
+carrying r a l place =
+    not (l .proved) then Drop NoWayOn otherwise
+    fromAnsweringSide l a then carried r (l .asking) place otherwise
+    fromAskingSide l a then carried r (l .answering) place otherwise
+    Drop WrongSide
+
+-- ---- an ordinary proof that came in by a port, for the return record at a place: 8, 12
+unfoldable pub returning : Relay → ℕ → Return → ℕ → Decision
+returning r port t place =
+    not (eqb port (t .leaving)) then Drop WrongSide otherwise
+    leaving r (t .arrival) (Receipt place (t .arrival))

@@ -1,0 +1,68 @@
+// Announces: tests 9, 10, 11 and 13.
+use super::Arrived;
+use super::Decision;
+use rules::Reason;
+use tables::places::PATH_COUNT;
+ghost use mathlib.Core.Path.{_≡_};
+ghost use mathlib.Core.Bool.{true, false};
+ghost use Prim.Native.Nat.{_≤_, _<_};
+ghost use lib.ListN.{length};
+ghost use Rattle.packet.specs.Header.{isAnnounce};
+ghost use Rattle.packet.specs.Read.{headerOf, payload, longestPacket, reads};
+ghost use Rattle.rules.specs.Numbers.{pathCount, blobLimit};
+ghost use Rattle.rules.specs.Tests.{badForm};
+ghost use Rattle.tables.specs.Places.{tableSize, pathsAt, pathWidth};
+ghost use Rattle.tables.specs.Records.{pathOf};
+ghost use Rattle.tables.specs.Layout.{rowAt, relayOf, wellFormed};
+ghost use Rattle.plan.specs.Decided.{arrivalOf, onward};
+ghost use Rattle.plan.specs.Kinds.{newPath, knownPath};
+
+// A new path: test 13.
+fn new_path(tables: &[u8], clock: u64) -> Decision
+    requires { ⌜ length (now tables) ≡ tableSize ⌝ }
+    ensures { λ r. ⌜ r ≡ newPath clock (relayOf (now (tables .entry))) ⌝ }
+{
+    let place = lookup::free_path(tables, clock);
+    if place < PATH_COUNT {
+        return Decision::Announce {
+            place,
+            known: false,
+        };
+    }
+    Decision::Drop(Reason::NoRoom)
+}
+
+// The known path at a place: tests 10 and 11.
+fn known_path(tables: &[u8], packet: &[u8], arrived: Arrived, place: usize) -> Decision
+    requires { ⌜ (length (now tables) ≡ tableSize) × (place < pathCount) × (pathOf (rowAt pathsAt pathWidth (now tables) place) .blobs .count ≤ blobLimit) × (reads longestPacket (now packet) ≡ true) × (84 ≤ length (payload (now packet))) ⌝ }
+    ensures { λ r. ⌜ r ≡ knownPath (arrivalOf (now (packet .entry)) arrived) (pathOf (rowAt pathsAt pathWidth (now (tables .entry)) place)) place ⌝ }
+{
+    let blob = packet::blob(packet::payload(packet));
+    if lookup::holds_blob(tables, place, blob) {
+        return Decision::Drop(Reason::Replay);
+    }
+    if packet::emission(blob) <= lookup::greatest_emission(tables, place) {
+        let stored = lookup::path_hops(tables, place);
+        let hops = packet[1];
+        if stored <= hops {
+            return Decision::Drop(Reason::NotBetter);
+        }
+    }
+    Decision::Announce { place, known: true }
+}
+
+pub fn decide_announce(tables: &[u8], packet: &[u8], arrived: Arrived) -> Decision
+    requires { ⌜ (wellFormed (now tables) ≡ true) × (reads longestPacket (now packet) ≡ true) × (badForm (arrivalOf (now packet) arrived) ≡ false) × (isAnnounce (headerOf (now packet)) ≡ true) ⌝ }
+    ensures { λ r. ⌜ r ≡ onward (relayOf (now (tables .entry))) (arrivalOf (now (packet .entry)) arrived) ⌝ }
+{
+    if !arrived.signed {
+        return Decision::Drop(Reason::NotSigned);
+    }
+    let parts = packet::parts_of(packet);
+    let destination = parts.destination;
+    let place = lookup::path_place(tables, destination, arrived.clock);
+    if place < PATH_COUNT {
+        return known_path(tables, packet, arrived, place);
+    }
+    new_path(tables, arrived.clock)
+}

@@ -1,0 +1,98 @@
+// Tests 1 to 5, with delivery at test 4's place.
+use super::Arrived;
+use super::Early;
+use rules::Reason;
+use tables::places::HASH_COUNT;
+use tables::places::LOCAL_COUNT;
+ghost use mathlib.Core.Path.{_≡_};
+ghost use mathlib.Core.Bool.{true};
+ghost use lib.ListN.{length};
+ghost use Rattle.packet.specs.Read.{partsOf, longestPacket, reads};
+ghost use Rattle.packet.specs.Hash.{packetHash};
+ghost use Rattle.rules.specs.View.{isLocal, viewAt};
+ghost use Rattle.rules.specs.Tests.{notOurs, ownAnnounce, deliveredHere};
+ghost use Rattle.tables.specs.Places.{tableSize};
+ghost use Rattle.tables.specs.Layout.{relayOf};
+ghost use Rattle.plan.specs.Decided.{arrivalOf};
+ghost use Rattle.plan.specs.First.{firstTests};
+
+// Test 1.
+fn not_ours(tables: &[u8], packet: &[u8], arrived: Arrived) -> bool
+    requires { ⌜ (length (now tables) ≡ tableSize) × (reads longestPacket (now packet) ≡ true) ⌝ }
+    ensures { λ r. ⌜ r ≡ notOurs (viewAt (arrived .clock) (relayOf (now (tables .entry)))) (arrivalOf (now (packet .entry)) arrived) ⌝ }
+{
+    let header = packet[0];
+    if !packet::type_two(header) {
+        return false;
+    }
+    if packet::is_announce(header) {
+        return false;
+    }
+    let parts = packet::parts_of(packet);
+    let relay = parts.relay;
+    !octets::equal16(relay, lookup::own_address(tables))
+}
+
+// Whether the packet's destination is local.
+fn is_local(tables: &[u8], packet: &[u8]) -> bool
+    requires { ⌜ (length (now tables) ≡ tableSize) × (reads longestPacket (now packet) ≡ true) ⌝ }
+    ensures { λ r. ⌜ r ≡ isLocal (relayOf (now (tables .entry))) (partsOf (now (packet .entry)) .destination) ⌝ }
+{
+    let parts = packet::parts_of(packet);
+    let destination = parts.destination;
+    lookup::local_place(tables, destination) < LOCAL_COUNT
+}
+
+// Test 4.
+fn own_announce(tables: &[u8], packet: &[u8], arrived: Arrived) -> bool
+    requires { ⌜ (length (now tables) ≡ tableSize) × (reads longestPacket (now packet) ≡ true) ⌝ }
+    ensures { λ r. ⌜ r ≡ ownAnnounce (viewAt (arrived .clock) (relayOf (now (tables .entry)))) (arrivalOf (now (packet .entry)) arrived) ⌝ }
+{
+    if packet::is_announce(packet[0]) {
+        return is_local(tables, packet);
+    }
+    false
+}
+
+// Data and link requests to a local address, kind link excepted.
+fn delivered_here(tables: &[u8], packet: &[u8], arrived: Arrived) -> bool
+    requires { ⌜ (length (now tables) ≡ tableSize) × (reads longestPacket (now packet) ≡ true) ⌝ }
+    ensures { λ r. ⌜ r ≡ deliveredHere (viewAt (arrived .clock) (relayOf (now (tables .entry)))) (arrivalOf (now (packet .entry)) arrived) ⌝ }
+{
+    let header = packet[0];
+    if packet::of_kind_link(header) {
+        return false;
+    }
+    if packet::is_data(header) {
+        return is_local(tables, packet);
+    }
+    if packet::is_link_request(header) {
+        return is_local(tables, packet);
+    }
+    false
+}
+
+pub fn first_tests(tables: &[u8], packet: &[u8], arrived: Arrived, hash: [u8; 32]) -> Early
+    requires { ⌜ (length (now tables) ≡ tableSize) × (reads longestPacket (now packet) ≡ true) × (hash ≡ packetHash (now packet)) ⌝ }
+    ensures { λ r. ⌜ r ≡ firstTests (viewAt (arrived .clock) (relayOf (now (tables .entry)))) (arrivalOf (now (packet .entry)) arrived) ⌝ }
+{
+    if not_ours(tables, packet, arrived) {
+        return Early::Dropped(Reason::NotOurs);
+    }
+    if lookup::hash_place(tables, hash, arrived.clock) < HASH_COUNT {
+        return Early::Dropped(Reason::Duplicate);
+    }
+    if outgoing::bad_form(packet) {
+        return Early::Dropped(Reason::BadForm);
+    }
+    if own_announce(tables, packet, arrived) {
+        return Early::Dropped(Reason::OwnAnnounce);
+    }
+    if delivered_here(tables, packet, arrived) {
+        return Early::Delivered;
+    }
+    if packet[1] >= 128 {
+        return Early::Dropped(Reason::TooManyHops);
+    }
+    Early::Onward
+}

@@ -1,0 +1,83 @@
+// What is to be done with an accepted packet, decided from the tables' bytes before anything is written.
+// Every function here is a helper of the packet call: the caller shows that the tables are well formed and that the packet reads.
+// Entry points: none. The packet call decides by `decide`.
+mod announces;
+mod first;
+mod links;
+mod paths;
+mod returns;
+
+use announces::decide_announce;
+use first::first_tests;
+use links::decide_of_link;
+use paths::decide_by_path;
+use returns::decide_proof;
+use rules::Reason;
+ghost use mathlib.Core.Path.{_≡_};
+ghost use mathlib.Core.Bool.{true, false};
+ghost use Rattle.packet.specs.Read.{longestPacket, reads};
+ghost use Rattle.packet.specs.Hash.{packetHash};
+ghost use Rattle.rules.specs.Tests.{badForm};
+ghost use Rattle.tables.specs.Layout.{relayOf, wellFormed};
+ghost use Rattle.plan.specs.Decided.{arrivalOf, onward, decision};
+
+// How a packet came: the arrival port, the clock, and the host's word on the signature.
+pub struct Arrived {
+    pub port: u8,
+    pub clock: u64,
+    pub signed: bool,
+}
+
+// Tests 1 to 5, with delivery at test 4's place.
+pub enum Early {
+    Dropped(Reason),
+    Delivered,
+    Onward,
+}
+
+// The rules' plan, with the places of the records that it concerns. (An enum that holds an array isn't covered, so addresses and hashes are
+// read again where they are written.)
+pub enum Decision {
+    Drop(Reason),
+    Deliver,
+    // An accepted announce: the slot of its path, and whether the path is known.
+    Announce { place: usize, known: bool },
+    // Data by the path at a place.
+    Data { path: usize },
+    // A link request by the path at a place, and the slot for its link.
+    Request { path: usize, place: usize },
+    // A packet of the link at a place, and the port to leave by.
+    Carry { link: usize, port: u8 },
+    // An ordinary proof by the return record at a place, and the port to leave by.
+    Receipt { place: usize, port: u8 },
+}
+
+// Tests 6 to 14, by the way that the packet would follow.
+fn decide_onward(tables: &[u8], packet: &[u8], arrived: Arrived) -> Decision
+    requires { ⌜ (wellFormed (now tables) ≡ true) × (reads longestPacket (now packet) ≡ true) × (badForm (arrivalOf (now packet) arrived) ≡ false) ⌝ }
+    ensures { λ r. ⌜ r ≡ onward (relayOf (now (tables .entry))) (arrivalOf (now (packet .entry)) arrived) ⌝ }
+{
+    let header = packet[0];
+    if packet::is_announce(header) {
+        return decide_announce(tables, packet, arrived);
+    }
+    if packet::of_kind_link(header) {
+        return decide_of_link(tables, packet, arrived);
+    }
+    if packet::is_proof(header) {
+        return decide_proof(tables, packet, arrived);
+    }
+    decide_by_path(tables, packet, arrived)
+}
+
+// What is to be done with an accepted packet, whose hash the caller has.
+pub fn decide(tables: &[u8], packet: &[u8], arrived: Arrived, hash: [u8; 32]) -> Decision
+    requires { ⌜ (wellFormed (now tables) ≡ true) × (reads longestPacket (now packet) ≡ true) × (hash ≡ packetHash (now packet)) ⌝ }
+    ensures { λ r. ⌜ r ≡ decision (relayOf (now (tables .entry))) (arrivalOf (now (packet .entry)) arrived) ⌝ }
+{
+    match first_tests(tables, packet, arrived, hash) {
+        Early::Dropped(reason) => Decision::Drop(reason),
+        Early::Delivered => Decision::Deliver,
+        Early::Onward => decide_onward(tables, packet, arrived),
+    }
+}

@@ -1,0 +1,73 @@
+// Data and link requests by a path: tests 6, 7, 12 and 13.
+use super::Arrived;
+use super::Decision;
+use rules::Reason;
+use tables::places::LINK_COUNT;
+use tables::places::PATH_COUNT;
+ghost use mathlib.Core.Path.{_≡_};
+ghost use mathlib.Core.Bool.{true, false};
+ghost use Prim.Native.Nat.{_<_};
+ghost use lib.ListN.{length};
+ghost use Rattle.packet.specs.Header.{isAnnounce, isProof, ofKindLink};
+ghost use Rattle.packet.specs.Read.{headerOf, longestPacket, reads};
+ghost use Rattle.rules.specs.Numbers.{pathCount};
+ghost use Rattle.tables.specs.Places.{tableSize, pathsAt, pathWidth};
+ghost use Rattle.tables.specs.Records.{pathOf};
+ghost use Rattle.tables.specs.Layout.{rowAt, relayOf, wellFormed};
+ghost use Rattle.plan.specs.Decided.{arrivalOf, onward};
+ghost use Rattle.plan.specs.Kinds.{sending, requesting};
+
+// Data by the path at a place: test 12.
+fn send(tables: &[u8], place: usize) -> Decision
+    requires { ⌜ (length (now tables) ≡ tableSize) × (place < pathCount) ⌝ }
+    ensures { λ r. ⌜ r ≡ sending (relayOf (now (tables .entry))) (pathOf (rowAt pathsAt pathWidth (now (tables .entry)) place)) place ⌝ }
+{
+    let port = lookup::path_port(tables, place);
+    if lookup::port_on(tables, octets::wide(port)) {
+        return Decision::Data { path: place };
+    }
+    Decision::Drop(Reason::PortOff)
+}
+
+// A link request by the path at a place: tests 7, 12 and 13.
+fn request(tables: &[u8], packet: &[u8], arrived: Arrived, place: usize) -> Decision
+    requires { ⌜ (length (now tables) ≡ tableSize) × (place < pathCount) × (reads longestPacket (now packet) ≡ true) ⌝ }
+    ensures { λ r. ⌜ r ≡ requesting (relayOf (now (tables .entry))) (arrivalOf (now (packet .entry)) arrived) (pathOf (rowAt pathsAt pathWidth (now (tables .entry)) place)) place ⌝ }
+{
+    let id = packet::link_id_of(packet);
+    if lookup::link_place(tables, id, arrived.clock) < LINK_COUNT {
+        return Decision::Drop(Reason::AlreadyKnown);
+    }
+    let port = lookup::path_port(tables, place);
+    if !lookup::port_on(tables, octets::wide(port)) {
+        return Decision::Drop(Reason::PortOff);
+    }
+    let free = lookup::free_link(tables, arrived.clock);
+    if free < LINK_COUNT {
+        return Decision::Request {
+            path: place,
+            place: free,
+        };
+    }
+    Decision::Drop(Reason::NoRoom)
+}
+
+pub fn decide_by_path(tables: &[u8], packet: &[u8], arrived: Arrived) -> Decision
+    requires { ⌜ (wellFormed (now tables) ≡ true) × (reads longestPacket (now packet) ≡ true) × (isAnnounce (headerOf (now packet)) ≡ false) × (ofKindLink (headerOf (now packet)) ≡ false) × (isProof (headerOf (now packet)) ≡ false) ⌝ }
+    ensures { λ r. ⌜ r ≡ onward (relayOf (now (tables .entry))) (arrivalOf (now (packet .entry)) arrived) ⌝ }
+{
+    let header = packet[0];
+    if !packet::type_two(header) {
+        return Decision::Drop(Reason::NoWayOn);
+    }
+    let parts = packet::parts_of(packet);
+    let destination = parts.destination;
+    let place = lookup::path_place(tables, destination, arrived.clock);
+    if place >= PATH_COUNT {
+        return Decision::Drop(Reason::NoWayOn);
+    }
+    if packet::is_data(header) {
+        return send(tables, place);
+    }
+    request(tables, packet, arrived, place)
+}

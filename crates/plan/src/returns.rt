@@ -1,0 +1,48 @@
+// Ordinary proofs: tests 6, 8 and 12.
+use super::Arrived;
+use super::Decision;
+use rules::Reason;
+use tables::places::RETURN_COUNT;
+ghost use mathlib.Core.Path.{_≡_};
+ghost use mathlib.Core.Bool.{true, false};
+ghost use Prim.Native.Nat.{_<_};
+ghost use lib.ListN.{length};
+ghost use Rattle.packet.specs.Header.{isProof, ofKindLink};
+ghost use Rattle.packet.specs.Read.{headerOf, longestPacket, reads};
+ghost use Rattle.rules.specs.Numbers.{returnCount};
+ghost use Rattle.tables.specs.Places.{tableSize, returnsAt, returnWidth};
+ghost use Rattle.tables.specs.Records.{returnOf};
+ghost use Rattle.tables.specs.Layout.{rowAt, relayOf, wellFormed};
+ghost use Rattle.plan.specs.Decided.{arrivalOf, onward};
+ghost use Rattle.plan.specs.Kinds.{returning};
+
+// A proof for the return record at a place, which came in by a port: tests 8 and 12.
+fn receipt(tables: &[u8], place: usize, port: u8) -> Decision
+    requires { ⌜ (length (now tables) ≡ tableSize) × (place < returnCount) ⌝ }
+    ensures { λ r. ⌜ r ≡ returning (relayOf (now (tables .entry))) port (returnOf (rowAt returnsAt returnWidth (now (tables .entry)) place)) place ⌝ }
+{
+    if port != lookup::return_leaving(tables, place) {
+        return Decision::Drop(Reason::WrongSide);
+    }
+    let arrival = lookup::return_arrival(tables, place);
+    if lookup::port_on(tables, octets::wide(arrival)) {
+        return Decision::Receipt {
+            place,
+            port: arrival,
+        };
+    }
+    Decision::Drop(Reason::PortOff)
+}
+
+pub fn decide_proof(tables: &[u8], packet: &[u8], arrived: Arrived) -> Decision
+    requires { ⌜ (wellFormed (now tables) ≡ true) × (reads longestPacket (now packet) ≡ true) × (ofKindLink (headerOf (now packet)) ≡ false) × (isProof (headerOf (now packet)) ≡ true) ⌝ }
+    ensures { λ r. ⌜ r ≡ onward (relayOf (now (tables .entry))) (arrivalOf (now (packet .entry)) arrived) ⌝ }
+{
+    let parts = packet::parts_of(packet);
+    let destination = parts.destination;
+    let place = lookup::return_place(tables, destination, arrived.clock);
+    if place < RETURN_COUNT {
+        return receipt(tables, place, arrived.port);
+    }
+    Decision::Drop(Reason::NoWayOn)
+}
