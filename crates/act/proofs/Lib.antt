@@ -1,0 +1,5 @@
+pub mod RefusalLaws
+pub mod Inverted
+pub mod Forwards
+pub mod Spreads
+pub mod Stays

@@ -1,0 +1,195 @@
+-- What is left by an accepted announce, from what the code wrote: spread or kept, and its path set.
+use Prim.Native.Nat.{ℕ, _≤_, _<_}
+use native.Mathlib.Omega.{arith}
+use mathlib.Core.Bool.{Bool, true, false, not, false≢true}
+use mathlib.Core.List.{List}
+use mathlib.Core.Path.{_≡_, refl, sym, ap, ap₂, subst, _∙_}
+use lib.Dec.{eqb, ltb}
+use lib.ListN.{length, getD}
+use borrow.Author.Tests.{ltb-true, not-false, eq-eqb, ne-eqb, lt-ltb, le-ltb}
+use Rattle.octets.specs.Bytes.{Bytes}
+use Rattle.octets.specs.Index.{_and_}
+use Rattle.octets.specs.Choice.{_then_otherwise_}
+use Rattle.octets.specs.Part.{patch}
+use Rattle.octets.proofs.Choice.{then-true, then-false, or-left, or-right, or-no}
+use Rattle.octets.proofs.Part.{part-length}
+use Rattle.packet.specs.Header.{isAnnounce}
+use Rattle.packet.specs.Read.{longestPacket, payload, reads}
+use Rattle.packet.specs.Announce.{blobOf}
+use Rattle.rules.specs.Numbers.{pathCount}
+use Rattle.rules.specs.Relay.{Slot, empty, used, Blobs, Path, Return, Relay}
+use Rattle.rules.specs.View.{View, viewAt, portOn}
+use Rattle.rules.specs.Arrival.{Arrival, header, destination}
+use Rattle.rules.specs.Ways.{Way, everywhere, by-path, along-link, by-return, blocked, pathWay, linkWay, returnWay, wayOn}
+use Rattle.rules.specs.Tests.{isThere, noRoom}
+use Rattle.rules.specs.Answers.{portSet}
+use Rattle.rules.specs.Outgoing.{spreadPorts, spreadPacket, outgoing, exceeds}
+use Rattle.rules.specs.Judging.{Plan, follows, spreadVerdict, wayVerdict, verdict, leaves, outputAfter}
+use Rattle.rules.specs.Writes.{announcedPlace, enact}
+use Rattle.rules.specs.declared.Link.{Link}
+use Rattle.rules.specs.declared.Verdict.{Verdict}
+use Rattle.rules.specs.declared.Verdict.the-variants.{Spread, Kept}
+use Rattle.rules.proofs.Choices.{either}
+use Rattle.rules.proofs.Followed.{Planned, planned}
+use Rattle.tables.specs.Places.{tableSize}
+use Rattle.tables.specs.Layout.{relayOf, bytesOf}
+use Rattle.lookup.proofs.Found.{path-found, path-missing}
+use Rattle.update.specs.declared.Announced.{Announced}
+use Rattle.update.specs.Written.{announced, pathWritten}
+use Rattle.update.proofs.Enacted.{Announces, new-path-enacted, known-path-enacted}
+use Rattle.outgoing.specs.Leaving.{Onward, spreadBytes, spreadLength}
+use Rattle.outgoing.proofs.RuleLaws.{spread-packet, spread-exceeds}
+use Rattle.plan.specs.declared.Arrived.{Arrived}
+use Rattle.plan.specs.declared.Decision.the-variants.{Announce}
+use Rattle.plan.specs.Decided.{arrivalOf, decision}
+use Rattle.plan.proofs.KindLaws.{announce-long}
+use Rattle.act.specs.Kept.{stamped, blobsKept, pathPut, pathKept}
+use Rattle.act.specs.Acted.{Accepted, seen, planOn, verdictOn, tablesOn, outputOn, announcedBy}
+use Rattle.act.proofs.Inverted.{passed, inverted, settled}
+use Rattle.act.proofs.Forwards.{Left, onward}
+
+-- ---- only an announce goes everywhere
+abbrev isEverywhere : Way → Bool
+isEverywhere (everywhere known) = true
+isEverywhere (by-path p) = false
+isEverywhere (along-link l) = false
+isEverywhere (by-return t) = false
+isEverywhere (blocked why) = false
+
+abbrev Elsewhere : Way → Type 0
+Elsewhere w = isEverywhere w ≡ false
+
+path-elsewhere : (s : Slot Path) → Elsewhere (pathWay s)
+unfolding pathWay
+path-elsewhere empty = refl
+path-elsewhere (used p) = refl
+
+link-elsewhere : (linkProof : Bool) (s : Slot Link) → Elsewhere (linkWay linkProof s)
+unfolding linkWay
+link-elsewhere linkProof empty = refl
+link-elsewhere linkProof (used l) = either Elsewhere _ (λ _. refl) (λ _. refl)
+
+return-elsewhere : (s : Slot Return) → Elsewhere (returnWay s)
+unfolding returnWay
+return-elsewhere empty = refl
+return-elsewhere (used t) = refl
+
+announce-way : (v : View) (a : Arrival) (known : Slot Path) → wayOn v a ≡ everywhere known → isAnnounce (header a) ≡ true
+unfolding wayOn
+announce-way v a known =
+    let P : Way → Type 0 = λ w. w ≡ everywhere known → isAnnounce (header a) ≡ true in
+    either P _ (λ yes _. yes)
+    (λ no e.
+    absurd
+    (false≢true
+    (sym
+    (either Elsewhere _ (λ _. link-elsewhere _ _)
+    (λ _. either Elsewhere _ (λ _. return-elsewhere _)
+    (λ _. either Elsewhere _ (λ _. refl) (λ _. path-elsewhere _))))
+    ∙ ap isEverywhere e)))
+
+-- ---- spread or kept
+module _ (packet : List ℕ) (m : Arrived) (t output : List ℕ) where
+  abbrev sent : List ℕ
+  sent = spreadPacket (seen m t) (arrivalOf packet m)
+
+  -- what the spreading leaves
+  abbrev Spreads : Verdict → List ℕ → Type 0
+  Spreads x o =
+      (x ≡ spreadVerdict (spreadPorts (seen m t) (arrivalOf packet m)) sent) × (o ≡ (leaves x then patch output 0 sent otherwise output))
+
+  module _ (ports : ℕ) (all : ports ≡ portSet (λ port. portOn (relayOf t) port and not (eqb port (m .port)))) where
+    those : ports ≡ spreadPorts (seen m t) (arrivalOf packet m)
+    unfolding spreadPorts viewAt
+    those = all
+
+    pub spread-none : ports ≡ 0 → Spreads Kept output
+    unfolding spreadVerdict leaves _then_otherwise_
+    spread-none e = (sym (then-true _ _ (or-left _ (eq-eqb _ 0 (sym those ∙ e)))), refl)
+
+    module _ (h : reads longestPacket packet ≡ true) (size : length t ≡ tableSize) where
+      too-long : exceeds sent ≡ ltb longestPacket (spreadLength packet)
+      unfolding viewAt relayOf
+      too-long = spread-exceeds (seen m t) (arrivalOf packet m) h (part-length t 0 16 (omega (arith, size)))
+
+      pub spread-long : longestPacket < spreadLength packet → Spreads Kept output
+      unfolding spreadVerdict leaves _then_otherwise_
+      spread-long l = (sym (then-true _ _ (or-right _ (too-long ∙ lt-ltb _ _ l))), refl)
+
+      pub spread-sent : (ports ≡ 0 → ⊥) → spreadLength packet ≤ longestPacket → (own : List ℕ) → own ≡ relayOf t .own
+          → (n : ℕ) (o : List ℕ) → n ≡ length (spreadBytes own packet) → o ≡ patch output 0 (spreadBytes own packet) → Spreads (Spread ports n) o
+      unfolding spreadVerdict leaves _then_otherwise_ viewAt
+      spread-sent some short own is n o q1 q2 =
+          let same : spreadBytes own packet ≡ sent = ap (λ (x : List ℕ). spreadBytes x packet) is ∙ sym (spread-packet (arrivalOf packet m) (seen m t)) in
+          let goes = or-no (ne-eqb _ 0 (λ z. some (those ∙ z))) (too-long ∙ le-ltb _ _ short) in
+          (ap₂ Spread those (q1 ∙ ap length same) ∙ sym (then-false _ _ goes), q2 ∙ ap (patch output 0) same)
+
+-- ---- all of it
+module _ (packet : List ℕ) (m : Arrived) (hash t : List ℕ) (ok : Accepted packet m hash t) (place : ℕ) (known : Bool)
+    (d : decision (relayOf t) (arrivalOf packet m) ≡ Announce place known) where
+  abbrev a : Arrival
+  a = arrivalOf packet m
+
+  abbrev v : View
+  v = seen m t
+
+  abbrev r : Relay
+  r = relayOf t
+
+  pub announce-onward : Onward packet
+  announce-onward = let k = inverted r a (Announce place known) d in onward packet m hash t ok (everywhere (k .0)) (k .1)
+
+  pub announce-body : 84 ≤ length (payload packet)
+  announce-body =
+      let k = inverted r a (Announce place known) d in
+      let q = passed v a (everywhere (k .0)) (k .1) in
+      announce-long a (q .1 .form) (announce-way v a (k .0) (q .0))
+
+  -- the path that the view shows
+  shown : (s : Slot Path) → planOn packet m t ≡ follows (everywhere s) → v .path (destination a) ≡ s
+  shown s e = let f : Planned v a (follows (everywhere s)) = subst (Planned v a) e (planned v a) in f .found
+
+  placed : (s : Slot Path) → planOn packet m t ≡ follows (everywhere s) → place ≡ announcedPlace a s r → place < pathCount
+  unfolding noRoom viewAt announcedPlace
+  placed empty e at = subst (λ (n : ℕ). n < pathCount) (sym at) (ltb-true _ _ (not-false _ (passed v a (everywhere empty) e .1 .room)))
+  placed (used p) e at =
+      settled place pathCount (shown (used p) e) (path-found t (m .clock) (destination a) place at) (path-missing t (m .clock) (destination a) place at) .0
+
+  pub announce-room : place < pathCount
+  announce-room = let k = inverted r a (Announce place known) d in placed (k .0) (k .1) (k .2)
+
+  module _ (x : Announced) (blob : List ℕ) (set : x ≡ announcedBy v a) (is : blob ≡ blobOf (payload packet)) where
+    set-by : Announces v a x blob
+    unfolding announcedBy
+    set-by =
+        record {
+          destination-is = ap (λ (y : Announced). y .destination) set;
+          port-is = ap (λ (y : Announced). y .port) set;
+          hops-are = ap (λ (y : Announced). y .hops) set;
+          next-hop-is = ap (λ (y : Announced). y .«next_hop») set;
+          expiry-is = ap (λ (y : Announced). y .expiry) set;
+          blob-is = is;
+        }
+
+    path-left : (s : Slot Path) → planOn packet m t ≡ follows (everywhere s) → place ≡ announcedPlace a s r → isThere s ≡ known → Bytes t
+        → (u : List ℕ) → u ≡ pathKept t place known x blob hash (m .clock) → u ≡ bytesOf (enact v a (follows (everywhere s)) r)
+    unfolding announcedPlace isThere pathKept pathPut blobsKept stamped viewAt
+    path-left empty e at there b u q =
+        new-path-enacted v a t b (ok .formed) hash (ok .hashed) (r .hashes .next) refl x blob set-by place announce-room _ _ u at
+        (ap (λ (y : Blobs). pathWritten t place (announced x y)) (then-false _ _ (sym there))) refl q
+    path-left (used p) e at there b u q =
+        known-path-enacted v a t b (ok .formed) hash (ok .hashed) (r .hashes .next) refl x blob set-by place announce-room p _ _ u at
+        (ap (λ (n : ℕ). getD (r .paths) n empty) at ∙ shown (used p) e)
+        (ap (λ (y : Blobs). pathWritten t place (announced x y)) (then-true _ _ (sym there))) refl q
+
+    pub announce-left : Bytes t → (w : Verdict) (output u o : List ℕ) → Spreads packet m t output w o
+        → u ≡ pathKept t place known x blob hash (m .clock) → Left packet m t output w u o
+    unfolding verdictOn tablesOn outputOn verdict outputAfter wayVerdict outgoing
+    announce-left b w output u o spread q =
+        let k = inverted r a (Announce place known) d in (
+          spread .0 ∙ ap (verdict v a) (sym (k .1)),
+          path-left (k .0) (k .1) (k .2) (k .3) b u q ∙ ap (λ (todo : Plan). bytesOf (enact v a todo r)) (sym (k .1)),
+          spread .1
+              ∙ ap (λ (y : Verdict). leaves y then patch output 0 (spreadPacket v a) otherwise output) (spread .0)
+              ∙ ap (λ (todo : Plan). outputAfter v a todo output) (sym (k .1)),
+        )

@@ -1,0 +1,41 @@
+use Rattle.act.proofs.Spreads.{spread-none, spread-long, spread-sent}
+use borrow.Author.Needs.{needs}
+use Rattle.act.proofs.announces.spread.Statement.{statement}
+use Rattle.act.proofs.announces.spread.Tie as tie
+
+spread-ports-requires : tie.Need-spread-ports-requires
+spread-ports-requires c κs = search needs
+
+returns : tie.Need-returns
+returns c = spread-none _ _ _ _ _ (c .before .spread-ports .ensures) (c .if1 .taken)
+
+spread-length-requires : tie.Need-spread-length-requires
+spread-length-requires c κs = search needs
+
+returns-2 : tie.Need-returns-2
+returns-2 c = spread-long _ _ _ _ _ (c .before .before .before .spread-ports .ensures) (c .before .before .before .before .before .before .before .pre .0 .readable) (c .before .before .before .before .before .before .before .pre .1) (rw (← c .before .spread-length .ensures) (c .if2 .taken))
+
+own-address-requires : tie.Need-own-address-requires
+own-address-requires c κs = search needs
+
+spread-requires : tie.Need-spread-requires
+spread-requires c κs = search needs
+
+same-length : tie.Need-same-length
+same-length c = search needs
+
+returns-3 : tie.Need-returns-3
+returns-3 c = spread-sent _ _ _ _ _ (c .before .before .before .before .before .before .before .before .spread-ports .ensures) (c .before .before .before .before .before .before .before .before .before .before .before .before .pre .0 .readable) (c .before .before .before .before .before .before .before .before .before .before .before .before .pre .1) (c .before .before .before .before .before .before .before .if1 .left) (rw (← c .before .before .before .before .before .before .spread-length .ensures) (c .before .before .before .before .before .if2 .left)) _ (c .before .before .before .before .own-address .ensures) _ _ (c .before .before .spread .ensures .0) (c .before .before .spread .ensures .1)
+
+pub spread-spec : {M : Type 1} → statement M
+spread-spec =
+    tie.close
+    (tie.spec
+    spread-ports-requires
+    returns
+    spread-length-requires
+    returns-2
+    own-address-requires
+    spread-requires
+    same-length
+    returns-3)

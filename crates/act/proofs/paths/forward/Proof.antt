@@ -1,0 +1,33 @@
+use mathlib.Core.Path.{_∙_}
+use Rattle.outgoing.proofs.RuleLaws.{path-packet}
+use borrow.Author.Needs.{needs}
+use Rattle.act.proofs.paths.forward.Statement.{statement}
+use Rattle.act.proofs.paths.forward.Tie as tie
+
+path-hops-requires : tie.Need-path-hops-requires
+path-hops-requires c κs = search needs
+
+path-next-hop-requires : tie.Need-path-next-hop-requires
+path-next-hop-requires c κs = search needs
+
+forward-by-path-requires : tie.Need-forward-by-path-requires
+forward-by-path-requires c κs = search needs
+
+same-length : tie.Need-same-length
+same-length c = search needs
+
+returns : tie.Need-returns
+returns c = (
+  c .before .before .forward-by-path .ensures .0 ∙ rw (c .before .before .before .before .before .path-hops .ensures, c .before .before .before .before .path-next-hop .ensures, path-packet),
+  c .before .before .forward-by-path .ensures .1 ∙ rw (c .before .before .before .before .before .path-hops .ensures, c .before .before .before .before .path-next-hop .ensures, path-packet),
+)
+
+pub forward-spec : {M : Type 1} → statement M
+forward-spec =
+    tie.close
+    (tie.spec
+    path-hops-requires
+    path-next-hop-requires
+    forward-by-path-requires
+    same-length
+    returns)

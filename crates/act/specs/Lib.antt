@@ -1,0 +1,3 @@
+-- What acting on a decision leaves.
+pub mod Kept
+pub mod Acted

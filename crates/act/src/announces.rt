@@ -1,0 +1,155 @@
+// Accepted announces: spread or kept, and their path is set.
+use super::stamps::stamp;
+use plan::Arrived;
+use rules::Verdict;
+use update::Announced;
+ghost use mathlib.Core.Path.{_≡_};
+ghost use mathlib.Core.Bool.{true, not};
+ghost use Prim.Native.Nat.{_≤_, _<_};
+ghost use lib.Dec.{eqb};
+ghost use lib.ListN.{length};
+ghost use Rattle.octets.specs.Index.{_and_};
+ghost use Rattle.octets.specs.Choice.{_then_otherwise_};
+ghost use Rattle.packet.specs.Header.{typeTwo};
+ghost use Rattle.packet.specs.Read.{headerOf, partsOf, longestPacket, reads};
+ghost use Rattle.octets.specs.Part.{patch};
+ghost use Rattle.rules.specs.Numbers.{portCount, pathCount, clockLimit, pathLifetime};
+ghost use Rattle.rules.specs.View.{portOn};
+ghost use Rattle.rules.specs.Answers.{portSet};
+ghost use Rattle.rules.specs.Outgoing.{spreadPorts, spreadPacket};
+ghost use Rattle.rules.specs.Judging.{spreadVerdict, leaves};
+ghost use Rattle.tables.specs.Places.{tableSize};
+ghost use Rattle.tables.specs.Layout.{relayOf, wellFormed};
+ghost use Rattle.outgoing.specs.Leaving.{Onward};
+ghost use Rattle.plan.specs.declared.Decision.the-variants.{Announce};
+ghost use Rattle.plan.specs.Decided.{arrivalOf, decision};
+ghost use Rattle.act.specs.Kept.{pathPut, pathKept};
+ghost use Rattle.act.specs.Acted.{Accepted, seen, verdictOn, tablesOn, outputOn, announcedBy};
+
+const LONGEST_PACKET: usize = 500;
+
+const PORT_COUNT: u8 = 16;
+
+// How long a path lives, by the mode of the arrival port: boundary, access point, roaming.
+fn path_lifetime(mode: u8) -> u64
+    ensures { λ r. ⌜ (r ≡ pathLifetime mode) × (r ≤ 604800) ⌝ }
+{
+    if mode == 0 {
+        return 604_800;
+    }
+    if mode == 1 {
+        return 86_400;
+    }
+    21_600
+}
+
+// The next hop: the relay address, or the destination if type 1.
+fn next_hop_of(packet: &[u8]) -> [u8; 16]
+    requires { ⌜ reads longestPacket (now packet) ≡ true ⌝ }
+    ensures { λ r. ⌜ r ≡ (typeTwo (headerOf (now (packet .entry))) then partsOf (now (packet .entry)) .relay otherwise partsOf (now (packet .entry)) .destination) ⌝ }
+{
+    let parts = packet::parts_of(packet);
+    if packet::type_two(packet[0]) {
+        return parts.relay;
+    }
+    parts.destination
+}
+
+// What the announce sets of its path.
+fn announced_path(tables: &[u8], packet: &[u8], arrived: Arrived) -> Announced
+    requires { ⌜ (length (now tables) ≡ tableSize) × (reads longestPacket (now packet) ≡ true) × (arrived .port < portCount) × (arrived .clock < clockLimit) ⌝ }
+    ensures { λ r. ⌜ r ≡ announcedBy (seen arrived (now (tables .entry))) (arrivalOf (now (packet .entry)) arrived) ⌝ }
+{
+    let parts = packet::parts_of(packet);
+    let destination = parts.destination;
+    let next_hop = next_hop_of(packet);
+    let lifetime = path_lifetime(lookup::port_mode(tables, octets::wide(arrived.port)));
+    Announced {
+        destination,
+        port: arrived.port,
+        hops: parts.hops,
+        next_hop,
+        expiry: arrived.clock + lifetime,
+    }
+}
+
+// Puts the path of an announce at its place. A known path keeps its blobs.
+fn put_path(tables: &mut [u8], place: usize, known: bool, path: Announced, blob: [u8; 10])
+    requires { ⌜ (length (now tables) ≡ tableSize) × (place < pathCount) ⌝ }
+    ensures { λ _. ⌜ now (tables .exit) ≡ pathPut (now (tables .entry)) place known path blob ⌝ }
+{
+    if known {
+        update::put_known_path(tables, place, path, blob);
+        return;
+    }
+    update::put_new_path(tables, place, path, blob);
+}
+
+// All that an accepted announce writes.
+fn keep_path(
+    tables: &mut [u8],
+    place: usize,
+    known: bool,
+    path: Announced,
+    blob: [u8; 10],
+    hash: [u8; 32],
+    clock: u64,
+)
+    requires { ⌜ (wellFormed (now tables) ≡ true) × (place < pathCount) × (clock < clockLimit) ⌝ }
+    ensures { λ _. ⌜ now (tables .exit) ≡ pathKept (now (tables .entry)) place known path blob hash clock ⌝ }
+{
+    let next = update::next_hash(tables);
+    put_path(tables, place, known, path, blob);
+    stamp(tables, next, hash, clock);
+}
+
+// The ports that an announce is spread to: all that are on but the arrival port.
+fn spread_ports(tables: &[u8], arrival: u8) -> u16
+    requires { ⌜ length (now tables) ≡ tableSize ⌝ }
+    ensures { λ r. ⌜ r ≡ portSet (λ port. portOn (relayOf (now (tables .entry))) port and not (eqb port arrival)) ⌝ }
+{
+    let mut ports: u16 = 0;
+    let mut i: u8 = 0;
+    while i < PORT_COUNT {
+        let on = lookup::port_on(tables, octets::wide(i));
+        ports = outgoing::with_spread_port(ports, i, on, arrival);
+        i += 1;
+    }
+    ports
+}
+
+// Spreads an announce, or keeps it: if no port is left, or the result exceeds 500, the output stays.
+fn spread(packet: &[u8], tables: &[u8], arrived: Arrived, output: &mut [u8]) -> Verdict
+    requires { ⌜ Onward (now packet) × (length (now tables) ≡ tableSize) × (longestPacket ≤ length (now output)) ⌝ }
+    ensures { λ r. ⌜ (r ≡ spreadVerdict (spreadPorts (seen arrived (now (tables .entry))) (arrivalOf (now (packet .entry)) arrived)) (spreadPacket (seen arrived (now (tables .entry))) (arrivalOf (now (packet .entry)) arrived))) × (now (output .exit) ≡ (leaves r then patch (now (output .entry)) 0 (spreadPacket (seen arrived (now (tables .entry))) (arrivalOf (now (packet .entry)) arrived)) otherwise now (output .entry))) ⌝ }
+{
+    let ports = spread_ports(tables, arrived.port);
+    if ports == 0 {
+        return Verdict::Kept;
+    }
+    if outgoing::spread_length(packet) > LONGEST_PACKET {
+        return Verdict::Kept;
+    }
+    let length = outgoing::spread(packet, lookup::own_address(tables), output);
+    Verdict::Spread { ports, length }
+}
+
+// An accepted announce, whose path has a place.
+pub fn announce(
+    packet: &[u8],
+    arrived: Arrived,
+    hash: [u8; 32],
+    place: usize,
+    known: bool,
+    tables: &mut [u8],
+    output: &mut [u8],
+) -> Verdict
+    requires { ⌜ Accepted (now packet) arrived hash (now tables) × (longestPacket ≤ length (now output)) × (decision (relayOf (now tables)) (arrivalOf (now packet) arrived) ≡ Announce place known) ⌝ }
+    ensures { λ r. ⌜ (r ≡ verdictOn (now (packet .entry)) arrived (now (tables .entry))) × (now (tables .exit) ≡ tablesOn (now (packet .entry)) arrived (now (tables .entry))) × (now (output .exit) ≡ outputOn (now (packet .entry)) arrived (now (tables .entry)) (now (output .entry))) ⌝ }
+{
+    let verdict = spread(packet, tables, arrived, output);
+    let path = announced_path(tables, packet, arrived);
+    let blob = packet::blob(packet::payload(packet));
+    keep_path(tables, place, known, path, blob, hash, arrived.clock);
+    verdict
+}

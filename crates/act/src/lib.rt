@@ -1,0 +1,68 @@
+// What is done with an accepted packet once it is decided, one function for each thing that is written; the refusals before it, and the
+// tally behind it.
+// Entry points: refusal, counted. Every other function is a helper of the packet call: the caller shows that the packet is accepted, and
+// what was decided.
+mod announces;
+mod links;
+mod paths;
+mod refusals;
+mod returns;
+mod stamps;
+mod tallies;
+
+use announces::announce;
+use links::carry;
+use paths::request;
+use paths::send;
+use plan::Arrived;
+use plan::Decision;
+pub use refusals::refusal;
+use returns::receipt;
+use rules::Verdict;
+use stamps::keep_drop;
+use stamps::keep_packet;
+pub use tallies::counted;
+ghost use mathlib.Core.Path.{_≡_};
+ghost use Prim.Native.Nat.{_≤_};
+ghost use lib.ListN.{length};
+ghost use Rattle.packet.specs.Read.{longestPacket};
+ghost use Rattle.tables.specs.Layout.{relayOf};
+ghost use Rattle.plan.specs.Decided.{arrivalOf, decision as decisionOn};
+ghost use Rattle.act.specs.Acted.{Accepted, verdictOn, tablesOn, outputOn};
+
+// Does what was decided of an accepted packet.
+pub fn act(
+    packet: &[u8],
+    arrived: Arrived,
+    hash: [u8; 32],
+    decision: Decision,
+    tables: &mut [u8],
+    output: &mut [u8],
+) -> Verdict
+    requires { ⌜ Accepted (now packet) arrived hash (now tables) × (longestPacket ≤ length (now output)) × (decision ≡ decisionOn (relayOf (now tables)) (arrivalOf (now packet) arrived)) ⌝ }
+    ensures { λ r. ⌜ (r ≡ verdictOn (now (packet .entry)) arrived (now (tables .entry))) × (now (tables .exit) ≡ tablesOn (now (packet .entry)) arrived (now (tables .entry))) × (now (output .exit) ≡ outputOn (now (packet .entry)) arrived (now (tables .entry)) (now (output .entry))) ⌝ }
+{
+    match decision {
+        Decision::Drop(reason) => {
+            keep_drop(tables, reason, hash, arrived.clock);
+            Verdict::Drop(reason)
+        }
+        Decision::Deliver => {
+            keep_packet(tables, hash, arrived.clock);
+            Verdict::Deliver
+        }
+        Decision::Announce { place, known } => {
+            announce(packet, arrived, hash, place, known, tables, output)
+        }
+        Decision::Data { path } => send(packet, arrived, hash, path, tables, output),
+        Decision::Request { path, place } => {
+            request(packet, arrived, hash, path, place, tables, output)
+        }
+        Decision::Carry { link, port } => {
+            carry(packet, arrived, hash, link, port, tables, output)
+        }
+        Decision::Receipt { place, port } => {
+            receipt(packet, arrived, hash, place, port, tables, output)
+        }
+    }
+}
