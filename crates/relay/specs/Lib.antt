@@ -1,0 +1,2 @@
+-- What the relay's calls promise: Promise is all that a crate above may cite.
+pub mod Promise

@@ -1,0 +1,29 @@
+-- What the packet call promises, on the bytes that its caller lends. A crate above cites nothing else of this one.
+use Prim.Native.Nat.{ℕ}
+use mathlib.Core.Bool.{Bool}
+use mathlib.Core.List.{List}
+use Rattle.octets.specs.Choice.{_then_otherwise_}
+use Rattle.rules.specs.Arrival.{Arrival}
+use Rattle.rules.specs.Calls.{Judgement, packetCall}
+use Rattle.rules.specs.declared.Answer.{Answer}
+use Rattle.rules.specs.declared.Answer.the-variants.{Refused}
+use Rattle.rules.specs.declared.Tally.{Tally}
+use Rattle.tables.specs.Layout.{relayOf, bytesOf, wellFormed}
+
+-- what a packet call returns, and what it leaves in the tables, the tally and the output
+pub record Outcome : Type 0 where
+  pub answer : Answer
+  pub tables : List ℕ
+  pub tally : Tally
+  pub output : List ℕ
+
+-- the rules' judgement, its relay as bytes
+unfoldable pub inBytes : Judgement → Outcome
+inBytes j = record { answer = j .answer; tables = bytesOf (j .relay); tally = j .tally; output = j .output }
+
+-- tables that are not well formed are refused with 7; well-formed ones hold a relay, and the rules judge the packet. A refusal changes nothing
+unfoldable pub packetOn : List ℕ → ℕ → ℕ → Bool → List ℕ → Tally → List ℕ → Outcome
+packetOn packet port clock signed tables tally output =
+    wellFormed tables
+    then inBytes (packetCall (record { bytes = packet; port = port; clock = clock; signed = signed }) (relayOf tables) tally output)
+    otherwise record { answer = Refused 7; tables = tables; tally = tally; output = output }

@@ -1,0 +1,70 @@
+// The packet call: a packet is refused, or decided, acted on and counted.
+// Entry points: packet_call, which a host calls; judge, the same with the tally by value, for Rattle callers. Neither has a `requires`, and
+// both end on any bytes.
+use plan::Arrived;
+use rules::Answer;
+use rules::Tally;
+ghost use mathlib.Core.Path.{_≡_};
+ghost use Rattle.relay.specs.Promise.{packetOn};
+
+// What a packet call returns where the tally goes in by value.
+pub struct Judged {
+    pub answer: Answer,
+    pub tally: Tally,
+}
+
+// A packet that came by a port at a clock, with the host's word on its signature. The tables and the output are written where they lie.
+pub fn judge(
+    packet: &[u8],
+    port: u64,
+    clock: u64,
+    signed: bool,
+    tables: &mut [u8],
+    output: &mut [u8],
+    tally: Tally,
+) -> Judged
+    ensures { λ r. ⌜ (r .answer ≡ packetOn (now (packet .entry)) port clock signed (now (tables .entry)) tally (now (output .entry)) .answer)
+        × (r .tally ≡ packetOn (now (packet .entry)) port clock signed (now (tables .entry)) tally (now (output .entry)) .tally)
+        × (now (tables .exit) ≡ packetOn (now (packet .entry)) port clock signed (now (tables .entry)) tally (now (output .entry)) .tables)
+        × (now (output .exit) ≡ packetOn (now (packet .entry)) port clock signed (now (tables .entry)) tally (now (output .entry)) .output) ⌝ }
+{
+    let refusal = act::refusal(packet, port, clock, tables, output.len());
+    if refusal != 0 {
+        return Judged {
+            answer: Answer::Refused(refusal),
+            tally,
+        };
+    }
+    let arrived = Arrived {
+        port: octets::low_byte(port),
+        clock,
+        signed,
+    };
+    let hash = packet::hash_of(packet);
+    let decision = plan::decide(tables, packet, arrived, hash);
+    let verdict = act::act(packet, arrived, hash, decision, tables, output);
+    Judged {
+        answer: Answer::Judged(verdict),
+        tally: act::counted(verdict, tally),
+    }
+}
+
+// The same, with the tally changed where it lies.
+pub fn packet_call(
+    packet: &[u8],
+    port: u64,
+    clock: u64,
+    signed: bool,
+    tables: &mut [u8],
+    output: &mut [u8],
+    tally: &mut Tally,
+) -> Answer
+    ensures { λ r. ⌜ (r ≡ packetOn (now (packet .entry)) port clock signed (now (tables .entry)) (now (tally .entry)) (now (output .entry)) .answer)
+        × (now (tally .exit) ≡ packetOn (now (packet .entry)) port clock signed (now (tables .entry)) (now (tally .entry)) (now (output .entry)) .tally)
+        × (now (tables .exit) ≡ packetOn (now (packet .entry)) port clock signed (now (tables .entry)) (now (tally .entry)) (now (output .entry)) .tables)
+        × (now (output .exit) ≡ packetOn (now (packet .entry)) port clock signed (now (tables .entry)) (now (tally .entry)) (now (output .entry)) .output) ⌝ }
+{
+    let j = judge(packet, port, clock, signed, tables, output, *tally);
+    *tally = j.tally;
+    j.answer
+}
