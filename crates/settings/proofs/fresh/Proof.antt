@@ -1,0 +1,37 @@
+use Prim.Native.Nat.{ℕ}
+use mathlib.Core.Path.{ap, _∙_}
+use mathlib.Core.List.{List}
+use Rattle.octets.specs.Part.{patch}
+use Rattle.settings.proofs.Answered.{answers, answers-after, fresh-refused, fresh-done}
+use borrow.Author.Needs.{needs}
+use Rattle.settings.proofs.fresh.Statement.{statement}
+use Rattle.settings.proofs.fresh.Tie as tie
+
+returns : tie.Need-returns
+returns c = answers (fresh-refused (c .before .before .args .tables .now) (c .before .before .args .t2) (c .if1 .taken))
+
+clear-requires : tie.Need-clear-requires
+clear-requires c κs = search needs
+
+slice-aggregate-copy-at : tie.Need-slice-aggregate-copy-at
+slice-aggregate-copy-at c = search needs
+
+copy-at-requires : tie.Need-copy-at-requires
+copy-at-requires c κs = search needs
+
+same-length : tie.Need-same-length
+same-length c = search needs
+
+returns-2 : tie.Need-returns-2
+returns-2 c = answers-after (c .before .before .copy-at .ensures ∙ ap (λ (x : List ℕ). patch x 0 (c .before .before .before .before .before .before .before .before .before .before .before .args .t2)) (c .before .before .before .before .before .before .before .clear .ensures)) (fresh-done (c .before .before .before .before .before .before .before .before .before .before .before .args .tables .now) (c .before .before .before .before .before .before .before .before .before .before .before .args .t2) (c .before .before .before .before .before .before .before .before .before .if1 .left) (search needs))
+
+pub fresh-spec : {M : Type 1} → statement M
+fresh-spec =
+    tie.close
+    (tie.spec
+    returns
+    clear-requires
+    slice-aggregate-copy-at
+    copy-at-requires
+    same-length
+    returns-2)
