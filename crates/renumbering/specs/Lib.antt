@@ -1,0 +1,2 @@
+-- Renumbering the ports of the tables, section by section.
+pub mod Renamed

@@ -1,0 +1,25 @@
+-- The bytes of each section whose records store ports, with every stored port replaced by its image.
+use Prim.Native.Nat.{ℕ}
+use mathlib.Core.List.{List, map}
+use Rattle.octets.specs.Part.{fields}
+use Rattle.rules.specs.Numbers.{pathCount, linkCount, returnCount}
+use Rattle.rules.specs.Relay.{empty}
+use Rattle.rules.specs.Renumbering.{renamePath, renameLink, renameReturn, renameSlot}
+use Rattle.tables.specs.Places.{pathWidth, linkWidth, returnWidth, pathsAt, linksAt, returnsAt}
+use Rattle.tables.specs.Records.{slotOf, slotBytes, pathOf, pathBytes, linkOf, linkBytes, returnOf, returnBytes}
+use Rattle.tables.specs.Layout.{rows}
+
+unfoldable pub renamedPaths : List ℕ → List ℕ → List ℕ
+renamedPaths m t =
+    fields (slotBytes pathWidth pathBytes) pathCount empty
+    (map (renameSlot (renamePath m)) (rows (slotOf pathOf) pathsAt pathWidth pathCount t))
+
+unfoldable pub renamedLinks : List ℕ → List ℕ → List ℕ
+renamedLinks m t =
+    fields (slotBytes linkWidth linkBytes) linkCount empty
+    (map (renameSlot (renameLink m)) (rows (slotOf linkOf) linksAt linkWidth linkCount t))
+
+unfoldable pub renamedReturns : List ℕ → List ℕ → List ℕ
+renamedReturns m t =
+    fields (slotBytes returnWidth returnBytes) returnCount empty
+    (map (renameSlot (renameReturn m)) (rows (slotOf returnOf) returnsAt returnWidth returnCount t))

@@ -1,0 +1,33 @@
+// Renumbering: the ports get other numbers, by a one-to-one map of 0..15.
+// Entry point: renumber. It returns a refusal's number, or 0; a refusal changes no byte.
+mod moved;
+mod one_to_one;
+mod renamed;
+
+use moved::moved_ports;
+use one_to_one::one_to_one;
+use renamed::rename_links;
+use renamed::rename_paths;
+use renamed::rename_returns;
+use tables::check;
+use tables::places::PORTS_AT;
+ghost use mathlib.Core.Path.{_≡_};
+ghost use Rattle.settings.specs.Calls.{renumberOn};
+
+// Replaces every stored port, expired records' too, by its image, and moves each port's settings with it.
+pub fn renumber(tables: &mut [u8], map: [u8; 16]) -> u8
+    ensures { λ r. ⌜ (r ≡ renumberOn (now (tables .entry)) map .refusal) × (now (tables .exit) ≡ renumberOn (now (tables .entry)) map .tables) ⌝ }
+{
+    if !check(tables) {
+        return 7;
+    }
+    if !one_to_one(&map) {
+        return 8;
+    }
+    let ports = moved_ports(tables, &map);
+    rename_paths(tables, &map);
+    rename_links(tables, &map);
+    rename_returns(tables, &map);
+    octets::copy_at(tables, PORTS_AT, &ports);
+    0
+}
