@@ -1,0 +1,137 @@
+-- Demand 1, about the bytes: bad input gets a numbered refusal, exactly when and in the order of document 01's list, and a refusal changes
+-- nothing. That every call ends is part of each function's proof: a contract of Rattle says that the function returns.
+use Prim.Native.Nat.{ℕ}
+use mathlib.Core.Bool.{Bool, true, false, not, false≢true}
+use mathlib.Core.List.{List}
+use mathlib.Core.Path.{_≡_, refl, sym, ap, _∙_}
+use lib.Dec.{eqb, ltb, leb}
+use lib.ListN.{length}
+use Rattle.octets.specs.Bytes.{Bytes}
+use Rattle.octets.specs.Index.{_and_}
+use Rattle.octets.specs.Choice.{_then_otherwise_, _or_}
+use Rattle.packet.specs.Header.{accessCode, typeTwo}
+use Rattle.packet.specs.Read.{headerOf, longestPacket, readingRefusal}
+use Rattle.packet.specs.Write.{leastOutput}
+use Rattle.rules.specs.Numbers.{portCount, localCount, modeCount, clockLimit}
+use Rattle.rules.specs.Relay.{Relay}
+use Rattle.rules.specs.View.{portOn, isLocal}
+use Rattle.rules.specs.Renumbering.{oneToOne}
+use Rattle.rules.specs.Arrival.{Arrival}
+use Rattle.rules.specs.Refusals.{tablesOk, emptyLocal, packetRefusal, renumberingRefusal, portSettingRefusal, addingRefusal, removingRefusal}
+use Rattle.rules.specs.Calls.{Setting, packetCall, judge, judged, settled, setPort, addLocal, removeLocal, renumber}
+use Rattle.rules.specs.Run.{Call, packet, port-setting, adding, removing, renumbering}
+use Rattle.rules.specs.declared.Tally.{Tally}
+use Rattle.tables.specs.Layout.{relayOf, bytesOf, wellFormed}
+use Rattle.tables.proofs.Whole.{again, ok-relay}
+use Rattle.settings.specs.Calls.{written, called, setPortOn, addLocalOn, removeLocalOn, renumberOn}
+use Rattle.relay.specs.Promise.{inBytes, packetOn}
+use Rattle.demands.specs.Bytes.{OutcomeOn, ofPacket, ofCalled, performOn}
+use Rattle.demands.specs.Refusals.{refusal, refusalOn, refusing, isRefusal}
+
+-- ---- the statement
+-- a call on the tables `start` and the tally `counts`
+pub record RefusesExactly (c : Call) (start : List ℕ) (counts : Tally) : Type 0 where
+  -- where a row's condition holds: its number alone, and output, tables and tally are as they were
+  pub refused : eqb (refusalOn c start) 0 ≡ false
+      → performOn c start counts ≡ record { reply = refusing c (refusalOn c start); tables = start; tally = counts }
+  -- where none holds: no refusal
+  pub accepted : eqb (refusalOn c start) 0 ≡ true → isRefusal (performOn c start counts .reply) ≡ false
+
+-- ---- tables that row 7 names
+seven : (c : Call) (t : List ℕ) (tally : Tally) → wellFormed t ≡ false → performOn c t tally ≡ record { reply = refusing c 7; tables = t; tally = tally }
+unfolding performOn packetOn ofPacket ofCalled called setPortOn addLocalOn removeLocalOn renumberOn refusing _then_otherwise_
+seven (packet arrival output) t tally h = rw h
+seven (port-setting port on mode) t tally h = rw h
+seven (adding address) t tally h = rw h
+seven (removing address) t tally h = rw h
+seven (renumbering images) t tally h = rw h
+
+-- ---- all others
+module _ (t : List ℕ) (tally : Tally) (b : Bytes t) (h : wellFormed t ≡ true) where
+  setting-refused : (n : ℕ) (after : Relay) (call : Relay → Setting) → call (relayOf t) ≡ settled n (relayOf t) after → eqb n 0 ≡ false
+      → called t call ≡ record { refusal = n; tables = t }
+  unfolding called written settled _then_otherwise_
+  setting-refused n after call e z = rw (h, e, z, again t b h)
+
+  setting-accepted : (n : ℕ) (after : Relay) (call : Relay → Setting) → call (relayOf t) ≡ settled n (relayOf t) after → eqb n 0 ≡ true
+      → not (eqb (called t call .refusal) 0) ≡ false
+  unfolding called written settled _then_otherwise_
+  setting-accepted n after call e z = rw (h, e, z)
+
+  rows-refused : (c : Call) → eqb (refusal c (relayOf t)) 0 ≡ false
+      → performOn c t tally ≡ record { reply = refusing c (refusal c (relayOf t)); tables = t; tally = tally }
+  unfolding performOn packetOn packetCall inBytes ofPacket ofCalled setPortOn addLocalOn removeLocalOn renumberOn setPort addLocal removeLocal renumber refusal refusing _then_otherwise_
+  rows-refused (packet arrival output) z = rw (h, z, again t b h)
+  rows-refused (port-setting port on mode) z = ap (ofCalled tally) (setting-refused _ _ (setPort port on mode) refl z)
+  rows-refused (adding address) z = ap (ofCalled tally) (setting-refused _ _ (addLocal address) refl z)
+  rows-refused (removing address) z = ap (ofCalled tally) (setting-refused _ _ (removeLocal address) refl z)
+  rows-refused (renumbering images) z = ap (ofCalled tally) (setting-refused _ _ (renumber images) refl z)
+
+  rows-accepted : (c : Call) → eqb (refusal c (relayOf t)) 0 ≡ true → isRefusal (performOn c t tally .reply) ≡ false
+  unfolding performOn packetOn packetCall judge judged inBytes ofPacket ofCalled setPortOn addLocalOn removeLocalOn renumberOn setPort addLocal removeLocal renumber refusal isRefusal _then_otherwise_
+  rows-accepted (packet arrival output) z = rw (h, z)
+  rows-accepted (port-setting port on mode) z = setting-accepted _ _ (setPort port on mode) refl z
+  rows-accepted (adding address) z = setting-accepted _ _ (addLocal address) refl z
+  rows-accepted (removing address) z = setting-accepted _ _ (removeLocal address) refl z
+  rows-accepted (renumbering images) z = setting-accepted _ _ (renumber images) refl z
+
+-- ---- the theorem
+-- for every call, and all bytes
+pub refuses-exactly : (c : Call) (tables : List ℕ) (tally : Tally) → Bytes tables → RefusesExactly c tables tally
+unfolding refusalOn _then_otherwise_
+refuses-exactly c tables tally b = go (wellFormed tables) refl
+  where
+    go : (v : Bool) → wellFormed tables ≡ v → RefusesExactly c tables tally
+    go true h = record { refused = λ z. rw h (rows-refused tables tally b h c (rw h at z)); accepted = λ z. rows-accepted tables tally b h c (rw h at z) }
+    go false h = record { refused = λ z. rw h (seven c tables tally h); accepted = λ z. absurd (false≢true (rw h at z)) }
+
+-- ---- the rows of each call, written out
+-- well-formed tables hold a relay that row 7 doesn't name, so that the rows below it decide
+after-seven : (t : List ℕ) (below : ℕ)
+    → (wellFormed t then (not (tablesOk (relayOf t)) then 7 otherwise below) otherwise 7) ≡ (not (wellFormed t) then 7 otherwise below)
+unfolding _then_otherwise_
+after-seven t below = go (wellFormed t) refl
+  where
+    go : (v : Bool) → wellFormed t ≡ v → (wellFormed t then (not (tablesOk (relayOf t)) then 7 otherwise below) otherwise 7) ≡ (not (wellFormed t) then 7 otherwise below)
+    go true h = rw (h, ok-relay t h)
+    go false h = rw h
+
+-- a packet: 7, 6, 4, 5, 1, 2, 3, 1
+pub packet-rows : (a : Arrival) (output tables : List ℕ)
+    → refusalOn (packet a output) tables
+    ≡ (not (wellFormed tables) then 7 otherwise
+    ltb (length output) leastOutput then 6 otherwise
+    not (portOn (relayOf tables) (a .port)) then 4 otherwise
+    leb clockLimit (a .clock) or ltb (a .clock) (relayOf tables .clock) then 5 otherwise
+    ltb (length (a .bytes)) 19 then 1 otherwise
+    ltb longestPacket (length (a .bytes)) then 2 otherwise
+    accessCode (headerOf (a .bytes)) then 3 otherwise
+    typeTwo (headerOf (a .bytes)) and ltb (length (a .bytes)) 35 then 1 otherwise 0)
+unfolding refusalOn refusal packetRefusal readingRefusal
+packet-rows a output tables = after-seven tables _
+
+-- setting a port: 7, 9
+pub port-rows : (port : ℕ) (on : Bool) (mode : ℕ) (tables : List ℕ)
+    → refusalOn (port-setting port on mode) tables
+    ≡ (not (wellFormed tables) then 7 otherwise leb portCount port or leb modeCount mode then 9 otherwise 0)
+unfolding refusalOn refusal portSettingRefusal
+port-rows port on mode tables = after-seven tables _
+
+-- adding a local address: 7, 11, 10
+pub adding-rows : (address tables : List ℕ)
+    → refusalOn (adding address) tables
+    ≡ (not (wellFormed tables) then 7 otherwise isLocal (relayOf tables) address then 11 otherwise leb localCount (emptyLocal (relayOf tables)) then 10 otherwise 0)
+unfolding refusalOn refusal addingRefusal
+adding-rows address tables = after-seven tables _
+
+-- removing one: 7, 11
+pub removing-rows : (address tables : List ℕ)
+    → refusalOn (removing address) tables ≡ (not (wellFormed tables) then 7 otherwise not (isLocal (relayOf tables) address) then 11 otherwise 0)
+unfolding refusalOn refusal removingRefusal
+removing-rows address tables = after-seven tables _
+
+-- renumbering: 7, 8
+pub renumbering-rows : (images tables : List ℕ)
+    → refusalOn (renumbering images) tables ≡ (not (wellFormed tables) then 7 otherwise not (oneToOne images) then 8 otherwise 0)
+unfolding refusalOn refusal renumberingRefusal
+renumbering-rows images tables = after-seven tables _

@@ -1,0 +1,134 @@
+-- Demand 2, about the bytes: every answer and the tables after it are those of document 01's rules, for any sequence of calls; and reading and
+-- writing a packet undo each other.
+use Prim.Native.Nat.{ℕ, _≤_}
+use mathlib.Core.Bool.{true}
+use mathlib.Core.List.{List, [], _∷_}
+use mathlib.Core.Path.{_≡_, refl, sym, ap, subst, _∙_}
+use lib.ListN.{length, take}
+use borrow.Author.Tests.{eq-eqb}
+use Rattle.octets.specs.Bytes.{Bytes}
+use Rattle.octets.specs.Part.{patch}
+use Rattle.octets.specs.Choice.{_then_otherwise_}
+use Rattle.octets.proofs.Choice.{then-true}
+use Rattle.packet.specs.Read.{payload, longestPacket, reads, reading}
+use Rattle.packet.specs.Write.{packetOf, leastOutput, writingRefusal, writing, readBack}
+use Rattle.packet.specs.declared.Parts.{Parts}
+use Rattle.packet.proofs.ListLaws.{patched-start}
+use Rattle.packet.proofs.ReadLaws.{reads-readable}
+use Rattle.packet.proofs.WriteLaws.{Wide, writable, writing-done}
+use Rattle.packet.proofs.RoundTrip.{reading-writing, writing-reading, write-payload}
+use Rattle.rules.specs.Relay.{Relay, fresh}
+use Rattle.rules.specs.Refusals.{tablesOk}
+use Rattle.rules.specs.Calls.{newTally, Setting, packetCall, setPort, addLocal, removeLocal, renumber}
+use Rattle.rules.specs.Run.{Call, packet, port-setting, adding, removing, renumbering, Reply, Outcome, ofJudgement, ofSetting, perform, replies, relayAfter, tallyAfter}
+use Rattle.rules.specs.declared.Tally.{Tally}
+use Rattle.rules.proofs.Valid.{step-ok, stays-ok, fresh-ok}
+use Rattle.tables.specs.Places.{addressWidth, tableSize}
+use Rattle.tables.specs.Layout.{relayOf, bytesOf, wellFormed}
+use Rattle.tables.specs.Shape.{isBytes, shaped}
+use Rattle.tables.proofs.Whole.{formed, again, ok-relay, shaped-of, back, ok-bytes, bytes-bytes}
+use Rattle.settings.specs.Calls.{Called, written, called, setPortOn, addLocalOn, removeLocalOn, renumberOn, freshOn}
+use Rattle.demands.specs.Given.{CallBytes, CallsBytes}
+use Rattle.relay.specs.Promise.{inBytes, packetOn}
+use Rattle.demands.specs.Bytes.{OutcomeOn, ofPacket, ofCalled, performOn, repliesOn, tablesAfterOn, tallyAfterOn}
+use Rattle.demands.proofs.Shape.{step-shaped, stays-shaped, fresh-shaped}
+
+-- ---- the statement
+-- over a list of calls on the tables `start` and the tally `counts`: what each call replies, its output with it, is what the rules reply, the
+-- tables at the end are the bytes of the rules' relay, and the tally is the rules'
+pub record FollowsTheRules (cs : List Call) (start : List ℕ) (counts : Tally) (r : Relay) : Type 0 where
+  pub answers : repliesOn cs start counts ≡ replies cs r counts
+  pub tables : tablesAfterOn cs start counts ≡ bytesOf (relayAfter cs r counts)
+  pub tally : tallyAfterOn cs start counts ≡ tallyAfter cs r counts
+
+-- ---- one call on a relay's bytes
+-- an outcome with the relay's bytes
+unfoldable pub outcomeOn : Outcome → OutcomeOn
+outcomeOn o = record { reply = o .reply; tables = bytesOf (o .relay); tally = o .tally }
+
+module _ (r : Relay) (s : shaped r ≡ true) (ok : tablesOk r ≡ true) (t : Tally) where
+  called-bytes : (call : Relay → Setting) → ofCalled t (called (bytesOf r) call) ≡ outcomeOn (ofSetting t (call r))
+  unfolding called written ofCalled ofSetting outcomeOn _then_otherwise_
+  called-bytes call = rw (ok-bytes r s ok, back r s ok)
+
+  pub call-on : (c : Call) → performOn c (bytesOf r) t ≡ outcomeOn (perform c r t)
+  unfolding performOn perform packetOn inBytes ofPacket ofJudgement outcomeOn setPortOn addLocalOn removeLocalOn renumberOn _then_otherwise_
+  call-on (packet arrival output) = rw (ok-bytes r s ok, back r s ok)
+  call-on (port-setting port on mode) = called-bytes (setPort port on mode)
+  call-on (adding address) = called-bytes (addLocal address)
+  call-on (removing address) = called-bytes (removeLocal address)
+  call-on (renumbering images) = called-bytes (renumber images)
+
+-- ---- lists of calls on a relay's bytes
+pub run-on : (cs : List Call) (r : Relay) (t : Tally) → CallsBytes cs → tablesOk r ≡ true → shaped r ≡ true → FollowsTheRules cs (bytesOf r) t r
+unfolding CallsBytes repliesOn tablesAfterOn tallyAfterOn replies relayAfter tallyAfter outcomeOn
+run-on [] r t b ok s = record { answers = refl; tables = refl; tally = refl }
+run-on (c ∷ cs) r t b ok s =
+    let o : Outcome = perform c r t in
+    let first : performOn c (bytesOf r) t ≡ outcomeOn o = call-on r s ok t c in
+    let rest : FollowsTheRules cs (bytesOf (o .relay)) (o .tally) (o .relay) =
+    run-on cs (o .relay) (o .tally) (b .1) (step-ok c r t ok) (step-shaped c r t (b .0) ok s) in
+    record {
+      answers =
+          ap (λ (x : OutcomeOn). x .reply ∷ repliesOn cs (x .tables) (x .tally)) first
+          ∙ ap (λ (l : List Reply). o .reply ∷ l) (rest .answers);
+      tables = ap (λ (x : OutcomeOn). tablesAfterOn cs (x .tables) (x .tally)) first ∙ rest .tables;
+      tally = ap (λ (x : OutcomeOn). tallyAfterOn cs (x .tables) (x .tally)) first ∙ rest .tally;
+    }
+
+-- ---- the theorems
+-- from any tables that are well formed, and any tally
+pub follows-the-rules : (cs : List Call) (tables : List ℕ) (tally : Tally)
+    → CallsBytes cs → Bytes tables → wellFormed tables ≡ true → FollowsTheRules cs tables tally (relayOf tables)
+follows-the-rules cs tables tally given b h =
+    subst (λ (x : List ℕ). FollowsTheRules cs x tally (relayOf tables)) (again tables b h)
+    (run-on cs (relayOf tables) tally given (ok-relay tables h) (shaped-of tables b (formed tables h .size)))
+
+-- the tables after any list of calls are bytes and well formed: refusal 7 never names them, and the theorem starts anew from them
+module _ (cs : List Call) (tables : List ℕ) (tally : Tally) (given : CallsBytes cs) (b : Bytes tables) (h : wellFormed tables ≡ true) where
+  abbrev last : Relay
+  last = relayAfter cs (relayOf tables) tally
+
+  last-shaped : shaped last ≡ true
+  last-shaped = stays-shaped cs (relayOf tables) tally given (ok-relay tables h) (shaped-of tables b (formed tables h .size))
+
+  last-ok : tablesOk last ≡ true
+  last-ok = stays-ok cs (relayOf tables) tally (ok-relay tables h)
+
+  pub stays-well-formed : wellFormed (tablesAfterOn cs tables tally) ≡ true
+  stays-well-formed = ap wellFormed (follows-the-rules cs tables tally given b h .tables) ∙ ok-bytes last last-shaped last-ok
+
+  pub stays-bytes : Bytes (tablesAfterOn cs tables tally)
+  stays-bytes = subst Bytes (sym (follows-the-rules cs tables tally given b h .tables)) (bytes-bytes last last-shaped last-ok)
+
+-- from the bytes that `fresh` makes of a buffer of the right size, whatever it held, with tally 0
+module _ (buffer own : List ℕ) (size : length buffer ≡ tableSize) where
+  pub fresh-made : freshOn buffer own ≡ record { refusal = 0; tables = bytesOf (fresh own) }
+  unfolding freshOn
+  fresh-made = then-true _ _ (eq-eqb (length buffer) tableSize size)
+
+  pub follows-the-rules-fresh : (cs : List Call) → CallsBytes cs → isBytes addressWidth own ≡ true
+      → FollowsTheRules cs (freshOn buffer own .tables) newTally (fresh own)
+  follows-the-rules-fresh cs given h =
+      subst (λ (x : Called). FollowsTheRules cs (x .tables) newTally (fresh own)) (sym fresh-made)
+      (run-on cs (fresh own) newTally given (fresh-ok own) (fresh-shaped own h))
+
+-- ---- reading and writing a packet undo each other
+-- the parts that a reading gives, written with the payload: the packet stands at the output's start, byte for byte
+pub read-then-written : (p output : List ℕ) → reads longestPacket p ≡ true → leastOutput ≤ length output
+    → writing (reading longestPacket p .parts) (payload p) output ≡ record { answer = record { refusal = 0; length = length p }; output = patch output 0 p }
+read-then-written p output h room = reading-writing longestPacket p h output (reads-readable longestPacket p h .fits) room
+
+-- what a writing that nothing refuses leaves at the output's start reads as the parts, in type 1 with zeros for the relay address, and as
+-- the payload
+module _ (q : Parts) (body output : List ℕ) (wide : Wide q) (z : writingRefusal (length output) q body ≡ 0) where
+  start : take (writing q body output .answer .length) (writing q body output .output) ≡ packetOf q body
+  start = rw (writing-done q body output z) (patched-start output (packetOf q body) (length (packetOf q body)) refl)
+
+  pub written-then-read : reading longestPacket (take (writing q body output .answer .length) (writing q body output .output))
+      ≡ record { refusal = 0; parts = readBack q }
+  written-then-read =
+      writing-reading q body wide longestPacket output z (rw (writing-done q body output z) (writable (length output) q body z .fits))
+
+  pub written-payload : payload (take (writing q body output .answer .length) (writing q body output .output)) ≡ body
+  written-payload = ap payload start ∙ write-payload q body wide

@@ -1,0 +1,41 @@
+-- The calls on the bytes that a caller lends, one after the other: each gets the tables and the tally that the one before left.
+use Prim.Native.Nat.{ℕ}
+use mathlib.Core.List.{List, [], _∷_}
+use Rattle.rules.specs.Run.{Call, packet, port-setting, adding, removing, renumbering, Reply, answered, numbered}
+use Rattle.rules.specs.declared.Tally.{Tally}
+use Rattle.settings.specs.Calls.{Called, setPortOn, addLocalOn, removeLocalOn, renumberOn}
+use Rattle.relay.specs.Promise.{Outcome, packetOn}
+
+-- ---- any call
+pub record OutcomeOn : Type 0 where
+  pub reply : Reply
+  pub tables : List ℕ
+  pub tally : Tally
+
+unfoldable pub ofPacket : Outcome → OutcomeOn
+ofPacket o = record { reply = answered (o .answer) (o .output); tables = o .tables; tally = o .tally }
+
+unfoldable pub ofCalled : Tally → Called → OutcomeOn
+ofCalled tally c = record { reply = numbered (c .refusal); tables = c .tables; tally = tally }
+
+unfoldable pub performOn : Call → List ℕ → Tally → OutcomeOn
+performOn (packet arrival output) tables tally =
+    ofPacket (packetOn (arrival .bytes) (arrival .port) (arrival .clock) (arrival .signed) tables tally output)
+performOn (port-setting port on mode) tables tally = ofCalled tally (setPortOn tables port on mode)
+performOn (adding address) tables tally = ofCalled tally (addLocalOn tables address)
+performOn (removing address) tables tally = ofCalled tally (removeLocalOn tables address)
+performOn (renumbering images) tables tally = ofCalled tally (renumberOn tables images)
+
+-- ---- lists of calls: what each replies, and the tables and the tally after the last
+unfoldable pub repliesOn : List Call → List ℕ → Tally → List Reply
+repliesOn [] tables tally = []
+repliesOn (c ∷ cs) tables tally =
+    performOn c tables tally .reply ∷ repliesOn cs (performOn c tables tally .tables) (performOn c tables tally .tally)
+
+unfoldable pub tablesAfterOn : List Call → List ℕ → Tally → List ℕ
+tablesAfterOn [] tables tally = tables
+tablesAfterOn (c ∷ cs) tables tally = tablesAfterOn cs (performOn c tables tally .tables) (performOn c tables tally .tally)
+
+unfoldable pub tallyAfterOn : List Call → List ℕ → Tally → Tally
+tallyAfterOn [] tables tally = tally
+tallyAfterOn (c ∷ cs) tables tally = tallyAfterOn cs (performOn c tables tally .tables) (performOn c tables tally .tally)

@@ -1,0 +1,4 @@
+-- The calls on the bytes that a caller lends: what each is given, promises and refuses.
+pub mod Given
+pub mod Bytes
+pub mod Refusals
