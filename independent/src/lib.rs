@@ -1,7 +1,17 @@
 //! A second implementation of what Haskumye does, written from the standards and the scope document alone, and its comparison with the proved core.
-//! Nothing here is shared with the core: `core` only declares the functions of the linked archive.
+//! Nothing here is shared with the core: `core` only declares the functions of the linked archives.
 
+pub mod answer;
 pub mod compare;
 pub mod core;
+pub mod engine;
+pub mod faults;
+pub mod line;
+pub mod packet;
 pub mod random;
+pub mod relay;
+pub mod samples;
 pub mod sha256;
+pub mod tables;
+pub mod traffic;
+pub mod vectors;

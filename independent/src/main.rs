@@ -1,7 +1,8 @@
-//! compare [SUBJECT..] [--seed N] [--count N] [--damage]
+//! compare [SUBJECT..] [--seed N] [--count N] [--calls N] [--fault NAME] [--damage]
 //! Compares the proved core with the independent program. The last line is `N passed, M failed`.
 
 use haskumye_independent::compare::{Options, Subject, Tally, SUBJECTS};
+use haskumye_independent::faults::Fault;
 use std::process::ExitCode;
 
 fn main() -> ExitCode {
@@ -27,12 +28,14 @@ fn main() -> ExitCode {
 }
 
 fn read_arguments(mut words: impl Iterator<Item = String>) -> Result<(Options, Vec<Subject>), String> {
-    let mut options = Options { seed: 1, count: 2000, damage: false };
+    let mut options = Options { seed: 1, count: 2_000, calls: 100_000, fault: None, damage: false };
     let mut subjects = Vec::new();
     while let Some(word) = words.next() {
         match word.as_str() {
             "--seed" => options.seed = number(&word, words.next())?,
             "--count" => options.count = number(&word, words.next())? as usize,
+            "--calls" => options.calls = number(&word, words.next())? as usize,
+            "--fault" => options.fault = Some(fault(words.next())?),
             "--damage" => options.damage = true,
             name => match SUBJECTS.iter().find(|subject| subject.0 == name) {
                 Some(subject) => subjects.push(*subject),
@@ -48,4 +51,8 @@ fn read_arguments(mut words: impl Iterator<Item = String>) -> Result<(Options, V
 
 fn number(option: &str, word: Option<String>) -> Result<u64, String> {
     word.and_then(|w| w.parse().ok()).ok_or(format!("{option} wants a number"))
+}
+
+fn fault(word: Option<String>) -> Result<Fault, String> {
+    word.and_then(|name| Fault::from_name(&name)).ok_or("--fault wants a fault's name".to_string())
 }

@@ -20,7 +20,29 @@ impl Random {
         (self.word() % bound as u64) as usize
     }
 
+    /// True once in so many times.
+    pub fn one_in(&mut self, times: usize) -> bool {
+        self.below(times) == 0
+    }
+
+    pub fn pick<T: Copy>(&mut self, choices: &[T]) -> T {
+        choices[self.below(choices.len())]
+    }
+
     pub fn bytes(&mut self, length: usize) -> Vec<u8> {
         (0..length).map(|_| self.word() as u8).collect()
+    }
+
+    pub fn array<const N: usize>(&mut self) -> [u8; N] {
+        std::array::from_fn(|_| self.word() as u8)
+    }
+
+    /// A one-to-one map on 0..15.
+    pub fn permutation(&mut self) -> [u8; 16] {
+        let mut map = std::array::from_fn(|port| port as u8);
+        for last in (1..map.len()).rev() {
+            map.swap(last, self.below(last + 1));
+        }
+        map
     }
 }

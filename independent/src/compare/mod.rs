@@ -1,12 +1,24 @@
 //! The comparisons, a module for each subject.
 
+mod faults;
+pub mod lockstep;
+pub mod packet;
+mod relay;
+mod renumbering;
 mod sha256;
+pub mod tables;
+
+use crate::faults::Fault;
 
 /// What a run is asked for. Each subject reads the same options.
 pub struct Options {
     pub seed: u64,
     /// How many random cases.
     pub count: usize,
+    /// How many calls on a relay.
+    pub calls: usize,
+    /// One fault alone, where a subject tries faults.
+    pub fault: Option<Fault>,
     /// Damage every expectation, so that every comparison must fail.
     pub damage: bool,
 }
@@ -14,7 +26,36 @@ pub struct Options {
 pub type Subject = (&'static str, fn(&Options, &mut Tally));
 
 /// A new subject is a module above and a line here.
-pub const SUBJECTS: &[Subject] = &[("sha256", sha256::run)];
+pub const SUBJECTS: &[Subject] = &[
+    ("sha256", sha256::run),
+    ("packet", packet::run),
+    ("tables", tables::run),
+    ("relay", relay::run),
+    ("renumbering", renumbering::run),
+    ("faults", faults::run),
+];
+
+/// What a call of the core returned, as a number, and the buffer that it was lent, after it.
+#[derive(Clone, Debug, PartialEq, Eq)]
+pub struct Called {
+    pub number: u64,
+    pub buffer: Vec<u8>,
+}
+
+impl Called {
+    pub fn new(number: impl Into<u64>, buffer: &[u8]) -> Self {
+        Self { number: number.into(), buffer: buffer.to_vec() }
+    }
+
+    /// Wrong in the number or in a bit of the buffer, by turns.
+    fn damaged(mut self, turn: usize) -> Self {
+        match self.buffer.len() {
+            length if length > 0 && turn % 3 == 1 => self.buffer[turn % length] ^= 1 << (turn % 8),
+            _ => self.number ^= 1,
+        }
+        self
+    }
+}
 
 /// Counts comparisons, and shows the first few that fail.
 #[derive(Default)]
@@ -26,14 +67,31 @@ pub struct Tally {
 impl Tally {
     const SHOWN: usize = 5;
 
-    pub fn expect<T: PartialEq + std::fmt::Debug>(&mut self, what: &str, got: T, expected: T) {
+    /// Compares two calls. With `--damage` what is expected is wrong.
+    pub fn call(&mut self, what: &str, got: Called, expected: Called, damage: bool) {
+        let turn = self.passed + self.failed;
+        let expected = if damage { expected.damaged(turn) } else { expected };
         if got == expected {
             self.passed += 1;
-            return;
+        } else {
+            self.fail(&format!("{what}: got {got:02x?}, expected {expected:02x?}"));
         }
+    }
+
+    /// Something that must hold; damaged, nothing does.
+    pub fn holds(&mut self, what: &str, holds: bool, damage: bool) {
+        if holds && !damage {
+            self.passed += 1;
+        } else {
+            self.fail(&format!("{what}: it doesn't hold"));
+        }
+    }
+
+    /// Counts a comparison that failed.
+    pub fn fail(&mut self, what: &str) {
         self.failed += 1;
         if self.failed <= Self::SHOWN {
-            println!("{what}: got {got:02x?}, expected {expected:02x?}");
+            println!("{what}");
         }
     }
 }

@@ -1,15 +1,13 @@
 //! SHA-256: the core against NIST's examples and against the independent implementation.
 
-use super::{Options, Tally};
+use super::{Called, Options, Tally};
 use crate::core;
 use crate::random::Random;
 use crate::sha256::Sha256;
+use crate::vectors::bytes;
 
 /// The longest message that document 01 lets be hashed.
 const LONGEST: usize = 65_535;
-
-/// The refusal, and the buffer after the call.
-type Answer = (u8, [u8; 32]);
 
 /// What the buffer holds before each call.
 const BEFORE: [u8; 32] = [0xa5; 32];
@@ -40,23 +38,19 @@ fn nist() -> Vec<(Vec<u8>, &'static str)> {
     ]
 }
 
-fn from_hex(text: &str) -> [u8; 32] {
-    std::array::from_fn(|i| u8::from_str_radix(&text[2 * i..2 * i + 2], 16).expect("two hexadecimal digits"))
-}
-
 /// Document 01's answer, given the digest: a refusal changes nothing.
-fn answer(length: usize, digest: [u8; 32]) -> Answer {
+fn answer(length: usize, digest: [u8; 32]) -> Called {
     if length > LONGEST {
-        (2, BEFORE)
+        Called::new(2u8, &BEFORE)
     } else {
-        (0, digest)
+        Called::new(0u8, &digest)
     }
 }
 
-fn core_answer(message: &[u8]) -> Answer {
+fn core_answer(message: &[u8]) -> Called {
     let mut out = BEFORE;
     let refusal = core::sha256(message, &mut out);
-    (refusal, out)
+    Called::new(refusal, &out)
 }
 
 struct Comparison<'a> {
@@ -66,16 +60,8 @@ struct Comparison<'a> {
 }
 
 impl Comparison<'_> {
-    /// With `--damage` the expectation is wrong: in the refusal and in a digest's bit by turns.
-    fn expect(&mut self, what: &str, got: Answer, mut expected: Answer) {
-        if self.options.damage {
-            if (self.tally.passed + self.tally.failed) % 2 == 1 {
-                expected.1[31] ^= 1;
-            } else {
-                expected.0 ^= 1;
-            }
-        }
-        self.tally.expect(what, got, expected);
+    fn expect(&mut self, what: &str, got: Called, expected: Called) {
+        self.tally.call(what, got, expected, self.options.damage);
     }
 
     fn core(&mut self, what: &str, message: &[u8]) {
@@ -88,10 +74,10 @@ pub fn run(options: &Options, tally: &mut Tally) {
     let mut random = Random::new(options.seed);
     let mut c = Comparison { options, tally, independent: Sha256::default() };
     for (message, text) in nist() {
-        let digest = from_hex(text);
+        let digest: [u8; 32] = bytes(text).try_into().expect("thirty-two bytes");
         let what = format!("NIST's example of {} bytes", message.len());
-        let own = (0, c.independent.digest(&message));
-        c.expect(&format!("{what}, independent"), own, (0, digest));
+        let own = Called::new(0u8, &c.independent.digest(&message));
+        c.expect(&format!("{what}, independent"), own, Called::new(0u8, &digest));
         c.expect(&format!("{what}, core"), core_answer(&message), answer(message.len(), digest));
     }
     let long = random.bytes(LONGEST + 1);

@@ -1,0 +1,152 @@
+//! Two engines on the same calls: after every call the answer, the whole output, all tables and the tally are compared.
+
+use crate::answer::Verdict;
+use crate::engine::{Call, Engine, Outcome, Run};
+use crate::tables::{Section, HASHES, LINKS, LOCALS, PATHS, PORTS, RETURNS};
+use std::fmt;
+
+/// How often each refusal, reason and verdict was reached.
+#[derive(Clone, Default)]
+pub struct Coverage {
+    pub calls: usize,
+    /// By number: refusals 1 to 11, reasons 1 to 14.
+    pub refusals: [usize; 12],
+    pub reasons: [usize; 15],
+    /// By `Verdict::index`.
+    pub verdicts: [usize; 5],
+    /// Calls without a packet that were done.
+    pub done: usize,
+}
+
+impl Coverage {
+    pub fn count(&mut self, outcome: &Outcome) {
+        self.calls += 1;
+        match outcome {
+            Outcome::Refused(number) => self.refusals[usize::from(*number).min(11)] += 1,
+            Outcome::Done => self.done += 1,
+            Outcome::Judged(answer) => {
+                self.verdicts[answer.verdict.index()] += 1;
+                if let Verdict::Drop(reason) = answer.verdict {
+                    self.reasons[usize::from(reason.number())] += 1;
+                }
+            }
+        }
+    }
+
+    /// Each thing that can be reached, in words, and how often it was. Reason 14 can't be.
+    pub fn reached(&self) -> Vec<(String, usize)> {
+        let refusals = (1..=11).map(|number| (format!("refusal {number}"), self.refusals[number]));
+        let reasons = (1..=13).map(|number| (format!("drop {number}"), self.reasons[number]));
+        let words = ["drop", "deliver", "forward", "spread", "kept"];
+        let verdicts = words.iter().zip(self.verdicts).map(|(word, times)| (word.to_string(), times));
+        refusals.chain(reasons).chain(verdicts).collect()
+    }
+}
+
+/// The first call on which two engines differ.
+pub struct Difference {
+    /// How many calls show it.
+    pub calls: usize,
+    pub call: Call,
+    pub lines: Vec<String>,
+}
+
+impl fmt::Display for Difference {
+    fn fmt(&self, f: &mut fmt::Formatter) -> fmt::Result {
+        write!(f, "call {} differs: {}", self.calls, self.call)?;
+        self.lines.iter().try_for_each(|line| write!(f, "\n    {line}"))
+    }
+}
+
+/// Makes one call on both sides; lines that say what differs, none if nothing does. Damage, by turns, is for this comparison alone.
+pub fn step<A: Engine, B: Engine>(
+    got: &mut Run<A>,
+    expected: &mut Run<B>,
+    call: &Call,
+    coverage: &mut Coverage,
+    damage: Option<usize>,
+) -> Vec<String> {
+    let outcomes = (got.make(call), expected.make(call));
+    if let Some(outcome) = &outcomes.1 {
+        coverage.count(outcome);
+    }
+    let Some(turn) = damage else { return differences(got, expected, outcomes) };
+    if turn % 4 == 3 {
+        return differences(got, expected, (outcomes.0, Some(other_than(outcomes.1))));
+    }
+    expected.damage(turn);
+    let lines = differences(got, expected, outcomes);
+    expected.damage(turn);
+    lines
+}
+
+fn other_than(outcome: Option<Outcome>) -> Outcome {
+    if outcome == Some(Outcome::Done) {
+        Outcome::Refused(0)
+    } else {
+        Outcome::Done
+    }
+}
+
+/// What differs after a call. The lines are written only if something does.
+fn differences<A: Engine, B: Engine>(got: &Run<A>, expected: &Run<B>, outcomes: (Option<Outcome>, Option<Outcome>)) -> Vec<String> {
+    let mut lines = Vec::new();
+    if outcomes.0 != outcomes.1 {
+        lines.push(format!("answer: got {:?}, expected {:?}", outcomes.0, outcomes.1));
+    }
+    if got.tally != expected.tally {
+        lines.push(format!("tally: got {:?}, expected {:?}", got.tally, expected.tally));
+    }
+    if let Some(line) = first_difference("output", &got.output, &expected.output) {
+        lines.push(line);
+    }
+    if let Some(line) = first_difference("tables", &got.tables, &expected.tables) {
+        lines.push(line);
+    }
+    lines
+}
+
+fn first_difference(what: &str, got: &[u8], expected: &[u8]) -> Option<String> {
+    if got == expected {
+        return None;
+    }
+    let same = got.iter().zip(expected).take_while(|(a, b)| a == b).count();
+    let byte = |bytes: &[u8]| bytes.get(same).map_or("nothing".to_string(), |byte| format!("{byte:02x}"));
+    let place = if what == "tables" { table_place(same) } else { String::new() };
+    let (got_byte, expected_byte) = (byte(got), byte(expected));
+    Some(format!("{what}: first differ at byte {same}{place}: got {got_byte}, expected {expected_byte}"))
+}
+
+/// Where a byte of the tables stands.
+fn table_place(at: usize) -> String {
+    let sections: [(&str, &Section); 6] = [
+        ("port", &PORTS),
+        ("local address", &LOCALS),
+        ("path", &PATHS.records),
+        ("link", &LINKS.records),
+        ("return record", &RETURNS.records),
+        ("hash", &HASHES.records),
+    ];
+    let named = sections.iter().find(|(_, section)| section.bytes().contains(&at));
+    named.map_or(String::new(), |(name, section)| {
+        let within = at - section.start;
+        format!(", {name} {} byte {}", within / section.width, within % section.width)
+    })
+}
+
+/// Runs two engines on calls until they differ.
+pub fn compare<A: Engine, B: Engine>(
+    calls: impl Iterator<Item = Call>,
+    got: A,
+    expected: B,
+    coverage: &mut Coverage,
+) -> Option<Difference> {
+    let (mut got, mut expected) = (Run::new(got), Run::new(expected));
+    for (number, call) in calls.enumerate() {
+        let lines = step(&mut got, &mut expected, &call, coverage, None);
+        if !lines.is_empty() {
+            return Some(Difference { calls: number + 1, call, lines });
+        }
+    }
+    None
+}

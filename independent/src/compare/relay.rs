@@ -1,0 +1,49 @@
+//! Relays on the same traffic, and how often it reaches each refusal, reason and verdict.
+
+use super::lockstep::{step, Coverage, Difference};
+use super::{Options, Tally};
+use crate::engine::{Engine, Run};
+use crate::faults::Tuned;
+use crate::relay::Relay;
+use crate::traffic::Traffic;
+
+/// Each that can be reached is reached at least so often.
+const LEAST: usize = 100;
+/// In runs of at least so many calls, that is: shorter ones show a difference again.
+const ENOUGH: usize = 100_000;
+/// Long runs say how far they are once in so many calls.
+const PROGRESS: usize = 200_000;
+
+pub fn run(options: &Options, tally: &mut Tally) {
+    let coverage = compare_with("tuned check", Relay::new(Tuned), options, tally);
+    for (what, times) in coverage.reached() {
+        println!("{what}: {times}");
+        if options.calls < ENOUGH {
+            continue;
+        }
+        tally.holds(&format!("{what} is reached at least {LEAST} times"), times >= LEAST, options.damage);
+    }
+}
+
+/// Compares an engine with the independent relay after every call, until they differ.
+pub fn compare_with<E: Engine>(name: &str, engine: E, options: &Options, tally: &mut Tally) -> Coverage {
+    let (mut got, mut expected) = (Run::new(engine), Run::new(Relay::as_written()));
+    let mut coverage = Coverage::default();
+    for (number, call) in Traffic::new(options.seed).take(options.calls).enumerate() {
+        let calls = number + 1;
+        let lines = step(&mut got, &mut expected, &call, &mut coverage, options.damage.then_some(number));
+        if lines.is_empty() {
+            tally.passed += 1;
+        } else {
+            let difference = Difference { calls, call, lines };
+            tally.fail(&format!("{name}: {difference}\n    run again: compare relay --seed {} --calls {calls}", options.seed));
+            if !options.damage {
+                break;
+            }
+        }
+        if calls % PROGRESS == 0 {
+            println!("{name}: {calls} calls, seed {}", options.seed);
+        }
+    }
+    coverage
+}

@@ -1,0 +1,104 @@
+//! Demand 3: renumberings put in at random places change nothing but names.
+
+use super::{Options, Tally};
+use crate::answer::{Answer, Verdict};
+use crate::engine::{Call, Engine, Outcome, Run};
+use crate::faults::AsWritten;
+use crate::random::Random;
+use crate::relay::Relay;
+use crate::tables;
+use crate::traffic::Traffic;
+
+type Map = [u8; 16];
+
+const IDENTITY: Map = [0, 1, 2, 3, 4, 5, 6, 7, 8, 9, 10, 11, 12, 13, 14, 15];
+/// A renumbering is put in once in so many calls.
+const RARITY: usize = 40;
+
+/// The first map, then the second.
+fn compose(first: &Map, second: &Map) -> Map {
+    first.map(|image| second[usize::from(image)])
+}
+
+fn inverse(map: &Map) -> Map {
+    let mut inverse = IDENTITY;
+    for (port, image) in map.iter().enumerate() {
+        inverse[usize::from(*image)] = port as u8;
+    }
+    inverse
+}
+
+/// A port's image: a number over 15 is no port and stays.
+fn image(map: &Map, port: u64) -> u64 {
+    map.get(port as usize).map_or(port, |image| u64::from(*image))
+}
+
+fn rename_set(map: &Map, set: u16) -> u16 {
+    (0..16).filter(|port| set >> port & 1 == 1).fold(0, |images, port| images | 1 << map[port])
+}
+
+fn rename_outcome(map: &Map, outcome: Outcome) -> Outcome {
+    let Outcome::Judged(Answer { verdict, length }) = outcome else { return outcome };
+    let verdict = match verdict {
+        Verdict::Forward(port) => Verdict::Forward(map[usize::from(port)]),
+        Verdict::Spread(set) => Verdict::Spread(rename_set(map, set)),
+        other => other,
+    };
+    Outcome::Judged(Answer { verdict, length })
+}
+
+/// A call with the ports it gives renamed; a renumbering's map names ports on both its sides.
+fn rename_call(map: &Map, call: &Call) -> Call {
+    let mut renamed = call.clone();
+    match &mut renamed {
+        Call::Packet(packet) => packet.port = image(map, packet.port),
+        Call::SetPort { port, .. } => *port = image(map, *port),
+        Call::Renumber(given) => {
+            let there = given.map(|port| image(map, u64::from(port)) as u8);
+            *given = inverse(map).map(|port| there[usize::from(port)]);
+        }
+        _ => {}
+    }
+    renamed
+}
+
+/// Two runs of one engine: a plain one, and one with renumberings put in.
+struct Pair<E: Engine> {
+    plain: Run<E>,
+    renamed: Run<E>,
+    map: Map,
+}
+
+impl<E: Engine> Pair<E> {
+    fn renumber(&mut self, map: &Map) -> bool {
+        self.map = compose(&self.map, map);
+        self.renamed.make(&Call::Renumber(*map)) == Some(Outcome::Done)
+    }
+
+    /// Makes a call in both runs and compares all that it returns and leaves.
+    fn make(&mut self, call: &Call) -> bool {
+        if matches!(call, Call::Fresh(_)) {
+            self.map = IDENTITY;
+        }
+        let plain = self.plain.make(call).map(|outcome| rename_outcome(&self.map, outcome));
+        let renamed = self.renamed.make(&rename_call(&self.map, call));
+        let mut tables = self.plain.tables.clone();
+        plain == renamed
+            && self.plain.output == self.renamed.output
+            && self.plain.tally == self.renamed.tally
+            && tables::renumber(&mut tables, &self.map, AsWritten).is_ok()
+            && tables == self.renamed.tables
+    }
+}
+
+pub fn run(options: &Options, tally: &mut Tally) {
+    let mut random = Random::new(options.seed);
+    let mut pair = Pair { plain: Run::new(Relay::as_written()), renamed: Run::new(Relay::as_written()), map: IDENTITY };
+    for (number, call) in Traffic::unlent(options.seed).take(options.calls / 4).enumerate() {
+        let same = pair.make(&call);
+        tally.holds(&format!("renumbered, seed {}, call {}", options.seed, number + 1), same, options.damage);
+        if random.one_in(RARITY) {
+            tally.holds("a renumbering put in", pair.renumber(&random.permutation()), options.damage);
+        }
+    }
+}

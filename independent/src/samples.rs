@@ -1,0 +1,163 @@
+//! Tables made for a test: records with random fields that row 7 allows, and fields set to numbers on both sides of its clauses.
+
+use crate::random::Random;
+use crate::tables::{link, path, returned, Section, BLOB_LIMIT, CLOCK_LIMIT, HASHES, HASH_PLACE, LAST_CLOCK, LATEST};
+use crate::tables::{LINKS, LOCALS, PATHS, PORTS, PORT_COUNT, RETURNS, RETURN_PLACE, SIZE};
+
+/// What row 7 asks of a field.
+#[derive(Clone, Copy, PartialEq, Eq)]
+pub enum Clause {
+    YesOrNo,
+    Mode,
+    Port,
+    BlobCount,
+    Time,
+}
+
+impl Clause {
+    /// A number that is allowed.
+    fn allowed(self, random: &mut Random) -> Vec<u8> {
+        match self {
+            Clause::YesOrNo => vec![random.below(2) as u8],
+            Clause::Mode => vec![random.below(3) as u8],
+            Clause::Port => vec![random.below(PORT_COUNT) as u8],
+            Clause::BlobCount => vec![1 + random.below(BLOB_LIMIT) as u8],
+            Clause::Time => (random.word() % (LATEST + 1)).to_be_bytes().to_vec(),
+        }
+    }
+
+    /// A number near the clause's edge, on either side, or far beyond it.
+    fn edge(self, random: &mut Random) -> Vec<u8> {
+        let byte = match self {
+            Clause::YesOrNo => random.pick(&[0, 1, 1, 2, 3, 255]),
+            Clause::Mode => random.pick(&[0, 1, 2, 3, 4, 255]),
+            Clause::Port => random.pick(&[0, 14, 15, 16, 17, 31, 255]),
+            Clause::BlobCount => random.pick(&[0, 1, 2, 15, 16, 17, 255]),
+            Clause::Time => {
+                let times = [0, CLOCK_LIMIT, LATEST - 1, LATEST, LATEST + 1, LATEST + 2, 1 << 48, 1 << 63, u64::MAX];
+                return random.pick(&times).to_be_bytes().to_vec();
+            }
+        };
+        vec![byte]
+    }
+}
+
+/// A field of every record of a section.
+pub struct Field {
+    pub name: &'static str,
+    pub section: &'static Section,
+    pub at: usize,
+    pub clause: Clause,
+}
+
+const fn field(name: &'static str, section: &'static Section, at: usize, clause: Clause) -> Field {
+    Field { name, section, at, clause }
+}
+
+/// Every field that row 7 speaks of, but the last clock and the ring places.
+pub const FIELDS: &[Field] = &[
+    field("port's on mark", &PORTS, 0, Clause::YesOrNo),
+    field("port's mode", &PORTS, 1, Clause::Mode),
+    field("local address's mark", &LOCALS, 0, Clause::YesOrNo),
+    field("path's mark", &PATHS.records, 0, Clause::YesOrNo),
+    field("path's port", &PATHS.records, path::PORT, Clause::Port),
+    field("path's expiry", &PATHS.records, path::EXPIRY, Clause::Time),
+    field("path's blob count", &PATHS.records, path::BLOB_COUNT, Clause::BlobCount),
+    field("link's mark", &LINKS.records, 0, Clause::YesOrNo),
+    field("link's asking port", &LINKS.records, link::ASKING, Clause::Port),
+    field("link's answering port", &LINKS.records, link::ANSWERING, Clause::Port),
+    field("link's proved mark", &LINKS.records, link::PROVED, Clause::YesOrNo),
+    field("link's expiry", &LINKS.records, link::EXPIRY, Clause::Time),
+    field("return's mark", &RETURNS.records, 0, Clause::YesOrNo),
+    field("return's arrival port", &RETURNS.records, returned::ARRIVAL, Clause::Port),
+    field("return's leaving port", &RETURNS.records, returned::LEAVING, Clause::Port),
+    field("return's expiry", &RETURNS.records, returned::EXPIRY, Clause::Time),
+    field("hash's mark", &HASHES.records, 0, Clause::YesOrNo),
+    field("hash's expiry", &HASHES.records, HASHES.expiry, Clause::Time),
+];
+
+/// The sections whose records are used or not.
+pub const RECORDS: [(&str, &Section); 5] = [
+    ("local address", &LOCALS),
+    ("path", &PATHS.records),
+    ("link", &LINKS.records),
+    ("return", &RETURNS.records),
+    ("hash", &HASHES.records),
+];
+
+/// Makes a record of a section used, with random fields that are allowed.
+pub fn use_record(random: &mut Random, tables: &mut [u8], section: &Section, place: usize) {
+    let record = section.get_mut(tables, place);
+    record.copy_from_slice(&random.bytes(section.width));
+    for field in FIELDS.iter().filter(|field| field.section.start == section.start) {
+        let number = field.clause.allowed(random);
+        record[field.at..field.at + number.len()].copy_from_slice(&number);
+    }
+    record[0] = 1;
+}
+
+/// Which records are used.
+#[derive(Clone, Copy, Debug)]
+pub enum Fill {
+    Empty,
+    FirstHalf,
+    RandomHalf,
+    Full,
+}
+
+impl Fill {
+    pub const ALL: [Fill; 4] = [Fill::Empty, Fill::FirstHalf, Fill::RandomHalf, Fill::Full];
+}
+
+/// Random tables that are allowed.
+pub fn filled(random: &mut Random, fill: Fill) -> Vec<u8> {
+    let mut tables = vec![0; SIZE];
+    for (_, section) in RECORDS {
+        for place in 0..section.count {
+            let used = match fill {
+                Fill::Empty => false,
+                Fill::FirstHalf => place < section.count / 2,
+                Fill::RandomHalf => random.one_in(2),
+                Fill::Full => true,
+            };
+            if used {
+                use_record(random, &mut tables, section, place);
+            }
+        }
+    }
+    tables
+}
+
+/// Sets a field of some record to a number at its clause's edge. The record is used, or made so.
+pub fn set_field(random: &mut Random, tables: &mut [u8], field: &Field) {
+    let place = random.below(field.section.count);
+    if field.section.start != PORTS.start && tables[field.section.range(place).start] == 0 {
+        use_record(random, tables, field.section, place);
+    }
+    let number = field.clause.edge(random);
+    let at = field.section.range(place).start + field.at;
+    tables[at..at + number.len()].copy_from_slice(&number);
+}
+
+/// Sets a byte of an unused record, which is all zeros, to a number, 0 among them. A record that isn't unused is made so.
+pub fn set_unused(random: &mut Random, tables: &mut [u8], section: &Section) {
+    let record = section.get_mut(tables, random.below(section.count));
+    record.fill(0);
+    record[1 + random.below(section.width - 1)] = random.pick(&[0, 0, 1, 16, 128, 255]);
+}
+
+pub fn set_last_clock(random: &mut Random, tables: &mut [u8]) {
+    tables[LAST_CLOCK..LAST_CLOCK + 8].copy_from_slice(&Clause::Time.edge(random));
+}
+
+/// Sets a ring's place to one at the ring's end, on either side.
+pub fn set_ring(random: &mut Random, tables: &mut [u8], at: usize) {
+    let place: u16 = random.pick(match at {
+        RETURN_PLACE => &[0, 255, 256, 510, 511, 512, 513, 1_023, 32_768, u16::MAX],
+        _ => &[0, 255, 256, 1_022, 1_023, 1_024, 1_025, 32_768, u16::MAX],
+    });
+    tables[at..at + 2].copy_from_slice(&place.to_be_bytes());
+}
+
+/// The rings, and where their places stand.
+pub const RINGS: [(&str, usize); 2] = [("returns' ring place", RETURN_PLACE), ("hashes' ring place", HASH_PLACE)];

@@ -1,0 +1,241 @@
+//! Tables as another caller might lend them: damaged, or unusual and yet allowed.
+
+use super::Traffic;
+use crate::engine::Call;
+use crate::packet::Address;
+use crate::random::Random;
+use crate::tables::{link, path, returned, Table, HASHES, HASH_PLACE, LAST_CLOCK, LATEST, LINKS, LOCALS, PATHS, PORTS, RETURNS};
+use crate::tables::{RETURN_PLACE, SIZE};
+
+/// A place near the table's start, where traffic lies, or anywhere.
+fn place(random: &mut Random, count: usize) -> usize {
+    if random.one_in(2) {
+        random.below(count.min(8))
+    } else {
+        random.below(count)
+    }
+}
+
+fn start(random: &mut Random, table: &Table) -> usize {
+    let place = place(random, table.records.count);
+    table.records.range(place).start
+}
+
+/// Times around the greatest that is allowed, around now, and beyond all.
+fn a_time(random: &mut Random, clock: u64) -> [u8; 8] {
+    let time = match random.below(6) {
+        0 => LATEST + 1,
+        1 => LATEST,
+        2 => random.pick(&[u64::MAX, LATEST + 2, 1 << 40, 1 << 63]),
+        _ => clock + random.pick(&[0, 1, 2, 300, 100_000]),
+    };
+    time.to_be_bytes()
+}
+
+impl Traffic {
+    fn write(&mut self, at: usize, bytes: impl Into<Vec<u8>>) {
+        self.queue.push_back(Call::Write { at, bytes: bytes.into() });
+    }
+
+    /// Lends changed tables to a few calls, then the ones from before.
+    pub(super) fn lent_tables(&mut self) {
+        if !self.lent {
+            return;
+        }
+        self.queue.push_back(Call::Save);
+        for _ in 0..1 + self.random.below(2) {
+            self.change();
+        }
+        for _ in 0..1 + self.random.below(5) {
+            self.call_on_lent();
+        }
+        if self.random.one_in(6) {
+            let size = self.random.pick(&[0, 1, 24, SIZE - 1, SIZE + 1, SIZE + 100]);
+            self.queue.push_back(Call::Resize(size));
+            self.call_on_lent();
+            self.queue.push_back(Call::Fresh(self.world.own));
+        }
+        self.queue.push_back(Call::Restore);
+    }
+
+    fn call_on_lent(&mut self) {
+        match self.random.below(10) {
+            0..=2 => self.setting_on_lent(),
+            3 => self.data_by_path(),
+            4 => self.link_step(),
+            5 => self.receipt(),
+            6 => self.announce_replay(),
+            7 => self.announce_stale(),
+            8 => self.announce_newer(),
+            _ => self.refused_packet(),
+        }
+    }
+
+    /// Not the episodes of these calls: what they change would be believed after the tables of before are back.
+    fn setting_on_lent(&mut self) {
+        let call = match self.random.below(4) {
+            0 => Call::SetPort { port: self.random.below(17) as u64, on: self.random.one_in(2), mode: self.random.below(4) as u64 },
+            1 => Call::AddLocal(self.stray_address()),
+            2 => Call::RemoveLocal(self.stray_address()),
+            _ => Call::Renumber(self.random.permutation()),
+        };
+        self.queue.push_back(call);
+    }
+
+    fn change(&mut self) {
+        match self.random.below(12) {
+            0 => self.change_byte(),
+            1 => self.change_ports(),
+            2 => self.change_clock(),
+            3 => self.change_rings(),
+            4 => self.change_field(),
+            5 => self.change_marks(),
+            6 | 7 => self.lend_path(),
+            8 => self.lend_link(),
+            9 => self.lend_return(),
+            10 => self.lend_local(),
+            _ => self.copy_record(),
+        }
+    }
+
+    fn change_byte(&mut self) {
+        let at = self.random.below(SIZE);
+        let byte = self.random.pick(&[0, 1, 2, 15, 16, 255]);
+        self.write(at, [byte]);
+    }
+
+    fn change_ports(&mut self) {
+        let at = PORTS.range(self.random.below(16)).start;
+        if self.random.one_in(2) {
+            let on = self.random.pick(&[0, 1, 2, 255]);
+            self.write(at, [on]);
+        } else {
+            let mode = self.random.pick(&[2, 3, 4, 255]);
+            self.write(at + 1, [mode]);
+        }
+    }
+
+    fn change_clock(&mut self) {
+        let time = a_time(&mut self.random, self.world.clock);
+        self.write(LAST_CLOCK, time);
+    }
+
+    fn change_rings(&mut self) {
+        if self.random.one_in(2) {
+            let place: u16 = self.random.pick(&[0, 511, 511, 512, 513, 1_023, 65_535]);
+            self.write(RETURN_PLACE, place.to_be_bytes());
+        } else {
+            let place: u16 = self.random.pick(&[0, 511, 1_023, 1_023, 1_024, 1_025, 65_535]);
+            self.write(HASH_PLACE, place.to_be_bytes());
+        }
+    }
+
+    /// A stored port, count, mark or time of a record, used or not.
+    fn change_field(&mut self) {
+        let small = self.random.pick(&[0, 1, 2, 15, 16, 17, 255]);
+        let time = a_time(&mut self.random, self.world.clock);
+        let random = &mut self.random;
+        let (at, bytes) = match random.below(12) {
+            0 => (start(random, &PATHS) + path::PORT, vec![small]),
+            1 => (start(random, &PATHS) + path::BLOB_COUNT, vec![small]),
+            2 => (start(random, &PATHS) + path::HOPS, vec![small]),
+            3 => (start(random, &PATHS) + path::EXPIRY, time.to_vec()),
+            4 => (start(random, &LINKS) + link::ASKING, vec![small]),
+            5 => (start(random, &LINKS) + link::ANSWERING, vec![small]),
+            6 => (start(random, &LINKS) + link::PROVED, vec![small]),
+            7 => (start(random, &LINKS) + link::EXPIRY, time.to_vec()),
+            8 => (start(random, &RETURNS) + returned::ARRIVAL, vec![small]),
+            9 => (start(random, &RETURNS) + returned::LEAVING, vec![small]),
+            10 => (start(random, &RETURNS) + returned::EXPIRY, time.to_vec()),
+            _ => (start(random, &HASHES) + HASHES.expiry, time.to_vec()),
+        };
+        self.write(at, bytes);
+    }
+
+    fn change_marks(&mut self) {
+        let mark = self.random.pick(&[0, 1, 2, 3, 255]);
+        let random = &mut self.random;
+        let at = match random.below(5) {
+            0 => LOCALS.range(place(random, LOCALS.count)).start,
+            1 => start(random, &PATHS),
+            2 => start(random, &LINKS),
+            3 => start(random, &RETURNS),
+            _ => start(random, &HASHES),
+        };
+        self.write(at, [mark]);
+    }
+
+    /// A path to a station: a second one perhaps, with hops over 127, any blob count, and spare places that hold blobs it sent.
+    fn lend_path(&mut self) {
+        let number = self.reachable();
+        let count = self.random.pick(&[0, 1, 1, 1, 2, 2, 3, 15, 16, 16, 17]);
+        let lasting = (self.world.clock + 50_000).to_be_bytes();
+        let time = if self.random.one_in(2) { lasting } else { a_time(&mut self.random, self.world.clock) };
+        let station = &self.world.stations[number];
+        let mut record = vec![1];
+        record.extend(station.address);
+        record.push(self.random.pick(&[0, 1, 2, 3, 7, 14, 15, 15, 16]));
+        record.push(self.random.pick(&[0, 1, 5, 127, 128, 255]));
+        record.extend(self.random.array::<16>());
+        record.extend(time);
+        record.push(count);
+        for back in 0..16 {
+            let sent = station.blobs.iter().rev().nth(back);
+            record.extend(sent.copied().unwrap_or([self.random.pick(&[0, 0, 7]); 10]));
+        }
+        let at = start(&mut self.random, &PATHS);
+        self.write(at, record);
+        self.data_to(number);
+        self.replay_of(number);
+        self.replay_of(number);
+        self.stale_of(number);
+    }
+
+    /// A link of before again: proved or not, perhaps beside the first.
+    fn lend_link(&mut self) {
+        let Some(link) = self.world.links.front().cloned() else { return };
+        let mut record = vec![1];
+        record.extend(link.id);
+        record.extend([link.asking, link.answering, self.random.pick(&[link.taken, 3, 255]), link.remaining]);
+        record.push(self.random.pick(&[0, 0, 1, 1, 2]));
+        record.extend(a_time(&mut self.random, self.world.clock));
+        let at = start(&mut self.random, &LINKS);
+        self.write(at, record);
+        for _ in 0..3 {
+            self.link_step();
+        }
+    }
+
+    fn lend_return(&mut self) {
+        let Some(carried) = self.world.carried.front().cloned() else { return };
+        let mut record = vec![1];
+        record.extend(carried.key);
+        record.extend([carried.arrival, self.random.pick(&[carried.leaving, 0, 15, 16])]);
+        record.extend(a_time(&mut self.random, self.world.clock));
+        let at = start(&mut self.random, &RETURNS);
+        self.write(at, record);
+        self.receipt();
+    }
+
+    /// A local address twice, or in a higher place.
+    fn lend_local(&mut self) {
+        let address: Address = self.stray_address();
+        for _ in 0..1 + self.random.below(2) {
+            let mut record = vec![1];
+            record.extend(address);
+            let at = LOCALS.range(self.random.below(16)).start;
+            self.write(at, record);
+        }
+        self.queue.push_back(Call::RemoveLocal(address));
+        self.queue.push_back(Call::AddLocal(address));
+    }
+
+    /// A record once more in another place of its table.
+    fn copy_record(&mut self) {
+        let table = self.random.pick(&[&PATHS, &LINKS, &RETURNS, &HASHES]);
+        let from = start(&mut self.random, table);
+        let to = start(&mut self.random, table);
+        self.queue.push_back(Call::Copy { from, to, length: table.records.width });
+        self.data_again();
+    }
+}

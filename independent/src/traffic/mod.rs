@@ -1,0 +1,318 @@
+//! Traffic that a seed fixes: calls that follow on one another as those of real networks do, and at the rules' edges.
+//! It knows what it sent, and believes what a relay made of it; no relay is asked.
+
+mod announces;
+mod data;
+mod lent;
+mod links;
+mod settings;
+
+use crate::engine::{Call, PacketCall};
+use crate::faults::AsWritten;
+use crate::packet::{self, Address, Blob, Header, PacketHash, Parts};
+use crate::random::Random;
+use crate::sha256::Sha256;
+use crate::tables::CLOCK_LIMIT;
+use std::collections::VecDeque;
+
+/// Somebody who announces: its keys and name, what it sent, and the path that a relay should have to it.
+struct Station {
+    keys: [u8; 64],
+    name_hash: [u8; 10],
+    address: Address,
+    /// The blobs sent, newest last.
+    blobs: Vec<Blob>,
+    emission: u64,
+    port: u8,
+    hops: u8,
+    expiry: u64,
+}
+
+/// A link that was asked for.
+#[derive(Clone)]
+struct Link {
+    id: Address,
+    request: (Parts, Vec<u8>),
+    asking: u8,
+    answering: u8,
+    taken: u8,
+    remaining: u8,
+}
+
+/// Data that should have left a return record.
+#[derive(Clone)]
+struct Carried {
+    packet: Vec<u8>,
+    key: Address,
+    arrival: u8,
+    leaving: u8,
+}
+
+struct Port {
+    on: bool,
+    mode: u8,
+}
+
+/// What is believed of the relay and its neighbours.
+struct World {
+    own: Address,
+    clock: u64,
+    /// The longest time between two episodes.
+    pace: u64,
+    ports: [Port; 16],
+    stations: Vec<Station>,
+    locals: Vec<Address>,
+    links: VecDeque<Link>,
+    carried: VecDeque<Carried>,
+    sent: VecDeque<Vec<u8>>,
+}
+
+pub struct Traffic {
+    random: Random,
+    sha: Sha256,
+    queue: VecDeque<Call>,
+    /// Episodes until the next fresh relay.
+    left: usize,
+    lent: bool,
+    world: World,
+}
+
+/// How many links, forwarded packets and sent packets are kept in mind.
+const KEPT: usize = 100;
+
+type Episode = fn(&mut Traffic);
+
+/// What happens, and how often.
+const EPISODES: &[(usize, Episode)] = &[
+    (30, Traffic::announce_newer),
+    (10, Traffic::announce_replay),
+    (14, Traffic::announce_stale),
+    (2, Traffic::announce_countdown),
+    (2, Traffic::announce_many),
+    (10, Traffic::announce_malformed),
+    (4, Traffic::announce_long),
+    (4, Traffic::announce_unsigned),
+    (3, Traffic::announce_local),
+    (2, Traffic::announce_crowd),
+    (2, Traffic::path_edge),
+    (25, Traffic::data_by_path),
+    (8, Traffic::data_lost),
+    (6, Traffic::data_local),
+    (5, Traffic::data_neighbour),
+    (6, Traffic::data_again),
+    (2, Traffic::hash_edge),
+    (2, Traffic::return_edge),
+    (12, Traffic::receipt),
+    (3, Traffic::receipt_lost),
+    (1, Traffic::data_flood),
+    (12, Traffic::any_packet),
+    (12, Traffic::link_life),
+    (12, Traffic::link_step),
+    (3, Traffic::link_edge),
+    (4, Traffic::link_malformed),
+    (1, Traffic::link_flood),
+    (10, Traffic::port_setting),
+    (3, Traffic::port_off_and_on),
+    (5, Traffic::local_calls),
+    (1, Traffic::locals_full),
+    (12, Traffic::renumbering),
+    (30, Traffic::refused_packet),
+    (12, Traffic::lent_tables),
+];
+
+impl Traffic {
+    pub fn new(seed: u64) -> Self {
+        Self::start(seed, true)
+    }
+
+    /// Only calls on tables that nobody else writes.
+    pub fn unlent(seed: u64) -> Self {
+        Self::start(seed, false)
+    }
+
+    fn start(seed: u64, lent: bool) -> Self {
+        let mut random = Random::new(seed);
+        let sha = Sha256::default();
+        let world = World::new(&mut random, &sha);
+        let mut traffic = Self { random, sha, queue: VecDeque::new(), left: 0, lent, world };
+        traffic.begin();
+        traffic
+    }
+
+    /// A fresh relay with its ports set.
+    fn begin(&mut self) {
+        self.world = World::new(&mut self.random, &self.sha);
+        self.left = 40 + self.random.below(500);
+        self.queue.push_back(Call::Fresh(self.world.own));
+        // of one port, of two, of some, or of all
+        let ports = self.random.pick(&[1, 2, 5, 12, 16, 16]);
+        for port in self.random.permutation().into_iter().take(ports) {
+            let mode = self.random.below(3) as u8;
+            self.set_port(port, true, mode);
+        }
+    }
+
+    fn episode(&mut self) {
+        if self.left == 0 {
+            self.begin();
+            return;
+        }
+        self.left -= 1;
+        if self.left == 10 && self.random.one_in(4) {
+            self.pass(CLOCK_LIMIT);
+        }
+        let pace = self.world.pace as usize;
+        let seconds = self.random.below(pace + 1) as u64;
+        self.pass(seconds);
+        let mut number = self.random.below(EPISODES.iter().map(|(weight, _)| weight).sum());
+        for (weight, episode) in EPISODES {
+            if number < *weight {
+                return episode(self);
+            }
+            number -= weight;
+        }
+    }
+
+    /// Lets time pass, though never to a clock that is refused.
+    fn pass(&mut self, seconds: u64) {
+        self.world.clock = (self.world.clock + seconds).min(CLOCK_LIMIT - 1);
+    }
+
+    /// A port that is on, if there is one.
+    fn on_port(&mut self) -> u8 {
+        let on: Vec<u8> = (0..16).filter(|port| self.world.ports[usize::from(*port)].on).collect();
+        if on.is_empty() {
+            self.random.below(16) as u8
+        } else {
+            self.random.pick(&on)
+        }
+    }
+
+    /// A port that is on and not this one, if there is one.
+    fn other_port(&mut self, port: u8) -> u8 {
+        (0..20).map(|_| self.on_port()).find(|other| *other != port).unwrap_or(port)
+    }
+
+    /// Few hops mostly, and the edges.
+    fn hops(&mut self) -> u8 {
+        match self.random.below(12) {
+            0 => self.random.pick(&[126, 127]),
+            1 => self.random.below(128) as u8,
+            _ => self.random.below(6) as u8,
+        }
+    }
+
+    fn set_port(&mut self, port: u8, on: bool, mode: u8) {
+        self.world.ports[usize::from(port)] = Port { on, mode };
+        self.queue.push_back(Call::SetPort { port: u64::from(port), on, mode: u64::from(mode) });
+    }
+
+    fn turn(&mut self, port: u8, on: bool) {
+        let mode = self.world.ports[usize::from(port)].mode;
+        self.set_port(port, on, mode);
+    }
+
+    fn packet_call(&mut self, packet: Vec<u8>, port: u8, signature: bool) -> PacketCall {
+        let output = if self.random.one_in(20) { 500 + self.random.below(300) } else { 500 };
+        PacketCall { packet, port: u64::from(port), clock: self.world.clock, signature, output, fill: self.random.word() as u8 }
+    }
+
+    /// Sends a packet, with a signature word that mostly doesn't matter.
+    fn send(&mut self, packet: Vec<u8>, port: u8) {
+        let signature = !self.random.one_in(10);
+        self.send_signed(packet, port, signature);
+    }
+
+    fn send_signed(&mut self, packet: Vec<u8>, port: u8, signature: bool) {
+        keep(&mut self.world.sent, packet.clone());
+        let call = self.packet_call(packet, port, signature);
+        self.queue.push_back(Call::Packet(call));
+    }
+
+    fn station(&mut self) -> usize {
+        self.random.below(self.world.stations.len())
+    }
+
+    /// A station with a live path, if a few tries find one.
+    fn reachable(&mut self) -> usize {
+        let tries: Vec<usize> = (0..8).map(|_| self.station()).collect();
+        let live = |station: &&usize| self.world.clock < self.world.stations[**station].expiry;
+        *tries.iter().find(live).unwrap_or(&tries[0])
+    }
+
+    fn packet_hash(&self, parts: &Parts, payload: &[u8]) -> PacketHash {
+        packet::packet_hash(&self.sha, parts, payload, AsWritten)
+    }
+
+    /// An address that is nobody's, or somebody's for whom it isn't meant.
+    fn stray_address(&mut self) -> Address {
+        match self.random.below(8) {
+            0 => [0; 16],
+            1 => self.world.own,
+            2 => self.world.links.front().map_or([1; 16], |link| link.id),
+            3 => self.world.carried.front().map_or([2; 16], |carried| carried.key),
+            4 => {
+                let station = self.station();
+                self.world.stations[station].address
+            }
+            5 if !self.world.locals.is_empty() => self.random.pick(&self.world.locals),
+            _ => self.random.array(),
+        }
+    }
+}
+
+impl Iterator for Traffic {
+    type Item = Call;
+
+    fn next(&mut self) -> Option<Call> {
+        while self.queue.is_empty() {
+            self.episode();
+        }
+        self.queue.pop_front()
+    }
+}
+
+impl World {
+    fn new(random: &mut Random, sha: &Sha256) -> Self {
+        let stations = random.pick(&[2, 6, 12, 40, 90]);
+        Self {
+            own: random.array(),
+            clock: random.pick(&[0, 1, 1_000, 1_700_000_000, CLOCK_LIMIT - 2_000_000, CLOCK_LIMIT - 100_000]),
+            pace: random.pick(&[0, 1, 1, 5, 5, 40, 300, 4_000]),
+            ports: std::array::from_fn(|_| Port { on: false, mode: 0 }),
+            stations: (0..stations).map(|_| Station::new(random, sha)).collect(),
+            locals: Vec::new(),
+            links: VecDeque::new(),
+            carried: VecDeque::new(),
+            sent: VecDeque::new(),
+        }
+    }
+}
+
+impl Station {
+    fn new(random: &mut Random, sha: &Sha256) -> Self {
+        let keys = random.array();
+        let name_hash = random.array();
+        let address = packet::destination(sha, &keys, &name_hash);
+        let emission = 1_000 + random.below(1_700_000_000) as u64;
+        Self { keys, name_hash, address, blobs: Vec::new(), emission, port: 0, hops: 0, expiry: 0 }
+    }
+}
+
+/// Keeps the newest few.
+fn keep<T>(list: &mut VecDeque<T>, item: T) {
+    list.push_front(item);
+    list.truncate(KEPT);
+}
+
+/// The bytes of a packet, of any length.
+fn encode(parts: &Parts, payload: &[u8]) -> Vec<u8> {
+    let mut bytes = vec![0; parts.header.payload_start() + payload.len()];
+    packet::put(parts, payload, &mut bytes);
+    bytes
+}
+
+/// Parts of a header and a destination, in type 2 by this relay.
+fn parts(header: u8, hops: u8, relay: Address, destination: Address, context: u8) -> Parts {
+    Parts { header: Header(header), hops, relay, destination, context }
+}
