@@ -1,6 +1,6 @@
 // Links the proved archives that `rt staticlib` writes to target/staticlib.
 
-const ARCHIVES: &[&str] = &["sha256_export", "packet_export", "tables_export"];
+const ARCHIVES: &[&str] = &["sha256_export", "packet_export", "tables_export", "relay_export"];
 
 fn main() {
     let root = std::env::var("CARGO_MANIFEST_DIR").expect("cargo sets CARGO_MANIFEST_DIR");

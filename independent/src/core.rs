@@ -1,5 +1,6 @@
 //! The proved core: every function of the linked archives, declared in this one place, behind safe functions.
 
+use crate::answer::Tally;
 use crate::packet::{Address, Blob, PacketHash, Parts};
 
 /// Header, hops, relay address, destination, context.
@@ -37,6 +38,18 @@ extern "C" {
     fn haskumye_add_local(tables: *mut u8, length: usize, address: *const u8) -> u8;
     fn haskumye_remove_local(tables: *mut u8, length: usize, address: *const u8) -> u8;
     fn haskumye_renumber(tables: *mut u8, length: usize, map: *const u8) -> u8;
+    fn haskumye_packet(
+        packet: *const u8,
+        length: usize,
+        port: u64,
+        clock: u64,
+        signed: u8,
+        tables: *mut u8,
+        size: usize,
+        output: *mut u8,
+        room: usize,
+        tally: *mut u32,
+    ) -> u64;
 }
 
 // SAFETY of every call below: a slice is passed as its pointer and its length, an array as its pointer. The call reads and writes no other byte.
@@ -121,4 +134,11 @@ pub fn remove_local(tables: &mut [u8], address: &Address) -> u8 {
 
 pub fn renumber(tables: &mut [u8], map: &[u8; 16]) -> u8 {
     unsafe { haskumye_renumber(tables.as_mut_ptr(), tables.len(), map.as_ptr()) }
+}
+
+/// The answer as one number, its fields as in `linked`; signed by 1, not by any other number.
+pub fn packet(packet: &[u8], port: u64, clock: u64, signed: u8, tables: &mut [u8], output: &mut [u8], tally: &mut Tally) -> u64 {
+    let (size, room) = (tables.len(), output.len());
+    let (tables, output) = (tables.as_mut_ptr(), output.as_mut_ptr());
+    unsafe { haskumye_packet(packet.as_ptr(), packet.len(), port, clock, signed, tables, size, output, room, tally.as_mut_ptr()) }
 }

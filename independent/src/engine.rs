@@ -1,4 +1,4 @@
-//! Calls on a relay as values, and what makes them: the independent relay, and later the proved core.
+//! Calls on a relay as values, and what makes them: the independent relay, and in `linked` the proved core.
 
 use crate::answer::{Answer, Refusal, Tally};
 use crate::faults::Reading;

@@ -7,6 +7,7 @@ pub mod core;
 pub mod engine;
 pub mod faults;
 pub mod line;
+pub mod linked;
 pub mod packet;
 pub mod random;
 pub mod relay;

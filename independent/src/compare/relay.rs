@@ -4,6 +4,7 @@ use super::lockstep::{step, Coverage, Difference};
 use super::{Options, Tally};
 use crate::engine::{Engine, Run};
 use crate::faults::Tuned;
+use crate::linked::Core;
 use crate::relay::Relay;
 use crate::traffic::Traffic;
 
@@ -15,7 +16,8 @@ const ENOUGH: usize = 100_000;
 const PROGRESS: usize = 200_000;
 
 pub fn run(options: &Options, tally: &mut Tally) {
-    let coverage = compare_with("tuned check", Relay::new(Tuned), options, tally);
+    compare_with("tuned check", Relay::new(Tuned), options, tally);
+    let coverage = compare_with("core", Core, options, tally);
     for (what, times) in coverage.reached() {
         println!("{what}: {times}");
         if options.calls < ENOUGH {

@@ -4,6 +4,7 @@ use super::{Options, Tally};
 use crate::answer::{Answer, Verdict};
 use crate::engine::{Call, Engine, Outcome, Run};
 use crate::faults::AsWritten;
+use crate::linked::Core;
 use crate::random::Random;
 use crate::relay::Relay;
 use crate::tables;
@@ -92,11 +93,16 @@ impl<E: Engine> Pair<E> {
 }
 
 pub fn run(options: &Options, tally: &mut Tally) {
+    scenarios("independent relay", Relay::as_written, options, tally);
+    scenarios("core", || Core, options, tally);
+}
+
+fn scenarios<E: Engine>(name: &str, engine: impl Fn() -> E, options: &Options, tally: &mut Tally) {
     let mut random = Random::new(options.seed);
-    let mut pair = Pair { plain: Run::new(Relay::as_written()), renamed: Run::new(Relay::as_written()), map: IDENTITY };
+    let mut pair = Pair { plain: Run::new(engine()), renamed: Run::new(engine()), map: IDENTITY };
     for (number, call) in Traffic::unlent(options.seed).take(options.calls / 4).enumerate() {
         let same = pair.make(&call);
-        tally.holds(&format!("renumbered, seed {}, call {}", options.seed, number + 1), same, options.damage);
+        tally.holds(&format!("{name} renumbered, seed {}, call {}", options.seed, number + 1), same, options.damage);
         if random.one_in(RARITY) {
             tally.holds("a renumbering put in", pair.renumber(&random.permutation()), options.damage);
         }

@@ -1,0 +1,39 @@
+-- `relay_export::counters::tally_of` meets its contract.
+use Rattle.relay_export.specs.Export.{tallyOf}
+use borrow.Author.Needs.{needs}
+use Rattle.relay_export.proofs.counters.tally_of.Statement.{statement}
+use Rattle.relay_export.proofs.counters.tally_of.Tie as tie
+
+array-read-t5 : tie.Need-array-read-t5
+array-read-t5 c = search needs
+
+array-read-t8 : tie.Need-array-read-t8
+array-read-t8 c = search needs
+
+array-read-t11 : tie.Need-array-read-t11
+array-read-t11 c = search needs
+
+array-read-t14 : tie.Need-array-read-t14
+array-read-t14 c = search needs
+
+array-read-t17 : tie.Need-array-read-t17
+array-read-t17 c = search needs
+
+array-read-t20 : tie.Need-array-read-t20
+array-read-t20 c = search needs
+
+returns : tie.Need-returns
+unfolding tallyOf
+returns c = search needs
+
+pub tally-of-spec : {M : Type 1} → statement M
+tally-of-spec =
+    tie.close
+    (tie.spec
+    array-read-t5
+    array-read-t8
+    array-read-t11
+    array-read-t14
+    array-read-t17
+    array-read-t20
+    returns)
