@@ -1,8 +1,10 @@
-# make demo: show packets and a digest with the proved programs. make test: the gate. make bench: the speed beside plain C and Rust.
+# make demo: show packets and a digest with the proved programs. make test: the gate. make bench: the speed beside plain C and Rust. make soak: long random traffic.
 MAKEFLAGS += --no-print-directory
 FILE ?= README.md
+SEED ?= 1
+CALLS ?= 1000000
 
-.PHONY: help demo test bench
+.PHONY: help demo test bench soak
 help:
 	@sed -n '1s/^# //p' Makefile
 
@@ -14,3 +16,6 @@ test:
 
 bench:
 	@scripts/bench
+
+soak:
+	@scripts/soak "$(SEED)" "$(CALLS)"
