@@ -1,35 +1,18 @@
 -- A packet that is spread is an announce of good form, and so long enough for its blob.
-use Prim.Native.Nat.{ℕ, _≤_}
-use native.Mathlib.Omega.{arith}
-use mathlib.Core.Bool.{Bool, true, false}
-use mathlib.Core.Path.{_≡_, refl, sym, _∙_}
-use lib.Dec.{ltb}
+use Prim.Native.Nat.{_≤_}
+use mathlib.Core.Bool.{false}
+use mathlib.Core.Path.{_≡_}
 use lib.ListN.{length}
-use borrow.Author.Tests.{ltb-false}
-use Rattle.octets.specs.Choice.{_then_otherwise_, _or_}
-use Rattle.octets.proofs.Index.{and-yes}
-use Rattle.octets.proofs.Choice.{or-no-left, or-no-right}
-use Rattle.packet.specs.Header.{contextFlag, isAnnounce}
-use Rattle.packet.specs.Announce.{leastAnnounce}
+use Rattle.octets.specs.Choice.{_or_}
 use Rattle.rules.specs.Relay.{Slot, empty, used, Path, Return}
 use Rattle.rules.specs.View.{View}
-use Rattle.rules.specs.Arrival.{Arrival, header, body, isLinkProof}
+use Rattle.rules.specs.Arrival.{Arrival, body, isLinkProof}
 use Rattle.rules.specs.Ways.{Way, everywhere, by-path, along-link, by-return, blocked, pathWay, linkWay, returnWay, wayOn}
-use Rattle.rules.specs.Tests.{announceTooShort, badForm}
+use Rattle.rules.specs.Tests.{badForm}
 use Rattle.rules.specs.Judging.{Plan, dropped, delivered, follows, onwardPlan, plan}
 use Rattle.rules.specs.declared.Link.{Link}
 use Rattle.rules.proofs.Choices.{either}
-
-announce-long : (a : Arrival) → badForm a ≡ false → isAnnounce (header a) ≡ true → 84 ≤ length (body a)
-unfolding badForm announceTooShort leastAnnounce _then_otherwise_
-announce-long a good is = go (contextFlag (header a)) refl
-  where
-    short : ltb (length (body a)) (leastAnnounce (header a)) ≡ false
-    short = sym (and-yes _ is) ∙ or-no-left _ _ (or-no-right _ _ (or-no-right _ _ (or-no-right _ _ good)))
-
-    go : (t : Bool) → contextFlag (header a) ≡ t → 84 ≤ length (body a)
-    go true q = let l : 180 ≤ length (body a) = ltb-false _ _ (rw q at short) in omega arith
-    go false q = let l : 148 ≤ length (body a) = ltb-false _ _ (rw q at short) in omega arith
+use Rattle.plan.proofs.KindLaws.{announce-long}
 
 -- what goes everywhere holds a whole blob
 abbrev pub WayBlob : Arrival → Way → Type 0
