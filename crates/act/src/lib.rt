@@ -1,10 +1,11 @@
 // What is done with an accepted packet once it is decided, one function for each thing that is written; the refusals before it, and the
 // tally behind it.
-// Entry points: refusal, counted. Every other function is a helper of the packet call: the caller shows that the packet is accepted, and
+// Entry points: refusal, counted, reason_number. Every other function is a helper of the packet call: the caller shows that the packet is accepted, and
 // what was decided.
 mod announces;
 mod links;
 mod paths;
+mod reasons;
 mod refusals;
 mod returns;
 mod stamps;
@@ -16,6 +17,7 @@ use paths::request;
 use paths::send;
 use plan::Arrived;
 use plan::Decision;
+pub use reasons::reason_number;
 pub use refusals::refusal;
 use returns::receipt;
 use rules::Verdict;

@@ -1,12 +1,11 @@
 // The clock and the hash, which every accepted packet but drops 1 and 2 leaves in the tables.
+use super::reasons::reason_number;
 use rules::Reason;
 ghost use mathlib.Core.Path.{_≡_};
 ghost use mathlib.Core.Bool.{true};
 ghost use Prim.Native.Nat.{_<_};
-ghost use lib.Dec.{ltb};
 ghost use lib.ListN.{length};
 ghost use Rattle.rules.specs.Numbers.{hashCount, clockLimit};
-ghost use Rattle.rules.specs.Answers.{reasonNumber};
 ghost use Rattle.tables.specs.Places.{tableSize};
 ghost use Rattle.tables.specs.Layout.{wellFormed};
 ghost use Rattle.act.specs.Kept.{stamped, packetKept, dropKept};
@@ -32,34 +31,12 @@ pub fn keep_packet(tables: &mut [u8], hash: [u8; 32], clock: u64)
     stamp(tables, place, hash, clock);
 }
 
-// Drops 1 and 2 remember nothing.
-fn remembers(reason: Reason) -> bool
-    ensures { λ r. ⌜ r ≡ ltb 2 (reasonNumber reason) ⌝ }
-{
-    match reason {
-        Reason::NotOurs => false,
-        Reason::Duplicate => false,
-        Reason::BadForm => true,
-        Reason::OwnAnnounce => true,
-        Reason::TooManyHops => true,
-        Reason::NoWayOn => true,
-        Reason::AlreadyKnown => true,
-        Reason::WrongSide => true,
-        Reason::NotSigned => true,
-        Reason::Replay => true,
-        Reason::NotBetter => true,
-        Reason::PortOff => true,
-        Reason::NoRoom => true,
-        Reason::TooLong => true,
-    }
-}
-
-// All that a dropped packet writes.
+// All that a dropped packet writes. Drops 1 and 2 remember nothing.
 pub fn keep_drop(tables: &mut [u8], reason: Reason, hash: [u8; 32], clock: u64)
     requires { ⌜ (wellFormed (now tables) ≡ true) × (clock < clockLimit) ⌝ }
     ensures { λ _. ⌜ now (tables .exit) ≡ dropKept (now (tables .entry)) reason hash clock ⌝ }
 {
-    if remembers(reason) {
+    if reason_number(reason) > 2 {
         keep_packet(tables, hash, clock);
         return;
     }

@@ -1,6 +1,5 @@
 // The packet call: a packet is refused, or decided, acted on and counted.
-// Entry points: packet_call, which a host calls; judge, the same with the tally by value, for Rattle callers. Neither has a `requires`, and
-// both end on any bytes.
+// Entry point: judge, with the tally by value; crates/haskumye lends it to hosts by `&mut`. It has no `requires`, and ends on any bytes.
 use plan::Arrived;
 use rules::Answer;
 use rules::Tally;
@@ -47,24 +46,4 @@ pub fn judge(
         answer: Answer::Judged(verdict),
         tally: act::counted(verdict, tally),
     }
-}
-
-// The same, with the tally changed where it lies.
-pub fn packet_call(
-    packet: &[u8],
-    port: u64,
-    clock: u64,
-    signed: bool,
-    tables: &mut [u8],
-    output: &mut [u8],
-    tally: &mut Tally,
-) -> Answer
-    ensures { λ r. ⌜ (r ≡ packetOn (now (packet .entry)) port clock signed (now (tables .entry)) (now (tally .entry)) (now (output .entry)) .answer)
-        × (now (tally .exit) ≡ packetOn (now (packet .entry)) port clock signed (now (tables .entry)) (now (tally .entry)) (now (output .entry)) .tally)
-        × (now (tables .exit) ≡ packetOn (now (packet .entry)) port clock signed (now (tables .entry)) (now (tally .entry)) (now (output .entry)) .tables)
-        × (now (output .exit) ≡ packetOn (now (packet .entry)) port clock signed (now (tables .entry)) (now (tally .entry)) (now (output .entry)) .output) ⌝ }
-{
-    let j = judge(packet, port, clock, signed, tables, output, *tally);
-    *tally = j.tally;
-    j.answer
 }

@@ -51,7 +51,8 @@ pub struct Link {
     pub expiry: u64,
 }
 
-// Packet calls since fresh, each modulo 2^32: all accepted ones, and those of each answer.
+// Packet calls since fresh, each modulo 2^32: all accepted ones, and those of each answer. A host's tally is six counters in this order.
+#[repr(C)]
 pub struct Tally {
     pub total: u32,
     pub dropped: u32,

@@ -1,0 +1,26 @@
+-- `haskumye::packet_call::judge_numbered` meets its contract.
+use mathlib.Core.Path.{ap, _∙_}
+use Rattle.haskumye.specs.Answers.{answerNumber}
+use borrow.Author.Needs.{needs}
+use Rattle.haskumye.proofs.packet_call.judge_numbered.Statement.{statement}
+use Rattle.haskumye.proofs.packet_call.judge_numbered.Tie as tie
+
+judge-requires : tie.Need-judge-requires
+judge-requires c κs = search needs
+
+answer-number-requires : tie.Need-answer-number-requires
+answer-number-requires c κs = search needs
+
+same-length : tie.Need-same-length
+same-length c = search needs
+
+same-length-2 : tie.Need-same-length-2
+same-length-2 c = search needs
+
+returns : tie.Need-returns
+returns c =
+    let j = c .before .before .before .before .before .before .judge in
+    (c .answer-number .ensures ∙ ap answerNumber (j .ensures .0), j .ensures .1, j .ensures .2, j .ensures .3)
+
+pub judge-numbered-spec : {M : Type 1} → statement M
+judge-numbered-spec = tie.close (tie.spec judge-requires answer-number-requires same-length same-length-2 returns)

@@ -1,0 +1,80 @@
+-- `haskumye::parts::parts_bytes` meets its contract.
+use Prim.Native.Nat.{ℕ}
+use mathlib.Core.List.{List, [], _∷_}
+use mathlib.Core.Path.{_≡_, ap, _∙_}
+use lib.ListN.{length, replicate, length-replicate}
+use Rattle.octets.specs.Part.{patch}
+use Rattle.packet.specs.declared.Parts.{Parts}
+use Rattle.packet.proofs.WriteLaws.{Wide}
+use Rattle.haskumye.proofs.ExportLaws.{parts-written}
+use native.Mathlib.Omega.{arith}
+use borrow.Author.Needs.{needs}
+use Rattle.haskumye.proofs.parts.parts_bytes.Statement.{statement}
+use Rattle.haskumye.proofs.parts.parts_bytes.Tie as tie
+
+slice-aggregate-set-at : tie.Need-slice-aggregate-set-at
+slice-aggregate-set-at c = search needs
+
+set-at-requires : tie.Need-set-at-requires
+set-at-requires c κs = search needs
+
+slice-aggregate-set-at-2 : tie.Need-slice-aggregate-set-at-2
+slice-aggregate-set-at-2 c = search needs
+
+set-at-requires-2 : tie.Need-set-at-requires-2
+set-at-requires-2 c κs = search needs
+
+slice-aggregate-copy-at : tie.Need-slice-aggregate-copy-at
+slice-aggregate-copy-at c = search needs
+
+slice-aggregate-copy-at-2 : tie.Need-slice-aggregate-copy-at-2
+slice-aggregate-copy-at-2 c = search needs
+
+copy-at-requires : tie.Need-copy-at-requires
+copy-at-requires c κs =
+    let wide : length (c .before .before .before .before .before .before .before .before .before .before .args .parts .relay) ≡ 16 = search needs in
+    omega (arith, wide, c .before .before .before .before .before .before .set-at .kept .0, c .before .before .before .set-at2 .kept .0)
+
+slice-aggregate-copy-at-3 : tie.Need-slice-aggregate-copy-at-3
+slice-aggregate-copy-at-3 c = search needs
+
+slice-aggregate-copy-at-4 : tie.Need-slice-aggregate-copy-at-4
+slice-aggregate-copy-at-4 c = search needs
+
+copy-at-requires-2 : tie.Need-copy-at-requires-2
+copy-at-requires-2 c κs =
+    let wide : length (c .before .before .before .before .before .before .before .before .before .before .before .before .before .before .args .parts .destination) ≡ 16 = search needs in
+    omega (arith, wide, c .before .before .before .before .before .before .before .before .before .before .set-at .kept .0, c .before .before .before .before .before .before .before .set-at2 .kept .0, c .before .before .before .copy-at .kept .0)
+
+slice-aggregate-set-at-3 : tie.Need-slice-aggregate-set-at-3
+slice-aggregate-set-at-3 c = search needs
+
+set-at-requires-3 : tie.Need-set-at-requires-3
+set-at-requires-3 c κs = search needs
+
+returns : tie.Need-returns
+returns c =
+    let q : Parts = c .before .before .before .before .before .before .before .before .before .before .before .before .before .before .before .before .before .before .before .args .parts in
+    let wide : Wide q = record { relay = search needs; destination = search needs } in
+    c .before .set-at3 .ensures
+    ∙ ap (λ (r : List ℕ). patch r 34 (q .context ∷ []))
+    (c .before .before .before .before .copy-at2 .ensures ∙ ap (λ (r : List ℕ). patch r 18 (q .destination)) (c .before .before .before .before .before .before .before .before .copy-at .ensures ∙ ap (λ (r : List ℕ). patch r 2 (q .relay)) (c .before .before .before .before .before .before .before .before .before .before .before .before .set-at2 .ensures ∙ ap (λ (r : List ℕ). patch r 1 (q .hops ∷ [])) (c .before .before .before .before .before .before .before .before .before .before .before .before .before .before .before .set-at .ensures))))
+    ∙ parts-written (replicate 35 0) (length-replicate {A = ℕ} 35 0) q wide
+
+pub parts-bytes-spec : {M : Type 1} → statement M
+parts-bytes-spec =
+    tie.close
+    (tie.spec
+    slice-aggregate-set-at
+    set-at-requires
+    slice-aggregate-set-at-2
+    set-at-requires-2
+    slice-aggregate-copy-at
+    slice-aggregate-copy-at-2
+    copy-at-requires
+    slice-aggregate-copy-at-3
+    slice-aggregate-copy-at-4
+    copy-at-requires-2
+    slice-aggregate-set-at-3
+    set-at-requires-3
+    returns)

@@ -1,0 +1,20 @@
+-- `haskumye::table_calls::haskumye_check` meets its contract.
+use borrow.Author.Needs.{needs}
+use Rattle.octets.specs.Choice.{_then_otherwise_}
+use Rattle.tables.specs.Records.{markOf}
+use Rattle.haskumye.proofs.table_calls.haskumye_check.Statement.{statement}
+use Rattle.haskumye.proofs.table_calls.haskumye_check.Tie as tie
+
+check-requires : tie.Need-check-requires
+check-requires c κs = search needs
+
+returns : tie.Need-returns
+unfolding markOf _then_otherwise_
+returns c = rw (← c .before .check .ensures, c .if1 .taken)
+
+returns-2 : tie.Need-returns-2
+unfolding markOf _then_otherwise_
+returns-2 c = rw (← c .before .check .ensures, c .if1 .left)
+
+pub haskumye-check-spec : {M : Type 1} → statement M
+haskumye-check-spec = tie.close (tie.spec check-requires returns returns-2)

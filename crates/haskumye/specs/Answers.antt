@@ -1,0 +1,22 @@
+-- How an answer lies in one number.
+use Prim.Native.Nat.{ℕ, _+_, _*_, _%_}
+use Rattle.rules.specs.Answers.{reasonNumber}
+use Rattle.rules.specs.declared.Verdict.{Verdict}
+use Rattle.rules.specs.declared.Verdict.the-variants.{Drop, Deliver, Forward, Spread, Kept}
+use Rattle.rules.specs.declared.Answer.{Answer}
+use Rattle.rules.specs.declared.Answer.the-variants.{Refused, Judged}
+
+-- the kind in bits 0 to 7, a refusal's or a reason's number in 8 to 15, a port or a port set in 16 to 31, the length in 32 to 47
+unfoldable pub fieldsNumber : ℕ → ℕ → ℕ → ℕ → ℕ
+fieldsNumber kind detail ports length = kind + detail * 256 + ports * 65536 + length % 65536 * 4294967296
+
+unfoldable pub verdictNumber : Verdict → ℕ
+verdictNumber (Drop reason) = fieldsNumber 1 (reasonNumber reason) 0 0
+verdictNumber Deliver = fieldsNumber 2 0 0 0
+verdictNumber (Forward port length) = fieldsNumber 3 0 port length
+verdictNumber (Spread ports length) = fieldsNumber 4 0 ports length
+verdictNumber Kept = fieldsNumber 5 0 0 0
+
+unfoldable pub answerNumber : Answer → ℕ
+answerNumber (Refused number) = fieldsNumber 0 number 0 0
+answerNumber (Judged verdict) = verdictNumber verdict

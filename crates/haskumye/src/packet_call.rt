@@ -1,0 +1,61 @@
+// The packet call of a host.
+use super::numbers::answer_number;
+use rules::Tally;
+ghost use mathlib.Core.Path.{_≡_};
+ghost use lib.Dec.{eqb};
+ghost use Rattle.relay.specs.Promise.{packetOn};
+ghost use Rattle.haskumye.specs.Answers.{answerNumber};
+
+// What the call by value returns.
+pub struct Numbered {
+    pub number: u64,
+    pub tally: Tally,
+}
+
+// `relay::judge`, with the signature word as a byte and the answer as one number.
+fn judge_numbered(
+    packet: &[u8],
+    port: u64,
+    clock: u64,
+    signed: u8,
+    tables: &mut [u8],
+    output: &mut [u8],
+    tally: Tally,
+) -> Numbered
+    ensures { λ r. ⌜ (r .number ≡ answerNumber (packetOn (now (packet .entry)) port clock (eqb signed 1) (now (tables .entry)) tally (now (output .entry)) .answer))
+        × (r .tally ≡ packetOn (now (packet .entry)) port clock (eqb signed 1) (now (tables .entry)) tally (now (output .entry)) .tally)
+        × (now (tables .exit) ≡ packetOn (now (packet .entry)) port clock (eqb signed 1) (now (tables .entry)) tally (now (output .entry)) .tables)
+        × (now (output .exit) ≡ packetOn (now (packet .entry)) port clock (eqb signed 1) (now (tables .entry)) tally (now (output .entry)) .output) ⌝ }
+{
+    let judged = relay::judge(packet, port, clock, signed == 1, tables, output, tally);
+    let answer = judged.answer;
+    let after = judged.tally;
+    Numbered {
+        number: answer_number(answer),
+        tally: after,
+    }
+}
+
+// A packet that came by a port at a clock; `signed` is 1 where the host found its signature good, any other number where not. Tables, output
+// and tally are changed where they lie.
+// One number: bits 0 to 7 are 0 refused, 1 drop, 2 deliver, 3 forward, 4 spread, 5 kept; bits 8 to 15 the refusal's or the reason's number;
+// bits 16 to 31 the port of a forward, or the ports of a spread, bit i for port i; bits 32 to 47 the length that leaves.
+#[no_mangle]
+pub extern "C" fn haskumye_packet(
+    packet: &[u8],
+    port: u64,
+    clock: u64,
+    signed: u8,
+    tables: &mut [u8],
+    output: &mut [u8],
+    tally: &mut Tally,
+) -> u64
+    ensures { λ r. ⌜ (r ≡ answerNumber (packetOn (now (packet .entry)) port clock (eqb signed 1) (now (tables .entry)) (now (tally .entry)) (now (output .entry)) .answer))
+        × (now (tally .exit) ≡ packetOn (now (packet .entry)) port clock (eqb signed 1) (now (tables .entry)) (now (tally .entry)) (now (output .entry)) .tally)
+        × (now (tables .exit) ≡ packetOn (now (packet .entry)) port clock (eqb signed 1) (now (tables .entry)) (now (tally .entry)) (now (output .entry)) .tables)
+        × (now (output .exit) ≡ packetOn (now (packet .entry)) port clock (eqb signed 1) (now (tables .entry)) (now (tally .entry)) (now (output .entry)) .output) ⌝ }
+{
+    let j = judge_numbered(packet, port, clock, signed, tables, output, *tally);
+    *tally = j.tally;
+    j.number
+}
