@@ -50,6 +50,10 @@ tablesOn packet m t = bytesOf (enact (seen m t) (arrivalOf packet m) (planOn pac
 unfoldable pub outputOn : List ℕ → Arrived → List ℕ → List ℕ → List ℕ
 outputOn packet m t output = outputAfter (seen m t) (arrivalOf packet m) (planOn packet m t) output
 
+-- what a function leaves that does what was decided: all three are the rules'
+abbrev pub Acts : List ℕ → Arrived → List ℕ → List ℕ → Verdict → List ℕ → List ℕ → Type 0
+Acts packet m t output verdict t′ output′ = (verdict ≡ verdictOn packet m t) × (t′ ≡ tablesOn packet m t) × (output′ ≡ outputOn packet m t output)
+
 -- what an announce sets of its path, beside the blob
 unfoldable pub announcedBy : View → Arrival → Announced
 announcedBy v a =

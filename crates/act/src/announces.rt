@@ -1,7 +1,9 @@
 // Accepted announces: spread or kept, and their path is set.
 use super::stamps::stamp;
+use packet::LONGEST_PACKET;
 use plan::Arrived;
 use rules::Verdict;
+use tables::places::PORT_COUNT;
 use update::Announced;
 ghost use mathlib.Core.Path.{_≡_};
 ghost use mathlib.Core.Bool.{true, not};
@@ -24,11 +26,10 @@ ghost use Rattle.outgoing.specs.Leaving.{Onward};
 ghost use Rattle.plan.specs.declared.Decision.the-variants.{Announce};
 ghost use Rattle.plan.specs.Decided.{arrivalOf, decision};
 ghost use Rattle.act.specs.Kept.{pathPut, pathKept};
-ghost use Rattle.act.specs.Acted.{Accepted, seen, verdictOn, tablesOn, outputOn, announcedBy};
+ghost use Rattle.act.specs.Acted.{Accepted, seen, Acts, announcedBy};
 
-const LONGEST_PACKET: usize = 500;
-
-const PORT_COUNT: u8 = 16;
+// The number of ports as a byte.
+const PORTS: u8 = PORT_COUNT as u8;
 
 // How long a path lives, by the mode of the arrival port: boundary, access point, roaming.
 fn path_lifetime(mode: u8) -> u64
@@ -110,7 +111,7 @@ fn spread_ports(tables: &[u8], arrival: u8) -> u16
 {
     let mut ports: u16 = 0;
     let mut i: u8 = 0;
-    while i < PORT_COUNT {
+    while i < PORTS {
         let on = lookup::port_on(tables, octets::wide(i));
         ports = outgoing::with_spread_port(ports, i, on, arrival);
         i += 1;
@@ -145,7 +146,7 @@ pub fn announce(
     output: &mut [u8],
 ) -> Verdict
     requires { ⌜ Accepted (now packet) arrived hash (now tables) × (longestPacket ≤ length (now output)) × (decision (relayOf (now tables)) (arrivalOf (now packet) arrived) ≡ Announce place known) ⌝ }
-    ensures { λ r. ⌜ (r ≡ verdictOn (now (packet .entry)) arrived (now (tables .entry))) × (now (tables .exit) ≡ tablesOn (now (packet .entry)) arrived (now (tables .entry))) × (now (output .exit) ≡ outputOn (now (packet .entry)) arrived (now (tables .entry)) (now (output .entry))) ⌝ }
+    ensures { λ r. ⌜ Acts (now (packet .entry)) arrived (now (tables .entry)) (now (output .entry)) r (now (tables .exit)) (now (output .exit)) ⌝ }
 {
     let verdict = spread(packet, tables, arrived, output);
     let path = announced_path(tables, packet, arrived);

@@ -30,7 +30,7 @@ ghost use lib.ListN.{length};
 ghost use Rattle.packet.specs.Read.{longestPacket};
 ghost use Rattle.tables.specs.Layout.{relayOf};
 ghost use Rattle.plan.specs.Decided.{arrivalOf, decision as decisionOn};
-ghost use Rattle.act.specs.Acted.{Accepted, verdictOn, tablesOn, outputOn};
+ghost use Rattle.act.specs.Acted.{Accepted, Acts};
 
 // Does what was decided of an accepted packet.
 pub fn act(
@@ -42,7 +42,7 @@ pub fn act(
     output: &mut [u8],
 ) -> Verdict
     requires { ⌜ Accepted (now packet) arrived hash (now tables) × (longestPacket ≤ length (now output)) × (decision ≡ decisionOn (relayOf (now tables)) (arrivalOf (now packet) arrived)) ⌝ }
-    ensures { λ r. ⌜ (r ≡ verdictOn (now (packet .entry)) arrived (now (tables .entry))) × (now (tables .exit) ≡ tablesOn (now (packet .entry)) arrived (now (tables .entry))) × (now (output .exit) ≡ outputOn (now (packet .entry)) arrived (now (tables .entry)) (now (output .entry))) ⌝ }
+    ensures { λ r. ⌜ Acts (now (packet .entry)) arrived (now (tables .entry)) (now (output .entry)) r (now (tables .exit)) (now (output .exit)) ⌝ }
 {
     match decision {
         Decision::Drop(reason) => {

@@ -21,7 +21,7 @@ ghost use Rattle.plan.specs.declared.Decision.the-variants.{Carry};
 ghost use Rattle.plan.specs.Decided.{arrivalOf, decision};
 ghost use Rattle.outgoing.specs.Leaving.{alone};
 ghost use Rattle.act.specs.Kept.{linkKept};
-ghost use Rattle.act.specs.Acted.{Accepted, verdictOn, tablesOn, outputOn};
+ghost use Rattle.act.specs.Acted.{Accepted, Acts};
 
 // A proved link lives so many seconds.
 const PROVED_LIFETIME: u64 = 720;
@@ -97,7 +97,7 @@ pub fn carry(
     output: &mut [u8],
 ) -> Verdict
     requires { ⌜ Accepted (now packet) arrived hash (now tables) × (longestPacket ≤ length (now output)) × (decision (relayOf (now tables)) (arrivalOf (now packet) arrived) ≡ Carry place port) ⌝ }
-    ensures { λ r. ⌜ (r ≡ verdictOn (now (packet .entry)) arrived (now (tables .entry))) × (now (tables .exit) ≡ tablesOn (now (packet .entry)) arrived (now (tables .entry))) × (now (output .exit) ≡ outputOn (now (packet .entry)) arrived (now (tables .entry)) (now (output .entry))) ⌝ }
+    ensures { λ r. ⌜ Acts (now (packet .entry)) arrived (now (tables .entry)) (now (output .entry)) r (now (tables .exit)) (now (output .exit)) ⌝ }
 {
     let link = renewed_link(packet, arrived, lookup::link_at(tables, place));
     let length = outgoing::carry(packet, output);

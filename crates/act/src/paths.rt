@@ -17,7 +17,7 @@ ghost use Rattle.tables.specs.Layout.{rowAt, relayOf};
 ghost use Rattle.outgoing.specs.Leaving.{alone, Onward};
 ghost use Rattle.plan.specs.declared.Decision.the-variants.{Data, Request};
 ghost use Rattle.plan.specs.Decided.{arrivalOf, decision};
-ghost use Rattle.act.specs.Acted.{Accepted, verdictOn, tablesOn, outputOn};
+ghost use Rattle.act.specs.Acted.{Accepted, Acts};
 
 // Writes what leaves by the path at a place, and says how long it is.
 fn forward(packet: &[u8], tables: &[u8], path: usize, output: &mut [u8]) -> usize
@@ -39,7 +39,7 @@ pub fn send(
     output: &mut [u8],
 ) -> Verdict
     requires { ⌜ Accepted (now packet) arrived hash (now tables) × (longestPacket ≤ length (now output)) × (decision (relayOf (now tables)) (arrivalOf (now packet) arrived) ≡ Data path) ⌝ }
-    ensures { λ r. ⌜ (r ≡ verdictOn (now (packet .entry)) arrived (now (tables .entry))) × (now (tables .exit) ≡ tablesOn (now (packet .entry)) arrived (now (tables .entry))) × (now (output .exit) ≡ outputOn (now (packet .entry)) arrived (now (tables .entry)) (now (output .entry))) ⌝ }
+    ensures { λ r. ⌜ Acts (now (packet .entry)) arrived (now (tables .entry)) (now (output .entry)) r (now (tables .exit)) (now (output .exit)) ⌝ }
 {
     let port = lookup::path_port(tables, path);
     let length = forward(packet, tables, path, output);
@@ -58,7 +58,7 @@ pub fn request(
     output: &mut [u8],
 ) -> Verdict
     requires { ⌜ Accepted (now packet) arrived hash (now tables) × (longestPacket ≤ length (now output)) × (decision (relayOf (now tables)) (arrivalOf (now packet) arrived) ≡ Request path place) ⌝ }
-    ensures { λ r. ⌜ (r ≡ verdictOn (now (packet .entry)) arrived (now (tables .entry))) × (now (tables .exit) ≡ tablesOn (now (packet .entry)) arrived (now (tables .entry))) × (now (output .exit) ≡ outputOn (now (packet .entry)) arrived (now (tables .entry)) (now (output .entry))) ⌝ }
+    ensures { λ r. ⌜ Acts (now (packet .entry)) arrived (now (tables .entry)) (now (output .entry)) r (now (tables .exit)) (now (output .exit)) ⌝ }
 {
     let port = lookup::path_port(tables, path);
     let link = asked_link(tables, packet, arrived, path);

@@ -1,10 +1,8 @@
 // The refusals of a packet call.
+use packet::LEAST_OUTPUT;
+use packet::LONGEST_PACKET;
 ghost use mathlib.Core.Path.{_≡_};
 ghost use Rattle.act.specs.Acted.{refusalOn};
-
-const LEAST_OUTPUT: usize = 500;
-
-const LONGEST_PACKET: usize = 500;
 
 const CLOCK_LIMIT: u64 = 1_099_511_627_776;
 

@@ -12,7 +12,7 @@ ghost use Rattle.tables.specs.Layout.{relayOf, wellFormed};
 ghost use Rattle.plan.specs.declared.Decision.the-variants.{Receipt};
 ghost use Rattle.plan.specs.Decided.{arrivalOf, decision};
 ghost use Rattle.act.specs.Kept.{returnPut, returnKept, returnDone};
-ghost use Rattle.act.specs.Acted.{Accepted, verdictOn, tablesOn, outputOn};
+ghost use Rattle.act.specs.Acted.{Accepted, Acts};
 
 // A return record lives so many seconds.
 const RETURN_LIFETIME: u64 = 1800;
@@ -66,7 +66,7 @@ pub fn receipt(
     output: &mut [u8],
 ) -> Verdict
     requires { ⌜ Accepted (now packet) arrived hash (now tables) × (longestPacket ≤ length (now output)) × (decision (relayOf (now tables)) (arrivalOf (now packet) arrived) ≡ Receipt place port) ⌝ }
-    ensures { λ r. ⌜ (r ≡ verdictOn (now (packet .entry)) arrived (now (tables .entry))) × (now (tables .exit) ≡ tablesOn (now (packet .entry)) arrived (now (tables .entry))) × (now (output .exit) ≡ outputOn (now (packet .entry)) arrived (now (tables .entry)) (now (output .entry))) ⌝ }
+    ensures { λ r. ⌜ Acts (now (packet .entry)) arrived (now (tables .entry)) (now (output .entry)) r (now (tables .exit)) (now (output .exit)) ⌝ }
 {
     let length = outgoing::carry(packet, output);
     end_return(tables, place, hash, arrived.clock);

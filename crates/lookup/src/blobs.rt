@@ -1,4 +1,6 @@
 // The blobs of a path, in the bytes of its record.
+use tables::fields::PATH_BLOB_COUNT_AT;
+use tables::fields::PATH_BLOBS_AT;
 use tables::places::BLOB_WIDTH;
 ghost use mathlib.Core.Path.{_≡_};
 ghost use Prim.Native.Nat.{_+_, _*_, _≤_, _<_};
@@ -10,20 +12,15 @@ ghost use Rattle.rules.specs.Blobs.{held, isAmong, greatest, greatestEmission};
 ghost use Rattle.tables.specs.Places.{pathWidth, blobWidth};
 ghost use Rattle.tables.specs.Records.{blobsOf};
 
-// Where a record has how many blobs it holds, and where these stand.
-const BLOB_COUNT_AT: usize = 43;
-
-const BLOBS_AT: usize = 44;
-
 // Whether the record holds the blob.
 pub fn has_blob(b: &[u8], blob: &[u8]) -> bool
     requires { ⌜ (length (now b) ≡ pathWidth) × (length (now blob) ≡ blobWidth) × (blobsOf (now b) .count ≤ blobLimit) ⌝ }
     ensures { λ r. ⌜ r ≡ isAmong (now (blob .entry)) (held (blobsOf (now (b .entry)))) ⌝ }
 {
-    let count = b[BLOB_COUNT_AT] as usize;
+    let count = b[PATH_BLOB_COUNT_AT] as usize;
     let mut i = 0;
     while i < count {
-        if octets::equal_at(b, BLOBS_AT + BLOB_WIDTH * i, blob) {
+        if octets::equal_at(b, PATH_BLOBS_AT + BLOB_WIDTH * i, blob) {
             return true;
         }
         i += 1;
@@ -36,7 +33,7 @@ fn emission_at(b: &[u8], i: usize) -> u64
     requires { ⌜ (length (now b) ≡ pathWidth) × (i < blobLimit) ⌝ }
     ensures { λ r. ⌜ r ≡ emissionOf (part (now (b .entry)) (44 + blobWidth * i) blobWidth) ⌝ }
 {
-    octets::number_at(b, BLOBS_AT + BLOB_WIDTH * i + 5, 5)
+    octets::number_at(b, PATH_BLOBS_AT + BLOB_WIDTH * i + 5, 5)
 }
 
 fn greater(x: u64, y: u64) -> u64
@@ -54,7 +51,7 @@ pub fn greatest_of(b: &[u8]) -> u64
     ensures { λ r. ⌜ r ≡ greatestEmission (held (blobsOf (now (b .entry)))) ⌝ }
 {
     let mut most: u64 = 0;
-    let mut i = b[BLOB_COUNT_AT] as usize;
+    let mut i = b[PATH_BLOB_COUNT_AT] as usize;
     while 0 < i {
         i -= 1;
         most = greater(emission_at(b, i), most);

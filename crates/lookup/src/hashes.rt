@@ -1,5 +1,6 @@
 // The remembered hashes.
 use super::search::live_place;
+use tables::fields::HASH_EXPIRY_AT;
 use tables::places::HASH_COUNT;
 use tables::places::HASH_WIDTH;
 use tables::places::HASHES_AT;
@@ -8,9 +9,6 @@ ghost use lib.ListN.{length};
 ghost use Rattle.rules.specs.View.{hashPlace};
 ghost use Rattle.tables.specs.Places.{tableSize};
 ghost use Rattle.tables.specs.Layout.{relayOf};
-
-// Where a record's expiry stands.
-const EXPIRY_AT: usize = 33;
 
 // The lowest place of a hash that is remembered, or 1,024.
 pub fn hash_place(tables: &[u8], hash: [u8; 32], clock: u64) -> usize
@@ -22,7 +20,7 @@ pub fn hash_place(tables: &[u8], hash: [u8; 32], clock: u64) -> usize
         HASHES_AT,
         HASH_WIDTH,
         HASH_COUNT,
-        EXPIRY_AT,
+        HASH_EXPIRY_AT,
         &hash,
         clock,
     )

@@ -5,6 +5,13 @@ use super::search::record_at;
 use rules::Link;
 use rules::RemainingHops;
 use rules::TakenHops;
+use tables::fields::LINK_ANSWERING_AT;
+use tables::fields::LINK_ASKING_AT;
+use tables::fields::LINK_EXPIRY_AT;
+use tables::fields::LINK_ID_AT;
+use tables::fields::LINK_PROVED_AT;
+use tables::fields::LINK_REMAINING_AT;
+use tables::fields::LINK_TAKEN_AT;
 use tables::places::LINK_COUNT;
 use tables::places::LINK_WIDTH;
 use tables::places::LINKS_AT;
@@ -17,21 +24,6 @@ ghost use Rattle.tables.specs.Places.{tableSize, linksAt, linkWidth};
 ghost use Rattle.tables.specs.Records.{linkOf};
 ghost use Rattle.tables.specs.Layout.{rowAt, relayOf};
 
-// Where a link's fields stand in its record.
-const ID_AT: usize = 1;
-
-const ASKING_AT: usize = 17;
-
-const ANSWERING_AT: usize = 18;
-
-const TAKEN_AT: usize = 19;
-
-const REMAINING_AT: usize = 20;
-
-const PROVED_AT: usize = 21;
-
-const EXPIRY_AT: usize = 22;
-
 // The lowest live link of an id, or 64.
 pub fn link_place(tables: &[u8], id: [u8; 16], clock: u64) -> usize
     requires { ⌜ length (now tables) ≡ tableSize ⌝ }
@@ -42,7 +34,7 @@ pub fn link_place(tables: &[u8], id: [u8; 16], clock: u64) -> usize
         LINKS_AT,
         LINK_WIDTH,
         LINK_COUNT,
-        EXPIRY_AT,
+        LINK_EXPIRY_AT,
         &id,
         clock,
     )
@@ -53,22 +45,29 @@ pub fn free_link(tables: &[u8], clock: u64) -> usize
     requires { ⌜ length (now tables) ≡ tableSize ⌝ }
     ensures { λ r. ⌜ r ≡ freeLink clock (relayOf (now (tables .entry))) ⌝ }
 {
-    free_place(tables, LINKS_AT, LINK_WIDTH, LINK_COUNT, EXPIRY_AT, clock)
+    free_place(
+        tables,
+        LINKS_AT,
+        LINK_WIDTH,
+        LINK_COUNT,
+        LINK_EXPIRY_AT,
+        clock,
+    )
 }
 
 fn link_of(b: &[u8]) -> Link
     requires { ⌜ length (now b) ≡ linkWidth ⌝ }
     ensures { λ r. ⌜ r ≡ linkOf (now (b .entry)) ⌝ }
 {
-    let id = octets::address_at(b, ID_AT);
-    let expiry = octets::number_of_8_at(b, EXPIRY_AT);
+    let id = octets::address_at(b, LINK_ID_AT);
+    let expiry = octets::number_of_8_at(b, LINK_EXPIRY_AT);
     Link {
         id,
-        asking: b[ASKING_AT],
-        answering: b[ANSWERING_AT],
-        taken: TakenHops(b[TAKEN_AT]),
-        remaining: RemainingHops(b[REMAINING_AT]),
-        proved: b[PROVED_AT] == 1,
+        asking: b[LINK_ASKING_AT],
+        answering: b[LINK_ANSWERING_AT],
+        taken: TakenHops(b[LINK_TAKEN_AT]),
+        remaining: RemainingHops(b[LINK_REMAINING_AT]),
+        proved: b[LINK_PROVED_AT] == 1,
         expiry,
     }
 }

@@ -4,6 +4,10 @@ use super::blobs::has_blob;
 use super::search::free_place;
 use super::search::live_place;
 use super::search::record_at;
+use tables::fields::PATH_EXPIRY_AT;
+use tables::fields::PATH_HOPS_AT;
+use tables::fields::PATH_NEXT_HOP_AT;
+use tables::fields::PATH_PORT_AT;
 use tables::places::PATH_COUNT;
 use tables::places::PATH_WIDTH;
 use tables::places::PATHS_AT;
@@ -17,15 +21,6 @@ ghost use Rattle.tables.specs.Places.{tableSize, pathsAt, pathWidth};
 ghost use Rattle.tables.specs.Records.{pathOf};
 ghost use Rattle.tables.specs.Layout.{rowAt, relayOf};
 
-// Where a path's fields stand in its record.
-const PORT_AT: usize = 17;
-
-const HOPS_AT: usize = 18;
-
-const NEXT_HOP_AT: usize = 19;
-
-const EXPIRY_AT: usize = 35;
-
 // The lowest live path to a destination, or 64.
 pub fn path_place(tables: &[u8], destination: [u8; 16], clock: u64) -> usize
     requires { ⌜ length (now tables) ≡ tableSize ⌝ }
@@ -36,7 +31,7 @@ pub fn path_place(tables: &[u8], destination: [u8; 16], clock: u64) -> usize
         PATHS_AT,
         PATH_WIDTH,
         PATH_COUNT,
-        EXPIRY_AT,
+        PATH_EXPIRY_AT,
         &destination,
         clock,
     )
@@ -47,7 +42,14 @@ pub fn free_path(tables: &[u8], clock: u64) -> usize
     requires { ⌜ length (now tables) ≡ tableSize ⌝ }
     ensures { λ r. ⌜ r ≡ freePath clock (relayOf (now (tables .entry))) ⌝ }
 {
-    free_place(tables, PATHS_AT, PATH_WIDTH, PATH_COUNT, EXPIRY_AT, clock)
+    free_place(
+        tables,
+        PATHS_AT,
+        PATH_WIDTH,
+        PATH_COUNT,
+        PATH_EXPIRY_AT,
+        clock,
+    )
 }
 
 // ---- the fields of the path at a place
@@ -57,7 +59,7 @@ pub fn path_port(tables: &[u8], place: usize) -> u8
     ensures { λ r. ⌜ r ≡ pathOf (rowAt pathsAt pathWidth (now (tables .entry)) place) .port ⌝ }
 {
     let b = record_at(tables, PATHS_AT, PATH_WIDTH, place);
-    b[PORT_AT]
+    b[PATH_PORT_AT]
 }
 
 pub fn path_hops(tables: &[u8], place: usize) -> u8
@@ -65,14 +67,17 @@ pub fn path_hops(tables: &[u8], place: usize) -> u8
     ensures { λ r. ⌜ r ≡ pathOf (rowAt pathsAt pathWidth (now (tables .entry)) place) .hops ⌝ }
 {
     let b = record_at(tables, PATHS_AT, PATH_WIDTH, place);
-    b[HOPS_AT]
+    b[PATH_HOPS_AT]
 }
 
 pub fn path_next_hop(tables: &[u8], place: usize) -> [u8; 16]
     requires { ⌜ (length (now tables) ≡ tableSize) × (place < pathCount) ⌝ }
     ensures { λ r. ⌜ r ≡ pathOf (rowAt pathsAt pathWidth (now (tables .entry)) place) .nextHop ⌝ }
 {
-    octets::address_at(record_at(tables, PATHS_AT, PATH_WIDTH, place), NEXT_HOP_AT)
+    octets::address_at(
+        record_at(tables, PATHS_AT, PATH_WIDTH, place),
+        PATH_NEXT_HOP_AT,
+    )
 }
 
 // Whether the path holds the blob.

@@ -1,6 +1,9 @@
 // The return records: the live one of a key, and a record's ports.
 use super::search::live_place;
 use super::search::record_at;
+use tables::fields::RETURN_ARRIVAL_AT;
+use tables::fields::RETURN_EXPIRY_AT;
+use tables::fields::RETURN_LEAVING_AT;
 use tables::places::RETURN_COUNT;
 use tables::places::RETURN_WIDTH;
 use tables::places::RETURNS_AT;
@@ -13,13 +16,6 @@ ghost use Rattle.tables.specs.Places.{tableSize, returnsAt, returnWidth};
 ghost use Rattle.tables.specs.Records.{returnOf};
 ghost use Rattle.tables.specs.Layout.{rowAt, relayOf};
 
-// Where a return record's fields stand.
-const ARRIVAL_AT: usize = 17;
-
-const LEAVING_AT: usize = 18;
-
-const EXPIRY_AT: usize = 19;
-
 // The lowest live return record of a key, or 512.
 pub fn return_place(tables: &[u8], key: [u8; 16], clock: u64) -> usize
     requires { ⌜ length (now tables) ≡ tableSize ⌝ }
@@ -30,7 +26,7 @@ pub fn return_place(tables: &[u8], key: [u8; 16], clock: u64) -> usize
         RETURNS_AT,
         RETURN_WIDTH,
         RETURN_COUNT,
-        EXPIRY_AT,
+        RETURN_EXPIRY_AT,
         &key,
         clock,
     )
@@ -43,7 +39,7 @@ pub fn return_arrival(tables: &[u8], place: usize) -> u8
     ensures { λ r. ⌜ r ≡ returnOf (rowAt returnsAt returnWidth (now (tables .entry)) place) .arrival ⌝ }
 {
     let b = record_at(tables, RETURNS_AT, RETURN_WIDTH, place);
-    b[ARRIVAL_AT]
+    b[RETURN_ARRIVAL_AT]
 }
 
 pub fn return_leaving(tables: &[u8], place: usize) -> u8
@@ -51,5 +47,5 @@ pub fn return_leaving(tables: &[u8], place: usize) -> u8
     ensures { λ r. ⌜ r ≡ returnOf (rowAt returnsAt returnWidth (now (tables .entry)) place) .leaving ⌝ }
 {
     let b = record_at(tables, RETURNS_AT, RETURN_WIDTH, place);
-    b[LEAVING_AT]
+    b[RETURN_LEAVING_AT]
 }

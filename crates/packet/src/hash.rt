@@ -1,4 +1,5 @@
 // Packet hash and link id.
+use super::LONGEST_PACKET;
 use super::LinkId;
 use super::PacketHash;
 use super::reader::from;
@@ -35,7 +36,7 @@ fn hash_behind(first: u8, rest: &[u8]) -> [u8; 32]
     requires { ⌜ length (now rest) ≤ 499 ⌝ }
     ensures { λ r. ⌜ r ≡ sha256-of (first ∷ now (rest .entry)) ⌝ }
 {
-    let mut buffer = [0u8; 500];
+    let mut buffer = [0u8; LONGEST_PACKET];
     octets::set_at(&mut buffer, 0, first);
     octets::copy_at(&mut buffer, 1, rest);
     hash_start(&buffer, 1 + rest.len())
@@ -65,7 +66,7 @@ pub fn link_id_of(packet: &[u8]) -> [u8; 16]
 pub fn packet_hash(packet: &[u8]) -> PacketHash
     ensures { λ r. ⌜ r ≡ packetHashAnswer longestPacket (now (packet .entry)) ⌝ }
 {
-    let refusal = reading_refusal(packet, 500);
+    let refusal = reading_refusal(packet, LONGEST_PACKET);
     if refusal != 0 {
         return PacketHash {
             refusal,
@@ -80,7 +81,7 @@ pub fn packet_hash(packet: &[u8]) -> PacketHash
 pub fn link_id(packet: &[u8]) -> LinkId
     ensures { λ r. ⌜ r ≡ linkIdAnswer longestPacket (now (packet .entry)) ⌝ }
 {
-    let refusal = reading_refusal(packet, 500);
+    let refusal = reading_refusal(packet, LONGEST_PACKET);
     if refusal != 0 {
         return LinkId {
             refusal,

@@ -40,6 +40,11 @@ pub use writer::write;
 pub use writer::write_packet;
 pub use writer::writing_refusal;
 
+// `longestPacket` and `leastOutput` of specs/ in code.
+pub const LONGEST_PACKET: usize = 500;
+
+pub const LEAST_OUTPUT: usize = 500;
+
 // What the bytes of a packet before its payload say. Type 1: the relay address is zeros.
 pub struct Parts {
     pub header: u8,

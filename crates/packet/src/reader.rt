@@ -1,4 +1,5 @@
 // Reading a packet: its head alone, never the payload.
+use super::LONGEST_PACKET;
 use super::Parts;
 use super::Reading;
 use super::header::access_code;
@@ -151,5 +152,5 @@ pub fn read_within(packet: &[u8], longest: usize) -> Reading
 pub fn read(packet: &[u8]) -> Reading
     ensures { λ r. ⌜ r ≡ reading longestPacket (now (packet .entry)) ⌝ }
 {
-    read_within(packet, 500)
+    read_within(packet, LONGEST_PACKET)
 }

@@ -1,4 +1,6 @@
 // Writing a packet.
+use super::LEAST_OUTPUT;
+use super::LONGEST_PACKET;
 use super::Parts;
 use super::Written;
 use super::header::access_code;
@@ -16,11 +18,11 @@ ghost use Rattle.packet.specs.Write.{packetOf, writingRefusal, writing};
 pub fn writing_refusal(parts: Parts, payload: &[u8], room: usize) -> u8
     ensures { λ r. ⌜ r ≡ writingRefusal room parts (now (payload .entry)) ⌝ }
 {
-    if room < 500 {
+    if room < LEAST_OUTPUT {
         return 6;
     }
     let start = payload_start(parts.header);
-    if 500 - start < payload.len() {
+    if LONGEST_PACKET - start < payload.len() {
         return 2;
     }
     if access_code(parts.header) {

@@ -1,4 +1,9 @@
 // Where each section of the tables stands, and how wide its records are: specs/Places.antt in code. Each number once.
+use super::fields::HASH_EXPIRY_AT;
+use super::fields::LINK_EXPIRY_AT;
+use super::fields::PATH_BLOBS_AT;
+use super::fields::RETURN_EXPIRY_AT;
+
 pub const PORT_COUNT: usize = 16;
 
 pub const LOCAL_COUNT: usize = 16;
@@ -29,15 +34,15 @@ pub const RING_WIDTH: usize = 2;
 
 pub const PORT_WIDTH: usize = 2;
 
-pub const LOCAL_WIDTH: usize = 17;
+pub const LOCAL_WIDTH: usize = 1 + ADDRESS_WIDTH;
 
-pub const PATH_WIDTH: usize = 44 + BLOB_LIMIT * BLOB_WIDTH;
+pub const PATH_WIDTH: usize = PATH_BLOBS_AT + BLOB_LIMIT * BLOB_WIDTH;
 
-pub const LINK_WIDTH: usize = 30;
+pub const LINK_WIDTH: usize = LINK_EXPIRY_AT + TIME_WIDTH;
 
-pub const RETURN_WIDTH: usize = 27;
+pub const RETURN_WIDTH: usize = RETURN_EXPIRY_AT + TIME_WIDTH;
 
-pub const HASH_WIDTH: usize = 41;
+pub const HASH_WIDTH: usize = HASH_EXPIRY_AT + TIME_WIDTH;
 
 pub const CLOCK_AT: usize = ADDRESS_WIDTH;
 

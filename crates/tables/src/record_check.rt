@@ -1,4 +1,16 @@
 // Row 7 for one record of each kind, as the slice of its bytes. An unused record is tested by one OR over its bytes.
+use super::fields::HASH_EXPIRY_AT;
+use super::fields::LINK_ANSWERING_AT;
+use super::fields::LINK_ASKING_AT;
+use super::fields::LINK_EXPIRY_AT;
+use super::fields::LINK_PROVED_AT;
+use super::fields::PATH_BLOB_COUNT_AT;
+use super::fields::PATH_EXPIRY_AT;
+use super::fields::PATH_PORT_AT;
+use super::fields::PORT_MODE_AT;
+use super::fields::RETURN_ARRIVAL_AT;
+use super::fields::RETURN_EXPIRY_AT;
+use super::fields::RETURN_LEAVING_AT;
 use super::places::BLOB_LIMIT;
 use super::places::MODE_COUNT;
 use super::places::PORT_COUNT;
@@ -15,7 +27,7 @@ pub fn port_ok(b: &[u8]) -> bool
     if b[0] >= 2 {
         return false;
     }
-    b[1] < MODE_COUNT
+    b[PORT_MODE_AT] < MODE_COUNT
 }
 
 pub fn local_ok(b: &[u8]) -> bool
@@ -41,16 +53,16 @@ pub fn path_ok(b: &[u8]) -> bool
     if b[0] != 1 {
         return false;
     }
-    if b[17] >= PORT_COUNT as u8 {
+    if b[PATH_PORT_AT] >= PORT_COUNT as u8 {
         return false;
     }
-    if b[43] < 1 {
+    if b[PATH_BLOB_COUNT_AT] < 1 {
         return false;
     }
-    if b[43] > BLOB_LIMIT as u8 {
+    if b[PATH_BLOB_COUNT_AT] > BLOB_LIMIT as u8 {
         return false;
     }
-    octets::number_of_8_at(b, 35) <= TIME_LIMIT
+    octets::number_of_8_at(b, PATH_EXPIRY_AT) <= TIME_LIMIT
 }
 
 pub fn link_ok(b: &[u8]) -> bool
@@ -63,16 +75,16 @@ pub fn link_ok(b: &[u8]) -> bool
     if b[0] != 1 {
         return false;
     }
-    if b[21] >= 2 {
+    if b[LINK_PROVED_AT] >= 2 {
         return false;
     }
-    if b[17] >= PORT_COUNT as u8 {
+    if b[LINK_ASKING_AT] >= PORT_COUNT as u8 {
         return false;
     }
-    if b[18] >= PORT_COUNT as u8 {
+    if b[LINK_ANSWERING_AT] >= PORT_COUNT as u8 {
         return false;
     }
-    octets::number_of_8_at(b, 22) <= TIME_LIMIT
+    octets::number_of_8_at(b, LINK_EXPIRY_AT) <= TIME_LIMIT
 }
 
 pub fn return_ok(b: &[u8]) -> bool
@@ -85,13 +97,13 @@ pub fn return_ok(b: &[u8]) -> bool
     if b[0] != 1 {
         return false;
     }
-    if b[17] >= PORT_COUNT as u8 {
+    if b[RETURN_ARRIVAL_AT] >= PORT_COUNT as u8 {
         return false;
     }
-    if b[18] >= PORT_COUNT as u8 {
+    if b[RETURN_LEAVING_AT] >= PORT_COUNT as u8 {
         return false;
     }
-    octets::number_of_8_at(b, 19) <= TIME_LIMIT
+    octets::number_of_8_at(b, RETURN_EXPIRY_AT) <= TIME_LIMIT
 }
 
 pub fn hash_ok(b: &[u8]) -> bool
@@ -104,5 +116,5 @@ pub fn hash_ok(b: &[u8]) -> bool
     if b[0] != 1 {
         return false;
     }
-    octets::number_of_8_at(b, 33) <= TIME_LIMIT
+    octets::number_of_8_at(b, HASH_EXPIRY_AT) <= TIME_LIMIT
 }

@@ -1,4 +1,6 @@
 // The remembered hashes.
+use tables::fields::HASH_BYTES_AT;
+use tables::fields::HASH_EXPIRY_AT;
 use tables::places::HASH_COUNT;
 use tables::places::HASH_NEXT_AT;
 use tables::places::HASH_WIDTH;
@@ -12,11 +14,6 @@ ghost use Rattle.rules.specs.Numbers.{hashCount};
 ghost use Rattle.tables.specs.Places.{tableSize};
 ghost use Rattle.tables.specs.Layout.{relayOf};
 ghost use Rattle.update.specs.Written.{hashWritten};
-
-// Where a record's fields stand behind its mark.
-const HASH_AT: usize = 1;
-
-const EXPIRY_AT: usize = 33;
 
 // The ring place that is written next.
 pub fn next_hash(tables: &[u8]) -> usize
@@ -33,8 +30,8 @@ pub fn remember(tables: &mut [u8], place: usize, hash: [u8; 32], expiry: u64)
 {
     let at = HASHES_AT + HASH_WIDTH * place;
     octets::set_at(tables, at, 1);
-    octets::copy_at(tables, at + HASH_AT, &hash);
-    octets::write_number_at(tables, at + EXPIRY_AT, TIME_WIDTH, expiry);
+    octets::copy_at(tables, at + HASH_BYTES_AT, &hash);
+    octets::write_number_at(tables, at + HASH_EXPIRY_AT, TIME_WIDTH, expiry);
     let next = (place + 1) % HASH_COUNT;
     octets::write_number_at(tables, HASH_NEXT_AT, RING_WIDTH, next as u64);
 }

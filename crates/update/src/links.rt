@@ -1,5 +1,8 @@
 // The links.
 use rules::Link;
+use tables::fields::LINK_ASKING_AT;
+use tables::fields::LINK_EXPIRY_AT;
+use tables::fields::LINK_ID_AT;
 use tables::places::LINK_WIDTH;
 use tables::places::LINKS_AT;
 use tables::places::TIME_WIDTH;
@@ -10,13 +13,6 @@ ghost use Rattle.rules.specs.Numbers.{linkCount};
 ghost use Rattle.tables.specs.Places.{tableSize};
 ghost use Rattle.tables.specs.Records.{markOf};
 ghost use Rattle.update.specs.Written.{linkWritten};
-
-// Where a record's fields stand behind its mark: the id; ports, hops and the proved mark; the expiry.
-const ID_AT: usize = 1;
-
-const PORTS_AT: usize = 17;
-
-const EXPIRY_AT: usize = 22;
 
 fn mark(answer: bool) -> u8
     ensures { λ r. ⌜ r ≡ markOf answer ⌝ }
@@ -41,7 +37,7 @@ pub fn put_link(tables: &mut [u8], place: usize, link: Link)
         mark(link.proved),
     ];
     octets::set_at(tables, at, 1);
-    octets::copy_at(tables, at + ID_AT, &id);
-    octets::copy_at(tables, at + PORTS_AT, &between);
-    octets::write_number_at(tables, at + EXPIRY_AT, TIME_WIDTH, link.expiry);
+    octets::copy_at(tables, at + LINK_ID_AT, &id);
+    octets::copy_at(tables, at + LINK_ASKING_AT, &between);
+    octets::write_number_at(tables, at + LINK_EXPIRY_AT, TIME_WIDTH, link.expiry);
 }

@@ -2,6 +2,11 @@
 use super::Announced;
 use super::blobs::add_blob;
 use super::blobs::one_blob;
+use tables::fields::PATH_BLOB_COUNT_AT;
+use tables::fields::PATH_DESTINATION_AT;
+use tables::fields::PATH_EXPIRY_AT;
+use tables::fields::PATH_NEXT_HOP_AT;
+use tables::fields::PATH_PORT_AT;
 use tables::places::PATH_WIDTH;
 use tables::places::PATHS_AT;
 use tables::places::TIME_WIDTH;
@@ -16,18 +21,8 @@ ghost use Rattle.tables.specs.Records.{blobsOf};
 ghost use Rattle.tables.specs.Layout.{rowAt};
 ghost use Rattle.update.specs.Written.{headWidth, headBytes, announced, pathWritten};
 
-// Where a record's fields stand behind its mark, and how wide its blobs are.
-const DESTINATION_AT: usize = 1;
-
-const PORT_AT: usize = 17;
-
-const NEXT_HOP_AT: usize = 19;
-
-const EXPIRY_AT: usize = 35;
-
-const BLOBS_AT: usize = EXPIRY_AT + TIME_WIDTH;
-
-const BLOBS_WIDTH: usize = PATH_WIDTH - BLOBS_AT;
+// How wide a path's blobs are, with their count.
+const BLOBS_WIDTH: usize = PATH_WIDTH - PATH_BLOB_COUNT_AT;
 
 // Writes what stands before a record's blobs.
 fn put_head(tables: &mut [u8], at: usize, path: Announced)
@@ -38,10 +33,10 @@ fn put_head(tables: &mut [u8], at: usize, path: Announced)
     let port_and_hops = [path.port, path.hops];
     let next_hop = path.next_hop;
     octets::set_at(tables, at, 1);
-    octets::copy_at(tables, at + DESTINATION_AT, &destination);
-    octets::copy_at(tables, at + PORT_AT, &port_and_hops);
-    octets::copy_at(tables, at + NEXT_HOP_AT, &next_hop);
-    octets::write_number_at(tables, at + EXPIRY_AT, TIME_WIDTH, path.expiry);
+    octets::copy_at(tables, at + PATH_DESTINATION_AT, &destination);
+    octets::copy_at(tables, at + PATH_PORT_AT, &port_and_hops);
+    octets::copy_at(tables, at + PATH_NEXT_HOP_AT, &next_hop);
+    octets::write_number_at(tables, at + PATH_EXPIRY_AT, TIME_WIDTH, path.expiry);
 }
 
 // Puts a new path at a place, spare blob places zero.
@@ -51,7 +46,7 @@ pub fn put_new_path(tables: &mut [u8], place: usize, path: Announced, blob: [u8;
 {
     let at = PATHS_AT + PATH_WIDTH * place;
     put_head(tables, at, path);
-    let from = at + BLOBS_AT;
+    let from = at + PATH_BLOB_COUNT_AT;
     one_blob(&mut tables[from..from + BLOBS_WIDTH], blob);
 }
 
@@ -62,6 +57,6 @@ pub fn put_known_path(tables: &mut [u8], place: usize, path: Announced, blob: [u
 {
     let at = PATHS_AT + PATH_WIDTH * place;
     put_head(tables, at, path);
-    let from = at + BLOBS_AT;
+    let from = at + PATH_BLOB_COUNT_AT;
     add_blob(&mut tables[from..from + BLOBS_WIDTH], blob);
 }

@@ -1,4 +1,7 @@
 // The return records.
+use tables::fields::RETURN_ARRIVAL_AT;
+use tables::fields::RETURN_EXPIRY_AT;
+use tables::fields::RETURN_KEY_AT;
 use tables::places::RETURN_COUNT;
 use tables::places::RETURN_NEXT_AT;
 use tables::places::RETURN_WIDTH;
@@ -16,13 +19,6 @@ ghost use Rattle.tables.specs.Places.{tableSize, addressWidth, returnWidth};
 ghost use Rattle.tables.specs.Records.{slotOf, returnOf};
 ghost use Rattle.tables.specs.Layout.{relayOf, wellFormed};
 ghost use Rattle.update.specs.Written.{returnWritten, returnEmptied, emptiedIfLive, returnsEmptied};
-
-// Where a record's fields stand behind its mark.
-const KEY_AT: usize = 1;
-
-const PORTS_AT: usize = 17;
-
-const EXPIRY_AT: usize = 19;
 
 // The ring place that is written next.
 pub fn next_return(tables: &[u8]) -> usize
@@ -47,9 +43,9 @@ pub fn put_return(
     let at = RETURNS_AT + RETURN_WIDTH * place;
     let ports = [arrival, leaving];
     octets::set_at(tables, at, 1);
-    octets::copy_at(tables, at + KEY_AT, &key);
-    octets::copy_at(tables, at + PORTS_AT, &ports);
-    octets::write_number_at(tables, at + EXPIRY_AT, TIME_WIDTH, expiry);
+    octets::copy_at(tables, at + RETURN_KEY_AT, &key);
+    octets::copy_at(tables, at + RETURN_ARRIVAL_AT, &ports);
+    octets::write_number_at(tables, at + RETURN_EXPIRY_AT, TIME_WIDTH, expiry);
     let next = (place + 1) % RETURN_COUNT;
     octets::write_number_at(tables, RETURN_NEXT_AT, RING_WIDTH, next as u64);
 }
@@ -71,10 +67,10 @@ fn is_live(b: &[u8], key: &[u8], clock: u64) -> bool
     if b[0] == 0 {
         return false;
     }
-    if !octets::equal_at(b, KEY_AT, key) {
+    if !octets::equal_at(b, RETURN_KEY_AT, key) {
         return false;
     }
-    clock < octets::number_of_8_at(b, EXPIRY_AT)
+    clock < octets::number_of_8_at(b, RETURN_EXPIRY_AT)
 }
 
 // Empties the record at a place if it is a live one of the key.
