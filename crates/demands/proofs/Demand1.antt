@@ -6,12 +6,19 @@ use mathlib.Core.List.{List}
 use mathlib.Core.Path.{_≡_, refl, sym, ap, _∙_}
 use lib.Dec.{eqb, ltb, leb}
 use lib.ListN.{length}
+use borrow.Author.Tests.{ltb-true, ltb-false, eqb-true}
 use Rattle.octets.specs.Bytes.{Bytes}
 use Rattle.octets.specs.Index.{_and_}
 use Rattle.octets.specs.Choice.{_then_otherwise_, _or_}
+use Rattle.octets.proofs.Choice.{then-true, then-false}
+use Rattle.sha256.specs.Sha256.{answer}
+use Rattle.sha256.specs.declared.Digest.{Digest}
+use Rattle.sha256.proofs.Promise.{answer-short, answer-long}
 use Rattle.packet.specs.Header.{accessCode, typeTwo}
-use Rattle.packet.specs.Read.{headerOf, longestPacket, readingRefusal}
-use Rattle.packet.specs.Write.{leastOutput}
+use Rattle.packet.specs.Read.{headerOf, longestPacket, readingRefusal, reading}
+use Rattle.packet.specs.Write.{leastOutput, packetOf, writingRefusal, Writing, writing}
+use Rattle.packet.specs.Hash.{packetHashAnswer, linkIdAnswer}
+use Rattle.packet.specs.declared.Parts.{Parts}
 use Rattle.rules.specs.Numbers.{portCount, localCount, modeCount, clockLimit}
 use Rattle.rules.specs.Relay.{Relay}
 use Rattle.rules.specs.View.{portOn, isLocal}
@@ -21,9 +28,10 @@ use Rattle.rules.specs.Refusals.{tablesOk, emptyLocal, packetRefusal, renumberi
 use Rattle.rules.specs.Calls.{Setting, packetCall, judge, judged, settled, setPort, addLocal, removeLocal, renumber}
 use Rattle.rules.specs.Run.{Call, packet, port-setting, adding, removing, renumbering}
 use Rattle.rules.specs.declared.Tally.{Tally}
+use Rattle.tables.specs.Places.{tableSize}
 use Rattle.tables.specs.Layout.{relayOf, bytesOf, wellFormed}
 use Rattle.tables.proofs.Whole.{again, ok-relay}
-use Rattle.settings.specs.Calls.{written, called, setPortOn, addLocalOn, removeLocalOn, renumberOn}
+use Rattle.settings.specs.Calls.{written, called, freshOn, setPortOn, addLocalOn, removeLocalOn, renumberOn}
 use Rattle.relay.specs.Promise.{inBytes, packetOn}
 use Rattle.demands.specs.Bytes.{OutcomeOn, ofPacket, ofCalled, performOn}
 use Rattle.demands.specs.Refusals.{refusal, refusalOn, refusing, isRefusal}
@@ -135,3 +143,65 @@ pub renumbering-rows : (images tables : List ℕ)
     → refusalOn (renumbering images) tables ≡ (not (wellFormed tables) then 7 otherwise not (oneToOne images) then 8 otherwise 0)
 unfolding refusalOn refusal renumberingRefusal
 renumbering-rows images tables = after-seven tables _
+
+-- ---- the calls that take no relay's tables
+-- hashing: 2
+pub hashing-rows : (m : List ℕ) → answer m .refusal ≡ (ltb 65535 (length m) then 2 otherwise 0)
+hashing-rows m = go (ltb 65535 (length m)) refl
+  where
+    go : (v : Bool) → ltb 65535 (length m) ≡ v → answer m .refusal ≡ (ltb 65535 (length m) then 2 otherwise 0)
+    go true t = ap (λ (d : Digest). d .refusal) (answer-long m (ltb-true 65535 (length m) t)) ∙ sym (then-true 2 0 t)
+    go false t = ap (λ (d : Digest). d .refusal) (answer-short m (ltb-false 65535 (length m) t)) ∙ sym (then-false 2 0 t)
+
+-- reading, the packet hash and the link id: 1, 2, 3, 1
+pub reading-rows : (p : List ℕ)
+    → reading longestPacket p .refusal
+    ≡ (ltb (length p) 19 then 1 otherwise
+    ltb longestPacket (length p) then 2 otherwise
+    accessCode (headerOf p) then 3 otherwise
+    typeTwo (headerOf p) and ltb (length p) 35 then 1 otherwise 0)
+unfolding reading readingRefusal
+reading-rows p = refl
+
+pub hash-rows : (p : List ℕ) → (packetHashAnswer longestPacket p .refusal ≡ reading longestPacket p .refusal) × (linkIdAnswer longestPacket p .refusal ≡ reading longestPacket p .refusal)
+unfolding packetHashAnswer linkIdAnswer reading
+hash-rows p = (refl, refl)
+
+-- writing: 6, 2, 3; a refusal gives no length, and leaves the output
+module _ (q : Parts) (body output : List ℕ) where
+  row : ℕ
+  row = writingRefusal (length output) q body
+
+  row-given : writing q body output .answer .refusal ≡ row
+  unfolding row writing
+  row-given = go (eqb row 0) refl
+    where
+      go : (v : Bool) → eqb row 0 ≡ v → writing q body output .answer .refusal ≡ row
+      go true t = ap (λ (w : Writing). w .answer .refusal) (then-true _ _ t) ∙ sym (eqb-true row 0 t)
+      go false t = ap (λ (w : Writing). w .answer .refusal) (then-false _ _ t)
+
+  pub writing-rows : writing q body output .answer .refusal
+      ≡ (ltb (length output) leastOutput then 6 otherwise
+      ltb longestPacket (length (packetOf q body)) then 2 otherwise
+      accessCode (q .header) then 3 otherwise 0)
+  unfolding row writingRefusal
+  writing-rows = row-given
+
+  pub writing-stays : eqb (writing q body output .answer .refusal) 0 ≡ false → (writing q body output .answer .length ≡ 0) × (writing q body output .output ≡ output)
+  unfolding row writing
+  writing-stays z =
+      let refused : eqb row 0 ≡ false = ap (λ (n : ℕ). eqb n 0) (sym row-given) ∙ z in
+      (ap (λ (w : Writing). w .answer .length) (then-false _ _ refused), ap (λ (w : Writing). w .output) (then-false _ _ refused))
+
+-- a fresh relay: 7 for a buffer of another size, which stays as it was
+pub fresh-rows : (tables own : List ℕ) → freshOn tables own .refusal ≡ (eqb (length tables) tableSize then 0 otherwise 7)
+unfolding freshOn _then_otherwise_
+fresh-rows tables own = go (eqb (length tables) tableSize) refl
+  where
+    go : (v : Bool) → eqb (length tables) tableSize ≡ v → freshOn tables own .refusal ≡ (eqb (length tables) tableSize then 0 otherwise 7)
+    go true h = rw h
+    go false h = rw h
+
+pub fresh-stays : (tables own : List ℕ) → eqb (length tables) tableSize ≡ false → freshOn tables own .tables ≡ tables
+unfolding freshOn _then_otherwise_
+fresh-stays tables own z = rw z

@@ -167,7 +167,7 @@ pub fn number_of_8_at(t: &[u8], at: usize) -> u64
     )
 }
 
-// ---- by value: addresses of 16 bytes and packet hashes of 32
+// ---- by value: addresses of 16 bytes
 
 // The address that stands in s from place at on.
 pub fn address_at(s: &[u8], at: usize) -> [u8; 16]
@@ -182,13 +182,6 @@ pub fn address_at(s: &[u8], at: usize) -> [u8; 16]
 // Whether two addresses are equal.
 pub fn equal16(a: [u8; 16], b: [u8; 16]) -> bool
     ensures { λ r. ⌜ r ≡ agree 16 a b ⌝ }
-{
-    equal(&a, &b)
-}
-
-// Whether two packet hashes are equal.
-pub fn equal32(a: [u8; 32], b: [u8; 32]) -> bool
-    ensures { λ r. ⌜ r ≡ agree 32 a b ⌝ }
 {
     equal(&a, &b)
 }

@@ -1,7 +1,7 @@
 -- What a call answers, in document 01's numbers.
 use Prim.Native.Nat.{ℕ, zero, suc, _+_, _/_, _%_, _^_}
 use mathlib.Core.Bool.{Bool, true, false}
-use mathlib.Core.List.{List, [], _∷_, _++_}
+use mathlib.Core.List.{List}
 use lib.Dec.{eqb}
 use Rattle.octets.specs.Choice.{_then_otherwise_}
 use Rattle.rules.specs.Numbers.{portCount}
@@ -41,31 +41,6 @@ portSet test = setBelow test portCount
 
 unfoldable pub inSet : ℕ → ℕ → Bool
 inSet set port = eqb (set / 2 ^ port % 2) 1
-
--- its ports, rising
-unfoldable pub portsBelow : ℕ → ℕ → List ℕ
-portsBelow set zero = []
-portsBelow set (suc n) = inSet set n then portsBelow set n ++ (n ∷ []) otherwise portsBelow set n
-
--- ---- what an answer says: document 01's number and values for each case
-pub data Told : Type 0 where
-  refused : (number : ℕ) → Told
-  drop : (test : ℕ) → Told
-  deliver : Told
-  forward : (port length : ℕ) → Told
-  spread : (ports : List ℕ) (length : ℕ) → Told
-  kept : Told
-
-unfoldable pub toldVerdict : Verdict → Told
-toldVerdict (Drop reason) = drop (reasonNumber reason)
-toldVerdict Deliver = deliver
-toldVerdict (Forward port length) = forward port length
-toldVerdict (Spread ports length) = spread (portsBelow ports portCount) length
-toldVerdict Kept = kept
-
-unfoldable pub told : Answer → Told
-told (Refused number) = refused number
-told (Judged verdict) = toldVerdict verdict
 
 -- ---- renamed: a port's image, a set's images, all else equal
 unfoldable pub imageSet : List ℕ → ℕ → ℕ

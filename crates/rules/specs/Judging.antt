@@ -7,7 +7,7 @@ use lib.ListN.{length}
 use Rattle.octets.specs.Part.{patch}
 use Rattle.octets.specs.Choice.{_then_otherwise_, _or_}
 use Rattle.rules.specs.View.{View}
-use Rattle.rules.specs.Arrival.{Arrival, body}
+use Rattle.rules.specs.Arrival.{Arrival}
 use Rattle.rules.specs.Ways.{Way, everywhere, by-path, along-link, by-return, blocked, wayOn}
 use Rattle.rules.specs.Tests.{notOurs, duplicate, badForm, ownAnnounce, deliveredHere, tooManyHops, noWayOn, alreadyKnown, wrongSide, notSigned, replay, notBetter, leavingPort, portOff, noRoom}
 use Rattle.rules.specs.Outgoing.{spreadPorts, outgoing, exceeds, grownTooLong}
@@ -63,10 +63,6 @@ unfoldable pub verdict : View → Arrival → Plan → Verdict
 verdict v a (dropped reason) = Drop reason
 verdict v a delivered = Deliver
 verdict v a (follows w) = wayVerdict v a w
-
--- the payload handed up on delivery is a part of the caller's packet, not a copy
-unfoldable pub handedUp : Arrival → List ℕ
-handedUp a = body a
 
 -- whether a packet leaves
 unfoldable pub leaves : Verdict → Bool

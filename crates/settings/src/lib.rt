@@ -1,12 +1,10 @@
 // The calls that need no packet, apart from renumbering: a fresh relay, a port's settings, local addresses.
-// Entry points: fresh, set_port, add_local, remove_local, each of which returns a refusal's number, or 0, and a refusal changes no byte; and
-// new_tally.
+// Entry points: fresh, set_port, add_local, remove_local. Each returns a refusal's number, or 0, and a refusal changes no byte.
 mod writes;
 
 use lookup::empty_local;
 use lookup::is_local;
 use lookup::local_place;
-use rules::Tally;
 use tables::check;
 use tables::places::LOCAL_COUNT;
 use tables::places::MODE_COUNT;
@@ -17,7 +15,6 @@ use writes::empty_place;
 use writes::put_local;
 use writes::put_port;
 ghost use mathlib.Core.Path.{_≡_};
-ghost use Rattle.rules.specs.Calls.{newTally};
 ghost use Rattle.settings.specs.Calls.{freshOn, setPortOn, addLocalOn, removeLocalOn};
 
 // The tables of a relay with its own address, all ports off and boundary, clock 0, tables empty.
@@ -30,20 +27,6 @@ pub fn fresh(tables: &mut [u8], own: [u8; 16]) -> u8
     clear(tables);
     octets::copy_at(tables, 0, &own);
     0
-}
-
-// The tally of a fresh relay: six zeros.
-pub fn new_tally() -> Tally
-    ensures { λ r. ⌜ r ≡ newTally ⌝ }
-{
-    Tally {
-        total: 0,
-        dropped: 0,
-        delivered: 0,
-        forwarded: 0,
-        spread: 0,
-        kept: 0,
-    }
 }
 
 // Sets a port on or off, and its mode.
