@@ -36,7 +36,7 @@ use Rattle.plan.specs.declared.Decision.the-variants.{Data, Request, Carry, Rec
 use Rattle.plan.specs.Decided.{arrivalOf, decision}
 use Rattle.plan.proofs.KindLaws.{request-left}
 use Rattle.act.specs.Kept.{stamped, returnPut, returnKept, returnDone, linkKept}
-use Rattle.act.specs.Acted.{Accepted, seen, planOn, verdictOn, tablesOn, outputOn}
+use Rattle.act.specs.Acted.{Accepted, seen, planOn, verdictOn, tablesOn, outputOn, Acts}
 use Rattle.act.proofs.Inverted.{passed, inverted, settled}
 
 -- the records at a place
@@ -52,10 +52,6 @@ returnAt t i = returnOf (rowAt returnsAt returnWidth t i)
 -- of the arrival only the bytes count
 pub path-packet-alone : (p : Path) (a : Arrival) → pathPacket p a ≡ pathPacket p (alone (a .bytes))
 path-packet-alone p a = path-packet a p ∙ sym (path-packet (alone (a .bytes)) p)
-
--- what a call leaves: the rules' verdict, tables and output
-abbrev pub Left : List ℕ → Arrived → List ℕ → List ℕ → Verdict → List ℕ → List ℕ → Type 0
-Left packet m t output x u o = (x ≡ verdictOn packet m t) × (u ≡ tablesOn packet m t) × (o ≡ outputOn packet m t output)
 
 module _ (packet : List ℕ) (m : Arrived) (hash t : List ℕ) (ok : Accepted packet m hash t) where
   abbrev a : Arrival
@@ -73,7 +69,7 @@ module _ (packet : List ℕ) (m : Arrived) (hash t : List ℕ) (ok : Accepted pa
   -- ---- by any way that forwards
   forwarded : (w : Way) → planOn packet m t ≡ follows w → wayVerdict v a w ≡ Forward (leavingPort a w) (length (outgoing v a w))
       → (port n : ℕ) (x output u o : List ℕ) → port ≡ leavingPort a w → outgoing v a w ≡ x → n ≡ length x → o ≡ patch output 0 x
-      → u ≡ bytesOf (enact v a (follows w) r) → Left packet m t output (Forward port n) u o
+      → u ≡ bytesOf (enact v a (follows w) r) → Acts packet m t output (Forward port n) u o
   unfolding verdictOn tablesOn outputOn verdict outputAfter leaves
   forwarded w e forwards port n x output u o q1 q2 q3 q4 q5 = (
     ap₂ Forward q1 (q3 ∙ ap length (sym q2)) ∙ sym forwards ∙ ap (verdict v a) (sym e),
@@ -104,7 +100,7 @@ module _ (packet : List ℕ) (m : Arrived) (hash t : List ℕ) (ok : Accepted pa
 
     pub data-left : Bytes t → (port n : ℕ) (output u o : List ℕ) → port ≡ pathAt t i .port → n ≡ length (pathPacket (pathAt t i) (alone packet))
         → o ≡ patch output 0 (pathPacket (pathAt t i) (alone packet)) → u ≡ returnKept t (m .port) port hash (m .clock)
-        → Left packet m t output (Forward port n) u o
+        → Acts packet m t output (Forward port n) u o
     unfolding outgoing leavingPort returnKey returnKept returnPut stamped
     data-left b port n output u o q1 q2 q3 q4 =
         forwarded (by-path (pathAt t i)) (data-row .1) (by-path-forwards (pathAt t i)) port n _ output u o q1 (path-packet-alone (pathAt t i) a) q2 q3
@@ -131,7 +127,7 @@ module _ (packet : List ℕ) (m : Arrived) (hash t : List ℕ) (ok : Accepted pa
 
     pub asked-left : Bytes t → (port n : ℕ) (x : Link) (output u o : List ℕ) → port ≡ pathAt t i .port → x ≡ linkRecord a (pathAt t i)
         → n ≡ length (pathPacket (pathAt t i) (alone packet)) → o ≡ patch output 0 (pathPacket (pathAt t i) (alone packet))
-        → u ≡ linkKept t place x hash (m .clock) → Left packet m t output (Forward port n) u o
+        → u ≡ linkKept t place x hash (m .clock) → Acts packet m t output (Forward port n) u o
     unfolding outgoing leavingPort linkKept stamped
     asked-left b port n x output u o q1 qx q2 q3 q4 =
         forwarded (by-path (pathAt t i)) (request-row .1) (by-path-forwards (pathAt t i)) port n _ output u o q1 (path-packet-alone (pathAt t i) a) q2 q3
@@ -150,7 +146,7 @@ module _ (packet : List ℕ) (m : Arrived) (hash t : List ℕ) (ok : Accepted pa
 
     pub carry-left : Bytes t → (n : ℕ) (x : Link) (output u o : List ℕ) → x ≡ renewedLink a (linkAt t i)
         → n ≡ length (carriedBytes packet) → o ≡ patch output 0 (carriedBytes packet) → u ≡ linkKept t i x hash (m .clock)
-        → Left packet m t output (Forward port n) u o
+        → Acts packet m t output (Forward port n) u o
     unfolding outgoing linkKept stamped
     carry-left b n x output u o qx q2 q3 q4 =
         forwarded (along-link (linkAt t i)) (carry-row .1) (along-link-forwards (linkAt t i)) port n _ output u o (carry-row .3) (carried-packet a) q2 q3
@@ -166,7 +162,7 @@ module _ (packet : List ℕ) (m : Arrived) (hash t : List ℕ) (ok : Accepted pa
         (q .0, k .1 ∙ ap (λ (x : Return). follows (by-return x)) (q .1))
 
     pub receipt-left : Bytes t → (n : ℕ) (output u o : List ℕ) → n ≡ length (carriedBytes packet) → o ≡ patch output 0 (carriedBytes packet)
-        → u ≡ returnDone t i hash (m .clock) → Left packet m t output (Forward port n) u o
+        → u ≡ returnDone t i hash (m .clock) → Acts packet m t output (Forward port n) u o
     unfolding outgoing returnDone stamped
     receipt-left b n output u o q2 q3 q4 =
         let k = inverted r a (Receipt i port) d in

@@ -44,9 +44,9 @@ use Rattle.plan.specs.declared.Decision.the-variants.{Announce}
 use Rattle.plan.specs.Decided.{arrivalOf, decision}
 use Rattle.plan.proofs.KindLaws.{announce-long}
 use Rattle.act.specs.Kept.{stamped, blobsKept, pathPut, pathKept}
-use Rattle.act.specs.Acted.{Accepted, seen, planOn, verdictOn, tablesOn, outputOn, announcedBy}
+use Rattle.act.specs.Acted.{Accepted, seen, planOn, verdictOn, tablesOn, outputOn, Acts, announcedBy}
 use Rattle.act.proofs.Inverted.{passed, inverted, settled}
-use Rattle.act.proofs.Forwards.{Left, onward}
+use Rattle.act.proofs.Forwards.{onward}
 
 -- ---- only an announce goes everywhere
 abbrev isEverywhere : Way → Bool
@@ -183,7 +183,7 @@ module _ (packet : List ℕ) (m : Arrived) (hash t : List ℕ) (ok : Accepted pa
         (ap (λ (y : Blobs). pathWritten t place (announced x y)) (then-true _ _ (sym there))) refl q
 
     pub announce-left : Bytes t → (w : Verdict) (output u o : List ℕ) → Spreads packet m t output w o
-        → u ≡ pathKept t place known x blob hash (m .clock) → Left packet m t output w u o
+        → u ≡ pathKept t place known x blob hash (m .clock) → Acts packet m t output w u o
     unfolding verdictOn tablesOn outputOn verdict outputAfter wayVerdict outgoing
     announce-left b w output u o spread q =
         let k = inverted r a (Announce place known) d in (

@@ -20,9 +20,8 @@ use Rattle.plan.specs.declared.Arrived.{Arrived}
 use Rattle.plan.specs.declared.Decision.the-variants as decided
 use Rattle.plan.specs.Decided.{arrivalOf, decision}
 use Rattle.act.specs.Kept.{stamped, packetKept, dropKept}
-use Rattle.act.specs.Acted.{Accepted, seen, planOn, verdictOn, tablesOn, outputOn}
+use Rattle.act.specs.Acted.{Accepted, seen, planOn, verdictOn, tablesOn, outputOn, Acts}
 use Rattle.act.proofs.Inverted.{inverted}
-use Rattle.act.proofs.Forwards.{Left}
 
 module _ (packet : List ℕ) (m : Arrived) (hash t : List ℕ) (ok : Accepted packet m hash t) (b : Bytes t) (output u : List ℕ) where
   abbrev a : Arrival
@@ -36,7 +35,7 @@ module _ (packet : List ℕ) (m : Arrived) (hash t : List ℕ) (ok : Accepted pa
 
   -- any plan that leaves the output
   stays : (todo : Plan) → planOn packet m t ≡ todo → outputAfter v a todo output ≡ output → u ≡ bytesOf (enact v a todo r)
-      → Left packet m t output (verdict v a todo) u output
+      → Acts packet m t output (verdict v a todo) u output
   unfolding verdictOn tablesOn outputOn
   stays todo e same q = (
     ap (verdict v a) (sym e),
@@ -45,7 +44,7 @@ module _ (packet : List ℕ) (m : Arrived) (hash t : List ℕ) (ok : Accepted pa
   )
 
   pub drop-left : (reason : Reason) → decision r a ≡ decided.Drop reason → u ≡ dropKept t reason hash (m .clock)
-      → Left packet m t output (Drop reason) u output
+      → Acts packet m t output (Drop reason) u output
   unfolding verdict outputAfter dropKept packetKept stamped
   drop-left reason d q = stays (dropped reason) (inverted r a (decided.Drop reason) d) refl (go (ltb 2 (reasonNumber reason)) refl)
     where
@@ -53,7 +52,7 @@ module _ (packet : List ℕ) (m : Arrived) (hash t : List ℕ) (ok : Accepted pa
       go true l = dropped-enacted v a t b (ok .formed) hash (ok .hashed) (r .hashes .next) refl reason _ u l refl (q ∙ then-true _ _ l)
       go false l = forgotten v a t b (ok .formed) reason u l (q ∙ then-false _ _ l)
 
-  pub deliver-left : decision r a ≡ decided.Deliver → u ≡ packetKept t hash (m .clock) → Left packet m t output Deliver u output
+  pub deliver-left : decision r a ≡ decided.Deliver → u ≡ packetKept t hash (m .clock) → Acts packet m t output Deliver u output
   unfolding verdict outputAfter packetKept stamped
   deliver-left d q =
       stays delivered (inverted r a decided.Deliver d) refl

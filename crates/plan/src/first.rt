@@ -17,7 +17,7 @@ ghost use Rattle.plan.specs.Decided.{arrivalOf};
 ghost use Rattle.plan.specs.First.{firstTests};
 
 // Test 1.
-fn not_ours(tables: &[u8], packet: &[u8], arrived: Arrived) -> bool
+pub fn not_ours(tables: &[u8], packet: &[u8], arrived: Arrived) -> bool
     requires { ⌜ (length (now tables) ≡ tableSize) × (reads longestPacket (now packet) ≡ true) ⌝ }
     ensures { λ r. ⌜ r ≡ notOurs (viewAt (arrived .clock) (relayOf (now (tables .entry)))) (arrivalOf (now (packet .entry)) arrived) ⌝ }
 {

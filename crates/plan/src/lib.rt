@@ -1,6 +1,6 @@
 // What is to be done with an accepted packet, decided from the tables' bytes before anything is written.
 // Every function here is a helper of the packet call: the caller shows that the tables are well formed and that the packet reads.
-// Entry points: none. The packet call decides by `decide`.
+// Entry points: none. The packet call decides by `not_ours`, before it hashes the packet, and by `decide`.
 mod announces;
 mod first;
 mod links;
@@ -9,6 +9,7 @@ mod returns;
 
 use announces::decide_announce;
 use first::first_tests;
+pub use first::not_ours;
 use links::decide_of_link;
 use paths::decide_by_path;
 use returns::decide_proof;

@@ -19,12 +19,21 @@ use Rattle.rules.specs.declared.Answer.{Answer}
 use Rattle.rules.specs.declared.Answer.the-variants.{Refused, Judged}
 use Rattle.rules.specs.declared.Tally.{Tally}
 use Rattle.rules.specs.declared.Verdict.{Verdict}
+use Rattle.rules.specs.declared.Verdict.the-variants.{Drop}
+use Rattle.rules.specs.declared.Reason.the-variants.{NotOurs}
+use Rattle.rules.specs.View.{viewAt}
+use Rattle.rules.specs.Tests.{notOurs}
+use Rattle.rules.specs.Answers.{reasonNumber}
+use Rattle.rules.specs.Judging.{plan}
 use Rattle.rules.proofs.Choices.{row-passed, rows-below}
 use Rattle.rules.proofs.Accepted.{accepted-packet}
 use Rattle.tables.specs.Layout.{relayOf, wellFormed}
 use Rattle.tables.proofs.Whole.{again}
 use Rattle.plan.specs.declared.Arrived.{Arrived}
-use Rattle.plan.specs.Decided.{arrivalOf}
+use Rattle.plan.specs.Decided.{arrivalOf, decided, decision}
+use Rattle.update.specs.Written.{clockWritten}
+use Rattle.act.specs.Kept.{dropKept}
+use Rattle.act.proofs.Stays.{drop-left}
 use Rattle.act.specs.Acted.{refusalOn, Accepted, verdictOn, tablesOn, outputOn}
 use Rattle.relay.specs.Promise.{Outcome, inBytes, packetOn}
 
@@ -117,3 +126,12 @@ module _ (packet : List ℕ) (port clock : ℕ) (signed : Bool) (t : List ℕ) (
       judged-promised x after u o q1 q2 q3 q4 =
           let e = promised (judged-whole x u o q1 q2 q3) in
           (e .0, q4 ∙ e .1, e .2, e .3)
+
+      -- ---- test 1's drop: the clock alone is written
+      pub passed-promised : Bytes t → notOurs (viewAt (m .clock) (relayOf t)) (arrivalOf packet m) ≡ true → (after : Tally) (u : List ℕ)
+          → u ≡ clockWritten t (m .clock) → after ≡ counted (Drop NotOurs) tally → Promised (Judged (Drop NotOurs)) after u output
+      unfolding decision decided plan dropKept reasonNumber _then_otherwise_
+      passed-promised b ours after u q n =
+          let hash : List ℕ = packetHash packet in
+          let left = drop-left packet m hash t (accepted hash refl) b output u NotOurs (rw ours) q in
+          judged-promised (Drop NotOurs) after u output (left .0) (left .1) (left .2) n

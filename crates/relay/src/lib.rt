@@ -2,7 +2,9 @@
 // Entry point: judge, with the tally by value; crates/haskumye lends it to hosts by `&mut`. It has no `requires`, and ends on any bytes.
 use plan::Arrived;
 use rules::Answer;
+use rules::Reason;
 use rules::Tally;
+use rules::Verdict;
 ghost use mathlib.Core.Path.{_≡_};
 ghost use Rattle.relay.specs.Promise.{packetOn};
 
@@ -13,6 +15,7 @@ pub struct Judged {
 }
 
 // A packet that came by a port at a clock, with the host's word on its signature. The tables and the output are written where they lie.
+// Test 1 comes before the hash: its drop remembers nothing, and on a shared radio most packets are for other relays.
 pub fn judge(
     packet: &[u8],
     port: u64,
@@ -39,6 +42,14 @@ pub fn judge(
         clock,
         signed,
     };
+    if plan::not_ours(tables, packet, arrived) {
+        update::set_clock(tables, clock);
+        let passed = Verdict::Drop(Reason::NotOurs);
+        return Judged {
+            answer: Answer::Judged(passed),
+            tally: act::counted(passed, tally),
+        };
+    }
     let hash = packet::hash_of(packet);
     let decision = plan::decide(tables, packet, arrived, hash);
     let verdict = act::act(packet, arrived, hash, decision, tables, output);
