@@ -1,4 +1,5 @@
 -- What an accepted packet leaves: the rules' verdict, tables and output, on the bytes; and the refusals before it.
+-- For the contracts of helpers: not part of what a reader must believe.
 use Prim.Native.Nat.{ℕ, _+_, _<_}
 use mathlib.Core.Bool.{true, false}
 use mathlib.Core.List.{List}
@@ -20,8 +21,8 @@ use Rattle.plan.specs.declared.Arrived.{Arrived}
 use Rattle.plan.specs.Decided.{arrivalOf}
 
 -- 7 6 4 5 1 2 3 1, or 0: a packet call's refusal on bytes, with an output of `room` bytes. The signature word has no part in it
-unfoldable pub refusalOn : List ℕ → ℕ → ℕ → List ℕ → ℕ → ℕ
-refusalOn packet port clock t room =
+unfoldable pub packetRefusalOn : List ℕ → ℕ → ℕ → List ℕ → ℕ → ℕ
+packetRefusalOn packet port clock t room =
     wellFormed t
     then packetRefusal (relayOf t) (record { bytes = packet; port = port; clock = clock; signed = false }) room
     otherwise 7

@@ -1,4 +1,5 @@
 -- What each write of an accepted packet leaves in the tables' bytes t: the packet's own record, then the clock and its hash.
+-- For the contracts of helpers: not part of what a reader must believe.
 use Prim.Native.Nat.{ℕ, _+_}
 use mathlib.Core.Bool.{Bool}
 use mathlib.Core.List.{List}

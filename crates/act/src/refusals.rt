@@ -2,13 +2,13 @@
 use packet::LEAST_OUTPUT;
 use packet::LONGEST_PACKET;
 ghost use mathlib.Core.Path.{_≡_};
-ghost use Rattle.act.specs.Acted.{refusalOn};
+ghost use Rattle.act.specs.Acted.{packetRefusalOn};
 
 const CLOCK_LIMIT: u64 = 1_099_511_627_776;
 
 // The refusal's number, or 0. Rows 7, 6, 4, 5, and then reading's 1, 2, 3 and 1.
 pub fn refusal(packet: &[u8], port: u64, clock: u64, tables: &[u8], room: usize) -> u8
-    ensures { λ r. ⌜ r ≡ refusalOn (now (packet .entry)) port clock (now (tables .entry)) room ⌝ }
+    ensures { λ r. ⌜ r ≡ packetRefusalOn (now (packet .entry)) port clock (now (tables .entry)) room ⌝ }
 {
     if !tables::check(tables) {
         return 7;

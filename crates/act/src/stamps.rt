@@ -1,4 +1,4 @@
-// The clock and the hash, which every accepted packet but drops 1 and 2 leaves in the tables.
+// The clock, which every accepted packet sets, and the hash, which all but drops 1 and 2 leave in the tables.
 use super::reasons::reason_number;
 use rules::Reason;
 ghost use mathlib.Core.Path.{_≡_};

@@ -1,5 +1,5 @@
--- Demand 2, about the bytes: every answer and the tables after it are those of document 01's rules, for any sequence of calls; and reading and
--- writing a packet undo each other.
+-- Demand 2 (docs/scope/00-demands.md), about the bytes: "Reading and writing a packet undo each other. Every answer and the tables after it are those
+-- of document 01's rules, for any sequence of calls from a fresh relay."
 use Prim.Native.Nat.{ℕ, _≤_}
 use mathlib.Core.Bool.{true}
 use mathlib.Core.List.{List, [], _∷_}
@@ -15,13 +15,15 @@ use Rattle.packet.specs.Write.{packetOf, leastOutput, writingRefusal, writing, 
 use Rattle.packet.specs.declared.Parts.{Parts}
 use Rattle.packet.proofs.ListLaws.{patched-start}
 use Rattle.packet.proofs.ReadLaws.{reads-readable}
-use Rattle.packet.proofs.WriteLaws.{Wide, writable, writing-done}
+use Rattle.packet.specs.Write.{Wide}
+use Rattle.packet.proofs.WriteLaws.{writable, writing-done}
 use Rattle.packet.proofs.RoundTrip.{reading-writing, writing-reading, write-payload}
 use Rattle.rules.specs.Relay.{Relay, fresh}
 use Rattle.rules.specs.Refusals.{tablesOk}
 use Rattle.rules.specs.Calls.{newTally, Setting, packetCall, setPort, addLocal, removeLocal, renumber}
 use Rattle.rules.specs.Run.{Call, packet, port-setting, adding, removing, renumbering, Reply, Outcome, ofJudgement, ofSetting, perform, replies, relayAfter, tallyAfter}
 use Rattle.rules.specs.declared.Tally.{Tally}
+use Rattle.rules.proofs.History.{CountsHistory, history-since-fresh}
 use Rattle.rules.proofs.Valid.{step-ok, stays-ok, fresh-ok}
 use Rattle.tables.specs.Places.{addressWidth, tableSize}
 use Rattle.tables.specs.Layout.{relayOf, bytesOf, wellFormed}
@@ -112,6 +114,13 @@ module _ (buffer own : List ℕ) (size : length buffer ≡ tableSize) where
   follows-the-rules-fresh cs given h =
       subst (λ (x : Called). FollowsTheRules cs (x .tables) newTally (fresh own)) (sym fresh-made)
       (run-on cs (fresh own) newTally given (fresh-ok own) (fresh-shaped own h))
+
+  -- so the tally counts history: each counter is the number of such answers among the calls' replies, modulo 2^32
+  pub counts-history-fresh : (cs : List Call) → CallsBytes cs → isBytes addressWidth own ≡ true
+      → CountsHistory (repliesOn cs (freshOn buffer own .tables) newTally) newTally (tallyAfterOn cs (freshOn buffer own .tables) newTally)
+  counts-history-fresh cs given h =
+      let follows = follows-the-rules-fresh cs given h in
+      rw (follows .answers, follows .tally) (history-since-fresh cs (fresh own))
 
 -- ---- reading and writing a packet undo each other
 -- the parts that a reading gives, written with the payload: the packet stands at the output's start, byte for byte

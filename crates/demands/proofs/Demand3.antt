@@ -1,4 +1,6 @@
--- Demand 3, about the bytes: renumbering ports by any one-to-one map forgets nothing.
+-- Demand 3 (docs/scope/00-demands.md), about the bytes: "Renumbering the ports by any one-to-one map forgets nothing: put in at any place of any list
+-- of calls (none of them a later renumbering), every later answer is the plain run's with its ports renamed (a number outside the sixteen stays),
+-- all else byte for byte equal; the tables at the end are the plain run's renamed, the tallies equal. Two in a row are one by the composed map."
 use Prim.Native.Nat.{ℕ}
 use mathlib.Core.Bool.{true}
 use mathlib.Core.List.{List, [], _∷_, _++_, map}
@@ -10,7 +12,7 @@ use Rattle.rules.specs.Relay.{Relay, fresh}
 use Rattle.rules.specs.Renumbering.{oneToOne, renumbered, composed}
 use Rattle.rules.specs.Refusals.{tablesOk, renumberingRefusal}
 use Rattle.rules.specs.Calls.{newTally, settled, renumber}
-use Rattle.rules.specs.Run.{Call, packet, port-setting, adding, removing, renumbering, Reply, numbered, replies, relayAfter, tallyAfter, renameArrival, renameCall, renameReply, NoRenumbering}
+use Rattle.rules.specs.Run.{Call, packet, port-setting, adding, removing, renumbering, Reply, numbered, replies, relayAfter, tallyAfter, renameArrival, renameCall, renameReply, NoneRenumbers}
 use Rattle.rules.specs.declared.Tally.{Tally}
 use Rattle.rules.proofs.Valid.{stays-ok, fresh-ok}
 use Rattle.rules.proofs.Renumbering.{ForgetsNothing, forgets-nothing, TwoAreOne, two-are-one}
@@ -90,7 +92,7 @@ after-map m cs b = (tt, b)
 -- ---- on a relay's bytes
 module _ (r : Relay) (t : Tally) (ok : tablesOk r ≡ true) (s : shaped r ≡ true) (before later : List Call)
     (b : CallsBytes before) (l : CallsBytes later) where
-  forgets-nothing-bytes : (m : List ℕ) → oneToOne m ≡ true → NoRenumbering later → ForgetsNothingOn m before later (bytesOf r) t
+  forgets-nothing-bytes : (m : List ℕ) → oneToOne m ≡ true → NoneRenumbers later → ForgetsNothingOn m before later (bytesOf r) t
   forgets-nothing-bytes m one-to-one h =
       let plain : List Call = before ++ later in
       let given : CallsBytes plain = both-given before later b l in
@@ -136,7 +138,7 @@ module _ (r : Relay) (t : Tally) (ok : tablesOk r ≡ true) (s : shaped r ≡ tr
 -- well-formed tables and every tally
 module _ (before later : List Call) (b : CallsBytes before) (l : CallsBytes later) where
   module _ (tables : List ℕ) (tally : Tally) (bytes : Bytes tables) (h : wellFormed tables ≡ true) where
-    pub forgets-nothing-on : (m : List ℕ) → oneToOne m ≡ true → NoRenumbering later → ForgetsNothingOn m before later tables tally
+    pub forgets-nothing-on : (m : List ℕ) → oneToOne m ≡ true → NoneRenumbers later → ForgetsNothingOn m before later tables tally
     forgets-nothing-on m one-to-one none =
         subst (λ (x : List ℕ). ForgetsNothingOn m before later x tally) (again tables bytes h)
         (forgets-nothing-bytes (relayOf tables) tally (ok-relay tables h) (shaped-of tables bytes (formed tables h .size)) before later b l m one-to-one none)
@@ -149,7 +151,7 @@ module _ (before later : List Call) (b : CallsBytes before) (l : CallsBytes late
 
   -- "Both runs start from the same fresh relay, tally 0": the bytes that `fresh` makes
   module _ (buffer own : List ℕ) (size : length buffer ≡ tableSize) (sixteen : isBytes addressWidth own ≡ true) where
-    pub forgets-nothing-fresh : (m : List ℕ) → oneToOne m ≡ true → NoRenumbering later
+    pub forgets-nothing-fresh : (m : List ℕ) → oneToOne m ≡ true → NoneRenumbers later
         → ForgetsNothingOn m before later (freshOn buffer own .tables) newTally
     forgets-nothing-fresh m one-to-one none =
         subst (λ (x : Called). ForgetsNothingOn m before later (x .tables) newTally) (sym (fresh-made buffer own size))

@@ -17,7 +17,7 @@ use Rattle.packet.specs.Hash.{hashedPart, packetHash, linkId}
 use Rattle.packet.specs.Announce.{blobOf}
 use Rattle.packet.specs.declared.Parts.{Parts}
 use Rattle.packet.proofs.ReadLaws.{parts-hops, readable}
-use Rattle.packet.proofs.WriteLaws.{Wide}
+use Rattle.packet.specs.Write.{Wide}
 use Rattle.packet.proofs.Widths.{parts-wide, packet-hash-length, link-id-length, blob-length}
 use Rattle.sha256.specs.Sha256.{sha256-of}
 use Rattle.sha256.proofs.Promise.{digest-byte}
@@ -33,7 +33,7 @@ use Rattle.rules.specs.declared.Link.{Link}
 use Rattle.rules.proofs.Choices.{either, rows-below}
 use Rattle.rules.proofs.Tables.{all-append, all-replicate, table-of, table-length, table-all, table-set, table-replicate}
 use Rattle.rules.proofs.BlobLaws.{one-placed}
-use Rattle.tables.specs.Places.{addressWidth, hashBytes, blobWidth}
+use Rattle.tables.specs.Places.{addressWidth, digestWidth, blobWidth}
 use Rattle.tables.specs.Shape.{isByte, isBytes, pathShaped, linkShaped, returnShaped, hashShaped}
 use Rattle.tables.proofs.All.{is-bytes}
 
@@ -103,7 +103,7 @@ add-shaped x s h k =
 module _ (a : Arrival) (b : Bytes (a .bytes)) where
   pub remembered-shaped : (expiry : ℕ) → hashShaped (record { hash = hash a; expiry = expiry }) ≡ true
   unfolding hashShaped
-  remembered-shaped expiry = is-bytes hashBytes _ (packet-hash-length (a .bytes)) (hash-is-bytes (a .bytes))
+  remembered-shaped expiry = is-bytes digestWidth _ (packet-hash-length (a .bytes)) (hash-is-bytes (a .bytes))
 
   pub return-shaped : (p : Path) → returnShaped (returnRecord a p) ≡ true
   unfolding returnShaped returnRecord returnKey

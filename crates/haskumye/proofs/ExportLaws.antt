@@ -15,7 +15,8 @@ use Rattle.packet.specs.Write.{Writing, writing, writingRefusal}
 use Rattle.packet.specs.declared.Parts.{Parts}
 use Rattle.packet.specs.declared.Written.{Written}
 use Rattle.packet.proofs.ReadLaws.{payload-least}
-use Rattle.packet.proofs.WriteLaws.{Wide, writable, writing-done, writing-refused}
+use Rattle.packet.specs.Write.{Wide}
+use Rattle.packet.proofs.WriteLaws.{writable, writing-done, writing-refused}
 use Rattle.haskumye.specs.Packets.{bufferAfter, partsBytes, payloadPlace}
 
 -- ---- the buffer after a call whose refusal is n, as promised m, and which has `new` to write, as promised

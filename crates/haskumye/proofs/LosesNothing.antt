@@ -17,7 +17,7 @@ use Rattle.packet.specs.Read.{headerOf, typeTwoParts, payloadStart, payload}
 use Rattle.packet.specs.declared.Parts.{Parts}
 use Rattle.packet.specs.declared.Written.{Written}
 use Rattle.packet.proofs.ListLaws.{behind, found-part, found-byte}
-use Rattle.packet.proofs.WriteLaws.{Wide}
+use Rattle.packet.specs.Write.{Wide}
 use Rattle.haskumye.specs.Answers.{fieldsNumber}
 use Rattle.haskumye.specs.Packets.{partsBytes, partsIn, payloadPlace, writtenNumber}
 

@@ -15,7 +15,7 @@ use Rattle.rules.specs.Numbers.{portCount, localCount, pathCount, linkCount, re
 use Rattle.rules.specs.Relay.{Port}
 use Rattle.rules.specs.View.{portOn, portMode, localPlace, isLivePath, isLiveLink, isLiveReturn, isLiveHash, pathPlace, linkPlace, returnPlace, hashPlace, freePath, freeLink}
 use Rattle.rules.specs.Refusals.{emptyLocal}
-use Rattle.tables.specs.Places.{addressWidth, hashBytes, portsAt, portWidth, localsAt, localWidth, pathsAt, pathWidth, linksAt, linkWidth, returnsAt, returnWidth, hashesAt, hashWidth}
+use Rattle.tables.specs.Places.{addressWidth, digestWidth, portsAt, portWidth, localsAt, localWidth, pathsAt, pathWidth, linksAt, linkWidth, returnsAt, returnWidth, hashesAt, hashWidth}
 use Rattle.tables.specs.Records.{isYes, portOf, localOf, pathOf, linkOf, returnOf, hashOf}
 use Rattle.tables.specs.Layout.{rowAt, relayOf}
 use Rattle.tables.proofs.Seen.{port-seen}
@@ -74,11 +74,11 @@ module _ (t : List ℕ) where
     return-lowest key wide e =
         e ∙ lowest-live (isLiveReturn clock key) returnOf returnsAt returnWidth returnCount t addressWidth key 19 clock wide (λ b. refl)
 
-    pub hash-lowest : (hash : List ℕ) → length hash ≡ hashBytes → {i : ℕ}
+    pub hash-lowest : (hash : List ℕ) → length hash ≡ digestWidth → {i : ℕ}
         → i ≡ lowestRow (isLiveOf hash 33 clock) hashesAt hashWidth hashCount t → i ≡ hashPlace clock (relayOf t) hash
     unfolding hashPlace relayOf isLiveHash hashOf
     hash-lowest hash wide e =
-        e ∙ lowest-live (isLiveHash clock hash) hashOf hashesAt hashWidth hashCount t hashBytes hash 33 clock wide (λ b. refl)
+        e ∙ lowest-live (isLiveHash clock hash) hashOf hashesAt hashWidth hashCount t digestWidth hash 33 clock wide (λ b. refl)
 
     -- ---- the lowest place empty or expired
     pub path-free : lowestRow (λ b. not (isLive 35 clock b)) pathsAt pathWidth pathCount t ≡ freePath clock (relayOf t)

@@ -1,4 +1,5 @@
 -- The tests of a record's bytes that a search makes, and the lowest record that passes one.
+-- For the contracts of helpers: not part of what a reader must believe.
 use Prim.Native.Nat.{ℕ}
 use mathlib.Core.Bool.{Bool, not}
 use mathlib.Core.List.{List}

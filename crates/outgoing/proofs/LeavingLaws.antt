@@ -16,10 +16,11 @@ use Rattle.packet.specs.Read.{headerOf, noAddress, payloadStart, payload, reads
 use Rattle.packet.specs.Write.{addresses, packetOf}
 use Rattle.packet.specs.declared.Parts.{Parts}
 use Rattle.packet.proofs.ReadLaws.{start-two, start-one, start-least, reads-readable, parts-hops}
-use Rattle.packet.proofs.WriteLaws.{Wide, packet-length}
+use Rattle.packet.specs.Write.{Wide}
+use Rattle.packet.proofs.WriteLaws.{packet-length}
 use Rattle.packet.proofs.Widths.{parts-wide}
 use Rattle.rules.specs.Outgoing.{rewritten, spreadHeader, pathPacket, carriedPacket}
-use Rattle.outgoing.specs.Leaving.{alone, rewrittenParts, spreadBytes, spreadLength, pathBytes, carriedBytes}
+use Rattle.outgoing.specs.Leaving.{alone, rewrittenParts, spreadBytes, spreadLength, forwardedBytes, carriedBytes}
 
 -- ---- headers: modulo 16 a packet is of type 1, and spread it is of type 2
 last-hop-one : (header : ℕ) → typeTwo (header % 16) ≡ false
@@ -85,12 +86,12 @@ module _ (longest : ℕ) (p : List ℕ) (h : reads longest p ≡ true) where
 
 -- ---- what a path's hops decide
 module _ (hops : ℕ) (nextHop p : List ℕ) where
-  pub path-last : hops ≡ 0 → pathBytes hops nextHop p ≡ rewritten (headerOf p % 16) noAddress (alone p)
-  unfolding pathBytes pathPacket
+  pub path-last : hops ≡ 0 → forwardedBytes hops nextHop p ≡ rewritten (headerOf p % 16) noAddress (alone p)
+  unfolding forwardedBytes pathPacket
   path-last e = then-true _ _ (eq-eqb hops 0 e)
 
-  pub path-onward : (hops ≡ 0 → ⊥) → pathBytes hops nextHop p ≡ rewritten (headerOf p) nextHop (alone p)
-  unfolding pathBytes pathPacket
+  pub path-onward : (hops ≡ 0 → ⊥) → forwardedBytes hops nextHop p ≡ rewritten (headerOf p) nextHop (alone p)
+  unfolding forwardedBytes pathPacket
   path-onward ne = then-false _ _ (ne-eqb hops 0 ne)
 
 -- ---- what the code writes

@@ -15,7 +15,7 @@ use Rattle.rules.specs.Arrival.{Arrival, isLinkProof}
 use Rattle.rules.specs.Ways.{Way, everywhere, by-path, along-link, by-return, blocked}
 use Rattle.rules.specs.Tests.{typeTwoProof, typeTwoOfKindLink, announceNotSingle, announceTooShort, announceOfAnother, requestOfKindLink, requestTooShort, linkProofLength, badForm}
 use Rattle.rules.specs.Outgoing.{rewritten, spreadPacket, pathPacket, carriedPacket, exceeds, grownTooLong}
-use Rattle.outgoing.specs.Leaving.{alone, spreadBytes, spreadLength, pathBytes, carriedBytes}
+use Rattle.outgoing.specs.Leaving.{alone, spreadBytes, spreadLength, forwardedBytes, carriedBytes}
 use Rattle.outgoing.proofs.LeavingLaws.{spread-length, rewritten-length, path-room, path-last, path-onward, carried-length}
 
 -- ---- of the arrival only the bytes count
@@ -24,8 +24,8 @@ module _ (a : Arrival) where
   unfolding spreadPacket spreadBytes rewritten
   spread-packet v = refl
 
-  pub path-packet : (p : Path) → pathPacket p a ≡ pathBytes (p .hops) (p .nextHop) (a .bytes)
-  unfolding pathPacket pathBytes rewritten
+  pub path-packet : (p : Path) → pathPacket p a ≡ forwardedBytes (p .hops) (p .nextHop) (a .bytes)
+  unfolding pathPacket forwardedBytes rewritten
   path-packet p = refl
 
   pub carried-packet : carriedPacket a ≡ carriedBytes (a .bytes)
@@ -51,10 +51,10 @@ module _ (v : View) (a : Arrival) (h : reads longestPacket (a .bytes) ≡ true) 
 
 -- ---- a forwarded packet is never longer than it came
 module _ (p : List ℕ) (h : reads longestPacket p ≡ true) where
-  pub path-most : (hops : ℕ) (nextHop : List ℕ) → length nextHop ≡ 16 → length (pathBytes hops nextHop p) ≤ length p
+  pub path-most : (hops : ℕ) (nextHop : List ℕ) → length nextHop ≡ 16 → length (forwardedBytes hops nextHop p) ≤ length p
   path-most hops nextHop wide = go (eqb hops 0) refl
     where
-      go : (z : Bool) → eqb hops 0 ≡ z → length (pathBytes hops nextHop p) ≤ length p
+      go : (z : Bool) → eqb hops 0 ≡ z → length (forwardedBytes hops nextHop p) ≤ length p
       go true e =
           omega
           (arith, ap length (path-last hops nextHop p (eqb-true hops 0 e)), rewritten-length longestPacket p h (headerOf p % 16) noAddress refl, path-room longestPacket p h .0)

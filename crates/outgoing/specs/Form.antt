@@ -1,4 +1,5 @@
 -- Test 3's clauses in the groups that the code decides them in.
+-- For the contracts of helpers: not part of what a reader must believe.
 use mathlib.Core.Bool.{Bool}
 use Rattle.octets.specs.Choice.{_or_}
 use Rattle.rules.specs.Arrival.{Arrival}

@@ -1,4 +1,5 @@
 -- What a packet leaves as, by its bytes: the rules' packets, of which port, clock and signature word say nothing.
+-- For the contracts of helpers: not part of what a reader must believe.
 use Prim.Native.Nat.{ℕ, _+_, _<_}
 use mathlib.Core.Bool.{true, false}
 use mathlib.Core.List.{List, []}
@@ -38,8 +39,8 @@ pathBy hops nextHop =
     record { destination = noAddress; port = 0; hops = hops; nextHop = nextHop; expiry = 0; blobs = record { count = 0; places = [] } }
 
 -- data or a link request, by a path
-unfoldable pub pathBytes : ℕ → List ℕ → List ℕ → List ℕ
-pathBytes hops nextHop p = pathPacket (pathBy hops nextHop) (alone p)
+unfoldable pub forwardedBytes : ℕ → List ℕ → List ℕ → List ℕ
+forwardedBytes hops nextHop p = pathPacket (pathBy hops nextHop) (alone p)
 
 -- a link packet or a proof
 unfoldable pub carriedBytes : List ℕ → List ℕ

@@ -6,7 +6,7 @@ ghost use lib.ListN.{length};
 ghost use Rattle.octets.specs.Part.{patch};
 ghost use Rattle.packet.specs.Read.{longestPacket, payloadStart, payload as payloadOf};
 ghost use Rattle.rules.specs.Outgoing.{spreadHeader, rewritten};
-ghost use Rattle.outgoing.specs.Leaving.{alone, Onward, rewrittenParts, spreadBytes, spreadLength, pathBytes, carriedBytes};
+ghost use Rattle.outgoing.specs.Leaving.{alone, Onward, rewrittenParts, spreadBytes, spreadLength, forwardedBytes, carriedBytes};
 
 // The header of a spread announce: bits 6 and 4 set, bit 5 and the low four as received.
 pub fn spread_header(header: u8) -> u8
@@ -70,7 +70,7 @@ pub fn forward_by_path(
     output: &mut [u8],
 ) -> usize
     requires { ⌜ Onward (now packet) × (longestPacket ≤ length (now output)) ⌝ }
-    ensures { λ r. ⌜ (r ≡ length (pathBytes «stored_hops» «next_hop» (now (packet .entry)))) × (now (output .exit) ≡ patch (now (output .entry)) 0 (pathBytes «stored_hops» «next_hop» (now (packet .entry)))) ⌝ }
+    ensures { λ r. ⌜ (r ≡ length (forwardedBytes «stored_hops» «next_hop» (now (packet .entry)))) × (now (output .exit) ≡ patch (now (output .entry)) 0 (forwardedBytes «stored_hops» «next_hop» (now (packet .entry)))) ⌝ }
 {
     let header = packet[0];
     if stored_hops == 0 {

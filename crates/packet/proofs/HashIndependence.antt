@@ -19,7 +19,7 @@ use Rattle.packet.specs.Hash.{hashedPart, packetHash, linkId}
 use Rattle.packet.specs.declared.Parts.{Parts}
 use Rattle.packet.proofs.ReadLaws.{start-two, start-least, reads-readable}
 use Rattle.packet.proofs.HashLaws.{packet-hashed, link-hashed}
-use Rattle.packet.proofs.WriteLaws.{Wide}
+use Rattle.packet.specs.Write.{Wide}
 use Rattle.packet.proofs.RoundTrip.{write-parts, write-payload}
 
 -- the parts that are hashed: equal header modulo 16, destination and context, whatever hops and relay address are

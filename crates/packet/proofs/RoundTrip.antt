@@ -20,7 +20,8 @@ use Rattle.packet.specs.declared.Parts.{Parts}
 use Rattle.packet.specs.declared.Reading.{Reading}
 use Rattle.packet.proofs.ListLaws.{behind, found-part, found-byte, found-rest, patched-start}
 use Rattle.packet.proofs.ReadLaws.{start-two, start-one, accepted, reads-readable, readable-reads, parts-two, parts-one, parts-header, answer-read}
-use Rattle.packet.proofs.WriteLaws.{Wide, packet-two, packet-one, packet-length, writable, accepted-writing, writing-done}
+use Rattle.packet.specs.Write.{Wide}
+use Rattle.packet.proofs.WriteLaws.{packet-two, packet-one, packet-length, writable, accepted-writing, writing-done}
 
 -- ---- read, then written
 head-drop : (p : List ℕ) → 2 ≤ length p → headerOf p ∷ getD p 1 0 ∷ drop 2 p ≡ p

@@ -14,7 +14,7 @@ use Rattle.packet.specs.Read.{headerOf, typeOneParts, typeTwoParts, part
 use Rattle.packet.specs.Hash.{packetHash, linkId}
 use Rattle.packet.specs.Announce.{blobOf, announcedDestination}
 use Rattle.packet.proofs.ReadLaws.{start-two, start-one, parts-two, parts-one}
-use Rattle.packet.proofs.WriteLaws.{Wide}
+use Rattle.packet.specs.Write.{Wide}
 
 first-sixteen : (m : List ℕ) → length (take 16 (sha256-of m)) ≡ 16
 first-sixteen m = length-take-le 16 (sha256-of m) (omega (arith, digest-length m))

@@ -13,14 +13,9 @@ use Rattle.octets.proofs.Part.{patch-join}
 use Rattle.octets.proofs.Choice.{then-true, then-false}
 use Rattle.packet.specs.Header.{accessCode, typeTwo}
 use Rattle.packet.specs.Read.{payloadStart}
-use Rattle.packet.specs.Write.{addresses, packetOf, writingRefusal, writing}
+use Rattle.packet.specs.Write.{Wide, addresses, packetOf, writingRefusal, writing}
 use Rattle.packet.specs.declared.Parts.{Parts}
 use Rattle.packet.proofs.ReadLaws.{start-two, start-one}
-
--- both addresses are sixteen bytes, as a value of the code always has them
-pub record Wide (q : Parts) : Type 0 where
-  pub relay : length (q .relay) ≡ 16
-  pub destination : length (q .destination) ≡ 16
 
 -- ---- the packet, by the header's type
 module _ (q : Parts) (body : List ℕ) where

@@ -1,6 +1,7 @@
 -- Document 01, "Packet layout" and refusals 6, 2 and 3: writing a packet.
 use Prim.Native.Nat.{ℕ}
 use mathlib.Core.List.{List, _∷_, _++_}
+use mathlib.Core.Path.{_≡_}
 use lib.Dec.{eqb, ltb}
 use lib.ListN.{length}
 use Rattle.octets.specs.Part.{patch}
@@ -9,6 +10,11 @@ use Rattle.packet.specs.Header.{accessCode, typeTwo}
 use Rattle.packet.specs.Read.{longestPacket, noAddress}
 use Rattle.packet.specs.declared.Parts.{Parts}
 use Rattle.packet.specs.declared.Written.{Written}
+
+-- both addresses are sixteen bytes, as a value of the code always has them
+pub record Wide (q : Parts) : Type 0 where
+  pub relay : length (q .relay) ≡ 16
+  pub destination : length (q .destination) ≡ 16
 
 -- the addresses: in type 1 writing ignores the relay address
 unfoldable pub addresses : Parts → List ℕ

@@ -1,6 +1,7 @@
 // The packet layout of document 01: reading, writing, packet hash, link id and announce fields.
-// Entry points: read, read_within, payload, write, packet_hash, link_id, announced_destination, and the header's bits.
-// parts_of, type_two_parts, hash_of, link_id_of, blob and write_packet are helpers: the caller shows what they require.
+// Entry points: read, read_within, reading_refusal, payload, payload_start, write, packet_hash, link_id, announced_destination, least_announce,
+// emission, and the header's bits. parts_of, type_two_parts, hash_of, link_id_of, blob and write_packet are helpers: the caller shows what they
+// require.
 mod announce;
 mod hash;
 mod header;
@@ -10,15 +11,11 @@ mod writer;
 pub use announce::announced_destination;
 pub use announce::blob;
 pub use announce::emission;
-pub use announce::keys;
 pub use announce::least_announce;
-pub use announce::name_hash;
 pub use hash::hash_of;
 pub use hash::link_id;
 pub use hash::link_id_of;
 pub use hash::packet_hash;
-pub use header::access_code;
-pub use header::context_flag;
 pub use header::destination_kind;
 pub use header::is_announce;
 pub use header::is_data;
@@ -38,7 +35,6 @@ pub use reader::reading_refusal;
 pub use reader::type_two_parts;
 pub use writer::write;
 pub use writer::write_packet;
-pub use writer::writing_refusal;
 
 // `longestPacket` and `leastOutput` of specs/ in code.
 pub const LONGEST_PACKET: usize = 500;

@@ -1,4 +1,5 @@
 -- What the code decides of an accepted packet: the rules' plan, with the places of the records that it concerns.
+-- For the contracts of helpers: not part of what a reader must believe.
 use Prim.Native.Nat.{ℕ}
 use mathlib.Core.List.{List}
 use Rattle.octets.specs.Choice.{_then_otherwise_}

@@ -1,4 +1,5 @@
 -- Document 01's tests 1 to 5, as the code decides them before it looks for a way on.
+-- For the contracts of helpers: not part of what a reader must believe.
 use Rattle.octets.specs.Choice.{_then_otherwise_}
 use Rattle.rules.specs.View.{View}
 use Rattle.rules.specs.Arrival.{Arrival}

@@ -34,7 +34,7 @@ use Rattle.plan.specs.Decided.{arrivalOf, decided, decision}
 use Rattle.update.specs.Written.{clockWritten}
 use Rattle.act.specs.Kept.{dropKept}
 use Rattle.act.proofs.Stays.{drop-left}
-use Rattle.act.specs.Acted.{refusalOn, Accepted, verdictOn, tablesOn, outputOn}
+use Rattle.act.specs.Acted.{packetRefusalOn, Accepted, verdictOn, tablesOn, outputOn}
 use Rattle.relay.specs.Promise.{Outcome, inBytes, packetOn}
 
 module _ (packet : List ℕ) (port clock : ℕ) (signed : Bool) (t : List ℕ) (tally : Tally) (output : List ℕ) where
@@ -42,7 +42,7 @@ module _ (packet : List ℕ) (port clock : ℕ) (signed : Bool) (t : List ℕ) (
   a = record { bytes = packet; port = port; clock = clock; signed = signed }
 
   abbrev number : ℕ
-  number = refusalOn packet port clock t (length output)
+  number = packetRefusalOn packet port clock t (length output)
 
   abbrev whole : Outcome
   whole = packetOn packet port clock signed t tally output
@@ -57,12 +57,12 @@ module _ (packet : List ℕ) (port clock : ℕ) (signed : Bool) (t : List ℕ) (
 
   -- the signature word has no part in a refusal
   by-rules : wellFormed t ≡ true → number ≡ packetRefusal (relayOf t) a (length output)
-  unfolding refusalOn packetRefusal _then_otherwise_
+  unfolding packetRefusalOn packetRefusal _then_otherwise_
   by-rules h = rw h
 
   -- ---- a refusal changes nothing
   refused : Bytes t → (n : ℕ) → n ≡ number → (n ≡ 0 → ⊥) → record { answer = Refused n; tables = t; tally = tally; output = output } ≡ whole
-  unfolding packetOn refusalOn inBytes packetCall _then_otherwise_
+  unfolding packetOn packetRefusalOn inBytes packetCall _then_otherwise_
   refused b n q some = go (wellFormed t) refl
     where
       go : (h : Bool) → wellFormed t ≡ h → record { answer = Refused n; tables = t; tally = tally; output = output } ≡ whole
@@ -77,7 +77,7 @@ module _ (packet : List ℕ) (port clock : ℕ) (signed : Bool) (t : List ℕ) (
   -- ---- an accepted packet
   module _ (none : number ≡ 0) where
     pub formed : wellFormed t ≡ true
-    unfolding refusalOn _then_otherwise_
+    unfolding packetRefusalOn _then_otherwise_
     formed = go (wellFormed t) refl
       where
         go : (h : Bool) → wellFormed t ≡ h → wellFormed t ≡ true

@@ -1,4 +1,5 @@
 -- The bytes of each section whose records store ports, with every stored port replaced by its image.
+-- For the contracts of helpers: not part of what a reader must believe.
 use Prim.Native.Nat.{ℕ}
 use mathlib.Core.List.{List, map}
 use Rattle.octets.specs.Part.{fields}

@@ -26,11 +26,11 @@ fn port_byte(tables: &[u8], i: usize, k: usize) -> u8
     tables[PORTS_AT + PORT_WIDTH * i + k]
 }
 
-pub fn moved_ports(tables: &[u8], map: &[u8]) -> [u8; 32]
+pub fn moved_ports(tables: &[u8], map: &[u8]) -> [u8; PORT_COUNT * PORT_WIDTH]
     requires { ⌜ (wellFormed (now tables) ≡ true) × (length (now tables) ≡ tableSize) × (length (now map) ≡ portCount) ⌝ }
     ensures { λ r. ⌜ r ≡ fields portBytes portCount off (movedPorts (now (map .entry)) (relayOf (now (tables .entry)) .ports)) ⌝ }
 {
-    let mut moved = [0u8; 32];
+    let mut moved = [0u8; PORT_COUNT * PORT_WIDTH];
     let mut n = 0;
     while n < PORT_COUNT {
         let i = preimage_of(map, n);

@@ -1,4 +1,9 @@
 // Every stored port replaced by its image, record by record. An unused record has none.
+use tables::fields::LINK_ANSWERING_AT;
+use tables::fields::LINK_ASKING_AT;
+use tables::fields::PATH_PORT_AT;
+use tables::fields::RETURN_ARRIVAL_AT;
+use tables::fields::RETURN_LEAVING_AT;
 use tables::places::LINK_COUNT;
 use tables::places::LINK_WIDTH;
 use tables::places::LINKS_AT;
@@ -24,8 +29,8 @@ fn rename_path(b: &mut [u8], map: &[u8])
     ensures { λ _. ⌜ now (b .exit) ≡ slotBytes pathWidth pathBytes (renameSlot (renamePath (now (map .entry))) (slotOf pathOf (now (b .entry)))) ⌝ }
 {
     if b[0] != 0 { // an unused path has no stored port
-        let first = map[b[17] as usize];
-        octets::set_at(b, 17, first);
+        let first = map[b[PATH_PORT_AT] as usize];
+        octets::set_at(b, PATH_PORT_AT, first);
     }
 }
 
@@ -34,10 +39,10 @@ fn rename_link(b: &mut [u8], map: &[u8])
     ensures { λ _. ⌜ now (b .exit) ≡ slotBytes linkWidth linkBytes (renameSlot (renameLink (now (map .entry))) (slotOf linkOf (now (b .entry)))) ⌝ }
 {
     if b[0] != 0 {
-        let first = map[b[17] as usize];
-        let second = map[b[18] as usize];
-        octets::set_at(b, 17, first);
-        octets::set_at(b, 18, second);
+        let first = map[b[LINK_ASKING_AT] as usize];
+        let second = map[b[LINK_ANSWERING_AT] as usize];
+        octets::set_at(b, LINK_ASKING_AT, first);
+        octets::set_at(b, LINK_ANSWERING_AT, second);
     }
 }
 
@@ -46,10 +51,10 @@ fn rename_return(b: &mut [u8], map: &[u8])
     ensures { λ _. ⌜ now (b .exit) ≡ slotBytes returnWidth returnBytes (renameSlot (renameReturn (now (map .entry))) (slotOf returnOf (now (b .entry)))) ⌝ }
 {
     if b[0] != 0 {
-        let first = map[b[17] as usize];
-        let second = map[b[18] as usize];
-        octets::set_at(b, 17, first);
-        octets::set_at(b, 18, second);
+        let first = map[b[RETURN_ARRIVAL_AT] as usize];
+        let second = map[b[RETURN_LEAVING_AT] as usize];
+        octets::set_at(b, RETURN_ARRIVAL_AT, first);
+        octets::set_at(b, RETURN_LEAVING_AT, second);
     }
 }
 

@@ -17,7 +17,7 @@ use Rattle.rules.specs.Arrival.{Arrival}
 use Rattle.rules.specs.Answers.{renameVerdict, renameAnswer}
 use Rattle.rules.specs.Judging.{Plan, plan, verdict}
 use Rattle.rules.specs.Calls.{counted, Judgement, judged, judge, packetCall, Setting, settled, setPort, addLocal, removeLocal, renumber}
-use Rattle.rules.specs.Run.{Call, renumbering, numbered, Outcome, ofJudgement, ofSetting, perform, renameArrival, renameCall, renameReply, NoRenumbering, then-packet, then-setting, then-adding, then-removing, then-refused}
+use Rattle.rules.specs.Run.{Call, renumbering, numbered, Outcome, ofJudgement, ofSetting, perform, renameArrival, renameCall, renameReply, NoneRenumbers, then-packet, then-setting, then-adding, then-removing, then-refused}
 use Rattle.rules.specs.declared.Verdict.{Verdict}
 use Rattle.rules.specs.declared.Verdict.the-variants.{Drop, Deliver, Forward, Spread, Kept}
 use Rattle.rules.specs.declared.Answer.the-variants.{Refused, Judged}
@@ -141,7 +141,7 @@ module _ (m : List ℕ) (ok : oneToOne m ≡ true) (r : Relay) (fine : tablesOk 
   unfolding ofJudgement renameJudgement renameOutcome renameReply
   judgement-renamed j = refl
 
-  pub call-renamed : {c : Call} {cs : List Call} (t : Tally) → NoRenumbering (c ∷ cs)
+  pub call-renamed : {c : Call} {cs : List Call} (t : Tally) → NoneRenumbers (c ∷ cs)
       → perform (renameCall m c) (renumbered m r) t ≡ renameOutcome m (perform c r t)
   unfolding perform renameCall renameSetting renameOutcome
   call-renamed t (then-packet {arrival = a} {output = output} h) =

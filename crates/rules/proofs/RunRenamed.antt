@@ -9,7 +9,7 @@ use Rattle.rules.specs.Relay.{Relay}
 use Rattle.rules.specs.Renumbering.{oneToOne, renumbered}
 use Rattle.rules.specs.Refusals.{tablesOk}
 use Rattle.rules.specs.Calls.{newTally}
-use Rattle.rules.specs.Run.{Call, renumbering, Reply, numbered, Outcome, perform, replies, relayAfter, tallyAfter, renameCall, renameReply, NoRenumbering, then-packet, then-setting, then-adding, then-removing, then-refused}
+use Rattle.rules.specs.Run.{Call, renumbering, Reply, numbered, Outcome, perform, replies, relayAfter, tallyAfter, renameCall, renameReply, NoneRenumbers, then-packet, then-setting, then-adding, then-removing, then-refused}
 use Rattle.rules.specs.declared.Tally.{Tally}
 use Rattle.rules.proofs.Valid.{step-ok}
 use Rattle.rules.proofs.CallsRenamed.{renameOutcome, accepted, call-renamed}
@@ -66,7 +66,7 @@ module _ (m : List ℕ) (ok : oneToOne m ≡ true) (later : List Call) (r : Rela
   tally-after = ap (λ (o : Outcome). tallyAfter later (o .relay) (o .tally)) (accepted m r t fine ok)
 
 -- ---- a list, renamed
-rest : {c : Call} {cs : List Call} → NoRenumbering (c ∷ cs) → NoRenumbering cs
+rest : {c : Call} {cs : List Call} → NoneRenumbers (c ∷ cs) → NoneRenumbers cs
 rest (then-packet h) = h
 rest (then-setting h) = h
 rest (then-adding h) = h
@@ -78,7 +78,7 @@ module _ (m : List ℕ) (ok : oneToOne m ≡ true) where
   renumbered-ok r fine =
       subst (λ (o : Outcome). tablesOk (o .relay) ≡ true) (accepted m r newTally fine ok) (step-ok (renumbering m) r newTally fine)
 
-  pub replies-renamed : (cs : List Call) (r : Relay) (t : Tally) → tablesOk r ≡ true → NoRenumbering cs
+  pub replies-renamed : (cs : List Call) (r : Relay) (t : Tally) → tablesOk r ≡ true → NoneRenumbers cs
       → replies (map (renameCall m) cs) (renumbered m r) t ≡ map (renameReply m) (replies cs r t)
   unfolding replies renameOutcome
   replies-renamed [] r t fine h = refl
@@ -87,7 +87,7 @@ module _ (m : List ℕ) (ok : oneToOne m ≡ true) where
       ∙ ap (λ (l : List Reply). renameReply m (perform c r t .reply) ∷ l)
       (replies-renamed cs (perform c r t .relay) (perform c r t .tally) (step-ok c r t fine) (rest h))
 
-  pub relay-renamed : (cs : List Call) (r : Relay) (t : Tally) → tablesOk r ≡ true → NoRenumbering cs
+  pub relay-renamed : (cs : List Call) (r : Relay) (t : Tally) → tablesOk r ≡ true → NoneRenumbers cs
       → relayAfter (map (renameCall m) cs) (renumbered m r) t ≡ renumbered m (relayAfter cs r t)
   unfolding relayAfter renameOutcome
   relay-renamed [] r t fine h = refl
@@ -95,7 +95,7 @@ module _ (m : List ℕ) (ok : oneToOne m ≡ true) where
       ap (λ (o : Outcome). relayAfter (map (renameCall m) cs) (o .relay) (o .tally)) (call-renamed m ok r fine (renumbered-ok r fine) t h)
       ∙ relay-renamed cs (perform c r t .relay) (perform c r t .tally) (step-ok c r t fine) (rest h)
 
-  pub tally-renamed : (cs : List Call) (r : Relay) (t : Tally) → tablesOk r ≡ true → NoRenumbering cs
+  pub tally-renamed : (cs : List Call) (r : Relay) (t : Tally) → tablesOk r ≡ true → NoneRenumbers cs
       → tallyAfter (map (renameCall m) cs) (renumbered m r) t ≡ tallyAfter cs r t
   unfolding tallyAfter renameOutcome
   tally-renamed [] r t fine h = refl

@@ -22,7 +22,7 @@ use Rattle.rules.specs.Outgoing.{spreadPorts, outgoing, exceeds, grownTo
 use Rattle.rules.specs.Judging.{Plan, dropped, delivered, follows, plan, onwardPlan, verdict, wayVerdict, spreadVerdict}
 use Rattle.rules.specs.Calls.{Judgement, judged, judge, packetCall}
 use Rattle.rules.specs.declared.Reason.{Reason}
-use Rattle.rules.specs.declared.Reason.the-variants.{NotOurs, Duplicate, BadForm, OwnAnnounce, TooManyHops, NoWayOn, AlreadyKnown, WrongSide, NotSigned, Replay, NotBetter, PortOff, NoRoom, TooLong}
+use Rattle.rules.specs.declared.Reason.the-variants.{NotOurs, Duplicate, BadForm, OwnAnnounce, TooManyHops, NoWayOn, AlreadyKnown, WrongSide, NotSigned, Replay, NotBetter, PortOff, NoRoom, GrownTooLong}
 use Rattle.rules.specs.declared.Verdict.{Verdict}
 use Rattle.rules.specs.declared.Verdict.the-variants.{Drop, Deliver, Forward, Spread, Kept}
 use Rattle.rules.specs.declared.Answer.the-variants.{Refused, Judged}
@@ -44,7 +44,7 @@ onwardBy unsigned v a w =
     notBetter a w then dropped NotBetter otherwise
     portOff v a w then dropped PortOff otherwise
     noRoom v a w then dropped NoRoom otherwise
-    grownTooLong a w then dropped TooLong otherwise
+    grownTooLong a w then dropped GrownTooLong otherwise
     follows w
 
 -- tests 1 to 5, and then the rest
@@ -146,7 +146,7 @@ module _ (v : View) (a : Arrival) where
       (late-then (notBetter a w) (late-drop NotBetter (omega arith))
       (late-then (portOff v a w) (late-drop PortOff (omega arith))
       (late-then (noRoom v a w) (late-drop NoRoom (omega arith))
-      (late-then (grownTooLong a w) (late-drop TooLong (omega arith)) (late-follows w n)))))))
+      (late-then (grownTooLong a w) (late-drop GrownTooLong (omega arith)) (late-follows w n)))))))
 
   plan-alike : (b c : Bool) → Alike (planBy b v a) (planBy c v a)
   unfolding planBy early

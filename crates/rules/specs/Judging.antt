@@ -12,7 +12,7 @@ use Rattle.rules.specs.Ways.{Way, everywhere, by-path, along-link, by-re
 use Rattle.rules.specs.Tests.{notOurs, duplicate, badForm, ownAnnounce, deliveredHere, tooManyHops, noWayOn, alreadyKnown, wrongSide, notSigned, replay, notBetter, leavingPort, portOff, noRoom}
 use Rattle.rules.specs.Outgoing.{spreadPorts, outgoing, exceeds, grownTooLong}
 use Rattle.rules.specs.declared.Reason.{Reason}
-use Rattle.rules.specs.declared.Reason.the-variants.{NotOurs, Duplicate, BadForm, OwnAnnounce, TooManyHops, NoWayOn, AlreadyKnown, WrongSide, NotSigned, Replay, NotBetter, PortOff, NoRoom, TooLong}
+use Rattle.rules.specs.declared.Reason.the-variants.{NotOurs, Duplicate, BadForm, OwnAnnounce, TooManyHops, NoWayOn, AlreadyKnown, WrongSide, NotSigned, Replay, NotBetter, PortOff, NoRoom, GrownTooLong}
 use Rattle.rules.specs.declared.Verdict.{Verdict}
 use Rattle.rules.specs.declared.Verdict.the-variants.{Drop, Deliver, Forward, Spread, Kept}
 
@@ -33,7 +33,7 @@ onwardPlan v a w =
     notBetter a w then dropped NotBetter otherwise
     portOff v a w then dropped PortOff otherwise
     noRoom v a w then dropped NoRoom otherwise
-    grownTooLong a w then dropped TooLong otherwise
+    grownTooLong a w then dropped GrownTooLong otherwise
     follows w
 
 -- tests 1 to 5; delivery stands at test 4's place

@@ -69,11 +69,11 @@ unfoldable pub renameReply : List ℕ → Reply → Reply
 renameReply m (answered answer output) = answered (renameAnswer m answer) output
 renameReply m (numbered refusal) = numbered refusal
 
--- no call of the list is an accepted renumbering: those that stand there have a map that is refused
-pub data NoRenumbering : List Call → Type 0 where
-  no-call : NoRenumbering []
-  then-packet : {arrival : Arrival} {output : List ℕ} {cs : List Call} → NoRenumbering cs → NoRenumbering (packet arrival output ∷ cs)
-  then-setting : {port : ℕ} {on : Bool} {mode : ℕ} {cs : List Call} → NoRenumbering cs → NoRenumbering (port-setting port on mode ∷ cs)
-  then-adding : {address : List ℕ} {cs : List Call} → NoRenumbering cs → NoRenumbering (adding address ∷ cs)
-  then-removing : {address : List ℕ} {cs : List Call} → NoRenumbering cs → NoRenumbering (removing address ∷ cs)
-  then-refused : {images : List ℕ} {cs : List Call} → oneToOne images ≡ false → NoRenumbering cs → NoRenumbering (renumbering images ∷ cs)
+-- "none of them a later renumbering": those that stand in the list have a map that is refused
+pub data NoneRenumbers : List Call → Type 0 where
+  no-call : NoneRenumbers []
+  then-packet : {arrival : Arrival} {output : List ℕ} {cs : List Call} → NoneRenumbers cs → NoneRenumbers (packet arrival output ∷ cs)
+  then-setting : {port : ℕ} {on : Bool} {mode : ℕ} {cs : List Call} → NoneRenumbers cs → NoneRenumbers (port-setting port on mode ∷ cs)
+  then-adding : {address : List ℕ} {cs : List Call} → NoneRenumbers cs → NoneRenumbers (adding address ∷ cs)
+  then-removing : {address : List ℕ} {cs : List Call} → NoneRenumbers cs → NoneRenumbers (removing address ∷ cs)
+  then-refused : {images : List ℕ} {cs : List Call} → oneToOne images ≡ false → NoneRenumbers cs → NoneRenumbers (renumbering images ∷ cs)

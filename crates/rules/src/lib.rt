@@ -15,7 +15,7 @@ pub enum Reason {
     NotBetter,
     PortOff,
     NoRoom,
-    TooLong,
+    GrownTooLong,
 }
 
 // What was decided of an accepted packet. A length is that of the packet that stands at the output's start.

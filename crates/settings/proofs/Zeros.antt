@@ -12,7 +12,7 @@ use Rattle.octets.proofs.Joined.{fields-all}
 use Rattle.rules.specs.Numbers.{portCount, localCount, pathCount, linkCount, returnCount, hashCount}
 use Rattle.rules.specs.Relay.{off, empty, fresh}
 use Rattle.tables.specs.Places.{addressWidth, timeWidth, ringWidth, localWidth, pathWidth, linkWidth, returnWidth, hashWidth, tableSize}
-use Rattle.tables.specs.Records.{exactly, markOf, portBytes, slotBytes, localBytes, pathBytes, linkBytes, returnBytes, rememberedBytes}
+use Rattle.tables.specs.Records.{exactly, markOf, portBytes, slotBytes, localBytes, pathBytes, linkBytes, returnBytes, hashBytes}
 use Rattle.tables.specs.Layout.{bytesOf}
 use Rattle.tables.proofs.All.{exactly-same, exactly-length}
 use Rattle.tables.proofs.Sections.{bytes-length, clock-bytes, after-clock, at-own}
@@ -81,7 +81,7 @@ fresh-rest own =
     (append-zeros (number-zeros ringWidth)
     (append-zeros (fields-zeros (slotBytes returnWidth returnBytes) empty (slot-zeros returnWidth returnBytes) returnCount)
     (append-zeros (number-zeros ringWidth)
-    (fields-zeros (slotBytes hashWidth rememberedBytes) empty (slot-zeros hashWidth rememberedBytes) hashCount))))))))
+    (fields-zeros (slotBytes hashWidth hashBytes) empty (slot-zeros hashWidth hashBytes) hashCount))))))))
 
 rest-length : (own rest : List ℕ) → bytesOf (fresh own) ≡ exactly addressWidth own ++ rest → addressWidth + length rest ≡ tableSize
 rest-length own rest e =

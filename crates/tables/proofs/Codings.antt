@@ -21,8 +21,8 @@ use Rattle.rules.specs.Relay.{Port, Path, Return, Remembered}
 use Rattle.rules.specs.Blobs.{noBlob}
 use Rattle.rules.specs.Refusals.{timeOk, portOk, pathOk, linkOk, returnOk, hashOk, slotOk, tableOk}
 use Rattle.rules.specs.declared.Link.{Link}
-use Rattle.tables.specs.Places.{addressWidth, hashBytes, timeWidth, blobWidth, portWidth, localWidth, pathWidth, linkWidth, returnWidth, hashWidth}
-use Rattle.tables.specs.Records.{exactly, markOf, markOk, portOf, portBytes, portBytesOk, slotOf, slotBytes, localOf, localBytes, localBytesOk, blobsOf, blobsBytes, pathOf, pathBytes, pathBytesOk, linkOf, linkBytes, linkBytesOk, returnOf, returnBytes, returnBytesOk, hashOf, rememberedBytes, hashBytesOk}
+use Rattle.tables.specs.Places.{addressWidth, digestWidth, timeWidth, blobWidth, portWidth, localWidth, pathWidth, linkWidth, returnWidth, hashWidth}
+use Rattle.tables.specs.Records.{exactly, markOf, markOk, portOf, portBytes, portBytesOk, slotOf, slotBytes, localOf, localBytes, localBytesOk, blobsOf, blobsBytes, pathOf, pathBytes, pathBytesOk, linkOf, linkBytes, linkBytesOk, returnOf, returnBytes, returnBytesOk, hashOf, hashBytes, hashBytesOk}
 use Rattle.tables.specs.Layout.{rows, rowsOk}
 use Rattle.tables.specs.Shape.{isByte, isBytes, pathShaped, linkShaped, returnShaped, hashShaped}
 use Rattle.rules.proofs.Tables.{table-of, table-length, table-all}
@@ -185,34 +185,34 @@ unfolding returnBytesOk
 return-coding = slot-coding returnWidth returnBytes returnOf (λ b. returnOk (returnOf b)) returnOk returnShaped (lit< tt) return-record
 
 -- ---- a remembered hash
-hash-back : (x : Remembered) → hashOk x ≡ true → hashShaped x ≡ true → hashOf (1 ∷ rememberedBytes x) ≡ x
-unfolding hashOf rememberedBytes hashOk hashShaped
+hash-back : (x : Remembered) → hashOk x ≡ true → hashShaped x ≡ true → hashOf (1 ∷ hashBytes x) ≡ x
+unfolding hashOf hashBytes hashOk hashShaped
 hash-back x h k =
     let rest : List ℕ = bigEndian timeWidth (x .expiry) in
     rw (
-      key-back hashBytes (x .hash) rest k,
-      behind-part hashBytes (x .hash) rest 0 timeWidth,
+      key-back digestWidth (x .hash) rest k,
+      behind-part digestWidth (x .hash) rest 0 timeWidth,
       time-end [] 0 (x .expiry) refl h,
     )
 
-hash-record : Coding hashWidth (λ x. 1 ∷ rememberedBytes x) hashOf (λ b. eqb (getD b 0 0) 1 and hashOk (hashOf b)) hashOk hashShaped
-unfolding rememberedBytes hashOf hashShaped
+hash-record : Coding hashWidth (λ x. 1 ∷ hashBytes x) hashOf (λ b. eqb (getD b 0 0) 1 and hashOk (hashOf b)) hashOk hashShaped
+unfolding hashBytes hashOf hashShaped
 hash-record =
     record {
-      wide = λ x. keyed-length hashBytes (x .hash) _ 8 (bigEndian-length timeWidth (x .expiry));
+      wide = λ x. keyed-length digestWidth (x .hash) _ 8 (bigEndian-length timeWidth (x .expiry));
       again = λ b bs l h.
-          keyed-again b hashBytes 8 (omega arith) (and-left _ _ h) (part-again b 33 timeWidth bs (omega arith))
+          keyed-again b digestWidth 8 (omega arith) (and-left _ _ h) (part-again b 33 timeWidth bs (omega arith))
           ∙ part-whole b hashWidth l;
       keeps = λ b h. and-right _ _ h;
-      shapes = λ b bs l. field-shaped b 1 hashBytes bs (omega arith);
+      shapes = λ b bs l. field-shaped b 1 digestWidth bs (omega arith);
       back = hash-back;
       fine = λ x h k. and-both refl (ap hashOk (hash-back x h k) ∙ h);
-      bytes = λ x h k. keyed-octets hashBytes (x .hash) k (number-octets timeWidth (x .expiry)) .each;
+      bytes = λ x h k. keyed-octets digestWidth (x .hash) k (number-octets timeWidth (x .expiry)) .each;
     }
 
-pub hash-coding : Coding hashWidth (slotBytes hashWidth rememberedBytes) (slotOf hashOf) hashBytesOk (slotOk hashOk) (slotOk hashShaped)
+pub hash-coding : Coding hashWidth (slotBytes hashWidth hashBytes) (slotOf hashOf) hashBytesOk (slotOk hashOk) (slotOk hashShaped)
 unfolding hashBytesOk
-hash-coding = slot-coding hashWidth rememberedBytes hashOf (λ b. hashOk (hashOf b)) hashOk hashShaped (lit< tt) hash-record
+hash-coding = slot-coding hashWidth hashBytes hashOf (λ b. hashOk (hashOf b)) hashOk hashShaped (lit< tt) hash-record
 
 -- ---- a link
 link-back : (x : Link) → linkOk x ≡ true → linkShaped x ≡ true → linkOf (1 ∷ linkBytes x) ≡ x

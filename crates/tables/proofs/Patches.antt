@@ -12,7 +12,7 @@ use Rattle.rules.specs.Numbers.{portCount, localCount, pathCount, linkCount, re
 use Rattle.rules.specs.Relay.{Port, off, Slot, empty, Path, Return, Remembered, Relay, withClock, withPorts, withLocals, withPaths, withLinks, withReturns, withHashes}
 use Rattle.rules.specs.declared.Link.{Link}
 use Rattle.tables.specs.Places.{timeWidth, ringWidth, portWidth, localWidth, pathWidth, linkWidth, returnWidth, hashWidth, clockAt, portsAt, localsAt, pathsAt, linksAt, returnNextAt, returnsAt, hashNextAt, hashesAt}
-use Rattle.tables.specs.Records.{portBytes, slotBytes, localBytes, pathBytes, linkBytes, returnBytes, rememberedBytes}
+use Rattle.tables.specs.Records.{portBytes, slotBytes, localBytes, pathBytes, linkBytes, returnBytes, hashBytes}
 use Rattle.tables.specs.Layout.{bytesOf}
 use Rattle.tables.proofs.Coding.{section-length}
 use Rattle.tables.proofs.Codings.{port-coding, local-coding, path-coding, link-coding, return-coding, hash-coding}
@@ -125,10 +125,10 @@ module _ (r : Relay) where
         ∙ sym (at-returns (withReturns (record { slots = set (r .returns .slots) i slot; next = r .returns .next }) r))
 
     pub patch-hash : (slot : Slot Remembered) → length (r .hashes .slots) ≡ hashCount → i < hashCount
-        → patch (bytesOf r) (hashesAt + hashWidth * i) (slotBytes hashWidth rememberedBytes slot)
+        → patch (bytesOf r) (hashesAt + hashWidth * i) (slotBytes hashWidth hashBytes slot)
         ≡ bytesOf (withHashes (record { slots = set (r .hashes .slots) i slot; next = r .hashes .next }) r)
     unfolding withHashes
     patch-hash slot e l =
-        ap (λ (t : List ℕ). patch t (hashesAt + hashWidth * i) (slotBytes hashWidth rememberedBytes slot)) (at-hashes r)
-        ∙ patch-field (slotBytes hashWidth rememberedBytes) hashCount empty hashWidth (hash-coding .wide) (before-hashes r) [] hashesAt (r .hashes .slots) i slot (hashes-start r) e l
+        ap (λ (t : List ℕ). patch t (hashesAt + hashWidth * i) (slotBytes hashWidth hashBytes slot)) (at-hashes r)
+        ∙ patch-field (slotBytes hashWidth hashBytes) hashCount empty hashWidth (hash-coding .wide) (before-hashes r) [] hashesAt (r .hashes .slots) i slot (hashes-start r) e l
         ∙ sym (at-hashes (withHashes (record { slots = set (r .hashes .slots) i slot; next = r .hashes .next }) r))

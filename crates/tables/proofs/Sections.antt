@@ -9,7 +9,7 @@ use Rattle.octets.proofs.BigEndian.{bigEndian-length}
 use Rattle.rules.specs.Numbers.{portCount, localCount, pathCount, linkCount, returnCount, hashCount}
 use Rattle.rules.specs.Relay.{off, empty, Relay}
 use Rattle.tables.specs.Places.{addressWidth, timeWidth, ringWidth, localWidth, pathWidth, linkWidth, returnWidth, hashWidth, clockAt, portsAt, localsAt, pathsAt, linksAt, returnNextAt, returnsAt, hashNextAt, hashesAt, tableSize}
-use Rattle.tables.specs.Records.{exactly, portBytes, slotBytes, localBytes, pathBytes, linkBytes, returnBytes, rememberedBytes}
+use Rattle.tables.specs.Records.{exactly, portBytes, slotBytes, localBytes, pathBytes, linkBytes, returnBytes, hashBytes}
 use Rattle.tables.specs.Layout.{bytesOf}
 use Rattle.tables.proofs.All.{exactly-length}
 use Rattle.tables.proofs.Coding.{section-length}
@@ -48,7 +48,7 @@ module _ (r : Relay) where
   hash-next-bytes = bigEndian ringWidth (r .hashes .next)
 
   abbrev pub hashes-bytes : List ℕ
-  hashes-bytes = fields (slotBytes hashWidth rememberedBytes) hashCount empty (r .hashes .slots)
+  hashes-bytes = fields (slotBytes hashWidth hashBytes) hashCount empty (r .hashes .slots)
 
   -- ---- what stands behind each
   abbrev pub after-hash-next : List ℕ

@@ -1,4 +1,5 @@
 -- Records tested in groups: a way to test a section fast. It changes nothing of what is tested.
+-- For the contracts of helpers: not part of what a reader must believe.
 use Prim.Native.Nat.{ℕ, _*_}
 use mathlib.Core.Bool.{Bool}
 use mathlib.Core.List.{List}

@@ -11,7 +11,7 @@ use Rattle.rules.specs.Numbers.{portCount, localCount, pathCount, linkCount, re
 use Rattle.rules.specs.Relay.{off, empty, Relay}
 use Rattle.rules.specs.Refusals.{timeOk}
 use Rattle.tables.specs.Places.{addressWidth, timeWidth, ringWidth, portWidth, localWidth, pathWidth, linkWidth, returnWidth, hashWidth, ownAt, clockAt, portsAt, localsAt, pathsAt, linksAt, returnNextAt, returnsAt, hashNextAt, hashesAt, tableSize}
-use Rattle.tables.specs.Records.{exactly, portOf, portBytes, portBytesOk, slotOf, slotBytes, localOf, localBytes, localBytesOk, pathOf, pathBytes, pathBytesOk, linkOf, linkBytes, linkBytesOk, returnOf, returnBytes, returnBytesOk, hashOf, rememberedBytes, hashBytesOk}
+use Rattle.tables.specs.Records.{exactly, portOf, portBytes, portBytesOk, slotOf, slotBytes, localOf, localBytes, localBytesOk, pathOf, pathBytes, pathBytesOk, linkOf, linkBytes, linkBytesOk, returnOf, returnBytes, returnBytesOk, hashOf, hashBytes, hashBytesOk}
 
 -- record i of the section that starts at `at`, whose records are `width` wide
 abbrev pub rowAt : ℕ → ℕ → List ℕ → ℕ → List ℕ
@@ -46,7 +46,7 @@ bytesOf r =
     ++ (bigEndian ringWidth (r .returns .next)
     ++ (fields (slotBytes returnWidth returnBytes) returnCount empty (r .returns .slots)
     ++ (bigEndian ringWidth (r .hashes .next)
-    ++ fields (slotBytes hashWidth rememberedBytes) hashCount empty (r .hashes .slots)))))))))
+    ++ fields (slotBytes hashWidth hashBytes) hashCount empty (r .hashes .slots)))))))))
 
 -- each of a section's n records keeps row 7
 unfoldable pub rowsOk : (List ℕ → Bool) → ℕ → ℕ → ℕ → List ℕ → Bool

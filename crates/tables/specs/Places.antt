@@ -7,8 +7,8 @@ use Rattle.rules.specs.Numbers.{portCount, localCount, pathCount, blobLimit, li
 abbrev pub addressWidth : ℕ
 addressWidth = 16
 
-abbrev pub hashBytes : ℕ
-hashBytes = 32
+abbrev pub digestWidth : ℕ
+digestWidth = 32
 
 abbrev pub timeWidth : ℕ
 timeWidth = 8
@@ -27,7 +27,7 @@ portWidth = 2
 abbrev pub localWidth : ℕ
 localWidth = 17
 
--- mark, destination, port, hops, next hop, expiry, blob count, sixteen blobs
+-- mark, destination, port, hops, next hop, expiry, blob count, blob places
 abbrev pub pathWidth : ℕ
 pathWidth = 44 + blobLimit * blobWidth
 

@@ -13,7 +13,7 @@ use Rattle.rules.specs.Relay.{Port, Slot, empty, used, Blobs, Path, Return, Rem
 use Rattle.rules.specs.Blobs.{noBlob}
 use Rattle.rules.specs.Refusals.{portOk, pathOk, linkOk, returnOk, hashOk}
 use Rattle.rules.specs.declared.Link.{Link}
-use Rattle.tables.specs.Places.{addressWidth, hashBytes, timeWidth, blobWidth, localWidth, pathWidth, linkWidth, returnWidth, hashWidth}
+use Rattle.tables.specs.Places.{addressWidth, digestWidth, timeWidth, blobWidth, localWidth, pathWidth, linkWidth, returnWidth, hashWidth}
 
 -- n bytes of a list, with zeros for those that it lacks: one width, whatever the list
 unfoldable pub exactly : ℕ → List ℕ → List ℕ
@@ -120,10 +120,10 @@ returnBytes t = exactly addressWidth (t .key) ++ (t .arrival ∷ t .leaving ∷ 
 
 -- ---- a remembered hash
 unfoldable pub hashOf : List ℕ → Remembered
-hashOf b = record { hash = part b 1 hashBytes; expiry = number (part b 33 timeWidth) }
+hashOf b = record { hash = part b 1 digestWidth; expiry = number (part b 33 timeWidth) }
 
-unfoldable pub rememberedBytes : Remembered → List ℕ
-rememberedBytes m = exactly hashBytes (m .hash) ++ bigEndian timeWidth (m .expiry)
+unfoldable pub hashBytes : Remembered → List ℕ
+hashBytes m = exactly digestWidth (m .hash) ++ bigEndian timeWidth (m .expiry)
 
 -- ---- row 7, record by record. A local address breaks none of its clauses
 unfoldable pub localBytesOk : List ℕ → Bool

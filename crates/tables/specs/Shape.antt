@@ -9,7 +9,7 @@ use Rattle.rules.specs.Numbers.{blobLimit}
 use Rattle.rules.specs.Relay.{Path, Return, Remembered, Relay}
 use Rattle.rules.specs.Refusals.{slotOk, all, tableOk}
 use Rattle.rules.specs.declared.Link.{Link}
-use Rattle.tables.specs.Places.{addressWidth, hashBytes, blobWidth}
+use Rattle.tables.specs.Places.{addressWidth, digestWidth, blobWidth}
 
 unfoldable pub isByte : ℕ → Bool
 isByte x = ltb x 256
@@ -18,7 +18,7 @@ isByte x = ltb x 256
 unfoldable pub isBytes : ℕ → List ℕ → Bool
 isBytes n xs = tableOk n isByte xs
 
--- sixteen blob places, the spare ones too
+-- every blob place, the spare ones too
 unfoldable pub pathShaped : Path → Bool
 pathShaped p =
     isBytes addressWidth (p .destination)
@@ -32,7 +32,7 @@ unfoldable pub returnShaped : Return → Bool
 returnShaped t = isBytes addressWidth (t .key)
 
 unfoldable pub hashShaped : Remembered → Bool
-hashShaped m = isBytes hashBytes (m .hash)
+hashShaped m = isBytes digestWidth (m .hash)
 
 unfoldable pub shaped : Relay → Bool
 shaped r =

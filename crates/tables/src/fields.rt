@@ -1,6 +1,7 @@
 // Where each field stands in its record: specs/Records.antt in code. Each number once. A record's first byte is its mark, used or not; a port's
 // is its on mark.
 use super::places::ADDRESS_WIDTH;
+use super::places::DIGEST_WIDTH;
 use super::places::TIME_WIDTH;
 
 pub const PORT_MODE_AT: usize = 1;
@@ -43,4 +44,4 @@ pub const RETURN_EXPIRY_AT: usize = RETURN_LEAVING_AT + 1;
 
 pub const HASH_BYTES_AT: usize = 1;
 
-pub const HASH_EXPIRY_AT: usize = 33;
+pub const HASH_EXPIRY_AT: usize = HASH_BYTES_AT + DIGEST_WIDTH;

@@ -26,6 +26,8 @@ pub const TIME_LIMIT: u64 = 1_099_512_232_575;
 
 pub const ADDRESS_WIDTH: usize = 16;
 
+pub const DIGEST_WIDTH: usize = 32;
+
 pub const TIME_WIDTH: usize = 8;
 
 pub const BLOB_WIDTH: usize = 10;

@@ -10,8 +10,8 @@ use Rattle.octets.proofs.BigEndian.{bigEndian-length}
 use Rattle.octets.proofs.Part.{patch-join}
 use Rattle.rules.specs.Relay.{used, Return, Remembered}
 use Rattle.rules.specs.declared.Link.{Link}
-use Rattle.tables.specs.Places.{addressWidth, hashBytes, timeWidth, linkWidth, returnWidth, hashWidth}
-use Rattle.tables.specs.Records.{markOf, slotBytes, linkBytes, returnBytes, rememberedBytes}
+use Rattle.tables.specs.Places.{addressWidth, digestWidth, timeWidth, linkWidth, returnWidth, hashWidth}
+use Rattle.tables.specs.Records.{markOf, slotBytes, linkBytes, returnBytes, hashBytes}
 use Rattle.tables.proofs.All.{exactly-same}
 use Rattle.update.specs.declared.Announced.{Announced}
 use Rattle.update.specs.Written.{headWidth, headBytes}
@@ -36,14 +36,14 @@ marked e = record { is = e; long = refl }
 
 module _ (t : List ℕ) (a : ℕ) where
   -- ---- a remembered hash
-  pub hash-pieces : (t1 t2 t3 : List ℕ) (m : Remembered) → length (m .hash) ≡ hashBytes → a + hashWidth ≤ length t
+  pub hash-pieces : (t1 t2 t3 : List ℕ) (m : Remembered) → length (m .hash) ≡ digestWidth → a + hashWidth ≤ length t
       → t1 ≡ patch t a (1 ∷ []) → t2 ≡ patch t1 (a + 1) (m .hash) → t3 ≡ patch t2 (a + 33) (bigEndian timeWidth (m .expiry))
-      → t3 ≡ patch t a (slotBytes hashWidth rememberedBytes (used m))
-  unfolding slotBytes rememberedBytes
+      → t3 ≡ patch t a (slotBytes hashWidth hashBytes (used m))
+  unfolding slotBytes hashBytes
   hash-pieces t1 t2 t3 m l fits e1 e2 e3 =
       let w2 = more (m .hash) (marked e1) e2 l (omega arith) in
       let w3 = more (bigEndian timeWidth (m .expiry)) w2 e3 (bigEndian-length timeWidth (m .expiry)) (omega arith) in
-      w3 .is ∙ rw (exactly-same hashBytes (m .hash) l)
+      w3 .is ∙ rw (exactly-same digestWidth (m .hash) l)
 
   -- ---- a return record
   pub return-pieces : (t1 t2 t3 t4 : List ℕ) (x : Return) → length (x .key) ≡ addressWidth → a + returnWidth ≤ length t

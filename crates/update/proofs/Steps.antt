@@ -12,7 +12,7 @@ use Rattle.rules.specs.Relay.{empty, used, Path, Return, Remembered, Relay, wit
 use Rattle.rules.specs.Writes.{putNext}
 use Rattle.rules.specs.declared.Link.{Link}
 use Rattle.tables.specs.Places.{timeWidth, ringWidth, pathWidth, linkWidth, returnWidth, hashWidth, clockAt, pathsAt, linksAt, returnNextAt, returnsAt, hashNextAt, hashesAt}
-use Rattle.tables.specs.Records.{slotBytes, pathBytes, linkBytes, returnBytes, rememberedBytes}
+use Rattle.tables.specs.Records.{slotBytes, pathBytes, linkBytes, returnBytes, hashBytes}
 use Rattle.tables.specs.Layout.{relayOf, bytesOf, wellFormed}
 use Rattle.tables.proofs.Patches.{patch-clock, patch-path, patch-link, patch-return, patch-return-next, patch-hash, patch-hash-next}
 use Rattle.tables.proofs.Whole.{formed}
@@ -60,7 +60,7 @@ module _ (r : Relay) {t u : List ℕ} (e : t ≡ bytesOf r) where
     hash-step x n l q w =
         let r1 : Relay = withHashes (record { slots = set (r .hashes .slots) place (used x); next = r .hashes .next }) r in
         w
-        ∙ ap (λ (y : List ℕ). patch (patch y (hashesAt + hashWidth * place) (slotBytes hashWidth rememberedBytes (used x))) hashNextAt (bigEndian ringWidth ((place + 1) % hashCount))) e
+        ∙ ap (λ (y : List ℕ). patch (patch y (hashesAt + hashWidth * place) (slotBytes hashWidth hashBytes (used x))) hashNextAt (bigEndian ringWidth ((place + 1) % hashCount))) e
         ∙ ap (λ (y : List ℕ). patch y hashNextAt (bigEndian ringWidth ((place + 1) % hashCount))) (patch-hash r place (used x) n l)
         ∙ patch-hash-next r1 ((place + 1) % hashCount)
         ∙ ap (λ (k : ℕ). bytesOf (withHashes (record { slots = set (r .hashes .slots) k (used x); next = (k + 1) % hashCount }) r)) q

@@ -1,4 +1,5 @@
 -- What each write leaves in the tables' bytes t: a record over the one at its place, and what goes with it.
+-- For the contracts of helpers: not part of what a reader must believe.
 use Prim.Native.Nat.{ℕ, _+_, _-_, _*_, _%_}
 use mathlib.Core.List.{List, _∷_, _++_}
 use lib.ListN.{getD}
@@ -12,7 +13,7 @@ use Rattle.rules.specs.View.{isLiveReturn}
 use Rattle.rules.specs.Writes.{emptiedWhere}
 use Rattle.rules.specs.declared.Link.{Link}
 use Rattle.tables.specs.Places.{addressWidth, timeWidth, ringWidth, blobWidth, pathWidth, linkWidth, returnWidth, hashWidth, clockAt, pathsAt, linksAt, returnNextAt, returnsAt, hashNextAt, hashesAt}
-use Rattle.tables.specs.Records.{exactly, slotOf, slotBytes, pathBytes, linkBytes, returnOf, returnBytes, rememberedBytes}
+use Rattle.tables.specs.Records.{exactly, slotOf, slotBytes, pathBytes, linkBytes, returnOf, returnBytes, hashBytes}
 use Rattle.tables.specs.Layout.{rowAt, relayOf, bytesOf}
 use Rattle.update.specs.declared.Announced.{Announced}
 
@@ -22,7 +23,7 @@ clockWritten t clock = patch t clockAt (bigEndian timeWidth clock)
 -- ---- a hash at a place of the ring, which moves on
 unfoldable pub hashWritten : List ℕ → ℕ → Remembered → List ℕ
 hashWritten t place m =
-    patch (patch t (hashesAt + hashWidth * place) (slotBytes hashWidth rememberedBytes (used m)))
+    patch (patch t (hashesAt + hashWidth * place) (slotBytes hashWidth hashBytes (used m)))
     hashNextAt (bigEndian ringWidth ((place + 1) % hashCount))
 
 -- ---- a path

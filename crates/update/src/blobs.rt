@@ -41,7 +41,7 @@ fn push_blob(s: &mut [u8], blob: [u8; 10])
     octets::copy_at(s, PLACES_AT + NEWER, &blob);
 }
 
-// Adds a blob; with 16 held, the one stored longest ago goes.
+// Adds a blob; where all places are held, the one stored longest ago goes.
 pub fn add_blob(s: &mut [u8], blob: [u8; 10])
     requires { ⌜ length (now s) ≡ blobsWidth ⌝ }
     ensures { λ _. ⌜ now (s .exit) ≡ blobsBytes (addBlob blobLimit blob (blobsIn (now (s .entry)))) ⌝ }

@@ -5,7 +5,7 @@ use mathlib.Core.Path.{_≡_, ap, _∙_}
 use lib.ListN.{length, replicate, length-replicate}
 use Rattle.octets.specs.Part.{patch}
 use Rattle.packet.specs.declared.Parts.{Parts}
-use Rattle.packet.proofs.WriteLaws.{Wide}
+use Rattle.packet.specs.Write.{Wide}
 use Rattle.haskumye.proofs.ExportLaws.{parts-written}
 use native.Mathlib.Omega.{arith}
 use borrow.Author.Needs.{needs}

@@ -1,5 +1,6 @@
 use Rattle.packet.proofs.ReadLaws.{start-most}
-use Rattle.packet.proofs.WriteLaws.{Wide, packet-length, Writable, writable, writing-done, writing-refused}
+use Rattle.packet.specs.Write.{Wide}
+use Rattle.packet.proofs.WriteLaws.{packet-length, Writable, writable, writing-done, writing-refused}
 use mathlib.Core.Path.{_≡_, sym, ap, _∙_}
 use Prim.Native.Nat.{ℕ, _+_}
 use lib.ListN.{length}

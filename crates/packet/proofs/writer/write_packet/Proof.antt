@@ -1,6 +1,7 @@
 use lib.ListN.{length}
 use Rattle.packet.proofs.ReadLaws.{start-two, start-one, start-least}
-use Rattle.packet.proofs.WriteLaws.{Wide, one-written, two-written}
+use Rattle.packet.specs.Write.{Wide}
+use Rattle.packet.proofs.WriteLaws.{one-written, two-written}
 use mathlib.Core.Path.{_≡_, sym, ap, _∙_}
 use Prim.Native.Nat.{ℕ}
 use mathlib.Core.List.{List, [], _∷_, _++_}

@@ -1,5 +1,6 @@
 use Rattle.packet.proofs.ReadLaws.{start-most}
-use Rattle.packet.proofs.WriteLaws.{Wide, packet-length, refused-room, refused-length, refused-access, accepted-writing}
+use Rattle.packet.specs.Write.{Wide}
+use Rattle.packet.proofs.WriteLaws.{packet-length, refused-room, refused-length, refused-access, accepted-writing}
 use mathlib.Core.Path.{_≡_, sym, _∙_}
 use Prim.Native.Nat.{_+_}
 use lib.ListN.{length}
