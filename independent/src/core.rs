@@ -1,7 +1,9 @@
-//! The proved core: every function of the linked archives, declared in this one place, behind safe functions.
+//! The proved core behind safe functions: numbers as the library returns them, and buffers that the caller fills before, so that what a call
+//! leaves can be compared.
 
 use crate::answer::Tally;
 use crate::packet::{Address, Blob, PacketHash, Parts};
+use haskumye::raw::*;
 
 /// Header, hops, relay address, destination, context.
 pub type PartsBytes = [u8; 35];
@@ -20,48 +22,17 @@ pub fn crossing(parts: &Parts) -> PartsBytes {
     bytes
 }
 
-extern "C" {
-    fn haskumye_sha256(message: *const u8, length: usize, out: *mut u8) -> u8;
-    fn haskumye_read(packet: *const u8, length: usize, parts: *mut u8) -> u8;
-    fn haskumye_payload_start(packet: *const u8, length: usize) -> usize;
-    fn haskumye_write(parts: *const u8, payload: *const u8, length: usize, output: *mut u8, room: usize) -> u64;
-    fn haskumye_packet_hash(packet: *const u8, length: usize, hash: *mut u8) -> u8;
-    fn haskumye_link_id(packet: *const u8, length: usize, id: *mut u8) -> u8;
-    fn haskumye_announced_destination(payload: *const u8, length: usize, destination: *mut u8);
-    fn haskumye_least_announce(header: u8) -> usize;
-    fn haskumye_emission(blob: *const u8) -> u64;
-    fn haskumye_line(packet: *const u8, length: usize, text: *mut u8) -> usize;
-    fn haskumye_table_size() -> usize;
-    fn haskumye_check(tables: *const u8, length: usize) -> u8;
-    fn haskumye_fresh(tables: *mut u8, length: usize, own: *const u8) -> u8;
-    fn haskumye_set_port(tables: *mut u8, length: usize, port: u64, on: u8, mode: u64) -> u8;
-    fn haskumye_add_local(tables: *mut u8, length: usize, address: *const u8) -> u8;
-    fn haskumye_remove_local(tables: *mut u8, length: usize, address: *const u8) -> u8;
-    fn haskumye_renumber(tables: *mut u8, length: usize, map: *const u8) -> u8;
-    fn haskumye_packet(
-        packet: *const u8,
-        length: usize,
-        port: u64,
-        clock: u64,
-        signed: u8,
-        tables: *mut u8,
-        size: usize,
-        output: *mut u8,
-        room: usize,
-        tally: *mut u32,
-    ) -> u64;
-}
-
-// SAFETY of every call below: a slice is passed as its pointer and its length, an array as its pointer. The call reads and writes no other byte.
+// SAFETY of every call below: a slice is passed as its pointer and its length, an array as its pointer; parts and tally have the layout of
+// `raw`'s structs, in an array of the same bytes or words. The call reads and writes no other byte.
 
 /// The refusal number; the digest goes to out.
 pub fn sha256(message: &[u8], out: &mut [u8; 32]) -> u8 {
-    unsafe { haskumye_sha256(message.as_ptr(), message.len(), out.as_mut_ptr()) }
+    unsafe { haskumye_sha256(message.as_ptr(), message.len(), out) }
 }
 
 /// The refusal number; the parts go to the buffer.
 pub fn read(packet: &[u8], parts: &mut PartsBytes) -> u8 {
-    unsafe { haskumye_read(packet.as_ptr(), packet.len(), parts.as_mut_ptr()) }
+    unsafe { haskumye_read(packet.as_ptr(), packet.len(), parts.as_mut_ptr().cast()) }
 }
 
 /// Where the payload starts, at most the packet's length.
@@ -71,22 +42,22 @@ pub fn payload_start(packet: &[u8]) -> usize {
 
 /// The refusal number in the low 16 bits, the length in those above; the packet goes to the output's start.
 pub fn write(parts: &PartsBytes, payload: &[u8], output: &mut [u8]) -> u64 {
-    unsafe { haskumye_write(parts.as_ptr(), payload.as_ptr(), payload.len(), output.as_mut_ptr(), output.len()) }
+    unsafe { haskumye_write(parts.as_ptr().cast(), payload.as_ptr(), payload.len(), output.as_mut_ptr(), output.len()) }
 }
 
 /// The refusal number; the packet hash goes to the buffer.
 pub fn packet_hash(packet: &[u8], hash: &mut PacketHash) -> u8 {
-    unsafe { haskumye_packet_hash(packet.as_ptr(), packet.len(), hash.as_mut_ptr()) }
+    unsafe { haskumye_packet_hash(packet.as_ptr(), packet.len(), hash) }
 }
 
 /// The refusal number; the link id goes to the buffer.
 pub fn link_id(packet: &[u8], id: &mut Address) -> u8 {
-    unsafe { haskumye_link_id(packet.as_ptr(), packet.len(), id.as_mut_ptr()) }
+    unsafe { haskumye_link_id(packet.as_ptr(), packet.len(), id) }
 }
 
 /// The destination that the keys and the name hash of an announce's payload give.
 pub fn announced_destination(payload: &[u8], destination: &mut Address) {
-    unsafe { haskumye_announced_destination(payload.as_ptr(), payload.len(), destination.as_mut_ptr()) }
+    unsafe { haskumye_announced_destination(payload.as_ptr(), payload.len(), destination) }
 }
 
 /// The least payload of an announce of this header.
@@ -96,12 +67,12 @@ pub fn least_announce(header: u8) -> usize {
 
 /// The emission time of a blob.
 pub fn emission(blob: &Blob) -> u64 {
-    unsafe { haskumye_emission(blob.as_ptr()) }
+    unsafe { haskumye_emission(blob) }
 }
 
 /// The length of the showing program's line; the text goes to the buffer, with zeros behind it.
 pub fn line(packet: &[u8], text: &mut [u8; LINE]) -> usize {
-    unsafe { haskumye_line(packet.as_ptr(), packet.len(), text.as_mut_ptr()) }
+    unsafe { haskumye_line(packet.as_ptr(), packet.len(), text) }
 }
 
 /// How many bytes tables have.
@@ -116,7 +87,7 @@ pub fn check(tables: &[u8]) -> u8 {
 
 /// The refusal number of each call on the tables, 0 for none.
 pub fn fresh(tables: &mut [u8], own: &Address) -> u8 {
-    unsafe { haskumye_fresh(tables.as_mut_ptr(), tables.len(), own.as_ptr()) }
+    unsafe { haskumye_fresh(tables.as_mut_ptr(), tables.len(), own) }
 }
 
 /// On by 1, off by any other number.
@@ -125,20 +96,20 @@ pub fn set_port(tables: &mut [u8], port: u64, on: u8, mode: u64) -> u8 {
 }
 
 pub fn add_local(tables: &mut [u8], address: &Address) -> u8 {
-    unsafe { haskumye_add_local(tables.as_mut_ptr(), tables.len(), address.as_ptr()) }
+    unsafe { haskumye_add_local(tables.as_mut_ptr(), tables.len(), address) }
 }
 
 pub fn remove_local(tables: &mut [u8], address: &Address) -> u8 {
-    unsafe { haskumye_remove_local(tables.as_mut_ptr(), tables.len(), address.as_ptr()) }
+    unsafe { haskumye_remove_local(tables.as_mut_ptr(), tables.len(), address) }
 }
 
 pub fn renumber(tables: &mut [u8], map: &[u8; 16]) -> u8 {
-    unsafe { haskumye_renumber(tables.as_mut_ptr(), tables.len(), map.as_ptr()) }
+    unsafe { haskumye_renumber(tables.as_mut_ptr(), tables.len(), map) }
 }
 
 /// The answer as one number, its fields as in `linked`; signed by 1, not by any other number.
 pub fn packet(packet: &[u8], port: u64, clock: u64, signed: u8, tables: &mut [u8], output: &mut [u8], tally: &mut Tally) -> u64 {
     let (size, room) = (tables.len(), output.len());
     let (tables, output) = (tables.as_mut_ptr(), output.as_mut_ptr());
-    unsafe { haskumye_packet(packet.as_ptr(), packet.len(), port, clock, signed, tables, size, output, room, tally.as_mut_ptr()) }
+    unsafe { haskumye_packet(packet.as_ptr(), packet.len(), port, clock, signed, tables, size, output, room, tally.as_mut_ptr().cast()) }
 }

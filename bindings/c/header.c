@@ -1,0 +1,109 @@
+/*
+ * The header in C and in C++: it compiles without a warning, its accessors give the fields of an answer, and every call
+ * takes NULL where the length is 0. With NARROW or IGNORED it does not compile. The last line is `N passed, M failed`.
+ */
+#include "haskumye.h"
+#include <stdio.h>
+
+static int passed, failed;
+
+static void check(int holds, const char *what)
+{
+    if (holds) {
+        passed++;
+    } else {
+        failed++;
+        printf("does not hold: %s\n", what);
+    }
+}
+
+#define CHECK(condition) check((condition) ? 1 : 0, #condition)
+
+static void check_accessors(void)
+{
+    const haskumye_answer refused = UINT64_C(0x0b00), drop = UINT64_C(0x0e01), forward = UINT64_C(0x0013000f0003),
+                          spread = UINT64_C(0x01f480010004);
+    CHECK(HASKUMYE_ANSWER_KIND(refused) == HASKUMYE_REFUSED);
+    CHECK(HASKUMYE_ANSWER_REFUSAL(refused) == HASKUMYE_REFUSAL_LOCAL_ADDRESS);
+    CHECK(HASKUMYE_ANSWER_KIND(drop) == HASKUMYE_DROP);
+    CHECK(HASKUMYE_ANSWER_REASON(drop) == HASKUMYE_REASON_GROWN_TOO_LONG);
+    CHECK(HASKUMYE_ANSWER_KIND(forward) == HASKUMYE_FORWARD);
+    CHECK(HASKUMYE_ANSWER_PORT(forward) == 15 && HASKUMYE_ANSWER_LENGTH(forward) == 19);
+    CHECK(HASKUMYE_ANSWER_KIND(spread) == HASKUMYE_SPREAD && HASKUMYE_ANSWER_LENGTH(spread) == 500);
+    CHECK(HASKUMYE_ANSWER_PORTS(spread) == 0x8001);
+    CHECK(HASKUMYE_ANSWER_HAS_PORT(spread, 0) && !HASKUMYE_ANSWER_HAS_PORT(spread, 1));
+    CHECK(HASKUMYE_ANSWER_HAS_PORT(spread, 15));
+    haskumye_answer next = drop;
+    CHECK(HASKUMYE_ANSWER_KIND(next++) == HASKUMYE_DROP && next == drop + 1); /* evaluated once */
+    CHECK(HASKUMYE_WRITTEN_REFUSAL(6) == HASKUMYE_REFUSAL_OUTPUT && HASKUMYE_WRITTEN_LENGTH(19u << 16) == 19);
+}
+
+static void check_packet_calls(void)
+{
+    static haskumye_parts parts;
+    static haskumye_hash hash;
+    static haskumye_address address;
+    static haskumye_blob blob;
+    static haskumye_text text;
+    static uint8_t output[HASKUMYE_OUTPUT_SIZE];
+    CHECK(haskumye_read(NULL, 0, &parts) == HASKUMYE_REFUSAL_TOO_SHORT);
+    CHECK(haskumye_payload_start(NULL, 0) == 0);
+    CHECK(haskumye_write(&parts, NULL, 0, NULL, 0) == HASKUMYE_REFUSAL_OUTPUT);
+    CHECK(HASKUMYE_WRITTEN_LENGTH(haskumye_write(&parts, NULL, 0, output, sizeof output)) == HASKUMYE_SHORTEST_PACKET);
+    CHECK(haskumye_packet_hash(NULL, 0, &hash) == HASKUMYE_REFUSAL_TOO_SHORT);
+    CHECK(haskumye_link_id(NULL, 0, &address) == HASKUMYE_REFUSAL_TOO_SHORT);
+    CHECK(address.bytes[0] == 0 && hash.bytes[0] == 0);
+    haskumye_announced_destination(NULL, 0, &address);
+    CHECK(haskumye_least_announce(HASKUMYE_PACKET_ANNOUNCE) == 148);
+    CHECK(haskumye_emission(&blob) == 0);
+    CHECK(haskumye_line(NULL, 0, &text) == 10);
+    CHECK(haskumye_sha256(NULL, 0, &hash) == HASKUMYE_REFUSAL_NONE && hash.bytes[0] == 0xe3);
+}
+
+static void check_relay_calls(void)
+{
+    static haskumye_address address;
+    static haskumye_port_map map;
+    static haskumye_tally tally;
+    static uint8_t tables[HASKUMYE_TABLE_SIZE], output[HASKUMYE_OUTPUT_SIZE];
+    CHECK(haskumye_table_size() == HASKUMYE_TABLE_SIZE);
+    CHECK(haskumye_fresh(NULL, 0, &address) == HASKUMYE_REFUSAL_TABLES);
+    CHECK(haskumye_check(NULL, 0) == 0);
+    CHECK(haskumye_set_port(NULL, 0, 0, HASKUMYE_ON, HASKUMYE_MODE_BOUNDARY) == HASKUMYE_REFUSAL_TABLES);
+    CHECK(haskumye_add_local(NULL, 0, &address) == HASKUMYE_REFUSAL_TABLES);
+    CHECK(haskumye_remove_local(NULL, 0, &address) == HASKUMYE_REFUSAL_TABLES);
+    CHECK(haskumye_renumber(NULL, 0, &map) == HASKUMYE_REFUSAL_TABLES);
+    haskumye_answer answer = haskumye_packet(NULL, 0, 0, 0, 0, NULL, 0, NULL, 0, &tally);
+    CHECK(HASKUMYE_ANSWER_REFUSAL(answer) == HASKUMYE_REFUSAL_TABLES);
+    CHECK(haskumye_fresh(tables, sizeof tables, &address) == 0 && haskumye_check(tables, sizeof tables) == 1);
+    CHECK(haskumye_set_port(tables, sizeof tables, 0, HASKUMYE_ON, HASKUMYE_MODE_ROAMING) == 0);
+    answer = haskumye_packet(NULL, 0, 0, 0, 0, tables, sizeof tables, NULL, 0, &tally);
+    CHECK(HASKUMYE_ANSWER_REFUSAL(answer) == HASKUMYE_REFUSAL_OUTPUT);
+    answer = haskumye_packet(NULL, 0, 0, 0, 0, tables, sizeof tables, output, sizeof output, &tally);
+    CHECK(HASKUMYE_ANSWER_REFUSAL(answer) == HASKUMYE_REFUSAL_TOO_SHORT);
+}
+
+/* What must not compile: a field of a number that is no answer, and a call whose refusal is ignored. */
+#ifdef NARROW
+unsigned narrow(void);
+unsigned narrow(void)
+{
+    return HASKUMYE_ANSWER_REFUSAL(haskumye_check(NULL, 0));
+}
+#endif
+#ifdef IGNORED
+void ignored(void);
+void ignored(void)
+{
+    haskumye_sha256(NULL, 0, NULL);
+}
+#endif
+
+int main(void)
+{
+    check_accessors();
+    check_packet_calls();
+    check_relay_calls();
+    printf("%d passed, %d failed\n", passed, failed);
+    return failed == 0 ? 0 : 1;
+}

@@ -1,0 +1,167 @@
+//! The library as `include/haskumye.h` declares it: the one place with its functions, constants and structs in Rust.
+//!
+//! A slice crosses as a pointer and a length; any length is safe. A pointer to an array or struct must be valid and not null. The buffers of
+//! one call must not overlap. A call touches no other byte and keeps no pointer. The tests compare this file with the header and with the
+//! exporting crate.
+
+use crate::{Address, Blob, Hash, PortMap};
+
+/// The version of this interface.
+pub const VERSION: u32 = 1;
+
+/// The bytes of a relay's tables, exactly.
+pub const TABLE_SIZE: usize = 71116;
+/// The least output buffer, however short the packet.
+pub const OUTPUT_SIZE: usize = 500;
+/// The shortest packet; type 2 has 35 bytes at least.
+pub const SHORTEST_PACKET: usize = 19;
+/// The longest packet.
+pub const LONGEST_PACKET: usize = 500;
+/// The longest message that is hashed.
+pub const LONGEST_MESSAGE: usize = 65535;
+/// Ports 0 to 15.
+pub const PORT_COUNT: usize = 16;
+/// How many local addresses a relay has room for.
+pub const LOCAL_COUNT: usize = 16;
+/// The bytes of a line of text.
+pub const TEXT_SIZE: usize = 160;
+/// Every clock, in seconds, is below 2^40.
+pub const CLOCK_LIMIT: u64 = 1099511627776;
+
+/// Where the tables hold the last accepted clock: 8 bytes, big-endian.
+pub const LAST_CLOCK_PLACE: usize = 16;
+
+/// A port is off; every number but [`ON`] is taken so.
+pub const OFF: u8 = 0;
+/// A port is on.
+pub const ON: u8 = 1;
+
+/// The header's bit for a packet behind an access code.
+pub const HEADER_ACCESS_CODE: u8 = 0x80;
+/// The header's bit for type 2: a relay address stands before the destination.
+pub const HEADER_TYPE_2: u8 = 0x40;
+/// The header's context flag: in an announce, it carries a ratchet.
+pub const HEADER_CONTEXT_FLAG: u8 = 0x20;
+/// The header's transport bit: read by `haskumye_line` alone; what is spread has it set.
+pub const HEADER_TRANSPORT: u8 = 0x10;
+
+/// The header's mask for the destination kind.
+pub const DESTINATION_KIND: u8 = 0x0c;
+/// Destination kind single.
+pub const DESTINATION_SINGLE: u8 = 0x00;
+/// Destination kind group.
+pub const DESTINATION_GROUP: u8 = 0x04;
+/// Destination kind plain.
+pub const DESTINATION_PLAIN: u8 = 0x08;
+/// Destination kind link.
+pub const DESTINATION_LINK: u8 = 0x0c;
+
+/// The header's mask for the packet kind.
+pub const PACKET_KIND: u8 = 0x03;
+/// Packet kind data.
+pub const PACKET_DATA: u8 = 0x00;
+/// Packet kind announce.
+pub const PACKET_ANNOUNCE: u8 = 0x01;
+/// Packet kind link request.
+pub const PACKET_LINK_REQUEST: u8 = 0x02;
+/// Packet kind proof.
+pub const PACKET_PROOF: u8 = 0x03;
+
+/// A proof of kind link with this context is a link proof.
+pub const CONTEXT_LINK_PROOF: u8 = 0xff;
+
+/// Where an announce's payload has its keys: X25519, then Ed25519.
+pub const ANNOUNCE_KEYS: usize = 0;
+/// Where it has its name hash.
+pub const ANNOUNCE_NAME_HASH: usize = 64;
+/// Where it has its blob: five random bytes, five of emission time.
+pub const ANNOUNCE_BLOB: usize = 74;
+/// Where its blob has the emission time: five bytes, big-endian.
+pub const ANNOUNCE_EMISSION: usize = 79;
+
+/// What a call returns that refuses nothing.
+pub const REFUSAL_NONE: u8 = 0;
+
+/// An answer's kind: refused.
+pub const REFUSED: u8 = 0;
+/// An answer's kind: drop.
+pub const DROP: u8 = 1;
+/// An answer's kind: deliver.
+pub const DELIVER: u8 = 2;
+/// An answer's kind: forward.
+pub const FORWARD: u8 = 3;
+/// An answer's kind: spread.
+pub const SPREAD: u8 = 4;
+/// An answer's kind: kept.
+pub const KEPT: u8 = 5;
+
+/// The parts of a packet. In type 1 the relay address reads as zeros, and writing ignores it.
+#[repr(C)]
+#[derive(Clone, Copy, Debug, Default, PartialEq, Eq)]
+pub struct Parts {
+    /// The header byte.
+    pub header: u8,
+    /// How many relays the packet has passed.
+    pub hops: u8,
+    /// The relay that type 2 asks to carry the packet.
+    pub relay: Address,
+    /// The destination.
+    pub destination: Address,
+    /// The context byte.
+    pub context: u8,
+}
+
+/// The packet calls since fresh, each count modulo 2^32.
+#[repr(C)]
+#[derive(Clone, Copy, Debug, Default, PartialEq, Eq)]
+pub struct Tally {
+    /// All that were not refused.
+    pub total: u32,
+    /// Those that were dropped.
+    pub dropped: u32,
+    /// Those that were delivered.
+    pub delivered: u32,
+    /// Those that were forwarded.
+    pub forwarded: u32,
+    /// Those that were spread.
+    pub spread: u32,
+    /// Those that were kept.
+    pub kept: u32,
+}
+
+/// A line of text. Zeros fill what is left, one at least.
+pub type Text = [u8; TEXT_SIZE];
+
+#[allow(missing_docs)] // the header has the comments
+extern "C" {
+    pub fn haskumye_table_size() -> usize;
+    pub fn haskumye_fresh(tables: *mut u8, length: usize, own: *const Address) -> u8;
+    pub fn haskumye_check(tables: *const u8, length: usize) -> u8;
+    pub fn haskumye_set_port(tables: *mut u8, length: usize, port: u64, on: u8, mode: u64) -> u8;
+    pub fn haskumye_add_local(tables: *mut u8, length: usize, address: *const Address) -> u8;
+    pub fn haskumye_remove_local(tables: *mut u8, length: usize, address: *const Address) -> u8;
+    pub fn haskumye_renumber(tables: *mut u8, length: usize, map: *const PortMap) -> u8;
+    pub fn haskumye_packet(
+        packet: *const u8,
+        length: usize,
+        port: u64,
+        clock: u64,
+        signed_well: u8,
+        tables: *mut u8,
+        size: usize,
+        output: *mut u8,
+        room: usize,
+        tally: *mut Tally,
+    ) -> u64;
+
+    pub fn haskumye_read(packet: *const u8, length: usize, parts: *mut Parts) -> u8;
+    pub fn haskumye_payload_start(packet: *const u8, length: usize) -> usize;
+    pub fn haskumye_write(parts: *const Parts, payload: *const u8, length: usize, output: *mut u8, room: usize) -> u64;
+    pub fn haskumye_packet_hash(packet: *const u8, length: usize, hash: *mut Hash) -> u8;
+    pub fn haskumye_link_id(packet: *const u8, length: usize, id: *mut Address) -> u8;
+    pub fn haskumye_announced_destination(payload: *const u8, length: usize, destination: *mut Address);
+    pub fn haskumye_least_announce(header: u8) -> usize;
+    pub fn haskumye_emission(blob: *const Blob) -> u64;
+    pub fn haskumye_line(packet: *const u8, length: usize, text: *mut Text) -> usize;
+    pub fn haskumye_sha256(message: *const u8, length: usize, out: *mut Hash) -> u8;
+}

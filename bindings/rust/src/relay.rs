@@ -1,0 +1,105 @@
+//! A relay: its tables and its tally, and the calls on them.
+
+use crate::answer::{done, judged, Mode, Refusal, Verdict};
+use crate::raw::{self, Tally, TABLE_SIZE};
+use crate::{Address, PortMap};
+
+// SAFETY of every call below: what crosses is a borrow, as `raw` asks, and borrows do not overlap.
+
+/// A relay, which owns its tables and its tally.
+///
+/// Calls on one relay are made one at a time, which `&mut self` ensures. A refused call changes nothing.
+///
+/// ```
+/// use haskumye::{Mode, Reason, Refusal, Relay, Verdict, OUTPUT_SIZE};
+///
+/// let mut relay = Relay::fresh(&[0x0a; 16]);
+/// relay.set_port(3, true, Mode::Boundary)?;
+/// relay.add_local(&[0x2a; 16])?;
+///
+/// // Data of type 1 for a local address: header, hops, destination, context, payload.
+/// let packet = [&[0x00, 0x00][..], &[0x2a; 16], &[0x00], b"42 plants"].concat();
+/// let mut output = [0; OUTPUT_SIZE];
+/// assert_eq!(relay.packet(&packet, 3, 1_000, false, &mut output)?, Verdict::Deliver);
+/// assert_eq!(haskumye::payload(&packet), b"42 plants");
+///
+/// // The same again is a duplicate, and a port that is off is refused.
+/// assert_eq!(relay.packet(&packet, 3, 1_001, false, &mut output)?, Verdict::Drop(Reason::Duplicate));
+/// assert_eq!(relay.packet(&packet, 4, 1_002, false, &mut output), Err(Refusal::ArrivalPort));
+/// assert_eq!(relay.tally().total, 2);
+/// # Ok::<(), Refusal>(())
+/// ```
+#[derive(Clone, PartialEq, Eq)]
+pub struct Relay {
+    tables: Box<[u8]>, // TABLE_SIZE bytes that refusal 7 does not name
+    tally: Tally,
+}
+
+impl Relay {
+    /// A fresh relay: its own address, every port off and boundary, clock 0, all else empty.
+    pub fn fresh(own: &Address) -> Self {
+        let mut tables = vec![0; TABLE_SIZE].into_boxed_slice();
+        let refused = unsafe { raw::haskumye_fresh(tables.as_mut_ptr(), tables.len(), own) };
+        done(refused).expect("a fresh relay is refused only for the size of its tables");
+        Self { tables, tally: Tally::default() }
+    }
+
+    /// The relay of tables and a tally that [`tables`](Self::tables) and [`tally`](Self::tally) gave. Refusal 7 where no relay has such
+    /// tables.
+    pub fn from_tables(tables: &[u8], tally: Tally) -> Result<Self, Refusal> {
+        match unsafe { raw::haskumye_check(tables.as_ptr(), tables.len()) } {
+            1 => Ok(Self { tables: tables.into(), tally }),
+            _ => Err(Refusal::Tables),
+        }
+    }
+
+    /// Judges a packet that came in by a port at a clock, in seconds. `signature` is the host's word on its signature, which is read only for
+    /// announces and link proofs. What leaves stands at the output's start, and all other bytes of the output stay.
+    pub fn packet(&mut self, packet: &[u8], port: u8, clock: u64, signature: bool, output: &mut [u8]) -> Result<Verdict, Refusal> {
+        let (size, room) = (self.tables.len(), output.len());
+        let (tables, output) = (self.tables.as_mut_ptr(), output.as_mut_ptr());
+        let (port, signature) = (port.into(), signature.into());
+        judged(unsafe {
+            raw::haskumye_packet(packet.as_ptr(), packet.len(), port, clock, signature, tables, size, output, room, &mut self.tally)
+        })
+    }
+
+    /// Sets a port on or off, and its mode. Records that name the port stay. Refusal 9 for a port over 15.
+    pub fn set_port(&mut self, port: u8, on: bool, mode: Mode) -> Result<(), Refusal> {
+        let (port, on, mode) = (port.into(), on.into(), mode.number().into());
+        done(unsafe { raw::haskumye_set_port(self.tables.as_mut_ptr(), self.tables.len(), port, on, mode) })
+    }
+
+    /// Adds an address whose packets are delivered here. Refusal 11 where it is there already, 10 for a 17th.
+    pub fn add_local(&mut self, address: &Address) -> Result<(), Refusal> {
+        done(unsafe { raw::haskumye_add_local(self.tables.as_mut_ptr(), self.tables.len(), address) })
+    }
+
+    /// Removes one. Refusal 11 where it is not there.
+    pub fn remove_local(&mut self, address: &Address) -> Result<(), Refusal> {
+        done(unsafe { raw::haskumye_remove_local(self.tables.as_mut_ptr(), self.tables.len(), address) })
+    }
+
+    /// Renumbers the ports while the relay runs: port i becomes port `map[i]`, in every record, and its settings move with it. Nothing is
+    /// forgotten. Refusal 8 where the map is not one-to-one on 0..15.
+    pub fn renumber(&mut self, map: &PortMap) -> Result<(), Refusal> {
+        done(unsafe { raw::haskumye_renumber(self.tables.as_mut_ptr(), self.tables.len(), map) })
+    }
+
+    /// The packet calls since fresh.
+    pub fn tally(&self) -> &Tally {
+        &self.tally
+    }
+
+    /// The tables' bytes; docs/LAYOUT.md says what lies where.
+    pub fn tables(&self) -> &[u8] {
+        &self.tables
+    }
+}
+
+/// The tally stands for the 71,116 bytes.
+impl std::fmt::Debug for Relay {
+    fn fmt(&self, f: &mut std::fmt::Formatter) -> std::fmt::Result {
+        f.debug_struct("Relay").field("tally", &self.tally).finish_non_exhaustive()
+    }
+}

@@ -1,0 +1,280 @@
+//! The header, the Rust declarations and the exporting crate declare one interface; and a damaged text of any of them is seen.
+
+mod header;
+mod model;
+mod rust;
+mod text;
+
+use haskumye::{Mode, Reason, Refusal};
+use model::{constants_differ, functions_differ, structs_differ, Interface};
+use std::path::{Path, PathBuf};
+
+/// The texts of the three sources.
+#[derive(Clone)]
+struct Texts {
+    header: String,
+    rust: String,
+    rattle: String,
+}
+
+fn root() -> PathBuf {
+    Path::new(env!("CARGO_MANIFEST_DIR")).join("../..")
+}
+
+fn text(path: &str) -> String {
+    std::fs::read_to_string(root().join(path)).unwrap_or_else(|error| panic!("{path}: {error}"))
+}
+
+/// The Rattle files of a folder, one after another.
+fn rattle_texts(folder: &str) -> String {
+    let mut paths: Vec<PathBuf> = std::fs::read_dir(root().join(folder)).expect(folder).map(|entry| entry.expect(folder).path()).collect();
+    paths.retain(|path| path.extension().is_some_and(|extension| extension == "rt"));
+    paths.sort();
+    paths.iter().map(|path| std::fs::read_to_string(path).expect("a source that reads")).collect()
+}
+
+impl Texts {
+    fn read() -> Self {
+        Self {
+            header: text("include/haskumye.h"),
+            rust: text("bindings/rust/src/lib.rs") + &text("bindings/rust/src/raw.rs"),
+            rattle: text("crates/rules/src/lib.rt") + &rattle_texts("crates/haskumye/src"),
+        }
+    }
+
+    /// Every difference, one a line.
+    fn differences(&self) -> String {
+        let header = header::read("the header", &self.header);
+        let rust = with_enums(rust::read("Rust", rust::IN_RUST, &self.rust));
+        let rattle = rust::read("the crate", rust::IN_RATTLE, &self.rattle);
+        let mut lines = functions_differ(&header, &rust);
+        lines.extend(functions_differ(&header, &rattle));
+        lines.extend(functions_differ(&rust, &rattle));
+        lines.extend(constants_differ(&header, &rust));
+        lines.extend(structs_differ(&named_as_in_rust(&header), &rust, &["Parts", "Tally"]));
+        lines.extend(structs_differ(&rust, &rattle, &["Tally"]));
+        lines.join("\n")
+    }
+
+    /// The same with one place changed, which must be there once.
+    fn damaged(&self, source: fn(&mut Self) -> &mut String, from: &str, to: &str) -> Self {
+        let mut texts = self.clone();
+        let text = source(&mut texts);
+        assert_eq!(text.matches(from).count(), 1, "{from:?}");
+        *text = text.replace(from, to);
+        texts
+    }
+}
+
+/// Rust's numbered enums as the compiler has them, by the header's names.
+fn with_enums(mut rust: Interface) -> Interface {
+    let refusals = Refusal::ALL.iter().map(|case| (format!("Refusal{case:?}"), case.number()));
+    let reasons = Reason::ALL.iter().map(|case| (format!("Reason{case:?}"), case.number()));
+    let modes = Mode::ALL.iter().map(|case| (format!("Mode{case:?}"), case.number()));
+    for (name, number) in refusals.chain(reasons).chain(modes) {
+        let words = name.chars().flat_map(|sign| sign.is_uppercase().then_some('_').into_iter().chain([sign.to_ascii_uppercase()]));
+        rust.constants.insert(format!("HASKUMYE{}", words.collect::<String>()), number.into());
+    }
+    rust
+}
+
+/// haskumye_parts becomes Parts.
+fn named_as_in_rust(header: &Interface) -> Interface {
+    let mut renamed = header.clone();
+    for (c, rust) in [("haskumye_parts", "Parts"), ("haskumye_tally", "Tally")] {
+        renamed.structs.extend(header.structs.get(c).map(|fields| (rust.into(), fields.clone())));
+    }
+    renamed
+}
+
+const HEADER: fn(&mut Texts) -> &mut String = |texts| &mut texts.header;
+const RUST: fn(&mut Texts) -> &mut String = |texts| &mut texts.rust;
+const RATTLE: fn(&mut Texts) -> &mut String = |texts| &mut texts.rattle;
+
+/// A text to damage, what becomes of it, and a line that must be among the differences.
+type Damage = (fn(&mut Texts) -> &mut String, &'static str, &'static str, &'static str);
+
+fn assert_seen(damages: &[Damage]) {
+    let texts = Texts::read();
+    for (source, from, to, line) in damages {
+        let differences = texts.damaged(*source, from, to).differences();
+        assert!(differences.lines().any(|seen| seen == *line), "{from:?} became {to:?}, expected\n{line}\nseen\n{differences}");
+    }
+}
+
+#[test]
+fn the_three_agree() {
+    assert_eq!(Texts::read().differences(), "");
+}
+
+#[test]
+fn something_is_compared() {
+    let texts = Texts::read();
+    let header = header::read("the header", &texts.header);
+    assert_eq!((header.functions.len(), header.structs.len()), (18, 7));
+    assert_eq!(header.functions["haskumye_packet"].arguments.len(), 10);
+    assert_eq!(header.constants.len(), 67);
+}
+
+#[test]
+fn a_missing_function_is_seen() {
+    let check = "uint8_t haskumye_check(const uint8_t *tables, size_t length);";
+    assert_seen(&[
+        (HEADER, check, "", "haskumye_check is missing in the header"),
+        (RUST, "pub fn haskumye_check(tables: *const u8, length: usize) -> u8;", "", "haskumye_check is missing in Rust"),
+        (RATTLE, "#[no_mangle]\npub extern \"C\" fn haskumye_check", "pub fn haskumye_check", "haskumye_check is missing in the crate"),
+        (HEADER, check, "void haskumye_new(void);", "haskumye_new is missing in the crate"),
+    ]);
+}
+
+#[test]
+fn swapped_and_missing_arguments_are_seen() {
+    assert_seen(&[
+        (
+            HEADER,
+            "uint64_t port, uint64_t clock",
+            "uint64_t clock, uint64_t port",
+            "haskumye_packet: argument 3 is `clock: u64` in the header, `port: u64` in the crate",
+        ),
+        (
+            RUST,
+            "port: u64, on: u8, mode: u64",
+            "mode: u64, on: u8, port: u64",
+            "haskumye_set_port: argument 3 is `port: u64` in the header, `mode: u64` in Rust",
+        ),
+        (
+            RATTLE,
+            "tables: &mut [u8],\n    output: &mut [u8],\n    tally: &mut Tally,",
+            "output: &mut [u8],\n    tables: &mut [u8],\n    tally: &mut Tally,",
+            "haskumye_packet: argument 6 is `tables: mut bytes` in the header, `output: mut bytes` in the crate",
+        ),
+        (
+            RATTLE,
+            "tables: &mut [u8], port: u64, on: u8, mode: u64",
+            "tables: &mut [u8], port: u64, on: u8",
+            "haskumye_set_port: the number of arguments is `5` in the header, `4` in the crate",
+        ),
+    ]);
+}
+
+#[test]
+fn widths_are_seen() {
+    assert_seen(&[
+        (HEADER, "uint8_t on,", "uint16_t on,", "haskumye_set_port: argument 4 is `on: u16` in the header, `on: u8` in Rust"),
+        (
+            HEADER,
+            "uint8_t haskumye_check",
+            "uint32_t haskumye_check",
+            "haskumye_check: what it returns is `u32` in the header, `u8` in the crate",
+        ),
+        (
+            RUST,
+            "haskumye_least_announce(header: u8) -> usize",
+            "haskumye_least_announce(header: u8) -> u64",
+            "haskumye_least_announce: what it returns is `size` in the header, `u64` in Rust",
+        ),
+        (
+            RATTLE,
+            "haskumye_least_announce(header: u8)",
+            "haskumye_least_announce(header: u64)",
+            "haskumye_least_announce: argument 1 is `header: u8` in Rust, `header: u64` in the crate",
+        ),
+    ]);
+}
+
+#[test]
+fn const_and_mut_are_told_apart() {
+    assert_seen(&[
+        (
+            HEADER,
+            "const haskumye_port_map *map",
+            "haskumye_port_map *map",
+            "haskumye_renumber: argument 3 is `map: mut 16 of u8` in the header, `map: const 16 of u8` in the crate",
+        ),
+        (
+            RUST,
+            "haskumye_payload_start(packet: *const u8",
+            "haskumye_payload_start(packet: *mut u8",
+            "haskumye_payload_start: argument 1 is `packet: const bytes` in the header, `packet: mut bytes` in Rust",
+        ),
+        (
+            RATTLE,
+            "haskumye_check(tables: &[u8])",
+            "haskumye_check(tables: &mut [u8])",
+            "haskumye_check: argument 1 is `tables: const bytes` in the header, `tables: mut bytes` in the crate",
+        ),
+    ]);
+}
+
+#[test]
+fn lengths_of_blocks_are_seen() {
+    assert_seen(&[
+        (
+            HEADER,
+            "uint8_t to[16];",
+            "uint8_t to[15];",
+            "haskumye_renumber: argument 3 is `map: const 15 of u8` in the header, `map: const 16 of u8` in the crate",
+        ),
+        (
+            RUST,
+            "pub type Blob = [u8; 10];",
+            "pub type Blob = [u8; 11];",
+            "haskumye_emission: argument 1 is `blob: const 10 of u8` in the header, `blob: const 11 of u8` in Rust",
+        ),
+        (
+            RUST,
+            "pub type Text = [u8; TEXT_SIZE];",
+            "pub type Text = [u8; OUTPUT_SIZE];",
+            "haskumye_line: argument 3 is `text: mut 160 of u8` in the header, `text: mut 500 of u8` in Rust",
+        ),
+        (
+            RATTLE,
+            "parts: &mut [u8; 35]",
+            "parts: &mut [u8; 36]",
+            "haskumye_read: argument 3 is `parts: mut 35 of u8` in Rust, `parts: mut 36 of u8` in the crate",
+        ),
+        (
+            HEADER,
+            "    uint32_t kept;\n",
+            "",
+            "haskumye_packet: argument 10 is `tally: mut 5 of u32` in the header, `tally: mut 6 of u32` in the crate",
+        ),
+    ]);
+}
+
+#[test]
+fn fields_in_another_order_are_seen() {
+    let texts = Texts::read();
+    let swaps: [Damage; 3] = [
+        (HEADER, "uint32_t total;\n    uint32_t dropped;", "uint32_t dropped;\n    uint32_t total;", "Tally is"),
+        (RATTLE, "pub spread: u32,\n    pub kept: u32,", "pub kept: u32,\n    pub spread: u32,", "Tally is"),
+        (
+            HEADER,
+            "haskumye_address relay;\n    haskumye_address destination;",
+            "haskumye_address destination;\n    haskumye_address relay;",
+            "Parts is",
+        ),
+    ];
+    for (source, from, to, start) in swaps {
+        let differences = texts.damaged(source, from, to).differences();
+        assert!(differences.lines().any(|line| line.starts_with(start)), "{from:?}: {differences}");
+    }
+}
+
+#[test]
+fn constants_are_compared() {
+    assert_seen(&[
+        (HEADER, "HASKUMYE_OUTPUT_SIZE 500", "HASKUMYE_OUTPUT_SIZE 501", "HASKUMYE_OUTPUT_SIZE is 501 in the header, 500 in Rust"),
+        (HEADER, "HASKUMYE_REFUSAL_MAP = 8", "HASKUMYE_REFUSAL_MAP = 9", "HASKUMYE_REFUSAL_MAP is 9 in the header, 8 in Rust"),
+        (HEADER, "HASKUMYE_REASON_NO_ROOM = 13,", "", "HASKUMYE_REASON_NO_ROOM is missing in the header"),
+        (HEADER, "#define HASKUMYE_PACKET_DATA 0x00", "", "HASKUMYE_PACKET_DATA is missing in the header"),
+        (
+            HEADER,
+            "UINT64_C(1099511627776)",
+            "UINT64_C(1099511627775)",
+            "HASKUMYE_CLOCK_LIMIT is 1099511627775 in the header, 1099511627776 in Rust",
+        ),
+        (RUST, "pub const KEPT: u8 = 5;", "pub const KEPT: u8 = 6;", "HASKUMYE_KEPT is 5 in the header, 6 in Rust"),
+        (RUST, "pub const LOCAL_COUNT: usize = 16;", "", "HASKUMYE_LOCAL_COUNT is missing in Rust"),
+    ]);
+}

@@ -1,0 +1,154 @@
+//! A relay through the library: each verdict, each refusal, and a receipt that comes home after a renumbering.
+
+use haskumye::raw::{DESTINATION_PLAIN, HEADER_ACCESS_CODE, HEADER_TRANSPORT, HEADER_TYPE_2, PACKET_ANNOUNCE, PACKET_PROOF};
+use haskumye::*;
+
+const OWN: Address = [0x0a; 16];
+const REVERSED: PortMap = [15, 14, 13, 12, 11, 10, 9, 8, 7, 6, 5, 4, 3, 2, 1, 0];
+
+/// A relay whose first ports are on.
+fn relay(ports: u8) -> Relay {
+    let mut relay = Relay::fresh(&OWN);
+    for port in 0..ports {
+        relay.set_port(port, true, Mode::Boundary).unwrap();
+    }
+    relay
+}
+
+fn packet(parts: Parts, payload: &[u8]) -> Vec<u8> {
+    let mut output = [0; OUTPUT_SIZE];
+    let length = write(&parts, payload, &mut output).unwrap();
+    output[..length].to_vec()
+}
+
+/// An announce that was emitted at a time, and the destination that it announces.
+fn announce(emission: u8) -> (Vec<u8>, Address) {
+    let mut payload = [0x5a; 148];
+    payload[79..84].copy_from_slice(&[0, 0, 0, 0, emission]);
+    let destination = announced_destination(&payload);
+    (packet(Parts { header: PACKET_ANNOUNCE, destination, ..Parts::default() }, &payload), destination)
+}
+
+/// Data that asks us to carry it to a destination.
+fn data(destination: Address, payload: &[u8]) -> Vec<u8> {
+    packet(Parts { header: HEADER_TYPE_2 | HEADER_TRANSPORT, relay: OWN, destination, ..Parts::default() }, payload)
+}
+
+/// The receipt for a packet.
+fn receipt(packet_sent: &[u8]) -> Vec<u8> {
+    let destination = packet_hash(packet_sent).unwrap()[..16].try_into().unwrap();
+    packet(Parts { header: PACKET_PROOF, destination, ..Parts::default() }, &[0; 64])
+}
+
+#[test]
+fn an_announce_spreads_or_is_kept() {
+    let (announce, destination) = announce(1);
+    let mut output = [0xee; OUTPUT_SIZE + 7];
+    let ports = PortSet::from_bits(0b101);
+    assert_eq!(relay(3).packet(&announce, 1, 0, true, &mut output), Ok(Verdict::Spread { ports, length: 183 }));
+    let parts = read(&output[..183]).unwrap();
+    assert_eq!((parts.hops, parts.relay, parts.destination), (1, OWN, destination));
+    assert!(output[183..].iter().all(|byte| *byte == 0xee));
+    assert_eq!(relay(1).packet(&announce, 0, 0, true, &mut output), Ok(Verdict::Kept));
+}
+
+#[test]
+fn the_signature_word_counts() {
+    let mut relay = relay(2);
+    let answer = relay.packet(&announce(1).0, 0, 0, false, &mut [0; OUTPUT_SIZE]);
+    assert_eq!(answer, Ok(Verdict::Drop(Reason::NotSigned)));
+}
+
+#[test]
+fn the_tally_counts_answers() {
+    let mut relay = relay(2);
+    relay.add_local(&[0x2a; 16]).unwrap();
+    let (announce, destination) = announce(1);
+    let local = packet(Parts { header: DESTINATION_PLAIN, destination: [0x2a; 16], ..Parts::default() }, b"count");
+    let calls = [(&announce, 1), (&announce, 0), (&data(destination, b"count"), 0), (&local, 0), (&local[..18].to_vec(), 0)];
+    for (clock, (packet, port)) in (0..).zip(calls) {
+        let _ = relay.packet(packet, port, clock, true, &mut [0; OUTPUT_SIZE]);
+    }
+    assert_eq!(*relay.tally(), Tally { total: 4, dropped: 1, delivered: 1, forwarded: 1, spread: 1, kept: 0 });
+}
+
+/// What the relay answers to a receipt after something was done to it, and by which port the receipt came.
+fn receipt_after(change: impl Fn(&mut Relay), port: u8) -> Result<Verdict, Refusal> {
+    let (mut relay, mut output) = (relay(16), [0; OUTPUT_SIZE]);
+    let (announce, destination) = announce(1);
+    relay.packet(&announce, 2, 0, true, &mut output)?;
+    let data = data(destination, b"42 plants");
+    assert_eq!(relay.packet(&data, 5, 1, false, &mut output), Ok(Verdict::Forward { port: 2, length: 28 }));
+    change(&mut relay);
+    relay.packet(&receipt(&data), port, 2, false, &mut output)
+}
+
+#[test]
+fn renumbering_keeps_the_receipt() {
+    let home = |port| Ok(Verdict::Forward { port, length: 83 });
+    assert_eq!(receipt_after(|_| (), 2), home(5));
+    assert_eq!(receipt_after(|relay| relay.renumber(&REVERSED).unwrap(), 13), home(10));
+    let twice = |relay: &mut Relay| (0..2).for_each(|_| relay.renumber(&REVERSED).unwrap());
+    assert_eq!(receipt_after(twice, 2), home(5));
+}
+
+#[test]
+fn emptied_tables_lose_it() {
+    assert_eq!(receipt_after(|relay| *relay = self::relay(16), 13), Ok(Verdict::Drop(Reason::NoWayOn)));
+}
+
+/// The refusals of packet calls, in the order of their numbers.
+#[test]
+fn packets_are_refused() {
+    let mut relay = relay(1);
+    let good = data([0x2a; 16], b"");
+    let coded: Vec<u8> = [&[HEADER_ACCESS_CODE][..], &good[1..]].concat();
+    relay.packet(&good, 0, 1_000, false, &mut [0; OUTPUT_SIZE]).unwrap();
+    let before = relay.clone();
+    let long = [0; LONGEST_PACKET + 1];
+    let calls: [(&[u8], u8, u64, usize, Refusal); 8] = [
+        (&good[..34], 0, 1_000, OUTPUT_SIZE, Refusal::TooShort),
+        (&long, 0, 1_000, OUTPUT_SIZE, Refusal::TooLong),
+        (&coded, 0, 1_000, OUTPUT_SIZE, Refusal::AccessCode),
+        (&good, 1, 1_000, OUTPUT_SIZE, Refusal::ArrivalPort),
+        (&good, 255, 1_000, OUTPUT_SIZE, Refusal::ArrivalPort),
+        (&good, 0, 999, OUTPUT_SIZE, Refusal::Clock),
+        (&good, 0, CLOCK_LIMIT, OUTPUT_SIZE, Refusal::Clock),
+        (&good, 0, 1_000, OUTPUT_SIZE - 1, Refusal::Output),
+    ];
+    for (packet, port, clock, room, refusal) in calls {
+        let mut output = vec![0xee; room];
+        assert_eq!(relay.packet(packet, port, clock, true, &mut output), Err(refusal));
+        assert!(output.iter().all(|byte| *byte == 0xee), "{refusal}");
+        assert!(relay == before, "{refusal}");
+    }
+}
+
+#[test]
+fn settings_are_refused() {
+    let mut relay = relay(1);
+    let address = |number| [number; 16];
+    for number in 0..16 {
+        relay.add_local(&address(number)).unwrap();
+    }
+    let before = relay.clone();
+    assert_eq!(relay.renumber(&[0; 16]), Err(Refusal::Map));
+    assert_eq!(relay.set_port(16, true, Mode::Roaming), Err(Refusal::Setting));
+    assert_eq!(relay.add_local(&address(16)), Err(Refusal::LocalFull));
+    assert_eq!(relay.add_local(&address(15)), Err(Refusal::LocalAddress));
+    assert_eq!(relay.remove_local(&address(16)), Err(Refusal::LocalAddress));
+    assert!(relay == before);
+    relay.remove_local(&address(7)).unwrap();
+    relay.add_local(&address(16)).unwrap();
+}
+
+#[test]
+fn tables_go_out_and_come_in_again() {
+    let relay = relay(5);
+    let tables = relay.tables();
+    assert_eq!(Relay::from_tables(tables, *relay.tally()), Ok(relay.clone()));
+    assert_eq!(Relay::from_tables(&tables[1..], Tally::default()), Err(Refusal::Tables));
+    let mut bad = tables.to_vec();
+    bad[24] = 2; // the mark of port 0: neither on nor off
+    assert_eq!(Relay::from_tables(&bad, Tally::default()), Err(Refusal::Tables));
+}

@@ -1,0 +1,307 @@
+/*
+ * Haskumye: the proved deciding core of a Reticulum relay, for a host in C or C++.
+ *
+ * A relay is one buffer, its tables, and one tally. The host owns both; the core allocates nothing, keeps nothing
+ * between calls and calls nothing but memcpy, memmove and memset. docs/HOST.md embeds it step by step;
+ * docs/scope/01-scope.md ("document 01") has the rules.
+ *
+ * Buffers. A buffer is a pointer and a length, of any alignment. Any length is safe, 0 too, and then the pointer may
+ * be NULL. Where a struct stands instead, its size is fixed and its pointer must not be NULL. The buffers of one call
+ * must not overlap. A call reads and writes only the buffers it is given, and keeps no pointer to them.
+ *
+ * Refusals. A refused call returns the refusal's number and changes nothing: no byte of tables, tally, output or
+ * answer struct. Every value of every number is safe; one that document 01 does not allow is refused, but for `on` and
+ * `signed_well`: there 1 is yes, and every other value is no.
+ *
+ * Threads. Calls on one relay's tables are made one at a time. Calls on different relays may run side by side.
+ *
+ * The host's own work:
+ * - signatures: Ed25519, of announces and link proofs; the core takes the host's word, and reads it only for those
+ *   (section 9 of docs/HOST.md has what is signed, and with whose key);
+ * - access codes: a packet behind one (header bit 7) is refused by 3: take the code off first, put one on what leaves;
+ * - framing: a call takes one whole packet, and what leaves is one whole packet for each port named;
+ * - timers: nothing happens by itself. The clock comes with each packet, and an expired record counts as none;
+ * - encryption, links that end at this relay, and receipts for its own packets.
+ */
+#ifndef HASKUMYE_H
+#define HASKUMYE_H
+
+#include <stddef.h>
+#include <stdint.h>
+
+#ifdef __cplusplus
+#define HASKUMYE_ASSERT_SIZE(type, size) static_assert(sizeof(type) == (size), #type " has padding")
+extern "C" {
+#else
+#define HASKUMYE_ASSERT_SIZE(type, size) _Static_assert(sizeof(type) == (size), #type " has padding")
+#endif
+
+/* Marks a call whose result may be a refusal: the compiler warns where it is ignored. */
+#if defined(__cplusplus) && __cplusplus >= 201703L
+#define HASKUMYE_CHECKED [[nodiscard]]
+#elif defined(__GNUC__)
+#define HASKUMYE_CHECKED __attribute__((warn_unused_result))
+#else
+#define HASKUMYE_CHECKED
+#endif
+
+#define HASKUMYE_VERSION 1 /* of this interface: it rises where a host has to be changed or compiled again */
+
+/* Sizes, in bytes unless another unit is named. */
+#define HASKUMYE_TABLE_SIZE 71116 /* a relay's tables, exactly; haskumye_table_size() says the same */
+#define HASKUMYE_OUTPUT_SIZE 500  /* the least output buffer, however short the packet */
+#define HASKUMYE_SHORTEST_PACKET 19 /* 35 in type 2 */
+#define HASKUMYE_LONGEST_PACKET 500
+#define HASKUMYE_LONGEST_MESSAGE 65535 /* for haskumye_sha256 */
+#define HASKUMYE_PORT_COUNT 16  /* ports 0 to 15 */
+#define HASKUMYE_LOCAL_COUNT 16 /* local addresses */
+#define HASKUMYE_TEXT_SIZE 160  /* a line of haskumye_line */
+#define HASKUMYE_CLOCK_LIMIT UINT64_C(1099511627776) /* seconds: every clock is below 2^40 */
+
+/* Where the tables hold the last accepted clock: 8 bytes, big-endian. After a restart the clock goes on from there. */
+#define HASKUMYE_LAST_CLOCK_PLACE 16
+
+/* Whether a port carries packets. */
+#define HASKUMYE_OFF 0
+#define HASKUMYE_ON 1
+
+/* A port's mode, which decides how long a path through it lives. */
+enum haskumye_mode {
+    HASKUMYE_MODE_BOUNDARY = 0,     /* 604,800 s */
+    HASKUMYE_MODE_ACCESS_POINT = 1, /* 86,400 s */
+    HASKUMYE_MODE_ROAMING = 2       /* 21,600 s */
+};
+
+/* The header byte: bits 7 to 4, then the destination kind in bits 3 and 2, then the packet kind in bits 1 and 0. */
+#define HASKUMYE_HEADER_ACCESS_CODE 0x80
+#define HASKUMYE_HEADER_TYPE_2 0x40       /* a relay address stands before the destination */
+#define HASKUMYE_HEADER_CONTEXT_FLAG 0x20 /* in an announce: it carries a ratchet */
+#define HASKUMYE_HEADER_TRANSPORT 0x10    /* read by haskumye_line alone; what is spread has it set */
+
+#define HASKUMYE_DESTINATION_KIND 0x0c /* the mask of the next four */
+#define HASKUMYE_DESTINATION_SINGLE 0x00
+#define HASKUMYE_DESTINATION_GROUP 0x04
+#define HASKUMYE_DESTINATION_PLAIN 0x08
+#define HASKUMYE_DESTINATION_LINK 0x0c
+
+#define HASKUMYE_PACKET_KIND 0x03 /* the mask of the next four */
+#define HASKUMYE_PACKET_DATA 0x00
+#define HASKUMYE_PACKET_ANNOUNCE 0x01
+#define HASKUMYE_PACKET_LINK_REQUEST 0x02
+#define HASKUMYE_PACKET_PROOF 0x03
+
+#define HASKUMYE_CONTEXT_LINK_PROOF 0xff /* a proof of kind link with this context is a link proof */
+
+/*
+ * Where an announce's payload has its parts: two keys of 32 bytes (X25519, then Ed25519), a name hash of 10, and a blob
+ * of 10, which is five random bytes and the emission time in seconds, five bytes, big-endian. Behind the blob come the
+ * ratchet (32 bytes, with the context flag alone), the signature (64) and the application's data.
+ */
+#define HASKUMYE_ANNOUNCE_KEYS 0
+#define HASKUMYE_ANNOUNCE_NAME_HASH 64
+#define HASKUMYE_ANNOUNCE_BLOB 74
+#define HASKUMYE_ANNOUNCE_EMISSION 79
+
+/* The numbered refusals. Calls that return a plain number return one of these. */
+enum haskumye_refusal {
+    HASKUMYE_REFUSAL_NONE = 0,
+    HASKUMYE_REFUSAL_TOO_SHORT = 1,     /* a packet under 19 bytes, or type 2 under 35 */
+    HASKUMYE_REFUSAL_TOO_LONG = 2,      /* a packet over 500 bytes, or a message over 65,535 */
+    HASKUMYE_REFUSAL_ACCESS_CODE = 3,   /* the access code bit is set */
+    HASKUMYE_REFUSAL_ARRIVAL_PORT = 4,  /* the arrival port is over 15, or off */
+    HASKUMYE_REFUSAL_CLOCK = 5,         /* the clock is 2^40 or more, or below the last accepted one */
+    HASKUMYE_REFUSAL_OUTPUT = 6,        /* the output buffer is under 500 bytes */
+    HASKUMYE_REFUSAL_TABLES = 7,        /* the tables' length is wrong, or no relay has these bytes */
+    HASKUMYE_REFUSAL_MAP = 8,           /* the renumbering map is not one-to-one on 0..15 */
+    HASKUMYE_REFUSAL_SETTING = 9,       /* setting a port over 15, or an unknown mode */
+    HASKUMYE_REFUSAL_LOCAL_FULL = 10,   /* a 17th local address */
+    HASKUMYE_REFUSAL_LOCAL_ADDRESS = 11 /* adding a local address already there, or removing one not there */
+};
+
+/* What a packet call answers: HASKUMYE_ANSWER_KIND. */
+enum haskumye_kind {
+    HASKUMYE_REFUSED = 0, /* HASKUMYE_ANSWER_REFUSAL says why; nothing changed */
+    HASKUMYE_DROP = 1,    /* HASKUMYE_ANSWER_REASON says why; the packet was accepted and counts */
+    HASKUMYE_DELIVER = 2, /* for a local address; the payload lies in the packet, from haskumye_payload_start */
+    HASKUMYE_FORWARD = 3, /* send the output's first HASKUMYE_ANSWER_LENGTH bytes by HASKUMYE_ANSWER_PORT */
+    HASKUMYE_SPREAD = 4,  /* send them by each port of HASKUMYE_ANSWER_PORTS */
+    HASKUMYE_KEPT = 5     /* an announce was taken in, and nothing leaves */
+};
+
+/* Why a packet was dropped: the number of document 01's first test that held. */
+enum haskumye_reason {
+    HASKUMYE_REASON_NOT_OURS = 1,       /* type 2 for another relay */
+    HASKUMYE_REASON_DUPLICATE = 2,      /* its hash was remembered less than 300 s ago */
+    HASKUMYE_REASON_BAD_FORM = 3,       /* type, destination kind, payload length or announced destination */
+    HASKUMYE_REASON_OWN_ANNOUNCE = 4,   /* an announce of a local address */
+    HASKUMYE_REASON_TOO_MANY_HOPS = 5,  /* 128 or more */
+    HASKUMYE_REASON_NO_WAY_ON = 6,      /* no live path, proved link or return record; or type 1 */
+    HASKUMYE_REASON_ALREADY_KNOWN = 7,  /* a link request or link proof again */
+    HASKUMYE_REASON_WRONG_SIDE = 8,     /* in by another port, or with other hops, than its link or return record has */
+    HASKUMYE_REASON_NOT_SIGNED = 9,     /* the host's word on the signature was no */
+    HASKUMYE_REASON_REPLAY = 10,        /* an announce whose blob is stored in its path */
+    HASKUMYE_REASON_NOT_BETTER = 11,    /* an announce neither emitted later nor of fewer hops than its path */
+    HASKUMYE_REASON_PORT_OFF = 12,      /* the port to leave by */
+    HASKUMYE_REASON_NO_ROOM = 13,       /* for a new path or link */
+    HASKUMYE_REASON_GROWN_TOO_LONG = 14 /* over 500 bytes once rewritten */
+};
+
+/*
+ * The fields of a packet call's answer, and of no other call's number. Bits 0 to 15 say the kind, and the refusal or
+ * reason; what bits 16 to 63 hold goes by them. Read a field only for the kind it is named with: later versions may put
+ * data where zeros stand today.
+ */
+typedef uint64_t haskumye_answer;
+
+/* The answer itself. A number of another width, such as another call's refusal, does not compile. */
+#define HASKUMYE_ANSWER(answer) ((answer) + 0 * sizeof(char[sizeof(answer) == sizeof(haskumye_answer) ? 1 : -1]))
+
+#define HASKUMYE_ANSWER_KIND(answer) ((unsigned)(HASKUMYE_ANSWER(answer) & 0xff))
+#define HASKUMYE_ANSWER_REFUSAL(answer) ((unsigned)(HASKUMYE_ANSWER(answer) >> 8 & 0xff))  /* refused */
+#define HASKUMYE_ANSWER_REASON(answer) ((unsigned)(HASKUMYE_ANSWER(answer) >> 8 & 0xff))   /* drop */
+#define HASKUMYE_ANSWER_PORT(answer) ((unsigned)(HASKUMYE_ANSWER(answer) >> 16 & 0xffff))  /* forward */
+#define HASKUMYE_ANSWER_PORTS(answer) ((unsigned)(HASKUMYE_ANSWER(answer) >> 16 & 0xffff)) /* spread: bit i is port i */
+#define HASKUMYE_ANSWER_HAS_PORT(answer, port) (HASKUMYE_ANSWER_PORTS(answer) >> (port) & 1u) /* spread: port 0 to 15 */
+#define HASKUMYE_ANSWER_LENGTH(answer) ((size_t)(HASKUMYE_ANSWER(answer) >> 32 & 0xffff))  /* forward and spread */
+
+/* The fields of haskumye_write's number. */
+#define HASKUMYE_WRITTEN_REFUSAL(written) ((unsigned)((written) & 0xffff))
+#define HASKUMYE_WRITTEN_LENGTH(written) ((size_t)((written) >> 16))
+
+/* Bytes of a fixed number cross in a struct of exactly that size. */
+typedef struct {
+    uint8_t bytes[16];
+} haskumye_address;
+
+typedef struct {
+    uint8_t bytes[32];
+} haskumye_hash;
+
+typedef struct {
+    uint8_t bytes[10];
+} haskumye_blob;
+
+/* The parts of a packet. In type 1 the relay address reads as zeros, and writing ignores it. */
+typedef struct {
+    uint8_t header;
+    uint8_t hops;
+    haskumye_address relay;
+    haskumye_address destination;
+    uint8_t context;
+} haskumye_parts;
+
+/* Port i becomes port to[i]. */
+typedef struct {
+    uint8_t to[16];
+} haskumye_port_map;
+
+/* A line of text. Zeros fill what is left, so a zero always follows it. */
+typedef struct {
+    char bytes[HASKUMYE_TEXT_SIZE];
+} haskumye_text;
+
+/* The packet calls since fresh, each count modulo 2^32: all that were not refused, and those of each answer. */
+typedef struct {
+    uint32_t total;
+    uint32_t dropped;
+    uint32_t delivered;
+    uint32_t forwarded;
+    uint32_t spread;
+    uint32_t kept;
+} haskumye_tally;
+
+HASKUMYE_ASSERT_SIZE(haskumye_address, 16);
+HASKUMYE_ASSERT_SIZE(haskumye_hash, 32);
+HASKUMYE_ASSERT_SIZE(haskumye_blob, 10);
+HASKUMYE_ASSERT_SIZE(haskumye_parts, 35);
+HASKUMYE_ASSERT_SIZE(haskumye_port_map, 16);
+HASKUMYE_ASSERT_SIZE(haskumye_text, HASKUMYE_TEXT_SIZE);
+HASKUMYE_ASSERT_SIZE(haskumye_tally, 24);
+
+/* ---- A relay. A call that returns uint8_t returns a refusal, 0 for none; haskumye_check alone does not. ---- */
+
+/* HASKUMYE_TABLE_SIZE, as the library was built. */
+size_t haskumye_table_size(void);
+
+/*
+ * Makes the tables of a fresh relay: its own address, every port off and boundary, clock 0, all else empty. What the
+ * buffer held does not matter. The host zeroes the tally with it. Refusal: 7, for the length alone.
+ */
+HASKUMYE_CHECKED uint8_t haskumye_fresh(uint8_t *tables, size_t length, const haskumye_address *own);
+
+/* 1 where these bytes are some relay's tables, else 0: the test of refusal 7. Every call but fresh makes it itself. */
+uint8_t haskumye_check(const uint8_t *tables, size_t length);
+
+/*
+ * Sets a port on or off, and its mode, one of haskumye_mode. Every value but HASKUMYE_ON, such as the 4 of `flags & 4`,
+ * switches the port off and is not refused. Records that name the port stay. Refusals: 7, 9.
+ */
+HASKUMYE_CHECKED uint8_t haskumye_set_port(uint8_t *tables, size_t length, uint64_t port, uint8_t on, uint64_t mode);
+
+/* Adds an address whose packets are delivered here. The relay's own address is not one of them. Refusals: 7, 11, 10. */
+HASKUMYE_CHECKED uint8_t haskumye_add_local(uint8_t *tables, size_t length, const haskumye_address *address);
+
+/* Removes one. Refusals: 7, 11. */
+HASKUMYE_CHECKED uint8_t haskumye_remove_local(uint8_t *tables, size_t length, const haskumye_address *address);
+
+/*
+ * Renumbers the ports while the relay runs: every stored port becomes its image, and each port's settings move with it.
+ * Nothing is forgotten. From then on the host passes, and is told, the new numbers, for what waits in its queues too: a
+ * packet given with an old one may be dropped, and is a duplicate if it comes again. Refusals: 7, 8.
+ */
+HASKUMYE_CHECKED uint8_t haskumye_renumber(uint8_t *tables, size_t length, const haskumye_port_map *map);
+
+/*
+ * Judges a packet that came in by a port at a clock. signed_well is the host's word on its signature: 1 is yes,
+ * anything else no; it is read only for announces and link proofs. What leaves stands at the output's start; the bytes
+ * behind it, and all of them where nothing leaves, stay as they were. Refusals, in this order: 7, 6, 4, 5, 1 (under 19
+ * bytes), 2, 3, 1 (type 2 under 35).
+ */
+HASKUMYE_CHECKED haskumye_answer haskumye_packet(const uint8_t *packet, size_t length, uint64_t port, uint64_t clock,
+                                                 uint8_t signed_well, uint8_t *tables, size_t size, uint8_t *output,
+                                                 size_t room, haskumye_tally *tally);
+
+/* ---- Packets. ---- */
+
+/* Reads a packet's parts. Returns a refusal (1, 2, 3), or 0. */
+HASKUMYE_CHECKED uint8_t haskumye_read(const uint8_t *packet, size_t length, haskumye_parts *parts);
+
+/* Where the payload starts: it is the packet from there on. Never over the length, whatever the bytes. */
+size_t haskumye_payload_start(const uint8_t *packet, size_t length);
+
+/*
+ * Writes a packet at the output's start; bytes behind it stay. Returns a number of two fields:
+ * HASKUMYE_WRITTEN_REFUSAL (6, 2, 3; 0 for none) and HASKUMYE_WRITTEN_LENGTH.
+ */
+HASKUMYE_CHECKED uint64_t haskumye_write(const haskumye_parts *parts, const uint8_t *payload, size_t length,
+                                         uint8_t *output, size_t room);
+
+/* The packet hash. A receipt for a packet is addressed to its first 16 bytes. Returns a refusal (1, 2, 3), or 0. */
+HASKUMYE_CHECKED uint8_t haskumye_packet_hash(const uint8_t *packet, size_t length, haskumye_hash *hash);
+
+/* The id of the link that a link request asks for; a packet of any kind has one. Returns a refusal (1, 2, 3), or 0. */
+HASKUMYE_CHECKED uint8_t haskumye_link_id(const uint8_t *packet, size_t length, haskumye_address *id);
+
+/*
+ * The destination that an announce's keys and name hash give (payload bytes 0 to 73): equal to the packet's own in an
+ * honest one. Of a shorter payload the bytes that are there count.
+ */
+void haskumye_announced_destination(const uint8_t *payload, size_t length, haskumye_address *destination);
+
+/* The least payload of an announce with this header: 148, or 180 with the context flag. */
+size_t haskumye_least_announce(uint8_t header);
+
+/* The emission time, in seconds, of an announce's blob. */
+uint64_t haskumye_emission(const haskumye_blob *blob);
+
+/* A packet as one line of words, or `refused` and the number; a line feed ends it. Returns its length. */
+size_t haskumye_line(const uint8_t *packet, size_t length, haskumye_text *text);
+
+/* SHA-256. Returns refusal 2 for a message over HASKUMYE_LONGEST_MESSAGE, or 0. */
+HASKUMYE_CHECKED uint8_t haskumye_sha256(const uint8_t *message, size_t length, haskumye_hash *out);
+
+#ifdef __cplusplus
+}
+#endif
+
+#endif
