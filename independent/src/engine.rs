@@ -1,11 +1,14 @@
-//! Calls on a relay as values, and what makes them: the independent relay, and in `linked` the proved core.
+//! What makes calls on a relay: the independent relay, and in `linked` the proved core.
+
+mod call;
+
+pub use call::{Call, PacketCall};
 
 use crate::answer::{Answer, Refusal, Tally};
 use crate::faults::Reading;
 use crate::packet::Address;
 use crate::relay::{Arrival, Relay};
 use crate::tables;
-use std::fmt;
 
 /// What a call returns.
 #[derive(Clone, Copy, Debug, PartialEq, Eq)]
@@ -68,90 +71,6 @@ impl<R: Reading> Engine for Relay<R> {
     }
 }
 
-/// A packet call's own input.
-#[derive(Clone, PartialEq, Eq)]
-pub struct PacketCall {
-    pub packet: Vec<u8>,
-    pub port: u64,
-    pub clock: u64,
-    pub signature: bool,
-    /// The output buffer's length, and the byte that fills it.
-    pub output: usize,
-    pub fill: u8,
-}
-
-/// A call on a relay, or something its caller does to the tables between two calls.
-#[derive(Clone, PartialEq, Eq)]
-pub enum Call {
-    Fresh(Address),
-    Packet(PacketCall),
-    SetPort {
-        port: u64,
-        on: bool,
-        mode: u64,
-    },
-    AddLocal(Address),
-    RemoveLocal(Address),
-    Renumber([u8; 16]),
-    /// Puts a copy of the tables aside, and takes it back.
-    Save,
-    Restore,
-    /// Writes bytes into the tables.
-    Write {
-        at: usize,
-        bytes: Vec<u8>,
-    },
-    /// Copies bytes of the tables to another place in them.
-    Copy {
-        from: usize,
-        to: usize,
-        length: usize,
-    },
-    /// Cuts the tables, or lengthens them with zeros.
-    Resize(usize),
-}
-
-fn hexadecimal(f: &mut fmt::Formatter, bytes: &[u8]) -> fmt::Result {
-    bytes.iter().try_for_each(|byte| write!(f, "{byte:02x}"))
-}
-
-impl fmt::Display for Call {
-    fn fmt(&self, f: &mut fmt::Formatter) -> fmt::Result {
-        match self {
-            Call::Fresh(own) => {
-                f.write_str("fresh ")?;
-                hexadecimal(f, own)
-            }
-            Call::Packet(call) => {
-                let PacketCall { port, clock, signature, output, fill, .. } = call;
-                write!(f, "packet port {port} clock {clock} signature {signature} output {output} of {fill:02x} ")?;
-                hexadecimal(f, &call.packet)
-            }
-            Call::SetPort { port, on, mode } => write!(f, "set port {port} on {on} mode {mode}"),
-            Call::AddLocal(address) => {
-                f.write_str("add local ")?;
-                hexadecimal(f, address)
-            }
-            Call::RemoveLocal(address) => {
-                f.write_str("remove local ")?;
-                hexadecimal(f, address)
-            }
-            Call::Renumber(map) => {
-                f.write_str("renumber ")?;
-                hexadecimal(f, map)
-            }
-            Call::Save => f.write_str("save"),
-            Call::Restore => f.write_str("restore"),
-            Call::Write { at, bytes } => {
-                write!(f, "write at {at} ")?;
-                hexadecimal(f, bytes)
-            }
-            Call::Copy { from, to, length } => write!(f, "copy {length} from {from} to {to}"),
-            Call::Resize(length) => write!(f, "resize to {length}"),
-        }
-    }
-}
-
 /// An engine with the buffers that its calls are lent.
 pub struct Run<E: Engine> {
     pub engine: E,
@@ -199,12 +118,17 @@ impl<E: Engine> Run<E> {
         }
     }
 
+    /// Writing or copying outside the tables does nothing: a list that calls were left out of may ask for it.
     fn edit(&mut self, call: &Call) {
+        let size = self.tables.len();
+        let within = |at: usize, length: usize| at.checked_add(length).is_some_and(|end| end <= size);
         match call {
             Call::Save => self.saved.clone_from(&self.tables),
             Call::Restore => self.tables.clone_from(&self.saved),
-            Call::Write { at, bytes } => self.tables[*at..*at + bytes.len()].copy_from_slice(bytes),
-            Call::Copy { from, to, length } => self.tables.copy_within(*from..*from + *length, *to),
+            Call::Write { at, bytes } if within(*at, bytes.len()) => self.tables[*at..*at + bytes.len()].copy_from_slice(bytes),
+            Call::Copy { from, to, length } if within(*from, *length) && within(*to, *length) => {
+                self.tables.copy_within(*from..*from + *length, *to)
+            }
             Call::Resize(length) => self.tables.resize(*length, 0),
             _ => {}
         }

@@ -34,7 +34,7 @@ fn judged(number: u64) -> Outcome {
 }
 
 /// The number of an answer.
-fn encoded(outcome: &Outcome) -> u64 {
+pub fn encoded(outcome: &Outcome) -> u64 {
     let Outcome::Judged(Answer { verdict, length }) = outcome else {
         return if let Outcome::Refused(number) = outcome { u64::from(*number) << 8 } else { 0 };
     };

@@ -221,13 +221,15 @@ impl<R: Reading> Relay<R> {
         let header = p.header();
         let kind = header.packet_kind();
         let link = header.to_link();
-        if header.type_2() && (kind == PacketKind::Proof || link && !self.has(Fault::TypeTwoLinkAllowed)) {
+        let proof = kind == PacketKind::Proof && !self.has(Fault::TypeTwoProofAllowed);
+        if header.type_2() && (proof || link && !self.has(Fault::TypeTwoLinkAllowed)) {
             return false;
         }
         match kind {
             PacketKind::Data => true,
             PacketKind::Announce => packet::announce_form(&self.sha, &p.parts, p.payload, self.reading),
-            PacketKind::LinkRequest => !link && self.request_length(p.payload.len()),
+            PacketKind::LinkRequest if link && !self.has(Fault::RequestOfKindLinkAllowed) => false,
+            PacketKind::LinkRequest => self.request_length(p.payload.len()),
             PacketKind::Proof => !self.link_proof_form(p) || self.link_proof_length(p.payload.len()),
         }
     }
@@ -334,21 +336,18 @@ impl<R: Reading> Relay<R> {
 
     /// A known path keeps its slot; a new one takes the lowest that is empty or expired.
     fn path_slot(&self, p: &Packet, known: Option<usize>, tables: &[u8]) -> Option<usize> {
-        let free = PATHS.free(tables, p.clock);
-        if self.has(Fault::KnownPathNeedsRoom) {
-            free?;
-        }
+        let free = || PATHS.free(tables, p.clock);
         if known.is_some() {
-            return known;
+            return if self.has(Fault::KnownPathNeedsRoom) { free().and(known) } else { known };
         }
         if self.has(Fault::ExpiredPathTaken) {
             return PATHS.empty(tables);
         }
-        let own = PATHS.records.iter(tables).position(|record| PATHS.has_key(record, &p.parts.destination));
-        if own.is_some() && self.has(Fault::NewPathOwnSlot) {
-            return own;
+        if self.has(Fault::NewPathOwnSlot) {
+            let own = PATHS.records.iter(tables).position(|record| tables::has_key(record, &p.parts.destination));
+            return own.or_else(free);
         }
-        free
+        free()
     }
 
     fn store_path(&mut self, p: &Packet, known: bool, place: usize, tables: &mut [u8]) {
@@ -474,7 +473,7 @@ impl<R: Reading> Relay<R> {
         let key = &p.hash[..16];
         let emptied_too = self.has(Fault::ExpiredReturnsEmptied);
         for (other, record) in RETURNS.records.iter_mut(tables).enumerate() {
-            let same = other != place && RETURNS.has_key(record, key) && !self.has(Fault::OtherReturnsStay);
+            let same = other != place && tables::has_key(record, key) && !self.has(Fault::OtherReturnsStay);
             if same && (RETURNS.is_live(record, p.clock) || emptied_too) {
                 record.fill(0);
             }
@@ -532,7 +531,7 @@ impl<R: Reading> Relay<R> {
     /// Test 7 for a link request.
     fn is_known_link(&self, id: &[u8], clock: u64, tables: &[u8]) -> bool {
         if self.has(Fault::ExpiredLinkKnown) {
-            return LINKS.records.iter(tables).any(|record| LINKS.has_key(record, id));
+            return LINKS.records.iter(tables).any(|record| tables::has_key(record, id));
         }
         let proved = |place| LINKS.records.get(tables, place)[link::PROVED] == 1;
         LINKS.find(tables, id, clock, self.reading).is_some_and(|place| proved(place) || !self.has(Fault::KnownOnlyIfProved))

@@ -33,16 +33,20 @@ pub const LOCALS: Section = Section { start: 56, width: 17, count: 16 };
 /// A section of records that have a key, from byte 1 on, and an expiry.
 pub struct Table {
     pub records: Section,
-    /// The key's width.
-    pub key: usize,
     /// Where the expiry stands in a record.
     pub expiry: usize,
+    /// `lowest_live` of its numbers.
+    search: fn(&[u8], &[u8], u64) -> Option<usize>,
 }
 
-pub const PATHS: Table = Table { records: Section { start: 328, width: 204, count: 64 }, key: 16, expiry: path::EXPIRY };
-pub const LINKS: Table = Table { records: Section { start: 13_384, width: 30, count: 64 }, key: 16, expiry: link::EXPIRY };
-pub const RETURNS: Table = Table { records: Section { start: 15_306, width: 27, count: 512 }, key: 16, expiry: returned::EXPIRY };
-pub const HASHES: Table = Table { records: Section { start: 29_132, width: 41, count: 1_024 }, key: 32, expiry: 33 };
+const fn table<const WIDTH: usize, const KEY: usize, const EXPIRY: usize>(start: usize, count: usize) -> Table {
+    Table { records: Section { start, width: WIDTH, count }, expiry: EXPIRY, search: lowest_live::<WIDTH, KEY, EXPIRY> }
+}
+
+pub const PATHS: Table = table::<204, 16, { path::EXPIRY }>(328, 64);
+pub const LINKS: Table = table::<30, 16, { link::EXPIRY }>(13_384, 64);
+pub const RETURNS: Table = table::<27, 16, { returned::EXPIRY }>(15_306, 512);
+pub const HASHES: Table = table::<41, 32, 33>(29_132, 1_024);
 
 /// Where the ring places stand: the index of the record that is written next.
 pub const RETURN_PLACE: usize = 15_304;
@@ -122,22 +126,17 @@ impl Section {
 }
 
 impl Table {
-    /// Is a record live: in use, and the clock before its expiry?
+    #[inline]
     pub fn is_live(&self, record: &[u8], clock: u64) -> bool {
-        record[0] != 0 && clock < time(record, self.expiry)
-    }
-
-    pub fn has_key(&self, record: &[u8], key: &[u8]) -> bool {
-        record[0] != 0 && record[1..1 + self.key] == *key
+        is_live(record, self.expiry, clock)
     }
 
     /// The place of the live record of a key: of two, the lower.
     pub fn find(&self, tables: &[u8], key: &[u8], clock: u64, reading: impl Reading) -> Option<usize> {
-        let wanted = |record: &[u8]| self.has_key(record, key) && self.is_live(record, clock);
         if reading.has(Fault::HigherPlaceCounts) {
-            return self.records.iter(tables).rposition(wanted);
+            return self.records.iter(tables).rposition(|record| has_key(record, key) && self.is_live(record, clock));
         }
-        self.records.iter(tables).position(wanted)
+        (self.search)(&tables[self.records.bytes()], key, clock)
     }
 
     /// The lowest place that is empty or expired.
@@ -151,6 +150,26 @@ impl Table {
     }
 }
 
+/// Is a record in use, and of this key?
+#[inline]
+pub fn has_key(record: &[u8], key: &[u8]) -> bool {
+    record[0] != 0 && record[1..=key.len()] == *key
+}
+
+/// Is a record live: in use, and the clock before its expiry?
+#[inline]
+fn is_live(record: &[u8], expiry: usize, clock: u64) -> bool {
+    record[0] != 0 && clock < time(record, expiry)
+}
+
+/// The lowest live record of a key. The compiler knows the widths, so that it compares keys by words.
+fn lowest_live<const WIDTH: usize, const KEY: usize, const EXPIRY: usize>(records: &[u8], key: &[u8], clock: u64) -> Option<usize> {
+    let key: [u8; KEY] = key.try_into().expect("a key of the table");
+    let records: &[[u8; WIDTH]] = records.as_chunks().0;
+    records.iter().position(|record| has_key(record, &key) && is_live(record, EXPIRY, clock))
+}
+
+#[inline]
 pub fn time(bytes: &[u8], at: usize) -> u64 {
     u64::from_be_bytes(bytes[at..at + 8].try_into().expect("eight bytes"))
 }

@@ -10,20 +10,16 @@ fn run(name: &str, options: &Options) -> Tally {
     tally
 }
 
-fn options() -> Options {
-    Options { seed: 1, count: 0, calls: 100_000, fault: None, damage: false }
-}
-
 #[test]
 #[cfg_attr(debug_assertions, ignore = "takes minutes without --release")]
 fn there_are_forty_and_all_are_noticed() {
-    let tally = run("faults", &options());
+    let tally = run("faults", &Options::default());
     assert!(tally.passed >= 40);
     assert_eq!((tally.passed, tally.failed), (Fault::ALL.len(), 0));
 }
 
 #[test]
 fn a_relay_without_a_fault_is_not_noticed() {
-    let tally = run("faults", &Options { damage: true, ..options() });
+    let tally = run("faults", &Options { damage: true, ..Options::default() });
     assert_eq!(tally.passed, 0);
 }

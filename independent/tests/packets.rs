@@ -3,11 +3,12 @@
 
 use haskumye_independent::answer::Refusal;
 use haskumye_independent::compare::{packet::compare_with, Options, Tally};
+use haskumye_independent::core;
 use haskumye_independent::faults::{AsWritten, Fault, With};
 use haskumye_independent::packet::{self, Header, Parts, LONGEST};
 use haskumye_independent::random::Random;
 use haskumye_independent::sha256::Sha256;
-use haskumye_independent::vectors::{bytes, keys};
+use haskumye_independent::vectors::{bytes, KEYS};
 
 fn read(packet: &[u8]) -> Result<Parts, Refusal> {
     packet::read(packet, LONGEST, AsWritten)
@@ -19,16 +20,28 @@ fn of_header(header: u8, length: usize) -> Vec<u8> {
     packet
 }
 
+/// The refusal of a packet by the independent program and by the core, 0 for none.
+type Reader = fn(&[u8]) -> u8;
+const READERS: [(&str, Reader); 2] = [
+    ("independent program", |packet| read(packet).map_or_else(Refusal::number, |_| 0)),
+    ("core", |packet| core::read(packet, &mut [0; 35])),
+];
+
 #[test]
-fn document_01s_edges() {
-    assert_eq!(read(&of_header(0x00, 18)), Err(Refusal::TooShort));
-    assert!(read(&of_header(0x00, 19)).is_ok());
-    assert_eq!(read(&of_header(0x40, 34)), Err(Refusal::TooShort));
-    assert!(read(&of_header(0x40, 35)).is_ok());
-    assert!(read(&of_header(0x00, 500)).is_ok());
-    assert_eq!(read(&of_header(0x00, 501)), Err(Refusal::TooLong));
-    assert_eq!(read(&of_header(0x80, 19)), Err(Refusal::AccessCode));
-    assert_eq!(packet::emission(&bytes("0000000000006553f100"), AsWritten), 1_700_000_000);
+fn document_01s_edges_of_reading() {
+    let edges = [(0x00, 18, 1), (0x00, 19, 0), (0x40, 34, 1), (0x40, 35, 0), (0x00, 500, 0), (0x00, 501, 2), (0x80, 19, 3)];
+    for (reader, refusal) in READERS {
+        for (header, length, expected) in edges {
+            assert_eq!(refusal(&of_header(header, length)), expected, "{reader}, {length} bytes of header {header:02x}");
+        }
+    }
+}
+
+#[test]
+fn document_01s_edge_of_emission() {
+    let blob = [0, 0, 0, 0, 0, 0x00, 0x65, 0x53, 0xf1, 0x00];
+    assert_eq!(packet::emission(&blob, AsWritten), 1_700_000_000, "independent program");
+    assert_eq!(core::emission(&blob), 1_700_000_000, "core");
 }
 
 #[test]
@@ -57,7 +70,7 @@ fn source_003s_header_bits() {
 #[test]
 fn source_007s_link_id() {
     let sha = Sha256::default();
-    let keys = keys();
+    let keys = KEYS.concat();
     let request = [bytes("0200a1b2c3d4e5f6789012345678abcdef0100"), keys.clone()].concat();
     let parts = read(&request).expect("it reads");
     let id = bytes("d4be73522e285b02a9ff53ca1e501321");
@@ -73,7 +86,7 @@ fn source_007s_link_id() {
 #[test]
 fn source_008s_destination() {
     let name_hash = bytes("45a1ec235fd38ec48f01");
-    let destination = packet::destination(&Sha256::default(), &keys(), &name_hash);
+    let destination = packet::destination(&Sha256::default(), &KEYS.concat(), &name_hash);
     assert_eq!(destination.to_vec(), bytes("a6710fdcdbe41cc01f9234a318c7ea89"));
 }
 
@@ -135,7 +148,7 @@ fn short_bytes_have_an_empty_payload() {
 /// Those of the deliberate faults that show without a relay.
 #[test]
 fn the_comparison_notices_faults_in_packets() {
-    let options = Options { seed: 1, count: 20, calls: 0, fault: None, damage: false };
+    let options = Options { count: 20, ..Options::default() };
     let faults = [
         Fault::AccessCodeBeforeLength,
         Fault::LongestRefused,

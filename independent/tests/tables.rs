@@ -175,7 +175,7 @@ fn renumbering() {
 #[test]
 fn the_comparison_notices_faults_in_tables() {
     let noticed = |fault: Fault, count: usize| {
-        let (options, mut tally) = (Options { seed: 1, count, calls: 0, fault: None, damage: false }, Tally::default());
+        let (options, mut tally) = (Options { count, ..Options::default() }, Tally::default());
         compare_with(With(fault), &options, &mut tally);
         tally.failed > 0
     };

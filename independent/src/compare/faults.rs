@@ -1,10 +1,11 @@
-//! Every deliberate fault of the independent relay must be noticed by its traffic.
+//! Every deliberate fault must be noticed: the core is compared with an independent relay that has it.
 
-use super::lockstep::{compare, Coverage, Difference};
-use super::{Options, Tally};
-use crate::faults::{AsWritten, Fault, With};
+use super::lockstep::{compare, Difference};
+use super::{shrink, Options, Tally};
+use crate::engine::Call;
+use crate::faults::{Fault, With};
+use crate::linked::Core;
 use crate::relay::Relay;
-use crate::traffic::Traffic;
 
 /// With `--damage` the relay has no fault after all, and few calls show that much.
 const DAMAGED_CALLS: usize = 500;
@@ -15,19 +16,22 @@ pub fn run(options: &Options, tally: &mut Tally) {
         let difference = notice(options, fault);
         tally.holds(&format!("{} is noticed ({})", fault.name(), fault.text()), difference.is_some(), false);
         if let (Some(difference), true) = (difference, options.fault.is_some()) {
-            let (name, seed, calls) = (fault.name(), options.seed, difference.calls);
-            println!("{name}: {}\n{difference}", fault.text());
-            println!("    run again: compare faults --fault {name} --seed {seed} --calls {calls}");
+            let shown = |calls: &[Call]| differs(fault, calls.iter().cloned()).map(|difference| difference.calls);
+            println!("{}: {}\n{difference}", fault.name(), fault.text());
+            println!("{}", shrink::again(&format!("faults --fault {}", fault.name()), options, difference.calls, shown));
         }
     }
 }
 
 /// The first call that shows a fault.
-pub fn notice(options: &Options, fault: Fault) -> Option<Difference> {
-    let traffic = Traffic::new(options.seed);
-    let mut coverage = Coverage::default();
+fn notice(options: &Options, fault: Fault) -> Option<Difference> {
     if options.damage {
-        return compare(traffic.take(DAMAGED_CALLS), Relay::new(AsWritten), Relay::as_written(), &mut coverage);
+        return compare(options.traffic().take(DAMAGED_CALLS), Core, Relay::as_written());
     }
-    compare(traffic.take(options.calls), Relay::new(With(fault)), Relay::as_written(), &mut coverage)
+    differs(fault, options.traffic())
+}
+
+/// The first call on which the core differs from a relay with a fault.
+pub fn differs(fault: Fault, calls: impl Iterator<Item = Call>) -> Option<Difference> {
+    compare(calls, Core, Relay::new(With(fault)))
 }

@@ -135,15 +135,11 @@ fn table_place(at: usize) -> String {
 }
 
 /// Runs two engines on calls until they differ.
-pub fn compare<A: Engine, B: Engine>(
-    calls: impl Iterator<Item = Call>,
-    got: A,
-    expected: B,
-    coverage: &mut Coverage,
-) -> Option<Difference> {
+pub fn compare<A: Engine, B: Engine>(calls: impl Iterator<Item = Call>, got: A, expected: B) -> Option<Difference> {
     let (mut got, mut expected) = (Run::new(got), Run::new(expected));
+    let mut coverage = Coverage::default();
     for (number, call) in calls.enumerate() {
-        let lines = step(&mut got, &mut expected, &call, coverage, None);
+        let lines = step(&mut got, &mut expected, &call, &mut coverage, None);
         if !lines.is_empty() {
             return Some(Difference { calls: number + 1, call, lines });
         }

@@ -1,14 +1,19 @@
 //! The comparisons, a module for each subject.
 
-mod faults;
+pub mod faults;
+pub mod listed;
 pub mod lockstep;
 pub mod packet;
+pub mod record;
 mod relay;
 mod renumbering;
 mod sha256;
+pub mod shrink;
 pub mod tables;
 
+use crate::engine::Call;
 use crate::faults::Fault;
+use crate::traffic::Traffic;
 
 /// What a run is asked for. Each subject reads the same options.
 pub struct Options {
@@ -17,10 +22,29 @@ pub struct Options {
     pub count: usize,
     /// How many calls on a relay.
     pub calls: usize,
+    /// The calls on a relay themselves, where they are given.
+    pub list: Option<Vec<Call>>,
     /// One fault alone, where a subject tries faults.
     pub fault: Option<Fault>,
     /// Damage every expectation, so that every comparison must fail.
     pub damage: bool,
+}
+
+impl Default for Options {
+    /// What the gate runs.
+    fn default() -> Self {
+        Self { seed: 1, count: 2_000, calls: 100_000, list: None, fault: None, damage: false }
+    }
+}
+
+impl Options {
+    /// The calls that relays are compared on: those given, or random ones.
+    fn traffic(&self) -> Box<dyn Iterator<Item = Call> + '_> {
+        match &self.list {
+            Some(calls) => Box::new(calls.iter().cloned()),
+            None => Box::new(Traffic::new(self.seed).take(self.calls)),
+        }
+    }
 }
 
 pub type Subject = (&'static str, fn(&Options, &mut Tally));

@@ -8,7 +8,7 @@ use crate::line;
 use crate::packet::{self, Address, Header, Parts, LONGEST};
 use crate::random::Random;
 use crate::sha256::Sha256;
-use crate::vectors::{bytes, worked, Worked};
+use crate::vectors::{bytes, Worked, WORKED};
 
 /// Lengths where an answer can change: the shortest of both types, a payload of 64 bytes in both, the longest; and some around them.
 const EDGES: [usize; 18] = [0, 1, 2, 18, 19, 20, 34, 35, 36, 82, 83, 84, 98, 99, 100, 499, 500, 501];
@@ -134,10 +134,10 @@ impl<R: Reading> Comparison<'_, R> {
     }
 
     fn worked(&mut self) {
-        for worked in worked() {
+        for worked in WORKED {
             let packet = worked.packet();
-            self.answers(&format!("{}, independent", worked.source), self.own_answers(&packet), worked_answers(&worked));
-            self.answers(&format!("{}, core", worked.source), core_answers(&packet), worked_answers(&worked));
+            self.answers(&format!("{}, independent", worked.source), self.own_answers(&packet), worked_answers(worked));
+            self.answers(&format!("{}, core", worked.source), core_answers(&packet), worked_answers(worked));
         }
     }
 

@@ -1,12 +1,12 @@
 //! Relays on the same traffic, and how often it reaches each refusal, reason and verdict.
 
-use super::lockstep::{step, Coverage, Difference};
+use super::lockstep::{compare, step, Coverage, Difference};
+use super::shrink::again;
 use super::{Options, Tally};
-use crate::engine::{Engine, Run};
+use crate::engine::{Call, Engine, Run};
 use crate::faults::Tuned;
 use crate::linked::Core;
 use crate::relay::Relay;
-use crate::traffic::Traffic;
 
 /// Each that can be reached is reached at least so often.
 const LEAST: usize = 100;
@@ -16,30 +16,30 @@ const ENOUGH: usize = 100_000;
 const PROGRESS: usize = 200_000;
 
 pub fn run(options: &Options, tally: &mut Tally) {
-    compare_with("tuned check", Relay::new(Tuned), options, tally);
-    let coverage = compare_with("core", Core, options, tally);
+    compare_with("tuned check", || Relay::new(Tuned), options, tally);
+    let coverage = compare_with("core", || Core, options, tally);
     for (what, times) in coverage.reached() {
         println!("{what}: {times}");
-        if options.calls < ENOUGH {
-            continue;
+        if options.list.is_none() && options.calls >= ENOUGH {
+            tally.holds(&format!("{what} is reached at least {LEAST} times"), times >= LEAST, options.damage);
         }
-        tally.holds(&format!("{what} is reached at least {LEAST} times"), times >= LEAST, options.damage);
     }
 }
 
 /// Compares an engine with the independent relay after every call, until they differ.
-pub fn compare_with<E: Engine>(name: &str, engine: E, options: &Options, tally: &mut Tally) -> Coverage {
-    let (mut got, mut expected) = (Run::new(engine), Run::new(Relay::as_written()));
+fn compare_with<E: Engine>(name: &str, engine: impl Fn() -> E, options: &Options, tally: &mut Tally) -> Coverage {
+    let (mut got, mut expected) = (Run::new(engine()), Run::new(Relay::as_written()));
     let mut coverage = Coverage::default();
-    for (number, call) in Traffic::new(options.seed).take(options.calls).enumerate() {
+    for (number, call) in options.traffic().enumerate() {
         let calls = number + 1;
         let lines = step(&mut got, &mut expected, &call, &mut coverage, options.damage.then_some(number));
         if lines.is_empty() {
             tally.passed += 1;
         } else {
-            let difference = Difference { calls, call, lines };
-            tally.fail(&format!("{name}: {difference}\n    run again: compare relay --seed {} --calls {calls}", options.seed));
+            tally.fail(&format!("{name}: {}", Difference { calls, call, lines }));
             if !options.damage {
+                let differs = |calls: &[Call]| compare(calls.iter().cloned(), engine(), Relay::as_written()).map(|first| first.calls);
+                println!("{}", again("relay", options, calls, differs));
                 break;
             }
         }

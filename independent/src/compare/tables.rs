@@ -47,7 +47,7 @@ fn changes() -> Vec<Change> {
     for (name, at) in RINGS {
         changes.push((name.to_string(), Box::new(move |random, tables| samples::set_ring(random, tables, at))));
     }
-    changes.push(("last clock".to_string(), Box::new(|random, tables| samples::set_last_clock(random, tables))));
+    changes.push(("last clock".to_string(), Box::new(samples::set_last_clock)));
     changes.push(("byte anywhere".to_string(), Box::new(set_any)));
     changes
 }

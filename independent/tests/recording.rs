@@ -1,0 +1,48 @@
+//! Recorded calls: a host in another language reads them as they are written here.
+
+use haskumye_independent::compare::{listed, lockstep::Coverage, record::record, Options};
+use haskumye_independent::engine::{Call, Run};
+use haskumye_independent::relay::Relay;
+use haskumye_independent::traffic::Traffic;
+use std::fs;
+use std::path::PathBuf;
+
+#[test]
+fn a_recording_is_a_list_with_an_answer_to_each_call() {
+    let path = PathBuf::from(env!("CARGO_TARGET_TMPDIR")).join("recorded.calls");
+    let calls: Vec<Call> = Traffic::new(3).take(1_000).collect();
+    let options = Options { seed: 3, calls: calls.len(), ..Options::default() };
+    assert_eq!(record(&options, &path), Ok(calls.len()));
+    let text = fs::read_to_string(&path).expect("it was written");
+    assert_eq!(text.lines().next(), Some("# 1000 calls of seed 3"));
+    assert_eq!(text.lines().count(), 1 + calls.len());
+    for (line, call) in text.lines().skip(1).zip(&calls) {
+        let edit = matches!(call, Call::Save | Call::Restore | Call::Write { .. } | Call::Copy { .. } | Call::Resize(_));
+        assert_ne!(line.contains(" = "), edit, "{line}");
+    }
+    assert!(listed::read(&path) == Ok(calls));
+}
+
+/// As many calls as `scripts/build-host` records.
+#[test]
+fn the_gates_recording_reaches_every_refusal_reason_and_verdict() {
+    let (mut run, mut coverage) = (Run::new(Relay::as_written()), Coverage::default());
+    for call in Traffic::new(1).take(20_000) {
+        if let Some(outcome) = run.make(&call) {
+            coverage.count(&outcome);
+        }
+    }
+    for (what, times) in coverage.reached() {
+        assert!(times >= 10, "{what}: {times}");
+    }
+}
+
+/// A fresh relay's sum, worked out by a third program: the C host works out the same.
+#[test]
+fn the_sum() {
+    let path = PathBuf::from(env!("CARGO_TARGET_TMPDIR")).join("fresh.calls");
+    let list = vec![Call::Fresh([7; 16])];
+    record(&Options { list: Some(list), ..Options::default() }, &path).expect("it is written");
+    let text = fs::read_to_string(&path).expect("it was written");
+    assert!(text.ends_with(" = 0 0c83af87d7dca501\n"), "{text}");
+}

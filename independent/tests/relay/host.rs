@@ -1,0 +1,110 @@
+//! A relay on either engine, and the packets that scenarios send it.
+
+use haskumye_independent::answer::{Tally, Verdict};
+use haskumye_independent::engine::{Engine, Outcome};
+use haskumye_independent::faults::AsWritten;
+use haskumye_independent::packet::{self, Address, Header, Parts};
+use haskumye_independent::relay::Arrival;
+use haskumye_independent::sha256::Sha256;
+use haskumye_independent::tables::{PATHS, SIZE};
+
+pub const OWN: Address = [0xaa; 16];
+pub const NEIGHBOUR: Address = [0xbb; 16];
+/// What the output holds before a call that is to leave it.
+pub const BEFORE: [u8; 520] = [0xee; 520];
+
+/// A relay with ports 0 to 3 on: port 1 roaming, port 2 an access point, the others boundary.
+pub struct Host {
+    engine: Box<dyn Engine>,
+    pub tables: Vec<u8>,
+    pub tally: Tally,
+    pub output: [u8; 520],
+}
+
+impl Host {
+    pub fn new(engine: impl Engine + 'static) -> Self {
+        let mut host = Self { engine: Box::new(engine), tables: vec![0; SIZE], tally: [0; 6], output: BEFORE };
+        assert_eq!(host.engine.fresh(&mut host.tables, &mut host.tally, &OWN), Outcome::Done);
+        for (port, mode) in [(0, 0), (1, 2), (2, 1), (3, 0)] {
+            host.set_port(port, true, mode);
+        }
+        host
+    }
+
+    pub fn set_port(&mut self, port: u64, on: bool, mode: u64) {
+        assert_eq!(self.engine.set_port(&mut self.tables, port, on, mode), Outcome::Done);
+    }
+
+    pub fn add_local(&mut self, address: &Address) {
+        assert_eq!(self.engine.add_local(&mut self.tables, address), Outcome::Done);
+    }
+
+    /// A packet call that is lent the tables from a byte on, and so much of the output.
+    pub fn lend(&mut self, from: usize, room: usize, arrival: Arrival) -> Outcome {
+        self.engine.packet(&mut self.tables[from..], &mut self.tally, &mut self.output[..room], &arrival)
+    }
+
+    pub fn call(&mut self, packet: &[u8], port: u64, clock: u64, signature: bool) -> Outcome {
+        self.lend(0, BEFORE.len(), Arrival { packet, port, clock, signature })
+    }
+
+    /// The verdict on an accepted packet.
+    pub fn judged(&mut self, packet: &[u8], port: u64, clock: u64, signature: bool) -> Verdict {
+        match self.call(packet, port, clock, signature) {
+            Outcome::Judged(answer) => answer.verdict,
+            other => panic!("not judged: {other:?}"),
+        }
+    }
+
+    /// The same of a packet whose signature is good.
+    pub fn verdict(&mut self, packet: &[u8], port: u64, clock: u64) -> Verdict {
+        self.judged(packet, port, clock, true)
+    }
+
+    pub fn path(&self, place: usize) -> &[u8] {
+        PATHS.records.get(&self.tables, place)
+    }
+}
+
+/// The packet with these parts, its payload of any length.
+pub fn encode(parts: &Parts, payload: &[u8]) -> Vec<u8> {
+    let mut bytes = vec![0; parts.header.payload_start() + payload.len()];
+    packet::put(parts, payload, &mut bytes);
+    bytes
+}
+
+/// A station is a number here: its keys are bytes of that number.
+pub fn destination(station: u8) -> Address {
+    packet::destination(&Sha256::default(), &[station; 64], &[station; 10])
+}
+
+/// An announce of this header, hops, emission and whole length.
+pub fn announce(station: u8, header: u8, hops: u8, emission: u64, length: usize) -> Vec<u8> {
+    let parts = Parts { header: Header(header), hops, relay: NEIGHBOUR, destination: destination(station), context: 0 };
+    let mut payload = vec![station; length - parts.header.payload_start()];
+    payload[74..79].fill(emission as u8);
+    payload[79..84].copy_from_slice(&emission.to_be_bytes()[3..]);
+    encode(&parts, &payload)
+}
+
+/// Type 2 data or link request under our own address.
+pub fn to_station(station: u8, header: u8, hops: u8, payload: &[u8]) -> Vec<u8> {
+    encode(&Parts { header: Header(header), hops, relay: OWN, destination: destination(station), context: 0 }, payload)
+}
+
+pub fn type_1(header: u8, hops: u8, destination: Address, context: u8, payload: &[u8]) -> Vec<u8> {
+    encode(&Parts { header: Header(header), hops, relay: [0; 16], destination, context }, payload)
+}
+
+/// The id of the link that a request asks for.
+pub fn link_id(request: &[u8]) -> Address {
+    let parts = packet::read(request, 500, AsWritten).expect("it reads");
+    packet::link_id(&Sha256::default(), &parts, packet::payload(request), AsWritten)
+}
+
+/// The key of the return record that data leaves, which its receipt is sent to.
+pub fn return_key(data: &[u8]) -> Address {
+    let parts = packet::read(data, 500, AsWritten).expect("it reads");
+    let hash = packet::packet_hash(&Sha256::default(), &parts, packet::payload(data), AsWritten);
+    std::array::from_fn(|i| hash[i])
+}
