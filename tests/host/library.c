@@ -1,0 +1,186 @@
+#include "library.h"
+
+#include "check.h"
+#include "haskumye.h"
+#include "stack.h"
+
+#include <stdbool.h>
+#include <stdio.h>
+
+/* No call may touch more stack. */
+enum { STACK_LIMIT = 16384 };
+
+static uint64_t nothing(const struct use *use)
+{
+    (void)use;
+    return 0;
+}
+
+static uint64_t table_size(const struct use *use)
+{
+    (void)use;
+    return haskumye_table_size();
+}
+
+static uint64_t check(const struct use *use)
+{
+    return haskumye_check(use->tables.bytes, use->tables.length);
+}
+
+static uint64_t fresh(const struct use *use)
+{
+    return haskumye_fresh(use->tables.bytes, use->tables.length, (const haskumye_address *)use->input.bytes);
+}
+
+static uint64_t set_port(const struct use *use)
+{
+    return haskumye_set_port(use->tables.bytes, use->tables.length, use->port, use->byte, use->mode);
+}
+
+static uint64_t add_local(const struct use *use)
+{
+    return haskumye_add_local(use->tables.bytes, use->tables.length, (const haskumye_address *)use->input.bytes);
+}
+
+static uint64_t remove_local(const struct use *use)
+{
+    return haskumye_remove_local(use->tables.bytes, use->tables.length, (const haskumye_address *)use->input.bytes);
+}
+
+static uint64_t renumber(const struct use *use)
+{
+    return haskumye_renumber(use->tables.bytes, use->tables.length, (const haskumye_port_map *)use->input.bytes);
+}
+
+static uint64_t packet(const struct use *use)
+{
+    return haskumye_packet(use->input.bytes, use->input.length, use->port, use->clock, use->byte, use->tables.bytes,
+                           use->tables.length, use->output.bytes, use->output.length,
+                           (haskumye_tally *)(void *)use->tally.bytes);
+}
+
+static uint64_t read_parts(const struct use *use)
+{
+    return haskumye_read(use->input.bytes, use->input.length, (haskumye_parts *)use->output.bytes);
+}
+
+static uint64_t payload_start(const struct use *use)
+{
+    return haskumye_payload_start(use->input.bytes, use->input.length);
+}
+
+static uint64_t write_packet(const struct use *use)
+{
+    return haskumye_write((const haskumye_parts *)use->parts.bytes, use->input.bytes, use->input.length,
+                          use->output.bytes, use->output.length);
+}
+
+static uint64_t packet_hash(const struct use *use)
+{
+    return haskumye_packet_hash(use->input.bytes, use->input.length, (haskumye_hash *)use->output.bytes);
+}
+
+static uint64_t link_id(const struct use *use)
+{
+    return haskumye_link_id(use->input.bytes, use->input.length, (haskumye_address *)use->output.bytes);
+}
+
+static uint64_t announced_destination(const struct use *use)
+{
+    haskumye_announced_destination(use->input.bytes, use->input.length, (haskumye_address *)use->output.bytes);
+    return 0;
+}
+
+static uint64_t least_announce(const struct use *use)
+{
+    return haskumye_least_announce(use->byte);
+}
+
+static uint64_t emission(const struct use *use)
+{
+    return haskumye_emission((const haskumye_blob *)use->input.bytes);
+}
+
+static uint64_t line(const struct use *use)
+{
+    return haskumye_line(use->input.bytes, use->input.length, (haskumye_text *)use->output.bytes);
+}
+
+static uint64_t sha256(const struct use *use)
+{
+    return haskumye_sha256(use->input.bytes, use->input.length, (haskumye_hash *)use->output.bytes);
+}
+
+static const struct {
+    const char *name;
+    uint64_t (*call)(const struct use *use);
+} functions[FUNCTION_COUNT] = {
+    [NOTHING] = {"(an empty call)", nothing},
+    [TABLE_SIZE] = {"haskumye_table_size", table_size},
+    [CHECK] = {"haskumye_check", check},
+    [FRESH] = {"haskumye_fresh", fresh},
+    [SET_PORT] = {"haskumye_set_port", set_port},
+    [ADD_LOCAL] = {"haskumye_add_local", add_local},
+    [REMOVE_LOCAL] = {"haskumye_remove_local", remove_local},
+    [RENUMBER] = {"haskumye_renumber", renumber},
+    [PACKET] = {"haskumye_packet", packet},
+    [READ] = {"haskumye_read", read_parts},
+    [PAYLOAD_START] = {"haskumye_payload_start", payload_start},
+    [WRITE] = {"haskumye_write", write_packet},
+    [PACKET_HASH] = {"haskumye_packet_hash", packet_hash},
+    [LINK_ID] = {"haskumye_link_id", link_id},
+    [ANNOUNCED_DESTINATION] = {"haskumye_announced_destination", announced_destination},
+    [LEAST_ANNOUNCE] = {"haskumye_least_announce", least_announce},
+    [EMISSION] = {"haskumye_emission", emission},
+    [LINE] = {"haskumye_line", line},
+    [SHA256] = {"haskumye_sha256", sha256},
+};
+
+static bool measuring;
+static size_t calls[FUNCTION_COUNT], deepest[FUNCTION_COUNT];
+
+/* A call that is made on another stack. */
+struct away {
+    enum function function;
+    const struct use *use;
+    uint64_t number;
+};
+
+static void make(void *argument)
+{
+    struct away *away = argument;
+    away->number = functions[away->function].call(away->use);
+}
+
+uint64_t library_call(enum function function, const struct use *use)
+{
+    struct away away = {function, use, 0};
+    calls[function]++;
+    if (!measuring) {
+        make(&away);
+        return away.number;
+    }
+    size_t depth = stack_depth(make, &away);
+    if (depth > deepest[function]) {
+        deepest[function] = depth;
+    }
+    return away.number;
+}
+
+void library_measure(void)
+{
+    measuring = true;
+    stack_expect_measured();
+}
+
+void library_end(void)
+{
+    library_call(NOTHING, &(struct use){0});
+    for (int i = 0; i < FUNCTION_COUNT; i++) {
+        expect(functions[i].name, calls[i] > 0, 1);
+        if (measuring) {
+            printf("%-31s %6zu bytes of stack\n", functions[i].name, deepest[i]);
+            expect("a call within the stack allowed", deepest[i] <= STACK_LIMIT, 1);
+        }
+    }
+}

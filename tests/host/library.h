@@ -1,0 +1,52 @@
+/* The library's functions, each called in the same way: directly, or on a stack whose depth is measured. */
+#ifndef HOST_LIBRARY_H
+#define HOST_LIBRARY_H
+
+#include "buffer.h"
+
+#include <stdint.h>
+
+enum function {
+    NOTHING, /* an empty call, for what measuring itself takes */
+    TABLE_SIZE,
+    CHECK,
+    FRESH,
+    SET_PORT,
+    ADD_LOCAL,
+    REMOVE_LOCAL,
+    RENUMBER,
+    PACKET,
+    READ,
+    PAYLOAD_START,
+    WRITE,
+    PACKET_HASH,
+    LINK_ID,
+    ANNOUNCED_DESTINATION,
+    LEAST_ANNOUNCE,
+    EMISSION,
+    LINE,
+    SHA256,
+    FUNCTION_COUNT
+};
+
+/* What a function is given; each takes what it needs of it. */
+struct use {
+    struct buffer input;  /* packet, payload, message, address, map or blob */
+    struct buffer parts;
+    struct buffer output; /* or where an answer of a fixed size goes */
+    struct buffer tables;
+    struct buffer tally;
+    uint64_t port, clock, mode;
+    uint8_t byte;         /* the signature word, on or off, or a header */
+};
+
+/* The number that the function returns, 0 where it returns none. */
+uint64_t library_call(enum function function, const struct use *use);
+
+/* From now on every call's stack is measured. */
+void library_measure(void);
+
+/* Expects that every function was called, and on no more stack than allowed; prints how deep each went. */
+void library_end(void);
+
+#endif

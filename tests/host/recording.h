@@ -1,0 +1,29 @@
+/* A recording's lines, as independent/src/compare/record.rs writes them. */
+#ifndef HOST_RECORDING_H
+#define HOST_RECORDING_H
+
+#include "buffer.h"
+#include "library.h"
+
+/* A call of the library, or what its caller does to the tables in between. */
+enum edit { NO_EDIT, SAVE, RESTORE, OVERWRITE, COPY, RESIZE };
+
+struct recorded {
+    enum function function; /* NOTHING for an edit */
+    enum edit edit;
+    struct buffer bytes;    /* packet, address, map, or what is written */
+    uint64_t port, clock, mode;
+    bool yes;               /* the signature word, or on */
+    uint64_t room;          /* of the output */
+    uint8_t fill;
+    uint64_t at, from, length;
+    uint64_t number, sum;   /* what a call must return, and leave */
+};
+
+/* How many lines the first one promises, or 0. */
+size_t recording_size(const char *line);
+
+/* Reads a line. False where it is none of a recording. */
+bool recording_read(const char *line, struct recorded *call);
+
+#endif
