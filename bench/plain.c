@@ -1,4 +1,4 @@
-/* A plain SHA-256 from FIPS 180-4, for comparison. */
+/* Plain C for comparison: SHA-256 from FIPS 180-4, and a search among remembered hashes. */
 #include <stddef.h>
 #include <stdint.h>
 #include <string.h>
@@ -43,11 +43,33 @@ void plain_sha256(const uint8_t *message, size_t length, uint8_t out[32]) {
     uint64_t bits = (uint64_t)length * 8;
     memcpy(last, message + i, rest);
     last[rest] = 0x80;
-    for (int k = 0; k < 8; k++)
+    for (size_t k = 0; k < 8; k++)
         last[end - 1 - k] = (uint8_t)(bits >> 8 * k);
     compress(s, last);
     if (end == 128)
         compress(s, last + 64);
-    for (int k = 0; k < 8; k++)
-        out[4 * k] = s[k] >> 24, out[4 * k + 1] = s[k] >> 16, out[4 * k + 2] = s[k] >> 8, out[4 * k + 3] = s[k];
+    for (int k = 0; k < 32; k++)
+        out[k] = (uint8_t)(s[k / 4] >> (24 - k % 4 * 8));
+}
+
+static uint64_t time_at(const uint8_t *p) {
+    uint64_t time = 0;
+    for (int i = 0; i < 8; i++)
+        time = time << 8 | p[i];
+    return time;
+}
+
+/* The place of a live hash among records of 41 bytes: mark, hash, expiry. Hashes are compared from the first byte on. */
+size_t plain_search(const uint8_t *records, size_t count, const uint8_t hash[32], uint64_t clock) {
+    for (size_t place = 0; place < count; place++) {
+        const uint8_t *record = records + 41 * place;
+        if (record[0] != 1)
+            continue;
+        size_t equal = 0;
+        while (equal < 32 && record[1 + equal] == hash[equal])
+            equal++;
+        if (equal == 32 && clock < time_at(record + 33))
+            return place;
+    }
+    return count;
 }

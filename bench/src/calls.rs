@@ -1,0 +1,45 @@
+//! Packet calls of each kind, over tables that are empty, half full and full of live records.
+
+use crate::kinds::{Call, KINDS};
+use crate::measure::{best, Report};
+use crate::scene::Scene;
+use crate::state::{agreed, Independent, State, PROGRAMS};
+use haskumye_independent::faults::Tuned;
+use haskumye_independent::samples::Fill;
+use std::time::Instant;
+
+/// Which records the tables hold.
+const TITLE: &str = "Packet calls, over tables that are empty, half full and full of live records. The record that a packet needs stands
+behind all others of its table; empty tables hold it alone. A new path or link takes the first free place, in full
+tables the last, which is expired.";
+
+/// A call changes the tables, so a turn makes one call on each of so many copies, restored before it outside the time that counts.
+/// All copies (8 of 71 KiB) lie in a second-level cache of 1 MiB, where a busy relay's tables lie too; no first-level cache holds one.
+const COPIES: usize = 8;
+
+/// Nanoseconds of a call on the core and on the independent relay.
+fn time(before: &State, call: &Call) -> [f64; 2] {
+    let after = agreed(before, call);
+    let mut relay = Independent::new(Tuned);
+    let mut copies = vec![before.clone(); COPIES];
+    best(COPIES, |program| {
+        copies.iter_mut().for_each(|copy| copy.restore(before));
+        let start = Instant::now();
+        copies.iter_mut().for_each(|copy| PROGRAMS[program](&mut relay, call, copy));
+        let time = start.elapsed();
+        assert!(copies[COPIES - 1] == after, "a timed call did something else");
+        time
+    })
+}
+
+pub fn run(report: &mut Report) {
+    report.table(TITLE, &format!("{:<33}{:>5}  tables", "kind", "bytes"), &[]);
+    for (name, kind) in KINDS {
+        for (filled, fill) in [("empty", Fill::Empty), ("half", Fill::FirstHalf), ("full", Fill::Full)] {
+            let mut scene = Scene::new(fill);
+            let call = kind(&mut scene);
+            let what = format!("{name:<33}{:>5}  {filled}", call.packet.len());
+            report.line(&what, || time(&State::new(scene.tables), &call));
+        }
+    }
+}

@@ -1,0 +1,172 @@
+//! The kinds of packet calls: each puts the records that it needs into a scene's tables and says what must be answered.
+
+use crate::scene::{hash_of, Scene, OWN};
+use haskumye_independent::answer::{Reason, Refusal, Verdict};
+use haskumye_independent::packet::{self, Address};
+use haskumye_independent::sha256::Sha256;
+use haskumye_independent::tables::{link, path, returned, HASHES, LINKS, PATHS, RETURNS};
+
+/// The port that data and requests come in by, and the one they leave by; what answers them goes the other way.
+const ARRIVAL: u8 = 1;
+const LEAVING: u8 = 2;
+/// The ports that an announce is spread to.
+const OTHERS: u16 = !(1 << ARRIVAL);
+
+/// Bytes of payload; a link request and its proof carry three of signalling behind keys and signature.
+const DATA: usize = 100;
+const ANNOUNCE: usize = 164;
+const LINK_REQUEST: usize = 67;
+const LINK_PROOF: usize = 99;
+const PROOF: usize = 64;
+
+/// A packet call on a scene's tables.
+pub struct Call {
+    pub packet: Vec<u8>,
+    pub port: u8,
+    pub expected: Result<Verdict, Refusal>,
+}
+
+fn arriving(packet: Vec<u8>, verdict: Verdict) -> Call {
+    Call { packet, port: ARRIVAL, expected: Ok(verdict) }
+}
+
+pub type Kind = fn(&mut Scene) -> Call;
+
+pub const KINDS: &[(&str, Kind)] = &[
+    ("data, last hop", data_on_last_hop),
+    ("data, onward", data_onward),
+    ("data, delivered", data_delivered),
+    ("data, no way on (drop 6)", data_without_path),
+    ("data, not ours (drop 1)", data_not_ours),
+    ("data, duplicate (drop 2)", data_again),
+    ("announce, new path, spread", announce_new),
+    ("announce, known path, spread", announce_known),
+    ("announce, replay (drop 10)", announce_again),
+    ("link request, onward", link_request),
+    ("link proof", link_proof),
+    ("link data to the answering side", link_data_asking),
+    ("link data to the asking side", link_data_answering),
+    ("ordinary proof", ordinary_proof),
+    ("access code set (refusal 3)", access_code),
+];
+
+/// Puts in a path of these hops to a random destination.
+fn path_of(scene: &mut Scene, hops: u8) -> Address {
+    let destination = scene.random.array();
+    scene.put(&PATHS, &destination, &[(path::PORT, LEAVING), (path::HOPS, hops)]);
+    destination
+}
+
+fn data_on_last_hop(scene: &mut Scene) -> Call {
+    let destination = path_of(scene, 0);
+    arriving(scene.packet(0x50, destination, DATA), Verdict::Forward(LEAVING))
+}
+
+fn data_onward(scene: &mut Scene) -> Call {
+    let destination = path_of(scene, 3);
+    arriving(scene.packet(0x50, destination, DATA), Verdict::Forward(LEAVING))
+}
+
+fn data_delivered(scene: &mut Scene) -> Call {
+    let destination = scene.random.array();
+    scene.put_local(&destination);
+    arriving(scene.packet(0x00, destination, DATA), Verdict::Deliver)
+}
+
+fn data_without_path(scene: &mut Scene) -> Call {
+    let destination = scene.random.array();
+    arriving(scene.packet(0x50, destination, DATA), Verdict::Drop(Reason::NoWayOn))
+}
+
+fn data_not_ours(scene: &mut Scene) -> Call {
+    let destination = path_of(scene, 3);
+    let mut packet = scene.packet(0x50, destination, DATA);
+    // the last byte of the relay address
+    packet[17] ^= 1;
+    arriving(packet, Verdict::Drop(Reason::NotOurs))
+}
+
+pub fn data_again(scene: &mut Scene) -> Call {
+    let destination = path_of(scene, 3);
+    let packet = scene.packet(0x50, destination, DATA);
+    scene.put(&HASHES, &hash_of(&packet), &[]);
+    arriving(packet, Verdict::Drop(Reason::Duplicate))
+}
+
+/// An announce with this emission, and its destination.
+fn announce(scene: &mut Scene, emission: u64) -> (Vec<u8>, Address) {
+    let mut packet = scene.packet(0x01, [0; 16], ANNOUNCE);
+    let payload = &mut packet[packet::START_1..];
+    payload[79..84].copy_from_slice(&emission.to_be_bytes()[3..]);
+    let destination = packet::destination(&Sha256::default(), &payload[..64], &payload[64..74]);
+    packet[2..18].copy_from_slice(&destination);
+    (packet, destination)
+}
+
+fn announce_new(scene: &mut Scene) -> Call {
+    scene.make_room(&PATHS);
+    arriving(announce(scene, 5).0, Verdict::Spread(OTHERS))
+}
+
+/// A path that holds sixteen blobs, of emissions 1 to 16.
+fn known_path<'a>(scene: &'a mut Scene, destination: &Address) -> &'a mut [u8] {
+    let record = scene.put(&PATHS, destination, &[(path::HOPS, 1)]);
+    for (blob, emission) in record[path::BLOBS..].chunks_exact_mut(10).zip(1u64..) {
+        blob[5..].copy_from_slice(&emission.to_be_bytes()[3..]);
+    }
+    record
+}
+
+fn announce_known(scene: &mut Scene) -> Call {
+    let (packet, destination) = announce(scene, 17);
+    known_path(scene, &destination);
+    arriving(packet, Verdict::Spread(OTHERS))
+}
+
+fn announce_again(scene: &mut Scene) -> Call {
+    let (packet, destination) = announce(scene, 16);
+    let newest = path::BLOBS + 150;
+    known_path(scene, &destination)[newest..newest + 10].copy_from_slice(&packet[packet::START_1 + 74..][..10]);
+    arriving(packet, Verdict::Drop(Reason::Replay))
+}
+
+fn link_request(scene: &mut Scene) -> Call {
+    scene.make_room(&LINKS);
+    let destination = path_of(scene, 3);
+    arriving(scene.packet(0x52, destination, LINK_REQUEST), Verdict::Forward(LEAVING))
+}
+
+/// A link that was asked for by the arrival port, one hop from either side.
+fn link_of(scene: &mut Scene, proved: bool) -> Address {
+    let id = scene.random.array();
+    let sides = [(link::ASKING, ARRIVAL), (link::ANSWERING, LEAVING), (link::TAKEN, 1), (link::REMAINING, 1)];
+    scene.put(&LINKS, &id, &sides)[link::PROVED] = u8::from(proved);
+    id
+}
+
+fn link_proof(scene: &mut Scene) -> Call {
+    let id = link_of(scene, false);
+    let mut packet = scene.packet(0x0f, id, LINK_PROOF);
+    packet[packet::START_1 - 1] = packet::LINK_PROOF;
+    Call { port: LEAVING, ..arriving(packet, Verdict::Forward(ARRIVAL)) }
+}
+
+fn link_data_asking(scene: &mut Scene) -> Call {
+    let id = link_of(scene, true);
+    arriving(scene.packet(0x0c, id, DATA), Verdict::Forward(LEAVING))
+}
+
+fn link_data_answering(scene: &mut Scene) -> Call {
+    let id = link_of(scene, true);
+    Call { port: LEAVING, ..arriving(scene.packet(0x0c, id, DATA), Verdict::Forward(ARRIVAL)) }
+}
+
+fn ordinary_proof(scene: &mut Scene) -> Call {
+    let key: Address = scene.random.array();
+    scene.put(&RETURNS, &key, &[(returned::ARRIVAL, ARRIVAL), (returned::LEAVING, LEAVING)]);
+    Call { port: LEAVING, ..arriving(scene.packet(0x03, key, PROOF), Verdict::Forward(ARRIVAL)) }
+}
+
+fn access_code(scene: &mut Scene) -> Call {
+    Call { packet: scene.packet(0x80, OWN, DATA), port: ARRIVAL, expected: Err(Refusal::AccessCode) }
+}
