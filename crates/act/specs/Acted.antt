@@ -5,15 +5,14 @@ use mathlib.Core.Bool.{true, false}
 use mathlib.Core.List.{List}
 use mathlib.Core.Path.{_≡_}
 use Rattle.octets.specs.Choice.{_then_otherwise_}
-use Rattle.packet.specs.Header.{typeTwo}
 use Rattle.packet.specs.Read.{longestPacket, reads}
 use Rattle.packet.specs.Hash.{packetHash}
-use Rattle.rules.specs.Numbers.{portCount, clockLimit, pathLifetime}
+use Rattle.rules.specs.Numbers.{portCount, clockLimit}
 use Rattle.rules.specs.View.{View, viewAt}
-use Rattle.rules.specs.Arrival.{Arrival, header, hops, relayAddress, destination}
+use Rattle.rules.specs.Arrival.{Arrival, hops, destination}
 use Rattle.rules.specs.Refusals.{packetRefusal}
 use Rattle.rules.specs.Judging.{Plan, plan, verdict, outputAfter}
-use Rattle.rules.specs.Writes.{enact}
+use Rattle.rules.specs.Writes.{nextHopOf, pathExpiry, enact}
 use Rattle.rules.specs.declared.Verdict.{Verdict}
 use Rattle.tables.specs.Layout.{relayOf, bytesOf, wellFormed}
 use Rattle.update.specs.declared.Announced.{Announced}
@@ -62,6 +61,6 @@ announcedBy v a =
       destination = destination a;
       port = a .port;
       hops = hops a;
-      «next_hop» = typeTwo (header a) then relayAddress a otherwise destination a;
-      expiry = a .clock + pathLifetime (v .mode (a .port));
+      «next_hop» = nextHopOf a;
+      expiry = pathExpiry v a;
     }

@@ -3,13 +3,12 @@
 use Prim.Native.Nat.{ℕ, _+_}
 use mathlib.Core.Bool.{Bool}
 use mathlib.Core.List.{List}
-use lib.Dec.{ltb}
 use lib.ListN.{take}
 use Rattle.octets.specs.Choice.{_then_otherwise_}
 use Rattle.rules.specs.Numbers.{blobLimit, hashLifetime, returnLifetime}
 use Rattle.rules.specs.Relay.{Blobs}
 use Rattle.rules.specs.Blobs.{oneBlob, addBlob}
-use Rattle.rules.specs.Answers.{reasonNumber}
+use Rattle.rules.specs.Writes.{remembersDrop}
 use Rattle.rules.specs.declared.Link.{Link}
 use Rattle.rules.specs.declared.Reason.{Reason}
 use Rattle.tables.specs.Places.{pathsAt, pathWidth}
@@ -29,7 +28,7 @@ packetKept t hash clock = stamped t (relayOf t .hashes .next) hash clock
 -- drops 1 and 2 remember nothing
 unfoldable pub dropKept : List ℕ → Reason → List ℕ → ℕ → List ℕ
 dropKept t reason hash clock =
-    ltb 2 (reasonNumber reason) then packetKept t hash clock otherwise clockWritten t clock
+    remembersDrop reason then packetKept t hash clock otherwise clockWritten t clock
 
 -- ---- an announce's path
 unfoldable pub blobsKept : List ℕ → ℕ → Bool → List ℕ → Blobs

@@ -12,17 +12,17 @@ ghost use lib.Dec.{eqb};
 ghost use lib.ListN.{length};
 ghost use Rattle.octets.specs.Index.{_and_};
 ghost use Rattle.octets.specs.Choice.{_then_otherwise_};
-ghost use Rattle.packet.specs.Header.{typeTwo};
-ghost use Rattle.packet.specs.Read.{headerOf, partsOf, longestPacket, reads};
+ghost use Rattle.packet.specs.Read.{longestPacket, reads};
 ghost use Rattle.octets.specs.Part.{patch};
 ghost use Rattle.rules.specs.Numbers.{portCount, pathCount, clockLimit, pathLifetime};
 ghost use Rattle.rules.specs.View.{portOn};
 ghost use Rattle.rules.specs.Answers.{portSet};
 ghost use Rattle.rules.specs.Outgoing.{spreadPorts, spreadPacket};
 ghost use Rattle.rules.specs.Judging.{spreadVerdict, leaves};
+ghost use Rattle.rules.specs.Writes.{nextHopOf};
 ghost use Rattle.tables.specs.Places.{tableSize};
 ghost use Rattle.tables.specs.Layout.{relayOf, wellFormed};
-ghost use Rattle.outgoing.specs.Leaving.{Onward};
+ghost use Rattle.outgoing.specs.Leaving.{alone, Onward};
 ghost use Rattle.plan.specs.declared.Decision.the-variants.{Announce};
 ghost use Rattle.plan.specs.Decided.{arrivalOf, decision};
 ghost use Rattle.act.specs.Kept.{pathPut, pathKept};
@@ -47,7 +47,7 @@ fn path_lifetime(mode: u8) -> u64
 // The next hop: the relay address, or the destination if type 1.
 fn next_hop_of(packet: &[u8]) -> [u8; 16]
     requires { ⌜ reads longestPacket (now packet) ≡ true ⌝ }
-    ensures { λ r. ⌜ r ≡ (typeTwo (headerOf (now (packet .entry))) then partsOf (now (packet .entry)) .relay otherwise partsOf (now (packet .entry)) .destination) ⌝ }
+    ensures { λ r. ⌜ r ≡ nextHopOf (alone (now (packet .entry))) ⌝ }
 {
     let parts = packet::parts_of(packet);
     if packet::type_two(packet[0]) {

@@ -1,10 +1,14 @@
--- How an answer lies in one number.
+-- How an answer lies in one number, and what a host's packet call promises.
 use Prim.Native.Nat.{ℕ, _+_, _*_, _%_}
+use mathlib.Core.List.{List}
+use mathlib.Core.Path.{_≡_}
 use Rattle.rules.specs.Answers.{reasonNumber}
 use Rattle.rules.specs.declared.Verdict.{Verdict}
 use Rattle.rules.specs.declared.Verdict.the-variants.{Drop, Deliver, Forward, Spread, Kept}
 use Rattle.rules.specs.declared.Answer.{Answer}
 use Rattle.rules.specs.declared.Answer.the-variants.{Refused, Judged}
+use Rattle.rules.specs.declared.Tally.{Tally}
+use Rattle.relay.specs.Promise.{Outcome}
 
 -- the kind in bits 0 to 7, a refusal's or a reason's number in 8 to 15, a port or a port set in 16 to 31, the length in 32 to 47
 unfoldable pub fieldsNumber : ℕ → ℕ → ℕ → ℕ → ℕ
@@ -20,3 +24,7 @@ verdictNumber Kept = fieldsNumber 5 0 0 0
 unfoldable pub answerNumber : Answer → ℕ
 answerNumber (Refused number) = fieldsNumber 0 number 0 0
 answerNumber (Judged verdict) = verdictNumber verdict
+
+-- what a host's packet call returned and left is this, with the answer as its number
+abbrev pub Answers : Outcome → ℕ → Tally → List ℕ → List ℕ → Type 0
+Answers o number tally tables output = (number ≡ answerNumber (o .answer)) × (tally ≡ o .tally) × (tables ≡ o .tables) × (output ≡ o .output)

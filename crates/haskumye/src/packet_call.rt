@@ -1,10 +1,9 @@
 // The packet call of a host.
 use super::numbers::answer_number;
 use rules::Tally;
-ghost use mathlib.Core.Path.{_≡_};
 ghost use lib.Dec.{eqb};
 ghost use Rattle.relay.specs.Promise.{packetOn};
-ghost use Rattle.haskumye.specs.Answers.{answerNumber};
+ghost use Rattle.haskumye.specs.Answers.{Answers};
 
 // What the call by value returns.
 pub struct Numbered {
@@ -22,10 +21,7 @@ fn judge_numbered(
     output: &mut [u8],
     tally: Tally,
 ) -> Numbered
-    ensures { λ r. ⌜ (r .number ≡ answerNumber (packetOn (now (packet .entry)) port clock (eqb signed 1) (now (tables .entry)) tally (now (output .entry)) .answer))
-        × (r .tally ≡ packetOn (now (packet .entry)) port clock (eqb signed 1) (now (tables .entry)) tally (now (output .entry)) .tally)
-        × (now (tables .exit) ≡ packetOn (now (packet .entry)) port clock (eqb signed 1) (now (tables .entry)) tally (now (output .entry)) .tables)
-        × (now (output .exit) ≡ packetOn (now (packet .entry)) port clock (eqb signed 1) (now (tables .entry)) tally (now (output .entry)) .output) ⌝ }
+    ensures { λ r. ⌜ Answers (packetOn (now (packet .entry)) port clock (eqb signed 1) (now (tables .entry)) tally (now (output .entry))) (r .number) (r .tally) (now (tables .exit)) (now (output .exit)) ⌝ }
 {
     let judged = relay::judge(packet, port, clock, signed == 1, tables, output, tally);
     let answer = judged.answer;
@@ -50,10 +46,7 @@ pub extern "C" fn haskumye_packet(
     output: &mut [u8],
     tally: &mut Tally,
 ) -> u64
-    ensures { λ r. ⌜ (r ≡ answerNumber (packetOn (now (packet .entry)) port clock (eqb signed 1) (now (tables .entry)) (now (tally .entry)) (now (output .entry)) .answer))
-        × (now (tally .exit) ≡ packetOn (now (packet .entry)) port clock (eqb signed 1) (now (tables .entry)) (now (tally .entry)) (now (output .entry)) .tally)
-        × (now (tables .exit) ≡ packetOn (now (packet .entry)) port clock (eqb signed 1) (now (tables .entry)) (now (tally .entry)) (now (output .entry)) .tables)
-        × (now (output .exit) ≡ packetOn (now (packet .entry)) port clock (eqb signed 1) (now (tables .entry)) (now (tally .entry)) (now (output .entry)) .output) ⌝ }
+    ensures { λ r. ⌜ Answers (packetOn (now (packet .entry)) port clock (eqb signed 1) (now (tables .entry)) (now (tally .entry)) (now (output .entry))) r (now (tally .exit)) (now (tables .exit)) (now (output .exit)) ⌝ }
 {
     let j = judge_numbered(packet, port, clock, signed, tables, output, *tally);
     *tally = j.tally;

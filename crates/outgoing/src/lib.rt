@@ -9,7 +9,5 @@ pub use form::is_link_proof;
 pub use leaving::carry;
 pub use leaving::forward_by_path;
 pub use leaving::spread;
-pub use leaving::spread_header;
 pub use leaving::spread_length;
-pub use ports::with_port;
 pub use ports::with_spread_port;

@@ -35,7 +35,7 @@ use Rattle.update.specs.Written.{clockWritten}
 use Rattle.act.specs.Kept.{dropKept}
 use Rattle.act.proofs.Stays.{drop-left}
 use Rattle.act.specs.Acted.{packetRefusalOn, Accepted, verdictOn, tablesOn, outputOn}
-use Rattle.relay.specs.Promise.{Outcome, inBytes, packetOn}
+use Rattle.relay.specs.Promise.{Outcome, Promises, inBytes, packetOn}
 
 module _ (packet : List ℕ) (port clock : ℕ) (signed : Bool) (t : List ℕ) (tally : Tally) (output : List ℕ) where
   abbrev a : Arrival
@@ -47,11 +47,7 @@ module _ (packet : List ℕ) (port clock : ℕ) (signed : Bool) (t : List ℕ) (
   abbrev whole : Outcome
   whole = packetOn packet port clock signed t tally output
 
-  -- the four equations of a packet call
-  abbrev pub Promised : Answer → Tally → List ℕ → List ℕ → Type 0
-  Promised answer after u o = (answer ≡ whole .answer) × (after ≡ whole .tally) × (u ≡ whole .tables) × (o ≡ whole .output)
-
-  promised : {x : Outcome} → x ≡ whole → Promised (x .answer) (x .tally) (x .tables) (x .output)
+  promised : {x : Outcome} → x ≡ whole → Promises whole (x .answer) (x .tally) (x .tables) (x .output)
   promised e =
       (ap (λ (y : Outcome). y .answer) e, ap (λ (y : Outcome). y .tally) e, ap (λ (y : Outcome). y .tables) e, ap (λ (y : Outcome). y .output) e)
 
@@ -71,7 +67,7 @@ module _ (packet : List ℕ) (port clock : ℕ) (signed : Bool) (t : List ℕ) (
           let e : n ≡ packetRefusal (relayOf t) a (length output) = q ∙ by-rules h in
           rw (h, ne-eqb (packetRefusal (relayOf t) a (length output)) 0 (λ z. some (e ∙ z)), ← e, again t b h)
 
-  pub refused-promised : Bytes t → (n : ℕ) → n ≡ number → (n ≡ 0 → ⊥) → Promised (Refused n) tally t output
+  pub refused-promised : Bytes t → (n : ℕ) → n ≡ number → (n ≡ 0 → ⊥) → Promises whole (Refused n) tally t output
   refused-promised b n q some = promised (refused b n q some)
 
   -- ---- an accepted packet
@@ -122,14 +118,14 @@ module _ (packet : List ℕ) (port clock : ℕ) (signed : Bool) (t : List ℕ) (
       judged-whole x u o q1 q2 q3 = rw (q1, q2, q3, same-arrival, same-clock, formed, passes)
 
       pub judged-promised : (x : Verdict) (after : Tally) (u o : List ℕ) → x ≡ verdictOn packet m t → u ≡ tablesOn packet m t → o ≡ outputOn packet m t output
-          → after ≡ counted x tally → Promised (Judged x) after u o
+          → after ≡ counted x tally → Promises whole (Judged x) after u o
       judged-promised x after u o q1 q2 q3 q4 =
           let e = promised (judged-whole x u o q1 q2 q3) in
           (e .0, q4 ∙ e .1, e .2, e .3)
 
       -- ---- test 1's drop: the clock alone is written
       pub passed-promised : Bytes t → notOurs (viewAt (m .clock) (relayOf t)) (arrivalOf packet m) ≡ true → (after : Tally) (u : List ℕ)
-          → u ≡ clockWritten t (m .clock) → after ≡ counted (Drop NotOurs) tally → Promised (Judged (Drop NotOurs)) after u output
+          → u ≡ clockWritten t (m .clock) → after ≡ counted (Drop NotOurs) tally → Promises whole (Judged (Drop NotOurs)) after u output
       unfolding decision decided plan dropKept reasonNumber _then_otherwise_
       passed-promised b ours after u q n =
           let hash : List ℕ = packetHash packet in

@@ -2,6 +2,7 @@
 use Prim.Native.Nat.{ℕ}
 use mathlib.Core.Bool.{Bool}
 use mathlib.Core.List.{List}
+use mathlib.Core.Path.{_≡_}
 use Rattle.octets.specs.Choice.{_then_otherwise_}
 use Rattle.rules.specs.Arrival.{Arrival}
 use Rattle.rules.specs.Calls.{Judgement, packetCall}
@@ -16,6 +17,10 @@ pub record Outcome : Type 0 where
   pub tables : List ℕ
   pub tally : Tally
   pub output : List ℕ
+
+-- what a call returned and left is this
+abbrev pub Promises : Outcome → Answer → Tally → List ℕ → List ℕ → Type 0
+Promises o answer tally tables output = (answer ≡ o .answer) × (tally ≡ o .tally) × (tables ≡ o .tables) × (output ≡ o .output)
 
 -- the rules' judgement, its relay as bytes
 unfoldable pub inBytes : Judgement → Outcome

@@ -5,8 +5,7 @@ use rules::Answer;
 use rules::Reason;
 use rules::Tally;
 use rules::Verdict;
-ghost use mathlib.Core.Path.{_≡_};
-ghost use Rattle.relay.specs.Promise.{packetOn};
+ghost use Rattle.relay.specs.Promise.{Promises, packetOn};
 
 // What a packet call returns where the tally goes in by value.
 pub struct Judged {
@@ -25,10 +24,7 @@ pub fn judge(
     output: &mut [u8],
     tally: Tally,
 ) -> Judged
-    ensures { λ r. ⌜ (r .answer ≡ packetOn (now (packet .entry)) port clock signed (now (tables .entry)) tally (now (output .entry)) .answer)
-        × (r .tally ≡ packetOn (now (packet .entry)) port clock signed (now (tables .entry)) tally (now (output .entry)) .tally)
-        × (now (tables .exit) ≡ packetOn (now (packet .entry)) port clock signed (now (tables .entry)) tally (now (output .entry)) .tables)
-        × (now (output .exit) ≡ packetOn (now (packet .entry)) port clock signed (now (tables .entry)) tally (now (output .entry)) .output) ⌝ }
+    ensures { λ r. ⌜ Promises (packetOn (now (packet .entry)) port clock signed (now (tables .entry)) tally (now (output .entry))) (r .answer) (r .tally) (now (tables .exit)) (now (output .exit)) ⌝ }
 {
     let refusal = act::refusal(packet, port, clock, tables, output.len());
     if refusal != 0 {

@@ -16,6 +16,7 @@ use Rattle.rules.specs.Ways.{Way, everywhere, by-path, along-link, by-re
 use Rattle.rules.specs.Answers.{reasonNumber}
 use Rattle.rules.specs.Judging.{Plan, dropped, delivered, follows}
 use Rattle.rules.specs.declared.Link.{Link}
+use Rattle.rules.specs.declared.Reason.{Reason}
 
 -- a ring of n places: the next one is written, and the one after it is next
 unfoldable pub putNext : {A : Type 0} → ℕ → Slot A → Ring A → Ring A
@@ -23,8 +24,11 @@ putNext n slot ring = record { slots = set (ring .slots) (ring .next) slot; next
 
 -- ---- remembered hashes
 -- drops 1 and 2 remember nothing
+abbrev pub remembersDrop : Reason → Bool
+remembersDrop reason = ltb 2 (reasonNumber reason)
+
 unfoldable pub remembers : View → Arrival → Plan → Bool
-remembers v a (dropped reason) = ltb 2 (reasonNumber reason)
+remembers v a (dropped reason) = remembersDrop reason
 remembers v a delivered = true
 remembers v a (follows w) = true
 
@@ -41,14 +45,22 @@ unfoldable pub announcedBlobs : Arrival → Slot Path → Blobs
 announcedBlobs a empty = oneBlob blobLimit (blob a)
 announcedBlobs a (used p) = addBlob blobLimit (blob a) (p .blobs)
 
+-- next hop: the relay address, or the destination if type 1
+abbrev pub nextHopOf : Arrival → List ℕ
+nextHopOf a = typeTwo (header a) then relayAddress a otherwise destination a
+
+-- a path's expiry, by the arrival port's mode
+abbrev pub pathExpiry : View → Arrival → ℕ
+pathExpiry v a = a .clock + pathLifetime (v .mode (a .port))
+
 unfoldable pub announcedPath : View → Arrival → Slot Path → Path
 announcedPath v a known =
     record {
       destination = destination a;
       port = a .port;
       hops = hops a;
-      nextHop = typeTwo (header a) then relayAddress a otherwise destination a;
-      expiry = a .clock + pathLifetime (v .mode (a .port));
+      nextHop = nextHopOf a;
+      expiry = pathExpiry v a;
       blobs = announcedBlobs a known;
     }
 
