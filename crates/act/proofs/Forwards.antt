@@ -5,7 +5,7 @@ use mathlib.Core.List.{List}
 use mathlib.Core.Path.{_≡_, refl, sym, ap, ap₂, subst, _∙_}
 use lib.Dec.{ltb}
 use lib.ListN.{length, take}
-use borrow.Author.Tests.{ltb-true, not-false}
+use borrow.Author.Tests.{ltb-true, leb-false, not-false}
 use Rattle.octets.specs.Bytes.{Bytes}
 use Rattle.octets.specs.Part.{patch}
 use Rattle.octets.proofs.Choice.{then-true}
@@ -16,7 +16,7 @@ use Rattle.rules.specs.Relay.{Path, Return, Relay}
 use Rattle.rules.specs.View.{View, viewAt, freeLink, linkPlace}
 use Rattle.rules.specs.Arrival.{Arrival, header, destination}
 use Rattle.rules.specs.Ways.{Way, by-path, along-link, by-return}
-use Rattle.rules.specs.Tests.{leavingPort, noRoom}
+use Rattle.rules.specs.Tests.{tooManyHops, leavingPort, noRoom}
 use Rattle.rules.specs.Outgoing.{pathPacket, outgoing}
 use Rattle.rules.specs.Judging.{Plan, follows, wayVerdict, verdict, leaves, outputAfter}
 use Rattle.rules.specs.Writes.{enact, returnKey, linkRecord, renewedLink}
@@ -37,7 +37,8 @@ use Rattle.plan.specs.Decided.{arrivalOf, decision}
 use Rattle.plan.proofs.KindLaws.{request-left}
 use Rattle.act.specs.Kept.{stamped, returnPut, returnKept, returnDone, linkKept}
 use Rattle.act.specs.Acted.{Accepted, seen, planOn, verdictOn, tablesOn, outputOn, Acts}
-use Rattle.act.proofs.Inverted.{passed, inverted, settled}
+use Rattle.rules.proofs.Passed.{passed}
+use Rattle.act.proofs.Inverted.{inverted, settled}
 
 -- the records at a place
 abbrev pub pathAt : List ℕ → ℕ → Path
@@ -64,7 +65,8 @@ module _ (packet : List ℕ) (m : Arrived) (hash t : List ℕ) (ok : Accepted pa
   r = relayOf t
 
   pub onward : (w : Way) → planOn packet m t ≡ follows w → Onward packet
-  onward w e = record { readable = ok .readable; fewHops = passed v a w e .1 .few }
+  unfolding tooManyHops
+  onward w e = record { readable = ok .readable; fewHops = leb-false _ _ (passed v a w e .1 .fewHops) }
 
   -- ---- by any way that forwards
   forwarded : (w : Way) → planOn packet m t ≡ follows w → wayVerdict v a w ≡ Forward (leavingPort a w) (length (outgoing v a w))

@@ -1,65 +1,24 @@
--- What a decision says: the plan behind it, the record at its place, and the tests that did not hold.
+-- What a decision says: the plan behind it, and the record at its place.
 use Prim.Native.Nat.{ℕ, _≤_, _<_}
 use native.Mathlib.Omega.{arith}
 use mathlib.Core.Bool.{Bool, true, false, false≢true}
 use mathlib.Core.Path.{_≡_, refl, sym, subst}
 use lib.Dec.{ltb}
-use borrow.Author.Tests.{ltb-true, ltb-false, leb-false}
+use borrow.Author.Tests.{ltb-true, ltb-false}
 use Rattle.packet.specs.Header.{isData}
 use Rattle.rules.specs.Relay.{Slot, empty, used, Path, Return, Relay}
 use Rattle.rules.specs.View.{View, viewAt, pathPlace, linkPlace, returnPlace, freeLink}
-use Rattle.rules.specs.Arrival.{Arrival, header, hops, destination}
-use Rattle.rules.specs.Ways.{Way, everywhere, by-path, along-link, by-return, blocked, wayOn}
-use Rattle.rules.specs.Tests.{badForm, tooManyHops, isThere, noWayOn, leavingPort, noRoom}
-use Rattle.rules.specs.Judging.{Plan, dropped, delivered, follows, onwardPlan, plan}
+use Rattle.rules.specs.Arrival.{Arrival, header, destination}
+use Rattle.rules.specs.Ways.{everywhere, by-path, along-link, by-return, blocked}
+use Rattle.rules.specs.Tests.{isThere, noWayOn, leavingPort}
+use Rattle.rules.specs.Judging.{Plan, dropped, delivered, follows, plan}
 use Rattle.rules.specs.Writes.{announcedPlace}
 use Rattle.rules.specs.declared.Link.{Link}
-use Rattle.rules.specs.declared.Reason.{Reason}
 use Rattle.rules.proofs.Choices.{either}
+use Rattle.rules.proofs.Passed.{passed}
 use Rattle.plan.specs.declared.Decision.{Decision}
 use Rattle.plan.specs.declared.Decision.the-variants.{Drop, Deliver, Announce, Data, Request, Carry, Receipt}
 use Rattle.plan.specs.Decided.{decidedWay, decided, decision}
-
--- ---- the tests that a packet passed that follows a way
-pub record Passed (v : View) (a : Arrival) (w : Way) : Type 0 where
-  pub form : badForm a ≡ false
-  pub few : hops a < 128
-  pub some : noWayOn w ≡ false
-  pub room : noRoom v a w ≡ false
-
-no-drop : {w : Way} {A : Type 0} (reason : Reason) → dropped reason ≡ follows w → A
-no-drop reason e = let z : _≡_ {A = ℕ} 0 1 = cc in absurd (omega arith)
-
-module _ (v : View) (a : Arrival) (w : Way) where
-  passed-onward : badForm a ≡ false → hops a < 128 → (x : Way) → onwardPlan v a x ≡ follows w → (x ≡ w) × Passed v a x
-  unfolding onwardPlan
-  passed-onward form few x =
-      let P : Plan → Type 0 = λ todo. todo ≡ follows w → (x ≡ w) × Passed v a x in
-      either P _ (λ _. no-drop _)
-      (λ some. either P _ (λ _. no-drop _)
-      (λ _. either P _ (λ _. no-drop _)
-      (λ _. either P _ (λ _. no-drop _)
-      (λ _. either P _ (λ _. no-drop _)
-      (λ _. either P _ (λ _. no-drop _)
-      (λ _. either P _ (λ _. no-drop _)
-      (λ _. either P _ (λ _. no-drop _)
-      (λ room. either P _ (λ _. no-drop _)
-      (λ _ e. let q : x ≡ w = cc in (q, record { form = form; few = few; some = some; room = room }))))))))))
-
-  -- .. and the way is the one that the rules find
-  pub passed : plan v a ≡ follows w → (wayOn v a ≡ w) × Passed v a w
-  unfolding plan tooManyHops
-  passed =
-      let P : Plan → Type 0 = λ todo. todo ≡ follows w → (wayOn v a ≡ w) × Passed v a w in
-      either P _ (λ _. no-drop _)
-      (λ _. either P _ (λ _. no-drop _)
-      (λ _. either P _ (λ _. no-drop _)
-      (λ form. either P _ (λ _. no-drop _)
-      (λ _. either P _ (λ _ e. let z : _≡_ {A = ℕ} 0 1 = cc in absurd (omega arith))
-      (λ _. either P _ (λ _. no-drop _)
-      (λ few e.
-      let q = passed-onward form (leb-false _ _ few) (wayOn v a) e in
-      (q .0, subst (Passed v a) (q .0) (q .1))))))))
 
 -- ---- the plan behind a decision
 module _ (r : Relay) (a : Arrival) where
@@ -90,7 +49,7 @@ module _ (r : Relay) (a : Arrival) where
       either Inverted (isData (header a)) (λ yes. (p, e, yes, refl)) (λ no. (p, e, no, refl, refl))
   inverted-plan (follows (along-link l)) e = (l, e, refl, refl)
   inverted-plan (follows (by-return t)) e = (t, e, refl, refl)
-  inverted-plan (follows (blocked why)) e = absurd (false≢true (sym (passed view a (blocked why) e .1 .some)))
+  inverted-plan (follows (blocked why)) e = absurd (false≢true (sym (passed view a (blocked why) e .1 .someWay)))
 
   pub inverted : (d : Decision) → decision r a ≡ d → Inverted d
   unfolding decision

@@ -45,7 +45,8 @@ use Rattle.plan.specs.Decided.{arrivalOf, decision}
 use Rattle.plan.proofs.KindLaws.{announce-long}
 use Rattle.act.specs.Kept.{stamped, blobsKept, pathPut, pathKept}
 use Rattle.act.specs.Acted.{Accepted, seen, planOn, verdictOn, tablesOn, outputOn, Acts, announcedBy}
-use Rattle.act.proofs.Inverted.{passed, inverted, settled}
+use Rattle.rules.proofs.Passed.{passed}
+use Rattle.act.proofs.Inverted.{inverted, settled}
 use Rattle.act.proofs.Forwards.{onward}
 
 -- ---- only an announce goes everywhere

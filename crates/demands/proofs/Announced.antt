@@ -1,7 +1,7 @@
 -- A packet that is spread is an announce of good form, and so long enough for its blob.
 use Prim.Native.Nat.{_≤_}
 use mathlib.Core.Bool.{false}
-use mathlib.Core.Path.{_≡_}
+use mathlib.Core.Path.{_≡_, refl, subst}
 use lib.ListN.{length}
 use Rattle.octets.specs.Choice.{_or_}
 use Rattle.rules.specs.Relay.{Slot, empty, used, Path, Return}
@@ -9,9 +9,10 @@ use Rattle.rules.specs.View.{View}
 use Rattle.rules.specs.Arrival.{Arrival, body, isLinkProof}
 use Rattle.rules.specs.Ways.{Way, everywhere, by-path, along-link, by-return, blocked, pathWay, linkWay, returnWay, wayOn}
 use Rattle.rules.specs.Tests.{badForm}
-use Rattle.rules.specs.Judging.{Plan, dropped, delivered, follows, onwardPlan, plan}
+use Rattle.rules.specs.Judging.{Plan, dropped, delivered, follows, plan}
 use Rattle.rules.specs.declared.Link.{Link}
 use Rattle.rules.proofs.Choices.{either}
+use Rattle.rules.proofs.Passed.{passed}
 use Rattle.plan.proofs.KindLaws.{announce-long}
 
 -- what goes everywhere holds a whole blob
@@ -51,26 +52,12 @@ module _ (v : View) (a : Arrival) where
       (λ _. either (WayBlob a) _ (λ _. return-blob _)
       (λ _. either (WayBlob a) _ (λ _. tt) (λ _. path-blob _))))
 
-  onward-blob : (w : Way) → WayBlob a w → PlanBlob a (onwardPlan v a w)
-  unfolding onwardPlan
-  onward-blob w h =
-      either (PlanBlob a) _ (λ _. tt)
-      (λ _. either (PlanBlob a) _ (λ _. tt)
-      (λ _. either (PlanBlob a) _ (λ _. tt)
-      (λ _. either (PlanBlob a) _ (λ _. tt)
-      (λ _. either (PlanBlob a) _ (λ _. tt)
-      (λ _. either (PlanBlob a) _ (λ _. tt)
-      (λ _. either (PlanBlob a) _ (λ _. tt)
-      (λ _. either (PlanBlob a) _ (λ _. tt)
-      (λ _. either (PlanBlob a) _ (λ _. tt) (λ _. h)))))))))
-
   pub plan-blob : PlanBlob a (plan v a)
-  unfolding plan
-  plan-blob =
-      either (PlanBlob a) _ (λ _. tt)
-      (λ _. either (PlanBlob a) _ (λ _. tt)
-      (λ _. either (PlanBlob a) _ (λ _. tt)
-      (λ good. either (PlanBlob a) _ (λ _. tt)
-      (λ _. either (PlanBlob a) _ (λ _. tt)
-      (λ _. either (PlanBlob a) _ (λ _. tt)
-      (λ _. onward-blob (wayOn v a) (way-blob good)))))))
+  plan-blob = go (plan v a) refl
+    where
+      go : (todo : Plan) → plan v a ≡ todo → PlanBlob a todo
+      go (dropped reason) e = tt
+      go delivered e = tt
+      go (follows w) e =
+          let (way, p) = passed v a w e in
+          subst (WayBlob a) way (way-blob (p .form))

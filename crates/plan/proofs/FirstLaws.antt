@@ -1,8 +1,8 @@
 -- Tests 1 to 5: each of their answers, and what they leave to decide.
 use Prim.Native.Nat.{ℕ, _≤_, _<_}
 use native.Mathlib.Omega.{arith}
-use mathlib.Core.Bool.{Bool, true, false, not}
-use mathlib.Core.List.{List}
+use mathlib.Core.Bool.{Bool, true, false, not, false≢true}
+use mathlib.Core.List.{List, [], _∷_}
 use mathlib.Core.Path.{_≡_, refl, sym, ap, subst, _∙_}
 use lib.Dec.{ltb}
 use lib.ListN.{length, getD}
@@ -10,25 +10,29 @@ use borrow.Author.Tests.{le-leb, lt-leb}
 use Rattle.octets.specs.Index.{_and_, agree}
 use Rattle.octets.specs.Choice.{_then_otherwise_, _or_, same}
 use Rattle.octets.proofs.Choice.{same-agree, or-no}
-use Rattle.octets.proofs.Index.{and-yes, and-no}
+use Rattle.octets.proofs.Index.{and-yes, and-no, and-left, and-right}
 use Rattle.octets.proofs.Part.{part-length}
 use Rattle.packet.specs.Header.{typeTwo, ofKindLink, isData, isAnnounce, isLinkRequest}
 use Rattle.packet.specs.Hash.{packetHash}
 use Rattle.packet.specs.Read.{longestPacket, reads}
 use Rattle.packet.proofs.Widths.{parts-wide}
 use Rattle.packet.proofs.ReadLaws.{parts-hops}
+use Rattle.rules.specs.Listed.{Test, firstOf, valued, allGive}
 use Rattle.rules.specs.Numbers.{hashCount}
 use Rattle.rules.specs.Relay.{Relay}
 use Rattle.rules.specs.View.{View, hashPlace, isLocal, viewAt}
 use Rattle.rules.specs.Arrival.{Arrival, header, hops, relayAddress, destination}
 use Rattle.rules.specs.Tests.{notOurs, testedAsDuplicate, duplicate, badForm, ownAnnounce, deliveredHere, tooManyHops}
-use Rattle.rules.specs.Judging.{plan}
+use Rattle.rules.specs.Ways.{wayOn}
+use Rattle.rules.specs.Judging.{Plan, dropped, delivered, follows, earlyTests, onwardPlan, plan}
 use Rattle.rules.specs.declared.Reason.{Reason}
 use Rattle.rules.specs.declared.Reason.the-variants.{NotOurs, Duplicate, BadForm, OwnAnnounce, TooManyHops}
 use Rattle.tables.specs.Places.{tableSize}
 use Rattle.tables.specs.Layout.{relayOf}
 use Rattle.outgoing.proofs.LeavingLaws.{whole}
-use Rattle.plan.specs.First.{firstTests}
+use Rattle.rules.proofs.ListedLaws.{NoneHolds}
+use Rattle.rules.proofs.Passed.{stops}
+use Rattle.plan.specs.First.{early, firstTests}
 use Rattle.plan.specs.Decided.{decided, decision, onward}
 use Rattle.plan.specs.declared.Early.{Early}
 use Rattle.plan.specs.declared.Early.the-variants.{Dropped, Delivered, Onward}
@@ -37,85 +41,82 @@ use Rattle.plan.specs.declared.Decision.the-variants.{Drop, Deliver}
 -- ---- the answers
 module _ (v : View) (a : Arrival) where
   pub first-1 : notOurs v a ≡ true → Dropped NotOurs ≡ firstTests v a
-  unfolding firstTests _then_otherwise_
+  unfolding firstTests earlyTests valued early firstOf _then_otherwise_
   first-1 e = rw e
 
   module _ (e1 : notOurs v a ≡ false) where
     pub first-2 : duplicate v a ≡ true → Dropped Duplicate ≡ firstTests v a
-    unfolding firstTests _then_otherwise_
+    unfolding firstTests earlyTests valued early firstOf _then_otherwise_
     first-2 e = rw (e1, e)
 
     module _ (e2 : duplicate v a ≡ false) where
       pub first-3 : badForm a ≡ true → Dropped BadForm ≡ firstTests v a
-      unfolding firstTests _then_otherwise_
+      unfolding firstTests earlyTests valued early firstOf _then_otherwise_
       first-3 e = rw (e1, e2, e)
 
       module _ (e3 : badForm a ≡ false) where
         pub first-4 : ownAnnounce v a ≡ true → Dropped OwnAnnounce ≡ firstTests v a
-        unfolding firstTests _then_otherwise_
+        unfolding firstTests earlyTests valued early firstOf _then_otherwise_
         first-4 e = rw (e1, e2, e3, e)
 
         module _ (e4 : ownAnnounce v a ≡ false) where
           pub first-delivered : deliveredHere v a ≡ true → Delivered ≡ firstTests v a
-          unfolding firstTests _then_otherwise_
+          unfolding firstTests earlyTests valued early firstOf _then_otherwise_
           first-delivered e = rw (e1, e2, e3, e4, e)
 
           module _ (e5 : deliveredHere v a ≡ false) where
             pub first-5 : tooManyHops a ≡ true → Dropped TooManyHops ≡ firstTests v a
-            unfolding firstTests _then_otherwise_
+            unfolding firstTests earlyTests valued early firstOf _then_otherwise_
             first-5 e = rw (e1, e2, e3, e4, e5, e)
 
             pub first-onward : tooManyHops a ≡ false → Onward ≡ firstTests v a
-            unfolding firstTests _then_otherwise_
+            unfolding firstTests earlyTests valued early firstOf _then_otherwise_
             first-onward e = rw (e1, e2, e3, e4, e5, e)
 
 -- ---- what the answers decide
--- what a first answer says of the decision
-unfoldable answered : Relay → Arrival → Early → Type 0
-answered r a (Dropped reason) = decision r a ≡ Drop reason
-answered r a Delivered = decision r a ≡ Deliver
-answered r a Onward = (decision r a ≡ onward r a) × (badForm a ≡ false)
+-- what a first answer says of the plan
+Said : List (Test Plan) → Plan → Plan → Early → Type 0
+Said ts rest todo (Dropped reason) = todo ≡ dropped reason
+Said ts rest todo Delivered = todo ≡ delivered
+Said ts rest todo Onward = (todo ≡ rest) × NoneHolds ts
+
+said : (ts : List (Test Plan)) (rest : Plan) → allGive stops ts ≡ true → Said ts rest (firstOf ts rest) (firstOf (valued early ts) Onward)
+unfolding Said early stops firstOf valued allGive _then_otherwise_
+said [] rest g = (refl, tt)
+said (t ∷ ts) rest g = go (t .holds) refl (t .value) (and-left _ _ g) (firstOf (valued early ts) Onward) (said ts rest (and-right _ _ g))
+  where
+    go : (b : Bool) → t .holds ≡ b → (x : Plan) → stops x ≡ true → (y : Early) → Said ts rest (firstOf ts rest) y
+        → Said (t ∷ ts) rest (b then x otherwise firstOf ts rest) (b then early x otherwise y)
+    go true q (dropped reason) h y below = refl
+    go true q delivered h y below = refl
+    go true q (follows w) h y below = absurd (false≢true h)
+    go false q x h (Dropped reason) below = below
+    go false q x h Delivered below = below
+    go false q x h Onward below = (below .0, (q, below .1))
 
 module _ (r : Relay) (a : Arrival) where
-  answers : answered r a (firstTests (viewAt (a .clock) r) a)
-  unfolding answered decision decided onward plan _then_otherwise_
-  answers = go (notOurs v a) refl (duplicate v a) refl (badForm a) refl (ownAnnounce v a) refl (deliveredHere v a) refl (tooManyHops a) refl
-    where
-      v : View
-      v = viewAt (a .clock) r
+  rest : Plan
+  rest = onwardPlan (viewAt (a .clock) r) a (wayOn (viewAt (a .clock) r) a)
 
-      say : {x : Early} → x ≡ firstTests v a → answered r a x → answered r a (firstTests v a)
-      say e h = subst (answered r a) e h
-
-      go : (b1 : Bool) → notOurs v a ≡ b1 → (b2 : Bool) → duplicate v a ≡ b2 → (b3 : Bool) → badForm a ≡ b3
-          → (b4 : Bool) → ownAnnounce v a ≡ b4 → (b5 : Bool) → deliveredHere v a ≡ b5 → (b6 : Bool) → tooManyHops a ≡ b6
-          → answered r a (firstTests v a)
-      go true q1 b2 q2 b3 q3 b4 q4 b5 q5 b6 q6 =
-          let d : decision r a ≡ Drop NotOurs = rw q1 in say (first-1 v a q1) d
-      go false q1 true q2 b3 q3 b4 q4 b5 q5 b6 q6 =
-          let d : decision r a ≡ Drop Duplicate = rw (q1, q2) in say (first-2 v a q1 q2) d
-      go false q1 false q2 true q3 b4 q4 b5 q5 b6 q6 =
-          let d : decision r a ≡ Drop BadForm = rw (q1, q2, q3) in say (first-3 v a q1 q2 q3) d
-      go false q1 false q2 false q3 true q4 b5 q5 b6 q6 =
-          let d : decision r a ≡ Drop OwnAnnounce = rw (q1, q2, q3, q4) in say (first-4 v a q1 q2 q3 q4) d
-      go false q1 false q2 false q3 false q4 true q5 b6 q6 =
-          let d : decision r a ≡ Deliver = rw (q1, q2, q3, q4, q5) in say (first-delivered v a q1 q2 q3 q4 q5) d
-      go false q1 false q2 false q3 false q4 false q5 true q6 =
-          let d : decision r a ≡ Drop TooManyHops = rw (q1, q2, q3, q4, q5, q6) in say (first-5 v a q1 q2 q3 q4 q5 q6) d
-      go false q1 false q2 false q3 false q4 false q5 false q6 =
-          let d : decision r a ≡ onward r a = rw (q1, q2, q3, q4, q5, q6) in say (first-onward v a q1 q2 q3 q4 q5 q6) (d, q3)
+  answered : (x : Early) → x ≡ firstTests (viewAt (a .clock) r) a → Said (earlyTests (viewAt (a .clock) r) a) rest (plan (viewAt (a .clock) r) a) x
+  unfolding plan rest firstTests earlyTests allGive stops _and_
+  answered x e =
+      subst (Said (earlyTests (viewAt (a .clock) r) a) rest (plan (viewAt (a .clock) r) a)) (sym e)
+      (said (earlyTests (viewAt (a .clock) r) a) rest refl)
 
   pub first-dropped : (reason : Reason) → Dropped reason ≡ firstTests (viewAt (a .clock) r) a → decision r a ≡ Drop reason
-  unfolding answered
-  first-dropped reason e = subst (answered r a) (sym e) answers
+  unfolding Said decision decided
+  first-dropped reason e = ap (decided r a) (answered (Dropped reason) e)
 
   pub first-deliver : Delivered ≡ firstTests (viewAt (a .clock) r) a → decision r a ≡ Deliver
-  unfolding answered
-  first-deliver e = subst (answered r a) (sym e) answers
+  unfolding Said decision decided
+  first-deliver e = ap (decided r a) (answered Delivered e)
 
   pub first-goes-on : Onward ≡ firstTests (viewAt (a .clock) r) a → (decision r a ≡ onward r a) × (badForm a ≡ false)
-  unfolding answered
-  first-goes-on e = subst (answered r a) (sym e) answers
+  unfolding Said decision decided onward rest earlyTests
+  first-goes-on e =
+      let (same, none) = answered Onward e in
+      (ap (decided r a) same, none .1 .1 .0)
 
 -- ---- the tests, in the view of tables
 module _ (r : Relay) (a : Arrival) where

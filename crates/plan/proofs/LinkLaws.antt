@@ -14,13 +14,14 @@ use Rattle.octets.proofs.Index.{and-no, and-yes}
 use Rattle.packet.specs.Header.{ofKindLink, isAnnounce}
 use Rattle.packet.specs.Read.{longestPacket, reads}
 use Rattle.packet.proofs.ReadLaws.{parts-hops}
+use Rattle.rules.specs.Listed.{firstOf}
 use Rattle.rules.specs.Relay.{empty, used, Relay}
 use Rattle.rules.specs.View.{View, linkPlace, viewAt}
 use Rattle.rules.specs.Arrival.{Arrival, header, destination, isLinkProof}
 use Rattle.rules.specs.Ways.{Way, along-link, blocked, not-proved, linkWay, wayOn}
 use Rattle.rules.specs.Tests.{badForm, noWayOn, followsProvedLink, alreadyKnown, fromAnsweringSide, fromAskingSide, wrongSide, notSigned, replay, notBetter, leavingPort, portOff, noRoom}
 use Rattle.rules.specs.Outgoing.{grownTooLong}
-use Rattle.rules.specs.Judging.{dropped, follows, onwardPlan}
+use Rattle.rules.specs.Judging.{dropped, follows, onwardPlan, onwardTests}
 use Rattle.rules.specs.declared.Link.{Link}
 use Rattle.rules.specs.declared.Reason.the-variants.{NoWayOn, AlreadyKnown, WrongSide, NotSigned, PortOff}
 use Rattle.rules.specs.Numbers.{linkCount}
@@ -49,12 +50,12 @@ module _ (a : Arrival) (readable : reads longestPacket (a .bytes) ≡ true) (goo
       isLinkProof a and not (a .signed) then dropped NotSigned otherwise
       not (v .on (leavingPort a (along-link l))) then dropped PortOff otherwise
       follows (along-link l))
-  unfolding onwardPlan noWayOn alreadyKnown followsProvedLink notSigned replay notBetter portOff noRoom _then_otherwise_ _and_ _or_
+  unfolding onwardPlan onwardTests firstOf noWayOn alreadyKnown followsProvedLink notSigned replay notBetter portOff noRoom _then_otherwise_ _and_ _or_
   link-plan v l = rw (link-no-request a good kind, announce, fits l)
 
   module _ (r : Relay) where
     link-none : viewAt (a .clock) r .link (destination a) ≡ empty → Drop NoWayOn ≡ onward r a
-    unfolding onward onwardPlan noWayOn decided linkWay _then_otherwise_
+    unfolding onward onwardPlan onwardTests firstOf noWayOn decided linkWay _then_otherwise_
     link-none e =
         let v : View = viewAt (a .clock) r in
         sym (ap (λ (w : Way). decided r a (onwardPlan v a w)) (link-way v ∙ ap (linkWay (isLinkProof a)) e))
@@ -82,7 +83,7 @@ module _ (a : Arrival) (readable : reads longestPacket (a .bytes) ≡ true) (goo
           go false q = sym (along l way ∙ rw (is, q))
 
       link-other : isLinkProof a ≡ false → carrying r a l (linkPlace (a .clock) r (destination a)) ≡ onward r a
-      unfolding onward onwardPlan noWayOn decided carrying carried wrongSide leavingPort linkWay _then_otherwise_ _and_ _or_
+      unfolding onward onwardPlan onwardTests firstOf noWayOn decided carrying carried wrongSide leavingPort linkWay _then_otherwise_ _and_ _or_
       link-other other = go (l .proved) refl (fromAnsweringSide l a) refl (fromAskingSide l a) refl
         where
           v : View

@@ -14,13 +14,14 @@ use Rattle.packet.specs.Header.{packetKind, typeTwo, ofKindLink, isData, isAnno
 use Rattle.packet.specs.Read.{longestPacket, reads}
 use Rattle.packet.specs.Hash.{linkId}
 use Rattle.rules.specs.Numbers.{linkCount, pathCount}
+use Rattle.rules.specs.Listed.{firstOf}
 use Rattle.rules.specs.Relay.{empty, used, Path, Relay}
 use Rattle.rules.specs.View.{View, pathPlace, linkPlace, freeLink, viewAt, portOn}
 use Rattle.rules.specs.Arrival.{Arrival, header, destination, isLinkProof}
 use Rattle.rules.specs.Ways.{Way, by-path, blocked, not-asking, no-path, pathWay, wayOn}
 use Rattle.rules.specs.Tests.{isThere, noWayOn, alreadyKnown, wrongSide, notSigned, replay, notBetter, leavingPort, portOff, noRoom}
 use Rattle.rules.specs.Outgoing.{grownTooLong}
-use Rattle.rules.specs.Judging.{dropped, follows, onwardPlan}
+use Rattle.rules.specs.Judging.{dropped, follows, onwardPlan, onwardTests}
 use Rattle.rules.specs.declared.Reason.the-variants.{NoWayOn, AlreadyKnown, PortOff, NoRoom}
 use Rattle.tables.specs.Places.{pathsAt, pathWidth, tableSize}
 use Rattle.tables.specs.Records.{pathOf}
@@ -45,12 +46,12 @@ module _ (a : Arrival) (announce : isAnnounce (header a) ≡ false) (link : ofKi
       not (v .on (p .port)) then dropped PortOff otherwise
       isLinkRequest (header a) and not (v .roomForLink) then dropped NoRoom otherwise
       follows (by-path p))
-  unfolding onwardPlan noWayOn alreadyKnown wrongSide notSigned replay notBetter leavingPort portOff noRoom _then_otherwise_ _and_ _or_
+  unfolding onwardPlan onwardTests firstOf noWayOn alreadyKnown wrongSide notSigned replay notBetter leavingPort portOff noRoom _then_otherwise_ _and_ _or_
   path-plan v p fits = rw (no-proof, or-false (isLinkRequest (header a) and isThere (v .link (linkId (a .bytes)))), announce, fits)
 
   module _ (r : Relay) where
     pub path-not-asking : typeTwo (header a) ≡ false → Drop NoWayOn ≡ onward r a
-    unfolding onward onwardPlan noWayOn decided _then_otherwise_
+    unfolding onward onwardPlan onwardTests firstOf noWayOn decided _then_otherwise_
     path-not-asking one =
         let v : View = viewAt (a .clock) r in
         let way : wayOn v a ≡ blocked not-asking = path-way v ∙ rw one in
@@ -58,7 +59,7 @@ module _ (a : Arrival) (announce : isAnnounce (header a) ≡ false) (link : ofKi
 
     module _ (two : typeTwo (header a) ≡ true) where
       path-none : viewAt (a .clock) r .path (destination a) ≡ empty → Drop NoWayOn ≡ onward r a
-      unfolding onward onwardPlan noWayOn decided pathWay _then_otherwise_
+      unfolding onward onwardPlan onwardTests firstOf noWayOn decided pathWay _then_otherwise_
       path-none e =
           let v : View = viewAt (a .clock) r in
           let way : wayOn v a ≡ blocked no-path = path-way v ∙ rw two (ap pathWay e) in

@@ -11,13 +11,14 @@ use Rattle.octets.specs.Choice.{_or_, _then_otherwise_}
 use Rattle.octets.proofs.Choice.{then-true, then-false}
 use Rattle.packet.specs.Header.{packetKind, ofKindLink, isAnnounce, isLinkRequest, isProof}
 use Rattle.packet.specs.Read.{longestPacket, reads}
+use Rattle.rules.specs.Listed.{firstOf}
 use Rattle.rules.specs.Relay.{empty, used, Return, Relay}
 use Rattle.rules.specs.View.{View, returnPlace, viewAt, portOn}
 use Rattle.rules.specs.Arrival.{Arrival, header, destination, isLinkProof}
 use Rattle.rules.specs.Ways.{Way, by-return, returnWay, wayOn}
 use Rattle.rules.specs.Tests.{noWayOn, alreadyKnown, wrongSide, notSigned, replay, notBetter, leavingPort, portOff, noRoom}
 use Rattle.rules.specs.Outgoing.{grownTooLong}
-use Rattle.rules.specs.Judging.{dropped, follows, onwardPlan}
+use Rattle.rules.specs.Judging.{dropped, follows, onwardPlan, onwardTests}
 use Rattle.rules.specs.declared.Reason.the-variants.{NoWayOn, WrongSide, PortOff}
 use Rattle.rules.specs.Numbers.{returnCount}
 use Rattle.tables.specs.Places.{returnsAt, returnWidth}
@@ -48,12 +49,12 @@ module _ (a : Arrival) (kind : ofKindLink (header a) ≡ false) (proof : isProof
       ≡ (wrongSide a (by-return t) then dropped WrongSide otherwise
       not (v .on (leavingPort a (by-return t))) then dropped PortOff otherwise
       follows (by-return t))
-  unfolding onwardPlan noWayOn alreadyKnown notSigned replay notBetter portOff noRoom _then_otherwise_ _and_ _or_
+  unfolding onwardPlan onwardTests firstOf noWayOn alreadyKnown notSigned replay notBetter portOff noRoom _then_otherwise_ _and_ _or_
   return-plan v t fits = rw (no-request, no-link-proof, no-announce, fits)
 
   module _ (r : Relay) where
     return-none : viewAt (a .clock) r .return (destination a) ≡ empty → Drop NoWayOn ≡ onward r a
-    unfolding onward onwardPlan noWayOn decided returnWay _then_otherwise_
+    unfolding onward onwardPlan onwardTests firstOf noWayOn decided returnWay _then_otherwise_
     return-none e =
         let v : View = viewAt (a .clock) r in
         sym (ap (λ (w : Way). decided r a (onwardPlan v a w)) (return-way v ∙ ap returnWay e))

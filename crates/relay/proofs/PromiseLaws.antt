@@ -24,7 +24,8 @@ use Rattle.rules.specs.declared.Reason.the-variants.{NotOurs}
 use Rattle.rules.specs.View.{viewAt}
 use Rattle.rules.specs.Tests.{notOurs}
 use Rattle.rules.specs.Answers.{reasonNumber}
-use Rattle.rules.specs.Judging.{plan}
+use Rattle.rules.specs.Judging.{plan, earlyTests}
+use Rattle.rules.specs.Listed.{firstOf}
 use Rattle.rules.proofs.Choices.{row-passed, rows-below}
 use Rattle.rules.proofs.Accepted.{accepted-packet}
 use Rattle.tables.specs.Layout.{relayOf, wellFormed}
@@ -126,7 +127,7 @@ module _ (packet : List ℕ) (port clock : ℕ) (signed : Bool) (t : List ℕ) (
       -- ---- test 1's drop: the clock alone is written
       pub passed-promised : Bytes t → notOurs (viewAt (m .clock) (relayOf t)) (arrivalOf packet m) ≡ true → (after : Tally) (u : List ℕ)
           → u ≡ clockWritten t (m .clock) → after ≡ counted (Drop NotOurs) tally → Promises whole (Judged (Drop NotOurs)) after u output
-      unfolding decision decided plan dropKept reasonNumber _then_otherwise_
+      unfolding decision decided plan earlyTests firstOf dropKept reasonNumber _then_otherwise_
       passed-promised b ours after u q n =
           let hash : List ℕ = packetHash packet in
           let left = drop-left packet m hash t (accepted hash refl) b output u NotOurs (rw ours) q in

@@ -21,6 +21,7 @@ use Rattle.rules.specs.declared.Verdict.the-variants.{Drop}
 use Rattle.rules.specs.declared.Answer.the-variants.{Judged}
 use Rattle.rules.proofs.Unfolding.{rules}
 use Rattle.rules.proofs.Shortcut.{passes, seen-quick, goodPlan, goodJudge, quick}
+use Rattle.rules.proofs.Passed.{ofTest}
 use Rattle.rules.proofs.Scene.{blank, destination, announceWith, announceBytes, requestBytes, arrival, arrives, next, announced, asked}
 use Rattle.rules.proofs.Outcomes.{knownPath, tallyOf, announcedRelay, announce-form, announced-is, asked-is}
 
@@ -106,7 +107,7 @@ again clock s accepted =
     ∙ ap ofJudgement (quick (arrival announceBytes clock 1) announcedRelay (tallyOf 1 0) blank accepted s (announce-form clock 1))
 
 pub edges : Hold table
-unfolding rules goodPlan goodJudge
+unfolding rules goodPlan goodJudge ofTest
 edges =
     refl
     also refl

@@ -2,21 +2,23 @@
 use Prim.Native.Nat.{ℕ}
 use mathlib.Core.Bool.{true, false, false≢true}
 use mathlib.Core.List.{List}
-use mathlib.Core.Path.{_≡_, refl, ap, _∙_}
+use mathlib.Core.Path.{_≡_, refl, ap, subst, _∙_}
 use Rattle.octets.specs.Index.{_and_}
 use Rattle.octets.specs.Choice.{_or_}
 use Rattle.packet.specs.Header.{isAnnounce, isLinkRequest, isProof}
 use Rattle.packet.specs.Hash.{linkId}
+use Rattle.rules.specs.Listed.{firstOf}
 use Rattle.rules.specs.Relay.{Slot, empty, used, Path, Return}
 use Rattle.rules.specs.View.{View}
 use Rattle.rules.specs.Arrival.{Arrival, header, destination, isLinkProof}
 use Rattle.rules.specs.Ways.{Way, everywhere, by-path, along-link, by-return, blocked, pathWay, linkWay, returnWay, wayOn}
 use Rattle.rules.specs.Tests.{duplicate, tooManyHops, isThere, followsProvedLink, alreadyKnown, replay}
 use Rattle.rules.specs.Answers.{reasonNumber}
-use Rattle.rules.specs.Judging.{Plan, dropped, delivered, follows, onwardPlan, plan}
+use Rattle.rules.specs.Judging.{Plan, dropped, delivered, follows, earlyTests, plan}
 use Rattle.rules.specs.Writes.{remembers}
 use Rattle.rules.specs.declared.Link.{Link}
 use Rattle.rules.proofs.Choices.{either}
+use Rattle.rules.proofs.Passed.{passed}
 
 -- the way's record is what the view shows of the packet's destination
 abbrev pub Found : View → Arrival → Way → Type 0
@@ -62,34 +64,19 @@ module _ (v : View) (a : Arrival) where
       (λ m. either (Found v a) _ (λ _. tt)
       (λ _. found-path n m _ refl))))
 
-  planned-onward : tooManyHops a ≡ false → (w : Way) → Found v a w → Planned v a (onwardPlan v a w)
-  unfolding onwardPlan
-  planned-onward few w f =
-      either (Planned v a) _ (λ _. tt)
-      (λ _. either (Planned v a) _ (λ _. tt)
-      (λ unknown. either (Planned v a) _ (λ _. tt)
-      (λ _. either (Planned v a) _ (λ _. tt)
-      (λ _. either (Planned v a) _ (λ _. tt)
-      (λ newBlob. either (Planned v a) _ (λ _. tt)
-      (λ _. either (Planned v a) _ (λ _. tt)
-      (λ _. either (Planned v a) _ (λ _. tt)
-      (λ _. either (Planned v a) _ (λ _. tt)
-      (λ _. record { found = f; fewHops = few; unknown = unknown; newBlob = newBlob })))))))))
-
   pub planned : Planned v a (plan v a)
-  unfolding plan
-  planned =
-      either (Planned v a) _ (λ _. tt)
-      (λ _. either (Planned v a) _ (λ _. tt)
-      (λ _. either (Planned v a) _ (λ _. tt)
-      (λ _. either (Planned v a) _ (λ _. tt)
-      (λ _. either (Planned v a) _ (λ _. tt)
-      (λ _. either (Planned v a) _ (λ _. tt)
-      (λ few. planned-onward few (wayOn v a) found-way))))))
+  planned = go (plan v a) refl
+    where
+      go : (todo : Plan) → plan v a ≡ todo → Planned v a todo
+      go (dropped reason) e = tt
+      go delivered e = tt
+      go (follows w) e =
+          let (way, p) = passed v a w e in
+          record { found = subst (Found v a) way found-way; fewHops = p .fewHops; unknown = p .unknown; newBlob = p .newBlob }
 
   -- a hash that is remembered is that of no duplicate
   pub remembered-new : remembers v a (plan v a) ≡ true → duplicate v a ≡ false
-  unfolding plan remembers reasonNumber
+  unfolding plan earlyTests firstOf remembers reasonNumber
   remembered-new =
       either (λ (todo : Plan). remembers v a todo ≡ true → duplicate v a ≡ false) _ (λ _ h. absurd (false≢true h))
       (λ _. either (λ (todo : Plan). remembers v a todo ≡ true → duplicate v a ≡ false) _ (λ _ h. absurd (false≢true h)) (λ new _. new))

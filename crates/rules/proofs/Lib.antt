@@ -1,5 +1,8 @@
 -- What holds of document 01's rules. First what closed calls give: the edges, and that the rules are not empty.
 pub mod Unfolding
+pub mod Choices
+pub mod ListedLaws
+pub mod Passed
 pub mod Shortcut
 pub mod Scene
 pub mod Outcomes
@@ -7,7 +10,6 @@ pub mod Sanity
 pub mod Edges
 pub mod History
 pub mod SignatureWord
-pub mod Choices
 pub mod Tables
 pub mod Slots
 pub mod BlobLaws

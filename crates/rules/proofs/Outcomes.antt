@@ -19,6 +19,7 @@ use Rattle.rules.specs.declared.Answer.the-variants.{Judged}
 use Rattle.rules.specs.declared.Tally.{Tally}
 use Rattle.rules.proofs.Unfolding.{rules, hashing}
 use Rattle.rules.proofs.Shortcut.{passes, seen-quick, goodPlan, goodJudge, quick}
+use Rattle.rules.proofs.Passed.{ofTest}
 use Rattle.rules.proofs.Scene.{own, blank, blobWith, emission, announceBody, destination, announceBytes, dataBody, dataBytes, dataKey, requestBody, requestBytes, link, linkProofBytes, arrival, arrives, next, prepared, announced, carried, asked, proved}
 
 -- ---- replies
@@ -139,7 +140,7 @@ unfolding rules passes
 announce-new = seen-quick 1000 preparedRelay (packetHash announceBytes) refl
 
 pub announced-is : announced ≡ record { reply = spreads spreadBytes 2; relay = announcedRelay; tally = tallyOf 1 0 }
-unfolding rules announced goodPlan goodJudge
+unfolding rules announced goodPlan goodJudge ofTest
 announced-is =
     ap (next (arrives announceBytes 1000 1)) prepared-is
     ∙ judged-at announceBytes 1000 preparedRelay newTally announce-new (announce-form 1000) 1 refl
@@ -157,7 +158,7 @@ abbrev carriedBy : List ℕ → Outcome
 carriedBy key = record { reply = forwards dataLastHop 1; relay = carriedRelay key; tally = tallyOf 1 1 }
 
 pub carried-is : carried ≡ record { reply = forwards dataLastHop 1; relay = carriedRelay dataKey; tally = tallyOf 1 1 }
-unfolding rules carried goodPlan goodJudge
+unfolding rules carried goodPlan goodJudge ofTest
 carried-is =
     ap (next (arrives dataBytes 2000 2)) announced-is
     ∙ judged-at dataBytes 2000 announcedRelay (tallyOf 1 0) data-new (λ port. refl) 2 refl
@@ -175,7 +176,7 @@ abbrev askedBy : List ℕ → Outcome
 askedBy id = record { reply = forwards requestLastHop 1; relay = askedRelay id; tally = tallyOf 1 1 }
 
 pub asked-is : asked ≡ record { reply = forwards requestLastHop 1; relay = askedRelay link; tally = tallyOf 1 1 }
-unfolding rules asked goodPlan goodJudge
+unfolding rules asked goodPlan goodJudge ofTest
 asked-is =
     ap (next (arrives requestBytes 2000 2)) announced-is
     ∙ judged-at requestBytes 2000 announcedRelay (tallyOf 1 0) request-new (λ port. refl) 2 refl
@@ -187,7 +188,7 @@ unfolding rules passes hashing
 proof-new = seen-quick 2001 (askedRelay link) (packetHash (linkProofBytes 0)) refl
 
 pub proved-is : proved ≡ record { reply = forwards (linkProofBytes 1) 2; relay = provedRelay; tally = tallyOf 1 2 }
-unfolding rules proved goodPlan goodJudge
+unfolding rules proved goodPlan goodJudge ofTest
 proved-is =
     ap (next (arrives (linkProofBytes 0) 2001 1)) asked-is
     ∙ judged-at (linkProofBytes 0) 2001 (askedRelay link) (tallyOf 1 1) proof-new (λ port. refl) 1 refl

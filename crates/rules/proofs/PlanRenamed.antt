@@ -10,16 +10,18 @@ use Rattle.octets.specs.Choice.{_then_otherwise_}
 use Rattle.octets.specs.Part.{patch}
 use Rattle.octets.proofs.Index.{and-no}
 use Rattle.octets.proofs.Choice.{then-ap}
+use Rattle.rules.specs.Listed.{valued}
 use Rattle.rules.specs.View.{View}
 use Rattle.rules.specs.Renumbering.{image, oneToOne, preimage}
 use Rattle.rules.specs.Arrival.{Arrival}
 use Rattle.rules.specs.Ways.{Way, everywhere, by-path, along-link, by-return, blocked, wayOn}
 use Rattle.rules.specs.Answers.{portSet, imageSet, renameVerdict}
 use Rattle.rules.specs.Outgoing.{spreadPorts, outgoing}
-use Rattle.rules.specs.Judging.{Plan, dropped, delivered, follows, onwardPlan, plan, spreadVerdict, wayVerdict, verdict, leaves, outputAfter}
+use Rattle.rules.specs.Judging.{Plan, dropped, delivered, follows, earlyTests, onwardTests, onwardPlan, plan, spreadVerdict, wayVerdict, verdict, leaves, outputAfter}
 use Rattle.rules.specs.Run.{renameArrival}
 use Rattle.rules.specs.declared.Verdict.{Verdict}
 use Rattle.rules.specs.declared.Verdict.the-variants.{Drop, Deliver, Forward, Spread, Kept}
+use Rattle.rules.proofs.ListedLaws.{first-ap}
 use Rattle.rules.proofs.Images.{image-port, image-eqb, preimage-holds, source, source-port}
 use Rattle.rules.proofs.PortSets.{image-set, image-set-empty}
 use Rattle.rules.proofs.ViewRenamed.{renameView}
@@ -31,9 +33,21 @@ renamePlan m delivered = delivered
 renamePlan m (follows w) = follows (renameWay m w)
 
 module _ (m : List ℕ) (ok : oneToOne m ≡ true) where
+  early-renamed : (v : View) (a : Arrival) → earlyTests (renameView m v) (renameArrival m a) ≡ valued (renamePlan m) (earlyTests v a)
+  unfolding earlyTests valued renamePlan
+  early-renamed v a =
+      rw (
+        notOurs-renamed m v a,
+        duplicate-renamed m v a,
+        badForm-renamed m a,
+        ownAnnounce-renamed m v a,
+        deliveredHere-renamed m v a,
+        tooManyHops-renamed m a,
+      )
+
   onward-renamed : (v : View) (a : Arrival) (w : Way)
-      → onwardPlan (renameView m v) (renameArrival m a) (renameWay m w) ≡ renamePlan m (onwardPlan v a w)
-  unfolding onwardPlan renamePlan
+      → onwardTests (renameView m v) (renameArrival m a) (renameWay m w) ≡ valued (renamePlan m) (onwardTests v a w)
+  unfolding onwardTests valued renamePlan
   onward-renamed v a w =
       rw (
         noWayOn-renamed m w,
@@ -46,22 +60,11 @@ module _ (m : List ℕ) (ok : oneToOne m ≡ true) where
         noRoom-renamed m v a w,
         grownTooLong-renamed m a w,
       )
-      (sym (simp (then-ap (renamePlan m))))
 
   pub plan-renamed : (v : View) (a : Arrival) → plan (renameView m v) (renameArrival m a) ≡ renamePlan m (plan v a)
-  unfolding plan renamePlan
+  unfolding plan onwardPlan renamePlan
   plan-renamed v a =
-      rw (
-        notOurs-renamed m v a,
-        duplicate-renamed m v a,
-        badForm-renamed m a,
-        ownAnnounce-renamed m v a,
-        deliveredHere-renamed m v a,
-        tooManyHops-renamed m a,
-        wayOn-renamed m v a,
-        onward-renamed v a (wayOn v a),
-      )
-      (sym (simp (then-ap (renamePlan m))))
+      rw (wayOn-renamed m v a, onward-renamed v a (wayOn v a), early-renamed v a) (sym (simp (first-ap (renamePlan m))))
 
   -- ---- the answer
   -- all ports on but the arrival port, by their new numbers

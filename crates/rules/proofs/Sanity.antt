@@ -17,6 +17,7 @@ use Rattle.rules.specs.Run.{Call, renumbering, Reply, numbered, Outcome,
 use Rattle.rules.specs.declared.Tally.{Tally}
 use Rattle.rules.proofs.Unfolding.{rules}
 use Rattle.rules.proofs.Shortcut.{passes, seen-quick, goodPlan, goodJudge}
+use Rattle.rules.proofs.Passed.{ofTest}
 use Rattle.rules.proofs.Scene.{blank, announceBytes, dataBytes, dataKey, receiptBytes, requestBytes, link, linkProofBytes, linkBytes, arrival, arrives, next, prepared, announced, carried, asked, proved}
 use Rattle.rules.proofs.Outcomes.{spreads, forwards, spreadBytes, dataLastHop, requestLastHop, tallyOf, linkOf, preparedRelay, announcedRelay, carriedRelay, askedRelay, provedRelay, judged-at, announce-form, announce-new, data-new, request-new, proof-new, prepared-is, announced-is, carried-is, asked-is, proved-is}
 
@@ -68,12 +69,12 @@ module _ (bytes : List ℕ) (clock : ℕ) (r : Relay) (t : Tally)
 
 -- a fresh relay with two ports on spreads a good announce
 pub announce-spreads : Leaves prepared (arrives announceBytes 1000) 1 (spreads spreadBytes) 2
-unfolding rules goodPlan goodJudge judgedOn
+unfolding rules goodPlan goodJudge ofTest judgedOn
 announce-spreads = rw prepared-is (leaves announceBytes 1000 preparedRelay newTally announce-new (announce-form 1000) 1 _ 2 _ refl refl refl refl refl)
 
 -- data to that destination is forwarded
 pub data-forwarded : Leaves announced (arrives dataBytes 2000) 2 (forwards dataLastHop) 1
-unfolding rules goodPlan goodJudge judgedOn
+unfolding rules goodPlan goodJudge ofTest judgedOn
 data-forwarded = rw announced-is (leaves dataBytes 2000 announcedRelay (tallyOf 1 0) data-new (λ port. refl) 2 _ 1 _ refl refl refl refl refl)
 
 -- its receipt comes home by the port where the data came in
@@ -82,19 +83,19 @@ unfolding rules passes
 receipt-new = seen-quick 2500 (carriedRelay dataKey) (packetHash (receiptBytes 5)) refl
 
 pub receipt-comes-home : Leaves carried (arrives (receiptBytes 5) 2500) 1 (forwards (receiptBytes 6)) 2
-unfolding rules goodPlan goodJudge judgedOn
+unfolding rules goodPlan goodJudge ofTest judgedOn
 receipt-comes-home =
     rw carried-is
     (leaves (receiptBytes 5) 2500 (carriedRelay dataKey) (tallyOf 1 1) receipt-new (λ port. refl) 1 _ 2 _ refl refl refl refl refl)
 
 -- a link request is forwarded
 pub request-forwarded : Leaves announced (arrives requestBytes 2000) 2 (forwards requestLastHop) 1
-unfolding rules goodPlan goodJudge judgedOn
+unfolding rules goodPlan goodJudge ofTest judgedOn
 request-forwarded = rw announced-is (leaves requestBytes 2000 announcedRelay (tallyOf 1 0) request-new (λ port. refl) 2 _ 1 _ refl refl refl refl refl)
 
 -- its proof comes back
 pub proof-comes-back : Leaves asked (arrives (linkProofBytes 0) 2001) 1 (forwards (linkProofBytes 1)) 2
-unfolding rules goodPlan goodJudge judgedOn
+unfolding rules goodPlan goodJudge ofTest judgedOn
 proof-comes-back = rw asked-is (leaves (linkProofBytes 0) 2001 (askedRelay link) (tallyOf 1 1) proof-new (λ port. refl) 1 _ 2 _ refl refl refl refl refl)
 
 -- .. and proves the link
@@ -105,7 +106,7 @@ pub record Proves : Type 0 where
       viewAt 2001 (next (arrives (linkProofBytes 0) 2001 2) (next (renumbering oneUp) asked) .relay) .link link ≡ used (linkOf link 3 2 true 2721)
 
 pub proof-proves : Proves
-unfolding rules goodPlan goodJudge judgedOn proved
+unfolding rules goodPlan goodJudge ofTest judgedOn proved
 proof-proves =
     record {
       unproved = ap (λ (o : Outcome). viewAt 2001 (o .relay) .link link) asked-is;
@@ -124,9 +125,9 @@ unfolding rules passes
 link-new hops = seen-quick 2400 provedRelay (packetHash (linkBytes hops)) refl
 
 pub data-to-asking-side : Leaves proved (arrives (linkBytes 0) 2400) 1 (forwards (linkBytes 1)) 2
-unfolding rules goodPlan goodJudge judgedOn
+unfolding rules goodPlan goodJudge ofTest judgedOn
 data-to-asking-side = rw proved-is (leaves (linkBytes 0) 2400 provedRelay (tallyOf 1 2) (link-new 0) (λ port. refl) 1 _ 2 _ refl refl refl refl refl)
 
 pub data-to-answering-side : Leaves proved (arrives (linkBytes 3) 2400) 2 (forwards (linkBytes 4)) 1
-unfolding rules goodPlan goodJudge judgedOn
+unfolding rules goodPlan goodJudge ofTest judgedOn
 data-to-answering-side = rw proved-is (leaves (linkBytes 3) 2400 provedRelay (tallyOf 1 2) (link-new 3) (λ port. refl) 2 _ 1 _ refl refl refl refl refl)

@@ -11,17 +11,19 @@ use lib.ListN.{length, getD}
 use borrow.Author.Tests.{lt-ltb, le-ltb}
 use Rattle.octets.specs.Index.{_and_, first}
 use Rattle.octets.specs.Choice.{_then_otherwise_, _or_, same}
+use Rattle.rules.specs.Listed.{firstOf, told}
 use Rattle.rules.specs.Numbers.{hashCount, live}
 use Rattle.rules.specs.Relay.{Slot, empty, used, Relay, holds, lowest}
 use Rattle.rules.specs.View.{View, viewAt, isLiveHash, hashPlace}
 use Rattle.rules.specs.Refusals.{packetRefusal}
 use Rattle.rules.specs.Arrival.{Arrival, hash}
 use Rattle.rules.specs.Ways.{wayOn}
-use Rattle.rules.specs.Tests.{notOurs, testedAsDuplicate, duplicate, badForm, ownAnnounce, deliveredHere, tooManyHops}
-use Rattle.rules.specs.Judging.{Plan, dropped, delivered, plan, onwardPlan}
+use Rattle.rules.specs.Tests.{testedAsDuplicate, duplicate, badForm}
+use Rattle.rules.specs.Judging.{Plan, earlyTests, plan, onwardPlan}
+use Rattle.rules.specs.Answers.{reasonNumber}
 use Rattle.rules.specs.Calls.{Judgement, judged, judge, packetCall}
-use Rattle.rules.specs.declared.Reason.the-variants.{NotOurs, Duplicate, OwnAnnounce, TooManyHops}
 use Rattle.rules.specs.declared.Tally.{Tally}
+use Rattle.rules.proofs.Passed.{ofTest}
 
 -- ---- the first index, looked for from the front
 ltb-suc : (m n : ℕ) → ltb (suc m) (suc n) ≡ ltb m n
@@ -91,16 +93,10 @@ seen-quick clock r hash whole =
 
 -- ---- a packet of good form, of which test 2 says `seen`
 unfoldable pub goodPlan : Bool → View → Arrival → Plan
-goodPlan seen v a =
-    notOurs v a then dropped NotOurs otherwise
-    seen then dropped Duplicate otherwise
-    ownAnnounce v a then dropped OwnAnnounce otherwise
-    deliveredHere v a then delivered otherwise
-    tooManyHops a then dropped TooManyHops otherwise
-    onwardPlan v a (wayOn v a)
+goodPlan seen v a = firstOf (told (ofTest 3) false (told (ofTest 2) seen (earlyTests v a))) (onwardPlan v a (wayOn v a))
 
 plan-good : (v : View) (a : Arrival) {seen : Bool} → v .remembered (hash a) ≡ seen → badForm a ≡ false → plan v a ≡ goodPlan seen v a
-unfolding plan goodPlan duplicate testedAsDuplicate _and_ _then_otherwise_
+unfolding plan goodPlan earlyTests told ofTest reasonNumber duplicate testedAsDuplicate _and_ _then_otherwise_
 plan-good v a s g = rw (s, g)
 
 -- judging an accepted packet, with both decided apart

@@ -1,69 +1,50 @@
 -- The signature word is read only where a rule names it: for packets that are neither announces nor link proofs, and wherever tests 1 to 8
 -- drop, both words give equal results: answer, relay, tally and output.
-use Prim.Native.Nat.{ℕ, _≤_, _<_}
-use native.Mathlib.Nat.{le-trans, lt-irrefl}
-use native.Mathlib.Omega.{arith}
+use Prim.Native.Nat.{ℕ, _≤_}
 use mathlib.Core.Bool.{Bool, true, false, not, false≢true}
 use mathlib.Core.List.{List}
 use mathlib.Core.Path.{_≡_, refl, sym, ap, ap₂, _∙_}
-use lib.Dec.{eqb}
+use lib.Dec.{eqb, ltb}
 use lib.ListN.{length}
+use borrow.Author.Tests.{le-ltb}
 use Rattle.octets.specs.Index.{_and_}
 use Rattle.octets.specs.Choice.{_then_otherwise_, _or_}
 use Rattle.packet.specs.Header.{isAnnounce}
+use Rattle.rules.specs.Listed.{firstOf, told, allGive}
 use Rattle.rules.specs.Relay.{Relay, empty, used}
 use Rattle.rules.specs.View.{View, viewAt}
 use Rattle.rules.specs.Refusals.{packetRefusal}
 use Rattle.rules.specs.Arrival.{Arrival, header, isLinkProof}
 use Rattle.rules.specs.Ways.{Way, everywhere, by-path, along-link, by-return, blocked, wayOn}
-use Rattle.rules.specs.Tests.{notOurs, duplicate, badForm, ownAnnounce, deliveredHere, tooManyHops, noWayOn, alreadyKnown, wrongSide, notSigned, replay, notBetter, portOff, noRoom}
+use Rattle.rules.specs.Tests.{noWayOn, notSigned}
 use Rattle.rules.specs.Answers.{reasonNumber}
-use Rattle.rules.specs.Outgoing.{spreadPorts, outgoing, exceeds, grownTooLong}
-use Rattle.rules.specs.Judging.{Plan, dropped, delivered, follows, plan, onwardPlan, verdict, wayVerdict, spreadVerdict}
+use Rattle.rules.specs.Outgoing.{spreadPorts, outgoing, exceeds}
+use Rattle.rules.specs.Judging.{Plan, dropped, delivered, follows, earlyTests, onwardTests, plan, onwardPlan, verdict, wayVerdict, spreadVerdict}
 use Rattle.rules.specs.Calls.{Judgement, judged, judge, packetCall}
 use Rattle.rules.specs.declared.Reason.{Reason}
-use Rattle.rules.specs.declared.Reason.the-variants.{NotOurs, Duplicate, BadForm, OwnAnnounce, TooManyHops, NoWayOn, AlreadyKnown, WrongSide, NotSigned, Replay, NotBetter, PortOff, NoRoom, GrownTooLong}
 use Rattle.rules.specs.declared.Verdict.{Verdict}
 use Rattle.rules.specs.declared.Verdict.the-variants.{Drop, Deliver, Forward, Spread, Kept}
 use Rattle.rules.specs.declared.Answer.the-variants.{Refused, Judged}
 use Rattle.rules.specs.declared.Tally.{Tally}
 use Rattle.rules.proofs.Unfolding.{rules}
+use Rattle.rules.proofs.ListedLaws.{lateFrom, rest-alike, told-alike}
+use Rattle.rules.proofs.Passed.{ofTest}
 
 -- the packet with the host's word on its signature
 abbrev pub withWord : Bool → Arrival → Arrival
 withWord word a = record { bytes = a .bytes; port = a .port; clock = a .clock; signed = word }
 
--- ---- the plan, with what test 9 says apart
+-- ---- the plan, with what test 9 says given
 onwardBy : Bool → View → Arrival → Way → Plan
-onwardBy unsigned v a w =
-    noWayOn w then dropped NoWayOn otherwise
-    alreadyKnown v a w then dropped AlreadyKnown otherwise
-    wrongSide a w then dropped WrongSide otherwise
-    unsigned then dropped NotSigned otherwise
-    replay a w then dropped Replay otherwise
-    notBetter a w then dropped NotBetter otherwise
-    portOff v a w then dropped PortOff otherwise
-    noRoom v a w then dropped NoRoom otherwise
-    grownTooLong a w then dropped GrownTooLong otherwise
-    follows w
-
--- tests 1 to 5, and then the rest
-early : View → Arrival → Plan → Plan
-early v a rest =
-    notOurs v a then dropped NotOurs otherwise
-    duplicate v a then dropped Duplicate otherwise
-    badForm a then dropped BadForm otherwise
-    ownAnnounce v a then dropped OwnAnnounce otherwise
-    deliveredHere v a then delivered otherwise
-    tooManyHops a then dropped TooManyHops otherwise rest
+onwardBy unsigned v a w = firstOf (told (ofTest 9) unsigned (onwardTests v a w)) (follows w)
 
 planBy : Bool → View → Arrival → Plan
-planBy unsigned v a = early v a (onwardBy unsigned v a (wayOn v a))
+planBy unsigned v a = firstOf (earlyTests v a) (onwardBy unsigned v a (wayOn v a))
 
 -- nothing else in it reads the word
 module _ (v : View) (a : Arrival) (word : Bool) where
   onward-by : (w : Way) → onwardPlan v (withWord word a) w ≡ onwardBy (notSigned (withWord word a)) v a w
-  unfolding rules onwardBy
+  unfolding rules onwardBy ofTest
   onward-by (everywhere empty) = refl
   onward-by (everywhere (used p)) = refl
   onward-by (by-path p) = refl
@@ -72,8 +53,8 @@ module _ (v : View) (a : Arrival) (word : Bool) where
   onward-by (blocked why) = refl
 
   plan-by : plan v (withWord word a) ≡ planBy (notSigned (withWord word a)) v a
-  unfolding rules planBy early
-  plan-by = ap (early v a) (onward-by (wayOn v a))
+  unfolding rules planBy
+  plan-by = ap (firstOf (earlyTests v a)) (onward-by (wayOn v a))
 
   -- nor does what is written by it
   judged-by : (todo : Plan) (r : Relay) (t : Tally) (output : List ℕ) → judged (withWord word a) todo v r t output ≡ judged a todo v r t output
@@ -98,66 +79,32 @@ dropOf Kept = 15
 
 module _ (v : View) (a : Arrival) where
   -- none of them drops
-  record Late (p : Plan) : Type 0 where
-    late : 8 < dropOf (verdict v a p)
+  late : Plan → Bool
+  late p = ltb 8 (dropOf (verdict v a p))
 
-  late-drop : (reason : Reason) → 8 < reasonNumber reason → Late (dropped reason)
-  unfolding verdict dropOf
-  late-drop reason l = record { late = l }
-
-  late-then : (b : Bool) {p q : Plan} → Late p → Late q → Late (b then p otherwise q)
-  unfolding _then_otherwise_
-  late-then true h k = h
-  late-then false h k = k
-
-  late-follows : (w : Way) → noWayOn w ≡ false → Late (follows w)
-  unfolding verdict wayVerdict spreadVerdict dropOf noWayOn _then_otherwise_
-  late-follows (everywhere known) n = record { late = go (eqb (spreadPorts v a) 0 or exceeds (outgoing v a (everywhere known))) }
+  late-follows : (w : Way) → noWayOn w ≡ false → late (follows w) ≡ true
+  unfolding late verdict wayVerdict spreadVerdict dropOf noWayOn _then_otherwise_
+  late-follows (everywhere known) n = go (eqb (spreadPorts v a) 0 or exceeds (outgoing v a (everywhere known)))
     where
-      go : (b : Bool) → 8 < dropOf (b then Kept otherwise Spread (spreadPorts v a) (length (outgoing v a (everywhere known))))
-      go true = omega arith
-      go false = omega arith
-  late-follows (by-path p) n = record { late = omega arith }
-  late-follows (along-link l) n = record { late = omega arith }
-  late-follows (by-return t) n = record { late = omega arith }
+      go : (b : Bool) → ltb 8 (dropOf (b then Kept otherwise Spread (spreadPorts v a) (length (outgoing v a (everywhere known))))) ≡ true
+      go true = refl
+      go false = refl
+  late-follows (by-path p) n = refl
+  late-follows (along-link l) n = refl
+  late-follows (by-return t) n = refl
   late-follows (blocked why) n = absurd (false≢true (sym n))
 
-  -- where one of them drops by the plan p, the plan q is equal
-  record Alike (p q : Plan) : Type 0 where
-    alike : dropOf (verdict v a p) ≤ 8 → q ≡ p
+  onward-alike : (b c : Bool) (w : Way) → late (onwardBy b v a w) ≡ false → onwardBy c v a w ≡ onwardBy b v a w
+  unfolding onwardBy onwardTests told ofTest reasonNumber firstOf lateFrom allGive late verdict dropOf _and_ _then_otherwise_
+  onward-alike b c w = go (noWayOn w) refl
+    where
+      go : (n : Bool) → noWayOn w ≡ n → late (onwardBy b v a w) ≡ false → onwardBy c v a w ≡ onwardBy b v a w
+      go true q e = rw q
+      go false q e = told-alike late (ofTest 9) b c (onwardTests v a w) (follows w) (late-follows w q) refl e
 
-  alike-then : (b : Bool) (p : Plan) {x y : Plan} → (b ≡ false → Alike x y) → Alike (b then p otherwise x) (b then p otherwise y)
-  unfolding _then_otherwise_
-  alike-then true p h = record { alike = λ l. refl }
-  alike-then false p h = h refl
-
-  alike-late : {x : Plan} (y : Plan) → Late x → Alike x y
-  alike-late y h = record { alike = λ l. absurd (lt-irrefl 8 (le-trans (h .late) l)) }
-
-  onward-alike : (b c : Bool) (w : Way) → Alike (onwardBy b v a w) (onwardBy c v a w)
-  unfolding onwardBy reasonNumber
-  onward-alike b c w =
-      alike-then (noWayOn w) (dropped NoWayOn) λ n.
-      alike-then (alreadyKnown v a w) (dropped AlreadyKnown) λ _.
-      alike-then (wrongSide a w) (dropped WrongSide) λ _.
-      alike-late _
-      (late-then b (late-drop NotSigned (omega arith))
-      (late-then (replay a w) (late-drop Replay (omega arith))
-      (late-then (notBetter a w) (late-drop NotBetter (omega arith))
-      (late-then (portOff v a w) (late-drop PortOff (omega arith))
-      (late-then (noRoom v a w) (late-drop NoRoom (omega arith))
-      (late-then (grownTooLong a w) (late-drop GrownTooLong (omega arith)) (late-follows w n)))))))
-
-  plan-alike : (b c : Bool) → Alike (planBy b v a) (planBy c v a)
-  unfolding planBy early
-  plan-alike b c =
-      alike-then (notOurs v a) (dropped NotOurs) λ _.
-      alike-then (duplicate v a) (dropped Duplicate) λ _.
-      alike-then (badForm a) (dropped BadForm) λ _.
-      alike-then (ownAnnounce v a) (dropped OwnAnnounce) λ _.
-      alike-then (deliveredHere v a) delivered λ _.
-      alike-then (tooManyHops a) (dropped TooManyHops) λ _.
-      onward-alike b c (wayOn v a)
+  plan-alike : (b c : Bool) → late (planBy b v a) ≡ false → planBy c v a ≡ planBy b v a
+  unfolding planBy
+  plan-alike b c = rest-alike late (earlyTests v a) _ _ (onward-alike b c (wayOn v a))
 
 no-test-9 : (a : Arrival) (word : Bool) → isAnnounce (header a) ≡ false → isLinkProof a ≡ false → notSigned (withWord word a) ≡ false
 unfolding notSigned isLinkProof _or_ _and_
@@ -186,10 +133,10 @@ module _ (a : Arrival) (r : Relay) (t : Tally) (output : List ℕ) where
 
   result-alike : (accepted b c : Bool) (reason : Reason) → resultBy accepted b .answer ≡ Judged (Drop reason) → reasonNumber reason ≤ 8
       → resultBy accepted c ≡ resultBy accepted b
-  unfolding resultBy _then_otherwise_ judged dropOf
+  unfolding resultBy _then_otherwise_ judged dropOf late
   result-alike true b c reason e l =
       let d : verdict seen a (planBy b seen a) ≡ Drop reason = cc in
-      ap (λ (todo : Plan). judged a todo seen r t output) (plan-alike seen a b c .alike (rw d l))
+      ap (λ (todo : Plan). judged a todo seen r t output) (plan-alike seen a b c (rw d (le-ltb 8 (reasonNumber reason) l)))
   result-alike false b c reason e l = refl
 
   -- for a packet that is neither an announce nor a link proof, both words give equal results

@@ -12,6 +12,7 @@ use Rattle.packet.specs.Read.{typeOneParts, typeTwoParts, partsOf, payloadStart
 use Rattle.packet.specs.Write.{addresses, packetOf}
 use Rattle.packet.specs.Hash.{hashedPart, packetHash, linkId}
 use Rattle.packet.specs.Announce.{keysOf, nameHashOf, blobOf, emissionOf, leastAnnounce, identityHash, announcedDestination}
+use Rattle.rules.specs.Listed.{firstOf, valued, told}
 use Rattle.rules.specs.Numbers.{pathLifetime}
 use Rattle.rules.specs.Relay.{fresh, withClock, withPorts, withPaths, withLinks, withReturns, withHashes, holds, lowest, free, lowestFree}
 use Rattle.rules.specs.View.{portOn, portMode, localPlace, isLocal, isLivePath, isLiveLink, isLiveReturn, isLiveHash, pathPlace, linkPlace, returnPlace, hashPlace, freePath, freeLink, viewAt}
@@ -23,7 +24,7 @@ use Rattle.rules.specs.Ways.{pathWay, linkWay, returnWay, wayOn}
 use Rattle.rules.specs.Tests.{notOurs, testedAsDuplicate, duplicate, typeTwoProof, typeTwoOfKindLink, announceNotSingle, announceTooShort, announceOfAnother, requestOfKindLink, requestTooShort, linkProofLength, badForm, ownAnnounce, deliveredHere, tooManyHops, noWayOn, isThere, followsProvedLink, alreadyKnown, fromAnsweringSide, fromAskingSide, wrongSide, notSigned, replay, notBetter, leavingPort, portOff, noRoom}
 use Rattle.rules.specs.Answers.{reasonNumber, setBelow, portSet}
 use Rattle.rules.specs.Outgoing.{rewritten, spreadHeader, spreadPacket, spreadPorts, pathPacket, carriedPacket, outgoing, exceeds, grownTooLong}
-use Rattle.rules.specs.Judging.{onwardPlan, plan, spreadVerdict, wayVerdict, verdict, leaves, outputAfter}
+use Rattle.rules.specs.Judging.{earlyTests, onwardTests, onwardPlan, plan, spreadVerdict, wayVerdict, verdict, leaves, outputAfter}
 use Rattle.rules.specs.Writes.{putNext, remembers, remember, announcedBlobs, announcedPath, announcedPlace, putPath, returnKey, returnRecord, emptiedIf, emptiedWhere, putReturn, emptyReturn, linkRecord, putLink, renewedLink, renewLink, writeWay, writePlan, enact}
 use Rattle.rules.specs.Calls.{newTally, up, counted, judged, judge, packetCall, settled, setPort, renumber}
 use Rattle.rules.specs.Run.{ofJudgement, ofSetting, perform, replies, relayAfter, tallyAfter}
@@ -35,7 +36,7 @@ hashing = tt
 
 -- lists of bytes
 unfoldable pub lists : Unit {0}
-unfolding _and_ allBelow first listOf _then_otherwise_ _or_ same part patch numberFrom number
+unfolding _and_ allBelow first listOf _then_otherwise_ _or_ same part patch numberFrom number firstOf valued told
 lists = tt
 
 -- packets
@@ -69,7 +70,7 @@ tests = tt
 -- answers and the bytes that leave
 unfoldable pub answers : Unit {0}
 unfolding reasonNumber setBelow portSet rewritten spreadHeader spreadPacket spreadPorts pathPacket carriedPacket outgoing exceeds
-    grownTooLong onwardPlan plan spreadVerdict wayVerdict verdict leaves outputAfter
+    grownTooLong earlyTests onwardTests onwardPlan plan spreadVerdict wayVerdict verdict leaves outputAfter
 answers = tt
 
 -- what is written

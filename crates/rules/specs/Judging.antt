@@ -1,11 +1,12 @@
 -- Document 01, "Judging a packet": tests in order; the first that holds gives the drop. No table is written here.
 use Prim.Native.Nat.{ℕ}
 use mathlib.Core.Bool.{Bool, true, false}
-use mathlib.Core.List.{List}
+use mathlib.Core.List.{List, []}
 use lib.Dec.{eqb}
 use lib.ListN.{length}
 use Rattle.octets.specs.Part.{patch}
 use Rattle.octets.specs.Choice.{_then_otherwise_, _or_}
+use Rattle.rules.specs.Listed.{Test, _gives_otherwise_, firstOf}
 use Rattle.rules.specs.View.{View}
 use Rattle.rules.specs.Arrival.{Arrival}
 use Rattle.rules.specs.Ways.{Way, everywhere, by-path, along-link, by-return, blocked, wayOn}
@@ -22,30 +23,36 @@ pub data Plan : Type 0 where
   delivered : Plan
   follows : Way → Plan
 
--- tests 6 to 14, on the way that the packet would follow
-unfoldable pub onwardPlan : View → Arrival → Way → Plan
-onwardPlan v a w =
-    noWayOn w then dropped NoWayOn otherwise
-    alreadyKnown v a w then dropped AlreadyKnown otherwise
-    wrongSide a w then dropped WrongSide otherwise
-    notSigned a then dropped NotSigned otherwise
-    replay a w then dropped Replay otherwise
-    notBetter a w then dropped NotBetter otherwise
-    portOff v a w then dropped PortOff otherwise
-    noRoom v a w then dropped NoRoom otherwise
-    grownTooLong a w then dropped GrownTooLong otherwise
-    follows w
-
 -- tests 1 to 5; delivery stands at test 4's place
+unfoldable pub earlyTests : View → Arrival → List (Test Plan)
+earlyTests v a =
+    notOurs v a gives dropped NotOurs otherwise
+    duplicate v a gives dropped Duplicate otherwise
+    badForm a gives dropped BadForm otherwise
+    ownAnnounce v a gives dropped OwnAnnounce otherwise
+    deliveredHere v a gives delivered otherwise
+    tooManyHops a gives dropped TooManyHops otherwise
+    []
+
+-- tests 6 to 14, on the way that the packet would follow
+unfoldable pub onwardTests : View → Arrival → Way → List (Test Plan)
+onwardTests v a w =
+    noWayOn w gives dropped NoWayOn otherwise
+    alreadyKnown v a w gives dropped AlreadyKnown otherwise
+    wrongSide a w gives dropped WrongSide otherwise
+    notSigned a gives dropped NotSigned otherwise
+    replay a w gives dropped Replay otherwise
+    notBetter a w gives dropped NotBetter otherwise
+    portOff v a w gives dropped PortOff otherwise
+    noRoom v a w gives dropped NoRoom otherwise
+    grownTooLong a w gives dropped GrownTooLong otherwise
+    []
+
+unfoldable pub onwardPlan : View → Arrival → Way → Plan
+onwardPlan v a w = firstOf (onwardTests v a w) (follows w)
+
 unfoldable pub plan : View → Arrival → Plan
-plan v a =
-    notOurs v a then dropped NotOurs otherwise
-    duplicate v a then dropped Duplicate otherwise
-    badForm a then dropped BadForm otherwise
-    ownAnnounce v a then dropped OwnAnnounce otherwise
-    deliveredHere v a then delivered otherwise
-    tooManyHops a then dropped TooManyHops otherwise
-    onwardPlan v a (wayOn v a)
+plan v a = firstOf (earlyTests v a) (onwardPlan v a (wayOn v a))
 
 -- if that set is empty or the result exceeds 500, the answer is Kept
 unfoldable pub spreadVerdict : ℕ → List ℕ → Verdict

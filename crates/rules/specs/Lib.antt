@@ -10,6 +10,7 @@ pub mod Ways
 pub mod Tests
 pub mod Answers
 pub mod Outgoing
+pub mod Listed
 pub mod Judging
 pub mod Writes
 pub mod Calls

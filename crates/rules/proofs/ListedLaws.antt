@@ -1,0 +1,99 @@
+-- The laws of a list of tests, each said once for every list.
+use mathlib.Core.Bool.{Bool, true, false, false≢true}
+use mathlib.Core.List.{List, [], _∷_}
+use mathlib.Core.Path.{_≡_, refl, sym, ap, _∙_}
+use Rattle.octets.specs.Index.{_and_}
+use Rattle.octets.specs.Choice.{_then_otherwise_}
+use Rattle.octets.proofs.Index.{and-left, and-right, and-both}
+use Rattle.octets.proofs.Choice.{then-ap}
+use Rattle.rules.specs.Listed.{Test, _gives_otherwise_, firstOf, valued, told, allGive}
+
+-- ---- one step
+module _ {A : Type 0} (test : Bool) (x : A) (ts : List (Test A)) (rest : A) where
+  pub here : test ≡ true → firstOf (test gives x otherwise ts) rest ≡ x
+  unfolding firstOf _then_otherwise_
+  here e = rw e
+
+  pub past : test ≡ false → firstOf (test gives x otherwise ts) rest ≡ firstOf ts rest
+  unfolding firstOf _then_otherwise_
+  past e = rw e
+
+-- a function of what the list gives
+pub first-ap : {A B : Type 0} (f : A → B) (ts : List (Test A)) (rest : A) → f (firstOf ts rest) ≡ firstOf (valued f ts) (f rest)
+unfolding firstOf valued
+first-ap f [] rest = refl
+first-ap f (t ∷ ts) rest = then-ap f (t .holds) (t .value) (firstOf ts rest) ∙ ap (λ (r : _). t .holds then f (t .value) otherwise r) (first-ap f ts rest)
+
+-- ---- no test holds
+abbrev pub NoneHolds : {A : Type 0} → List (Test A) → Type 0
+NoneHolds [] = Unit {0}
+NoneHolds (t ∷ ts) = (t .holds ≡ false) × NoneHolds ts
+
+pub none-first : {A : Type 0} (ts : List (Test A)) (rest : A) → NoneHolds ts → firstOf ts rest ≡ rest
+unfolding firstOf _then_otherwise_
+none-first [] rest n = refl
+none-first (t ∷ ts) rest n = rw (n .0) (none-first ts rest (n .1))
+
+-- where what is given isn't of the kind that the tests give, none holds
+pub none-holds : {A : Type 0} (p : A → Bool) (ts : List (Test A)) (rest : A) → allGive p ts ≡ true → p (firstOf ts rest) ≡ false → NoneHolds ts
+unfolding firstOf allGive _then_otherwise_
+none-holds p [] rest g e = tt
+none-holds {A} p (t ∷ ts) rest g e = go (t .holds) refl e (none-holds p ts rest (and-right _ _ g))
+  where
+    go : (b : Bool) → t .holds ≡ b → p (b then t .value otherwise firstOf ts rest) ≡ false
+        → (p (firstOf ts rest) ≡ false → NoneHolds ts) → (t .holds ≡ false) × NoneHolds ts
+    go true q h below = absurd (false≢true (sym h ∙ and-left _ _ g))
+    go false q h below = (q, below h)
+
+-- ---- what a list gives where all that it can give passes
+pub all-first : {A : Type 0} (p : A → Bool) (ts : List (Test A)) (rest : A) → allGive p ts ≡ true → p rest ≡ true → p (firstOf ts rest) ≡ true
+unfolding firstOf allGive _then_otherwise_
+all-first p [] rest g r = r
+all-first {A} p (t ∷ ts) rest g r = go (t .holds) (all-first p ts rest (and-right _ _ g) r)
+  where
+    go : (b : Bool) → p (firstOf ts rest) ≡ true → p (b then t .value otherwise firstOf ts rest) ≡ true
+    go true below = and-left _ _ g
+    go false below = below
+
+-- ---- what the tests for a value say matters only from there on
+-- from the first of them on, every value passes
+unfoldable pub lateFrom : {A : Type 0} → (A → Bool) → (A → Bool) → List (Test A) → Bool
+lateFrom p late [] = true
+lateFrom p late (t ∷ ts) = p (t .value) then late (t .value) and allGive late ts otherwise lateFrom p late ts
+
+module _ {A : Type 0} (late : A → Bool) where
+  -- lists that begin alike
+  pub rest-alike : (ts : List (Test A)) (x y : A) → (late x ≡ false → y ≡ x) → late (firstOf ts x) ≡ false → firstOf ts y ≡ firstOf ts x
+  unfolding firstOf _then_otherwise_
+  rest-alike [] x y same e = same e
+  rest-alike (t ∷ ts) x y same e = go (t .holds) (rest-alike ts x y same) e
+    where
+      go : (b : Bool) → (late (firstOf ts x) ≡ false → firstOf ts y ≡ firstOf ts x) → late (b then t .value otherwise firstOf ts x) ≡ false
+          → (b then t .value otherwise firstOf ts y) ≡ (b then t .value otherwise firstOf ts x)
+      go true below h = refl
+      go false below h = below h
+
+  module _ (p : A → Bool) (b c : Bool) where
+    told-all : (ts : List (Test A)) → allGive late ts ≡ true → allGive late (told p b ts) ≡ true
+    unfolding allGive told
+    told-all [] g = refl
+    told-all (t ∷ ts) g = and-both (and-left _ _ g) (told-all ts (and-right _ _ g))
+
+    pub told-alike : (ts : List (Test A)) (rest : A) → late rest ≡ true → lateFrom p late ts ≡ true
+        → late (firstOf (told p b ts) rest) ≡ false → firstOf (told p c ts) rest ≡ firstOf (told p b ts) rest
+    unfolding firstOf told lateFrom _then_otherwise_
+    told-alike [] rest r g e = refl
+    told-alike (t ∷ ts) rest r g e = go (p (t .value)) (t .holds) g (told-alike ts rest r) e
+      where
+        go : (k h : Bool) → (k then late (t .value) and allGive late ts otherwise lateFrom p late ts) ≡ true
+            → (lateFrom p late ts ≡ true → late (firstOf (told p b ts) rest) ≡ false → firstOf (told p c ts) rest ≡ firstOf (told p b ts) rest)
+            → late ((k then b otherwise h) then t .value otherwise firstOf (told p b ts) rest) ≡ false
+            → ((k then c otherwise h) then t .value otherwise firstOf (told p c ts) rest)
+            ≡ ((k then b otherwise h) then t .value otherwise firstOf (told p b ts) rest)
+        go true h g below e = absurd (false≢true (sym e ∙ last b))
+          where
+            last : (b′ : Bool) → late (b′ then t .value otherwise firstOf (told p b ts) rest) ≡ true
+            last true = and-left _ _ g
+            last false = all-first late (told p b ts) rest (told-all ts (and-right _ _ g)) r
+        go false true g below e = refl
+        go false false g below e = below g e

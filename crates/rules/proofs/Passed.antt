@@ -1,0 +1,79 @@
+-- The tests that a packet passed that follows a way, each by its name; and the lists with what one test says given.
+use Prim.Native.Nat.{ℕ}
+use mathlib.Core.Bool.{Bool, true, false}
+use mathlib.Core.Path.{_≡_, refl, sym, ap, subst, _∙_}
+use lib.Dec.{eqb}
+use Rattle.octets.specs.Index.{_and_}
+use Rattle.rules.specs.Listed.{allGive}
+use Rattle.rules.specs.View.{View}
+use Rattle.rules.specs.Arrival.{Arrival}
+use Rattle.rules.specs.Ways.{Way, wayOn}
+use Rattle.rules.specs.Tests.{notOurs, duplicate, badForm, ownAnnounce, deliveredHere, tooManyHops, noWayOn, alreadyKnown, wrongSide, notSigned, replay, notBetter, portOff, noRoom}
+use Rattle.rules.specs.Outgoing.{grownTooLong}
+use Rattle.rules.specs.Answers.{reasonNumber}
+use Rattle.rules.specs.Judging.{Plan, dropped, delivered, follows, earlyTests, onwardTests, onwardPlan, plan}
+use Rattle.rules.proofs.ListedLaws.{NoneHolds, none-first, none-holds}
+
+-- the plan of the test with this number
+unfoldable pub ofTest : ℕ → Plan → Bool
+ofTest n (dropped reason) = eqb (reasonNumber reason) n
+ofTest n delivered = false
+ofTest n (follows w) = false
+
+-- the packet goes no further
+unfoldable pub stops : Plan → Bool
+stops (dropped reason) = true
+stops delivered = true
+stops (follows w) = false
+
+pub record Passed (v : View) (a : Arrival) (w : Way) : Type 0 where
+  pub ours : notOurs v a ≡ false
+  pub new : duplicate v a ≡ false
+  pub form : badForm a ≡ false
+  pub notOwn : ownAnnounce v a ≡ false
+  pub elsewhere : deliveredHere v a ≡ false
+  pub fewHops : tooManyHops a ≡ false
+  pub someWay : noWayOn w ≡ false
+  pub unknown : alreadyKnown v a w ≡ false
+  pub side : wrongSide a w ≡ false
+  pub signed : notSigned a ≡ false
+  pub newBlob : replay a w ≡ false
+  pub better : notBetter a w ≡ false
+  pub portOn : portOff v a w ≡ false
+  pub room : noRoom v a w ≡ false
+  pub fits : grownTooLong a w ≡ false
+
+module _ (v : View) (a : Arrival) where
+  passed-all : (w : Way) → NoneHolds (earlyTests v a) → NoneHolds (onwardTests v a w) → Passed v a w
+  unfolding earlyTests onwardTests
+  passed-all w early late =
+      let (ours, (new, (form, (notOwn, (elsewhere, (fewHops, _)))))) = early in
+      let (someWay, (unknown, (side, (signed, (newBlob, (better, (portOn, (room, (fits, _))))))))) = late in
+      record {
+        ours = ours;
+        new = new;
+        form = form;
+        notOwn = notOwn;
+        elsewhere = elsewhere;
+        fewHops = fewHops;
+        someWay = someWay;
+        unknown = unknown;
+        side = side;
+        signed = signed;
+        newBlob = newBlob;
+        better = better;
+        portOn = portOn;
+        room = room;
+        fits = fits;
+      }
+
+  -- .. and the way is the one that the rules find
+  pub passed : (w : Way) → plan v a ≡ follows w → (wayOn v a ≡ w) × Passed v a w
+  unfolding plan onwardPlan earlyTests onwardTests allGive stops _and_
+  passed w e =
+      let early : NoneHolds (earlyTests v a) = none-holds stops (earlyTests v a) _ refl (ap stops e) in
+      let on : onwardPlan v a (wayOn v a) ≡ follows w = sym (none-first (earlyTests v a) _ early) ∙ e in
+      let late : NoneHolds (onwardTests v a (wayOn v a)) = none-holds stops (onwardTests v a (wayOn v a)) _ refl (ap stops on) in
+      let end : follows (wayOn v a) ≡ follows w = sym (none-first (onwardTests v a (wayOn v a)) _ late) ∙ on in
+      let way : wayOn v a ≡ w = cc in
+      (way, subst (Passed v a) way (passed-all (wayOn v a) early late))
