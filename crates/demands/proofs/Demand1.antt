@@ -25,14 +25,15 @@ use Rattle.rules.specs.Relay.{Relay}
 use Rattle.rules.specs.View.{portOn, isLocal}
 use Rattle.rules.specs.Renumbering.{oneToOne}
 use Rattle.rules.specs.Arrival.{Arrival}
-use Rattle.rules.specs.Refusals.{tablesOk, emptyLocal, packetRefusal, renumberingRefusal, portSettingRefusal, addingRefusal, removingRefusal}
-use Rattle.rules.specs.Calls.{Setting, packetCall, judge, judged, settled, setPort, addLocal, removeLocal, renumber}
-use Rattle.rules.specs.Run.{Call, packet, port-setting, adding, removing, renumbering}
+use Rattle.rules.specs.Refusals.{tablesOk, emptyLocal, packetRows, packetRefusal}
+use Rattle.rules.specs.Listed.{firstOf}
+use Rattle.rules.specs.Calls.{Setting, packetCall, judge, judged, settled, ruleOf, tableRefusal, settle}
+use Rattle.rules.specs.Run.{Call, packet, on-tables, port-setting, adding, removing, renumbering}
 use Rattle.rules.specs.declared.Tally.{Tally}
 use Rattle.tables.specs.Places.{tableSize}
 use Rattle.tables.specs.Layout.{relayOf, bytesOf, wellFormed}
 use Rattle.tables.proofs.Whole.{again, ok-relay}
-use Rattle.settings.specs.Calls.{written, called, freshOn, setPortOn, addLocalOn, removeLocalOn, renumberOn}
+use Rattle.settings.specs.Calls.{written, called, freshOn}
 use Rattle.relay.specs.Promise.{inBytes, packetOn}
 use Rattle.demands.specs.Bytes.{OutcomeOn, ofPacket, ofCalled, performOn}
 use Rattle.demands.specs.Refusals.{refusal, refusalOn, refusing, isRefusal}
@@ -48,12 +49,9 @@ pub record RefusesExactly (c : Call) (start : List ℕ) (counts : Tally) : Type 
 
 -- ---- tables that row 7 names
 seven : (c : Call) (t : List ℕ) (tally : Tally) → wellFormed t ≡ false → performOn c t tally ≡ record { reply = refusing c 7; tables = t; tally = tally }
-unfolding performOn packetOn ofPacket ofCalled called setPortOn addLocalOn removeLocalOn renumberOn refusing _then_otherwise_
+unfolding performOn packetOn ofPacket ofCalled called refusing _then_otherwise_
 seven (packet arrival output) t tally h = rw h
-seven (port-setting port on mode) t tally h = rw h
-seven (adding address) t tally h = rw h
-seven (removing address) t tally h = rw h
-seven (renumbering images) t tally h = rw h
+seven (on-tables c) t tally h = rw h
 
 -- ---- all others
 module _ (t : List ℕ) (tally : Tally) (b : Bytes t) (h : wellFormed t ≡ true) where
@@ -69,20 +67,14 @@ module _ (t : List ℕ) (tally : Tally) (b : Bytes t) (h : wellFormed t ≡ true
 
   rows-refused : (c : Call) → eqb (refusal c (relayOf t)) 0 ≡ false
       → performOn c t tally ≡ record { reply = refusing c (refusal c (relayOf t)); tables = t; tally = tally }
-  unfolding performOn packetOn packetCall inBytes ofPacket ofCalled setPortOn addLocalOn removeLocalOn renumberOn setPort addLocal removeLocal renumber refusal refusing _then_otherwise_
+  unfolding performOn packetOn packetCall inBytes ofPacket ofCalled settle refusal refusing _then_otherwise_
   rows-refused (packet arrival output) z = rw (h, z, again t b h)
-  rows-refused (port-setting port on mode) z = ap (ofCalled tally) (setting-refused _ _ (setPort port on mode) refl z)
-  rows-refused (adding address) z = ap (ofCalled tally) (setting-refused _ _ (addLocal address) refl z)
-  rows-refused (removing address) z = ap (ofCalled tally) (setting-refused _ _ (removeLocal address) refl z)
-  rows-refused (renumbering images) z = ap (ofCalled tally) (setting-refused _ _ (renumber images) refl z)
+  rows-refused (on-tables c) z = ap (ofCalled tally) (setting-refused _ _ (settle c) refl z)
 
   rows-accepted : (c : Call) → eqb (refusal c (relayOf t)) 0 ≡ true → isRefusal (performOn c t tally .reply) ≡ false
-  unfolding performOn packetOn packetCall judge judged inBytes ofPacket ofCalled setPortOn addLocalOn removeLocalOn renumberOn setPort addLocal removeLocal renumber refusal isRefusal _then_otherwise_
+  unfolding performOn packetOn packetCall judge judged inBytes ofPacket ofCalled settle refusal isRefusal _then_otherwise_
   rows-accepted (packet arrival output) z = rw (h, z)
-  rows-accepted (port-setting port on mode) z = setting-accepted _ _ (setPort port on mode) refl z
-  rows-accepted (adding address) z = setting-accepted _ _ (addLocal address) refl z
-  rows-accepted (removing address) z = setting-accepted _ _ (removeLocal address) refl z
-  rows-accepted (renumbering images) z = setting-accepted _ _ (renumber images) refl z
+  rows-accepted (on-tables c) z = setting-accepted _ _ (settle c) refl z
 
 -- ---- the theorem
 -- for every call, and all bytes
@@ -116,33 +108,33 @@ pub packet-rows : (a : Arrival) (output tables : List ℕ)
     ltb longestPacket (length (a .bytes)) then 2 otherwise
     accessCode (headerOf (a .bytes)) then 3 otherwise
     typeTwo (headerOf (a .bytes)) and ltb (length (a .bytes)) 35 then 1 otherwise 0)
-unfolding refusalOn refusal packetRefusal readingRefusal
+unfolding refusalOn refusal packetRefusal packetRows firstOf readingRefusal
 packet-rows a output tables = after-seven tables _
 
 -- setting a port: 7, 9
 pub port-rows : (port : ℕ) (on : Bool) (mode : ℕ) (tables : List ℕ)
     → refusalOn (port-setting port on mode) tables
     ≡ (not (wellFormed tables) then 7 otherwise leb portCount port or leb modeCount mode then 9 otherwise 0)
-unfolding refusalOn refusal portSettingRefusal
+unfolding refusalOn refusal tableRefusal ruleOf firstOf
 port-rows port on mode tables = after-seven tables _
 
 -- adding a local address: 7, 11, 10
 pub adding-rows : (address tables : List ℕ)
     → refusalOn (adding address) tables
     ≡ (not (wellFormed tables) then 7 otherwise isLocal (relayOf tables) address then 11 otherwise leb localCount (emptyLocal (relayOf tables)) then 10 otherwise 0)
-unfolding refusalOn refusal addingRefusal
+unfolding refusalOn refusal tableRefusal ruleOf firstOf
 adding-rows address tables = after-seven tables _
 
 -- removing one: 7, 11
 pub removing-rows : (address tables : List ℕ)
     → refusalOn (removing address) tables ≡ (not (wellFormed tables) then 7 otherwise not (isLocal (relayOf tables) address) then 11 otherwise 0)
-unfolding refusalOn refusal removingRefusal
+unfolding refusalOn refusal tableRefusal ruleOf firstOf
 removing-rows address tables = after-seven tables _
 
 -- renumbering: 7, 8
 pub renumbering-rows : (images tables : List ℕ)
     → refusalOn (renumbering images) tables ≡ (not (wellFormed tables) then 7 otherwise not (oneToOne images) then 8 otherwise 0)
-unfolding refusalOn refusal renumberingRefusal
+unfolding refusalOn refusal tableRefusal ruleOf firstOf
 renumbering-rows images tables = after-seven tables _
 
 -- ---- the calls that take no relay's tables

@@ -20,8 +20,8 @@ use Rattle.packet.proofs.WriteLaws.{writable, writing-done}
 use Rattle.packet.proofs.RoundTrip.{reading-writing, writing-reading, write-payload}
 use Rattle.rules.specs.Relay.{Relay, fresh}
 use Rattle.rules.specs.Refusals.{tablesOk}
-use Rattle.rules.specs.Calls.{newTally, Setting, packetCall, setPort, addLocal, removeLocal, renumber}
-use Rattle.rules.specs.Run.{Call, packet, port-setting, adding, removing, renumbering, Reply, Outcome, ofJudgement, ofSetting, perform, replies, relayAfter, tallyAfter}
+use Rattle.rules.specs.Calls.{newTally, Setting, packetCall, settle}
+use Rattle.rules.specs.Run.{Call, packet, on-tables, Reply, Outcome, ofJudgement, ofSetting, perform, replies, relayAfter, tallyAfter}
 use Rattle.rules.specs.declared.Tally.{Tally}
 use Rattle.rules.proofs.History.{CountsHistory, history-since-fresh}
 use Rattle.rules.proofs.Valid.{step-ok, stays-ok, fresh-ok}
@@ -29,7 +29,7 @@ use Rattle.tables.specs.Places.{addressWidth, tableSize}
 use Rattle.tables.specs.Layout.{relayOf, bytesOf, wellFormed}
 use Rattle.tables.specs.Shape.{isBytes, shaped}
 use Rattle.tables.proofs.Whole.{formed, again, ok-relay, shaped-of, back, ok-bytes, bytes-bytes}
-use Rattle.settings.specs.Calls.{Called, written, called, setPortOn, addLocalOn, removeLocalOn, renumberOn, freshOn}
+use Rattle.settings.specs.Calls.{Called, written, called, freshOn}
 use Rattle.demands.specs.Given.{CallBytes, CallsBytes}
 use Rattle.relay.specs.Promise.{inBytes, packetOn}
 use Rattle.demands.specs.Bytes.{OutcomeOn, ofPacket, ofCalled, performOn, repliesOn, tablesAfterOn, tallyAfterOn}
@@ -54,12 +54,9 @@ module _ (r : Relay) (s : shaped r ≡ true) (ok : tablesOk r ≡ true) (t : Tal
   called-bytes call = rw (ok-bytes r s ok, back r s ok)
 
   pub call-on : (c : Call) → performOn c (bytesOf r) t ≡ outcomeOn (perform c r t)
-  unfolding performOn perform packetOn inBytes ofPacket ofJudgement outcomeOn setPortOn addLocalOn removeLocalOn renumberOn _then_otherwise_
+  unfolding performOn perform packetOn inBytes ofPacket ofJudgement outcomeOn _then_otherwise_
   call-on (packet arrival output) = rw (ok-bytes r s ok, back r s ok)
-  call-on (port-setting port on mode) = called-bytes (setPort port on mode)
-  call-on (adding address) = called-bytes (addLocal address)
-  call-on (removing address) = called-bytes (removeLocal address)
-  call-on (renumbering images) = called-bytes (renumber images)
+  call-on (on-tables c) = called-bytes (settle c)
 
 -- ---- lists of calls on a relay's bytes
 pub run-on : (cs : List Call) (r : Relay) (t : Tally) → CallsBytes cs → tablesOk r ≡ true → shaped r ≡ true → FollowsTheRules cs (bytesOf r) t r

@@ -4,17 +4,19 @@
 use Prim.Native.Nat.{ℕ}
 use mathlib.Core.Bool.{true}
 use mathlib.Core.List.{List, [], _∷_, _++_, map}
-use mathlib.Core.Path.{_≡_, sym, ap, subst, _∙_}
+use mathlib.Core.Path.{_≡_, refl, sym, ap, subst, _∙_}
 use lib.ListN.{length, take, drop}
 use Rattle.octets.specs.Bytes.{Bytes}
 use Rattle.octets.specs.Choice.{_then_otherwise_}
 use Rattle.rules.specs.Relay.{Relay, fresh}
 use Rattle.rules.specs.Renumbering.{oneToOne, renumbered, composed}
-use Rattle.rules.specs.Refusals.{tablesOk, renumberingRefusal}
-use Rattle.rules.specs.Calls.{newTally, settled, renumber}
-use Rattle.rules.specs.Run.{Call, packet, port-setting, adding, removing, renumbering, Reply, numbered, replies, relayAfter, tallyAfter, renameArrival, renameCall, renameReply, NoneRenumbers}
+use Rattle.rules.specs.Refusals.{all, tablesOk}
+use Rattle.rules.specs.Listed.{firstOf}
+use Rattle.rules.specs.Calls.{newTally, settled, ruleOf, tableRefusal, settle}
+use Rattle.rules.specs.Run.{Call, packet, on-tables, renumbering, Reply, numbered, replies, relayAfter, tallyAfter, renameArrival, renameCall, renameReply, noneRenumbers}
 use Rattle.rules.specs.declared.Tally.{Tally}
 use Rattle.rules.proofs.Valid.{stays-ok, fresh-ok}
+use Rattle.rules.proofs.CallsRenamed.{addresses-renamed}
 use Rattle.rules.proofs.Renumbering.{ForgetsNothing, forgets-nothing, TwoAreOne, two-are-one}
 use Rattle.tables.specs.Places.{addressWidth, tableSize}
 use Rattle.tables.specs.Layout.{relayOf, bytesOf, wellFormed}
@@ -74,10 +76,7 @@ both-given (c ∷ before) later b l = (b .0, both-given before later (b .1) l)
 call-given : (m : List ℕ) (c : Call) → CallBytes c → CallBytes (renameCall m c)
 unfolding CallBytes renameCall renameArrival
 call-given m (packet arrival output) b = b
-call-given m (port-setting port on mode) b = b
-call-given m (adding address) b = b
-call-given m (removing address) b = b
-call-given m (renumbering images) b = b
+call-given m (on-tables c) b = rw (addresses-renamed m c) b
 
 renamed-given : (m : List ℕ) (cs : List Call) → CallsBytes cs → CallsBytes (map (renameCall m) cs)
 unfolding CallsBytes
@@ -86,13 +85,13 @@ renamed-given m (c ∷ cs) b = (call-given m c (b .0), renamed-given m cs (b .1)
 
 -- a renumbering before them
 after-map : (m : List ℕ) (cs : List Call) → CallsBytes cs → CallsBytes (renumbering m ∷ cs)
-unfolding CallsBytes CallBytes
-after-map m cs b = (tt, b)
+unfolding CallsBytes CallBytes ruleOf all
+after-map m cs b = (refl, b)
 
 -- ---- on a relay's bytes
 module _ (r : Relay) (t : Tally) (ok : tablesOk r ≡ true) (s : shaped r ≡ true) (before later : List Call)
     (b : CallsBytes before) (l : CallsBytes later) where
-  forgets-nothing-bytes : (m : List ℕ) → oneToOne m ≡ true → NoneRenumbers later → ForgetsNothingOn m before later (bytesOf r) t
+  forgets-nothing-bytes : (m : List ℕ) → oneToOne m ≡ true → noneRenumbers later ≡ true → ForgetsNothingOn m before later (bytesOf r) t
   forgets-nothing-bytes m one-to-one h =
       let plain : List Call = before ++ later in
       let given : CallsBytes plain = both-given before later b l in
@@ -138,7 +137,7 @@ module _ (r : Relay) (t : Tally) (ok : tablesOk r ≡ true) (s : shaped r ≡ tr
 -- well-formed tables and every tally
 module _ (before later : List Call) (b : CallsBytes before) (l : CallsBytes later) where
   module _ (tables : List ℕ) (tally : Tally) (bytes : Bytes tables) (h : wellFormed tables ≡ true) where
-    pub forgets-nothing-on : (m : List ℕ) → oneToOne m ≡ true → NoneRenumbers later → ForgetsNothingOn m before later tables tally
+    pub forgets-nothing-on : (m : List ℕ) → oneToOne m ≡ true → noneRenumbers later ≡ true → ForgetsNothingOn m before later tables tally
     forgets-nothing-on m one-to-one none =
         subst (λ (x : List ℕ). ForgetsNothingOn m before later x tally) (again tables bytes h)
         (forgets-nothing-bytes (relayOf tables) tally (ok-relay tables h) (shaped-of tables bytes (formed tables h .size)) before later b l m one-to-one none)
@@ -151,7 +150,7 @@ module _ (before later : List Call) (b : CallsBytes before) (l : CallsBytes late
 
   -- "Both runs start from the same fresh relay, tally 0": the bytes that `fresh` makes
   module _ (buffer own : List ℕ) (size : length buffer ≡ tableSize) (sixteen : isBytes addressWidth own ≡ true) where
-    pub forgets-nothing-fresh : (m : List ℕ) → oneToOne m ≡ true → NoneRenumbers later
+    pub forgets-nothing-fresh : (m : List ℕ) → oneToOne m ≡ true → noneRenumbers later ≡ true
         → ForgetsNothingOn m before later (freshOn buffer own .tables) newTally
     forgets-nothing-fresh m one-to-one none =
         subst (λ (x : Called). ForgetsNothingOn m before later (x .tables) newTally) (sym (fresh-made buffer own size))
@@ -166,5 +165,5 @@ module _ (before later : List Call) (b : CallsBytes before) (l : CallsBytes late
 -- tables renamed are what the renumbering call writes: no second renaming is defined
 pub renamed-by-the-call : (m tables : List ℕ) → wellFormed tables ≡ true → oneToOne m ≡ true
     → renumberOn tables m ≡ record { refusal = 0; tables = renamedTables m tables }
-unfolding renumberOn called written renumber renumberingRefusal settled _then_otherwise_
+unfolding renumberOn called written settle tableRefusal ruleOf firstOf settled _then_otherwise_
 renamed-by-the-call m tables h ok = rw (h, ok-relay tables h, ok)

@@ -25,7 +25,8 @@ use Rattle.rules.specs.Numbers.{blobLimit}
 use Rattle.rules.specs.Relay.{Slot, empty, used, Blobs, Path, Return, Remembered, Relay}
 use Rattle.rules.specs.View.{View}
 use Rattle.rules.specs.Renumbering.{renamePath, renameLink, renameReturn}
-use Rattle.rules.specs.Refusals.{pathOk, slotOk, all, tableOk, packetRefusal}
+use Rattle.rules.specs.Refusals.{pathOk, slotOk, all, tableOk, packetRows, packetRefusal}
+use Rattle.rules.specs.Listed.{firstOf}
 use Rattle.rules.specs.Arrival.{Arrival, header, hops, relayAddress, destination, body, hash, blob}
 use Rattle.rules.specs.Blobs.{noBlob, oneBlob, addBlob}
 use Rattle.rules.specs.Writes.{announcedBlobs, announcedPath, returnKey, returnRecord, linkRecord, renewedLink}
@@ -146,7 +147,7 @@ module _ (a : Arrival) (b : Bytes (a .bytes)) where
 
 -- a packet that is accepted has all its parts
 pub accepted-whole : (r : Relay) (a : Arrival) (room : ℕ) → eqb (packetRefusal r a room) 0 ≡ true → payloadStart (header a) ≤ length (a .bytes)
-unfolding packetRefusal
+unfolding packetRefusal packetRows firstOf
 accepted-whole r a room accepted =
     let after7 = rows-below _ 7 _ refl accepted in
     let after6 = rows-below _ 6 _ refl after7 in

@@ -6,7 +6,7 @@ use mathlib.Core.Path.{_≡_, refl, subst}
 use lib.Dec.{eqb}
 use lib.ListN.{length, set}
 use Rattle.octets.specs.Bytes.{Bytes}
-use Rattle.octets.proofs.Index.{and-both}
+use Rattle.octets.proofs.Index.{and-both, and-left}
 use Rattle.packet.specs.Header.{isData}
 use Rattle.packet.specs.Read.{payloadStart}
 use Rattle.rules.specs.Numbers.{localCount, pathCount, linkCount, returnCount, hashCount}
@@ -18,8 +18,8 @@ use Rattle.rules.specs.Arrival.{Arrival, header, body}
 use Rattle.rules.specs.Ways.{Way, everywhere, by-path, along-link, by-return, blocked}
 use Rattle.rules.specs.Judging.{Plan, dropped, delivered, follows, plan}
 use Rattle.rules.specs.Writes.{putNext, remember, putPath, emptiedWhere, putReturn, emptyReturn, putLink, renewLink, writeWay, writePlan, enact}
-use Rattle.rules.specs.Calls.{Judgement, judged, judge, packetCall, settled, setPort, addLocal, removeLocal, renumber}
-use Rattle.rules.specs.Run.{Call, packet, port-setting, adding, removing, renumbering, ofJudgement, ofSetting, perform, relayAfter}
+use Rattle.rules.specs.Calls.{Judgement, judged, judge, packetCall, settled, TableCall, sets-port, adds, removes, renumbers, ruleOf, settle}
+use Rattle.rules.specs.Run.{Call, packet, on-tables, ofJudgement, ofSetting, perform, relayAfter}
 use Rattle.rules.specs.declared.Link.{Link}
 use Rattle.rules.specs.declared.Tally.{Tally}
 use Rattle.rules.proofs.Choices.{either}
@@ -153,13 +153,17 @@ renumbered-shaped m r s =
       hashes = s .hashes;
     }
 
+table-shaped : (c : TableCall) (r : Relay) → all (isBytes addressWidth) (ruleOf c .addresses) ≡ true → Shaped r → Shaped (ruleOf c .after r)
+unfolding ruleOf all slotOk
+table-shaped (sets-port port on mode) r b s = ports-changed r s _
+table-shaped (adds address) r b s = local-changed r s _ (used address) (and-left _ _ b)
+table-shaped (removes address) r b s = local-changed r s _ empty refl
+table-shaped (renumbers images) r b s = renumbered-shaped images r s
+
 call-shaped : (c : Call) (r : Relay) (t : Tally) → CallBytes c → Valid r → Shaped r → Shaped (perform c r t .relay)
-unfolding CallBytes perform ofJudgement ofSetting setPort addLocal removeLocal renumber slotOk
+unfolding CallBytes perform ofJudgement ofSetting settle
 call-shaped (packet arrival output) r t b ok s = packet-shaped arrival r t output b ok s
-call-shaped (port-setting port on mode) r t b ok s = settled-shaped _ r _ s (ports-changed r s _)
-call-shaped (adding address) r t b ok s = settled-shaped _ r _ s (local-changed r s _ (used address) b)
-call-shaped (removing address) r t b ok s = settled-shaped _ r _ s (local-changed r s _ empty refl)
-call-shaped (renumbering images) r t b ok s = settled-shaped _ r _ s (renumbered-shaped images r s)
+call-shaped (on-tables c) r t b ok s = settled-shaped _ r _ s (table-shaped c r b s)
 
 -- one call keeps the shape
 pub step-shaped : (c : Call) (r : Relay) (t : Tally) → CallBytes c → tablesOk r ≡ true → shaped r ≡ true → shaped (perform c r t .relay) ≡ true

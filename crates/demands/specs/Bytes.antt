@@ -1,9 +1,10 @@
 -- The calls on the bytes that a caller lends, one after the other: each gets the tables and the tally that the one before left.
 use Prim.Native.Nat.{ℕ}
 use mathlib.Core.List.{List, [], _∷_}
-use Rattle.rules.specs.Run.{Call, packet, port-setting, adding, removing, renumbering, Reply, answered, numbered}
+use Rattle.rules.specs.Run.{Call, packet, on-tables, Reply, answered, numbered}
 use Rattle.rules.specs.declared.Tally.{Tally}
-use Rattle.settings.specs.Calls.{Called, setPortOn, addLocalOn, removeLocalOn, renumberOn}
+use Rattle.rules.specs.Calls.{settle}
+use Rattle.settings.specs.Calls.{Called, called}
 use Rattle.relay.specs.Promise.{Outcome, packetOn}
 
 -- ---- any call
@@ -21,10 +22,7 @@ ofCalled tally c = record { reply = numbered (c .refusal); tables = c .tables; t
 unfoldable pub performOn : Call → List ℕ → Tally → OutcomeOn
 performOn (packet arrival output) tables tally =
     ofPacket (packetOn (arrival .bytes) (arrival .port) (arrival .clock) (arrival .signed) tables tally output)
-performOn (port-setting port on mode) tables tally = ofCalled tally (setPortOn tables port on mode)
-performOn (adding address) tables tally = ofCalled tally (addLocalOn tables address)
-performOn (removing address) tables tally = ofCalled tally (removeLocalOn tables address)
-performOn (renumbering images) tables tally = ofCalled tally (renumberOn tables images)
+performOn (on-tables c) tables tally = ofCalled tally (called tables (settle c))
 
 -- ---- lists of calls: what each replies, and the tables and the tally after the last
 unfoldable pub repliesOn : List Call → List ℕ → Tally → List Reply

@@ -3,17 +3,16 @@ use mathlib.Core.Bool.{true}
 use mathlib.Core.List.{List, [], _∷_}
 use mathlib.Core.Path.{_≡_}
 use Rattle.octets.specs.Bytes.{Bytes}
-use Rattle.rules.specs.Run.{Call, packet, port-setting, adding, removing, renumbering}
+use Rattle.rules.specs.Refusals.{all}
+use Rattle.rules.specs.Calls.{ruleOf}
+use Rattle.rules.specs.Run.{Call, packet, on-tables}
 use Rattle.tables.specs.Places.{addressWidth}
 use Rattle.tables.specs.Shape.{isBytes}
 
 -- a packet of bytes, an address of sixteen: what the functions' types say of their arguments. Every other argument may be any number
 unfoldable pub CallBytes : Call → Type 0
 CallBytes (packet arrival output) = Bytes (arrival .bytes)
-CallBytes (port-setting port on mode) = Unit {0}
-CallBytes (adding address) = isBytes addressWidth address ≡ true
-CallBytes (removing address) = isBytes addressWidth address ≡ true
-CallBytes (renumbering images) = Unit {0}
+CallBytes (on-tables c) = all (isBytes addressWidth) (ruleOf c .addresses) ≡ true
 
 -- each call of a list is given bytes
 unfoldable pub CallsBytes : List Call → Type 0

@@ -6,18 +6,16 @@ use lib.Dec.{eqb}
 use lib.ListN.{length}
 use Rattle.octets.specs.Choice.{_then_otherwise_}
 use Rattle.rules.specs.Relay.{Relay}
-use Rattle.rules.specs.Refusals.{packetRefusal, renumberingRefusal, portSettingRefusal, addingRefusal, removingRefusal}
-use Rattle.rules.specs.Run.{Call, packet, port-setting, adding, removing, renumbering, Reply, answered, numbered}
+use Rattle.rules.specs.Refusals.{packetRefusal}
+use Rattle.rules.specs.Calls.{tableRefusal}
+use Rattle.rules.specs.Run.{Call, packet, on-tables, Reply, answered, numbered}
 use Rattle.rules.specs.declared.Answer.the-variants.{Refused, Judged}
 use Rattle.tables.specs.Layout.{relayOf, wellFormed}
 
 -- "Tests run in this row order, each call making those that concern it (8 to 11 come after 7; 11 before 10)"
 unfoldable pub refusal : Call → Relay → ℕ
 refusal (packet arrival output) r = packetRefusal r arrival (length output)
-refusal (port-setting port on mode) r = portSettingRefusal r port mode
-refusal (adding address) r = addingRefusal r address
-refusal (removing address) r = removingRefusal r address
-refusal (renumbering images) r = renumberingRefusal r images
+refusal (on-tables c) r = tableRefusal c r
 
 -- row 7 is decided on the tables' bytes. Of tables that pass, the rows are those of the relay that they hold
 unfoldable pub refusalOn : Call → List ℕ → ℕ
@@ -26,10 +24,7 @@ refusalOn c tables = wellFormed tables then refusal c (relayOf tables) otherwise
 -- "Each returns its number alone": the reply that refuses a call, with the output as it was
 unfoldable pub refusing : Call → ℕ → Reply
 refusing (packet arrival output) n = answered (Refused n) output
-refusing (port-setting port on mode) n = numbered n
-refusing (adding address) n = numbered n
-refusing (removing address) n = numbered n
-refusing (renumbering images) n = numbered n
+refusing (on-tables c) n = numbered n
 
 unfoldable pub isRefusal : Reply → Bool
 isRefusal (answered (Refused n) output) = true

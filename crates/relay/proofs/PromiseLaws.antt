@@ -13,7 +13,7 @@ use Rattle.packet.specs.Read.{longestPacket, reads}
 use Rattle.packet.specs.Hash.{packetHash}
 use Rattle.rules.specs.Numbers.{portCount, clockLimit}
 use Rattle.rules.specs.Arrival.{Arrival}
-use Rattle.rules.specs.Refusals.{packetRefusal}
+use Rattle.rules.specs.Refusals.{packetRows, packetRefusal}
 use Rattle.rules.specs.Calls.{counted, judged, judge, packetCall}
 use Rattle.rules.specs.declared.Answer.{Answer}
 use Rattle.rules.specs.declared.Answer.the-variants.{Refused, Judged}
@@ -54,7 +54,7 @@ module _ (packet : List ℕ) (port clock : ℕ) (signed : Bool) (t : List ℕ) (
 
   -- the signature word has no part in a refusal
   by-rules : wellFormed t ≡ true → number ≡ packetRefusal (relayOf t) a (length output)
-  unfolding packetRefusalOn packetRefusal _then_otherwise_
+  unfolding packetRefusalOn packetRefusal packetRows _then_otherwise_
   by-rules h = rw h
 
   -- ---- a refusal changes nothing
@@ -92,11 +92,11 @@ module _ (packet : List ℕ) (port clock : ℕ) (signed : Bool) (t : List ℕ) (
     port-byte = let l = port-within in omega (arith, l)
 
     pub readable : reads longestPacket packet ≡ true
-    unfolding packetRefusal reads
+    unfolding packetRefusal packetRows firstOf reads
     readable = rows-below _ 5 _ refl (rows-below _ 4 _ refl (rows-below _ 6 _ refl (rows-below _ 7 _ refl passes)))
 
     pub roomy : longestPacket ≤ length output
-    unfolding packetRefusal
+    unfolding packetRefusal packetRows firstOf
     roomy = ltb-false _ _ (row-passed _ 6 _ refl (rows-below _ 7 _ refl passes))
 
     module _ (m : Arrived) (same-port : m .port ≡ port) (same-clock : m .clock ≡ clock) (same-signed : m .signed ≡ signed) where

@@ -18,7 +18,7 @@ use Rattle.octets.proofs.Part.{part-at, part-length, patch-mid, patch-set, patc
 use Rattle.octets.proofs.Joined.{patch-field, fields-length}
 use Rattle.rules.specs.Numbers.{portCount, linkCount, returnCount}
 use Rattle.rules.specs.Relay.{Port, off, Slot, empty, Path, Return, Relay, withPorts, withPaths, withLinks, withReturns}
-use Rattle.rules.specs.Refusals.{pathOk, linkOk, returnOk, renumberingRefusal}
+use Rattle.rules.specs.Refusals.{pathOk, linkOk, returnOk}
 use Rattle.rules.specs.Renumbering.{image, oneToOne, preimage, movedPorts, renamePath, renameLink, renameReturn, renameSlot, renumbered}
 use Rattle.rules.specs.declared.Link.{Link}
 use Rattle.tables.specs.Places.{addressWidth, portWidth, pathWidth, linkWidth, returnWidth, portsAt, pathsAt, linksAt, returnsAt, tableSize}
@@ -31,7 +31,8 @@ use Rattle.tables.proofs.Sections.{before-links, after-links, links-start, at-l
 use Rattle.tables.proofs.Whole.{formed, kept, shaped-parts, again, ok-relay, shaped-of}
 use Rattle.tables.proofs.Patches.{patch-ports, patch-paths, patch-links, patch-returns}
 use Rattle.tables.proofs.Seen.{port-seen, ports-length}
-use Rattle.rules.specs.Calls.{renumber}
+use Rattle.rules.specs.Listed.{firstOf}
+use Rattle.rules.specs.Calls.{renumbers, ruleOf, tableRefusal, settle}
 use Rattle.settings.specs.Calls.{refused, renumberOn}
 use Rattle.settings.proofs.Zeros.{port-each}
 use Rattle.settings.proofs.Answered.{called-bad, called-no, called-yes}
@@ -295,12 +296,12 @@ module _ (t m : List ℕ) (bt : Bytes t) (h : wellFormed t ≡ true) where
 module _ (t m : List ℕ) where
   pub renumber-bad : wellFormed t ≡ false → renumberOn t m ≡ refused 7 t
   unfolding renumberOn
-  renumber-bad h = called-bad t (renumber m) h
+  renumber-bad h = called-bad t (settle (renumbers m)) h
 
   pub renumber-refused : Bytes t → wellFormed t ≡ true → oneToOne m ≡ false → renumberOn t m ≡ refused 8 t
-  unfolding renumberOn renumber renumberingRefusal _then_otherwise_
-  renumber-refused b h o = called-no t (renumber m) h (renumbered m (relayOf t)) b 8 (λ e. omega arith) (rw (ok-relay t h, o))
+  unfolding renumberOn settle tableRefusal ruleOf firstOf _then_otherwise_
+  renumber-refused b h o = called-no t (settle (renumbers m)) h (renumbered m (relayOf t)) b 8 (λ e. omega arith) (rw (ok-relay t h, o))
 
   pub renumber-done : wellFormed t ≡ true → oneToOne m ≡ true → renumberOn t m ≡ record { refusal = 0; tables = bytesOf (renumbered m (relayOf t)) }
-  unfolding renumberOn renumber renumberingRefusal _then_otherwise_
-  renumber-done h o = called-yes t (renumber m) h (renumbered m (relayOf t)) (rw (ok-relay t h, o))
+  unfolding renumberOn settle tableRefusal ruleOf firstOf _then_otherwise_
+  renumber-done h o = called-yes t (settle (renumbers m)) h (renumbered m (relayOf t)) (rw (ok-relay t h, o))

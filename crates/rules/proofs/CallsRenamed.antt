@@ -1,27 +1,30 @@
 -- A renamed call on a renumbered relay: it answers what the call answers, renamed, and leaves the relay that it leaves, renumbered.
 use Prim.Native.Nat.{ℕ}
-use mathlib.Core.Bool.{Bool, true, false}
-use mathlib.Core.List.{List, _∷_}
+use mathlib.Core.Bool.{Bool, true, false, false≢true}
+use mathlib.Core.List.{List}
 use mathlib.Core.Path.{_≡_, refl, sym, ap, _∙_}
 use lib.Dec.{eqb}
 use lib.ListN.{length, set}
-use borrow.Author.Tests.{eqb-true}
+use borrow.Author.Tests.{eqb-true, not-false}
 use Rattle.octets.specs.Choice.{_then_otherwise_}
 use Rattle.octets.proofs.Choice.{then-ap}
 use Rattle.octets.proofs.Index.{and-left, and-right}
+use Rattle.rules.specs.Listed.{firstOf}
 use Rattle.rules.specs.Relay.{Port, Relay, withPorts, withLocals}
 use Rattle.rules.specs.View.{View, viewAt, isLocal, localPlace}
 use Rattle.rules.specs.Renumbering.{image, oneToOne, renumbered}
-use Rattle.rules.specs.Refusals.{tableOk, tablesOk, packetRefusal, renumberingRefusal, portSettingRefusal, emptyLocal, addingRefusal, removingRefusal}
+use Rattle.rules.specs.Refusals.{tableOk, tablesOk, packetRows, packetRefusal, emptyLocal}
 use Rattle.rules.specs.Arrival.{Arrival}
 use Rattle.rules.specs.Answers.{renameVerdict, renameAnswer}
 use Rattle.rules.specs.Judging.{Plan, plan, verdict}
-use Rattle.rules.specs.Calls.{counted, Judgement, judged, judge, packetCall, Setting, settled, setPort, addLocal, removeLocal, renumber}
-use Rattle.rules.specs.Run.{Call, renumbering, numbered, Outcome, ofJudgement, ofSetting, perform, renameArrival, renameCall, renameReply, NoneRenumbers, then-packet, then-setting, then-adding, then-removing, then-refused}
+use Rattle.rules.specs.Calls.{counted, Judgement, judged, judge, packetCall, Setting, settled, TableCall, sets-port, adds, removes, renumbers, ruleOf, tableRefusal, settle}
+use Rattle.rules.specs.Run.{Call, packet, on-tables, renumbering, numbered, movesPorts, Outcome, ofJudgement, ofSetting, perform, renameArrival, renameCall, renameReply}
 use Rattle.rules.specs.declared.Verdict.{Verdict}
 use Rattle.rules.specs.declared.Verdict.the-variants.{Drop, Deliver, Forward, Spread, Kept}
 use Rattle.rules.specs.declared.Answer.the-variants.{Refused, Judged}
 use Rattle.rules.specs.declared.Tally.{Tally}
+use Rattle.rules.proofs.ListedLaws.{NoneHolds}
+use Rattle.rules.proofs.Rows.{table-passed}
 use Rattle.rules.proofs.Images.{image-leb}
 use Rattle.rules.proofs.MovedPorts.{moved-set}
 use Rattle.rules.proofs.ViewRenamed.{renameView, no-port-on, on-image, view-renamed}
@@ -46,35 +49,29 @@ counted-renamed m (Forward port length) t = refl
 counted-renamed m (Spread ports length) t = refl
 counted-renamed m Kept t = refl
 
-settled-renamed : (m : List ℕ) (refusal : ℕ) (before after : Relay)
-    → settled refusal (renumbered m before) (renumbered m after) ≡ renameSetting m (settled refusal before after)
-unfolding settled renameSetting
-settled-renamed m refusal before after =
-    ap (λ (r : Relay). record { refusal = refusal; relay = r }) (sym (then-ap (renumbered m) (eqb refusal 0) after before))
-
 -- a relay that row 7 doesn't name has sixteen ports
 pub sixteen-ports : (r : Relay) → tablesOk r ≡ true → length (r .ports) ≡ 16
 unfolding tablesOk tableOk
 sixteen-ports r fine = eqb-true (length (r .ports)) 16 (and-left _ _ (and-left _ _ (and-right _ _ fine)))
 
--- a renumbering by a map that isn't one-to-one is refused, and else accepted
-renumber-refused : (m : List ℕ) (r : Relay) → tablesOk r ≡ true → oneToOne m ≡ false → renumber m r ≡ record { refusal = 8; relay = r }
-unfolding renumber renumberingRefusal settled _then_otherwise_
-renumber-refused m r fine no-map = rw (fine, no-map)
-
-renumber-accepted : (m : List ℕ) (r : Relay) → tablesOk r ≡ true → oneToOne m ≡ true → renumber m r ≡ record { refusal = 0; relay = renumbered m r }
-unfolding renumber renumberingRefusal settled _then_otherwise_
-renumber-accepted m r fine ok = rw (fine, ok)
-
+-- a renumbering by a one-to-one map is accepted
 pub accepted : (m : List ℕ) (r : Relay) (t : Tally) → tablesOk r ≡ true → oneToOne m ≡ true
     → perform (renumbering m) r t ≡ record { reply = numbered 0; relay = renumbered m r; tally = t }
-unfolding perform ofSetting
-accepted m r t fine ok = ap (ofSetting t) (renumber-accepted m r fine ok)
+unfolding perform ofSetting settle tableRefusal ruleOf firstOf settled _then_otherwise_
+accepted m r t fine ok = rw (fine, ok)
+
+-- a renamed call is given the same addresses
+pub addresses-renamed : (m : List ℕ) (c : TableCall) → ruleOf (ruleOf c .renamed m) .addresses ≡ ruleOf c .addresses
+unfolding ruleOf
+addresses-renamed m (sets-port port on mode) = refl
+addresses-renamed m (adds address) = refl
+addresses-renamed m (removes address) = refl
+addresses-renamed m (renumbers images) = refl
 
 -- ---- one call
 module _ (m : List ℕ) (ok : oneToOne m ≡ true) (r : Relay) (fine : tablesOk r ≡ true) (fine′ : tablesOk (renumbered m r) ≡ true) where
   packetRefusal-renamed : (a : Arrival) (room : ℕ) → packetRefusal (renumbered m r) (renameArrival m a) room ≡ packetRefusal r a room
-  unfolding packetRefusal renameArrival renumbered
+  unfolding packetRefusal packetRows renameArrival renumbered
   packetRefusal-renamed a room = rw (fine, fine′, on-image m (a .clock) r (sixteen-ports r fine) ok (a .port))
 
   judged-renamed : (v : View) (a : Arrival) (todo : Plan) (t : Tally) (output : List ℕ) → v .on 16 ≡ false
@@ -119,18 +116,34 @@ module _ (m : List ℕ) (ok : oneToOne m ≡ true) (r : Relay) (fine : tablesOk 
   unfolding withPorts renumbered
   ports-renamed port x = ap (λ (ports : List Port). withPorts ports (renumbered m r)) (moved-set m (r .ports) (sixteen-ports r fine) ok port x)
 
-  setPort-renamed : (port : ℕ) (on : Bool) (mode : ℕ) → setPort (image m port) on mode (renumbered m r) ≡ renameSetting m (setPort port on mode r)
-  unfolding setPort portSettingRefusal
-  setPort-renamed port on mode =
-      rw (fine, fine′, image-leb m ok port, ports-renamed port (record { on = on; mode = mode })) (settled-renamed m _ r _)
+  rows-renamed : (c : TableCall) → ruleOf (ruleOf c .renamed m) .rows (renumbered m r) ≡ ruleOf c .rows r
+  unfolding ruleOf isLocal localPlace emptyLocal renumbered
+  rows-renamed (sets-port port on mode) = rw (image-leb m ok port)
+  rows-renamed (adds address) = refl
+  rows-renamed (removes address) = refl
+  rows-renamed (renumbers images) = refl
 
-  addLocal-renamed : (address : List ℕ) → addLocal address (renumbered m r) ≡ renameSetting m (addLocal address r)
-  unfolding addLocal addingRefusal isLocal localPlace emptyLocal withLocals renumbered
-  addLocal-renamed address = rw (fine, fine′) (settled-renamed m _ r _)
+  after-renamed : (c : TableCall) → ruleOf c .movesPorts ≡ false → NoneHolds (ruleOf c .rows r)
+      → ruleOf (ruleOf c .renamed m) .after (renumbered m r) ≡ renumbered m (ruleOf c .after r)
+  unfolding ruleOf localPlace emptyLocal withLocals renumbered
+  after-renamed (sets-port port on mode) no-map n = ports-renamed port (record { on = on; mode = mode })
+  after-renamed (adds address) no-map n = refl
+  after-renamed (removes address) no-map n = refl
+  after-renamed (renumbers images) no-map n = absurd (false≢true (sym no-map ∙ not-false _ (n .0)))
 
-  removeLocal-renamed : (address : List ℕ) → removeLocal address (renumbered m r) ≡ renameSetting m (removeLocal address r)
-  unfolding removeLocal removingRefusal isLocal localPlace withLocals renumbered
-  removeLocal-renamed address = rw (fine, fine′) (settled-renamed m _ r _)
+  settle-renamed : (c : TableCall) → ruleOf c .movesPorts ≡ false → settle (ruleOf c .renamed m) (renumbered m r) ≡ renameSetting m (settle c r)
+  unfolding settle settled renameSetting _then_otherwise_
+  settle-renamed c no-map = rw refusal (go (eqb (tableRefusal c r) 0) refl)
+    where
+      refusal : tableRefusal (ruleOf c .renamed m) (renumbered m r) ≡ tableRefusal c r
+      refusal = unfold tableRefusal in rw (fine, fine′, rows-renamed c)
+
+      go : (b : Bool) → eqb (tableRefusal c r) 0 ≡ b
+          → _≡_ {A = Setting}
+          (record { refusal = tableRefusal c r; relay = b then ruleOf (ruleOf c .renamed m) .after (renumbered m r) otherwise renumbered m r })
+          (record { refusal = tableRefusal c r; relay = renumbered m (b then ruleOf c .after r otherwise r) })
+      go true e = ap (λ (x : Relay). record { refusal = tableRefusal c r; relay = x }) (after-renamed c no-map (table-passed c r e))
+      go false e = refl
 
   -- ---- the first of calls among which no renumbering is accepted
   setting-renamed : (t : Tally) (s : Setting) → ofSetting t (renameSetting m s) ≡ renameOutcome m (ofSetting t s)
@@ -141,15 +154,8 @@ module _ (m : List ℕ) (ok : oneToOne m ≡ true) (r : Relay) (fine : tablesOk 
   unfolding ofJudgement renameJudgement renameOutcome renameReply
   judgement-renamed j = refl
 
-  pub call-renamed : {c : Call} {cs : List Call} (t : Tally) → NoneRenumbers (c ∷ cs)
+  pub call-renamed : (c : Call) (t : Tally) → movesPorts c ≡ false
       → perform (renameCall m c) (renumbered m r) t ≡ renameOutcome m (perform c r t)
-  unfolding perform renameCall renameSetting renameOutcome
-  call-renamed t (then-packet {arrival = a} {output = output} h) =
-      ap ofJudgement (packetCall-renamed a t output) ∙ judgement-renamed (packetCall a r t output)
-  call-renamed t (then-setting {port = port} {on = on} {mode = mode} h) = ap (ofSetting t) (setPort-renamed port on mode) ∙ setting-renamed t _
-  call-renamed t (then-adding {address = address} h) = ap (ofSetting t) (addLocal-renamed address) ∙ setting-renamed t _
-  call-renamed t (then-removing {address = address} h) = ap (ofSetting t) (removeLocal-renamed address) ∙ setting-renamed t _
-  call-renamed t (then-refused {images = images} no-map h) =
-      ap (ofSetting t) (renumber-refused images (renumbered m r) fine′ no-map)
-      ∙ setting-renamed t (record { refusal = 8; relay = r })
-      ∙ ap (λ (s : Setting). renameOutcome m (ofSetting t s)) (sym (renumber-refused images r fine no-map))
+  unfolding perform renameCall renameSetting renameOutcome movesPorts
+  call-renamed (packet a output) t h = ap ofJudgement (packetCall-renamed a t output) ∙ judgement-renamed (packetCall a r t output)
+  call-renamed (on-tables c) t h = ap (ofSetting t) (settle-renamed c h) ∙ setting-renamed t _

@@ -13,7 +13,7 @@ use Rattle.rules.specs.View.{viewAt}
 use Rattle.rules.specs.Refusals.{packetRefusal}
 use Rattle.rules.specs.Judging.{plan, verdict}
 use Rattle.rules.specs.Calls.{newTally, up, counted, Judgement, judged, judge, packetCall}
-use Rattle.rules.specs.Run.{Call, packet, port-setting, adding, removing, renumbering, Reply, answered, numbered, ofJudgement, ofSetting, perform, replies, tallyAfter}
+use Rattle.rules.specs.Run.{Call, packet, on-tables, Reply, answered, numbered, ofJudgement, ofSetting, perform, replies, tallyAfter}
 use Rattle.rules.specs.declared.Verdict.{Verdict}
 use Rattle.rules.specs.declared.Verdict.the-variants.{Drop, Deliver, Forward, Spread, Kept}
 use Rattle.rules.specs.declared.Answer.the-variants.{Refused, Judged}
@@ -85,10 +85,7 @@ module _ (kind : Verdict → Bool) (counter : Tally → ℕ)
       go : (accepted : Bool) → counter (result accepted .tally) ≡ (counter t + counts kind (ofJudgement (result accepted) .reply)) % 2 ^ 32
       go true = after-verdict (verdict (viewAt (a .clock) r) a (plan (viewAt (a .clock) r) a)) t small
       go false = same-count (counter t) small
-  after-call (port-setting port on mode) r t small = same-count (counter t) small
-  after-call (adding address) r t small = same-count (counter t) small
-  after-call (removing address) r t small = same-count (counter t) small
-  after-call (renumbering images) r t small = same-count (counter t) small
+  after-call (on-tables c) r t small = same-count (counter t) small
 
   after-calls : (cs : List Call) (r : Relay) (t : Tally) → counter t < 2 ^ 32
       → counter (tallyAfter cs r t) ≡ (counter t + number kind (replies cs r t)) % 2 ^ 32

@@ -2,6 +2,7 @@
 pub mod Unfolding
 pub mod Choices
 pub mod ListedLaws
+pub mod Rows
 pub mod Passed
 pub mod Shortcut
 pub mod Scene

@@ -1,7 +1,9 @@
 -- The laws of a list of tests, each said once for every list.
-use mathlib.Core.Bool.{Bool, true, false, false≢true}
+use mathlib.Core.Bool.{Bool, true, false, not, false≢true}
 use mathlib.Core.List.{List, [], _∷_}
 use mathlib.Core.Path.{_≡_, refl, sym, ap, _∙_}
+use Prim.Native.Nat.{ℕ}
+use lib.Dec.{eqb}
 use Rattle.octets.specs.Index.{_and_}
 use Rattle.octets.specs.Choice.{_then_otherwise_}
 use Rattle.octets.proofs.Index.{and-left, and-right, and-both}
@@ -97,3 +99,11 @@ module _ {A : Type 0} (late : A → Bool) where
             last false = all-first late (told p b ts) rest (told-all ts (and-right _ _ g)) r
         go false true g below e = refl
         go false false g below e = below g e
+
+-- ---- rows of refusals: a call that isn't refused passed every row
+unfoldable pub refuses : ℕ → Bool
+refuses n = not (eqb n 0)
+
+pub rows-passed : (rows : List (Test ℕ)) (below : ℕ) → allGive refuses rows ≡ true → eqb (firstOf rows below) 0 ≡ true → NoneHolds rows
+unfolding refuses
+rows-passed rows below g e = none-holds refuses rows below g (ap not e)

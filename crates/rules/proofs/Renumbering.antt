@@ -8,7 +8,7 @@ use Rattle.rules.specs.Relay.{Relay, fresh}
 use Rattle.rules.specs.Renumbering.{oneToOne, renumbered, composed}
 use Rattle.rules.specs.Refusals.{tablesOk}
 use Rattle.rules.specs.Calls.{newTally}
-use Rattle.rules.specs.Run.{Call, renumbering, Reply, numbered, replies, relayAfter, tallyAfter, renameCall, renameReply, NoneRenumbers}
+use Rattle.rules.specs.Run.{Call, renumbering, Reply, numbered, replies, relayAfter, tallyAfter, renameCall, renameReply, noneRenumbers}
 use Rattle.rules.specs.declared.Tally.{Tally}
 use Rattle.rules.proofs.Images.{composed-one-to-one}
 use Rattle.rules.proofs.Valid.{stays-ok, fresh-ok}
@@ -50,7 +50,7 @@ pub record TwoAreOne (one two : List ℕ) (before later : List Call) (r : Relay)
 -- demand 3, for every list of calls, every place in it after which no accepted renumbering stands, and every one-to-one map, from
 -- every relay that refusal 7 doesn't name and every tally
 pub forgets-nothing : (m : List ℕ) (before later : List Call) (r : Relay) (t : Tally)
-    → oneToOne m ≡ true → NoneRenumbers later → tablesOk r ≡ true → ForgetsNothing m before later r t
+    → oneToOne m ≡ true → noneRenumbers later ≡ true → tablesOk r ≡ true → ForgetsNothing m before later r t
 forgets-nothing m before later r t ok h fine =
     let s : Relay = relayAfter before r t in
     let u : Tally = tallyAfter before r t in
@@ -117,7 +117,7 @@ two-are-one one two before later r t ok-one ok-two fine =
 
 -- ---- "Both runs start from the same fresh relay, tally 0"
 pub forgets-nothing-fresh : (own m : List ℕ) (before later : List Call)
-    → oneToOne m ≡ true → NoneRenumbers later → ForgetsNothing m before later (fresh own) newTally
+    → oneToOne m ≡ true → noneRenumbers later ≡ true → ForgetsNothing m before later (fresh own) newTally
 forgets-nothing-fresh own m before later ok h = forgets-nothing m before later (fresh own) newTally ok h (fresh-ok own)
 
 pub two-are-one-fresh : (own one two : List ℕ) (before later : List Call)

@@ -9,10 +9,10 @@ use Rattle.octets.specs.Choice.{_then_otherwise_}
 use Rattle.packet.specs.Hash.{packetHash}
 use Rattle.rules.specs.Relay.{used, Relay}
 use Rattle.rules.specs.View.{viewAt, hashPlace}
-use Rattle.rules.specs.Refusals.{packetRefusal, renumberingRefusal}
+use Rattle.rules.specs.Refusals.{packetRefusal}
 use Rattle.rules.specs.Renumbering.{renumbered}
 use Rattle.rules.specs.Tests.{badForm}
-use Rattle.rules.specs.Calls.{newTally, settled, renumber}
+use Rattle.rules.specs.Calls.{newTally, renumbers, ruleOf, tableRefusal, settle, settled}
 use Rattle.rules.specs.Run.{Call, renumbering, Reply, numbered, Outcome, ofJudgement, ofSetting, perform, replies}
 use Rattle.rules.specs.declared.Tally.{Tally}
 use Rattle.rules.proofs.Unfolding.{rules}
@@ -36,8 +36,8 @@ module _ (bytes : List ℕ) (clock : ℕ) (r : Relay) (t : Tally)
   judgedOn : Relay → ℕ → Outcome
   judgedOn on port = ofJudgement (goodJudge false (arrival bytes clock port) on t blank)
 
-  moved : renumberingRefusal r oneUp ≡ 0 → perform (renumbering oneUp) r t ≡ record { reply = numbered 0; relay = renumbered oneUp r; tally = t }
-  unfolding perform ofSetting renumber settled _then_otherwise_
+  moved : tableRefusal (renumbers oneUp) r ≡ 0 → perform (renumbering oneUp) r t ≡ record { reply = numbered 0; relay = renumbered oneUp r; tally = t }
+  unfolding perform ofSetting settle ruleOf settled _then_otherwise_
   moved ok = rw ok
 
   -- renumbering leaves the remembered hashes
@@ -53,7 +53,7 @@ module _ (bytes : List ℕ) (clock : ℕ) (r : Relay) (t : Tally)
   leaves : (from : ℕ) (reply : ℕ → Reply) (by : ℕ) (last : Reply)
       → packetRefusal r (arrival bytes clock from) (length blank) ≡ 0
       → judgedOn r from .reply ≡ reply by
-      → renumberingRefusal r oneUp ≡ 0
+      → tableRefusal (renumbers oneUp) r ≡ 0
       → packetRefusal (renumbered oneUp r) (arrival bytes clock (from + 1)) (length blank) ≡ 0
       → judgedOn (renumbered oneUp r) (from + 1) .reply ≡ reply (by + 1)
       → Leaves (record { reply = last; relay = r; tally = t }) (arrives bytes clock) from reply by

@@ -13,7 +13,7 @@ use Rattle.packet.specs.Header.{isAnnounce}
 use Rattle.rules.specs.Listed.{firstOf, told, allGive}
 use Rattle.rules.specs.Relay.{Relay, empty, used}
 use Rattle.rules.specs.View.{View, viewAt}
-use Rattle.rules.specs.Refusals.{packetRefusal}
+use Rattle.rules.specs.Refusals.{packetRows, packetRefusal}
 use Rattle.rules.specs.Arrival.{Arrival, header, isLinkProof}
 use Rattle.rules.specs.Ways.{Way, everywhere, by-path, along-link, by-return, blocked, wayOn}
 use Rattle.rules.specs.Tests.{noWayOn, notSigned}
@@ -125,7 +125,7 @@ module _ (a : Arrival) (r : Relay) (t : Tally) (output : List ℕ) where
       record { answer = Refused refusal; relay = r; tally = t; output = output }
 
   result-by : (word : Bool) → packetCall (withWord word a) r t output ≡ resultBy (eqb refusal 0) (notSigned (withWord word a))
-  unfolding packetCall judge packetRefusal seen refusal resultBy
+  unfolding packetCall judge packetRefusal packetRows seen refusal resultBy
   result-by word =
       ap (λ (j : Judgement). eqb refusal 0 then j otherwise record { answer = Refused refusal; relay = r; tally = t; output = output })
       (ap (λ (todo : Plan). judged (withWord word a) todo seen r t output) (plan-by seen a word)

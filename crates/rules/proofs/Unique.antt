@@ -13,16 +13,18 @@ use Rattle.rules.specs.Numbers.{localCount, pathCount, linkCount, return
 use Rattle.rules.specs.Relay.{Relay, fresh, lowest, withClock, withPorts, withLocals, withPaths, withLinks, withReturns, withHashes}
 use Rattle.rules.specs.View.{View, viewAt, localPlace, isLocal, pathPlace, linkPlace, returnPlace, hashPlace}
 use Rattle.rules.specs.Renumbering.{renumbered}
-use Rattle.rules.specs.Refusals.{tablesOk, packetRefusal, addingRefusal}
+use Rattle.rules.specs.Refusals.{tablesOk, packetRefusal}
 use Rattle.rules.specs.Arrival.{Arrival, header}
 use Rattle.rules.specs.Ways.{Way, everywhere, by-path, along-link, by-return, blocked}
 use Rattle.rules.specs.Tests.{testedAsDuplicate, duplicate}
 use Rattle.rules.specs.Judging.{Plan, dropped, delivered, follows, plan}
 use Rattle.rules.specs.Writes.{remembers, remember, putPath, putReturn, emptyReturn, putLink, renewLink, writeWay, writePlan, enact}
-use Rattle.rules.specs.Calls.{Judgement, judged, judge, packetCall, settled, setPort, addLocal, removeLocal, renumber}
-use Rattle.rules.specs.Run.{Call, packet, port-setting, adding, removing, renumbering, ofJudgement, ofSetting, perform, relayAfter}
+use Rattle.rules.specs.Calls.{Judgement, judged, judge, packetCall, settled, TableCall, sets-port, adds, removes, renumbers, ruleOf, settle}
+use Rattle.rules.specs.Run.{Call, packet, on-tables, ofJudgement, ofSetting, perform, relayAfter}
 use Rattle.rules.specs.declared.Tally.{Tally}
-use Rattle.rules.proofs.Choices.{either, row-passed, rows-below}
+use Rattle.rules.proofs.Choices.{either}
+use Rattle.rules.proofs.ListedLaws.{NoneHolds}
+use Rattle.rules.proofs.Rows.{table-passed}
 use Rattle.rules.proofs.Slots.{every-fresh, single-fresh, none-passes, not-found}
 use Rattle.rules.proofs.Followed.{planned, planned-by, remembered-new}
 use Rattle.rules.proofs.Accepted.{Accepted, accepted-packet}
@@ -100,25 +102,23 @@ settled-unique : (refusal : ℕ) (before after : Relay) → Unique before → (e
 unfolding settled
 settled-unique refusal before after u h = either Unique (eqb refusal 0) h (λ _. u)
 
+table-unique : (c : TableCall) (r : Relay) → Valid r → Unique r → NoneHolds (ruleOf c .rows r) → Unique (ruleOf c .after r)
+unfolding ruleOf isLocal localPlace withPorts withLocals renumbered
+table-unique (sets-port port on mode) r valid u n clock l = port-set clock r (u clock l) _ _
 -- an added local address is none of those there
-adding-unique : (address : List ℕ) (r : Relay) → Valid r → Unique r → Unique (addLocal address r .relay)
-unfolding addLocal addingRefusal isLocal localPlace withLocals
-adding-unique address r valid u =
-    settled-unique _ r _ u
-    (λ e clock l.
+table-unique (adds address) r valid u n clock l =
     let size : length (r .locals) ≡ localCount = eqb-true _ _ (valid .locals) in
-    let absent : localCount ≤ lowest (same address) localCount (r .locals) = ltb-false _ _ (row-passed _ 11 _ refl (rows-below _ 7 _ refl e)) in
+    let absent : localCount ≤ lowest (same address) localCount (r .locals) = ltb-false _ _ (n .0) in
     local-added clock r (u clock l) _ address
-    (λ j x o q. none-passes (same address) localCount (r .locals) size (not-found (same address) localCount (r .locals) size absent) j x o (eq-same address x (sym q))))
+    (λ j x o q. none-passes (same address) localCount (r .locals) size (not-found (same address) localCount (r .locals) size absent) j x o (eq-same address x (sym q)))
+table-unique (removes address) r valid u n clock l = local-removed clock r (u clock l) _
+table-unique (renumbers images) r valid u n clock l = renumbered-unique clock r (u clock l) images
 
 -- one call keeps it, of a relay that keeps row 7
 pub step-unique : (c : Call) (r : Relay) (t : Tally) → tablesOk r ≡ true → Unique r → Unique (perform c r t .relay)
-unfolding perform ofJudgement ofSetting setPort removeLocal renumber withPorts withLocals renumbered
+unfolding perform ofJudgement ofSetting settle
 step-unique (packet arrival output) r t ok u = packet-unique arrival r t output (valid-of r ok) u
-step-unique (port-setting port on mode) r t ok u = settled-unique _ r _ u (λ _ clock l. port-set clock r (u clock l) _ _)
-step-unique (adding address) r t ok u = adding-unique address r (valid-of r ok) u
-step-unique (removing address) r t ok u = settled-unique _ r _ u (λ _ clock l. local-removed clock r (u clock l) _)
-step-unique (renumbering images) r t ok u = settled-unique _ r _ u (λ _ clock l. renumbered-unique clock r (u clock l) images)
+step-unique (on-tables c) r t ok u = settled-unique _ r _ u (λ e. table-unique c r (valid-of r ok) u (table-passed c r e))
 
 pub stays-unique : (cs : List Call) (r : Relay) (t : Tally) → tablesOk r ≡ true → Unique r → Unique (relayAfter cs r t)
 unfolding relayAfter

@@ -1,7 +1,7 @@
 -- No list of calls leads from a relay that keeps row 7 to one that breaks it; a fresh relay keeps it.
 use Prim.Native.Nat.{ℕ, _<_}
 use native.Mathlib.Omega.{arith}
-use mathlib.Core.Bool.{Bool, true, false}
+use mathlib.Core.Bool.{true, false}
 use mathlib.Core.List.{List, [], _∷_}
 use mathlib.Core.Path.{_≡_, refl, subst}
 use lib.Dec.{eqb, ltb, lit<, lit≤}
@@ -14,17 +14,19 @@ use Rattle.rules.specs.Numbers.{portCount, localCount, pathCount, linkCo
 use Rattle.rules.specs.Relay.{Port, off, Slot, empty, Path, Return, Remembered, Ring, Relay, fresh, withClock, withPorts, withLocals, withPaths, withLinks, withReturns, withHashes}
 use Rattle.rules.specs.View.{View, viewAt}
 use Rattle.rules.specs.Renumbering.{oneToOne, preimage, movedPorts, renamePath, renameLink, renameReturn, renumbered}
-use Rattle.rules.specs.Refusals.{timeOk, portOk, pathOk, linkOk, returnOk, hashOk, slotOk, tableOk, tablesOk, packetRefusal, renumberingRefusal, portSettingRefusal}
+use Rattle.rules.specs.Refusals.{timeOk, portOk, pathOk, linkOk, returnOk, hashOk, slotOk, tableOk, tablesOk, packetRefusal}
 use Rattle.rules.specs.Arrival.{Arrival, header}
 use Rattle.rules.specs.Ways.{Way, everywhere, by-path, along-link, by-return, blocked}
 use Rattle.rules.specs.Tests.{tooManyHops}
 use Rattle.rules.specs.Judging.{Plan, dropped, delivered, follows, plan}
 use Rattle.rules.specs.Writes.{remember, putPath, emptiedWhere, putReturn, emptyReturn, putLink, renewLink, writeWay, writePlan, enact}
-use Rattle.rules.specs.Calls.{Judgement, judged, judge, packetCall, settled, setPort, addLocal, removeLocal, renumber}
-use Rattle.rules.specs.Run.{Call, packet, port-setting, adding, removing, renumbering, ofJudgement, ofSetting, perform, relayAfter}
+use Rattle.rules.specs.Calls.{Judgement, judged, judge, packetCall, settled, TableCall, sets-port, adds, removes, renumbers, ruleOf, settle}
+use Rattle.rules.specs.Run.{Call, packet, on-tables, ofJudgement, ofSetting, perform, relayAfter}
 use Rattle.rules.specs.declared.Link.{Link}
 use Rattle.rules.specs.declared.Tally.{Tally}
-use Rattle.rules.proofs.Choices.{either, row-passed, rows-below}
+use Rattle.rules.proofs.Choices.{either}
+use Rattle.rules.proofs.ListedLaws.{NoneHolds}
+use Rattle.rules.proofs.Rows.{table-passed}
 use Rattle.rules.proofs.Tables.{table-listOf, table-replicate, table-set, table-map, table-getD}
 use Rattle.rules.proofs.Followed.{Found, Planned, planned}
 use Rattle.rules.proofs.Accepted.{Accepted, accepted-packet}
@@ -198,14 +200,6 @@ settled-valid : (refusal : ℕ) (before after : Relay) → Valid before → (eqb
 unfolding settled
 settled-valid refusal before after valid h = either Valid (eqb refusal 0) h (λ _. valid)
 
-port-valid : (port : ℕ) (on : Bool) (mode : ℕ) (r : Relay) → Valid r → Valid (setPort port on mode r .relay)
-unfolding setPort portSettingRefusal portOk
-port-valid port on mode r valid =
-    settled-valid _ r _ valid
-    (λ e.
-    let known : mode < modeCount = leb-false _ _ (or-no-right _ _ (row-passed _ 9 _ refl (rows-below _ 7 _ refl e))) in
-    ports-changed r valid _ (table-set portOk portCount (r .ports) (valid .ports) _ _ (lt-ltb mode modeCount known)))
-
 -- ---- renumbering
 module _ (m : List ℕ) (ok : oneToOne m ≡ true) where
   renumbered-valid : (r : Relay) → Valid r → Valid (renumbered m r)
@@ -224,14 +218,18 @@ module _ (m : List ℕ) (ok : oneToOne m ≡ true) where
       }
 
 -- ---- sequences
+table-valid : (c : TableCall) (r : Relay) → Valid r → NoneHolds (ruleOf c .rows r) → Valid (ruleOf c .after r)
+unfolding ruleOf portOk
+table-valid (sets-port port on mode) r v n =
+    ports-changed r v _ (table-set portOk portCount (r .ports) (v .ports) _ _ (lt-ltb mode modeCount (leb-false _ _ (or-no-right _ _ (n .0)))))
+table-valid (adds address) r v n = local-changed r v _ _
+table-valid (removes address) r v n = local-changed r v _ _
+table-valid (renumbers images) r v n = renumbered-valid images (not-false _ (n .0)) r v
+
 call-valid : (c : Call) (r : Relay) (t : Tally) → Valid r → Valid (perform c r t .relay)
-unfolding perform ofJudgement ofSetting addLocal removeLocal renumber renumberingRefusal
+unfolding perform ofJudgement ofSetting settle
 call-valid (packet arrival output) r t v = packet-valid arrival r t output v
-call-valid (port-setting port on mode) r t v = port-valid port on mode r v
-call-valid (adding address) r t v = settled-valid _ r _ v (λ _. local-changed r v _ _)
-call-valid (removing address) r t v = settled-valid _ r _ v (λ _. local-changed r v _ _)
-call-valid (renumbering images) r t v =
-    settled-valid _ r _ v (λ e. renumbered-valid images (not-false _ (row-passed _ 8 _ refl (rows-below _ 7 _ refl e))) r v)
+call-valid (on-tables c) r t v = settled-valid _ r _ v (λ e. table-valid c r v (table-passed c r e))
 
 -- one call keeps row 7
 pub step-ok : (c : Call) (r : Relay) (t : Tally) → tablesOk r ≡ true → tablesOk (perform c r t .relay) ≡ true

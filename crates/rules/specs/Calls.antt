@@ -1,14 +1,16 @@
 -- The calls: what each answers, and the relay, tally and output after it. A refusal changes nothing.
 use Prim.Native.Nat.{ℕ, _+_, _%_, _^_}
-use mathlib.Core.Bool.{Bool, true, false}
-use mathlib.Core.List.{List}
-use lib.Dec.{eqb}
+use mathlib.Core.Bool.{Bool, true, false, not}
+use mathlib.Core.List.{List, [], _∷_}
+use lib.Dec.{eqb, leb}
 use lib.ListN.{length, set}
-use Rattle.octets.specs.Choice.{_then_otherwise_}
+use Rattle.octets.specs.Choice.{_then_otherwise_, _or_}
+use Rattle.rules.specs.Listed.{Test, _gives_otherwise_, firstOf}
+use Rattle.rules.specs.Numbers.{portCount, localCount, modeCount}
 use Rattle.rules.specs.Relay.{empty, used, Relay, withPorts, withLocals}
-use Rattle.rules.specs.View.{View, viewAt, localPlace}
-use Rattle.rules.specs.Renumbering.{renumbered}
-use Rattle.rules.specs.Refusals.{packetRefusal, renumberingRefusal, portSettingRefusal, emptyLocal, addingRefusal, removingRefusal}
+use Rattle.rules.specs.View.{View, viewAt, isLocal, localPlace}
+use Rattle.rules.specs.Renumbering.{image, oneToOne, renumbered}
+use Rattle.rules.specs.Refusals.{tablesOk, packetRefusal, emptyLocal}
 use Rattle.rules.specs.Arrival.{Arrival}
 use Rattle.rules.specs.Judging.{Plan, plan, verdict, outputAfter}
 use Rattle.rules.specs.Writes.{enact}
@@ -72,18 +74,66 @@ pub record Setting : Type 0 where
 unfoldable pub settled : ℕ → Relay → Relay → Setting
 settled refusal before after = record { refusal = refusal; relay = eqb refusal 0 then after otherwise before }
 
--- setting a port on or off, and its mode
-unfoldable pub setPort : ℕ → Bool → ℕ → Relay → Setting
-setPort port on mode r =
-    settled (portSettingRefusal r port mode) r (withPorts (set (r .ports) port (record { on = on; mode = mode })) r)
+-- ---- what each call on the tables is
+pub data TableCall : Type 0 where
+  sets-port : (port : ℕ) (on : Bool) (mode : ℕ) → TableCall
+  adds : (address : List ℕ) → TableCall
+  removes : (address : List ℕ) → TableCall
+  renumbers : (images : List ℕ) → TableCall
 
--- a new local address goes in the lowest empty place
-unfoldable pub addLocal : List ℕ → Relay → Setting
-addLocal address r = settled (addingRefusal r address) r (withLocals (set (r .locals) (emptyLocal r) (used address)) r)
+pub record TableRule : Type 0 where
+  -- the rows below row 7
+  pub rows : Relay → List (Test ℕ)
+  -- the relay after it, where no row refuses
+  pub after : Relay → Relay
+  -- the same call with its ports by their new numbers; a map stays as given
+  pub renamed : List ℕ → TableCall
+  -- the addresses that it is given
+  pub addresses : List (List ℕ)
+  -- whether it may renumber
+  pub movesPorts : Bool
 
--- removing one empties its place
-unfoldable pub removeLocal : List ℕ → Relay → Setting
-removeLocal address r = settled (removingRefusal r address) r (withLocals (set (r .locals) (localPlace r address) empty) r)
+unfoldable pub ruleOf : TableCall → TableRule
+-- setting a port on or off, and its mode: 9
+ruleOf (sets-port port on mode) =
+    record {
+      rows = λ r. leb portCount port or leb modeCount mode gives 9 otherwise [];
+      after = λ r. withPorts (set (r .ports) port (record { on = on; mode = mode })) r;
+      renamed = λ m. sets-port (image m port) on mode;
+      addresses = [];
+      movesPorts = false;
+    }
+-- a new local address goes in the lowest empty place: 11, 10 (11 before 10)
+ruleOf (adds address) =
+    record {
+      rows = λ r. isLocal r address gives 11 otherwise leb localCount (emptyLocal r) gives 10 otherwise [];
+      after = λ r. withLocals (set (r .locals) (emptyLocal r) (used address)) r;
+      renamed = λ m. adds address;
+      addresses = address ∷ [];
+      movesPorts = false;
+    }
+-- removing one empties its place: 11
+ruleOf (removes address) =
+    record {
+      rows = λ r. not (isLocal r address) gives 11 otherwise [];
+      after = λ r. withLocals (set (r .locals) (localPlace r address) empty) r;
+      renamed = λ m. removes address;
+      addresses = address ∷ [];
+      movesPorts = false;
+    }
+-- renumbering: 8
+ruleOf (renumbers images) =
+    record {
+      rows = λ r. not (oneToOne images) gives 8 otherwise [];
+      after = λ r. renumbered images r;
+      renamed = λ m. renumbers images;
+      addresses = [];
+      movesPorts = oneToOne images;
+    }
 
-unfoldable pub renumber : List ℕ → Relay → Setting
-renumber m r = settled (renumberingRefusal r m) r (renumbered m r)
+-- row 7 comes first
+unfoldable pub tableRefusal : TableCall → Relay → ℕ
+tableRefusal c r = firstOf (not (tablesOk r) gives 7 otherwise ruleOf c .rows r) 0
+
+unfoldable pub settle : TableCall → Relay → Setting
+settle c r = settled (tableRefusal c r) r (ruleOf c .after r)

@@ -1,4 +1,5 @@
 -- Document 01's rules over an abstract relay: no bytes of tables, no code.
+pub mod Listed
 pub mod Numbers
 pub mod Relay
 pub mod View
@@ -10,7 +11,6 @@ pub mod Ways
 pub mod Tests
 pub mod Answers
 pub mod Outgoing
-pub mod Listed
 pub mod Judging
 pub mod Writes
 pub mod Calls

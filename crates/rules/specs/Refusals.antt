@@ -5,13 +5,13 @@ use mathlib.Core.List.{List, [], _∷_}
 use lib.Dec.{eqb, ltb, leb}
 use lib.ListN.{length}
 use Rattle.octets.specs.Index.{_and_}
-use Rattle.octets.specs.Choice.{_then_otherwise_, _or_}
+use Rattle.octets.specs.Choice.{_or_}
 use Rattle.packet.specs.Read.{longestPacket, readingRefusal}
 use Rattle.packet.specs.Write.{leastOutput}
+use Rattle.rules.specs.Listed.{Test, _gives_otherwise_, firstOf}
 use Rattle.rules.specs.Numbers.{portCount, localCount, pathCount, linkCount, returnCount, hashCount, blobLimit, modeCount, clockLimit, timeLimit}
 use Rattle.rules.specs.Relay.{Port, Slot, empty, used, Path, Return, Remembered, Relay, lowestFree}
-use Rattle.rules.specs.View.{portOn, isLocal}
-use Rattle.rules.specs.Renumbering.{oneToOne}
+use Rattle.rules.specs.View.{portOn}
 use Rattle.rules.specs.Arrival.{Arrival}
 use Rattle.rules.specs.declared.Link.{Link}
 
@@ -68,39 +68,18 @@ tablesOk r =
     and tableOk hashCount (slotOk hashOk) (r .hashes .slots)
     and ltb (r .hashes .next) hashCount
 
--- ---- a packet, with an output buffer of `room` bytes: 7, 6, 4, 5, 1, 2, 3, 1
+-- ---- a packet, with an output buffer of `room` bytes: 7, 6, 4, 5, and the reading's 1, 2, 3, 1
+unfoldable pub packetRows : Relay → Arrival → ℕ → List (Test ℕ)
+packetRows r a room =
+    not (tablesOk r) gives 7 otherwise
+    ltb room leastOutput gives 6 otherwise
+    not (portOn r (a .port)) gives 4 otherwise
+    leb clockLimit (a .clock) or ltb (a .clock) (r .clock) gives 5 otherwise
+    []
+
 unfoldable pub packetRefusal : Relay → Arrival → ℕ → ℕ
-packetRefusal r a room =
-    not (tablesOk r) then 7 otherwise
-    ltb room leastOutput then 6 otherwise
-    not (portOn r (a .port)) then 4 otherwise
-    leb clockLimit (a .clock) or ltb (a .clock) (r .clock) then 5 otherwise
-    readingRefusal longestPacket (a .bytes)
+packetRefusal r a room = firstOf (packetRows r a room) (readingRefusal longestPacket (a .bytes))
 
--- ---- renumbering: 7, 8
-unfoldable pub renumberingRefusal : Relay → List ℕ → ℕ
-renumberingRefusal r m =
-    not (tablesOk r) then 7 otherwise
-    not (oneToOne m) then 8 otherwise 0
-
--- ---- setting a port: 7, 9
-unfoldable pub portSettingRefusal : Relay → ℕ → ℕ → ℕ
-portSettingRefusal r port mode =
-    not (tablesOk r) then 7 otherwise
-    leb portCount port or leb modeCount mode then 9 otherwise 0
-
--- ---- adding a local address: 7, 11, 10 (11 before 10)
+-- ---- the lowest empty place for a local address
 unfoldable pub emptyLocal : Relay → ℕ
 emptyLocal r = lowestFree (λ address. true) localCount (r .locals)
-
-unfoldable pub addingRefusal : Relay → List ℕ → ℕ
-addingRefusal r address =
-    not (tablesOk r) then 7 otherwise
-    isLocal r address then 11 otherwise
-    leb localCount (emptyLocal r) then 10 otherwise 0
-
--- ---- removing one: 7, 11
-unfoldable pub removingRefusal : Relay → List ℕ → ℕ
-removingRefusal r address =
-    not (tablesOk r) then 7 otherwise
-    not (isLocal r address) then 11 otherwise 0

@@ -1,22 +1,32 @@
 -- Sequences of calls: each gets the relay and tally that the one before left, and brings its own packet and output bytes.
 use Prim.Native.Nat.{ℕ}
-use mathlib.Core.Path.{_≡_}
-use mathlib.Core.Bool.{Bool, true, false}
+use mathlib.Core.Bool.{Bool, true, false, not}
 use mathlib.Core.List.{List, [], _∷_}
+use Rattle.octets.specs.Index.{_and_}
 use Rattle.rules.specs.Relay.{Relay}
-use Rattle.rules.specs.Renumbering.{image, oneToOne}
+use Rattle.rules.specs.Renumbering.{image}
 use Rattle.rules.specs.Arrival.{Arrival}
 use Rattle.rules.specs.Answers.{renameAnswer}
-use Rattle.rules.specs.Calls.{Judgement, packetCall, Setting, setPort, addLocal, removeLocal, renumber}
+use Rattle.rules.specs.Calls.{Judgement, packetCall, Setting, TableCall, sets-port, adds, removes, renumbers, ruleOf, settle}
 use Rattle.rules.specs.declared.Answer.{Answer}
 use Rattle.rules.specs.declared.Tally.{Tally}
 
 pub data Call : Type 0 where
   packet : (arrival : Arrival) (output : List ℕ) → Call
-  port-setting : (port : ℕ) (on : Bool) (mode : ℕ) → Call
-  adding : (address : List ℕ) → Call
-  removing : (address : List ℕ) → Call
-  renumbering : (images : List ℕ) → Call
+  on-tables : TableCall → Call
+
+-- the calls on the tables by their names
+abbrev pub port-setting : ℕ → Bool → ℕ → Call
+port-setting port on mode = on-tables (sets-port port on mode)
+
+abbrev pub adding : List ℕ → Call
+adding address = on-tables (adds address)
+
+abbrev pub removing : List ℕ → Call
+removing address = on-tables (removes address)
+
+abbrev pub renumbering : List ℕ → Call
+renumbering images = on-tables (renumbers images)
 
 -- all that a call returns, and its whole output buffer
 pub data Reply : Type 0 where
@@ -36,10 +46,7 @@ ofSetting t s = record { reply = numbered (s .refusal); relay = s .relay; tally 
 
 unfoldable pub perform : Call → Relay → Tally → Outcome
 perform (packet arrival output) r t = ofJudgement (packetCall arrival r t output)
-perform (port-setting port on mode) r t = ofSetting t (setPort port on mode r)
-perform (adding address) r t = ofSetting t (addLocal address r)
-perform (removing address) r t = ofSetting t (removeLocal address r)
-perform (renumbering images) r t = ofSetting t (renumber images r)
+perform (on-tables c) r t = ofSetting t (settle c r)
 
 -- what each call of a list replies, and the relay and the tally after it
 unfoldable pub replies : List Call → Relay → Tally → List Reply
@@ -60,20 +67,17 @@ renameArrival m a = record { bytes = a .bytes; port = image m (a .port); clock =
 
 unfoldable pub renameCall : List ℕ → Call → Call
 renameCall m (packet arrival output) = packet (renameArrival m arrival) output
-renameCall m (port-setting port on mode) = port-setting (image m port) on mode
-renameCall m (adding address) = adding address
-renameCall m (removing address) = removing address
-renameCall m (renumbering images) = renumbering images
+renameCall m (on-tables c) = on-tables (ruleOf c .renamed m)
 
 unfoldable pub renameReply : List ℕ → Reply → Reply
 renameReply m (answered answer output) = answered (renameAnswer m answer) output
 renameReply m (numbered refusal) = numbered refusal
 
 -- "none of them a later renumbering": those that stand in the list have a map that is refused
-pub data NoneRenumbers : List Call → Type 0 where
-  no-call : NoneRenumbers []
-  then-packet : {arrival : Arrival} {output : List ℕ} {cs : List Call} → NoneRenumbers cs → NoneRenumbers (packet arrival output ∷ cs)
-  then-setting : {port : ℕ} {on : Bool} {mode : ℕ} {cs : List Call} → NoneRenumbers cs → NoneRenumbers (port-setting port on mode ∷ cs)
-  then-adding : {address : List ℕ} {cs : List Call} → NoneRenumbers cs → NoneRenumbers (adding address ∷ cs)
-  then-removing : {address : List ℕ} {cs : List Call} → NoneRenumbers cs → NoneRenumbers (removing address ∷ cs)
-  then-refused : {images : List ℕ} {cs : List Call} → oneToOne images ≡ false → NoneRenumbers cs → NoneRenumbers (renumbering images ∷ cs)
+unfoldable pub movesPorts : Call → Bool
+movesPorts (packet arrival output) = false
+movesPorts (on-tables c) = ruleOf c .movesPorts
+
+unfoldable pub noneRenumbers : List Call → Bool
+noneRenumbers [] = true
+noneRenumbers (c ∷ cs) = not (movesPorts c) and noneRenumbers cs

@@ -15,8 +15,9 @@ use Rattle.octets.proofs.Part.{patch-join}
 use Rattle.rules.specs.Numbers.{portCount, localCount, modeCount}
 use Rattle.rules.specs.Relay.{empty, used, Relay, withPorts, withLocals}
 use Rattle.rules.specs.View.{localPlace, isLocal}
-use Rattle.rules.specs.Refusals.{portSettingRefusal, emptyLocal, addingRefusal, removingRefusal}
-use Rattle.rules.specs.Calls.{Setting, settled, setPort, addLocal, removeLocal}
+use Rattle.rules.specs.Listed.{firstOf}
+use Rattle.rules.specs.Refusals.{emptyLocal}
+use Rattle.rules.specs.Calls.{Setting, settled, sets-port, adds, removes, ruleOf, tableRefusal, settle}
 use Rattle.tables.specs.Places.{portWidth, localWidth, portsAt, localsAt, tableSize, addressWidth}
 use Rattle.tables.specs.Records.{portBytes, slotBytes, localBytes, markOf}
 use Rattle.tables.specs.Layout.{relayOf, bytesOf, wellFormed}
@@ -56,29 +57,29 @@ module _ (t : List ℕ) (call : Relay → Setting) where
 module _ (t : List ℕ) (h : wellFormed t ≡ false) where
   pub set-port-bad : (port : ℕ) (on : Bool) (mode : ℕ) → setPortOn t port on mode ≡ refused 7 t
   unfolding setPortOn
-  set-port-bad port on mode = called-bad t (setPort port on mode) h
+  set-port-bad port on mode = called-bad t (settle (sets-port port on mode)) h
 
   pub add-bad : (address : List ℕ) → addLocalOn t address ≡ refused 7 t
   unfolding addLocalOn
-  add-bad address = called-bad t (addLocal address) h
+  add-bad address = called-bad t (settle (adds address)) h
 
   pub remove-bad : (address : List ℕ) → removeLocalOn t address ≡ refused 7 t
   unfolding removeLocalOn
-  remove-bad address = called-bad t (removeLocal address) h
+  remove-bad address = called-bad t (settle (removes address)) h
 
 -- ---- setting a port
 module _ (t : List ℕ) (port : ℕ) (on : Bool) (mode : ℕ) (h : wellFormed t ≡ true) (b : Bytes t) where
   pub set-port-refused : (leb portCount port or leb modeCount mode) ≡ true → setPortOn t port on mode ≡ refused 9 t
-  unfolding setPortOn setPort portSettingRefusal _then_otherwise_
+  unfolding setPortOn settle tableRefusal ruleOf firstOf _then_otherwise_
   set-port-refused r =
-      called-no t (setPort port on mode) h (withPorts (set (relayOf t .ports) port (settingsOf on mode)) (relayOf t)) b 9 (λ e. omega arith)
+      called-no t (settle (sets-port port on mode)) h (withPorts (set (relayOf t .ports) port (settingsOf on mode)) (relayOf t)) b 9 (λ e. omega arith)
       (rw (ok-relay t h, r))
 
   pub set-port-done : port < portCount → mode < modeCount
       → setPortOn t port on mode ≡ record { refusal = 0; tables = patch t (portsAt + portWidth * port) (portBytes (settingsOf on mode)) }
-  unfolding setPortOn setPort portSettingRefusal _then_otherwise_
+  unfolding setPortOn settle tableRefusal ruleOf firstOf _then_otherwise_
   set-port-done lp lm =
-      called-yes t (setPort port on mode) h (withPorts (set (relayOf t .ports) port (settingsOf on mode)) (relayOf t))
+      called-yes t (settle (sets-port port on mode)) h (withPorts (set (relayOf t .ports) port (settingsOf on mode)) (relayOf t))
       (rw (ok-relay t h, or-no (lt-leb portCount port lp) (lt-leb modeCount mode lm)))
       ∙ ap (refused 0)
       (sym (patch-port (relayOf t) port (settingsOf on mode) (ports-length t) lp)
@@ -90,19 +91,19 @@ module _ (t address : List ℕ) (h : wellFormed t ≡ true) (b : Bytes t) where
   added = withLocals (set (relayOf t .locals) (emptyLocal (relayOf t)) (used address)) (relayOf t)
 
   pub add-known : isLocal (relayOf t) address ≡ true → addLocalOn t address ≡ refused 11 t
-  unfolding addLocalOn addLocal addingRefusal _then_otherwise_ added
-  add-known k = called-no t (addLocal address) h added b 11 (λ e. omega arith) (rw (ok-relay t h, k))
+  unfolding addLocalOn settle tableRefusal ruleOf firstOf _then_otherwise_ added
+  add-known k = called-no t (settle (adds address)) h added b 11 (λ e. omega arith) (rw (ok-relay t h, k))
 
   pub add-full : isLocal (relayOf t) address ≡ false → localCount ≤ emptyLocal (relayOf t) → addLocalOn t address ≡ refused 10 t
-  unfolding addLocalOn addLocal addingRefusal _then_otherwise_ added
-  add-full k f = called-no t (addLocal address) h added b 10 (λ e. omega arith) (rw (ok-relay t h, k, le-leb localCount (emptyLocal (relayOf t)) f))
+  unfolding addLocalOn settle tableRefusal ruleOf firstOf _then_otherwise_ added
+  add-full k f = called-no t (settle (adds address)) h added b 10 (λ e. omega arith) (rw (ok-relay t h, k, le-leb localCount (emptyLocal (relayOf t)) f))
 
   pub add-done : (place : ℕ) → place ≡ emptyLocal (relayOf t) → place < localCount → isLocal (relayOf t) address ≡ false
       → addLocalOn t address ≡ record { refusal = 0; tables = patch t (localsAt + localWidth * place) (slotBytes localWidth localBytes (used address)) }
-  unfolding addLocalOn addLocal addingRefusal _then_otherwise_ added
+  unfolding addLocalOn settle tableRefusal ruleOf firstOf _then_otherwise_ added
   add-done place e l k =
       let m : emptyLocal (relayOf t) < localCount = rw e at l in
-      called-yes t (addLocal address) h added (rw (ok-relay t h, k, lt-leb localCount (emptyLocal (relayOf t)) m))
+      called-yes t (settle (adds address)) h added (rw (ok-relay t h, k, lt-leb localCount (emptyLocal (relayOf t)) m))
       ∙ ap (refused 0)
       (sym (patch-local (relayOf t) (emptyLocal (relayOf t)) (used address) (locals-length t) m)
       ∙ ap (λ (x : List ℕ). patch x (localsAt + localWidth * emptyLocal (relayOf t)) (slotBytes localWidth localBytes (used address))) (again t b h)
@@ -114,17 +115,17 @@ module _ (t address : List ℕ) (h : wellFormed t ≡ true) (b : Bytes t) (place
   removed = withLocals (set (relayOf t .locals) (localPlace (relayOf t) address) empty) (relayOf t)
 
   pub remove-unknown : localCount ≤ place → removeLocalOn t address ≡ refused 11 t
-  unfolding removeLocalOn removeLocal removingRefusal isLocal _then_otherwise_ removed
+  unfolding removeLocalOn settle tableRefusal ruleOf firstOf isLocal _then_otherwise_ removed
   remove-unknown l =
       let m : localCount ≤ localPlace (relayOf t) address = rw e at l in
-      called-no t (removeLocal address) h removed b 11 (λ q. omega arith) (rw (ok-relay t h, le-ltb (localPlace (relayOf t) address) localCount m))
+      called-no t (settle (removes address)) h removed b 11 (λ q. omega arith) (rw (ok-relay t h, le-ltb (localPlace (relayOf t) address) localCount m))
 
   pub remove-done : place < localCount
       → removeLocalOn t address ≡ record { refusal = 0; tables = patch t (localsAt + localWidth * place) (slotBytes localWidth localBytes empty) }
-  unfolding removeLocalOn removeLocal removingRefusal isLocal _then_otherwise_ removed
+  unfolding removeLocalOn settle tableRefusal ruleOf firstOf isLocal _then_otherwise_ removed
   remove-done l =
       let m : localPlace (relayOf t) address < localCount = rw e at l in
-      called-yes t (removeLocal address) h removed (rw (ok-relay t h, lt-ltb (localPlace (relayOf t) address) localCount m))
+      called-yes t (settle (removes address)) h removed (rw (ok-relay t h, lt-ltb (localPlace (relayOf t) address) localCount m))
       ∙ ap (refused 0)
       (sym (patch-local (relayOf t) (localPlace (relayOf t) address) empty (locals-length t) m)
       ∙ ap (λ (x : List ℕ). patch x (localsAt + localWidth * localPlace (relayOf t) address) (slotBytes localWidth localBytes empty)) (again t b h)

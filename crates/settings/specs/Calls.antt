@@ -6,7 +6,7 @@ use lib.Dec.{eqb}
 use lib.ListN.{length}
 use Rattle.octets.specs.Choice.{_then_otherwise_}
 use Rattle.rules.specs.Relay.{Port, Relay, fresh}
-use Rattle.rules.specs.Calls.{Setting, setPort, addLocal, removeLocal, renumber}
+use Rattle.rules.specs.Calls.{Setting, sets-port, adds, removes, renumbers, settle}
 use Rattle.tables.specs.Places.{tableSize}
 use Rattle.tables.specs.Layout.{relayOf, bytesOf, wellFormed}
 
@@ -30,19 +30,19 @@ called t call = wellFormed t then written (call (relayOf t)) otherwise refused 7
 
 -- setting a port: 7, 9
 unfoldable pub setPortOn : List ℕ → ℕ → Bool → ℕ → Called
-setPortOn t port on mode = called t (setPort port on mode)
+setPortOn t port on mode = called t (settle (sets-port port on mode))
 
 -- adding a local address: 7, 11, 10
 unfoldable pub addLocalOn : List ℕ → List ℕ → Called
-addLocalOn t address = called t (addLocal address)
+addLocalOn t address = called t (settle (adds address))
 
 -- removing one: 7, 11
 unfoldable pub removeLocalOn : List ℕ → List ℕ → Called
-removeLocalOn t address = called t (removeLocal address)
+removeLocalOn t address = called t (settle (removes address))
 
 -- renumbering: 7, 8
 unfoldable pub renumberOn : List ℕ → List ℕ → Called
-renumberOn t m = called t (renumber m)
+renumberOn t m = called t (settle (renumbers m))
 
 -- a fresh relay's tables: 7 where the buffer has the wrong size. What it held is not read
 unfoldable pub freshOn : List ℕ → List ℕ → Called
