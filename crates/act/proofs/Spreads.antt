@@ -31,7 +31,7 @@ use Rattle.rules.specs.declared.Verdict.{Verdict}
 use Rattle.rules.specs.declared.Verdict.the-variants.{Spread, Kept}
 use Rattle.rules.proofs.Choices.{either}
 use Rattle.rules.proofs.Followed.{Planned, planned}
-use Rattle.tables.specs.Places.{tableSize}
+use Rattle.tables.specs.Places.{addressWidth, ownAt, tableSize}
 use Rattle.tables.specs.Layout.{relayOf, bytesOf}
 use Rattle.lookup.proofs.Found.{path-found, path-missing}
 use Rattle.update.specs.declared.Announced.{Announced}
@@ -111,7 +111,7 @@ module _ (packet : List ℕ) (m : Arrived) (t output : List ℕ) where
     module _ (h : reads longestPacket packet ≡ true) (size : length t ≡ tableSize) where
       too-long : exceeds sent ≡ ltb longestPacket (spreadLength packet)
       unfolding viewAt relayOf
-      too-long = spread-exceeds (seen m t) (arrivalOf packet m) h (part-length t 0 16 (omega (arith, size)))
+      too-long = spread-exceeds (seen m t) (arrivalOf packet m) h (part-length t ownAt addressWidth (omega (arith, size)))
 
       pub spread-long : longestPacket < spreadLength packet → Spreads Kept output
       unfolding spreadVerdict leaves _then_otherwise_

@@ -28,7 +28,7 @@ use Rattle.rules.proofs.Valid.{step-ok, stays-ok, fresh-ok}
 use Rattle.tables.specs.Places.{addressWidth, tableSize}
 use Rattle.tables.specs.Layout.{relayOf, bytesOf, wellFormed}
 use Rattle.tables.specs.Shape.{isBytes, shaped}
-use Rattle.tables.proofs.Whole.{formed, again, ok-relay, shaped-of, back, ok-bytes, bytes-bytes}
+use Rattle.tables.proofs.Whole.{again, ok-relay, shaped-of, back, ok-bytes, bytes-bytes}
 use Rattle.settings.specs.Calls.{Called, written, called, freshOn}
 use Rattle.demands.specs.Given.{CallBytes, CallsBytes}
 use Rattle.relay.specs.Promise.{inBytes, packetOn}
@@ -81,7 +81,7 @@ pub follows-the-rules : (cs : List Call) (tables : List ℕ) (tally : Tally)
     → CallsBytes cs → Bytes tables → wellFormed tables ≡ true → FollowsTheRules cs tables tally (relayOf tables)
 follows-the-rules cs tables tally given b h =
     subst (λ (x : List ℕ). FollowsTheRules cs x tally (relayOf tables)) (again tables b h)
-    (run-on cs (relayOf tables) tally given (ok-relay tables h) (shaped-of tables b (formed tables h .size)))
+    (run-on cs (relayOf tables) tally given (ok-relay tables h) (shaped-of tables b h))
 
 -- the tables after any list of calls are bytes and well formed: refusal 7 never names them, and the theorem starts anew from them
 module _ (cs : List Call) (tables : List ℕ) (tally : Tally) (given : CallsBytes cs) (b : Bytes tables) (h : wellFormed tables ≡ true) where
@@ -89,7 +89,7 @@ module _ (cs : List Call) (tables : List ℕ) (tally : Tally) (given : CallsByte
   last = relayAfter cs (relayOf tables) tally
 
   last-shaped : shaped last ≡ true
-  last-shaped = stays-shaped cs (relayOf tables) tally given (ok-relay tables h) (shaped-of tables b (formed tables h .size))
+  last-shaped = stays-shaped cs (relayOf tables) tally given (ok-relay tables h) (shaped-of tables b h)
 
   last-ok : tablesOk last ≡ true
   last-ok = stays-ok cs (relayOf tables) tally (ok-relay tables h)

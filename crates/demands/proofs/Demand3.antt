@@ -21,7 +21,7 @@ use Rattle.rules.proofs.Renumbering.{ForgetsNothing, forgets-nothing, TwoAreOne
 use Rattle.tables.specs.Places.{addressWidth, tableSize}
 use Rattle.tables.specs.Layout.{relayOf, bytesOf, wellFormed}
 use Rattle.tables.specs.Shape.{isBytes, shaped}
-use Rattle.tables.proofs.Whole.{formed, again, ok-relay, shaped-of, back}
+use Rattle.tables.proofs.Whole.{again, ok-relay, shaped-of, back}
 use Rattle.settings.specs.Calls.{Called, written, called, renumberOn, freshOn}
 use Rattle.demands.specs.Given.{CallBytes, CallsBytes}
 use Rattle.demands.specs.Bytes.{repliesOn, tablesAfterOn, tallyAfterOn}
@@ -140,13 +140,13 @@ module _ (before later : List Call) (b : CallsBytes before) (l : CallsBytes late
     pub forgets-nothing-on : (m : List ℕ) → oneToOne m ≡ true → noneRenumbers later ≡ true → ForgetsNothingOn m before later tables tally
     forgets-nothing-on m one-to-one none =
         subst (λ (x : List ℕ). ForgetsNothingOn m before later x tally) (again tables bytes h)
-        (forgets-nothing-bytes (relayOf tables) tally (ok-relay tables h) (shaped-of tables bytes (formed tables h .size)) before later b l m one-to-one none)
+        (forgets-nothing-bytes (relayOf tables) tally (ok-relay tables h) (shaped-of tables bytes h) before later b l m one-to-one none)
 
     -- two in a row are one, at any place of any list, whatever calls stand after it
     pub two-are-one-on : (one two : List ℕ) → oneToOne one ≡ true → oneToOne two ≡ true → TwoAreOneOn one two before later tables tally
     two-are-one-on one two ok-one ok-two =
         subst (λ (x : List ℕ). TwoAreOneOn one two before later x tally) (again tables bytes h)
-        (two-are-one-bytes (relayOf tables) tally (ok-relay tables h) (shaped-of tables bytes (formed tables h .size)) before later b l one two ok-one ok-two)
+        (two-are-one-bytes (relayOf tables) tally (ok-relay tables h) (shaped-of tables bytes h) before later b l one two ok-one ok-two)
 
   -- "Both runs start from the same fresh relay, tally 0": the bytes that `fresh` makes
   module _ (buffer own : List ℕ) (size : length buffer ≡ tableSize) (sixteen : isBytes addressWidth own ≡ true) where

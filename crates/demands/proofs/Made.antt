@@ -1,5 +1,5 @@
 -- Each record that a call makes of bytes and of records that tables can hold is one that tables can hold.
-use Prim.Native.Nat.{ℕ, zero, suc, _≤_}
+use Prim.Native.Nat.{ℕ, _-_, zero, suc, _≤_}
 use native.Mathlib.Omega.{arith}
 use mathlib.Core.Bool.{Bool, true, false}
 use mathlib.Core.List.{List, [], _∷_, _++_, map}
@@ -80,13 +80,13 @@ id-is-bytes p =
 -- ---- blobs
 blob-nil : isBytes blobWidth noBlob ≡ true
 unfolding isBytes isByte
-blob-nil = table-replicate isByte 10 0 refl
+blob-nil = table-replicate isByte blobWidth 0 refl
 
 one-shaped : (x : List ℕ) → isBytes blobWidth x ≡ true → tableOk blobLimit (isBytes blobWidth) (oneBlob blobLimit x .places) ≡ true
 unfolding oneBlob all
 one-shaped x h =
     table-of (isBytes blobWidth) blobLimit _ (one-placed blobLimit (lit≤ tt) x)
-    (and-both h (all-replicate (isBytes blobWidth) 15 noBlob blob-nil))
+    (and-both h (all-replicate (isBytes blobWidth) (blobLimit - 1) noBlob blob-nil))
 
 add-shaped : (x : List ℕ) (s : Blobs) → isBytes blobWidth x ≡ true → tableOk blobLimit (isBytes blobWidth) (s .places) ≡ true
     → tableOk blobLimit (isBytes blobWidth) (addBlob blobLimit x s .places) ≡ true

@@ -6,7 +6,6 @@ use mathlib.Core.Path.{_≡_, refl, sym, ap, subst, _∙_}
 use lib.Dec.{eqb, ltb}
 use lib.ListN.{getD, List·getD-eq-default}
 use borrow.Author.Tests.{ltb-true, leb-true}
-use Rattle.octets.specs.Index.{_and_}
 use Rattle.octets.specs.Choice.{_then_otherwise_}
 use Rattle.octets.proofs.Index.{and-left, and-right, all-at, first-holds}
 use Rattle.rules.specs.Numbers.{portCount, localCount, pathCount, linkCount, returnCount, hashCount, blobLimit}
@@ -14,9 +13,10 @@ use Rattle.rules.specs.Relay.{empty, used, Relay, holds, lowest}
 use Rattle.rules.specs.View.{isLivePath, isLiveLink, isLiveReturn, isLocal, localPlace, pathPlace, linkPlace, returnPlace, hashPlace, freePath, freeLink, viewAt}
 use Rattle.rules.specs.Refusals.{pathOk, linkOk, returnOk}
 use Rattle.tables.specs.Places.{pathsAt, pathWidth, linksAt, linkWidth, returnsAt, returnWidth}
-use Rattle.tables.specs.Records.{markOk, slotOf, pathOf, linkOf, returnOf, slotBytesOk, pathBytesOk, linkBytesOk, returnBytesOk}
+use Rattle.tables.specs.Records.{slotOf, pathOf, linkOf, returnOf, pathBytesOk, linkBytesOk, returnBytesOk}
 use Rattle.tables.specs.Layout.{rowAt, rows, rowsOk, relayOf, wellFormed}
 use Rattle.tables.proofs.Seen.{row-seen, rows-length}
+use Rattle.tables.proofs.Tests.{path-kept, link-kept, return-kept}
 use Rattle.tables.proofs.Whole.{formed}
 
 -- ---- any table
@@ -46,32 +46,32 @@ module _ {A : Type 0} (test : A → Bool) (read : List ℕ → A) where
     missing : n ≤ i → getD (rows (slotOf read) at width n t) i empty ≡ empty
     missing l = List·getD-eq-default (rows (slotOf read) at width n t) empty {n = i} (subst (λ (k : ℕ). k ≤ i) (sym (rows-length (slotOf read) at width n t)) l)
 
-    -- row 7's clauses on a used record's bytes
-    found-ok : (ok : List ℕ → Bool) → rowsOk (slotBytesOk width ok) at width n t ≡ true → i < n → ok (rowAt at width t i) ≡ true
-    unfolding rowsOk slotBytesOk _then_otherwise_
-    found-ok ok h l =
-        and-right _ _ (rw (found-marked l) at (all-at (λ k. slotBytesOk width ok (rowAt at width t k)) n i h l))
+    -- row 7's clauses on a used record
+    found-ok : (ok : List ℕ → Bool) (rule : A → Bool) → ((b : List ℕ) → eqb (getD b 0 0) 0 ≡ false → ok b ≡ true → rule (read b) ≡ true)
+        → rowsOk ok at width n t ≡ true → i < n → rule (read (rowAt at width t i)) ≡ true
+    unfolding rowsOk
+    found-ok ok rule kept h l = kept (rowAt at width t i) (found-marked l) (all-at (λ k. ok (rowAt at width t k)) n i h l)
 
 -- ---- paths, links and return records
 module _ (t : List ℕ) (clock : ℕ) where
   module _ (destination : List ℕ) (i : ℕ) (e : i ≡ pathPlace clock (relayOf t) destination) where
     pub path-found : i < pathCount → viewAt clock (relayOf t) .path destination ≡ used (pathOf (rowAt pathsAt pathWidth t i))
-    unfolding viewAt pathPlace relayOf
+    unfolding viewAt pathPlace relayOf slotOf pathOf
     path-found l =
         ap (λ (k : ℕ). getD (relayOf t .paths) k empty) (sym e)
         ∙ found (isLivePath clock destination) pathOf pathsAt pathWidth pathCount t i e l
 
     pub path-missing : pathCount ≤ i → viewAt clock (relayOf t) .path destination ≡ empty
-    unfolding viewAt pathPlace relayOf
+    unfolding viewAt pathPlace relayOf slotOf pathOf
     path-missing l =
         ap (λ (k : ℕ). getD (relayOf t .paths) k empty) (sym e)
         ∙ missing (isLivePath clock destination) pathOf pathsAt pathWidth pathCount t i e l
 
     module _ (h : wellFormed t ≡ true) (l : i < pathCount) where
       path-ok : pathOk (pathOf (rowAt pathsAt pathWidth t i)) ≡ true
-      unfolding pathPlace relayOf pathBytesOk
+      unfolding pathPlace relayOf slotOf pathOf
       path-ok =
-          found-ok (isLivePath clock destination) pathOf pathsAt pathWidth pathCount t i e (λ b. pathOk (pathOf b)) (formed t h .paths) l
+          found-ok (isLivePath clock destination) pathOf pathsAt pathWidth pathCount t i e pathBytesOk pathOk path-kept (formed t h .paths) l
 
       pub path-port-ok : pathOf (rowAt pathsAt pathWidth t i) .port < portCount
       unfolding pathOk
@@ -83,23 +83,22 @@ module _ (t : List ℕ) (clock : ℕ) where
 
   module _ (id : List ℕ) (i : ℕ) (e : i ≡ linkPlace clock (relayOf t) id) where
     pub link-found : i < linkCount → viewAt clock (relayOf t) .link id ≡ used (linkOf (rowAt linksAt linkWidth t i))
-    unfolding viewAt linkPlace relayOf
+    unfolding viewAt linkPlace relayOf slotOf linkOf
     link-found l =
         ap (λ (k : ℕ). getD (relayOf t .links) k empty) (sym e)
         ∙ found (isLiveLink clock id) linkOf linksAt linkWidth linkCount t i e l
 
     pub link-missing : linkCount ≤ i → viewAt clock (relayOf t) .link id ≡ empty
-    unfolding viewAt linkPlace relayOf
+    unfolding viewAt linkPlace relayOf slotOf linkOf
     link-missing l =
         ap (λ (k : ℕ). getD (relayOf t .links) k empty) (sym e)
         ∙ missing (isLiveLink clock id) linkOf linksAt linkWidth linkCount t i e l
 
     module _ (h : wellFormed t ≡ true) (l : i < linkCount) where
       link-ok : linkOk (linkOf (rowAt linksAt linkWidth t i)) ≡ true
-      unfolding linkPlace relayOf linkBytesOk
+      unfolding linkPlace relayOf slotOf linkOf
       link-ok =
-          and-right _ _
-          (found-ok (isLiveLink clock id) linkOf linksAt linkWidth linkCount t i e (λ b. markOk (getD b 21 0) and linkOk (linkOf b)) (formed t h .links) l)
+          found-ok (isLiveLink clock id) linkOf linksAt linkWidth linkCount t i e linkBytesOk linkOk link-kept (formed t h .links) l
 
       pub link-asking-ok : linkOf (rowAt linksAt linkWidth t i) .asking < portCount
       unfolding linkOk
@@ -111,22 +110,22 @@ module _ (t : List ℕ) (clock : ℕ) where
 
   module _ (key : List ℕ) (i : ℕ) (e : i ≡ returnPlace clock (relayOf t) key) where
     pub return-found : i < returnCount → viewAt clock (relayOf t) .return key ≡ used (returnOf (rowAt returnsAt returnWidth t i))
-    unfolding viewAt returnPlace relayOf
+    unfolding viewAt returnPlace relayOf slotOf returnOf
     return-found l =
         ap (λ (k : ℕ). getD (relayOf t .returns .slots) k empty) (sym e)
         ∙ found (isLiveReturn clock key) returnOf returnsAt returnWidth returnCount t i e l
 
     pub return-missing : returnCount ≤ i → viewAt clock (relayOf t) .return key ≡ empty
-    unfolding viewAt returnPlace relayOf
+    unfolding viewAt returnPlace relayOf slotOf returnOf
     return-missing l =
         ap (λ (k : ℕ). getD (relayOf t .returns .slots) k empty) (sym e)
         ∙ missing (isLiveReturn clock key) returnOf returnsAt returnWidth returnCount t i e l
 
     module _ (h : wellFormed t ≡ true) (l : i < returnCount) where
       return-ok : returnOk (returnOf (rowAt returnsAt returnWidth t i)) ≡ true
-      unfolding returnPlace relayOf returnBytesOk
+      unfolding returnPlace relayOf slotOf returnOf
       return-ok =
-          found-ok (isLiveReturn clock key) returnOf returnsAt returnWidth returnCount t i e (λ b. returnOk (returnOf b)) (formed t h .returns) l
+          found-ok (isLiveReturn clock key) returnOf returnsAt returnWidth returnCount t i e returnBytesOk returnOk return-kept (formed t h .returns) l
 
       pub return-arrival-ok : returnOf (rowAt returnsAt returnWidth t i) .arrival < portCount
       unfolding returnOk

@@ -17,7 +17,10 @@ use Rattle.octets.proofs.Part.{part-length, part-part}
 use Rattle.packet.specs.Announce.{emissionOf}
 use Rattle.rules.specs.Numbers.{blobLimit}
 use Rattle.rules.specs.Blobs.{held, isAmong, greatest, greatestEmission}
+use Rattle.codes.proofs.Law.{sees-part}
+use Rattle.codes.proofs.Single.{octets-lawful}
 use Rattle.tables.specs.Places.{pathWidth, blobWidth}
+use Rattle.tables.specs.Fields.{pathPlacesAt}
 use Rattle.tables.specs.Records.{blobsOf}
 
 -- ---- whether a blob is among the first i
@@ -55,25 +58,27 @@ greatest-more h i l = sym (ap greatestEmission (drop-cons h i [] l))
 module _ (b : List ℕ) where
   places-length : length (blobsOf b .places) ≡ blobLimit
   unfolding blobsOf
-  places-length = listOf-length (λ i. part b (44 + blobWidth * i) blobWidth) blobLimit
+  places-length = listOf-length _ blobLimit
 
-  blob-at : (i : ℕ) → i < blobLimit → getD (blobsOf b .places) i [] ≡ part b (44 + blobWidth * i) blobWidth
+  blob-at : (i : ℕ) → i < blobLimit → getD (blobsOf b .places) i [] ≡ part b (pathPlacesAt + blobWidth * i) blobWidth
   unfolding blobsOf
-  blob-at i l = listOf-at (λ k. part b (44 + blobWidth * k) blobWidth) blobLimit i [] l
+  blob-at i l =
+      listOf-at (λ k. part (part b (pathPlacesAt + blobWidth * k) blobWidth) 0 blobWidth) blobLimit i [] l
+      ∙ sees-part (octets-lawful blobWidth) b (pathPlacesAt + blobWidth * i)
 
   module _ (x : List ℕ) (wide : length b ≡ pathWidth) (wx : length x ≡ blobWidth) where
     -- what the comparison with the blob at place i says
-    blob-compared : (i : ℕ) → i < blobLimit → (r : Bool) → r ≡ agree (length x) (part b (44 + blobWidth * i) (length x)) x
+    blob-compared : (i : ℕ) → i < blobLimit → (r : Bool) → r ≡ agree (length x) (part b (pathPlacesAt + blobWidth * i) (length x)) x
         → same (getD (blobsOf b .places) i []) x ≡ r
     blob-compared i l r e =
         ap (λ (y : List ℕ). same y x) (blob-at i l)
-        ∙ same-agree blobWidth (part b (44 + blobWidth * i) blobWidth) x (part-length b (44 + blobWidth * i) blobWidth (omega arith)) wx
-        ∙ sym (e ∙ ap (λ (k : ℕ). agree k (part b (44 + blobWidth * i) k) x) wx)
+        ∙ same-agree blobWidth (part b (pathPlacesAt + blobWidth * i) blobWidth) x (part-length b (pathPlacesAt + blobWidth * i) blobWidth (omega arith)) wx
+        ∙ sym (e ∙ ap (λ (k : ℕ). agree k (part b (pathPlacesAt + blobWidth * i) k) x) wx)
 
     pub blob-none : isAmong x (take 0 (blobsOf b .places)) ≡ false
     blob-none = among-none x (blobsOf b .places)
 
-    module _ (i : ℕ) (l : i < blobLimit) {r : Bool} (e : r ≡ agree (length x) (part b (44 + blobWidth * i) (length x)) x) where
+    module _ (i : ℕ) (l : i < blobLimit) {r : Bool} (e : r ≡ agree (length x) (part b (pathPlacesAt + blobWidth * i) (length x)) x) where
       pub blob-not-here : r ≡ false → isAmong x (take i (blobsOf b .places)) ≡ false → isAmong x (take (i + 1) (blobsOf b .places)) ≡ false
       blob-not-here q h =
           let m : i < length (blobsOf b .places) = omega (arith, places-length) in
@@ -82,8 +87,8 @@ module _ (b : List ℕ) where
       pub blob-here : (n : ℕ) → i < n → r ≡ true → isAmong x (take n (blobsOf b .places)) ≡ true
       blob-here n k q = among-hit x (blobsOf b .places) i n k (omega (arith, places-length)) (blob-compared i l r e ∙ q)
 
-  pub emission-seen : (i : ℕ) → part b (44 + blobWidth * i + 5) 5 ≡ part (part b (44 + blobWidth * i) blobWidth) 5 5
-  emission-seen i = sym (part-part b (44 + blobWidth * i) blobWidth 5 5 (omega arith))
+  pub emission-seen : (i : ℕ) → part b (pathPlacesAt + blobWidth * i + 5) 5 ≡ part (part b (pathPlacesAt + blobWidth * i) blobWidth) 5 5
+  emission-seen i = sym (part-part b (pathPlacesAt + blobWidth * i) blobWidth 5 5 (omega arith))
 
   module _ (most : blobsOf b .count ≤ blobLimit) where
     held-length : length (held (blobsOf b)) ≡ blobsOf b .count
@@ -94,13 +99,14 @@ module _ (b : List ℕ) where
     held-none = greatest-none (held (blobsOf b)) (blobsOf b .count) (omega (arith, held-length))
 
     pub held-more : (i : ℕ) → 0 < i → i ≤ blobsOf b .count
-        → greatest (emissionOf (part b (44 + blobWidth * (i - 1)) blobWidth)) (greatestEmission (drop i (held (blobsOf b))))
+        → greatest (emissionOf (part b (pathPlacesAt + blobWidth * (i - 1)) blobWidth)) (greatestEmission (drop i (held (blobsOf b))))
         ≡ greatestEmission (drop (i - 1) (held (blobsOf b)))
     unfolding held
     held-more i some l =
         let here : i - 1 < blobsOf b .count = omega arith in
         let next : suc (i - 1) ≡ i = omega arith in
-        let there : getD (held (blobsOf b)) (i - 1) [] ≡ part b (44 + blobWidth * (i - 1)) blobWidth = getD-take (blobsOf b .count) (blobsOf b .places) (i - 1) [] here ∙ blob-at (i - 1) (omega arith) in
+        let there : getD (held (blobsOf b)) (i - 1) [] ≡ part b (pathPlacesAt + blobWidth * (i - 1)) blobWidth =
+        getD-take (blobsOf b .count) (blobsOf b .places) (i - 1) [] here ∙ blob-at (i - 1) (omega arith) in
         ap (λ (y : List ℕ). greatest (emissionOf y) (greatestEmission (drop i (held (blobsOf b))))) (sym there)
         ∙ ap (λ (k : ℕ). greatest (emissionOf (getD (held (blobsOf b)) (i - 1) [])) (greatestEmission (drop k (held (blobsOf b))))) (sym next)
         ∙ greatest-more (held (blobsOf b)) (i - 1) (omega (arith, held-length))

@@ -16,7 +16,8 @@ use Rattle.rules.specs.Relay.{Port}
 use Rattle.rules.specs.View.{portOn, portMode, localPlace, isLivePath, isLiveLink, isLiveReturn, isLiveHash, pathPlace, linkPlace, returnPlace, hashPlace, freePath, freeLink}
 use Rattle.rules.specs.Refusals.{emptyLocal}
 use Rattle.tables.specs.Places.{addressWidth, digestWidth, portsAt, portWidth, localsAt, localWidth, pathsAt, pathWidth, linksAt, linkWidth, returnsAt, returnWidth, hashesAt, hashWidth}
-use Rattle.tables.specs.Records.{isYes, portOf, localOf, pathOf, linkOf, returnOf, hashOf}
+use Rattle.tables.specs.Fields.{pathExpiryAt, linkExpiryAt, returnExpiryAt, hashExpiryAt}
+use Rattle.tables.specs.Records.{slotOf, portOf, localOf, pathOf, linkOf, returnOf, hashOf}
 use Rattle.tables.specs.Layout.{rowAt, relayOf}
 use Rattle.tables.proofs.Seen.{port-seen}
 use Rattle.lookup.specs.Search.{isUsed, hasKey, isLive, isLiveOf, lowestRow}
@@ -25,7 +26,7 @@ use Rattle.lookup.proofs.Searches.{lowest-used, lowest-free, lowest-liv
 module _ (t : List ℕ) where
   -- ---- ports
   pub on-seen : (port : ℕ) → port < portCount → portOn (relayOf t) port ≡ eqb (getD (rowAt portsAt portWidth t port) 0 0) 1
-  unfolding portOn portOf isYes
+  unfolding portOn portOf
   on-seen port l = and-yes _ (lt-ltb port portCount l) ∙ ap (λ (p : Port). p .on) (port-seen t port l)
 
   pub mode-seen : (port : ℕ) → port < portCount → portMode (relayOf t) port ≡ getD (rowAt portsAt portWidth t port) 1 0
@@ -35,7 +36,7 @@ module _ (t : List ℕ) where
   -- ---- local addresses
   pub local-lowest : (address : List ℕ) → length address ≡ addressWidth
       → lowestRow (hasKey address) localsAt localWidth localCount t ≡ localPlace (relayOf t) address
-  unfolding hasKey localPlace relayOf localOf
+  unfolding hasKey localPlace relayOf slotOf localOf
   local-lowest address wide =
       lowest-cong _ _ localsAt localWidth localCount t
       (λ b. ap (isUsed b and_) (ap (λ (k : ℕ). same (part b 1 k) address) wide ∙ same-sym (part b 1 addressWidth) address))
@@ -50,41 +51,41 @@ module _ (t : List ℕ) where
       go false q = rw q
 
   pub empty-lowest : lowestRow (λ b. eqb (getD b 0 0) 0) localsAt localWidth localCount t ≡ emptyLocal (relayOf t)
-  unfolding emptyLocal relayOf
+  unfolding emptyLocal relayOf slotOf localOf
   empty-lowest =
       lowest-cong _ _ localsAt localWidth localCount t unused ∙ sym (lowest-free (λ address. true) localOf localsAt localWidth localCount t)
 
   -- ---- the live record of a key
   module _ (clock : ℕ) where
     pub path-lowest : (destination : List ℕ) → length destination ≡ addressWidth → {i : ℕ}
-        → i ≡ lowestRow (isLiveOf destination 35 clock) pathsAt pathWidth pathCount t → i ≡ pathPlace clock (relayOf t) destination
-    unfolding pathPlace relayOf isLivePath pathOf
+        → i ≡ lowestRow (isLiveOf destination pathExpiryAt clock) pathsAt pathWidth pathCount t → i ≡ pathPlace clock (relayOf t) destination
+    unfolding pathPlace relayOf isLivePath slotOf pathOf
     path-lowest destination wide e =
-        e ∙ lowest-live (isLivePath clock destination) pathOf pathsAt pathWidth pathCount t addressWidth destination 35 clock wide (λ b. refl)
+        e ∙ lowest-live (isLivePath clock destination) pathOf pathsAt pathWidth pathCount t addressWidth destination pathExpiryAt clock wide (λ b. refl)
 
     pub link-lowest : (id : List ℕ) → length id ≡ addressWidth → {i : ℕ}
-        → i ≡ lowestRow (isLiveOf id 22 clock) linksAt linkWidth linkCount t → i ≡ linkPlace clock (relayOf t) id
-    unfolding linkPlace relayOf isLiveLink linkOf
+        → i ≡ lowestRow (isLiveOf id linkExpiryAt clock) linksAt linkWidth linkCount t → i ≡ linkPlace clock (relayOf t) id
+    unfolding linkPlace relayOf isLiveLink slotOf linkOf
     link-lowest id wide e =
-        e ∙ lowest-live (isLiveLink clock id) linkOf linksAt linkWidth linkCount t addressWidth id 22 clock wide (λ b. refl)
+        e ∙ lowest-live (isLiveLink clock id) linkOf linksAt linkWidth linkCount t addressWidth id linkExpiryAt clock wide (λ b. refl)
 
     pub return-lowest : (key : List ℕ) → length key ≡ addressWidth → {i : ℕ}
-        → i ≡ lowestRow (isLiveOf key 19 clock) returnsAt returnWidth returnCount t → i ≡ returnPlace clock (relayOf t) key
-    unfolding returnPlace relayOf isLiveReturn returnOf
+        → i ≡ lowestRow (isLiveOf key returnExpiryAt clock) returnsAt returnWidth returnCount t → i ≡ returnPlace clock (relayOf t) key
+    unfolding returnPlace relayOf isLiveReturn slotOf returnOf
     return-lowest key wide e =
-        e ∙ lowest-live (isLiveReturn clock key) returnOf returnsAt returnWidth returnCount t addressWidth key 19 clock wide (λ b. refl)
+        e ∙ lowest-live (isLiveReturn clock key) returnOf returnsAt returnWidth returnCount t addressWidth key returnExpiryAt clock wide (λ b. refl)
 
     pub hash-lowest : (hash : List ℕ) → length hash ≡ digestWidth → {i : ℕ}
-        → i ≡ lowestRow (isLiveOf hash 33 clock) hashesAt hashWidth hashCount t → i ≡ hashPlace clock (relayOf t) hash
-    unfolding hashPlace relayOf isLiveHash hashOf
+        → i ≡ lowestRow (isLiveOf hash hashExpiryAt clock) hashesAt hashWidth hashCount t → i ≡ hashPlace clock (relayOf t) hash
+    unfolding hashPlace relayOf isLiveHash slotOf hashOf
     hash-lowest hash wide e =
-        e ∙ lowest-live (isLiveHash clock hash) hashOf hashesAt hashWidth hashCount t digestWidth hash 33 clock wide (λ b. refl)
+        e ∙ lowest-live (isLiveHash clock hash) hashOf hashesAt hashWidth hashCount t digestWidth hash hashExpiryAt clock wide (λ b. refl)
 
     -- ---- the lowest place empty or expired
-    pub path-free : lowestRow (λ b. not (isLive 35 clock b)) pathsAt pathWidth pathCount t ≡ freePath clock (relayOf t)
-    unfolding freePath relayOf isLive pathOf
+    pub path-free : lowestRow (λ b. not (isLive pathExpiryAt clock b)) pathsAt pathWidth pathCount t ≡ freePath clock (relayOf t)
+    unfolding freePath relayOf isLive slotOf pathOf
     path-free = sym (lowest-free (λ p. live clock (p .expiry)) pathOf pathsAt pathWidth pathCount t)
 
-    pub link-free : lowestRow (λ b. not (isLive 22 clock b)) linksAt linkWidth linkCount t ≡ freeLink clock (relayOf t)
-    unfolding freeLink relayOf isLive linkOf
+    pub link-free : lowestRow (λ b. not (isLive linkExpiryAt clock b)) linksAt linkWidth linkCount t ≡ freeLink clock (relayOf t)
+    unfolding freeLink relayOf isLive slotOf linkOf
     link-free = sym (lowest-free (λ l. live clock (l .expiry)) linkOf linksAt linkWidth linkCount t)

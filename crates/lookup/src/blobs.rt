@@ -10,6 +10,7 @@ ghost use Rattle.packet.specs.Announce.{emissionOf};
 ghost use Rattle.rules.specs.Numbers.{blobLimit};
 ghost use Rattle.rules.specs.Blobs.{held, isAmong, greatest, greatestEmission};
 ghost use Rattle.tables.specs.Places.{pathWidth, blobWidth};
+ghost use Rattle.tables.specs.Fields.{pathPlacesAt};
 ghost use Rattle.tables.specs.Records.{blobsOf};
 
 // Whether the record holds the blob.
@@ -31,7 +32,7 @@ pub fn has_blob(b: &[u8], blob: &[u8]) -> bool
 // The emission of the blob at a place.
 fn emission_at(b: &[u8], i: usize) -> u64
     requires { ⌜ (length (now b) ≡ pathWidth) × (i < blobLimit) ⌝ }
-    ensures { λ r. ⌜ r ≡ emissionOf (part (now (b .entry)) (44 + blobWidth * i) blobWidth) ⌝ }
+    ensures { λ r. ⌜ r ≡ emissionOf (part (now (b .entry)) (pathPlacesAt + blobWidth * i) blobWidth) ⌝ }
 {
     octets::number_at(b, PATH_BLOBS_AT + BLOB_WIDTH * i + 5, 5)
 }

@@ -27,7 +27,7 @@ use Rattle.rules.specs.Ways.{wayOn}
 use Rattle.rules.specs.Judging.{Plan, dropped, delivered, follows, earlyTests, onwardPlan, plan}
 use Rattle.rules.specs.declared.Reason.{Reason}
 use Rattle.rules.specs.declared.Reason.the-variants.{NotOurs, Duplicate, BadForm, OwnAnnounce, TooManyHops}
-use Rattle.tables.specs.Places.{tableSize}
+use Rattle.tables.specs.Places.{addressWidth, ownAt, tableSize}
 use Rattle.tables.specs.Layout.{relayOf}
 use Rattle.outgoing.proofs.LeavingLaws.{whole}
 use Rattle.rules.proofs.ListedLaws.{NoneHolds}
@@ -156,7 +156,7 @@ unfolding relayOf
 own-compared t a size readable e =
     ap (λ (x : List ℕ). not (agree 16 (relayAddress a) x)) e
     ∙ ap not
-    (sym (same-agree 16 (relayAddress a) (relayOf t .own) (parts-wide (a .bytes) (whole longestPacket (a .bytes) readable) .relay) (part-length t 0 16 (omega (arith, size)))))
+    (sym (same-agree 16 (relayAddress a) (relayOf t .own) (parts-wide (a .bytes) (whole longestPacket (a .bytes) readable) .relay) (part-length t ownAt addressWidth (omega (arith, size)))))
 
 -- hops are byte 1
 module _ (a : Arrival) where

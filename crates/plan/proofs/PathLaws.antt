@@ -23,7 +23,8 @@ use Rattle.rules.specs.Tests.{isThere, noWayOn, alreadyKnown, wrongSide, notSig
 use Rattle.rules.specs.Outgoing.{grownTooLong}
 use Rattle.rules.specs.Judging.{dropped, follows, onwardPlan, onwardTests}
 use Rattle.rules.specs.declared.Reason.the-variants.{NoWayOn, AlreadyKnown, PortOff, NoRoom}
-use Rattle.tables.specs.Places.{pathsAt, pathWidth, tableSize}
+use Rattle.tables.specs.Places.{addressWidth, pathsAt, pathWidth, tableSize}
+use Rattle.tables.specs.Fields.{pathNextHopAt}
 use Rattle.tables.specs.Records.{pathOf}
 use Rattle.tables.specs.Layout.{rowAt, relayOf}
 use Rattle.lookup.proofs.Found.{path-found, path-missing, link-found, link-missing}
@@ -93,7 +94,7 @@ next-hop-wide : (t : List ℕ) (i : ℕ) → length t ≡ tableSize → i < path
 unfolding pathOf
 next-hop-wide t i size l =
     let row : length (rowAt pathsAt pathWidth t i) ≡ pathWidth = part-length t (pathsAt + pathWidth * i) pathWidth (omega (arith, size, l)) in
-    part-length (rowAt pathsAt pathWidth t i) 19 16 (omega (arith, row))
+    part-length (rowAt pathsAt pathWidth t i) pathNextHopAt addressWidth (omega (arith, row))
 
 module _ (t : List ℕ) (a : Arrival) (announce : isAnnounce (header a) ≡ false) (link : ofKindLink (header a) ≡ false)
     (proof : isProof (header a) ≡ false) (two : typeTwo (header a) ≡ true)

@@ -1,47 +1,49 @@
 -- What the code of a renumbering reads and writes, as the rules have it.
-use Prim.Native.Nat.{ℕ, suc, _+_, _*_, _≤_, _<_}
-use native.Mathlib.Nat.{zero-add}
+use Prim.Native.Nat.{ℕ, _+_, _*_, _≤_, _<_}
 use native.Mathlib.Omega.{arith}
 use mathlib.Core.Bool.{Bool, true, false}
-use mathlib.Core.List.{List, [], _∷_, map, append-nil}
+use mathlib.Core.List.{List, [], _∷_, map}
 use mathlib.Core.Path.{_≡_, refl, sym, ap, ap₂, subst, _∙_}
 use lib.ListN.{length, getD, set, replicate, length-set, length-replicate, List·getD-eq-default}
 use borrow.Author.Tests.{ltb-true, lt-ltb, eq-eqb, ne-eqb}
 use Rattle.octets.specs.Bytes.{Bytes}
-use Rattle.octets.specs.Index.{listOf}
 use Rattle.octets.specs.Choice.{_then_otherwise_}
-use Rattle.octets.specs.Part.{patch, joined, fields}
-use Rattle.octets.proofs.Index.{and-left, and-right, all-at}
-use Rattle.octets.proofs.Bytes.{part-bytes}
+use Rattle.octets.specs.Part.{part, patch, fields}
+use Rattle.octets.proofs.Index.{and-left, and-right}
 use Rattle.octets.proofs.ListOf.{mixed, mixed-length, mixed-more, mixed-all, listOf-length, listOf-at}
-use Rattle.octets.proofs.Part.{part-at, part-length, patch-mid, patch-set, patch-join}
-use Rattle.octets.proofs.Joined.{patch-field, fields-length}
+use Rattle.octets.proofs.Part.{part-at, patch-set, patch-join}
+use Rattle.octets.proofs.Joined.{fields-length}
+use Rattle.codes.specs.Form.{Form, byte, many, slot, code}
+use Rattle.codes.proofs.Law.{back-at, passes-at}
+use Rattle.codes.proofs.Forms.{lawful}
+use Rattle.codes.proofs.Places.{patch-skip, item-patched}
+use Rattle.codes.proofs.Inside.{Inside, first, next, item, inRule, inRecord, _within_}
 use Rattle.rules.specs.Numbers.{portCount, linkCount, returnCount}
-use Rattle.rules.specs.Relay.{Port, off, Slot, empty, Path, Return, Relay, withPorts, withPaths, withLinks, withReturns}
+use Rattle.rules.specs.Relay.{Port, off, Slot, empty, Return, Relay, withPorts, withPaths, withLinks, withReturns}
 use Rattle.rules.specs.Refusals.{pathOk, linkOk, returnOk}
 use Rattle.rules.specs.Renumbering.{image, oneToOne, preimage, movedPorts, renamePath, renameLink, renameReturn, renameSlot, renumbered}
 use Rattle.rules.specs.declared.Link.{Link}
-use Rattle.tables.specs.Places.{addressWidth, portWidth, pathWidth, linkWidth, returnWidth, portsAt, pathsAt, linksAt, returnsAt, tableSize}
-use Rattle.tables.specs.Records.{exactly, markOf, portBytes, portBytesOk, slotOf, slotBytes, slotBytesOk, pathOf, pathBytes, pathBytesOk, linkOf, linkBytes, linkBytesOk, returnOf, returnBytes, returnBytesOk}
+use Rattle.tables.specs.Forms.{portForm, pathForm, linkForm, returnForm, relayForm}
+use Rattle.tables.specs.Places.{portWidth, pathWidth, linkWidth, returnWidth, portsAt, pathsAt, linksAt, returnsAt}
+use Rattle.tables.specs.Fields.{pathPortAt, linkAskingAt, linkAnsweringAt, returnArrivalAt, returnLeavingAt}
+use Rattle.tables.specs.Records.{portBytes, slotOf, slotBytes, pathOf, pathBytes, pathBytesOk, linkOf, linkBytes, linkBytesOk, returnOf, returnBytes, returnBytesOk}
 use Rattle.tables.specs.Layout.{rowAt, rows, rowsOk, relayOf, bytesOf, wellFormed}
-use Rattle.tables.proofs.All.{exactly-length}
-use Rattle.tables.proofs.Coding.{Coding, rows-back, rows-fine}
-use Rattle.tables.proofs.Codings.{port-coding, path-coding, link-coding, return-coding}
-use Rattle.tables.proofs.Sections.{before-links, after-links, links-start, at-links, before-returns, after-returns, returns-start, at-returns}
-use Rattle.tables.proofs.Whole.{formed, kept, shaped-parts, again, ok-relay, shaped-of}
-use Rattle.tables.proofs.Patches.{patch-ports, patch-paths, patch-links, patch-returns}
-use Rattle.tables.proofs.Seen.{port-seen, ports-length}
+use Rattle.tables.proofs.Tests.{path-kept, link-kept, return-kept}
+use Rattle.tables.proofs.Lent.{Lent, port-lent, path-lent, link-lent, return-lent}
+use Rattle.tables.proofs.Whole.{again, ok-relay, relay-good}
+use Rattle.tables.proofs.Patches.{ports-in, links-in, returns-in, patch-ports, patch-paths, patch-links, patch-returns}
+use Rattle.tables.proofs.Seen.{ports-length}
 use Rattle.rules.specs.Listed.{firstOf}
 use Rattle.rules.specs.Calls.{renumbers, ruleOf, tableRefusal, settle}
 use Rattle.settings.specs.Calls.{refused, renumberOn}
-use Rattle.settings.proofs.Zeros.{port-each}
+use Rattle.settings.proofs.Zeros.{port-each, same-zeros, all-zeros, ports-zeros}
 use Rattle.settings.proofs.Answered.{called-bad, called-no, called-yes}
 use Rattle.renumbering.specs.Renamed.{renamedPaths, renamedLinks, renamedReturns}
 
 -- ---- one record
 -- an unused record stays; a used one is its bytes
-module _ {A : Type 0} (w : ℕ) (recordBytes : A → List ℕ) (recordOf : List ℕ → A) {ok : List ℕ → Bool} {rule shape : Slot A → Bool}
-    (c : Coding w (slotBytes w recordBytes) (slotOf recordOf) ok rule shape) (f : A → A)
+module _ {A : Type 0} (w : ℕ) (recordBytes : A → List ℕ) (recordOf : List ℕ → A) {ok : List ℕ → Bool}
+    (c : Lent w (slotBytes w recordBytes) (slotOf recordOf) ok) (f : A → A)
     (b : List ℕ) (bs : Bytes b) (l : length b ≡ w) (h : ok b ≡ true) where
   pub unused-stays : getD b 0 0 ≡ 0 → b ≡ slotBytes w recordBytes (renameSlot f (slotOf recordOf b))
   unfolding slotOf renameSlot _then_otherwise_
@@ -52,9 +54,16 @@ module _ {A : Type 0} (w : ℕ) (recordBytes : A → List ℕ) (recordOf : List 
   used-bytes n = rw (ne-eqb (getD b 0 0) 0 n) at (c .again b bs l h)
 
   -- a used record that is written over as the renaming says
-  used-renamed : (getD b 0 0 ≡ 0 → ⊥) → (b′ : List ℕ) → b′ ≡ 1 ∷ recordBytes (f (recordOf b)) → b′ ≡ slotBytes w recordBytes (renameSlot f (slotOf recordOf b))
+  used-renamed : (getD b 0 0 ≡ 0 → ⊥) → (b′ : List ℕ) → b′ ≡ 1 ∷ recordBytes (f (recordOf b))
+      → b′ ≡ slotBytes w recordBytes (renameSlot f (slotOf recordOf b))
   unfolding slotOf slotBytes renameSlot _then_otherwise_
   used-renamed n b′ e = rw (ne-eqb (getD b 0 0) 0 n) e
+
+-- one byte of a used record is written over
+byte-over : {A : Type 0} (f : Form A) (s : Inside f byte) (x : A) (p : ℕ) → s .place .Has x
+    → patch (1 ∷ code f .write x) (1 + s .place .offset) (p ∷ []) ≡ 1 ∷ code f .write (s .place .put p x)
+byte-over f s x p h =
+    patch-skip (1 ∷ []) (code f .write x) 1 refl (s .place .offset) (p ∷ []) ∙ ap (λ (r : List ℕ). 1 ∷ r) (s .place .patched x p h)
 
 image-port : (m : List ℕ) (q : ℕ) → q < portCount → image m q ≡ getD m q 0
 unfolding image _then_otherwise_
@@ -62,108 +71,88 @@ image-port m q l = rw (lt-ltb q portCount l)
 
 module _ (b m : List ℕ) (bs : Bytes b) (mark : getD b 0 0 ≡ 0 → ⊥) where
   -- ---- a path
-  pub path-port-small : pathBytesOk b ≡ true → getD b 17 0 < portCount
-  unfolding pathBytesOk slotBytesOk pathOk pathOf _then_otherwise_
-  path-port-small h = ltb-true (getD b 17 0) portCount (and-left _ _ (and-right _ _ (rw (ne-eqb (getD b 0 0) 0 mark) at h)))
+  pub path-port-small : pathBytesOk b ≡ true → getD b pathPortAt 0 < portCount
+  unfolding pathOk pathOf
+  path-port-small h = ltb-true _ portCount (and-left _ _ (path-kept b (ne-eqb (getD b 0 0) 0 mark) h))
 
-  path-over : (x : Path) (p : ℕ) → patch (1 ∷ pathBytes x) 17 (p ∷ []) ≡ 1 ∷ pathBytes (record { destination = x .destination; port = p; hops = x .hops; nextHop = x .nextHop; expiry = x .expiry; blobs = x .blobs })
-  unfolding pathBytes
-  path-over x p =
-      patch-mid (1 ∷ exactly addressWidth (x .destination)) (x .port ∷ []) _ (p ∷ []) 17 (ap suc (exactly-length addressWidth (x .destination))) refl
-
-  path-image : pathBytesOk b ≡ true → image m (pathOf b .port) ≡ getD m (getD b 17 0) 0
-  unfolding pathOf
-  path-image h = image-port m (getD b 17 0) (path-port-small h)
-
-  pub path-renamed : pathBytesOk b ≡ true → length b ≡ pathWidth → (b′ : List ℕ) → b′ ≡ patch b 17 (getD m (getD b 17 0) 0 ∷ [])
+  pub path-renamed : pathBytesOk b ≡ true → length b ≡ pathWidth → (b′ : List ℕ) → b′ ≡ patch b pathPortAt (getD m (getD b pathPortAt 0) 0 ∷ [])
       → b′ ≡ slotBytes pathWidth pathBytes (renameSlot (renamePath m) (slotOf pathOf b))
-  unfolding renamePath
+  unfolding renamePath pathBytes pathOf
   path-renamed h l b′ e =
-      used-renamed pathWidth pathBytes pathOf path-coding (renamePath m) b bs l h mark b′
+      used-renamed pathWidth pathBytes pathOf path-lent (renamePath m) b bs l h mark b′
       (e
-      ∙ ap₂ (λ (x : List ℕ) (p : ℕ). patch x 17 (p ∷ [])) (sym (used-bytes pathWidth pathBytes pathOf path-coding (renamePath m) b bs l h mark)) (sym (path-image h))
-      ∙ path-over (pathOf b) (image m (pathOf b .port)))
+      ∙ ap₂ (λ (x : List ℕ) (p : ℕ). patch x pathPortAt (p ∷ []))
+      (sym (used-bytes pathWidth pathBytes pathOf path-lent (renamePath m) b bs l h mark))
+      (sym (image-port m (getD b pathPortAt 0) (path-port-small h)))
+      ∙ byte-over pathForm (inRule (inRecord (next first))) (pathOf b) (image m (pathOf b .port)) tt)
 
   -- ---- a link
-  pub link-ports-small : linkBytesOk b ≡ true → (getD b 17 0 < portCount) × (getD b 18 0 < portCount)
-  unfolding linkBytesOk slotBytesOk linkOk linkOf _then_otherwise_
+  pub link-ports-small : linkBytesOk b ≡ true → (getD b linkAskingAt 0 < portCount) × (getD b linkAnsweringAt 0 < portCount)
+  unfolding linkOk linkOf
   link-ports-small h =
-      let k = and-right _ _ (and-right _ _ (rw (ne-eqb (getD b 0 0) 0 mark) at h)) in
-      (ltb-true (getD b 17 0) portCount (and-left _ _ k), ltb-true (getD b 18 0) portCount (and-left _ _ (and-right _ _ k)))
-
-  link-over : (x : Link) (p q : ℕ) → patch (1 ∷ linkBytes x) 17 (p ∷ q ∷ []) ≡ 1 ∷ linkBytes (record { id = x .id; asking = p; answering = q; taken = x .taken; remaining = x .remaining; proved = x .proved; expiry = x .expiry })
-  unfolding linkBytes
-  link-over x p q =
-      patch-mid (1 ∷ exactly addressWidth (x .id)) (x .asking ∷ x .answering ∷ []) _ (p ∷ q ∷ []) 17 (ap suc (exactly-length addressWidth (x .id))) refl
-
-  link-first : linkBytesOk b ≡ true → getD m (getD b 17 0) 0 ≡ image m (linkOf b .asking)
-  unfolding linkOf
-  link-first h = sym (image-port m (getD b 17 0) (link-ports-small h .0))
-
-  link-second : linkBytesOk b ≡ true → getD m (getD b 18 0) 0 ≡ image m (linkOf b .answering)
-  unfolding linkOf
-  link-second h = sym (image-port m (getD b 18 0) (link-ports-small h .1))
+      let k = link-kept b (ne-eqb (getD b 0 0) 0 mark) h in
+      (ltb-true _ portCount (and-left _ _ k), ltb-true _ portCount (and-left _ _ (and-right _ _ k)))
 
   pub link-renamed : linkBytesOk b ≡ true → length b ≡ linkWidth → (b1 b′ : List ℕ)
-      → b1 ≡ patch b 17 (getD m (getD b 17 0) 0 ∷ []) → b′ ≡ patch b1 18 (getD m (getD b 18 0) 0 ∷ [])
+      → b1 ≡ patch b linkAskingAt (getD m (getD b linkAskingAt 0) 0 ∷ []) → b′ ≡ patch b1 linkAnsweringAt (getD m (getD b linkAnsweringAt 0) 0 ∷ [])
       → b′ ≡ slotBytes linkWidth linkBytes (renameSlot (renameLink m) (slotOf linkOf b))
-  unfolding renameLink
+  unfolding renameLink linkBytes linkOf
   link-renamed h l b1 b′ e1 e2 =
-      used-renamed linkWidth linkBytes linkOf link-coding (renameLink m) b bs l h mark b′
+      let asking-in : Inside linkForm byte = inRule (inRecord (next first)) in
+      let p : ℕ = image m (linkOf b .asking) in
+      let first-done : b1 ≡ 1 ∷ linkBytes (asking-in .place .put p (linkOf b)) =
+      e1
+      ∙ ap₂ (λ (x : List ℕ) (q : ℕ). patch x linkAskingAt (q ∷ []))
+      (sym (used-bytes linkWidth linkBytes linkOf link-lent (renameLink m) b bs l h mark))
+      (sym (image-port m (getD b linkAskingAt 0) (link-ports-small h .0)))
+      ∙ byte-over linkForm asking-in (linkOf b) p tt in
+      used-renamed linkWidth linkBytes linkOf link-lent (renameLink m) b bs l h mark b′
       (e2
-      ∙ ap (λ (x : List ℕ). patch x 18 (getD m (getD b 18 0) 0 ∷ [])) e1
-      ∙ patch-join b 17 18 (getD m (getD b 17 0) 0 ∷ []) (getD m (getD b 18 0) 0 ∷ []) refl (omega arith)
-      ∙ ap₂ (λ (p q : ℕ). patch b 17 (p ∷ q ∷ [])) (link-first h) (link-second h)
-      ∙ ap (λ (x : List ℕ). patch x 17 (image m (linkOf b .asking) ∷ image m (linkOf b .answering) ∷ [])) (sym (used-bytes linkWidth linkBytes linkOf link-coding (renameLink m) b bs l h mark))
-      ∙ link-over (linkOf b) (image m (linkOf b .asking)) (image m (linkOf b .answering)))
+      ∙ ap₂ (λ (x : List ℕ) (q : ℕ). patch x linkAnsweringAt (q ∷ [])) first-done
+      (sym (image-port m (getD b linkAnsweringAt 0) (link-ports-small h .1)))
+      ∙ byte-over linkForm (inRule (inRecord (next (next first)))) (asking-in .place .put p (linkOf b)) (image m (linkOf b .answering)) tt)
 
   -- ---- a return
-  pub return-ports-small : returnBytesOk b ≡ true → (getD b 17 0 < portCount) × (getD b 18 0 < portCount)
-  unfolding returnBytesOk slotBytesOk returnOk returnOf _then_otherwise_
+  pub return-ports-small : returnBytesOk b ≡ true → (getD b returnArrivalAt 0 < portCount) × (getD b returnLeavingAt 0 < portCount)
+  unfolding returnOk returnOf
   return-ports-small h =
-      let k = and-right _ _ (rw (ne-eqb (getD b 0 0) 0 mark) at h) in
-      (ltb-true (getD b 17 0) portCount (and-left _ _ k), ltb-true (getD b 18 0) portCount (and-left _ _ (and-right _ _ k)))
-
-  return-over : (x : Return) (p q : ℕ) → patch (1 ∷ returnBytes x) 17 (p ∷ q ∷ []) ≡ 1 ∷ returnBytes (record { key = x .key; arrival = p; leaving = q; expiry = x .expiry })
-  unfolding returnBytes
-  return-over x p q =
-      patch-mid (1 ∷ exactly addressWidth (x .key)) (x .arrival ∷ x .leaving ∷ []) _ (p ∷ q ∷ []) 17 (ap suc (exactly-length addressWidth (x .key))) refl
-
-  return-first : returnBytesOk b ≡ true → getD m (getD b 17 0) 0 ≡ image m (returnOf b .arrival)
-  unfolding returnOf
-  return-first h = sym (image-port m (getD b 17 0) (return-ports-small h .0))
-
-  return-second : returnBytesOk b ≡ true → getD m (getD b 18 0) 0 ≡ image m (returnOf b .leaving)
-  unfolding returnOf
-  return-second h = sym (image-port m (getD b 18 0) (return-ports-small h .1))
+      let k = return-kept b (ne-eqb (getD b 0 0) 0 mark) h in
+      (ltb-true _ portCount (and-left _ _ k), ltb-true _ portCount (and-left _ _ (and-right _ _ k)))
 
   pub return-renamed : returnBytesOk b ≡ true → length b ≡ returnWidth → (b1 b′ : List ℕ)
-      → b1 ≡ patch b 17 (getD m (getD b 17 0) 0 ∷ []) → b′ ≡ patch b1 18 (getD m (getD b 18 0) 0 ∷ [])
+      → b1 ≡ patch b returnArrivalAt (getD m (getD b returnArrivalAt 0) 0 ∷ [])
+      → b′ ≡ patch b1 returnLeavingAt (getD m (getD b returnLeavingAt 0) 0 ∷ [])
       → b′ ≡ slotBytes returnWidth returnBytes (renameSlot (renameReturn m) (slotOf returnOf b))
-  unfolding renameReturn
+  unfolding renameReturn returnBytes returnOf
   return-renamed h l b1 b′ e1 e2 =
-      used-renamed returnWidth returnBytes returnOf return-coding (renameReturn m) b bs l h mark b′
+      let arrival-in : Inside returnForm byte = inRule (inRecord (next first)) in
+      let p : ℕ = image m (returnOf b .arrival) in
+      let first-done : b1 ≡ 1 ∷ returnBytes (arrival-in .place .put p (returnOf b)) =
+      e1
+      ∙ ap₂ (λ (x : List ℕ) (q : ℕ). patch x returnArrivalAt (q ∷ []))
+      (sym (used-bytes returnWidth returnBytes returnOf return-lent (renameReturn m) b bs l h mark))
+      (sym (image-port m (getD b returnArrivalAt 0) (return-ports-small h .0)))
+      ∙ byte-over returnForm arrival-in (returnOf b) p tt in
+      used-renamed returnWidth returnBytes returnOf return-lent (renameReturn m) b bs l h mark b′
       (e2
-      ∙ ap (λ (x : List ℕ). patch x 18 (getD m (getD b 18 0) 0 ∷ [])) e1
-      ∙ patch-join b 17 18 (getD m (getD b 17 0) 0 ∷ []) (getD m (getD b 18 0) 0 ∷ []) refl (omega arith)
-      ∙ ap₂ (λ (p q : ℕ). patch b 17 (p ∷ q ∷ [])) (return-first h) (return-second h)
-      ∙ ap (λ (x : List ℕ). patch x 17 (image m (returnOf b .arrival) ∷ image m (returnOf b .leaving) ∷ [])) (sym (used-bytes returnWidth returnBytes returnOf return-coding (renameReturn m) b bs l h mark))
-      ∙ return-over (returnOf b) (image m (returnOf b .arrival)) (image m (returnOf b .leaving)))
+      ∙ ap₂ (λ (x : List ℕ) (q : ℕ). patch x returnLeavingAt (q ∷ [])) first-done
+      (sym (image-port m (getD b returnLeavingAt 0) (return-ports-small h .1)))
+      ∙ byte-over returnForm (inRule (inRecord (next (next first)))) (arrival-in .place .put p (returnOf b)) (image m (returnOf b .leaving)) tt)
 
 -- ---- the ports' settings
 pub port-byte-none : (t : List ℕ) (i k : ℕ) → portCount ≤ i → 0 ≡ getD (portBytes (getD (relayOf t .ports) i off)) k 0
 port-byte-none t i k l =
-    sym (ap (λ (p : Port). getD (portBytes p) k 0) (List·getD-eq-default (relayOf t .ports) off {n = i} (subst (λ (n : ℕ). n ≤ i) (sym (ports-length t)) l)) ∙ port-each k)
+    let none : length (relayOf t .ports) ≤ i = subst (λ (n : ℕ). n ≤ i) (sym (ports-length t)) l in
+    sym (ap (λ (p : Port). getD (portBytes p) k 0) (List·getD-eq-default (relayOf t .ports) off {n = i} none) ∙ port-each k)
 
-module _ (t : List ℕ) (bt : Bytes t) (h : wellFormed t ≡ true) where
-  pub port-byte-there : (i k : ℕ) → i < portCount → k < portWidth → getD t (portsAt + portWidth * i + k) 0 ≡ getD (portBytes (getD (relayOf t .ports) i off)) k 0
-  unfolding rowsOk
-  port-byte-there i k l lk =
-      let e : length t ≡ tableSize = formed t h .size in
-      sym (part-at t (portsAt + portWidth * i) portWidth k lk)
-      ∙ ap (λ (x : List ℕ). getD x k 0)
-      (sym (port-coding .again (rowAt portsAt portWidth t i) (part-bytes t (portsAt + portWidth * i) portWidth bt) (part-length t (portsAt + portWidth * i) portWidth (omega arith)) (all-at (λ j. portBytesOk (rowAt portsAt portWidth t j)) portCount i (formed t h .ports) l))
-      ∙ ap portBytes (sym (port-seen t i l)))
+pub port-byte-there : (t : List ℕ) → Bytes t → wellFormed t ≡ true → (i k : ℕ) → i < portCount → k < portWidth
+    → getD t (portsAt + portWidth * i + k) 0 ≡ getD (portBytes (getD (relayOf t .ports) i off)) k 0
+unfolding bytesOf portBytes
+port-byte-there t bt h i k l lk =
+    sym (part-at t (portsAt + portWidth * i) portWidth k lk)
+    ∙ ap (λ (x : List ℕ). getD x k 0)
+    (ap (λ (x : List ℕ). rowAt portsAt portWidth x i) (sym (again t bt h))
+    ∙ (item i l within ports-in) .place .there (relayOf t) (tt, ports-length t))
 
 module _ (m : List ℕ) (ports : List Port) where
   no-ports : List Port
@@ -181,13 +170,15 @@ module _ (m : List ℕ) (ports : List Port) where
   pub movedTo : ℕ → List ℕ
   movedTo n = fields portBytes portCount off (mixed n (movedPorts m ports) no-ports)
 
-  pub moved-none : replicate {A = ℕ} 32 0 ≡ movedTo 0
-  unfolding movedTo no-ports fields joined listOf portBytes markOf _then_otherwise_
-  moved-none = refl
-
-  pub moved-length : (n : ℕ) → length (movedTo n) ≡ 32
+  moved-length : (n : ℕ) → length (movedTo n) ≡ portWidth * portCount
   unfolding movedTo
-  moved-length n = fields-length portBytes portCount off portWidth (port-coding .wide) (mixed n (movedPorts m ports) no-ports)
+  moved-length n = fields-length portBytes portCount off portWidth (port-lent .wide) (mixed n (movedPorts m ports) no-ports)
+
+  pub moved-none : replicate {A = ℕ} (portWidth * portCount) 0 ≡ movedTo 0
+  unfolding movedTo no-ports
+  moved-none =
+      same-zeros (replicate (portWidth * portCount) 0) (movedTo 0) (length-replicate {A = ℕ} (portWidth * portCount) 0 ∙ sym (moved-length 0))
+      (all-zeros (portWidth * portCount)) ports-zeros
 
   two-bytes : (p : Port) (x y : ℕ) → x ≡ getD (portBytes p) 0 0 → y ≡ getD (portBytes p) 1 0 → x ∷ y ∷ [] ≡ portBytes p
   unfolding portBytes
@@ -198,22 +189,20 @@ module _ (m : List ℕ) (ports : List Port) where
   moved-at n l = sym (listOf-at (λ k. getD ports (preimage m k) off) portCount n off l)
 
   one-more : (n : ℕ) → n < portCount → patch (movedTo n) (portWidth * n) (portBytes (getD (movedPorts m ports) n off)) ≡ movedTo (n + 1)
-  unfolding movedTo
+  unfolding movedTo portBytes
   one-more n l =
       let b : n < length no-ports = subst (λ (k : ℕ). n < k) (sym count) l in
       let y : Port = getD (movedPorts m ports) n off in
       let ms : List Port = mixed n (movedPorts m ports) no-ports in
-      ap₂ (λ (r : List ℕ) (k : ℕ). patch r k (portBytes y)) (sym (append-nil (fields portBytes portCount off ms))) (sym (zero-add (portWidth * n)))
-      ∙ patch-field portBytes portCount off portWidth (port-coding .wide) [] [] 0 ms n y refl (mixed-length (movedPorts m ports) no-ports same-count n (omega arith) ∙ count) l
-      ∙ append-nil (fields portBytes portCount off (set ms n y))
+      item-patched portCount off (lawful portForm) n l ms y (mixed-length (movedPorts m ports) no-ports same-count n (omega arith) ∙ count)
       ∙ ap (fields portBytes portCount off) (mixed-more (movedPorts m ports) no-ports same-count n off b)
 
   pub moved-more : (n x y : ℕ) → n < portCount → (out : List ℕ) → out ≡ movedTo n
       → x ≡ getD (portBytes (getD ports (preimage m n) off)) 0 0 → y ≡ getD (portBytes (getD ports (preimage m n) off)) 1 0
       → set (set out (portWidth * n) x) (portWidth * n + 1) y ≡ movedTo (n + 1)
   moved-more n x y l out e ex ey =
-      let k : length (movedTo n) ≡ 32 = moved-length n in
-      let k1 : length (set (movedTo n) (portWidth * n) x) ≡ 32 = length-set (movedTo n) (portWidth * n) x ∙ k in
+      let k : length (movedTo n) ≡ portWidth * portCount = moved-length n in
+      let k1 : length (set (movedTo n) (portWidth * n) x) ≡ portWidth * portCount = length-set (movedTo n) (portWidth * n) x ∙ k in
       ap (λ (r : List ℕ). set (set r (portWidth * n) x) (portWidth * n + 1) y) e
       ∙ patch-set (set (movedTo n) (portWidth * n) x) (portWidth * n + 1) y (omega arith)
       ∙ ap (λ (r : List ℕ). patch r (portWidth * n + 1) (y ∷ [])) (patch-set (movedTo n) (portWidth * n) x (omega arith))
@@ -234,49 +223,58 @@ module _ (t m : List ℕ) (bt : Bytes t) (h : wellFormed t ≡ true) where
   pathsAndLinks : Relay
   pathsAndLinks = withLinks (map (renameSlot (renameLink m)) (relayOf t .links)) pathsOnly
 
+  good : code relayForm .Good (relayOf t)
+  good = relay-good t bt h
+
   module _ (t1 : List ℕ) (e1 : t1 ≡ patch t pathsAt (renamedPaths m t)) where
     paths-written : t1 ≡ bytesOf pathsOnly
-    unfolding renamedPaths pathsOnly relayOf
+    unfolding renamedPaths pathsOnly relayOf slotOf pathOf
     paths-written =
         e1
         ∙ ap (λ (x : List ℕ). patch x pathsAt (renamedPaths m t)) (sym (again t bt h))
         ∙ patch-paths (relayOf t) (map (renameSlot (renamePath m)) (relayOf t .paths))
 
+    -- the links are still as they were
+    links-stand : part t1 linksAt (linkWidth * linkCount) ≡ fields (slotBytes linkWidth linkBytes) linkCount empty (relayOf t .links)
+    unfolding pathsOnly withPaths bytesOf linkBytes
+    links-stand = ap (λ (x : List ℕ). part x linksAt (linkWidth * linkCount)) paths-written ∙ links-in .place .there pathsOnly tt
+
     links-there : rows (slotOf linkOf) linksAt linkWidth linkCount t1 ≡ relayOf t .links
-    unfolding pathsOnly withPaths
-    links-there =
-        ap (rows (slotOf linkOf) linksAt linkWidth linkCount) (paths-written ∙ at-links pathsOnly)
-        ∙ rows-back link-coding linksAt linkCount empty (before-links pathsOnly) (after-links pathsOnly) (relayOf t .links) (links-start pathsOnly)
-        (kept (relayOf t) (ok-relay t h) .links) (shaped-parts (relayOf t) (shaped-of t bt (formed t h .size)) .links)
+    unfolding slotOf linkOf linkBytes
+    links-there = back-at (lawful (many linkCount empty (slot linkForm))) t1 linksAt (relayOf t .links) links-stand (good .1 .1 .1 .1 .1 .0)
 
     pub links-ready : rowsOk linkBytesOk linksAt linkWidth linkCount t1 ≡ true
-    unfolding pathsOnly withPaths
-    links-ready =
-        ap (rowsOk linkBytesOk linksAt linkWidth linkCount) (paths-written ∙ at-links pathsOnly)
-        ∙ rows-fine link-coding linksAt linkCount empty (before-links pathsOnly) (after-links pathsOnly) (relayOf t .links) (links-start pathsOnly)
-        (kept (relayOf t) (ok-relay t h) .links) (shaped-parts (relayOf t) (shaped-of t bt (formed t h .size)) .links)
+    unfolding rowsOk linkBytesOk linkBytes
+    links-ready = passes-at (lawful (many linkCount empty (slot linkForm))) t1 linksAt (relayOf t .links) links-stand (good .1 .1 .1 .1 .1 .0)
 
     module _ (t2 : List ℕ) (e2 : t2 ≡ patch t1 linksAt (renamedLinks m t1)) where
       links-written : t2 ≡ bytesOf pathsAndLinks
       unfolding renamedLinks pathsAndLinks
       links-written =
           e2
-          ∙ ap₂ (λ (x : List ℕ) (xs : List (Slot Link)). patch x linksAt (fields (slotBytes linkWidth linkBytes) linkCount empty (map (renameSlot (renameLink m)) xs))) paths-written links-there
+          ∙ ap₂
+          (λ (x : List ℕ) (xs : List (Slot Link)).
+          patch x linksAt (fields (slotBytes linkWidth linkBytes) linkCount empty (map (renameSlot (renameLink m)) xs)))
+          paths-written links-there
           ∙ patch-links pathsOnly (map (renameSlot (renameLink m)) (relayOf t .links))
 
+      returns-stand : part t2 returnsAt (returnWidth * returnCount)
+          ≡ fields (slotBytes returnWidth returnBytes) returnCount empty (relayOf t .returns .slots)
+      unfolding pathsAndLinks withLinks pathsOnly withPaths bytesOf returnBytes
+      returns-stand =
+          ap (λ (x : List ℕ). part x returnsAt (returnWidth * returnCount)) links-written ∙ returns-in .place .there pathsAndLinks (tt, tt)
+
       returns-there : rows (slotOf returnOf) returnsAt returnWidth returnCount t2 ≡ relayOf t .returns .slots
-      unfolding pathsAndLinks withLinks pathsOnly withPaths
+      unfolding slotOf returnOf returnBytes
       returns-there =
-          ap (rows (slotOf returnOf) returnsAt returnWidth returnCount) (links-written ∙ at-returns pathsAndLinks)
-          ∙ rows-back return-coding returnsAt returnCount empty (before-returns pathsAndLinks) (after-returns pathsAndLinks) (relayOf t .returns .slots) (returns-start pathsAndLinks)
-          (kept (relayOf t) (ok-relay t h) .returns) (shaped-parts (relayOf t) (shaped-of t bt (formed t h .size)) .returns)
+          back-at (lawful (many returnCount empty (slot returnForm))) t2 returnsAt (relayOf t .returns .slots) returns-stand
+          (good .1 .1 .1 .1 .1 .1 .0 .1)
 
       pub returns-ready : rowsOk returnBytesOk returnsAt returnWidth returnCount t2 ≡ true
-      unfolding pathsAndLinks withLinks pathsOnly withPaths
+      unfolding rowsOk returnBytesOk returnBytes
       returns-ready =
-          ap (rowsOk returnBytesOk returnsAt returnWidth returnCount) (links-written ∙ at-returns pathsAndLinks)
-          ∙ rows-fine return-coding returnsAt returnCount empty (before-returns pathsAndLinks) (after-returns pathsAndLinks) (relayOf t .returns .slots) (returns-start pathsAndLinks)
-          (kept (relayOf t) (ok-relay t h) .returns) (shaped-parts (relayOf t) (shaped-of t bt (formed t h .size)) .returns)
+          passes-at (lawful (many returnCount empty (slot returnForm))) t2 returnsAt (relayOf t .returns .slots) returns-stand
+          (good .1 .1 .1 .1 .1 .1 .0 .1)
 
       pub renumber-writes : (t3 t4 : List ℕ) → t3 ≡ patch t2 returnsAt (renamedReturns m t2)
           → t4 ≡ patch t3 portsAt (fields portBytes portCount off (movedPorts m (relayOf t .ports))) → t4 ≡ bytesOf (renumbered m (relayOf t))
@@ -286,7 +284,10 @@ module _ (t m : List ℕ) (bt : Bytes t) (h : wellFormed t ≡ true) where
           let r3 : Relay = withReturns (record { slots = slots; next = relayOf t .returns .next }) pathsAndLinks in
           let w3 : t3 ≡ bytesOf r3 =
           e3
-          ∙ ap₂ (λ (x : List ℕ) (xs : List (Slot Return)). patch x returnsAt (fields (slotBytes returnWidth returnBytes) returnCount empty (map (renameSlot (renameReturn m)) xs))) links-written returns-there
+          ∙ ap₂
+          (λ (x : List ℕ) (xs : List (Slot Return)).
+          patch x returnsAt (fields (slotBytes returnWidth returnBytes) returnCount empty (map (renameSlot (renameReturn m)) xs)))
+          links-written returns-there
           ∙ patch-returns pathsAndLinks slots in
           e4
           ∙ ap (λ (x : List ℕ). patch x portsAt (fields portBytes portCount off (movedPorts m (relayOf t .ports)))) w3

@@ -5,7 +5,7 @@ use native.Mathlib.Omega.{arith}
 use mathlib.Core.Bool.{Bool, true}
 use mathlib.Core.List.{List, [], _∷_, _++_, map}
 use mathlib.Core.Path.{_≡_, refl, sym, ap, ap₂, subst, _∙_}
-use lib.ListN.{length, getD, take, drop, length-append, length-map, take-append-drop, List·getD-map}
+use lib.ListN.{length, getD, take, drop, length-map, take-append-drop, List·getD-map}
 use lib.Seq.{length-take-le, drop-drop}
 use Rattle.octets.specs.Bytes.{Bytes}
 use Rattle.octets.specs.Part.{part, patch, fields}
@@ -15,7 +15,7 @@ use Rattle.octets.proofs.ListOf.{mixed, mixed-length, mixed-at, mixed-more, mix
 use Rattle.octets.proofs.Part.{part-length, patch-lent}
 use Rattle.octets.proofs.Joined.{patch-field}
 use Rattle.tables.specs.Layout.{rowAt, rows, rowsOk}
-use Rattle.tables.proofs.Coding.{Coding, rows-again, row-there, row-end, section-length}
+use Rattle.tables.proofs.Lent.{Lent, rows-again, row-there, row-end, section-length}
 use Rattle.tables.proofs.Seen.{row-seen, rows-length}
 
 any-default : {A : Type 0} (xs : List A) (i : ℕ) (d e : A) → i < length xs → getD xs i d ≡ getD xs i e
@@ -36,8 +36,8 @@ pub upTo : {A : Type 0} → (A → List ℕ) → (List ℕ → A) → ℕ → �
 upTo code read base w n d f t i =
     take base t ++ (fields code n d (mixed i (map f (rows read base w n t)) (rows read base w n t)) ++ drop (base + w * n) t)
 
-module _ {A : Type 0} {w : ℕ} {code : A → List ℕ} {read : List ℕ → A} {ok : List ℕ → Bool} {rule shape : A → Bool}
-    (c : Coding w code read ok rule shape) (base n : ℕ) (d : A) (f : A → A)
+module _ {A : Type 0} {w : ℕ} {code : A → List ℕ} {read : List ℕ → A} {ok : List ℕ → Bool}
+    (c : Lent w code read ok) (base n : ℕ) (d : A) (f : A → A)
     (t : List ℕ) (b : Bytes t) (fits : base + w * n ≤ length t) (h : rowsOk ok base w n t ≡ true) where
   abbrev old : List A
   old = rows read base w n t
@@ -57,14 +57,6 @@ module _ {A : Type 0} {w : ℕ} {code : A → List ℕ} {read : List ℕ → A} 
   pub up-none : t ≡ upTo code read base w n d f t 0
   unfolding upTo
   up-none = sym (ap (λ (x : List ℕ). take base t ++ (x ++ drop (base + w * n) t)) (rows-again c base n d t b fits h) ∙ part-over t base (w * n))
-
-  pub up-length : (i : ℕ) → length (upTo code read base w n d f t i) ≡ length t
-  unfolding upTo
-  up-length i =
-      length-append (take base t) (fields code n d (mixed i new old) ++ drop (base + w * n) t)
-      ∙ ap (λ (k : ℕ). length (take base t) + k) (length-append (fields code n d (mixed i new old)) (drop (base + w * n) t) ∙ ap (λ (k : ℕ). k + length (drop (base + w * n) t)) (section-length c base n d (mixed i new old) ∙ sym (part-length t base (w * n) fits)) ∙ sym (length-append (part t base (w * n)) (drop (base + w * n) t)))
-      ∙ sym (length-append (take base t) (part t base (w * n) ++ drop (base + w * n) t))
-      ∙ ap length (part-over t base (w * n))
 
   module _ (t′ : List ℕ) (i : ℕ) (l : i < n) (e : t′ ≡ upTo code read base w n d f t i) where
     below : i < length old
@@ -111,5 +103,7 @@ module _ {A : Type 0} {w : ℕ} {code : A → List ℕ} {read : List ℕ → A} 
   unfolding upTo
   up-all t′ i l e =
       e
-      ∙ ap (λ (xs : List A). take base t ++ (fields code n d xs ++ drop (base + w * n) t)) (mixed-all new old alike i (subst (λ (k : ℕ). k ≤ i) (sym old-length) l))
-      ∙ patch-lent t base (base + w * n) (fields code n d (map f (rows read base w n t))) (ap (λ (k : ℕ). base + k) (section-length c base n d (map f (rows read base w n t))))
+      ∙ ap (λ (xs : List A). take base t ++ (fields code n d xs ++ drop (base + w * n) t))
+      (mixed-all new old alike i (subst (λ (k : ℕ). k ≤ i) (sym old-length) l))
+      ∙ patch-lent t base (base + w * n) (fields code n d (map f (rows read base w n t)))
+      (ap (λ (k : ℕ). base + k) (section-length c base n d (map f (rows read base w n t))))

@@ -6,8 +6,9 @@ use mathlib.Core.Path.{_≡_, refl, ap, _∙_}
 use lib.ListN.{length, take, replicate}
 use Rattle.octets.specs.Part.{patch}
 use Rattle.packet.specs.Hash.{packetHash, linkId}
-use Rattle.rules.specs.Numbers.{localCount, pathCount, linkCount, returnCount, hashCount}
+use Rattle.rules.specs.Numbers.{localCount, pathCount, blobLimit, linkCount, returnCount, hashCount}
 use Rattle.rules.specs.Relay.{off, Slot, empty, used, Path, Return, Remembered, Relay}
+use Rattle.rules.specs.Blobs.{noBlob}
 use Rattle.rules.specs.View.{viewAt}
 use Rattle.rules.specs.Refusals.{packetRefusal}
 use Rattle.rules.specs.Tests.{badForm}
@@ -75,7 +76,7 @@ knownPath =
       hops = 0;
       nextHop = destination;
       expiry = 22600;
-      blobs = record { count = 1; places = blobWith emission ∷ replicate 15 (replicate 10 0) };
+      blobs = record { count = 1; places = blobWith emission ∷ replicate (blobLimit - 1) noBlob };
     }
 
 -- the data's return record; 1,800 s

@@ -4,6 +4,8 @@ use mathlib.Core.Bool.{Bool, true, false, not}
 use mathlib.Core.List.{List}
 use lib.ListN.{getD, replicate}
 use Rattle.octets.specs.Index.{first}
+-- a place of a table: unused, or a record
+pub use Rattle.codes.specs.Codes.{Slot, empty, used}
 use Rattle.rules.specs.Numbers.{portCount, localCount, pathCount, linkCount, returnCount, hashCount}
 use Rattle.rules.specs.declared.Link.{Link}
 
@@ -11,11 +13,6 @@ use Rattle.rules.specs.declared.Link.{Link}
 pub record Port : Type 0 where
   pub on : Bool
   pub mode : ℕ
-
--- a place of a table: unused, or a record
-pub data Slot (A : Type 0) : Type 0 where
-  empty : Slot A
-  used : A → Slot A
 
 -- stored blobs, the one stored longest ago first: `count` of the places hold one, and what the spare ones hold counts for nothing
 pub record Blobs : Type 0 where

@@ -19,6 +19,7 @@ use Rattle.rules.specs.Listed.{firstOf}
 use Rattle.rules.specs.Refusals.{emptyLocal}
 use Rattle.rules.specs.Calls.{Setting, settled, sets-port, adds, removes, ruleOf, tableRefusal, settle}
 use Rattle.tables.specs.Places.{portWidth, localWidth, portsAt, localsAt, tableSize, addressWidth}
+use Rattle.tables.specs.Fields.{portModeAt}
 use Rattle.tables.specs.Records.{portBytes, slotBytes, localBytes, markOf}
 use Rattle.tables.specs.Layout.{relayOf, bytesOf, wellFormed}
 use Rattle.tables.proofs.All.{exactly-same}
@@ -143,14 +144,14 @@ module _ (t own : List ℕ) where
   fresh-done e l = rw (eq-eqb (length t) tableSize e) (ap (refused 0) (sym (fresh-writes (length t) own e l)))
 
 -- ---- the writes, piece by piece
-pub port-pieces : (t t1 : List ℕ) (at mark mode : ℕ) (on : Bool) → mark ≡ markOf on → t1 ≡ patch t at (mark ∷ []) → at + 2 ≤ length t
-    → patch t1 (at + 1) (mode ∷ []) ≡ patch t at (portBytes (settingsOf on mode))
+pub port-pieces : (t t1 : List ℕ) (at mark mode : ℕ) (on : Bool) → mark ≡ markOf on → t1 ≡ patch t at (mark ∷ []) → at + portWidth ≤ length t
+    → patch t1 (at + portModeAt) (mode ∷ []) ≡ patch t at (portBytes (settingsOf on mode))
 unfolding portBytes
 port-pieces t t1 at mark mode on e e1 l =
-    ap (λ (x : List ℕ). patch x (at + 1) (mode ∷ [])) (e1 ∙ ap (λ (m : ℕ). patch t at (m ∷ [])) e)
-    ∙ patch-join t at (at + 1) (markOf on ∷ []) (mode ∷ []) refl (omega arith)
+    ap (λ (x : List ℕ). patch x (at + portModeAt) (mode ∷ [])) (e1 ∙ ap (λ (m : ℕ). patch t at (m ∷ [])) e)
+    ∙ patch-join t at (at + portModeAt) (markOf on ∷ []) (mode ∷ []) refl (omega arith)
 
-pub local-pieces : (t t1 address : List ℕ) (at : ℕ) → t1 ≡ patch t at (1 ∷ []) → length address ≡ addressWidth → at + 17 ≤ length t
+pub local-pieces : (t t1 address : List ℕ) (at : ℕ) → t1 ≡ patch t at (1 ∷ []) → length address ≡ addressWidth → at + localWidth ≤ length t
     → patch t1 (at + 1) address ≡ patch t at (slotBytes localWidth localBytes (used address))
 unfolding slotBytes localBytes
 local-pieces t t1 address at e1 la l =

@@ -14,8 +14,8 @@ use Rattle.rules.specs.Relay.{off, empty, fresh}
 use Rattle.tables.specs.Places.{addressWidth, timeWidth, ringWidth, localWidth, pathWidth, linkWidth, returnWidth, hashWidth, tableSize}
 use Rattle.tables.specs.Records.{exactly, markOf, portBytes, slotBytes, localBytes, pathBytes, linkBytes, returnBytes, hashBytes}
 use Rattle.tables.specs.Layout.{bytesOf}
-use Rattle.tables.proofs.All.{exactly-same, exactly-length}
-use Rattle.tables.proofs.Sections.{bytes-length, clock-bytes, after-clock, at-own}
+use Rattle.tables.proofs.All.{exactly-same}
+use Rattle.tables.proofs.Whole.{bytes-length}
 use Rattle.octets.specs.Choice.{_then_otherwise_}
 
 -- every element is 0; a record, so that antt can read the list off it
@@ -66,47 +66,44 @@ port-each zero = refl
 port-each (suc zero) = refl
 port-each (suc (suc i)) = refl
 
-same-zeros : (x y : List ℕ) → length x ≡ length y → Zeros x → Zeros y → x ≡ y
+pub same-zeros : (x y : List ℕ) → length x ≡ length y → Zeros x → Zeros y → x ≡ y
 same-zeros x y e p q = ext-getD 0 x y e (λ i l. p .each i ∙ sym (q .each i))
 
--- what stands behind the own address in a fresh relay's bytes
-fresh-rest : (own : List ℕ) → Zeros (clock-bytes (fresh own) ++ after-clock (fresh own))
-unfolding fresh
-fresh-rest own =
-    append-zeros (number-zeros timeWidth)
-    (append-zeros (fields-zeros portBytes off (record { each = port-each }) portCount)
-    (append-zeros (fields-zeros (slotBytes localWidth localBytes) empty (slot-zeros localWidth localBytes) localCount)
-    (append-zeros (fields-zeros (slotBytes pathWidth pathBytes) empty (slot-zeros pathWidth pathBytes) pathCount)
-    (append-zeros (fields-zeros (slotBytes linkWidth linkBytes) empty (slot-zeros linkWidth linkBytes) linkCount)
-    (append-zeros (number-zeros ringWidth)
-    (append-zeros (fields-zeros (slotBytes returnWidth returnBytes) empty (slot-zeros returnWidth returnBytes) returnCount)
-    (append-zeros (number-zeros ringWidth)
-    (fields-zeros (slotBytes hashWidth hashBytes) empty (slot-zeros hashWidth hashBytes) hashCount))))))))
+pub all-zeros : (n : ℕ) → Zeros (replicate n 0)
+all-zeros n = record { each = replicate-each n }
 
-rest-length : (own rest : List ℕ) → bytesOf (fresh own) ≡ exactly addressWidth own ++ rest → addressWidth + length rest ≡ tableSize
-rest-length own rest e =
-    ap (λ (k : ℕ). k + length rest) (sym (exactly-length addressWidth own))
-    ∙ sym (length-append (exactly addressWidth own) rest)
-    ∙ ap length (sym e)
-    ∙ bytes-length (fresh own)
+pub ports-zeros : Zeros (fields portBytes portCount off (replicate portCount off))
+ports-zeros = fields-zeros portBytes off (record { each = port-each }) portCount
 
-own-there : (own : List ℕ) → fresh own .own ≡ own
-unfolding fresh
-own-there own = refl
+-- zeros with x written over their start
+over-zeros : (n : ℕ) (x : List ℕ) {rest : List ℕ} → Zeros rest → length (x ++ rest) ≡ n → patch (replicate {A = ℕ} n 0) 0 x ≡ x ++ rest
+unfolding patch
+over-zeros n x {rest} z e =
+    let behind : List ℕ = drop (0 + length x) (replicate {A = ℕ} n 0) in
+    let size : length behind ≡ length rest =
+    length-drop (0 + length x) (replicate {A = ℕ} n 0)
+    ∙ ap (λ (m : ℕ). m - (0 + length x)) (length-replicate n 0)
+    ∙ (let k = length-append x rest in omega (arith, e, k)) in
+    ap (λ (y : List ℕ). x ++ y)
+    (same-zeros behind rest size
+    (record { each = λ i. getD-drop (0 + length x) (replicate {A = ℕ} n 0) i 0 ∙ replicate-each n (0 + length x + i) })
+    z)
 
 -- a fresh relay's tables: zeros, with its own address written over their start
 pub fresh-writes : (n : ℕ) (own : List ℕ) → n ≡ tableSize → length own ≡ addressWidth → patch (replicate {A = ℕ} n 0) 0 own ≡ bytesOf (fresh own)
-unfolding patch
+unfolding bytesOf fresh portBytes localBytes pathBytes linkBytes returnBytes hashBytes
 fresh-writes n own e l =
-    let rest : List ℕ = clock-bytes (fresh own) ++ after-clock (fresh own) in
-    let whole : bytesOf (fresh own) ≡ exactly addressWidth own ++ rest = at-own (fresh own) ∙ ap (λ (x : List ℕ). exactly addressWidth x ++ rest) (own-there own) in
-    let k : addressWidth + length rest ≡ tableSize = rest-length own rest whole in
-    let size : length (drop (0 + length own) (replicate {A = ℕ} n 0)) ≡ length rest = length-drop (0 + length own) (replicate {A = ℕ} n 0) ∙ ap (λ (m : ℕ). m - (0 + length own)) (length-replicate n 0) ∙ omega arith in
-    let tail : drop (0 + length own) (replicate {A = ℕ} n 0) ≡ rest =
-    same-zeros (drop (0 + length own) (replicate {A = ℕ} n 0)) rest size
-    (record { each = λ i. getD-drop (0 + length own) (replicate {A = ℕ} n 0) i 0 ∙ replicate-each n (0 + length own + i) })
-    (fresh-rest own) in
-    ap (λ (x : List ℕ). own ++ x) tail ∙ ap (λ (x : List ℕ). x ++ rest) (sym (exactly-same addressWidth own l)) ∙ sym whole
+    ap (patch (replicate {A = ℕ} n 0) 0) (sym (exactly-same addressWidth own l))
+    ∙ over-zeros n (exactly addressWidth own)
+    (append-zeros (number-zeros timeWidth)
+    (append-zeros ports-zeros
+    (append-zeros (fields-zeros (slotBytes localWidth localBytes) empty (slot-zeros localWidth localBytes) localCount)
+    (append-zeros (fields-zeros (slotBytes pathWidth pathBytes) empty (slot-zeros pathWidth pathBytes) pathCount)
+    (append-zeros (fields-zeros (slotBytes linkWidth linkBytes) empty (slot-zeros linkWidth linkBytes) linkCount)
+    (append-zeros
+    (append-zeros (number-zeros ringWidth) (fields-zeros (slotBytes returnWidth returnBytes) empty (slot-zeros returnWidth returnBytes) returnCount))
+    (append-zeros (number-zeros ringWidth) (fields-zeros (slotBytes hashWidth hashBytes) empty (slot-zeros hashWidth hashBytes) hashCount))))))))
+    (bytes-length (fresh own) ∙ sym e)
 
 -- ---- a loop that writes zeros
 pub clear-more : (s₀ s : List ℕ) (i : ℕ) → i < length s₀ → s ≡ mixed i (replicate (length s₀) 0) s₀ → set s i 0 ≡ mixed (i + 1) (replicate (length s₀) 0) s₀

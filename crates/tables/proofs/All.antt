@@ -1,21 +1,18 @@
--- The laws of `all`, of `isBytes` and of `exactly`: every element of a list keeps a rule.
+-- The laws of `all` and of `isBytes`: every element of a list keeps a rule.
 use Prim.Native.Nat.{ℕ, zero, suc, _<_}
 use native.Mathlib.Nat.{not-suc-le-zero, le-of-suc-le-suc}
+use native.Mathlib.Omega.{arith}
 use mathlib.Core.Bool.{Bool, true}
 use mathlib.Core.List.{List, [], _∷_}
-use mathlib.Core.Path.{_≡_, refl, sym, subst}
+use mathlib.Core.Path.{_≡_, refl}
 use lib.Dec.{lit<}
 use lib.ListN.{length, getD}
 use borrow.Author.Tests.{lt-ltb, ltb-true}
 use Rattle.octets.specs.Bytes.{Bytes}
-use Rattle.octets.specs.Part.{joined, fields}
 use Rattle.octets.proofs.Index.{and-left, and-right, and-both}
-use Rattle.octets.proofs.Bytes.{nil-bytes, append-bytes}
-use Rattle.octets.proofs.ListOf.{listOf-length, listOf-getD}
-use Rattle.octets.proofs.Joined.{fields-all}
-use Rattle.rules.specs.Refusals.{all, tableOk}
+pub use Rattle.codes.proofs.Single.{exactly-length, exactly-same}
+use Rattle.rules.specs.Refusals.{all}
 use Rattle.rules.proofs.Tables.{table-of, table-length, table-all}
-use Rattle.tables.specs.Records.{exactly}
 use Rattle.tables.specs.Shape.{isByte, isBytes}
 
 -- ---- `all`
@@ -26,22 +23,10 @@ module _ {A : Type 0} (ok : A → Bool) where
   all-nth (x ∷ xs) zero d h l = and-left _ _ h
   all-nth (x ∷ xs) (suc i) d h l = all-nth xs i d (and-right _ _ h) (le-of-suc-le-suc l)
 
-  pub all-each : (xs : List A) → ((x : A) → ok x ≡ true) → all ok xs ≡ true
+  pub all-from : (xs : List A) (d : A) → ((i : ℕ) → i < length xs → ok (getD xs i d) ≡ true) → all ok xs ≡ true
   unfolding all
-  all-each [] each = refl
-  all-each (x ∷ xs) each = and-both (each x) (all-each xs each)
-
--- the codes of elements that keep two rules are bytes, where each element's is
-module _ {A : Type 0} (code : A → List ℕ) (rule shape : A → Bool) (each : (x : A) → rule x ≡ true → shape x ≡ true → Bytes (code x)) where
-  joined-all : (xs : List A) → all rule xs ≡ true → all shape xs ≡ true → Bytes (joined code xs)
-  unfolding joined all
-  joined-all [] h k = nil-bytes
-  joined-all (x ∷ xs) h k =
-      append-bytes (code x) (joined code xs) (each x (and-left _ _ h) (and-left _ _ k)) (joined-all xs (and-right _ _ h) (and-right _ _ k))
-
-  pub fields-all-bytes : (n : ℕ) (d : A) (xs : List A) → tableOk n rule xs ≡ true → all shape xs ≡ true → Bytes (fields code n d xs)
-  fields-all-bytes n d xs h k =
-      subst Bytes (sym (fields-all code n d xs (table-length rule n xs h))) (joined-all xs (table-all rule n xs h) k)
+  all-from [] d each = refl
+  all-from (x ∷ xs) d each = and-both (each 0 (omega arith)) (all-from xs d (λ i l. each (suc i) (omega arith)))
 
 -- ---- `isBytes`
 all-bytes : (xs : List ℕ) → all isByte xs ≡ true → Bytes xs
@@ -67,15 +52,3 @@ module _ (n : ℕ) (xs : List ℕ) where
   pub is-each : isBytes n xs ≡ true → Bytes xs
   unfolding isBytes
   is-each h = all-bytes xs (table-all isByte n xs h)
-
-  -- ---- `exactly`
-  pub exactly-length : length (exactly n xs) ≡ n
-  unfolding exactly
-  exactly-length = listOf-length (λ i. getD xs i 0) n
-
-  pub exactly-same : length xs ≡ n → exactly n xs ≡ xs
-  unfolding exactly
-  exactly-same e = listOf-getD 0 xs n e
-
-  pub exactly-bytes : isBytes n xs ≡ true → Bytes (exactly n xs)
-  exactly-bytes h = subst Bytes (sym (exactly-same (is-length h))) (is-each h)

@@ -1,9 +1,8 @@
+-- Reading, writing and testing the tables: the laws of the layout (crate codes), in the words of the rules.
 pub mod All
-pub mod Cut
-pub mod Coding
-pub mod Codings
-pub mod Sections
-pub mod Whole
-pub mod Patches
+pub mod Tests
+pub mod Lent
 pub mod Seen
 pub mod Loops
+pub mod Whole
+pub mod Patches

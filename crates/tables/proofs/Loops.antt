@@ -3,16 +3,13 @@ use Prim.Native.Nat.{ℕ, _+_, _-_, _*_, _≤_, _<_}
 use mathlib.Core.Bool.{Bool, true, false, not}
 use mathlib.Core.List.{List}
 use mathlib.Core.Path.{_≡_, sym, ap, _∙_}
-use lib.Dec.{eqb}
-use lib.ListN.{length, getD, take, drop}
+use lib.ListN.{length, take, drop}
 use borrow.Author.Tests.{not-true, not-false}
 use Rattle.octets.specs.Index.{zeros}
-use Rattle.octets.specs.Choice.{_then_otherwise_}
 use Rattle.octets.specs.Part.{part}
-use Rattle.octets.proofs.Index.{all-none, all-more, all-fails, all-at}
+use Rattle.octets.proofs.Index.{all-none, all-more, all-fails}
 use Rattle.octets.proofs.Part.{part-range}
 use Rattle.octets.proofs.Rows.{rows-free, rows-more, rows-fails}
-use Rattle.tables.specs.Records.{slotBytesOk}
 use Rattle.tables.specs.Layout.{rowAt, rowsOk}
 use Rattle.tables.specs.Groups.{groupSize, groupOk}
 
@@ -57,11 +54,6 @@ module _ (ok : List ℕ → Bool) (w : ℕ) (s : List ℕ) where
     record-fails count l n = sym (all-fails (λ k. ok (part s (w * k) w)) i count l (seen-in-group ∙ not-true r n))
 
 -- ---- the groups
--- an unused record keeps row 7
-pub unused : (w : ℕ) (ok : List ℕ → Bool) → 0 < w → (b : List ℕ) → zeros w b ≡ true → slotBytesOk w ok b ≡ true
-unfolding slotBytesOk _then_otherwise_ zeros
-unused w ok some b h = rw (all-at (λ k. eqb (getD b k 0) 0) w 0 h some) h
-
 -- a group of zeros
 pub group-free : (ok : List ℕ → Bool) (w : ℕ) (s : List ℕ) → ((b : List ℕ) → zeros w b ≡ true → ok b ≡ true)
     → length s ≡ w * groupSize → zeros (length s) s ≡ true → true ≡ groupOk ok w groupSize s

@@ -34,49 +34,49 @@ module _ {A : Type 0} (read : List ℕ → Slot A) (base w n : ℕ) (t : List �
 -- ---- the tables
 module _ (t : List ℕ) where
   pub port-seen : (i : ℕ) → i < portCount → getD (relayOf t .ports) i off ≡ portOf (rowAt portsAt portWidth t i)
-  unfolding relayOf
+  unfolding relayOf portOf
   port-seen i l = row-seen portOf portsAt portWidth portCount t i off l
 
   pub ports-length : length (relayOf t .ports) ≡ portCount
-  unfolding relayOf
+  unfolding relayOf portOf
   ports-length = rows-length portOf portsAt portWidth portCount t
 
   pub local-seen : (i : ℕ) → i < localCount → getD (relayOf t .locals) i empty ≡ slotOf localOf (rowAt localsAt localWidth t i)
-  unfolding relayOf
+  unfolding relayOf slotOf localOf
   local-seen i l = row-seen (slotOf localOf) localsAt localWidth localCount t i empty l
 
   pub locals-length : length (relayOf t .locals) ≡ localCount
-  unfolding relayOf
+  unfolding relayOf slotOf localOf
   locals-length = rows-length (slotOf localOf) localsAt localWidth localCount t
 
   pub path-seen : (i : ℕ) → i < pathCount → getD (relayOf t .paths) i empty ≡ slotOf pathOf (rowAt pathsAt pathWidth t i)
-  unfolding relayOf
+  unfolding relayOf slotOf pathOf
   path-seen i l = row-seen (slotOf pathOf) pathsAt pathWidth pathCount t i empty l
 
   pub paths-length : length (relayOf t .paths) ≡ pathCount
-  unfolding relayOf
+  unfolding relayOf slotOf pathOf
   paths-length = rows-length (slotOf pathOf) pathsAt pathWidth pathCount t
 
   pub link-seen : (i : ℕ) → i < linkCount → getD (relayOf t .links) i empty ≡ slotOf linkOf (rowAt linksAt linkWidth t i)
-  unfolding relayOf
+  unfolding relayOf slotOf linkOf
   link-seen i l = row-seen (slotOf linkOf) linksAt linkWidth linkCount t i empty l
 
   pub links-length : length (relayOf t .links) ≡ linkCount
-  unfolding relayOf
+  unfolding relayOf slotOf linkOf
   links-length = rows-length (slotOf linkOf) linksAt linkWidth linkCount t
 
   pub return-seen : (i : ℕ) → i < returnCount → getD (relayOf t .returns .slots) i empty ≡ slotOf returnOf (rowAt returnsAt returnWidth t i)
-  unfolding relayOf
+  unfolding relayOf slotOf returnOf
   return-seen i l = row-seen (slotOf returnOf) returnsAt returnWidth returnCount t i empty l
 
   pub returns-length : length (relayOf t .returns .slots) ≡ returnCount
-  unfolding relayOf
+  unfolding relayOf slotOf returnOf
   returns-length = rows-length (slotOf returnOf) returnsAt returnWidth returnCount t
 
   pub hash-seen : (i : ℕ) → i < hashCount → getD (relayOf t .hashes .slots) i empty ≡ slotOf hashOf (rowAt hashesAt hashWidth t i)
-  unfolding relayOf
+  unfolding relayOf slotOf hashOf
   hash-seen i l = row-seen (slotOf hashOf) hashesAt hashWidth hashCount t i empty l
 
   pub hashes-length : length (relayOf t .hashes .slots) ≡ hashCount
-  unfolding relayOf
+  unfolding relayOf slotOf hashOf
   hashes-length = rows-length (slotOf hashOf) hashesAt hashWidth hashCount t

@@ -1,37 +1,39 @@
 -- Well-formed tables are exactly the bytes of a relay that any bytes could hold and that breaks no clause of row 7.
-use Prim.Native.Nat.{ℕ, _≤_, _<_}
+use Prim.Native.Nat.{ℕ, _+_, _*_, _^_, _≤_, _<_}
 use native.Mathlib.Omega.{arith}
-use mathlib.Core.Bool.{true}
-use mathlib.Core.List.{List, [], _++_}
-use mathlib.Core.Path.{_≡_, refl, ap, _∙_}
-use lib.Dec.{ltb}
-use lib.ListN.{length}
-use borrow.Author.Tests.{eqb-true, eq-eqb, ltb-true}
+use mathlib.Core.Bool.{Bool, true, false}
+use mathlib.Core.List.{List}
+use mathlib.Core.Path.{_≡_, refl, sym, _∙_}
+use lib.Dec.{eqb, ltb}
+use lib.ListN.{length, getD}
+use borrow.Author.Tests.{eqb-true, eq-eqb, ltb-true, lt-ltb, leb-true}
 use Rattle.octets.specs.Bytes.{Bytes}
+use Rattle.octets.specs.Index.{_and_}
+use Rattle.octets.specs.Choice.{_then_otherwise_}
 use Rattle.octets.specs.Part.{part}
-use Rattle.octets.specs.BigEndian.{number, bigEndian}
-use Rattle.octets.proofs.Index.{and-left, and-right, and-both}
-use Rattle.octets.proofs.BigEndian.{bigEndian-length, number-bigEndian}
-use Rattle.octets.proofs.Part.{part-length, part-whole, part-mid, part-again}
+use Rattle.octets.specs.BigEndian.{number}
+use Rattle.octets.proofs.Index.{and-left, and-right, and-both, and-assoc, all-at}
 use Rattle.octets.proofs.ListOf.{listOf-length}
-use Rattle.octets.proofs.Bytes.{part-bytes}
-use Rattle.rules.specs.Numbers.{portCount, localCount, pathCount, linkCount, returnCount, hashCount}
-use Rattle.rules.specs.Relay.{off, Slot, empty, used, Relay}
+use Rattle.codes.specs.Form.{Form, octetsIn, many, slot, that, code}
+use Rattle.codes.proofs.Law.{whole-again}
+use Rattle.codes.proofs.Forms.{lawful}
+use Rattle.rules.specs.Numbers.{portCount, localCount, pathCount, linkCount, returnCount, hashCount, blobLimit, modeCount, timeLimit}
+use Rattle.rules.specs.Relay.{Port, off, Slot, empty, used, Path, Return, Remembered, Ring, Relay}
+use Rattle.rules.specs.Blobs.{noBlob}
 use Rattle.rules.specs.Refusals.{timeOk, portOk, pathOk, linkOk, returnOk, hashOk, slotOk, all, tableOk, tablesOk}
-use Rattle.tables.specs.Places.{addressWidth, timeWidth, ringWidth, portWidth, localWidth, pathWidth, linkWidth, returnWidth, hashWidth, ownAt, clockAt, portsAt, localsAt, pathsAt, linksAt, returnNextAt, returnsAt, hashNextAt, hashesAt, tableSize}
-use Rattle.tables.specs.Records.{portOf, portBytesOk, slotOf, localOf, localBytesOk, pathOf, pathBytesOk, linkOf, linkBytesOk, returnOf, returnBytesOk, hashOf, hashBytesOk}
-use Rattle.tables.specs.Layout.{rowAt, rows, rowsOk, relayOf, bytesOf, wellFormed}
-use Rattle.tables.specs.Shape.{isBytes, pathShaped, linkShaped, returnShaped, hashShaped, shaped}
-use Rattle.rules.proofs.Tables.{table-of}
-use Rattle.tables.proofs.All.{all-each, is-bytes, is-length, exactly-same, exactly-length}
-use Rattle.tables.proofs.Cut.{more, number-octets, cut, time-back}
-use Rattle.tables.proofs.Coding.{rows-again, rows-keep, rows-shaped, rows-back, rows-fine, section-octets}
-use Rattle.tables.proofs.Codings.{field-octets, port-coding, local-coding, path-coding, link-coding, return-coding, hash-coding}
-use Rattle.tables.proofs.Sections.{own-bytes, clock-bytes, after-clock, before-ports, after-ports, before-locals, after-locals, before-paths, after-paths, before-links, after-links, before-return-next, after-return-next, before-returns, after-returns, before-hash-next, after-hash-next, before-hashes, clock-starts, ports-start, locals-start, paths-start, links-start, return-next-starts, returns-start, hash-next-starts, hashes-start, at-own, at-ports, at-locals, at-paths, at-links, at-return-next, at-returns, at-hash-next, at-hashes, bytes-length}
+use Rattle.rules.specs.declared.Link.{Link}
+use Rattle.rules.proofs.Tables.{all-listOf, table-of, table-length, table-all}
+use Rattle.tables.specs.Forms.{portForm, localForm, pathForm, linkForm, returnForm, hashForm, ringForm, relayForm}
+use Rattle.tables.specs.Places.{addressWidth, timeWidth, blobWidth, ringWidth, portWidth, localWidth, pathWidth, linkWidth, returnWidth, hashWidth, clockAt, portsAt, localsAt, pathsAt, linksAt, returnNextAt, returnsAt, hashNextAt, hashesAt, tableSize}
+use Rattle.tables.specs.Records.{portBytesOk, localBytesOk, pathBytesOk, linkBytesOk, returnBytesOk, hashBytesOk}
+use Rattle.tables.specs.Layout.{rowsOk, relayOf, bytesOf, wellFormed}
+use Rattle.tables.specs.Shape.{isByte, isBytes, pathShaped, linkShaped, returnShaped, hashShaped, shaped}
+use Rattle.tables.proofs.All.{all-nth, all-from, is-bytes, is-length, is-each}
 
--- ---- the clauses of `wellFormed` and of `tablesOk` by name
+-- ---- the clauses of `wellFormed`, of `tablesOk` and of `shaped` by name
 pub record Formed (t : List ℕ) : Type 0 where
   pub size : length t ≡ tableSize
+  pub fine : code relayForm .fine t 0 ≡ true
   pub clock : timeOk (number (part t clockAt timeWidth)) ≡ true
   pub ports : rowsOk portBytesOk portsAt portWidth portCount t ≡ true
   pub locals : rowsOk localBytesOk localsAt localWidth localCount t ≡ true
@@ -42,29 +44,46 @@ pub record Formed (t : List ℕ) : Type 0 where
   pub hash-next : ltb (number (part t hashNextAt ringWidth)) hashCount ≡ true
   pub hashes : rowsOk hashBytesOk hashesAt hashWidth hashCount t ≡ true
 
-pub formed : (t : List ℕ) → wellFormed t ≡ true → Formed t
-unfolding wellFormed
-formed t h =
-    let h1 = and-right _ _ h in
-    let h2 = and-right _ _ h1 in
-    let h3 = and-right _ _ h2 in
-    let h4 = and-right _ _ h3 in
-    let h5 = and-right _ _ h4 in
-    let h6 = and-right _ _ h5 in
-    let h7 = and-right _ _ h6 in
-    let h8 = and-right _ _ h7 in
-    record {
-      size = eqb-true (length t) tableSize (and-left _ _ h);
-      clock = and-left _ _ h1;
-      ports = and-left _ _ h2;
-      locals = and-left _ _ h3;
-      paths = and-left _ _ h4;
-      links = and-left _ _ h5;
-      return-next = and-left _ _ h6;
-      returns = and-left _ _ h7;
-      hash-next = and-left _ _ h8;
-      hashes = and-right _ _ h8;
-    }
+module _ (t : List ℕ) where
+  -- in the order in which the code tests them
+  pub clauses : wellFormed t
+      ≡ (eqb (length t) tableSize
+      and timeOk (number (part t clockAt timeWidth))
+      and rowsOk portBytesOk portsAt portWidth portCount t
+      and rowsOk localBytesOk localsAt localWidth localCount t
+      and rowsOk pathBytesOk pathsAt pathWidth pathCount t
+      and rowsOk linkBytesOk linksAt linkWidth linkCount t
+      and ltb (number (part t returnNextAt ringWidth)) returnCount
+      and rowsOk returnBytesOk returnsAt returnWidth returnCount t
+      and ltb (number (part t hashNextAt ringWidth)) hashCount
+      and rowsOk hashBytesOk hashesAt hashWidth hashCount t)
+  unfolding wellFormed rowsOk portBytesOk localBytesOk pathBytesOk linkBytesOk returnBytesOk hashBytesOk _and_
+  clauses = rw (and-assoc (ltb (number (part t returnNextAt ringWidth)) returnCount))
+
+  pub formed : wellFormed t ≡ true → Formed t
+  unfolding wellFormed
+  formed h =
+      let h1 = and-right _ _ (sym clauses ∙ h) in
+      let h2 = and-right _ _ h1 in
+      let h3 = and-right _ _ h2 in
+      let h4 = and-right _ _ h3 in
+      let h5 = and-right _ _ h4 in
+      let h6 = and-right _ _ h5 in
+      let h7 = and-right _ _ h6 in
+      let h8 = and-right _ _ h7 in
+      record {
+        size = eqb-true (length t) tableSize (and-left _ _ h);
+        fine = and-right _ _ h;
+        clock = and-left _ _ h1;
+        ports = and-left _ _ h2;
+        locals = and-left _ _ h3;
+        paths = and-left _ _ h4;
+        links = and-left _ _ h5;
+        return-next = and-left _ _ h6;
+        returns = and-left _ _ h7;
+        hash-next = and-left _ _ h8;
+        hashes = and-right _ _ h8;
+      }
 
 pub record Kept (r : Relay) : Type 0 where
   pub clock : timeOk (r .clock) ≡ true
@@ -123,154 +142,236 @@ shaped-parts r h =
       hashes = and-right _ _ h4;
     }
 
+-- ---- a relay that the layout can hold is one of the right shape that keeps the rules
+infixr 30 _also_
+abbrev _also_ : {A B : Type 0} → A → B → A × B
+x also y = (x, y)
+
+octets-good : (n : ℕ) (x : List ℕ) → isBytes n x ≡ true → code (octetsIn n) .Good x
+octets-good n x h = (is-length n x h, is-each n x h)
+
+octets-shaped : (n : ℕ) (x : List ℕ) → code (octetsIn n) .Good x → isBytes n x ≡ true
+octets-shaped n x g = is-bytes n x (g .0) (g .1)
+
+time-good : (x : ℕ) → timeOk x ≡ true → x < 256 ^ timeWidth
+unfolding timeOk
+time-good x h = let l = leb-true x timeLimit h in omega (arith, l)
+
+port-small : (x : ℕ) → ltb x portCount ≡ true → x < 256
+port-small x h = let l = ltb-true x portCount h in omega (arith, l)
+
+port-good : (p : Port) → portOk p ≡ true → code portForm .Good p
+unfolding portOk
+port-good p h = let l = ltb-true (p .mode) modeCount h in ((tt, omega (arith, l)), h)
+
+path-good : (p : Path) → pathOk p ≡ true → pathShaped p ≡ true → code pathForm .Good p
+unfolding pathOk pathShaped
+path-good p h k =
+    let h1 = and-right _ _ h in
+    let h2 = and-right _ _ (and-right _ _ h1) in
+    let most = leb-true (p .blobs .count) blobLimit (and-left _ _ h2) in
+    let count : p .blobs .count < 256 = omega (arith, most) in
+    let places = and-right _ _ (and-right _ _ k) in
+    let long = table-length (isBytes blobWidth) blobLimit (p .blobs .places) places in
+    let shapes = table-all (isBytes blobWidth) blobLimit (p .blobs .places) places in
+    (octets-good addressWidth (p .destination) (and-left _ _ k)
+    also port-small (p .port) (and-left _ _ h)
+    also ltb-true (p .hops) 256 (and-left _ _ h1)
+    also octets-good addressWidth (p .nextHop) (and-left _ _ (and-right _ _ k))
+    also time-good (p .expiry) (and-right _ _ h2)
+    also count
+    also long
+    also (λ i l. octets-good blobWidth _ (all-nth (isBytes blobWidth) (p .blobs .places) i noBlob shapes (omega (arith, long, l)))))
+    also h
+
+path-shaped : (p : Path) → code pathForm .Good p → pathShaped p ≡ true
+unfolding pathShaped
+path-shaped p ((destination, (_, (_, (nextHop, (_, (_, (long, each))))))), _) =
+    and-both (octets-shaped addressWidth (p .destination) destination)
+    (and-both (octets-shaped addressWidth (p .nextHop) nextHop)
+    (table-of (isBytes blobWidth) blobLimit (p .blobs .places) long
+    (all-from (isBytes blobWidth) (p .blobs .places) noBlob
+    (λ i l. octets-shaped blobWidth (getD (p .blobs .places) i noBlob) (each i (omega (arith, long, l)))))))
+
+link-good : (x : Link) → linkOk x ≡ true → linkShaped x ≡ true → code linkForm .Good x
+unfolding linkOk linkShaped isByte
+link-good x h k =
+    let k1 = and-right _ _ k in
+    let h1 = and-right _ _ h in
+    (octets-good addressWidth (x .id) (and-left _ _ k)
+    also port-small (x .asking) (and-left _ _ h)
+    also port-small (x .answering) (and-left _ _ h1)
+    also ltb-true (x .taken .0) 256 (and-left _ _ k1)
+    also ltb-true (x .remaining .0) 256 (and-right _ _ k1)
+    also tt
+    also time-good (x .expiry) (and-right _ _ h1))
+    also h
+
+link-shaped : (x : Link) → code linkForm .Good x → linkShaped x ≡ true
+unfolding linkShaped isByte
+link-shaped x ((id, (_, (_, (taken, (remaining, _))))), _) =
+    and-both (octets-shaped addressWidth (x .id) id)
+    (and-both (lt-ltb (x .taken .0) 256 taken) (lt-ltb (x .remaining .0) 256 remaining))
+
+return-good : (x : Return) → returnOk x ≡ true → returnShaped x ≡ true → code returnForm .Good x
+unfolding returnOk returnShaped
+return-good x h k =
+    let h1 = and-right _ _ h in
+    (octets-good addressWidth (x .key) k
+    also port-small (x .arrival) (and-left _ _ h)
+    also port-small (x .leaving) (and-left _ _ h1)
+    also time-good (x .expiry) (and-right _ _ h1))
+    also h
+
+return-shaped : (x : Return) → code returnForm .Good x → returnShaped x ≡ true
+unfolding returnShaped
+return-shaped x g = octets-shaped addressWidth (x .key) (g .0 .0)
+
+hash-good : (x : Remembered) → hashOk x ≡ true → hashShaped x ≡ true → code hashForm .Good x
+unfolding hashOk hashShaped
+hash-good x h k = ((octets-good _ (x .hash) k, time-good (x .expiry) h), h)
+
+hash-shaped : (x : Remembered) → code hashForm .Good x → hashShaped x ≡ true
+unfolding hashShaped
+hash-shaped x g = octets-shaped _ (x .hash) (g .0 .0)
+
+-- ---- a table of slots
+module _ {A : Type 0} (f : Form A) (rule shape : A → Bool) (n : ℕ) (xs : List (Slot A)) where
+  slot-good : ((x : A) → rule x ≡ true → shape x ≡ true → code f .Good x) → (s : Slot A) → slotOk rule s ≡ true → slotOk shape s ≡ true
+      → code (slot f) .Good s
+  unfolding slotOk
+  slot-good each empty h k = tt
+  slot-good each (used x) h k = each x h k
+
+  slots-good : ((x : A) → rule x ≡ true → shape x ≡ true → code f .Good x) → tableOk n (slotOk rule) xs ≡ true → all (slotOk shape) xs ≡ true
+      → code (many n empty (slot f)) .Good xs
+  slots-good each h k =
+      let long = table-length (slotOk rule) n xs h in (
+        long,
+        λ i l. slot-good each (getD xs i empty)
+            (all-nth (slotOk rule) xs i empty (table-all (slotOk rule) n xs h) (omega (arith, long, l)))
+            (all-nth (slotOk shape) xs i empty k (omega (arith, long, l))),
+      )
+
+  slot-shaped : ((x : A) → code f .Good x → shape x ≡ true) → (s : Slot A) → code (slot f) .Good s → slotOk shape s ≡ true
+  unfolding slotOk
+  slot-shaped each empty g = refl
+  slot-shaped each (used x) g = each x g
+
+  slots-shaped : ((x : A) → code f .Good x → shape x ≡ true) → code (many n empty (slot f)) .Good xs → all (slotOk shape) xs ≡ true
+  slots-shaped each g =
+      let long = g .0 in
+      all-from (slotOk shape) xs empty (λ i l. slot-shaped each (getD xs i empty) (g .1 i (omega (arith, long, l))))
+
+good-shaped : (r : Relay) → code relayForm .Good r → shaped r ≡ true
+unfolding shaped
+good-shaped r (own, (_, (_, (locals, (paths, (links, ((_, returns), (_, hashes)))))))) =
+    and-both (octets-shaped addressWidth (r .own) own)
+    (and-both (slots-shaped localForm (λ x. true) (isBytes addressWidth) localCount (r .locals) (octets-shaped addressWidth) locals)
+    (and-both (slots-shaped pathForm pathOk pathShaped pathCount (r .paths) path-shaped paths)
+    (and-both (slots-shaped linkForm linkOk linkShaped linkCount (r .links) link-shaped links)
+    (and-both (slots-shaped returnForm returnOk returnShaped returnCount (r .returns .slots) return-shaped returns)
+    (slots-shaped hashForm hashOk hashShaped hashCount (r .hashes .slots) hash-shaped hashes)))))
+
 -- ---- tables that are read
--- tables that are read and written again are as they were
-pub again : (t : List ℕ) → Bytes t → wellFormed t ≡ true → bytesOf (relayOf t) ≡ t
-unfolding bytesOf relayOf
-again t b h =
-    let f = formed t h in
-    let e : length t ≡ tableSize = f .size in
-    cut t ownAt addressWidth 71100 (exactly-same addressWidth (part t ownAt addressWidth) (part-length t ownAt addressWidth (omega arith)))
-    (cut t clockAt timeWidth 71092 (part-again t clockAt timeWidth b (omega arith))
-    (cut t portsAt 32 71060 (rows-again port-coding portsAt portCount off t b (omega arith) (f .ports))
-    (cut t localsAt 272 70788 (rows-again local-coding localsAt localCount empty t b (omega arith) (f .locals))
-    (cut t pathsAt 13056 57732 (rows-again path-coding pathsAt pathCount empty t b (omega arith) (f .paths))
-    (cut t linksAt 1920 55812 (rows-again link-coding linksAt linkCount empty t b (omega arith) (f .links))
-    (cut t returnNextAt ringWidth 55810 (part-again t returnNextAt ringWidth b (omega arith))
-    (cut t returnsAt 13824 41986 (rows-again return-coding returnsAt returnCount empty t b (omega arith) (f .returns))
-    (cut t hashNextAt ringWidth 41984 (part-again t hashNextAt ringWidth b (omega arith))
-    (rows-again hash-coding hashesAt hashCount empty t b (omega arith) (f .hashes))))))))))
-    ∙ part-whole t tableSize e
+-- the records that they hold keep their rule
+module _ {A : Type 0} (rule : A → Bool) (f : Form A)
+    (keeps : (b : List ℕ) (a : ℕ) → code f .fine b a ≡ true → rule (code f .read b a) ≡ true) where
+  slot-keeps : (b : List ℕ) → code (slot f) .fine b 0 ≡ true → slotOk rule (code (slot f) .read b 0) ≡ true
+  unfolding slotOk _then_otherwise_
+  slot-keeps b h = go (eqb (getD b 0 0) 0) refl
+    where
+      go : (m : Bool) → eqb (getD b 0 0) 0 ≡ m → slotOk rule (code (slot f) .read b 0) ≡ true
+      go true q = rw q refl
+      go false q = rw q (keeps b 1 (and-right _ _ (rw q at h)))
 
--- the relay that they hold breaks no clause of row 7
-pub ok-relay : (t : List ℕ) → wellFormed t ≡ true → tablesOk (relayOf t) ≡ true
-unfolding tablesOk relayOf
-ok-relay t h =
-    let f = formed t h in
-    and-both (f .clock)
-    (and-both (rows-keep port-coding portsAt portCount off t (f .ports))
-    (and-both (eq-eqb _ _ (listOf-length (λ i. slotOf localOf (rowAt localsAt localWidth t i)) localCount))
-    (and-both (rows-keep path-coding pathsAt pathCount empty t (f .paths))
-    (and-both (rows-keep link-coding linksAt linkCount empty t (f .links))
-    (and-both (rows-keep return-coding returnsAt returnCount empty t (f .returns))
-    (and-both (f .return-next)
-    (and-both (rows-keep hash-coding hashesAt hashCount empty t (f .hashes)) (f .hash-next))))))))
+  slots-keep : (n : ℕ) (t : List ℕ) (a : ℕ) → code (many n empty (slot f)) .fine t a ≡ true
+      → tableOk n (slotOk rule) (code (many n empty (slot f)) .read t a) ≡ true
+  slots-keep n t a h =
+      let w : ℕ = code (slot f) .width in
+      table-of (slotOk rule) n _ (listOf-length _ n)
+      (all-listOf (slotOk rule) (λ i. code (slot f) .read (part t (a + w * i) w) 0) n
+      (λ i l. slot-keeps (part t (a + w * i) w) (all-at _ n i h l)))
 
--- and any bytes hold one of the right shape
-pub shaped-of : (t : List ℕ) → Bytes t → length t ≡ tableSize → shaped (relayOf t) ≡ true
-unfolding shaped relayOf
-shaped-of t b e =
-    and-both (is-bytes addressWidth _ (part-length t ownAt addressWidth (omega arith)) (part-bytes t ownAt addressWidth b))
-    (and-both (rows-shaped local-coding localsAt localCount empty t b (omega arith))
-    (and-both (rows-shaped path-coding pathsAt pathCount empty t b (omega arith))
-    (and-both (rows-shaped link-coding linksAt linkCount empty t b (omega arith))
-    (and-both (rows-shaped return-coding returnsAt returnCount empty t b (omega arith))
-    (rows-shaped hash-coding hashesAt hashCount empty t b (omega arith))))))
+module _ (t : List ℕ) where
+  -- the relay that they hold breaks no clause of row 7
+  pub ok-relay : wellFormed t ≡ true → tablesOk (relayOf t) ≡ true
+  unfolding tablesOk relayOf rowsOk portBytesOk pathBytesOk linkBytesOk returnBytesOk hashBytesOk
+  ok-relay h =
+      let f = formed t h in
+      and-both (f .clock)
+      (and-both
+      (table-of portOk portCount _ (listOf-length _ portCount)
+      (all-listOf portOk _ portCount (λ i l. and-right _ _ (all-at _ portCount i (f .ports) l))))
+      (and-both (eq-eqb _ _ (listOf-length _ localCount))
+      (and-both (slots-keep pathOk pathForm (λ b a h. and-right _ _ h) pathCount t pathsAt (f .paths))
+      (and-both (slots-keep linkOk linkForm (λ b a h. and-right _ _ h) linkCount t linksAt (f .links))
+      (and-both (slots-keep returnOk returnForm (λ b a h. and-right _ _ h) returnCount t returnsAt (f .returns))
+      (and-both (f .return-next)
+      (and-both (slots-keep hashOk hashForm (λ b a h. and-right _ _ h) hashCount t hashesAt (f .hashes)) (f .hash-next))))))))
+
+  module _ (b : Bytes t) (h : wellFormed t ≡ true) where
+    -- tables that are read and written again are as they were
+    pub again : bytesOf (relayOf t) ≡ t
+    unfolding bytesOf relayOf
+    again = whole-again (lawful relayForm) t b (formed t h .size) (formed t h .fine)
+
+    -- and what they hold is of the right shape
+    pub relay-good : code relayForm .Good (relayOf t)
+    unfolding relayOf
+    relay-good = lawful relayForm .keeps t 0 b (let e = formed t h .size in omega (arith, e)) (formed t h .fine)
+
+    pub shaped-of : shaped (relayOf t) ≡ true
+    shaped-of = good-shaped (relayOf t) relay-good
 
 -- ---- a relay that is written
-ring-back : (x z : List ℕ) (a n limit : ℕ) → length x ≡ a → ltb n limit ≡ true → limit ≤ 65536
-    → number (part (x ++ (bigEndian ringWidth n ++ z)) a ringWidth) ≡ n
-ring-back x z a n limit lx h k =
-    let l : n < limit = ltb-true n limit h in
-    ap number (part-mid x (bigEndian ringWidth n) z a ringWidth lx (bigEndian-length ringWidth n)) ∙ number-bigEndian ringWidth n (omega arith)
-
 any-slot : (x : Slot (List ℕ)) → slotOk (λ y. true) x ≡ true
 unfolding slotOk
 any-slot empty = refl
 any-slot (used x) = refl
 
+-- any relay's bytes have the tables' size
+pub bytes-length : (r : Relay) → length (bytesOf r) ≡ tableSize
+unfolding bytesOf
+bytes-length r = lawful relayForm .wide r
+
+-- a ring's place stands in its two bytes
+ring-good : {A : Type 0} (f : Form A) (rule shape : A → Bool) (n : ℕ) (r : Ring A) → ((x : A) → rule x ≡ true → shape x ≡ true → code f .Good x)
+    → n ≤ 256 ^ ringWidth → ltb (r .next) n ≡ true → tableOk n (slotOk rule) (r .slots) ≡ true → all (slotOk shape) (r .slots) ≡ true
+    → code (ringForm n f) .Good r
+ring-good f rule shape n r each most place h k =
+    let l = ltb-true (r .next) n place in
+    let fits : r .next < 256 ^ ringWidth = omega (arith, l, most) in
+    (fits also place) also slots-good f rule shape n (r .slots) each h k
+
 module _ (r : Relay) (s : shaped r ≡ true) (h : tablesOk r ≡ true) where
-  shape : Shaped r
-  shape = shaped-parts r s
-
-  rules : Kept r
-  rules = kept r h
-
-  locals-kept : tableOk localCount (slotOk (λ x. true)) (r .locals) ≡ true
-  locals-kept = table-of (slotOk (λ x. true)) localCount (r .locals) (rules .locals) (all-each (slotOk (λ x. true)) (r .locals) any-slot)
-
-  own-back : part (bytesOf r) ownAt addressWidth ≡ r .own
-  own-back =
-      ap (λ (t : List ℕ). part t ownAt addressWidth) (at-own r)
-      ∙ part-mid [] (own-bytes r) _ 0 addressWidth refl (exactly-length addressWidth (r .own))
-      ∙ exactly-same addressWidth (r .own) (is-length addressWidth (r .own) (shape .own))
-
-  clock-back : number (part (bytesOf r) clockAt timeWidth) ≡ r .clock
-  clock-back =
-      ap (λ (t : List ℕ). number (part t clockAt timeWidth)) (at-own r)
-      ∙ ap number (part-mid (own-bytes r) (clock-bytes r) (after-clock r) clockAt timeWidth (clock-starts r) (bigEndian-length timeWidth (r .clock)))
-      ∙ time-back (r .clock) (rules .clock)
-
-  return-next-back : number (part (bytesOf r) returnNextAt ringWidth) ≡ r .returns .next
-  return-next-back =
-      ap (λ (t : List ℕ). number (part t returnNextAt ringWidth)) (at-return-next r)
-      ∙ ring-back (before-return-next r) (after-return-next r) returnNextAt (r .returns .next) returnCount (return-next-starts r) (rules .return-next) (omega arith)
-
-  hash-next-back : number (part (bytesOf r) hashNextAt ringWidth) ≡ r .hashes .next
-  hash-next-back =
-      ap (λ (t : List ℕ). number (part t hashNextAt ringWidth)) (at-hash-next r)
-      ∙ ring-back (before-hash-next r) (after-hash-next r) hashNextAt (r .hashes .next) hashCount (hash-next-starts r) (rules .hash-next) (omega arith)
+  good : code relayForm .Good r
+  good =
+      let shape = shaped-parts r s in
+      let rules = kept r h in
+      let ports = table-length portOk portCount (r .ports) (rules .ports) in
+      let modes = table-all portOk portCount (r .ports) (rules .ports) in
+      let any = all-from (slotOk (λ x. true)) (r .locals) empty (λ i l. any-slot (getD (r .locals) i empty)) in
+      let locals = table-of (slotOk (λ x. true)) localCount (r .locals) (rules .locals) any in
+      octets-good addressWidth (r .own) (shape .own)
+      also (time-good (r .clock) (rules .clock) also rules .clock)
+      also (ports also (λ i l. port-good _ (all-nth portOk (r .ports) i off modes (omega (arith, ports, l)))))
+      also slots-good localForm (λ x. true) (isBytes addressWidth) localCount (r .locals) (λ x e k. octets-good addressWidth x k) locals (shape .locals)
+      also slots-good pathForm pathOk pathShaped pathCount (r .paths) path-good (rules .paths) (shape .paths)
+      also slots-good linkForm linkOk linkShaped linkCount (r .links) link-good (rules .links) (shape .links)
+      also ring-good returnForm returnOk returnShaped returnCount (r .returns) return-good (omega arith) (rules .return-next) (rules .returns) (shape .returns)
+      also ring-good hashForm hashOk hashShaped hashCount (r .hashes) hash-good (omega arith) (rules .hash-next) (rules .hashes) (shape .hashes)
 
   -- what is written and read again is the relay
   pub back : relayOf (bytesOf r) ≡ r
-  unfolding relayOf
-  back =
-      rw (
-        own-back,
-        clock-back,
-        ap (rows portOf portsAt portWidth portCount) (at-ports r)
-            ∙ rows-back port-coding portsAt portCount off (before-ports r) (after-ports r) (r .ports) (ports-start r) (rules .ports) (all-each (λ p. true) (r .ports) (λ p. refl)),
-        ap (rows (slotOf localOf) localsAt localWidth localCount) (at-locals r)
-            ∙ rows-back local-coding localsAt localCount empty (before-locals r) (after-locals r) (r .locals) (locals-start r) locals-kept (shape .locals),
-        ap (rows (slotOf pathOf) pathsAt pathWidth pathCount) (at-paths r)
-            ∙ rows-back path-coding pathsAt pathCount empty (before-paths r) (after-paths r) (r .paths) (paths-start r) (rules .paths) (shape .paths),
-        ap (rows (slotOf linkOf) linksAt linkWidth linkCount) (at-links r)
-            ∙ rows-back link-coding linksAt linkCount empty (before-links r) (after-links r) (r .links) (links-start r) (rules .links) (shape .links),
-        return-next-back,
-        ap (rows (slotOf returnOf) returnsAt returnWidth returnCount) (at-returns r)
-            ∙ rows-back return-coding returnsAt returnCount empty (before-returns r) (after-returns r) (r .returns .slots) (returns-start r) (rules .returns) (shape .returns),
-        hash-next-back,
-        ap (rows (slotOf hashOf) hashesAt hashWidth hashCount) (at-hashes r)
-            ∙ rows-back hash-coding hashesAt hashCount empty (before-hashes r) [] (r .hashes .slots) (hashes-start r) (rules .hashes) (shape .hashes),
-      )
+  unfolding relayOf bytesOf
+  back = lawful relayForm .back r good
 
   -- what is written is well formed
   pub ok-bytes : wellFormed (bytesOf r) ≡ true
-  unfolding wellFormed
-  ok-bytes =
-      and-both (eq-eqb (length (bytesOf r)) tableSize (bytes-length r))
-      (and-both (ap timeOk clock-back ∙ rules .clock)
-      (and-both
-      (ap (rowsOk portBytesOk portsAt portWidth portCount) (at-ports r)
-      ∙ rows-fine port-coding portsAt portCount off (before-ports r) (after-ports r) (r .ports) (ports-start r) (rules .ports) (all-each (λ p. true) (r .ports) (λ p. refl)))
-      (and-both
-      (ap (rowsOk localBytesOk localsAt localWidth localCount) (at-locals r)
-      ∙ rows-fine local-coding localsAt localCount empty (before-locals r) (after-locals r) (r .locals) (locals-start r) locals-kept (shape .locals))
-      (and-both
-      (ap (rowsOk pathBytesOk pathsAt pathWidth pathCount) (at-paths r)
-      ∙ rows-fine path-coding pathsAt pathCount empty (before-paths r) (after-paths r) (r .paths) (paths-start r) (rules .paths) (shape .paths))
-      (and-both
-      (ap (rowsOk linkBytesOk linksAt linkWidth linkCount) (at-links r)
-      ∙ rows-fine link-coding linksAt linkCount empty (before-links r) (after-links r) (r .links) (links-start r) (rules .links) (shape .links))
-      (and-both (ap (λ (n : ℕ). ltb n returnCount) return-next-back ∙ rules .return-next)
-      (and-both
-      (ap (rowsOk returnBytesOk returnsAt returnWidth returnCount) (at-returns r)
-      ∙ rows-fine return-coding returnsAt returnCount empty (before-returns r) (after-returns r) (r .returns .slots) (returns-start r) (rules .returns) (shape .returns))
-      (and-both (ap (λ (n : ℕ). ltb n hashCount) hash-next-back ∙ rules .hash-next)
-      (ap (rowsOk hashBytesOk hashesAt hashWidth hashCount) (at-hashes r)
-      ∙ rows-fine hash-coding hashesAt hashCount empty (before-hashes r) [] (r .hashes .slots) (hashes-start r) (rules .hashes) (shape .hashes))))))))))
+  unfolding wellFormed bytesOf
+  ok-bytes = and-both (eq-eqb (length (bytesOf r)) tableSize (bytes-length r)) (lawful relayForm .passes r good)
 
   pub bytes-bytes : Bytes (bytesOf r)
   unfolding bytesOf
-  bytes-bytes =
-      more (field-octets addressWidth (r .own) (shape .own))
-      (more (number-octets timeWidth (r .clock))
-      (more (section-octets port-coding portsAt portCount off (r .ports) (rules .ports) (all-each (λ p. true) (r .ports) (λ p. refl)))
-      (more (section-octets local-coding localsAt localCount empty (r .locals) locals-kept (shape .locals))
-      (more (section-octets path-coding pathsAt pathCount empty (r .paths) (rules .paths) (shape .paths))
-      (more (section-octets link-coding linksAt linkCount empty (r .links) (rules .links) (shape .links))
-      (more (number-octets ringWidth (r .returns .next))
-      (more (section-octets return-coding returnsAt returnCount empty (r .returns .slots) (rules .returns) (shape .returns))
-      (more (number-octets ringWidth (r .hashes .next))
-      (section-octets hash-coding hashesAt hashCount empty (r .hashes .slots) (rules .hashes) (shape .hashes))))))))))
-      .each
+  bytes-bytes = lawful relayForm .bytes r good

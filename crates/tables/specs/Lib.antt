@@ -1,5 +1,7 @@
 -- How the tables hold a relay: one buffer of 71,116 bytes. docs/LAYOUT.md draws it.
+pub mod Forms
 pub mod Places
+pub mod Fields
 pub mod Records
 pub mod Layout
 pub mod Shape

@@ -1,82 +1,64 @@
--- Where each section of the tables stands, and how wide its records are. Each number once; the offsets follow from the widths.
+-- Where each section of the tables stands, and how wide its records are, as the layout has it.
 use mathlib.Core.Path.{_≡_, refl}
-use Prim.Native.Nat.{ℕ, _+_, _*_}
-use Rattle.rules.specs.Numbers.{portCount, localCount, pathCount, blobLimit, linkCount, returnCount, hashCount}
+use Prim.Native.Nat.{ℕ, _+_}
+use Rattle.codes.specs.Form.{slot, code, startOf}
+use Rattle.rules.specs.Numbers.{returnCount, hashCount}
+use Rattle.tables.specs.Forms.{portForm, localForm, pathForm, linkForm, returnForm, hashForm, ringForm, relayForm}
+pub use Rattle.tables.specs.Forms.{addressWidth, digestWidth, timeWidth, blobWidth, ringWidth}
 
--- ---- widths, in bytes
-abbrev pub addressWidth : ℕ
-addressWidth = 16
-
-abbrev pub digestWidth : ℕ
-digestWidth = 32
-
-abbrev pub timeWidth : ℕ
-timeWidth = 8
-
-abbrev pub blobWidth : ℕ
-blobWidth = 10
-
-abbrev pub ringWidth : ℕ
-ringWidth = 2
-
--- on, mode
+-- ---- widths, in bytes. A record's first byte is its mark
 abbrev pub portWidth : ℕ
-portWidth = 2
+portWidth = code portForm .width
 
--- mark, address
 abbrev pub localWidth : ℕ
-localWidth = 17
+localWidth = code (slot localForm) .width
 
--- mark, destination, port, hops, next hop, expiry, blob count, blob places
 abbrev pub pathWidth : ℕ
-pathWidth = 44 + blobLimit * blobWidth
+pathWidth = code (slot pathForm) .width
 
--- mark, id, asking port, answering port, taken hops, remaining hops, proved, expiry
 abbrev pub linkWidth : ℕ
-linkWidth = 30
+linkWidth = code (slot linkForm) .width
 
--- mark, key, arrival port, leaving port, expiry
 abbrev pub returnWidth : ℕ
-returnWidth = 27
+returnWidth = code (slot returnForm) .width
 
--- mark, hash, expiry
 abbrev pub hashWidth : ℕ
-hashWidth = 41
+hashWidth = code (slot hashForm) .width
 
--- ---- sections, in the order in which a saved file has them
+-- ---- sections
 abbrev pub ownAt : ℕ
-ownAt = 0
+ownAt = startOf relayForm 0
 
 abbrev pub clockAt : ℕ
-clockAt = ownAt + addressWidth
+clockAt = startOf relayForm 1
 
 abbrev pub portsAt : ℕ
-portsAt = clockAt + timeWidth
+portsAt = startOf relayForm 2
 
 abbrev pub localsAt : ℕ
-localsAt = portsAt + portCount * portWidth
+localsAt = startOf relayForm 3
 
 abbrev pub pathsAt : ℕ
-pathsAt = localsAt + localCount * localWidth
+pathsAt = startOf relayForm 4
 
 abbrev pub linksAt : ℕ
-linksAt = pathsAt + pathCount * pathWidth
+linksAt = startOf relayForm 5
 
 -- the returns' ring place stands before its records, and the hashes' too
 abbrev pub returnNextAt : ℕ
-returnNextAt = linksAt + linkCount * linkWidth
+returnNextAt = startOf relayForm 6
 
 abbrev pub returnsAt : ℕ
-returnsAt = returnNextAt + ringWidth
+returnsAt = returnNextAt + startOf (ringForm returnCount returnForm) 1
 
 abbrev pub hashNextAt : ℕ
-hashNextAt = returnsAt + returnCount * returnWidth
+hashNextAt = startOf relayForm 7
 
 abbrev pub hashesAt : ℕ
-hashesAt = hashNextAt + ringWidth
+hashesAt = hashNextAt + startOf (ringForm hashCount hashForm) 1
 
 abbrev pub tableSize : ℕ
-tableSize = hashesAt + hashCount * hashWidth
+tableSize = code relayForm .width
 
 -- 71,116 bytes: under 72 KiB
 table-size : tableSize ≡ 71116

@@ -59,7 +59,7 @@ module _ (v : View) (a : Arrival) where
 
 -- the blobs of a used record
 held-blobs : (row : List ℕ) (p : Path) → slotOf pathOf row ≡ used p → blobsOf row ≡ p .blobs
-unfolding slotOf pathOf _then_otherwise_
+unfolding slotOf blobsOf pathOf _then_otherwise_
 held-blobs row p e = go (eqb (getD row 0 0) 0) refl
   where
     go : (x : Bool) → eqb (getD row 0 0) 0 ≡ x → blobsOf row ≡ p .blobs

@@ -11,6 +11,7 @@ use Rattle.octets.proofs.Part.{patch-join}
 use Rattle.rules.specs.Relay.{used, Return, Remembered}
 use Rattle.rules.specs.declared.Link.{Link}
 use Rattle.tables.specs.Places.{addressWidth, digestWidth, timeWidth, linkWidth, returnWidth, hashWidth}
+use Rattle.tables.specs.Fields.{pathPortAt, pathNextHopAt, pathExpiryAt, linkAskingAt, linkExpiryAt, returnArrivalAt, returnExpiryAt, hashExpiryAt}
 use Rattle.tables.specs.Records.{markOf, slotBytes, linkBytes, returnBytes, hashBytes}
 use Rattle.tables.proofs.All.{exactly-same}
 use Rattle.update.specs.declared.Announced.{Announced}
@@ -37,7 +38,7 @@ marked e = record { is = e; long = refl }
 module _ (t : List ℕ) (a : ℕ) where
   -- ---- a remembered hash
   pub hash-pieces : (t1 t2 t3 : List ℕ) (m : Remembered) → length (m .hash) ≡ digestWidth → a + hashWidth ≤ length t
-      → t1 ≡ patch t a (1 ∷ []) → t2 ≡ patch t1 (a + 1) (m .hash) → t3 ≡ patch t2 (a + 33) (bigEndian timeWidth (m .expiry))
+      → t1 ≡ patch t a (1 ∷ []) → t2 ≡ patch t1 (a + 1) (m .hash) → t3 ≡ patch t2 (a + hashExpiryAt) (bigEndian timeWidth (m .expiry))
       → t3 ≡ patch t a (slotBytes hashWidth hashBytes (used m))
   unfolding slotBytes hashBytes
   hash-pieces t1 t2 t3 m l fits e1 e2 e3 =
@@ -47,8 +48,8 @@ module _ (t : List ℕ) (a : ℕ) where
 
   -- ---- a return record
   pub return-pieces : (t1 t2 t3 t4 : List ℕ) (x : Return) → length (x .key) ≡ addressWidth → a + returnWidth ≤ length t
-      → t1 ≡ patch t a (1 ∷ []) → t2 ≡ patch t1 (a + 1) (x .key) → t3 ≡ patch t2 (a + 17) (x .arrival ∷ x .leaving ∷ [])
-      → t4 ≡ patch t3 (a + 19) (bigEndian timeWidth (x .expiry))
+      → t1 ≡ patch t a (1 ∷ []) → t2 ≡ patch t1 (a + 1) (x .key) → t3 ≡ patch t2 (a + returnArrivalAt) (x .arrival ∷ x .leaving ∷ [])
+      → t4 ≡ patch t3 (a + returnExpiryAt) (bigEndian timeWidth (x .expiry))
       → t4 ≡ patch t a (slotBytes returnWidth returnBytes (used x))
   unfolding slotBytes returnBytes
   return-pieces t1 t2 t3 t4 x l fits e1 e2 e3 e4 =
@@ -60,8 +61,8 @@ module _ (t : List ℕ) (a : ℕ) where
   -- ---- a link
   pub link-pieces : (t1 t2 t3 t4 : List ℕ) (x : Link) (m : ℕ) → m ≡ markOf (x .proved) → length (x .id) ≡ addressWidth → a + linkWidth ≤ length t
       → t1 ≡ patch t a (1 ∷ []) → t2 ≡ patch t1 (a + 1) (x .id)
-      → t3 ≡ patch t2 (a + 17) (x .asking ∷ x .answering ∷ x .taken .0 ∷ x .remaining .0 ∷ m ∷ [])
-      → t4 ≡ patch t3 (a + 22) (bigEndian timeWidth (x .expiry))
+      → t3 ≡ patch t2 (a + linkAskingAt) (x .asking ∷ x .answering ∷ x .taken .0 ∷ x .remaining .0 ∷ m ∷ [])
+      → t4 ≡ patch t3 (a + linkExpiryAt) (bigEndian timeWidth (x .expiry))
       → t4 ≡ patch t a (slotBytes linkWidth linkBytes (used x))
   unfolding slotBytes linkBytes
   link-pieces t1 t2 t3 t4 x m p l fits e1 e2 e3 e4 =
@@ -73,8 +74,8 @@ module _ (t : List ℕ) (a : ℕ) where
   -- ---- a path: what stands before its blobs
   pub head-pieces : (t1 t2 t3 t4 t5 : List ℕ) (x : Announced) → length (x .destination) ≡ addressWidth → length (x .«next_hop») ≡ addressWidth
       → a + headWidth ≤ length t
-      → t1 ≡ patch t a (1 ∷ []) → t2 ≡ patch t1 (a + 1) (x .destination) → t3 ≡ patch t2 (a + 17) (x .port ∷ x .hops ∷ [])
-      → t4 ≡ patch t3 (a + 19) (x .«next_hop») → t5 ≡ patch t4 (a + 35) (bigEndian timeWidth (x .expiry))
+      → t1 ≡ patch t a (1 ∷ []) → t2 ≡ patch t1 (a + 1) (x .destination) → t3 ≡ patch t2 (a + pathPortAt) (x .port ∷ x .hops ∷ [])
+      → t4 ≡ patch t3 (a + pathNextHopAt) (x .«next_hop») → t5 ≡ patch t4 (a + pathExpiryAt) (bigEndian timeWidth (x .expiry))
       → t5 ≡ patch t a (headBytes x)
   unfolding headBytes
   head-pieces t1 t2 t3 t4 t5 x ld ln fits e1 e2 e3 e4 e5 =

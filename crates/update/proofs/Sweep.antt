@@ -13,6 +13,7 @@ use Rattle.octets.specs.Part.{part, patch}
 use Rattle.octets.proofs.Choice.{same-agree}
 use Rattle.octets.proofs.Part.{part-length}
 use Rattle.octets.proofs.ListOf.{mixed, mixed-length, mixed-at, mixed-more, mixed-all}
+use Rattle.codes.proofs.Inside.{item, _within_}
 use Rattle.rules.specs.Numbers.{returnCount}
 use Rattle.rules.specs.Relay.{Slot, empty, Return, Relay, holds, withReturns}
 use Rattle.rules.specs.View.{isLiveReturn}
@@ -20,10 +21,7 @@ use Rattle.rules.specs.Writes.{emptiedIf, emptiedWhere}
 use Rattle.tables.specs.Places.{addressWidth, returnWidth, returnsAt}
 use Rattle.tables.specs.Records.{slotOf, slotBytes, returnOf, returnBytes}
 use Rattle.tables.specs.Layout.{rowAt, relayOf, bytesOf, wellFormed}
-use Rattle.tables.proofs.Coding.{row-there}
-use Rattle.tables.proofs.Codings.{return-coding}
-use Rattle.tables.proofs.Sections.{before-returns, after-returns, returns-start, at-returns}
-use Rattle.tables.proofs.Patches.{patch-return}
+use Rattle.tables.proofs.Patches.{returns-in, patch-return}
 use Rattle.tables.proofs.Seen.{return-seen, returns-length}
 use Rattle.tables.proofs.Whole.{again}
 use Rattle.update.specs.Written.{returnEmptied, emptiedIfLive, returnsEmptied}
@@ -34,10 +32,10 @@ pub key-seen : (b key : List ℕ) → length b ≡ returnWidth → length key �
 key-seen b key lb lk = rw lk (same-agree addressWidth (part b 1 addressWidth) key (part-length b 1 addressWidth (omega arith)) lk)
 
 -- a relay's return record, in its bytes
-there : (r : Relay) (i : ℕ) → i < returnCount → rowAt returnsAt returnWidth (bytesOf r) i ≡ slotBytes returnWidth returnBytes (getD (r .returns .slots) i empty)
-there r i l =
-    ap (λ (t : List ℕ). rowAt returnsAt returnWidth t i) (at-returns r)
-    ∙ row-there return-coding returnsAt returnCount empty (before-returns r) (after-returns r) (r .returns .slots) (returns-start r) i l
+there : (r : Relay) (i : ℕ) → i < returnCount → length (r .returns .slots) ≡ returnCount
+    → rowAt returnsAt returnWidth (bytesOf r) i ≡ slotBytes returnWidth returnBytes (getD (r .returns .slots) i empty)
+unfolding bytesOf returnBytes
+there r i l e = (item i l within returns-in) .place .there r ((tt, tt), e)
 
 module _ (clock : ℕ) (key t : List ℕ) where
   abbrev old : List (Slot Return)
@@ -68,15 +66,19 @@ module _ (clock : ℕ) (key t : List ℕ) where
       inside : i < length old
       inside = subst (λ (n : ℕ). i < n) (sym (returns-length t)) l
 
+      all-there : length (sweptTo i .returns .slots) ≡ returnCount
+      unfolding sweptTo withReturns
+      all-there = mixed-length new old alike i (omega (arith, inside)) ∙ returns-length t
+
       -- place i is still as it was
       kept : slotOf returnOf (rowAt returnsAt returnWidth u i) ≡ getD old i empty
       unfolding sweptTo withReturns
       kept =
           ap (slotOf returnOf)
           (ap (λ (x : List ℕ). rowAt returnsAt returnWidth x i) e
-          ∙ there (sweptTo i) i l
+          ∙ there (sweptTo i) i l all-there
           ∙ ap (slotBytes returnWidth returnBytes) (mixed-at new old alike i empty inside)
-          ∙ sym (ap (λ (x : List ℕ). rowAt returnsAt returnWidth x i) (sym (again t b h)) ∙ there (relayOf t) i l))
+          ∙ sym (ap (λ (x : List ℕ). rowAt returnsAt returnWidth x i) (sym (again t b h)) ∙ there (relayOf t) i l (returns-length t)))
           ∙ sym (return-seen t i l)
 
       swept : getD new i empty ≡ emptiedIf (isLiveReturn clock key) (getD old i empty)
@@ -100,7 +102,7 @@ module _ (clock : ℕ) (key t : List ℕ) where
               let emptied : empty ≡ getD new i empty = sym (swept ∙ rw q) in
               gone
               ∙ ap (λ (x : List ℕ). patch x (returnsAt + returnWidth * i) (slotBytes returnWidth returnBytes empty)) e
-              ∙ patch-return (sweptTo i) i empty (mixed-length new old alike i (omega (arith, inside)) ∙ returns-length t) l
+              ∙ patch-return (sweptTo i) i empty all-there l
               ∙ ap bytesOf (next-relay empty emptied)
           go false q =
               let stays : v ≡ u = w ∙ rw (kept, q) in

@@ -2,17 +2,18 @@
 -- For the contracts of helpers: not part of what a reader must believe.
 use Prim.Native.Nat.{ℕ, _+_, _-_, _*_, _%_}
 use mathlib.Core.List.{List, _∷_, _++_}
-use lib.ListN.{getD}
-use Rattle.octets.specs.Index.{listOf}
 use Rattle.octets.specs.Choice.{_then_otherwise_}
-use Rattle.octets.specs.Part.{part, patch}
+use Rattle.octets.specs.Part.{patch}
 use Rattle.octets.specs.BigEndian.{bigEndian}
 use Rattle.rules.specs.Numbers.{blobLimit, returnCount, hashCount}
 use Rattle.rules.specs.Relay.{empty, used, Blobs, Path, Return, Remembered, holds, withReturns}
 use Rattle.rules.specs.View.{isLiveReturn}
 use Rattle.rules.specs.Writes.{emptiedWhere}
 use Rattle.rules.specs.declared.Link.{Link}
+use Rattle.codes.specs.Form.{code}
+use Rattle.tables.specs.Forms.{blobsForm}
 use Rattle.tables.specs.Places.{addressWidth, timeWidth, ringWidth, blobWidth, pathWidth, linkWidth, returnWidth, hashWidth, clockAt, pathsAt, linksAt, returnNextAt, returnsAt, hashNextAt, hashesAt}
+use Rattle.tables.specs.Fields.{pathBlobsAt}
 use Rattle.tables.specs.Records.{exactly, slotOf, slotBytes, pathBytes, linkBytes, returnOf, returnBytes, hashBytes}
 use Rattle.tables.specs.Layout.{rowAt, relayOf, bytesOf}
 use Rattle.update.specs.declared.Announced.{Announced}
@@ -44,7 +45,7 @@ announced x blobs =
 
 -- a record's bytes before its blobs
 abbrev pub headWidth : ℕ
-headWidth = 1 + addressWidth + 2 + addressWidth + timeWidth
+headWidth = pathBlobsAt
 
 unfoldable pub headBytes : Announced → List ℕ
 headBytes x =
@@ -52,17 +53,13 @@ headBytes x =
     ∷ (exactly addressWidth (x .destination)
     ++ (x .port ∷ x .hops ∷ (exactly addressWidth (x .«next_hop») ++ bigEndian timeWidth (x .expiry))))
 
--- its blobs' bytes: the count, then the places
-abbrev pub blobsWidth : ℕ
-blobsWidth = 1 + blobWidth * blobLimit
-
--- .. and of the places behind the oldest
+-- the bytes of the blob places behind the oldest
 abbrev pub newerWidth : ℕ
 newerWidth = blobWidth * (blobLimit - 1)
 
 -- the blobs that these bytes hold
 unfoldable pub blobsIn : List ℕ → Blobs
-blobsIn s = record { count = getD s 0 0; places = listOf (λ i. part s (1 + blobWidth * i) blobWidth) blobLimit }
+blobsIn s = code blobsForm .read s 0
 
 -- ---- a link
 unfoldable pub linkWritten : List ℕ → ℕ → Link → List ℕ

@@ -9,8 +9,9 @@ ghost use Rattle.octets.specs.Part.{part, patch};
 ghost use Rattle.rules.specs.Numbers.{blobLimit};
 ghost use Rattle.rules.specs.Blobs.{oneBlob, addBlob};
 ghost use Rattle.tables.specs.Places.{blobWidth};
+ghost use Rattle.tables.specs.Fields.{blobsWidth, blobPlacesAt};
 ghost use Rattle.tables.specs.Records.{blobsBytes};
-ghost use Rattle.update.specs.Written.{blobsWidth, newerWidth, blobsIn};
+ghost use Rattle.update.specs.Written.{newerWidth, blobsIn};
 
 // Where the blob places stand, where the second one does, and how many bytes those behind the oldest take.
 const PLACES_AT: usize = 1;
@@ -33,7 +34,7 @@ pub fn one_blob(s: &mut [u8], blob: [u8; 10])
 // Moves all blobs one place down, over the oldest, and puts the new one into the last place.
 fn push_blob(s: &mut [u8], blob: [u8; 10])
     requires { ⌜ length (now s) ≡ blobsWidth ⌝ }
-    ensures { λ _. ⌜ now (s .exit) ≡ patch (now (s .entry)) 1 (part (now (s .entry)) (1 + blobWidth) newerWidth ++ blob) ⌝ }
+    ensures { λ _. ⌜ now (s .exit) ≡ patch (now (s .entry)) blobPlacesAt (part (now (s .entry)) (blobPlacesAt + blobWidth) newerWidth ++ blob) ⌝ }
 {
     let mut newer = [0u8; NEWER];
     octets::copy(&mut newer, &s[SECOND_AT..SECOND_AT + NEWER]);

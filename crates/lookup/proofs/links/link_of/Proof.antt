@@ -1,4 +1,4 @@
-use Rattle.tables.specs.Records.{isYes, linkOf}
+use Rattle.tables.specs.Records.{linkOf}
 use borrow.Author.Needs.{needs}
 use Rattle.lookup.proofs.links.link_of.Statement.{statement}
 use Rattle.lookup.proofs.links.link_of.Tie as tie
@@ -25,7 +25,7 @@ shared-slice-read-t15 : tie.Need-shared-slice-read-t15
 shared-slice-read-t15 c = search needs
 
 returns : tie.Need-returns
-unfolding linkOf isYes
+unfolding linkOf
 returns c = rw (c .before .before .before .before .before .before .address-at .ensures, c .before .before .before .before .before .number-of-8-at .ensures)
 
 pub link-of-spec : {M : Type 1} → statement M

@@ -12,11 +12,11 @@ record-at-requires : tie.Need-record-at-requires
 record-at-requires c κs = search needs
 
 greatest-of-requires : tie.Need-greatest-of-requires
-unfolding pathOf
+unfolding pathOf blobsOf
 greatest-of-requires c κs = (search needs, subst (λ (b : List ℕ). blobsOf b .count ≤ blobLimit) (sym (c .record-at .ensures .0)) (c .before .before .pre .2))
 
 returns : tie.Need-returns
-unfolding pathOf
+unfolding pathOf blobsOf
 returns c = c .greatest-of .ensures ∙ ap (λ (b : List ℕ). greatestEmission (held (blobsOf b))) (c .before .record-at .ensures .0)
 
 pub greatest-emission-spec : {M : Type 1} → statement M

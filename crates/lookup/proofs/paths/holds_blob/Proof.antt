@@ -15,11 +15,11 @@ slice-aggregate-has-blob : tie.Need-slice-aggregate-has-blob
 slice-aggregate-has-blob c = search needs
 
 has-blob-requires : tie.Need-has-blob-requires
-unfolding pathOf
+unfolding pathOf blobsOf
 has-blob-requires c κs = (search needs, search needs, subst (λ (b : List ℕ). blobsOf b .count ≤ blobLimit) (sym (c .before .record-at .ensures .0)) (c .before .before .before .pre .2))
 
 returns : tie.Need-returns
-unfolding pathOf
+unfolding pathOf blobsOf
 returns c =
     let s = c .before .before .before .before in
     c .has-blob .ensures ∙ ap (λ (b : List ℕ). isAmong (s .args .t3) (held (blobsOf b))) (c .before .before .record-at .ensures .0)

@@ -1,8 +1,6 @@
 use Prim.Native.Nat.{ℕ}
 use mathlib.Core.Path.{ap, _∙_}
 use mathlib.Core.List.{List}
-use Rattle.octets.specs.Part.{part}
-use Rattle.tables.specs.Places.{addressWidth}
 use Rattle.tables.specs.Records.{pathOf}
 use borrow.Author.Needs.{needs}
 use Rattle.lookup.proofs.paths.path_next_hop.Statement.{statement}
@@ -16,7 +14,7 @@ address-at-requires c κs = search needs
 
 returns : tie.Need-returns
 unfolding pathOf
-returns c = c .address-at .ensures ∙ ap (λ (b : List ℕ). part b 19 addressWidth) (c .before .record-at .ensures .0)
+returns c = c .address-at .ensures ∙ ap (λ (b : List ℕ). pathOf b .nextHop) (c .before .record-at .ensures .0)
 
 pub path-next-hop-spec : {M : Type 1} → statement M
 path-next-hop-spec = tie.close (tie.spec record-at-requires address-at-requires returns)

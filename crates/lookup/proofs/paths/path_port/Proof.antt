@@ -1,7 +1,6 @@
 use Prim.Native.Nat.{ℕ}
 use mathlib.Core.Path.{ap}
 use mathlib.Core.List.{List}
-use lib.ListN.{getD}
 use Rattle.tables.specs.Records.{pathOf}
 use borrow.Author.Needs.{needs}
 use Rattle.lookup.proofs.paths.path_port.Statement.{statement}
@@ -15,7 +14,7 @@ shared-slice-read-result c = search needs
 
 returns : tie.Need-returns
 unfolding pathOf
-returns c = ap (λ (b : List ℕ). getD b 17 0) (c .before .record-at .ensures .0)
+returns c = ap (λ (b : List ℕ). pathOf b .port) (c .before .record-at .ensures .0)
 
 pub path-port-spec : {M : Type 1} → statement M
 path-port-spec = tie.close (tie.spec record-at-requires shared-slice-read-result returns)

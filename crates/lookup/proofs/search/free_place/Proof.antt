@@ -3,7 +3,7 @@ use mathlib.Core.Path.{_≡_, ap}
 use mathlib.Core.Bool.{not}
 use Rattle.lookup.specs.Search.{isLive, lowestRow}
 use Rattle.lookup.proofs.Searches.{none-yet, not-here, found-here, nowhere}
-use Rattle.tables.proofs.Coding.{row-end}
+use Rattle.tables.proofs.Lent.{row-end}
 use native.Mathlib.Omega.{arith}
 use borrow.Author.Needs.{needs}
 use Rattle.lookup.proofs.search.free_place.Statement.{statement}

@@ -8,7 +8,7 @@ use Rattle.octets.proofs.Part.{part-range, range-length}
 use Rattle.lookup.specs.Search.{isLiveOf, lowestRow}
 use Rattle.lookup.proofs.Searches.{none-yet, not-here, found-here, nowhere}
 use Rattle.tables.specs.Layout.{rowAt}
-use Rattle.tables.proofs.Coding.{row-end}
+use Rattle.tables.proofs.Lent.{row-end}
 use native.Mathlib.Omega.{arith}
 use borrow.Author.Needs.{needs}
 use Rattle.lookup.proofs.search.live_place.Statement.{statement}

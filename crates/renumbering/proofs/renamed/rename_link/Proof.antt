@@ -1,8 +1,9 @@
 use Rattle.octets.proofs.Bytes.{known-bytes}
 use Rattle.rules.specs.Renumbering.{renameLink}
 use Rattle.tables.specs.Places.{linkWidth}
+use Rattle.tables.specs.Fields.{linkAskingAt, linkAnsweringAt}
 use Rattle.tables.specs.Records.{linkOf, linkBytes}
-use Rattle.tables.proofs.Codings.{link-coding}
+use Rattle.tables.proofs.Lent.{link-lent}
 use Rattle.renumbering.proofs.Moves.{unused-stays, link-ports-small, link-renamed}
 use native.Mathlib.Omega.{arith}
 use borrow.Author.Needs.{needs}
@@ -16,7 +17,7 @@ slice-read-first : tie.Need-slice-read-first
 slice-read-first c = search needs
 
 cast-first : tie.Need-cast-first
-cast-first c = omega (arith, c .before .before .before .before .slice-known .given 17)
+cast-first c = omega (arith, c .before .before .before .before .slice-known .given linkAskingAt)
 
 shared-slice-read-first : tie.Need-shared-slice-read-first
 shared-slice-read-first c = let h = link-ports-small (c .before .before .before .before .before .before .args .b .now) (c .before .before .before .before .before .before .args .map .now) (known-bytes (c .before .before .before .before .before .before .args .b .now) (c .before .before .before .before .before .slice-known .given)) (c .before .before .if1 .taken) (c .before .before .before .before .before .before .pre .0) in omega (arith, h .0, c .before .before .before .before .before .before .pre .2)
@@ -25,7 +26,7 @@ slice-read-second : tie.Need-slice-read-second
 slice-read-second c = search needs
 
 cast-second : tie.Need-cast-second
-cast-second c = omega (arith, c .before .before .before .before .before .before .slice-known .given 18)
+cast-second c = omega (arith, c .before .before .before .before .before .before .slice-known .given linkAnsweringAt)
 
 shared-slice-read-second : tie.Need-shared-slice-read-second
 shared-slice-read-second c = let h = link-ports-small (c .before .before .before .before .before .before .before .before .args .b .now) (c .before .before .before .before .before .before .before .before .args .map .now) (known-bytes (c .before .before .before .before .before .before .before .before .args .b .now) (c .before .before .before .before .before .before .before .slice-known .given)) (c .before .before .before .before .if1 .taken) (c .before .before .before .before .before .before .before .before .pre .0) in omega (arith, h .1, c .before .before .before .before .before .before .before .before .pre .2)
@@ -43,7 +44,7 @@ returns : tie.Need-returns
 returns c = link-renamed (c .before .before .before .before .before .before .before .before .before .before .before .before .before .before .before .before .args .b .now) (c .before .before .before .before .before .before .before .before .before .before .before .before .before .before .before .before .args .map .now) (known-bytes (c .before .before .before .before .before .before .before .before .before .before .before .before .before .before .before .before .args .b .now) (c .before .before .before .before .before .before .before .before .before .before .before .before .before .before .before .slice-known .given)) (c .before .before .before .before .before .before .before .before .before .before .before .before .if1 .taken) (c .before .before .before .before .before .before .before .before .before .before .before .before .before .before .before .before .pre .0) (c .before .before .before .before .before .before .before .before .before .before .before .before .before .before .before .before .pre .1) _ _ (c .before .before .before .before .before .before .set-at .ensures) (c .before .before .set-at2 .ensures)
 
 returns-2 : tie.Need-returns-2
-returns-2 c = unused-stays linkWidth linkBytes linkOf link-coding (renameLink (c .before .before .before .before .args .map .now)) (c .before .before .before .before .args .b .now) (known-bytes (c .before .before .before .before .args .b .now) (c .before .before .before .slice-known .given)) (c .before .before .before .before .pre .1) (c .before .before .before .before .pre .0) (c .if1 .left)
+returns-2 c = unused-stays linkWidth linkBytes linkOf link-lent (renameLink (c .before .before .before .before .args .map .now)) (c .before .before .before .before .args .b .now) (known-bytes (c .before .before .before .before .args .b .now) (c .before .before .before .slice-known .given)) (c .before .before .before .before .pre .1) (c .before .before .before .before .pre .0) (c .if1 .left)
 
 pub rename-link-spec : {M : Type 1} → statement M
 rename-link-spec =

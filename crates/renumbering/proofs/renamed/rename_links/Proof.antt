@@ -12,7 +12,7 @@ use Rattle.rules.specs.declared.Link.{Link}
 use Rattle.rules.specs.Renumbering.{renameLink, renameSlot}
 use Rattle.tables.specs.Places.{linkWidth, linksAt, tableSize}
 use Rattle.tables.specs.Records.{slotOf, slotBytes, linkOf, linkBytes, linkBytesOk}
-use Rattle.tables.proofs.Codings.{link-coding}
+use Rattle.tables.proofs.Lent.{link-lent}
 use Rattle.renumbering.specs.Renamed.{renamedLinks}
 use Rattle.renumbering.proofs.Section.{upTo, up-none, row-ready, up-more, up-all}
 use native.Mathlib.Omega.{arith}
@@ -27,7 +27,7 @@ abbrev μ-loop : tie.MeasureT-loop
 μ-loop t₀ map i₀ t i = linkCount - i
 
 loop-holds : tie.Need-loop-holds Inv-loop μ-loop
-loop-holds c = (search needs, (search needs, up-none link-coding linksAt linkCount empty (renameSlot (renameLink (c .before .before .args .map .now))) (c .before .before .args .t .now) (known-bytes (c .before .before .args .t .now) (c .before .slice-known .given)) (omega (arith, c .before .before .pre .1)) (c .before .before .pre .0)))
+loop-holds c = (search needs, (search needs, up-none link-lent linksAt linkCount empty (renameSlot (renameLink (c .before .before .args .map .now))) (c .before .before .args .t .now) (known-bytes (c .before .before .args .t .now) (c .before .slice-known .given)) (omega (arith, c .before .before .pre .1)) (c .before .before .pre .0)))
 
 mul-at : tie.Need-mul-at Inv-loop μ-loop
 mul-at c = search needs
@@ -48,7 +48,7 @@ part-rename-link-end : tie.Need-part-rename-link-end Inv-loop μ-loop
 part-rename-link-end c = search needs
 
 rename-link-requires : tie.Need-rename-link-requires Inv-loop μ-loop
-rename-link-requires c κs = (ap linkBytesOk (part-range (c .before .before .loop .t) (linksAt + linkWidth * c .before .before .loop .i) linkWidth) ∙ row-ready link-coding linksAt linkCount empty (renameSlot (renameLink (c .before .before .before .before .before .args .map .now))) (c .before .before .before .before .before .args .t .now) (known-bytes (c .before .before .before .before .before .args .t .now) (c .before .before .before .before .slice-known .given)) (omega (arith, c .before .before .before .before .before .pre .1)) (c .before .before .before .before .before .pre .0) (c .before .before .loop .t) (c .before .before .loop .i) (c .before .loop-test .taken) (c .before .before .loop .inv .1 .1), range-length (c .before .before .loop .t) (linksAt + linkWidth * c .before .before .loop .i) linkWidth (omega (arith, c .before .before .loop .inv .1 .0, c .before .loop-test .taken)), c .before .before .before .before .before .pre .2)
+rename-link-requires c κs = (ap linkBytesOk (part-range (c .before .before .loop .t) (linksAt + linkWidth * c .before .before .loop .i) linkWidth) ∙ row-ready link-lent linksAt linkCount empty (renameSlot (renameLink (c .before .before .before .before .before .args .map .now))) (c .before .before .before .before .before .args .t .now) (known-bytes (c .before .before .before .before .before .args .t .now) (c .before .before .before .before .slice-known .given)) (omega (arith, c .before .before .before .before .before .pre .1)) (c .before .before .before .before .before .pre .0) (c .before .before .loop .t) (c .before .before .loop .i) (c .before .loop-test .taken) (c .before .before .loop .inv .1 .1), range-length (c .before .before .loop .t) (linksAt + linkWidth * c .before .before .loop .i) linkWidth (omega (arith, c .before .before .loop .inv .1 .0, c .before .loop-test .taken)), c .before .before .before .before .before .pre .2)
 
 add-i : tie.Need-add-i Inv-loop μ-loop
 add-i c = search needs
@@ -62,16 +62,16 @@ loop-again c = let t = c .before .before .before .before .before .loop .t in
     let s : Slot Link = renameSlot (renameLink (c .before .before .before .before .before .before .before .before .args .map .now)) (slotOf linkOf (part t a linkWidth)) in
     let w : putMid a (a + linkWidth - a) t (c .before .before .rename-link .last .0) ≡ patch t a (slotBytes linkWidth linkBytes s) =
     ap (λ (x : List ℕ). putMid a (a + linkWidth - a) t x) (c .before .before .rename-link .ensures ∙ ap (λ (x : List ℕ). slotBytes linkWidth linkBytes (renameSlot (renameLink (c .before .before .before .before .before .before .before .before .args .map .now)) (slotOf linkOf x))) (part-range t a linkWidth))
-    ∙ patch-range t a linkWidth (slotBytes linkWidth linkBytes s) (link-coding .wide s) in
-    let k : length (slotBytes linkWidth linkBytes s) ≡ linkWidth = link-coding .wide s in
-    (search needs, (ap length w ∙ patch-length t a (slotBytes linkWidth linkBytes s) (omega (arith, k, c .before .before .before .before .before .loop .inv .1 .0, c .before .before .before .before .loop-test .taken)) ∙ c .before .before .before .before .before .loop .inv .1 .0, up-more link-coding linksAt linkCount empty (renameSlot (renameLink (c .before .before .before .before .before .before .before .before .args .map .now))) (c .before .before .before .before .before .before .before .before .args .t .now) (known-bytes (c .before .before .before .before .before .before .before .before .args .t .now) (c .before .before .before .before .before .before .before .slice-known .given)) (omega (arith, c .before .before .before .before .before .before .before .before .pre .1)) (c .before .before .before .before .before .before .before .before .pre .0) t (c .before .before .before .before .before .loop .i) (c .before .before .before .before .loop-test .taken) (c .before .before .before .before .before .loop .inv .1 .1) _ w))
+    ∙ patch-range t a linkWidth (slotBytes linkWidth linkBytes s) (link-lent .wide s) in
+    let k : length (slotBytes linkWidth linkBytes s) ≡ linkWidth = link-lent .wide s in
+    (search needs, (ap length w ∙ patch-length t a (slotBytes linkWidth linkBytes s) (omega (arith, k, c .before .before .before .before .before .loop .inv .1 .0, c .before .before .before .before .loop-test .taken)) ∙ c .before .before .before .before .before .loop .inv .1 .0, up-more link-lent linksAt linkCount empty (renameSlot (renameLink (c .before .before .before .before .before .before .before .before .args .map .now))) (c .before .before .before .before .before .before .before .before .args .t .now) (known-bytes (c .before .before .before .before .before .before .before .before .args .t .now) (c .before .before .before .before .before .before .before .slice-known .given)) (omega (arith, c .before .before .before .before .before .before .before .before .pre .1)) (c .before .before .before .before .before .before .before .before .pre .0) t (c .before .before .before .before .before .loop .i) (c .before .before .before .before .loop-test .taken) (c .before .before .before .before .before .loop .inv .1 .1) _ w))
 
 same-length : tie.Need-same-length Inv-loop μ-loop
 same-length c = search needs
 
 returns : tie.Need-returns Inv-loop μ-loop
 unfolding renamedLinks
-returns c = up-all link-coding linksAt linkCount empty (renameSlot (renameLink (c .before .before .before .before .args .map .now))) (c .before .before .before .before .args .t .now) (known-bytes (c .before .before .before .before .args .t .now) (c .before .before .before .slice-known .given)) (omega (arith, c .before .before .before .before .pre .1)) (c .before .before .before .before .pre .0) (c .before .loop .t) (c .before .loop .i) (c .loop-test .left) (c .before .loop .inv .1 .1)
+returns c = up-all link-lent linksAt linkCount empty (renameSlot (renameLink (c .before .before .before .before .args .map .now))) (c .before .before .before .before .args .t .now) (known-bytes (c .before .before .before .before .args .t .now) (c .before .before .before .slice-known .given)) (omega (arith, c .before .before .before .before .pre .1)) (c .before .before .before .before .pre .0) (c .before .loop .t) (c .before .loop .i) (c .loop-test .left) (c .before .loop .inv .1 .1)
 
 pub rename-links-spec : {M : Type 1} → statement M
 rename-links-spec =

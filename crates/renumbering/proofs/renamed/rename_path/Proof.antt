@@ -1,8 +1,9 @@
 use Rattle.octets.proofs.Bytes.{known-bytes}
 use Rattle.rules.specs.Renumbering.{renamePath}
 use Rattle.tables.specs.Places.{pathWidth}
+use Rattle.tables.specs.Fields.{pathPortAt}
 use Rattle.tables.specs.Records.{pathOf, pathBytes}
-use Rattle.tables.proofs.Codings.{path-coding}
+use Rattle.tables.proofs.Lent.{path-lent}
 use Rattle.renumbering.proofs.Moves.{unused-stays, path-port-small, path-renamed}
 use native.Mathlib.Omega.{arith}
 use borrow.Author.Needs.{needs}
@@ -16,7 +17,7 @@ slice-read-first : tie.Need-slice-read-first
 slice-read-first c = search needs
 
 cast-first : tie.Need-cast-first
-cast-first c = omega (arith, c .before .before .before .before .slice-known .given 17)
+cast-first c = omega (arith, c .before .before .before .before .slice-known .given pathPortAt)
 
 shared-slice-read-first : tie.Need-shared-slice-read-first
 shared-slice-read-first c = let h = path-port-small (c .before .before .before .before .before .before .args .b .now) (c .before .before .before .before .before .before .args .map .now) (known-bytes (c .before .before .before .before .before .before .args .b .now) (c .before .before .before .before .before .slice-known .given)) (c .before .before .if1 .taken) (c .before .before .before .before .before .before .pre .0) in omega (arith, h, c .before .before .before .before .before .before .pre .2)
@@ -31,7 +32,7 @@ returns : tie.Need-returns
 returns c = path-renamed (c .before .before .before .before .before .before .before .before .before .before .args .b .now) (c .before .before .before .before .before .before .before .before .before .before .args .map .now) (known-bytes (c .before .before .before .before .before .before .before .before .before .before .args .b .now) (c .before .before .before .before .before .before .before .before .before .slice-known .given)) (c .before .before .before .before .before .before .if1 .taken) (c .before .before .before .before .before .before .before .before .before .before .pre .0) (c .before .before .before .before .before .before .before .before .before .before .pre .1) _ (c .before .before .set-at .ensures)
 
 returns-2 : tie.Need-returns-2
-returns-2 c = unused-stays pathWidth pathBytes pathOf path-coding (renamePath (c .before .before .before .before .args .map .now)) (c .before .before .before .before .args .b .now) (known-bytes (c .before .before .before .before .args .b .now) (c .before .before .before .slice-known .given)) (c .before .before .before .before .pre .1) (c .before .before .before .before .pre .0) (c .if1 .left)
+returns-2 c = unused-stays pathWidth pathBytes pathOf path-lent (renamePath (c .before .before .before .before .args .map .now)) (c .before .before .before .before .args .b .now) (known-bytes (c .before .before .before .before .args .b .now) (c .before .before .before .slice-known .given)) (c .before .before .before .before .pre .1) (c .before .before .before .before .pre .0) (c .if1 .left)
 
 pub rename-path-spec : {M : Type 1} → statement M
 rename-path-spec =

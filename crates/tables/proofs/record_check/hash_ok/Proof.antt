@@ -4,7 +4,8 @@ use Prim.Native.Nat.{ℕ}
 use mathlib.Core.Path.{ap, _∙_}
 use borrow.Author.Tests.{eq-eqb, ne-eqb}
 use Rattle.rules.specs.Refusals.{timeOk, hashOk}
-use Rattle.tables.specs.Records.{slotBytesOk, hashOf, hashBytesOk}
+use Rattle.tables.specs.Records.{hashOf}
+use Rattle.tables.proofs.Tests.{slotBytesOk, hash-test}
 use borrow.Author.Needs.{needs}
 use Rattle.tables.proofs.record_check.hash_ok.Statement.{statement}
 use Rattle.tables.proofs.record_check.hash_ok.Tie as tie
@@ -16,22 +17,22 @@ is-zero-requires : tie.Need-is-zero-requires
 is-zero-requires c κs = search needs
 
 returns : tie.Need-returns
-unfolding hashBytesOk slotBytesOk _then_otherwise_
-returns c = rw (eq-eqb _ _ (c .before .if1 .taken)) (c .is-zero .ensures ∙ ap (λ (k : ℕ). zeros k (c .before .before .before .before .args .b .now)) (c .before .before .before .before .pre))
+unfolding slotBytesOk _then_otherwise_
+returns c = rw (hash-test _, eq-eqb _ _ (c .before .if1 .taken)) (c .is-zero .ensures ∙ ap (λ (k : ℕ). zeros k (c .before .before .before .before .args .b .now)) (c .before .before .before .before .pre))
 
 shared-slice-read-if2 : tie.Need-shared-slice-read-if2
 shared-slice-read-if2 c = search needs
 
 returns-2 : tie.Need-returns-2
-unfolding hashBytesOk slotBytesOk _then_otherwise_ _and_
-returns-2 c = rw (ne-eqb _ _ (c .before .before .if1 .left), ne-eqb _ _ (c .if2 .taken))
+unfolding slotBytesOk _then_otherwise_ _and_
+returns-2 c = rw (hash-test _, ne-eqb _ _ (c .before .before .if1 .left), ne-eqb _ _ (c .if2 .taken))
 
 number-of-8-at-requires : tie.Need-number-of-8-at-requires
 number-of-8-at-requires c κs = search needs
 
 returns-3 : tie.Need-returns-3
-unfolding hashBytesOk slotBytesOk _then_otherwise_ _and_ hashOk hashOf timeOk
-returns-3 c = rw (ne-eqb _ _ (c .before .before .before .if1 .left), eq-eqb _ _ (c .before .if2 .left), ← c .number-of-8-at .ensures)
+unfolding slotBytesOk _then_otherwise_ _and_ hashOk hashOf timeOk
+returns-3 c = rw (hash-test _, ne-eqb _ _ (c .before .before .before .if1 .left), eq-eqb _ _ (c .before .if2 .left), ← c .number-of-8-at .ensures)
 
 pub hash-ok-spec : {M : Type 1} → statement M
 hash-ok-spec =

@@ -4,7 +4,8 @@ use Prim.Native.Nat.{ℕ}
 use mathlib.Core.Path.{ap, _∙_}
 use borrow.Author.Tests.{lt-ltb, le-ltb, eq-eqb, ne-eqb}
 use Rattle.rules.specs.Refusals.{timeOk, linkOk}
-use Rattle.tables.specs.Records.{markOk, slotBytesOk, linkOf, linkBytesOk}
+use Rattle.tables.specs.Records.{linkOf}
+use Rattle.tables.proofs.Tests.{slotBytesOk, link-test}
 use borrow.Author.Needs.{needs}
 use Rattle.tables.proofs.record_check.link_ok.Statement.{statement}
 use Rattle.tables.proofs.record_check.link_ok.Tie as tie
@@ -16,22 +17,22 @@ is-zero-requires : tie.Need-is-zero-requires
 is-zero-requires c κs = search needs
 
 returns : tie.Need-returns
-unfolding linkBytesOk slotBytesOk _then_otherwise_
-returns c = rw (eq-eqb _ _ (c .before .if1 .taken)) (c .is-zero .ensures ∙ ap (λ (k : ℕ). zeros k (c .before .before .before .before .args .b .now)) (c .before .before .before .before .pre))
+unfolding slotBytesOk _then_otherwise_
+returns c = rw (link-test _, eq-eqb _ _ (c .before .if1 .taken)) (c .is-zero .ensures ∙ ap (λ (k : ℕ). zeros k (c .before .before .before .before .args .b .now)) (c .before .before .before .before .pre))
 
 shared-slice-read-if2 : tie.Need-shared-slice-read-if2
 shared-slice-read-if2 c = search needs
 
 returns-2 : tie.Need-returns-2
-unfolding linkBytesOk slotBytesOk _then_otherwise_ _and_
-returns-2 c = rw (ne-eqb _ _ (c .before .before .if1 .left), ne-eqb _ _ (c .if2 .taken))
+unfolding slotBytesOk _then_otherwise_ _and_
+returns-2 c = rw (link-test _, ne-eqb _ _ (c .before .before .if1 .left), ne-eqb _ _ (c .if2 .taken))
 
 shared-slice-read-if3 : tie.Need-shared-slice-read-if3
 shared-slice-read-if3 c = search needs
 
 returns-3 : tie.Need-returns-3
-unfolding linkBytesOk slotBytesOk _then_otherwise_ _and_ linkOk linkOf timeOk markOk
-returns-3 c = rw (ne-eqb _ _ (c .before .before .before .before .if1 .left), eq-eqb _ _ (c .before .before .if2 .left), le-ltb _ _ (c .if3 .taken))
+unfolding slotBytesOk _then_otherwise_ _and_ linkOk linkOf timeOk
+returns-3 c = rw (link-test _, ne-eqb _ _ (c .before .before .before .before .if1 .left), eq-eqb _ _ (c .before .before .if2 .left), le-ltb _ _ (c .if3 .taken))
 
 shared-slice-read-if4 : tie.Need-shared-slice-read-if4
 shared-slice-read-if4 c = search needs
@@ -40,8 +41,8 @@ cast-if4 : tie.Need-cast-if4
 cast-if4 c = search needs
 
 returns-4 : tie.Need-returns-4
-unfolding linkBytesOk slotBytesOk _then_otherwise_ _and_ linkOk linkOf timeOk markOk
-returns-4 c = rw (ne-eqb _ _ (c .before .before .before .before .before .before .if1 .left), eq-eqb _ _ (c .before .before .before .before .if2 .left), lt-ltb _ _ (c .before .before .if3 .left), le-ltb _ _ (c .if4 .taken))
+unfolding slotBytesOk _then_otherwise_ _and_ linkOk linkOf timeOk
+returns-4 c = rw (link-test _, ne-eqb _ _ (c .before .before .before .before .before .before .if1 .left), eq-eqb _ _ (c .before .before .before .before .if2 .left), lt-ltb _ _ (c .before .before .if3 .left), le-ltb _ _ (c .if4 .taken))
 
 shared-slice-read-if5 : tie.Need-shared-slice-read-if5
 shared-slice-read-if5 c = search needs
@@ -50,15 +51,15 @@ cast-if5 : tie.Need-cast-if5
 cast-if5 c = search needs
 
 returns-5 : tie.Need-returns-5
-unfolding linkBytesOk slotBytesOk _then_otherwise_ _and_ linkOk linkOf timeOk markOk
-returns-5 c = rw (ne-eqb _ _ (c .before .before .before .before .before .before .before .before .if1 .left), eq-eqb _ _ (c .before .before .before .before .before .before .if2 .left), lt-ltb _ _ (c .before .before .before .before .if3 .left), lt-ltb _ _ (c .before .before .if4 .left), le-ltb _ _ (c .if5 .taken))
+unfolding slotBytesOk _then_otherwise_ _and_ linkOk linkOf timeOk
+returns-5 c = rw (link-test _, ne-eqb _ _ (c .before .before .before .before .before .before .before .before .if1 .left), eq-eqb _ _ (c .before .before .before .before .before .before .if2 .left), lt-ltb _ _ (c .before .before .before .before .if3 .left), lt-ltb _ _ (c .before .before .if4 .left), le-ltb _ _ (c .if5 .taken))
 
 number-of-8-at-requires : tie.Need-number-of-8-at-requires
 number-of-8-at-requires c κs = search needs
 
 returns-6 : tie.Need-returns-6
-unfolding linkBytesOk slotBytesOk _then_otherwise_ _and_ linkOk linkOf timeOk markOk
-returns-6 c = rw (ne-eqb _ _ (c .before .before .before .before .before .before .before .before .before .if1 .left), eq-eqb _ _ (c .before .before .before .before .before .before .before .if2 .left), lt-ltb _ _ (c .before .before .before .before .before .if3 .left), lt-ltb _ _ (c .before .before .before .if4 .left), lt-ltb _ _ (c .before .if5 .left), ← c .number-of-8-at .ensures)
+unfolding slotBytesOk _then_otherwise_ _and_ linkOk linkOf timeOk
+returns-6 c = rw (link-test _, ne-eqb _ _ (c .before .before .before .before .before .before .before .before .before .if1 .left), eq-eqb _ _ (c .before .before .before .before .before .before .before .if2 .left), lt-ltb _ _ (c .before .before .before .before .before .if3 .left), lt-ltb _ _ (c .before .before .before .if4 .left), lt-ltb _ _ (c .before .if5 .left), ← c .number-of-8-at .ensures)
 
 pub link-ok-spec : {M : Type 1} → statement M
 link-ok-spec =

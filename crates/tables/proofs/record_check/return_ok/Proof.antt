@@ -4,7 +4,8 @@ use Prim.Native.Nat.{ℕ}
 use mathlib.Core.Path.{ap, _∙_}
 use borrow.Author.Tests.{lt-ltb, le-ltb, eq-eqb, ne-eqb}
 use Rattle.rules.specs.Refusals.{timeOk, returnOk}
-use Rattle.tables.specs.Records.{slotBytesOk, returnOf, returnBytesOk}
+use Rattle.tables.specs.Records.{returnOf}
+use Rattle.tables.proofs.Tests.{slotBytesOk, return-test}
 use borrow.Author.Needs.{needs}
 use Rattle.tables.proofs.record_check.return_ok.Statement.{statement}
 use Rattle.tables.proofs.record_check.return_ok.Tie as tie
@@ -16,15 +17,15 @@ is-zero-requires : tie.Need-is-zero-requires
 is-zero-requires c κs = search needs
 
 returns : tie.Need-returns
-unfolding returnBytesOk slotBytesOk _then_otherwise_
-returns c = rw (eq-eqb _ _ (c .before .if1 .taken)) (c .is-zero .ensures ∙ ap (λ (k : ℕ). zeros k (c .before .before .before .before .args .b .now)) (c .before .before .before .before .pre))
+unfolding slotBytesOk _then_otherwise_
+returns c = rw (return-test _, eq-eqb _ _ (c .before .if1 .taken)) (c .is-zero .ensures ∙ ap (λ (k : ℕ). zeros k (c .before .before .before .before .args .b .now)) (c .before .before .before .before .pre))
 
 shared-slice-read-if2 : tie.Need-shared-slice-read-if2
 shared-slice-read-if2 c = search needs
 
 returns-2 : tie.Need-returns-2
-unfolding returnBytesOk slotBytesOk _then_otherwise_ _and_
-returns-2 c = rw (ne-eqb _ _ (c .before .before .if1 .left), ne-eqb _ _ (c .if2 .taken))
+unfolding slotBytesOk _then_otherwise_ _and_
+returns-2 c = rw (return-test _, ne-eqb _ _ (c .before .before .if1 .left), ne-eqb _ _ (c .if2 .taken))
 
 shared-slice-read-if3 : tie.Need-shared-slice-read-if3
 shared-slice-read-if3 c = search needs
@@ -33,8 +34,8 @@ cast-if3 : tie.Need-cast-if3
 cast-if3 c = search needs
 
 returns-3 : tie.Need-returns-3
-unfolding returnBytesOk slotBytesOk _then_otherwise_ _and_ returnOk returnOf timeOk
-returns-3 c = rw (ne-eqb _ _ (c .before .before .before .before .if1 .left), eq-eqb _ _ (c .before .before .if2 .left), le-ltb _ _ (c .if3 .taken))
+unfolding slotBytesOk _then_otherwise_ _and_ returnOk returnOf timeOk
+returns-3 c = rw (return-test _, ne-eqb _ _ (c .before .before .before .before .if1 .left), eq-eqb _ _ (c .before .before .if2 .left), le-ltb _ _ (c .if3 .taken))
 
 shared-slice-read-if4 : tie.Need-shared-slice-read-if4
 shared-slice-read-if4 c = search needs
@@ -43,15 +44,15 @@ cast-if4 : tie.Need-cast-if4
 cast-if4 c = search needs
 
 returns-4 : tie.Need-returns-4
-unfolding returnBytesOk slotBytesOk _then_otherwise_ _and_ returnOk returnOf timeOk
-returns-4 c = rw (ne-eqb _ _ (c .before .before .before .before .before .before .if1 .left), eq-eqb _ _ (c .before .before .before .before .if2 .left), lt-ltb _ _ (c .before .before .if3 .left), le-ltb _ _ (c .if4 .taken))
+unfolding slotBytesOk _then_otherwise_ _and_ returnOk returnOf timeOk
+returns-4 c = rw (return-test _, ne-eqb _ _ (c .before .before .before .before .before .before .if1 .left), eq-eqb _ _ (c .before .before .before .before .if2 .left), lt-ltb _ _ (c .before .before .if3 .left), le-ltb _ _ (c .if4 .taken))
 
 number-of-8-at-requires : tie.Need-number-of-8-at-requires
 number-of-8-at-requires c κs = search needs
 
 returns-5 : tie.Need-returns-5
-unfolding returnBytesOk slotBytesOk _then_otherwise_ _and_ returnOk returnOf timeOk
-returns-5 c = rw (ne-eqb _ _ (c .before .before .before .before .before .before .before .if1 .left), eq-eqb _ _ (c .before .before .before .before .before .if2 .left), lt-ltb _ _ (c .before .before .before .if3 .left), lt-ltb _ _ (c .before .if4 .left), ← c .number-of-8-at .ensures)
+unfolding slotBytesOk _then_otherwise_ _and_ returnOk returnOf timeOk
+returns-5 c = rw (return-test _, ne-eqb _ _ (c .before .before .before .before .before .before .before .if1 .left), eq-eqb _ _ (c .before .before .before .before .before .if2 .left), lt-ltb _ _ (c .before .before .before .if3 .left), lt-ltb _ _ (c .before .if4 .left), ← c .number-of-8-at .ensures)
 
 pub return-ok-spec : {M : Type 1} → statement M
 return-ok-spec =

@@ -1,8 +1,9 @@
 use mathlib.Core.Path.{sym, _∙_}
-use lib.Dec.{lit<}
 use Rattle.tables.specs.Places.{hashWidth}
 use Rattle.tables.specs.Records.{hashBytesOk}
-use Rattle.tables.proofs.Loops.{unused, group-free}
+use Rattle.tables.proofs.Loops.{group-free}
+use Rattle.tables.specs.Forms.{hashForm}
+use Rattle.tables.proofs.Tests.{unused}
 use borrow.Author.Needs.{needs}
 use Rattle.tables.proofs.section_check.hash_group_ok.Statement.{statement}
 use Rattle.tables.proofs.section_check.hash_group_ok.Tie as tie
@@ -15,7 +16,7 @@ is-zero-requires c κs = search needs
 
 returns : tie.Need-returns
 unfolding hashBytesOk
-returns c = group-free hashBytesOk hashWidth _ (unused hashWidth _ (lit< tt)) (c .before .before .before .before .before .pre) (sym (c .before .is-zero .ensures) ∙ c .if2 .taken)
+returns c = group-free hashBytesOk hashWidth _ (unused hashForm) (c .before .before .before .before .before .pre) (sym (c .before .is-zero .ensures) ∙ c .if2 .taken)
 
 hash-group-each-requires : tie.Need-hash-group-each-requires
 hash-group-each-requires c κs = search needs

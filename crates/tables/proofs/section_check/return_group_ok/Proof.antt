@@ -1,8 +1,9 @@
 use mathlib.Core.Path.{sym, _∙_}
-use lib.Dec.{lit<}
 use Rattle.tables.specs.Places.{returnWidth}
 use Rattle.tables.specs.Records.{returnBytesOk}
-use Rattle.tables.proofs.Loops.{unused, group-free}
+use Rattle.tables.proofs.Loops.{group-free}
+use Rattle.tables.specs.Forms.{returnForm}
+use Rattle.tables.proofs.Tests.{unused}
 use borrow.Author.Needs.{needs}
 use Rattle.tables.proofs.section_check.return_group_ok.Statement.{statement}
 use Rattle.tables.proofs.section_check.return_group_ok.Tie as tie
@@ -15,7 +16,7 @@ is-zero-requires c κs = search needs
 
 returns : tie.Need-returns
 unfolding returnBytesOk
-returns c = group-free returnBytesOk returnWidth _ (unused returnWidth _ (lit< tt)) (c .before .before .before .before .before .pre) (sym (c .before .is-zero .ensures) ∙ c .if2 .taken)
+returns c = group-free returnBytesOk returnWidth _ (unused returnForm) (c .before .before .before .before .before .pre) (sym (c .before .is-zero .ensures) ∙ c .if2 .taken)
 
 return-group-each-requires : tie.Need-return-group-each-requires
 return-group-each-requires c κs = search needs

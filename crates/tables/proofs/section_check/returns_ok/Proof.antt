@@ -1,4 +1,4 @@
-use Prim.Native.Nat.{ℕ, _≤_, _-_, _*_}
+use Prim.Native.Nat.{ℕ, _≤_, _-_, _*_, _/_}
 use mathlib.Core.Path.{_≡_}
 use mathlib.Core.Bool.{true}
 use Rattle.octets.proofs.Index.{ended}
@@ -14,10 +14,10 @@ use Rattle.tables.proofs.section_check.returns_ok.Statement.{statement}
 use Rattle.tables.proofs.section_check.returns_ok.Tie as tie
 
 abbrev Inv-loop : tie.InvT-loop
-Inv-loop t g₀ g = (g ≤ 32) × (rowsOk returnBytesOk returnsAt returnWidth (groupSize * g) t ≡ true)
+Inv-loop t g₀ g = (g ≤ returnCount / groupSize) × (rowsOk returnBytesOk returnsAt returnWidth (groupSize * g) t ≡ true)
 
 abbrev μ-loop : tie.MeasureT-loop
-μ-loop t g₀ g = 32 - g
+μ-loop t g₀ g = returnCount / groupSize - g
 
 loop-holds : tie.Need-loop-holds Inv-loop μ-loop
 loop-holds c = (search needs, none-yet returnBytesOk returnsAt returnWidth _)

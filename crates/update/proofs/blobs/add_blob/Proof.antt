@@ -1,5 +1,6 @@
 use mathlib.Core.Path.{_≡_}
 use lib.ListN.{length}
+use Rattle.tables.specs.Places.{blobWidth}
 use Rattle.update.proofs.PathWrites.{added, pushed}
 use native.Mathlib.Omega.{arith}
 use borrow.Author.Needs.{needs}
@@ -36,7 +37,7 @@ same-length c = search needs
 returns : tie.Need-returns
 returns c =
     let a = c .before .before .before .before .before .before .before .before .before .before .before .before .args in
-    let wide : length (a .t2) ≡ 10 = search needs in
+    let wide : length (a .t2) ≡ blobWidth = search needs in
     added (a .s .now) (c .before .before .before .before .before .before .before .before .before .before .before .before .pre) (a .t2) wide _ _ (c .before .before .before .before .before .before .before .before .before .if1 .taken) (c .before .before .before .before .before .before .before .set-at .ensures) (c .before .before .copy-at .ensures)
 
 push-blob-requires : tie.Need-push-blob-requires
@@ -48,7 +49,7 @@ same-length-2 c = search needs
 returns-2 : tie.Need-returns-2
 returns-2 c =
     let a = c .before .before .before .before .before .before .before .args in
-    let wide : length (a .t2) ≡ 10 = search needs in
+    let wide : length (a .t2) ≡ blobWidth = search needs in
     pushed (a .s .now) (c .before .before .before .before .before .before .before .pre) (a .t2) wide _ (c .before .before .before .before .if1 .left) (c .before .before .push-blob .ensures)
 
 pub add-blob-spec : {M : Type 1} → statement M

@@ -1,5 +1,6 @@
 use mathlib.Core.Path.{_≡_}
 use lib.ListN.{length}
+use Rattle.tables.specs.Places.{blobWidth}
 use Rattle.update.proofs.PathWrites.{one-pieces}
 use borrow.Author.Needs.{needs}
 use Rattle.update.proofs.blobs.one_blob.Statement.{statement}
@@ -26,7 +27,7 @@ same-length c = search needs
 returns : tie.Need-returns
 returns c =
     let a = c .before .before .before .before .before .before .before .before .before .before .before .before .before .before .before .args in
-    let wide : length (a .t2) ≡ 10 = search needs in
+    let wide : length (a .t2) ≡ blobWidth = search needs in
     one-pieces (a .s .now) _ _ _ (a .t2) (c .before .before .before .before .before .before .before .before .before .before .before .before .before .before .before .pre) wide (c .before .before .before .before .before .before .before .before .before .before .before .before .set-at .ensures) (c .before .before .before .before .before .before .before .copy-at .ensures) (c .before .before .copy-at2 .ensures)
 
 pub one-blob-spec : {M : Type 1} → statement M

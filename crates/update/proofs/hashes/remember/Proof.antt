@@ -5,7 +5,7 @@ use lib.ListN.{length}
 use Rattle.octets.specs.Part.{patch}
 use Rattle.octets.specs.BigEndian.{bigEndian}
 use Rattle.rules.specs.Numbers.{hashCount}
-use Rattle.tables.specs.Places.{ringWidth, hashNextAt, hashesAt, hashWidth}
+use Rattle.tables.specs.Places.{digestWidth, ringWidth, hashNextAt, hashesAt, hashWidth}
 use Rattle.update.specs.Written.{hashWritten}
 use Rattle.update.proofs.Pieces.{hash-pieces}
 use native.Mathlib.Omega.{arith}
@@ -50,7 +50,7 @@ returns : tie.Need-returns
 unfolding hashWritten
 returns c =
     let a = c .before .before .before .before .before .before .before .before .before .before .before .before .before .before .before .before .before .before .args in
-    let wide : length (a .t3) ≡ 32 = search needs in
+    let wide : length (a .t3) ≡ digestWidth = search needs in
     c .before .before .write-number-at2 .ensures
     ∙ ap (λ (r : List ℕ). patch r hashNextAt (bigEndian ringWidth ((a .place + 1) % hashCount)))
     (hash-pieces (a .tables .now) (hashesAt + hashWidth * a .place) _ _ _ (record { hash = a .t3; expiry = a .expiry }) wide (omega (arith, c .before .before .before .before .before .before .before .before .before .before .before .before .before .before .before .before .before .before .pre .0, c .before .before .before .before .before .before .before .before .before .before .before .before .before .before .before .before .before .before .pre .1)) (c .before .before .before .before .before .before .before .before .before .before .before .before .before .before .before .set-at .ensures) (c .before .before .before .before .before .before .before .before .before .before .copy-at .ensures) (c .before .before .before .before .before .before .write-number-at .ensures))

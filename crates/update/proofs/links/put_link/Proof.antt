@@ -1,7 +1,7 @@
 use Prim.Native.Nat.{_+_, _*_}
 use mathlib.Core.Path.{_≡_}
 use lib.ListN.{length}
-use Rattle.tables.specs.Places.{linksAt, linkWidth}
+use Rattle.tables.specs.Places.{addressWidth, linksAt, linkWidth}
 use Rattle.update.specs.Written.{linkWritten}
 use Rattle.update.proofs.Pieces.{link-pieces}
 use native.Mathlib.Omega.{arith}
@@ -28,7 +28,7 @@ slice-aggregate-copy-at : tie.Need-slice-aggregate-copy-at
 slice-aggregate-copy-at c = search needs
 
 copy-at-requires : tie.Need-copy-at-requires
-copy-at-requires c κs = let wide : length (c .before .before .before .before .before .before .before .before .before .before .before .args .link .id) ≡ 16 = search needs in omega (arith, c .before .before .before .before .before .before .before .before .before .before .before .pre .0, c .before .before .before .before .before .before .before .before .before .before .before .pre .1)
+copy-at-requires c κs = let wide : length (c .before .before .before .before .before .before .before .before .before .before .before .args .link .id) ≡ addressWidth = search needs in omega (arith, c .before .before .before .before .before .before .before .before .before .before .before .pre .0, c .before .before .before .before .before .before .before .before .before .before .before .pre .1)
 
 add-copy-at-2 : tie.Need-add-copy-at-2
 add-copy-at-2 c = search needs
@@ -52,7 +52,7 @@ returns : tie.Need-returns
 unfolding linkWritten
 returns c =
     let a = c .before .before .before .before .before .before .before .before .before .before .before .before .before .before .before .before .before .before .before .before .before .before .before .args in
-    let wide : length (a .link .id) ≡ 16 = search needs in
+    let wide : length (a .link .id) ≡ addressWidth = search needs in
     link-pieces (a .tables .now) (linksAt + linkWidth * a .place) _ _ _ _ (a .link) _ (c .before .before .before .before .before .before .before .before .before .before .before .before .before .before .before .before .before .before .mark .ensures) wide (omega (arith, c .before .before .before .before .before .before .before .before .before .before .before .before .before .before .before .before .before .before .before .before .before .before .before .pre .0, c .before .before .before .before .before .before .before .before .before .before .before .before .before .before .before .before .before .before .before .before .before .before .before .pre .1)) (c .before .before .before .before .before .before .before .before .before .before .before .before .before .before .before .before .set-at .ensures) (c .before .before .before .before .before .before .before .before .before .before .before .copy-at .ensures) (c .before .before .before .before .before .before .copy-at2 .ensures) (c .before .before .write-number-at .ensures)
 
 pub put-link-spec : {M : Type 1} → statement M

@@ -2,6 +2,7 @@ use mathlib.Core.Path.{_≡_}
 use lib.ListN.{length}
 use Rattle.update.proofs.Pieces.{head-pieces}
 use native.Mathlib.Omega.{arith}
+use Rattle.tables.specs.Places.{addressWidth}
 use borrow.Author.Needs.{needs}
 use Rattle.update.proofs.paths.put_head.Statement.{statement}
 use Rattle.update.proofs.paths.put_head.Tie as tie
@@ -16,7 +17,7 @@ slice-aggregate-copy-at : tie.Need-slice-aggregate-copy-at
 slice-aggregate-copy-at c = search needs
 
 copy-at-requires : tie.Need-copy-at-requires
-copy-at-requires c κs = let wide : length (c .before .before .before .before .before .before .before .before .before .args .path .destination) ≡ 16 = search needs in omega (arith, c .before .before .before .before .before .before .before .before .before .pre)
+copy-at-requires c κs = let wide : length (c .before .before .before .before .before .before .before .before .before .args .path .destination) ≡ addressWidth = search needs in omega (arith, c .before .before .before .before .before .before .before .before .before .pre)
 
 add-copy-at-2 : tie.Need-add-copy-at-2
 add-copy-at-2 c = search needs
@@ -34,7 +35,7 @@ slice-aggregate-copy-at-3 : tie.Need-slice-aggregate-copy-at-3
 slice-aggregate-copy-at-3 c = search needs
 
 copy-at-requires-3 : tie.Need-copy-at-requires-3
-copy-at-requires-3 c κs = let wide : length (c .before .before .before .before .before .before .before .before .before .before .before .before .before .before .before .before .before .before .before .args .path .«next_hop») ≡ 16 = search needs in omega (arith, c .before .before .before .before .before .before .before .before .before .before .before .before .before .before .before .before .before .before .before .pre)
+copy-at-requires-3 c κs = let wide : length (c .before .before .before .before .before .before .before .before .before .before .before .before .before .before .before .before .before .before .before .args .path .«next_hop») ≡ addressWidth = search needs in omega (arith, c .before .before .before .before .before .before .before .before .before .before .before .before .before .before .before .before .before .before .before .pre)
 
 add-write-number-at : tie.Need-add-write-number-at
 add-write-number-at c = search needs
@@ -48,9 +49,9 @@ same-length c = search needs
 returns : tie.Need-returns
 returns c =
     let a = c .before .before .before .before .before .before .before .before .before .before .before .before .before .before .before .before .before .before .before .before .before .before .before .before .before .before .args in
-    let to : length (a .path .destination) ≡ 16 = search needs in
+    let to : length (a .path .destination) ≡ addressWidth = search needs in
     let good = c .before .before .before .before .before .before .before .before .before .before .before .before .before .before .before .before .before .before .before .before .before .before .before .before .before .before .good .1 .1 .0 in
-    let by : length (a .path .«next_hop») ≡ 16 = search (needs, good) in
+    let by : length (a .path .«next_hop») ≡ addressWidth = search (needs, good) in
     head-pieces (a .tables .now) (a .at) _ _ _ _ _ (a .path) to by (c .before .before .before .before .before .before .before .before .before .before .before .before .before .before .before .before .before .before .before .before .before .before .before .before .before .before .pre) (c .before .before .before .before .before .before .before .before .before .before .before .before .before .before .before .before .before .before .before .before .before .set-at .ensures) (c .before .before .before .before .before .before .before .before .before .before .before .before .before .before .before .before .copy-at .ensures) (c .before .before .before .before .before .before .before .before .before .before .before .copy-at2 .ensures) (c .before .before .before .before .before .before .copy-at3 .ensures) (c .before .before .write-number-at .ensures)
 
 pub put-head-spec : {M : Type 1} → statement M

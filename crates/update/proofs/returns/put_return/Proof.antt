@@ -5,7 +5,7 @@ use lib.ListN.{length}
 use Rattle.octets.specs.Part.{patch}
 use Rattle.octets.specs.BigEndian.{bigEndian}
 use Rattle.rules.specs.Numbers.{returnCount}
-use Rattle.tables.specs.Places.{ringWidth, returnNextAt, returnsAt, returnWidth}
+use Rattle.tables.specs.Places.{addressWidth, ringWidth, returnNextAt, returnsAt, returnWidth}
 use Rattle.update.specs.Written.{returnWritten}
 use Rattle.update.proofs.Pieces.{return-pieces}
 use native.Mathlib.Omega.{arith}
@@ -59,7 +59,7 @@ returns : tie.Need-returns
 unfolding returnWritten
 returns c =
     let a = c .before .before .before .before .before .before .before .before .before .before .before .before .before .before .before .before .before .before .before .before .before .before .before .args in
-    let wide : length (a .t3) ≡ 16 = search needs in
+    let wide : length (a .t3) ≡ addressWidth = search needs in
     c .before .before .write-number-at2 .ensures
     ∙ ap (λ (r : List ℕ). patch r returnNextAt (bigEndian ringWidth ((a .place + 1) % returnCount)))
     (return-pieces (a .tables .now) (returnsAt + returnWidth * a .place) _ _ _ _ (record { key = a .t3; arrival = a .arrival; leaving = a .leaving; expiry = a .expiry }) wide (omega (arith, c .before .before .before .before .before .before .before .before .before .before .before .before .before .before .before .before .before .before .before .before .before .before .before .pre .0, c .before .before .before .before .before .before .before .before .before .before .before .before .before .before .before .before .before .before .before .before .before .before .before .pre .1)) (c .before .before .before .before .before .before .before .before .before .before .before .before .before .before .before .before .before .before .before .before .set-at .ensures) (c .before .before .before .before .before .before .before .before .before .before .before .before .before .before .before .copy-at .ensures) (c .before .before .before .before .before .before .before .before .before .before .copy-at2 .ensures) (c .before .before .before .before .before .before .write-number-at .ensures))

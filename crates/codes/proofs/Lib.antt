@@ -1,0 +1,13 @@
+-- The laws of codes: each once for each way to put codes together. Forms has them for every form.
+pub mod Same
+pub mod Law
+pub mod Single
+pub mod Joint
+pub mod Rows
+pub mod First
+pub mod Slots
+pub mod Forms
+pub mod Editions
+pub mod Places
+pub mod Inside
+pub mod Grown

@@ -1,0 +1,144 @@
+-- The layout, said once: the fields of each record in order, and the sections of the tables in the order in which a saved file has them.
+-- Widths, places, reading, writing and refusal 7 follow. docs/LAYOUT.md draws it.
+use Prim.Native.Nat.{ℕ}
+use mathlib.Core.Bool.{Bool}
+use mathlib.Core.List.{List}
+use mathlib.Core.Path.{refl}
+use lib.Dec.{ltb}
+use Rattle.codes.specs.Form.{Form, byte, mark, numberIn, octetsIn, _&_, many, slot, that, asRecord}
+use Rattle.rules.specs.Numbers.{portCount, localCount, pathCount, blobLimit, linkCount, returnCount, hashCount}
+use Rattle.rules.specs.Relay.{Port, off, Slot, empty, Blobs, Path, Return, Remembered, Ring, Relay}
+use Rattle.rules.specs.Blobs.{noBlob}
+use Rattle.rules.specs.Refusals.{timeOk, portOk, pathOk, linkOk, returnOk, hashOk}
+use Rattle.rules.specs.declared.Link.{Link}
+
+-- ---- widths of fields, in bytes
+abbrev pub addressWidth : ℕ
+addressWidth = 16
+
+abbrev pub digestWidth : ℕ
+digestWidth = 32
+
+abbrev pub timeWidth : ℕ
+timeWidth = 8
+
+abbrev pub blobWidth : ℕ
+blobWidth = 10
+
+abbrev pub ringWidth : ℕ
+ringWidth = 2
+
+-- ---- a port's settings. No slot: an off port keeps its mode
+abbrev pub toPort : Bool × ℕ → Port
+toPort (on, mode) = record { on = on; mode = mode }
+
+abbrev pub portForm : Form Port
+portForm = that portOk (asRecord toPort (λ p. (p .on, p .mode)) (λ x. refl) (λ y. refl) (mark & byte))
+
+-- ---- a local address
+abbrev pub localForm : Form (List ℕ)
+localForm = octetsIn addressWidth
+
+-- ---- a path
+abbrev pub toBlobs : ℕ × List (List ℕ) → Blobs
+toBlobs (count, places) = record { count = count; places = places }
+
+abbrev pub blobsForm : Form Blobs
+blobsForm =
+    asRecord toBlobs (λ b. (b .count, b .places)) (λ x. refl) (λ y. refl)
+    (byte & many blobLimit noBlob (octetsIn blobWidth))
+
+abbrev pub toPath : List ℕ × (ℕ × (ℕ × (List ℕ × (ℕ × Blobs)))) → Path
+toPath (destination, (port, (hops, (nextHop, (expiry, blobs))))) =
+    record { destination = destination; port = port; hops = hops; nextHop = nextHop; expiry = expiry; blobs = blobs }
+
+abbrev pub pathForm : Form Path
+pathForm =
+    that pathOk
+    (asRecord toPath
+    (λ p. (p .destination, (p .port, (p .hops, (p .nextHop, (p .expiry, p .blobs))))))
+    (λ x. refl)
+    (λ y. refl)
+    (octetsIn addressWidth & byte & byte & octetsIn addressWidth & numberIn timeWidth & blobsForm))
+
+-- ---- a link
+abbrev pub toLink : List ℕ × (ℕ × (ℕ × (ℕ × (ℕ × (Bool × ℕ))))) → Link
+toLink (id, (asking, (answering, (taken, (remaining, (proved, expiry)))))) =
+    record {
+      id = id;
+      asking = asking;
+      answering = answering;
+      taken = record { 0 = taken };
+      remaining = record { 0 = remaining };
+      proved = proved;
+      expiry = expiry;
+    }
+
+abbrev pub linkForm : Form Link
+linkForm =
+    that linkOk
+    (asRecord toLink
+    (λ l. (l .id, (l .asking, (l .answering, (l .taken .0, (l .remaining .0, (l .proved, l .expiry)))))))
+    (λ x. refl)
+    (λ y. refl)
+    (octetsIn addressWidth & byte & byte & byte & byte & mark & numberIn timeWidth))
+
+-- ---- a return record
+abbrev pub toReturn : List ℕ × (ℕ × (ℕ × ℕ)) → Return
+toReturn (key, (arrival, (leaving, expiry))) = record { key = key; arrival = arrival; leaving = leaving; expiry = expiry }
+
+abbrev pub returnForm : Form Return
+returnForm =
+    that returnOk
+    (asRecord toReturn (λ t. (t .key, (t .arrival, (t .leaving, t .expiry)))) (λ x. refl) (λ y. refl)
+    (octetsIn addressWidth & byte & byte & numberIn timeWidth))
+
+-- ---- a remembered hash
+abbrev pub toHash : List ℕ × ℕ → Remembered
+toHash (hash, expiry) = record { hash = hash; expiry = expiry }
+
+abbrev pub hashForm : Form Remembered
+hashForm =
+    that hashOk
+    (asRecord toHash (λ m. (m .hash, m .expiry)) (λ x. refl) (λ y. refl) (octetsIn digestWidth & numberIn timeWidth))
+
+-- ---- a ring: its next place, then its n records
+abbrev pub below : ℕ → ℕ → Bool
+below n place = ltb place n
+
+abbrev pub toRing : {A : Type 0} → ℕ × List (Slot A) → Ring A
+toRing (next, slots) = record { slots = slots; next = next }
+
+abbrev pub ringForm : {A : Type 0} → ℕ → Form A → Form (Ring A)
+ringForm n f =
+    asRecord toRing (λ r. (r .next, r .slots)) (λ x. refl) (λ y. refl)
+    (that (below n) (numberIn ringWidth) & many n empty (slot f))
+
+-- ---- the tables
+abbrev pub toRelay : List ℕ × (ℕ × (List Port × (List (Slot (List ℕ)) × (List (Slot Path) × (List (Slot Link) × (Ring Return × Ring Remembered)))))) → Relay
+toRelay (own, (clock, (ports, (locals, (paths, (links, (returns, hashes))))))) =
+    record {
+      own = own;
+      clock = clock;
+      ports = ports;
+      locals = locals;
+      paths = paths;
+      links = links;
+      returns = returns;
+      hashes = hashes;
+    }
+
+abbrev pub relayForm : Form Relay
+relayForm =
+    asRecord toRelay
+    (λ r. (r .own, (r .clock, (r .ports, (r .locals, (r .paths, (r .links, (r .returns, r .hashes))))))))
+    (λ x. refl)
+    (λ y. refl)
+    (octetsIn addressWidth
+    & that timeOk (numberIn timeWidth)
+    & many portCount off portForm
+    & many localCount empty (slot localForm)
+    & many pathCount empty (slot pathForm)
+    & many linkCount empty (slot linkForm)
+    & ringForm returnCount returnForm
+    & ringForm hashCount hashForm)
