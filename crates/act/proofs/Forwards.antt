@@ -1,60 +1,67 @@
 -- What is left by a packet that is forwarded, from what the code wrote: verdict, tables and output.
 use Prim.Native.Nat.{ℕ, _<_}
 use mathlib.Core.Bool.{true, false, not}
-use mathlib.Core.List.{List}
+use native.Mathlib.Omega.{arith}
+use mathlib.Core.List.{List, _++_}
 use mathlib.Core.Path.{_≡_, refl, sym, ap, ap₂, subst, _∙_}
 use lib.Dec.{ltb}
 use lib.ListN.{length, take}
 use borrow.Author.Tests.{ltb-true, leb-false, not-false}
+use Rattle.sha256.specs.Sha256.{sha256-of}
+use Rattle.sha256.proofs.Promise.{digest-byte}
 use Rattle.octets.specs.Bytes.{Bytes}
 use Rattle.octets.specs.Part.{patch}
 use Rattle.octets.proofs.Choice.{then-true}
+use Rattle.octets.proofs.Bytes.{take-bytes}
+use Rattle.octets.proofs.Part.{part-again, part-split, part-whole}
 use Rattle.octets.proofs.Index.{and-yes}
 use Rattle.packet.specs.Header.{isData, isLinkRequest}
+use Rattle.packet.specs.Read.{partsOf, payload}
+use Rattle.packet.specs.Hash.{hashedPart, packetHash, linkId}
+use Rattle.packet.proofs.Widths.{link-id-length}
 use Rattle.rules.specs.Numbers.{pathCount, linkCount, returnCount}
 use Rattle.rules.specs.Relay.{Path, Return, Relay}
 use Rattle.rules.specs.View.{View, viewAt, freeLink, linkPlace}
 use Rattle.rules.specs.Arrival.{Arrival, header, destination}
 use Rattle.rules.specs.Ways.{Way, by-path, along-link, by-return}
 use Rattle.rules.specs.Tests.{tooManyHops, leavingPort, noRoom}
-use Rattle.rules.specs.Outgoing.{pathPacket, outgoing}
+use Rattle.rules.specs.Outgoing.{outgoing, carriedPacket}
 use Rattle.rules.specs.Judging.{Plan, follows, wayVerdict, verdict, leaves, outputAfter}
-use Rattle.rules.specs.Writes.{enact, returnKey, linkRecord, renewedLink}
+use Rattle.rules.specs.Writes.{returnKey, linkRecord, renewedLink, writeWay, writePlan}
 use Rattle.rules.specs.declared.Link.{Link}
-use Rattle.rules.specs.declared.Verdict.{Verdict}
 use Rattle.rules.specs.declared.Verdict.the-variants.{Forward}
 use Rattle.rules.proofs.Followed.{Planned, planned}
-use Rattle.tables.specs.Places.{pathsAt, pathWidth, linksAt, linkWidth, returnsAt, returnWidth}
-use Rattle.tables.specs.Records.{pathOf, linkOf, returnOf}
+use Rattle.tables.specs.Places.{linksAt, linkWidth, returnsAt, returnWidth}
+use Rattle.tables.specs.Records.{linkOf, returnOf}
 use Rattle.tables.specs.Layout.{rowAt, relayOf, bytesOf}
 use Rattle.lookup.proofs.Found.{path-found, path-missing, link-found, link-missing, return-found, return-missing}
-use Rattle.update.proofs.Enacted.{data-enacted, request-enacted, link-enacted, proof-enacted}
-use Rattle.outgoing.specs.Leaving.{alone, Onward, carriedBytes}
-use Rattle.outgoing.proofs.RuleLaws.{path-packet, carried-packet}
+use Rattle.update.specs.Written.{linkWritten, returnEmptied}
+use Rattle.update.proofs.Enacted.{return-written, link-written, link-renewed, return-emptied}
+use Rattle.outgoing.specs.Leaving.{Onward}
 use Rattle.plan.specs.declared.Arrived.{Arrived}
 use Rattle.plan.specs.declared.Decision.the-variants.{Data, Request, Carry, Receipt}
 use Rattle.plan.specs.Decided.{arrivalOf, decision}
 use Rattle.plan.proofs.KindLaws.{request-left}
-use Rattle.act.specs.Kept.{stamped, returnPut, returnKept, returnDone, linkKept}
-use Rattle.act.specs.Acted.{Accepted, seen, planOn, verdictOn, tablesOn, outputOn, Acts}
+use Rattle.act.specs.Kept.{addressBy, returnPut}
+use Rattle.act.specs.Acted.{Accepted, seen, planOn, verdictOn, writtenOn, outputOn, CarriesOut, pathAt, forwardedOn}
 use Rattle.rules.proofs.Passed.{passed}
 use Rattle.act.proofs.Inverted.{inverted, settled}
 
--- the records at a place
-abbrev pub pathAt : List ℕ → ℕ → Path
-pathAt t i = pathOf (rowAt pathsAt pathWidth t i)
+-- a link id is bytes, whatever the packet
+pub link-id-bytes : (p : List ℕ) → Bytes (linkId p)
+unfolding linkId
+link-id-bytes p =
+    let m : List ℕ = hashedPart (partsOf p) (take 64 (payload p)) in
+    take-bytes 16 (sha256-of m) (digest-byte m)
 
+-- the records at a place
 abbrev pub linkAt : List ℕ → ℕ → Link
 linkAt t i = linkOf (rowAt linksAt linkWidth t i)
 
 abbrev pub returnAt : List ℕ → ℕ → Return
 returnAt t i = returnOf (rowAt returnsAt returnWidth t i)
 
--- of the arrival only the bytes count
-pub path-packet-alone : (p : Path) (a : Arrival) → pathPacket p a ≡ pathPacket p (alone (a .bytes))
-path-packet-alone p a = path-packet a p ∙ sym (path-packet (alone (a .bytes)) p)
-
-module _ (packet : List ℕ) (m : Arrived) (hash t : List ℕ) (ok : Accepted packet m hash t) where
+module _ (packet : List ℕ) (m : Arrived) (t : List ℕ) (ok : Accepted packet m t) where
   abbrev a : Arrival
   a = arrivalOf packet m
 
@@ -71,11 +78,11 @@ module _ (packet : List ℕ) (m : Arrived) (hash t : List ℕ) (ok : Accepted pa
   -- ---- by any way that forwards
   forwarded : (w : Way) → planOn packet m t ≡ follows w → wayVerdict v a w ≡ Forward (leavingPort a w) (length (outgoing v a w))
       → (port n : ℕ) (x output u o : List ℕ) → port ≡ leavingPort a w → outgoing v a w ≡ x → n ≡ length x → o ≡ patch output 0 x
-      → u ≡ bytesOf (enact v a (follows w) r) → Acts packet m t output (Forward port n) u o
-  unfolding verdictOn tablesOn outputOn verdict outputAfter leaves
+      → u ≡ bytesOf (writeWay v a w r) → CarriesOut packet m t output (Forward port n) u o
+  unfolding verdictOn writtenOn outputOn verdict outputAfter leaves writePlan
   forwarded w e forwards port n x output u o q1 q2 q3 q4 q5 = (
     ap₂ Forward q1 (q3 ∙ ap length (sym q2)) ∙ sym forwards ∙ ap (verdict v a) (sym e),
-    q5 ∙ ap (λ (todo : Plan). bytesOf (enact v a todo r)) (sym e),
+    q5 ∙ ap (λ (todo : Plan). bytesOf (writePlan v a todo r)) (sym e),
     q4 ∙ ap (patch output 0) (sym q2) ∙ sym (then-true _ _ (ap leaves forwards)) ∙ ap (λ (todo : Plan). outputAfter v a todo output) (sym e),
   )
 
@@ -100,20 +107,19 @@ module _ (packet : List ℕ) (m : Arrived) (hash t : List ℕ) (ok : Accepted pa
         let q = settled i pathCount (f .found .0) (path-found t (m .clock) (destination a) i (k .3)) (path-missing t (m .clock) (destination a) i (k .3)) in
         (q .0, k .1 ∙ ap (λ (p : Path). follows (by-path p)) (q .1), k .2)
 
-    pub data-left : Bytes t → (port n : ℕ) (output u o : List ℕ) → port ≡ pathAt t i .port → n ≡ length (pathPacket (pathAt t i) (alone packet))
-        → o ≡ patch output 0 (pathPacket (pathAt t i) (alone packet)) → u ≡ returnKept t (m .port) port hash (m .clock)
-        → Acts packet m t output (Forward port n) u o
-    unfolding outgoing leavingPort returnKey returnKept returnPut stamped
-    data-left b port n output u o q1 q2 q3 q4 =
-        forwarded (by-path (pathAt t i)) (data-row .1) (by-path-forwards (pathAt t i)) port n _ output u o q1 (path-packet-alone (pathAt t i) a) q2 q3
-        (data-enacted v a t b (ok .formed) hash (ok .hashed) (r .hashes .next) refl (pathAt t i) (take 16 hash) port (r .returns .next) _ _ _ u
-        (data-row .2) (ap (take 16) (ok .hashed)) q1 refl refl refl refl q4)
+    pub data-left : Bytes t → (port n : ℕ) (output u o : List ℕ) → port ≡ pathAt t i .port → n ≡ length (forwardedOn packet t i)
+        → o ≡ patch output 0 (forwardedOn packet t i) → (hash : List ℕ) → hash ≡ packetHash packet
+        → u ≡ returnPut t (m .port) port hash (m .clock) → CarriesOut packet m t output (Forward port n) u o
+    unfolding outgoing leavingPort returnKey returnPut
+    data-left b port n output u o q1 q2 q3 hash is q4 =
+        forwarded (by-path (pathAt t i)) (data-row .1) (by-path-forwards (pathAt t i)) port n _ output u o q1 refl q2 q3
+        (return-written v a t b (ok .formed) (pathAt t i) (take 16 hash) port (r .returns .next) u (data-row .2) (ap (take 16) is) q1 refl q4)
 
   -- ---- a link request by the path at a place
-  module _ (i place : ℕ) (d : decision r a ≡ Request i place) where
+  module _ (i place high low : ℕ) (d : decision r a ≡ Request i place high low) where
     pub request-row : (i < pathCount) × (planOn packet m t ≡ follows (by-path (pathAt t i))) × (isData (header a) ≡ false) × (place ≡ freeLink (m .clock) r)
     request-row =
-        let k = inverted r a (Request i place) d in
+        let k = inverted r a (Request i place high low) d in
         let f : Planned v a (follows (by-path (k .0))) = subst (Planned v a) (k .1) (planned v a) in
         let q = settled i pathCount (f .found .0) (path-found t (m .clock) (destination a) i (k .3)) (path-missing t (m .clock) (destination a) i (k .3)) in
         (q .0, k .1 ∙ ap (λ (p : Path). follows (by-path p)) (q .1), k .2, k .4)
@@ -121,20 +127,29 @@ module _ (packet : List ℕ) (m : Arrived) (hash t : List ℕ) (ok : Accepted pa
     pub request-room : place < linkCount
     unfolding noRoom viewAt
     request-room =
-        let k = inverted r a (Request i place) d in
+        let k = inverted r a (Request i place high low) d in
         let f : Planned v a (follows (by-path (k .0))) = subst (Planned v a) (k .1) (planned v a) in
         let asks : isLinkRequest (header a) ≡ true = request-left (header a) (k .2) (f .found .1) (f .found .2) in
         let room : not (ltb (freeLink (m .clock) r) linkCount) ≡ false = sym (and-yes _ asks) ∙ passed v a (by-path (k .0)) (k .1) .1 .room in
         subst (λ (n : ℕ). n < linkCount) (sym (k .4)) (ltb-true _ _ (not-false _ room))
 
+    pub request-id : addressBy high low ≡ linkId packet
+    request-id =
+        let k = inverted r a (Request i place high low) d in
+        let id : List ℕ = linkId packet in
+        let size = link-id-length packet in
+        ap₂ addressBy (k .5) (k .6)
+        ∙ ap₂ _++_ (part-again id 0 8 (link-id-bytes packet) (omega (arith, size))) (part-again id 8 8 (link-id-bytes packet) (omega (arith, size)))
+        ∙ sym (part-split id 0 8 8)
+        ∙ part-whole id 16 size
+
     pub asked-left : Bytes t → (port n : ℕ) (x : Link) (output u o : List ℕ) → port ≡ pathAt t i .port → x ≡ linkRecord a (pathAt t i)
-        → n ≡ length (pathPacket (pathAt t i) (alone packet)) → o ≡ patch output 0 (pathPacket (pathAt t i) (alone packet))
-        → u ≡ linkKept t place x hash (m .clock) → Acts packet m t output (Forward port n) u o
-    unfolding outgoing leavingPort linkKept stamped
+        → n ≡ length (forwardedOn packet t i) → o ≡ patch output 0 (forwardedOn packet t i)
+        → u ≡ linkWritten t place x → CarriesOut packet m t output (Forward port n) u o
+    unfolding outgoing leavingPort
     asked-left b port n x output u o q1 qx q2 q3 q4 =
-        forwarded (by-path (pathAt t i)) (request-row .1) (by-path-forwards (pathAt t i)) port n _ output u o q1 (path-packet-alone (pathAt t i) a) q2 q3
-        (request-enacted v a t b (ok .formed) hash (ok .hashed) (r .hashes .next) refl x place request-room (pathAt t i) _ _ u (request-row .2) qx (request-row .3)
-        refl refl q4)
+        forwarded (by-path (pathAt t i)) (request-row .1) (by-path-forwards (pathAt t i)) port n _ output u o q1 refl q2 q3
+        (link-written v a t b (ok .formed) x place request-room u q4 (pathAt t i) (request-row .2) qx (request-row .3))
 
   -- ---- a packet of the link at a place
   module _ (i port : ℕ) (d : decision r a ≡ Carry i port) where
@@ -147,12 +162,12 @@ module _ (packet : List ℕ) (m : Arrived) (hash t : List ℕ) (ok : Accepted pa
         (q .0, k .1 ∙ ap (λ (l : Link). follows (along-link l)) (q .1), k .2, k .3 ∙ ap (λ (l : Link). leavingPort a (along-link l)) (q .1))
 
     pub carry-left : Bytes t → (n : ℕ) (x : Link) (output u o : List ℕ) → x ≡ renewedLink a (linkAt t i)
-        → n ≡ length (carriedBytes packet) → o ≡ patch output 0 (carriedBytes packet) → u ≡ linkKept t i x hash (m .clock)
-        → Acts packet m t output (Forward port n) u o
-    unfolding outgoing linkKept stamped
+        → n ≡ length (carriedPacket packet) → o ≡ patch output 0 (carriedPacket packet) → u ≡ linkWritten t i x
+        → CarriesOut packet m t output (Forward port n) u o
+    unfolding outgoing
     carry-left b n x output u o qx q2 q3 q4 =
-        forwarded (along-link (linkAt t i)) (carry-row .1) (along-link-forwards (linkAt t i)) port n _ output u o (carry-row .3) (carried-packet a) q2 q3
-        (link-enacted v a t b (ok .formed) hash (ok .hashed) (r .hashes .next) refl x i (carry-row .0) (linkAt t i) _ _ u qx (carry-row .2) refl refl q4)
+        forwarded (along-link (linkAt t i)) (carry-row .1) (along-link-forwards (linkAt t i)) port n _ output u o (carry-row .3) refl q2 q3
+        (link-renewed v a t b (ok .formed) x i (carry-row .0) u q4 (linkAt t i) qx (carry-row .2))
 
   -- ---- an ordinary proof by the return record at a place
   module _ (i port : ℕ) (d : decision r a ≡ Receipt i port) where
@@ -163,10 +178,10 @@ module _ (packet : List ℕ) (m : Arrived) (hash t : List ℕ) (ok : Accepted pa
         let q = settled i returnCount (f .found) (return-found t (m .clock) (destination a) i (k .2)) (return-missing t (m .clock) (destination a) i (k .2)) in
         (q .0, k .1 ∙ ap (λ (x : Return). follows (by-return x)) (q .1))
 
-    pub receipt-left : Bytes t → (n : ℕ) (output u o : List ℕ) → n ≡ length (carriedBytes packet) → o ≡ patch output 0 (carriedBytes packet)
-        → u ≡ returnDone t i hash (m .clock) → Acts packet m t output (Forward port n) u o
-    unfolding outgoing returnDone stamped
+    pub receipt-left : Bytes t → (n : ℕ) (output u o : List ℕ) → n ≡ length (carriedPacket packet) → o ≡ patch output 0 (carriedPacket packet)
+        → u ≡ returnEmptied t i → CarriesOut packet m t output (Forward port n) u o
+    unfolding outgoing
     receipt-left b n output u o q2 q3 q4 =
         let k = inverted r a (Receipt i port) d in
-        forwarded (by-return (k .0)) (k .1) (by-return-forwards (k .0)) port n _ output u o (k .3) (carried-packet a) q2 q3
-        (proof-enacted v a t b (ok .formed) hash (ok .hashed) (r .hashes .next) refl (k .0) i _ _ u (receipt-row .0) (k .2) refl refl q4)
+        forwarded (by-return (k .0)) (k .1) (by-return-forwards (k .0)) port n _ output u o (k .3) refl q2 q3
+        (return-emptied v a t b (ok .formed) (k .0) i u (receipt-row .0) (k .2) q4)

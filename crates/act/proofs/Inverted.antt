@@ -6,6 +6,7 @@ use mathlib.Core.Path.{_≡_, refl, sym, subst}
 use lib.Dec.{ltb}
 use borrow.Author.Tests.{ltb-true, ltb-false}
 use Rattle.packet.specs.Header.{isData}
+use Rattle.packet.specs.Hash.{linkId}
 use Rattle.rules.specs.Relay.{Slot, empty, used, Path, Return, Relay}
 use Rattle.rules.specs.View.{View, viewAt, pathPlace, linkPlace, returnPlace, freeLink}
 use Rattle.rules.specs.Arrival.{Arrival, header, destination}
@@ -18,7 +19,7 @@ use Rattle.rules.proofs.Choices.{either}
 use Rattle.rules.proofs.Passed.{passed}
 use Rattle.plan.specs.declared.Decision.{Decision}
 use Rattle.plan.specs.declared.Decision.the-variants.{Drop, Deliver, Announce, Data, Request, Carry, Receipt}
-use Rattle.plan.specs.Decided.{decidedWay, decided, decision}
+use Rattle.plan.specs.Decided.{highOf, lowOf, decidedWay, decided, decision}
 
 -- ---- the plan behind a decision
 module _ (r : Relay) (a : Arrival) where
@@ -32,9 +33,9 @@ module _ (r : Relay) (a : Arrival) where
       (s : Slot Path) × (plan view a ≡ follows (everywhere s)) × (place ≡ announcedPlace a s r) × (isThere s ≡ known)
   Inverted (Data i) =
       (p : Path) × (plan view a ≡ follows (by-path p)) × (isData (header a) ≡ true) × (i ≡ pathPlace (a .clock) r (destination a))
-  Inverted (Request i place) =
+  Inverted (Request i place high low) =
       (p : Path) × (plan view a ≡ follows (by-path p)) × (isData (header a) ≡ false) × (i ≡ pathPlace (a .clock) r (destination a))
-      × (place ≡ freeLink (a .clock) r)
+      × (place ≡ freeLink (a .clock) r) × (high ≡ highOf (linkId (a .bytes))) × (low ≡ lowOf (linkId (a .bytes)))
   Inverted (Carry i port) =
       (l : Link) × (plan view a ≡ follows (along-link l)) × (i ≡ linkPlace (a .clock) r (destination a)) × (port ≡ leavingPort a (along-link l))
   Inverted (Receipt i port) =
@@ -46,7 +47,7 @@ module _ (r : Relay) (a : Arrival) where
   inverted-plan delivered e = e
   inverted-plan (follows (everywhere s)) e = (s, e, refl, refl)
   inverted-plan (follows (by-path p)) e =
-      either Inverted (isData (header a)) (λ yes. (p, e, yes, refl)) (λ no. (p, e, no, refl, refl))
+      either Inverted (isData (header a)) (λ yes. (p, e, yes, refl)) (λ no. (p, e, no, refl, refl, refl, refl))
   inverted-plan (follows (along-link l)) e = (l, e, refl, refl)
   inverted-plan (follows (by-return t)) e = (t, e, refl, refl)
   inverted-plan (follows (blocked why)) e = absurd (false≢true (sym (passed view a (blocked why) e .1 .someWay)))

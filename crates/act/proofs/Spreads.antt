@@ -25,7 +25,7 @@ use Rattle.rules.specs.Tests.{isThere, noRoom}
 use Rattle.rules.specs.Answers.{portSet}
 use Rattle.rules.specs.Outgoing.{spreadPorts, spreadPacket, outgoing, exceeds}
 use Rattle.rules.specs.Judging.{Plan, follows, spreadVerdict, wayVerdict, verdict, leaves, outputAfter}
-use Rattle.rules.specs.Writes.{announcedPlace, enact}
+use Rattle.rules.specs.Writes.{announcedPlace, writePlan}
 use Rattle.rules.specs.declared.Link.{Link}
 use Rattle.rules.specs.declared.Verdict.{Verdict}
 use Rattle.rules.specs.declared.Verdict.the-variants.{Spread, Kept}
@@ -36,15 +36,15 @@ use Rattle.tables.specs.Layout.{relayOf, bytesOf}
 use Rattle.lookup.proofs.Found.{path-found, path-missing}
 use Rattle.update.specs.declared.Announced.{Announced}
 use Rattle.update.specs.Written.{announced, pathWritten}
-use Rattle.update.proofs.Enacted.{Announces, new-path-enacted, known-path-enacted}
-use Rattle.outgoing.specs.Leaving.{Onward, spreadBytes, spreadLength}
-use Rattle.outgoing.proofs.RuleLaws.{spread-packet, spread-exceeds}
+use Rattle.update.proofs.Enacted.{Announces, new-path-written, known-path-written}
+use Rattle.outgoing.specs.Leaving.{Onward, spreadLength}
+use Rattle.outgoing.proofs.RuleLaws.{spread-exceeds}
 use Rattle.plan.specs.declared.Arrived.{Arrived}
 use Rattle.plan.specs.declared.Decision.the-variants.{Announce}
 use Rattle.plan.specs.Decided.{arrivalOf, decision}
 use Rattle.plan.proofs.KindLaws.{announce-long}
-use Rattle.act.specs.Kept.{stamped, blobsKept, pathPut, pathKept}
-use Rattle.act.specs.Acted.{Accepted, seen, planOn, verdictOn, tablesOn, outputOn, Acts, announcedBy}
+use Rattle.act.specs.Kept.{blobsKept, pathPut}
+use Rattle.act.specs.Acted.{Accepted, seen, planOn, verdictOn, writtenOn, outputOn, CarriesOut, spreadOn, spreadVerdictOn, announcedBy}
 use Rattle.rules.proofs.Passed.{passed}
 use Rattle.act.proofs.Inverted.{inverted, settled}
 use Rattle.act.proofs.Forwards.{onward}
@@ -92,12 +92,12 @@ announce-way v a known =
 -- ---- spread or kept
 module _ (packet : List ℕ) (m : Arrived) (t output : List ℕ) where
   abbrev sent : List ℕ
-  sent = spreadPacket (seen m t) (arrivalOf packet m)
+  sent = spreadOn packet t
 
   -- what the spreading leaves
   abbrev Spreads : Verdict → List ℕ → Type 0
   Spreads x o =
-      (x ≡ spreadVerdict (spreadPorts (seen m t) (arrivalOf packet m)) sent) × (o ≡ (leaves x then patch output 0 sent otherwise output))
+      (x ≡ spreadVerdictOn packet m t) × (o ≡ (leaves x then patch output 0 sent otherwise output))
 
   module _ (ports : ℕ) (all : ports ≡ portSet (λ port. portOn (relayOf t) port and not (eqb port (m .port)))) where
     those : ports ≡ spreadPorts (seen m t) (arrivalOf packet m)
@@ -110,23 +110,23 @@ module _ (packet : List ℕ) (m : Arrived) (t output : List ℕ) where
 
     module _ (h : reads longestPacket packet ≡ true) (size : length t ≡ tableSize) where
       too-long : exceeds sent ≡ ltb longestPacket (spreadLength packet)
-      unfolding viewAt relayOf
-      too-long = spread-exceeds (seen m t) (arrivalOf packet m) h (part-length t ownAt addressWidth (omega (arith, size)))
+      unfolding relayOf
+      too-long = spread-exceeds (relayOf t .own) packet h (part-length t ownAt addressWidth (omega (arith, size)))
 
       pub spread-long : longestPacket < spreadLength packet → Spreads Kept output
       unfolding spreadVerdict leaves _then_otherwise_
       spread-long l = (sym (then-true _ _ (or-right _ (too-long ∙ lt-ltb _ _ l))), refl)
 
       pub spread-sent : (ports ≡ 0 → ⊥) → spreadLength packet ≤ longestPacket → (own : List ℕ) → own ≡ relayOf t .own
-          → (n : ℕ) (o : List ℕ) → n ≡ length (spreadBytes own packet) → o ≡ patch output 0 (spreadBytes own packet) → Spreads (Spread ports n) o
+          → (n : ℕ) (o : List ℕ) → n ≡ length (spreadPacket own packet) → o ≡ patch output 0 (spreadPacket own packet) → Spreads (Spread ports n) o
       unfolding spreadVerdict leaves _then_otherwise_ viewAt
       spread-sent some short own is n o q1 q2 =
-          let same : spreadBytes own packet ≡ sent = ap (λ (x : List ℕ). spreadBytes x packet) is ∙ sym (spread-packet (arrivalOf packet m) (seen m t)) in
+          let same : spreadPacket own packet ≡ sent = ap (λ (x : List ℕ). spreadPacket x packet) is in
           let goes = or-no (ne-eqb _ 0 (λ z. some (those ∙ z))) (too-long ∙ le-ltb _ _ short) in
           (ap₂ Spread those (q1 ∙ ap length same) ∙ sym (then-false _ _ goes), q2 ∙ ap (patch output 0) same)
 
 -- ---- all of it
-module _ (packet : List ℕ) (m : Arrived) (hash t : List ℕ) (ok : Accepted packet m hash t) (place : ℕ) (known : Bool)
+module _ (packet : List ℕ) (m : Arrived) (t : List ℕ) (ok : Accepted packet m t) (place : ℕ) (known : Bool)
     (d : decision (relayOf t) (arrivalOf packet m) ≡ Announce place known) where
   abbrev a : Arrival
   a = arrivalOf packet m
@@ -138,7 +138,7 @@ module _ (packet : List ℕ) (m : Arrived) (hash t : List ℕ) (ok : Accepted pa
   r = relayOf t
 
   pub announce-onward : Onward packet
-  announce-onward = let k = inverted r a (Announce place known) d in onward packet m hash t ok (everywhere (k .0)) (k .1)
+  announce-onward = let k = inverted r a (Announce place known) d in onward packet m t ok (everywhere (k .0)) (k .1)
 
   pub announce-body : 84 ≤ length (payload packet)
   announce-body =
@@ -173,24 +173,24 @@ module _ (packet : List ℕ) (m : Arrived) (hash t : List ℕ) (ok : Accepted pa
         }
 
     path-left : (s : Slot Path) → planOn packet m t ≡ follows (everywhere s) → place ≡ announcedPlace a s r → isThere s ≡ known → Bytes t
-        → (u : List ℕ) → u ≡ pathKept t place known x blob hash (m .clock) → u ≡ bytesOf (enact v a (follows (everywhere s)) r)
-    unfolding announcedPlace isThere pathKept pathPut blobsKept stamped viewAt
+        → (u : List ℕ) → u ≡ pathPut t place known x blob → u ≡ bytesOf (writePlan v a (follows (everywhere s)) r)
+    unfolding announcedPlace isThere pathPut blobsKept viewAt writePlan
     path-left empty e at there b u q =
-        new-path-enacted v a t b (ok .formed) hash (ok .hashed) (r .hashes .next) refl x blob set-by place announce-room _ _ u at
-        (ap (λ (y : Blobs). pathWritten t place (announced x y)) (then-false _ _ (sym there))) refl q
+        new-path-written v a t b (ok .formed) x blob set-by place announce-room u at
+        (q ∙ ap (λ (y : Blobs). pathWritten t place (announced x y)) (then-false _ _ (sym there)))
     path-left (used p) e at there b u q =
-        known-path-enacted v a t b (ok .formed) hash (ok .hashed) (r .hashes .next) refl x blob set-by place announce-room p _ _ u at
+        known-path-written v a t b (ok .formed) x blob set-by place announce-room p u at
         (ap (λ (n : ℕ). getD (r .paths) n empty) at ∙ shown (used p) e)
-        (ap (λ (y : Blobs). pathWritten t place (announced x y)) (then-true _ _ (sym there))) refl q
+        (q ∙ ap (λ (y : Blobs). pathWritten t place (announced x y)) (then-true _ _ (sym there)))
 
     pub announce-left : Bytes t → (w : Verdict) (output u o : List ℕ) → Spreads packet m t output w o
-        → u ≡ pathKept t place known x blob hash (m .clock) → Acts packet m t output w u o
-    unfolding verdictOn tablesOn outputOn verdict outputAfter wayVerdict outgoing
+        → u ≡ pathPut t place known x blob → CarriesOut packet m t output w u o
+    unfolding verdictOn writtenOn outputOn verdict outputAfter wayVerdict outgoing viewAt
     announce-left b w output u o spread q =
         let k = inverted r a (Announce place known) d in (
           spread .0 ∙ ap (verdict v a) (sym (k .1)),
-          path-left (k .0) (k .1) (k .2) (k .3) b u q ∙ ap (λ (todo : Plan). bytesOf (enact v a todo r)) (sym (k .1)),
+          path-left (k .0) (k .1) (k .2) (k .3) b u q ∙ ap (λ (todo : Plan). bytesOf (writePlan v a todo r)) (sym (k .1)),
           spread .1
-              ∙ ap (λ (y : Verdict). leaves y then patch output 0 (spreadPacket v a) otherwise output) (spread .0)
+              ∙ ap (λ (y : Verdict). leaves y then patch output 0 (spreadOn packet t) otherwise output) (spread .0)
               ∙ ap (λ (todo : Plan). outputAfter v a todo output) (sym (k .1)),
         )

@@ -1,38 +1,40 @@
 -- What an accepted packet leaves: the rules' verdict, tables and output, on the bytes; and the refusals before it.
 -- For the contracts of helpers: not part of what a reader must believe.
-use Prim.Native.Nat.{ℕ, _+_, _<_}
-use mathlib.Core.Bool.{true, false}
+use Prim.Native.Nat.{ℕ, _<_}
+use mathlib.Core.Bool.{Bool, true, false}
 use mathlib.Core.List.{List}
 use mathlib.Core.Path.{_≡_}
 use Rattle.octets.specs.Choice.{_then_otherwise_}
 use Rattle.packet.specs.Read.{longestPacket, reads}
-use Rattle.packet.specs.Hash.{packetHash}
 use Rattle.rules.specs.Numbers.{portCount, clockLimit}
+use Rattle.rules.specs.Relay.{Path}
 use Rattle.rules.specs.View.{View, viewAt}
 use Rattle.rules.specs.Arrival.{Arrival, hops, destination}
-use Rattle.rules.specs.Refusals.{packetRefusal}
-use Rattle.rules.specs.Judging.{Plan, plan, verdict, outputAfter}
-use Rattle.rules.specs.Writes.{nextHopOf, pathExpiry, enact}
+use Rattle.rules.specs.Refusals.{refusalBy}
+use Rattle.rules.specs.Outgoing.{spreadPorts, spreadPacket, pathPacket}
+use Rattle.rules.specs.Judging.{Plan, plan, spreadVerdict, verdict, outputAfter}
+use Rattle.rules.specs.Writes.{remembers, nextHopOf, pathExpiry, writePlan, enact}
 use Rattle.rules.specs.declared.Verdict.{Verdict}
-use Rattle.tables.specs.Layout.{relayOf, bytesOf, wellFormed}
+use Rattle.tables.specs.Places.{pathsAt, pathWidth}
+use Rattle.tables.specs.Records.{pathOf}
+use Rattle.tables.specs.Layout.{rowAt, relayOf, bytesOf, wellFormed}
 use Rattle.update.specs.declared.Announced.{Announced}
 use Rattle.plan.specs.declared.Arrived.{Arrived}
 use Rattle.plan.specs.Decided.{arrivalOf}
 
--- 7 6 4 5 1 2 3 1, or 0: a packet call's refusal on bytes, with an output of `room` bytes. The signature word has no part in it
+-- 7 6 4 5 1 2 3 1, or 0: a packet call's refusal on bytes, with an output of `room` bytes
 unfoldable pub packetRefusalOn : List ℕ → ℕ → ℕ → List ℕ → ℕ → ℕ
 packetRefusalOn packet port clock t room =
     wellFormed t
-    then packetRefusal (relayOf t) (record { bytes = packet; port = port; clock = clock; signed = false }) room
+    then refusalBy (relayOf t) packet port clock room
     otherwise 7
 
 -- what a caller shows of an accepted packet
-pub record Accepted (packet : List ℕ) (m : Arrived) (hash : List ℕ) (t : List ℕ) : Type 0 where
+pub record Accepted (packet : List ℕ) (m : Arrived) (t : List ℕ) : Type 0 where
   pub formed : wellFormed t ≡ true
   pub readable : reads longestPacket packet ≡ true
   pub port : m .port < portCount
   pub clock : m .clock < clockLimit
-  pub hashed : hash ≡ packetHash packet
 
 -- what the tables show at the packet's clock
 abbrev pub seen : Arrived → List ℕ → View
@@ -47,12 +49,41 @@ verdictOn packet m t = verdict (seen m t) (arrivalOf packet m) (planOn packet m 
 unfoldable pub tablesOn : List ℕ → Arrived → List ℕ → List ℕ
 tablesOn packet m t = bytesOf (enact (seen m t) (arrivalOf packet m) (planOn packet m t) (relayOf t))
 
+-- .. before the stamp
+unfoldable pub writtenOn : List ℕ → Arrived → List ℕ → List ℕ
+writtenOn packet m t = bytesOf (writePlan (seen m t) (arrivalOf packet m) (planOn packet m t) (relayOf t))
+
+-- .. and whether the stamp remembers the hash
+unfoldable pub rememberedOn : List ℕ → Arrived → List ℕ → Bool
+rememberedOn packet m t = remembers (seen m t) (arrivalOf packet m) (planOn packet m t)
+
 unfoldable pub outputOn : List ℕ → Arrived → List ℕ → List ℕ → List ℕ
 outputOn packet m t output = outputAfter (seen m t) (arrivalOf packet m) (planOn packet m t) output
 
--- what a function leaves that does what was decided: all three are the rules'
+-- what a function leaves that carries out what was decided: all three are the rules', but for the stamp
+abbrev pub CarriesOut : List ℕ → Arrived → List ℕ → List ℕ → Verdict → List ℕ → List ℕ → Type 0
+CarriesOut packet m t output verdict t′ output′ =
+    (verdict ≡ verdictOn packet m t) × (t′ ≡ writtenOn packet m t) × (output′ ≡ outputOn packet m t output)
+
+-- .. and stamps the tables
 abbrev pub Acts : List ℕ → Arrived → List ℕ → List ℕ → Verdict → List ℕ → List ℕ → Type 0
-Acts packet m t output verdict t′ output′ = (verdict ≡ verdictOn packet m t) × (t′ ≡ tablesOn packet m t) × (output′ ≡ outputOn packet m t output)
+Acts packet m t output verdict t′ output′ =
+    (verdict ≡ verdictOn packet m t) × (t′ ≡ tablesOn packet m t) × (output′ ≡ outputOn packet m t output)
+
+-- ---- what leaves
+-- by the path at a place
+abbrev pub pathAt : List ℕ → ℕ → Path
+pathAt t place = pathOf (rowAt pathsAt pathWidth t place)
+
+abbrev pub forwardedOn : List ℕ → List ℕ → ℕ → List ℕ
+forwardedOn packet t path = pathPacket (pathAt t path .hops) (pathAt t path .nextHop) packet
+
+-- an announce that is spread
+abbrev pub spreadOn : List ℕ → List ℕ → List ℕ
+spreadOn packet t = spreadPacket (relayOf t .own) packet
+
+abbrev pub spreadVerdictOn : List ℕ → Arrived → List ℕ → Verdict
+spreadVerdictOn packet m t = spreadVerdict (spreadPorts (seen m t) (arrivalOf packet m)) (spreadOn packet t)
 
 -- what an announce sets of its path, beside the blob
 unfoldable pub announcedBy : View → Arrival → Announced
@@ -61,6 +92,6 @@ announcedBy v a =
       destination = destination a;
       port = a .port;
       hops = hops a;
-      «next_hop» = nextHopOf a;
+      «next_hop» = nextHopOf (a .bytes);
       expiry = pathExpiry v a;
     }

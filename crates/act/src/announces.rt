@@ -1,5 +1,4 @@
 // Accepted announces: spread or kept, and their path is set.
-use super::stamps::stamp;
 use packet::LONGEST_PACKET;
 use plan::Arrived;
 use rules::Verdict;
@@ -17,16 +16,15 @@ ghost use Rattle.octets.specs.Part.{patch};
 ghost use Rattle.rules.specs.Numbers.{portCount, pathCount, clockLimit, pathLifetime};
 ghost use Rattle.rules.specs.View.{portOn};
 ghost use Rattle.rules.specs.Answers.{portSet};
-ghost use Rattle.rules.specs.Outgoing.{spreadPorts, spreadPacket};
-ghost use Rattle.rules.specs.Judging.{spreadVerdict, leaves};
+ghost use Rattle.rules.specs.Judging.{leaves};
 ghost use Rattle.rules.specs.Writes.{nextHopOf};
 ghost use Rattle.tables.specs.Places.{tableSize};
-ghost use Rattle.tables.specs.Layout.{relayOf, wellFormed};
-ghost use Rattle.outgoing.specs.Leaving.{alone, Onward};
+ghost use Rattle.tables.specs.Layout.{relayOf};
+ghost use Rattle.outgoing.specs.Leaving.{Onward};
 ghost use Rattle.plan.specs.declared.Decision.the-variants.{Announce};
 ghost use Rattle.plan.specs.Decided.{arrivalOf, decision};
-ghost use Rattle.act.specs.Kept.{pathPut, pathKept};
-ghost use Rattle.act.specs.Acted.{Accepted, seen, Acts, announcedBy};
+ghost use Rattle.act.specs.Kept.{pathPut};
+ghost use Rattle.act.specs.Acted.{Accepted, seen, CarriesOut, spreadOn, spreadVerdictOn, announcedBy};
 
 // The number of ports as a byte.
 const PORTS: u8 = PORT_COUNT as u8;
@@ -47,7 +45,7 @@ fn path_lifetime(mode: u8) -> u64
 // The next hop: the relay address, or the destination if type 1.
 fn next_hop_of(packet: &[u8]) -> [u8; 16]
     requires { ⌜ reads longestPacket (now packet) ≡ true ⌝ }
-    ensures { λ r. ⌜ r ≡ nextHopOf (alone (now (packet .entry))) ⌝ }
+    ensures { λ r. ⌜ r ≡ nextHopOf (now (packet .entry)) ⌝ }
 {
     let parts = packet::parts_of(packet);
     if packet::type_two(packet[0]) {
@@ -58,7 +56,8 @@ fn next_hop_of(packet: &[u8]) -> [u8; 16]
 
 // What the announce sets of its path.
 fn announced_path(tables: &[u8], packet: &[u8], arrived: Arrived) -> Announced
-    requires { ⌜ (length (now tables) ≡ tableSize) × (reads longestPacket (now packet) ≡ true) × (arrived .port < portCount) × (arrived .clock < clockLimit) ⌝ }
+    requires { ⌜ (length (now tables) ≡ tableSize) × (reads longestPacket (now packet) ≡ true)
+        × (arrived .port < portCount) × (arrived .clock < clockLimit) ⌝ }
     ensures { λ r. ⌜ r ≡ announcedBy (seen arrived (now (tables .entry))) (arrivalOf (now (packet .entry)) arrived) ⌝ }
 {
     let parts = packet::parts_of(packet);
@@ -86,24 +85,6 @@ fn put_path(tables: &mut [u8], place: usize, known: bool, path: Announced, blob:
     update::put_new_path(tables, place, path, blob);
 }
 
-// All that an accepted announce writes.
-fn keep_path(
-    tables: &mut [u8],
-    place: usize,
-    known: bool,
-    path: Announced,
-    blob: [u8; 10],
-    hash: [u8; 32],
-    clock: u64,
-)
-    requires { ⌜ (wellFormed (now tables) ≡ true) × (place < pathCount) × (clock < clockLimit) ⌝ }
-    ensures { λ _. ⌜ now (tables .exit) ≡ pathKept (now (tables .entry)) place known path blob hash clock ⌝ }
-{
-    let next = update::next_hash(tables);
-    put_path(tables, place, known, path, blob);
-    stamp(tables, next, hash, clock);
-}
-
 // The ports that an announce is spread to: all that are on but the arrival port.
 fn spread_ports(tables: &[u8], arrival: u8) -> u16
     requires { ⌜ length (now tables) ≡ tableSize ⌝ }
@@ -122,7 +103,10 @@ fn spread_ports(tables: &[u8], arrival: u8) -> u16
 // Spreads an announce, or keeps it: if no port is left, or the result exceeds 500, the output stays.
 fn spread(packet: &[u8], tables: &[u8], arrived: Arrived, output: &mut [u8]) -> Verdict
     requires { ⌜ Onward (now packet) × (length (now tables) ≡ tableSize) × (longestPacket ≤ length (now output)) ⌝ }
-    ensures { λ r. ⌜ (r ≡ spreadVerdict (spreadPorts (seen arrived (now (tables .entry))) (arrivalOf (now (packet .entry)) arrived)) (spreadPacket (seen arrived (now (tables .entry))) (arrivalOf (now (packet .entry)) arrived))) × (now (output .exit) ≡ (leaves r then patch (now (output .entry)) 0 (spreadPacket (seen arrived (now (tables .entry))) (arrivalOf (now (packet .entry)) arrived)) otherwise now (output .entry))) ⌝ }
+    ensures { λ r. ⌜ (r ≡ spreadVerdictOn (now (packet .entry)) arrived (now (tables .entry)))
+        × (now (output .exit) ≡ (leaves r
+        then patch (now (output .entry)) 0 (spreadOn (now (packet .entry)) (now (tables .entry)))
+        otherwise now (output .entry))) ⌝ }
 {
     let ports = spread_ports(tables, arrived.port);
     if ports == 0 {
@@ -139,18 +123,19 @@ fn spread(packet: &[u8], tables: &[u8], arrived: Arrived, output: &mut [u8]) -> 
 pub fn announce(
     packet: &[u8],
     arrived: Arrived,
-    hash: [u8; 32],
     place: usize,
     known: bool,
     tables: &mut [u8],
     output: &mut [u8],
 ) -> Verdict
-    requires { ⌜ Accepted (now packet) arrived hash (now tables) × (longestPacket ≤ length (now output)) × (decision (relayOf (now tables)) (arrivalOf (now packet) arrived) ≡ Announce place known) ⌝ }
-    ensures { λ r. ⌜ Acts (now (packet .entry)) arrived (now (tables .entry)) (now (output .entry)) r (now (tables .exit)) (now (output .exit)) ⌝ }
+    requires { ⌜ Accepted (now packet) arrived (now tables) × (longestPacket ≤ length (now output))
+        × (decision (relayOf (now tables)) (arrivalOf (now packet) arrived) ≡ Announce place known) ⌝ }
+    ensures { λ r. ⌜ CarriesOut (now (packet .entry)) arrived (now (tables .entry)) (now (output .entry))
+        r (now (tables .exit)) (now (output .exit)) ⌝ }
 {
     let verdict = spread(packet, tables, arrived, output);
     let path = announced_path(tables, packet, arrived);
     let blob = packet::blob(packet::payload(packet));
-    keep_path(tables, place, known, path, blob, hash, arrived.clock);
+    put_path(tables, place, known, path, blob);
     verdict
 }

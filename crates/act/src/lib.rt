@@ -1,5 +1,5 @@
-// What is done with an accepted packet once it is decided, one function for each thing that is written; the refusals before it, and the
-// tally behind it.
+// What is done with an accepted packet once it is decided, one function for each record that is written, and one stamp; the refusals before
+// it, and the tally behind it.
 // Entry points: refusal, counted, reason_number. Every other function is a helper of the packet call: the caller shows that the packet is accepted, and
 // what was decided.
 mod announces;
@@ -21,18 +21,54 @@ pub use reasons::reason_number;
 pub use refusals::refusal;
 use returns::receipt;
 use rules::Verdict;
-use stamps::keep_drop;
-use stamps::keep_packet;
+use stamps::remembers;
+use stamps::stamp;
 pub use tallies::counted;
 ghost use mathlib.Core.Path.{_≡_};
 ghost use Prim.Native.Nat.{_≤_};
 ghost use lib.ListN.{length};
 ghost use Rattle.packet.specs.Read.{longestPacket};
+ghost use Rattle.packet.specs.Hash.{packetHash};
 ghost use Rattle.tables.specs.Layout.{relayOf};
 ghost use Rattle.plan.specs.Decided.{arrivalOf, decision as decisionOn};
-ghost use Rattle.act.specs.Acted.{Accepted, Acts};
+ghost use Rattle.act.specs.Acted.{Accepted, CarriesOut, Acts};
 
-// Does what was decided of an accepted packet.
+// Carries out what was decided of an accepted packet: writes its record and what leaves, all but the stamp.
+fn carry_out(
+    packet: &[u8],
+    arrived: Arrived,
+    hash: [u8; 32],
+    decision: Decision,
+    tables: &mut [u8],
+    output: &mut [u8],
+) -> Verdict
+    requires { ⌜ Accepted (now packet) arrived (now tables) × (longestPacket ≤ length (now output))
+        × (decision ≡ decisionOn (relayOf (now tables)) (arrivalOf (now packet) arrived))
+        × (hash ≡ packetHash (now packet)) ⌝ }
+    ensures { λ r. ⌜ CarriesOut (now (packet .entry)) arrived (now (tables .entry)) (now (output .entry))
+        r (now (tables .exit)) (now (output .exit)) ⌝ }
+{
+    match decision {
+        Decision::Drop(reason) => Verdict::Drop(reason),
+        Decision::Deliver => Verdict::Deliver,
+        Decision::Announce { place, known } => {
+            announce(packet, arrived, place, known, tables, output)
+        }
+        Decision::Data { path } => send(packet, arrived, hash, path, tables, output),
+        Decision::Request {
+            path,
+            place,
+            high,
+            low,
+        } => request(packet, arrived, path, place, high, low, tables, output),
+        Decision::Carry { link, port } => carry(packet, arrived, link, port, tables, output),
+        Decision::Receipt { place, port } => {
+            receipt(packet, arrived, place, port, tables, output)
+        }
+    }
+}
+
+// Does what was decided of an accepted packet, and stamps the tables.
 pub fn act(
     packet: &[u8],
     arrived: Arrived,
@@ -41,30 +77,15 @@ pub fn act(
     tables: &mut [u8],
     output: &mut [u8],
 ) -> Verdict
-    requires { ⌜ Accepted (now packet) arrived hash (now tables) × (longestPacket ≤ length (now output)) × (decision ≡ decisionOn (relayOf (now tables)) (arrivalOf (now packet) arrived)) ⌝ }
-    ensures { λ r. ⌜ Acts (now (packet .entry)) arrived (now (tables .entry)) (now (output .entry)) r (now (tables .exit)) (now (output .exit)) ⌝ }
+    requires { ⌜ Accepted (now packet) arrived (now tables) × (longestPacket ≤ length (now output))
+        × (decision ≡ decisionOn (relayOf (now tables)) (arrivalOf (now packet) arrived))
+        × (hash ≡ packetHash (now packet)) ⌝ }
+    ensures { λ r. ⌜ Acts (now (packet .entry)) arrived (now (tables .entry)) (now (output .entry))
+        r (now (tables .exit)) (now (output .exit)) ⌝ }
 {
-    match decision {
-        Decision::Drop(reason) => {
-            keep_drop(tables, reason, hash, arrived.clock);
-            Verdict::Drop(reason)
-        }
-        Decision::Deliver => {
-            keep_packet(tables, hash, arrived.clock);
-            Verdict::Deliver
-        }
-        Decision::Announce { place, known } => {
-            announce(packet, arrived, hash, place, known, tables, output)
-        }
-        Decision::Data { path } => send(packet, arrived, hash, path, tables, output),
-        Decision::Request { path, place } => {
-            request(packet, arrived, hash, path, place, tables, output)
-        }
-        Decision::Carry { link, port } => {
-            carry(packet, arrived, hash, link, port, tables, output)
-        }
-        Decision::Receipt { place, port } => {
-            receipt(packet, arrived, hash, place, port, tables, output)
-        }
-    }
+    let place = update::next_hash(tables);
+    let remembered = remembers(decision);
+    let verdict = carry_out(packet, arrived, hash, decision, tables, output);
+    stamp(tables, place, remembered, hash, arrived.clock);
+    verdict
 }

@@ -1,7 +1,7 @@
 // Data and link requests by a path.
+use super::links::address_of;
 use super::links::asked_link;
-use super::links::keep_link;
-use super::returns::keep_return;
+use super::returns::put_return;
 use plan::Arrived;
 use rules::Verdict;
 ghost use mathlib.Core.Path.{_≡_};
@@ -9,20 +9,22 @@ ghost use Prim.Native.Nat.{_≤_, _<_};
 ghost use lib.ListN.{length};
 ghost use Rattle.octets.specs.Part.{patch};
 ghost use Rattle.packet.specs.Read.{longestPacket};
+ghost use Rattle.packet.specs.Hash.{packetHash};
 ghost use Rattle.rules.specs.Numbers.{pathCount};
-ghost use Rattle.rules.specs.Outgoing.{pathPacket};
-ghost use Rattle.tables.specs.Places.{tableSize, pathsAt, pathWidth};
-ghost use Rattle.tables.specs.Records.{pathOf};
-ghost use Rattle.tables.specs.Layout.{rowAt, relayOf};
-ghost use Rattle.outgoing.specs.Leaving.{alone, Onward};
+ghost use Rattle.tables.specs.Places.{tableSize};
+ghost use Rattle.tables.specs.Layout.{relayOf};
+ghost use Rattle.outgoing.specs.Leaving.{Onward};
 ghost use Rattle.plan.specs.declared.Decision.the-variants.{Data, Request};
 ghost use Rattle.plan.specs.Decided.{arrivalOf, decision};
-ghost use Rattle.act.specs.Acted.{Accepted, Acts};
+ghost use Rattle.act.specs.Acted.{Accepted, CarriesOut, forwardedOn};
 
 // Writes what leaves by the path at a place, and says how long it is.
 fn forward(packet: &[u8], tables: &[u8], path: usize, output: &mut [u8]) -> usize
-    requires { ⌜ Onward (now packet) × (length (now tables) ≡ tableSize) × (path < pathCount) × (longestPacket ≤ length (now output)) ⌝ }
-    ensures { λ r. ⌜ (r ≡ length (pathPacket (pathOf (rowAt pathsAt pathWidth (now (tables .entry)) path)) (alone (now (packet .entry))))) × (now (output .exit) ≡ patch (now (output .entry)) 0 (pathPacket (pathOf (rowAt pathsAt pathWidth (now (tables .entry)) path)) (alone (now (packet .entry))))) ⌝ }
+    requires { ⌜ Onward (now packet) × (length (now tables) ≡ tableSize) × (path < pathCount)
+        × (longestPacket ≤ length (now output)) ⌝ }
+    ensures { λ r. ⌜ (r ≡ length (forwardedOn (now (packet .entry)) (now (tables .entry)) path))
+        × (now (output .exit)
+        ≡ patch (now (output .entry)) 0 (forwardedOn (now (packet .entry)) (now (tables .entry)) path)) ⌝ }
 {
     let hops = lookup::path_hops(tables, path);
     let next_hop = lookup::path_next_hop(tables, path);
@@ -38,12 +40,15 @@ pub fn send(
     tables: &mut [u8],
     output: &mut [u8],
 ) -> Verdict
-    requires { ⌜ Accepted (now packet) arrived hash (now tables) × (longestPacket ≤ length (now output)) × (decision (relayOf (now tables)) (arrivalOf (now packet) arrived) ≡ Data path) ⌝ }
-    ensures { λ r. ⌜ Acts (now (packet .entry)) arrived (now (tables .entry)) (now (output .entry)) r (now (tables .exit)) (now (output .exit)) ⌝ }
+    requires { ⌜ Accepted (now packet) arrived (now tables) × (longestPacket ≤ length (now output))
+        × (decision (relayOf (now tables)) (arrivalOf (now packet) arrived) ≡ Data path)
+        × (hash ≡ packetHash (now packet)) ⌝ }
+    ensures { λ r. ⌜ CarriesOut (now (packet .entry)) arrived (now (tables .entry)) (now (output .entry))
+        r (now (tables .exit)) (now (output .exit)) ⌝ }
 {
     let port = lookup::path_port(tables, path);
     let length = forward(packet, tables, path, output);
-    keep_return(tables, arrived.port, port, hash, arrived.clock);
+    put_return(tables, arrived.port, port, hash, arrived.clock);
     Verdict::Forward { port, length }
 }
 
@@ -51,18 +56,21 @@ pub fn send(
 pub fn request(
     packet: &[u8],
     arrived: Arrived,
-    hash: [u8; 32],
     path: usize,
     place: usize,
+    high: u64,
+    low: u64,
     tables: &mut [u8],
     output: &mut [u8],
 ) -> Verdict
-    requires { ⌜ Accepted (now packet) arrived hash (now tables) × (longestPacket ≤ length (now output)) × (decision (relayOf (now tables)) (arrivalOf (now packet) arrived) ≡ Request path place) ⌝ }
-    ensures { λ r. ⌜ Acts (now (packet .entry)) arrived (now (tables .entry)) (now (output .entry)) r (now (tables .exit)) (now (output .exit)) ⌝ }
+    requires { ⌜ Accepted (now packet) arrived (now tables) × (longestPacket ≤ length (now output))
+        × (decision (relayOf (now tables)) (arrivalOf (now packet) arrived) ≡ Request path place high low) ⌝ }
+    ensures { λ r. ⌜ CarriesOut (now (packet .entry)) arrived (now (tables .entry)) (now (output .entry))
+        r (now (tables .exit)) (now (output .exit)) ⌝ }
 {
     let port = lookup::path_port(tables, path);
-    let link = asked_link(tables, packet, arrived, path);
+    let link = asked_link(tables, packet, arrived, path, address_of(high, low));
     let length = forward(packet, tables, path, output);
-    keep_link(tables, place, link, hash, arrived.clock);
+    update::put_link(tables, place, link);
     Verdict::Forward { port, length }
 }

@@ -1,5 +1,4 @@
 // Return records: made by data that is forwarded, and emptied by an ordinary proof.
-use super::stamps::stamp;
 use plan::Arrived;
 use rules::Verdict;
 ghost use mathlib.Core.Path.{_≡_};
@@ -7,18 +6,18 @@ ghost use mathlib.Core.Bool.{true};
 ghost use Prim.Native.Nat.{_≤_, _<_};
 ghost use lib.ListN.{length};
 ghost use Rattle.packet.specs.Read.{longestPacket};
-ghost use Rattle.rules.specs.Numbers.{returnCount, clockLimit};
+ghost use Rattle.rules.specs.Numbers.{clockLimit};
 ghost use Rattle.tables.specs.Layout.{relayOf, wellFormed};
 ghost use Rattle.plan.specs.declared.Decision.the-variants.{Receipt};
 ghost use Rattle.plan.specs.Decided.{arrivalOf, decision};
-ghost use Rattle.act.specs.Kept.{returnPut, returnKept, returnDone};
-ghost use Rattle.act.specs.Acted.{Accepted, Acts};
+ghost use Rattle.act.specs.Kept.{returnPut};
+ghost use Rattle.act.specs.Acted.{Accepted, CarriesOut};
 
 // A return record lives so many seconds.
 const RETURN_LIFETIME: u64 = 1800;
 
 // Puts a return record in the next ring place, its key the first 16 of the hash, and empties any other live one of that key.
-fn put_return(tables: &mut [u8], arrival: u8, leaving: u8, hash: [u8; 32], clock: u64)
+pub fn put_return(tables: &mut [u8], arrival: u8, leaving: u8, hash: [u8; 32], clock: u64)
     requires { ⌜ (wellFormed (now tables) ≡ true) × (clock < clockLimit) ⌝ }
     ensures { λ _. ⌜ now (tables .exit) ≡ returnPut (now (tables .entry)) arrival leaving hash clock ⌝ }
 {
@@ -35,40 +34,21 @@ fn put_return(tables: &mut [u8], arrival: u8, leaving: u8, hash: [u8; 32], clock
     );
 }
 
-// All that forwarded data writes.
-pub fn keep_return(tables: &mut [u8], arrival: u8, leaving: u8, hash: [u8; 32], clock: u64)
-    requires { ⌜ (wellFormed (now tables) ≡ true) × (clock < clockLimit) ⌝ }
-    ensures { λ _. ⌜ now (tables .exit) ≡ returnKept (now (tables .entry)) arrival leaving hash clock ⌝ }
-{
-    let next = update::next_hash(tables);
-    put_return(tables, arrival, leaving, hash, clock);
-    stamp(tables, next, hash, clock);
-}
-
-// All that an ordinary proof writes.
-fn end_return(tables: &mut [u8], place: usize, hash: [u8; 32], clock: u64)
-    requires { ⌜ (wellFormed (now tables) ≡ true) × (place < returnCount) × (clock < clockLimit) ⌝ }
-    ensures { λ _. ⌜ now (tables .exit) ≡ returnDone (now (tables .entry)) place hash clock ⌝ }
-{
-    let next = update::next_hash(tables);
-    update::empty_return(tables, place);
-    stamp(tables, next, hash, clock);
-}
-
 // An ordinary proof by the return record at a place: forwarded by its arrival port, and the record is emptied.
 pub fn receipt(
     packet: &[u8],
     arrived: Arrived,
-    hash: [u8; 32],
     place: usize,
     port: u8,
     tables: &mut [u8],
     output: &mut [u8],
 ) -> Verdict
-    requires { ⌜ Accepted (now packet) arrived hash (now tables) × (longestPacket ≤ length (now output)) × (decision (relayOf (now tables)) (arrivalOf (now packet) arrived) ≡ Receipt place port) ⌝ }
-    ensures { λ r. ⌜ Acts (now (packet .entry)) arrived (now (tables .entry)) (now (output .entry)) r (now (tables .exit)) (now (output .exit)) ⌝ }
+    requires { ⌜ Accepted (now packet) arrived (now tables) × (longestPacket ≤ length (now output))
+        × (decision (relayOf (now tables)) (arrivalOf (now packet) arrived) ≡ Receipt place port) ⌝ }
+    ensures { λ r. ⌜ CarriesOut (now (packet .entry)) arrived (now (tables .entry)) (now (output .entry))
+        r (now (tables .exit)) (now (output .exit)) ⌝ }
 {
     let length = outgoing::carry(packet, output);
-    end_return(tables, place, hash, arrived.clock);
+    update::empty_return(tables, place);
     Verdict::Forward { port, length }
 }

@@ -1,44 +1,43 @@
-// The clock, which every accepted packet sets, and the hash, which all but drops 1 and 2 leave in the tables.
+// The stamp of an accepted packet: every one sets the clock, and all but drops 1 and 2 leave their hash in the tables.
 use super::reasons::reason_number;
-use rules::Reason;
+use plan::Decision;
 ghost use mathlib.Core.Path.{_≡_};
-ghost use mathlib.Core.Bool.{true};
 ghost use Prim.Native.Nat.{_<_};
 ghost use lib.ListN.{length};
 ghost use Rattle.rules.specs.Numbers.{hashCount, clockLimit};
 ghost use Rattle.tables.specs.Places.{tableSize};
-ghost use Rattle.tables.specs.Layout.{wellFormed};
-ghost use Rattle.act.specs.Kept.{stamped, packetKept, dropKept};
+ghost use Rattle.act.specs.Kept.{remembersDecided, stamped};
 
 // A remembered hash lives so many seconds.
 const HASH_LIFETIME: u64 = 300;
 
-// The clock, and the hash at a place, the next of its ring. The caller reads that place before its own writes.
-pub fn stamp(tables: &mut [u8], place: usize, hash: [u8; 32], clock: u64)
-    requires { ⌜ (length (now tables) ≡ tableSize) × (place < hashCount) × (clock < clockLimit) ⌝ }
-    ensures { λ _. ⌜ now (tables .exit) ≡ stamped (now (tables .entry)) place hash clock ⌝ }
+// Whether the packet's hash is remembered.
+pub fn remembers(decision: Decision) -> bool
+    ensures { λ r. ⌜ r ≡ remembersDecided decision ⌝ }
 {
-    update::set_clock(tables, clock);
-    update::remember(tables, place, hash, clock + HASH_LIFETIME);
-}
-
-// All that a packet writes that is delivered, or dropped after test 2.
-pub fn keep_packet(tables: &mut [u8], hash: [u8; 32], clock: u64)
-    requires { ⌜ (wellFormed (now tables) ≡ true) × (clock < clockLimit) ⌝ }
-    ensures { λ _. ⌜ now (tables .exit) ≡ packetKept (now (tables .entry)) hash clock ⌝ }
-{
-    let place = update::next_hash(tables);
-    stamp(tables, place, hash, clock);
-}
-
-// All that a dropped packet writes. Drops 1 and 2 remember nothing.
-pub fn keep_drop(tables: &mut [u8], reason: Reason, hash: [u8; 32], clock: u64)
-    requires { ⌜ (wellFormed (now tables) ≡ true) × (clock < clockLimit) ⌝ }
-    ensures { λ _. ⌜ now (tables .exit) ≡ dropKept (now (tables .entry)) reason hash clock ⌝ }
-{
-    if reason_number(reason) > 2 {
-        keep_packet(tables, hash, clock);
-        return;
+    match decision {
+        Decision::Drop(reason) => reason_number(reason) > 2,
+        Decision::Deliver => true,
+        Decision::Announce { place: _, known: _ } => true,
+        Decision::Data { path: _ } => true,
+        Decision::Request {
+            path: _,
+            place: _,
+            high: _,
+            low: _,
+        } => true,
+        Decision::Carry { link: _, port: _ } => true,
+        Decision::Receipt { place: _, port: _ } => true,
     }
+}
+
+// Sets the clock, and remembers the hash, if it is to be, at a place: the next of its ring.
+pub fn stamp(tables: &mut [u8], place: usize, remembered: bool, hash: [u8; 32], clock: u64)
+    requires { ⌜ (length (now tables) ≡ tableSize) × (place < hashCount) × (clock < clockLimit) ⌝ }
+    ensures { λ _. ⌜ now (tables .exit) ≡ stamped (now (tables .entry)) place remembered hash clock ⌝ }
+{
     update::set_clock(tables, clock);
+    if remembered {
+        update::remember(tables, place, hash, clock + HASH_LIFETIME);
+    }
 }

@@ -29,10 +29,10 @@ PlanBlob a delivered = Unit {0}
 PlanBlob a (follows w) = WayBlob a w
 
 module _ (v : View) (a : Arrival) where
-  link-blob : (s : Slot Link) → WayBlob a (linkWay (isLinkProof a) s)
+  link-blob : (s : Slot Link) → WayBlob a (linkWay (isLinkProof (a .bytes)) s)
   unfolding linkWay
   link-blob empty = tt
-  link-blob (used l) = either (WayBlob a) (l .proved or isLinkProof a) (λ _. tt) (λ _. tt)
+  link-blob (used l) = either (WayBlob a) (l .proved or isLinkProof (a .bytes)) (λ _. tt) (λ _. tt)
 
   return-blob : (s : Slot Return) → WayBlob a (returnWay s)
   unfolding returnWay
@@ -44,7 +44,7 @@ module _ (v : View) (a : Arrival) where
   path-blob empty = tt
   path-blob (used p) = tt
 
-  way-blob : badForm a ≡ false → WayBlob a (wayOn v a)
+  way-blob : badForm (a .bytes) ≡ false → WayBlob a (wayOn v a)
   unfolding wayOn
   way-blob good =
       either (WayBlob a) _ (announce-long a good)

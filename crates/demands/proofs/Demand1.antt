@@ -25,7 +25,7 @@ use Rattle.rules.specs.Relay.{Relay}
 use Rattle.rules.specs.View.{portOn, isLocal}
 use Rattle.rules.specs.Renumbering.{oneToOne}
 use Rattle.rules.specs.Arrival.{Arrival}
-use Rattle.rules.specs.Refusals.{tablesOk, emptyLocal, packetRows, packetRefusal}
+use Rattle.rules.specs.Refusals.{tablesOk, emptyLocal, packetRows, refusalBy}
 use Rattle.rules.specs.Listed.{firstOf}
 use Rattle.rules.specs.Calls.{Setting, packetCall, judge, judged, settled, ruleOf, tableRefusal, settle}
 use Rattle.rules.specs.Run.{Call, packet, on-tables, port-setting, adding, removing, renumbering}
@@ -108,7 +108,7 @@ pub packet-rows : (a : Arrival) (output tables : List ℕ)
     ltb longestPacket (length (a .bytes)) then 2 otherwise
     accessCode (headerOf (a .bytes)) then 3 otherwise
     typeTwo (headerOf (a .bytes)) and ltb (length (a .bytes)) 35 then 1 otherwise 0)
-unfolding refusalOn refusal packetRefusal packetRows firstOf readingRefusal
+unfolding refusalOn refusal refusalBy packetRows firstOf readingRefusal
 packet-rows a output tables = after-seven tables _
 
 -- setting a port: 7, 9

@@ -25,7 +25,7 @@ use Rattle.rules.specs.Numbers.{blobLimit}
 use Rattle.rules.specs.Relay.{Slot, empty, used, Blobs, Path, Return, Remembered, Relay}
 use Rattle.rules.specs.View.{View}
 use Rattle.rules.specs.Renumbering.{renamePath, renameLink, renameReturn}
-use Rattle.rules.specs.Refusals.{pathOk, slotOk, all, tableOk, packetRows, packetRefusal}
+use Rattle.rules.specs.Refusals.{pathOk, slotOk, all, tableOk, packetRows, packetRefusal, refusalBy}
 use Rattle.rules.specs.Listed.{firstOf}
 use Rattle.rules.specs.Arrival.{Arrival, header, hops, relayAddress, destination, body, hash, blob}
 use Rattle.rules.specs.Blobs.{noBlob, oneBlob, addBlob}
@@ -37,6 +37,7 @@ use Rattle.rules.proofs.BlobLaws.{one-placed}
 use Rattle.tables.specs.Places.{addressWidth, digestWidth, blobWidth}
 use Rattle.tables.specs.Shape.{isByte, isBytes, pathShaped, linkShaped, returnShaped, hashShaped}
 use Rattle.tables.proofs.All.{is-bytes}
+use Rattle.act.proofs.Forwards.{link-id-bytes}
 
 -- a list without its first element
 all-tail : {A : Type 0} (ok : A → Bool) (xs : List A) → all ok xs ≡ true → all ok (drop 1 xs) ≡ true
@@ -66,16 +67,10 @@ module _ (p : List ℕ) (b : Bytes p) where
     pub relay-shaped : isBytes addressWidth (partsOf p .relay) ≡ true
     relay-shaped = is-bytes addressWidth _ (parts-wide p whole .relay) relay-bytes
 
--- hashes and ids are bytes, whatever the packet
+-- hashes are bytes, whatever the packet
 hash-is-bytes : (p : List ℕ) → Bytes (packetHash p)
 unfolding packetHash
 hash-is-bytes p = digest-byte (hashedPart (partsOf p) (payload p))
-
-id-is-bytes : (p : List ℕ) → Bytes (linkId p)
-unfolding linkId
-id-is-bytes p =
-    let m : List ℕ = hashedPart (partsOf p) (take 64 (payload p)) in
-    take-bytes 16 (sha256-of m) (digest-byte m)
 
 -- ---- blobs
 blob-nil : isBytes blobWidth noBlob ≡ true
@@ -123,7 +118,7 @@ module _ (a : Arrival) (b : Bytes (a .bytes)) where
   pub link-made : (p : Path) → pathOk p ≡ true → linkShaped (linkRecord a p) ≡ true
   unfolding linkShaped linkRecord
   link-made p ok =
-      and-both (is-bytes addressWidth _ (link-id-length (a .bytes)) (id-is-bytes (a .bytes))) (and-both hops-byte (path-hops-byte p ok))
+      and-both (is-bytes addressWidth _ (link-id-length (a .bytes)) (link-id-bytes (a .bytes))) (and-both hops-byte (path-hops-byte p ok))
 
   pub link-renewed : (l : Link) → linkShaped l ≡ true → linkShaped (renewedLink a l) ≡ true
   unfolding linkShaped renewedLink
@@ -147,7 +142,7 @@ module _ (a : Arrival) (b : Bytes (a .bytes)) where
 
 -- a packet that is accepted has all its parts
 pub accepted-whole : (r : Relay) (a : Arrival) (room : ℕ) → eqb (packetRefusal r a room) 0 ≡ true → payloadStart (header a) ≤ length (a .bytes)
-unfolding packetRefusal packetRows firstOf
+unfolding refusalBy packetRows firstOf
 accepted-whole r a room accepted =
     let after7 = rows-below _ 7 _ refl accepted in
     let after6 = rows-below _ 6 _ refl after7 in

@@ -14,10 +14,10 @@ use Rattle.rules.specs.Relay.{Port, Slot, empty, used, Path, Return, Remembered
 use Rattle.rules.specs.View.{View, viewAt}
 use Rattle.rules.specs.Renumbering.{renamePath, renameLink, renameReturn, renumbered}
 use Rattle.rules.specs.Refusals.{pathOk, slotOk, all, tablesOk, packetRefusal}
-use Rattle.rules.specs.Arrival.{Arrival, header, body}
+use Rattle.rules.specs.Arrival.{Arrival, header}
 use Rattle.rules.specs.Ways.{Way, everywhere, by-path, along-link, by-return, blocked}
 use Rattle.rules.specs.Judging.{Plan, dropped, delivered, follows, plan}
-use Rattle.rules.specs.Writes.{putNext, remember, putPath, emptiedWhere, putReturn, emptyReturn, putLink, renewLink, writeWay, writePlan, enact}
+use Rattle.rules.specs.Writes.{putNext, remember, putPath, emptiedWhere, putReturn, emptyReturn, putLink, renewLink, writeWay, writePlan, stamp, enact}
 use Rattle.rules.specs.Calls.{Judgement, judged, judge, packetCall, settled, TableCall, sets-port, adds, removes, renumbers, ruleOf, settle}
 use Rattle.rules.specs.Run.{Call, packet, on-tables, ofJudgement, ofSetting, perform, relayAfter}
 use Rattle.rules.specs.declared.Link.{Link}
@@ -114,20 +114,19 @@ module _ (a : Arrival) (b : Bytes (a .bytes)) (whole : payloadStart (header a) �
   unfolding remember putNext slotOk
   remember-shaped r s = hashes-changed r s _ (all-set (slotOk hashShaped) (r .hashes .slots) _ _ (s .hashes) (remembered-shaped a b _))
 
-  plan-written : (v : View) (todo : Plan) → Planned v a todo → PlanBlob a todo → (r x : Relay) → v ≡ viewAt (a .clock) r → Valid r → Shaped r
-      → Shaped x → Shaped (writePlan v a todo x)
+  plan-written : (r : Relay) → Valid r → Shaped r → (todo : Plan) → Planned (viewAt (a .clock) r) a todo → PlanBlob a todo
+      → Shaped (writePlan (viewAt (a .clock) r) a todo r)
   unfolding writePlan
-  plan-written v (dropped reason) h long r x e ok old new = new
-  plan-written v delivered h long r x e ok old new = new
-  plan-written v (follows w) h long r x e ok old new =
-      way-written v w long (found-shaped r ok old (a .clock) a w (subst (λ (u : View). Found u a w) e (h .found))) x new
+  plan-written r ok s (dropped reason) h long = s
+  plan-written r ok s delivered h long = s
+  plan-written r ok s (follows w) h long = way-written (viewAt (a .clock) r) w long (found-shaped r ok s (a .clock) a w (h .found)) r s
 
   enacted : (r : Relay) → Valid r → Shaped r → Shaped (enact (viewAt (a .clock) r) a (plan (viewAt (a .clock) r) a) r)
-  unfolding enact
+  unfolding enact stamp
   enacted r ok s =
       let v : View = viewAt (a .clock) r in
-      plan-written v _ (planned v a) (plan-blob v a) r _ refl ok s
-      (either Shaped _ (λ _. remember-shaped _ (clock-changed r s (a .clock))) (λ _. clock-changed r s (a .clock)))
+      let now = clock-changed _ (plan-written r ok s _ (planned v a) (plan-blob v a)) (a .clock) in
+      either Shaped _ (λ _. remember-shaped _ now) (λ _. now)
 
 -- ---- the calls
 packet-shaped : (a : Arrival) (r : Relay) (t : Tally) (output : List ℕ) → Bytes (a .bytes) → Valid r → Shaped r → Shaped (packetCall a r t output .relay)

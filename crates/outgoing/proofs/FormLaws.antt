@@ -9,10 +9,10 @@ use Rattle.octets.specs.Index.{_and_, agree}
 use Rattle.octets.specs.Choice.{_or_, same}
 use Rattle.octets.proofs.Choice.{same-agree}
 use Rattle.packet.specs.Header.{typeTwo, ofKindSingle, ofKindLink, isAnnounce, isLinkRequest, isProof}
-use Rattle.packet.specs.Read.{partsOf, payload, reads}
+use Rattle.packet.specs.Read.{headerOf, partsOf, payload, reads}
 use Rattle.packet.specs.Announce.{leastAnnounce, announcedDestination}
 use Rattle.packet.proofs.Widths.{parts-wide, announced-length}
-use Rattle.rules.specs.Arrival.{Arrival, header, destination, context, body, isLinkProof}
+use Rattle.rules.specs.Arrival.{isLinkProof}
 use Rattle.rules.specs.Tests.{typeTwoProof, typeTwoOfKindLink, announceNotSingle, announceTooShort, announceOfAnother, requestOfKindLink, requestTooShort, linkProofLength, badForm}
 use Rattle.outgoing.specs.Form.{badTypeTwo, badAnnounce, badRequest}
 use Rattle.outgoing.proofs.LeavingLaws.{whole}
@@ -27,32 +27,32 @@ unfolding _or_
 or-assoc true b c = refl
 or-assoc false b c = refl
 
-module _ (a : Arrival) where
-  pub form-groups : badForm a ≡ (badTypeTwo a or badAnnounce a or badRequest a or linkProofLength a)
+module _ (p : List ℕ) where
+  pub form-groups : badForm p ≡ (badTypeTwo p or badAnnounce p or badRequest p or linkProofLength p)
   unfolding badForm badTypeTwo badAnnounce badRequest
   form-groups = simp or-assoc
 
-  pub type-two-clauses : badTypeTwo a ≡ (typeTwo (header a) and (isProof (header a) or ofKindLink (header a)))
+  pub type-two-clauses : badTypeTwo p ≡ (typeTwo (headerOf p) and (isProof (headerOf p) or ofKindLink (headerOf p)))
   unfolding badTypeTwo typeTwoProof typeTwoOfKindLink
-  type-two-clauses = and-or (typeTwo (header a)) (isProof (header a)) (ofKindLink (header a))
+  type-two-clauses = and-or (typeTwo (headerOf p)) (isProof (headerOf p)) (ofKindLink (headerOf p))
 
-  pub announce-clauses : badAnnounce a
-      ≡ (isAnnounce (header a)
-      and (not (ofKindSingle (header a))
-      or ltb (length (body a)) (leastAnnounce (header a))
-      or not (same (destination a) (announcedDestination (body a)))))
+  pub announce-clauses : badAnnounce p
+      ≡ (isAnnounce (headerOf p)
+      and (not (ofKindSingle (headerOf p))
+      or ltb (length (payload p)) (leastAnnounce (headerOf p))
+      or not (same (partsOf p .destination) (announcedDestination (payload p)))))
   unfolding badAnnounce announceNotSingle announceTooShort announceOfAnother
   announce-clauses = simp and-or
 
-  pub request-clauses : badRequest a ≡ (isLinkRequest (header a) and (ofKindLink (header a) or ltb (length (body a)) 64))
+  pub request-clauses : badRequest p ≡ (isLinkRequest (headerOf p) and (ofKindLink (headerOf p) or ltb (length (payload p)) 64))
   unfolding badRequest requestOfKindLink requestTooShort
-  request-clauses = and-or (isLinkRequest (header a)) (ofKindLink (header a)) (ltb (length (body a)) 64)
+  request-clauses = and-or (isLinkRequest (headerOf p)) (ofKindLink (headerOf p)) (ltb (length (payload p)) 64)
 
-  pub link-proof-clauses : isLinkProof a ≡ (isProof (header a) and ofKindLink (header a) and eqb (context a) 0xff)
+  pub link-proof-clauses : isLinkProof p ≡ (isProof (headerOf p) and ofKindLink (headerOf p) and eqb (partsOf p .context) 0xff)
   unfolding isLinkProof
   link-proof-clauses = refl
 
-  pub proof-length-clauses : linkProofLength a ≡ (isLinkProof a and not (eqb (length (body a)) 96 or eqb (length (body a)) 99))
+  pub proof-length-clauses : linkProofLength p ≡ (isLinkProof p and not (eqb (length (payload p)) 96 or eqb (length (payload p)) 99))
   unfolding linkProofLength
   proof-length-clauses = refl
 

@@ -19,8 +19,8 @@ use Rattle.packet.proofs.ReadLaws.{start-two, start-one, start-least, reads-rea
 use Rattle.packet.specs.Write.{Wide}
 use Rattle.packet.proofs.WriteLaws.{packet-length}
 use Rattle.packet.proofs.Widths.{parts-wide}
-use Rattle.rules.specs.Outgoing.{rewritten, spreadHeader, pathPacket, carriedPacket}
-use Rattle.outgoing.specs.Leaving.{alone, rewrittenParts, spreadBytes, spreadLength, forwardedBytes, carriedBytes}
+use Rattle.rules.specs.Outgoing.{rewritten, spreadHeader, pathPacket, carriedPacket, spreadPacket}
+use Rattle.outgoing.specs.Leaving.{rewrittenParts, spreadLength}
 
 -- ---- headers: modulo 16 a packet is of type 1, and spread it is of type 2
 last-hop-one : (header : ℕ) → typeTwo (header % 16) ≡ false
@@ -55,18 +55,18 @@ module _ (longest : ℕ) (p : List ℕ) (h : reads longest p ≡ true) where
     rewritten-wide : Wide (rewrittenParts header relay p)
     rewritten-wide = record { relay = wide; destination = parts-wide p whole .destination }
 
-    pub rewritten-length : length (rewritten header relay (alone p)) ≡ payloadStart header + length (payload p)
+    pub rewritten-length : length (rewritten header relay p) ≡ payloadStart header + length (payload p)
     unfolding rewritten
     rewritten-length = packet-length (rewrittenParts header relay p) (payload p) rewritten-wide
 
   -- spread
-  pub spread-length : (own : List ℕ) → length own ≡ 16 → length (spreadBytes own p) ≡ spreadLength p
-  unfolding spreadBytes spreadLength
+  pub spread-length : (own : List ℕ) → length own ≡ 16 → length (spreadPacket own p) ≡ spreadLength p
+  unfolding spreadPacket spreadLength
   spread-length own wide =
       rewritten-length (spreadHeader (headerOf p)) own wide
       ∙ ap (λ (k : ℕ). k + length (payload p)) (spread-start (headerOf p))
 
-  pub spread-result : (own : List ℕ) → length own ≡ 16 → (body : List ℕ) → body ≡ payload p → 35 + length body ≡ length (spreadBytes own p)
+  pub spread-result : (own : List ℕ) → length own ≡ 16 → (body : List ℕ) → body ≡ payload p → 35 + length body ≡ length (spreadPacket own p)
   unfolding spreadLength
   spread-result own wide body e = ap (λ (b : List ℕ). 35 + length b) e ∙ sym (spread-length own wide)
 
@@ -86,12 +86,12 @@ module _ (longest : ℕ) (p : List ℕ) (h : reads longest p ≡ true) where
 
 -- ---- what a path's hops decide
 module _ (hops : ℕ) (nextHop p : List ℕ) where
-  pub path-last : hops ≡ 0 → forwardedBytes hops nextHop p ≡ rewritten (headerOf p % 16) noAddress (alone p)
-  unfolding forwardedBytes pathPacket
+  pub path-last : hops ≡ 0 → pathPacket hops nextHop p ≡ rewritten (headerOf p % 16) noAddress p
+  unfolding pathPacket
   path-last e = then-true _ _ (eq-eqb hops 0 e)
 
-  pub path-onward : (hops ≡ 0 → ⊥) → forwardedBytes hops nextHop p ≡ rewritten (headerOf p) nextHop (alone p)
-  unfolding forwardedBytes pathPacket
+  pub path-onward : (hops ≡ 0 → ⊥) → pathPacket hops nextHop p ≡ rewritten (headerOf p) nextHop p
+  unfolding pathPacket
   path-onward ne = then-false _ _ (ne-eqb hops 0 ne)
 
 -- ---- what the code writes
@@ -101,8 +101,8 @@ unfolding packetOf
 head-body q body = ap (λ (r : List ℕ). q .header ∷ q .hops ∷ r) (append-assoc (addresses q) (q .context ∷ []) body)
 
 module _ (longest : ℕ) (out own p : List ℕ) (h : reads longest p ≡ true) (wide : length own ≡ 16) (room : spreadLength p ≤ length out) where
-  pub spread-written : patch (patch out 0 (packetOf (rewrittenParts (spreadHeader (headerOf p)) own p) [])) 35 (payload p) ≡ patch out 0 (spreadBytes own p)
-  unfolding spreadBytes rewritten spreadLength
+  pub spread-written : patch (patch out 0 (packetOf (rewrittenParts (spreadHeader (headerOf p)) own p) [])) 35 (payload p) ≡ patch out 0 (spreadPacket own p)
+  unfolding spreadPacket rewritten spreadLength
   spread-written =
       let q : Parts = rewrittenParts (spreadHeader (headerOf p)) own p in
       let head : length (packetOf q []) ≡ 35 = packet-length q [] (rewritten-wide longest p h (spreadHeader (headerOf p)) own wide) ∙ ap (λ (k : ℕ). k + 0) (spread-start (headerOf p)) in
@@ -116,12 +116,12 @@ carry-over out (x ∷ []) v l = absurd (not-suc-le-zero (le-of-suc-le-suc l))
 carry-over out (x ∷ y ∷ p) v l = refl
 
 module _ (p : List ℕ) where
-  carried-is : carriedBytes p ≡ set p 1 (getD p 1 0 + 1)
-  unfolding carriedBytes carriedPacket
+  carried-is : carriedPacket p ≡ set p 1 (getD p 1 0 + 1)
+  unfolding carriedPacket
   carried-is = ap (λ (k : ℕ). set p 1 (k + 1)) (parts-hops p)
 
-  pub carried-length : length (carriedBytes p) ≡ length p
+  pub carried-length : length (carriedPacket p) ≡ length p
   carried-length = ap length carried-is ∙ length-set p 1 (getD p 1 0 + 1)
 
-  pub carried-written : (out : List ℕ) → 1 < length p → patch (patch out 0 p) 1 ((getD p 1 0 + 1) ∷ []) ≡ patch out 0 (carriedBytes p)
+  pub carried-written : (out : List ℕ) → 1 < length p → patch (patch out 0 p) 1 ((getD p 1 0 + 1) ∷ []) ≡ patch out 0 (carriedPacket p)
   carried-written out l = carry-over out p (getD p 1 0 + 1) l ∙ ap (patch out 0) (sym carried-is)

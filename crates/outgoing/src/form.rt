@@ -6,13 +6,12 @@ ghost use Rattle.packet.specs.Read.{longestPacket, reads, partsOf, payload as p
 ghost use Rattle.packet.specs.Announce.{announcedDestination};
 ghost use Rattle.rules.specs.Arrival.{isLinkProof};
 ghost use Rattle.rules.specs.Tests.{linkProofLength, badForm};
-ghost use Rattle.outgoing.specs.Leaving.{alone};
 ghost use Rattle.outgoing.specs.Form.{badTypeTwo, badAnnounce, badRequest};
 
 // A proof of kind link, context 0xFF.
 pub fn is_link_proof(packet: &[u8]) -> bool
     requires { ⌜ reads longestPacket (now packet) ≡ true ⌝ }
-    ensures { λ r. ⌜ r ≡ isLinkProof (alone (now (packet .entry))) ⌝ }
+    ensures { λ r. ⌜ r ≡ isLinkProof (now (packet .entry)) ⌝ }
 {
     let header = packet[0];
     if packet::is_proof(header) {
@@ -27,7 +26,7 @@ pub fn is_link_proof(packet: &[u8]) -> bool
 // Type 2 proof; any type 2 packet of kind link.
 fn bad_type_two(packet: &[u8]) -> bool
     requires { ⌜ reads longestPacket (now packet) ≡ true ⌝ }
-    ensures { λ r. ⌜ r ≡ badTypeTwo (alone (now (packet .entry))) ⌝ }
+    ensures { λ r. ⌜ r ≡ badTypeTwo (now (packet .entry)) ⌝ }
 {
     let header = packet[0];
     if packet::type_two(header) {
@@ -53,7 +52,7 @@ fn names_another(packet: &[u8]) -> bool
 // Announce not of kind single; payload under 148 (180 with the context flag); destination of another.
 fn bad_announce(packet: &[u8]) -> bool
     requires { ⌜ reads longestPacket (now packet) ≡ true ⌝ }
-    ensures { λ r. ⌜ r ≡ badAnnounce (alone (now (packet .entry))) ⌝ }
+    ensures { λ r. ⌜ r ≡ badAnnounce (now (packet .entry)) ⌝ }
 {
     let header = packet[0];
     if packet::is_announce(header) {
@@ -71,7 +70,7 @@ fn bad_announce(packet: &[u8]) -> bool
 // Link request of kind link, or payload under 64.
 fn bad_request(packet: &[u8]) -> bool
     requires { ⌜ reads longestPacket (now packet) ≡ true ⌝ }
-    ensures { λ r. ⌜ r ≡ badRequest (alone (now (packet .entry))) ⌝ }
+    ensures { λ r. ⌜ r ≡ badRequest (now (packet .entry)) ⌝ }
 {
     let header = packet[0];
     if packet::is_link_request(header) {
@@ -86,7 +85,7 @@ fn bad_request(packet: &[u8]) -> bool
 // A link proof whose payload isn't 96 or 99.
 fn bad_link_proof(packet: &[u8]) -> bool
     requires { ⌜ reads longestPacket (now packet) ≡ true ⌝ }
-    ensures { λ r. ⌜ r ≡ linkProofLength (alone (now (packet .entry))) ⌝ }
+    ensures { λ r. ⌜ r ≡ linkProofLength (now (packet .entry)) ⌝ }
 {
     if is_link_proof(packet) {
         let n = packet::payload(packet).len();
@@ -101,7 +100,7 @@ fn bad_link_proof(packet: &[u8]) -> bool
 // Test 3. Only an announce is hashed.
 pub fn bad_form(packet: &[u8]) -> bool
     requires { ⌜ reads longestPacket (now packet) ≡ true ⌝ }
-    ensures { λ r. ⌜ r ≡ badForm (alone (now (packet .entry))) ⌝ }
+    ensures { λ r. ⌜ r ≡ badForm (now (packet .entry)) ⌝ }
 {
     if bad_type_two(packet) {
         return true;

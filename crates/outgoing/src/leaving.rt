@@ -5,8 +5,8 @@ ghost use Prim.Native.Nat.{_+_, _≤_};
 ghost use lib.ListN.{length};
 ghost use Rattle.octets.specs.Part.{patch};
 ghost use Rattle.packet.specs.Read.{longestPacket, payloadStart, payload as payloadOf};
-ghost use Rattle.rules.specs.Outgoing.{spreadHeader, rewritten};
-ghost use Rattle.outgoing.specs.Leaving.{alone, Onward, rewrittenParts, spreadBytes, spreadLength, forwardedBytes, carriedBytes};
+ghost use Rattle.rules.specs.Outgoing.{spreadHeader, rewritten, spreadPacket, pathPacket, carriedPacket};
+ghost use Rattle.outgoing.specs.Leaving.{Onward, rewrittenParts, spreadLength};
 
 // The header of a spread announce: bits 6 and 4 set, bit 5 and the low four as received.
 pub fn spread_header(header: u8) -> u8
@@ -33,8 +33,10 @@ fn rewritten_parts(packet: &[u8], header: u8, relay: [u8; 16]) -> Parts
 
 // Writes a packet under another header and relay address, hops + 1, and says how long it is.
 fn rewrite(packet: &[u8], header: u8, relay: [u8; 16], output: &mut [u8]) -> usize
-    requires { ⌜ Onward (now packet) × (payloadStart header + length (payloadOf (now packet)) ≤ length (now output)) ⌝ }
-    ensures { λ r. ⌜ (r ≡ length (rewritten header relay (alone (now (packet .entry))))) × (now (output .exit) ≡ patch (now (output .entry)) 0 (rewritten header relay (alone (now (packet .entry))))) ⌝ }
+    requires { ⌜ Onward (now packet)
+        × (payloadStart header + length (payloadOf (now packet)) ≤ length (now output)) ⌝ }
+    ensures { λ r. ⌜ (r ≡ length (rewritten header relay (now (packet .entry))))
+        × (now (output .exit) ≡ patch (now (output .entry)) 0 (rewritten header relay (now (packet .entry)))) ⌝ }
 {
     let parts = rewritten_parts(packet, header, relay);
     let body = packet::payload(packet);
@@ -52,7 +54,8 @@ pub fn spread_length(packet: &[u8]) -> usize
 // Spreads an announce: the head, which is a packet without payload, and behind it, from byte 35 on, the payload.
 pub fn spread(packet: &[u8], own: [u8; 16], output: &mut [u8]) -> usize
     requires { ⌜ Onward (now packet) × (spreadLength (now packet) ≤ length (now output)) ⌝ }
-    ensures { λ r. ⌜ (r ≡ length (spreadBytes own (now (packet .entry)))) × (now (output .exit) ≡ patch (now (output .entry)) 0 (spreadBytes own (now (packet .entry)))) ⌝ }
+    ensures { λ r. ⌜ (r ≡ length (spreadPacket own (now (packet .entry))))
+        × (now (output .exit) ≡ patch (now (output .entry)) 0 (spreadPacket own (now (packet .entry)))) ⌝ }
 {
     let head = rewritten_parts(packet, spread_header(packet[0]), own);
     packet::write_packet(head, &packet[0..0], output);
@@ -70,7 +73,9 @@ pub fn forward_by_path(
     output: &mut [u8],
 ) -> usize
     requires { ⌜ Onward (now packet) × (longestPacket ≤ length (now output)) ⌝ }
-    ensures { λ r. ⌜ (r ≡ length (forwardedBytes «stored_hops» «next_hop» (now (packet .entry)))) × (now (output .exit) ≡ patch (now (output .entry)) 0 (forwardedBytes «stored_hops» «next_hop» (now (packet .entry)))) ⌝ }
+    ensures { λ r. ⌜ (r ≡ length (pathPacket «stored_hops» «next_hop» (now (packet .entry))))
+        × (now (output .exit)
+        ≡ patch (now (output .entry)) 0 (pathPacket «stored_hops» «next_hop» (now (packet .entry)))) ⌝ }
 {
     let header = packet[0];
     if stored_hops == 0 {
@@ -82,7 +87,8 @@ pub fn forward_by_path(
 // Forwards a link packet or a proof: hops + 1 and otherwise unchanged.
 pub fn carry(packet: &[u8], output: &mut [u8]) -> usize
     requires { ⌜ Onward (now packet) × (longestPacket ≤ length (now output)) ⌝ }
-    ensures { λ r. ⌜ (r ≡ length (carriedBytes (now (packet .entry)))) × (now (output .exit) ≡ patch (now (output .entry)) 0 (carriedBytes (now (packet .entry)))) ⌝ }
+    ensures { λ r. ⌜ (r ≡ length (carriedPacket (now (packet .entry))))
+        × (now (output .exit) ≡ patch (now (output .entry)) 0 (carriedPacket (now (packet .entry)))) ⌝ }
 {
     octets::copy_at(output, 0, packet);
     octets::set_at(output, 1, packet[1] + 1);

@@ -39,7 +39,7 @@ module _ (a : Arrival) (is : isAnnounce (header a) ≡ true) where
   no-request : isLinkRequest (header a) ≡ false
   no-request = other-kind (packetKind (header a)) 1 2 is refl
 
-  no-proof : isLinkProof a ≡ false
+  no-proof : isLinkProof (a .bytes) ≡ false
   no-proof = no-link-proof a (other-kind (packetKind (header a)) 1 3 is refl)
 
   announce-plan : (v : View) (known : Slot Path) → onwardPlan v a (everywhere known)

@@ -50,11 +50,11 @@ module _ (v : View) (a : Arrival) where
     first-2 e = rw (e1, e)
 
     module _ (e2 : duplicate v a ≡ false) where
-      pub first-3 : badForm a ≡ true → Dropped BadForm ≡ firstTests v a
+      pub first-3 : badForm (a .bytes) ≡ true → Dropped BadForm ≡ firstTests v a
       unfolding firstTests earlyTests valued early firstOf _then_otherwise_
       first-3 e = rw (e1, e2, e)
 
-      module _ (e3 : badForm a ≡ false) where
+      module _ (e3 : badForm (a .bytes) ≡ false) where
         pub first-4 : ownAnnounce v a ≡ true → Dropped OwnAnnounce ≡ firstTests v a
         unfolding firstTests earlyTests valued early firstOf _then_otherwise_
         first-4 e = rw (e1, e2, e3, e)
@@ -65,11 +65,11 @@ module _ (v : View) (a : Arrival) where
           first-delivered e = rw (e1, e2, e3, e4, e)
 
           module _ (e5 : deliveredHere v a ≡ false) where
-            pub first-5 : tooManyHops a ≡ true → Dropped TooManyHops ≡ firstTests v a
+            pub first-5 : tooManyHops (hops a) ≡ true → Dropped TooManyHops ≡ firstTests v a
             unfolding firstTests earlyTests valued early firstOf _then_otherwise_
             first-5 e = rw (e1, e2, e3, e4, e5, e)
 
-            pub first-onward : tooManyHops a ≡ false → Onward ≡ firstTests v a
+            pub first-onward : tooManyHops (hops a) ≡ false → Onward ≡ firstTests v a
             unfolding firstTests earlyTests valued early firstOf _then_otherwise_
             first-onward e = rw (e1, e2, e3, e4, e5, e)
 
@@ -112,7 +112,7 @@ module _ (r : Relay) (a : Arrival) where
   unfolding Said decision decided
   first-deliver e = ap (decided r a) (answered Delivered e)
 
-  pub first-goes-on : Onward ≡ firstTests (viewAt (a .clock) r) a → (decision r a ≡ onward r a) × (badForm a ≡ false)
+  pub first-goes-on : Onward ≡ firstTests (viewAt (a .clock) r) a → (decision r a ≡ onward r a) × (badForm (a .bytes) ≡ false)
   unfolding Said decision decided onward rest earlyTests
   first-goes-on e =
       let (same, none) = answered Onward e in
@@ -160,10 +160,10 @@ own-compared t a size readable e =
 
 -- hops are byte 1
 module _ (a : Arrival) where
-  pub hops-many : 128 ≤ getD (a .bytes) 1 0 → tooManyHops a ≡ true
+  pub hops-many : 128 ≤ getD (a .bytes) 1 0 → tooManyHops (hops a) ≡ true
   unfolding tooManyHops
   hops-many l = le-leb 128 (hops a) (omega (arith, l, parts-hops (a .bytes)))
 
-  pub hops-few : getD (a .bytes) 1 0 < 128 → tooManyHops a ≡ false
+  pub hops-few : getD (a .bytes) 1 0 < 128 → tooManyHops (hops a) ≡ false
   unfolding tooManyHops
   hops-few l = lt-leb 128 (hops a) (omega (arith, l, parts-hops (a .bytes)))

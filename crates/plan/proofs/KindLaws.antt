@@ -36,20 +36,20 @@ request-left h d a p =
 
 -- ---- link proofs
 module _ (a : Arrival) where
-  pub no-link-proof : isProof (header a) ≡ false → isLinkProof a ≡ false
+  pub no-link-proof : isProof (header a) ≡ false → isLinkProof (a .bytes) ≡ false
   unfolding isLinkProof
   no-link-proof e = and-no _ e
 
-  pub no-link-proof-kind : ofKindLink (header a) ≡ false → isLinkProof a ≡ false
+  pub no-link-proof-kind : ofKindLink (header a) ≡ false → isLinkProof (a .bytes) ≡ false
   unfolding isLinkProof _and_
   no-link-proof-kind e = go (isProof (header a)) refl
     where
-      go : (t : Bool) → isProof (header a) ≡ t → isLinkProof a ≡ false
+      go : (t : Bool) → isProof (header a) ≡ t → isLinkProof (a .bytes) ≡ false
       go true q = rw (q, e)
       go false q = rw q
 
 -- ---- what a good form says
-module _ (a : Arrival) (good : badForm a ≡ false) where
+module _ (a : Arrival) (good : badForm (a .bytes) ≡ false) where
   -- an announce has room for its blob
   pub announce-long : isAnnounce (header a) ≡ true → 84 ≤ length (body a)
   unfolding badForm announceTooShort leastAnnounce _then_otherwise_

@@ -35,9 +35,9 @@ use Rattle.plan.specs.Kinds.{leaving, carried, proving, carrying}
 use Rattle.plan.specs.declared.Decision.the-variants.{Drop, Carry}
 use Rattle.plan.proofs.KindLaws.{link-no-request, decided-test}
 
-module _ (a : Arrival) (readable : reads longestPacket (a .bytes) ≡ true) (good : badForm a ≡ false)
+module _ (a : Arrival) (readable : reads longestPacket (a .bytes) ≡ true) (good : badForm (a .bytes) ≡ false)
     (announce : isAnnounce (header a) ≡ false) (kind : ofKindLink (header a) ≡ true) where
-  link-way : (v : View) → wayOn v a ≡ linkWay (isLinkProof a) (v .link (destination a))
+  link-way : (v : View) → wayOn v a ≡ linkWay (isLinkProof (a .bytes)) (v .link (destination a))
   unfolding wayOn
   link-way v = then-false _ _ announce ∙ then-true _ _ kind
 
@@ -45,9 +45,9 @@ module _ (a : Arrival) (readable : reads longestPacket (a .bytes) ≡ true) (goo
   fits l = never-grown a readable (along-link l) (λ p e. let z : _≡_ {A = ℕ} 0 1 = cc in absurd (omega arith))
 
   link-plan : (v : View) (l : Link) → onwardPlan v a (along-link l)
-      ≡ (isLinkProof a and l .proved then dropped AlreadyKnown otherwise
+      ≡ (isLinkProof (a .bytes) and l .proved then dropped AlreadyKnown otherwise
       wrongSide a (along-link l) then dropped WrongSide otherwise
-      isLinkProof a and not (a .signed) then dropped NotSigned otherwise
+      isLinkProof (a .bytes) and not (a .signed) then dropped NotSigned otherwise
       not (v .on (leavingPort a (along-link l))) then dropped PortOff otherwise
       follows (along-link l))
   unfolding onwardPlan onwardTests firstOf noWayOn alreadyKnown followsProvedLink notSigned replay notBetter portOff noRoom _then_otherwise_ _and_ _or_
@@ -58,12 +58,12 @@ module _ (a : Arrival) (readable : reads longestPacket (a .bytes) ≡ true) (goo
     unfolding onward onwardPlan onwardTests firstOf noWayOn decided linkWay _then_otherwise_
     link-none e =
         let v : View = viewAt (a .clock) r in
-        sym (ap (λ (w : Way). decided r a (onwardPlan v a w)) (link-way v ∙ ap (linkWay (isLinkProof a)) e))
+        sym (ap (λ (w : Way). decided r a (onwardPlan v a w)) (link-way v ∙ ap (linkWay (isLinkProof (a .bytes))) e))
 
     along : (l : Link) → wayOn (viewAt (a .clock) r) a ≡ along-link l → onward r a
-        ≡ (isLinkProof a and l .proved then Drop AlreadyKnown otherwise
+        ≡ (isLinkProof (a .bytes) and l .proved then Drop AlreadyKnown otherwise
         wrongSide a (along-link l) then Drop WrongSide otherwise
-        isLinkProof a and not (a .signed) then Drop NotSigned otherwise
+        isLinkProof (a .bytes) and not (a .signed) then Drop NotSigned otherwise
         leaving r (leavingPort a (along-link l)) (Carry (linkPlace (a .clock) r (destination a)) (leavingPort a (along-link l))))
     unfolding onward decided decidedWay leaving viewAt
     along l way =
@@ -71,7 +71,7 @@ module _ (a : Arrival) (readable : reads longestPacket (a .bytes) ≡ true) (goo
         ap (λ (w : Way). decided r a (onwardPlan v a w)) way ∙ ap (decided r a) (link-plan v l) ∙ simp decided-test
 
     module _ (l : Link) (there : viewAt (a .clock) r .link (destination a) ≡ used l) where
-      link-proof : isLinkProof a ≡ true → proving r a l (linkPlace (a .clock) r (destination a)) ≡ onward r a
+      link-proof : isLinkProof (a .bytes) ≡ true → proving r a l (linkPlace (a .clock) r (destination a)) ≡ onward r a
       unfolding proving carried wrongSide leavingPort linkWay _then_otherwise_ _and_ _or_
       link-proof is = go (fromAnsweringSide l a) refl
         where
@@ -82,7 +82,7 @@ module _ (a : Arrival) (readable : reads longestPacket (a .bytes) ≡ true) (goo
           go true q = sym (along l way ∙ rw (is, q))
           go false q = sym (along l way ∙ rw (is, q))
 
-      link-other : isLinkProof a ≡ false → carrying r a l (linkPlace (a .clock) r (destination a)) ≡ onward r a
+      link-other : isLinkProof (a .bytes) ≡ false → carrying r a l (linkPlace (a .clock) r (destination a)) ≡ onward r a
       unfolding onward onwardPlan onwardTests firstOf noWayOn decided carrying carried wrongSide leavingPort linkWay _then_otherwise_ _and_ _or_
       link-other other = go (l .proved) refl (fromAnsweringSide l a) refl (fromAskingSide l a) refl
         where
@@ -102,7 +102,7 @@ module _ (a : Arrival) (readable : reads longestPacket (a .bytes) ≡ true) (goo
           go true p false q false s = sym (along l (way p) ∙ rw (other, q, s, p))
 
 -- ---- on tables, where the search for the link gave place i
-module _ (t : List ℕ) (a : Arrival) (readable : reads longestPacket (a .bytes) ≡ true) (good : badForm a ≡ false)
+module _ (t : List ℕ) (a : Arrival) (readable : reads longestPacket (a .bytes) ≡ true) (good : badForm (a .bytes) ≡ false)
     (announce : isAnnounce (header a) ≡ false) (kind : ofKindLink (header a) ≡ true)
     {i : ℕ} (e : i ≡ linkPlace (a .clock) (relayOf t) (destination a)) where
   pub link-nowhere : linkCount ≤ i → Drop NoWayOn ≡ onward (relayOf t) a
@@ -112,10 +112,10 @@ module _ (t : List ℕ) (a : Arrival) (readable : reads longestPacket (a .bytes)
     found : viewAt (a .clock) (relayOf t) .link (destination a) ≡ used link
     found = link-found t (a .clock) (destination a) i e l ∙ ap used (sym read)
 
-    pub proof-at : isLinkProof a ≡ true → proving (relayOf t) a link i ≡ onward (relayOf t) a
+    pub proof-at : isLinkProof (a .bytes) ≡ true → proving (relayOf t) a link i ≡ onward (relayOf t) a
     proof-at is = ap (proving (relayOf t) a link) e ∙ link-proof a readable good announce kind (relayOf t) link found is
 
-    pub other-at : isLinkProof a ≡ false → carrying (relayOf t) a link i ≡ onward (relayOf t) a
+    pub other-at : isLinkProof (a .bytes) ≡ false → carrying (relayOf t) a link i ≡ onward (relayOf t) a
     other-at other = ap (carrying (relayOf t) a link) e ∙ link-other a readable good announce kind (relayOf t) link found other
 
 -- ---- the sides

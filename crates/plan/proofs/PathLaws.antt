@@ -2,7 +2,7 @@
 use Prim.Native.Nat.{ℕ, _+_, _*_, _≤_, _<_}
 use native.Mathlib.Omega.{arith}
 use mathlib.Core.Bool.{true, false, not}
-use mathlib.Core.Path.{_≡_, refl, sym, ap, _∙_}
+use mathlib.Core.Path.{_≡_, refl, sym, ap, ap₂, _∙_}
 use mathlib.Core.List.{List}
 use lib.ListN.{length}
 use borrow.Author.Tests.{lt-ltb, le-ltb}
@@ -29,13 +29,13 @@ use Rattle.tables.specs.Records.{pathOf}
 use Rattle.tables.specs.Layout.{rowAt, relayOf}
 use Rattle.lookup.proofs.Found.{path-found, path-missing, link-found, link-missing}
 use Rattle.outgoing.proofs.RuleLaws.{never-grown}
-use Rattle.plan.specs.Decided.{decidedWay, decided, onward}
+use Rattle.plan.specs.Decided.{highOf, lowOf, decidedWay, decided, onward}
 use Rattle.plan.specs.Kinds.{leaving, sending, requesting}
 use Rattle.plan.specs.declared.Decision.the-variants.{Drop, Data, Request}
 use Rattle.plan.proofs.KindLaws.{other-kind, request-left, no-link-proof, or-false, decided-test, leaves, stays}
 
 module _ (a : Arrival) (announce : isAnnounce (header a) ≡ false) (link : ofKindLink (header a) ≡ false) (proof : isProof (header a) ≡ false) where
-  no-proof : isLinkProof a ≡ false
+  no-proof : isLinkProof (a .bytes) ≡ false
   no-proof = no-link-proof a proof
 
   path-way : (v : View) → wayOn v a ≡ (not (typeTwo (header a)) then blocked not-asking otherwise pathWay (v .path (destination a)))
@@ -135,10 +135,12 @@ module _ (r : Relay) (a : Arrival) (p : Path) (place : ℕ) where
     request-off off = stays r (p .port) _ off ∙ sym (then-false _ _ new)
 
     module _ (on : portOn r (p .port) ≡ true) {free : ℕ} (e : free ≡ freeLink (a .clock) r) where
-      pub request-room : free < linkCount → Request place free ≡ requesting r a p place
+      pub request-room : {high low : ℕ} → high ≡ highOf (linkId (a .bytes)) → low ≡ lowOf (linkId (a .bytes)) → free < linkCount
+          → Request place free high low ≡ requesting r a p place
       unfolding requesting
-      request-room l =
-          ap (Request place) e
+      request-room {high} {low} q1 q2 l =
+          ap (λ (k : ℕ). Request place k high low) e
+          ∙ ap₂ (Request place (freeLink (a .clock) r)) q1 q2
           ∙ sym (then-false _ _ (ap not (lt-ltb (freeLink (a .clock) r) linkCount (omega (arith, e, l)))))
           ∙ leaves r (p .port) _ on
           ∙ sym (then-false _ _ new)

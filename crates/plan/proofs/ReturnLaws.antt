@@ -38,7 +38,7 @@ module _ (a : Arrival) (kind : ofKindLink (header a) ≡ false) (proof : isProof
   no-request : isLinkRequest (header a) ≡ false
   no-request = other-kind (packetKind (header a)) 3 2 proof refl
 
-  no-link-proof : isLinkProof a ≡ false
+  no-link-proof : isLinkProof (a .bytes) ≡ false
   no-link-proof = no-link-proof-kind a kind
 
   return-way : (v : View) → wayOn v a ≡ returnWay (v .return (destination a))

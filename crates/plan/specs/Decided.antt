@@ -3,7 +3,10 @@
 use Prim.Native.Nat.{ℕ}
 use mathlib.Core.List.{List}
 use Rattle.octets.specs.Choice.{_then_otherwise_}
+use Rattle.octets.specs.Part.{part}
+use Rattle.octets.specs.BigEndian.{number}
 use Rattle.packet.specs.Header.{isData}
+use Rattle.packet.specs.Hash.{linkId}
 use Rattle.rules.specs.Relay.{Relay}
 use Rattle.rules.specs.View.{viewAt, pathPlace, linkPlace, returnPlace, freeLink}
 use Rattle.rules.specs.Arrival.{Arrival, header, destination}
@@ -20,12 +23,19 @@ use Rattle.plan.specs.declared.Decision.the-variants.{Drop, Deliver, Ann
 abbrev pub arrivalOf : List ℕ → Arrived → Arrival
 arrivalOf bytes m = record { bytes = bytes; port = m .port; clock = m .clock; signed = m .signed }
 
+-- the halves of an address, as numbers
+abbrev pub highOf : List ℕ → ℕ
+highOf address = number (part address 0 8)
+
+abbrev pub lowOf : List ℕ → ℕ
+lowOf address = number (part address 8 8)
+
 unfoldable pub decidedWay : Relay → Arrival → Way → Decision
 decidedWay r a (everywhere known) = Announce (announcedPlace a known r) (isThere known)
 decidedWay r a (by-path p) =
     isData (header a)
     then Data (pathPlace (a .clock) r (destination a))
-    otherwise Request (pathPlace (a .clock) r (destination a)) (freeLink (a .clock) r)
+    otherwise Request (pathPlace (a .clock) r (destination a)) (freeLink (a .clock) r) (highOf (linkId (a .bytes))) (lowOf (linkId (a .bytes)))
 decidedWay r a (along-link l) = Carry (linkPlace (a .clock) r (destination a)) (leavingPort a (along-link l))
 decidedWay r a (by-return t) = Receipt (returnPlace (a .clock) r (destination a)) (leavingPort a (by-return t))
 decidedWay r a (blocked why) = Drop NoWayOn

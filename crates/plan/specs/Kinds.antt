@@ -14,6 +14,7 @@ use Rattle.rules.specs.Tests.{isThere, fromAnsweringSide, fromAskingSide, repla
 use Rattle.rules.specs.declared.Link.{Link}
 use Rattle.rules.specs.declared.Reason.the-variants.{NoWayOn, AlreadyKnown, WrongSide, NotSigned, Replay, NotBetter, PortOff, NoRoom}
 use Rattle.plan.specs.declared.Decision.{Decision}
+use Rattle.plan.specs.Decided.{highOf, lowOf}
 use Rattle.plan.specs.declared.Decision.the-variants.{Drop, Announce, Data, Request, Carry, Receipt}
 
 -- ---- a signed announce
@@ -44,7 +45,7 @@ requesting r a p place =
     isThere (viewAt (a .clock) r .link (linkId (a .bytes))) then Drop AlreadyKnown otherwise
     leaving r (p .port)
     (not (ltb (freeLink (a .clock) r) linkCount) then Drop NoRoom otherwise
-    Request place (freeLink (a .clock) r))
+    Request place (freeLink (a .clock) r) (highOf (linkId (a .bytes))) (lowOf (linkId (a .bytes))))
 
 -- ---- packets of the link at a place
 unfoldable pub carried : Relay → ℕ → ℕ → Decision

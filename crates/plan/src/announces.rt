@@ -52,7 +52,7 @@ fn known_path(tables: &[u8], packet: &[u8], arrived: Arrived, place: usize) -> D
 }
 
 pub fn decide_announce(tables: &[u8], packet: &[u8], arrived: Arrived) -> Decision
-    requires { ⌜ (wellFormed (now tables) ≡ true) × (reads longestPacket (now packet) ≡ true) × (badForm (arrivalOf (now packet) arrived) ≡ false) × (isAnnounce (headerOf (now packet)) ≡ true) ⌝ }
+    requires { ⌜ (wellFormed (now tables) ≡ true) × (reads longestPacket (now packet) ≡ true) × (badForm (now packet) ≡ false) × (isAnnounce (headerOf (now packet)) ≡ true) ⌝ }
     ensures { λ r. ⌜ r ≡ onward (relayOf (now (tables .entry))) (arrivalOf (now (packet .entry)) arrived) ⌝ }
 {
     if !arrived.signed {

@@ -36,26 +36,42 @@ pub enum Early {
     Onward,
 }
 
-// The rules' plan, with the places of the records that it concerns. (An enum that holds an array isn't covered, so addresses and hashes are
-// read again where they are written.)
+// The rules' plan, with the places of the records that it concerns. (An enum that holds an array isn't covered: addresses are read again where
+// they are written, and a link id, which is hashed, comes as two numbers.)
 pub enum Decision {
     Drop(Reason),
     Deliver,
     // An accepted announce: the slot of its path, and whether the path is known.
-    Announce { place: usize, known: bool },
+    Announce {
+        place: usize,
+        known: bool,
+    },
     // Data by the path at a place.
-    Data { path: usize },
-    // A link request by the path at a place, and the slot for its link.
-    Request { path: usize, place: usize },
+    Data {
+        path: usize,
+    },
+    // A link request by the path at a place, the slot for its link, and the halves of its id.
+    Request {
+        path: usize,
+        place: usize,
+        high: u64,
+        low: u64,
+    },
     // A packet of the link at a place, and the port to leave by.
-    Carry { link: usize, port: u8 },
+    Carry {
+        link: usize,
+        port: u8,
+    },
     // An ordinary proof by the return record at a place, and the port to leave by.
-    Receipt { place: usize, port: u8 },
+    Receipt {
+        place: usize,
+        port: u8,
+    },
 }
 
 // Tests 6 to 14, by the way that the packet would follow.
 fn decide_onward(tables: &[u8], packet: &[u8], arrived: Arrived) -> Decision
-    requires { ⌜ (wellFormed (now tables) ≡ true) × (reads longestPacket (now packet) ≡ true) × (badForm (arrivalOf (now packet) arrived) ≡ false) ⌝ }
+    requires { ⌜ (wellFormed (now tables) ≡ true) × (reads longestPacket (now packet) ≡ true) × (badForm (now packet) ≡ false) ⌝ }
     ensures { λ r. ⌜ r ≡ onward (relayOf (now (tables .entry))) (arrivalOf (now (packet .entry)) arrived) ⌝ }
 {
     let header = packet[0];

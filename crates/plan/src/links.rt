@@ -85,7 +85,7 @@ fn pass(tables: &[u8], packet: &[u8], arrived: Arrived, link: Link, place: usize
 }
 
 pub fn decide_of_link(tables: &[u8], packet: &[u8], arrived: Arrived) -> Decision
-    requires { ⌜ (wellFormed (now tables) ≡ true) × (reads longestPacket (now packet) ≡ true) × (badForm (arrivalOf (now packet) arrived) ≡ false) × (isAnnounce (headerOf (now packet)) ≡ false) × (ofKindLink (headerOf (now packet)) ≡ true) ⌝ }
+    requires { ⌜ (wellFormed (now tables) ≡ true) × (reads longestPacket (now packet) ≡ true) × (badForm (now packet) ≡ false) × (isAnnounce (headerOf (now packet)) ≡ false) × (ofKindLink (headerOf (now packet)) ≡ true) ⌝ }
     ensures { λ r. ⌜ r ≡ onward (relayOf (now (tables .entry))) (arrivalOf (now (packet .entry)) arrived) ⌝ }
 {
     let parts = packet::parts_of(packet);

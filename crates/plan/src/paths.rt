@@ -47,6 +47,8 @@ fn request(tables: &[u8], packet: &[u8], arrived: Arrived, place: usize) -> Deci
         return Decision::Request {
             path: place,
             place: free,
+            high: octets::number_of_8_at(&id, 0),
+            low: octets::number_of_8_at(&id, 8),
         };
     }
     Decision::Drop(Reason::NoRoom)

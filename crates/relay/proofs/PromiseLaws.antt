@@ -10,12 +10,10 @@ use borrow.Author.Tests.{eq-eqb, ne-eqb, ltb-false}
 use Rattle.octets.specs.Bytes.{Bytes}
 use Rattle.octets.specs.Choice.{_then_otherwise_}
 use Rattle.packet.specs.Read.{longestPacket, reads}
-use Rattle.packet.specs.Hash.{packetHash}
 use Rattle.rules.specs.Numbers.{portCount, clockLimit}
 use Rattle.rules.specs.Arrival.{Arrival}
-use Rattle.rules.specs.Refusals.{packetRows, packetRefusal}
+use Rattle.rules.specs.Refusals.{packetRows, packetRefusal, refusalBy}
 use Rattle.rules.specs.Calls.{counted, judged, judge, packetCall}
-use Rattle.rules.specs.declared.Answer.{Answer}
 use Rattle.rules.specs.declared.Answer.the-variants.{Refused, Judged}
 use Rattle.rules.specs.declared.Tally.{Tally}
 use Rattle.rules.specs.declared.Verdict.{Verdict}
@@ -31,10 +29,12 @@ use Rattle.rules.proofs.Accepted.{accepted-packet}
 use Rattle.tables.specs.Layout.{relayOf, wellFormed}
 use Rattle.tables.proofs.Whole.{again}
 use Rattle.plan.specs.declared.Arrived.{Arrived}
+use Rattle.plan.specs.declared.Decision.the-variants as decided-as
 use Rattle.plan.specs.Decided.{arrivalOf, decided, decision}
 use Rattle.update.specs.Written.{clockWritten}
-use Rattle.act.specs.Kept.{dropKept}
+use Rattle.act.specs.Kept.{remembersDecided, stamped}
 use Rattle.act.proofs.Stays.{drop-left}
+use Rattle.act.proofs.StampLaws.{remembered-by, stamp-left}
 use Rattle.act.specs.Acted.{packetRefusalOn, Accepted, verdictOn, tablesOn, outputOn}
 use Rattle.relay.specs.Promise.{Outcome, Promises, inBytes, packetOn}
 
@@ -52,9 +52,8 @@ module _ (packet : List ℕ) (port clock : ℕ) (signed : Bool) (t : List ℕ) (
   promised e =
       (ap (λ (y : Outcome). y .answer) e, ap (λ (y : Outcome). y .tally) e, ap (λ (y : Outcome). y .tables) e, ap (λ (y : Outcome). y .output) e)
 
-  -- the signature word has no part in a refusal
   by-rules : wellFormed t ≡ true → number ≡ packetRefusal (relayOf t) a (length output)
-  unfolding packetRefusalOn packetRefusal packetRows _then_otherwise_
+  unfolding packetRefusalOn _then_otherwise_
   by-rules h = rw h
 
   -- ---- a refusal changes nothing
@@ -92,25 +91,24 @@ module _ (packet : List ℕ) (port clock : ℕ) (signed : Bool) (t : List ℕ) (
     port-byte = let l = port-within in omega (arith, l)
 
     pub readable : reads longestPacket packet ≡ true
-    unfolding packetRefusal packetRows firstOf reads
+    unfolding refusalBy packetRows firstOf reads
     readable = rows-below _ 5 _ refl (rows-below _ 4 _ refl (rows-below _ 6 _ refl (rows-below _ 7 _ refl passes)))
 
     pub roomy : longestPacket ≤ length output
-    unfolding packetRefusal packetRows firstOf
+    unfolding refusalBy packetRows firstOf
     roomy = ltb-false _ _ (row-passed _ 6 _ refl (rows-below _ 7 _ refl passes))
 
     module _ (m : Arrived) (same-port : m .port ≡ port) (same-clock : m .clock ≡ clock) (same-signed : m .signed ≡ signed) where
       same-arrival : arrivalOf packet m ≡ a
       same-arrival = rw (same-port, same-clock, same-signed)
 
-      pub accepted : (hash : List ℕ) → hash ≡ packetHash packet → Accepted packet m hash t
-      accepted hash is =
+      pub accepted : Accepted packet m t
+      accepted =
           record {
             formed = formed;
             readable = readable;
             port = subst (λ (n : ℕ). n < portCount) (sym same-port) port-within;
             clock = subst (λ (n : ℕ). n < clockLimit) (sym same-clock) (accepted-packet (relayOf t) a (length output) passes .clock);
-            hashed = is;
           }
 
       judged-whole : (x : Verdict) (u o : List ℕ) → x ≡ verdictOn packet m t → u ≡ tablesOn packet m t → o ≡ outputOn packet m t output
@@ -127,8 +125,9 @@ module _ (packet : List ℕ) (port clock : ℕ) (signed : Bool) (t : List ℕ) (
       -- ---- test 1's drop: the clock alone is written
       pub passed-promised : Bytes t → notOurs (viewAt (m .clock) (relayOf t)) (arrivalOf packet m) ≡ true → (after : Tally) (u : List ℕ)
           → u ≡ clockWritten t (m .clock) → after ≡ counted (Drop NotOurs) tally → Promises whole (Judged (Drop NotOurs)) after u output
-      unfolding decision decided plan earlyTests firstOf dropKept reasonNumber _then_otherwise_
+      unfolding decision decided plan earlyTests firstOf remembersDecided stamped reasonNumber _then_otherwise_
       passed-promised b ours after u q n =
-          let hash : List ℕ = packetHash packet in
-          let left = drop-left packet m hash t (accepted hash refl) b output u NotOurs (rw ours) q in
-          judged-promised (Drop NotOurs) after u output (left .0) (left .1) (left .2) n
+          let d : decision (relayOf t) (arrivalOf packet m) ≡ decided-as.Drop NotOurs = rw ours in
+          let left = drop-left packet m t accepted b output NotOurs d in
+          let stamped = stamp-left packet m t accepted b _ t _ false refl (left .1) refl (remembered-by packet m t (decided-as.Drop NotOurs) d) in
+          judged-promised (Drop NotOurs) after u output (left .0) (q ∙ stamped) (left .2) n

@@ -11,7 +11,7 @@ use Rattle.rules.specs.Listed.{allGive}
 use Rattle.rules.specs.Numbers.{portCount, clockLimit}
 use Rattle.rules.specs.Relay.{Relay}
 use Rattle.rules.specs.View.{portOn}
-use Rattle.rules.specs.Refusals.{packetRows, packetRefusal}
+use Rattle.rules.specs.Refusals.{packetRows, packetRefusal, refusalBy}
 use Rattle.rules.specs.Arrival.{Arrival}
 use Rattle.rules.proofs.ListedLaws.{refuses, rows-passed}
 
@@ -22,9 +22,9 @@ pub record Accepted (r : Relay) (a : Arrival) : Type 0 where
 
 module _ (r : Relay) (a : Arrival) (room : ℕ) (accepted : eqb (packetRefusal r a room) 0 ≡ true) where
   pub accepted-packet : Accepted r a
-  unfolding packetRefusal packetRows portOn allGive refuses _and_
+  unfolding refusalBy packetRows portOn allGive refuses _and_
   accepted-packet =
-      let (_, (_, (on, (inTime, _)))) = rows-passed (packetRows r a room) _ refl accepted in
+      let (_, (_, (on, (inTime, _)))) = rows-passed (packetRows r (a .port) (a .clock) room) _ refl accepted in
       record {
         port = ltb-true _ _ (and-left _ _ (not-false _ on));
         clock = leb-false _ _ (or-no-left _ _ inTime);

@@ -13,7 +13,7 @@ use Rattle.rules.specs.Listed.{firstOf}
 use Rattle.rules.specs.Relay.{Port, Relay, withPorts, withLocals}
 use Rattle.rules.specs.View.{View, viewAt, isLocal, localPlace}
 use Rattle.rules.specs.Renumbering.{image, oneToOne, renumbered}
-use Rattle.rules.specs.Refusals.{tableOk, tablesOk, packetRows, packetRefusal, emptyLocal}
+use Rattle.rules.specs.Refusals.{tableOk, tablesOk, packetRows, packetRefusal, refusalBy, emptyLocal}
 use Rattle.rules.specs.Arrival.{Arrival}
 use Rattle.rules.specs.Answers.{renameVerdict, renameAnswer}
 use Rattle.rules.specs.Judging.{Plan, plan, verdict}
@@ -71,7 +71,7 @@ addresses-renamed m (renumbers images) = refl
 -- ---- one call
 module _ (m : List ℕ) (ok : oneToOne m ≡ true) (r : Relay) (fine : tablesOk r ≡ true) (fine′ : tablesOk (renumbered m r) ≡ true) where
   packetRefusal-renamed : (a : Arrival) (room : ℕ) → packetRefusal (renumbered m r) (renameArrival m a) room ≡ packetRefusal r a room
-  unfolding packetRefusal packetRows renameArrival renumbered
+  unfolding refusalBy packetRows renameArrival renumbered
   packetRefusal-renamed a room = rw (fine, fine′, on-image m (a .clock) r (sixteen-ports r fine) ok (a .port))
 
   judged-renamed : (v : View) (a : Arrival) (todo : Plan) (t : Tally) (output : List ℕ) → v .on 16 ≡ false

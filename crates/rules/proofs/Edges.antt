@@ -104,7 +104,7 @@ again : (clock : ℕ) {seen : Bool} → viewAt clock announcedRelay .remembered 
 unfolding perform
 again clock s accepted =
     ap (next (arrives announceBytes clock 1)) announced-is
-    ∙ ap ofJudgement (quick (arrival announceBytes clock 1) announcedRelay (tallyOf 1 0) blank accepted s (announce-form clock 1))
+    ∙ ap ofJudgement (quick (arrival announceBytes clock 1) announcedRelay (tallyOf 1 0) blank accepted s announce-form)
 
 pub edges : Hold table
 unfolding rules goodPlan goodJudge ofTest

@@ -1,18 +1,14 @@
 -- What the tests leave of a packet that follows a way: where the way's record was found, and which tests did not hold.
-use Prim.Native.Nat.{ℕ}
 use mathlib.Core.Bool.{true, false, false≢true}
-use mathlib.Core.List.{List}
-use mathlib.Core.Path.{_≡_, refl, ap, subst, _∙_}
-use Rattle.octets.specs.Index.{_and_}
+use mathlib.Core.Path.{_≡_, refl, subst}
 use Rattle.octets.specs.Choice.{_or_}
-use Rattle.packet.specs.Header.{isAnnounce, isLinkRequest, isProof}
-use Rattle.packet.specs.Hash.{linkId}
+use Rattle.packet.specs.Header.{isAnnounce, isProof}
 use Rattle.rules.specs.Listed.{firstOf}
 use Rattle.rules.specs.Relay.{Slot, empty, used, Path, Return}
 use Rattle.rules.specs.View.{View}
-use Rattle.rules.specs.Arrival.{Arrival, header, destination, isLinkProof}
+use Rattle.rules.specs.Arrival.{Arrival, hops, header, destination, isLinkProof}
 use Rattle.rules.specs.Ways.{Way, everywhere, by-path, along-link, by-return, blocked, pathWay, linkWay, returnWay, wayOn}
-use Rattle.rules.specs.Tests.{duplicate, tooManyHops, isThere, followsProvedLink, alreadyKnown, replay}
+use Rattle.rules.specs.Tests.{duplicate, tooManyHops, alreadyKnown, replay}
 use Rattle.rules.specs.Answers.{reasonNumber}
 use Rattle.rules.specs.Judging.{Plan, dropped, delivered, follows, earlyTests, plan}
 use Rattle.rules.specs.Writes.{remembers}
@@ -30,7 +26,7 @@ Found v a (blocked why) = Unit {0}
 
 pub record Followed (v : View) (a : Arrival) (w : Way) : Type 0 where
   pub found : Found v a w
-  pub fewHops : tooManyHops a ≡ false
+  pub fewHops : tooManyHops (hops a) ≡ false
   pub unknown : alreadyKnown v a w ≡ false
   pub newBlob : replay a w ≡ false
 
@@ -45,10 +41,10 @@ module _ (v : View) (a : Arrival) where
   found-path n m empty e = tt
   found-path n m (used p) e = (e, n, m)
 
-  found-link : (s : Slot Link) → v .link (destination a) ≡ s → Found v a (linkWay (isLinkProof a) s)
+  found-link : (s : Slot Link) → v .link (destination a) ≡ s → Found v a (linkWay (isLinkProof (a .bytes)) s)
   unfolding linkWay
   found-link empty e = tt
-  found-link (used l) e = either (Found v a) (l .proved or isLinkProof a) (λ _. e) (λ _. tt)
+  found-link (used l) e = either (Found v a) (l .proved or isLinkProof (a .bytes)) (λ _. e) (λ _. tt)
 
   found-return : (s : Slot Return) → v .return (destination a) ≡ s → Found v a (returnWay s)
   unfolding returnWay
@@ -80,23 +76,3 @@ module _ (v : View) (a : Arrival) where
   remembered-new =
       either (λ (todo : Plan). remembers v a todo ≡ true → duplicate v a ≡ false) _ (λ _ h. absurd (false≢true h))
       (λ _. either (λ (todo : Plan). remembers v a todo ≡ true → duplicate v a ≡ false) _ (λ _ h. absurd (false≢true h)) (λ new _. new))
-
--- ---- by another view, which shows the same paths, links and return records
-module _ (u v : View) (paths : v .path ≡ u .path) (links : v .link ≡ u .link) (returns : v .return ≡ u .return) (a : Arrival) where
-  found-by : (w : Way) → Found u a w → Found v a w
-  found-by (everywhere known) f = ap (λ (g : List ℕ → Slot Path). g (destination a)) paths ∙ f
-  found-by (by-path p) f = (ap (λ (g : List ℕ → Slot Path). g (destination a)) paths ∙ f .0, f .1, f .2)
-  found-by (along-link l) f = ap (λ (g : List ℕ → Slot Link). g (destination a)) links ∙ f
-  found-by (by-return t) f = ap (λ (g : List ℕ → Slot Return). g (destination a)) returns ∙ f
-  found-by (blocked why) f = tt
-
-  known-by : (w : Way) → alreadyKnown v a w ≡ alreadyKnown u a w
-  unfolding alreadyKnown
-  known-by w =
-      ap (λ (g : List ℕ → Slot Link). isLinkRequest (header a) and isThere (g (linkId (a .bytes))) or isLinkProof a and followsProvedLink w) links
-
-  pub planned-by : (todo : Plan) → Planned u a todo → Planned v a todo
-  planned-by (dropped reason) h = tt
-  planned-by delivered h = tt
-  planned-by (follows w) h =
-      record { found = found-by w (h .found); fewHops = h .fewHops; unknown = known-by w ∙ h .unknown; newBlob = h .newBlob }

@@ -120,11 +120,11 @@ provedRelay =
 -- ---- a packet that `r` hasn't seen, of good form
 module _ (bytes : List ℕ) (clock : ℕ) (r : Relay) (t : Tally)
     (new : viewAt clock r .remembered (packetHash bytes) ≡ false)
-    (form : (port : ℕ) → badForm (arrival bytes clock port) ≡ false) where
+    (form : badForm bytes ≡ false) where
   pub judged-at : (port : ℕ) → packetRefusal r (arrival bytes clock port) (length blank) ≡ 0
       → perform (arrives bytes clock port) r t ≡ ofJudgement (goodJudge false (arrival bytes clock port) r t blank)
   unfolding perform
-  judged-at port accepted = ap ofJudgement (quick (arrival bytes clock port) r t blank accepted new (form port))
+  judged-at port accepted = ap ofJudgement (quick (arrival bytes clock port) r t blank accepted new form)
 
 -- ---- the calls
 pub prepared-is : prepared ≡ record { reply = numbered 0; relay = preparedRelay; tally = newTally }
@@ -132,9 +132,9 @@ unfolding rules prepared
 prepared-is = refl
 
 -- the destination is that of the keys and the name hash
-pub announce-form : (clock port : ℕ) → badForm (arrival announceBytes clock port) ≡ false
+pub announce-form : badForm announceBytes ≡ false
 unfolding rules hashing
-announce-form clock port = refl
+announce-form = refl
 
 pub announce-new : viewAt 1000 preparedRelay .remembered (packetHash announceBytes) ≡ false
 unfolding rules passes
@@ -144,7 +144,7 @@ pub announced-is : announced ≡ record { reply = spreads spreadBytes 2; relay =
 unfolding rules announced goodPlan goodJudge ofTest
 announced-is =
     ap (next (arrives announceBytes 1000 1)) prepared-is
-    ∙ judged-at announceBytes 1000 preparedRelay newTally announce-new (announce-form 1000) 1 refl
+    ∙ judged-at announceBytes 1000 preparedRelay newTally announce-new announce-form 1 refl
 
 -- where the announce's hash has expired, no hash is compared
 pub data-new : viewAt 2000 announcedRelay .remembered (packetHash dataBytes) ≡ false
@@ -162,7 +162,7 @@ pub carried-is : carried ≡ record { reply = forwards dataLastHop 1; relay = ca
 unfolding rules carried goodPlan goodJudge ofTest
 carried-is =
     ap (next (arrives dataBytes 2000 2)) announced-is
-    ∙ judged-at dataBytes 2000 announcedRelay (tallyOf 1 0) data-new (λ port. refl) 2 refl
+    ∙ judged-at dataBytes 2000 announcedRelay (tallyOf 1 0) data-new refl 2 refl
     ∙ ap carriedBy data-key
 
 pub request-new : viewAt 2000 announcedRelay .remembered (packetHash requestBytes) ≡ false
@@ -180,7 +180,7 @@ pub asked-is : asked ≡ record { reply = forwards requestLastHop 1; relay = ask
 unfolding rules asked goodPlan goodJudge ofTest
 asked-is =
     ap (next (arrives requestBytes 2000 2)) announced-is
-    ∙ judged-at requestBytes 2000 announcedRelay (tallyOf 1 0) request-new (λ port. refl) 2 refl
+    ∙ judged-at requestBytes 2000 announcedRelay (tallyOf 1 0) request-new refl 2 refl
     ∙ ap askedBy request-id
 
 -- the request's hash is still remembered, so the two hashes are compared
@@ -192,4 +192,4 @@ pub proved-is : proved ≡ record { reply = forwards (linkProofBytes 1) 2; relay
 unfolding rules proved goodPlan goodJudge ofTest
 proved-is =
     ap (next (arrives (linkProofBytes 0) 2001 1)) asked-is
-    ∙ judged-at (linkProofBytes 0) 2001 (askedRelay link) (tallyOf 1 1) proof-new (λ port. refl) 1 refl
+    ∙ judged-at (linkProofBytes 0) 2001 (askedRelay link) (tallyOf 1 1) proof-new refl 1 refl

@@ -6,7 +6,7 @@ use lib.Dec.{eqb}
 use Rattle.octets.specs.Index.{_and_}
 use Rattle.rules.specs.Listed.{allGive}
 use Rattle.rules.specs.View.{View}
-use Rattle.rules.specs.Arrival.{Arrival}
+use Rattle.rules.specs.Arrival.{Arrival, hops}
 use Rattle.rules.specs.Ways.{Way, wayOn}
 use Rattle.rules.specs.Tests.{notOurs, duplicate, badForm, ownAnnounce, deliveredHere, tooManyHops, noWayOn, alreadyKnown, wrongSide, notSigned, replay, notBetter, portOff, noRoom}
 use Rattle.rules.specs.Outgoing.{grownTooLong}
@@ -29,10 +29,10 @@ stops (follows w) = false
 pub record Passed (v : View) (a : Arrival) (w : Way) : Type 0 where
   pub ours : notOurs v a ≡ false
   pub new : duplicate v a ≡ false
-  pub form : badForm a ≡ false
+  pub form : badForm (a .bytes) ≡ false
   pub notOwn : ownAnnounce v a ≡ false
   pub elsewhere : deliveredHere v a ≡ false
-  pub fewHops : tooManyHops a ≡ false
+  pub fewHops : tooManyHops (hops a) ≡ false
   pub someWay : noWayOn w ≡ false
   pub unknown : alreadyKnown v a w ≡ false
   pub side : wrongSide a w ≡ false

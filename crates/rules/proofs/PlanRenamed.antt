@@ -25,7 +25,7 @@ use Rattle.rules.proofs.ListedLaws.{first-ap}
 use Rattle.rules.proofs.Images.{image-port, image-eqb, preimage-holds, source, source-port}
 use Rattle.rules.proofs.PortSets.{image-set, image-set-empty}
 use Rattle.rules.proofs.ViewRenamed.{renameView}
-use Rattle.rules.proofs.TestsRenamed.{renameWay, wayOn-renamed, notOurs-renamed, duplicate-renamed, badForm-renamed, ownAnnounce-renamed, deliveredHere-renamed, tooManyHops-renamed, noWayOn-renamed, alreadyKnown-renamed, wrongSide-renamed, notSigned-renamed, replay-renamed, notBetter-renamed, leavingPort-renamed, portOff-renamed, noRoom-renamed, outgoing-renamed, grownTooLong-renamed}
+use Rattle.rules.proofs.TestsRenamed.{renameWay, wayOn-renamed, notOurs-renamed, duplicate-renamed, bytes-renamed, ownAnnounce-renamed, deliveredHere-renamed, noWayOn-renamed, alreadyKnown-renamed, wrongSide-renamed, notSigned-renamed, replay-renamed, notBetter-renamed, leavingPort-renamed, portOff-renamed, noRoom-renamed, outgoing-renamed, grownTooLong-renamed}
 
 unfoldable pub renamePlan : List ℕ → Plan → Plan
 renamePlan m (dropped reason) = dropped reason
@@ -39,10 +39,9 @@ module _ (m : List ℕ) (ok : oneToOne m ≡ true) where
       rw (
         notOurs-renamed m v a,
         duplicate-renamed m v a,
-        badForm-renamed m a,
         ownAnnounce-renamed m v a,
         deliveredHere-renamed m v a,
-        tooManyHops-renamed m a,
+        bytes-renamed m a,
       )
 
   onward-renamed : (v : View) (a : Arrival) (w : Way)

@@ -78,7 +78,7 @@ module _ (a : Arrival) (port : a .port < portCount) (clock : a .clock < clockLim
   unfolding timeOk
   time-small lifetime l = le-leb (a .clock + lifetime) timeLimit (omega arith)
 
-  pub announced-ok : (v : View) (known : Slot Path) → tooManyHops a ≡ false → slotOk pathOk known ≡ true → pathOk (announcedPath v a known) ≡ true
+  pub announced-ok : (v : View) (known : Slot Path) → tooManyHops (hops a) ≡ false → slotOk pathOk known ≡ true → pathOk (announcedPath v a known) ≡ true
   unfolding pathOk announcedPath tooManyHops
   announced-ok v known few h =
       let l : hops a < 128 = leb-false 128 (hops a) few in

@@ -32,7 +32,7 @@ pub record Leaves (before : Outcome) (sent : ℕ → Call) (from : ℕ) (reply :
 
 module _ (bytes : List ℕ) (clock : ℕ) (r : Relay) (t : Tally)
     (new : viewAt clock r .remembered (packetHash bytes) ≡ false)
-    (form : (port : ℕ) → badForm (arrival bytes clock port) ≡ false) where
+    (form : badForm bytes ≡ false) where
   judgedOn : Relay → ℕ → Outcome
   judgedOn on port = ofJudgement (goodJudge false (arrival bytes clock port) on t blank)
 
@@ -70,12 +70,12 @@ module _ (bytes : List ℕ) (clock : ℕ) (r : Relay) (t : Tally)
 -- a fresh relay with two ports on spreads a good announce
 pub announce-spreads : Leaves prepared (arrives announceBytes 1000) 1 (spreads spreadBytes) 2
 unfolding rules goodPlan goodJudge ofTest judgedOn
-announce-spreads = rw prepared-is (leaves announceBytes 1000 preparedRelay newTally announce-new (announce-form 1000) 1 _ 2 _ refl refl refl refl refl)
+announce-spreads = rw prepared-is (leaves announceBytes 1000 preparedRelay newTally announce-new announce-form 1 _ 2 _ refl refl refl refl refl)
 
 -- data to that destination is forwarded
 pub data-forwarded : Leaves announced (arrives dataBytes 2000) 2 (forwards dataLastHop) 1
 unfolding rules goodPlan goodJudge ofTest judgedOn
-data-forwarded = rw announced-is (leaves dataBytes 2000 announcedRelay (tallyOf 1 0) data-new (λ port. refl) 2 _ 1 _ refl refl refl refl refl)
+data-forwarded = rw announced-is (leaves dataBytes 2000 announcedRelay (tallyOf 1 0) data-new refl 2 _ 1 _ refl refl refl refl refl)
 
 -- its receipt comes home by the port where the data came in
 receipt-new : viewAt 2500 (carriedRelay dataKey) .remembered (packetHash (receiptBytes 5)) ≡ false
@@ -86,17 +86,17 @@ pub receipt-comes-home : Leaves carried (arrives (receiptBytes 5) 2500) 1 (forwa
 unfolding rules goodPlan goodJudge ofTest judgedOn
 receipt-comes-home =
     rw carried-is
-    (leaves (receiptBytes 5) 2500 (carriedRelay dataKey) (tallyOf 1 1) receipt-new (λ port. refl) 1 _ 2 _ refl refl refl refl refl)
+    (leaves (receiptBytes 5) 2500 (carriedRelay dataKey) (tallyOf 1 1) receipt-new refl 1 _ 2 _ refl refl refl refl refl)
 
 -- a link request is forwarded
 pub request-forwarded : Leaves announced (arrives requestBytes 2000) 2 (forwards requestLastHop) 1
 unfolding rules goodPlan goodJudge ofTest judgedOn
-request-forwarded = rw announced-is (leaves requestBytes 2000 announcedRelay (tallyOf 1 0) request-new (λ port. refl) 2 _ 1 _ refl refl refl refl refl)
+request-forwarded = rw announced-is (leaves requestBytes 2000 announcedRelay (tallyOf 1 0) request-new refl 2 _ 1 _ refl refl refl refl refl)
 
 -- its proof comes back
 pub proof-comes-back : Leaves asked (arrives (linkProofBytes 0) 2001) 1 (forwards (linkProofBytes 1)) 2
 unfolding rules goodPlan goodJudge ofTest judgedOn
-proof-comes-back = rw asked-is (leaves (linkProofBytes 0) 2001 (askedRelay link) (tallyOf 1 1) proof-new (λ port. refl) 1 _ 2 _ refl refl refl refl refl)
+proof-comes-back = rw asked-is (leaves (linkProofBytes 0) 2001 (askedRelay link) (tallyOf 1 1) proof-new refl 1 _ 2 _ refl refl refl refl refl)
 
 -- .. and proves the link
 pub record Proves : Type 0 where
@@ -114,9 +114,9 @@ proof-proves =
       renumbered-first =
           ap (λ (o : Outcome). viewAt 2001 (next (arrives (linkProofBytes 0) 2001 2) (next (renumbering oneUp) o) .relay) .link link) asked-is
           ∙ ap (λ (o : Outcome). viewAt 2001 (next (arrives (linkProofBytes 0) 2001 2) o .relay) .link link)
-          (moved (linkProofBytes 0) 2001 (askedRelay link) (tallyOf 1 1) proof-new (λ port. refl) refl)
+          (moved (linkProofBytes 0) 2001 (askedRelay link) (tallyOf 1 1) proof-new refl refl)
           ∙ ap (λ (o : Outcome). viewAt 2001 (o .relay) .link link)
-          (judged-moved (linkProofBytes 0) 2001 (askedRelay link) (tallyOf 1 1) proof-new (λ port. refl) 2 refl);
+          (judged-moved (linkProofBytes 0) 2001 (askedRelay link) (tallyOf 1 1) proof-new refl 2 refl);
     }
 
 -- link data goes both ways
@@ -126,8 +126,8 @@ link-new hops = seen-quick 2400 provedRelay (packetHash (linkBytes hops)) refl
 
 pub data-to-asking-side : Leaves proved (arrives (linkBytes 0) 2400) 1 (forwards (linkBytes 1)) 2
 unfolding rules goodPlan goodJudge ofTest judgedOn
-data-to-asking-side = rw proved-is (leaves (linkBytes 0) 2400 provedRelay (tallyOf 1 2) (link-new 0) (λ port. refl) 1 _ 2 _ refl refl refl refl refl)
+data-to-asking-side = rw proved-is (leaves (linkBytes 0) 2400 provedRelay (tallyOf 1 2) (link-new 0) refl 1 _ 2 _ refl refl refl refl refl)
 
 pub data-to-answering-side : Leaves proved (arrives (linkBytes 3) 2400) 2 (forwards (linkBytes 4)) 1
 unfolding rules goodPlan goodJudge ofTest judgedOn
-data-to-answering-side = rw proved-is (leaves (linkBytes 3) 2400 provedRelay (tallyOf 1 2) (link-new 3) (λ port. refl) 2 _ 1 _ refl refl refl refl refl)
+data-to-answering-side = rw proved-is (leaves (linkBytes 3) 2400 provedRelay (tallyOf 1 2) (link-new 3) refl 2 _ 1 _ refl refl refl refl refl)

@@ -95,7 +95,7 @@ seen-quick clock r hash whole =
 unfoldable pub goodPlan : Bool → View → Arrival → Plan
 goodPlan seen v a = firstOf (told (ofTest 3) false (told (ofTest 2) seen (earlyTests v a))) (onwardPlan v a (wayOn v a))
 
-plan-good : (v : View) (a : Arrival) {seen : Bool} → v .remembered (hash a) ≡ seen → badForm a ≡ false → plan v a ≡ goodPlan seen v a
+plan-good : (v : View) (a : Arrival) {seen : Bool} → v .remembered (hash a) ≡ seen → badForm (a .bytes) ≡ false → plan v a ≡ goodPlan seen v a
 unfolding plan goodPlan earlyTests told ofTest reasonNumber duplicate testedAsDuplicate _and_ _then_otherwise_
 plan-good v a s g = rw (s, g)
 
@@ -106,7 +106,7 @@ goodJudge seen a r t output = judged a (goodPlan seen (viewAt (a .clock) r) a) (
 pub quick : (a : Arrival) (r : Relay) (t : Tally) (output : List ℕ) {seen : Bool}
     → packetRefusal r a (length output) ≡ 0
     → viewAt (a .clock) r .remembered (hash a) ≡ seen
-    → badForm a ≡ false
+    → badForm (a .bytes) ≡ false
     → packetCall a r t output ≡ goodJudge seen a r t output
 unfolding packetCall judge goodJudge _then_otherwise_
 quick a r t output accepted s g =

@@ -13,7 +13,7 @@ use Rattle.packet.specs.Header.{isAnnounce}
 use Rattle.rules.specs.Listed.{firstOf, told, allGive}
 use Rattle.rules.specs.Relay.{Relay, empty, used}
 use Rattle.rules.specs.View.{View, viewAt}
-use Rattle.rules.specs.Refusals.{packetRows, packetRefusal}
+use Rattle.rules.specs.Refusals.{packetRows, packetRefusal, refusalBy}
 use Rattle.rules.specs.Arrival.{Arrival, header, isLinkProof}
 use Rattle.rules.specs.Ways.{Way, everywhere, by-path, along-link, by-return, blocked, wayOn}
 use Rattle.rules.specs.Tests.{noWayOn, notSigned}
@@ -106,7 +106,7 @@ module _ (v : View) (a : Arrival) where
   unfolding planBy
   plan-alike b c = rest-alike late (earlyTests v a) _ _ (onward-alike b c (wayOn v a))
 
-no-test-9 : (a : Arrival) (word : Bool) → isAnnounce (header a) ≡ false → isLinkProof a ≡ false → notSigned (withWord word a) ≡ false
+no-test-9 : (a : Arrival) (word : Bool) → isAnnounce (header a) ≡ false → isLinkProof (a .bytes) ≡ false → notSigned (withWord word a) ≡ false
 unfolding notSigned isLinkProof _or_ _and_
 no-test-9 a word n l = ap₂ (λ (x y : Bool). (x or y) and not word) n l
 
@@ -125,7 +125,7 @@ module _ (a : Arrival) (r : Relay) (t : Tally) (output : List ℕ) where
       record { answer = Refused refusal; relay = r; tally = t; output = output }
 
   result-by : (word : Bool) → packetCall (withWord word a) r t output ≡ resultBy (eqb refusal 0) (notSigned (withWord word a))
-  unfolding packetCall judge packetRefusal packetRows seen refusal resultBy
+  unfolding packetCall judge refusalBy packetRows seen refusal resultBy
   result-by word =
       ap (λ (j : Judgement). eqb refusal 0 then j otherwise record { answer = Refused refusal; relay = r; tally = t; output = output })
       (ap (λ (todo : Plan). judged (withWord word a) todo seen r t output) (plan-by seen a word)
@@ -140,7 +140,7 @@ module _ (a : Arrival) (r : Relay) (t : Tally) (output : List ℕ) where
   result-alike false b c reason e l = refl
 
   -- for a packet that is neither an announce nor a link proof, both words give equal results
-  pub word-unread : isAnnounce (header a) ≡ false → isLinkProof a ≡ false
+  pub word-unread : isAnnounce (header a) ≡ false → isLinkProof (a .bytes) ≡ false
       → packetCall (withWord true a) r t output ≡ packetCall (withWord false a) r t output
   word-unread n l =
       result-by true

@@ -14,8 +14,8 @@ use Rattle.rules.specs.View.{View}
 use Rattle.rules.specs.Renumbering.{image, oneToOne, renamePath, renameLink, renameReturn, renameSlot}
 use Rattle.rules.specs.Arrival.{Arrival, header, isLinkProof}
 use Rattle.rules.specs.Ways.{not-proved, Way, everywhere, by-path, along-link, by-return, blocked, pathWay, linkWay, returnWay, wayOn}
-use Rattle.rules.specs.Tests.{notOurs, duplicate, testedAsDuplicate, badForm, typeTwoProof, typeTwoOfKindLink, announceNotSingle, announceTooShort, announceOfAnother, requestOfKindLink, requestTooShort, linkProofLength, ownAnnounce, deliveredHere, tooManyHops, noWayOn, isThere, followsProvedLink, alreadyKnown, fromAnsweringSide, fromAskingSide, wrongSide, notSigned, replay, notBetter, leavingPort, portOff, noRoom}
-use Rattle.rules.specs.Outgoing.{rewritten, spreadPacket, pathPacket, carriedPacket, outgoing, grownTooLong}
+use Rattle.rules.specs.Tests.{notOurs, duplicate, testedAsDuplicate, ownAnnounce, deliveredHere, noWayOn, isThere, followsProvedLink, alreadyKnown, fromAnsweringSide, fromAskingSide, wrongSide, notSigned, replay, notBetter, leavingPort, portOff, noRoom}
+use Rattle.rules.specs.Outgoing.{outgoing, grownTooLong}
 use Rattle.rules.specs.Run.{renameArrival}
 use Rattle.rules.specs.declared.Link.{Link}
 use Rattle.rules.proofs.Images.{image-other, image-eqb, source, source-image}
@@ -46,7 +46,7 @@ module _ (m : List ℕ) where
   returnWay-renamed (used t) = refl
 
   pub wayOn-renamed : (v : View) (a : Arrival) → wayOn (renameView m v) (renameArrival m a) ≡ renameWay m (wayOn v a)
-  unfolding wayOn renameView renameArrival isLinkProof renameWay
+  unfolding wayOn renameView renameArrival renameWay
   wayOn-renamed v a = simp (then-ap (renameWay m), pathWay-renamed, linkWay-renamed, returnWay-renamed)
 
   -- ---- tests 1 to 5
@@ -58,9 +58,9 @@ module _ (m : List ℕ) where
   unfolding duplicate testedAsDuplicate renameView renameArrival
   duplicate-renamed v a = refl
 
-  pub badForm-renamed : (a : Arrival) → badForm (renameArrival m a) ≡ badForm a
-  unfolding badForm typeTwoProof typeTwoOfKindLink announceNotSingle announceTooShort announceOfAnother requestOfKindLink requestTooShort linkProofLength isLinkProof renameArrival
-  badForm-renamed a = refl
+  pub bytes-renamed : (a : Arrival) → renameArrival m a .bytes ≡ a .bytes
+  unfolding renameArrival
+  bytes-renamed a = refl
 
   pub ownAnnounce-renamed : (v : View) (a : Arrival) → ownAnnounce (renameView m v) (renameArrival m a) ≡ ownAnnounce v a
   unfolding ownAnnounce renameView renameArrival
@@ -69,10 +69,6 @@ module _ (m : List ℕ) where
   pub deliveredHere-renamed : (v : View) (a : Arrival) → deliveredHere (renameView m v) (renameArrival m a) ≡ deliveredHere v a
   unfolding deliveredHere renameView renameArrival
   deliveredHere-renamed v a = refl
-
-  pub tooManyHops-renamed : (a : Arrival) → tooManyHops (renameArrival m a) ≡ tooManyHops a
-  unfolding tooManyHops renameArrival
-  tooManyHops-renamed a = refl
 
   -- ---- tests that look at the way on, and at no port
   pub noWayOn-renamed : (w : Way) → noWayOn (renameWay m w) ≡ noWayOn w
@@ -98,14 +94,14 @@ module _ (m : List ℕ) where
 
   pub alreadyKnown-renamed : (v : View) (a : Arrival) (w : Way)
       → alreadyKnown (renameView m v) (renameArrival m a) (renameWay m w) ≡ alreadyKnown v a w
-  unfolding alreadyKnown renameView renameArrival isLinkProof
+  unfolding alreadyKnown renameView renameArrival
   alreadyKnown-renamed v a w =
-      ap₂ (λ (b c : Bool). isLinkRequest (header a) and b or isLinkProof a and c)
+      ap₂ (λ (b c : Bool). isLinkRequest (header a) and b or isLinkProof (a .bytes) and c)
       (isThere-renamed (renameLink m) (v .link (linkId (a .bytes))))
       (followsProvedLink-renamed w)
 
   pub notSigned-renamed : (a : Arrival) → notSigned (renameArrival m a) ≡ notSigned a
-  unfolding notSigned renameArrival isLinkProof
+  unfolding notSigned renameArrival
   notSigned-renamed a = refl
 
   pub replay-renamed : (a : Arrival) (w : Way) → replay (renameArrival m a) (renameWay m w) ≡ replay a w
@@ -137,7 +133,7 @@ module _ (m : List ℕ) where
 
   -- ---- the bytes that leave
   pub outgoing-renamed : (v : View) (a : Arrival) (w : Way) → outgoing (renameView m v) (renameArrival m a) (renameWay m w) ≡ outgoing v a w
-  unfolding outgoing spreadPacket pathPacket carriedPacket rewritten renameView renameArrival renameWay renamePath
+  unfolding outgoing renameView renameArrival renameWay renamePath
   outgoing-renamed v a (everywhere known) = refl
   outgoing-renamed v a (by-path p) = refl
   outgoing-renamed v a (along-link l) = refl
@@ -145,7 +141,7 @@ module _ (m : List ℕ) where
   outgoing-renamed v a (blocked why) = refl
 
   pub grownTooLong-renamed : (a : Arrival) (w : Way) → grownTooLong (renameArrival m a) (renameWay m w) ≡ grownTooLong a w
-  unfolding grownTooLong pathPacket carriedPacket rewritten renameArrival renameWay renamePath
+  unfolding grownTooLong renameArrival renameWay renamePath
   grownTooLong-renamed a (everywhere known) = refl
   grownTooLong-renamed a (by-path p) = refl
   grownTooLong-renamed a (along-link l) = refl
@@ -163,7 +159,7 @@ module _ (m : List ℕ) (ok : oneToOne m ≡ true) where
   asking-renamed l a = rw (image-eqb m ok (a .port) (l .asking))
 
   pub wrongSide-renamed : (a : Arrival) (w : Way) → wrongSide (renameArrival m a) (renameWay m w) ≡ wrongSide a w
-  unfolding wrongSide renameArrival renameWay renameReturn isLinkProof
+  unfolding wrongSide renameArrival renameWay renameReturn
   wrongSide-renamed a (everywhere known) = refl
   wrongSide-renamed a (by-path p) = refl
   wrongSide-renamed a (along-link l) = rw (answering-renamed l a, asking-renamed l a)

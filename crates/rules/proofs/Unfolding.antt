@@ -17,7 +17,7 @@ use Rattle.rules.specs.Numbers.{pathLifetime}
 use Rattle.rules.specs.Relay.{fresh, withClock, withPorts, withPaths, withLinks, withReturns, withHashes, holds, lowest, free, lowestFree}
 use Rattle.rules.specs.View.{portOn, portMode, localPlace, isLocal, isLivePath, isLiveLink, isLiveReturn, isLiveHash, pathPlace, linkPlace, returnPlace, hashPlace, freePath, freeLink, viewAt}
 use Rattle.rules.specs.Blobs.{held, isAmong, greatest, greatestEmission, oneBlob, addBlob}
-use Rattle.rules.specs.Refusals.{timeOk, portOk, pathOk, linkOk, returnOk, hashOk, slotOk, all, tableOk, tablesOk, packetRows, packetRefusal, emptyLocal}
+use Rattle.rules.specs.Refusals.{timeOk, portOk, pathOk, linkOk, returnOk, hashOk, slotOk, all, tableOk, tablesOk, packetRows, refusalBy, emptyLocal}
 use Rattle.rules.specs.Renumbering.{image, differsBefore, oneToOne, preimage, movedPorts, renamePath, renameLink, renameReturn, renameSlot, renumbered}
 use Rattle.rules.specs.Arrival.{isLinkProof}
 use Rattle.rules.specs.Ways.{pathWay, linkWay, returnWay, wayOn}
@@ -25,7 +25,7 @@ use Rattle.rules.specs.Tests.{notOurs, testedAsDuplicate, duplicate, typ
 use Rattle.rules.specs.Answers.{reasonNumber, setBelow, portSet}
 use Rattle.rules.specs.Outgoing.{rewritten, spreadHeader, spreadPacket, spreadPorts, pathPacket, carriedPacket, outgoing, exceeds, grownTooLong}
 use Rattle.rules.specs.Judging.{earlyTests, onwardTests, onwardPlan, plan, spreadVerdict, wayVerdict, verdict, leaves, outputAfter}
-use Rattle.rules.specs.Writes.{putNext, remembers, remember, announcedBlobs, announcedPath, announcedPlace, putPath, returnKey, returnRecord, emptiedIf, emptiedWhere, putReturn, emptyReturn, linkRecord, putLink, renewedLink, renewLink, writeWay, writePlan, enact}
+use Rattle.rules.specs.Writes.{putNext, remembers, remember, announcedBlobs, announcedPath, announcedPlace, putPath, returnKey, returnRecord, emptiedIf, emptiedWhere, putReturn, emptyReturn, linkRecord, putLink, renewedLink, renewLink, writeWay, writePlan, stamp, enact}
 use Rattle.rules.specs.Calls.{newTally, up, counted, judged, judge, packetCall, settled, ruleOf, tableRefusal, settle}
 use Rattle.rules.specs.Run.{ofJudgement, ofSetting, perform, replies, relayAfter, tallyAfter}
 
@@ -55,7 +55,7 @@ tables = tt
 
 -- refusals and renumbering
 unfoldable pub refusals : Unit {0}
-unfolding timeOk portOk pathOk linkOk returnOk hashOk slotOk all tableOk tablesOk packetRows packetRefusal emptyLocal
+unfolding timeOk portOk pathOk linkOk returnOk hashOk slotOk all tableOk tablesOk packetRows refusalBy emptyLocal
     image differsBefore oneToOne preimage movedPorts renamePath renameLink renameReturn renameSlot renumbered
 refusals = tt
 
@@ -76,7 +76,7 @@ answers = tt
 -- what is written
 unfoldable pub writes : Unit {0}
 unfolding putNext remembers remember announcedBlobs announcedPath announcedPlace putPath returnKey returnRecord emptiedIf emptiedWhere
-    putReturn emptyReturn linkRecord putLink renewedLink renewLink writeWay writePlan enact
+    putReturn emptyReturn linkRecord putLink renewedLink renewLink writeWay writePlan stamp enact
 writes = tt
 
 -- the calls

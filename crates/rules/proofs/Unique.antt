@@ -2,23 +2,20 @@
 use Prim.Native.Nat.{ℕ, _≤_}
 use mathlib.Core.Bool.{true}
 use mathlib.Core.List.{List, [], _∷_}
-use mathlib.Core.Path.{_≡_, refl, sym, subst, _∙_}
+use mathlib.Core.Path.{_≡_, refl, sym, subst}
 use lib.Dec.{eqb}
 use lib.ListN.{length}
 use borrow.Author.Tests.{ltb-false, eqb-true}
 use Rattle.octets.specs.Choice.{same}
 use Rattle.octets.proofs.Choice.{eq-same}
-use Rattle.packet.specs.Header.{isData}
 use Rattle.rules.specs.Numbers.{localCount, pathCount, linkCount, returnCount, hashCount}
-use Rattle.rules.specs.Relay.{Relay, fresh, lowest, withClock, withPorts, withLocals, withPaths, withLinks, withReturns, withHashes}
-use Rattle.rules.specs.View.{View, viewAt, localPlace, isLocal, pathPlace, linkPlace, returnPlace, hashPlace}
+use Rattle.rules.specs.Relay.{Relay, fresh, lowest, withClock, withPorts, withLocals, withHashes}
+use Rattle.rules.specs.View.{View, viewAt, localPlace, isLocal}
 use Rattle.rules.specs.Renumbering.{renumbered}
 use Rattle.rules.specs.Refusals.{tablesOk, packetRefusal}
-use Rattle.rules.specs.Arrival.{Arrival, header}
-use Rattle.rules.specs.Ways.{Way, everywhere, by-path, along-link, by-return, blocked}
-use Rattle.rules.specs.Tests.{testedAsDuplicate, duplicate}
-use Rattle.rules.specs.Judging.{Plan, dropped, delivered, follows, plan}
-use Rattle.rules.specs.Writes.{remembers, remember, putPath, putReturn, emptyReturn, putLink, renewLink, writeWay, writePlan, enact}
+use Rattle.rules.specs.Arrival.{Arrival}
+use Rattle.rules.specs.Judging.{Plan, plan}
+use Rattle.rules.specs.Writes.{remembers, remember, writePlan, stamp, enact}
 use Rattle.rules.specs.Calls.{Judgement, judged, judge, packetCall, settled, TableCall, sets-port, adds, removes, renumbers, ruleOf, settle}
 use Rattle.rules.specs.Run.{Call, packet, on-tables, ofJudgement, ofSetting, perform, relayAfter}
 use Rattle.rules.specs.declared.Tally.{Tally}
@@ -26,9 +23,10 @@ use Rattle.rules.proofs.Choices.{either}
 use Rattle.rules.proofs.ListedLaws.{NoneHolds}
 use Rattle.rules.proofs.Rows.{table-passed}
 use Rattle.rules.proofs.Slots.{every-fresh, single-fresh, none-passes, not-found}
-use Rattle.rules.proofs.Followed.{planned, planned-by, remembered-new}
+use Rattle.rules.proofs.Followed.{planned, remembered-new}
+use Rattle.rules.proofs.Stamped.{still-new}
 use Rattle.rules.proofs.Accepted.{Accepted, accepted-packet}
-use Rattle.rules.proofs.Valid.{Valid, valid-of, now-valid, remember-valid, step-ok, fresh-ok}
+use Rattle.rules.proofs.Valid.{Valid, valid-of, written, now-valid, step-ok, fresh-ok}
 use Rattle.rules.proofs.UniqueAt.{UniqueAt, later, clock-set, port-set, local-added, local-removed, renumbered-unique}
 use Rattle.rules.proofs.UniqueWrites.{plan-unique, remember-unique}
 
@@ -50,42 +48,23 @@ fresh-unique own clock l =
     }
 
 -- ---- the calls
--- every accepted packet sets the last clock, and nothing after that does
-way-clock : (v : View) (a : Arrival) (w : Way) (s : Relay) → writeWay v a w s .clock ≡ s .clock
-unfolding writeWay putPath putReturn putLink renewLink emptyReturn withPaths withReturns withLinks
-way-clock v a (everywhere known) s = refl
-way-clock v a (by-path p) s = either (λ (t : Relay). t .clock ≡ s .clock) (isData (header a)) (λ _. refl) (λ _. refl)
-way-clock v a (along-link l) s = refl
-way-clock v a (by-return t) s = refl
-way-clock v a (blocked why) s = refl
-
-plan-clock : (v : View) (a : Arrival) (todo : Plan) (s : Relay) → writePlan v a todo s .clock ≡ s .clock
-unfolding writePlan
-plan-clock v a (dropped reason) s = refl
-plan-clock v a delivered s = refl
-plan-clock v a (follows w) s = way-clock v a w s
-
+-- every accepted packet sets the last clock
 enact-clock : (v : View) (a : Arrival) (todo : Plan) (r : Relay) → enact v a todo r .clock ≡ a .clock
-unfolding enact withClock remember withHashes
-enact-clock v a todo r =
-    plan-clock v a todo _ ∙ either (λ (s : Relay). s .clock ≡ a .clock) (remembers v a todo) (λ _. refl) (λ _. refl)
+unfolding enact stamp withClock remember withHashes
+enact-clock v a todo r = either (λ (s : Relay). s .clock ≡ a .clock) (remembers v a todo) (λ _. refl) (λ _. refl)
 
 enact-unique : (a : Arrival) (r : Relay) → Valid r → Accepted r a → UniqueAt (a .clock) r
     → UniqueAt (a .clock) (enact (viewAt (a .clock) r) a (plan (viewAt (a .clock) r) a) r)
-unfolding enact viewAt pathPlace linkPlace returnPlace hashPlace duplicate testedAsDuplicate withClock remember withHashes
+unfolding enact stamp
 enact-unique a r valid accepted u =
     let v : View = viewAt (a .clock) r in
-    let now : Relay = withClock (a .clock) r in
-    let nowValid : Valid now = now-valid a (accepted .port) (accepted .clock) r valid in
-    let nowUnique : UniqueAt (a .clock) now = clock-set (a .clock) r u (a .clock) in
-    either (λ (s : Relay). UniqueAt (a .clock) (writePlan v a (plan v a) s)) (remembers v a (plan v a))
+    let s : Relay = writePlan v a (plan v a) r in
+    let now : UniqueAt (a .clock) (withClock (a .clock) s) = clock-set (a .clock) s (plan-unique a r valid u v (plan v a) (planned v a)) (a .clock) in
+    either (UniqueAt (a .clock)) (remembers v a (plan v a))
     (λ e.
-    plan-unique a (remember a now) (remember-valid a (accepted .port) (accepted .clock) now nowValid)
-    (remember-unique a now nowValid nowUnique (remembered-new v a e)) v (plan v a)
-    (planned-by v (viewAt (a .clock) (remember a now)) refl refl refl a (plan v a) (planned v a)))
-    (λ _.
-    plan-unique a now nowValid nowUnique v (plan v a)
-    (planned-by v (viewAt (a .clock) now) refl refl refl a (plan v a) (planned v a)))
+    remember-unique a _ (now-valid a (accepted .port) (accepted .clock) s (written a (accepted .port) (accepted .clock) r valid)) now
+    (still-new v a (plan v a) r (remembered-new v a e)))
+    (λ _. now)
 
 packet-unique : (a : Arrival) (r : Relay) (t : Tally) (output : List ℕ) → Valid r → Unique r → Unique (packetCall a r t output .relay)
 unfolding packetCall judge judged

@@ -15,11 +15,11 @@ use Rattle.rules.specs.Relay.{Port, off, Slot, empty, Path, Return, Reme
 use Rattle.rules.specs.View.{View, viewAt}
 use Rattle.rules.specs.Renumbering.{oneToOne, preimage, movedPorts, renamePath, renameLink, renameReturn, renumbered}
 use Rattle.rules.specs.Refusals.{timeOk, portOk, pathOk, linkOk, returnOk, hashOk, slotOk, tableOk, tablesOk, packetRefusal}
-use Rattle.rules.specs.Arrival.{Arrival, header}
+use Rattle.rules.specs.Arrival.{Arrival, hops, header}
 use Rattle.rules.specs.Ways.{Way, everywhere, by-path, along-link, by-return, blocked}
 use Rattle.rules.specs.Tests.{tooManyHops}
 use Rattle.rules.specs.Judging.{Plan, dropped, delivered, follows, plan}
-use Rattle.rules.specs.Writes.{remember, putPath, emptiedWhere, putReturn, emptyReturn, putLink, renewLink, writeWay, writePlan, enact}
+use Rattle.rules.specs.Writes.{remember, putPath, emptiedWhere, putReturn, emptyReturn, putLink, renewLink, writeWay, writePlan, stamp, enact}
 use Rattle.rules.specs.Calls.{Judgement, judged, judge, packetCall, settled, TableCall, sets-port, adds, removes, renumbers, ruleOf, settle}
 use Rattle.rules.specs.Run.{Call, packet, on-tables, ofJudgement, ofSetting, perform, relayAfter}
 use Rattle.rules.specs.declared.Link.{Link}
@@ -149,7 +149,7 @@ found-ok r v c a (by-return t) f = tt
 found-ok r v c a (blocked why) f = tt
 
 module _ (a : Arrival) (port : a .port < portCount) (clock : a .clock < clockLimit) where
-  way-written : (v : View) (w : Way) → tooManyHops a ≡ false → WayOk w → (r : Relay) → Valid r → Valid (writeWay v a w r)
+  way-written : (v : View) (w : Way) → tooManyHops (hops a) ≡ false → WayOk w → (r : Relay) → Valid r → Valid (writeWay v a w r)
   unfolding writeWay putPath putReturn putLink renewLink emptyReturn emptiedWhere slotOk
   way-written v (everywhere known) few ok r valid = path-changed r valid _ _ (announced-ok a port clock v known few ok)
   way-written v (by-path p) few ok r valid =
@@ -171,22 +171,25 @@ module _ (a : Arrival) (port : a .port < portCount) (clock : a .clock < clockLim
       (put-next hashOk hashCount (lit< tt) _ _ (valid .hashes) (time-small a port clock _ (lit≤ tt)))
       (place-next hashOk hashCount (lit< tt) _ _)
 
-  plan-written : (v : View) (todo : Plan) → Planned v a todo → (r s : Relay) → v ≡ viewAt (a .clock) r → Valid r → Valid s → Valid (writePlan v a todo s)
+  plan-written : (r : Relay) → Valid r → (todo : Plan) → Planned (viewAt (a .clock) r) a todo → Valid (writePlan (viewAt (a .clock) r) a todo r)
   unfolding writePlan
-  plan-written v (dropped reason) h r s e old new = new
-  plan-written v delivered h r s e old new = new
-  plan-written v (follows w) h r s e old new =
-      way-written v w (h .fewHops) (found-ok r old (a .clock) a w (subst (λ (u : View). Found u a w) e (h .found))) s new
+  plan-written r valid (dropped reason) h = valid
+  plan-written r valid delivered h = valid
+  plan-written r valid (follows w) h = way-written (viewAt (a .clock) r) w (h .fewHops) (found-ok r valid (a .clock) a w (h .found)) r valid
+
+  -- what the packet's own records leave
+  pub written : (r : Relay) → Valid r → Valid (writePlan (viewAt (a .clock) r) a (plan (viewAt (a .clock) r) a) r)
+  written r valid = plan-written r valid _ (planned (viewAt (a .clock) r) a)
 
   pub now-valid : (r : Relay) → Valid r → Valid (withClock (a .clock) r)
   unfolding timeOk
   now-valid r valid = clock-changed r valid (a .clock) (le-leb (a .clock) timeLimit (omega arith))
 
   enacted : (r : Relay) → Valid r → Valid (enact (viewAt (a .clock) r) a (plan (viewAt (a .clock) r) a) r)
-  unfolding enact
+  unfolding enact stamp
   enacted r valid =
-      plan-written (viewAt (a .clock) r) _ (planned (viewAt (a .clock) r) a) r _ refl valid
-      (either Valid _ (λ _. remember-valid _ (now-valid r valid)) (λ _. now-valid r valid))
+      let now = now-valid _ (written r valid) in
+      either Valid _ (λ _. remember-valid _ now) (λ _. now)
 
 -- ---- the calls
 packet-valid : (a : Arrival) (r : Relay) (t : Tally) (output : List ℕ) → Valid r → Valid (packetCall a r t output .relay)

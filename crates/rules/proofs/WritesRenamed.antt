@@ -1,6 +1,6 @@
 -- What a renamed packet writes into a renumbered relay: what it wrote, renamed.
 use Prim.Native.Nat.{ℕ, _+_, _%_}
-use mathlib.Core.Bool.{Bool, true}
+use mathlib.Core.Bool.{Bool, true, false}
 use mathlib.Core.List.{List, map}
 use mathlib.Core.Path.{_≡_, refl, sym, ap, ap₂, _∙_}
 use lib.ListN.{set}
@@ -11,10 +11,10 @@ use Rattle.rules.specs.Numbers.{pathLifetime}
 use Rattle.rules.specs.Relay.{Slot, empty, used, Path, Return, Relay, withClock, withPaths, withLinks, withReturns, withHashes}
 use Rattle.rules.specs.View.{View, isLiveReturn}
 use Rattle.rules.specs.Renumbering.{image, oneToOne, renamePath, renameLink, renameReturn, renameSlot, renumbered}
-use Rattle.rules.specs.Arrival.{Arrival, header, hops, relayAddress, destination, isLinkProof}
+use Rattle.rules.specs.Arrival.{Arrival, header, hops, relayAddress, destination}
 use Rattle.rules.specs.Ways.{Way, everywhere, by-path, along-link, by-return, blocked}
 use Rattle.rules.specs.Judging.{Plan, dropped, delivered, follows}
-use Rattle.rules.specs.Writes.{putNext, remembers, remember, announcedBlobs, announcedPath, announcedPlace, putPath, returnKey, returnRecord, emptiedIf, emptiedWhere, putReturn, emptyReturn, linkRecord, putLink, renewedLink, renewLink, writeWay, writePlan, enact}
+use Rattle.rules.specs.Writes.{putNext, remembers, remember, announcedBlobs, announcedPath, announcedPlace, putPath, returnKey, returnRecord, emptiedIf, emptiedWhere, putReturn, emptyReturn, linkRecord, putLink, renewedLink, renewLink, writeWay, writePlan, stamp, enact}
 use Rattle.rules.specs.Run.{renameArrival}
 use Rattle.rules.specs.declared.Link.{Link}
 use Rattle.rules.proofs.Images.{source-image}
@@ -62,7 +62,7 @@ module _ (m : List ℕ) where
   linkRecord-renamed a p = refl
 
   renewedLink-renamed : (a : Arrival) (l : Link) → renewedLink (renameArrival m a) (renameLink m l) ≡ renameLink m (renewedLink a l)
-  unfolding renewedLink renameArrival renameLink isLinkProof
+  unfolding renewedLink renameArrival renameLink
   renewedLink-renamed a l = refl
 
   putLink-renamed : (a : Arrival) (p : Path) (r : Relay)
@@ -162,18 +162,15 @@ module _ (m : List ℕ) (ok : oneToOne m ≡ true) where
   writePlan-renamed v a delivered r = refl
   writePlan-renamed v a (follows w) r = writeWay-renamed v a w r
 
+  stamp-renamed : (a : Arrival) (remembered : Bool) (r : Relay) → stamp (renameArrival m a) remembered (renumbered m r) ≡ renumbered m (stamp a remembered r)
+  unfolding stamp renameArrival _then_otherwise_
+  stamp-renamed a true r =
+      ap (remember (renameArrival m a)) (withClock-renamed m (a .clock) r) ∙ remember-renamed m a (withClock (a .clock) r)
+  stamp-renamed a false r = withClock-renamed m (a .clock) r
+
   pub enact-renamed : (v : View) (a : Arrival) (todo : Plan) (r : Relay)
       → enact (renameView m v) (renameArrival m a) (renamePlan m todo) (renumbered m r) ≡ renumbered m (enact v a todo r)
-  unfolding enact renameArrival
+  unfolding enact
   enact-renamed v a todo r =
-      let before : Relay = withClock (a .clock) r in
-      let after : Relay = remembers v a todo then remember a before otherwise before in
-      ap (writePlan (renameView m v) (renameArrival m a) (renamePlan m todo))
-      (ap
-      (λ (b : Bool).
-      b then remember (renameArrival m a) (withClock (a .clock) (renumbered m r)) otherwise withClock (a .clock) (renumbered m r))
-      (remembers-renamed m v a todo)
-      ∙ ap (λ (x : Relay). remembers v a todo then remember (renameArrival m a) x otherwise x) (withClock-renamed m (a .clock) r)
-      ∙ ap (λ (x : Relay). remembers v a todo then x otherwise renumbered m before) (remember-renamed m a before)
-      ∙ sym (then-ap (renumbered m) (remembers v a todo) (remember a before) before))
-      ∙ writePlan-renamed v a todo after
+      ap₂ (stamp (renameArrival m a)) (remembers-renamed m v a todo) (writePlan-renamed v a todo r)
+      ∙ stamp-renamed a (remembers v a todo) (writePlan v a todo r)

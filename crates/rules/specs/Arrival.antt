@@ -28,9 +28,6 @@ relayAddress a = partsOf (a .bytes) .relay
 abbrev pub destination : Arrival → List ℕ
 destination a = partsOf (a .bytes) .destination
 
-abbrev pub context : Arrival → ℕ
-context a = partsOf (a .bytes) .context
-
 abbrev pub body : Arrival → List ℕ
 body a = payload (a .bytes)
 
@@ -42,5 +39,5 @@ abbrev pub blob : Arrival → List ℕ
 blob a = blobOf (body a)
 
 -- a link proof (a proof of kind link, context 0xFF)
-unfoldable pub isLinkProof : Arrival → Bool
-isLinkProof a = isProof (header a) and ofKindLink (header a) and eqb (context a) 0xff
+unfoldable pub isLinkProof : List ℕ → Bool
+isLinkProof p = isProof (headerOf p) and ofKindLink (headerOf p) and eqb (partsOf p .context) 0xff

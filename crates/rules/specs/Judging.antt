@@ -8,7 +8,7 @@ use Rattle.octets.specs.Part.{patch}
 use Rattle.octets.specs.Choice.{_then_otherwise_, _or_}
 use Rattle.rules.specs.Listed.{Test, _gives_otherwise_, firstOf}
 use Rattle.rules.specs.View.{View}
-use Rattle.rules.specs.Arrival.{Arrival}
+use Rattle.rules.specs.Arrival.{Arrival, hops}
 use Rattle.rules.specs.Ways.{Way, everywhere, by-path, along-link, by-return, blocked, wayOn}
 use Rattle.rules.specs.Tests.{notOurs, duplicate, badForm, ownAnnounce, deliveredHere, tooManyHops, noWayOn, alreadyKnown, wrongSide, notSigned, replay, notBetter, leavingPort, portOff, noRoom}
 use Rattle.rules.specs.Outgoing.{spreadPorts, outgoing, exceeds, grownTooLong}
@@ -28,10 +28,10 @@ unfoldable pub earlyTests : View → Arrival → List (Test Plan)
 earlyTests v a =
     notOurs v a gives dropped NotOurs otherwise
     duplicate v a gives dropped Duplicate otherwise
-    badForm a gives dropped BadForm otherwise
+    badForm (a .bytes) gives dropped BadForm otherwise
     ownAnnounce v a gives dropped OwnAnnounce otherwise
     deliveredHere v a gives delivered otherwise
-    tooManyHops a gives dropped TooManyHops otherwise
+    tooManyHops (hops a) gives dropped TooManyHops otherwise
     []
 
 -- tests 6 to 14, on the way that the packet would follow

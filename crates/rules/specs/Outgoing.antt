@@ -6,49 +6,48 @@ use lib.Dec.{eqb, ltb}
 use lib.ListN.{length, set}
 use Rattle.octets.specs.Index.{_and_}
 use Rattle.octets.specs.Choice.{_then_otherwise_}
-use Rattle.packet.specs.Read.{longestPacket, noAddress}
+use Rattle.packet.specs.Read.{longestPacket, noAddress, headerOf, partsOf, payload}
 use Rattle.packet.specs.Write.{packetOf}
-use Rattle.rules.specs.Relay.{Path}
 use Rattle.rules.specs.View.{View}
-use Rattle.rules.specs.Arrival.{Arrival, header, hops, destination, context, body}
+use Rattle.rules.specs.Arrival.{Arrival}
 use Rattle.rules.specs.Ways.{Way, everywhere, by-path, along-link, by-return, blocked}
 use Rattle.rules.specs.Answers.{portSet}
 
--- the packet under another header and relay address, hops + 1
-unfoldable pub rewritten : ℕ → List ℕ → Arrival → List ℕ
-rewritten newHeader relay a =
+-- p are a packet's bytes: the packet under another header and relay address, hops + 1
+unfoldable pub rewritten : ℕ → List ℕ → List ℕ → List ℕ
+rewritten newHeader relay p =
     packetOf
-    (record { header = newHeader; hops = hops a + 1; relay = relay; destination = destination a; context = context a })
-    (body a)
+    (record { header = newHeader; hops = partsOf p .hops + 1; relay = relay; destination = partsOf p .destination; context = partsOf p .context })
+    (payload p)
 
 -- bits 6 and 4 set, low six otherwise as received
 unfoldable pub spreadHeader : ℕ → ℕ
 spreadHeader h = 64 + h / 32 % 2 * 32 + 16 + h % 16
 
 -- the announce is spread: type 2, our own address
-unfoldable pub spreadPacket : View → Arrival → List ℕ
-spreadPacket v a = rewritten (spreadHeader (header a)) (v .own) a
+unfoldable pub spreadPacket : List ℕ → List ℕ → List ℕ
+spreadPacket own p = rewritten (spreadHeader (headerOf p)) own p
 
 -- to all ports on but the arrival port
 unfoldable pub spreadPorts : View → Arrival → ℕ
 spreadPorts v a = portSet (λ port. v .on port and not (eqb port (a .port)))
 
 -- stored hops 0: as type 1, header modulo 16. Otherwise type 2, header kept, relay address = next hop
-unfoldable pub pathPacket : Path → Arrival → List ℕ
-pathPacket p a =
-    eqb (p .hops) 0
-    then rewritten (header a % 16) noAddress a
-    otherwise rewritten (header a) (p .nextHop) a
+unfoldable pub pathPacket : ℕ → List ℕ → List ℕ → List ℕ
+pathPacket hops nextHop p =
+    eqb hops 0
+    then rewritten (headerOf p % 16) noAddress p
+    otherwise rewritten (headerOf p) nextHop p
 
 -- link packets and proofs are forwarded with hops + 1 and otherwise unchanged
-unfoldable pub carriedPacket : Arrival → List ℕ
-carriedPacket a = set (a .bytes) 1 (hops a + 1)
+unfoldable pub carriedPacket : List ℕ → List ℕ
+carriedPacket p = set p 1 (partsOf p .hops + 1)
 
 unfoldable pub outgoing : View → Arrival → Way → List ℕ
-outgoing v a (everywhere known) = spreadPacket v a
-outgoing v a (by-path p) = pathPacket p a
-outgoing v a (along-link l) = carriedPacket a
-outgoing v a (by-return t) = carriedPacket a
+outgoing v a (everywhere known) = spreadPacket (v .own) (a .bytes)
+outgoing v a (by-path p) = pathPacket (p .hops) (p .nextHop) (a .bytes)
+outgoing v a (along-link l) = carriedPacket (a .bytes)
+outgoing v a (by-return t) = carriedPacket (a .bytes)
 outgoing v a (blocked why) = []
 
 unfoldable pub exceeds : List ℕ → Bool
@@ -57,7 +56,7 @@ exceeds packet = ltb longestPacket (length packet)
 -- 14. Grown too long: a forwarded packet over 500 once rewritten.
 unfoldable pub grownTooLong : Arrival → Way → Bool
 grownTooLong a (everywhere known) = false
-grownTooLong a (by-path p) = exceeds (pathPacket p a)
-grownTooLong a (along-link l) = exceeds (carriedPacket a)
-grownTooLong a (by-return t) = exceeds (carriedPacket a)
+grownTooLong a (by-path p) = exceeds (pathPacket (p .hops) (p .nextHop) (a .bytes))
+grownTooLong a (along-link l) = exceeds (carriedPacket (a .bytes))
+grownTooLong a (by-return t) = exceeds (carriedPacket (a .bytes))
 grownTooLong a (blocked why) = false

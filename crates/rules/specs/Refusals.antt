@@ -69,16 +69,19 @@ tablesOk r =
     and ltb (r .hashes .next) hashCount
 
 -- ---- a packet, with an output buffer of `room` bytes: 7, 6, 4, 5, and the reading's 1, 2, 3, 1
-unfoldable pub packetRows : Relay → Arrival → ℕ → List (Test ℕ)
-packetRows r a room =
+unfoldable pub packetRows : Relay → ℕ → ℕ → ℕ → List (Test ℕ)
+packetRows r port clock room =
     not (tablesOk r) gives 7 otherwise
     ltb room leastOutput gives 6 otherwise
-    not (portOn r (a .port)) gives 4 otherwise
-    leb clockLimit (a .clock) or ltb (a .clock) (r .clock) gives 5 otherwise
+    not (portOn r port) gives 4 otherwise
+    leb clockLimit clock or ltb clock (r .clock) gives 5 otherwise
     []
 
-unfoldable pub packetRefusal : Relay → Arrival → ℕ → ℕ
-packetRefusal r a room = firstOf (packetRows r a room) (readingRefusal longestPacket (a .bytes))
+unfoldable pub refusalBy : Relay → List ℕ → ℕ → ℕ → ℕ → ℕ
+refusalBy r bytes port clock room = firstOf (packetRows r port clock room) (readingRefusal longestPacket bytes)
+
+abbrev pub packetRefusal : Relay → Arrival → ℕ → ℕ
+packetRefusal r a room = refusalBy r (a .bytes) (a .port) (a .clock) room
 
 -- ---- the lowest empty place for a local address
 unfoldable pub emptyLocal : Relay → ℕ

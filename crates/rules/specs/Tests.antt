@@ -2,17 +2,19 @@
 -- outgoing bytes, stands in Outgoing.antt.
 use Prim.Native.Nat.{ℕ}
 use mathlib.Core.Bool.{Bool, true, false, not}
+use mathlib.Core.List.{List}
 use lib.Dec.{eqb, ltb, leb}
 use lib.ListN.{length}
 use Rattle.octets.specs.Index.{_and_}
 use Rattle.octets.specs.Choice.{_then_otherwise_, _or_, same}
 use Rattle.packet.specs.Header.{typeTwo, ofKindSingle, ofKindLink, isData, isAnnounce, isLinkRequest, isProof}
+use Rattle.packet.specs.Read.{headerOf, partsOf, payload}
 use Rattle.packet.specs.Hash.{linkId}
 use Rattle.packet.specs.Announce.{emissionOf, leastAnnounce, announcedDestination}
 use Rattle.rules.specs.Numbers.{portCount}
 use Rattle.rules.specs.Relay.{Slot, empty, used}
 use Rattle.rules.specs.View.{View}
-use Rattle.rules.specs.Arrival.{Arrival, header, hops, relayAddress, destination, body, hash, blob, isLinkProof}
+use Rattle.rules.specs.Arrival.{Arrival, header, hops, relayAddress, destination, hash, blob, isLinkProof}
 use Rattle.rules.specs.Blobs.{held, isAmong, greatestEmission}
 use Rattle.rules.specs.Ways.{Way, everywhere, by-path, along-link, by-return, blocked}
 use Rattle.rules.specs.declared.Link.{Link}
@@ -28,49 +30,49 @@ testedAsDuplicate v a = true
 unfoldable pub duplicate : View → Arrival → Bool
 duplicate v a = testedAsDuplicate v a and v .remembered (hash a)
 
--- 3. Bad form:
+-- 3. Bad form, of a packet's bytes p:
 -- type 2 proof;
-unfoldable pub typeTwoProof : Arrival → Bool
-typeTwoProof a = typeTwo (header a) and isProof (header a)
+unfoldable pub typeTwoProof : List ℕ → Bool
+typeTwoProof p = typeTwo (headerOf p) and isProof (headerOf p)
 
 -- any type 2 packet of kind link;
-unfoldable pub typeTwoOfKindLink : Arrival → Bool
-typeTwoOfKindLink a = typeTwo (header a) and ofKindLink (header a)
+unfoldable pub typeTwoOfKindLink : List ℕ → Bool
+typeTwoOfKindLink p = typeTwo (headerOf p) and ofKindLink (headerOf p)
 
 -- announce not of kind single;
-unfoldable pub announceNotSingle : Arrival → Bool
-announceNotSingle a = isAnnounce (header a) and not (ofKindSingle (header a))
+unfoldable pub announceNotSingle : List ℕ → Bool
+announceNotSingle p = isAnnounce (headerOf p) and not (ofKindSingle (headerOf p))
 
 -- announce payload under 148 (180 with the context flag);
-unfoldable pub announceTooShort : Arrival → Bool
-announceTooShort a = isAnnounce (header a) and ltb (length (body a)) (leastAnnounce (header a))
+unfoldable pub announceTooShort : List ℕ → Bool
+announceTooShort p = isAnnounce (headerOf p) and ltb (length (payload p)) (leastAnnounce (headerOf p))
 
 -- announce destination not the first 16 of SHA-256(name hash ‖ identity hash);
-unfoldable pub announceOfAnother : Arrival → Bool
-announceOfAnother a = isAnnounce (header a) and not (same (destination a) (announcedDestination (body a)))
+unfoldable pub announceOfAnother : List ℕ → Bool
+announceOfAnother p = isAnnounce (headerOf p) and not (same (partsOf p .destination) (announcedDestination (payload p)))
 
 -- link request of kind link,
-unfoldable pub requestOfKindLink : Arrival → Bool
-requestOfKindLink a = isLinkRequest (header a) and ofKindLink (header a)
+unfoldable pub requestOfKindLink : List ℕ → Bool
+requestOfKindLink p = isLinkRequest (headerOf p) and ofKindLink (headerOf p)
 
 -- or payload under 64;
-unfoldable pub requestTooShort : Arrival → Bool
-requestTooShort a = isLinkRequest (header a) and ltb (length (body a)) 64
+unfoldable pub requestTooShort : List ℕ → Bool
+requestTooShort p = isLinkRequest (headerOf p) and ltb (length (payload p)) 64
 
 -- a link proof whose payload isn't 96 or 99.
-unfoldable pub linkProofLength : Arrival → Bool
-linkProofLength a = isLinkProof a and not (eqb (length (body a)) 96 or eqb (length (body a)) 99)
+unfoldable pub linkProofLength : List ℕ → Bool
+linkProofLength p = isLinkProof p and not (eqb (length (payload p)) 96 or eqb (length (payload p)) 99)
 
-unfoldable pub badForm : Arrival → Bool
-badForm a =
-    typeTwoProof a
-    or typeTwoOfKindLink a
-    or announceNotSingle a
-    or announceTooShort a
-    or announceOfAnother a
-    or requestOfKindLink a
-    or requestTooShort a
-    or linkProofLength a
+unfoldable pub badForm : List ℕ → Bool
+badForm p =
+    typeTwoProof p
+    or typeTwoOfKindLink p
+    or announceNotSingle p
+    or announceTooShort p
+    or announceOfAnother p
+    or requestOfKindLink p
+    or requestTooShort p
+    or linkProofLength p
 
 -- 4. Own announce: destination local.
 unfoldable pub ownAnnounce : View → Arrival → Bool
@@ -81,8 +83,8 @@ unfoldable pub deliveredHere : View → Arrival → Bool
 deliveredHere v a = (isData (header a) or isLinkRequest (header a)) and not (ofKindLink (header a)) and v .local (destination a)
 
 -- 5. Hops 128 or more.
-unfoldable pub tooManyHops : Arrival → Bool
-tooManyHops a = leb 128 (hops a)
+unfoldable pub tooManyHops : ℕ → Bool
+tooManyHops hops = leb 128 hops
 
 -- 6. No way on: specs/Ways.antt has its cases
 unfoldable pub noWayOn : Way → Bool
@@ -107,7 +109,7 @@ followsProvedLink (blocked why) = false
 unfoldable pub alreadyKnown : View → Arrival → Way → Bool
 alreadyKnown v a w =
     isLinkRequest (header a) and isThere (v .link (linkId (a .bytes)))
-    or isLinkProof a and followsProvedLink w
+    or isLinkProof (a .bytes) and followsProvedLink w
 
 -- 8. Wrong side.
 -- from the answering port with hops = remaining
@@ -125,13 +127,13 @@ wrongSide a (everywhere known) = false
 wrongSide a (by-path p) = false
 wrongSide a (along-link l) =
     fromAnsweringSide l a then false otherwise
-    isLinkProof a or not (fromAskingSide l a)
+    isLinkProof (a .bytes) or not (fromAskingSide l a)
 wrongSide a (by-return t) = not (eqb (a .port) (t .leaving))
 wrongSide a (blocked why) = false
 
 -- 9. Signature word no, for announces and link proofs.
 unfoldable pub notSigned : Arrival → Bool
-notSigned a = (isAnnounce (header a) or isLinkProof a) and not (a .signed)
+notSigned a = (isAnnounce (header a) or isLinkProof (a .bytes)) and not (a .signed)
 
 -- 10. Replay: the announce's blob is stored in its live path.
 unfoldable pub replay : Arrival → Way → Bool

@@ -43,7 +43,7 @@ returnWay (used t) = by-return t
 unfoldable pub wayOn : View → Arrival → Way
 wayOn v a =
     isAnnounce (header a) then everywhere (v .path (destination a)) otherwise
-    ofKindLink (header a) then linkWay (isLinkProof a) (v .link (destination a)) otherwise
+    ofKindLink (header a) then linkWay (isLinkProof (a .bytes)) (v .link (destination a)) otherwise
     isProof (header a) then returnWay (v .return (destination a)) otherwise
     not (typeTwo (header a)) then blocked not-asking otherwise
     pathWay (v .path (destination a))

@@ -6,11 +6,12 @@ use lib.Dec.{ltb}
 use lib.ListN.{take, set}
 use Rattle.octets.specs.Choice.{_then_otherwise_, _or_}
 use Rattle.packet.specs.Header.{typeTwo, isData}
+use Rattle.packet.specs.Read.{headerOf, partsOf}
 use Rattle.packet.specs.Hash.{linkId}
 use Rattle.rules.specs.Numbers.{blobLimit, returnCount, hashCount, pathLifetime, hashLifetime, returnLifetime, unprovedLifetime, provedLifetime}
 use Rattle.rules.specs.Relay.{Slot, empty, used, Ring, Blobs, Path, Return, Relay, holds, withClock, withPaths, withLinks, withReturns, withHashes}
 use Rattle.rules.specs.View.{View, isLiveReturn, pathPlace, linkPlace, returnPlace, freePath, freeLink}
-use Rattle.rules.specs.Arrival.{Arrival, header, hops, relayAddress, destination, hash, blob, isLinkProof}
+use Rattle.rules.specs.Arrival.{Arrival, header, hops, destination, hash, blob, isLinkProof}
 use Rattle.rules.specs.Blobs.{oneBlob, addBlob}
 use Rattle.rules.specs.Ways.{Way, everywhere, by-path, along-link, by-return, blocked}
 use Rattle.rules.specs.Answers.{reasonNumber}
@@ -46,8 +47,8 @@ announcedBlobs a empty = oneBlob blobLimit (blob a)
 announcedBlobs a (used p) = addBlob blobLimit (blob a) (p .blobs)
 
 -- next hop: the relay address, or the destination if type 1
-abbrev pub nextHopOf : Arrival → List ℕ
-nextHopOf a = typeTwo (header a) then relayAddress a otherwise destination a
+abbrev pub nextHopOf : List ℕ → List ℕ
+nextHopOf p = typeTwo (headerOf p) then partsOf p .relay otherwise partsOf p .destination
 
 -- a path's expiry, by the arrival port's mode
 abbrev pub pathExpiry : View → Arrival → ℕ
@@ -59,7 +60,7 @@ announcedPath v a known =
       destination = destination a;
       port = a .port;
       hops = hops a;
-      nextHop = nextHopOf a;
+      nextHop = nextHopOf (a .bytes);
       expiry = pathExpiry v a;
       blobs = announcedBlobs a known;
     }
@@ -128,7 +129,7 @@ renewedLink a l =
       answering = l .answering;
       taken = l .taken;
       remaining = l .remaining;
-      proved = l .proved or isLinkProof a;
+      proved = l .proved or isLinkProof (a .bytes);
       expiry = a .clock + provedLifetime;
     }
 
@@ -150,6 +151,8 @@ writePlan v a delivered r = r
 writePlan v a (follows w) r = writeWay v a w r
 
 -- every accepted packet, dropped or not, sets the last clock
+unfoldable pub stamp : Arrival → Bool → Relay → Relay
+stamp a remembered r = remembered then remember a (withClock (a .clock) r) otherwise withClock (a .clock) r
+
 unfoldable pub enact : View → Arrival → Plan → Relay → Relay
-enact v a plan r =
-    writePlan v a plan (remembers v a plan then remember a (withClock (a .clock) r) otherwise withClock (a .clock) r)
+enact v a plan r = stamp a (remembers v a plan) (writePlan v a plan r)

@@ -1,143 +1,59 @@
-use mathlib.Core.Path.{sym, _∙_}
+use Prim.Native.Nat.{ℕ, _<_}
+use mathlib.Core.Path.{sym, subst, _∙_}
 use Rattle.octets.proofs.Bytes.{known-bytes}
-use Rattle.act.proofs.Stays.{drop-left, deliver-left}
+use Rattle.rules.specs.Numbers.{hashCount}
+use Rattle.tables.proofs.Whole.{formed}
+use Rattle.update.proofs.Steps.{hash-next-within}
+use Rattle.act.proofs.StampLaws.{remembered-by, stamp-left}
 use borrow.Author.Needs.{needs}
 use Rattle.act.proofs.act.Statement.{statement}
 use Rattle.act.proofs.act.Tie as tie
 
-enum-known-decision : tie.Need-enum-known-decision
-enum-known-decision c = search needs
+next-hash-requires : tie.Need-next-hash-requires
+next-hash-requires c κs = formed _ (c .before .before .before .before .pre .0 .formed) .size
 
-keep-drop-requires : tie.Need-keep-drop-requires
-keep-drop-requires c κs = search needs
+remembers-requires : tie.Need-remembers-requires
+remembers-requires c κs = search needs
 
-enum-told : tie.Need-enum-told
-enum-told c = search needs
+carry-out-requires : tie.Need-carry-out-requires
+carry-out-requires c κs = search needs
 
-keep-packet-requires : tie.Need-keep-packet-requires
-keep-packet-requires c κs = search needs
-
-enum-known-decision-2 : tie.Need-enum-known-decision-2
-enum-known-decision-2 c = search needs
-
-announce-requires : tie.Need-announce-requires
-announce-requires c κs = (c .before .before .before .before .before .before .before .before .pre .0, c .before .before .before .before .before .before .before .before .pre .1, sym (c .before .before .before .before .before .before .before .before .pre .2) ∙ c .before .before .before .decision2 .given .1)
-
-enum-known-decision-3 : tie.Need-enum-known-decision-3
-enum-known-decision-3 c = search needs
-
-send-requires : tie.Need-send-requires
-send-requires c κs = (c .before .before .before .before .before .before .before .before .pre .0, c .before .before .before .before .before .before .before .before .pre .1, sym (c .before .before .before .before .before .before .before .before .pre .2) ∙ c .before .before .before .decision3 .given .1)
-
-enum-known-decision-4 : tie.Need-enum-known-decision-4
-enum-known-decision-4 c = search needs
-
-request-requires : tie.Need-request-requires
-request-requires c κs = (c .before .before .before .before .before .before .before .before .pre .0, c .before .before .before .before .before .before .before .before .pre .1, sym (c .before .before .before .before .before .before .before .before .pre .2) ∙ c .before .before .before .decision4 .given .1)
-
-enum-known-decision-5 : tie.Need-enum-known-decision-5
-enum-known-decision-5 c = search needs
-
-carry-requires : tie.Need-carry-requires
-carry-requires c κs = (c .before .before .before .before .before .before .before .before .pre .0, c .before .before .before .before .before .before .before .before .pre .1, sym (c .before .before .before .before .before .before .before .before .pre .2) ∙ c .before .before .before .decision5 .given .1)
-
-enum-known-decision-6 : tie.Need-enum-known-decision-6
-enum-known-decision-6 c = search needs
-
-receipt-requires : tie.Need-receipt-requires
-receipt-requires c κs = (c .before .before .before .before .before .before .before .before .pre .0, c .before .before .before .before .before .before .before .before .pre .1, sym (c .before .before .before .before .before .before .before .before .pre .2) ∙ c .before .before .before .decision6 .given .1)
+stamp-requires : tie.Need-stamp-requires
+stamp-requires c κs =
+    let c9 = c .before .before .before .before .before .before .before .before .before in
+    let s = c9 .before .before .before .before .before in
+    let size = formed _ (s .pre .0 .formed) .size in
+    let within = subst (λ (k : ℕ). k < hashCount) (sym (c9 .next-hash .ensures)) (hash-next-within _ (s .pre .0 .formed)) in
+    (search needs, within, s .pre .0 .clock)
 
 same-length : tie.Need-same-length
 same-length c = search needs
 
-returns : tie.Need-returns
-returns c = drop-left _ _ _ _ (c .before .before .before .before .before .before .before .before .before .before .pre .0) (known-bytes (c .before .before .before .before .before .before .before .before .before .before .args .tables .now) (c .before .before .before .before .before .before .before .before .slice-known .given)) _ _ _ (sym (c .before .before .before .before .before .before .before .before .before .before .pre .2) ∙ c .before .before .before .before .before .decision .given .1) (c .before .before .keep-drop .ensures)
-
 same-length-2 : tie.Need-same-length-2
 same-length-2 c = search needs
 
-returns-2 : tie.Need-returns-2
-returns-2 c = deliver-left _ _ _ _ (c .before .before .before .before .before .before .before .before .before .pre .0) (known-bytes (c .before .before .before .before .before .before .before .before .before .args .tables .now) (c .before .before .before .before .before .before .before .slice-known .given)) _ _ (sym (c .before .before .before .before .before .before .before .before .before .pre .2) ∙ c .before .before .before .before .enum-told .given .1) (c .before .before .keep-packet .ensures)
-
-same-length-3 : tie.Need-same-length-3
-same-length-3 c = search needs
-
-same-length-4 : tie.Need-same-length-4
-same-length-4 c = search needs
-
-returns-3 : tie.Need-returns-3
-returns-3 c = search needs
-
-same-length-5 : tie.Need-same-length-5
-same-length-5 c = search needs
-
-same-length-6 : tie.Need-same-length-6
-same-length-6 c = search needs
-
-returns-4 : tie.Need-returns-4
-returns-4 c = search needs
-
-same-length-7 : tie.Need-same-length-7
-same-length-7 c = search needs
-
-same-length-8 : tie.Need-same-length-8
-same-length-8 c = search needs
-
-returns-5 : tie.Need-returns-5
-returns-5 c = search needs
-
-same-length-9 : tie.Need-same-length-9
-same-length-9 c = search needs
-
-same-length-10 : tie.Need-same-length-10
-same-length-10 c = search needs
-
-returns-6 : tie.Need-returns-6
-returns-6 c = search needs
-
-same-length-11 : tie.Need-same-length-11
-same-length-11 c = search needs
-
-same-length-12 : tie.Need-same-length-12
-same-length-12 c = search needs
-
-returns-7 : tie.Need-returns-7
-returns-7 c = search needs
+returns : tie.Need-returns
+returns c =
+    let c8 = c .before .before .before .before .before .before .before .before in
+    let c11 = c8 .before .before .before in
+    let c12 = c11 .before in
+    let c15 = c12 .before .before .before in
+    let s = c15 .before .before in
+    let left = c8 .carry-out .ensures in
+    let remembered = c11 .remembers .ensures ∙ remembered-by _ _ _ _ (sym (s .pre .2)) in
+    let stamped =
+    stamp-left _ _ _ (s .pre .0) (known-bytes (s .args .tables .now) (c15 .slice-known .given)) _ _ _ _ (s .pre .3) (left .1)
+    (c12 .next-hash .ensures) remembered in
+    (left .0, c .before .before .stamp .ensures ∙ stamped, left .2)
 
 pub act-spec : {M : Type 1} → statement M
 act-spec =
     tie.close
     (tie.spec
-    enum-known-decision
-    keep-drop-requires
-    enum-told
-    keep-packet-requires
-    enum-known-decision-2
-    announce-requires
-    enum-known-decision-3
-    send-requires
-    enum-known-decision-4
-    request-requires
-    enum-known-decision-5
-    carry-requires
-    enum-known-decision-6
-    receipt-requires
+    next-hash-requires
+    remembers-requires
+    carry-out-requires
+    stamp-requires
     same-length
-    returns
     same-length-2
-    returns-2
-    same-length-3
-    same-length-4
-    returns-3
-    same-length-5
-    same-length-6
-    returns-4
-    same-length-7
-    same-length-8
-    returns-5
-    same-length-9
-    same-length-10
-    returns-6
-    same-length-11
-    same-length-12
-    returns-7)
+    returns)

@@ -11,19 +11,27 @@ use Rattle.act.proofs.announces.announce.Statement.{statement}
 use Rattle.act.proofs.announces.announce.Tie as tie
 
 spread-requires : tie.Need-spread-requires
-spread-requires c κs = (announce-onward _ _ _ _ (c .before .before .before .before .before .pre .0) _ _ (c .before .before .before .before .before .pre .2), formed _ (c .before .before .before .before .before .pre .0 .formed) .size, c .before .before .before .before .before .pre .1)
+spread-requires c κs =
+    let c5 = c .before .before .before .before .before in
+    (announce-onward _ _ _ (c5 .pre .0) _ _ (c5 .pre .2), formed _ (c5 .pre .0 .formed) .size, c5 .pre .1)
 
 announced-path-requires : tie.Need-announced-path-requires
-announced-path-requires c κs = (formed _ (c .before .before .before .before .before .before .before .before .before .pre .0 .formed) .size, c .before .before .before .before .before .before .before .before .before .pre .0 .readable, c .before .before .before .before .before .before .before .before .before .pre .0 .port, c .before .before .before .before .before .before .before .before .before .pre .0 .clock)
+announced-path-requires c κs =
+    let c9 = c .before .before .before .before .before .before .before .before .before in
+    (formed _ (c9 .pre .0 .formed) .size, c9 .pre .0 .readable, c9 .pre .0 .port, c9 .pre .0 .clock)
 
 payload-requires : tie.Need-payload-requires
 payload-requires c κs = search needs
 
 blob-requires : tie.Need-blob-requires
-blob-requires c κs = subst (λ (s : List ℕ). 84 ≤ length s) (sym (c .payload .ensures)) (announce-body _ _ _ _ (c .before .before .before .before .before .before .before .before .before .before .before .pre .0) _ _ (c .before .before .before .before .before .before .before .before .before .before .before .pre .2))
+blob-requires c κs =
+    let c11 = c .before .before .before .before .before .before .before .before .before .before .before in
+    subst (λ (s : List ℕ). 84 ≤ length s) (sym (c .payload .ensures)) (announce-body _ _ _ (c11 .pre .0) _ _ (c11 .pre .2))
 
-keep-path-requires : tie.Need-keep-path-requires
-keep-path-requires c κs = (c .before .before .before .before .before .before .before .before .before .before .before .before .before .pre .0 .formed, announce-room _ _ _ _ (c .before .before .before .before .before .before .before .before .before .before .before .before .before .pre .0) _ _ (c .before .before .before .before .before .before .before .before .before .before .before .before .before .pre .2), c .before .before .before .before .before .before .before .before .before .before .before .before .before .pre .0 .clock)
+put-path-requires : tie.Need-put-path-requires
+put-path-requires c κs =
+    let c13 = c .before .before .before .before .before .before .before .before .before .before .before .before .before in
+    (formed _ (c13 .pre .0 .formed) .size, announce-room _ _ _ (c13 .pre .0) _ _ (c13 .pre .2))
 
 same-length : tie.Need-same-length
 same-length c = search needs
@@ -32,7 +40,16 @@ same-length-2 : tie.Need-same-length-2
 same-length-2 c = search needs
 
 returns : tie.Need-returns
-returns c = announce-left _ _ _ _ (c .before .before .before .before .before .before .before .before .before .before .before .before .before .before .before .before .pre .0) _ _ (c .before .before .before .before .before .before .before .before .before .before .before .before .before .before .before .before .pre .2) _ _ (c .before .before .before .before .before .before .announced-path .ensures) (c .before .before .before .before .blob .ensures ∙ ap blobOf (c .before .before .before .before .before .payload .ensures)) (known-bytes (c .before .before .before .before .before .before .before .before .before .before .before .before .before .before .before .before .args .tables .now) (c .before .before .before .before .before .before .before .before .before .before .before .before .before .before .slice-known .given)) _ _ _ _ (c .before .before .before .before .before .before .before .before .before .before .spread .ensures) (c .before .before .keep-path .ensures)
+returns c =
+    let c4 = c .before .before .before .before in
+    let c5 = c4 .before in
+    let c6 = c5 .before in
+    let c10 = c6 .before .before .before .before in
+    let c14 = c10 .before .before .before .before in
+    let c16 = c14 .before .before in
+    announce-left _ _ _ (c16 .pre .0) _ _ (c16 .pre .2) _ _ (c6 .announced-path .ensures)
+    (c4 .blob .ensures ∙ ap blobOf (c5 .payload .ensures)) (known-bytes (c16 .args .tables .now) (c14 .slice-known .given)) _ _ _ _
+    (c10 .spread .ensures) (c .before .before .put-path .ensures)
 
 pub announce-spec : {M : Type 1} → statement M
 announce-spec =
@@ -42,7 +59,7 @@ announce-spec =
     announced-path-requires
     payload-requires
     blob-requires
-    keep-path-requires
+    put-path-requires
     same-length
     same-length-2
     returns)

@@ -7,9 +7,6 @@ use borrow.Author.Needs.{needs}
 use Rattle.act.proofs.links.asked_link.Statement.{statement}
 use Rattle.act.proofs.links.asked_link.Tie as tie
 
-link-id-of-requires : tie.Need-link-id-of-requires
-link-id-of-requires c κs = search needs
-
 path-port-requires : tie.Need-path-port-requires
 path-port-requires c κs = search needs
 
@@ -26,20 +23,24 @@ mul-lifetime : tie.Need-mul-lifetime
 mul-lifetime c = search needs
 
 shared-slice-read-t12 : tie.Need-shared-slice-read-t12
-shared-slice-read-t12 c = omega (arith, long longestPacket (c .before .before .before .before .before .before .before .args .packet .now) (c .before .before .before .before .before .before .before .pre .2))
+shared-slice-read-t12 c =
+    let s = c .before .before .before .before .before .before in
+    omega (arith, long longestPacket (s .args .packet .now) (s .pre .2))
 
 add-t9 : tie.Need-add-t9
 add-t9 c = search needs
 
 returns : tie.Need-returns
 unfolding linkRecord
-returns c = rw (c .before .before .before .before .before .link-id-of .ensures, c .before .before .before .before .path-port .ensures, c .before .before .wide .ensures, c .before .before .before .path-hops .ensures, parts-hops)
+returns c =
+    let c3 = c .before .before .before in
+    let s = c3 .before .before .before .before in
+    rw (s .pre .4, c3 .before .path-port .ensures, c .before .before .wide .ensures, c3 .path-hops .ensures, parts-hops)
 
 pub asked-link-spec : {M : Type 1} → statement M
 asked-link-spec =
     tie.close
     (tie.spec
-    link-id-of-requires
     path-port-requires
     path-hops-requires
     wide-requires

@@ -7,16 +7,22 @@ use Rattle.act.proofs.links.carry.Statement.{statement}
 use Rattle.act.proofs.links.carry.Tie as tie
 
 link-at-requires : tie.Need-link-at-requires
-link-at-requires c κs = (formed _ (c .before .before .before .before .pre .0 .formed) .size, carry-row _ _ _ _ (c .before .before .before .before .pre .0) _ _ (c .before .before .before .before .pre .2) .0)
+link-at-requires c κs =
+    let c4 = c .before .before .before .before in
+    (formed _ (c4 .pre .0 .formed) .size, carry-row _ _ _ (c4 .pre .0) _ _ (c4 .pre .2) .0)
 
 renewed-link-requires : tie.Need-renewed-link-requires
 renewed-link-requires c κs = (c .before .before .before .before .before .pre .0 .readable, c .before .before .before .before .before .pre .0 .clock)
 
 carry-requires : tie.Need-carry-requires
-carry-requires c κs = (onward _ _ _ _ (c .before .before .before .before .before .before .before .pre .0) _ (carry-row _ _ _ _ (c .before .before .before .before .before .before .before .pre .0) _ _ (c .before .before .before .before .before .before .before .pre .2) .1), c .before .before .before .before .before .before .before .pre .1)
+carry-requires c κs =
+    let c7 = c .before .before .before .before .before .before .before in
+    (onward _ _ _ (c7 .pre .0) _ (carry-row _ _ _ (c7 .pre .0) _ _ (c7 .pre .2) .1), c7 .pre .1)
 
-keep-link-requires : tie.Need-keep-link-requires
-keep-link-requires c κs = (c .before .before .before .before .before .before .before .before .before .before .before .pre .0 .formed, carry-row _ _ _ _ (c .before .before .before .before .before .before .before .before .before .before .before .pre .0) _ _ (c .before .before .before .before .before .before .before .before .before .before .before .pre .2) .0, c .before .before .before .before .before .before .before .before .before .before .before .pre .0 .clock)
+put-link-requires : tie.Need-put-link-requires
+put-link-requires c κs =
+    let c11 = c .before .before .before .before .before .before .before .before .before .before .before in
+    (formed _ (c11 .pre .0 .formed) .size, carry-row _ _ _ (c11 .pre .0) _ _ (c11 .pre .2) .0)
 
 same-length : tie.Need-same-length
 same-length c = search needs
@@ -25,7 +31,15 @@ same-length-2 : tie.Need-same-length-2
 same-length-2 c = search needs
 
 returns : tie.Need-returns
-returns c = carry-left _ _ _ _ (c .before .before .before .before .before .before .before .before .before .before .before .before .before .before .pre .0) _ _ (c .before .before .before .before .before .before .before .before .before .before .before .before .before .before .pre .2) (known-bytes (c .before .before .before .before .before .before .before .before .before .before .before .before .before .before .args .tables .now) (c .before .before .before .before .before .before .before .before .before .before .before .before .slice-known .given)) _ _ _ _ _ (c .before .before .before .before .before .before .before .before .renewed-link .ensures ∙ rw (c .before .before .before .before .before .before .before .before .before .link-at .ensures)) (c .before .before .before .before .before .before .carry .ensures .0) (c .before .before .before .before .before .before .carry .ensures .1) (c .before .before .keep-link .ensures)
+returns c =
+    let c6 = c .before .before .before .before .before .before in
+    let c8 = c6 .before .before in
+    let c9 = c8 .before in
+    let c12 = c9 .before .before .before in
+    let c14 = c12 .before .before in
+    carry-left _ _ _ (c14 .pre .0) _ _ (c14 .pre .2) (known-bytes (c14 .args .tables .now) (c12 .slice-known .given)) _ _ _ _ _
+    (c8 .renewed-link .ensures ∙ rw (c9 .link-at .ensures)) (c6 .carry .ensures .0) (c6 .carry .ensures .1)
+    (c .before .before .put-link .ensures)
 
 pub carry-spec : {M : Type 1} → statement M
 carry-spec =
@@ -34,7 +48,7 @@ carry-spec =
     link-at-requires
     renewed-link-requires
     carry-requires
-    keep-link-requires
+    put-link-requires
     same-length
     same-length-2
     returns)

@@ -1,5 +1,4 @@
 use Rattle.rules.specs.Writes.{renewedLink}
-use Rattle.rules.specs.Arrival.{isLinkProof}
 use borrow.Author.Needs.{needs}
 use Rattle.act.proofs.links.renewed_link.Statement.{statement}
 use Rattle.act.proofs.links.renewed_link.Tie as tie
@@ -11,7 +10,7 @@ add-t8 : tie.Need-add-t8
 add-t8 c = search needs
 
 returns : tie.Need-returns
-unfolding renewedLink isLinkProof
+unfolding renewedLink
 returns c = rw (c .before .proved-by .ensures)
 
 pub renewed-link-spec : {M : Type 1} → statement M

@@ -1,5 +1,4 @@
 use mathlib.Core.Path.{_∙_}
-use Rattle.outgoing.proofs.RuleLaws.{path-packet}
 use borrow.Author.Needs.{needs}
 use Rattle.act.proofs.paths.forward.Statement.{statement}
 use Rattle.act.proofs.paths.forward.Tie as tie
@@ -18,8 +17,8 @@ same-length c = search needs
 
 returns : tie.Need-returns
 returns c = (
-  c .before .before .forward-by-path .ensures .0 ∙ rw (c .before .before .before .before .before .path-hops .ensures, c .before .before .before .before .path-next-hop .ensures, path-packet),
-  c .before .before .forward-by-path .ensures .1 ∙ rw (c .before .before .before .before .before .path-hops .ensures, c .before .before .before .before .path-next-hop .ensures, path-packet),
+  c .before .before .forward-by-path .ensures .0 ∙ rw (c .before .before .before .before .before .path-hops .ensures, c .before .before .before .before .path-next-hop .ensures),
+  c .before .before .forward-by-path .ensures .1 ∙ rw (c .before .before .before .before .before .path-hops .ensures, c .before .before .before .before .path-next-hop .ensures),
 )
 
 pub forward-spec : {M : Type 1} → statement M

@@ -1,23 +1,35 @@
+use mathlib.Core.Path.{_∙_}
 use Rattle.octets.proofs.Bytes.{known-bytes}
 use Rattle.tables.proofs.Whole.{formed}
-use Rattle.act.proofs.Forwards.{onward, request-row, request-room, asked-left}
+use Rattle.act.proofs.Forwards.{onward, request-row, request-room, request-id, asked-left}
 use borrow.Author.Needs.{needs}
 use Rattle.act.proofs.paths.request.Statement.{statement}
 use Rattle.act.proofs.paths.request.Tie as tie
 
 path-port-requires : tie.Need-path-port-requires
-path-port-requires c κs = (formed _ (c .before .before .before .before .pre .0 .formed) .size, request-row _ _ _ _ (c .before .before .before .before .pre .0) _ _ (c .before .before .before .before .pre .2) .0)
+path-port-requires c κs =
+    let c4 = c .before .before .before .before in
+    (formed _ (c4 .pre .0 .formed) .size, request-row _ _ _ (c4 .pre .0) _ _ _ _ (c4 .pre .2) .0)
+
+address-of-requires : tie.Need-address-of-requires
+address-of-requires c κs = search needs
 
 asked-link-requires : tie.Need-asked-link-requires
-asked-link-requires c κs = (formed _ (c .before .before .before .before .before .before .pre .0 .formed) .size, request-row _ _ _ _ (c .before .before .before .before .before .before .pre .0) _ _ (c .before .before .before .before .before .before .pre .2) .0, c .before .before .before .before .before .before .pre .0 .readable, c .before .before .before .before .before .before .pre .0 .clock)
+asked-link-requires c κs =
+    let s = c .before .before .before .before .before .before .before in
+    let id = c .address-of .ensures ∙ request-id _ _ _ (s .pre .0) _ _ _ _ (s .pre .2) in
+    (formed _ (s .pre .0 .formed) .size, request-row _ _ _ (s .pre .0) _ _ _ _ (s .pre .2) .0, s .pre .0 .readable, s .pre .0 .clock, id)
 
 forward-requires : tie.Need-forward-requires
 forward-requires c κs =
-    let d = request-row _ _ _ _ (c .before .before .before .before .before .before .before .before .before .pre .0) _ _ (c .before .before .before .before .before .before .before .before .before .pre .2) in
-    (onward _ _ _ _ (c .before .before .before .before .before .before .before .before .before .pre .0) _ (d .1), formed _ (c .before .before .before .before .before .before .before .before .before .pre .0 .formed) .size, d .0, c .before .before .before .before .before .before .before .before .before .pre .1)
+    let c10 = c .before .before .before .before .before .before .before .before .before .before in
+    let d = request-row _ _ _ (c10 .pre .0) _ _ _ _ (c10 .pre .2) in
+    (onward _ _ _ (c10 .pre .0) _ (d .1), formed _ (c10 .pre .0 .formed) .size, d .0, c10 .pre .1)
 
-keep-link-requires : tie.Need-keep-link-requires
-keep-link-requires c κs = (c .before .before .before .before .before .before .before .before .before .before .before .before .before .pre .0 .formed, request-room _ _ _ _ (c .before .before .before .before .before .before .before .before .before .before .before .before .before .pre .0) _ _ (c .before .before .before .before .before .before .before .before .before .before .before .before .before .pre .2), c .before .before .before .before .before .before .before .before .before .before .before .before .before .pre .0 .clock)
+put-link-requires : tie.Need-put-link-requires
+put-link-requires c κs =
+    let c14 = c .before .before .before .before .before .before .before .before .before .before .before .before .before .before in
+    (formed _ (c14 .pre .0 .formed) .size, request-room _ _ _ (c14 .pre .0) _ _ _ _ (c14 .pre .2))
 
 same-length : tie.Need-same-length
 same-length c = search needs
@@ -26,16 +38,25 @@ same-length-2 : tie.Need-same-length-2
 same-length-2 c = search needs
 
 returns : tie.Need-returns
-returns c = asked-left _ _ _ _ (c .before .before .before .before .before .before .before .before .before .before .before .before .before .before .before .before .pre .0) _ _ (c .before .before .before .before .before .before .before .before .before .before .before .before .before .before .before .before .pre .2) (known-bytes (c .before .before .before .before .before .before .before .before .before .before .before .before .before .before .before .before .args .tables .now) (c .before .before .before .before .before .before .before .before .before .before .before .before .before .before .slice-known .given)) _ _ _ _ _ _ (c .before .before .before .before .before .before .before .before .before .before .before .path-port .ensures) (c .before .before .before .before .before .before .before .before .before .asked-link .ensures) (c .before .before .before .before .before .before .forward .ensures .0) (c .before .before .before .before .before .before .forward .ensures .1) (c .before .before .keep-link .ensures)
+returns c =
+    let c6 = c .before .before .before .before .before .before in
+    let c9 = c6 .before .before .before in
+    let c12 = c9 .before .before .before in
+    let c15 = c12 .before .before .before in
+    let c17 = c15 .before .before in
+    asked-left _ _ _ (c17 .pre .0) _ _ _ _ (c17 .pre .2) (known-bytes (c17 .args .tables .now) (c15 .slice-known .given)) _ _ _ _ _ _
+    (c12 .path-port .ensures) (c9 .asked-link .ensures) (c6 .forward .ensures .0) (c6 .forward .ensures .1)
+    (c .before .before .put-link .ensures)
 
 pub request-spec : {M : Type 1} → statement M
 request-spec =
     tie.close
     (tie.spec
     path-port-requires
+    address-of-requires
     asked-link-requires
     forward-requires
-    keep-link-requires
+    put-link-requires
     same-length
     same-length-2
     returns)

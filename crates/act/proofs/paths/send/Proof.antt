@@ -6,15 +6,18 @@ use Rattle.act.proofs.paths.send.Statement.{statement}
 use Rattle.act.proofs.paths.send.Tie as tie
 
 path-port-requires : tie.Need-path-port-requires
-path-port-requires c κs = (formed _ (c .before .before .before .before .pre .0 .formed) .size, data-row _ _ _ _ (c .before .before .before .before .pre .0) _ (c .before .before .before .before .pre .2) .0)
+path-port-requires c κs =
+    let c4 = c .before .before .before .before in
+    (formed _ (c4 .pre .0 .formed) .size, data-row _ _ _ (c4 .pre .0) _ (c4 .pre .2) .0)
 
 forward-requires : tie.Need-forward-requires
 forward-requires c κs =
-    let d = data-row _ _ _ _ (c .before .before .before .before .before .before .before .pre .0) _ (c .before .before .before .before .before .before .before .pre .2) in
-    (onward _ _ _ _ (c .before .before .before .before .before .before .before .pre .0) _ (d .1), formed _ (c .before .before .before .before .before .before .before .pre .0 .formed) .size, d .0, c .before .before .before .before .before .before .before .pre .1)
+    let c7 = c .before .before .before .before .before .before .before in
+    let d = data-row _ _ _ (c7 .pre .0) _ (c7 .pre .2) in
+    (onward _ _ _ (c7 .pre .0) _ (d .1), formed _ (c7 .pre .0 .formed) .size, d .0, c7 .pre .1)
 
-keep-return-requires : tie.Need-keep-return-requires
-keep-return-requires c κs = (c .before .before .before .before .before .before .before .before .before .before .before .pre .0 .formed, c .before .before .before .before .before .before .before .before .before .before .before .pre .0 .clock)
+put-return-requires : tie.Need-put-return-requires
+put-return-requires c κs = search needs
 
 same-length : tie.Need-same-length
 same-length c = search needs
@@ -23,7 +26,13 @@ same-length-2 : tie.Need-same-length-2
 same-length-2 c = search needs
 
 returns : tie.Need-returns
-returns c = data-left _ _ _ _ (c .before .before .before .before .before .before .before .before .before .before .before .before .before .before .pre .0) _ (c .before .before .before .before .before .before .before .before .before .before .before .before .before .before .pre .2) (known-bytes (c .before .before .before .before .before .before .before .before .before .before .before .before .before .before .args .tables .now) (c .before .before .before .before .before .before .before .before .before .before .before .before .slice-known .given)) _ _ _ _ _ (c .before .before .before .before .before .before .before .before .before .path-port .ensures) (c .before .before .before .before .before .before .forward .ensures .0) (c .before .before .before .before .before .before .forward .ensures .1) (c .before .before .keep-return .ensures)
+returns c =
+    let c6 = c .before .before .before .before .before .before in
+    let c9 = c6 .before .before .before in
+    let c12 = c9 .before .before .before in
+    let c14 = c12 .before .before in
+    data-left _ _ _ (c14 .pre .0) _ (c14 .pre .2) (known-bytes (c14 .args .tables .now) (c12 .slice-known .given)) _ _ _ _ _
+    (c9 .path-port .ensures) (c6 .forward .ensures .0) (c6 .forward .ensures .1) _ (c14 .pre .3) (c .before .before .put-return .ensures)
 
 pub send-spec : {M : Type 1} → statement M
 send-spec =
@@ -31,7 +40,7 @@ send-spec =
     (tie.spec
     path-port-requires
     forward-requires
-    keep-return-requires
+    put-return-requires
     same-length
     same-length-2
     returns)

@@ -1,4 +1,5 @@
 use mathlib.Core.Path.{_∙_}
+use Rattle.octets.specs.Choice.{_then_otherwise_}
 use Rattle.act.specs.Kept.{stamped}
 use borrow.Author.Needs.{needs}
 use Rattle.act.proofs.stamps.stamp.Statement.{statement}
@@ -17,9 +18,27 @@ same-length : tie.Need-same-length
 same-length c = search needs
 
 returns : tie.Need-returns
-unfolding stamped
-returns c = c .before .before .remember .ensures ∙ rw (c .before .before .before .before .before .before .set-clock .ensures)
+unfolding stamped _then_otherwise_
+returns c =
+    let c4 = c .before .before .before .before in
+    let c7 = c4 .before .before .before in
+    c .before .before .remember .ensures ∙ rw (c7 .set-clock .ensures, c4 .if1 .taken)
+
+same-length-2 : tie.Need-same-length-2
+same-length-2 c = search needs
+
+returns-2 : tie.Need-returns-2
+unfolding stamped _then_otherwise_
+returns-2 c = c .before .before .before .set-clock .ensures ∙ rw (c .if1 .left)
 
 pub stamp-spec : {M : Type 1} → statement M
 stamp-spec =
-    tie.close (tie.spec set-clock-requires add-remember remember-requires same-length returns)
+    tie.close
+    (tie.spec
+    set-clock-requires
+    add-remember
+    remember-requires
+    same-length
+    returns
+    same-length-2
+    returns-2)

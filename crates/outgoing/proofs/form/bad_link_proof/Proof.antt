@@ -1,5 +1,4 @@
 use mathlib.Core.Path.{sym, ap, _∙_}
-use Rattle.outgoing.specs.Leaving.{alone}
 use Rattle.octets.proofs.Index.{and-yes, and-no}
 use Rattle.octets.proofs.Choice.{or-left, or-else}
 use Prim.Native.Nat.{ℕ}
@@ -22,13 +21,13 @@ payload-requires : tie.Need-payload-requires
 payload-requires c κs = search needs
 
 returns : tie.Need-returns
-returns c = sym (proof-length-clauses (alone (c .before .before .before .before .before .args .packet .now)) ∙ and-yes _ (sym (c .before .before .before .is-link-proof .ensures) ∙ c .before .before .if1 .taken) ∙ ap not (or-left _ (eq-eqb (length (payload (c .before .before .before .before .before .args .packet .now))) 96 (sym (ap length (c .before .payload .ensures)) ∙ c .if2 .taken))))
+returns c = sym (proof-length-clauses (c .before .before .before .before .before .args .packet .now) ∙ and-yes _ (sym (c .before .before .before .is-link-proof .ensures) ∙ c .before .before .if1 .taken) ∙ ap not (or-left _ (eq-eqb (length (payload (c .before .before .before .before .before .args .packet .now))) 96 (sym (ap length (c .before .payload .ensures)) ∙ c .if2 .taken))))
 
 returns-2 : tie.Need-returns-2
-returns-2 c = ap (λ (b : List ℕ). not (eqb (length b) 99)) (c .before .payload .ensures) ∙ sym (proof-length-clauses (alone (c .before .before .before .before .before .args .packet .now)) ∙ and-yes _ (sym (c .before .before .before .is-link-proof .ensures) ∙ c .before .before .if1 .taken) ∙ ap not (or-else _ (ne-eqb (length (payload (c .before .before .before .before .before .args .packet .now))) 96 (λ (q : length (payload (c .before .before .before .before .before .args .packet .now)) ≡ 96). c .if2 .left (ap length (c .before .payload .ensures) ∙ q)))))
+returns-2 c = ap (λ (b : List ℕ). not (eqb (length b) 99)) (c .before .payload .ensures) ∙ sym (proof-length-clauses (c .before .before .before .before .before .args .packet .now) ∙ and-yes _ (sym (c .before .before .before .is-link-proof .ensures) ∙ c .before .before .if1 .taken) ∙ ap not (or-else _ (ne-eqb (length (payload (c .before .before .before .before .before .args .packet .now))) 96 (λ (q : length (payload (c .before .before .before .before .before .args .packet .now)) ≡ 96). c .if2 .left (ap length (c .before .payload .ensures) ∙ q)))))
 
 returns-3 : tie.Need-returns-3
-returns-3 c = sym (proof-length-clauses (alone (c .before .before .before .args .packet .now)) ∙ and-no _ (sym (c .before .is-link-proof .ensures) ∙ c .if1 .left))
+returns-3 c = sym (proof-length-clauses (c .before .before .before .args .packet .now) ∙ and-no _ (sym (c .before .is-link-proof .ensures) ∙ c .if1 .left))
 
 pub bad-link-proof-spec : {M : Type 1} → statement M
 bad-link-proof-spec =

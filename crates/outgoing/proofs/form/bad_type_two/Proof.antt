@@ -1,5 +1,4 @@
 use mathlib.Core.Path.{sym, _∙_}
-use Rattle.outgoing.specs.Leaving.{alone}
 use Rattle.octets.proofs.Index.{and-yes, and-no}
 use Rattle.octets.proofs.Choice.{or-left, or-else}
 use Rattle.outgoing.proofs.LeavingLaws.{long}
@@ -19,16 +18,16 @@ is-proof-requires : tie.Need-is-proof-requires
 is-proof-requires c κs = search needs
 
 returns : tie.Need-returns
-returns c = sym (type-two-clauses (alone (c .before .before .before .before .before .before .args .packet .now)) ∙ and-yes _ (sym (c .before .before .before .type-two .ensures) ∙ c .before .before .if1 .taken) ∙ or-left _ (sym (c .before .is-proof .ensures) ∙ c .if2 .taken))
+returns c = sym (type-two-clauses (c .before .before .before .before .before .before .args .packet .now) ∙ and-yes _ (sym (c .before .before .before .type-two .ensures) ∙ c .before .before .if1 .taken) ∙ or-left _ (sym (c .before .is-proof .ensures) ∙ c .if2 .taken))
 
 of-kind-link-requires : tie.Need-of-kind-link-requires
 of-kind-link-requires c κs = search needs
 
 returns-2 : tie.Need-returns-2
-returns-2 c = c .of-kind-link .ensures ∙ sym (type-two-clauses (alone (c .before .before .before .before .before .before .before .args .packet .now)) ∙ and-yes _ (sym (c .before .before .before .before .type-two .ensures) ∙ c .before .before .before .if1 .taken) ∙ or-else _ (sym (c .before .before .is-proof .ensures) ∙ c .before .if2 .left))
+returns-2 c = c .of-kind-link .ensures ∙ sym (type-two-clauses (c .before .before .before .before .before .before .before .args .packet .now) ∙ and-yes _ (sym (c .before .before .before .before .type-two .ensures) ∙ c .before .before .before .if1 .taken) ∙ or-else _ (sym (c .before .before .is-proof .ensures) ∙ c .before .if2 .left))
 
 returns-3 : tie.Need-returns-3
-returns-3 c = sym (type-two-clauses (alone (c .before .before .before .before .args .packet .now)) ∙ and-no _ (sym (c .before .type-two .ensures) ∙ c .if1 .left))
+returns-3 c = sym (type-two-clauses (c .before .before .before .before .args .packet .now) ∙ and-no _ (sym (c .before .type-two .ensures) ∙ c .if1 .left))
 
 pub bad-type-two-spec : {M : Type 1} → statement M
 bad-type-two-spec =

@@ -1,5 +1,4 @@
 use mathlib.Core.Path.{sym, ap, _∙_}
-use Rattle.outgoing.specs.Leaving.{alone}
 use Rattle.octets.proofs.Index.{and-yes, and-no}
 use Rattle.outgoing.proofs.LeavingLaws.{long, whole}
 use lib.Dec.{eqb}
@@ -23,13 +22,13 @@ parts-of-requires : tie.Need-parts-of-requires
 parts-of-requires c κs = whole 500 (c .before .before .before .before .before .before .args .packet .now) (c .before .before .before .before .before .before .pre)
 
 returns : tie.Need-returns
-returns c = ap (λ (q : Parts). eqb (q .context) 255) (c .before .parts-of .ensures) ∙ sym (link-proof-clauses (alone (c .before .before .before .before .before .before .before .before .args .packet .now)) ∙ and-yes _ (sym (c .before .before .before .before .before .is-proof .ensures) ∙ c .before .before .before .before .if1 .taken) ∙ and-yes _ (sym (c .before .before .before .of-kind-link .ensures) ∙ c .before .before .if2 .taken))
+returns c = ap (λ (q : Parts). eqb (q .context) 255) (c .before .parts-of .ensures) ∙ sym (link-proof-clauses (c .before .before .before .before .before .before .before .before .args .packet .now) ∙ and-yes _ (sym (c .before .before .before .before .before .is-proof .ensures) ∙ c .before .before .before .before .if1 .taken) ∙ and-yes _ (sym (c .before .before .before .of-kind-link .ensures) ∙ c .before .before .if2 .taken))
 
 returns-2 : tie.Need-returns-2
-returns-2 c = sym (link-proof-clauses (alone (c .before .before .before .before .before .before .args .packet .now)) ∙ and-yes _ (sym (c .before .before .before .is-proof .ensures) ∙ c .before .before .if1 .taken) ∙ and-no _ (sym (c .before .of-kind-link .ensures) ∙ c .if2 .left))
+returns-2 c = sym (link-proof-clauses (c .before .before .before .before .before .before .args .packet .now) ∙ and-yes _ (sym (c .before .before .before .is-proof .ensures) ∙ c .before .before .if1 .taken) ∙ and-no _ (sym (c .before .of-kind-link .ensures) ∙ c .if2 .left))
 
 returns-3 : tie.Need-returns-3
-returns-3 c = sym (link-proof-clauses (alone (c .before .before .before .before .args .packet .now)) ∙ and-no _ (sym (c .before .is-proof .ensures) ∙ c .if1 .left))
+returns-3 c = sym (link-proof-clauses (c .before .before .before .before .args .packet .now) ∙ and-no _ (sym (c .before .is-proof .ensures) ∙ c .if1 .left))
 
 pub is-link-proof-spec : {M : Type 1} → statement M
 is-link-proof-spec =

@@ -5,7 +5,6 @@ use borrow.Author.Needs.{needs}
 use Rattle.rules.specs.View.{hashPlace, viewAt}
 use Rattle.tables.specs.Layout.{relayOf}
 use Rattle.outgoing.proofs.LeavingLaws.{long}
-use Rattle.outgoing.proofs.RuleLaws.{bad-form-alone}
 use Rattle.plan.specs.Decided.{arrivalOf}
 use Rattle.plan.proofs.FirstLaws.{first-1, first-2, first-3, first-4, first-delivered, first-5, first-onward, duplicate-place, hops-many, hops-few}
 use Rattle.plan.proofs.first.first_tests.Statement.{statement}
@@ -39,7 +38,7 @@ returns-3 c =
     first-3 (viewAt (s .args .arrived .clock) (relayOf (s .args .tables .now))) (arrivalOf (s .args .packet .now) (s .args .arrived))
     (sym (c .before .before .before .before .before .not-ours .ensures) ∙ c .before .before .before .before .if1 .left)
     (duplicate-place (relayOf (s .args .tables .now)) (arrivalOf (s .args .packet .now) (s .args .arrived)) (c .before .before .before .hash-place .ensures ∙ ap (hashPlace (s .args .arrived .clock) (relayOf (s .args .tables .now))) (s .pre .2)) ∙ le-ltb _ _ (c .before .before .if2 .left))
-    (bad-form-alone (arrivalOf (s .args .packet .now) (s .args .arrived)) ∙ sym (c .before .bad-form .ensures) ∙ c .if3 .taken)
+    (sym (c .before .bad-form .ensures) ∙ c .if3 .taken)
 
 own-announce-requires : tie.Need-own-announce-requires
 own-announce-requires c κs = search needs
@@ -50,7 +49,7 @@ returns-4 c =
     first-4 (viewAt (s .args .arrived .clock) (relayOf (s .args .tables .now))) (arrivalOf (s .args .packet .now) (s .args .arrived))
     (sym (c .before .before .before .before .before .before .before .not-ours .ensures) ∙ c .before .before .before .before .before .before .if1 .left)
     (duplicate-place (relayOf (s .args .tables .now)) (arrivalOf (s .args .packet .now) (s .args .arrived)) (c .before .before .before .before .before .hash-place .ensures ∙ ap (hashPlace (s .args .arrived .clock) (relayOf (s .args .tables .now))) (s .pre .2)) ∙ le-ltb _ _ (c .before .before .before .before .if2 .left))
-    (bad-form-alone (arrivalOf (s .args .packet .now) (s .args .arrived)) ∙ sym (c .before .before .before .bad-form .ensures) ∙ c .before .before .if3 .left)
+    (sym (c .before .before .before .bad-form .ensures) ∙ c .before .before .if3 .left)
     (sym (c .before .own-announce .ensures) ∙ c .if4 .taken)
 
 delivered-here-requires : tie.Need-delivered-here-requires
@@ -62,7 +61,7 @@ returns-5 c =
     first-delivered (viewAt (s .args .arrived .clock) (relayOf (s .args .tables .now))) (arrivalOf (s .args .packet .now) (s .args .arrived))
     (sym (c .before .before .before .before .before .before .before .before .before .not-ours .ensures) ∙ c .before .before .before .before .before .before .before .before .if1 .left)
     (duplicate-place (relayOf (s .args .tables .now)) (arrivalOf (s .args .packet .now) (s .args .arrived)) (c .before .before .before .before .before .before .before .hash-place .ensures ∙ ap (hashPlace (s .args .arrived .clock) (relayOf (s .args .tables .now))) (s .pre .2)) ∙ le-ltb _ _ (c .before .before .before .before .before .before .if2 .left))
-    (bad-form-alone (arrivalOf (s .args .packet .now) (s .args .arrived)) ∙ sym (c .before .before .before .before .before .bad-form .ensures) ∙ c .before .before .before .before .if3 .left)
+    (sym (c .before .before .before .before .before .bad-form .ensures) ∙ c .before .before .before .before .if3 .left)
     (sym (c .before .before .before .own-announce .ensures) ∙ c .before .before .if4 .left)
     (sym (c .before .delivered-here .ensures) ∙ c .if5 .taken)
 
@@ -77,7 +76,7 @@ returns-6 c =
     first-5 (viewAt (s .args .arrived .clock) (relayOf (s .args .tables .now))) (arrivalOf (s .args .packet .now) (s .args .arrived))
     (sym (c .before .before .before .before .before .before .before .before .before .before .before .not-ours .ensures) ∙ c .before .before .before .before .before .before .before .before .before .before .if1 .left)
     (duplicate-place (relayOf (s .args .tables .now)) (arrivalOf (s .args .packet .now) (s .args .arrived)) (c .before .before .before .before .before .before .before .before .before .hash-place .ensures ∙ ap (hashPlace (s .args .arrived .clock) (relayOf (s .args .tables .now))) (s .pre .2)) ∙ le-ltb _ _ (c .before .before .before .before .before .before .before .before .if2 .left))
-    (bad-form-alone (arrivalOf (s .args .packet .now) (s .args .arrived)) ∙ sym (c .before .before .before .before .before .before .before .bad-form .ensures) ∙ c .before .before .before .before .before .before .if3 .left)
+    (sym (c .before .before .before .before .before .before .before .bad-form .ensures) ∙ c .before .before .before .before .before .before .if3 .left)
     (sym (c .before .before .before .before .before .own-announce .ensures) ∙ c .before .before .before .before .if4 .left)
     (sym (c .before .before .before .delivered-here .ensures) ∙ c .before .before .if5 .left)
     (hops-many (arrivalOf (s .args .packet .now) (s .args .arrived)) (c .if6 .taken))
@@ -88,7 +87,7 @@ returns-7 c =
     first-onward (viewAt (s .args .arrived .clock) (relayOf (s .args .tables .now))) (arrivalOf (s .args .packet .now) (s .args .arrived))
     (sym (c .before .before .before .before .before .before .before .before .before .before .before .not-ours .ensures) ∙ c .before .before .before .before .before .before .before .before .before .before .if1 .left)
     (duplicate-place (relayOf (s .args .tables .now)) (arrivalOf (s .args .packet .now) (s .args .arrived)) (c .before .before .before .before .before .before .before .before .before .hash-place .ensures ∙ ap (hashPlace (s .args .arrived .clock) (relayOf (s .args .tables .now))) (s .pre .2)) ∙ le-ltb _ _ (c .before .before .before .before .before .before .before .before .if2 .left))
-    (bad-form-alone (arrivalOf (s .args .packet .now) (s .args .arrived)) ∙ sym (c .before .before .before .before .before .before .before .bad-form .ensures) ∙ c .before .before .before .before .before .before .if3 .left)
+    (sym (c .before .before .before .before .before .before .before .bad-form .ensures) ∙ c .before .before .before .before .before .before .if3 .left)
     (sym (c .before .before .before .before .before .own-announce .ensures) ∙ c .before .before .before .before .if4 .left)
     (sym (c .before .before .before .delivered-here .ensures) ∙ c .before .before .if5 .left)
     (hops-few (arrivalOf (s .args .packet .now) (s .args .arrived)) (c .if6 .left))

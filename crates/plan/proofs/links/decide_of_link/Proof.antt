@@ -5,7 +5,6 @@ use Rattle.rules.specs.View.{linkPlace}
 use Rattle.tables.proofs.Whole.{formed}
 use Rattle.tables.specs.Layout.{relayOf}
 use Rattle.outgoing.proofs.LeavingLaws.{whole}
-use Rattle.outgoing.proofs.RuleLaws.{link-proof-alone}
 use Rattle.plan.specs.Decided.{arrivalOf}
 use Rattle.plan.proofs.LinkLaws.{link-nowhere, proof-at, other-at}
 use Rattle.plan.proofs.links.decide_of_link.Statement.{statement}
@@ -44,7 +43,7 @@ returns-2 c =
     ∙ proof-at (s .args .tables .now) (arrivalOf (s .args .packet .now) (s .args .arrived)) (s .pre .1) (s .pre .2) (s .pre .3) (s .pre .4)
     (c .before .before .before .before .before .link-place .ensures ∙ ap (λ (q : Parts). linkPlace (s .args .arrived .clock) (relayOf (s .args .tables .now)) (q .destination)) (c .before .before .before .before .before .before .before .parts-of .ensures))
     (c .before .before .before .before .if1 .left) (c .before .before .before .link-at .ensures)
-    (link-proof-alone (arrivalOf (s .args .packet .now) (s .args .arrived)) ∙ sym (c .before .before .is-link-proof .ensures) ∙ c .before .if2 .taken)
+    (sym (c .before .before .is-link-proof .ensures) ∙ c .before .if2 .taken)
 
 pass-requires : tie.Need-pass-requires
 pass-requires c κs =
@@ -58,7 +57,7 @@ returns-3 c =
     ∙ other-at (s .args .tables .now) (arrivalOf (s .args .packet .now) (s .args .arrived)) (s .pre .1) (s .pre .2) (s .pre .3) (s .pre .4)
     (c .before .before .before .before .before .link-place .ensures ∙ ap (λ (q : Parts). linkPlace (s .args .arrived .clock) (relayOf (s .args .tables .now)) (q .destination)) (c .before .before .before .before .before .before .before .parts-of .ensures))
     (c .before .before .before .before .if1 .left) (c .before .before .before .link-at .ensures)
-    (link-proof-alone (arrivalOf (s .args .packet .now) (s .args .arrived)) ∙ sym (c .before .before .is-link-proof .ensures) ∙ c .before .if2 .left)
+    (sym (c .before .before .is-link-proof .ensures) ∙ c .before .if2 .left)
 
 pub decide-of-link-spec : {M : Type 1} → statement M
 decide-of-link-spec =
