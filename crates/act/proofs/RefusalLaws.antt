@@ -9,7 +9,7 @@ use Rattle.packet.specs.Read.{longestPacket, readingRefusal}
 use Rattle.packet.specs.Write.{leastOutput}
 use Rattle.rules.specs.Numbers.{clockLimit}
 use Rattle.rules.specs.View.{portOn}
-use Rattle.rules.specs.Listed.{firstOf}
+use Rattle.octets.specs.Listed.{firstOf}
 use Rattle.rules.specs.Refusals.{packetRows, refusalBy}
 use Rattle.tables.specs.Layout.{relayOf, wellFormed}
 use Rattle.tables.proofs.Whole.{ok-relay}

@@ -26,7 +26,7 @@ use Rattle.rules.specs.View.{portOn, isLocal}
 use Rattle.rules.specs.Renumbering.{oneToOne}
 use Rattle.rules.specs.Arrival.{Arrival}
 use Rattle.rules.specs.Refusals.{tablesOk, emptyLocal, packetRows, refusalBy}
-use Rattle.rules.specs.Listed.{firstOf}
+use Rattle.octets.specs.Listed.{firstOf}
 use Rattle.rules.specs.Calls.{Setting, packetCall, judge, judged, settled, ruleOf, tableRefusal, settle}
 use Rattle.rules.specs.Run.{Call, packet, on-tables, port-setting, adding, removing, renumbering}
 use Rattle.rules.specs.declared.Tally.{Tally}

@@ -11,7 +11,7 @@ use Rattle.octets.specs.Choice.{_then_otherwise_}
 use Rattle.rules.specs.Relay.{Relay, fresh}
 use Rattle.rules.specs.Renumbering.{oneToOne, renumbered, composed}
 use Rattle.rules.specs.Refusals.{all, tablesOk}
-use Rattle.rules.specs.Listed.{firstOf}
+use Rattle.octets.specs.Listed.{firstOf}
 use Rattle.rules.specs.Calls.{newTally, settled, ruleOf, tableRefusal, settle}
 use Rattle.rules.specs.Run.{Call, packet, on-tables, renumbering, Reply, numbered, replies, relayAfter, tallyAfter, renameArrival, renameCall, renameReply, noneRenumbers}
 use Rattle.rules.specs.declared.Tally.{Tally}

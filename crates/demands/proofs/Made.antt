@@ -26,7 +26,7 @@ use Rattle.rules.specs.Relay.{Slot, empty, used, Blobs, Path, Return, Remembere
 use Rattle.rules.specs.View.{View}
 use Rattle.rules.specs.Renumbering.{renamePath, renameLink, renameReturn}
 use Rattle.rules.specs.Refusals.{pathOk, slotOk, all, tableOk, packetRows, packetRefusal, refusalBy}
-use Rattle.rules.specs.Listed.{firstOf}
+use Rattle.octets.specs.Listed.{firstOf}
 use Rattle.rules.specs.Arrival.{Arrival, header, hops, relayAddress, destination, body, hash, blob}
 use Rattle.rules.specs.Blobs.{noBlob, oneBlob, addBlob}
 use Rattle.rules.specs.Writes.{announcedBlobs, announcedPath, returnKey, returnRecord, linkRecord, renewedLink}

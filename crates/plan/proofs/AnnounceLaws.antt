@@ -14,7 +14,7 @@ use Rattle.octets.proofs.Index.{and-no, and-yes}
 use Rattle.packet.specs.Header.{packetKind, isAnnounce, isLinkRequest}
 use Rattle.packet.specs.Announce.{emissionOf}
 use Rattle.packet.proofs.ReadLaws.{parts-hops}
-use Rattle.rules.specs.Listed.{firstOf}
+use Rattle.octets.specs.Listed.{firstOf}
 use Rattle.rules.specs.Relay.{Slot, empty, used, Path, Relay}
 use Rattle.rules.specs.View.{View, pathPlace, freePath, viewAt}
 use Rattle.rules.specs.Arrival.{Arrival, header, hops, destination, blob, isLinkProof}

@@ -17,7 +17,8 @@ use Rattle.packet.specs.Hash.{packetHash}
 use Rattle.packet.specs.Read.{longestPacket, reads}
 use Rattle.packet.proofs.Widths.{parts-wide}
 use Rattle.packet.proofs.ReadLaws.{parts-hops}
-use Rattle.rules.specs.Listed.{Test, firstOf, valued, allGive}
+use Rattle.octets.specs.Listed.{Test, firstOf, valued}
+use Rattle.octets.proofs.Listed.{allGive}
 use Rattle.rules.specs.Numbers.{hashCount}
 use Rattle.rules.specs.Relay.{Relay}
 use Rattle.rules.specs.View.{View, hashPlace, isLocal, viewAt}
@@ -30,7 +31,7 @@ use Rattle.rules.specs.declared.Reason.the-variants.{NotOurs, Duplicate, BadFor
 use Rattle.tables.specs.Places.{addressWidth, ownAt, tableSize}
 use Rattle.tables.specs.Layout.{relayOf}
 use Rattle.outgoing.proofs.LeavingLaws.{whole}
-use Rattle.rules.proofs.ListedLaws.{NoneHolds}
+use Rattle.octets.proofs.Listed.{NoneHolds}
 use Rattle.rules.proofs.Passed.{stops}
 use Rattle.plan.specs.First.{early, firstTests}
 use Rattle.plan.specs.Decided.{decided, decision, onward}

@@ -14,7 +14,7 @@ use Rattle.octets.proofs.Index.{and-no, and-yes}
 use Rattle.packet.specs.Header.{ofKindLink, isAnnounce}
 use Rattle.packet.specs.Read.{longestPacket, reads}
 use Rattle.packet.proofs.ReadLaws.{parts-hops}
-use Rattle.rules.specs.Listed.{firstOf}
+use Rattle.octets.specs.Listed.{firstOf}
 use Rattle.rules.specs.Relay.{empty, used, Relay}
 use Rattle.rules.specs.View.{View, linkPlace, viewAt}
 use Rattle.rules.specs.Arrival.{Arrival, header, destination, isLinkProof}

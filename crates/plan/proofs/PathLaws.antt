@@ -14,7 +14,7 @@ use Rattle.packet.specs.Header.{packetKind, typeTwo, ofKindLink, isData, isAnno
 use Rattle.packet.specs.Read.{longestPacket, reads}
 use Rattle.packet.specs.Hash.{linkId}
 use Rattle.rules.specs.Numbers.{linkCount, pathCount}
-use Rattle.rules.specs.Listed.{firstOf}
+use Rattle.octets.specs.Listed.{firstOf}
 use Rattle.rules.specs.Relay.{empty, used, Path, Relay}
 use Rattle.rules.specs.View.{View, pathPlace, linkPlace, freeLink, viewAt, portOn}
 use Rattle.rules.specs.Arrival.{Arrival, header, destination, isLinkProof}

@@ -1,6 +1,6 @@
 -- Document 01's tests 1 to 5, as the code decides them before it looks for a way on.
 -- For the contracts of helpers: not part of what a reader must believe.
-use Rattle.rules.specs.Listed.{firstOf, valued}
+use Rattle.octets.specs.Listed.{firstOf, valued}
 use Rattle.rules.specs.View.{View}
 use Rattle.rules.specs.Arrival.{Arrival}
 use Rattle.rules.specs.Judging.{Plan, dropped, delivered, follows, earlyTests}

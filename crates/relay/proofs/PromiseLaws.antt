@@ -23,7 +23,7 @@ use Rattle.rules.specs.View.{viewAt}
 use Rattle.rules.specs.Tests.{notOurs}
 use Rattle.rules.specs.Answers.{reasonNumber}
 use Rattle.rules.specs.Judging.{plan, earlyTests}
-use Rattle.rules.specs.Listed.{firstOf}
+use Rattle.octets.specs.Listed.{firstOf}
 use Rattle.rules.proofs.Choices.{row-passed, rows-below}
 use Rattle.rules.proofs.Accepted.{accepted-packet}
 use Rattle.tables.specs.Layout.{relayOf, wellFormed}

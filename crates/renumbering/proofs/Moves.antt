@@ -33,7 +33,7 @@ use Rattle.tables.proofs.Lent.{Lent, port-lent, path-lent, link-lent, return-le
 use Rattle.tables.proofs.Whole.{again, ok-relay, relay-good}
 use Rattle.tables.proofs.Patches.{ports-in, links-in, returns-in, patch-ports, patch-paths, patch-links, patch-returns}
 use Rattle.tables.proofs.Seen.{ports-length}
-use Rattle.rules.specs.Listed.{firstOf}
+use Rattle.octets.specs.Listed.{firstOf}
 use Rattle.rules.specs.Calls.{renumbers, ruleOf, tableRefusal, settle}
 use Rattle.settings.specs.Calls.{refused, renumberOn}
 use Rattle.settings.proofs.Zeros.{port-each, same-zeros, all-zeros, ports-zeros}

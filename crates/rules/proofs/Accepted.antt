@@ -7,13 +7,13 @@ use borrow.Author.Tests.{ltb-true, ltb-false, leb-false, not-false}
 use Rattle.octets.proofs.Index.{and-left}
 use Rattle.octets.proofs.Choice.{or-no-left, or-no-right}
 use Rattle.octets.specs.Index.{_and_}
-use Rattle.rules.specs.Listed.{allGive}
+use Rattle.octets.proofs.Listed.{allGive}
 use Rattle.rules.specs.Numbers.{portCount, clockLimit}
 use Rattle.rules.specs.Relay.{Relay}
 use Rattle.rules.specs.View.{portOn}
 use Rattle.rules.specs.Refusals.{packetRows, packetRefusal, refusalBy}
 use Rattle.rules.specs.Arrival.{Arrival}
-use Rattle.rules.proofs.ListedLaws.{refuses, rows-passed}
+use Rattle.octets.proofs.Listed.{refuses, rows-passed}
 
 pub record Accepted (r : Relay) (a : Arrival) : Type 0 where
   pub port : a .port < portCount

@@ -9,7 +9,7 @@ use borrow.Author.Tests.{eqb-true, not-false}
 use Rattle.octets.specs.Choice.{_then_otherwise_}
 use Rattle.octets.proofs.Choice.{then-ap}
 use Rattle.octets.proofs.Index.{and-left, and-right}
-use Rattle.rules.specs.Listed.{firstOf}
+use Rattle.octets.specs.Listed.{firstOf}
 use Rattle.rules.specs.Relay.{Port, Relay, withPorts, withLocals}
 use Rattle.rules.specs.View.{View, viewAt, isLocal, localPlace}
 use Rattle.rules.specs.Renumbering.{image, oneToOne, renumbered}
@@ -23,7 +23,7 @@ use Rattle.rules.specs.declared.Verdict.{Verdict}
 use Rattle.rules.specs.declared.Verdict.the-variants.{Drop, Deliver, Forward, Spread, Kept}
 use Rattle.rules.specs.declared.Answer.the-variants.{Refused, Judged}
 use Rattle.rules.specs.declared.Tally.{Tally}
-use Rattle.rules.proofs.ListedLaws.{NoneHolds}
+use Rattle.octets.proofs.Listed.{NoneHolds}
 use Rattle.rules.proofs.Rows.{table-passed}
 use Rattle.rules.proofs.Images.{image-leb}
 use Rattle.rules.proofs.MovedPorts.{moved-set}

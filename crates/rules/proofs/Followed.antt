@@ -3,7 +3,7 @@ use mathlib.Core.Bool.{true, false, false≢true}
 use mathlib.Core.Path.{_≡_, refl, subst}
 use Rattle.octets.specs.Choice.{_or_}
 use Rattle.packet.specs.Header.{isAnnounce, isProof}
-use Rattle.rules.specs.Listed.{firstOf}
+use Rattle.octets.specs.Listed.{firstOf}
 use Rattle.rules.specs.Relay.{Slot, empty, used, Path, Return}
 use Rattle.rules.specs.View.{View}
 use Rattle.rules.specs.Arrival.{Arrival, hops, header, destination, isLinkProof}

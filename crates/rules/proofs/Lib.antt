@@ -1,7 +1,6 @@
 -- What holds of document 01's rules. First what closed calls give: the edges, and that the rules are not empty.
 pub mod Unfolding
 pub mod Choices
-pub mod ListedLaws
 pub mod Rows
 pub mod Passed
 pub mod Shortcut

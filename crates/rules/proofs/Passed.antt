@@ -4,7 +4,7 @@ use mathlib.Core.Bool.{Bool, true, false}
 use mathlib.Core.Path.{_≡_, refl, sym, ap, subst, _∙_}
 use lib.Dec.{eqb}
 use Rattle.octets.specs.Index.{_and_}
-use Rattle.rules.specs.Listed.{allGive}
+use Rattle.octets.proofs.Listed.{allGive}
 use Rattle.rules.specs.View.{View}
 use Rattle.rules.specs.Arrival.{Arrival, hops}
 use Rattle.rules.specs.Ways.{Way, wayOn}
@@ -12,7 +12,7 @@ use Rattle.rules.specs.Tests.{notOurs, duplicate, badForm, ownAnnounce, 
 use Rattle.rules.specs.Outgoing.{grownTooLong}
 use Rattle.rules.specs.Answers.{reasonNumber}
 use Rattle.rules.specs.Judging.{Plan, dropped, delivered, follows, earlyTests, onwardTests, onwardPlan, plan}
-use Rattle.rules.proofs.ListedLaws.{NoneHolds, none-first, none-holds}
+use Rattle.octets.proofs.Listed.{NoneHolds, none-first, none-holds}
 
 -- the plan of the test with this number
 unfoldable pub ofTest : ℕ → Plan → Bool

@@ -10,7 +10,7 @@ use Rattle.octets.specs.Choice.{_then_otherwise_}
 use Rattle.octets.specs.Part.{patch}
 use Rattle.octets.proofs.Index.{and-no}
 use Rattle.octets.proofs.Choice.{then-ap}
-use Rattle.rules.specs.Listed.{valued}
+use Rattle.octets.specs.Listed.{valued}
 use Rattle.rules.specs.View.{View}
 use Rattle.rules.specs.Renumbering.{image, oneToOne, preimage}
 use Rattle.rules.specs.Arrival.{Arrival}
@@ -21,7 +21,7 @@ use Rattle.rules.specs.Judging.{Plan, dropped, delivered, follows, early
 use Rattle.rules.specs.Run.{renameArrival}
 use Rattle.rules.specs.declared.Verdict.{Verdict}
 use Rattle.rules.specs.declared.Verdict.the-variants.{Drop, Deliver, Forward, Spread, Kept}
-use Rattle.rules.proofs.ListedLaws.{first-ap}
+use Rattle.octets.proofs.Listed.{first-ap}
 use Rattle.rules.proofs.Images.{image-port, image-eqb, preimage-holds, source, source-port}
 use Rattle.rules.proofs.PortSets.{image-set, image-set-empty}
 use Rattle.rules.proofs.ViewRenamed.{renameView}

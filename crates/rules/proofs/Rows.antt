@@ -3,10 +3,10 @@ use mathlib.Core.Bool.{true}
 use mathlib.Core.Path.{_≡_, refl}
 use lib.Dec.{eqb}
 use Rattle.octets.specs.Index.{_and_}
-use Rattle.rules.specs.Listed.{allGive}
+use Rattle.octets.proofs.Listed.{allGive}
 use Rattle.rules.specs.Relay.{Relay}
 use Rattle.rules.specs.Calls.{TableCall, sets-port, adds, removes, renumbers, ruleOf, tableRefusal}
-use Rattle.rules.proofs.ListedLaws.{NoneHolds, refuses, rows-passed}
+use Rattle.octets.proofs.Listed.{NoneHolds, refuses, rows-passed}
 
 -- no row's number is 0
 rows-refuse : (c : TableCall) (r : Relay) → allGive refuses (ruleOf c .rows r) ≡ true

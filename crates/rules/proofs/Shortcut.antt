@@ -11,7 +11,8 @@ use lib.ListN.{length, getD}
 use borrow.Author.Tests.{lt-ltb, le-ltb}
 use Rattle.octets.specs.Index.{_and_, first}
 use Rattle.octets.specs.Choice.{_then_otherwise_, _or_, same}
-use Rattle.rules.specs.Listed.{firstOf, told}
+use Rattle.octets.specs.Listed.{firstOf}
+use Rattle.octets.proofs.Listed.{told}
 use Rattle.rules.specs.Numbers.{hashCount, live}
 use Rattle.rules.specs.Relay.{Slot, empty, used, Relay, holds, lowest}
 use Rattle.rules.specs.View.{View, viewAt, isLiveHash, hashPlace}

@@ -10,7 +10,8 @@ use borrow.Author.Tests.{le-ltb}
 use Rattle.octets.specs.Index.{_and_}
 use Rattle.octets.specs.Choice.{_then_otherwise_, _or_}
 use Rattle.packet.specs.Header.{isAnnounce}
-use Rattle.rules.specs.Listed.{firstOf, told, allGive}
+use Rattle.octets.specs.Listed.{firstOf}
+use Rattle.octets.proofs.Listed.{told, allGive}
 use Rattle.rules.specs.Relay.{Relay, empty, used}
 use Rattle.rules.specs.View.{View, viewAt}
 use Rattle.rules.specs.Refusals.{packetRows, packetRefusal, refusalBy}
@@ -27,7 +28,7 @@ use Rattle.rules.specs.declared.Verdict.the-variants.{Drop, Deliver, For
 use Rattle.rules.specs.declared.Answer.the-variants.{Refused, Judged}
 use Rattle.rules.specs.declared.Tally.{Tally}
 use Rattle.rules.proofs.Unfolding.{rules}
-use Rattle.rules.proofs.ListedLaws.{lateFrom, rest-alike, told-alike}
+use Rattle.octets.proofs.Listed.{lateFrom, rest-alike, told-alike}
 use Rattle.rules.proofs.Passed.{ofTest}
 
 -- the packet with the host's word on its signature

@@ -20,7 +20,7 @@ use Rattle.rules.specs.Calls.{Judgement, judged, judge, packetCall, sett
 use Rattle.rules.specs.Run.{Call, packet, on-tables, ofJudgement, ofSetting, perform, relayAfter}
 use Rattle.rules.specs.declared.Tally.{Tally}
 use Rattle.rules.proofs.Choices.{either}
-use Rattle.rules.proofs.ListedLaws.{NoneHolds}
+use Rattle.octets.proofs.Listed.{NoneHolds}
 use Rattle.rules.proofs.Rows.{table-passed}
 use Rattle.rules.proofs.Slots.{every-fresh, single-fresh, none-passes, not-found}
 use Rattle.rules.proofs.Followed.{planned, remembered-new}

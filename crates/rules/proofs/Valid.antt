@@ -25,7 +25,7 @@ use Rattle.rules.specs.Run.{Call, packet, on-tables, ofJudgement, ofSett
 use Rattle.rules.specs.declared.Link.{Link}
 use Rattle.rules.specs.declared.Tally.{Tally}
 use Rattle.rules.proofs.Choices.{either}
-use Rattle.rules.proofs.ListedLaws.{NoneHolds}
+use Rattle.octets.proofs.Listed.{NoneHolds}
 use Rattle.rules.proofs.Rows.{table-passed}
 use Rattle.rules.proofs.Tables.{table-listOf, table-replicate, table-set, table-map, table-getD}
 use Rattle.rules.proofs.Followed.{Found, Planned, planned}

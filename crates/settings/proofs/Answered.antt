@@ -15,7 +15,7 @@ use Rattle.octets.proofs.Part.{patch-join}
 use Rattle.rules.specs.Numbers.{portCount, localCount, modeCount}
 use Rattle.rules.specs.Relay.{empty, used, Relay, withPorts, withLocals}
 use Rattle.rules.specs.View.{localPlace, isLocal}
-use Rattle.rules.specs.Listed.{firstOf}
+use Rattle.octets.specs.Listed.{firstOf}
 use Rattle.rules.specs.Refusals.{emptyLocal}
 use Rattle.rules.specs.Calls.{Setting, settled, sets-port, adds, removes, ruleOf, tableRefusal, settle}
 use Rattle.tables.specs.Places.{portWidth, localWidth, portsAt, localsAt, tableSize, addressWidth}

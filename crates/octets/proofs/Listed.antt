@@ -4,11 +4,21 @@ use mathlib.Core.List.{List, [], _∷_}
 use mathlib.Core.Path.{_≡_, refl, sym, ap, _∙_}
 use Prim.Native.Nat.{ℕ}
 use lib.Dec.{eqb}
 use Rattle.octets.specs.Index.{_and_}
 use Rattle.octets.specs.Choice.{_then_otherwise_}
 use Rattle.octets.proofs.Index.{and-left, and-right, and-both}
 use Rattle.octets.proofs.Choice.{then-ap}
-use Rattle.rules.specs.Listed.{Test, _gives_otherwise_, firstOf, valued, told, allGive}
+use Rattle.octets.specs.Listed.{Test, _gives_otherwise_, firstOf, valued}
+
+-- the list with what the tests for a value say given
+unfoldable pub told : {A : Type 0} → (A → Bool) → Bool → List (Test A) → List (Test A)
+told p b [] = []
+told p b (t ∷ ts) = (p (t .value) then b otherwise t .holds) gives t .value otherwise told p b ts
+
+-- every value of the list passes
+unfoldable pub allGive : {A : Type 0} → (A → Bool) → List (Test A) → Bool
+allGive p [] = true
+allGive p (t ∷ ts) = p (t .value) and allGive p ts
 
 -- ---- one step
 module _ {A : Type 0} (test : Bool) (x : A) (ts : List (Test A)) (rest : A) where
