@@ -19,7 +19,7 @@ use Rattle.packet.specs.Header.{isData, isLinkRequest}
 use Rattle.packet.specs.Read.{partsOf, payload}
 use Rattle.packet.specs.Hash.{hashedPart, packetHash, linkId}
 use Rattle.packet.proofs.Widths.{link-id-length}
-use Rattle.rules.specs.Numbers.{pathCount, linkCount, returnCount}
+use Rattle.numbers.specs.Numbers.{pathCount, linkCount, returnCount}
 use Rattle.rules.specs.Relay.{Path, Return, Relay}
 use Rattle.rules.specs.View.{View, viewAt, freeLink, linkPlace}
 use Rattle.rules.specs.Arrival.{Arrival, header, destination}

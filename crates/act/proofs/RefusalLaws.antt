@@ -7,7 +7,7 @@ use borrow.Author.Tests.{lt-ltb, le-ltb, le-leb, lt-leb}
 use Rattle.octets.specs.Choice.{_then_otherwise_, _or_}
 use Rattle.packet.specs.Read.{longestPacket, readingRefusal}
 use Rattle.packet.specs.Write.{leastOutput}
-use Rattle.rules.specs.Numbers.{clockLimit}
+use Rattle.numbers.specs.Numbers.{clockLimit}
 use Rattle.rules.specs.View.{portOn}
 use Rattle.octets.specs.Listed.{firstOf}
 use Rattle.rules.specs.Refusals.{packetRows, refusalBy}

@@ -16,7 +16,7 @@ use Rattle.octets.proofs.Part.{part-length}
 use Rattle.packet.specs.Header.{isAnnounce}
 use Rattle.packet.specs.Read.{longestPacket, payload, reads}
 use Rattle.packet.specs.Announce.{blobOf}
-use Rattle.rules.specs.Numbers.{pathCount}
+use Rattle.numbers.specs.Numbers.{pathCount}
 use Rattle.rules.specs.Relay.{Slot, empty, used, Blobs, Path, Return, Relay}
 use Rattle.rules.specs.View.{View, viewAt, portOn}
 use Rattle.rules.specs.Arrival.{Arrival, header, destination}

@@ -6,7 +6,7 @@ use mathlib.Core.List.{List}
 use mathlib.Core.Path.{_≡_}
 use Rattle.octets.specs.Choice.{_then_otherwise_}
 use Rattle.packet.specs.Read.{longestPacket, reads}
-use Rattle.rules.specs.Numbers.{portCount, clockLimit}
+use Rattle.numbers.specs.Numbers.{portCount, clockLimit}
 use Rattle.rules.specs.Relay.{Path}
 use Rattle.rules.specs.View.{View, viewAt}
 use Rattle.rules.specs.Arrival.{Arrival, hops, destination}

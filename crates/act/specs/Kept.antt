@@ -6,7 +6,7 @@ use mathlib.Core.List.{List, _++_}
 use lib.ListN.{take}
 use Rattle.octets.specs.Choice.{_then_otherwise_}
 use Rattle.octets.specs.BigEndian.{bigEndian}
-use Rattle.rules.specs.Numbers.{blobLimit, hashLifetime, returnLifetime}
+use Rattle.numbers.specs.Numbers.{blobLimit, hashLifetime, returnLifetime}
 use Rattle.rules.specs.Relay.{Blobs}
 use Rattle.rules.specs.Blobs.{oneBlob, addBlob}
 use Rattle.rules.specs.Writes.{remembersDrop}

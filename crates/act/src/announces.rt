@@ -1,8 +1,11 @@
 // Accepted announces: spread or kept, and their path is set.
+use numbers::ACCESS_POINT_LIFETIME;
+use numbers::BOUNDARY_LIFETIME;
+use numbers::PORT_COUNT;
+use numbers::ROAMING_LIFETIME;
 use packet::LONGEST_PACKET;
 use plan::Arrived;
 use rules::Verdict;
-use tables::places::PORT_COUNT;
 use update::Announced;
 ghost use mathlib.Core.Path.{_≡_};
 ghost use mathlib.Core.Bool.{true, not};
@@ -13,7 +16,7 @@ ghost use Rattle.octets.specs.Index.{_and_};
 ghost use Rattle.octets.specs.Choice.{_then_otherwise_};
 ghost use Rattle.packet.specs.Read.{longestPacket, reads};
 ghost use Rattle.octets.specs.Part.{patch};
-ghost use Rattle.rules.specs.Numbers.{portCount, pathCount, clockLimit, pathLifetime};
+ghost use Rattle.numbers.specs.Numbers.{portCount, pathCount, clockLimit, pathLifetime};
 ghost use Rattle.rules.specs.View.{portOn};
 ghost use Rattle.rules.specs.Answers.{portSet};
 ghost use Rattle.rules.specs.Judging.{leaves};
@@ -34,12 +37,12 @@ fn path_lifetime(mode: u8) -> u64
     ensures { λ r. ⌜ (r ≡ pathLifetime mode) × (r ≤ 604800) ⌝ }
 {
     if mode == 0 {
-        return 604_800;
+        return BOUNDARY_LIFETIME;
     }
     if mode == 1 {
-        return 86_400;
+        return ACCESS_POINT_LIFETIME;
     }
-    21_600
+    ROAMING_LIFETIME
 }
 
 // The next hop: the relay address, or the destination if type 1.

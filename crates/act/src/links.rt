@@ -1,4 +1,6 @@
 // Links: made by a link request that is forwarded, and renewed by each packet carried.
+use numbers::HOP_LIFETIME;
+use numbers::PROVED_LIFETIME;
 use plan::Arrived;
 use rules::Link;
 use rules::RemainingHops;
@@ -11,7 +13,7 @@ ghost use lib.ListN.{length};
 ghost use Rattle.octets.specs.Choice.{_or_};
 ghost use Rattle.packet.specs.Read.{longestPacket, reads};
 ghost use Rattle.packet.specs.Hash.{linkId};
-ghost use Rattle.rules.specs.Numbers.{pathCount, clockLimit};
+ghost use Rattle.numbers.specs.Numbers.{pathCount, clockLimit};
 ghost use Rattle.rules.specs.Arrival.{isLinkProof};
 ghost use Rattle.rules.specs.Writes.{linkRecord, renewedLink};
 ghost use Rattle.tables.specs.Places.{tableSize};
@@ -20,9 +22,6 @@ ghost use Rattle.plan.specs.declared.Decision.the-variants.{Carry};
 ghost use Rattle.plan.specs.Decided.{arrivalOf, decision};
 ghost use Rattle.act.specs.Kept.{addressBy};
 ghost use Rattle.act.specs.Acted.{Accepted, CarriesOut, pathAt};
-
-// A proved link lives so many seconds.
-const PROVED_LIFETIME: u64 = 720;
 
 // The address that two numbers write, half by half.
 pub fn address_of(high: u64, low: u64) -> [u8; 16]
@@ -42,7 +41,7 @@ pub fn asked_link(tables: &[u8], packet: &[u8], arrived: Arrived, path: usize, i
 {
     let port = lookup::path_port(tables, path);
     let hops = lookup::path_hops(tables, path);
-    let lifetime = 6 * (octets::wide(hops) + 1);
+    let lifetime = HOP_LIFETIME * (octets::wide(hops) + 1);
     Link {
         id,
         asking: arrived.port,

@@ -10,7 +10,7 @@ ghost use lib.ListN.{length};
 ghost use Rattle.octets.specs.Part.{patch};
 ghost use Rattle.packet.specs.Read.{longestPacket};
 ghost use Rattle.packet.specs.Hash.{packetHash};
-ghost use Rattle.rules.specs.Numbers.{pathCount};
+ghost use Rattle.numbers.specs.Numbers.{pathCount};
 ghost use Rattle.tables.specs.Places.{tableSize};
 ghost use Rattle.tables.specs.Layout.{relayOf};
 ghost use Rattle.outgoing.specs.Leaving.{Onward};

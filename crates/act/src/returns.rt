@@ -1,4 +1,5 @@
 // Return records: made by data that is forwarded, and emptied by an ordinary proof.
+use numbers::RETURN_LIFETIME;
 use plan::Arrived;
 use rules::Verdict;
 ghost use mathlib.Core.Path.{_≡_};
@@ -6,15 +7,12 @@ ghost use mathlib.Core.Bool.{true};
 ghost use Prim.Native.Nat.{_≤_, _<_};
 ghost use lib.ListN.{length};
 ghost use Rattle.packet.specs.Read.{longestPacket};
-ghost use Rattle.rules.specs.Numbers.{clockLimit};
+ghost use Rattle.numbers.specs.Numbers.{clockLimit};
 ghost use Rattle.tables.specs.Layout.{relayOf, wellFormed};
 ghost use Rattle.plan.specs.declared.Decision.the-variants.{Receipt};
 ghost use Rattle.plan.specs.Decided.{arrivalOf, decision};
 ghost use Rattle.act.specs.Kept.{returnPut};
 ghost use Rattle.act.specs.Acted.{Accepted, CarriesOut};
-
-// A return record lives so many seconds.
-const RETURN_LIFETIME: u64 = 1800;
 
 // Puts a return record in the next ring place, its key the first 16 of the hash, and empties any other live one of that key.
 pub fn put_return(tables: &mut [u8], arrival: u8, leaving: u8, hash: [u8; 32], clock: u64)

@@ -1,15 +1,13 @@
 // The stamp of an accepted packet: every one sets the clock, and all but drops 1 and 2 leave their hash in the tables.
 use super::reasons::reason_number;
+use numbers::HASH_LIFETIME;
 use plan::Decision;
 ghost use mathlib.Core.Path.{_≡_};
 ghost use Prim.Native.Nat.{_<_};
 ghost use lib.ListN.{length};
-ghost use Rattle.rules.specs.Numbers.{hashCount, clockLimit};
+ghost use Rattle.numbers.specs.Numbers.{hashCount, clockLimit};
 ghost use Rattle.tables.specs.Places.{tableSize};
 ghost use Rattle.act.specs.Kept.{remembersDecided, stamped};
-
-// A remembered hash lives so many seconds.
-const HASH_LIFETIME: u64 = 300;
 
 // Whether the packet's hash is remembered.
 pub fn remembers(decision: Decision) -> bool

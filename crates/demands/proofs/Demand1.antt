@@ -20,7 +20,7 @@ use Rattle.packet.specs.Read.{headerOf, longestPacket, readingRefusal, reading}
 use Rattle.packet.specs.Write.{leastOutput, packetOf, writingRefusal, Writing, writing}
 use Rattle.packet.specs.Hash.{packetHashAnswer, linkIdAnswer}
 use Rattle.packet.specs.declared.Parts.{Parts}
-use Rattle.rules.specs.Numbers.{portCount, localCount, modeCount, clockLimit}
+use Rattle.numbers.specs.Numbers.{portCount, localCount, modeCount, clockLimit}
 use Rattle.rules.specs.Relay.{Relay}
 use Rattle.rules.specs.View.{portOn, isLocal}
 use Rattle.rules.specs.Renumbering.{oneToOne}

@@ -21,7 +21,7 @@ use Rattle.packet.specs.Write.{Wide}
 use Rattle.packet.proofs.Widths.{parts-wide, packet-hash-length, link-id-length, blob-length}
 use Rattle.sha256.specs.Sha256.{sha256-of}
 use Rattle.sha256.proofs.Promise.{digest-byte}
-use Rattle.rules.specs.Numbers.{blobLimit}
+use Rattle.numbers.specs.Numbers.{blobLimit}
 use Rattle.rules.specs.Relay.{Slot, empty, used, Blobs, Path, Return, Remembered, Relay}
 use Rattle.rules.specs.View.{View}
 use Rattle.rules.specs.Renumbering.{renamePath, renameLink, renameReturn}

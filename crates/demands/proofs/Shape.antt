@@ -9,7 +9,7 @@ use Rattle.octets.specs.Bytes.{Bytes}
 use Rattle.octets.proofs.Index.{and-both, and-left}
 use Rattle.packet.specs.Header.{isData}
 use Rattle.packet.specs.Read.{payloadStart}
-use Rattle.rules.specs.Numbers.{localCount, pathCount, linkCount, returnCount, hashCount}
+use Rattle.numbers.specs.Numbers.{localCount, pathCount, linkCount, returnCount, hashCount}
 use Rattle.rules.specs.Relay.{Port, Slot, empty, used, Path, Return, Remembered, Ring, Relay, fresh, withClock, withPorts, withLocals, withPaths, withLinks, withReturns, withHashes}
 use Rattle.rules.specs.View.{View, viewAt}
 use Rattle.rules.specs.Renumbering.{renamePath, renameLink, renameReturn, renumbered}

@@ -8,7 +8,7 @@ use lib.ListN.{getD, List·getD-eq-default}
 use borrow.Author.Tests.{ltb-true, leb-true}
 use Rattle.octets.specs.Choice.{_then_otherwise_}
 use Rattle.octets.proofs.Index.{and-left, and-right, all-at, first-holds}
-use Rattle.rules.specs.Numbers.{portCount, localCount, pathCount, linkCount, returnCount, hashCount, blobLimit}
+use Rattle.numbers.specs.Numbers.{portCount, localCount, pathCount, linkCount, returnCount, hashCount, blobLimit}
 use Rattle.rules.specs.Relay.{empty, used, Relay, holds, lowest}
 use Rattle.rules.specs.View.{isLivePath, isLiveLink, isLiveReturn, isLocal, localPlace, pathPlace, linkPlace, returnPlace, hashPlace, freePath, freeLink, viewAt}
 use Rattle.rules.specs.Refusals.{pathOk, linkOk, returnOk}

@@ -15,7 +15,7 @@ use Rattle.octets.proofs.Choice.{or-left, or-right, or-no, or-no-left, or-no-ri
 use Rattle.octets.proofs.ListOf.{listOf-length, listOf-at}
 use Rattle.octets.proofs.Part.{part-length, part-part}
 use Rattle.packet.specs.Announce.{emissionOf}
-use Rattle.rules.specs.Numbers.{blobLimit}
+use Rattle.numbers.specs.Numbers.{blobLimit}
 use Rattle.rules.specs.Blobs.{held, isAmong, greatest, greatestEmission}
 use Rattle.codes.proofs.Law.{sees-part}
 use Rattle.codes.proofs.Single.{octets-lawful}

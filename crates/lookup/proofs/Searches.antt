@@ -10,7 +10,7 @@ use Rattle.octets.specs.Choice.{_then_otherwise_, same}
 use Rattle.octets.specs.Part.{part}
 use Rattle.octets.specs.BigEndian.{number}
 use Rattle.octets.proofs.Index.{and-assoc, first-none, first-more, first-hit, first-ended, first-cong}
-use Rattle.rules.specs.Numbers.{live}
+use Rattle.numbers.specs.Numbers.{live}
 use Rattle.rules.specs.Relay.{holds, free, lowest, lowestFree}
 use Rattle.tables.specs.Places.{timeWidth}
 use Rattle.tables.specs.Records.{slotOf}

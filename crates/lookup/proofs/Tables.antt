@@ -11,7 +11,7 @@ use Rattle.octets.specs.Choice.{same}
 use Rattle.octets.specs.Part.{part}
 use Rattle.octets.proofs.Index.{and-yes}
 use Rattle.octets.proofs.Choice.{same-sym}
-use Rattle.rules.specs.Numbers.{portCount, localCount, pathCount, linkCount, returnCount, hashCount, live}
+use Rattle.numbers.specs.Numbers.{portCount, localCount, pathCount, linkCount, returnCount, hashCount, live}
 use Rattle.rules.specs.Relay.{Port}
 use Rattle.rules.specs.View.{portOn, portMode, localPlace, isLivePath, isLiveLink, isLiveReturn, isLiveHash, pathPlace, linkPlace, returnPlace, hashPlace, freePath, freeLink}
 use Rattle.rules.specs.Refusals.{emptyLocal}

@@ -9,7 +9,7 @@ use Rattle.octets.specs.Index.{_and_, first}
 use Rattle.octets.specs.Choice.{same}
 use Rattle.octets.specs.Part.{part}
 use Rattle.octets.specs.BigEndian.{number}
-use Rattle.rules.specs.Numbers.{live}
+use Rattle.numbers.specs.Numbers.{live}
 use Rattle.tables.specs.Places.{timeWidth}
 use Rattle.tables.specs.Layout.{rowAt}
 

@@ -7,7 +7,7 @@ ghost use Prim.Native.Nat.{_+_, _*_, _≤_, _<_};
 ghost use lib.ListN.{length};
 ghost use Rattle.octets.specs.Part.{part};
 ghost use Rattle.packet.specs.Announce.{emissionOf};
-ghost use Rattle.rules.specs.Numbers.{blobLimit};
+ghost use Rattle.numbers.specs.Numbers.{blobLimit};
 ghost use Rattle.rules.specs.Blobs.{held, isAmong, greatest, greatestEmission};
 ghost use Rattle.tables.specs.Places.{pathWidth, blobWidth};
 ghost use Rattle.tables.specs.Fields.{pathPlacesAt};

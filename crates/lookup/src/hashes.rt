@@ -1,7 +1,7 @@
 // The remembered hashes.
 use super::search::live_place;
+use numbers::HASH_COUNT;
 use tables::fields::HASH_EXPIRY_AT;
-use tables::places::HASH_COUNT;
 use tables::places::HASH_WIDTH;
 use tables::places::HASHES_AT;
 ghost use mathlib.Core.Path.{_≡_};

@@ -1,7 +1,7 @@
 // The local addresses.
 use super::search::has_key;
 use super::search::record_at;
-use tables::places::LOCAL_COUNT;
+use numbers::LOCAL_COUNT;
 use tables::places::LOCAL_WIDTH;
 use tables::places::LOCALS_AT;
 ghost use mathlib.Core.Path.{_≡_};

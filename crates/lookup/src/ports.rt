@@ -1,12 +1,12 @@
 // The ports' settings.
 use super::search::record_at;
-use tables::places::PORT_COUNT;
+use numbers::PORT_COUNT;
 use tables::places::PORT_WIDTH;
 use tables::places::PORTS_AT;
 ghost use mathlib.Core.Path.{_≡_};
 ghost use Prim.Native.Nat.{_<_};
 ghost use lib.ListN.{length};
-ghost use Rattle.rules.specs.Numbers.{portCount};
+ghost use Rattle.numbers.specs.Numbers.{portCount};
 ghost use Rattle.rules.specs.View.{portOn, portMode};
 ghost use Rattle.tables.specs.Places.{tableSize};
 ghost use Rattle.tables.specs.Layout.{relayOf};

@@ -1,16 +1,16 @@
 // The return records: the live one of a key, and a record's ports.
 use super::search::live_place;
 use super::search::record_at;
+use numbers::RETURN_COUNT;
 use tables::fields::RETURN_ARRIVAL_AT;
 use tables::fields::RETURN_EXPIRY_AT;
 use tables::fields::RETURN_LEAVING_AT;
-use tables::places::RETURN_COUNT;
 use tables::places::RETURN_WIDTH;
 use tables::places::RETURNS_AT;
 ghost use mathlib.Core.Path.{_≡_};
 ghost use Prim.Native.Nat.{_<_};
 ghost use lib.ListN.{length};
-ghost use Rattle.rules.specs.Numbers.{returnCount};
+ghost use Rattle.numbers.specs.Numbers.{returnCount};
 ghost use Rattle.rules.specs.View.{returnPlace};
 ghost use Rattle.tables.specs.Places.{tableSize, returnsAt, returnWidth};
 ghost use Rattle.tables.specs.Records.{returnOf};

@@ -24,7 +24,7 @@ use Rattle.rules.specs.Outgoing.{grownTooLong}
 use Rattle.rules.specs.Judging.{dropped, follows, onwardPlan, onwardTests}
 use Rattle.rules.specs.Writes.{announcedPlace}
 use Rattle.rules.specs.declared.Reason.the-variants.{NotSigned, Replay, NotBetter, NoRoom}
-use Rattle.rules.specs.Numbers.{pathCount}
+use Rattle.numbers.specs.Numbers.{pathCount}
 use Rattle.rules.specs.Blobs.{held, isAmong, greatestEmission}
 use Rattle.tables.specs.Places.{pathsAt, pathWidth}
 use Rattle.tables.specs.Records.{pathOf}

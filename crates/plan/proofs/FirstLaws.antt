@@ -19,7 +19,7 @@ use Rattle.packet.proofs.Widths.{parts-wide}
 use Rattle.packet.proofs.ReadLaws.{parts-hops}
 use Rattle.octets.specs.Listed.{Test, firstOf, valued}
 use Rattle.octets.proofs.Listed.{allGive}
-use Rattle.rules.specs.Numbers.{hashCount}
+use Rattle.numbers.specs.Numbers.{hashCount}
 use Rattle.rules.specs.Relay.{Relay}
 use Rattle.rules.specs.View.{View, hashPlace, isLocal, viewAt}
 use Rattle.rules.specs.Arrival.{Arrival, header, hops, relayAddress, destination}

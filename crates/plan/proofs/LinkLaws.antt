@@ -24,7 +24,7 @@ use Rattle.rules.specs.Outgoing.{grownTooLong}
 use Rattle.rules.specs.Judging.{dropped, follows, onwardPlan, onwardTests}
 use Rattle.rules.specs.declared.Link.{Link}
 use Rattle.rules.specs.declared.Reason.the-variants.{NoWayOn, AlreadyKnown, WrongSide, NotSigned, PortOff}
-use Rattle.rules.specs.Numbers.{linkCount}
+use Rattle.numbers.specs.Numbers.{linkCount}
 use Rattle.tables.specs.Places.{linksAt, linkWidth}
 use Rattle.tables.specs.Records.{linkOf}
 use Rattle.tables.specs.Layout.{rowAt, relayOf}

@@ -13,7 +13,7 @@ use Rattle.octets.proofs.Part.{part-length}
 use Rattle.packet.specs.Header.{packetKind, typeTwo, ofKindLink, isData, isAnnounce, isLinkRequest, isProof}
 use Rattle.packet.specs.Read.{longestPacket, reads}
 use Rattle.packet.specs.Hash.{linkId}
-use Rattle.rules.specs.Numbers.{linkCount, pathCount}
+use Rattle.numbers.specs.Numbers.{linkCount, pathCount}
 use Rattle.octets.specs.Listed.{firstOf}
 use Rattle.rules.specs.Relay.{empty, used, Path, Relay}
 use Rattle.rules.specs.View.{View, pathPlace, linkPlace, freeLink, viewAt, portOn}

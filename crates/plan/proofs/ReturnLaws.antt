@@ -20,7 +20,7 @@ use Rattle.rules.specs.Tests.{noWayOn, alreadyKnown, wrongSide, notSigned, repl
 use Rattle.rules.specs.Outgoing.{grownTooLong}
 use Rattle.rules.specs.Judging.{dropped, follows, onwardPlan, onwardTests}
 use Rattle.rules.specs.declared.Reason.the-variants.{NoWayOn, WrongSide, PortOff}
-use Rattle.rules.specs.Numbers.{returnCount}
+use Rattle.numbers.specs.Numbers.{returnCount}
 use Rattle.tables.specs.Places.{returnsAt, returnWidth}
 use Rattle.tables.specs.Records.{returnOf}
 use Rattle.tables.specs.Layout.{rowAt, relayOf}

@@ -5,7 +5,7 @@ use mathlib.Core.Bool.{true, false, not}
 use lib.Dec.{eqb, ltb}
 use Rattle.octets.specs.Choice.{_then_otherwise_}
 use Rattle.packet.specs.Hash.{linkId}
-use Rattle.rules.specs.Numbers.{pathCount, linkCount}
+use Rattle.numbers.specs.Numbers.{pathCount, linkCount}
 use Rattle.rules.specs.Relay.{used, Path, Return, Relay}
 use Rattle.rules.specs.View.{portOn, freePath, freeLink, viewAt}
 use Rattle.rules.specs.Arrival.{Arrival}

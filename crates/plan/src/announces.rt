@@ -1,15 +1,15 @@
 // Announces: tests 9, 10, 11 and 13.
 use super::Arrived;
 use super::Decision;
+use numbers::PATH_COUNT;
 use rules::Reason;
-use tables::places::PATH_COUNT;
 ghost use mathlib.Core.Path.{_≡_};
 ghost use mathlib.Core.Bool.{true, false};
 ghost use Prim.Native.Nat.{_≤_, _<_};
 ghost use lib.ListN.{length};
 ghost use Rattle.packet.specs.Header.{isAnnounce};
 ghost use Rattle.packet.specs.Read.{headerOf, payload, longestPacket, reads};
-ghost use Rattle.rules.specs.Numbers.{pathCount, blobLimit};
+ghost use Rattle.numbers.specs.Numbers.{pathCount, blobLimit};
 ghost use Rattle.rules.specs.Tests.{badForm};
 ghost use Rattle.tables.specs.Places.{tableSize, pathsAt, pathWidth};
 ghost use Rattle.tables.specs.Records.{pathOf};

@@ -1,9 +1,10 @@
 // Tests 1 to 5, with delivery at test 4's place.
 use super::Arrived;
 use super::Early;
+use numbers::HASH_COUNT;
+use numbers::HOPS_LIMIT;
+use numbers::LOCAL_COUNT;
 use rules::Reason;
-use tables::places::HASH_COUNT;
-use tables::places::LOCAL_COUNT;
 ghost use mathlib.Core.Path.{_≡_};
 ghost use mathlib.Core.Bool.{true};
 ghost use lib.ListN.{length};
@@ -91,7 +92,7 @@ pub fn first_tests(tables: &[u8], packet: &[u8], arrived: Arrived, hash: [u8; 32
     if delivered_here(tables, packet, arrived) {
         return Early::Delivered;
     }
-    if packet[1] >= 128 {
+    if packet[1] >= HOPS_LIMIT {
         return Early::Dropped(Reason::TooManyHops);
     }
     Early::Onward

@@ -1,9 +1,9 @@
 // Packets of kind link: tests 6, 7, 8, 9 and 12.
 use super::Arrived;
 use super::Decision;
+use numbers::LINK_COUNT;
 use rules::Link;
 use rules::Reason;
-use tables::places::LINK_COUNT;
 ghost use mathlib.Core.Path.{_≡_};
 ghost use mathlib.Core.Bool.{true, false};
 ghost use lib.ListN.{length};

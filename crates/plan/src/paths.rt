@@ -1,16 +1,16 @@
 // Data and link requests by a path: tests 6, 7, 12 and 13.
 use super::Arrived;
 use super::Decision;
+use numbers::LINK_COUNT;
+use numbers::PATH_COUNT;
 use rules::Reason;
-use tables::places::LINK_COUNT;
-use tables::places::PATH_COUNT;
 ghost use mathlib.Core.Path.{_≡_};
 ghost use mathlib.Core.Bool.{true, false};
 ghost use Prim.Native.Nat.{_<_};
 ghost use lib.ListN.{length};
 ghost use Rattle.packet.specs.Header.{isAnnounce, isProof, ofKindLink};
 ghost use Rattle.packet.specs.Read.{headerOf, longestPacket, reads};
-ghost use Rattle.rules.specs.Numbers.{pathCount};
+ghost use Rattle.numbers.specs.Numbers.{pathCount};
 ghost use Rattle.tables.specs.Places.{tableSize, pathsAt, pathWidth};
 ghost use Rattle.tables.specs.Records.{pathOf};
 ghost use Rattle.tables.specs.Layout.{rowAt, relayOf, wellFormed};

@@ -1,15 +1,15 @@
 // Ordinary proofs: tests 6, 8 and 12.
 use super::Arrived;
 use super::Decision;
+use numbers::RETURN_COUNT;
 use rules::Reason;
-use tables::places::RETURN_COUNT;
 ghost use mathlib.Core.Path.{_≡_};
 ghost use mathlib.Core.Bool.{true, false};
 ghost use Prim.Native.Nat.{_<_};
 ghost use lib.ListN.{length};
 ghost use Rattle.packet.specs.Header.{isProof, ofKindLink};
 ghost use Rattle.packet.specs.Read.{headerOf, longestPacket, reads};
-ghost use Rattle.rules.specs.Numbers.{returnCount};
+ghost use Rattle.numbers.specs.Numbers.{returnCount};
 ghost use Rattle.tables.specs.Places.{tableSize, returnsAt, returnWidth};
 ghost use Rattle.tables.specs.Records.{returnOf};
 ghost use Rattle.tables.specs.Layout.{rowAt, relayOf, wellFormed};

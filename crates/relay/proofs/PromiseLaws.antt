@@ -10,7 +10,7 @@ use borrow.Author.Tests.{eq-eqb, ne-eqb, ltb-false}
 use Rattle.octets.specs.Bytes.{Bytes}
 use Rattle.octets.specs.Choice.{_then_otherwise_}
 use Rattle.packet.specs.Read.{longestPacket, reads}
-use Rattle.rules.specs.Numbers.{portCount, clockLimit}
+use Rattle.numbers.specs.Numbers.{portCount, clockLimit}
 use Rattle.rules.specs.Arrival.{Arrival}
 use Rattle.rules.specs.Refusals.{packetRows, packetRefusal, refusalBy}
 use Rattle.rules.specs.Calls.{counted, judged, judge, packetCall}

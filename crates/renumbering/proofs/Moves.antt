@@ -18,7 +18,7 @@ use Rattle.codes.proofs.Law.{back-at, passes-at}
 use Rattle.codes.proofs.Forms.{lawful}
 use Rattle.codes.proofs.Places.{patch-skip, item-patched}
 use Rattle.codes.proofs.Inside.{Inside, first, next, item, inRule, inRecord, _within_}
-use Rattle.rules.specs.Numbers.{portCount, linkCount, returnCount}
+use Rattle.numbers.specs.Numbers.{portCount, linkCount, returnCount}
 use Rattle.rules.specs.Relay.{Port, off, Slot, empty, Return, Relay, withPorts, withPaths, withLinks, withReturns}
 use Rattle.rules.specs.Refusals.{pathOk, linkOk, returnOk}
 use Rattle.rules.specs.Renumbering.{image, oneToOne, preimage, movedPorts, renamePath, renameLink, renameReturn, renameSlot, renumbered}

@@ -3,7 +3,7 @@
 use Prim.Native.Nat.{ℕ}
 use mathlib.Core.List.{List, map}
 use Rattle.octets.specs.Part.{fields}
-use Rattle.rules.specs.Numbers.{pathCount, linkCount, returnCount}
+use Rattle.numbers.specs.Numbers.{pathCount, linkCount, returnCount}
 use Rattle.rules.specs.Relay.{empty}
 use Rattle.rules.specs.Renumbering.{renamePath, renameLink, renameReturn, renameSlot}
 use Rattle.tables.specs.Places.{pathWidth, linkWidth, returnWidth, pathsAt, linksAt, returnsAt}

@@ -5,6 +5,7 @@ mod one_to_one;
 mod renamed;
 
 use moved::moved_ports;
+use numbers::refusals;
 use one_to_one::one_to_one;
 use renamed::rename_links;
 use renamed::rename_paths;
@@ -19,15 +20,15 @@ pub fn renumber(tables: &mut [u8], map: [u8; 16]) -> u8
     ensures { λ r. ⌜ (r ≡ renumberOn (now (tables .entry)) map .refusal) × (now (tables .exit) ≡ renumberOn (now (tables .entry)) map .tables) ⌝ }
 {
     if !check(tables) {
-        return 7;
+        return refusals::TABLES;
     }
     if !one_to_one(&map) {
-        return 8;
+        return refusals::MAP;
     }
     let ports = moved_ports(tables, &map);
     rename_paths(tables, &map);
     rename_links(tables, &map);
     rename_returns(tables, &map);
     octets::copy_at(tables, PORTS_AT, &ports);
-    0
+    refusals::NONE
 }

@@ -1,6 +1,6 @@
 // The ports' settings at their new numbers.
 use super::one_to_one::preimage_of;
-use tables::places::PORT_COUNT;
+use numbers::PORT_COUNT;
 use tables::places::PORT_WIDTH;
 use tables::places::PORTS_AT;
 ghost use mathlib.Core.Path.{_≡_};
@@ -8,7 +8,7 @@ ghost use mathlib.Core.Bool.{true};
 ghost use Prim.Native.Nat.{_<_};
 ghost use lib.ListN.{length, getD};
 ghost use Rattle.octets.specs.Part.{fields};
-ghost use Rattle.rules.specs.Numbers.{portCount};
+ghost use Rattle.numbers.specs.Numbers.{portCount};
 ghost use Rattle.rules.specs.Relay.{off};
 ghost use Rattle.rules.specs.Renumbering.{movedPorts};
 ghost use Rattle.tables.specs.Places.{portWidth, tableSize};

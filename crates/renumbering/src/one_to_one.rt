@@ -1,9 +1,9 @@
 // Whether a map is one-to-one on 0..15, and the port that goes to a number.
-use tables::places::PORT_COUNT;
+use numbers::PORT_COUNT;
 ghost use mathlib.Core.Path.{_≡_};
 ghost use Prim.Native.Nat.{_<_};
 ghost use lib.ListN.{length};
-ghost use Rattle.rules.specs.Numbers.{portCount};
+ghost use Rattle.numbers.specs.Numbers.{portCount};
 ghost use Rattle.rules.specs.Renumbering.{differsBefore, oneToOne, preimage};
 
 // Whether the image of port i differs from those before it.

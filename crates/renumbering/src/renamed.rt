@@ -1,23 +1,23 @@
 // Every stored port replaced by its image, record by record. An unused record has none.
+use numbers::LINK_COUNT;
+use numbers::PATH_COUNT;
+use numbers::RETURN_COUNT;
 use tables::fields::LINK_ANSWERING_AT;
 use tables::fields::LINK_ASKING_AT;
 use tables::fields::PATH_PORT_AT;
 use tables::fields::RETURN_ARRIVAL_AT;
 use tables::fields::RETURN_LEAVING_AT;
-use tables::places::LINK_COUNT;
 use tables::places::LINK_WIDTH;
 use tables::places::LINKS_AT;
-use tables::places::PATH_COUNT;
 use tables::places::PATH_WIDTH;
 use tables::places::PATHS_AT;
-use tables::places::RETURN_COUNT;
 use tables::places::RETURN_WIDTH;
 use tables::places::RETURNS_AT;
 ghost use mathlib.Core.Path.{_≡_};
 ghost use mathlib.Core.Bool.{true};
 ghost use lib.ListN.{length};
 ghost use Rattle.octets.specs.Part.{patch};
-ghost use Rattle.rules.specs.Numbers.{portCount, pathCount, linkCount, returnCount};
+ghost use Rattle.numbers.specs.Numbers.{portCount, pathCount, linkCount, returnCount};
 ghost use Rattle.rules.specs.Renumbering.{renamePath, renameLink, renameReturn, renameSlot};
 ghost use Rattle.tables.specs.Places.{pathWidth, linkWidth, returnWidth, pathsAt, linksAt, returnsAt, tableSize};
 ghost use Rattle.tables.specs.Records.{slotOf, slotBytes, pathOf, pathBytes, pathBytesOk, linkOf, linkBytes, linkBytesOk, returnOf, returnBytes, returnBytesOk};

@@ -8,7 +8,7 @@ use Rattle.octets.proofs.Index.{and-left}
 use Rattle.octets.proofs.Choice.{or-no-left, or-no-right}
 use Rattle.octets.specs.Index.{_and_}
 use Rattle.octets.proofs.Listed.{allGive}
-use Rattle.rules.specs.Numbers.{portCount, clockLimit}
+use Rattle.numbers.specs.Numbers.{portCount, clockLimit}
 use Rattle.rules.specs.Relay.{Relay}
 use Rattle.rules.specs.View.{portOn}
 use Rattle.rules.specs.Refusals.{packetRows, packetRefusal, refusalBy}

@@ -6,7 +6,7 @@ use mathlib.Core.Path.{_≡_, refl, ap, _∙_}
 use lib.ListN.{length, take, replicate}
 use Rattle.octets.specs.Part.{patch}
 use Rattle.packet.specs.Hash.{packetHash, linkId}
-use Rattle.rules.specs.Numbers.{localCount, pathCount, blobLimit, linkCount, returnCount, hashCount}
+use Rattle.numbers.specs.Numbers.{localCount, pathCount, blobLimit, linkCount, returnCount, hashCount}
 use Rattle.rules.specs.Relay.{off, Slot, empty, used, Path, Return, Remembered, Relay}
 use Rattle.rules.specs.Blobs.{noBlob}
 use Rattle.rules.specs.View.{viewAt}

@@ -9,7 +9,7 @@ use lib.Dec.{ltb, lit≤}
 use borrow.Author.Tests.{lt-ltb, ltb-true, le-leb, leb-true, leb-false}
 use Rattle.octets.proofs.Index.{and-left, and-right, and-both, all-at}
 use Rattle.octets.proofs.Choice.{then-true}
-use Rattle.rules.specs.Numbers.{portCount, blobLimit, clockLimit, timeLimit, pathLifetime}
+use Rattle.numbers.specs.Numbers.{portCount, blobLimit, clockLimit, timeLimit, pathLifetime}
 use Rattle.rules.specs.Relay.{Slot, empty, used, Path, Return, Ring, holds}
 use Rattle.rules.specs.View.{View}
 use Rattle.rules.specs.Renumbering.{image, oneToOne, renamePath, renameLink, renameReturn, renameSlot}

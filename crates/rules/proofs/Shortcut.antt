@@ -13,7 +13,7 @@ use Rattle.octets.specs.Index.{_and_, first}
 use Rattle.octets.specs.Choice.{_then_otherwise_, _or_, same}
 use Rattle.octets.specs.Listed.{firstOf}
 use Rattle.octets.proofs.Listed.{told}
-use Rattle.rules.specs.Numbers.{hashCount, live}
+use Rattle.numbers.specs.Numbers.{hashCount, live}
 use Rattle.rules.specs.Relay.{Slot, empty, used, Relay, holds, lowest}
 use Rattle.rules.specs.View.{View, viewAt, isLiveHash, hashPlace}
 use Rattle.rules.specs.Refusals.{packetRefusal}

@@ -12,7 +12,7 @@ use Rattle.octets.specs.Index.{_and_}
 use Rattle.octets.specs.Choice.{_then_otherwise_, same}
 use Rattle.octets.proofs.Index.{and-left, and-right, and-both, first-holds, first-before}
 use Rattle.octets.proofs.Choice.{same-eq, eq-same}
-use Rattle.rules.specs.Numbers.{live}
+use Rattle.numbers.specs.Numbers.{live}
 use Rattle.rules.specs.Relay.{Slot, empty, used, holds, lowest}
 use Rattle.rules.specs.Renumbering.{renameSlot}
 use Rattle.rules.specs.Writes.{emptiedIf}

@@ -14,7 +14,7 @@ use Rattle.packet.specs.Hash.{hashedPart, packetHash, linkId}
 use Rattle.packet.specs.Announce.{keysOf, nameHashOf, blobOf, emissionOf, leastAnnounce, identityHash, announcedDestination}
 use Rattle.octets.specs.Listed.{firstOf, valued}
 use Rattle.octets.proofs.Listed.{told}
-use Rattle.rules.specs.Numbers.{pathLifetime}
+use Rattle.numbers.specs.Numbers.{pathLifetime}
 use Rattle.rules.specs.Relay.{fresh, withClock, withPorts, withPaths, withLinks, withReturns, withHashes, holds, lowest, free, lowestFree}
 use Rattle.rules.specs.View.{portOn, portMode, localPlace, isLocal, isLivePath, isLiveLink, isLiveReturn, isLiveHash, pathPlace, linkPlace, returnPlace, hashPlace, freePath, freeLink, viewAt}
 use Rattle.rules.specs.Blobs.{held, isAmong, greatest, greatestEmission, oneBlob, addBlob}

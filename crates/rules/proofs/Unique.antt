@@ -8,7 +8,7 @@ use lib.ListN.{length}
 use borrow.Author.Tests.{ltb-false, eqb-true}
 use Rattle.octets.specs.Choice.{same}
 use Rattle.octets.proofs.Choice.{eq-same}
-use Rattle.rules.specs.Numbers.{localCount, pathCount, linkCount, returnCount, hashCount}
+use Rattle.numbers.specs.Numbers.{localCount, pathCount, linkCount, returnCount, hashCount}
 use Rattle.rules.specs.Relay.{Relay, fresh, lowest, withClock, withPorts, withLocals, withHashes}
 use Rattle.rules.specs.View.{View, viewAt, localPlace, isLocal}
 use Rattle.rules.specs.Renumbering.{renumbered}

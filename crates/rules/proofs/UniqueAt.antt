@@ -4,7 +4,7 @@ use mathlib.Core.Bool.{true}
 use mathlib.Core.List.{List}
 use mathlib.Core.Path.{_≡_, refl}
 use lib.ListN.{getD, set}
-use Rattle.rules.specs.Numbers.{blobLimit, live}
+use Rattle.numbers.specs.Numbers.{blobLimit, live}
 use Rattle.rules.specs.Relay.{Port, empty, used, Path, Return, Remembered, Relay, withClock, withPorts, withLocals, withLinks}
 use Rattle.rules.specs.Renumbering.{renamePath, renameLink, renameReturn, renumbered}
 use Rattle.rules.specs.Blobs.{held}

@@ -13,7 +13,7 @@ use Rattle.octets.proofs.Index.{and-both, and-yes}
 use Rattle.octets.proofs.Choice.{or-no-left, eq-same}
 use Rattle.packet.specs.Header.{packetKind, isData, isAnnounce, isLinkRequest, isProof}
 use Rattle.packet.specs.Hash.{linkId}
-use Rattle.rules.specs.Numbers.{pathCount, linkCount, hashCount, blobLimit, live}
+use Rattle.numbers.specs.Numbers.{pathCount, linkCount, hashCount, blobLimit, live}
 use Rattle.rules.specs.Relay.{Slot, empty, used, Path, Return, Relay, withPaths, withReturns, withHashes}
 use Rattle.rules.specs.View.{View, viewAt, isLivePath, isLiveLink, isLiveReturn, isLiveHash, pathPlace, linkPlace, hashPlace}
 use Rattle.rules.specs.Refusals.{slotOk, pathOk, linkOk, hashOk}

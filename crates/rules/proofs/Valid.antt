@@ -10,7 +10,7 @@ use borrow.Author.Tests.{lt-ltb, le-leb, leb-false, not-false}
 use Rattle.octets.proofs.Index.{and-left, and-right, and-both}
 use Rattle.octets.proofs.Choice.{or-no-right}
 use Rattle.packet.specs.Header.{isData}
-use Rattle.rules.specs.Numbers.{portCount, localCount, pathCount, linkCount, returnCount, hashCount, clockLimit, timeLimit, modeCount}
+use Rattle.numbers.specs.Numbers.{portCount, localCount, pathCount, linkCount, returnCount, hashCount, clockLimit, timeLimit, modeCount}
 use Rattle.rules.specs.Relay.{Port, off, Slot, empty, Path, Return, Remembered, Ring, Relay, fresh, withClock, withPorts, withLocals, withPaths, withLinks, withReturns, withHashes}
 use Rattle.rules.specs.View.{View, viewAt}
 use Rattle.rules.specs.Renumbering.{oneToOne, preimage, movedPorts, renamePath, renameLink, renameReturn, renumbered}

@@ -7,7 +7,7 @@ use lib.ListN.{set}
 use Rattle.octets.specs.Choice.{_then_otherwise_}
 use Rattle.octets.proofs.Choice.{then-ap}
 use Rattle.packet.specs.Header.{typeTwo, isData}
-use Rattle.rules.specs.Numbers.{pathLifetime}
+use Rattle.numbers.specs.Numbers.{pathLifetime}
 use Rattle.rules.specs.Relay.{Slot, empty, used, Path, Return, Relay, withClock, withPaths, withLinks, withReturns, withHashes}
 use Rattle.rules.specs.View.{View, isLiveReturn}
 use Rattle.rules.specs.Renumbering.{image, oneToOne, renamePath, renameLink, renameReturn, renameSlot, renumbered}

@@ -6,7 +6,7 @@ use lib.Dec.{eqb, leb}
 use lib.ListN.{length, set}
 use Rattle.octets.specs.Choice.{_then_otherwise_, _or_}
 use Rattle.octets.specs.Listed.{Test, _gives_otherwise_, firstOf}
-use Rattle.rules.specs.Numbers.{portCount, localCount, modeCount}
+use Rattle.numbers.specs.Numbers.{portCount, localCount, modeCount}
 use Rattle.rules.specs.Relay.{empty, used, Relay, withPorts, withLocals}
 use Rattle.rules.specs.View.{View, viewAt, isLocal, localPlace}
 use Rattle.rules.specs.Renumbering.{image, oneToOne, renumbered}

@@ -1,5 +1,4 @@
 -- Document 01's rules over an abstract relay: no bytes of tables, no code.
-pub mod Numbers
 pub mod Relay
 pub mod View
 pub mod Renumbering

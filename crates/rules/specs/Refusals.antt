@@ -9,7 +9,7 @@ use Rattle.octets.specs.Choice.{_or_}
 use Rattle.packet.specs.Read.{longestPacket, readingRefusal}
 use Rattle.packet.specs.Write.{leastOutput}
 use Rattle.octets.specs.Listed.{Test, _gives_otherwise_, firstOf}
-use Rattle.rules.specs.Numbers.{portCount, localCount, pathCount, linkCount, returnCount, hashCount, blobLimit, modeCount, clockLimit, timeLimit}
+use Rattle.numbers.specs.Numbers.{portCount, localCount, pathCount, linkCount, returnCount, hashCount, blobLimit, modeCount, clockLimit, timeLimit}
 use Rattle.rules.specs.Relay.{Port, Slot, empty, used, Path, Return, Remembered, Relay, lowestFree}
 use Rattle.rules.specs.View.{portOn}
 use Rattle.rules.specs.Arrival.{Arrival}

@@ -6,7 +6,7 @@ use lib.ListN.{getD, replicate}
 use Rattle.octets.specs.Index.{first}
 -- a place of a table: unused, or a record
 pub use Rattle.codes.specs.Codes.{Slot, empty, used}
-use Rattle.rules.specs.Numbers.{portCount, localCount, pathCount, linkCount, returnCount, hashCount}
+use Rattle.numbers.specs.Numbers.{portCount, localCount, pathCount, linkCount, returnCount, hashCount}
 use Rattle.rules.specs.declared.Link.{Link}
 
 -- each on or off and boundary, access point or roaming

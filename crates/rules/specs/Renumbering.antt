@@ -6,7 +6,7 @@ use lib.Dec.{eqb, ltb}
 use lib.ListN.{length, getD}
 use Rattle.octets.specs.Index.{_and_, allBelow, first, listOf}
 use Rattle.octets.specs.Choice.{_then_otherwise_}
-use Rattle.rules.specs.Numbers.{portCount}
+use Rattle.numbers.specs.Numbers.{portCount}
 use Rattle.rules.specs.Relay.{Port, off, Slot, empty, used, Path, Return, Relay}
 use Rattle.rules.specs.declared.Link.{Link}
 

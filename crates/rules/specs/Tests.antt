@@ -11,7 +11,7 @@ use Rattle.packet.specs.Header.{typeTwo, ofKindSingle, ofKindLink, isData, isAn
 use Rattle.packet.specs.Read.{headerOf, partsOf, payload}
 use Rattle.packet.specs.Hash.{linkId}
 use Rattle.packet.specs.Announce.{emissionOf, leastAnnounce, announcedDestination}
-use Rattle.rules.specs.Numbers.{portCount}
+use Rattle.numbers.specs.Numbers.{portCount}
 use Rattle.rules.specs.Relay.{Slot, empty, used}
 use Rattle.rules.specs.View.{View}
 use Rattle.rules.specs.Arrival.{Arrival, header, hops, relayAddress, destination, hash, blob, isLinkProof}

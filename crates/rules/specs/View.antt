@@ -7,7 +7,7 @@ use lib.Dec.{ltb}
 use lib.ListN.{getD}
 use Rattle.octets.specs.Index.{_and_}
 use Rattle.octets.specs.Choice.{same}
-use Rattle.rules.specs.Numbers.{portCount, localCount, pathCount, linkCount, returnCount, hashCount, live}
+use Rattle.numbers.specs.Numbers.{portCount, localCount, pathCount, linkCount, returnCount, hashCount, live}
 use Rattle.rules.specs.Relay.{off, Slot, empty, Path, Return, Remembered, Relay, lowest, lowestFree}
 use Rattle.rules.specs.declared.Link.{Link}
 

@@ -8,7 +8,7 @@ use Rattle.octets.specs.Choice.{_then_otherwise_, _or_}
 use Rattle.packet.specs.Header.{typeTwo, isData}
 use Rattle.packet.specs.Read.{headerOf, partsOf}
 use Rattle.packet.specs.Hash.{linkId}
-use Rattle.rules.specs.Numbers.{blobLimit, returnCount, hashCount, pathLifetime, hashLifetime, returnLifetime, unprovedLifetime, provedLifetime}
+use Rattle.numbers.specs.Numbers.{blobLimit, returnCount, hashCount, pathLifetime, hashLifetime, returnLifetime, unprovedLifetime, provedLifetime}
 use Rattle.rules.specs.Relay.{Slot, empty, used, Ring, Blobs, Path, Return, Relay, holds, withClock, withPaths, withLinks, withReturns, withHashes}
 use Rattle.rules.specs.View.{View, isLiveReturn, pathPlace, linkPlace, returnPlace, freePath, freeLink}
 use Rattle.rules.specs.Arrival.{Arrival, header, hops, destination, hash, blob, isLinkProof}

@@ -12,7 +12,7 @@ use Rattle.octets.specs.Choice.{_then_otherwise_, _or_}
 use Rattle.octets.specs.Part.{patch}
 use Rattle.octets.proofs.Choice.{or-no}
 use Rattle.octets.proofs.Part.{patch-join}
-use Rattle.rules.specs.Numbers.{portCount, localCount, modeCount}
+use Rattle.numbers.specs.Numbers.{portCount, localCount, modeCount}
 use Rattle.rules.specs.Relay.{empty, used, Relay, withPorts, withLocals}
 use Rattle.rules.specs.View.{localPlace, isLocal}
 use Rattle.octets.specs.Listed.{firstOf}

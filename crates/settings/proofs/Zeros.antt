@@ -9,7 +9,7 @@ use Rattle.octets.specs.Part.{patch, joined, fields}
 use Rattle.octets.specs.BigEndian.{bigEndian}
 use Rattle.octets.proofs.ListOf.{mixed, mixed-more, mixed-all}
 use Rattle.octets.proofs.Joined.{fields-all}
-use Rattle.rules.specs.Numbers.{portCount, localCount, pathCount, linkCount, returnCount, hashCount}
+use Rattle.numbers.specs.Numbers.{portCount, localCount, pathCount, linkCount, returnCount, hashCount}
 use Rattle.rules.specs.Relay.{off, empty, fresh}
 use Rattle.tables.specs.Places.{addressWidth, timeWidth, ringWidth, localWidth, pathWidth, linkWidth, returnWidth, hashWidth, tableSize}
 use Rattle.tables.specs.Records.{exactly, markOf, portBytes, slotBytes, localBytes, pathBytes, linkBytes, returnBytes, hashBytes}

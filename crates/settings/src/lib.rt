@@ -5,10 +5,11 @@ mod writes;
 use lookup::empty_local;
 use lookup::is_local;
 use lookup::local_place;
+use numbers::LOCAL_COUNT;
+use numbers::MODE_COUNT;
+use numbers::PORT_COUNT;
+use numbers::refusals;
 use tables::check;
-use tables::places::LOCAL_COUNT;
-use tables::places::MODE_COUNT;
-use tables::places::PORT_COUNT;
 use tables::places::TABLE_SIZE;
 use writes::clear;
 use writes::empty_place;
@@ -22,11 +23,11 @@ pub fn fresh(tables: &mut [u8], own: [u8; 16]) -> u8
     ensures { λ r. ⌜ (r ≡ freshOn (now (tables .entry)) own .refusal) × (now (tables .exit) ≡ freshOn (now (tables .entry)) own .tables) ⌝ }
 {
     if tables.len() != TABLE_SIZE {
-        return 7;
+        return refusals::TABLES;
     }
     clear(tables);
     octets::copy_at(tables, 0, &own);
-    0
+    refusals::NONE
 }
 
 // Sets a port on or off, and its mode.
@@ -34,16 +35,16 @@ pub fn set_port(tables: &mut [u8], port: u64, on: bool, mode: u64) -> u8
     ensures { λ r. ⌜ (r ≡ setPortOn (now (tables .entry)) port on mode .refusal) × (now (tables .exit) ≡ setPortOn (now (tables .entry)) port on mode .tables) ⌝ }
 {
     if !check(tables) {
-        return 7;
+        return refusals::TABLES;
     }
     if port >= PORT_COUNT as u64 {
-        return 9;
+        return refusals::SETTING;
     }
     if mode >= MODE_COUNT as u64 {
-        return 9;
+        return refusals::SETTING;
     }
     put_port(tables, port as usize, on, mode as u8);
-    0
+    refusals::NONE
 }
 
 // Adds a local address, in the lowest empty place.
@@ -51,17 +52,17 @@ pub fn add_local(tables: &mut [u8], address: [u8; 16]) -> u8
     ensures { λ r. ⌜ (r ≡ addLocalOn (now (tables .entry)) address .refusal) × (now (tables .exit) ≡ addLocalOn (now (tables .entry)) address .tables) ⌝ }
 {
     if !check(tables) {
-        return 7;
+        return refusals::TABLES;
     }
     if is_local(tables, address) {
-        return 11;
+        return refusals::LOCAL_ADDRESS;
     }
     let place = empty_local(tables);
     if place >= LOCAL_COUNT {
-        return 10;
+        return refusals::LOCAL_FULL;
     }
     put_local(tables, place, address);
-    0
+    refusals::NONE
 }
 
 // Removes a local address: its place is emptied.
@@ -69,12 +70,12 @@ pub fn remove_local(tables: &mut [u8], address: [u8; 16]) -> u8
     ensures { λ r. ⌜ (r ≡ removeLocalOn (now (tables .entry)) address .refusal) × (now (tables .exit) ≡ removeLocalOn (now (tables .entry)) address .tables) ⌝ }
 {
     if !check(tables) {
-        return 7;
+        return refusals::TABLES;
     }
     let place = local_place(tables, address);
     if place >= LOCAL_COUNT {
-        return 11;
+        return refusals::LOCAL_ADDRESS;
     }
     empty_place(tables, place);
-    0
+    refusals::NONE
 }

@@ -7,7 +7,7 @@ ghost use mathlib.Core.Path.{_≡_};
 ghost use Prim.Native.Nat.{_+_, _*_, _<_};
 ghost use lib.ListN.{length, replicate};
 ghost use Rattle.octets.specs.Part.{patch};
-ghost use Rattle.rules.specs.Numbers.{portCount, localCount};
+ghost use Rattle.numbers.specs.Numbers.{portCount, localCount};
 ghost use Rattle.rules.specs.Relay.{empty, used};
 ghost use Rattle.tables.specs.Places.{portWidth, localWidth, portsAt, localsAt, tableSize};
 ghost use Rattle.tables.specs.Records.{markOf, portBytes, slotBytes, localBytes};

@@ -7,7 +7,7 @@ use lib.ListN.{length, getD}
 use Rattle.octets.specs.Index.{first}
 use Rattle.octets.proofs.Index.{first-cong}
 use Rattle.octets.proofs.ListOf.{listOf-length, listOf-at}
-use Rattle.rules.specs.Numbers.{portCount, localCount, pathCount, linkCount, returnCount, hashCount}
+use Rattle.numbers.specs.Numbers.{portCount, localCount, pathCount, linkCount, returnCount, hashCount}
 use Rattle.rules.specs.Relay.{off, Slot, empty, holds, lowest, free, lowestFree}
 use Rattle.tables.specs.Places.{portWidth, localWidth, pathWidth, linkWidth, returnWidth, hashWidth, portsAt, localsAt, pathsAt, linksAt, returnsAt, hashesAt}
 use Rattle.tables.specs.Records.{portOf, slotOf, localOf, pathOf, linkOf, returnOf, hashOf}

@@ -14,7 +14,7 @@ use Rattle.octets.proofs.Index.{and-right, and-assoc, all-at, all-cong}
 use Rattle.octets.proofs.Part.{part-at}
 use Rattle.codes.specs.Form.{Form, slot, code}
 use Rattle.codes.proofs.Rows.{all-true}
-use Rattle.rules.specs.Numbers.{blobLimit}
+use Rattle.numbers.specs.Numbers.{blobLimit}
 use Rattle.rules.specs.Refusals.{portOk, pathOk, linkOk, returnOk, hashOk}
 use Rattle.tables.specs.Forms.{localForm, pathForm, linkForm, returnForm, hashForm}
 use Rattle.tables.specs.Places.{localWidth, pathWidth, linkWidth, returnWidth, hashWidth}

@@ -6,7 +6,7 @@ use mathlib.Core.List.{List}
 use mathlib.Core.Path.{refl}
 use lib.Dec.{ltb}
 use Rattle.codes.specs.Form.{Form, byte, mark, numberIn, octetsIn, _&_, many, slot, that, asRecord}
-use Rattle.rules.specs.Numbers.{portCount, localCount, pathCount, blobLimit, linkCount, returnCount, hashCount}
+use Rattle.numbers.specs.Numbers.{portCount, localCount, pathCount, blobLimit, linkCount, returnCount, hashCount}
 use Rattle.rules.specs.Relay.{Port, off, Slot, empty, Blobs, Path, Return, Remembered, Ring, Relay}
 use Rattle.rules.specs.Blobs.{noBlob}
 use Rattle.rules.specs.Refusals.{timeOk, portOk, pathOk, linkOk, returnOk, hashOk}

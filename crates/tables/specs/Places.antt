@@ -2,7 +2,7 @@
 use mathlib.Core.Path.{_≡_, refl}
 use Prim.Native.Nat.{ℕ, _+_}
 use Rattle.codes.specs.Form.{slot, code, startOf}
-use Rattle.rules.specs.Numbers.{returnCount, hashCount}
+use Rattle.numbers.specs.Numbers.{returnCount, hashCount}
 use Rattle.tables.specs.Forms.{portForm, localForm, pathForm, linkForm, returnForm, hashForm, ringForm, relayForm}
 pub use Rattle.tables.specs.Forms.{addressWidth, digestWidth, timeWidth, blobWidth, ringWidth}
 

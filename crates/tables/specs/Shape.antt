@@ -5,7 +5,7 @@ use mathlib.Core.Bool.{Bool}
 use mathlib.Core.List.{List}
 use lib.Dec.{ltb}
 use Rattle.octets.specs.Index.{_and_}
-use Rattle.rules.specs.Numbers.{blobLimit}
+use Rattle.numbers.specs.Numbers.{blobLimit}
 use Rattle.rules.specs.Relay.{Path, Return, Remembered, Relay}
 use Rattle.rules.specs.Refusals.{slotOk, all, tableOk}
 use Rattle.rules.specs.declared.Link.{Link}

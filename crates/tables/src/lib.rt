@@ -5,14 +5,14 @@ pub mod places;
 mod record_check;
 mod section_check;
 
+use numbers::HASH_COUNT;
+use numbers::RETURN_COUNT;
+use numbers::TIME_LIMIT;
 use places::CLOCK_AT;
-use places::HASH_COUNT;
 use places::HASH_NEXT_AT;
-use places::RETURN_COUNT;
 use places::RETURN_NEXT_AT;
 use places::RING_WIDTH;
 use places::TABLE_SIZE;
-use places::TIME_LIMIT;
 use section_check::hashes_ok;
 use section_check::links_ok;
 use section_check::locals_ok;

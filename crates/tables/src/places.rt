@@ -3,26 +3,13 @@ use super::fields::HASH_EXPIRY_AT;
 use super::fields::LINK_EXPIRY_AT;
 use super::fields::PATH_BLOBS_AT;
 use super::fields::RETURN_EXPIRY_AT;
-
-pub const PORT_COUNT: usize = 16;
-
-pub const LOCAL_COUNT: usize = 16;
-
-pub const PATH_COUNT: usize = 64;
-
-pub const BLOB_LIMIT: usize = 16;
-
-pub const LINK_COUNT: usize = 64;
-
-pub const RETURN_COUNT: usize = 512;
-
-pub const HASH_COUNT: usize = 1024;
-
-// Modes: boundary, access point, roaming.
-pub const MODE_COUNT: u8 = 3;
-
-// A stored time over this is refused.
-pub const TIME_LIMIT: u64 = 1_099_512_232_575;
+use numbers::BLOB_LIMIT;
+use numbers::HASH_COUNT;
+use numbers::LINK_COUNT;
+use numbers::LOCAL_COUNT;
+use numbers::PATH_COUNT;
+use numbers::PORT_COUNT;
+use numbers::RETURN_COUNT;
 
 pub const ADDRESS_WIDTH: usize = 16;
 

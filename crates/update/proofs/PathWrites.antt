@@ -18,7 +18,7 @@ use Rattle.octets.proofs.Joined.{joined-append, joined-one, joined-parts, field
 use Rattle.codes.specs.Form.{byte, octetsIn, many}
 use Rattle.codes.proofs.Forms.{lawful}
 use Rattle.codes.proofs.Inside.{Inside, here, first, next, item, inRecord, _within_}
-use Rattle.rules.specs.Numbers.{blobLimit}
+use Rattle.numbers.specs.Numbers.{blobLimit}
 use Rattle.rules.specs.Relay.{used, Blobs}
 use Rattle.rules.specs.Blobs.{noBlob, oneBlob, addBlob}
 use Rattle.tables.specs.Forms.{blobsForm}

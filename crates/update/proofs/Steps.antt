@@ -7,7 +7,7 @@ use lib.ListN.{length, set}
 use borrow.Author.Tests.{ltb-true}
 use Rattle.octets.specs.Part.{patch}
 use Rattle.octets.specs.BigEndian.{bigEndian}
-use Rattle.rules.specs.Numbers.{pathCount, linkCount, returnCount, hashCount}
+use Rattle.numbers.specs.Numbers.{pathCount, linkCount, returnCount, hashCount}
 use Rattle.rules.specs.Relay.{empty, used, Path, Return, Remembered, Relay, withClock, withPaths, withLinks, withReturns, withHashes}
 use Rattle.rules.specs.Writes.{putNext}
 use Rattle.rules.specs.declared.Link.{Link}

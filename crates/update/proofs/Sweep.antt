@@ -14,7 +14,7 @@ use Rattle.octets.proofs.Choice.{same-agree}
 use Rattle.octets.proofs.Part.{part-length}
 use Rattle.octets.proofs.ListOf.{mixed, mixed-length, mixed-at, mixed-more, mixed-all}
 use Rattle.codes.proofs.Inside.{item, _within_}
-use Rattle.rules.specs.Numbers.{returnCount}
+use Rattle.numbers.specs.Numbers.{returnCount}
 use Rattle.rules.specs.Relay.{Slot, empty, Return, Relay, holds, withReturns}
 use Rattle.rules.specs.View.{isLiveReturn}
 use Rattle.rules.specs.Writes.{emptiedIf, emptiedWhere}

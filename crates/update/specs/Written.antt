@@ -5,7 +5,7 @@ use mathlib.Core.List.{List, _∷_, _++_}
 use Rattle.octets.specs.Choice.{_then_otherwise_}
 use Rattle.octets.specs.Part.{patch}
 use Rattle.octets.specs.BigEndian.{bigEndian}
-use Rattle.rules.specs.Numbers.{blobLimit, returnCount, hashCount}
+use Rattle.numbers.specs.Numbers.{blobLimit, returnCount, hashCount}
 use Rattle.rules.specs.Relay.{empty, used, Blobs, Path, Return, Remembered, holds, withReturns}
 use Rattle.rules.specs.View.{isLiveReturn}
 use Rattle.rules.specs.Writes.{emptiedWhere}

@@ -1,12 +1,12 @@
 // The blobs of a path's record: their count, and behind it the blob places, the blob stored longest ago first.
-use tables::places::BLOB_LIMIT;
+use numbers::BLOB_LIMIT;
 use tables::places::BLOB_WIDTH;
 ghost use mathlib.Core.Path.{_≡_};
 ghost use mathlib.Core.List.{_++_};
 ghost use Prim.Native.Nat.{_+_};
 ghost use lib.ListN.{length};
 ghost use Rattle.octets.specs.Part.{part, patch};
-ghost use Rattle.rules.specs.Numbers.{blobLimit};
+ghost use Rattle.numbers.specs.Numbers.{blobLimit};
 ghost use Rattle.rules.specs.Blobs.{oneBlob, addBlob};
 ghost use Rattle.tables.specs.Places.{blobWidth};
 ghost use Rattle.tables.specs.Fields.{blobsWidth, blobPlacesAt};

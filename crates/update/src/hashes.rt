@@ -1,7 +1,7 @@
 // The remembered hashes.
+use numbers::HASH_COUNT;
 use tables::fields::HASH_BYTES_AT;
 use tables::fields::HASH_EXPIRY_AT;
-use tables::places::HASH_COUNT;
 use tables::places::HASH_NEXT_AT;
 use tables::places::HASH_WIDTH;
 use tables::places::HASHES_AT;
@@ -10,7 +10,7 @@ use tables::places::TIME_WIDTH;
 ghost use mathlib.Core.Path.{_≡_};
 ghost use Prim.Native.Nat.{_<_};
 ghost use lib.ListN.{length};
-ghost use Rattle.rules.specs.Numbers.{hashCount};
+ghost use Rattle.numbers.specs.Numbers.{hashCount};
 ghost use Rattle.tables.specs.Places.{tableSize};
 ghost use Rattle.tables.specs.Layout.{relayOf};
 ghost use Rattle.update.specs.Written.{hashWritten};

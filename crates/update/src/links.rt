@@ -9,7 +9,7 @@ use tables::places::TIME_WIDTH;
 ghost use mathlib.Core.Path.{_≡_};
 ghost use Prim.Native.Nat.{_<_};
 ghost use lib.ListN.{length};
-ghost use Rattle.rules.specs.Numbers.{linkCount};
+ghost use Rattle.numbers.specs.Numbers.{linkCount};
 ghost use Rattle.tables.specs.Places.{tableSize};
 ghost use Rattle.tables.specs.Records.{markOf};
 ghost use Rattle.update.specs.Written.{linkWritten};

@@ -14,7 +14,7 @@ ghost use mathlib.Core.Path.{_≡_};
 ghost use Prim.Native.Nat.{_+_, _≤_, _<_};
 ghost use lib.ListN.{length};
 ghost use Rattle.octets.specs.Part.{patch};
-ghost use Rattle.rules.specs.Numbers.{blobLimit, pathCount};
+ghost use Rattle.numbers.specs.Numbers.{blobLimit, pathCount};
 ghost use Rattle.rules.specs.Blobs.{oneBlob, addBlob};
 ghost use Rattle.tables.specs.Places.{tableSize, pathsAt, pathWidth};
 ghost use Rattle.tables.specs.Records.{blobsOf};

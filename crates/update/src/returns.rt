@@ -1,8 +1,8 @@
 // The return records.
+use numbers::RETURN_COUNT;
 use tables::fields::RETURN_ARRIVAL_AT;
 use tables::fields::RETURN_EXPIRY_AT;
 use tables::fields::RETURN_KEY_AT;
-use tables::places::RETURN_COUNT;
 use tables::places::RETURN_NEXT_AT;
 use tables::places::RETURN_WIDTH;
 use tables::places::RETURNS_AT;
@@ -12,7 +12,7 @@ ghost use mathlib.Core.Path.{_≡_};
 ghost use mathlib.Core.Bool.{true};
 ghost use Prim.Native.Nat.{_<_};
 ghost use lib.ListN.{length};
-ghost use Rattle.rules.specs.Numbers.{returnCount};
+ghost use Rattle.numbers.specs.Numbers.{returnCount};
 ghost use Rattle.rules.specs.Relay.{holds};
 ghost use Rattle.rules.specs.View.{isLiveReturn};
 ghost use Rattle.tables.specs.Places.{tableSize, addressWidth, returnWidth};

@@ -1,7 +1,7 @@
 use Prim.Native.Nat.{ℕ, _<_}
 use mathlib.Core.Path.{sym, subst, _∙_}
 use Rattle.octets.proofs.Bytes.{known-bytes}
-use Rattle.rules.specs.Numbers.{hashCount}
+use Rattle.numbers.specs.Numbers.{hashCount}
 use Rattle.tables.proofs.Whole.{formed}
 use Rattle.update.proofs.Steps.{hash-next-within}
 use Rattle.act.proofs.StampLaws.{remembered-by, stamp-left}

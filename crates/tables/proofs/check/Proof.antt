@@ -3,7 +3,7 @@ use mathlib.Core.Path.{sym, ap, _∙_}
 use lib.Dec.{ltb}
 use borrow.Author.Tests.{lt-ltb, le-ltb, le-leb, lt-leb, eq-eqb, ne-eqb, not-true, not-false}
 use Rattle.octets.proofs.Index.{and-yes, and-no}
-use Rattle.rules.specs.Numbers.{returnCount, hashCount}
+use Rattle.numbers.specs.Numbers.{returnCount, hashCount}
 use Rattle.rules.specs.Refusals.{timeOk}
 use Rattle.tables.proofs.Whole.{clauses}
 use borrow.Author.Needs.{needs}

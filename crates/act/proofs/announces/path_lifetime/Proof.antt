@@ -1,6 +1,6 @@
 use borrow.Author.Tests.{eq-eqb, ne-eqb}
 use Rattle.octets.specs.Choice.{_then_otherwise_}
-use Rattle.rules.specs.Numbers.{pathLifetime}
+use Rattle.numbers.specs.Numbers.{pathLifetime}
 use native.Mathlib.Omega.{arith}
 use Rattle.act.proofs.announces.path_lifetime.Statement.{statement}
 use Rattle.act.proofs.announces.path_lifetime.Tie as tie

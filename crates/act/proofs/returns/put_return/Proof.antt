@@ -1,7 +1,7 @@
 use Prim.Native.Nat.{ℕ, _<_}
 use mathlib.Core.Path.{sym, subst, _∙_}
 use Rattle.octets.specs.Part.{part}
-use Rattle.rules.specs.Numbers.{returnCount}
+use Rattle.numbers.specs.Numbers.{returnCount}
 use Rattle.tables.proofs.Whole.{formed}
 use Rattle.update.proofs.Steps.{return-next-within}
 use Rattle.act.specs.Kept.{returnPut}

@@ -3,7 +3,7 @@ use mathlib.Core.Path.{_≡_, sym}
 use mathlib.Core.Bool.{false}
 use lib.ListN.{take}
 use Rattle.octets.proofs.Index.{ended}
-use Rattle.rules.specs.Numbers.{blobLimit}
+use Rattle.numbers.specs.Numbers.{blobLimit}
 use Rattle.tables.specs.Records.{blobsOf}
 use Rattle.rules.specs.Blobs.{held, isAmong}
 use Rattle.lookup.proofs.HeldBlobs.{blob-none, blob-not-here, blob-here}

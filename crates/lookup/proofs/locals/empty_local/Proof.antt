@@ -3,7 +3,7 @@ use mathlib.Core.Path.{_≡_, refl, _∙_}
 use lib.Dec.{eqb}
 use lib.ListN.{getD}
 use borrow.Author.Tests.{eq-eqb, ne-eqb}
-use Rattle.rules.specs.Numbers.{localCount}
+use Rattle.numbers.specs.Numbers.{localCount}
 use Rattle.tables.specs.Places.{localsAt, localWidth}
 use Rattle.lookup.specs.Search.{lowestRow}
 use Rattle.lookup.proofs.Searches.{none-yet, not-here, found-here, nowhere}

@@ -1,7 +1,7 @@
 use Prim.Native.Nat.{ℕ}
 use mathlib.Core.Path.{ap}
 use lib.Dec.{ltb}
-use Rattle.rules.specs.Numbers.{localCount}
+use Rattle.numbers.specs.Numbers.{localCount}
 use Rattle.rules.specs.View.{isLocal}
 use borrow.Author.Needs.{needs}
 use Rattle.lookup.proofs.locals.is_local.Statement.{statement}

@@ -1,6 +1,6 @@
 use Prim.Native.Nat.{_-_, _≤_}
 use mathlib.Core.Path.{_≡_, _∙_}
-use Rattle.rules.specs.Numbers.{localCount}
+use Rattle.numbers.specs.Numbers.{localCount}
 use Rattle.tables.specs.Places.{localsAt, localWidth}
 use Rattle.lookup.specs.Search.{hasKey, lowestRow}
 use Rattle.lookup.proofs.Searches.{none-yet, not-here, found-here, nowhere}

@@ -1,7 +1,7 @@
 use Prim.Native.Nat.{ℕ, _≤_}
 use mathlib.Core.Path.{sym, ap, subst, _∙_}
 use mathlib.Core.List.{List}
-use Rattle.rules.specs.Numbers.{blobLimit}
+use Rattle.numbers.specs.Numbers.{blobLimit}
 use Rattle.tables.specs.Records.{blobsOf, pathOf}
 use Rattle.rules.specs.Blobs.{held, isAmong}
 use borrow.Author.Needs.{needs}

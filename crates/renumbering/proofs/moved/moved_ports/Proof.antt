@@ -2,7 +2,7 @@ use Prim.Native.Nat.{ℕ, _≤_, _-_}
 use mathlib.Core.Path.{_≡_, ap, _∙_}
 use lib.Dec.{lit<}
 use lib.ListN.{getD}
-use Rattle.rules.specs.Numbers.{portCount}
+use Rattle.numbers.specs.Numbers.{portCount}
 use Rattle.rules.specs.Relay.{off}
 use Rattle.tables.specs.Records.{portBytes}
 use Rattle.tables.specs.Layout.{relayOf}

@@ -6,7 +6,7 @@ use lib.ListN.{getD}
 use borrow.Author.Tests.{lt-ltb, le-ltb, eq-eqb, not-true, not-false}
 use Rattle.octets.specs.Index.{_and_, allBelow}
 use Rattle.octets.proofs.Index.{and-yes, and-no, all-none, all-more, all-fails, ended}
-use Rattle.rules.specs.Numbers.{portCount}
+use Rattle.numbers.specs.Numbers.{portCount}
 use Rattle.rules.specs.Renumbering.{differsBefore, oneToOne}
 use borrow.Author.Needs.{needs}
 use Rattle.renumbering.proofs.one_to_one.one_to_one.Statement.{statement}

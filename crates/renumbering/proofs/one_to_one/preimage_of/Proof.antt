@@ -5,7 +5,7 @@ use lib.ListN.{getD}
 use borrow.Author.Tests.{eq-eqb, ne-eqb}
 use Rattle.octets.specs.Index.{first}
 use Rattle.octets.proofs.Index.{first-none, first-more, first-hit, first-ended}
-use Rattle.rules.specs.Numbers.{portCount}
+use Rattle.numbers.specs.Numbers.{portCount}
 use Rattle.rules.specs.Renumbering.{preimage}
 use native.Mathlib.Omega.{arith}
 use borrow.Author.Needs.{needs}

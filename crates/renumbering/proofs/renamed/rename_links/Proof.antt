@@ -6,7 +6,7 @@ use borrow.Rule.Slice.PartMut.{putMid}
 use Rattle.octets.specs.Part.{part, patch}
 use Rattle.octets.proofs.Bytes.{known-bytes}
 use Rattle.octets.proofs.Part.{part-range, patch-range, range-length, patch-length}
-use Rattle.rules.specs.Numbers.{linkCount}
+use Rattle.numbers.specs.Numbers.{linkCount}
 use Rattle.rules.specs.Relay.{Slot, empty}
 use Rattle.rules.specs.declared.Link.{Link}
 use Rattle.rules.specs.Renumbering.{renameLink, renameSlot}

@@ -6,7 +6,7 @@ use borrow.Rule.Slice.PartMut.{putMid}
 use Rattle.octets.specs.Part.{part, patch}
 use Rattle.octets.proofs.Bytes.{known-bytes}
 use Rattle.octets.proofs.Part.{part-range, patch-range, range-length, patch-length}
-use Rattle.rules.specs.Numbers.{returnCount}
+use Rattle.numbers.specs.Numbers.{returnCount}
 use Rattle.rules.specs.Relay.{Slot, empty, Return}
 use Rattle.rules.specs.Renumbering.{renameReturn, renameSlot}
 use Rattle.tables.specs.Places.{returnWidth, returnsAt, tableSize}

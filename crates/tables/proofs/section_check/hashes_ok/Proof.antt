@@ -2,7 +2,7 @@ use Prim.Native.Nat.{ℕ, _≤_, _-_, _*_, _/_}
 use mathlib.Core.Path.{_≡_}
 use mathlib.Core.Bool.{true}
 use Rattle.octets.proofs.Index.{ended}
-use Rattle.rules.specs.Numbers.{hashCount}
+use Rattle.numbers.specs.Numbers.{hashCount}
 use Rattle.tables.specs.Places.{hashWidth, hashesAt}
 use Rattle.tables.specs.Records.{hashBytesOk}
 use Rattle.tables.specs.Layout.{rowsOk}

@@ -2,7 +2,7 @@ use Prim.Native.Nat.{ℕ, _≤_, _-_}
 use mathlib.Core.Path.{_≡_}
 use mathlib.Core.Bool.{true}
 use Rattle.octets.proofs.Index.{ended}
-use Rattle.rules.specs.Numbers.{linkCount}
+use Rattle.numbers.specs.Numbers.{linkCount}
 use Rattle.tables.specs.Places.{linkWidth, linksAt}
 use Rattle.tables.specs.Records.{linkBytesOk}
 use Rattle.tables.specs.Layout.{rowsOk}

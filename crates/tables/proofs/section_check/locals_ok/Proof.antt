@@ -2,7 +2,7 @@ use Prim.Native.Nat.{ℕ, _≤_, _-_}
 use mathlib.Core.Path.{_≡_}
 use mathlib.Core.Bool.{true}
 use Rattle.octets.proofs.Index.{ended}
-use Rattle.rules.specs.Numbers.{localCount}
+use Rattle.numbers.specs.Numbers.{localCount}
 use Rattle.tables.specs.Places.{localWidth, localsAt}
 use Rattle.tables.specs.Records.{localBytesOk}
 use Rattle.tables.specs.Layout.{rowsOk}

@@ -2,7 +2,7 @@ use Prim.Native.Nat.{ℕ, _≤_, _-_}
 use mathlib.Core.Path.{_≡_}
 use mathlib.Core.Bool.{true}
 use Rattle.octets.proofs.Index.{ended}
-use Rattle.rules.specs.Numbers.{pathCount}
+use Rattle.numbers.specs.Numbers.{pathCount}
 use Rattle.tables.specs.Places.{pathWidth, pathsAt}
 use Rattle.tables.specs.Records.{pathBytesOk}
 use Rattle.tables.specs.Layout.{rowsOk}

@@ -2,7 +2,7 @@ use Prim.Native.Nat.{ℕ, _≤_, _-_}
 use mathlib.Core.Path.{_≡_}
 use mathlib.Core.Bool.{true}
 use Rattle.octets.proofs.Index.{ended}
-use Rattle.rules.specs.Numbers.{portCount}
+use Rattle.numbers.specs.Numbers.{portCount}
 use Rattle.tables.specs.Places.{portWidth, portsAt}
 use Rattle.tables.specs.Records.{portBytesOk}
 use Rattle.tables.specs.Layout.{rowsOk}

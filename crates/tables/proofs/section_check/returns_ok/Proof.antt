@@ -2,7 +2,7 @@ use Prim.Native.Nat.{ℕ, _≤_, _-_, _*_, _/_}
 use mathlib.Core.Path.{_≡_}
 use mathlib.Core.Bool.{true}
 use Rattle.octets.proofs.Index.{ended}
-use Rattle.rules.specs.Numbers.{returnCount}
+use Rattle.numbers.specs.Numbers.{returnCount}
 use Rattle.tables.specs.Places.{returnWidth, returnsAt}
 use Rattle.tables.specs.Records.{returnBytesOk}
 use Rattle.tables.specs.Layout.{rowsOk}

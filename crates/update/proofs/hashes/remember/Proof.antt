@@ -4,7 +4,7 @@ use mathlib.Core.List.{List}
 use lib.ListN.{length}
 use Rattle.octets.specs.Part.{patch}
 use Rattle.octets.specs.BigEndian.{bigEndian}
-use Rattle.rules.specs.Numbers.{hashCount}
+use Rattle.numbers.specs.Numbers.{hashCount}
 use Rattle.tables.specs.Places.{digestWidth, ringWidth, hashNextAt, hashesAt, hashWidth}
 use Rattle.update.specs.Written.{hashWritten}
 use Rattle.update.proofs.Pieces.{hash-pieces}

@@ -2,7 +2,7 @@ use Prim.Native.Nat.{_≤_}
 use lib.ListN.{length}
 use Prim.Native.Nat.{ℕ, _+_, _*_}
 use mathlib.Core.Path.{ap, _∙_}
-use Rattle.rules.specs.Numbers.{blobLimit}
+use Rattle.numbers.specs.Numbers.{blobLimit}
 use Rattle.rules.specs.Relay.{Blobs}
 use Rattle.rules.specs.Blobs.{addBlob}
 use Rattle.tables.specs.Places.{pathsAt, pathWidth}

@@ -3,7 +3,7 @@ use Rattle.octets.proofs.Bytes.{known-bytes}
 use Prim.Native.Nat.{_-_, _≤_}
 use mathlib.Core.Path.{_≡_, _∙_}
 use lib.ListN.{length}
-use Rattle.rules.specs.Numbers.{returnCount}
+use Rattle.numbers.specs.Numbers.{returnCount}
 use Rattle.tables.specs.Places.{tableSize}
 use Rattle.tables.specs.Layout.{bytesOf}
 use Rattle.update.proofs.Sweep.{sweptTo, sweep-none, sweep-more, sweep-done}

@@ -4,7 +4,7 @@ use mathlib.Core.List.{List}
 use lib.ListN.{length}
 use Rattle.octets.specs.Part.{patch}
 use Rattle.octets.specs.BigEndian.{bigEndian}
-use Rattle.rules.specs.Numbers.{returnCount}
+use Rattle.numbers.specs.Numbers.{returnCount}
 use Rattle.tables.specs.Places.{addressWidth, ringWidth, returnNextAt, returnsAt, returnWidth}
 use Rattle.update.specs.Written.{returnWritten}
 use Rattle.update.proofs.Pieces.{return-pieces}

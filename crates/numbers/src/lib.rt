@@ -1,0 +1,45 @@
+// Document 01's numbers, in code: specs/Numbers.antt has the same as definitions, and each contract that uses one is proved with those.
+// No function stands here.
+pub mod refusals;
+
+pub const PORT_COUNT: usize = 16;
+
+pub const LOCAL_COUNT: usize = 16;
+
+pub const PATH_COUNT: usize = 64;
+
+pub const BLOB_LIMIT: usize = 16;
+
+pub const LINK_COUNT: usize = 64;
+
+pub const RETURN_COUNT: usize = 512;
+
+pub const HASH_COUNT: usize = 1024;
+
+// Modes: boundary, access point, roaming.
+pub const MODE_COUNT: u8 = 3;
+
+// Every clock is below 2^40.
+pub const CLOCK_LIMIT: u64 = 1_099_511_627_776;
+
+// A stored time over this is refused.
+pub const TIME_LIMIT: u64 = CLOCK_LIMIT + 604_799;
+
+// Seconds that a path lives, by the mode of the arrival port.
+pub const BOUNDARY_LIFETIME: u64 = 604_800;
+
+pub const ACCESS_POINT_LIFETIME: u64 = 86_400;
+
+pub const ROAMING_LIFETIME: u64 = 21_600;
+
+pub const HASH_LIFETIME: u64 = 300;
+
+pub const RETURN_LIFETIME: u64 = 1_800;
+
+pub const PROVED_LIFETIME: u64 = 720;
+
+// Seconds that an unproved link lives for each remaining hop, and one more.
+pub const HOP_LIFETIME: u64 = 6;
+
+// A packet with so many hops goes no further.
+pub const HOPS_LIMIT: u8 = 128;
