@@ -33,17 +33,17 @@ use Rattle.rules.specs.declared.Verdict.the-variants.{Forward}
 use Rattle.rules.proofs.Followed.{Planned, planned}
 use Rattle.tables.specs.Places.{linksAt, linkWidth, returnsAt, returnWidth}
 use Rattle.tables.specs.Records.{linkOf, returnOf}
-use Rattle.tables.specs.Layout.{rowAt, relayOf, bytesOf}
+use Rattle.tables.specs.Layout.{recordAt, relayOf, bytesOf}
 use Rattle.lookup.proofs.Found.{path-found, path-missing, link-found, link-missing, return-found, return-missing}
 use Rattle.update.specs.Written.{linkWritten, returnEmptied}
 use Rattle.update.proofs.Enacted.{return-written, link-written, link-renewed, return-emptied}
-use Rattle.outgoing.specs.Leaving.{Onward}
+use Rattle.outgoing.specs.Leaving.{CanLeave}
 use Rattle.plan.specs.declared.Arrived.{Arrived}
 use Rattle.plan.specs.declared.Decision.the-variants.{Data, Request, Carry, Receipt}
 use Rattle.plan.specs.Decided.{arrivalOf, decision}
 use Rattle.plan.proofs.KindLaws.{request-left}
-use Rattle.act.specs.Kept.{addressBy, returnPut}
-use Rattle.act.specs.Acted.{Accepted, seen, planOn, verdictOn, writtenOn, outputOn, CarriesOut, pathAt, forwardedOn}
+use Rattle.act.specs.Stored.{addressBy, returnPut}
+use Rattle.act.specs.Acted.{AcceptedOn, seen, planOn, verdictOn, writtenOn, outputOn, CarriesOut, pathAt, forwardedOn}
 use Rattle.rules.proofs.Passed.{passed}
 use Rattle.act.proofs.Inverted.{inverted, settled}
 
@@ -56,12 +56,12 @@ link-id-bytes p =
 
 -- the records at a place
 abbrev pub linkAt : List ℕ → ℕ → Link
-linkAt t i = linkOf (rowAt linksAt linkWidth t i)
+linkAt t i = linkOf (recordAt linksAt linkWidth t i)
 
 abbrev pub returnAt : List ℕ → ℕ → Return
-returnAt t i = returnOf (rowAt returnsAt returnWidth t i)
+returnAt t i = returnOf (recordAt returnsAt returnWidth t i)
 
-module _ (packet : List ℕ) (m : Arrived) (t : List ℕ) (ok : Accepted packet m t) where
+module _ (packet : List ℕ) (m : Arrived) (t : List ℕ) (ok : AcceptedOn packet m t) where
   abbrev a : Arrival
   a = arrivalOf packet m
 
@@ -71,7 +71,7 @@ module _ (packet : List ℕ) (m : Arrived) (t : List ℕ) (ok : Accepted packet 
   abbrev r : Relay
   r = relayOf t
 
-  pub onward : (w : Way) → planOn packet m t ≡ follows w → Onward packet
+  pub onward : (w : Way) → planOn packet m t ≡ follows w → CanLeave packet
   unfolding tooManyHops
   onward w e = record { readable = ok .readable; fewHops = leb-false _ _ (passed v a w e .1 .fewHops) }
 

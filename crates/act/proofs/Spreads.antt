@@ -37,14 +37,14 @@ use Rattle.lookup.proofs.Found.{path-found, path-missing}
 use Rattle.update.specs.declared.Announced.{Announced}
 use Rattle.update.specs.Written.{announced, pathWritten}
 use Rattle.update.proofs.Enacted.{Announces, new-path-written, known-path-written}
-use Rattle.outgoing.specs.Leaving.{Onward, spreadLength}
+use Rattle.outgoing.specs.Leaving.{CanLeave, spreadLength}
 use Rattle.outgoing.proofs.RuleLaws.{spread-exceeds}
 use Rattle.plan.specs.declared.Arrived.{Arrived}
 use Rattle.plan.specs.declared.Decision.the-variants.{Announce}
 use Rattle.plan.specs.Decided.{arrivalOf, decision}
 use Rattle.plan.proofs.KindLaws.{announce-long}
-use Rattle.act.specs.Kept.{blobsKept, pathPut}
-use Rattle.act.specs.Acted.{Accepted, seen, planOn, verdictOn, writtenOn, outputOn, CarriesOut, spreadOn, spreadVerdictOn, announcedBy}
+use Rattle.act.specs.Stored.{blobsStored, pathPut}
+use Rattle.act.specs.Acted.{AcceptedOn, seen, planOn, verdictOn, writtenOn, outputOn, CarriesOut, spreadOn, spreadVerdictOn, announcedBy}
 use Rattle.rules.proofs.Passed.{passed}
 use Rattle.act.proofs.Inverted.{inverted, settled}
 use Rattle.act.proofs.Forwards.{onward}
@@ -126,7 +126,7 @@ module _ (packet : List ℕ) (m : Arrived) (t output : List ℕ) where
           (ap₂ Spread those (q1 ∙ ap length same) ∙ sym (then-false _ _ goes), q2 ∙ ap (patch output 0) same)
 
 -- ---- all of it
-module _ (packet : List ℕ) (m : Arrived) (t : List ℕ) (ok : Accepted packet m t) (place : ℕ) (known : Bool)
+module _ (packet : List ℕ) (m : Arrived) (t : List ℕ) (ok : AcceptedOn packet m t) (place : ℕ) (known : Bool)
     (d : decision (relayOf t) (arrivalOf packet m) ≡ Announce place known) where
   abbrev a : Arrival
   a = arrivalOf packet m
@@ -137,7 +137,7 @@ module _ (packet : List ℕ) (m : Arrived) (t : List ℕ) (ok : Accepted packet 
   abbrev r : Relay
   r = relayOf t
 
-  pub announce-onward : Onward packet
+  pub announce-onward : CanLeave packet
   announce-onward = let k = inverted r a (Announce place known) d in onward packet m t ok (everywhere (k .0)) (k .1)
 
   pub announce-body : 84 ≤ length (payload packet)
@@ -174,7 +174,7 @@ module _ (packet : List ℕ) (m : Arrived) (t : List ℕ) (ok : Accepted packet 
 
     path-left : (s : Slot Path) → planOn packet m t ≡ follows (everywhere s) → place ≡ announcedPlace a s r → isThere s ≡ known → Bytes t
         → (u : List ℕ) → u ≡ pathPut t place known x blob → u ≡ bytesOf (writePlan v a (follows (everywhere s)) r)
-    unfolding announcedPlace isThere pathPut blobsKept viewAt writePlan
+    unfolding announcedPlace isThere pathPut blobsStored viewAt writePlan
     path-left empty e at there b u q =
         new-path-written v a t b (ok .formed) x blob set-by place announce-room u at
         (q ∙ ap (λ (y : Blobs). pathWritten t place (announced x y)) (then-false _ _ (sym there)))

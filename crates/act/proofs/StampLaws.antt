@@ -18,8 +18,8 @@ use Rattle.plan.specs.declared.Arrived.{Arrived}
 use Rattle.plan.specs.declared.Decision.{Decision}
 use Rattle.plan.specs.declared.Decision.the-variants.{Drop, Deliver, Announce, Data, Request, Carry, Receipt}
 use Rattle.plan.specs.Decided.{arrivalOf, decision}
-use Rattle.act.specs.Kept.{remembersDecided, stamped}
-use Rattle.act.specs.Acted.{Accepted, seen, planOn, tablesOn, writtenOn, rememberedOn}
+use Rattle.act.specs.Stored.{remembersDecided, stamped}
+use Rattle.act.specs.Acted.{AcceptedOn, seen, planOn, tablesOn, writtenOn, rememberedOn}
 use Rattle.act.proofs.Inverted.{inverted}
 
 module _ (packet : List ℕ) (m : Arrived) (t : List ℕ) where
@@ -43,7 +43,7 @@ module _ (packet : List ℕ) (m : Arrived) (t : List ℕ) where
   remembered-by (Receipt place port) e = ap (remembers v a) (sym (inverted r a (Receipt place port) e .1))
 
   -- u are the tables before the stamp
-  pub stamp-left : Accepted packet m t → Bytes t → (hash u : List ℕ) (place : ℕ) (remembered : Bool) → hash ≡ packetHash packet → u ≡ writtenOn packet m t
+  pub stamp-left : AcceptedOn packet m t → Bytes t → (hash u : List ℕ) (place : ℕ) (remembered : Bool) → hash ≡ packetHash packet → u ≡ writtenOn packet m t
       → place ≡ r .hashes .next → remembered ≡ rememberedOn packet m t → stamped u place remembered hash (m .clock) ≡ tablesOn packet m t
   unfolding tablesOn writtenOn rememberedOn enact stamp stamped
   stamp-left ok b hash u place remembered is e next kept =

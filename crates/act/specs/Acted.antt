@@ -17,7 +17,7 @@ use Rattle.rules.specs.Writes.{remembers, nextHopOf, pathExpiry, writePlan, ena
 use Rattle.rules.specs.declared.Verdict.{Verdict}
 use Rattle.tables.specs.Places.{pathsAt, pathWidth}
 use Rattle.tables.specs.Records.{pathOf}
-use Rattle.tables.specs.Layout.{rowAt, relayOf, bytesOf, wellFormed}
+use Rattle.tables.specs.Layout.{recordAt, relayOf, bytesOf, wellFormed}
 use Rattle.update.specs.declared.Announced.{Announced}
 use Rattle.plan.specs.declared.Arrived.{Arrived}
 use Rattle.plan.specs.Decided.{arrivalOf}
@@ -30,7 +30,7 @@ packetRefusalOn packet port clock t room =
     otherwise 7
 
 -- what a caller shows of an accepted packet
-pub record Accepted (packet : List ℕ) (m : Arrived) (t : List ℕ) : Type 0 where
+pub record AcceptedOn (packet : List ℕ) (m : Arrived) (t : List ℕ) : Type 0 where
   pub formed : wellFormed t ≡ true
   pub readable : reads longestPacket packet ≡ true
   pub port : m .port < portCount
@@ -73,7 +73,7 @@ Acts packet m t output verdict t′ output′ =
 -- ---- what leaves
 -- by the path at a place
 abbrev pub pathAt : List ℕ → ℕ → Path
-pathAt t place = pathOf (rowAt pathsAt pathWidth t place)
+pathAt t place = pathOf (recordAt pathsAt pathWidth t place)
 
 abbrev pub forwardedOn : List ℕ → List ℕ → ℕ → List ℕ
 forwardedOn packet t path = pathPacket (pathAt t path .hops) (pathAt t path .nextHop) packet

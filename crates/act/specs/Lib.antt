@@ -1,3 +1,3 @@
 -- What acting on a decision leaves.
-pub mod Kept
+pub mod Stored
 pub mod Acted

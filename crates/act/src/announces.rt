@@ -1,4 +1,4 @@
-// Accepted announces: spread or kept, and their path is set.
+// AcceptedOn announces: spread or kept, and their path is set.
 use numbers::ACCESS_POINT_LIFETIME;
 use numbers::BOUNDARY_LIFETIME;
 use numbers::PORT_COUNT;
@@ -23,11 +23,11 @@ ghost use Rattle.rules.specs.Judging.{leaves};
 ghost use Rattle.rules.specs.Writes.{nextHopOf};
 ghost use Rattle.tables.specs.Places.{tableSize};
 ghost use Rattle.tables.specs.Layout.{relayOf};
-ghost use Rattle.outgoing.specs.Leaving.{Onward};
+ghost use Rattle.outgoing.specs.Leaving.{CanLeave};
 ghost use Rattle.plan.specs.declared.Decision.the-variants.{Announce};
 ghost use Rattle.plan.specs.Decided.{arrivalOf, decision};
-ghost use Rattle.act.specs.Kept.{pathPut};
-ghost use Rattle.act.specs.Acted.{Accepted, seen, CarriesOut, spreadOn, spreadVerdictOn, announcedBy};
+ghost use Rattle.act.specs.Stored.{pathPut};
+ghost use Rattle.act.specs.Acted.{AcceptedOn, seen, CarriesOut, spreadOn, spreadVerdictOn, announcedBy};
 
 // The number of ports as a byte.
 const PORTS: u8 = PORT_COUNT as u8;
@@ -105,7 +105,7 @@ fn spread_ports(tables: &[u8], arrival: u8) -> u16
 
 // Spreads an announce, or keeps it: if no port is left, or the result exceeds 500, the output stays.
 fn spread(packet: &[u8], tables: &[u8], arrived: Arrived, output: &mut [u8]) -> Verdict
-    requires { ⌜ Onward (now packet) × (length (now tables) ≡ tableSize) × (longestPacket ≤ length (now output)) ⌝ }
+    requires { ⌜ CanLeave (now packet) × (length (now tables) ≡ tableSize) × (longestPacket ≤ length (now output)) ⌝ }
     ensures { λ r. ⌜ (r ≡ spreadVerdictOn (now (packet .entry)) arrived (now (tables .entry)))
         × (now (output .exit) ≡ (leaves r
         then patch (now (output .entry)) 0 (spreadOn (now (packet .entry)) (now (tables .entry)))
@@ -131,7 +131,7 @@ pub fn announce(
     tables: &mut [u8],
     output: &mut [u8],
 ) -> Verdict
-    requires { ⌜ Accepted (now packet) arrived (now tables) × (longestPacket ≤ length (now output))
+    requires { ⌜ AcceptedOn (now packet) arrived (now tables) × (longestPacket ≤ length (now output))
         × (decision (relayOf (now tables)) (arrivalOf (now packet) arrived) ≡ Announce place known) ⌝ }
     ensures { λ r. ⌜ CarriesOut (now (packet .entry)) arrived (now (tables .entry)) (now (output .entry))
         r (now (tables .exit)) (now (output .exit)) ⌝ }

@@ -31,7 +31,7 @@ ghost use Rattle.packet.specs.Read.{longestPacket};
 ghost use Rattle.packet.specs.Hash.{packetHash};
 ghost use Rattle.tables.specs.Layout.{relayOf};
 ghost use Rattle.plan.specs.Decided.{arrivalOf, decision as decisionOn};
-ghost use Rattle.act.specs.Acted.{Accepted, CarriesOut, Acts};
+ghost use Rattle.act.specs.Acted.{AcceptedOn, CarriesOut, Acts};
 
 // Carries out what was decided of an accepted packet: writes its record and what leaves, all but the stamp.
 fn carry_out(
@@ -42,7 +42,7 @@ fn carry_out(
     tables: &mut [u8],
     output: &mut [u8],
 ) -> Verdict
-    requires { ⌜ Accepted (now packet) arrived (now tables) × (longestPacket ≤ length (now output))
+    requires { ⌜ AcceptedOn (now packet) arrived (now tables) × (longestPacket ≤ length (now output))
         × (decision ≡ decisionOn (relayOf (now tables)) (arrivalOf (now packet) arrived))
         × (hash ≡ packetHash (now packet)) ⌝ }
     ensures { λ r. ⌜ CarriesOut (now (packet .entry)) arrived (now (tables .entry)) (now (output .entry))
@@ -77,7 +77,7 @@ pub fn act(
     tables: &mut [u8],
     output: &mut [u8],
 ) -> Verdict
-    requires { ⌜ Accepted (now packet) arrived (now tables) × (longestPacket ≤ length (now output))
+    requires { ⌜ AcceptedOn (now packet) arrived (now tables) × (longestPacket ≤ length (now output))
         × (decision ≡ decisionOn (relayOf (now tables)) (arrivalOf (now packet) arrived))
         × (hash ≡ packetHash (now packet)) ⌝ }
     ensures { λ r. ⌜ Acts (now (packet .entry)) arrived (now (tables .entry)) (now (output .entry))

@@ -20,8 +20,8 @@ ghost use Rattle.tables.specs.Places.{tableSize};
 ghost use Rattle.tables.specs.Layout.{relayOf};
 ghost use Rattle.plan.specs.declared.Decision.the-variants.{Carry};
 ghost use Rattle.plan.specs.Decided.{arrivalOf, decision};
-ghost use Rattle.act.specs.Kept.{addressBy};
-ghost use Rattle.act.specs.Acted.{Accepted, CarriesOut, pathAt};
+ghost use Rattle.act.specs.Stored.{addressBy};
+ghost use Rattle.act.specs.Acted.{AcceptedOn, CarriesOut, pathAt};
 
 // The address that two numbers write, half by half.
 pub fn address_of(high: u64, low: u64) -> [u8; 16]
@@ -92,7 +92,7 @@ pub fn carry(
     tables: &mut [u8],
     output: &mut [u8],
 ) -> Verdict
-    requires { ⌜ Accepted (now packet) arrived (now tables) × (longestPacket ≤ length (now output))
+    requires { ⌜ AcceptedOn (now packet) arrived (now tables) × (longestPacket ≤ length (now output))
         × (decision (relayOf (now tables)) (arrivalOf (now packet) arrived) ≡ Carry place port) ⌝ }
     ensures { λ r. ⌜ CarriesOut (now (packet .entry)) arrived (now (tables .entry)) (now (output .entry))
         r (now (tables .exit)) (now (output .exit)) ⌝ }

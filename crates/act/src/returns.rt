@@ -11,8 +11,8 @@ ghost use Rattle.numbers.specs.Numbers.{clockLimit};
 ghost use Rattle.tables.specs.Layout.{relayOf, wellFormed};
 ghost use Rattle.plan.specs.declared.Decision.the-variants.{Receipt};
 ghost use Rattle.plan.specs.Decided.{arrivalOf, decision};
-ghost use Rattle.act.specs.Kept.{returnPut};
-ghost use Rattle.act.specs.Acted.{Accepted, CarriesOut};
+ghost use Rattle.act.specs.Stored.{returnPut};
+ghost use Rattle.act.specs.Acted.{AcceptedOn, CarriesOut};
 
 // Puts a return record in the next ring place, its key the first 16 of the hash, and empties any other live one of that key.
 pub fn put_return(tables: &mut [u8], arrival: u8, leaving: u8, hash: [u8; 32], clock: u64)
@@ -41,7 +41,7 @@ pub fn receipt(
     tables: &mut [u8],
     output: &mut [u8],
 ) -> Verdict
-    requires { ⌜ Accepted (now packet) arrived (now tables) × (longestPacket ≤ length (now output))
+    requires { ⌜ AcceptedOn (now packet) arrived (now tables) × (longestPacket ≤ length (now output))
         × (decision (relayOf (now tables)) (arrivalOf (now packet) arrived) ≡ Receipt place port) ⌝ }
     ensures { λ r. ⌜ CarriesOut (now (packet .entry)) arrived (now (tables .entry)) (now (output .entry))
         r (now (tables .exit)) (now (output .exit)) ⌝ }

@@ -7,7 +7,7 @@ ghost use Prim.Native.Nat.{_<_};
 ghost use lib.ListN.{length};
 ghost use Rattle.numbers.specs.Numbers.{hashCount, clockLimit};
 ghost use Rattle.tables.specs.Places.{tableSize};
-ghost use Rattle.act.specs.Kept.{remembersDecided, stamped};
+ghost use Rattle.act.specs.Stored.{remembersDecided, stamped};
 
 // Whether the packet's hash is remembered.
 pub fn remembers(decision: Decision) -> bool

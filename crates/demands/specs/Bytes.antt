@@ -5,7 +5,7 @@ use Rattle.rules.specs.Run.{Call, packet, on-tables, Reply, answered, numbered}
 use Rattle.rules.specs.declared.Tally.{Tally}
 use Rattle.rules.specs.Calls.{settle}
 use Rattle.settings.specs.Calls.{Called, called}
-use Rattle.relay.specs.Promise.{Outcome, packetOn}
+use Rattle.relay.specs.Promise.{JudgementOn, packetOn}
 
 -- ---- any call
 pub record OutcomeOn : Type 0 where
@@ -13,7 +13,7 @@ pub record OutcomeOn : Type 0 where
   pub tables : List ℕ
   pub tally : Tally
 
-unfoldable pub ofPacket : Outcome → OutcomeOn
+unfoldable pub ofPacket : JudgementOn → OutcomeOn
 ofPacket o = record { reply = answered (o .answer) (o .output); tables = o .tables; tally = o .tally }
 
 unfoldable pub ofCalled : Tally → Called → OutcomeOn

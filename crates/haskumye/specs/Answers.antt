@@ -2,29 +2,29 @@
 use Prim.Native.Nat.{ℕ, _+_, _*_, _%_}
 use mathlib.Core.List.{List}
 use mathlib.Core.Path.{_≡_}
-use Rattle.rules.specs.Answers.{reasonNumber}
+use Rattle.rules.specs.Answers.{reasonNumber, verdictKind}
 use Rattle.rules.specs.declared.Verdict.{Verdict}
 use Rattle.rules.specs.declared.Verdict.the-variants.{Drop, Deliver, Forward, Spread, Kept}
 use Rattle.rules.specs.declared.Answer.{Answer}
 use Rattle.rules.specs.declared.Answer.the-variants.{Refused, Judged}
 use Rattle.rules.specs.declared.Tally.{Tally}
-use Rattle.relay.specs.Promise.{Outcome}
+use Rattle.relay.specs.Promise.{JudgementOn}
 
 -- the kind in bits 0 to 7, a refusal's or a reason's number in 8 to 15, a port or a port set in 16 to 31, the length in 32 to 47
 unfoldable pub fieldsNumber : ℕ → ℕ → ℕ → ℕ → ℕ
 fieldsNumber kind detail ports length = kind + detail * 256 + ports * 65536 + length % 65536 * 4294967296
 
 unfoldable pub verdictNumber : Verdict → ℕ
-verdictNumber (Drop reason) = fieldsNumber 1 (reasonNumber reason) 0 0
-verdictNumber Deliver = fieldsNumber 2 0 0 0
-verdictNumber (Forward port length) = fieldsNumber 3 0 port length
-verdictNumber (Spread ports length) = fieldsNumber 4 0 ports length
-verdictNumber Kept = fieldsNumber 5 0 0 0
+verdictNumber (Drop reason) = fieldsNumber (verdictKind (Drop reason)) (reasonNumber reason) 0 0
+verdictNumber Deliver = fieldsNumber (verdictKind Deliver) 0 0 0
+verdictNumber (Forward port length) = fieldsNumber (verdictKind (Forward port length)) 0 port length
+verdictNumber (Spread ports length) = fieldsNumber (verdictKind (Spread ports length)) 0 ports length
+verdictNumber Kept = fieldsNumber (verdictKind Kept) 0 0 0
 
 unfoldable pub answerNumber : Answer → ℕ
 answerNumber (Refused number) = fieldsNumber 0 number 0 0
 answerNumber (Judged verdict) = verdictNumber verdict
 
 -- what a host's packet call returned and left is this, with the answer as its number
-abbrev pub Answers : Outcome → ℕ → Tally → List ℕ → List ℕ → Type 0
+abbrev pub Answers : JudgementOn → ℕ → Tally → List ℕ → List ℕ → Type 0
 Answers o number tally tables output = (number ≡ answerNumber (o .answer)) × (tally ≡ o .tally) × (tables ≡ o .tables) × (output ≡ o .output)

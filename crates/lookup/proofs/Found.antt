@@ -14,7 +14,7 @@ use Rattle.rules.specs.View.{isLivePath, isLiveLink, isLiveReturn, isLocal, loc
 use Rattle.rules.specs.Refusals.{pathOk, linkOk, returnOk}
 use Rattle.tables.specs.Places.{pathsAt, pathWidth, linksAt, linkWidth, returnsAt, returnWidth}
 use Rattle.tables.specs.Records.{slotOf, pathOf, linkOf, returnOf, pathBytesOk, linkBytesOk, returnBytesOk}
-use Rattle.tables.specs.Layout.{rowAt, rows, rowsOk, relayOf, wellFormed}
+use Rattle.tables.specs.Layout.{recordAt, rows, recordsOk, relayOf, wellFormed}
 use Rattle.tables.proofs.Seen.{row-seen, rows-length}
 use Rattle.tables.proofs.Tests.{path-kept, link-kept, return-kept}
 use Rattle.tables.proofs.Whole.{formed}
@@ -31,15 +31,15 @@ module _ {A : Type 0} (test : A → Bool) (read : List ℕ → A) where
       go false q = q
 
   module _ (at width n : ℕ) (t : List ℕ) (i : ℕ) (e : i ≡ lowest test n (rows (slotOf read) at width n t)) where
-    found-marked : i < n → eqb (getD (rowAt at width t i) 0 0) 0 ≡ false
+    found-marked : i < n → eqb (getD (recordAt at width t i) 0 0) 0 ≡ false
     unfolding lowest
     found-marked l =
         let there : holds test (getD (rows (slotOf read) at width n t) i empty) ≡ true =
         subst (λ (k : ℕ). holds test (getD (rows (slotOf read) at width n t) k empty) ≡ true) (sym e)
         (first-holds (λ k. holds test (getD (rows (slotOf read) at width n t) k empty)) n (subst (λ (k : ℕ). k < n) e l)) in
-        marked (rowAt at width t i) (ap (holds test) (sym (row-seen (slotOf read) at width n t i empty l)) ∙ there)
+        marked (recordAt at width t i) (ap (holds test) (sym (row-seen (slotOf read) at width n t i empty l)) ∙ there)
 
-    found : i < n → getD (rows (slotOf read) at width n t) i empty ≡ used (read (rowAt at width t i))
+    found : i < n → getD (rows (slotOf read) at width n t) i empty ≡ used (read (recordAt at width t i))
     unfolding slotOf _then_otherwise_
     found l = row-seen (slotOf read) at width n t i empty l ∙ rw (found-marked l)
 
@@ -48,14 +48,14 @@ module _ {A : Type 0} (test : A → Bool) (read : List ℕ → A) where
 
     -- row 7's clauses on a used record
     found-ok : (ok : List ℕ → Bool) (rule : A → Bool) → ((b : List ℕ) → eqb (getD b 0 0) 0 ≡ false → ok b ≡ true → rule (read b) ≡ true)
-        → rowsOk ok at width n t ≡ true → i < n → rule (read (rowAt at width t i)) ≡ true
-    unfolding rowsOk
-    found-ok ok rule kept h l = kept (rowAt at width t i) (found-marked l) (all-at (λ k. ok (rowAt at width t k)) n i h l)
+        → recordsOk ok at width n t ≡ true → i < n → rule (read (recordAt at width t i)) ≡ true
+    unfolding recordsOk
+    found-ok ok rule kept h l = kept (recordAt at width t i) (found-marked l) (all-at (λ k. ok (recordAt at width t k)) n i h l)
 
 -- ---- paths, links and return records
 module _ (t : List ℕ) (clock : ℕ) where
   module _ (destination : List ℕ) (i : ℕ) (e : i ≡ pathPlace clock (relayOf t) destination) where
-    pub path-found : i < pathCount → viewAt clock (relayOf t) .path destination ≡ used (pathOf (rowAt pathsAt pathWidth t i))
+    pub path-found : i < pathCount → viewAt clock (relayOf t) .path destination ≡ used (pathOf (recordAt pathsAt pathWidth t i))
     unfolding viewAt pathPlace relayOf slotOf pathOf
     path-found l =
         ap (λ (k : ℕ). getD (relayOf t .paths) k empty) (sym e)
@@ -68,21 +68,21 @@ module _ (t : List ℕ) (clock : ℕ) where
         ∙ missing (isLivePath clock destination) pathOf pathsAt pathWidth pathCount t i e l
 
     module _ (h : wellFormed t ≡ true) (l : i < pathCount) where
-      path-ok : pathOk (pathOf (rowAt pathsAt pathWidth t i)) ≡ true
+      path-ok : pathOk (pathOf (recordAt pathsAt pathWidth t i)) ≡ true
       unfolding pathPlace relayOf slotOf pathOf
       path-ok =
           found-ok (isLivePath clock destination) pathOf pathsAt pathWidth pathCount t i e pathBytesOk pathOk path-kept (formed t h .paths) l
 
-      pub path-port-ok : pathOf (rowAt pathsAt pathWidth t i) .port < portCount
+      pub path-port-ok : pathOf (recordAt pathsAt pathWidth t i) .port < portCount
       unfolding pathOk
       path-port-ok = ltb-true _ _ (and-left _ _ path-ok)
 
-      pub path-blobs-ok : pathOf (rowAt pathsAt pathWidth t i) .blobs .count ≤ blobLimit
+      pub path-blobs-ok : pathOf (recordAt pathsAt pathWidth t i) .blobs .count ≤ blobLimit
       unfolding pathOk
       path-blobs-ok = leb-true _ _ (and-left _ _ (and-right _ _ (and-right _ _ (and-right _ _ path-ok))))
 
   module _ (id : List ℕ) (i : ℕ) (e : i ≡ linkPlace clock (relayOf t) id) where
-    pub link-found : i < linkCount → viewAt clock (relayOf t) .link id ≡ used (linkOf (rowAt linksAt linkWidth t i))
+    pub link-found : i < linkCount → viewAt clock (relayOf t) .link id ≡ used (linkOf (recordAt linksAt linkWidth t i))
     unfolding viewAt linkPlace relayOf slotOf linkOf
     link-found l =
         ap (λ (k : ℕ). getD (relayOf t .links) k empty) (sym e)
@@ -95,21 +95,21 @@ module _ (t : List ℕ) (clock : ℕ) where
         ∙ missing (isLiveLink clock id) linkOf linksAt linkWidth linkCount t i e l
 
     module _ (h : wellFormed t ≡ true) (l : i < linkCount) where
-      link-ok : linkOk (linkOf (rowAt linksAt linkWidth t i)) ≡ true
+      link-ok : linkOk (linkOf (recordAt linksAt linkWidth t i)) ≡ true
       unfolding linkPlace relayOf slotOf linkOf
       link-ok =
           found-ok (isLiveLink clock id) linkOf linksAt linkWidth linkCount t i e linkBytesOk linkOk link-kept (formed t h .links) l
 
-      pub link-asking-ok : linkOf (rowAt linksAt linkWidth t i) .asking < portCount
+      pub link-asking-ok : linkOf (recordAt linksAt linkWidth t i) .asking < portCount
       unfolding linkOk
       link-asking-ok = ltb-true _ _ (and-left _ _ link-ok)
 
-      pub link-answering-ok : linkOf (rowAt linksAt linkWidth t i) .answering < portCount
+      pub link-answering-ok : linkOf (recordAt linksAt linkWidth t i) .answering < portCount
       unfolding linkOk
       link-answering-ok = ltb-true _ _ (and-left _ _ (and-right _ _ link-ok))
 
   module _ (key : List ℕ) (i : ℕ) (e : i ≡ returnPlace clock (relayOf t) key) where
-    pub return-found : i < returnCount → viewAt clock (relayOf t) .return key ≡ used (returnOf (rowAt returnsAt returnWidth t i))
+    pub return-found : i < returnCount → viewAt clock (relayOf t) .return key ≡ used (returnOf (recordAt returnsAt returnWidth t i))
     unfolding viewAt returnPlace relayOf slotOf returnOf
     return-found l =
         ap (λ (k : ℕ). getD (relayOf t .returns .slots) k empty) (sym e)
@@ -122,16 +122,16 @@ module _ (t : List ℕ) (clock : ℕ) where
         ∙ missing (isLiveReturn clock key) returnOf returnsAt returnWidth returnCount t i e l
 
     module _ (h : wellFormed t ≡ true) (l : i < returnCount) where
-      return-ok : returnOk (returnOf (rowAt returnsAt returnWidth t i)) ≡ true
+      return-ok : returnOk (returnOf (recordAt returnsAt returnWidth t i)) ≡ true
       unfolding returnPlace relayOf slotOf returnOf
       return-ok =
           found-ok (isLiveReturn clock key) returnOf returnsAt returnWidth returnCount t i e returnBytesOk returnOk return-kept (formed t h .returns) l
 
-      pub return-arrival-ok : returnOf (rowAt returnsAt returnWidth t i) .arrival < portCount
+      pub return-arrival-ok : returnOf (recordAt returnsAt returnWidth t i) .arrival < portCount
       unfolding returnOk
       return-arrival-ok = ltb-true _ _ (and-left _ _ return-ok)
 
-      pub return-leaving-ok : returnOf (rowAt returnsAt returnWidth t i) .leaving < portCount
+      pub return-leaving-ok : returnOf (recordAt returnsAt returnWidth t i) .leaving < portCount
       unfolding returnOk
       return-leaving-ok = ltb-true _ _ (and-left _ _ (and-right _ _ return-ok))
 

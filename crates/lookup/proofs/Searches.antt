@@ -14,7 +14,7 @@ use Rattle.numbers.specs.Numbers.{live}
 use Rattle.rules.specs.Relay.{holds, free, lowest, lowestFree}
 use Rattle.tables.specs.Places.{timeWidth}
 use Rattle.tables.specs.Records.{slotOf}
-use Rattle.tables.specs.Layout.{rowAt, rows}
+use Rattle.tables.specs.Layout.{recordAt, rows}
 use Rattle.tables.proofs.Seen.{lowest-seen, free-seen}
 use Rattle.lookup.specs.Search.{isUsed, hasKey, isLiveOf, lowestRow}
 
@@ -22,29 +22,29 @@ use Rattle.lookup.specs.Search.{isUsed, hasKey, isLiveOf, lowestRow}
 module _ (test : List ℕ → Bool) (at width : ℕ) (t : List ℕ) where
   pub none-yet : lowestRow test at width 0 t ≡ 0
   unfolding lowestRow
-  none-yet = first-none (λ k. test (rowAt at width t k))
+  none-yet = first-none (λ k. test (recordAt at width t k))
 
   -- the bytes b of record i, and what the test says of them
-  module _ (i : ℕ) {b : List ℕ} {r : Bool} (row : b ≡ rowAt at width t i) (e : r ≡ test b) where
-    seen : test (rowAt at width t i) ≡ r
+  module _ (i : ℕ) {b : List ℕ} {r : Bool} (row : b ≡ recordAt at width t i) (e : r ≡ test b) where
+    seen : test (recordAt at width t i) ≡ r
     seen = sym (e ∙ ap test row)
 
     pub not-here : r ≡ false → lowestRow test at width i t ≡ i → lowestRow test at width (i + 1) t ≡ i + 1
     unfolding lowestRow
-    not-here q h = first-more (λ k. test (rowAt at width t k)) i h (seen ∙ q)
+    not-here q h = first-more (λ k. test (recordAt at width t k)) i h (seen ∙ q)
 
     pub found-here : (n : ℕ) → i < n → r ≡ true → lowestRow test at width i t ≡ i → i ≡ lowestRow test at width n t
     unfolding lowestRow
-    found-here n l q h = sym (first-hit (λ k. test (rowAt at width t k)) i n h (seen ∙ q) l)
+    found-here n l q h = sym (first-hit (λ k. test (recordAt at width t k)) i n h (seen ∙ q) l)
 
   pub nowhere : {i n : ℕ} → i ≤ n → n ≤ i → lowestRow test at width i t ≡ i → n ≡ lowestRow test at width n t
   unfolding lowestRow
-  nowhere l m h = sym (first-ended (λ k. test (rowAt at width t k)) l m h)
+  nowhere l m h = sym (first-ended (λ k. test (recordAt at width t k)) l m h)
 
 pub lowest-cong : (p q : List ℕ → Bool) (at width n : ℕ) (t : List ℕ) → ((b : List ℕ) → p b ≡ q b)
     → lowestRow p at width n t ≡ lowestRow q at width n t
 unfolding lowestRow
-lowest-cong p q at width n t each = first-cong _ _ n (λ i l. each (rowAt at width t i))
+lowest-cong p q at width n t each = first-cong _ _ n (λ i l. each (recordAt at width t i))
 
 -- ---- the rules' searches
 module _ {A : Type 0} (test : A → Bool) (read : List ℕ → A) where
@@ -59,11 +59,11 @@ module _ {A : Type 0} (test : A → Bool) (read : List ℕ → A) where
   module _ (at width n : ℕ) (t : List ℕ) where
     pub lowest-used : lowest test n (rows (slotOf read) at width n t) ≡ lowestRow (λ b. isUsed b and test (read b)) at width n t
     unfolding lowestRow
-    lowest-used = lowest-seen (slotOf read) at width n t test ∙ first-cong _ _ n (λ i l. slot-holds (rowAt at width t i))
+    lowest-used = lowest-seen (slotOf read) at width n t test ∙ first-cong _ _ n (λ i l. slot-holds (recordAt at width t i))
 
     pub lowest-free : lowestFree test n (rows (slotOf read) at width n t) ≡ lowestRow (λ b. not (isUsed b and test (read b))) at width n t
     unfolding lowestRow free
-    lowest-free = free-seen (slotOf read) at width n t test ∙ first-cong _ _ n (λ i l. ap not (slot-holds (rowAt at width t i)))
+    lowest-free = free-seen (slotOf read) at width n t test ∙ first-cong _ _ n (λ i l. ap not (slot-holds (recordAt at width t i)))
 
     -- a record whose key of k bytes stands behind its mark, and whose expiry stands at e
     pub lowest-live : (k : ℕ) (key : List ℕ) (e clock : ℕ) → length key ≡ k

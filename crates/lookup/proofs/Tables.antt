@@ -18,18 +18,18 @@ use Rattle.rules.specs.Refusals.{emptyLocal}
 use Rattle.tables.specs.Places.{addressWidth, digestWidth, portsAt, portWidth, localsAt, localWidth, pathsAt, pathWidth, linksAt, linkWidth, returnsAt, returnWidth, hashesAt, hashWidth}
 use Rattle.tables.specs.Fields.{pathExpiryAt, linkExpiryAt, returnExpiryAt, hashExpiryAt}
 use Rattle.tables.specs.Records.{slotOf, portOf, localOf, pathOf, linkOf, returnOf, hashOf}
-use Rattle.tables.specs.Layout.{rowAt, relayOf}
+use Rattle.tables.specs.Layout.{recordAt, relayOf}
 use Rattle.tables.proofs.Seen.{port-seen}
 use Rattle.lookup.specs.Search.{isUsed, hasKey, isLive, isLiveOf, lowestRow}
 use Rattle.lookup.proofs.Searches.{lowest-used, lowest-free, lowest-live, lowest-cong}
 
 module _ (t : List ℕ) where
   -- ---- ports
-  pub on-seen : (port : ℕ) → port < portCount → portOn (relayOf t) port ≡ eqb (getD (rowAt portsAt portWidth t port) 0 0) 1
+  pub on-seen : (port : ℕ) → port < portCount → portOn (relayOf t) port ≡ eqb (getD (recordAt portsAt portWidth t port) 0 0) 1
   unfolding portOn portOf
   on-seen port l = and-yes _ (lt-ltb port portCount l) ∙ ap (λ (p : Port). p .on) (port-seen t port l)
 
-  pub mode-seen : (port : ℕ) → port < portCount → portMode (relayOf t) port ≡ getD (rowAt portsAt portWidth t port) 1 0
+  pub mode-seen : (port : ℕ) → port < portCount → portMode (relayOf t) port ≡ getD (recordAt portsAt portWidth t port) 1 0
   unfolding portMode portOf
   mode-seen port l = ap (λ (p : Port). p .mode) (port-seen t port l)
 

@@ -11,7 +11,7 @@ use Rattle.octets.specs.Part.{part}
 use Rattle.octets.specs.BigEndian.{number}
 use Rattle.numbers.specs.Numbers.{live}
 use Rattle.tables.specs.Places.{timeWidth}
-use Rattle.tables.specs.Layout.{rowAt}
+use Rattle.tables.specs.Layout.{recordAt}
 
 -- the record b is used
 unfoldable pub isUsed : List ℕ → Bool
@@ -31,4 +31,4 @@ isLiveOf key expiryAt clock b = hasKey key b and live clock (number (part b expi
 
 -- the lowest of n records, each `width` wide, from `at` on, that passes the test, or n
 unfoldable pub lowestRow : (List ℕ → Bool) → ℕ → ℕ → ℕ → List ℕ → ℕ
-lowestRow test at width n t = first (λ i. test (rowAt at width t i)) n
+lowestRow test at width n t = first (λ i. test (recordAt at width t i)) n

@@ -22,7 +22,7 @@ ghost use Rattle.numbers.specs.Numbers.{linkCount};
 ghost use Rattle.rules.specs.View.{linkPlace, freeLink};
 ghost use Rattle.tables.specs.Places.{tableSize, linksAt, linkWidth};
 ghost use Rattle.tables.specs.Records.{linkOf};
-ghost use Rattle.tables.specs.Layout.{rowAt, relayOf};
+ghost use Rattle.tables.specs.Layout.{recordAt, relayOf};
 
 // The lowest live link of an id, or 64.
 pub fn link_place(tables: &[u8], id: [u8; 16], clock: u64) -> usize
@@ -75,7 +75,7 @@ fn link_of(b: &[u8]) -> Link
 // The link at a place.
 pub fn link_at(tables: &[u8], place: usize) -> Link
     requires { ⌜ (length (now tables) ≡ tableSize) × (place < linkCount) ⌝ }
-    ensures { λ r. ⌜ r ≡ linkOf (rowAt linksAt linkWidth (now (tables .entry)) place) ⌝ }
+    ensures { λ r. ⌜ r ≡ linkOf (recordAt linksAt linkWidth (now (tables .entry)) place) ⌝ }
 {
     link_of(record_at(tables, LINKS_AT, LINK_WIDTH, place))
 }

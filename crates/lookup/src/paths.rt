@@ -19,7 +19,7 @@ ghost use Rattle.rules.specs.View.{pathPlace, freePath};
 ghost use Rattle.rules.specs.Blobs.{held, isAmong, greatestEmission};
 ghost use Rattle.tables.specs.Places.{tableSize, pathsAt, pathWidth};
 ghost use Rattle.tables.specs.Records.{pathOf};
-ghost use Rattle.tables.specs.Layout.{rowAt, relayOf};
+ghost use Rattle.tables.specs.Layout.{recordAt, relayOf};
 
 // The lowest live path to a destination, or 64.
 pub fn path_place(tables: &[u8], destination: [u8; 16], clock: u64) -> usize
@@ -56,7 +56,7 @@ pub fn free_path(tables: &[u8], clock: u64) -> usize
 
 pub fn path_port(tables: &[u8], place: usize) -> u8
     requires { ⌜ (length (now tables) ≡ tableSize) × (place < pathCount) ⌝ }
-    ensures { λ r. ⌜ r ≡ pathOf (rowAt pathsAt pathWidth (now (tables .entry)) place) .port ⌝ }
+    ensures { λ r. ⌜ r ≡ pathOf (recordAt pathsAt pathWidth (now (tables .entry)) place) .port ⌝ }
 {
     let b = record_at(tables, PATHS_AT, PATH_WIDTH, place);
     b[PATH_PORT_AT]
@@ -64,7 +64,7 @@ pub fn path_port(tables: &[u8], place: usize) -> u8
 
 pub fn path_hops(tables: &[u8], place: usize) -> u8
     requires { ⌜ (length (now tables) ≡ tableSize) × (place < pathCount) ⌝ }
-    ensures { λ r. ⌜ r ≡ pathOf (rowAt pathsAt pathWidth (now (tables .entry)) place) .hops ⌝ }
+    ensures { λ r. ⌜ r ≡ pathOf (recordAt pathsAt pathWidth (now (tables .entry)) place) .hops ⌝ }
 {
     let b = record_at(tables, PATHS_AT, PATH_WIDTH, place);
     b[PATH_HOPS_AT]
@@ -72,7 +72,7 @@ pub fn path_hops(tables: &[u8], place: usize) -> u8
 
 pub fn path_next_hop(tables: &[u8], place: usize) -> [u8; 16]
     requires { ⌜ (length (now tables) ≡ tableSize) × (place < pathCount) ⌝ }
-    ensures { λ r. ⌜ r ≡ pathOf (rowAt pathsAt pathWidth (now (tables .entry)) place) .nextHop ⌝ }
+    ensures { λ r. ⌜ r ≡ pathOf (recordAt pathsAt pathWidth (now (tables .entry)) place) .nextHop ⌝ }
 {
     octets::address_at(
         record_at(tables, PATHS_AT, PATH_WIDTH, place),
@@ -82,16 +82,16 @@ pub fn path_next_hop(tables: &[u8], place: usize) -> [u8; 16]
 
 // Whether the path holds the blob.
 pub fn holds_blob(tables: &[u8], place: usize, blob: [u8; 10]) -> bool
-    requires { ⌜ (length (now tables) ≡ tableSize) × (place < pathCount) × (pathOf (rowAt pathsAt pathWidth (now tables) place) .blobs .count ≤ blobLimit) ⌝ }
-    ensures { λ r. ⌜ r ≡ isAmong blob (held (pathOf (rowAt pathsAt pathWidth (now (tables .entry)) place) .blobs)) ⌝ }
+    requires { ⌜ (length (now tables) ≡ tableSize) × (place < pathCount) × (pathOf (recordAt pathsAt pathWidth (now tables) place) .blobs .count ≤ blobLimit) ⌝ }
+    ensures { λ r. ⌜ r ≡ isAmong blob (held (pathOf (recordAt pathsAt pathWidth (now (tables .entry)) place) .blobs)) ⌝ }
 {
     has_blob(record_at(tables, PATHS_AT, PATH_WIDTH, place), &blob)
 }
 
 // The greatest emission among the path's blobs.
 pub fn greatest_emission(tables: &[u8], place: usize) -> u64
-    requires { ⌜ (length (now tables) ≡ tableSize) × (place < pathCount) × (pathOf (rowAt pathsAt pathWidth (now tables) place) .blobs .count ≤ blobLimit) ⌝ }
-    ensures { λ r. ⌜ r ≡ greatestEmission (held (pathOf (rowAt pathsAt pathWidth (now (tables .entry)) place) .blobs)) ⌝ }
+    requires { ⌜ (length (now tables) ≡ tableSize) × (place < pathCount) × (pathOf (recordAt pathsAt pathWidth (now tables) place) .blobs .count ≤ blobLimit) ⌝ }
+    ensures { λ r. ⌜ r ≡ greatestEmission (held (pathOf (recordAt pathsAt pathWidth (now (tables .entry)) place) .blobs)) ⌝ }
 {
     greatest_of(record_at(tables, PATHS_AT, PATH_WIDTH, place))
 }

@@ -14,7 +14,7 @@ ghost use Rattle.numbers.specs.Numbers.{returnCount};
 ghost use Rattle.rules.specs.View.{returnPlace};
 ghost use Rattle.tables.specs.Places.{tableSize, returnsAt, returnWidth};
 ghost use Rattle.tables.specs.Records.{returnOf};
-ghost use Rattle.tables.specs.Layout.{rowAt, relayOf};
+ghost use Rattle.tables.specs.Layout.{recordAt, relayOf};
 
 // The lowest live return record of a key, or 512.
 pub fn return_place(tables: &[u8], key: [u8; 16], clock: u64) -> usize
@@ -36,7 +36,7 @@ pub fn return_place(tables: &[u8], key: [u8; 16], clock: u64) -> usize
 
 pub fn return_arrival(tables: &[u8], place: usize) -> u8
     requires { ⌜ (length (now tables) ≡ tableSize) × (place < returnCount) ⌝ }
-    ensures { λ r. ⌜ r ≡ returnOf (rowAt returnsAt returnWidth (now (tables .entry)) place) .arrival ⌝ }
+    ensures { λ r. ⌜ r ≡ returnOf (recordAt returnsAt returnWidth (now (tables .entry)) place) .arrival ⌝ }
 {
     let b = record_at(tables, RETURNS_AT, RETURN_WIDTH, place);
     b[RETURN_ARRIVAL_AT]
@@ -44,7 +44,7 @@ pub fn return_arrival(tables: &[u8], place: usize) -> u8
 
 pub fn return_leaving(tables: &[u8], place: usize) -> u8
     requires { ⌜ (length (now tables) ≡ tableSize) × (place < returnCount) ⌝ }
-    ensures { λ r. ⌜ r ≡ returnOf (rowAt returnsAt returnWidth (now (tables .entry)) place) .leaving ⌝ }
+    ensures { λ r. ⌜ r ≡ returnOf (recordAt returnsAt returnWidth (now (tables .entry)) place) .leaving ⌝ }
 {
     let b = record_at(tables, RETURNS_AT, RETURN_WIDTH, place);
     b[RETURN_LEAVING_AT]

@@ -4,13 +4,13 @@ ghost use mathlib.Core.Bool.{not};
 ghost use Prim.Native.Nat.{_+_, _*_, _≤_};
 ghost use lib.ListN.{length};
 ghost use Rattle.tables.specs.Places.{timeWidth};
-ghost use Rattle.tables.specs.Layout.{rowAt};
+ghost use Rattle.tables.specs.Layout.{recordAt};
 ghost use Rattle.lookup.specs.Search.{hasKey, isLive, isLiveOf, lowestRow};
 
 // The bytes of the record at a place.
 pub fn record_at(tables: &[u8], at: usize, width: usize, place: usize) -> &[u8]
     requires { ⌜ at + width * place + width ≤ length (now tables) ⌝ }
-    ensures { λ r. ⌜ (now r ≡ rowAt at width (now (tables .entry)) place) × (length (now r) ≡ width) ⌝ }
+    ensures { λ r. ⌜ (now r ≡ recordAt at width (now (tables .entry)) place) × (length (now r) ≡ width) ⌝ }
 {
     let start = at + width * place;
     &tables[start..start + width]

@@ -9,7 +9,7 @@ use Rattle.packet.specs.Read.{partsOf, payload, longestPacket, reads}
 use Rattle.packet.specs.declared.Parts.{Parts}
 
 -- a packet that can leave: it reads, and its hops can be raised
-pub record Onward (p : List ℕ) : Type 0 where
+pub record CanLeave (p : List ℕ) : Type 0 where
   pub readable : reads longestPacket p ≡ true
   pub fewHops : partsOf p .hops < 128
 

@@ -6,7 +6,7 @@ ghost use lib.ListN.{length};
 ghost use Rattle.octets.specs.Part.{patch};
 ghost use Rattle.packet.specs.Read.{longestPacket, payloadStart, payload as payloadOf};
 ghost use Rattle.rules.specs.Outgoing.{spreadHeader, rewritten, spreadPacket, pathPacket, carriedPacket};
-ghost use Rattle.outgoing.specs.Leaving.{Onward, rewrittenParts, spreadLength};
+ghost use Rattle.outgoing.specs.Leaving.{CanLeave, rewrittenParts, spreadLength};
 
 // The header of a spread announce: bits 6 and 4 set, bit 5 and the low four as received.
 pub fn spread_header(header: u8) -> u8
@@ -17,7 +17,7 @@ pub fn spread_header(header: u8) -> u8
 
 // The parts of a packet under another header and relay address, hops + 1.
 fn rewritten_parts(packet: &[u8], header: u8, relay: [u8; 16]) -> Parts
-    requires { ⌜ Onward (now packet) ⌝ }
+    requires { ⌜ CanLeave (now packet) ⌝ }
     ensures { λ r. ⌜ r ≡ rewrittenParts header relay (now (packet .entry)) ⌝ }
 {
     let parts = packet::parts_of(packet);
@@ -33,7 +33,7 @@ fn rewritten_parts(packet: &[u8], header: u8, relay: [u8; 16]) -> Parts
 
 // Writes a packet under another header and relay address, hops + 1, and says how long it is.
 fn rewrite(packet: &[u8], header: u8, relay: [u8; 16], output: &mut [u8]) -> usize
-    requires { ⌜ Onward (now packet)
+    requires { ⌜ CanLeave (now packet)
         × (payloadStart header + length (payloadOf (now packet)) ≤ length (now output)) ⌝ }
     ensures { λ r. ⌜ (r ≡ length (rewritten header relay (now (packet .entry))))
         × (now (output .exit) ≡ patch (now (output .entry)) 0 (rewritten header relay (now (packet .entry)))) ⌝ }
@@ -53,7 +53,7 @@ pub fn spread_length(packet: &[u8]) -> usize
 
 // Spreads an announce: the head, which is a packet without payload, and behind it, from byte 35 on, the payload.
 pub fn spread(packet: &[u8], own: [u8; 16], output: &mut [u8]) -> usize
-    requires { ⌜ Onward (now packet) × (spreadLength (now packet) ≤ length (now output)) ⌝ }
+    requires { ⌜ CanLeave (now packet) × (spreadLength (now packet) ≤ length (now output)) ⌝ }
     ensures { λ r. ⌜ (r ≡ length (spreadPacket own (now (packet .entry))))
         × (now (output .exit) ≡ patch (now (output .entry)) 0 (spreadPacket own (now (packet .entry)))) ⌝ }
 {
@@ -72,7 +72,7 @@ pub fn forward_by_path(
     next_hop: [u8; 16],
     output: &mut [u8],
 ) -> usize
-    requires { ⌜ Onward (now packet) × (longestPacket ≤ length (now output)) ⌝ }
+    requires { ⌜ CanLeave (now packet) × (longestPacket ≤ length (now output)) ⌝ }
     ensures { λ r. ⌜ (r ≡ length (pathPacket «stored_hops» «next_hop» (now (packet .entry))))
         × (now (output .exit)
         ≡ patch (now (output .entry)) 0 (pathPacket «stored_hops» «next_hop» (now (packet .entry)))) ⌝ }
@@ -86,7 +86,7 @@ pub fn forward_by_path(
 
 // Forwards a link packet or a proof: hops + 1 and otherwise unchanged.
 pub fn carry(packet: &[u8], output: &mut [u8]) -> usize
-    requires { ⌜ Onward (now packet) × (longestPacket ≤ length (now output)) ⌝ }
+    requires { ⌜ CanLeave (now packet) × (longestPacket ≤ length (now output)) ⌝ }
     ensures { λ r. ⌜ (r ≡ length (carriedPacket (now (packet .entry))))
         × (now (output .exit) ≡ patch (now (output .entry)) 0 (carriedPacket (now (packet .entry)))) ⌝ }
 {

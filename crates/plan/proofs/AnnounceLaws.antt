@@ -28,7 +28,7 @@ use Rattle.numbers.specs.Numbers.{pathCount}
 use Rattle.rules.specs.Blobs.{held, isAmong, greatestEmission}
 use Rattle.tables.specs.Places.{pathsAt, pathWidth}
 use Rattle.tables.specs.Records.{pathOf}
-use Rattle.tables.specs.Layout.{rowAt, relayOf}
+use Rattle.tables.specs.Layout.{recordAt, relayOf}
 use Rattle.lookup.proofs.Found.{path-found, path-missing}
 use Rattle.plan.specs.Decided.{decidedWay, decided, onward}
 use Rattle.plan.specs.Kinds.{newPath, knownPath}
@@ -82,10 +82,10 @@ module _ (a : Arrival) (is : isAnnounce (header a) ≡ true) where
 -- ---- on tables, where the search for the path gave place i
 module _ (t : List ℕ) (a : Arrival) (is : isAnnounce (header a) ≡ true) (signed : a .signed ≡ true)
     {i : ℕ} (e : i ≡ pathPlace (a .clock) (relayOf t) (destination a)) where
-  pub announce-at : i < pathCount → knownPath a (pathOf (rowAt pathsAt pathWidth t i)) i ≡ onward (relayOf t) a
+  pub announce-at : i < pathCount → knownPath a (pathOf (recordAt pathsAt pathWidth t i)) i ≡ onward (relayOf t) a
   announce-at l =
-      ap (knownPath a (pathOf (rowAt pathsAt pathWidth t i))) e
-      ∙ announce-known a is (relayOf t) signed (pathOf (rowAt pathsAt pathWidth t i)) (path-found t (a .clock) (destination a) i e l)
+      ap (knownPath a (pathOf (recordAt pathsAt pathWidth t i))) e
+      ∙ announce-known a is (relayOf t) signed (pathOf (recordAt pathsAt pathWidth t i)) (path-found t (a .clock) (destination a) i e l)
 
   pub announce-nowhere : pathCount ≤ i → newPath (a .clock) (relayOf t) ≡ onward (relayOf t) a
   announce-nowhere l = announce-new a is (relayOf t) signed (path-missing t (a .clock) (destination a) i e l)

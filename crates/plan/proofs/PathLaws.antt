@@ -26,7 +26,7 @@ use Rattle.rules.specs.declared.Reason.the-variants.{NoWayOn, AlreadyKnown, Por
 use Rattle.tables.specs.Places.{addressWidth, pathsAt, pathWidth, tableSize}
 use Rattle.tables.specs.Fields.{pathNextHopAt}
 use Rattle.tables.specs.Records.{pathOf}
-use Rattle.tables.specs.Layout.{rowAt, relayOf}
+use Rattle.tables.specs.Layout.{recordAt, relayOf}
 use Rattle.lookup.proofs.Found.{path-found, path-missing, link-found, link-missing}
 use Rattle.outgoing.proofs.RuleLaws.{never-grown}
 use Rattle.plan.specs.Decided.{highOf, lowOf, decidedWay, decided, onward}
@@ -90,11 +90,11 @@ module _ (a : Arrival) (announce : isAnnounce (header a) ≡ false) (link : ofKi
         path-request other = sym (path-onward ∙ rw (request-left (header a) other announce proof, other))
 
 -- ---- on tables, where the search for the path gave place i
-next-hop-wide : (t : List ℕ) (i : ℕ) → length t ≡ tableSize → i < pathCount → length (pathOf (rowAt pathsAt pathWidth t i) .nextHop) ≡ 16
+next-hop-wide : (t : List ℕ) (i : ℕ) → length t ≡ tableSize → i < pathCount → length (pathOf (recordAt pathsAt pathWidth t i) .nextHop) ≡ 16
 unfolding pathOf
 next-hop-wide t i size l =
-    let row : length (rowAt pathsAt pathWidth t i) ≡ pathWidth = part-length t (pathsAt + pathWidth * i) pathWidth (omega (arith, size, l)) in
-    part-length (rowAt pathsAt pathWidth t i) pathNextHopAt addressWidth (omega (arith, row))
+    let row : length (recordAt pathsAt pathWidth t i) ≡ pathWidth = part-length t (pathsAt + pathWidth * i) pathWidth (omega (arith, size, l)) in
+    part-length (recordAt pathsAt pathWidth t i) pathNextHopAt addressWidth (omega (arith, row))
 
 module _ (t : List ℕ) (a : Arrival) (announce : isAnnounce (header a) ≡ false) (link : ofKindLink (header a) ≡ false)
     (proof : isProof (header a) ≡ false) (two : typeTwo (header a) ≡ true)
@@ -103,15 +103,15 @@ module _ (t : List ℕ) (a : Arrival) (announce : isAnnounce (header a) ≡ fals
   path-nowhere l = path-none a announce link proof (relayOf t) two (path-missing t (a .clock) (destination a) i e l)
 
   module _ (readable : reads longestPacket (a .bytes) ≡ true) (size : length t ≡ tableSize) (l : i < pathCount) where
-    pub data-at : isData (header a) ≡ true → sending (relayOf t) (pathOf (rowAt pathsAt pathWidth t i)) i ≡ onward (relayOf t) a
+    pub data-at : isData (header a) ≡ true → sending (relayOf t) (pathOf (recordAt pathsAt pathWidth t i)) i ≡ onward (relayOf t) a
     data-at is =
-        ap (sending (relayOf t) (pathOf (rowAt pathsAt pathWidth t i))) e
-        ∙ path-data a announce link proof (relayOf t) two readable (pathOf (rowAt pathsAt pathWidth t i)) (next-hop-wide t i size l) (path-found t (a .clock) (destination a) i e l) is
+        ap (sending (relayOf t) (pathOf (recordAt pathsAt pathWidth t i))) e
+        ∙ path-data a announce link proof (relayOf t) two readable (pathOf (recordAt pathsAt pathWidth t i)) (next-hop-wide t i size l) (path-found t (a .clock) (destination a) i e l) is
 
-    pub request-at : isData (header a) ≡ false → requesting (relayOf t) a (pathOf (rowAt pathsAt pathWidth t i)) i ≡ onward (relayOf t) a
+    pub request-at : isData (header a) ≡ false → requesting (relayOf t) a (pathOf (recordAt pathsAt pathWidth t i)) i ≡ onward (relayOf t) a
     request-at other =
-        ap (requesting (relayOf t) a (pathOf (rowAt pathsAt pathWidth t i))) e
-        ∙ path-request a announce link proof (relayOf t) two readable (pathOf (rowAt pathsAt pathWidth t i)) (next-hop-wide t i size l) (path-found t (a .clock) (destination a) i e l) other
+        ap (requesting (relayOf t) a (pathOf (recordAt pathsAt pathWidth t i))) e
+        ∙ path-request a announce link proof (relayOf t) two readable (pathOf (recordAt pathsAt pathWidth t i)) (next-hop-wide t i size l) (path-found t (a .clock) (destination a) i e l) other
 
 -- ---- whether an id is live, by the place that the search gave
 module _ (t : List ℕ) (clock : ℕ) (id : List ℕ) {i : ℕ} (e : i ≡ linkPlace clock (relayOf t) id) where

@@ -23,7 +23,7 @@ use Rattle.rules.specs.declared.Reason.the-variants.{NoWayOn, WrongSide, PortOf
 use Rattle.numbers.specs.Numbers.{returnCount}
 use Rattle.tables.specs.Places.{returnsAt, returnWidth}
 use Rattle.tables.specs.Records.{returnOf}
-use Rattle.tables.specs.Layout.{rowAt, relayOf}
+use Rattle.tables.specs.Layout.{recordAt, relayOf}
 use Rattle.lookup.proofs.Found.{return-found, return-missing}
 use Rattle.outgoing.proofs.RuleLaws.{never-grown}
 use Rattle.plan.specs.Decided.{decidedWay, decided, onward}
@@ -78,10 +78,10 @@ module _ (t : List ℕ) (a : Arrival) (kind : ofKindLink (header a) ≡ false) (
   return-nowhere l = return-none a kind proof (relayOf t) (return-missing t (a .clock) (destination a) i e l)
 
   pub return-at : reads longestPacket (a .bytes) ≡ true → i < returnCount
-      → returning (relayOf t) (a .port) (returnOf (rowAt returnsAt returnWidth t i)) i ≡ onward (relayOf t) a
+      → returning (relayOf t) (a .port) (returnOf (recordAt returnsAt returnWidth t i)) i ≡ onward (relayOf t) a
   return-at readable l =
-      ap (returning (relayOf t) (a .port) (returnOf (rowAt returnsAt returnWidth t i))) e
-      ∙ return-there a kind proof (relayOf t) readable (returnOf (rowAt returnsAt returnWidth t i)) (return-found t (a .clock) (destination a) i e l)
+      ap (returning (relayOf t) (a .port) (returnOf (recordAt returnsAt returnWidth t i))) e
+      ∙ return-there a kind proof (relayOf t) readable (returnOf (recordAt returnsAt returnWidth t i)) (return-found t (a .clock) (destination a) i e l)
 
 -- ---- by what was read of the record
 module _ (r : Relay) (port : ℕ) (t : Return) (place : ℕ) {leaving : ℕ} (read : leaving ≡ t .leaving) where

@@ -13,7 +13,7 @@ ghost use Rattle.numbers.specs.Numbers.{pathCount, blobLimit};
 ghost use Rattle.rules.specs.Tests.{badForm};
 ghost use Rattle.tables.specs.Places.{tableSize, pathsAt, pathWidth};
 ghost use Rattle.tables.specs.Records.{pathOf};
-ghost use Rattle.tables.specs.Layout.{rowAt, relayOf, wellFormed};
+ghost use Rattle.tables.specs.Layout.{recordAt, relayOf, wellFormed};
 ghost use Rattle.plan.specs.Decided.{arrivalOf, onward};
 ghost use Rattle.plan.specs.Kinds.{newPath, knownPath};
 
@@ -34,8 +34,8 @@ fn new_path(tables: &[u8], clock: u64) -> Decision
 
 // The known path at a place: tests 10 and 11.
 fn known_path(tables: &[u8], packet: &[u8], arrived: Arrived, place: usize) -> Decision
-    requires { ⌜ (length (now tables) ≡ tableSize) × (place < pathCount) × (pathOf (rowAt pathsAt pathWidth (now tables) place) .blobs .count ≤ blobLimit) × (reads longestPacket (now packet) ≡ true) × (84 ≤ length (payload (now packet))) ⌝ }
-    ensures { λ r. ⌜ r ≡ knownPath (arrivalOf (now (packet .entry)) arrived) (pathOf (rowAt pathsAt pathWidth (now (tables .entry)) place)) place ⌝ }
+    requires { ⌜ (length (now tables) ≡ tableSize) × (place < pathCount) × (pathOf (recordAt pathsAt pathWidth (now tables) place) .blobs .count ≤ blobLimit) × (reads longestPacket (now packet) ≡ true) × (84 ≤ length (payload (now packet))) ⌝ }
+    ensures { λ r. ⌜ r ≡ knownPath (arrivalOf (now (packet .entry)) arrived) (pathOf (recordAt pathsAt pathWidth (now (tables .entry)) place)) place ⌝ }
 {
     let blob = packet::blob(packet::payload(packet));
     if lookup::holds_blob(tables, place, blob) {

@@ -13,14 +13,14 @@ ghost use Rattle.packet.specs.Read.{headerOf, longestPacket, reads};
 ghost use Rattle.numbers.specs.Numbers.{pathCount};
 ghost use Rattle.tables.specs.Places.{tableSize, pathsAt, pathWidth};
 ghost use Rattle.tables.specs.Records.{pathOf};
-ghost use Rattle.tables.specs.Layout.{rowAt, relayOf, wellFormed};
+ghost use Rattle.tables.specs.Layout.{recordAt, relayOf, wellFormed};
 ghost use Rattle.plan.specs.Decided.{arrivalOf, onward};
 ghost use Rattle.plan.specs.Kinds.{sending, requesting};
 
 // Data by the path at a place: test 12.
 fn send(tables: &[u8], place: usize) -> Decision
     requires { ⌜ (length (now tables) ≡ tableSize) × (place < pathCount) ⌝ }
-    ensures { λ r. ⌜ r ≡ sending (relayOf (now (tables .entry))) (pathOf (rowAt pathsAt pathWidth (now (tables .entry)) place)) place ⌝ }
+    ensures { λ r. ⌜ r ≡ sending (relayOf (now (tables .entry))) (pathOf (recordAt pathsAt pathWidth (now (tables .entry)) place)) place ⌝ }
 {
     let port = lookup::path_port(tables, place);
     if lookup::port_on(tables, octets::wide(port)) {
@@ -32,7 +32,7 @@ fn send(tables: &[u8], place: usize) -> Decision
 // A link request by the path at a place: tests 7, 12 and 13.
 fn request(tables: &[u8], packet: &[u8], arrived: Arrived, place: usize) -> Decision
     requires { ⌜ (length (now tables) ≡ tableSize) × (place < pathCount) × (reads longestPacket (now packet) ≡ true) ⌝ }
-    ensures { λ r. ⌜ r ≡ requesting (relayOf (now (tables .entry))) (arrivalOf (now (packet .entry)) arrived) (pathOf (rowAt pathsAt pathWidth (now (tables .entry)) place)) place ⌝ }
+    ensures { λ r. ⌜ r ≡ requesting (relayOf (now (tables .entry))) (arrivalOf (now (packet .entry)) arrived) (pathOf (recordAt pathsAt pathWidth (now (tables .entry)) place)) place ⌝ }
 {
     let id = packet::link_id_of(packet);
     if lookup::link_place(tables, id, arrived.clock) < LINK_COUNT {

@@ -12,14 +12,14 @@ ghost use Rattle.packet.specs.Read.{headerOf, longestPacket, reads};
 ghost use Rattle.numbers.specs.Numbers.{returnCount};
 ghost use Rattle.tables.specs.Places.{tableSize, returnsAt, returnWidth};
 ghost use Rattle.tables.specs.Records.{returnOf};
-ghost use Rattle.tables.specs.Layout.{rowAt, relayOf, wellFormed};
+ghost use Rattle.tables.specs.Layout.{recordAt, relayOf, wellFormed};
 ghost use Rattle.plan.specs.Decided.{arrivalOf, onward};
 ghost use Rattle.plan.specs.Kinds.{returning};
 
 // A proof for the return record at a place, which came in by a port: tests 8 and 12.
 fn receipt(tables: &[u8], place: usize, port: u8) -> Decision
     requires { ⌜ (length (now tables) ≡ tableSize) × (place < returnCount) ⌝ }
-    ensures { λ r. ⌜ r ≡ returning (relayOf (now (tables .entry))) port (returnOf (rowAt returnsAt returnWidth (now (tables .entry)) place)) place ⌝ }
+    ensures { λ r. ⌜ r ≡ returning (relayOf (now (tables .entry))) port (returnOf (recordAt returnsAt returnWidth (now (tables .entry)) place)) place ⌝ }
 {
     if port != lookup::return_leaving(tables, place) {
         return Decision::Drop(Reason::WrongSide);

@@ -25,18 +25,18 @@ use Rattle.rules.specs.Answers.{reasonNumber}
 use Rattle.rules.specs.Judging.{plan, earlyTests}
 use Rattle.octets.specs.Listed.{firstOf}
 use Rattle.rules.proofs.Choices.{row-passed, rows-below}
-use Rattle.rules.proofs.Accepted.{accepted-packet}
+use Rattle.rules.proofs.AcceptedOn.{accepted-packet}
 use Rattle.tables.specs.Layout.{relayOf, wellFormed}
 use Rattle.tables.proofs.Whole.{again}
 use Rattle.plan.specs.declared.Arrived.{Arrived}
 use Rattle.plan.specs.declared.Decision.the-variants as decided-as
 use Rattle.plan.specs.Decided.{arrivalOf, decided, decision}
 use Rattle.update.specs.Written.{clockWritten}
-use Rattle.act.specs.Kept.{remembersDecided, stamped}
+use Rattle.act.specs.Stored.{remembersDecided, stamped}
 use Rattle.act.proofs.Stays.{drop-left}
 use Rattle.act.proofs.StampLaws.{remembered-by, stamp-left}
-use Rattle.act.specs.Acted.{packetRefusalOn, Accepted, verdictOn, tablesOn, outputOn}
-use Rattle.relay.specs.Promise.{Outcome, Promises, inBytes, packetOn}
+use Rattle.act.specs.Acted.{packetRefusalOn, AcceptedOn, verdictOn, tablesOn, outputOn}
+use Rattle.relay.specs.Promise.{JudgementOn, Promises, inBytes, packetOn}
 
 module _ (packet : List ℕ) (port clock : ℕ) (signed : Bool) (t : List ℕ) (tally : Tally) (output : List ℕ) where
   abbrev a : Arrival
@@ -45,12 +45,12 @@ module _ (packet : List ℕ) (port clock : ℕ) (signed : Bool) (t : List ℕ) (
   abbrev number : ℕ
   number = packetRefusalOn packet port clock t (length output)
 
-  abbrev whole : Outcome
+  abbrev whole : JudgementOn
   whole = packetOn packet port clock signed t tally output
 
-  promised : {x : Outcome} → x ≡ whole → Promises whole (x .answer) (x .tally) (x .tables) (x .output)
+  promised : {x : JudgementOn} → x ≡ whole → Promises whole (x .answer) (x .tally) (x .tables) (x .output)
   promised e =
-      (ap (λ (y : Outcome). y .answer) e, ap (λ (y : Outcome). y .tally) e, ap (λ (y : Outcome). y .tables) e, ap (λ (y : Outcome). y .output) e)
+      (ap (λ (y : JudgementOn). y .answer) e, ap (λ (y : JudgementOn). y .tally) e, ap (λ (y : JudgementOn). y .tables) e, ap (λ (y : JudgementOn). y .output) e)
 
   by-rules : wellFormed t ≡ true → number ≡ packetRefusal (relayOf t) a (length output)
   unfolding packetRefusalOn _then_otherwise_
@@ -102,7 +102,7 @@ module _ (packet : List ℕ) (port clock : ℕ) (signed : Bool) (t : List ℕ) (
       same-arrival : arrivalOf packet m ≡ a
       same-arrival = rw (same-port, same-clock, same-signed)
 
-      pub accepted : Accepted packet m t
+      pub accepted : AcceptedOn packet m t
       accepted =
           record {
             formed = formed;

@@ -12,22 +12,22 @@ use Rattle.rules.specs.declared.Tally.{Tally}
 use Rattle.tables.specs.Layout.{relayOf, bytesOf, wellFormed}
 
 -- what a packet call returns, and what it leaves in the tables, the tally and the output
-pub record Outcome : Type 0 where
+pub record JudgementOn : Type 0 where
   pub answer : Answer
   pub tables : List ℕ
   pub tally : Tally
   pub output : List ℕ
 
 -- what a call returned and left is this
-abbrev pub Promises : Outcome → Answer → Tally → List ℕ → List ℕ → Type 0
+abbrev pub Promises : JudgementOn → Answer → Tally → List ℕ → List ℕ → Type 0
 Promises o answer tally tables output = (answer ≡ o .answer) × (tally ≡ o .tally) × (tables ≡ o .tables) × (output ≡ o .output)
 
 -- the rules' judgement, its relay as bytes
-unfoldable pub inBytes : Judgement → Outcome
+unfoldable pub inBytes : Judgement → JudgementOn
 inBytes j = record { answer = j .answer; tables = bytesOf (j .relay); tally = j .tally; output = j .output }
 
 -- tables that are not well formed are refused with 7; well-formed ones hold a relay, and the rules judge the packet. A refusal changes nothing
-unfoldable pub packetOn : List ℕ → ℕ → ℕ → Bool → List ℕ → Tally → List ℕ → Outcome
+unfoldable pub packetOn : List ℕ → ℕ → ℕ → Bool → List ℕ → Tally → List ℕ → JudgementOn
 packetOn packet port clock signed tables tally output =
     wellFormed tables
     then inBytes (packetCall (record { bytes = packet; port = port; clock = clock; signed = signed }) (relayOf tables) tally output)

@@ -19,7 +19,7 @@ use Rattle.codes.proofs.Forms.{lawful}
 use Rattle.codes.proofs.Places.{patch-skip, item-patched}
 use Rattle.codes.proofs.Inside.{Inside, first, next, item, inRule, inRecord, _within_}
 use Rattle.numbers.specs.Numbers.{portCount, linkCount, returnCount}
-use Rattle.rules.specs.Relay.{Port, off, Slot, empty, Return, Relay, withPorts, withPaths, withLinks, withReturns}
+use Rattle.rules.specs.Relay.{Port, noPort, Slot, empty, Return, Relay, withPorts, withPaths, withLinks, withReturns}
 use Rattle.rules.specs.Refusals.{pathOk, linkOk, returnOk}
 use Rattle.rules.specs.Renumbering.{image, oneToOne, preimage, movedPorts, renamePath, renameLink, renameReturn, renameSlot, renumbered}
 use Rattle.rules.specs.declared.Link.{Link}
@@ -27,7 +27,7 @@ use Rattle.tables.specs.Forms.{portForm, pathForm, linkForm, returnForm, relayF
 use Rattle.tables.specs.Places.{portWidth, pathWidth, linkWidth, returnWidth, portsAt, pathsAt, linksAt, returnsAt}
 use Rattle.tables.specs.Fields.{pathPortAt, linkAskingAt, linkAnsweringAt, returnArrivalAt, returnLeavingAt}
 use Rattle.tables.specs.Records.{portBytes, slotOf, slotBytes, pathOf, pathBytes, pathBytesOk, linkOf, linkBytes, linkBytesOk, returnOf, returnBytes, returnBytesOk}
-use Rattle.tables.specs.Layout.{rowAt, rows, rowsOk, relayOf, bytesOf, wellFormed}
+use Rattle.tables.specs.Layout.{recordAt, rows, recordsOk, relayOf, bytesOf, wellFormed}
 use Rattle.tables.proofs.Tests.{path-kept, link-kept, return-kept}
 use Rattle.tables.proofs.Lent.{Lent, port-lent, path-lent, link-lent, return-lent}
 use Rattle.tables.proofs.Whole.{again, ok-relay, relay-good}
@@ -140,39 +140,39 @@ module _ (b m : List ℕ) (bs : Bytes b) (mark : getD b 0 0 ≡ 0 → ⊥) where
       ∙ byte-over returnForm (inRule (inRecord (next (next first)))) (arrival-in .place .put p (returnOf b)) (image m (returnOf b .leaving)) tt)
 
 -- ---- the ports' settings
-pub port-byte-none : (t : List ℕ) (i k : ℕ) → portCount ≤ i → 0 ≡ getD (portBytes (getD (relayOf t .ports) i off)) k 0
+pub port-byte-none : (t : List ℕ) (i k : ℕ) → portCount ≤ i → 0 ≡ getD (portBytes (getD (relayOf t .ports) i noPort)) k 0
 port-byte-none t i k l =
     let none : length (relayOf t .ports) ≤ i = subst (λ (n : ℕ). n ≤ i) (sym (ports-length t)) l in
-    sym (ap (λ (p : Port). getD (portBytes p) k 0) (List·getD-eq-default (relayOf t .ports) off {n = i} none) ∙ port-each k)
+    sym (ap (λ (p : Port). getD (portBytes p) k 0) (List·getD-eq-default (relayOf t .ports) noPort {n = i} none) ∙ port-each k)
 
 pub port-byte-there : (t : List ℕ) → Bytes t → wellFormed t ≡ true → (i k : ℕ) → i < portCount → k < portWidth
-    → getD t (portsAt + portWidth * i + k) 0 ≡ getD (portBytes (getD (relayOf t .ports) i off)) k 0
+    → getD t (portsAt + portWidth * i + k) 0 ≡ getD (portBytes (getD (relayOf t .ports) i noPort)) k 0
 unfolding bytesOf portBytes
 port-byte-there t bt h i k l lk =
     sym (part-at t (portsAt + portWidth * i) portWidth k lk)
     ∙ ap (λ (x : List ℕ). getD x k 0)
-    (ap (λ (x : List ℕ). rowAt portsAt portWidth x i) (sym (again t bt h))
+    (ap (λ (x : List ℕ). recordAt portsAt portWidth x i) (sym (again t bt h))
     ∙ (item i l within ports-in) .place .there (relayOf t) (tt, ports-length t))
 
 module _ (m : List ℕ) (ports : List Port) where
   no-ports : List Port
-  no-ports = replicate portCount off
+  no-ports = replicate portCount noPort
 
   same-count : length (movedPorts m ports) ≡ length no-ports
   unfolding movedPorts no-ports
-  same-count = listOf-length (λ n. getD ports (preimage m n) off) portCount ∙ sym (length-replicate portCount off)
+  same-count = listOf-length (λ n. getD ports (preimage m n) noPort) portCount ∙ sym (length-replicate portCount noPort)
 
   count : length no-ports ≡ portCount
   unfolding no-ports
-  count = length-replicate portCount off
+  count = length-replicate portCount noPort
 
   -- the first n ports' new settings, and zeros
   pub movedTo : ℕ → List ℕ
-  movedTo n = fields portBytes portCount off (mixed n (movedPorts m ports) no-ports)
+  movedTo n = fields portBytes portCount noPort (mixed n (movedPorts m ports) no-ports)
 
   moved-length : (n : ℕ) → length (movedTo n) ≡ portWidth * portCount
   unfolding movedTo
-  moved-length n = fields-length portBytes portCount off portWidth (port-lent .wide) (mixed n (movedPorts m ports) no-ports)
+  moved-length n = fields-length portBytes portCount noPort portWidth (port-lent .wide) (mixed n (movedPorts m ports) no-ports)
 
   pub moved-none : replicate {A = ℕ} (portWidth * portCount) 0 ≡ movedTo 0
   unfolding movedTo no-ports
@@ -184,21 +184,21 @@ module _ (m : List ℕ) (ports : List Port) where
   unfolding portBytes
   two-bytes p x y ex ey = ap₂ (λ (u v : ℕ). u ∷ v ∷ []) ex ey
 
-  moved-at : (n : ℕ) → n < portCount → getD ports (preimage m n) off ≡ getD (movedPorts m ports) n off
+  moved-at : (n : ℕ) → n < portCount → getD ports (preimage m n) noPort ≡ getD (movedPorts m ports) n noPort
   unfolding movedPorts
-  moved-at n l = sym (listOf-at (λ k. getD ports (preimage m k) off) portCount n off l)
+  moved-at n l = sym (listOf-at (λ k. getD ports (preimage m k) noPort) portCount n noPort l)
 
-  one-more : (n : ℕ) → n < portCount → patch (movedTo n) (portWidth * n) (portBytes (getD (movedPorts m ports) n off)) ≡ movedTo (n + 1)
+  one-more : (n : ℕ) → n < portCount → patch (movedTo n) (portWidth * n) (portBytes (getD (movedPorts m ports) n noPort)) ≡ movedTo (n + 1)
   unfolding movedTo portBytes
   one-more n l =
       let b : n < length no-ports = subst (λ (k : ℕ). n < k) (sym count) l in
-      let y : Port = getD (movedPorts m ports) n off in
+      let y : Port = getD (movedPorts m ports) n noPort in
       let ms : List Port = mixed n (movedPorts m ports) no-ports in
-      item-patched portCount off (lawful portForm) n l ms y (mixed-length (movedPorts m ports) no-ports same-count n (omega arith) ∙ count)
-      ∙ ap (fields portBytes portCount off) (mixed-more (movedPorts m ports) no-ports same-count n off b)
+      item-patched portCount noPort (lawful portForm) n l ms y (mixed-length (movedPorts m ports) no-ports same-count n (omega arith) ∙ count)
+      ∙ ap (fields portBytes portCount noPort) (mixed-more (movedPorts m ports) no-ports same-count n noPort b)
 
   pub moved-more : (n x y : ℕ) → n < portCount → (out : List ℕ) → out ≡ movedTo n
-      → x ≡ getD (portBytes (getD ports (preimage m n) off)) 0 0 → y ≡ getD (portBytes (getD ports (preimage m n) off)) 1 0
+      → x ≡ getD (portBytes (getD ports (preimage m n) noPort)) 0 0 → y ≡ getD (portBytes (getD ports (preimage m n) noPort)) 1 0
       → set (set out (portWidth * n) x) (portWidth * n + 1) y ≡ movedTo (n + 1)
   moved-more n x y l out e ex ey =
       let k : length (movedTo n) ≡ portWidth * portCount = moved-length n in
@@ -207,13 +207,13 @@ module _ (m : List ℕ) (ports : List Port) where
       ∙ patch-set (set (movedTo n) (portWidth * n) x) (portWidth * n + 1) y (omega arith)
       ∙ ap (λ (r : List ℕ). patch r (portWidth * n + 1) (y ∷ [])) (patch-set (movedTo n) (portWidth * n) x (omega arith))
       ∙ patch-join (movedTo n) (portWidth * n) (portWidth * n + 1) (x ∷ []) (y ∷ []) refl (omega arith)
-      ∙ ap (λ (r : List ℕ). patch (movedTo n) (portWidth * n) r) (two-bytes (getD ports (preimage m n) off) x y ex ey ∙ ap portBytes (moved-at n l))
+      ∙ ap (λ (r : List ℕ). patch (movedTo n) (portWidth * n) r) (two-bytes (getD ports (preimage m n) noPort) x y ex ey ∙ ap portBytes (moved-at n l))
       ∙ one-more n l
 
-  pub moved-all : (n : ℕ) (out : List ℕ) → portCount ≤ n → out ≡ movedTo n → out ≡ fields portBytes portCount off (movedPorts m ports)
+  pub moved-all : (n : ℕ) (out : List ℕ) → portCount ≤ n → out ≡ movedTo n → out ≡ fields portBytes portCount noPort (movedPorts m ports)
   unfolding movedTo
   moved-all n out l e =
-      e ∙ ap (fields portBytes portCount off) (mixed-all (movedPorts m ports) no-ports same-count n (subst (λ (k : ℕ). k ≤ n) (sym count) l))
+      e ∙ ap (fields portBytes portCount noPort) (mixed-all (movedPorts m ports) no-ports same-count n (subst (λ (k : ℕ). k ≤ n) (sym count) l))
 
 -- ---- the whole
 module _ (t m : List ℕ) (bt : Bytes t) (h : wellFormed t ≡ true) where
@@ -243,8 +243,8 @@ module _ (t m : List ℕ) (bt : Bytes t) (h : wellFormed t ≡ true) where
     unfolding slotOf linkOf linkBytes
     links-there = back-at (lawful (many linkCount empty (slot linkForm))) t1 linksAt (relayOf t .links) links-stand (good .1 .1 .1 .1 .1 .0)
 
-    pub links-ready : rowsOk linkBytesOk linksAt linkWidth linkCount t1 ≡ true
-    unfolding rowsOk linkBytesOk linkBytes
+    pub links-ready : recordsOk linkBytesOk linksAt linkWidth linkCount t1 ≡ true
+    unfolding recordsOk linkBytesOk linkBytes
     links-ready = passes-at (lawful (many linkCount empty (slot linkForm))) t1 linksAt (relayOf t .links) links-stand (good .1 .1 .1 .1 .1 .0)
 
     module _ (t2 : List ℕ) (e2 : t2 ≡ patch t1 linksAt (renamedLinks m t1)) where
@@ -270,14 +270,14 @@ module _ (t m : List ℕ) (bt : Bytes t) (h : wellFormed t ≡ true) where
           back-at (lawful (many returnCount empty (slot returnForm))) t2 returnsAt (relayOf t .returns .slots) returns-stand
           (good .1 .1 .1 .1 .1 .1 .0 .1)
 
-      pub returns-ready : rowsOk returnBytesOk returnsAt returnWidth returnCount t2 ≡ true
-      unfolding rowsOk returnBytesOk returnBytes
+      pub returns-ready : recordsOk returnBytesOk returnsAt returnWidth returnCount t2 ≡ true
+      unfolding recordsOk returnBytesOk returnBytes
       returns-ready =
           passes-at (lawful (many returnCount empty (slot returnForm))) t2 returnsAt (relayOf t .returns .slots) returns-stand
           (good .1 .1 .1 .1 .1 .1 .0 .1)
 
       pub renumber-writes : (t3 t4 : List ℕ) → t3 ≡ patch t2 returnsAt (renamedReturns m t2)
-          → t4 ≡ patch t3 portsAt (fields portBytes portCount off (movedPorts m (relayOf t .ports))) → t4 ≡ bytesOf (renumbered m (relayOf t))
+          → t4 ≡ patch t3 portsAt (fields portBytes portCount noPort (movedPorts m (relayOf t .ports))) → t4 ≡ bytesOf (renumbered m (relayOf t))
       unfolding renamedReturns renumbered pathsAndLinks withLinks pathsOnly withPaths withReturns withPorts
       renumber-writes t3 t4 e3 e4 =
           let slots : List (Slot Return) = map (renameSlot (renameReturn m)) (relayOf t .returns .slots) in
@@ -290,7 +290,7 @@ module _ (t m : List ℕ) (bt : Bytes t) (h : wellFormed t ≡ true) where
           links-written returns-there
           ∙ patch-returns pathsAndLinks slots in
           e4
-          ∙ ap (λ (x : List ℕ). patch x portsAt (fields portBytes portCount off (movedPorts m (relayOf t .ports)))) w3
+          ∙ ap (λ (x : List ℕ). patch x portsAt (fields portBytes portCount noPort (movedPorts m (relayOf t .ports)))) w3
           ∙ patch-ports r3 (movedPorts m (relayOf t .ports))
 
 -- ---- what the call answers

@@ -14,7 +14,7 @@ use Rattle.octets.proofs.Index.{all-at}
 use Rattle.octets.proofs.ListOf.{mixed, mixed-length, mixed-at, mixed-more, mixed-all}
 use Rattle.octets.proofs.Part.{part-length, patch-lent}
 use Rattle.octets.proofs.Joined.{patch-field}
-use Rattle.tables.specs.Layout.{rowAt, rows, rowsOk}
+use Rattle.tables.specs.Layout.{recordAt, rows, recordsOk}
 use Rattle.tables.proofs.Lent.{Lent, rows-again, row-there, row-end, section-length}
 use Rattle.tables.proofs.Seen.{row-seen, rows-length}
 
@@ -38,7 +38,7 @@ upTo code read base w n d f t i =
 
 module _ {A : Type 0} {w : ℕ} {code : A → List ℕ} {read : List ℕ → A} {ok : List ℕ → Bool}
     (c : Lent w code read ok) (base n : ℕ) (d : A) (f : A → A)
-    (t : List ℕ) (b : Bytes t) (fits : base + w * n ≤ length t) (h : rowsOk ok base w n t ≡ true) where
+    (t : List ℕ) (b : Bytes t) (fits : base + w * n ≤ length t) (h : recordsOk ok base w n t ≡ true) where
   abbrev old : List A
   old = rows read base w n t
 
@@ -62,22 +62,22 @@ module _ {A : Type 0} {w : ℕ} {code : A → List ℕ} {read : List ℕ → A} 
     below : i < length old
     below = subst (λ (k : ℕ). i < k) (sym old-length) l
 
-    row-good : ok (rowAt base w t i) ≡ true
-    unfolding rowsOk
-    row-good = all-at (λ k. ok (rowAt base w t k)) n i h l
+    row-good : ok (recordAt base w t i) ≡ true
+    unfolding recordsOk
+    row-good = all-at (λ k. ok (recordAt base w t k)) n i h l
 
-    seen : getD old i d ≡ read (rowAt base w t i)
+    seen : getD old i d ≡ read (recordAt base w t i)
     seen = row-seen read base w n t i d l
 
-    row-kept : rowAt base w t′ i ≡ rowAt base w t i
+    row-kept : recordAt base w t′ i ≡ recordAt base w t i
     unfolding upTo
     row-kept =
-        ap (λ (x : List ℕ). rowAt base w x i) e
+        ap (λ (x : List ℕ). recordAt base w x i) e
         ∙ row-there c base n d (take base t) (drop (base + w * n) t) (mixed i new old) head-length i l
         ∙ ap code (mixed-at new old alike i d below ∙ seen)
-        ∙ c .again (rowAt base w t i) (part-bytes t (base + w * i) w b) (part-length t (base + w * i) w (omega (arith, row-end base w n i l))) row-good
+        ∙ c .again (recordAt base w t i) (part-bytes t (base + w * i) w b) (part-length t (base + w * i) w (omega (arith, row-end base w n i l))) row-good
 
-    pub row-ready : ok (rowAt base w t′ i) ≡ true
+    pub row-ready : ok (recordAt base w t′ i) ≡ true
     row-ready = ap ok row-kept ∙ row-good
 
     new-at : f (getD old i d) ≡ getD new i d
@@ -87,7 +87,7 @@ module _ {A : Type 0} {w : ℕ} {code : A → List ℕ} {read : List ℕ → A} 
         ∙ List·getD-map f old i d)
 
     -- record i gets its new value
-    pub up-more : (t″ : List ℕ) → t″ ≡ patch t′ (base + w * i) (code (f (read (rowAt base w t′ i)))) → t″ ≡ upTo code read base w n d f t (i + 1)
+    pub up-more : (t″ : List ℕ) → t″ ≡ patch t′ (base + w * i) (code (f (read (recordAt base w t′ i)))) → t″ ≡ upTo code read base w n d f t (i + 1)
     unfolding upTo
     up-more t″ q =
         q
@@ -96,7 +96,7 @@ module _ {A : Type 0} {w : ℕ} {code : A → List ℕ} {read : List ℕ → A} 
         (mixed-length new old alike i (le-of-lt below) ∙ old-length) l
         ∙ ap (λ (xs : List A). take base t ++ (fields code n d xs ++ drop (base + w * n) t)) (mixed-more new old alike i d below)
       where
-        value : f (read (rowAt base w t′ i)) ≡ getD new i d
+        value : f (read (recordAt base w t′ i)) ≡ getD new i d
         value = ap (λ (x : List ℕ). f (read x)) row-kept ∙ ap f (sym seen) ∙ new-at
 
   pub up-all : (t′ : List ℕ) (i : ℕ) → n ≤ i → t′ ≡ upTo code read base w n d f t i → t′ ≡ patch t base (fields code n d (map f (rows read base w n t)))

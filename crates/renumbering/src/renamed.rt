@@ -21,7 +21,7 @@ ghost use Rattle.numbers.specs.Numbers.{portCount, pathCount, linkCount, return
 ghost use Rattle.rules.specs.Renumbering.{renamePath, renameLink, renameReturn, renameSlot};
 ghost use Rattle.tables.specs.Places.{pathWidth, linkWidth, returnWidth, pathsAt, linksAt, returnsAt, tableSize};
 ghost use Rattle.tables.specs.Records.{slotOf, slotBytes, pathOf, pathBytes, pathBytesOk, linkOf, linkBytes, linkBytesOk, returnOf, returnBytes, returnBytesOk};
-ghost use Rattle.tables.specs.Layout.{rowsOk};
+ghost use Rattle.tables.specs.Layout.{recordsOk};
 ghost use Rattle.renumbering.specs.Renamed.{renamedPaths, renamedLinks, renamedReturns};
 
 fn rename_path(b: &mut [u8], map: &[u8])
@@ -59,7 +59,7 @@ fn rename_return(b: &mut [u8], map: &[u8])
 }
 
 pub fn rename_paths(t: &mut [u8], map: &[u8])
-    requires { ⌜ (rowsOk pathBytesOk pathsAt pathWidth pathCount (now t) ≡ true) × (length (now t) ≡ tableSize) × (length (now map) ≡ portCount) ⌝ }
+    requires { ⌜ (recordsOk pathBytesOk pathsAt pathWidth pathCount (now t) ≡ true) × (length (now t) ≡ tableSize) × (length (now map) ≡ portCount) ⌝ }
     ensures { λ _. ⌜ now (t .exit) ≡ patch (now (t .entry)) pathsAt (renamedPaths (now (map .entry)) (now (t .entry))) ⌝ }
 {
     let mut i = 0;
@@ -71,7 +71,7 @@ pub fn rename_paths(t: &mut [u8], map: &[u8])
 }
 
 pub fn rename_links(t: &mut [u8], map: &[u8])
-    requires { ⌜ (rowsOk linkBytesOk linksAt linkWidth linkCount (now t) ≡ true) × (length (now t) ≡ tableSize) × (length (now map) ≡ portCount) ⌝ }
+    requires { ⌜ (recordsOk linkBytesOk linksAt linkWidth linkCount (now t) ≡ true) × (length (now t) ≡ tableSize) × (length (now map) ≡ portCount) ⌝ }
     ensures { λ _. ⌜ now (t .exit) ≡ patch (now (t .entry)) linksAt (renamedLinks (now (map .entry)) (now (t .entry))) ⌝ }
 {
     let mut i = 0;
@@ -83,7 +83,7 @@ pub fn rename_links(t: &mut [u8], map: &[u8])
 }
 
 pub fn rename_returns(t: &mut [u8], map: &[u8])
-    requires { ⌜ (rowsOk returnBytesOk returnsAt returnWidth returnCount (now t) ≡ true) × (length (now t) ≡ tableSize) × (length (now map) ≡ portCount) ⌝ }
+    requires { ⌜ (recordsOk returnBytesOk returnsAt returnWidth returnCount (now t) ≡ true) × (length (now t) ≡ tableSize) × (length (now map) ≡ portCount) ⌝ }
     ensures { λ _. ⌜ now (t .exit) ≡ patch (now (t .entry)) returnsAt (renamedReturns (now (map .entry)) (now (t .entry))) ⌝ }
 {
     let mut i = 0;

@@ -14,6 +14,7 @@ use Rattle.rules.specs.Refusals.{packetRefusal}
 use Rattle.rules.specs.Judging.{plan, verdict}
 use Rattle.rules.specs.Calls.{newTally, up, counted, Judgement, judged, judge, packetCall}
 use Rattle.rules.specs.Run.{Call, packet, on-tables, Reply, answered, numbered, ofJudgement, ofSetting, perform, replies, tallyAfter}
+use Rattle.rules.specs.Answers.{verdictKind}
 use Rattle.rules.specs.declared.Verdict.{Verdict}
 use Rattle.rules.specs.declared.Verdict.the-variants.{Drop, Deliver, Forward, Spread, Kept}
 use Rattle.rules.specs.declared.Answer.the-variants.{Refused, Judged}
@@ -30,28 +31,20 @@ unfoldable pub number : (Verdict → Bool) → List Reply → ℕ
 number kind [] = 0
 number kind (reply ∷ replies) = counts kind reply + number kind replies
 
--- which of the five answers it is
-abbrev pub kindOf : Verdict → ℕ
-kindOf (Drop reason) = 0
-kindOf Deliver = 1
-kindOf (Forward port length) = 2
-kindOf (Spread ports length) = 3
-kindOf Kept = 4
-
 abbrev pub isDrop : Verdict → Bool
-isDrop verdict = eqb (kindOf verdict) 0
+isDrop verdict = eqb (verdictKind verdict) 1
 
 abbrev pub isDelivery : Verdict → Bool
-isDelivery verdict = eqb (kindOf verdict) 1
+isDelivery verdict = eqb (verdictKind verdict) 2
 
 abbrev pub isForward : Verdict → Bool
-isForward verdict = eqb (kindOf verdict) 2
+isForward verdict = eqb (verdictKind verdict) 3
 
 abbrev pub isSpread : Verdict → Bool
-isSpread verdict = eqb (kindOf verdict) 3
+isSpread verdict = eqb (verdictKind verdict) 4
 
 abbrev pub isKept : Verdict → Bool
-isKept verdict = eqb (kindOf verdict) 4
+isKept verdict = eqb (verdictKind verdict) 5
 
 abbrev pub isAny : Verdict → Bool
 isAny verdict = true

@@ -7,7 +7,7 @@ use lib.ListN.{length, take, replicate}
 use Rattle.octets.specs.Part.{patch}
 use Rattle.packet.specs.Hash.{packetHash, linkId}
 use Rattle.numbers.specs.Numbers.{localCount, pathCount, blobLimit, linkCount, returnCount, hashCount}
-use Rattle.rules.specs.Relay.{off, Slot, empty, used, Path, Return, Remembered, Relay}
+use Rattle.rules.specs.Relay.{freshPort, Slot, empty, used, Path, Return, Remembered, Relay}
 use Rattle.rules.specs.Blobs.{noBlob}
 use Rattle.rules.specs.View.{viewAt}
 use Rattle.rules.specs.Refusals.{packetRefusal}
@@ -56,7 +56,7 @@ relayOf clock paths links returns hashes =
     record {
       own = own;
       clock = clock;
-      ports = off ∷ record { on = true; mode = 2 } ∷ record { on = true; mode = 0 } ∷ replicate 13 off;
+      ports = freshPort ∷ record { on = true; mode = 2 } ∷ record { on = true; mode = 0 } ∷ replicate 13 freshPort;
       locals = replicate localCount empty;
       paths = filled pathCount paths;
       links = filled linkCount links;

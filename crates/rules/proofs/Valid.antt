@@ -11,7 +11,7 @@ use Rattle.octets.proofs.Index.{and-left, and-right, and-both}
 use Rattle.octets.proofs.Choice.{or-no-right}
 use Rattle.packet.specs.Header.{isData}
 use Rattle.numbers.specs.Numbers.{portCount, localCount, pathCount, linkCount, returnCount, hashCount, clockLimit, timeLimit, modeCount}
-use Rattle.rules.specs.Relay.{Port, off, Slot, empty, Path, Return, Remembered, Ring, Relay, fresh, withClock, withPorts, withLocals, withPaths, withLinks, withReturns, withHashes}
+use Rattle.rules.specs.Relay.{Port, freshPort, noPort, Slot, empty, Path, Return, Remembered, Ring, Relay, fresh, withClock, withPorts, withLocals, withPaths, withLinks, withReturns, withHashes}
 use Rattle.rules.specs.View.{View, viewAt}
 use Rattle.rules.specs.Renumbering.{oneToOne, preimage, movedPorts, renamePath, renameLink, renameReturn, renumbered}
 use Rattle.rules.specs.Refusals.{timeOk, portOk, pathOk, linkOk, returnOk, hashOk, slotOk, tableOk, tablesOk, packetRefusal}
@@ -83,7 +83,7 @@ unfolding fresh timeOk portOk slotOk
 fresh-valid own =
     record {
       clock = refl;
-      ports = table-replicate portOk portCount off refl;
+      ports = table-replicate portOk portCount freshPort refl;
       locals = refl;
       paths = table-replicate (slotOk pathOk) pathCount empty refl;
       links = table-replicate (slotOk linkOk) linkCount empty refl;
@@ -210,7 +210,7 @@ module _ (m : List ℕ) (ok : oneToOne m ≡ true) where
   renumbered-valid r v =
       record {
         clock = v .clock;
-        ports = table-listOf portOk portCount _ (λ n. table-getD portOk portCount (r .ports) (v .ports) (preimage m n) off refl);
+        ports = table-listOf portOk portCount _ (λ n. table-getD portOk portCount (r .ports) (v .ports) (preimage m n) noPort refl);
         locals = v .locals;
         paths = table-map (slotOk pathOk) pathCount (r .paths) (v .paths) _ (slot-renamed pathOk (renamePath m) (path-renamed m ok));
         links = table-map (slotOk linkOk) linkCount (r .links) (v .links) _ (slot-renamed linkOk (renameLink m) (link-renamed m ok));

@@ -10,7 +10,7 @@ use lib.ListN.{length, getD, List·getD-eq-default}
 use borrow.Author.Tests.{lt-ltb, le-ltb}
 use Rattle.octets.specs.Index.{_and_}
 use Rattle.octets.proofs.Index.{and-no, and-yes}
-use Rattle.rules.specs.Relay.{Port, off, empty, Relay}
+use Rattle.rules.specs.Relay.{Port, noPort, empty, Relay}
 use Rattle.rules.specs.Renumbering.{image, oneToOne, renamePath, renameLink, renameReturn, renameSlot, renumbered}
 use Rattle.rules.specs.View.{portOn, portMode, localPlace, isLocal, isLivePath, isLiveLink, isLiveReturn, pathPlace, linkPlace, returnPlace, hashPlace, freePath, freeLink, View, viewAt}
 use Rattle.rules.proofs.Images.{source, source-other, source-image}
@@ -36,7 +36,7 @@ renameView m v =
 -- 16 is no port
 pub no-port-on : (clock : ℕ) (r : Relay) → viewAt clock r .on 16 ≡ false
 unfolding viewAt portOn
-no-port-on clock r = and-no (getD (r .ports) 16 off .on) refl
+no-port-on clock r = and-no (getD (r .ports) 16 noPort .on) refl
 
 -- ---- the places where records lie
 module _ (m : List ℕ) (clock : ℕ) (r : Relay) where
@@ -85,20 +85,20 @@ module _ (m : List ℕ) (clock : ℕ) (r : Relay) where
     unfolding portMode renumbered
     mode-renamed n = ap (λ (p : Port). p .mode) (moved-at m (r .ports) sixteen n)
 
-    -- a number below 16 may come from nowhere; then it comes from 16, which is as off
+    -- a number below 16 may come from nowhere; then it comes from 16, which is as noPort
     on-renamed : (n : ℕ) → portOn (renumbered m r) n ≡ portOn r (source m n)
     unfolding portOn renumbered
     on-renamed n = ap (λ (p : Port). ltb n 16 and p .on) (moved-at m (r .ports) sixteen n) ∙ go (decLt n 16) (decLt (source m n) 16)
       where
         go : Dec (n < 16) → Dec (source m n < 16)
-            → (ltb n 16 and getD (r .ports) (source m n) off .on) ≡ (ltb (source m n) 16 and getD (r .ports) (source m n) off .on)
+            → (ltb n 16 and getD (r .ports) (source m n) noPort .on) ≡ (ltb (source m n) 16 and getD (r .ports) (source m n) noPort .on)
         go (yes a) (yes b) = and-yes _ (lt-ltb n 16 a) ∙ sym (and-yes _ (lt-ltb (source m n) 16 b))
         go (yes a) (no b) =
             and-yes _ (lt-ltb n 16 a)
-            ∙ ap (λ (p : Port). p .on) (List·getD-eq-default (r .ports) off {n = source m n} (omega arith))
+            ∙ ap (λ (p : Port). p .on) (List·getD-eq-default (r .ports) noPort {n = source m n} (omega arith))
             ∙ sym (and-no _ (le-ltb (source m n) 16 (omega arith)))
         go (no a) b =
-            ap (λ (k : ℕ). ltb n 16 and getD (r .ports) k off .on) (source-other m n (omega arith))
+            ap (λ (k : ℕ). ltb n 16 and getD (r .ports) k noPort .on) (source-other m n (omega arith))
             ∙ sym (ap (portOn r) (source-other m n (omega arith)))
 
     pub on-image : oneToOne m ≡ true → (n : ℕ) → portOn (renumbered m r) (image m n) ≡ portOn r n

@@ -30,6 +30,14 @@ reasonNumber PortOff = 12
 reasonNumber NoRoom = 13
 reasonNumber GrownTooLong = 14
 
+-- which of the five answers it is; 0 is left for a refusal
+abbrev pub verdictKind : Verdict → ℕ
+verdictKind (Drop reason) = 1
+verdictKind Deliver = 2
+verdictKind (Forward port length) = 3
+verdictKind (Spread ports length) = 4
+verdictKind Kept = 5
+
 -- ---- a port set is a number: bit i says whether port i is in it. Document 01 leaves the encoding free
 unfoldable pub setBelow : (ℕ → Bool) → ℕ → ℕ
 setBelow test zero = 0

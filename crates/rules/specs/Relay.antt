@@ -54,9 +54,13 @@ pub record Relay : Type 0 where
   pub returns : Ring Return
   pub hashes : Ring Remembered
 
--- off and boundary
-abbrev pub off : Port
-off = record { on = false; mode = 0 }
+-- a fresh relay's port: off and boundary
+abbrev pub freshPort : Port
+freshPort = record { on = false; mode = 0 }
+
+-- what is read for a number outside the sixteen: off
+abbrev pub noPort : Port
+noPort = record { on = false; mode = 0 }
 
 -- a fresh relay has its own address, all ports off and boundary, clock 0, tables empty
 unfoldable pub fresh : List ℕ → Relay
@@ -64,7 +68,7 @@ fresh own =
     record {
       own = own;
       clock = 0;
-      ports = replicate portCount off;
+      ports = replicate portCount freshPort;
       locals = replicate localCount empty;
       paths = replicate pathCount empty;
       links = replicate linkCount empty;

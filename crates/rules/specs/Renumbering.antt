@@ -7,7 +7,7 @@ use lib.ListN.{length, getD}
 use Rattle.octets.specs.Index.{_and_, allBelow, first, listOf}
 use Rattle.octets.specs.Choice.{_then_otherwise_}
 use Rattle.numbers.specs.Numbers.{portCount}
-use Rattle.rules.specs.Relay.{Port, off, Slot, empty, used, Path, Return, Relay}
+use Rattle.rules.specs.Relay.{Port, noPort, Slot, empty, used, Path, Return, Relay}
 use Rattle.rules.specs.declared.Link.{Link}
 
 -- a port's image; a number outside the sixteen stays
@@ -28,7 +28,7 @@ preimage m n = first (λ i. eqb (getD m i 0) n) portCount
 
 -- each port's settings move with it
 unfoldable pub movedPorts : List ℕ → List Port → List Port
-movedPorts m ports = listOf (λ n. getD ports (preimage m n) off) portCount
+movedPorts m ports = listOf (λ n. getD ports (preimage m n) noPort) portCount
 
 -- replaces every stored port, expired records' too; an unused record has none
 unfoldable pub renamePath : List ℕ → Path → Path

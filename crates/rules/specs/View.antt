@@ -8,16 +8,16 @@ use lib.ListN.{getD}
 use Rattle.octets.specs.Index.{_and_}
 use Rattle.octets.specs.Choice.{same}
 use Rattle.numbers.specs.Numbers.{portCount, localCount, pathCount, linkCount, returnCount, hashCount, live}
-use Rattle.rules.specs.Relay.{off, Slot, empty, Path, Return, Remembered, Relay, lowest, lowestFree}
+use Rattle.rules.specs.Relay.{noPort, Slot, empty, Path, Return, Remembered, Relay, lowest, lowestFree}
 use Rattle.rules.specs.declared.Link.{Link}
 
 -- ---- ports and local addresses
 -- one of the sixteen, and on
 unfoldable pub portOn : Relay → ℕ → Bool
-portOn r port = ltb port portCount and (getD (r .ports) port off .on)
+portOn r port = ltb port portCount and (getD (r .ports) port noPort .on)
 
 unfoldable pub portMode : Relay → ℕ → ℕ
-portMode r port = getD (r .ports) port off .mode
+portMode r port = getD (r .ports) port noPort .mode
 
 -- the lowest place of a local address, or 16
 unfoldable pub localPlace : Relay → List ℕ → ℕ

@@ -10,7 +10,7 @@ use Rattle.octets.specs.BigEndian.{bigEndian}
 use Rattle.octets.proofs.ListOf.{mixed, mixed-more, mixed-all}
 use Rattle.octets.proofs.Joined.{fields-all}
 use Rattle.numbers.specs.Numbers.{portCount, localCount, pathCount, linkCount, returnCount, hashCount}
-use Rattle.rules.specs.Relay.{off, empty, fresh}
+use Rattle.rules.specs.Relay.{freshPort, empty, fresh}
 use Rattle.tables.specs.Places.{addressWidth, timeWidth, ringWidth, localWidth, pathWidth, linkWidth, returnWidth, hashWidth, tableSize}
 use Rattle.tables.specs.Records.{exactly, markOf, portBytes, slotBytes, localBytes, pathBytes, linkBytes, returnBytes, hashBytes}
 use Rattle.tables.specs.Layout.{bytesOf}
@@ -18,7 +18,7 @@ use Rattle.tables.proofs.All.{exactly-same}
 use Rattle.tables.proofs.Whole.{bytes-length}
 use Rattle.octets.specs.Choice.{_then_otherwise_}
 
--- every element is 0; a record, so that antt can read the list off it
+-- every element is 0; a record, so that antt can read the list freshPort it
 pub record Zeros (t : List ℕ) : Type 0 where
   pub each : (i : ℕ) → getD t i 0 ≡ 0
 
@@ -60,7 +60,7 @@ slot-zeros : {A : Type 0} (w : ℕ) (recordBytes : A → List ℕ) → Zeros (sl
 unfolding slotBytes
 slot-zeros w recordBytes = record { each = replicate-each w }
 
-pub port-each : (i : ℕ) → getD (portBytes off) i 0 ≡ 0
+pub port-each : (i : ℕ) → getD (portBytes freshPort) i 0 ≡ 0
 unfolding portBytes markOf _then_otherwise_
 port-each zero = refl
 port-each (suc zero) = refl
@@ -72,8 +72,8 @@ same-zeros x y e p q = ext-getD 0 x y e (λ i l. p .each i ∙ sym (q .each i))
 pub all-zeros : (n : ℕ) → Zeros (replicate n 0)
 all-zeros n = record { each = replicate-each n }
 
-pub ports-zeros : Zeros (fields portBytes portCount off (replicate portCount off))
-ports-zeros = fields-zeros portBytes off (record { each = port-each }) portCount
+pub ports-zeros : Zeros (fields portBytes portCount freshPort (replicate portCount freshPort))
+ports-zeros = fields-zeros portBytes freshPort (record { each = port-each }) portCount
 
 -- zeros with x written over their start
 over-zeros : (n : ℕ) (x : List ℕ) {rest : List ℕ} → Zeros rest → length (x ++ rest) ≡ n → patch (replicate {A = ℕ} n 0) 0 x ≡ x ++ rest

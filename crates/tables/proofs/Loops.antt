@@ -10,7 +10,7 @@ use Rattle.octets.specs.Part.{part}
 use Rattle.octets.proofs.Index.{all-none, all-more, all-fails}
 use Rattle.octets.proofs.Part.{part-range}
 use Rattle.octets.proofs.Rows.{rows-free, rows-more, rows-fails}
-use Rattle.tables.specs.Layout.{rowAt, rowsOk}
+use Rattle.tables.specs.Layout.{recordAt, recordsOk}
 use Rattle.tables.specs.Groups.{groupSize, groupOk}
 
 -- what `&t[a..a + w]` holds
@@ -18,22 +18,22 @@ abbrev pub range : List ℕ → ℕ → ℕ → List ℕ
 range t a w = take (a + w - a) (drop a t)
 
 module _ (ok : List ℕ → Bool) (base w : ℕ) (t : List ℕ) where
-  pub none-yet : rowsOk ok base w 0 t ≡ true
-  unfolding rowsOk
-  none-yet = all-none (λ k. ok (rowAt base w t k))
+  pub none-yet : recordsOk ok base w 0 t ≡ true
+  unfolding recordsOk
+  none-yet = all-none (λ k. ok (recordAt base w t k))
 
   -- the test r of record i
   module _ (i : ℕ) {r : Bool} (e : r ≡ ok (range t (base + w * i) w)) where
-    seen : ok (rowAt base w t i) ≡ r
+    seen : ok (recordAt base w t i) ≡ r
     seen = sym (e ∙ ap ok (part-range t (base + w * i) w))
 
-    pub row-passes : not r ≡ false → rowsOk ok base w i t ≡ true → rowsOk ok base w (i + 1) t ≡ true
-    unfolding rowsOk
-    row-passes n h = all-more (λ k. ok (rowAt base w t k)) i h (seen ∙ not-false r n)
+    pub row-passes : not r ≡ false → recordsOk ok base w i t ≡ true → recordsOk ok base w (i + 1) t ≡ true
+    unfolding recordsOk
+    row-passes n h = all-more (λ k. ok (recordAt base w t k)) i h (seen ∙ not-false r n)
 
-    pub row-fails : (count : ℕ) → i < count → not r ≡ true → false ≡ rowsOk ok base w count t
-    unfolding rowsOk
-    row-fails count l n = sym (all-fails (λ k. ok (rowAt base w t k)) i count l (seen ∙ not-true r n))
+    pub row-fails : (count : ℕ) → i < count → not r ≡ true → false ≡ recordsOk ok base w count t
+    unfolding recordsOk
+    row-fails count l n = sym (all-fails (λ k. ok (recordAt base w t k)) i count l (seen ∙ not-true r n))
 
 -- ---- the records of a group
 module _ (ok : List ℕ → Bool) (w : ℕ) (s : List ℕ) where
@@ -62,14 +62,14 @@ group-free ok w s free e h = sym (rows-free ok w free groupSize s (ap (λ (k : �
 
 module _ (ok : List ℕ → Bool) (base w : ℕ) (t : List ℕ) (g : ℕ) {r : Bool}
     (e : r ≡ groupOk ok w groupSize (range t (base + w * groupSize * g) (w * groupSize)))
-    (h : rowsOk ok base w (groupSize * g) t ≡ true) where
+    (h : recordsOk ok base w (groupSize * g) t ≡ true) where
   seen-group : groupOk ok w groupSize (part t (base + w * groupSize * g) (w * groupSize)) ≡ r
   seen-group = sym (e ∙ ap (groupOk ok w groupSize) (part-range t (base + w * groupSize * g) (w * groupSize)))
 
-  pub group-passes : not r ≡ false → rowsOk ok base w (groupSize * (g + 1)) t ≡ true
-  unfolding rowsOk groupOk
+  pub group-passes : not r ≡ false → recordsOk ok base w (groupSize * (g + 1)) t ≡ true
+  unfolding recordsOk groupOk
   group-passes n = rows-more ok w t base groupSize g h (seen-group ∙ not-false r n)
 
-  pub group-fails : (count : ℕ) → groupSize * g + groupSize ≤ count → not r ≡ true → false ≡ rowsOk ok base w count t
-  unfolding rowsOk groupOk
+  pub group-fails : (count : ℕ) → groupSize * g + groupSize ≤ count → not r ≡ true → false ≡ recordsOk ok base w count t
+  unfolding recordsOk groupOk
   group-fails count l n = sym (rows-fails ok w t base groupSize g count l h (seen-group ∙ not-true r n))

@@ -8,7 +8,7 @@ use Rattle.octets.specs.BigEndian.{bigEndian}
 use Rattle.codes.specs.Form.{Form, numberIn, many, slot}
 use Rattle.codes.proofs.Inside.{Inside, here, first, next, item, inRule, inRecord, _within_}
 use Rattle.numbers.specs.Numbers.{portCount, localCount, pathCount, linkCount, returnCount, hashCount}
-use Rattle.rules.specs.Relay.{Port, off, Slot, empty, Path, Return, Remembered, Relay, withClock, withPorts, withLocals, withPaths, withLinks, withReturns, withHashes}
+use Rattle.rules.specs.Relay.{Port, noPort, Slot, empty, Path, Return, Remembered, Relay, withClock, withPorts, withLocals, withPaths, withLinks, withReturns, withHashes}
 use Rattle.rules.specs.declared.Link.{Link}
 use Rattle.tables.specs.Forms.{portForm, localForm, pathForm, linkForm, returnForm, hashForm, ringForm, relayForm}
 use Rattle.tables.specs.Places.{timeWidth, ringWidth, portWidth, localWidth, pathWidth, linkWidth, returnWidth, hashWidth, clockAt, portsAt, localsAt, pathsAt, linksAt, returnNextAt, returnsAt, hashNextAt, hashesAt}
@@ -19,7 +19,7 @@ use Rattle.tables.specs.Layout.{bytesOf}
 abbrev pub clock-in : Inside relayForm (numberIn timeWidth)
 clock-in = inRecord (next (inRule here within first))
 
-abbrev pub ports-in : Inside relayForm (many portCount off portForm)
+abbrev pub ports-in : Inside relayForm (many portCount noPort portForm)
 ports-in = inRecord (next (next first))
 
 abbrev pub locals-in : Inside relayForm (many localCount empty (slot localForm))
@@ -67,7 +67,7 @@ module _ (r : Relay) where
   patch-hash-next n = (place-in within hash-ring-in) .place .patched r n (tt, (tt, tt))
 
   -- ---- all records of a table
-  pub patch-ports : (ports : List Port) → patch (bytesOf r) portsAt (fields portBytes portCount off ports) ≡ bytesOf (withPorts ports r)
+  pub patch-ports : (ports : List Port) → patch (bytesOf r) portsAt (fields portBytes portCount noPort ports) ≡ bytesOf (withPorts ports r)
   unfolding bytesOf withPorts portBytes
   patch-ports ports = ports-in .place .patched r ports tt
 

@@ -18,7 +18,7 @@ use Rattle.codes.specs.Form.{Form, octetsIn, many, slot, that, code}
 use Rattle.codes.proofs.Law.{whole-again}
 use Rattle.codes.proofs.Forms.{lawful}
 use Rattle.numbers.specs.Numbers.{portCount, localCount, pathCount, linkCount, returnCount, hashCount, blobLimit, modeCount, timeLimit}
-use Rattle.rules.specs.Relay.{Port, off, Slot, empty, used, Path, Return, Remembered, Ring, Relay}
+use Rattle.rules.specs.Relay.{Port, noPort, Slot, empty, used, Path, Return, Remembered, Ring, Relay}
 use Rattle.rules.specs.Blobs.{noBlob}
 use Rattle.rules.specs.Refusals.{timeOk, portOk, pathOk, linkOk, returnOk, hashOk, slotOk, all, tableOk, tablesOk}
 use Rattle.rules.specs.declared.Link.{Link}
@@ -26,7 +26,7 @@ use Rattle.rules.proofs.Tables.{all-listOf, table-of, table-length, table-all}
 use Rattle.tables.specs.Forms.{portForm, localForm, pathForm, linkForm, returnForm, hashForm, ringForm, relayForm}
 use Rattle.tables.specs.Places.{addressWidth, timeWidth, blobWidth, ringWidth, portWidth, localWidth, pathWidth, linkWidth, returnWidth, hashWidth, clockAt, portsAt, localsAt, pathsAt, linksAt, returnNextAt, returnsAt, hashNextAt, hashesAt, tableSize}
 use Rattle.tables.specs.Records.{portBytesOk, localBytesOk, pathBytesOk, linkBytesOk, returnBytesOk, hashBytesOk}
-use Rattle.tables.specs.Layout.{rowsOk, relayOf, bytesOf, wellFormed}
+use Rattle.tables.specs.Layout.{recordsOk, relayOf, bytesOf, wellFormed}
 use Rattle.tables.specs.Shape.{isByte, isBytes, pathShaped, linkShaped, returnShaped, hashShaped, shaped}
 use Rattle.tables.proofs.All.{all-nth, all-from, is-bytes, is-length, is-each}
 
@@ -35,29 +35,29 @@ pub record Formed (t : List ℕ) : Type 0 where
   pub size : length t ≡ tableSize
   pub fine : code relayForm .fine t 0 ≡ true
   pub clock : timeOk (number (part t clockAt timeWidth)) ≡ true
-  pub ports : rowsOk portBytesOk portsAt portWidth portCount t ≡ true
-  pub locals : rowsOk localBytesOk localsAt localWidth localCount t ≡ true
-  pub paths : rowsOk pathBytesOk pathsAt pathWidth pathCount t ≡ true
-  pub links : rowsOk linkBytesOk linksAt linkWidth linkCount t ≡ true
+  pub ports : recordsOk portBytesOk portsAt portWidth portCount t ≡ true
+  pub locals : recordsOk localBytesOk localsAt localWidth localCount t ≡ true
+  pub paths : recordsOk pathBytesOk pathsAt pathWidth pathCount t ≡ true
+  pub links : recordsOk linkBytesOk linksAt linkWidth linkCount t ≡ true
   pub return-next : ltb (number (part t returnNextAt ringWidth)) returnCount ≡ true
-  pub returns : rowsOk returnBytesOk returnsAt returnWidth returnCount t ≡ true
+  pub returns : recordsOk returnBytesOk returnsAt returnWidth returnCount t ≡ true
   pub hash-next : ltb (number (part t hashNextAt ringWidth)) hashCount ≡ true
-  pub hashes : rowsOk hashBytesOk hashesAt hashWidth hashCount t ≡ true
+  pub hashes : recordsOk hashBytesOk hashesAt hashWidth hashCount t ≡ true
 
 module _ (t : List ℕ) where
   -- in the order in which the code tests them
   pub clauses : wellFormed t
       ≡ (eqb (length t) tableSize
       and timeOk (number (part t clockAt timeWidth))
-      and rowsOk portBytesOk portsAt portWidth portCount t
-      and rowsOk localBytesOk localsAt localWidth localCount t
-      and rowsOk pathBytesOk pathsAt pathWidth pathCount t
-      and rowsOk linkBytesOk linksAt linkWidth linkCount t
+      and recordsOk portBytesOk portsAt portWidth portCount t
+      and recordsOk localBytesOk localsAt localWidth localCount t
+      and recordsOk pathBytesOk pathsAt pathWidth pathCount t
+      and recordsOk linkBytesOk linksAt linkWidth linkCount t
       and ltb (number (part t returnNextAt ringWidth)) returnCount
-      and rowsOk returnBytesOk returnsAt returnWidth returnCount t
+      and recordsOk returnBytesOk returnsAt returnWidth returnCount t
       and ltb (number (part t hashNextAt ringWidth)) hashCount
-      and rowsOk hashBytesOk hashesAt hashWidth hashCount t)
-  unfolding wellFormed rowsOk portBytesOk localBytesOk pathBytesOk linkBytesOk returnBytesOk hashBytesOk _and_
+      and recordsOk hashBytesOk hashesAt hashWidth hashCount t)
+  unfolding wellFormed recordsOk portBytesOk localBytesOk pathBytesOk linkBytesOk returnBytesOk hashBytesOk _and_
   clauses = rw (and-assoc (ltb (number (part t returnNextAt ringWidth)) returnCount))
 
   pub formed : wellFormed t ≡ true → Formed t
@@ -296,7 +296,7 @@ module _ {A : Type 0} (rule : A → Bool) (f : Form A)
 module _ (t : List ℕ) where
   -- the relay that they hold breaks no clause of row 7
   pub ok-relay : wellFormed t ≡ true → tablesOk (relayOf t) ≡ true
-  unfolding tablesOk relayOf rowsOk portBytesOk pathBytesOk linkBytesOk returnBytesOk hashBytesOk
+  unfolding tablesOk relayOf recordsOk portBytesOk pathBytesOk linkBytesOk returnBytesOk hashBytesOk
   ok-relay h =
       let f = formed t h in
       and-both (f .clock)
@@ -355,7 +355,7 @@ module _ (r : Relay) (s : shaped r ≡ true) (h : tablesOk r ≡ true) where
       let locals = table-of (slotOk (λ x. true)) localCount (r .locals) (rules .locals) any in
       octets-good addressWidth (r .own) (shape .own)
       also (time-good (r .clock) (rules .clock) also rules .clock)
-      also (ports also (λ i l. port-good _ (all-nth portOk (r .ports) i off modes (omega (arith, ports, l)))))
+      also (ports also (λ i l. port-good _ (all-nth portOk (r .ports) i noPort modes (omega (arith, ports, l)))))
       also slots-good localForm (λ x. true) (isBytes addressWidth) localCount (r .locals) (λ x e k. octets-good addressWidth x k) locals (shape .locals)
       also slots-good pathForm pathOk pathShaped pathCount (r .paths) path-good (rules .paths) (shape .paths)
       also slots-good linkForm linkOk linkShaped linkCount (r .links) link-good (rules .links) (shape .links)

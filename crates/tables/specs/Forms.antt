@@ -7,7 +7,7 @@ use mathlib.Core.Path.{refl}
 use lib.Dec.{ltb}
 use Rattle.codes.specs.Form.{Form, byte, mark, numberIn, octetsIn, _&_, many, slot, that, asRecord}
 use Rattle.numbers.specs.Numbers.{portCount, localCount, pathCount, blobLimit, linkCount, returnCount, hashCount}
-use Rattle.rules.specs.Relay.{Port, off, Slot, empty, Blobs, Path, Return, Remembered, Ring, Relay}
+use Rattle.rules.specs.Relay.{Port, noPort, Slot, empty, Blobs, Path, Return, Remembered, Ring, Relay}
 use Rattle.rules.specs.Blobs.{noBlob}
 use Rattle.rules.specs.Refusals.{timeOk, portOk, pathOk, linkOk, returnOk, hashOk}
 use Rattle.rules.specs.declared.Link.{Link}
@@ -28,7 +28,7 @@ blobWidth = 10
 abbrev pub ringWidth : ℕ
 ringWidth = 2
 
--- ---- a port's settings. No slot: an off port keeps its mode
+-- ---- a port's settings. No slot: an noPort port keeps its mode
 abbrev pub toPort : Bool × ℕ → Port
 toPort (on, mode) = record { on = on; mode = mode }
 
@@ -136,7 +136,7 @@ relayForm =
     (λ y. refl)
     (octetsIn addressWidth
     & that timeOk (numberIn timeWidth)
-    & many portCount off portForm
+    & many portCount noPort portForm
     & many localCount empty (slot localForm)
     & many pathCount empty (slot pathForm)
     & many linkCount empty (slot linkForm)

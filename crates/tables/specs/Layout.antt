@@ -23,13 +23,13 @@ wellFormed t = eqb (length t) tableSize and code relayForm .fine t 0
 
 -- ---- the records of one section, for the contracts of helpers
 -- record i of the section that starts at `at`, whose records are `width` wide
-abbrev pub rowAt : ℕ → ℕ → List ℕ → ℕ → List ℕ
-rowAt at width t i = part t (at + width * i) width
+abbrev pub recordAt : ℕ → ℕ → List ℕ → ℕ → List ℕ
+recordAt at width t i = part t (at + width * i) width
 
 -- a section's n records
 abbrev pub rows : {A : Type 0} → (List ℕ → A) → ℕ → ℕ → ℕ → List ℕ → List A
-rows recordOf at width n t = listOf (λ i. recordOf (rowAt at width t i)) n
+rows recordOf at width n t = listOf (λ i. recordOf (recordAt at width t i)) n
 
 -- each of a section's n records keeps row 7
-unfoldable pub rowsOk : (List ℕ → Bool) → ℕ → ℕ → ℕ → List ℕ → Bool
-rowsOk ok at width n t = allBelow (λ i. ok (rowAt at width t i)) n
+unfoldable pub recordsOk : (List ℕ → Bool) → ℕ → ℕ → ℕ → List ℕ → Bool
+recordsOk ok at width n t = allBelow (λ i. ok (recordAt at width t i)) n

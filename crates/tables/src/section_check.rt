@@ -30,7 +30,7 @@ ghost use lib.ListN.{length};
 ghost use Rattle.numbers.specs.Numbers.{portCount, localCount, pathCount, linkCount, returnCount, hashCount};
 ghost use Rattle.tables.specs.Places.{portWidth, localWidth, pathWidth, linkWidth, returnWidth, hashWidth, portsAt, localsAt, pathsAt, linksAt, returnsAt, hashesAt, tableSize};
 ghost use Rattle.tables.specs.Records.{portBytesOk, localBytesOk, pathBytesOk, linkBytesOk, returnBytesOk, hashBytesOk};
-ghost use Rattle.tables.specs.Layout.{rowsOk};
+ghost use Rattle.tables.specs.Layout.{recordsOk};
 ghost use Rattle.tables.specs.Groups.{groupSize, groupOk};
 
 // Records of a group.
@@ -38,7 +38,7 @@ const GROUP: usize = 16;
 
 pub fn ports_ok(t: &[u8]) -> bool
     requires { ⌜ length (now t) ≡ tableSize ⌝ }
-    ensures { λ r. ⌜ r ≡ rowsOk portBytesOk portsAt portWidth portCount (now (t .entry)) ⌝ }
+    ensures { λ r. ⌜ r ≡ recordsOk portBytesOk portsAt portWidth portCount (now (t .entry)) ⌝ }
 {
     let mut i = 0;
     while i < PORT_COUNT {
@@ -53,7 +53,7 @@ pub fn ports_ok(t: &[u8]) -> bool
 
 pub fn locals_ok(t: &[u8]) -> bool
     requires { ⌜ length (now t) ≡ tableSize ⌝ }
-    ensures { λ r. ⌜ r ≡ rowsOk localBytesOk localsAt localWidth localCount (now (t .entry)) ⌝ }
+    ensures { λ r. ⌜ r ≡ recordsOk localBytesOk localsAt localWidth localCount (now (t .entry)) ⌝ }
 {
     let mut i = 0;
     while i < LOCAL_COUNT {
@@ -68,7 +68,7 @@ pub fn locals_ok(t: &[u8]) -> bool
 
 pub fn paths_ok(t: &[u8]) -> bool
     requires { ⌜ length (now t) ≡ tableSize ⌝ }
-    ensures { λ r. ⌜ r ≡ rowsOk pathBytesOk pathsAt pathWidth pathCount (now (t .entry)) ⌝ }
+    ensures { λ r. ⌜ r ≡ recordsOk pathBytesOk pathsAt pathWidth pathCount (now (t .entry)) ⌝ }
 {
     let mut i = 0;
     while i < PATH_COUNT {
@@ -83,7 +83,7 @@ pub fn paths_ok(t: &[u8]) -> bool
 
 pub fn links_ok(t: &[u8]) -> bool
     requires { ⌜ length (now t) ≡ tableSize ⌝ }
-    ensures { λ r. ⌜ r ≡ rowsOk linkBytesOk linksAt linkWidth linkCount (now (t .entry)) ⌝ }
+    ensures { λ r. ⌜ r ≡ recordsOk linkBytesOk linksAt linkWidth linkCount (now (t .entry)) ⌝ }
 {
     let mut i = 0;
     while i < LINK_COUNT {
@@ -127,7 +127,7 @@ fn return_group_ok(s: &[u8]) -> bool
 
 pub fn returns_ok(t: &[u8]) -> bool
     requires { ⌜ length (now t) ≡ tableSize ⌝ }
-    ensures { λ r. ⌜ r ≡ rowsOk returnBytesOk returnsAt returnWidth returnCount (now (t .entry)) ⌝ }
+    ensures { λ r. ⌜ r ≡ recordsOk returnBytesOk returnsAt returnWidth returnCount (now (t .entry)) ⌝ }
 {
     let mut g = 0;
     while g < RETURN_COUNT / GROUP {
@@ -171,7 +171,7 @@ fn hash_group_ok(s: &[u8]) -> bool
 
 pub fn hashes_ok(t: &[u8]) -> bool
     requires { ⌜ length (now t) ≡ tableSize ⌝ }
-    ensures { λ r. ⌜ r ≡ rowsOk hashBytesOk hashesAt hashWidth hashCount (now (t .entry)) ⌝ }
+    ensures { λ r. ⌜ r ≡ recordsOk hashBytesOk hashesAt hashWidth hashCount (now (t .entry)) ⌝ }
 {
     let mut g = 0;
     while g < HASH_COUNT / GROUP {

@@ -20,7 +20,7 @@ use Rattle.rules.specs.Writes.{remember, announcedBlobs, announcedPath, announc
 use Rattle.rules.specs.declared.Link.{Link}
 use Rattle.tables.specs.Places.{pathWidth, pathsAt}
 use Rattle.tables.specs.Records.{slotOf, pathOf, blobsOf}
-use Rattle.tables.specs.Layout.{rowAt, relayOf, bytesOf, wellFormed}
+use Rattle.tables.specs.Layout.{recordAt, relayOf, bytesOf, wellFormed}
 use Rattle.tables.proofs.Seen.{path-seen, paths-length, links-length, returns-length, hashes-length}
 use Rattle.tables.proofs.Whole.{again}
 use Rattle.update.specs.declared.Announced.{Announced}
@@ -83,7 +83,7 @@ module _ (v : View) (a : Arrival) (t : List ℕ) (b : Bytes t) (h : wellFormed t
         (ap (λ (y : List ℕ). announced x (oneBlob blobLimit y)) (set-by .blob-is) ∙ announced-as empty)
 
     pub known-path-written : (p : Path) (u : List ℕ) → slot ≡ pathPlace (a .clock) before (destination a) → getD (before .paths) slot empty ≡ used p
-        → u ≡ pathWritten t slot (announced x (addBlob blobLimit added (blobsOf (rowAt pathsAt pathWidth t slot))))
+        → u ≡ pathWritten t slot (announced x (addBlob blobLimit added (blobsOf (recordAt pathsAt pathWidth t slot))))
         → u ≡ bytesOf (writeWay v a (everywhere (used p)) before)
     unfolding writeWay putPath announcedPlace announcedBlobs
     known-path-written p u live there e =
@@ -91,8 +91,8 @@ module _ (v : View) (a : Arrival) (t : List ℕ) (b : Bytes t) (h : wellFormed t
         ∙ ap₂ (λ (k : ℕ) (q : Path). bytesOf (withPaths (set (before .paths) k (used q)) before)) live
         (ap₂ (λ (y : List ℕ) (s : Blobs). announced x (addBlob blobLimit y s)) (set-by .blob-is) row-blobs ∙ announced-as (used p))
       where
-        row-blobs : blobsOf (rowAt pathsAt pathWidth t slot) ≡ p .blobs
-        row-blobs = held-blobs (rowAt pathsAt pathWidth t slot) p (sym (path-seen t slot within) ∙ there)
+        row-blobs : blobsOf (recordAt pathsAt pathWidth t slot) ≡ p .blobs
+        row-blobs = held-blobs (recordAt pathsAt pathWidth t slot) p (sym (path-seen t slot within) ∙ there)
 
   -- ---- data by a path: other live records of the key are emptied
   pub return-written : (p : Path) (first : List ℕ) (out slot : ℕ) (u : List ℕ) → isData (header a) ≡ true

@@ -20,7 +20,7 @@ use Rattle.rules.specs.View.{isLiveReturn}
 use Rattle.rules.specs.Writes.{emptiedIf, emptiedWhere}
 use Rattle.tables.specs.Places.{addressWidth, returnWidth, returnsAt}
 use Rattle.tables.specs.Records.{slotOf, slotBytes, returnOf, returnBytes}
-use Rattle.tables.specs.Layout.{rowAt, relayOf, bytesOf, wellFormed}
+use Rattle.tables.specs.Layout.{recordAt, relayOf, bytesOf, wellFormed}
 use Rattle.tables.proofs.Patches.{returns-in, patch-return}
 use Rattle.tables.proofs.Seen.{return-seen, returns-length}
 use Rattle.tables.proofs.Whole.{again}
@@ -33,7 +33,7 @@ key-seen b key lb lk = rw lk (same-agree addressWidth (part b 1 addressWidth) ke
 
 -- a relay's return record, in its bytes
 there : (r : Relay) (i : ℕ) → i < returnCount → length (r .returns .slots) ≡ returnCount
-    → rowAt returnsAt returnWidth (bytesOf r) i ≡ slotBytes returnWidth returnBytes (getD (r .returns .slots) i empty)
+    → recordAt returnsAt returnWidth (bytesOf r) i ≡ slotBytes returnWidth returnBytes (getD (r .returns .slots) i empty)
 unfolding bytesOf returnBytes
 there r i l e = (item i l within returns-in) .place .there r ((tt, tt), e)
 
@@ -71,14 +71,14 @@ module _ (clock : ℕ) (key t : List ℕ) where
       all-there = mixed-length new old alike i (omega (arith, inside)) ∙ returns-length t
 
       -- place i is still as it was
-      kept : slotOf returnOf (rowAt returnsAt returnWidth u i) ≡ getD old i empty
+      kept : slotOf returnOf (recordAt returnsAt returnWidth u i) ≡ getD old i empty
       unfolding sweptTo withReturns
       kept =
           ap (slotOf returnOf)
-          (ap (λ (x : List ℕ). rowAt returnsAt returnWidth x i) e
+          (ap (λ (x : List ℕ). recordAt returnsAt returnWidth x i) e
           ∙ there (sweptTo i) i l all-there
           ∙ ap (slotBytes returnWidth returnBytes) (mixed-at new old alike i empty inside)
-          ∙ sym (ap (λ (x : List ℕ). rowAt returnsAt returnWidth x i) (sym (again t b h)) ∙ there (relayOf t) i l (returns-length t)))
+          ∙ sym (ap (λ (x : List ℕ). recordAt returnsAt returnWidth x i) (sym (again t b h)) ∙ there (relayOf t) i l (returns-length t)))
           ∙ sym (return-seen t i l)
 
       swept : getD new i empty ≡ emptiedIf (isLiveReturn clock key) (getD old i empty)

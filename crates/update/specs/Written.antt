@@ -15,7 +15,7 @@ use Rattle.tables.specs.Forms.{blobsForm}
 use Rattle.tables.specs.Places.{addressWidth, timeWidth, ringWidth, blobWidth, pathWidth, linkWidth, returnWidth, hashWidth, clockAt, pathsAt, linksAt, returnNextAt, returnsAt, hashNextAt, hashesAt}
 use Rattle.tables.specs.Fields.{pathBlobsAt}
 use Rattle.tables.specs.Records.{exactly, slotOf, slotBytes, pathBytes, linkBytes, returnOf, returnBytes, hashBytes}
-use Rattle.tables.specs.Layout.{rowAt, relayOf, bytesOf}
+use Rattle.tables.specs.Layout.{recordAt, relayOf, bytesOf}
 use Rattle.update.specs.declared.Announced.{Announced}
 
 unfoldable pub clockWritten : List ℕ → ℕ → List ℕ
@@ -78,7 +78,7 @@ returnEmptied t place = patch t (returnsAt + returnWidth * place) (slotBytes ret
 -- .. where it is a live one of the key
 unfoldable pub emptiedIfLive : ℕ → List ℕ → List ℕ → ℕ → List ℕ
 emptiedIfLive clock key t place =
-    holds (isLiveReturn clock key) (slotOf returnOf (rowAt returnsAt returnWidth t place)) then returnEmptied t place otherwise t
+    holds (isLiveReturn clock key) (slotOf returnOf (recordAt returnsAt returnWidth t place)) then returnEmptied t place otherwise t
 
 -- every live one of the key emptied
 unfoldable pub returnsEmptied : ℕ → List ℕ → List ℕ → List ℕ

@@ -18,7 +18,7 @@ ghost use Rattle.numbers.specs.Numbers.{blobLimit, pathCount};
 ghost use Rattle.rules.specs.Blobs.{oneBlob, addBlob};
 ghost use Rattle.tables.specs.Places.{tableSize, pathsAt, pathWidth};
 ghost use Rattle.tables.specs.Records.{blobsOf};
-ghost use Rattle.tables.specs.Layout.{rowAt};
+ghost use Rattle.tables.specs.Layout.{recordAt};
 ghost use Rattle.update.specs.Written.{headWidth, headBytes, announced, pathWritten};
 
 // How wide a path's blobs are, with their count.
@@ -53,7 +53,7 @@ pub fn put_new_path(tables: &mut [u8], place: usize, path: Announced, blob: [u8;
 // Puts a known path, which keeps its place, with a blob added to those that the record holds.
 pub fn put_known_path(tables: &mut [u8], place: usize, path: Announced, blob: [u8; 10])
     requires { ⌜ (length (now tables) ≡ tableSize) × (place < pathCount) ⌝ }
-    ensures { λ _. ⌜ now (tables .exit) ≡ pathWritten (now (tables .entry)) place (announced path (addBlob blobLimit blob (blobsOf (rowAt pathsAt pathWidth (now (tables .entry)) place)))) ⌝ }
+    ensures { λ _. ⌜ now (tables .exit) ≡ pathWritten (now (tables .entry)) place (announced path (addBlob blobLimit blob (blobsOf (recordAt pathsAt pathWidth (now (tables .entry)) place)))) ⌝ }
 {
     let at = PATHS_AT + PATH_WIDTH * place;
     put_head(tables, at, path);

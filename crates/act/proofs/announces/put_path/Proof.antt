@@ -1,6 +1,6 @@
 use mathlib.Core.Path.{_∙_}
 use Rattle.octets.specs.Choice.{_then_otherwise_}
-use Rattle.act.specs.Kept.{blobsKept, pathPut}
+use Rattle.act.specs.Stored.{blobsStored, pathPut}
 use borrow.Author.Needs.{needs}
 use Rattle.act.proofs.announces.put_path.Statement.{statement}
 use Rattle.act.proofs.announces.put_path.Tie as tie
@@ -12,7 +12,7 @@ same-length : tie.Need-same-length
 same-length c = search needs
 
 returns : tie.Need-returns
-unfolding pathPut blobsKept _then_otherwise_
+unfolding pathPut blobsStored _then_otherwise_
 returns c = c .before .before .put-known-path .ensures ∙ rw (c .before .before .before .before .if1 .taken)
 
 put-new-path-requires : tie.Need-put-new-path-requires
@@ -22,7 +22,7 @@ same-length-2 : tie.Need-same-length-2
 same-length-2 c = search needs
 
 returns-2 : tie.Need-returns-2
-unfolding pathPut blobsKept _then_otherwise_
+unfolding pathPut blobsStored _then_otherwise_
 returns-2 c = c .before .before .put-new-path .ensures ∙ rw (c .before .before .before .before .if1 .left)
 
 pub put-path-spec : {M : Type 1} → statement M

@@ -4,7 +4,7 @@ use Rattle.octets.specs.Part.{part}
 use Rattle.numbers.specs.Numbers.{returnCount}
 use Rattle.tables.proofs.Whole.{formed}
 use Rattle.update.proofs.Steps.{return-next-within}
-use Rattle.act.specs.Kept.{returnPut}
+use Rattle.act.specs.Stored.{returnPut}
 use borrow.Author.Needs.{needs}
 use Rattle.act.proofs.returns.put_return.Statement.{statement}
 use Rattle.act.proofs.returns.put_return.Tie as tie

@@ -1,4 +1,4 @@
-use Rattle.act.specs.Kept.{remembersDecided}
+use Rattle.act.specs.Stored.{remembersDecided}
 use borrow.Author.Needs.{needs}
 use Rattle.act.proofs.stamps.remembers.Statement.{statement}
 use Rattle.act.proofs.stamps.remembers.Tie as tie

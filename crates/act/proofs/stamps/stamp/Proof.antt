@@ -1,6 +1,6 @@
 use mathlib.Core.Path.{_∙_}
 use Rattle.octets.specs.Choice.{_then_otherwise_}
-use Rattle.act.specs.Kept.{stamped}
+use Rattle.act.specs.Stored.{stamped}
 use borrow.Author.Needs.{needs}
 use Rattle.act.proofs.stamps.stamp.Statement.{statement}
 use Rattle.act.proofs.stamps.stamp.Tie as tie

@@ -45,7 +45,7 @@ use denote.Triple.Walked.{says, Stays, stay-ref, stay-none, stay-none-slice, gav
 use denote.Exit.{yes}
 use contract.Lifetimes.{Lfts, Shares}
 use lib.Dec.{eqb}
-use Rattle.relay.specs.Promise.{Outcome, packetOn}
+use Rattle.relay.specs.Promise.{JudgementOn, packetOn}
 use Rattle.haskumye.specs.Answers.{answerNumber}
 use Rattle.haskumye.specs.declared.packet_call.Numbered.{Numbered}
 use Rattle.rules.specs.declared.Tally.{Tally}
@@ -140,7 +140,7 @@ module _ {M : Type 1} (𝓤 : URA M) (H : Heap 𝓤) (A : Atoms 𝓤) (W : Given
   abbrev to : Judge 𝓤 H A at-mem run .Ghost
   to = ((κj, (q₀, (q₁, (q₂, tt))), tt, xj, (s₀ ∷ [], (vint w64 port ∷ [], (vint w64 clock ∷ [], (vint w8 signed ∷ [], (s₁ ∷ [], (s₂ ∷ [], (tvals h, tt)))))))), tt)
 
-  abbrev promise : Outcome
+  abbrev promise : JudgementOn
   promise = packetOn (p .now) port clock (eqb signed 1) ys₁ h ys₂
 
   abbrev Said : Numbered → List ℕ → List ℕ → Type 0

@@ -7,7 +7,7 @@ use Rattle.octets.specs.Part.{part}
 use Rattle.octets.proofs.Part.{part-range, range-length}
 use Rattle.lookup.specs.Search.{isLiveOf, lowestRow}
 use Rattle.lookup.proofs.Searches.{none-yet, not-here, found-here, nowhere}
-use Rattle.tables.specs.Layout.{rowAt}
+use Rattle.tables.specs.Layout.{recordAt}
 use Rattle.tables.proofs.Lent.{row-end}
 use native.Mathlib.Omega.{arith}
 use borrow.Author.Needs.{needs}
@@ -25,7 +25,7 @@ within : (tables : List ℕ) (at width count i from : ℕ) → at + width * coun
 within tables at width count i from fits l e = omega (arith, row-end at width count i l)
 
 -- and its bytes are the row's
-row : (tables : List ℕ) (at width i from : ℕ) → from ≡ at + width * i → take (from + width - from) (drop from tables) ≡ rowAt at width tables i
+row : (tables : List ℕ) (at width i from : ℕ) → from ≡ at + width * i → take (from + width - from) (drop from tables) ≡ recordAt at width tables i
 row tables at width i from e = part-range tables from width ∙ ap (λ (n : ℕ). part tables n width) e
 
 loop-holds : tie.Need-loop-holds Inv-loop μ-loop

@@ -4,7 +4,7 @@ use lib.ListN.{length}
 use borrow.Author.Needs.{needs}
 use Rattle.packet.specs.Announce.{blobOf}
 use Rattle.tables.specs.Records.{pathOf}
-use Rattle.tables.specs.Layout.{rowAt}
+use Rattle.tables.specs.Layout.{recordAt}
 use Rattle.tables.specs.Places.{pathsAt, pathWidth}
 use Rattle.outgoing.proofs.LeavingLaws.{long}
 use Rattle.plan.specs.Decided.{arrivalOf}
@@ -25,7 +25,7 @@ returns : tie.Need-returns
 returns c =
     let s = c .before .before .before .before .before .before in
     known-replay (arrivalOf (s .args .packet .now) (s .args .arrived))
-    (pathOf (rowAt pathsAt pathWidth (s .args .tables .now) (s .args .place))) (s .args .place)
+    (pathOf (recordAt pathsAt pathWidth (s .args .tables .now) (s .args .place))) (s .args .place)
     (c .before .before .blob .ensures ∙ ap blobOf (c .before .before .before .payload .ensures))
     (sym (c .before .holds-blob .ensures) ∙ c .if1 .taken)
 
@@ -46,7 +46,7 @@ shared-slice-read-hops c =
 returns-2 : tie.Need-returns-2
 returns-2 c =
     let s = c .before .before .before .before .before .before .before .before .before .before .before .before in
-    known-worse (arrivalOf (s .args .packet .now) (s .args .arrived)) (pathOf (rowAt pathsAt pathWidth (s .args .tables .now) (s .args .place)))
+    known-worse (arrivalOf (s .args .packet .now) (s .args .arrived)) (pathOf (recordAt pathsAt pathWidth (s .args .tables .now) (s .args .place)))
     (s .args .place)
     (c .before .before .before .before .before .before .before .before .blob .ensures ∙ ap blobOf (c .before .before .before .before .before .before .before .before .before .payload .ensures))
     (sym (c .before .before .before .before .before .before .before .holds-blob .ensures) ∙ c .before .before .before .before .before .before .if1 .left)
@@ -57,7 +57,7 @@ returns-3 : tie.Need-returns-3
 returns-3 c =
     let s = c .before .before .before .before .before .before .before .before .before .before .before .before in
     known-nearer (arrivalOf (s .args .packet .now) (s .args .arrived))
-    (pathOf (rowAt pathsAt pathWidth (s .args .tables .now) (s .args .place))) (s .args .place)
+    (pathOf (recordAt pathsAt pathWidth (s .args .tables .now) (s .args .place))) (s .args .place)
     (c .before .before .before .before .before .before .before .before .blob .ensures ∙ ap blobOf (c .before .before .before .before .before .before .before .before .before .payload .ensures))
     (sym (c .before .before .before .before .before .before .before .holds-blob .ensures) ∙ c .before .before .before .before .before .before .if1 .left)
     (c .before .before .before .before .before .emission .ensures) (c .before .before .before .before .greatest-emission .ensures)
@@ -66,7 +66,7 @@ returns-3 c =
 returns-4 : tie.Need-returns-4
 returns-4 c =
     let s = c .before .before .before .before .before .before .before .before .before in
-    known-newer (arrivalOf (s .args .packet .now) (s .args .arrived)) (pathOf (rowAt pathsAt pathWidth (s .args .tables .now) (s .args .place)))
+    known-newer (arrivalOf (s .args .packet .now) (s .args .arrived)) (pathOf (recordAt pathsAt pathWidth (s .args .tables .now) (s .args .place)))
     (s .args .place)
     (c .before .before .before .before .before .blob .ensures ∙ ap blobOf (c .before .before .before .before .before .before .payload .ensures))
     (sym (c .before .before .before .before .holds-blob .ensures) ∙ c .before .before .before .if1 .left) (c .before .before .emission .ensures)

@@ -2,7 +2,7 @@ use mathlib.Core.Path.{ap, _∙_}
 use borrow.Author.Tests.{not-true, not-false}
 use borrow.Author.Needs.{needs}
 use Rattle.rules.specs.View.{linkPlace}
-use Rattle.tables.specs.Layout.{relayOf, rowAt}
+use Rattle.tables.specs.Layout.{relayOf, recordAt}
 use Rattle.tables.specs.Records.{pathOf}
 use Rattle.tables.specs.Places.{pathsAt, pathWidth}
 use Rattle.plan.specs.Decided.{arrivalOf, highOf, lowOf}
@@ -21,7 +21,7 @@ returns : tie.Need-returns
 returns c =
     let s = c .before .before .before .before .before in
     request-known (relayOf (s .args .tables .now)) (arrivalOf (s .args .packet .now) (s .args .arrived))
-    (pathOf (rowAt pathsAt pathWidth (s .args .tables .now) (s .args .place))) (s .args .place)
+    (pathOf (recordAt pathsAt pathWidth (s .args .tables .now) (s .args .place))) (s .args .place)
     (id-live (s .args .tables .now) (s .args .arrived .clock) _ (c .before .link-place .ensures ∙ ap (linkPlace (s .args .arrived .clock) (relayOf (s .args .tables .now))) (c .before .before .link-id-of .ensures)) (c .if1 .taken))
 
 path-port-requires : tie.Need-path-port-requires
@@ -37,9 +37,9 @@ returns-2 : tie.Need-returns-2
 returns-2 c =
     let s = c .before .before .before .before .before .before .before .before .before in
     request-off (relayOf (s .args .tables .now)) (arrivalOf (s .args .packet .now) (s .args .arrived))
-    (pathOf (rowAt pathsAt pathWidth (s .args .tables .now) (s .args .place))) (s .args .place)
+    (pathOf (recordAt pathsAt pathWidth (s .args .tables .now) (s .args .place))) (s .args .place)
     (id-free (s .args .tables .now) (s .args .arrived .clock) _ (c .before .before .before .before .before .link-place .ensures ∙ ap (linkPlace (s .args .arrived .clock) (relayOf (s .args .tables .now))) (c .before .before .before .before .before .before .link-id-of .ensures)) (c .before .before .before .before .if1 .left))
-    (seen-on (relayOf (s .args .tables .now)) ((pathOf (rowAt pathsAt pathWidth (s .args .tables .now) (s .args .place))) .port) (c .before .before .before .path-port .ensures) (c .before .before .wide .ensures) (c .before .port-on .ensures) ∙ not-true _ (c .if2 .taken))
+    (seen-on (relayOf (s .args .tables .now)) ((pathOf (recordAt pathsAt pathWidth (s .args .tables .now) (s .args .place))) .port) (c .before .before .before .path-port .ensures) (c .before .before .wide .ensures) (c .before .port-on .ensures) ∙ not-true _ (c .if2 .taken))
 
 free-link-requires : tie.Need-free-link-requires
 free-link-requires c κs = search needs
@@ -62,7 +62,7 @@ returns-3 c =
     let d6 = d .before .before .before .before .before .before in
     let s = d6 .before .before .before .before .before in
     let t = s .args .tables .now in
-    let p = pathOf (rowAt pathsAt pathWidth t (s .args .place)) in
+    let p = pathOf (recordAt pathsAt pathWidth t (s .args .place)) in
     let id = d6 .before .before .link-id-of .ensures in
     let found = d6 .before .link-place .ensures ∙ ap (linkPlace (s .args .arrived .clock) (relayOf t)) id in
     let on = seen-on (relayOf t) (p .port) (d .before .before .before .before .before .path-port .ensures) (d .before .before .before .before .wide .ensures) (d .before .before .before .port-on .ensures) in
@@ -75,9 +75,9 @@ returns-4 : tie.Need-returns-4
 returns-4 c =
     let s = c .before .before .before .before .before .before .before .before .before .before .before in
     request-full (relayOf (s .args .tables .now)) (arrivalOf (s .args .packet .now) (s .args .arrived))
-    (pathOf (rowAt pathsAt pathWidth (s .args .tables .now) (s .args .place))) (s .args .place)
+    (pathOf (recordAt pathsAt pathWidth (s .args .tables .now) (s .args .place))) (s .args .place)
     (id-free (s .args .tables .now) (s .args .arrived .clock) _ (c .before .before .before .before .before .before .before .link-place .ensures ∙ ap (linkPlace (s .args .arrived .clock) (relayOf (s .args .tables .now))) (c .before .before .before .before .before .before .before .before .link-id-of .ensures)) (c .before .before .before .before .before .before .if1 .left))
-    (seen-on (relayOf (s .args .tables .now)) ((pathOf (rowAt pathsAt pathWidth (s .args .tables .now) (s .args .place))) .port) (c .before .before .before .before .before .path-port .ensures) (c .before .before .before .before .wide .ensures) (c .before .before .before .port-on .ensures) ∙ not-false _ (c .before .before .if2 .left))
+    (seen-on (relayOf (s .args .tables .now)) ((pathOf (recordAt pathsAt pathWidth (s .args .tables .now) (s .args .place))) .port) (c .before .before .before .before .before .path-port .ensures) (c .before .before .before .before .wide .ensures) (c .before .before .before .port-on .ensures) ∙ not-false _ (c .before .before .if2 .left))
     (c .before .free-link .ensures) (c .if3 .left)
 
 pub request-spec : {M : Type 1} → statement M

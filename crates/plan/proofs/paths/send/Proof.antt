@@ -1,6 +1,6 @@
 use mathlib.Core.Path.{_∙_}
 use borrow.Author.Needs.{needs}
-use Rattle.tables.specs.Layout.{relayOf, rowAt}
+use Rattle.tables.specs.Layout.{relayOf, recordAt}
 use Rattle.tables.specs.Records.{pathOf}
 use Rattle.tables.specs.Places.{pathsAt, pathWidth}
 use Rattle.plan.specs.Kinds.{sending}
@@ -22,17 +22,17 @@ returns : tie.Need-returns
 unfolding sending
 returns c =
     let s = c .before .before .before .before .before in
-    leaves (relayOf (s .args .tables .now)) ((pathOf (rowAt pathsAt pathWidth (s .args .tables .now) (s .args .place))) .port)
+    leaves (relayOf (s .args .tables .now)) ((pathOf (recordAt pathsAt pathWidth (s .args .tables .now) (s .args .place))) .port)
     (Data (s .args .place))
-    (seen-on (relayOf (s .args .tables .now)) ((pathOf (rowAt pathsAt pathWidth (s .args .tables .now) (s .args .place))) .port) (c .before .before .before .path-port .ensures) (c .before .before .wide .ensures) (c .before .port-on .ensures) ∙ c .if1 .taken)
+    (seen-on (relayOf (s .args .tables .now)) ((pathOf (recordAt pathsAt pathWidth (s .args .tables .now) (s .args .place))) .port) (c .before .before .before .path-port .ensures) (c .before .before .wide .ensures) (c .before .port-on .ensures) ∙ c .if1 .taken)
 
 returns-2 : tie.Need-returns-2
 unfolding sending
 returns-2 c =
     let s = c .before .before .before .before .before in
-    stays (relayOf (s .args .tables .now)) ((pathOf (rowAt pathsAt pathWidth (s .args .tables .now) (s .args .place))) .port)
+    stays (relayOf (s .args .tables .now)) ((pathOf (recordAt pathsAt pathWidth (s .args .tables .now) (s .args .place))) .port)
     (Data (s .args .place))
-    (seen-on (relayOf (s .args .tables .now)) ((pathOf (rowAt pathsAt pathWidth (s .args .tables .now) (s .args .place))) .port) (c .before .before .before .path-port .ensures) (c .before .before .wide .ensures) (c .before .port-on .ensures) ∙ c .if1 .left)
+    (seen-on (relayOf (s .args .tables .now)) ((pathOf (recordAt pathsAt pathWidth (s .args .tables .now) (s .args .place))) .port) (c .before .before .before .path-port .ensures) (c .before .before .wide .ensures) (c .before .port-on .ensures) ∙ c .if1 .left)
 
 pub send-spec : {M : Type 1} → statement M
 send-spec =

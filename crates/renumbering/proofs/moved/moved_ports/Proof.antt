@@ -3,7 +3,7 @@ use mathlib.Core.Path.{_≡_, ap, _∙_}
 use lib.Dec.{lit<}
 use lib.ListN.{getD}
 use Rattle.numbers.specs.Numbers.{portCount}
-use Rattle.rules.specs.Relay.{off}
+use Rattle.rules.specs.Relay.{noPort}
 use Rattle.tables.specs.Records.{portBytes}
 use Rattle.tables.specs.Layout.{relayOf}
 use Rattle.renumbering.proofs.Moves.{movedTo, moved-none, moved-more, moved-all}
@@ -51,7 +51,7 @@ loop-less : tie.Need-loop-less Inv-loop μ-loop
 loop-less c = search needs
 
 loop-again : tie.Need-loop-again Inv-loop μ-loop
-loop-again c = (search needs, moved-more (c .before .before .before .before .before .before .before .args .map .now) (relayOf (c .before .before .before .before .before .before .before .args .tables .now) .ports) (c .before .before .before .before .loop .n) _ _ (c .before .before .before .loop-test .taken) (c .before .before .before .before .loop .moved) (c .before .before .before .before .loop .inv .1) (c .before .port-byte .ensures ∙ ap (λ (k : ℕ). getD (portBytes (getD (relayOf (c .before .before .before .before .before .before .before .args .tables .now) .ports) k off)) 0 0) (c .before .before .preimage-of .ensures)) (c .port-byte2 .ensures ∙ ap (λ (k : ℕ). getD (portBytes (getD (relayOf (c .before .before .before .before .before .before .before .args .tables .now) .ports) k off)) 1 0) (c .before .before .preimage-of .ensures)))
+loop-again c = (search needs, moved-more (c .before .before .before .before .before .before .before .args .map .now) (relayOf (c .before .before .before .before .before .before .before .args .tables .now) .ports) (c .before .before .before .before .loop .n) _ _ (c .before .before .before .loop-test .taken) (c .before .before .before .before .loop .moved) (c .before .before .before .before .loop .inv .1) (c .before .port-byte .ensures ∙ ap (λ (k : ℕ). getD (portBytes (getD (relayOf (c .before .before .before .before .before .before .before .args .tables .now) .ports) k noPort)) 0 0) (c .before .before .preimage-of .ensures)) (c .port-byte2 .ensures ∙ ap (λ (k : ℕ). getD (portBytes (getD (relayOf (c .before .before .before .before .before .before .before .args .tables .now) .ports) k noPort)) 1 0) (c .before .before .preimage-of .ensures)))
 
 returns : tie.Need-returns Inv-loop μ-loop
 returns c = moved-all (c .before .before .before .before .args .map .now) (relayOf (c .before .before .before .before .args .tables .now) .ports) (c .before .loop .n) (c .before .loop .moved) (c .loop-test .left) (c .before .loop .inv .1)

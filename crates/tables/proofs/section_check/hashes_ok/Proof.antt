@@ -5,7 +5,7 @@ use Rattle.octets.proofs.Index.{ended}
 use Rattle.numbers.specs.Numbers.{hashCount}
 use Rattle.tables.specs.Places.{hashWidth, hashesAt}
 use Rattle.tables.specs.Records.{hashBytesOk}
-use Rattle.tables.specs.Layout.{rowsOk}
+use Rattle.tables.specs.Layout.{recordsOk}
 use Rattle.tables.specs.Groups.{groupSize}
 use Rattle.tables.proofs.Loops.{none-yet, group-passes, group-fails}
 use native.Mathlib.Omega.{arith}
@@ -14,7 +14,7 @@ use Rattle.tables.proofs.section_check.hashes_ok.Statement.{statement}
 use Rattle.tables.proofs.section_check.hashes_ok.Tie as tie
 
 abbrev Inv-loop : tie.InvT-loop
-Inv-loop t g₀ g = (g ≤ hashCount / groupSize) × (rowsOk hashBytesOk hashesAt hashWidth (groupSize * g) t ≡ true)
+Inv-loop t g₀ g = (g ≤ hashCount / groupSize) × (recordsOk hashBytesOk hashesAt hashWidth (groupSize * g) t ≡ true)
 
 abbrev μ-loop : tie.MeasureT-loop
 μ-loop t g₀ g = hashCount / groupSize - g
@@ -62,7 +62,7 @@ loop-again : tie.Need-loop-again Inv-loop μ-loop
 loop-again c = (search needs, group-passes hashBytesOk hashesAt hashWidth _ _ (c .before .hash-group-ok .ensures) (c .before .before .before .before .loop .inv .1) (c .if1 .left))
 
 returns-2 : tie.Need-returns-2 Inv-loop μ-loop
-returns-2 c = ended (λ (k : ℕ). rowsOk hashBytesOk hashesAt hashWidth (groupSize * k) (c .before .before .before .args .t .now)) (c .before .loop .inv .0) (c .loop-test .left) (c .before .loop .inv .1)
+returns-2 c = ended (λ (k : ℕ). recordsOk hashBytesOk hashesAt hashWidth (groupSize * k) (c .before .before .before .args .t .now)) (c .before .loop .inv .0) (c .loop-test .left) (c .before .loop .inv .1)
 
 pub hashes-ok-spec : {M : Type 1} → statement M
 hashes-ok-spec =

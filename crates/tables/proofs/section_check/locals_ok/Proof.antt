@@ -5,14 +5,14 @@ use Rattle.octets.proofs.Index.{ended}
 use Rattle.numbers.specs.Numbers.{localCount}
 use Rattle.tables.specs.Places.{localWidth, localsAt}
 use Rattle.tables.specs.Records.{localBytesOk}
-use Rattle.tables.specs.Layout.{rowsOk}
+use Rattle.tables.specs.Layout.{recordsOk}
 use Rattle.tables.proofs.Loops.{none-yet, row-passes, row-fails}
 use borrow.Author.Needs.{needs}
 use Rattle.tables.proofs.section_check.locals_ok.Statement.{statement}
 use Rattle.tables.proofs.section_check.locals_ok.Tie as tie
 
 abbrev Inv-loop : tie.InvT-loop
-Inv-loop t i₀ i = (i ≤ localCount) × (rowsOk localBytesOk localsAt localWidth i t ≡ true)
+Inv-loop t i₀ i = (i ≤ localCount) × (recordsOk localBytesOk localsAt localWidth i t ≡ true)
 
 abbrev μ-loop : tie.MeasureT-loop
 μ-loop t i₀ i = localCount - i
@@ -54,7 +54,7 @@ loop-again : tie.Need-loop-again Inv-loop μ-loop
 loop-again c = (search needs, row-passes localBytesOk localsAt localWidth _ _ (c .before .local-ok .ensures) (c .if1 .left) (c .before .before .before .before .loop .inv .1))
 
 returns-2 : tie.Need-returns-2 Inv-loop μ-loop
-returns-2 c = ended (λ (k : ℕ). rowsOk localBytesOk localsAt localWidth k (c .before .before .before .args .t .now)) (c .before .loop .inv .0) (c .loop-test .left) (c .before .loop .inv .1)
+returns-2 c = ended (λ (k : ℕ). recordsOk localBytesOk localsAt localWidth k (c .before .before .before .args .t .now)) (c .before .loop .inv .0) (c .loop-test .left) (c .before .loop .inv .1)
 
 pub locals-ok-spec : {M : Type 1} → statement M
 locals-ok-spec =

@@ -5,7 +5,7 @@ use Rattle.octets.proofs.Index.{ended}
 use Rattle.numbers.specs.Numbers.{returnCount}
 use Rattle.tables.specs.Places.{returnWidth, returnsAt}
 use Rattle.tables.specs.Records.{returnBytesOk}
-use Rattle.tables.specs.Layout.{rowsOk}
+use Rattle.tables.specs.Layout.{recordsOk}
 use Rattle.tables.specs.Groups.{groupSize}
 use Rattle.tables.proofs.Loops.{none-yet, group-passes, group-fails}
 use native.Mathlib.Omega.{arith}
@@ -14,7 +14,7 @@ use Rattle.tables.proofs.section_check.returns_ok.Statement.{statement}
 use Rattle.tables.proofs.section_check.returns_ok.Tie as tie
 
 abbrev Inv-loop : tie.InvT-loop
-Inv-loop t g₀ g = (g ≤ returnCount / groupSize) × (rowsOk returnBytesOk returnsAt returnWidth (groupSize * g) t ≡ true)
+Inv-loop t g₀ g = (g ≤ returnCount / groupSize) × (recordsOk returnBytesOk returnsAt returnWidth (groupSize * g) t ≡ true)
 
 abbrev μ-loop : tie.MeasureT-loop
 μ-loop t g₀ g = returnCount / groupSize - g
@@ -62,7 +62,7 @@ loop-again : tie.Need-loop-again Inv-loop μ-loop
 loop-again c = (search needs, group-passes returnBytesOk returnsAt returnWidth _ _ (c .before .return-group-ok .ensures) (c .before .before .before .before .loop .inv .1) (c .if1 .left))
 
 returns-2 : tie.Need-returns-2 Inv-loop μ-loop
-returns-2 c = ended (λ (k : ℕ). rowsOk returnBytesOk returnsAt returnWidth (groupSize * k) (c .before .before .before .args .t .now)) (c .before .loop .inv .0) (c .loop-test .left) (c .before .loop .inv .1)
+returns-2 c = ended (λ (k : ℕ). recordsOk returnBytesOk returnsAt returnWidth (groupSize * k) (c .before .before .before .args .t .now)) (c .before .loop .inv .0) (c .loop-test .left) (c .before .loop .inv .1)
 
 pub returns-ok-spec : {M : Type 1} → statement M
 returns-ok-spec =

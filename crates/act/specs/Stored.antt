@@ -12,7 +12,7 @@ use Rattle.rules.specs.Blobs.{oneBlob, addBlob}
 use Rattle.rules.specs.Writes.{remembersDrop}
 use Rattle.tables.specs.Places.{pathsAt, pathWidth}
 use Rattle.tables.specs.Records.{blobsOf}
-use Rattle.tables.specs.Layout.{rowAt, relayOf}
+use Rattle.tables.specs.Layout.{recordAt, relayOf}
 use Rattle.update.specs.declared.Announced.{Announced}
 use Rattle.update.specs.Written.{clockWritten, hashWritten, announced, pathWritten, returnWritten, returnsEmptied}
 use Rattle.plan.specs.declared.Decision.{Decision}
@@ -37,14 +37,14 @@ stamped t place remembered hash clock =
     otherwise clockWritten t clock
 
 -- ---- an announce's path
-unfoldable pub blobsKept : List ℕ → ℕ → Bool → List ℕ → Blobs
-blobsKept t place known blob =
+unfoldable pub blobsStored : List ℕ → ℕ → Bool → List ℕ → Blobs
+blobsStored t place known blob =
     known
-    then addBlob blobLimit blob (blobsOf (rowAt pathsAt pathWidth t place))
+    then addBlob blobLimit blob (blobsOf (recordAt pathsAt pathWidth t place))
     otherwise oneBlob blobLimit blob
 
 unfoldable pub pathPut : List ℕ → ℕ → Bool → Announced → List ℕ → List ℕ
-pathPut t place known path blob = pathWritten t place (announced path (blobsKept t place known blob))
+pathPut t place known path blob = pathWritten t place (announced path (blobsStored t place known blob))
 
 -- ---- a link's id
 abbrev pub addressBy : ℕ → ℕ → List ℕ
