@@ -16,7 +16,7 @@ use Rattle.rules.specs.Ways.{Way, everywhere, by-path, along-link, by-re
 use Rattle.rules.specs.Judging.{Plan, dropped, delivered, follows, plan}
 use Rattle.rules.specs.Writes.{remembers, remember, putPath, putReturn, emptyReturn, putLink, renewLink, writeWay, writePlan, stamp, enact}
 use Rattle.rules.specs.Calls.{Judgement, judged, judge, packetCall, settled, TableCall, sets-port, adds, removes, renumbers, ruleOf, settle}
-use Rattle.rules.specs.Run.{Call, packet, on-tables, ofJudgement, ofSetting, perform, relayAfter}
+use Rattle.rules.specs.Run.{Call, packet, on-tables, EachCall, ofJudgement, ofSetting, perform, relayAfter}
 use Rattle.rules.specs.declared.Link.{Link}
 use Rattle.rules.specs.declared.Tally.{Tally}
 use Rattle.octets.proofs.Listed.{NoneHolds}
@@ -171,18 +171,15 @@ module _ (Q : Relay → Type 0) {r : Relay} (q : Q r) where
   table-kept c t accepted = either Q _ (λ e. accepted (table-passed c r e)) (λ _. q)
 
 -- ---- any list of calls, each of which is given what it needs
-abbrev pub Each : (Call → Type 0) → List Call → Type 0
-Each given [] = Unit {0}
-Each given (c ∷ cs) = given c × Each given cs
-
 -- where none needs anything
-pub any-calls : (cs : List Call) → Each (λ c. Unit {0}) cs
+pub any-calls : (cs : List Call) → EachCall (λ c. Unit {0}) cs
+unfolding EachCall
 any-calls [] = tt
 any-calls (c ∷ cs) = (tt, any-calls cs)
 
 pub stays : (Q : Relay → Type 0) (given : Call → Type 0)
     → ((c : Call) (r : Relay) (t : Tally) → given c → Q r → Q (perform c r t .relay))
-    → (cs : List Call) (r : Relay) (t : Tally) → Each given cs → Q r → Q (relayAfter cs r t)
-unfolding relayAfter
+    → (cs : List Call) (r : Relay) (t : Tally) → EachCall given cs → Q r → Q (relayAfter cs r t)
+unfolding relayAfter EachCall
 stays Q given step [] r t g q = q
 stays Q given step (c ∷ cs) r t g q = stays Q given step cs (perform c r t .relay) (perform c r t .tally) (g .1) (step c r t (g .0) q)

@@ -47,7 +47,8 @@ module _ (a : Arrival) (s : Relay) (valid : Valid s) (u : UniqueAt (a .clock) s)
 
   -- ---- paths: a known path keeps its slot, and a new one has no live path of its destination beside it
   announced-alone : (known : Slot Path) → viewAt (a .clock) s .path (destination a) ≡ known
-      → (j : ℕ) (x : Path) → (j ≡ announcedPlace a known s → ⊥) → getD (s .paths) j empty ≡ used x → live (a .clock) (x .expiry) ≡ true → x .destination ≡ destination a → ⊥
+      → (j : ℕ) (x : Path) → (j ≡ announcedPlace a known s → ⊥) → getD (s .paths) j empty ≡ used x
+      → live (a .clock) (x .expiry) ≡ true → x .destination ≡ destination a → ⊥
   unfolding viewAt announcedPlace pathPlace isLivePath
   announced-alone empty f j x other = none-live _ _ (destination a) pathCount (s .paths) path-size f j x
   announced-alone (used p) f j x other = found-alone _ _ (destination a) pathCount (s .paths) path-size (u .paths .0) j x other

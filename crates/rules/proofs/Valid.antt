@@ -194,7 +194,8 @@ table-keeps (renumbers images) r v n = renumbering-keeps images (not-false _ (n 
 
 call-valid : (c : Call) (r : Relay) (t : Tally) → Valid r → Valid (perform c r t .relay)
 call-valid (packet a output) r t v =
-    packet-kept Valid v a t output (λ e. let accepted : Accepted r a = accepted-packet r a (length output) e in enacted r v a (accepted .port) (accepted .clock))
+    packet-kept Valid v a t output
+    (λ e. let accepted : Accepted r a = accepted-packet r a (length output) e in enacted r v a (accepted .port) (accepted .clock))
 call-valid (on-tables c) r t v = table-kept Valid v c t (λ n. table-held v c (table-keeps c r v n))
 
 -- one call keeps row 7
