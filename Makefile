@@ -45,7 +45,7 @@ bench:
 soak:
 	@scripts/soak "$(SEED)" "$(CALLS)"
 
-## make memcheck   the library under valgrind                          two minutes
+## make memcheck   the library under valgrind                          a minute
 memcheck:
 	@scripts/memcheck
 
