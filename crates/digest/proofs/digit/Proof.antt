@@ -1,9 +1,9 @@
--- `sha256sum::digit` meets its contract.
+-- `digest::digit` meets its contract.
 -- Assumes nothing.
 use borrow.Author.Needs.{needs}
 use borrow.Author.Tests.{lt-ltb, le-ltb}
-use Rattle.sha256sum.proofs.digit.Statement.{statement}
-use Rattle.sha256sum.proofs.digit.Tie as tie
+use Rattle.digest.proofs.digit.Statement.{statement}
+use Rattle.digest.proofs.digit.Tie as tie
 
 add-result : tie.Need-add-result
 add-result c = search needs

@@ -7,7 +7,7 @@ use native.Mathlib.Numerals.{add-one}
 use native.Mathlib.Omega.{arith}
 use lib.ListN.{length, take, set, getD, replicate}
 use lib.Seq.{take-suc, length-take-le}
-use Rattle.sha256sum.specs.Hex.{hexDigit, hexText}
+use Rattle.digest.specs.Hex.{hexDigit, hexText}
 
 -- two stores in a row
 two : (p q : List ℕ) (a b x y i : ℕ) → length p ≡ i → set (set (p ++ (a ∷ b ∷ q)) i x) (suc i) y ≡ p ++ (x ∷ y ∷ q)

@@ -1,4 +1,4 @@
--- `sha256sum::line` meets its contract.
+-- `digest::line` meets its contract.
 -- Assumes nothing.
 use mathlib.Core.Path.{_≡_, _∙_}
 use mathlib.Core.List.{_++_}
@@ -7,10 +7,10 @@ use borrow.Author.Needs.{needs}
 use native.Mathlib.Omega.{arith}
 use lib.ListN.{take, replicate}
 use lib.Seq.{take-all}
-use Rattle.sha256sum.specs.Hex.{hexText}
-use Rattle.sha256sum.proofs.HexLaws.{text-more}
-use Rattle.sha256sum.proofs.line.Statement.{statement}
-use Rattle.sha256sum.proofs.line.Tie as tie
+use Rattle.digest.specs.Hex.{hexText}
+use Rattle.digest.proofs.HexLaws.{text-more}
+use Rattle.digest.proofs.line.Statement.{statement}
+use Rattle.digest.proofs.line.Tie as tie
 
 abbrev Inv-loop : tie.InvT-loop
 Inv-loop b out₀ i₀ out i = (i ≤ 32) × (out ≡ hexText (take i b) ++ replicate (65 - 2 * i) 10)

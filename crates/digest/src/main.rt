@@ -4,7 +4,7 @@ use libc::STDIN_FILENO;
 use libc::STDOUT_FILENO;
 ghost use mathlib.Core.Path.{_≡_};
 ghost use Prim.Native.Nat.{_%_};
-ghost use Rattle.sha256sum.specs.Hex.{hexDigit, hexLine};
+ghost use Rattle.digest.specs.Hex.{hexDigit, hexLine};
 
 // The digit of the lower four bits.
 fn digit(n: u8) -> u8
