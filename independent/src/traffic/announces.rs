@@ -1,7 +1,7 @@
 //! Announces: newer and older, replayed, malformed, too long, in crowds.
 
-use super::{encode, parts, Traffic};
-use crate::packet::Blob;
+use super::{parts, Traffic};
+use crate::packet::{encode, Blob};
 
 /// An announce of a station, and where it comes in.
 struct Draft {
