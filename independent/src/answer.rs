@@ -131,14 +131,6 @@ mod tests {
     use super::*;
 
     #[test]
-    fn the_tally_wraps() {
-        let mut tally = [u32::MAX, u32::MAX, 0, 0, 0, 7];
-        count(&mut tally, Verdict::Drop(Reason::Replay));
-        count(&mut tally, Verdict::Kept);
-        assert_eq!(tally, [1, 0, 0, 0, 0, 8]);
-    }
-
-    #[test]
     fn reasons_have_document_01s_numbers() {
         for number in 0..=255 {
             assert_eq!(Reason::from_number(number).map(Reason::number), (1..=14).contains(&number).then_some(number));
