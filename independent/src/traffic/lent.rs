@@ -2,7 +2,7 @@
 
 use super::Traffic;
 use crate::engine::Call;
-use crate::limits::LATEST;
+use crate::limits::{BLOB_LIMIT, LATEST};
 use crate::packet::Address;
 use crate::random::Random;
 use crate::tables::{link, path, port, returned, set_key, Link, Path, Return, Table, BLOB, HASHES, HASH_PLACE, LAST_CLOCK, LINKS, LOCALS};
@@ -176,7 +176,8 @@ impl Traffic {
     /// A path to a station: a second one perhaps, with hops over 127, any blob count, and spare places that hold blobs it sent.
     fn lend_path(&mut self) {
         let number = self.reachable();
-        let count = self.random.pick(&[0, 1, 1, 1, 2, 2, 3, 15, 16, 16, 17]);
+        let most = BLOB_LIMIT as u8;
+        let count = self.random.pick(&[0, 1, 1, 1, 2, 2, 3, most - 1, most, most, most + 1]);
         let lasting = self.world.clock + 50_000;
         let expiry = if self.random.one_in(2) { lasting } else { a_time(&mut self.random, self.world.clock) };
         let station = &self.world.stations[number];
