@@ -1,11 +1,11 @@
 //! The four points of document 01's "Easy to get wrong", each a scenario by its name.
 
-use crate::host::{announce, destination, encode, to_station, Host, NEIGHBOUR, OWN};
+use crate::host::{announce, destination, to_station, Host, NEIGHBOUR, OWN};
 use haskumye_independent::answer::{Reason, Verdict};
-use haskumye_independent::packet::{Header, Parts};
+use haskumye_independent::packet::{encode, Header, Parts};
 use haskumye_independent::tables::{self, link, path, LINKS};
 
-crate::on_both_engines!(
+crate::on_both_programs!(
     a_packet_that_a_neighbour_was_asked_to_carry_is_not_remembered(NotOursRemembers),
     the_ratchet_goes_by_the_flag_bit_and_not_by_the_context_byte(RatchetFromContext),
     blobs_are_stored_at_the_limit_too(BlobsStopAtLimit),

@@ -4,7 +4,7 @@ use crate::host::{announce, destination, Host};
 use haskumye_independent::answer::{Reason, Verdict};
 use haskumye_independent::tables::path;
 
-crate::on_both_engines!(
+crate::on_both_programs!(
     the_signature_word_counts_before_replay(SignatureAfterReplay),
     a_new_path_takes_the_lowest_expired_slot(NewPathOwnSlot),
     there_is_room_for_64_paths(KnownPathNeedsRoom),

@@ -1,13 +1,15 @@
 //! What makes calls on a relay: the independent relay, and in `linked` the proved core.
 
 mod call;
+mod packets;
 
 pub use call::{Call, PacketCall};
+pub use packets::PacketCalls;
 
 use crate::answer::{Answer, Refusal, Tally};
-use crate::faults::Reading;
 use crate::packet::Address;
-use crate::relay::{Arrival, Relay};
+use crate::relay::{settings, Arrival, Relay};
+use crate::rules::Rules;
 use crate::tables;
 
 /// What a call returns.
@@ -39,11 +41,13 @@ pub trait Engine {
     fn add_local(&mut self, tables: &mut [u8], address: &Address) -> Outcome;
     fn remove_local(&mut self, tables: &mut [u8], address: &Address) -> Outcome;
     fn renumber(&mut self, tables: &mut [u8], map: &[u8; 16]) -> Outcome;
+    /// Is refusal 7 not given?
+    fn check(&mut self, tables: &[u8]) -> bool;
 }
 
-impl<R: Reading> Engine for Relay<R> {
+impl<R: Rules> Engine for Relay<R> {
     fn fresh(&mut self, tables: &mut [u8], tally: &mut Tally, own: &Address) -> Outcome {
-        let result = tables::fresh(tables, own);
+        let result = settings::fresh(&self.rules, tables, own);
         if result.is_ok() {
             *tally = [0; 6];
         }
@@ -55,19 +59,23 @@ impl<R: Reading> Engine for Relay<R> {
     }
 
     fn set_port(&mut self, tables: &mut [u8], port: u64, on: bool, mode: u64) -> Outcome {
-        tables::set_port(tables, port, on, mode, self.reading()).into()
+        self.rules.set_port(tables, port, on, mode).into()
     }
 
     fn add_local(&mut self, tables: &mut [u8], address: &Address) -> Outcome {
-        tables::add_local(tables, address, self.reading()).into()
+        settings::add_local(&self.rules, tables, address).into()
     }
 
     fn remove_local(&mut self, tables: &mut [u8], address: &Address) -> Outcome {
-        tables::remove_local(tables, address, self.reading()).into()
+        settings::remove_local(&self.rules, tables, address).into()
     }
 
     fn renumber(&mut self, tables: &mut [u8], map: &[u8; 16]) -> Outcome {
-        tables::renumber(tables, map, self.reading()).into()
+        self.rules.renumber(tables, map).into()
+    }
+
+    fn check(&mut self, tables: &[u8]) -> bool {
+        self.rules.tables_allowed(tables)
     }
 }
 
@@ -130,6 +138,7 @@ impl<E: Engine> Run<E> {
                 self.tables.copy_within(*from..*from + *length, *to)
             }
             Call::Resize(length) => self.tables.resize(*length, 0),
+            Call::Tally(tally) => self.tally = *tally,
             _ => {}
         }
     }

@@ -5,7 +5,7 @@ use haskumye_independent::answer::{Answer, Reason, Verdict};
 use haskumye_independent::engine::Outcome;
 use haskumye_independent::tables::{self, path, HASH_PLACE};
 
-crate::on_both_engines!(
+crate::on_both_programs!(
     lengths_and_the_access_code(LongestRefused),
     a_roaming_path_lives_until_22_600(PathLivesAtExpiry),
     a_hash_is_a_duplicate_until_1_300(HashLivesAtExpiry),

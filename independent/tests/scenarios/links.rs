@@ -2,9 +2,10 @@
 
 use crate::host::{announce, link_id, to_station, type_1, Host};
 use haskumye_independent::answer::{Reason, Verdict};
+use haskumye_independent::engine::Outcome;
 use haskumye_independent::tables::{self, link, LINKS};
 
-crate::on_both_engines!(a_link_is_asked_for_proved_and_used(HopsSwapped), a_port_that_is_off_comes_before_no_room(RoomBeforePort),);
+crate::on_both_programs!(a_link_is_asked_for_proved_and_used(HopsSwapped), a_port_that_is_off_comes_before_no_room(RoomBeforePort),);
 
 fn a_link_is_asked_for_proved_and_used(host: &mut Host) {
     host.verdict(&announce(1, 0x41, 2, 5, 200), 3, 10);
@@ -32,6 +33,6 @@ fn a_port_that_is_off_comes_before_no_room(host: &mut Host) {
         assert_eq!(host.verdict(&to_station(1, 0x42, 0, &[number; 64]), 0, 10), Verdict::Forward(3));
     }
     assert_eq!(host.verdict(&to_station(1, 0x42, 0, &[64; 64]), 0, 10), Verdict::Drop(Reason::NoRoom));
-    host.set_port(3, false, 0);
+    assert_eq!(host.set_port(3, false, 0), Outcome::Done);
     assert_eq!(host.verdict(&to_station(1, 0x42, 0, &[65; 64]), 0, 10), Verdict::Drop(Reason::PortOff));
 }

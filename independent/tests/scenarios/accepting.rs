@@ -6,11 +6,11 @@ use haskumye_independent::engine::Outcome;
 use haskumye_independent::relay::Arrival;
 use haskumye_independent::tables::{self, HASHES, HASH_PLACE};
 
-crate::on_both_engines!(
+crate::on_both_programs!(
     refusals_come_in_row_order_and_change_nothing(PortBeforeOutput),
     local_addresses_get_data_and_requests_of_any_hops(HopsBeforeLocal),
-    the_hash_ring_wraps,
-    the_tally_wraps,
+    the_hash_ring_wraps(HashesStopAtLimit),
+    the_tally_wraps(TallyStops),
 );
 
 fn refusals_come_in_row_order_and_change_nothing(host: &mut Host) {
@@ -38,7 +38,7 @@ fn refusals_come_in_row_order_and_change_nothing(host: &mut Host) {
 }
 
 fn local_addresses_get_data_and_requests_of_any_hops(host: &mut Host) {
-    host.add_local(&destination(1));
+    assert_eq!(host.add_local(&destination(1)), Outcome::Done);
     assert_eq!(host.verdict(&announce(1, 0x01, 200, 5, 200), 0, 10), Verdict::Drop(Reason::OwnAnnounce));
     assert_eq!(host.verdict(&type_1(0x08, 255, destination(1), 0, b"a"), 0, 10), Verdict::Deliver);
     assert_eq!(host.verdict(&to_station(1, 0x42, 128, &[0; 64]), 0, 10), Verdict::Deliver);

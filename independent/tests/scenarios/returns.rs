@@ -4,7 +4,7 @@ use crate::host::{announce, return_key, to_station, type_1, Host};
 use haskumye_independent::answer::{Reason, Verdict};
 use haskumye_independent::tables::{self, RETURNS, RETURN_PLACE};
 
-crate::on_both_engines!(a_receipt_goes_back_once(ReceiptKeepsRecord), the_same_data_later_leaves_one_live_return_record(OtherReturnsStay),);
+crate::on_both_programs!(a_receipt_goes_back_once(ReceiptKeepsRecord), the_same_data_later_leaves_one_live_return_record(OtherReturnsStay),);
 
 fn a_receipt_goes_back_once(host: &mut Host) {
     host.verdict(&announce(1, 0x01, 2, 5, 200), 3, 10);

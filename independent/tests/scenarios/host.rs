@@ -1,10 +1,11 @@
-//! A relay on either engine, and the packets that scenarios send it.
+//! A relay of either program, and the packets that scenarios send it.
 
 use haskumye_independent::answer::{Tally, Verdict};
-use haskumye_independent::engine::{Engine, Outcome};
-use haskumye_independent::faults::AsWritten;
-use haskumye_independent::packet::{self, Address, Header, Parts};
+use haskumye_independent::engine::{Engine, Outcome, PacketCalls};
+use haskumye_independent::limits::LONGEST;
+use haskumye_independent::packet::{self, announced, encode, hash, Address, Header, Parts};
 use haskumye_independent::relay::Arrival;
+use haskumye_independent::rules::AsWritten;
 use haskumye_independent::sha256::Sha256;
 use haskumye_independent::tables::{PATHS, SIZE};
 
@@ -13,35 +14,47 @@ pub const NEIGHBOUR: Address = [0xbb; 16];
 /// What the output holds before a call that is to leave it.
 pub const BEFORE: [u8; 520] = [0xee; 520];
 
+/// All calls of a program.
+pub trait Program: Engine + PacketCalls {}
+impl<P: Engine + PacketCalls> Program for P {}
+
 /// A relay with ports 0 to 3 on: port 1 roaming, port 2 an access point, the others boundary.
 pub struct Host {
-    engine: Box<dyn Engine>,
+    pub program: Box<dyn Program>,
     pub tables: Vec<u8>,
     pub tally: Tally,
     pub output: [u8; 520],
 }
 
 impl Host {
-    pub fn new(engine: impl Engine + 'static) -> Self {
-        let mut host = Self { engine: Box::new(engine), tables: vec![0; SIZE], tally: [0; 6], output: BEFORE };
-        assert_eq!(host.engine.fresh(&mut host.tables, &mut host.tally, &OWN), Outcome::Done);
+    pub fn new(program: impl Program + 'static) -> Self {
+        let mut host = Self { program: Box::new(program), tables: vec![0; SIZE], tally: [0; 6], output: BEFORE };
+        assert_eq!(host.program.fresh(&mut host.tables, &mut host.tally, &OWN), Outcome::Done);
         for (port, mode) in [(0, 0), (1, 2), (2, 1), (3, 0)] {
-            host.set_port(port, true, mode);
+            assert_eq!(host.set_port(port, true, mode), Outcome::Done);
         }
         host
     }
 
-    pub fn set_port(&mut self, port: u64, on: bool, mode: u64) {
-        assert_eq!(self.engine.set_port(&mut self.tables, port, on, mode), Outcome::Done);
+    pub fn set_port(&mut self, port: u64, on: bool, mode: u64) -> Outcome {
+        self.program.set_port(&mut self.tables, port, on, mode)
     }
 
-    pub fn add_local(&mut self, address: &Address) {
-        assert_eq!(self.engine.add_local(&mut self.tables, address), Outcome::Done);
+    pub fn add_local(&mut self, address: &Address) -> Outcome {
+        self.program.add_local(&mut self.tables, address)
+    }
+
+    pub fn remove_local(&mut self, address: &Address) -> Outcome {
+        self.program.remove_local(&mut self.tables, address)
+    }
+
+    pub fn renumber(&mut self, map: &[u8; 16]) -> Outcome {
+        self.program.renumber(&mut self.tables, map)
     }
 
     /// A packet call that is lent the tables from a byte on, and so much of the output.
     pub fn lend(&mut self, from: usize, room: usize, arrival: Arrival) -> Outcome {
-        self.engine.packet(&mut self.tables[from..], &mut self.tally, &mut self.output[..room], &arrival)
+        self.program.packet(&mut self.tables[from..], &mut self.tally, &mut self.output[..room], &arrival)
     }
 
     pub fn call(&mut self, packet: &[u8], port: u64, clock: u64, signature: bool) -> Outcome {
@@ -66,16 +79,9 @@ impl Host {
     }
 }
 
-/// The packet with these parts, its payload of any length.
-pub fn encode(parts: &Parts, payload: &[u8]) -> Vec<u8> {
-    let mut bytes = vec![0; parts.header.payload_start() + payload.len()];
-    packet::put(parts, payload, &mut bytes);
-    bytes
-}
-
 /// A station is a number here: its keys are bytes of that number.
 pub fn destination(station: u8) -> Address {
-    packet::destination(&Sha256::default(), &[station; 64], &[station; 10])
+    announced::destination(&Sha256::default(), &[station; 64], &[station; 10])
 }
 
 /// An announce of this header, hops, emission and whole length.
@@ -96,15 +102,20 @@ pub fn type_1(header: u8, hops: u8, destination: Address, context: u8, payload: 
     encode(&Parts { header: Header(header), hops, relay: [0; 16], destination, context }, payload)
 }
 
+/// The parts and the payload of a packet.
+fn split(packet: &[u8]) -> (Parts, &[u8]) {
+    (packet::read(&AsWritten, packet, LONGEST).expect("it reads"), &packet[packet::payload_place(packet)..])
+}
+
 /// The id of the link that a request asks for.
 pub fn link_id(request: &[u8]) -> Address {
-    let parts = packet::read(request, 500, AsWritten).expect("it reads");
-    packet::link_id(&Sha256::default(), &parts, packet::payload(request), AsWritten)
+    let (parts, payload) = split(request);
+    hash::link_id(&AsWritten, &Sha256::default(), &parts, payload)
 }
 
 /// The key of the return record that data leaves, which its receipt is sent to.
 pub fn return_key(data: &[u8]) -> Address {
-    let parts = packet::read(data, 500, AsWritten).expect("it reads");
-    let hash = packet::packet_hash(&Sha256::default(), &parts, packet::payload(data), AsWritten);
+    let (parts, payload) = split(data);
+    let hash = hash::packet_hash(&AsWritten, &Sha256::default(), &parts, payload);
     std::array::from_fn(|i| hash[i])
 }
