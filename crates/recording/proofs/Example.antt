@@ -73,7 +73,7 @@ unfolding giving
 written = refl
 
 -- the refusals, where two faults meet the earlier row's: nothing; cut in the contents, and of another kind; of another edition, with a wrong signature
--- word; a wrong offset behind a wrong word; cut in the last body; longer than the bodies; a wrong word; nothing, of the empty recording
+-- word; a wrong offset behind a wrong word; cut in the last body; longer than the bodies; a wrong word
 pub refusals : _≡_ {A = List ℕ}
     (fileRefusal file ∷
     fileRefusal (set (take 29 file) 0 2) ∷
@@ -81,9 +81,8 @@ pub refusals : _≡_ {A = List ℕ}
     fileRefusal (set (set file 10 2) 27 34) ∷
     fileRefusal (take 33 file) ∷
     fileRefusal (file ++ (0 ∷ [])) ∷
-    fileRefusal (set file 10 2) ∷
-    fileRefusal (1 ∷ 1 ∷ 0 ∷ 0 ∷ []) ∷ [])
-    (0 ∷ 20 ∷ 21 ∷ 22 ∷ 22 ∷ 22 ∷ 23 ∷ 0 ∷ [])
+    fileRefusal (set file 10 2) ∷ [])
+    (0 ∷ 20 ∷ 21 ∷ 22 ∷ 22 ∷ 22 ∷ 23 ∷ [])
 unfolding reading
 refusals = refl
 
@@ -101,6 +100,9 @@ unfolding giving
 writing-refusals = refl
 
 -- the empty recording: four bytes, no entry
-pub empty : (fileOf [] ≡ 1 ∷ 1 ∷ 0 ∷ 0 ∷ []) × (entriesOf (1 ∷ 1 ∷ 0 ∷ 0 ∷ []) ≡ [])
+abbrev pub noPackets : List ℕ
+noPackets = 1 ∷ 1 ∷ 0 ∷ 0 ∷ []
+
+pub empty : (fileOf [] ≡ noPackets) × (fileRefusal noPackets ≡ 0) × (entriesOf noPackets ≡ [])
 unfolding making reading
-empty = (refl, refl)
+empty = (refl, refl, refl)

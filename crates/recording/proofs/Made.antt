@@ -13,14 +13,14 @@ use Rattle.octets.specs.Part.{part}
 use Rattle.octets.specs.BigEndian.{number, bigEndian}
 use Rattle.octets.proofs.Bytes.{part-bytes, nil-bytes, cons-bytes, append-bytes, bigEndian-bytes}
 use Rattle.octets.proofs.BigEndian.{bigEndian-length, number-bigEndian}
-use Rattle.octets.proofs.ListOf.{listOf-length, listOf-at, listOf-cong}
+use Rattle.octets.proofs.ListOf.{listOf-cong}
 use Rattle.octets.proofs.Part.{part-part, part-mid, part-at}
 use Rattle.recording.specs.Shape.{entryPlace, shapeOf, countOf, offsetOf, lengthOf, sumBelow}
-use Rattle.recording.specs.Format.{Entry, headWidth, headOf, entryBody, fileOf, RecordableEntry, noEntry, Recordable}
+use Rattle.recording.specs.Format.{Entry, headWidth, headOf, entryBody, fileOf, RecordableEntry, Recordable}
 use Rattle.recording.specs.Reader.{clockOf, portOf, wordOf, isThere, entryOf, entriesOf}
 use Rattle.recording.proofs.Sums.{sum-within}
 use Rattle.recording.proofs.ShapeLaws.{part-lt, longOf, shape-again, shape-length, shape-head, shape-offset, shape-long, shape-body, shape-kind, shape-edition, shape-count, shape-shaped, shape-bytes}
-use Rattle.recording.proofs.ReadLaws.{Taken, taken-there, there-row, entry-there, head-there}
+use Rattle.recording.proofs.ReadLaws.{Taken, taken-there, there-row, entry-there, head-there, entries-length, entries-at}
 
 -- ---- the file of entries, read
 head-wide : (e : Entry) → length (headOf e) ≡ headWidth
@@ -139,11 +139,10 @@ module _ (f : List ℕ) (b : Bytes f) (t : Taken f) where
       }
 
   pub read-recordable : Recordable (entriesOf f)
-  unfolding entriesOf
   read-recordable =
       record {
         each = λ i l.
-            let m : i < countOf f = subst (λ (k : ℕ). i < k) (listOf-length (entryOf f) (countOf f)) l in
-            subst RecordableEntry (sym (listOf-at (entryOf f) (countOf f) i noEntry m)) (read-entry i m);
+            let m : i < countOf f = subst (λ (k : ℕ). i < k) (entries-length f) l in
+            subst RecordableEntry (sym (entries-at f i m)) (read-entry i m);
         short = subst (λ (g : List ℕ). length g ≤ 60000) (sym again) (t .short);
       }

@@ -7,7 +7,7 @@ use mathlib.Core.List.{List, _++_}
 use mathlib.Core.Path.{_≡_, refl, sym, ap, ap₂, _∙_}
 use lib.Bits.{bitOr}
 use lib.Dec.{ltb, eqb}
-use lib.ListN.{length}
+use lib.ListN.{length, getD}
 use borrow.Author.Tests.{lt-ltb, le-ltb, ltb-true, ltb-false, le-leb, lt-leb, leb-true, eq-eqb, ne-eqb, eqb-true, not-false}
 use Rattle.octets.specs.Bytes.{Bytes}
 use Rattle.octets.specs.Index.{_and_, allBelow}
@@ -16,10 +16,11 @@ use Rattle.octets.specs.Part.{part}
 use Rattle.octets.proofs.Choice.{then-true, then-false, or-left, or-right, or-no, or-no-left, or-no-right}
 use Rattle.octets.proofs.Index.{and-left, and-right, and-both, and-no, and-yes, all-more, all-fails, all-at, all-intro}
 use Rattle.octets.proofs.Listed.{here, past, allGive, refuses, rows-passed, none-first}
+use Rattle.octets.proofs.ListOf.{listOf-length, listOf-at}
 use Rattle.octets.proofs.Part.{part-again, part-one, part-length}
 use Rattle.recording.specs.Shape.{entryPlace, kindOf, editionOf, countOf, offsetOf, lengthOf, runningPlace, offsetsRight, endRight}
-use Rattle.recording.specs.Format.{headWidth, headOf}
-use Rattle.recording.specs.Reader.{clockOf, portOf, wordOf, lengthWrong, kindWrong, placesWrong, wordsWrong, fileRows, fileRefusal, isThere, noFields, fieldsOf, bodyOf, entryOf}
+use Rattle.recording.specs.Format.{headWidth, headOf, noEntry}
+use Rattle.recording.specs.Reader.{clockOf, portOf, wordOf, lengthWrong, kindWrong, placesWrong, wordsWrong, fileRows, fileRefusal, isThere, noFields, fieldsOf, bodyOf, entryOf, entriesOf}
 use Rattle.recording.specs.Steps.{contentsRows}
 use Rattle.recording.proofs.Ors.{or-turn}
 use Rattle.recording.proofs.Sums.{sum-none, sum-more, sum-bound}
@@ -279,6 +280,16 @@ module _ (f : List ℕ) (i : ℕ) where
         (ap₂ (λ (p q : List ℕ). p ++ q) (sym (part-one f (at + 5) (omega (arith, there-row)))) (sym (part-one f (at + 6) (omega (arith, there-row)))))
         ∙ ap (λ (k : ℕ). part f at 5 ++ (part f (at + 5) 1 ++ part f k 1)) (sym (add-assoc at 5 1))
         ∙ part-three f at 5 1 1
+
+-- ---- the list of entries, of any bytes
+module _ (f : List ℕ) where
+  pub entries-length : length (entriesOf f) ≡ countOf f
+  unfolding entriesOf
+  entries-length = listOf-length (entryOf f) (countOf f)
+
+  pub entries-at : (i : ℕ) → i < countOf f → getD (entriesOf f) i noEntry ≡ entryOf f i
+  unfolding entriesOf
+  entries-at i l = listOf-at (entryOf f) (countOf f) i noEntry l
 
 -- every entry of a file that the reader takes is there
 pub taken-there : (f : List ℕ) → Taken f → (i : ℕ) → i < countOf f → isThere f i ≡ true

@@ -1,10 +1,13 @@
 -- Reader and writer undo each other, over whole files. For all bytes, entries, bodies and rooms:
---   entries-file     the file of the entries read is the file, byte for byte, for every file that the reader takes;
+--   entries-file, entries-recordable
+--                    the file of the entries read is the file, byte for byte, for every file that the reader takes;
 --   file-taken, file-entries
 --                    the reader takes the file of all entries that can be recorded, and reads them back;
 --   read-written     the entries read, given to the writer, make it write the file;
---   written-read     what is written into the room reads without a refusal and gives entries and bodies back, for all that the writer takes.
--- `places-within`: every offset and length that the reader gives lies within the file, for any bytes.
+--   written-taken, written-entries, written-given, written-bodies
+--                    what is written into the room reads without a refusal and gives entries and bodies back, for all that the writer takes.
+-- And what any caller of the reader can rely on: places-within, all-there.
+use mathlib.Core.Bool.{true}
 use Prim.Native.Nat.{ℕ, _+_, _≤_, _<_}
 use mathlib.Core.List.{List}
 use mathlib.Core.Path.{_≡_, refl, sym, ap, ap₂, subst, _∙_}
@@ -12,35 +15,48 @@ use lib.ListN.{length, getD, take}
 use lib.Seq.{take-at}
 use Rattle.octets.specs.Bytes.{Bytes}
 use Rattle.octets.specs.Index.{listOf}
-use Rattle.octets.specs.Part.{patch}
+use Rattle.octets.specs.Part.{patch, joined}
 use Rattle.octets.proofs.ListOf.{listOf-getD}
-use Rattle.recording.specs.Format.{Entry, fileOf, RecordableEntry, noEntry, Recordable}
+use Rattle.recording.specs.Shape.{entryPlace, countOf}
+use Rattle.recording.specs.Format.{Entry, headWidth, entryBody, fileOf, RecordableEntry, noEntry, Recordable}
 use Rattle.recording.specs.Reader.{fileRefusal, fieldsOf, entriesOf}
 use Rattle.recording.specs.Writer.{givenEntries, givenOf, bodiesOf, fileLength, writingRefusal, writing}
-use Rattle.recording.proofs.ReadLaws.{taken, takes, fields-within}
-use Rattle.recording.proofs.WriteLaws.{writable, writes, writing-done, bodies-given}
-use Rattle.recording.proofs.Made.{made-taken, made-entries, made-bytes, again, read-recordable}
+use Rattle.recording.specs.declared.Fields.{Fields}
+use Rattle.recording.proofs.Sums.{joined-sum}
+use Rattle.recording.proofs.ReadLaws.{taken, takes, fields-there, fields-within, taken-there}
+use Rattle.recording.proofs.WriteLaws.{Writable, writable, writes, writing-done, bodies-given}
+use Rattle.recording.proofs.Made.{made-length, made-taken, made-entries, made-bytes, again, read-recordable}
 use Rattle.recording.proofs.Given.{given-fileLength, given-writable, entries-back, file-length, given-recordable, given-again}
 
 -- ---- the file of entries, read
-module _ (es : List Entry) (r : Recordable es) where
-  listed : listOf (λ i. getD es i noEntry) (length es) ≡ es
-  listed = listOf-getD noEntry es (length es) refl
+abbrev entryAt : List Entry → ℕ → Entry
+entryAt es i = getD es i noEntry
 
-  listed-short : length (fileOf (listOf (λ i. getD es i noEntry) (length es))) ≤ 60000
-  listed-short = subst (λ (s : List Entry). length (fileOf s) ≤ 60000) (sym listed) (r .short)
+listed : (es : List Entry) → listOf (entryAt es) (length es) ≡ es
+listed es = listOf-getD noEntry es (length es) refl
+
+pub file-size : (es : List Entry) → length (fileOf es) ≡ entryPlace headWidth (length es) + length (bodiesOf es)
+unfolding bodiesOf
+file-size es =
+    ap (λ (s : List Entry). length (fileOf s)) (sym (listed es))
+    ∙ made-length (entryAt es) (length es)
+    ∙ ap (λ (k : ℕ). entryPlace headWidth (length es) + k) (sym (joined-sum entryBody (entryAt es) (length es)))
+    ∙ ap (λ (s : List Entry). entryPlace headWidth (length es) + length (joined entryBody s)) (listed es)
+
+module _ (es : List Entry) (r : Recordable es) where
+  listed-short : length (fileOf (listOf (entryAt es) (length es))) ≤ 60000
+  listed-short = subst (λ (s : List Entry). length (fileOf s) ≤ 60000) (sym (listed es)) (r .short)
 
   pub file-taken : fileRefusal (fileOf es) ≡ 0
   file-taken =
-      subst (λ (s : List Entry). fileRefusal (fileOf s) ≡ 0) listed
-      (takes (fileOf (listOf (λ i. getD es i noEntry) (length es))) (made-taken (λ i. getD es i noEntry) (length es) (r .each) listed-short))
+      subst (λ (s : List Entry). fileRefusal (fileOf s) ≡ 0) (listed es)
+      (takes (fileOf (listOf (entryAt es) (length es))) (made-taken (entryAt es) (length es) (r .each) listed-short))
 
   pub file-entries : entriesOf (fileOf es) ≡ es
-  file-entries =
-      subst (λ (s : List Entry). entriesOf (fileOf s) ≡ s) listed (made-entries (λ i. getD es i noEntry) (length es) (r .each) listed-short)
+  file-entries = subst (λ (s : List Entry). entriesOf (fileOf s) ≡ s) (listed es) (made-entries (entryAt es) (length es) (r .each) listed-short)
 
   pub file-bytes : Bytes (fileOf es)
-  file-bytes = subst (λ (s : List Entry). Bytes (fileOf s)) listed (made-bytes (λ i. getD es i noEntry) (length es) (r .each) listed-short)
+  file-bytes = subst (λ (s : List Entry). Bytes (fileOf s)) (listed es) (made-bytes (entryAt es) (length es) (r .each) listed-short)
 
 -- ---- a file, read and made again
 module _ (f : List ℕ) (b : Bytes f) (e : fileRefusal f ≡ 0) where
@@ -66,8 +82,8 @@ pub recordable-written : (es : List Entry) → Recordable es → (room : List �
 recordable-written es r room =
     subst (λ (s : List Entry). length (fileOf s) ≤ length room
     → writing (givenOf s) (bodiesOf s) room ≡ record { answer = record { refusal = 0; length = length (fileOf s) }; room = patch room 0 (fileOf s) })
-    (listed es r)
-    (made-written (λ i. getD es i noEntry) (length es) (r .each) (listed-short es r) room)
+    (listed es)
+    (made-written (entryAt es) (length es) (r .each) (listed-short es r) room)
 
 -- what is read and written again
 pub read-written : (f room : List ℕ) → Bytes f → fileRefusal f ≡ 0 → length f ≤ length room
@@ -83,27 +99,34 @@ module _ (g bodies room : List ℕ) (bg : Bytes g) (bb : Bytes bodies) (e : writ
   abbrev written : List ℕ
   written = take (writing g bodies room .answer .length) (writing g bodies room .room)
 
+  w : Writable g bodies (length room)
+  w = writable g bodies (length room) e
+
   written-file : written ≡ fileOf (givenEntries g bodies)
   unfolding patch
   written-file =
       rw (writing-done g bodies room e)
-      (take-at (fileOf (givenEntries g bodies)) _ (fileLength g bodies) (file-length g bodies (length room) bg bb (writable g bodies (length room) e)))
+      (take-at (fileOf (givenEntries g bodies)) _ (fileLength g bodies) (file-length g bodies (length room) bg bb w))
 
   pub written-taken : fileRefusal written ≡ 0
   written-taken =
-      ap fileRefusal written-file ∙ file-taken (givenEntries g bodies) (given-recordable g bodies (length room) bg bb (writable g bodies (length room) e))
+      ap fileRefusal written-file ∙ file-taken (givenEntries g bodies) (given-recordable g bodies (length room) bg bb w)
 
   pub written-entries : entriesOf written ≡ givenEntries g bodies
   written-entries =
-      ap entriesOf written-file ∙ file-entries (givenEntries g bodies) (given-recordable g bodies (length room) bg bb (writable g bodies (length room) e))
+      ap entriesOf written-file ∙ file-entries (givenEntries g bodies) (given-recordable g bodies (length room) bg bb w)
 
   pub written-given : givenOf (entriesOf written) ≡ g
-  written-given = ap givenOf written-entries ∙ given-again g bodies (length room) bg bb (writable g bodies (length room) e)
+  written-given = ap givenOf written-entries ∙ given-again g bodies (length room) bg bb w
 
   pub written-bodies : bodiesOf (entriesOf written) ≡ bodies
   unfolding bodiesOf
-  written-bodies = ap bodiesOf written-entries ∙ bodies-given g bodies bg (writable g bodies (length room) e .adds)
+  written-bodies = ap bodiesOf written-entries ∙ bodies-given g bodies bg (w .adds)
 
 -- ---- every offset and length that the reader gives lies within the file, for any bytes and any i
 pub places-within : (f : List ℕ) (i : ℕ) → fieldsOf f i .start + fieldsOf f i .length ≤ length f
 places-within f i = fields-within f i
+
+-- every entry of a file that the reader takes is there
+pub all-there : (f : List ℕ) → fileRefusal f ≡ 0 → (i : ℕ) → i < countOf f → fieldsOf f i .there ≡ true
+all-there f e i l = ap (λ (r : Fields). r .there) (fields-there f i (taken-there f (taken f e) i l))
