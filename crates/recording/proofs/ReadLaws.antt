@@ -258,10 +258,6 @@ module _ (f : List ℕ) (i : ℕ) where
   body-length = part-length f (fieldsOf f i .start) (fieldsOf f i .length) fields-within
 
   module _ (e : isThere f i ≡ true) where
-    pub there-counted : i < countOf f
-    unfolding isThere
-    there-counted = ltb-true i (countOf f) (and-left _ _ e)
-
     pub there-row : entryPlace headWidth (i + 1) ≤ length f
     unfolding isThere
     there-row = leb-true _ _ (and-left _ _ (and-right _ _ e))
