@@ -151,7 +151,7 @@ pub data-new : viewAt 2000 announcedRelay .remembered (packetHash dataBytes) ≡
 unfolding rules passes
 data-new = seen-quick 2000 announcedRelay (packetHash dataBytes) refl
 
-data-key : take 16 (packetHash dataBytes) ≡ dataKey
+pub data-key : take 16 (packetHash dataBytes) ≡ dataKey
 unfolding rules hashing
 data-key = refl
 
