@@ -27,6 +27,7 @@ use Rattle.rules.proofs.Ranges.{emptied-ok, slot-renamed}
 use Rattle.rules.proofs.Valid.{Valid, valid-of, step-ok}
 use Rattle.tables.specs.Places.{addressWidth}
 use Rattle.tables.specs.Shape.{isBytes, pathShaped, linkShaped, returnShaped, hashShaped, shaped}
+use Rattle.tables.proofs.All.{is-each}
 use Rattle.demands.specs.Given.{CallBytes, CallsBytes}
 use Rattle.demands.proofs.Announced.{WayBlob, PlanBlob, plan-blob}
 use Rattle.demands.proofs.Made.{remembered-shaped, return-shaped, link-made, link-renewed, path-made, accepted-whole, path-renumbered, link-renumbered, return-renumbered}
@@ -140,7 +141,7 @@ table-keeps (renumbers images) r b s = (
 call-shaped : (c : Call) (r : Relay) (t : Tally) → CallBytes c → Valid r → Shaped r → Shaped (perform c r t .relay)
 unfolding CallBytes
 call-shaped (packet a output) r t b ok s =
-    packet-kept Shaped s a t output (λ e. enacted r ok s a b (accepted-whole r a (length output) e))
+    packet-kept Shaped s a t output (λ e. enacted r ok s a (is-each _ (a .bytes) b) (accepted-whole r a (length output) e))
 call-shaped (on-tables c) r t b ok s = table-kept Shaped s c t (λ _. table-held s c (table-keeps c r b s))
 
 -- one call keeps the shape

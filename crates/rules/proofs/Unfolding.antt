@@ -15,7 +15,7 @@ use Rattle.packet.specs.Announce.{keysOf, nameHashOf, blobOf, emissionOf, least
 use Rattle.octets.specs.Listed.{firstOf, anyHolds, valued}
 use Rattle.octets.proofs.Listed.{told}
 use Rattle.numbers.specs.Numbers.{pathLifetime}
-use Rattle.rules.specs.Relay.{fresh, withClock, withPorts, withPaths, withLinks, withReturns, withHashes, holds, lowest, free, lowestFree}
+use Rattle.rules.specs.Relay.{fresh, withClock, withPorts, withLocals, withPaths, withLinks, withReturns, withHashes, holds, lowest, free, lowestFree}
 use Rattle.rules.specs.View.{portOn, portMode, localPlace, isLocal, isLivePath, isLiveLink, isLiveReturn, isLiveHash, pathPlace, linkPlace, returnPlace, hashPlace, freePath, freeLink, viewAt}
 use Rattle.rules.specs.Blobs.{held, isAmong, greatest, greatestEmission, oneBlob, addBlob}
 use Rattle.rules.specs.Refusals.{timeOk, portOk, pathOk, linkOk, returnOk, hashOk, slotOk, all, tableOk, tablesOk, packetRows, refusalBy, emptyLocal}
@@ -49,8 +49,8 @@ layout = tt
 
 -- the relay, and what is read of it
 unfoldable pub tables : Unit {0}
-unfolding pathLifetime fresh withClock withPorts withPaths withLinks withReturns withHashes holds lowest free lowestFree portOn portMode
-    localPlace isLocal isLivePath isLiveLink isLiveReturn isLiveHash pathPlace linkPlace returnPlace hashPlace freePath freeLink viewAt held
+unfolding pathLifetime fresh withClock withPorts withLocals withPaths withLinks withReturns withHashes holds lowest free lowestFree
+    portOn portMode localPlace isLocal isLivePath isLiveLink isLiveReturn isLiveHash pathPlace linkPlace returnPlace hashPlace freePath freeLink viewAt held
     isAmong greatest greatestEmission oneBlob addBlob
 tables = tt
 
