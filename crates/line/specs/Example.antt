@@ -6,8 +6,9 @@ use lib.ListN.{replicate}
 use Rattle.octets.specs.Index.{_and_}
 use Rattle.octets.specs.Part.{part, joined}
 use Rattle.octets.specs.Choice.{_then_otherwise_}
+use Rattle.octets.specs.Listed.{firstOf}
 use Rattle.packet.specs.Header.{accessCode, typeTwo, transport, destinationKind, packetKind}
-use Rattle.packet.specs.Read.{typeOneParts, typeTwoParts, partsOf, payloadStart, payload, readingRefusal, reads}
+use Rattle.packet.specs.Read.{typeOneParts, typeTwoParts, partsOf, payloadStart, payload, readingRows, readingRefusal, reads}
 use Rattle.text.specs.Numerals.{digit, numeralWithin, numeral, hexadecimalByte, hexadecimal}
 use Rattle.text.specs.Words.{spaced, wordsLine}
 use Rattle.line.specs.Line.{typeName, transportName, kindWord, relayWords, partsWords, lineWords, lineText}
@@ -35,6 +36,6 @@ exampleLine =
 
 pub example : lineText examplePacket ≡ exampleLine
 unfolding digit numeralWithin numeral hexadecimalByte hexadecimal typeName transportName kindWord relayWords partsWords lineWords spaced wordsLine
-    lineText accessCode typeTwo transport destinationKind packetKind typeOneParts typeTwoParts partsOf payloadStart payload readingRefusal reads
-    part joined _and_ _then_otherwise_
+    lineText accessCode typeTwo transport destinationKind packetKind typeOneParts typeTwoParts partsOf payloadStart payload readingRows readingRefusal
+    reads firstOf part joined _and_ _then_otherwise_
 example = refl
