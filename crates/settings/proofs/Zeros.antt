@@ -18,7 +18,7 @@ use Rattle.tables.proofs.All.{exactly-same}
 use Rattle.tables.proofs.Whole.{bytes-length}
 use Rattle.octets.specs.Choice.{_then_otherwise_}
 
--- every element is 0; a record, so that antt can read the list freshPort it
+-- every element is 0; a record, so that antt can read the list off it
 pub record Zeros (t : List ℕ) : Type 0 where
   pub each : (i : ℕ) → getD t i 0 ≡ 0
 

@@ -28,7 +28,7 @@ blobWidth = 10
 abbrev pub ringWidth : ℕ
 ringWidth = 2
 
--- ---- a port's settings. No slot: an noPort port keeps its mode
+-- ---- a port's settings. No slot: a port that is off keeps its mode
 abbrev pub toPort : Bool × ℕ → Port
 toPort (on, mode) = record { on = on; mode = mode }
 
