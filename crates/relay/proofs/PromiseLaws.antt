@@ -25,7 +25,7 @@ use Rattle.rules.specs.Answers.{reasonNumber}
 use Rattle.rules.specs.Judging.{plan, earlyTests}
 use Rattle.octets.specs.Listed.{firstOf}
 use Rattle.rules.proofs.Choices.{row-passed, rows-below}
-use Rattle.rules.proofs.AcceptedOn.{accepted-packet}
+use Rattle.rules.proofs.Accepted.{accepted-packet}
 use Rattle.tables.specs.Layout.{relayOf, wellFormed}
 use Rattle.tables.proofs.Whole.{again}
 use Rattle.plan.specs.declared.Arrived.{Arrived}

@@ -1,8 +1,8 @@
 -- `haskumye::numbers::answer_number` meets its contract.
 use Rattle.haskumye.specs.Answers.{answerNumber}
 use borrow.Author.Needs.{needs}
-use Rattle.haskumye.proofs.numbers.answer_number.Statement.{statement}
-use Rattle.haskumye.proofs.numbers.answer_number.Tie as tie
+use Rattle.haskumye.proofs.answer_numbers.answer_number.Statement.{statement}
+use Rattle.haskumye.proofs.answer_numbers.answer_number.Tie as tie
 
 enum-known-answer : tie.Need-enum-known-answer
 enum-known-answer c = search needs

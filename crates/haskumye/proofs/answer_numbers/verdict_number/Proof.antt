@@ -1,8 +1,8 @@
 -- `haskumye::numbers::verdict_number` meets its contract.
 use Rattle.haskumye.specs.Answers.{verdictNumber}
 use borrow.Author.Needs.{needs}
-use Rattle.haskumye.proofs.numbers.verdict_number.Statement.{statement}
-use Rattle.haskumye.proofs.numbers.verdict_number.Tie as tie
+use Rattle.haskumye.proofs.answer_numbers.verdict_number.Statement.{statement}
+use Rattle.haskumye.proofs.answer_numbers.verdict_number.Tie as tie
 
 enum-known-verdict : tie.Need-enum-known-verdict
 enum-known-verdict c = search needs

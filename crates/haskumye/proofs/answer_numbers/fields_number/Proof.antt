@@ -1,8 +1,8 @@
 -- `haskumye::numbers::fields_number` meets its contract.
 use Rattle.haskumye.specs.Answers.{fieldsNumber}
 use borrow.Author.Needs.{needs}
-use Rattle.haskumye.proofs.numbers.fields_number.Statement.{statement}
-use Rattle.haskumye.proofs.numbers.fields_number.Tie as tie
+use Rattle.haskumye.proofs.answer_numbers.fields_number.Statement.{statement}
+use Rattle.haskumye.proofs.answer_numbers.fields_number.Tie as tie
 
 mul-result : tie.Need-mul-result
 mul-result c = search needs
