@@ -21,7 +21,7 @@ use Rattle.packet.proofs.RoundTrip.{reading-writing, writing-reading, write-pay
 use Rattle.rules.specs.Relay.{Relay, fresh}
 use Rattle.rules.specs.Refusals.{tablesOk}
 use Rattle.rules.specs.Calls.{newTally, Setting, packetCall, settle}
-use Rattle.rules.specs.Run.{Call, packet, on-tables, Reply, Outcome, ofJudgement, ofSetting, perform, replies, relayAfter, tallyAfter}
+use Rattle.rules.specs.Run.{EachCall, Call, packet, on-tables, Reply, Outcome, ofJudgement, ofSetting, perform, replies, relayAfter, tallyAfter}
 use Rattle.rules.specs.declared.Tally.{Tally}
 use Rattle.rules.proofs.History.{CountsHistory, history-since-fresh}
 use Rattle.rules.proofs.Valid.{step-ok, stays-ok, fresh-ok}
@@ -60,7 +60,7 @@ module _ (r : Relay) (s : shaped r ≡ true) (ok : tablesOk r ≡ true) (t : Tal
 
 -- ---- lists of calls on a relay's bytes
 pub run-on : (cs : List Call) (r : Relay) (t : Tally) → CallsBytes cs → tablesOk r ≡ true → shaped r ≡ true → FollowsTheRules cs (bytesOf r) t r
-unfolding CallsBytes repliesOn tablesAfterOn tallyAfterOn replies relayAfter tallyAfter outcomeOn
+unfolding EachCall repliesOn tablesAfterOn tallyAfterOn replies relayAfter tallyAfter outcomeOn
 run-on [] r t b ok s = record { answers = refl; tables = refl; tally = refl }
 run-on (c ∷ cs) r t b ok s =
     let o : Outcome = perform c r t in

@@ -13,7 +13,7 @@ use Rattle.rules.specs.Renumbering.{oneToOne, renumbered, composed}
 use Rattle.rules.specs.Refusals.{all, tablesOk}
 use Rattle.octets.specs.Listed.{firstOf}
 use Rattle.rules.specs.Calls.{newTally, settled, ruleOf, tableRefusal, settle}
-use Rattle.rules.specs.Run.{Call, packet, on-tables, renumbering, Reply, numbered, replies, relayAfter, tallyAfter, renameArrival, renameCall, renameReply, noneRenumbers}
+use Rattle.rules.specs.Run.{EachCall, Call, packet, on-tables, renumbering, Reply, numbered, replies, relayAfter, tallyAfter, renameArrival, renameCall, renameReply, noneRenumbers}
 use Rattle.rules.specs.declared.Tally.{Tally}
 use Rattle.rules.proofs.Valid.{stays-ok, fresh-ok}
 use Rattle.rules.proofs.CallsRenamed.{addresses-renamed}
@@ -68,7 +68,7 @@ pub record TwoAreOneOn (one two : List ℕ) (before later : List Call) (start : 
 
 -- ---- calls that are given bytes
 both-given : (before later : List Call) → CallsBytes before → CallsBytes later → CallsBytes (before ++ later)
-unfolding CallsBytes
+unfolding EachCall
 both-given [] later b l = l
 both-given (c ∷ before) later b l = (b .0, both-given before later (b .1) l)
 
@@ -79,13 +79,13 @@ call-given m (packet arrival output) b = b
 call-given m (on-tables c) b = rw (addresses-renamed m c) b
 
 renamed-given : (m : List ℕ) (cs : List Call) → CallsBytes cs → CallsBytes (map (renameCall m) cs)
-unfolding CallsBytes
+unfolding EachCall
 renamed-given m [] b = tt
 renamed-given m (c ∷ cs) b = (call-given m c (b .0), renamed-given m cs (b .1))
 
 -- a renumbering before them
 after-map : (m : List ℕ) (cs : List Call) → CallsBytes cs → CallsBytes (renumbering m ∷ cs)
-unfolding CallsBytes CallBytes ruleOf all
+unfolding EachCall CallBytes ruleOf all
 after-map m cs b = (refl, b)
 
 -- ---- on a relay's bytes

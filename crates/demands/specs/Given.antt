@@ -1,11 +1,11 @@
 -- What a call is given: bytes.
 use mathlib.Core.Bool.{true}
-use mathlib.Core.List.{List, [], _∷_}
+use mathlib.Core.List.{List}
 use mathlib.Core.Path.{_≡_}
 use Rattle.octets.specs.Bytes.{Bytes}
 use Rattle.rules.specs.Refusals.{all}
 use Rattle.rules.specs.Calls.{ruleOf}
-use Rattle.rules.specs.Run.{Call, packet, on-tables}
+use Rattle.rules.specs.Run.{Call, packet, on-tables, EachCall}
 use Rattle.tables.specs.Places.{addressWidth}
 use Rattle.tables.specs.Shape.{isBytes}
 
@@ -15,6 +15,5 @@ CallBytes (packet arrival output) = Bytes (arrival .bytes)
 CallBytes (on-tables c) = all (isBytes addressWidth) (ruleOf c .addresses) ≡ true
 
 -- each call of a list is given bytes
-unfoldable pub CallsBytes : List Call → Type 0
-CallsBytes [] = Unit {0}
-CallsBytes (c ∷ cs) = CallBytes c × CallsBytes cs
+abbrev pub CallsBytes : List Call → Type 0
+CallsBytes = EachCall CallBytes

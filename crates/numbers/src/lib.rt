@@ -1,5 +1,5 @@
-// Document 01's numbers, in code: specs/Numbers.antt has the same as definitions, and each contract that uses one is proved with those.
-// No function stands here.
+// Document 01's numbers, in code: specs/Numbers.antt has the same as definitions, and each contract that uses one is
+// proved with those. No function stands here.
 pub mod refusals;
 
 pub const PORT_COUNT: usize = 16;

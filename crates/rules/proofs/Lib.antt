@@ -16,6 +16,7 @@ pub mod BlobLaws
 pub mod Accepted
 pub mod Followed
 pub mod Stamped
+pub mod Held
 pub mod Ranges
 pub mod Valid
 pub mod Images

@@ -28,6 +28,11 @@ removing address = on-tables (removes address)
 abbrev pub renumbering : List ℕ → Call
 renumbering images = on-tables (renumbers images)
 
+-- each call of a list is such
+unfoldable pub EachCall : (Call → Type 0) → List Call → Type 0
+EachCall such [] = Unit {0}
+EachCall such (c ∷ cs) = such c × EachCall such cs
+
 -- all that a call returns, and its whole output buffer
 pub data Reply : Type 0 where
   answered : (answer : Answer) (output : List ℕ) → Reply
