@@ -33,7 +33,7 @@ module _ (packet : List ℕ) (m : Arrived) (t : List ℕ) where
   r = relayOf t
 
   pub remembered-by : (d : Decision) → decision r a ≡ d → remembersDecided d ≡ rememberedOn packet m t
-  unfolding remembersDecided rememberedOn remembers
+  unfolding rememberedOn remembers
   remembered-by (Drop reason) e = ap (remembers v a) (sym (inverted r a (Drop reason) e))
   remembered-by Deliver e = ap (remembers v a) (sym (inverted r a Deliver e))
   remembered-by (Announce place known) e = ap (remembers v a) (sym (inverted r a (Announce place known) e .1))

@@ -1,16 +1,14 @@
--- What an accepted packet leaves: the rules' verdict, tables and output, on the bytes; and the refusals before it.
+-- What an accepted packet leaves: the rules' verdict, tables and output, on the bytes.
 -- For the contracts of helpers: not part of what a reader must believe.
 use Prim.Native.Nat.{ℕ, _<_}
-use mathlib.Core.Bool.{Bool, true, false}
+use mathlib.Core.Bool.{Bool, true}
 use mathlib.Core.List.{List}
 use mathlib.Core.Path.{_≡_}
-use Rattle.octets.specs.Choice.{_then_otherwise_}
 use Rattle.packet.specs.Read.{longestPacket, reads}
 use Rattle.numbers.specs.Numbers.{portCount, clockLimit}
 use Rattle.rules.specs.Relay.{Path}
 use Rattle.rules.specs.View.{View, viewAt}
 use Rattle.rules.specs.Arrival.{Arrival, hops, destination}
-use Rattle.rules.specs.Refusals.{refusalBy}
 use Rattle.rules.specs.Outgoing.{spreadPorts, spreadPacket, pathPacket}
 use Rattle.rules.specs.Judging.{Plan, plan, spreadVerdict, verdict, outputAfter}
 use Rattle.rules.specs.Writes.{remembers, nextHopOf, pathExpiry, writePlan, enact}
@@ -21,13 +19,6 @@ use Rattle.tables.specs.Layout.{recordAt, relayOf, bytesOf, wellFormed}
 use Rattle.update.specs.declared.Announced.{Announced}
 use Rattle.plan.specs.declared.Arrived.{Arrived}
 use Rattle.plan.specs.Decided.{arrivalOf}
-
--- 7 6 4 5 1 2 3 1, or 0: a packet call's refusal on bytes, with an output of `room` bytes
-unfoldable pub packetRefusalOn : List ℕ → ℕ → ℕ → List ℕ → ℕ → ℕ
-packetRefusalOn packet port clock t room =
-    wellFormed t
-    then refusalBy (relayOf t) packet port clock room
-    otherwise 7
 
 -- what a caller shows of an accepted packet
 pub record AcceptedOn (packet : List ℕ) (m : Arrived) (t : List ℕ) : Type 0 where

@@ -1,4 +1,4 @@
-// AcceptedOn announces: spread or kept, and their path is set.
+// Accepted announces: spread or kept, and their path is set.
 use numbers::ACCESS_POINT_LIFETIME;
 use numbers::BOUNDARY_LIFETIME;
 use numbers::PORT_COUNT;

@@ -1,15 +1,10 @@
-// What is done with an accepted packet once it is decided, one function for each record that is written, and one stamp; the refusals before
-// it, and the tally behind it.
-// Entry points: refusal, counted, reason_number. Every other function is a helper of the packet call: the caller shows that the packet is accepted, and
-// what was decided.
+// What is done with an accepted packet once it is decided, one function for each record that is written, and one stamp.
+// Entry points: none. Every function is a helper of the packet call: the caller shows that the packet is accepted, and what was decided.
 mod announces;
 mod links;
 mod paths;
-mod reasons;
-mod refusals;
 mod returns;
 mod stamps;
-mod tallies;
 
 use announces::announce;
 use links::carry;
@@ -17,13 +12,10 @@ use paths::request;
 use paths::send;
 use plan::Arrived;
 use plan::Decision;
-pub use reasons::reason_number;
-pub use refusals::refusal;
 use returns::receipt;
 use rules::Verdict;
 use stamps::remembers;
 use stamps::stamp;
-pub use tallies::counted;
 ghost use mathlib.Core.Path.{_≡_};
 ghost use Prim.Native.Nat.{_≤_};
 ghost use lib.ListN.{length};

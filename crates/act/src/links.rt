@@ -61,7 +61,7 @@ fn proved_by(proved: bool, packet: &[u8]) -> bool
     if proved {
         return true;
     }
-    outgoing::is_link_proof(packet)
+    plan::is_link_proof(packet)
 }
 
 // The link once the packet is carried.

@@ -1,5 +1,5 @@
 // The packet call of a host.
-use super::numbers::answer_number;
+use super::answer_numbers::answer_number;
 use rules::Tally;
 ghost use lib.Dec.{eqb};
 ghost use Rattle.relay.specs.Promise.{packetOn};

@@ -18,10 +18,11 @@ use Rattle.octets.specs.Listed.{firstOf}
 use Rattle.rules.specs.Relay.{empty, used, Path, Relay}
 use Rattle.rules.specs.View.{View, pathPlace, linkPlace, freeLink, viewAt, portOn}
 use Rattle.rules.specs.Arrival.{Arrival, header, destination, isLinkProof}
-use Rattle.rules.specs.Ways.{Way, by-path, blocked, not-asking, no-path, pathWay, wayOn}
-use Rattle.rules.specs.Tests.{isThere, noWayOn, alreadyKnown, wrongSide, notSigned, replay, notBetter, leavingPort, portOff, noRoom}
+use Rattle.rules.specs.Ways.{Way, by-path, blocked, pathWay, wayOn}
+use Rattle.rules.specs.Tests.{isThere, noWayOn, whyBlocked, alreadyKnown, wrongSide, notSigned, replay, notBetter, leavingPort, portOff, noRoom}
 use Rattle.rules.specs.Outgoing.{grownTooLong}
 use Rattle.rules.specs.Judging.{dropped, follows, onwardPlan, onwardTests}
+use Rattle.rules.specs.declared.Blocked.the-variants.{NotAsking, NoPath}
 use Rattle.rules.specs.declared.Reason.the-variants.{NoWayOn, AlreadyKnown, PortOff, NoRoom}
 use Rattle.tables.specs.Places.{addressWidth, pathsAt, pathWidth, tableSize}
 use Rattle.tables.specs.Fields.{pathNextHopAt}
@@ -31,14 +32,14 @@ use Rattle.lookup.proofs.Found.{path-found, path-missing, link-found, link-miss
 use Rattle.outgoing.proofs.RuleLaws.{never-grown}
 use Rattle.plan.specs.Decided.{highOf, lowOf, decidedWay, decided, onward}
 use Rattle.plan.specs.Kinds.{leaving, sending, requesting}
-use Rattle.plan.specs.declared.Decision.the-variants.{Drop, Data, Request}
+use Rattle.plan.specs.declared.Decision.the-variants.{Drop, Request}
 use Rattle.plan.proofs.KindLaws.{other-kind, request-left, no-link-proof, or-false, decided-test, leaves, stays}
 
 module _ (a : Arrival) (announce : isAnnounce (header a) ≡ false) (link : ofKindLink (header a) ≡ false) (proof : isProof (header a) ≡ false) where
   no-proof : isLinkProof (a .bytes) ≡ false
   no-proof = no-link-proof a proof
 
-  path-way : (v : View) → wayOn v a ≡ (not (typeTwo (header a)) then blocked not-asking otherwise pathWay (v .path (destination a)))
+  path-way : (v : View) → wayOn v a ≡ (not (typeTwo (header a)) then blocked NotAsking otherwise pathWay (v .path (destination a)))
   unfolding wayOn
   path-way v = then-false _ _ announce ∙ then-false _ _ link ∙ then-false _ _ proof
 
@@ -51,19 +52,19 @@ module _ (a : Arrival) (announce : isAnnounce (header a) ≡ false) (link : ofKi
   path-plan v p fits = rw (no-proof, or-false (isLinkRequest (header a) and isThere (v .link (linkId (a .bytes)))), announce, fits)
 
   module _ (r : Relay) where
-    pub path-not-asking : typeTwo (header a) ≡ false → Drop NoWayOn ≡ onward r a
-    unfolding onward onwardPlan onwardTests firstOf noWayOn decided _then_otherwise_
+    pub path-not-asking : typeTwo (header a) ≡ false → Drop (NoWayOn NotAsking) ≡ onward r a
+    unfolding onward onwardPlan onwardTests firstOf noWayOn whyBlocked decided _then_otherwise_
     path-not-asking one =
         let v : View = viewAt (a .clock) r in
-        let way : wayOn v a ≡ blocked not-asking = path-way v ∙ rw one in
+        let way : wayOn v a ≡ blocked NotAsking = path-way v ∙ rw one in
         sym (ap (λ (w : Way). decided r a (onwardPlan v a w)) way)
 
     module _ (two : typeTwo (header a) ≡ true) where
-      path-none : viewAt (a .clock) r .path (destination a) ≡ empty → Drop NoWayOn ≡ onward r a
-      unfolding onward onwardPlan onwardTests firstOf noWayOn decided pathWay _then_otherwise_
+      path-none : viewAt (a .clock) r .path (destination a) ≡ empty → Drop (NoWayOn NoPath) ≡ onward r a
+      unfolding onward onwardPlan onwardTests firstOf noWayOn whyBlocked decided pathWay _then_otherwise_
       path-none e =
           let v : View = viewAt (a .clock) r in
-          let way : wayOn v a ≡ blocked no-path = path-way v ∙ rw two (ap pathWay e) in
+          let way : wayOn v a ≡ blocked NoPath = path-way v ∙ rw two (ap pathWay e) in
           sym (ap (λ (w : Way). decided r a (onwardPlan v a w)) way)
 
       module _ (readable : reads longestPacket (a .bytes) ≡ true) (p : Path) (wide : length (p .nextHop) ≡ 16)
@@ -99,7 +100,7 @@ next-hop-wide t i size l =
 module _ (t : List ℕ) (a : Arrival) (announce : isAnnounce (header a) ≡ false) (link : ofKindLink (header a) ≡ false)
     (proof : isProof (header a) ≡ false) (two : typeTwo (header a) ≡ true)
     {i : ℕ} (e : i ≡ pathPlace (a .clock) (relayOf t) (destination a)) where
-  pub path-nowhere : pathCount ≤ i → Drop NoWayOn ≡ onward (relayOf t) a
+  pub path-nowhere : pathCount ≤ i → Drop (NoWayOn NoPath) ≡ onward (relayOf t) a
   path-nowhere l = path-none a announce link proof (relayOf t) two (path-missing t (a .clock) (destination a) i e l)
 
   module _ (readable : reads longestPacket (a .bytes) ≡ true) (size : length t ≡ tableSize) (l : i < pathCount) where

@@ -16,9 +16,10 @@ use Rattle.rules.specs.Relay.{empty, used, Return, Relay}
 use Rattle.rules.specs.View.{View, returnPlace, viewAt, portOn}
 use Rattle.rules.specs.Arrival.{Arrival, header, destination, isLinkProof}
 use Rattle.rules.specs.Ways.{Way, by-return, returnWay, wayOn}
-use Rattle.rules.specs.Tests.{noWayOn, alreadyKnown, wrongSide, notSigned, replay, notBetter, leavingPort, portOff, noRoom}
+use Rattle.rules.specs.Tests.{noWayOn, whyBlocked, alreadyKnown, wrongSide, notSigned, replay, notBetter, leavingPort, portOff, noRoom}
 use Rattle.rules.specs.Outgoing.{grownTooLong}
 use Rattle.rules.specs.Judging.{dropped, follows, onwardPlan, onwardTests}
+use Rattle.rules.specs.declared.Blocked.the-variants.{NoReturn}
 use Rattle.rules.specs.declared.Reason.the-variants.{NoWayOn, WrongSide, PortOff}
 use Rattle.numbers.specs.Numbers.{returnCount}
 use Rattle.tables.specs.Places.{returnsAt, returnWidth}
@@ -53,8 +54,8 @@ module _ (a : Arrival) (kind : ofKindLink (header a) ≡ false) (proof : isProof
   return-plan v t fits = rw (no-request, no-link-proof, no-announce, fits)
 
   module _ (r : Relay) where
-    return-none : viewAt (a .clock) r .return (destination a) ≡ empty → Drop NoWayOn ≡ onward r a
-    unfolding onward onwardPlan onwardTests firstOf noWayOn decided returnWay _then_otherwise_
+    return-none : viewAt (a .clock) r .return (destination a) ≡ empty → Drop (NoWayOn NoReturn) ≡ onward r a
+    unfolding onward onwardPlan onwardTests firstOf noWayOn whyBlocked decided returnWay _then_otherwise_
     return-none e =
         let v : View = viewAt (a .clock) r in
         sym (ap (λ (w : Way). decided r a (onwardPlan v a w)) (return-way v ∙ ap returnWay e))
@@ -74,7 +75,7 @@ module _ (a : Arrival) (kind : ofKindLink (header a) ≡ false) (proof : isProof
 -- ---- on tables, where the search for the return record gave place i
 module _ (t : List ℕ) (a : Arrival) (kind : ofKindLink (header a) ≡ false) (proof : isProof (header a) ≡ true)
     {i : ℕ} (e : i ≡ returnPlace (a .clock) (relayOf t) (destination a)) where
-  pub return-nowhere : returnCount ≤ i → Drop NoWayOn ≡ onward (relayOf t) a
+  pub return-nowhere : returnCount ≤ i → Drop (NoWayOn NoReturn) ≡ onward (relayOf t) a
   return-nowhere l = return-none a kind proof (relayOf t) (return-missing t (a .clock) (destination a) i e l)
 
   pub return-at : reads longestPacket (a .bytes) ≡ true → i < returnCount

@@ -38,7 +38,7 @@ decidedWay r a (by-path p) =
     otherwise Request (pathPlace (a .clock) r (destination a)) (freeLink (a .clock) r) (highOf (linkId (a .bytes))) (lowOf (linkId (a .bytes)))
 decidedWay r a (along-link l) = Carry (linkPlace (a .clock) r (destination a)) (leavingPort a (along-link l))
 decidedWay r a (by-return t) = Receipt (returnPlace (a .clock) r (destination a)) (leavingPort a (by-return t))
-decidedWay r a (blocked why) = Drop NoWayOn
+decidedWay r a (blocked why) = Drop (NoWayOn why)
 
 unfoldable pub decided : Relay → Arrival → Plan → Decision
 decided r a (dropped reason) = Drop reason

@@ -1,6 +1,8 @@
 // Tests 1 to 5, with delivery at test 4's place.
 use super::Arrived;
 use super::Early;
+use super::Form;
+use super::bad_form::form_of;
 use numbers::HASH_COUNT;
 use numbers::HOPS_LIMIT;
 use numbers::LOCAL_COUNT;
@@ -83,8 +85,8 @@ pub fn first_tests(tables: &[u8], packet: &[u8], arrived: Arrived, hash: [u8; 32
     if lookup::hash_place(tables, hash, arrived.clock) < HASH_COUNT {
         return Early::Dropped(Reason::Duplicate);
     }
-    if outgoing::bad_form(packet) {
-        return Early::Dropped(Reason::BadForm);
+    if let Form::Bad(clause) = form_of(packet) {
+        return Early::Dropped(Reason::BadForm(clause));
     }
     if own_announce(tables, packet, arrived) {
         return Early::Dropped(Reason::OwnAnnounce);
@@ -95,5 +97,5 @@ pub fn first_tests(tables: &[u8], packet: &[u8], arrived: Arrived, hash: [u8; 32
     if packet[1] >= HOPS_LIMIT {
         return Early::Dropped(Reason::TooManyHops);
     }
-    Early::Onward
+    Early::Undecided
 }

@@ -2,17 +2,20 @@
 // Every function here is a helper of the packet call: the caller shows that the tables are well formed and that the packet reads.
 // Entry points: none. The packet call decides by `not_ours`, before it hashes the packet, and by `decide`.
 mod announces;
+mod bad_form;
 mod first;
 mod links;
 mod paths;
 mod returns;
 
 use announces::decide_announce;
+pub use bad_form::is_link_proof;
 use first::first_tests;
 pub use first::not_ours;
 use links::decide_of_link;
 use paths::decide_by_path;
 use returns::decide_proof;
+use rules::Clause;
 use rules::Reason;
 ghost use mathlib.Core.Path.{_≡_};
 ghost use mathlib.Core.Bool.{true, false};
@@ -29,11 +32,17 @@ pub struct Arrived {
     pub signed: bool,
 }
 
-// Tests 1 to 5, with delivery at test 4's place.
+// What test 3 finds: a good form, or the first clause that fails.
+pub enum Form {
+    Good,
+    Bad(Clause),
+}
+
+// What tests 1 to 5 say, with delivery at test 4's place.
 pub enum Early {
     Dropped(Reason),
     Delivered,
-    Onward,
+    Undecided,
 }
 
 // The rules' plan, with the places of the records that it concerns. (An enum that holds an array isn't covered: addresses are read again where
@@ -95,6 +104,6 @@ pub fn decide(tables: &[u8], packet: &[u8], arrived: Arrived, hash: [u8; 32]) ->
     match first_tests(tables, packet, arrived, hash) {
         Early::Dropped(reason) => Decision::Drop(reason),
         Early::Delivered => Decision::Deliver,
-        Early::Onward => decide_onward(tables, packet, arrived),
+        Early::Undecided => decide_onward(tables, packet, arrived),
     }
 }

@@ -1,7 +1,9 @@
 // Packets of kind link: tests 6, 7, 8, 9 and 12.
 use super::Arrived;
 use super::Decision;
+use super::bad_form::is_link_proof;
 use numbers::LINK_COUNT;
+use rules::Blocked;
 use rules::Link;
 use rules::Reason;
 ghost use mathlib.Core.Path.{_≡_};
@@ -73,7 +75,7 @@ fn pass(tables: &[u8], packet: &[u8], arrived: Arrived, link: Link, place: usize
     ensures { λ r. ⌜ r ≡ carrying (relayOf (now (tables .entry))) (arrivalOf (now (packet .entry)) arrived) link place ⌝ }
 {
     if !link.proved {
-        return Decision::Drop(Reason::NoWayOn);
+        return Decision::Drop(Reason::NoWayOn(Blocked::NotProved));
     }
     if from_answering_side(link, packet, arrived) {
         return carry(tables, place, link.asking);
@@ -92,10 +94,10 @@ pub fn decide_of_link(tables: &[u8], packet: &[u8], arrived: Arrived) -> Decisio
     let destination = parts.destination;
     let place = lookup::link_place(tables, destination, arrived.clock);
     if place >= LINK_COUNT {
-        return Decision::Drop(Reason::NoWayOn);
+        return Decision::Drop(Reason::NoWayOn(Blocked::NoLink));
     }
     let link = lookup::link_at(tables, place);
-    if outgoing::is_link_proof(packet) {
+    if is_link_proof(packet) {
         return prove(tables, packet, arrived, link, place);
     }
     pass(tables, packet, arrived, link, place)

@@ -3,6 +3,7 @@ use super::Arrived;
 use super::Decision;
 use numbers::LINK_COUNT;
 use numbers::PATH_COUNT;
+use rules::Blocked;
 use rules::Reason;
 ghost use mathlib.Core.Path.{_≡_};
 ghost use mathlib.Core.Bool.{true, false};
@@ -60,13 +61,13 @@ pub fn decide_by_path(tables: &[u8], packet: &[u8], arrived: Arrived) -> Decisio
 {
     let header = packet[0];
     if !packet::type_two(header) {
-        return Decision::Drop(Reason::NoWayOn);
+        return Decision::Drop(Reason::NoWayOn(Blocked::NotAsking));
     }
     let parts = packet::parts_of(packet);
     let destination = parts.destination;
     let place = lookup::path_place(tables, destination, arrived.clock);
     if place >= PATH_COUNT {
-        return Decision::Drop(Reason::NoWayOn);
+        return Decision::Drop(Reason::NoWayOn(Blocked::NoPath));
     }
     if packet::is_data(header) {
         return send(tables, place);

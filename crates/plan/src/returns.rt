@@ -2,6 +2,7 @@
 use super::Arrived;
 use super::Decision;
 use numbers::RETURN_COUNT;
+use rules::Blocked;
 use rules::Reason;
 ghost use mathlib.Core.Path.{_≡_};
 ghost use mathlib.Core.Bool.{true, false};
@@ -44,5 +45,5 @@ pub fn decide_proof(tables: &[u8], packet: &[u8], arrived: Arrived) -> Decision
     if place < RETURN_COUNT {
         return receipt(tables, place, arrived.port);
     }
-    Decision::Drop(Reason::NoWayOn)
+    Decision::Drop(Reason::NoWayOn(Blocked::NoReturn))
 }

@@ -21,7 +21,6 @@ use Rattle.rules.specs.declared.Verdict.the-variants.{Drop}
 use Rattle.rules.specs.declared.Reason.the-variants.{NotOurs}
 use Rattle.rules.specs.View.{viewAt}
 use Rattle.rules.specs.Tests.{notOurs}
-use Rattle.rules.specs.Answers.{reasonNumber}
 use Rattle.rules.specs.Judging.{plan, earlyTests}
 use Rattle.octets.specs.Listed.{firstOf}
 use Rattle.rules.proofs.Choices.{row-passed, rows-below}
@@ -32,10 +31,11 @@ use Rattle.plan.specs.declared.Arrived.{Arrived}
 use Rattle.plan.specs.declared.Decision.the-variants as decided-as
 use Rattle.plan.specs.Decided.{arrivalOf, decided, decision}
 use Rattle.update.specs.Written.{clockWritten}
-use Rattle.act.specs.Stored.{remembersDecided, stamped}
+use Rattle.act.specs.Stored.{stamped}
 use Rattle.act.proofs.Stays.{drop-left}
 use Rattle.act.proofs.StampLaws.{remembered-by, stamp-left}
-use Rattle.act.specs.Acted.{packetRefusalOn, AcceptedOn, verdictOn, tablesOn, outputOn}
+use Rattle.act.specs.Acted.{AcceptedOn, verdictOn, tablesOn, outputOn}
+use Rattle.relay.specs.Refusal.{packetRefusalOn}
 use Rattle.relay.specs.Promise.{JudgementOn, Promises, inBytes, packetOn}
 
 module _ (packet : List ℕ) (port clock : ℕ) (signed : Bool) (t : List ℕ) (tally : Tally) (output : List ℕ) where
@@ -125,7 +125,7 @@ module _ (packet : List ℕ) (port clock : ℕ) (signed : Bool) (t : List ℕ) (
       -- ---- test 1's drop: the clock alone is written
       pub passed-promised : Bytes t → notOurs (viewAt (m .clock) (relayOf t)) (arrivalOf packet m) ≡ true → (after : Tally) (u : List ℕ)
           → u ≡ clockWritten t (m .clock) → after ≡ counted (Drop NotOurs) tally → Promises whole (Judged (Drop NotOurs)) after u output
-      unfolding decision decided plan earlyTests firstOf remembersDecided stamped reasonNumber _then_otherwise_
+      unfolding decision decided plan earlyTests firstOf stamped _then_otherwise_
       passed-promised b ours after u q n =
           let d : decision (relayOf t) (arrivalOf packet m) ≡ decided-as.Drop NotOurs = rw ours in
           let left = drop-left packet m t accepted b output NotOurs d in

@@ -1,10 +1,18 @@
 // The packet call: a packet is refused, or decided, acted on and counted.
-// Entry point: judge, with the tally by value; crates/haskumye lends it to hosts by `&mut`. It has no `requires`, and ends on any bytes.
+// Entry points: judge, with the tally by value (crates/haskumye lends it to hosts by `&mut`), and reason_number. They have no `requires`, and
+// end on any bytes.
+mod reasons;
+mod refusals;
+mod tallies;
+
 use plan::Arrived;
+pub use reasons::reason_number;
+use refusals::refusal;
 use rules::Answer;
 use rules::Reason;
 use rules::Tally;
 use rules::Verdict;
+use tallies::counted;
 ghost use Rattle.relay.specs.Promise.{Promises, packetOn};
 
 // What a packet call returns where the tally goes in by value.
@@ -26,10 +34,10 @@ pub fn judge(
 ) -> Judged
     ensures { λ r. ⌜ Promises (packetOn (now (packet .entry)) port clock signed (now (tables .entry)) tally (now (output .entry))) (r .answer) (r .tally) (now (tables .exit)) (now (output .exit)) ⌝ }
 {
-    let refusal = act::refusal(packet, port, clock, tables, output.len());
-    if refusal != 0 {
+    let refused = refusal(packet, port, clock, tables, output.len());
+    if refused != 0 {
         return Judged {
-            answer: Answer::Refused(refusal),
+            answer: Answer::Refused(refused),
             tally,
         };
     }
@@ -43,7 +51,7 @@ pub fn judge(
         let passed = Verdict::Drop(Reason::NotOurs);
         return Judged {
             answer: Answer::Judged(passed),
-            tally: act::counted(passed, tally),
+            tally: counted(passed, tally),
         };
     }
     let hash = packet::hash_of(packet);
@@ -51,6 +59,6 @@ pub fn judge(
     let verdict = act::act(packet, arrived, hash, decision, tables, output);
     Judged {
         answer: Answer::Judged(verdict),
-        tally: act::counted(verdict, tally),
+        tally: counted(verdict, tally),
     }
 }

@@ -9,7 +9,6 @@ use Rattle.rules.specs.View.{View}
 use Rattle.rules.specs.Arrival.{Arrival, hops, header, destination, isLinkProof}
 use Rattle.rules.specs.Ways.{Way, everywhere, by-path, along-link, by-return, blocked, pathWay, linkWay, returnWay, wayOn}
 use Rattle.rules.specs.Tests.{duplicate, tooManyHops, alreadyKnown, replay}
-use Rattle.rules.specs.Answers.{reasonNumber}
 use Rattle.rules.specs.Judging.{Plan, dropped, delivered, follows, earlyTests, plan}
 use Rattle.rules.specs.Writes.{remembers}
 use Rattle.rules.specs.declared.Link.{Link}
@@ -72,7 +71,7 @@ module _ (v : View) (a : Arrival) where
 
   -- a hash that is remembered is that of no duplicate
   pub remembered-new : remembers v a (plan v a) ≡ true → duplicate v a ≡ false
-  unfolding plan earlyTests firstOf remembers reasonNumber
+  unfolding plan earlyTests firstOf remembers
   remembered-new =
       either (λ (todo : Plan). remembers v a todo ≡ true → duplicate v a ≡ false) _ (λ _ h. absurd (false≢true h))
       (λ _. either (λ (todo : Plan). remembers v a todo ≡ true → duplicate v a ≡ false) _ (λ _ h. absurd (false≢true h)) (λ new _. new))

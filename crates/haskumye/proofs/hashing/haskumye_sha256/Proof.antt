@@ -1,4 +1,3 @@
--- `haskumye::hashing::haskumye_sha256` meets its contract.
 use mathlib.Core.Path.{ap}
 use borrow.Author.Needs.{needs}
 use denote.Ref.{now}

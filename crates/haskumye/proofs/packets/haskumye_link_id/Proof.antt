@@ -1,4 +1,3 @@
--- `haskumye::packets::haskumye_link_id` meets its contract.
 use mathlib.Core.Path.{ap}
 use denote.Ref.{now}
 use Rattle.packet.specs.declared.LinkId.{LinkId}

@@ -1,4 +1,3 @@
--- `haskumye::packets::haskumye_packet_hash` meets its contract.
 use mathlib.Core.Path.{ap}
 use denote.Ref.{now}
 use Rattle.packet.specs.declared.PacketHash.{PacketHash}

@@ -1,4 +1,3 @@
--- `haskumye::packets::haskumye_read` meets its contract.
 use mathlib.Core.Path.{ap, _∙_}
 use denote.Ref.{now}
 use Rattle.packet.specs.declared.Reading.{Reading}

@@ -1,4 +1,3 @@
--- `haskumye::packets::haskumye_write` meets its contract.
 use mathlib.Core.Path.{ap, _∙_}
 use Prim.Native.Nat.{ℕ, _+_, _*_}
 use Rattle.packet.specs.Write.{Writing, writing}

@@ -1,4 +1,3 @@
--- `haskumye::parts::parts_bytes` meets its contract.
 use Prim.Native.Nat.{ℕ}
 use mathlib.Core.List.{List, [], _∷_}
 use mathlib.Core.Path.{_≡_, ap, _∙_}

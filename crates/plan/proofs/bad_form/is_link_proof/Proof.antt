@@ -1,0 +1,43 @@
+use mathlib.Core.Path.{sym, ap, _∙_}
+use Rattle.octets.proofs.Index.{and-yes, and-no}
+use Rattle.outgoing.proofs.LeavingLaws.{long, whole}
+use lib.Dec.{eqb}
+use Rattle.packet.specs.declared.Parts.{Parts}
+use Rattle.plan.proofs.FormLaws.{link-proof-clauses}
+use native.Mathlib.Omega.{arith}
+use borrow.Author.Needs.{needs}
+use Rattle.plan.proofs.bad_form.is_link_proof.Statement.{statement}
+use Rattle.plan.proofs.bad_form.is_link_proof.Tie as tie
+
+shared-slice-read-header : tie.Need-shared-slice-read-header
+shared-slice-read-header c = omega (arith, long 500 (c .before .before .args .packet .now) (c .before .before .pre))
+
+is-proof-requires : tie.Need-is-proof-requires
+is-proof-requires c κs = search needs
+
+of-kind-link-requires : tie.Need-of-kind-link-requires
+of-kind-link-requires c κs = search needs
+
+parts-of-requires : tie.Need-parts-of-requires
+parts-of-requires c κs = whole 500 (c .before .before .before .before .before .before .args .packet .now) (c .before .before .before .before .before .before .pre)
+
+returns : tie.Need-returns
+returns c = ap (λ (q : Parts). eqb (q .context) 255) (c .before .parts-of .ensures) ∙ sym (link-proof-clauses (c .before .before .before .before .before .before .before .before .args .packet .now) ∙ and-yes _ (sym (c .before .before .before .before .before .is-proof .ensures) ∙ c .before .before .before .before .if1 .taken) ∙ and-yes _ (sym (c .before .before .before .of-kind-link .ensures) ∙ c .before .before .if2 .taken))
+
+returns-2 : tie.Need-returns-2
+returns-2 c = sym (link-proof-clauses (c .before .before .before .before .before .before .args .packet .now) ∙ and-yes _ (sym (c .before .before .before .is-proof .ensures) ∙ c .before .before .if1 .taken) ∙ and-no _ (sym (c .before .of-kind-link .ensures) ∙ c .if2 .left))
+
+returns-3 : tie.Need-returns-3
+returns-3 c = sym (link-proof-clauses (c .before .before .before .before .args .packet .now) ∙ and-no _ (sym (c .before .is-proof .ensures) ∙ c .if1 .left))
+
+pub is-link-proof-spec : {M : Type 1} → statement M
+is-link-proof-spec =
+    tie.close
+    (tie.spec
+    shared-slice-read-header
+    is-proof-requires
+    of-kind-link-requires
+    parts-of-requires
+    returns
+    returns-2
+    returns-3)
