@@ -1,6 +1,6 @@
--- Demand 1 (docs/scope/00-demands.md), about the bytes: "Every call ends, whatever comes in. Bad input gets a numbered refusal, exactly when and in
--- the order that document 01's list says, and a refusal changes no byte of tables, tally or output." That every call ends is part of each
--- function's proof: a contract of Rattle says that the function returns.
+-- Demand 1 (docs/scope/00-demands.md), about the bytes: "Every call ends, whatever bytes, tables, clock or port number come in. Bad input gets a numbered
+-- refusal from the list in document 01, by its order of checks, exactly when the list says, and a refusal changes no byte of tables, tally or output."
+-- That every call ends is part of each function's proof: a contract of Rattle says that the function returns.
 use Prim.Native.Nat.{ℕ}
 use mathlib.Core.Bool.{Bool, true, false, not, false≢true}
 use mathlib.Core.List.{List}

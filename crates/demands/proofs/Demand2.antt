@@ -1,5 +1,5 @@
--- Demand 2 (docs/scope/00-demands.md), about the bytes: "Reading and writing a packet undo each other. Every answer and the tables after it are those
--- of document 01's rules, for any sequence of calls from a fresh relay."
+-- Demand 2 (docs/scope/00-demands.md), about the bytes: "Reading and writing a packet undo each other, by the published Reticulum layout. Every answer
+-- and the tables after it are those that document 01's rules give, for any sequence of calls from a fresh relay."
 use Prim.Native.Nat.{ℕ, _≤_}
 use mathlib.Core.Bool.{true}
 use mathlib.Core.List.{List, [], _∷_}
@@ -100,7 +100,7 @@ module _ (cs : List Call) (tables : List ℕ) (tally : Tally) (given : CallsByte
   pub stays-bytes : Bytes (tablesAfterOn cs tables tally)
   stays-bytes = subst Bytes (sym (follows-the-rules cs tables tally given b h .tables)) (bytes-bytes last last-shaped last-ok)
 
--- from the bytes that `fresh` makes of a buffer of the right size, whatever it held, with tally 0
+-- "for any sequence of calls from a fresh relay": the bytes that `fresh` makes of a buffer of the right size, whatever it held, with tally 0
 module _ (buffer own : List ℕ) (size : length buffer ≡ tableSize) where
   pub fresh-made : freshOn buffer own ≡ record { refusal = 0; tables = bytesOf (fresh own) }
   unfolding freshOn

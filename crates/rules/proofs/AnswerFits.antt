@@ -3,16 +3,16 @@ use Prim.Native.Nat.{ℕ, _≤_, _<_, _^_}
 use mathlib.Core.Bool.{Bool, true, false, not, false≢true}
 use mathlib.Core.List.{List}
 use mathlib.Core.Path.{_≡_, refl, sym, subst}
-use lib.Dec.{eqb, lit<}
+use lib.Dec.{eqb, ltb, lit<}
 use lib.ListN.{length}
 use borrow.Author.Tests.{ltb-true, ltb-false}
 use Rattle.octets.specs.Index.{_and_}
 use Rattle.octets.specs.Choice.{_or_}
-use Rattle.octets.specs.Listed.{firstOf}
 use Rattle.octets.proofs.Index.{and-left}
 use Rattle.octets.proofs.Choice.{or-no-right}
+use Rattle.octets.proofs.Listed.{allGive, all-first}
 use Rattle.packet.specs.Header.{isAnnounce}
-use Rattle.packet.specs.Read.{longestPacket, readingRefusal}
+use Rattle.packet.specs.Read.{longestPacket, readingRows, readingRefusal}
 use Rattle.numbers.specs.Numbers.{portCount}
 use Rattle.rules.specs.Relay.{Slot, empty, used, Path, Return, Relay}
 use Rattle.rules.specs.View.{View, viewAt, portOn}
@@ -50,13 +50,12 @@ AnswerFits (Judged verdict) = VerdictFits verdict
 
 -- ---- numbers
 reason-fits : (reason : Reason) → reasonNumber reason < 256
-unfolding reasonNumber
 reason-fits NotOurs = lit< tt
 reason-fits Duplicate = lit< tt
-reason-fits BadForm = lit< tt
+reason-fits (BadForm clause) = lit< tt
 reason-fits OwnAnnounce = lit< tt
 reason-fits TooManyHops = lit< tt
-reason-fits NoWayOn = lit< tt
+reason-fits (NoWayOn why) = lit< tt
 reason-fits AlreadyKnown = lit< tt
 reason-fits WrongSide = lit< tt
 reason-fits NotSigned = lit< tt
@@ -66,20 +65,12 @@ reason-fits PortOff = lit< tt
 reason-fits NoRoom = lit< tt
 reason-fits GrownTooLong = lit< tt
 
-abbrev Byte : ℕ → Type 0
-Byte n = n < 256
-
-refusal-fits : (r : Relay) (a : Arrival) (room : ℕ) → Byte (packetRefusal r a room)
-unfolding refusalBy packetRows firstOf readingRefusal
+refusal-fits : (r : Relay) (a : Arrival) (room : ℕ) → packetRefusal r a room < 256
+unfolding refusalBy packetRows readingRefusal readingRows allGive _and_
 refusal-fits r a room =
-    either Byte _ (λ _. lit< tt)
-    (λ _. either Byte _ (λ _. lit< tt)
-    (λ _. either Byte _ (λ _. lit< tt)
-    (λ _. either Byte _ (λ _. lit< tt)
-    (λ _. either Byte _ (λ _. lit< tt)
-    (λ _. either Byte _ (λ _. lit< tt)
-    (λ _. either Byte _ (λ _. lit< tt)
-    (λ _. either Byte _ (λ _. lit< tt) (λ _. lit< tt))))))))
+    ltb-true _ 256
+    (all-first (λ n. ltb n 256) (packetRows r (a .port) (a .clock) room) _ refl
+    (all-first (λ n. ltb n 256) (readingRows longestPacket (a .bytes)) 0 refl refl))
 
 -- ---- verdicts: a packet leaves by a port that is on, and is not too long
 on-of : (b c : Bool) → b ≡ false → (not b and not c) ≡ false → c ≡ true
@@ -129,7 +120,7 @@ module _ (v : View) (a : Arrival) (sixteen : (p : ℕ) → v .on p ≡ true → 
       (sixteen _ (on-of _ _ s (p .portOn)), ltb-false longestPacket (length (pathPacket (path .hops) (path .nextHop) (a .bytes))) (p .fits))
   way-fits (along-link l) s p = (sixteen _ (on-of _ _ s (p .portOn)), ltb-false longestPacket (length (carriedPacket (a .bytes))) (p .fits))
   way-fits (by-return t) s p = (sixteen _ (on-of _ _ s (p .portOn)), ltb-false longestPacket (length (carriedPacket (a .bytes))) (p .fits))
-  way-fits (blocked why) s p = reason-fits NoWayOn
+  way-fits (blocked why) s p = reason-fits (NoWayOn why)
 
   plan-fits : VerdictFits (verdict v a (plan v a))
   unfolding verdict
