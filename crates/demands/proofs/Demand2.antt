@@ -1,5 +1,5 @@
--- Demand 2 (docs/scope/00-demands.md), about the bytes: "Reading and writing a packet undo each other. Every answer and the tables after it are those
--- of document 01's rules, for any sequence of calls from a fresh relay."
+-- Demand 2 (docs/scope/00-demands.md), about the bytes: "Reading and writing a packet undo each other, by the published Reticulum layout. Every answer
+-- and the tables after it are those that document 01's rules give, for any sequence of calls from a fresh relay."
 use Prim.Native.Nat.{ℕ, _≤_}
 use mathlib.Core.Bool.{true}
 use mathlib.Core.List.{List, [], _∷_}
@@ -21,7 +21,7 @@ use Rattle.packet.proofs.RoundTrip.{reading-writing, writing-reading, write-pay
 use Rattle.rules.specs.Relay.{Relay, fresh}
 use Rattle.rules.specs.Refusals.{tablesOk}
 use Rattle.rules.specs.Calls.{newTally, Setting, packetCall, settle}
-use Rattle.rules.specs.Run.{Call, packet, on-tables, Reply, Outcome, ofJudgement, ofSetting, perform, replies, relayAfter, tallyAfter}
+use Rattle.rules.specs.Run.{EachCall, Call, packet, on-tables, Reply, Outcome, ofJudgement, ofSetting, perform, replies, relayAfter, tallyAfter}
 use Rattle.rules.specs.declared.Tally.{Tally}
 use Rattle.rules.proofs.History.{CountsHistory, history-since-fresh}
 use Rattle.rules.proofs.Valid.{step-ok, stays-ok, fresh-ok}
@@ -60,7 +60,7 @@ module _ (r : Relay) (s : shaped r ≡ true) (ok : tablesOk r ≡ true) (t : Tal
 
 -- ---- lists of calls on a relay's bytes
 pub run-on : (cs : List Call) (r : Relay) (t : Tally) → CallsBytes cs → tablesOk r ≡ true → shaped r ≡ true → FollowsTheRules cs (bytesOf r) t r
-unfolding CallsBytes repliesOn tablesAfterOn tallyAfterOn replies relayAfter tallyAfter outcomeOn
+unfolding EachCall repliesOn tablesAfterOn tallyAfterOn replies relayAfter tallyAfter outcomeOn
 run-on [] r t b ok s = record { answers = refl; tables = refl; tally = refl }
 run-on (c ∷ cs) r t b ok s =
     let o : Outcome = perform c r t in
@@ -100,7 +100,7 @@ module _ (cs : List Call) (tables : List ℕ) (tally : Tally) (given : CallsByte
   pub stays-bytes : Bytes (tablesAfterOn cs tables tally)
   stays-bytes = subst Bytes (sym (follows-the-rules cs tables tally given b h .tables)) (bytes-bytes last last-shaped last-ok)
 
--- from the bytes that `fresh` makes of a buffer of the right size, whatever it held, with tally 0
+-- "for any sequence of calls from a fresh relay": the bytes that `fresh` makes of a buffer of the right size, whatever it held, with tally 0
 module _ (buffer own : List ℕ) (size : length buffer ≡ tableSize) where
   pub fresh-made : freshOn buffer own ≡ record { refusal = 0; tables = bytesOf (fresh own) }
   unfolding freshOn

@@ -1,6 +1,11 @@
-// Document 01's numbers, in code: specs/Numbers.antt has the same as definitions, and each contract that uses one is proved with those.
-// No function stands here.
+// Document 01's numbers, in code: specs/Numbers.antt has the same as definitions, and each contract that uses one is
+// proved with those. No function stands here.
 pub mod refusals;
+
+// The longest packet, and the least output buffer, which has room for it.
+pub const LONGEST_PACKET: usize = 500;
+
+pub const LEAST_OUTPUT: usize = 500;
 
 pub const PORT_COUNT: usize = 16;
 

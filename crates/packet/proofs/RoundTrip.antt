@@ -21,7 +21,7 @@ use Rattle.packet.specs.declared.Reading.{Reading}
 use Rattle.packet.proofs.ListLaws.{behind, found-part, found-byte, found-rest, patched-start}
 use Rattle.packet.proofs.ReadLaws.{start-two, start-one, accepted, reads-readable, readable-reads, parts-two, parts-one, parts-header, answer-read}
 use Rattle.packet.specs.Write.{Wide}
-use Rattle.packet.proofs.WriteLaws.{packet-two, packet-one, packet-length, writable, accepted-writing, writing-done}
+use Rattle.packet.proofs.WriteLaws.{packet-two, packet-one, packet-length, Writable, writable, accepted-writing, writing-done}
 
 -- ---- read, then written
 head-drop : (p : List ℕ) → 2 ≤ length p → headerOf p ∷ getD p 1 0 ∷ drop 2 p ≡ p
@@ -65,10 +65,12 @@ module _ (longest : ℕ) (p : List ℕ) (h : reads longest p ≡ true) where
       → writing (reading longest p .parts) (payload p) output ≡ record { answer = record { refusal = 0; length = length p }; output = patch output 0 p }
   reading-writing output short room =
       ap (λ (q : Parts). writing q (payload p) output) parts-read
-      ∙ writing-done (partsOf p) (payload p) output
-      (accepted-writing (length output) (partsOf p) (payload p) room (subst (λ (r : List ℕ). length r ≤ 500) (sym read-write) short) (subst (λ (n : ℕ). accessCode n ≡ false) (sym (parts-header p)) (reads-readable longest p h .free)))
+      ∙ writing-done (partsOf p) (payload p) output (accepted-writing (length output) (partsOf p) (payload p) able)
       ∙ ap (λ (r : List ℕ). record { answer = record { refusal = 0; length = length r }; output = patch output 0 r }) read-write
     where
+      able : Writable (length output) (partsOf p) (payload p)
+      able = record { roomy = room; fits = rw read-write short; free = rw (parts-header p) (reads-readable longest p h .free) }
+
       parts-read : reading longest p .parts ≡ partsOf p
       parts-read = ap (λ (r : Reading). r .parts) (sym (answer-read longest p (partsOf p) (accepted longest p (reads-readable longest p h)) refl))
 

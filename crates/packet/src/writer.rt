@@ -1,11 +1,12 @@
 // Writing a packet.
-use super::LEAST_OUTPUT;
-use super::LONGEST_PACKET;
 use super::Parts;
 use super::Written;
 use super::header::access_code;
 use super::header::type_two;
 use super::reader::payload_start;
+use numbers::LEAST_OUTPUT;
+use numbers::LONGEST_PACKET;
+use numbers::refusals;
 ghost use mathlib.Core.Path.{_≡_};
 ghost use mathlib.Core.List.{_∷_, _++_};
 ghost use Prim.Native.Nat.{_+_, _≤_};
@@ -19,16 +20,16 @@ pub fn writing_refusal(parts: Parts, payload: &[u8], room: usize) -> u8
     ensures { λ r. ⌜ r ≡ writingRefusal room parts (now (payload .entry)) ⌝ }
 {
     if room < LEAST_OUTPUT {
-        return 6;
+        return refusals::OUTPUT;
     }
     let start = payload_start(parts.header);
     if LONGEST_PACKET - start < payload.len() {
-        return 2;
+        return refusals::TOO_LONG;
     }
     if access_code(parts.header) {
-        return 3;
+        return refusals::ACCESS_CODE;
     }
-    0
+    refusals::NONE
 }
 
 // Writes what both types end with from place at on.
@@ -63,12 +64,12 @@ pub fn write(parts: Parts, payload: &[u8], output: &mut [u8]) -> Written
     ensures { λ r. ⌜ (r ≡ writing parts (now (payload .entry)) (now (output .entry)) .answer) × (now (output .exit) ≡ writing parts (now (payload .entry)) (now (output .entry)) .output) ⌝ }
 {
     let refusal = writing_refusal(parts, payload, output.len());
-    if refusal != 0 {
+    if refusal != refusals::NONE {
         return Written { refusal, length: 0 };
     }
     write_packet(parts, payload, output);
     Written {
-        refusal: 0,
+        refusal: refusals::NONE,
         length: payload_start(parts.header) + payload.len(),
     }
 }

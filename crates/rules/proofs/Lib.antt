@@ -16,10 +16,12 @@ pub mod BlobLaws
 pub mod Accepted
 pub mod Followed
 pub mod Stamped
+pub mod Held
 pub mod Ranges
 pub mod Valid
 pub mod Images
 pub mod PortSets
+pub mod AnswerFits
 pub mod MovedPorts
 pub mod SlotsRenamed
 pub mod ViewRenamed

@@ -27,7 +27,7 @@ use Rattle.rules.specs.declared.Verdict.{Verdict}
 use Rattle.rules.specs.declared.Verdict.the-variants.{Drop, Deliver, Forward, Spread, Kept}
 use Rattle.rules.specs.declared.Answer.the-variants.{Refused, Judged}
 use Rattle.rules.specs.declared.Tally.{Tally}
-use Rattle.rules.proofs.Unfolding.{rules}
+use Rattle.rules.proofs.Unfolding.{tests, answers, writes, calls, rules}
 use Rattle.octets.proofs.Listed.{lateFrom, rest-alike, told-alike}
 use Rattle.rules.proofs.Passed.{ofTest}
 
@@ -59,7 +59,7 @@ module _ (v : View) (a : Arrival) (word : Bool) where
 
   -- nor does what is written by it
   judged-by : (todo : Plan) (r : Relay) (t : Tally) (output : List ℕ) → judged (withWord word a) todo v r t output ≡ judged a todo v r t output
-  unfolding rules
+  unfolding tests answers writes calls
   judged-by (dropped reason) r t output = refl
   judged-by delivered r t output = refl
   judged-by (follows (everywhere empty)) r t output = refl

@@ -56,7 +56,8 @@ module _ {A : Type 0} where
       go (no n) b = old n (sym (getD-set-other slots i j s empty n) ∙ e)
 
   -- a record that stands there after each slot was changed comes of what stood there
-  mapped : (f : Slot A → Slot A) → f empty ≡ empty → (slots : List (Slot A)) (i : ℕ) (x : A) → getD (map f slots) i empty ≡ used x → f (getD slots i empty) ≡ used x
+  mapped : (f : Slot A → Slot A) → f empty ≡ empty → (slots : List (Slot A)) (i : ℕ) (x : A) → getD (map f slots) i empty ≡ used x
+      → f (getD slots i empty) ≡ used x
   mapped f none slots i x e = sym (List·getD-map f slots i empty) ∙ ap (getD (map f slots) i) none ∙ e
 
   renamed : (rename : A → A) (s : Slot A) (x : A) → renameSlot rename s ≡ used x → (y : A) × (s ≡ used y) × (rename y ≡ x)

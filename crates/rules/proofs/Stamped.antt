@@ -2,11 +2,10 @@
 use mathlib.Core.Bool.{false}
 use mathlib.Core.Path.{_≡_, refl}
 use Rattle.packet.specs.Header.{isData}
-use Rattle.rules.specs.Relay.{Relay, withClock, withPaths, withLinks, withReturns}
-use Rattle.rules.specs.View.{View, viewAt, hashPlace}
+use Rattle.rules.specs.Relay.{Relay, withPaths, withLinks, withReturns}
+use Rattle.rules.specs.View.{View}
 use Rattle.rules.specs.Arrival.{Arrival, header}
 use Rattle.rules.specs.Ways.{Way, everywhere, by-path, along-link, by-return, blocked}
-use Rattle.rules.specs.Tests.{testedAsDuplicate, duplicate}
 use Rattle.rules.specs.Judging.{Plan, dropped, delivered, follows}
 use Rattle.rules.specs.Writes.{putPath, putReturn, emptyReturn, putLink, renewLink, writeWay, writePlan}
 use Rattle.rules.proofs.Choices.{either}
@@ -25,9 +24,3 @@ module _ (v : View) (a : Arrival) where
   plan-hashes (dropped reason) r = refl
   plan-hashes delivered r = refl
   plan-hashes (follows w) r = way-hashes w r
-
-  -- so a packet that was no duplicate is none once they are written
-  pub still-new : (todo : Plan) (r : Relay) → duplicate (viewAt (a .clock) r) a ≡ false
-      → duplicate (viewAt (a .clock) (withClock (a .clock) (writePlan v a todo r))) a ≡ false
-  unfolding duplicate testedAsDuplicate viewAt hashPlace withClock
-  still-new todo r new = rw plan-hashes new

@@ -8,14 +8,14 @@ use Rattle.octets.specs.Choice.{_then_otherwise_, _or_, same}
 use Rattle.octets.specs.Part.{part, patch}
 use Rattle.octets.specs.BigEndian.{numberFrom, number}
 use Rattle.packet.specs.Header.{accessCode, typeTwo, contextFlag, destinationKind, packetKind}
-use Rattle.packet.specs.Read.{typeOneParts, typeTwoParts, partsOf, payloadStart, payload, readingRefusal, reads, reading}
+use Rattle.packet.specs.Read.{typeOneParts, typeTwoParts, partsOf, payloadStart, payload, readingRows, readingRefusal, reads, reading}
 use Rattle.packet.specs.Write.{addresses, packetOf}
 use Rattle.packet.specs.Hash.{hashedPart, packetHash, linkId}
 use Rattle.packet.specs.Announce.{keysOf, nameHashOf, blobOf, emissionOf, leastAnnounce, identityHash, announcedDestination}
 use Rattle.octets.specs.Listed.{firstOf, anyHolds, valued}
 use Rattle.octets.proofs.Listed.{told}
 use Rattle.numbers.specs.Numbers.{pathLifetime}
-use Rattle.rules.specs.Relay.{fresh, withClock, withPorts, withPaths, withLinks, withReturns, withHashes, holds, lowest, free, lowestFree}
+use Rattle.rules.specs.Relay.{fresh, withClock, withPorts, withLocals, withPaths, withLinks, withReturns, withHashes, holds, lowest, free, lowestFree}
 use Rattle.rules.specs.View.{portOn, portMode, localPlace, isLocal, isLivePath, isLiveLink, isLiveReturn, isLiveHash, pathPlace, linkPlace, returnPlace, hashPlace, freePath, freeLink, viewAt}
 use Rattle.rules.specs.Blobs.{held, isAmong, greatest, greatestEmission, oneBlob, addBlob}
 use Rattle.rules.specs.Refusals.{timeOk, portOk, pathOk, linkOk, returnOk, hashOk, slotOk, all, tableOk, tablesOk, packetRows, refusalBy, emptyLocal}
@@ -43,14 +43,14 @@ lists = tt
 -- packets
 unfoldable pub layout : Unit {0}
 unfolding accessCode typeTwo contextFlag destinationKind packetKind typeOneParts typeTwoParts partsOf payloadStart payload
-    readingRefusal reads reading addresses packetOf hashedPart packetHash linkId keysOf nameHashOf blobOf emissionOf leastAnnounce
+    readingRows readingRefusal reads reading addresses packetOf hashedPart packetHash linkId keysOf nameHashOf blobOf emissionOf leastAnnounce
     identityHash announcedDestination
 layout = tt
 
 -- the relay, and what is read of it
 unfoldable pub tables : Unit {0}
-unfolding pathLifetime fresh withClock withPorts withPaths withLinks withReturns withHashes holds lowest free lowestFree portOn portMode
-    localPlace isLocal isLivePath isLiveLink isLiveReturn isLiveHash pathPlace linkPlace returnPlace hashPlace freePath freeLink viewAt held
+unfolding pathLifetime fresh withClock withPorts withLocals withPaths withLinks withReturns withHashes holds lowest free lowestFree
+    portOn portMode localPlace isLocal isLivePath isLiveLink isLiveReturn isLiveHash pathPlace linkPlace returnPlace hashPlace freePath freeLink viewAt held
     isAmong greatest greatestEmission oneBlob addBlob
 tables = tt
 

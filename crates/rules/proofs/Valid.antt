@@ -1,48 +1,55 @@
 -- No list of calls leads from a relay that keeps row 7 to one that breaks it; a fresh relay keeps it.
 use Prim.Native.Nat.{ℕ, _<_}
 use native.Mathlib.Omega.{arith}
-use mathlib.Core.Bool.{true, false}
-use mathlib.Core.List.{List, [], _∷_}
+use mathlib.Core.Bool.{Bool, true, false}
+use mathlib.Core.List.{List}
 use mathlib.Core.Path.{_≡_, refl, subst}
 use lib.Dec.{eqb, ltb, lit<, lit≤}
-use lib.ListN.{length, set, length-set}
+use lib.ListN.{length, getD, set, length-set}
 use borrow.Author.Tests.{lt-ltb, le-leb, leb-false, not-false}
 use Rattle.octets.proofs.Index.{and-left, and-right, and-both}
 use Rattle.octets.proofs.Choice.{or-no-right}
-use Rattle.packet.specs.Header.{isData}
 use Rattle.numbers.specs.Numbers.{portCount, localCount, pathCount, linkCount, returnCount, hashCount, clockLimit, timeLimit, modeCount}
-use Rattle.rules.specs.Relay.{Port, freshPort, noPort, Slot, empty, Path, Return, Remembered, Ring, Relay, fresh, withClock, withPorts, withLocals, withPaths, withLinks, withReturns, withHashes}
+use Rattle.rules.specs.Relay.{freshPort, noPort, Slot, empty, used, Path, Ring, Relay, fresh, withPaths, withLinks, withReturns, withHashes}
 use Rattle.rules.specs.View.{View, viewAt}
-use Rattle.rules.specs.Renumbering.{oneToOne, preimage, movedPorts, renamePath, renameLink, renameReturn, renumbered}
-use Rattle.rules.specs.Refusals.{timeOk, portOk, pathOk, linkOk, returnOk, hashOk, slotOk, tableOk, tablesOk, packetRefusal}
-use Rattle.rules.specs.Arrival.{Arrival, hops, header}
+use Rattle.rules.specs.Renumbering.{oneToOne, preimage, movedPorts, renamePath, renameLink, renameReturn}
+use Rattle.rules.specs.Refusals.{timeOk, portOk, pathOk, linkOk, returnOk, hashOk, slotOk, tableOk, tablesOk}
+use Rattle.rules.specs.Arrival.{Arrival, hops}
 use Rattle.rules.specs.Ways.{Way, everywhere, by-path, along-link, by-return, blocked}
 use Rattle.rules.specs.Tests.{tooManyHops}
 use Rattle.rules.specs.Judging.{Plan, dropped, delivered, follows, plan}
-use Rattle.rules.specs.Writes.{remember, putPath, emptiedWhere, putReturn, emptyReturn, putLink, renewLink, writeWay, writePlan, stamp, enact}
-use Rattle.rules.specs.Calls.{Judgement, judged, judge, packetCall, settled, TableCall, sets-port, adds, removes, renumbers, ruleOf, settle}
-use Rattle.rules.specs.Run.{Call, packet, on-tables, ofJudgement, ofSetting, perform, relayAfter}
+use Rattle.rules.specs.Writes.{remember, putPath, emptiedWhere, putReturn, emptyReturn, putLink, renewLink, enact}
+use Rattle.rules.specs.Calls.{TableCall, sets-port, adds, removes, renumbers, ruleOf}
+use Rattle.rules.specs.Run.{Call, packet, on-tables, perform, relayAfter}
 use Rattle.rules.specs.declared.Link.{Link}
 use Rattle.rules.specs.declared.Tally.{Tally}
-use Rattle.rules.proofs.Choices.{either}
 use Rattle.octets.proofs.Listed.{NoneHolds}
-use Rattle.rules.proofs.Rows.{table-passed}
+use Rattle.rules.proofs.Held.{Property, Holds, WayKeeps, PlanKeeps, TableKeeps, enact-held, table-held, packet-kept, table-kept, any-calls, stays}
 use Rattle.rules.proofs.Tables.{table-listOf, table-replicate, table-set, table-map, table-getD}
 use Rattle.rules.proofs.Followed.{Found, Planned, planned}
 use Rattle.rules.proofs.Accepted.{Accepted, accepted-packet}
 use Rattle.rules.proofs.Ranges.{put-next, place-next, emptied-ok, time-small, announced-ok, return-ok, link-ok, renewed-ok, path-renamed, link-renamed, return-renamed, slot-renamed}
 
--- ---- row 7, clause by clause
-pub record Valid (r : Relay) : Type 0 where
-  pub clock : timeOk (r .clock) ≡ true
-  pub ports : tableOk portCount portOk (r .ports) ≡ true
-  pub locals : eqb (length (r .locals)) localCount ≡ true
-  pub paths : tableOk pathCount (slotOk pathOk) (r .paths) ≡ true
-  pub links : tableOk linkCount (slotOk linkOk) (r .links) ≡ true
-  pub returns : tableOk returnCount (slotOk returnOk) (r .returns .slots) ≡ true
-  pub nextReturn : ltb (r .returns .next) returnCount ≡ true
-  pub hashes : tableOk hashCount (slotOk hashOk) (r .hashes .slots) ≡ true
-  pub nextHash : ltb (r .hashes .next) hashCount ≡ true
+-- ---- row 7, part by part
+-- a ring whose records keep a rule and whose place is one of its own
+abbrev pub RingOk : {A : Type 0} → ℕ → (A → Bool) → Ring A → Type 0
+RingOk n ok ring = (tableOk n (slotOk ok) (ring .slots) ≡ true) × (ltb (ring .next) n ≡ true)
+
+abbrev pub rowSeven : Property
+rowSeven =
+    record {
+      own = λ own. Unit {0};
+      clock = λ clock. timeOk clock ≡ true;
+      ports = λ ports. tableOk portCount portOk ports ≡ true;
+      locals = λ locals. eqb (length locals) localCount ≡ true;
+      paths = λ paths. tableOk pathCount (slotOk pathOk) paths ≡ true;
+      links = λ links. tableOk linkCount (slotOk linkOk) links ≡ true;
+      returns = RingOk returnCount returnOk;
+      hashes = RingOk hashCount hashOk;
+    }
+
+abbrev pub Valid : Relay → Type 0
+Valid = Holds rowSeven
 
 pub valid-of : (r : Relay) → tablesOk r ≡ true → Valid r
 unfolding tablesOk
@@ -55,15 +62,14 @@ valid-of r h₁ =
     let h₇ = and-right _ _ h₆ in
     let h₈ = and-right _ _ h₇ in
     record {
+      own = tt;
       clock = and-left _ _ h₁;
       ports = and-left _ _ h₂;
       locals = and-left _ _ h₃;
       paths = and-left _ _ h₄;
       links = and-left _ _ h₅;
-      returns = and-left _ _ h₆;
-      nextReturn = and-left _ _ h₇;
-      hashes = and-left _ _ h₈;
-      nextHash = and-right _ _ h₈;
+      returns = (and-left _ _ h₆, and-left _ _ h₇);
+      hashes = (and-left _ _ h₈, and-right _ _ h₈);
     }
 
 ok-of : (r : Relay) → Valid r → tablesOk r ≡ true
@@ -74,62 +80,23 @@ ok-of r v =
     (and-both (v .locals)
     (and-both (v .paths)
     (and-both (v .links)
-    (and-both (v .returns)
-    (and-both (v .nextReturn)
-    (and-both (v .hashes) (v .nextHash))))))))
+    (and-both (v .returns .0)
+    (and-both (v .returns .1)
+    (and-both (v .hashes .0) (v .hashes .1))))))))
 
 fresh-valid : (own : List ℕ) → Valid (fresh own)
 unfolding fresh timeOk portOk slotOk
 fresh-valid own =
     record {
+      own = tt;
       clock = refl;
       ports = table-replicate portOk portCount freshPort refl;
       locals = refl;
       paths = table-replicate (slotOk pathOk) pathCount empty refl;
       links = table-replicate (slotOk linkOk) linkCount empty refl;
-      returns = table-replicate (slotOk returnOk) returnCount empty refl;
-      nextReturn = refl;
-      hashes = table-replicate (slotOk hashOk) hashCount empty refl;
-      nextHash = refl;
+      returns = (table-replicate (slotOk returnOk) returnCount empty refl, refl);
+      hashes = (table-replicate (slotOk hashOk) hashCount empty refl, refl);
     }
-
--- ---- a relay with one table changed
-module _ (r : Relay) (v : Valid r) where
-  clock-changed : (c : ℕ) → timeOk c ≡ true → Valid (withClock c r)
-  unfolding withClock
-  clock-changed c h =
-      record { clock = h; ports = v .ports; locals = v .locals; paths = v .paths; links = v .links; returns = v .returns; nextReturn = v .nextReturn; hashes = v .hashes; nextHash = v .nextHash }
-
-  ports-changed : (ps : List Port) → tableOk portCount portOk ps ≡ true → Valid (withPorts ps r)
-  unfolding withPorts
-  ports-changed ps h =
-      record { clock = v .clock; ports = h; locals = v .locals; paths = v .paths; links = v .links; returns = v .returns; nextReturn = v .nextReturn; hashes = v .hashes; nextHash = v .nextHash }
-
-  local-changed : (i : ℕ) (s : Slot (List ℕ)) → Valid (withLocals (set (r .locals) i s) r)
-  unfolding withLocals
-  local-changed i s =
-      let h : eqb (length (set (r .locals) i s)) localCount ≡ true = rw length-set (v .locals) in
-      record { clock = v .clock; ports = v .ports; locals = h; paths = v .paths; links = v .links; returns = v .returns; nextReturn = v .nextReturn; hashes = v .hashes; nextHash = v .nextHash }
-
-  path-changed : (i : ℕ) (s : Slot Path) → slotOk pathOk s ≡ true → Valid (withPaths (set (r .paths) i s) r)
-  unfolding withPaths
-  path-changed i s h =
-      record { clock = v .clock; ports = v .ports; locals = v .locals; paths = table-set (slotOk pathOk) pathCount (r .paths) (v .paths) i s h; links = v .links; returns = v .returns; nextReturn = v .nextReturn; hashes = v .hashes; nextHash = v .nextHash }
-
-  link-changed : (i : ℕ) (s : Slot Link) → slotOk linkOk s ≡ true → Valid (withLinks (set (r .links) i s) r)
-  unfolding withLinks
-  link-changed i s h =
-      record { clock = v .clock; ports = v .ports; locals = v .locals; paths = v .paths; links = table-set (slotOk linkOk) linkCount (r .links) (v .links) i s h; returns = v .returns; nextReturn = v .nextReturn; hashes = v .hashes; nextHash = v .nextHash }
-
-  returns-changed : (t : Ring Return) → tableOk returnCount (slotOk returnOk) (t .slots) ≡ true → ltb (t .next) returnCount ≡ true → Valid (withReturns t r)
-  unfolding withReturns
-  returns-changed t h k =
-      record { clock = v .clock; ports = v .ports; locals = v .locals; paths = v .paths; links = v .links; returns = h; nextReturn = k; hashes = v .hashes; nextHash = v .nextHash }
-
-  hashes-changed : (t : Ring Remembered) → tableOk hashCount (slotOk hashOk) (t .slots) ≡ true → ltb (t .next) hashCount ≡ true → Valid (withHashes t r)
-  unfolding withHashes
-  hashes-changed t h k =
-      record { clock = v .clock; ports = v .ports; locals = v .locals; paths = v .paths; links = v .links; returns = v .returns; nextReturn = v .nextReturn; hashes = h; nextHash = k }
 
 -- ---- what an accepted packet writes
 -- the records that a way follows keep row 7
@@ -140,99 +107,96 @@ WayOk (along-link l) = linkOk l ≡ true
 WayOk (by-return t) = Unit {0}
 WayOk (blocked why) = Unit {0}
 
-found-ok : (r : Relay) → Valid r → (c : ℕ) (a : Arrival) (w : Way) → Found (viewAt c r) a w → WayOk w
-unfolding viewAt slotOk
-found-ok r v c a (everywhere known) f = subst (λ (s : Slot Path). slotOk pathOk s ≡ true) f (table-getD (slotOk pathOk) pathCount (r .paths) (v .paths) _ empty refl)
-found-ok r v c a (by-path p) f = subst (λ (s : Slot Path). slotOk pathOk s ≡ true) (f .0) (table-getD (slotOk pathOk) pathCount (r .paths) (v .paths) _ empty refl)
-found-ok r v c a (along-link l) f = subst (λ (s : Slot Link). slotOk linkOk s ≡ true) f (table-getD (slotOk linkOk) linkCount (r .links) (v .links) _ empty refl)
-found-ok r v c a (by-return t) f = tt
-found-ok r v c a (blocked why) f = tt
+module _ (r : Relay) (valid : Valid r) where
+  path-ok : (place : ℕ) → slotOk pathOk (getD (r .paths) place empty) ≡ true
+  unfolding slotOk
+  path-ok place = table-getD (slotOk pathOk) pathCount (r .paths) (valid .paths) place empty refl
 
-module _ (a : Arrival) (port : a .port < portCount) (clock : a .clock < clockLimit) where
-  way-written : (v : View) (w : Way) → tooManyHops (hops a) ≡ false → WayOk w → (r : Relay) → Valid r → Valid (writeWay v a w r)
-  unfolding writeWay putPath putReturn putLink renewLink emptyReturn emptiedWhere slotOk
-  way-written v (everywhere known) few ok r valid = path-changed r valid _ _ (announced-ok a port clock v known few ok)
-  way-written v (by-path p) few ok r valid =
-      either Valid (isData (header a))
-      (λ _. returns-changed r valid _
-      (put-next returnOk returnCount (lit< tt) _ _
-      (table-map (slotOk returnOk) returnCount (r .returns .slots) (valid .returns) _ (emptied-ok returnOk _)) (return-ok a port clock p ok))
-      (place-next returnOk returnCount (lit< tt) _ _))
-      (λ _. link-changed r valid _ _ (link-ok a port clock p ok))
-  way-written v (along-link l) few ok r valid = link-changed r valid _ _ (renewed-ok a port clock l ok)
-  way-written v (by-return t) few ok r valid =
-      returns-changed r valid _ (table-set (slotOk returnOk) returnCount (r .returns .slots) (valid .returns) _ empty refl) (valid .nextReturn)
-  way-written v (blocked why) few ok r valid = valid
+  link-found-ok : (place : ℕ) → slotOk linkOk (getD (r .links) place empty) ≡ true
+  unfolding slotOk
+  link-found-ok place = table-getD (slotOk linkOk) linkCount (r .links) (valid .links) place empty refl
 
-  pub remember-valid : (r : Relay) → Valid r → Valid (remember a r)
-  unfolding remember slotOk hashOk
-  remember-valid r valid =
-      hashes-changed r valid _
-      (put-next hashOk hashCount (lit< tt) _ _ (valid .hashes) (time-small a port clock _ (lit≤ tt)))
-      (place-next hashOk hashCount (lit< tt) _ _)
+  found-ok : (c : ℕ) (a : Arrival) (w : Way) → Found (viewAt c r) a w → WayOk w
+  unfolding viewAt slotOk
+  found-ok c a (everywhere known) f = subst (λ (s : Slot Path). slotOk pathOk s ≡ true) f (path-ok _)
+  found-ok c a (by-path p) f = subst (λ (s : Slot Path). slotOk pathOk s ≡ true) (f .0) (path-ok _)
+  found-ok c a (along-link l) f = subst (λ (s : Slot Link). slotOk linkOk s ≡ true) f (link-found-ok _)
+  found-ok c a (by-return t) f = tt
+  found-ok c a (blocked why) f = tt
 
-  plan-written : (r : Relay) → Valid r → (todo : Plan) → Planned (viewAt (a .clock) r) a todo → Valid (writePlan (viewAt (a .clock) r) a todo r)
-  unfolding writePlan
-  plan-written r valid (dropped reason) h = valid
-  plan-written r valid delivered h = valid
-  plan-written r valid (follows w) h = way-written (viewAt (a .clock) r) w (h .fewHops) (found-ok r valid (a .clock) a w (h .found)) r valid
+  module _ (a : Arrival) (port : a .port < portCount) (clock : a .clock < clockLimit) where
+    path-changed : (i : ℕ) (p : Path) → pathOk p ≡ true → rowSeven .paths (set (r .paths) i (used p))
+    unfolding slotOk
+    path-changed i p h = table-set (slotOk pathOk) pathCount (r .paths) (valid .paths) i (used p) h
 
-  -- what the packet's own records leave
-  pub written : (r : Relay) → Valid r → Valid (writePlan (viewAt (a .clock) r) a (plan (viewAt (a .clock) r) a) r)
-  written r valid = plan-written r valid _ (planned (viewAt (a .clock) r) a)
+    link-changed : (i : ℕ) (l : Link) → linkOk l ≡ true → rowSeven .links (set (r .links) i (used l))
+    unfolding slotOk
+    link-changed i l h = table-set (slotOk linkOk) linkCount (r .links) (valid .links) i (used l) h
 
-  pub now-valid : (r : Relay) → Valid r → Valid (withClock (a .clock) r)
-  unfolding timeOk
-  now-valid r valid = clock-changed r valid (a .clock) (le-leb (a .clock) timeLimit (omega arith))
+    return-put : (p : Path) → pathOk p ≡ true → rowSeven .returns (putReturn a p r .returns)
+    unfolding putReturn withReturns emptiedWhere slotOk
+    return-put p ok = (
+      put-next returnOk returnCount (lit< tt) _ _
+          (table-map (slotOk returnOk) returnCount (r .returns .slots) (valid .returns .0) _ (emptied-ok returnOk _)) (return-ok a port clock p ok),
+      place-next returnOk returnCount (lit< tt) _ _,
+    )
 
-  enacted : (r : Relay) → Valid r → Valid (enact (viewAt (a .clock) r) a (plan (viewAt (a .clock) r) a) r)
-  unfolding enact stamp
-  enacted r valid =
-      let now = now-valid _ (written r valid) in
-      either Valid _ (λ _. remember-valid _ now) (λ _. now)
+    way-keeps : (v : View) (w : Way) → tooManyHops (hops a) ≡ false → WayOk w → WayKeeps rowSeven v a r w
+    unfolding putPath putLink renewLink emptyReturn withPaths withLinks withReturns slotOk
+    way-keeps v (everywhere known) few ok = path-changed _ _ (announced-ok a port clock v known few ok)
+    way-keeps v (by-path p) few ok = (λ _. return-put p ok, λ _. link-changed _ _ (link-ok a port clock p ok))
+    way-keeps v (along-link l) few ok = link-changed _ _ (renewed-ok a port clock l ok)
+    way-keeps v (by-return t) few ok =
+        (table-set (slotOk returnOk) returnCount (r .returns .slots) (valid .returns .0) _ empty refl, valid .returns .1)
+    way-keeps v (blocked why) few ok = tt
+
+    plan-keeps : (todo : Plan) → Planned (viewAt (a .clock) r) a todo → PlanKeeps rowSeven (viewAt (a .clock) r) a r todo
+    plan-keeps (dropped reason) h = tt
+    plan-keeps delivered h = tt
+    plan-keeps (follows w) h = way-keeps (viewAt (a .clock) r) w (h .fewHops) (found-ok (a .clock) a w (h .found))
+
+    hash-put : rowSeven .hashes (remember a r .hashes)
+    unfolding remember withHashes slotOk hashOk
+    hash-put =
+        (put-next hashOk hashCount (lit< tt) _ _ (valid .hashes .0) (time-small a port clock _ (lit≤ tt)), place-next hashOk hashCount (lit< tt) _ _)
+
+    enacted : Valid (enact (viewAt (a .clock) r) a (plan (viewAt (a .clock) r) a) r)
+    unfolding timeOk
+    enacted =
+        let v : View = viewAt (a .clock) r in
+        enact-held valid v a (plan v a)
+        (record {
+          writes = plan-keeps (plan v a) (planned v a);
+          clock = le-leb (a .clock) timeLimit (omega arith);
+          hash = λ _. hash-put;
+        })
 
 -- ---- the calls
-packet-valid : (a : Arrival) (r : Relay) (t : Tally) (output : List ℕ) → Valid r → Valid (packetCall a r t output .relay)
-unfolding packetCall judge judged
-packet-valid a r t output valid =
-    either (λ (j : Judgement). Valid (j .relay)) (eqb (packetRefusal r a (length output)) 0)
-    (λ e. let in-range : Accepted r a = accepted-packet r a (length output) e in enacted a (in-range .port) (in-range .clock) r valid)
-    (λ _. valid)
+renumbering-keeps : (m : List ℕ) → oneToOne m ≡ true → (r : Relay) → Valid r → TableKeeps rowSeven r (renumbers m)
+unfolding movedPorts portOk
+renumbering-keeps m ok r v = (
+  table-listOf portOk portCount _ (λ n. table-getD portOk portCount (r .ports) (v .ports) (preimage m n) noPort refl),
+  table-map (slotOk pathOk) pathCount (r .paths) (v .paths) _ (slot-renamed pathOk (renamePath m) (path-renamed m ok)),
+  table-map (slotOk linkOk) linkCount (r .links) (v .links) _ (slot-renamed linkOk (renameLink m) (link-renamed m ok)),
+  (
+    table-map (slotOk returnOk) returnCount (r .returns .slots) (v .returns .0) _ (slot-renamed returnOk (renameReturn m) (return-renamed m ok)),
+    v .returns .1,
+  ),
+)
 
-settled-valid : (refusal : ℕ) (before after : Relay) → Valid before → (eqb refusal 0 ≡ true → Valid after) → Valid (settled refusal before after .relay)
-unfolding settled
-settled-valid refusal before after valid h = either Valid (eqb refusal 0) h (λ _. valid)
-
--- ---- renumbering
-module _ (m : List ℕ) (ok : oneToOne m ≡ true) where
-  renumbered-valid : (r : Relay) → Valid r → Valid (renumbered m r)
-  unfolding renumbered movedPorts portOk
-  renumbered-valid r v =
-      record {
-        clock = v .clock;
-        ports = table-listOf portOk portCount _ (λ n. table-getD portOk portCount (r .ports) (v .ports) (preimage m n) noPort refl);
-        locals = v .locals;
-        paths = table-map (slotOk pathOk) pathCount (r .paths) (v .paths) _ (slot-renamed pathOk (renamePath m) (path-renamed m ok));
-        links = table-map (slotOk linkOk) linkCount (r .links) (v .links) _ (slot-renamed linkOk (renameLink m) (link-renamed m ok));
-        returns = table-map (slotOk returnOk) returnCount (r .returns .slots) (v .returns) _ (slot-renamed returnOk (renameReturn m) (return-renamed m ok));
-        nextReturn = v .nextReturn;
-        hashes = v .hashes;
-        nextHash = v .nextHash;
-      }
-
--- ---- sequences
-table-valid : (c : TableCall) (r : Relay) → Valid r → NoneHolds (ruleOf c .rows r) → Valid (ruleOf c .after r)
+table-keeps : (c : TableCall) (r : Relay) → Valid r → NoneHolds (ruleOf c .rows r) → TableKeeps rowSeven r c
 unfolding ruleOf portOk
-table-valid (sets-port port on mode) r v n =
-    ports-changed r v _ (table-set portOk portCount (r .ports) (v .ports) _ _ (lt-ltb mode modeCount (leb-false _ _ (or-no-right _ _ (n .0)))))
-table-valid (adds address) r v n = local-changed r v _ _
-table-valid (removes address) r v n = local-changed r v _ _
-table-valid (renumbers images) r v n = renumbered-valid images (not-false _ (n .0)) r v
+table-keeps (sets-port port on mode) r v n =
+    table-set portOk portCount (r .ports) (v .ports) _ _ (lt-ltb mode modeCount (leb-false _ _ (or-no-right _ _ (n .0))))
+table-keeps (adds address) r v n = rw length-set (v .locals)
+table-keeps (removes address) r v n = rw length-set (v .locals)
+table-keeps (renumbers images) r v n = renumbering-keeps images (not-false _ (n .0)) r v
 
 call-valid : (c : Call) (r : Relay) (t : Tally) → Valid r → Valid (perform c r t .relay)
-unfolding perform ofJudgement ofSetting settle
-call-valid (packet arrival output) r t v = packet-valid arrival r t output v
-call-valid (on-tables c) r t v = settled-valid _ r _ v (λ e. table-valid c r v (table-passed c r e))
+call-valid (packet a output) r t v =
+    packet-kept Valid v a t output
+    (λ e. let accepted : Accepted r a = accepted-packet r a (length output) e in enacted r v a (accepted .port) (accepted .clock))
+call-valid (on-tables c) r t v = table-kept Valid v c t (λ n. table-held v c (table-keeps c r v n))
 
 -- one call keeps row 7
 pub step-ok : (c : Call) (r : Relay) (t : Tally) → tablesOk r ≡ true → tablesOk (perform c r t .relay) ≡ true
@@ -240,9 +204,7 @@ step-ok c r t ok = ok-of (perform c r t .relay) (call-valid c r t (valid-of r ok
 
 -- no list of calls leads to a relay that refusal 7 would name
 pub stays-ok : (cs : List Call) (r : Relay) (t : Tally) → tablesOk r ≡ true → tablesOk (relayAfter cs r t) ≡ true
-unfolding relayAfter
-stays-ok [] r t ok = ok
-stays-ok (c ∷ cs) r t ok = stays-ok cs (perform c r t .relay) (perform c r t .tally) (step-ok c r t ok)
+stays-ok cs r t ok = stays (λ s. tablesOk s ≡ true) (λ c. Unit {0}) (λ c s u _. step-ok c s u) cs r t (any-calls cs) ok
 
 pub fresh-ok : (own : List ℕ) → tablesOk (fresh own) ≡ true
 fresh-ok own = ok-of (fresh own) (fresh-valid own)

@@ -9,7 +9,7 @@ use Rattle.octets.proofs.Choice.{then-ap}
 use Rattle.packet.specs.Header.{typeTwo, isData}
 use Rattle.numbers.specs.Numbers.{pathLifetime}
 use Rattle.rules.specs.Relay.{Slot, empty, used, Path, Return, Relay, withClock, withPaths, withLinks, withReturns, withHashes}
-use Rattle.rules.specs.View.{View, isLiveReturn}
+use Rattle.rules.specs.View.{View, isLiveReturn, linkPlace, returnPlace, freeLink}
 use Rattle.rules.specs.Renumbering.{image, oneToOne, renamePath, renameLink, renameReturn, renameSlot, renumbered}
 use Rattle.rules.specs.Arrival.{Arrival, header, hops, relayAddress, destination}
 use Rattle.rules.specs.Ways.{Way, everywhere, by-path, along-link, by-return, blocked}
@@ -71,7 +71,7 @@ module _ (m : List ℕ) where
   putLink-renamed a p r =
       ap (λ (links : List (Slot Link)). withLinks links (renumbered m r))
       (set-renamed (renameLink m) (r .links) _ _ _ (used (linkRecord a p)) (freeLink-renamed m (a .clock) r) (ap used (linkRecord-renamed a p)))
-      ∙ links-renamed _ r
+      ∙ links-renamed (set (r .links) (freeLink (a .clock) r) (used (linkRecord a p))) r
 
   renewLink-renamed : (a : Arrival) (l : Link) (r : Relay)
       → renewLink (renameArrival m a) (renameLink m l) (renumbered m r) ≡ renumbered m (renewLink a l r)
@@ -80,7 +80,7 @@ module _ (m : List ℕ) where
       ap (λ (links : List (Slot Link)). withLinks links (renumbered m r))
       (set-renamed (renameLink m) (r .links) _ _ _ (used (renewedLink a l)) (linkPlace-renamed m (a .clock) r (destination a))
       (ap used (renewedLink-renamed a l)))
-      ∙ links-renamed _ r
+      ∙ links-renamed (set (r .links) (linkPlace (a .clock) r (destination a)) (used (renewedLink a l))) r
 
   -- ---- return records
   returnRecord-renamed : (a : Arrival) (p : Path) → returnRecord (renameArrival m a) (renamePath m p) ≡ renameReturn m (returnRecord a p)
@@ -98,14 +98,14 @@ module _ (m : List ℕ) where
       (emptied-renamed (renameReturn m) others (λ t. refl) (r .returns .slots))
       (returnRecord-renamed a p)
       ∙ set-renamed (renameReturn m) (map (emptiedIf others) (r .returns .slots)) next next _ (used (returnRecord a p)) refl refl)
-      ∙ returns-renamed _ _ r
+      ∙ returns-renamed (set (map (emptiedIf others) (r .returns .slots)) next (used (returnRecord a p))) _ r
 
   emptyReturn-renamed : (a : Arrival) (r : Relay) → emptyReturn (renameArrival m a) (renumbered m r) ≡ renumbered m (emptyReturn a r)
   unfolding emptyReturn renumbered renameArrival renameSlot
   emptyReturn-renamed a r =
       ap (λ (slots : List (Slot Return)). withReturns (record { slots = slots; next = r .returns .next }) (renumbered m r))
       (set-renamed (renameReturn m) (r .returns .slots) _ _ empty empty (returnPlace-renamed m (a .clock) r (destination a)) refl)
-      ∙ returns-renamed _ _ r
+      ∙ returns-renamed (set (r .returns .slots) (returnPlace (a .clock) r (destination a)) empty) _ r
 
 -- ---- paths: a lifetime goes by the mode of the arrival port
 module _ (m : List ℕ) (ok : oneToOne m ≡ true) where
@@ -141,7 +141,7 @@ module _ (m : List ℕ) (ok : oneToOne m ≡ true) where
       ap (λ (paths : List (Slot Path)). withPaths paths (renumbered m r))
       (set-renamed (renamePath m) (r .paths) _ _ _ (used (announcedPath v a known)) (announcedPlace-renamed a known r)
       (ap used (announcedPath-renamed v a known)))
-      ∙ paths-renamed m _ r
+      ∙ paths-renamed m (set (r .paths) (announcedPlace a known r) (used (announcedPath v a known))) r
 
   -- ---- all of it
   writeWay-renamed : (v : View) (a : Arrival) (w : Way) (r : Relay)

@@ -7,7 +7,7 @@ use lib.ListN.{length, set}
 use Rattle.octets.specs.Choice.{_then_otherwise_, _or_}
 use Rattle.octets.specs.Listed.{Test, _gives_otherwise_, firstOf}
 use Rattle.numbers.specs.Numbers.{portCount, localCount, modeCount}
-use Rattle.rules.specs.Relay.{empty, used, Relay, withPorts, withLocals}
+use Rattle.rules.specs.Relay.{empty, used, makePort, Relay, withPorts, withLocals}
 use Rattle.rules.specs.View.{View, viewAt, isLocal, localPlace}
 use Rattle.rules.specs.Renumbering.{image, oneToOne, renumbered}
 use Rattle.rules.specs.Refusals.{tablesOk, packetRefusal, emptyLocal}
@@ -98,7 +98,7 @@ unfoldable pub ruleOf : TableCall → TableRule
 ruleOf (sets-port port on mode) =
     record {
       rows = λ r. leb portCount port or leb modeCount mode gives 9 otherwise [];
-      after = λ r. withPorts (set (r .ports) port (record { on = on; mode = mode })) r;
+      after = λ r. withPorts (set (r .ports) port (makePort on mode)) r;
       renamed = λ m. sets-port (image m port) on mode;
       addresses = [];
       movesPorts = false;

@@ -54,56 +54,129 @@ pub record Relay : Type 0 where
   pub returns : Ring Return
   pub hashes : Ring Remembered
 
+-- ---- records are built here and nowhere else: what is not given has its value of a new record
+abbrev pub makePort : Bool → ℕ → Port
+makePort on mode = record { on = on; mode = mode }
+
 -- a fresh relay's port: off and boundary
 abbrev pub freshPort : Port
-freshPort = record { on = false; mode = 0 }
+freshPort = makePort false 0
 
 -- what is read for a number outside the sixteen: off
 abbrev pub noPort : Port
-noPort = record { on = false; mode = 0 }
+noPort = makePort false 0
+
+abbrev pub makePath : List ℕ → ℕ → ℕ → List ℕ → ℕ → Blobs → Path
+makePath destination port hops nextHop expiry blobs =
+    record { destination = destination; port = port; hops = hops; nextHop = nextHop; expiry = expiry; blobs = blobs }
+
+-- a link that is not proved yet
+abbrev pub makeLink : List ℕ → ℕ → ℕ → ℕ → ℕ → ℕ → Link
+makeLink id asking answering taken remaining expiry =
+    record {
+      id = id;
+      asking = asking;
+      answering = answering;
+      taken = record { 0 = taken };
+      remaining = record { 0 = remaining };
+      proved = false;
+      expiry = expiry;
+    }
+
+abbrev pub makeReturn : List ℕ → ℕ → ℕ → ℕ → Return
+makeReturn key arrival leaving expiry = record { key = key; arrival = arrival; leaving = leaving; expiry = expiry }
+
+abbrev pub makeRemembered : List ℕ → ℕ → Remembered
+makeRemembered hash expiry = record { hash = hash; expiry = expiry }
+
+abbrev pub makeRing : {A : Type 0} → List (Slot A) → ℕ → Ring A
+makeRing slots next = record { slots = slots; next = next }
+
+-- ---- a record with some fields changed
+-- a path by another port
+abbrev pub withPathPort : ℕ → Path → Path
+withPathPort port p = makePath (p .destination) port (p .hops) (p .nextHop) (p .expiry) (p .blobs)
+
+-- a link between other ports
+abbrev pub withLinkPorts : ℕ → ℕ → Link → Link
+withLinkPorts asking answering l =
+    record {
+      id = l .id;
+      asking = asking;
+      answering = answering;
+      taken = l .taken;
+      remaining = l .remaining;
+      proved = l .proved;
+      expiry = l .expiry;
+    }
+
+-- a link that is proved or not, and lives until another time
+abbrev pub withLinkState : Bool → ℕ → Link → Link
+withLinkState proved expiry l =
+    record {
+      id = l .id;
+      asking = l .asking;
+      answering = l .answering;
+      taken = l .taken;
+      remaining = l .remaining;
+      proved = proved;
+      expiry = expiry;
+    }
+
+-- a return record between other ports
+abbrev pub withReturnPorts : ℕ → ℕ → Return → Return
+withReturnPorts arrival leaving t = makeReturn (t .key) arrival leaving (t .expiry)
+
+-- a ring with other records
+abbrev pub withSlots : {A : Type 0} → List (Slot A) → Ring A → Ring A
+withSlots slots ring = makeRing slots (ring .next)
+
+-- ---- a relay
+abbrev pub makeRelay : List ℕ → ℕ → List Port → List (Slot (List ℕ)) → List (Slot Path) → List (Slot Link) → Ring Return → Ring Remembered → Relay
+makeRelay own clock ports locals paths links returns hashes =
+    record {
+      own = own;
+      clock = clock;
+      ports = ports;
+      locals = locals;
+      paths = paths;
+      links = links;
+      returns = returns;
+      hashes = hashes;
+    }
 
 -- a fresh relay has its own address, all ports off and boundary, clock 0, tables empty
 unfoldable pub fresh : List ℕ → Relay
 fresh own =
-    record {
-      own = own;
-      clock = 0;
-      ports = replicate portCount freshPort;
-      locals = replicate localCount empty;
-      paths = replicate pathCount empty;
-      links = replicate linkCount empty;
-      returns = record { slots = replicate returnCount empty; next = 0 };
-      hashes = record { slots = replicate hashCount empty; next = 0 };
-    }
+    makeRelay own 0
+    (replicate portCount freshPort)
+    (replicate localCount empty)
+    (replicate pathCount empty)
+    (replicate linkCount empty)
+    (makeRing (replicate returnCount empty) 0)
+    (makeRing (replicate hashCount empty) 0)
 
--- ---- a relay with one table changed
+-- ---- a relay with one part changed
 unfoldable pub withClock : ℕ → Relay → Relay
-withClock clock r =
-    record { own = r .own; clock = clock; ports = r .ports; locals = r .locals; paths = r .paths; links = r .links; returns = r .returns; hashes = r .hashes }
+withClock clock r = makeRelay (r .own) clock (r .ports) (r .locals) (r .paths) (r .links) (r .returns) (r .hashes)
 
 unfoldable pub withPorts : List Port → Relay → Relay
-withPorts ports r =
-    record { own = r .own; clock = r .clock; ports = ports; locals = r .locals; paths = r .paths; links = r .links; returns = r .returns; hashes = r .hashes }
+withPorts ports r = makeRelay (r .own) (r .clock) ports (r .locals) (r .paths) (r .links) (r .returns) (r .hashes)
 
 unfoldable pub withLocals : List (Slot (List ℕ)) → Relay → Relay
-withLocals locals r =
-    record { own = r .own; clock = r .clock; ports = r .ports; locals = locals; paths = r .paths; links = r .links; returns = r .returns; hashes = r .hashes }
+withLocals locals r = makeRelay (r .own) (r .clock) (r .ports) locals (r .paths) (r .links) (r .returns) (r .hashes)
 
 unfoldable pub withPaths : List (Slot Path) → Relay → Relay
-withPaths paths r =
-    record { own = r .own; clock = r .clock; ports = r .ports; locals = r .locals; paths = paths; links = r .links; returns = r .returns; hashes = r .hashes }
+withPaths paths r = makeRelay (r .own) (r .clock) (r .ports) (r .locals) paths (r .links) (r .returns) (r .hashes)
 
 unfoldable pub withLinks : List (Slot Link) → Relay → Relay
-withLinks links r =
-    record { own = r .own; clock = r .clock; ports = r .ports; locals = r .locals; paths = r .paths; links = links; returns = r .returns; hashes = r .hashes }
+withLinks links r = makeRelay (r .own) (r .clock) (r .ports) (r .locals) (r .paths) links (r .returns) (r .hashes)
 
 unfoldable pub withReturns : Ring Return → Relay → Relay
-withReturns returns r =
-    record { own = r .own; clock = r .clock; ports = r .ports; locals = r .locals; paths = r .paths; links = r .links; returns = returns; hashes = r .hashes }
+withReturns returns r = makeRelay (r .own) (r .clock) (r .ports) (r .locals) (r .paths) (r .links) returns (r .hashes)
 
 unfoldable pub withHashes : Ring Remembered → Relay → Relay
-withHashes hashes r =
-    record { own = r .own; clock = r .clock; ports = r .ports; locals = r .locals; paths = r .paths; links = r .links; returns = r .returns; hashes = hashes }
+withHashes hashes r = makeRelay (r .own) (r .clock) (r .ports) (r .locals) (r .paths) (r .links) (r .returns) hashes
 
 -- ---- looking through a table
 -- the slot holds a record that passes the test

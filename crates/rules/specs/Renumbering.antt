@@ -7,7 +7,7 @@ use lib.ListN.{length, getD}
 use Rattle.octets.specs.Index.{_and_, allBelow, first, listOf}
 use Rattle.octets.specs.Choice.{_then_otherwise_}
 use Rattle.numbers.specs.Numbers.{portCount}
-use Rattle.rules.specs.Relay.{Port, noPort, Slot, empty, used, Path, Return, Relay}
+use Rattle.rules.specs.Relay.{Port, noPort, Slot, empty, used, Path, Return, Relay, withPathPort, withLinkPorts, withReturnPorts, withSlots, withPorts, withPaths, withLinks, withReturns}
 use Rattle.rules.specs.declared.Link.{Link}
 
 -- a port's image; a number outside the sixteen stays
@@ -32,24 +32,13 @@ movedPorts m ports = listOf (λ n. getD ports (preimage m n) noPort) portCount
 
 -- replaces every stored port, expired records' too; an unused record has none
 unfoldable pub renamePath : List ℕ → Path → Path
-renamePath m p =
-    record { destination = p .destination; port = image m (p .port); hops = p .hops; nextHop = p .nextHop; expiry = p .expiry; blobs = p .blobs }
+renamePath m p = withPathPort (image m (p .port)) p
 
 unfoldable pub renameLink : List ℕ → Link → Link
-renameLink m l =
-    record {
-      id = l .id;
-      asking = image m (l .asking);
-      answering = image m (l .answering);
-      taken = l .taken;
-      remaining = l .remaining;
-      proved = l .proved;
-      expiry = l .expiry;
-    }
+renameLink m l = withLinkPorts (image m (l .asking)) (image m (l .answering)) l
 
 unfoldable pub renameReturn : List ℕ → Return → Return
-renameReturn m t =
-    record { key = t .key; arrival = image m (t .arrival); leaving = image m (t .leaving); expiry = t .expiry }
+renameReturn m t = withReturnPorts (image m (t .arrival)) (image m (t .leaving)) t
 
 unfoldable pub renameSlot : {A : Type 0} → (A → A) → Slot A → Slot A
 renameSlot rename empty = empty
@@ -57,17 +46,12 @@ renameSlot rename (used x) = used (rename x)
 
 -- renumbering replaces every stored port by its image and moves each port's settings with it, nothing more
 unfoldable pub renumbered : List ℕ → Relay → Relay
+unfolding withPorts withPaths withLinks withReturns
 renumbered m r =
-    record {
-      own = r .own;
-      clock = r .clock;
-      ports = movedPorts m (r .ports);
-      locals = r .locals;
-      paths = map (renameSlot (renamePath m)) (r .paths);
-      links = map (renameSlot (renameLink m)) (r .links);
-      returns = record { slots = map (renameSlot (renameReturn m)) (r .returns .slots); next = r .returns .next };
-      hashes = r .hashes;
-    }
+    withPorts (movedPorts m (r .ports))
+    (withPaths (map (renameSlot (renamePath m)) (r .paths))
+    (withLinks (map (renameSlot (renameLink m)) (r .links))
+    (withReturns (withSlots (map (renameSlot (renameReturn m)) (r .returns .slots)) (r .returns)) r)))
 
 -- the composed map is the first map, then the second
 unfoldable pub composed : List ℕ → List ℕ → List ℕ

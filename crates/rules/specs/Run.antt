@@ -28,6 +28,11 @@ removing address = on-tables (removes address)
 abbrev pub renumbering : List ℕ → Call
 renumbering images = on-tables (renumbers images)
 
+-- each call of a list is such
+unfoldable pub EachCall : (Call → Type 0) → List Call → Type 0
+EachCall such [] = Unit {0}
+EachCall such (c ∷ cs) = such c × EachCall such cs
+
 -- all that a call returns, and its whole output buffer
 pub data Reply : Type 0 where
   answered : (answer : Answer) (output : List ℕ) → Reply
@@ -73,7 +78,7 @@ unfoldable pub renameReply : List ℕ → Reply → Reply
 renameReply m (answered answer output) = answered (renameAnswer m answer) output
 renameReply m (numbered refusal) = numbered refusal
 
--- "none of them a later renumbering": those that stand in the list have a map that is refused
+-- "where no renumbering stands later in the list": one that is refused may
 unfoldable pub movesPorts : Call → Bool
 movesPorts (packet arrival output) = false
 movesPorts (on-tables c) = ruleOf c .movesPorts

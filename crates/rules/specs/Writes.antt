@@ -9,7 +9,7 @@ use Rattle.packet.specs.Header.{typeTwo, isData}
 use Rattle.packet.specs.Read.{headerOf, partsOf}
 use Rattle.packet.specs.Hash.{linkId}
 use Rattle.numbers.specs.Numbers.{blobLimit, returnCount, hashCount, pathLifetime, hashLifetime, returnLifetime, unprovedLifetime, provedLifetime}
-use Rattle.rules.specs.Relay.{Slot, empty, used, Ring, Blobs, Path, Return, Relay, holds, withClock, withPaths, withLinks, withReturns, withHashes}
+use Rattle.rules.specs.Relay.{Slot, empty, used, Ring, makeRing, withSlots, makePath, makeLink, withLinkState, makeReturn, makeRemembered, Blobs, Path, Return, Relay, holds, withClock, withPaths, withLinks, withReturns, withHashes}
 use Rattle.rules.specs.View.{View, isLiveReturn, pathPlace, linkPlace, returnPlace, freePath, freeLink}
 use Rattle.rules.specs.Arrival.{Arrival, header, hops, destination, hash, blob, isLinkProof}
 use Rattle.rules.specs.Blobs.{oneBlob, addBlob}
@@ -21,7 +21,7 @@ use Rattle.rules.specs.declared.Reason.{Reason}
 
 -- a ring of n places: the next one is written, and the one after it is next
 unfoldable pub putNext : {A : Type 0} → ℕ → Slot A → Ring A → Ring A
-putNext n slot ring = record { slots = set (ring .slots) (ring .next) slot; next = (ring .next + 1) % n }
+putNext n slot ring = makeRing (set (ring .slots) (ring .next) slot) ((ring .next + 1) % n)
 
 -- ---- remembered hashes
 -- drops 1 and 2 remember nothing
@@ -37,7 +37,7 @@ remembers v a (follows w) = true
 unfoldable pub remember : Arrival → Relay → Relay
 remember a r =
     withHashes
-    (putNext hashCount (used (record { hash = hash a; expiry = a .clock + hashLifetime })) (r .hashes))
+    (putNext hashCount (used (makeRemembered (hash a) (a .clock + hashLifetime))) (r .hashes))
     r
 
 -- ---- paths
@@ -56,14 +56,7 @@ pathExpiry v a = a .clock + pathLifetime (v .mode (a .port))
 
 unfoldable pub announcedPath : View → Arrival → Slot Path → Path
 announcedPath v a known =
-    record {
-      destination = destination a;
-      port = a .port;
-      hops = hops a;
-      nextHop = nextHopOf (a .bytes);
-      expiry = pathExpiry v a;
-      blobs = announcedBlobs a known;
-    }
+    makePath (destination a) (a .port) (hops a) (nextHopOf (a .bytes)) (pathExpiry v a) (announcedBlobs a known)
 
 -- a known path keeps its slot; a new one overwrites the lowest slot empty or expired
 unfoldable pub announcedPlace : Arrival → Slot Path → Relay → ℕ
@@ -79,14 +72,13 @@ unfoldable pub returnKey : Arrival → List ℕ
 returnKey a = take 16 (hash a)
 
 unfoldable pub returnRecord : Arrival → Path → Return
-returnRecord a p =
-    record { key = returnKey a; arrival = a .port; leaving = p .port; expiry = a .clock + returnLifetime }
+returnRecord a p = makeReturn (returnKey a) (a .port) (p .port) (a .clock + returnLifetime)
 
 unfoldable pub emptiedIf : {A : Type 0} → (A → Bool) → Slot A → Slot A
 emptiedIf test slot = holds test slot then empty otherwise slot
 
 unfoldable pub emptiedWhere : {A : Type 0} → (A → Bool) → Ring A → Ring A
-emptiedWhere test ring = record { slots = map (emptiedIf test) (ring .slots); next = ring .next }
+emptiedWhere test ring = withSlots (map (emptiedIf test) (ring .slots)) ring
 
 -- in the next ring place, and any other live one of the same key is emptied
 unfoldable pub putReturn : Arrival → Path → Relay → Relay
@@ -99,22 +91,13 @@ putReturn a p r =
 unfoldable pub emptyReturn : Arrival → Relay → Relay
 emptyReturn a r =
     withReturns
-    (record { slots = set (r .returns .slots) (returnPlace (a .clock) r (destination a)) empty; next = r .returns .next })
+    (withSlots (set (r .returns .slots) (returnPlace (a .clock) r (destination a)) empty) (r .returns))
     r
 
 -- ---- links
 -- a forwarded link request makes a link record: taken hops (the request's) and remaining hops (the path's) are kept apart
 unfoldable pub linkRecord : Arrival → Path → Link
-linkRecord a p =
-    record {
-      id = linkId (a .bytes);
-      asking = a .port;
-      answering = p .port;
-      taken = record { 0 = hops a };
-      remaining = record { 0 = p .hops };
-      proved = false;
-      expiry = a .clock + unprovedLifetime (p .hops);
-    }
+linkRecord a p = makeLink (linkId (a .bytes)) (a .port) (p .port) (hops a) (p .hops) (a .clock + unprovedLifetime (p .hops))
 
 -- in the lowest slot empty or expired
 unfoldable pub putLink : Arrival → Path → Relay → Relay
@@ -122,16 +105,7 @@ putLink a p r = withLinks (set (r .links) (freeLink (a .clock) r) (used (linkRec
 
 -- each packet carried renews the link, and a link proof marks it proved
 unfoldable pub renewedLink : Arrival → Link → Link
-renewedLink a l =
-    record {
-      id = l .id;
-      asking = l .asking;
-      answering = l .answering;
-      taken = l .taken;
-      remaining = l .remaining;
-      proved = l .proved or isLinkProof (a .bytes);
-      expiry = a .clock + provedLifetime;
-    }
+renewedLink a l = withLinkState (l .proved or isLinkProof (a .bytes)) (a .clock + provedLifetime) l
 
 unfoldable pub renewLink : Arrival → Link → Relay → Relay
 renewLink a l r = withLinks (set (r .links) (linkPlace (a .clock) r (destination a)) (used (renewedLink a l))) r

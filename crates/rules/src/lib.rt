@@ -1,4 +1,5 @@
-// The types that the rules of document 01 and the code share. The rules themselves are definitions, in specs/: no function stands here.
+// The types that the rules of document 01 and the code share. The rules themselves are definitions, in specs/: no
+// function stands here.
 
 // Which clause of test 3 a packet's form breaks, in document 01's order.
 pub enum Clause {
@@ -65,8 +66,8 @@ pub struct TakenHops(pub u8);
 // The hops that remain to the destination, by the path: compared only with packets from the answering side.
 pub struct RemainingHops(pub u8);
 
-// A link: its id, the port of the side that asked for it and of the side that answers, both hop counts, whether it is proved, and when it
-// ends.
+// A link: its id, the port of the side that asked for it and of the side that answers, both hop counts, whether it is
+// proved, and when it ends.
 pub struct Link {
     pub id: [u8; 16],
     pub asking: u8,
@@ -77,7 +78,8 @@ pub struct Link {
     pub expiry: u64,
 }
 
-// Packet calls since fresh, each modulo 2^32: all accepted ones, and those of each answer. A host's tally is six counters in this order.
+// Packet calls since fresh, each modulo 2^32: all accepted ones, and those of each answer. A host's tally is six counters
+// in this order.
 #[repr(C)]
 pub struct Tally {
     pub total: u32,

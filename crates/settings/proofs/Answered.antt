@@ -2,8 +2,8 @@
 use Prim.Native.Nat.{ℕ, _+_, _*_, _≤_, _<_}
 use native.Mathlib.Omega.{arith}
 use mathlib.Core.Bool.{Bool, true, false}
-use mathlib.Core.List.{List, [], _∷_}
-use mathlib.Core.Path.{_≡_, refl, sym, ap, _∙_}
+use mathlib.Core.List.{List}
+use mathlib.Core.Path.{_≡_, sym, ap, _∙_}
 use lib.Dec.{leb}
 use lib.ListN.{length, set, replicate}
 use borrow.Author.Tests.{eq-eqb, ne-eqb, lt-ltb, le-ltb, le-leb, lt-leb}
@@ -11,22 +11,19 @@ use Rattle.octets.specs.Bytes.{Bytes}
 use Rattle.octets.specs.Choice.{_then_otherwise_, _or_}
 use Rattle.octets.specs.Part.{patch}
 use Rattle.octets.proofs.Choice.{or-no}
-use Rattle.octets.proofs.Part.{patch-join}
 use Rattle.numbers.specs.Numbers.{portCount, localCount, modeCount}
 use Rattle.rules.specs.Relay.{empty, used, Relay, withPorts, withLocals}
 use Rattle.rules.specs.View.{localPlace, isLocal}
 use Rattle.octets.specs.Listed.{firstOf}
 use Rattle.rules.specs.Refusals.{emptyLocal}
 use Rattle.rules.specs.Calls.{Setting, settled, sets-port, adds, removes, ruleOf, tableRefusal, settle}
-use Rattle.tables.specs.Places.{portWidth, localWidth, portsAt, localsAt, tableSize, addressWidth}
-use Rattle.tables.specs.Fields.{portModeAt}
-use Rattle.tables.specs.Records.{portBytes, slotBytes, localBytes, markOf}
+use Rattle.tables.specs.Places.{portWidth, localWidth, ownAt, portsAt, localsAt, tableSize, addressWidth}
+use Rattle.tables.specs.Records.{portBytes, slotBytes, localBytes}
 use Rattle.tables.specs.Layout.{relayOf, bytesOf, wellFormed}
-use Rattle.tables.proofs.All.{exactly-same}
 use Rattle.tables.proofs.Whole.{again, ok-relay, formed}
 use Rattle.tables.proofs.Patches.{patch-port, patch-local}
 use Rattle.tables.proofs.Seen.{ports-length, locals-length}
-use Rattle.settings.specs.Calls.{settingsOf, Called, refused, written, called, setPortOn, addLocalOn, removeLocalOn, freshOn}
+use Rattle.settings.specs.Calls.{settingsOf, freshPorts, Called, refused, written, called, setPortOn, addLocalOn, removeLocalOn, freshOn}
 use Rattle.settings.proofs.Zeros.{fresh-writes}
 
 -- a contract's two clauses from what the call is
@@ -139,22 +136,6 @@ module _ (t own : List ℕ) where
   fresh-refused n = rw (ne-eqb (length t) tableSize n)
 
   pub fresh-done : length t ≡ tableSize → length own ≡ addressWidth
-      → freshOn t own ≡ record { refusal = 0; tables = patch (replicate (length t) 0) 0 own }
+      → freshOn t own ≡ record { refusal = 0; tables = patch (patch (replicate (length t) 0) ownAt own) portsAt freshPorts }
   unfolding freshOn _then_otherwise_
   fresh-done e l = rw (eq-eqb (length t) tableSize e) (ap (refused 0) (sym (fresh-writes (length t) own e l)))
-
--- ---- the writes, piece by piece
-pub port-pieces : (t t1 : List ℕ) (at mark mode : ℕ) (on : Bool) → mark ≡ markOf on → t1 ≡ patch t at (mark ∷ []) → at + portWidth ≤ length t
-    → patch t1 (at + portModeAt) (mode ∷ []) ≡ patch t at (portBytes (settingsOf on mode))
-unfolding portBytes
-port-pieces t t1 at mark mode on e e1 l =
-    ap (λ (x : List ℕ). patch x (at + portModeAt) (mode ∷ [])) (e1 ∙ ap (λ (m : ℕ). patch t at (m ∷ [])) e)
-    ∙ patch-join t at (at + portModeAt) (markOf on ∷ []) (mode ∷ []) refl (omega arith)
-
-pub local-pieces : (t t1 address : List ℕ) (at : ℕ) → t1 ≡ patch t at (1 ∷ []) → length address ≡ addressWidth → at + localWidth ≤ length t
-    → patch t1 (at + 1) address ≡ patch t at (slotBytes localWidth localBytes (used address))
-unfolding slotBytes localBytes
-local-pieces t t1 address at e1 la l =
-    ap (λ (x : List ℕ). patch x (at + 1) address) e1
-    ∙ patch-join t at (at + 1) (1 ∷ []) address refl (omega arith)
-    ∙ ap (λ (x : List ℕ). patch t at (1 ∷ x)) (sym (exactly-same addressWidth address la))

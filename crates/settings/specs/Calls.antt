@@ -3,16 +3,23 @@ use Prim.Native.Nat.{ℕ}
 use mathlib.Core.Bool.{Bool}
 use mathlib.Core.List.{List}
 use lib.Dec.{eqb}
-use lib.ListN.{length}
+use lib.ListN.{length, replicate}
 use Rattle.octets.specs.Choice.{_then_otherwise_}
-use Rattle.rules.specs.Relay.{Port, Relay, fresh}
+use Rattle.octets.specs.Part.{joined}
+use Rattle.numbers.specs.Numbers.{portCount}
+use Rattle.rules.specs.Relay.{Port, freshPort, Relay, fresh}
 use Rattle.rules.specs.Calls.{Setting, sets-port, adds, removes, renumbers, settle}
 use Rattle.tables.specs.Places.{tableSize}
+use Rattle.tables.specs.Records.{portBytes}
 use Rattle.tables.specs.Layout.{relayOf, bytesOf, wellFormed}
 
 -- a port's settings
 abbrev pub settingsOf : Bool → ℕ → Port
 settingsOf on mode = record { on = on; mode = mode }
+
+-- the bytes of all ports as a fresh relay has them
+unfoldable pub freshPorts : List ℕ
+freshPorts = joined portBytes (replicate portCount freshPort)
 
 -- a refusal's number, or 0, and the tables
 pub record Called : Type 0 where

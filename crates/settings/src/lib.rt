@@ -10,9 +10,11 @@ use numbers::MODE_COUNT;
 use numbers::PORT_COUNT;
 use numbers::refusals;
 use tables::check;
+use tables::places::OWN_AT;
 use tables::places::TABLE_SIZE;
 use writes::clear;
 use writes::empty_place;
+use writes::put_fresh_ports;
 use writes::put_local;
 use writes::put_port;
 ghost use mathlib.Core.Path.{_≡_};
@@ -26,7 +28,8 @@ pub fn fresh(tables: &mut [u8], own: [u8; 16]) -> u8
         return refusals::TABLES;
     }
     clear(tables);
-    octets::copy_at(tables, 0, &own);
+    octets::copy_at(tables, OWN_AT, &own);
+    put_fresh_ports(tables);
     refusals::NONE
 }
 

@@ -4,5 +4,6 @@ pub mod Tests
 pub mod Lent
 pub mod Seen
 pub mod Loops
+pub mod Section
 pub mod Whole
 pub mod Patches

@@ -6,7 +6,7 @@ use lib.ListN.{length, set}
 use Rattle.octets.specs.Part.{patch, fields}
 use Rattle.octets.specs.BigEndian.{bigEndian}
 use Rattle.codes.specs.Form.{Form, numberIn, many, slot}
-use Rattle.codes.proofs.Inside.{Inside, here, first, next, item, inRule, inRecord, _within_}
+use Rattle.codes.proofs.Inside.{Inside, here, item, inRule, _within_, named}
 use Rattle.numbers.specs.Numbers.{portCount, localCount, pathCount, linkCount, returnCount, hashCount}
 use Rattle.rules.specs.Relay.{Port, noPort, Slot, empty, Path, Return, Remembered, Relay, withClock, withPorts, withLocals, withPaths, withLinks, withReturns, withHashes}
 use Rattle.rules.specs.declared.Link.{Link}
@@ -17,32 +17,32 @@ use Rattle.tables.specs.Layout.{bytesOf}
 
 -- ---- the sections
 abbrev pub clock-in : Inside relayForm (numberIn timeWidth)
-clock-in = inRecord (next (inRule here within first))
+clock-in = inRule here within named relayForm "clock" .inside
 
 abbrev pub ports-in : Inside relayForm (many portCount noPort portForm)
-ports-in = inRecord (next (next first))
+ports-in = named relayForm "ports" .inside
 
 abbrev pub locals-in : Inside relayForm (many localCount empty (slot localForm))
-locals-in = inRecord (next (next (next first)))
+locals-in = named relayForm "locals" .inside
 
 abbrev pub paths-in : Inside relayForm (many pathCount empty (slot pathForm))
-paths-in = inRecord (next (next (next (next first))))
+paths-in = named relayForm "paths" .inside
 
 abbrev pub links-in : Inside relayForm (many linkCount empty (slot linkForm))
-links-in = inRecord (next (next (next (next (next first)))))
+links-in = named relayForm "links" .inside
 
 -- ---- of a ring
 abbrev place-in : {A : Type 0} {n : ℕ} {f : Form A} → Inside (ringForm n f) (numberIn ringWidth)
-place-in = inRecord (inRule here within first)
+place-in {A} {n} {f} = inRule here within named (ringForm n f) "next" .inside
 
 abbrev slots-in : {A : Type 0} {n : ℕ} {f : Form A} → Inside (ringForm n f) (many n empty (slot f))
-slots-in = inRecord (next here)
+slots-in {A} {n} {f} = named (ringForm n f) "slots" .inside
 
 abbrev return-ring-in : Inside relayForm (ringForm returnCount returnForm)
-return-ring-in = inRecord (next (next (next (next (next (next first))))))
+return-ring-in = named relayForm "returns" .inside
 
 abbrev hash-ring-in : Inside relayForm (ringForm hashCount hashForm)
-hash-ring-in = inRecord (next (next (next (next (next (next (next here)))))))
+hash-ring-in = named relayForm "hashes" .inside
 
 abbrev pub returns-in : Inside relayForm (many returnCount empty (slot returnForm))
 returns-in = slots-in within return-ring-in

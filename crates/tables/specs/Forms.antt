@@ -5,7 +5,7 @@ use mathlib.Core.Bool.{Bool}
 use mathlib.Core.List.{List}
 use mathlib.Core.Path.{refl}
 use lib.Dec.{ltb}
-use Rattle.codes.specs.Form.{Form, byte, mark, numberIn, octetsIn, _&_, many, slot, that, asRecord}
+use Rattle.codes.specs.Form.{Form, byte, mark, numberIn, octetsIn, field, _&_, many, slot, that, asRecord}
 use Rattle.numbers.specs.Numbers.{portCount, localCount, pathCount, blobLimit, linkCount, returnCount, hashCount}
 use Rattle.rules.specs.Relay.{Port, noPort, Slot, empty, Blobs, Path, Return, Remembered, Ring, Relay}
 use Rattle.rules.specs.Blobs.{noBlob}
@@ -28,12 +28,12 @@ blobWidth = 10
 abbrev pub ringWidth : ℕ
 ringWidth = 2
 
--- ---- a port's settings. No slot: an noPort port keeps its mode
+-- ---- a port's settings. No slot: a port that is off keeps its mode
 abbrev pub toPort : Bool × ℕ → Port
 toPort (on, mode) = record { on = on; mode = mode }
 
 abbrev pub portForm : Form Port
-portForm = that portOk (asRecord toPort (λ p. (p .on, p .mode)) (λ x. refl) (λ y. refl) (mark & byte))
+portForm = that portOk (asRecord toPort (λ p. (p .on, p .mode)) (λ x. refl) (λ y. refl) (field "on" mark & field "mode" byte))
 
 -- ---- a local address
 abbrev pub localForm : Form (List ℕ)
@@ -46,20 +46,32 @@ toBlobs (count, places) = record { count = count; places = places }
 abbrev pub blobsForm : Form Blobs
 blobsForm =
     asRecord toBlobs (λ b. (b .count, b .places)) (λ x. refl) (λ y. refl)
-    (byte & many blobLimit noBlob (octetsIn blobWidth))
+    (field "count" byte & field "places" (many blobLimit noBlob (octetsIn blobWidth)))
 
-abbrev pub toPath : List ℕ × (ℕ × (ℕ × (List ℕ × (ℕ × Blobs)))) → Path
-toPath (destination, (port, (hops, (nextHop, (expiry, blobs))))) =
+-- what stands before the blobs
+abbrev pub Head : Type 0
+Head = List ℕ × (ℕ × (ℕ × (List ℕ × ℕ)))
+
+abbrev pub headForm : Form Head
+headForm =
+    field "destination" (octetsIn addressWidth)
+    & field "port" byte
+    & field "hops" byte
+    & field "next hop" (octetsIn addressWidth)
+    & field "expiry" (numberIn timeWidth)
+
+abbrev pub toPath : Head × Blobs → Path
+toPath ((destination, (port, (hops, (nextHop, expiry)))), blobs) =
     record { destination = destination; port = port; hops = hops; nextHop = nextHop; expiry = expiry; blobs = blobs }
 
 abbrev pub pathForm : Form Path
 pathForm =
     that pathOk
     (asRecord toPath
-    (λ p. (p .destination, (p .port, (p .hops, (p .nextHop, (p .expiry, p .blobs))))))
+    (λ p. ((p .destination, (p .port, (p .hops, (p .nextHop, p .expiry)))), p .blobs))
     (λ x. refl)
     (λ y. refl)
-    (octetsIn addressWidth & byte & byte & octetsIn addressWidth & numberIn timeWidth & blobsForm))
+    (headForm & field "blobs" blobsForm))
 
 -- ---- a link
 abbrev pub toLink : List ℕ × (ℕ × (ℕ × (ℕ × (ℕ × (Bool × ℕ))))) → Link
@@ -81,7 +93,13 @@ linkForm =
     (λ l. (l .id, (l .asking, (l .answering, (l .taken .0, (l .remaining .0, (l .proved, l .expiry)))))))
     (λ x. refl)
     (λ y. refl)
-    (octetsIn addressWidth & byte & byte & byte & byte & mark & numberIn timeWidth))
+    (field "id" (octetsIn addressWidth)
+    & field "asking" byte
+    & field "answering" byte
+    & field "taken" byte
+    & field "remaining" byte
+    & field "proved" mark
+    & field "expiry" (numberIn timeWidth)))
 
 -- ---- a return record
 abbrev pub toReturn : List ℕ × (ℕ × (ℕ × ℕ)) → Return
@@ -91,7 +109,7 @@ abbrev pub returnForm : Form Return
 returnForm =
     that returnOk
     (asRecord toReturn (λ t. (t .key, (t .arrival, (t .leaving, t .expiry)))) (λ x. refl) (λ y. refl)
-    (octetsIn addressWidth & byte & byte & numberIn timeWidth))
+    (field "key" (octetsIn addressWidth) & field "arrival" byte & field "leaving" byte & field "expiry" (numberIn timeWidth)))
 
 -- ---- a remembered hash
 abbrev pub toHash : List ℕ × ℕ → Remembered
@@ -100,7 +118,8 @@ toHash (hash, expiry) = record { hash = hash; expiry = expiry }
 abbrev pub hashForm : Form Remembered
 hashForm =
     that hashOk
-    (asRecord toHash (λ m. (m .hash, m .expiry)) (λ x. refl) (λ y. refl) (octetsIn digestWidth & numberIn timeWidth))
+    (asRecord toHash (λ m. (m .hash, m .expiry)) (λ x. refl) (λ y. refl)
+    (field "hash" (octetsIn digestWidth) & field "expiry" (numberIn timeWidth)))
 
 -- ---- a ring: its next place, then its n records
 abbrev pub below : ℕ → ℕ → Bool
@@ -112,7 +131,7 @@ toRing (next, slots) = record { slots = slots; next = next }
 abbrev pub ringForm : {A : Type 0} → ℕ → Form A → Form (Ring A)
 ringForm n f =
     asRecord toRing (λ r. (r .next, r .slots)) (λ x. refl) (λ y. refl)
-    (that (below n) (numberIn ringWidth) & many n empty (slot f))
+    (field "next" (that (below n) (numberIn ringWidth)) & field "slots" (many n empty (slot f)))
 
 -- ---- the tables
 abbrev pub toRelay : List ℕ × (ℕ × (List Port × (List (Slot (List ℕ)) × (List (Slot Path) × (List (Slot Link) × (Ring Return × Ring Remembered)))))) → Relay
@@ -134,11 +153,11 @@ relayForm =
     (λ r. (r .own, (r .clock, (r .ports, (r .locals, (r .paths, (r .links, (r .returns, r .hashes))))))))
     (λ x. refl)
     (λ y. refl)
-    (octetsIn addressWidth
-    & that timeOk (numberIn timeWidth)
-    & many portCount noPort portForm
-    & many localCount empty (slot localForm)
-    & many pathCount empty (slot pathForm)
-    & many linkCount empty (slot linkForm)
-    & ringForm returnCount returnForm
-    & ringForm hashCount hashForm)
+    (field "own" (octetsIn addressWidth)
+    & field "clock" (that timeOk (numberIn timeWidth))
+    & field "ports" (many portCount noPort portForm)
+    & field "locals" (many localCount empty (slot localForm))
+    & field "paths" (many pathCount empty (slot pathForm))
+    & field "links" (many linkCount empty (slot linkForm))
+    & field "returns" (ringForm returnCount returnForm)
+    & field "hashes" (ringForm hashCount hashForm))

@@ -4,7 +4,9 @@ use super::places::ADDRESS_WIDTH;
 use super::places::DIGEST_WIDTH;
 use super::places::TIME_WIDTH;
 
-pub const PORT_MODE_AT: usize = 1;
+pub const PORT_ON_AT: usize = 0;
+
+pub const PORT_MODE_AT: usize = PORT_ON_AT + 1;
 
 pub const PATH_DESTINATION_AT: usize = 1;
 

@@ -5,6 +5,7 @@ use super::blobs::one_blob;
 use tables::fields::PATH_BLOB_COUNT_AT;
 use tables::fields::PATH_DESTINATION_AT;
 use tables::fields::PATH_EXPIRY_AT;
+use tables::fields::PATH_HOPS_AT;
 use tables::fields::PATH_NEXT_HOP_AT;
 use tables::fields::PATH_PORT_AT;
 use tables::places::PATH_WIDTH;
@@ -30,11 +31,11 @@ fn put_head(tables: &mut [u8], at: usize, path: Announced)
     ensures { λ _. ⌜ now (tables .exit) ≡ patch (now (tables .entry)) at (headBytes path) ⌝ }
 {
     let destination = path.destination;
-    let port_and_hops = [path.port, path.hops];
     let next_hop = path.next_hop;
     octets::set_at(tables, at, 1);
     octets::copy_at(tables, at + PATH_DESTINATION_AT, &destination);
-    octets::copy_at(tables, at + PATH_PORT_AT, &port_and_hops);
+    octets::set_at(tables, at + PATH_PORT_AT, path.port);
+    octets::set_at(tables, at + PATH_HOPS_AT, path.hops);
     octets::copy_at(tables, at + PATH_NEXT_HOP_AT, &next_hop);
     octets::write_number_at(tables, at + PATH_EXPIRY_AT, TIME_WIDTH, path.expiry);
 }

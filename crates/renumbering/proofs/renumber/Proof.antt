@@ -1,11 +1,12 @@
-use Prim.Native.Nat.{ℕ}
+use Prim.Native.Nat.{ℕ, _*_}
 use mathlib.Core.Path.{_≡_, sym, ap, _∙_}
 use mathlib.Core.List.{List}
 use lib.ListN.{length}
 use borrow.Author.Tests.{not-true, not-false}
 use Rattle.octets.specs.Part.{patch}
 use Rattle.octets.proofs.Bytes.{known-bytes}
-use Rattle.tables.specs.Places.{portsAt, tableSize}
+use Rattle.numbers.specs.Numbers.{portCount}
+use Rattle.tables.specs.Places.{portWidth, portsAt, tableSize}
 use Rattle.tables.proofs.Whole.{formed}
 use Rattle.settings.proofs.Answered.{answers, answers-after, size-of}
 use Rattle.renumbering.proofs.Moves.{links-ready, returns-ready, renumber-writes, renumber-bad, renumber-refused, renumber-done}
@@ -63,7 +64,7 @@ slice-aggregate-copy-at : tie.Need-slice-aggregate-copy-at
 slice-aggregate-copy-at c = search needs
 
 copy-at-requires : tie.Need-copy-at-requires
-copy-at-requires c κs = let k : length (c .before .before .before .before .before .before .before .before .before .before .before .before .before .before .before .before .before .moved-ports .result) ≡ 32 = search needs in let s : length (c .before .before .before .before .rename-returns .last .0) ≡ tableSize = c .before .before .before .before .rename-returns .kept .0 ∙ c .before .before .before .before .before .before .before .before .before .rename-links .kept .0 ∙ c .before .before .before .before .before .before .before .before .before .before .before .before .before .before .rename-paths .kept .0 ∙ size-of (c .before .before .before .before .before .before .before .before .before .before .before .before .before .before .before .before .before .before .before .before .before .before .before .before .before .before .before .args .tables .now) (sym (c .before .before .before .before .before .before .before .before .before .before .before .before .before .before .before .before .before .before .before .before .before .before .before .before .check .ensures) ∙ not-false _ (c .before .before .before .before .before .before .before .before .before .before .before .before .before .before .before .before .before .before .before .before .before .before .before .if1 .left)) in omega (arith, k, s)
+copy-at-requires c κs = let k : length (c .before .before .before .before .before .before .before .before .before .before .before .before .before .before .before .before .before .moved-ports .result) ≡ portWidth * portCount = search needs in let s : length (c .before .before .before .before .rename-returns .last .0) ≡ tableSize = c .before .before .before .before .rename-returns .kept .0 ∙ c .before .before .before .before .before .before .before .before .before .rename-links .kept .0 ∙ c .before .before .before .before .before .before .before .before .before .before .before .before .before .before .rename-paths .kept .0 ∙ size-of (c .before .before .before .before .before .before .before .before .before .before .before .before .before .before .before .before .before .before .before .before .before .before .before .before .before .before .before .args .tables .now) (sym (c .before .before .before .before .before .before .before .before .before .before .before .before .before .before .before .before .before .before .before .before .before .before .before .before .check .ensures) ∙ not-false _ (c .before .before .before .before .before .before .before .before .before .before .before .before .before .before .before .before .before .before .before .before .before .before .before .if1 .left)) in omega (arith, k, s)
 
 same-length-3 : tie.Need-same-length-3
 same-length-3 c = search needs

@@ -11,7 +11,8 @@ slice-read-count : tie.Need-slice-read-count
 slice-read-count c = search needs
 
 cast-i : tie.Need-cast-i
-cast-i c = omega (arith, c .slice-known2 .given 0)
+cast-i c =
+    omega (arith, c .slice-known2 .given 0)
 
 add-set-at : tie.Need-add-set-at
 add-set-at c = search needs
@@ -38,7 +39,7 @@ returns : tie.Need-returns
 returns c =
     let a = c .before .before .before .before .before .before .before .before .before .before .before .before .args in
     let wide : length (a .t2) ≡ blobWidth = search needs in
-    added (a .s .now) (c .before .before .before .before .before .before .before .before .before .before .before .before .pre) (a .t2) wide _ _ (c .before .before .before .before .before .before .before .before .before .if1 .taken) (c .before .before .before .before .before .before .before .set-at .ensures) (c .before .before .copy-at .ensures)
+    rw (c .before .before .copy-at .ensures, c .before .before .before .before .before .before .before .set-at .ensures) (added (a .s .now) (c .before .before .before .before .before .before .before .before .before .before .before .before .pre) (a .t2) wide (c .before .before .before .before .before .before .before .before .before .if1 .taken))
 
 push-blob-requires : tie.Need-push-blob-requires
 push-blob-requires c κs = search needs
