@@ -90,9 +90,9 @@ module _ (hops : ℕ) (nextHop p : List ℕ) where
   unfolding pathPacket
   path-last e = then-true _ _ (eq-eqb hops 0 e)
 
-  pub path-onward : (hops ≡ 0 → ⊥) → pathPacket hops nextHop p ≡ rewritten (headerOf p) nextHop p
+  pub path-next-hop : (hops ≡ 0 → ⊥) → pathPacket hops nextHop p ≡ rewritten (headerOf p) nextHop p
   unfolding pathPacket
-  path-onward ne = then-false _ _ (ne-eqb hops 0 ne)
+  path-next-hop ne = then-false _ _ (ne-eqb hops 0 ne)
 
 -- ---- what the code writes
 -- a head, which is a packet without payload, and the payload behind it
@@ -105,7 +105,8 @@ module _ (longest : ℕ) (out own p : List ℕ) (h : reads longest p ≡ true) (
   unfolding spreadPacket rewritten spreadLength
   spread-written =
       let q : Parts = rewrittenParts (spreadHeader (headerOf p)) own p in
-      let head : length (packetOf q []) ≡ 35 = packet-length q [] (rewritten-wide longest p h (spreadHeader (headerOf p)) own wide) ∙ ap (λ (k : ℕ). k + 0) (spread-start (headerOf p)) in
+      let q-wide = rewritten-wide longest p h (spreadHeader (headerOf p)) own wide in
+      let head : length (packetOf q []) ≡ 35 = packet-length q [] q-wide ∙ ap (λ (k : ℕ). k + 0) (spread-start (headerOf p)) in
       patch-join out 0 35 (packetOf q []) (payload p) (omega (arith, head)) room ∙ ap (patch out 0) (head-body q (payload p))
 
 -- a packet whose byte 1 is written over

@@ -67,24 +67,24 @@ module _ (r : Relay) (a : Arrival) where
   rest : Plan
   rest = onwardPlan (viewAt (a .clock) r) a (wayOn (viewAt (a .clock) r) a)
 
-  answered : (x : Early) → x ≡ firstTests (viewAt (a .clock) r) a → Said (earlyTests (viewAt (a .clock) r) a) rest (plan (viewAt (a .clock) r) a) x
+  early-said : (x : Early) → x ≡ firstTests (viewAt (a .clock) r) a → Said (earlyTests (viewAt (a .clock) r) a) rest (plan (viewAt (a .clock) r) a) x
   unfolding plan rest firstTests earlyTests allGive stops _and_
-  answered x e =
+  early-said x e =
       subst (Said (earlyTests (viewAt (a .clock) r) a) rest (plan (viewAt (a .clock) r) a)) (sym e)
       (said (earlyTests (viewAt (a .clock) r) a) rest refl)
 
   pub first-dropped : (reason : Reason) → Dropped reason ≡ firstTests (viewAt (a .clock) r) a → decision r a ≡ Drop reason
   unfolding Said decision decided
-  first-dropped reason e = ap (decided r a) (answered (Dropped reason) e)
+  first-dropped reason e = ap (decided r a) (early-said (Dropped reason) e)
 
   pub first-deliver : Delivered ≡ firstTests (viewAt (a .clock) r) a → decision r a ≡ Deliver
   unfolding Said decision decided
-  first-deliver e = ap (decided r a) (answered Delivered e)
+  first-deliver e = ap (decided r a) (early-said Delivered e)
 
   pub first-goes-on : Undecided ≡ firstTests (viewAt (a .clock) r) a → (decision r a ≡ onward r a) × (badForm (a .bytes) ≡ false)
   unfolding Said decision decided onward rest earlyTests
   first-goes-on e =
-      let (same, none) = answered Undecided e in
+      let (same, none) = early-said Undecided e in
       (ap (decided r a) same, none .1 .1 .0)
 
 -- ---- the tests, in the view of tables
@@ -123,9 +123,10 @@ pub own-compared : (t : List ℕ) (a : Arrival) → length t ≡ tableSize → r
     → not (agree 16 (relayAddress a) own) ≡ not (same (relayAddress a) (relayOf t .own))
 unfolding relayOf
 own-compared t a size readable e =
+    let wide = parts-wide (a .bytes) (whole longestPacket (a .bytes) readable) in
+    let own-wide = part-length t ownAt addressWidth (omega (arith, size)) in
     ap (λ (x : List ℕ). not (agree 16 (relayAddress a) x)) e
-    ∙ ap not
-    (sym (same-agree 16 (relayAddress a) (relayOf t .own) (parts-wide (a .bytes) (whole longestPacket (a .bytes) readable) .relay) (part-length t ownAt addressWidth (omega (arith, size)))))
+    ∙ ap not (sym (same-agree 16 (relayAddress a) (relayOf t .own) (wide .relay) own-wide))
 
 -- hops are byte 1
 module _ (a : Arrival) where

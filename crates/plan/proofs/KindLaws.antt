@@ -91,10 +91,10 @@ pub seen-on : (r : Relay) (port : ℕ) {read wide : ℕ} {t : Bool} → read ≡
 seen-on r port e w s = ap (portOn r) (sym (w ∙ e)) ∙ sym s
 
 module _ (r : Relay) (port : ℕ) (d : Decision) where
-  pub leaves : portOn r port ≡ true → d ≡ leaving r port d
+  pub leaving-on : portOn r port ≡ true → d ≡ leaving r port d
   unfolding leaving
-  leaves on = sym (then-false _ _ (ap not on))
+  leaving-on on = sym (then-false _ _ (ap not on))
 
-  pub stays : portOn r port ≡ false → Drop PortOff ≡ leaving r port d
+  pub leaving-off : portOn r port ≡ false → Drop PortOff ≡ leaving r port d
   unfolding leaving
-  stays off = sym (then-true _ _ (ap not off))
+  leaving-off off = sym (then-true _ _ (ap not off))

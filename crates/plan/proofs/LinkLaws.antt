@@ -26,12 +26,10 @@ use Rattle.rules.specs.declared.Link.{Link}
 use Rattle.rules.specs.declared.Blocked.the-variants.{NoLink, NotProved}
 use Rattle.rules.specs.declared.Reason.the-variants.{NoWayOn, AlreadyKnown, WrongSide, NotSigned, PortOff}
 use Rattle.numbers.specs.Numbers.{linkCount}
-use Rattle.tables.specs.Places.{linksAt, linkWidth}
-use Rattle.tables.specs.Records.{linkOf}
-use Rattle.tables.specs.Layout.{recordAt, relayOf}
+use Rattle.tables.specs.Layout.{relayOf}
 use Rattle.lookup.proofs.Found.{link-found, link-missing}
 use Rattle.outgoing.proofs.RuleLaws.{never-grown}
-use Rattle.plan.specs.Decided.{decidedWay, decided, onward}
+use Rattle.plan.specs.Decided.{linkAt, decidedWay, decided, onward}
 use Rattle.plan.specs.Kinds.{leaving, carried, proving, carrying}
 use Rattle.plan.specs.declared.Decision.the-variants.{Drop, Carry}
 use Rattle.plan.proofs.KindLaws.{link-no-request, decided-test}
@@ -109,7 +107,7 @@ module _ (t : List ℕ) (a : Arrival) (readable : reads longestPacket (a .bytes)
   pub link-nowhere : linkCount ≤ i → Drop (NoWayOn NoLink) ≡ onward (relayOf t) a
   link-nowhere l = link-none a readable good announce kind (relayOf t) (link-missing t (a .clock) (destination a) i e l)
 
-  module _ (l : i < linkCount) {link : Link} (read : link ≡ linkOf (recordAt linksAt linkWidth t i)) where
+  module _ (l : i < linkCount) {link : Link} (read : link ≡ linkAt t i) where
     found : viewAt (a .clock) (relayOf t) .link (destination a) ≡ used link
     found = link-found t (a .clock) (destination a) i e l ∙ ap used (sym read)
 

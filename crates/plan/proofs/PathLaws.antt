@@ -30,10 +30,10 @@ use Rattle.tables.specs.Records.{pathOf}
 use Rattle.tables.specs.Layout.{recordAt, relayOf}
 use Rattle.lookup.proofs.Found.{path-found, path-missing, link-found, link-missing}
 use Rattle.outgoing.proofs.RuleLaws.{never-grown}
-use Rattle.plan.specs.Decided.{highOf, lowOf, decidedWay, decided, onward}
+use Rattle.plan.specs.Decided.{pathAt, highOf, lowOf, decidedWay, decided, onward}
 use Rattle.plan.specs.Kinds.{leaving, sending, requesting}
 use Rattle.plan.specs.declared.Decision.the-variants.{Drop, Request}
-use Rattle.plan.proofs.KindLaws.{other-kind, request-left, no-link-proof, or-false, decided-test, leaves, stays}
+use Rattle.plan.proofs.KindLaws.{other-kind, request-left, no-link-proof, or-false, decided-test, leaving-on, leaving-off}
 
 module _ (a : Arrival) (announce : isAnnounce (header a) ≡ false) (link : ofKindLink (header a) ≡ false) (proof : isProof (header a) ≡ false) where
   no-proof : isLinkProof (a .bytes) ≡ false
@@ -78,8 +78,10 @@ module _ (a : Arrival) (announce : isAnnounce (header a) ≡ false) (link : ofKi
         path-onward =
             let v : View = viewAt (a .clock) r in
             let way : wayOn v a ≡ by-path p = path-way v ∙ rw two (ap pathWay there) in
+            let fits : grownTooLong a (by-path p) ≡ false =
+            never-grown a readable (by-path p) (λ q e. let m : p ≡ q = cc in ap (λ (x : Path). length (x .nextHop)) (sym m) ∙ wide) in
             ap (λ (w : Way). decided r a (onwardPlan v a w)) way
-            ∙ ap (decided r a) (path-plan v p (never-grown a readable (by-path p) (λ q e. let m : p ≡ q = cc in ap (λ (x : Path). length (x .nextHop)) (sym m) ∙ wide)))
+            ∙ ap (decided r a) (path-plan v p fits)
             ∙ simp decided-test
 
         path-data : isData (header a) ≡ true → sending r p (pathPlace (a .clock) r (destination a)) ≡ onward r a
@@ -91,7 +93,7 @@ module _ (a : Arrival) (announce : isAnnounce (header a) ≡ false) (link : ofKi
         path-request other = sym (path-onward ∙ rw (request-left (header a) other announce proof, other))
 
 -- ---- on tables, where the search for the path gave place i
-next-hop-wide : (t : List ℕ) (i : ℕ) → length t ≡ tableSize → i < pathCount → length (pathOf (recordAt pathsAt pathWidth t i) .nextHop) ≡ 16
+next-hop-wide : (t : List ℕ) (i : ℕ) → length t ≡ tableSize → i < pathCount → length (pathAt t i .nextHop) ≡ 16
 unfolding pathOf
 next-hop-wide t i size l =
     let row : length (recordAt pathsAt pathWidth t i) ≡ pathWidth = part-length t (pathsAt + pathWidth * i) pathWidth (omega (arith, size, l)) in
@@ -104,15 +106,17 @@ module _ (t : List ℕ) (a : Arrival) (announce : isAnnounce (header a) ≡ fals
   path-nowhere l = path-none a announce link proof (relayOf t) two (path-missing t (a .clock) (destination a) i e l)
 
   module _ (readable : reads longestPacket (a .bytes) ≡ true) (size : length t ≡ tableSize) (l : i < pathCount) where
-    pub data-at : isData (header a) ≡ true → sending (relayOf t) (pathOf (recordAt pathsAt pathWidth t i)) i ≡ onward (relayOf t) a
+    pub data-at : isData (header a) ≡ true → sending (relayOf t) (pathAt t i) i ≡ onward (relayOf t) a
     data-at is =
-        ap (sending (relayOf t) (pathOf (recordAt pathsAt pathWidth t i))) e
-        ∙ path-data a announce link proof (relayOf t) two readable (pathOf (recordAt pathsAt pathWidth t i)) (next-hop-wide t i size l) (path-found t (a .clock) (destination a) i e l) is
+        let there = path-found t (a .clock) (destination a) i e l in
+        ap (sending (relayOf t) (pathAt t i)) e
+        ∙ path-data a announce link proof (relayOf t) two readable (pathAt t i) (next-hop-wide t i size l) there is
 
-    pub request-at : isData (header a) ≡ false → requesting (relayOf t) a (pathOf (recordAt pathsAt pathWidth t i)) i ≡ onward (relayOf t) a
+    pub request-at : isData (header a) ≡ false → requesting (relayOf t) a (pathAt t i) i ≡ onward (relayOf t) a
     request-at other =
-        ap (requesting (relayOf t) a (pathOf (recordAt pathsAt pathWidth t i))) e
-        ∙ path-request a announce link proof (relayOf t) two readable (pathOf (recordAt pathsAt pathWidth t i)) (next-hop-wide t i size l) (path-found t (a .clock) (destination a) i e l) other
+        let there = path-found t (a .clock) (destination a) i e l in
+        ap (requesting (relayOf t) a (pathAt t i)) e
+        ∙ path-request a announce link proof (relayOf t) two readable (pathAt t i) (next-hop-wide t i size l) there other
 
 -- ---- whether an id is live, by the place that the search gave
 module _ (t : List ℕ) (clock : ℕ) (id : List ℕ) {i : ℕ} (e : i ≡ linkPlace clock (relayOf t) id) where
@@ -133,7 +137,7 @@ module _ (r : Relay) (a : Arrival) (p : Path) (place : ℕ) where
   module _ (new : isThere (viewAt (a .clock) r .link (linkId (a .bytes))) ≡ false) where
     pub request-off : portOn r (p .port) ≡ false → Drop PortOff ≡ requesting r a p place
     unfolding requesting
-    request-off off = stays r (p .port) _ off ∙ sym (then-false _ _ new)
+    request-off off = leaving-off r (p .port) _ off ∙ sym (then-false _ _ new)
 
     module _ (on : portOn r (p .port) ≡ true) {free : ℕ} (e : free ≡ freeLink (a .clock) r) where
       pub request-room : {high low : ℕ} → high ≡ highOf (linkId (a .bytes)) → low ≡ lowOf (linkId (a .bytes)) → free < linkCount
@@ -143,12 +147,12 @@ module _ (r : Relay) (a : Arrival) (p : Path) (place : ℕ) where
           ap (λ (k : ℕ). Request place k high low) e
           ∙ ap₂ (Request place (freeLink (a .clock) r)) q1 q2
           ∙ sym (then-false _ _ (ap not (lt-ltb (freeLink (a .clock) r) linkCount (omega (arith, e, l)))))
-          ∙ leaves r (p .port) _ on
+          ∙ leaving-on r (p .port) _ on
           ∙ sym (then-false _ _ new)
 
       pub request-full : linkCount ≤ free → Drop NoRoom ≡ requesting r a p place
       unfolding requesting
       request-full l =
           sym (then-true _ _ (ap not (le-ltb (freeLink (a .clock) r) linkCount (omega (arith, e, l)))))
-          ∙ leaves r (p .port) _ on
+          ∙ leaving-on r (p .port) _ on
           ∙ sym (then-false _ _ new)

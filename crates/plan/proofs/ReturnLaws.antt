@@ -22,15 +22,13 @@ use Rattle.rules.specs.Judging.{dropped, follows, onwardPlan, onwardTests}
 use Rattle.rules.specs.declared.Blocked.the-variants.{NoReturn}
 use Rattle.rules.specs.declared.Reason.the-variants.{NoWayOn, WrongSide, PortOff}
 use Rattle.numbers.specs.Numbers.{returnCount}
-use Rattle.tables.specs.Places.{returnsAt, returnWidth}
-use Rattle.tables.specs.Records.{returnOf}
-use Rattle.tables.specs.Layout.{recordAt, relayOf}
+use Rattle.tables.specs.Layout.{relayOf}
 use Rattle.lookup.proofs.Found.{return-found, return-missing}
 use Rattle.outgoing.proofs.RuleLaws.{never-grown}
-use Rattle.plan.specs.Decided.{decidedWay, decided, onward}
+use Rattle.plan.specs.Decided.{returnAt, decidedWay, decided, onward}
 use Rattle.plan.specs.Kinds.{leaving, returning}
 use Rattle.plan.specs.declared.Decision.the-variants.{Drop, Receipt}
-use Rattle.plan.proofs.KindLaws.{other-kind, no-link-proof-kind, decided-test, leaves, stays}
+use Rattle.plan.proofs.KindLaws.{other-kind, no-link-proof-kind, decided-test, leaving-on, leaving-off}
 
 module _ (a : Arrival) (kind : ofKindLink (header a) ≡ false) (proof : isProof (header a) ≡ true) where
   no-announce : isAnnounce (header a) ≡ false
@@ -79,10 +77,10 @@ module _ (t : List ℕ) (a : Arrival) (kind : ofKindLink (header a) ≡ false) (
   return-nowhere l = return-none a kind proof (relayOf t) (return-missing t (a .clock) (destination a) i e l)
 
   pub return-at : reads longestPacket (a .bytes) ≡ true → i < returnCount
-      → returning (relayOf t) (a .port) (returnOf (recordAt returnsAt returnWidth t i)) i ≡ onward (relayOf t) a
+      → returning (relayOf t) (a .port) (returnAt t i) i ≡ onward (relayOf t) a
   return-at readable l =
-      ap (returning (relayOf t) (a .port) (returnOf (recordAt returnsAt returnWidth t i))) e
-      ∙ return-there a kind proof (relayOf t) readable (returnOf (recordAt returnsAt returnWidth t i)) (return-found t (a .clock) (destination a) i e l)
+      ap (returning (relayOf t) (a .port) (returnAt t i)) e
+      ∙ return-there a kind proof (relayOf t) readable (returnAt t i) (return-found t (a .clock) (destination a) i e l)
 
 -- ---- by what was read of the record
 module _ (r : Relay) (port : ℕ) (t : Return) (place : ℕ) {leaving : ℕ} (read : leaving ≡ t .leaving) where
@@ -96,8 +94,8 @@ module _ (r : Relay) (port : ℕ) (t : Return) (place : ℕ) {leaving : ℕ} (re
 
     pub receipt-off : portOn r (t .arrival) ≡ false → Drop PortOff ≡ returning r port t place
     unfolding returning
-    receipt-off off = stays r (t .arrival) _ off ∙ sym (then-false _ _ right)
+    receipt-off off = leaving-off r (t .arrival) _ off ∙ sym (then-false _ _ right)
 
     pub receipt-on : {arrival : ℕ} → arrival ≡ t .arrival → portOn r (t .arrival) ≡ true → Receipt place arrival ≡ returning r port t place
     unfolding returning
-    receipt-on e on = ap (Receipt place) e ∙ leaves r (t .arrival) _ on ∙ sym (then-false _ _ right)
+    receipt-on e on = ap (Receipt place) e ∙ leaving-on r (t .arrival) _ on ∙ sym (then-false _ _ right)

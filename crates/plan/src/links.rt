@@ -13,8 +13,8 @@ ghost use Rattle.packet.specs.Header.{isAnnounce, ofKindLink};
 ghost use Rattle.packet.specs.Read.{headerOf, longestPacket, reads};
 ghost use Rattle.rules.specs.Tests.{badForm, fromAnsweringSide, fromAskingSide};
 ghost use Rattle.tables.specs.Places.{tableSize};
-ghost use Rattle.tables.specs.Layout.{relayOf, wellFormed};
-ghost use Rattle.plan.specs.Decided.{arrivalOf, onward};
+ghost use Rattle.tables.specs.Layout.{relayOf};
+ghost use Rattle.plan.specs.Decided.{arrivalOf, CanRead, CanJudge, onwardOn};
 ghost use Rattle.plan.specs.Kinds.{carried, proving, carrying};
 
 // From the answering port with hops = remaining.
@@ -54,8 +54,9 @@ fn carry(tables: &[u8], place: usize, port: u8) -> Decision
 
 // A link proof, of the link at a place: tests 7, 8, 9 and 12.
 fn prove(tables: &[u8], packet: &[u8], arrived: Arrived, link: Link, place: usize) -> Decision
-    requires { ⌜ (length (now tables) ≡ tableSize) × (reads longestPacket (now packet) ≡ true) ⌝ }
-    ensures { λ r. ⌜ r ≡ proving (relayOf (now (tables .entry))) (arrivalOf (now (packet .entry)) arrived) link place ⌝ }
+    requires { ⌜ CanRead (now packet) (now tables) ⌝ }
+    ensures { λ r. ⌜ r ≡ proving (relayOf (now (tables .entry))) (arrivalOf (now (packet .entry)) arrived)
+        link place ⌝ }
 {
     if link.proved {
         return Decision::Drop(Reason::AlreadyKnown);
@@ -71,8 +72,9 @@ fn prove(tables: &[u8], packet: &[u8], arrived: Arrived, link: Link, place: usiz
 
 // Any other packet of the link at a place: tests 6, 8 and 12.
 fn pass(tables: &[u8], packet: &[u8], arrived: Arrived, link: Link, place: usize) -> Decision
-    requires { ⌜ (length (now tables) ≡ tableSize) × (reads longestPacket (now packet) ≡ true) ⌝ }
-    ensures { λ r. ⌜ r ≡ carrying (relayOf (now (tables .entry))) (arrivalOf (now (packet .entry)) arrived) link place ⌝ }
+    requires { ⌜ CanRead (now packet) (now tables) ⌝ }
+    ensures { λ r. ⌜ r ≡ carrying (relayOf (now (tables .entry))) (arrivalOf (now (packet .entry)) arrived)
+        link place ⌝ }
 {
     if !link.proved {
         return Decision::Drop(Reason::NoWayOn(Blocked::NotProved));
@@ -87,8 +89,9 @@ fn pass(tables: &[u8], packet: &[u8], arrived: Arrived, link: Link, place: usize
 }
 
 pub fn decide_of_link(tables: &[u8], packet: &[u8], arrived: Arrived) -> Decision
-    requires { ⌜ (wellFormed (now tables) ≡ true) × (reads longestPacket (now packet) ≡ true) × (badForm (now packet) ≡ false) × (isAnnounce (headerOf (now packet)) ≡ false) × (ofKindLink (headerOf (now packet)) ≡ true) ⌝ }
-    ensures { λ r. ⌜ r ≡ onward (relayOf (now (tables .entry))) (arrivalOf (now (packet .entry)) arrived) ⌝ }
+    requires { ⌜ CanJudge (now packet) (now tables) × (badForm (now packet) ≡ false)
+        × (isAnnounce (headerOf (now packet)) ≡ false) × (ofKindLink (headerOf (now packet)) ≡ true) ⌝ }
+    ensures { λ r. ⌜ r ≡ onwardOn (now (packet .entry)) arrived (now (tables .entry)) ⌝ }
 {
     let parts = packet::parts_of(packet);
     let destination = parts.destination;

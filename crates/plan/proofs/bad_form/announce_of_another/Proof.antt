@@ -6,19 +6,20 @@ use Rattle.octets.specs.Index.{agree}
 use Rattle.octets.proofs.Index.{and-yes, and-no}
 use Rattle.packet.specs.Announce.{announcedDestination}
 use Rattle.packet.specs.declared.Parts.{Parts}
+use Rattle.packet.specs.Read.{longestPacket}
 use Rattle.outgoing.proofs.LeavingLaws.{long, whole}
 use Rattle.plan.proofs.FormLaws.{another-clauses, destination-compared}
 use Rattle.plan.proofs.bad_form.announce_of_another.Statement.{statement}
 use Rattle.plan.proofs.bad_form.announce_of_another.Tie as tie
 
 shared-slice-read-is-announce : tie.Need-shared-slice-read-is-announce
-shared-slice-read-is-announce c = let s = c .before .before in omega (arith, long 500 (s .args .packet .now) (s .pre))
+shared-slice-read-is-announce c = let s = c .before .before in omega (arith, long longestPacket (s .args .packet .now) (s .pre))
 
 is-announce-requires : tie.Need-is-announce-requires
 is-announce-requires c κs = search needs
 
 parts-of-requires : tie.Need-parts-of-requires
-parts-of-requires c κs = let s = c .before .before .before .before in whole 500 (s .args .packet .now) (s .pre)
+parts-of-requires c κs = let s = c .before .before .before .before in whole longestPacket (s .args .packet .now) (s .pre)
 
 payload-requires : tie.Need-payload-requires
 payload-requires c κs = search needs

@@ -11,6 +11,7 @@ use Rattle.octets.specs.Index.{_and_}
 use Rattle.octets.specs.Listed.{firstOf, valued}
 use Rattle.octets.proofs.Listed.{here, past}
 use Rattle.rules.specs.Tests.{typeTwoProof, typeTwoOfKindLink, announceNotSingle, announceTooShort, announceOfAnother, requestOfKindLink, requestTooShort, linkProofLength, formTests}
+use Rattle.packet.specs.Read.{longestPacket}
 use Rattle.outgoing.proofs.LeavingLaws.{long}
 use Rattle.plan.specs.First.{formOf}
 use Rattle.plan.proofs.FormLaws.{formFrom}
@@ -114,7 +115,7 @@ past-8 c = past-7 (c .before .before) ∙ past _ _ _ _ (sym (test-8 (c .before))
 
 -- ---- the needs
 shared-slice-read-header : tie.Need-shared-slice-read-header
-shared-slice-read-header c = let s = c .before .before in omega (arith, long 500 (s .args .packet .now) (s .pre))
+shared-slice-read-header c = let s = c .before .before in omega (arith, long longestPacket (s .args .packet .now) (s .pre))
 
 payload-requires : tie.Need-payload-requires
 payload-requires c κs = search needs

@@ -21,13 +21,26 @@ payload-requires : tie.Need-payload-requires
 payload-requires c κs = search needs
 
 returns : tie.Need-returns
-returns c = sym (proof-length-clauses (c .before .before .before .before .before .args .packet .now) ∙ and-yes _ (sym (c .before .before .before .is-link-proof .ensures) ∙ c .before .before .if1 .taken) ∙ ap not (or-left _ (eq-eqb (length (payload (c .before .before .before .before .before .args .packet .now))) 96 (sym (ap length (c .before .payload .ensures)) ∙ c .if2 .taken))))
+returns c =
+    let c3 = c .before .before .before in
+    let p = c3 .before .before .args .packet .now in
+    let is = sym (c3 .is-link-proof .ensures) ∙ c .before .before .if1 .taken in
+    let long : length (payload p) ≡ 96 = sym (ap length (c .before .payload .ensures)) ∙ c .if2 .taken in
+    sym (proof-length-clauses p ∙ and-yes _ is ∙ ap not (or-left _ (eq-eqb (length (payload p)) 96 long)))
 
 returns-2 : tie.Need-returns-2
-returns-2 c = ap (λ (b : List ℕ). not (eqb (length b) 99)) (c .before .payload .ensures) ∙ sym (proof-length-clauses (c .before .before .before .before .before .args .packet .now) ∙ and-yes _ (sym (c .before .before .before .is-link-proof .ensures) ∙ c .before .before .if1 .taken) ∙ ap not (or-else _ (ne-eqb (length (payload (c .before .before .before .before .before .args .packet .now))) 96 (λ (q : length (payload (c .before .before .before .before .before .args .packet .now)) ≡ 96). c .if2 .left (ap length (c .before .payload .ensures) ∙ q)))))
+returns-2 c =
+    let c3 = c .before .before .before in
+    let p = c3 .before .before .args .packet .now in
+    let is = sym (c3 .is-link-proof .ensures) ∙ c .before .before .if1 .taken in
+    let other : length (payload p) ≡ 96 → ⊥ = λ long. c .if2 .left (ap length (c .before .payload .ensures) ∙ long) in
+    ap (λ (b : List ℕ). not (eqb (length b) 99)) (c .before .payload .ensures)
+    ∙ sym (proof-length-clauses p ∙ and-yes _ is ∙ ap not (or-else _ (ne-eqb (length (payload p)) 96 other)))
 
 returns-3 : tie.Need-returns-3
-returns-3 c = sym (proof-length-clauses (c .before .before .before .args .packet .now) ∙ and-no _ (sym (c .before .is-link-proof .ensures) ∙ c .if1 .left))
+returns-3 c =
+    let p = c .before .before .before .args .packet .now in
+    sym (proof-length-clauses p ∙ and-no _ (sym (c .before .is-link-proof .ensures) ∙ c .if1 .left))
 
 pub link-proof-length-spec : {M : Type 1} → statement M
 link-proof-length-spec =

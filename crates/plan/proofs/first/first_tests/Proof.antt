@@ -8,7 +8,8 @@ use borrow.Author.Tests.{lt-ltb, le-ltb}
 use Rattle.octets.specs.Listed.{firstOf, valued}
 use Rattle.octets.proofs.Listed.{here, past}
 use Rattle.numbers.specs.Numbers.{hashCount}
-use Rattle.rules.specs.View.{View, hashPlace, viewAt}
+use Rattle.packet.specs.Read.{longestPacket}
+use Rattle.rules.specs.View.{View, hashPlace}
 use Rattle.rules.specs.Arrival.{Arrival}
 use Rattle.rules.specs.Tests.{duplicate}
 use Rattle.rules.specs.Judging.{earlyTests}
@@ -16,7 +17,7 @@ use Rattle.rules.specs.declared.Clause.{Clause}
 use Rattle.rules.specs.declared.Reason.the-variants.{BadForm}
 use Rattle.tables.specs.Layout.{relayOf}
 use Rattle.outgoing.proofs.LeavingLaws.{long}
-use Rattle.plan.specs.Decided.{arrivalOf}
+use Rattle.plan.specs.Decided.{arrivalOf, seen}
 use Rattle.plan.specs.First.{early, firstTests}
 use Rattle.plan.specs.declared.Early.the-variants.{Dropped}
 use Rattle.plan.proofs.FormLaws.{form-bad, form-good}
@@ -25,7 +26,7 @@ use Rattle.plan.proofs.first.first_tests.Statement.{statement}
 use Rattle.plan.proofs.first.first_tests.Tie as tie
 
 abbrev v : tie.Start → View
-v s = viewAt (s .args .arrived .clock) (relayOf (s .args .tables .now))
+v s = seen (s .args .arrived) (s .args .tables .now)
 
 abbrev a : tie.Start → Arrival
 a s = arrivalOf (s .args .packet .now) (s .args .arrived)
@@ -60,7 +61,7 @@ test-2 : (c : tie.After-hash-place) → duplicate (v (s2 c)) (a (s2 c)) ≡ ltb 
 test-2 c =
     let s = s2 c in
     duplicate-place (relayOf (s .args .tables .now)) (a s)
-    (c .hash-place .ensures ∙ ap (hashPlace (s .args .arrived .clock) (relayOf (s .args .tables .now))) (s .pre .2))
+    (c .hash-place .ensures ∙ ap (hashPlace (s .args .arrived .clock) (relayOf (s .args .tables .now))) (s .pre .1))
 
 past-2 : (c : tie.Else2) → Left 2 (s2 (c .before))
 unfolding firstTests earlyFrom earlyTests valued
@@ -130,7 +131,7 @@ unfolding earlyFrom earlyTests early valued
 returns-5 c = sym (past-4 (c .before .before) ∙ here _ _ _ _ (sym (c .before .delivered-here .ensures) ∙ c .if4 .taken))
 
 shared-slice-read-if5 : tie.Need-shared-slice-read-if5
-shared-slice-read-if5 c = let s = s6 c in omega (arith, long 500 (s .args .packet .now) (s .pre .1))
+shared-slice-read-if5 c = let s = s6 c in omega (arith, long longestPacket (s .args .packet .now) (s .pre .0 .readable))
 
 returns-6 : tie.Need-returns-6
 unfolding earlyFrom earlyTests early valued
