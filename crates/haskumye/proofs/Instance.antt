@@ -3,7 +3,7 @@
 use Prim.Native.Nat.{ℕ}
 use mathlib.Core.Bool.{true}
 use mathlib.Core.List.{List}
-use mathlib.Core.Path.{_≡_, refl, ap, _∙_}
+use mathlib.Core.Path.{_≡_, refl, ap, subst, _∙_}
 use Rattle.octets.specs.Choice.{_then_otherwise_}
 use Rattle.octets.specs.Part.{patch}
 use Rattle.rules.specs.Refusals.{tablesOk}
@@ -57,23 +57,13 @@ module _ (number : ℕ) (tally : Tally) (after output : List ℕ) where
   pub spread-promised : Answers (packetOn announceBytes 1 1000 true tables newTally blank) number tally after output
       → (number ≡ 0xd7_0004_0004) × (tally ≡ tallyOf 1 0) × (after ≡ bytesOf announcedRelay) × (output ≡ patch blank 0 spreadBytes)
   unfolding answerNumber verdictNumber fieldsNumber
-  spread-promised (n, t, a, o) = (
-    n ∙ ap (λ (j : JudgementOn). answerNumber (j .answer)) spread,
-    t ∙ ap (λ (j : JudgementOn). j .tally) spread,
-    a ∙ ap (λ (j : JudgementOn). j .tables) spread,
-    o ∙ ap (λ (j : JudgementOn). j .output) spread,
-  )
+  spread-promised said = subst (λ (o : JudgementOn). Answers o number tally after output) spread said
 
   -- kind 0, refusal 4, and all is as it was
   pub refused-promised : Answers (packetOn announceBytes 77 1000 true tables newTally blank) number tally after output
       → (number ≡ 0x400) × (tally ≡ newTally) × (after ≡ tables) × (output ≡ blank)
   unfolding answerNumber verdictNumber fieldsNumber
-  refused-promised (n, t, a, o) = (
-    n ∙ ap (λ (j : JudgementOn). answerNumber (j .answer)) refused,
-    t ∙ ap (λ (j : JudgementOn). j .tally) refused,
-    a ∙ ap (λ (j : JudgementOn). j .tables) refused,
-    o ∙ ap (λ (j : JudgementOn). j .output) refused,
-  )
+  refused-promised said = subst (λ (o : JudgementOn). Answers o number tally after output) refused said
 
 -- ---- the numbers with every port one up: ports {3}, and the refusal's as it was
 pub renamed : (renameNumber oneUp 0xd7_0004_0004 ≡ 0xd7_0008_0004) × (renameNumber oneUp 0x400 ≡ 0x400)
