@@ -8,3 +8,4 @@ pub mod Section
 pub mod Patches
 pub mod Shaped
 pub mod Whole
+pub mod Called
