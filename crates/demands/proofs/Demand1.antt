@@ -16,8 +16,8 @@ use Rattle.sha256.specs.Sha256.{answer}
 use Rattle.sha256.specs.declared.Digest.{Digest}
 use Rattle.sha256.proofs.Promise.{answer-short, answer-long}
 use Rattle.packet.specs.Header.{accessCode, typeTwo}
-use Rattle.packet.specs.Read.{headerOf, longestPacket, readingRefusal, reading}
-use Rattle.packet.specs.Write.{leastOutput, packetOf, writingRefusal, Writing, writing}
+use Rattle.packet.specs.Read.{headerOf, longestPacket, readingRows, readingRefusal, reading}
+use Rattle.packet.specs.Write.{leastOutput, packetOf, writingRows, writingRefusal, Writing, writing}
 use Rattle.packet.specs.Hash.{packetHashAnswer, linkIdAnswer}
 use Rattle.packet.specs.declared.Parts.{Parts}
 use Rattle.numbers.specs.Numbers.{portCount, localCount, modeCount, clockLimit}
@@ -109,7 +109,7 @@ pub packet-rows : (a : Arrival) (output tables : List ℕ)
     ltb longestPacket (length (a .bytes)) then 2 otherwise
     accessCode (headerOf (a .bytes)) then 3 otherwise
     typeTwo (headerOf (a .bytes)) and ltb (length (a .bytes)) 35 then 1 otherwise 0)
-unfolding refusalOn refusal refusalBy packetRows firstOf readingRefusal
+unfolding refusalOn refusal refusalBy packetRows firstOf readingRefusal readingRows
 packet-rows a output tables = after-seven tables _
 
 -- setting a port: 7, 9
@@ -154,7 +154,7 @@ pub reading-rows : (p : List ℕ)
     ltb longestPacket (length p) then 2 otherwise
     accessCode (headerOf p) then 3 otherwise
     typeTwo (headerOf p) and ltb (length p) 35 then 1 otherwise 0)
-unfolding reading readingRefusal
+unfolding reading readingRefusal readingRows firstOf
 reading-rows p = refl
 
 pub hash-rows : (p : List ℕ) → (packetHashAnswer longestPacket p .refusal ≡ reading longestPacket p .refusal) × (linkIdAnswer longestPacket p .refusal ≡ reading longestPacket p .refusal)
@@ -178,7 +178,7 @@ module _ (q : Parts) (body output : List ℕ) where
       ≡ (ltb (length output) leastOutput then 6 otherwise
       ltb longestPacket (length (packetOf q body)) then 2 otherwise
       accessCode (q .header) then 3 otherwise 0)
-  unfolding row writingRefusal
+  unfolding row writingRefusal writingRows firstOf
   writing-rows = row-given
 
   pub writing-stays : eqb (writing q body output .answer .refusal) 0 ≡ false → (writing q body output .answer .length ≡ 0) × (writing q body output .output ≡ output)

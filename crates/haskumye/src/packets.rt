@@ -5,7 +5,8 @@ ghost use Rattle.packet.specs.Read.{longestPacket, reading};
 ghost use Rattle.packet.specs.Write.{writing};
 ghost use Rattle.packet.specs.Hash.{packetHashAnswer, linkIdAnswer};
 ghost use Rattle.packet.specs.Announce.{announcedDestination, leastAnnounce, emissionOf};
-ghost use Rattle.line.specs.Line.{lineText, lineOf};
+ghost use Rattle.line.specs.Line.{lineText};
+ghost use Rattle.text.specs.Text.{textOf};
 ghost use Rattle.haskumye.specs.Packets.{partsAfter, hashAfter, linkIdAfter, partsIn, payloadPlace, writtenNumber};
 
 // Reads a packet: its refusal, 0 for none. Its parts go to the buffer, which a refusal leaves as it was.
@@ -103,7 +104,7 @@ pub extern "C" fn haskumye_emission(blob: &[u8; 10]) -> u64
 // The showing program's line of a packet: its length, and the text at the start of the buffer with zeros behind it.
 #[no_mangle]
 pub extern "C" fn haskumye_line(packet: &[u8], text: &mut [u8; 160]) -> usize
-    ensures { λ r. ⌜ (r ≡ lineOf (lineText (now (packet .entry))) .length) × (now (text .exit) ≡ lineOf (lineText (now (packet .entry))) .bytes) ⌝ }
+    ensures { λ r. ⌜ (r ≡ textOf (lineText (now (packet .entry))) .length) × (now (text .exit) ≡ textOf (lineText (now (packet .entry))) .bytes) ⌝ }
 {
     let line = line::line_of(packet);
     let bytes = line.bytes;

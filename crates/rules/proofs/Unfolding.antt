@@ -8,7 +8,7 @@ use Rattle.octets.specs.Choice.{_then_otherwise_, _or_, same}
 use Rattle.octets.specs.Part.{part, patch}
 use Rattle.octets.specs.BigEndian.{numberFrom, number}
 use Rattle.packet.specs.Header.{accessCode, typeTwo, contextFlag, destinationKind, packetKind}
-use Rattle.packet.specs.Read.{typeOneParts, typeTwoParts, partsOf, payloadStart, payload, readingRefusal, reads, reading}
+use Rattle.packet.specs.Read.{typeOneParts, typeTwoParts, partsOf, payloadStart, payload, readingRows, readingRefusal, reads, reading}
 use Rattle.packet.specs.Write.{addresses, packetOf}
 use Rattle.packet.specs.Hash.{hashedPart, packetHash, linkId}
 use Rattle.packet.specs.Announce.{keysOf, nameHashOf, blobOf, emissionOf, leastAnnounce, identityHash, announcedDestination}
@@ -43,7 +43,7 @@ lists = tt
 -- packets
 unfoldable pub layout : Unit {0}
 unfolding accessCode typeTwo contextFlag destinationKind packetKind typeOneParts typeTwoParts partsOf payloadStart payload
-    readingRefusal reads reading addresses packetOf hashedPart packetHash linkId keysOf nameHashOf blobOf emissionOf leastAnnounce
+    readingRows readingRefusal reads reading addresses packetOf hashedPart packetHash linkId keysOf nameHashOf blobOf emissionOf leastAnnounce
     identityHash announcedDestination
 layout = tt
 

@@ -1,2 +1,2 @@
 -- What the program writes of a digest.
-pub mod Hex
+pub mod Line

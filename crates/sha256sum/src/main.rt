@@ -2,46 +2,28 @@
 // A message of more than 65,535 bytes gives the line `refused 2`.
 use libc::STDIN_FILENO;
 use libc::STDOUT_FILENO;
+use sha256::Digest;
+use text::Text;
 ghost use mathlib.Core.Path.{_≡_};
-ghost use Prim.Native.Nat.{_%_};
-ghost use Rattle.sha256sum.specs.Hex.{hexDigit, hexLine};
+ghost use Rattle.text.specs.Text.{textOf};
+ghost use Rattle.sha256sum.specs.Line.{digestLine};
 
-// The digit of the lower four bits.
-fn digit(n: u8) -> u8
-    ensures { λ r. ⌜ r ≡ hexDigit (n % 16) ⌝ }
+fn line(digest: Digest) -> Text
+    ensures { λ r. ⌜ r ≡ textOf (digestLine digest) ⌝ }
 {
-    let d = n % 16;
-    if d < 10 { 48 + d } else { 87 + d }
-}
-
-fn line(b: [u8; 32]) -> [u8; 65]
-    ensures { λ r. ⌜ r ≡ hexLine b ⌝ }
-{
-    let mut out = [10u8; 65];
-    let mut i: usize = 0;
-    while i < 32 {
-        let x = b[i];
-        out[2 * i] = digit(x / 16);
-        out[2 * i + 1] = digit(x);
-        i += 1;
+    if digest.refusal != 0 {
+        return text::refused_line(digest.refusal);
     }
-    out
-}
-
-fn show(message: &[u8]) {
-    let d = sha256::sha256(message);
-    if d.refusal == 0 {
-        let b = d.bytes;
-        let text = line(b);
-        io::write_all(STDOUT_FILENO, &text);
-    } else {
-        io::write_all(STDOUT_FILENO, b"refused 2\n");
-    }
+    let bytes = digest.bytes;
+    text::with_character(text::with_hexadecimal(text::empty(), &bytes), b'\n')
 }
 
 // The buffer has one byte more than the longest message, so that a longer one shows.
 fn main() {
     let mut buffer = io::large_buffer();
     let n = io::read_full(STDIN_FILENO, &mut buffer);
-    show(&buffer[..n]);
+    let shown = line(sha256::sha256(&buffer[..n]));
+    let bytes = shown.bytes;
+    let length = shown.length;
+    io::write_all(STDOUT_FILENO, &bytes[..length]);
 }

@@ -1,86 +1,61 @@
--- `sha256sum::line` meets its contract.
--- Assumes nothing.
-use mathlib.Core.Path.{_≡_, _∙_}
-use mathlib.Core.List.{_++_}
-use Prim.Native.Nat.{_≤_, _-_, _*_}
-use borrow.Author.Needs.{needs}
+use Prim.Native.Nat.{_≤_}
+use mathlib.Core.List.{[], _∷_}
+use mathlib.Core.Path.{_≡_, sym, ap, _∙_}
+use lib.ListN.{length}
+use borrow.Author.Tests.{eq-eqb, ne-eqb}
+use Rattle.octets.specs.Choice.{_then_otherwise_}
+use Rattle.octets.specs.Part.{joined}
+use Rattle.text.specs.Numerals.{hexadecimal}
+use Rattle.text.specs.Words.{newline, spaced, wordsLine}
+use Rattle.text.specs.Text.{appended}
+use Rattle.text.specs.declared.Text.{Text}
+use Rattle.text.proofs.NumeralLaws.{hexadecimal-length}
+use Rattle.text.proofs.TextLaws.{appended-none}
+use Rattle.text.proofs.WordLaws.{line-most, line-appended}
+use Rattle.sha256sum.specs.Line.{digestLine}
 use native.Mathlib.Omega.{arith}
-use lib.ListN.{take, replicate}
-use lib.Seq.{take-all}
-use Rattle.sha256sum.specs.Hex.{hexText}
-use Rattle.sha256sum.proofs.HexLaws.{text-more}
+use borrow.Author.Needs.{needs}
 use Rattle.sha256sum.proofs.line.Statement.{statement}
 use Rattle.sha256sum.proofs.line.Tie as tie
 
-abbrev Inv-loop : tie.InvT-loop
-Inv-loop b out₀ i₀ out i = (i ≤ 32) × (out ≡ hexText (take i b) ++ replicate (65 - 2 * i) 10)
+refused-line-requires : tie.Need-refused-line-requires
+refused-line-requires c κs = search needs
 
-abbrev μ-loop : tie.MeasureT-loop
-μ-loop b out₀ i₀ out i = 32 - i
+returns : tie.Need-returns
+unfolding digestLine _then_otherwise_
+returns c = rw (ne-eqb (c .before .before .before .args .digest .refusal) 0 (c .before .if1 .taken)) (c .refused-line .ensures)
 
-loop-holds : tie.Need-loop-holds Inv-loop μ-loop
-unfolding hexText
-loop-holds c = search needs
+empty-requires : tie.Need-empty-requires
+empty-requires c κs = search needs
 
-array-read-x : tie.Need-array-read-x Inv-loop μ-loop
-array-read-x c = search needs
+slice-aggregate-with-hexadecimal : tie.Need-slice-aggregate-with-hexadecimal
+slice-aggregate-with-hexadecimal c = search needs
 
-digit-requires : tie.Need-digit-requires Inv-loop μ-loop
-digit-requires c κs = search needs
+with-hexadecimal-requires : tie.Need-with-hexadecimal-requires
+with-hexadecimal-requires c κs = search needs
 
-mul-out : tie.Need-mul-out Inv-loop μ-loop
-mul-out c = search needs
+with-character-requires : tie.Need-with-character-requires
+with-character-requires c κs = search needs
 
-array-write-out : tie.Need-array-write-out Inv-loop μ-loop
-array-write-out c = search needs
-
-digit-requires-2 : tie.Need-digit-requires-2 Inv-loop μ-loop
-digit-requires-2 c κs = search needs
-
-mul-out-2 : tie.Need-mul-out-2 Inv-loop μ-loop
-mul-out-2 c = search needs
-
-add-out : tie.Need-add-out Inv-loop μ-loop
-add-out c = search needs
-
-array-write-out-2 : tie.Need-array-write-out-2 Inv-loop μ-loop
-array-write-out-2 c = search needs
-
-add-i : tie.Need-add-i Inv-loop μ-loop
-add-i c = search needs
-
-loop-less : tie.Need-loop-less Inv-loop μ-loop
-loop-less c = search needs
-
-loop-again : tie.Need-loop-again Inv-loop μ-loop
-loop-again c =
-    let l = c .before .before .before .loop in
-    (omega arith, text-more (c .before .before .before .before .args .t1) (l .out) (l .i) _ _ (omega arith) (omega arith) (l .inv .1) (c .before .digit .ensures) (c .digit2 .ensures))
-
-returns : tie.Need-returns Inv-loop μ-loop
-returns c =
-    let l = c .before .loop in
-    let b = c .before .before .args .t1 in
-    let e : l .i ≡ 32 = omega arith in
-    let all : take 32 b ≡ b = take-all 32 b (omega arith) in
-    l .inv .1 ∙ rw (e, all)
+returns-2 : tie.Need-returns-2
+unfolding digestLine _then_otherwise_ spaced joined
+returns-2 c =
+    let d = c .before .before .before .before .before .before .before .args .digest in
+    let wide : length (d .bytes) ≡ 32 = search needs in
+    let fit : length (wordsLine (hexadecimal (d .bytes) ∷ [])) ≤ 160 =
+    omega (arith, line-most (hexadecimal (d .bytes)) [] (64 ∷ []) (omega (arith, hexadecimal-length (d .bytes)), tt)) in
+    let c3 = c .before .before .before in
+    rw (c .with-character .ensures, c .before .with-hexadecimal .ensures, c3 .empty .ensures, eq-eqb (d .refusal) 0 (c3 .before .before .if1 .left))
+    (ap (λ (t : Text). appended t (newline ∷ [])) (sym (appended-none _)) ∙ line-appended (hexadecimal (d .bytes)) [] fit)
 
 pub line-spec : {M : Type 1} → statement M
 line-spec =
     tie.close
     (tie.spec
-    Inv-loop
-    μ-loop
-    loop-holds
-    array-read-x
-    digit-requires
-    mul-out
-    array-write-out
-    digit-requires-2
-    mul-out-2
-    add-out
-    array-write-out-2
-    add-i
-    loop-less
-    loop-again
-    returns)
+    refused-line-requires
+    returns
+    empty-requires
+    slice-aggregate-with-hexadecimal
+    with-hexadecimal-requires
+    with-character-requires
+    returns-2)
