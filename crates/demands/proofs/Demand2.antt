@@ -29,7 +29,8 @@ use Rattle.tables.specs.Places.{addressWidth, tableSize}
 use Rattle.tables.specs.Layout.{relayOf, bytesOf, wellFormed}
 use Rattle.tables.specs.Shape.{isBytes, shaped}
 use Rattle.tables.proofs.Whole.{again, ok-relay, shaped-of, back, ok-bytes, bytes-bytes}
-use Rattle.settings.specs.Calls.{Called, written, called, freshOn}
+use Rattle.tables.specs.Called.{Called, written, called}
+use Rattle.settings.specs.Calls.{freshOn}
 use Rattle.demands.specs.Given.{CallBytes, CallsBytes}
 use Rattle.relay.specs.Promise.{inBytes, packetOn}
 use Rattle.demands.specs.Bytes.{OutcomeOn, ofPacket, ofCalled, performOn, repliesOn, tablesAfterOn, tallyAfterOn}
