@@ -1,4 +1,5 @@
-// The calls on the tables that need no packet. Each but the first two returns a refusal's number, or 0; a refusal changes no byte.
+// The calls on the tables that need no packet. Each but the first two returns a refusal's number, or 0; a refusal
+// changes no byte.
 use tables::places::TABLE_SIZE;
 ghost use mathlib.Core.Path.{_≡_};
 ghost use lib.Dec.{eqb};

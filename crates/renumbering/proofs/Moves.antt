@@ -160,11 +160,13 @@ module _ (m : List ℕ) (ports : List Port) (blank : List ℕ) (size : length bl
   moved-at n l = sym (listOf-at (λ k. getD ports (preimage m k) noPort) portCount n noPort l)
 
   module _ (n : ℕ) (out : List ℕ) (e : out ≡ upTo portBytes 0 (movedPorts m ports) blank n) where
-    pub moved-more : n < portCount → patch out (portWidth * n) (portBytes (getD ports (preimage m n) noPort)) ≡ upTo portBytes 0 (movedPorts m ports) blank (n + 1)
+    pub moved-more : n < portCount → patch out (portWidth * n) (portBytes (getD ports (preimage m n) noPort)) ≡ upTo portBytes 0 (movedPorts m ports)
+        blank (n + 1)
     moved-more l =
         let count = moved-count in
         ap₂ (λ (x : List ℕ) (p : Port). patch x (portWidth * n) (portBytes p)) e (moved-at n l)
-        ∙ ap (λ (k : ℕ). patch (upTo portBytes 0 (movedPorts m ports) blank n) k (portBytes (getD (movedPorts m ports) n noPort))) (sym (zero-add (portWidth * n)))
+        ∙ ap (λ (k : ℕ). patch (upTo portBytes 0 (movedPorts m ports) blank n) k (portBytes (getD (movedPorts m ports) n noPort)))
+        (sym (zero-add (portWidth * n)))
         ∙ up-more port-lent 0 (movedPorts m ports) blank (omega arith) n (omega arith) noPort
 
     pub moved-all : portCount ≤ n → out ≡ fields portBytes portCount noPort (movedPorts m ports)
@@ -206,7 +208,9 @@ module _ (t m : List ℕ) (bt : Bytes t) (h : wellFormed t ≡ true) where
 
     pub links-ready : recordsOk linkBytesOk linksAt linkWidth linkCount t1 ≡ true
     unfolding recordsOk linkBytesOk linkBytes
-    links-ready = passes-at (lawful (many linkCount empty (slot linkForm))) t1 linksAt (relayOf t .links) links-stand (links-in .place .good (relayOf t) tt good)
+    links-ready =
+        passes-at (lawful (many linkCount empty (slot linkForm))) t1 linksAt (relayOf t .links) links-stand
+        (links-in .place .good (relayOf t) tt good)
 
     module _ (t2 : List ℕ) (e2 : t2 ≡ patch t1 linksAt (renamedLinks m t1)) where
       links-written : t2 ≡ bytesOf pathsAndLinks

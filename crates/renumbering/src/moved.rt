@@ -32,8 +32,10 @@ fn settings_of(tables: &[u8], i: usize) -> [u8; PORT_WIDTH]
 }
 
 pub fn moved_ports(tables: &[u8], map: &[u8]) -> [u8; PORT_COUNT * PORT_WIDTH]
-    requires { ⌜ (wellFormed (now tables) ≡ true) × (length (now tables) ≡ tableSize) × (length (now map) ≡ portCount) ⌝ }
-    ensures { λ r. ⌜ r ≡ fields portBytes portCount noPort (movedPorts (now (map .entry)) (relayOf (now (tables .entry)) .ports)) ⌝ }
+    requires { ⌜ (wellFormed (now tables) ≡ true) × (length (now tables) ≡ tableSize)
+        × (length (now map) ≡ portCount) ⌝ }
+    ensures { λ r. ⌜ r ≡ fields portBytes portCount noPort
+        (movedPorts (now (map .entry)) (relayOf (now (tables .entry)) .ports)) ⌝ }
 {
     let mut moved = [0u8; PORT_COUNT * PORT_WIDTH];
     let mut n = 0;

@@ -27,7 +27,8 @@ pub enum Blocked {
     NoReturn,
 }
 
-// Why a packet was dropped: document 01's tests 1 to 14, in their order. `reasonNumber` of specs/Answers.antt gives the numbers.
+// Why a packet was dropped: document 01's tests 1 to 14, in their order. `reasonNumber` of specs/Answers.antt gives
+// the numbers.
 pub enum Reason {
     NotOurs,
     Duplicate,
@@ -78,8 +79,8 @@ pub struct Link {
     pub expiry: u64,
 }
 
-// Packet calls since fresh, each modulo 2^32: all accepted ones, and those of each answer. A host's tally is six counters
-// in this order.
+// Packet calls since fresh, each modulo 2^32: all accepted ones, and those of each answer. A host's tally is six
+// counters in this order.
 #[repr(C)]
 pub struct Tally {
     pub total: u32,

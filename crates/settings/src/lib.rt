@@ -1,5 +1,6 @@
 // The calls that need no packet, apart from renumbering: a fresh relay, a port's settings, local addresses.
-// Entry points: fresh, set_port, add_local, remove_local. Each returns a refusal's number, or 0, and a refusal changes no byte.
+// Entry points: fresh, set_port, add_local, remove_local. Each returns a refusal's number, or 0, and a refusal
+// changes no byte.
 mod writes;
 
 use lookup::empty_local;

@@ -19,7 +19,8 @@ ghost use Rattle.settings.specs.Calls.{freshPorts};
 
 pub fn put_port(tables: &mut [u8], port: usize, on: bool, mode: u8)
     requires { ⌜ (length (now tables) ≡ tableSize) × (port < portCount) ⌝ }
-    ensures { λ _. ⌜ now (tables .exit) ≡ patch (now (tables .entry)) (portsAt + portWidth * port) (portBytes (makePort on mode)) ⌝ }
+    ensures { λ _. ⌜ now (tables .exit) ≡ patch (now (tables .entry)) (portsAt + portWidth * port)
+        (portBytes (makePort on mode)) ⌝ }
 {
     let at = PORTS_AT + PORT_WIDTH * port;
     octets::set_at(tables, at + PORT_ON_AT, mark_of(on));
@@ -40,7 +41,8 @@ pub fn put_fresh_ports(tables: &mut [u8])
 
 pub fn put_local(tables: &mut [u8], place: usize, address: [u8; 16])
     requires { ⌜ (length (now tables) ≡ tableSize) × (place < localCount) ⌝ }
-    ensures { λ _. ⌜ now (tables .exit) ≡ patch (now (tables .entry)) (localsAt + localWidth * place) (slotBytes localWidth localBytes (used address)) ⌝ }
+    ensures { λ _. ⌜ now (tables .exit) ≡ patch (now (tables .entry)) (localsAt + localWidth * place)
+        (slotBytes localWidth localBytes (used address)) ⌝ }
 {
     let at = LOCALS_AT + LOCAL_WIDTH * place;
     octets::set_at(tables, at, 1);
@@ -49,7 +51,8 @@ pub fn put_local(tables: &mut [u8], place: usize, address: [u8; 16])
 
 pub fn empty_place(tables: &mut [u8], place: usize)
     requires { ⌜ (length (now tables) ≡ tableSize) × (place < localCount) ⌝ }
-    ensures { λ _. ⌜ now (tables .exit) ≡ patch (now (tables .entry)) (localsAt + localWidth * place) (slotBytes localWidth localBytes empty) ⌝ }
+    ensures { λ _. ⌜ now (tables .exit) ≡ patch (now (tables .entry)) (localsAt + localWidth * place)
+        (slotBytes localWidth localBytes empty) ⌝ }
 {
     let zeros = [0u8; LOCAL_WIDTH];
     octets::copy_at(tables, LOCALS_AT + LOCAL_WIDTH * place, &zeros);

@@ -1,5 +1,5 @@
-// Where each field stands in its record: specs/Fields.antt in code. Each number once. A record's first byte is its mark, used or not; a port's
-// is its on mark.
+// Where each field stands in its record: specs/Fields.antt in code. Each number once. A record's first byte is its
+// mark, used or not; a port's is its on mark.
 use super::places::ADDRESS_WIDTH;
 use super::places::DIGEST_WIDTH;
 use super::places::TIME_WIDTH;

@@ -49,7 +49,8 @@ module _ (r : Relay) {t u : List ℕ} (e : t ≡ bytesOf r) where
     return-step x n l q w =
         let r1 : Relay = withReturns (withSlots (set (r .returns .slots) place (used x)) (r .returns)) r in
         w
-        ∙ ap (λ (y : List ℕ). patch (patch y (returnsAt + returnWidth * place) (slotBytes returnWidth returnBytes (used x))) returnNextAt (bigEndian ringWidth ((place + 1) % returnCount))) e
+        ∙ ap (λ (y : List ℕ). patch (patch y (returnsAt + returnWidth * place) (slotBytes returnWidth returnBytes (used x))) returnNextAt
+        (bigEndian ringWidth ((place + 1) % returnCount))) e
         ∙ ap (λ (y : List ℕ). patch y returnNextAt (bigEndian ringWidth ((place + 1) % returnCount))) (patch-return r place (used x) n l)
         ∙ patch-return-next r1 ((place + 1) % returnCount)
         ∙ ap (λ (k : ℕ). bytesOf (withReturns (makeRing (set (r .returns .slots) k (used x)) ((k + 1) % returnCount)) r)) q
@@ -60,7 +61,8 @@ module _ (r : Relay) {t u : List ℕ} (e : t ≡ bytesOf r) where
     hash-step x n l q w =
         let r1 : Relay = withHashes (withSlots (set (r .hashes .slots) place (used x)) (r .hashes)) r in
         w
-        ∙ ap (λ (y : List ℕ). patch (patch y (hashesAt + hashWidth * place) (slotBytes hashWidth hashBytes (used x))) hashNextAt (bigEndian ringWidth ((place + 1) % hashCount))) e
+        ∙ ap (λ (y : List ℕ). patch (patch y (hashesAt + hashWidth * place) (slotBytes hashWidth hashBytes (used x))) hashNextAt
+        (bigEndian ringWidth ((place + 1) % hashCount))) e
         ∙ ap (λ (y : List ℕ). patch y hashNextAt (bigEndian ringWidth ((place + 1) % hashCount))) (patch-hash r place (used x) n l)
         ∙ patch-hash-next r1 ((place + 1) % hashCount)
         ∙ ap (λ (k : ℕ). bytesOf (withHashes (makeRing (set (r .hashes .slots) k (used x)) ((k + 1) % hashCount)) r)) q

@@ -43,7 +43,8 @@ fn put_head(tables: &mut [u8], at: usize, path: Announced)
 // Puts a new path at a place, spare blob places zero.
 pub fn put_new_path(tables: &mut [u8], place: usize, path: Announced, blob: [u8; 10])
     requires { ⌜ (length (now tables) ≡ tableSize) × (place < pathCount) ⌝ }
-    ensures { λ _. ⌜ now (tables .exit) ≡ pathWritten (now (tables .entry)) place (announced path (oneBlob blobLimit blob)) ⌝ }
+    ensures { λ _. ⌜ now (tables .exit) ≡ pathWritten (now (tables .entry)) place
+        (announced path (oneBlob blobLimit blob)) ⌝ }
 {
     let at = PATHS_AT + PATH_WIDTH * place;
     put_head(tables, at, path);
@@ -54,7 +55,9 @@ pub fn put_new_path(tables: &mut [u8], place: usize, path: Announced, blob: [u8;
 // Puts a known path, which keeps its place, with a blob added to those that the record holds.
 pub fn put_known_path(tables: &mut [u8], place: usize, path: Announced, blob: [u8; 10])
     requires { ⌜ (length (now tables) ≡ tableSize) × (place < pathCount) ⌝ }
-    ensures { λ _. ⌜ now (tables .exit) ≡ pathWritten (now (tables .entry)) place (announced path (addBlob blobLimit blob (blobsOf (recordAt pathsAt pathWidth (now (tables .entry)) place)))) ⌝ }
+    ensures { λ _. ⌜ now (tables .exit) ≡ pathWritten (now (tables .entry)) place
+        (announced path (addBlob blobLimit blob
+        (blobsOf (recordAt pathsAt pathWidth (now (tables .entry)) place)))) ⌝ }
 {
     let at = PATHS_AT + PATH_WIDTH * place;
     put_head(tables, at, path);

@@ -39,7 +39,8 @@ pub fn put_return(
     expiry: u64,
 )
     requires { ⌜ (length (now tables) ≡ tableSize) × (place < returnCount) ⌝ }
-    ensures { λ _. ⌜ now (tables .exit) ≡ returnWritten (now (tables .entry)) place (makeReturn key arrival leaving expiry) ⌝ }
+    ensures { λ _. ⌜ now (tables .exit) ≡ returnWritten (now (tables .entry)) place
+        (makeReturn key arrival leaving expiry) ⌝ }
 {
     let at = RETURNS_AT + RETURN_WIDTH * place;
     octets::set_at(tables, at, 1);

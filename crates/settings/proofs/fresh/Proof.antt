@@ -28,10 +28,14 @@ same-length c = search needs
 
 returns-2 : tie.Need-returns-2
 returns-2 c =
-    let a = c .before .before .before .before .before .before .before .before .before .before .before .before .before .before .before .args in
+    let c6 = c .before .before .before .before .before .before in
+    let c11 = c6 .before .before .before .before .before in
+    let c13 = c11 .before .before in
+    let c15 = c13 .before .before in
+    let a = c15 .args in
     let wide : length (a .t2) ≡ addressWidth = search needs in
-    answers-after (rw (c .before .before .put-fresh-ports .ensures, c .before .before .before .before .before .before .copy-at .ensures, c .before .before .before .before .before .before .before .before .before .before .before .clear .ensures))
-    (fresh-done (a .tables .now) (a .t2) (c .before .before .before .before .before .before .before .before .before .before .before .before .before .if1 .left) wide)
+    answers-after (rw (c .before .before .put-fresh-ports .ensures, c6 .copy-at .ensures, c11 .clear .ensures))
+    (fresh-done (a .tables .now) (a .t2) (c13 .if1 .left) wide)
 
 pub fresh-spec : {M : Type 1} → statement M
 fresh-spec =

@@ -44,10 +44,13 @@ same-length-3 c = search needs
 returns-3 : tie.Need-returns-3
 unfolding ruleOf firstOf _then_otherwise_
 returns-3 c =
-    let a = c .before .before .before .before .before .before .args in
+    let c3 = c .before .before .before in
+    let c5 = c3 .before .before in
+    let c6 = c5 .before in
+    let a = c6 .args in
     let t = a .tables .now in
-    let ok = sym (c .before .before .before .check .ensures) ∙ not-false _ (c .before .before .if1 .left) in
-    call-refused (sets-port (a .port) (a .on) (a .mode)) t ok (known-bytes t (c .before .before .before .before .before .slice-known .given)) 9 (λ e. omega arith)
+    let ok = sym (c3 .check .ensures) ∙ not-false _ (c .before .before .if1 .left) in
+    call-refused (sets-port (a .port) (a .on) (a .mode)) t ok (known-bytes t (c5 .slice-known .given)) 9 (λ e. omega arith)
     (rw (or-right _ (le-leb _ _ (c .if3 .taken))))
 
 cast-put-port : tie.Need-cast-put-port
@@ -55,7 +58,10 @@ cast-put-port c = search needs
 
 put-port-requires : tie.Need-put-port-requires
 put-port-requires c κs =
-    (size-of (c .before .before .before .before .before .before .before .args .tables .now) (sym (c .before .before .before .before .check .ensures) ∙ not-false _ (c .before .before .before .if1 .left)), c .before .before .if2 .left)
+    let c3 = c .before .before .before in
+    let c4 = c3 .before in
+    let c7 = c4 .before .before .before in
+    (size-of (c7 .args .tables .now) (sym (c4 .check .ensures) ∙ not-false _ (c3 .if1 .left)), c .before .before .if2 .left)
 
 same-length-4 : tie.Need-same-length-4
 same-length-4 c = search needs
@@ -63,11 +69,17 @@ same-length-4 c = search needs
 returns-4 : tie.Need-returns-4
 unfolding ruleOf firstOf _then_otherwise_
 returns-4 c =
-    let a = c .before .before .before .before .before .before .before .before .before .before .args in
+    let c4 = c .before .before .before .before in
+    let c5 = c4 .before in
+    let c6 = c5 .before in
+    let c7 = c6 .before in
+    let c9 = c7 .before .before in
+    let c10 = c9 .before in
+    let a = c10 .args in
     let t = a .tables .now in
-    let ok = sym (c .before .before .before .before .before .before .before .check .ensures) ∙ not-false _ (c .before .before .before .before .before .before .if1 .left) in
-    let after = c .before .before .put-port .ensures ∙ port-set t ok (known-bytes t (c .before .before .before .before .before .before .before .before .before .slice-known .given)) (a .port) (a .on) (a .mode) (c .before .before .before .before .before .if2 .left) in
-    call-done (sets-port (a .port) (a .on) (a .mode)) t ok (rw (or-no (lt-leb _ _ (c .before .before .before .before .before .if2 .left)) (lt-leb _ _ (c .before .before .before .before .if3 .left)))) after
+    let ok = sym (c7 .check .ensures) ∙ not-false _ (c6 .if1 .left) in
+    let after = c .before .before .put-port .ensures ∙ port-set t ok (known-bytes t (c9 .slice-known .given)) (a .port) (a .on) (a .mode) (c5 .if2 .left) in
+    call-done (sets-port (a .port) (a .on) (a .mode)) t ok (rw (or-no (lt-leb _ _ (c5 .if2 .left)) (lt-leb _ _ (c4 .if3 .left)))) after
 
 pub set-port-spec : {M : Type 1} → statement M
 set-port-spec =

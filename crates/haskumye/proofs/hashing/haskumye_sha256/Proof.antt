@@ -11,8 +11,10 @@ sha256-requires c κs = search needs
 
 returns : tie.Need-returns
 returns c =
+    let c4 = c .before .before .before .before in
     let s = c .before .before .sha256 in
-    written (s .result .refusal) _ (ap (λ (d : Digest). d .refusal) (s .ensures)) _ (now (c .before .before .before .before .args .out)) (s .result .bytes) (ap (λ (d : Digest). d .bytes) (s .ensures)) (c .before .if1 .taken)
+    written (s .result .refusal) _ (ap (λ (d : Digest). d .refusal) (s .ensures)) _ (now (c4 .args .out)) (s .result .bytes)
+    (ap (λ (d : Digest). d .bytes) (s .ensures)) (c .before .if1 .taken)
 
 returns-2 : tie.Need-returns-2
 returns-2 c =

@@ -11,8 +11,10 @@ link-id-requires c κs = search needs
 
 returns : tie.Need-returns
 returns c =
+    let c4 = c .before .before .before .before in
     let s = c .before .before .link-id in
-    written (s .result .refusal) _ (ap (λ (a : LinkId). a .refusal) (s .ensures)) _ (now (c .before .before .before .before .args .id)) (s .result .bytes) (ap (λ (a : LinkId). a .bytes) (s .ensures)) (c .before .if1 .taken)
+    written (s .result .refusal) _ (ap (λ (a : LinkId). a .refusal) (s .ensures)) _ (now (c4 .args .id)) (s .result .bytes)
+    (ap (λ (a : LinkId). a .bytes) (s .ensures)) (c .before .if1 .taken)
 
 returns-2 : tie.Need-returns-2
 returns-2 c =

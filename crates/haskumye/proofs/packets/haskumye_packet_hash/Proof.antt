@@ -11,8 +11,10 @@ packet-hash-requires c κs = search needs
 
 returns : tie.Need-returns
 returns c =
+    let c4 = c .before .before .before .before in
     let s = c .before .before .packet-hash in
-    written (s .result .refusal) _ (ap (λ (a : PacketHash). a .refusal) (s .ensures)) _ (now (c .before .before .before .before .args .hash)) (s .result .bytes) (ap (λ (a : PacketHash). a .bytes) (s .ensures)) (c .before .if1 .taken)
+    written (s .result .refusal) _ (ap (λ (a : PacketHash). a .refusal) (s .ensures)) _ (now (c4 .args .hash)) (s .result .bytes)
+    (ap (λ (a : PacketHash). a .bytes) (s .ensures)) (c .before .if1 .taken)
 
 returns-2 : tie.Need-returns-2
 returns-2 c =

@@ -15,8 +15,10 @@ parts-bytes-requires c κs = search needs
 
 returns : tie.Need-returns
 returns c =
-    let s = c .before .before .before .read in
-    written (s .result .refusal) _ (ap (λ (a : Reading). a .refusal) (s .ensures)) _ (now (c .before .before .before .before .before .args .parts)) (c .parts-bytes .result)
+    let c3 = c .before .before .before in
+    let c5 = c3 .before .before in
+    let s = c3 .read in
+    written (s .result .refusal) _ (ap (λ (a : Reading). a .refusal) (s .ensures)) _ (now (c5 .args .parts)) (c .parts-bytes .result)
     (c .parts-bytes .ensures ∙ ap (λ (a : Reading). partsBytes (a .parts)) (s .ensures)) (c .before .before .if1 .taken)
 
 returns-2 : tie.Need-returns-2

@@ -17,16 +17,34 @@ write-requires c κs = search needs
 
 mul-result : tie.Need-mul-result
 mul-result c =
-    let a = c .before .before .before .before .before .before .before .before .args in
-    record { fits = omega (arith, written-most (c .before .before .write .result) (c .before .before .before .before .type-two-parts .result) (a .payload .now) (a .output .now) (c .before .before .write .ensures .0)) }
+    let c4 = c .before .before .before .before in
+    let c8 = c4 .before .before .before .before in
+    let a = c8 .args in
+    record {
+      fits = omega (
+        arith,
+        written-most (c .before .before .write .result) (c4 .type-two-parts .result) (a .payload .now) (a .output .now)
+            (c .before .before .write .ensures .0),
+      );
+    }
 
 wide-requires : tie.Need-wide-requires
 wide-requires c κs = search needs
 
 add-result : tie.Need-add-result
 add-result c =
-    let a = c .before .before .before .before .before .before .before .before .before .args in
-    record { fits = omega (arith, written-most (c .before .before .before .write .result) (c .before .before .before .before .before .type-two-parts .result) (a .payload .now) (a .output .now) (c .before .before .before .write .ensures .0), c .wide .ensures) }
+    let c3 = c .before .before .before in
+    let c5 = c3 .before .before in
+    let c9 = c5 .before .before .before .before in
+    let a = c9 .args in
+    record {
+      fits = omega (
+        arith,
+        written-most (c3 .write .result) (c5 .type-two-parts .result) (a .payload .now) (a .output .now)
+            (c3 .write .ensures .0),
+        c .wide .ensures,
+      );
+    }
 
 same-length : tie.Need-same-length
 same-length c = search needs
@@ -34,11 +52,16 @@ same-length c = search needs
 returns : tie.Need-returns
 unfolding writtenNumber
 returns c =
-    let a = c .before .before .before .before .before .before .before .before .before .args in
-    let w = c .before .before .before .write in
+    let c3 = c .before .before .before in
+    let c5 = c3 .before .before in
+    let c9 = c5 .before .before .before .before in
+    let a = c9 .args in
+    let w = c3 .write in
     let whole : Parts → Writing = λ (q : Parts). writing q (a .payload .now) (a .output .now) in
-    let same = ap whole (c .before .before .before .before .before .type-two-parts .ensures) in
-    (ap (λ (n : ℕ). w .result .length * 65536 + n) (c .wide .ensures) ∙ ap writtenNumber (w .ensures .0 ∙ ap (λ (x : Writing). x .answer) same), w .ensures .1 ∙ ap (λ (x : Writing). x .output) same)
+    let same = ap whole (c5 .type-two-parts .ensures) in (
+      ap (λ (n : ℕ). w .result .length * 65536 + n) (c .wide .ensures) ∙ ap writtenNumber (w .ensures .0 ∙ ap (λ (x : Writing). x .answer) same),
+      w .ensures .1 ∙ ap (λ (x : Writing). x .output) same,
+    )
 
 pub haskumye-write-spec : {M : Type 1} → statement M
 haskumye-write-spec =

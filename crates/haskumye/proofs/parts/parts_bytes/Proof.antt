@@ -42,8 +42,12 @@ slice-aggregate-copy-at-4 c = search needs
 
 copy-at-requires-2 : tie.Need-copy-at-requires-2
 copy-at-requires-2 c κs =
-    let wide : length (c .before .before .before .before .before .before .before .before .before .before .before .before .before .before .args .parts .destination) ≡ 16 = search needs in
-    omega (arith, wide, c .before .before .before .before .before .before .before .before .before .before .set-at .kept .0, c .before .before .before .before .before .before .before .set-at2 .kept .0, c .before .before .before .copy-at .kept .0)
+    let c3 = c .before .before .before in
+    let c7 = c3 .before .before .before .before in
+    let c10 = c7 .before .before .before in
+    let c14 = c10 .before .before .before .before in
+    let wide : length (c14 .args .parts .destination) ≡ 16 = search needs in
+    omega (arith, wide, c10 .set-at .kept .0, c7 .set-at2 .kept .0, c3 .copy-at .kept .0)
 
 slice-aggregate-set-at-3 : tie.Need-slice-aggregate-set-at-3
 slice-aggregate-set-at-3 c = search needs
@@ -53,11 +57,18 @@ set-at-requires-3 c κs = search needs
 
 returns : tie.Need-returns
 returns c =
-    let q : Parts = c .before .before .before .before .before .before .before .before .before .before .before .before .before .before .before .before .before .before .before .args .parts in
+    let c4 = c .before .before .before .before in
+    let c8 = c4 .before .before .before .before in
+    let c12 = c8 .before .before .before .before in
+    let c15 = c12 .before .before .before in
+    let c19 = c15 .before .before .before .before in
+    let q : Parts = c19 .args .parts in
     let wide : Wide q = record { relay = search needs; destination = search needs } in
     c .before .set-at3 .ensures
     ∙ ap (λ (r : List ℕ). patch r 34 (q .context ∷ []))
-    (c .before .before .before .before .copy-at2 .ensures ∙ ap (λ (r : List ℕ). patch r 18 (q .destination)) (c .before .before .before .before .before .before .before .before .copy-at .ensures ∙ ap (λ (r : List ℕ). patch r 2 (q .relay)) (c .before .before .before .before .before .before .before .before .before .before .before .before .set-at2 .ensures ∙ ap (λ (r : List ℕ). patch r 1 (q .hops ∷ [])) (c .before .before .before .before .before .before .before .before .before .before .before .before .before .before .before .set-at .ensures))))
+    (c4 .copy-at2 .ensures ∙ ap (λ (r : List ℕ). patch r 18 (q .destination))
+    (c8 .copy-at .ensures ∙ ap (λ (r : List ℕ). patch r 2 (q .relay)) (c12 .set-at2 .ensures ∙ ap (λ (r : List ℕ). patch r 1 (q .hops ∷ []))
+    (c15 .set-at .ensures))))
     ∙ parts-written (replicate 35 0) (length-replicate {A = ℕ} 35 0) q wide
 
 pub parts-bytes-spec : {M : Type 1} → statement M

@@ -53,16 +53,21 @@ loop-less c = search needs
 
 loop-again : tie.Need-loop-again Inv-loop μ-loop
 loop-again c =
-    let a = c .before .before .before .before .before .before .before .before .before .before .args in
-    let s = c .before .before .before .before .before .before .before .loop in
+    let c4 = c .before .before .before .before in
+    let c5 = c4 .before in
+    let c6 = c5 .before in
+    let c7 = c6 .before in
+    let c10 = c7 .before .before .before in
+    let a = c10 .args in
+    let s = c7 .loop in
     let ports = relayOf (a .tables .now) .ports in
-    let settings = c .before .before .before .before .settings-of .ensures ∙ ap (λ (i : ℕ). portBytes (getD ports i noPort)) (c .before .before .before .before .before .preimage-of .ensures) in (
+    let settings = c4 .settings-of .ensures ∙ ap (λ (i : ℕ). portBytes (getD ports i noPort)) (c5 .preimage-of .ensures) in (
       search needs,
       (
         search needs,
         c .before .copy-at .ensures
             ∙ ap (patch (s .moved) (portWidth * s .n)) settings
-            ∙ moved-more (a .map .now) ports _ (search needs) (s .n) (s .moved) (s .inv .1 .1) (c .before .before .before .before .before .before .loop-test .taken),
+            ∙ moved-more (a .map .now) ports _ (search needs) (s .n) (s .moved) (s .inv .1 .1) (c6 .loop-test .taken),
       ),
     )
 

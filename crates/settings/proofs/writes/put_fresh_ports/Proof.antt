@@ -33,8 +33,11 @@ loop-less c = search needs
 
 loop-again : tie.Need-loop-again Inv-loop μ-loop
 loop-again c =
-    let s = c .before .before .before .before .before .loop in
-    let wrote = c .before .before .put-port .ensures ∙ ports-more (c .before .before .before .before .before .before .before .args .tables .now) (c .before .before .before .before .before .before .before .pre) (s .tables) (s .i) (s .inv .1 .1) (c .before .before .before .before .loop-test .taken) in
+    let c4 = c .before .before .before .before in
+    let c5 = c4 .before in
+    let c7 = c5 .before .before in
+    let s = c5 .loop in
+    let wrote = c .before .before .put-port .ensures ∙ ports-more (c7 .args .tables .now) (c7 .pre) (s .tables) (s .i) (s .inv .1 .1) (c4 .loop-test .taken) in
     (search needs, (search needs, wrote))
 
 same-length : tie.Need-same-length Inv-loop μ-loop

@@ -36,10 +36,13 @@ same-length c = search needs
 returns : tie.Need-returns
 unfolding portBytes
 returns c =
-    let a = c .before .before .before .before .before .before .before .before .before .before .args in
+    let c6 = c .before .before .before .before .before .before in
+    let c7 = c6 .before in
+    let c10 = c7 .before .before .before in
+    let a = c10 .args in
     let at : ℕ = portsAt + portWidth * a .port in
-    rw (c .before .before .set-at2 .ensures, c .before .before .before .before .before .before .set-at .ensures, c .before .before .before .before .before .before .before .mark-of .ensures)
-    (fields-written portForm (makePort (a .on) (a .mode)) (a .tables .now) at (omega (arith, c .before .before .before .before .before .before .before .before .before .before .pre .0, c .before .before .before .before .before .before .before .before .before .before .pre .1)))
+    rw (c .before .before .set-at2 .ensures, c6 .set-at .ensures, c7 .mark-of .ensures)
+    (fields-written portForm (makePort (a .on) (a .mode)) (a .tables .now) at (omega (arith, c10 .pre .0, c10 .pre .1)))
 
 pub put-port-spec : {M : Type 1} → statement M
 put-port-spec =
