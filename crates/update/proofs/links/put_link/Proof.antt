@@ -29,9 +29,12 @@ slice-aggregate-copy-at c = search needs
 
 copy-at-requires : tie.Need-copy-at-requires
 copy-at-requires c κs =
-    let c10 = c .before .before .before .before .before .before .before .before .before .before in
-    let wide : length (c10 .args .link .id) ≡ addressWidth = search needs in
-    omega (arith, c10 .pre .0, c10 .pre .1)
+    let wide : length (c .before .before .before .before .before .before .before .before .before .before .args .link .id) ≡ addressWidth = search needs in
+    omega (
+      arith,
+      c .before .before .before .before .before .before .before .before .before .before .pre .0,
+      c .before .before .before .before .before .before .before .before .before .before .pre .1,
+    )
 
 add-set-at : tie.Need-add-set-at
 add-set-at c = search needs
@@ -68,17 +71,27 @@ set-at-requires-6 c κs = search needs
 
 add-write-number-at : tie.Need-add-write-number-at
 add-write-number-at c =
-    let c15 = c .before .before .before .before .before .before .before .before .before .before .before .before .before .before .before in
-    let c30 = c15 .before .before .before .before .before .before .before .before .before .before .before .before .before .before .before in
-    let c35 = c30 .before .before .before .before .before in
-    omega (arith, c35 .pre .0, c35 .pre .1)
+    omega (
+      arith,
+      c .before .before .before .before .before .before .before .before .before .before .before .before .before .before .before .before
+          .before .before .before .before .before .before .before .before .before .before .before .before .before .before .before .before .before .before
+          .before .pre .0,
+      c .before .before .before .before .before .before .before .before .before .before .before .before .before .before .before
+          .before .before .before .before .before .before .before .before .before .before .before .before .before .before .before .before .before .before
+          .before .before .pre .1,
+    )
 
 write-number-at-requires : tie.Need-write-number-at-requires
 write-number-at-requires c κs =
-    let c15 = c .before .before .before .before .before .before .before .before .before .before .before .before .before .before .before in
-    let c30 = c15 .before .before .before .before .before .before .before .before .before .before .before .before .before .before .before in
-    let c35 = c30 .before .before .before .before .before in
-    omega (arith, c35 .pre .0, c35 .pre .1)
+    omega (
+      arith,
+      c .before .before .before .before .before .before .before .before .before .before .before .before .before .before .before .before
+          .before .before .before .before .before .before .before .before .before .before .before .before .before .before .before .before .before .before
+          .before .pre .0,
+      c .before .before .before .before .before .before .before .before .before .before .before .before .before .before .before
+          .before .before .before .before .before .before .before .before .before .before .before .before .before .before .before .before .before .before
+          .before .before .pre .1,
+    )
 
 same-length : tie.Need-same-length
 same-length c = search needs
@@ -86,29 +99,36 @@ same-length c = search needs
 returns : tie.Need-returns
 unfolding linkWritten linkBytes
 returns c =
-    let c6 = c .before .before .before .before .before .before in
-    let c7 = c6 .before in
-    let c11 = c7 .before .before .before .before in
-    let c15 = c11 .before .before .before .before in
-    let c19 = c15 .before .before .before .before in
-    let c23 = c19 .before .before .before .before in
-    let c27 = c23 .before .before .before .before in
-    let c32 = c27 .before .before .before .before .before in
-    let c38 = c32 .before .before .before .before .before .before in
-    let a = c38 .args in
-    let wide : length (a .link .id) ≡ addressWidth = let good = c38 .good .1 .1 .0 in search (needs, good) in
+    let a = c .before .before .before .before .before .before .before .before .before .before .before .before .before .before .before .before .before
+    .before .before .before .before .before .before .before .before .before .before .before .before .before .before .before .before .before .before
+    .before .before .before .args in
+    let wide : length (a .link .id) ≡ addressWidth = let good = c .before .before .before .before .before .before .before .before .before .before
+    .before .before .before .before .before .before .before .before .before .before .before .before .before .before .before .before .before .before
+    .before .before .before .before .before .before .before .before .before .before .good .1 .1 .0 in search (needs, good) in
     let at : ℕ = linksAt + linkWidth * a .place in
-    let all = record-written linkForm (a .link) (a .tables .now) at (omega (arith, c38 .pre .0, c38 .pre .1)) in
+    let all = record-written linkForm (a .link) (a .tables .now) at (omega (
+      arith,
+      c .before .before .before .before .before .before .before .before .before .before .before .before .before .before .before .before .before
+          .before .before .before .before .before .before .before .before .before .before .before .before .before .before .before .before .before .before
+          .before .before .before .pre .0,
+      c .before .before .before .before .before .before .before .before .before .before .before .before .before
+          .before .before .before .before .before .before .before .before .before .before .before .before .before .before .before .before .before .before
+          .before .before .before .before .before .before .before .pre .1,
+    )) in
     rw (
       c .before .before .write-number-at .ensures,
-      c6 .set-at6 .ensures,
-      c7 .mark-of .ensures,
-      c11 .set-at5 .ensures,
-      c15 .set-at4 .ensures,
-      c19 .set-at3 .ensures,
-      c23 .set-at2 .ensures,
-      c27 .copy-at .ensures,
-      c32 .set-at .ensures,
+      c .before .before .before .before .before .before .set-at6 .ensures,
+      c .before .before .before .before .before .before .before .mark-of .ensures,
+      c .before .before .before .before .before .before .before .before .before .before .before .set-at5 .ensures,
+      c .before .before .before .before .before .before .before .before .before .before .before .before .before .before .before .set-at4 .ensures,
+      c .before .before .before .before .before .before .before .before .before .before .before .before .before .before .before .before .before .before
+          .before .set-at3 .ensures,
+      c .before .before .before .before .before .before .before .before .before .before .before .before .before .before
+          .before .before .before .before .before .before .before .before .before .set-at2 .ensures,
+      c .before .before .before .before .before .before .before .before .before .before .before .before .before .before .before .before .before .before
+          .before .before .before .before .before .before .before .before .before .copy-at .ensures,
+      c .before .before .before .before .before .before .before .before .before .before .before .before .before .before .before .before .before .before
+          .before .before .before .before .before .before .before .before .before .before .before .before .before .before .set-at .ensures,
     )
     (rw (exactly-same addressWidth (a .link .id) wide) at all)
 

@@ -42,11 +42,15 @@ slice-aggregate-copy-at-2 c = search needs
 
 copy-at-requires-2 : tie.Need-copy-at-requires-2
 copy-at-requires-2 c κs =
-    let c11 = c .before .before .before .before .before .before .before .before .before .before .before in
-    let c22 = c11 .before .before .before .before .before .before .before .before .before .before .before in
-    let good = c22 .good .1 .1 .0 in
-    let wide : length (c22 .args .path .«next_hop») ≡ addressWidth = search (needs, good) in
-    omega (arith, c22 .pre)
+    let good = c .before .before .before .before .before .before .before .before .before .before .before .before .before .before .before .before
+    .before .before .before .before .before .before .good .1 .1 .0 in
+    let wide : length (c .before .before .before .before .before .before .before .before .before .before .before .before .before .before .before
+    .before .before .before .before .before .before .before .args .path .«next_hop») ≡ addressWidth = search (needs, good) in
+    omega (
+      arith,
+      c .before .before .before .before .before .before .before .before .before .before .before .before .before .before .before .before
+          .before .before .before .before .before .before .pre,
+    )
 
 add-write-number-at : tie.Need-add-write-number-at
 add-write-number-at c = search needs
@@ -59,24 +63,26 @@ same-length c = search needs
 
 returns : tie.Need-returns
 returns c =
-    let c6 = c .before .before .before .before .before .before in
-    let c11 = c6 .before .before .before .before .before in
-    let c15 = c11 .before .before .before .before in
-    let c19 = c15 .before .before .before .before in
-    let c24 = c19 .before .before .before .before .before in
-    let c29 = c24 .before .before .before .before .before in
-    let a = c29 .args in
-    let good = c29 .good .1 .1 .0 in
+    let a = c .before .before .before .before .before .before .before .before .before .before .before .before .before .before .before .before .before
+    .before .before .before .before .before .before .before .before .before .before .before .before .args in
+    let good = c .before .before .before .before .before .before .before .before .before .before .before .before .before .before .before .before
+    .before .before .before .before .before .before .before .before .before .before .before .before .before .good .1 .1 .0 in
     let to : length (a .path .destination) ≡ addressWidth = search (needs, good) in
     let by : length (a .path .«next_hop») ≡ addressWidth = search (needs, good) in
-    let all = head-written (a .tables .now) (a .at) (a .path) (omega (arith, c29 .pre)) in
+    let all = head-written (a .tables .now) (a .at) (a .path) (omega (
+      arith,
+      c .before .before .before .before .before .before .before .before .before .before .before .before .before .before .before .before .before .before
+          .before .before .before .before .before .before .before .before .before .before .before .pre,
+    )) in
     rw (
       c .before .before .write-number-at .ensures,
-      c6 .copy-at2 .ensures,
-      c11 .set-at3 .ensures,
-      c15 .set-at2 .ensures,
-      c19 .copy-at .ensures,
-      c24 .set-at .ensures,
+      c .before .before .before .before .before .before .copy-at2 .ensures,
+      c .before .before .before .before .before .before .before .before .before .before .before .set-at3 .ensures,
+      c .before .before .before .before .before .before .before .before .before .before .before .before .before .before .before .set-at2 .ensures,
+      c .before .before .before .before .before .before .before .before .before .before .before .before .before .before .before .before .before .before
+          .before .copy-at .ensures,
+      c .before .before .before .before .before .before .before .before .before .before .before .before .before .before
+          .before .before .before .before .before .before .before .before .before .before .set-at .ensures,
     )
     (rw (exactly-same addressWidth (a .path .destination) to, exactly-same addressWidth (a .path .«next_hop») by) at all)
 

@@ -61,24 +61,27 @@ same-length c = search needs
 returns : tie.Need-returns
 unfolding returnWritten returnBytes
 returns c =
-    let c6 = c .before .before .before .before .before .before in
-    let c10 = c6 .before .before .before .before in
-    let c14 = c10 .before .before .before .before in
-    let c18 = c14 .before .before .before .before in
-    let c23 = c18 .before .before .before .before .before in
-    let c26 = c23 .before .before .before in
-    let a = c26 .args in
+    let a = c .before .before .before .before .before .before .before .before .before .before .before .before .before .before .before .before .before
+    .before .before .before .before .before .before .before .before .before .args in
     let wide : length (a .t3) ≡ addressWidth = search needs in
     let at : ℕ = returnsAt + returnWidth * a .place in
     let x = makeReturn (a .t3) (a .arrival) (a .leaving) (a .expiry) in
-    let all = record-written returnForm x (a .tables .now) at (omega (arith, c26 .pre .0, c26 .pre .1)) in
+    let all = record-written returnForm x (a .tables .now) at (omega (
+      arith,
+      c .before .before .before .before .before .before .before .before .before .before .before .before .before .before .before .before .before .before
+          .before .before .before .before .before .before .before .before .pre .0,
+      c .before .before .before .before .before .before .before .before .before .before .before .before .before .before .before .before .before .before
+          .before .before .before .before .before .before .before .before .pre .1,
+    )) in
     rw (
       c .before .before .write-number-at2 .ensures,
-      c6 .write-number-at .ensures,
-      c10 .set-at3 .ensures,
-      c14 .set-at2 .ensures,
-      c18 .copy-at .ensures,
-      c23 .set-at .ensures,
+      c .before .before .before .before .before .before .write-number-at .ensures,
+      c .before .before .before .before .before .before .before .before .before .before .set-at3 .ensures,
+      c .before .before .before .before .before .before .before .before .before .before .before .before .before .before .set-at2 .ensures,
+      c .before .before .before .before .before .before .before .before .before .before .before .before .before .before .before .before .before .before
+          .copy-at .ensures,
+      c .before .before .before .before .before .before .before .before .before .before .before .before .before .before .before
+          .before .before .before .before .before .before .before .before .set-at .ensures,
     )
     (rw (rw (exactly-same addressWidth (a .t3) wide) at all))
 
