@@ -33,7 +33,8 @@ use Rattle.rules.specs.declared.Tally.{Tally}
 use Rattle.tables.specs.Places.{tableSize}
 use Rattle.tables.specs.Layout.{relayOf, wellFormed}
 use Rattle.tables.proofs.Whole.{again, ok-relay}
-use Rattle.settings.specs.Calls.{written, called, freshOn}
+use Rattle.tables.specs.Called.{written, called}
+use Rattle.settings.specs.Calls.{freshOn}
 use Rattle.relay.specs.Promise.{inBytes, packetOn}
 use Rattle.demands.specs.Bytes.{ofPacket, ofCalled, performOn}
 use Rattle.demands.specs.Refusals.{refusal, refusalOn, refusing, isRefusal}

@@ -25,7 +25,9 @@ use Rattle.tables.specs.Places.{addressWidth, tableSize}
 use Rattle.tables.specs.Layout.{relayOf, bytesOf, wellFormed}
 use Rattle.tables.specs.Shape.{isBytes, shaped}
 use Rattle.tables.proofs.Whole.{again, ok-relay, shaped-of, back}
-use Rattle.settings.specs.Calls.{Called, written, called, renumberOn, freshOn}
+use Rattle.tables.specs.Called.{Called, written, called}
+use Rattle.settings.specs.Calls.{freshOn}
+use Rattle.renumbering.specs.Calls.{renumberOn}
 use Rattle.demands.specs.Given.{CallBytes, CallsBytes}
 use Rattle.demands.specs.Bytes.{repliesOn, tablesAfterOn, tallyAfterOn}
 use Rattle.demands.proofs.Shape.{stays-shaped, fresh-shaped}
@@ -168,5 +170,5 @@ module _ (before later : List Call) (b : CallsBytes before) (l : CallsBytes late
 -- tables renamed are what the renumbering call writes: no second renaming is defined
 pub renamed-by-the-call : (m tables : List ℕ) → wellFormed tables ≡ true → oneToOne m ≡ true
     → renumberOn tables m ≡ record { refusal = 0; tables = renamedTables m tables }
-unfolding renumberOn called written settle tableRefusal ruleOf firstOf settled _then_otherwise_
+unfolding called written settle tableRefusal ruleOf firstOf settled _then_otherwise_
 renamed-by-the-call m tables h ok = rw (h, ok-relay tables h, ok)

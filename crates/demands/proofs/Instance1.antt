@@ -1,5 +1,5 @@
--- Demand 1's theorem on the tables that calls led to: each row but 7 and 10 refuses a call, and 7 tables of no bytes; then a packet that no row refuses,
--- and what the calls after a refusal reply.
+-- Demand 1's theorem on the tables that calls led to: every row refuses a call, 7 on tables of no bytes and 10 on those of a relay without an empty place;
+-- then a packet that no row refuses, and what the calls after a refusal reply.
 use Prim.Native.Nat.{ℕ}
 use mathlib.Core.Bool.{true, false}
 use mathlib.Core.List.{List, [], _∷_}
@@ -8,12 +8,15 @@ use lib.Dec.{eqb, lit<}
 use lib.ListN.{replicate, take}
 use Rattle.octets.specs.Bytes.{Bytes}
 use Rattle.octets.specs.Choice.{_then_otherwise_}
+use Rattle.rules.specs.Relay.{used, Relay, makeRelay}
 use Rattle.rules.specs.Calls.{newTally}
 use Rattle.rules.specs.Run.{Call, packet, port-setting, adding, removing, renumbering, Reply, numbered}
 use Rattle.rules.specs.declared.Tally.{Tally}
 use Rattle.rules.proofs.Unfolding.{rules}
 use Rattle.rules.proofs.Scene.{own, dataBytes, receiptBytes, arrival, arrives}
+use Rattle.rules.proofs.Outcomes.{preparedRelay}
 use Rattle.tables.specs.Layout.{bytesOf, wellFormed}
+use Rattle.tables.specs.Shape.{isByte, isBytes, shaped}
 use Rattle.tables.proofs.Whole.{back, ok-bytes, bytes-bytes}
 use Rattle.demands.specs.Bytes.{OutcomeOn, performOn, repliesOn, tablesAfterOn, tallyAfterOn}
 use Rattle.demands.specs.Refusals.{refusal, refusalOn, refusing, isRefusal}
@@ -41,9 +44,13 @@ tables-are = there .tables
 bytes : Bytes tables
 bytes = subst Bytes (sym tables-are) (bytes-bytes midwayRelay (midway .shape) (midway .ok))
 
-row-is : (c : Call) {n : ℕ} → refusal c midwayRelay ≡ n → refusalOn c tables ≡ n
+-- a relay's bytes are refused by its rows
+row-of : {r : Relay} → Held r → (c : Call) {n : ℕ} → refusal c r ≡ n → refusalOn c (bytesOf r) ≡ n
 unfolding refusalOn _then_otherwise_
-row-is c e = rw (tables-are, ok-bytes midwayRelay (midway .shape) (midway .ok), back midwayRelay (midway .shape) (midway .ok)) e
+row-of {r} h c e = rw (ok-bytes r (h .shape) (h .ok), back r (h .shape) (h .ok)) e
+
+row-is : (c : Call) {n : ℕ} → refusal c midwayRelay ≡ n → refusalOn c tables ≡ n
+row-is c e = ap (refusalOn c) tables-are ∙ row-of midway c e
 
 -- ---- refused: the number alone, and nothing is changed
 abbrev RefusedOn : List ℕ → Call → ℕ → Type 0
@@ -63,6 +70,20 @@ refused c n e z = by-row tables bytes c n (row-is c e) z
 pub seven : RefusedOn [] (arrives (receiptBytes 5) 2500 1) 7
 unfolding refusalOn wellFormed _then_otherwise_ rules
 seven = by-row [] (λ i. lit< tt) (arrives (receiptBytes 5) 2500 1) 7 refl refl
+
+-- sixteen local addresses
+abbrev fullRelay : Relay
+fullRelay =
+    makeRelay own 0 (preparedRelay .ports) (replicate 16 (used guest))
+    (preparedRelay .paths) (preparedRelay .links) (preparedRelay .returns) (preparedRelay .hashes)
+
+full : Held fullRelay
+unfolding rules shaped isBytes isByte
+full = record { shape = refl; ok = refl }
+
+pub ten : RefusedOn (bytesOf fullRelay) (adding own) 10
+unfolding refusal rules
+ten = by-row (bytesOf fullRelay) (bytes-bytes fullRelay (full .shape) (full .ok)) (adding own) 10 (row-of full (adding own) refl) refl
 
 pub rows : Refused (packet (arrival (receiptBytes 5) 2500 1) (replicate 499 0xee)) 6
     × Refused (arrives (receiptBytes 5) 2500 77) 4

@@ -8,7 +8,7 @@ use lib.ListN.{length, take, replicate, length-replicate}
 use Rattle.octets.specs.Index.{_and_}
 use Rattle.octets.specs.Choice.{_then_otherwise_}
 use Rattle.packet.specs.Read.{payload, longestPacket, noAddress, reading}
-use Rattle.packet.specs.Write.{Writing, writing, writingRefusal, readBack, Wide}
+use Rattle.packet.specs.Write.{Writing, writing, writingRows, writingRefusal, readBack, Wide}
 use Rattle.packet.specs.declared.Parts.{Parts}
 use Rattle.rules.specs.Relay.{Relay, fresh}
 use Rattle.rules.specs.Refusals.{all, tableOk, tablesOk}
@@ -132,17 +132,17 @@ abbrev writtenReceipt : List ℕ
 writtenReceipt = receiptBytes 5 ++ replicate 417 0xee
 
 receipt-written : writing (receiptParts own) receiptBody blank ≡ record { answer = record { refusal = 0; length = 83 }; output = writtenReceipt }
-unfolding lists layout writing writingRefusal
+unfolding lists layout writing writingRows writingRefusal
 receipt-written = refl
 
 pub receipt-read : reading longestPacket (take 83 writtenReceipt) ≡ record { refusal = 0; parts = receiptParts noAddress }
-unfolding lists layout writingRefusal readBack
+unfolding lists layout writingRows writingRefusal readBack
 receipt-read =
     ap (λ (w : Writing). reading longestPacket (take (w .answer .length) (w .output))) (sym receipt-written)
     ∙ written-then-read (receiptParts own) receiptBody blank wide refl
 
 pub receipt-payload : payload (take 83 writtenReceipt) ≡ receiptBody
-unfolding lists layout writingRefusal
+unfolding lists layout writingRows writingRefusal
 receipt-payload =
     ap (λ (w : Writing). payload (take (w .answer .length) (w .output))) (sym receipt-written)
     ∙ written-payload (receiptParts own) receiptBody blank wide refl

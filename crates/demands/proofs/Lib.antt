@@ -3,6 +3,7 @@
 pub mod Announced
 pub mod Made
 pub mod Shape
+pub mod Promised
 pub mod Demand1
 pub mod Demand2
 pub mod Demand3

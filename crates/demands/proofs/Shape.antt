@@ -28,49 +28,10 @@ use Rattle.rules.proofs.Valid.{Valid, valid-of, step-ok}
 use Rattle.tables.specs.Places.{addressWidth}
 use Rattle.tables.specs.Shape.{isBytes, pathShaped, linkShaped, returnShaped, hashShaped, shaped}
 use Rattle.tables.proofs.All.{is-each}
+use Rattle.tables.proofs.Shaped.{shape, Shaped, shaped-parts, shaped-from}
 use Rattle.demands.specs.Given.{CallBytes, CallsBytes}
 use Rattle.demands.proofs.Announced.{WayBlob, PlanBlob, plan-blob}
 use Rattle.demands.proofs.Made.{remembered-shaped, return-shaped, link-made, link-renewed, path-made, accepted-whole, path-renumbered, link-renumbered, return-renumbered}
-
--- what each part says
-abbrev shape : Property
-shape =
-    record {
-      own = λ own. isBytes addressWidth own ≡ true;
-      clock = λ clock. Unit {0};
-      ports = λ ports. Unit {0};
-      locals = λ locals. all (slotOk (isBytes addressWidth)) locals ≡ true;
-      paths = λ paths. all (slotOk pathShaped) paths ≡ true;
-      links = λ links. all (slotOk linkShaped) links ≡ true;
-      returns = λ ring. all (slotOk returnShaped) (ring .slots) ≡ true;
-      hashes = λ ring. all (slotOk hashShaped) (ring .slots) ≡ true;
-    }
-
-abbrev Shaped : Relay → Type 0
-Shaped = Holds shape
-
-shaped-of : (r : Relay) → shaped r ≡ true → Shaped r
-unfolding shaped
-shaped-of r h₁ =
-    let h₂ = and-right _ _ h₁ in
-    let h₃ = and-right _ _ h₂ in
-    let h₄ = and-right _ _ h₃ in
-    let h₅ = and-right _ _ h₄ in
-    record {
-      own = and-left _ _ h₁;
-      clock = tt;
-      ports = tt;
-      locals = and-left _ _ h₂;
-      paths = and-left _ _ h₃;
-      links = and-left _ _ h₄;
-      returns = and-left _ _ h₅;
-      hashes = and-right _ _ h₅;
-    }
-
-shaped-from : (r : Relay) → Shaped r → shaped r ≡ true
-unfolding shaped
-shaped-from r s =
-    and-both (s .own) (and-both (s .locals) (and-both (s .paths) (and-both (s .links) (and-both (s .returns) (s .hashes)))))
 
 -- ---- what an accepted packet writes
 -- the records that a way follows are of their shapes, and a path's hops are a byte
@@ -146,7 +107,7 @@ call-shaped (on-tables c) r t b ok s = table-kept Shaped s c t (λ _. table-held
 
 -- one call keeps the shape
 pub step-shaped : (c : Call) (r : Relay) (t : Tally) → CallBytes c → tablesOk r ≡ true → shaped r ≡ true → shaped (perform c r t .relay) ≡ true
-step-shaped c r t b ok s = shaped-from (perform c r t .relay) (call-shaped c r t b (valid-of r ok) (shaped-of r s))
+step-shaped c r t b ok s = shaped-from (perform c r t .relay) (call-shaped c r t b (valid-of r ok) (shaped-parts r s))
 
 -- and so does any list of calls
 pub stays-shaped : (cs : List Call) (r : Relay) (t : Tally) → CallsBytes cs → tablesOk r ≡ true → shaped r ≡ true → shaped (relayAfter cs r t) ≡ true

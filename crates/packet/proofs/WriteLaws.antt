@@ -34,8 +34,10 @@ module _ (q : Parts) (body : List ℕ) where
     where
       go : (t : Bool) → typeTwo (q .header) ≡ t → length (packetOf q body) ≡ payloadStart (q .header) + length body
       go true e =
+          let end = q .destination ++ (q .context ∷ body) in
+          let long = length-append (q .relay) end in
           ap length (packet-two e)
-          ∙ omega (arith, length-append (q .relay) (q .destination ++ (q .context ∷ body)), length-append (q .destination) (q .context ∷ body), w .relay, w .destination, start-two (q .header) e)
+          ∙ omega (arith, length-append (q .destination) (q .context ∷ body), w .relay, w .destination, start-two (q .header) e)
       go false e =
           ap length (packet-one e)
           ∙ omega (arith, length-append (q .destination) (q .context ∷ body), w .destination, start-one (q .header) e)
@@ -72,7 +74,8 @@ module _ (q : Parts) (body output : List ℕ) where
   writing-refused ne = then-false _ _ (ne-eqb (writingRefusal (length output) q body) 0 ne)
 
 -- ---- what the code of writing leaves: bytes written one after the other are one write
-module _ (out : List ℕ) (at : ℕ) (destination : List ℕ) (context : ℕ) (body : List ℕ) (wide : length destination ≡ 16) (room : at + 17 + length body ≤ length out) where
+module _ (out : List ℕ) (at : ℕ) (destination : List ℕ) (context : ℕ) (body : List ℕ) (wide : length destination ≡ 16)
+    (room : at + 17 + length body ≤ length out) where
   pub end-written : patch (patch (patch out at destination) (at + 16) (context ∷ [])) (at + 17) body ≡ patch out at (destination ++ (context ∷ body))
   end-written =
       ap (λ (r : List ℕ). patch r (at + 17) body) (patch-join out at (at + 16) destination (context ∷ []) (omega arith) (omega arith))
@@ -80,25 +83,31 @@ module _ (out : List ℕ) (at : ℕ) (destination : List ℕ) (context : ℕ) (b
       ∙ ap (patch out at) (append-assoc destination (context ∷ []) body)
 
 module _ (out : List ℕ) (q : Parts) (body : List ℕ) (wide : Wide q) (room : payloadStart (q .header) + length body ≤ length out) where
-  end-length : length (q .destination ++ (q .context ∷ body)) ≡ 17 + length body
+  -- what both types begin and end with
+  abbrev begun : List ℕ
+  begun = patch (patch out 0 (q .header ∷ [])) 1 (q .hops ∷ [])
+
+  abbrev end : List ℕ
+  end = q .destination ++ (q .context ∷ body)
+
+  end-length : length end ≡ 17 + length body
   end-length = length-append (q .destination) (q .context ∷ body) ∙ omega (arith, wide .destination)
 
-  head-written : 2 ≤ length out → patch (patch out 0 (q .header ∷ [])) 1 (q .hops ∷ []) ≡ patch out 0 (q .header ∷ q .hops ∷ [])
-  head-written l = patch-join out 0 1 (q .header ∷ []) (q .hops ∷ []) refl l
+  begun-written : 2 ≤ length out → begun ≡ patch out 0 (q .header ∷ q .hops ∷ [])
+  begun-written l = patch-join out 0 1 (q .header ∷ []) (q .hops ∷ []) refl l
 
-  pub one-written : typeTwo (q .header) ≡ false
-      → patch (patch (patch out 0 (q .header ∷ [])) 1 (q .hops ∷ [])) 2 (q .destination ++ (q .context ∷ body)) ≡ patch out 0 (packetOf q body)
+  pub one-written : typeTwo (q .header) ≡ false → patch begun 2 end ≡ patch out 0 (packetOf q body)
   one-written t =
       let start : payloadStart (q .header) ≡ 19 = start-one (q .header) t in
-      ap (λ (r : List ℕ). patch r 2 (q .destination ++ (q .context ∷ body))) (head-written (omega arith))
-      ∙ patch-join out 0 2 (q .header ∷ q .hops ∷ []) (q .destination ++ (q .context ∷ body)) refl (omega (arith, end-length))
+      ap (λ (r : List ℕ). patch r 2 end) (begun-written (omega arith))
+      ∙ patch-join out 0 2 (q .header ∷ q .hops ∷ []) end refl (omega (arith, end-length))
       ∙ ap (patch out 0) (sym (packet-one q body t))
 
-  pub two-written : typeTwo (q .header) ≡ true
-      → patch (patch (patch (patch out 0 (q .header ∷ [])) 1 (q .hops ∷ [])) 2 (q .relay)) 18 (q .destination ++ (q .context ∷ body)) ≡ patch out 0 (packetOf q body)
+  pub two-written : typeTwo (q .header) ≡ true → patch (patch begun 2 (q .relay)) 18 end ≡ patch out 0 (packetOf q body)
   two-written t =
       let start : payloadStart (q .header) ≡ 35 = start-two (q .header) t in
-      ap (λ (r : List ℕ). patch (patch r 2 (q .relay)) 18 (q .destination ++ (q .context ∷ body))) (head-written (omega arith))
-      ∙ ap (λ (r : List ℕ). patch r 18 (q .destination ++ (q .context ∷ body))) (patch-join out 0 2 (q .header ∷ q .hops ∷ []) (q .relay) refl (omega (arith, wide .relay)))
-      ∙ patch-join out 0 18 (q .header ∷ q .hops ∷ q .relay) (q .destination ++ (q .context ∷ body)) (omega (arith, wide .relay)) (omega (arith, end-length))
+      let relayed = patch-join out 0 2 (q .header ∷ q .hops ∷ []) (q .relay) refl (omega (arith, wide .relay)) in
+      ap (λ (r : List ℕ). patch (patch r 2 (q .relay)) 18 end) (begun-written (omega arith))
+      ∙ ap (λ (r : List ℕ). patch r 18 end) relayed
+      ∙ patch-join out 0 18 (q .header ∷ q .hops ∷ q .relay) end (omega (arith, wide .relay)) (omega (arith, end-length))
       ∙ ap (patch out 0) (sym (packet-two q body t))

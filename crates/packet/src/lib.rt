@@ -1,7 +1,7 @@
 // The packet layout of document 01: reading, writing, packet hash, link id and announce fields.
 // Entry points: read, read_within, reading_refusal, payload, payload_start, write, packet_hash, link_id,
-// announced_destination, least_announce, emission, and the header's bits. parts_of, type_two_parts, hash_of, link_id_of,
-// blob and write_packet are helpers: the caller shows what they require.
+// announced_destination, least_announce, emission, and the header's bits. parts_of, type_two_parts, hash_of,
+// link_id_of, blob and write_packet are helpers: the caller shows what they require.
 mod announce;
 mod hash;
 mod header;

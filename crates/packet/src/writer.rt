@@ -35,7 +35,8 @@ pub fn writing_refusal(parts: Parts, payload: &[u8], room: usize) -> u8
 // Writes what both types end with from place at on.
 fn write_end(destination: [u8; 16], context: u8, payload: &[u8], output: &mut [u8], at: usize)
     requires { ⌜ at + 17 + length (now payload) ≤ length (now output) ⌝ }
-    ensures { λ _. ⌜ now (output .exit) ≡ patch (now (output .entry)) at (destination ++ (context ∷ now (payload .entry))) ⌝ }
+    ensures { λ _. ⌜ now (output .exit)
+        ≡ patch (now (output .entry)) at (destination ++ (context ∷ now (payload .entry))) ⌝ }
 {
     octets::copy_at(output, at, &destination);
     octets::set_at(output, at + 16, context);
@@ -61,7 +62,8 @@ pub fn write_packet(parts: Parts, payload: &[u8], output: &mut [u8])
 
 // Writes the packet of these parts and this payload at the start of the output.
 pub fn write(parts: Parts, payload: &[u8], output: &mut [u8]) -> Written
-    ensures { λ r. ⌜ (r ≡ writing parts (now (payload .entry)) (now (output .entry)) .answer) × (now (output .exit) ≡ writing parts (now (payload .entry)) (now (output .entry)) .output) ⌝ }
+    ensures { λ r. ⌜ (r ≡ writing parts (now (payload .entry)) (now (output .entry)) .answer)
+        × (now (output .exit) ≡ writing parts (now (payload .entry)) (now (output .entry)) .output) ⌝ }
 {
     let refusal = writing_refusal(parts, payload, output.len());
     if refusal != refusals::NONE {

@@ -20,9 +20,9 @@ use Rattle.codes.proofs.Forms.{lawful}
 use Rattle.codes.proofs.Places.{patch-skip}
 use Rattle.codes.proofs.Inside.{Inside, item, _within_, named}
 use Rattle.numbers.specs.Numbers.{portCount, linkCount, returnCount}
-use Rattle.rules.specs.Relay.{Port, noPort, Slot, empty, Return, Relay, withPorts, withPaths, withLinks, withReturns}
+use Rattle.rules.specs.Relay.{Port, noPort, Slot, empty, Return, withSlots, Relay, withPorts, withPaths, withLinks, withReturns}
 use Rattle.rules.specs.Refusals.{pathOk, linkOk, returnOk}
-use Rattle.rules.specs.Renumbering.{image, oneToOne, preimage, movedPorts, renamePath, renameLink, renameReturn, renameSlot, renumbered}
+use Rattle.rules.specs.Renumbering.{image, preimage, movedPorts, renamePath, renameLink, renameReturn, renameSlot, renumbered}
 use Rattle.rules.specs.declared.Link.{Link}
 use Rattle.tables.specs.Forms.{pathForm, linkForm, returnForm, relayForm}
 use Rattle.tables.specs.Places.{portWidth, pathWidth, linkWidth, returnWidth, portsAt, pathsAt, linksAt, returnsAt}
@@ -31,14 +31,11 @@ use Rattle.tables.specs.Records.{portBytes, slotOf, slotBytes, pathOf, pathByte
 use Rattle.tables.specs.Layout.{recordAt, rows, recordsOk, relayOf, bytesOf, wellFormed}
 use Rattle.tables.proofs.Tests.{path-kept, link-kept, return-kept}
 use Rattle.tables.proofs.Lent.{Lent, port-lent, path-lent, link-lent, return-lent}
-use Rattle.tables.proofs.Whole.{again, ok-relay, relay-good}
+use Rattle.tables.proofs.Whole.{again, relay-good}
 use Rattle.tables.proofs.Patches.{ports-in, links-in, returns-in, patch-ports, patch-paths, patch-links, patch-returns}
 use Rattle.tables.proofs.Seen.{ports-length}
 use Rattle.tables.proofs.Section.{upTo, up-more, up-all}
-use Rattle.octets.specs.Listed.{firstOf}
-use Rattle.rules.specs.Calls.{renumbers, ruleOf, tableRefusal, settle}
-use Rattle.settings.specs.Calls.{refused, renumberOn}
-use Rattle.settings.proofs.Answered.{called-bad, called-no, called-yes}
+use Rattle.rules.specs.Calls.{renumbers, ruleOf}
 use Rattle.renumbering.specs.Renamed.{renamedPaths, renamedLinks, renamedReturns}
 
 -- ---- one record
@@ -241,11 +238,11 @@ module _ (t m : List ℕ) (bt : Bytes t) (h : wellFormed t ≡ true) where
           (returns-in .place .good (relayOf t) (tt, tt) good)
 
       pub renumber-writes : (t3 t4 : List ℕ) → t3 ≡ patch t2 returnsAt (renamedReturns m t2)
-          → t4 ≡ patch t3 portsAt (fields portBytes portCount noPort (movedPorts m (relayOf t .ports))) → t4 ≡ bytesOf (renumbered m (relayOf t))
-      unfolding renamedReturns renumbered pathsAndLinks withLinks pathsOnly withPaths withReturns withPorts
+          → t4 ≡ patch t3 portsAt (fields portBytes portCount noPort (movedPorts m (relayOf t .ports))) → t4 ≡ bytesOf (ruleOf (renumbers m) .after (relayOf t))
+      unfolding ruleOf renamedReturns renumbered pathsAndLinks withLinks pathsOnly withPaths withReturns withPorts
       renumber-writes t3 t4 e3 e4 =
           let slots : List (Slot Return) = map (renameSlot (renameReturn m)) (relayOf t .returns .slots) in
-          let r3 : Relay = withReturns (record { slots = slots; next = relayOf t .returns .next }) pathsAndLinks in
+          let r3 : Relay = withReturns (withSlots slots (relayOf t .returns)) pathsAndLinks in
           let w3 : t3 ≡ bytesOf r3 =
           e3
           ∙ ap₂
@@ -256,17 +253,3 @@ module _ (t m : List ℕ) (bt : Bytes t) (h : wellFormed t ≡ true) where
           e4
           ∙ ap (λ (x : List ℕ). patch x portsAt (fields portBytes portCount noPort (movedPorts m (relayOf t .ports)))) w3
           ∙ patch-ports r3 (movedPorts m (relayOf t .ports))
-
--- ---- what the call answers
-module _ (t m : List ℕ) where
-  pub renumber-bad : wellFormed t ≡ false → renumberOn t m ≡ refused 7 t
-  unfolding renumberOn
-  renumber-bad h = called-bad t (settle (renumbers m)) h
-
-  pub renumber-refused : Bytes t → wellFormed t ≡ true → oneToOne m ≡ false → renumberOn t m ≡ refused 8 t
-  unfolding renumberOn settle tableRefusal ruleOf firstOf _then_otherwise_
-  renumber-refused b h o = called-no t (settle (renumbers m)) h (renumbered m (relayOf t)) b 8 (λ e. omega arith) (rw (ok-relay t h, o))
-
-  pub renumber-done : wellFormed t ≡ true → oneToOne m ≡ true → renumberOn t m ≡ record { refusal = 0; tables = bytesOf (renumbered m (relayOf t)) }
-  unfolding renumberOn settle tableRefusal ruleOf firstOf _then_otherwise_
-  renumber-done h o = called-yes t (settle (renumbers m)) h (renumbered m (relayOf t)) (rw (ok-relay t h, o))

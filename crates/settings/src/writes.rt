@@ -12,14 +12,14 @@ ghost use Prim.Native.Nat.{_+_, _*_, _<_};
 ghost use lib.ListN.{length, replicate};
 ghost use Rattle.octets.specs.Part.{patch};
 ghost use Rattle.numbers.specs.Numbers.{portCount, localCount};
-ghost use Rattle.rules.specs.Relay.{empty, used};
+ghost use Rattle.rules.specs.Relay.{empty, used, makePort};
 ghost use Rattle.tables.specs.Places.{portWidth, localWidth, portsAt, localsAt, tableSize};
 ghost use Rattle.tables.specs.Records.{portBytes, slotBytes, localBytes};
-ghost use Rattle.settings.specs.Calls.{settingsOf, freshPorts};
+ghost use Rattle.settings.specs.Calls.{freshPorts};
 
 pub fn put_port(tables: &mut [u8], port: usize, on: bool, mode: u8)
     requires { ⌜ (length (now tables) ≡ tableSize) × (port < portCount) ⌝ }
-    ensures { λ _. ⌜ now (tables .exit) ≡ patch (now (tables .entry)) (portsAt + portWidth * port) (portBytes (settingsOf on mode)) ⌝ }
+    ensures { λ _. ⌜ now (tables .exit) ≡ patch (now (tables .entry)) (portsAt + portWidth * port) (portBytes (makePort on mode)) ⌝ }
 {
     let at = PORTS_AT + PORT_WIDTH * port;
     octets::set_at(tables, at + PORT_ON_AT, mark_of(on));

@@ -5,5 +5,7 @@ pub mod Lent
 pub mod Seen
 pub mod Loops
 pub mod Section
-pub mod Whole
 pub mod Patches
+pub mod Shaped
+pub mod Whole
+pub mod Called

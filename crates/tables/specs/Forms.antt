@@ -7,7 +7,7 @@ use mathlib.Core.Path.{refl}
 use lib.Dec.{ltb}
 use Rattle.codes.specs.Form.{Form, byte, mark, numberIn, octetsIn, field, _&_, many, slot, that, asRecord}
 use Rattle.numbers.specs.Numbers.{portCount, localCount, pathCount, blobLimit, linkCount, returnCount, hashCount}
-use Rattle.rules.specs.Relay.{Port, noPort, Slot, empty, Blobs, Path, Return, Remembered, Ring, Relay}
+use Rattle.rules.specs.Relay.{Port, noPort, Slot, empty, Blobs, Path, Return, Remembered, Ring, Relay, makePort, makePath, makeLink, withLinkState, makeReturn, makeRemembered, makeRing, makeRelay}
 use Rattle.rules.specs.Blobs.{noBlob}
 use Rattle.rules.specs.Refusals.{timeOk, portOk, pathOk, linkOk, returnOk, hashOk}
 use Rattle.rules.specs.declared.Link.{Link}
@@ -30,7 +30,7 @@ ringWidth = 2
 
 -- ---- a port's settings. No slot: a port that is off keeps its mode
 abbrev pub toPort : Bool × ℕ → Port
-toPort (on, mode) = record { on = on; mode = mode }
+toPort (on, mode) = makePort on mode
 
 abbrev pub portForm : Form Port
 portForm = that portOk (asRecord toPort (λ p. (p .on, p .mode)) (λ x. refl) (λ y. refl) (field "on" mark & field "mode" byte))
@@ -61,8 +61,7 @@ headForm =
     & field "expiry" (numberIn timeWidth)
 
 abbrev pub toPath : Head × Blobs → Path
-toPath ((destination, (port, (hops, (nextHop, expiry)))), blobs) =
-    record { destination = destination; port = port; hops = hops; nextHop = nextHop; expiry = expiry; blobs = blobs }
+toPath ((destination, (port, (hops, (nextHop, expiry)))), blobs) = makePath destination port hops nextHop expiry blobs
 
 abbrev pub pathForm : Form Path
 pathForm =
@@ -76,15 +75,7 @@ pathForm =
 -- ---- a link
 abbrev pub toLink : List ℕ × (ℕ × (ℕ × (ℕ × (ℕ × (Bool × ℕ))))) → Link
 toLink (id, (asking, (answering, (taken, (remaining, (proved, expiry)))))) =
-    record {
-      id = id;
-      asking = asking;
-      answering = answering;
-      taken = record { 0 = taken };
-      remaining = record { 0 = remaining };
-      proved = proved;
-      expiry = expiry;
-    }
+    withLinkState proved expiry (makeLink id asking answering taken remaining expiry)
 
 abbrev pub linkForm : Form Link
 linkForm =
@@ -103,7 +94,7 @@ linkForm =
 
 -- ---- a return record
 abbrev pub toReturn : List ℕ × (ℕ × (ℕ × ℕ)) → Return
-toReturn (key, (arrival, (leaving, expiry))) = record { key = key; arrival = arrival; leaving = leaving; expiry = expiry }
+toReturn (key, (arrival, (leaving, expiry))) = makeReturn key arrival leaving expiry
 
 abbrev pub returnForm : Form Return
 returnForm =
@@ -113,7 +104,7 @@ returnForm =
 
 -- ---- a remembered hash
 abbrev pub toHash : List ℕ × ℕ → Remembered
-toHash (hash, expiry) = record { hash = hash; expiry = expiry }
+toHash (hash, expiry) = makeRemembered hash expiry
 
 abbrev pub hashForm : Form Remembered
 hashForm =
@@ -126,7 +117,7 @@ abbrev pub below : ℕ → ℕ → Bool
 below n place = ltb place n
 
 abbrev pub toRing : {A : Type 0} → ℕ × List (Slot A) → Ring A
-toRing (next, slots) = record { slots = slots; next = next }
+toRing (next, slots) = makeRing slots next
 
 abbrev pub ringForm : {A : Type 0} → ℕ → Form A → Form (Ring A)
 ringForm n f =
@@ -135,17 +126,7 @@ ringForm n f =
 
 -- ---- the tables
 abbrev pub toRelay : List ℕ × (ℕ × (List Port × (List (Slot (List ℕ)) × (List (Slot Path) × (List (Slot Link) × (Ring Return × Ring Remembered)))))) → Relay
-toRelay (own, (clock, (ports, (locals, (paths, (links, (returns, hashes))))))) =
-    record {
-      own = own;
-      clock = clock;
-      ports = ports;
-      locals = locals;
-      paths = paths;
-      links = links;
-      returns = returns;
-      hashes = hashes;
-    }
+toRelay (own, (clock, (ports, (locals, (paths, (links, (returns, hashes))))))) = makeRelay own clock ports locals paths links returns hashes
 
 abbrev pub relayForm : Form Relay
 relayForm =

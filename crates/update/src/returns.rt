@@ -14,7 +14,7 @@ ghost use mathlib.Core.Bool.{true};
 ghost use Prim.Native.Nat.{_<_};
 ghost use lib.ListN.{length};
 ghost use Rattle.numbers.specs.Numbers.{returnCount};
-ghost use Rattle.rules.specs.Relay.{holds};
+ghost use Rattle.rules.specs.Relay.{makeReturn, holds};
 ghost use Rattle.rules.specs.View.{isLiveReturn};
 ghost use Rattle.tables.specs.Places.{tableSize, addressWidth, returnWidth};
 ghost use Rattle.tables.specs.Records.{slotOf, returnOf};
@@ -39,7 +39,7 @@ pub fn put_return(
     expiry: u64,
 )
     requires { ⌜ (length (now tables) ≡ tableSize) × (place < returnCount) ⌝ }
-    ensures { λ _. ⌜ now (tables .exit) ≡ returnWritten (now (tables .entry)) place (record { key = key; arrival = arrival; leaving = leaving; expiry = expiry }) ⌝ }
+    ensures { λ _. ⌜ now (tables .exit) ≡ returnWritten (now (tables .entry)) place (makeReturn key arrival leaving expiry) ⌝ }
 {
     let at = RETURNS_AT + RETURN_WIDTH * place;
     octets::set_at(tables, at, 1);

@@ -28,6 +28,7 @@ pub fn return_place(tables: &mut [u8]) -> usize {
     take_ring_place(tables, RETURN_PLACE, &RETURNS)
 }
 
+#[inline]
 pub fn is_emptied(key: &Address, clock: u64, record: &[u8]) -> bool {
     has_key(record, key) && RETURNS.is_live(record, clock)
 }

@@ -50,6 +50,7 @@ pub fn size_allowed(size: usize) -> bool {
 }
 
 /// "a stored port over 15"
+#[inline]
 pub fn is_port(byte: u8) -> bool {
     usize::from(byte) < PORT_COUNT
 }
@@ -101,6 +102,7 @@ pub fn unused_allowed(record: &[u8]) -> bool {
 }
 
 /// Without an early end, so that it is a pass over whole words.
+#[inline]
 pub fn all_zero(bytes: &[u8]) -> bool {
     bytes.iter().fold(0, |all, byte| all | byte) == 0
 }

@@ -159,7 +159,9 @@ pub fn find(table: &Table, tables: &[u8], key: &[u8], clock: u64) -> Option<usiz
     (table.search)(&tables[table.records.bytes()], key, clock)
 }
 
-/// The lowest live record of a key. The compiler knows the widths, so that it compares keys by words.
+/// The lowest live record of a key. The compiler knows the widths, so that it compares keys by words; it stays out of its callers, so that
+/// the loop is the same for each.
+#[inline(never)]
 fn lowest_live<const WIDTH: usize, const KEY: usize, const EXPIRY: usize>(records: &[u8], key: &[u8], clock: u64) -> Option<usize> {
     let key: [u8; KEY] = key.try_into().expect("a key of the table");
     let records: &[[u8; WIDTH]] = records.as_chunks().0;

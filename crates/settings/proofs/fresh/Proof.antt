@@ -1,7 +1,8 @@
 use mathlib.Core.Path.{_≡_}
 use lib.ListN.{length}
 use Rattle.tables.specs.Places.{addressWidth}
-use Rattle.settings.proofs.Answered.{answers, answers-after, fresh-refused, fresh-done}
+use Rattle.tables.proofs.Called.{answers, answers-after}
+use Rattle.settings.proofs.Answered.{fresh-refused, fresh-done}
 use borrow.Author.Needs.{needs}
 use Rattle.settings.proofs.fresh.Statement.{statement}
 use Rattle.settings.proofs.fresh.Tie as tie

@@ -3,7 +3,7 @@ use Rattle.codes.proofs.Pieces.{fields-written}
 use Rattle.tables.specs.Forms.{portForm}
 use Rattle.tables.specs.Places.{portWidth, portsAt}
 use Rattle.tables.specs.Records.{portBytes}
-use Rattle.settings.specs.Calls.{settingsOf}
+use Rattle.rules.specs.Relay.{makePort}
 use native.Mathlib.Omega.{arith}
 use borrow.Author.Needs.{needs}
 use Rattle.settings.proofs.writes.put_port.Statement.{statement}
@@ -39,7 +39,7 @@ returns c =
     let a = c .before .before .before .before .before .before .before .before .before .before .args in
     let at : ℕ = portsAt + portWidth * a .port in
     rw (c .before .before .set-at2 .ensures, c .before .before .before .before .before .before .set-at .ensures, c .before .before .before .before .before .before .before .mark-of .ensures)
-    (fields-written portForm (settingsOf (a .on) (a .mode)) (a .tables .now) at (omega (arith, c .before .before .before .before .before .before .before .before .before .before .pre .0, c .before .before .before .before .before .before .before .before .before .before .pre .1)))
+    (fields-written portForm (makePort (a .on) (a .mode)) (a .tables .now) at (omega (arith, c .before .before .before .before .before .before .before .before .before .before .pre .0, c .before .before .before .before .before .before .before .before .before .before .pre .1)))
 
 pub put-port-spec : {M : Type 1} → statement M
 put-port-spec =

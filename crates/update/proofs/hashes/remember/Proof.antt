@@ -2,7 +2,7 @@ use Prim.Native.Nat.{ℕ, _+_, _*_}
 use mathlib.Core.Path.{_≡_}
 use lib.ListN.{length}
 use Rattle.codes.proofs.Pieces.{record-written}
-use Rattle.rules.specs.Relay.{Remembered}
+use Rattle.rules.specs.Relay.{makeRemembered}
 use Rattle.tables.specs.Forms.{hashForm}
 use Rattle.tables.specs.Places.{digestWidth, hashesAt, hashWidth}
 use Rattle.tables.specs.Records.{hashBytes}
@@ -52,7 +52,7 @@ returns c =
     let a = c .before .before .before .before .before .before .before .before .before .before .before .before .before .before .before .before .before .before .args in
     let wide : length (a .t3) ≡ digestWidth = search needs in
     let at : ℕ = hashesAt + hashWidth * a .place in
-    let m : Remembered = record { hash = a .t3; expiry = a .expiry } in
+    let m = makeRemembered (a .t3) (a .expiry) in
     let all = record-written hashForm m (a .tables .now) at (omega (arith, c .before .before .before .before .before .before .before .before .before .before .before .before .before .before .before .before .before .before .pre .0, c .before .before .before .before .before .before .before .before .before .before .before .before .before .before .before .before .before .before .pre .1)) in
     rw (c .before .before .write-number-at2 .ensures, c .before .before .before .before .before .before .write-number-at .ensures, c .before .before .before .before .before .before .before .before .before .before .copy-at .ensures, c .before .before .before .before .before .before .before .before .before .before .before .before .before .before .before .set-at .ensures)
     (rw (rw (exactly-same digestWidth (a .t3) wide) at all))

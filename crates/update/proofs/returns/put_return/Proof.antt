@@ -2,7 +2,7 @@ use Prim.Native.Nat.{ℕ, _+_, _*_}
 use mathlib.Core.Path.{_≡_}
 use lib.ListN.{length}
 use Rattle.codes.proofs.Pieces.{record-written}
-use Rattle.rules.specs.Relay.{Return}
+use Rattle.rules.specs.Relay.{makeReturn}
 use Rattle.tables.specs.Forms.{returnForm}
 use Rattle.tables.specs.Places.{addressWidth, returnsAt, returnWidth}
 use Rattle.tables.specs.Records.{returnBytes}
@@ -64,7 +64,7 @@ returns c =
     let a = c .before .before .before .before .before .before .before .before .before .before .before .before .before .before .before .before .before .before .before .before .before .before .before .before .before .before .args in
     let wide : length (a .t3) ≡ addressWidth = search needs in
     let at : ℕ = returnsAt + returnWidth * a .place in
-    let x : Return = record { key = a .t3; arrival = a .arrival; leaving = a .leaving; expiry = a .expiry } in
+    let x = makeReturn (a .t3) (a .arrival) (a .leaving) (a .expiry) in
     let all = record-written returnForm x (a .tables .now) at (omega (arith, c .before .before .before .before .before .before .before .before .before .before .before .before .before .before .before .before .before .before .before .before .before .before .before .before .before .before .pre .0, c .before .before .before .before .before .before .before .before .before .before .before .before .before .before .before .before .before .before .before .before .before .before .before .before .before .before .pre .1)) in
     rw
     (c .before .before .write-number-at2 .ensures, c .before .before .before .before .before .before .write-number-at .ensures, c .before .before .before .before .before .before .before .before .before .before .set-at3 .ensures, c .before .before .before .before .before .before .before .before .before .before .before .before .before .before .set-at2 .ensures, c .before .before .before .before .before .before .before .before .before .before .before .before .before .before .before .before .before .before .copy-at .ensures, c .before .before .before .before .before .before .before .before .before .before .before .before .before .before .before .before .before .before .before .before .before .before .before .set-at .ensures)
