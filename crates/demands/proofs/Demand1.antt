@@ -31,12 +31,12 @@ use Rattle.rules.specs.Calls.{Setting, packetCall, judge, judged, settled, rule
 use Rattle.rules.specs.Run.{Call, packet, on-tables, port-setting, adding, removing, renumbering}
 use Rattle.rules.specs.declared.Tally.{Tally}
 use Rattle.tables.specs.Places.{tableSize}
-use Rattle.tables.specs.Layout.{relayOf, bytesOf, wellFormed}
+use Rattle.tables.specs.Layout.{relayOf, wellFormed}
 use Rattle.tables.proofs.Whole.{again, ok-relay}
 use Rattle.tables.specs.Called.{written, called}
 use Rattle.settings.specs.Calls.{freshOn}
 use Rattle.relay.specs.Promise.{inBytes, packetOn}
-use Rattle.demands.specs.Bytes.{OutcomeOn, ofPacket, ofCalled, performOn}
+use Rattle.demands.specs.Bytes.{ofPacket, ofCalled, performOn}
 use Rattle.demands.specs.Refusals.{refusal, refusalOn, refusing, isRefusal}
 
 -- ---- the statement
@@ -94,8 +94,8 @@ after-seven : (t : List ℕ) (below : ℕ)
 unfolding _then_otherwise_
 after-seven t below = go (wellFormed t) refl
   where
-    go : (v : Bool) → wellFormed t ≡ v → (wellFormed t then (not (tablesOk (relayOf t)) then 7 otherwise below) otherwise 7) ≡
-        (not (wellFormed t) then 7 otherwise below)
+    go : (v : Bool) → wellFormed t ≡ v
+        → (wellFormed t then (not (tablesOk (relayOf t)) then 7 otherwise below) otherwise 7) ≡ (not (wellFormed t) then 7 otherwise below)
     go true h = rw (h, ok-relay t h)
     go false h = rw h
 
@@ -123,8 +123,9 @@ port-rows port on mode tables = after-seven tables _
 -- adding a local address: 7, 11, 10
 pub adding-rows : (address tables : List ℕ)
     → refusalOn (adding address) tables
-    ≡ (not (wellFormed tables) then 7 otherwise isLocal (relayOf tables) address then 11 otherwise leb localCount (emptyLocal (relayOf tables)) then
-    10 otherwise 0)
+    ≡ (not (wellFormed tables) then 7 otherwise
+    isLocal (relayOf tables) address then 11 otherwise
+    leb localCount (emptyLocal (relayOf tables)) then 10 otherwise 0)
 unfolding refusalOn refusal tableRefusal ruleOf firstOf
 adding-rows address tables = after-seven tables _
 
@@ -159,8 +160,9 @@ pub reading-rows : (p : List ℕ)
 unfolding reading readingRefusal readingRows firstOf
 reading-rows p = refl
 
-pub hash-rows : (p : List ℕ) → (packetHashAnswer longestPacket p .refusal ≡ reading longestPacket p .refusal) ×
-    (linkIdAnswer longestPacket p .refusal ≡ reading longestPacket p .refusal)
+pub hash-rows : (p : List ℕ)
+    → (packetHashAnswer longestPacket p .refusal ≡ reading longestPacket p .refusal)
+    × (linkIdAnswer longestPacket p .refusal ≡ reading longestPacket p .refusal)
 unfolding packetHashAnswer linkIdAnswer reading
 hash-rows p = (refl, refl)
 
@@ -184,8 +186,8 @@ module _ (q : Parts) (body output : List ℕ) where
   unfolding row writingRefusal writingRows firstOf
   writing-rows = row-given
 
-  pub writing-stays : eqb (writing q body output .answer .refusal) 0 ≡ false → (writing q body output .answer .length ≡ 0) ×
-      (writing q body output .output ≡ output)
+  pub writing-stays : eqb (writing q body output .answer .refusal) 0 ≡ false
+      → (writing q body output .answer .length ≡ 0) × (writing q body output .output ≡ output)
   unfolding row writing
   writing-stays z =
       let refused : eqb row 0 ≡ false = ap (λ (n : ℕ). eqb n 0) (sym row-given) ∙ z in

@@ -20,7 +20,7 @@ use Rattle.packet.proofs.WriteLaws.{writable, writing-done}
 use Rattle.packet.proofs.RoundTrip.{reading-writing, writing-reading, write-payload}
 use Rattle.rules.specs.Relay.{Relay, fresh}
 use Rattle.rules.specs.Refusals.{tablesOk}
-use Rattle.rules.specs.Calls.{newTally, Setting, packetCall, settle}
+use Rattle.rules.specs.Calls.{newTally, Setting, settle}
 use Rattle.rules.specs.Run.{EachCall, Call, packet, on-tables, Reply, Outcome, ofJudgement, ofSetting, perform, replies, relayAfter, tallyAfter}
 use Rattle.rules.specs.declared.Tally.{Tally}
 use Rattle.rules.proofs.History.{Fits, CountsHistory, history, history-since-fresh}
@@ -31,7 +31,7 @@ use Rattle.tables.specs.Shape.{isBytes, shaped}
 use Rattle.tables.proofs.Whole.{again, ok-relay, shaped-of, back, ok-bytes, bytes-bytes}
 use Rattle.tables.specs.Called.{Called, written, called}
 use Rattle.settings.specs.Calls.{freshOn}
-use Rattle.demands.specs.Given.{CallBytes, CallsBytes}
+use Rattle.demands.specs.Given.{CallsBytes}
 use Rattle.relay.specs.Promise.{inBytes, packetOn}
 use Rattle.demands.specs.Bytes.{OutcomeOn, ofPacket, ofCalled, performOn, repliesOn, tablesAfterOn, tallyAfterOn}
 use Rattle.demands.proofs.Shape.{step-shaped, stays-shaped, fresh-shaped}

@@ -16,7 +16,7 @@ use Rattle.rules.specs.Renumbering.{oneToOne, renumbered, composed}
 use Rattle.rules.specs.Refusals.{all, tablesOk}
 use Rattle.octets.specs.Listed.{firstOf}
 use Rattle.rules.specs.Calls.{newTally, settled, ruleOf, tableRefusal, settle}
-use Rattle.rules.specs.Run.{EachCall, Call, packet, on-tables, renumbering, Reply, numbered, replies, relayAfter, tallyAfter, renameArrival, renameCall, renameReply, noneRenumbers}
+use Rattle.rules.specs.Run.{EachCall, Call, packet, on-tables, renumbering, Reply, numbered, relayAfter, renameArrival, renameCall, renameReply, noneRenumbers}
 use Rattle.rules.specs.declared.Tally.{Tally}
 use Rattle.rules.proofs.Valid.{stays-ok, fresh-ok}
 use Rattle.rules.proofs.CallsRenamed.{addresses-renamed}

@@ -1,6 +1,6 @@
 -- What tables can hold stays what tables can hold: no list of calls that are given bytes leads to a relay that has none.
 use Prim.Native.Nat.{ℕ, _≤_}
-use mathlib.Core.Bool.{Bool, true, false}
+use mathlib.Core.Bool.{true}
 use mathlib.Core.List.{List}
 use mathlib.Core.Path.{_≡_, refl, subst}
 use lib.ListN.{length}

@@ -7,7 +7,7 @@ ghost use Rattle.packet.specs.Hash.{packetHashAnswer, linkIdAnswer};
 ghost use Rattle.packet.specs.Announce.{announcedDestination, leastAnnounce, emissionOf};
 ghost use Rattle.line.specs.Line.{lineText};
 ghost use Rattle.text.specs.Text.{textOf};
-ghost use Rattle.haskumye.specs.Packets.{partsAfter, hashAfter, linkIdAfter, partsIn, payloadPlace, writtenNumber};
+ghost use Rattle.haskumye.specs.Packets.{partsAfter, hashAfter, linkIdAfter, partsIn, payloadPlace, Writes};
 
 // Reads a packet: its refusal, 0 for none. Its parts go to the buffer, which a refusal leaves as it was.
 #[no_mangle]
@@ -39,9 +39,8 @@ pub extern "C" fn haskumye_payload_start(packet: &[u8]) -> usize
 // One number: in its low 16 bits the refusal or 0, in those above the length.
 #[no_mangle]
 pub extern "C" fn haskumye_write(parts: &[u8; 35], payload: &[u8], output: &mut [u8]) -> u64
-    ensures { λ r. ⌜ (r ≡ writtenNumber (writing (partsIn (now (parts .entry))) (now (payload .entry))
-        (now (output .entry)) .answer)) × (now (output .exit)
-        ≡ writing (partsIn (now (parts .entry))) (now (payload .entry)) (now (output .entry)) .output) ⌝ }
+    ensures { λ r. ⌜ Writes (writing (partsIn (now (parts .entry))) (now (payload .entry)) (now (output .entry)))
+        r (now (output .exit)) ⌝ }
 {
     let q = packet::type_two_parts(parts);
     let written = packet::write(q, payload, output);

@@ -70,14 +70,10 @@ module _ (longest : ℕ) (p : List ℕ) (h : reads longest p ≡ true) where
   unfolding spreadLength
   spread-result own wide body e = ap (λ (b : List ℕ). 35 + length b) e ∙ sym (spread-length own wide)
 
-  -- type 1 grows by 16 bytes, so that 484 bytes are the most that spread, and type 2 stays as long
+  -- type 1 grows by 16 bytes, so that 484 bytes are the most that spread
   pub spread-one : typeTwo (headerOf p) ≡ false → spreadLength p ≡ length p + 16
   unfolding spreadLength
   spread-one e = omega (arith, body-length, start-one (headerOf p) e)
-
-  pub spread-two : typeTwo (headerOf p) ≡ true → spreadLength p ≡ length p
-  unfolding spreadLength
-  spread-two e = omega (arith, body-length, start-two (headerOf p) e)
 
   -- by a path: on the last hop a packet of type 2 loses the relay address, and otherwise it stays as long
   pub path-room : (payloadStart (headerOf p % 16) + length (payload p) ≤ length p) × (payloadStart (headerOf p) + length (payload p) ≤ length p)
