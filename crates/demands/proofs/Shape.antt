@@ -5,7 +5,7 @@ use mathlib.Core.List.{List}
 use mathlib.Core.Path.{_≡_, refl, subst}
 use lib.ListN.{length}
 use Rattle.octets.specs.Bytes.{Bytes}
-use Rattle.octets.proofs.Index.{and-left, and-right, and-both}
+use Rattle.octets.proofs.Index.{and-left, and-both}
 use Rattle.packet.specs.Read.{payloadStart}
 use Rattle.numbers.specs.Numbers.{localCount, pathCount, linkCount, returnCount, hashCount}
 use Rattle.rules.specs.Relay.{Slot, empty, used, Path, Relay, fresh, withPaths, withLinks, withReturns, withHashes}
@@ -20,7 +20,7 @@ use Rattle.rules.specs.Calls.{TableCall, sets-port, adds, removes, renumbers, r
 use Rattle.rules.specs.Run.{Call, packet, on-tables, perform, relayAfter}
 use Rattle.rules.specs.declared.Link.{Link}
 use Rattle.rules.specs.declared.Tally.{Tally}
-use Rattle.rules.proofs.Held.{Property, Holds, WayKeeps, PlanKeeps, TableKeeps, enact-held, table-held, packet-kept, table-kept, stays}
+use Rattle.rules.proofs.Held.{WayKeeps, PlanKeeps, TableKeeps, enact-held, table-held, packet-kept, table-kept, stays}
 use Rattle.rules.proofs.Tables.{all-set, all-map, all-getD, all-replicate, table-getD}
 use Rattle.rules.proofs.Followed.{Found, Planned, planned}
 use Rattle.rules.proofs.Ranges.{emptied-ok, slot-renamed}
