@@ -1,7 +1,8 @@
 -- Demand 2's theorems on one list of calls, on the bytes that `fresh` makes of a buffer; and on one packet read and one written.
 use Prim.Native.Nat.{ℕ, _+_, _%_, _^_}
 use mathlib.Core.Bool.{true}
-use mathlib.Core.List.{List, _++_}
+use native.Mathlib.Omega.{arith}
+use mathlib.Core.List.{List, [], _∷_, _++_}
 use mathlib.Core.Path.{_≡_, refl, sym, ap, subst, _∙_}
 use lib.Dec.{lit≤}
 use lib.ListN.{length, take, replicate, length-replicate}
@@ -13,20 +14,24 @@ use Rattle.packet.specs.declared.Parts.{Parts}
 use Rattle.rules.specs.Relay.{Relay, fresh}
 use Rattle.rules.specs.Refusals.{all, tableOk, tablesOk}
 use Rattle.rules.specs.Calls.{newTally}
-use Rattle.rules.specs.Run.{Call, Reply}
+use Rattle.rules.specs.Run.{EachCall, Call, Reply, Outcome}
 use Rattle.rules.specs.declared.Tally.{Tally}
-use Rattle.rules.proofs.Unfolding.{lists, layout}
+use Rattle.rules.proofs.Unfolding.{lists, layout, rules}
+use Rattle.rules.proofs.Shortcut.{goodPlan, goodJudge}
+use Rattle.rules.proofs.Passed.{ofTest}
 use Rattle.rules.proofs.History.{number, isAny, isDrop, isDelivery, isForward, isSpread, isKept}
 use Rattle.rules.proofs.Valid.{stays-ok, fresh-ok}
-use Rattle.rules.proofs.Scene.{own, blank, destination, dataBody, dataBytes, dataKey, receiptBytes}
+use Rattle.rules.proofs.Scene.{own, blank, announceBytes, destination, dataBody, dataBytes, dataKey, receiptBytes, arrives}
+use Rattle.rules.proofs.Outcomes.{spreads, spreadBytes, preparedRelay, judged-at, announce-form, announce-new}
 use Rattle.tables.specs.Places.{addressWidth, tableSize}
 use Rattle.tables.specs.Layout.{bytesOf}
 use Rattle.tables.specs.Shape.{isByte, isBytes, shaped}
+use Rattle.tables.proofs.Whole.{ok-bytes, bytes-bytes}
 use Rattle.settings.specs.Calls.{freshOn}
-use Rattle.demands.specs.Given.{CallsBytes}
+use Rattle.demands.specs.Given.{CallBytes, CallsBytes}
 use Rattle.demands.specs.Bytes.{repliesOn, tablesAfterOn, tallyAfterOn}
 use Rattle.demands.proofs.Shape.{stays-shaped, fresh-shaped}
-use Rattle.demands.proofs.Demand2.{follows-the-rules-fresh, counts-history-fresh, read-then-written, written-then-read, written-payload}
+use Rattle.demands.proofs.Demand2.{run-on, counts-history, follows-the-rules-fresh, counts-history-fresh, read-then-written, written-then-read, written-payload}
 use Rattle.demands.proofs.Demand3.{both-given}
 use Rattle.demands.proofs.InstanceCalls.{before, later, given-before, given-later, Runs, saidBefore, saidLater, lastRelay, plainPorts, lastTally, plain-run}
 
@@ -104,6 +109,49 @@ counted =
       history .forwarded ∙ ap (λ (x : List Reply). (0 + number isForward x) % 2 ^ 32) (plain .answers),
       history .spread ∙ ap (λ (x : List Reply). (0 + number isSpread x) % 2 ^ 32) (plain .answers),
       history .kept ∙ ap (λ (x : List Reply). (0 + number isKept x) % 2 ^ 32) (plain .answers),
+    )
+
+-- ---- counts-history: from the greatest counters an announce goes on to zeros, in those that count it
+abbrev greatest : Tally
+greatest =
+    record {
+      total = 0xffff_ffff;
+      dropped = 0xffff_ffff;
+      delivered = 0xffff_ffff;
+      forwarded = 0xffff_ffff;
+      spread = 0xffff_ffff;
+      kept = 0xffff_ffff;
+    }
+
+abbrev announce : List Call
+announce = arrives announceBytes 1000 1 ∷ []
+
+announce-given : CallsBytes announce
+unfolding EachCall CallBytes isBytes isByte tableOk all _and_
+announce-given = (refl, tt)
+
+prepared-held : Held preparedRelay
+unfolding rules shaped isBytes isByte
+prepared-held = record { shape = refl; ok = refl }
+
+announce-said : repliesOn announce (bytesOf preparedRelay) greatest ≡ spreads spreadBytes 2 ∷ []
+unfolding rules goodPlan goodJudge ofTest
+announce-said =
+    run-on announce preparedRelay greatest announce-given (prepared-held .ok) (prepared-held .shape) .answers
+    ∙ ap (λ (o : Outcome). o .reply ∷ []) (judged-at announceBytes 1000 preparedRelay greatest announce-new announce-form 1 refl)
+
+abbrev wrapped : Tally
+wrapped = tallyAfterOn announce (bytesOf preparedRelay) greatest
+
+pub counted-on : (wrapped .total ≡ 0) × (wrapped .spread ≡ 0) × (wrapped .dropped ≡ 0xffff_ffff)
+unfolding number _then_otherwise_
+counted-on =
+    let h = prepared-held in
+    let tables = ok-bytes preparedRelay (h .shape) (h .ok) in
+    let history = counts-history announce _ greatest announce-given (bytes-bytes preparedRelay (h .shape) (h .ok)) tables (omega arith) in (
+      history .total ∙ ap (λ (x : List Reply). (0xffff_ffff + number isAny x) % 2 ^ 32) announce-said,
+      history .spread ∙ ap (λ (x : List Reply). (0xffff_ffff + number isSpread x) % 2 ^ 32) announce-said,
+      history .dropped ∙ ap (λ (x : List Reply). (0xffff_ffff + number isDrop x) % 2 ^ 32) announce-said,
     )
 
 -- ---- read-then-written: data of type 2
