@@ -33,7 +33,7 @@ install: lib
 dist: lib
 	@scripts/dist
 
-## make test       the gate: proves all from nothing, then tests       a quarter of an hour on two processors
+## make test       the gate: proves all from nothing, then tests       twenty minutes on two processors
 test:
 	@scripts/test
 
