@@ -5,6 +5,7 @@ pub mod Renumbering
 pub mod Arrival
 pub mod Refusals
 pub mod Blobs
+pub mod Exempt
 pub mod Ways
 pub mod Tests
 pub mod Answers
