@@ -1,34 +1,58 @@
-# make: the library for hosts, target/libhaskumye.a. make demo: the story of a receipt, with the library.
-# make show: packets and a digest with the proved programs. make test: the gate. make bench: the speed beside plain C and Rust.
-# make soak: long random traffic. make memcheck: the library under valgrind.
+# What each target does, how long it takes and its variables: make help, which prints the lines that start with ##.
 MAKEFLAGS += --no-print-directory
 FILE ?= README.md
 SEED ?= 1
 CALLS ?= 1000000
+PREFIX ?= /usr/local
+DESTDIR ?=
 
-.PHONY: lib help demo show test bench soak memcheck
-lib: target/libhaskumye.a
+.PHONY: lib demo show install dist test bench soak memcheck clean help
 
-target/libhaskumye.a: crates.txt $(shell find crates -name '*.rt' -o -name '*.antt')
+## make            proves the core, writes the library to target/      six minutes of one processor once, then what changed
+lib: target/libhaskumye.a target/libhaskumye.so
+
+target/libhaskumye.a: crates.txt scripts/library $(shell find crates -name '*.rt' -o -name '*.antt')
 	@scripts/library
 
-help:
-	@sed -n '/^# /!q; s/^# //p' Makefile
+target/libhaskumye.so: target/libhaskumye.a include/haskumye.h scripts/shared
+	@scripts/shared
 
-demo: lib
+## make demo       the story of a receipt, with the library            a second
+demo:
 	@scripts/demo
 
+## make show       packets and a file's digest, by proved programs     two minutes once; FILE=README.md
 show:
 	@scripts/show "$(FILE)"
 
+## make install    header, library and pkg-config's file               a second; PREFIX=/usr/local, DESTDIR= for a package
+install: lib
+	@scripts/install "$(DESTDIR)" "$(PREFIX)"
+
+## make dist       the same in one archive, for boxes without the kit  a second
+dist: lib
+	@scripts/dist
+
+## make test       the gate: proves all from nothing, then tests       a quarter of an hour on two processors
 test:
 	@scripts/test
 
+## make bench      the speed beside plain C and Rust                   two minutes
 bench:
 	@scripts/bench
 
+## make soak       the core beside the independent relay               a minute; SEED=1, CALLS=1000000
 soak:
 	@scripts/soak "$(SEED)" "$(CALLS)"
 
+## make memcheck   the library under valgrind                          a minute
 memcheck:
 	@scripts/memcheck
+
+## make clean      removes target/, and with it all that is proved     a second
+clean:
+	@rm -rf target
+
+## make help       this list
+help:
+	@sed -n 's/^## //p' Makefile

@@ -1,6 +1,6 @@
 """The desk's relay in Python, by ctypes: counts come in, receipts go out, and the ports are renumbered in between.
 
-Usage: desk.py [LIBRARY], a shared object made of the library's archive (see README.md beside this file).
+Usage: desk.py [LIBRARY], the shared library; `make` writes it to target/libhaskumye.so.
 """
 
 import ctypes

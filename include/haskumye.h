@@ -225,7 +225,9 @@ size_t haskumye_table_size(void);
 
 /*
  * Makes the tables of a fresh relay: its own address, every port off and boundary, clock 0, all else empty. What the
- * buffer held does not matter. The host zeroes the tally with it. Refusal: 7, for the length alone.
+ * buffer held does not matter. Refusal: 7, for the length alone.
+ * The tally is not lent here: the host sets it to zeros with this call, so that it counts since fresh. From other
+ * numbers it would count on from there.
  */
 HASKUMYE_CHECKED uint8_t haskumye_fresh(uint8_t *tables, size_t length, const haskumye_address *own);
 

@@ -4,7 +4,7 @@ use crate::kinds::{Call, KINDS};
 use crate::measure::{best, Report};
 use crate::scene::Scene;
 use crate::state::{agreed, Independent, State, PROGRAMS};
-use haskumye_independent::faults::Tuned;
+use haskumye_independent::rules::Tuned;
 use haskumye_independent::samples::Fill;
 use std::time::Instant;
 

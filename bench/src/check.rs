@@ -5,7 +5,7 @@ use crate::measure::{best, turn, Pass, Report};
 use haskumye_independent::core;
 use haskumye_independent::random::Random;
 use haskumye_independent::samples::{filled, Fill};
-use haskumye_independent::tables;
+use haskumye_independent::tables::tuned;
 
 /// Checks that one turn makes.
 const CHECKS: usize = 8;
@@ -23,7 +23,7 @@ fn bare(tables: &[u8]) -> u64 {
 
 pub fn run(report: &mut Report) {
     let core: Pass<u64> = &|tables| u64::from(core::check(tables));
-    let rust: Pass<u64> = &|tables| u64::from(tables::check_tuned(tables));
+    let rust: Pass<u64> = &|tables| u64::from(tuned::tables_allowed(tables));
     let passes = [core, rust, &bare];
     report.table("Check of the tables (refusal 7), and a bare pass over their bytes", "tables", &["bare"]);
     let mut random = Random::new(1);

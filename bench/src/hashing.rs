@@ -2,8 +2,9 @@
 
 use crate::measure::{best, turn, Pass, Report};
 use haskumye_independent::core;
-use haskumye_independent::faults::AsWritten;
-use haskumye_independent::packet;
+use haskumye_independent::limits::LONGEST;
+use haskumye_independent::packet::{self, hash};
+use haskumye_independent::rules::AsWritten;
 use haskumye_independent::sha256::Sha256;
 
 extern "C" {
@@ -46,8 +47,8 @@ fn packet_hash(report: &mut Report, independent: &Sha256) {
         core::packet_hash(bytes, &mut hash);
         hash
     };
-    let rust = |bytes: &[u8]| match packet::read(bytes, packet::LONGEST, AsWritten) {
-        Ok(parts) => packet::packet_hash(independent, &parts, packet::payload(bytes), AsWritten),
+    let rust = |bytes: &[u8]| match packet::read(&AsWritten, bytes, LONGEST) {
+        Ok(parts) => hash::packet_hash(&AsWritten, independent, &parts, &bytes[packet::payload_place(bytes)..]),
         Err(_) => [0; 32],
     };
     report.table("Packet hash", "packet", &[]);
@@ -61,7 +62,7 @@ fn reading(report: &mut Report) {
         core::read(bytes, &mut parts);
         parts
     };
-    let rust = |bytes: &[u8]| packet::read(bytes, packet::LONGEST, AsWritten).map_or([0; 35], |parts| core::crossing(&parts));
+    let rust = |bytes: &[u8]| packet::read(&AsWritten, bytes, LONGEST).map_or([0; 35], |parts| core::crossing(&parts));
     report.table("Reading a packet", "packet", &[]);
     lines(report, "reading", [&core, &rust], &[19, 83, 500]);
 }

@@ -2,9 +2,10 @@
 
 use crate::scene::{hash_of, Scene, OWN};
 use haskumye_independent::answer::{Reason, Refusal, Verdict};
-use haskumye_independent::packet::{self, Address};
+use haskumye_independent::limits;
+use haskumye_independent::packet::{announced, Address, START_1};
 use haskumye_independent::sha256::Sha256;
-use haskumye_independent::tables::{link, path, returned, HASHES, LINKS, PATHS, RETURNS};
+use haskumye_independent::tables::{link, path, returned, BLOB, HASHES, LINKS, PATHS, RETURNS};
 
 /// The port that data and requests come in by, and the one they leave by; what answers them goes the other way.
 const ARRIVAL: u8 = 1;
@@ -96,9 +97,9 @@ pub fn data_again(scene: &mut Scene) -> Call {
 /// An announce with this emission, and its destination.
 fn announce(scene: &mut Scene, emission: u64) -> (Vec<u8>, Address) {
     let mut packet = scene.packet(0x01, [0; 16], ANNOUNCE);
-    let payload = &mut packet[packet::START_1..];
-    payload[79..84].copy_from_slice(&emission.to_be_bytes()[3..]);
-    let destination = packet::destination(&Sha256::default(), &payload[..64], &payload[64..74]);
+    let payload = &mut packet[START_1..];
+    payload[announced::BLOB][5..].copy_from_slice(&emission.to_be_bytes()[3..]);
+    let destination = announced::destination(&Sha256::default(), &payload[announced::KEYS], &payload[announced::NAME_HASH]);
     packet[2..18].copy_from_slice(&destination);
     (packet, destination)
 }
@@ -108,25 +109,24 @@ fn announce_new(scene: &mut Scene) -> Call {
     arriving(announce(scene, 5).0, Verdict::Spread(OTHERS))
 }
 
-/// A path that holds sixteen blobs, of emissions 1 to 16.
+/// A path that holds all blobs it can, of emissions from 1 on.
 fn known_path<'a>(scene: &'a mut Scene, destination: &Address) -> &'a mut [u8] {
     let record = scene.put(&PATHS, destination, &[(path::HOPS, 1)]);
-    for (blob, emission) in record[path::BLOBS..].chunks_exact_mut(10).zip(1u64..) {
+    for (blob, emission) in record[path::BLOBS..].chunks_exact_mut(BLOB).zip(1u64..) {
         blob[5..].copy_from_slice(&emission.to_be_bytes()[3..]);
     }
     record
 }
 
 fn announce_known(scene: &mut Scene) -> Call {
-    let (packet, destination) = announce(scene, 17);
+    let (packet, destination) = announce(scene, limits::BLOB_LIMIT as u64 + 1);
     known_path(scene, &destination);
     arriving(packet, Verdict::Spread(OTHERS))
 }
 
 fn announce_again(scene: &mut Scene) -> Call {
-    let (packet, destination) = announce(scene, 16);
-    let newest = path::BLOBS + 150;
-    known_path(scene, &destination)[newest..newest + 10].copy_from_slice(&packet[packet::START_1 + 74..][..10]);
+    let (packet, destination) = announce(scene, limits::BLOB_LIMIT as u64);
+    known_path(scene, &destination)[path::WIDTH - BLOB..].copy_from_slice(&packet[START_1..][announced::BLOB]);
     arriving(packet, Verdict::Drop(Reason::Replay))
 }
 
@@ -147,7 +147,7 @@ fn link_of(scene: &mut Scene, proved: bool) -> Address {
 fn link_proof(scene: &mut Scene) -> Call {
     let id = link_of(scene, false);
     let mut packet = scene.packet(0x0f, id, LINK_PROOF);
-    packet[packet::START_1 - 1] = packet::LINK_PROOF;
+    packet[START_1 - 1] = limits::LINK_PROOF;
     Call { port: LEAVING, ..arriving(packet, Verdict::Forward(ARRIVAL)) }
 }
 

@@ -1,11 +1,13 @@
 //! Relays that packets come to: fresh with all ports on, and half full or full of live records.
 
-use haskumye_independent::faults::AsWritten;
-use haskumye_independent::packet::{self, Address, Header, Parts};
+use haskumye_independent::limits::{BLOB_LIMIT, LONGEST, PORT_COUNT};
+use haskumye_independent::packet::{self, encode, hash, Address, Header, PacketHash, Parts};
 use haskumye_independent::random::Random;
+use haskumye_independent::relay::settings;
+use haskumye_independent::rules::AsWritten;
 use haskumye_independent::samples::{use_record, Fill};
 use haskumye_independent::sha256::Sha256;
-use haskumye_independent::tables::{self, link, path, Section, Table, BLOB_LIMIT, HASHES, LINKS, LOCALS, PATHS, RETURNS, SIZE};
+use haskumye_independent::tables::{self, link, path, Section, Table, HASHES, LINKS, LOCALS, PATHS, RETURNS, SIZE};
 
 pub const OWN: Address = [0xaa; 16];
 /// The last accepted clock, and that of every packet.
@@ -20,9 +22,9 @@ pub struct Scene {
 impl Scene {
     pub fn new(fill: Fill) -> Self {
         let mut scene = Self { tables: vec![0; SIZE], random: Random::new(1), fill };
-        tables::fresh(&mut scene.tables, &OWN).expect("the right size");
-        for port in 0..tables::PORT_COUNT as u64 {
-            tables::set_port(&mut scene.tables, port, true, port % 3, AsWritten).expect("a port and a mode");
+        settings::fresh(&AsWritten, &mut scene.tables, &OWN).expect("the right size");
+        for port in 0..PORT_COUNT as u64 {
+            settings::set_port(&AsWritten, &mut scene.tables, port, true, port % 3).expect("a port and a mode");
         }
         tables::set_last_clock(&mut scene.tables, CLOCK);
         for place in 0..scene.used(&LOCALS) {
@@ -35,7 +37,7 @@ impl Scene {
         }
         for (at, table) in [(tables::RETURN_PLACE, &RETURNS), (tables::HASH_PLACE, &HASHES)] {
             let next = scene.used(&table.records) % table.records.count;
-            scene.tables[at..at + 2].copy_from_slice(&(next as u16).to_be_bytes());
+            tables::set_ring_place(&mut scene.tables, at, next);
         }
         scene
     }
@@ -71,7 +73,7 @@ impl Scene {
         let place = self.needed(&table.records);
         self.use_live(table, place);
         let record = table.records.get_mut(&mut self.tables, place);
-        record[1..=key.len()].copy_from_slice(key);
+        tables::set_key(record, key);
         for (at, byte) in fields {
             record[*at] = *byte;
         }
@@ -80,9 +82,7 @@ impl Scene {
 
     pub fn put_local(&mut self, address: &Address) {
         let place = self.needed(&LOCALS);
-        let record = LOCALS.get_mut(&mut self.tables, place);
-        record[0] = 1;
-        record[1..].copy_from_slice(address);
+        tables::set_key(LOCALS.get_mut(&mut self.tables, place), address);
     }
 
     /// Lets the last record of full tables be expired, so that a new one finds room behind all others.
@@ -100,14 +100,8 @@ impl Scene {
     }
 }
 
-pub fn encode(parts: &Parts, payload: &[u8]) -> Vec<u8> {
-    let mut bytes = vec![0; parts.header.payload_start() + payload.len()];
-    packet::put(parts, payload, &mut bytes);
-    bytes
-}
-
 /// The packet hash.
-pub fn hash_of(packet: &[u8]) -> [u8; 32] {
-    let parts = packet::read(packet, packet::LONGEST, AsWritten).expect("a packet that reads");
-    packet::packet_hash(&Sha256::default(), &parts, packet::payload(packet), AsWritten)
+pub fn hash_of(packet: &[u8]) -> PacketHash {
+    let parts = packet::read(&AsWritten, packet, LONGEST).expect("a packet that reads");
+    hash::packet_hash(&AsWritten, &Sha256::default(), &parts, &packet[packet::payload_place(packet)..])
 }

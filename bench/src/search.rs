@@ -6,10 +6,10 @@ use crate::kinds::{data_again, Call};
 use crate::measure::{best, Report};
 use crate::scene::{hash_of, Scene, CLOCK};
 use crate::state::{agreed, Independent, State, PROGRAMS};
-use haskumye_independent::faults::Tuned;
 use haskumye_independent::packet::PacketHash;
+use haskumye_independent::rules::Tuned;
 use haskumye_independent::samples::Fill;
-use haskumye_independent::tables::HASHES;
+use haskumye_independent::tables::{set_key, HASHES};
 use std::hint::black_box;
 use std::time::Instant;
 
@@ -48,7 +48,7 @@ impl Duplicate {
                 Others::Random => key = scene.random.array(),
                 Others::Sharing => key[31] = key[31].wrapping_add(1 + (other % 255) as u8),
             }
-            HASHES.records.get_mut(&mut scene.tables, other)[1..33].copy_from_slice(&key);
+            set_key(HASHES.records.get_mut(&mut scene.tables, other), &key);
         }
         let duplicate = Self { call, hash, state: State::new(scene.tables), relay: Independent::new(Tuned) };
         agreed(&duplicate.state, &duplicate.call);

@@ -5,10 +5,10 @@ use crate::scene::CLOCK;
 use haskumye_independent::answer::Tally;
 use haskumye_independent::core;
 use haskumye_independent::engine::{Engine, Outcome};
-use haskumye_independent::faults::Tuned;
+use haskumye_independent::limits::LONGEST;
 use haskumye_independent::linked::Core;
-use haskumye_independent::packet::LONGEST;
 use haskumye_independent::relay::{Arrival, Relay};
+use haskumye_independent::rules::Tuned;
 use std::hint::black_box;
 
 /// All that a call may change.

@@ -1,75 +1,81 @@
 //! What the calls answer, with document 01's numbers.
 
-/// The numbered refusals.
-#[derive(Clone, Copy, Debug, PartialEq, Eq)]
-#[repr(u8)]
-pub enum Refusal {
-    TooShort = 1,
-    TooLong = 2,
-    AccessCode = 3,
-    ArrivalPort = 4,
-    Clock = 5,
-    SmallOutput = 6,
-    Tables = 7,
-    Map = 8,
-    Setting = 9,
-    LocalsFull = 10,
-    LocalAddress = 11,
+/// An enum whose cases have document 01's numbers. A case keeps its number where it holds more than that.
+macro_rules! numbered {
+    ($(#[$about:meta])* $name:ident { $($case:ident = $number:literal,)* }) => {
+        $(#[$about])*
+        #[derive(Clone, Copy, Debug, PartialEq, Eq)]
+        pub enum $name {
+            $($case,)*
+        }
+
+        impl $name {
+            pub fn number(self) -> u8 {
+                match self {
+                    $(Self::$case { .. } => $number,)*
+                }
+            }
+
+            pub fn from_number(number: u8) -> Option<Self> {
+                match number {
+                    $($number => Some(Self::$case),)*
+                    _ => None,
+                }
+            }
+        }
+    };
 }
 
-impl Refusal {
-    pub fn number(self) -> u8 {
-        self as u8
+numbered! {
+    /// The numbered refusals.
+    Refusal {
+        TooShort = 1,
+        TooLong = 2,
+        AccessCode = 3,
+        ArrivalPort = 4,
+        Clock = 5,
+        SmallOutput = 6,
+        Tables = 7,
+        Map = 8,
+        Setting = 9,
+        LocalsFull = 10,
+        LocalAddress = 11,
     }
 }
 
-/// Why a packet is dropped: the number of the first test that holds.
-#[derive(Clone, Copy, Debug, PartialEq, Eq)]
-#[repr(u8)]
-pub enum Reason {
-    NotOurs = 1,
-    Duplicate = 2,
-    BadForm = 3,
-    OwnAnnounce = 4,
-    TooManyHops = 5,
-    NoWayOn = 6,
-    AlreadyKnown = 7,
-    WrongSide = 8,
-    BadSignature = 9,
-    Replay = 10,
-    NotBetter = 11,
-    PortOff = 12,
-    NoRoom = 13,
-    GrownTooLong = 14,
-}
-
-impl Reason {
-    const ALL: [Reason; 14] = [
-        Reason::NotOurs,
-        Reason::Duplicate,
-        Reason::BadForm,
-        Reason::OwnAnnounce,
-        Reason::TooManyHops,
-        Reason::NoWayOn,
-        Reason::AlreadyKnown,
-        Reason::WrongSide,
-        Reason::BadSignature,
-        Reason::Replay,
-        Reason::NotBetter,
-        Reason::PortOff,
-        Reason::NoRoom,
-        Reason::GrownTooLong,
-    ];
-
-    pub fn number(self) -> u8 {
-        self as u8
-    }
-
-    /// The reason of a number from 1 to 14.
-    pub fn from_number(number: u8) -> Option<Self> {
-        Self::ALL.into_iter().find(|reason| reason.number() == number)
+numbered! {
+    /// Why a packet is dropped: the first test that holds.
+    Reason {
+        NotOurs = 1,
+        Duplicate = 2,
+        BadForm = 3,
+        OwnAnnounce = 4,
+        TooManyHops = 5,
+        NoWayOn = 6,
+        AlreadyKnown = 7,
+        WrongSide = 8,
+        BadSignature = 9,
+        Replay = 10,
+        NotBetter = 11,
+        PortOff = 12,
+        NoRoom = 13,
+        GrownTooLong = 14,
     }
 }
+
+/// A refusal or a drop, given when its test holds.
+pub trait When: Sized {
+    fn when(self, holds: bool) -> Result<(), Self> {
+        if holds {
+            Err(self)
+        } else {
+            Ok(())
+        }
+    }
+}
+
+impl When for Refusal {}
+impl When for Reason {}
 
 /// How a packet was judged.
 #[derive(Clone, Copy, Debug, PartialEq, Eq)]
@@ -110,10 +116,10 @@ impl Answer {
     }
 }
 
-/// Total, then the five answers in `Verdict::index`'s order, each modulo 2^32.
+/// Total, then the five answers in `Verdict::index`'s order.
 pub type Tally = [u32; 6];
 
-/// Counts one judged packet.
+/// "total and the five answers, each the number of such packet calls since fresh, modulo 2^32; refusals don't count."
 pub fn count(tally: &mut Tally, verdict: Verdict) {
     for place in [0, 1 + verdict.index()] {
         tally[place] = tally[place].wrapping_add(1);
@@ -125,19 +131,10 @@ mod tests {
     use super::*;
 
     #[test]
-    fn the_tally_wraps() {
-        let mut tally = [u32::MAX, u32::MAX, 0, 0, 0, 7];
-        count(&mut tally, Verdict::Drop(Reason::Replay));
-        count(&mut tally, Verdict::Kept);
-        assert_eq!(tally, [1, 0, 0, 0, 0, 8]);
-    }
-
-    #[test]
     fn reasons_have_document_01s_numbers() {
-        for number in 1..=14 {
-            assert_eq!(Reason::from_number(number).map(Reason::number), Some(number));
+        for number in 0..=255 {
+            assert_eq!(Reason::from_number(number).map(Reason::number), (1..=14).contains(&number).then_some(number));
+            assert_eq!(Refusal::from_number(number).map(Refusal::number), (1..=11).contains(&number).then_some(number));
         }
-        assert_eq!(Reason::from_number(0), None);
-        assert_eq!(Reason::from_number(15), None);
     }
 }

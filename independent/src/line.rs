@@ -1,7 +1,8 @@
 //! The showing program's line.
 
-use crate::faults::AsWritten;
+use crate::limits::LONGEST;
 use crate::packet::{self, Address, DestinationKind, Header, PacketKind};
+use crate::rules::Rules;
 use std::fmt::Write;
 
 fn hexadecimal(address: &Address) -> String {
@@ -30,8 +31,8 @@ fn packet_word(header: Header) -> &'static str {
 }
 
 /// The line of a packet, without its line end.
-pub fn line(packet: &[u8]) -> String {
-    let parts = match packet::read(packet, packet::LONGEST, AsWritten) {
+pub fn line<R: Rules>(rules: &R, packet: &[u8]) -> String {
+    let parts = match packet::read(rules, packet, LONGEST) {
         Ok(parts) => parts,
         Err(refusal) => return format!("refused {}", refusal.number()),
     };
@@ -45,7 +46,7 @@ pub fn line(packet: &[u8]) -> String {
         parts.hops,
         hexadecimal(&parts.destination),
         parts.context,
-        packet::payload(packet).len(),
+        packet.len() - rules.payload_place(packet),
     );
     if header.type_2() {
         text += " by ";
@@ -56,7 +57,11 @@ pub fn line(packet: &[u8]) -> String {
 
 #[cfg(test)]
 mod tests {
-    use super::line;
+    use crate::rules::AsWritten;
+
+    fn line(packet: &[u8]) -> String {
+        super::line(&AsWritten, packet)
+    }
 
     /// A packet of this header, hops 0, bytes 11 and, in type 2, 22 for the addresses, this context, and a payload.
     fn packet(header: u8, context: u8, payload: usize) -> Vec<u8> {

@@ -1,9 +1,9 @@
 //! The proved core as an engine: its numbers decoded into the independent program's answers.
 
-use crate::answer::{Answer, Reason, Tally, Verdict};
-use crate::core;
-use crate::engine::{Engine, Outcome};
-use crate::packet::Address;
+use crate::answer::{Answer, Reason, Refusal, Tally, Verdict};
+use crate::core::{self, crossing, PartsBytes, LINE};
+use crate::engine::{Engine, Outcome, PacketCalls};
+use crate::packet::{Address, Blob, PacketHash, Parts};
 use crate::relay::Arrival;
 
 /// The core keeps nothing between calls: all is in the caller's bytes.
@@ -13,15 +13,19 @@ pub struct Core;
 fn done(refusal: u8) -> Outcome {
     match refusal {
         0 => Outcome::Done,
-        number => Outcome::Refused(number),
+        number => refused(number),
     }
+}
+
+fn refused(number: u8) -> Outcome {
+    Outcome::Refused(Refusal::from_number(number).expect("a refusal's number").number())
 }
 
 /// Bits 0 to 7 the kind, 8 to 15 the refusal's or the reason's number, 16 to 31 the port or the ports, 32 to 47 the length.
 fn judged(number: u64) -> Outcome {
     let (kind, detail, ports, length) = (number as u8, (number >> 8) as u8, (number >> 16) as u16, (number >> 32) as u16);
     let outcome = match kind {
-        0 => Outcome::Refused(detail),
+        0 => refused(detail),
         1 => Outcome::Judged(Answer::silent(Verdict::Drop(Reason::from_number(detail).expect("a reason's number")))),
         2 => Outcome::Judged(Answer::silent(Verdict::Deliver)),
         3 => Outcome::Judged(Answer { verdict: Verdict::Forward(ports as u8), length: usize::from(length) }),
@@ -74,6 +78,48 @@ impl Engine for Core {
 
     fn renumber(&mut self, tables: &mut [u8], map: &[u8; 16]) -> Outcome {
         done(core::renumber(tables, map))
+    }
+
+    fn check(&mut self, tables: &[u8]) -> bool {
+        core::check(tables) == 1
+    }
+}
+
+impl PacketCalls for Core {
+    fn read(&self, packet: &[u8], parts: &mut PartsBytes) -> u8 {
+        core::read(packet, parts)
+    }
+
+    fn payload_start(&self, packet: &[u8]) -> usize {
+        core::payload_start(packet)
+    }
+
+    fn write(&self, parts: &Parts, payload: &[u8], output: &mut [u8]) -> u64 {
+        core::write(&crossing(parts), payload, output)
+    }
+
+    fn packet_hash(&self, packet: &[u8], hash: &mut PacketHash) -> u8 {
+        core::packet_hash(packet, hash)
+    }
+
+    fn link_id(&self, packet: &[u8], id: &mut Address) -> u8 {
+        core::link_id(packet, id)
+    }
+
+    fn announced_destination(&self, payload: &[u8], destination: &mut Address) {
+        core::announced_destination(payload, destination);
+    }
+
+    fn least_announce(&self, parts: &Parts) -> usize {
+        core::least_announce(parts.header.0)
+    }
+
+    fn emission(&self, blob: &Blob) -> u64 {
+        core::emission(blob)
+    }
+
+    fn line(&self, packet: &[u8], text: &mut [u8; LINE]) -> usize {
+        core::line(packet, text)
     }
 }
 

@@ -4,7 +4,7 @@
 //! Writes calls, and what the independent relay makes of them, for hosts in other languages.
 
 use haskumye_independent::compare::{listed, record, Options, Subject, Tally, SUBJECTS};
-use haskumye_independent::faults::Fault;
+use haskumye_independent::faults::{named, Fault};
 use std::path::PathBuf;
 use std::process::ExitCode;
 
@@ -86,5 +86,5 @@ fn number(option: &str, word: Option<String>) -> Result<u64, String> {
 }
 
 fn fault(word: Option<String>) -> Result<Fault, String> {
-    word.and_then(|name| Fault::from_name(&name)).ok_or("--fault wants a fault's name".to_string())
+    word.and_then(|name| named(&name)).ok_or("--fault wants a fault's name".to_string())
 }

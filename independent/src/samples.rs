@@ -1,8 +1,9 @@
 //! Tables made for a test: records with random fields that row 7 allows, and fields set to numbers on both sides of its clauses.
 
+use crate::limits::{BLOB_LIMIT, CLOCK_LIMIT, LATEST, PORT_COUNT};
 use crate::random::Random;
-use crate::tables::{link, path, returned, Section, BLOB_LIMIT, CLOCK_LIMIT, HASHES, HASH_PLACE, LAST_CLOCK, LATEST};
-use crate::tables::{LINKS, LOCALS, PATHS, PORTS, PORT_COUNT, RETURNS, RETURN_PLACE, SIZE};
+use crate::tables::{link, path, port, returned, set_ring_place, Section, HASHES, HASH_PLACE};
+use crate::tables::{LAST_CLOCK, LINKS, LOCALS, PATHS, PORTS, RETURNS, RETURN_PLACE, SIZE};
 
 /// What row 7 asks of a field.
 #[derive(Clone, Copy, PartialEq, Eq)]
@@ -32,7 +33,7 @@ impl Clause {
             Clause::YesOrNo => random.pick(&[0, 1, 1, 2, 3, 255]),
             Clause::Mode => random.pick(&[0, 1, 2, 3, 4, 255]),
             Clause::Port => random.pick(&[0, 14, 15, 16, 17, 31, 255]),
-            Clause::BlobCount => random.pick(&[0, 1, 2, 15, 16, 17, 255]),
+            Clause::BlobCount => random.pick(&[0, 1, 2, BLOB_LIMIT as u8 - 1, BLOB_LIMIT as u8, BLOB_LIMIT as u8 + 1, 255]),
             Clause::Time => {
                 let times = [0, CLOCK_LIMIT, LATEST - 1, LATEST, LATEST + 1, LATEST + 2, 1 << 48, 1 << 63, u64::MAX];
                 return random.pick(&times).to_be_bytes().to_vec();
@@ -56,8 +57,8 @@ const fn field(name: &'static str, section: &'static Section, at: usize, clause:
 
 /// Every field that row 7 speaks of, but the last clock and the ring places.
 pub const FIELDS: &[Field] = &[
-    field("port's on mark", &PORTS, 0, Clause::YesOrNo),
-    field("port's mode", &PORTS, 1, Clause::Mode),
+    field("port's on mark", &PORTS, port::ON, Clause::YesOrNo),
+    field("port's mode", &PORTS, port::MODE, Clause::Mode),
     field("local address's mark", &LOCALS, 0, Clause::YesOrNo),
     field("path's mark", &PATHS.records, 0, Clause::YesOrNo),
     field("path's port", &PATHS.records, path::PORT, Clause::Port),
@@ -152,11 +153,11 @@ pub fn set_last_clock(random: &mut Random, tables: &mut [u8]) {
 
 /// Sets a ring's place to one at the ring's end, on either side.
 pub fn set_ring(random: &mut Random, tables: &mut [u8], at: usize) {
-    let place: u16 = random.pick(match at {
-        RETURN_PLACE => &[0, 255, 256, 510, 511, 512, 513, 1_023, 32_768, u16::MAX],
-        _ => &[0, 255, 256, 1_022, 1_023, 1_024, 1_025, 32_768, u16::MAX],
+    let place = random.pick(match at {
+        RETURN_PLACE => &[0, 255, 256, 510, 511, 512, 513, 1_023, 32_768, 65_535],
+        _ => &[0, 255, 256, 1_022, 1_023, 1_024, 1_025, 32_768, 65_535],
     });
-    tables[at..at + 2].copy_from_slice(&place.to_be_bytes());
+    set_ring_place(tables, at, place);
 }
 
 /// The rings, and where their places stand.

@@ -2,7 +2,7 @@
 
 use haskumye_independent::compare::{faults::differs, listed, shrink::shrink};
 use haskumye_independent::engine::Call;
-use haskumye_independent::faults::Fault;
+use haskumye_independent::faults::{BlobsStopAtLimit, HopsLimitHigher, SpreadLimitLower};
 use haskumye_independent::traffic::Traffic;
 use std::fs;
 use std::path::PathBuf;
@@ -13,14 +13,14 @@ fn path(name: &str) -> PathBuf {
 
 #[test]
 fn no_call_of_a_shrunk_list_can_be_left_out() {
-    for fault in [Fault::HopsLimitHigher, Fault::SpreadLimitLower, Fault::BlobsStopAtLimit] {
+    for fault in [HopsLimitHigher, SpreadLimitLower, BlobsStopAtLimit] {
         let shown = |calls: &[Call]| differs(fault, calls.iter().cloned()).map(|difference| difference.calls);
         let first = differs(fault, Traffic::new(1)).expect("it is noticed").calls;
         let few = shrink(Traffic::new(1).take(first).collect(), shown);
-        assert_eq!(shown(&few), Some(few.len()), "{}", fault.name());
-        assert!(few.len() < 30, "{}: {} of {first} calls", fault.name(), few.len());
+        assert_eq!(shown(&few), Some(few.len()), "{}", fault.name);
+        assert!(few.len() < 30, "{}: {} of {first} calls", fault.name, few.len());
         for left_out in 0..few.len() {
-            assert_eq!(shown(&[&few[..left_out], &few[left_out + 1..]].concat()), None, "{}", fault.name());
+            assert_eq!(shown(&[&few[..left_out], &few[left_out + 1..]].concat()), None, "{}", fault.name);
         }
     }
 }

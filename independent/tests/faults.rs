@@ -1,7 +1,8 @@
 //! The comparison notices every deliberate fault.
 
-use haskumye_independent::compare::{Options, Tally, SUBJECTS};
-use haskumye_independent::faults::Fault;
+use haskumye_independent::compare::faults::packets_differ;
+use haskumye_independent::compare::{tables::compare_with, Options, Tally, SUBJECTS};
+use haskumye_independent::faults::{self, OF_PACKETS, OF_TABLES};
 
 fn run(name: &str, options: &Options) -> Tally {
     let mut tally = Tally::default();
@@ -15,11 +16,38 @@ fn run(name: &str, options: &Options) -> Tally {
 fn there_are_forty_and_all_are_noticed() {
     let tally = run("faults", &Options::default());
     assert!(tally.passed >= 40);
-    assert_eq!((tally.passed, tally.failed), (Fault::ALL.len(), 0));
+    assert_eq!((tally.passed, tally.failed), (faults::all().len(), 0));
 }
 
 #[test]
 fn a_relay_without_a_fault_is_not_noticed() {
     let tally = run("faults", &Options { damage: true, ..Options::default() });
     assert_eq!(tally.passed, 0);
+}
+
+#[test]
+fn names_are_different() {
+    let mut names: Vec<_> = faults::all().iter().map(|fault| fault.name).collect();
+    names.sort();
+    names.dedup();
+    assert_eq!(names.len(), faults::all().len());
+}
+
+#[test]
+fn the_comparison_notices_faults_in_packets() {
+    for fault in OF_PACKETS.concat() {
+        assert!(packets_differ(fault.rules()), "{}", fault.text);
+    }
+}
+
+#[test]
+fn the_comparison_notices_faults_in_tables() {
+    for fault in OF_TABLES.concat() {
+        let noticed = |count: &usize| {
+            let mut tally = Tally::silent();
+            compare_with(fault.rules(), &Options { count: *count, ..Options::default() }, &mut tally);
+            tally.failed > 0
+        };
+        assert!([20, 100, 400].iter().any(noticed), "{}", fault.text);
+    }
 }

@@ -31,21 +31,19 @@ use Rattle.rules.specs.Writes.{returnKey, linkRecord, renewedLink, writeWay, wr
 use Rattle.rules.specs.declared.Link.{Link}
 use Rattle.rules.specs.declared.Verdict.the-variants.{Forward}
 use Rattle.rules.proofs.Followed.{Planned, planned}
-use Rattle.tables.specs.Places.{linksAt, linkWidth, returnsAt, returnWidth}
-use Rattle.tables.specs.Records.{linkOf, returnOf}
-use Rattle.tables.specs.Layout.{recordAt, relayOf, bytesOf}
+use Rattle.tables.specs.Layout.{relayOf, bytesOf}
 use Rattle.lookup.proofs.Found.{path-found, path-missing, link-found, link-missing, return-found, return-missing}
 use Rattle.update.specs.Written.{linkWritten, returnEmptied}
 use Rattle.update.proofs.Enacted.{return-written, link-written, link-renewed, return-emptied}
 use Rattle.outgoing.specs.Leaving.{CanLeave}
 use Rattle.plan.specs.declared.Arrived.{Arrived}
 use Rattle.plan.specs.declared.Decision.the-variants.{Data, Request, Carry, Receipt}
-use Rattle.plan.specs.Decided.{arrivalOf, decision}
+use Rattle.plan.specs.Decided.{linkAt, returnAt, seen, pathAt, arrivalOf, decision}
 use Rattle.plan.proofs.KindLaws.{request-left}
 use Rattle.act.specs.Stored.{addressBy, returnPut}
-use Rattle.act.specs.Acted.{AcceptedOn, seen, planOn, verdictOn, writtenOn, outputOn, CarriesOut, pathAt, forwardedOn}
+use Rattle.act.specs.Acted.{AcceptedOn, planOn, verdictOn, writtenOn, outputOn, CarriesOut, forwardedOn}
 use Rattle.rules.proofs.Passed.{passed}
-use Rattle.act.proofs.Inverted.{inverted, settled}
+use Rattle.act.proofs.Inverted.{inverted, at-place}
 
 -- a link id is bytes, whatever the packet
 pub link-id-bytes : (p : List ℕ) → Bytes (linkId p)
@@ -53,13 +51,6 @@ unfolding linkId
 link-id-bytes p =
     let m : List ℕ = hashedPart (partsOf p) (take 64 (payload p)) in
     take-bytes 16 (sha256-of m) (digest-byte m)
-
--- the records at a place
-abbrev pub linkAt : List ℕ → ℕ → Link
-linkAt t i = linkOf (recordAt linksAt linkWidth t i)
-
-abbrev pub returnAt : List ℕ → ℕ → Return
-returnAt t i = returnOf (recordAt returnsAt returnWidth t i)
 
 module _ (packet : List ℕ) (m : Arrived) (t : List ℕ) (ok : AcceptedOn packet m t) where
   abbrev a : Arrival
@@ -71,9 +62,9 @@ module _ (packet : List ℕ) (m : Arrived) (t : List ℕ) (ok : AcceptedOn packe
   abbrev r : Relay
   r = relayOf t
 
-  pub onward : (w : Way) → planOn packet m t ≡ follows w → CanLeave packet
+  pub can-leave : (w : Way) → planOn packet m t ≡ follows w → CanLeave packet
   unfolding tooManyHops
-  onward w e = record { readable = ok .readable; fewHops = leb-false _ _ (passed v a w e .1 .fewHops) }
+  can-leave w e = record { readable = ok .readable; fewHops = leb-false _ _ (passed v a w e .1 .fewHops) }
 
   -- ---- by any way that forwards
   forwarded : (w : Way) → planOn packet m t ≡ follows w → wayVerdict v a w ≡ Forward (leavingPort a w) (length (outgoing v a w))
@@ -100,11 +91,11 @@ module _ (packet : List ℕ) (m : Arrived) (t : List ℕ) (ok : AcceptedOn packe
 
   -- ---- data by the path at a place
   module _ (i : ℕ) (d : decision r a ≡ Data i) where
-    pub data-row : (i < pathCount) × (planOn packet m t ≡ follows (by-path (pathAt t i))) × (isData (header a) ≡ true)
-    data-row =
+    pub data-record : (i < pathCount) × (planOn packet m t ≡ follows (by-path (pathAt t i))) × (isData (header a) ≡ true)
+    data-record =
         let k = inverted r a (Data i) d in
         let f : Planned v a (follows (by-path (k .0))) = subst (Planned v a) (k .1) (planned v a) in
-        let q = settled i pathCount (f .found .0) (path-found t (m .clock) (destination a) i (k .3)) (path-missing t (m .clock) (destination a) i (k .3)) in
+        let q = at-place i pathCount (f .found .0) (path-found t (m .clock) (destination a) i (k .3)) (path-missing t (m .clock) (destination a) i (k .3)) in
         (q .0, k .1 ∙ ap (λ (p : Path). follows (by-path p)) (q .1), k .2)
 
     pub data-left : Bytes t → (port n : ℕ) (output u o : List ℕ) → port ≡ pathAt t i .port → n ≡ length (forwardedOn packet t i)
@@ -112,16 +103,16 @@ module _ (packet : List ℕ) (m : Arrived) (t : List ℕ) (ok : AcceptedOn packe
         → u ≡ returnPut t (m .port) port hash (m .clock) → CarriesOut packet m t output (Forward port n) u o
     unfolding outgoing leavingPort returnKey returnPut
     data-left b port n output u o q1 q2 q3 hash is q4 =
-        forwarded (by-path (pathAt t i)) (data-row .1) (by-path-forwards (pathAt t i)) port n _ output u o q1 refl q2 q3
-        (return-written v a t b (ok .formed) (pathAt t i) (take 16 hash) port (r .returns .next) u (data-row .2) (ap (take 16) is) q1 refl q4)
+        forwarded (by-path (pathAt t i)) (data-record .1) (by-path-forwards (pathAt t i)) port n _ output u o q1 refl q2 q3
+        (return-written v a t b (ok .formed) (pathAt t i) (take 16 hash) port (r .returns .next) u (data-record .2) (ap (take 16) is) q1 refl q4)
 
   -- ---- a link request by the path at a place
   module _ (i place high low : ℕ) (d : decision r a ≡ Request i place high low) where
-    pub request-row : (i < pathCount) × (planOn packet m t ≡ follows (by-path (pathAt t i))) × (isData (header a) ≡ false) × (place ≡ freeLink (m .clock) r)
-    request-row =
+    pub request-record : (i < pathCount) × (planOn packet m t ≡ follows (by-path (pathAt t i))) × (isData (header a) ≡ false) × (place ≡ freeLink (m .clock) r)
+    request-record =
         let k = inverted r a (Request i place high low) d in
         let f : Planned v a (follows (by-path (k .0))) = subst (Planned v a) (k .1) (planned v a) in
-        let q = settled i pathCount (f .found .0) (path-found t (m .clock) (destination a) i (k .3)) (path-missing t (m .clock) (destination a) i (k .3)) in
+        let q = at-place i pathCount (f .found .0) (path-found t (m .clock) (destination a) i (k .3)) (path-missing t (m .clock) (destination a) i (k .3)) in
         (q .0, k .1 ∙ ap (λ (p : Path). follows (by-path p)) (q .1), k .2, k .4)
 
     pub request-room : place < linkCount
@@ -148,17 +139,17 @@ module _ (packet : List ℕ) (m : Arrived) (t : List ℕ) (ok : AcceptedOn packe
         → u ≡ linkWritten t place x → CarriesOut packet m t output (Forward port n) u o
     unfolding outgoing leavingPort
     asked-left b port n x output u o q1 qx q2 q3 q4 =
-        forwarded (by-path (pathAt t i)) (request-row .1) (by-path-forwards (pathAt t i)) port n _ output u o q1 refl q2 q3
-        (link-written v a t b (ok .formed) x place request-room u q4 (pathAt t i) (request-row .2) qx (request-row .3))
+        forwarded (by-path (pathAt t i)) (request-record .1) (by-path-forwards (pathAt t i)) port n _ output u o q1 refl q2 q3
+        (link-written v a t b (ok .formed) x place request-room u q4 (pathAt t i) (request-record .2) qx (request-record .3))
 
   -- ---- a packet of the link at a place
   module _ (i port : ℕ) (d : decision r a ≡ Carry i port) where
-    pub carry-row : (i < linkCount) × (planOn packet m t ≡ follows (along-link (linkAt t i))) × (i ≡ linkPlace (m .clock) r (destination a))
+    pub carry-record : (i < linkCount) × (planOn packet m t ≡ follows (along-link (linkAt t i))) × (i ≡ linkPlace (m .clock) r (destination a))
         × (port ≡ leavingPort a (along-link (linkAt t i)))
-    carry-row =
+    carry-record =
         let k = inverted r a (Carry i port) d in
         let f : Planned v a (follows (along-link (k .0))) = subst (Planned v a) (k .1) (planned v a) in
-        let q = settled i linkCount (f .found) (link-found t (m .clock) (destination a) i (k .2)) (link-missing t (m .clock) (destination a) i (k .2)) in
+        let q = at-place i linkCount (f .found) (link-found t (m .clock) (destination a) i (k .2)) (link-missing t (m .clock) (destination a) i (k .2)) in
         (q .0, k .1 ∙ ap (λ (l : Link). follows (along-link l)) (q .1), k .2, k .3 ∙ ap (λ (l : Link). leavingPort a (along-link l)) (q .1))
 
     pub carry-left : Bytes t → (n : ℕ) (x : Link) (output u o : List ℕ) → x ≡ renewedLink a (linkAt t i)
@@ -166,16 +157,16 @@ module _ (packet : List ℕ) (m : Arrived) (t : List ℕ) (ok : AcceptedOn packe
         → CarriesOut packet m t output (Forward port n) u o
     unfolding outgoing
     carry-left b n x output u o qx q2 q3 q4 =
-        forwarded (along-link (linkAt t i)) (carry-row .1) (along-link-forwards (linkAt t i)) port n _ output u o (carry-row .3) refl q2 q3
-        (link-renewed v a t b (ok .formed) x i (carry-row .0) u q4 (linkAt t i) qx (carry-row .2))
+        forwarded (along-link (linkAt t i)) (carry-record .1) (along-link-forwards (linkAt t i)) port n _ output u o (carry-record .3) refl q2 q3
+        (link-renewed v a t b (ok .formed) x i (carry-record .0) u q4 (linkAt t i) qx (carry-record .2))
 
   -- ---- an ordinary proof by the return record at a place
   module _ (i port : ℕ) (d : decision r a ≡ Receipt i port) where
-    pub receipt-row : (i < returnCount) × (planOn packet m t ≡ follows (by-return (returnAt t i)))
-    receipt-row =
+    pub receipt-record : (i < returnCount) × (planOn packet m t ≡ follows (by-return (returnAt t i)))
+    receipt-record =
         let k = inverted r a (Receipt i port) d in
         let f : Planned v a (follows (by-return (k .0))) = subst (Planned v a) (k .1) (planned v a) in
-        let q = settled i returnCount (f .found) (return-found t (m .clock) (destination a) i (k .2)) (return-missing t (m .clock) (destination a) i (k .2)) in
+        let q = at-place i returnCount (f .found) (return-found t (m .clock) (destination a) i (k .2)) (return-missing t (m .clock) (destination a) i (k .2)) in
         (q .0, k .1 ∙ ap (λ (x : Return). follows (by-return x)) (q .1))
 
     pub receipt-left : Bytes t → (n : ℕ) (output u o : List ℕ) → n ≡ length (carriedPacket packet) → o ≡ patch output 0 (carriedPacket packet)
@@ -184,4 +175,4 @@ module _ (packet : List ℕ) (m : Arrived) (t : List ℕ) (ok : AcceptedOn packe
     receipt-left b n output u o q2 q3 q4 =
         let k = inverted r a (Receipt i port) d in
         forwarded (by-return (k .0)) (k .1) (by-return-forwards (k .0)) port n _ output u o (k .3) refl q2 q3
-        (return-emptied v a t b (ok .formed) (k .0) i u (receipt-row .0) (k .2) q4)
+        (return-emptied v a t b (ok .formed) (k .0) i u (receipt-record .0) (k .2) q4)

@@ -57,8 +57,8 @@ module _ (r : Relay) (a : Arrival) where
   inverted d e = subst Inverted e (inverted-plan (plan view a) refl)
 
 -- ---- the record that a search found, at its place
-pub settled : {A : Type 0} {s : Slot A} {x y : A} (i n : ℕ) → s ≡ used x → (i < n → s ≡ used y) → (n ≤ i → s ≡ empty) → (i < n) × (x ≡ y)
-settled {A} {s} {x} {y} i n there found missing = go (ltb i n) refl
+pub at-place : {A : Type 0} {s : Slot A} {x y : A} (i n : ℕ) → s ≡ used x → (i < n → s ≡ used y) → (n ≤ i → s ≡ empty) → (i < n) × (x ≡ y)
+at-place {A} {s} {x} {y} i n there found missing = go (ltb i n) refl
   where
     go : (b : Bool) → ltb i n ≡ b → (i < n) × (x ≡ y)
     go true q = let f : s ≡ used y = found (ltb-true i n q) in let m : x ≡ y = cc in (ltb-true i n q, m)

@@ -1,4 +1,3 @@
-pub mod RefusalLaws
 pub mod Inverted
 pub mod Forwards
 pub mod Spreads

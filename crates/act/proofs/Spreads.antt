@@ -41,13 +41,13 @@ use Rattle.outgoing.specs.Leaving.{CanLeave, spreadLength}
 use Rattle.outgoing.proofs.RuleLaws.{spread-exceeds}
 use Rattle.plan.specs.declared.Arrived.{Arrived}
 use Rattle.plan.specs.declared.Decision.the-variants.{Announce}
-use Rattle.plan.specs.Decided.{arrivalOf, decision}
+use Rattle.plan.specs.Decided.{seen, arrivalOf, decision}
 use Rattle.plan.proofs.KindLaws.{announce-long}
 use Rattle.act.specs.Stored.{blobsStored, pathPut}
-use Rattle.act.specs.Acted.{AcceptedOn, seen, planOn, verdictOn, writtenOn, outputOn, CarriesOut, spreadOn, spreadVerdictOn, announcedBy}
+use Rattle.act.specs.Acted.{AcceptedOn, planOn, verdictOn, writtenOn, outputOn, CarriesOut, spreadOn, spreadVerdictOn, announcedBy}
 use Rattle.rules.proofs.Passed.{passed}
-use Rattle.act.proofs.Inverted.{inverted, settled}
-use Rattle.act.proofs.Forwards.{onward}
+use Rattle.act.proofs.Inverted.{inverted, at-place}
+use Rattle.act.proofs.Forwards.{can-leave}
 
 -- ---- only an announce goes everywhere
 abbrev isEverywhere : Way → Bool
@@ -137,8 +137,8 @@ module _ (packet : List ℕ) (m : Arrived) (t : List ℕ) (ok : AcceptedOn packe
   abbrev r : Relay
   r = relayOf t
 
-  pub announce-onward : CanLeave packet
-  announce-onward = let k = inverted r a (Announce place known) d in onward packet m t ok (everywhere (k .0)) (k .1)
+  pub announce-can-leave : CanLeave packet
+  announce-can-leave = let k = inverted r a (Announce place known) d in can-leave packet m t ok (everywhere (k .0)) (k .1)
 
   pub announce-body : 84 ≤ length (payload packet)
   announce-body =
@@ -154,7 +154,7 @@ module _ (packet : List ℕ) (m : Arrived) (t : List ℕ) (ok : AcceptedOn packe
   unfolding noRoom viewAt announcedPlace
   placed empty e at = subst (λ (n : ℕ). n < pathCount) (sym at) (ltb-true _ _ (not-false _ (passed v a (everywhere empty) e .1 .room)))
   placed (used p) e at =
-      settled place pathCount (shown (used p) e) (path-found t (m .clock) (destination a) place at) (path-missing t (m .clock) (destination a) place at) .0
+      at-place place pathCount (shown (used p) e) (path-found t (m .clock) (destination a) place at) (path-missing t (m .clock) (destination a) place at) .0
 
   pub announce-room : place < pathCount
   announce-room = let k = inverted r a (Announce place known) d in placed (k .0) (k .1) (k .2)

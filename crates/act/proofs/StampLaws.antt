@@ -17,9 +17,9 @@ use Rattle.update.proofs.Enacted.{clock-stamped, hash-stamped}
 use Rattle.plan.specs.declared.Arrived.{Arrived}
 use Rattle.plan.specs.declared.Decision.{Decision}
 use Rattle.plan.specs.declared.Decision.the-variants.{Drop, Deliver, Announce, Data, Request, Carry, Receipt}
-use Rattle.plan.specs.Decided.{arrivalOf, decision}
+use Rattle.plan.specs.Decided.{seen, arrivalOf, decision}
 use Rattle.act.specs.Stored.{remembersDecided, stamped}
-use Rattle.act.specs.Acted.{AcceptedOn, seen, planOn, tablesOn, writtenOn, rememberedOn}
+use Rattle.act.specs.Acted.{AcceptedOn, planOn, tablesOn, writtenOn, rememberedOn}
 use Rattle.act.proofs.Inverted.{inverted}
 
 module _ (packet : List ℕ) (m : Arrived) (t : List ℕ) where
@@ -33,7 +33,7 @@ module _ (packet : List ℕ) (m : Arrived) (t : List ℕ) where
   r = relayOf t
 
   pub remembered-by : (d : Decision) → decision r a ≡ d → remembersDecided d ≡ rememberedOn packet m t
-  unfolding remembersDecided rememberedOn remembers
+  unfolding rememberedOn remembers
   remembered-by (Drop reason) e = ap (remembers v a) (sym (inverted r a (Drop reason) e))
   remembered-by Deliver e = ap (remembers v a) (sym (inverted r a Deliver e))
   remembered-by (Announce place known) e = ap (remembers v a) (sym (inverted r a (Announce place known) e .1))

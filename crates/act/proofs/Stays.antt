@@ -14,8 +14,8 @@ use Rattle.tables.specs.Layout.{relayOf, bytesOf}
 use Rattle.tables.proofs.Whole.{again}
 use Rattle.plan.specs.declared.Arrived.{Arrived}
 use Rattle.plan.specs.declared.Decision.the-variants as decided
-use Rattle.plan.specs.Decided.{arrivalOf, decision}
-use Rattle.act.specs.Acted.{AcceptedOn, seen, planOn, verdictOn, writtenOn, outputOn, CarriesOut}
+use Rattle.plan.specs.Decided.{seen, arrivalOf, decision}
+use Rattle.act.specs.Acted.{AcceptedOn, planOn, verdictOn, writtenOn, outputOn, CarriesOut}
 use Rattle.act.proofs.Inverted.{inverted}
 
 module _ (packet : List ℕ) (m : Arrived) (t : List ℕ) (ok : AcceptedOn packet m t) (b : Bytes t) (output : List ℕ) where

@@ -1,33 +1,23 @@
--- What an accepted packet leaves: the rules' verdict, tables and output, on the bytes; and the refusals before it.
+-- What an accepted packet leaves: the rules' verdict, tables and output, on the bytes.
 -- For the contracts of helpers: not part of what a reader must believe.
-use Prim.Native.Nat.{ℕ, _<_}
-use mathlib.Core.Bool.{Bool, true, false}
+use Prim.Native.Nat.{ℕ, _≤_, _<_}
+use mathlib.Core.Bool.{Bool, true}
 use mathlib.Core.List.{List}
 use mathlib.Core.Path.{_≡_}
-use Rattle.octets.specs.Choice.{_then_otherwise_}
+use lib.ListN.{length}
 use Rattle.packet.specs.Read.{longestPacket, reads}
 use Rattle.numbers.specs.Numbers.{portCount, clockLimit}
-use Rattle.rules.specs.Relay.{Path}
-use Rattle.rules.specs.View.{View, viewAt}
+use Rattle.rules.specs.View.{View}
 use Rattle.rules.specs.Arrival.{Arrival, hops, destination}
-use Rattle.rules.specs.Refusals.{refusalBy}
 use Rattle.rules.specs.Outgoing.{spreadPorts, spreadPacket, pathPacket}
 use Rattle.rules.specs.Judging.{Plan, plan, spreadVerdict, verdict, outputAfter}
 use Rattle.rules.specs.Writes.{remembers, nextHopOf, pathExpiry, writePlan, enact}
 use Rattle.rules.specs.declared.Verdict.{Verdict}
-use Rattle.tables.specs.Places.{pathsAt, pathWidth}
-use Rattle.tables.specs.Records.{pathOf}
-use Rattle.tables.specs.Layout.{recordAt, relayOf, bytesOf, wellFormed}
+use Rattle.tables.specs.Layout.{relayOf, bytesOf, wellFormed}
 use Rattle.update.specs.declared.Announced.{Announced}
 use Rattle.plan.specs.declared.Arrived.{Arrived}
-use Rattle.plan.specs.Decided.{arrivalOf}
-
--- 7 6 4 5 1 2 3 1, or 0: a packet call's refusal on bytes, with an output of `room` bytes
-unfoldable pub packetRefusalOn : List ℕ → ℕ → ℕ → List ℕ → ℕ → ℕ
-packetRefusalOn packet port clock t room =
-    wellFormed t
-    then refusalBy (relayOf t) packet port clock room
-    otherwise 7
+use Rattle.plan.specs.declared.Decision.{Decision}
+use Rattle.plan.specs.Decided.{arrivalOf, seen, pathAt, decisionOn}
 
 -- what a caller shows of an accepted packet
 pub record AcceptedOn (packet : List ℕ) (m : Arrived) (t : List ℕ) : Type 0 where
@@ -35,10 +25,6 @@ pub record AcceptedOn (packet : List ℕ) (m : Arrived) (t : List ℕ) : Type 0 
   pub readable : reads longestPacket packet ≡ true
   pub port : m .port < portCount
   pub clock : m .clock < clockLimit
-
--- what the tables show at the packet's clock
-abbrev pub seen : Arrived → List ℕ → View
-seen m t = viewAt (m .clock) (relayOf t)
 
 abbrev pub planOn : List ℕ → Arrived → List ℕ → Plan
 planOn packet m t = plan (seen m t) (arrivalOf packet m)
@@ -60,6 +46,12 @@ rememberedOn packet m t = remembers (seen m t) (arrivalOf packet m) (planOn pack
 unfoldable pub outputOn : List ℕ → Arrived → List ℕ → List ℕ → List ℕ
 outputOn packet m t output = outputAfter (seen m t) (arrivalOf packet m) (planOn packet m t) output
 
+-- what a caller shows of a decision d that is to be carried out
+pub record CanCarryOut (packet : List ℕ) (m : Arrived) (t output : List ℕ) (d : Decision) : Type 0 where
+  pub accepted : AcceptedOn packet m t
+  pub roomy : longestPacket ≤ length output
+  pub decided : decisionOn packet m t ≡ d
+
 -- what a function leaves that carries out what was decided: all three are the rules', but for the stamp
 abbrev pub CarriesOut : List ℕ → Arrived → List ℕ → List ℕ → Verdict → List ℕ → List ℕ → Type 0
 CarriesOut packet m t output verdict t′ output′ =
@@ -72,9 +64,6 @@ Acts packet m t output verdict t′ output′ =
 
 -- ---- what leaves
 -- by the path at a place
-abbrev pub pathAt : List ℕ → ℕ → Path
-pathAt t place = pathOf (recordAt pathsAt pathWidth t place)
-
 abbrev pub forwardedOn : List ℕ → List ℕ → ℕ → List ℕ
 forwardedOn packet t path = pathPacket (pathAt t path .hops) (pathAt t path .nextHop) packet
 

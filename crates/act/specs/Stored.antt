@@ -20,7 +20,7 @@ use Rattle.plan.specs.declared.Decision.the-variants.{Drop, Deliver, Announce, 
 
 -- ---- the stamp
 -- whether the hash is remembered, by what was decided
-unfoldable pub remembersDecided : Decision → Bool
+abbrev pub remembersDecided : Decision → Bool
 remembersDecided (Drop reason) = remembersDrop reason
 remembersDecided Deliver = true
 remembersDecided (Announce place known) = true

@@ -1,4 +1,4 @@
-// AcceptedOn announces: spread or kept, and their path is set.
+// Accepted announces: spread or kept, and their path is set.
 use numbers::ACCESS_POINT_LIFETIME;
 use numbers::BOUNDARY_LIFETIME;
 use numbers::PORT_COUNT;
@@ -25,9 +25,9 @@ ghost use Rattle.tables.specs.Places.{tableSize};
 ghost use Rattle.tables.specs.Layout.{relayOf};
 ghost use Rattle.outgoing.specs.Leaving.{CanLeave};
 ghost use Rattle.plan.specs.declared.Decision.the-variants.{Announce};
-ghost use Rattle.plan.specs.Decided.{arrivalOf, decision};
+ghost use Rattle.plan.specs.Decided.{arrivalOf, CanRead, seen};
 ghost use Rattle.act.specs.Stored.{pathPut};
-ghost use Rattle.act.specs.Acted.{AcceptedOn, seen, CarriesOut, spreadOn, spreadVerdictOn, announcedBy};
+ghost use Rattle.act.specs.Acted.{CanCarryOut, CarriesOut, spreadOn, spreadVerdictOn, announcedBy};
 
 // The number of ports as a byte.
 const PORTS: u8 = PORT_COUNT as u8;
@@ -59,8 +59,7 @@ fn next_hop_of(packet: &[u8]) -> [u8; 16]
 
 // What the announce sets of its path.
 fn announced_path(tables: &[u8], packet: &[u8], arrived: Arrived) -> Announced
-    requires { ⌜ (length (now tables) ≡ tableSize) × (reads longestPacket (now packet) ≡ true)
-        × (arrived .port < portCount) × (arrived .clock < clockLimit) ⌝ }
+    requires { ⌜ CanRead (now packet) (now tables) × (arrived .port < portCount) × (arrived .clock < clockLimit) ⌝ }
     ensures { λ r. ⌜ r ≡ announcedBy (seen arrived (now (tables .entry))) (arrivalOf (now (packet .entry)) arrived) ⌝ }
 {
     let parts = packet::parts_of(packet);
@@ -131,8 +130,7 @@ pub fn announce(
     tables: &mut [u8],
     output: &mut [u8],
 ) -> Verdict
-    requires { ⌜ AcceptedOn (now packet) arrived (now tables) × (longestPacket ≤ length (now output))
-        × (decision (relayOf (now tables)) (arrivalOf (now packet) arrived) ≡ Announce place known) ⌝ }
+    requires { ⌜ CanCarryOut (now packet) arrived (now tables) (now output) (Announce place known) ⌝ }
     ensures { λ r. ⌜ CarriesOut (now (packet .entry)) arrived (now (tables .entry)) (now (output .entry))
         r (now (tables .exit)) (now (output .exit)) ⌝ }
 {

@@ -1,15 +1,11 @@
-// What is done with an accepted packet once it is decided, one function for each record that is written, and one stamp; the refusals before
-// it, and the tally behind it.
-// Entry points: refusal, counted, reason_number. Every other function is a helper of the packet call: the caller shows that the packet is accepted, and
+// What is done with an accepted packet once it is decided, one function for each record that is written, and one stamp.
+// Entry points: none. Every function is a helper of the packet call: the caller shows that the packet is accepted, and
 // what was decided.
 mod announces;
 mod links;
 mod paths;
-mod reasons;
-mod refusals;
 mod returns;
 mod stamps;
-mod tallies;
 
 use announces::announce;
 use links::carry;
@@ -17,21 +13,13 @@ use paths::request;
 use paths::send;
 use plan::Arrived;
 use plan::Decision;
-pub use reasons::reason_number;
-pub use refusals::refusal;
 use returns::receipt;
 use rules::Verdict;
 use stamps::remembers;
 use stamps::stamp;
-pub use tallies::counted;
 ghost use mathlib.Core.Path.{_≡_};
-ghost use Prim.Native.Nat.{_≤_};
-ghost use lib.ListN.{length};
-ghost use Rattle.packet.specs.Read.{longestPacket};
 ghost use Rattle.packet.specs.Hash.{packetHash};
-ghost use Rattle.tables.specs.Layout.{relayOf};
-ghost use Rattle.plan.specs.Decided.{arrivalOf, decision as decisionOn};
-ghost use Rattle.act.specs.Acted.{AcceptedOn, CarriesOut, Acts};
+ghost use Rattle.act.specs.Acted.{CanCarryOut, CarriesOut, Acts};
 
 // Carries out what was decided of an accepted packet: writes its record and what leaves, all but the stamp.
 fn carry_out(
@@ -42,8 +30,7 @@ fn carry_out(
     tables: &mut [u8],
     output: &mut [u8],
 ) -> Verdict
-    requires { ⌜ AcceptedOn (now packet) arrived (now tables) × (longestPacket ≤ length (now output))
-        × (decision ≡ decisionOn (relayOf (now tables)) (arrivalOf (now packet) arrived))
+    requires { ⌜ CanCarryOut (now packet) arrived (now tables) (now output) decision
         × (hash ≡ packetHash (now packet)) ⌝ }
     ensures { λ r. ⌜ CarriesOut (now (packet .entry)) arrived (now (tables .entry)) (now (output .entry))
         r (now (tables .exit)) (now (output .exit)) ⌝ }
@@ -77,8 +64,7 @@ pub fn act(
     tables: &mut [u8],
     output: &mut [u8],
 ) -> Verdict
-    requires { ⌜ AcceptedOn (now packet) arrived (now tables) × (longestPacket ≤ length (now output))
-        × (decision ≡ decisionOn (relayOf (now tables)) (arrivalOf (now packet) arrived))
+    requires { ⌜ CanCarryOut (now packet) arrived (now tables) (now output) decision
         × (hash ≡ packetHash (now packet)) ⌝ }
     ensures { λ r. ⌜ Acts (now (packet .entry)) arrived (now (tables .entry)) (now (output .entry))
         r (now (tables .exit)) (now (output .exit)) ⌝ }

@@ -8,7 +8,7 @@ use rules::TakenHops;
 use rules::Verdict;
 ghost use mathlib.Core.Path.{_≡_};
 ghost use mathlib.Core.Bool.{true};
-ghost use Prim.Native.Nat.{_≤_, _<_};
+ghost use Prim.Native.Nat.{_<_};
 ghost use lib.ListN.{length};
 ghost use Rattle.octets.specs.Choice.{_or_};
 ghost use Rattle.packet.specs.Read.{longestPacket, reads};
@@ -16,12 +16,10 @@ ghost use Rattle.packet.specs.Hash.{linkId};
 ghost use Rattle.numbers.specs.Numbers.{pathCount, clockLimit};
 ghost use Rattle.rules.specs.Arrival.{isLinkProof};
 ghost use Rattle.rules.specs.Writes.{linkRecord, renewedLink};
-ghost use Rattle.tables.specs.Places.{tableSize};
-ghost use Rattle.tables.specs.Layout.{relayOf};
 ghost use Rattle.plan.specs.declared.Decision.the-variants.{Carry};
-ghost use Rattle.plan.specs.Decided.{arrivalOf, decision};
+ghost use Rattle.plan.specs.Decided.{arrivalOf, CanRead, pathAt};
 ghost use Rattle.act.specs.Stored.{addressBy};
-ghost use Rattle.act.specs.Acted.{AcceptedOn, CarriesOut, pathAt};
+ghost use Rattle.act.specs.Acted.{CanCarryOut, CarriesOut};
 
 // The address that two numbers write, half by half.
 pub fn address_of(high: u64, low: u64) -> [u8; 16]
@@ -35,8 +33,8 @@ pub fn address_of(high: u64, low: u64) -> [u8; 16]
 
 // The link that a request by the path at a place makes. It lives 6 × (remaining hops + 1) seconds until it is proved.
 pub fn asked_link(tables: &[u8], packet: &[u8], arrived: Arrived, path: usize, id: [u8; 16]) -> Link
-    requires { ⌜ (length (now tables) ≡ tableSize) × (path < pathCount) × (reads longestPacket (now packet) ≡ true)
-        × (arrived .clock < clockLimit) × (id ≡ linkId (now packet)) ⌝ }
+    requires { ⌜ CanRead (now packet) (now tables) × (path < pathCount) × (arrived .clock < clockLimit)
+        × (id ≡ linkId (now packet)) ⌝ }
     ensures { λ r. ⌜ r ≡ linkRecord (arrivalOf (now (packet .entry)) arrived) (pathAt (now (tables .entry)) path) ⌝ }
 {
     let port = lookup::path_port(tables, path);
@@ -61,7 +59,7 @@ fn proved_by(proved: bool, packet: &[u8]) -> bool
     if proved {
         return true;
     }
-    outgoing::is_link_proof(packet)
+    plan::is_link_proof(packet)
 }
 
 // The link once the packet is carried.
@@ -92,8 +90,7 @@ pub fn carry(
     tables: &mut [u8],
     output: &mut [u8],
 ) -> Verdict
-    requires { ⌜ AcceptedOn (now packet) arrived (now tables) × (longestPacket ≤ length (now output))
-        × (decision (relayOf (now tables)) (arrivalOf (now packet) arrived) ≡ Carry place port) ⌝ }
+    requires { ⌜ CanCarryOut (now packet) arrived (now tables) (now output) (Carry place port) ⌝ }
     ensures { λ r. ⌜ CarriesOut (now (packet .entry)) arrived (now (tables .entry)) (now (output .entry))
         r (now (tables .exit)) (now (output .exit)) ⌝ }
 {

@@ -12,11 +12,9 @@ ghost use Rattle.packet.specs.Read.{longestPacket};
 ghost use Rattle.packet.specs.Hash.{packetHash};
 ghost use Rattle.numbers.specs.Numbers.{pathCount};
 ghost use Rattle.tables.specs.Places.{tableSize};
-ghost use Rattle.tables.specs.Layout.{relayOf};
 ghost use Rattle.outgoing.specs.Leaving.{CanLeave};
 ghost use Rattle.plan.specs.declared.Decision.the-variants.{Data, Request};
-ghost use Rattle.plan.specs.Decided.{arrivalOf, decision};
-ghost use Rattle.act.specs.Acted.{AcceptedOn, CarriesOut, forwardedOn};
+ghost use Rattle.act.specs.Acted.{CanCarryOut, CarriesOut, forwardedOn};
 
 // Writes what leaves by the path at a place, and says how long it is.
 fn forward(packet: &[u8], tables: &[u8], path: usize, output: &mut [u8]) -> usize
@@ -40,8 +38,7 @@ pub fn send(
     tables: &mut [u8],
     output: &mut [u8],
 ) -> Verdict
-    requires { ⌜ AcceptedOn (now packet) arrived (now tables) × (longestPacket ≤ length (now output))
-        × (decision (relayOf (now tables)) (arrivalOf (now packet) arrived) ≡ Data path)
+    requires { ⌜ CanCarryOut (now packet) arrived (now tables) (now output) (Data path)
         × (hash ≡ packetHash (now packet)) ⌝ }
     ensures { λ r. ⌜ CarriesOut (now (packet .entry)) arrived (now (tables .entry)) (now (output .entry))
         r (now (tables .exit)) (now (output .exit)) ⌝ }
@@ -63,8 +60,7 @@ pub fn request(
     tables: &mut [u8],
     output: &mut [u8],
 ) -> Verdict
-    requires { ⌜ AcceptedOn (now packet) arrived (now tables) × (longestPacket ≤ length (now output))
-        × (decision (relayOf (now tables)) (arrivalOf (now packet) arrived) ≡ Request path place high low) ⌝ }
+    requires { ⌜ CanCarryOut (now packet) arrived (now tables) (now output) (Request path place high low) ⌝ }
     ensures { λ r. ⌜ CarriesOut (now (packet .entry)) arrived (now (tables .entry)) (now (output .entry))
         r (now (tables .exit)) (now (output .exit)) ⌝ }
 {

@@ -4,17 +4,16 @@ use plan::Arrived;
 use rules::Verdict;
 ghost use mathlib.Core.Path.{_≡_};
 ghost use mathlib.Core.Bool.{true};
-ghost use Prim.Native.Nat.{_≤_, _<_};
+ghost use Prim.Native.Nat.{_<_};
 ghost use lib.ListN.{length};
-ghost use Rattle.packet.specs.Read.{longestPacket};
 ghost use Rattle.numbers.specs.Numbers.{clockLimit};
-ghost use Rattle.tables.specs.Layout.{relayOf, wellFormed};
+ghost use Rattle.tables.specs.Layout.{wellFormed};
 ghost use Rattle.plan.specs.declared.Decision.the-variants.{Receipt};
-ghost use Rattle.plan.specs.Decided.{arrivalOf, decision};
 ghost use Rattle.act.specs.Stored.{returnPut};
-ghost use Rattle.act.specs.Acted.{AcceptedOn, CarriesOut};
+ghost use Rattle.act.specs.Acted.{CanCarryOut, CarriesOut};
 
-// Puts a return record in the next ring place, its key the first 16 of the hash, and empties any other live one of that key.
+// Puts a return record in the next ring place, its key the first 16 of the hash, and empties any other live one of that
+// key.
 pub fn put_return(tables: &mut [u8], arrival: u8, leaving: u8, hash: [u8; 32], clock: u64)
     requires { ⌜ (wellFormed (now tables) ≡ true) × (clock < clockLimit) ⌝ }
     ensures { λ _. ⌜ now (tables .exit) ≡ returnPut (now (tables .entry)) arrival leaving hash clock ⌝ }
@@ -41,8 +40,7 @@ pub fn receipt(
     tables: &mut [u8],
     output: &mut [u8],
 ) -> Verdict
-    requires { ⌜ AcceptedOn (now packet) arrived (now tables) × (longestPacket ≤ length (now output))
-        × (decision (relayOf (now tables)) (arrivalOf (now packet) arrived) ≡ Receipt place port) ⌝ }
+    requires { ⌜ CanCarryOut (now packet) arrived (now tables) (now output) (Receipt place port) ⌝ }
     ensures { λ r. ⌜ CarriesOut (now (packet .entry)) arrived (now (tables .entry)) (now (output .entry))
         r (now (tables .exit)) (now (output .exit)) ⌝ }
 {

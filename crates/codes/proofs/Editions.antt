@@ -1,10 +1,11 @@
 -- Forms of older editions: what they can hold, the current one can.
 use Prim.Native.Nat.{ℕ, _≤_}
+use Prim.Native.String.{String}
 use mathlib.Core.Bool.{Bool, true}
 use mathlib.Core.Path.{_≡_, sym, subst}
 use lib.ListN.{getD}
 use Rattle.codes.specs.Codes.{Slot, empty, used}
-use Rattle.codes.specs.Form.{Form, given, _&_, many, firstsOf, slot, that, asRecord, code}
+use Rattle.codes.specs.Form.{Form, given, field, _&_, many, firstsOf, slot, that, asRecord, code}
 use Rattle.codes.proofs.First.{first-good}
 
 -- every value that f can hold, g can
@@ -21,6 +22,9 @@ pub first-grows : {A : Type 0} (m n : ℕ) (l : m ≤ n) (spare : A) (f : Form A
 first-grows m n l spare f g = record { good = first-good m n l spare (code f) g }
 
 -- ---- what holds others
+pub field-grows : {A : Type 0} {name : String} {f g : Form A} → Grows f g → Grows (field name f) (field name g)
+field-grows h = record { good = h .good }
+
 pub many-grows : {A : Type 0} (n : ℕ) (spare : A) {f g : Form A} → Grows f g → Grows (many n spare f) (many n spare g)
 many-grows n spare h = record { good = λ xs k. (k .0, λ i l. h .good (getD xs i spare) (k .1 i l)) }
 

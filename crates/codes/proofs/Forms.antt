@@ -1,5 +1,5 @@
 -- Every form is lawful.
-use Rattle.codes.specs.Form.{Form, byte, mark, numberIn, octetsIn, given, _&_, many, firstsOf, slot, that, asRecord, code}
+use Rattle.codes.specs.Form.{Form, byte, mark, numberIn, octetsIn, given, field, _&_, many, firstsOf, slot, that, asRecord, code}
 use Rattle.codes.proofs.Law.{Lawful}
 use Rattle.codes.proofs.Single.{byte-lawful, mark-lawful, number-lawful, octets-lawful, given-lawful}
 use Rattle.codes.proofs.Joint.{both-lawful, that-lawful, as-lawful}
@@ -13,6 +13,7 @@ lawful mark = mark-lawful
 lawful (numberIn n) = number-lawful n
 lawful (octetsIn n) = octets-lawful n
 lawful (given v) = given-lawful v
+lawful (field name f) = lawful f
 lawful (f & g) = both-lawful (lawful f) (lawful g)
 lawful (many n spare f) = many-lawful n spare (lawful f)
 lawful (firstsOf m n l spare f) = first-lawful m n l spare (code f) (lawful f)

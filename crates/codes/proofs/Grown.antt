@@ -1,5 +1,6 @@
 -- What a loader of an older form writes: which bytes it copies, and which it makes.
 use Prim.Native.Nat.{ℕ, zero, suc, _+_, _-_, _*_, _≤_}
+use Prim.Native.String.{String}
 use native.Mathlib.Nat.{add-assoc, add-suc, add-zero}
 use native.Mathlib.Omega.{arith}
 use mathlib.Core.Bool.{Bool, true, false}
@@ -15,9 +16,9 @@ use Rattle.octets.proofs.ListOf.{listOf-length, listOf-cong}
 use Rattle.octets.proofs.Part.{part-nil, part-split}
 use Rattle.octets.proofs.Joined.{joined-append, fields-all}
 use Rattle.codes.specs.Codes.{fill}
-use Rattle.codes.specs.Form.{Form, given, _&_, many, firstsOf, that, asRecord, code, oneForm, since}
+use Rattle.codes.specs.Form.{Form, given, field, _&_, many, firstsOf, that, asRecord, code, oneForm, since}
 use Rattle.codes.proofs.Forms.{lawful}
-use Rattle.codes.proofs.Editions.{Grows, same-grows, given-grows, first-grows, both-grows, rule-grows, record-grows}
+use Rattle.codes.proofs.Editions.{Grows, same-grows, given-grows, field-grows, first-grows, both-grows, rule-grows, record-grows}
 
 -- bytes that are copied, and bytes that are made
 pub data Piece : Type 0 where
@@ -71,6 +72,9 @@ made v f g =
       eaten = refl;
       runs = λ t a b l h. sym (append-nil (code f .write v));
     }
+
+abbrev pub field-grown : {A : Type 0} {name : String} {f g : Form A} → Grown f g → Grown (field name f) (field name g)
+field-grown p = record { grows = field-grows (p .grows); script = p .script; eaten = p .eaten; runs = p .runs }
 
 infixr 30 _&&_
 abbrev pub _&&_ : {A B : Type 0} {f f′ : Form A} {g g′ : Form B} → Grown f f′ → Grown g g′ → Grown (f & g) (f′ & g′)

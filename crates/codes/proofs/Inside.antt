@@ -1,13 +1,14 @@
 -- Where a part of a form stands: the places of Places, found from the form alone.
 use Prim.Native.Nat.{ℕ, _<_}
+use Prim.Native.String.{String}
 use native.Mathlib.Nat.{zero-add}
-use mathlib.Core.Bool.{Bool, true}
+use mathlib.Core.Bool.{Bool, true, false}
 use mathlib.Core.List.{List}
 use mathlib.Core.Path.{_≡_, sym, ap, _∙_}
 use lib.ListN.{length}
 use Rattle.octets.specs.Bytes.{Bytes}
 use Rattle.octets.specs.Part.{patch}
-use Rattle.codes.specs.Form.{Form, _&_, many, slot, that, asRecord, code}
+use Rattle.codes.specs.Form.{Form, byte, mark, numberIn, octetsIn, given, field, _&_, many, firstsOf, slot, that, asRecord, code, hasField}
 use Rattle.codes.proofs.Law.{whole-again}
 use Rattle.codes.proofs.Forms.{lawful}
 use Rattle.codes.proofs.Places.{Place, all-of, first-of, next-of, item-of, record-of, under-rule, under-type, deeper}
@@ -15,12 +16,12 @@ use Rattle.codes.proofs.Places.{Place, all-of, first-of, next-of, item-
 pub record Inside {A B : Type 0} (f : Form A) (g : Form B) : Type 1 where
   pub place : Place (code f) (code g)
 
--- the whole; the first of two; a part of the second of two
+-- the whole; a part of the first of two, and of the second
 abbrev pub here : {A : Type 0} {f : Form A} → Inside f f
 here {A} {f} = record { place = all-of (lawful f) }
 
-abbrev pub first : {A B : Type 0} {f : Form A} {g : Form B} → Inside (f & g) f
-first {A} {B} {f} {g} = record { place = first-of (code g) (lawful f) }
+abbrev pub first : {A B C : Type 0} {f : Form A} {g : Form B} {h : Form C} → Inside f h → Inside (f & g) h
+first {A} {B} {C} {f} {g} {h} s = record { place = first-of (code g) (lawful f) (lawful h) (s .place) }
 
 abbrev pub next : {A B C : Type 0} {f : Form A} {g : Form B} {h : Form C} → Inside g h → Inside (f & g) h
 next {A} {B} {C} {f} {g} {h} s = record { place = next-of (lawful f) (s .place) }
@@ -45,6 +46,37 @@ inRecord {A} {B} {C} {to} {from} {same} {there} {f} {g} s = record { place = und
 infixr 30 _within_
 abbrev pub _within_ : {A B C : Type 0} {f : Form A} {g : Form B} {h : Form C} → Inside g h → Inside f g → Inside f h
 _within_ {A} {B} {C} {f} {g} {h} r s = record { place = deeper (lawful f) (lawful h) (s .place) (r .place) }
+
+-- ---- a field by its name; the whole where the form has none of that name
+pub record Named {A : Type 0} (f : Form A) : Type 1 where
+  pub Value : Type 0
+  pub form : Form Value
+  pub inside : Inside f form
+
+abbrev pub whole : {A : Type 0} (f : Form A) → Named f
+whole {A} f = record { Value = A; form = f; inside = here }
+
+abbrev pub oneNamed : {A : Type 0} {f : Form A} → Bool → Named f → Named f → Named f
+oneNamed true m n = m
+oneNamed false m n = n
+
+abbrev pub named : {A : Type 0} (f : Form A) → String → Named f
+named byte k = whole byte
+named mark k = whole mark
+named (numberIn n) k = whole (numberIn n)
+named (octetsIn n) k = whole (octetsIn n)
+named (given v) k = whole (given v)
+named {A} (field name f) k = record { Value = A; form = f; inside = record { place = all-of (lawful f) } }
+named (f & g) k =
+    oneNamed (hasField f k)
+    (record { Value = named f k .Value; form = named f k .form; inside = first (named f k .inside) })
+    (record { Value = named g k .Value; form = named g k .form; inside = next (named g k .inside) })
+named (many n spare f) k = whole (many n spare f)
+named (firstsOf m n l spare f) k = whole (firstsOf m n l spare f)
+named (slot f) k = whole (slot f)
+named (that rule f) k = record { Value = named f k .Value; form = named f k .form; inside = inRule (named f k .inside) }
+named (asRecord to from same there f) k =
+    record { Value = named f k .Value; form = named f k .form; inside = inRecord (named f k .inside) }
 
 -- ---- tables that are well formed: a part of what they hold is read at its offset, and changed by writing over it there
 module _ {A B : Type 0} {f : Form A} {g : Form B} (s : Inside f g) (t : List ℕ) (h : s .place .Has (code f .read t 0)) where

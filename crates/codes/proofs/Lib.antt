@@ -10,4 +10,5 @@ pub mod Forms
 pub mod Editions
 pub mod Places
 pub mod Inside
+pub mod Pieces
 pub mod Grown

@@ -6,8 +6,8 @@ use mathlib.Core.Bool.{Bool, true, false}
 use mathlib.Core.List.{List, [], _∷_, _++_, append-nil, append-assoc}
 use mathlib.Core.Path.{_≡_, refl, sym, ap, ap₂, subst, _∙_}
 use lib.Dec.{eqb}
-use lib.ListN.{length, getD, set, take, drop}
-use lib.Seq.{drop-drop, drop-at, take-append-add, drop-append-add}
+use lib.ListN.{length, getD, set, take, drop, length-drop}
+use lib.Seq.{drop-drop, drop-at, take-append-le, drop-append-le, take-append-add, drop-append-add}
 use Rattle.octets.specs.Choice.{_then_otherwise_}
 use Rattle.octets.specs.Part.{part, patch, fields}
 use Rattle.octets.proofs.Index.{and-left, and-right, all-at}
@@ -34,6 +34,8 @@ pub record Place {A B : Type 0} (whole : Code A) (inner : Code B) : Type 1 where
   pub there : (x : A) → Has x → part (whole .write x) offset (inner .width) ≡ inner .write (get x)
   -- writing over it changes it alone
   pub patched : (x : A) (y : B) → Has x → patch (whole .write x) offset (inner .write y) ≡ whole .write (put y x)
+  -- what the whole can hold, the part can
+  pub good : (x : A) → Has x → whole .Good x → inner .Good (get x)
 
 -- ---- the whole
 abbrev pub all-of : {A : Type 0} {c : Code A} → Lawful c → Place c c
@@ -48,21 +50,40 @@ all-of {A} {c} p =
       tested = λ t a h f. ap (c .fine t) (add-zero a) ∙ f;
       there = λ x h. part-whole (c .write x) (c .width) (p .wide x);
       patched = λ x y h. patch-whole (c .write x) (c .write y) (p .wide y ∙ sym (p .wide x));
+      good = λ x h g. g;
     }
 
--- ---- the first of two, and a part of the second
-abbrev pub first-of : {A B : Type 0} {c : Code A} (d : Code B) → Lawful c → Place (bothCode c d) c
-first-of {A} {B} {c} d p =
+-- ---- a part of the first of two, and of the second
+module _ (x y : List ℕ) where
+  pub part-ahead : (k n : ℕ) → k + n ≤ length x → part (x ++ y) k n ≡ part x k n
+  unfolding part
+  part-ahead k n l =
+      let inside : k ≤ length x = omega arith in
+      let enough : n ≤ length (drop k x) = simp length-drop (omega arith) in
+      rw (drop-append-le, take-append-le)
+
+  pub patch-ahead : (k : ℕ) (z : List ℕ) → k + length z ≤ length x → patch (x ++ y) k z ≡ patch x k z ++ y
+  unfolding patch
+  patch-ahead k z l =
+      let inside : k ≤ length x = omega arith in
+      rw (take-append-le, drop-append-le) (simp append-assoc)
+
+abbrev pub first-of : {A B C : Type 0} {c : Code A} {e : Code C} (d : Code B) → Lawful c → Lawful e → Place c e → Place (bothCode c d) e
+first-of {A} {B} {C} {c} {e} d p q s =
     record {
-      offset = 0;
-      get = λ x. x .0;
-      put = λ y x. (y, x .1);
-      Has = λ x. Unit;
-      inside = omega arith;
-      seen = λ t a h. ap (c .read t) (add-zero a);
-      tested = λ t a h f. ap (c .fine t) (add-zero a) ∙ and-left _ _ f;
-      there = λ x h. part-mid [] (c .write (x .0)) (d .write (x .1)) 0 (c .width) refl (p .wide (x .0));
-      patched = λ x y h. patch-mid [] (c .write (x .0)) (d .write (x .1)) (c .write y) 0 refl (p .wide (x .0) ∙ sym (p .wide y));
+      offset = s .offset;
+      get = λ x. s .get (x .0);
+      put = λ z x. (s .put z (x .0), x .1);
+      Has = λ x. s .Has (x .0);
+      inside = omega (arith, s .inside);
+      seen = λ t a h. s .seen t a h;
+      tested = λ t a h f. s .tested t a h (and-left _ _ f);
+      there = λ x h.
+          part-ahead (c .write (x .0)) (d .write (x .1)) (s .offset) (e .width) (omega (arith, s .inside, p .wide (x .0))) ∙ s .there (x .0) h;
+      patched = λ x z h.
+          patch-ahead (c .write (x .0)) (d .write (x .1)) (s .offset) (e .write z) (omega (arith, s .inside, p .wide (x .0), q .wide z))
+          ∙ ap (λ (r : List ℕ). r ++ d .write (x .1)) (s .patched (x .0) z h);
+      good = λ x h g. s .good (x .0) h (g .0);
     }
 
 module _ (x y : List ℕ) (a : ℕ) (lx : length x ≡ a) where
@@ -89,6 +110,7 @@ next-of {A} {B} {C} {c} {d} {e} p s =
       patched = λ x z h.
           patch-skip (c .write (x .0)) (d .write (x .1)) (c .width) (p .wide (x .0)) (s .offset) (e .write z)
           ∙ ap (λ (r : List ℕ). c .write (x .0) ++ r) (s .patched (x .1) z h);
+      good = λ x h g. s .good (x .1) h (g .1);
     }
 
 -- ---- record i of n
@@ -113,6 +135,7 @@ module _ {A : Type 0} (n : ℕ) (spare : A) {c : Code A} (p : Lawful c) (i : ℕ
         tested = λ t a h f. sym (tests-part p t (a + c .width * i)) ∙ all-at _ n i f l;
         there = λ xs h. ap (λ (k : ℕ). part (fields (c .write) n spare xs) k (c .width)) (sym (zero-add (c .width * i))) ∙ row-there n spare p xs h i l;
         patched = item-patched;
+        good = λ xs h g. g .1 i l;
       }
 
 -- ---- the record of a slot in use
@@ -151,6 +174,11 @@ module _ {A : Type 0} (d : A) {c : Code A} (p : Lawful c) where
   unfolding slotBytes
   used-patched s y h = record-patched s y h
 
+  pub record-good : (s : Slot A) → InUse s → slotCode c .Good s → c .Good (recordOf d s)
+  unfolding recordOf
+  record-good empty h g = absurd h
+  record-good (used x) h g = g
+
   abbrev pub record-of : Place (slotCode c) c
   record-of =
       record {
@@ -163,6 +191,7 @@ module _ {A : Type 0} (d : A) {c : Code A} (p : Lawful c) where
         tested = record-tested;
         there = record-there;
         patched = used-patched;
+        good = record-good;
       }
 
 -- ---- through a rule, and through another type
@@ -178,6 +207,7 @@ under-rule rule s =
       tested = λ t a h f. s .tested t a h (and-left _ _ f);
       there = s .there;
       patched = s .patched;
+      good = λ x h g. s .good x h (g .0);
     }
 
 abbrev pub under-type : {A B C : Type 0} {c : Code A} {d : Code C} (to : A → B) (from : B → A)
@@ -194,6 +224,7 @@ under-type {A} {B} {C} {c} {d} to from same s =
       tested = λ t a h f. s .tested t a (subst (s .Has) (same (c .read t a)) h) f;
       there = λ y h. s .there (from y) h;
       patched = λ y z h. s .patched (from y) z h ∙ ap (c .write) (sym (same (s .put z (from y))));
+      good = λ y h g. s .good (from y) h g;
     }
 
 -- ---- a part of a part
@@ -224,6 +255,7 @@ module _ {A B C : Type 0} {c : Code A} {d : Code B} {e : Code C} (pc : Lawful c)
             ∙ ap (λ (q : List ℕ). patch (c .write x) (s .offset) (patch q (r .offset) (e .write z))) (s .there x (h .0))
             ∙ ap (patch (c .write x) (s .offset)) (r .patched (s .get x) z (h .1))
             ∙ s .patched x (r .put z (s .get x)) (h .0);
+        good = λ x h g. r .good (s .get x) (h .1) (s .good x (h .0) g);
       }
 
 -- ---- the same in a table that holds the value among others, from a on

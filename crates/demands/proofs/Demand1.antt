@@ -1,6 +1,6 @@
--- Demand 1 (docs/scope/00-demands.md), about the bytes: "Every call ends, whatever comes in. Bad input gets a numbered refusal, exactly when and in
--- the order that document 01's list says, and a refusal changes no byte of tables, tally or output." That every call ends is part of each
--- function's proof: a contract of Rattle says that the function returns.
+-- Demand 1 (docs/scope/00-demands.md), about the bytes: "Every call ends, whatever bytes, tables, clock or port number come in. Bad input gets a numbered
+-- refusal from the list in document 01, by its order of checks, exactly when the list says, and a refusal changes no byte of tables, tally or output."
+-- That every call ends is part of each function's proof: a contract of Rattle says that the function returns.
 use Prim.Native.Nat.{ℕ}
 use mathlib.Core.Bool.{Bool, true, false, not, false≢true}
 use mathlib.Core.List.{List}
@@ -16,8 +16,8 @@ use Rattle.sha256.specs.Sha256.{answer}
 use Rattle.sha256.specs.declared.Digest.{Digest}
 use Rattle.sha256.proofs.Promise.{answer-short, answer-long}
 use Rattle.packet.specs.Header.{accessCode, typeTwo}
-use Rattle.packet.specs.Read.{headerOf, longestPacket, readingRefusal, reading}
-use Rattle.packet.specs.Write.{leastOutput, packetOf, writingRefusal, Writing, writing}
+use Rattle.packet.specs.Read.{headerOf, longestPacket, readingRows, readingRefusal, reading}
+use Rattle.packet.specs.Write.{leastOutput, packetOf, writingRows, writingRefusal, Writing, writing}
 use Rattle.packet.specs.Hash.{packetHashAnswer, linkIdAnswer}
 use Rattle.packet.specs.declared.Parts.{Parts}
 use Rattle.numbers.specs.Numbers.{portCount, localCount, modeCount, clockLimit}
@@ -31,11 +31,12 @@ use Rattle.rules.specs.Calls.{Setting, packetCall, judge, judged, settled, rule
 use Rattle.rules.specs.Run.{Call, packet, on-tables, port-setting, adding, removing, renumbering}
 use Rattle.rules.specs.declared.Tally.{Tally}
 use Rattle.tables.specs.Places.{tableSize}
-use Rattle.tables.specs.Layout.{relayOf, bytesOf, wellFormed}
+use Rattle.tables.specs.Layout.{relayOf, wellFormed}
 use Rattle.tables.proofs.Whole.{again, ok-relay}
-use Rattle.settings.specs.Calls.{written, called, freshOn}
+use Rattle.tables.specs.Called.{written, called}
+use Rattle.settings.specs.Calls.{freshOn}
 use Rattle.relay.specs.Promise.{inBytes, packetOn}
-use Rattle.demands.specs.Bytes.{OutcomeOn, ofPacket, ofCalled, performOn}
+use Rattle.demands.specs.Bytes.{ofPacket, ofCalled, performOn}
 use Rattle.demands.specs.Refusals.{refusal, refusalOn, refusing, isRefusal}
 
 -- ---- the statement
@@ -93,7 +94,8 @@ after-seven : (t : List ℕ) (below : ℕ)
 unfolding _then_otherwise_
 after-seven t below = go (wellFormed t) refl
   where
-    go : (v : Bool) → wellFormed t ≡ v → (wellFormed t then (not (tablesOk (relayOf t)) then 7 otherwise below) otherwise 7) ≡ (not (wellFormed t) then 7 otherwise below)
+    go : (v : Bool) → wellFormed t ≡ v
+        → (wellFormed t then (not (tablesOk (relayOf t)) then 7 otherwise below) otherwise 7) ≡ (not (wellFormed t) then 7 otherwise below)
     go true h = rw (h, ok-relay t h)
     go false h = rw h
 
@@ -108,7 +110,7 @@ pub packet-rows : (a : Arrival) (output tables : List ℕ)
     ltb longestPacket (length (a .bytes)) then 2 otherwise
     accessCode (headerOf (a .bytes)) then 3 otherwise
     typeTwo (headerOf (a .bytes)) and ltb (length (a .bytes)) 35 then 1 otherwise 0)
-unfolding refusalOn refusal refusalBy packetRows firstOf readingRefusal
+unfolding refusalOn refusal refusalBy packetRows firstOf readingRefusal readingRows
 packet-rows a output tables = after-seven tables _
 
 -- setting a port: 7, 9
@@ -121,7 +123,9 @@ port-rows port on mode tables = after-seven tables _
 -- adding a local address: 7, 11, 10
 pub adding-rows : (address tables : List ℕ)
     → refusalOn (adding address) tables
-    ≡ (not (wellFormed tables) then 7 otherwise isLocal (relayOf tables) address then 11 otherwise leb localCount (emptyLocal (relayOf tables)) then 10 otherwise 0)
+    ≡ (not (wellFormed tables) then 7 otherwise
+    isLocal (relayOf tables) address then 11 otherwise
+    leb localCount (emptyLocal (relayOf tables)) then 10 otherwise 0)
 unfolding refusalOn refusal tableRefusal ruleOf firstOf
 adding-rows address tables = after-seven tables _
 
@@ -153,10 +157,12 @@ pub reading-rows : (p : List ℕ)
     ltb longestPacket (length p) then 2 otherwise
     accessCode (headerOf p) then 3 otherwise
     typeTwo (headerOf p) and ltb (length p) 35 then 1 otherwise 0)
-unfolding reading readingRefusal
+unfolding reading readingRefusal readingRows firstOf
 reading-rows p = refl
 
-pub hash-rows : (p : List ℕ) → (packetHashAnswer longestPacket p .refusal ≡ reading longestPacket p .refusal) × (linkIdAnswer longestPacket p .refusal ≡ reading longestPacket p .refusal)
+pub hash-rows : (p : List ℕ)
+    → (packetHashAnswer longestPacket p .refusal ≡ reading longestPacket p .refusal)
+    × (linkIdAnswer longestPacket p .refusal ≡ reading longestPacket p .refusal)
 unfolding packetHashAnswer linkIdAnswer reading
 hash-rows p = (refl, refl)
 
@@ -177,10 +183,11 @@ module _ (q : Parts) (body output : List ℕ) where
       ≡ (ltb (length output) leastOutput then 6 otherwise
       ltb longestPacket (length (packetOf q body)) then 2 otherwise
       accessCode (q .header) then 3 otherwise 0)
-  unfolding row writingRefusal
+  unfolding row writingRefusal writingRows firstOf
   writing-rows = row-given
 
-  pub writing-stays : eqb (writing q body output .answer .refusal) 0 ≡ false → (writing q body output .answer .length ≡ 0) × (writing q body output .output ≡ output)
+  pub writing-stays : eqb (writing q body output .answer .refusal) 0 ≡ false
+      → (writing q body output .answer .length ≡ 0) × (writing q body output .output ≡ output)
   unfolding row writing
   writing-stays z =
       let refused : eqb row 0 ≡ false = ap (λ (n : ℕ). eqb n 0) (sym row-given) ∙ z in

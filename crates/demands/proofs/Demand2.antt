@@ -1,5 +1,5 @@
--- Demand 2 (docs/scope/00-demands.md), about the bytes: "Reading and writing a packet undo each other. Every answer and the tables after it are those
--- of document 01's rules, for any sequence of calls from a fresh relay."
+-- Demand 2 (docs/scope/00-demands.md), about the bytes: "Reading and writing a packet undo each other, by the published Reticulum layout. Every answer
+-- and the tables after it are those that document 01's rules give, for any sequence of calls from a fresh relay."
 use Prim.Native.Nat.{ℕ, _≤_}
 use mathlib.Core.Bool.{true}
 use mathlib.Core.List.{List, [], _∷_}
@@ -20,17 +20,18 @@ use Rattle.packet.proofs.WriteLaws.{writable, writing-done}
 use Rattle.packet.proofs.RoundTrip.{reading-writing, writing-reading, write-payload}
 use Rattle.rules.specs.Relay.{Relay, fresh}
 use Rattle.rules.specs.Refusals.{tablesOk}
-use Rattle.rules.specs.Calls.{newTally, Setting, packetCall, settle}
+use Rattle.rules.specs.Calls.{newTally, Setting, settle}
 use Rattle.rules.specs.Run.{EachCall, Call, packet, on-tables, Reply, Outcome, ofJudgement, ofSetting, perform, replies, relayAfter, tallyAfter}
 use Rattle.rules.specs.declared.Tally.{Tally}
-use Rattle.rules.proofs.History.{CountsHistory, history-since-fresh}
+use Rattle.rules.proofs.History.{Fits, CountsHistory, history, history-since-fresh}
 use Rattle.rules.proofs.Valid.{step-ok, stays-ok, fresh-ok}
 use Rattle.tables.specs.Places.{addressWidth, tableSize}
 use Rattle.tables.specs.Layout.{relayOf, bytesOf, wellFormed}
 use Rattle.tables.specs.Shape.{isBytes, shaped}
 use Rattle.tables.proofs.Whole.{again, ok-relay, shaped-of, back, ok-bytes, bytes-bytes}
-use Rattle.settings.specs.Calls.{Called, written, called, freshOn}
-use Rattle.demands.specs.Given.{CallBytes, CallsBytes}
+use Rattle.tables.specs.Called.{Called, written, called}
+use Rattle.settings.specs.Calls.{freshOn}
+use Rattle.demands.specs.Given.{CallsBytes}
 use Rattle.relay.specs.Promise.{inBytes, packetOn}
 use Rattle.demands.specs.Bytes.{OutcomeOn, ofPacket, ofCalled, performOn, repliesOn, tablesAfterOn, tallyAfterOn}
 use Rattle.demands.proofs.Shape.{step-shaped, stays-shaped, fresh-shaped}
@@ -83,6 +84,13 @@ follows-the-rules cs tables tally given b h =
     subst (λ (x : List ℕ). FollowsTheRules cs x tally (relayOf tables)) (again tables b h)
     (run-on cs (relayOf tables) tally given (ok-relay tables h) (shaped-of tables b h))
 
+-- from there the tally counts history: each counter is what it was, plus the number of such answers among the calls' replies, modulo 2^32
+pub counts-history : (cs : List Call) (tables : List ℕ) (tally : Tally)
+    → CallsBytes cs → Bytes tables → wellFormed tables ≡ true → Fits tally → CountsHistory (repliesOn cs tables tally) tally (tallyAfterOn cs tables tally)
+counts-history cs tables tally given b h fits =
+    let follows = follows-the-rules cs tables tally given b h in
+    rw (follows .answers, follows .tally) (history cs (relayOf tables) tally fits)
+
 -- the tables after any list of calls are bytes and well formed: refusal 7 never names them, and the theorem starts anew from them
 module _ (cs : List Call) (tables : List ℕ) (tally : Tally) (given : CallsBytes cs) (b : Bytes tables) (h : wellFormed tables ≡ true) where
   abbrev last : Relay
@@ -100,7 +108,7 @@ module _ (cs : List Call) (tables : List ℕ) (tally : Tally) (given : CallsByte
   pub stays-bytes : Bytes (tablesAfterOn cs tables tally)
   stays-bytes = subst Bytes (sym (follows-the-rules cs tables tally given b h .tables)) (bytes-bytes last last-shaped last-ok)
 
--- from the bytes that `fresh` makes of a buffer of the right size, whatever it held, with tally 0
+-- "for any sequence of calls from a fresh relay": the bytes that `fresh` makes of a buffer of the right size, whatever it held, with tally 0
 module _ (buffer own : List ℕ) (size : length buffer ≡ tableSize) where
   pub fresh-made : freshOn buffer own ≡ record { refusal = 0; tables = bytesOf (fresh own) }
   unfolding freshOn

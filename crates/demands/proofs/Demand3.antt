@@ -1,6 +1,9 @@
--- Demand 3 (docs/scope/00-demands.md), about the bytes: "Renumbering the ports by any one-to-one map forgets nothing: put in at any place of any list
--- of calls (none of them a later renumbering), every later answer is the plain run's with its ports renamed (a number outside the sixteen stays),
--- all else byte for byte equal; the tables at the end are the plain run's renamed, the tallies equal. Two in a row are one by the composed map."
+-- Demand 3 (docs/scope/00-demands.md), about the bytes: "Renumbering by any one-to-one map of the ports forgets nothing. Take any list of calls on a fresh
+-- relay, refused ones included: packets, port settings, local addresses added or removed, renumberings. This is the plain run. Now put such a
+-- renumbering in at any place, the start and the end included, where no renumbering stands later in the list. The calls after it give their ports by
+-- the new numbers. Then, whatever packets, clocks and signature words come, each later answer is the plain run's with its ports renamed and every other
+-- byte equal. At the end the tables are the plain run's tables renamed, and the tallies are equal. A port number outside the sixteen stays as it is. Two
+-- such renumberings in a row are one by the composed map." Here `before` stands before the place and `later` after it; either may be empty.
 use Prim.Native.Nat.{ℕ}
 use mathlib.Core.Bool.{true}
 use mathlib.Core.List.{List, [], _∷_, _++_, map}
@@ -13,7 +16,7 @@ use Rattle.rules.specs.Renumbering.{oneToOne, renumbered, composed}
 use Rattle.rules.specs.Refusals.{all, tablesOk}
 use Rattle.octets.specs.Listed.{firstOf}
 use Rattle.rules.specs.Calls.{newTally, settled, ruleOf, tableRefusal, settle}
-use Rattle.rules.specs.Run.{EachCall, Call, packet, on-tables, renumbering, Reply, numbered, replies, relayAfter, tallyAfter, renameArrival, renameCall, renameReply, noneRenumbers}
+use Rattle.rules.specs.Run.{EachCall, Call, packet, on-tables, renumbering, Reply, numbered, relayAfter, renameArrival, renameCall, renameReply, noneRenumbers}
 use Rattle.rules.specs.declared.Tally.{Tally}
 use Rattle.rules.proofs.Valid.{stays-ok, fresh-ok}
 use Rattle.rules.proofs.CallsRenamed.{addresses-renamed}
@@ -22,7 +25,9 @@ use Rattle.tables.specs.Places.{addressWidth, tableSize}
 use Rattle.tables.specs.Layout.{relayOf, bytesOf, wellFormed}
 use Rattle.tables.specs.Shape.{isBytes, shaped}
 use Rattle.tables.proofs.Whole.{again, ok-relay, shaped-of, back}
-use Rattle.settings.specs.Calls.{Called, written, called, renumberOn, freshOn}
+use Rattle.tables.specs.Called.{Called, written, called}
+use Rattle.settings.specs.Calls.{freshOn}
+use Rattle.renumbering.specs.Calls.{renumberOn}
 use Rattle.demands.specs.Given.{CallBytes, CallsBytes}
 use Rattle.demands.specs.Bytes.{repliesOn, tablesAfterOn, tallyAfterOn}
 use Rattle.demands.proofs.Shape.{stays-shaped, fresh-shaped}
@@ -37,19 +42,19 @@ renamedTables m t = bytesOf (renumbered m (relayOf t))
 -- numbers too, and its whole output buffer. Renamed means a port's image, a set's images, and for tables what the renumbering rule
 -- above makes of them under that map." Both start with the tables `start` and the tally `counts`
 pub record ForgetsNothingOn (m : List ℕ) (before later : List Call) (start : List ℕ) (counts : Tally) : Type 0 where
-  -- the answers before are the same, the renumbering is accepted, and each later answer is the plain run's, renamed
+  -- "each later answer is the plain run's with its ports renamed and every other byte equal"; those before are the same, and the renumbering is accepted
   pub answers :
       repliesOn (before ++ (renumbering m ∷ map (renameCall m) later)) start counts
       ≡ take (length before) (repliesOn (before ++ later) start counts)
       ++ (numbered 0 ∷ map (renameReply m) (drop (length before) (repliesOn (before ++ later) start counts)))
-  -- the tables at the end are the plain run's, renamed
+  -- "At the end the tables are the plain run's tables renamed, and the tallies are equal"
   pub tables :
       tablesAfterOn (before ++ (renumbering m ∷ map (renameCall m) later)) start counts
       ≡ renamedTables m (tablesAfterOn (before ++ later) start counts)
   pub tally :
       tallyAfterOn (before ++ (renumbering m ∷ map (renameCall m) later)) start counts ≡ tallyAfterOn (before ++ later) start counts
 
--- "The composed map is the first map, then the second." Two renumberings in a row are one by the composed map
+-- "Two such renumberings in a row are one by the composed map": "the first map, then the second" (document 01)
 pub record TwoAreOneOn (one two : List ℕ) (before later : List Call) (start : List ℕ) (counts : Tally) : Type 0 where
   pub one-to-one : oneToOne (composed one two) ≡ true
   -- both are accepted, as the one is; all other answers are the same
@@ -67,7 +72,7 @@ pub record TwoAreOneOn (one two : List ℕ) (before later : List Call) (start : 
       ≡ tallyAfterOn (before ++ (renumbering (composed one two) ∷ later)) start counts
 
 -- ---- calls that are given bytes
-both-given : (before later : List Call) → CallsBytes before → CallsBytes later → CallsBytes (before ++ later)
+pub both-given : (before later : List Call) → CallsBytes before → CallsBytes later → CallsBytes (before ++ later)
 unfolding EachCall
 both-given [] later b l = l
 both-given (c ∷ before) later b l = (b .0, both-given before later (b .1) l)
@@ -165,5 +170,5 @@ module _ (before later : List Call) (b : CallsBytes before) (l : CallsBytes late
 -- tables renamed are what the renumbering call writes: no second renaming is defined
 pub renamed-by-the-call : (m tables : List ℕ) → wellFormed tables ≡ true → oneToOne m ≡ true
     → renumberOn tables m ≡ record { refusal = 0; tables = renamedTables m tables }
-unfolding renumberOn called written settle tableRefusal ruleOf firstOf settled _then_otherwise_
+unfolding called written settle tableRefusal ruleOf firstOf settled _then_otherwise_
 renamed-by-the-call m tables h ok = rw (h, ok-relay tables h, ok)

@@ -1,7 +1,13 @@
--- Demands 1 to 3, about the bytes. First what keeps a relay one that tables can hold.
+-- Demands 1 to 3, about the bytes. First what keeps a relay one that tables can hold; last the theorems on one list of calls, with what they say
+-- computed, so that none can become empty unseen.
 pub mod Announced
 pub mod Made
 pub mod Shape
+pub mod Promised
 pub mod Demand1
 pub mod Demand2
 pub mod Demand3
+pub mod InstanceCalls
+pub mod Instance1
+pub mod Instance2
+pub mod Instance3

@@ -1,11 +1,11 @@
 -- What tables can hold stays what tables can hold: no list of calls that are given bytes leads to a relay that has none.
 use Prim.Native.Nat.{ℕ, _≤_}
-use mathlib.Core.Bool.{Bool, true, false}
+use mathlib.Core.Bool.{true}
 use mathlib.Core.List.{List}
 use mathlib.Core.Path.{_≡_, refl, subst}
 use lib.ListN.{length}
 use Rattle.octets.specs.Bytes.{Bytes}
-use Rattle.octets.proofs.Index.{and-left, and-right, and-both}
+use Rattle.octets.proofs.Index.{and-left, and-both}
 use Rattle.packet.specs.Read.{payloadStart}
 use Rattle.numbers.specs.Numbers.{localCount, pathCount, linkCount, returnCount, hashCount}
 use Rattle.rules.specs.Relay.{Slot, empty, used, Path, Relay, fresh, withPaths, withLinks, withReturns, withHashes}
@@ -20,56 +20,18 @@ use Rattle.rules.specs.Calls.{TableCall, sets-port, adds, removes, renumbers, r
 use Rattle.rules.specs.Run.{Call, packet, on-tables, perform, relayAfter}
 use Rattle.rules.specs.declared.Link.{Link}
 use Rattle.rules.specs.declared.Tally.{Tally}
-use Rattle.rules.proofs.Held.{Property, Holds, WayKeeps, PlanKeeps, TableKeeps, enact-held, table-held, packet-kept, table-kept, stays}
+use Rattle.rules.proofs.Held.{WayKeeps, PlanKeeps, TableKeeps, enact-held, table-held, packet-kept, table-kept, stays}
 use Rattle.rules.proofs.Tables.{all-set, all-map, all-getD, all-replicate, table-getD}
 use Rattle.rules.proofs.Followed.{Found, Planned, planned}
 use Rattle.rules.proofs.Ranges.{emptied-ok, slot-renamed}
 use Rattle.rules.proofs.Valid.{Valid, valid-of, step-ok}
 use Rattle.tables.specs.Places.{addressWidth}
 use Rattle.tables.specs.Shape.{isBytes, pathShaped, linkShaped, returnShaped, hashShaped, shaped}
+use Rattle.tables.proofs.All.{is-each}
+use Rattle.tables.proofs.Shaped.{shape, Shaped, shaped-parts, shaped-from}
 use Rattle.demands.specs.Given.{CallBytes, CallsBytes}
 use Rattle.demands.proofs.Announced.{WayBlob, PlanBlob, plan-blob}
 use Rattle.demands.proofs.Made.{remembered-shaped, return-shaped, link-made, link-renewed, path-made, accepted-whole, path-renumbered, link-renumbered, return-renumbered}
-
--- what each part says
-abbrev shape : Property
-shape =
-    record {
-      own = λ own. isBytes addressWidth own ≡ true;
-      clock = λ clock. Unit {0};
-      ports = λ ports. Unit {0};
-      locals = λ locals. all (slotOk (isBytes addressWidth)) locals ≡ true;
-      paths = λ paths. all (slotOk pathShaped) paths ≡ true;
-      links = λ links. all (slotOk linkShaped) links ≡ true;
-      returns = λ ring. all (slotOk returnShaped) (ring .slots) ≡ true;
-      hashes = λ ring. all (slotOk hashShaped) (ring .slots) ≡ true;
-    }
-
-abbrev Shaped : Relay → Type 0
-Shaped = Holds shape
-
-shaped-of : (r : Relay) → shaped r ≡ true → Shaped r
-unfolding shaped
-shaped-of r h₁ =
-    let h₂ = and-right _ _ h₁ in
-    let h₃ = and-right _ _ h₂ in
-    let h₄ = and-right _ _ h₃ in
-    let h₅ = and-right _ _ h₄ in
-    record {
-      own = and-left _ _ h₁;
-      clock = tt;
-      ports = tt;
-      locals = and-left _ _ h₂;
-      paths = and-left _ _ h₃;
-      links = and-left _ _ h₄;
-      returns = and-left _ _ h₅;
-      hashes = and-right _ _ h₅;
-    }
-
-shaped-from : (r : Relay) → Shaped r → shaped r ≡ true
-unfolding shaped
-shaped-from r s =
-    and-both (s .own) (and-both (s .locals) (and-both (s .paths) (and-both (s .links) (and-both (s .returns) (s .hashes)))))
 
 -- ---- what an accepted packet writes
 -- the records that a way follows are of their shapes, and a path's hops are a byte
@@ -140,12 +102,12 @@ table-keeps (renumbers images) r b s = (
 call-shaped : (c : Call) (r : Relay) (t : Tally) → CallBytes c → Valid r → Shaped r → Shaped (perform c r t .relay)
 unfolding CallBytes
 call-shaped (packet a output) r t b ok s =
-    packet-kept Shaped s a t output (λ e. enacted r ok s a b (accepted-whole r a (length output) e))
+    packet-kept Shaped s a t output (λ e. enacted r ok s a (is-each _ (a .bytes) b) (accepted-whole r a (length output) e))
 call-shaped (on-tables c) r t b ok s = table-kept Shaped s c t (λ _. table-held s c (table-keeps c r b s))
 
 -- one call keeps the shape
 pub step-shaped : (c : Call) (r : Relay) (t : Tally) → CallBytes c → tablesOk r ≡ true → shaped r ≡ true → shaped (perform c r t .relay) ≡ true
-step-shaped c r t b ok s = shaped-from (perform c r t .relay) (call-shaped c r t b (valid-of r ok) (shaped-of r s))
+step-shaped c r t b ok s = shaped-from (perform c r t .relay) (call-shaped c r t b (valid-of r ok) (shaped-parts r s))
 
 -- and so does any list of calls
 pub stays-shaped : (cs : List Call) (r : Relay) (t : Tally) → CallsBytes cs → tablesOk r ≡ true → shaped r ≡ true → shaped (relayAfter cs r t) ≡ true

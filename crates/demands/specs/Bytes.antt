@@ -3,8 +3,7 @@ use Prim.Native.Nat.{ℕ}
 use mathlib.Core.List.{List, [], _∷_}
 use Rattle.rules.specs.Run.{Call, packet, on-tables, Reply, answered, numbered}
 use Rattle.rules.specs.declared.Tally.{Tally}
-use Rattle.rules.specs.Calls.{settle}
-use Rattle.settings.specs.Calls.{Called, called}
+use Rattle.tables.specs.Called.{Called, callOn}
 use Rattle.relay.specs.Promise.{JudgementOn, packetOn}
 
 -- ---- any call
@@ -22,7 +21,7 @@ ofCalled tally c = record { reply = numbered (c .refusal); tables = c .tables; t
 unfoldable pub performOn : Call → List ℕ → Tally → OutcomeOn
 performOn (packet arrival output) tables tally =
     ofPacket (packetOn (arrival .bytes) (arrival .port) (arrival .clock) (arrival .signed) tables tally output)
-performOn (on-tables c) tables tally = ofCalled tally (called tables (settle c))
+performOn (on-tables c) tables tally = ofCalled tally (callOn tables c)
 
 -- ---- lists of calls: what each replies, and the tables and the tally after the last
 unfoldable pub repliesOn : List Call → List ℕ → Tally → List Reply

@@ -2,16 +2,16 @@
 use mathlib.Core.Bool.{true}
 use mathlib.Core.List.{List}
 use mathlib.Core.Path.{_≡_}
-use Rattle.octets.specs.Bytes.{Bytes}
+use lib.ListN.{length}
 use Rattle.rules.specs.Refusals.{all}
 use Rattle.rules.specs.Calls.{ruleOf}
 use Rattle.rules.specs.Run.{Call, packet, on-tables, EachCall}
 use Rattle.tables.specs.Places.{addressWidth}
 use Rattle.tables.specs.Shape.{isBytes}
 
--- a packet of bytes, an address of sixteen: what the functions' types say of their arguments. Every other argument may be any number
+-- a packet of bytes, however many, an address of sixteen: what the functions' types say of their arguments. Every other argument may be any number
 unfoldable pub CallBytes : Call → Type 0
-CallBytes (packet arrival output) = Bytes (arrival .bytes)
+CallBytes (packet arrival output) = isBytes (length (arrival .bytes)) (arrival .bytes) ≡ true
 CallBytes (on-tables c) = all (isBytes addressWidth) (ruleOf c .addresses) ≡ true
 
 -- each call of a list is given bytes

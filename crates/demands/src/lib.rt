@@ -1,1 +1,2 @@
-// What the relay promises of the bytes that it is lent. Definitions in specs/, theorems in proofs/: no function stands here.
+// What the relay promises of the bytes that it is lent. Definitions in specs/, theorems in proofs/: no function
+// stands here.

@@ -1,5 +1,5 @@
 -- What the code of the exports leaves: the caller's buffer by the refusal, the parts written one after the other, the place and the number.
-use Prim.Native.Nat.{ℕ, _+_, _-_, _*_, _≤_, _<_}
+use Prim.Native.Nat.{ℕ, _-_, _≤_, _<_}
 use native.Mathlib.Omega.{arith}
 use mathlib.Core.Bool.{Bool, true, false}
 use mathlib.Core.List.{List, [], _∷_, _++_, append-assoc}
@@ -25,22 +25,26 @@ module _ (n m : ℕ) (q : n ≡ m) (promised old : List ℕ) where
   unfolding bufferAfter
   written new e h = (sym h ∙ q, e ∙ sym (then-true promised old (eq-eqb m 0 (sym q ∙ h))))
 
-  pub kept : (n ≡ 0 → ⊥) → (n ≡ m) × (old ≡ bufferAfter m promised old)
+  pub untouched : (n ≡ 0 → ⊥) → (n ≡ m) × (old ≡ bufferAfter m promised old)
   unfolding bufferAfter
-  kept ne = (q, sym (then-false promised old (ne-eqb m 0 (λ (e : m ≡ 0). ne (q ∙ e)))))
+  untouched ne = (q, sym (then-false promised old (ne-eqb m 0 (λ (e : m ≡ 0). ne (q ∙ e)))))
 
 -- ---- the parts, written one after the other over 35 bytes
 module _ (old : List ℕ) (room : length old ≡ 35) (q : Parts) (wide : Wide q) where
-  pub parts-written : patch (patch (patch (patch (patch old 0 (q .header ∷ [])) 1 (q .hops ∷ [])) 2 (q .relay)) 18 (q .destination)) 34 (q .context ∷ []) ≡ partsBytes q
+  pub parts-written : patch (patch (patch (patch (patch old 0 (q .header ∷ [])) 1 (q .hops ∷ [])) 2 (q .relay)) 18 (q .destination)) 34 (q .context ∷ [])
+      ≡ partsBytes q
   unfolding partsBytes
   parts-written =
       let head : List ℕ = q .header ∷ q .hops ∷ [] in
       let addresses : List ℕ = q .relay ++ q .destination in
       let two : length addresses ≡ 32 = length-append (q .relay) (q .destination) ∙ omega (arith, wide .relay, wide .destination) in
       let one : length (addresses ++ (q .context ∷ [])) ≡ 33 = length-append addresses (q .context ∷ []) ∙ omega arith in
-      ap (λ (r : List ℕ). patch (patch (patch r 2 (q .relay)) 18 (q .destination)) 34 (q .context ∷ [])) (patch-join old 0 1 (q .header ∷ []) (q .hops ∷ []) refl (omega arith))
-      ∙ ap (λ (r : List ℕ). patch (patch r 18 (q .destination)) 34 (q .context ∷ [])) (patch-join old 0 2 head (q .relay) refl (omega (arith, wide .relay)))
-      ∙ ap (λ (r : List ℕ). patch r 34 (q .context ∷ [])) (patch-join old 0 18 (head ++ q .relay) (q .destination) (omega (arith, wide .relay)) (omega (arith, wide .destination)))
+      let context : List ℕ → List ℕ = λ r. patch r 34 (q .context ∷ []) in
+      let destination : List ℕ → List ℕ = λ r. patch r 18 (q .destination) in
+      let relay : List ℕ → List ℕ = λ r. patch r 2 (q .relay) in
+      ap (λ (r : List ℕ). context (destination (relay r))) (patch-join old 0 1 (q .header ∷ []) (q .hops ∷ []) refl (omega arith))
+      ∙ ap (λ (r : List ℕ). context (destination r)) (patch-join old 0 2 head (q .relay) refl (omega (arith, wide .relay)))
+      ∙ ap context (patch-join old 0 18 (head ++ q .relay) (q .destination) (omega (arith, wide .relay)) (omega (arith, wide .destination)))
       ∙ patch-join old 0 34 (head ++ addresses) (q .context ∷ []) (omega arith) (omega arith)
       ∙ patch-whole old (head ++ (addresses ++ (q .context ∷ []))) (omega arith)
       ∙ ap (λ (r : List ℕ). q .header ∷ q .hops ∷ r) (append-assoc (q .relay) (q .destination) (q .context ∷ []))

@@ -85,7 +85,10 @@ module _ (kind detail ports size : ℕ) (k : kind < 256) (d : detail < 256) (p :
   kind-back = ap (λ (n : ℕ). n % 256) by-bytes ∙ digits-mod ((size * 65536 + ports) * 256 + detail) k
 
   pub detail-back : number / 256 % 256 ≡ detail
-  detail-back = ap (λ (n : ℕ). n / 256 % 256) by-bytes ∙ ap (λ (n : ℕ). n % 256) (digits-div ((size * 65536 + ports) * 256 + detail) k) ∙ digits-mod (size * 65536 + ports) d
+  detail-back =
+      ap (λ (n : ℕ). n / 256 % 256) by-bytes
+      ∙ ap (λ (n : ℕ). n % 256) (digits-div ((size * 65536 + ports) * 256 + detail) k)
+      ∙ digits-mod (size * 65536 + ports) d
 
   above : number / 65536 ≡ size * 65536 + ports
   above = ap (λ (n : ℕ). n / 65536) by-words ∙ digits-div (size * 65536 + ports) (omega arith)

@@ -1,8 +1,11 @@
 -- How an answer lies in one number, and what a host's packet call promises.
-use Prim.Native.Nat.{ℕ, _+_, _*_, _%_}
+use Prim.Native.Nat.{ℕ, _+_, _*_, _/_, _%_}
 use mathlib.Core.List.{List}
 use mathlib.Core.Path.{_≡_}
-use Rattle.rules.specs.Answers.{reasonNumber, verdictKind}
+use lib.Dec.{eqb}
+use Rattle.octets.specs.Choice.{_then_otherwise_}
+use Rattle.rules.specs.Renumbering.{image}
+use Rattle.rules.specs.Answers.{reasonNumber, verdictKind, imageSet}
 use Rattle.rules.specs.declared.Verdict.{Verdict}
 use Rattle.rules.specs.declared.Verdict.the-variants.{Drop, Deliver, Forward, Spread, Kept}
 use Rattle.rules.specs.declared.Answer.{Answer}
@@ -28,3 +31,13 @@ answerNumber (Judged verdict) = verdictNumber verdict
 -- what a host's packet call returned and left is this, with the answer as its number
 abbrev pub Answers : JudgementOn → ℕ → Tally → List ℕ → List ℕ → Type 0
 Answers o number tally tables output = (number ≡ answerNumber (o .answer)) × (tally ≡ o .tally) × (tables ≡ o .tables) × (output ≡ o .output)
+
+-- ---- the number with its ports renamed: bits 16 to 31 hold a port's image, or a set's images; all other bits stay
+unfoldable pub renamePorts : List ℕ → (kind ports : ℕ) → ℕ
+renamePorts m kind ports =
+    eqb kind 3 then image m ports otherwise
+    eqb kind 4 then imageSet m ports otherwise ports
+
+unfoldable pub renameNumber : List ℕ → ℕ → ℕ
+renameNumber m number =
+    fieldsNumber (number % 256) (number / 256 % 256) (renamePorts m (number % 256) (number / 65536 % 65536)) (number / 4294967296)

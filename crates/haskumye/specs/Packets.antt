@@ -1,11 +1,13 @@
 -- How the parts of a packet and what is answered about it lie in bytes and numbers, and the buffer that is lent for it.
 use Prim.Native.Nat.{ℕ, _+_, _*_}
 use mathlib.Core.List.{List, [], _∷_, _++_}
+use mathlib.Core.Path.{_≡_}
 use lib.Dec.{eqb, ltb}
 use lib.ListN.{length}
 use Rattle.octets.specs.Choice.{_then_otherwise_}
 use Rattle.sha256.specs.Sha256.{answer}
 use Rattle.packet.specs.Read.{headerOf, typeTwoParts, payloadStart, longestPacket, reading}
+use Rattle.packet.specs.Write.{Writing}
 use Rattle.packet.specs.Hash.{packetHashAnswer, linkIdAnswer}
 use Rattle.packet.specs.declared.Parts.{Parts}
 use Rattle.packet.specs.declared.Written.{Written}
@@ -43,3 +45,7 @@ payloadPlace p = ltb (length p) (payloadStart (headerOf p)) then length p otherw
 -- a writing as one number: the refusal or 0 in the low 16 bits, the length in those above
 unfoldable pub writtenNumber : Written → ℕ
 writtenNumber w = w .length * 65536 + w .refusal
+
+-- what a writing returned and left is this
+abbrev pub Writes : Writing → ℕ → List ℕ → Type 0
+Writes w number output = (number ≡ writtenNumber (w .answer)) × (output ≡ w .output)

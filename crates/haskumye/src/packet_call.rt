@@ -1,5 +1,5 @@
 // The packet call of a host.
-use super::numbers::answer_number;
+use super::answer_numbers::answer_number;
 use rules::Tally;
 ghost use lib.Dec.{eqb};
 ghost use Rattle.relay.specs.Promise.{packetOn};
@@ -21,7 +21,9 @@ fn judge_numbered(
     output: &mut [u8],
     tally: Tally,
 ) -> Numbered
-    ensures { λ r. ⌜ Answers (packetOn (now (packet .entry)) port clock (eqb signed 1) (now (tables .entry)) tally (now (output .entry))) (r .number) (r .tally) (now (tables .exit)) (now (output .exit)) ⌝ }
+    ensures { λ r. ⌜ Answers
+        (packetOn (now (packet .entry)) port clock (eqb signed 1) (now (tables .entry)) tally (now (output .entry)))
+        (r .number) (r .tally) (now (tables .exit)) (now (output .exit)) ⌝ }
 {
     let judged = relay::judge(packet, port, clock, signed == 1, tables, output, tally);
     let answer = judged.answer;
@@ -32,10 +34,11 @@ fn judge_numbered(
     }
 }
 
-// A packet that came by a port at a clock; `signed` is 1 where the host found its signature good, any other number where not. Tables, output
-// and tally are changed where they lie.
-// One number: bits 0 to 7 are 0 refused, 1 drop, 2 deliver, 3 forward, 4 spread, 5 kept; bits 8 to 15 the refusal's or the reason's number;
-// bits 16 to 31 the port of a forward, or the ports of a spread, bit i for port i; bits 32 to 47 the length that leaves.
+// A packet that came by a port at a clock; `signed` is 1 where the host found its signature good, any other number
+// where not. Tables, output and tally are changed where they lie.
+// One number: bits 0 to 7 are 0 refused, 1 drop, 2 deliver, 3 forward, 4 spread, 5 kept; bits 8 to 15 the refusal's or
+// the reason's number; bits 16 to 31 the port of a forward, or the ports of a spread, bit i for port i; bits 32 to 47
+// the length that leaves.
 #[no_mangle]
 pub extern "C" fn haskumye_packet(
     packet: &[u8],
@@ -46,7 +49,10 @@ pub extern "C" fn haskumye_packet(
     output: &mut [u8],
     tally: &mut Tally,
 ) -> u64
-    ensures { λ r. ⌜ Answers (packetOn (now (packet .entry)) port clock (eqb signed 1) (now (tables .entry)) (now (tally .entry)) (now (output .entry))) r (now (tally .exit)) (now (tables .exit)) (now (output .exit)) ⌝ }
+    ensures { λ r. ⌜ Answers
+        (packetOn (now (packet .entry)) port clock (eqb signed 1)
+        (now (tables .entry)) (now (tally .entry)) (now (output .entry)))
+        r (now (tally .exit)) (now (tables .exit)) (now (output .exit)) ⌝ }
 {
     let j = judge_numbered(packet, port, clock, signed, tables, output, *tally);
     *tally = j.tally;

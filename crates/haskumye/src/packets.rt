@@ -5,13 +5,15 @@ ghost use Rattle.packet.specs.Read.{longestPacket, reading};
 ghost use Rattle.packet.specs.Write.{writing};
 ghost use Rattle.packet.specs.Hash.{packetHashAnswer, linkIdAnswer};
 ghost use Rattle.packet.specs.Announce.{announcedDestination, leastAnnounce, emissionOf};
-ghost use Rattle.line.specs.Line.{lineText, lineOf};
-ghost use Rattle.haskumye.specs.Packets.{partsAfter, hashAfter, linkIdAfter, partsIn, payloadPlace, writtenNumber};
+ghost use Rattle.line.specs.Line.{lineText};
+ghost use Rattle.text.specs.Text.{textOf};
+ghost use Rattle.haskumye.specs.Packets.{partsAfter, hashAfter, linkIdAfter, partsIn, payloadPlace, Writes};
 
 // Reads a packet: its refusal, 0 for none. Its parts go to the buffer, which a refusal leaves as it was.
 #[no_mangle]
 pub extern "C" fn haskumye_read(packet: &[u8], parts: &mut [u8; 35]) -> u8
-    ensures { λ r. ⌜ (r ≡ reading longestPacket (now (packet .entry)) .refusal) × (now (parts .exit) ≡ partsAfter (now (packet .entry)) (now (parts .entry))) ⌝ }
+    ensures { λ r. ⌜ (r ≡ reading longestPacket (now (packet .entry)) .refusal)
+        × (now (parts .exit) ≡ partsAfter (now (packet .entry)) (now (parts .entry))) ⌝ }
 {
     let reading = packet::read(packet);
     let refusal = reading.refusal;
@@ -37,7 +39,8 @@ pub extern "C" fn haskumye_payload_start(packet: &[u8]) -> usize
 // One number: in its low 16 bits the refusal or 0, in those above the length.
 #[no_mangle]
 pub extern "C" fn haskumye_write(parts: &[u8; 35], payload: &[u8], output: &mut [u8]) -> u64
-    ensures { λ r. ⌜ (r ≡ writtenNumber (writing (partsIn (now (parts .entry))) (now (payload .entry)) (now (output .entry)) .answer)) × (now (output .exit) ≡ writing (partsIn (now (parts .entry))) (now (payload .entry)) (now (output .entry)) .output) ⌝ }
+    ensures { λ r. ⌜ Writes (writing (partsIn (now (parts .entry))) (now (payload .entry)) (now (output .entry)))
+        r (now (output .exit)) ⌝ }
 {
     let q = packet::type_two_parts(parts);
     let written = packet::write(q, payload, output);
@@ -47,7 +50,8 @@ pub extern "C" fn haskumye_write(parts: &[u8; 35], payload: &[u8], output: &mut 
 // The packet hash: the refusal, 0 for none. A refusal leaves the buffer as it was.
 #[no_mangle]
 pub extern "C" fn haskumye_packet_hash(packet: &[u8], hash: &mut [u8; 32]) -> u8
-    ensures { λ r. ⌜ (r ≡ packetHashAnswer longestPacket (now (packet .entry)) .refusal) × (now (hash .exit) ≡ hashAfter (now (packet .entry)) (now (hash .entry))) ⌝ }
+    ensures { λ r. ⌜ (r ≡ packetHashAnswer longestPacket (now (packet .entry)) .refusal)
+        × (now (hash .exit) ≡ hashAfter (now (packet .entry)) (now (hash .entry))) ⌝ }
 {
     let answer = packet::packet_hash(packet);
     let refusal = answer.refusal;
@@ -62,7 +66,8 @@ pub extern "C" fn haskumye_packet_hash(packet: &[u8], hash: &mut [u8; 32]) -> u8
 // The link id: the refusal, 0 for none. A refusal leaves the buffer as it was.
 #[no_mangle]
 pub extern "C" fn haskumye_link_id(packet: &[u8], id: &mut [u8; 16]) -> u8
-    ensures { λ r. ⌜ (r ≡ linkIdAnswer longestPacket (now (packet .entry)) .refusal) × (now (id .exit) ≡ linkIdAfter (now (packet .entry)) (now (id .entry))) ⌝ }
+    ensures { λ r. ⌜ (r ≡ linkIdAnswer longestPacket (now (packet .entry)) .refusal)
+        × (now (id .exit) ≡ linkIdAfter (now (packet .entry)) (now (id .entry))) ⌝ }
 {
     let answer = packet::link_id(packet);
     let refusal = answer.refusal;
@@ -103,7 +108,8 @@ pub extern "C" fn haskumye_emission(blob: &[u8; 10]) -> u64
 // The showing program's line of a packet: its length, and the text at the start of the buffer with zeros behind it.
 #[no_mangle]
 pub extern "C" fn haskumye_line(packet: &[u8], text: &mut [u8; 160]) -> usize
-    ensures { λ r. ⌜ (r ≡ lineOf (lineText (now (packet .entry))) .length) × (now (text .exit) ≡ lineOf (lineText (now (packet .entry))) .bytes) ⌝ }
+    ensures { λ r. ⌜ (r ≡ textOf (lineText (now (packet .entry))) .length)
+        × (now (text .exit) ≡ textOf (lineText (now (packet .entry))) .bytes) ⌝ }
 {
     let line = line::line_of(packet);
     let bytes = line.bytes;

@@ -1,11 +1,14 @@
-// The calls on the tables that need no packet. Each but the first two returns a refusal's number, or 0; a refusal changes no byte.
+// The calls on the tables that need no packet. Each but the first two returns a refusal's number, or 0; a refusal
+// changes no byte.
 use tables::places::TABLE_SIZE;
 ghost use mathlib.Core.Path.{_≡_};
 ghost use lib.Dec.{eqb};
 ghost use Rattle.tables.specs.Places.{tableSize};
 ghost use Rattle.tables.specs.Records.{markOf};
 ghost use Rattle.tables.specs.Layout.{wellFormed};
-ghost use Rattle.settings.specs.Calls.{freshOn, setPortOn, addLocalOn, removeLocalOn, renumberOn};
+ghost use Rattle.tables.specs.Called.{Returns};
+ghost use Rattle.settings.specs.Calls.{freshOn, setPortOn, addLocalOn, removeLocalOn};
+ghost use Rattle.renumbering.specs.Calls.{renumberOn};
 
 // How many bytes tables have.
 #[no_mangle]
@@ -29,7 +32,7 @@ pub extern "C" fn haskumye_check(tables: &[u8]) -> u8
 // The tables of a relay with its own address, all ports off and boundary, clock 0, tables empty.
 #[no_mangle]
 pub extern "C" fn haskumye_fresh(tables: &mut [u8], own: &[u8; 16]) -> u8
-    ensures { λ r. ⌜ (r ≡ freshOn (now (tables .entry)) (now (own .entry)) .refusal) × (now (tables .exit) ≡ freshOn (now (tables .entry)) (now (own .entry)) .tables) ⌝ }
+    ensures { λ r. ⌜ Returns (freshOn (now (tables .entry)) (now (own .entry))) r (now (tables .exit)) ⌝ }
 {
     let address = *own;
     settings::fresh(tables, address)
@@ -38,7 +41,7 @@ pub extern "C" fn haskumye_fresh(tables: &mut [u8], own: &[u8; 16]) -> u8
 // Sets a port on, by 1, or off, by any other number, and its mode.
 #[no_mangle]
 pub extern "C" fn haskumye_set_port(tables: &mut [u8], port: u64, on: u8, mode: u64) -> u8
-    ensures { λ r. ⌜ (r ≡ setPortOn (now (tables .entry)) port (eqb on 1) mode .refusal) × (now (tables .exit) ≡ setPortOn (now (tables .entry)) port (eqb on 1) mode .tables) ⌝ }
+    ensures { λ r. ⌜ Returns (setPortOn (now (tables .entry)) port (eqb on 1) mode) r (now (tables .exit)) ⌝ }
 {
     settings::set_port(tables, port, on == 1, mode)
 }
@@ -46,7 +49,7 @@ pub extern "C" fn haskumye_set_port(tables: &mut [u8], port: u64, on: u8, mode: 
 // Adds a local address, in the lowest empty place.
 #[no_mangle]
 pub extern "C" fn haskumye_add_local(tables: &mut [u8], address: &[u8; 16]) -> u8
-    ensures { λ r. ⌜ (r ≡ addLocalOn (now (tables .entry)) (now (address .entry)) .refusal) × (now (tables .exit) ≡ addLocalOn (now (tables .entry)) (now (address .entry)) .tables) ⌝ }
+    ensures { λ r. ⌜ Returns (addLocalOn (now (tables .entry)) (now (address .entry))) r (now (tables .exit)) ⌝ }
 {
     let bytes = *address;
     settings::add_local(tables, bytes)
@@ -55,7 +58,7 @@ pub extern "C" fn haskumye_add_local(tables: &mut [u8], address: &[u8; 16]) -> u
 // Removes a local address: its place is emptied.
 #[no_mangle]
 pub extern "C" fn haskumye_remove_local(tables: &mut [u8], address: &[u8; 16]) -> u8
-    ensures { λ r. ⌜ (r ≡ removeLocalOn (now (tables .entry)) (now (address .entry)) .refusal) × (now (tables .exit) ≡ removeLocalOn (now (tables .entry)) (now (address .entry)) .tables) ⌝ }
+    ensures { λ r. ⌜ Returns (removeLocalOn (now (tables .entry)) (now (address .entry))) r (now (tables .exit)) ⌝ }
 {
     let bytes = *address;
     settings::remove_local(tables, bytes)
@@ -64,7 +67,7 @@ pub extern "C" fn haskumye_remove_local(tables: &mut [u8], address: &[u8; 16]) -
 // Replaces every stored port by its image, and moves each port's settings with it.
 #[no_mangle]
 pub extern "C" fn haskumye_renumber(tables: &mut [u8], map: &[u8; 16]) -> u8
-    ensures { λ r. ⌜ (r ≡ renumberOn (now (tables .entry)) (now (map .entry)) .refusal) × (now (tables .exit) ≡ renumberOn (now (tables .entry)) (now (map .entry)) .tables) ⌝ }
+    ensures { λ r. ⌜ Returns (renumberOn (now (tables .entry)) (now (map .entry))) r (now (tables .exit)) ⌝ }
 {
     let bytes = *map;
     renumbering::renumber(tables, bytes)

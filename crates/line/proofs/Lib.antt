@@ -1,5 +1,1 @@
-pub mod TextLaws
-pub mod NumeralLaws
-pub mod WordLaws
-pub mod NameLaws
 pub mod LineLaws

@@ -1,135 +1,80 @@
--- The laws of the two lines, and that no line is longer than its 160 bytes.
-use Prim.Native.Nat.{ℕ, _+_, _-_, _≤_}
-use native.Mathlib.Nat.{le-refl}
+-- The laws of the line: that it fits a text, and what it is where the packet reads and where it doesn't.
+use Prim.Native.Nat.{ℕ, _≤_, _<_}
 use native.Mathlib.Omega.{arith}
 use mathlib.Core.Bool.{Bool, true, false}
-use mathlib.Core.List.{List, [], _∷_, _++_, append-assoc}
-use mathlib.Core.Path.{_≡_, refl, sym, ap, subst, _∙_}
-use lib.Dec.{eqb, lit≤}
-use borrow.Author.Tests.{eqb-true, eqb-false}
-use lib.ListN.{length, take, replicate, length-append, length-replicate}
-use lib.Seq.{take-at}
+use mathlib.Core.List.{List, [], _∷_, _++_}
+use mathlib.Core.Path.{_≡_, sym, ap, _∙_}
+use lib.Dec.{lit≤}
+use lib.ListN.{length}
+use Rattle.octets.specs.Choice.{_then_otherwise_}
 use Rattle.octets.proofs.Choice.{then-true, then-false}
-use Rattle.packet.specs.Header.{typeTwo}
-use Rattle.packet.specs.Read.{headerOf, longestPacket, typeOneParts, typeTwoParts, partsOf, payload, readingRefusal, noParts, reading}
+use Rattle.packet.specs.Header.{typeTwo, transport, destinationKind, packetKind}
+use Rattle.packet.specs.Read.{longestPacket, partsOf, payload, readingRefusal, noParts, reading}
 use Rattle.packet.specs.declared.Parts.{Parts}
 use Rattle.packet.specs.declared.Reading.{Reading}
-use Rattle.packet.proofs.ListLaws.{part-most}
-use Rattle.packet.proofs.ReadLaws.{readable, accepted-reads, refused-reads, parts-two, parts-one}
-use Rattle.line.specs.Words.{newline, refusedWord}
-use Rattle.line.specs.Numerals.{decimal}
-use Rattle.line.specs.Line.{typeName, nameWords, wayWords, payloadWords, relayWords, partsWords, refusedWords, lineWords, spaced, wordsLine, lineText, lineOf, appended}
-use Rattle.line.specs.declared.Line.{Line}
-use Rattle.line.proofs.TextLaws.{grown-length, grown-text}
-use Rattle.line.proofs.NumeralLaws.{decimal-most}
-use Rattle.line.proofs.WordLaws.{spaced-length, spaced-none, spaced-append}
-use Rattle.line.proofs.NameLaws.{type-most, names-most, way-most, payload-most, relay-most}
+use Rattle.packet.proofs.ReadLaws.{readable, accepted-reads, refused-reads}
+use Rattle.text.specs.Numerals.{decimal, hexadecimal}
+use Rattle.text.specs.Words.{wordsLine, refusedWords}
+use Rattle.text.specs.Text.{textSize}
+use Rattle.text.proofs.NumeralLaws.{numeral-most, hexadecimal-length}
+use Rattle.text.proofs.WordLaws.{Most, line-most}
+use Rattle.line.specs.Words.{type1Word, type2Word, broadcastWord, transportWord, singleWord, groupWord, plainWord, linkWord, dataWord, announceWord, linkrequestWord, proofWord, byWord}
+use Rattle.line.specs.Line.{typeName, transportName, kindWord, nameWords, wayWords, payloadWords, relayWords, partsWords, lineWords, lineText}
 
--- a line holds a text of at most m characters
-pub record Holds (line : Line) (text : List ℕ) (m : ℕ) : Type 0 where
-  pub text-there : line ≡ lineOf text
-  pub text-most : length text ≤ m
+-- ---- how long the words are
+choice-most : (t : Bool) (x y : List ℕ) (m : ℕ) → length x ≤ m → length y ≤ m → length (t then x otherwise y) ≤ m
+unfolding _then_otherwise_
+choice-most true x y m a b = a
+choice-most false x y m a b = b
 
--- k characters more, while there is room
-holds-more : (l r : Line) (x y : List ℕ) (m k : ℕ) → m + k ≤ 160 → Holds l x m → length y ≤ k → r ≡ appended l y → Holds r (x ++ y) (m + k)
-holds-more l r x y m k room h short e =
-    record {
-      text-there = grown-text l r x y (omega (arith, h .text-most)) (h .text-there) e;
-      text-most = omega (arith, length-append x y, h .text-most);
-    }
+type-most : (header : ℕ) → length (typeName header) ≤ 5
+unfolding typeName
+type-most header = choice-most (typeTwo header) type2Word type1Word 5 (lit≤ tt) (lit≤ tt)
 
--- ---- a packet that reads: its words, group by group
+transport-most : (header : ℕ) → length (transportName header) ≤ 9
+unfolding transportName
+transport-most header = choice-most (transport header) transportWord broadcastWord 9 (lit≤ tt) (lit≤ tt)
+
+kind-most : (kind : ℕ) (zero one two three : List ℕ) (m : ℕ) → Most (zero ∷ one ∷ two ∷ three ∷ []) (m ∷ m ∷ m ∷ m ∷ [])
+    → length (kindWord kind zero one two three) ≤ m
+unfolding kindWord
+kind-most kind zero one two three m (a, (b, (c, (d, _)))) = choice-most _ _ _ m a (choice-most _ _ _ m b (choice-most _ _ _ m c d))
+
+-- hops and payload lengths have three digits at most
+number-most : (n : ℕ) → n < 1000 → length (decimal n) ≤ 3
+number-most n few = numeral-most 10 (lit≤ tt) 3 n (lit≤ tt) few
+
+address-most : (address : List ℕ) → length address ≡ 16 → length (hexadecimal address) ≤ 32
+address-most address wide = omega (arith, hexadecimal-length address)
+
+relay-most : (header : ℕ) (relay : List ℕ) → length relay ≡ 16 → Most (relayWords header relay) (2 ∷ 32 ∷ [])
+unfolding relayWords _then_otherwise_
+relay-most header relay wide = go (typeTwo header)
+  where
+    go : (t : Bool) → Most (t then byWord ∷ hexadecimal relay ∷ [] otherwise []) (2 ∷ 32 ∷ [])
+    go true = (lit≤ tt, (address-most relay wide, tt))
+    go false = tt
+
+-- ---- every line fits
 module _ (q : Parts) (size : ℕ) where
-  abbrev names : List ℕ
-  names = spaced (nameWords (q .header))
-
-  abbrev way : List ℕ
-  way = spaced (wayWords (q .hops) (q .destination))
-
-  abbrev load : List ℕ
-  load = spaced (payloadWords (q .context) size)
-
-  abbrev relay : List ℕ
-  relay = spaced (relayWords (q .header) (q .relay))
-
-  -- how far the line can have grown at each step
-  pub typed-most : (r : Line) → r ≡ lineOf (typeName (q .header)) → r .length ≤ 5
-  unfolding lineOf
-  typed-most r e = omega (arith, ap (λ (l : Line). l .length) e, type-most (q .header))
-
-  pub named-most : (l r : Line) → r ≡ appended l names → r .length ≤ l .length + 34
-  named-most l r e = omega (arith, grown-length l r names e, names-most (q .header))
-
-  pub sent-most : (l r : Line) → length (q .destination) ≤ 16 → r ≡ appended l way → r .length ≤ l .length + 45
-  sent-most l r wd e = omega (arith, grown-length l r way e, way-most (q .hops) (q .destination) wd)
-
-  pub loaded-most : (l r : Line) → r ≡ appended l load → r .length ≤ l .length + 23
-  loaded-most l r e = omega (arith, grown-length l r load e, payload-most (q .context) size)
-
-  pub relayed-most : (l r : Line) → length (q .relay) ≤ 16 → r ≡ appended l relay → r .length ≤ l .length + 36
-  relayed-most l r wr e = omega (arith, grown-length l r relay e, relay-most (q .header) (q .relay) wr)
-
-  parts-text : typeName (q .header) ++ names ++ way ++ load ++ relay ++ (newline ∷ []) ≡ wordsLine (partsWords q size)
-  unfolding wordsLine partsWords
-  parts-text =
-      let n : List (List ℕ) = nameWords (q .header) in
-      let w : List (List ℕ) = wayWords (q .hops) (q .destination) in
-      let p : List (List ℕ) = payloadWords (q .context) size in
-      let r : List (List ℕ) = relayWords (q .header) (q .relay) in
-      let all : spaced (n ++ (w ++ (p ++ r))) ≡ names ++ (way ++ (load ++ relay)) =
-      spaced-append n (w ++ (p ++ r)) ∙ ap (λ (l : List ℕ). names ++ l) (spaced-append w (p ++ r) ∙ ap (λ (l : List ℕ). way ++ l) (spaced-append p r)) in
-      let flat : typeName (q .header) ++ names ++ way ++ load ++ relay ++ (newline ∷ []) ≡ typeName (q .header) ++ (names ++ (way ++ (load ++ relay)) ++ (newline ∷ [])) = simp append-assoc in
-      flat ∙ ap (λ (l : List ℕ). typeName (q .header) ++ (l ++ (newline ∷ []))) (sym all)
-
-  module _ (wd : length (q .destination) ≤ 16) (wr : length (q .relay) ≤ 16) where
-    -- the line as `parts_line` makes it
-    pub parts-holds : (typed named sent loaded whole r : Line) → typed ≡ lineOf (typeName (q .header))
-        → named ≡ appended typed names → sent ≡ appended named way → loaded ≡ appended sent load → whole ≡ appended loaded relay
-        → r ≡ appended whole (newline ∷ [])
-        → Holds r (wordsLine (partsWords q size)) 144
-    parts-holds typed named sent loaded whole r et en es el ew er =
-        let t : List ℕ = typeName (q .header) in
-        let ht : Holds typed t 5 = record { text-there = et; text-most = type-most (q .header) } in
-        let hn : Holds named (t ++ names) 39 = holds-more typed named t names 5 34 (lit≤ tt) ht (names-most (q .header)) en in
-        let hs : Holds sent (t ++ names ++ way) 84 = holds-more named sent (t ++ names) way 39 45 (lit≤ tt) hn (way-most (q .hops) (q .destination) wd) es in
-        let hl : Holds loaded (t ++ names ++ way ++ load) 107 = holds-more sent loaded (t ++ names ++ way) load 84 23 (lit≤ tt) hs (payload-most (q .context) size) el in
-        let hw : Holds whole (t ++ names ++ way ++ load ++ relay) 143 = holds-more loaded whole (t ++ names ++ way ++ load) relay 107 36 (lit≤ tt) hl (relay-most (q .header) (q .relay) wr) ew in
-        let hr : Holds r (t ++ names ++ way ++ load ++ relay ++ (newline ∷ [])) 144 = holds-more whole r (t ++ names ++ way ++ load ++ relay) (newline ∷ []) 143 1 (lit≤ tt) hw (le-refl 1) er in
-        subst (λ (x : List ℕ). Holds r x 144) parts-text hr
-
-    parts-most : length (wordsLine (partsWords q size)) ≤ 144
-    parts-most =
-        let typed : Line = lineOf (typeName (q .header)) in
-        let named : Line = appended typed names in
-        let sent : Line = appended named way in
-        let loaded : Line = appended sent load in
-        let whole : Line = appended loaded relay in
-        parts-holds typed named sent loaded whole (appended whole (newline ∷ [])) refl refl refl refl refl refl .text-most
-
--- ---- bytes that don't read
-module _ (n : ℕ) where
-  refused-text : refusedWord ++ spaced (decimal n ∷ []) ++ (newline ∷ []) ≡ wordsLine (refusedWords n)
-  unfolding wordsLine
-  refused-text = append-assoc refusedWord (spaced (decimal n ∷ [])) (newline ∷ [])
-
-  number-most : length (spaced (decimal n ∷ [])) ≤ 4
-  number-most = omega (arith, spaced-length (decimal n) [], spaced-none, decimal-most n)
-
-  -- the line as `refused_line` makes it
-  pub refused-holds : (start whole r : Line) → start ≡ lineOf refusedWord → whole ≡ appended start (spaced (decimal n ∷ []))
-      → r ≡ appended whole (newline ∷ []) → Holds r (wordsLine (refusedWords n)) 12
-  refused-holds start whole r es ew er =
-      let w : List ℕ = spaced (decimal n ∷ []) in
-      let hs : Holds start refusedWord 7 = record { text-there = es; text-most = le-refl 7 } in
-      let hw : Holds whole (refusedWord ++ w) 11 = holds-more start whole refusedWord w 7 4 (lit≤ tt) hs number-most ew in
-      let hr : Holds r (refusedWord ++ w ++ (newline ∷ [])) 12 = holds-more whole r (refusedWord ++ w) (newline ∷ []) 11 1 (lit≤ tt) hw (le-refl 1) er in
-      subst (λ (x : List ℕ). Holds r x 12) refused-text hr
-
-  refused-most : length (wordsLine (refusedWords n)) ≤ 12
-  refused-most =
-      let start : Line = lineOf refusedWord in
-      let whole : Line = appended start (spaced (decimal n ∷ [])) in
-      refused-holds start whole (appended whole (newline ∷ [])) refl refl refl .text-most
+  pub parts-fit : q .hops < 1000 → length (q .destination) ≡ 16 → length (q .relay) ≡ 16 → size < 1000
+      → length (wordsLine (partsWords q size)) ≤ textSize
+  unfolding partsWords
+  parts-fit few wd wr small =
+      let h : ℕ = q .header in
+      let destination : List ℕ = kindWord (destinationKind h) singleWord groupWord plainWord linkWord in
+      let kind : List ℕ = kindWord (packetKind h) dataWord announceWord linkrequestWord proofWord in
+      let to : length destination ≤ 6 = kind-most _ _ _ _ _ 6 (lit≤ tt, (lit≤ tt, (lit≤ tt, (lit≤ tt, tt)))) in
+      let what : length kind ≤ 11 = kind-most _ _ _ _ _ 11 (lit≤ tt, (lit≤ tt, (lit≤ tt, (lit≤ tt, tt)))) in
+      let context : length (hexadecimal (q .context ∷ [])) ≤ 2 = omega (arith, hexadecimal-length (q .context ∷ [])) in
+      let load : Most (payloadWords (q .context) size ++ relayWords h (q .relay)) (7 ∷ 2 ∷ 7 ∷ 3 ∷ 2 ∷ 32 ∷ []) =
+      (lit≤ tt, (context, (lit≤ tt, (number-most size small, relay-most h (q .relay) wr)))) in
+      omega (
+        arith,
+        line-most (typeName h) (nameWords h ++ (wayWords (q .hops) (q .destination) ++ (payloadWords (q .context) size ++ relayWords h (q .relay))))
+            (5 ∷ 9 ∷ 6 ∷ 11 ∷ 4 ∷ 3 ∷ 2 ∷ 32 ∷ 7 ∷ 2 ∷ 7 ∷ 3 ∷ 2 ∷ 32 ∷ [])
+            (type-most h, (transport-most h, (to, (what, (lit≤ tt, (number-most (q .hops) few, (lit≤ tt, (address-most (q .destination) wd, load)))))))),
+      )
 
 -- ---- the line of any bytes
 module _ (p : List ℕ) where
@@ -140,42 +85,6 @@ module _ (p : List ℕ) where
   pub line-read : readingRefusal longestPacket p ≡ 0 → lineText p ≡ wordsLine (partsWords (partsOf p) (length (payload p)))
   unfolding lineText lineWords
   line-read e = ap wordsLine (then-true _ _ (accepted-reads longestPacket p e))
-
-  -- addresses have sixteen bytes
-  destination-short : length (partsOf p .destination) ≤ 16
-  unfolding typeOneParts typeTwoParts
-  destination-short = go (typeTwo (headerOf p)) refl
-    where
-      go : (t : Bool) → typeTwo (headerOf p) ≡ t → length (partsOf p .destination) ≤ 16
-      go true e = subst (λ (q : Parts). length (q .destination) ≤ 16) (sym (parts-two p e)) (part-most p 18 16 16 (le-refl 16))
-      go false e = subst (λ (q : Parts). length (q .destination) ≤ 16) (sym (parts-one p e)) (part-most p 2 16 16 (le-refl 16))
-
-  relay-short : length (partsOf p .relay) ≤ 16
-  unfolding typeOneParts typeTwoParts
-  relay-short = go (typeTwo (headerOf p)) refl
-    where
-      go : (t : Bool) → typeTwo (headerOf p) ≡ t → length (partsOf p .relay) ≤ 16
-      go true e = subst (λ (q : Parts). length (q .relay) ≤ 16) (sym (parts-two p e)) (part-most p 2 16 16 (le-refl 16))
-      go false e = subst (λ (q : Parts). length (q .relay) ≤ 16) (sym (parts-one p e)) (le-refl 16)
-
-  -- no line is longer than 160: `lineOf` holds the whole text
-  pub longest-line : length (lineText p) ≤ 160
-  longest-line = go (eqb (readingRefusal longestPacket p) 0) refl
-    where
-      go : (t : Bool) → eqb (readingRefusal longestPacket p) 0 ≡ t → length (lineText p) ≤ 160
-      go true e = omega (arith, ap length (line-read (eqb-true _ _ e)), parts-most (partsOf p) (length (payload p)) destination-short relay-short)
-      go false e = omega (arith, ap length (line-refused (eqb-false _ _ e)), refused-most (readingRefusal longestPacket p))
-
-  -- so the line has its 160 bytes, and its text is the packet's, whole
-  pub line-width : length (lineOf (lineText p) .bytes) ≡ 160
-  unfolding lineOf
-  line-width =
-      let n : ℕ = 160 - length (lineText p) in
-      omega (arith, length-append (lineText p) (replicate n 0), length-replicate {A = ℕ} n 0, longest-line)
-
-  pub line-whole : take (lineOf (lineText p) .length) (lineOf (lineText p) .bytes) ≡ lineText p
-  unfolding lineOf
-  line-whole = take-at (lineText p) (replicate (160 - length (lineText p)) 0) (length (lineText p)) refl
 
   -- ---- what the code of `line_of` asks
   module _ (r : Reading) (e : r ≡ reading longestPacket p) where

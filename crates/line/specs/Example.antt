@@ -6,10 +6,12 @@ use lib.ListN.{replicate}
 use Rattle.octets.specs.Index.{_and_}
 use Rattle.octets.specs.Part.{part, joined}
 use Rattle.octets.specs.Choice.{_then_otherwise_}
+use Rattle.octets.specs.Listed.{firstOf}
 use Rattle.packet.specs.Header.{accessCode, typeTwo, transport, destinationKind, packetKind}
-use Rattle.packet.specs.Read.{typeOneParts, typeTwoParts, partsOf, payloadStart, payload, readingRefusal, reads}
-use Rattle.line.specs.Numerals.{digit, decimal, hexadecimalByte, hexadecimal}
-use Rattle.line.specs.Line.{typeName, transportName, kindWord, relayWords, partsWords, lineWords, spaced, wordsLine, lineText}
+use Rattle.packet.specs.Read.{typeOneParts, typeTwoParts, partsOf, payloadStart, payload, readingRows, readingRefusal, reads}
+use Rattle.text.specs.Numerals.{digit, numeralWithin, numeral, hexadecimalByte, hexadecimal}
+use Rattle.text.specs.Words.{spaced, wordsLine}
+use Rattle.line.specs.Line.{typeName, transportName, kindWord, relayWords, partsWords, lineWords, lineText}
 
 -- 0c 00, sixteen bytes 11, fa
 abbrev pub examplePacket : List ℕ
@@ -25,12 +27,15 @@ exampleLine =
     104 ∷ 111 ∷ 112 ∷ 115 ∷ 32 ∷
     48 ∷ 32 ∷
     116 ∷ 111 ∷ 32 ∷
-    49 ∷ 49 ∷ 49 ∷ 49 ∷ 49 ∷ 49 ∷ 49 ∷ 49 ∷ 49 ∷ 49 ∷ 49 ∷ 49 ∷ 49 ∷ 49 ∷ 49 ∷ 49 ∷ 49 ∷ 49 ∷ 49 ∷ 49 ∷ 49 ∷ 49 ∷ 49 ∷ 49 ∷ 49 ∷ 49 ∷ 49 ∷ 49 ∷ 49 ∷ 49 ∷ 49 ∷ 49 ∷ 32 ∷
+    49 ∷ 49 ∷ 49 ∷ 49 ∷ 49 ∷ 49 ∷ 49 ∷ 49 ∷ 49 ∷ 49 ∷ 49 ∷ 49 ∷ 49 ∷ 49 ∷ 49 ∷ 49 ∷
+    49 ∷ 49 ∷ 49 ∷ 49 ∷ 49 ∷ 49 ∷ 49 ∷ 49 ∷ 49 ∷ 49 ∷ 49 ∷ 49 ∷ 49 ∷ 49 ∷ 49 ∷ 49 ∷ 32 ∷
     99 ∷ 111 ∷ 110 ∷ 116 ∷ 101 ∷ 120 ∷ 116 ∷ 32 ∷
     102 ∷ 97 ∷ 32 ∷
     112 ∷ 97 ∷ 121 ∷ 108 ∷ 111 ∷ 97 ∷ 100 ∷ 32 ∷
     48 ∷ 10 ∷ []
 
 pub example : lineText examplePacket ≡ exampleLine
-unfolding digit decimal hexadecimalByte hexadecimal typeName transportName kindWord relayWords partsWords lineWords spaced wordsLine lineText accessCode typeTwo transport destinationKind packetKind typeOneParts typeTwoParts partsOf payloadStart payload readingRefusal reads part joined _and_ _then_otherwise_
+unfolding digit numeralWithin numeral hexadecimalByte hexadecimal typeName transportName kindWord relayWords partsWords lineWords spaced wordsLine
+    lineText accessCode typeTwo transport destinationKind packetKind typeOneParts typeTwoParts partsOf payloadStart payload readingRows readingRefusal
+    reads firstOf part joined _and_ _then_otherwise_
 example = refl

@@ -1,5 +1,4 @@
 -- Document 01, "The showing program": the line that a packet is shown by.
 pub mod Words
-pub mod Numerals
 pub mod Line
 pub mod Example

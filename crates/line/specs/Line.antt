@@ -1,16 +1,15 @@
 -- The line of a packet, and of bytes that don't read.
-use Prim.Native.Nat.{ℕ, _+_, _-_}
+use Prim.Native.Nat.{ℕ}
 use mathlib.Core.List.{List, [], _∷_, _++_}
 use lib.Dec.{eqb}
-use lib.ListN.{length, replicate}
-use Rattle.octets.specs.Part.{patch, joined}
+use lib.ListN.{length}
 use Rattle.octets.specs.Choice.{_then_otherwise_}
 use Rattle.packet.specs.Header.{typeTwo, transport, destinationKind, packetKind}
 use Rattle.packet.specs.Read.{longestPacket, partsOf, payload, reads, readingRefusal}
 use Rattle.packet.specs.declared.Parts.{Parts}
-use Rattle.line.specs.Words.{space, newline, type1Word, type2Word, broadcastWord, transportWord, singleWord, groupWord, plainWord, linkWord, dataWord, announceWord, linkrequestWord, proofWord, hopsWord, toWord, contextWord, payloadWord, byWord, refusedWord}
-use Rattle.line.specs.Numerals.{decimal, hexadecimal}
-use Rattle.line.specs.declared.Line.{Line}
+use Rattle.line.specs.Words.{type1Word, type2Word, broadcastWord, transportWord, singleWord, groupWord, plainWord, linkWord, dataWord, announceWord, linkrequestWord, proofWord, hopsWord, toWord, contextWord, payloadWord, byWord}
+use Rattle.text.specs.Numerals.{decimal, hexadecimal}
+use Rattle.text.specs.Words.{wordsLine, refusedWords}
 
 -- ---- the words of a packet: type1 broadcast link data hops 0 to 11111111111111111111111111111111 context fa payload 0
 
@@ -56,9 +55,6 @@ partsWords q payloadLength =
     ++ relayWords (q .header) (q .relay))))
 
 -- a bad packet: `refused` and the number
-abbrev pub refusedWords : ℕ → List (List ℕ)
-refusedWords refusal = refusedWord ∷ decimal refusal ∷ []
-
 unfoldable pub lineWords : List ℕ → List (List ℕ)
 lineWords p =
     reads longestPacket p
@@ -66,23 +62,5 @@ lineWords p =
     otherwise refusedWords (readingRefusal longestPacket p)
 
 -- ---- the line
-
--- words, each behind a space
-unfoldable pub spaced : List (List ℕ) → List ℕ
-spaced words = joined (λ w. space ∷ w) words
-
--- words with a space between each two, and the line's end
-unfoldable pub wordsLine : List (List ℕ) → List ℕ
-wordsLine [] = newline ∷ []
-wordsLine (w ∷ words) = w ++ (spaced words ++ (newline ∷ []))
-
 unfoldable pub lineText : List ℕ → List ℕ
 lineText p = wordsLine (lineWords p)
-
--- the text at the start of a line's 160 bytes, zeros behind it
-unfoldable pub lineOf : List ℕ → Line
-lineOf text = record { bytes = text ++ replicate (160 - length text) 0; length = length text }
-
--- the line with more text at its end
-unfoldable pub appended : Line → List ℕ → Line
-appended line more = record { bytes = patch (line .bytes) (line .length) more; length = line .length + length more }

@@ -2,13 +2,6 @@
 use Prim.Native.Nat.{ℕ}
 use mathlib.Core.List.{List, [], _∷_}
 
--- the space between words, and the line's end
-abbrev pub space : ℕ
-space = 32
-
-abbrev pub newline : ℕ
-newline = 10
-
 -- type1
 abbrev pub type1Word : List ℕ
 type1Word = 116 ∷ 121 ∷ 112 ∷ 101 ∷ 49 ∷ []
@@ -76,7 +69,3 @@ payloadWord = 112 ∷ 97 ∷ 121 ∷ 108 ∷ 111 ∷ 97 ∷ 100 ∷ []
 -- by
 abbrev pub byWord : List ℕ
 byWord = 98 ∷ 121 ∷ []
-
--- refused
-abbrev pub refusedWord : List ℕ
-refusedWord = 114 ∷ 101 ∷ 102 ∷ 117 ∷ 115 ∷ 101 ∷ 100 ∷ []

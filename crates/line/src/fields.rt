@@ -1,39 +1,36 @@
-// The fields of a packet behind their words, and the two lines that there are.
-use super::Line;
+// The fields of a packet behind their words, and the line of all of them.
 use super::names::type_line;
 use super::names::with_names;
-use super::text::empty;
-use super::text::with_bytes;
-use super::text::with_character;
-use super::text::with_number;
-use super::text::with_text;
-use super::text::with_word;
 use packet::Parts;
+use text::Text;
+use text::with_bytes;
+use text::with_character;
+use text::with_number;
+use text::with_word;
 ghost use mathlib.Core.Path.{_≡_};
-ghost use Prim.Native.Nat.{_+_, _<_, _≤_};
-ghost use Rattle.line.specs.Line.{wayWords, payloadWords, relayWords, partsWords, refusedWords, spaced, wordsLine, lineOf, appended};
+ghost use Prim.Native.Nat.{_<_};
+ghost use Rattle.text.specs.Words.{spaced, wordsLine};
+ghost use Rattle.text.specs.Text.{textOf, appended};
+ghost use Rattle.line.specs.Line.{wayWords, payloadWords, relayWords, partsWords};
 
-// The line with hops and destination: at most 45 characters.
-fn with_way(line: Line, hops: u8, destination: [u8; 16]) -> Line
-    requires { ⌜ line .length + 45 ≤ 160 ⌝ }
+// The line with hops and destination.
+fn with_way(line: Text, hops: u8, destination: [u8; 16]) -> Text
     ensures { λ r. ⌜ r ≡ appended line (spaced (wayWords hops destination)) ⌝ }
 {
-    let sent = with_number(with_word(line, b"hops"), hops as usize);
+    let sent = with_number(with_word(line, b"hops"), hops as u64);
     with_bytes(with_word(sent, b"to"), &destination)
 }
 
-// The line with context and payload length: at most 23 characters.
-fn with_payload(line: Line, context: u8, size: usize) -> Line
-    requires { ⌜ (size < 1000) × (line .length + 23 ≤ 160) ⌝ }
+// The line with context and payload length.
+fn with_payload(line: Text, context: u8, size: usize) -> Text
     ensures { λ r. ⌜ r ≡ appended line (spaced (payloadWords context size)) ⌝ }
 {
     let marked = with_bytes(with_word(line, b"context"), &[context]);
-    with_number(with_word(marked, b"payload"), size)
+    with_number(with_word(marked, b"payload"), size as u64)
 }
 
-// The line with the relay address where the type is 2: at most 36 characters.
-fn with_relay(line: Line, header: u8, relay: [u8; 16]) -> Line
-    requires { ⌜ line .length + 36 ≤ 160 ⌝ }
+// The line with the relay address where the type is 2.
+fn with_relay(line: Text, header: u8, relay: [u8; 16]) -> Text
     ensures { λ r. ⌜ r ≡ appended line (spaced (relayWords header relay)) ⌝ }
 {
     if packet::type_two(header) {
@@ -43,9 +40,9 @@ fn with_relay(line: Line, header: u8, relay: [u8; 16]) -> Line
 }
 
 // The line of a packet that reads.
-pub fn parts_line(parts: Parts, size: usize) -> Line
+pub fn parts_line(parts: Parts, size: usize) -> Text
     requires { ⌜ size < 1000 ⌝ }
-    ensures { λ r. ⌜ r ≡ lineOf (wordsLine (partsWords parts size)) ⌝ }
+    ensures { λ r. ⌜ r ≡ textOf (wordsLine (partsWords parts size)) ⌝ }
 {
     let header = parts.header;
     let destination = parts.destination;
@@ -55,14 +52,5 @@ pub fn parts_line(parts: Parts, size: usize) -> Line
     let sent = with_way(named, parts.hops, destination);
     let loaded = with_payload(sent, parts.context, size);
     let whole = with_relay(loaded, header, relay);
-    with_character(whole, b'\n')
-}
-
-// The line of bytes that don't read.
-pub fn refused_line(refusal: u8) -> Line
-    ensures { λ r. ⌜ r ≡ lineOf (wordsLine (refusedWords refusal)) ⌝ }
-{
-    let start = with_text(empty(), b"refused");
-    let whole = with_number(start, refusal as usize);
     with_character(whole, b'\n')
 }

@@ -2,27 +2,21 @@
 // Entry point: line_of. Every other function is a helper: the caller shows what it requires.
 mod fields;
 mod names;
-mod text;
 
 use fields::parts_line;
-use fields::refused_line;
+use text::Text;
 ghost use mathlib.Core.Path.{_≡_};
-ghost use Rattle.line.specs.Line.{lineText, lineOf};
-
-// A text of at most 160 bytes: the first `length` are the text, the rest zeros.
-pub struct Line {
-    pub bytes: [u8; 160],
-    pub length: usize,
-}
+ghost use Rattle.text.specs.Text.{textOf};
+ghost use Rattle.line.specs.Line.{lineText};
 
 // The line of a packet, or of bytes that don't read.
-pub fn line_of(packet: &[u8]) -> Line
-    ensures { λ r. ⌜ r ≡ lineOf (lineText (now (packet .entry))) ⌝ }
+pub fn line_of(packet: &[u8]) -> Text
+    ensures { λ r. ⌜ r ≡ textOf (lineText (now (packet .entry))) ⌝ }
 {
     let reading = packet::read(packet);
     let refusal = reading.refusal;
     if refusal != 0 {
-        return refused_line(refusal);
+        return text::refused_line(refusal);
     }
     let parts = reading.parts;
     let payload = packet::payload(packet);

@@ -13,7 +13,7 @@ use Rattle.octets.specs.Part.{part}
 use Rattle.octets.specs.Index.{agree}
 use Rattle.octets.proofs.Choice.{or-left, or-right, or-no, or-no-left, or-no-right, same-agree}
 use Rattle.octets.proofs.ListOf.{listOf-length, listOf-at}
-use Rattle.octets.proofs.Part.{part-length, part-part}
+use Rattle.octets.proofs.Part.{part-length}
 use Rattle.packet.specs.Announce.{emissionOf}
 use Rattle.numbers.specs.Numbers.{blobLimit}
 use Rattle.rules.specs.Blobs.{held, isAmong, greatest, greatestEmission}
@@ -86,9 +86,6 @@ module _ (b : List ℕ) where
 
       pub blob-here : (n : ℕ) → i < n → r ≡ true → isAmong x (take n (blobsOf b .places)) ≡ true
       blob-here n k q = among-hit x (blobsOf b .places) i n k (omega (arith, places-length)) (blob-compared i l r e ∙ q)
-
-  pub emission-seen : (i : ℕ) → part b (pathPlacesAt + blobWidth * i + 5) 5 ≡ part (part b (pathPlacesAt + blobWidth * i) blobWidth) 5 5
-  emission-seen i = sym (part-part b (pathPlacesAt + blobWidth * i) blobWidth 5 5 (omega arith))
 
   module _ (most : blobsOf b .count ≤ blobLimit) where
     held-length : length (held (blobsOf b)) ≡ blobsOf b .count

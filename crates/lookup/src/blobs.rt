@@ -15,7 +15,8 @@ ghost use Rattle.tables.specs.Records.{blobsOf};
 
 // Whether the record holds the blob.
 pub fn has_blob(b: &[u8], blob: &[u8]) -> bool
-    requires { ⌜ (length (now b) ≡ pathWidth) × (length (now blob) ≡ blobWidth) × (blobsOf (now b) .count ≤ blobLimit) ⌝ }
+    requires { ⌜ (length (now b) ≡ pathWidth) × (length (now blob) ≡ blobWidth)
+        × (blobsOf (now b) .count ≤ blobLimit) ⌝ }
     ensures { λ r. ⌜ r ≡ isAmong (now (blob .entry)) (held (blobsOf (now (b .entry)))) ⌝ }
 {
     let count = b[PATH_BLOB_COUNT_AT] as usize;
@@ -46,7 +47,8 @@ fn greater(x: u64, y: u64) -> u64
     x
 }
 
-// The greatest emission among the record's blobs: the last is looked at first, as the rule takes the greatest of those behind.
+// The greatest emission among the record's blobs: the last is looked at first, as the rule takes the greatest of
+// those behind.
 pub fn greatest_of(b: &[u8]) -> u64
     requires { ⌜ (length (now b) ≡ pathWidth) × (blobsOf (now b) .count ≤ blobLimit) ⌝ }
     ensures { λ r. ⌜ r ≡ greatestEmission (held (blobsOf (now (b .entry)))) ⌝ }

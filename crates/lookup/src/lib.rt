@@ -1,5 +1,6 @@
-// What judging reads from the tables' bytes: own address and clock, ports, the place of a live record in each table, and its fields.
-// Every function here is a helper: the caller shows the tables' size and that a place is within its table. No entry points.
+// What judging reads from the tables' bytes: own address and clock, ports, the place of a live record in each table,
+// and its fields. Every function here is a helper: the caller shows the tables' size and that a place is within its
+// table. No entry points.
 mod blobs;
 mod hashes;
 mod links;

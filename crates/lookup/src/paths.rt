@@ -82,16 +82,20 @@ pub fn path_next_hop(tables: &[u8], place: usize) -> [u8; 16]
 
 // Whether the path holds the blob.
 pub fn holds_blob(tables: &[u8], place: usize, blob: [u8; 10]) -> bool
-    requires { ⌜ (length (now tables) ≡ tableSize) × (place < pathCount) × (pathOf (recordAt pathsAt pathWidth (now tables) place) .blobs .count ≤ blobLimit) ⌝ }
-    ensures { λ r. ⌜ r ≡ isAmong blob (held (pathOf (recordAt pathsAt pathWidth (now (tables .entry)) place) .blobs)) ⌝ }
+    requires { ⌜ (length (now tables) ≡ tableSize) × (place < pathCount)
+        × (pathOf (recordAt pathsAt pathWidth (now tables) place) .blobs .count ≤ blobLimit) ⌝ }
+    ensures { λ r. ⌜ r ≡ isAmong blob (held (pathOf
+        (recordAt pathsAt pathWidth (now (tables .entry)) place) .blobs)) ⌝ }
 {
     has_blob(record_at(tables, PATHS_AT, PATH_WIDTH, place), &blob)
 }
 
 // The greatest emission among the path's blobs.
 pub fn greatest_emission(tables: &[u8], place: usize) -> u64
-    requires { ⌜ (length (now tables) ≡ tableSize) × (place < pathCount) × (pathOf (recordAt pathsAt pathWidth (now tables) place) .blobs .count ≤ blobLimit) ⌝ }
-    ensures { λ r. ⌜ r ≡ greatestEmission (held (pathOf (recordAt pathsAt pathWidth (now (tables .entry)) place) .blobs)) ⌝ }
+    requires { ⌜ (length (now tables) ≡ tableSize) × (place < pathCount)
+        × (pathOf (recordAt pathsAt pathWidth (now tables) place) .blobs .count ≤ blobLimit) ⌝ }
+    ensures { λ r. ⌜ r ≡ greatestEmission (held
+        (pathOf (recordAt pathsAt pathWidth (now (tables .entry)) place) .blobs)) ⌝ }
 {
     greatest_of(record_at(tables, PATHS_AT, PATH_WIDTH, place))
 }

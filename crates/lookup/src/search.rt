@@ -1,4 +1,5 @@
-// The searches that the tables share: records of one width, from one place of the tables on, each with its mark first and its key behind it.
+// The searches that the tables share: records of one width, from one place of the tables on, each with its mark first
+// and its key behind it.
 ghost use mathlib.Core.Path.{_≡_};
 ghost use mathlib.Core.Bool.{not};
 ghost use Prim.Native.Nat.{_+_, _*_, _≤_};
@@ -49,7 +50,8 @@ fn is_live_of(b: &[u8], key: &[u8], expiry: usize, clock: u64) -> bool
     clock < octets::number_of_8_at(b, expiry)
 }
 
-// The lowest place of a live record of the key, or count. Where the record stands is added up: multiplied, it would cost a sixth of the search.
+// The lowest place of a live record of the key, or count. Where the record stands is added up: multiplied, it would
+// cost a sixth of the search.
 pub fn live_place(
     tables: &[u8],
     at: usize,
@@ -59,7 +61,8 @@ pub fn live_place(
     key: &[u8],
     clock: u64,
 ) -> usize
-    requires { ⌜ (at + width * count ≤ length (now tables)) × (1 + length (now key) ≤ width) × (expiry + timeWidth ≤ width) ⌝ }
+    requires { ⌜ (at + width * count ≤ length (now tables)) × (1 + length (now key) ≤ width)
+        × (expiry + timeWidth ≤ width) ⌝ }
     ensures { λ r. ⌜ r ≡ lowestRow (isLiveOf (now (key .entry)) expiry clock) at width count (now (tables .entry)) ⌝ }
 {
     let mut i = 0;

@@ -1,8 +1,16 @@
--- Document 01, "Numbers".
+-- Document 01, "Numbers", and the lengths of "Packet layout" and of the list of refusals.
 use Prim.Native.Nat.{ℕ, _+_, _*_, _^_}
 use mathlib.Core.Bool.{Bool, true, false}
 use lib.Dec.{eqb, ltb}
 use Rattle.octets.specs.Choice.{_then_otherwise_}
+
+-- the longest packet
+abbrev pub longestPacket : ℕ
+longestPacket = 500
+
+-- an output buffer must have room for the longest packet, however short this one is
+abbrev pub leastOutput : ℕ
+leastOutput = 500
 
 -- 16 ports, 0 to 15
 abbrev pub portCount : ℕ

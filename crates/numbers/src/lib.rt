@@ -2,6 +2,11 @@
 // proved with those. No function stands here.
 pub mod refusals;
 
+// The longest packet, and the least output buffer, which has room for it.
+pub const LONGEST_PACKET: usize = 500;
+
+pub const LEAST_OUTPUT: usize = 500;
+
 pub const PORT_COUNT: usize = 16;
 
 pub const LOCAL_COUNT: usize = 16;

@@ -5,10 +5,10 @@ use mathlib.Core.Path.{_≡_, refl, sym, ap, _∙_}
 use Prim.Native.Nat.{ℕ}
 use lib.Dec.{eqb}
 use Rattle.octets.specs.Index.{_and_}
-use Rattle.octets.specs.Choice.{_then_otherwise_}
+use Rattle.octets.specs.Choice.{_then_otherwise_, _or_}
 use Rattle.octets.proofs.Index.{and-left, and-right, and-both}
-use Rattle.octets.proofs.Choice.{then-ap}
-use Rattle.octets.specs.Listed.{Test, _gives_otherwise_, firstOf, valued}
+use Rattle.octets.proofs.Choice.{then-ap, or-no-left, or-no-right}
+use Rattle.octets.specs.Listed.{Test, _gives_otherwise_, firstOf, anyHolds, valued}
 
 -- the list with what the tests for a value say given
 unfoldable pub told : {A : Type 0} → (A → Bool) → Bool → List (Test A) → List (Test A)
@@ -45,6 +45,24 @@ pub none-first : {A : Type 0} (ts : List (Test A)) (rest : A) → NoneHolds ts �
 unfolding firstOf _then_otherwise_
 none-first [] rest n = refl
 none-first (t ∷ ts) rest n = rw (n .0) (none-first ts rest (n .1))
+
+pub none-any : {A : Type 0} (ts : List (Test A)) → anyHolds ts ≡ false → NoneHolds ts
+unfolding anyHolds
+none-any [] e = tt
+none-any (t ∷ ts) e = (or-no-left _ _ e, none-any ts (or-no-right _ _ e))
+
+-- where one holds, what a list without it gives is never read
+pub first-any : {A B : Type 0} (f : A → B) (ts : List (Test A)) (x : A) (rest : B)
+    → firstOf (valued f ts) rest ≡ (anyHolds ts then f (firstOf ts x) otherwise rest)
+unfolding firstOf valued anyHolds _then_otherwise_ _or_
+first-any f [] x rest = refl
+first-any {A} {B} f (t ∷ ts) x rest = go (t .holds) (first-any f ts x rest)
+  where
+    go : (b : Bool) → firstOf (valued f ts) rest ≡ (anyHolds ts then f (firstOf ts x) otherwise rest)
+        → (b then f (t .value) otherwise firstOf (valued f ts) rest)
+        ≡ ((b or anyHolds ts) then f (b then t .value otherwise firstOf ts x) otherwise rest)
+    go true below = refl
+    go false below = below
 
 -- where what is given isn't of the kind that the tests give, none holds
 pub none-holds : {A : Type 0} (p : A → Bool) (ts : List (Test A)) (rest : A) → allGive p ts ≡ true → p (firstOf ts rest) ≡ false → NoneHolds ts

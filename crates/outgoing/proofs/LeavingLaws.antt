@@ -70,14 +70,10 @@ module _ (longest : ℕ) (p : List ℕ) (h : reads longest p ≡ true) where
   unfolding spreadLength
   spread-result own wide body e = ap (λ (b : List ℕ). 35 + length b) e ∙ sym (spread-length own wide)
 
-  -- type 1 grows by 16 bytes, so that 484 bytes are the most that spread, and type 2 stays as long
+  -- type 1 grows by 16 bytes, so that 484 bytes are the most that spread
   pub spread-one : typeTwo (headerOf p) ≡ false → spreadLength p ≡ length p + 16
   unfolding spreadLength
   spread-one e = omega (arith, body-length, start-one (headerOf p) e)
-
-  pub spread-two : typeTwo (headerOf p) ≡ true → spreadLength p ≡ length p
-  unfolding spreadLength
-  spread-two e = omega (arith, body-length, start-two (headerOf p) e)
 
   -- by a path: on the last hop a packet of type 2 loses the relay address, and otherwise it stays as long
   pub path-room : (payloadStart (headerOf p % 16) + length (payload p) ≤ length p) × (payloadStart (headerOf p) + length (payload p) ≤ length p)
@@ -90,9 +86,9 @@ module _ (hops : ℕ) (nextHop p : List ℕ) where
   unfolding pathPacket
   path-last e = then-true _ _ (eq-eqb hops 0 e)
 
-  pub path-onward : (hops ≡ 0 → ⊥) → pathPacket hops nextHop p ≡ rewritten (headerOf p) nextHop p
+  pub path-next-hop : (hops ≡ 0 → ⊥) → pathPacket hops nextHop p ≡ rewritten (headerOf p) nextHop p
   unfolding pathPacket
-  path-onward ne = then-false _ _ (ne-eqb hops 0 ne)
+  path-next-hop ne = then-false _ _ (ne-eqb hops 0 ne)
 
 -- ---- what the code writes
 -- a head, which is a packet without payload, and the payload behind it
@@ -105,7 +101,8 @@ module _ (longest : ℕ) (out own p : List ℕ) (h : reads longest p ≡ true) (
   unfolding spreadPacket rewritten spreadLength
   spread-written =
       let q : Parts = rewrittenParts (spreadHeader (headerOf p)) own p in
-      let head : length (packetOf q []) ≡ 35 = packet-length q [] (rewritten-wide longest p h (spreadHeader (headerOf p)) own wide) ∙ ap (λ (k : ℕ). k + 0) (spread-start (headerOf p)) in
+      let q-wide = rewritten-wide longest p h (spreadHeader (headerOf p)) own wide in
+      let head : length (packetOf q []) ≡ 35 = packet-length q [] q-wide ∙ ap (λ (k : ℕ). k + 0) (spread-start (headerOf p)) in
       patch-join out 0 35 (packetOf q []) (payload p) (omega (arith, head)) room ∙ ap (patch out 0) (head-body q (payload p))
 
 -- a packet whose byte 1 is written over

@@ -1,4 +1,3 @@
 pub mod LeavingLaws
 pub mod RuleLaws
-pub mod FormLaws
 pub mod PortLaws

@@ -14,7 +14,7 @@ use Rattle.rules.specs.Arrival.{Arrival}
 use Rattle.rules.specs.Ways.{Way, everywhere, by-path, along-link, by-return, blocked}
 use Rattle.rules.specs.Outgoing.{spreadPacket, pathPacket, carriedPacket, exceeds, grownTooLong}
 use Rattle.outgoing.specs.Leaving.{spreadLength}
-use Rattle.outgoing.proofs.LeavingLaws.{spread-length, rewritten-length, path-room, path-last, path-onward, carried-length}
+use Rattle.outgoing.proofs.LeavingLaws.{spread-length, rewritten-length, path-room, path-last, path-next-hop, carried-length}
 
 -- ---- a spread announce: what decides whether it is kept
 pub spread-exceeds : (own p : List ℕ) → reads longestPacket p ≡ true → length own ≡ 16 → exceeds (spreadPacket own p) ≡ ltb longestPacket (spreadLength p)
@@ -28,11 +28,11 @@ module _ (p : List ℕ) (h : reads longestPacket p ≡ true) where
     where
       go : (z : Bool) → eqb hops 0 ≡ z → length (pathPacket hops nextHop p) ≤ length p
       go true e =
-          omega
-          (arith, ap length (path-last hops nextHop p (eqb-true hops 0 e)), rewritten-length longestPacket p h (headerOf p % 16) noAddress refl, path-room longestPacket p h .0)
+          let last = ap length (path-last hops nextHop p (eqb-true hops 0 e)) in
+          omega (arith, last, rewritten-length longestPacket p h (headerOf p % 16) noAddress refl, path-room longestPacket p h .0)
       go false e =
-          omega
-          (arith, ap length (path-onward hops nextHop p (eqb-false hops 0 e)), rewritten-length longestPacket p h (headerOf p) nextHop wide, path-room longestPacket p h .1)
+          let next = ap length (path-next-hop hops nextHop p (eqb-false hops 0 e)) in
+          omega (arith, next, rewritten-length longestPacket p h (headerOf p) nextHop wide, path-room longestPacket p h .1)
 
 -- so test 14 holds of no packet that reads. A path's next hop is an address
 module _ (a : Arrival) (h : reads longestPacket (a .bytes) ≡ true) where

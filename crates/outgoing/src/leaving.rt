@@ -65,7 +65,8 @@ pub fn spread(packet: &[u8], own: [u8; 16], output: &mut [u8]) -> usize
     end
 }
 
-// Forwards by a path. Stored hops 0: as type 1, header modulo 16. Otherwise type 2, header kept, relay address = next hop.
+// Forwards by a path. Stored hops 0: as type 1, header modulo 16. Otherwise type 2, header kept, relay address = next
+// hop.
 pub fn forward_by_path(
     packet: &[u8],
     stored_hops: u8,

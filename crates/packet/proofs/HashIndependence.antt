@@ -22,18 +22,18 @@ use Rattle.packet.proofs.HashLaws.{packet-hashed, link-hashed}
 use Rattle.packet.specs.Write.{Wide}
 use Rattle.packet.proofs.RoundTrip.{write-parts, write-payload}
 
--- the parts that are hashed: equal header modulo 16, destination and context, whatever hops and relay address are
-pub record Alike (q r : Parts) : Type 0 where
+-- what is hashed of the parts is alike: header modulo 16, destination and context, whatever hops and relay address are
+pub record HashedAlike (q r : Parts) : Type 0 where
   pub header : q .header % 16 ≡ r .header % 16
   pub destination : q .destination ≡ r .destination
   pub context : q .context ≡ r .context
 
-hashed-alike : (q r : Parts) (body : List ℕ) → Alike q r → hashedPart q body ≡ hashedPart r body
+hashed-alike : (q r : Parts) (body : List ℕ) → HashedAlike q r → hashedPart q body ≡ hashedPart r body
 unfolding hashedPart
 hashed-alike q r body e = rw (e .header, e .destination, e .context)
 
 -- ---- over packets: alike in their parts, and with the same payload
-module _ (p s : List ℕ) (parts : Alike (partsOf p) (partsOf s)) (body : payload p ≡ payload s) where
+module _ (p s : List ℕ) (parts : HashedAlike (partsOf p) (partsOf s)) (body : payload p ≡ payload s) where
   pub alike-packet-hash : packetHash p ≡ packetHash s
   unfolding packetHash
   alike-packet-hash = ap sha256-of (hashed-alike (partsOf p) (partsOf s) (payload p) parts ∙ ap (hashedPart (partsOf s)) body)
@@ -45,21 +45,25 @@ module _ (p s : List ℕ) (parts : Alike (partsOf p) (partsOf s)) (body : payloa
       (hashed-alike (partsOf p) (partsOf s) (take 64 (payload p)) parts ∙ ap (λ (b : List ℕ). hashedPart (partsOf s) (take 64 b)) body)
 
 -- ---- over parts that are written
-back-hashed : (q : Parts) → Alike (readBack q) q
+back-hashed : (q : Parts) → HashedAlike (readBack q) q
 unfolding readBack _then_otherwise_
 back-hashed q = go (typeTwo (q .header)) refl
   where
-    go : (t : Bool) → typeTwo (q .header) ≡ t → Alike (readBack q) q
+    go : (t : Bool) → typeTwo (q .header) ≡ t → HashedAlike (readBack q) q
     go true e = rw e (record { header = refl; destination = refl; context = refl })
     go false e = rw e (record { header = refl; destination = refl; context = refl })
 
-module _ (q r : Parts) (body : List ℕ) (wq : Wide q) (wr : Wide r) (e : Alike q r) where
-  written-alike : Alike (partsOf (packetOf q body)) (partsOf (packetOf r body))
+module _ (q r : Parts) (body : List ℕ) (wq : Wide q) (wr : Wide r) (e : HashedAlike q r) where
+  written-alike : HashedAlike (partsOf (packetOf q body)) (partsOf (packetOf r body))
   written-alike =
-      let a : Alike (readBack q) q = back-hashed q in
-      let b : Alike (readBack r) r = back-hashed r in
+      let a : HashedAlike (readBack q) q = back-hashed q in
+      let b : HashedAlike (readBack r) r = back-hashed r in
       rw (write-parts q body wq, write-parts r body wr)
-      (record { header = a .header ∙ e .header ∙ sym (b .header); destination = a .destination ∙ e .destination ∙ sym (b .destination); context = a .context ∙ e .context ∙ sym (b .context) })
+      (record {
+        header = a .header ∙ e .header ∙ sym (b .header);
+        destination = a .destination ∙ e .destination ∙ sym (b .destination);
+        context = a .context ∙ e .context ∙ sym (b .context);
+      })
 
   pub same-packet-hash : packetHash (packetOf q body) ≡ packetHash (packetOf r body)
   same-packet-hash = alike-packet-hash (packetOf q body) (packetOf r body) written-alike (write-payload q body wq ∙ sym (write-payload r body wr))

@@ -1,19 +1,19 @@
--- The laws of reading: where the payload starts, each refusal, and what a packet that reads is.
+-- The laws of reading: where the payload starts, and what a packet that reads is.
 use Prim.Native.Nat.{ℕ, _≤_, _<_, zero-le}
 use native.Mathlib.Nat.{not-suc-le-zero}
 use native.Mathlib.Omega.{arith}
 use mathlib.Core.Bool.{Bool, true, false}
 use mathlib.Core.List.{List, [], _∷_}
 use mathlib.Core.Path.{_≡_, refl, sym, ap, ap₂, subst, _∙_}
-use lib.Dec.{ltb, lit<}
+use lib.Dec.{ltb}
 use lib.ListN.{length, getD, length-drop}
-use borrow.Author.Tests.{lt-ltb, le-ltb, ltb-true, ltb-false, eq-eqb, ne-eqb, eqb-true}
+use borrow.Author.Tests.{lt-ltb, le-ltb, ltb-false, eq-eqb, ne-eqb, eqb-true}
 use Rattle.octets.specs.Index.{_and_}
-use Rattle.octets.specs.Choice.{_then_otherwise_}
-use Rattle.octets.proofs.Index.{and-both, and-no, and-yes}
+use Rattle.octets.proofs.Index.{and-no, and-yes}
 use Rattle.octets.proofs.Choice.{then-true, then-false}
+use Rattle.octets.proofs.Listed.{allGive, refuses, here, none-first, rows-passed}
 use Rattle.packet.specs.Header.{accessCode, typeTwo}
-use Rattle.packet.specs.Read.{headerOf, typeOneParts, typeTwoParts, partsOf, payloadStart, payload, readingRefusal, reads, noParts, reading}
+use Rattle.packet.specs.Read.{headerOf, typeOneParts, typeTwoParts, partsOf, payloadStart, payload, readingRows, readingRefusal, reads, noParts, reading}
 use Rattle.packet.specs.declared.Parts.{Parts}
 
 -- ---- where the payload starts
@@ -40,35 +40,6 @@ module _ (header : ℕ) where
       go true e = omega (arith, start-two e)
       go false e = omega (arith, start-one e)
 
--- ---- each refusal, in the list's order
-module _ (longest : ℕ) (p : List ℕ) where
-  pub refused-short : length p < 19 → readingRefusal longest p ≡ 1
-  unfolding readingRefusal
-  refused-short s = then-true _ _ (lt-ltb (length p) 19 s)
-
-  module _ (s : 19 ≤ length p) where
-    pub refused-long : longest < length p → readingRefusal longest p ≡ 2
-    unfolding readingRefusal
-    refused-long l = then-false _ _ (le-ltb (length p) 19 s) ∙ then-true _ _ (lt-ltb longest (length p) l)
-
-    module _ (l : length p ≤ longest) where
-      past-length : readingRefusal longest p ≡ (accessCode (headerOf p) then 3 otherwise typeTwo (headerOf p) and ltb (length p) 35 then 1 otherwise 0)
-      unfolding readingRefusal
-      past-length = then-false _ _ (le-ltb (length p) 19 s) ∙ then-false _ _ (le-ltb longest (length p) l)
-
-      pub refused-code : accessCode (headerOf p) ≡ true → readingRefusal longest p ≡ 3
-      refused-code c = past-length ∙ then-true _ _ c
-
-      module _ (c : accessCode (headerOf p) ≡ false) where
-        pub refused-two : typeTwo (headerOf p) ≡ true → length p < 35 → readingRefusal longest p ≡ 1
-        refused-two t w = past-length ∙ then-false _ _ c ∙ then-true _ _ (and-both t (lt-ltb (length p) 35 w))
-
-        pub accepted-two : typeTwo (headerOf p) ≡ true → 35 ≤ length p → readingRefusal longest p ≡ 0
-        accepted-two t w = past-length ∙ then-false _ _ c ∙ then-false _ _ (and-yes _ t ∙ le-ltb (length p) 35 w)
-
-        pub accepted-one : typeTwo (headerOf p) ≡ false → readingRefusal longest p ≡ 0
-        accepted-one t = past-length ∙ then-false _ _ c ∙ then-false _ _ (and-no _ t)
-
 -- ---- what a packet that reads is: short enough, without an access code, and with all its parts
 pub record Readable (longest : ℕ) (p : List ℕ) : Type 0 where
   pub fits : length p ≤ longest
@@ -76,36 +47,32 @@ pub record Readable (longest : ℕ) (p : List ℕ) : Type 0 where
   pub whole : payloadStart (headerOf p) ≤ length p
 
 module _ (longest : ℕ) (p : List ℕ) where
-  pub readable : readingRefusal longest p ≡ 0 → Readable longest p
-  readable h =
-      go (ltb (length p) 19) refl (ltb longest (length p)) refl (accessCode (headerOf p)) refl (typeTwo (headerOf p)) refl (ltb (length p) 35) refl
-    where
-      not-zero : (n : ℕ) → 0 < n → readingRefusal longest p ≡ n → Readable longest p
-      not-zero n l e = absurd (omega arith)
+  pub refused-short : length p < 19 → readingRefusal longest p ≡ 1
+  unfolding readingRefusal readingRows
+  refused-short s = here _ _ _ _ (lt-ltb (length p) 19 s)
 
-      go : (a : Bool) → ltb (length p) 19 ≡ a → (b : Bool) → ltb longest (length p) ≡ b → (c : Bool) → accessCode (headerOf p) ≡ c
-          → (t : Bool) → typeTwo (headerOf p) ≡ t → (w : Bool) → ltb (length p) 35 ≡ w → Readable longest p
-      go true ea b eb c ec t et w ew = not-zero 1 (lit< tt) (refused-short longest p (ltb-true (length p) 19 ea))
-      go false ea true eb c ec t et w ew =
-          not-zero 2 (lit< tt) (refused-long longest p (ltb-false (length p) 19 ea) (ltb-true longest (length p) eb))
-      go false ea false eb true ec t et w ew =
-          not-zero 3 (lit< tt) (refused-code longest p (ltb-false (length p) 19 ea) (ltb-false longest (length p) eb) ec)
-      go false ea false eb false ec true et true ew =
-          not-zero 1 (lit< tt) (refused-two longest p (ltb-false (length p) 19 ea) (ltb-false longest (length p) eb) ec et (ltb-true (length p) 35 ew))
-      go false ea false eb false ec true et false ew =
-          record { fits = ltb-false longest (length p) eb; free = ec; whole = omega (arith, start-two (headerOf p) et, ltb-false (length p) 35 ew) }
-      go false ea false eb false ec false et w ew =
-          record { fits = ltb-false longest (length p) eb; free = ec; whole = omega (arith, start-one (headerOf p) et, ltb-false (length p) 19 ea) }
+  pub readable : readingRefusal longest p ≡ 0 → Readable longest p
+  unfolding readingRefusal readingRows allGive refuses _and_
+  readable e =
+      let (long, (fits, (free, (two, _)))) = rows-passed (readingRows longest p) 0 refl (eq-eqb _ 0 e) in
+      record { fits = ltb-false longest (length p) fits; free = free; whole = go (typeTwo (headerOf p)) refl (ltb-false (length p) 19 long) two }
+    where
+      go : (t : Bool) → typeTwo (headerOf p) ≡ t → 19 ≤ length p → (typeTwo (headerOf p) and ltb (length p) 35) ≡ false
+          → payloadStart (headerOf p) ≤ length p
+      go true et long two = omega (arith, start-two (headerOf p) et, ltb-false (length p) 35 (sym (and-yes _ et) ∙ two))
+      go false et long two = omega (arith, start-one (headerOf p) et)
 
   pub accepted : Readable longest p → readingRefusal longest p ≡ 0
-  accepted r = go (typeTwo (headerOf p)) refl
+  unfolding readingRefusal readingRows
+  accepted r =
+      none-first (readingRows longest p) 0 (
+        le-ltb (length p) 19 (omega (arith, start-least (headerOf p), r .whole)),
+        (le-ltb longest (length p) (r .fits), (r .free, (go (typeTwo (headerOf p)) refl, tt))),
+      )
     where
-      long : 19 ≤ length p
-      long = omega (arith, start-least (headerOf p), r .whole)
-
-      go : (t : Bool) → typeTwo (headerOf p) ≡ t → readingRefusal longest p ≡ 0
-      go true e = accepted-two longest p long (r .fits) (r .free) e (omega (arith, start-two (headerOf p) e, r .whole))
-      go false e = accepted-one longest p long (r .fits) (r .free) e
+      go : (t : Bool) → typeTwo (headerOf p) ≡ t → (typeTwo (headerOf p) and ltb (length p) 35) ≡ false
+      go true e = and-yes _ e ∙ le-ltb (length p) 35 (omega (arith, start-two (headerOf p) e, r .whole))
+      go false e = and-no _ e
 
   pub accepted-reads : readingRefusal longest p ≡ 0 → reads longest p ≡ true
   unfolding reads

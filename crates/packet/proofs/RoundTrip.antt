@@ -8,7 +8,7 @@ use Prim.Native.Nat.{ℕ, _≤_}
 use native.Mathlib.Omega.{arith}
 use mathlib.Core.Bool.{Bool, true, false}
 use mathlib.Core.List.{List, [], _∷_, _++_}
-use mathlib.Core.Path.{_≡_, refl, sym, ap, ap₂, subst, _∙_}
+use mathlib.Core.Path.{_≡_, refl, sym, ap, ap₂, _∙_}
 use lib.ListN.{length, getD, take, drop, take-append-drop}
 use lib.Seq.{drop-cons, drop-drop, take-at}
 use Rattle.octets.specs.Part.{part, patch}
@@ -21,7 +21,7 @@ use Rattle.packet.specs.declared.Reading.{Reading}
 use Rattle.packet.proofs.ListLaws.{behind, found-part, found-byte, found-rest, patched-start}
 use Rattle.packet.proofs.ReadLaws.{start-two, start-one, accepted, reads-readable, readable-reads, parts-two, parts-one, parts-header, answer-read}
 use Rattle.packet.specs.Write.{Wide}
-use Rattle.packet.proofs.WriteLaws.{packet-two, packet-one, packet-length, writable, accepted-writing, writing-done}
+use Rattle.packet.proofs.WriteLaws.{packet-two, packet-one, packet-length, Writable, writable, accepted-writing, writing-done}
 
 -- ---- read, then written
 head-drop : (p : List ℕ) → 2 ≤ length p → headerOf p ∷ getD p 1 0 ∷ drop 2 p ≡ p
@@ -65,10 +65,12 @@ module _ (longest : ℕ) (p : List ℕ) (h : reads longest p ≡ true) where
       → writing (reading longest p .parts) (payload p) output ≡ record { answer = record { refusal = 0; length = length p }; output = patch output 0 p }
   reading-writing output short room =
       ap (λ (q : Parts). writing q (payload p) output) parts-read
-      ∙ writing-done (partsOf p) (payload p) output
-      (accepted-writing (length output) (partsOf p) (payload p) room (subst (λ (r : List ℕ). length r ≤ 500) (sym read-write) short) (subst (λ (n : ℕ). accessCode n ≡ false) (sym (parts-header p)) (reads-readable longest p h .free)))
+      ∙ writing-done (partsOf p) (payload p) output (accepted-writing (length output) (partsOf p) (payload p) able)
       ∙ ap (λ (r : List ℕ). record { answer = record { refusal = 0; length = length r }; output = patch output 0 r }) read-write
     where
+      able : Writable (length output) (partsOf p) (payload p)
+      able = record { roomy = room; fits = rw read-write short; free = rw (parts-header p) (reads-readable longest p h .free) }
+
       parts-read : reading longest p .parts ≡ partsOf p
       parts-read = ap (λ (r : Reading). r .parts) (sym (answer-read longest p (partsOf p) (accepted longest p (reads-readable longest p h)) refl))
 
@@ -84,8 +86,10 @@ module _ (q : Parts) (body : List ℕ) (wide : Wide q) where
       let relay : part p 2 16 ≡ q .relay = take-at (q .relay) (q .destination ++ (q .context ∷ body)) 16 (wide .relay) in
       let destination : part p 18 16 ≡ q .destination = found-part head (q .destination) (q .context) body 18 eh (wide .destination) in
       let context : getD p 34 0 ≡ q .context = found-byte head (q .destination) (q .context) body 18 eh (wide .destination) in
-      let rest : drop 35 p ≡ body = found-rest head (q .destination) (q .context) body 18 eh (wide .destination) in
-      (ap partsOf (packet-two q body t) ∙ parts-two p t ∙ rw (relay, destination, context) (sym (then-true _ _ t)), ap payload (packet-two q body t) ∙ ap (λ (n : ℕ). drop n p) (start-two (q .header) t) ∙ rest)
+      let rest : drop 35 p ≡ body = found-rest head (q .destination) (q .context) body 18 eh (wide .destination) in (
+        ap partsOf (packet-two q body t) ∙ parts-two p t ∙ rw (relay, destination, context) (sym (then-true _ _ t)),
+        ap payload (packet-two q body t) ∙ ap (λ (n : ℕ). drop n p) (start-two (q .header) t) ∙ rest,
+      )
 
   found-one : typeTwo (q .header) ≡ false → (partsOf (packetOf q body) ≡ readBack q) × (payload (packetOf q body) ≡ body)
   unfolding typeOneParts readBack payload
@@ -94,8 +98,10 @@ module _ (q : Parts) (body : List ℕ) (wide : Wide q) where
       let p : List ℕ = head ++ (q .destination ++ (q .context ∷ body)) in
       let destination : part p 2 16 ≡ q .destination = found-part head (q .destination) (q .context) body 2 refl (wide .destination) in
       let context : getD p 18 0 ≡ q .context = found-byte head (q .destination) (q .context) body 2 refl (wide .destination) in
-      let rest : drop 19 p ≡ body = found-rest head (q .destination) (q .context) body 2 refl (wide .destination) in
-      (ap partsOf (packet-one q body t) ∙ parts-one p t ∙ rw (destination, context) (sym (then-false _ _ t)), ap payload (packet-one q body t) ∙ ap (λ (n : ℕ). drop n p) (start-one (q .header) t) ∙ rest)
+      let rest : drop 19 p ≡ body = found-rest head (q .destination) (q .context) body 2 refl (wide .destination) in (
+        ap partsOf (packet-one q body t) ∙ parts-one p t ∙ rw (destination, context) (sym (then-false _ _ t)),
+        ap payload (packet-one q body t) ∙ ap (λ (n : ℕ). drop n p) (start-one (q .header) t) ∙ rest,
+      )
 
   found : (partsOf (packetOf q body) ≡ readBack q) × (payload (packetOf q body) ≡ body)
   found = go (typeTwo (q .header)) refl
@@ -121,9 +127,8 @@ module _ (q : Parts) (body : List ℕ) (wide : Wide q) where
       → reading longest (take (writing q body output .answer .length) (writing q body output .output)) ≡ record { refusal = 0; parts = readBack q }
   writing-reading longest output z l =
       let done = writing-done q body output z in
-      let start : take (writing q body output .answer .length) (writing q body output .output) ≡ packetOf q body = rw done (patched-start output (packetOf q body) (length (packetOf q body)) refl) in
-      let short : length (packetOf q body) ≤ longest = rw done at l in
-      rw start
-      (sym (answer-read longest (packetOf q body) (readBack q)
-      (accepted longest (packetOf q body) (reads-readable longest (packetOf q body) (write-reads longest short (writable (length output) q body z .free))))
-      (sym write-parts)))
+      let p = packetOf q body in
+      let start : take (writing q body output .answer .length) (writing q body output .output) ≡ p = rw done (patched-start output p (length p) refl) in
+      let short : length p ≤ longest = rw done at l in
+      let again = write-reads longest short (writable (length output) q body z .free) in
+      rw start (sym (answer-read longest p (readBack q) (accepted longest p (reads-readable longest p again)) (sym write-parts)))

@@ -1,19 +1,19 @@
--- The laws of writing: how long a packet is, each refusal, and the bytes that the code writes one after the other.
-use Prim.Native.Nat.{ℕ, _+_, _≤_, _<_}
+-- The laws of writing: how long a packet is, what is written, and the bytes that the code writes one after the other.
+use Prim.Native.Nat.{ℕ, _+_, _≤_}
 use native.Mathlib.Omega.{arith}
 use mathlib.Core.Bool.{Bool, true, false}
 use mathlib.Core.List.{List, [], _∷_, _++_, append-assoc}
 use mathlib.Core.Path.{_≡_, refl, sym, ap, _∙_}
-use lib.Dec.{ltb, lit<}
 use lib.ListN.{length, length-append}
-use borrow.Author.Tests.{lt-ltb, le-ltb, ltb-true, ltb-false, eq-eqb, ne-eqb}
+use borrow.Author.Tests.{le-ltb, ltb-false, eq-eqb, ne-eqb}
 use Rattle.octets.specs.Part.{patch}
-use Rattle.octets.specs.Choice.{_then_otherwise_}
+use Rattle.octets.specs.Index.{_and_}
 use Rattle.octets.proofs.Part.{patch-join}
 use Rattle.octets.proofs.Choice.{then-true, then-false}
+use Rattle.octets.proofs.Listed.{allGive, refuses, none-first, rows-passed}
 use Rattle.packet.specs.Header.{accessCode, typeTwo}
-use Rattle.packet.specs.Read.{payloadStart}
-use Rattle.packet.specs.Write.{Wide, addresses, packetOf, writingRefusal, writing}
+use Rattle.packet.specs.Read.{payloadStart, longestPacket}
+use Rattle.packet.specs.Write.{Wide, addresses, packetOf, leastOutput, writingRows, writingRefusal, writing}
 use Rattle.packet.specs.declared.Parts.{Parts}
 use Rattle.packet.proofs.ReadLaws.{start-two, start-one}
 
@@ -34,55 +34,32 @@ module _ (q : Parts) (body : List ℕ) where
     where
       go : (t : Bool) → typeTwo (q .header) ≡ t → length (packetOf q body) ≡ payloadStart (q .header) + length body
       go true e =
+          let end = q .destination ++ (q .context ∷ body) in
+          let long = length-append (q .relay) end in
           ap length (packet-two e)
-          ∙ omega (arith, length-append (q .relay) (q .destination ++ (q .context ∷ body)), length-append (q .destination) (q .context ∷ body), w .relay, w .destination, start-two (q .header) e)
+          ∙ omega (arith, length-append (q .destination) (q .context ∷ body), w .relay, w .destination, start-two (q .header) e)
       go false e =
           ap length (packet-one e)
           ∙ omega (arith, length-append (q .destination) (q .context ∷ body), w .destination, start-one (q .header) e)
 
--- ---- each refusal, in the list's order
-module _ (room : ℕ) (q : Parts) (body : List ℕ) where
-  pub refused-room : room < 500 → writingRefusal room q body ≡ 6
-  unfolding writingRefusal
-  refused-room s = then-true _ _ (lt-ltb room 500 s)
-
-  module _ (s : 500 ≤ room) where
-    pub refused-length : 500 < length (packetOf q body) → writingRefusal room q body ≡ 2
-    unfolding writingRefusal
-    refused-length l = then-false _ _ (le-ltb room 500 s) ∙ then-true _ _ (lt-ltb 500 (length (packetOf q body)) l)
-
-    module _ (l : length (packetOf q body) ≤ 500) where
-      past-length : writingRefusal room q body ≡ (accessCode (q .header) then 3 otherwise 0)
-      unfolding writingRefusal
-      past-length = then-false _ _ (le-ltb room 500 s) ∙ then-false _ _ (le-ltb 500 (length (packetOf q body)) l)
-
-      pub refused-access : accessCode (q .header) ≡ true → writingRefusal room q body ≡ 3
-      refused-access c = past-length ∙ then-true _ _ c
-
-      pub accepted-writing : accessCode (q .header) ≡ false → writingRefusal room q body ≡ 0
-      accepted-writing c = past-length ∙ then-false _ _ c
-
 -- ---- what is written where nothing refuses it
 pub record Writable (room : ℕ) (q : Parts) (body : List ℕ) : Type 0 where
-  pub roomy : 500 ≤ room
-  pub fits : length (packetOf q body) ≤ 500
+  pub roomy : leastOutput ≤ room
+  pub fits : length (packetOf q body) ≤ longestPacket
   pub free : accessCode (q .header) ≡ false
 
 module _ (room : ℕ) (q : Parts) (body : List ℕ) where
   pub writable : writingRefusal room q body ≡ 0 → Writable room q body
-  writable h = go (ltb room 500) refl (ltb 500 (length (packetOf q body))) refl (accessCode (q .header)) refl
-    where
-      not-zero : (n : ℕ) → 0 < n → writingRefusal room q body ≡ n → Writable room q body
-      not-zero n l e = absurd (omega arith)
+  unfolding writingRefusal writingRows allGive refuses _and_
+  writable e =
+      let (roomy, (fits, (free, _))) = rows-passed (writingRows room q body) 0 refl (eq-eqb _ 0 e) in
+      record { roomy = ltb-false room leastOutput roomy; fits = ltb-false longestPacket (length (packetOf q body)) fits; free = free }
 
-      go : (a : Bool) → ltb room 500 ≡ a → (b : Bool) → ltb 500 (length (packetOf q body)) ≡ b → (c : Bool) → accessCode (q .header) ≡ c → Writable room q body
-      go true ea b eb c ec = not-zero 6 (lit< tt) (refused-room room q body (ltb-true room 500 ea))
-      go false ea true eb c ec =
-          not-zero 2 (lit< tt) (refused-length room q body (ltb-false room 500 ea) (ltb-true 500 (length (packetOf q body)) eb))
-      go false ea false eb true ec =
-          not-zero 3 (lit< tt) (refused-access room q body (ltb-false room 500 ea) (ltb-false 500 (length (packetOf q body)) eb) ec)
-      go false ea false eb false ec =
-          record { roomy = ltb-false room 500 ea; fits = ltb-false 500 (length (packetOf q body)) eb; free = ec }
+  pub accepted-writing : Writable room q body → writingRefusal room q body ≡ 0
+  unfolding writingRefusal writingRows
+  accepted-writing w =
+      none-first (writingRows room q body) 0
+      (le-ltb room leastOutput (w .roomy), (le-ltb longestPacket (length (packetOf q body)) (w .fits), (w .free, tt)))
 
 -- ---- `writing`, by its refusal
 module _ (q : Parts) (body output : List ℕ) where
@@ -97,7 +74,8 @@ module _ (q : Parts) (body output : List ℕ) where
   writing-refused ne = then-false _ _ (ne-eqb (writingRefusal (length output) q body) 0 ne)
 
 -- ---- what the code of writing leaves: bytes written one after the other are one write
-module _ (out : List ℕ) (at : ℕ) (destination : List ℕ) (context : ℕ) (body : List ℕ) (wide : length destination ≡ 16) (room : at + 17 + length body ≤ length out) where
+module _ (out : List ℕ) (at : ℕ) (destination : List ℕ) (context : ℕ) (body : List ℕ) (wide : length destination ≡ 16)
+    (room : at + 17 + length body ≤ length out) where
   pub end-written : patch (patch (patch out at destination) (at + 16) (context ∷ [])) (at + 17) body ≡ patch out at (destination ++ (context ∷ body))
   end-written =
       ap (λ (r : List ℕ). patch r (at + 17) body) (patch-join out at (at + 16) destination (context ∷ []) (omega arith) (omega arith))
@@ -105,25 +83,31 @@ module _ (out : List ℕ) (at : ℕ) (destination : List ℕ) (context : ℕ) (b
       ∙ ap (patch out at) (append-assoc destination (context ∷ []) body)
 
 module _ (out : List ℕ) (q : Parts) (body : List ℕ) (wide : Wide q) (room : payloadStart (q .header) + length body ≤ length out) where
-  end-length : length (q .destination ++ (q .context ∷ body)) ≡ 17 + length body
+  -- what both types begin and end with
+  abbrev begun : List ℕ
+  begun = patch (patch out 0 (q .header ∷ [])) 1 (q .hops ∷ [])
+
+  abbrev end : List ℕ
+  end = q .destination ++ (q .context ∷ body)
+
+  end-length : length end ≡ 17 + length body
   end-length = length-append (q .destination) (q .context ∷ body) ∙ omega (arith, wide .destination)
 
-  head-written : 2 ≤ length out → patch (patch out 0 (q .header ∷ [])) 1 (q .hops ∷ []) ≡ patch out 0 (q .header ∷ q .hops ∷ [])
-  head-written l = patch-join out 0 1 (q .header ∷ []) (q .hops ∷ []) refl l
+  begun-written : 2 ≤ length out → begun ≡ patch out 0 (q .header ∷ q .hops ∷ [])
+  begun-written l = patch-join out 0 1 (q .header ∷ []) (q .hops ∷ []) refl l
 
-  pub one-written : typeTwo (q .header) ≡ false
-      → patch (patch (patch out 0 (q .header ∷ [])) 1 (q .hops ∷ [])) 2 (q .destination ++ (q .context ∷ body)) ≡ patch out 0 (packetOf q body)
+  pub one-written : typeTwo (q .header) ≡ false → patch begun 2 end ≡ patch out 0 (packetOf q body)
   one-written t =
       let start : payloadStart (q .header) ≡ 19 = start-one (q .header) t in
-      ap (λ (r : List ℕ). patch r 2 (q .destination ++ (q .context ∷ body))) (head-written (omega arith))
-      ∙ patch-join out 0 2 (q .header ∷ q .hops ∷ []) (q .destination ++ (q .context ∷ body)) refl (omega (arith, end-length))
+      ap (λ (r : List ℕ). patch r 2 end) (begun-written (omega arith))
+      ∙ patch-join out 0 2 (q .header ∷ q .hops ∷ []) end refl (omega (arith, end-length))
       ∙ ap (patch out 0) (sym (packet-one q body t))
 
-  pub two-written : typeTwo (q .header) ≡ true
-      → patch (patch (patch (patch out 0 (q .header ∷ [])) 1 (q .hops ∷ [])) 2 (q .relay)) 18 (q .destination ++ (q .context ∷ body)) ≡ patch out 0 (packetOf q body)
+  pub two-written : typeTwo (q .header) ≡ true → patch (patch begun 2 (q .relay)) 18 end ≡ patch out 0 (packetOf q body)
   two-written t =
       let start : payloadStart (q .header) ≡ 35 = start-two (q .header) t in
-      ap (λ (r : List ℕ). patch (patch r 2 (q .relay)) 18 (q .destination ++ (q .context ∷ body))) (head-written (omega arith))
-      ∙ ap (λ (r : List ℕ). patch r 18 (q .destination ++ (q .context ∷ body))) (patch-join out 0 2 (q .header ∷ q .hops ∷ []) (q .relay) refl (omega (arith, wide .relay)))
-      ∙ patch-join out 0 18 (q .header ∷ q .hops ∷ q .relay) (q .destination ++ (q .context ∷ body)) (omega (arith, wide .relay)) (omega (arith, end-length))
+      let relayed = patch-join out 0 2 (q .header ∷ q .hops ∷ []) (q .relay) refl (omega (arith, wide .relay)) in
+      ap (λ (r : List ℕ). patch (patch r 2 (q .relay)) 18 end) (begun-written (omega arith))
+      ∙ ap (λ (r : List ℕ). patch r 18 end) relayed
+      ∙ patch-join out 0 18 (q .header ∷ q .hops ∷ q .relay) end (omega (arith, wide .relay)) (omega (arith, end-length))
       ∙ ap (patch out 0) (sym (packet-two q body t))

@@ -1,12 +1,14 @@
 -- Document 01, "Packet layout" and refusals 1, 2 and 3: reading a packet.
 use Prim.Native.Nat.{ℕ}
 use mathlib.Core.Bool.{Bool}
-use mathlib.Core.List.{List}
+use mathlib.Core.List.{List, []}
 use lib.Dec.{eqb, ltb}
 use lib.ListN.{length, drop, getD, replicate}
 use Rattle.octets.specs.Index.{_and_}
 use Rattle.octets.specs.Part.{part}
 use Rattle.octets.specs.Choice.{_then_otherwise_}
+use Rattle.octets.specs.Listed.{Test, _gives_otherwise_, firstOf}
+pub use Rattle.numbers.specs.Numbers.{longestPacket}
 use Rattle.packet.specs.Header.{accessCode, typeTwo}
 use Rattle.packet.specs.declared.Parts.{Parts}
 use Rattle.packet.specs.declared.Reading.{Reading}
@@ -40,17 +42,18 @@ payloadStart header = typeTwo header then 35 otherwise 19
 unfoldable pub payload : List ℕ → List ℕ
 payload p = drop (payloadStart (headerOf p)) p
 
--- the longest packet
-abbrev pub longestPacket : ℕ
-longestPacket = 500
+-- ---- the refusals of a packet where none may be longer than `longest`: 1, 2, 3, 1
+unfoldable pub readingRows : ℕ → List ℕ → List (Test ℕ)
+readingRows longest p =
+    ltb (length p) 19 gives 1 otherwise
+    ltb longest (length p) gives 2 otherwise
+    accessCode (headerOf p) gives 3 otherwise
+    typeTwo (headerOf p) and ltb (length p) 35 gives 1 otherwise
+    []
 
--- the refusal of a packet where none may be longer than `longest`, or 0
+-- the refusal's number, or 0
 unfoldable pub readingRefusal : ℕ → List ℕ → ℕ
-readingRefusal longest p =
-    ltb (length p) 19 then 1 otherwise
-    ltb longest (length p) then 2 otherwise
-    accessCode (headerOf p) then 3 otherwise
-    typeTwo (headerOf p) and ltb (length p) 35 then 1 otherwise 0
+readingRefusal longest p = firstOf (readingRows longest p) 0
 
 -- the packet reads
 unfoldable pub reads : ℕ → List ℕ → Bool

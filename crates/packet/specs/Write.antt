@@ -1,11 +1,13 @@
 -- Document 01, "Packet layout" and refusals 6, 2 and 3: writing a packet.
 use Prim.Native.Nat.{ℕ}
-use mathlib.Core.List.{List, _∷_, _++_}
+use mathlib.Core.List.{List, [], _∷_, _++_}
 use mathlib.Core.Path.{_≡_}
 use lib.Dec.{eqb, ltb}
 use lib.ListN.{length}
 use Rattle.octets.specs.Part.{patch}
 use Rattle.octets.specs.Choice.{_then_otherwise_}
+use Rattle.octets.specs.Listed.{Test, _gives_otherwise_, firstOf}
+pub use Rattle.numbers.specs.Numbers.{leastOutput}
 use Rattle.packet.specs.Header.{accessCode, typeTwo}
 use Rattle.packet.specs.Read.{longestPacket, noAddress}
 use Rattle.packet.specs.declared.Parts.{Parts}
@@ -23,16 +25,17 @@ addresses q = typeTwo (q .header) then q .relay ++ q .destination otherwise q .d
 unfoldable pub packetOf : Parts → List ℕ → List ℕ
 packetOf q body = q .header ∷ q .hops ∷ (addresses q ++ (q .context ∷ body))
 
--- an output buffer must have room for the longest packet, however short this one is
-abbrev pub leastOutput : ℕ
-leastOutput = 500
+-- ---- the refusals of a writing into a buffer of `room` bytes: 6, 2, 3
+unfoldable pub writingRows : ℕ → Parts → List ℕ → List (Test ℕ)
+writingRows room q body =
+    ltb room leastOutput gives 6 otherwise
+    ltb longestPacket (length (packetOf q body)) gives 2 otherwise
+    accessCode (q .header) gives 3 otherwise
+    []
 
--- the refusal of a writing into a buffer of `room` bytes, or 0
+-- the refusal's number, or 0
 unfoldable pub writingRefusal : ℕ → Parts → List ℕ → ℕ
-writingRefusal room q body =
-    ltb room leastOutput then 6 otherwise
-    ltb longestPacket (length (packetOf q body)) then 2 otherwise
-    accessCode (q .header) then 3 otherwise 0
+writingRefusal room q body = firstOf (writingRows room q body) 0
 
 -- the answer, and the output buffer after it: a refusal leaves it as it was, and bytes past the packet stay
 pub record Writing : Type 0 where

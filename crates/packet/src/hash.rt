@@ -1,11 +1,12 @@
 // Packet hash and link id.
-use super::LONGEST_PACKET;
 use super::LinkId;
 use super::PacketHash;
 use super::reader::from;
 use super::reader::part_of;
 use super::reader::payload_start;
 use super::reader::reading_refusal;
+use numbers::LONGEST_PACKET;
+use numbers::refusals;
 ghost use mathlib.Core.Path.{_≡_};
 ghost use mathlib.Core.Bool.{true};
 ghost use mathlib.Core.List.{_∷_};
@@ -67,14 +68,17 @@ pub fn packet_hash(packet: &[u8]) -> PacketHash
     ensures { λ r. ⌜ r ≡ packetHashAnswer longestPacket (now (packet .entry)) ⌝ }
 {
     let refusal = reading_refusal(packet, LONGEST_PACKET);
-    if refusal != 0 {
+    if refusal != refusals::NONE {
         return PacketHash {
             refusal,
             bytes: [0; 32],
         };
     }
     let bytes = hash_of(packet);
-    PacketHash { refusal: 0, bytes }
+    PacketHash {
+        refusal: refusals::NONE,
+        bytes,
+    }
 }
 
 // The link id of any bytes: those that don't read are refused.
@@ -82,12 +86,15 @@ pub fn link_id(packet: &[u8]) -> LinkId
     ensures { λ r. ⌜ r ≡ linkIdAnswer longestPacket (now (packet .entry)) ⌝ }
 {
     let refusal = reading_refusal(packet, LONGEST_PACKET);
-    if refusal != 0 {
+    if refusal != refusals::NONE {
         return LinkId {
             refusal,
             bytes: [0; 16],
         };
     }
     let bytes = link_id_of(packet);
-    LinkId { refusal: 0, bytes }
+    LinkId {
+        refusal: refusals::NONE,
+        bytes,
+    }
 }

@@ -1,7 +1,7 @@
 // The packet layout of document 01: reading, writing, packet hash, link id and announce fields.
-// Entry points: read, read_within, reading_refusal, payload, payload_start, write, packet_hash, link_id, announced_destination, least_announce,
-// emission, and the header's bits. parts_of, type_two_parts, hash_of, link_id_of, blob and write_packet are helpers: the caller shows what they
-// require.
+// Entry points: read, read_within, reading_refusal, payload, payload_start, write, packet_hash, link_id,
+// announced_destination, least_announce, emission, and the header's bits. parts_of, type_two_parts, hash_of,
+// link_id_of, blob and write_packet are helpers: the caller shows what they require.
 mod announce;
 mod hash;
 mod header;
@@ -26,6 +26,8 @@ pub use header::of_kind_single;
 pub use header::packet_kind;
 pub use header::transport;
 pub use header::type_two;
+pub use numbers::LEAST_OUTPUT;
+pub use numbers::LONGEST_PACKET;
 pub use reader::parts_of;
 pub use reader::payload;
 pub use reader::payload_start;
@@ -35,11 +37,6 @@ pub use reader::reading_refusal;
 pub use reader::type_two_parts;
 pub use writer::write;
 pub use writer::write_packet;
-
-// `longestPacket` and `leastOutput` of specs/ in code.
-pub const LONGEST_PACKET: usize = 500;
-
-pub const LEAST_OUTPUT: usize = 500;
 
 // What the bytes of a packet before its payload say. Type 1: the relay address is zeros.
 pub struct Parts {

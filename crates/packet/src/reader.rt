@@ -1,9 +1,10 @@
 // Reading a packet: its head alone, never the payload.
-use super::LONGEST_PACKET;
 use super::Parts;
 use super::Reading;
 use super::header::access_code;
 use super::header::type_two;
+use numbers::LONGEST_PACKET;
+use numbers::refusals;
 ghost use mathlib.Core.Path.{_≡_};
 ghost use Prim.Native.Nat.{_≤_};
 ghost use lib.ListN.{length, drop};
@@ -65,21 +66,21 @@ pub fn reading_refusal(packet: &[u8], longest: usize) -> u8
     ensures { λ r. ⌜ r ≡ readingRefusal longest (now (packet .entry)) ⌝ }
 {
     if packet.len() < 19 {
-        return 1;
+        return refusals::TOO_SHORT;
     }
     if longest < packet.len() {
-        return 2;
+        return refusals::TOO_LONG;
     }
     let header = packet[0];
     if access_code(header) {
-        return 3;
+        return refusals::ACCESS_CODE;
     }
     if type_two(header) {
         if packet.len() < 35 {
-            return 1;
+            return refusals::TOO_SHORT;
         }
     }
-    0
+    refusals::NONE
 }
 
 fn type_one_parts(packet: &[u8]) -> Parts
@@ -140,12 +141,15 @@ pub fn read_within(packet: &[u8], longest: usize) -> Reading
     ensures { λ r. ⌜ r ≡ reading longest (now (packet .entry)) ⌝ }
 {
     let refusal = reading_refusal(packet, longest);
-    if refusal != 0 {
+    if refusal != refusals::NONE {
         let parts = no_parts();
         return Reading { refusal, parts };
     }
     let parts = parts_of(packet);
-    Reading { refusal: 0, parts }
+    Reading {
+        refusal: refusals::NONE,
+        parts,
+    }
 }
 
 // Reads a packet of at most 500 bytes.

@@ -1,11 +1,12 @@
 // Writing a packet.
-use super::LEAST_OUTPUT;
-use super::LONGEST_PACKET;
 use super::Parts;
 use super::Written;
 use super::header::access_code;
 use super::header::type_two;
 use super::reader::payload_start;
+use numbers::LEAST_OUTPUT;
+use numbers::LONGEST_PACKET;
+use numbers::refusals;
 ghost use mathlib.Core.Path.{_≡_};
 ghost use mathlib.Core.List.{_∷_, _++_};
 ghost use Prim.Native.Nat.{_+_, _≤_};
@@ -19,22 +20,23 @@ pub fn writing_refusal(parts: Parts, payload: &[u8], room: usize) -> u8
     ensures { λ r. ⌜ r ≡ writingRefusal room parts (now (payload .entry)) ⌝ }
 {
     if room < LEAST_OUTPUT {
-        return 6;
+        return refusals::OUTPUT;
     }
     let start = payload_start(parts.header);
     if LONGEST_PACKET - start < payload.len() {
-        return 2;
+        return refusals::TOO_LONG;
     }
     if access_code(parts.header) {
-        return 3;
+        return refusals::ACCESS_CODE;
     }
-    0
+    refusals::NONE
 }
 
 // Writes what both types end with from place at on.
 fn write_end(destination: [u8; 16], context: u8, payload: &[u8], output: &mut [u8], at: usize)
     requires { ⌜ at + 17 + length (now payload) ≤ length (now output) ⌝ }
-    ensures { λ _. ⌜ now (output .exit) ≡ patch (now (output .entry)) at (destination ++ (context ∷ now (payload .entry))) ⌝ }
+    ensures { λ _. ⌜ now (output .exit)
+        ≡ patch (now (output .entry)) at (destination ++ (context ∷ now (payload .entry))) ⌝ }
 {
     octets::copy_at(output, at, &destination);
     octets::set_at(output, at + 16, context);
@@ -60,15 +62,16 @@ pub fn write_packet(parts: Parts, payload: &[u8], output: &mut [u8])
 
 // Writes the packet of these parts and this payload at the start of the output.
 pub fn write(parts: Parts, payload: &[u8], output: &mut [u8]) -> Written
-    ensures { λ r. ⌜ (r ≡ writing parts (now (payload .entry)) (now (output .entry)) .answer) × (now (output .exit) ≡ writing parts (now (payload .entry)) (now (output .entry)) .output) ⌝ }
+    ensures { λ r. ⌜ (r ≡ writing parts (now (payload .entry)) (now (output .entry)) .answer)
+        × (now (output .exit) ≡ writing parts (now (payload .entry)) (now (output .entry)) .output) ⌝ }
 {
     let refusal = writing_refusal(parts, payload, output.len());
-    if refusal != 0 {
+    if refusal != refusals::NONE {
         return Written { refusal, length: 0 };
     }
     write_packet(parts, payload, output);
     Written {
-        refusal: 0,
+        refusal: refusals::NONE,
         length: payload_start(parts.header) + payload.len(),
     }
 }

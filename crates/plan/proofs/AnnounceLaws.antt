@@ -26,11 +26,9 @@ use Rattle.rules.specs.Writes.{announcedPlace}
 use Rattle.rules.specs.declared.Reason.the-variants.{NotSigned, Replay, NotBetter, NoRoom}
 use Rattle.numbers.specs.Numbers.{pathCount}
 use Rattle.rules.specs.Blobs.{held, isAmong, greatestEmission}
-use Rattle.tables.specs.Places.{pathsAt, pathWidth}
-use Rattle.tables.specs.Records.{pathOf}
-use Rattle.tables.specs.Layout.{recordAt, relayOf}
+use Rattle.tables.specs.Layout.{relayOf}
 use Rattle.lookup.proofs.Found.{path-found, path-missing}
-use Rattle.plan.specs.Decided.{decidedWay, decided, onward}
+use Rattle.plan.specs.Decided.{pathAt, decidedWay, decided, onward}
 use Rattle.plan.specs.Kinds.{newPath, knownPath}
 use Rattle.plan.specs.declared.Decision.the-variants.{Drop, Announce}
 use Rattle.plan.proofs.KindLaws.{other-kind, no-link-proof, decided-test}
@@ -82,10 +80,10 @@ module _ (a : Arrival) (is : isAnnounce (header a) ≡ true) where
 -- ---- on tables, where the search for the path gave place i
 module _ (t : List ℕ) (a : Arrival) (is : isAnnounce (header a) ≡ true) (signed : a .signed ≡ true)
     {i : ℕ} (e : i ≡ pathPlace (a .clock) (relayOf t) (destination a)) where
-  pub announce-at : i < pathCount → knownPath a (pathOf (recordAt pathsAt pathWidth t i)) i ≡ onward (relayOf t) a
+  pub announce-at : i < pathCount → knownPath a (pathAt t i) i ≡ onward (relayOf t) a
   announce-at l =
-      ap (knownPath a (pathOf (recordAt pathsAt pathWidth t i))) e
-      ∙ announce-known a is (relayOf t) signed (pathOf (recordAt pathsAt pathWidth t i)) (path-found t (a .clock) (destination a) i e l)
+      ap (knownPath a (pathAt t i)) e
+      ∙ announce-known a is (relayOf t) signed (pathAt t i) (path-found t (a .clock) (destination a) i e l)
 
   pub announce-nowhere : pathCount ≤ i → newPath (a .clock) (relayOf t) ≡ onward (relayOf t) a
   announce-nowhere l = announce-new a is (relayOf t) signed (path-missing t (a .clock) (destination a) i e l)

@@ -5,7 +5,7 @@ use mathlib.Core.Bool.{Bool, true, false, not, false≢true}
 use mathlib.Core.List.{List, [], _∷_}
 use mathlib.Core.Path.{_≡_, refl, sym, ap, subst, _∙_}
 use lib.Dec.{ltb}
-use lib.ListN.{length, getD}
+use lib.ListN.{length, getD, drop}
 use borrow.Author.Tests.{le-leb, lt-leb}
 use Rattle.octets.specs.Index.{_and_, agree}
 use Rattle.octets.specs.Choice.{_then_otherwise_, _or_, same}
@@ -27,7 +27,6 @@ use Rattle.rules.specs.Tests.{notOurs, testedAsDuplicate, duplicate, badForm, o
 use Rattle.rules.specs.Ways.{wayOn}
 use Rattle.rules.specs.Judging.{Plan, dropped, delivered, follows, earlyTests, onwardPlan, plan}
 use Rattle.rules.specs.declared.Reason.{Reason}
-use Rattle.rules.specs.declared.Reason.the-variants.{NotOurs, Duplicate, BadForm, OwnAnnounce, TooManyHops}
 use Rattle.tables.specs.Places.{addressWidth, ownAt, tableSize}
 use Rattle.tables.specs.Layout.{relayOf}
 use Rattle.outgoing.proofs.LeavingLaws.{whole}
@@ -36,55 +35,24 @@ use Rattle.rules.proofs.Passed.{stops}
 use Rattle.plan.specs.First.{early, firstTests}
 use Rattle.plan.specs.Decided.{decided, decision, onward}
 use Rattle.plan.specs.declared.Early.{Early}
-use Rattle.plan.specs.declared.Early.the-variants.{Dropped, Delivered, Onward}
+use Rattle.plan.specs.declared.Early.the-variants.{Dropped, Delivered, Undecided}
 use Rattle.plan.specs.declared.Decision.the-variants.{Drop, Deliver}
 
--- ---- the answers
-module _ (v : View) (a : Arrival) where
-  pub first-1 : notOurs v a ≡ true → Dropped NotOurs ≡ firstTests v a
-  unfolding firstTests earlyTests valued early firstOf _then_otherwise_
-  first-1 e = rw e
-
-  module _ (e1 : notOurs v a ≡ false) where
-    pub first-2 : duplicate v a ≡ true → Dropped Duplicate ≡ firstTests v a
-    unfolding firstTests earlyTests valued early firstOf _then_otherwise_
-    first-2 e = rw (e1, e)
-
-    module _ (e2 : duplicate v a ≡ false) where
-      pub first-3 : badForm (a .bytes) ≡ true → Dropped BadForm ≡ firstTests v a
-      unfolding firstTests earlyTests valued early firstOf _then_otherwise_
-      first-3 e = rw (e1, e2, e)
-
-      module _ (e3 : badForm (a .bytes) ≡ false) where
-        pub first-4 : ownAnnounce v a ≡ true → Dropped OwnAnnounce ≡ firstTests v a
-        unfolding firstTests earlyTests valued early firstOf _then_otherwise_
-        first-4 e = rw (e1, e2, e3, e)
-
-        module _ (e4 : ownAnnounce v a ≡ false) where
-          pub first-delivered : deliveredHere v a ≡ true → Delivered ≡ firstTests v a
-          unfolding firstTests earlyTests valued early firstOf _then_otherwise_
-          first-delivered e = rw (e1, e2, e3, e4, e)
-
-          module _ (e5 : deliveredHere v a ≡ false) where
-            pub first-5 : tooManyHops (hops a) ≡ true → Dropped TooManyHops ≡ firstTests v a
-            unfolding firstTests earlyTests valued early firstOf _then_otherwise_
-            first-5 e = rw (e1, e2, e3, e4, e5, e)
-
-            pub first-onward : tooManyHops (hops a) ≡ false → Onward ≡ firstTests v a
-            unfolding firstTests earlyTests valued early firstOf _then_otherwise_
-            first-onward e = rw (e1, e2, e3, e4, e5, e)
+-- what the tests behind the first n say
+unfoldable pub earlyFrom : ℕ → View → Arrival → Early
+earlyFrom n v a = firstOf (valued early (drop n (earlyTests v a))) Undecided
 
 -- ---- what the answers decide
 -- what a first answer says of the plan
 Said : List (Test Plan) → Plan → Plan → Early → Type 0
 Said ts rest todo (Dropped reason) = todo ≡ dropped reason
 Said ts rest todo Delivered = todo ≡ delivered
-Said ts rest todo Onward = (todo ≡ rest) × NoneHolds ts
+Said ts rest todo Undecided = (todo ≡ rest) × NoneHolds ts
 
-said : (ts : List (Test Plan)) (rest : Plan) → allGive stops ts ≡ true → Said ts rest (firstOf ts rest) (firstOf (valued early ts) Onward)
+said : (ts : List (Test Plan)) (rest : Plan) → allGive stops ts ≡ true → Said ts rest (firstOf ts rest) (firstOf (valued early ts) Undecided)
 unfolding Said early stops firstOf valued allGive _then_otherwise_
 said [] rest g = (refl, tt)
-said (t ∷ ts) rest g = go (t .holds) refl (t .value) (and-left _ _ g) (firstOf (valued early ts) Onward) (said ts rest (and-right _ _ g))
+said (t ∷ ts) rest g = go (t .holds) refl (t .value) (and-left _ _ g) (firstOf (valued early ts) Undecided) (said ts rest (and-right _ _ g))
   where
     go : (b : Bool) → t .holds ≡ b → (x : Plan) → stops x ≡ true → (y : Early) → Said ts rest (firstOf ts rest) y
         → Said (t ∷ ts) rest (b then x otherwise firstOf ts rest) (b then early x otherwise y)
@@ -93,30 +61,30 @@ said (t ∷ ts) rest g = go (t .holds) refl (t .value) (and-left _ _ g) (firstOf
     go true q (follows w) h y below = absurd (false≢true h)
     go false q x h (Dropped reason) below = below
     go false q x h Delivered below = below
-    go false q x h Onward below = (below .0, (q, below .1))
+    go false q x h Undecided below = (below .0, (q, below .1))
 
 module _ (r : Relay) (a : Arrival) where
   rest : Plan
   rest = onwardPlan (viewAt (a .clock) r) a (wayOn (viewAt (a .clock) r) a)
 
-  answered : (x : Early) → x ≡ firstTests (viewAt (a .clock) r) a → Said (earlyTests (viewAt (a .clock) r) a) rest (plan (viewAt (a .clock) r) a) x
+  early-said : (x : Early) → x ≡ firstTests (viewAt (a .clock) r) a → Said (earlyTests (viewAt (a .clock) r) a) rest (plan (viewAt (a .clock) r) a) x
   unfolding plan rest firstTests earlyTests allGive stops _and_
-  answered x e =
+  early-said x e =
       subst (Said (earlyTests (viewAt (a .clock) r) a) rest (plan (viewAt (a .clock) r) a)) (sym e)
       (said (earlyTests (viewAt (a .clock) r) a) rest refl)
 
   pub first-dropped : (reason : Reason) → Dropped reason ≡ firstTests (viewAt (a .clock) r) a → decision r a ≡ Drop reason
   unfolding Said decision decided
-  first-dropped reason e = ap (decided r a) (answered (Dropped reason) e)
+  first-dropped reason e = ap (decided r a) (early-said (Dropped reason) e)
 
   pub first-deliver : Delivered ≡ firstTests (viewAt (a .clock) r) a → decision r a ≡ Deliver
   unfolding Said decision decided
-  first-deliver e = ap (decided r a) (answered Delivered e)
+  first-deliver e = ap (decided r a) (early-said Delivered e)
 
-  pub first-goes-on : Onward ≡ firstTests (viewAt (a .clock) r) a → (decision r a ≡ onward r a) × (badForm (a .bytes) ≡ false)
+  pub first-goes-on : Undecided ≡ firstTests (viewAt (a .clock) r) a → (decision r a ≡ onward r a) × (badForm (a .bytes) ≡ false)
   unfolding Said decision decided onward rest earlyTests
   first-goes-on e =
-      let (same, none) = answered Onward e in
+      let (same, none) = early-said Undecided e in
       (ap (decided r a) same, none .1 .1 .0)
 
 -- ---- the tests, in the view of tables
@@ -155,9 +123,10 @@ pub own-compared : (t : List ℕ) (a : Arrival) → length t ≡ tableSize → r
     → not (agree 16 (relayAddress a) own) ≡ not (same (relayAddress a) (relayOf t .own))
 unfolding relayOf
 own-compared t a size readable e =
+    let wide = parts-wide (a .bytes) (whole longestPacket (a .bytes) readable) in
+    let own-wide = part-length t ownAt addressWidth (omega (arith, size)) in
     ap (λ (x : List ℕ). not (agree 16 (relayAddress a) x)) e
-    ∙ ap not
-    (sym (same-agree 16 (relayAddress a) (relayOf t .own) (parts-wide (a .bytes) (whole longestPacket (a .bytes) readable) .relay) (part-length t ownAt addressWidth (omega (arith, size)))))
+    ∙ ap not (sym (same-agree 16 (relayAddress a) (relayOf t .own) (wide .relay) own-wide))
 
 -- hops are byte 1
 module _ (a : Arrival) where

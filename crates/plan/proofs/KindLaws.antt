@@ -9,12 +9,13 @@ use borrow.Author.Tests.{eq-eqb, eqb-true, eqb-false, ltb-false}
 use Rattle.octets.specs.Index.{_and_}
 use Rattle.octets.specs.Choice.{_then_otherwise_, _or_}
 use Rattle.octets.proofs.Index.{and-no, and-yes}
-use Rattle.octets.proofs.Choice.{or-no-left, or-no-right, then-true, then-false, then-ap}
+use Rattle.octets.proofs.Choice.{then-true, then-false, then-ap}
+use Rattle.octets.proofs.Listed.{none-any}
 use Rattle.packet.specs.Header.{contextFlag, packetKind, ofKindLink, isData, isAnnounce, isLinkRequest, isProof}
 use Rattle.packet.specs.Announce.{leastAnnounce}
 use Rattle.rules.specs.Relay.{Relay}
 use Rattle.rules.specs.Arrival.{Arrival, header, body, isLinkProof}
-use Rattle.rules.specs.Tests.{announceTooShort, requestOfKindLink, badForm}
+use Rattle.rules.specs.Tests.{announceTooShort, requestOfKindLink, formTests, badForm}
 use Rattle.rules.specs.Judging.{Plan, dropped}
 use Rattle.rules.specs.declared.Reason.{Reason}
 use Rattle.rules.specs.View.{portOn}
@@ -52,11 +53,11 @@ module _ (a : Arrival) where
 module _ (a : Arrival) (good : badForm (a .bytes) ≡ false) where
   -- an announce has room for its blob
   pub announce-long : isAnnounce (header a) ≡ true → 84 ≤ length (body a)
-  unfolding badForm announceTooShort leastAnnounce _then_otherwise_
+  unfolding badForm formTests announceTooShort leastAnnounce _then_otherwise_
   announce-long is = go (contextFlag (header a)) refl
     where
       short : ltb (length (body a)) (leastAnnounce (header a)) ≡ false
-      short = sym (and-yes _ is) ∙ or-no-left _ _ (or-no-right _ _ (or-no-right _ _ (or-no-right _ _ good)))
+      short = let (_, (_, (_, (long, _)))) = none-any (formTests (a .bytes)) good in sym (and-yes _ is) ∙ long
 
       go : (t : Bool) → contextFlag (header a) ≡ t → 84 ≤ length (body a)
       go true q = let l : 180 ≤ length (body a) = ltb-false _ _ (rw q at short) in omega arith
@@ -64,11 +65,11 @@ module _ (a : Arrival) (good : badForm (a .bytes) ≡ false) where
 
   -- no link request is of kind link
   pub link-no-request : ofKindLink (header a) ≡ true → isLinkRequest (header a) ≡ false
-  unfolding badForm requestOfKindLink _and_
+  unfolding badForm formTests requestOfKindLink _and_
   link-no-request is = go (isLinkRequest (header a)) refl
     where
       none : (isLinkRequest (header a) and ofKindLink (header a)) ≡ false
-      none = or-no-left _ _ (or-no-right _ _ (or-no-right _ _ (or-no-right _ _ (or-no-right _ _ (or-no-right _ _ good)))))
+      none = let (_, (_, (_, (_, (_, (other, _)))))) = none-any (formTests (a .bytes)) good in other
 
       go : (t : Bool) → isLinkRequest (header a) ≡ t → isLinkRequest (header a) ≡ false
       go true q = let z : true ≡ false = sym (rw (q, is)) ∙ none in q ∙ z
@@ -90,10 +91,10 @@ pub seen-on : (r : Relay) (port : ℕ) {read wide : ℕ} {t : Bool} → read ≡
 seen-on r port e w s = ap (portOn r) (sym (w ∙ e)) ∙ sym s
 
 module _ (r : Relay) (port : ℕ) (d : Decision) where
-  pub leaves : portOn r port ≡ true → d ≡ leaving r port d
+  pub leaving-on : portOn r port ≡ true → d ≡ leaving r port d
   unfolding leaving
-  leaves on = sym (then-false _ _ (ap not on))
+  leaving-on on = sym (then-false _ _ (ap not on))
 
-  pub stays : portOn r port ≡ false → Drop PortOff ≡ leaving r port d
+  pub leaving-off : portOn r port ≡ false → Drop PortOff ≡ leaving r port d
   unfolding leaving
-  stays off = sym (then-true _ _ (ap not off))
+  leaving-off off = sym (then-true _ _ (ap not off))

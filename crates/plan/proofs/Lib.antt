@@ -1,4 +1,5 @@
 pub mod KindLaws
+pub mod FormLaws
 pub mod FirstLaws
 pub mod AnnounceLaws
 pub mod PathLaws

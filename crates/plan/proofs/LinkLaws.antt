@@ -18,19 +18,18 @@ use Rattle.octets.specs.Listed.{firstOf}
 use Rattle.rules.specs.Relay.{empty, used, Relay}
 use Rattle.rules.specs.View.{View, linkPlace, viewAt}
 use Rattle.rules.specs.Arrival.{Arrival, header, destination, isLinkProof}
-use Rattle.rules.specs.Ways.{Way, along-link, blocked, not-proved, linkWay, wayOn}
-use Rattle.rules.specs.Tests.{badForm, noWayOn, followsProvedLink, alreadyKnown, fromAnsweringSide, fromAskingSide, wrongSide, notSigned, replay, notBetter, leavingPort, portOff, noRoom}
+use Rattle.rules.specs.Ways.{Way, along-link, blocked, linkWay, wayOn}
+use Rattle.rules.specs.Tests.{badForm, noWayOn, whyBlocked, followsProvedLink, alreadyKnown, fromAnsweringSide, fromAskingSide, wrongSide, notSigned, replay, notBetter, leavingPort, portOff, noRoom}
 use Rattle.rules.specs.Outgoing.{grownTooLong}
 use Rattle.rules.specs.Judging.{dropped, follows, onwardPlan, onwardTests}
 use Rattle.rules.specs.declared.Link.{Link}
+use Rattle.rules.specs.declared.Blocked.the-variants.{NoLink, NotProved}
 use Rattle.rules.specs.declared.Reason.the-variants.{NoWayOn, AlreadyKnown, WrongSide, NotSigned, PortOff}
 use Rattle.numbers.specs.Numbers.{linkCount}
-use Rattle.tables.specs.Places.{linksAt, linkWidth}
-use Rattle.tables.specs.Records.{linkOf}
-use Rattle.tables.specs.Layout.{recordAt, relayOf}
+use Rattle.tables.specs.Layout.{relayOf}
 use Rattle.lookup.proofs.Found.{link-found, link-missing}
 use Rattle.outgoing.proofs.RuleLaws.{never-grown}
-use Rattle.plan.specs.Decided.{decidedWay, decided, onward}
+use Rattle.plan.specs.Decided.{linkAt, decidedWay, decided, onward}
 use Rattle.plan.specs.Kinds.{leaving, carried, proving, carrying}
 use Rattle.plan.specs.declared.Decision.the-variants.{Drop, Carry}
 use Rattle.plan.proofs.KindLaws.{link-no-request, decided-test}
@@ -54,8 +53,8 @@ module _ (a : Arrival) (readable : reads longestPacket (a .bytes) ≡ true) (goo
   link-plan v l = rw (link-no-request a good kind, announce, fits l)
 
   module _ (r : Relay) where
-    link-none : viewAt (a .clock) r .link (destination a) ≡ empty → Drop NoWayOn ≡ onward r a
-    unfolding onward onwardPlan onwardTests firstOf noWayOn decided linkWay _then_otherwise_
+    link-none : viewAt (a .clock) r .link (destination a) ≡ empty → Drop (NoWayOn NoLink) ≡ onward r a
+    unfolding onward onwardPlan onwardTests firstOf noWayOn whyBlocked decided linkWay _then_otherwise_
     link-none e =
         let v : View = viewAt (a .clock) r in
         sym (ap (λ (w : Way). decided r a (onwardPlan v a w)) (link-way v ∙ ap (linkWay (isLinkProof (a .bytes))) e))
@@ -83,7 +82,7 @@ module _ (a : Arrival) (readable : reads longestPacket (a .bytes) ≡ true) (goo
           go false q = sym (along l way ∙ rw (is, q))
 
       link-other : isLinkProof (a .bytes) ≡ false → carrying r a l (linkPlace (a .clock) r (destination a)) ≡ onward r a
-      unfolding onward onwardPlan onwardTests firstOf noWayOn decided carrying carried wrongSide leavingPort linkWay _then_otherwise_ _and_ _or_
+      unfolding onward onwardPlan onwardTests firstOf noWayOn whyBlocked decided carrying carried wrongSide leavingPort linkWay _then_otherwise_ _and_ _or_
       link-other other = go (l .proved) refl (fromAnsweringSide l a) refl (fromAskingSide l a) refl
         where
           v : View
@@ -95,7 +94,7 @@ module _ (a : Arrival) (readable : reads longestPacket (a .bytes) ≡ true) (goo
           go : (b : Bool) → l .proved ≡ b → (d : Bool) → fromAnsweringSide l a ≡ d → (e : Bool) → fromAskingSide l a ≡ e
               → carrying r a l (linkPlace (a .clock) r (destination a)) ≡ onward r a
           go false p d q e s =
-              let shut : wayOn v a ≡ blocked not-proved = link-way v ∙ rw (there, other, p) in
+              let shut : wayOn v a ≡ blocked NotProved = link-way v ∙ rw (there, other, p) in
               rw p (sym (ap (λ (w : Way). decided r a (onwardPlan v a w)) shut))
           go true p true q e s = sym (along l (way p) ∙ rw (other, q, p))
           go true p false q true s = sym (along l (way p) ∙ rw (other, q, s, p))
@@ -105,10 +104,10 @@ module _ (a : Arrival) (readable : reads longestPacket (a .bytes) ≡ true) (goo
 module _ (t : List ℕ) (a : Arrival) (readable : reads longestPacket (a .bytes) ≡ true) (good : badForm (a .bytes) ≡ false)
     (announce : isAnnounce (header a) ≡ false) (kind : ofKindLink (header a) ≡ true)
     {i : ℕ} (e : i ≡ linkPlace (a .clock) (relayOf t) (destination a)) where
-  pub link-nowhere : linkCount ≤ i → Drop NoWayOn ≡ onward (relayOf t) a
+  pub link-nowhere : linkCount ≤ i → Drop (NoWayOn NoLink) ≡ onward (relayOf t) a
   link-nowhere l = link-none a readable good announce kind (relayOf t) (link-missing t (a .clock) (destination a) i e l)
 
-  module _ (l : i < linkCount) {link : Link} (read : link ≡ linkOf (recordAt linksAt linkWidth t i)) where
+  module _ (l : i < linkCount) {link : Link} (read : link ≡ linkAt t i) where
     found : viewAt (a .clock) (relayOf t) .link (destination a) ≡ used link
     found = link-found t (a .clock) (destination a) i e l ∙ ap used (sym read)
 
@@ -158,7 +157,7 @@ module _ (r : Relay) (a : Arrival) (l : Link) (place : ℕ) where
       unfolding proving
       prove-carried e = sym (then-false _ _ unproved ∙ then-false _ _ (ap not side) ∙ then-false _ _ (ap not e))
 
-  pub pass-unproved : l .proved ≡ false → Drop NoWayOn ≡ carrying r a l place
+  pub pass-unproved : l .proved ≡ false → Drop (NoWayOn NotProved) ≡ carrying r a l place
   unfolding carrying
   pass-unproved e = sym (then-true _ _ (ap not e))
 

@@ -16,20 +16,19 @@ use Rattle.rules.specs.Relay.{empty, used, Return, Relay}
 use Rattle.rules.specs.View.{View, returnPlace, viewAt, portOn}
 use Rattle.rules.specs.Arrival.{Arrival, header, destination, isLinkProof}
 use Rattle.rules.specs.Ways.{Way, by-return, returnWay, wayOn}
-use Rattle.rules.specs.Tests.{noWayOn, alreadyKnown, wrongSide, notSigned, replay, notBetter, leavingPort, portOff, noRoom}
+use Rattle.rules.specs.Tests.{noWayOn, whyBlocked, alreadyKnown, wrongSide, notSigned, replay, notBetter, leavingPort, portOff, noRoom}
 use Rattle.rules.specs.Outgoing.{grownTooLong}
 use Rattle.rules.specs.Judging.{dropped, follows, onwardPlan, onwardTests}
+use Rattle.rules.specs.declared.Blocked.the-variants.{NoReturn}
 use Rattle.rules.specs.declared.Reason.the-variants.{NoWayOn, WrongSide, PortOff}
 use Rattle.numbers.specs.Numbers.{returnCount}
-use Rattle.tables.specs.Places.{returnsAt, returnWidth}
-use Rattle.tables.specs.Records.{returnOf}
-use Rattle.tables.specs.Layout.{recordAt, relayOf}
+use Rattle.tables.specs.Layout.{relayOf}
 use Rattle.lookup.proofs.Found.{return-found, return-missing}
 use Rattle.outgoing.proofs.RuleLaws.{never-grown}
-use Rattle.plan.specs.Decided.{decidedWay, decided, onward}
+use Rattle.plan.specs.Decided.{returnAt, decidedWay, decided, onward}
 use Rattle.plan.specs.Kinds.{leaving, returning}
 use Rattle.plan.specs.declared.Decision.the-variants.{Drop, Receipt}
-use Rattle.plan.proofs.KindLaws.{other-kind, no-link-proof-kind, decided-test, leaves, stays}
+use Rattle.plan.proofs.KindLaws.{other-kind, no-link-proof-kind, decided-test, leaving-on, leaving-off}
 
 module _ (a : Arrival) (kind : ofKindLink (header a) ≡ false) (proof : isProof (header a) ≡ true) where
   no-announce : isAnnounce (header a) ≡ false
@@ -53,8 +52,8 @@ module _ (a : Arrival) (kind : ofKindLink (header a) ≡ false) (proof : isProof
   return-plan v t fits = rw (no-request, no-link-proof, no-announce, fits)
 
   module _ (r : Relay) where
-    return-none : viewAt (a .clock) r .return (destination a) ≡ empty → Drop NoWayOn ≡ onward r a
-    unfolding onward onwardPlan onwardTests firstOf noWayOn decided returnWay _then_otherwise_
+    return-none : viewAt (a .clock) r .return (destination a) ≡ empty → Drop (NoWayOn NoReturn) ≡ onward r a
+    unfolding onward onwardPlan onwardTests firstOf noWayOn whyBlocked decided returnWay _then_otherwise_
     return-none e =
         let v : View = viewAt (a .clock) r in
         sym (ap (λ (w : Way). decided r a (onwardPlan v a w)) (return-way v ∙ ap returnWay e))
@@ -74,14 +73,14 @@ module _ (a : Arrival) (kind : ofKindLink (header a) ≡ false) (proof : isProof
 -- ---- on tables, where the search for the return record gave place i
 module _ (t : List ℕ) (a : Arrival) (kind : ofKindLink (header a) ≡ false) (proof : isProof (header a) ≡ true)
     {i : ℕ} (e : i ≡ returnPlace (a .clock) (relayOf t) (destination a)) where
-  pub return-nowhere : returnCount ≤ i → Drop NoWayOn ≡ onward (relayOf t) a
+  pub return-nowhere : returnCount ≤ i → Drop (NoWayOn NoReturn) ≡ onward (relayOf t) a
   return-nowhere l = return-none a kind proof (relayOf t) (return-missing t (a .clock) (destination a) i e l)
 
   pub return-at : reads longestPacket (a .bytes) ≡ true → i < returnCount
-      → returning (relayOf t) (a .port) (returnOf (recordAt returnsAt returnWidth t i)) i ≡ onward (relayOf t) a
+      → returning (relayOf t) (a .port) (returnAt t i) i ≡ onward (relayOf t) a
   return-at readable l =
-      ap (returning (relayOf t) (a .port) (returnOf (recordAt returnsAt returnWidth t i))) e
-      ∙ return-there a kind proof (relayOf t) readable (returnOf (recordAt returnsAt returnWidth t i)) (return-found t (a .clock) (destination a) i e l)
+      ap (returning (relayOf t) (a .port) (returnAt t i)) e
+      ∙ return-there a kind proof (relayOf t) readable (returnAt t i) (return-found t (a .clock) (destination a) i e l)
 
 -- ---- by what was read of the record
 module _ (r : Relay) (port : ℕ) (t : Return) (place : ℕ) {leaving : ℕ} (read : leaving ≡ t .leaving) where
@@ -95,8 +94,8 @@ module _ (r : Relay) (port : ℕ) (t : Return) (place : ℕ) {leaving : ℕ} (re
 
     pub receipt-off : portOn r (t .arrival) ≡ false → Drop PortOff ≡ returning r port t place
     unfolding returning
-    receipt-off off = stays r (t .arrival) _ off ∙ sym (then-false _ _ right)
+    receipt-off off = leaving-off r (t .arrival) _ off ∙ sym (then-false _ _ right)
 
     pub receipt-on : {arrival : ℕ} → arrival ≡ t .arrival → portOn r (t .arrival) ≡ true → Receipt place arrival ≡ returning r port t place
     unfolding returning
-    receipt-on e on = ap (Receipt place) e ∙ leaves r (t .arrival) _ on ∙ sym (then-false _ _ right)
+    receipt-on e on = ap (Receipt place) e ∙ leaving-on r (t .arrival) _ on ∙ sym (then-false _ _ right)

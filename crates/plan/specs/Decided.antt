@@ -1,20 +1,28 @@
--- What the code decides of an accepted packet: the rules' plan, with the places of the records that it concerns.
+-- What the code decides of an accepted packet: the rules' plan, with the places of the records that it concerns. In t are the tables' bytes.
 -- For the contracts of helpers: not part of what a reader must believe.
 use Prim.Native.Nat.{ℕ}
+use mathlib.Core.Bool.{true}
 use mathlib.Core.List.{List}
+use mathlib.Core.Path.{_≡_}
+use lib.ListN.{length}
 use Rattle.octets.specs.Choice.{_then_otherwise_}
 use Rattle.octets.specs.Part.{part}
 use Rattle.octets.specs.BigEndian.{number}
 use Rattle.packet.specs.Header.{isData}
+use Rattle.packet.specs.Read.{longestPacket, reads}
 use Rattle.packet.specs.Hash.{linkId}
-use Rattle.rules.specs.Relay.{Relay}
-use Rattle.rules.specs.View.{viewAt, pathPlace, linkPlace, returnPlace, freeLink}
+use Rattle.rules.specs.Relay.{Path, Return, Relay}
+use Rattle.rules.specs.View.{View, viewAt, pathPlace, linkPlace, returnPlace, freeLink}
 use Rattle.rules.specs.Arrival.{Arrival, header, destination}
 use Rattle.rules.specs.Ways.{Way, everywhere, by-path, along-link, by-return, blocked, wayOn}
 use Rattle.rules.specs.Tests.{isThere, leavingPort}
 use Rattle.rules.specs.Judging.{Plan, dropped, delivered, follows, onwardPlan, plan}
 use Rattle.rules.specs.Writes.{announcedPlace}
+use Rattle.rules.specs.declared.Link.{Link}
 use Rattle.rules.specs.declared.Reason.the-variants.{NoWayOn}
+use Rattle.tables.specs.Places.{tableSize, pathsAt, pathWidth, linksAt, linkWidth, returnsAt, returnWidth}
+use Rattle.tables.specs.Records.{pathOf, linkOf, returnOf}
+use Rattle.tables.specs.Layout.{recordAt, relayOf, wellFormed}
 use Rattle.plan.specs.declared.Arrived.{Arrived}
 use Rattle.plan.specs.declared.Decision.{Decision}
 use Rattle.plan.specs.declared.Decision.the-variants.{Drop, Deliver, Announce, Data, Request, Carry, Receipt}
@@ -30,6 +38,33 @@ highOf address = number (part address 0 8)
 abbrev pub lowOf : List ℕ → ℕ
 lowOf address = number (part address 8 8)
 
+-- ---- what a caller shows
+-- the packet reads, and the tables have their length
+pub record CanRead (packet t : List ℕ) : Type 0 where
+  pub readable : reads longestPacket packet ≡ true
+  pub size : length t ≡ tableSize
+
+-- .. and are well formed
+pub record CanJudge (packet t : List ℕ) : Type 0 where
+  pub readable : reads longestPacket packet ≡ true
+  pub formed : wellFormed t ≡ true
+
+-- ---- what the tables show
+-- at the packet's clock
+abbrev pub seen : Arrived → List ℕ → View
+seen m t = viewAt (m .clock) (relayOf t)
+
+-- at a place
+abbrev pub pathAt : List ℕ → ℕ → Path
+pathAt t place = pathOf (recordAt pathsAt pathWidth t place)
+
+abbrev pub linkAt : List ℕ → ℕ → Link
+linkAt t place = linkOf (recordAt linksAt linkWidth t place)
+
+abbrev pub returnAt : List ℕ → ℕ → Return
+returnAt t place = returnOf (recordAt returnsAt returnWidth t place)
+
+-- ---- decisions
 unfoldable pub decidedWay : Relay → Arrival → Way → Decision
 decidedWay r a (everywhere known) = Announce (announcedPlace a known r) (isThere known)
 decidedWay r a (by-path p) =
@@ -38,7 +73,7 @@ decidedWay r a (by-path p) =
     otherwise Request (pathPlace (a .clock) r (destination a)) (freeLink (a .clock) r) (highOf (linkId (a .bytes))) (lowOf (linkId (a .bytes)))
 decidedWay r a (along-link l) = Carry (linkPlace (a .clock) r (destination a)) (leavingPort a (along-link l))
 decidedWay r a (by-return t) = Receipt (returnPlace (a .clock) r (destination a)) (leavingPort a (by-return t))
-decidedWay r a (blocked why) = Drop NoWayOn
+decidedWay r a (blocked why) = Drop (NoWayOn why)
 
 unfoldable pub decided : Relay → Arrival → Plan → Decision
 decided r a (dropped reason) = Drop reason
@@ -49,6 +84,12 @@ decided r a (follows w) = decidedWay r a w
 unfoldable pub decision : Relay → Arrival → Decision
 decision r a = decided r a (plan (viewAt (a .clock) r) a)
 
+abbrev pub decisionOn : List ℕ → Arrived → List ℕ → Decision
+decisionOn packet m t = decision (relayOf t) (arrivalOf packet m)
+
 -- the decision of tests 6 to 14
 unfoldable pub onward : Relay → Arrival → Decision
 onward r a = decided r a (onwardPlan (viewAt (a .clock) r) a (wayOn (viewAt (a .clock) r) a))
+
+abbrev pub onwardOn : List ℕ → Arrived → List ℕ → Decision
+onwardOn packet m t = onward (relayOf t) (arrivalOf packet m)

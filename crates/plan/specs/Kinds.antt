@@ -12,6 +12,7 @@ use Rattle.rules.specs.Arrival.{Arrival}
 use Rattle.rules.specs.Ways.{everywhere}
 use Rattle.rules.specs.Tests.{isThere, fromAnsweringSide, fromAskingSide, replay, notBetter}
 use Rattle.rules.specs.declared.Link.{Link}
+use Rattle.rules.specs.declared.Blocked.the-variants.{NotProved}
 use Rattle.rules.specs.declared.Reason.the-variants.{NoWayOn, AlreadyKnown, WrongSide, NotSigned, Replay, NotBetter, PortOff, NoRoom}
 use Rattle.plan.specs.declared.Decision.{Decision}
 use Rattle.plan.specs.Decided.{highOf, lowOf}
@@ -62,7 +63,7 @@ proving r a l place =
 -- any other: 6, 8, 12
 unfoldable pub carrying : Relay → Arrival → Link → ℕ → Decision
 carrying r a l place =
-    not (l .proved) then Drop NoWayOn otherwise
+    not (l .proved) then Drop (NoWayOn NotProved) otherwise
     fromAnsweringSide l a then carried r (l .asking) place otherwise
     fromAskingSide l a then carried r (l .answering) place otherwise
     Drop WrongSide

@@ -8,13 +8,12 @@ ghost use mathlib.Core.Bool.{true, false};
 ghost use Prim.Native.Nat.{_≤_, _<_};
 ghost use lib.ListN.{length};
 ghost use Rattle.packet.specs.Header.{isAnnounce};
-ghost use Rattle.packet.specs.Read.{headerOf, payload, longestPacket, reads};
+ghost use Rattle.packet.specs.Read.{headerOf, payload};
 ghost use Rattle.numbers.specs.Numbers.{pathCount, blobLimit};
 ghost use Rattle.rules.specs.Tests.{badForm};
-ghost use Rattle.tables.specs.Places.{tableSize, pathsAt, pathWidth};
-ghost use Rattle.tables.specs.Records.{pathOf};
-ghost use Rattle.tables.specs.Layout.{recordAt, relayOf, wellFormed};
-ghost use Rattle.plan.specs.Decided.{arrivalOf, onward};
+ghost use Rattle.tables.specs.Places.{tableSize};
+ghost use Rattle.tables.specs.Layout.{relayOf};
+ghost use Rattle.plan.specs.Decided.{arrivalOf, CanRead, CanJudge, pathAt, onwardOn};
 ghost use Rattle.plan.specs.Kinds.{newPath, knownPath};
 
 // A new path: test 13.
@@ -34,8 +33,10 @@ fn new_path(tables: &[u8], clock: u64) -> Decision
 
 // The known path at a place: tests 10 and 11.
 fn known_path(tables: &[u8], packet: &[u8], arrived: Arrived, place: usize) -> Decision
-    requires { ⌜ (length (now tables) ≡ tableSize) × (place < pathCount) × (pathOf (recordAt pathsAt pathWidth (now tables) place) .blobs .count ≤ blobLimit) × (reads longestPacket (now packet) ≡ true) × (84 ≤ length (payload (now packet))) ⌝ }
-    ensures { λ r. ⌜ r ≡ knownPath (arrivalOf (now (packet .entry)) arrived) (pathOf (recordAt pathsAt pathWidth (now (tables .entry)) place)) place ⌝ }
+    requires { ⌜ CanRead (now packet) (now tables) × (place < pathCount)
+        × (pathAt (now tables) place .blobs .count ≤ blobLimit) × (84 ≤ length (payload (now packet))) ⌝ }
+    ensures { λ r. ⌜ r ≡ knownPath (arrivalOf (now (packet .entry)) arrived)
+        (pathAt (now (tables .entry)) place) place ⌝ }
 {
     let blob = packet::blob(packet::payload(packet));
     if lookup::holds_blob(tables, place, blob) {
@@ -52,8 +53,9 @@ fn known_path(tables: &[u8], packet: &[u8], arrived: Arrived, place: usize) -> D
 }
 
 pub fn decide_announce(tables: &[u8], packet: &[u8], arrived: Arrived) -> Decision
-    requires { ⌜ (wellFormed (now tables) ≡ true) × (reads longestPacket (now packet) ≡ true) × (badForm (now packet) ≡ false) × (isAnnounce (headerOf (now packet)) ≡ true) ⌝ }
-    ensures { λ r. ⌜ r ≡ onward (relayOf (now (tables .entry))) (arrivalOf (now (packet .entry)) arrived) ⌝ }
+    requires { ⌜ CanJudge (now packet) (now tables) × (badForm (now packet) ≡ false)
+        × (isAnnounce (headerOf (now packet)) ≡ true) ⌝ }
+    ensures { λ r. ⌜ r ≡ onwardOn (now (packet .entry)) arrived (now (tables .entry)) ⌝ }
 {
     if !arrived.signed {
         return Decision::Drop(Reason::NotSigned);

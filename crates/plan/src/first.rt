@@ -1,26 +1,25 @@
 // Tests 1 to 5, with delivery at test 4's place.
 use super::Arrived;
 use super::Early;
+use super::Form;
+use super::bad_form::form_of;
 use numbers::HASH_COUNT;
 use numbers::HOPS_LIMIT;
 use numbers::LOCAL_COUNT;
 use rules::Reason;
 ghost use mathlib.Core.Path.{_≡_};
-ghost use mathlib.Core.Bool.{true};
-ghost use lib.ListN.{length};
-ghost use Rattle.packet.specs.Read.{partsOf, longestPacket, reads};
+ghost use Rattle.packet.specs.Read.{partsOf};
 ghost use Rattle.packet.specs.Hash.{packetHash};
-ghost use Rattle.rules.specs.View.{isLocal, viewAt};
+ghost use Rattle.rules.specs.View.{isLocal};
 ghost use Rattle.rules.specs.Tests.{notOurs, ownAnnounce, deliveredHere};
-ghost use Rattle.tables.specs.Places.{tableSize};
 ghost use Rattle.tables.specs.Layout.{relayOf};
-ghost use Rattle.plan.specs.Decided.{arrivalOf};
+ghost use Rattle.plan.specs.Decided.{arrivalOf, CanRead, seen};
 ghost use Rattle.plan.specs.First.{firstTests};
 
 // Test 1.
 pub fn not_ours(tables: &[u8], packet: &[u8], arrived: Arrived) -> bool
-    requires { ⌜ (length (now tables) ≡ tableSize) × (reads longestPacket (now packet) ≡ true) ⌝ }
-    ensures { λ r. ⌜ r ≡ notOurs (viewAt (arrived .clock) (relayOf (now (tables .entry)))) (arrivalOf (now (packet .entry)) arrived) ⌝ }
+    requires { ⌜ CanRead (now packet) (now tables) ⌝ }
+    ensures { λ r. ⌜ r ≡ notOurs (seen arrived (now (tables .entry))) (arrivalOf (now (packet .entry)) arrived) ⌝ }
 {
     let header = packet[0];
     if !packet::type_two(header) {
@@ -36,7 +35,7 @@ pub fn not_ours(tables: &[u8], packet: &[u8], arrived: Arrived) -> bool
 
 // Whether the packet's destination is local.
 fn is_local(tables: &[u8], packet: &[u8]) -> bool
-    requires { ⌜ (length (now tables) ≡ tableSize) × (reads longestPacket (now packet) ≡ true) ⌝ }
+    requires { ⌜ CanRead (now packet) (now tables) ⌝ }
     ensures { λ r. ⌜ r ≡ isLocal (relayOf (now (tables .entry))) (partsOf (now (packet .entry)) .destination) ⌝ }
 {
     let parts = packet::parts_of(packet);
@@ -46,8 +45,8 @@ fn is_local(tables: &[u8], packet: &[u8]) -> bool
 
 // Test 4.
 fn own_announce(tables: &[u8], packet: &[u8], arrived: Arrived) -> bool
-    requires { ⌜ (length (now tables) ≡ tableSize) × (reads longestPacket (now packet) ≡ true) ⌝ }
-    ensures { λ r. ⌜ r ≡ ownAnnounce (viewAt (arrived .clock) (relayOf (now (tables .entry)))) (arrivalOf (now (packet .entry)) arrived) ⌝ }
+    requires { ⌜ CanRead (now packet) (now tables) ⌝ }
+    ensures { λ r. ⌜ r ≡ ownAnnounce (seen arrived (now (tables .entry))) (arrivalOf (now (packet .entry)) arrived) ⌝ }
 {
     if packet::is_announce(packet[0]) {
         return is_local(tables, packet);
@@ -57,8 +56,9 @@ fn own_announce(tables: &[u8], packet: &[u8], arrived: Arrived) -> bool
 
 // Data and link requests to a local address, kind link excepted.
 fn delivered_here(tables: &[u8], packet: &[u8], arrived: Arrived) -> bool
-    requires { ⌜ (length (now tables) ≡ tableSize) × (reads longestPacket (now packet) ≡ true) ⌝ }
-    ensures { λ r. ⌜ r ≡ deliveredHere (viewAt (arrived .clock) (relayOf (now (tables .entry)))) (arrivalOf (now (packet .entry)) arrived) ⌝ }
+    requires { ⌜ CanRead (now packet) (now tables) ⌝ }
+    ensures { λ r. ⌜ r ≡ deliveredHere (seen arrived (now (tables .entry)))
+        (arrivalOf (now (packet .entry)) arrived) ⌝ }
 {
     let header = packet[0];
     if packet::of_kind_link(header) {
@@ -74,8 +74,8 @@ fn delivered_here(tables: &[u8], packet: &[u8], arrived: Arrived) -> bool
 }
 
 pub fn first_tests(tables: &[u8], packet: &[u8], arrived: Arrived, hash: [u8; 32]) -> Early
-    requires { ⌜ (length (now tables) ≡ tableSize) × (reads longestPacket (now packet) ≡ true) × (hash ≡ packetHash (now packet)) ⌝ }
-    ensures { λ r. ⌜ r ≡ firstTests (viewAt (arrived .clock) (relayOf (now (tables .entry)))) (arrivalOf (now (packet .entry)) arrived) ⌝ }
+    requires { ⌜ CanRead (now packet) (now tables) × (hash ≡ packetHash (now packet)) ⌝ }
+    ensures { λ r. ⌜ r ≡ firstTests (seen arrived (now (tables .entry))) (arrivalOf (now (packet .entry)) arrived) ⌝ }
 {
     if not_ours(tables, packet, arrived) {
         return Early::Dropped(Reason::NotOurs);
@@ -83,8 +83,8 @@ pub fn first_tests(tables: &[u8], packet: &[u8], arrived: Arrived, hash: [u8; 32
     if lookup::hash_place(tables, hash, arrived.clock) < HASH_COUNT {
         return Early::Dropped(Reason::Duplicate);
     }
-    if outgoing::bad_form(packet) {
-        return Early::Dropped(Reason::BadForm);
+    if let Form::Bad(clause) = form_of(packet) {
+        return Early::Dropped(Reason::BadForm(clause));
     }
     if own_announce(tables, packet, arrived) {
         return Early::Dropped(Reason::OwnAnnounce);
@@ -95,5 +95,5 @@ pub fn first_tests(tables: &[u8], packet: &[u8], arrived: Arrived, hash: [u8; 32
     if packet[1] >= HOPS_LIMIT {
         return Early::Dropped(Reason::TooManyHops);
     }
-    Early::Onward
+    Early::Undecided
 }

@@ -1,26 +1,27 @@
 // What is to be done with an accepted packet, decided from the tables' bytes before anything is written.
-// Every function here is a helper of the packet call: the caller shows that the tables are well formed and that the packet reads.
-// Entry points: none. The packet call decides by `not_ours`, before it hashes the packet, and by `decide`.
+// Every function here is a helper of the packet call: the caller shows that the tables are well formed and that the
+// packet reads. Entry points: none. The packet call decides by `not_ours`, before it hashes, and by `decide`.
 mod announces;
+mod bad_form;
 mod first;
 mod links;
 mod paths;
 mod returns;
 
 use announces::decide_announce;
+pub use bad_form::is_link_proof;
 use first::first_tests;
 pub use first::not_ours;
 use links::decide_of_link;
 use paths::decide_by_path;
 use returns::decide_proof;
+use rules::Clause;
 use rules::Reason;
 ghost use mathlib.Core.Path.{_≡_};
-ghost use mathlib.Core.Bool.{true, false};
-ghost use Rattle.packet.specs.Read.{longestPacket, reads};
+ghost use mathlib.Core.Bool.{false};
 ghost use Rattle.packet.specs.Hash.{packetHash};
 ghost use Rattle.rules.specs.Tests.{badForm};
-ghost use Rattle.tables.specs.Layout.{relayOf, wellFormed};
-ghost use Rattle.plan.specs.Decided.{arrivalOf, onward, decision};
+ghost use Rattle.plan.specs.Decided.{CanJudge, onwardOn, decisionOn};
 
 // How a packet came: the arrival port, the clock, and the host's word on the signature.
 pub struct Arrived {
@@ -29,15 +30,21 @@ pub struct Arrived {
     pub signed: bool,
 }
 
-// Tests 1 to 5, with delivery at test 4's place.
+// What test 3 finds: a good form, or the first clause that fails.
+pub enum Form {
+    Good,
+    Bad(Clause),
+}
+
+// What tests 1 to 5 say, with delivery at test 4's place.
 pub enum Early {
     Dropped(Reason),
     Delivered,
-    Onward,
+    Undecided,
 }
 
-// The rules' plan, with the places of the records that it concerns. (An enum that holds an array isn't covered: addresses are read again where
-// they are written, and a link id, which is hashed, comes as two numbers.)
+// The rules' plan, with the places of the records that it concerns. (An enum that holds an array isn't covered:
+// addresses are read again where they are written, and a link id, which is hashed, comes as two numbers.)
 pub enum Decision {
     Drop(Reason),
     Deliver,
@@ -71,8 +78,8 @@ pub enum Decision {
 
 // Tests 6 to 14, by the way that the packet would follow.
 fn decide_onward(tables: &[u8], packet: &[u8], arrived: Arrived) -> Decision
-    requires { ⌜ (wellFormed (now tables) ≡ true) × (reads longestPacket (now packet) ≡ true) × (badForm (now packet) ≡ false) ⌝ }
-    ensures { λ r. ⌜ r ≡ onward (relayOf (now (tables .entry))) (arrivalOf (now (packet .entry)) arrived) ⌝ }
+    requires { ⌜ CanJudge (now packet) (now tables) × (badForm (now packet) ≡ false) ⌝ }
+    ensures { λ r. ⌜ r ≡ onwardOn (now (packet .entry)) arrived (now (tables .entry)) ⌝ }
 {
     let header = packet[0];
     if packet::is_announce(header) {
@@ -89,12 +96,12 @@ fn decide_onward(tables: &[u8], packet: &[u8], arrived: Arrived) -> Decision
 
 // What is to be done with an accepted packet, whose hash the caller has.
 pub fn decide(tables: &[u8], packet: &[u8], arrived: Arrived, hash: [u8; 32]) -> Decision
-    requires { ⌜ (wellFormed (now tables) ≡ true) × (reads longestPacket (now packet) ≡ true) × (hash ≡ packetHash (now packet)) ⌝ }
-    ensures { λ r. ⌜ r ≡ decision (relayOf (now (tables .entry))) (arrivalOf (now (packet .entry)) arrived) ⌝ }
+    requires { ⌜ CanJudge (now packet) (now tables) × (hash ≡ packetHash (now packet)) ⌝ }
+    ensures { λ r. ⌜ r ≡ decisionOn (now (packet .entry)) arrived (now (tables .entry)) ⌝ }
 {
     match first_tests(tables, packet, arrived, hash) {
         Early::Dropped(reason) => Decision::Drop(reason),
         Early::Delivered => Decision::Deliver,
-        Early::Onward => decide_onward(tables, packet, arrived),
+        Early::Undecided => decide_onward(tables, packet, arrived),
     }
 }

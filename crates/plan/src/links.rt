@@ -1,7 +1,9 @@
 // Packets of kind link: tests 6, 7, 8, 9 and 12.
 use super::Arrived;
 use super::Decision;
+use super::bad_form::is_link_proof;
 use numbers::LINK_COUNT;
+use rules::Blocked;
 use rules::Link;
 use rules::Reason;
 ghost use mathlib.Core.Path.{_≡_};
@@ -11,8 +13,8 @@ ghost use Rattle.packet.specs.Header.{isAnnounce, ofKindLink};
 ghost use Rattle.packet.specs.Read.{headerOf, longestPacket, reads};
 ghost use Rattle.rules.specs.Tests.{badForm, fromAnsweringSide, fromAskingSide};
 ghost use Rattle.tables.specs.Places.{tableSize};
-ghost use Rattle.tables.specs.Layout.{relayOf, wellFormed};
-ghost use Rattle.plan.specs.Decided.{arrivalOf, onward};
+ghost use Rattle.tables.specs.Layout.{relayOf};
+ghost use Rattle.plan.specs.Decided.{arrivalOf, CanRead, CanJudge, onwardOn};
 ghost use Rattle.plan.specs.Kinds.{carried, proving, carrying};
 
 // From the answering port with hops = remaining.
@@ -52,8 +54,9 @@ fn carry(tables: &[u8], place: usize, port: u8) -> Decision
 
 // A link proof, of the link at a place: tests 7, 8, 9 and 12.
 fn prove(tables: &[u8], packet: &[u8], arrived: Arrived, link: Link, place: usize) -> Decision
-    requires { ⌜ (length (now tables) ≡ tableSize) × (reads longestPacket (now packet) ≡ true) ⌝ }
-    ensures { λ r. ⌜ r ≡ proving (relayOf (now (tables .entry))) (arrivalOf (now (packet .entry)) arrived) link place ⌝ }
+    requires { ⌜ CanRead (now packet) (now tables) ⌝ }
+    ensures { λ r. ⌜ r ≡ proving (relayOf (now (tables .entry))) (arrivalOf (now (packet .entry)) arrived)
+        link place ⌝ }
 {
     if link.proved {
         return Decision::Drop(Reason::AlreadyKnown);
@@ -69,11 +72,12 @@ fn prove(tables: &[u8], packet: &[u8], arrived: Arrived, link: Link, place: usiz
 
 // Any other packet of the link at a place: tests 6, 8 and 12.
 fn pass(tables: &[u8], packet: &[u8], arrived: Arrived, link: Link, place: usize) -> Decision
-    requires { ⌜ (length (now tables) ≡ tableSize) × (reads longestPacket (now packet) ≡ true) ⌝ }
-    ensures { λ r. ⌜ r ≡ carrying (relayOf (now (tables .entry))) (arrivalOf (now (packet .entry)) arrived) link place ⌝ }
+    requires { ⌜ CanRead (now packet) (now tables) ⌝ }
+    ensures { λ r. ⌜ r ≡ carrying (relayOf (now (tables .entry))) (arrivalOf (now (packet .entry)) arrived)
+        link place ⌝ }
 {
     if !link.proved {
-        return Decision::Drop(Reason::NoWayOn);
+        return Decision::Drop(Reason::NoWayOn(Blocked::NotProved));
     }
     if from_answering_side(link, packet, arrived) {
         return carry(tables, place, link.asking);
@@ -85,17 +89,18 @@ fn pass(tables: &[u8], packet: &[u8], arrived: Arrived, link: Link, place: usize
 }
 
 pub fn decide_of_link(tables: &[u8], packet: &[u8], arrived: Arrived) -> Decision
-    requires { ⌜ (wellFormed (now tables) ≡ true) × (reads longestPacket (now packet) ≡ true) × (badForm (now packet) ≡ false) × (isAnnounce (headerOf (now packet)) ≡ false) × (ofKindLink (headerOf (now packet)) ≡ true) ⌝ }
-    ensures { λ r. ⌜ r ≡ onward (relayOf (now (tables .entry))) (arrivalOf (now (packet .entry)) arrived) ⌝ }
+    requires { ⌜ CanJudge (now packet) (now tables) × (badForm (now packet) ≡ false)
+        × (isAnnounce (headerOf (now packet)) ≡ false) × (ofKindLink (headerOf (now packet)) ≡ true) ⌝ }
+    ensures { λ r. ⌜ r ≡ onwardOn (now (packet .entry)) arrived (now (tables .entry)) ⌝ }
 {
     let parts = packet::parts_of(packet);
     let destination = parts.destination;
     let place = lookup::link_place(tables, destination, arrived.clock);
     if place >= LINK_COUNT {
-        return Decision::Drop(Reason::NoWayOn);
+        return Decision::Drop(Reason::NoWayOn(Blocked::NoLink));
     }
     let link = lookup::link_at(tables, place);
-    if outgoing::is_link_proof(packet) {
+    if is_link_proof(packet) {
         return prove(tables, packet, arrived, link, place);
     }
     pass(tables, packet, arrived, link, place)

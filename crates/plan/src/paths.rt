@@ -3,24 +3,24 @@ use super::Arrived;
 use super::Decision;
 use numbers::LINK_COUNT;
 use numbers::PATH_COUNT;
+use rules::Blocked;
 use rules::Reason;
 ghost use mathlib.Core.Path.{_≡_};
-ghost use mathlib.Core.Bool.{true, false};
+ghost use mathlib.Core.Bool.{false};
 ghost use Prim.Native.Nat.{_<_};
 ghost use lib.ListN.{length};
 ghost use Rattle.packet.specs.Header.{isAnnounce, isProof, ofKindLink};
-ghost use Rattle.packet.specs.Read.{headerOf, longestPacket, reads};
+ghost use Rattle.packet.specs.Read.{headerOf};
 ghost use Rattle.numbers.specs.Numbers.{pathCount};
-ghost use Rattle.tables.specs.Places.{tableSize, pathsAt, pathWidth};
-ghost use Rattle.tables.specs.Records.{pathOf};
-ghost use Rattle.tables.specs.Layout.{recordAt, relayOf, wellFormed};
-ghost use Rattle.plan.specs.Decided.{arrivalOf, onward};
+ghost use Rattle.tables.specs.Places.{tableSize};
+ghost use Rattle.tables.specs.Layout.{relayOf};
+ghost use Rattle.plan.specs.Decided.{arrivalOf, CanRead, CanJudge, pathAt, onwardOn};
 ghost use Rattle.plan.specs.Kinds.{sending, requesting};
 
 // Data by the path at a place: test 12.
 fn send(tables: &[u8], place: usize) -> Decision
     requires { ⌜ (length (now tables) ≡ tableSize) × (place < pathCount) ⌝ }
-    ensures { λ r. ⌜ r ≡ sending (relayOf (now (tables .entry))) (pathOf (recordAt pathsAt pathWidth (now (tables .entry)) place)) place ⌝ }
+    ensures { λ r. ⌜ r ≡ sending (relayOf (now (tables .entry))) (pathAt (now (tables .entry)) place) place ⌝ }
 {
     let port = lookup::path_port(tables, place);
     if lookup::port_on(tables, octets::wide(port)) {
@@ -31,8 +31,9 @@ fn send(tables: &[u8], place: usize) -> Decision
 
 // A link request by the path at a place: tests 7, 12 and 13.
 fn request(tables: &[u8], packet: &[u8], arrived: Arrived, place: usize) -> Decision
-    requires { ⌜ (length (now tables) ≡ tableSize) × (place < pathCount) × (reads longestPacket (now packet) ≡ true) ⌝ }
-    ensures { λ r. ⌜ r ≡ requesting (relayOf (now (tables .entry))) (arrivalOf (now (packet .entry)) arrived) (pathOf (recordAt pathsAt pathWidth (now (tables .entry)) place)) place ⌝ }
+    requires { ⌜ CanRead (now packet) (now tables) × (place < pathCount) ⌝ }
+    ensures { λ r. ⌜ r ≡ requesting (relayOf (now (tables .entry))) (arrivalOf (now (packet .entry)) arrived)
+        (pathAt (now (tables .entry)) place) place ⌝ }
 {
     let id = packet::link_id_of(packet);
     if lookup::link_place(tables, id, arrived.clock) < LINK_COUNT {
@@ -55,18 +56,19 @@ fn request(tables: &[u8], packet: &[u8], arrived: Arrived, place: usize) -> Deci
 }
 
 pub fn decide_by_path(tables: &[u8], packet: &[u8], arrived: Arrived) -> Decision
-    requires { ⌜ (wellFormed (now tables) ≡ true) × (reads longestPacket (now packet) ≡ true) × (isAnnounce (headerOf (now packet)) ≡ false) × (ofKindLink (headerOf (now packet)) ≡ false) × (isProof (headerOf (now packet)) ≡ false) ⌝ }
-    ensures { λ r. ⌜ r ≡ onward (relayOf (now (tables .entry))) (arrivalOf (now (packet .entry)) arrived) ⌝ }
+    requires { ⌜ CanJudge (now packet) (now tables) × (isAnnounce (headerOf (now packet)) ≡ false)
+        × (ofKindLink (headerOf (now packet)) ≡ false) × (isProof (headerOf (now packet)) ≡ false) ⌝ }
+    ensures { λ r. ⌜ r ≡ onwardOn (now (packet .entry)) arrived (now (tables .entry)) ⌝ }
 {
     let header = packet[0];
     if !packet::type_two(header) {
-        return Decision::Drop(Reason::NoWayOn);
+        return Decision::Drop(Reason::NoWayOn(Blocked::NotAsking));
     }
     let parts = packet::parts_of(packet);
     let destination = parts.destination;
     let place = lookup::path_place(tables, destination, arrived.clock);
     if place >= PATH_COUNT {
-        return Decision::Drop(Reason::NoWayOn);
+        return Decision::Drop(Reason::NoWayOn(Blocked::NoPath));
     }
     if packet::is_data(header) {
         return send(tables, place);

@@ -2,24 +2,24 @@
 use super::Arrived;
 use super::Decision;
 use numbers::RETURN_COUNT;
+use rules::Blocked;
 use rules::Reason;
 ghost use mathlib.Core.Path.{_≡_};
 ghost use mathlib.Core.Bool.{true, false};
 ghost use Prim.Native.Nat.{_<_};
 ghost use lib.ListN.{length};
 ghost use Rattle.packet.specs.Header.{isProof, ofKindLink};
-ghost use Rattle.packet.specs.Read.{headerOf, longestPacket, reads};
+ghost use Rattle.packet.specs.Read.{headerOf};
 ghost use Rattle.numbers.specs.Numbers.{returnCount};
-ghost use Rattle.tables.specs.Places.{tableSize, returnsAt, returnWidth};
-ghost use Rattle.tables.specs.Records.{returnOf};
-ghost use Rattle.tables.specs.Layout.{recordAt, relayOf, wellFormed};
-ghost use Rattle.plan.specs.Decided.{arrivalOf, onward};
+ghost use Rattle.tables.specs.Places.{tableSize};
+ghost use Rattle.tables.specs.Layout.{relayOf};
+ghost use Rattle.plan.specs.Decided.{CanJudge, returnAt, onwardOn};
 ghost use Rattle.plan.specs.Kinds.{returning};
 
 // A proof for the return record at a place, which came in by a port: tests 8 and 12.
 fn receipt(tables: &[u8], place: usize, port: u8) -> Decision
     requires { ⌜ (length (now tables) ≡ tableSize) × (place < returnCount) ⌝ }
-    ensures { λ r. ⌜ r ≡ returning (relayOf (now (tables .entry))) port (returnOf (recordAt returnsAt returnWidth (now (tables .entry)) place)) place ⌝ }
+    ensures { λ r. ⌜ r ≡ returning (relayOf (now (tables .entry))) port (returnAt (now (tables .entry)) place) place ⌝ }
 {
     if port != lookup::return_leaving(tables, place) {
         return Decision::Drop(Reason::WrongSide);
@@ -35,8 +35,9 @@ fn receipt(tables: &[u8], place: usize, port: u8) -> Decision
 }
 
 pub fn decide_proof(tables: &[u8], packet: &[u8], arrived: Arrived) -> Decision
-    requires { ⌜ (wellFormed (now tables) ≡ true) × (reads longestPacket (now packet) ≡ true) × (ofKindLink (headerOf (now packet)) ≡ false) × (isProof (headerOf (now packet)) ≡ true) ⌝ }
-    ensures { λ r. ⌜ r ≡ onward (relayOf (now (tables .entry))) (arrivalOf (now (packet .entry)) arrived) ⌝ }
+    requires { ⌜ CanJudge (now packet) (now tables) × (ofKindLink (headerOf (now packet)) ≡ false)
+        × (isProof (headerOf (now packet)) ≡ true) ⌝ }
+    ensures { λ r. ⌜ r ≡ onwardOn (now (packet .entry)) arrived (now (tables .entry)) ⌝ }
 {
     let parts = packet::parts_of(packet);
     let destination = parts.destination;
@@ -44,5 +45,5 @@ pub fn decide_proof(tables: &[u8], packet: &[u8], arrived: Arrived) -> Decision
     if place < RETURN_COUNT {
         return receipt(tables, place, arrived.port);
     }
-    Decision::Drop(Reason::NoWayOn)
+    Decision::Drop(Reason::NoWayOn(Blocked::NoReturn))
 }

@@ -1,2 +1,3 @@
 -- What the relay's calls promise: Promise is all that a crate above may cite.
+pub mod Refusal
 pub mod Promise

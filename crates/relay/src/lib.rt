@@ -1,20 +1,29 @@
 // The packet call: a packet is refused, or decided, acted on and counted.
-// Entry point: judge, with the tally by value; crates/haskumye lends it to hosts by `&mut`. It has no `requires`, and ends on any bytes.
+// Entry points: judge, with the tally by value (crates/haskumye lends it to hosts by `&mut`), and reason_number. They
+// have no `requires`, and end on any bytes.
+mod reasons;
+mod refusals;
+mod tallies;
+
 use plan::Arrived;
+pub use reasons::reason_number;
+use refusals::refusal;
 use rules::Answer;
 use rules::Reason;
 use rules::Tally;
 use rules::Verdict;
+use tallies::counted;
 ghost use Rattle.relay.specs.Promise.{Promises, packetOn};
 
 // What a packet call returns where the tally goes in by value.
-pub struct Judged {
+pub struct Answered {
     pub answer: Answer,
     pub tally: Tally,
 }
 
-// A packet that came by a port at a clock, with the host's word on its signature. The tables and the output are written where they lie.
-// Test 1 comes before the hash: its drop remembers nothing, and on a shared radio most packets are for other relays.
+// A packet that came by a port at a clock, with the host's word on its signature. The tables and the output are written
+// where they lie. Test 1 comes before the hash: its drop remembers nothing, and on a shared radio most packets are for
+// other relays.
 pub fn judge(
     packet: &[u8],
     port: u64,
@@ -23,13 +32,15 @@ pub fn judge(
     tables: &mut [u8],
     output: &mut [u8],
     tally: Tally,
-) -> Judged
-    ensures { λ r. ⌜ Promises (packetOn (now (packet .entry)) port clock signed (now (tables .entry)) tally (now (output .entry))) (r .answer) (r .tally) (now (tables .exit)) (now (output .exit)) ⌝ }
+) -> Answered
+    ensures { λ r. ⌜ Promises
+        (packetOn (now (packet .entry)) port clock signed (now (tables .entry)) tally (now (output .entry)))
+        (r .answer) (r .tally) (now (tables .exit)) (now (output .exit)) ⌝ }
 {
-    let refusal = act::refusal(packet, port, clock, tables, output.len());
-    if refusal != 0 {
-        return Judged {
-            answer: Answer::Refused(refusal),
+    let refused = refusal(packet, port, clock, tables, output.len());
+    if refused != 0 {
+        return Answered {
+            answer: Answer::Refused(refused),
             tally,
         };
     }
@@ -40,17 +51,17 @@ pub fn judge(
     };
     if plan::not_ours(tables, packet, arrived) {
         update::set_clock(tables, clock);
-        let passed = Verdict::Drop(Reason::NotOurs);
-        return Judged {
-            answer: Answer::Judged(passed),
-            tally: act::counted(passed, tally),
+        let dropped = Verdict::Drop(Reason::NotOurs);
+        return Answered {
+            answer: Answer::Judged(dropped),
+            tally: counted(dropped, tally),
         };
     }
     let hash = packet::hash_of(packet);
     let decision = plan::decide(tables, packet, arrived, hash);
     let verdict = act::act(packet, arrived, hash, decision, tables, output);
-    Judged {
+    Answered {
         answer: Answer::Judged(verdict),
-        tally: act::counted(verdict, tally),
+        tally: counted(verdict, tally),
     }
 }

@@ -1,43 +1,41 @@
 -- What the code of a renumbering reads and writes, as the rules have it.
 use Prim.Native.Nat.{ℕ, _+_, _*_, _≤_, _<_}
+use native.Mathlib.Nat.{zero-add}
 use native.Mathlib.Omega.{arith}
 use mathlib.Core.Bool.{Bool, true, false}
 use mathlib.Core.List.{List, [], _∷_, map}
-use mathlib.Core.Path.{_≡_, refl, sym, ap, ap₂, subst, _∙_}
-use lib.ListN.{length, getD, set, replicate, length-set, length-replicate, List·getD-eq-default}
+use mathlib.Core.Path.{_≡_, refl, sym, ap, ap₂, _∙_}
+use lib.ListN.{length, getD, List·getD-eq-default}
 use borrow.Author.Tests.{ltb-true, lt-ltb, eq-eqb, ne-eqb}
 use Rattle.octets.specs.Bytes.{Bytes}
 use Rattle.octets.specs.Choice.{_then_otherwise_}
-use Rattle.octets.specs.Part.{part, patch, fields}
+use Rattle.octets.specs.Part.{part, patch, joined, fields}
 use Rattle.octets.proofs.Index.{and-left, and-right}
-use Rattle.octets.proofs.ListOf.{mixed, mixed-length, mixed-more, mixed-all, listOf-length, listOf-at}
-use Rattle.octets.proofs.Part.{part-at, patch-set, patch-join}
-use Rattle.octets.proofs.Joined.{fields-length}
+use Rattle.octets.proofs.ListOf.{listOf-length, listOf-at}
+use Rattle.octets.proofs.Part.{patch-whole}
+use Rattle.octets.proofs.Joined.{joined-length, fields-all}
 use Rattle.codes.specs.Form.{Form, byte, many, slot, code}
 use Rattle.codes.proofs.Law.{back-at, passes-at}
 use Rattle.codes.proofs.Forms.{lawful}
-use Rattle.codes.proofs.Places.{patch-skip, item-patched}
-use Rattle.codes.proofs.Inside.{Inside, first, next, item, inRule, inRecord, _within_}
+use Rattle.codes.proofs.Places.{patch-skip}
+use Rattle.codes.proofs.Inside.{Inside, item, _within_, named}
 use Rattle.numbers.specs.Numbers.{portCount, linkCount, returnCount}
-use Rattle.rules.specs.Relay.{Port, noPort, Slot, empty, Return, Relay, withPorts, withPaths, withLinks, withReturns}
+use Rattle.rules.specs.Relay.{Port, noPort, Slot, empty, Return, withSlots, Relay, withPorts, withPaths, withLinks, withReturns}
 use Rattle.rules.specs.Refusals.{pathOk, linkOk, returnOk}
-use Rattle.rules.specs.Renumbering.{image, oneToOne, preimage, movedPorts, renamePath, renameLink, renameReturn, renameSlot, renumbered}
+use Rattle.rules.specs.Renumbering.{image, preimage, movedPorts, renamePath, renameLink, renameReturn, renameSlot, renumbered}
 use Rattle.rules.specs.declared.Link.{Link}
-use Rattle.tables.specs.Forms.{portForm, pathForm, linkForm, returnForm, relayForm}
+use Rattle.tables.specs.Forms.{pathForm, linkForm, returnForm, relayForm}
 use Rattle.tables.specs.Places.{portWidth, pathWidth, linkWidth, returnWidth, portsAt, pathsAt, linksAt, returnsAt}
 use Rattle.tables.specs.Fields.{pathPortAt, linkAskingAt, linkAnsweringAt, returnArrivalAt, returnLeavingAt}
 use Rattle.tables.specs.Records.{portBytes, slotOf, slotBytes, pathOf, pathBytes, pathBytesOk, linkOf, linkBytes, linkBytesOk, returnOf, returnBytes, returnBytesOk}
 use Rattle.tables.specs.Layout.{recordAt, rows, recordsOk, relayOf, bytesOf, wellFormed}
 use Rattle.tables.proofs.Tests.{path-kept, link-kept, return-kept}
 use Rattle.tables.proofs.Lent.{Lent, port-lent, path-lent, link-lent, return-lent}
-use Rattle.tables.proofs.Whole.{again, ok-relay, relay-good}
+use Rattle.tables.proofs.Whole.{again, relay-good}
 use Rattle.tables.proofs.Patches.{ports-in, links-in, returns-in, patch-ports, patch-paths, patch-links, patch-returns}
 use Rattle.tables.proofs.Seen.{ports-length}
-use Rattle.octets.specs.Listed.{firstOf}
-use Rattle.rules.specs.Calls.{renumbers, ruleOf, tableRefusal, settle}
-use Rattle.settings.specs.Calls.{refused, renumberOn}
-use Rattle.settings.proofs.Zeros.{port-each, same-zeros, all-zeros, ports-zeros}
-use Rattle.settings.proofs.Answered.{called-bad, called-no, called-yes}
+use Rattle.tables.proofs.Section.{upTo, up-more, up-all}
+use Rattle.rules.specs.Calls.{renumbers, ruleOf}
 use Rattle.renumbering.specs.Renamed.{renamedPaths, renamedLinks, renamedReturns}
 
 -- ---- one record
@@ -84,7 +82,7 @@ module _ (b m : List ℕ) (bs : Bytes b) (mark : getD b 0 0 ≡ 0 → ⊥) where
       ∙ ap₂ (λ (x : List ℕ) (p : ℕ). patch x pathPortAt (p ∷ []))
       (sym (used-bytes pathWidth pathBytes pathOf path-lent (renamePath m) b bs l h mark))
       (sym (image-port m (getD b pathPortAt 0) (path-port-small h)))
-      ∙ byte-over pathForm (inRule (inRecord (next first))) (pathOf b) (image m (pathOf b .port)) tt)
+      ∙ byte-over pathForm (named pathForm "port" .inside) (pathOf b) (image m (pathOf b .port)) tt)
 
   -- ---- a link
   pub link-ports-small : linkBytesOk b ≡ true → (getD b linkAskingAt 0 < portCount) × (getD b linkAnsweringAt 0 < portCount)
@@ -98,7 +96,7 @@ module _ (b m : List ℕ) (bs : Bytes b) (mark : getD b 0 0 ≡ 0 → ⊥) where
       → b′ ≡ slotBytes linkWidth linkBytes (renameSlot (renameLink m) (slotOf linkOf b))
   unfolding renameLink linkBytes linkOf
   link-renamed h l b1 b′ e1 e2 =
-      let asking-in : Inside linkForm byte = inRule (inRecord (next first)) in
+      let asking-in : Inside linkForm byte = named linkForm "asking" .inside in
       let p : ℕ = image m (linkOf b .asking) in
       let first-done : b1 ≡ 1 ∷ linkBytes (asking-in .place .put p (linkOf b)) =
       e1
@@ -110,7 +108,7 @@ module _ (b m : List ℕ) (bs : Bytes b) (mark : getD b 0 0 ≡ 0 → ⊥) where
       (e2
       ∙ ap₂ (λ (x : List ℕ) (q : ℕ). patch x linkAnsweringAt (q ∷ [])) first-done
       (sym (image-port m (getD b linkAnsweringAt 0) (link-ports-small h .1)))
-      ∙ byte-over linkForm (inRule (inRecord (next (next first)))) (asking-in .place .put p (linkOf b)) (image m (linkOf b .answering)) tt)
+      ∙ byte-over linkForm (named linkForm "answering" .inside) (asking-in .place .put p (linkOf b)) (image m (linkOf b .answering)) tt)
 
   -- ---- a return
   pub return-ports-small : returnBytesOk b ≡ true → (getD b returnArrivalAt 0 < portCount) × (getD b returnLeavingAt 0 < portCount)
@@ -125,7 +123,7 @@ module _ (b m : List ℕ) (bs : Bytes b) (mark : getD b 0 0 ≡ 0 → ⊥) where
       → b′ ≡ slotBytes returnWidth returnBytes (renameSlot (renameReturn m) (slotOf returnOf b))
   unfolding renameReturn returnBytes returnOf
   return-renamed h l b1 b′ e1 e2 =
-      let arrival-in : Inside returnForm byte = inRule (inRecord (next first)) in
+      let arrival-in : Inside returnForm byte = named returnForm "arrival" .inside in
       let p : ℕ = image m (returnOf b .arrival) in
       let first-done : b1 ≡ 1 ∷ returnBytes (arrival-in .place .put p (returnOf b)) =
       e1
@@ -137,83 +135,48 @@ module _ (b m : List ℕ) (bs : Bytes b) (mark : getD b 0 0 ≡ 0 → ⊥) where
       (e2
       ∙ ap₂ (λ (x : List ℕ) (q : ℕ). patch x returnLeavingAt (q ∷ [])) first-done
       (sym (image-port m (getD b returnLeavingAt 0) (return-ports-small h .1)))
-      ∙ byte-over returnForm (inRule (inRecord (next (next first)))) (arrival-in .place .put p (returnOf b)) (image m (returnOf b .leaving)) tt)
+      ∙ byte-over returnForm (named returnForm "leaving" .inside) (arrival-in .place .put p (returnOf b)) (image m (returnOf b .leaving)) tt)
 
 -- ---- the ports' settings
-pub port-byte-none : (t : List ℕ) (i k : ℕ) → portCount ≤ i → 0 ≡ getD (portBytes (getD (relayOf t .ports) i noPort)) k 0
-port-byte-none t i k l =
-    let none : length (relayOf t .ports) ≤ i = subst (λ (n : ℕ). n ≤ i) (sym (ports-length t)) l in
-    sym (ap (λ (p : Port). getD (portBytes p) k 0) (List·getD-eq-default (relayOf t .ports) noPort {n = i} none) ∙ port-each k)
+pub settings-none : (t : List ℕ) (i : ℕ) → portCount ≤ i → portBytes noPort ≡ portBytes (getD (relayOf t .ports) i noPort)
+settings-none t i l =
+    let count = ports-length t in
+    ap portBytes (sym (List·getD-eq-default (relayOf t .ports) noPort {n = i} (omega arith)))
 
-pub port-byte-there : (t : List ℕ) → Bytes t → wellFormed t ≡ true → (i k : ℕ) → i < portCount → k < portWidth
-    → getD t (portsAt + portWidth * i + k) 0 ≡ getD (portBytes (getD (relayOf t .ports) i noPort)) k 0
+pub settings-there : (t : List ℕ) → Bytes t → wellFormed t ≡ true → (i : ℕ) → i < portCount
+    → recordAt portsAt portWidth t i ≡ portBytes (getD (relayOf t .ports) i noPort)
 unfolding bytesOf portBytes
-port-byte-there t bt h i k l lk =
-    sym (part-at t (portsAt + portWidth * i) portWidth k lk)
-    ∙ ap (λ (x : List ℕ). getD x k 0)
-    (ap (λ (x : List ℕ). recordAt portsAt portWidth x i) (sym (again t bt h))
-    ∙ (item i l within ports-in) .place .there (relayOf t) (tt, ports-length t))
+settings-there t bt h i l =
+    ap (λ (x : List ℕ). recordAt portsAt portWidth x i) (sym (again t bt h))
+    ∙ (item i l within ports-in) .place .there (relayOf t) (tt, ports-length t)
 
-module _ (m : List ℕ) (ports : List Port) where
-  no-ports : List Port
-  no-ports = replicate portCount noPort
-
-  same-count : length (movedPorts m ports) ≡ length no-ports
-  unfolding movedPorts no-ports
-  same-count = listOf-length (λ n. getD ports (preimage m n) noPort) portCount ∙ sym (length-replicate portCount noPort)
-
-  count : length no-ports ≡ portCount
-  unfolding no-ports
-  count = length-replicate portCount noPort
-
-  -- the first n ports' new settings, and zeros
-  pub movedTo : ℕ → List ℕ
-  movedTo n = fields portBytes portCount noPort (mixed n (movedPorts m ports) no-ports)
-
-  moved-length : (n : ℕ) → length (movedTo n) ≡ portWidth * portCount
-  unfolding movedTo
-  moved-length n = fields-length portBytes portCount noPort portWidth (port-lent .wide) (mixed n (movedPorts m ports) no-ports)
-
-  pub moved-none : replicate {A = ℕ} (portWidth * portCount) 0 ≡ movedTo 0
-  unfolding movedTo no-ports
-  moved-none =
-      same-zeros (replicate (portWidth * portCount) 0) (movedTo 0) (length-replicate {A = ℕ} (portWidth * portCount) 0 ∙ sym (moved-length 0))
-      (all-zeros (portWidth * portCount)) ports-zeros
-
-  two-bytes : (p : Port) (x y : ℕ) → x ≡ getD (portBytes p) 0 0 → y ≡ getD (portBytes p) 1 0 → x ∷ y ∷ [] ≡ portBytes p
-  unfolding portBytes
-  two-bytes p x y ex ey = ap₂ (λ (u v : ℕ). u ∷ v ∷ []) ex ey
+module _ (m : List ℕ) (ports : List Port) (blank : List ℕ) (size : length blank ≡ portWidth * portCount) where
+  moved-count : length (movedPorts m ports) ≡ portCount
+  unfolding movedPorts
+  moved-count = listOf-length (λ n. getD ports (preimage m n) noPort) portCount
 
   moved-at : (n : ℕ) → n < portCount → getD ports (preimage m n) noPort ≡ getD (movedPorts m ports) n noPort
   unfolding movedPorts
   moved-at n l = sym (listOf-at (λ k. getD ports (preimage m k) noPort) portCount n noPort l)
 
-  one-more : (n : ℕ) → n < portCount → patch (movedTo n) (portWidth * n) (portBytes (getD (movedPorts m ports) n noPort)) ≡ movedTo (n + 1)
-  unfolding movedTo portBytes
-  one-more n l =
-      let b : n < length no-ports = subst (λ (k : ℕ). n < k) (sym count) l in
-      let y : Port = getD (movedPorts m ports) n noPort in
-      let ms : List Port = mixed n (movedPorts m ports) no-ports in
-      item-patched portCount noPort (lawful portForm) n l ms y (mixed-length (movedPorts m ports) no-ports same-count n (omega arith) ∙ count)
-      ∙ ap (fields portBytes portCount noPort) (mixed-more (movedPorts m ports) no-ports same-count n noPort b)
+  module _ (n : ℕ) (out : List ℕ) (e : out ≡ upTo portBytes 0 (movedPorts m ports) blank n) where
+    pub moved-more : n < portCount → patch out (portWidth * n) (portBytes (getD ports (preimage m n) noPort)) ≡ upTo portBytes 0 (movedPorts m ports)
+        blank (n + 1)
+    moved-more l =
+        let count = moved-count in
+        ap₂ (λ (x : List ℕ) (p : Port). patch x (portWidth * n) (portBytes p)) e (moved-at n l)
+        ∙ ap (λ (k : ℕ). patch (upTo portBytes 0 (movedPorts m ports) blank n) k (portBytes (getD (movedPorts m ports) n noPort)))
+        (sym (zero-add (portWidth * n)))
+        ∙ up-more port-lent 0 (movedPorts m ports) blank (omega arith) n (omega arith) noPort
 
-  pub moved-more : (n x y : ℕ) → n < portCount → (out : List ℕ) → out ≡ movedTo n
-      → x ≡ getD (portBytes (getD ports (preimage m n) noPort)) 0 0 → y ≡ getD (portBytes (getD ports (preimage m n) noPort)) 1 0
-      → set (set out (portWidth * n) x) (portWidth * n + 1) y ≡ movedTo (n + 1)
-  moved-more n x y l out e ex ey =
-      let k : length (movedTo n) ≡ portWidth * portCount = moved-length n in
-      let k1 : length (set (movedTo n) (portWidth * n) x) ≡ portWidth * portCount = length-set (movedTo n) (portWidth * n) x ∙ k in
-      ap (λ (r : List ℕ). set (set r (portWidth * n) x) (portWidth * n + 1) y) e
-      ∙ patch-set (set (movedTo n) (portWidth * n) x) (portWidth * n + 1) y (omega arith)
-      ∙ ap (λ (r : List ℕ). patch r (portWidth * n + 1) (y ∷ [])) (patch-set (movedTo n) (portWidth * n) x (omega arith))
-      ∙ patch-join (movedTo n) (portWidth * n) (portWidth * n + 1) (x ∷ []) (y ∷ []) refl (omega arith)
-      ∙ ap (λ (r : List ℕ). patch (movedTo n) (portWidth * n) r) (two-bytes (getD ports (preimage m n) noPort) x y ex ey ∙ ap portBytes (moved-at n l))
-      ∙ one-more n l
-
-  pub moved-all : (n : ℕ) (out : List ℕ) → portCount ≤ n → out ≡ movedTo n → out ≡ fields portBytes portCount noPort (movedPorts m ports)
-  unfolding movedTo
-  moved-all n out l e =
-      e ∙ ap (fields portBytes portCount noPort) (mixed-all (movedPorts m ports) no-ports same-count n (subst (λ (k : ℕ). k ≤ n) (sym count) l))
+    pub moved-all : portCount ≤ n → out ≡ fields portBytes portCount noPort (movedPorts m ports)
+    moved-all l =
+        let count = moved-count in
+        e
+        ∙ up-all port-lent 0 (movedPorts m ports) blank n (omega arith)
+        ∙ patch-whole blank (joined portBytes (movedPorts m ports))
+        (joined-length portBytes portWidth (port-lent .wide) (movedPorts m ports) ∙ ap (λ (k : ℕ). portWidth * k) count ∙ sym size)
+        ∙ sym (fields-all portBytes portCount noPort (movedPorts m ports) count)
 
 -- ---- the whole
 module _ (t m : List ℕ) (bt : Bytes t) (h : wellFormed t ≡ true) where
@@ -241,11 +204,13 @@ module _ (t m : List ℕ) (bt : Bytes t) (h : wellFormed t ≡ true) where
 
     links-there : rows (slotOf linkOf) linksAt linkWidth linkCount t1 ≡ relayOf t .links
     unfolding slotOf linkOf linkBytes
-    links-there = back-at (lawful (many linkCount empty (slot linkForm))) t1 linksAt (relayOf t .links) links-stand (good .1 .1 .1 .1 .1 .0)
+    links-there = back-at (lawful (many linkCount empty (slot linkForm))) t1 linksAt (relayOf t .links) links-stand (links-in .place .good (relayOf t) tt good)
 
     pub links-ready : recordsOk linkBytesOk linksAt linkWidth linkCount t1 ≡ true
     unfolding recordsOk linkBytesOk linkBytes
-    links-ready = passes-at (lawful (many linkCount empty (slot linkForm))) t1 linksAt (relayOf t .links) links-stand (good .1 .1 .1 .1 .1 .0)
+    links-ready =
+        passes-at (lawful (many linkCount empty (slot linkForm))) t1 linksAt (relayOf t .links) links-stand
+        (links-in .place .good (relayOf t) tt good)
 
     module _ (t2 : List ℕ) (e2 : t2 ≡ patch t1 linksAt (renamedLinks m t1)) where
       links-written : t2 ≡ bytesOf pathsAndLinks
@@ -268,20 +233,20 @@ module _ (t m : List ℕ) (bt : Bytes t) (h : wellFormed t ≡ true) where
       unfolding slotOf returnOf returnBytes
       returns-there =
           back-at (lawful (many returnCount empty (slot returnForm))) t2 returnsAt (relayOf t .returns .slots) returns-stand
-          (good .1 .1 .1 .1 .1 .1 .0 .1)
+          (returns-in .place .good (relayOf t) (tt, tt) good)
 
       pub returns-ready : recordsOk returnBytesOk returnsAt returnWidth returnCount t2 ≡ true
       unfolding recordsOk returnBytesOk returnBytes
       returns-ready =
           passes-at (lawful (many returnCount empty (slot returnForm))) t2 returnsAt (relayOf t .returns .slots) returns-stand
-          (good .1 .1 .1 .1 .1 .1 .0 .1)
+          (returns-in .place .good (relayOf t) (tt, tt) good)
 
       pub renumber-writes : (t3 t4 : List ℕ) → t3 ≡ patch t2 returnsAt (renamedReturns m t2)
-          → t4 ≡ patch t3 portsAt (fields portBytes portCount noPort (movedPorts m (relayOf t .ports))) → t4 ≡ bytesOf (renumbered m (relayOf t))
-      unfolding renamedReturns renumbered pathsAndLinks withLinks pathsOnly withPaths withReturns withPorts
+          → t4 ≡ patch t3 portsAt (fields portBytes portCount noPort (movedPorts m (relayOf t .ports))) → t4 ≡ bytesOf (ruleOf (renumbers m) .after (relayOf t))
+      unfolding ruleOf renamedReturns renumbered pathsAndLinks withLinks pathsOnly withPaths withReturns withPorts
       renumber-writes t3 t4 e3 e4 =
           let slots : List (Slot Return) = map (renameSlot (renameReturn m)) (relayOf t .returns .slots) in
-          let r3 : Relay = withReturns (record { slots = slots; next = relayOf t .returns .next }) pathsAndLinks in
+          let r3 : Relay = withReturns (withSlots slots (relayOf t .returns)) pathsAndLinks in
           let w3 : t3 ≡ bytesOf r3 =
           e3
           ∙ ap₂
@@ -292,17 +257,3 @@ module _ (t m : List ℕ) (bt : Bytes t) (h : wellFormed t ≡ true) where
           e4
           ∙ ap (λ (x : List ℕ). patch x portsAt (fields portBytes portCount noPort (movedPorts m (relayOf t .ports)))) w3
           ∙ patch-ports r3 (movedPorts m (relayOf t .ports))
-
--- ---- what the call answers
-module _ (t m : List ℕ) where
-  pub renumber-bad : wellFormed t ≡ false → renumberOn t m ≡ refused 7 t
-  unfolding renumberOn
-  renumber-bad h = called-bad t (settle (renumbers m)) h
-
-  pub renumber-refused : Bytes t → wellFormed t ≡ true → oneToOne m ≡ false → renumberOn t m ≡ refused 8 t
-  unfolding renumberOn settle tableRefusal ruleOf firstOf _then_otherwise_
-  renumber-refused b h o = called-no t (settle (renumbers m)) h (renumbered m (relayOf t)) b 8 (λ e. omega arith) (rw (ok-relay t h, o))
-
-  pub renumber-done : wellFormed t ≡ true → oneToOne m ≡ true → renumberOn t m ≡ record { refusal = 0; tables = bytesOf (renumbered m (relayOf t)) }
-  unfolding renumberOn settle tableRefusal ruleOf firstOf _then_otherwise_
-  renumber-done h o = called-yes t (settle (renumbers m)) h (renumbered m (relayOf t)) (rw (ok-relay t h, o))

@@ -1,2 +1,3 @@
 -- Renumbering the ports of the tables, section by section.
+pub mod Calls
 pub mod Renamed

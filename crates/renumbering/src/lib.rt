@@ -12,12 +12,12 @@ use renamed::rename_paths;
 use renamed::rename_returns;
 use tables::check;
 use tables::places::PORTS_AT;
-ghost use mathlib.Core.Path.{_≡_};
-ghost use Rattle.settings.specs.Calls.{renumberOn};
+ghost use Rattle.tables.specs.Called.{Returns};
+ghost use Rattle.renumbering.specs.Calls.{renumberOn};
 
 // Replaces every stored port, expired records' too, by its image, and moves each port's settings with it.
 pub fn renumber(tables: &mut [u8], map: [u8; 16]) -> u8
-    ensures { λ r. ⌜ (r ≡ renumberOn (now (tables .entry)) map .refusal) × (now (tables .exit) ≡ renumberOn (now (tables .entry)) map .tables) ⌝ }
+    ensures { λ r. ⌜ Returns (renumberOn (now (tables .entry)) map) r (now (tables .exit)) ⌝ }
 {
     if !check(tables) {
         return refusals::TABLES;

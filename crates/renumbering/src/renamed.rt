@@ -26,7 +26,8 @@ ghost use Rattle.renumbering.specs.Renamed.{renamedPaths, renamedLinks, 
 
 fn rename_path(b: &mut [u8], map: &[u8])
     requires { ⌜ (pathBytesOk (now b) ≡ true) × (length (now b) ≡ pathWidth) × (length (now map) ≡ portCount) ⌝ }
-    ensures { λ _. ⌜ now (b .exit) ≡ slotBytes pathWidth pathBytes (renameSlot (renamePath (now (map .entry))) (slotOf pathOf (now (b .entry)))) ⌝ }
+    ensures { λ _. ⌜ now (b .exit) ≡ slotBytes pathWidth pathBytes
+        (renameSlot (renamePath (now (map .entry))) (slotOf pathOf (now (b .entry)))) ⌝ }
 {
     if b[0] != 0 { // an unused path has no stored port
         let first = map[b[PATH_PORT_AT] as usize];
@@ -36,7 +37,8 @@ fn rename_path(b: &mut [u8], map: &[u8])
 
 fn rename_link(b: &mut [u8], map: &[u8])
     requires { ⌜ (linkBytesOk (now b) ≡ true) × (length (now b) ≡ linkWidth) × (length (now map) ≡ portCount) ⌝ }
-    ensures { λ _. ⌜ now (b .exit) ≡ slotBytes linkWidth linkBytes (renameSlot (renameLink (now (map .entry))) (slotOf linkOf (now (b .entry)))) ⌝ }
+    ensures { λ _. ⌜ now (b .exit) ≡ slotBytes linkWidth linkBytes
+        (renameSlot (renameLink (now (map .entry))) (slotOf linkOf (now (b .entry)))) ⌝ }
 {
     if b[0] != 0 {
         let first = map[b[LINK_ASKING_AT] as usize];
@@ -48,7 +50,8 @@ fn rename_link(b: &mut [u8], map: &[u8])
 
 fn rename_return(b: &mut [u8], map: &[u8])
     requires { ⌜ (returnBytesOk (now b) ≡ true) × (length (now b) ≡ returnWidth) × (length (now map) ≡ portCount) ⌝ }
-    ensures { λ _. ⌜ now (b .exit) ≡ slotBytes returnWidth returnBytes (renameSlot (renameReturn (now (map .entry))) (slotOf returnOf (now (b .entry)))) ⌝ }
+    ensures { λ _. ⌜ now (b .exit) ≡ slotBytes returnWidth returnBytes
+        (renameSlot (renameReturn (now (map .entry))) (slotOf returnOf (now (b .entry)))) ⌝ }
 {
     if b[0] != 0 {
         let first = map[b[RETURN_ARRIVAL_AT] as usize];
@@ -59,8 +62,10 @@ fn rename_return(b: &mut [u8], map: &[u8])
 }
 
 pub fn rename_paths(t: &mut [u8], map: &[u8])
-    requires { ⌜ (recordsOk pathBytesOk pathsAt pathWidth pathCount (now t) ≡ true) × (length (now t) ≡ tableSize) × (length (now map) ≡ portCount) ⌝ }
-    ensures { λ _. ⌜ now (t .exit) ≡ patch (now (t .entry)) pathsAt (renamedPaths (now (map .entry)) (now (t .entry))) ⌝ }
+    requires { ⌜ (recordsOk pathBytesOk pathsAt pathWidth pathCount (now t) ≡ true) × (length (now t) ≡ tableSize)
+        × (length (now map) ≡ portCount) ⌝ }
+    ensures { λ _. ⌜ now (t .exit) ≡ patch (now (t .entry)) pathsAt
+        (renamedPaths (now (map .entry)) (now (t .entry))) ⌝ }
 {
     let mut i = 0;
     while i < PATH_COUNT {
@@ -71,8 +76,10 @@ pub fn rename_paths(t: &mut [u8], map: &[u8])
 }
 
 pub fn rename_links(t: &mut [u8], map: &[u8])
-    requires { ⌜ (recordsOk linkBytesOk linksAt linkWidth linkCount (now t) ≡ true) × (length (now t) ≡ tableSize) × (length (now map) ≡ portCount) ⌝ }
-    ensures { λ _. ⌜ now (t .exit) ≡ patch (now (t .entry)) linksAt (renamedLinks (now (map .entry)) (now (t .entry))) ⌝ }
+    requires { ⌜ (recordsOk linkBytesOk linksAt linkWidth linkCount (now t) ≡ true) × (length (now t) ≡ tableSize)
+        × (length (now map) ≡ portCount) ⌝ }
+    ensures { λ _. ⌜ now (t .exit) ≡ patch (now (t .entry)) linksAt
+        (renamedLinks (now (map .entry)) (now (t .entry))) ⌝ }
 {
     let mut i = 0;
     while i < LINK_COUNT {
@@ -83,8 +90,10 @@ pub fn rename_links(t: &mut [u8], map: &[u8])
 }
 
 pub fn rename_returns(t: &mut [u8], map: &[u8])
-    requires { ⌜ (recordsOk returnBytesOk returnsAt returnWidth returnCount (now t) ≡ true) × (length (now t) ≡ tableSize) × (length (now map) ≡ portCount) ⌝ }
-    ensures { λ _. ⌜ now (t .exit) ≡ patch (now (t .entry)) returnsAt (renamedReturns (now (map .entry)) (now (t .entry))) ⌝ }
+    requires { ⌜ (recordsOk returnBytesOk returnsAt returnWidth returnCount (now t) ≡ true)
+        × (length (now t) ≡ tableSize) × (length (now map) ≡ portCount) ⌝ }
+    ensures { λ _. ⌜ now (t .exit) ≡ patch (now (t .entry)) returnsAt
+        (renamedReturns (now (map .entry)) (now (t .entry))) ⌝ }
 {
     let mut i = 0;
     while i < RETURN_COUNT {

@@ -15,15 +15,15 @@ use Rattle.rules.specs.Relay.{empty, used}
 use Rattle.rules.specs.View.{viewAt}
 use Rattle.rules.specs.Refusals.{packetRefusal}
 use Rattle.rules.specs.Arrival.{blob}
-use Rattle.rules.specs.Run.{Reply, answered, numbered, Outcome, ofJudgement, perform}
+use Rattle.rules.specs.Run.{Reply, answered, numbered, Outcome, ofJudgement}
 use Rattle.rules.specs.declared.Reason.the-variants.{Duplicate, Replay}
 use Rattle.rules.specs.declared.Verdict.the-variants.{Drop}
 use Rattle.rules.specs.declared.Answer.the-variants.{Judged}
 use Rattle.rules.proofs.Unfolding.{rules}
-use Rattle.rules.proofs.Shortcut.{passes, seen-quick, goodPlan, goodJudge, quick}
+use Rattle.rules.proofs.Shortcut.{passes, seen-quick, goodPlan, goodJudge}
 use Rattle.rules.proofs.Passed.{ofTest}
 use Rattle.rules.proofs.Scene.{blank, destination, announceWith, announceBytes, requestBytes, arrival, arrives, next, announced, asked}
-use Rattle.rules.proofs.Outcomes.{knownPath, tallyOf, announcedRelay, announce-form, announced-is, asked-is}
+use Rattle.rules.proofs.Outcomes.{knownPath, tallyOf, announcedRelay, judged-at, announce-form, announced-is, asked-is}
 
 -- a row: what the rules say, and what document 01 says
 pub record Edge : Type 1 where
@@ -101,10 +101,9 @@ unseen-at-1300 = seen-quick 1300 announcedRelay (packetHash announceBytes) refl
 again : (clock : ℕ) {seen : Bool} → viewAt clock announcedRelay .remembered (packetHash announceBytes) ≡ seen
     → packetRefusal announcedRelay (arrival announceBytes clock 1) (length blank) ≡ 0
     → next (arrives announceBytes clock 1) announced ≡ ofJudgement (goodJudge seen (arrival announceBytes clock 1) announcedRelay (tallyOf 1 0) blank)
-unfolding perform
 again clock s accepted =
     ap (next (arrives announceBytes clock 1)) announced-is
-    ∙ ap ofJudgement (quick (arrival announceBytes clock 1) announcedRelay (tallyOf 1 0) blank accepted s announce-form)
+    ∙ judged-at announceBytes clock announcedRelay (tallyOf 1 0) s announce-form 1 accepted
 
 pub edges : Hold table
 unfolding rules goodPlan goodJudge ofTest

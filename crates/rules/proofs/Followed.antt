@@ -13,7 +13,6 @@ use Rattle.rules.specs.View.{View}
 use Rattle.rules.specs.Arrival.{Arrival, hops, header, destination, hash, isLinkProof}
 use Rattle.rules.specs.Ways.{Way, everywhere, by-path, along-link, by-return, blocked, pathWay, linkWay, returnWay, wayOn}
 use Rattle.rules.specs.Tests.{testedAsDuplicate, duplicate, tooManyHops, alreadyKnown, replay}
-use Rattle.rules.specs.Answers.{reasonNumber}
 use Rattle.rules.specs.Judging.{Plan, dropped, delivered, follows, earlyTests, plan}
 use Rattle.rules.specs.Writes.{remembersPlan, remembers}
 use Rattle.rules.specs.declared.Link.{Link}
@@ -85,7 +84,7 @@ module _ (v : View) (a : Arrival) where
 
   -- where the plan says so, the packet is no duplicate
   planned-new : remembersPlan (plan v a) ≡ true → duplicate v a ≡ false
-  unfolding plan earlyTests firstOf remembersPlan reasonNumber
+  unfolding plan earlyTests firstOf remembersPlan
   planned-new =
       either (λ (todo : Plan). remembersPlan todo ≡ true → duplicate v a ≡ false) _ (λ _ h. absurd (false≢true h))
       (λ _. either (λ (todo : Plan). remembersPlan todo ≡ true → duplicate v a ≡ false) _ (λ _ h. absurd (false≢true h)) (λ new _. new))

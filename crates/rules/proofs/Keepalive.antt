@@ -9,7 +9,7 @@ use lib.ListN.{length, set, length-set}
 use borrow.Author.Tests.{eqb-true, le-ltb, not-true}
 use Rattle.octets.specs.Index.{_and_}
 use Rattle.octets.specs.Choice.{_then_otherwise_, _or_, same}
-use Rattle.octets.specs.Listed.{firstOf}
+use Rattle.octets.specs.Listed.{firstOf, anyHolds}
 use Rattle.octets.proofs.Index.{and-left, and-right, and-both, and-no}
 use Rattle.octets.proofs.Choice.{or-no, same-eq}
 use Rattle.octets.proofs.Listed.{none-first}
@@ -20,7 +20,7 @@ use Rattle.rules.specs.View.{View}
 use Rattle.rules.specs.Arrival.{Arrival, header, hops, destination, isLinkProof}
 use Rattle.rules.specs.Exempt.{exemptContext, exempt}
 use Rattle.rules.specs.Ways.{Way, along-link, linkWay, wayOn}
-use Rattle.rules.specs.Tests.{notOurs, testedAsDuplicate, duplicate, typeTwoProof, typeTwoOfKindLink, announceNotSingle, announceTooShort, announceOfAnother, requestOfKindLink, requestTooShort, linkProofLength, badForm, ownAnnounce, deliveredHere, tooManyHops, noWayOn, alreadyKnown, fromAnsweringSide, fromAskingSide, wrongSide, notSigned, replay, notBetter, leavingPort, portOff, noRoom}
+use Rattle.rules.specs.Tests.{notOurs, testedAsDuplicate, duplicate, typeTwoProof, typeTwoOfKindLink, announceNotSingle, announceTooShort, announceOfAnother, requestOfKindLink, requestTooShort, linkProofLength, formTests, badForm, ownAnnounce, deliveredHere, tooManyHops, noWayOn, alreadyKnown, fromAnsweringSide, fromAskingSide, wrongSide, notSigned, replay, notBetter, leavingPort, portOff, noRoom}
 use Rattle.rules.specs.Outgoing.{carriedPacket, exceeds, grownTooLong}
 use Rattle.rules.specs.Judging.{follows, earlyTests, onwardTests, onwardPlan, plan}
 use Rattle.rules.specs.declared.Link.{Link}
@@ -108,7 +108,8 @@ module _ (l : Link) (a : Arrival) (k : keepsAlive l a ≡ true) where
 
   -- ---- no test holds
   good-form : badForm (a .bytes) ≡ false
-  unfolding badForm typeTwoProof typeTwoOfKindLink announceNotSingle announceTooShort announceOfAnother requestOfKindLink requestTooShort linkProofLength
+  unfolding badForm formTests anyHolds typeTwoProof typeTwoOfKindLink announceNotSingle announceTooShort announceOfAnother requestOfKindLink
+      requestTooShort linkProofLength
   good-form =
       or-no (and-no _ type-one)
       (or-no (and-no _ type-one)
@@ -116,7 +117,8 @@ module _ (l : Link) (a : Arrival) (k : keepsAlive l a ≡ true) where
       (or-no (and-no _ no-announce)
       (or-no (and-no _ no-announce)
       (or-no (and-no _ no-request)
-      (or-no (and-no _ no-request) (and-no _ no-link-proof)))))))
+      (or-no (and-no _ no-request)
+      (or-no (and-no _ no-link-proof) refl)))))))
 
   module _ (v : View) where
     not-duplicate : duplicate v a ≡ false

@@ -14,9 +14,9 @@ use Rattle.octets.specs.Choice.{_then_otherwise_, _or_, same}
 use Rattle.octets.specs.Part.{patch}
 use Rattle.octets.proofs.Index.{and-left, and-both, and-no, and-yes, first-holds}
 use Rattle.octets.proofs.Choice.{then-true, then-false, or-no-left, same-eq, eq-same}
-use Rattle.octets.specs.Listed.{firstOf}
+use Rattle.octets.proofs.Listed.{allGive, none-first, refuses, rows-passed}
 use Rattle.packet.specs.Header.{isData}
-use Rattle.packet.specs.Read.{longestPacket}
+use Rattle.packet.specs.Read.{longestPacket, readingRefusal}
 use Rattle.packet.specs.Hash.{linkId}
 use Rattle.packet.proofs.ReadLaws.{readable}
 use Rattle.numbers.specs.Numbers.{portCount, linkCount, provedLifetime, live}
@@ -35,7 +35,7 @@ use Rattle.rules.specs.declared.Link.{Link}
 use Rattle.rules.specs.declared.Tally.{Tally}
 use Rattle.rules.specs.declared.Verdict.the-variants.{Forward}
 use Rattle.rules.specs.declared.Answer.the-variants.{Judged}
-use Rattle.rules.proofs.Choices.{either, rows-below}
+use Rattle.rules.proofs.Choices.{either}
 use Rattle.rules.proofs.Tables.{table-length}
 use Rattle.rules.proofs.Slots.{used-same}
 use Rattle.rules.proofs.Lowest.{Lowest, lowest-later, lowest-place, lowest-found, found-lowest, lowest-other, lowest-renewed}
@@ -251,13 +251,11 @@ up-of l since r place e low lasts started running asking answering =
 
 -- ---- one packet
 accepted-short : (r : Relay) (a : Arrival) (room : ℕ) → eqb (packetRefusal r a room) 0 ≡ true → length (a .bytes) ≤ longestPacket
-unfolding refusalBy packetRows firstOf
+unfolding refusalBy packetRows allGive refuses _and_
 accepted-short r a room accepted =
-    let after7 = rows-below _ 7 _ refl accepted in
-    let after6 = rows-below _ 6 _ refl after7 in
-    let after4 = rows-below _ 4 _ refl after6 in
-    let after5 = rows-below _ 5 _ refl after4 in
-    readable longestPacket (a .bytes) (eqb-true _ _ after5) .fits
+    let rows = packetRows r (a .port) (a .clock) room in
+    let below = none-first rows (readingRefusal longestPacket (a .bytes)) (rows-passed rows _ refl accepted) in
+    readable longestPacket (a .bytes) (sym below ∙ eqb-true _ _ accepted) .fits
 
 module _ (l : Link) (since : ℕ) (r : Relay) (valid : Valid r) (up : Up l since r) (a : Arrival) (output : List ℕ) (t : Tally)
     (accepted : eqb (packetRefusal r a (length output)) 0 ≡ true) (inTime : a .clock < since + provedLifetime) where

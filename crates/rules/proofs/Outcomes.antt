@@ -117,12 +117,12 @@ provedRelay =
     relayOf 2001 (used knownPath ∷ []) (used (linkOf link 2 1 true 2721) ∷ []) []
     (remembers announceBytes 1300 ∷ remembers requestBytes 2300 ∷ remembers (linkProofBytes 0) 2301 ∷ [])
 
--- ---- a packet that `r` hasn't seen, of good form
-module _ (bytes : List ℕ) (clock : ℕ) (r : Relay) (t : Tally)
-    (new : viewAt clock r .remembered (packetHash bytes) ≡ false)
+-- ---- a packet of good form, of which test 2 says `seen`
+module _ (bytes : List ℕ) (clock : ℕ) (r : Relay) (t : Tally) {seen : Bool}
+    (new : viewAt clock r .remembered (packetHash bytes) ≡ seen)
     (form : badForm bytes ≡ false) where
   pub judged-at : (port : ℕ) → packetRefusal r (arrival bytes clock port) (length blank) ≡ 0
-      → perform (arrives bytes clock port) r t ≡ ofJudgement (goodJudge false (arrival bytes clock port) r t blank)
+      → perform (arrives bytes clock port) r t ≡ ofJudgement (goodJudge seen (arrival bytes clock port) r t blank)
   unfolding perform
   judged-at port accepted = ap ofJudgement (quick (arrival bytes clock port) r t blank accepted new form)
 
@@ -151,7 +151,7 @@ pub data-new : viewAt 2000 announcedRelay .remembered (packetHash dataBytes) ≡
 unfolding rules passes
 data-new = seen-quick 2000 announcedRelay (packetHash dataBytes) refl
 
-data-key : take 16 (packetHash dataBytes) ≡ dataKey
+pub data-key : take 16 (packetHash dataBytes) ≡ dataKey
 unfolding rules hashing
 data-key = refl
 

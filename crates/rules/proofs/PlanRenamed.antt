@@ -25,7 +25,7 @@ use Rattle.octets.proofs.Listed.{first-ap}
 use Rattle.rules.proofs.Images.{image-port, image-eqb, preimage-holds, source, source-port}
 use Rattle.rules.proofs.PortSets.{image-set, image-set-empty}
 use Rattle.rules.proofs.ViewRenamed.{renameView}
-use Rattle.rules.proofs.TestsRenamed.{renameWay, wayOn-renamed, notOurs-renamed, duplicate-renamed, bytes-renamed, ownAnnounce-renamed, deliveredHere-renamed, noWayOn-renamed, alreadyKnown-renamed, wrongSide-renamed, notSigned-renamed, replay-renamed, notBetter-renamed, leavingPort-renamed, portOff-renamed, noRoom-renamed, outgoing-renamed, grownTooLong-renamed}
+use Rattle.rules.proofs.TestsRenamed.{renameWay, wayOn-renamed, notOurs-renamed, duplicate-renamed, bytes-renamed, ownAnnounce-renamed, deliveredHere-renamed, noWayOn-renamed, whyBlocked-renamed, alreadyKnown-renamed, wrongSide-renamed, notSigned-renamed, replay-renamed, notBetter-renamed, leavingPort-renamed, portOff-renamed, noRoom-renamed, outgoing-renamed, grownTooLong-renamed}
 
 unfoldable pub renamePlan : List ℕ → Plan → Plan
 renamePlan m (dropped reason) = dropped reason
@@ -50,6 +50,7 @@ module _ (m : List ℕ) (ok : oneToOne m ≡ true) where
   onward-renamed v a w =
       rw (
         noWayOn-renamed m w,
+        whyBlocked-renamed m w,
         alreadyKnown-renamed m v a w,
         wrongSide-renamed m ok a w,
         notSigned-renamed m a,

@@ -11,9 +11,9 @@ use lib.Dec.{eqb}
 use lib.ListN.{getD}
 use lib.Pow.{pow-pos, pow-mono, pow-add}
 use Rattle.octets.specs.Choice.{_then_otherwise_}
-use Rattle.rules.specs.Renumbering.{oneToOne, preimage}
+use Rattle.rules.specs.Renumbering.{image, oneToOne, preimage}
 use Rattle.rules.specs.Answers.{setBelow, portSet, inSet, imageSet}
-use Rattle.rules.proofs.Images.{eqb-both, image-below, preimage-le, preimage-image}
+use Rattle.rules.proofs.Images.{eqb-both, image-port, image-below, preimage-le, preimage-image}
 
 pub set-below : (f : ℕ → Bool) (n : ℕ) → setBelow f n < 2 ^ n
 unfolding setBelow _then_otherwise_
@@ -79,6 +79,14 @@ unfolding portSet
 none-in f e k l = sym (in-set f 16 k l) ∙ ap (λ (x : ℕ). inSet x k) e ∙ in-zero k
 
 module _ (m : List ℕ) (ok : oneToOne m ≡ true) where
+  -- a port is in a set exactly if its image is in the renamed set
+  pub in-image-set : (set p : ℕ) → p < 16 → inSet (imageSet m set) (image m p) ≡ inSet set p
+  unfolding imageSet portSet
+  in-image-set set p l =
+      ap (inSet (imageSet m set)) (image-port m p l)
+      ∙ in-set (λ n. inSet set (preimage m n)) 16 (getD m p 0) (image-below m ok p l)
+      ∙ ap (inSet set) (preimage-image m ok p l)
+
   -- the set of those ports that come from a port of the set
   pub image-set : (f g : ℕ → Bool)
       → ((n : ℕ) → n < 16 → preimage m n < 16 → g n ≡ f (preimage m n))

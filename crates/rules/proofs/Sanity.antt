@@ -7,19 +7,20 @@ use mathlib.Core.Path.{_≡_, refl, ap, _∙_}
 use lib.ListN.{length}
 use Rattle.octets.specs.Choice.{_then_otherwise_}
 use Rattle.packet.specs.Hash.{packetHash}
-use Rattle.rules.specs.Relay.{used, Relay}
+use Rattle.rules.specs.Relay.{used, Relay, fresh}
 use Rattle.rules.specs.View.{viewAt, hashPlace}
 use Rattle.rules.specs.Refusals.{packetRefusal}
 use Rattle.rules.specs.Renumbering.{renumbered}
 use Rattle.rules.specs.Tests.{badForm}
 use Rattle.rules.specs.Calls.{newTally, renumbers, ruleOf, tableRefusal, settle, settled}
-use Rattle.rules.specs.Run.{Call, renumbering, Reply, numbered, Outcome, ofJudgement, ofSetting, perform, replies}
+use Rattle.rules.specs.Run.{Call, port-setting, renumbering, Reply, numbered, Outcome, ofJudgement, ofSetting, perform, replies, movesPorts, noneRenumbers}
 use Rattle.rules.specs.declared.Tally.{Tally}
 use Rattle.rules.proofs.Unfolding.{rules}
 use Rattle.rules.proofs.Shortcut.{passes, seen-quick, goodPlan, goodJudge}
 use Rattle.rules.proofs.Passed.{ofTest}
-use Rattle.rules.proofs.Scene.{blank, announceBytes, dataBytes, dataKey, receiptBytes, requestBytes, link, linkProofBytes, linkBytes, arrival, arrives, next, prepared, announced, carried, asked, proved}
+use Rattle.rules.proofs.Scene.{own, blank, announceBytes, dataBytes, dataKey, receiptBytes, requestBytes, link, linkProofBytes, linkBytes, arrival, arrives, next, prepared, announced, carried, asked, proved}
 use Rattle.rules.proofs.Outcomes.{spreads, forwards, spreadBytes, dataLastHop, requestLastHop, tallyOf, linkOf, preparedRelay, announcedRelay, carriedRelay, askedRelay, provedRelay, judged-at, announce-form, announce-new, data-new, request-new, proof-new, prepared-is, announced-is, carried-is, asked-is, proved-is}
+use Rattle.rules.proofs.Renumbering.{ForgetsNothing, forgets-nothing-fresh}
 
 -- the renumbering: port 0 becomes 1, and so on; 15 becomes 0
 abbrev pub oneUp : List ℕ
@@ -131,3 +132,11 @@ data-to-asking-side = rw proved-is (leaves (linkBytes 0) 2400 provedRelay (tally
 pub data-to-answering-side : Leaves proved (arrives (linkBytes 3) 2400) 2 (forwards (linkBytes 4)) 1
 unfolding rules goodPlan goodJudge ofTest judgedOn
 data-to-answering-side = rw proved-is (leaves (linkBytes 3) 2400 provedRelay (tallyOf 1 2) (link-new 3) refl 2 _ 1 _ refl refl refl refl refl)
+
+-- demand 3's theorem speaks of such lists: packets, and a map that is refused, after the renumbering
+pub receipt-after-renumbering : ForgetsNothing oneUp
+    (port-setting 1 true 2 ∷ port-setting 2 true 0 ∷ arrives announceBytes 1000 1 ∷ arrives dataBytes 2000 2 ∷ [])
+    (arrives (receiptBytes 5) 2500 1 ∷ renumbering [] ∷ [])
+    (fresh own) newTally
+unfolding rules noneRenumbers movesPorts
+receipt-after-renumbering = forgets-nothing-fresh own oneUp _ _ refl refl

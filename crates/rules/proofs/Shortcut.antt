@@ -21,7 +21,6 @@ use Rattle.rules.specs.Arrival.{Arrival, hash}
 use Rattle.rules.specs.Ways.{wayOn}
 use Rattle.rules.specs.Tests.{testedAsDuplicate, duplicate, badForm}
 use Rattle.rules.specs.Judging.{Plan, earlyTests, plan, onwardPlan}
-use Rattle.rules.specs.Answers.{reasonNumber}
 use Rattle.rules.specs.Calls.{Judgement, judged, judge, packetCall}
 use Rattle.rules.specs.declared.Tally.{Tally}
 use Rattle.rules.proofs.Passed.{ofTest}
@@ -98,7 +97,7 @@ goodPlan seen v a =
     firstOf (told (ofTest 3) false (told (ofTest 2) (testedAsDuplicate v a and seen) (earlyTests v a))) (onwardPlan v a (wayOn v a))
 
 plan-good : (v : View) (a : Arrival) {seen : Bool} → v .remembered (hash a) ≡ seen → badForm (a .bytes) ≡ false → plan v a ≡ goodPlan seen v a
-unfolding plan goodPlan earlyTests told ofTest reasonNumber duplicate _then_otherwise_
+unfolding plan goodPlan earlyTests told ofTest duplicate _then_otherwise_
 plan-good v a s g = rw (s, g)
 
 -- judging an accepted packet, with both decided apart

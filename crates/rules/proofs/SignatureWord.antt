@@ -96,7 +96,7 @@ module _ (v : View) (a : Arrival) where
   late-follows (blocked why) n = absurd (false≢true (sym n))
 
   onward-alike : (b c : Bool) (w : Way) → late (onwardBy b v a w) ≡ false → onwardBy c v a w ≡ onwardBy b v a w
-  unfolding onwardBy onwardTests told ofTest reasonNumber firstOf lateFrom allGive late verdict dropOf _and_ _then_otherwise_
+  unfolding onwardBy onwardTests told ofTest firstOf lateFrom allGive late verdict dropOf _and_ _then_otherwise_
   onward-alike b c w = go (noWayOn w) refl
     where
       go : (n : Bool) → noWayOn w ≡ n → late (onwardBy b v a w) ≡ false → onwardBy c v a w ≡ onwardBy b v a w

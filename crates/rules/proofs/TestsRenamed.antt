@@ -13,11 +13,12 @@ use Rattle.rules.specs.Relay.{Slot, empty, used, Path, Return}
 use Rattle.rules.specs.View.{View}
 use Rattle.rules.specs.Renumbering.{image, oneToOne, renamePath, renameLink, renameReturn, renameSlot}
 use Rattle.rules.specs.Arrival.{Arrival, header, isLinkProof}
-use Rattle.rules.specs.Ways.{not-proved, Way, everywhere, by-path, along-link, by-return, blocked, pathWay, linkWay, returnWay, wayOn}
-use Rattle.rules.specs.Tests.{notOurs, duplicate, testedAsDuplicate, ownAnnounce, deliveredHere, noWayOn, isThere, followsProvedLink, alreadyKnown, fromAnsweringSide, fromAskingSide, wrongSide, notSigned, replay, notBetter, leavingPort, portOff, noRoom}
+use Rattle.rules.specs.Ways.{Way, everywhere, by-path, along-link, by-return, blocked, pathWay, linkWay, returnWay, wayOn}
+use Rattle.rules.specs.Tests.{notOurs, duplicate, testedAsDuplicate, ownAnnounce, deliveredHere, noWayOn, whyBlocked, isThere, followsProvedLink, alreadyKnown, fromAnsweringSide, fromAskingSide, wrongSide, notSigned, replay, notBetter, leavingPort, portOff, noRoom}
 use Rattle.rules.specs.Outgoing.{outgoing, grownTooLong}
 use Rattle.rules.specs.Run.{renameArrival}
 use Rattle.rules.specs.declared.Link.{Link}
+use Rattle.rules.specs.declared.Blocked.the-variants.{NotProved}
 use Rattle.rules.proofs.Images.{image-other, image-eqb, source, source-image}
 use Rattle.rules.proofs.ViewRenamed.{renameView}
 
@@ -38,7 +39,7 @@ module _ (m : List ℕ) where
   linkWay-renamed : (proof : Bool) (slot : Slot Link) → linkWay proof (renameSlot (renameLink m) slot) ≡ renameWay m (linkWay proof slot)
   unfolding linkWay renameSlot renameWay renameLink
   linkWay-renamed proof empty = refl
-  linkWay-renamed proof (used l) = sym (then-ap (renameWay m) (l .proved or proof) (along-link l) (blocked not-proved))
+  linkWay-renamed proof (used l) = sym (then-ap (renameWay m) (l .proved or proof) (along-link l) (blocked NotProved))
 
   returnWay-renamed : (slot : Slot Return) → returnWay (renameSlot (renameReturn m) slot) ≡ renameWay m (returnWay slot)
   unfolding returnWay renameSlot renameWay
@@ -78,6 +79,14 @@ module _ (m : List ℕ) where
   noWayOn-renamed (along-link l) = refl
   noWayOn-renamed (by-return t) = refl
   noWayOn-renamed (blocked why) = refl
+
+  pub whyBlocked-renamed : (w : Way) → whyBlocked (renameWay m w) ≡ whyBlocked w
+  unfolding whyBlocked renameWay
+  whyBlocked-renamed (everywhere known) = refl
+  whyBlocked-renamed (by-path p) = refl
+  whyBlocked-renamed (along-link l) = refl
+  whyBlocked-renamed (by-return t) = refl
+  whyBlocked-renamed (blocked why) = refl
 
   isThere-renamed : {A : Type 0} (rename : A → A) (slot : Slot A) → isThere (renameSlot rename slot) ≡ isThere slot
   unfolding isThere renameSlot

@@ -8,14 +8,14 @@ use Rattle.octets.specs.Choice.{_then_otherwise_, _or_, same}
 use Rattle.octets.specs.Part.{part, patch}
 use Rattle.octets.specs.BigEndian.{numberFrom, number}
 use Rattle.packet.specs.Header.{accessCode, typeTwo, contextFlag, destinationKind, packetKind}
-use Rattle.packet.specs.Read.{typeOneParts, typeTwoParts, partsOf, payloadStart, payload, readingRefusal, reads, reading}
+use Rattle.packet.specs.Read.{typeOneParts, typeTwoParts, partsOf, payloadStart, payload, readingRows, readingRefusal, reads, reading}
 use Rattle.packet.specs.Write.{addresses, packetOf}
 use Rattle.packet.specs.Hash.{hashedPart, packetHash, linkId}
 use Rattle.packet.specs.Announce.{keysOf, nameHashOf, blobOf, emissionOf, leastAnnounce, identityHash, announcedDestination}
-use Rattle.octets.specs.Listed.{firstOf, valued}
+use Rattle.octets.specs.Listed.{firstOf, anyHolds, valued}
 use Rattle.octets.proofs.Listed.{told}
 use Rattle.numbers.specs.Numbers.{pathLifetime}
-use Rattle.rules.specs.Relay.{fresh, withClock, withPorts, withPaths, withLinks, withReturns, withHashes, holds, lowest, free, lowestFree}
+use Rattle.rules.specs.Relay.{fresh, withClock, withPorts, withLocals, withPaths, withLinks, withReturns, withHashes, holds, lowest, free, lowestFree}
 use Rattle.rules.specs.View.{portOn, portMode, localPlace, isLocal, isLivePath, isLiveLink, isLiveReturn, isLiveHash, pathPlace, linkPlace, returnPlace, hashPlace, freePath, freeLink, viewAt}
 use Rattle.rules.specs.Blobs.{held, isAmong, greatest, greatestEmission, oneBlob, addBlob}
 use Rattle.rules.specs.Refusals.{timeOk, portOk, pathOk, linkOk, returnOk, hashOk, slotOk, all, tableOk, tablesOk, packetRows, refusalBy, emptyLocal}
@@ -23,8 +23,8 @@ use Rattle.rules.specs.Renumbering.{image, differsBefore, oneToOne, prei
 use Rattle.rules.specs.Arrival.{isLinkProof}
 use Rattle.rules.specs.Exempt.{exemptContext, exempt}
 use Rattle.rules.specs.Ways.{pathWay, linkWay, returnWay, wayOn}
-use Rattle.rules.specs.Tests.{notOurs, testedAsDuplicate, duplicate, typeTwoProof, typeTwoOfKindLink, announceNotSingle, announceTooShort, announceOfAnother, requestOfKindLink, requestTooShort, linkProofLength, badForm, ownAnnounce, deliveredHere, tooManyHops, noWayOn, isThere, followsProvedLink, alreadyKnown, fromAnsweringSide, fromAskingSide, wrongSide, notSigned, replay, notBetter, leavingPort, portOff, noRoom}
-use Rattle.rules.specs.Answers.{reasonNumber, setBelow, portSet}
+use Rattle.rules.specs.Tests.{notOurs, testedAsDuplicate, duplicate, typeTwoProof, typeTwoOfKindLink, announceNotSingle, announceTooShort, announceOfAnother, requestOfKindLink, requestTooShort, linkProofLength, formTests, badForm, failing, ownAnnounce, deliveredHere, tooManyHops, noWayOn, whyBlocked, isThere, followsProvedLink, alreadyKnown, fromAnsweringSide, fromAskingSide, wrongSide, notSigned, replay, notBetter, leavingPort, portOff, noRoom}
+use Rattle.rules.specs.Answers.{setBelow, portSet}
 use Rattle.rules.specs.Outgoing.{rewritten, spreadHeader, spreadPacket, spreadPorts, pathPacket, carriedPacket, outgoing, exceeds, grownTooLong}
 use Rattle.rules.specs.Judging.{earlyTests, onwardTests, onwardPlan, plan, spreadVerdict, wayVerdict, verdict, leaves, outputAfter}
 use Rattle.rules.specs.Writes.{putNext, remembersPlan, remembers, remember, announcedBlobs, announcedPath, announcedPlace, putPath, returnKey, returnRecord, emptiedIf, emptiedWhere, putReturn, emptyReturn, linkRecord, putLink, renewedLink, renewLink, writeWay, writePlan, stamp, enact}
@@ -38,20 +38,20 @@ hashing = tt
 
 -- lists of bytes
 unfoldable pub lists : Unit {0}
-unfolding _and_ allBelow first listOf _then_otherwise_ _or_ same part patch numberFrom number firstOf valued told
+unfolding _and_ allBelow first listOf _then_otherwise_ _or_ same part patch numberFrom number firstOf anyHolds valued told
 lists = tt
 
 -- packets
 unfoldable pub layout : Unit {0}
 unfolding accessCode typeTwo contextFlag destinationKind packetKind typeOneParts typeTwoParts partsOf payloadStart payload
-    readingRefusal reads reading addresses packetOf hashedPart packetHash linkId keysOf nameHashOf blobOf emissionOf leastAnnounce
+    readingRows readingRefusal reads reading addresses packetOf hashedPart packetHash linkId keysOf nameHashOf blobOf emissionOf leastAnnounce
     identityHash announcedDestination
 layout = tt
 
 -- the relay, and what is read of it
 unfoldable pub tables : Unit {0}
-unfolding pathLifetime fresh withClock withPorts withPaths withLinks withReturns withHashes holds lowest free lowestFree portOn portMode
-    localPlace isLocal isLivePath isLiveLink isLiveReturn isLiveHash pathPlace linkPlace returnPlace hashPlace freePath freeLink viewAt held
+unfolding pathLifetime fresh withClock withPorts withLocals withPaths withLinks withReturns withHashes holds lowest free lowestFree
+    portOn portMode localPlace isLocal isLivePath isLiveLink isLiveReturn isLiveHash pathPlace linkPlace returnPlace hashPlace freePath freeLink viewAt held
     isAmong greatest greatestEmission oneBlob addBlob
 tables = tt
 
@@ -64,14 +64,14 @@ refusals = tt
 -- the tests
 unfoldable pub tests : Unit {0}
 unfolding exemptContext exempt isLinkProof pathWay linkWay returnWay wayOn notOurs testedAsDuplicate duplicate typeTwoProof typeTwoOfKindLink
-    announceNotSingle announceTooShort announceOfAnother requestOfKindLink requestTooShort linkProofLength badForm ownAnnounce deliveredHere
-    tooManyHops noWayOn isThere followsProvedLink alreadyKnown fromAnsweringSide fromAskingSide wrongSide notSigned replay notBetter
+    announceNotSingle announceTooShort announceOfAnother requestOfKindLink requestTooShort linkProofLength formTests badForm failing ownAnnounce
+    deliveredHere tooManyHops noWayOn whyBlocked isThere followsProvedLink alreadyKnown fromAnsweringSide fromAskingSide wrongSide notSigned replay notBetter
     leavingPort portOff noRoom
 tests = tt
 
 -- answers and the bytes that leave
 unfoldable pub answers : Unit {0}
-unfolding reasonNumber setBelow portSet rewritten spreadHeader spreadPacket spreadPorts pathPacket carriedPacket outgoing exceeds
+unfolding setBelow portSet rewritten spreadHeader spreadPacket spreadPorts pathPacket carriedPacket outgoing exceeds
     grownTooLong earlyTests onwardTests onwardPlan plan spreadVerdict wayVerdict verdict leaves outputAfter
 answers = tt
 

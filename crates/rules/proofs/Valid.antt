@@ -72,7 +72,7 @@ valid-of r h₁ =
       hashes = (and-left _ _ h₈, and-right _ _ h₈);
     }
 
-ok-of : (r : Relay) → Valid r → tablesOk r ≡ true
+pub ok-of : (r : Relay) → Valid r → tablesOk r ≡ true
 unfolding tablesOk
 ok-of r v =
     and-both (v .clock)

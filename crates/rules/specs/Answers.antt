@@ -13,14 +13,14 @@ use Rattle.rules.specs.declared.Verdict.the-variants.{Drop, Deliver, For
 use Rattle.rules.specs.declared.Answer.{Answer}
 use Rattle.rules.specs.declared.Answer.the-variants.{Refused, Judged}
 
--- the test that dropped the packet
-unfoldable pub reasonNumber : Reason → ℕ
+-- the test that dropped the packet, whichever its clause or case
+abbrev pub reasonNumber : Reason → ℕ
 reasonNumber NotOurs = 1
 reasonNumber Duplicate = 2
-reasonNumber BadForm = 3
+reasonNumber (BadForm clause) = 3
 reasonNumber OwnAnnounce = 4
 reasonNumber TooManyHops = 5
-reasonNumber NoWayOn = 6
+reasonNumber (NoWayOn why) = 6
 reasonNumber AlreadyKnown = 7
 reasonNumber WrongSide = 8
 reasonNumber NotSigned = 9

@@ -10,7 +10,7 @@ use Rattle.octets.specs.Listed.{Test, _gives_otherwise_, firstOf}
 use Rattle.rules.specs.View.{View}
 use Rattle.rules.specs.Arrival.{Arrival, hops}
 use Rattle.rules.specs.Ways.{Way, everywhere, by-path, along-link, by-return, blocked, wayOn}
-use Rattle.rules.specs.Tests.{notOurs, duplicate, badForm, ownAnnounce, deliveredHere, tooManyHops, noWayOn, alreadyKnown, wrongSide, notSigned, replay, notBetter, leavingPort, portOff, noRoom}
+use Rattle.rules.specs.Tests.{notOurs, duplicate, badForm, failing, ownAnnounce, deliveredHere, tooManyHops, noWayOn, whyBlocked, alreadyKnown, wrongSide, notSigned, replay, notBetter, leavingPort, portOff, noRoom}
 use Rattle.rules.specs.Outgoing.{spreadPorts, outgoing, exceeds, grownTooLong}
 use Rattle.rules.specs.declared.Reason.{Reason}
 use Rattle.rules.specs.declared.Reason.the-variants.{NotOurs, Duplicate, BadForm, OwnAnnounce, TooManyHops, NoWayOn, AlreadyKnown, WrongSide, NotSigned, Replay, NotBetter, PortOff, NoRoom, GrownTooLong}
@@ -28,7 +28,7 @@ unfoldable pub earlyTests : View → Arrival → List (Test Plan)
 earlyTests v a =
     notOurs v a gives dropped NotOurs otherwise
     duplicate v a gives dropped Duplicate otherwise
-    badForm (a .bytes) gives dropped BadForm otherwise
+    badForm (a .bytes) gives dropped (BadForm (failing (a .bytes))) otherwise
     ownAnnounce v a gives dropped OwnAnnounce otherwise
     deliveredHere v a gives delivered otherwise
     tooManyHops (hops a) gives dropped TooManyHops otherwise
@@ -37,7 +37,7 @@ earlyTests v a =
 -- tests 6 to 14, on the way that the packet would follow
 unfoldable pub onwardTests : View → Arrival → Way → List (Test Plan)
 onwardTests v a w =
-    noWayOn w gives dropped NoWayOn otherwise
+    noWayOn w gives dropped (NoWayOn (whyBlocked w)) otherwise
     alreadyKnown v a w gives dropped AlreadyKnown otherwise
     wrongSide a w gives dropped WrongSide otherwise
     notSigned a gives dropped NotSigned otherwise
@@ -64,7 +64,7 @@ wayVerdict v a (everywhere known) = spreadVerdict (spreadPorts v a) (outgoing v 
 wayVerdict v a (by-path p) = Forward (leavingPort a (by-path p)) (length (outgoing v a (by-path p)))
 wayVerdict v a (along-link l) = Forward (leavingPort a (along-link l)) (length (outgoing v a (along-link l)))
 wayVerdict v a (by-return t) = Forward (leavingPort a (by-return t)) (length (outgoing v a (by-return t)))
-wayVerdict v a (blocked why) = Drop NoWayOn
+wayVerdict v a (blocked why) = Drop (NoWayOn why)
 
 unfoldable pub verdict : View → Arrival → Plan → Verdict
 verdict v a (dropped reason) = Drop reason

@@ -78,7 +78,7 @@ unfoldable pub renameReply : List ℕ → Reply → Reply
 renameReply m (answered answer output) = answered (renameAnswer m answer) output
 renameReply m (numbered refusal) = numbered refusal
 
--- "none of them a later renumbering": those that stand in the list have a map that is refused
+-- "where no renumbering stands later in the list": one that is refused may
 unfoldable pub movesPorts : Call → Bool
 movesPorts (packet arrival output) = false
 movesPorts (on-tables c) = ruleOf c .movesPorts

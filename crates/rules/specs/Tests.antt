@@ -1,12 +1,13 @@
--- Document 01, "Judging a packet": tests 1 to 13, each under its own name. Test 6 has its cases in Ways.antt, and test 14, which reads the
+-- Document 01, "Judging a packet": tests 1 to 13, each under its own name. Test 6's cases are found in Ways.antt, and test 14, which reads the
 -- outgoing bytes, stands in Outgoing.antt.
 use Prim.Native.Nat.{ℕ}
 use mathlib.Core.Bool.{Bool, true, false, not}
-use mathlib.Core.List.{List}
+use mathlib.Core.List.{List, []}
 use lib.Dec.{eqb, ltb, leb}
 use lib.ListN.{length}
 use Rattle.octets.specs.Index.{_and_}
 use Rattle.octets.specs.Choice.{_then_otherwise_, _or_, same}
+use Rattle.octets.specs.Listed.{Test, _gives_otherwise_, firstOf, anyHolds}
 use Rattle.packet.specs.Header.{typeTwo, ofKindSingle, ofKindLink, isData, isAnnounce, isLinkRequest, isProof}
 use Rattle.packet.specs.Read.{headerOf, partsOf, payload}
 use Rattle.packet.specs.Hash.{linkId}
@@ -19,6 +20,10 @@ use Rattle.rules.specs.Exempt.{exempt}
 use Rattle.rules.specs.Blobs.{held, isAmong, greatestEmission}
 use Rattle.rules.specs.Ways.{Way, everywhere, by-path, along-link, by-return, blocked}
 use Rattle.rules.specs.declared.Link.{Link}
+use Rattle.rules.specs.declared.Clause.{Clause}
+use Rattle.rules.specs.declared.Clause.the-variants.{TypeTwoProof, TypeTwoOfKindLink, AnnounceNotSingle, AnnounceTooShort, AnnounceOfAnother, RequestOfKindLink, RequestTooShort, LinkProofLength}
+use Rattle.rules.specs.declared.Blocked.{Blocked}
+use Rattle.rules.specs.declared.Blocked.the-variants.{NoPath, NoLink, NoReturn}
 
 -- 1. Not ours: type 2, not an announce, relay address not our own.
 unfoldable pub notOurs : View → Arrival → Bool
@@ -64,16 +69,24 @@ requestTooShort p = isLinkRequest (headerOf p) and ltb (length (payload p)) 64
 unfoldable pub linkProofLength : List ℕ → Bool
 linkProofLength p = isLinkProof p and not (eqb (length (payload p)) 96 or eqb (length (payload p)) 99)
 
+unfoldable pub formTests : List ℕ → List (Test Clause)
+formTests p =
+    typeTwoProof p gives TypeTwoProof otherwise
+    typeTwoOfKindLink p gives TypeTwoOfKindLink otherwise
+    announceNotSingle p gives AnnounceNotSingle otherwise
+    announceTooShort p gives AnnounceTooShort otherwise
+    announceOfAnother p gives AnnounceOfAnother otherwise
+    requestOfKindLink p gives RequestOfKindLink otherwise
+    requestTooShort p gives RequestTooShort otherwise
+    linkProofLength p gives LinkProofLength otherwise
+    []
+
 unfoldable pub badForm : List ℕ → Bool
-badForm p =
-    typeTwoProof p
-    or typeTwoOfKindLink p
-    or announceNotSingle p
-    or announceTooShort p
-    or announceOfAnother p
-    or requestOfKindLink p
-    or requestTooShort p
-    or linkProofLength p
+badForm p = anyHolds (formTests p)
+
+-- the first clause that fails. It is read of a bad form alone
+unfoldable pub failing : List ℕ → Clause
+failing p = firstOf (formTests p) TypeTwoProof
 
 -- 4. Own announce: destination local.
 unfoldable pub ownAnnounce : View → Arrival → Bool
@@ -87,13 +100,21 @@ deliveredHere v a = (isData (header a) or isLinkRequest (header a)) and not (ofK
 unfoldable pub tooManyHops : ℕ → Bool
 tooManyHops hops = leb 128 hops
 
--- 6. No way on: specs/Ways.antt has its cases
+-- 6. No way on: Ways.antt finds the case
 unfoldable pub noWayOn : Way → Bool
 noWayOn (everywhere known) = false
 noWayOn (by-path p) = false
 noWayOn (along-link l) = false
 noWayOn (by-return t) = false
 noWayOn (blocked why) = true
+
+-- the case. It is read of a blocked way alone
+unfoldable pub whyBlocked : Way → Blocked
+whyBlocked (everywhere known) = NoPath
+whyBlocked (by-path p) = NoPath
+whyBlocked (along-link l) = NoLink
+whyBlocked (by-return t) = NoReturn
+whyBlocked (blocked why) = why
 
 -- 7. Already known: link request whose id is live; link proof for a proved link.
 unfoldable pub isThere : {A : Type 0} → Slot A → Bool

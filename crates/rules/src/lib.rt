@@ -1,14 +1,41 @@
 // The types that the rules of document 01 and the code share. The rules themselves are definitions, in specs/: no
 // function stands here.
 
-// Why a packet was dropped: document 01's tests 1 to 14, in their order. `reasonNumber` of specs/Answers.antt gives the numbers.
+// Which clause of test 3 a packet's form breaks, in document 01's order.
+pub enum Clause {
+    TypeTwoProof,
+    TypeTwoOfKindLink,
+    AnnounceNotSingle,
+    AnnounceTooShort,
+    AnnounceOfAnother,
+    RequestOfKindLink,
+    RequestTooShort,
+    LinkProofLength,
+}
+
+// Why there is no way on: the cases of test 6, in document 01's order.
+pub enum Blocked {
+    // A type 1 data packet or link request not of kind link.
+    NotAsking,
+    // A type 2 one without a live path.
+    NoPath,
+    // For kind link, no live link,
+    NoLink,
+    // .. or an unproved one, except for a link proof.
+    NotProved,
+    // For an ordinary proof (any other kind), no live return record whose key is the destination.
+    NoReturn,
+}
+
+// Why a packet was dropped: document 01's tests 1 to 14, in their order. `reasonNumber` of specs/Answers.antt gives
+// the numbers.
 pub enum Reason {
     NotOurs,
     Duplicate,
-    BadForm,
+    BadForm(Clause),
     OwnAnnounce,
     TooManyHops,
-    NoWayOn,
+    NoWayOn(Blocked),
     AlreadyKnown,
     WrongSide,
     NotSigned,
@@ -52,8 +79,8 @@ pub struct Link {
     pub expiry: u64,
 }
 
-// Packet calls since fresh, each modulo 2^32: all accepted ones, and those of each answer. A host's tally is six counters
-// in this order.
+// Packet calls since fresh, each modulo 2^32: all accepted ones, and those of each answer. A host's tally is six
+// counters in this order.
 #[repr(C)]
 pub struct Tally {
     pub total: u32,

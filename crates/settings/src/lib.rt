@@ -1,5 +1,6 @@
 // The calls that need no packet, apart from renumbering: a fresh relay, a port's settings, local addresses.
-// Entry points: fresh, set_port, add_local, remove_local. Each returns a refusal's number, or 0, and a refusal changes no byte.
+// Entry points: fresh, set_port, add_local, remove_local. Each returns a refusal's number, or 0, and a refusal
+// changes no byte.
 mod writes;
 
 use lookup::empty_local;
@@ -10,29 +11,32 @@ use numbers::MODE_COUNT;
 use numbers::PORT_COUNT;
 use numbers::refusals;
 use tables::check;
+use tables::places::OWN_AT;
 use tables::places::TABLE_SIZE;
 use writes::clear;
 use writes::empty_place;
+use writes::put_fresh_ports;
 use writes::put_local;
 use writes::put_port;
-ghost use mathlib.Core.Path.{_≡_};
+ghost use Rattle.tables.specs.Called.{Returns};
 ghost use Rattle.settings.specs.Calls.{freshOn, setPortOn, addLocalOn, removeLocalOn};
 
 // The tables of a relay with its own address, all ports off and boundary, clock 0, tables empty.
 pub fn fresh(tables: &mut [u8], own: [u8; 16]) -> u8
-    ensures { λ r. ⌜ (r ≡ freshOn (now (tables .entry)) own .refusal) × (now (tables .exit) ≡ freshOn (now (tables .entry)) own .tables) ⌝ }
+    ensures { λ r. ⌜ Returns (freshOn (now (tables .entry)) own) r (now (tables .exit)) ⌝ }
 {
     if tables.len() != TABLE_SIZE {
         return refusals::TABLES;
     }
     clear(tables);
-    octets::copy_at(tables, 0, &own);
+    octets::copy_at(tables, OWN_AT, &own);
+    put_fresh_ports(tables);
     refusals::NONE
 }
 
 // Sets a port on or off, and its mode.
 pub fn set_port(tables: &mut [u8], port: u64, on: bool, mode: u64) -> u8
-    ensures { λ r. ⌜ (r ≡ setPortOn (now (tables .entry)) port on mode .refusal) × (now (tables .exit) ≡ setPortOn (now (tables .entry)) port on mode .tables) ⌝ }
+    ensures { λ r. ⌜ Returns (setPortOn (now (tables .entry)) port on mode) r (now (tables .exit)) ⌝ }
 {
     if !check(tables) {
         return refusals::TABLES;
@@ -49,7 +53,7 @@ pub fn set_port(tables: &mut [u8], port: u64, on: bool, mode: u64) -> u8
 
 // Adds a local address, in the lowest empty place.
 pub fn add_local(tables: &mut [u8], address: [u8; 16]) -> u8
-    ensures { λ r. ⌜ (r ≡ addLocalOn (now (tables .entry)) address .refusal) × (now (tables .exit) ≡ addLocalOn (now (tables .entry)) address .tables) ⌝ }
+    ensures { λ r. ⌜ Returns (addLocalOn (now (tables .entry)) address) r (now (tables .exit)) ⌝ }
 {
     if !check(tables) {
         return refusals::TABLES;
@@ -67,7 +71,7 @@ pub fn add_local(tables: &mut [u8], address: [u8; 16]) -> u8
 
 // Removes a local address: its place is emptied.
 pub fn remove_local(tables: &mut [u8], address: [u8; 16]) -> u8
-    ensures { λ r. ⌜ (r ≡ removeLocalOn (now (tables .entry)) address .refusal) × (now (tables .exit) ≡ removeLocalOn (now (tables .entry)) address .tables) ⌝ }
+    ensures { λ r. ⌜ Returns (removeLocalOn (now (tables .entry)) address) r (now (tables .exit)) ⌝ }
 {
     if !check(tables) {
         return refusals::TABLES;

@@ -1,4 +1,8 @@
 // Writes of a port's settings, of a local address, and of zeros.
+use numbers::PORT_COUNT;
+use tables::fields::PORT_MODE_AT;
+use tables::fields::PORT_ON_AT;
+use tables::mark_of;
 use tables::places::LOCAL_WIDTH;
 use tables::places::LOCALS_AT;
 use tables::places::PORT_WIDTH;
@@ -8,33 +12,37 @@ ghost use Prim.Native.Nat.{_+_, _*_, _<_};
 ghost use lib.ListN.{length, replicate};
 ghost use Rattle.octets.specs.Part.{patch};
 ghost use Rattle.numbers.specs.Numbers.{portCount, localCount};
-ghost use Rattle.rules.specs.Relay.{empty, used};
+ghost use Rattle.rules.specs.Relay.{empty, used, makePort};
 ghost use Rattle.tables.specs.Places.{portWidth, localWidth, portsAt, localsAt, tableSize};
-ghost use Rattle.tables.specs.Records.{markOf, portBytes, slotBytes, localBytes};
-ghost use Rattle.settings.specs.Calls.{settingsOf};
-
-// A mark: 1 yes, 0 no.
-fn mark_of(answer: bool) -> u8
-    ensures { λ r. ⌜ r ≡ markOf answer ⌝ }
-{
-    if answer {
-        return 1;
-    }
-    0
-}
+ghost use Rattle.tables.specs.Records.{portBytes, slotBytes, localBytes};
+ghost use Rattle.settings.specs.Calls.{freshPorts};
 
 pub fn put_port(tables: &mut [u8], port: usize, on: bool, mode: u8)
     requires { ⌜ (length (now tables) ≡ tableSize) × (port < portCount) ⌝ }
-    ensures { λ _. ⌜ now (tables .exit) ≡ patch (now (tables .entry)) (portsAt + portWidth * port) (portBytes (settingsOf on mode)) ⌝ }
+    ensures { λ _. ⌜ now (tables .exit) ≡ patch (now (tables .entry)) (portsAt + portWidth * port)
+        (portBytes (makePort on mode)) ⌝ }
 {
     let at = PORTS_AT + PORT_WIDTH * port;
-    octets::set_at(tables, at, mark_of(on));
-    octets::set_at(tables, at + 1, mode);
+    octets::set_at(tables, at + PORT_ON_AT, mark_of(on));
+    octets::set_at(tables, at + PORT_MODE_AT, mode);
+}
+
+// Every port as a fresh relay has it.
+pub fn put_fresh_ports(tables: &mut [u8])
+    requires { ⌜ length (now tables) ≡ tableSize ⌝ }
+    ensures { λ _. ⌜ now (tables .exit) ≡ patch (now (tables .entry)) portsAt freshPorts ⌝ }
+{
+    let mut i = 0;
+    while i < PORT_COUNT {
+        put_port(tables, i, false, 0);
+        i += 1;
+    }
 }
 
 pub fn put_local(tables: &mut [u8], place: usize, address: [u8; 16])
     requires { ⌜ (length (now tables) ≡ tableSize) × (place < localCount) ⌝ }
-    ensures { λ _. ⌜ now (tables .exit) ≡ patch (now (tables .entry)) (localsAt + localWidth * place) (slotBytes localWidth localBytes (used address)) ⌝ }
+    ensures { λ _. ⌜ now (tables .exit) ≡ patch (now (tables .entry)) (localsAt + localWidth * place)
+        (slotBytes localWidth localBytes (used address)) ⌝ }
 {
     let at = LOCALS_AT + LOCAL_WIDTH * place;
     octets::set_at(tables, at, 1);
@@ -43,7 +51,8 @@ pub fn put_local(tables: &mut [u8], place: usize, address: [u8; 16])
 
 pub fn empty_place(tables: &mut [u8], place: usize)
     requires { ⌜ (length (now tables) ≡ tableSize) × (place < localCount) ⌝ }
-    ensures { λ _. ⌜ now (tables .exit) ≡ patch (now (tables .entry)) (localsAt + localWidth * place) (slotBytes localWidth localBytes empty) ⌝ }
+    ensures { λ _. ⌜ now (tables .exit) ≡ patch (now (tables .entry)) (localsAt + localWidth * place)
+        (slotBytes localWidth localBytes empty) ⌝ }
 {
     let zeros = [0u8; LOCAL_WIDTH];
     octets::copy_at(tables, LOCALS_AT + LOCAL_WIDTH * place, &zeros);

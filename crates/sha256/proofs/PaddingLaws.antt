@@ -21,12 +21,15 @@ unfolding padded
 padded-length m = length-append m (padding (length m)) ∙ ap (λ (k : ℕ). length m + k) (padding-length (length m))
 
 -- three stores in a row
-three : (p q : List ℕ) (a b c x y w : ℕ) → set (set (set (p ++ (a ∷ b ∷ c ∷ q)) (length p) x) (suc (length p)) y) (suc (suc (length p))) w ≡ p ++ (x ∷ y ∷ w ∷ q)
+three : (p q : List ℕ) (a b c x y w : ℕ)
+    → set (set (set (p ++ (a ∷ b ∷ c ∷ q)) (length p) x) (suc (length p)) y) (suc (suc (length p))) w ≡ p ++ (x ∷ y ∷ w ∷ q)
 three [] q a b c x y w = refl
 three (d ∷ p) q a b c x y w = ap {B = List ℕ} (λ r. d ∷ r) (three p q a b c x y w)
 
 -- where five zeros and three bytes are the length
-joined : (rest zs left : List ℕ) (x y w : ℕ) → (rest ++ (128 ∷ (zs ++ (0 ∷ 0 ∷ 0 ∷ 0 ∷ 0 ∷ [])))) ++ (x ∷ y ∷ w ∷ left) ≡ (rest ++ ((128 ∷ zs) ++ (0 ∷ 0 ∷ 0 ∷ 0 ∷ 0 ∷ x ∷ y ∷ w ∷ []))) ++ left
+joined : (rest zs left : List ℕ) (x y w : ℕ)
+    → (rest ++ (128 ∷ (zs ++ (0 ∷ 0 ∷ 0 ∷ 0 ∷ 0 ∷ [])))) ++ (x ∷ y ∷ w ∷ left)
+    ≡ (rest ++ ((128 ∷ zs) ++ (0 ∷ 0 ∷ 0 ∷ 0 ∷ 0 ∷ x ∷ y ∷ w ∷ []))) ++ left
 joined rest zs left x y w =
     let five : List ℕ = 0 ∷ 0 ∷ 0 ∷ 0 ∷ 0 ∷ [] in
     let eight : List ℕ = 0 ∷ 0 ∷ 0 ∷ 0 ∷ 0 ∷ x ∷ y ∷ w ∷ [] in
@@ -44,7 +47,8 @@ length-bytes n h =
 
 module _ (rest : List ℕ) (n end : ℕ) (r : length rest ≡ n % 64) (h : n < 65536) (e : end ≡ n % 64 + 9 + zeroBytes n) where
   -- the zeros behind the byte 0x80: some of the padding, five of the length, three that are stored over, and what is left
-  split-zeros : replicate {A = ℕ} (127 - length rest) 0 ≡ (replicate (zeroBytes n) 0 ++ (0 ∷ 0 ∷ 0 ∷ 0 ∷ 0 ∷ [])) ++ (0 ∷ 0 ∷ 0 ∷ replicate (128 - end) 0)
+  split-zeros : replicate {A = ℕ} (127 - length rest) 0
+      ≡ (replicate (zeroBytes n) 0 ++ (0 ∷ 0 ∷ 0 ∷ 0 ∷ 0 ∷ [])) ++ (0 ∷ 0 ∷ 0 ∷ replicate (128 - end) 0)
   split-zeros =
       let z = zeroBytes n in
       let k : 127 - length rest ≡ z + 5 + suc (suc (suc (128 - end))) = omega arith in
@@ -52,8 +56,9 @@ module _ (rest : List ℕ) (n end : ℕ) (r : length rest ≡ n % 64) (h : n < 6
       ∙ sym (replicate-append-replicate (z + 5) (suc (suc (suc (128 - end)))) 0)
       ∙ ap (λ (x : List ℕ). x ++ (0 ∷ 0 ∷ 0 ∷ replicate (128 - end) 0)) (sym (replicate-append-replicate z 5 0))
 
-  pub padded-rest-law : (b : List ℕ) → b ≡ rest ++ replicate (128 - length rest) 0 →
-      set (set (set (set b (length rest) 128) (end - 3) (8 * n / 65536)) (end - 2) (8 * n / 256 % 256)) (end - 1) (8 * n % 256) ≡ (rest ++ padding n) ++ replicate (128 - end) 0
+  pub padded-rest-law : (b : List ℕ) → b ≡ rest ++ replicate (128 - length rest) 0
+      → set (set (set (set b (length rest) 128) (end - 3) (8 * n / 65536)) (end - 2) (8 * n / 256 % 256)) (end - 1) (8 * n % 256)
+      ≡ (rest ++ padding n) ++ replicate (128 - end) 0
   unfolding padding
   padded-rest-law b q =
       let z = zeroBytes n in
@@ -61,8 +66,10 @@ module _ (rest : List ℕ) (n end : ℕ) (r : length rest ≡ n % 64) (h : n < 6
       let left : List ℕ = replicate (128 - end) 0 in
       let p : List ℕ = rest ++ (128 ∷ zeros) in
       let e₁ : 128 - length rest ≡ suc (127 - length rest) = omega arith in
-      let s₁ : set b (length rest) 128 ≡ rest ++ (128 ∷ replicate (127 - length rest) 0) = rw (q, e₁) (set-at rest 0 (replicate (127 - length rest) 0) 128 (length rest) refl) in
-      let s₂ : set b (length rest) 128 ≡ p ++ (0 ∷ 0 ∷ 0 ∷ left) = s₁ ∙ ap (λ (x : List ℕ). rest ++ (128 ∷ x)) split-zeros ∙ sym (append-assoc rest (128 ∷ zeros) (0 ∷ 0 ∷ 0 ∷ left)) in
+      let s₁ : set b (length rest) 128 ≡ rest ++ (128 ∷ replicate (127 - length rest) 0) =
+      rw (q, e₁) (set-at rest 0 (replicate (127 - length rest) 0) 128 (length rest) refl) in
+      let s₂ : set b (length rest) 128 ≡ p ++ (0 ∷ 0 ∷ 0 ∷ left) =
+      s₁ ∙ ap (λ (x : List ℕ). rest ++ (128 ∷ x)) split-zeros ∙ sym (append-assoc rest (128 ∷ zeros) (0 ∷ 0 ∷ 0 ∷ left)) in
       let l₁ : length zeros ≡ z + 5 = length-append (replicate z 0) (0 ∷ 0 ∷ 0 ∷ 0 ∷ 0 ∷ []) ∙ ap (λ (k : ℕ). k + 5) (length-replicate z 0) in
       let l : length p ≡ end - 3 = length-append rest (128 ∷ zeros) ∙ omega arith in
       let e₂ : end - 2 ≡ suc (end - 3) = omega arith in

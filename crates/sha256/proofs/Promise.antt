@@ -7,7 +7,6 @@ use native.Mathlib.Omega.{arith}
 use borrow.Author.Tests.{le-leb, lt-leb}
 use lib.ListN.{length, getD, replicate}
 use Rattle.sha256.specs.declared.state.State.{State}
-use Rattle.sha256.specs.declared.Digest.{Digest}
 use Rattle.sha256.specs.Bytes.{bytes4}
 use Rattle.sha256.specs.Sha256.{digestBytes, sha256-of, answer}
 
@@ -39,7 +38,9 @@ word x (suc (suc (suc zero))) = omega arith
 word x (suc (suc (suc (suc i)))) = omega arith
 
 state : (s : State) → Below (digestBytes s)
-state s = both _ _ (both _ _ (both _ _ (both _ _ (both _ _ (both _ _ (both _ _ (word (s .a)) (word (s .b))) (word (s .c))) (word (s .d))) (word (s .e))) (word (s .f))) (word (s .g))) (word (s .h))
+state s =
+    let four = both _ _ (both _ _ (both _ _ (word (s .a)) (word (s .b))) (word (s .c))) (word (s .d)) in
+    both _ _ (both _ _ (both _ _ (both _ _ four (word (s .e))) (word (s .f))) (word (s .g))) (word (s .h))
 
 pub digest-byte : (m : List ℕ) (i : ℕ) → getD (sha256-of m) i 0 < 256
 unfolding sha256-of Below

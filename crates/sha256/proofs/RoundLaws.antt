@@ -12,8 +12,9 @@ use Rattle.sha256.specs.Compression.{W, afterRound, afterRounds}
 use Rattle.sha256.specs.Steps.{afterRoundsFrom}
 use Rattle.sha256.proofs.ScheduleLaws.{word-stored}
 
-pub four-rounds : (s s₁ s₂ s₃ r : State) (k w : List ℕ) (t : ℕ) → s₁ ≡ afterRound s (getD k t 0) (getD w t 0) → s₂ ≡ afterRound s₁ (getD k (t + 1) 0) (getD w (t + 1) 0)
-    → s₃ ≡ afterRound s₂ (getD k (t + 2) 0) (getD w (t + 2) 0) → r ≡ afterRound s₃ (getD k (t + 3) 0) (getD w (t + 3) 0) → r ≡ afterRoundsFrom s k w t 4
+pub four-rounds : (s s₁ s₂ s₃ r : State) (k w : List ℕ) (t : ℕ) → s₁ ≡ afterRound s (getD k t 0) (getD w t 0)
+    → s₂ ≡ afterRound s₁ (getD k (t + 1) 0) (getD w (t + 1) 0) → s₃ ≡ afterRound s₂ (getD k (t + 2) 0) (getD w (t + 2) 0)
+    → r ≡ afterRound s₃ (getD k (t + 3) 0) (getD w (t + 3) 0) → r ≡ afterRoundsFrom s k w t 4
 unfolding afterRoundsFrom
 four-rounds s s₁ s₂ s₃ r k w t e₁ e₂ e₃ e₄ = rw add-zero (cc)
 
@@ -23,7 +24,8 @@ unfolding afterRoundsFrom
 rounds-join s k w t n zero = rw add-zero
 rounds-join s k w t n (suc m) = rw (add-suc, rounds-join s k w t n m, add-assoc t n m)
 
-pub rounds-then : (s r q : State) (k w : List ℕ) (t n m : ℕ) → r ≡ afterRoundsFrom s k w t n → q ≡ afterRoundsFrom r k w (t + n) m → q ≡ afterRoundsFrom s k w t (n + m)
+pub rounds-then : (s r q : State) (k w : List ℕ) (t n m : ℕ) → r ≡ afterRoundsFrom s k w t n → q ≡ afterRoundsFrom r k w (t + n) m
+    → q ≡ afterRoundsFrom s k w t (n + m)
 rounds-then s r q k w t n m e₁ e₂ = e₂ ∙ ap (λ (x : State). afterRoundsFrom x k w (t + n) m) e₁ ∙ rounds-join s k w t n m
 
 -- n rounds after t rounds are t + n rounds
@@ -33,7 +35,8 @@ rounds-from s w t zero = rw add-zero
 rounds-from s w t (suc n) = rw (add-suc, rounds-from s w t n)
 
 -- rounds that see the same words
-rounds-agree : (s : State) (k w w′ : List ℕ) (t n : ℕ) → ((i : ℕ) → i < n → getD w (t + i) 0 ≡ getD w′ (t + i) 0) → afterRoundsFrom s k w t n ≡ afterRoundsFrom s k w′ t n
+rounds-agree : (s : State) (k w w′ : List ℕ) (t n : ℕ) → ((i : ℕ) → i < n → getD w (t + i) 0 ≡ getD w′ (t + i) 0)
+    → afterRoundsFrom s k w t n ≡ afterRoundsFrom s k w′ t n
 unfolding afterRoundsFrom
 rounds-agree s k w w′ t zero h = refl
 rounds-agree s k w w′ t (suc n) h = rw (h n (lt-suc-self n), rounds-agree s k w w′ t n (λ (i : ℕ) (p : i < n). h i (omega arith)))

@@ -20,7 +20,8 @@ length-W block zero = refl
 length-W block (suc n) = length-append (W block n) (scheduleWord block (W block n) n ∷ []) ∙ rw (length-W block n) (add-one n)
 
 -- one more word of the block, over the first zero
-pub first-words-more : (block w : List ℕ) (t v : ℕ) → t < 16 → w ≡ W block t ++ replicate (64 - t) 0 → v ≡ wordAt block (4 * t) → set w t v ≡ W block (t + 1) ++ replicate (64 - (t + 1)) 0
+pub first-words-more : (block w : List ℕ) (t v : ℕ) → t < 16 → w ≡ W block t ++ replicate (64 - t) 0 → v ≡ wordAt block (4 * t)
+    → set w t v ≡ W block (t + 1) ++ replicate (64 - (t + 1)) 0
 unfolding W
 first-words-more block w t v h e q =
     let next : W block t ++ (v ∷ []) ≡ W block (t + 1) = rw (add-one t, lt-ltb t 16 h) (cc) in
@@ -39,7 +40,15 @@ stored-word block w t l h e =
     let p₂ : t - 7 < t = omega arith in
     let p₃ : t - 15 < t = omega arith in
     let p₄ : t - 16 < t = omega arith in
-    let q : expandedWord w t ≡ scheduleWord block (W block t) t = rw (le-ltb t 16 l, ← e, getD-take t w (t - 2) 0 p₁, getD-take t w (t - 7) 0 p₂, getD-take t w (t - 15) 0 p₃, getD-take t w (t - 16) 0 p₄) in
+    let q : expandedWord w t ≡ scheduleWord block (W block t) t =
+    rw (
+      le-ltb t 16 l,
+      ← e,
+      getD-take t w (t - 2) 0 p₁,
+      getD-take t w (t - 7) 0 p₂,
+      getD-take t w (t - 15) 0 p₃,
+      getD-take t w (t - 16) 0 p₄,
+    ) in
     take-suc-set w t (expandedWord w t) h ∙ cc
 
 pub length-expanded : (w : List ℕ) (t n : ℕ) → length (expandedFrom w t n) ≡ length w

@@ -1,6 +1,6 @@
 -- Lists that end in zeros.
 -- Assumes nothing.
-use mathlib.Core.Path.{_≡_, refl, sym, ap, _∙_}
+use mathlib.Core.Path.{_≡_, sym, ap, _∙_}
 use mathlib.Core.List.{List, [], _∷_, _++_}
 use Prim.Native.Nat.{ℕ, suc, _+_, _-_, _≤_, _<_}
 use native.Mathlib.Numerals.{add-one}
@@ -15,7 +15,8 @@ stored-over-zero l n i v q h =
     let e : n - i ≡ suc (n - (i + 1)) = omega arith in
     rw e (set-at l 0 z v i q ∙ sym (append-snoc l v z))
 
-pub zero-filled-more : (s b : List ℕ) (i : ℕ) → i < length s → length s < 64 → b ≡ take i s ++ replicate (128 - i) 0 → set b i (getD s i 0) ≡ take (i + 1) s ++ replicate (128 - (i + 1)) 0
+pub zero-filled-more : (s b : List ℕ) (i : ℕ) → i < length s → length s < 64 → b ≡ take i s ++ replicate (128 - i) 0
+    → set b i (getD s i 0) ≡ take (i + 1) s ++ replicate (128 - (i + 1)) 0
 zero-filled-more s b i h l q =
     let p : i ≤ length s = omega arith in
     let more : take i s ++ (getD s i 0 ∷ []) ≡ take (i + 1) s = rw add-one (sym (take-suc s i 0 h)) in

@@ -43,7 +43,17 @@ afterRounds s w (suc t) = afterRound (afterRounds s w t) (getD K t 0) (getD w t 
 
 -- step 4: the next intermediate hash value, from the last one, s, and the working variables r
 unfoldable pub intermediateHash : State → State → State
-intermediateHash s r = record { a = r .a ⊞ s .a; b = r .b ⊞ s .b; c = r .c ⊞ s .c; d = r .d ⊞ s .d; e = r .e ⊞ s .e; f = r .f ⊞ s .f; g = r .g ⊞ s .g; h = r .h ⊞ s .h }
+intermediateHash s r =
+    record {
+      a = r .a ⊞ s .a;
+      b = r .b ⊞ s .b;
+      c = r .c ⊞ s .c;
+      d = r .d ⊞ s .d;
+      e = r .e ⊞ s .e;
+      f = r .f ⊞ s .f;
+      g = r .g ⊞ s .g;
+      h = r .h ⊞ s .h;
+    }
 
 -- steps 1 to 4; step 2 starts the working variables at the last hash value
 unfoldable pub compressed : State → List ℕ → State

@@ -2,7 +2,7 @@
 use libc::STDIN_FILENO;
 use libc::STDOUT_FILENO;
 
-// One byte more than the longest packet: what is longer is refused by its first 501 bytes, and need not be read further.
+// One byte more than the longest packet: what is longer is refused by its first 501 bytes, and read no further.
 fn main() {
     let mut input = [0u8; 501];
     let n = io::read_full(STDIN_FILENO, &mut input);

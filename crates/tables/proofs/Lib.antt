@@ -4,5 +4,8 @@ pub mod Tests
 pub mod Lent
 pub mod Seen
 pub mod Loops
-pub mod Whole
+pub mod Section
 pub mod Patches
+pub mod Shaped
+pub mod Whole
+pub mod Called

@@ -9,7 +9,7 @@ use Rattle.octets.specs.Index.{zeros}
 use Rattle.octets.specs.Part.{part}
 use Rattle.octets.proofs.Index.{all-none, all-more, all-fails}
 use Rattle.octets.proofs.Part.{part-range}
-use Rattle.octets.proofs.Rows.{rows-free, rows-more, rows-fails}
+use Rattle.octets.proofs.Records.{records-free, records-more, records-fails}
 use Rattle.tables.specs.Layout.{recordAt, recordsOk}
 use Rattle.tables.specs.Groups.{groupSize, groupOk}
 
@@ -58,7 +58,7 @@ module _ (ok : List ℕ → Bool) (w : ℕ) (s : List ℕ) where
 pub group-free : (ok : List ℕ → Bool) (w : ℕ) (s : List ℕ) → ((b : List ℕ) → zeros w b ≡ true → ok b ≡ true)
     → length s ≡ w * groupSize → zeros (length s) s ≡ true → true ≡ groupOk ok w groupSize s
 unfolding groupOk
-group-free ok w s free e h = sym (rows-free ok w free groupSize s (ap (λ (k : ℕ). zeros k s) (sym e) ∙ h))
+group-free ok w s free e h = sym (records-free ok w free groupSize s (ap (λ (k : ℕ). zeros k s) (sym e) ∙ h))
 
 module _ (ok : List ℕ → Bool) (base w : ℕ) (t : List ℕ) (g : ℕ) {r : Bool}
     (e : r ≡ groupOk ok w groupSize (range t (base + w * groupSize * g) (w * groupSize)))
@@ -68,8 +68,8 @@ module _ (ok : List ℕ → Bool) (base w : ℕ) (t : List ℕ) (g : ℕ) {r : B
 
   pub group-passes : not r ≡ false → recordsOk ok base w (groupSize * (g + 1)) t ≡ true
   unfolding recordsOk groupOk
-  group-passes n = rows-more ok w t base groupSize g h (seen-group ∙ not-false r n)
+  group-passes n = records-more ok w t base groupSize g h (seen-group ∙ not-false r n)
 
   pub group-fails : (count : ℕ) → groupSize * g + groupSize ≤ count → not r ≡ true → false ≡ recordsOk ok base w count t
   unfolding recordsOk groupOk
-  group-fails count l n = sym (rows-fails ok w t base groupSize g count l h (seen-group ∙ not-true r n))
+  group-fails count l n = sym (records-fails ok w t base groupSize g count l h (seen-group ∙ not-true r n))

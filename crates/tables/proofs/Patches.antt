@@ -5,44 +5,47 @@ use mathlib.Core.Path.{_≡_}
 use lib.ListN.{length, set}
 use Rattle.octets.specs.Part.{patch, fields}
 use Rattle.octets.specs.BigEndian.{bigEndian}
-use Rattle.codes.specs.Form.{Form, numberIn, many, slot}
-use Rattle.codes.proofs.Inside.{Inside, here, first, next, item, inRule, inRecord, _within_}
+use Rattle.codes.specs.Form.{Form, numberIn, octetsIn, many, slot}
+use Rattle.codes.proofs.Inside.{Inside, here, item, inRule, _within_, named}
 use Rattle.numbers.specs.Numbers.{portCount, localCount, pathCount, linkCount, returnCount, hashCount}
-use Rattle.rules.specs.Relay.{Port, noPort, Slot, empty, Path, Return, Remembered, Relay, withClock, withPorts, withLocals, withPaths, withLinks, withReturns, withHashes}
+use Rattle.rules.specs.Relay.{Port, noPort, Slot, empty, Path, Return, Remembered, makeRing, withSlots, Relay, withClock, withPorts, withLocals, withPaths, withLinks, withReturns, withHashes}
 use Rattle.rules.specs.declared.Link.{Link}
 use Rattle.tables.specs.Forms.{portForm, localForm, pathForm, linkForm, returnForm, hashForm, ringForm, relayForm}
-use Rattle.tables.specs.Places.{timeWidth, ringWidth, portWidth, localWidth, pathWidth, linkWidth, returnWidth, hashWidth, clockAt, portsAt, localsAt, pathsAt, linksAt, returnNextAt, returnsAt, hashNextAt, hashesAt}
+use Rattle.tables.specs.Places.{addressWidth, timeWidth, ringWidth, portWidth, localWidth, pathWidth, linkWidth, returnWidth, hashWidth, clockAt, portsAt, localsAt, pathsAt, linksAt, returnNextAt, returnsAt, hashNextAt, hashesAt}
 use Rattle.tables.specs.Records.{portBytes, slotBytes, localBytes, pathBytes, linkBytes, returnBytes, hashBytes}
 use Rattle.tables.specs.Layout.{bytesOf}
 
 -- ---- the sections
+abbrev pub own-in : Inside relayForm (octetsIn addressWidth)
+own-in = named relayForm "own" .inside
+
 abbrev pub clock-in : Inside relayForm (numberIn timeWidth)
-clock-in = inRecord (next (inRule here within first))
+clock-in = inRule here within named relayForm "clock" .inside
 
 abbrev pub ports-in : Inside relayForm (many portCount noPort portForm)
-ports-in = inRecord (next (next first))
+ports-in = named relayForm "ports" .inside
 
 abbrev pub locals-in : Inside relayForm (many localCount empty (slot localForm))
-locals-in = inRecord (next (next (next first)))
+locals-in = named relayForm "locals" .inside
 
 abbrev pub paths-in : Inside relayForm (many pathCount empty (slot pathForm))
-paths-in = inRecord (next (next (next (next first))))
+paths-in = named relayForm "paths" .inside
 
 abbrev pub links-in : Inside relayForm (many linkCount empty (slot linkForm))
-links-in = inRecord (next (next (next (next (next first)))))
+links-in = named relayForm "links" .inside
 
 -- ---- of a ring
 abbrev place-in : {A : Type 0} {n : ℕ} {f : Form A} → Inside (ringForm n f) (numberIn ringWidth)
-place-in = inRecord (inRule here within first)
+place-in {A} {n} {f} = inRule here within named (ringForm n f) "next" .inside
 
 abbrev slots-in : {A : Type 0} {n : ℕ} {f : Form A} → Inside (ringForm n f) (many n empty (slot f))
-slots-in = inRecord (next here)
+slots-in {A} {n} {f} = named (ringForm n f) "slots" .inside
 
 abbrev return-ring-in : Inside relayForm (ringForm returnCount returnForm)
-return-ring-in = inRecord (next (next (next (next (next (next first))))))
+return-ring-in = named relayForm "returns" .inside
 
 abbrev hash-ring-in : Inside relayForm (ringForm hashCount hashForm)
-hash-ring-in = inRecord (next (next (next (next (next (next (next here)))))))
+hash-ring-in = named relayForm "hashes" .inside
 
 abbrev pub returns-in : Inside relayForm (many returnCount empty (slot returnForm))
 returns-in = slots-in within return-ring-in
@@ -57,12 +60,12 @@ module _ (r : Relay) where
   patch-clock clock = clock-in .place .patched r clock (tt, tt)
 
   pub patch-return-next : (n : ℕ) → patch (bytesOf r) returnNextAt (bigEndian ringWidth n)
-      ≡ bytesOf (withReturns (record { slots = r .returns .slots; next = n }) r)
+      ≡ bytesOf (withReturns (makeRing (r .returns .slots) n) r)
   unfolding bytesOf withReturns
   patch-return-next n = (place-in within return-ring-in) .place .patched r n (tt, (tt, tt))
 
   pub patch-hash-next : (n : ℕ) → patch (bytesOf r) hashNextAt (bigEndian ringWidth n)
-      ≡ bytesOf (withHashes (record { slots = r .hashes .slots; next = n }) r)
+      ≡ bytesOf (withHashes (makeRing (r .hashes .slots) n) r)
   unfolding bytesOf withHashes
   patch-hash-next n = (place-in within hash-ring-in) .place .patched r n (tt, (tt, tt))
 
@@ -83,7 +86,7 @@ module _ (r : Relay) where
 
   pub patch-returns : (slots : List (Slot Return))
       → patch (bytesOf r) returnsAt (fields (slotBytes returnWidth returnBytes) returnCount empty slots)
-      ≡ bytesOf (withReturns (record { slots = slots; next = r .returns .next }) r)
+      ≡ bytesOf (withReturns (withSlots slots (r .returns)) r)
   unfolding bytesOf withReturns returnBytes
   patch-returns slots = returns-in .place .patched r slots (tt, tt)
 
@@ -111,12 +114,12 @@ module _ (r : Relay) where
 
     pub patch-return : (new : Slot Return) → length (r .returns .slots) ≡ returnCount → i < returnCount
         → patch (bytesOf r) (returnsAt + returnWidth * i) (slotBytes returnWidth returnBytes new)
-        ≡ bytesOf (withReturns (record { slots = set (r .returns .slots) i new; next = r .returns .next }) r)
+        ≡ bytesOf (withReturns (withSlots (set (r .returns .slots) i new) (r .returns)) r)
     unfolding bytesOf withReturns returnBytes
     patch-return new e l = (item i l within returns-in) .place .patched r new ((tt, tt), e)
 
     pub patch-hash : (new : Slot Remembered) → length (r .hashes .slots) ≡ hashCount → i < hashCount
         → patch (bytesOf r) (hashesAt + hashWidth * i) (slotBytes hashWidth hashBytes new)
-        ≡ bytesOf (withHashes (record { slots = set (r .hashes .slots) i new; next = r .hashes .next }) r)
+        ≡ bytesOf (withHashes (withSlots (set (r .hashes .slots) i new) (r .hashes)) r)
     unfolding bytesOf withHashes hashBytes
     patch-hash new e l = (item i l within hashes-in) .place .patched r new ((tt, tt), e)

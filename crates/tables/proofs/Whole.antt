@@ -22,15 +22,18 @@ use Rattle.rules.specs.Relay.{Port, noPort, Slot, empty, used, Path, Return, Re
 use Rattle.rules.specs.Blobs.{noBlob}
 use Rattle.rules.specs.Refusals.{timeOk, portOk, pathOk, linkOk, returnOk, hashOk, slotOk, all, tableOk, tablesOk}
 use Rattle.rules.specs.declared.Link.{Link}
+use Rattle.rules.proofs.Valid.{RingOk, valid-of, ok-of}
 use Rattle.rules.proofs.Tables.{all-listOf, table-of, table-length, table-all}
 use Rattle.tables.specs.Forms.{portForm, localForm, pathForm, linkForm, returnForm, hashForm, ringForm, relayForm}
 use Rattle.tables.specs.Places.{addressWidth, timeWidth, blobWidth, ringWidth, portWidth, localWidth, pathWidth, linkWidth, returnWidth, hashWidth, clockAt, portsAt, localsAt, pathsAt, linksAt, returnNextAt, returnsAt, hashNextAt, hashesAt, tableSize}
 use Rattle.tables.specs.Records.{portBytesOk, localBytesOk, pathBytesOk, linkBytesOk, returnBytesOk, hashBytesOk}
 use Rattle.tables.specs.Layout.{recordsOk, relayOf, bytesOf, wellFormed}
 use Rattle.tables.specs.Shape.{isByte, isBytes, pathShaped, linkShaped, returnShaped, hashShaped, shaped}
+use Rattle.tables.proofs.Patches.{own-in, locals-in, paths-in, links-in, returns-in, hashes-in}
+use Rattle.tables.proofs.Shaped.{shaped-parts, shaped-from}
 use Rattle.tables.proofs.All.{all-nth, all-from, is-bytes, is-length, is-each}
 
--- ---- the clauses of `wellFormed`, of `tablesOk` and of `shaped` by name
+-- ---- the clauses of `wellFormed` by name
 pub record Formed (t : List ℕ) : Type 0 where
   pub size : length t ≡ tableSize
   pub fine : code relayForm .fine t 0 ≡ true
@@ -85,63 +88,6 @@ module _ (t : List ℕ) where
         hashes = and-right _ _ h8;
       }
 
-pub record Kept (r : Relay) : Type 0 where
-  pub clock : timeOk (r .clock) ≡ true
-  pub ports : tableOk portCount portOk (r .ports) ≡ true
-  pub locals : length (r .locals) ≡ localCount
-  pub paths : tableOk pathCount (slotOk pathOk) (r .paths) ≡ true
-  pub links : tableOk linkCount (slotOk linkOk) (r .links) ≡ true
-  pub returns : tableOk returnCount (slotOk returnOk) (r .returns .slots) ≡ true
-  pub return-next : ltb (r .returns .next) returnCount ≡ true
-  pub hashes : tableOk hashCount (slotOk hashOk) (r .hashes .slots) ≡ true
-  pub hash-next : ltb (r .hashes .next) hashCount ≡ true
-
-pub kept : (r : Relay) → tablesOk r ≡ true → Kept r
-unfolding tablesOk
-kept r h =
-    let h1 = and-right _ _ h in
-    let h2 = and-right _ _ h1 in
-    let h3 = and-right _ _ h2 in
-    let h4 = and-right _ _ h3 in
-    let h5 = and-right _ _ h4 in
-    let h6 = and-right _ _ h5 in
-    let h7 = and-right _ _ h6 in
-    record {
-      clock = and-left _ _ h;
-      ports = and-left _ _ h1;
-      locals = eqb-true (length (r .locals)) localCount (and-left _ _ h2);
-      paths = and-left _ _ h3;
-      links = and-left _ _ h4;
-      returns = and-left _ _ h5;
-      return-next = and-left _ _ h6;
-      hashes = and-left _ _ h7;
-      hash-next = and-right _ _ h7;
-    }
-
-pub record Shaped (r : Relay) : Type 0 where
-  pub own : isBytes addressWidth (r .own) ≡ true
-  pub locals : all (slotOk (isBytes addressWidth)) (r .locals) ≡ true
-  pub paths : all (slotOk pathShaped) (r .paths) ≡ true
-  pub links : all (slotOk linkShaped) (r .links) ≡ true
-  pub returns : all (slotOk returnShaped) (r .returns .slots) ≡ true
-  pub hashes : all (slotOk hashShaped) (r .hashes .slots) ≡ true
-
-pub shaped-parts : (r : Relay) → shaped r ≡ true → Shaped r
-unfolding shaped
-shaped-parts r h =
-    let h1 = and-right _ _ h in
-    let h2 = and-right _ _ h1 in
-    let h3 = and-right _ _ h2 in
-    let h4 = and-right _ _ h3 in
-    record {
-      own = and-left _ _ h;
-      locals = and-left _ _ h1;
-      paths = and-left _ _ h2;
-      links = and-left _ _ h3;
-      returns = and-left _ _ h4;
-      hashes = and-right _ _ h4;
-    }
-
 -- ---- a relay that the layout can hold is one of the right shape that keeps the rules
 infixr 30 _also_
 abbrev _also_ : {A B : Type 0} → A → B → A × B
@@ -174,11 +120,11 @@ path-good p h k =
     let places = and-right _ _ (and-right _ _ k) in
     let long = table-length (isBytes blobWidth) blobLimit (p .blobs .places) places in
     let shapes = table-all (isBytes blobWidth) blobLimit (p .blobs .places) places in
-    (octets-good addressWidth (p .destination) (and-left _ _ k)
+    ((octets-good addressWidth (p .destination) (and-left _ _ k)
     also port-small (p .port) (and-left _ _ h)
     also ltb-true (p .hops) 256 (and-left _ _ h1)
     also octets-good addressWidth (p .nextHop) (and-left _ _ (and-right _ _ k))
-    also time-good (p .expiry) (and-right _ _ h2)
+    also time-good (p .expiry) (and-right _ _ h2))
     also count
     also long
     also (λ i l. octets-good blobWidth _ (all-nth (isBytes blobWidth) (p .blobs .places) i noBlob shapes (omega (arith, long, l)))))
@@ -186,7 +132,7 @@ path-good p h k =
 
 path-shaped : (p : Path) → code pathForm .Good p → pathShaped p ≡ true
 unfolding pathShaped
-path-shaped p ((destination, (_, (_, (nextHop, (_, (_, (long, each))))))), _) =
+path-shaped p (((destination, (_, (_, (nextHop, _)))), (_, (long, each))), _) =
     and-both (octets-shaped addressWidth (p .destination) destination)
     (and-both (octets-shaped addressWidth (p .nextHop) nextHop)
     (table-of (isBytes blobWidth) blobLimit (p .blobs .places) long
@@ -236,23 +182,7 @@ unfolding hashShaped
 hash-shaped x g = octets-shaped _ (x .hash) (g .0 .0)
 
 -- ---- a table of slots
-module _ {A : Type 0} (f : Form A) (rule shape : A → Bool) (n : ℕ) (xs : List (Slot A)) where
-  slot-good : ((x : A) → rule x ≡ true → shape x ≡ true → code f .Good x) → (s : Slot A) → slotOk rule s ≡ true → slotOk shape s ≡ true
-      → code (slot f) .Good s
-  unfolding slotOk
-  slot-good each empty h k = tt
-  slot-good each (used x) h k = each x h k
-
-  slots-good : ((x : A) → rule x ≡ true → shape x ≡ true → code f .Good x) → tableOk n (slotOk rule) xs ≡ true → all (slotOk shape) xs ≡ true
-      → code (many n empty (slot f)) .Good xs
-  slots-good each h k =
-      let long = table-length (slotOk rule) n xs h in (
-        long,
-        λ i l. slot-good each (getD xs i empty)
-            (all-nth (slotOk rule) xs i empty (table-all (slotOk rule) n xs h) (omega (arith, long, l)))
-            (all-nth (slotOk shape) xs i empty k (omega (arith, long, l))),
-      )
-
+module _ {A : Type 0} (f : Form A) (shape : A → Bool) (n : ℕ) (xs : List (Slot A)) where
   slot-shaped : ((x : A) → code f .Good x → shape x ≡ true) → (s : Slot A) → code (slot f) .Good s → slotOk shape s ≡ true
   unfolding slotOk
   slot-shaped each empty g = refl
@@ -263,15 +193,32 @@ module _ {A : Type 0} (f : Form A) (rule shape : A → Bool) (n : ℕ) (xs : Lis
       let long = g .0 in
       all-from (slotOk shape) xs empty (λ i l. slot-shaped each (getD xs i empty) (g .1 i (omega (arith, long, l))))
 
+  module _ (rule : A → Bool) (each : (x : A) → rule x ≡ true → shape x ≡ true → code f .Good x) where
+    slot-good : (s : Slot A) → slotOk rule s ≡ true → slotOk shape s ≡ true → code (slot f) .Good s
+    unfolding slotOk
+    slot-good empty h k = tt
+    slot-good (used x) h k = each x h k
+
+    slots-good : tableOk n (slotOk rule) xs ≡ true → all (slotOk shape) xs ≡ true → code (many n empty (slot f)) .Good xs
+    slots-good h k =
+        let long = table-length (slotOk rule) n xs h in
+        let rules = table-all (slotOk rule) n xs h in
+        let at : (i : ℕ) → i < n → i < length xs = λ i l. omega (arith, long, l) in
+        long also (λ i l. slot-good (getD xs i empty) (all-nth (slotOk rule) xs i empty rules (at i l)) (all-nth (slotOk shape) xs i empty k (at i l)))
+
 good-shaped : (r : Relay) → code relayForm .Good r → shaped r ≡ true
-unfolding shaped
-good-shaped r (own, (_, (_, (locals, (paths, (links, ((_, returns), (_, hashes)))))))) =
-    and-both (octets-shaped addressWidth (r .own) own)
-    (and-both (slots-shaped localForm (λ x. true) (isBytes addressWidth) localCount (r .locals) (octets-shaped addressWidth) locals)
-    (and-both (slots-shaped pathForm pathOk pathShaped pathCount (r .paths) path-shaped paths)
-    (and-both (slots-shaped linkForm linkOk linkShaped linkCount (r .links) link-shaped links)
-    (and-both (slots-shaped returnForm returnOk returnShaped returnCount (r .returns .slots) return-shaped returns)
-    (slots-shaped hashForm hashOk hashShaped hashCount (r .hashes .slots) hash-shaped hashes)))))
+good-shaped r g =
+    shaped-from r
+    (record {
+      own = octets-shaped addressWidth (r .own) (own-in .place .good r tt g);
+      clock = tt;
+      ports = tt;
+      locals = slots-shaped localForm (isBytes addressWidth) localCount (r .locals) (octets-shaped addressWidth) (locals-in .place .good r tt g);
+      paths = slots-shaped pathForm pathShaped pathCount (r .paths) path-shaped (paths-in .place .good r tt g);
+      links = slots-shaped linkForm linkShaped linkCount (r .links) link-shaped (links-in .place .good r tt g);
+      returns = slots-shaped returnForm returnShaped returnCount (r .returns .slots) return-shaped (returns-in .place .good r (tt, tt) g);
+      hashes = slots-shaped hashForm hashShaped hashCount (r .hashes .slots) hash-shaped (hashes-in .place .good r (tt, tt) g);
+    })
 
 -- ---- tables that are read
 -- the records that they hold keep their rule
@@ -296,19 +243,22 @@ module _ {A : Type 0} (rule : A → Bool) (f : Form A)
 module _ (t : List ℕ) where
   -- the relay that they hold breaks no clause of row 7
   pub ok-relay : wellFormed t ≡ true → tablesOk (relayOf t) ≡ true
-  unfolding tablesOk relayOf recordsOk portBytesOk pathBytesOk linkBytesOk returnBytesOk hashBytesOk
+  unfolding relayOf recordsOk portBytesOk pathBytesOk linkBytesOk returnBytesOk hashBytesOk
   ok-relay h =
       let f = formed t h in
-      and-both (f .clock)
-      (and-both
-      (table-of portOk portCount _ (listOf-length _ portCount)
-      (all-listOf portOk _ portCount (λ i l. and-right _ _ (all-at _ portCount i (f .ports) l))))
-      (and-both (eq-eqb _ _ (listOf-length _ localCount))
-      (and-both (slots-keep pathOk pathForm (λ b a h. and-right _ _ h) pathCount t pathsAt (f .paths))
-      (and-both (slots-keep linkOk linkForm (λ b a h. and-right _ _ h) linkCount t linksAt (f .links))
-      (and-both (slots-keep returnOk returnForm (λ b a h. and-right _ _ h) returnCount t returnsAt (f .returns))
-      (and-both (f .return-next)
-      (and-both (slots-keep hashOk hashForm (λ b a h. and-right _ _ h) hashCount t hashesAt (f .hashes)) (f .hash-next))))))))
+      ok-of (relayOf t)
+      (record {
+        own = tt;
+        clock = f .clock;
+        ports =
+            table-of portOk portCount _ (listOf-length _ portCount)
+            (all-listOf portOk _ portCount (λ i l. and-right _ _ (all-at _ portCount i (f .ports) l)));
+        locals = eq-eqb _ _ (listOf-length _ localCount);
+        paths = slots-keep pathOk pathForm (λ b a h. and-right _ _ h) pathCount t pathsAt (f .paths);
+        links = slots-keep linkOk linkForm (λ b a h. and-right _ _ h) linkCount t linksAt (f .links);
+        returns = (slots-keep returnOk returnForm (λ b a h. and-right _ _ h) returnCount t returnsAt (f .returns), f .return-next);
+        hashes = (slots-keep hashOk hashForm (λ b a h. and-right _ _ h) hashCount t hashesAt (f .hashes), f .hash-next);
+      })
 
   module _ (b : Bytes t) (h : wellFormed t ≡ true) where
     -- tables that are read and written again are as they were
@@ -337,30 +287,29 @@ bytes-length r = lawful relayForm .wide r
 
 -- a ring's place stands in its two bytes
 ring-good : {A : Type 0} (f : Form A) (rule shape : A → Bool) (n : ℕ) (r : Ring A) → ((x : A) → rule x ≡ true → shape x ≡ true → code f .Good x)
-    → n ≤ 256 ^ ringWidth → ltb (r .next) n ≡ true → tableOk n (slotOk rule) (r .slots) ≡ true → all (slotOk shape) (r .slots) ≡ true
-    → code (ringForm n f) .Good r
-ring-good f rule shape n r each most place h k =
-    let l = ltb-true (r .next) n place in
+    → n ≤ 256 ^ ringWidth → RingOk n rule r → all (slotOk shape) (r .slots) ≡ true → code (ringForm n f) .Good r
+ring-good f rule shape n r each most h k =
+    let l = ltb-true (r .next) n (h .1) in
     let fits : r .next < 256 ^ ringWidth = omega (arith, l, most) in
-    (fits also place) also slots-good f rule shape n (r .slots) each h k
+    (fits also h .1) also slots-good f shape n (r .slots) rule each (h .0) k
 
 module _ (r : Relay) (s : shaped r ≡ true) (h : tablesOk r ≡ true) where
   good : code relayForm .Good r
   good =
       let shape = shaped-parts r s in
-      let rules = kept r h in
+      let rules = valid-of r h in
       let ports = table-length portOk portCount (r .ports) (rules .ports) in
       let modes = table-all portOk portCount (r .ports) (rules .ports) in
       let any = all-from (slotOk (λ x. true)) (r .locals) empty (λ i l. any-slot (getD (r .locals) i empty)) in
-      let locals = table-of (slotOk (λ x. true)) localCount (r .locals) (rules .locals) any in
+      let locals = table-of (slotOk (λ x. true)) localCount (r .locals) (eqb-true _ _ (rules .locals)) any in
       octets-good addressWidth (r .own) (shape .own)
       also (time-good (r .clock) (rules .clock) also rules .clock)
       also (ports also (λ i l. port-good _ (all-nth portOk (r .ports) i noPort modes (omega (arith, ports, l)))))
-      also slots-good localForm (λ x. true) (isBytes addressWidth) localCount (r .locals) (λ x e k. octets-good addressWidth x k) locals (shape .locals)
-      also slots-good pathForm pathOk pathShaped pathCount (r .paths) path-good (rules .paths) (shape .paths)
-      also slots-good linkForm linkOk linkShaped linkCount (r .links) link-good (rules .links) (shape .links)
-      also ring-good returnForm returnOk returnShaped returnCount (r .returns) return-good (omega arith) (rules .return-next) (rules .returns) (shape .returns)
-      also ring-good hashForm hashOk hashShaped hashCount (r .hashes) hash-good (omega arith) (rules .hash-next) (rules .hashes) (shape .hashes)
+      also slots-good localForm (isBytes addressWidth) localCount (r .locals) (λ x. true) (λ x e k. octets-good addressWidth x k) locals (shape .locals)
+      also slots-good pathForm pathShaped pathCount (r .paths) pathOk path-good (rules .paths) (shape .paths)
+      also slots-good linkForm linkShaped linkCount (r .links) linkOk link-good (rules .links) (shape .links)
+      also ring-good returnForm returnOk returnShaped returnCount (r .returns) return-good (omega arith) (rules .returns) (shape .returns)
+      also ring-good hashForm hashOk hashShaped hashCount (r .hashes) hash-good (omega arith) (rules .hashes) (shape .hashes)
 
   -- what is written and read again is the relay
   pub back : relayOf (bytesOf r) ≡ r

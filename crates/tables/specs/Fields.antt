@@ -1,58 +1,58 @@
 -- Where the fields that code reads or writes alone stand in their record. Its first byte is its mark; a port's is its on mark.
 -- For the contracts of helpers: not part of what a reader must believe.
 use Prim.Native.Nat.{ℕ, _+_}
-use Rattle.codes.specs.Form.{code, startOf}
+use Rattle.codes.specs.Form.{code, placeOf}
 use Rattle.tables.specs.Forms.{portForm, blobsForm, pathForm, linkForm, returnForm, hashForm}
 
 abbrev pub portModeAt : ℕ
-portModeAt = startOf portForm 1
+portModeAt = placeOf portForm "mode"
 
 abbrev pub pathPortAt : ℕ
-pathPortAt = 1 + startOf pathForm 1
+pathPortAt = 1 + placeOf pathForm "port"
 
 abbrev pub pathHopsAt : ℕ
-pathHopsAt = 1 + startOf pathForm 2
+pathHopsAt = 1 + placeOf pathForm "hops"
 
 abbrev pub pathNextHopAt : ℕ
-pathNextHopAt = 1 + startOf pathForm 3
+pathNextHopAt = 1 + placeOf pathForm "next hop"
 
 abbrev pub pathExpiryAt : ℕ
-pathExpiryAt = 1 + startOf pathForm 4
+pathExpiryAt = 1 + placeOf pathForm "expiry"
 
 abbrev pub pathBlobsAt : ℕ
-pathBlobsAt = 1 + startOf pathForm 5
+pathBlobsAt = 1 + placeOf pathForm "blobs"
 
 -- a path's blobs: their count, then the places
 abbrev pub blobsWidth : ℕ
 blobsWidth = code blobsForm .width
 
 abbrev pub blobPlacesAt : ℕ
-blobPlacesAt = startOf blobsForm 1
+blobPlacesAt = placeOf blobsForm "places"
 
 -- the places in the path's record
 abbrev pub pathPlacesAt : ℕ
 pathPlacesAt = pathBlobsAt + blobPlacesAt
 
 abbrev pub linkAskingAt : ℕ
-linkAskingAt = 1 + startOf linkForm 1
+linkAskingAt = 1 + placeOf linkForm "asking"
 
 abbrev pub linkAnsweringAt : ℕ
-linkAnsweringAt = 1 + startOf linkForm 2
+linkAnsweringAt = 1 + placeOf linkForm "answering"
 
 abbrev pub linkProvedAt : ℕ
-linkProvedAt = 1 + startOf linkForm 5
+linkProvedAt = 1 + placeOf linkForm "proved"
 
 abbrev pub linkExpiryAt : ℕ
-linkExpiryAt = 1 + startOf linkForm 6
+linkExpiryAt = 1 + placeOf linkForm "expiry"
 
 abbrev pub returnArrivalAt : ℕ
-returnArrivalAt = 1 + startOf returnForm 1
+returnArrivalAt = 1 + placeOf returnForm "arrival"
 
 abbrev pub returnLeavingAt : ℕ
-returnLeavingAt = 1 + startOf returnForm 2
+returnLeavingAt = 1 + placeOf returnForm "leaving"
 
 abbrev pub returnExpiryAt : ℕ
-returnExpiryAt = 1 + startOf returnForm 3
+returnExpiryAt = 1 + placeOf returnForm "expiry"
 
 abbrev pub hashExpiryAt : ℕ
-hashExpiryAt = 1 + startOf hashForm 1
+hashExpiryAt = 1 + placeOf hashForm "expiry"

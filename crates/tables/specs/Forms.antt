@@ -5,9 +5,9 @@ use mathlib.Core.Bool.{Bool}
 use mathlib.Core.List.{List}
 use mathlib.Core.Path.{refl}
 use lib.Dec.{ltb}
-use Rattle.codes.specs.Form.{Form, byte, mark, numberIn, octetsIn, _&_, many, slot, that, asRecord}
+use Rattle.codes.specs.Form.{Form, byte, mark, numberIn, octetsIn, field, _&_, many, slot, that, asRecord}
 use Rattle.numbers.specs.Numbers.{portCount, localCount, pathCount, blobLimit, linkCount, returnCount, hashCount}
-use Rattle.rules.specs.Relay.{Port, noPort, Slot, empty, Blobs, Path, Return, Remembered, Ring, Relay}
+use Rattle.rules.specs.Relay.{Port, noPort, Slot, empty, Blobs, Path, Return, Remembered, Ring, Relay, makePort, makePath, makeLink, withLinkState, makeReturn, makeRemembered, makeRing, makeRelay}
 use Rattle.rules.specs.Blobs.{noBlob}
 use Rattle.rules.specs.Refusals.{timeOk, portOk, pathOk, linkOk, returnOk, hashOk}
 use Rattle.rules.specs.declared.Link.{Link}
@@ -28,12 +28,12 @@ blobWidth = 10
 abbrev pub ringWidth : ℕ
 ringWidth = 2
 
--- ---- a port's settings. No slot: an noPort port keeps its mode
+-- ---- a port's settings. No slot: a port that is off keeps its mode
 abbrev pub toPort : Bool × ℕ → Port
-toPort (on, mode) = record { on = on; mode = mode }
+toPort (on, mode) = makePort on mode
 
 abbrev pub portForm : Form Port
-portForm = that portOk (asRecord toPort (λ p. (p .on, p .mode)) (λ x. refl) (λ y. refl) (mark & byte))
+portForm = that portOk (asRecord toPort (λ p. (p .on, p .mode)) (λ x. refl) (λ y. refl) (field "on" mark & field "mode" byte))
 
 -- ---- a local address
 abbrev pub localForm : Form (List ℕ)
@@ -46,33 +46,36 @@ toBlobs (count, places) = record { count = count; places = places }
 abbrev pub blobsForm : Form Blobs
 blobsForm =
     asRecord toBlobs (λ b. (b .count, b .places)) (λ x. refl) (λ y. refl)
-    (byte & many blobLimit noBlob (octetsIn blobWidth))
+    (field "count" byte & field "places" (many blobLimit noBlob (octetsIn blobWidth)))
 
-abbrev pub toPath : List ℕ × (ℕ × (ℕ × (List ℕ × (ℕ × Blobs)))) → Path
-toPath (destination, (port, (hops, (nextHop, (expiry, blobs))))) =
-    record { destination = destination; port = port; hops = hops; nextHop = nextHop; expiry = expiry; blobs = blobs }
+-- what stands before the blobs
+abbrev pub Head : Type 0
+Head = List ℕ × (ℕ × (ℕ × (List ℕ × ℕ)))
+
+abbrev pub headForm : Form Head
+headForm =
+    field "destination" (octetsIn addressWidth)
+    & field "port" byte
+    & field "hops" byte
+    & field "next hop" (octetsIn addressWidth)
+    & field "expiry" (numberIn timeWidth)
+
+abbrev pub toPath : Head × Blobs → Path
+toPath ((destination, (port, (hops, (nextHop, expiry)))), blobs) = makePath destination port hops nextHop expiry blobs
 
 abbrev pub pathForm : Form Path
 pathForm =
     that pathOk
     (asRecord toPath
-    (λ p. (p .destination, (p .port, (p .hops, (p .nextHop, (p .expiry, p .blobs))))))
+    (λ p. ((p .destination, (p .port, (p .hops, (p .nextHop, p .expiry)))), p .blobs))
     (λ x. refl)
     (λ y. refl)
-    (octetsIn addressWidth & byte & byte & octetsIn addressWidth & numberIn timeWidth & blobsForm))
+    (headForm & field "blobs" blobsForm))
 
 -- ---- a link
 abbrev pub toLink : List ℕ × (ℕ × (ℕ × (ℕ × (ℕ × (Bool × ℕ))))) → Link
 toLink (id, (asking, (answering, (taken, (remaining, (proved, expiry)))))) =
-    record {
-      id = id;
-      asking = asking;
-      answering = answering;
-      taken = record { 0 = taken };
-      remaining = record { 0 = remaining };
-      proved = proved;
-      expiry = expiry;
-    }
+    withLinkState proved expiry (makeLink id asking answering taken remaining expiry)
 
 abbrev pub linkForm : Form Link
 linkForm =
@@ -81,52 +84,49 @@ linkForm =
     (λ l. (l .id, (l .asking, (l .answering, (l .taken .0, (l .remaining .0, (l .proved, l .expiry)))))))
     (λ x. refl)
     (λ y. refl)
-    (octetsIn addressWidth & byte & byte & byte & byte & mark & numberIn timeWidth))
+    (field "id" (octetsIn addressWidth)
+    & field "asking" byte
+    & field "answering" byte
+    & field "taken" byte
+    & field "remaining" byte
+    & field "proved" mark
+    & field "expiry" (numberIn timeWidth)))
 
 -- ---- a return record
 abbrev pub toReturn : List ℕ × (ℕ × (ℕ × ℕ)) → Return
-toReturn (key, (arrival, (leaving, expiry))) = record { key = key; arrival = arrival; leaving = leaving; expiry = expiry }
+toReturn (key, (arrival, (leaving, expiry))) = makeReturn key arrival leaving expiry
 
 abbrev pub returnForm : Form Return
 returnForm =
     that returnOk
     (asRecord toReturn (λ t. (t .key, (t .arrival, (t .leaving, t .expiry)))) (λ x. refl) (λ y. refl)
-    (octetsIn addressWidth & byte & byte & numberIn timeWidth))
+    (field "key" (octetsIn addressWidth) & field "arrival" byte & field "leaving" byte & field "expiry" (numberIn timeWidth)))
 
 -- ---- a remembered hash
 abbrev pub toHash : List ℕ × ℕ → Remembered
-toHash (hash, expiry) = record { hash = hash; expiry = expiry }
+toHash (hash, expiry) = makeRemembered hash expiry
 
 abbrev pub hashForm : Form Remembered
 hashForm =
     that hashOk
-    (asRecord toHash (λ m. (m .hash, m .expiry)) (λ x. refl) (λ y. refl) (octetsIn digestWidth & numberIn timeWidth))
+    (asRecord toHash (λ m. (m .hash, m .expiry)) (λ x. refl) (λ y. refl)
+    (field "hash" (octetsIn digestWidth) & field "expiry" (numberIn timeWidth)))
 
 -- ---- a ring: its next place, then its n records
 abbrev pub below : ℕ → ℕ → Bool
 below n place = ltb place n
 
 abbrev pub toRing : {A : Type 0} → ℕ × List (Slot A) → Ring A
-toRing (next, slots) = record { slots = slots; next = next }
+toRing (next, slots) = makeRing slots next
 
 abbrev pub ringForm : {A : Type 0} → ℕ → Form A → Form (Ring A)
 ringForm n f =
     asRecord toRing (λ r. (r .next, r .slots)) (λ x. refl) (λ y. refl)
-    (that (below n) (numberIn ringWidth) & many n empty (slot f))
+    (field "next" (that (below n) (numberIn ringWidth)) & field "slots" (many n empty (slot f)))
 
 -- ---- the tables
 abbrev pub toRelay : List ℕ × (ℕ × (List Port × (List (Slot (List ℕ)) × (List (Slot Path) × (List (Slot Link) × (Ring Return × Ring Remembered)))))) → Relay
-toRelay (own, (clock, (ports, (locals, (paths, (links, (returns, hashes))))))) =
-    record {
-      own = own;
-      clock = clock;
-      ports = ports;
-      locals = locals;
-      paths = paths;
-      links = links;
-      returns = returns;
-      hashes = hashes;
-    }
+toRelay (own, (clock, (ports, (locals, (paths, (links, (returns, hashes))))))) = makeRelay own clock ports locals paths links returns hashes
 
 abbrev pub relayForm : Form Relay
 relayForm =
@@ -134,11 +134,11 @@ relayForm =
     (λ r. (r .own, (r .clock, (r .ports, (r .locals, (r .paths, (r .links, (r .returns, r .hashes))))))))
     (λ x. refl)
     (λ y. refl)
-    (octetsIn addressWidth
-    & that timeOk (numberIn timeWidth)
-    & many portCount noPort portForm
-    & many localCount empty (slot localForm)
-    & many pathCount empty (slot pathForm)
-    & many linkCount empty (slot linkForm)
-    & ringForm returnCount returnForm
-    & ringForm hashCount hashForm)
+    (field "own" (octetsIn addressWidth)
+    & field "clock" (that timeOk (numberIn timeWidth))
+    & field "ports" (many portCount noPort portForm)
+    & field "locals" (many localCount empty (slot localForm))
+    & field "paths" (many pathCount empty (slot pathForm))
+    & field "links" (many linkCount empty (slot linkForm))
+    & field "returns" (ringForm returnCount returnForm)
+    & field "hashes" (ringForm hashCount hashForm))

@@ -4,5 +4,6 @@ pub mod Places
 pub mod Fields
 pub mod Records
 pub mod Layout
+pub mod Called
 pub mod Shape
 pub mod Groups

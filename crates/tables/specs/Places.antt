@@ -1,7 +1,7 @@
 -- Where each section of the tables stands, and how wide its records are, as the layout has it.
 use mathlib.Core.Path.{_≡_, refl}
 use Prim.Native.Nat.{ℕ, _+_}
-use Rattle.codes.specs.Form.{slot, code, startOf}
+use Rattle.codes.specs.Form.{slot, code, placeOf}
 use Rattle.numbers.specs.Numbers.{returnCount, hashCount}
 use Rattle.tables.specs.Forms.{portForm, localForm, pathForm, linkForm, returnForm, hashForm, ringForm, relayForm}
 pub use Rattle.tables.specs.Forms.{addressWidth, digestWidth, timeWidth, blobWidth, ringWidth}
@@ -27,35 +27,35 @@ hashWidth = code (slot hashForm) .width
 
 -- ---- sections
 abbrev pub ownAt : ℕ
-ownAt = startOf relayForm 0
+ownAt = placeOf relayForm "own"
 
 abbrev pub clockAt : ℕ
-clockAt = startOf relayForm 1
+clockAt = placeOf relayForm "clock"
 
 abbrev pub portsAt : ℕ
-portsAt = startOf relayForm 2
+portsAt = placeOf relayForm "ports"
 
 abbrev pub localsAt : ℕ
-localsAt = startOf relayForm 3
+localsAt = placeOf relayForm "locals"
 
 abbrev pub pathsAt : ℕ
-pathsAt = startOf relayForm 4
+pathsAt = placeOf relayForm "paths"
 
 abbrev pub linksAt : ℕ
-linksAt = startOf relayForm 5
+linksAt = placeOf relayForm "links"
 
 -- the returns' ring place stands before its records, and the hashes' too
 abbrev pub returnNextAt : ℕ
-returnNextAt = startOf relayForm 6
+returnNextAt = placeOf relayForm "returns"
 
 abbrev pub returnsAt : ℕ
-returnsAt = returnNextAt + startOf (ringForm returnCount returnForm) 1
+returnsAt = returnNextAt + placeOf (ringForm returnCount returnForm) "slots"
 
 abbrev pub hashNextAt : ℕ
-hashNextAt = startOf relayForm 7
+hashNextAt = placeOf relayForm "hashes"
 
 abbrev pub hashesAt : ℕ
-hashesAt = hashNextAt + startOf (ringForm hashCount hashForm) 1
+hashesAt = hashNextAt + placeOf (ringForm hashCount hashForm) "slots"
 
 abbrev pub tableSize : ℕ
 tableSize = code relayForm .width

@@ -1,10 +1,12 @@
-// Where each field stands in its record: specs/Fields.antt in code. Each number once. A record's first byte is its mark, used or not; a port's
-// is its on mark.
+// Where each field stands in its record: specs/Fields.antt in code. Each number once. A record's first byte is its
+// mark, used or not; a port's is its on mark.
 use super::places::ADDRESS_WIDTH;
 use super::places::DIGEST_WIDTH;
 use super::places::TIME_WIDTH;
 
-pub const PORT_MODE_AT: usize = 1;
+pub const PORT_ON_AT: usize = 0;
+
+pub const PORT_MODE_AT: usize = PORT_ON_AT + 1;
 
 pub const PATH_DESTINATION_AT: usize = 1;
 

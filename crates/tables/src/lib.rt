@@ -20,6 +20,7 @@ use section_check::paths_ok;
 use section_check::ports_ok;
 use section_check::returns_ok;
 ghost use mathlib.Core.Path.{_≡_};
+ghost use Rattle.tables.specs.Records.{markOf};
 ghost use Rattle.tables.specs.Layout.{wellFormed};
 
 // Whether the tables are well formed: refusal 7 is given exactly when they are not. Ends on any bytes of any length.
@@ -54,4 +55,14 @@ pub fn check(tables: &[u8]) -> bool
         return false;
     }
     hashes_ok(tables)
+}
+
+// A mark: 1 yes, 0 no.
+pub fn mark_of(answer: bool) -> u8
+    ensures { λ r. ⌜ r ≡ markOf answer ⌝ }
+{
+    if answer {
+        return 1;
+    }
+    0
 }

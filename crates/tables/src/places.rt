@@ -2,6 +2,7 @@
 use super::fields::HASH_EXPIRY_AT;
 use super::fields::LINK_EXPIRY_AT;
 use super::fields::PATH_BLOBS_AT;
+use super::fields::PORT_MODE_AT;
 use super::fields::RETURN_EXPIRY_AT;
 use numbers::BLOB_LIMIT;
 use numbers::HASH_COUNT;
@@ -21,7 +22,7 @@ pub const BLOB_WIDTH: usize = 10;
 
 pub const RING_WIDTH: usize = 2;
 
-pub const PORT_WIDTH: usize = 2;
+pub const PORT_WIDTH: usize = PORT_MODE_AT + 1;
 
 pub const LOCAL_WIDTH: usize = 1 + ADDRESS_WIDTH;
 
@@ -33,7 +34,9 @@ pub const RETURN_WIDTH: usize = RETURN_EXPIRY_AT + TIME_WIDTH;
 
 pub const HASH_WIDTH: usize = HASH_EXPIRY_AT + TIME_WIDTH;
 
-pub const CLOCK_AT: usize = ADDRESS_WIDTH;
+pub const OWN_AT: usize = 0;
+
+pub const CLOCK_AT: usize = OWN_AT + ADDRESS_WIDTH;
 
 pub const PORTS_AT: usize = CLOCK_AT + TIME_WIDTH;
 

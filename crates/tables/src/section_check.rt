@@ -1,5 +1,5 @@
-// Row 7 for each section of the tables, record by record. Returns and hashes go in groups of sixteen, of which one that is all zeros is
-// passed by one OR over its bytes.
+// Row 7 for each section of the tables, record by record. Returns and hashes go in groups of sixteen, of which one
+// that is all zeros is passed by one OR over its bytes.
 use super::places::HASH_WIDTH;
 use super::places::HASHES_AT;
 use super::places::LINK_WIDTH;

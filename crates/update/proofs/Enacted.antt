@@ -11,7 +11,7 @@ use Rattle.octets.specs.Choice.{_then_otherwise_}
 use Rattle.octets.proofs.Choice.{then-false}
 use Rattle.packet.specs.Header.{typeTwo, isData}
 use Rattle.numbers.specs.Numbers.{blobLimit, pathCount, linkCount, returnCount, hashCount, pathLifetime, hashLifetime, returnLifetime}
-use Rattle.rules.specs.Relay.{Slot, empty, used, Ring, Blobs, Path, Return, Remembered, Relay, withClock, withPaths, withLinks, withReturns}
+use Rattle.rules.specs.Relay.{Slot, empty, used, Ring, Blobs, Path, Return, Remembered, makeReturn, makeRemembered, withSlots, Relay, withClock, withPaths, withLinks, withReturns}
 use Rattle.rules.specs.View.{View, pathPlace, linkPlace, returnPlace, freePath, freeLink, isLiveReturn}
 use Rattle.rules.specs.Arrival.{Arrival, header, hops, relayAddress, destination, hash, blob}
 use Rattle.rules.specs.Blobs.{oneBlob, addBlob}
@@ -59,12 +59,12 @@ module _ (v : View) (a : Arrival) (t : List ℕ) (b : Bytes t) (h : wellFormed t
     clock-stamped = clock-step r e (a .clock) refl
 
     pub hash-stamped : (key : List ℕ) (place : ℕ) → key ≡ hash a → place ≡ before .hashes .next → r .hashes ≡ before .hashes
-        → hashWritten (clockWritten u (a .clock)) place (record { hash = key; expiry = a .clock + hashLifetime })
+        → hashWritten (clockWritten u (a .clock)) place (makeRemembered key (a .clock + hashLifetime))
         ≡ bytesOf (remember a (withClock (a .clock) r))
     unfolding remember withClock
     hash-stamped key place is next same =
         let within : place < hashCount = subst (λ (k : ℕ). k < hashCount) (sym next) (hash-next-within t h) in
-        hash-step (withClock (a .clock) r) clock-stamped place (record { hash = key; expiry = a .clock + hashLifetime })
+        hash-step (withClock (a .clock) r) clock-stamped place (makeRemembered key (a .clock + hashLifetime))
         (ap (λ (x : Ring Remembered). length (x .slots)) same ∙ hashes-length t) within (next ∙ ap (λ (x : Ring Remembered). x .next) (sym same)) refl
         ∙ rw is
 
@@ -99,7 +99,7 @@ module _ (v : View) (a : Arrival) (t : List ℕ) (b : Bytes t) (h : wellFormed t
       → first ≡ returnKey a → out ≡ p .port → slot ≡ before .returns .next
       → u
       ≡ returnWritten (returnsEmptied (a .clock) first t) slot
-      (record { key = first; arrival = a .port; leaving = out; expiry = a .clock + returnLifetime })
+      (makeReturn first (a .port) out (a .clock + returnLifetime))
       → u ≡ bytesOf (writeWay v a (by-path p) before)
   unfolding writeWay putReturn returnRecord returnsEmptied emptiedWhere withReturns _then_otherwise_
   return-written p first out slot u isd q1 q2 q3 e =
@@ -131,4 +131,4 @@ module _ (v : View) (a : Arrival) (t : List ℕ) (b : Bytes t) (h : wellFormed t
   unfolding writeWay emptyReturn
   return-emptied x slot u within live e =
       emptied-step before held slot (returns-length t) within e
-      ∙ ap (λ (k : ℕ). bytesOf (withReturns (record { slots = set (before .returns .slots) k empty; next = before .returns .next }) before)) live
+      ∙ ap (λ (k : ℕ). bytesOf (withReturns (withSlots (set (before .returns .slots) k empty) (before .returns)) before)) live

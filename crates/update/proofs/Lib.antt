@@ -1,4 +1,3 @@
-pub mod Pieces
 pub mod PathWrites
 pub mod Sweep
 pub mod Steps

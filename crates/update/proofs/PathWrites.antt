@@ -11,24 +11,24 @@ use borrow.Rule.Slice.PartMut.{putMid}
 use Rattle.octets.specs.Index.{listOf}
 use Rattle.octets.specs.Choice.{_then_otherwise_}
 use Rattle.octets.specs.Part.{part, patch, joined, fields}
-use Rattle.octets.proofs.BigEndian.{bigEndian-length}
 use Rattle.octets.proofs.ListOf.{listOf-length, listOf-cong}
-use Rattle.octets.proofs.Part.{part-length, part-one, part-part, part-split, part-whole, patch-whole, part-range, patch-range}
+use Rattle.octets.proofs.Part.{part-length, part-one, part-part, part-split, part-whole, patch-length, patch-join, patch-whole, part-range, patch-range}
 use Rattle.octets.proofs.Joined.{joined-append, joined-one, joined-parts, fields-all}
 use Rattle.codes.specs.Form.{byte, octetsIn, many}
 use Rattle.codes.proofs.Forms.{lawful}
-use Rattle.codes.proofs.Inside.{Inside, here, first, next, item, inRecord, _within_}
+use Rattle.codes.proofs.Pieces.{written, fields-written, marked-written}
+use Rattle.codes.proofs.Inside.{Inside, item, _within_, named}
 use Rattle.numbers.specs.Numbers.{blobLimit}
 use Rattle.rules.specs.Relay.{used, Blobs}
 use Rattle.rules.specs.Blobs.{noBlob, oneBlob, addBlob}
-use Rattle.tables.specs.Forms.{blobsForm}
+use Rattle.tables.specs.Forms.{blobsForm, headForm}
 use Rattle.tables.specs.Places.{blobWidth, pathWidth}
 use Rattle.tables.specs.Fields.{blobsWidth, blobPlacesAt, pathBlobsAt}
 use Rattle.tables.specs.Records.{exactly, slotBytes, blobsOf, blobsBytes, pathBytes}
-use Rattle.tables.proofs.All.{exactly-length, exactly-same}
+use Rattle.tables.proofs.All.{exactly-same}
+use Rattle.tables.proofs.Section.{part-behind}
 use Rattle.update.specs.declared.Announced.{Announced}
-use Rattle.update.specs.Written.{announced, headWidth, headBytes, newerWidth, blobsIn}
-use Rattle.update.proofs.Pieces.{Wrote, more, marked}
+use Rattle.update.specs.Written.{headOf, announced, headWidth, headBytes, newerWidth, blobsIn}
 
 blobs-length : (s : Blobs) → length (blobsBytes s) ≡ blobsWidth
 unfolding blobsBytes
@@ -36,10 +36,10 @@ blobs-length s = lawful blobsForm .wide s
 
 -- ---- where their parts stand
 abbrev count-in : Inside blobsForm byte
-count-in = inRecord first
+count-in = named blobsForm "count" .inside
 
 abbrev places-in : Inside blobsForm (many blobLimit noBlob (octetsIn blobWidth))
-places-in = inRecord (next here)
+places-in = named blobsForm "places" .inside
 
 -- ---- a new path's
 spare : (n : ℕ) → joined (exactly blobWidth) (replicate n noBlob) ≡ replicate (blobWidth * n) 0
@@ -50,19 +50,21 @@ spare (suc n) =
     ∙ replicate-append-replicate blobWidth (blobWidth * n) 0
     ∙ ap (λ (k : ℕ). replicate k 0) (let e : blobWidth + blobWidth * n ≡ blobWidth * suc n = omega arith in e)
 
-pub one-pieces : (s s1 s2 s3 blob : List ℕ) → length s ≡ blobsWidth → length blob ≡ blobWidth
-    → s1 ≡ patch s 0 (1 ∷ []) → s2 ≡ patch s1 blobPlacesAt blob → s3 ≡ patch s2 (blobPlacesAt + blobWidth) (replicate newerWidth 0)
-    → s3 ≡ blobsBytes (oneBlob blobLimit blob)
+pub one-written : (s blob : List ℕ) → length s ≡ blobsWidth → length blob ≡ blobWidth
+    → patch (patch (patch s 0 (1 ∷ [])) blobPlacesAt blob) (blobPlacesAt + blobWidth) (replicate newerWidth 0) ≡ blobsBytes (oneBlob blobLimit blob)
 unfolding blobsBytes oneBlob joined
-one-pieces s s1 s2 s3 blob ls lb e1 e2 e3 =
-    let w2 = more blob (marked e1) e2 lb (omega arith) in
-    let w3 = more (replicate newerWidth 0) w2 e3 (length-replicate {A = ℕ} newerWidth 0) (omega arith) in
-    w3 .is
-    ∙ patch-whole s _ (w3 .long ∙ sym ls)
-    ∙ ap (λ (x : List ℕ). 1 ∷ x)
-    (sym
+one-written s blob ls lb =
+    let marked : List ℕ = patch s 0 (1 ∷ []) in
+    let long = patch-length s 0 (1 ∷ []) (omega arith) in
+    let zeros = length-replicate {A = ℕ} newerWidth 0 in
+    let places : blob ++ replicate newerWidth 0 ≡ fields (exactly blobWidth) blobLimit noBlob (oneBlob blobLimit blob .places) =
+    sym
     (fields-all (exactly blobWidth) blobLimit noBlob (blob ∷ replicate (blobLimit - 1) noBlob) (ap suc (length-replicate (blobLimit - 1) noBlob))
-    ∙ ap₂ (λ (x y : List ℕ). x ++ y) (exactly-same blobWidth blob lb) (spare (blobLimit - 1))))
+    ∙ ap₂ (λ (x y : List ℕ). x ++ y) (exactly-same blobWidth blob lb) (spare (blobLimit - 1))) in
+    patch-join marked blobPlacesAt (blobPlacesAt + blobWidth) blob (replicate newerWidth 0) (omega arith) (omega arith)
+    ∙ ap (patch marked blobPlacesAt) places
+    ∙ fields-written blobsForm (oneBlob blobLimit blob) s 0 (omega arith)
+    ∙ patch-whole s (blobsBytes (oneBlob blobLimit blob)) (blobs-length (oneBlob blobLimit blob) ∙ sym ls)
 
 -- ---- a known path's
 listOf-first : {A : Type 0} (f : ℕ → A) (n : ℕ) → listOf f (suc n) ≡ f 0 ∷ listOf (λ i. f (suc i)) n
@@ -111,28 +113,24 @@ module _ (s : List ℕ) (ls : length s ≡ blobsWidth) where
       ∙ run (blobPlacesAt + blobWidth) (blobLimit - 1) (omega arith)
 
   module _ (blob : List ℕ) (lb : length blob ≡ blobWidth) where
-    pub added : (s1 s2 : List ℕ) → getD s 0 0 < blobLimit → s1 ≡ patch s 0 ((getD s 0 0 + 1) ∷ [])
-        → s2 ≡ patch s1 (blobPlacesAt + blobWidth * getD s 0 0) blob
-        → s2 ≡ blobsBytes (addBlob blobLimit blob (blobsIn s))
+    pub added : getD s 0 0 < blobLimit
+        → patch (patch s 0 ((getD s 0 0 + 1) ∷ [])) (blobPlacesAt + blobWidth * getD s 0 0) blob ≡ blobsBytes (addBlob blobLimit blob (blobsIn s))
     unfolding blobsBytes addBlob _then_otherwise_ blobsIn
-    added s1 s2 l e1 e2 =
+    added l =
         let count : ℕ = getD s 0 0 in
         let more : Blobs = record { count = count + 1; places = blobsIn s .places } in
-        let counted : s1 ≡ blobsBytes more =
-        e1 ∙ ap (λ (x : List ℕ). patch x 0 ((count + 1) ∷ [])) whole ∙ count-in .place .patched (blobsIn s) (count + 1) tt in
+        let counted : patch s 0 ((count + 1) ∷ []) ≡ blobsBytes more =
+        ap (λ (x : List ℕ). patch x 0 ((count + 1) ∷ [])) whole ∙ count-in .place .patched (blobsIn s) (count + 1) tt in
         rw (lt-ltb count blobLimit l)
-        (e2
-        ∙ ap₂ (λ (x y : List ℕ). patch x (blobPlacesAt + blobWidth * count) y) counted (sym (exactly-same blobWidth blob lb))
+        (ap₂ (λ (x y : List ℕ). patch x (blobPlacesAt + blobWidth * count) y) counted (sym (exactly-same blobWidth blob lb))
         ∙ (item count l within places-in) .place .patched more blob (tt, places-length))
 
-    pub push-pieces : (kept s1 s2 : List ℕ) → kept ≡ part s (blobPlacesAt + blobWidth) newerWidth → s1 ≡ patch s blobPlacesAt kept
-        → s2 ≡ patch s1 (blobPlacesAt + newerWidth) blob
-        → s2 ≡ patch s blobPlacesAt (part s (blobPlacesAt + blobWidth) newerWidth ++ blob)
-    push-pieces kept s1 s2 e0 e1 e2 =
-        let newest : List ℕ = part s (blobPlacesAt + blobWidth) newerWidth in
-        let w1 : Wrote s blobPlacesAt newest newerWidth s1 =
-        record { is = e1 ∙ ap (patch s blobPlacesAt) e0; long = part-length s (blobPlacesAt + blobWidth) newerWidth (omega arith) } in
-        more blob w1 e2 lb (omega arith) .is
+    -- those behind the oldest, one place down, and the new one behind them
+    pub all-moved : patch (patch s blobPlacesAt (part s (blobPlacesAt + blobWidth) newerWidth)) (blobPlacesAt + newerWidth) blob
+        ≡ patch s blobPlacesAt (part s (blobPlacesAt + blobWidth) newerWidth ++ blob)
+    all-moved =
+        let long = part-length s (blobPlacesAt + blobWidth) newerWidth (omega arith) in
+        patch-join s blobPlacesAt (blobPlacesAt + newerWidth) (part s (blobPlacesAt + blobWidth) newerWidth) blob (omega arith) (omega arith)
 
     full : blobLimit ≤ getD s 0 0 → blobLimit ≤ blobsIn s .count
     unfolding blobsIn
@@ -156,15 +154,12 @@ module _ (s : List ℕ) (ls : length s ≡ blobsWidth) where
 -- ---- the record: what stands before its blobs is written first
 head-length : (x : Announced) → length (headBytes x) ≡ headWidth
 unfolding headBytes
-head-length x = simp (length-append, exactly-length, bigEndian-length)
+head-length x = let l = lawful headForm .wide (headOf x) in omega (arith, l)
 
-part-behind : (t x : List ℕ) (a k n : ℕ) → a + length x ≡ k → k ≤ length t → part (patch t a x) k n ≡ part t k n
-unfolding part patch
-part-behind t x a k n e fits =
-    ap (take n)
-    (ap (drop k) (sym (append-assoc (take a t) x (drop (a + length x) t)))
-    ∙ drop-at (take a t ++ x) (drop (a + length x) t) k (length-append (take a t) x ∙ ap (λ (m : ℕ). m + length x) (length-take-le a t (omega arith)) ∙ e)
-    ∙ ap (λ (m : ℕ). drop m t) e)
+pub head-written : (t : List ℕ) (a : ℕ) (x : Announced) → a + headWidth ≤ length t
+    → written headForm (headOf x) (patch t a (1 ∷ [])) a 1 ≡ patch t a (headBytes x)
+unfolding headBytes
+head-written t a x fits = marked-written headForm (headOf x) t a fits
 
 -- the blobs of a record at a
 behind-head : (t : List ℕ) (a : ℕ) → blobsIn (part t (a + headWidth) blobsWidth) ≡ blobsOf (part t a pathWidth)
@@ -184,10 +179,12 @@ module _ (t t1 : List ℕ) (a : ℕ) (x : Announced) (fits : a + pathWidth ≤ l
       → putMid from (from + blobsWidth - from) t1 s ≡ patch t a (slotBytes pathWidth pathBytes (used (announced x blobs)))
   unfolding slotBytes pathBytes blobsBytes announced headBytes
   path-put s blobs e =
-      let w1 : Wrote t a (headBytes x) headWidth t1 = record { is = e1; long = head-length x } in
-      let put : putMid from (from + blobsWidth - from) t1 s ≡ patch t1 from (blobsBytes blobs) =
-      ap (putMid from (from + blobsWidth - from) t1) e ∙ patch-range t1 from blobsWidth (blobsBytes blobs) (blobs-length blobs) in
-      more (blobsBytes blobs) w1 put (blobs-length blobs) (omega arith) .is ∙ ap (patch t a) (simp append-assoc)
+      let long = head-length x in
+      let wide = blobs-length blobs in
+      ap (putMid from (from + blobsWidth - from) t1) e
+      ∙ patch-range t1 from blobsWidth (blobsBytes blobs) wide
+      ∙ ap (λ (u : List ℕ). patch u from (blobsBytes blobs)) e1
+      ∙ patch-join t a from (headBytes x) (blobsBytes blobs) (omega arith) (omega arith)
 
   pub blobs-kept : blobsIn (take (from + blobsWidth - from) (drop from t1)) ≡ blobsOf (part t a pathWidth)
   blobs-kept =

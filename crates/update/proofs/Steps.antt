@@ -8,7 +8,7 @@ use borrow.Author.Tests.{ltb-true}
 use Rattle.octets.specs.Part.{patch}
 use Rattle.octets.specs.BigEndian.{bigEndian}
 use Rattle.numbers.specs.Numbers.{pathCount, linkCount, returnCount, hashCount}
-use Rattle.rules.specs.Relay.{empty, used, Path, Return, Remembered, Relay, withClock, withPaths, withLinks, withReturns, withHashes}
+use Rattle.rules.specs.Relay.{empty, used, Path, Return, Remembered, makeRing, withSlots, Relay, withClock, withPaths, withLinks, withReturns, withHashes}
 use Rattle.rules.specs.Writes.{putNext}
 use Rattle.rules.specs.declared.Link.{Link}
 use Rattle.tables.specs.Places.{timeWidth, ringWidth, pathWidth, linkWidth, returnWidth, hashWidth, clockAt, pathsAt, linksAt, returnNextAt, returnsAt, hashNextAt, hashesAt}
@@ -37,7 +37,7 @@ module _ (r : Relay) {t u : List ℕ} (e : t ≡ bytesOf r) where
         w ∙ ap (λ (y : List ℕ). patch y (linksAt + linkWidth * place) (slotBytes linkWidth linkBytes (used x))) e ∙ patch-link r place (used x) n l
 
     pub emptied-step : length (r .returns .slots) ≡ returnCount → place < returnCount → u ≡ returnEmptied t place
-        → u ≡ bytesOf (withReturns (record { slots = set (r .returns .slots) place empty; next = r .returns .next }) r)
+        → u ≡ bytesOf (withReturns (withSlots (set (r .returns .slots) place empty) (r .returns)) r)
     unfolding returnEmptied
     emptied-step n l w =
         w ∙ ap (λ (y : List ℕ). patch y (returnsAt + returnWidth * place) (slotBytes returnWidth returnBytes empty)) e ∙ patch-return r place empty n l
@@ -47,23 +47,25 @@ module _ (r : Relay) {t u : List ℕ} (e : t ≡ bytesOf r) where
         → u ≡ bytesOf (withReturns (putNext returnCount (used x) (r .returns)) r)
     unfolding returnWritten putNext withReturns
     return-step x n l q w =
-        let r1 : Relay = withReturns (record { slots = set (r .returns .slots) place (used x); next = r .returns .next }) r in
+        let r1 : Relay = withReturns (withSlots (set (r .returns .slots) place (used x)) (r .returns)) r in
         w
-        ∙ ap (λ (y : List ℕ). patch (patch y (returnsAt + returnWidth * place) (slotBytes returnWidth returnBytes (used x))) returnNextAt (bigEndian ringWidth ((place + 1) % returnCount))) e
+        ∙ ap (λ (y : List ℕ). patch (patch y (returnsAt + returnWidth * place) (slotBytes returnWidth returnBytes (used x))) returnNextAt
+        (bigEndian ringWidth ((place + 1) % returnCount))) e
         ∙ ap (λ (y : List ℕ). patch y returnNextAt (bigEndian ringWidth ((place + 1) % returnCount))) (patch-return r place (used x) n l)
         ∙ patch-return-next r1 ((place + 1) % returnCount)
-        ∙ ap (λ (k : ℕ). bytesOf (withReturns (record { slots = set (r .returns .slots) k (used x); next = (k + 1) % returnCount }) r)) q
+        ∙ ap (λ (k : ℕ). bytesOf (withReturns (makeRing (set (r .returns .slots) k (used x)) ((k + 1) % returnCount)) r)) q
 
     pub hash-step : (x : Remembered) → length (r .hashes .slots) ≡ hashCount → place < hashCount → place ≡ r .hashes .next → u ≡ hashWritten t place x
         → u ≡ bytesOf (withHashes (putNext hashCount (used x) (r .hashes)) r)
     unfolding hashWritten putNext withHashes
     hash-step x n l q w =
-        let r1 : Relay = withHashes (record { slots = set (r .hashes .slots) place (used x); next = r .hashes .next }) r in
+        let r1 : Relay = withHashes (withSlots (set (r .hashes .slots) place (used x)) (r .hashes)) r in
         w
-        ∙ ap (λ (y : List ℕ). patch (patch y (hashesAt + hashWidth * place) (slotBytes hashWidth hashBytes (used x))) hashNextAt (bigEndian ringWidth ((place + 1) % hashCount))) e
+        ∙ ap (λ (y : List ℕ). patch (patch y (hashesAt + hashWidth * place) (slotBytes hashWidth hashBytes (used x))) hashNextAt
+        (bigEndian ringWidth ((place + 1) % hashCount))) e
         ∙ ap (λ (y : List ℕ). patch y hashNextAt (bigEndian ringWidth ((place + 1) % hashCount))) (patch-hash r place (used x) n l)
         ∙ patch-hash-next r1 ((place + 1) % hashCount)
-        ∙ ap (λ (k : ℕ). bytesOf (withHashes (record { slots = set (r .hashes .slots) k (used x); next = (k + 1) % hashCount }) r)) q
+        ∙ ap (λ (k : ℕ). bytesOf (withHashes (makeRing (set (r .hashes .slots) k (used x)) ((k + 1) % hashCount)) r)) q
 
 -- the next ring places of well-formed tables
 module _ (t : List ℕ) (h : wellFormed t ≡ true) where

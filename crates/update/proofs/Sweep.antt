@@ -15,7 +15,7 @@ use Rattle.octets.proofs.Part.{part-length}
 use Rattle.octets.proofs.ListOf.{mixed, mixed-length, mixed-at, mixed-more, mixed-all}
 use Rattle.codes.proofs.Inside.{item, _within_}
 use Rattle.numbers.specs.Numbers.{returnCount}
-use Rattle.rules.specs.Relay.{Slot, empty, Return, Relay, holds, withReturns}
+use Rattle.rules.specs.Relay.{Slot, empty, Return, withSlots, Relay, holds, withReturns}
 use Rattle.rules.specs.View.{isLiveReturn}
 use Rattle.rules.specs.Writes.{emptiedIf, emptiedWhere}
 use Rattle.tables.specs.Places.{addressWidth, returnWidth, returnsAt}
@@ -46,7 +46,7 @@ module _ (clock : ℕ) (key t : List ℕ) where
 
   -- the relay of t, with the first i places swept
   pub sweptTo : ℕ → Relay
-  sweptTo i = withReturns (record { slots = mixed i new old; next = relayOf t .returns .next }) (relayOf t)
+  sweptTo i = withReturns (withSlots (mixed i new old) (relayOf t .returns)) (relayOf t)
 
   alike : length new ≡ length old
   alike = length-map old (emptiedIf (isLiveReturn clock key))
@@ -54,7 +54,7 @@ module _ (clock : ℕ) (key t : List ℕ) where
   pub sweep-done : (i : ℕ) → returnCount ≤ i → bytesOf (sweptTo i) ≡ returnsEmptied clock key t
   unfolding sweptTo returnsEmptied emptiedWhere
   sweep-done i l =
-      ap (λ (ss : List (Slot Return)). bytesOf (withReturns (record { slots = ss; next = relayOf t .returns .next }) (relayOf t)))
+      ap (λ (ss : List (Slot Return)). bytesOf (withReturns (withSlots ss (relayOf t .returns)) (relayOf t)))
       (mixed-all new old alike i (subst (λ (n : ℕ). n ≤ i) (sym (returns-length t)) l))
 
   module _ (b : Bytes t) (h : wellFormed t ≡ true) where
@@ -86,10 +86,10 @@ module _ (clock : ℕ) (key t : List ℕ) where
       swept = List·getD-map (emptiedIf (isLiveReturn clock key)) old i empty
 
       next-relay : (slot : Slot Return) → slot ≡ getD new i empty
-          → withReturns (record { slots = set (mixed i new old) i slot; next = relayOf t .returns .next }) (relayOf t) ≡ sweptTo (i + 1)
+          → withReturns (withSlots (set (mixed i new old) i slot) (relayOf t .returns)) (relayOf t) ≡ sweptTo (i + 1)
       unfolding sweptTo
       next-relay slot q =
-          ap (λ (ss : List (Slot Return)). withReturns (record { slots = ss; next = relayOf t .returns .next }) (relayOf t))
+          ap (λ (ss : List (Slot Return)). withReturns (withSlots ss (relayOf t .returns)) (relayOf t))
           (ap (set (mixed i new old) i) q ∙ mixed-more new old alike i empty inside)
 
       pub sweep-more : (v : List ℕ) → v ≡ emptiedIfLive clock key u i → v ≡ bytesOf (sweptTo (i + 1))
@@ -110,5 +110,5 @@ module _ (clock : ℕ) (key t : List ℕ) where
               stays
               ∙ e
               ∙ ap bytesOf
-              (ap (λ (ss : List (Slot Return)). withReturns (record { slots = ss; next = relayOf t .returns .next }) (relayOf t)) (sym (set-getD (mixed i new old) i empty))
+              (ap (λ (ss : List (Slot Return)). withReturns (withSlots ss (relayOf t .returns)) (relayOf t)) (sym (set-getD (mixed i new old) i empty))
               ∙ next-relay (getD (mixed i new old) i empty) same)

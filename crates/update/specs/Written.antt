@@ -1,7 +1,7 @@
 -- What each write leaves in the tables' bytes t: a record over the one at its place, and what goes with it.
 -- For the contracts of helpers: not part of what a reader must believe.
 use Prim.Native.Nat.{ℕ, _+_, _-_, _*_, _%_}
-use mathlib.Core.List.{List, _∷_, _++_}
+use mathlib.Core.List.{List, _∷_}
 use Rattle.octets.specs.Choice.{_then_otherwise_}
 use Rattle.octets.specs.Part.{patch}
 use Rattle.octets.specs.BigEndian.{bigEndian}
@@ -11,10 +11,10 @@ use Rattle.rules.specs.View.{isLiveReturn}
 use Rattle.rules.specs.Writes.{emptiedWhere}
 use Rattle.rules.specs.declared.Link.{Link}
 use Rattle.codes.specs.Form.{code}
-use Rattle.tables.specs.Forms.{blobsForm}
-use Rattle.tables.specs.Places.{addressWidth, timeWidth, ringWidth, blobWidth, pathWidth, linkWidth, returnWidth, hashWidth, clockAt, pathsAt, linksAt, returnNextAt, returnsAt, hashNextAt, hashesAt}
+use Rattle.tables.specs.Forms.{blobsForm, Head, headForm, toPath}
+use Rattle.tables.specs.Places.{timeWidth, ringWidth, blobWidth, pathWidth, linkWidth, returnWidth, hashWidth, clockAt, pathsAt, linksAt, returnNextAt, returnsAt, hashNextAt, hashesAt}
 use Rattle.tables.specs.Fields.{pathBlobsAt}
-use Rattle.tables.specs.Records.{exactly, slotOf, slotBytes, pathBytes, linkBytes, returnOf, returnBytes, hashBytes}
+use Rattle.tables.specs.Records.{slotOf, slotBytes, pathBytes, linkBytes, returnOf, returnBytes, hashBytes}
 use Rattle.tables.specs.Layout.{recordAt, relayOf, bytesOf}
 use Rattle.update.specs.declared.Announced.{Announced}
 
@@ -31,27 +31,19 @@ hashWritten t place m =
 unfoldable pub pathWritten : List ℕ → ℕ → Path → List ℕ
 pathWritten t place p = patch t (pathsAt + pathWidth * place) (slotBytes pathWidth pathBytes (used p))
 
--- the path of an announce, with these blobs
+-- what an announce sets of a path, and the path with these blobs
+abbrev pub headOf : Announced → Head
+headOf x = (x .destination, (x .port, (x .hops, (x .«next_hop», x .expiry))))
+
 unfoldable pub announced : Announced → Blobs → Path
-announced x blobs =
-    record {
-      destination = x .destination;
-      port = x .port;
-      hops = x .hops;
-      nextHop = x .«next_hop»;
-      expiry = x .expiry;
-      blobs = blobs;
-    }
+announced x blobs = toPath (headOf x, blobs)
 
 -- a record's bytes before its blobs
 abbrev pub headWidth : ℕ
 headWidth = pathBlobsAt
 
 unfoldable pub headBytes : Announced → List ℕ
-headBytes x =
-    1
-    ∷ (exactly addressWidth (x .destination)
-    ++ (x .port ∷ x .hops ∷ (exactly addressWidth (x .«next_hop») ++ bigEndian timeWidth (x .expiry))))
+headBytes x = 1 ∷ code headForm .write (headOf x)
 
 -- the bytes of the blob places behind the oldest
 abbrev pub newerWidth : ℕ

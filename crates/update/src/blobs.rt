@@ -34,7 +34,8 @@ pub fn one_blob(s: &mut [u8], blob: [u8; 10])
 // Moves all blobs one place down, over the oldest, and puts the new one into the last place.
 fn push_blob(s: &mut [u8], blob: [u8; 10])
     requires { ⌜ length (now s) ≡ blobsWidth ⌝ }
-    ensures { λ _. ⌜ now (s .exit) ≡ patch (now (s .entry)) blobPlacesAt (part (now (s .entry)) (blobPlacesAt + blobWidth) newerWidth ++ blob) ⌝ }
+    ensures { λ _. ⌜ now (s .exit) ≡ patch (now (s .entry)) blobPlacesAt
+        (part (now (s .entry)) (blobPlacesAt + blobWidth) newerWidth ++ blob) ⌝ }
 {
     let mut newer = [0u8; NEWER];
     octets::copy(&mut newer, &s[SECOND_AT..SECOND_AT + NEWER]);

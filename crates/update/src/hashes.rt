@@ -11,6 +11,7 @@ ghost use mathlib.Core.Path.{_≡_};
 ghost use Prim.Native.Nat.{_<_};
 ghost use lib.ListN.{length};
 ghost use Rattle.numbers.specs.Numbers.{hashCount};
+ghost use Rattle.rules.specs.Relay.{makeRemembered};
 ghost use Rattle.tables.specs.Places.{tableSize};
 ghost use Rattle.tables.specs.Layout.{relayOf};
 ghost use Rattle.update.specs.Written.{hashWritten};
@@ -26,7 +27,7 @@ pub fn next_hash(tables: &[u8]) -> usize
 // Remembers a hash at a place, the ring's next one, which moves on.
 pub fn remember(tables: &mut [u8], place: usize, hash: [u8; 32], expiry: u64)
     requires { ⌜ (length (now tables) ≡ tableSize) × (place < hashCount) ⌝ }
-    ensures { λ _. ⌜ now (tables .exit) ≡ hashWritten (now (tables .entry)) place (record { hash = hash; expiry = expiry }) ⌝ }
+    ensures { λ _. ⌜ now (tables .exit) ≡ hashWritten (now (tables .entry)) place (makeRemembered hash expiry) ⌝ }
 {
     let at = HASHES_AT + HASH_WIDTH * place;
     octets::set_at(tables, at, 1);

@@ -1,5 +1,6 @@
 // What an accepted packet writes into the tables' bytes: the last clock, and one record of a table.
-// Every function here is a helper: the caller shows the tables' size and that a place is within its table. No entry points.
+// Every function here is a helper: the caller shows the tables' size and that a place is within its table. No entry
+// points.
 mod blobs;
 mod hashes;
 mod links;

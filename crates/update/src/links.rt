@@ -1,8 +1,13 @@
 // The links.
 use rules::Link;
+use tables::fields::LINK_ANSWERING_AT;
 use tables::fields::LINK_ASKING_AT;
 use tables::fields::LINK_EXPIRY_AT;
 use tables::fields::LINK_ID_AT;
+use tables::fields::LINK_PROVED_AT;
+use tables::fields::LINK_REMAINING_AT;
+use tables::fields::LINK_TAKEN_AT;
+use tables::mark_of;
 use tables::places::LINK_WIDTH;
 use tables::places::LINKS_AT;
 use tables::places::TIME_WIDTH;
@@ -11,14 +16,7 @@ ghost use Prim.Native.Nat.{_<_};
 ghost use lib.ListN.{length};
 ghost use Rattle.numbers.specs.Numbers.{linkCount};
 ghost use Rattle.tables.specs.Places.{tableSize};
-ghost use Rattle.tables.specs.Records.{markOf};
 ghost use Rattle.update.specs.Written.{linkWritten};
-
-fn mark(answer: bool) -> u8
-    ensures { λ r. ⌜ r ≡ markOf answer ⌝ }
-{
-    if answer { 1 } else { 0 }
-}
 
 // Puts a link at a place.
 pub fn put_link(tables: &mut [u8], place: usize, link: Link)
@@ -29,15 +27,12 @@ pub fn put_link(tables: &mut [u8], place: usize, link: Link)
     let id = link.id;
     let taken = link.taken;
     let remaining = link.remaining;
-    let between = [
-        link.asking,
-        link.answering,
-        taken.0,
-        remaining.0,
-        mark(link.proved),
-    ];
     octets::set_at(tables, at, 1);
     octets::copy_at(tables, at + LINK_ID_AT, &id);
-    octets::copy_at(tables, at + LINK_ASKING_AT, &between);
+    octets::set_at(tables, at + LINK_ASKING_AT, link.asking);
+    octets::set_at(tables, at + LINK_ANSWERING_AT, link.answering);
+    octets::set_at(tables, at + LINK_TAKEN_AT, taken.0);
+    octets::set_at(tables, at + LINK_REMAINING_AT, remaining.0);
+    octets::set_at(tables, at + LINK_PROVED_AT, mark_of(link.proved));
     octets::write_number_at(tables, at + LINK_EXPIRY_AT, TIME_WIDTH, link.expiry);
 }

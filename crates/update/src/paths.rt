@@ -5,6 +5,7 @@ use super::blobs::one_blob;
 use tables::fields::PATH_BLOB_COUNT_AT;
 use tables::fields::PATH_DESTINATION_AT;
 use tables::fields::PATH_EXPIRY_AT;
+use tables::fields::PATH_HOPS_AT;
 use tables::fields::PATH_NEXT_HOP_AT;
 use tables::fields::PATH_PORT_AT;
 use tables::places::PATH_WIDTH;
@@ -30,11 +31,11 @@ fn put_head(tables: &mut [u8], at: usize, path: Announced)
     ensures { λ _. ⌜ now (tables .exit) ≡ patch (now (tables .entry)) at (headBytes path) ⌝ }
 {
     let destination = path.destination;
-    let port_and_hops = [path.port, path.hops];
     let next_hop = path.next_hop;
     octets::set_at(tables, at, 1);
     octets::copy_at(tables, at + PATH_DESTINATION_AT, &destination);
-    octets::copy_at(tables, at + PATH_PORT_AT, &port_and_hops);
+    octets::set_at(tables, at + PATH_PORT_AT, path.port);
+    octets::set_at(tables, at + PATH_HOPS_AT, path.hops);
     octets::copy_at(tables, at + PATH_NEXT_HOP_AT, &next_hop);
     octets::write_number_at(tables, at + PATH_EXPIRY_AT, TIME_WIDTH, path.expiry);
 }
@@ -42,7 +43,8 @@ fn put_head(tables: &mut [u8], at: usize, path: Announced)
 // Puts a new path at a place, spare blob places zero.
 pub fn put_new_path(tables: &mut [u8], place: usize, path: Announced, blob: [u8; 10])
     requires { ⌜ (length (now tables) ≡ tableSize) × (place < pathCount) ⌝ }
-    ensures { λ _. ⌜ now (tables .exit) ≡ pathWritten (now (tables .entry)) place (announced path (oneBlob blobLimit blob)) ⌝ }
+    ensures { λ _. ⌜ now (tables .exit) ≡ pathWritten (now (tables .entry)) place
+        (announced path (oneBlob blobLimit blob)) ⌝ }
 {
     let at = PATHS_AT + PATH_WIDTH * place;
     put_head(tables, at, path);
@@ -53,7 +55,9 @@ pub fn put_new_path(tables: &mut [u8], place: usize, path: Announced, blob: [u8;
 // Puts a known path, which keeps its place, with a blob added to those that the record holds.
 pub fn put_known_path(tables: &mut [u8], place: usize, path: Announced, blob: [u8; 10])
     requires { ⌜ (length (now tables) ≡ tableSize) × (place < pathCount) ⌝ }
-    ensures { λ _. ⌜ now (tables .exit) ≡ pathWritten (now (tables .entry)) place (announced path (addBlob blobLimit blob (blobsOf (recordAt pathsAt pathWidth (now (tables .entry)) place)))) ⌝ }
+    ensures { λ _. ⌜ now (tables .exit) ≡ pathWritten (now (tables .entry)) place
+        (announced path (addBlob blobLimit blob
+        (blobsOf (recordAt pathsAt pathWidth (now (tables .entry)) place)))) ⌝ }
 {
     let at = PATHS_AT + PATH_WIDTH * place;
     put_head(tables, at, path);

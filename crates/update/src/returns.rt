@@ -3,6 +3,7 @@ use numbers::RETURN_COUNT;
 use tables::fields::RETURN_ARRIVAL_AT;
 use tables::fields::RETURN_EXPIRY_AT;
 use tables::fields::RETURN_KEY_AT;
+use tables::fields::RETURN_LEAVING_AT;
 use tables::places::RETURN_NEXT_AT;
 use tables::places::RETURN_WIDTH;
 use tables::places::RETURNS_AT;
@@ -13,7 +14,7 @@ ghost use mathlib.Core.Bool.{true};
 ghost use Prim.Native.Nat.{_<_};
 ghost use lib.ListN.{length};
 ghost use Rattle.numbers.specs.Numbers.{returnCount};
-ghost use Rattle.rules.specs.Relay.{holds};
+ghost use Rattle.rules.specs.Relay.{makeReturn, holds};
 ghost use Rattle.rules.specs.View.{isLiveReturn};
 ghost use Rattle.tables.specs.Places.{tableSize, addressWidth, returnWidth};
 ghost use Rattle.tables.specs.Records.{slotOf, returnOf};
@@ -38,13 +39,14 @@ pub fn put_return(
     expiry: u64,
 )
     requires { ⌜ (length (now tables) ≡ tableSize) × (place < returnCount) ⌝ }
-    ensures { λ _. ⌜ now (tables .exit) ≡ returnWritten (now (tables .entry)) place (record { key = key; arrival = arrival; leaving = leaving; expiry = expiry }) ⌝ }
+    ensures { λ _. ⌜ now (tables .exit) ≡ returnWritten (now (tables .entry)) place
+        (makeReturn key arrival leaving expiry) ⌝ }
 {
     let at = RETURNS_AT + RETURN_WIDTH * place;
-    let ports = [arrival, leaving];
     octets::set_at(tables, at, 1);
     octets::copy_at(tables, at + RETURN_KEY_AT, &key);
-    octets::copy_at(tables, at + RETURN_ARRIVAL_AT, &ports);
+    octets::set_at(tables, at + RETURN_ARRIVAL_AT, arrival);
+    octets::set_at(tables, at + RETURN_LEAVING_AT, leaving);
     octets::write_number_at(tables, at + RETURN_EXPIRY_AT, TIME_WIDTH, expiry);
     let next = (place + 1) % RETURN_COUNT;
     octets::write_number_at(tables, RETURN_NEXT_AT, RING_WIDTH, next as u64);

@@ -1,24 +1,36 @@
-//! Every deliberate fault must be noticed: the core is compared with an independent relay that has it.
+//! Every deliberate fault must be noticed: the core is compared with an independent program that has it, on traffic; and where no traffic
+//! can show it, on packets.
 
 use super::lockstep::{compare, Difference};
-use super::{shrink, Options, Tally};
+use super::{packet, shrink, Options, Tally};
 use crate::engine::Call;
-use crate::faults::{Fault, With};
+use crate::faults::{self, Fault, OF_PACKETS};
 use crate::linked::Core;
 use crate::relay::Relay;
+use crate::rules::{AsWritten, Rules};
 
 /// With `--damage` the relay has no fault after all, and few calls show that much.
 const DAMAGED_CALLS: usize = 500;
+/// Packets show a fault by their edges: random ones are few.
+const RANDOM_PACKETS: usize = 20;
 
 pub fn run(options: &Options, tally: &mut Tally) {
-    let tried: Vec<Fault> = options.fault.map_or(Fault::ALL.to_vec(), |fault| vec![fault]);
-    for fault in tried {
+    for fault in options.fault.map_or_else(faults::all, |fault| vec![fault]) {
         let difference = notice(options, fault);
-        tally.holds(&format!("{} is noticed ({})", fault.name(), fault.text()), difference.is_some(), false);
-        if let (Some(difference), true) = (difference, options.fault.is_some()) {
-            let shown = |calls: &[Call]| differs(fault, calls.iter().cloned()).map(|difference| difference.calls);
-            println!("{}: {}\n{difference}", fault.name(), fault.text());
-            println!("{}", shrink::again(&format!("faults --fault {}", fault.name()), options, difference.calls, shown));
+        let noticed = difference.is_some() || in_packets(options, fault);
+        tally.holds(&format!("{} is noticed ({})", fault.name, fault.text), noticed, false);
+        if options.fault.is_none() {
+            continue;
+        }
+        println!("{}: {}\n    against \"{}\"", fault.name, fault.text, fault.breaks);
+        match difference {
+            Some(difference) => {
+                let shown = |calls: &[Call]| differs(fault, calls.iter().cloned()).map(|difference| difference.calls);
+                println!("{difference}");
+                println!("{}", shrink::again(&format!("faults --fault {}", fault.name), options, difference.calls, shown));
+            }
+            None if noticed => println!("    by packets alone"),
+            None => {}
         }
     }
 }
@@ -33,5 +45,18 @@ fn notice(options: &Options, fault: Fault) -> Option<Difference> {
 
 /// The first call on which the core differs from a relay with a fault.
 pub fn differs(fault: Fault, calls: impl Iterator<Item = Call>) -> Option<Difference> {
-    compare(calls, Core, Relay::new(With(fault)))
+    compare(calls, Core, fault.relay())
+}
+
+/// Does the comparison of packets show a fault that traffic can't?
+fn in_packets(options: &Options, fault: Fault) -> bool {
+    let of_packets = OF_PACKETS.concat().iter().any(|other| other.name == fault.name);
+    of_packets && if options.damage { packets_differ(AsWritten) } else { packets_differ(fault.rules()) }
+}
+
+/// Does a reading of packets differ from the core's?
+pub fn packets_differ(rules: impl Rules) -> bool {
+    let mut tally = Tally::silent();
+    packet::compare_with(rules, &Options { count: RANDOM_PACKETS, ..Options::default() }, &mut tally);
+    tally.failed > 0
 }

@@ -82,14 +82,23 @@ impl Called {
 }
 
 /// Counts comparisons, and shows the first few that fail.
-#[derive(Default)]
 pub struct Tally {
     pub passed: usize,
     pub failed: usize,
+    shown: usize,
+}
+
+impl Default for Tally {
+    fn default() -> Self {
+        Self { passed: 0, failed: 0, shown: 5 }
+    }
 }
 
 impl Tally {
-    const SHOWN: usize = 5;
+    /// One that shows nothing.
+    pub fn silent() -> Self {
+        Self { shown: 0, ..Self::default() }
+    }
 
     /// Compares two calls. With `--damage` what is expected is wrong.
     pub fn call(&mut self, what: &str, got: Called, expected: Called, damage: bool) {
@@ -114,7 +123,7 @@ impl Tally {
     /// Counts a comparison that failed.
     pub fn fail(&mut self, what: &str) {
         self.failed += 1;
-        if self.failed <= Self::SHOWN {
+        if self.failed <= self.shown {
             println!("{what}");
         }
     }

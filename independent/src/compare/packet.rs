@@ -1,13 +1,14 @@
 //! Packets: the core against the sources' worked bytes, and against the independent reader, writer, hashes and announce fields.
 
 use super::{Called, Options, Tally};
-use crate::answer::Refusal;
-use crate::core::{self, crossing};
-use crate::faults::{AsWritten, Reading};
-use crate::line;
-use crate::packet::{self, Address, Header, Parts, LONGEST};
+use crate::core::LINE;
+use crate::engine::PacketCalls;
+use crate::limits::LONGEST;
+use crate::linked::Core;
+use crate::packet::{self, Header, Parts};
 use crate::random::Random;
-use crate::sha256::Sha256;
+use crate::relay::Relay;
+use crate::rules::{AsWritten, Rules};
 use crate::vectors::{bytes, Worked, WORKED};
 
 /// Lengths where an answer can change: the shortest of both types, a payload of 64 bytes in both, the longest; and some around them.
@@ -25,36 +26,22 @@ const QUESTIONS: [&str; 5] = ["reading", "the payload's place", "packet hash", "
 /// The answers, in that order; worked bytes give no line.
 type Answers = Vec<Called>;
 
-/// A refusal leaves the buffer as it was.
-fn called<const N: usize>(result: Result<[u8; N], Refusal>) -> Called {
-    result.map_or_else(|refusal| Called::new(refusal.number(), &[BEFORE; N]), |bytes| Called::new(0u8, &bytes))
-}
-
-fn call<const N: usize>(function: fn(&[u8], &mut [u8; N]) -> u8, packet: &[u8]) -> Called {
+fn call<const N: usize>(function: impl Fn(&mut [u8; N]) -> u8) -> Called {
     let mut buffer = [BEFORE; N];
-    let refusal = function(packet, &mut buffer);
+    let refusal = function(&mut buffer);
     Called::new(refusal, &buffer)
 }
 
-fn core_answers(packet: &[u8]) -> Answers {
-    let place = core::payload_start(packet) as u64;
-    let mut text = [BEFORE; core::LINE];
-    let length = core::line(packet, &mut text) as u64;
+fn answers(program: &dyn PacketCalls, packet: &[u8]) -> Answers {
+    let mut text = [BEFORE; LINE];
+    let length = program.line(packet, &mut text) as u64;
     vec![
-        call(core::read, packet),
-        Called::new(place, &[]),
-        call(core::packet_hash, packet),
-        call(core::link_id, packet),
+        call(|parts| program.read(packet, parts)),
+        Called::new(program.payload_start(packet) as u64, &[]),
+        call(|hash| program.packet_hash(packet, hash)),
+        call(|id| program.link_id(packet, id)),
         Called::new(length, &text),
     ]
-}
-
-/// A line with its end, and zeros behind it.
-fn line_called(line: &str) -> Called {
-    let mut text = [0; core::LINE];
-    text[..line.len()].copy_from_slice(line.as_bytes());
-    text[line.len()] = b'\n';
-    Called::new(line.len() as u64 + 1, &text)
 }
 
 fn worked_answers(worked: &Worked) -> Answers {
@@ -62,27 +49,14 @@ fn worked_answers(worked: &Worked) -> Answers {
     vec![Called::new(0u8, &parts), Called::new(19u8, &[]), Called::new(0u8, &bytes(worked.hash)), Called::new(0u8, &bytes(worked.link_id))]
 }
 
-struct Comparison<'a, R: Reading> {
+struct Comparison<'a, R: Rules> {
     options: &'a Options,
     tally: &'a mut Tally,
     random: Random,
-    sha: Sha256,
-    reading: R,
+    own: Relay<R>,
 }
 
-impl<R: Reading> Comparison<'_, R> {
-    fn own_answers(&self, packet: &[u8]) -> Answers {
-        let payload = packet::payload(packet);
-        let parts = packet::read(packet, LONGEST, self.reading);
-        vec![
-            called(parts.map(|parts| crossing(&parts))),
-            Called::new((packet.len() - payload.len()) as u64, &[]),
-            called(parts.map(|parts| packet::packet_hash(&self.sha, &parts, payload, self.reading))),
-            called(parts.map(|parts| packet::link_id(&self.sha, &parts, payload, self.reading))),
-            line_called(&line::line(packet)),
-        ]
-    }
-
+impl<R: Rules> Comparison<'_, R> {
     fn expect(&mut self, what: &str, got: Called, expected: Called) {
         self.tally.call(what, got, expected, self.options.damage);
     }
@@ -96,22 +70,21 @@ impl<R: Reading> Comparison<'_, R> {
     /// All questions; and if the packet reads, its parts and payload are written again.
     fn packet(&mut self, what: &str, packet: &[u8]) {
         let what = format!("{what}, {} bytes, header {:02x?}", packet.len(), packet.first());
-        self.answers(&what, core_answers(packet), self.own_answers(packet));
-        if let Ok(parts) = packet::read(packet, LONGEST, self.reading) {
-            self.writing(&format!("{what}, written again"), &parts, packet::payload(packet), LONGEST + 20);
+        self.answers(&what, answers(&Core, packet), answers(&self.own, packet));
+        if let Ok(parts) = packet::read(&AsWritten, packet, LONGEST) {
+            self.writing(&format!("{what}, written again"), &parts, &packet[packet::payload_place(packet)..], LONGEST + 20);
         }
     }
 
     fn writing(&mut self, what: &str, parts: &Parts, payload: &[u8], room: usize) {
-        let mut own = self.random.bytes(room);
-        let mut output = own.clone();
-        let number = match packet::write(parts, payload, &mut own) {
-            Ok(length) => (length as u64) << 16,
-            Err(refusal) => refusal.number().into(),
+        let before = self.random.bytes(room);
+        let written = |program: &dyn PacketCalls| {
+            let mut output = before.clone();
+            let number = program.write(parts, payload, &mut output);
+            Called::new(number, &output)
         };
-        let got = core::write(&crossing(parts), payload, &mut output);
-        let what = format!("{what}: writing header {:02x}, {} bytes into {room}", parts.header.0, payload.len());
-        self.expect(&what, Called::new(got, &output), Called::new(number, &own));
+        let (got, own) = (written(&Core), written(&self.own));
+        self.expect(&format!("{what}: writing header {:02x}, {} bytes into {room}", parts.header.0, payload.len()), got, own);
     }
 
     fn random_packet(&mut self, length: usize, header: u8) -> Vec<u8> {
@@ -136,8 +109,8 @@ impl<R: Reading> Comparison<'_, R> {
     fn worked(&mut self) {
         for worked in WORKED {
             let packet = worked.packet();
-            self.answers(&format!("{}, independent", worked.source), self.own_answers(&packet), worked_answers(worked));
-            self.answers(&format!("{}, core", worked.source), core_answers(&packet), worked_answers(worked));
+            self.answers(&format!("{}, independent", worked.source), answers(&self.own, &packet), worked_answers(worked));
+            self.answers(&format!("{}, core", worked.source), answers(&Core, &packet), worked_answers(worked));
         }
     }
 
@@ -190,35 +163,35 @@ impl<R: Reading> Comparison<'_, R> {
         packet
     }
 
+    /// A number that both programs give.
+    fn number(&mut self, what: &str, asked: impl Fn(&dyn PacketCalls) -> u64) {
+        let (got, own) = (asked(&Core), asked(&self.own));
+        self.expect(what, Called::new(got, &[]), Called::new(own, &[]));
+    }
+
     fn announces(&mut self) {
         for header in 0..=255 {
             for context in [0, 1] {
                 let parts = Parts { header: Header(header), context, ..Parts::default() };
-                let own = packet::least_announce(&parts, self.reading) as u64;
-                let got = core::least_announce(header) as u64;
-                self.expect(&format!("least announce of header {header:02x}"), Called::new(got, &[]), Called::new(own, &[]));
+                self.number(&format!("least announce of header {header:02x}"), |program| program.least_announce(&parts) as u64);
             }
         }
         for length in 0..=LONGEST {
             let payload = self.random.bytes(length);
-            let mut destination = [BEFORE; 16];
-            core::announced_destination(&payload, &mut destination);
-            let own = self.announced(&payload);
-            self.expect(&format!("destination announced in {length} bytes"), Called::new(0u8, &destination), Called::new(0u8, &own));
+            let announced = |program: &dyn PacketCalls| {
+                let mut destination = [BEFORE; 16];
+                program.announced_destination(&payload, &mut destination);
+                Called::new(0u8, &destination)
+            };
+            let (got, own) = (announced(&Core), announced(&self.own));
+            self.expect(&format!("destination announced in {length} bytes"), got, own);
         }
         let edge = [0, 0, 0, 0, 0, 0x00, 0x65, 0x53, 0xf1, 0x00];
-        self.expect("document 01's emission", Called::new(core::emission(&edge), &[]), Called::new(1_700_000_000u64, &[]));
+        self.expect("document 01's emission", Called::new(Core.emission(&edge), &[]), Called::new(1_700_000_000u64, &[]));
         for _ in 0..self.options.count {
             let blob = self.random.array();
-            let own = packet::emission(&blob, self.reading);
-            self.expect(&format!("emission of {blob:02x?}"), Called::new(core::emission(&blob), &[]), Called::new(own, &[]));
+            self.number(&format!("emission of {blob:02x?}"), |program| program.emission(&blob));
         }
-    }
-
-    /// Document 01 asks for it only where the payload is long enough; of a shorter one, keys and name hash are what there is of them.
-    fn announced(&self, payload: &[u8]) -> Address {
-        let (keys, rest) = payload.split_at(payload.len().min(64));
-        packet::destination(&self.sha, keys, &rest[..rest.len().min(10)])
     }
 }
 
@@ -226,9 +199,9 @@ pub fn run(options: &Options, tally: &mut Tally) {
     compare_with(AsWritten, options, tally);
 }
 
-/// Compares the core with the independent program as it reads document 01, or with a fault.
-pub fn compare_with(reading: impl Reading, options: &Options, tally: &mut Tally) {
-    let mut c = Comparison { options, tally, random: Random::new(options.seed), sha: Sha256::default(), reading };
+/// Compares the core with the independent program that reads the scope document so.
+pub fn compare_with<R: Rules>(rules: R, options: &Options, tally: &mut Tally) {
+    let mut c = Comparison { options, tally, random: Random::new(options.seed), own: Relay::new(rules) };
     c.worked();
     c.headers();
     c.lengths();

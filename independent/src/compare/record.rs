@@ -35,7 +35,7 @@ fn number(call: &Call, outcome: &Outcome) -> u64 {
 
 /// Writes the calls that the options name, with what the independent relay makes of them.
 pub fn record(options: &Options, path: &Path) -> Result<usize, String> {
-    let calls: Vec<Call> = options.traffic().collect();
+    let calls: Vec<Call> = options.traffic().filter(Call::is_recorded).collect();
     let mut run = Run::new(Relay::as_written());
     let lines = calls.iter().map(|call| match run.make(call) {
         Some(outcome) => format!("{call} = {:x} {:016x}", number(call, &outcome), left_by(call, &run)),

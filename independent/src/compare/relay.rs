@@ -4,9 +4,9 @@ use super::lockstep::{compare, step, Coverage, Difference};
 use super::shrink::again;
 use super::{Options, Tally};
 use crate::engine::{Call, Engine, Run};
-use crate::faults::Tuned;
 use crate::linked::Core;
 use crate::relay::Relay;
+use crate::rules::Tuned;
 
 /// Each that can be reached is reached at least so often.
 const LEAST: usize = 100;

@@ -3,14 +3,12 @@
 use super::{Options, Tally};
 use crate::answer::{Answer, Verdict};
 use crate::engine::{Call, Engine, Outcome, Run};
-use crate::faults::AsWritten;
 use crate::linked::Core;
 use crate::random::Random;
+use crate::relay::renumbering::{renumber, Map};
 use crate::relay::Relay;
-use crate::tables;
+use crate::rules::AsWritten;
 use crate::traffic::Traffic;
-
-type Map = [u8; 16];
 
 const IDENTITY: Map = [0, 1, 2, 3, 4, 5, 6, 7, 8, 9, 10, 11, 12, 13, 14, 15];
 /// A renumbering is put in once in so many calls.
@@ -89,7 +87,7 @@ impl<E: Engine> Pair<E> {
         plain == renamed
             && self.plain.output == self.renamed.output
             && self.plain.tally == self.renamed.tally
-            && tables::renumber(&mut tables, &self.map, AsWritten).is_ok()
+            && renumber(&AsWritten, &mut tables, &self.map).is_ok()
             && tables == self.renamed.tables
     }
 }

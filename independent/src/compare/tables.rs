@@ -6,12 +6,12 @@ use super::lockstep::Coverage;
 use super::{Called, Options, Tally};
 use crate::core;
 use crate::engine::{Call, Outcome, Run};
-use crate::faults::{AsWritten, Reading};
 use crate::packet::Address;
 use crate::random::Random;
 use crate::relay::Relay;
+use crate::rules::{AsWritten, Rules, Tuned};
 use crate::samples::{self, Fill, FIELDS, RECORDS, RINGS};
-use crate::tables::{check, check_tuned, LOCALS, SIZE};
+use crate::tables::{LOCALS, PATHS, SIZE};
 use crate::traffic::Traffic;
 
 /// Each clause is broken, and kept, at least so often.
@@ -55,7 +55,7 @@ fn changes() -> Vec<Change> {
 /// A few bytes anywhere, in a tenth of the cases among the settings.
 fn set_any(random: &mut Random, tables: &mut [u8]) {
     for _ in 0..1 + random.below(3) {
-        let at = if random.one_in(10) { random.below(328) } else { random.below(SIZE) };
+        let at = if random.one_in(10) { random.below(PATHS.records.start) } else { random.below(SIZE) };
         tables[at] = random.pick(&[0, 1, 2, 15, 16, 255]);
     }
 }
@@ -114,11 +114,10 @@ fn a_call(random: &mut Random, tables: &[u8]) -> Call {
     }
 }
 
-struct Comparison<'a, R: Reading> {
+struct Comparison<'a, R: Rules> {
     options: &'a Options,
     tally: &'a mut Tally,
     random: Random,
-    reading: R,
     /// The independent program on traffic.
     traffic: Run<Relay<R>>,
     /// And on tables that are changed.
@@ -128,7 +127,7 @@ struct Comparison<'a, R: Reading> {
     calls: Coverage,
 }
 
-impl<R: Reading> Comparison<'_, R> {
+impl<R: Rules> Comparison<'_, R> {
     /// Of tables only the first byte that differs is shown.
     fn expect(&mut self, what: &str, got: Called, expected: Called) {
         let turn = self.tally.passed + self.tally.failed;
@@ -146,8 +145,8 @@ impl<R: Reading> Comparison<'_, R> {
     fn check(&mut self, what: &str) -> bool {
         let called = |allowed: bool| Called::new(u8::from(allowed), &[]);
         let tables = &self.changed.tables;
-        let (got, tuned) = (Called::new(core::check(tables), &[]), called(check_tuned(tables)));
-        let (allowed, as_written) = (check(tables, self.reading), called(check(tables, AsWritten)));
+        let (got, tuned) = (Called::new(core::check(tables), &[]), called(Tuned.tables_allowed(tables)));
+        let (allowed, as_written) = (self.changed.engine.rules.tables_allowed(tables), called(AsWritten.tables_allowed(tables)));
         self.expect(&format!("{what}, check"), got, called(allowed));
         self.expect(&format!("{what}, tuned check"), tuned, as_written);
         allowed
@@ -181,7 +180,7 @@ impl<R: Reading> Comparison<'_, R> {
         if self.random.one_in(8) {
             let fill = self.random.pick(&Fill::ALL);
             self.allowed = samples::filled(&mut self.random, fill);
-        } else if check(&self.traffic.tables, AsWritten) {
+        } else if AsWritten.tables_allowed(&self.traffic.tables) {
             self.allowed.clone_from(&self.traffic.tables);
         }
         self.changed.tables.clone_from(&self.allowed);
@@ -227,14 +226,13 @@ pub fn run(options: &Options, tally: &mut Tally) {
 }
 
 /// Compares the core with the independent program that reads the scope document so.
-pub fn compare_with<R: Reading>(reading: R, options: &Options, tally: &mut Tally) -> Reached {
+pub fn compare_with<R: Rules + Clone>(rules: R, options: &Options, tally: &mut Tally) -> Reached {
     let mut c = Comparison {
         options,
         tally,
         random: Random::new(options.seed),
-        reading,
-        traffic: Run::new(Relay::new(reading)),
-        changed: Run::new(Relay::new(reading)),
+        traffic: Run::new(Relay::new(rules.clone())),
+        changed: Run::new(Relay::new(rules)),
         allowed: vec![0; SIZE],
         calls: Coverage::default(),
     };

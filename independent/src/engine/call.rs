@@ -1,5 +1,6 @@
 //! A call on a relay as a value, and as a line of text that can be read back: by hand, by this program, or by a host in another language.
 
+use crate::answer::Tally;
 use crate::packet::Address;
 use std::fmt;
 use std::str::FromStr;
@@ -16,7 +17,7 @@ pub struct PacketCall {
     pub fill: u8,
 }
 
-/// A call on a relay, or something its caller does to the tables between two calls.
+/// A call on a relay, or something its caller does to tables and tally between two calls.
 #[derive(Clone, PartialEq, Eq)]
 pub enum Call {
     Fresh(Address),
@@ -45,6 +46,14 @@ pub enum Call {
     },
     /// Cuts the tables, or lengthens them with zeros.
     Resize(usize),
+    Tally(Tally),
+}
+
+impl Call {
+    /// Is it recorded for hosts in other languages? They set no tally.
+    pub fn is_recorded(&self) -> bool {
+        !matches!(self, Call::Tally(_))
+    }
 }
 
 /// Bytes as hexadecimal digits. No bytes are a dash, so that the line has as many words.
@@ -75,6 +84,9 @@ impl fmt::Display for Call {
             Call::Write { at, bytes } => write!(f, "write at {at} {}", Digits(bytes)),
             Call::Copy { from, to, length } => write!(f, "copy {length} from {from} to {to}"),
             Call::Resize(length) => write!(f, "resize to {length}"),
+            Call::Tally([total, dropped, delivered, forwarded, spread, kept]) => {
+                write!(f, "tally {total} {dropped} {delivered} {forwarded} {spread} {kept}")
+            }
         }
     }
 }
@@ -115,6 +127,10 @@ fn call_of(words: &[&str]) -> Option<Call> {
             Call::Copy { from: from.parse().ok()?, to: to.parse().ok()?, length: length.parse().ok()? }
         }
         ["resize", "to", length] => Call::Resize(length.parse().ok()?),
+        ["tally", counters @ ..] => {
+            let counters: Option<Vec<u32>> = counters.iter().map(|counter| counter.parse().ok()).collect();
+            Call::Tally(counters?.try_into().ok()?)
+        }
         _ => return None,
     })
 }
@@ -154,7 +170,9 @@ mod tests {
     fn other_lines_are_no_calls() {
         let address = "00112233445566778899aabbccddeeff";
         assert!(format!(" add  local {address} ").parse() == Ok(Call::AddLocal(array_of(address).expect("sixteen bytes"))));
-        for line in ["", "save me", "add local 00", "set port 1 on 1 mode 0", "write at 3 0", "write at 3 0g", "resize to -1"] {
+        for line in
+            ["", "save me", "add local 00", "set port 1 on 1 mode 0", "write at 3 0", "write at 3 0g", "resize to -1", "tally 1 2 3"]
+        {
             assert!(line.parse::<Call>().is_err(), "{line}");
         }
         for line in [format!("fresh {address}0"), format!("fresh {address}00"), format!("renumber +1{}", &address[2..])] {

@@ -1,7 +1,8 @@
 //! Announces: newer and older, replayed, malformed, too long, in crowds.
 
-use super::{encode, parts, Traffic};
-use crate::packet::Blob;
+use super::{parts, Traffic};
+use crate::limits::BLOB_LIMIT;
+use crate::packet::{encode, Blob};
 
 /// An announce of a station, and where it comes in.
 struct Draft {
@@ -101,13 +102,13 @@ impl Traffic {
         self.replay_of(station);
     }
 
-    /// A blob sent before in another announce: held still, or gone from the sixteen.
+    /// A blob sent before in another announce: held still, or gone.
     pub(super) fn replay_of(&mut self, station: usize) {
         let sent = self.world.stations[station].blobs.len();
         if sent == 0 {
             return self.announce_newer();
         }
-        let back = 1 + self.random.below(sent.min(20));
+        let back = 1 + self.random.below(sent.min(BLOB_LIMIT + 4));
         let mut draft = self.draft(station, 0);
         draft.blob = self.world.stations[station].blobs[sent - back];
         if self.random.one_in(2) {
@@ -150,11 +151,11 @@ impl Traffic {
     pub(super) fn announce_countdown(&mut self) {
         let station = self.station();
         let mut first = self.newer(station);
-        first.hops = 60 + self.random.below(60) as u8;
+        first.hops = (127 - self.random.below(125 - BLOB_LIMIT)) as u8;
         self.accept_draft(&first);
         let newest = self.world.stations[station].emission;
-        let adds = 15 + self.random.below(3) as u8;
-        for step in 1..=adds {
+        let adds = BLOB_LIMIT - 1 + self.random.below(3);
+        for step in 1..=adds as u8 {
             let emission = newest - 500 + self.random.below(100) as u64;
             let mut draft = self.draft(station, emission);
             draft.hops = first.hops - step;
@@ -168,7 +169,7 @@ impl Traffic {
     /// More blobs than a path stores.
     pub(super) fn announce_many(&mut self) {
         let station = self.station();
-        for _ in 0..16 + self.random.below(4) {
+        for _ in 0..BLOB_LIMIT + self.random.below(4) {
             let draft = self.newer(station);
             self.accept_draft(&draft);
         }

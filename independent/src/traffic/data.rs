@@ -1,7 +1,7 @@
 //! Data and receipts: by live, expired and unknown paths, to local addresses, in floods, and once more later.
 
-use super::{encode, keep, parts, Carried, Traffic};
-use crate::packet::{Address, Parts};
+use super::{keep, parts, Carried, Traffic};
+use crate::packet::{encode, Address, Parts};
 
 impl Traffic {
     fn payload(&mut self, longest: usize) -> Vec<u8> {

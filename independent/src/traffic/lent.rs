@@ -2,10 +2,11 @@
 
 use super::Traffic;
 use crate::engine::Call;
+use crate::limits::{BLOB_LIMIT, LATEST};
 use crate::packet::Address;
 use crate::random::Random;
-use crate::tables::{link, path, returned, Table, HASHES, HASH_PLACE, LAST_CLOCK, LATEST, LINKS, LOCALS, PATHS, PORTS, RETURNS};
-use crate::tables::{RETURN_PLACE, SIZE};
+use crate::tables::{link, path, port, returned, set_key, Link, Path, Return, Table, BLOB, HASHES, HASH_PLACE, LAST_CLOCK, LINKS, LOCALS};
+use crate::tables::{PATHS, PORTS, RETURNS, RETURN_PLACE, SIZE};
 
 /// A place near the table's start, where traffic lies, or anywhere.
 fn place(random: &mut Random, count: usize) -> usize {
@@ -22,14 +23,13 @@ fn start(random: &mut Random, table: &Table) -> usize {
 }
 
 /// Times around the greatest that is allowed, around now, and beyond all.
-fn a_time(random: &mut Random, clock: u64) -> [u8; 8] {
-    let time = match random.below(6) {
+fn a_time(random: &mut Random, clock: u64) -> u64 {
+    match random.below(6) {
         0 => LATEST + 1,
         1 => LATEST,
         2 => random.pick(&[u64::MAX, LATEST + 2, 1 << 40, 1 << 63]),
         _ => clock + random.pick(&[0, 1, 2, 300, 100_000]),
-    };
-    time.to_be_bytes()
+    }
 }
 
 impl Traffic {
@@ -56,6 +56,14 @@ impl Traffic {
             self.queue.push_back(Call::Fresh(self.world.own));
         }
         self.queue.push_back(Call::Restore);
+    }
+
+    /// Lends some fresh relays, whose address tells, a tally that is soon at its end.
+    pub(super) fn lent_tally(&mut self) {
+        let address = self.world.own;
+        if self.lent && address[0] < 64 {
+            self.queue.push_back(Call::Tally(std::array::from_fn(|counter| u32::MAX - u32::from(address[1 + counter] % 8))));
+        }
     }
 
     fn call_on_lent(&mut self) {
@@ -108,16 +116,16 @@ impl Traffic {
         let at = PORTS.range(self.random.below(16)).start;
         if self.random.one_in(2) {
             let on = self.random.pick(&[0, 1, 2, 255]);
-            self.write(at, [on]);
+            self.write(at + port::ON, [on]);
         } else {
             let mode = self.random.pick(&[2, 3, 4, 255]);
-            self.write(at + 1, [mode]);
+            self.write(at + port::MODE, [mode]);
         }
     }
 
     fn change_clock(&mut self) {
         let time = a_time(&mut self.random, self.world.clock);
-        self.write(LAST_CLOCK, time);
+        self.write(LAST_CLOCK, time.to_be_bytes());
     }
 
     fn change_rings(&mut self) {
@@ -133,7 +141,7 @@ impl Traffic {
     /// A stored port, count, mark or time of a record, used or not.
     fn change_field(&mut self) {
         let small = self.random.pick(&[0, 1, 2, 15, 16, 17, 255]);
-        let time = a_time(&mut self.random, self.world.clock);
+        let time = a_time(&mut self.random, self.world.clock).to_be_bytes();
         let random = &mut self.random;
         let (at, bytes) = match random.below(12) {
             0 => (start(random, &PATHS) + path::PORT, vec![small]),
@@ -168,20 +176,19 @@ impl Traffic {
     /// A path to a station: a second one perhaps, with hops over 127, any blob count, and spare places that hold blobs it sent.
     fn lend_path(&mut self) {
         let number = self.reachable();
-        let count = self.random.pick(&[0, 1, 1, 1, 2, 2, 3, 15, 16, 16, 17]);
-        let lasting = (self.world.clock + 50_000).to_be_bytes();
-        let time = if self.random.one_in(2) { lasting } else { a_time(&mut self.random, self.world.clock) };
+        let most = BLOB_LIMIT as u8;
+        let count = self.random.pick(&[0, 1, 1, 1, 2, 2, 3, most - 1, most, most, most + 1]);
+        let lasting = self.world.clock + 50_000;
+        let expiry = if self.random.one_in(2) { lasting } else { a_time(&mut self.random, self.world.clock) };
         let station = &self.world.stations[number];
-        let mut record = vec![1];
-        record.extend(station.address);
-        record.push(self.random.pick(&[0, 1, 2, 3, 7, 14, 15, 15, 16]));
-        record.push(self.random.pick(&[0, 1, 5, 127, 128, 255]));
-        record.extend(self.random.array::<16>());
-        record.extend(time);
-        record.push(count);
-        for back in 0..16 {
+        let mut record = vec![0; path::WIDTH];
+        let port = self.random.pick(&[0, 1, 2, 3, 7, 14, 15, 15, 16]);
+        let hops = self.random.pick(&[0, 1, 5, 127, 128, 255]);
+        Path { destination: station.address, port, hops, next_hop: self.random.array(), expiry }.write(&mut record);
+        record[path::BLOB_COUNT] = count;
+        for (back, place) in record[path::BLOBS..].chunks_exact_mut(BLOB).enumerate() {
             let sent = station.blobs.iter().rev().nth(back);
-            record.extend(sent.copied().unwrap_or([self.random.pick(&[0, 0, 7]); 10]));
+            place.copy_from_slice(&sent.copied().unwrap_or([self.random.pick(&[0, 0, 7]); BLOB]));
         }
         let at = start(&mut self.random, &PATHS);
         self.write(at, record);
@@ -194,11 +201,13 @@ impl Traffic {
     /// A link of before again: proved or not, perhaps beside the first.
     fn lend_link(&mut self) {
         let Some(link) = self.world.links.front().cloned() else { return };
-        let mut record = vec![1];
-        record.extend(link.id);
-        record.extend([link.asking, link.answering, self.random.pick(&[link.taken, 3, 255]), link.remaining]);
-        record.push(self.random.pick(&[0, 0, 1, 1, 2]));
-        record.extend(a_time(&mut self.random, self.world.clock));
+        let mut record = vec![0; link::WIDTH];
+        let taken = self.random.pick(&[link.taken, 3, 255]);
+        let proved = self.random.pick(&[0, 0, 1, 1, 2]);
+        let expiry = a_time(&mut self.random, self.world.clock);
+        let super::Link { id, asking, answering, remaining, .. } = link;
+        Link { id, asking, answering, taken, remaining, proved: false, expiry }.write(&mut record);
+        record[link::PROVED] = proved;
         let at = start(&mut self.random, &LINKS);
         self.write(at, record);
         for _ in 0..3 {
@@ -208,10 +217,10 @@ impl Traffic {
 
     fn lend_return(&mut self) {
         let Some(carried) = self.world.carried.front().cloned() else { return };
-        let mut record = vec![1];
-        record.extend(carried.key);
-        record.extend([carried.arrival, self.random.pick(&[carried.leaving, 0, 15, 16])]);
-        record.extend(a_time(&mut self.random, self.world.clock));
+        let mut record = vec![0; returned::WIDTH];
+        let leaving = self.random.pick(&[carried.leaving, 0, 15, 16]);
+        let expiry = a_time(&mut self.random, self.world.clock);
+        Return { key: carried.key, arrival: carried.arrival, leaving, expiry }.write(&mut record);
         let at = start(&mut self.random, &RETURNS);
         self.write(at, record);
         self.receipt();
@@ -221,8 +230,8 @@ impl Traffic {
     fn lend_local(&mut self) {
         let address: Address = self.stray_address();
         for _ in 0..1 + self.random.below(2) {
-            let mut record = vec![1];
-            record.extend(address);
+            let mut record = vec![0; LOCALS.width];
+            set_key(&mut record, &address);
             let at = LOCALS.range(self.random.below(16)).start;
             self.write(at, record);
         }

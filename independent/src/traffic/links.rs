@@ -1,8 +1,8 @@
 //! Links: asked for, proved and used from both sides, rightly and wrongly.
 
-use super::{encode, keep, parts, Link, Traffic};
-use crate::faults::AsWritten;
-use crate::packet::{self, Parts};
+use super::{keep, parts, Link, Traffic};
+use crate::packet::{encode, hash, Parts};
+use crate::rules::AsWritten;
 
 impl Traffic {
     /// A link request to a station, of 64 or more bytes.
@@ -17,7 +17,7 @@ impl Traffic {
     fn ask(&mut self, station: usize) -> Link {
         let request = self.request_for(station);
         let (parts, payload) = &request;
-        let id = packet::link_id(&self.sha, parts, payload, AsWritten);
+        let id = hash::link_id(&AsWritten, &self.sha, parts, payload);
         let bytes = encode(parts, payload);
         let taken = parts.hops;
         let asking = self.on_port();
@@ -121,6 +121,8 @@ impl Traffic {
         }
         self.prove_link(&link);
         for _ in 0..2 + self.random.below(5) {
+            let seconds = self.random.pick(&[0, 0, 0, 1, 60]);
+            self.pass(seconds);
             self.use_link(&link);
         }
         if self.random.one_in(4) {

@@ -8,11 +8,11 @@ mod links;
 mod settings;
 
 use crate::engine::{Call, PacketCall};
-use crate::faults::AsWritten;
-use crate::packet::{self, Address, Blob, Header, PacketHash, Parts};
+use crate::limits::CLOCK_LIMIT;
+use crate::packet::{announced, hash, Address, Blob, Header, PacketHash, Parts};
 use crate::random::Random;
+use crate::rules::AsWritten;
 use crate::sha256::Sha256;
-use crate::tables::CLOCK_LIMIT;
 use std::collections::VecDeque;
 
 /// Somebody who announces: its keys and name, what it sent, and the path that a relay should have to it.
@@ -144,6 +144,7 @@ impl Traffic {
         self.world = World::new(&mut self.random, &self.sha);
         self.left = 40 + self.random.below(500);
         self.queue.push_back(Call::Fresh(self.world.own));
+        self.lent_tally();
         // of one port, of two, of some, or of all
         let ports = self.random.pick(&[1, 2, 5, 12, 16, 16]);
         for port in self.random.permutation().into_iter().take(ports) {
@@ -241,7 +242,7 @@ impl Traffic {
     }
 
     fn packet_hash(&self, parts: &Parts, payload: &[u8]) -> PacketHash {
-        packet::packet_hash(&self.sha, parts, payload, AsWritten)
+        hash::packet_hash(&AsWritten, &self.sha, parts, payload)
     }
 
     /// An address that is nobody's, or somebody's for whom it isn't meant.
@@ -293,7 +294,7 @@ impl Station {
     fn new(random: &mut Random, sha: &Sha256) -> Self {
         let keys = random.array();
         let name_hash = random.array();
-        let address = packet::destination(sha, &keys, &name_hash);
+        let address = announced::destination(sha, &keys, &name_hash);
         let emission = 1_000 + random.below(1_700_000_000) as u64;
         Self { keys, name_hash, address, blobs: Vec::new(), emission, port: 0, hops: 0, expiry: 0 }
     }
@@ -303,13 +304,6 @@ impl Station {
 fn keep<T>(list: &mut VecDeque<T>, item: T) {
     list.push_front(item);
     list.truncate(KEPT);
-}
-
-/// The bytes of a packet, of any length.
-fn encode(parts: &Parts, payload: &[u8]) -> Vec<u8> {
-    let mut bytes = vec![0; parts.header.payload_start() + payload.len()];
-    packet::put(parts, payload, &mut bytes);
-    bytes
 }
 
 /// Parts of a header and a destination, in type 2 by this relay.

@@ -1,9 +1,9 @@
 //! The calls without a packet, and packet calls that are refused.
 
-use super::{encode, parts, Traffic};
+use super::{parts, Traffic};
 use crate::engine::Call;
-use crate::packet::Address;
-use crate::tables::CLOCK_LIMIT;
+use crate::limits::CLOCK_LIMIT;
+use crate::packet::{encode, Address};
 
 impl Traffic {
     pub(super) fn port_setting(&mut self) {

@@ -10,7 +10,7 @@ use Rattle.act.proofs.act.Statement.{statement}
 use Rattle.act.proofs.act.Tie as tie
 
 next-hash-requires : tie.Need-next-hash-requires
-next-hash-requires c κs = formed _ (c .before .before .before .before .pre .0 .formed) .size
+next-hash-requires c κs = formed _ (c .before .before .before .before .pre .0 .accepted .formed) .size
 
 remembers-requires : tie.Need-remembers-requires
 remembers-requires c κs = search needs
@@ -22,9 +22,9 @@ stamp-requires : tie.Need-stamp-requires
 stamp-requires c κs =
     let c9 = c .before .before .before .before .before .before .before .before .before in
     let s = c9 .before .before .before .before .before in
-    let size = formed _ (s .pre .0 .formed) .size in
-    let within = subst (λ (k : ℕ). k < hashCount) (sym (c9 .next-hash .ensures)) (hash-next-within _ (s .pre .0 .formed)) in
-    (search needs, within, s .pre .0 .clock)
+    let size = formed _ (s .pre .0 .accepted .formed) .size in
+    let within = subst (λ (k : ℕ). k < hashCount) (sym (c9 .next-hash .ensures)) (hash-next-within _ (s .pre .0 .accepted .formed)) in
+    (search needs, within, s .pre .0 .accepted .clock)
 
 same-length : tie.Need-same-length
 same-length c = search needs
@@ -40,9 +40,9 @@ returns c =
     let c15 = c12 .before .before .before in
     let s = c15 .before .before in
     let left = c8 .carry-out .ensures in
-    let remembered = c11 .remembers .ensures ∙ remembered-by _ _ _ _ (sym (s .pre .2)) in
+    let remembered = c11 .remembers .ensures ∙ remembered-by _ _ _ _ (s .pre .0 .decided) in
     let stamped =
-    stamp-left _ _ _ (s .pre .0) (known-bytes (s .args .tables .now) (c15 .slice-known .given)) _ _ _ _ (s .pre .3) (left .1)
+    stamp-left _ _ _ (s .pre .0 .accepted) (known-bytes (s .args .tables .now) (c15 .slice-known .given)) _ _ _ _ (s .pre .1) (left .1)
     (c12 .next-hash .ensures) remembered in
     (left .0, c .before .before .stamp .ensures ∙ stamped, left .2)
 

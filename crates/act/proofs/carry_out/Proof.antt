@@ -1,9 +1,16 @@
-use mathlib.Core.Path.{sym, _∙_}
+use mathlib.Core.Path.{_≡_, _∙_}
 use Rattle.octets.proofs.Bytes.{known-bytes}
 use Rattle.act.proofs.Stays.{drop-left, deliver-left}
 use borrow.Author.Needs.{needs}
+use Rattle.plan.specs.declared.Decision.{Decision}
+use Rattle.act.specs.Acted.{CanCarryOut}
 use Rattle.act.proofs.carry_out.Statement.{statement}
 use Rattle.act.proofs.carry_out.Tie as tie
+
+-- what it shows of the decision that it found
+carries : (s : tie.Start) {d : Decision} → s .args .decision ≡ d
+    → CanCarryOut (s .args .packet .now) (s .args .arrived) (s .args .tables .now) (s .args .output .now) d
+carries s is = record { accepted = s .pre .0 .accepted; roomy = s .pre .0 .roomy; decided = s .pre .0 .decided ∙ is }
 
 enum-known-decision : tie.Need-enum-known-decision
 enum-known-decision c = search needs
@@ -17,7 +24,7 @@ enum-known-decision-2 c = search needs
 announce-requires : tie.Need-announce-requires
 announce-requires c κs =
     let s = c .before .before .before .before .before .before .before .before in
-    (s .pre .0, s .pre .1, sym (s .pre .2) ∙ c .before .before .before .decision2 .given .1)
+    carries s (c .before .before .before .decision2 .given .1)
 
 enum-known-decision-3 : tie.Need-enum-known-decision-3
 enum-known-decision-3 c = search needs
@@ -25,7 +32,7 @@ enum-known-decision-3 c = search needs
 send-requires : tie.Need-send-requires
 send-requires c κs =
     let s = c .before .before .before .before .before .before .before .before in
-    (s .pre .0, s .pre .1, sym (s .pre .2) ∙ c .before .before .before .decision3 .given .1, s .pre .3)
+    (carries s (c .before .before .before .decision3 .given .1), s .pre .1)
 
 enum-known-decision-4 : tie.Need-enum-known-decision-4
 enum-known-decision-4 c = search needs
@@ -33,7 +40,7 @@ enum-known-decision-4 c = search needs
 request-requires : tie.Need-request-requires
 request-requires c κs =
     let s = c .before .before .before .before .before .before .before .before in
-    (s .pre .0, s .pre .1, sym (s .pre .2) ∙ c .before .before .before .decision4 .given .1)
+    carries s (c .before .before .before .decision4 .given .1)
 
 enum-known-decision-5 : tie.Need-enum-known-decision-5
 enum-known-decision-5 c = search needs
@@ -41,7 +48,7 @@ enum-known-decision-5 c = search needs
 carry-requires : tie.Need-carry-requires
 carry-requires c κs =
     let s = c .before .before .before .before .before .before .before .before in
-    (s .pre .0, s .pre .1, sym (s .pre .2) ∙ c .before .before .before .decision5 .given .1)
+    carries s (c .before .before .before .decision5 .given .1)
 
 enum-known-decision-6 : tie.Need-enum-known-decision-6
 enum-known-decision-6 c = search needs
@@ -49,20 +56,20 @@ enum-known-decision-6 c = search needs
 receipt-requires : tie.Need-receipt-requires
 receipt-requires c κs =
     let s = c .before .before .before .before .before .before .before .before in
-    (s .pre .0, s .pre .1, sym (s .pre .2) ∙ c .before .before .before .decision6 .given .1)
+    carries s (c .before .before .before .decision6 .given .1)
 
 returns : tie.Need-returns
 returns c =
     let c4 = c .before .before .before .before in
     let s = c4 .before .before in
-    drop-left _ _ _ (s .pre .0) (known-bytes (s .args .tables .now) (c4 .slice-known .given)) _ _
-    (sym (s .pre .2) ∙ c .before .decision .given .1)
+    drop-left _ _ _ (s .pre .0 .accepted) (known-bytes (s .args .tables .now) (c4 .slice-known .given)) _ _
+    (s .pre .0 .decided ∙ c .before .decision .given .1)
 
 returns-2 : tie.Need-returns-2
 returns-2 c =
     let s = c .before .before .before .before .before in
-    deliver-left _ _ _ (s .pre .0) (known-bytes (s .args .tables .now) (c .before .before .before .slice-known .given)) _
-    (sym (s .pre .2) ∙ c .enum-told .given .1)
+    deliver-left _ _ _ (s .pre .0 .accepted) (known-bytes (s .args .tables .now) (c .before .before .before .slice-known .given)) _
+    (s .pre .0 .decided ∙ c .enum-told .given .1)
 
 same-length : tie.Need-same-length
 same-length c = search needs

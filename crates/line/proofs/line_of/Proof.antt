@@ -3,7 +3,9 @@ use Prim.Native.Nat.{ℕ}
 use mathlib.Core.List.{List}
 use lib.ListN.{length}
 use Rattle.line.proofs.LineLaws.{line-refused, line-read, read-refusal, read-parts, read-short}
-use Rattle.line.specs.Line.{partsWords, refusedWords, lineOf, wordsLine}
+use Rattle.line.specs.Line.{partsWords}
+use Rattle.text.specs.Text.{textOf}
+use Rattle.text.specs.Words.{wordsLine, refusedWords}
 use Rattle.packet.proofs.ReadLaws.{payload-least}
 use Rattle.packet.specs.Read.{partsOf, payload, longestPacket, readingRefusal}
 use Rattle.packet.specs.declared.Parts.{Parts}
@@ -24,8 +26,8 @@ returns c =
     let p = c .before .before .before .before .args .packet .now in
     let number : after-read .result .refusal ≡ readingRefusal longestPacket p = read-refusal p (after-read .result) (after-read .ensures) in
     c .refused-line .ensures
-    ∙ ap (λ (n : ℕ). lineOf (wordsLine (refusedWords n))) number
-    ∙ ap lineOf (sym (line-refused p (λ (e : readingRefusal longestPacket p ≡ 0). c .before .if1 .taken (number ∙ e))))
+    ∙ ap (λ (n : ℕ). textOf (wordsLine (refusedWords n))) number
+    ∙ ap textOf (sym (line-refused p (λ (e : readingRefusal longestPacket p ≡ 0). c .before .if1 .taken (number ∙ e))))
 
 payload-requires : tie.Need-payload-requires
 payload-requires c κs = search needs
@@ -43,9 +45,9 @@ returns-2 c =
     let p = c .before .before .before .before .before .before .args .packet .now in
     let read : after-read .result .parts ≡ partsOf p = read-parts p (after-read .result) (after-read .ensures) (c .before .before .before .if1 .left) in
     c .parts-line .ensures
-    ∙ ap (λ (q : Parts). lineOf (wordsLine (partsWords q (length (after-payload .result .now))))) read
-    ∙ ap (λ (l : List ℕ). lineOf (wordsLine (partsWords (partsOf p) (length l)))) (after-payload .ensures)
-    ∙ ap lineOf (sym (line-read p (sym (read-refusal p (after-read .result) (after-read .ensures)) ∙ c .before .before .before .if1 .left)))
+    ∙ ap (λ (q : Parts). textOf (wordsLine (partsWords q (length (after-payload .result .now))))) read
+    ∙ ap (λ (l : List ℕ). textOf (wordsLine (partsWords (partsOf p) (length l)))) (after-payload .ensures)
+    ∙ ap textOf (sym (line-read p (sym (read-refusal p (after-read .result) (after-read .ensures)) ∙ c .before .before .before .if1 .left)))
 
 pub line-of-spec : {M : Type 1} → statement M
 line-of-spec =

@@ -2,11 +2,12 @@ use native.Mathlib.Omega.{arith}
 use mathlib.Core.Path.{sym, _∙_}
 use borrow.Author.Needs.{needs}
 use Rattle.outgoing.proofs.LeavingLaws.{long}
+use Rattle.packet.specs.Read.{longestPacket}
 use Rattle.plan.proofs.decide_onward.Statement.{statement}
 use Rattle.plan.proofs.decide_onward.Tie as tie
 
 shared-slice-read-header : tie.Need-shared-slice-read-header
-shared-slice-read-header c = omega (arith, long 500 (c .before .before .before .args .packet .now) (c .before .before .before .pre .1))
+shared-slice-read-header c = let s = c .before .before .before in omega (arith, long longestPacket (s .args .packet .now) (s .pre .0 .readable))
 
 is-announce-requires : tie.Need-is-announce-requires
 is-announce-requires c κs = search needs
@@ -14,7 +15,7 @@ is-announce-requires c κs = search needs
 decide-announce-requires : tie.Need-decide-announce-requires
 decide-announce-requires c κs =
     let s = c .before .before .before .before .before in
-    (s .pre .0, s .pre .1, s .pre .2, sym (c .before .is-announce .ensures) ∙ c .if1 .taken)
+    (s .pre .0, s .pre .1, sym (c .before .is-announce .ensures) ∙ c .if1 .taken)
 
 returns : tie.Need-returns
 returns c = search needs
@@ -24,8 +25,10 @@ of-kind-link-requires c κs = search needs
 
 decide-of-link-requires : tie.Need-decide-of-link-requires
 decide-of-link-requires c κs =
-    let s = c .before .before .before .before .before .before .before in
-    (s .pre .0, s .pre .1, s .pre .2, sym (c .before .before .before .is-announce .ensures) ∙ c .before .before .if1 .left, sym (c .before .of-kind-link .ensures) ∙ c .if2 .taken)
+    let c2 = c .before .before in
+    let s = c2 .before .before .before .before .before in
+    let other = sym (c2 .before .is-announce .ensures) ∙ c2 .if1 .left in
+    (s .pre .0, s .pre .1, other, sym (c .before .of-kind-link .ensures) ∙ c .if2 .taken)
 
 returns-2 : tie.Need-returns-2
 returns-2 c = search needs
@@ -35,16 +38,22 @@ is-proof-requires c κs = search needs
 
 decide-proof-requires : tie.Need-decide-proof-requires
 decide-proof-requires c κs =
-    let s = c .before .before .before .before .before .before .before .before .before in
-    (s .pre .0, s .pre .1, sym (c .before .before .before .of-kind-link .ensures) ∙ c .before .before .if2 .left, sym (c .before .is-proof .ensures) ∙ c .if3 .taken)
+    let c2 = c .before .before in
+    let s = c2 .before .before .before .before .before .before .before in
+    let kind = sym (c2 .before .of-kind-link .ensures) ∙ c2 .if2 .left in
+    (s .pre .0, kind, sym (c .before .is-proof .ensures) ∙ c .if3 .taken)
 
 returns-3 : tie.Need-returns-3
 returns-3 c = search needs
 
 decide-by-path-requires : tie.Need-decide-by-path-requires
 decide-by-path-requires c κs =
-    let s = c .before .before .before .before .before .before .before .before .before in
-    (s .pre .0, s .pre .1, sym (c .before .before .before .before .before .is-announce .ensures) ∙ c .before .before .before .before .if1 .left, sym (c .before .before .before .of-kind-link .ensures) ∙ c .before .before .if2 .left, sym (c .before .is-proof .ensures) ∙ c .if3 .left)
+    let c2 = c .before .before in
+    let c4 = c2 .before .before in
+    let s = c4 .before .before .before .before .before in
+    let other = sym (c4 .before .is-announce .ensures) ∙ c4 .if1 .left in
+    let kind = sym (c2 .before .of-kind-link .ensures) ∙ c2 .if2 .left in
+    (s .pre .0, other, kind, sym (c .before .is-proof .ensures) ∙ c .if3 .left)
 
 returns-4 : tie.Need-returns-4
 returns-4 c = search needs

@@ -1,10 +1,35 @@
 use mathlib.Core.Path.{refl, sym, _∙_}
 use Rattle.octets.proofs.Bytes.{known-bytes}
-use Rattle.tables.proofs.Whole.{formed as whole}
-use Rattle.relay.proofs.PromiseLaws.{refused-promised, formed, port-byte, readable, roomy, accepted, judged-promised, passed-promised}
 use borrow.Author.Needs.{needs}
+use mathlib.Core.Path.{_≡_}
+use lib.ListN.{length}
+use Rattle.tables.proofs.Whole.{formed}
+use Rattle.plan.specs.Decided.{CanRead, CanJudge}
+use Rattle.relay.specs.Refusal.{packetRefusalOn}
+use Rattle.relay.proofs.RefusalLaws.{accepted-judge, accepted-roomy, accepted-byte}
+use Rattle.relay.proofs.PromiseLaws.{refused-promised, accepted, judged-promised, not-ours-promised}
 use Rattle.relay.proofs.judge.Statement.{statement}
 use Rattle.relay.proofs.judge.Tie as tie
+
+-- ---- past the refusals
+abbrev s1 : tie.Else1 → tie.Start
+s1 c = c .before .before .before .before .before .before
+
+abbrev Accepts : tie.Start → Type 0
+Accepts s = packetRefusalOn (s .args .packet .now) (s .args .port) (s .args .clock) (s .args .tables .now) (length (s .args .output .now)) ≡ 0
+
+accepts : (c : tie.Else1) → Accepts (s1 c)
+accepts c = sym (c .before .refusal .ensures) ∙ c .if1 .left
+
+judges : (c : tie.Else1) → CanJudge (s1 c .args .packet .now) (s1 c .args .tables .now)
+judges c = accepted-judge _ _ _ _ _ (accepts c)
+
+reads : (c : tie.Else1) → CanRead (s1 c .args .packet .now) (s1 c .args .tables .now)
+reads c = record { readable = judges c .readable; size = formed (s1 c .args .tables .now) (judges c .formed) .size }
+
+-- the arrival port as a byte
+same-port : (c : tie.After-low-byte) → c .low-byte .result ≡ s1 (c .before) .args .port
+same-port c = c .low-byte .ensures ∙ accepted-byte _ _ _ _ _ (accepts (c .before))
 
 refusal-requires : tie.Need-refusal-requires
 refusal-requires c κs = search needs
@@ -24,22 +49,10 @@ low-byte-requires : tie.Need-low-byte-requires
 low-byte-requires c κs = search needs
 
 not-ours-requires : tie.Need-not-ours-requires
-not-ours-requires c κs =
-    let p = c .before .before .before .before .before .before .before .before .args in
-    let none = sym (c .before .before .before .refusal .ensures) ∙ c .before .before .if1 .left in (
-      whole _ (formed (p .packet .now) (p .port) (p .clock) (p .signed) (p .tables .now) (p .tally) (p .output .now) none) .size,
-      readable (p .packet .now) (p .port) (p .clock) (p .signed) (p .tables .now) (p .tally) (p .output .now) none,
-    )
+not-ours-requires c κs = reads (c .before .before)
 
 set-clock-requires : tie.Need-set-clock-requires
-set-clock-requires c κs =
-    let c5 = c .before .before .before .before .before in
-    let c6 = c5 .before in
-    let c11 = c6 .before .before .before .before .before in
-    let p = c11 .args in
-    whole _
-    (formed (p .packet .now) (p .port) (p .clock) (p .signed) (p .tables .now) (p .tally) (p .output .now) (sym (c6 .refusal .ensures) ∙ c5 .if1 .left))
-    .size
+set-clock-requires c κs = reads (c .before .before .before .before .before) .size
 
 counted-requires : tie.Need-counted-requires
 counted-requires c κs = search needs
@@ -50,56 +63,29 @@ same-length-2 c = search needs
 returns-2 : tie.Need-returns-2
 returns-2 c =
     let c5 = c .before .before .before .before .before in
-    let c6 = c5 .before in
-    let c8 = c6 .before .before in
+    let c8 = c5 .before .before .before in
     let c9 = c8 .before in
-    let c10 = c9 .before in
-    let c13 = c10 .before .before .before in
-    let c15 = c13 .before .before in
-    let p = c15 .args in
-    let none = sym (c10 .refusal .ensures) ∙ c9 .if1 .left in
-    passed-promised (p .packet .now) (p .port) (p .clock) (p .signed) (p .tables .now) (p .tally) (p .output .now) none _
-    (c8 .low-byte .ensures ∙ port-byte (p .packet .now) (p .port) (p .clock) (p .signed) (p .tables .now) (p .tally) (p .output .now) none)
-    refl refl (known-bytes (p .tables .now) (c13 .slice-known .given)) (sym (c6 .not-ours .ensures) ∙ c5 .if2 .taken) _ _
+    let c13 = c9 .before .before .before .before in
+    let p = s1 c9 .args in
+    not-ours-promised (p .packet .now) (p .port) (p .clock) (p .signed) (p .tables .now) (p .tally) (p .output .now) (accepts c9) _ (same-port c8)
+    refl refl (known-bytes (p .tables .now) (c13 .slice-known .given)) (sym (c5 .before .not-ours .ensures) ∙ c5 .if2 .taken) _ _
     (c .before .before .before .set-clock .ensures) (c .counted .ensures)
 
 hash-of-requires : tie.Need-hash-of-requires
-hash-of-requires c κs =
-    let c4 = c .before .before .before .before in
-    let c5 = c4 .before in
-    let c10 = c5 .before .before .before .before .before in
-    let p = c10 .args in
-    readable (p .packet .now) (p .port) (p .clock) (p .signed) (p .tables .now) (p .tally) (p .output .now)
-    (sym (c5 .refusal .ensures) ∙ c4 .if1 .left)
+hash-of-requires c κs = judges (c .before .before .before .before) .readable
 
 decide-requires : tie.Need-decide-requires
-decide-requires c κs =
-    let c6 = c .before .before .before .before .before .before in
-    let c7 = c6 .before in
-    let c12 = c7 .before .before .before .before .before in
-    let p = c12 .args in
-    let none = sym (c7 .refusal .ensures) ∙ c6 .if1 .left in (
-      formed (p .packet .now) (p .port) (p .clock) (p .signed) (p .tables .now) (p .tally) (p .output .now) none,
-      readable (p .packet .now) (p .port) (p .clock) (p .signed) (p .tables .now) (p .tally) (p .output .now) none,
-      c .before .hash-of .ensures,
-    )
+decide-requires c κs = (judges (c .before .before .before .before .before .before), c .before .hash-of .ensures)
 
 act-requires : tie.Need-act-requires
 act-requires c κs =
     let c4 = c .before .before .before .before in
     let c8 = c4 .before .before .before .before in
     let c9 = c8 .before in
-    let c10 = c9 .before in
-    let c15 = c10 .before .before .before .before .before in
-    let p = c15 .args in
-    let none = sym (c10 .refusal .ensures) ∙ c9 .if1 .left in (
-      accepted (p .packet .now) (p .port) (p .clock) (p .signed) (p .tables .now) (p .tally) (p .output .now) none _
-          (c8 .low-byte .ensures ∙ port-byte (p .packet .now) (p .port) (p .clock) (p .signed) (p .tables .now) (p .tally) (p .output .now) none)
-          refl refl,
-      roomy (p .packet .now) (p .port) (p .clock) (p .signed) (p .tables .now) (p .tally) (p .output .now) none,
-      c .before .before .decide .ensures,
-      c4 .hash-of .ensures,
-    )
+    let p = s1 c9 .args in
+    let ok = accepted (p .packet .now) (p .port) (p .clock) (p .signed) (p .tables .now) (p .tally) (p .output .now) (accepts c9) _ (same-port c8) refl refl in
+    let roomy = accepted-roomy _ _ _ _ _ (accepts c9) in
+    (record { accepted = ok; roomy = roomy; decided = sym (c .before .before .decide .ensures) }, c4 .hash-of .ensures)
 
 counted-requires-2 : tie.Need-counted-requires-2
 counted-requires-2 c κs = search needs
@@ -115,13 +101,10 @@ returns-3 c =
     let c5 = c .before .before .before .before .before in
     let c14 = c5 .before .before .before .before .before .before .before .before .before in
     let c15 = c14 .before in
-    let c16 = c15 .before in
-    let c21 = c16 .before .before .before .before .before in
-    let p = c21 .args in
-    let none = sym (c16 .refusal .ensures) ∙ c15 .if1 .left in
-    judged-promised (p .packet .now) (p .port) (p .clock) (p .signed) (p .tables .now) (p .tally) (p .output .now) none _
-    (c14 .low-byte .ensures ∙ port-byte (p .packet .now) (p .port) (p .clock) (p .signed) (p .tables .now) (p .tally) (p .output .now) none)
-    refl refl _ _ _ _ (c5 .act .ensures .0) (c5 .act .ensures .1) (c5 .act .ensures .2) (c .counted2 .ensures)
+    let p = s1 c15 .args in
+    let left = c5 .act .ensures in
+    judged-promised (p .packet .now) (p .port) (p .clock) (p .signed) (p .tables .now) (p .tally) (p .output .now) (accepts c15) _ (same-port c14)
+    refl refl _ _ _ _ (left .0) (left .1) (left .2) (c .counted2 .ensures)
 
 pub judge-spec : {M : Type 1} → statement M
 judge-spec =

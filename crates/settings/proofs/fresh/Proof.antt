@@ -1,14 +1,15 @@
-use Prim.Native.Nat.{ℕ}
-use mathlib.Core.Path.{ap, _∙_}
-use mathlib.Core.List.{List}
-use Rattle.octets.specs.Part.{patch}
-use Rattle.settings.proofs.Answered.{answers, answers-after, fresh-refused, fresh-done}
+use mathlib.Core.Path.{_≡_}
+use lib.ListN.{length}
+use Rattle.tables.specs.Places.{addressWidth}
+use Rattle.tables.proofs.Called.{answers, answers-after}
+use Rattle.settings.proofs.Answered.{fresh-refused, fresh-done}
 use borrow.Author.Needs.{needs}
 use Rattle.settings.proofs.fresh.Statement.{statement}
 use Rattle.settings.proofs.fresh.Tie as tie
 
 returns : tie.Need-returns
-returns c = answers (fresh-refused (c .before .before .args .tables .now) (c .before .before .args .t2) (c .if1 .taken))
+returns c =
+    answers (fresh-refused (c .before .before .args .tables .now) (c .before .before .args .t2) (c .if1 .taken))
 
 clear-requires : tie.Need-clear-requires
 clear-requires c κs = search needs
@@ -19,11 +20,22 @@ slice-aggregate-copy-at c = search needs
 copy-at-requires : tie.Need-copy-at-requires
 copy-at-requires c κs = search needs
 
+put-fresh-ports-requires : tie.Need-put-fresh-ports-requires
+put-fresh-ports-requires c κs = search needs
+
 same-length : tie.Need-same-length
 same-length c = search needs
 
 returns-2 : tie.Need-returns-2
-returns-2 c = answers-after (c .before .before .copy-at .ensures ∙ ap (λ (x : List ℕ). patch x 0 (c .before .before .before .before .before .before .before .before .before .before .before .args .t2)) (c .before .before .before .before .before .before .before .clear .ensures)) (fresh-done (c .before .before .before .before .before .before .before .before .before .before .before .args .tables .now) (c .before .before .before .before .before .before .before .before .before .before .before .args .t2) (c .before .before .before .before .before .before .before .before .before .if1 .left) (search needs))
+returns-2 c =
+    let c6 = c .before .before .before .before .before .before in
+    let c11 = c6 .before .before .before .before .before in
+    let c13 = c11 .before .before in
+    let c15 = c13 .before .before in
+    let a = c15 .args in
+    let wide : length (a .t2) ≡ addressWidth = search needs in
+    answers-after (rw (c .before .before .put-fresh-ports .ensures, c6 .copy-at .ensures, c11 .clear .ensures))
+    (fresh-done (a .tables .now) (a .t2) (c13 .if1 .left) wide)
 
 pub fresh-spec : {M : Type 1} → statement M
 fresh-spec =
@@ -33,5 +45,6 @@ fresh-spec =
     clear-requires
     slice-aggregate-copy-at
     copy-at-requires
+    put-fresh-ports-requires
     same-length
     returns-2)

@@ -1,7 +1,16 @@
 use mathlib.Core.Path.{sym, _∙_}
-use borrow.Author.Tests.{not-true, not-false}
+use borrow.Author.Tests.{le-ltb, lt-ltb, not-true, not-false}
+use Rattle.octets.specs.Choice.{_then_otherwise_}
+use Rattle.octets.specs.Listed.{firstOf}
 use Rattle.octets.proofs.Bytes.{known-bytes}
-use Rattle.settings.proofs.Answered.{answers, answers-after, size-of, remove-bad, remove-unknown, remove-done}
+use Rattle.rules.specs.Relay.{empty}
+use Rattle.rules.specs.View.{isLocal, localPlace}
+use Rattle.numbers.specs.Numbers.{localCount}
+use Rattle.rules.specs.Calls.{removes, ruleOf}
+use Rattle.tables.specs.Layout.{relayOf}
+use Rattle.tables.proofs.Called.{size-of, call-bad, call-refused, call-done}
+use Rattle.settings.proofs.Answered.{local-set}
+use native.Mathlib.Omega.{arith}
 use borrow.Author.Needs.{needs}
 use Rattle.settings.proofs.remove_local.Statement.{statement}
 use Rattle.settings.proofs.remove_local.Tie as tie
@@ -13,25 +22,57 @@ same-length : tie.Need-same-length
 same-length c = search needs
 
 returns : tie.Need-returns
-returns c = answers (remove-bad (c .before .before .before .before .args .tables .now) (sym (c .before .check .ensures) ∙ not-true _ (c .if1 .taken)) (c .before .before .before .before .args .address))
+returns c =
+    let a = c .before .before .before .before .args in
+    call-bad (removes (a .address)) (a .tables .now) (sym (c .before .check .ensures) ∙ not-true _ (c .if1 .taken))
 
 local-place-requires : tie.Need-local-place-requires
-local-place-requires c κs = size-of (c .before .before .before .before .before .args .tables .now) (sym (c .before .before .check .ensures) ∙ not-false _ (c .before .if1 .left))
+local-place-requires c κs =
+    size-of (c .before .before .before .before .before .args .tables .now) (sym (c .before .before .check .ensures) ∙ not-false _ (c .before .if1 .left))
 
 same-length-2 : tie.Need-same-length-2
 same-length-2 c = search needs
 
 returns-2 : tie.Need-returns-2
-returns-2 c = answers (remove-unknown (c .before .before .before .before .before .before .before .args .tables .now) (c .before .before .before .before .before .before .before .args .address) (sym (c .before .before .before .before .check .ensures) ∙ not-false _ (c .before .before .before .if1 .left)) (known-bytes (c .before .before .before .before .before .before .before .args .tables .now) (c .before .before .before .before .before .before .slice-known .given)) (c .before .local-place .result) (c .before .local-place .ensures) (c .if2 .taken))
+unfolding isLocal ruleOf firstOf _then_otherwise_
+returns-2 c =
+    let c3 = c .before .before .before in
+    let c4 = c3 .before in
+    let c6 = c4 .before .before in
+    let c7 = c6 .before in
+    let a = c7 .args in
+    let t = a .tables .now in
+    let ok = sym (c4 .check .ensures) ∙ not-false _ (c3 .if1 .left) in
+    let none = le-ltb (localPlace (relayOf t) (a .address)) localCount
+    (let e = c .before .local-place .ensures in let l = c .if2 .taken in omega (arith, e, l)) in
+    call-refused (removes (a .address)) t ok (known-bytes t (c6 .slice-known .given)) 11 (λ e. omega arith) (rw none)
 
 empty-place-requires : tie.Need-empty-place-requires
-empty-place-requires c κs = (size-of (c .before .before .before .before .before .before .before .before .args .tables .now) (sym (c .before .before .before .before .before .check .ensures) ∙ not-false _ (c .before .before .before .before .if1 .left)), c .before .if2 .left)
+empty-place-requires c κs =
+    let c4 = c .before .before .before .before in
+    let c5 = c4 .before in
+    let c8 = c5 .before .before .before in
+    (size-of (c8 .args .tables .now) (sym (c5 .check .ensures) ∙ not-false _ (c4 .if1 .left)), c .before .if2 .left)
 
 same-length-3 : tie.Need-same-length-3
 same-length-3 c = search needs
 
 returns-3 : tie.Need-returns-3
-returns-3 c = answers-after (c .before .before .empty-place .ensures) (remove-done (c .before .before .before .before .before .before .before .before .before .before .before .args .tables .now) (c .before .before .before .before .before .before .before .before .before .before .before .args .address) (sym (c .before .before .before .before .before .before .before .before .check .ensures) ∙ not-false _ (c .before .before .before .before .before .before .before .if1 .left)) (known-bytes (c .before .before .before .before .before .before .before .before .before .before .before .args .tables .now) (c .before .before .before .before .before .before .before .before .before .before .slice-known .given)) (c .before .before .before .before .before .local-place .result) (c .before .before .before .before .before .local-place .ensures) (c .before .before .before .before .if2 .left))
+unfolding isLocal ruleOf firstOf _then_otherwise_
+returns-3 c =
+    let c4 = c .before .before .before .before in
+    let c5 = c4 .before in
+    let c7 = c5 .before .before in
+    let c8 = c7 .before in
+    let c10 = c8 .before .before in
+    let c11 = c10 .before in
+    let a = c11 .args in
+    let t = a .tables .now in
+    let ok = sym (c8 .check .ensures) ∙ not-false _ (c7 .if1 .left) in
+    let there = lt-ltb (localPlace (relayOf t) (a .address)) localCount (let e = c5 .local-place .ensures in let l = c4 .if2 .left in omega (arith, e, l)) in
+    let after = c .before .before .empty-place .ensures ∙ local-set t ok (known-bytes t (c10 .slice-known .given)) empty _
+    (localPlace (relayOf t) (a .address)) (c5 .local-place .ensures) (c4 .if2 .left) in
+    call-done (removes (a .address)) t ok (rw there) after
 
 pub remove-local-spec : {M : Type 1} → statement M
 remove-local-spec =

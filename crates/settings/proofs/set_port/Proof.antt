@@ -1,8 +1,13 @@
 use mathlib.Core.Path.{sym, _∙_}
-use borrow.Author.Tests.{le-leb, not-true, not-false}
+use borrow.Author.Tests.{le-leb, lt-leb, not-true, not-false}
+use Rattle.octets.specs.Choice.{_then_otherwise_}
+use Rattle.octets.specs.Listed.{firstOf}
 use Rattle.octets.proofs.Bytes.{known-bytes}
-use Rattle.octets.proofs.Choice.{or-left, or-right}
-use Rattle.settings.proofs.Answered.{answers, answers-after, size-of, set-port-bad, set-port-refused, set-port-done}
+use Rattle.octets.proofs.Choice.{or-left, or-right, or-no}
+use Rattle.rules.specs.Calls.{sets-port, ruleOf}
+use Rattle.tables.proofs.Called.{size-of, call-bad, call-refused, call-done}
+use Rattle.settings.proofs.Answered.{port-set}
+use native.Mathlib.Omega.{arith}
 use borrow.Author.Needs.{needs}
 use Rattle.settings.proofs.set_port.Statement.{statement}
 use Rattle.settings.proofs.set_port.Tie as tie
@@ -14,13 +19,21 @@ same-length : tie.Need-same-length
 same-length c = search needs
 
 returns : tie.Need-returns
-returns c = answers (set-port-bad (c .before .before .before .before .args .tables .now) (sym (c .before .check .ensures) ∙ not-true _ (c .if1 .taken)) (c .before .before .before .before .args .port) (c .before .before .before .before .args .on) (c .before .before .before .before .args .mode))
+returns c =
+    let a = c .before .before .before .before .args in
+    call-bad (sets-port (a .port) (a .on) (a .mode)) (a .tables .now) (sym (c .before .check .ensures) ∙ not-true _ (c .if1 .taken))
 
 same-length-2 : tie.Need-same-length-2
 same-length-2 c = search needs
 
 returns-2 : tie.Need-returns-2
-returns-2 c = answers (set-port-refused (c .before .before .before .before .before .args .tables .now) (c .before .before .before .before .before .args .port) (c .before .before .before .before .before .args .on) (c .before .before .before .before .before .args .mode) (sym (c .before .before .check .ensures) ∙ not-false _ (c .before .if1 .left)) (known-bytes (c .before .before .before .before .before .args .tables .now) (c .before .before .before .before .slice-known .given)) (or-left _ (le-leb _ _ (c .if2 .taken))))
+unfolding ruleOf firstOf _then_otherwise_
+returns-2 c =
+    let a = c .before .before .before .before .before .args in
+    let t = a .tables .now in
+    let ok = sym (c .before .before .check .ensures) ∙ not-false _ (c .before .if1 .left) in
+    call-refused (sets-port (a .port) (a .on) (a .mode)) t ok (known-bytes t (c .before .before .before .before .slice-known .given)) 9 (λ e. omega arith)
+    (rw (or-left _ (le-leb _ _ (c .if2 .taken))))
 
 cast-if3 : tie.Need-cast-if3
 cast-if3 c = search needs
@@ -29,19 +42,44 @@ same-length-3 : tie.Need-same-length-3
 same-length-3 c = search needs
 
 returns-3 : tie.Need-returns-3
-returns-3 c = answers (set-port-refused (c .before .before .before .before .before .before .args .tables .now) (c .before .before .before .before .before .before .args .port) (c .before .before .before .before .before .before .args .on) (c .before .before .before .before .before .before .args .mode) (sym (c .before .before .before .check .ensures) ∙ not-false _ (c .before .before .if1 .left)) (known-bytes (c .before .before .before .before .before .before .args .tables .now) (c .before .before .before .before .before .slice-known .given)) (or-right _ (le-leb _ _ (c .if3 .taken))))
+unfolding ruleOf firstOf _then_otherwise_
+returns-3 c =
+    let c3 = c .before .before .before in
+    let c5 = c3 .before .before in
+    let c6 = c5 .before in
+    let a = c6 .args in
+    let t = a .tables .now in
+    let ok = sym (c3 .check .ensures) ∙ not-false _ (c .before .before .if1 .left) in
+    call-refused (sets-port (a .port) (a .on) (a .mode)) t ok (known-bytes t (c5 .slice-known .given)) 9 (λ e. omega arith)
+    (rw (or-right _ (le-leb _ _ (c .if3 .taken))))
 
 cast-put-port : tie.Need-cast-put-port
 cast-put-port c = search needs
 
 put-port-requires : tie.Need-put-port-requires
-put-port-requires c κs = (size-of (c .before .before .before .before .before .before .before .args .tables .now) (sym (c .before .before .before .before .check .ensures) ∙ not-false _ (c .before .before .before .if1 .left)), c .before .before .if2 .left)
+put-port-requires c κs =
+    let c3 = c .before .before .before in
+    let c4 = c3 .before in
+    let c7 = c4 .before .before .before in
+    (size-of (c7 .args .tables .now) (sym (c4 .check .ensures) ∙ not-false _ (c3 .if1 .left)), c .before .before .if2 .left)
 
 same-length-4 : tie.Need-same-length-4
 same-length-4 c = search needs
 
 returns-4 : tie.Need-returns-4
-returns-4 c = answers-after (c .before .before .put-port .ensures) (set-port-done (c .before .before .before .before .before .before .before .before .before .before .args .tables .now) (c .before .before .before .before .before .before .before .before .before .before .args .port) (c .before .before .before .before .before .before .before .before .before .before .args .on) (c .before .before .before .before .before .before .before .before .before .before .args .mode) (sym (c .before .before .before .before .before .before .before .check .ensures) ∙ not-false _ (c .before .before .before .before .before .before .if1 .left)) (known-bytes (c .before .before .before .before .before .before .before .before .before .before .args .tables .now) (c .before .before .before .before .before .before .before .before .before .slice-known .given)) (c .before .before .before .before .before .if2 .left) (c .before .before .before .before .if3 .left))
+unfolding ruleOf firstOf _then_otherwise_
+returns-4 c =
+    let c4 = c .before .before .before .before in
+    let c5 = c4 .before in
+    let c6 = c5 .before in
+    let c7 = c6 .before in
+    let c9 = c7 .before .before in
+    let c10 = c9 .before in
+    let a = c10 .args in
+    let t = a .tables .now in
+    let ok = sym (c7 .check .ensures) ∙ not-false _ (c6 .if1 .left) in
+    let after = c .before .before .put-port .ensures ∙ port-set t ok (known-bytes t (c9 .slice-known .given)) (a .port) (a .on) (a .mode) (c5 .if2 .left) in
+    call-done (sets-port (a .port) (a .on) (a .mode)) t ok (rw (or-no (lt-leb _ _ (c5 .if2 .left)) (lt-leb _ _ (c4 .if3 .left)))) after
 
 pub set-port-spec : {M : Type 1} → statement M
 set-port-spec =

@@ -1,6 +1,4 @@
-use mathlib.Core.Path.{sym}
-use lib.Seq.{length-take-le}
-use Rattle.line.proofs.TextLaws.{text-within}
+use Rattle.text.proofs.TextLaws.{text-within, text-part}
 use borrow.Author.Needs.{needs}
 use Rattle.show.proofs.main.Statement.{statement}
 use Rattle.show.proofs.main.Tie as tie
@@ -24,7 +22,7 @@ array-share-prefix-bytes : tie.Need-array-share-prefix-bytes
 array-share-prefix-bytes c = text-within (c .before .line-of .result) _ (c .before .line-of .ensures)
 
 slice-aggregate-write-all : tie.Need-slice-aggregate-write-all
-slice-aggregate-write-all c = sym (length-take-le (c .before .before .line-of .result .length) (c .before .before .line-of .result .bytes) (text-within (c .before .before .line-of .result) _ (c .before .before .line-of .ensures)))
+slice-aggregate-write-all c = text-part (c .before .before .line-of .result) _ (c .before .before .line-of .ensures)
 
 write-all-requires : tie.Need-write-all-requires
 write-all-requires c κs = search needs

@@ -7,7 +7,7 @@ use Rattle.act.proofs.announces.announced_path.Statement.{statement}
 use Rattle.act.proofs.announces.announced_path.Tie as tie
 
 parts-of-requires : tie.Need-parts-of-requires
-parts-of-requires c κs = reads-readable longestPacket _ (c .before .before .pre .1) .whole
+parts-of-requires c κs = reads-readable longestPacket _ (c .before .before .pre .0 .readable) .whole
 
 next-hop-of-requires : tie.Need-next-hop-of-requires
 next-hop-of-requires c κs = search needs
@@ -26,7 +26,11 @@ add-t9 c = search needs
 
 returns : tie.Need-returns
 unfolding announcedBy viewAt
-returns c = rw (c .before .before .before .before .next-hop-of .ensures, c .before .path-lifetime .ensures .0, c .before .before .port-mode .ensures, c .before .before .before .wide .ensures, c .before .before .before .before .before .before .parts-of .ensures)
+returns c =
+    let c4 = c .before .before .before .before in
+    let mode = c .before .before .port-mode .ensures in
+    let wide = c .before .before .before .wide .ensures in
+    rw (c4 .next-hop-of .ensures, c .before .path-lifetime .ensures .0, mode, wide, c4 .before .before .parts-of .ensures)
 
 pub announced-path-spec : {M : Type 1} → statement M
 announced-path-spec =

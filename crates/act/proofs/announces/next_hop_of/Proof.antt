@@ -13,16 +13,22 @@ parts-of-requires : tie.Need-parts-of-requires
 parts-of-requires c κs = reads-readable longestPacket _ (c .before .pre) .whole
 
 shared-slice-read-type-two : tie.Need-shared-slice-read-type-two
-shared-slice-read-type-two c = omega (arith, long longestPacket (c .before .before .before .args .packet .now) (c .before .before .before .pre))
+shared-slice-read-type-two c = let s = c .before .before .before in omega (arith, long longestPacket (s .args .packet .now) (s .pre))
 
 type-two-requires : tie.Need-type-two-requires
 type-two-requires c κs = search needs
 
 returns : tie.Need-returns
-returns c = ap (λ (q : Parts). q .relay) (c .before .before .before .before .parts-of .ensures) ∙ sym (then-true _ _ (sym (c .before .before .type-two .ensures) ∙ c .before .if1 .taken))
+returns c =
+    let c2 = c .before .before in
+    ap (λ (q : Parts). q .relay) (c2 .before .before .parts-of .ensures)
+    ∙ sym (then-true _ _ (sym (c2 .type-two .ensures) ∙ c .before .if1 .taken))
 
 returns-2 : tie.Need-returns-2
-returns-2 c = ap (λ (q : Parts). q .destination) (c .before .before .before .before .parts-of .ensures) ∙ sym (then-false _ _ (sym (c .before .before .type-two .ensures) ∙ c .before .if1 .left))
+returns-2 c =
+    let c2 = c .before .before in
+    ap (λ (q : Parts). q .destination) (c2 .before .before .parts-of .ensures)
+    ∙ sym (then-false _ _ (sym (c2 .type-two .ensures) ∙ c .before .if1 .left))
 
 pub next-hop-of-spec : {M : Type 1} → statement M
 next-hop-of-spec =

@@ -1,5 +1,5 @@
-use Prim.Native.Nat.{_≤_, _-_}
-use mathlib.Core.Bool.{not}
+use Prim.Native.Nat.{ℕ, _≤_, _-_}
+use mathlib.Core.Bool.{Bool, not}
 use mathlib.Core.Path.{_≡_, _∙_}
 use lib.Dec.{eqb}
 use Rattle.octets.specs.Index.{_and_}
@@ -37,7 +37,12 @@ loop-less : tie.Need-loop-less Inv-loop μ-loop
 loop-less c = search needs
 
 loop-again : tie.Need-loop-again Inv-loop μ-loop
-loop-again c = (omega arith, c .with-spread-port .ensures ∙ rw (c .before .port-on .ensures, c .before .before .wide .ensures) (set-more (λ port. portOn (relayOf (c .before .before .before .before .before .before .args .tables .now)) port and not (eqb port (c .before .before .before .before .before .before .args .arrival))) _ (c .before .before .before .before .loop .inv .1)))
+loop-again c =
+    let c4 = c .before .before .before .before in
+    let s = c4 .before .before in
+    let belongs : ℕ → Bool = λ port. portOn (relayOf (s .args .tables .now)) port and not (eqb port (s .args .arrival)) in
+    let more = set-more belongs _ (c4 .loop .inv .1) in
+    (omega arith, c .with-spread-port .ensures ∙ rw (c .before .port-on .ensures, c .before .before .wide .ensures) more)
 
 returns : tie.Need-returns Inv-loop μ-loop
 returns c = set-end _ _ (c .before .loop .inv .1) (c .before .loop .inv .0) (c .loop-test .left)

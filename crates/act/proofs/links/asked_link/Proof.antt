@@ -25,7 +25,7 @@ mul-lifetime c = search needs
 shared-slice-read-t12 : tie.Need-shared-slice-read-t12
 shared-slice-read-t12 c =
     let s = c .before .before .before .before .before .before in
-    omega (arith, long longestPacket (s .args .packet .now) (s .pre .2))
+    omega (arith, long longestPacket (s .args .packet .now) (s .pre .0 .readable))
 
 add-t9 : tie.Need-add-t9
 add-t9 c = search needs
@@ -35,7 +35,7 @@ unfolding linkRecord
 returns c =
     let c3 = c .before .before .before in
     let s = c3 .before .before .before .before in
-    rw (s .pre .4, c3 .before .path-port .ensures, c .before .before .wide .ensures, c3 .path-hops .ensures, parts-hops)
+    rw (s .pre .3, c3 .before .path-port .ensures, c .before .before .wide .ensures, c3 .path-hops .ensures, parts-hops)
 
 pub asked-link-spec : {M : Type 1} → statement M
 asked-link-spec =

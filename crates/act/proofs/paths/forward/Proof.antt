@@ -16,10 +16,12 @@ same-length : tie.Need-same-length
 same-length c = search needs
 
 returns : tie.Need-returns
-returns c = (
-  c .before .before .forward-by-path .ensures .0 ∙ rw (c .before .before .before .before .before .path-hops .ensures, c .before .before .before .before .path-next-hop .ensures),
-  c .before .before .forward-by-path .ensures .1 ∙ rw (c .before .before .before .before .before .path-hops .ensures, c .before .before .before .before .path-next-hop .ensures),
-)
+returns c =
+    let c4 = c .before .before .before .before in
+    let sent = c .before .before .forward-by-path .ensures in (
+      sent .0 ∙ rw (c4 .before .path-hops .ensures, c4 .path-next-hop .ensures),
+      sent .1 ∙ rw (c4 .before .path-hops .ensures, c4 .path-next-hop .ensures),
+    )
 
 pub forward-spec : {M : Type 1} → statement M
 forward-spec =

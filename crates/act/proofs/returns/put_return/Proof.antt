@@ -26,15 +26,20 @@ add-put-return c = search needs
 
 put-return-requires : tie.Need-put-return-requires
 put-return-requires c κs =
-    let size = formed _ (c .before .before .before .before .before .before .before .before .before .before .pre .0) .size in
-    (search needs, subst (λ (k : ℕ). k < returnCount) (sym (c .before .before .before .before .before .next-return .ensures)) (return-next-within _ (c .before .before .before .before .before .before .before .before .before .before .pre .0)))
+    let c5 = c .before .before .before .before .before in
+    let s = c5 .before .before .before .before .before in
+    let size = formed _ (s .pre .0) .size in
+    (search needs, subst (λ (k : ℕ). k < returnCount) (sym (c5 .next-return .ensures)) (return-next-within _ (s .pre .0)))
 
 same-length : tie.Need-same-length
 same-length c = search needs
 
 returns : tie.Need-returns
 unfolding returnPut part
-returns c = c .before .before .put-return .ensures ∙ rw (c .before .before .before .before .before .before .empty-returns .ensures, c .before .before .before .before .before .before .before .before .before .before .address-at .ensures, c .before .before .before .before .before .before .before .before .next-return .ensures)
+returns c =
+    let c6 = c .before .before .before .before .before .before in
+    let c8 = c6 .before .before in
+    c .before .before .put-return .ensures ∙ rw (c6 .empty-returns .ensures, c8 .before .before .address-at .ensures, c8 .next-return .ensures)
 
 pub put-return-spec : {M : Type 1} → statement M
 put-return-spec =

@@ -1,9 +1,8 @@
--- `haskumye::hashing::haskumye_sha256` meets its contract.
 use mathlib.Core.Path.{ap}
 use borrow.Author.Needs.{needs}
 use denote.Ref.{now}
 use Rattle.sha256.specs.declared.Digest.{Digest}
-use Rattle.haskumye.proofs.ExportLaws.{written, kept}
+use Rattle.haskumye.proofs.ExportLaws.{written, untouched}
 use Rattle.haskumye.proofs.hashing.haskumye_sha256.Statement.{statement}
 use Rattle.haskumye.proofs.hashing.haskumye_sha256.Tie as tie
 
@@ -13,12 +12,14 @@ sha256-requires c κs = search needs
 returns : tie.Need-returns
 returns c =
     let s = c .before .before .sha256 in
-    written (s .result .refusal) _ (ap (λ (d : Digest). d .refusal) (s .ensures)) _ (now (c .before .before .before .before .args .out)) (s .result .bytes) (ap (λ (d : Digest). d .bytes) (s .ensures)) (c .before .if1 .taken)
+    let refused = ap (λ (a : Digest). a .refusal) (s .ensures) in
+    let bytes = ap (λ (a : Digest). a .bytes) (s .ensures) in
+    written (s .result .refusal) _ refused _ (now (c .before .before .before .before .args .out)) (s .result .bytes) bytes (c .before .if1 .taken)
 
 returns-2 : tie.Need-returns-2
 returns-2 c =
     let s = c .before .sha256 in
-    kept (s .result .refusal) _ (ap (λ (d : Digest). d .refusal) (s .ensures)) _ (now (c .before .before .before .args .out)) (c .if1 .left)
+    untouched (s .result .refusal) _ (ap (λ (d : Digest). d .refusal) (s .ensures)) _ (now (c .before .before .before .args .out)) (c .if1 .left)
 
 pub haskumye-sha256-spec : {M : Type 1} → statement M
 haskumye-sha256-spec = tie.close (tie.spec sha256-requires returns returns-2)

@@ -1,4 +1,3 @@
--- `haskumye::packet_call::judge_numbered` meets its contract.
 use mathlib.Core.Path.{ap, _∙_}
 use Rattle.haskumye.specs.Answers.{answerNumber}
 use borrow.Author.Needs.{needs}

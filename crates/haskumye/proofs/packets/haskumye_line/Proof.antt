@@ -1,4 +1,3 @@
--- `haskumye::packets::haskumye_line` meets its contract.
 use borrow.Author.Needs.{needs}
 use Rattle.haskumye.proofs.packets.haskumye_line.Statement.{statement}
 use Rattle.haskumye.proofs.packets.haskumye_line.Tie as tie

@@ -1,4 +1,3 @@
--- `haskumye::packets::haskumye_payload_start` meets its contract.
 use Rattle.haskumye.proofs.ExportLaws.{place-found, payload-short}
 use native.Mathlib.Omega.{arith}
 use borrow.Author.Needs.{needs}

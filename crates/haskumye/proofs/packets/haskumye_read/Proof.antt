@@ -1,9 +1,8 @@
--- `haskumye::packets::haskumye_read` meets its contract.
 use mathlib.Core.Path.{ap, _∙_}
 use denote.Ref.{now}
 use Rattle.packet.specs.declared.Reading.{Reading}
 use Rattle.haskumye.specs.Packets.{partsBytes}
-use Rattle.haskumye.proofs.ExportLaws.{written, kept}
+use Rattle.haskumye.proofs.ExportLaws.{written, untouched}
 use borrow.Author.Needs.{needs}
 use Rattle.haskumye.proofs.packets.haskumye_read.Statement.{statement}
 use Rattle.haskumye.proofs.packets.haskumye_read.Tie as tie
@@ -16,14 +15,16 @@ parts-bytes-requires c κs = search needs
 
 returns : tie.Need-returns
 returns c =
-    let s = c .before .before .before .read in
-    written (s .result .refusal) _ (ap (λ (a : Reading). a .refusal) (s .ensures)) _ (now (c .before .before .before .before .before .args .parts)) (c .parts-bytes .result)
-    (c .parts-bytes .ensures ∙ ap (λ (a : Reading). partsBytes (a .parts)) (s .ensures)) (c .before .before .if1 .taken)
+    let c3 = c .before .before .before in
+    let s = c3 .read in
+    let refused = ap (λ (a : Reading). a .refusal) (s .ensures) in
+    let bytes = c .parts-bytes .ensures ∙ ap (λ (a : Reading). partsBytes (a .parts)) (s .ensures) in
+    written (s .result .refusal) _ refused _ (now (c3 .before .before .args .parts)) (c .parts-bytes .result) bytes (c .before .before .if1 .taken)
 
 returns-2 : tie.Need-returns-2
 returns-2 c =
     let s = c .before .read in
-    kept (s .result .refusal) _ (ap (λ (a : Reading). a .refusal) (s .ensures)) _ (now (c .before .before .before .args .parts)) (c .if1 .left)
+    untouched (s .result .refusal) _ (ap (λ (a : Reading). a .refusal) (s .ensures)) _ (now (c .before .before .before .args .parts)) (c .if1 .left)
 
 pub haskumye-read-spec : {M : Type 1} → statement M
 haskumye-read-spec = tie.close (tie.spec read-requires parts-bytes-requires returns returns-2)

@@ -1,4 +1,3 @@
--- `haskumye::packets::haskumye_write` meets its contract.
 use mathlib.Core.Path.{ap, _∙_}
 use Prim.Native.Nat.{ℕ, _+_, _*_}
 use Rattle.packet.specs.Write.{Writing, writing}
@@ -7,8 +6,15 @@ use Rattle.haskumye.specs.Packets.{writtenNumber}
 use Rattle.haskumye.proofs.ExportLaws.{written-most}
 use native.Mathlib.Omega.{arith}
 use borrow.Author.Needs.{needs}
+use Prim.Native.Nat.{_≤_}
 use Rattle.haskumye.proofs.packets.haskumye_write.Statement.{statement}
 use Rattle.haskumye.proofs.packets.haskumye_write.Tie as tie
+
+-- what is written is at most 500 bytes
+most : (c : tie.After-write) → c .write .result .length ≤ 500
+most c =
+    let a = c .before .before .before .before .before .before .args in
+    written-most (c .write .result) (c .before .before .type-two-parts .result) (a .payload .now) (a .output .now) (c .write .ensures .0)
 
 type-two-parts-requires : tie.Need-type-two-parts-requires
 type-two-parts-requires c κs = search needs
@@ -17,17 +23,13 @@ write-requires : tie.Need-write-requires
 write-requires c κs = search needs
 
 mul-result : tie.Need-mul-result
-mul-result c =
-    let a = c .before .before .before .before .before .before .before .before .args in
-    record { fits = omega (arith, written-most (c .before .before .write .result) (c .before .before .before .before .type-two-parts .result) (a .payload .now) (a .output .now) (c .before .before .write .ensures .0)) }
+mul-result c = record { fits = omega (arith, most (c .before .before)) }
 
 wide-requires : tie.Need-wide-requires
 wide-requires c κs = search needs
 
 add-result : tie.Need-add-result
-add-result c =
-    let a = c .before .before .before .before .before .before .before .before .before .args in
-    record { fits = omega (arith, written-most (c .before .before .before .write .result) (c .before .before .before .before .before .type-two-parts .result) (a .payload .now) (a .output .now) (c .before .before .before .write .ensures .0), c .wide .ensures) }
+add-result c = record { fits = omega (arith, most (c .before .before .before), c .wide .ensures) }
 
 same-length : tie.Need-same-length
 same-length c = search needs
@@ -35,11 +37,13 @@ same-length c = search needs
 returns : tie.Need-returns
 unfolding writtenNumber
 returns c =
-    let a = c .before .before .before .before .before .before .before .before .before .args in
-    let w = c .before .before .before .write in
+    let c3 = c .before .before .before in
+    let a = c3 .before .before .before .before .before .before .args in
+    let w = c3 .write in
     let whole : Parts → Writing = λ (q : Parts). writing q (a .payload .now) (a .output .now) in
-    let same = ap whole (c .before .before .before .before .before .type-two-parts .ensures) in
-    (ap (λ (n : ℕ). w .result .length * 65536 + n) (c .wide .ensures) ∙ ap writtenNumber (w .ensures .0 ∙ ap (λ (x : Writing). x .answer) same), w .ensures .1 ∙ ap (λ (x : Writing). x .output) same)
+    let same = ap whole (c3 .before .before .type-two-parts .ensures) in
+    let number = ap (λ (n : ℕ). w .result .length * 65536 + n) (c .wide .ensures) in
+    (number ∙ ap writtenNumber (w .ensures .0 ∙ ap (λ (x : Writing). x .answer) same), w .ensures .1 ∙ ap (λ (x : Writing). x .output) same)
 
 pub haskumye-write-spec : {M : Type 1} → statement M
 haskumye-write-spec =

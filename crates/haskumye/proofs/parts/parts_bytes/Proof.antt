@@ -1,16 +1,17 @@
--- `haskumye::parts::parts_bytes` meets its contract.
 use Prim.Native.Nat.{ℕ}
 use mathlib.Core.List.{List, [], _∷_}
-use mathlib.Core.Path.{_≡_, ap, _∙_}
-use lib.ListN.{length, replicate, length-replicate}
+use mathlib.Core.Path.{ap, _∙_}
+use lib.ListN.{replicate, length-replicate}
 use Rattle.octets.specs.Part.{patch}
-use Rattle.packet.specs.declared.Parts.{Parts}
 use Rattle.packet.specs.Write.{Wide}
 use Rattle.haskumye.proofs.ExportLaws.{parts-written}
 use native.Mathlib.Omega.{arith}
 use borrow.Author.Needs.{needs}
 use Rattle.haskumye.proofs.parts.parts_bytes.Statement.{statement}
 use Rattle.haskumye.proofs.parts.parts_bytes.Tie as tie
+
+wide : (s : tie.Start) → Wide (s .args .parts)
+wide s = record { relay = search needs; destination = search needs }
 
 slice-aggregate-set-at : tie.Need-slice-aggregate-set-at
 slice-aggregate-set-at c = search needs
@@ -32,8 +33,9 @@ slice-aggregate-copy-at-2 c = search needs
 
 copy-at-requires : tie.Need-copy-at-requires
 copy-at-requires c κs =
-    let wide : length (c .before .before .before .before .before .before .before .before .before .before .args .parts .relay) ≡ 16 = search needs in
-    omega (arith, wide, c .before .before .before .before .before .before .set-at .kept .0, c .before .before .before .set-at2 .kept .0)
+    let c3 = c .before .before .before in
+    let c6 = c3 .before .before .before in
+    omega (arith, wide (c6 .before .before .before .before) .relay, c6 .set-at .kept .0, c3 .set-at2 .kept .0)
 
 slice-aggregate-copy-at-3 : tie.Need-slice-aggregate-copy-at-3
 slice-aggregate-copy-at-3 c = search needs
@@ -43,8 +45,10 @@ slice-aggregate-copy-at-4 c = search needs
 
 copy-at-requires-2 : tie.Need-copy-at-requires-2
 copy-at-requires-2 c κs =
-    let wide : length (c .before .before .before .before .before .before .before .before .before .before .before .before .before .before .args .parts .destination) ≡ 16 = search needs in
-    omega (arith, wide, c .before .before .before .before .before .before .before .before .before .before .set-at .kept .0, c .before .before .before .before .before .before .before .set-at2 .kept .0, c .before .before .before .copy-at .kept .0)
+    let c3 = c .before .before .before in
+    let c7 = c3 .before .before .before .before in
+    let c10 = c7 .before .before .before in
+    omega (arith, wide (c10 .before .before .before .before) .destination, c10 .set-at .kept .0, c7 .set-at2 .kept .0, c3 .copy-at .kept .0)
 
 slice-aggregate-set-at-3 : tie.Need-slice-aggregate-set-at-3
 slice-aggregate-set-at-3 c = search needs
@@ -54,12 +58,18 @@ set-at-requires-3 c κs = search needs
 
 returns : tie.Need-returns
 returns c =
-    let q : Parts = c .before .before .before .before .before .before .before .before .before .before .before .before .before .before .before .before .before .before .before .args .parts in
-    let wide : Wide q = record { relay = search needs; destination = search needs } in
+    let c4 = c .before .before .before .before in
+    let c8 = c4 .before .before .before .before in
+    let c12 = c8 .before .before .before .before in
+    let c15 = c12 .before .before .before in
+    let s = c15 .before .before .before .before in
+    let q = s .args .parts in
+    let hops = c12 .set-at2 .ensures ∙ ap (λ (r : List ℕ). patch r 1 (q .hops ∷ [])) (c15 .set-at .ensures) in
+    let relay = c8 .copy-at .ensures ∙ ap (λ (r : List ℕ). patch r 2 (q .relay)) hops in
+    let destination = c4 .copy-at2 .ensures ∙ ap (λ (r : List ℕ). patch r 18 (q .destination)) relay in
     c .before .set-at3 .ensures
-    ∙ ap (λ (r : List ℕ). patch r 34 (q .context ∷ []))
-    (c .before .before .before .before .copy-at2 .ensures ∙ ap (λ (r : List ℕ). patch r 18 (q .destination)) (c .before .before .before .before .before .before .before .before .copy-at .ensures ∙ ap (λ (r : List ℕ). patch r 2 (q .relay)) (c .before .before .before .before .before .before .before .before .before .before .before .before .set-at2 .ensures ∙ ap (λ (r : List ℕ). patch r 1 (q .hops ∷ [])) (c .before .before .before .before .before .before .before .before .before .before .before .before .before .before .before .set-at .ensures))))
-    ∙ parts-written (replicate 35 0) (length-replicate {A = ℕ} 35 0) q wide
+    ∙ ap (λ (r : List ℕ). patch r 34 (q .context ∷ [])) destination
+    ∙ parts-written (replicate 35 0) (length-replicate {A = ℕ} 35 0) q (wide s)
 
 pub parts-bytes-spec : {M : Type 1} → statement M
 parts-bytes-spec =

@@ -1,4 +1,3 @@
--- `haskumye::table_calls::haskumye_check` meets its contract.
 use borrow.Author.Needs.{needs}
 use Rattle.octets.specs.Choice.{_then_otherwise_}
 use Rattle.tables.specs.Records.{markOf}

@@ -1,8 +1,10 @@
-use native.Mathlib.Nat.{le-of-eq}
-use lib.ListN.{length}
-use Rattle.line.proofs.LineLaws.{typed-most, named-most, sent-most, loaded-most, relayed-most, parts-holds}
+use Rattle.text.proofs.WordLaws.{words-appended}
 use mathlib.Core.Path.{_≡_}
-use Rattle.line.proofs.LineLaws.{parts-holds}
+use mathlib.Core.List.{_++_}
+use lib.ListN.{length}
+use Rattle.text.proofs.WordLaws.{line-appended}
+use Rattle.line.specs.Line.{typeName, nameWords, wayWords, payloadWords, relayWords, partsWords}
+use Rattle.line.proofs.LineLaws.{parts-fit}
 use native.Mathlib.Omega.{arith}
 use borrow.Author.Needs.{needs}
 use Rattle.line.proofs.fields.parts_line.Statement.{statement}
@@ -12,58 +14,42 @@ type-line-requires : tie.Need-type-line-requires
 type-line-requires c κs = search needs
 
 with-names-requires : tie.Need-with-names-requires
-with-names-requires c κs =
-    let a = c .before .before .before .args in
-    omega (arith, typed-most (a .parts) (a .size) (c .type-line .result) (c .type-line .ensures))
+with-names-requires c κs = search needs
 
 with-way-requires : tie.Need-with-way-requires
-with-way-requires c κs =
-    let a = c .before .before .before .before .args in
-    let after-type-line = c .before .type-line in
-    omega (arith, named-most (a .parts) (a .size) (after-type-line .result) (c .with-names .result) (c .with-names .ensures), typed-most (a .parts) (a .size) (after-type-line .result) (after-type-line .ensures))
+with-way-requires c κs = search needs
 
 with-payload-requires : tie.Need-with-payload-requires
-with-payload-requires c κs =
-    let a = c .before .before .before .before .before .args in
-    let destination-width : length (a .parts .destination) ≡ 16 = search needs in
-    let after-type-line = c .before .before .type-line in
-    let after-names = c .before .with-names in
-    (c .before .before .before .before .before .pre, omega (arith, sent-most (a .parts) (a .size) (after-names .result) (c .with-way .result) (le-of-eq destination-width) (c .with-way .ensures), named-most (a .parts) (a .size) (after-type-line .result) (after-names .result) (after-names .ensures), typed-most (a .parts) (a .size) (after-type-line .result) (after-type-line .ensures)))
+with-payload-requires c κs = search needs
 
 with-relay-requires : tie.Need-with-relay-requires
-with-relay-requires c κs =
-    let a = c .before .before .before .before .before .before .args in
-    let destination-width : length (a .parts .destination) ≡ 16 = search needs in
-    let after-type-line = c .before .before .before .type-line in
-    let after-names = c .before .before .with-names in
-    let after-way = c .before .with-way in
-    omega (arith, loaded-most (a .parts) (a .size) (after-way .result) (c .with-payload .result) (c .with-payload .ensures), sent-most (a .parts) (a .size) (after-names .result) (after-way .result) (le-of-eq destination-width) (after-way .ensures), named-most (a .parts) (a .size) (after-type-line .result) (after-names .result) (after-names .ensures), typed-most (a .parts) (a .size) (after-type-line .result) (after-type-line .ensures))
+with-relay-requires c κs = search needs
 
 with-character-requires : tie.Need-with-character-requires
-with-character-requires c κs =
-    let a = c .before .before .before .before .before .before .before .args in
-    let destination-width : length (a .parts .destination) ≡ 16 = search needs in
-    let relay-width : length (a .parts .relay) ≡ 16 = search needs in
-    let after-type-line = c .before .before .before .before .type-line in
-    let after-names = c .before .before .before .with-names in
-    let after-way = c .before .before .with-way in
-    let after-payload = c .before .with-payload in
-    omega (arith, relayed-most (a .parts) (a .size) (after-payload .result) (c .with-relay .result) (le-of-eq relay-width) (c .with-relay .ensures), loaded-most (a .parts) (a .size) (after-way .result) (after-payload .result) (after-payload .ensures), sent-most (a .parts) (a .size) (after-names .result) (after-way .result) (le-of-eq destination-width) (after-way .ensures), named-most (a .parts) (a .size) (after-type-line .result) (after-names .result) (after-names .ensures), typed-most (a .parts) (a .size) (after-type-line .result) (after-type-line .ensures))
+with-character-requires c κs = search needs
 
 returns : tie.Need-returns
+unfolding partsWords
 returns c =
-    let a = c .before .before .before .before .before .before .before .before .args in
+    let q = c .before .before .before .before .before .before .before .before .args .parts in
     let good = c .before .before .before .before .before .before .before .before .good in
-    let destination-width : length (a .parts .destination) ≡ 16 = search needs in
-    let relay-width : length (a .parts .relay) ≡ 16 = search needs in
-    let after-type-line = c .before .before .before .before .before .type-line in
-    let after-names = c .before .before .before .before .with-names in
-    let after-way = c .before .before .before .with-way in
-    let after-payload = c .before .before .with-payload in
-    let after-relay = c .before .with-relay in
-    parts-holds (a .parts) (a .size) (le-of-eq destination-width) (le-of-eq relay-width)
-    (after-type-line .result) (after-names .result) (after-way .result) (after-payload .result) (after-relay .result) (c .with-character .result)
-    (after-type-line .ensures) (after-names .ensures) (after-way .ensures) (after-payload .ensures) (after-relay .ensures) (c .with-character .ensures) .text-there
+    let destination-width : length (q .destination) ≡ 16 = search needs in
+    let relay-width : length (q .relay) ≡ 16 = search needs in
+    let c3 = c .before .before .before in
+    let start = c3 .before .before .before .before .before in
+    let size = start .args .size in
+    let h = q .header in
+    let fit = parts-fit q size (omega arith) destination-width relay-width (start .pre) in
+    let words = nameWords h ++ (wayWords (q .hops) (q .destination) ++ (payloadWords (q .context) size ++ relayWords h (q .relay))) in
+    rw (
+      c .with-character .ensures,
+      c .before .with-relay .ensures,
+      c .before .before .with-payload .ensures,
+      c3 .with-way .ensures,
+      c3 .before .with-names .ensures,
+      c3 .before .before .type-line .ensures,
+    )
+    (simp words-appended (line-appended (typeName h) words fit))
 
 pub parts-line-spec : {M : Type 1} → statement M
 parts-line-spec =

@@ -1,12 +1,8 @@
-use mathlib.Core.Path.{sym, ap, _∙_}
-use mathlib.Core.List.{[]}
-use lib.ListN.{length}
-use Rattle.line.proofs.TextLaws.{grown-text}
-use Rattle.line.proofs.NameLaws.{type-two, type-one}
-use Rattle.line.specs.Line.{lineOf}
-use Rattle.line.specs.Words.{type1Word, type2Word}
-use Rattle.line.specs.declared.Line.{Line}
-use native.Mathlib.Omega.{arith}
+use mathlib.Core.Path.{_≡_, sym, _∙_}
+use mathlib.Core.Bool.{true, false}
+use Rattle.octets.specs.Choice.{_then_otherwise_}
+use Rattle.packet.specs.Header.{typeTwo}
+use Rattle.line.specs.Line.{typeName}
 use borrow.Author.Needs.{needs}
 use Rattle.line.proofs.names.type_line.Statement.{statement}
 use Rattle.line.proofs.names.type_line.Tie as tie
@@ -21,25 +17,27 @@ slice-aggregate-with-text : tie.Need-slice-aggregate-with-text
 slice-aggregate-with-text c = search needs
 
 with-text-requires : tie.Need-with-text-requires
-unfolding lineOf
-with-text-requires c κs = omega (arith, ap (λ (l : Line). l .length) (c .before .before .before .empty .ensures))
+with-text-requires c κs = search needs
 
 returns : tie.Need-returns
+unfolding typeName _then_otherwise_
 returns c =
-    let after-empty = c .before .before .before .before .empty in
-    grown-text (after-empty .result) (c .with-text .result) [] type2Word (omega arith) (after-empty .ensures) (c .with-text .ensures) ∙ ap lineOf (type-two (c .before .before .before .before .before .args .header) (sym (c .before .before .before .type-two .ensures) ∙ c .before .before .if1 .taken))
+    let c4 = c .before .before .before .before in
+    let two : typeTwo (c4 .before .args .header) ≡ true = sym (c .before .before .before .type-two .ensures) ∙ c .before .before .if1 .taken in
+    rw (c .with-text .ensures, c4 .empty .ensures, two)
 
 slice-aggregate-with-text-2 : tie.Need-slice-aggregate-with-text-2
 slice-aggregate-with-text-2 c = search needs
 
 with-text-requires-2 : tie.Need-with-text-requires-2
-unfolding lineOf
-with-text-requires-2 c κs = omega (arith, ap (λ (l : Line). l .length) (c .before .before .before .empty .ensures))
+with-text-requires-2 c κs = search needs
 
 returns-2 : tie.Need-returns-2
+unfolding typeName _then_otherwise_
 returns-2 c =
-    let after-empty = c .before .before .before .before .empty in
-    grown-text (after-empty .result) (c .with-text2 .result) [] type1Word (omega arith) (after-empty .ensures) (c .with-text2 .ensures) ∙ ap lineOf (type-one (c .before .before .before .before .before .args .header) (sym (c .before .before .before .type-two .ensures) ∙ c .before .before .if1 .left))
+    let c4 = c .before .before .before .before in
+    let one : typeTwo (c4 .before .args .header) ≡ false = sym (c .before .before .before .type-two .ensures) ∙ c .before .before .if1 .left in
+    rw (c .with-text2 .ensures, c4 .empty .ensures, one)
 
 pub type-line-spec : {M : Type 1} → statement M
 type-line-spec =

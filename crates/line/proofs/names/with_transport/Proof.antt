@@ -1,8 +1,8 @@
-use mathlib.Core.Path.{sym, ap, _∙_}
-use Prim.Native.Nat.{ℕ}
-use mathlib.Core.List.{List, [], _∷_}
-use Rattle.line.proofs.NameLaws.{transport-on, transport-off}
-use Rattle.line.specs.Line.{appended, spaced}
+use mathlib.Core.Path.{_≡_, sym, _∙_}
+use mathlib.Core.Bool.{true, false}
+use Rattle.octets.specs.Choice.{_then_otherwise_}
+use Rattle.packet.specs.Header.{transport}
+use Rattle.line.specs.Line.{transportName}
 use borrow.Author.Needs.{needs}
 use Rattle.line.proofs.names.with_transport.Statement.{statement}
 use Rattle.line.proofs.names.with_transport.Tie as tie
@@ -17,9 +17,11 @@ with-word-requires : tie.Need-with-word-requires
 with-word-requires c κs = search needs
 
 returns : tie.Need-returns
+unfolding transportName _then_otherwise_
 returns c =
-    let a = c .before .before .before .before .args in
-    c .with-word .ensures ∙ ap (λ (w : List ℕ). appended (a .line) (spaced (w ∷ []))) (transport-on (a .header) (sym (c .before .before .before .transport .ensures) ∙ c .before .before .if1 .taken))
+    let c3 = c .before .before .before in
+    let on : transport (c3 .before .args .header) ≡ true = sym (c3 .transport .ensures) ∙ c .before .before .if1 .taken in
+    rw (c .with-word .ensures, on)
 
 slice-aggregate-with-word-2 : tie.Need-slice-aggregate-with-word-2
 slice-aggregate-with-word-2 c = search needs
@@ -28,9 +30,11 @@ with-word-requires-2 : tie.Need-with-word-requires-2
 with-word-requires-2 c κs = search needs
 
 returns-2 : tie.Need-returns-2
+unfolding transportName _then_otherwise_
 returns-2 c =
-    let a = c .before .before .before .before .args in
-    c .with-word2 .ensures ∙ ap (λ (w : List ℕ). appended (a .line) (spaced (w ∷ []))) (transport-off (a .header) (sym (c .before .before .before .transport .ensures) ∙ c .before .before .if1 .left))
+    let c3 = c .before .before .before in
+    let off : transport (c3 .before .args .header) ≡ false = sym (c3 .transport .ensures) ∙ c .before .before .if1 .left in
+    rw (c .with-word2 .ensures, off)
 
 pub with-transport-spec : {M : Type 1} → statement M
 with-transport-spec =

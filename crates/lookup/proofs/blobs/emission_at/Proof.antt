@@ -1,7 +1,8 @@
-use mathlib.Core.Path.{ap, _∙_}
+use mathlib.Core.Path.{sym, ap, _∙_}
 use Rattle.octets.specs.BigEndian.{number}
 use Rattle.packet.specs.Announce.{emissionOf}
-use Rattle.lookup.proofs.HeldBlobs.{emission-seen}
+use lib.Dec.{lit≤}
+use Rattle.octets.proofs.Part.{part-part}
 use borrow.Author.Needs.{needs}
 use Rattle.lookup.proofs.blobs.emission_at.Statement.{statement}
 use Rattle.lookup.proofs.blobs.emission_at.Tie as tie
@@ -20,7 +21,7 @@ number-at-requires c κs = search needs
 
 returns : tie.Need-returns
 unfolding emissionOf
-returns c = c .number-at .ensures ∙ ap number (emission-seen (c .before .before .args .b .now) (c .before .before .args .i))
+returns c = c .number-at .ensures ∙ ap number (sym (part-part _ _ _ _ _ (lit≤ tt)))
 
 pub emission-at-spec : {M : Type 1} → statement M
 emission-at-spec =

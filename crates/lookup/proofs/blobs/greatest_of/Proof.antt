@@ -40,9 +40,14 @@ loop-less c = search needs
 
 loop-again : tie.Need-loop-again Inv-loop μ-loop
 loop-again c =
-    let s = c .before .before .before .before .before .before in
-    let at = c .before .before .before in
-    (search needs, c .greater .ensures ∙ ap₂ (λ (p q : ℕ). greatest p q) (c .before .emission-at .ensures) (at .loop .inv .1) ∙ held-more (s .args .b .now) (s .pre .1) (at .loop .i) (c .before .before .loop-test .taken) (at .loop .inv .0))
+    let c3 = c .before .before .before in
+    let c6 = c3 .before .before .before in
+    let s = c6 in
+    let at = c3 in (
+      search needs,
+      c .greater .ensures ∙ ap₂ (λ (p q : ℕ). greatest p q) (c .before .emission-at .ensures) (at .loop .inv .1) ∙ held-more
+          (s .args .b .now) (s .pre .1) (at .loop .i) (c .before .before .loop-test .taken) (at .loop .inv .0),
+    )
 
 returns : tie.Need-returns Inv-loop μ-loop
 returns c =

@@ -46,11 +46,14 @@ equal-at-requires c κs = search needs
 returns : tie.Need-returns Inv-loop μ-loop
 unfolding held blobsOf
 returns c =
-    let s = c .before .before .before .before .before .before .before in
+    let c3 = c .before .before .before in
+    let c7 = c3 .before .before .before .before in
+    let s = c7 in
     let a = s .args in
-    let i = c .before .before .before .loop .i in
+    let i = c3 .loop .i in
     let l : i < blobLimit = omega arith in
-    sym (blob-here (a .b .now) (a .blob .now) (s .pre .0) (s .pre .1) i l (c .before .equal-at .ensures) (blobsOf (a .b .now) .count) (c .before .before .loop-test .taken) (c .if1 .taken))
+    sym (blob-here (a .b .now) (a .blob .now) (s .pre .0) (s .pre .1) i l (c .before .equal-at .ensures) (blobsOf (a .b .now) .count)
+    (c .before .before .loop-test .taken) (c .if1 .taken))
 
 add-i : tie.Need-add-i Inv-loop μ-loop
 unfolding blobsOf

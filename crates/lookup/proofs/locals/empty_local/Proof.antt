@@ -29,9 +29,13 @@ shared-slice-read-if1 c = search needs
 
 returns : tie.Need-returns Inv-loop μ-loop
 returns c =
-    let s = c .before .before .before .before .before .before in
-    let at = c .before .before .before .before in
-    found-here _ _ _ _ _ (c .before .before .record-at .ensures .0) refl localCount (c .before .before .before .loop-test .taken) (eq-eqb _ _ (c .if1 .taken)) (at .loop .inv .1) ∙ empty-lowest (s .args .tables .now)
+    let c3 = c .before .before .before in
+    let c4 = c3 .before in
+    let c6 = c4 .before .before in
+    let s = c6 in
+    let at = c4 in
+    found-here _ _ _ _ _ (c .before .before .record-at .ensures .0) refl localCount (c3 .loop-test .taken) (eq-eqb _ _ (c .if1 .taken))
+    (at .loop .inv .1) ∙ empty-lowest (s .args .tables .now)
 
 add-i : tie.Need-add-i Inv-loop μ-loop
 add-i c = search needs

@@ -23,8 +23,10 @@ shared-slice-read-result c = search needs
 
 returns-2 : tie.Need-returns-2
 returns-2 c =
-    let s = c .before .before .before .before in
-    ap (λ (b : List ℕ). eqb (getD b 0 0) 1) (c .before .record-at .ensures .0) ∙ sym (on-seen (s .args .tables .now) (s .args .port) (c .before .before .if1 .left))
+    let c4 = c .before .before .before .before in
+    let s = c4 in
+    ap (λ (b : List ℕ). eqb (getD b 0 0) 1) (c .before .record-at .ensures .0) ∙ sym
+    (on-seen (s .args .tables .now) (s .args .port) (c .before .before .if1 .left))
 
 pub port-on-spec : {M : Type 1} → statement M
 port-on-spec = tie.close (tie.spec returns record-at-requires shared-slice-read-result returns-2)

@@ -23,11 +23,13 @@ equal-at-requires c κs = search needs
 returns-2 : tie.Need-returns-2
 unfolding hasKey isUsed _and_
 returns-2 c =
-    let s = c .before .before .before .before .before in
+    let c5 = c .before .before .before .before .before in
+    let s = c5 in
     let a = s .args in
     let b = a .b .now in
     let key = a .key .now in
-    rw (ne-eqb _ _ (c .before .if1 .left)) (c .equal-at .ensures ∙ sym (same-agree (length key) (part b 1 (length key)) key (part-length b 1 (length key) (s .pre)) refl))
+    rw (ne-eqb _ _ (c .before .if1 .left)) (c .equal-at .ensures ∙ sym
+    (same-agree (length key) (part b 1 (length key)) key (part-length b 1 (length key) (s .pre)) refl))
 
 pub has-key-spec : {M : Type 1} → statement M
 has-key-spec = tie.close (tie.spec shared-slice-read-if1 returns equal-at-requires returns-2)

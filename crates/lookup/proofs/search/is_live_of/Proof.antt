@@ -21,8 +21,10 @@ number-of-8-at-requires c κs = search needs
 returns-2 : tie.Need-returns-2
 unfolding isLiveOf
 returns-2 c =
-    let s = c .before .before .before .before .before in
-    ap (λ (n : ℕ). ltb (s .args .clock) n) (c .number-of-8-at .ensures) ∙ sym (and-yes _ (sym (c .before .before .has-key .ensures) ∙ not-false _ (c .before .if1 .left)))
+    let c5 = c .before .before .before .before .before in
+    let s = c5 in
+    ap (λ (n : ℕ). ltb (s .args .clock) n) (c .number-of-8-at .ensures) ∙ sym
+    (and-yes _ (sym (c .before .before .has-key .ensures) ∙ not-false _ (c .before .if1 .left)))
 
 pub is-live-of-spec : {M : Type 1} → statement M
 is-live-of-spec = tie.close (tie.spec has-key-requires returns number-of-8-at-requires returns-2)

@@ -2,17 +2,29 @@ use mathlib.Core.Path.{sym, ap, _∙_}
 use lib.ListN.{length}
 use Rattle.octets.specs.Part.{patch}
 use Rattle.packet.proofs.ReadLaws.{reads-readable}
-use Rattle.outgoing.proofs.LeavingLaws.{long, path-room, path-last, path-onward}
+use Rattle.outgoing.proofs.LeavingLaws.{long, path-room, path-last, path-next-hop}
 use native.Mathlib.Omega.{arith}
 use borrow.Author.Needs.{needs}
+use Rattle.packet.specs.Read.{longestPacket}
+use Prim.Native.Nat.{_+_, _%_, _≤_}
+use Rattle.packet.specs.Read.{headerOf, payloadStart, payload}
 use Rattle.outgoing.proofs.leaving.forward_by_path.Statement.{statement}
 use Rattle.outgoing.proofs.leaving.forward_by_path.Tie as tie
 
+-- the packet stays as long, or loses the relay address
+room : (s : tie.Start) → (payloadStart (headerOf (s .args .packet .now) % 16) + length (payload (s .args .packet .now)) ≤ length (s .args .output .now))
+    × (payloadStart (headerOf (s .args .packet .now)) + length (payload (s .args .packet .now)) ≤ length (s .args .output .now))
+room s =
+    let p = s .args .packet .now in
+    let few = path-room longestPacket p (s .pre .0 .readable) in
+    let fits = reads-readable longestPacket p (s .pre .0 .readable) .fits in
+    (omega (arith, few .0, fits, s .pre .1), omega (arith, few .1, fits, s .pre .1))
+
 shared-slice-read-header : tie.Need-shared-slice-read-header
-shared-slice-read-header c = omega (arith, long 500 (c .before .before .before .args .packet .now) (c .before .before .before .pre .0 .readable))
+shared-slice-read-header c = let s = c .before .before .before in omega (arith, long longestPacket (s .args .packet .now) (s .pre .0 .readable))
 
 rewrite-requires : tie.Need-rewrite-requires
-rewrite-requires c κs = (c .before .before .before .before .before .pre .0, omega (arith, path-room 500 (c .before .before .before .before .before .args .packet .now) (c .before .before .before .before .before .pre .0 .readable), reads-readable 500 (c .before .before .before .before .before .args .packet .now) (c .before .before .before .before .before .pre .0 .readable) .fits, c .before .before .before .before .before .pre .1))
+rewrite-requires c κs = let s = c .before .before .before .before .before in (s .pre .0, room s .0)
 
 same-length : tie.Need-same-length
 same-length c = search needs
@@ -21,10 +33,11 @@ returns : tie.Need-returns
 returns c =
     let a = c .before .before .before .before .before .before .before .before .args in
     let last = path-last (a .stored-hops) (a .next-hop) (a .packet .now) (c .before .before .before .before .if1 .taken) in
-    (c .before .before .rewrite .ensures .0 ∙ sym (ap length last), c .before .before .rewrite .ensures .1 ∙ sym (ap (patch (a .output .now) 0) last))
+    let sent = c .before .before .rewrite .ensures in
+    (sent .0 ∙ sym (ap length last), sent .1 ∙ sym (ap (patch (a .output .now) 0) last))
 
 rewrite-requires-2 : tie.Need-rewrite-requires-2
-rewrite-requires-2 c κs = (c .before .before .before .before .before .pre .0, omega (arith, path-room 500 (c .before .before .before .before .before .args .packet .now) (c .before .before .before .before .before .pre .0 .readable), reads-readable 500 (c .before .before .before .before .before .args .packet .now) (c .before .before .before .before .before .pre .0 .readable) .fits, c .before .before .before .before .before .pre .1))
+rewrite-requires-2 c κs = let s = c .before .before .before .before .before in (s .pre .0, room s .1)
 
 same-length-2 : tie.Need-same-length-2
 same-length-2 c = search needs
@@ -32,8 +45,9 @@ same-length-2 c = search needs
 returns-2 : tie.Need-returns-2
 returns-2 c =
     let a = c .before .before .before .before .before .before .before .before .args in
-    let onward = path-onward (a .stored-hops) (a .next-hop) (a .packet .now) (c .before .before .before .before .if1 .left) in
-    (c .before .before .rewrite2 .ensures .0 ∙ sym (ap length onward), c .before .before .rewrite2 .ensures .1 ∙ sym (ap (patch (a .output .now) 0) onward))
+    let next = path-next-hop (a .stored-hops) (a .next-hop) (a .packet .now) (c .before .before .before .before .if1 .left) in
+    let sent = c .before .before .rewrite2 .ensures in
+    (sent .0 ∙ sym (ap length next), sent .1 ∙ sym (ap (patch (a .output .now) 0) next))
 
 pub forward-by-path-spec : {M : Type 1} → statement M
 forward-by-path-spec =

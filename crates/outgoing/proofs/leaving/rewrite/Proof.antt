@@ -10,6 +10,7 @@ use Rattle.rules.specs.Outgoing.{rewritten}
 use Rattle.outgoing.proofs.LeavingLaws.{rewritten-length}
 use native.Mathlib.Omega.{arith}
 use borrow.Author.Needs.{needs}
+use Rattle.packet.specs.Read.{longestPacket}
 use Rattle.outgoing.proofs.leaving.rewrite.Statement.{statement}
 use Rattle.outgoing.proofs.leaving.rewrite.Tie as tie
 
@@ -20,7 +21,10 @@ payload-requires : tie.Need-payload-requires
 payload-requires c κs = search needs
 
 write-packet-requires : tie.Need-write-packet-requires
-write-packet-requires c κs = omega (arith, ap (λ (q : Parts). payloadStart (q .header)) (c .before .before .rewritten-parts .ensures), ap length (c .before .payload .ensures), c .before .before .before .before .before .pre .1)
+write-packet-requires c κs =
+    let c2 = c .before .before in
+    let start = ap (λ (q : Parts). payloadStart (q .header)) (c2 .rewritten-parts .ensures) in
+    omega (arith, start, ap length (c .before .payload .ensures), c2 .before .before .before .pre .1)
 
 payload-start-requires : tie.Need-payload-start-requires
 payload-start-requires c κs = search needs
@@ -34,9 +38,16 @@ same-length c = search needs
 returns : tie.Need-returns
 unfolding rewritten
 returns c =
-    let a = c .before .before .before .before .before .before .before .before .before .args in
+    let c3 = c .before .before .before in
+    let c5 = c3 .before .before in
+    let s = c5 .before .before .before .before in
+    let a = s .args in
     let wide : length (a .relay) ≡ 16 = search needs in
-    (ap₂ (λ (k : ℕ) (b : List ℕ). k + length b) (c .payload-start .ensures) (c .before .before .before .before .before .payload .ensures) ∙ sym (rewritten-length 500 (a .packet .now) (c .before .before .before .before .before .before .before .before .before .pre .0 .readable) (a .header) (a .relay) wide), c .before .before .before .write-packet .ensures ∙ ap₂ (λ (q : Parts) (b : List ℕ). patch (a .output .now) 0 (packetOf q b)) (c .before .before .before .before .before .before .rewritten-parts .ensures) (c .before .before .before .before .before .payload .ensures))
+    let long = rewritten-length longestPacket (a .packet .now) (s .pre .0 .readable) (a .header) (a .relay) wide in
+    let packet : Parts → List ℕ → List ℕ = λ q b. patch (a .output .now) 0 (packetOf q b) in (
+      ap₂ (λ (k : ℕ) (b : List ℕ). k + length b) (c .payload-start .ensures) (c5 .payload .ensures) ∙ sym long,
+      c3 .write-packet .ensures ∙ ap₂ packet (c5 .before .rewritten-parts .ensures) (c5 .payload .ensures),
+    )
 
 pub rewrite-spec : {M : Type 1} → statement M
 rewrite-spec =

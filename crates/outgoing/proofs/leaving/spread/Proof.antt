@@ -12,11 +12,12 @@ use Rattle.outgoing.specs.Leaving.{rewrittenParts, spreadLength}
 use Rattle.outgoing.proofs.LeavingLaws.{long, spread-start, spread-result, spread-written}
 use native.Mathlib.Omega.{arith}
 use borrow.Author.Needs.{needs}
+use Rattle.packet.specs.Read.{longestPacket}
 use Rattle.outgoing.proofs.leaving.spread.Statement.{statement}
 use Rattle.outgoing.proofs.leaving.spread.Tie as tie
 
 shared-slice-read-spread-header : tie.Need-shared-slice-read-spread-header
-shared-slice-read-spread-header c = omega (arith, long 500 (c .before .before .before .args .packet .now) (c .before .before .before .pre .0 .readable))
+shared-slice-read-spread-header c = let s = c .before .before .before in omega (arith, long longestPacket (s .args .packet .now) (s .pre .0 .readable))
 
 spread-header-requires : tie.Need-spread-header-requires
 spread-header-requires c κs = search needs
@@ -35,7 +36,11 @@ part-write-packet-end c = search needs
 
 write-packet-requires : tie.Need-write-packet-requires
 unfolding spreadLength
-write-packet-requires c κs = omega (arith, ap (λ (q : Parts). payloadStart (q .header)) (c .before .before .rewritten-parts .ensures) ∙ ap payloadStart (c .before .before .before .spread-header .ensures) ∙ spread-start (headerOf (c .before .before .before .before .before .before .before .args .packet .now)), c .before .before .before .before .before .before .before .pre .1)
+write-packet-requires c κs =
+    let c2 = c .before .before in
+    let s = c2 .before .before .before .before .before in
+    let start = ap (λ (q : Parts). payloadStart (q .header)) (c2 .rewritten-parts .ensures) ∙ ap payloadStart (c2 .before .spread-header .ensures) in
+    omega (arith, start ∙ spread-start (headerOf (s .args .packet .now)), s .pre .1)
 
 payload-requires : tie.Need-payload-requires
 payload-requires c κs = search needs
@@ -51,7 +56,10 @@ part-copy-start c = search needs
 
 part-copy-end : tie.Need-part-copy-end
 unfolding spreadLength
-part-copy-end c = omega (arith, ap length (c .payload .ensures), c .before .before .before .write-packet .kept, c .before .before .before .before .before .before .before .before .before .before .before .pre .1)
+part-copy-end c =
+    let c3 = c .before .before .before in
+    let s = c3 .before .before .before .before .before .before .before .before in
+    omega (arith, ap length (c .payload .ensures), c3 .write-packet .kept, s .pre .1)
 
 copy-requires : tie.Need-copy-requires
 copy-requires c κs = search needs
@@ -61,15 +69,23 @@ same-length c = search needs
 
 returns : tie.Need-returns
 returns c =
-    let a = c .before .before .before .before .before .before .before .before .before .before .before .before .before .before .before .args in
-    let wide : length (a .own) ≡ 16 = search needs in
-    let written : List ℕ = c .before .before .before .before .before .before .before .write-packet .last .1 .1 .0 in
-    let body : List ℕ = c .before .before .before .before .payload .result .now in (
-      spread-result 500 (a .packet .now) (c .before .before .before .before .before .before .before .before .before .before .before .before .before .before .before .pre .0 .readable) (a .own) wide body (c .before .before .before .before .payload .ensures),
+    let c4 = c .before .before .before .before in
+    let c7 = c4 .before .before .before in
+    let c10 = c7 .before .before .before in
+    let s = c10 .before .before .before .before .before in
+    let p = s .args .packet .now in
+    let out = s .args .output .now in
+    let own = s .args .own in
+    let wide : length own ≡ 16 = search needs in
+    let written : List ℕ = c7 .write-packet .last .1 .1 .0 in
+    let body : List ℕ = c4 .payload .result .now in
+    let head = c10 .rewritten-parts .ensures ∙ ap (λ (h : ℕ). rewrittenParts h own p) (c10 .before .spread-header .ensures) in
+    let before = c7 .write-packet .ensures ∙ ap (λ (q : Parts). patch out 0 (packetOf q [])) head in (
+      spread-result longestPacket p (s .pre .0 .readable) own wide body (c4 .payload .ensures),
       ap (putMid 35 (35 + length body - 35) written) (c .before .before .copy .ensures)
           ∙ patch-range written 35 (length body) body refl
-          ∙ ap₂ (λ (o b : List ℕ). patch o 35 b) (c .before .before .before .before .before .before .before .write-packet .ensures ∙ ap (λ (q : Parts). patch (a .output .now) 0 (packetOf q [])) (c .before .before .before .before .before .before .before .before .before .before .rewritten-parts .ensures ∙ ap (λ (h : ℕ). rewrittenParts h (a .own) (a .packet .now)) (c .before .before .before .before .before .before .before .before .before .before .before .spread-header .ensures))) (c .before .before .before .before .payload .ensures)
-          ∙ spread-written 500 (a .output .now) (a .own) (a .packet .now) (c .before .before .before .before .before .before .before .before .before .before .before .before .before .before .before .pre .0 .readable) wide (c .before .before .before .before .before .before .before .before .before .before .before .before .before .before .before .pre .1),
+          ∙ ap₂ (λ (o b : List ℕ). patch o 35 b) before (c4 .payload .ensures)
+          ∙ spread-written longestPacket out own p (s .pre .0 .readable) wide (s .pre .1),
     )
 
 pub spread-spec : {M : Type 1} → statement M

@@ -13,7 +13,8 @@ shl-result c = search needs
 add-result : tie.Need-add-result
 add-result c =
     let a = c .before .args in
-    record { fits = subst (λ (k : ℕ). a .ports + k < 2 ^ 16) (sym (one-shifted (a .port) (c .before .pre .0))) (port-fits (a .port) (c .before .pre .0) (a .ports) (c .before .pre .1)) }
+    let (low, fits) = c .before .pre in
+    record { fits = subst (λ (k : ℕ). a .ports + k < 2 ^ 16) (sym (one-shifted (a .port) low)) (port-fits (a .port) low (a .ports) fits) }
 
 returns : tie.Need-returns
 returns c =

@@ -1,12 +1,9 @@
 use Rattle.packet.specs.Announce.{keysOf, identityHash}
 use Rattle.packet.proofs.ListLaws.{part-most}
-use mathlib.Core.Path.{sym, ap, _∙_}
-use mathlib.Core.Path.{subst}
+use mathlib.Core.Path.{ap, _∙_}
 use lib.Dec.{lit≤}
 use lib.Seq.{take-length}
-use Prim.Native.Nat.{ℕ, _≤_}
-use mathlib.Core.List.{List}
-use lib.ListN.{length, take}
+use lib.ListN.{take}
 use Rattle.sha256.specs.Sha256.{sha256-of}
 use borrow.Author.Needs.{needs}
 use Rattle.packet.proofs.announce.identity_hash.Statement.{statement}
@@ -17,7 +14,7 @@ keys-requires c κs = search needs
 
 hash-start-requires : tie.Need-hash-start-requires
 unfolding keysOf
-hash-start-requires c κs = (search needs, subst (λ (k : List ℕ). length k ≤ 65535) (sym (c .keys .ensures)) (part-most (c .before .before .args .body .now) 0 64 65535 (lit≤ tt)))
+hash-start-requires c κs = (search needs, rw (c .keys .ensures) (part-most (c .before .before .args .body .now) 0 64 65535 (lit≤ tt)))
 
 first-sixteen-requires : tie.Need-first-sixteen-requires
 first-sixteen-requires c κs = search needs

@@ -1,11 +1,10 @@
 use Rattle.packet.proofs.ListLaws.{two-patches}
 use lib.ListN.{length-replicate}
-use mathlib.Core.Path.{refl, ap, _∙_}
-use Prim.Native.Nat.{ℕ, _+_}
-use mathlib.Core.List.{List, [], _∷_}
-use lib.ListN.{length, take, replicate}
+use mathlib.Core.Path.{refl, ap}
+use Prim.Native.Nat.{ℕ, _+_, _≤_}
+use mathlib.Core.List.{[], _∷_}
+use lib.ListN.{length, replicate}
 use Rattle.sha256.specs.Sha256.{sha256-of}
-use Rattle.octets.specs.Part.{patch}
 use native.Mathlib.Omega.{arith}
 use borrow.Author.Needs.{needs}
 use Rattle.packet.proofs.hash.hash_behind.Statement.{statement}
@@ -34,11 +33,12 @@ hash-start-requires c κs = search needs
 
 returns : tie.Need-returns
 returns c =
-    let a = c .before .before .before .before .before .before .before .before .before .args in
-    let zeros : List ℕ = replicate 500 0 in
-    c .hash-start .ensures
-    ∙ ap (λ (r : List ℕ). sha256-of (take (1 + length (a .rest .now)) r)) (c .before .before .before .copy-at .ensures ∙ ap (λ (r : List ℕ). patch r 1 (a .rest .now)) (c .before .before .before .before .before .before .set-at .ensures))
-    ∙ ap sha256-of (two-patches zeros (a .first ∷ []) (a .rest .now) 1 refl (omega (arith, length-replicate {A = ℕ} 500 0, c .before .before .before .before .before .before .before .before .before .pre)))
+    let c6 = c .before .before .before .before .before .before in
+    let start = c6 .before .before .before in
+    let rest = start .args .rest .now in
+    let room : 1 + length rest ≤ length (replicate {A = ℕ} 500 0) = omega (arith, length-replicate {A = ℕ} 500 0, start .pre) in
+    rw (c .hash-start .ensures, c .before .before .before .copy-at .ensures, c6 .set-at .ensures)
+    (ap sha256-of (two-patches (replicate 500 0) (start .args .first ∷ []) rest 1 refl room))
 
 pub hash-behind-spec : {M : Type 1} → statement M
 hash-behind-spec =

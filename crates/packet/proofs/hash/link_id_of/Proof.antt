@@ -1,14 +1,9 @@
-use Rattle.packet.proofs.ReadLaws.{Readable, reads-readable, start-least}
-use mathlib.Core.Path.{sym, ap, _∙_}
-use Prim.Native.Nat.{ℕ, _-_, _%_, _≤_}
-use mathlib.Core.List.{List, _∷_}
-use lib.ListN.{length, take}
-use Rattle.octets.specs.Part.{part}
-use Rattle.sha256.specs.Sha256.{sha256-of}
+use Rattle.packet.proofs.ReadLaws.{reads-readable, start-least}
+use mathlib.Core.Path.{sym}
+use Prim.Native.Nat.{_-_}
 use Rattle.packet.specs.Read.{headerOf}
 use Rattle.packet.proofs.HashLaws.{link-hashed}
 use Rattle.packet.proofs.ListLaws.{part-most}
-use mathlib.Core.Path.{subst}
 use lib.Dec.{lit≤}
 use native.Mathlib.Omega.{arith}
 use borrow.Author.Needs.{needs}
@@ -17,8 +12,8 @@ use Rattle.packet.proofs.hash.link_id_of.Tie as tie
 
 shared-slice-read-header : tie.Need-shared-slice-read-header
 shared-slice-read-header c =
-    let r : Readable 500 (c .before .before .args .packet .now) = reads-readable 500 (c .before .before .args .packet .now) (c .before .before .pre) in
-    omega (arith, start-least (headerOf (c .before .before .args .packet .now)), r .whole)
+    let p = c .before .before .args .packet .now in
+    omega (arith, start-least (headerOf p), reads-readable 500 p (c .before .before .pre) .whole)
 
 payload-start-requires : tie.Need-payload-start-requires
 payload-start-requires c κs = search needs
@@ -31,18 +26,18 @@ part-of-requires c κs = search needs
 
 hash-behind-requires : tie.Need-hash-behind-requires
 hash-behind-requires c κs =
-    subst (λ (b : List ℕ). length b ≤ 499) (sym (c .part-of .ensures)) (part-most (c .before .before .before .before .args .packet .now) (c .before .payload-start .result - 17) 81 499 (lit≤ tt))
+    rw (c .part-of .ensures) (part-most (c .before .before .before .before .args .packet .now) (c .before .payload-start .result - 17) 81 499 (lit≤ tt))
 
 first-sixteen-requires : tie.Need-first-sixteen-requires
 first-sixteen-requires c κs = search needs
 
 returns : tie.Need-returns
 returns c =
-    let r : Readable 500 (c .before .before .before .before .before .before .args .packet .now) = reads-readable 500 (c .before .before .before .before .before .before .args .packet .now) (c .before .before .before .before .before .before .pre) in
-    c .first-sixteen .ensures
-    ∙ ap (take 16)
-    (c .before .hash-behind .ensures ∙ ap (λ (b : List ℕ). sha256-of ((headerOf (c .before .before .before .before .before .before .args .packet .now)) % 16 ∷ b)) (c .before .before .part-of .ensures ∙ ap (λ (n : ℕ). part (c .before .before .before .before .before .before .args .packet .now) (n - 17) 81) (c .before .before .before .payload-start .ensures)))
-    ∙ sym (link-hashed (c .before .before .before .before .before .before .args .packet .now) (r .whole))
+    let c3 = c .before .before .before in
+    let start = c3 .before .before .before in
+    let p = start .args .packet .now in
+    rw (c .first-sixteen .ensures, c .before .hash-behind .ensures, c .before .before .part-of .ensures, c3 .payload-start .ensures)
+    (sym (link-hashed p (reads-readable 500 p (start .pre) .whole)))
 
 pub link-id-of-spec : {M : Type 1} → statement M
 link-id-of-spec =

@@ -11,7 +11,9 @@ from-requires : tie.Need-from-requires
 from-requires c κs = search needs
 
 returns : tie.Need-returns
-returns c = c .before .from .ensures ∙ part-short (c .before .before .before .args .s .now) (c .before .before .before .args .at) (c .before .before .before .args .n) (omega (arith, ap length (c .before .from .ensures), c .if1 .taken))
+returns c =
+    let a = c .before .before .before .args in
+    c .before .from .ensures ∙ part-short (a .s .now) (a .at) (a .n) (omega (arith, ap length (c .before .from .ensures), c .if1 .taken))
 
 sub-result : tie.Need-sub-result
 sub-result c = search needs

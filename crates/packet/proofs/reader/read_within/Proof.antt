@@ -11,13 +11,13 @@ no-parts-requires : tie.Need-no-parts-requires
 no-parts-requires c κs = search needs
 
 returns : tie.Need-returns
-returns c = answer-refused (c .before .before .before .before .args .longest) (c .before .before .before .before .args .packet .now) (c .no-parts .result) (c .before .before .reading-refusal .result) (c .before .before .reading-refusal .ensures) (c .before .if1 .taken) (c .no-parts .ensures)
+returns c = answer-refused _ _ _ _ (c .before .before .reading-refusal .ensures) (c .before .if1 .taken) (c .no-parts .ensures)
 
 parts-of-requires : tie.Need-parts-of-requires
-parts-of-requires c κs = readable (c .before .before .before .args .longest) (c .before .before .before .args .packet .now) (sym (c .before .reading-refusal .ensures) ∙ c .if1 .left) .whole
+parts-of-requires c κs = readable _ _ (sym (c .before .reading-refusal .ensures) ∙ c .if1 .left) .whole
 
 returns-2 : tie.Need-returns-2
-returns-2 c = answer-read (c .before .before .before .before .args .longest) (c .before .before .before .before .args .packet .now) (c .parts-of .result) (sym (c .before .before .reading-refusal .ensures) ∙ c .before .if1 .left) (c .parts-of .ensures)
+returns-2 c = answer-read _ _ _ (sym (c .before .before .reading-refusal .ensures) ∙ c .before .if1 .left) (c .parts-of .ensures)
 
 pub read-within-spec : {M : Type 1} → statement M
 read-within-spec =

@@ -1,9 +1,6 @@
 use Rattle.packet.proofs.WriteLaws.{end-written}
-use mathlib.Core.Path.{_≡_, ap, _∙_}
-use Prim.Native.Nat.{ℕ, _+_}
-use mathlib.Core.List.{List, [], _∷_}
+use mathlib.Core.Path.{_≡_}
 use lib.ListN.{length}
-use Rattle.octets.specs.Part.{patch}
 use borrow.Author.Needs.{needs}
 use Rattle.packet.proofs.writer.write_end.Statement.{statement}
 use Rattle.packet.proofs.writer.write_end.Tie as tie
@@ -33,9 +30,10 @@ returns : tie.Need-returns
 returns c =
     let a = c .before .before .before .before .before .before .before .before .before .before .before .before .before .before .before .args in
     let wide : length (a .t1) ≡ 16 = search needs in
-    c .before .before .copy-at2 .ensures
-    ∙ ap (λ (r : List ℕ). patch r (a .at + 17) (a .payload .now)) (c .before .before .before .before .before .before .set-at .ensures ∙ ap (λ (r : List ℕ). patch r (a .at + 16) (a .context ∷ [])) (c .before .before .before .before .before .before .before .before .before .before .copy-at .ensures))
-    ∙ end-written (a .output .now) (a .at) (a .t1) (a .context) (a .payload .now) wide (c .before .before .before .before .before .before .before .before .before .before .before .before .before .before .before .pre)
+    let c6 = c .before .before .before .before .before .before in
+    let c10 = c6 .before .before .before .before in
+    rw (c .before .before .copy-at2 .ensures, c6 .set-at .ensures, c10 .copy-at .ensures)
+    (end-written (a .output .now) (a .at) (a .t1) (a .context) (a .payload .now) wide (c10 .before .before .before .before .before .pre))
 
 pub write-end-spec : {M : Type 1} → statement M
 write-end-spec =

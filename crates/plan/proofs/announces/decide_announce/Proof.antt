@@ -9,49 +9,69 @@ use Rattle.outgoing.proofs.LeavingLaws.{whole}
 use Rattle.plan.specs.Decided.{arrivalOf}
 use Rattle.plan.proofs.KindLaws.{announce-long}
 use Rattle.plan.proofs.AnnounceLaws.{announce-unsigned, announce-at, announce-nowhere}
+use Rattle.packet.specs.Read.{longestPacket}
+use Rattle.rules.specs.Arrival.{Arrival}
+use Prim.Native.Nat.{ℕ}
+use mathlib.Core.List.{List}
+use mathlib.Core.Path.{_≡_}
+use Rattle.rules.specs.Arrival.{destination}
 use Rattle.plan.proofs.announces.decide_announce.Statement.{statement}
 use Rattle.plan.proofs.announces.decide_announce.Tie as tie
+
+abbrev t : tie.Start → List ℕ
+t s = s .args .tables .now
+
+abbrev a : tie.Start → Arrival
+a s = arrivalOf (s .args .packet .now) (s .args .arrived)
+
+-- where the search for the path ended
+abbrev s1 : tie.After-path-place → tie.Start
+s1 c = c .before .before .before .before .before .before .before
+
+found : (c : tie.After-path-place) → c .path-place .result ≡ pathPlace (s1 c .args .arrived .clock) (relayOf (t (s1 c))) (destination (a (s1 c)))
+found c =
+    let place : Parts → ℕ = λ q. pathPlace (s1 c .args .arrived .clock) (relayOf (t (s1 c))) (q .destination) in
+    c .path-place .ensures ∙ ap place (c .before .before .parts-of .ensures)
 
 returns : tie.Need-returns
 returns c =
     let s = c .before .before .before .before in
-    announce-unsigned (arrivalOf (s .args .packet .now) (s .args .arrived)) (s .pre .3) (relayOf (s .args .tables .now)) (not-true _ (c .if1 .taken))
+    announce-unsigned (a s) (s .pre .2) (relayOf (t s)) (not-true _ (c .if1 .taken))
 
 parts-of-requires : tie.Need-parts-of-requires
-parts-of-requires c κs = whole 500 (c .before .before .before .before .args .packet .now) (c .before .before .before .before .pre .1)
+parts-of-requires c κs = let s = c .before .before .before .before in whole longestPacket (s .args .packet .now) (s .pre .0 .readable)
 
 path-place-requires : tie.Need-path-place-requires
-path-place-requires c κs =
-    let s = c .before .before .before .before .before .before in
-    formed (s .args .tables .now) (s .pre .0) .size
+path-place-requires c κs = let s = c .before .before .before .before .before .before in formed (t s) (s .pre .0 .formed) .size
 
 known-path-requires : tie.Need-known-path-requires
 known-path-requires c κs =
-    let s = c .before .before .before .before .before .before .before .before in
-    (formed (s .args .tables .now) (s .pre .0) .size, c .if2 .taken, path-blobs-ok (s .args .tables .now) (s .args .arrived .clock) _ (c .before .path-place .result) (c .before .path-place .ensures) (s .pre .0) (c .if2 .taken), s .pre .1, announce-long (arrivalOf (s .args .packet .now) (s .args .arrived)) (s .pre .2) (s .pre .3))
+    let c1 = c .before in
+    let s = s1 c1 in
+    let (judged, good, is) = s .pre in
+    let clock = s .args .arrived .clock in (
+      record { readable = judged .readable; size = formed (t s) (judged .formed) .size },
+      c .if2 .taken,
+      path-blobs-ok (t s) clock _ (c1 .path-place .result) (c1 .path-place .ensures) (judged .formed) (c .if2 .taken),
+      announce-long (a s) good is,
+    )
 
 returns-2 : tie.Need-returns-2
 returns-2 c =
-    let s = c .before .before .before .before .before .before .before .before .before in
+    let c2 = c .before .before in
+    let s = s1 c2 in
     c .known-path .ensures
-    ∙ announce-at (s .args .tables .now) (arrivalOf (s .args .packet .now) (s .args .arrived)) (s .pre .3)
-    (not-false _ (c .before .before .before .before .before .if1 .left))
-    (c .before .before .path-place .ensures ∙ ap (λ (q : Parts). pathPlace (s .args .arrived .clock) (relayOf (s .args .tables .now)) (q .destination)) (c .before .before .before .before .parts-of .ensures))
-    (c .before .if2 .taken)
+    ∙ announce-at (t s) (a s) (s .pre .2) (not-false _ (c2 .before .before .before .if1 .left)) (found c2) (c .before .if2 .taken)
 
 new-path-requires : tie.Need-new-path-requires
-new-path-requires c κs =
-    let s = c .before .before .before .before .before .before .before .before in
-    formed (s .args .tables .now) (s .pre .0) .size
+new-path-requires c κs = let s = s1 (c .before) in formed (t s) (s .pre .0 .formed) .size
 
 returns-3 : tie.Need-returns-3
 returns-3 c =
-    let s = c .before .before .before .before .before .before .before .before .before in
+    let c2 = c .before .before in
+    let s = s1 c2 in
     c .new-path .ensures
-    ∙ announce-nowhere (s .args .tables .now) (arrivalOf (s .args .packet .now) (s .args .arrived)) (s .pre .3)
-    (not-false _ (c .before .before .before .before .before .if1 .left))
-    (c .before .before .path-place .ensures ∙ ap (λ (q : Parts). pathPlace (s .args .arrived .clock) (relayOf (s .args .tables .now)) (q .destination)) (c .before .before .before .before .parts-of .ensures))
-    (c .before .if2 .left)
+    ∙ announce-nowhere (t s) (a s) (s .pre .2) (not-false _ (c2 .before .before .before .if1 .left)) (found c2) (c .before .if2 .left)
 
 pub decide-announce-spec : {M : Type 1} → statement M
 decide-announce-spec =

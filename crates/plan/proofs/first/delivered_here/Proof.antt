@@ -6,11 +6,12 @@ use Rattle.tables.specs.Layout.{relayOf}
 use Rattle.outgoing.proofs.LeavingLaws.{long}
 use Rattle.plan.specs.Decided.{arrivalOf}
 use Rattle.plan.proofs.FirstLaws.{here-of-link, here-local, here-other}
+use Rattle.packet.specs.Read.{longestPacket}
 use Rattle.plan.proofs.first.delivered_here.Statement.{statement}
 use Rattle.plan.proofs.first.delivered_here.Tie as tie
 
 shared-slice-read-header : tie.Need-shared-slice-read-header
-shared-slice-read-header c = omega (arith, long 500 (c .before .before .before .args .packet .now) (c .before .before .before .pre .1))
+shared-slice-read-header c = let s = c .before .before .before in omega (arith, long longestPacket (s .args .packet .now) (s .pre .readable))
 
 of-kind-link-requires : tie.Need-of-kind-link-requires
 of-kind-link-requires c κs = search needs

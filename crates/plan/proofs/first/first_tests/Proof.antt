@@ -1,96 +1,145 @@
+-- ---- the view and the packet, from the place of each test
+use Prim.Native.Nat.{ℕ}
 use native.Mathlib.Omega.{arith}
-use mathlib.Core.Path.{sym, ap, _∙_}
-use borrow.Author.Tests.{lt-ltb, le-ltb}
+use mathlib.Core.Path.{_≡_, sym, ap, _∙_}
+use lib.Dec.{ltb}
 use borrow.Author.Needs.{needs}
-use Rattle.rules.specs.View.{hashPlace, viewAt}
+use borrow.Author.Tests.{lt-ltb, le-ltb}
+use Rattle.octets.specs.Listed.{firstOf, valued}
+use Rattle.octets.proofs.Listed.{here, past}
+use Rattle.numbers.specs.Numbers.{hashCount}
+use Rattle.packet.specs.Read.{longestPacket}
+use Rattle.rules.specs.View.{View, hashPlace}
+use Rattle.rules.specs.Arrival.{Arrival}
+use Rattle.rules.specs.Tests.{duplicate}
+use Rattle.rules.specs.Judging.{earlyTests}
+use Rattle.rules.specs.declared.Clause.{Clause}
+use Rattle.rules.specs.declared.Reason.the-variants.{BadForm}
 use Rattle.tables.specs.Layout.{relayOf}
 use Rattle.outgoing.proofs.LeavingLaws.{long}
-use Rattle.plan.specs.Decided.{arrivalOf}
-use Rattle.plan.proofs.FirstLaws.{first-1, first-2, first-3, first-4, first-delivered, first-5, first-onward, duplicate-place, hops-many, hops-few}
+use Rattle.plan.specs.Decided.{arrivalOf, seen}
+use Rattle.plan.specs.First.{early, firstTests}
+use Rattle.plan.specs.declared.Early.the-variants.{Dropped}
+use Rattle.plan.proofs.FormLaws.{form-bad, form-good}
+use Rattle.plan.proofs.FirstLaws.{earlyFrom, duplicate-place, hops-many, hops-few}
 use Rattle.plan.proofs.first.first_tests.Statement.{statement}
 use Rattle.plan.proofs.first.first_tests.Tie as tie
 
+abbrev v : tie.Start → View
+v s = seen (s .args .arrived) (s .args .tables .now)
+
+abbrev a : tie.Start → Arrival
+a s = arrivalOf (s .args .packet .now) (s .args .arrived)
+
+abbrev s1 : tie.After-not-ours → tie.Start
+s1 c = c .before .before .before
+
+abbrev s2 : tie.After-hash-place → tie.Start
+s2 c = s1 (c .before .before)
+
+abbrev s3 : tie.After-form-of → tie.Start
+s3 c = s2 (c .before .before)
+
+abbrev s4 : tie.After-own-announce → tie.Start
+s4 c = s3 (c .before .before .before)
+
+abbrev s5 : tie.After-delivered-here → tie.Start
+s5 c = s4 (c .before .before)
+
+abbrev s6 : tie.After-shared-slice-known3 → tie.Start
+s6 c = s5 (c .before .before)
+
+-- ---- the list that is left past each test
+abbrev Left : ℕ → tie.Start → Type 0
+Left n s = firstTests (v s) (a s) ≡ earlyFrom n (v s) (a s)
+
+past-1 : (c : tie.Else1) → Left 1 (s1 (c .before))
+unfolding firstTests earlyFrom earlyTests valued
+past-1 c = past _ _ _ _ (sym (c .before .not-ours .ensures) ∙ c .if1 .left)
+
+test-2 : (c : tie.After-hash-place) → duplicate (v (s2 c)) (a (s2 c)) ≡ ltb (c .hash-place .result) hashCount
+test-2 c =
+    let s = s2 c in
+    duplicate-place (relayOf (s .args .tables .now)) (a s)
+    (c .hash-place .ensures ∙ ap (hashPlace (s .args .arrived .clock) (relayOf (s .args .tables .now))) (s .pre .1))
+
+past-2 : (c : tie.Else2) → Left 2 (s2 (c .before))
+unfolding firstTests earlyFrom earlyTests valued
+past-2 c = past-1 (c .before .before) ∙ past _ _ _ _ (test-2 (c .before) ∙ le-ltb _ _ (c .if2 .left))
+
+past-3 : (c : tie.After-enum-told) → Left 3 (s3 (c .before .before))
+unfolding firstTests earlyFrom earlyTests valued
+past-3 c =
+    let c2 = c .before .before in
+    past-2 (c2 .before) ∙ past _ _ _ _ (form-good (s3 c2 .args .packet .now) (sym (c .enum-told .given .1) ∙ c2 .form-of .ensures))
+
+past-4 : (c : tie.Else3) → Left 4 (s4 (c .before))
+unfolding firstTests earlyFrom earlyTests valued
+past-4 c = past-3 (c .before .before) ∙ past _ _ _ _ (sym (c .before .own-announce .ensures) ∙ c .if3 .left)
+
+past-5 : (c : tie.Else4) → Left 5 (s5 (c .before))
+unfolding firstTests earlyFrom earlyTests valued
+past-5 c = past-4 (c .before .before) ∙ past _ _ _ _ (sym (c .before .delivered-here .ensures) ∙ c .if4 .left)
+
+past-6 : (c : tie.Else5) → Left 6 (s6 (c .before))
+unfolding firstTests earlyFrom earlyTests valued
+past-6 c = past-5 (c .before .before) ∙ past _ _ _ _ (hops-few (a (s6 (c .before))) (c .if5 .left))
+
+-- ---- the needs
 not-ours-requires : tie.Need-not-ours-requires
 not-ours-requires c κs = search needs
 
 returns : tie.Need-returns
-returns c =
-    let s = c .before .before .before .before in
-    first-1 (viewAt (s .args .arrived .clock) (relayOf (s .args .tables .now))) (arrivalOf (s .args .packet .now) (s .args .arrived))
-    (sym (c .before .not-ours .ensures) ∙ c .if1 .taken)
+unfolding firstTests earlyTests early valued
+returns c = sym (here _ _ _ _ (sym (c .before .not-ours .ensures) ∙ c .if1 .taken))
 
 hash-place-requires : tie.Need-hash-place-requires
 hash-place-requires c κs = search needs
 
 returns-2 : tie.Need-returns-2
-returns-2 c =
-    let s = c .before .before .before .before .before .before in
-    first-2 (viewAt (s .args .arrived .clock) (relayOf (s .args .tables .now))) (arrivalOf (s .args .packet .now) (s .args .arrived))
-    (sym (c .before .before .before .not-ours .ensures) ∙ c .before .before .if1 .left)
-    (duplicate-place (relayOf (s .args .tables .now)) (arrivalOf (s .args .packet .now) (s .args .arrived)) (c .before .hash-place .ensures ∙ ap (hashPlace (s .args .arrived .clock) (relayOf (s .args .tables .now))) (s .pre .2)) ∙ lt-ltb _ _ (c .if2 .taken))
+unfolding earlyFrom earlyTests early valued
+returns-2 c = sym (past-1 (c .before .before) ∙ here _ _ _ _ (test-2 (c .before) ∙ lt-ltb _ _ (c .if2 .taken)))
 
-bad-form-requires : tie.Need-bad-form-requires
-bad-form-requires c κs = search needs
+form-of-requires : tie.Need-form-of-requires
+form-of-requires c κs = search needs
+
+enum-known-clause : tie.Need-enum-known-clause
+enum-known-clause c = search needs
 
 returns-3 : tie.Need-returns-3
+unfolding earlyFrom earlyTests early valued
 returns-3 c =
-    let s = c .before .before .before .before .before .before .before .before in
-    first-3 (viewAt (s .args .arrived .clock) (relayOf (s .args .tables .now))) (arrivalOf (s .args .packet .now) (s .args .arrived))
-    (sym (c .before .before .before .before .before .not-ours .ensures) ∙ c .before .before .before .before .if1 .left)
-    (duplicate-place (relayOf (s .args .tables .now)) (arrivalOf (s .args .packet .now) (s .args .arrived)) (c .before .before .before .hash-place .ensures ∙ ap (hashPlace (s .args .arrived .clock) (relayOf (s .args .tables .now))) (s .pre .2)) ∙ le-ltb _ _ (c .before .before .if2 .left))
-    (sym (c .before .bad-form .ensures) ∙ c .if3 .taken)
+    let c3 = c .before .before .before in
+    let (bad, named) = form-bad (s3 c3 .args .packet .now) (sym (c .before .clause .given .1) ∙ c3 .form-of .ensures) in
+    ap (λ (clause : Clause). Dropped (BadForm clause)) named ∙ sym (past-2 (c3 .before) ∙ here _ _ _ _ bad)
+
+enum-told : tie.Need-enum-told
+enum-told c = search needs
 
 own-announce-requires : tie.Need-own-announce-requires
 own-announce-requires c κs = search needs
 
 returns-4 : tie.Need-returns-4
-returns-4 c =
-    let s = c .before .before .before .before .before .before .before .before .before .before in
-    first-4 (viewAt (s .args .arrived .clock) (relayOf (s .args .tables .now))) (arrivalOf (s .args .packet .now) (s .args .arrived))
-    (sym (c .before .before .before .before .before .before .before .not-ours .ensures) ∙ c .before .before .before .before .before .before .if1 .left)
-    (duplicate-place (relayOf (s .args .tables .now)) (arrivalOf (s .args .packet .now) (s .args .arrived)) (c .before .before .before .before .before .hash-place .ensures ∙ ap (hashPlace (s .args .arrived .clock) (relayOf (s .args .tables .now))) (s .pre .2)) ∙ le-ltb _ _ (c .before .before .before .before .if2 .left))
-    (sym (c .before .before .before .bad-form .ensures) ∙ c .before .before .if3 .left)
-    (sym (c .before .own-announce .ensures) ∙ c .if4 .taken)
+unfolding earlyFrom earlyTests early valued
+returns-4 c = sym (past-3 (c .before .before) ∙ here _ _ _ _ (sym (c .before .own-announce .ensures) ∙ c .if3 .taken))
 
 delivered-here-requires : tie.Need-delivered-here-requires
 delivered-here-requires c κs = search needs
 
 returns-5 : tie.Need-returns-5
-returns-5 c =
-    let s = c .before .before .before .before .before .before .before .before .before .before .before .before in
-    first-delivered (viewAt (s .args .arrived .clock) (relayOf (s .args .tables .now))) (arrivalOf (s .args .packet .now) (s .args .arrived))
-    (sym (c .before .before .before .before .before .before .before .before .before .not-ours .ensures) ∙ c .before .before .before .before .before .before .before .before .if1 .left)
-    (duplicate-place (relayOf (s .args .tables .now)) (arrivalOf (s .args .packet .now) (s .args .arrived)) (c .before .before .before .before .before .before .before .hash-place .ensures ∙ ap (hashPlace (s .args .arrived .clock) (relayOf (s .args .tables .now))) (s .pre .2)) ∙ le-ltb _ _ (c .before .before .before .before .before .before .if2 .left))
-    (sym (c .before .before .before .before .before .bad-form .ensures) ∙ c .before .before .before .before .if3 .left)
-    (sym (c .before .before .before .own-announce .ensures) ∙ c .before .before .if4 .left)
-    (sym (c .before .delivered-here .ensures) ∙ c .if5 .taken)
+unfolding earlyFrom earlyTests early valued
+returns-5 c = sym (past-4 (c .before .before) ∙ here _ _ _ _ (sym (c .before .delivered-here .ensures) ∙ c .if4 .taken))
 
-shared-slice-read-if6 : tie.Need-shared-slice-read-if6
-shared-slice-read-if6 c =
-    let s = c .before .before .before .before .before .before .before .before .before .before .before .before .before in
-    omega (arith, long 500 (s .args .packet .now) (s .pre .1))
+shared-slice-read-if5 : tie.Need-shared-slice-read-if5
+shared-slice-read-if5 c = let s = s6 c in omega (arith, long longestPacket (s .args .packet .now) (s .pre .0 .readable))
 
 returns-6 : tie.Need-returns-6
-returns-6 c =
-    let s = c .before .before .before .before .before .before .before .before .before .before .before .before .before .before in
-    first-5 (viewAt (s .args .arrived .clock) (relayOf (s .args .tables .now))) (arrivalOf (s .args .packet .now) (s .args .arrived))
-    (sym (c .before .before .before .before .before .before .before .before .before .before .before .not-ours .ensures) ∙ c .before .before .before .before .before .before .before .before .before .before .if1 .left)
-    (duplicate-place (relayOf (s .args .tables .now)) (arrivalOf (s .args .packet .now) (s .args .arrived)) (c .before .before .before .before .before .before .before .before .before .hash-place .ensures ∙ ap (hashPlace (s .args .arrived .clock) (relayOf (s .args .tables .now))) (s .pre .2)) ∙ le-ltb _ _ (c .before .before .before .before .before .before .before .before .if2 .left))
-    (sym (c .before .before .before .before .before .before .before .bad-form .ensures) ∙ c .before .before .before .before .before .before .if3 .left)
-    (sym (c .before .before .before .before .before .own-announce .ensures) ∙ c .before .before .before .before .if4 .left)
-    (sym (c .before .before .before .delivered-here .ensures) ∙ c .before .before .if5 .left)
-    (hops-many (arrivalOf (s .args .packet .now) (s .args .arrived)) (c .if6 .taken))
+unfolding earlyFrom earlyTests early valued
+returns-6 c = sym (past-5 (c .before .before) ∙ here _ _ _ _ (hops-many (a (s6 (c .before))) (c .if5 .taken)))
 
 returns-7 : tie.Need-returns-7
-returns-7 c =
-    let s = c .before .before .before .before .before .before .before .before .before .before .before .before .before .before in
-    first-onward (viewAt (s .args .arrived .clock) (relayOf (s .args .tables .now))) (arrivalOf (s .args .packet .now) (s .args .arrived))
-    (sym (c .before .before .before .before .before .before .before .before .before .before .before .not-ours .ensures) ∙ c .before .before .before .before .before .before .before .before .before .before .if1 .left)
-    (duplicate-place (relayOf (s .args .tables .now)) (arrivalOf (s .args .packet .now) (s .args .arrived)) (c .before .before .before .before .before .before .before .before .before .hash-place .ensures ∙ ap (hashPlace (s .args .arrived .clock) (relayOf (s .args .tables .now))) (s .pre .2)) ∙ le-ltb _ _ (c .before .before .before .before .before .before .before .before .if2 .left))
-    (sym (c .before .before .before .before .before .before .before .bad-form .ensures) ∙ c .before .before .before .before .before .before .if3 .left)
-    (sym (c .before .before .before .before .before .own-announce .ensures) ∙ c .before .before .before .before .if4 .left)
-    (sym (c .before .before .before .delivered-here .ensures) ∙ c .before .before .if5 .left)
-    (hops-few (arrivalOf (s .args .packet .now) (s .args .arrived)) (c .if6 .left))
+unfolding earlyFrom earlyTests early valued firstOf
+returns-7 c = sym (past-6 c)
 
 pub first-tests-spec : {M : Type 1} → statement M
 first-tests-spec =
@@ -100,12 +149,14 @@ first-tests-spec =
     returns
     hash-place-requires
     returns-2
-    bad-form-requires
+    form-of-requires
+    enum-known-clause
     returns-3
+    enum-told
     own-announce-requires
     returns-4
     delivered-here-requires
     returns-5
-    shared-slice-read-if6
+    shared-slice-read-if5
     returns-6
     returns-7)

@@ -6,11 +6,12 @@ use Rattle.tables.specs.Layout.{relayOf}
 use Rattle.outgoing.proofs.LeavingLaws.{long}
 use Rattle.plan.specs.Decided.{arrivalOf}
 use Rattle.plan.proofs.FirstLaws.{own-clauses}
+use Rattle.packet.specs.Read.{longestPacket}
 use Rattle.plan.proofs.first.own_announce.Statement.{statement}
 use Rattle.plan.proofs.first.own_announce.Tie as tie
 
 shared-slice-read-is-announce : tie.Need-shared-slice-read-is-announce
-shared-slice-read-is-announce c = omega (arith, long 500 (c .before .before .before .args .packet .now) (c .before .before .before .pre .1))
+shared-slice-read-is-announce c = let s = c .before .before .before in omega (arith, long longestPacket (s .args .packet .now) (s .pre .readable))
 
 is-announce-requires : tie.Need-is-announce-requires
 is-announce-requires c κs = search needs
@@ -21,15 +22,14 @@ is-local-requires c κs = search needs
 returns : tie.Need-returns
 returns c =
     let s = c .before .before .before .before .before .before in
-    c .is-local .ensures
-    ∙ sym
-    (own-clauses (relayOf (s .args .tables .now)) (arrivalOf (s .args .packet .now) (s .args .arrived)) ∙ and-yes _ (sym (c .before .before .is-announce .ensures) ∙ c .before .if1 .taken))
+    let own = own-clauses (relayOf (s .args .tables .now)) (arrivalOf (s .args .packet .now) (s .args .arrived)) in
+    c .is-local .ensures ∙ sym (own ∙ and-yes _ (sym (c .before .before .is-announce .ensures) ∙ c .before .if1 .taken))
 
 returns-2 : tie.Need-returns-2
 returns-2 c =
     let s = c .before .before .before .before .before in
-    sym
-    (own-clauses (relayOf (s .args .tables .now)) (arrivalOf (s .args .packet .now) (s .args .arrived)) ∙ and-no _ (sym (c .before .is-announce .ensures) ∙ c .if1 .left))
+    let own = own-clauses (relayOf (s .args .tables .now)) (arrivalOf (s .args .packet .now) (s .args .arrived)) in
+    sym (own ∙ and-no _ (sym (c .before .is-announce .ensures) ∙ c .if1 .left))
 
 pub own-announce-spec : {M : Type 1} → statement M
 own-announce-spec =

@@ -3,7 +3,7 @@ use borrow.Author.Needs.{needs}
 use Rattle.tables.specs.Layout.{relayOf}
 use Rattle.plan.specs.Kinds.{carried}
 use Rattle.plan.specs.declared.Decision.the-variants.{Carry}
-use Rattle.plan.proofs.KindLaws.{seen-on, leaves, stays}
+use Rattle.plan.proofs.KindLaws.{seen-on, leaving-on, leaving-off}
 use Rattle.plan.proofs.links.carry.Statement.{statement}
 use Rattle.plan.proofs.links.carry.Tie as tie
 
@@ -17,14 +17,14 @@ returns : tie.Need-returns
 unfolding carried
 returns c =
     let s = c .before .before .before .before in
-    leaves (relayOf (s .args .tables .now)) (s .args .port) (Carry (s .args .place) (s .args .port))
+    leaving-on (relayOf (s .args .tables .now)) (s .args .port) (Carry (s .args .place) (s .args .port))
     (seen-on (relayOf (s .args .tables .now)) (s .args .port) refl (c .before .before .wide .ensures) (c .before .port-on .ensures) ∙ c .if1 .taken)
 
 returns-2 : tie.Need-returns-2
 unfolding carried
 returns-2 c =
     let s = c .before .before .before .before in
-    stays (relayOf (s .args .tables .now)) (s .args .port) (Carry (s .args .place) (s .args .port))
+    leaving-off (relayOf (s .args .tables .now)) (s .args .port) (Carry (s .args .place) (s .args .port))
     (seen-on (relayOf (s .args .tables .now)) (s .args .port) refl (c .before .before .wide .ensures) (c .before .port-on .ensures) ∙ c .if1 .left)
 
 pub carry-spec : {M : Type 1} → statement M

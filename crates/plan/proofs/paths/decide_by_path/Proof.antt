@@ -9,11 +9,42 @@ use Rattle.tables.specs.Layout.{relayOf}
 use Rattle.outgoing.proofs.LeavingLaws.{whole, long}
 use Rattle.plan.specs.Decided.{arrivalOf}
 use Rattle.plan.proofs.PathLaws.{path-not-asking, path-nowhere, data-at, request-at}
+use Rattle.packet.specs.Read.{longestPacket}
+use Rattle.rules.specs.Arrival.{Arrival, destination}
+use mathlib.Core.Bool.{true}
+use Rattle.packet.specs.Header.{typeTwo}
+use Rattle.rules.specs.Arrival.{header}
+use Rattle.plan.specs.Decided.{CanRead}
+use Prim.Native.Nat.{ℕ}
+use mathlib.Core.List.{List}
+use mathlib.Core.Path.{_≡_}
 use Rattle.plan.proofs.paths.decide_by_path.Statement.{statement}
 use Rattle.plan.proofs.paths.decide_by_path.Tie as tie
 
+abbrev t : tie.Start → List ℕ
+t s = s .args .tables .now
+
+abbrev a : tie.Start → Arrival
+a s = arrivalOf (s .args .packet .now) (s .args .arrived)
+
+-- past the first test: type 2
+two : (c : tie.Else1) → typeTwo (header (a (c .before .before .before .before .before))) ≡ true
+two c = sym (c .before .type-two .ensures) ∙ not-false _ (c .if1 .left)
+
+-- where the search for the record ended
+abbrev s1 : tie.After-path-place → tie.Start
+s1 c = c .before .before .before .before .before .before .before .before
+
+found : (c : tie.After-path-place) → c .path-place .result ≡ pathPlace (s1 c .args .arrived .clock) (relayOf (t (s1 c))) (destination (a (s1 c)))
+found c =
+    let place : Parts → ℕ = λ q. pathPlace (s1 c .args .arrived .clock) (relayOf (t (s1 c))) (q .destination) in
+    c .path-place .ensures ∙ ap place (c .before .before .parts-of .ensures)
+
+sized : (s : tie.Start) → CanRead (s .args .packet .now) (t s)
+sized s = record { readable = s .pre .0 .readable; size = formed (t s) (s .pre .0 .formed) .size }
+
 shared-slice-read-header : tie.Need-shared-slice-read-header
-shared-slice-read-header c = omega (arith, long 500 (c .before .before .before .args .packet .now) (c .before .before .before .pre .1))
+shared-slice-read-header c = let s = c .before .before .before in omega (arith, long longestPacket (s .args .packet .now) (s .pre .0 .readable))
 
 type-two-requires : tie.Need-type-two-requires
 type-two-requires c κs = search needs
@@ -21,57 +52,53 @@ type-two-requires c κs = search needs
 returns : tie.Need-returns
 returns c =
     let s = c .before .before .before .before .before in
-    path-not-asking (arrivalOf (s .args .packet .now) (s .args .arrived)) (s .pre .2) (s .pre .3) (s .pre .4) (relayOf (s .args .tables .now))
-    (sym (c .before .type-two .ensures) ∙ not-true _ (c .if1 .taken))
+    let (_, other, kind, proof) = s .pre in
+    path-not-asking (a s) other kind proof (relayOf (t s)) (sym (c .before .type-two .ensures) ∙ not-true _ (c .if1 .taken))
 
 parts-of-requires : tie.Need-parts-of-requires
-parts-of-requires c κs = whole 500 (c .before .before .before .before .before .args .packet .now) (c .before .before .before .before .before .pre .1)
+parts-of-requires c κs =
+    let s = c .before .before .before .before .before in
+    whole longestPacket (s .args .packet .now) (s .pre .0 .readable)
 
 path-place-requires : tie.Need-path-place-requires
-path-place-requires c κs =
-    let s = c .before .before .before .before .before .before .before in
-    formed (s .args .tables .now) (s .pre .0) .size
+path-place-requires c κs = sized (c .before .before .before .before .before .before .before) .size
 
 returns-2 : tie.Need-returns-2
 returns-2 c =
-    let s = c .before .before .before .before .before .before .before .before .before in
-    path-nowhere (s .args .tables .now) (arrivalOf (s .args .packet .now) (s .args .arrived)) (s .pre .2) (s .pre .3) (s .pre .4)
-    (sym (c .before .before .before .before .before .type-two .ensures) ∙ not-false _ (c .before .before .before .before .if1 .left))
-    (c .before .path-place .ensures ∙ ap (λ (q : Parts). pathPlace (s .args .arrived .clock) (relayOf (s .args .tables .now)) (q .destination)) (c .before .before .before .parts-of .ensures))
-    (c .if2 .taken)
+    let c1 = c .before in
+    let s = s1 c1 in
+    let (_, other, kind, proof) = s .pre in
+    path-nowhere (t s) (a s) other kind proof (two (c1 .before .before .before)) (found c1) (c .if2 .taken)
 
 is-data-requires : tie.Need-is-data-requires
 is-data-requires c κs = search needs
 
 send-requires : tie.Need-send-requires
-send-requires c κs =
-    let s = c .before .before .before .before .before .before .before .before .before .before .before in
-    (formed (s .args .tables .now) (s .pre .0) .size, c .before .before .if2 .left)
+send-requires c κs = let c2 = c .before .before in (sized (s1 (c2 .before)) .size, c2 .if2 .left)
 
 returns-3 : tie.Need-returns-3
 returns-3 c =
-    let s = c .before .before .before .before .before .before .before .before .before .before .before .before in
+    let c3 = c .before .before .before in
+    let c4 = c3 .before in
+    let s = s1 c4 in
+    let (judged, other, kind, proof) = s .pre in
+    let is = sym (c .before .before .is-data .ensures) ∙ c .before .if3 .taken in
     c .send .ensures
-    ∙ data-at (s .args .tables .now) (arrivalOf (s .args .packet .now) (s .args .arrived)) (s .pre .2) (s .pre .3) (s .pre .4)
-    (sym (c .before .before .before .before .before .before .before .before .type-two .ensures) ∙ not-false _ (c .before .before .before .before .before .before .before .if1 .left))
-    (c .before .before .before .before .path-place .ensures ∙ ap (λ (q : Parts). pathPlace (s .args .arrived .clock) (relayOf (s .args .tables .now)) (q .destination)) (c .before .before .before .before .before .before .parts-of .ensures))
-    (s .pre .1) (formed (s .args .tables .now) (s .pre .0) .size) (c .before .before .before .if2 .left)
-    (sym (c .before .before .is-data .ensures) ∙ c .before .if3 .taken)
+    ∙ data-at (t s) (a s) other kind proof (two (c4 .before .before .before)) (found c4) (judged .readable) (sized s .size) (c3 .if2 .left) is
 
 request-requires : tie.Need-request-requires
-request-requires c κs =
-    let s = c .before .before .before .before .before .before .before .before .before .before .before in
-    (formed (s .args .tables .now) (s .pre .0) .size, c .before .before .if2 .left, s .pre .1)
+request-requires c κs = let c2 = c .before .before in (sized (s1 (c2 .before)), c2 .if2 .left)
 
 returns-4 : tie.Need-returns-4
 returns-4 c =
-    let s = c .before .before .before .before .before .before .before .before .before .before .before .before in
+    let c3 = c .before .before .before in
+    let c4 = c3 .before in
+    let s = s1 c4 in
+    let (judged, other, kind, proof) = s .pre in
+    let not-data = sym (c .before .before .is-data .ensures) ∙ c .before .if3 .left in
     c .request .ensures
-    ∙ request-at (s .args .tables .now) (arrivalOf (s .args .packet .now) (s .args .arrived)) (s .pre .2) (s .pre .3) (s .pre .4)
-    (sym (c .before .before .before .before .before .before .before .before .type-two .ensures) ∙ not-false _ (c .before .before .before .before .before .before .before .if1 .left))
-    (c .before .before .before .before .path-place .ensures ∙ ap (λ (q : Parts). pathPlace (s .args .arrived .clock) (relayOf (s .args .tables .now)) (q .destination)) (c .before .before .before .before .before .before .parts-of .ensures))
-    (s .pre .1) (formed (s .args .tables .now) (s .pre .0) .size) (c .before .before .before .if2 .left)
-    (sym (c .before .before .is-data .ensures) ∙ c .before .if3 .left)
+    ∙ request-at (t s) (a s) other kind proof (two (c4 .before .before .before)) (found c4) (judged .readable) (sized s .size) (c3 .if2 .left)
+    not-data
 
 pub decide-by-path-spec : {M : Type 1} → statement M
 decide-by-path-spec =

@@ -1,48 +1,49 @@
-use Prim.Native.Nat.{ℕ, _≤_, _-_}
+use Prim.Native.Nat.{ℕ, _≤_, _-_, _*_}
 use mathlib.Core.Path.{_≡_, ap, _∙_}
-use lib.Dec.{lit<}
-use lib.ListN.{getD}
+use lib.ListN.{length, getD}
+use Rattle.octets.specs.Part.{patch}
 use Rattle.numbers.specs.Numbers.{portCount}
 use Rattle.rules.specs.Relay.{noPort}
+use Rattle.rules.specs.Renumbering.{movedPorts}
+use Rattle.tables.specs.Places.{portWidth}
 use Rattle.tables.specs.Records.{portBytes}
 use Rattle.tables.specs.Layout.{relayOf}
-use Rattle.renumbering.proofs.Moves.{movedTo, moved-none, moved-more, moved-all}
+use Rattle.tables.proofs.Lent.{port-lent}
+use Rattle.tables.proofs.Section.{upTo, up-none}
+use Rattle.renumbering.proofs.Moves.{moved-more, moved-all}
 use borrow.Author.Needs.{needs}
 use Rattle.renumbering.proofs.moved.moved_ports.Statement.{statement}
 use Rattle.renumbering.proofs.moved.moved_ports.Tie as tie
 
 abbrev Inv-loop : tie.InvT-loop
-Inv-loop tables map moved₀ n₀ moved n = (n ≤ portCount) × (moved ≡ movedTo map (relayOf tables .ports) n)
+Inv-loop tables map moved₀ n₀ moved n =
+    (n ≤ portCount) × ((length moved ≡ portWidth * portCount) × (moved ≡ upTo portBytes 0 (movedPorts map (relayOf tables .ports)) moved₀ n))
 
 abbrev μ-loop : tie.MeasureT-loop
 μ-loop tables map moved₀ n₀ moved n = portCount - n
 
 loop-holds : tie.Need-loop-holds Inv-loop μ-loop
-loop-holds c = (search needs, moved-none (c .before .before .args .map .now) (relayOf (c .before .before .args .tables .now) .ports))
+loop-holds c =
+    let a = c .before .before .args in
+    (search needs, (search needs, up-none port-lent 0 (movedPorts (a .map .now) (relayOf (a .tables .now) .ports)) _))
 
 preimage-of-requires : tie.Need-preimage-of-requires Inv-loop μ-loop
 preimage-of-requires c κs = search needs
 
-port-byte-requires : tie.Need-port-byte-requires Inv-loop μ-loop
-port-byte-requires c κs = (c .before .before .before .before .before .pre .0, c .before .before .before .before .before .pre .1, lit< tt)
+settings-of-requires : tie.Need-settings-of-requires Inv-loop μ-loop
+settings-of-requires c κs = (c .before .before .before .before .before .pre .0, c .before .before .before .before .before .pre .1)
 
-mul-moved : tie.Need-mul-moved Inv-loop μ-loop
-mul-moved c = search needs
+slice-aggregate-copy-at : tie.Need-slice-aggregate-copy-at Inv-loop μ-loop
+slice-aggregate-copy-at c = search needs
 
-array-write-moved : tie.Need-array-write-moved Inv-loop μ-loop
-array-write-moved c = search needs
+mul-copy-at : tie.Need-mul-copy-at Inv-loop μ-loop
+mul-copy-at c = search needs
 
-port-byte-requires-2 : tie.Need-port-byte-requires-2 Inv-loop μ-loop
-port-byte-requires-2 c κs = (c .before .before .before .before .before .before .pre .0, c .before .before .before .before .before .before .pre .1, lit< tt)
+slice-aggregate-copy-at-2 : tie.Need-slice-aggregate-copy-at-2 Inv-loop μ-loop
+slice-aggregate-copy-at-2 c = search needs
 
-mul-moved-2 : tie.Need-mul-moved-2 Inv-loop μ-loop
-mul-moved-2 c = search needs
-
-add-moved : tie.Need-add-moved Inv-loop μ-loop
-add-moved c = search needs
-
-array-write-moved-2 : tie.Need-array-write-moved-2 Inv-loop μ-loop
-array-write-moved-2 c = search needs
+copy-at-requires : tie.Need-copy-at-requires Inv-loop μ-loop
+copy-at-requires c κs = search needs
 
 add-n : tie.Need-add-n Inv-loop μ-loop
 add-n c = search needs
@@ -51,10 +52,30 @@ loop-less : tie.Need-loop-less Inv-loop μ-loop
 loop-less c = search needs
 
 loop-again : tie.Need-loop-again Inv-loop μ-loop
-loop-again c = (search needs, moved-more (c .before .before .before .before .before .before .before .args .map .now) (relayOf (c .before .before .before .before .before .before .before .args .tables .now) .ports) (c .before .before .before .before .loop .n) _ _ (c .before .before .before .loop-test .taken) (c .before .before .before .before .loop .moved) (c .before .before .before .before .loop .inv .1) (c .before .port-byte .ensures ∙ ap (λ (k : ℕ). getD (portBytes (getD (relayOf (c .before .before .before .before .before .before .before .args .tables .now) .ports) k noPort)) 0 0) (c .before .before .preimage-of .ensures)) (c .port-byte2 .ensures ∙ ap (λ (k : ℕ). getD (portBytes (getD (relayOf (c .before .before .before .before .before .before .before .args .tables .now) .ports) k noPort)) 1 0) (c .before .before .preimage-of .ensures)))
+loop-again c =
+    let c4 = c .before .before .before .before in
+    let c5 = c4 .before in
+    let c6 = c5 .before in
+    let c7 = c6 .before in
+    let c10 = c7 .before .before .before in
+    let a = c10 .args in
+    let s = c7 .loop in
+    let ports = relayOf (a .tables .now) .ports in
+    let settings = c4 .settings-of .ensures ∙ ap (λ (i : ℕ). portBytes (getD ports i noPort)) (c5 .preimage-of .ensures) in (
+      search needs,
+      (
+        search needs,
+        c .before .copy-at .ensures
+            ∙ ap (patch (s .moved) (portWidth * s .n)) settings
+            ∙ moved-more (a .map .now) ports _ (search needs) (s .n) (s .moved) (s .inv .1 .1) (c6 .loop-test .taken),
+      ),
+    )
 
 returns : tie.Need-returns Inv-loop μ-loop
-returns c = moved-all (c .before .before .before .before .args .map .now) (relayOf (c .before .before .before .before .args .tables .now) .ports) (c .before .loop .n) (c .before .loop .moved) (c .loop-test .left) (c .before .loop .inv .1)
+returns c =
+    let a = c .before .before .before .before .args in
+    let s = c .before .loop in
+    moved-all (a .map .now) (relayOf (a .tables .now) .ports) _ (search needs) (s .n) (s .moved) (s .inv .1 .1) (c .loop-test .left)
 
 pub moved-ports-spec : {M : Type 1} → statement M
 moved-ports-spec =
@@ -64,13 +85,11 @@ moved-ports-spec =
     μ-loop
     loop-holds
     preimage-of-requires
-    port-byte-requires
-    mul-moved
-    array-write-moved
-    port-byte-requires-2
-    mul-moved-2
-    add-moved
-    array-write-moved-2
+    settings-of-requires
+    slice-aggregate-copy-at
+    mul-copy-at
+    slice-aggregate-copy-at-2
+    copy-at-requires
     add-n
     loop-less
     loop-again

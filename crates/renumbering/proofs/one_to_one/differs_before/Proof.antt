@@ -28,7 +28,12 @@ shared-slice-read-if1-2 c = search needs
 
 returns : tie.Need-returns Inv-loop μ-loop
 unfolding differsBefore
-returns c = sym (all-fails (λ k. not (eqb (getD (c .before .before .before .before .before .args .map .now) k 0) (getD (c .before .before .before .before .before .args .map .now) (c .before .before .before .before .before .args .i) 0))) (c .before .before .before .before .loop .j) (c .before .before .before .before .before .args .i) (c .before .before .before .loop-test .taken) (ap not (eq-eqb _ _ (c .if1 .taken))))
+returns c =
+    let c3 = c .before .before .before in
+    let c4 = c3 .before in
+    let c5 = c4 .before in
+    sym (all-fails (λ k. not (eqb (getD (c5 .args .map .now) k 0) (getD (c5 .args .map .now) (c5 .args .i) 0))) (c4 .loop .j) (c5 .args .i)
+    (c3 .loop-test .taken) (ap not (eq-eqb _ _ (c .if1 .taken))))
 
 add-j : tie.Need-add-j Inv-loop μ-loop
 add-j c = search needs
@@ -37,11 +42,20 @@ loop-less : tie.Need-loop-less Inv-loop μ-loop
 loop-less c = search needs
 
 loop-again : tie.Need-loop-again Inv-loop μ-loop
-loop-again c = (search needs, all-more (λ k. not (eqb (getD (c .before .before .before .before .before .args .map .now) k 0) (getD (c .before .before .before .before .before .args .map .now) (c .before .before .before .before .before .args .i) 0))) (c .before .before .before .before .loop .j) (c .before .before .before .before .loop .inv .1) (ap not (ne-eqb _ _ (c .if1 .left))))
+loop-again c =
+    let c4 = c .before .before .before .before in
+    let c5 = c4 .before in (
+      search needs,
+      all-more (λ k. not (eqb (getD (c5 .args .map .now) k 0) (getD (c5 .args .map .now) (c5 .args .i) 0))) (c4 .loop .j)
+          (c4 .loop .inv .1) (ap not (ne-eqb _ _ (c .if1 .left))),
+    )
 
 returns-2 : tie.Need-returns-2 Inv-loop μ-loop
 unfolding differsBefore
-returns-2 c = ended (allBelow (λ k. not (eqb (getD (c .before .before .args .map .now) k 0) (getD (c .before .before .args .map .now) (c .before .before .args .i) 0)))) (c .before .loop .inv .0) (c .loop-test .left) (c .before .loop .inv .1)
+returns-2 c =
+    ended (allBelow (λ k. not (eqb (getD (c .before .before .args .map .now) k 0)
+    (getD (c .before .before .args .map .now) (c .before .before .args .i) 0)))) (c .before .loop .inv .0) (c .loop-test .left)
+    (c .before .loop .inv .1)
 
 pub differs-before-spec : {M : Type 1} → statement M
 differs-before-spec =

@@ -29,7 +29,11 @@ cast-if1 c = omega (arith, c .shared-slice-known .given (c .before .before .loop
 
 returns : tie.Need-returns Inv-loop μ-loop
 unfolding preimage
-returns c = sym (first-hit (λ k. eqb (getD (c .before .before .before .before .args .map .now) k 0) (c .before .before .before .before .args .n)) (c .before .before .before .loop .i) portCount (c .before .before .before .loop .inv .1) (eq-eqb _ _ (c .if1 .taken)) (c .before .before .loop-test .taken))
+returns c =
+    let c3 = c .before .before .before in
+    let c4 = c3 .before in
+    sym (first-hit (λ k. eqb (getD (c4 .args .map .now) k 0) (c4 .args .n)) (c3 .loop .i) portCount (c3 .loop .inv .1) (eq-eqb _ _ (c .if1 .taken))
+    (c .before .before .loop-test .taken))
 
 add-i : tie.Need-add-i Inv-loop μ-loop
 add-i c = search needs
@@ -38,11 +42,16 @@ loop-less : tie.Need-loop-less Inv-loop μ-loop
 loop-less c = search needs
 
 loop-again : tie.Need-loop-again Inv-loop μ-loop
-loop-again c = (search needs, first-more (λ k. eqb (getD (c .before .before .before .before .args .map .now) k 0) (c .before .before .before .before .args .n)) (c .before .before .before .loop .i) (c .before .before .before .loop .inv .1) (ne-eqb _ _ (c .if1 .left)))
+loop-again c =
+    let c3 = c .before .before .before in
+    let c4 = c3 .before in
+    (search needs, first-more (λ k. eqb (getD (c4 .args .map .now) k 0) (c4 .args .n)) (c3 .loop .i) (c3 .loop .inv .1) (ne-eqb _ _ (c .if1 .left)))
 
 returns-2 : tie.Need-returns-2 Inv-loop μ-loop
 unfolding preimage
-returns-2 c = sym (first-ended (λ k. eqb (getD (c .before .before .args .map .now) k 0) (c .before .before .args .n)) (c .before .loop .inv .0) (c .loop-test .left) (c .before .loop .inv .1))
+returns-2 c =
+    sym (first-ended (λ k. eqb (getD (c .before .before .args .map .now) k 0) (c .before .before .args .n)) (c .before .loop .inv .0)
+    (c .loop-test .left) (c .before .loop .inv .1))
 
 pub preimage-of-spec : {M : Type 1} → statement M
 preimage-of-spec =

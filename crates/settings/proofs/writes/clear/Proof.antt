@@ -27,7 +27,14 @@ loop-less : tie.Need-loop-less Inv-loop μ-loop
 loop-less c = search needs
 
 loop-again : tie.Need-loop-again Inv-loop μ-loop
-loop-again c = (search needs, (search needs, clear-more (c .before .before .args .s .now) (c .before .loop .s) (c .before .loop .i) (omega arith) (c .before .loop .inv .1 .1)))
+loop-again c = (
+  search needs,
+  (
+    search needs,
+    clear-more (c .before .before .args .s .now) (c .before .loop .s) (c .before .loop .i) (omega arith)
+        (c .before .loop .inv .1 .1),
+  ),
+)
 
 same-length : tie.Need-same-length Inv-loop μ-loop
 same-length c = search needs

@@ -1,7 +1,11 @@
-use Prim.Native.Nat.{_+_, _*_}
-use mathlib.Core.Path.{_∙_}
-use Rattle.tables.specs.Places.{localWidth, localsAt}
-use Rattle.settings.proofs.Answered.{local-pieces}
+use Prim.Native.Nat.{ℕ, _+_, _*_}
+use mathlib.Core.Path.{_≡_}
+use lib.ListN.{length}
+use Rattle.codes.proofs.Pieces.{record-written}
+use Rattle.tables.specs.Forms.{localForm}
+use Rattle.tables.specs.Places.{addressWidth, localWidth, localsAt}
+use Rattle.tables.specs.Records.{localBytes}
+use Rattle.tables.proofs.All.{exactly-same}
 use native.Mathlib.Omega.{arith}
 use borrow.Author.Needs.{needs}
 use Rattle.settings.proofs.writes.put_local.Statement.{statement}
@@ -29,7 +33,15 @@ same-length : tie.Need-same-length
 same-length c = search needs
 
 returns : tie.Need-returns
-returns c = c .before .before .copy-at .ensures ∙ local-pieces (c .before .before .before .before .before .before .before .before .before .before .args .tables .now) _ (c .before .before .before .before .before .before .before .before .before .before .args .t3) (localsAt + localWidth * c .before .before .before .before .before .before .before .before .before .before .args .place) (c .before .before .before .before .before .before .before .set-at .ensures) (search needs) (omega (arith, c .before .before .before .before .before .before .before .before .before .before .pre .0, c .before .before .before .before .before .before .before .before .before .before .pre .1))
+unfolding localBytes
+returns c =
+    let c7 = c .before .before .before .before .before .before .before in
+    let c10 = c7 .before .before .before in
+    let a = c10 .args in
+    let wide : length (a .t3) ≡ addressWidth = search needs in
+    let at : ℕ = localsAt + localWidth * a .place in
+    let all = record-written localForm (a .t3) (a .tables .now) at (omega (arith, c10 .pre .0, c10 .pre .1)) in
+    rw (c .before .before .copy-at .ensures, c7 .set-at .ensures) (rw (exactly-same addressWidth (a .t3) wide) at all)
 
 pub put-local-spec : {M : Type 1} → statement M
 put-local-spec =

@@ -1,7 +1,9 @@
-use Prim.Native.Nat.{_+_, _*_}
-use mathlib.Core.Path.{_∙_}
+use Prim.Native.Nat.{ℕ, _+_, _*_}
+use Rattle.codes.proofs.Pieces.{fields-written}
+use Rattle.tables.specs.Forms.{portForm}
 use Rattle.tables.specs.Places.{portWidth, portsAt}
-use Rattle.settings.proofs.Answered.{port-pieces}
+use Rattle.tables.specs.Records.{portBytes}
+use Rattle.rules.specs.Relay.{makePort}
 use native.Mathlib.Omega.{arith}
 use borrow.Author.Needs.{needs}
 use Rattle.settings.proofs.writes.put_port.Statement.{statement}
@@ -13,14 +15,17 @@ mul-at c = search needs
 add-at : tie.Need-add-at
 add-at c = search needs
 
+add-set-at : tie.Need-add-set-at
+add-set-at c = search needs
+
 mark-of-requires : tie.Need-mark-of-requires
 mark-of-requires c κs = search needs
 
 set-at-requires : tie.Need-set-at-requires
 set-at-requires c κs = search needs
 
-add-set-at : tie.Need-add-set-at
-add-set-at c = search needs
+add-set-at-2 : tie.Need-add-set-at-2
+add-set-at-2 c = search needs
 
 set-at-requires-2 : tie.Need-set-at-requires-2
 set-at-requires-2 c κs = search needs
@@ -29,7 +34,15 @@ same-length : tie.Need-same-length
 same-length c = search needs
 
 returns : tie.Need-returns
-returns c = c .before .before .set-at2 .ensures ∙ port-pieces (c .before .before .before .before .before .before .before .before .before .before .args .tables .now) _ (portsAt + portWidth * c .before .before .before .before .before .before .before .before .before .before .args .port) (c .before .before .before .before .before .before .before .mark-of .result) (c .before .before .before .before .before .before .before .before .before .before .args .mode) (c .before .before .before .before .before .before .before .before .before .before .args .on) (c .before .before .before .before .before .before .before .mark-of .ensures) (c .before .before .before .before .before .before .set-at .ensures) (omega (arith, c .before .before .before .before .before .before .before .before .before .before .pre .0, c .before .before .before .before .before .before .before .before .before .before .pre .1))
+unfolding portBytes
+returns c =
+    let c6 = c .before .before .before .before .before .before in
+    let c7 = c6 .before in
+    let c10 = c7 .before .before .before in
+    let a = c10 .args in
+    let at : ℕ = portsAt + portWidth * a .port in
+    rw (c .before .before .set-at2 .ensures, c6 .set-at .ensures, c7 .mark-of .ensures)
+    (fields-written portForm (makePort (a .on) (a .mode)) (a .tables .now) at (omega (arith, c10 .pre .0, c10 .pre .1)))
 
 pub put-port-spec : {M : Type 1} → statement M
 put-port-spec =
@@ -37,9 +50,10 @@ put-port-spec =
     (tie.spec
     mul-at
     add-at
+    add-set-at
     mark-of-requires
     set-at-requires
-    add-set-at
+    add-set-at-2
     set-at-requires-2
     same-length
     returns)

@@ -49,7 +49,8 @@ loop-again c =
     let x = c .before .before .before .extend .ensures in
     let e : l .t + 16 + 8 ≡ l .t + 8 + 16 = omega arith in
     let stored = rw e at (ap (take (l .t + 16 + 8)) x ∙ expanded-words _ (l .w) (l .t + 16) 8 (omega arith) (omega arith) (l .inv .3)) in
-    let after = rounds-stored _ _ _ (l .t + 8 + 16) (l .t) 8 (l .r) (c .eight-rounds .result) (omega arith) (omega arith) stored (l .inv .4) (c .eight-rounds .ensures) in
+    let after =
+    rounds-stored _ _ _ (l .t + 8 + 16) (l .t) 8 (l .r) _ (omega arith) (omega arith) stored (l .inv .4) (c .eight-rounds .ensures) in
     (omega arith, omega arith, ap length x ∙ length-expanded (l .w) (l .t + 16) 8 ∙ l .inv .2, stored, after)
 
 eight-rounds-requires-2 : tie.Need-eight-rounds-requires-2 Inv-loop μ-loop

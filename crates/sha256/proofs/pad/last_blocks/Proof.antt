@@ -72,7 +72,8 @@ returns-2 c =
     let a = p .before .before .before .before .before .before in
     let m = now (a .args .message) in
     let front = buffer-front m (t .result) 128 (a .pre .0) (omega arith) (t .ensures) in
-    two-blocks m (a .args .s) (t .result) (a .pre .1) (p .compress2 .result) (c .compress3 .result) (omega arith) (omega arith) front (p .compress2 .ensures) (c .compress3 .ensures)
+    two-blocks m (a .args .s) (t .result) (a .pre .1) (p .compress2 .result) (c .compress3 .result) (omega arith) (omega arith) front
+    (p .compress2 .ensures) (c .compress3 .ensures)
 
 pub last-blocks-spec : {M : Type 1} → statement M
 last-blocks-spec =

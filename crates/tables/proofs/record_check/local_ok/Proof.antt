@@ -16,7 +16,9 @@ is-zero-requires c κs = search needs
 
 returns : tie.Need-returns
 unfolding slotBytesOk _then_otherwise_
-returns c = rw (local-test _, eq-eqb _ _ (c .before .if1 .taken)) (c .is-zero .ensures ∙ ap (λ (k : ℕ). zeros k (c .before .before .before .before .args .b .now)) (c .before .before .before .before .pre))
+returns c =
+    let c4 = c .before .before .before .before in
+    rw (local-test _, eq-eqb _ _ (c .before .if1 .taken)) (c .is-zero .ensures ∙ ap (λ (k : ℕ). zeros k (c4 .args .b .now)) (c4 .pre))
 
 shared-slice-read-if2 : tie.Need-shared-slice-read-if2
 shared-slice-read-if2 c = search needs

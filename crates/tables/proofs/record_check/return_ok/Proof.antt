@@ -18,7 +18,9 @@ is-zero-requires c κs = search needs
 
 returns : tie.Need-returns
 unfolding slotBytesOk _then_otherwise_
-returns c = rw (return-test _, eq-eqb _ _ (c .before .if1 .taken)) (c .is-zero .ensures ∙ ap (λ (k : ℕ). zeros k (c .before .before .before .before .args .b .now)) (c .before .before .before .before .pre))
+returns c =
+    let c4 = c .before .before .before .before in
+    rw (return-test _, eq-eqb _ _ (c .before .if1 .taken)) (c .is-zero .ensures ∙ ap (λ (k : ℕ). zeros k (c4 .args .b .now)) (c4 .pre))
 
 shared-slice-read-if2 : tie.Need-shared-slice-read-if2
 shared-slice-read-if2 c = search needs
@@ -35,7 +37,9 @@ cast-if3 c = search needs
 
 returns-3 : tie.Need-returns-3
 unfolding slotBytesOk _then_otherwise_ _and_ returnOk returnOf timeOk
-returns-3 c = rw (return-test _, ne-eqb _ _ (c .before .before .before .before .if1 .left), eq-eqb _ _ (c .before .before .if2 .left), le-ltb _ _ (c .if3 .taken))
+returns-3 c =
+    let c4 = c .before .before .before .before in
+    rw (return-test _, ne-eqb _ _ (c4 .if1 .left), eq-eqb _ _ (c .before .before .if2 .left), le-ltb _ _ (c .if3 .taken))
 
 shared-slice-read-if4 : tie.Need-shared-slice-read-if4
 shared-slice-read-if4 c = search needs
@@ -45,14 +49,28 @@ cast-if4 c = search needs
 
 returns-4 : tie.Need-returns-4
 unfolding slotBytesOk _then_otherwise_ _and_ returnOk returnOf timeOk
-returns-4 c = rw (return-test _, ne-eqb _ _ (c .before .before .before .before .before .before .if1 .left), eq-eqb _ _ (c .before .before .before .before .if2 .left), lt-ltb _ _ (c .before .before .if3 .left), le-ltb _ _ (c .if4 .taken))
+returns-4 c =
+    let c4 = c .before .before .before .before in
+    let c6 = c4 .before .before in
+    rw (return-test _, ne-eqb _ _ (c6 .if1 .left), eq-eqb _ _ (c4 .if2 .left), lt-ltb _ _ (c .before .before .if3 .left), le-ltb _ _ (c .if4 .taken))
 
 number-of-8-at-requires : tie.Need-number-of-8-at-requires
 number-of-8-at-requires c κs = search needs
 
 returns-5 : tie.Need-returns-5
 unfolding slotBytesOk _then_otherwise_ _and_ returnOk returnOf timeOk
-returns-5 c = rw (return-test _, ne-eqb _ _ (c .before .before .before .before .before .before .before .if1 .left), eq-eqb _ _ (c .before .before .before .before .before .if2 .left), lt-ltb _ _ (c .before .before .before .if3 .left), lt-ltb _ _ (c .before .if4 .left), ← c .number-of-8-at .ensures)
+returns-5 c =
+    let c3 = c .before .before .before in
+    let c5 = c3 .before .before in
+    let c7 = c5 .before .before in
+    rw (
+      return-test _,
+      ne-eqb _ _ (c7 .if1 .left),
+      eq-eqb _ _ (c5 .if2 .left),
+      lt-ltb _ _ (c3 .if3 .left),
+      lt-ltb _ _ (c .before .if4 .left),
+      ← c .number-of-8-at .ensures,
+    )
 
 pub return-ok-spec : {M : Type 1} → statement M
 return-ok-spec =

@@ -47,10 +47,14 @@ loop-less : tie.Need-loop-less Inv-loop μ-loop
 loop-less c = search needs
 
 loop-again : tie.Need-loop-again Inv-loop μ-loop
-loop-again c = (search needs, record-passes hashBytesOk hashWidth _ _ (c .before .hash-ok .ensures) (c .if1 .left) (c .before .before .before .before .loop .inv .1))
+loop-again c =
+    let c4 = c .before .before .before .before in
+    (search needs, record-passes hashBytesOk hashWidth _ _ (c .before .hash-ok .ensures) (c .if1 .left) (c4 .loop .inv .1))
 
 returns-2 : tie.Need-returns-2 Inv-loop μ-loop
-returns-2 c = ended (λ (k : ℕ). groupOk hashBytesOk hashWidth k (c .before .before .before .args .s .now)) (c .before .loop .inv .0) (c .loop-test .left) (c .before .loop .inv .1)
+returns-2 c =
+    let c3 = c .before .before .before in
+    ended (λ (k : ℕ). groupOk hashBytesOk hashWidth k (c3 .args .s .now)) (c .before .loop .inv .0) (c .loop-test .left) (c .before .loop .inv .1)
 
 pub hash-group-each-spec : {M : Type 1} → statement M
 hash-group-each-spec =

@@ -16,7 +16,9 @@ is-zero-requires c κs = search needs
 
 returns : tie.Need-returns
 unfolding hashBytesOk
-returns c = group-free hashBytesOk hashWidth _ (unused hashForm) (c .before .before .before .before .before .pre) (sym (c .before .is-zero .ensures) ∙ c .if2 .taken)
+returns c =
+    let c5 = c .before .before .before .before .before in
+    group-free hashBytesOk hashWidth _ (unused hashForm) (c5 .pre) (sym (c .before .is-zero .ensures) ∙ c .if2 .taken)
 
 hash-group-each-requires : tie.Need-hash-group-each-requires
 hash-group-each-requires c κs = search needs

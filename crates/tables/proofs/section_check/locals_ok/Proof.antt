@@ -42,7 +42,9 @@ local-ok-requires : tie.Need-local-ok-requires Inv-loop μ-loop
 local-ok-requires c κs = search needs
 
 returns : tie.Need-returns Inv-loop μ-loop
-returns c = row-fails localBytesOk localsAt localWidth _ _ (c .before .local-ok .ensures) localCount (c .before .before .before .loop-test .taken) (c .if1 .taken)
+returns c =
+    let c3 = c .before .before .before in
+    row-fails localBytesOk localsAt localWidth _ _ (c .before .local-ok .ensures) localCount (c3 .loop-test .taken) (c .if1 .taken)
 
 add-i : tie.Need-add-i Inv-loop μ-loop
 add-i c = search needs
@@ -51,10 +53,14 @@ loop-less : tie.Need-loop-less Inv-loop μ-loop
 loop-less c = search needs
 
 loop-again : tie.Need-loop-again Inv-loop μ-loop
-loop-again c = (search needs, row-passes localBytesOk localsAt localWidth _ _ (c .before .local-ok .ensures) (c .if1 .left) (c .before .before .before .before .loop .inv .1))
+loop-again c =
+    let c4 = c .before .before .before .before in
+    (search needs, row-passes localBytesOk localsAt localWidth _ _ (c .before .local-ok .ensures) (c .if1 .left) (c4 .loop .inv .1))
 
 returns-2 : tie.Need-returns-2 Inv-loop μ-loop
-returns-2 c = ended (λ (k : ℕ). recordsOk localBytesOk localsAt localWidth k (c .before .before .before .args .t .now)) (c .before .loop .inv .0) (c .loop-test .left) (c .before .loop .inv .1)
+returns-2 c =
+    let c3 = c .before .before .before in
+    ended (λ (k : ℕ). recordsOk localBytesOk localsAt localWidth k (c3 .args .t .now)) (c .before .loop .inv .0) (c .loop-test .left) (c .before .loop .inv .1)
 
 pub locals-ok-spec : {M : Type 1} → statement M
 locals-ok-spec =

@@ -16,7 +16,9 @@ is-zero-requires c κs = search needs
 
 returns : tie.Need-returns
 unfolding returnBytesOk
-returns c = group-free returnBytesOk returnWidth _ (unused returnForm) (c .before .before .before .before .before .pre) (sym (c .before .is-zero .ensures) ∙ c .if2 .taken)
+returns c =
+    let c5 = c .before .before .before .before .before in
+    group-free returnBytesOk returnWidth _ (unused returnForm) (c5 .pre) (sym (c .before .is-zero .ensures) ∙ c .if2 .taken)
 
 return-group-each-requires : tie.Need-return-group-each-requires
 return-group-each-requires c κs = search needs

@@ -50,7 +50,9 @@ return-group-ok-requires : tie.Need-return-group-ok-requires Inv-loop μ-loop
 return-group-ok-requires c κs = search needs
 
 returns : tie.Need-returns Inv-loop μ-loop
-returns c = group-fails returnBytesOk returnsAt returnWidth _ _ (c .before .return-group-ok .ensures) (c .before .before .before .before .loop .inv .1) returnCount (omega arith) (c .if1 .taken)
+returns c =
+    let c4 = c .before .before .before .before in
+    group-fails returnBytesOk returnsAt returnWidth _ _ (c .before .return-group-ok .ensures) (c4 .loop .inv .1) returnCount (omega arith) (c .if1 .taken)
 
 add-g : tie.Need-add-g Inv-loop μ-loop
 add-g c = search needs
@@ -59,10 +61,15 @@ loop-less : tie.Need-loop-less Inv-loop μ-loop
 loop-less c = search needs
 
 loop-again : tie.Need-loop-again Inv-loop μ-loop
-loop-again c = (search needs, group-passes returnBytesOk returnsAt returnWidth _ _ (c .before .return-group-ok .ensures) (c .before .before .before .before .loop .inv .1) (c .if1 .left))
+loop-again c =
+    let c4 = c .before .before .before .before in
+    (search needs, group-passes returnBytesOk returnsAt returnWidth _ _ (c .before .return-group-ok .ensures) (c4 .loop .inv .1) (c .if1 .left))
 
 returns-2 : tie.Need-returns-2 Inv-loop μ-loop
-returns-2 c = ended (λ (k : ℕ). recordsOk returnBytesOk returnsAt returnWidth (groupSize * k) (c .before .before .before .args .t .now)) (c .before .loop .inv .0) (c .loop-test .left) (c .before .loop .inv .1)
+returns-2 c =
+    let c3 = c .before .before .before in
+    ended (λ (k : ℕ). recordsOk returnBytesOk returnsAt returnWidth (groupSize * k) (c3 .args .t .now)) (c .before .loop .inv .0)
+    (c .loop-test .left) (c .before .loop .inv .1)
 
 pub returns-ok-spec : {M : Type 1} → statement M
 returns-ok-spec =

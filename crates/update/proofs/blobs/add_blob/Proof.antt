@@ -11,7 +11,8 @@ slice-read-count : tie.Need-slice-read-count
 slice-read-count c = search needs
 
 cast-i : tie.Need-cast-i
-cast-i c = omega (arith, c .slice-known2 .given 0)
+cast-i c =
+    omega (arith, c .slice-known2 .given 0)
 
 add-set-at : tie.Need-add-set-at
 add-set-at c = search needs
@@ -36,9 +37,12 @@ same-length c = search needs
 
 returns : tie.Need-returns
 returns c =
-    let a = c .before .before .before .before .before .before .before .before .before .before .before .before .args in
+    let c7 = c .before .before .before .before .before .before .before in
+    let c9 = c7 .before .before in
+    let c12 = c9 .before .before .before in
+    let a = c12 .args in
     let wide : length (a .t2) ≡ blobWidth = search needs in
-    added (a .s .now) (c .before .before .before .before .before .before .before .before .before .before .before .before .pre) (a .t2) wide _ _ (c .before .before .before .before .before .before .before .before .before .if1 .taken) (c .before .before .before .before .before .before .before .set-at .ensures) (c .before .before .copy-at .ensures)
+    rw (c .before .before .copy-at .ensures, c7 .set-at .ensures) (added (a .s .now) (c12 .pre) (a .t2) wide (c9 .if1 .taken))
 
 push-blob-requires : tie.Need-push-blob-requires
 push-blob-requires c κs = search needs
@@ -48,9 +52,11 @@ same-length-2 c = search needs
 
 returns-2 : tie.Need-returns-2
 returns-2 c =
-    let a = c .before .before .before .before .before .before .before .args in
+    let c4 = c .before .before .before .before in
+    let c7 = c4 .before .before .before in
+    let a = c7 .args in
     let wide : length (a .t2) ≡ blobWidth = search needs in
-    pushed (a .s .now) (c .before .before .before .before .before .before .before .pre) (a .t2) wide _ (c .before .before .before .before .if1 .left) (c .before .before .push-blob .ensures)
+    pushed (a .s .now) (c7 .pre) (a .t2) wide _ (c4 .if1 .left) (c .before .before .push-blob .ensures)
 
 pub add-blob-spec : {M : Type 1} → statement M
 add-blob-spec =

@@ -1,7 +1,7 @@
 use mathlib.Core.Path.{_≡_}
 use lib.ListN.{length}
 use Rattle.tables.specs.Places.{blobWidth}
-use Rattle.update.proofs.PathWrites.{one-pieces}
+use Rattle.update.proofs.PathWrites.{one-written}
 use borrow.Author.Needs.{needs}
 use Rattle.update.proofs.blobs.one_blob.Statement.{statement}
 use Rattle.update.proofs.blobs.one_blob.Tie as tie
@@ -26,9 +26,12 @@ same-length c = search needs
 
 returns : tie.Need-returns
 returns c =
-    let a = c .before .before .before .before .before .before .before .before .before .before .before .before .before .before .before .args in
+    let c7 = c .before .before .before .before .before .before .before in
+    let c12 = c7 .before .before .before .before .before in
+    let c15 = c12 .before .before .before in
+    let a = c15 .args in
     let wide : length (a .t2) ≡ blobWidth = search needs in
-    one-pieces (a .s .now) _ _ _ (a .t2) (c .before .before .before .before .before .before .before .before .before .before .before .before .before .before .before .pre) wide (c .before .before .before .before .before .before .before .before .before .before .before .before .set-at .ensures) (c .before .before .before .before .before .before .before .copy-at .ensures) (c .before .before .copy-at2 .ensures)
+    rw (c .before .before .copy-at2 .ensures, c7 .copy-at .ensures, c12 .set-at .ensures) (one-written (a .s .now) (a .t2) (c15 .pre) wide)
 
 pub one-blob-spec : {M : Type 1} → statement M
 one-blob-spec =

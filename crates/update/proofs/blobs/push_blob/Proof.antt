@@ -1,11 +1,11 @@
 use mathlib.Core.Path.{_≡_, _∙_}
+use Prim.Native.Nat.{_+_}
 use lib.ListN.{length}
 use Rattle.octets.proofs.Part.{part-range}
-use Prim.Native.Nat.{_+_}
 use Rattle.tables.specs.Places.{blobWidth}
 use Rattle.tables.specs.Fields.{blobPlacesAt}
 use Rattle.update.specs.Written.{newerWidth}
-use Rattle.update.proofs.PathWrites.{push-pieces}
+use Rattle.update.proofs.PathWrites.{all-moved}
 use borrow.Author.Needs.{needs}
 use Rattle.update.proofs.blobs.push_blob.Statement.{statement}
 use Rattle.update.proofs.blobs.push_blob.Tie as tie
@@ -48,9 +48,13 @@ same-length c = search needs
 
 returns : tie.Need-returns
 returns c =
-    let a = c .before .before .before .before .before .before .before .before .before .before .before .before .before .before .before .before .args in
+    let c7 = c .before .before .before .before .before .before .before in
+    let c11 = c7 .before .before .before .before in
+    let c16 = c11 .before .before .before .before .before in
+    let a = c16 .args in
     let wide : length (a .t2) ≡ blobWidth = search needs in
-    push-pieces (a .s .now) (c .before .before .before .before .before .before .before .before .before .before .before .before .before .before .before .before .pre) (a .t2) wide _ _ _ (c .before .before .before .before .before .before .before .before .before .before .before .copy .ensures ∙ part-range (a .s .now) (blobPlacesAt + blobWidth) newerWidth) (c .before .before .before .before .before .before .before .copy-at .ensures) (c .before .before .copy-at2 .ensures)
+    let kept = c11 .copy .ensures ∙ part-range (a .s .now) (blobPlacesAt + blobWidth) newerWidth in
+    rw (c .before .before .copy-at2 .ensures, c7 .copy-at .ensures, kept) (all-moved (a .s .now) (c16 .pre) (a .t2) wide)
 
 pub push-blob-spec : {M : Type 1} → statement M
 push-blob-spec =

@@ -1,13 +1,13 @@
-use Prim.Native.Nat.{ℕ, _+_, _*_, _%_}
-use mathlib.Core.Path.{_≡_, ap, _∙_}
-use mathlib.Core.List.{List}
+use Prim.Native.Nat.{ℕ, _+_, _*_}
+use mathlib.Core.Path.{_≡_}
 use lib.ListN.{length}
-use Rattle.octets.specs.Part.{patch}
-use Rattle.octets.specs.BigEndian.{bigEndian}
-use Rattle.numbers.specs.Numbers.{hashCount}
-use Rattle.tables.specs.Places.{digestWidth, ringWidth, hashNextAt, hashesAt, hashWidth}
+use Rattle.codes.proofs.Pieces.{record-written}
+use Rattle.rules.specs.Relay.{makeRemembered}
+use Rattle.tables.specs.Forms.{hashForm}
+use Rattle.tables.specs.Places.{digestWidth, hashesAt, hashWidth}
+use Rattle.tables.specs.Records.{hashBytes}
+use Rattle.tables.proofs.All.{exactly-same}
 use Rattle.update.specs.Written.{hashWritten}
-use Rattle.update.proofs.Pieces.{hash-pieces}
 use native.Mathlib.Omega.{arith}
 use borrow.Author.Needs.{needs}
 use Rattle.update.proofs.hashes.remember.Statement.{statement}
@@ -47,13 +47,19 @@ same-length : tie.Need-same-length
 same-length c = search needs
 
 returns : tie.Need-returns
-unfolding hashWritten
+unfolding hashWritten hashBytes
 returns c =
-    let a = c .before .before .before .before .before .before .before .before .before .before .before .before .before .before .before .before .before .before .args in
+    let c6 = c .before .before .before .before .before .before in
+    let c10 = c6 .before .before .before .before in
+    let c15 = c10 .before .before .before .before .before in
+    let c18 = c15 .before .before .before in
+    let a = c18 .args in
     let wide : length (a .t3) ≡ digestWidth = search needs in
-    c .before .before .write-number-at2 .ensures
-    ∙ ap (λ (r : List ℕ). patch r hashNextAt (bigEndian ringWidth ((a .place + 1) % hashCount)))
-    (hash-pieces (a .tables .now) (hashesAt + hashWidth * a .place) _ _ _ (record { hash = a .t3; expiry = a .expiry }) wide (omega (arith, c .before .before .before .before .before .before .before .before .before .before .before .before .before .before .before .before .before .before .pre .0, c .before .before .before .before .before .before .before .before .before .before .before .before .before .before .before .before .before .before .pre .1)) (c .before .before .before .before .before .before .before .before .before .before .before .before .before .before .before .set-at .ensures) (c .before .before .before .before .before .before .before .before .before .before .copy-at .ensures) (c .before .before .before .before .before .before .write-number-at .ensures))
+    let at : ℕ = hashesAt + hashWidth * a .place in
+    let m = makeRemembered (a .t3) (a .expiry) in
+    let all = record-written hashForm m (a .tables .now) at (omega (arith, c18 .pre .0, c18 .pre .1)) in
+    rw (c .before .before .write-number-at2 .ensures, c6 .write-number-at .ensures, c10 .copy-at .ensures, c15 .set-at .ensures)
+    (rw (rw (exactly-same digestWidth (a .t3) wide) at all))
 
 pub remember-spec : {M : Type 1} → statement M
 remember-spec =

@@ -47,11 +47,14 @@ same-length c = search needs
 returns : tie.Need-returns
 unfolding pathWritten
 returns c =
-    let a = c .before .before .before .before .before .before .before .before .before .args in
+    let c6 = c .before .before .before .before .before .before in
+    let c9 = c6 .before .before .before in
+    let a = c9 .args in
     let at : ℕ = pathsAt + pathWidth * a .place in
-    let fits : at + pathWidth ≤ length (a .tables .now) = omega (arith, c .before .before .before .before .before .before .before .before .before .pre .0, c .before .before .before .before .before .before .before .before .before .pre .1) in
-    path-put (a .tables .now) _ at (a .path) fits (c .before .before .before .before .before .before .put-head .ensures) _ _
-    (c .before .before .add-blob .ensures ∙ ap (λ (s : Blobs). blobsBytes (addBlob blobLimit (a .blob) s)) (blobs-kept (a .tables .now) _ at (a .path) fits (c .before .before .before .before .before .before .put-head .ensures)))
+    let fits : at + pathWidth ≤ length (a .tables .now) = omega (arith, c9 .pre .0, c9 .pre .1) in
+    path-put (a .tables .now) _ at (a .path) fits (c6 .put-head .ensures) _ _
+    (c .before .before .add-blob .ensures ∙ ap (λ (s : Blobs). blobsBytes (addBlob blobLimit (a .blob) s))
+    (blobs-kept (a .tables .now) _ at (a .path) fits (c6 .put-head .ensures)))
 
 pub put-known-path-spec : {M : Type 1} → statement M
 put-known-path-spec =

@@ -40,9 +40,11 @@ same-length c = search needs
 returns : tie.Need-returns
 unfolding pathWritten
 returns c =
-    let a = c .before .before .before .before .before .before .before .before .before .args in
+    let c6 = c .before .before .before .before .before .before in
+    let c9 = c6 .before .before .before in
+    let a = c9 .args in
     let at : ℕ = pathsAt + pathWidth * a .place in
-    path-put (a .tables .now) _ at (a .path) (omega (arith, c .before .before .before .before .before .before .before .before .before .pre .0, c .before .before .before .before .before .before .before .before .before .pre .1)) (c .before .before .before .before .before .before .put-head .ensures) _ _ (c .before .before .one-blob .ensures)
+    path-put (a .tables .now) _ at (a .path) (omega (arith, c9 .pre .0, c9 .pre .1)) (c6 .put-head .ensures) _ _ (c .before .before .one-blob .ensures)
 
 pub put-new-path-spec : {M : Type 1} → statement M
 put-new-path-spec =

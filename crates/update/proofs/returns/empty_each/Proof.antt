@@ -19,8 +19,14 @@ abbrev μ-loop : tie.MeasureT-loop
 
 loop-holds : tie.Need-loop-holds Inv-loop μ-loop
 loop-holds c =
-    let a = c .before .before .args in
-    (search needs, (formed _ (c .before .before .pre .0) .size, sweep-none (a .clock) (a .key .now) (a .tables .now) (known-bytes (a .tables .now) (c .before .slice-known .given)) (c .before .before .pre .0)))
+    let a = c .before .before .args in (
+      search needs,
+      (
+        formed _ (c .before .before .pre .0) .size,
+        sweep-none (a .clock) (a .key .now) (a .tables .now)
+            (known-bytes (a .tables .now) (c .before .slice-known .given)) (c .before .before .pre .0),
+      ),
+    )
 
 empty-if-live-requires : tie.Need-empty-if-live-requires Inv-loop μ-loop
 empty-if-live-requires c κs = search needs
@@ -33,8 +39,18 @@ loop-less c = search needs
 
 loop-again : tie.Need-loop-again Inv-loop μ-loop
 loop-again c =
-    let a = c .before .before .before .before .before .before .before .before .args in
-    (search needs, (search needs, sweep-more (a .clock) (a .key .now) (a .tables .now) (known-bytes (a .tables .now) (c .before .before .before .before .before .before .before .slice-known .given)) (c .before .before .before .before .before .before .before .before .pre .0) (c .before .before .before .before .before .loop .tables) (c .before .before .before .before .before .loop .i) (c .before .before .before .before .loop-test .taken) (c .before .before .before .before .before .loop .inv .1 .1) _ (c .before .before .empty-if-live .ensures)))
+    let c4 = c .before .before .before .before in
+    let c5 = c4 .before in
+    let c7 = c5 .before .before in
+    let c8 = c7 .before in
+    let a = c8 .args in (
+      search needs,
+      (
+        search needs,
+        sweep-more (a .clock) (a .key .now) (a .tables .now) (known-bytes (a .tables .now) (c7 .slice-known .given))
+            (c8 .pre .0) (c5 .loop .tables) (c5 .loop .i) (c4 .loop-test .taken) (c5 .loop .inv .1 .1) _ (c .before .before .empty-if-live .ensures),
+      ),
+    )
 
 same-length : tie.Need-same-length Inv-loop μ-loop
 same-length c = let size = formed _ (c .before .before .before .before .pre .0) .size in search needs

@@ -1,0 +1,135 @@
+-- Demand 1's theorem on the tables that calls led to: every row refuses a call, 7 on tables of no bytes and 10 on those of a relay without an empty place;
+-- then a packet that no row refuses, and what the calls after a refusal reply.
+use Prim.Native.Nat.{ℕ}
+use mathlib.Core.Bool.{true, false}
+use mathlib.Core.List.{List, [], _∷_}
+use mathlib.Core.Path.{_≡_, refl, sym, ap, subst, _∙_}
+use lib.Dec.{eqb, lit<}
+use lib.ListN.{replicate, take}
+use Rattle.octets.specs.Bytes.{Bytes}
+use Rattle.octets.specs.Choice.{_then_otherwise_}
+use Rattle.rules.specs.Relay.{used, Relay, makeRelay}
+use Rattle.rules.specs.Calls.{newTally}
+use Rattle.rules.specs.Run.{Call, packet, port-setting, adding, removing, renumbering, Reply, numbered}
+use Rattle.rules.specs.declared.Tally.{Tally}
+use Rattle.rules.proofs.Unfolding.{rules}
+use Rattle.rules.proofs.Scene.{own, dataBytes, receiptBytes, arrival, arrives}
+use Rattle.rules.proofs.Outcomes.{preparedRelay}
+use Rattle.tables.specs.Layout.{bytesOf, wellFormed}
+use Rattle.tables.specs.Shape.{isByte, isBytes, shaped}
+use Rattle.tables.proofs.Whole.{back, ok-bytes, bytes-bytes}
+use Rattle.demands.specs.Bytes.{OutcomeOn, performOn, repliesOn, tablesAfterOn, tallyAfterOn}
+use Rattle.demands.specs.Refusals.{refusal, refusalOn, refusing, isRefusal}
+use Rattle.demands.proofs.Demand1.{refuses-exactly}
+use Rattle.demands.proofs.Demand2.{run-on}
+use Rattle.demands.proofs.InstanceCalls.{guest, before, later, given-before, given-later, saidBefore, saidLater, midwayRelay, midwayTally, before-run, later-run}
+use Rattle.demands.proofs.Instance2.{start, Held, Goes, goes, held}
+
+-- ---- the tables and the tally after the calls before
+abbrev tables : List ℕ
+tables = tablesAfterOn before start newTally
+
+abbrev tally : Tally
+tally = tallyAfterOn before start newTally
+
+midway : Held midwayRelay
+midway = held given-before before-run
+
+there : Goes before saidBefore midwayRelay midwayTally
+there = goes given-before before-run
+
+tables-are : tables ≡ bytesOf midwayRelay
+tables-are = there .tables
+
+bytes : Bytes tables
+bytes = subst Bytes (sym tables-are) (bytes-bytes midwayRelay (midway .shape) (midway .ok))
+
+-- a relay's bytes are refused by its rows
+row-of : {r : Relay} → Held r → (c : Call) {n : ℕ} → refusal c r ≡ n → refusalOn c (bytesOf r) ≡ n
+unfolding refusalOn _then_otherwise_
+row-of {r} h c e = rw (ok-bytes r (h .shape) (h .ok), back r (h .shape) (h .ok)) e
+
+row-is : (c : Call) {n : ℕ} → refusal c midwayRelay ≡ n → refusalOn c tables ≡ n
+row-is c e = ap (refusalOn c) tables-are ∙ row-of midway c e
+
+-- ---- refused: the number alone, and nothing is changed
+abbrev RefusedOn : List ℕ → Call → ℕ → Type 0
+RefusedOn t c n = performOn c t tally ≡ record { reply = refusing c n; tables = t; tally = tally }
+
+by-row : (t : List ℕ) → Bytes t → (c : Call) (n : ℕ) → refusalOn c t ≡ n → eqb n 0 ≡ false → RefusedOn t c n
+by-row t b c n e z =
+    refuses-exactly c t tally b .refused (ap (λ (k : ℕ). eqb k 0) e ∙ z)
+    ∙ ap (λ (k : ℕ). record { reply = refusing c k; tables = t; tally = tally }) e
+
+abbrev Refused : Call → ℕ → Type 0
+Refused = RefusedOn tables
+
+refused : (c : Call) (n : ℕ) → refusal c midwayRelay ≡ n → eqb n 0 ≡ false → Refused c n
+refused c n e z = by-row tables bytes c n (row-is c e) z
+
+pub seven : RefusedOn [] (arrives (receiptBytes 5) 2500 1) 7
+unfolding refusalOn wellFormed _then_otherwise_ rules
+seven = by-row [] (λ i. lit< tt) (arrives (receiptBytes 5) 2500 1) 7 refl refl
+
+-- sixteen local addresses
+abbrev fullRelay : Relay
+fullRelay =
+    makeRelay own 0 (preparedRelay .ports) (replicate 16 (used guest))
+    (preparedRelay .paths) (preparedRelay .links) (preparedRelay .returns) (preparedRelay .hashes)
+
+full : Held fullRelay
+unfolding rules shaped isBytes isByte
+full = record { shape = refl; ok = refl }
+
+pub ten : RefusedOn (bytesOf fullRelay) (adding own) 10
+unfolding refusal rules
+ten = by-row (bytesOf fullRelay) (bytes-bytes fullRelay (full .shape) (full .ok)) (adding own) 10 (row-of full (adding own) refl) refl
+
+pub rows : Refused (packet (arrival (receiptBytes 5) 2500 1) (replicate 499 0xee)) 6
+    × Refused (arrives (receiptBytes 5) 2500 77) 4
+    × Refused (arrives (receiptBytes 5) 1999 1) 5
+    × Refused (arrives (take 18 (receiptBytes 5)) 2500 1) 1
+    × Refused (arrives (replicate 501 0x00) 2500 1) 2
+    × Refused (arrives (replicate 19 0x80) 2500 1) 3
+    × Refused (arrives (take 34 dataBytes) 2500 1) 1
+    × Refused (port-setting 16 true 0) 9
+    × Refused (port-setting 0 true 3) 9
+    × Refused (adding guest) 11
+    × Refused (removing own) 11
+    × Refused (renumbering []) 8
+unfolding refusal rules
+rows = (
+  refused _ 6 refl refl,
+  refused _ 4 refl refl,
+  refused _ 5 refl refl,
+  refused _ 1 refl refl,
+  refused _ 2 refl refl,
+  refused _ 3 refl refl,
+  refused _ 1 refl refl,
+  refused _ 9 refl refl,
+  refused _ 9 refl refl,
+  refused _ 11 refl refl,
+  refused _ 11 refl refl,
+  refused _ 8 refl refl,
+)
+
+-- ---- no row: no refusal
+pub accepted : isRefusal (performOn (arrives (receiptBytes 5) 2500 1) tables tally .reply) ≡ false
+unfolding refusal rules
+accepted =
+    refuses-exactly (arrives (receiptBytes 5) 2500 1) tables tally bytes .accepted
+    (ap (λ (n : ℕ). eqb n 0) (row-is (arrives (receiptBytes 5) 2500 1) refl))
+
+-- ---- after a refusal: the calls later reply as they would without it
+later-said : repliesOn later tables tally ≡ saidLater 2
+later-said =
+    ap (λ (t : List ℕ). repliesOn later t tally) tables-are
+    ∙ ap (repliesOn later (bytesOf midwayRelay)) (there .tally)
+    ∙ run-on later midwayRelay midwayTally (given-later 1 5) (midway .ok) (midway .shape) .answers
+    ∙ later-run .answers
+
+pub after-refusal : repliesOn (adding guest ∷ later) tables tally ≡ numbered 11 ∷ saidLater 2
+unfolding repliesOn refusal refusing rules
+after-refusal =
+    ap (λ (o : OutcomeOn). o .reply ∷ repliesOn later (o .tables) (o .tally)) (refused (adding guest) 11 refl refl)
+    ∙ ap (λ (l : List Reply). numbered 11 ∷ l) later-said

@@ -1,0 +1,259 @@
+-- One list of calls on which the demands' theorems are tried: calls of every kind, among them packets that are accepted, dropped and refused, before
+-- the place where a renumbering is put in and after it. What they give by the rules is computed here, call by call.
+use Prim.Native.Nat.{ℕ, _+_}
+use mathlib.Core.Bool.{true, false}
+use mathlib.Core.List.{List, [], _∷_, _++_}
+use mathlib.Core.Path.{_≡_, refl, ap, _∙_}
+use lib.ListN.{replicate}
+use Rattle.octets.specs.Index.{_and_}
+use Rattle.octets.proofs.Choice.{eq-same}
+use Rattle.packet.specs.Hash.{packetHash}
+use Rattle.rules.specs.Relay.{freshPort, makePort, Port, makeRelay, empty, used, Relay, fresh, withPathPort}
+use Rattle.rules.specs.View.{viewAt}
+use Rattle.rules.specs.Refusals.{all, tableOk}
+use Rattle.rules.specs.Calls.{newTally, ruleOf}
+use Rattle.rules.specs.Run.{EachCall, Call, port-setting, adding, removing, renumbering, Reply, answered, numbered, Outcome, ofSetting, perform, replies, relayAfter, tallyAfter}
+use Rattle.rules.specs.declared.Reason.the-variants.{Duplicate}
+use Rattle.rules.specs.declared.Verdict.the-variants.{Drop}
+use Rattle.rules.specs.declared.Answer.the-variants.{Refused, Judged}
+use Rattle.rules.specs.declared.Tally.{Tally}
+use Rattle.rules.proofs.Unfolding.{rules}
+use Rattle.rules.proofs.Shortcut.{passes, seen-quick, goodPlan, goodJudge}
+use Rattle.rules.proofs.Passed.{ofTest}
+use Rattle.rules.proofs.Scene.{own, blank, announceBytes, dataBytes, dataKey, receiptBytes, arrives, prepared}
+use Rattle.rules.proofs.Outcomes.{spreads, forwards, spreadBytes, dataLastHop, relayOf, remembers, knownPath, preparedRelay, announcedRelay, carriedRelay, judged-at, announce-form, announce-new, data-new, data-key, prepared-is}
+use Rattle.rules.proofs.Sanity.{oneUp}
+use Rattle.tables.specs.Shape.{isByte, isBytes}
+use Rattle.demands.specs.Given.{CallBytes, CallsBytes}
+
+-- ---- the calls
+abbrev pub guest : List ℕ
+guest = replicate 16 0x0b
+
+abbrev pub before : List Call
+before =
+    renumbering oneUp
+    ∷ port-setting 1 true 2
+    ∷ port-setting 2 true 0
+    ∷ adding guest
+    -- there already: 11
+    ∷ adding guest
+    ∷ arrives announceBytes 1000 1
+    -- once more: drop 2
+    ∷ arrives announceBytes 1000 1
+    -- by no port of the sixteen: 4
+    ∷ arrives dataBytes 2000 77
+    ∷ arrives dataBytes 2000 2
+    ∷ []
+
+-- the last ones, with the receipt by this port, and settings for that one
+abbrev pub laterBy : (from port : ℕ) → List Call
+laterBy from port =
+    arrives (receiptBytes 5) 2500 77
+    -- no map of the sixteen: 8
+    ∷ renumbering []
+    ∷ arrives (receiptBytes 5) 2500 from
+    ∷ arrives (receiptBytes 5) 2500 from
+    ∷ port-setting port true 1
+    -- no port: 9
+    ∷ port-setting 77 true 1
+    ∷ removing guest
+    ∷ []
+
+abbrev pub later : List Call
+later = laterBy 1 5
+
+-- each is given bytes
+pub given-before : CallsBytes before
+unfolding EachCall CallBytes ruleOf isBytes isByte tableOk all _and_
+given-before = (refl, (refl, (refl, (refl, (refl, (refl, (refl, (refl, (refl, tt)))))))))
+
+pub given-later : (from port : ℕ) → CallsBytes (laterBy from port)
+unfolding EachCall CallBytes ruleOf isBytes isByte tableOk all _and_
+given-later from port = (refl, (refl, (refl, (refl, (refl, (refl, (refl, tt)))))))
+
+-- ---- a list of calls by the rules
+pub record Runs (cs : List Call) (r : Relay) (t : Tally) (said : List Reply) (after : Relay) (counts : Tally) : Type 0 where
+  pub answers : replies cs r t ≡ said
+  pub relay : relayAfter cs r t ≡ after
+  pub tally : tallyAfter cs r t ≡ counts
+
+pub no-call : {r : Relay} {t : Tally} → Runs [] r t [] r t
+unfolding replies relayAfter tallyAfter
+no-call = record { answers = refl; relay = refl; tally = refl }
+
+-- a call, and those after it
+infixr 5 _first_
+pub _first_ : {c : Call} {cs : List Call} {r between after : Relay} {t counts end : Tally} {reply : Reply} {said : List Reply}
+    → perform c r t ≡ record { reply = reply; relay = between; tally = counts }
+    → Runs cs between counts said after end → Runs (c ∷ cs) r t (reply ∷ said) after end
+unfolding replies relayAfter tallyAfter
+_first_ {c} {cs} {r} {between} {after} {t} {counts} {end} {reply} {said} e rest =
+    record {
+      answers = ap (λ (o : Outcome). o .reply ∷ replies cs (o .relay) (o .tally)) e ∙ ap (λ (l : List Reply). reply ∷ l) (rest .answers);
+      relay = ap (λ (o : Outcome). relayAfter cs (o .relay) (o .tally)) e ∙ rest .relay;
+      tally = ap (λ (o : Outcome). tallyAfter cs (o .relay) (o .tally)) e ∙ rest .tally;
+    }
+
+-- ---- what they leave
+abbrev counting : (dropped forwarded spread : ℕ) → Tally
+counting dropped forwarded spread =
+    record { total = dropped + forwarded + spread; dropped = dropped; delivered = 0; forwarded = forwarded; spread = spread; kept = 0 }
+
+abbrev duplicate : Reply
+duplicate = answered (Judged (Drop Duplicate)) blank
+
+abbrev unknownPort : Reply
+unknownPort = answered (Refused 4) blank
+
+abbrev pub saidBefore : List Reply
+saidBefore =
+    numbered 0 ∷ numbered 0 ∷ numbered 0 ∷ numbered 0 ∷ numbered 11
+    ∷ spreads spreadBytes 2 ∷ duplicate ∷ unknownPort ∷ forwards dataLastHop 1 ∷ []
+
+-- the receipt leaves by this port
+abbrev pub saidLater : ℕ → List Reply
+saidLater by =
+    unknownPort ∷ numbered 8 ∷ forwards (receiptBytes 6) by ∷ duplicate ∷ numbered 0 ∷ numbered 9 ∷ numbered 0 ∷ []
+
+-- the guest in the lowest place
+abbrev hosting : Relay → Relay
+hosting r = makeRelay (r .own) (r .clock) (r .ports) (used guest ∷ replicate 15 empty) (r .paths) (r .links) (r .returns) (r .hashes)
+
+-- the receipt carried
+abbrev receivedRelay : Relay
+receivedRelay =
+    relayOf 2500 (used knownPath ∷ []) [] (empty ∷ [])
+    (remembers announceBytes 1300 ∷ remembers dataBytes 2300 ∷ remembers (receiptBytes 5) 2800 ∷ [])
+
+-- the end, with these settings of ports, and the path by this port
+abbrev pub lastRelay : List Port → ℕ → Relay
+lastRelay ports port =
+    makeRelay own 2500 ports (replicate 16 empty)
+    (used (withPathPort port knownPath) ∷ replicate 63 empty)
+    (receivedRelay .links) (receivedRelay .returns) (receivedRelay .hashes)
+
+abbrev pub plainPorts : List Port
+plainPorts = freshPort ∷ makePort true 2 ∷ makePort true 0 ∷ freshPort ∷ freshPort ∷ makePort true 1 ∷ replicate 10 freshPort
+
+abbrev pub lastTally : Tally
+lastTally = counting 2 2 1
+
+-- ---- call by call
+fresh-moved : perform (renumbering oneUp) (fresh own) newTally ≡ record { reply = numbered 0; relay = fresh own; tally = newTally }
+unfolding rules
+fresh-moved = refl
+
+first-port : perform (port-setting 1 true 2) (fresh own) newTally
+    ≡ record { reply = numbered 0; relay = perform (port-setting 1 true 2) (fresh own) newTally .relay; tally = newTally }
+unfolding rules
+first-port = refl
+
+guest-added : perform (adding guest) preparedRelay newTally ≡ record { reply = numbered 0; relay = hosting preparedRelay; tally = newTally }
+unfolding rules
+guest-added = refl
+
+guest-there : perform (adding guest) (hosting preparedRelay) newTally ≡ record { reply = numbered 11; relay = hosting preparedRelay; tally = newTally }
+unfolding rules
+guest-there = refl
+
+announce-spread : perform (arrives announceBytes 1000 1) (hosting preparedRelay) newTally
+    ≡ record { reply = spreads spreadBytes 2; relay = hosting announcedRelay; tally = counting 0 0 1 }
+unfolding rules goodPlan goodJudge ofTest
+announce-spread = judged-at announceBytes 1000 (hosting preparedRelay) newTally announce-new announce-form 1 refl
+
+announce-seen : viewAt 1000 (hosting announcedRelay) .remembered (packetHash announceBytes) ≡ true
+unfolding rules passes
+announce-seen =
+    seen-quick 1000 (hosting announcedRelay) (packetHash announceBytes) refl
+    ∙ rw (eq-same (packetHash announceBytes) (packetHash announceBytes) refl)
+
+announce-dropped : perform (arrives announceBytes 1000 1) (hosting announcedRelay) (counting 0 0 1)
+    ≡ record { reply = duplicate; relay = hosting announcedRelay; tally = counting 1 0 1 }
+unfolding rules goodPlan goodJudge ofTest
+announce-dropped = judged-at announceBytes 1000 (hosting announcedRelay) (counting 0 0 1) announce-seen announce-form 1 refl
+
+data-refused : perform (arrives dataBytes 2000 77) (hosting announcedRelay) (counting 1 0 1)
+    ≡ record { reply = unknownPort; relay = hosting announcedRelay; tally = counting 1 0 1 }
+unfolding rules
+data-refused = refl
+
+abbrev carriedBy : List ℕ → Outcome
+carriedBy key = record { reply = forwards dataLastHop 1; relay = hosting (carriedRelay key); tally = counting 1 1 1 }
+
+data-carried : perform (arrives dataBytes 2000 2) (hosting announcedRelay) (counting 1 0 1) ≡ carriedBy dataKey
+unfolding rules goodPlan goodJudge ofTest
+data-carried = judged-at dataBytes 2000 (hosting announcedRelay) (counting 1 0 1) data-new refl 2 refl ∙ ap carriedBy data-key
+
+receipt-refused : perform (arrives (receiptBytes 5) 2500 77) (hosting (carriedRelay dataKey)) (counting 1 1 1)
+    ≡ record { reply = unknownPort; relay = hosting (carriedRelay dataKey); tally = counting 1 1 1 }
+unfolding rules
+receipt-refused = refl
+
+map-refused : perform (renumbering []) (hosting (carriedRelay dataKey)) (counting 1 1 1)
+    ≡ record { reply = numbered 8; relay = hosting (carriedRelay dataKey); tally = counting 1 1 1 }
+unfolding rules
+map-refused = refl
+
+receipt-new : viewAt 2500 (hosting (carriedRelay dataKey)) .remembered (packetHash (receiptBytes 5)) ≡ false
+unfolding rules passes
+receipt-new = seen-quick 2500 (hosting (carriedRelay dataKey)) (packetHash (receiptBytes 5)) refl
+
+receipt-home : perform (arrives (receiptBytes 5) 2500 1) (hosting (carriedRelay dataKey)) (counting 1 1 1)
+    ≡ record { reply = forwards (receiptBytes 6) 2; relay = hosting receivedRelay; tally = counting 1 2 1 }
+unfolding rules goodPlan goodJudge ofTest
+receipt-home = judged-at (receiptBytes 5) 2500 (hosting (carriedRelay dataKey)) (counting 1 1 1) receipt-new refl 1 refl
+
+receipt-seen : viewAt 2500 (hosting receivedRelay) .remembered (packetHash (receiptBytes 5)) ≡ true
+unfolding rules passes
+receipt-seen =
+    seen-quick 2500 (hosting receivedRelay) (packetHash (receiptBytes 5)) refl
+    ∙ rw (eq-same (packetHash (receiptBytes 5)) (packetHash (receiptBytes 5)) refl)
+
+receipt-dropped : perform (arrives (receiptBytes 5) 2500 1) (hosting receivedRelay) (counting 1 2 1)
+    ≡ record { reply = duplicate; relay = hosting receivedRelay; tally = lastTally }
+unfolding rules goodPlan goodJudge ofTest
+receipt-dropped = judged-at (receiptBytes 5) 2500 (hosting receivedRelay) (counting 1 2 1) receipt-seen refl 1 refl
+
+port-set : perform (port-setting 5 true 1) (hosting receivedRelay) lastTally
+    ≡ record { reply = numbered 0; relay = hosting (lastRelay plainPorts 1); tally = lastTally }
+unfolding rules
+port-set = refl
+
+no-port : perform (port-setting 77 true 1) (hosting (lastRelay plainPorts 1)) lastTally
+    ≡ record { reply = numbered 9; relay = hosting (lastRelay plainPorts 1); tally = lastTally }
+unfolding rules
+no-port = refl
+
+guest-removed : perform (removing guest) (hosting (lastRelay plainPorts 1)) lastTally
+    ≡ record { reply = numbered 0; relay = lastRelay plainPorts 1; tally = lastTally }
+unfolding rules
+guest-removed = refl
+
+-- ---- all of them
+abbrev pub midwayRelay : Relay
+midwayRelay = hosting (carriedRelay dataKey)
+
+abbrev pub midwayTally : Tally
+midwayTally = counting 1 1 1
+
+pub later-run : Runs later midwayRelay midwayTally (saidLater 2) (lastRelay plainPorts 1) lastTally
+later-run =
+    receipt-refused first map-refused first receipt-home first receipt-dropped first port-set first no-port first guest-removed first no-call
+
+second-port : perform (port-setting 2 true 0) (perform (port-setting 1 true 2) (fresh own) newTally .relay) newTally
+    ≡ record { reply = numbered 0; relay = preparedRelay; tally = newTally }
+unfolding prepared perform ofSetting
+second-port = prepared-is
+
+before-then : {rest : List Call} {said : List Reply} {after : Relay} {end : Tally}
+    → Runs rest midwayRelay midwayTally said after end → Runs (before ++ rest) (fresh own) newTally (saidBefore ++ said) after end
+before-then rest =
+    fresh-moved first first-port first second-port first guest-added first guest-there first announce-spread first announce-dropped
+    first data-refused first data-carried first rest
+
+pub before-run : Runs before (fresh own) newTally saidBefore midwayRelay midwayTally
+before-run = before-then no-call
+
+pub plain-run : Runs (before ++ later) (fresh own) newTally (saidBefore ++ saidLater 2) (lastRelay plainPorts 1) lastTally
+plain-run = before-then later-run

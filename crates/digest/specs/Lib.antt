@@ -1,0 +1,2 @@
+-- What the program writes of a digest.
+pub mod Line

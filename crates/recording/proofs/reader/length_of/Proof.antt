@@ -1,0 +1,31 @@
+use mathlib.Core.Path.{sym, ap, _∙_}
+use Prim.Native.Nat.{ℕ, _+_, _*_}
+use native.Mathlib.Nat.{add-assoc}
+use Rattle.octets.specs.Part.{part}
+use Rattle.octets.specs.BigEndian.{number}
+use Rattle.recording.specs.Shape.{lengthOf}
+use borrow.Author.Needs.{needs}
+use Rattle.recording.proofs.reader.length_of.Statement.{statement}
+use Rattle.recording.proofs.reader.length_of.Tie as tie
+
+mul-number-at : tie.Need-mul-number-at
+mul-number-at c = search needs
+
+add-number-at : tie.Need-add-number-at
+add-number-at c = search needs
+
+add-number-at-2 : tie.Need-add-number-at-2
+add-number-at-2 c = search needs
+
+number-at-requires : tie.Need-number-at-requires
+number-at-requires c κs = search needs
+
+returns : tie.Need-returns
+unfolding lengthOf
+returns c =
+    let c2 = c .before .before in
+    c .number-at .ensures ∙ ap (λ (k : ℕ). number (part (c2 .args .file .now) k 2)) (sym (add-assoc (4 + 13 * c2 .args .i) 7 4))
+
+pub length-of-spec : {M : Type 1} → statement M
+length-of-spec =
+    tie.close (tie.spec mul-number-at add-number-at add-number-at-2 number-at-requires returns)

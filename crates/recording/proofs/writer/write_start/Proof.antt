@@ -1,0 +1,37 @@
+use mathlib.Core.Path.{ap, _∙_}
+use Prim.Native.Nat.{ℕ}
+use mathlib.Core.List.{List, [], _∷_}
+use Rattle.octets.specs.Part.{patch}
+use Rattle.octets.specs.BigEndian.{bigEndian}
+use Rattle.recording.specs.Format.{recordingEdition}
+use Rattle.recording.proofs.WriteLaws.{start-written}
+use borrow.Author.Needs.{needs}
+use Rattle.recording.proofs.writer.write_start.Statement.{statement}
+use Rattle.recording.proofs.writer.write_start.Tie as tie
+
+set-at-requires : tie.Need-set-at-requires
+set-at-requires c κs = search needs
+
+set-at-requires-2 : tie.Need-set-at-requires-2
+set-at-requires-2 c κs = search needs
+
+write-number-at-requires : tie.Need-write-number-at-requires
+write-number-at-requires c κs = search needs
+
+same-length : tie.Need-same-length
+same-length c = search needs
+
+returns : tie.Need-returns
+returns c =
+    let c2 = c .before .before in
+    let c6 = c2 .before .before .before .before in
+    let c10 = c6 .before .before .before .before in
+    let c13 = c10 .before .before .before in
+    let a = c13 .args in
+    let edition = c6 .set-at2 .ensures ∙ ap (λ (r : List ℕ). patch r 1 (recordingEdition ∷ [])) (c10 .set-at .ensures) in
+    c2 .write-number-at .ensures ∙ ap (λ (r : List ℕ). patch r 2 (bigEndian 2 (a .n))) edition ∙ start-written (a .room .now) (a .n) (c13 .pre)
+
+pub write-start-spec : {M : Type 1} → statement M
+write-start-spec =
+    tie.close
+    (tie.spec set-at-requires set-at-requires-2 write-number-at-requires same-length returns)

@@ -1,0 +1,73 @@
+-- The shape of a recording, which saved tables share (document 02, Wishes 1 and 4): kind byte, edition byte, entry count (2 bytes); then for each
+-- entry a head of one width w, the offset of its body in the file (4) and the body's length (2), all big-endian; then the bodies, in order and
+-- without gaps.
+use Prim.Native.Nat.{ℕ, zero, suc, _+_, _*_}
+use mathlib.Core.Bool.{Bool}
+use mathlib.Core.List.{List, [], _∷_, _++_}
+use lib.Dec.{eqb, ltb}
+use lib.ListN.{length, getD}
+use Rattle.octets.specs.Index.{allBelow}
+use Rattle.octets.specs.Choice.{_then_otherwise_}
+use Rattle.octets.specs.Part.{part, joined}
+use Rattle.octets.specs.BigEndian.{number, bigEndian}
+
+-- kind, edition and count
+abbrev pub contentsStart : ℕ
+contentsStart = 1 + 1 + 2
+
+-- where entry i stands in the contents; at the count, where the contents end
+abbrev pub entryPlace : ℕ → ℕ → ℕ
+entryPlace w i = contentsStart + (w + 4 + 2) * i
+
+-- ---- the file of a list of entries, each with its head and its body
+pub record Placed (A : Type 0) : Type 0 where
+  pub offset : ℕ
+  pub entry : A
+
+-- the entries with the offsets of their bodies: the first body starts at `at`, each other where the one before it ends
+unfoldable pub placed : {A : Type 0} → (A → List ℕ) → ℕ → List A → List (Placed A)
+placed body at [] = []
+placed body at (x ∷ xs) = record { offset = at; entry = x } ∷ placed body (at + length (body x)) xs
+
+-- what stands in the contents for an entry
+unfoldable pub rowOf : {A : Type 0} → (A → List ℕ) → (A → List ℕ) → Placed A → List ℕ
+rowOf head body p = head (p .entry) ++ (bigEndian 4 (p .offset) ++ bigEndian 2 (length (body (p .entry))))
+
+unfoldable pub contentsOf : {A : Type 0} → ℕ → (A → List ℕ) → (A → List ℕ) → List A → List ℕ
+contentsOf w head body xs = joined (rowOf head body) (placed body (entryPlace w (length xs)) xs)
+
+unfoldable pub shapeOf : {A : Type 0} → ℕ → ℕ → ℕ → (A → List ℕ) → (A → List ℕ) → List A → List ℕ
+shapeOf kind edition w head body xs =
+    kind ∷ edition ∷ (bigEndian 2 (length xs) ++ (contentsOf w head body xs ++ joined body xs))
+
+-- ---- what any bytes say as such a file
+unfoldable pub kindOf : List ℕ → ℕ
+kindOf f = getD f 0 0
+
+unfoldable pub editionOf : List ℕ → ℕ
+editionOf f = getD f 1 0
+
+-- under 4 bytes there is no count: 0
+unfoldable pub countOf : List ℕ → ℕ
+countOf f = ltb (length f) contentsStart then 0 otherwise number (part f 2 2)
+
+unfoldable pub offsetOf : ℕ → List ℕ → ℕ → ℕ
+offsetOf w f i = number (part f (entryPlace w i + w) 4)
+
+unfoldable pub lengthOf : ℕ → List ℕ → ℕ → ℕ
+lengthOf w f i = number (part f (entryPlace w i + w + 4) 2)
+
+-- g 0 + g 1 + .. + g (n - 1)
+unfoldable pub sumBelow : (ℕ → ℕ) → ℕ → ℕ
+sumBelow g zero = 0
+sumBelow g (suc n) = sumBelow g n + g n
+
+-- the running place: where body i must start, after the contents and the bodies before it; at the count, where the file must end
+unfoldable pub runningPlace : ℕ → List ℕ → ℕ → ℕ
+runningPlace w f i = entryPlace w (countOf f) + sumBelow (lengthOf w f) i
+
+unfoldable pub offsetsRight : ℕ → List ℕ → Bool
+offsetsRight w f = allBelow (λ i. eqb (offsetOf w f i) (runningPlace w f i)) (countOf f)
+
+unfoldable pub endRight : ℕ → List ℕ → Bool
+endRight w f = eqb (runningPlace w f (countOf f)) (length f)

@@ -1,0 +1,66 @@
+// The refusals' numbers, and the file's: specs/Format.antt, Shape.antt and Writer.antt in code. Each number once.
+
+// A clock past five bytes.
+pub const CLOCK_REFUSED: u8 = 5;
+
+// A file too long or shorter than its contents; entries and bodies that don't add up.
+pub const LENGTH_REFUSED: u8 = 20;
+
+// Another kind or edition.
+pub const KIND_REFUSED: u8 = 21;
+
+// An offset, a length or the file's end that breaks the rule.
+pub const PLACE_REFUSED: u8 = 22;
+
+// A signature word that is neither 0 nor 1.
+pub const WORD_REFUSED: u8 = 23;
+
+// Too little room.
+pub const ROOM_REFUSED: u8 = 25;
+
+pub const KIND: u8 = 1;
+
+pub const EDITION: u8 = 1;
+
+pub const LONGEST_FILE: usize = 60_000;
+
+pub const CLOCK_LIMIT: u64 = 1_099_511_627_776;
+
+// The file's head: kind, edition, count.
+pub const COUNT_AT: usize = 2;
+
+pub const COUNT_WIDTH: usize = 2;
+
+pub const CONTENTS_START: usize = COUNT_AT + COUNT_WIDTH;
+
+// An entry in the contents: clock, port, signature word, offset, length.
+pub const CLOCK_WIDTH: usize = 5;
+
+pub const PORT_AT: usize = CLOCK_WIDTH;
+
+pub const WORD_AT: usize = PORT_AT + 1;
+
+pub const OFFSET_AT: usize = WORD_AT + 1;
+
+pub const OFFSET_WIDTH: usize = 4;
+
+pub const LENGTH_AT: usize = OFFSET_AT + OFFSET_WIDTH;
+
+pub const LENGTH_WIDTH: usize = 2;
+
+pub const ENTRY_WIDTH: usize = LENGTH_AT + LENGTH_WIDTH;
+
+// The most entries that a file has room for.
+pub const MOST_ENTRIES: usize = (LONGEST_FILE - CONTENTS_START) / ENTRY_WIDTH;
+
+// An entry as the writer is given it: a clock of 8 bytes, port, signature word, length.
+pub const GIVEN_CLOCK_WIDTH: usize = 8;
+
+pub const GIVEN_WORD_AT: usize = GIVEN_CLOCK_WIDTH + 1;
+
+pub const GIVEN_LENGTH_AT: usize = GIVEN_WORD_AT + 1;
+
+pub const GIVEN_WIDTH: usize = GIVEN_LENGTH_AT + LENGTH_WIDTH;
+
+// Where the bytes start that are an entry's head in the file: the clock's low five, port and signature word.
+pub const GIVEN_HEAD_AT: usize = GIVEN_CLOCK_WIDTH - CLOCK_WIDTH;

@@ -1,2 +1,0 @@
--- Laws of the hexadecimal text.
-pub mod HexLaws

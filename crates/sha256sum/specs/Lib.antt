@@ -1,2 +1,0 @@
--- What the program writes of a digest.
-pub mod Hex

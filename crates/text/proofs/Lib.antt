@@ -1,0 +1,3 @@
+pub mod NumeralLaws
+pub mod TextLaws
+pub mod WordLaws

@@ -1,0 +1,145 @@
+//! What makes calls on a relay: the independent relay, and in `linked` the proved core.
+
+mod call;
+mod packets;
+
+pub use call::{Call, PacketCall};
+pub use packets::PacketCalls;
+
+use crate::answer::{Answer, Refusal, Tally};
+use crate::packet::Address;
+use crate::relay::{settings, Arrival, Relay};
+use crate::rules::Rules;
+use crate::tables;
+
+/// What a call returns.
+#[derive(Clone, Copy, Debug, PartialEq, Eq)]
+pub enum Outcome {
+    Refused(u8),
+    Done,
+    Judged(Answer),
+}
+
+impl From<Result<(), Refusal>> for Outcome {
+    fn from(result: Result<(), Refusal>) -> Self {
+        result.map_or_else(|refusal| Outcome::Refused(refusal.number()), |()| Outcome::Done)
+    }
+}
+
+impl From<Result<Answer, Refusal>> for Outcome {
+    fn from(result: Result<Answer, Refusal>) -> Self {
+        result.map_or_else(|refusal| Outcome::Refused(refusal.number()), Outcome::Judged)
+    }
+}
+
+/// The calls on a relay, over bytes that the caller owns.
+pub trait Engine {
+    /// A fresh relay and its tally of zeros.
+    fn fresh(&mut self, tables: &mut [u8], tally: &mut Tally, own: &Address) -> Outcome;
+    fn packet(&mut self, tables: &mut [u8], tally: &mut Tally, output: &mut [u8], arrival: &Arrival) -> Outcome;
+    fn set_port(&mut self, tables: &mut [u8], port: u64, on: bool, mode: u64) -> Outcome;
+    fn add_local(&mut self, tables: &mut [u8], address: &Address) -> Outcome;
+    fn remove_local(&mut self, tables: &mut [u8], address: &Address) -> Outcome;
+    fn renumber(&mut self, tables: &mut [u8], map: &[u8; 16]) -> Outcome;
+    /// Is refusal 7 not given?
+    fn check(&mut self, tables: &[u8]) -> bool;
+}
+
+impl<R: Rules> Engine for Relay<R> {
+    fn fresh(&mut self, tables: &mut [u8], tally: &mut Tally, own: &Address) -> Outcome {
+        let result = settings::fresh(&self.rules, tables, own);
+        if result.is_ok() {
+            *tally = [0; 6];
+        }
+        result.into()
+    }
+
+    fn packet(&mut self, tables: &mut [u8], tally: &mut Tally, output: &mut [u8], arrival: &Arrival) -> Outcome {
+        Relay::packet(self, tables, tally, output, arrival).into()
+    }
+
+    fn set_port(&mut self, tables: &mut [u8], port: u64, on: bool, mode: u64) -> Outcome {
+        self.rules.set_port(tables, port, on, mode).into()
+    }
+
+    fn add_local(&mut self, tables: &mut [u8], address: &Address) -> Outcome {
+        settings::add_local(&self.rules, tables, address).into()
+    }
+
+    fn remove_local(&mut self, tables: &mut [u8], address: &Address) -> Outcome {
+        settings::remove_local(&self.rules, tables, address).into()
+    }
+
+    fn renumber(&mut self, tables: &mut [u8], map: &[u8; 16]) -> Outcome {
+        self.rules.renumber(tables, map).into()
+    }
+
+    fn check(&mut self, tables: &[u8]) -> bool {
+        self.rules.tables_allowed(tables)
+    }
+}
+
+/// An engine with the buffers that its calls are lent.
+pub struct Run<E: Engine> {
+    pub engine: E,
+    pub tables: Vec<u8>,
+    pub tally: Tally,
+    pub output: Vec<u8>,
+    saved: Vec<u8>,
+}
+
+impl<E: Engine> Run<E> {
+    pub fn new(engine: E) -> Self {
+        let tables = vec![0; tables::SIZE];
+        Self { engine, saved: tables.clone(), tables, tally: [0; 6], output: Vec::new() }
+    }
+
+    /// Makes one call. None is what the caller does on its own.
+    pub fn make(&mut self, call: &Call) -> Option<Outcome> {
+        let tables = &mut self.tables;
+        Some(match call {
+            Call::Fresh(own) => self.engine.fresh(tables, &mut self.tally, own),
+            Call::Packet(call) => {
+                self.output.clear();
+                self.output.resize(call.output, call.fill);
+                let arrival = Arrival { packet: &call.packet, port: call.port, clock: call.clock, signature: call.signature };
+                self.engine.packet(tables, &mut self.tally, &mut self.output, &arrival)
+            }
+            Call::SetPort { port, on, mode } => self.engine.set_port(tables, *port, *on, *mode),
+            Call::AddLocal(address) => self.engine.add_local(tables, address),
+            Call::RemoveLocal(address) => self.engine.remove_local(tables, address),
+            Call::Renumber(map) => self.engine.renumber(tables, map),
+            _ => {
+                self.edit(call);
+                return None;
+            }
+        })
+    }
+
+    /// Damages one of the buffers, by turns; the same again undoes it.
+    pub fn damage(&mut self, turn: usize) {
+        let (tables, output) = (self.tables.len(), self.output.len());
+        match turn % 3 {
+            0 if tables > 0 => self.tables[turn % tables] ^= 1,
+            1 if output > 0 => self.output[turn % output] ^= 1,
+            _ => self.tally[turn % 6] ^= 1,
+        }
+    }
+
+    /// Writing or copying outside the tables does nothing: a list that calls were left out of may ask for it.
+    fn edit(&mut self, call: &Call) {
+        let size = self.tables.len();
+        let within = |at: usize, length: usize| at.checked_add(length).is_some_and(|end| end <= size);
+        match call {
+            Call::Save => self.saved.clone_from(&self.tables),
+            Call::Restore => self.tables.clone_from(&self.saved),
+            Call::Write { at, bytes } if within(*at, bytes.len()) => self.tables[*at..*at + bytes.len()].copy_from_slice(bytes),
+            Call::Copy { from, to, length } if within(*from, *length) && within(*to, *length) => {
+                self.tables.copy_within(*from..*from + *length, *to)
+            }
+            Call::Resize(length) => self.tables.resize(*length, 0),
+            Call::Tally(tally) => self.tally = *tally,
+            _ => {}
+        }
+    }
+}

@@ -1,0 +1,46 @@
+//! Document 01's numbers, each in one place.
+
+/// "16 ports, 0 to 15, each on or off and boundary, access point or roaming."
+pub const PORT_COUNT: usize = 16;
+/// "64 paths, 16 stored blobs each."
+pub const PATH_COUNT: usize = 64;
+pub const BLOB_LIMIT: usize = 16;
+/// "64 links."
+pub const LINK_COUNT: usize = 64;
+/// "512 return records."
+pub const RETURN_COUNT: usize = 512;
+/// "1,024 remembered hashes."
+pub const HASH_COUNT: usize = 1_024;
+/// "16 local addresses, a new one in the lowest empty place."
+pub const LOCAL_COUNT: usize = 16;
+/// "Clock in seconds, below 2^40."
+pub const CLOCK_LIMIT: u64 = 1 << 40;
+/// "time over 2^40 + 604,799"
+pub const LATEST: u64 = CLOCK_LIMIT + 604_799;
+
+/// "length over 500", and "output buffer under 500 bytes"
+pub const LONGEST: usize = 500;
+/// "Hops 128 or more."
+pub const HOPS_LIMIT: u8 = 128;
+
+/// "Path lifetime by the arrival port: boundary 604,800 s, access point 86,400, roaming 21,600"
+pub const BOUNDARY_LIFETIME: u64 = 604_800;
+pub const ACCESS_POINT_LIFETIME: u64 = 86_400;
+pub const ROAMING_LIFETIME: u64 = 21_600;
+/// "Remembered hash 300 s."
+pub const HASH_LIFETIME: u64 = 300;
+/// "Return record 1,800 s (house number)."
+pub const RETURN_LIFETIME: u64 = 1_800;
+/// "Unproved link 6 × (remaining hops + 1) s (house number)": of each hop.
+pub const HOP_LIFETIME: u64 = 6;
+/// "proved link 720 s, renewed by each packet carried."
+pub const PROVED_LIFETIME: u64 = 720;
+
+/// "announce payload under 148 (180 with the context flag)"
+pub const ANNOUNCE_LENGTH: usize = 148;
+pub const RATCHET_LENGTH: usize = 32;
+/// A link request's "payload cut to 64 bytes": its public keys.
+pub const LINK_KEYS: usize = 64;
+/// "a link proof (a proof of kind link, context 0xFF) whose payload isn't 96 or 99"
+pub const LINK_PROOF: u8 = 0xff;
+pub const LINK_PROOF_LENGTHS: [usize; 2] = [96, 99];

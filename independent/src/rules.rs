@@ -1,0 +1,165 @@
+//! The rules by name. Each stands in the file of its subject, under the words that it says; here they are listed, so that another can be
+//! put in the place of one of them.
+
+pub use crate::answer::{self, Answer, Reason, Refusal, Tally, Verdict, When};
+pub use crate::packet::{self, announced, hash, Address, Header, PacketHash, Parts};
+pub use crate::relay::links::Side;
+pub use crate::relay::renumbering::Map;
+pub use crate::relay::{accept, announces, by_path, form, judge, links, outgoing, renumbering, returns, settings, Arrival, Packet};
+pub use crate::sha256::Sha256;
+pub use crate::tables::{self, check, tuned, Link, Mode, Path, Port, Return, Table};
+
+/// Hands the list to a macro: the file of each rule, its name, and its types. A rule that goes by others is given the rules.
+macro_rules! every_rule {
+    ($make:ident) => {
+        $make! {
+            packet::read_refusal(packet: &[u8], longest: usize) -> Result<(), Refusal>;
+            packet::parts(packet: &[u8]) -> Parts;
+            packet::payload_place(packet: &[u8]) -> usize;
+            packet::write_refusal(parts: &Parts, payload: usize, room: usize) -> Result<(), Refusal>;
+            hash::hashed_head(parts: &Parts) -> [u8; hash::HEAD];
+            hash::link_id_covers(length: usize) -> usize;
+            announced::has_ratchet(parts: &Parts) -> bool;
+            announced::destination(sha: &Sha256, keys: &[u8], name_hash: &[u8]) -> Address;
+            announced::emission(blob: &[u8]) -> u64;
+
+            check::tables_allowed(&rules, tables: &[u8]) -> bool;
+            check::size_allowed(size: usize) -> bool;
+            check::last_clock_allowed(&rules, clock: u64) -> bool;
+            check::time_allowed(time: u64) -> bool;
+            check::used_mark(mark: u8) -> Option<bool>;
+            check::proved_mark(mark: u8) -> Option<bool>;
+            check::on_mark(mark: u8) -> Option<bool>;
+            check::unused_allowed(record: &[u8]) -> bool;
+            check::path_allowed(&rules, path: &[u8]) -> bool;
+            check::blob_count_allowed(count: u8) -> bool;
+            check::ring_place_allowed(place: usize, count: usize) -> bool;
+            tables::find(table: &Table, tables: &[u8], key: &[u8], clock: u64) -> Option<usize>;
+
+            settings::fresh_port() -> Port;
+            settings::set_port(&rules, tables: &mut [u8], port: u64, on: bool, mode: u64) -> Result<(), Refusal>;
+            settings::local_place(&rules, address: &Address, tables: &[u8]) -> Result<usize, Refusal>;
+            settings::is_there(address: &Address, tables: &[u8]) -> bool;
+            settings::empty_local(tables: &[u8]) -> Option<usize>;
+            settings::clear_local(place: usize, tables: &mut [u8]);
+            renumbering::renumber(&rules, tables: &mut [u8], map: &Map) -> Result<(), Refusal>;
+            renumbering::move_settings(map: &Map, tables: &mut [u8]);
+            renumbering::rename_ports(map: &Map, table: &Table, tables: &mut [u8]);
+
+            accept::packet_call(
+                &rules, sha: &Sha256, tables: &mut [u8], tally: &mut Tally, output: &mut [u8], arrival: &Arrival
+            ) -> Result<Answer, Refusal>;
+            accept::arrival_refusal(&rules, tables: &[u8], room: usize, arrival: &Arrival) -> Result<(), Refusal>;
+            accept::output_too_small(room: usize) -> bool;
+            accept::port_refused(port: u64, tables: &[u8]) -> bool;
+            accept::clock_refused(clock: u64, last: u64) -> bool;
+            accept::settle(&rules, verdict: Verdict, clock: u64, tables: &mut [u8], tally: &mut Tally);
+            answer::count(tally: &mut Tally, verdict: Verdict);
+
+            judge::judge(&rules, packet: &mut Packet, tables: &mut [u8], output: &mut [u8]) -> Result<Answer, Reason>;
+            judge::first_tests(&rules, packet: &mut Packet, tables: &mut [u8]) -> Result<bool, Reason>;
+            judge::not_ours(packet: &Packet, tables: &[u8]) -> bool;
+            judge::test_2(&rules, packet: &mut Packet, tables: &mut [u8]) -> Result<(), Reason>;
+            judge::is_duplicate(&rules, hash: &PacketHash, clock: u64, tables: &[u8]) -> bool;
+            judge::remember(hash: &PacketHash, clock: u64, tables: &mut [u8]);
+            form::type_2_proof(packet: &Packet) -> bool;
+            form::type_2_link(packet: &Packet) -> bool;
+            form::announce_not_single(packet: &Packet) -> bool;
+            form::announce_too_short(&rules, packet: &Packet) -> bool;
+            form::announce_of_another(&rules, packet: &Packet) -> bool;
+            form::request_of_kind_link(packet: &Packet) -> bool;
+            form::request_too_short(packet: &Packet) -> bool;
+            form::link_proof_length(packet: &Packet) -> bool;
+            judge::is_local(destination: &Address, tables: &[u8]) -> bool;
+            judge::is_delivered(header: Header) -> bool;
+            judge::too_many_hops(hops: u8) -> bool;
+
+            announces::announce(&rules, packet: &Packet, tables: &mut [u8], output: &mut [u8]) -> Result<Answer, Reason>;
+            announces::announce_tests(&rules, packet: &Packet, known: Option<&[u8]>) -> Result<(), Reason>;
+            announces::is_replay(blob: &[u8], path: &[u8]) -> bool;
+            announces::not_better(&rules, packet: &Packet, path: &[u8]) -> bool;
+            announces::greatest_emission(&rules, path: &[u8]) -> u64;
+            announces::path_slot(packet: &Packet, known: Option<usize>, tables: &[u8]) -> Option<usize>;
+            announces::store_path(&rules, packet: &Packet, known: bool, place: usize, tables: &mut [u8]);
+            announces::clear_slot(record: &mut [u8]);
+            announces::path_of(&rules, packet: &Packet, mode: Mode) -> Path;
+            announces::path_lifetime(mode: Mode) -> u64;
+            announces::store_blob(blob: &[u8], path: &mut [u8]);
+
+            by_path::path_to(&rules, packet: &Packet, tables: &[u8]) -> Result<Path, Reason>;
+            by_path::not_to_be_relayed(packet: &Packet) -> bool;
+            by_path::live_path(&rules, packet: &Packet, tables: &[u8]) -> Option<usize>;
+            by_path::request_tests(&rules, packet: &Packet, id: &Address, path: &Path, tables: &[u8]) -> Result<usize, Reason>;
+            links::is_known_link(&rules, id: &Address, clock: u64, tables: &[u8]) -> bool;
+            links::link_slot(clock: u64, tables: &[u8]) -> Option<usize>;
+            links::make_link(&rules, packet: &Packet, id: &Address, path: &Path, slot: usize, tables: &mut [u8]);
+            links::link_of(packet: &Packet, id: &Address, path: &Path) -> Link;
+            links::link_packet(&rules, packet: &Packet, tables: &mut [u8], output: &mut [u8]) -> Result<Answer, Reason>;
+            links::link_tests(&rules, packet: &Packet, link: &Link) -> Result<Side, Reason>;
+            links::carries(packet: &Packet, link: &Link) -> bool;
+            links::is_proved_again(packet: &Packet, link: &Link) -> bool;
+            links::test_8(&rules, packet: &Packet, link: &Link) -> Result<Side, Reason>;
+            links::side(packet: &Packet, link: &Link) -> Option<Side>;
+            links::link_proof_unsigned(packet: &Packet) -> bool;
+            links::carry(packet: &Packet, link: &mut Link);
+
+            returns::make_return(&rules, packet: &Packet, path: &Path, tables: &mut [u8]);
+            returns::return_of(packet: &Packet, path: &Path) -> Return;
+            returns::return_place(tables: &mut [u8]) -> usize;
+            returns::is_emptied(key: &Address, clock: u64, record: &[u8]) -> bool;
+            returns::ordinary_proof(&rules, packet: &Packet, tables: &mut [u8], output: &mut [u8]) -> Result<Answer, Reason>;
+            returns::proof_tests(packet: &Packet, record: &Return) -> Result<(), Reason>;
+            returns::way_back(record: &Return) -> u8;
+            returns::end_return(record: &mut [u8]);
+
+            outgoing::spread(&rules, packet: &Packet, tables: &[u8], output: &mut [u8]) -> Answer;
+            outgoing::spread_ports(packet: &Packet, tables: &[u8]) -> u16;
+            outgoing::spread_fits(packet: &Packet) -> bool;
+            outgoing::spread_header(header: Header) -> Header;
+            outgoing::is_last_hop(stored: u8) -> bool;
+            outgoing::last_hop_header(header: Header) -> Header;
+            outgoing::put_unchanged(packet: &Packet, output: &mut [u8]);
+        }
+    };
+}
+
+/// The rules, for a rule that is given them.
+macro_rules! given {
+    ($own:tt $rules:ident) => {
+        $own
+    };
+}
+
+macro_rules! rules {
+    ($($file:ident::$rule:ident($(&$rules:ident,)? $($name:ident: $type:ty),*) $(-> $result:ty)?;)*) => {
+        /// How document 01 is read: each rule as it is written, but where it is read otherwise.
+        pub trait Rules: Sized {
+            $(
+                #[inline(always)]
+                fn $rule(&self, $($name: $type),*) $(-> $result)? {
+                    $file::$rule($(given!(self $rules),)? $($name),*)
+                }
+            )*
+        }
+    };
+}
+
+every_rule!(rules);
+pub(crate) use {every_rule, given};
+
+/// Document 01 as it is written.
+#[derive(Clone, Copy, Debug)]
+pub struct AsWritten;
+
+impl Rules for AsWritten {}
+
+/// The same, and refusal 7 by the tuned check.
+#[derive(Clone, Copy, Debug)]
+pub struct Tuned;
+
+impl Rules for Tuned {
+    #[inline(always)]
+    fn tables_allowed(&self, tables: &[u8]) -> bool {
+        tuned::tables_allowed(tables)
+    }
+}

@@ -1,0 +1,144 @@
+//! What records hold, read from their bytes and written to them.
+
+use super::{link, path, port, returned, set_key, set_time, time, KEY};
+use crate::packet::{address, Address};
+
+/// A blob's bytes.
+pub const BLOB: usize = 10;
+
+/// A port's mode.
+#[derive(Clone, Copy, Debug, PartialEq, Eq)]
+pub enum Mode {
+    Boundary,
+    AccessPoint,
+    Roaming,
+}
+
+impl Mode {
+    pub fn from_number(number: u64) -> Option<Self> {
+        match number {
+            0 => Some(Mode::Boundary),
+            1 => Some(Mode::AccessPoint),
+            2 => Some(Mode::Roaming),
+            _ => None,
+        }
+    }
+}
+
+/// The settings of a port.
+#[derive(Clone, Copy, Debug, PartialEq, Eq)]
+pub struct Port {
+    pub on: bool,
+    pub mode: Mode,
+}
+
+impl Port {
+    pub fn read(settings: &[u8]) -> Self {
+        let mode = Mode::from_number(u64::from(settings[port::MODE])).expect("checked tables hold known modes");
+        Self { on: settings[port::ON] == 1, mode }
+    }
+
+    pub fn write(&self, settings: &mut [u8]) {
+        settings[port::ON] = u8::from(self.on);
+        settings[port::MODE] = self.mode as u8;
+    }
+}
+
+/// A path, but for its blobs.
+#[derive(Clone, Copy, Debug)]
+pub struct Path {
+    pub destination: Address,
+    pub port: u8,
+    pub hops: u8,
+    pub next_hop: Address,
+    pub expiry: u64,
+}
+
+impl Path {
+    pub fn read(record: &[u8]) -> Self {
+        Self {
+            destination: address(&record[KEY..path::PORT]),
+            port: record[path::PORT],
+            hops: record[path::HOPS],
+            next_hop: address(&record[path::NEXT_HOP..path::EXPIRY]),
+            expiry: time(record, path::EXPIRY),
+        }
+    }
+
+    pub fn write(&self, record: &mut [u8]) {
+        set_key(record, &self.destination);
+        record[path::PORT] = self.port;
+        record[path::HOPS] = self.hops;
+        record[path::NEXT_HOP..path::EXPIRY].copy_from_slice(&self.next_hop);
+        set_time(record, path::EXPIRY, self.expiry);
+    }
+}
+
+/// The blobs that a path holds, oldest first.
+pub fn blobs(path: &[u8]) -> impl Iterator<Item = &[u8]> {
+    let count = usize::from(path[path::BLOB_COUNT]);
+    path[path::BLOBS..].chunks_exact(BLOB).take(count)
+}
+
+/// A link. "Taken hops (the request's) and remaining hops (the path's) are kept apart"
+#[derive(Clone, Copy, Debug)]
+pub struct Link {
+    pub id: Address,
+    pub asking: u8,
+    pub answering: u8,
+    pub taken: u8,
+    pub remaining: u8,
+    pub proved: bool,
+    pub expiry: u64,
+}
+
+impl Link {
+    pub fn read(record: &[u8]) -> Self {
+        Self {
+            id: address(&record[KEY..link::ASKING]),
+            asking: record[link::ASKING],
+            answering: record[link::ANSWERING],
+            taken: record[link::TAKEN],
+            remaining: record[link::REMAINING],
+            proved: record[link::PROVED] == 1,
+            expiry: time(record, link::EXPIRY),
+        }
+    }
+
+    pub fn write(&self, record: &mut [u8]) {
+        set_key(record, &self.id);
+        record[link::ASKING] = self.asking;
+        record[link::ANSWERING] = self.answering;
+        record[link::TAKEN] = self.taken;
+        record[link::REMAINING] = self.remaining;
+        record[link::PROVED] = u8::from(self.proved);
+        set_time(record, link::EXPIRY, self.expiry);
+    }
+}
+
+/// A return record.
+#[derive(Clone, Copy, Debug)]
+pub struct Return {
+    pub key: Address,
+    pub arrival: u8,
+    pub leaving: u8,
+    pub expiry: u64,
+}
+
+impl Return {
+    pub fn read(record: &[u8]) -> Self {
+        Self {
+            key: address(&record[KEY..returned::ARRIVAL]),
+            arrival: record[returned::ARRIVAL],
+            leaving: record[returned::LEAVING],
+            expiry: time(record, returned::EXPIRY),
+        }
+    }
+
+    pub fn write(&self, record: &mut [u8]) {
+        set_key(record, &self.key);
+        record[returned::ARRIVAL] = self.arrival;
+        record[returned::LEAVING] = self.leaving;
+        set_time(record, returned::EXPIRY, self.expiry);
+    }
+}
