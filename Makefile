@@ -25,7 +25,7 @@ demo:
 show:
 	@scripts/show "$(FILE)"
 
-## make install    header, library and pkg-config's file               a second; PREFIX=/usr/local, DESTDIR= for a package
+## make install    header, library, pkg-config's file, Python module   a second; PREFIX=/usr/local, DESTDIR= for a package
 install: lib
 	@scripts/install "$(DESTDIR)" "$(PREFIX)"
 

@@ -16,7 +16,7 @@ void expect_done(const char *what, unsigned refusal)
 static struct packet written(const haskumye_parts *parts, const uint8_t *payload, size_t length)
 {
     struct packet packet;
-    uint64_t number = haskumye_write(parts, payload, length, packet.bytes, sizeof packet.bytes);
+    haskumye_written number = haskumye_write(parts, payload, length, packet.bytes, sizeof packet.bytes);
     expect_done("writing a packet", HASKUMYE_WRITTEN_REFUSAL(number));
     packet.length = HASKUMYE_WRITTEN_LENGTH(number);
     return packet;

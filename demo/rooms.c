@@ -38,17 +38,16 @@ void renumber(struct room *room, const haskumye_port_map *map)
 
 static int leaves_by(haskumye_answer answer, const struct wire *wire)
 {
-    return (HASKUMYE_ANSWER_KIND(answer) == HASKUMYE_FORWARD && HASKUMYE_ANSWER_PORT(answer) == wire->port) ||
-           (HASKUMYE_ANSWER_KIND(answer) == HASKUMYE_SPREAD && HASKUMYE_ANSWER_HAS_PORT(answer, wire->port));
+    return HASKUMYE_ANSWER_PORT(answer) == wire->port || HASKUMYE_ANSWER_HAS_PORT(answer, wire->port);
 }
 
-/* "out by cable (0), radio north (1)"; of a drop, the reason that the story meets. */
+/* "out by cable (0), radio north (1)"; of a drop, the reason. */
 static void describe(const struct room *room, haskumye_answer answer, char *text, size_t size)
 {
     size_t length = 0;
     text[0] = '\0';
-    if (HASKUMYE_ANSWER_KIND(answer) == HASKUMYE_DROP && HASKUMYE_ANSWER_REASON(answer) == HASKUMYE_REASON_NO_WAY_ON) {
-        snprintf(text, size, "no way on");
+    if (HASKUMYE_ANSWER_KIND(answer) == HASKUMYE_DROP) {
+        snprintf(text, size, "%s", haskumye_reason_words(HASKUMYE_ANSWER_REASON(answer)));
     }
     for (const struct wire *wire = room->wires; wire < room->wires + room->wire_count; wire++) {
         if (leaves_by(answer, wire)) {
@@ -58,17 +57,14 @@ static void describe(const struct room *room, haskumye_answer answer, char *text
     }
 }
 
-/* The answer as document 01 writes it. One that it does not have is of another library, and ends the story. */
+/* The answer as document 01 writes it. */
 static void name_answer(haskumye_answer answer, char *text, size_t size)
 {
+    const char *kind = haskumye_kind_words(HASKUMYE_ANSWER_KIND(answer));
     switch (HASKUMYE_ANSWER_KIND(answer)) {
-    case HASKUMYE_REFUSED: snprintf(text, size, "refused %u", HASKUMYE_ANSWER_REFUSAL(answer)); break;
-    case HASKUMYE_DROP: snprintf(text, size, "drop %u", HASKUMYE_ANSWER_REASON(answer)); break;
-    case HASKUMYE_DELIVER: snprintf(text, size, "deliver"); break;
-    case HASKUMYE_FORWARD: snprintf(text, size, "forward"); break;
-    case HASKUMYE_SPREAD: snprintf(text, size, "spread"); break;
-    case HASKUMYE_KEPT: snprintf(text, size, "kept"); break;
-    default: fprintf(stderr, "unknown answer\n"); exit(1);
+    case HASKUMYE_REFUSED: snprintf(text, size, "%s %u", kind, HASKUMYE_ANSWER_REFUSAL(answer)); break;
+    case HASKUMYE_DROP: snprintf(text, size, "%s %u", kind, HASKUMYE_ANSWER_REASON(answer)); break;
+    default: snprintf(text, size, "%s", kind); break;
     }
 }
 
@@ -99,7 +95,7 @@ void arrive(struct room *room, unsigned wire, const struct packet *packet)
                                              sizeof room->tables, out.bytes, sizeof out.bytes, &room->tally);
     print_answer(room, in, packet, answer);
     if (HASKUMYE_ANSWER_KIND(answer) == HASKUMYE_DELIVER) {
-        room->deliver(packet);
+        room->deliver(packet, HASKUMYE_ANSWER_PAYLOAD(answer));
     }
     for (const struct wire *by = room->wires; by < room->wires + room->wire_count; by++) {
         if (leaves_by(answer, by)) {

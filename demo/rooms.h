@@ -20,7 +20,7 @@ struct wire {
 struct room {
     const char *name;
     haskumye_address own;
-    void (*deliver)(const struct packet *packet);
+    void (*deliver)(const struct packet *packet, size_t payload); /* where its payload starts */
     struct wire wires[MOST_WIRES];
     unsigned wire_count;
     uint8_t tables[HASKUMYE_TABLE_SIZE];

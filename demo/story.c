@@ -10,7 +10,7 @@
 enum { PLANTS = 42 };
 
 static void terminal_hears(const struct packet *packet);
-static void desk_books(const struct packet *packet);
+static void desk_books(const struct packet *packet, size_t start);
 
 /* The places of the wires below. */
 enum { GROWTH_TERMINAL, GROWTH_RADIO };
@@ -85,11 +85,10 @@ static void someone_types_the_count(void)
     arrive(&growth_room, GROWTH_TERMINAL, &data);
 }
 
-static void desk_books(const struct packet *packet)
+static void desk_books(const struct packet *packet, size_t start)
 {
     char text[48];
     unsigned line, plants;
-    size_t start = haskumye_payload_start(packet->bytes, packet->length);
     snprintf(text, sizeof text, "%.*s", (int)(packet->length - start), (const char *)packet->bytes + start);
     known.count = *packet;
     if (sscanf(text, "line %u: %u plants", &line, &plants) == 2) {
@@ -141,6 +140,10 @@ static void tell(const char *title, void (*new_ports)(void))
 
 int main(void)
 {
+    if (!haskumye_matches_header()) {
+        fprintf(stderr, "the library is of another version than its header\n");
+        return 1;
+    }
     tell("Ports renumbered while the relay runs:", renumbered_while_it_runs);
     printf("\n");
     tell("Ports renumbered the old way:", emptied_and_set_by_hand);

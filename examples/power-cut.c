@@ -29,8 +29,8 @@ static void make_state(void)
     strcpy(state.wires[3], "radio 4711");
 }
 
-/* Bytes of the file become zeros. Returns what the library's check says of the tables in it then. */
-static int lose(const char *folder, size_t from, size_t to)
+/* Bytes of the file become zeros. Returns the refusal that the library's check gives of the tables in it then. */
+static unsigned lose(const char *folder, size_t from, size_t to)
 {
     static uint8_t bytes[FILE_SIZE];
     char path[4096];
@@ -40,7 +40,7 @@ static int lose(const char *folder, size_t from, size_t to)
     memset(bytes + from, 0, to - from);
     rewind(file);
     expect(fwrite(bytes, 1, FILE_SIZE, file) == FILE_SIZE && fclose(file) == 0, "writing the file");
-    return haskumye_check(bytes + SEAL, HASKUMYE_TABLE_SIZE);
+    return haskumye_check_tables(bytes + SEAL, HASKUMYE_TABLE_SIZE);
 }
 
 static void show(const char *folder, const char *what, size_t from, size_t to)
@@ -48,13 +48,14 @@ static void show(const char *folder, const char *what, size_t from, size_t to)
     static const char *const words[] = {"loaded", "nothing saved", "not whole"};
     static struct state loaded;
     expect(save_state(folder, &state), "saving");
-    int passes = lose(folder, from, to);
-    printf("%-43s the check: %s   load_state: %s\n", what, passes ? "good" : "bad", words[load_state(folder, &loaded)]);
+    const char *check = lose(folder, from, to) == HASKUMYE_REFUSAL_NONE ? "good" : "bad";
+    printf("%-43s the check: %s   load_state: %s\n", what, check, words[load_state(folder, &loaded)]);
 }
 
 int main(int count, char **words)
 {
     expect(count == 2, "power-cut FOLDER");
+    expect(haskumye_matches_header(), "a library of the header's version");
     make_state();
     show(words[1], "nothing lost", 0, 0);
     show(words[1], "zeros alone", 0, FILE_SIZE);

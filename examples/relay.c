@@ -3,12 +3,12 @@
  *
  * Each line of standard input is an event, each line of standard output what the box does:
  *
- *     packet PORT CLOCK SIGNED HEX    a packet came in     send PORT HEX, deliver HEX, drop N, kept
+ *     packet PORT CLOCK SIGNED HEX    a packet came in     send PORT HEX, deliver HEX, drop N: WORDS, kept
  *     port PORT ON MODE               sets a port          done
  *     local HEX                       adds an address      done
  *     renumber P0 P1 .. P15           renumbers the ports  done
  *
- * A call that the core refuses prints `refused N`, and a line that is no event is not acted on. A box with radios puts
+ * A call that the core refuses prints `refused N: WORDS`, and a line that is no event is not acted on. A box with radios puts
  * them in the place of main and transmit.
  */
 #include "haskumye.h"
@@ -67,7 +67,7 @@ static void print_done(unsigned refusal)
     if (refusal == HASKUMYE_REFUSAL_NONE) {
         printf("done\n");
     } else {
-        printf("refused %u\n", refusal);
+        printf("refused %u: %s\n", refusal, haskumye_refusal_words(refusal));
     }
 }
 
@@ -80,17 +80,16 @@ static void transmit(unsigned port, size_t length)
 
 static void act(haskumye_answer answer, const uint8_t *packet, size_t length)
 {
-    size_t payload = haskumye_payload_start(packet, length);
     switch (HASKUMYE_ANSWER_KIND(answer)) {
     case HASKUMYE_REFUSED:
         print_done(HASKUMYE_ANSWER_REFUSAL(answer));
         break;
     case HASKUMYE_DROP:
-        printf("drop %u\n", HASKUMYE_ANSWER_REASON(answer));
+        printf("drop %u: %s\n", HASKUMYE_ANSWER_REASON(answer), haskumye_reason_words(HASKUMYE_ANSWER_REASON(answer)));
         break;
     case HASKUMYE_DELIVER:
         printf("deliver ");
-        print_hex(packet + payload, length - payload);
+        print_hex(packet + HASKUMYE_ANSWER_PAYLOAD(answer), length - HASKUMYE_ANSWER_PAYLOAD(answer));
         break;
     case HASKUMYE_FORWARD:
         transmit(HASKUMYE_ANSWER_PORT(answer), HASKUMYE_ANSWER_LENGTH(answer));
@@ -104,9 +103,6 @@ static void act(haskumye_answer answer, const uint8_t *packet, size_t length)
         break;
     case HASKUMYE_KEPT:
         printf("kept\n");
-        break;
-    default: /* a library of another version */
-        printf("unknown answer\n");
         break;
     }
 }
@@ -199,6 +195,10 @@ static bool next_line(char *line, int size)
 int main(void)
 {
     char line[LINE_SIZE];
+    if (!haskumye_matches_header()) {
+        fprintf(stderr, "the library is of another version than its header\n");
+        return 1;
+    }
     unsigned refusal = haskumye_fresh(tables, sizeof tables, &own_address);
     if (refusal != HASKUMYE_REFUSAL_NONE) {
         print_done(refusal);

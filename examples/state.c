@@ -56,7 +56,7 @@ static int is_whole(const struct file *file)
     haskumye_hash seal[2];
     return seal_state(&file->state, seal) && memcmp(seal, file->seal, sizeof seal) == 0 &&
            file->state.version == HASKUMYE_VERSION &&
-           haskumye_check(file->state.tables, sizeof file->state.tables) == 1;
+           haskumye_check_tables(file->state.tables, sizeof file->state.tables) == HASKUMYE_REFUSAL_NONE;
 }
 
 static enum loaded load_from(int folder, struct state *state)

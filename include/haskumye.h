@@ -31,9 +31,11 @@
 
 #ifdef __cplusplus
 #define HASKUMYE_ASSERT_SIZE(type, size) static_assert(sizeof(type) == (size), #type " has padding")
+#define HASKUMYE_CAST(type, value) static_cast<type>(value)
 extern "C" {
 #else
 #define HASKUMYE_ASSERT_SIZE(type, size) _Static_assert(sizeof(type) == (size), #type " has padding")
+#define HASKUMYE_CAST(type, value) ((type)(value))
 #endif
 
 /* Marks a call whose result may be a refusal: the compiler warns where it is ignored. */
@@ -45,7 +47,7 @@ extern "C" {
 #define HASKUMYE_CHECKED
 #endif
 
-#define HASKUMYE_VERSION 1 /* of this interface: it rises where a host has to be changed or compiled again */
+#define HASKUMYE_VERSION 2 /* of this interface: it rises where a host has to be changed or compiled again */
 
 /* Sizes, in bytes unless another unit is named. */
 #define HASKUMYE_TABLE_SIZE 71116 /* a relay's tables, exactly; haskumye_table_size() says the same */
@@ -53,9 +55,15 @@ extern "C" {
 #define HASKUMYE_SHORTEST_PACKET 19 /* 35 in type 2 */
 #define HASKUMYE_LONGEST_PACKET 500
 #define HASKUMYE_LONGEST_MESSAGE 65535 /* for haskumye_sha256 */
-#define HASKUMYE_PORT_COUNT 16  /* ports 0 to 15 */
-#define HASKUMYE_LOCAL_COUNT 16 /* local addresses */
 #define HASKUMYE_TEXT_SIZE 160  /* a line of haskumye_line */
+
+/* Limits: how many of each a relay has room for. */
+#define HASKUMYE_PORT_COUNT 16    /* ports 0 to 15 */
+#define HASKUMYE_LOCAL_COUNT 16   /* local addresses */
+#define HASKUMYE_PATH_COUNT 64    /* destinations with a live path */
+#define HASKUMYE_LINK_COUNT 64    /* links */
+#define HASKUMYE_RETURN_COUNT 512 /* receipts under way */
+#define HASKUMYE_HASH_COUNT 1024  /* remembered packets */
 #define HASKUMYE_CLOCK_LIMIT UINT64_C(1099511627776) /* seconds: every clock is below 2^40 */
 
 /* Where the tables hold the last accepted clock: 8 bytes, big-endian. After a restart the clock goes on from there. */
@@ -122,7 +130,7 @@ enum haskumye_refusal {
 enum haskumye_kind {
     HASKUMYE_REFUSED = 0, /* HASKUMYE_ANSWER_REFUSAL says why; nothing changed */
     HASKUMYE_DROP = 1,    /* HASKUMYE_ANSWER_REASON says why; the packet was accepted and counts */
-    HASKUMYE_DELIVER = 2, /* for a local address; the payload lies in the packet, from haskumye_payload_start */
+    HASKUMYE_DELIVER = 2, /* for a local address; the payload is the packet from HASKUMYE_ANSWER_PAYLOAD on */
     HASKUMYE_FORWARD = 3, /* send the output's first HASKUMYE_ANSWER_LENGTH bytes by HASKUMYE_ANSWER_PORT */
     HASKUMYE_SPREAD = 4,  /* send them by each port of HASKUMYE_ANSWER_PORTS */
     HASKUMYE_KEPT = 5     /* an announce was taken in, and nothing leaves */
@@ -149,24 +157,46 @@ enum haskumye_reason {
 /*
  * The fields of a packet call's answer, and of no other call's number. Bits 0 to 15 say the kind, and the refusal or
  * reason; what bits 16 to 63 hold goes by them. Read a field only for the kind it is named with: later versions may put
- * data where zeros stand today.
+ * data where zeros stand today. The port of what is no forward is HASKUMYE_NO_PORT, and the ports of what is no spread
+ * are none.
  */
 typedef uint64_t haskumye_answer;
+
+#define HASKUMYE_NO_PORT 0xffff
 
 /* The answer itself. A number of another width, such as another call's refusal, does not compile. */
 #define HASKUMYE_ANSWER(answer) ((answer) + 0 * sizeof(char[sizeof(answer) == sizeof(haskumye_answer) ? 1 : -1]))
 
-#define HASKUMYE_ANSWER_KIND(answer) ((unsigned)(HASKUMYE_ANSWER(answer) & 0xff))
-#define HASKUMYE_ANSWER_REFUSAL(answer) ((unsigned)(HASKUMYE_ANSWER(answer) >> 8 & 0xff))  /* refused */
-#define HASKUMYE_ANSWER_REASON(answer) ((unsigned)(HASKUMYE_ANSWER(answer) >> 8 & 0xff))   /* drop */
-#define HASKUMYE_ANSWER_PORT(answer) ((unsigned)(HASKUMYE_ANSWER(answer) >> 16 & 0xffff))  /* forward */
-#define HASKUMYE_ANSWER_PORTS(answer) ((unsigned)(HASKUMYE_ANSWER(answer) >> 16 & 0xffff)) /* spread: bit i is port i */
+#define HASKUMYE_ANSWER_BITS(answer, from, mask) HASKUMYE_CAST(unsigned, HASKUMYE_ANSWER(answer) >> (from) & (mask))
+#define HASKUMYE_ANSWER_KIND(answer) HASKUMYE_ANSWER_BITS(answer, 0, 0xff)
+#define HASKUMYE_ANSWER_REFUSAL(answer) HASKUMYE_ANSWER_BITS(answer, 8, 0xff)        /* refused */
+#define HASKUMYE_ANSWER_REASON(answer) HASKUMYE_ANSWER_BITS(answer, 8, 0xff)         /* drop */
+#define HASKUMYE_ANSWER_PAYLOAD(answer) HASKUMYE_CAST(size_t, HASKUMYE_ANSWER(answer) >> 48) /* deliver */
+#define HASKUMYE_ANSWER_PORT(answer) haskumye_answer_port(HASKUMYE_ANSWER(answer))   /* forward */
+#define HASKUMYE_ANSWER_PORTS(answer) haskumye_answer_ports(HASKUMYE_ANSWER(answer)) /* spread: bit i is port i */
 #define HASKUMYE_ANSWER_HAS_PORT(answer, port) (HASKUMYE_ANSWER_PORTS(answer) >> (port) & 1u) /* spread: port 0 to 15 */
-#define HASKUMYE_ANSWER_LENGTH(answer) ((size_t)(HASKUMYE_ANSWER(answer) >> 32 & 0xffff))  /* forward and spread */
+#define HASKUMYE_ANSWER_LENGTH(answer) HASKUMYE_CAST(size_t, HASKUMYE_ANSWER(answer) >> 32 & 0xffff) /* either */
 
-/* The fields of haskumye_write's number. */
-#define HASKUMYE_WRITTEN_REFUSAL(written) ((unsigned)((written) & 0xffff))
-#define HASKUMYE_WRITTEN_LENGTH(written) ((size_t)((written) >> 16))
+static inline unsigned haskumye_answer_port(haskumye_answer answer)
+{
+    unsigned port = HASKUMYE_ANSWER_BITS(answer, 16, 0xffff);
+    return HASKUMYE_ANSWER_KIND(answer) == HASKUMYE_FORWARD ? port : HASKUMYE_NO_PORT;
+}
+
+static inline unsigned haskumye_answer_ports(haskumye_answer answer)
+{
+    unsigned ports = HASKUMYE_ANSWER_BITS(answer, 16, 0xffff);
+    return HASKUMYE_ANSWER_KIND(answer) == HASKUMYE_SPREAD ? ports : 0;
+}
+
+/* The fields of a writing call's number: a refusal, 0 for none, and the length written. */
+typedef uint32_t haskumye_written;
+
+/* The number itself. One of another width, such as a packet call's answer, does not compile. */
+#define HASKUMYE_WRITTEN(written) ((written) + 0 * sizeof(char[sizeof(written) == sizeof(haskumye_written) ? 1 : -1]))
+
+#define HASKUMYE_WRITTEN_REFUSAL(written) HASKUMYE_CAST(unsigned, HASKUMYE_WRITTEN(written) & 0xffff)
+#define HASKUMYE_WRITTEN_LENGTH(written) HASKUMYE_CAST(size_t, HASKUMYE_WRITTEN(written) >> 16)
 
 /* Bytes of a fixed number cross in a struct of exactly that size. */
 typedef struct {
@@ -218,10 +248,19 @@ HASKUMYE_ASSERT_SIZE(haskumye_port_map, 16);
 HASKUMYE_ASSERT_SIZE(haskumye_text, HASKUMYE_TEXT_SIZE);
 HASKUMYE_ASSERT_SIZE(haskumye_tally, 24);
 
-/* ---- A relay. A call that returns uint8_t returns a refusal, 0 for none; haskumye_check alone does not. ---- */
+/* ---- Which library this is. ---- */
 
-/* HASKUMYE_TABLE_SIZE, as the library was built. */
+/* HASKUMYE_VERSION and HASKUMYE_TABLE_SIZE, as the library was built. */
+uint32_t haskumye_version(void);
 size_t haskumye_table_size(void);
+
+/* Whether the library that was linked is this header's: a host asks it before any other call. */
+static inline int haskumye_matches_header(void)
+{
+    return haskumye_version() == HASKUMYE_VERSION && haskumye_table_size() == HASKUMYE_TABLE_SIZE;
+}
+
+/* ---- A relay. A call that returns uint8_t returns a refusal, 0 for none. ---- */
 
 /*
  * Makes the tables of a fresh relay: its own address, every port off and boundary, clock 0, all else empty. What the
@@ -231,8 +270,8 @@ size_t haskumye_table_size(void);
  */
 HASKUMYE_CHECKED uint8_t haskumye_fresh(uint8_t *tables, size_t length, const haskumye_address *own);
 
-/* 1 where these bytes are some relay's tables, else 0: the test of refusal 7. Every call but fresh makes it itself. */
-uint8_t haskumye_check(const uint8_t *tables, size_t length);
+/* Refusal 7 where these bytes are no relay's tables, else 0. Every call but fresh makes this test itself. */
+HASKUMYE_CHECKED uint8_t haskumye_check_tables(const uint8_t *tables, size_t length);
 
 /*
  * Sets a port on or off, and its mode, one of haskumye_mode. Every value but HASKUMYE_ON, such as the 4 of `flags & 4`,
@@ -268,15 +307,18 @@ HASKUMYE_CHECKED haskumye_answer haskumye_packet(const uint8_t *packet, size_t l
 /* Reads a packet's parts. Returns a refusal (1, 2, 3), or 0. */
 HASKUMYE_CHECKED uint8_t haskumye_read(const uint8_t *packet, size_t length, haskumye_parts *parts);
 
-/* Where the payload starts: it is the packet from there on. Never over the length, whatever the bytes. */
+/*
+ * Where the payload starts: it is the packet from there on. Never over the length, whatever the bytes. Of a packet that
+ * was delivered, HASKUMYE_ANSWER_PAYLOAD says the same.
+ */
 size_t haskumye_payload_start(const uint8_t *packet, size_t length);
 
 /*
  * Writes a packet at the output's start; bytes behind it stay. Returns a number of two fields:
  * HASKUMYE_WRITTEN_REFUSAL (6, 2, 3; 0 for none) and HASKUMYE_WRITTEN_LENGTH.
  */
-HASKUMYE_CHECKED uint64_t haskumye_write(const haskumye_parts *parts, const uint8_t *payload, size_t length,
-                                         uint8_t *output, size_t room);
+HASKUMYE_CHECKED haskumye_written haskumye_write(const haskumye_parts *parts, const uint8_t *payload, size_t length,
+                                                 uint8_t *output, size_t room);
 
 /* The packet hash. A receipt for a packet is addressed to its first 16 bytes. Returns a refusal (1, 2, 3), or 0. */
 HASKUMYE_CHECKED uint8_t haskumye_packet_hash(const uint8_t *packet, size_t length, haskumye_hash *hash);
@@ -301,6 +343,74 @@ size_t haskumye_line(const uint8_t *packet, size_t length, haskumye_text *text);
 
 /* SHA-256. Returns refusal 2 for a message over HASKUMYE_LONGEST_MESSAGE, or 0. */
 HASKUMYE_CHECKED uint8_t haskumye_sha256(const uint8_t *message, size_t length, haskumye_hash *out);
+
+/* ---- Words for numbers: bindings/words has all of them, for every language. ---- */
+
+/* Words for a refusal, as `refused 7: tables of wrong size, or with bytes that no relay has`. */
+static inline const char *haskumye_refusal_words(unsigned refusal)
+{
+    switch (refusal) {
+    case HASKUMYE_REFUSAL_TOO_SHORT: return "length under 19, or type 2 under 35";
+    case HASKUMYE_REFUSAL_TOO_LONG: return "length over 500 (hashing: over 65,535)";
+    case HASKUMYE_REFUSAL_ACCESS_CODE: return "access code bit set";
+    case HASKUMYE_REFUSAL_ARRIVAL_PORT: return "arrival port over 15, or off";
+    case HASKUMYE_REFUSAL_CLOCK: return "clock 2^40 or more, or below the last accepted clock";
+    case HASKUMYE_REFUSAL_OUTPUT: return "output buffer under 500 bytes";
+    case HASKUMYE_REFUSAL_TABLES: return "tables of wrong size, or with bytes that no relay has";
+    case HASKUMYE_REFUSAL_MAP: return "renumbering map not one-to-one on 0..15";
+    case HASKUMYE_REFUSAL_SETTING: return "setting a port over 15 or an unknown mode";
+    case HASKUMYE_REFUSAL_LOCAL_FULL: return "adding a 17th local address";
+    case HASKUMYE_REFUSAL_LOCAL_ADDRESS: return "adding a local address already there, or removing one not there";
+    default: return "unknown";
+    }
+}
+
+/* Words for a reason, as `drop 6: no way on`. */
+static inline const char *haskumye_reason_words(unsigned reason)
+{
+    switch (reason) {
+    case HASKUMYE_REASON_NOT_OURS: return "not ours";
+    case HASKUMYE_REASON_DUPLICATE: return "duplicate";
+    case HASKUMYE_REASON_BAD_FORM: return "bad form";
+    case HASKUMYE_REASON_OWN_ANNOUNCE: return "own announce";
+    case HASKUMYE_REASON_TOO_MANY_HOPS: return "hops 128 or more";
+    case HASKUMYE_REASON_NO_WAY_ON: return "no way on";
+    case HASKUMYE_REASON_ALREADY_KNOWN: return "already known";
+    case HASKUMYE_REASON_WRONG_SIDE: return "wrong side";
+    case HASKUMYE_REASON_NOT_SIGNED: return "signature word no";
+    case HASKUMYE_REASON_REPLAY: return "replay";
+    case HASKUMYE_REASON_NOT_BETTER: return "not better";
+    case HASKUMYE_REASON_PORT_OFF: return "port off";
+    case HASKUMYE_REASON_NO_ROOM: return "no room";
+    case HASKUMYE_REASON_GROWN_TOO_LONG: return "grown too long";
+    default: return "unknown";
+    }
+}
+
+/* Words for an answer's kind. */
+static inline const char *haskumye_kind_words(unsigned kind)
+{
+    switch (kind) {
+    case HASKUMYE_REFUSED: return "refused";
+    case HASKUMYE_DROP: return "drop";
+    case HASKUMYE_DELIVER: return "deliver";
+    case HASKUMYE_FORWARD: return "forward";
+    case HASKUMYE_SPREAD: return "spread";
+    case HASKUMYE_KEPT: return "kept";
+    default: return "unknown";
+    }
+}
+
+/* Words for a port's mode. */
+static inline const char *haskumye_mode_words(unsigned mode)
+{
+    switch (mode) {
+    case HASKUMYE_MODE_BOUNDARY: return "boundary";
+    case HASKUMYE_MODE_ACCESS_POINT: return "access point";
+    case HASKUMYE_MODE_ROAMING: return "roaming";
+    default: return "unknown";
+    }
+}
 
 #ifdef __cplusplus
 }

@@ -1,9 +1,11 @@
 /*
  * The header in C and in C++: it compiles without a warning, its accessors give the fields of an answer, and every call
- * takes NULL where the length is 0. With NARROW or IGNORED it does not compile. The last line is `N passed, M failed`.
+ * takes NULL where the length is 0. With NARROW, WRITTEN, WIDE or IGNORED it does not compile. The last line is
+ * `N passed, M failed`. `header words` prints the words of every number, as bindings/words has them.
  */
 #include "haskumye.h"
 #include <stdio.h>
+#include <string.h>
 
 static int passed, failed;
 
@@ -22,7 +24,7 @@ static void check(int holds, const char *what)
 static void check_accessors(void)
 {
     const haskumye_answer refused = UINT64_C(0x0b00), drop = UINT64_C(0x0e01), forward = UINT64_C(0x0013000f0003),
-                          spread = UINT64_C(0x01f480010004);
+                          spread = UINT64_C(0x01f480010004), deliver = UINT64_C(0x0023000000000002);
     CHECK(HASKUMYE_ANSWER_KIND(refused) == HASKUMYE_REFUSED);
     CHECK(HASKUMYE_ANSWER_REFUSAL(refused) == HASKUMYE_REFUSAL_LOCAL_ADDRESS);
     CHECK(HASKUMYE_ANSWER_KIND(drop) == HASKUMYE_DROP);
@@ -33,9 +35,24 @@ static void check_accessors(void)
     CHECK(HASKUMYE_ANSWER_PORTS(spread) == 0x8001);
     CHECK(HASKUMYE_ANSWER_HAS_PORT(spread, 0) && !HASKUMYE_ANSWER_HAS_PORT(spread, 1));
     CHECK(HASKUMYE_ANSWER_HAS_PORT(spread, 15));
+    CHECK(HASKUMYE_ANSWER_KIND(deliver) == HASKUMYE_DELIVER && HASKUMYE_ANSWER_PAYLOAD(deliver) == 35);
+    CHECK(HASKUMYE_ANSWER_PORT(spread) == HASKUMYE_NO_PORT && HASKUMYE_ANSWER_PORT(deliver) == HASKUMYE_NO_PORT);
+    CHECK(HASKUMYE_ANSWER_PORTS(forward) == 0 && !HASKUMYE_ANSWER_HAS_PORT(forward, 0));
     haskumye_answer next = drop;
     CHECK(HASKUMYE_ANSWER_KIND(next++) == HASKUMYE_DROP && next == drop + 1); /* evaluated once */
+    next = forward;
+    CHECK(HASKUMYE_ANSWER_PORT(next++) == 15 && next == forward + 1);
     CHECK(HASKUMYE_WRITTEN_REFUSAL(6) == HASKUMYE_REFUSAL_OUTPUT && HASKUMYE_WRITTEN_LENGTH(19u << 16) == 19);
+}
+
+/* The words of each number under 256 that has some. */
+static void print_words(const char *list, const char *words_of(unsigned number))
+{
+    for (unsigned number = 0; number < 256; number++) {
+        if (strcmp(words_of(number), "unknown") != 0) {
+            printf("%s %u %s\n", list, number, words_of(number));
+        }
+    }
 }
 
 static void check_packet_calls(void)
@@ -67,15 +84,18 @@ static void check_relay_calls(void)
     static haskumye_tally tally;
     static uint8_t tables[HASKUMYE_TABLE_SIZE], output[HASKUMYE_OUTPUT_SIZE];
     CHECK(haskumye_table_size() == HASKUMYE_TABLE_SIZE);
+    CHECK(haskumye_version() == HASKUMYE_VERSION);
+    CHECK(haskumye_matches_header());
     CHECK(haskumye_fresh(NULL, 0, &address) == HASKUMYE_REFUSAL_TABLES);
-    CHECK(haskumye_check(NULL, 0) == 0);
+    CHECK(haskumye_check_tables(NULL, 0) == HASKUMYE_REFUSAL_TABLES);
     CHECK(haskumye_set_port(NULL, 0, 0, HASKUMYE_ON, HASKUMYE_MODE_BOUNDARY) == HASKUMYE_REFUSAL_TABLES);
     CHECK(haskumye_add_local(NULL, 0, &address) == HASKUMYE_REFUSAL_TABLES);
     CHECK(haskumye_remove_local(NULL, 0, &address) == HASKUMYE_REFUSAL_TABLES);
     CHECK(haskumye_renumber(NULL, 0, &map) == HASKUMYE_REFUSAL_TABLES);
     haskumye_answer answer = haskumye_packet(NULL, 0, 0, 0, 0, NULL, 0, NULL, 0, &tally);
     CHECK(HASKUMYE_ANSWER_REFUSAL(answer) == HASKUMYE_REFUSAL_TABLES);
-    CHECK(haskumye_fresh(tables, sizeof tables, &address) == 0 && haskumye_check(tables, sizeof tables) == 1);
+    CHECK(haskumye_fresh(tables, sizeof tables, &address) == 0);
+    CHECK(haskumye_check_tables(tables, sizeof tables) == HASKUMYE_REFUSAL_NONE);
     CHECK(haskumye_set_port(tables, sizeof tables, 0, HASKUMYE_ON, HASKUMYE_MODE_ROAMING) == 0);
     answer = haskumye_packet(NULL, 0, 0, 0, 0, tables, sizeof tables, NULL, 0, &tally);
     CHECK(HASKUMYE_ANSWER_REFUSAL(answer) == HASKUMYE_REFUSAL_OUTPUT);
@@ -83,12 +103,26 @@ static void check_relay_calls(void)
     CHECK(HASKUMYE_ANSWER_REFUSAL(answer) == HASKUMYE_REFUSAL_TOO_SHORT);
 }
 
-/* What must not compile: a field of a number that is no answer, and a call whose refusal is ignored. */
+/* What must not compile: a field of a number that is of another call, and a call whose refusal is ignored. */
 #ifdef NARROW
 unsigned narrow(void);
 unsigned narrow(void)
 {
-    return HASKUMYE_ANSWER_REFUSAL(haskumye_check(NULL, 0));
+    return HASKUMYE_ANSWER_REFUSAL(haskumye_check_tables(NULL, 0));
+}
+#endif
+#ifdef WRITTEN
+unsigned written(void);
+unsigned written(void)
+{
+    return HASKUMYE_ANSWER_REFUSAL(haskumye_write(NULL, NULL, 0, NULL, 0));
+}
+#endif
+#ifdef WIDE
+unsigned wide(void);
+unsigned wide(void)
+{
+    return HASKUMYE_WRITTEN_REFUSAL(haskumye_packet(NULL, 0, 0, 0, 0, NULL, 0, NULL, 0, NULL));
 }
 #endif
 #ifdef IGNORED
@@ -99,8 +133,15 @@ void ignored(void)
 }
 #endif
 
-int main(void)
+int main(int count, char **words)
 {
+    if (count == 2 && strcmp(words[1], "words") == 0) {
+        print_words("refusal", haskumye_refusal_words);
+        print_words("reason", haskumye_reason_words);
+        print_words("kind", haskumye_kind_words);
+        print_words("mode", haskumye_mode_words);
+        return 0;
+    }
     check_accessors();
     check_packet_calls();
     check_relay_calls();

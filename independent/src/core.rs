@@ -41,7 +41,7 @@ pub fn payload_start(packet: &[u8]) -> usize {
 }
 
 /// The refusal number in the low 16 bits, the length in those above; the packet goes to the output's start.
-pub fn write(parts: &PartsBytes, payload: &[u8], output: &mut [u8]) -> u64 {
+pub fn write(parts: &PartsBytes, payload: &[u8], output: &mut [u8]) -> u32 {
     unsafe { haskumye_write(parts.as_ptr().cast(), payload.as_ptr(), payload.len(), output.as_mut_ptr(), output.len()) }
 }
 
@@ -80,9 +80,9 @@ pub fn table_size() -> usize {
     unsafe { haskumye_table_size() }
 }
 
-/// 1 where refusal 7 is not given, else 0.
+/// Refusal 7, or 0 for tables that a relay has.
 pub fn check(tables: &[u8]) -> u8 {
-    unsafe { haskumye_check(tables.as_ptr(), tables.len()) }
+    unsafe { haskumye_check_tables(tables.as_ptr(), tables.len()) }
 }
 
 /// The refusal number of each call on the tables, 0 for none.

@@ -3,7 +3,7 @@
 use crate::answer::{Answer, Reason, Refusal, Tally, Verdict};
 use crate::core::{self, crossing, PartsBytes, LINE};
 use crate::engine::{Engine, Outcome, PacketCalls};
-use crate::packet::{Address, Blob, PacketHash, Parts};
+use crate::packet::{payload_place, Address, Blob, PacketHash, Parts};
 use crate::relay::Arrival;
 
 /// The core keeps nothing between calls: all is in the caller's bytes.
@@ -21,8 +21,9 @@ fn refused(number: u8) -> Outcome {
     Outcome::Refused(Refusal::from_number(number).expect("a refusal's number").number())
 }
 
-/// Bits 0 to 7 the kind, 8 to 15 the refusal's or the reason's number, 16 to 31 the port or the ports, 32 to 47 the length.
-fn judged(number: u64) -> Outcome {
+/// Bits 0 to 7 the kind, 8 to 15 the refusal's or the reason's number, 16 to 31 the port or the ports, 32 to 47 the length, 48 to 63 where the payload
+/// of a delivered packet starts.
+fn judged(number: u64, packet: &[u8]) -> Outcome {
     let (kind, detail, ports, length) = (number as u8, (number >> 8) as u8, (number >> 16) as u16, (number >> 32) as u16);
     let outcome = match kind {
         0 => refused(detail),
@@ -33,12 +34,12 @@ fn judged(number: u64) -> Outcome {
         5 => Outcome::Judged(Answer::silent(Verdict::Kept)),
         _ => panic!("the core answered {number:x}"),
     };
-    assert_eq!(encoded(&outcome), number, "the core's number has bits that no answer has");
+    assert_eq!(encoded(&outcome, packet), number, "the core's number has bits that no answer has");
     outcome
 }
 
-/// The number of an answer.
-pub fn encoded(outcome: &Outcome) -> u64 {
+/// The number of an answer to a packet.
+pub fn encoded(outcome: &Outcome, packet: &[u8]) -> u64 {
     let Outcome::Judged(Answer { verdict, length }) = outcome else {
         return if let Outcome::Refused(number) = outcome { u64::from(*number) << 8 } else { 0 };
     };
@@ -46,7 +47,8 @@ pub fn encoded(outcome: &Outcome) -> u64 {
         Verdict::Drop(reason) => u64::from(reason.number()) << 8,
         Verdict::Forward(port) => u64::from(*port) << 16,
         Verdict::Spread(ports) => u64::from(*ports) << 16,
-        Verdict::Deliver | Verdict::Kept => 0,
+        Verdict::Deliver => (payload_place(packet) as u64) << 48,
+        Verdict::Kept => 0,
     };
     1 + verdict.index() as u64 + fields + ((*length as u64) << 32)
 }
@@ -61,7 +63,8 @@ impl Engine for Core {
     }
 
     fn packet(&mut self, tables: &mut [u8], tally: &mut Tally, output: &mut [u8], arrival: &Arrival) -> Outcome {
-        judged(core::packet(arrival.packet, arrival.port, arrival.clock, u8::from(arrival.signature), tables, output, tally))
+        let signature = u8::from(arrival.signature);
+        judged(core::packet(arrival.packet, arrival.port, arrival.clock, signature, tables, output, tally), arrival.packet)
     }
 
     fn set_port(&mut self, tables: &mut [u8], port: u64, on: bool, mode: u64) -> Outcome {
@@ -81,7 +84,7 @@ impl Engine for Core {
     }
 
     fn check(&mut self, tables: &[u8]) -> bool {
-        core::check(tables) == 1
+        core::check(tables) == 0
     }
 }
 
@@ -95,7 +98,7 @@ impl PacketCalls for Core {
     }
 
     fn write(&self, parts: &Parts, payload: &[u8], output: &mut [u8]) -> u64 {
-        core::write(&crossing(parts), payload, output)
+        core::write(&crossing(parts), payload, output).into()
     }
 
     fn packet_hash(&self, packet: &[u8], hash: &mut PacketHash) -> u8 {
@@ -129,8 +132,11 @@ mod tests {
 
     #[test]
     fn numbers_are_decoded() {
+        let packet = [&[0x40][..], &[0; 40]].concat();
+        let judged = |number| judged(number, &packet);
         assert_eq!(judged(0x0000_0700), Outcome::Refused(7));
         assert_eq!(judged(0x0000_0e01), Outcome::Judged(Answer::silent(Verdict::Drop(Reason::GrownTooLong))));
+        assert_eq!(judged(0x0023_0000_0000_0002), Outcome::Judged(Answer::silent(Verdict::Deliver)));
         assert_eq!(judged(0x0013_000f_0003), Outcome::Judged(Answer { verdict: Verdict::Forward(15), length: 19 }));
         assert_eq!(judged(0x01f4_8001_0004), Outcome::Judged(Answer { verdict: Verdict::Spread(0x8001), length: 500 }));
     }

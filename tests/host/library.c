@@ -16,6 +16,12 @@ static uint64_t nothing(const struct use *use)
     return 0;
 }
 
+static uint64_t version(const struct use *use)
+{
+    (void)use;
+    return haskumye_version();
+}
+
 static uint64_t table_size(const struct use *use)
 {
     (void)use;
@@ -24,7 +30,7 @@ static uint64_t table_size(const struct use *use)
 
 static uint64_t check(const struct use *use)
 {
-    return haskumye_check(use->tables.bytes, use->tables.length);
+    return haskumye_check_tables(use->tables.bytes, use->tables.length);
 }
 
 static uint64_t fresh(const struct use *use)
@@ -116,8 +122,9 @@ static const struct {
     uint64_t (*call)(const struct use *use);
 } functions[FUNCTION_COUNT] = {
     [NOTHING] = {"(an empty call)", nothing},
+    [VERSION] = {"haskumye_version", version},
     [TABLE_SIZE] = {"haskumye_table_size", table_size},
-    [CHECK] = {"haskumye_check", check},
+    [CHECK] = {"haskumye_check_tables", check},
     [FRESH] = {"haskumye_fresh", fresh},
     [SET_PORT] = {"haskumye_set_port", set_port},
     [ADD_LOCAL] = {"haskumye_add_local", add_local},

@@ -8,6 +8,7 @@
 
 enum function {
     NOTHING, /* an empty call, for what measuring itself takes */
+    VERSION,
     TABLE_SIZE,
     CHECK,
     FRESH,

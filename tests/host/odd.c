@@ -70,7 +70,7 @@ static void odd_tables(size_t size)
     bool right = size == HASKUMYE_TABLE_SIZE;
     uint64_t refusal = right ? 0 : HASKUMYE_REFUSAL_TABLES;
     expect("fresh", library_call(FRESH, &use), refusal);
-    expect("check", library_call(CHECK, &use), right);
+    expect("check", library_call(CHECK, &use), refusal);
     expect("set port", library_call(SET_PORT, &use), refusal);
     expect("add local", library_call(ADD_LOCAL, &use), refusal);
     expect("remove local", library_call(REMOVE_LOCAL, &use), refusal);
@@ -81,6 +81,7 @@ static void odd_tables(size_t size)
     }
     expect("renumber", library_call(RENUMBER, &use), refusal);
     expect("table size", library_call(TABLE_SIZE, &use), HASKUMYE_TABLE_SIZE);
+    expect("version", library_call(VERSION, &use), HASKUMYE_VERSION);
     buffer_free(&use.tables);
     buffer_free(&use.input);
 }

@@ -77,12 +77,12 @@ static uint8_t byte_of(bool yes)
     return yes ? 1 : no[check_line() % sizeof(no)];
 }
 
-/* The check of the tables says no exactly where the call is refused by 7; a fresh relay reads nothing of them. */
+/* The check of the tables refuses them exactly where the call is refused by 7; a fresh relay reads nothing of them. */
 static void expect_check(const struct recorded *call, const struct use *use)
 {
     uint64_t refused = call->function == PACKET ? HASKUMYE_REFUSAL_TABLES << 8 : HASKUMYE_REFUSAL_TABLES;
     if (call->function != FRESH) {
-        expect("the check", library_call(CHECK, use), call->number != refused);
+        expect("the check", library_call(CHECK, use), call->number == refused ? HASKUMYE_REFUSAL_TABLES : 0);
     }
 }
 

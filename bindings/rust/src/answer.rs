@@ -96,11 +96,15 @@ impl fmt::Display for Reason {
 
 /// What was decided of a packet that was not refused. A length is that of the packet at the output's start.
 #[derive(Clone, Copy, Debug, PartialEq, Eq)]
+#[non_exhaustive]
 pub enum Verdict {
     /// It goes no further.
     Drop(Reason),
-    /// It is for a local address: [`payload`](crate::payload) is the part to hand up.
-    Deliver,
+    /// It is for a local address.
+    Deliver {
+        /// Where the part to hand up starts: the packet from there on, as [`payload`](crate::payload) gives it.
+        payload: usize,
+    },
     /// The output leaves by one port.
     Forward {
         /// The port.
@@ -123,7 +127,7 @@ impl fmt::Display for Verdict {
     fn fmt(&self, f: &mut fmt::Formatter) -> fmt::Result {
         match self {
             Verdict::Drop(reason) => reason.fmt(f),
-            Verdict::Deliver => write!(f, "deliver"),
+            Verdict::Deliver { .. } => write!(f, "deliver"),
             Verdict::Forward { port, .. } => write!(f, "forward {port}"),
             Verdict::Spread { ports, .. } => {
                 write!(f, "spread")?;
@@ -187,13 +191,14 @@ pub(crate) fn done(number: u8) -> Result<(), Refusal> {
     }
 }
 
-/// A packet call's number: the kind in bits 0 to 7, the refusal or reason in 8 to 15, the port or ports in 16 to 31, the length in 32 to 47.
+/// A packet call's number: the kind in bits 0 to 7, the refusal or reason in 8 to 15, the port or ports in 16 to 31, the length in 32 to 47, where a
+/// delivered payload starts in 48 to 63.
 pub(crate) fn judged(number: u64) -> Result<Verdict, Refusal> {
     let (kind, detail, ports, length) = (number as u8, (number >> 8) as u8, (number >> 16) as u16, usize::from((number >> 32) as u16));
     match kind {
         raw::REFUSED => Err(refusal(detail)),
         raw::DROP => Ok(Verdict::Drop(Reason::from_number(detail).unwrap_or_else(|| unknown(number)))),
-        raw::DELIVER => Ok(Verdict::Deliver),
+        raw::DELIVER => Ok(Verdict::Deliver { payload: (number >> 48) as usize }),
         raw::FORWARD if ports < 16 => Ok(Verdict::Forward { port: ports as u8, length }),
         raw::SPREAD => Ok(Verdict::Spread { ports: PortSet(ports), length }),
         raw::KEPT => Ok(Verdict::Kept),
@@ -220,7 +225,7 @@ mod tests {
         assert_eq!(done(11), Err(Refusal::LocalAddress));
         assert_eq!(judged(0x0700), Err(Refusal::Tables));
         assert_eq!(judged(0x0e01), Ok(Verdict::Drop(Reason::GrownTooLong)));
-        assert_eq!(judged(0x02), Ok(Verdict::Deliver));
+        assert_eq!(judged(0x0023_0000_0000_0002), Ok(Verdict::Deliver { payload: 35 }));
         assert_eq!(judged(0x0013_000f_0003), Ok(Verdict::Forward { port: 15, length: 19 }));
         assert_eq!(judged(0x01f4_8001_0004), Ok(Verdict::Spread { ports: PortSet(0x8001), length: 500 }));
         assert_eq!(judged(0x05), Ok(Verdict::Kept));

@@ -17,7 +17,8 @@ mod relay;
 pub use answer::{Mode, PortSet, Ports, Reason, Refusal, Verdict};
 pub use packet::{announced_destination, emission, least_announce, line, link_id, packet_hash, payload, read, sha256, write};
 pub use raw::{
-    Parts, Tally, CLOCK_LIMIT, LOCAL_COUNT, LONGEST_MESSAGE, LONGEST_PACKET, OUTPUT_SIZE, PORT_COUNT, SHORTEST_PACKET, TABLE_SIZE,
+    Parts, Tally, CLOCK_LIMIT, HASH_COUNT, LINK_COUNT, LOCAL_COUNT, LONGEST_MESSAGE, LONGEST_PACKET, OUTPUT_SIZE, PATH_COUNT, PORT_COUNT,
+    RETURN_COUNT, SHORTEST_PACKET, TABLE_SIZE,
 };
 pub use relay::Relay;
 

@@ -7,7 +7,7 @@
 use crate::{Address, Blob, Hash, PortMap};
 
 /// The version of this interface.
-pub const VERSION: u32 = 1;
+pub const VERSION: u32 = 2;
 
 /// The bytes of a relay's tables, exactly.
 pub const TABLE_SIZE: usize = 71116;
@@ -19,12 +19,21 @@ pub const SHORTEST_PACKET: usize = 19;
 pub const LONGEST_PACKET: usize = 500;
 /// The longest message that is hashed.
 pub const LONGEST_MESSAGE: usize = 65535;
+/// The bytes of a line of text.
+pub const TEXT_SIZE: usize = 160;
+
 /// Ports 0 to 15.
 pub const PORT_COUNT: usize = 16;
 /// How many local addresses a relay has room for.
 pub const LOCAL_COUNT: usize = 16;
-/// The bytes of a line of text.
-pub const TEXT_SIZE: usize = 160;
+/// How many destinations with a live path.
+pub const PATH_COUNT: usize = 64;
+/// How many links.
+pub const LINK_COUNT: usize = 64;
+/// How many receipts under way.
+pub const RETURN_COUNT: usize = 512;
+/// How many remembered packets.
+pub const HASH_COUNT: usize = 1024;
 /// Every clock, in seconds, is below 2^40.
 pub const CLOCK_LIMIT: u64 = 1099511627776;
 
@@ -95,6 +104,9 @@ pub const SPREAD: u8 = 4;
 /// An answer's kind: kept.
 pub const KEPT: u8 = 5;
 
+/// What the header's macro gives for the port of an answer that is no forward.
+pub const NO_PORT: u16 = 0xffff;
+
 /// The parts of a packet. In type 1 the relay address reads as zeros, and writing ignores it.
 #[repr(C)]
 #[derive(Clone, Copy, Debug, Default, PartialEq, Eq)]
@@ -134,9 +146,10 @@ pub type Text = [u8; TEXT_SIZE];
 
 #[allow(missing_docs)] // the header has the comments
 extern "C" {
+    pub fn haskumye_version() -> u32;
     pub fn haskumye_table_size() -> usize;
     pub fn haskumye_fresh(tables: *mut u8, length: usize, own: *const Address) -> u8;
-    pub fn haskumye_check(tables: *const u8, length: usize) -> u8;
+    pub fn haskumye_check_tables(tables: *const u8, length: usize) -> u8;
     pub fn haskumye_set_port(tables: *mut u8, length: usize, port: u64, on: u8, mode: u64) -> u8;
     pub fn haskumye_add_local(tables: *mut u8, length: usize, address: *const Address) -> u8;
     pub fn haskumye_remove_local(tables: *mut u8, length: usize, address: *const Address) -> u8;
@@ -156,7 +169,7 @@ extern "C" {
 
     pub fn haskumye_read(packet: *const u8, length: usize, parts: *mut Parts) -> u8;
     pub fn haskumye_payload_start(packet: *const u8, length: usize) -> usize;
-    pub fn haskumye_write(parts: *const Parts, payload: *const u8, length: usize, output: *mut u8, room: usize) -> u64;
+    pub fn haskumye_write(parts: *const Parts, payload: *const u8, length: usize, output: *mut u8, room: usize) -> u32;
     pub fn haskumye_packet_hash(packet: *const u8, length: usize, hash: *mut Hash) -> u8;
     pub fn haskumye_link_id(packet: *const u8, length: usize, id: *mut Address) -> u8;
     pub fn haskumye_announced_destination(payload: *const u8, length: usize, destination: *mut Address);

@@ -20,8 +20,8 @@ use crate::{Address, PortMap};
 /// // Data of type 1 for a local address: header, hops, destination, context, payload.
 /// let packet = [&[0x00, 0x00][..], &[0x2a; 16], &[0x00], b"42 plants"].concat();
 /// let mut output = [0; OUTPUT_SIZE];
-/// assert_eq!(relay.packet(&packet, 3, 1_000, false, &mut output)?, Verdict::Deliver);
-/// assert_eq!(haskumye::payload(&packet), b"42 plants");
+/// assert_eq!(relay.packet(&packet, 3, 1_000, false, &mut output)?, Verdict::Deliver { payload: 19 });
+/// assert_eq!(packet[19..], *b"42 plants");
 ///
 /// // The same again is a duplicate, and a port that is off is refused.
 /// assert_eq!(relay.packet(&packet, 3, 1_001, false, &mut output)?, Verdict::Drop(Reason::Duplicate));
@@ -47,10 +47,8 @@ impl Relay {
     /// The relay of tables and a tally that [`tables`](Self::tables) and [`tally`](Self::tally) gave. Refusal 7 where no relay has such
     /// tables.
     pub fn from_tables(tables: &[u8], tally: Tally) -> Result<Self, Refusal> {
-        match unsafe { raw::haskumye_check(tables.as_ptr(), tables.len()) } {
-            1 => Ok(Self { tables: tables.into(), tally }),
-            _ => Err(Refusal::Tables),
-        }
+        done(unsafe { raw::haskumye_check_tables(tables.as_ptr(), tables.len()) })?;
+        Ok(Self { tables: tables.into(), tally })
     }
 
     /// Judges a packet that came in by a port at a clock, in seconds. `signature` is the host's word on its signature, which is read only for

@@ -5,6 +5,7 @@ use haskumye::*;
 #[test]
 fn sizes_are_the_librarys() {
     assert_eq!(unsafe { raw::haskumye_table_size() }, TABLE_SIZE);
+    assert_eq!(unsafe { raw::haskumye_version() }, raw::VERSION);
     assert_eq!(std::mem::size_of::<Parts>(), 35);
     assert_eq!(std::mem::size_of::<Tally>(), 24);
 }

@@ -1,6 +1,6 @@
--- What crosses to C and Rust loses nothing: parts and 35 bytes give each other back, the payload's place gives the payload, and a writing's
--- number gives its refusal and its length.
-use Prim.Native.Nat.{ℕ, _+_, _*_, _/_, _%_, _<_}
+-- What crosses to C and Rust loses nothing: parts and 35 bytes give each other back, the payload's place gives the payload, a writing's number gives its
+-- refusal and its length, and an answer's its fields.
+use Prim.Native.Nat.{ℕ, _+_, _*_, _/_, _%_, _≤_, _<_}
 use native.Mathlib.Nat.{mod-eq-of-lt}
 use native.Mathlib.Omega.{arith}
 use mathlib.Core.Bool.{Bool, true, false}
@@ -17,6 +17,7 @@ use Rattle.packet.specs.Read.{headerOf, typeTwoParts, payloadStart, payload}
 use Rattle.packet.specs.declared.Parts.{Parts}
 use Rattle.packet.specs.declared.Written.{Written}
 use Rattle.packet.proofs.ListLaws.{behind, found-part, found-byte}
+use Rattle.packet.proofs.ReadLaws.{start-most}
 use Rattle.packet.specs.Write.{Wide}
 use Rattle.haskumye.specs.Answers.{fieldsNumber}
 use Rattle.haskumye.specs.Packets.{partsBytes, partsIn, payloadPlace, writtenNumber}
@@ -59,6 +60,18 @@ payload-at-place p = go (ltb (length p) (payloadStart (headerOf p))) refl
         ap (λ (n : ℕ). drop n p) (then-true (length p) start t) ∙ drop-length p ∙ sym (drop-of-length-le p {i = start} (omega arith))
     go false t = ap (λ (n : ℕ). drop n p) (then-false (length p) start t)
 
+-- the place is 35 at most
+pub place-short : (p : List ℕ) → payloadPlace p ≤ 35
+unfolding payloadPlace
+place-short p = go (ltb (length p) (payloadStart (headerOf p))) refl
+  where
+    start : ℕ
+    start = payloadStart (headerOf p)
+
+    go : (v : Bool) → ltb (length p) start ≡ v → payloadPlace p ≤ 35
+    go true t = omega (arith, then-true (length p) start t, ltb-true (length p) start t, start-most (headerOf p))
+    go false t = omega (arith, then-false (length p) start t, start-most (headerOf p))
+
 -- a refusal's number fits the low 16 bits
 module _ (w : Written) (fits : w .refusal < 65536) where
   pub refusal-back : writtenNumber w % 65536 ≡ w .refusal
@@ -69,35 +82,52 @@ module _ (w : Written) (fits : w .refusal < 65536) where
   unfolding writtenNumber
   length-back = digits-div (w .length) fits
 
--- an answer's number: each field is found at its bits, and bits 48 to 63 are zero
-module _ (kind detail ports size : ℕ) (k : kind < 256) (d : detail < 256) (p : ports < 65536) (z : size < 65536) where
+-- an answer's number: each field is found at its bits
+module _ (kind detail ports size start : ℕ) (k : kind < 256) (d : detail < 256) (p : ports < 65536) (z : size < 65536) (s : start < 65536) where
   abbrev number : ℕ
-  number = fieldsNumber kind detail ports size
+  number = fieldsNumber kind detail ports size start
 
-  by-bytes : number ≡ ((size * 65536 + ports) * 256 + detail) * 256 + kind
+  -- the two upper fields
+  abbrev upper : ℕ
+  upper = start * 65536 + size
+
+  by-bytes : number ≡ ((upper * 65536 + ports) * 256 + detail) * 256 + kind
   unfolding fieldsNumber
-  by-bytes = ap (λ (n : ℕ). kind + detail * 256 + ports * 65536 + n * 4294967296) (mod-eq-of-lt z) ∙ omega arith
+  by-bytes = omega (arith, mod-eq-of-lt z, mod-eq-of-lt s)
 
-  by-words : number ≡ (size * 65536 + ports) * 65536 + (detail * 256 + kind)
+  by-words : number ≡ (upper * 65536 + ports) * 65536 + (detail * 256 + kind)
   by-words = by-bytes ∙ omega arith
 
   pub kind-back : number % 256 ≡ kind
-  kind-back = ap (λ (n : ℕ). n % 256) by-bytes ∙ digits-mod ((size * 65536 + ports) * 256 + detail) k
+  kind-back = ap (λ (n : ℕ). n % 256) by-bytes ∙ digits-mod ((upper * 65536 + ports) * 256 + detail) k
 
   pub detail-back : number / 256 % 256 ≡ detail
   detail-back =
       ap (λ (n : ℕ). n / 256 % 256) by-bytes
-      ∙ ap (λ (n : ℕ). n % 256) (digits-div ((size * 65536 + ports) * 256 + detail) k)
-      ∙ digits-mod (size * 65536 + ports) d
+      ∙ ap (λ (n : ℕ). n % 256) (digits-div ((upper * 65536 + ports) * 256 + detail) k)
+      ∙ digits-mod (upper * 65536 + ports) d
 
-  above : number / 65536 ≡ size * 65536 + ports
-  above = ap (λ (n : ℕ). n / 65536) by-words ∙ digits-div (size * 65536 + ports) (omega arith)
+  above : number / 65536 ≡ upper * 65536 + ports
+  above = ap (λ (n : ℕ). n / 65536) by-words ∙ digits-div (upper * 65536 + ports) (omega arith)
 
   pub ports-back : number / 65536 % 65536 ≡ ports
-  ports-back = ap (λ (n : ℕ). n % 65536) above ∙ digits-mod size p
+  ports-back = ap (λ (n : ℕ). n % 65536) above ∙ digits-mod upper p
 
-  pub size-back : number / 4294967296 ≡ size
-  size-back = ap (λ (n : ℕ). n / 4294967296) (by-bytes ∙ low-first) ∙ digits-div size (omega arith)
+  -- the three lower ones
+  abbrev lower : ℕ
+  lower = (ports * 256 + detail) * 256 + kind
+
+  upper-back : number / 4294967296 ≡ upper
+  upper-back = ap (λ (n : ℕ). n / 4294967296) halves ∙ digits-div upper (omega arith)
     where
-      low-first : ((size * 65536 + ports) * 256 + detail) * 256 + kind ≡ size * 4294967296 + ((ports * 256 + detail) * 256 + kind)
-      low-first = omega arith
+      halves : number ≡ upper * 4294967296 + lower
+      halves = by-bytes ∙ omega arith
+
+  pub size-back : number / 4294967296 % 65536 ≡ size
+  size-back = ap (λ (n : ℕ). n % 65536) upper-back ∙ digits-mod start z
+
+  pub start-back : number / 281474976710656 ≡ start
+  start-back = ap (λ (n : ℕ). n / 281474976710656) low-first ∙ digits-div start (omega arith)
+    where
+      low-first : number ≡ start * 281474976710656 + (size * 4294967296 + lower)
+      low-first = by-bytes ∙ omega arith

@@ -13,24 +13,27 @@ use Rattle.rules.specs.declared.Answer.the-variants.{Refused, Judged}
 use Rattle.rules.specs.declared.Tally.{Tally}
 use Rattle.relay.specs.Promise.{JudgementOn}
 
--- the kind in bits 0 to 7, a refusal's or a reason's number in 8 to 15, a port or a port set in 16 to 31, the length in 32 to 47
-unfoldable pub fieldsNumber : ℕ → ℕ → ℕ → ℕ → ℕ
-fieldsNumber kind detail ports length = kind + detail * 256 + ports * 65536 + length % 65536 * 4294967296
+-- the kind in bits 0 to 7, a refusal's or a reason's number in 8 to 15, a port or a port set in 16 to 31, the length in 32 to 47, where a
+-- delivered payload starts in 48 to 63
+unfoldable pub fieldsNumber : (kind detail ports length start : ℕ) → ℕ
+fieldsNumber kind detail ports length start =
+    kind + detail * 256 + ports * 65536 + length % 65536 * 4294967296 + start % 65536 * 281474976710656
 
-unfoldable pub verdictNumber : Verdict → ℕ
-verdictNumber (Drop reason) = fieldsNumber (verdictKind (Drop reason)) (reasonNumber reason) 0 0
-verdictNumber Deliver = fieldsNumber (verdictKind Deliver) 0 0 0
-verdictNumber (Forward port length) = fieldsNumber (verdictKind (Forward port length)) 0 port length
-verdictNumber (Spread ports length) = fieldsNumber (verdictKind (Spread ports length)) 0 ports length
-verdictNumber Kept = fieldsNumber (verdictKind Kept) 0 0 0
+-- of a packet whose payload starts there
+unfoldable pub verdictNumber : (start : ℕ) → Verdict → ℕ
+verdictNumber start (Drop reason) = fieldsNumber (verdictKind (Drop reason)) (reasonNumber reason) 0 0 0
+verdictNumber start Deliver = fieldsNumber (verdictKind Deliver) 0 0 0 start
+verdictNumber start (Forward port length) = fieldsNumber (verdictKind (Forward port length)) 0 port length 0
+verdictNumber start (Spread ports length) = fieldsNumber (verdictKind (Spread ports length)) 0 ports length 0
+verdictNumber start Kept = fieldsNumber (verdictKind Kept) 0 0 0 0
 
-unfoldable pub answerNumber : Answer → ℕ
-answerNumber (Refused number) = fieldsNumber 0 number 0 0
-answerNumber (Judged verdict) = verdictNumber verdict
+unfoldable pub answerNumber : (start : ℕ) → Answer → ℕ
+answerNumber start (Refused number) = fieldsNumber 0 number 0 0 0
+answerNumber start (Judged verdict) = verdictNumber start verdict
 
--- what a host's packet call returned and left is this, with the answer as its number
-abbrev pub Answers : JudgementOn → ℕ → Tally → List ℕ → List ℕ → Type 0
-Answers o number tally tables output = (number ≡ answerNumber (o .answer)) × (tally ≡ o .tally) × (tables ≡ o .tables) × (output ≡ o .output)
+-- what a host's packet call returned and left is this, with the answer as its number, the packet's payload starting there
+abbrev pub Answers : JudgementOn → (start number : ℕ) → Tally → List ℕ → List ℕ → Type 0
+Answers o start number tally tables output = (number ≡ answerNumber start (o .answer)) × (tally ≡ o .tally) × (tables ≡ o .tables) × (output ≡ o .output)
 
 -- ---- the number with its ports renamed: bits 16 to 31 hold a port's image, or a set's images; all other bits stay
 unfoldable pub renamePorts : List ℕ → (kind ports : ℕ) → ℕ
@@ -40,4 +43,5 @@ renamePorts m kind ports =
 
 unfoldable pub renameNumber : List ℕ → ℕ → ℕ
 renameNumber m number =
-    fieldsNumber (number % 256) (number / 256 % 256) (renamePorts m (number % 256) (number / 65536 % 65536)) (number / 4294967296)
+    fieldsNumber (number % 256) (number / 256 % 256) (renamePorts m (number % 256) (number / 65536 % 65536)) (number / 4294967296 % 65536)
+    (number / 281474976710656)

@@ -4,35 +4,36 @@ use rules::Verdict;
 ghost use mathlib.Core.Path.{_≡_};
 ghost use Rattle.haskumye.specs.Answers.{fieldsNumber, verdictNumber, answerNumber};
 
-// Four fields in one number.
-pub fn fields_number(kind: u8, detail: u8, ports: u16, length: usize) -> u64
-    ensures { λ r. ⌜ r ≡ fieldsNumber kind detail ports length ⌝ }
+// Five fields in one number.
+pub fn fields_number(kind: u8, detail: u8, ports: u16, length: usize, start: usize) -> u64
+    ensures { λ r. ⌜ r ≡ fieldsNumber kind detail ports length start ⌝ }
 {
     (kind as u64)
         + (detail as u64) * 256
         + (ports as u64) * 65536
         + ((length % 65536) as u64) * 4294967296
+        + ((start % 65536) as u64) * 281474976710656
 }
 
-// The number of a verdict.
-pub fn verdict_number(verdict: Verdict) -> u64
-    ensures { λ r. ⌜ r ≡ verdictNumber verdict ⌝ }
+// The number of a verdict on a packet whose payload starts there.
+pub fn verdict_number(verdict: Verdict, start: usize) -> u64
+    ensures { λ r. ⌜ r ≡ verdictNumber start verdict ⌝ }
 {
     match verdict {
-        Verdict::Drop(reason) => fields_number(1, relay::reason_number(reason), 0, 0),
-        Verdict::Deliver => fields_number(2, 0, 0, 0),
-        Verdict::Forward { port, length } => fields_number(3, 0, port as u16, length),
-        Verdict::Spread { ports, length } => fields_number(4, 0, ports, length),
-        Verdict::Kept => fields_number(5, 0, 0, 0),
+        Verdict::Drop(reason) => fields_number(1, relay::reason_number(reason), 0, 0, 0),
+        Verdict::Deliver => fields_number(2, 0, 0, 0, start),
+        Verdict::Forward { port, length } => fields_number(3, 0, port as u16, length, 0),
+        Verdict::Spread { ports, length } => fields_number(4, 0, ports, length, 0),
+        Verdict::Kept => fields_number(5, 0, 0, 0, 0),
     }
 }
 
-// The number of an answer.
-pub fn answer_number(answer: Answer) -> u64
-    ensures { λ r. ⌜ r ≡ answerNumber answer ⌝ }
+// The number of an answer to a packet whose payload starts there.
+pub fn answer_number(answer: Answer, start: usize) -> u64
+    ensures { λ r. ⌜ r ≡ answerNumber start answer ⌝ }
 {
     match answer {
-        Answer::Refused(number) => fields_number(0, number, 0, 0),
-        Answer::Judged(verdict) => verdict_number(verdict),
+        Answer::Refused(number) => fields_number(0, number, 0, 0, 0),
+        Answer::Judged(verdict) => verdict_number(verdict, start),
     }
 }

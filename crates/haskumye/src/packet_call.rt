@@ -1,9 +1,11 @@
 // The packet call of a host.
 use super::answer_numbers::answer_number;
+use super::packets::haskumye_payload_start;
 use rules::Tally;
 ghost use lib.Dec.{eqb};
 ghost use Rattle.relay.specs.Promise.{packetOn};
 ghost use Rattle.haskumye.specs.Answers.{Answers};
+ghost use Rattle.haskumye.specs.Packets.{payloadPlace};
 
 // What the call by value returns.
 pub struct Numbered {
@@ -23,13 +25,13 @@ fn judge_numbered(
 ) -> Numbered
     ensures { λ r. ⌜ Answers
         (packetOn (now (packet .entry)) port clock (eqb signed 1) (now (tables .entry)) tally (now (output .entry)))
-        (r .number) (r .tally) (now (tables .exit)) (now (output .exit)) ⌝ }
+        (payloadPlace (now (packet .entry))) (r .number) (r .tally) (now (tables .exit)) (now (output .exit)) ⌝ }
 {
     let judged = relay::judge(packet, port, clock, signed == 1, tables, output, tally);
     let answer = judged.answer;
     let after = judged.tally;
     Numbered {
-        number: answer_number(answer),
+        number: answer_number(answer, haskumye_payload_start(packet)),
         tally: after,
     }
 }
@@ -38,7 +40,7 @@ fn judge_numbered(
 // where not. Tables, output and tally are changed where they lie.
 // One number: bits 0 to 7 are 0 refused, 1 drop, 2 deliver, 3 forward, 4 spread, 5 kept; bits 8 to 15 the refusal's or
 // the reason's number; bits 16 to 31 the port of a forward, or the ports of a spread, bit i for port i; bits 32 to 47
-// the length that leaves.
+// the length that leaves; bits 48 to 63 where a delivered payload starts.
 #[no_mangle]
 pub extern "C" fn haskumye_packet(
     packet: &[u8],
@@ -52,7 +54,7 @@ pub extern "C" fn haskumye_packet(
     ensures { λ r. ⌜ Answers
         (packetOn (now (packet .entry)) port clock (eqb signed 1)
         (now (tables .entry)) (now (tally .entry)) (now (output .entry)))
-        r (now (tally .exit)) (now (tables .exit)) (now (output .exit)) ⌝ }
+        (payloadPlace (now (packet .entry))) r (now (tally .exit)) (now (tables .exit)) (now (output .exit)) ⌝ }
 {
     let j = judge_numbered(packet, port, clock, signed, tables, output, *tally);
     *tally = j.tally;

@@ -38,13 +38,13 @@ pub extern "C" fn haskumye_payload_start(packet: &[u8]) -> usize
 // Writes a packet at the start of the output, which a refusal leaves as it was.
 // One number: in its low 16 bits the refusal or 0, in those above the length.
 #[no_mangle]
-pub extern "C" fn haskumye_write(parts: &[u8; 35], payload: &[u8], output: &mut [u8]) -> u64
+pub extern "C" fn haskumye_write(parts: &[u8; 35], payload: &[u8], output: &mut [u8]) -> u32
     ensures { λ r. ⌜ Writes (writing (partsIn (now (parts .entry))) (now (payload .entry)) (now (output .entry)))
         r (now (output .exit)) ⌝ }
 {
     let q = packet::type_two_parts(parts);
     let written = packet::write(q, payload, output);
-    (written.length as u64) * 65536 + octets::wide(written.refusal)
+    (written.length as u32) * 65536 + (written.refusal as u32)
 }
 
 // The packet hash: the refusal, 0 for none. A refusal leaves the buffer as it was.

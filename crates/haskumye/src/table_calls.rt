@@ -1,14 +1,22 @@
-// The calls on the tables that need no packet. Each but the first two returns a refusal's number, or 0; a refusal
-// changes no byte.
+// The calls on the tables that need no packet, and what a host compares with its header. Each but the first two
+// returns a refusal's number, or 0; a refusal changes no byte.
+use numbers::refusals;
 use tables::places::TABLE_SIZE;
 ghost use mathlib.Core.Path.{_≡_};
 ghost use lib.Dec.{eqb};
 ghost use Rattle.tables.specs.Places.{tableSize};
-ghost use Rattle.tables.specs.Records.{markOf};
-ghost use Rattle.tables.specs.Layout.{wellFormed};
 ghost use Rattle.tables.specs.Called.{Returns};
 ghost use Rattle.settings.specs.Calls.{freshOn, setPortOn, addLocalOn, removeLocalOn};
 ghost use Rattle.renumbering.specs.Calls.{renumberOn};
+ghost use Rattle.haskumye.specs.Tables.{interfaceVersion, tablesRefusal};
+
+// The number of the interface that include/haskumye.h declares.
+#[no_mangle]
+pub extern "C" fn haskumye_version() -> u32
+    ensures { λ r. ⌜ r ≡ interfaceVersion ⌝ }
+{
+    2
+}
 
 // How many bytes tables have.
 #[no_mangle]
@@ -18,15 +26,15 @@ pub extern "C" fn haskumye_table_size() -> usize
     TABLE_SIZE
 }
 
-// 1 where refusal 7 is not given, else 0.
+// Refusal 7, or 0 where these bytes are some relay's tables.
 #[no_mangle]
-pub extern "C" fn haskumye_check(tables: &[u8]) -> u8
-    ensures { λ r. ⌜ r ≡ markOf (wellFormed (now (tables .entry))) ⌝ }
+pub extern "C" fn haskumye_check_tables(tables: &[u8]) -> u8
+    ensures { λ r. ⌜ r ≡ tablesRefusal (now (tables .entry)) ⌝ }
 {
     if tables::check(tables) {
-        return 1;
+        return refusals::NONE;
     }
-    0
+    refusals::TABLES
 }
 
 // The tables of a relay with its own address, all ports off and boundary, clock 0, tables empty.

@@ -27,7 +27,7 @@ fn left_by(call: &Call, run: &Run<impl Engine>) -> u64 {
 
 fn number(call: &Call, outcome: &Outcome) -> u64 {
     match (call, outcome) {
-        (Call::Packet(_), _) => linked::encoded(outcome),
+        (Call::Packet(call), _) => linked::encoded(outcome, &call.packet),
         (_, Outcome::Refused(number)) => u64::from(*number),
         _ => 0,
     }

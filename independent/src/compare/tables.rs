@@ -143,7 +143,7 @@ impl<R: Rules> Comparison<'_, R> {
 
     /// Whether the changed tables are allowed, and the tuned check of them beside the plain one.
     fn check(&mut self, what: &str) -> bool {
-        let called = |allowed: bool| Called::new(u8::from(allowed), &[]);
+        let called = |allowed: bool| Called::new(if allowed { 0u8 } else { 7 }, &[]);
         let tables = &self.changed.tables;
         let (got, tuned) = (Called::new(core::check(tables), &[]), called(Tuned.tables_allowed(tables)));
         let (allowed, as_written) = (self.changed.engine.rules.tables_allowed(tables), called(AsWritten.tables_allowed(tables)));

@@ -43,6 +43,10 @@ fn preprocessed(text: &str) -> (String, BTreeMap<String, u64>) {
 
 impl Header {
     fn declaration(&mut self, tokens: &mut Tokens) {
+        if tokens.take("static inline") {
+            tokens.pass_body();
+            return;
+        }
         if tokens.take("typedef struct") {
             let fields = self.fields(tokens);
             self.interface.structs.insert(tokens.next(), fields);

@@ -9,12 +9,13 @@ use haskumye::{Mode, Reason, Refusal};
 use model::{constants_differ, functions_differ, structs_differ, Interface};
 use std::path::{Path, PathBuf};
 
-/// The texts of the three sources.
+/// The texts of the three sources, and of the crate with document 01's numbers.
 #[derive(Clone)]
 struct Texts {
     header: String,
     rust: String,
     rattle: String,
+    numbers: String,
 }
 
 fn root() -> PathBuf {
@@ -39,6 +40,7 @@ impl Texts {
             header: text("include/haskumye.h"),
             rust: text("bindings/rust/src/lib.rs") + &text("bindings/rust/src/raw.rs"),
             rattle: text("crates/rules/src/lib.rt") + &rattle_texts("crates/haskumye/src"),
+            numbers: rattle_texts("crates/numbers/src"),
         }
     }
 
@@ -53,7 +55,22 @@ impl Texts {
         lines.extend(constants_differ(&header, &rust));
         lines.extend(structs_differ(&named_as_in_rust(&header), &rust, &["Parts", "Tally"]));
         lines.extend(structs_differ(&rust, &rattle, &["Tally"]));
+        lines.extend(self.limits_differ(&header));
         lines.join("\n")
+    }
+
+    /// One line for each limit and refusal of the numbers' crate that is another in the header.
+    fn limits_differ(&self, header: &Interface) -> Vec<String> {
+        let plain = self.numbers.lines().filter_map(|line| line.strip_prefix("pub const ")?.strip_suffix(';'));
+        let constants = plain.filter_map(|line| Some((line.split_once(':')?.0, text::number(line.split_once("= ")?.1)?)));
+        let named = |name: &str| {
+            let names = [format!("HASKUMYE_{name}"), format!("HASKUMYE_REFUSAL_{name}")];
+            names.into_iter().find_map(|name| Some((name.clone(), *header.constants.get(&name)?)))
+        };
+        let both = constants.filter_map(|(name, here)| named(name).map(|(name, there)| (name, here, there)));
+        both.filter(|(_, here, there)| here != there)
+            .map(|(name, here, there)| format!("{name} is {there} in the header, {here} in crates/numbers"))
+            .collect()
     }
 
     /// The same with one place changed, which must be there once.
@@ -90,6 +107,7 @@ fn named_as_in_rust(header: &Interface) -> Interface {
 const HEADER: fn(&mut Texts) -> &mut String = |texts| &mut texts.header;
 const RUST: fn(&mut Texts) -> &mut String = |texts| &mut texts.rust;
 const RATTLE: fn(&mut Texts) -> &mut String = |texts| &mut texts.rattle;
+const NUMBERS: fn(&mut Texts) -> &mut String = |texts| &mut texts.numbers;
 
 /// A text to damage, what becomes of it, and a line that must be among the differences.
 type Damage = (fn(&mut Texts) -> &mut String, &'static str, &'static str, &'static str);
@@ -111,18 +129,18 @@ fn the_three_agree() {
 fn something_is_compared() {
     let texts = Texts::read();
     let header = header::read("the header", &texts.header);
-    assert_eq!((header.functions.len(), header.structs.len()), (18, 7));
+    assert_eq!((header.functions.len(), header.structs.len()), (19, 7));
     assert_eq!(header.functions["haskumye_packet"].arguments.len(), 10);
-    assert_eq!(header.constants.len(), 67);
+    assert_eq!(header.constants.len(), 72);
 }
 
 #[test]
 fn a_missing_function_is_seen() {
-    let check = "uint8_t haskumye_check(const uint8_t *tables, size_t length);";
+    let check = "HASKUMYE_CHECKED uint8_t haskumye_check_tables(const uint8_t *tables, size_t length);";
     assert_seen(&[
-        (HEADER, check, "", "haskumye_check is missing in the header"),
-        (RUST, "pub fn haskumye_check(tables: *const u8, length: usize) -> u8;", "", "haskumye_check is missing in Rust"),
-        (RATTLE, "#[no_mangle]\npub extern \"C\" fn haskumye_check", "pub fn haskumye_check", "haskumye_check is missing in the crate"),
+        (HEADER, check, "", "haskumye_check_tables is missing in the header"),
+        (RUST, "pub fn haskumye_check_tables(tables: *const u8, length: usize) -> u8;", "", "haskumye_check_tables is missing in Rust"),
+        (RATTLE, "#[no_mangle]\npub extern \"C\" fn haskumye_check_tables", "pub fn haskumye_check_tables", "haskumye_check_tables is missing in the crate"),
         (HEADER, check, "void haskumye_new(void);", "haskumye_new is missing in the crate"),
     ]);
 }
@@ -163,9 +181,9 @@ fn widths_are_seen() {
         (HEADER, "uint8_t on,", "uint16_t on,", "haskumye_set_port: argument 4 is `on: u16` in the header, `on: u8` in Rust"),
         (
             HEADER,
-            "uint8_t haskumye_check",
-            "uint32_t haskumye_check",
-            "haskumye_check: what it returns is `u32` in the header, `u8` in the crate",
+            "uint8_t haskumye_check_tables",
+            "uint32_t haskumye_check_tables",
+            "haskumye_check_tables: what it returns is `u32` in the header, `u8` in the crate",
         ),
         (
             RUST,
@@ -199,9 +217,9 @@ fn const_and_mut_are_told_apart() {
         ),
         (
             RATTLE,
-            "haskumye_check(tables: &[u8])",
-            "haskumye_check(tables: &mut [u8])",
-            "haskumye_check: argument 1 is `tables: const bytes` in the header, `tables: mut bytes` in the crate",
+            "haskumye_check_tables(tables: &[u8])",
+            "haskumye_check_tables(tables: &mut [u8])",
+            "haskumye_check_tables: argument 1 is `tables: const bytes` in the header, `tables: mut bytes` in the crate",
         ),
     ]);
 }
@@ -276,5 +294,22 @@ fn constants_are_compared() {
         ),
         (RUST, "pub const KEPT: u8 = 5;", "pub const KEPT: u8 = 6;", "HASKUMYE_KEPT is 5 in the header, 6 in Rust"),
         (RUST, "pub const LOCAL_COUNT: usize = 16;", "", "HASKUMYE_LOCAL_COUNT is missing in Rust"),
+    ]);
+}
+
+#[test]
+fn limits_are_those_of_the_crate_of_numbers() {
+    let limits = [("PORT", 16), ("LOCAL", 16), ("PATH", 64), ("LINK", 64), ("RETURN", 512), ("HASH", 1024)];
+    let texts = Texts::read();
+    for (name, number) in limits {
+        let from = format!("pub const {name}_COUNT: usize = {number};");
+        let to = format!("pub const {name}_COUNT: usize = {};", number + 1);
+        let line = format!("HASKUMYE_{name}_COUNT is {number} in the header, {} in crates/numbers", number + 1);
+        assert_eq!(texts.damaged(NUMBERS, &from, &to).differences(), line);
+    }
+    assert_seen(&[
+        (NUMBERS, "1_099_511_627_776", "1_099_511_627_777", "HASKUMYE_CLOCK_LIMIT is 1099511627776 in the header, 1099511627777 in crates/numbers"),
+        (NUMBERS, "LONGEST_PACKET: usize = 500", "LONGEST_PACKET: usize = 501", "HASKUMYE_LONGEST_PACKET is 500 in the header, 501 in crates/numbers"),
+        (NUMBERS, "MAP: u8 = 8", "MAP: u8 = 9", "HASKUMYE_REFUSAL_MAP is 8 in the header, 9 in crates/numbers"),
     ]);
 }

@@ -61,6 +61,19 @@ impl Tokens {
         number(&token).unwrap_or_else(|| panic!("expected a number instead of {token:?}"))
     }
 
+    /// Passes all up to a block in braces, and the block.
+    pub fn pass_body(&mut self) {
+        while self.next() != "{" {}
+        let mut open = 1;
+        while open > 0 {
+            match self.next().as_str() {
+                "{" => open += 1,
+                "}" => open -= 1,
+                _ => (),
+            }
+        }
+    }
+
     /// Passes attributes: #[..].
     pub fn pass_attributes(&mut self) {
         while self.take("# [") {

@@ -51,6 +51,7 @@ use contract.Lifetimes.{Lfts, Shares}
 use lib.Dec.{eqb}
 use Rattle.relay.specs.Promise.{JudgementOn, packetOn}
 use Rattle.haskumye.specs.Answers.{answerNumber}
+use Rattle.haskumye.specs.Packets.{payloadPlace}
 use Rattle.haskumye.specs.declared.packet_call.Numbered.{Numbered}
 use Rattle.rules.specs.declared.Tally.{Tally}
 use Rattle.haskumye.proofs.packet_call.Numbered as J
@@ -177,7 +178,8 @@ module _ {M : Type 1} (𝓤 : URA M) (H : Heap 𝓤) (A : Atoms 𝓤) (W : Given
   promise = packetOn (p .now) port clock (eqb signed 1) ys₁ h ys₂
 
   abbrev Said : Numbered → List ℕ → List ℕ → Type 0
-  Said r zs₁ zs₂ = (r .number ≡ answerNumber (promise .answer)) × (r .tally ≡ promise .tally) × (zs₁ ≡ promise .tables) × (zs₂ ≡ promise .output)
+  Said r zs₁ zs₂ =
+      (r .number ≡ answerNumber (payloadPlace (p .now)) (promise .answer)) × (r .tally ≡ promise .tally) × (zs₁ ≡ promise .tables) × (zs₂ ≡ promise .output)
 
   goes : Is T.the-row h (tvals h)
       → ent 𝓤 (⋆ 𝓤 H A ((‵ Own₀ ⊛ ‵ (flft κ₀ q₀) ⊛ ‵ (flft κ₁ q₁) ⊛ ‵ (flft κ₂ q₂) ⊛ ‵ Own₁ ⊛ ‵ Own₂) ∷ []))

@@ -1,5 +1,4 @@
 use mathlib.Core.Path.{ap, _∙_}
-use Prim.Native.Nat.{ℕ, _+_, _*_}
 use Rattle.packet.specs.Write.{Writing, writing}
 use Rattle.packet.specs.declared.Parts.{Parts}
 use Rattle.haskumye.specs.Packets.{writtenNumber}
@@ -22,14 +21,17 @@ type-two-parts-requires c κs = search needs
 write-requires : tie.Need-write-requires
 write-requires c κs = search needs
 
-mul-result : tie.Need-mul-result
-mul-result c = record { fits = omega (arith, most (c .before .before)) }
+cast-result : tie.Need-cast-result
+cast-result c = record { fits = omega (arith, most (c .before .before .before)) }
 
-wide-requires : tie.Need-wide-requires
-wide-requires c κs = search needs
+mul-result : tie.Need-mul-result
+mul-result c = record { fits = omega (arith, most (c .before .before .before)) }
+
+cast-result-2 : tie.Need-cast-result-2
+cast-result-2 c = search needs
 
 add-result : tie.Need-add-result
-add-result c = record { fits = omega (arith, most (c .before .before .before), c .wide .ensures) }
+add-result c = record { fits = omega (arith, most (c .before .before .before .before)) }
 
 same-length : tie.Need-same-length
 same-length c = search needs
@@ -37,13 +39,11 @@ same-length c = search needs
 returns : tie.Need-returns
 unfolding writtenNumber
 returns c =
-    let c3 = c .before .before .before in
-    let a = c3 .before .before .before .before .before .before .args in
-    let w = c3 .write in
+    let w = c .before .before .before .before .write in
+    let a = c .before .before .before .before .before .before .before .before .before .before .args in
     let whole : Parts → Writing = λ (q : Parts). writing q (a .payload .now) (a .output .now) in
-    let same = ap whole (c3 .before .before .type-two-parts .ensures) in
-    let number = ap (λ (n : ℕ). w .result .length * 65536 + n) (c .wide .ensures) in
-    (number ∙ ap writtenNumber (w .ensures .0 ∙ ap (λ (x : Writing). x .answer) same), w .ensures .1 ∙ ap (λ (x : Writing). x .output) same)
+    let same = ap whole (c .before .before .before .before .before .before .type-two-parts .ensures) in
+    (ap writtenNumber (w .ensures .0 ∙ ap (λ (x : Writing). x .answer) same), w .ensures .1 ∙ ap (λ (x : Writing). x .output) same)
 
 pub haskumye-write-spec : {M : Type 1} → statement M
 haskumye-write-spec =
@@ -51,8 +51,9 @@ haskumye-write-spec =
     (tie.spec
     type-two-parts-requires
     write-requires
+    cast-result
     mul-result
-    wide-requires
+    cast-result-2
     add-result
     same-length
     returns)

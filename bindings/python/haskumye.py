@@ -1,0 +1,458 @@
+"""Haskumye, the proved deciding core of a Reticulum relay, for hosts in Python.
+
+A Relay takes a packet, the port it came in by, the clock and the host's word on its signature, and says whether to drop, deliver, forward or spread it.
+Signatures, access codes, framing and timers are the host's; docs/HOST.md tells them step by step, and include/haskumye.h has every call.
+
+    import haskumye
+    relay = haskumye.Relay(own=bytes(16))
+    relay.set_port(3, True, haskumye.Mode.BOUNDARY)
+    answer = relay.packet(packet, port=3, clock=1000)
+    if isinstance(answer, haskumye.Forward):
+        send(answer.port, answer.packet)
+
+Packets, addresses and payloads are bytes-like. A refused call raises Refused and has changed nothing. A call holds Python's lock, so those on one relay
+are made one at a time. The shared library, libhaskumye.so.2, is found in the repository's target/, below the prefix that this file is installed
+in, or by the system; HASKUMYE_LIBRARY names another file.
+"""
+
+import ctypes
+import enum
+import operator
+import os
+import pathlib
+from ctypes import c_char_p, c_size_t, c_uint8, c_uint32, c_uint64, c_void_p
+from typing import NamedTuple
+
+VERSION = 2  # of the interface, as the header has it
+
+# Sizes in bytes, and limits.
+TABLE_SIZE = 71116
+OUTPUT_SIZE = 500
+SHORTEST_PACKET = 19
+LONGEST_PACKET = 500
+LONGEST_MESSAGE = 65535
+TEXT_SIZE = 160
+PORT_COUNT = 16
+LOCAL_COUNT = 16
+PATH_COUNT = 64
+LINK_COUNT = 64
+RETURN_COUNT = 512
+HASH_COUNT = 1024
+CLOCK_LIMIT = 1 << 40
+LAST_CLOCK_PLACE = 16
+OFF = 0
+ON = 1
+NO_PORT = 0xFFFF
+
+# The header byte, and the places in an announce's payload.
+HEADER_ACCESS_CODE = 0x80
+HEADER_TYPE_2 = 0x40
+HEADER_CONTEXT_FLAG = 0x20
+HEADER_TRANSPORT = 0x10
+DESTINATION_KIND = 0x0C
+DESTINATION_SINGLE = 0x00
+DESTINATION_GROUP = 0x04
+DESTINATION_PLAIN = 0x08
+DESTINATION_LINK = 0x0C
+PACKET_KIND = 0x03
+PACKET_DATA = 0x00
+PACKET_ANNOUNCE = 0x01
+PACKET_LINK_REQUEST = 0x02
+PACKET_PROOF = 0x03
+CONTEXT_LINK_PROOF = 0xFF
+ANNOUNCE_KEYS = 0
+ANNOUNCE_NAME_HASH = 64
+ANNOUNCE_BLOB = 74
+ANNOUNCE_EMISSION = 79
+
+
+class Words(enum.IntEnum):
+    """A number of the header, with its words: those of bindings/words, which the tests compare."""
+
+    def __new__(cls, number, words):
+        member = int.__new__(cls, number)
+        member._value_, member.words = number, words
+        return member
+
+
+class Refusal(Words):
+    """Why a call was refused."""
+
+    TOO_SHORT = 1, "length under 19, or type 2 under 35"
+    TOO_LONG = 2, "length over 500 (hashing: over 65,535)"
+    ACCESS_CODE = 3, "access code bit set"
+    ARRIVAL_PORT = 4, "arrival port over 15, or off"
+    CLOCK = 5, "clock 2^40 or more, or below the last accepted clock"
+    OUTPUT = 6, "output buffer under 500 bytes"
+    TABLES = 7, "tables of wrong size, or with bytes that no relay has"
+    MAP = 8, "renumbering map not one-to-one on 0..15"
+    SETTING = 9, "setting a port over 15 or an unknown mode"
+    LOCAL_FULL = 10, "adding a 17th local address"
+    LOCAL_ADDRESS = 11, "adding a local address already there, or removing one not there"
+
+
+class Reason(Words):
+    """Why a packet was dropped: document 01's first test that held."""
+
+    NOT_OURS = 1, "not ours"
+    DUPLICATE = 2, "duplicate"
+    BAD_FORM = 3, "bad form"
+    OWN_ANNOUNCE = 4, "own announce"
+    TOO_MANY_HOPS = 5, "hops 128 or more"
+    NO_WAY_ON = 6, "no way on"
+    ALREADY_KNOWN = 7, "already known"
+    WRONG_SIDE = 8, "wrong side"
+    NOT_SIGNED = 9, "signature word no"
+    REPLAY = 10, "replay"
+    NOT_BETTER = 11, "not better"
+    PORT_OFF = 12, "port off"
+    NO_ROOM = 13, "no room"
+    GROWN_TOO_LONG = 14, "grown too long"
+
+
+class Kind(Words):
+    """What a packet call answers."""
+
+    REFUSED = 0, "refused"
+    DROP = 1, "drop"
+    DELIVER = 2, "deliver"
+    FORWARD = 3, "forward"
+    SPREAD = 4, "spread"
+    KEPT = 5, "kept"
+
+
+class Mode(Words):
+    """A port's mode, which decides how long a path through it lives."""
+
+    BOUNDARY = 0, "boundary"
+    ACCESS_POINT = 1, "access point"
+    ROAMING = 2, "roaming"
+
+
+class Refused(Exception):
+    """A refused call. It changed nothing; `refusal` says why."""
+
+    def __init__(self, number):
+        self.refusal = Refusal(number)
+        super().__init__(f"refused {number}: {self.refusal.words}")
+
+
+class Drop(NamedTuple):
+    """The packet goes no further."""
+
+    reason: Reason
+
+    def __str__(self):
+        return f"drop {self.reason.value}: {self.reason.words}"
+
+
+class Deliver(NamedTuple):
+    """It is for a local address: the payload, to be handed up."""
+
+    payload: bytes
+
+    def __str__(self):
+        return "deliver"
+
+
+class Forward(NamedTuple):
+    """A packet leaves by one port."""
+
+    port: int
+    packet: bytes
+
+    def __str__(self):
+        return f"forward {self.port}"
+
+
+class Spread(NamedTuple):
+    """A packet leaves by each of some ports, rising."""
+
+    ports: tuple
+    packet: bytes
+
+    def __str__(self):
+        return " ".join(["spread", *map(str, self.ports)])
+
+
+class Kept(NamedTuple):
+    """An announce was taken in, and nothing leaves."""
+
+    def __str__(self):
+        return "kept"
+
+
+class Parts(NamedTuple):
+    """The parts of a packet. In type 1 the relay address reads as zeros, and writing ignores it."""
+
+    header: int = 0
+    hops: int = 0
+    relay: bytes = bytes(16)
+    destination: bytes = bytes(16)
+    context: int = 0
+
+
+class Tally(NamedTuple):
+    """The packet calls since fresh, each count modulo 2^32: all that were not refused, and those of each answer."""
+
+    total: int = 0
+    dropped: int = 0
+    delivered: int = 0
+    forwarded: int = 0
+    spread: int = 0
+    kept: int = 0
+
+
+_BYTES = [c_char_p, c_size_t]  # bytes that a call reads
+_BUFFER = [c_void_p, c_size_t]  # a buffer that it may write
+_GIVEN, _TAKEN = c_char_p, c_void_p  # a struct that it reads, and one that it may write
+
+# As the header declares them: what a function returns, then its arguments.
+FUNCTIONS = {
+    "haskumye_version": (c_uint32, []),
+    "haskumye_table_size": (c_size_t, []),
+    "haskumye_fresh": (c_uint8, [*_BUFFER, _GIVEN]),
+    "haskumye_check_tables": (c_uint8, [*_BYTES]),
+    "haskumye_set_port": (c_uint8, [*_BUFFER, c_uint64, c_uint8, c_uint64]),
+    "haskumye_add_local": (c_uint8, [*_BUFFER, _GIVEN]),
+    "haskumye_remove_local": (c_uint8, [*_BUFFER, _GIVEN]),
+    "haskumye_renumber": (c_uint8, [*_BUFFER, _GIVEN]),
+    "haskumye_packet": (c_uint64, [*_BYTES, c_uint64, c_uint64, c_uint8, *_BUFFER, *_BUFFER, _TAKEN]),
+    "haskumye_read": (c_uint8, [*_BYTES, _TAKEN]),
+    "haskumye_payload_start": (c_size_t, [*_BYTES]),
+    "haskumye_write": (c_uint32, [_GIVEN, *_BYTES, *_BUFFER]),
+    "haskumye_packet_hash": (c_uint8, [*_BYTES, _TAKEN]),
+    "haskumye_link_id": (c_uint8, [*_BYTES, _TAKEN]),
+    "haskumye_announced_destination": (None, [*_BYTES, _TAKEN]),
+    "haskumye_least_announce": (c_size_t, [c_uint8]),
+    "haskumye_emission": (c_uint64, [_GIVEN]),
+    "haskumye_line": (c_size_t, [*_BYTES, _TAKEN]),
+    "haskumye_sha256": (c_uint8, [*_BYTES, _TAKEN]),
+}
+
+
+def _places():
+    """Where the shared library may be: the first that is there is taken, and the system looks for a name without a folder."""
+    name, here = f"libhaskumye.so.{VERSION}", pathlib.Path(__file__).resolve()
+    if "HASKUMYE_LIBRARY" in os.environ:
+        return [os.environ["HASKUMYE_LIBRARY"]]
+    above = [here.parents[2] / "target", here.parents[3] / "lib"] if len(here.parents) > 3 else []
+    return [str(folder / name) for folder in above if (folder / name).exists()] + [name]
+
+
+def _load():
+    path = _places()[0]
+    try:
+        library = ctypes.PyDLL(path)
+    except OSError as error:
+        raise ImportError(f"{path} cannot be loaded ({error}): run make, or let HASKUMYE_LIBRARY name the shared library") from None
+    try:
+        for name, (result, arguments) in FUNCTIONS.items():
+            function = getattr(library, name)
+            function.restype, function.argtypes = result, arguments
+    except AttributeError as error:
+        raise ImportError(f"{path} is of another version than {__file__}: {error}") from None
+    found = (library.haskumye_version(), library.haskumye_table_size())
+    if found != (VERSION, TABLE_SIZE):
+        raise ImportError(f"{path} is of interface {found[0]}, {__file__} of {VERSION}")
+    return library
+
+
+_library = _load()
+
+
+def _bytes(data):
+    """Bytes-like data as bytes."""
+    return data if isinstance(data, bytes) else memoryview(data).tobytes()
+
+
+def _exactly(data, length, what):
+    data = _bytes(data)
+    if len(data) != length:
+        raise ValueError(f"{what} has {length} bytes, not {len(data)}")
+    return data
+
+
+def _number(value, bits=64):
+    """A number that crosses: ctypes would cut off what is above the width."""
+    value = operator.index(value)
+    if not 0 <= value < 1 << bits:
+        raise OverflowError(f"{value} is no number of {bits} bits")
+    return value
+
+
+def _done(number):
+    if number:
+        raise Refused(number)
+
+
+def _written(number, output):
+    """What a writing call wrote."""
+    _done(number & 0xFFFF)
+    return output.raw[: number >> 16]
+
+
+def _asked(function, data, size):
+    """What a call on bytes writes to a struct of so many bytes."""
+    data, struct = _bytes(data), ctypes.create_string_buffer(size)
+    _done(function(data, len(data), struct))
+    return struct.raw
+
+
+def read(packet):
+    """A packet's parts. Refusals 1, 2 and 3."""
+    parts = _asked(_library.haskumye_read, packet, 35)
+    return Parts(parts[0], parts[1], parts[2:18], parts[18:34], parts[34])
+
+
+def write(parts, payload=b""):
+    """The packet of these parts. Refusals 2 and 3."""
+    header, hops, relay, destination, context = parts
+    relay, destination = _exactly(relay, 16, "an address"), _exactly(destination, 16, "an address")
+    given = bytes([_number(header, 8), _number(hops, 8), *relay, *destination, _number(context, 8)])
+    payload, output = _bytes(payload), ctypes.create_string_buffer(OUTPUT_SIZE)
+    return _written(_library.haskumye_write(given, payload, len(payload), output, OUTPUT_SIZE), output)
+
+
+def payload_start(packet):
+    """Where the payload starts, at most the packet's length."""
+    packet = _bytes(packet)
+    return _library.haskumye_payload_start(packet, len(packet))
+
+
+def payload(packet):
+    """The payload; none where the packet is too short to have one."""
+    return _bytes(packet)[payload_start(packet) :]
+
+
+def packet_hash(packet):
+    """The packet hash. A receipt for a packet is addressed to its first 16 bytes. Refusals 1, 2 and 3."""
+    return _asked(_library.haskumye_packet_hash, packet, 32)
+
+
+def link_id(packet):
+    """The id of the link that a link request asks for. Refusals 1, 2 and 3."""
+    return _asked(_library.haskumye_link_id, packet, 16)
+
+
+def sha256(message):
+    """SHA-256. Refusal 2 for a message over 65,535 bytes."""
+    return _asked(_library.haskumye_sha256, message, 32)
+
+
+def announced_destination(payload):
+    """The destination that an announce's keys and name hash give: equal to the packet's own in an honest one."""
+    return _asked(_library.haskumye_announced_destination, payload, 16)
+
+
+def least_announce(header):
+    """The least payload of an announce with this header: 148, or 180 with the context flag."""
+    return _library.haskumye_least_announce(_number(header, 8))
+
+
+def emission(blob):
+    """The emission time, in seconds, of an announce's blob, its payload bytes 74 to 83."""
+    return _library.haskumye_emission(_exactly(blob, 10, "a blob"))
+
+
+def line(packet):
+    """A packet as one line of words, or `refused` and the number."""
+    packet, text = _bytes(packet), ctypes.create_string_buffer(TEXT_SIZE)
+    length = _library.haskumye_line(packet, len(packet), text)
+    return text.raw[:length].decode("ascii").rstrip("\n")
+
+
+def check_tables(tables):
+    """Raises Refused, by 7, where these bytes are no relay's tables."""
+    tables = _bytes(tables)
+    _done(_library.haskumye_check_tables(tables, len(tables)))
+
+
+class Relay:
+    """A relay: it owns its tables, its tally and the buffer for what leaves."""
+
+    def __init__(self, own):
+        """A fresh relay: its own address, every port off and boundary, clock 0, all else empty."""
+        self._tables = ctypes.create_string_buffer(TABLE_SIZE)
+        self._tally = (c_uint32 * 6)()
+        self._output = ctypes.create_string_buffer(OUTPUT_SIZE)
+        self._call(_library.haskumye_fresh, _exactly(own, 16, "an address"))
+
+    @classmethod
+    def from_tables(cls, tables, tally=Tally()):
+        """The relay of tables and a tally that `tables` and `tally` gave. Refusal 7 where no relay has such tables."""
+        check_tables(tables)
+        relay = cls(bytes(16))
+        relay._tables.raw = _bytes(tables)
+        relay._tally[:] = [_number(count, 32) for count in tally]
+        return relay
+
+    def _call(self, function, *arguments):
+        _done(function(self._tables, TABLE_SIZE, *arguments))
+
+    def packet(self, packet, port, clock, signed=False):
+        """What becomes of a packet that came in by a port at a clock, in seconds: Drop, Deliver, Forward, Spread or Kept. `signed` is the host's word on
+        its signature, which is read only for announces and link proofs."""
+        packet = _bytes(packet)
+        number = _library.haskumye_packet(
+            packet,
+            len(packet),
+            _number(port),
+            _number(clock),
+            1 if signed else 0,
+            self._tables,
+            TABLE_SIZE,
+            self._output,
+            OUTPUT_SIZE,
+            self._tally,
+        )
+        return _answer(number, packet, self._output)
+
+    def set_port(self, port, on, mode):
+        """Sets a port on or off, and its mode. Records that name the port stay. Refusal 9."""
+        self._call(_library.haskumye_set_port, _number(port), ON if on else OFF, _number(mode))
+
+    def add_local(self, address):
+        """Adds an address whose packets are delivered here. Refusal 11 where it is there already, 10 for a 17th."""
+        self._call(_library.haskumye_add_local, _exactly(address, 16, "an address"))
+
+    def remove_local(self, address):
+        """Removes one. Refusal 11 where it is not there."""
+        self._call(_library.haskumye_remove_local, _exactly(address, 16, "an address"))
+
+    def renumber(self, ports):
+        """Renumbers the ports while the relay runs: port i becomes ports[i]. Nothing is forgotten. Refusal 8 where they are not one-to-one on 0..15."""
+        self._call(_library.haskumye_renumber, _exactly(bytes(ports), 16, "a map"))
+
+    @property
+    def tally(self):
+        """The packet calls since fresh."""
+        return Tally(*self._tally)
+
+    @property
+    def tables(self):
+        """A copy of the tables' bytes; docs/LAYOUT.md says what lies where."""
+        return self._tables.raw
+
+    @property
+    def last_clock(self):
+        """The last accepted clock, 0 in a fresh relay. After a restart the clock goes on from there."""
+        return int.from_bytes(self._tables[LAST_CLOCK_PLACE : LAST_CLOCK_PLACE + 8], "big")
+
+
+def _answer(number, packet, output):
+    """The answer that a packet call's number says; what leaves is at the output's start."""
+    kind, detail, ports, length, start = number & 0xFF, number >> 8 & 0xFF, number >> 16 & 0xFFFF, number >> 32 & 0xFFFF, number >> 48
+    if kind == Kind.REFUSED:
+        raise Refused(detail)
+    if kind == Kind.DROP:
+        return Drop(Reason(detail))
+    if kind == Kind.DELIVER:
+        return Deliver(packet[start:])
+    if kind == Kind.FORWARD:
+        return Forward(ports, output.raw[:length])
+    if kind == Kind.SPREAD:
+        return Spread(tuple(port for port in range(PORT_COUNT) if ports >> port & 1), output.raw[:length])
+    if kind == Kind.KEPT:
+        return Kept()
+    raise ValueError(f"the library answered {number:#x}, which this module does not know")

@@ -1,0 +1,225 @@
+"""The Python module through the library: each answer and refusal, the header's declarations and numbers, and the words of bindings/words."""
+
+import ctypes
+import os
+import pathlib
+import re
+import subprocess
+import sys
+import unittest
+
+import haskumye
+from haskumye import Deliver, Drop, Forward, Kept, Kind, Mode, Parts, Reason, Refusal, Refused, Relay, Spread, Tally
+
+ROOT = pathlib.Path(__file__).resolve().parents[2]
+OWN = bytes([0x0A] * 16)
+DESK = bytes([0x2A] * 16)
+
+
+def relay(ports=2):
+    """A relay whose first ports are on."""
+    made = Relay(OWN)
+    for port in range(ports):
+        made.set_port(port, True, Mode.BOUNDARY)
+    return made
+
+
+def announce(emission=1):
+    """An announce, and the destination that it announces."""
+    payload = bytearray([0x5A] * 148)
+    payload[haskumye.ANNOUNCE_EMISSION : haskumye.ANNOUNCE_EMISSION + 5] = emission.to_bytes(5, "big")
+    destination = haskumye.announced_destination(payload)
+    return haskumye.write(Parts(header=haskumye.PACKET_ANNOUNCE, destination=destination), payload), destination
+
+
+def data(destination, payload):
+    """Data that asks the relay to carry it."""
+    header = haskumye.HEADER_TYPE_2 | haskumye.HEADER_TRANSPORT | haskumye.PACKET_DATA
+    return haskumye.write(Parts(header=header, relay=OWN, destination=destination), payload)
+
+
+class TestAnswers(unittest.TestCase):
+    def test_deliver_and_duplicate(self):
+        box = relay()
+        box.add_local(DESK)
+        packet = haskumye.write(Parts(destination=DESK), b"42 plants")
+        self.assertEqual(box.packet(packet, 0, 1000), Deliver(b"42 plants"))
+        self.assertEqual(box.packet(packet, 0, 1001), Drop(Reason.DUPLICATE))
+        self.assertEqual(box.packet(data(DESK, b"43 plants"), 0, 1001), Deliver(b"43 plants"))
+        self.assertEqual(box.tally, Tally(total=3, dropped=1, delivered=2))
+        self.assertEqual(box.last_clock, 1001)
+
+    def test_spread_forward_and_receipt_after_renumbering(self):
+        box, (packet, destination) = relay(3), announce()
+        spread = box.packet(packet, 1, 1, signed=True)
+        self.assertEqual((spread.ports, haskumye.read(spread.packet).relay), ((0, 2), OWN))
+        count = data(destination, b"42 plants")
+        answer = box.packet(count, 2, 2)
+        self.assertEqual((answer.port, haskumye.payload(answer.packet)), (1, b"42 plants"))
+        box.renumber([5, 6, 7, 0, 1, 2, 3, 4, *range(8, 16)])
+        receipt = haskumye.write(Parts(header=haskumye.PACKET_PROOF, destination=haskumye.packet_hash(count)[:16]), bytes(64))
+        self.assertEqual(box.packet(receipt, 6, 3).port, 7)
+
+    def test_kept_and_not_signed(self):
+        self.assertEqual(relay(1).packet(announce()[0], 0, 1, signed=True), Kept())
+        self.assertEqual(relay(1).packet(announce()[0], 0, 1), Drop(Reason.NOT_SIGNED))
+
+    def test_answers_print_as_document_01_writes_them(self):
+        answers = [Drop(Reason.NO_WAY_ON), Deliver(b""), Forward(4, b""), Spread((1, 5), b""), Kept()]
+        self.assertEqual([str(answer) for answer in answers], ["drop 6: no way on", "deliver", "forward 4", "spread 1 5", "kept"])
+
+    def test_bytes_like_arguments(self):
+        packet = haskumye.write(Parts(destination=bytearray(DESK)), memoryview(b"42 plants"))
+        for given in (packet, bytearray(packet), memoryview(packet)):
+            box = relay()
+            box.add_local(memoryview(DESK))
+            self.assertEqual(box.packet(given, 0, 1), Deliver(b"42 plants"))
+            self.assertEqual(haskumye.payload(given), b"42 plants")
+        self.assertRaises(TypeError, haskumye.read, "a text")
+        self.assertRaises(TypeError, haskumye.read, 19)
+
+
+class TestRefusals(unittest.TestCase):
+    def refused(self, refusal, call, *arguments, **named):
+        with self.assertRaises(Refused) as caught:
+            call(*arguments, **named)
+        self.assertEqual(caught.exception.refusal, refusal)
+        self.assertEqual(str(caught.exception), f"refused {refusal.value}: {refusal.words}")
+
+    def test_packet_calls(self):
+        box, packet = relay(1), haskumye.write(Parts(destination=DESK))
+        box.packet(packet, 0, 1000)
+        before = (box.tables, box.tally)
+        self.refused(Refusal.TOO_SHORT, box.packet, packet[:18], 0, 1000)
+        self.refused(Refusal.TOO_LONG, box.packet, bytes(501), 0, 1000)
+        self.refused(Refusal.ACCESS_CODE, box.packet, b"\x80" + packet[1:], 0, 1000)
+        self.refused(Refusal.ARRIVAL_PORT, box.packet, packet, 1, 1000)
+        self.refused(Refusal.ARRIVAL_PORT, box.packet, packet, (1 << 64) - 1, 1000)
+        self.refused(Refusal.CLOCK, box.packet, packet, 0, 999)
+        self.refused(Refusal.CLOCK, box.packet, packet, 0, haskumye.CLOCK_LIMIT)
+        self.assertEqual((box.tables, box.tally), before)
+
+    def test_settings(self):
+        box = relay()
+        for number in range(16):
+            box.add_local(bytes([number] * 16))
+        self.refused(Refusal.LOCAL_FULL, box.add_local, DESK)
+        self.refused(Refusal.LOCAL_ADDRESS, box.add_local, bytes(16))
+        self.refused(Refusal.LOCAL_ADDRESS, box.remove_local, DESK)
+        self.refused(Refusal.SETTING, box.set_port, 16, True, Mode.BOUNDARY)
+        self.refused(Refusal.SETTING, box.set_port, 0, True, 3)
+        self.refused(Refusal.MAP, box.renumber, [0] * 16)
+        box.remove_local(bytes(16))
+
+    def test_packets_and_tables(self):
+        self.refused(Refusal.TOO_SHORT, haskumye.packet_hash, b"")
+        self.refused(Refusal.TOO_LONG, haskumye.sha256, bytes(haskumye.LONGEST_MESSAGE + 1))
+        self.refused(Refusal.TOO_LONG, haskumye.write, Parts(), bytes(482))
+        self.refused(Refusal.ACCESS_CODE, haskumye.write, Parts(header=haskumye.HEADER_ACCESS_CODE))
+        self.refused(Refusal.TABLES, haskumye.check_tables, b"")
+        self.refused(Refusal.TABLES, Relay.from_tables, bytes(haskumye.TABLE_SIZE - 1))
+
+    def test_numbers_that_do_not_cross(self):
+        box, packet = relay(), haskumye.write(Parts())
+        for wrong in (-1, 1 << 64):
+            self.assertRaises(OverflowError, box.packet, packet, wrong, 1)
+            self.assertRaises(OverflowError, box.packet, packet, 0, wrong)
+            self.assertRaises(OverflowError, box.set_port, wrong, True, Mode.ROAMING)
+        self.assertRaises(OverflowError, haskumye.write, Parts(hops=256))
+        self.assertRaises(TypeError, box.packet, packet, 0.5, 1)
+        self.assertRaises(ValueError, box.add_local, bytes(15))
+        self.assertRaises(ValueError, box.renumber, range(15))
+
+
+class TestPackets(unittest.TestCase):
+    def test_parts_come_back(self):
+        parts = Parts(0x52, 3, bytes([1] * 16), bytes([2] * 16), 4)
+        packet = haskumye.write(parts, b"payload")
+        self.assertEqual((haskumye.read(packet), haskumye.payload(packet), haskumye.payload_start(packet)), (parts, b"payload", 35))
+        self.assertEqual(haskumye.payload(b""), b"")
+
+    def test_hashes_lines_and_announces(self):
+        request = haskumye.write(Parts(0x52, 9, bytes([1] * 16), bytes([2] * 16)), bytes([3] * 67))
+        hashed = b"\x02" + bytes([2] * 16) + b"\x00" + bytes([3] * 67)
+        self.assertEqual(haskumye.packet_hash(request), haskumye.sha256(hashed))
+        self.assertEqual(haskumye.link_id(request), haskumye.sha256(hashed[:82])[:16])
+        self.assertEqual(haskumye.line(b""), "refused 1")
+        self.assertEqual(haskumye.line(request).split()[0], "type2")
+        self.assertEqual((haskumye.least_announce(0x01), haskumye.least_announce(0x21)), (148, 180))
+        self.assertEqual(haskumye.emission(bytes(5) + (1_700_000_000).to_bytes(5, "big")), 1_700_000_000)
+
+    def test_tables_go_out_and_come_in_again(self):
+        box = relay(5)
+        box.packet(haskumye.write(Parts(destination=DESK)), 0, 77)
+        again = Relay.from_tables(bytearray(box.tables), box.tally)
+        self.assertEqual((again.tables, again.tally, again.last_clock), (box.tables, box.tally, 77))
+
+
+class TestAgreement(unittest.TestCase):
+    """What the header declares, without its comments and inline functions."""
+
+    @classmethod
+    def setUpClass(cls):
+        text = (ROOT / "include/haskumye.h").read_text()
+        text = re.sub(r"/\*.*?\*/", " ", text, flags=re.DOTALL)
+        cls.header = re.sub(r"^static inline .*?^}", " ", text, flags=re.DOTALL | re.MULTILINE)
+
+    def test_functions(self):
+        numbers = {
+            "uint8_t": ctypes.c_uint8,
+            "uint32_t": ctypes.c_uint32,
+            "haskumye_written": ctypes.c_uint32,
+            "uint64_t": ctypes.c_uint64,
+            "haskumye_answer": ctypes.c_uint64,
+            "size_t": ctypes.c_size_t,
+            "void": None,
+        }
+
+        def crosses(argument):
+            if "*" in argument:
+                return ctypes.c_char_p if argument.startswith("const ") else ctypes.c_void_p
+            return numbers[argument.split()[0]]
+
+        declared = {}
+        for result, name, arguments in re.findall(r"(\w+) (haskumye_\w+)\(([^()]*)\);", self.header):
+            listed = [] if arguments == "void" else [" ".join(argument.split()) for argument in arguments.split(",")]
+            declared[name] = (numbers[result], [crosses(argument) for argument in listed])
+        self.assertGreater(len(declared), 10)
+        self.assertEqual(haskumye.FUNCTIONS, declared)
+
+    def test_constants(self):
+        plain = re.findall(r"^#define HASKUMYE_(\w+) (?:UINT64_C\()?(0x[0-9a-f]+|\d+)\b", self.header, flags=re.MULTILINE)
+        self.assertGreater(len(plain), 30)
+        for name, number in plain:
+            self.assertEqual(getattr(haskumye, name), int(number, 0), name)
+
+    def test_enums(self):
+        for prefix, numbered in (("REFUSAL_", Refusal), ("REASON_", Reason), ("MODE_", Mode), ("", Kind)):
+            enum = re.search(rf"enum haskumye_{numbered.__name__.lower()} {{(.*?)}}", self.header, flags=re.DOTALL).group(1)
+            cases = {name: int(number) for name, number in re.findall(rf"HASKUMYE_{prefix}(\w+) = (\d+)", enum) if name != "NONE"}
+            self.assertEqual({case.name: case.value for case in numbered}, cases)
+
+    def test_words(self):
+        lines = [line for line in (ROOT / "bindings/words").read_text().splitlines() if not line.startswith("#")]
+        lists = {"refusal": Refusal, "reason": Reason, "kind": Kind, "mode": Mode}
+        words = [f"{name} {case.value} {case.words}" for name, numbered in lists.items() for case in numbered]
+        self.assertEqual(words, lines)
+
+
+class TestLoading(unittest.TestCase):
+    def imported(self, library):
+        """What importing the module with another library ends with."""
+        environment = {**os.environ, "HASKUMYE_LIBRARY": str(library), "PYTHONPATH": str(ROOT / "bindings/python")}
+        command = "try:\n import haskumye\nexcept ImportError as missing:\n print(missing)"
+        return subprocess.run([sys.executable, "-c", command], env=environment, capture_output=True, text=True, check=True).stdout
+
+    def test_a_missing_library_is_said_in_one_line(self):
+        line = self.imported("/nowhere/libhaskumye.so")
+        self.assertRegex(line, r"^/nowhere/libhaskumye.so cannot be loaded .*: run make, or let HASKUMYE_LIBRARY name the shared library\n$")
+
+    def test_another_library_is_said_in_one_line(self):
+        self.assertRegex(self.imported("libc.so.6"), r"^libc.so.6 is of another version than .*haskumye_version\n$")
+
+
+if __name__ == "__main__":
+    unittest.main()
