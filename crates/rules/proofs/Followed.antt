@@ -6,7 +6,7 @@ use mathlib.Core.Path.{_≡_, refl, sym, subst, _∙_}
 use borrow.Author.Tests.{eq-eqb, eqb-false}
 use Rattle.octets.specs.Choice.{_or_}
 use Rattle.octets.proofs.Index.{and-left, and-right, and-yes}
-use Rattle.packet.specs.Header.{packetKind, isData, isAnnounce, isLinkRequest, isProof}
+use Rattle.packet.specs.Header.{ofKindLink, packetKind, isData, isAnnounce, isLinkRequest, isProof}
 use Rattle.octets.specs.Listed.{firstOf}
 use Rattle.rules.specs.Relay.{Slot, empty, used, Path, Return}
 use Rattle.rules.specs.View.{View}
@@ -22,7 +22,8 @@ use Rattle.rules.proofs.Passed.{passed}
 -- the way's record is what the view shows of the packet's destination
 abbrev pub Found : View → Arrival → Way → Type 0
 Found v a (everywhere known) = v .path (destination a) ≡ known
-Found v a (by-path p) = (v .path (destination a) ≡ used p) × (isAnnounce (header a) ≡ false) × (isProof (header a) ≡ false)
+Found v a (by-path p) =
+    (v .path (destination a) ≡ used p) × (isAnnounce (header a) ≡ false) × (isProof (header a) ≡ false) × (ofKindLink (header a) ≡ false)
 Found v a (along-link l) = v .link (destination a) ≡ used l
 Found v a (by-return t) = v .return (destination a) ≡ used t
 Found v a (blocked why) = Unit {0}
@@ -48,10 +49,11 @@ Planned v a delivered = Unit {0}
 Planned v a (follows w) = Followed v a w
 
 module _ (v : View) (a : Arrival) where
-  found-path : isAnnounce (header a) ≡ false → isProof (header a) ≡ false → (s : Slot Path) → v .path (destination a) ≡ s → Found v a (pathWay s)
+  found-path : isAnnounce (header a) ≡ false → isProof (header a) ≡ false → ofKindLink (header a) ≡ false → (s : Slot Path) → v .path (destination a) ≡ s
+      → Found v a (pathWay s)
   unfolding pathWay
-  found-path n m empty e = tt
-  found-path n m (used p) e = (e, n, m)
+  found-path n m k empty e = tt
+  found-path n m k (used p) e = (e, n, m, k)
 
   found-link : (s : Slot Link) → v .link (destination a) ≡ s → Found v a (linkWay (isLinkProof (a .bytes)) s)
   unfolding linkWay
@@ -68,9 +70,9 @@ module _ (v : View) (a : Arrival) where
   found-way =
       either (Found v a) _ (λ _. refl)
       (λ n. either (Found v a) _ (λ _. found-link _ refl)
-      (λ _. either (Found v a) _ (λ _. found-return _ refl)
+      (λ k. either (Found v a) _ (λ _. found-return _ refl)
       (λ m. either (Found v a) _ (λ _. tt)
-      (λ _. found-path n m _ refl))))
+      (λ _. found-path n m k _ refl))))
 
   pub planned : Planned v a (plan v a)
   planned = go (plan v a) refl

@@ -1,19 +1,18 @@
 -- Wish 2, what was wanted, of one keepalive: no test holds of it, so it follows its link, whatever hashes are remembered.
 use Prim.Native.Nat.{ℕ, _+_, _≤_}
 use mathlib.Core.Bool.{Bool, true, false, not, false≢true}
-use mathlib.Core.List.{List}
 use mathlib.Core.Path.{_≡_, refl, ap, _∙_}
 use lib.Dec.{eqb}
 use lib.ListN.{length, set, length-set}
 use borrow.Author.Tests.{eqb-true, le-ltb, not-true}
 use Rattle.octets.specs.Index.{_and_}
-use Rattle.octets.specs.Choice.{_then_otherwise_, _or_, same}
+use Rattle.octets.specs.Choice.{_then_otherwise_, _or_}
 use Rattle.octets.specs.Listed.{firstOf, anyHolds}
 use Rattle.octets.proofs.Index.{and-left, and-right, and-both, and-no}
 use Rattle.octets.proofs.Choice.{or-no, same-eq}
 use Rattle.octets.proofs.Listed.{none-first}
 use Rattle.packet.specs.Header.{typeTwo, ofKindLink, packetKind, isData, isAnnounce, isLinkRequest, isProof}
-use Rattle.packet.specs.Read.{headerOf, partsOf, longestPacket}
+use Rattle.packet.specs.Read.{partsOf, longestPacket}
 use Rattle.rules.specs.Relay.{used}
 use Rattle.rules.specs.View.{View}
 use Rattle.rules.specs.Arrival.{Arrival, header, hops, destination, isLinkProof}
@@ -24,12 +23,7 @@ use Rattle.rules.specs.Outgoing.{carriedPacket, exceeds, grownTooLong}
 use Rattle.rules.specs.Judging.{follows, earlyTests, onwardTests, onwardPlan, plan}
 use Rattle.rules.specs.Keepalives.{isKeepalive, keepsAlive}
 use Rattle.rules.specs.declared.Link.{Link}
-use Rattle.rules.proofs.Choices.{either}
-
-pub never : (b : Bool) → (b and false) ≡ false
-unfolding _and_
-never true = refl
-never false = refl
+use Rattle.rules.proofs.Choices.{either, and-false}
 
 -- a packet of a link that is no link proof, from one of its sides
 side-right : (x y z : Bool) → (x or y) ≡ true → z ≡ false → (x then false otherwise z or not y) ≡ false
@@ -116,7 +110,7 @@ module _ (l : Link) (a : Arrival) (k : keepsAlive l a ≡ true) where
     unfolding deliveredHere
     elsewhere =
         let no-kind : (not (ofKindLink (header a)) and v .local (destination a)) ≡ false = and-no _ (ap not of-link) in
-        ap (λ (b : Bool). (isData (header a) or isLinkRequest (header a)) and b) no-kind ∙ never _
+        ap (λ (b : Bool). (isData (header a) or isLinkRequest (header a)) and b) no-kind ∙ and-false _
 
     early-none : firstOf (earlyTests v a) (onwardPlan v a (wayOn v a)) ≡ onwardPlan v a (wayOn v a)
     unfolding earlyTests notOurs ownAnnounce
@@ -154,7 +148,7 @@ module _ (l : Link) (a : Arrival) (k : keepsAlive l a ≡ true) where
                   (
                     refl,
                     (
-                      ap (λ (b : Bool). not (isAnnounce (header a)) and not b) (port-on asking answering) ∙ never _,
+                      ap (λ (b : Bool). not (isAnnounce (header a)) and not b) (port-on asking answering) ∙ and-false _,
                       (refl, (le-ltb _ _ fits, tt)),
                     ),
                   ),

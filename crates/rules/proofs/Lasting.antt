@@ -20,7 +20,7 @@ use Rattle.packet.specs.Read.{longestPacket, readingRefusal}
 use Rattle.packet.specs.Hash.{linkId}
 use Rattle.packet.proofs.ReadLaws.{readable}
 use Rattle.numbers.specs.Numbers.{portCount, linkCount, provedLifetime, live}
-use Rattle.rules.specs.Relay.{Port, Slot, empty, used, makePort, noPort, Path, withLinkState, Relay, holds, free, lowestFree, withClock, withPorts, withLocals, withPaths, withLinks, withReturns, withHashes}
+use Rattle.rules.specs.Relay.{Port, Slot, empty, used, makePort, noPort, Path, Relay, holds, free, lowestFree, withClock, withPorts, withLocals, withPaths, withLinks, withReturns, withHashes}
 use Rattle.rules.specs.View.{View, viewAt, portOn, isLiveLink, linkPlace, freeLink}
 use Rattle.rules.specs.Refusals.{slotOk, linkOk, packetRows, packetRefusal, refusalBy}
 use Rattle.rules.specs.Arrival.{Arrival, header, hops, destination}
@@ -36,7 +36,7 @@ use Rattle.rules.specs.declared.Link.{Link}
 use Rattle.rules.specs.declared.Tally.{Tally}
 use Rattle.rules.specs.declared.Verdict.the-variants.{Forward}
 use Rattle.rules.specs.declared.Answer.the-variants.{Judged}
-use Rattle.rules.proofs.Choices.{either}
+use Rattle.rules.proofs.Choices.{either, and-false}
 use Rattle.rules.proofs.Tables.{table-length}
 use Rattle.rules.proofs.Slots.{used-same}
 use Rattle.rules.proofs.Lowest.{Lowest, lowest-later, lowest-place, lowest-found, found-lowest, lowest-other, lowest-renewed}
@@ -44,7 +44,7 @@ use Rattle.rules.proofs.Accepted.{accepted-packet}
 use Rattle.rules.proofs.Followed.{Followed, Planned, planned, is-request}
 use Rattle.rules.proofs.Held.{packet-kept}
 use Rattle.rules.proofs.Valid.{Valid, valid-of}
-use Rattle.rules.proofs.Keepalive.{never, names-link, keepalive-follows}
+use Rattle.rules.proofs.Keepalive.{names-link, keepalive-follows}
 
 -- ---- the link table through one packet
 abbrev LowestLink : ℕ → List (Slot Link) → ℕ → Link → Type 0
@@ -420,7 +420,7 @@ module _ (l : Link) (deadline : ℕ) where
           subst (λ (n : ℕ). Starts l n R) (sym (then-true _ _ (and-both h k)))
           (keepalive-starts l (s .expiry) r a output t (later h) h k)
       go true h false k =
-          subst (λ (n : ℕ). Starts l n R) (sym (then-false _ _ (ap (λ (b : Bool). eqb (packetRefusal r a (length output)) 0 and b) k ∙ never _)))
+          subst (λ (n : ℕ). Starts l n R) (sym (then-false _ _ (ap (λ (b : Bool). eqb (packetRefusal r a (length output)) 0 and b) k ∙ and-false _)))
           (any-packet l (s .expiry) r a output t (later h) h deadline (s .lasts) (near h) (before h))
   call-up (on-tables c) r t s justly = table-kept-by (Starts l deadline) s c t (λ e. table-up l deadline r s c (justly e))
 

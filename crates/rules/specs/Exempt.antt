@@ -1,7 +1,7 @@
 -- Document 02, wish 2, amends document 01: packets that "are no longer tested as duplicates nor remembered". A keepalive is the same bytes
 -- each time, so within 300 s the second would drop as a duplicate and the link would die.
 use Prim.Native.Nat.{ℕ}
-use mathlib.Core.Bool.{Bool, true, false}
+use mathlib.Core.Bool.{Bool}
 use mathlib.Core.List.{List}
 use lib.Dec.{eqb}
 use Rattle.octets.specs.Index.{_and_}
@@ -9,7 +9,7 @@ use Rattle.octets.specs.Choice.{_or_}
 use Rattle.packet.specs.Header.{ofKindLink}
 use Rattle.packet.specs.Read.{headerOf, partsOf}
 
--- the contexts, with their names in source 003 (packets); source 005 (link communication) has all but the fourth and fifth
+-- the contexts, with their names in source 003 (packets); sources 005 and 006 (link communication) have all but CACHE_REQUEST and CHANNEL
 unfoldable pub exemptContext : ℕ → Bool
 exemptContext context =
     -- RESOURCE: a part of a resource
