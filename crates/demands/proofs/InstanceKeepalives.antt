@@ -4,14 +4,13 @@ use Prim.Native.Nat.{ℕ, _+_}
 use mathlib.Core.Bool.{Bool, true, false, false≢true}
 use mathlib.Core.List.{List, [], _∷_, _++_}
 use mathlib.Core.Path.{_≡_, refl, sym, ap, subst, _∙_}
-use lib.Dec.{eqb, lit≤}
+use lib.Dec.{lit≤}
 use lib.ListN.{replicate}
 use borrow.Author.Tests.{eqb-true}
 use Rattle.octets.specs.Index.{_and_}
-use Rattle.octets.specs.Bytes.{Bytes}
 use Rattle.rules.specs.Relay.{freshPort, makePort, Port, makeRelay, empty, used, Relay, fresh}
 use Rattle.rules.specs.View.{viewAt}
-use Rattle.rules.specs.Refusals.{all, tableOk, tablesOk}
+use Rattle.rules.specs.Refusals.{all, tableOk}
 use Rattle.rules.specs.Arrival.{Arrival}
 use Rattle.rules.specs.Calls.{newTally, ruleOf}
 use Rattle.rules.specs.Run.{EachCall, Call, packet, port-setting, renumbering, Reply, answered, numbered, Outcome, perform, relayAfter}
@@ -26,7 +25,7 @@ use Rattle.rules.proofs.Scene.{own, blank, announceBytes, requestBytes, link, l
 use Rattle.rules.proofs.Outcomes.{forwards, linkOf, provedRelay, proved-is}
 use Rattle.rules.proofs.Valid.{stays-ok, fresh-ok, step-ok}
 use Rattle.tables.specs.Layout.{relayOf, bytesOf}
-use Rattle.tables.specs.Shape.{isByte, isBytes, shaped}
+use Rattle.tables.specs.Shape.{isByte, isBytes}
 use Rattle.tables.proofs.Whole.{back, ok-bytes, bytes-bytes}
 use Rattle.demands.specs.Given.{CallBytes, CallsBytes}
 use Rattle.demands.specs.Bytes.{OutcomeOn, performOn}
@@ -62,14 +61,18 @@ dropped-call = arrives (keepaliveBytes 9) 2850 1
 abbrev last-call : Call
 last-call = arrives (keepaliveBytes 3) 2919 2
 
-abbrev pub calls : List Call
-calls =
-    first-call ∷ again-call ∷ refused-call
+-- all behind the first
+abbrev later : List Call
+later =
+    again-call ∷ refused-call
     -- no map of the sixteen: 8
     ∷ renumbering []
     -- a port of the link, still on
     ∷ port-setting 1 true 1
     ∷ dropped-call ∷ last-call ∷ []
+
+abbrev pub calls : List Call
+calls = first-call ∷ later
 
 given : CallsBytes calls
 unfolding EachCall CallBytes ruleOf isBytes isByte tableOk all _and_
@@ -158,28 +161,62 @@ unfolding rules
 dropped-done = refl
 
 -- ---- they come in time
--- a call, and those after it
-in-time : {c : Call} {cs : List Call} {r between : Relay} {t counts : Tally} {reply : Reply} {deadline next : ℕ} (taken : Bool)
-    → perform c r t ≡ record { reply = reply; relay = between; tally = counts } → accepted c r ≡ taken
-    → (taken ≡ true → fair l deadline c ≡ true) → nextDeadline l deadline c taken ≡ next
-    → InTime l next cs between counts → InTime l deadline (c ∷ cs) r t
-unfolding InTime
-in-time {c} {cs} {deadline = deadline} taken done is justly then rest = (
-  λ e. justly (sym is ∙ e),
-  subst (λ (o : Outcome). InTime l (nextDeadline l deadline c _) cs (o .relay) (o .tally)) (sym done)
-  (subst (λ (n : ℕ). InTime l n cs _ _) (sym (ap (nextDeadline l deadline c) is ∙ then)) rest),
-)
+record Timely (deadline : ℕ) (cs : List Call) (r : Relay) (t : Tally) : Type 0 where
+  in-time : InTime l deadline cs r t
 
-all-in-time : InTime l 2721 calls provedRelay newTally
-unfolding rules accepted fair nextDeadline keepsAlive isKeepalive InTime
-all-in-time =
-    in-time true first-done refl (λ _. refl) refl
-    (in-time true again-done refl (λ _. refl) refl
-    (in-time false refused-done refl (λ e. absurd (false≢true e)) refl
-    (in-time false map-done refl (λ e. absurd (false≢true e)) refl
-    (in-time true port-done refl (λ _. refl) refl
-    (in-time true dropped-done refl (λ _. refl) refl
-    (λ _. refl, tt))))))
+-- what one call has to be, and the deadline behind it
+record Fits (c : Call) (r : Relay) (deadline : ℕ) (taken : Bool) (next : ℕ) : Type 0 where
+  is : accepted c r ≡ taken
+  justly : taken ≡ true → fair l deadline c ≡ true
+  then : nextDeadline l deadline c taken ≡ next
+
+-- a call, and those after it
+timely : {c : Call} {cs : List Call} {r between : Relay} {t counts : Tally} {reply : Reply} {deadline next : ℕ} {taken : Bool}
+    → perform c r t ≡ record { reply = reply; relay = between; tally = counts } → Fits c r deadline taken next
+    → Timely next cs between counts → Timely deadline (c ∷ cs) r t
+unfolding InTime
+timely {c} {cs} {r} {between} {t} {counts} {deadline = deadline} done fits rest =
+    record {
+      in-time = (
+        λ e. fits .justly (sym (fits .is) ∙ e),
+        subst (λ (o : Outcome). InTime l (nextDeadline l deadline c (accepted c r)) cs (o .relay) (o .tally)) (sym done)
+            (subst (λ (n : ℕ). InTime l n cs between counts) (sym (ap (nextDeadline l deadline c) (fits .is) ∙ fits .then)) (rest .in-time)),
+      );
+    }
+
+first-fits : Fits first-call provedRelay 2721 true 2820
+unfolding rules accepted fair nextDeadline keepsAlive isKeepalive
+first-fits = record { is = refl; justly = λ _. refl; then = refl }
+
+again-fits : Fits again-call (upRelay (portsBy 2) 2100 2820) 2820 true 2920
+unfolding rules accepted fair nextDeadline keepsAlive isKeepalive
+again-fits = record { is = refl; justly = λ _. refl; then = refl }
+
+refused-fits : Fits refused-call (upRelay (portsBy 2) 2200 2920) 2920 false 2920
+unfolding rules accepted nextDeadline
+refused-fits = record { is = refl; justly = λ e. absurd (false≢true e); then = refl }
+
+map-fits : Fits (renumbering []) (upRelay (portsBy 2) 2200 2920) 2920 false 2920
+unfolding rules accepted nextDeadline
+map-fits = record { is = refl; justly = λ e. absurd (false≢true e); then = refl }
+
+port-fits : Fits (port-setting 1 true 1) (upRelay (portsBy 2) 2200 2920) 2920 true 2920
+unfolding rules accepted fair nextDeadline
+port-fits = record { is = refl; justly = λ _. refl; then = refl }
+
+dropped-fits : Fits dropped-call (upRelay (portsBy 1) 2200 2920) 2920 true 2920
+unfolding rules accepted fair nextDeadline keepsAlive isKeepalive
+dropped-fits = record { is = refl; justly = λ _. refl; then = refl }
+
+last-timely : Timely 2920 (last-call ∷ []) (upRelay (portsBy 1) 2850 2920) (counting 1 2)
+unfolding rules InTime fair
+last-timely = record { in-time = (λ _. refl, tt) }
+
+all-timely : Timely 2721 calls provedRelay newTally
+all-timely =
+    timely first-done first-fits
+    (timely again-done again-fits
+    (timely refused-done refused-fits (timely map-done map-fits (timely port-done port-fits (timely dropped-done dropped-fits last-timely)))))
 
 -- ---- the theorem
 lasts : LastsOn l calls (bytesOf provedRelay) newTally
@@ -187,7 +224,7 @@ lasts =
     let h = start-held in
     let there : provedRelay ≡ relayOf (bytesOf provedRelay) = sym (back provedRelay (h .shape) (h .ok)) in
     keepalives-keep-on (bytesOf provedRelay) newTally (bytes-bytes provedRelay (h .shape) (h .ok)) (ok-bytes provedRelay (h .shape) (h .ok)) l calls 2721
-    given (subst (Starts l 2721) there start-up) (subst (λ (r : Relay). InTime l 2721 calls r newTally) there all-in-time)
+    given (subst (Starts l 2721) there start-up) (subst (λ (r : Relay). InTime l 2721 calls r newTally) there (all-timely .in-time))
 
 -- ---- what it says, on tables that are written out
 record Left (cs : List Call) (r : Relay) (t : Tally) : Type 0 where
@@ -221,10 +258,10 @@ unfolding LastsOn CarriedIf
 said {a} {output} {cs} {r} left taken k =
     left .lasts-on .0 (accepted-bytes r (left .held .shape) (left .held .ok) (packet a output) ∙ taken) k
 
-behind-first : Left _ (upRelay (portsBy 2) 2100 2820) (counting 0 1)
+behind-first : Left later (upRelay (portsBy 2) 2100 2820) (counting 0 1)
 behind-first = past begin first-done
 
-before-last : Left _ (upRelay (portsBy 1) 2850 2920) (counting 1 2)
+before-last : Left (last-call ∷ []) (upRelay (portsBy 1) 2850 2920) (counting 1 2)
 before-last = past (past (past (past (past behind-first again-done) refused-done) map-done) port-done) dropped-done
 
 pub again-forwarded : performOn again-call (bytesOf (upRelay (portsBy 2) 2100 2820)) (counting 0 1) .reply ≡ forwards (keepaliveBytes 1) 2
