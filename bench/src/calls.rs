@@ -14,8 +14,8 @@ behind all others of its table; empty tables hold it alone. A new path or link t
 tables the last, which is expired.";
 
 /// Beside the core's keepalive, the independent relay's, and the core on the other packet.
-const KEEPALIVES: &str = "Keepalives: packets of kind link with context fa, which are not hashed. Beside them the core on
-link packets of the same length that are: hashed / core is to be 1.20 or better.";
+const KEEPALIVES: &str = "Keepalives: packets of kind link with context fa, which are not hashed. Beside them, under hash, the core on
+link packets of the same length, which are: hash / core is to be 1.20 or better.";
 
 /// Core and independent relay, by their places among the programs.
 const CORE: usize = 0;
@@ -56,7 +56,7 @@ pub fn run(report: &mut Report) {
 }
 
 pub fn run_keepalives(report: &mut Report) {
-    report.table(KEEPALIVES, &format!("{:<33}{:>5}  tables", "kind", "bytes"), &["hashed"]);
+    report.table(KEEPALIVES, &format!("{:<33}{:>5}  tables", "kind", "bytes"), &["hash"]);
     for (filled, fill) in FILLS {
         let mut scene = Scene::new(fill);
         let [keepalive, hashed] = keepalive_and_hashed(&mut scene);
