@@ -78,7 +78,8 @@ module _ (l : Link) (r : Relay) (size : length (r .links) ≡ linkCount) (a : Ar
     new-link : (p : Path) → isThere (viewAt (a .clock) r .link (linkId (a .bytes))) ≡ false → Still (putLink a p r .links)
     unfolding putLink withLinks linkRecord freeLink lowestFree free holds isThere
     new-link p none =
-        (e, lowest-other _ _ linkCount (a .clock) (r .links) size place (until l e) low (freeLink (a .clock) r) (linkRecord a p) other differs, λ deadline _ h. h)
+        let kept = lowest-other _ _ linkCount (a .clock) (r .links) size place (until l e) low (freeLink (a .clock) r) (linkRecord a p) other differs in
+        (e, kept, λ deadline _ h. h)
       where
         differs : linkRecord a p .id ≡ l .id → ⊥
         differs q =
