@@ -60,6 +60,7 @@ macro_rules! every_rule {
             judge::first_tests(&rules, packet: &mut Packet, tables: &mut [u8]) -> Result<bool, Reason>;
             judge::not_ours(packet: &Packet, tables: &[u8]) -> bool;
             judge::test_2(&rules, packet: &mut Packet, tables: &mut [u8]) -> Result<(), Reason>;
+            judge::is_exempt(packet: &Packet) -> bool;
             judge::is_duplicate(&rules, hash: &PacketHash, clock: u64, tables: &[u8]) -> bool;
             judge::remember(hash: &PacketHash, clock: u64, tables: &mut [u8]);
             form::type_2_proof(packet: &Packet) -> bool;
@@ -132,7 +133,7 @@ macro_rules! given {
 
 macro_rules! rules {
     ($($file:ident::$rule:ident($(&$rules:ident,)? $($name:ident: $type:ty),*) $(-> $result:ty)?;)*) => {
-        /// How document 01 is read: each rule as it is written, but where it is read otherwise.
+        /// How documents 01 and 02 are read: each rule as it is written, but where it is read otherwise.
         pub trait Rules: Sized {
             $(
                 #[inline(always)]
@@ -147,7 +148,7 @@ macro_rules! rules {
 every_rule!(rules);
 pub(crate) use {every_rule, given};
 
-/// Document 01 as it is written.
+/// The documents as they are written.
 #[derive(Clone, Copy, Debug)]
 pub struct AsWritten;
 

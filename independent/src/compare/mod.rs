@@ -1,5 +1,6 @@
 //! The comparisons, a module for each subject.
 
+pub mod coverage;
 pub mod faults;
 pub mod listed;
 pub mod lockstep;
