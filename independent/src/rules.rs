@@ -3,6 +3,8 @@
 
 pub use crate::answer::{self, Answer, Reason, Refusal, Tally, Verdict, When};
 pub use crate::packet::{self, announced, hash, Address, Header, PacketHash, Parts};
+pub use crate::recording::replaying::Judged;
+pub use crate::recording::{self, reading, replaying, writing, Entry};
 pub use crate::relay::links::Side;
 pub use crate::relay::renumbering::Map;
 pub use crate::relay::{accept, announces, by_path, form, judge, links, outgoing, renumbering, returns, settings, Arrival, Packet};
@@ -120,6 +122,24 @@ macro_rules! every_rule {
             outgoing::is_last_hop(stored: u8) -> bool;
             outgoing::last_hop_header(header: Header) -> Header;
             outgoing::put_unchanged(packet: &Packet, output: &mut [u8]);
+
+            reading::file_refusal(&rules, file: &[u8]) -> Result<(), Refusal>;
+            reading::length_refused(file: &[u8]) -> bool;
+            reading::kind_refused(file: &[u8]) -> bool;
+            reading::places_refused(&rules, file: &[u8]) -> bool;
+            reading::stands_at(entry: &Entry, place: usize) -> bool;
+            reading::ends_at(place: usize, length: usize) -> bool;
+            reading::words_refused(&rules, file: &[u8]) -> bool;
+            reading::word_refused(word: u8) -> bool;
+            reading::entry_of(bytes: &[u8]) -> Entry;
+            reading::entry_at(&rules, file: &[u8], index: u64) -> Option<Entry>;
+            writing::writing_refusal(&rules, entries: &[u8], bodies: usize, room: usize) -> Result<(), Refusal>;
+            writing::clock_past(clock: u64) -> bool;
+            writing::not_a_file(entries: &[u8], bodies: usize) -> bool;
+            writing::room_refused(room: usize, length: usize) -> bool;
+            writing::put_file(entries: &[u8], bodies: &[u8], room: &mut [u8]) -> usize;
+            replaying::replay_line(number: u64, judged: &Judged) -> String;
+            replaying::goes_on(judged: &Judged) -> bool;
         }
     };
 }

@@ -6,6 +6,7 @@ pub mod listed;
 pub mod lockstep;
 pub mod packet;
 pub mod record;
+pub mod recording;
 mod relay;
 mod renumbering;
 mod sha256;

@@ -10,6 +10,7 @@ mod judging;
 mod links;
 mod outgoing;
 mod packets;
+mod recordings;
 mod renumbering;
 mod returns;
 mod settings;
@@ -24,6 +25,7 @@ pub use judging::*;
 pub use links::*;
 pub use outgoing::*;
 pub use packets::*;
+pub use recordings::*;
 pub use renumbering::*;
 pub use returns::*;
 pub use settings::*;
@@ -69,8 +71,11 @@ const OF_JUDGING: &[&[Fault]] = &[
     outgoing::FAULTS,
 ];
 
+/// Those that show in recordings alone.
+pub const OF_RECORDINGS: &[&[Fault]] = &[recordings::FAULTS];
+
 pub fn all() -> Vec<Fault> {
-    [OF_PACKETS, OF_TABLES, OF_JUDGING].concat().concat()
+    [OF_PACKETS, OF_TABLES, OF_JUDGING, OF_RECORDINGS].concat().concat()
 }
 
 pub fn named(name: &str) -> Option<Fault> {
