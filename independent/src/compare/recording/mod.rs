@@ -7,7 +7,6 @@ use super::{Called, Options, Tally};
 use crate::answer;
 use crate::core::LINE;
 use crate::engine::{Fields, Outcome, RecordingCalls};
-use crate::linked::encoded;
 use crate::random::Random;
 use crate::recording::{contents, count, entry, HEAD, LONGEST_FILE};
 use samples::{Damage, Day, Scene, Scenes, DAMAGES, GIVEN_DAMAGES};
@@ -311,7 +310,7 @@ impl Replay {
     /// What a step returned, and all that it left: the line, the tally, the tables.
     fn called(&self, outcome: &Outcome) -> Called {
         let tally = self.tally.map(u32::to_be_bytes).concat();
-        Called::new(encoded(outcome), &[&self.line[..], &tally, &self.tables].concat())
+        Called::new(0u8, &[format!("{outcome:?}").as_bytes(), &self.line, &tally, &self.tables].concat())
     }
 }
 
