@@ -1,6 +1,6 @@
 //! Packet calls of each kind, over tables that are empty, half full and full of live records.
 
-use crate::kinds::{Call, KINDS};
+use crate::kinds::{keepalive_and_hashed, Call, KINDS};
 use crate::measure::{best, Report};
 use crate::scene::Scene;
 use crate::state::{agreed, Independent, State, PROGRAMS};
@@ -13,21 +13,32 @@ const TITLE: &str = "Packet calls, over tables that are empty, half full and ful
 behind all others of its table; empty tables hold it alone. A new path or link takes the first free place, in full
 tables the last, which is expired.";
 
+/// Beside the core's keepalive, the independent relay's, and the core on the other packet.
+const KEEPALIVES: &str = "Keepalives: packets of kind link with context fa, which are not hashed. Beside them, under hash, the core on
+link packets of the same length, which are: hash / core is to be 1.20 or better.";
+
+/// Core and independent relay, by their places among the programs.
+const CORE: usize = 0;
+const INDEPENDENT: usize = 1;
+
+const FILLS: [(&str, Fill); 3] = [("empty", Fill::Empty), ("half", Fill::FirstHalf), ("full", Fill::Full)];
+
 /// A call changes the tables, so a turn makes one call on each of so many copies, restored before it outside the time that counts.
 /// All copies (8 of 71 KiB) lie in a second-level cache of 1 MiB, where a busy relay's tables lie too; no first-level cache holds one.
 const COPIES: usize = 8;
 
-/// Nanoseconds of a call on the core and on the independent relay.
-fn time(before: &State, call: &Call) -> [f64; 2] {
-    let after = agreed(before, call);
+/// Nanoseconds of each call on the program beside it.
+fn time<const N: usize>(before: &State, timed: [(usize, &Call); N]) -> [f64; N] {
+    let after = timed.map(|(_, call)| agreed(before, call));
     let mut relay = Independent::new(Tuned);
     let mut copies = vec![before.clone(); COPIES];
-    best(COPIES, |program| {
+    best(COPIES, |turn| {
+        let (program, call) = timed[turn];
         copies.iter_mut().for_each(|copy| copy.restore(before));
         let start = Instant::now();
         copies.iter_mut().for_each(|copy| PROGRAMS[program](&mut relay, call, copy));
         let time = start.elapsed();
-        assert!(copies[COPIES - 1] == after, "a timed call did something else");
+        assert!(copies[COPIES - 1] == after[turn], "a timed call did something else");
         time
     })
 }
@@ -35,11 +46,22 @@ fn time(before: &State, call: &Call) -> [f64; 2] {
 pub fn run(report: &mut Report) {
     report.table(TITLE, &format!("{:<33}{:>5}  tables", "kind", "bytes"), &[]);
     for (name, kind) in KINDS {
-        for (filled, fill) in [("empty", Fill::Empty), ("half", Fill::FirstHalf), ("full", Fill::Full)] {
+        for (filled, fill) in FILLS {
             let mut scene = Scene::new(fill);
             let call = kind(&mut scene);
             let what = format!("{name:<33}{:>5}  {filled}", call.packet.len());
-            report.line(&what, || time(&State::new(scene.tables), &call));
+            report.line(&what, || time(&State::new(scene.tables), [(CORE, &call), (INDEPENDENT, &call)]));
         }
+    }
+}
+
+pub fn run_keepalives(report: &mut Report) {
+    report.table(KEEPALIVES, &format!("{:<33}{:>5}  tables", "kind", "bytes"), &["hash"]);
+    for (filled, fill) in FILLS {
+        let mut scene = Scene::new(fill);
+        let [keepalive, hashed] = keepalive_and_hashed(&mut scene);
+        let what = format!("{:<33}{:>5}  {filled}", "keepalive", keepalive.packet.len());
+        let timed = [(CORE, &keepalive), (INDEPENDENT, &keepalive), (CORE, &hashed)];
+        report.line(&what, || time(&State::new(scene.tables), timed));
     }
 }

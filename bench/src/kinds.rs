@@ -19,6 +19,9 @@ const ANNOUNCE: usize = 164;
 const LINK_REQUEST: usize = 67;
 const LINK_PROOF: usize = 99;
 const PROOF: usize = 64;
+const KEEPALIVE: usize = 1;
+/// The context of a keepalive, by source 005.
+const KEEPALIVE_CONTEXT: u8 = 0xfa;
 
 /// A packet call on a scene's tables.
 pub struct Call {
@@ -159,6 +162,15 @@ fn link_data_asking(scene: &mut Scene) -> Call {
 fn link_data_answering(scene: &mut Scene) -> Call {
     let id = link_of(scene, true);
     Call { port: LEAVING, ..arriving(scene.packet(0x0c, id, DATA), Verdict::Forward(ARRIVAL)) }
+}
+
+/// A keepalive, and a link packet that differs from it in the context alone and is hashed.
+pub fn keepalive_and_hashed(scene: &mut Scene) -> [Call; 2] {
+    let id = link_of(scene, true);
+    let hashed = scene.packet(0x0c, id, KEEPALIVE);
+    let mut keepalive = hashed.clone();
+    keepalive[START_1 - 1] = KEEPALIVE_CONTEXT;
+    [keepalive, hashed].map(|packet| arriving(packet, Verdict::Forward(LEAVING)))
 }
 
 fn ordinary_proof(scene: &mut Scene) -> Call {

@@ -12,5 +12,5 @@ mod state;
 
 fn main() {
     let only = std::env::args().nth(1).unwrap_or_default();
-    measure::run(only, &[hashing::run, check::run, search::run, calls::run]);
+    measure::run(only, &[hashing::run, check::run, search::run, calls::run, calls::run_keepalives]);
 }

@@ -1,6 +1,6 @@
-//! What the calls answer, with document 01's numbers.
+//! What the calls answer, with the numbers of documents 01 and 02.
 
-/// An enum whose cases have document 01's numbers. A case keeps its number where it holds more than that.
+/// An enum whose cases have the documents' numbers. A case keeps its number where it holds more than that.
 macro_rules! numbered {
     ($(#[$about:meta])* $name:ident { $($case:ident = $number:literal,)* }) => {
         $(#[$about])*
@@ -40,6 +40,11 @@ numbered! {
         Setting = 9,
         LocalsFull = 10,
         LocalAddress = 11,
+        FileLength = 20,
+        FileKind = 21,
+        FilePlaces = 22,
+        SignatureWord = 23,
+        Room = 25,
     }
 }
 
@@ -131,10 +136,11 @@ mod tests {
     use super::*;
 
     #[test]
-    fn reasons_have_document_01s_numbers() {
+    fn reasons_and_refusals_have_the_documents_numbers() {
         for number in 0..=255 {
+            let refusal = matches!(number, 1..=11 | 20..=23 | 25);
             assert_eq!(Reason::from_number(number).map(Reason::number), (1..=14).contains(&number).then_some(number));
-            assert_eq!(Refusal::from_number(number).map(Refusal::number), (1..=11).contains(&number).then_some(number));
+            assert_eq!(Refusal::from_number(number).map(Refusal::number), refusal.then_some(number));
         }
     }
 }

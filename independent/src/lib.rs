@@ -11,6 +11,7 @@ pub mod line;
 pub mod linked;
 pub mod packet;
 pub mod random;
+pub mod recording;
 pub mod relay;
 pub mod rules;
 pub mod samples;

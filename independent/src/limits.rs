@@ -1,4 +1,4 @@
-//! Document 01's numbers, each in one place.
+//! The numbers of documents 01 and 02, each in one place.
 
 /// "16 ports, 0 to 15, each on or off and boundary, access point or roaming."
 pub const PORT_COUNT: usize = 16;
@@ -44,3 +44,7 @@ pub const LINK_KEYS: usize = 64;
 /// "a link proof (a proof of kind link, context 0xFF) whose payload isn't 96 or 99"
 pub const LINK_PROOF: u8 = 0xff;
 pub const LINK_PROOF_LENGTHS: [usize; 2] = [96, 99];
+
+/// Wish 2: "context 0x01, 0x03, 0x05, 0x08, 0x0E or 0xFA". Source 003 names them: a resource, its request and its proof, a cache request,
+/// channel data, a keepalive.
+pub const EXEMPT_CONTEXTS: [u8; 6] = [0x01, 0x03, 0x05, 0x08, 0x0e, 0xfa];

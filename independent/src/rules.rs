@@ -3,6 +3,8 @@
 
 pub use crate::answer::{self, Answer, Reason, Refusal, Tally, Verdict, When};
 pub use crate::packet::{self, announced, hash, Address, Header, PacketHash, Parts};
+pub use crate::recording::replaying::Judged;
+pub use crate::recording::{self, reading, replaying, writing, Entry};
 pub use crate::relay::links::Side;
 pub use crate::relay::renumbering::Map;
 pub use crate::relay::{accept, announces, by_path, form, judge, links, outgoing, renumbering, returns, settings, Arrival, Packet};
@@ -60,6 +62,7 @@ macro_rules! every_rule {
             judge::first_tests(&rules, packet: &mut Packet, tables: &mut [u8]) -> Result<bool, Reason>;
             judge::not_ours(packet: &Packet, tables: &[u8]) -> bool;
             judge::test_2(&rules, packet: &mut Packet, tables: &mut [u8]) -> Result<(), Reason>;
+            judge::is_exempt(packet: &Packet) -> bool;
             judge::is_duplicate(&rules, hash: &PacketHash, clock: u64, tables: &[u8]) -> bool;
             judge::remember(hash: &PacketHash, clock: u64, tables: &mut [u8]);
             form::type_2_proof(packet: &Packet) -> bool;
@@ -119,6 +122,24 @@ macro_rules! every_rule {
             outgoing::is_last_hop(stored: u8) -> bool;
             outgoing::last_hop_header(header: Header) -> Header;
             outgoing::put_unchanged(packet: &Packet, output: &mut [u8]);
+
+            reading::file_refusal(&rules, file: &[u8]) -> Result<(), Refusal>;
+            reading::length_refused(file: &[u8]) -> bool;
+            reading::kind_refused(file: &[u8]) -> bool;
+            reading::places_refused(&rules, file: &[u8]) -> bool;
+            reading::stands_at(entry: &Entry, place: usize) -> bool;
+            reading::ends_at(place: usize, length: usize) -> bool;
+            reading::words_refused(&rules, file: &[u8]) -> bool;
+            reading::word_refused(word: u8) -> bool;
+            reading::entry_of(bytes: &[u8]) -> Entry;
+            reading::entry_at(&rules, file: &[u8], index: u64) -> Option<Entry>;
+            writing::writing_refusal(&rules, entries: &[u8], bodies: usize, room: usize) -> Result<(), Refusal>;
+            writing::clock_past(clock: u64) -> bool;
+            writing::not_a_file(entries: &[u8], bodies: usize) -> bool;
+            writing::room_refused(room: usize, length: usize) -> bool;
+            writing::put_file(entries: &[u8], bodies: &[u8], room: &mut [u8]) -> usize;
+            replaying::replay_line(number: u64, judged: &Judged) -> String;
+            replaying::goes_on(judged: &Judged) -> bool;
         }
     };
 }
@@ -132,7 +153,7 @@ macro_rules! given {
 
 macro_rules! rules {
     ($($file:ident::$rule:ident($(&$rules:ident,)? $($name:ident: $type:ty),*) $(-> $result:ty)?;)*) => {
-        /// How document 01 is read: each rule as it is written, but where it is read otherwise.
+        /// How documents 01 and 02 are read: each rule as it is written, but where it is read otherwise.
         pub trait Rules: Sized {
             $(
                 #[inline(always)]
@@ -147,7 +168,7 @@ macro_rules! rules {
 every_rule!(rules);
 pub(crate) use {every_rule, given};
 
-/// Document 01 as it is written.
+/// The documents as they are written.
 #[derive(Clone, Copy, Debug)]
 pub struct AsWritten;
 

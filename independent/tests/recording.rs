@@ -1,6 +1,6 @@
 //! Recorded calls: a host in another language reads them as they are written here.
 
-use haskumye_independent::compare::{listed, lockstep::Coverage, record::record, Options};
+use haskumye_independent::compare::{coverage::Coverage, listed, record::record, Options};
 use haskumye_independent::engine::{Call, Run};
 use haskumye_independent::relay::Relay;
 use haskumye_independent::traffic::Traffic;
@@ -28,8 +28,10 @@ fn a_recording_is_a_list_with_an_answer_to_each_call() {
 fn the_gates_recording_reaches_every_refusal_reason_and_verdict() {
     let (mut run, mut coverage) = (Run::new(Relay::as_written()), Coverage::default());
     for call in Traffic::new(1).take(20_000) {
+        let remembered = coverage.is_remembered(&call, &run.tables);
         if let Some(outcome) = run.make(&call) {
             coverage.count(&outcome);
+            coverage.count_exempt(&call, &outcome, remembered);
         }
     }
     for (what, times) in coverage.reached() {

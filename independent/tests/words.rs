@@ -13,8 +13,10 @@ fn plain(text: &str) -> String {
     text.replace(['*', '`'], "").split_whitespace().collect::<Vec<_>>().join(" ")
 }
 
-fn document_01() -> String {
-    plain(&fs::read_to_string(root().join("docs/scope/01-scope.md")).expect("document 01"))
+/// Documents 01 and 02, in one text.
+fn documents() -> String {
+    let text = |name: &str| fs::read_to_string(root().join("docs/scope").join(name)).expect("a scope document");
+    plain(&(text("01-scope.md") + "\n" + &text("02-change-requests.md")))
 }
 
 /// The texts of a file or of all files of a folder.
@@ -34,21 +36,21 @@ fn quoted(text: &str) -> Vec<String> {
 }
 
 #[test]
-fn faults_break_words_of_document_01() {
-    let document = document_01();
+fn faults_break_words_of_the_documents() {
+    let documents = documents();
     for fault in faults::all() {
-        assert!(document.contains(&plain(fault.breaks)), "{}: {}", fault.name, fault.breaks);
+        assert!(documents.contains(&plain(fault.breaks)), "{}: {}", fault.name, fault.breaks);
     }
 }
 
 #[test]
-fn rules_quote_document_01() {
-    let document = document_01();
-    let files = ["answer.rs", "limits.rs", "packet", "tables", "relay"];
+fn rules_quote_the_documents() {
+    let documents = documents();
+    let files = ["answer.rs", "limits.rs", "packet", "tables", "relay", "recording"];
     let texts: Vec<String> = files.iter().flat_map(|file| texts(&root().join("independent/src").join(file))).collect();
     let quotations: Vec<String> = texts.iter().flat_map(|text| quoted(text)).collect();
     assert!(quotations.len() > 80, "{} quotations", quotations.len());
     for quotation in quotations {
-        assert!(document.contains(&quotation), "not in document 01: {quotation}");
+        assert!(documents.contains(&quotation), "in neither document: {quotation}");
     }
 }

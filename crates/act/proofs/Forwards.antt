@@ -38,8 +38,9 @@ use Rattle.update.proofs.Enacted.{return-written, link-written, link-renewed, r
 use Rattle.outgoing.specs.Leaving.{CanLeave}
 use Rattle.plan.specs.declared.Arrived.{Arrived}
 use Rattle.plan.specs.declared.Decision.the-variants.{Data, Request, Carry, Receipt}
-use Rattle.plan.specs.Decided.{linkAt, returnAt, seen, pathAt, arrivalOf, decision}
+use Rattle.plan.specs.Decided.{usedHash, linkAt, returnAt, seen, pathAt, arrivalOf, decision}
 use Rattle.plan.proofs.KindLaws.{request-left}
+use Rattle.plan.proofs.ContextLaws.{never-exempt, used-own}
 use Rattle.act.specs.Stored.{addressBy, returnPut}
 use Rattle.act.specs.Acted.{AcceptedOn, planOn, verdictOn, writtenOn, outputOn, CarriesOut, forwardedOn}
 use Rattle.rules.proofs.Passed.{passed}
@@ -97,6 +98,13 @@ module _ (packet : List ℕ) (m : Arrived) (t : List ℕ) (ok : AcceptedOn packe
         let f : Planned v a (follows (by-path (k .0))) = subst (Planned v a) (k .1) (planned v a) in
         let q = at-place i pathCount (f .found .0) (path-found t (m .clock) (destination a) i (k .3)) (path-missing t (m .clock) (destination a) i (k .3)) in
         (q .0, k .1 ∙ ap (λ (p : Path). follows (by-path p)) (q .1), k .2)
+
+    -- it is of no link, so not exempt, and the hash that goes with it is its own
+    pub data-hash : usedHash packet ≡ packetHash packet
+    data-hash =
+        let k = inverted r a (Data i) d in
+        let f : Planned v a (follows (by-path (k .0))) = subst (Planned v a) (k .1) (planned v a) in
+        used-own packet (never-exempt packet (f .found .3))
 
     pub data-left : Bytes t → (port n : ℕ) (output u o : List ℕ) → port ≡ pathAt t i .port → n ≡ length (forwardedOn packet t i)
         → o ≡ patch output 0 (forwardedOn packet t i) → (hash : List ℕ) → hash ≡ packetHash packet

@@ -1,13 +1,15 @@
 -- What the writes of an accepted packet leave in the tables' bytes t: a record of its own, and then the stamp of clock and hash.
 -- For the contracts of helpers: not part of what a reader must believe.
 use Prim.Native.Nat.{ℕ, _+_}
-use mathlib.Core.Bool.{Bool, true}
+use mathlib.Core.Bool.{Bool, true, not}
 use mathlib.Core.List.{List, _++_}
 use lib.ListN.{take}
+use Rattle.octets.specs.Index.{_and_}
 use Rattle.octets.specs.Choice.{_then_otherwise_}
 use Rattle.octets.specs.BigEndian.{bigEndian}
 use Rattle.numbers.specs.Numbers.{blobLimit, hashLifetime, returnLifetime}
 use Rattle.rules.specs.Relay.{Blobs}
+use Rattle.rules.specs.Exempt.{exempt}
 use Rattle.rules.specs.Blobs.{oneBlob, addBlob}
 use Rattle.rules.specs.Writes.{remembersDrop}
 use Rattle.tables.specs.Places.{pathsAt, pathWidth}
@@ -19,15 +21,19 @@ use Rattle.plan.specs.declared.Decision.{Decision}
 use Rattle.plan.specs.declared.Decision.the-variants.{Drop, Deliver, Announce, Data, Request, Carry, Receipt}
 
 -- ---- the stamp
--- whether the hash is remembered, by what was decided
-abbrev pub remembersDecided : Decision → Bool
-remembersDecided (Drop reason) = remembersDrop reason
-remembersDecided Deliver = true
-remembersDecided (Announce place known) = true
-remembersDecided (Data path) = true
-remembersDecided (Request path place high low) = true
-remembersDecided (Carry link port) = true
-remembersDecided (Receipt place port) = true
+-- whether what was decided lets the hash be remembered
+abbrev pub decisionRemembers : Decision → Bool
+decisionRemembers (Drop reason) = remembersDrop reason
+decisionRemembers Deliver = true
+decisionRemembers (Announce place known) = true
+decisionRemembers (Data path) = true
+decisionRemembers (Request path place high low) = true
+decisionRemembers (Carry link port) = true
+decisionRemembers (Receipt place port) = true
+
+-- .. and whether it is: an exempt packet's never
+unfoldable pub remembersDecided : List ℕ → Decision → Bool
+remembersDecided packet d = not (exempt packet) and decisionRemembers d
 
 -- the clock, and the hash, if it is remembered, at a place of its ring
 unfoldable pub stamped : List ℕ → ℕ → Bool → List ℕ → ℕ → List ℕ

@@ -18,10 +18,11 @@ use rules::Verdict;
 use stamps::remembers;
 use stamps::stamp;
 ghost use mathlib.Core.Path.{_≡_};
-ghost use Rattle.packet.specs.Hash.{packetHash};
+ghost use Rattle.plan.specs.Decided.{usedHash};
 ghost use Rattle.act.specs.Acted.{CanCarryOut, CarriesOut, Acts};
 
-// Carries out what was decided of an accepted packet: writes its record and what leaves, all but the stamp.
+// Carries out what was decided of an accepted packet: writes its record and what leaves, all but the stamp. The hash is
+// used by `send` alone, which no exempt packet reaches.
 fn carry_out(
     packet: &[u8],
     arrived: Arrived,
@@ -31,7 +32,7 @@ fn carry_out(
     output: &mut [u8],
 ) -> Verdict
     requires { ⌜ CanCarryOut (now packet) arrived (now tables) (now output) decision
-        × (hash ≡ packetHash (now packet)) ⌝ }
+        × (hash ≡ usedHash (now packet)) ⌝ }
     ensures { λ r. ⌜ CarriesOut (now (packet .entry)) arrived (now (tables .entry)) (now (output .entry))
         r (now (tables .exit)) (now (output .exit)) ⌝ }
 {
@@ -65,12 +66,12 @@ pub fn act(
     output: &mut [u8],
 ) -> Verdict
     requires { ⌜ CanCarryOut (now packet) arrived (now tables) (now output) decision
-        × (hash ≡ packetHash (now packet)) ⌝ }
+        × (hash ≡ usedHash (now packet)) ⌝ }
     ensures { λ r. ⌜ Acts (now (packet .entry)) arrived (now (tables .entry)) (now (output .entry))
         r (now (tables .exit)) (now (output .exit)) ⌝ }
 {
     let place = update::next_hash(tables);
-    let remembered = remembers(decision);
+    let remembered = remembers(packet, decision);
     let verdict = carry_out(packet, arrived, hash, decision, tables, output);
     stamp(tables, place, remembered, hash, arrived.clock);
     verdict

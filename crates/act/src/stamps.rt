@@ -1,10 +1,13 @@
-// The stamp of an accepted packet: every one sets the clock, and all but drops 1 and 2 leave their hash in the tables.
+// The stamp of an accepted packet: every one sets the clock, and all but exempt packets and drops 1 and 2 leave their
+// hash in the tables.
 use numbers::HASH_LIFETIME;
 use plan::Decision;
 use rules::Reason;
 ghost use mathlib.Core.Path.{_≡_};
+ghost use mathlib.Core.Bool.{true};
 ghost use Prim.Native.Nat.{_<_};
 ghost use lib.ListN.{length};
+ghost use Rattle.packet.specs.Read.{longestPacket, reads};
 ghost use Rattle.numbers.specs.Numbers.{hashCount, clockLimit};
 ghost use Rattle.rules.specs.Writes.{remembersDrop};
 ghost use Rattle.tables.specs.Places.{tableSize};
@@ -20,10 +23,14 @@ fn remembers_drop(reason: Reason) -> bool
     }
 }
 
-// Whether the packet's hash is remembered.
-pub fn remembers(decision: Decision) -> bool
-    ensures { λ r. ⌜ r ≡ remembersDecided decision ⌝ }
+// Whether the packet's hash is remembered: an exempt packet's is not, whatever was decided.
+pub fn remembers(packet: &[u8], decision: Decision) -> bool
+    requires { ⌜ reads longestPacket (now packet) ≡ true ⌝ }
+    ensures { λ r. ⌜ r ≡ remembersDecided (now (packet .entry)) decision ⌝ }
 {
+    if plan::exempt(packet) {
+        return false;
+    }
     let Decision::Drop(reason) = decision else {
         return true;
     };

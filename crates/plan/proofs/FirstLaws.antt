@@ -13,7 +13,6 @@ use Rattle.octets.proofs.Choice.{same-agree, or-no}
 use Rattle.octets.proofs.Index.{and-yes, and-no, and-left, and-right}
 use Rattle.octets.proofs.Part.{part-length}
 use Rattle.packet.specs.Header.{typeTwo, ofKindLink, isData, isAnnounce, isLinkRequest}
-use Rattle.packet.specs.Hash.{packetHash}
 use Rattle.packet.specs.Read.{longestPacket, reads}
 use Rattle.packet.proofs.Widths.{parts-wide}
 use Rattle.packet.proofs.ReadLaws.{parts-hops}
@@ -23,6 +22,7 @@ use Rattle.numbers.specs.Numbers.{hashCount}
 use Rattle.rules.specs.Relay.{Relay}
 use Rattle.rules.specs.View.{View, hashPlace, isLocal, viewAt}
 use Rattle.rules.specs.Arrival.{Arrival, header, hops, relayAddress, destination}
+use Rattle.rules.specs.Exempt.{exempt}
 use Rattle.rules.specs.Tests.{notOurs, testedAsDuplicate, duplicate, badForm, ownAnnounce, deliveredHere, tooManyHops}
 use Rattle.rules.specs.Ways.{wayOn}
 use Rattle.rules.specs.Judging.{Plan, dropped, delivered, follows, earlyTests, onwardPlan, plan}
@@ -33,10 +33,11 @@ use Rattle.outgoing.proofs.LeavingLaws.{whole}
 use Rattle.octets.proofs.Listed.{NoneHolds}
 use Rattle.rules.proofs.Passed.{stops}
 use Rattle.plan.specs.First.{early, firstTests}
-use Rattle.plan.specs.Decided.{decided, decision, onward}
+use Rattle.plan.specs.Decided.{usedHash, decided, decision, onward}
 use Rattle.plan.specs.declared.Early.{Early}
 use Rattle.plan.specs.declared.Early.the-variants.{Dropped, Delivered, Undecided}
 use Rattle.plan.specs.declared.Decision.the-variants.{Drop, Deliver}
+use Rattle.plan.proofs.ContextLaws.{used-own}
 
 -- what the tests behind the first n say
 unfoldable pub earlyFrom : ℕ → View → Arrival → Early
@@ -93,9 +94,16 @@ module _ (r : Relay) (a : Arrival) where
   unfolding notOurs viewAt
   ours-clauses = refl
 
-  pub duplicate-place : {i : ℕ} → i ≡ hashPlace (a .clock) r (packetHash (a .bytes)) → duplicate (viewAt (a .clock) r) a ≡ ltb i hashCount
-  unfolding duplicate testedAsDuplicate viewAt _and_
-  duplicate-place e = ap (λ (k : ℕ). ltb k hashCount) (sym e)
+  pub not-tested : exempt (a .bytes) ≡ true → duplicate (viewAt (a .clock) r) a ≡ false
+  unfolding duplicate testedAsDuplicate
+  not-tested is = and-no _ (ap not is)
+
+  pub duplicate-place : exempt (a .bytes) ≡ false → {i : ℕ} → i ≡ hashPlace (a .clock) r (usedHash (a .bytes))
+      → duplicate (viewAt (a .clock) r) a ≡ ltb i hashCount
+  unfolding duplicate testedAsDuplicate viewAt
+  duplicate-place tested e =
+      and-yes _ (ap not tested)
+      ∙ ap (λ (k : ℕ). ltb k hashCount) (sym (e ∙ ap (hashPlace (a .clock) r) (used-own (a .bytes) tested)))
 
   pub own-clauses : ownAnnounce (viewAt (a .clock) r) a ≡ (isAnnounce (header a) and isLocal r (destination a))
   unfolding ownAnnounce viewAt

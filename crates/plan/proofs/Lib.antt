@@ -1,5 +1,6 @@
 pub mod KindLaws
 pub mod FormLaws
+pub mod ContextLaws
 pub mod FirstLaws
 pub mod AnnounceLaws
 pub mod PathLaws

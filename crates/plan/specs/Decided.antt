@@ -4,16 +4,17 @@ use Prim.Native.Nat.{ℕ}
 use mathlib.Core.Bool.{true}
 use mathlib.Core.List.{List}
 use mathlib.Core.Path.{_≡_}
-use lib.ListN.{length}
+use lib.ListN.{length, replicate}
 use Rattle.octets.specs.Choice.{_then_otherwise_}
 use Rattle.octets.specs.Part.{part}
 use Rattle.octets.specs.BigEndian.{number}
 use Rattle.packet.specs.Header.{isData}
 use Rattle.packet.specs.Read.{longestPacket, reads}
-use Rattle.packet.specs.Hash.{linkId}
+use Rattle.packet.specs.Hash.{packetHash, linkId}
 use Rattle.rules.specs.Relay.{Path, Return, Relay}
 use Rattle.rules.specs.View.{View, viewAt, pathPlace, linkPlace, returnPlace, freeLink}
 use Rattle.rules.specs.Arrival.{Arrival, header, destination}
+use Rattle.rules.specs.Exempt.{exempt}
 use Rattle.rules.specs.Ways.{Way, everywhere, by-path, along-link, by-return, blocked, wayOn}
 use Rattle.rules.specs.Tests.{isThere, leavingPort}
 use Rattle.rules.specs.Judging.{Plan, dropped, delivered, follows, onwardPlan, plan}
@@ -48,6 +49,10 @@ pub record CanRead (packet t : List ℕ) : Type 0 where
 pub record CanJudge (packet t : List ℕ) : Type 0 where
   pub readable : reads longestPacket packet ≡ true
   pub formed : wellFormed t ≡ true
+
+-- ---- the hash that goes with a packet: nothing uses an exempt packet's, and zeros stand in its place
+unfoldable pub usedHash : List ℕ → List ℕ
+usedHash packet = exempt packet then replicate 32 0 otherwise packetHash packet
 
 -- ---- what the tables show
 -- at the packet's clock

@@ -3,17 +3,17 @@ use super::Arrived;
 use super::Early;
 use super::Form;
 use super::bad_form::form_of;
+use super::contexts::exempt;
 use numbers::HASH_COUNT;
 use numbers::HOPS_LIMIT;
 use numbers::LOCAL_COUNT;
 use rules::Reason;
 ghost use mathlib.Core.Path.{_≡_};
 ghost use Rattle.packet.specs.Read.{partsOf};
-ghost use Rattle.packet.specs.Hash.{packetHash};
 ghost use Rattle.rules.specs.View.{isLocal};
-ghost use Rattle.rules.specs.Tests.{notOurs, ownAnnounce, deliveredHere};
+ghost use Rattle.rules.specs.Tests.{notOurs, duplicate as isDuplicate, ownAnnounce, deliveredHere};
 ghost use Rattle.tables.specs.Layout.{relayOf};
-ghost use Rattle.plan.specs.Decided.{arrivalOf, CanRead, seen};
+ghost use Rattle.plan.specs.Decided.{arrivalOf, CanRead, usedHash, seen};
 ghost use Rattle.plan.specs.First.{firstTests};
 
 // Test 1.
@@ -31,6 +31,17 @@ pub fn not_ours(tables: &[u8], packet: &[u8], arrived: Arrived) -> bool
     let parts = packet::parts_of(packet);
     let relay = parts.relay;
     !octets::equal16(relay, lookup::own_address(tables))
+}
+
+// Test 2. An exempt packet's hash is not read.
+fn duplicate(tables: &[u8], packet: &[u8], arrived: Arrived, hash: [u8; 32]) -> bool
+    requires { ⌜ CanRead (now packet) (now tables) × (hash ≡ usedHash (now packet)) ⌝ }
+    ensures { λ r. ⌜ r ≡ isDuplicate (seen arrived (now (tables .entry))) (arrivalOf (now (packet .entry)) arrived) ⌝ }
+{
+    if exempt(packet) {
+        return false;
+    }
+    lookup::hash_place(tables, hash, arrived.clock) < HASH_COUNT
 }
 
 // Whether the packet's destination is local.
@@ -74,13 +85,13 @@ fn delivered_here(tables: &[u8], packet: &[u8], arrived: Arrived) -> bool
 }
 
 pub fn first_tests(tables: &[u8], packet: &[u8], arrived: Arrived, hash: [u8; 32]) -> Early
-    requires { ⌜ CanRead (now packet) (now tables) × (hash ≡ packetHash (now packet)) ⌝ }
+    requires { ⌜ CanRead (now packet) (now tables) × (hash ≡ usedHash (now packet)) ⌝ }
     ensures { λ r. ⌜ r ≡ firstTests (seen arrived (now (tables .entry))) (arrivalOf (now (packet .entry)) arrived) ⌝ }
 {
     if not_ours(tables, packet, arrived) {
         return Early::Dropped(Reason::NotOurs);
     }
-    if lookup::hash_place(tables, hash, arrived.clock) < HASH_COUNT {
+    if duplicate(tables, packet, arrived, hash) {
         return Early::Dropped(Reason::Duplicate);
     }
     if let Form::Bad(clause) = form_of(packet) {

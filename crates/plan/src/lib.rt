@@ -3,6 +3,7 @@
 // packet reads. Entry points: none. The packet call decides by `not_ours`, before it hashes, and by `decide`.
 mod announces;
 mod bad_form;
+mod contexts;
 mod first;
 mod links;
 mod paths;
@@ -10,6 +11,8 @@ mod returns;
 
 use announces::decide_announce;
 pub use bad_form::is_link_proof;
+pub use contexts::exempt;
+pub use contexts::used_hash;
 use first::first_tests;
 pub use first::not_ours;
 use links::decide_of_link;
@@ -19,9 +22,8 @@ use rules::Clause;
 use rules::Reason;
 ghost use mathlib.Core.Path.{_≡_};
 ghost use mathlib.Core.Bool.{false};
-ghost use Rattle.packet.specs.Hash.{packetHash};
 ghost use Rattle.rules.specs.Tests.{badForm};
-ghost use Rattle.plan.specs.Decided.{CanJudge, onwardOn, decisionOn};
+ghost use Rattle.plan.specs.Decided.{CanJudge, usedHash, onwardOn, decisionOn};
 
 // How a packet came: the arrival port, the clock, and the host's word on the signature.
 pub struct Arrived {
@@ -94,9 +96,9 @@ fn decide_onward(tables: &[u8], packet: &[u8], arrived: Arrived) -> Decision
     decide_by_path(tables, packet, arrived)
 }
 
-// What is to be done with an accepted packet, whose hash the caller has.
+// What is to be done with an accepted packet, whose hash the caller has, where it is used.
 pub fn decide(tables: &[u8], packet: &[u8], arrived: Arrived, hash: [u8; 32]) -> Decision
-    requires { ⌜ CanJudge (now packet) (now tables) × (hash ≡ packetHash (now packet)) ⌝ }
+    requires { ⌜ CanJudge (now packet) (now tables) × (hash ≡ usedHash (now packet)) ⌝ }
     ensures { λ r. ⌜ r ≡ decisionOn (now (packet .entry)) arrived (now (tables .entry)) ⌝ }
 {
     match first_tests(tables, packet, arrived, hash) {

@@ -23,7 +23,7 @@ pub struct Answered {
 
 // A packet that came by a port at a clock, with the host's word on its signature. The tables and the output are written
 // where they lie. Test 1 comes before the hash: its drop remembers nothing, and on a shared radio most packets are for
-// other relays.
+// other relays. Keepalives and their like aren't hashed at all.
 pub fn judge(
     packet: &[u8],
     port: u64,
@@ -57,7 +57,7 @@ pub fn judge(
             tally: counted(dropped, tally),
         };
     }
-    let hash = packet::hash_of(packet);
+    let hash = plan::used_hash(packet);
     let decision = plan::decide(tables, packet, arrived, hash);
     let verdict = act::act(packet, arrived, hash, decision, tables, output);
     Answered {

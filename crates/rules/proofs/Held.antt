@@ -1,13 +1,13 @@
 -- What holds of each part of a relay holds after a call, if it holds of the parts that the call writes: one family of laws. It serves refusal
 -- 7 (Valid), keys that are live once (Unique), and what bytes can hold (demands).
 use Prim.Native.Nat.{ℕ}
-use mathlib.Core.Bool.{Bool, true, false}
+use mathlib.Core.Bool.{true, false}
 use mathlib.Core.List.{List, [], _∷_, map}
-use mathlib.Core.Path.{_≡_, sym, ap, subst}
+use mathlib.Core.Path.{_≡_}
 use lib.Dec.{eqb}
 use lib.ListN.{length, set}
 use Rattle.packet.specs.Header.{isData}
-use Rattle.rules.specs.Relay.{Port, Slot, empty, used, Path, Return, Remembered, Ring, makePort, withSlots, Relay, makeRelay, withClock, withPorts, withLocals, withPaths, withLinks, withReturns, withHashes}
+use Rattle.rules.specs.Relay.{Port, Slot, empty, used, Path, Return, Remembered, Ring, makePort, withSlots, Relay, withClock, withPorts, withLocals, withPaths, withLinks, withReturns, withHashes}
 use Rattle.rules.specs.View.{View, viewAt, localPlace}
 use Rattle.rules.specs.Renumbering.{movedPorts, renamePath, renameLink, renameReturn, renameSlot, renumbered}
 use Rattle.rules.specs.Refusals.{packetRefusal, emptyLocal}

@@ -12,6 +12,7 @@ pub mod History
 pub mod SignatureWord
 pub mod Tables
 pub mod Slots
+pub mod Lowest
 pub mod BlobLaws
 pub mod Accepted
 pub mod Followed
@@ -35,3 +36,5 @@ pub mod Renumbering
 pub mod UniqueAt
 pub mod UniqueWrites
 pub mod Unique
+pub mod Keepalive
+pub mod Lasting

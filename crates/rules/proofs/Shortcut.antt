@@ -91,12 +91,13 @@ seen-quick clock r hash whole =
     ∙ lowest-passes (isLiveHash clock hash) (r .hashes .slots)
     ∙ passes-cong (isLiveHash clock hash) _ (λ m. and-comm (same (m .hash) hash) (live clock (m .expiry))) (r .hashes .slots)
 
--- ---- a packet of good form, of which test 2 says `seen`
+-- ---- a packet of good form, of whose hash it is given whether it is remembered
 unfoldable pub goodPlan : Bool → View → Arrival → Plan
-goodPlan seen v a = firstOf (told (ofTest 3) false (told (ofTest 2) seen (earlyTests v a))) (onwardPlan v a (wayOn v a))
+goodPlan seen v a =
+    firstOf (told (ofTest 3) false (told (ofTest 2) (testedAsDuplicate v a and seen) (earlyTests v a))) (onwardPlan v a (wayOn v a))
 
 plan-good : (v : View) (a : Arrival) {seen : Bool} → v .remembered (hash a) ≡ seen → badForm (a .bytes) ≡ false → plan v a ≡ goodPlan seen v a
-unfolding plan goodPlan earlyTests told ofTest duplicate testedAsDuplicate _and_ _then_otherwise_
+unfolding plan goodPlan earlyTests told ofTest duplicate _then_otherwise_
 plan-good v a s g = rw (s, g)
 
 -- judging an accepted packet, with both decided apart

@@ -29,10 +29,10 @@ abbrev pub Every : {A : Type 0} → (A → Bool) → (A → Type 0) → List (Sl
 Every {A} alive So slots = (i : ℕ) (x : A) → getD slots i empty ≡ used x → alive x ≡ true → So x
 
 module _ {A : Type 0} where
-  used-not-empty : {x : A} → empty ≡ used x → ⊥
+  pub used-not-empty : {x : A} → empty ≡ used x → ⊥
   used-not-empty {x} e = let z : _≡_ {A = ℕ} 0 1 = cc in omega arith
 
-  used-same : {x y : A} → used x ≡ used y → x ≡ y
+  pub used-same : {x y : A} → used x ≡ used y → x ≡ y
   used-same e = cc
 
   -- ---- what is read after a write, and in a fresh table

@@ -21,12 +21,13 @@ use Rattle.rules.specs.Blobs.{held, isAmong, greatest, greatestEmission,
 use Rattle.rules.specs.Refusals.{timeOk, portOk, pathOk, linkOk, returnOk, hashOk, slotOk, all, tableOk, tablesOk, packetRows, refusalBy, emptyLocal}
 use Rattle.rules.specs.Renumbering.{image, differsBefore, oneToOne, preimage, movedPorts, renamePath, renameLink, renameReturn, renameSlot, renumbered}
 use Rattle.rules.specs.Arrival.{isLinkProof}
+use Rattle.rules.specs.Exempt.{exemptContext, exempt}
 use Rattle.rules.specs.Ways.{pathWay, linkWay, returnWay, wayOn}
 use Rattle.rules.specs.Tests.{notOurs, testedAsDuplicate, duplicate, typeTwoProof, typeTwoOfKindLink, announceNotSingle, announceTooShort, announceOfAnother, requestOfKindLink, requestTooShort, linkProofLength, formTests, badForm, failing, ownAnnounce, deliveredHere, tooManyHops, noWayOn, whyBlocked, isThere, followsProvedLink, alreadyKnown, fromAnsweringSide, fromAskingSide, wrongSide, notSigned, replay, notBetter, leavingPort, portOff, noRoom}
 use Rattle.rules.specs.Answers.{setBelow, portSet}
 use Rattle.rules.specs.Outgoing.{rewritten, spreadHeader, spreadPacket, spreadPorts, pathPacket, carriedPacket, outgoing, exceeds, grownTooLong}
 use Rattle.rules.specs.Judging.{earlyTests, onwardTests, onwardPlan, plan, spreadVerdict, wayVerdict, verdict, leaves, outputAfter}
-use Rattle.rules.specs.Writes.{putNext, remembers, remember, announcedBlobs, announcedPath, announcedPlace, putPath, returnKey, returnRecord, emptiedIf, emptiedWhere, putReturn, emptyReturn, linkRecord, putLink, renewedLink, renewLink, writeWay, writePlan, stamp, enact}
+use Rattle.rules.specs.Writes.{putNext, remembersPlan, remembers, remember, announcedBlobs, announcedPath, announcedPlace, putPath, returnKey, returnRecord, emptiedIf, emptiedWhere, putReturn, emptyReturn, linkRecord, putLink, renewedLink, renewLink, writeWay, writePlan, stamp, enact}
 use Rattle.rules.specs.Calls.{newTally, up, counted, judged, judge, packetCall, settled, ruleOf, tableRefusal, settle}
 use Rattle.rules.specs.Run.{ofJudgement, ofSetting, perform, replies, relayAfter, tallyAfter}
 
@@ -62,7 +63,7 @@ refusals = tt
 
 -- the tests
 unfoldable pub tests : Unit {0}
-unfolding isLinkProof pathWay linkWay returnWay wayOn notOurs testedAsDuplicate duplicate typeTwoProof typeTwoOfKindLink
+unfolding exemptContext exempt isLinkProof pathWay linkWay returnWay wayOn notOurs testedAsDuplicate duplicate typeTwoProof typeTwoOfKindLink
     announceNotSingle announceTooShort announceOfAnother requestOfKindLink requestTooShort linkProofLength formTests badForm failing ownAnnounce
     deliveredHere tooManyHops noWayOn whyBlocked isThere followsProvedLink alreadyKnown fromAnsweringSide fromAskingSide wrongSide notSigned replay notBetter
     leavingPort portOff noRoom
@@ -76,7 +77,7 @@ answers = tt
 
 -- what is written
 unfoldable pub writes : Unit {0}
-unfolding putNext remembers remember announcedBlobs announcedPath announcedPlace putPath returnKey returnRecord emptiedIf emptiedWhere
+unfolding putNext remembersPlan remembers remember announcedBlobs announcedPath announcedPlace putPath returnKey returnRecord emptiedIf emptiedWhere
     putReturn emptyReturn linkRecord putLink renewedLink renewLink writeWay writePlan stamp enact
 writes = tt
 

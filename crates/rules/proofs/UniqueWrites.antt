@@ -1,17 +1,14 @@
 -- What an accepted packet writes makes no second live record of a key. The relay s that is written into shows, at the packet's clock, what the
 -- packet was judged by.
-use Prim.Native.Nat.{ℕ, _%_}
-use native.Mathlib.Omega.{arith}
+use Prim.Native.Nat.{ℕ}
 use mathlib.Core.Bool.{Bool, true, false, false≢true}
 use mathlib.Core.List.{List, map}
 use mathlib.Core.Path.{_≡_, refl, sym, subst, _∙_}
 use lib.Dec.{lit≤}
 use lib.ListN.{length, getD}
-use borrow.Author.Tests.{ltb-false, eq-eqb, eqb-false}
-use Rattle.octets.specs.Index.{_and_}
+use borrow.Author.Tests.{ltb-false}
 use Rattle.octets.proofs.Index.{and-both, and-yes}
 use Rattle.octets.proofs.Choice.{or-no-left, eq-same}
-use Rattle.packet.specs.Header.{packetKind, isData, isAnnounce, isLinkRequest, isProof}
 use Rattle.packet.specs.Hash.{linkId}
 use Rattle.numbers.specs.Numbers.{pathCount, linkCount, hashCount, blobLimit, live}
 use Rattle.rules.specs.Relay.{Slot, empty, used, Path, Return, Relay, withPaths, withLinks, withReturns, withHashes}
@@ -20,14 +17,14 @@ use Rattle.rules.specs.Refusals.{slotOk, pathOk, linkOk, hashOk}
 use Rattle.rules.specs.Arrival.{Arrival, header, destination, hash, blob}
 use Rattle.rules.specs.Blobs.{held}
 use Rattle.rules.specs.Ways.{Way, everywhere, by-path, along-link, by-return, blocked}
-use Rattle.rules.specs.Tests.{testedAsDuplicate, duplicate, isThere, alreadyKnown, replay}
+use Rattle.rules.specs.Tests.{isThere, alreadyKnown, replay}
 use Rattle.rules.specs.Judging.{Plan, dropped, delivered, follows}
 use Rattle.rules.specs.Writes.{putNext, remember, announcedBlobs, announcedPath, announcedPlace, putPath, returnKey, returnRecord, emptiedIf, emptiedWhere, putReturn, emptyReturn, linkRecord, putLink, renewedLink, renewLink}
 use Rattle.rules.specs.declared.Link.{Link}
 use Rattle.rules.proofs.Tables.{table-length, table-getD}
 use Rattle.rules.proofs.Slots.{emptied-at, every-set, single-emptied, single-emptied-where, single-set, not-found, found-key, none-live, found-alone}
 use Rattle.rules.proofs.BlobLaws.{Distinct, Counted, Placed, one-placed, one-distinct, add-placed, add-distinct}
-use Rattle.rules.proofs.Followed.{Followed, Planned}
+use Rattle.rules.proofs.Followed.{Followed, Planned, is-request}
 use Rattle.rules.proofs.Ranges.{path-counted}
 use Rattle.rules.proofs.Held.{WayKeeps, PlanKeeps}
 use Rattle.rules.proofs.Valid.{Valid}
@@ -110,21 +107,12 @@ module _ (a : Arrival) (s : Relay) (valid : Valid s) (u : UniqueAt (a .clock) s)
       single-set _ _ (s .links) _ (renewedLink a l) (u .links)
       (λ j x other e alive q. found-alone _ _ (destination a) linkCount (s .links) link-size (u .links) j x other e alive (q ∙ found))
 
-  -- what is neither announce, proof nor data is a link request
-  is-request : isAnnounce (header a) ≡ false → isProof (header a) ≡ false → isData (header a) ≡ false → isLinkRequest (header a) ≡ true
-  unfolding packetKind
-  is-request announce proof data₀ =
-      let n1 : header a % 4 ≡ 1 → ⊥ = eqb-false _ _ announce in
-      let n3 : header a % 4 ≡ 3 → ⊥ = eqb-false _ _ proof in
-      let n0 : header a % 4 ≡ 0 → ⊥ = eqb-false _ _ data₀ in
-      eq-eqb (header a % 4) 2 (omega arith)
-
   way-keeps : (v : View) (w : Way) → Followed (viewAt (a .clock) s) a w → WayKeeps (onceAt (a .clock)) v a s w
   unfolding alreadyKnown emptyReturn withReturns
   way-keeps v (everywhere known) f = put-path v known (f .found) (f .newBlob)
   way-keeps v (by-path p) f = (
     λ _. put-return p,
-    λ data₀. put-link p (sym (and-yes _ (is-request (f .found .1) (f .found .2) data₀)) ∙ or-no-left _ _ (f .unknown)),
+    λ data₀. put-link p (sym (and-yes _ (is-request (header a) (f .found .1) (f .found .2) data₀)) ∙ or-no-left _ _ (f .unknown)),
   )
   way-keeps v (along-link l) f = renew-link l (f .found)
   way-keeps v (by-return t) f = single-emptied _ _ (s .returns .slots) _ (u .returns)
@@ -136,8 +124,8 @@ module _ (a : Arrival) (s : Relay) (valid : Valid s) (u : UniqueAt (a .clock) s)
   plan-keeps v (follows w) h = way-keeps v w h
 
   -- ---- remembered hashes
-  pub hash-put : duplicate (viewAt (a .clock) s) a ≡ false → onceAt (a .clock) .hashes (remember a s .hashes)
-  unfolding remember withHashes putNext duplicate testedAsDuplicate _and_ viewAt hashPlace isLiveHash
+  pub hash-put : viewAt (a .clock) s .remembered (hash a) ≡ false → onceAt (a .clock) .hashes (remember a s .hashes)
+  unfolding remember withHashes putNext viewAt hashPlace isLiveHash
   hash-put new =
       let size : length (s .hashes .slots) ≡ hashCount = table-length (slotOk hashOk) hashCount (s .hashes .slots) (valid .hashes .0) in
       single-set _ _ (s .hashes .slots) _ _ (u .hashes)

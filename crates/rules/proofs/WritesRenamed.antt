@@ -14,7 +14,7 @@ use Rattle.rules.specs.Renumbering.{image, oneToOne, renamePath, renameL
 use Rattle.rules.specs.Arrival.{Arrival, header, hops, relayAddress, destination}
 use Rattle.rules.specs.Ways.{Way, everywhere, by-path, along-link, by-return, blocked}
 use Rattle.rules.specs.Judging.{Plan, dropped, delivered, follows}
-use Rattle.rules.specs.Writes.{putNext, remembers, remember, announcedBlobs, announcedPath, announcedPlace, putPath, returnKey, returnRecord, emptiedIf, emptiedWhere, putReturn, emptyReturn, linkRecord, putLink, renewedLink, renewLink, writeWay, writePlan, stamp, enact}
+use Rattle.rules.specs.Writes.{putNext, remembersPlan, remembers, remember, announcedBlobs, announcedPath, announcedPlace, putPath, returnKey, returnRecord, emptiedIf, emptiedWhere, putReturn, emptyReturn, linkRecord, putLink, renewedLink, renewLink, writeWay, writePlan, stamp, enact}
 use Rattle.rules.specs.Run.{renameArrival}
 use Rattle.rules.specs.declared.Link.{Link}
 use Rattle.rules.proofs.Images.{source-image}
@@ -34,7 +34,7 @@ module _ (m : List ℕ) where
   remember-renamed a r = refl
 
   remembers-renamed : (v : View) (a : Arrival) (todo : Plan) → remembers (renameView m v) (renameArrival m a) (renamePlan m todo) ≡ remembers v a todo
-  unfolding remembers renamePlan
+  unfolding remembers remembersPlan renamePlan renameArrival
   remembers-renamed v a (dropped reason) = refl
   remembers-renamed v a delivered = refl
   remembers-renamed v a (follows w) = refl

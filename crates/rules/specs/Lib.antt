@@ -5,6 +5,7 @@ pub mod Renumbering
 pub mod Arrival
 pub mod Refusals
 pub mod Blobs
+pub mod Exempt
 pub mod Ways
 pub mod Tests
 pub mod Answers
@@ -13,3 +14,4 @@ pub mod Judging
 pub mod Writes
 pub mod Calls
 pub mod Run
+pub mod Keepalives

@@ -16,6 +16,7 @@ use Rattle.numbers.specs.Numbers.{portCount}
 use Rattle.rules.specs.Relay.{Slot, empty, used}
 use Rattle.rules.specs.View.{View}
 use Rattle.rules.specs.Arrival.{Arrival, header, hops, relayAddress, destination, hash, blob, isLinkProof}
+use Rattle.rules.specs.Exempt.{exempt}
 use Rattle.rules.specs.Blobs.{held, isAmong, greatestEmission}
 use Rattle.rules.specs.Ways.{Way, everywhere, by-path, along-link, by-return, blocked}
 use Rattle.rules.specs.declared.Link.{Link}
@@ -28,9 +29,9 @@ use Rattle.rules.specs.declared.Blocked.the-variants.{NoPath, NoLink, No
 unfoldable pub notOurs : View → Arrival → Bool
 notOurs v a = typeTwo (header a) and not (isAnnounce (header a)) and not (same (relayAddress a) (v .own))
 
--- 2. Duplicate: equal to a live remembered hash. Every packet is tested so
+-- 2. Duplicate: equal to a live remembered hash. Wish 2 exempts some packets of links
 unfoldable pub testedAsDuplicate : View → Arrival → Bool
-testedAsDuplicate v a = true
+testedAsDuplicate v a = not (exempt (a .bytes))
 
 unfoldable pub duplicate : View → Arrival → Bool
 duplicate v a = testedAsDuplicate v a and v .remembered (hash a)

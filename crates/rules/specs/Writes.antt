@@ -1,9 +1,10 @@
 -- What an accepted packet writes into the tables, by what was planned. No test is made here.
 use Prim.Native.Nat.{ℕ, _+_, _%_}
-use mathlib.Core.Bool.{Bool, true, false}
+use mathlib.Core.Bool.{Bool, true, not}
 use mathlib.Core.List.{List, map}
 use lib.Dec.{ltb}
 use lib.ListN.{take, set}
+use Rattle.octets.specs.Index.{_and_}
 use Rattle.octets.specs.Choice.{_then_otherwise_, _or_}
 use Rattle.packet.specs.Header.{typeTwo, isData}
 use Rattle.packet.specs.Read.{headerOf, partsOf}
@@ -12,6 +13,7 @@ use Rattle.numbers.specs.Numbers.{blobLimit, returnCount, hashCount, pathLifeti
 use Rattle.rules.specs.Relay.{Slot, empty, used, Ring, makeRing, withSlots, makePath, makeLink, withLinkState, makeReturn, makeRemembered, Blobs, Path, Return, Relay, holds, withClock, withPaths, withLinks, withReturns, withHashes}
 use Rattle.rules.specs.View.{View, isLiveReturn, pathPlace, linkPlace, returnPlace, freePath, freeLink}
 use Rattle.rules.specs.Arrival.{Arrival, header, hops, destination, hash, blob, isLinkProof}
+use Rattle.rules.specs.Exempt.{exempt}
 use Rattle.rules.specs.Blobs.{oneBlob, addBlob}
 use Rattle.rules.specs.Ways.{Way, everywhere, by-path, along-link, by-return, blocked}
 use Rattle.rules.specs.Answers.{reasonNumber}
@@ -28,10 +30,14 @@ putNext n slot ring = makeRing (set (ring .slots) (ring .next) slot) ((ring .nex
 abbrev pub remembersDrop : Reason → Bool
 remembersDrop reason = ltb 2 (reasonNumber reason)
 
+unfoldable pub remembersPlan : Plan → Bool
+remembersPlan (dropped reason) = remembersDrop reason
+remembersPlan delivered = true
+remembersPlan (follows w) = true
+
+-- nor is an exempt packet remembered, whatever was planned: wish 2
 unfoldable pub remembers : View → Arrival → Plan → Bool
-remembers v a (dropped reason) = remembersDrop reason
-remembers v a delivered = true
-remembers v a (follows w) = true
+remembers v a todo = not (exempt (a .bytes)) and remembersPlan todo
 
 -- the hash is now remembered in the next ring place, the oldest's once 1,024 are held
 unfoldable pub remember : Arrival → Relay → Relay

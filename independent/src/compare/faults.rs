@@ -1,13 +1,13 @@
 //! Every deliberate fault must be noticed: the core is compared with an independent program that has it, on traffic; and where no traffic
-//! can show it, on packets.
+//! can show it, on packets, or on recordings.
 
 use super::lockstep::{compare, Difference};
-use super::{packet, shrink, Options, Tally};
+use super::{packet, recording, shrink, Options, Tally};
 use crate::engine::Call;
-use crate::faults::{self, Fault, OF_PACKETS};
+use crate::faults::{self, Fault, OF_PACKETS, OF_RECORDINGS};
 use crate::linked::Core;
 use crate::relay::Relay;
-use crate::rules::{AsWritten, Rules};
+use crate::rules::{AsWritten, Rules, Tuned};
 
 /// With `--damage` the relay has no fault after all, and few calls show that much.
 const DAMAGED_CALLS: usize = 500;
@@ -16,8 +16,9 @@ const RANDOM_PACKETS: usize = 20;
 
 pub fn run(options: &Options, tally: &mut Tally) {
     for fault in options.fault.map_or_else(faults::all, |fault| vec![fault]) {
-        let difference = notice(options, fault);
-        let noticed = difference.is_some() || in_packets(options, fault);
+        let of_recordings = is_among(OF_RECORDINGS, fault);
+        let difference = if of_recordings { None } else { notice(options, fault) };
+        let noticed = difference.is_some() || in_packets(options, fault) || of_recordings && in_recordings(options, fault);
         tally.holds(&format!("{} is noticed ({})", fault.name, fault.text), noticed, false);
         if options.fault.is_none() {
             continue;
@@ -29,6 +30,7 @@ pub fn run(options: &Options, tally: &mut Tally) {
                 println!("{difference}");
                 println!("{}", shrink::again(&format!("faults --fault {}", fault.name), options, difference.calls, shown));
             }
+            None if noticed && of_recordings => println!("    by recordings"),
             None if noticed => println!("    by packets alone"),
             None => {}
         }
@@ -48,10 +50,18 @@ pub fn differs(fault: Fault, calls: impl Iterator<Item = Call>) -> Option<Differ
     compare(calls, Core, fault.relay())
 }
 
+fn is_among(lists: &[&[Fault]], fault: Fault) -> bool {
+    lists.concat().iter().any(|other| other.name == fault.name)
+}
+
+/// Does the comparison of recordings show a fault? With `--damage` there is none to show.
+fn in_recordings(options: &Options, fault: Fault) -> bool {
+    !options.damage && recording::programs_differ(&Relay::new(Tuned), &fault.relay())
+}
+
 /// Does the comparison of packets show a fault that traffic can't?
 fn in_packets(options: &Options, fault: Fault) -> bool {
-    let of_packets = OF_PACKETS.concat().iter().any(|other| other.name == fault.name);
-    of_packets && if options.damage { packets_differ(AsWritten) } else { packets_differ(fault.rules()) }
+    is_among(OF_PACKETS, fault) && if options.damage { packets_differ(AsWritten) } else { packets_differ(fault.rules()) }
 }
 
 /// Does a reading of packets differ from the core's?

@@ -1,47 +1,9 @@
 //! Two engines on the same calls: after every call the answer, the whole output, all tables and the tally are compared.
 
-use crate::answer::Verdict;
+use super::coverage::Coverage;
 use crate::engine::{Call, Engine, Outcome, Run};
 use crate::tables::{Section, HASHES, LINKS, LOCALS, PATHS, PORTS, RETURNS};
 use std::fmt;
-
-/// How often each refusal, reason and verdict was reached.
-#[derive(Clone, Default)]
-pub struct Coverage {
-    pub calls: usize,
-    /// By number: refusals 1 to 11, reasons 1 to 14.
-    pub refusals: [usize; 12],
-    pub reasons: [usize; 15],
-    /// By `Verdict::index`.
-    pub verdicts: [usize; 5],
-    /// Calls without a packet that were done.
-    pub done: usize,
-}
-
-impl Coverage {
-    pub fn count(&mut self, outcome: &Outcome) {
-        self.calls += 1;
-        match outcome {
-            Outcome::Refused(number) => self.refusals[usize::from(*number).min(11)] += 1,
-            Outcome::Done => self.done += 1,
-            Outcome::Judged(answer) => {
-                self.verdicts[answer.verdict.index()] += 1;
-                if let Verdict::Drop(reason) = answer.verdict {
-                    self.reasons[usize::from(reason.number())] += 1;
-                }
-            }
-        }
-    }
-
-    /// Each thing that can be reached, in words, and how often it was. Reason 14 can't be.
-    pub fn reached(&self) -> Vec<(String, usize)> {
-        let refusals = (1..=11).map(|number| (format!("refusal {number}"), self.refusals[number]));
-        let reasons = (1..=13).map(|number| (format!("drop {number}"), self.reasons[number]));
-        let words = ["drop", "deliver", "forward", "spread", "kept"];
-        let verdicts = words.iter().zip(self.verdicts).map(|(word, times)| (word.to_string(), times));
-        refusals.chain(reasons).chain(verdicts).collect()
-    }
-}
 
 /// The first call on which two engines differ.
 pub struct Difference {
@@ -66,9 +28,11 @@ pub fn step<A: Engine, B: Engine>(
     coverage: &mut Coverage,
     damage: Option<usize>,
 ) -> Vec<String> {
+    let remembered = coverage.is_remembered(call, &expected.tables);
     let outcomes = (got.make(call), expected.make(call));
     if let Some(outcome) = &outcomes.1 {
         coverage.count(outcome);
+        coverage.count_exempt(call, outcome, remembered);
     }
     let Some(turn) = damage else { return differences(got, expected, outcomes) };
     if turn % 4 == 3 {

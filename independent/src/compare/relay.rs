@@ -1,6 +1,7 @@
 //! Relays on the same traffic, and how often it reaches each refusal, reason and verdict.
 
-use super::lockstep::{compare, step, Coverage, Difference};
+use super::coverage::Coverage;
+use super::lockstep::{compare, step, Difference};
 use super::shrink::again;
 use super::{Options, Tally};
 use crate::engine::{Call, Engine, Run};

@@ -2,7 +2,7 @@
 //! leaves, lent ones among them, or random ones; the same with one field at an edge of row 7's clauses; and ones of a wrong size.
 //! After every call the number and all tables are compared.
 
-use super::lockstep::Coverage;
+use super::coverage::Coverage;
 use super::{Called, Options, Tally};
 use crate::core;
 use crate::engine::{Call, Outcome, Run};

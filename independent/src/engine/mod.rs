@@ -2,9 +2,11 @@
 
 mod call;
 mod packets;
+mod recordings;
 
 pub use call::{Call, PacketCall};
 pub use packets::PacketCalls;
+pub use recordings::{Fields, RecordingCalls};
 
 use crate::answer::{Answer, Refusal, Tally};
 use crate::packet::Address;

@@ -31,7 +31,8 @@ faults! {
     DuplicateBeforeOurs: "test 2 is made before test 1"
     breaks "Tests in order; the first that holds gives the drop." {
         first_tests = |rules, packet, tables| {
-            Reason::Duplicate.when(rules.is_duplicate(&judge::packet_hash(rules, packet), packet.clock, tables))?;
+            let hash = judge::packet_hash(rules, packet);
+            Reason::Duplicate.when(!rules.is_exempt(packet) && rules.is_duplicate(&hash, packet.clock, tables))?;
             judge::first_tests(rules, packet, tables)
         },
     }
@@ -117,7 +118,7 @@ faults! {
     breaks "Drops 1 and 2 remember nothing" {
         first_tests = |rules, packet, tables| {
             let tested = judge::first_tests(rules, packet, tables);
-            if tested == Err(Reason::BadForm) {
+            if tested == Err(Reason::BadForm) && !rules.is_exempt(packet) {
                 forget(tables);
             }
             tested

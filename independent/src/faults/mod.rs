@@ -1,14 +1,16 @@
-//! Deliberate wrong readings of document 01, one at a time: a comparison that doesn't notice one of them is too weak. A fault names the
+//! Deliberate wrong readings of documents 01 and 02, one at a time: a comparison that doesn't notice one of them is too weak. A fault names the
 //! words that it breaks, and puts other rules in the place of those that say them.
 
 mod accepting;
 mod announces;
 mod by_path;
 mod check;
+mod exempt;
 mod judging;
 mod links;
 mod outgoing;
 mod packets;
+mod recordings;
 mod renumbering;
 mod returns;
 mod settings;
@@ -18,10 +20,12 @@ pub use accepting::*;
 pub use announces::*;
 pub use by_path::*;
 pub use check::*;
+pub use exempt::*;
 pub use judging::*;
 pub use links::*;
 pub use outgoing::*;
 pub use packets::*;
+pub use recordings::*;
 pub use renumbering::*;
 pub use returns::*;
 pub use settings::*;
@@ -35,7 +39,7 @@ pub struct Fault {
     pub name: &'static str,
     /// The wrong reading in words.
     pub text: &'static str,
-    /// The words of document 01 that it breaks.
+    /// The words of document 01 or 02 that it breaks.
     pub breaks: &'static str,
     changes: &'static Changes,
 }
@@ -56,11 +60,22 @@ pub const OF_PACKETS: &[&[Fault]] = &[packets::FAULTS];
 /// Those that show in calls without a packet.
 pub const OF_TABLES: &[&[Fault]] = &[check::FAULTS, settings::FAULTS, renumbering::FAULTS];
 /// The others, in document 01's order.
-const OF_JUDGING: &[&[Fault]] =
-    &[accepting::FAULTS, judging::FAULTS, announces::FAULTS, by_path::FAULTS, links::FAULTS, returns::FAULTS, outgoing::FAULTS];
+const OF_JUDGING: &[&[Fault]] = &[
+    accepting::FAULTS,
+    judging::FAULTS,
+    exempt::FAULTS,
+    announces::FAULTS,
+    by_path::FAULTS,
+    links::FAULTS,
+    returns::FAULTS,
+    outgoing::FAULTS,
+];
+
+/// Those that show in recordings alone.
+pub const OF_RECORDINGS: &[&[Fault]] = &[recordings::FAULTS];
 
 pub fn all() -> Vec<Fault> {
-    [OF_PACKETS, OF_TABLES, OF_JUDGING].concat().concat()
+    [OF_PACKETS, OF_TABLES, OF_JUDGING, OF_RECORDINGS].concat().concat()
 }
 
 pub fn named(name: &str) -> Option<Fault> {

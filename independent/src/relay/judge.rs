@@ -2,7 +2,7 @@
 
 use super::{by_path, form, Packet};
 use crate::answer::{Answer, Reason, Verdict, When};
-use crate::limits::{HASH_LIFETIME, HOPS_LIMIT};
+use crate::limits::{EXEMPT_CONTEXTS, HASH_LIFETIME, HOPS_LIMIT};
 use crate::packet::{hash, Address, Header, PacketHash, PacketKind};
 use crate::rules::Rules;
 use crate::tables::{self, find_local, set_key, set_time, take_ring_place, HASHES, HASH_PLACE};
@@ -41,12 +41,21 @@ pub fn not_ours(packet: &Packet, tables: &[u8]) -> bool {
     packet.header().type_2() && !packet.header().is_announce() && packet.parts.relay != tables::own(tables)
 }
 
-/// "Otherwise the hash is now remembered in the next ring place, the oldest's once 1,024 are held. Drops 1 and 2 remember nothing"
+/// "Otherwise the hash is now remembered in the next ring place, the oldest's once 1,024 are held. Drops 1 and 2 remember nothing".
+/// Exempt packets "are no longer tested as duplicates nor remembered." So nothing asks for their hash.
 pub fn test_2<R: Rules>(rules: &R, packet: &mut Packet, tables: &mut [u8]) -> Result<(), Reason> {
+    if rules.is_exempt(packet) {
+        return Ok(());
+    }
     packet.hash = packet_hash(rules, packet);
     Reason::Duplicate.when(rules.is_duplicate(&packet.hash, packet.clock, tables))?;
     rules.remember(&packet.hash, packet.clock, tables);
     Ok(())
+}
+
+/// "Packets of kind link with context 0x01, 0x03, 0x05, 0x08, 0x0E or 0xFA": of any packet kind and type.
+pub fn is_exempt(packet: &Packet) -> bool {
+    packet.header().to_link() && EXEMPT_CONTEXTS.contains(&packet.parts.context)
 }
 
 pub fn packet_hash<R: Rules>(rules: &R, packet: &Packet) -> PacketHash {

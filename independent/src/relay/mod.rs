@@ -34,7 +34,7 @@ pub struct Packet<'a> {
     pub port: u8,
     pub clock: u64,
     pub signature: bool,
-    /// Zeros until test 1 is passed.
+    /// Zeros until test 1 is passed, and of a packet that is exempt from test 2.
     pub hash: PacketHash,
     /// What its hashes are worked out with.
     pub sha: &'a Sha256,

@@ -14,7 +14,7 @@ impl Traffic {
         (parts(header, hops, self.world.own, destination, 0), self.random.bytes(length))
     }
 
-    fn ask(&mut self, station: usize) -> Link {
+    pub(super) fn ask(&mut self, station: usize) -> Link {
         let request = self.request_for(station);
         let (parts, payload) = &request;
         let id = hash::link_id(&AsWritten, &self.sha, parts, payload);
@@ -36,7 +36,7 @@ impl Traffic {
     }
 
     /// A link proof from the right side.
-    fn prove_link(&mut self, link: &Link) {
+    pub(super) fn prove_link(&mut self, link: &Link) {
         let length = self.random.pick(&[96, 99]);
         self.over_link(link, 3, link.remaining, link.answering, (0xff, length), true);
     }

@@ -3,6 +3,7 @@
 
 mod announces;
 mod data;
+mod exempt;
 mod lent;
 mod links;
 mod settings;
@@ -111,12 +112,15 @@ const EPISODES: &[(usize, Episode)] = &[
     (3, Traffic::link_edge),
     (4, Traffic::link_malformed),
     (1, Traffic::link_flood),
+    (2, Traffic::keepalives),
+    (2, Traffic::keepalives_astray),
+    (2, Traffic::keepalives_remembered),
     (10, Traffic::port_setting),
     (3, Traffic::port_off_and_on),
     (5, Traffic::local_calls),
     (1, Traffic::locals_full),
     (12, Traffic::renumbering),
-    (30, Traffic::refused_packet),
+    (36, Traffic::refused_packet),
     (12, Traffic::lent_tables),
 ];
 

@@ -3,7 +3,7 @@
 use haskumye_independent::answer::{Tally, Verdict};
 use haskumye_independent::engine::{Engine, Outcome, PacketCalls};
 use haskumye_independent::limits::LONGEST;
-use haskumye_independent::packet::{self, announced, encode, hash, Address, Header, Parts};
+use haskumye_independent::packet::{self, announced, encode, hash, Address, Header, PacketHash, Parts};
 use haskumye_independent::relay::Arrival;
 use haskumye_independent::rules::AsWritten;
 use haskumye_independent::sha256::Sha256;
@@ -113,9 +113,13 @@ pub fn link_id(request: &[u8]) -> Address {
     hash::link_id(&AsWritten, &Sha256::default(), &parts, payload)
 }
 
+pub fn packet_hash(packet: &[u8]) -> PacketHash {
+    let (parts, payload) = split(packet);
+    hash::packet_hash(&AsWritten, &Sha256::default(), &parts, payload)
+}
+
 /// The key of the return record that data leaves, which its receipt is sent to.
 pub fn return_key(data: &[u8]) -> Address {
-    let (parts, payload) = split(data);
-    let hash = hash::packet_hash(&AsWritten, &Sha256::default(), &parts, payload);
+    let hash = packet_hash(data);
     std::array::from_fn(|i| hash[i])
 }

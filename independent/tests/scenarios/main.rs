@@ -5,6 +5,7 @@ mod announces;
 mod easy_to_get_wrong;
 mod edges;
 mod host;
+mod keepalives;
 mod links;
 mod packets;
 mod renumbering;

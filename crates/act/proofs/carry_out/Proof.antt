@@ -1,6 +1,7 @@
 use mathlib.Core.Path.{_≡_, _∙_}
 use Rattle.octets.proofs.Bytes.{known-bytes}
 use Rattle.act.proofs.Stays.{drop-left, deliver-left}
+use Rattle.act.proofs.Forwards.{data-hash}
 use borrow.Author.Needs.{needs}
 use Rattle.plan.specs.declared.Decision.{Decision}
 use Rattle.act.specs.Acted.{CanCarryOut}
@@ -32,7 +33,8 @@ enum-known-decision-3 c = search needs
 send-requires : tie.Need-send-requires
 send-requires c κs =
     let s = c .before .before .before .before .before .before .before .before in
-    (carries s (c .before .before .before .decision3 .given .1), s .pre .1)
+    let data₀ = carries s (c .before .before .before .decision3 .given .1) in
+    (data₀, s .pre .1 ∙ data-hash _ _ _ (data₀ .accepted) _ (data₀ .decided))
 
 enum-known-decision-4 : tie.Need-enum-known-decision-4
 enum-known-decision-4 c = search needs

@@ -71,11 +71,11 @@ returns-2 c =
     refl refl (known-bytes (p .tables .now) (c13 .slice-known .given)) (sym (c5 .before .not-ours .ensures) ∙ c5 .if2 .taken) _ _
     (c .before .before .before .set-clock .ensures) (c .counted .ensures)
 
-hash-of-requires : tie.Need-hash-of-requires
-hash-of-requires c κs = judges (c .before .before .before .before) .readable
+used-hash-requires : tie.Need-used-hash-requires
+used-hash-requires c κs = judges (c .before .before .before .before) .readable
 
 decide-requires : tie.Need-decide-requires
-decide-requires c κs = (judges (c .before .before .before .before .before .before), c .before .hash-of .ensures)
+decide-requires c κs = (judges (c .before .before .before .before .before .before), c .before .used-hash .ensures)
 
 act-requires : tie.Need-act-requires
 act-requires c κs =
@@ -85,7 +85,7 @@ act-requires c κs =
     let p = s1 c9 .args in
     let ok = accepted (p .packet .now) (p .port) (p .clock) (p .signed) (p .tables .now) (p .tally) (p .output .now) (accepts c9) _ (same-port c8) refl refl in
     let roomy = accepted-roomy _ _ _ _ _ (accepts c9) in
-    (record { accepted = ok; roomy = roomy; decided = sym (c .before .before .decide .ensures) }, c4 .hash-of .ensures)
+    (record { accepted = ok; roomy = roomy; decided = sym (c .before .before .decide .ensures) }, c4 .used-hash .ensures)
 
 counted-requires-2 : tie.Need-counted-requires-2
 counted-requires-2 c κs = search needs
@@ -119,7 +119,7 @@ judge-spec =
     counted-requires
     same-length-2
     returns-2
-    hash-of-requires
+    used-hash-requires
     decide-requires
     act-requires
     counted-requires-2

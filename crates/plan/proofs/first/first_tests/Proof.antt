@@ -2,26 +2,21 @@
 use Prim.Native.Nat.{ℕ}
 use native.Mathlib.Omega.{arith}
 use mathlib.Core.Path.{_≡_, sym, ap, _∙_}
-use lib.Dec.{ltb}
 use borrow.Author.Needs.{needs}
-use borrow.Author.Tests.{lt-ltb, le-ltb}
 use Rattle.octets.specs.Listed.{firstOf, valued}
 use Rattle.octets.proofs.Listed.{here, past}
-use Rattle.numbers.specs.Numbers.{hashCount}
 use Rattle.packet.specs.Read.{longestPacket}
-use Rattle.rules.specs.View.{View, hashPlace}
+use Rattle.rules.specs.View.{View}
 use Rattle.rules.specs.Arrival.{Arrival}
-use Rattle.rules.specs.Tests.{duplicate}
 use Rattle.rules.specs.Judging.{earlyTests}
 use Rattle.rules.specs.declared.Clause.{Clause}
 use Rattle.rules.specs.declared.Reason.the-variants.{BadForm}
-use Rattle.tables.specs.Layout.{relayOf}
 use Rattle.outgoing.proofs.LeavingLaws.{long}
 use Rattle.plan.specs.Decided.{arrivalOf, seen}
 use Rattle.plan.specs.First.{early, firstTests}
 use Rattle.plan.specs.declared.Early.the-variants.{Dropped}
 use Rattle.plan.proofs.FormLaws.{form-bad, form-good}
-use Rattle.plan.proofs.FirstLaws.{earlyFrom, duplicate-place, hops-many, hops-few}
+use Rattle.plan.proofs.FirstLaws.{earlyFrom, hops-many, hops-few}
 use Rattle.plan.proofs.first.first_tests.Statement.{statement}
 use Rattle.plan.proofs.first.first_tests.Tie as tie
 
@@ -34,7 +29,7 @@ a s = arrivalOf (s .args .packet .now) (s .args .arrived)
 abbrev s1 : tie.After-not-ours → tie.Start
 s1 c = c .before .before .before
 
-abbrev s2 : tie.After-hash-place → tie.Start
+abbrev s2 : tie.After-duplicate → tie.Start
 s2 c = s1 (c .before .before)
 
 abbrev s3 : tie.After-form-of → tie.Start
@@ -57,15 +52,9 @@ past-1 : (c : tie.Else1) → Left 1 (s1 (c .before))
 unfolding firstTests earlyFrom earlyTests valued
 past-1 c = past _ _ _ _ (sym (c .before .not-ours .ensures) ∙ c .if1 .left)
 
-test-2 : (c : tie.After-hash-place) → duplicate (v (s2 c)) (a (s2 c)) ≡ ltb (c .hash-place .result) hashCount
-test-2 c =
-    let s = s2 c in
-    duplicate-place (relayOf (s .args .tables .now)) (a s)
-    (c .hash-place .ensures ∙ ap (hashPlace (s .args .arrived .clock) (relayOf (s .args .tables .now))) (s .pre .1))
-
 past-2 : (c : tie.Else2) → Left 2 (s2 (c .before))
 unfolding firstTests earlyFrom earlyTests valued
-past-2 c = past-1 (c .before .before) ∙ past _ _ _ _ (test-2 (c .before) ∙ le-ltb _ _ (c .if2 .left))
+past-2 c = past-1 (c .before .before) ∙ past _ _ _ _ (sym (c .before .duplicate .ensures) ∙ c .if2 .left)
 
 past-3 : (c : tie.After-enum-told) → Left 3 (s3 (c .before .before))
 unfolding firstTests earlyFrom earlyTests valued
@@ -93,12 +82,12 @@ returns : tie.Need-returns
 unfolding firstTests earlyTests early valued
 returns c = sym (here _ _ _ _ (sym (c .before .not-ours .ensures) ∙ c .if1 .taken))
 
-hash-place-requires : tie.Need-hash-place-requires
-hash-place-requires c κs = search needs
+duplicate-requires : tie.Need-duplicate-requires
+duplicate-requires c κs = search needs
 
 returns-2 : tie.Need-returns-2
 unfolding earlyFrom earlyTests early valued
-returns-2 c = sym (past-1 (c .before .before) ∙ here _ _ _ _ (test-2 (c .before) ∙ lt-ltb _ _ (c .if2 .taken)))
+returns-2 c = sym (past-1 (c .before .before) ∙ here _ _ _ _ (sym (c .before .duplicate .ensures) ∙ c .if2 .taken))
 
 form-of-requires : tie.Need-form-of-requires
 form-of-requires c κs = search needs
@@ -147,7 +136,7 @@ first-tests-spec =
     (tie.spec
     not-ours-requires
     returns
-    hash-place-requires
+    duplicate-requires
     returns-2
     form-of-requires
     enum-known-clause

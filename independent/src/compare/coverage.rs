@@ -1,0 +1,99 @@
+//! What calls reach, and how often.
+
+use crate::answer::{Answer, Verdict};
+use crate::engine::{Call, Outcome, PacketCall};
+use crate::limits::{EXEMPT_CONTEXTS, HASH_LIFETIME, LONGEST};
+use crate::packet::{self, hash, PacketHash};
+use crate::rules::AsWritten;
+use crate::sha256::Sha256;
+use crate::tables::{self, HASHES};
+use std::collections::HashMap;
+
+/// How often each refusal, reason and verdict was reached, and packets that are exempt from test 2.
+#[derive(Default)]
+pub struct Coverage {
+    pub calls: usize,
+    /// By number: refusals 1 to 11, reasons 1 to 14.
+    pub refusals: [usize; 12],
+    pub reasons: [usize; 15],
+    /// By `Verdict::index`.
+    pub verdicts: [usize; 5],
+    /// Calls without a packet that were done.
+    pub done: usize,
+    exempt: Exempt,
+}
+
+/// Exempt packets that were forwarded: those that came before within the time that a hash is remembered, and those whose hash was live in the ring.
+#[derive(Default)]
+struct Exempt {
+    sha: Sha256,
+    /// When each was forwarded last.
+    forwarded: HashMap<PacketHash, u64>,
+    /// By the context's place in `EXEMPT_CONTEXTS`.
+    again: [usize; 6],
+    remembered: [usize; 6],
+}
+
+impl Exempt {
+    /// The place of an exempt packet's context, and its hash.
+    fn place(&self, packet: &[u8]) -> Option<(usize, PacketHash)> {
+        let parts = packet::read(&AsWritten, packet, LONGEST).ok()?;
+        let place = EXEMPT_CONTEXTS.iter().position(|context| parts.header.to_link() && parts.context == *context)?;
+        Some((place, hash::packet_hash(&AsWritten, &self.sha, &parts, &packet[packet::payload_place(packet)..])))
+    }
+}
+
+impl Coverage {
+    /// Makes a call count.
+    pub fn count(&mut self, outcome: &Outcome) {
+        self.calls += 1;
+        match outcome {
+            Outcome::Refused(number) => self.refusals[usize::from(*number).min(11)] += 1,
+            Outcome::Done => self.done += 1,
+            Outcome::Judged(answer) => {
+                self.verdicts[answer.verdict.index()] += 1;
+                if let Verdict::Drop(reason) = answer.verdict {
+                    self.reasons[usize::from(reason.number())] += 1;
+                }
+            }
+        }
+    }
+
+    /// Before a call: is it an exempt packet whose hash is live in these tables?
+    pub fn is_remembered(&self, call: &Call, tables: &[u8]) -> bool {
+        let Call::Packet(PacketCall { packet, clock, .. }) = call else { return false };
+        let Some((_, hash)) = self.exempt.place(packet) else { return false };
+        tables.len() == tables::SIZE && tables::find(&HASHES, tables, &hash, *clock).is_some()
+    }
+
+    /// After a call: an exempt packet that was forwarded.
+    pub fn count_exempt(&mut self, call: &Call, outcome: &Outcome, remembered: bool) {
+        if matches!(call, Call::Fresh(_)) {
+            self.exempt.forwarded.clear();
+        }
+        let Call::Packet(PacketCall { packet, clock, .. }) = call else { return };
+        let Outcome::Judged(Answer { verdict: Verdict::Forward(_), .. }) = outcome else { return };
+        let Some((place, hash)) = self.exempt.place(packet) else { return };
+        let before = self.exempt.forwarded.insert(hash, *clock);
+        self.exempt.again[place] += usize::from(before.is_some_and(|before| *clock < before + HASH_LIFETIME));
+        self.exempt.remembered[place] += usize::from(remembered);
+    }
+
+    /// Each thing that can be reached, in words, and how often it was. Reason 14 can't be.
+    pub fn reached(&self) -> Vec<(String, usize)> {
+        let refusals = (1..=11).map(|number| (format!("refusal {number}"), self.refusals[number]));
+        let reasons = (1..=13).map(|number| (format!("drop {number}"), self.reasons[number]));
+        let words = ["drop", "deliver", "forward", "spread", "kept"];
+        let verdicts = words.iter().zip(self.verdicts).map(|(word, times)| (word.to_string(), times));
+        refusals.chain(reasons).chain(verdicts).chain(self.reached_exempt()).collect()
+    }
+
+    fn reached_exempt(&self) -> Vec<(String, usize)> {
+        let line = |what: &str, times: &[usize; 6]| {
+            let contexts = EXEMPT_CONTEXTS.iter().zip(times);
+            contexts.map(|(context, times)| (format!("forwarded of context {context:02x} {what}"), *times)).collect()
+        };
+        let again: Vec<_> = line("again within 300 s", &self.exempt.again);
+        [again, line("with its hash in the ring", &self.exempt.remembered)].concat()
+    }
+}
