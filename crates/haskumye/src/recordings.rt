@@ -109,7 +109,8 @@ pub extern "C" fn haskumye_replay_entry(
 ) -> u64
     ensures { λ r. ⌜ Replays
         (stepOn (now (file .entry)) index (now (tables .entry)) (tallyIn (now (tally .entry))))
-        (payloadPlace (bodyOf (now (file .entry)) index)) (now (line .entry)) r (now (tally .exit)) (now (tables .exit)) (now (line .exit)) ⌝ }
+        (payloadPlace (bodyOf (now (file .entry)) index)) (now (line .entry))
+        r (now (tally .exit)) (now (tables .exit)) (now (line .exit)) ⌝ }
 {
     let counts = *tally;
     let stepped = replaying::step(file, index as usize, tables, tally_in(counts));

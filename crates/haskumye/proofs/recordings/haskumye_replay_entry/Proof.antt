@@ -39,15 +39,18 @@ returns c =
     let a = c .before .before .before .before .before .before .before .before .before .before .before .before .before .before .args in
     let tally : Tally = tallyIn (a .tally .now) in
     let s : StepOn = stepOn (a .file .now) (a .index) (a .tables .now) tally in
-    let r : Stepped = c .before .before .before .before .before .before .before .before .step .result in
-    let given : Steps s r (c .before .before .before .before .before .before .before .before .step .last .1 .1 .0) =
-    subst (λ (x : Tally). Steps (stepOn (a .file .now) (a .index) (a .tables .now) x) r (c .before .before .before .before .before .before .before .before .step .last .1 .1 .0)) (c .before .before .before .before .before .before .before .before .before .tally-in .ensures) (c .before .before .before .before .before .before .before .before .step .ensures) in
+    let at = c .before .before .before .before .before .before .before .before in
+    let r : Stepped = at .step .result in
+    let after : List ℕ = at .step .last .1 .1 .0 in
+    let given : Steps s r after =
+    subst (λ (x : Tally). Steps (stepOn (a .file .now) (a .index) (a .tables .now) x) r after) (at .before .tally-in .ensures) (at .step .ensures) in
     let start = c .before .haskumye-payload-start .ensures ∙ ap payloadPlace (c .before .before .body .ensures) in
     let old : List ℕ = a .line .now in (
       c .answer-number .ensures ∙ ap₂ answerNumber start (ap (λ (x : Stepped). x .answer) (given .0)),
       c .before .before .before .tally-numbers .ensures ∙ ap (λ (x : Stepped). tallyNumbers (x .tally)) (given .0),
       given .1,
-      ⊎-elim (λ w. w .3 ∙ line-written s r (given .0) old (w .0 .taken)) (λ w. w .1 ∙ line-stays s r (given .0) old (w .0 .left)) (c .before .before .before .before .if1 .came),
+      ⊎-elim (λ w. w .3 ∙ line-written s r (given .0) old (w .0 .taken)) (λ w. w .1 ∙ line-stays s r (given .0) old (w .0 .left))
+          (c .before .before .before .before .if1 .came),
     )
 
 pub haskumye-replay-entry-spec : {M : Type 1} → statement M
