@@ -1,7 +1,8 @@
 //! A relay: its tables and its tally, and the calls on them.
 
 use crate::answer::{done, judged, Mode, Refusal, Verdict};
-use crate::raw::{self, Tally, TABLE_SIZE};
+use crate::raw::{self, Tally, TABLE_SIZE, TEXT_SIZE};
+use crate::recording::Replayed;
 use crate::{Address, PortMap};
 
 // SAFETY of every call below: what crosses is a borrow, as `raw` asks, and borrows do not overlap.
@@ -60,6 +61,20 @@ impl Relay {
         judged(unsafe {
             raw::haskumye_packet(packet.as_ptr(), packet.len(), port, clock, signature, tables, size, output, room, &mut self.tally)
         })
+    }
+
+    /// Makes the packet call of a recording's entry, counted from 0, and gives its answer and its line. Refusal 22 where the file has no such entry:
+    /// then nothing changes. A replay is [`check_recording`](crate::check_recording), then this call for each entry in order.
+    pub fn replay_entry(&mut self, file: &[u8], index: u64) -> Result<Replayed, Refusal> {
+        let mut text = [0; TEXT_SIZE];
+        let (size, tables) = (self.tables.len(), self.tables.as_mut_ptr());
+        let number =
+            unsafe { raw::haskumye_replay_entry(file.as_ptr(), file.len(), index, tables, size, &mut self.tally, &mut text) };
+        let line = text.iter().take_while(|byte| !b"\0\n".contains(byte)).map(|byte| char::from(*byte)).collect();
+        match judged(number) {
+            Err(Refusal::FilePlace) => Err(Refusal::FilePlace),
+            answer => Ok(Replayed { answer, line }),
+        }
     }
 
     /// Sets a port on or off, and its mode. Records that name the port stay. Refusal 9 for a port over 15.
