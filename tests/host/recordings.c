@@ -76,7 +76,7 @@ static void try_entry(struct buffer file, uint64_t index)
     use.output = buffer_new(sizeof(haskumye_text), 0xee);
     use.tables = buffer_new(HASKUMYE_TABLE_SIZE, 0);
     use.tally = buffer_new(sizeof(haskumye_tally), 0);
-    uint64_t expected = (refusal == 0 ? HASKUMYE_REFUSAL_ARRIVAL_PORT : HASKUMYE_REFUSAL_FILE_PLACE) << 8;
+    uint64_t expected = (uint64_t)(refusal == 0 ? HASKUMYE_REFUSAL_ARRIVAL_PORT : HASKUMYE_REFUSAL_FILE_PLACE) << 8;
     expect("a replayed entry", library_call(REPLAY_ENTRY, &use), expected);
     expect("its line", use.output.bytes[0], refusal == 0 ? '1' + index : 0xee);
     buffer_free(&use.output);
