@@ -70,8 +70,7 @@ impl Relay {
     pub fn replay_entry(&mut self, file: &[u8], index: u64) -> Result<Replayed, Refusal> {
         let mut text = [0; TEXT_SIZE];
         let (size, tables) = (self.tables.len(), self.tables.as_mut_ptr());
-        let number =
-            unsafe { raw::haskumye_replay_entry(file.as_ptr(), file.len(), index, tables, size, &mut self.tally, &mut text) };
+        let number = unsafe { raw::haskumye_replay_entry(file.as_ptr(), file.len(), index, tables, size, &mut self.tally, &mut text) };
         let line = text.iter().take_while(|byte| !b"\0\n".contains(byte)).map(|byte| char::from(*byte)).collect();
         match judged(number) {
             Err(Refusal::FilePlace) => Err(Refusal::FilePlace),

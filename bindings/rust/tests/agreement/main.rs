@@ -152,7 +152,12 @@ fn a_missing_function_is_seen() {
     assert_seen(&[
         (HEADER, check, "", "haskumye_check_tables is missing in the header"),
         (RUST, "pub fn haskumye_check_tables(tables: *const u8, length: usize) -> u8;", "", "haskumye_check_tables is missing in Rust"),
-        (RATTLE, "#[no_mangle]\npub extern \"C\" fn haskumye_check_tables", "pub fn haskumye_check_tables", "haskumye_check_tables is missing in the crate"),
+        (
+            RATTLE,
+            "#[no_mangle]\npub extern \"C\" fn haskumye_check_tables",
+            "pub fn haskumye_check_tables",
+            "haskumye_check_tables is missing in the crate",
+        ),
         (HEADER, check, "void haskumye_new(void);", "haskumye_new is missing in the crate"),
     ]);
 }
@@ -335,7 +340,12 @@ fn limits_are_those_of_the_crate_of_numbers() {
     assert_seen(&[
         (NUMBERS, "u8 = 22;", "u8 = 24;", "HASKUMYE_REFUSAL_FILE_PLACE is 22 in the header, 24 in the numbers"),
         (NUMBERS, "60_000", "60_001", "HASKUMYE_RECORDING_SIZE is 60000 in the header, 60001 in the numbers"),
-        (NUMBERS, "LONGEST_PACKET: usize = 500", "LONGEST_PACKET: usize = 501", "HASKUMYE_LONGEST_PACKET is 500 in the header, 501 in the numbers"),
+        (
+            NUMBERS,
+            "LONGEST_PACKET: usize = 500",
+            "LONGEST_PACKET: usize = 501",
+            "HASKUMYE_LONGEST_PACKET is 500 in the header, 501 in the numbers",
+        ),
         (NUMBERS, "MAP: u8 = 8", "MAP: u8 = 9", "HASKUMYE_REFUSAL_MAP is 8 in the header, 9 in the numbers"),
     ]);
 }
