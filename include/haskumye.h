@@ -376,8 +376,8 @@ HASKUMYE_CHECKED uint8_t haskumye_recording_entry(const uint8_t *file, size_t le
 /*
  * Writes a recording at the room's start; bytes behind it stay. `entries` has HASKUMYE_ENTRY_WIDTH bytes for each
  * packet: clock 8, port 1, signature word 1 (0 or 1), length 2, all big-endian; `bodies` has the packets, one after
- * another. Returns a number of two fields: HASKUMYE_WRITTEN_REFUSAL (23, 5, 20, 25 in this order, each over all entries;
- * 20 also where entries and bodies do not add up; 0 for none) and HASKUMYE_WRITTEN_LENGTH.
+ * another. Returns a number of two fields: HASKUMYE_WRITTEN_REFUSAL (23, 5, 20, 25 in this order, each over all
+ * entries; 20 also where entries and bodies do not add up; 0 for none) and HASKUMYE_WRITTEN_LENGTH.
  */
 HASKUMYE_CHECKED haskumye_written haskumye_write_recording(const uint8_t *entries, size_t entries_length,
                                                            const uint8_t *bodies, size_t bodies_length, uint8_t *room,

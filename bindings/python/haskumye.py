@@ -462,8 +462,8 @@ class Relay:
         _done(function(self._tables, TABLE_SIZE, *arguments))
 
     def packet(self, packet, port, clock, signed=False):
-        """What becomes of a packet that came in by a port at a clock, in seconds: Drop, Deliver, Forward, Spread or Kept. `signed` is the host's word on
-        its signature, which is read only for announces and link proofs."""
+        """What becomes of a packet that came in by a port at a clock, in seconds: Drop, Deliver, Forward, Spread or Kept. `signed` is the host's
+        word on its signature, which is read only for announces and link proofs."""
         packet = _bytes(packet)
         number = _library.haskumye_packet(
             packet,
@@ -480,7 +480,7 @@ class Relay:
         return _answer(number, packet, self._output)
 
     def replay_entry(self, file, index):
-        """What becomes of a recording's entry, counted from 0. An entry that the core refuses has a line too. Refusal 22 where the file does not have it."""
+        """What becomes of a recording's entry, counted from 0; one that the core refuses has a line too. Refusal 22 where the file has no such entry."""
         file, text = _bytes(file), ctypes.create_string_buffer(TEXT_SIZE)
         number = _library.haskumye_replay_entry(file, len(file), _number(index), self._tables, TABLE_SIZE, self._tally, text)
         return _replayed(number, text.value.decode("ascii").rstrip("\n"))

@@ -55,8 +55,8 @@ static void try_writing(uint8_t file[LENGTH])
     for (size_t length = 0; length < sizeof given; length++) {
         expect("entries that lack bytes", write_given(length, BODIES, LENGTH, NULL), HASKUMYE_REFUSAL_FILE_LENGTH);
     }
-    expect("bodies that lack a byte", write_given(sizeof given, BODIES - 1, LENGTH, NULL), HASKUMYE_REFUSAL_FILE_LENGTH);
-    expect("bodies too many", write_given(sizeof given, 70000, 0, NULL), HASKUMYE_REFUSAL_FILE_LENGTH);
+    expect("a body too short", write_given(sizeof given, BODIES - 1, LENGTH, NULL), HASKUMYE_REFUSAL_FILE_LENGTH);
+    expect("bodies too long", write_given(sizeof given, 70000, 0, NULL), HASKUMYE_REFUSAL_FILE_LENGTH);
 }
 
 /* Entry and replay of any bytes: where the entry isn't there, nothing changes; else its place lies within the file. */
