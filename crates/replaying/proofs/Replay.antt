@@ -17,7 +17,7 @@ use Rattle.recording.specs.Format.{Entry}
 use Rattle.recording.specs.Reader.{fileRefusal, isThere, entryOf, entriesOf}
 use Rattle.recording.proofs.ReadLaws.{taken, taken-there}
 use Rattle.text.specs.Words.{wordsLine, refusedWords}
-use Rattle.replaying.specs.Lines.{answerLine}
+use Rattle.replaying.specs.Lines.{answerLine, linesFrom}
 use Rattle.replaying.specs.Promise.{entryCall, StepOn, stepOf, stepOn, ReplayOn, goesOn, replayFrom, replayOn, oneMore, stepsOn}
 use Rattle.replaying.proofs.StepLaws.{step-there}
 
@@ -48,10 +48,18 @@ last-entry k (x ∷ es) e t tally =
     (sym (append-assoc (answerLine k (first .answer)) (r .text) (answerLine (k + 1 + length es) (j .answer)))
     ∙ ap (λ (n : ℕ). (answerLine k (first .answer) ++ r .text) ++ answerLine n (j .answer)) more)
 
+-- the text is the answers' lines, counted from there
+pub text-lines : (k : ℕ) (es : List Entry) (t : List ℕ) (tally : Tally) → replayFrom k es t tally .text ≡ linesFrom k (replayFrom k es t tally .answers)
+unfolding replayFrom goesOn linesFrom
+text-lines k [] t tally = refl
+text-lines k (e ∷ es) t tally =
+    let j : JudgementOn = entryCall e t tally in
+    ap (λ (x : List ℕ). answerLine k (j .answer) ++ x) (text-lines (k + 1) es (j .tables) (j .tally))
+
 -- ---- the steps in order
 module _ (f t : List ℕ) (tally : Tally) where
   module _ (e : fileRefusal f ≡ 0) where
-    steps-calls : (n : ℕ) → n ≤ countOf f → stepsOn f n t tally ≡ replayFrom 1 (listOf (entryOf f) n) t tally
+    pub steps-calls : (n : ℕ) → n ≤ countOf f → stepsOn f n t tally ≡ replayFrom 1 (listOf (entryOf f) n) t tally
     unfolding stepsOn listOf replayFrom stepOf
     steps-calls zero l = refl
     steps-calls (suc n) l =
@@ -68,7 +76,11 @@ module _ (f t : List ℕ) (tally : Tally) where
     unfolding replayOn
     replay-calls = then-true _ _ (eq-eqb (fileRefusal f) 0 e)
 
-    -- and so are the steps
+    -- its text is its answers' lines, counted from 1
+    pub replay-lines : replayOn f t tally .text ≡ linesFrom 1 (replayOn f t tally .answers)
+    replay-lines = rw replay-calls (text-lines 1 (entriesOf f) t tally)
+
+    -- the steps in order are the replay
     pub steps-replay : stepsOn f (countOf f) t tally ≡ replayOn f t tally
     unfolding entriesOf
     steps-replay = steps-calls (countOf f) (omega arith) ∙ sym replay-calls

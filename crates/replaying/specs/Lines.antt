@@ -1,6 +1,6 @@
 -- Document 02, Wish 1: "prints one line per entry, counted from 1: `1 forward 4`, `2 drop 6`, `3 deliver`, `4 spread 1 5` (rising), `5 kept`; an entry that
 -- the core refuses prints as `6 refused 1`".
-use Prim.Native.Nat.{ℕ, zero, suc}
+use Prim.Native.Nat.{ℕ, zero, suc, _+_}
 use mathlib.Core.List.{List, [], _∷_, _++_}
 use Rattle.octets.specs.Choice.{_then_otherwise_}
 use Rattle.numbers.specs.Numbers.{portCount}
@@ -32,3 +32,8 @@ answerWords (Judged verdict) = verdictWords verdict
 -- the line of the entry that is counted so, with the line's end
 unfoldable pub answerLine : ℕ → Answer → List ℕ
 answerLine number answer = wordsLine (decimal number ∷ answerWords answer)
+
+-- the lines of answers, the first counted so
+unfoldable pub linesFrom : ℕ → List Answer → List ℕ
+linesFrom number [] = []
+linesFrom number (a ∷ more) = answerLine number a ++ linesFrom (number + 1) more
