@@ -47,7 +47,6 @@ pub const KINDS: &[(&str, Kind)] = &[
     ("link proof", link_proof),
     ("link data to the answering side", link_data_asking),
     ("link data to the asking side", link_data_answering),
-    ("link data, exempt from test 2", link_data_exempt),
     ("ordinary proof", ordinary_proof),
     ("access code set (refusal 3)", access_code),
 ];
@@ -160,13 +159,6 @@ fn link_data_asking(scene: &mut Scene) -> Call {
 fn link_data_answering(scene: &mut Scene) -> Call {
     let id = link_of(scene, true);
     Call { port: LEAVING, ..arriving(scene.packet(0x0c, id, DATA), Verdict::Forward(ARRIVAL)) }
-}
-
-/// Part of a resource: as long as other data over a link, and not hashed.
-fn link_data_exempt(scene: &mut Scene) -> Call {
-    let mut call = link_data_asking(scene);
-    call.packet[START_1 - 1] = limits::EXEMPT_CONTEXTS[0];
-    call
 }
 
 fn ordinary_proof(scene: &mut Scene) -> Call {
