@@ -1,5 +1,5 @@
-//! Recordings: two programs' reading, writing and replaying of the same files, whole and damaged. After every call the number and all bytes that it
-//! leaves are compared; a replay's step by step.
+//! Recordings: two programs' reading, writing and replaying of the same files, whole and damaged. After every call the number and all bytes
+//! that it leaves are compared; a replay's step by step.
 
 mod reached;
 mod replay;
@@ -133,20 +133,25 @@ impl Comparison<'_> {
         let file = scene.day.file();
         self.round_trip("small", &scene.day);
         self.replaying("small", &file, &scene);
+        for more in [1, 2, entry::WIDTH, 500, LONGEST_FILE] {
+            self.file(&format!("small, {more} longer"), &[&file[..], &vec![1; more]].concat(), &scene);
+        }
         for at in 0..file.len() {
-            let set = if at < contents(scene.day.count()) { &SET[..] } else { &[] };
-            for byte in ADDED.map(|byte| file[at].wrapping_add(byte)).iter().chain(set) {
-                let mut damaged = file.clone();
-                damaged[at] = *byte;
-                self.file(&format!("small, byte {at} now {byte:02x}"), &damaged, &scene);
-            }
-            self.file(&format!("small, cut to {at}"), &file[..at], &scene);
             if self.enough() {
                 return;
             }
+            self.file(&format!("small, cut to {at}"), &file[..at], &scene);
+            self.changed(&file, at, &scene);
         }
-        for more in [1, 2, entry::WIDTH, 500, LONGEST_FILE] {
-            self.file(&format!("small, {more} longer"), &[&file[..], &vec![1; more]].concat(), &scene);
+    }
+
+    /// One byte changed in several ways, in the contents in more.
+    fn changed(&mut self, file: &[u8], at: usize, scene: &Scene) {
+        let set = if at < contents(scene.day.count()) { &SET[..] } else { &[] };
+        for byte in ADDED.map(|byte| file[at].wrapping_add(byte)).iter().chain(set) {
+            let mut changed = file.to_vec();
+            changed[at] = *byte;
+            self.file(&format!("small, byte {at} now {byte:02x}"), &changed, scene);
         }
     }
 
@@ -155,8 +160,8 @@ impl Comparison<'_> {
         self.replaying(what, file, scene);
     }
 
-    /// Files as long and as full as can be, and longer.
-    fn sizes(&mut self) {
+    /// Files as long as can be, and longer.
+    fn longest(&mut self) {
         for length in [LONGEST_FILE - 1, LONGEST_FILE, LONGEST_FILE + 1, 65_535, 65_536] {
             if self.enough() {
                 return;
@@ -168,6 +173,10 @@ impl Comparison<'_> {
                 self.writing("longest", &day, room);
             }
         }
+    }
+
+    /// As many entries as can be, and more.
+    fn fullest(&mut self) {
         let most = (LONGEST_FILE - HEAD) / entry::WIDTH;
         for count in [0, 1, 2, most - 1, most, most + 1, 5_000, 65_535, 65_536, 65_537] {
             if self.enough() {
@@ -179,6 +188,10 @@ impl Comparison<'_> {
             day.push(1, 1, 1, &[1]);
             self.round_trip("empty bodies but one", &day);
         }
+    }
+
+    /// Files that end within their contents.
+    fn shortest(&mut self) {
         for length in 0..40 {
             let bytes: Vec<u8> = [1, 1, 0, 2].into_iter().chain([0; 36]).take(length).collect();
             self.reading("short", &bytes);
@@ -221,7 +234,8 @@ impl Comparison<'_> {
         }
     }
 
-    /// Demand 3: a replay counts as the calls it makes. Over renumbered tables, with the file's ports renamed, each answer and the tables are renamed.
+    /// Demand 3: a replay counts as the calls it makes. Over renumbered tables, with the file's ports renamed, each answer and the tables are
+    /// renamed.
     fn renumbered(&mut self, scene: &Scene) {
         let map = self.random.permutation();
         let (mut tables, day) = (scene.tables.clone(), scene.day.renamed(&map));
@@ -296,7 +310,9 @@ fn compare_until(got: &dyn RecordingCalls, expected: &dyn RecordingCalls, option
     let random = Random::new(options.seed);
     let mut c = Comparison { options, tally, random, got, expected, reached: Reached::default(), first };
     c.small();
-    c.sizes();
+    c.shortest();
+    c.longest();
+    c.fullest();
     c.random();
     c.reached
 }
