@@ -29,12 +29,15 @@ same-length c = search needs
 
 returns : tie.Need-returns
 returns c =
-    let a = c .before .before .before .before .before .before .before .before .before .before .before .before .args in
+    let c6 = c .before .before .before .before .before .before in
+    let c7 = c6 .before in
+    let c12 = c7 .before .before .before .before .before in
+    let a = c12 .args in
     let tally : Tally = tallyIn (a .tally .now) in
     let s : StepOn = stepOn (a .file .now) (a .index) (a .tables .now) tally in
-    let r : Stepped = c .before .before .before .before .before .before .step .result in
-    let given : Steps s r (c .before .before .before .before .before .before .step .last .1 .1 .0) =
-    subst (λ (x : Tally). Steps (stepOn (a .file .now) (a .index) (a .tables .now) x) r (c .before .before .before .before .before .before .step .last .1 .1 .0)) (c .before .before .before .before .before .before .before .tally-in .ensures) (c .before .before .before .before .before .before .step .ensures) in
+    let r : Stepped = c6 .step .result in
+    let given : Steps s r (c6 .step .last .1 .1 .0) =
+    subst (λ (x : Tally). Steps (stepOn (a .file .now) (a .index) (a .tables .now) x) r (c6 .step .last .1 .1 .0)) (c7 .tally-in .ensures) (c6 .step .ensures) in
     let old : List ℕ = a .line .now in (
       c .answer-number .ensures ∙ ap (λ (x : Stepped). answerNumber (x .answer)) (given .0),
       c .before .tally-numbers .ensures ∙ ap (λ (x : Stepped). tallyNumbers (x .tally)) (given .0),
