@@ -48,7 +48,7 @@ fn print(line: Text)
     io::write_all(STDOUT_FILENO, &bytes[..n]);
 }
 
-// Reads the file that an argument names, as far as it fits; no bytes where it can't be read, and standard error says why.
+// Reads the file that an argument names, as far as it fits; no bytes where it can't, and standard error says why.
 fn read_file(argument: usize, buffer: &mut [u8]) -> usize
     ensures { λ r. ⌜ Counts r (now (buffer .exit)) ⌝ }
 {
