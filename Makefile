@@ -1,12 +1,14 @@
 # What each target does, how long it takes and its variables: make help, which prints the lines that start with ##.
 MAKEFLAGS += --no-print-directory
 FILE ?= README.md
+TABLES ?= crates/replay/data/tables
+RECORDING ?= crates/replay/data/recording
 SEED ?= 1
 CALLS ?= 1000000
 PREFIX ?= /usr/local
 DESTDIR ?=
 
-.PHONY: lib demo show install dist test bench soak memcheck clean help
+.PHONY: lib demo show replay install dist test bench soak memcheck clean help
 
 ## make            proves the core, writes the library to target/      six minutes of one processor once, then what changed
 lib: target/libhaskumye.a target/libhaskumye.so
@@ -24,6 +26,10 @@ demo:
 ## make show       packets and a file's digest, by proved programs     two minutes once; FILE=README.md
 show:
 	@scripts/show "$(FILE)"
+
+## make replay     the lines of a recording, by a proved program       six minutes once; TABLES= and RECORDING=, else the demo's
+replay:
+	@scripts/replay "$(TABLES)" "$(RECORDING)"
 
 ## make install    header, library, pkg-config's file, Python module   a second; PREFIX=/usr/local, DESTDIR= for a package
 install: lib

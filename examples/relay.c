@@ -8,8 +8,8 @@
  *     local HEX                       adds an address      done
  *     renumber P0 P1 .. P15           renumbers the ports  done
  *
- * A call that the core refuses prints `refused N: WORDS`, and a line that is no event is not acted on. A box with radios puts
- * them in the place of main and transmit.
+ * A call that the core refuses prints `refused N: WORDS`, and a line that is no event is not acted on. A box with radios
+ * puts them in the place of main and transmit.
  */
 #include "haskumye.h"
 #include <ctype.h>

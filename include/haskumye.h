@@ -55,7 +55,9 @@ extern "C" {
 #define HASKUMYE_SHORTEST_PACKET 19 /* 35 in type 2 */
 #define HASKUMYE_LONGEST_PACKET 500
 #define HASKUMYE_LONGEST_MESSAGE 65535 /* for haskumye_sha256 */
-#define HASKUMYE_TEXT_SIZE 160  /* a line of haskumye_line */
+#define HASKUMYE_TEXT_SIZE 160  /* a line of haskumye_line or haskumye_replay_entry */
+#define HASKUMYE_RECORDING_SIZE 60000 /* the longest recording */
+#define HASKUMYE_ENTRY_WIDTH 12 /* an entry as haskumye_write_recording takes it */
 
 /* Limits: how many of each a relay has room for. */
 #define HASKUMYE_PORT_COUNT 16    /* ports 0 to 15 */
@@ -113,17 +115,22 @@ enum haskumye_mode {
 /* The numbered refusals. Calls that return a plain number return one of these. */
 enum haskumye_refusal {
     HASKUMYE_REFUSAL_NONE = 0,
-    HASKUMYE_REFUSAL_TOO_SHORT = 1,     /* a packet under 19 bytes, or type 2 under 35 */
-    HASKUMYE_REFUSAL_TOO_LONG = 2,      /* a packet over 500 bytes, or a message over 65,535 */
-    HASKUMYE_REFUSAL_ACCESS_CODE = 3,   /* the access code bit is set */
-    HASKUMYE_REFUSAL_ARRIVAL_PORT = 4,  /* the arrival port is over 15, or off */
-    HASKUMYE_REFUSAL_CLOCK = 5,         /* the clock is 2^40 or more, or below the last accepted one */
-    HASKUMYE_REFUSAL_OUTPUT = 6,        /* the output buffer is under 500 bytes */
-    HASKUMYE_REFUSAL_TABLES = 7,        /* the tables' length is wrong, or no relay has these bytes */
-    HASKUMYE_REFUSAL_MAP = 8,           /* the renumbering map is not one-to-one on 0..15 */
-    HASKUMYE_REFUSAL_SETTING = 9,       /* setting a port over 15, or an unknown mode */
-    HASKUMYE_REFUSAL_LOCAL_FULL = 10,   /* a 17th local address */
-    HASKUMYE_REFUSAL_LOCAL_ADDRESS = 11 /* adding a local address already there, or removing one not there */
+    HASKUMYE_REFUSAL_TOO_SHORT = 1,       /* a packet under 19 bytes, or type 2 under 35 */
+    HASKUMYE_REFUSAL_TOO_LONG = 2,        /* a packet over 500 bytes, or a message over 65,535 */
+    HASKUMYE_REFUSAL_ACCESS_CODE = 3,     /* the access code bit is set */
+    HASKUMYE_REFUSAL_ARRIVAL_PORT = 4,    /* the arrival port is over 15, or off */
+    HASKUMYE_REFUSAL_CLOCK = 5,           /* the clock is 2^40 or more, or below the last accepted one */
+    HASKUMYE_REFUSAL_OUTPUT = 6,          /* the output buffer is under 500 bytes */
+    HASKUMYE_REFUSAL_TABLES = 7,          /* the tables' length is wrong, or no relay has these bytes */
+    HASKUMYE_REFUSAL_MAP = 8,             /* the renumbering map is not one-to-one on 0..15 */
+    HASKUMYE_REFUSAL_SETTING = 9,         /* setting a port over 15, or an unknown mode */
+    HASKUMYE_REFUSAL_LOCAL_FULL = 10,     /* a 17th local address */
+    HASKUMYE_REFUSAL_LOCAL_ADDRESS = 11,  /* adding a local address already there, or removing one not there */
+    HASKUMYE_REFUSAL_FILE_LENGTH = 20,    /* a file over 60,000 bytes, or shorter than its contents */
+    HASKUMYE_REFUSAL_FILE_KIND = 21,      /* another kind of file, or another edition */
+    HASKUMYE_REFUSAL_FILE_PLACE = 22,     /* an offset, a length or the file's end breaks the rule; or no such entry */
+    HASKUMYE_REFUSAL_SIGNATURE_WORD = 23, /* a signature word that is neither 0 nor 1 */
+    HASKUMYE_REFUSAL_ROOM = 25            /* too little room for what is to be written */
 };
 
 /* What a packet call answers: HASKUMYE_ANSWER_KIND. */
@@ -220,6 +227,15 @@ typedef struct {
     uint8_t context;
 } haskumye_parts;
 
+/* An entry of a recording. Its packet is the file's part of that length, from that start on. */
+typedef struct {
+    uint64_t clock;
+    uint64_t port;
+    uint64_t signed_well; /* the host's word on the signature: 1 is yes */
+    uint64_t start;
+    uint64_t length;
+} haskumye_entry;
+
 /* Port i becomes port to[i]. */
 typedef struct {
     uint8_t to[16];
@@ -244,6 +260,7 @@ HASKUMYE_ASSERT_SIZE(haskumye_address, 16);
 HASKUMYE_ASSERT_SIZE(haskumye_hash, 32);
 HASKUMYE_ASSERT_SIZE(haskumye_blob, 10);
 HASKUMYE_ASSERT_SIZE(haskumye_parts, 35);
+HASKUMYE_ASSERT_SIZE(haskumye_entry, 40);
 HASKUMYE_ASSERT_SIZE(haskumye_port_map, 16);
 HASKUMYE_ASSERT_SIZE(haskumye_text, HASKUMYE_TEXT_SIZE);
 HASKUMYE_ASSERT_SIZE(haskumye_tally, 24);
@@ -344,6 +361,38 @@ size_t haskumye_line(const uint8_t *packet, size_t length, haskumye_text *text);
 /* SHA-256. Returns refusal 2 for a message over HASKUMYE_LONGEST_MESSAGE, or 0. */
 HASKUMYE_CHECKED uint8_t haskumye_sha256(const uint8_t *message, size_t length, haskumye_hash *out);
 
+/* ---- Recordings: a day's packets in a file, and what a relay answers to each. docs/LAYOUT.md has the file. ---- */
+
+/* The refusal of a file that is no recording (20, 21, 22, 23), or 0. */
+HASKUMYE_CHECKED uint8_t haskumye_check_recording(const uint8_t *file, size_t length);
+
+/* How many entries the file says it has; 0 where it is too short to say. */
+size_t haskumye_recording_count(const uint8_t *file, size_t length);
+
+/* Entry `index`, counted from 0. Refusal 22, and the struct stays, where the file does not have it, body and all. */
+HASKUMYE_CHECKED uint8_t haskumye_recording_entry(const uint8_t *file, size_t length, uint64_t index,
+                                                  haskumye_entry *entry);
+
+/*
+ * Writes a recording at the room's start; bytes behind it stay. `entries` has HASKUMYE_ENTRY_WIDTH bytes for each
+ * packet: clock 8, port 1, signature word 1 (0 or 1), length 2, all big-endian; `bodies` has the packets, one after
+ * another. Returns a number of two fields: HASKUMYE_WRITTEN_REFUSAL (23, 5, 20, 25 in this order, each over all
+ * entries; 20 also where entries and bodies do not add up; 0 for none) and HASKUMYE_WRITTEN_LENGTH.
+ */
+HASKUMYE_CHECKED haskumye_written haskumye_write_recording(const uint8_t *entries, size_t entries_length,
+                                                           const uint8_t *bodies, size_t bodies_length, uint8_t *room,
+                                                           size_t room_length);
+
+/*
+ * Makes the packet call of entry `index` on tables and tally, with an output of its own, and gives its answer and its
+ * line (`1 forward 4`, counted from 1; a line feed ends it). An entry that the core refuses has a line too, and the
+ * replay goes on with the next. Refusal 22, and nothing changes, where there is no such entry. A replay is a check of
+ * the file, then this call for each of its entries in order.
+ */
+HASKUMYE_CHECKED haskumye_answer haskumye_replay_entry(const uint8_t *file, size_t length, uint64_t index,
+                                                       uint8_t *tables, size_t size, haskumye_tally *tally,
+                                                       haskumye_text *line);
+
 /* ---- Words for numbers: bindings/words has all of them, for every language. ---- */
 
 /* Words for a refusal, as `refused 7: tables of wrong size, or with bytes that no relay has`. */
@@ -361,6 +410,11 @@ static inline const char *haskumye_refusal_words(unsigned refusal)
     case HASKUMYE_REFUSAL_SETTING: return "setting a port over 15 or an unknown mode";
     case HASKUMYE_REFUSAL_LOCAL_FULL: return "adding a 17th local address";
     case HASKUMYE_REFUSAL_LOCAL_ADDRESS: return "adding a local address already there, or removing one not there";
+    case HASKUMYE_REFUSAL_FILE_LENGTH: return "file too long or shorter than its contents";
+    case HASKUMYE_REFUSAL_FILE_KIND: return "kind or edition";
+    case HASKUMYE_REFUSAL_FILE_PLACE: return "offset, length or file end that breaks the rule";
+    case HASKUMYE_REFUSAL_SIGNATURE_WORD: return "signature word";
+    case HASKUMYE_REFUSAL_ROOM: return "too little room";
     default: return "unknown";
     }
 }

@@ -6,11 +6,12 @@ mod check;
 mod hashing;
 mod kinds;
 mod measure;
+mod replays;
 mod scene;
 mod search;
 mod state;
 
 fn main() {
     let only = std::env::args().nth(1).unwrap_or_default();
-    measure::run(only, &[hashing::run, check::run, search::run, calls::run, calls::run_keepalives]);
+    measure::run(only, &[hashing::run, check::run, search::run, calls::run, calls::run_keepalives, replays::run]);
 }

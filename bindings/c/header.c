@@ -103,6 +103,24 @@ static void check_relay_calls(void)
     CHECK(HASKUMYE_ANSWER_REFUSAL(answer) == HASKUMYE_REFUSAL_TOO_SHORT);
 }
 
+static void check_recording_calls(void)
+{
+    static haskumye_entry entry;
+    static haskumye_tally tally;
+    static haskumye_text line;
+    static const uint8_t empty[] = {1, 1, 0, 0};
+    static uint8_t room[sizeof empty];
+    CHECK(haskumye_check_recording(NULL, 0) == HASKUMYE_REFUSAL_FILE_LENGTH);
+    CHECK(haskumye_check_recording(empty, sizeof empty) == HASKUMYE_REFUSAL_NONE);
+    CHECK(haskumye_recording_count(NULL, 0) == 0);
+    CHECK(haskumye_recording_entry(NULL, 0, 0, &entry) == HASKUMYE_REFUSAL_FILE_PLACE);
+    CHECK(haskumye_write_recording(NULL, 0, NULL, 0, NULL, 0) == HASKUMYE_REFUSAL_ROOM);
+    CHECK(HASKUMYE_WRITTEN_LENGTH(haskumye_write_recording(NULL, 0, NULL, 0, room, sizeof room)) == sizeof empty);
+    CHECK(memcmp(room, empty, sizeof empty) == 0);
+    haskumye_answer answer = haskumye_replay_entry(NULL, 0, 0, NULL, 0, &tally, &line);
+    CHECK(HASKUMYE_ANSWER_REFUSAL(answer) == HASKUMYE_REFUSAL_FILE_PLACE && line.bytes[0] == 0);
+}
+
 /* What must not compile: a field of a number that is of another call, and a call whose refusal is ignored. */
 #ifdef NARROW
 unsigned narrow(void);
@@ -145,6 +163,7 @@ int main(int count, char **words)
     check_accessors();
     check_packet_calls();
     check_relay_calls();
+    check_recording_calls();
     printf("%d passed, %d failed\n", passed, failed);
     return failed == 0 ? 0 : 1;
 }

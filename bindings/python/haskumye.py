@@ -21,7 +21,7 @@ import operator
 import os
 import pathlib
 from ctypes import c_char_p, c_size_t, c_uint8, c_uint32, c_uint64, c_void_p
-from typing import NamedTuple
+from typing import NamedTuple, Optional
 
 VERSION = 2  # of the interface, as the header has it
 
@@ -32,6 +32,8 @@ SHORTEST_PACKET = 19
 LONGEST_PACKET = 500
 LONGEST_MESSAGE = 65535
 TEXT_SIZE = 160
+RECORDING_SIZE = 60000
+ENTRY_WIDTH = 12
 PORT_COUNT = 16
 LOCAL_COUNT = 16
 PATH_COUNT = 64
@@ -89,6 +91,11 @@ class Refusal(Words):
     SETTING = 9, "setting a port over 15 or an unknown mode"
     LOCAL_FULL = 10, "adding a 17th local address"
     LOCAL_ADDRESS = 11, "adding a local address already there, or removing one not there"
+    FILE_LENGTH = 20, "file too long or shorter than its contents"
+    FILE_KIND = 21, "kind or edition"
+    FILE_PLACE = 22, "offset, length or file end that breaks the rule"
+    SIGNATURE_WORD = 23, "signature word"
+    ROOM = 25, "too little room"
 
 
 class Reason(Words):
@@ -192,6 +199,26 @@ class Parts(NamedTuple):
     context: int = 0
 
 
+class Recorded(NamedTuple):
+    """An entry of a recording: a packet as it came in. `signed` is the host's word on its signature."""
+
+    clock: int
+    port: int
+    signed: bool
+    packet: bytes
+
+
+class Replayed(NamedTuple):
+    """What a relay makes of an entry: its line, and the answer's kind with what goes with it. A replay does not give the bytes that leave."""
+
+    line: str
+    kind: Kind
+    refusal: Optional[Refusal] = None
+    reason: Optional[Reason] = None
+    ports: tuple = ()
+    length: int = 0
+
+
 class Tally(NamedTuple):
     """The packet calls since fresh, each count modulo 2^32: all that were not refused, and those of each answer."""
 
@@ -228,6 +255,11 @@ FUNCTIONS = {
     "haskumye_emission": (c_uint64, [_GIVEN]),
     "haskumye_line": (c_size_t, [*_BYTES, _TAKEN]),
     "haskumye_sha256": (c_uint8, [*_BYTES, _TAKEN]),
+    "haskumye_check_recording": (c_uint8, [*_BYTES]),
+    "haskumye_recording_count": (c_size_t, [*_BYTES]),
+    "haskumye_recording_entry": (c_uint8, [*_BYTES, c_uint64, _TAKEN]),
+    "haskumye_write_recording": (c_uint32, [*_BYTES, *_BYTES, *_BUFFER]),
+    "haskumye_replay_entry": (c_uint64, [*_BYTES, c_uint64, *_BUFFER, _TAKEN, _TAKEN]),
 }
 
 
@@ -362,6 +394,45 @@ def line(packet):
     return text.raw[:length].decode("ascii").rstrip("\n")
 
 
+def check_recording(file):
+    """Raises Refused, by 20, 21, 22 or 23, where a file is no recording."""
+    file = _bytes(file)
+    _done(_library.haskumye_check_recording(file, len(file)))
+
+
+def recording_count(file):
+    """How many entries a file says it has; 0 where it is too short to say."""
+    file = _bytes(file)
+    return _library.haskumye_recording_count(file, len(file))
+
+
+def recording_entry(file, index):
+    """The entry at this place, counted from 0. Refusal 22 where the file does not have it."""
+    file, entry = _bytes(file), (c_uint64 * 5)()
+    _done(_library.haskumye_recording_entry(file, len(file), _number(index), entry))
+    clock, port, signed, start, length = entry
+    return Recorded(clock, port, signed == 1, file[start : start + length])
+
+
+def entries(file):
+    """An iterator over a recording's entries. Refusals 20, 21, 22 and 23, at the call."""
+    file = _bytes(file)
+    check_recording(file)
+    return (recording_entry(file, index) for index in range(recording_count(file)))
+
+
+def write_recording(recorded):
+    """The recording of these packets, each a Recorded or the same four in a tuple. Refusal 5 for a clock of 2^40 or more, 20 for too many bytes."""
+    recorded = [(clock, port, signed, _bytes(packet)) for clock, port, signed, packet in recorded]
+    given = bytearray()
+    for clock, port, signed, packet in recorded:
+        # A packet over 65,535 bytes makes any file too long: entries and bodies then don't add up, which is refused by 20 as well.
+        length = min(len(packet), 0xFFFF)
+        given += _number(clock).to_bytes(8, "big") + bytes([_number(port, 8), 1 if signed else 0]) + length.to_bytes(2, "big")
+    bodies, room = b"".join(packet for _, _, _, packet in recorded), ctypes.create_string_buffer(RECORDING_SIZE)
+    return _written(_library.haskumye_write_recording(bytes(given), len(given), bodies, len(bodies), room, RECORDING_SIZE), room)
+
+
 def check_tables(tables):
     """Raises Refused, by 7, where these bytes are no relay's tables."""
     tables = _bytes(tables)
@@ -391,8 +462,8 @@ class Relay:
         _done(function(self._tables, TABLE_SIZE, *arguments))
 
     def packet(self, packet, port, clock, signed=False):
-        """What becomes of a packet that came in by a port at a clock, in seconds: Drop, Deliver, Forward, Spread or Kept. `signed` is the host's word on
-        its signature, which is read only for announces and link proofs."""
+        """What becomes of a packet that came in by a port at a clock, in seconds: Drop, Deliver, Forward, Spread or Kept. `signed` is the host's
+        word on its signature, which is read only for announces and link proofs."""
         packet = _bytes(packet)
         number = _library.haskumye_packet(
             packet,
@@ -407,6 +478,18 @@ class Relay:
             self._tally,
         )
         return _answer(number, packet, self._output)
+
+    def replay_entry(self, file, index):
+        """What becomes of a recording's entry, counted from 0; one that the core refuses has a line too. Refusal 22 where the file has no such entry."""
+        file, text = _bytes(file), ctypes.create_string_buffer(TEXT_SIZE)
+        number = _library.haskumye_replay_entry(file, len(file), _number(index), self._tables, TABLE_SIZE, self._tally, text)
+        return _replayed(number, text.value.decode("ascii").rstrip("\n"))
+
+    def replay(self, file):
+        """An iterator that replays a recording, entry by entry. Refusals 20, 21, 22 and 23, at the call."""
+        file = _bytes(file)
+        check_recording(file)
+        return (self.replay_entry(file, index) for index in range(recording_count(file)))
 
     def set_port(self, port, on, mode):
         """Sets a port on or off, and its mode. Records that name the port stay. Refusal 9."""
@@ -440,9 +523,32 @@ class Relay:
         return int.from_bytes(self._tables[LAST_CLOCK_PLACE : LAST_CLOCK_PLACE + 8], "big")
 
 
+def _fields(number):
+    """The fields of a packet call's number: kind, detail, ports, length, and where a delivered payload starts."""
+    return number & 0xFF, number >> 8 & 0xFF, number >> 16 & 0xFFFF, number >> 32 & 0xFFFF, number >> 48
+
+
+def _port_set(ports):
+    return tuple(port for port in range(PORT_COUNT) if ports >> port & 1)
+
+
+def _replayed(number, line):
+    kind, detail, ports, length, _ = _fields(number)
+    if (kind, detail) == (Kind.REFUSED, Refusal.FILE_PLACE):
+        raise Refused(detail)
+    return Replayed(
+        line,
+        Kind(kind),
+        refusal=Refusal(detail) if kind == Kind.REFUSED else None,
+        reason=Reason(detail) if kind == Kind.DROP else None,
+        ports=(ports,) if kind == Kind.FORWARD else _port_set(ports),
+        length=length,
+    )
+
+
 def _answer(number, packet, output):
     """The answer that a packet call's number says; what leaves is at the output's start."""
-    kind, detail, ports, length, start = number & 0xFF, number >> 8 & 0xFF, number >> 16 & 0xFFFF, number >> 32 & 0xFFFF, number >> 48
+    kind, detail, ports, length, start = _fields(number)
     if kind == Kind.REFUSED:
         raise Refused(detail)
     if kind == Kind.DROP:
@@ -452,7 +558,7 @@ def _answer(number, packet, output):
     if kind == Kind.FORWARD:
         return Forward(ports, output.raw[:length])
     if kind == Kind.SPREAD:
-        return Spread(tuple(port for port in range(PORT_COUNT) if ports >> port & 1), output.raw[:length])
+        return Spread(_port_set(ports), output.raw[:length])
     if kind == Kind.KEPT:
         return Kept()
     raise ValueError(f"the library answered {number:#x}, which this module does not know")

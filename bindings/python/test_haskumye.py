@@ -155,6 +155,54 @@ class TestPackets(unittest.TestCase):
         self.assertEqual((again.tables, again.tally, again.last_clock), (box.tables, box.tally, 77))
 
 
+class TestRecordings(unittest.TestCase):
+    def day(self):
+        """A day's packets: an announce, data, and one that is too short."""
+        packet, destination = announce()
+        return [(1000, 1, True, packet), (1001, 0, False, data(destination, b"42 plants")), (1002, 0, False, b"noise")]
+
+    def test_what_is_written_is_read(self):
+        file = haskumye.write_recording(self.day())
+        self.assertEqual(len(file), 4 + 13 * 3 + sum(len(packet) for *_, packet in self.day()))
+        haskumye.check_recording(bytearray(file))
+        self.assertEqual(list(haskumye.entries(file)), self.day())
+        self.assertEqual(haskumye.write_recording(haskumye.entries(memoryview(file))), file)
+        self.assertEqual(haskumye.recording_count(file), 3)
+        self.assertEqual(haskumye.recording_entry(file, 2), haskumye.Recorded(*self.day()[2]))
+        self.assertEqual(list(haskumye.entries(haskumye.write_recording([]))), [])
+
+    def test_a_replay_is_the_packet_calls(self):
+        file, live, replayed = haskumye.write_recording(self.day()), relay(3), relay(3)
+        steps = list(replayed.replay(file))
+        self.assertEqual([step.line for step in steps], ["1 spread 0 2", "2 forward 1", "3 refused 1"])
+        self.assertEqual([(step.ports, step.length) for step in steps], [((0, 2), 183), ((1,), 28), ((), 0)])
+        self.assertEqual(steps[2].refusal, Refusal.TOO_SHORT)
+        for clock, port, signed, packet in self.day()[:2]:
+            live.packet(packet, port, clock, signed)
+        self.assertEqual((replayed.tables, replayed.tally), (live.tables, live.tally))
+
+    def refused(self, number, call, *arguments):
+        with self.assertRaises(Refused) as caught:
+            call(*arguments)
+        self.assertEqual(caught.exception.refusal, number)
+
+    def test_refusals(self):
+        file, box = haskumye.write_recording(self.day()), relay(3)
+        before = (box.tables, box.tally)
+        for spoiled, number in ((file[:3], 20), (b"\x02" + file[1:], 21), (file[:-1], 22), (file[:10] + b"\x02" + file[11:], 23)):
+            self.refused(number, haskumye.check_recording, spoiled)
+            self.refused(number, haskumye.entries, spoiled)
+            self.refused(number, box.replay, spoiled)
+        self.refused(22, haskumye.recording_entry, file, 3)
+        self.refused(22, box.replay_entry, file, 3)
+        self.refused(22, box.replay_entry, file, (1 << 64) - 1)
+        self.assertEqual((box.tables, box.tally), before)
+        self.refused(5, haskumye.write_recording, [(haskumye.CLOCK_LIMIT, 0, False, bytes(70000))])
+        self.refused(20, haskumye.write_recording, [(0, 0, False, bytes(70000))])
+        self.refused(20, haskumye.write_recording, [(0, 0, False, bytes(haskumye.RECORDING_SIZE - 16))])
+        self.assertRaises(OverflowError, haskumye.write_recording, [(0, 256, False, b"")])
+
+
 class TestAgreement(unittest.TestCase):
     """What the header declares, without its comments and inline functions."""
 

@@ -2,6 +2,7 @@
 //! leaves can be compared.
 
 use crate::answer::Tally;
+use crate::engine::Fields;
 use crate::packet::{Address, Blob, PacketHash, Parts};
 use haskumye::raw::*;
 
@@ -112,4 +113,30 @@ pub fn packet(packet: &[u8], port: u64, clock: u64, signed: u8, tables: &mut [u8
     let (size, room) = (tables.len(), output.len());
     let (tables, output) = (tables.as_mut_ptr(), output.as_mut_ptr());
     unsafe { haskumye_packet(packet.as_ptr(), packet.len(), port, clock, signed, tables, size, output, room, tally.as_mut_ptr().cast()) }
+}
+
+/// A file's refusal, 20 to 23, or 0.
+pub fn check_recording(file: &[u8]) -> u8 {
+    unsafe { haskumye_check_recording(file.as_ptr(), file.len()) }
+}
+
+pub fn recording_count(file: &[u8]) -> usize {
+    unsafe { haskumye_recording_count(file.as_ptr(), file.len()) }
+}
+
+/// 0, or 22 where there is no such entry: clock, port, signature word, the body's start and its length go to the buffer.
+pub fn recording_entry(file: &[u8], index: u64, fields: &mut Fields) -> u8 {
+    unsafe { haskumye_recording_entry(file.as_ptr(), file.len(), index, fields.as_mut_ptr().cast()) }
+}
+
+/// The refusal number in the low 16 bits, the length in those above; the file goes to the room's start.
+pub fn write_recording(entries: &[u8], bodies: &[u8], room: &mut [u8]) -> u32 {
+    let (given, size) = ((entries.as_ptr(), bodies.as_ptr()), room.len());
+    unsafe { haskumye_write_recording(given.0, entries.len(), given.1, bodies.len(), room.as_mut_ptr(), size) }
+}
+
+/// The packet call of an entry, its answer as one number; its line goes to the buffer, with zeros behind it.
+pub fn replay_entry(file: &[u8], index: u64, tables: &mut [u8], tally: &mut Tally, line: &mut [u8; LINE]) -> u64 {
+    let size = tables.len();
+    unsafe { haskumye_replay_entry(file.as_ptr(), file.len(), index, tables.as_mut_ptr(), size, tally.as_mut_ptr().cast(), line) }
 }

@@ -2,7 +2,7 @@
 
 use crate::answer::{Answer, Reason, Refusal, Tally, Verdict};
 use crate::core::{self, crossing, PartsBytes, LINE};
-use crate::engine::{Engine, Outcome, PacketCalls};
+use crate::engine::{Engine, Fields, Outcome, PacketCalls, RecordingCalls};
 use crate::packet::{payload_place, Address, Blob, PacketHash, Parts};
 use crate::relay::Arrival;
 
@@ -123,6 +123,31 @@ impl PacketCalls for Core {
 
     fn line(&self, packet: &[u8], text: &mut [u8; LINE]) -> usize {
         core::line(packet, text)
+    }
+}
+
+impl RecordingCalls for Core {
+    fn check_recording(&self, file: &[u8]) -> u8 {
+        core::check_recording(file)
+    }
+
+    fn recording_count(&self, file: &[u8]) -> usize {
+        core::recording_count(file)
+    }
+
+    fn recording_entry(&self, file: &[u8], index: u64, fields: &mut Fields) -> u8 {
+        core::recording_entry(file, index, fields)
+    }
+
+    fn write_recording(&self, entries: &[u8], bodies: &[u8], room: &mut [u8]) -> u32 {
+        core::write_recording(entries, bodies, room)
+    }
+
+    fn replay_entry(&self, file: &[u8], index: u64, tables: &mut [u8], tally: &mut Tally, line: &mut [u8; LINE]) -> Outcome {
+        let mut fields = Fields::default();
+        core::recording_entry(file, index, &mut fields); // where there is no such entry, its body is empty
+        let body = &file[fields[3] as usize..][..fields[4] as usize];
+        judged(core::replay_entry(file, index, tables, tally, line), body)
     }
 }
 

@@ -117,6 +117,34 @@ static uint64_t sha256(const struct use *use)
     return haskumye_sha256(use->input.bytes, use->input.length, (haskumye_hash *)use->output.bytes);
 }
 
+static uint64_t check_recording(const struct use *use)
+{
+    return haskumye_check_recording(use->input.bytes, use->input.length);
+}
+
+static uint64_t recording_count(const struct use *use)
+{
+    return haskumye_recording_count(use->input.bytes, use->input.length);
+}
+
+static uint64_t recording_entry(const struct use *use)
+{
+    return haskumye_recording_entry(use->input.bytes, use->input.length, use->index,
+                                    (haskumye_entry *)(void *)use->output.bytes);
+}
+
+static uint64_t write_recording(const struct use *use)
+{
+    return haskumye_write_recording(use->parts.bytes, use->parts.length, use->input.bytes, use->input.length,
+                                    use->output.bytes, use->output.length);
+}
+
+static uint64_t replay_entry(const struct use *use)
+{
+    return haskumye_replay_entry(use->input.bytes, use->input.length, use->index, use->tables.bytes, use->tables.length,
+                                 (haskumye_tally *)(void *)use->tally.bytes, (haskumye_text *)use->output.bytes);
+}
+
 static const struct {
     const char *name;
     uint64_t (*call)(const struct use *use);
@@ -141,6 +169,11 @@ static const struct {
     [EMISSION] = {"haskumye_emission", emission},
     [LINE] = {"haskumye_line", line},
     [SHA256] = {"haskumye_sha256", sha256},
+    [CHECK_RECORDING] = {"haskumye_check_recording", check_recording},
+    [RECORDING_COUNT] = {"haskumye_recording_count", recording_count},
+    [RECORDING_ENTRY] = {"haskumye_recording_entry", recording_entry},
+    [WRITE_RECORDING] = {"haskumye_write_recording", write_recording},
+    [REPLAY_ENTRY] = {"haskumye_replay_entry", replay_entry},
 };
 
 static bool measuring;

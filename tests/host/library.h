@@ -27,17 +27,22 @@ enum function {
     EMISSION,
     LINE,
     SHA256,
+    CHECK_RECORDING,
+    RECORDING_COUNT,
+    RECORDING_ENTRY,
+    WRITE_RECORDING,
+    REPLAY_ENTRY,
     FUNCTION_COUNT
 };
 
 /* What a function is given; each takes what it needs of it. */
 struct use {
-    struct buffer input;  /* packet, payload, message, address, map or blob */
-    struct buffer parts;
+    struct buffer input;  /* packet, payload, message, address, map, blob or recording; bodies to be written */
+    struct buffer parts;  /* or entries to be written */
     struct buffer output; /* or where an answer of a fixed size goes */
     struct buffer tables;
     struct buffer tally;
-    uint64_t port, clock, mode;
+    uint64_t port, clock, mode, index;
     uint8_t byte;         /* the signature word, on or off, or a header */
 };
 

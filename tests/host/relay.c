@@ -42,7 +42,7 @@ static bool lies_within(struct buffer tables, uint64_t at, uint64_t length)
 }
 
 /* What is to be written or copied outside the tables is not. */
-static void edit(struct relay *relay, const struct recorded *call)
+static void edit(struct relay *relay, const struct listed *call)
 {
     struct buffer *tables = &relay->tables;
     switch (call->edit) {
@@ -78,7 +78,7 @@ static uint8_t byte_of(bool yes)
 }
 
 /* The check of the tables refuses them exactly where the call is refused by 7; a fresh relay reads nothing of them. */
-static void expect_check(const struct recorded *call, const struct use *use)
+static void expect_check(const struct listed *call, const struct use *use)
 {
     uint64_t refused = call->function == PACKET ? HASKUMYE_REFUSAL_TABLES << 8 : HASKUMYE_REFUSAL_TABLES;
     if (call->function != FRESH) {
@@ -86,7 +86,7 @@ static void expect_check(const struct recorded *call, const struct use *use)
     }
 }
 
-void relay_make(struct relay *relay, const struct recorded *call)
+void relay_make(struct relay *relay, const struct listed *call)
 {
     if (call->edit != NO_EDIT) {
         edit(relay, call);

@@ -1,9 +1,9 @@
-/* A relay of this host, and recorded calls on it. */
+/* A relay of this host, and listed calls on it. */
 #ifndef HOST_RELAY_H
 #define HOST_RELAY_H
 
 #include "buffer.h"
-#include "recording.h"
+#include "calls.h"
 
 struct relay {
     struct buffer tables;
@@ -14,7 +14,7 @@ struct relay {
 struct relay relay_new(void);
 void relay_free(struct relay *relay);
 
-/* Makes a recorded call, and expects the number and the bytes that the recording has. */
-void relay_make(struct relay *relay, const struct recorded *call);
+/* Makes a listed call, and expects the number and the bytes that the list has. */
+void relay_make(struct relay *relay, const struct listed *call);
 
 #endif

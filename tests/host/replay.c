@@ -1,5 +1,5 @@
 /*
- * replay MODE FILE [--damage]: makes the recorded calls of a file through the library, and calls every other function
+ * replay MODE FILE [--damage]: makes the listed calls of a file through the library, and calls every other function
  * on their packets and on buffers of odd lengths. Compares each number and all bytes left. The last line is
  * `N passed, M failed`.
  *   heap    each buffer is an allocation of its own: for AddressSanitizer and valgrind
@@ -12,7 +12,8 @@
 #include "library.h"
 #include "odd.h"
 #include "packets.h"
-#include "recording.h"
+#include "recordings.h"
+#include "calls.h"
 #include "relay.h"
 
 #include <signal.h>
@@ -64,12 +65,12 @@ static bool start(const char *mode)
     return true;
 }
 
-/* Makes the call of a line, and tries its packet alone. Whether it is a recorded call. */
+/* Makes the call of a line, and tries its packet alone. Whether it is a call. */
 static bool replay_line(struct relay *relay, const char *line)
 {
-    struct recorded call;
-    bool readable = recording_read(line, &call);
-    expect("a recorded call", readable, 1);
+    struct listed call;
+    bool readable = calls_read(line, &call);
+    expect("a listed call", readable, 1);
     if (readable) {
         relay_make(relay, &call);
         if (call.function == PACKET) {
@@ -86,7 +87,7 @@ static void replay(FILE *file)
     size_t room = 0, lines = 0, promised = 0;
     struct relay relay = relay_new();
     if (getline(&line, &room, file) > 0) {
-        promised = recording_size(line);
+        promised = calls_promised(line);
     }
     while (getline(&line, &room, file) > 0) {
         check_at(++lines + 1);
@@ -121,6 +122,7 @@ int main(int count, char **words)
     replay(file);
     fclose(file);
     odd_lengths();
+    recordings_try();
     library_end();
     return check_end() ? 0 : 1;
 }

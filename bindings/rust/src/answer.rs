@@ -48,6 +48,11 @@ numbered! {
         Setting = 9 "setting a port over 15 or an unknown mode",
         LocalFull = 10 "adding a 17th local address",
         LocalAddress = 11 "adding a local address already there, or removing one not there",
+        FileLength = 20 "file too long or shorter than its contents",
+        FileKind = 21 "kind or edition",
+        FilePlace = 22 "offset, length or file end that breaks the rule",
+        SignatureWord = 23 "signature word",
+        Room = 25 "too little room",
     }
 }
 

@@ -12,14 +12,16 @@
 mod answer;
 mod packet;
 pub mod raw;
+mod recording;
 mod relay;
 
 pub use answer::{Mode, PortSet, Ports, Reason, Refusal, Verdict};
 pub use packet::{announced_destination, emission, least_announce, line, link_id, packet_hash, payload, read, sha256, write};
 pub use raw::{
     Parts, Tally, CLOCK_LIMIT, HASH_COUNT, LINK_COUNT, LOCAL_COUNT, LONGEST_MESSAGE, LONGEST_PACKET, OUTPUT_SIZE, PATH_COUNT, PORT_COUNT,
-    RETURN_COUNT, SHORTEST_PACKET, TABLE_SIZE,
+    RECORDING_SIZE, RETURN_COUNT, SHORTEST_PACKET, TABLE_SIZE,
 };
+pub use recording::{check_recording, entries, write_recording, Entries, Recorded, Replayed};
 pub use relay::Relay;
 
 /// The address of a relay or destination, or a link's id.

@@ -21,6 +21,10 @@ pub const LONGEST_PACKET: usize = 500;
 pub const LONGEST_MESSAGE: usize = 65535;
 /// The bytes of a line of text.
 pub const TEXT_SIZE: usize = 160;
+/// The longest recording.
+pub const RECORDING_SIZE: usize = 60000;
+/// The bytes of an entry as `haskumye_write_recording` takes it.
+pub const ENTRY_WIDTH: usize = 12;
 
 /// Ports 0 to 15.
 pub const PORT_COUNT: usize = 16;
@@ -141,6 +145,22 @@ pub struct Tally {
     pub kept: u32,
 }
 
+/// An entry of a recording. Its packet is the file's part of that length, from that start on.
+#[repr(C)]
+#[derive(Clone, Copy, Debug, Default, PartialEq, Eq)]
+pub struct Entry {
+    /// The clock, in seconds.
+    pub clock: u64,
+    /// The port that the packet came in by.
+    pub port: u64,
+    /// The host's word on its signature: 1 is yes.
+    pub signed_well: u64,
+    /// Where the packet starts in the file.
+    pub start: u64,
+    /// How long it is.
+    pub length: u64,
+}
+
 /// A line of text. Zeros fill what is left, one at least.
 pub type Text = [u8; TEXT_SIZE];
 
@@ -177,4 +197,25 @@ extern "C" {
     pub fn haskumye_emission(blob: *const Blob) -> u64;
     pub fn haskumye_line(packet: *const u8, length: usize, text: *mut Text) -> usize;
     pub fn haskumye_sha256(message: *const u8, length: usize, out: *mut Hash) -> u8;
+
+    pub fn haskumye_check_recording(file: *const u8, length: usize) -> u8;
+    pub fn haskumye_recording_count(file: *const u8, length: usize) -> usize;
+    pub fn haskumye_recording_entry(file: *const u8, length: usize, index: u64, entry: *mut Entry) -> u8;
+    pub fn haskumye_write_recording(
+        entries: *const u8,
+        entries_length: usize,
+        bodies: *const u8,
+        bodies_length: usize,
+        room: *mut u8,
+        room_length: usize,
+    ) -> u32;
+    pub fn haskumye_replay_entry(
+        file: *const u8,
+        length: usize,
+        index: u64,
+        tables: *mut u8,
+        size: usize,
+        tally: *mut Tally,
+        line: *mut Text,
+    ) -> u64;
 }

@@ -1,7 +1,8 @@
 //! A relay: its tables and its tally, and the calls on them.
 
 use crate::answer::{done, judged, Mode, Refusal, Verdict};
-use crate::raw::{self, Tally, TABLE_SIZE};
+use crate::raw::{self, Tally, LAST_CLOCK_PLACE, TABLE_SIZE, TEXT_SIZE};
+use crate::recording::Replayed;
 use crate::{Address, PortMap};
 
 // SAFETY of every call below: what crosses is a borrow, as `raw` asks, and borrows do not overlap.
@@ -38,6 +39,7 @@ pub struct Relay {
 impl Relay {
     /// A fresh relay: its own address, every port off and boundary, clock 0, all else empty.
     pub fn fresh(own: &Address) -> Self {
+        same_version();
         let mut tables = vec![0; TABLE_SIZE].into_boxed_slice();
         let refused = unsafe { raw::haskumye_fresh(tables.as_mut_ptr(), tables.len(), own) };
         done(refused).expect("a fresh relay is refused only for the size of its tables");
@@ -47,6 +49,7 @@ impl Relay {
     /// The relay of tables and a tally that [`tables`](Self::tables) and [`tally`](Self::tally) gave. Refusal 7 where no relay has such
     /// tables.
     pub fn from_tables(tables: &[u8], tally: Tally) -> Result<Self, Refusal> {
+        same_version();
         done(unsafe { raw::haskumye_check_tables(tables.as_ptr(), tables.len()) })?;
         Ok(Self { tables: tables.into(), tally })
     }
@@ -60,6 +63,19 @@ impl Relay {
         judged(unsafe {
             raw::haskumye_packet(packet.as_ptr(), packet.len(), port, clock, signature, tables, size, output, room, &mut self.tally)
         })
+    }
+
+    /// Makes the packet call of a recording's entry, counted from 0, and gives its answer and its line. Refusal 22 where the file has no such entry:
+    /// then nothing changes. A replay is [`check_recording`](crate::check_recording), then this call for each entry in order.
+    pub fn replay_entry(&mut self, file: &[u8], index: u64) -> Result<Replayed, Refusal> {
+        let mut text = [0; TEXT_SIZE];
+        let (size, tables) = (self.tables.len(), self.tables.as_mut_ptr());
+        let number = unsafe { raw::haskumye_replay_entry(file.as_ptr(), file.len(), index, tables, size, &mut self.tally, &mut text) };
+        let line = text.iter().take_while(|byte| !b"\0\n".contains(byte)).map(|byte| char::from(*byte)).collect();
+        match judged(number) {
+            Err(Refusal::FilePlace) => Err(Refusal::FilePlace),
+            answer => Ok(Replayed { answer, line }),
+        }
     }
 
     /// Sets a port on or off, and its mode. Records that name the port stay. Refusal 9 for a port over 15.
@@ -89,9 +105,38 @@ impl Relay {
         &self.tally
     }
 
+    /// The last accepted clock, 0 in a fresh relay. After a restart the clock goes on from there.
+    pub fn last_clock(&self) -> u64 {
+        self.tables[LAST_CLOCK_PLACE..].iter().take(8).fold(0, |clock, byte| clock << 8 | u64::from(*byte))
+    }
+
     /// The tables' bytes; docs/LAYOUT.md says what lies where.
     pub fn tables(&self) -> &[u8] {
         &self.tables
+    }
+}
+
+/// Panics where the archive is of another version than this crate.
+fn same_version() {
+    let (version, size) = unsafe { (raw::haskumye_version(), raw::haskumye_table_size()) };
+    assert!((version, size) == (raw::VERSION, TABLE_SIZE), "libhaskumye.a is of interface {version}, this crate of {}", raw::VERSION);
+}
+
+impl Tally {
+    /// The six counts, each in four bytes, big-endian.
+    pub fn to_bytes(&self) -> [u8; 24] {
+        let counts = [self.total, self.dropped, self.delivered, self.forwarded, self.spread, self.kept];
+        let mut bytes = [0; 24];
+        for (place, count) in bytes.chunks_exact_mut(4).zip(counts) {
+            place.copy_from_slice(&count.to_be_bytes());
+        }
+        bytes
+    }
+
+    /// The tally whose [`to_bytes`](Self::to_bytes) these are.
+    pub fn from_bytes(bytes: &[u8; 24]) -> Self {
+        let count = |place: usize| bytes[4 * place..].iter().take(4).fold(0, |count, byte| count << 8 | u32::from(*byte));
+        Self { total: count(0), dropped: count(1), delivered: count(2), forwarded: count(3), spread: count(4), kept: count(5) }
     }
 }
 

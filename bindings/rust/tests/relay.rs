@@ -143,6 +143,21 @@ fn settings_are_refused() {
 }
 
 #[test]
+fn the_last_clock_is_read() {
+    let mut relay = relay(1);
+    assert_eq!(relay.last_clock(), 0);
+    relay.packet(&data([0x2a; 16], b""), 0, CLOCK_LIMIT - 1, false, &mut [0; OUTPUT_SIZE]).unwrap();
+    assert_eq!(relay.last_clock(), CLOCK_LIMIT - 1);
+}
+
+#[test]
+fn a_tally_goes_to_bytes_and_back() {
+    let tally = Tally { total: 0x0102_0304, dropped: 1, delivered: 2, forwarded: 3, spread: 4, kept: u32::MAX };
+    assert_eq!(tally.to_bytes()[..8], [1, 2, 3, 4, 0, 0, 0, 1]);
+    assert_eq!(Tally::from_bytes(&tally.to_bytes()), tally);
+}
+
+#[test]
 fn tables_go_out_and_come_in_again() {
     let relay = relay(5);
     let tables = relay.tables();

@@ -49,7 +49,7 @@ pub record RefusesExactly (c : Call) (start : List ℕ) (counts : Tally) : Type 
   pub accepted : eqb (refusalOn c start) 0 ≡ true → isRefusal (performOn c start counts .reply) ≡ false
 
 -- ---- tables that row 7 names
-seven : (c : Call) (t : List ℕ) (tally : Tally) → wellFormed t ≡ false → performOn c t tally ≡ record { reply = refusing c 7; tables = t; tally = tally }
+pub seven : (c : Call) (t : List ℕ) (tally : Tally) → wellFormed t ≡ false → performOn c t tally ≡ record { reply = refusing c 7; tables = t; tally = tally }
 unfolding performOn packetOn ofPacket ofCalled called refusing _then_otherwise_
 seven (packet arrival output) t tally h = rw h
 seven (on-tables c) t tally h = rw h

@@ -45,7 +45,7 @@ bytes : Bytes tables
 bytes = subst Bytes (sym tables-are) (bytes-bytes midwayRelay (midway .shape) (midway .ok))
 
 -- a relay's bytes are refused by its rows
-row-of : {r : Relay} → Held r → (c : Call) {n : ℕ} → refusal c r ≡ n → refusalOn c (bytesOf r) ≡ n
+pub row-of : {r : Relay} → Held r → (c : Call) {n : ℕ} → refusal c r ≡ n → refusalOn c (bytesOf r) ≡ n
 unfolding refusalOn _then_otherwise_
 row-of {r} h c e = rw (ok-bytes r (h .shape) (h .ok), back r (h .shape) (h .ok)) e
 

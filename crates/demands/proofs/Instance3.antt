@@ -58,7 +58,7 @@ module _ (m : List ℕ) (ok : oneToOne m ≡ true) {from port by by-path : ℕ} 
       }
 
 -- one up
-one-up-ok : oneToOne oneUp ≡ true
+pub one-up-ok : oneToOne oneUp ≡ true
 unfolding rules
 one-up-ok = refl
 

@@ -96,7 +96,7 @@ _first_ {c} {cs} {r} {between} {after} {t} {counts} {end} {reply} {said} e rest 
     }
 
 -- ---- what they leave
-abbrev counting : (dropped forwarded spread : ℕ) → Tally
+abbrev pub counting : (dropped forwarded spread : ℕ) → Tally
 counting dropped forwarded spread =
     record { total = dropped + forwarded + spread; dropped = dropped; delivered = 0; forwarded = forwarded; spread = spread; kept = 0 }
 
@@ -117,7 +117,7 @@ saidLater by =
     unknownPort ∷ numbered 8 ∷ forwards (receiptBytes 6) by ∷ duplicate ∷ numbered 0 ∷ numbered 9 ∷ numbered 0 ∷ []
 
 -- the guest in the lowest place
-abbrev hosting : Relay → Relay
+abbrev pub hosting : Relay → Relay
 hosting r = makeRelay (r .own) (r .clock) (r .ports) (used guest ∷ replicate 15 empty) (r .paths) (r .links) (r .returns) (r .hashes)
 
 -- the receipt carried
@@ -157,7 +157,7 @@ guest-there : perform (adding guest) (hosting preparedRelay) newTally ≡ record
 unfolding rules
 guest-there = refl
 
-announce-spread : perform (arrives announceBytes 1000 1) (hosting preparedRelay) newTally
+pub announce-spread : perform (arrives announceBytes 1000 1) (hosting preparedRelay) newTally
     ≡ record { reply = spreads spreadBytes 2; relay = hosting announcedRelay; tally = counting 0 0 1 }
 unfolding rules goodPlan goodJudge ofTest
 announce-spread = judged-at announceBytes 1000 (hosting preparedRelay) newTally announce-new announce-form 1 refl
@@ -168,7 +168,7 @@ announce-seen =
     seen-quick 1000 (hosting announcedRelay) (packetHash announceBytes) refl
     ∙ rw (eq-same (packetHash announceBytes) (packetHash announceBytes) refl)
 
-announce-dropped : perform (arrives announceBytes 1000 1) (hosting announcedRelay) (counting 0 0 1)
+pub announce-dropped : perform (arrives announceBytes 1000 1) (hosting announcedRelay) (counting 0 0 1)
     ≡ record { reply = duplicate; relay = hosting announcedRelay; tally = counting 1 0 1 }
 unfolding rules goodPlan goodJudge ofTest
 announce-dropped = judged-at announceBytes 1000 (hosting announcedRelay) (counting 0 0 1) announce-seen announce-form 1 refl
@@ -178,10 +178,10 @@ data-refused : perform (arrives dataBytes 2000 77) (hosting announcedRelay) (cou
 unfolding rules
 data-refused = refl
 
-abbrev carriedBy : List ℕ → Outcome
+abbrev pub carriedBy : List ℕ → Outcome
 carriedBy key = record { reply = forwards dataLastHop 1; relay = hosting (carriedRelay key); tally = counting 1 1 1 }
 
-data-carried : perform (arrives dataBytes 2000 2) (hosting announcedRelay) (counting 1 0 1) ≡ carriedBy dataKey
+pub data-carried : perform (arrives dataBytes 2000 2) (hosting announcedRelay) (counting 1 0 1) ≡ carriedBy dataKey
 unfolding rules goodPlan goodJudge ofTest
 data-carried = judged-at dataBytes 2000 (hosting announcedRelay) (counting 1 0 1) data-new refl 2 refl ∙ ap carriedBy data-key
 

@@ -3,3 +3,4 @@ pub mod Given
 pub mod Bytes
 pub mod Refusals
 pub mod Keepalives
+pub mod Replays

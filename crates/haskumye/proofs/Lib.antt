@@ -4,3 +4,4 @@ pub mod ExportLaws
 pub mod LosesNothing
 pub mod AnswerBits
 pub mod Instance
+pub mod RecordingLaws

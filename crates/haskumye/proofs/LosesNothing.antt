@@ -1,5 +1,5 @@
--- What crosses to C and Rust loses nothing: parts and 35 bytes give each other back, the payload's place gives the payload, a writing's number gives its
--- refusal and its length, and an answer's its fields.
+-- What crosses to C and Rust loses nothing: parts and 35 bytes give each other back, and so do a tally and six numbers; the payload's place gives the
+-- payload, a writing's number its refusal and its length, and an answer's its fields.
 use Prim.Native.Nat.{ℕ, _+_, _*_, _/_, _%_, _≤_, _<_}
 use native.Mathlib.Nat.{mod-eq-of-lt}
 use native.Mathlib.Omega.{arith}
@@ -11,16 +11,21 @@ use lib.Dec.{ltb}
 use lib.ListN.{length, getD, take, drop, take-append-drop, drop-of-length-le}
 use lib.Seq.{drop-cons, drop-drop, drop-length, take-at}
 use borrow.Author.Tests.{ltb-true}
+use Rattle.octets.specs.Index.{listOf}
 use Rattle.octets.specs.Part.{part}
 use Rattle.octets.proofs.Choice.{then-true, then-false}
+use Rattle.octets.proofs.ListOf.{listOf-getD}
 use Rattle.packet.specs.Read.{headerOf, typeTwoParts, payloadStart, payload}
 use Rattle.packet.specs.declared.Parts.{Parts}
 use Rattle.packet.specs.declared.Written.{Written}
 use Rattle.packet.proofs.ListLaws.{behind, found-part, found-byte}
 use Rattle.packet.proofs.ReadLaws.{start-most}
 use Rattle.packet.specs.Write.{Wide}
+use Rattle.rules.specs.declared.Tally.{Tally}
+use Rattle.recording.specs.declared.Written.{Written as Recorded}
 use Rattle.haskumye.specs.Answers.{fieldsNumber}
 use Rattle.haskumye.specs.Packets.{partsBytes, partsIn, payloadPlace, writtenNumber}
+use Rattle.haskumye.specs.Recordings.{recordedNumber, tallyNumbers, tallyIn}
 
 -- the parts, written to 35 bytes and read from them
 pub parts-back : (q : Parts) → Wide q → partsIn (partsBytes q) ≡ q
@@ -81,6 +86,25 @@ module _ (w : Written) (fits : w .refusal < 65536) where
   pub length-back : writtenNumber w / 65536 ≡ w .length
   unfolding writtenNumber
   length-back = digits-div (w .length) fits
+
+-- a recording's too
+module _ (w : Recorded) (fits : w .refusal < 65536) where
+  pub recorded-refusal-back : recordedNumber w % 65536 ≡ w .refusal
+  unfolding recordedNumber
+  recorded-refusal-back = digits-mod (w .length) fits
+
+  pub recorded-length-back : recordedNumber w / 65536 ≡ w .length
+  unfolding recordedNumber
+  recorded-length-back = digits-div (w .length) fits
+
+-- a tally, as six numbers and back; six numbers, as a tally and back: a step that is not made changes none
+pub tally-back : (t : Tally) → tallyIn (tallyNumbers t) ≡ t
+unfolding tallyIn tallyNumbers
+tally-back t = refl
+
+pub numbers-back : (ns : List ℕ) → length ns ≡ 6 → tallyNumbers (tallyIn ns) ≡ ns
+unfolding tallyIn tallyNumbers listOf
+numbers-back ns six = listOf-getD 0 ns 6 six
 
 -- an answer's number: each field is found at its bits
 module _ (kind detail ports size start : ℕ) (k : kind < 256) (d : detail < 256) (p : ports < 65536) (z : size < 65536) (s : start < 65536) where

@@ -2,3 +2,4 @@
 pub mod Packets
 pub mod Tables
 pub mod Answers
+pub mod Recordings

@@ -4,6 +4,8 @@ mod numbers;
 mod reader;
 mod writer;
 
+pub use numbers::LONGEST_FILE;
+pub use numbers::PLACE_REFUSED;
 pub use reader::body;
 pub use reader::check;
 pub use reader::count;

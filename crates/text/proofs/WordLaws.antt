@@ -33,7 +33,7 @@ abbrev pub total : List ℕ → ℕ
 total [] = 0
 total (m ∷ ms) = 1 + m + total ms
 
-spaced-most : (ws : List (List ℕ)) (ms : List ℕ) → Most ws ms → length (spaced ws) ≤ total ms
+pub spaced-most : (ws : List (List ℕ)) (ms : List ℕ) → Most ws ms → length (spaced ws) ≤ total ms
 spaced-most [] ms h = omega (arith, ap length spaced-nil)
 spaced-most (w ∷ ws) [] h = absurd h
 spaced-most (w ∷ ws) (m ∷ ms) h = omega (arith, spaced-length w ws, spaced-most ws ms (h .1), h .0)

@@ -23,7 +23,8 @@ pub struct Coverage {
     exempt: Exempt,
 }
 
-/// Exempt packets that were forwarded: those that came before within the time that a hash is remembered, and those whose hash was live in the ring.
+/// Exempt packets that were forwarded: those that came before within the time that a hash is remembered, and those whose hash was live in
+/// the ring.
 #[derive(Default)]
 struct Exempt {
     sha: Sha256,

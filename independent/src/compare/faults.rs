@@ -7,7 +7,7 @@ use crate::engine::Call;
 use crate::faults::{self, Fault, OF_PACKETS, OF_RECORDINGS};
 use crate::linked::Core;
 use crate::relay::Relay;
-use crate::rules::{AsWritten, Rules, Tuned};
+use crate::rules::{AsWritten, Rules};
 
 /// With `--damage` the relay has no fault after all, and few calls show that much.
 const DAMAGED_CALLS: usize = 500;
@@ -56,7 +56,7 @@ fn is_among(lists: &[&[Fault]], fault: Fault) -> bool {
 
 /// Does the comparison of recordings show a fault? With `--damage` there is none to show.
 fn in_recordings(options: &Options, fault: Fault) -> bool {
-    !options.damage && recording::programs_differ(&Relay::new(Tuned), &fault.relay())
+    !options.damage && recording::programs_differ(&Core, &fault.relay())
 }
 
 /// Does the comparison of packets show a fault that traffic can't?

@@ -58,6 +58,7 @@ pub const SUBJECTS: &[Subject] = &[
     ("tables", tables::run),
     ("relay", relay::run),
     ("renumbering", renumbering::run),
+    ("recording", recording::run),
     ("faults", faults::run),
 ];
 

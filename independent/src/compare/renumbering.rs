@@ -30,7 +30,7 @@ fn inverse(map: &Map) -> Map {
 }
 
 /// A port's image: a number over 15 is no port and stays.
-fn image(map: &Map, port: u64) -> u64 {
+pub fn image(map: &Map, port: u64) -> u64 {
     map.get(port as usize).map_or(port, |image| u64::from(*image))
 }
 
@@ -38,7 +38,7 @@ fn rename_set(map: &Map, set: u16) -> u16 {
     (0..16).filter(|port| set >> port & 1 == 1).fold(0, |images, port| images | 1 << map[port])
 }
 
-fn rename_outcome(map: &Map, outcome: Outcome) -> Outcome {
+pub fn rename_outcome(map: &Map, outcome: Outcome) -> Outcome {
     let Outcome::Judged(Answer { verdict, length }) = outcome else { return outcome };
     let verdict = match verdict {
         Verdict::Forward(port) => Verdict::Forward(map[usize::from(port)]),

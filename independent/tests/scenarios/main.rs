@@ -8,6 +8,7 @@ mod host;
 mod keepalives;
 mod links;
 mod packets;
+mod recordings;
 mod renumbering;
 mod returns;
 mod settings;

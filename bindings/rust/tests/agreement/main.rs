@@ -9,7 +9,7 @@ use haskumye::{Mode, Reason, Refusal};
 use model::{constants_differ, functions_differ, structs_differ, Interface};
 use std::path::{Path, PathBuf};
 
-/// The texts of the three sources, and of the crate with document 01's numbers.
+/// The texts of the three sources, and of the numbers of documents 01 and 02.
 #[derive(Clone)]
 struct Texts {
     header: String,
@@ -40,7 +40,7 @@ impl Texts {
             header: text("include/haskumye.h"),
             rust: text("bindings/rust/src/lib.rs") + &text("bindings/rust/src/raw.rs"),
             rattle: text("crates/rules/src/lib.rt") + &rattle_texts("crates/haskumye/src"),
-            numbers: rattle_texts("crates/numbers/src"),
+            numbers: rattle_texts("crates/numbers/src") + &text("crates/recording/src/numbers.rt"),
         }
     }
 
@@ -53,23 +53,24 @@ impl Texts {
         lines.extend(functions_differ(&header, &rattle));
         lines.extend(functions_differ(&rust, &rattle));
         lines.extend(constants_differ(&header, &rust));
-        lines.extend(structs_differ(&named_as_in_rust(&header), &rust, &["Parts", "Tally"]));
+        lines.extend(structs_differ(&named_as_in_rust(&header), &rust, &["Parts", "Tally", "Entry"]));
         lines.extend(structs_differ(&rust, &rattle, &["Tally"]));
         lines.extend(self.limits_differ(&header));
         lines.join("\n")
     }
 
-    /// One line for each limit and refusal of the numbers' crate that is another in the header.
+    /// One line for each limit and refusal of the numbers that is another in the header.
     fn limits_differ(&self, header: &Interface) -> Vec<String> {
         let plain = self.numbers.lines().filter_map(|line| line.strip_prefix("pub const ")?.strip_suffix(';'));
         let constants = plain.filter_map(|line| Some((line.split_once(':')?.0, text::number(line.split_once("= ")?.1)?)));
         let named = |name: &str| {
+            let name = RECORDINGS.iter().find(|known| known.0 == name).map_or(name, |known| known.1);
             let names = [format!("HASKUMYE_{name}"), format!("HASKUMYE_REFUSAL_{name}")];
             names.into_iter().find_map(|name| Some((name.clone(), *header.constants.get(&name)?)))
         };
         let both = constants.filter_map(|(name, here)| named(name).map(|(name, there)| (name, here, there)));
         both.filter(|(_, here, there)| here != there)
-            .map(|(name, here, there)| format!("{name} is {there} in the header, {here} in crates/numbers"))
+            .map(|(name, here, there)| format!("{name} is {there} in the header, {here} in the numbers"))
             .collect()
     }
 
@@ -98,11 +99,22 @@ fn with_enums(mut rust: Interface) -> Interface {
 /// haskumye_parts becomes Parts.
 fn named_as_in_rust(header: &Interface) -> Interface {
     let mut renamed = header.clone();
-    for (c, rust) in [("haskumye_parts", "Parts"), ("haskumye_tally", "Tally")] {
+    for (c, rust) in [("haskumye_parts", "Parts"), ("haskumye_tally", "Tally"), ("haskumye_entry", "Entry")] {
         renamed.structs.extend(header.structs.get(c).map(|fields| (rust.into(), fields.clone())));
     }
     renamed
 }
+
+/// What the crate `recording` calls a number, and what the header does.
+const RECORDINGS: [(&str, &str); 7] = [
+    ("LONGEST_FILE", "RECORDING_SIZE"),
+    ("CLOCK_REFUSED", "CLOCK"),
+    ("LENGTH_REFUSED", "FILE_LENGTH"),
+    ("KIND_REFUSED", "FILE_KIND"),
+    ("PLACE_REFUSED", "FILE_PLACE"),
+    ("WORD_REFUSED", "SIGNATURE_WORD"),
+    ("ROOM_REFUSED", "ROOM"),
+];
 
 const HEADER: fn(&mut Texts) -> &mut String = |texts| &mut texts.header;
 const RUST: fn(&mut Texts) -> &mut String = |texts| &mut texts.rust;
@@ -129,9 +141,9 @@ fn the_three_agree() {
 fn something_is_compared() {
     let texts = Texts::read();
     let header = header::read("the header", &texts.header);
-    assert_eq!((header.functions.len(), header.structs.len()), (19, 7));
+    assert_eq!((header.functions.len(), header.structs.len()), (24, 8));
     assert_eq!(header.functions["haskumye_packet"].arguments.len(), 10);
-    assert_eq!(header.constants.len(), 72);
+    assert_eq!(header.constants.len(), 79);
 }
 
 #[test]
@@ -140,7 +152,12 @@ fn a_missing_function_is_seen() {
     assert_seen(&[
         (HEADER, check, "", "haskumye_check_tables is missing in the header"),
         (RUST, "pub fn haskumye_check_tables(tables: *const u8, length: usize) -> u8;", "", "haskumye_check_tables is missing in Rust"),
-        (RATTLE, "#[no_mangle]\npub extern \"C\" fn haskumye_check_tables", "pub fn haskumye_check_tables", "haskumye_check_tables is missing in the crate"),
+        (
+            RATTLE,
+            "#[no_mangle]\npub extern \"C\" fn haskumye_check_tables",
+            "pub fn haskumye_check_tables",
+            "haskumye_check_tables is missing in the crate",
+        ),
         (HEADER, check, "void haskumye_new(void);", "haskumye_new is missing in the crate"),
     ]);
 }
@@ -257,13 +274,26 @@ fn lengths_of_blocks_are_seen() {
             "",
             "haskumye_packet: argument 10 is `tally: mut 5 of u32` in the header, `tally: mut 6 of u32` in the crate",
         ),
+        (
+            RATTLE,
+            "entry: &mut [u64; 5]",
+            "entry: &mut [u64; 4]",
+            "haskumye_recording_entry: argument 4 is `entry: mut 5 of u64` in the header, `entry: mut 4 of u64` in the crate",
+        ),
+        (
+            RATTLE,
+            "tally: &mut [u32; 6]",
+            "tally: &mut [u32; 5]",
+            "haskumye_replay_entry: argument 6 is `tally: mut 6 of u32` in the header, `tally: mut 5 of u32` in the crate",
+        ),
     ]);
 }
 
 #[test]
 fn fields_in_another_order_are_seen() {
     let texts = Texts::read();
-    let swaps: [Damage; 3] = [
+    let swaps: [Damage; 4] = [
+        (HEADER, "uint64_t clock;\n    uint64_t port;", "uint64_t port;\n    uint64_t clock;", "Entry is"),
         (HEADER, "uint32_t total;\n    uint32_t dropped;", "uint32_t dropped;\n    uint32_t total;", "Tally is"),
         (RATTLE, "pub spread: u32,\n    pub kept: u32,", "pub kept: u32,\n    pub spread: u32,", "Tally is"),
         (
@@ -304,12 +334,18 @@ fn limits_are_those_of_the_crate_of_numbers() {
     for (name, number) in limits {
         let from = format!("pub const {name}_COUNT: usize = {number};");
         let to = format!("pub const {name}_COUNT: usize = {};", number + 1);
-        let line = format!("HASKUMYE_{name}_COUNT is {number} in the header, {} in crates/numbers", number + 1);
+        let line = format!("HASKUMYE_{name}_COUNT is {number} in the header, {} in the numbers", number + 1);
         assert_eq!(texts.damaged(NUMBERS, &from, &to).differences(), line);
     }
     assert_seen(&[
-        (NUMBERS, "1_099_511_627_776", "1_099_511_627_777", "HASKUMYE_CLOCK_LIMIT is 1099511627776 in the header, 1099511627777 in crates/numbers"),
-        (NUMBERS, "LONGEST_PACKET: usize = 500", "LONGEST_PACKET: usize = 501", "HASKUMYE_LONGEST_PACKET is 500 in the header, 501 in crates/numbers"),
-        (NUMBERS, "MAP: u8 = 8", "MAP: u8 = 9", "HASKUMYE_REFUSAL_MAP is 8 in the header, 9 in crates/numbers"),
+        (NUMBERS, "u8 = 22;", "u8 = 24;", "HASKUMYE_REFUSAL_FILE_PLACE is 22 in the header, 24 in the numbers"),
+        (NUMBERS, "60_000", "60_001", "HASKUMYE_RECORDING_SIZE is 60000 in the header, 60001 in the numbers"),
+        (
+            NUMBERS,
+            "LONGEST_PACKET: usize = 500",
+            "LONGEST_PACKET: usize = 501",
+            "HASKUMYE_LONGEST_PACKET is 500 in the header, 501 in the numbers",
+        ),
+        (NUMBERS, "MAP: u8 = 8", "MAP: u8 = 9", "HASKUMYE_REFUSAL_MAP is 8 in the header, 9 in the numbers"),
     ]);
 }

@@ -1,14 +1,21 @@
-//! Recordings: two programs' reading, writing and replaying of the same files, whole and damaged. After every call the number and all bytes that it
-//! leaves are compared; a replay's step by step.
+//! Recordings: two programs' reading, writing and replaying of the same files, whole and damaged. After every call the number and all bytes
+//! that it leaves are compared; a replay's step by step.
 
+mod reached;
+mod replay;
 pub mod samples;
 
+use super::renumbering::rename_outcome;
 use super::{Called, Options, Tally};
-use crate::answer;
-use crate::core::LINE;
-use crate::engine::{Fields, Outcome, RecordingCalls};
+use crate::engine::{Fields, RecordingCalls};
+use crate::linked::Core;
 use crate::random::Random;
 use crate::recording::{contents, count, entry, HEAD, LONGEST_FILE};
+use crate::relay::renumbering::renumber;
+use crate::relay::Relay;
+use crate::rules::{AsWritten, Tuned};
+use reached::Reached;
+use replay::Replay;
 use samples::{Damage, Day, Scene, Scenes, DAMAGES, GIVEN_DAMAGES};
 
 /// Each refusal and each answer is reached at least so often.
@@ -24,42 +31,6 @@ const BEFORE: u8 = 0xa5;
 const FEW: usize = 100;
 /// So many steps of a replay are compared at most.
 const STEPS: u64 = 40;
-
-/// What was reached, and how often.
-#[derive(Default)]
-pub struct Reached {
-    /// By number, 0 for a file that was taken.
-    reading: [usize; 26],
-    writing: [usize; 26],
-    /// Replayed entries: refused, then by `Verdict::index`.
-    entries: [usize; 6],
-}
-
-impl Reached {
-    /// Each thing that can be reached, in words, and how often it was.
-    pub fn reached(&self) -> Vec<(String, usize)> {
-        let reading = [0, 20, 21, 22, 23].map(|number| (format!("reading, {}", outcome(number)), self.reading[number]));
-        let writing = [0, 5, 20, 23, 25].map(|number| (format!("writing, {}", outcome(number)), self.writing[number]));
-        let words = ["refused", "drop", "deliver", "forward", "spread", "kept"];
-        let entries = words.iter().zip(self.entries).map(|(word, times)| (format!("replayed entries, {word}"), times));
-        reading.into_iter().chain(writing).chain(entries).collect()
-    }
-
-    fn count_entry(&mut self, judged: &Outcome) {
-        match judged {
-            Outcome::Judged(answer) => self.entries[1 + answer.verdict.index()] += 1,
-            _ => self.entries[0] += 1,
-        }
-    }
-}
-
-fn outcome(refusal: usize) -> String {
-    if refusal == 0 {
-        "done".to_string()
-    } else {
-        format!("refusal {refusal}")
-    }
-}
 
 struct Comparison<'a> {
     options: &'a Options,
@@ -162,20 +133,25 @@ impl Comparison<'_> {
         let file = scene.day.file();
         self.round_trip("small", &scene.day);
         self.replaying("small", &file, &scene);
+        for more in [1, 2, entry::WIDTH, 500, LONGEST_FILE] {
+            self.file(&format!("small, {more} longer"), &[&file[..], &vec![1; more]].concat(), &scene);
+        }
         for at in 0..file.len() {
-            let set = if at < contents(scene.day.count()) { &SET[..] } else { &[] };
-            for byte in ADDED.map(|byte| file[at].wrapping_add(byte)).iter().chain(set) {
-                let mut damaged = file.clone();
-                damaged[at] = *byte;
-                self.file(&format!("small, byte {at} now {byte:02x}"), &damaged, &scene);
-            }
-            self.file(&format!("small, cut to {at}"), &file[..at], &scene);
             if self.enough() {
                 return;
             }
+            self.file(&format!("small, cut to {at}"), &file[..at], &scene);
+            self.changed(&file, at, &scene);
         }
-        for more in [1, 2, entry::WIDTH, 500, LONGEST_FILE] {
-            self.file(&format!("small, {more} longer"), &[&file[..], &vec![1; more]].concat(), &scene);
+    }
+
+    /// One byte changed in several ways, in the contents in more.
+    fn changed(&mut self, file: &[u8], at: usize, scene: &Scene) {
+        let set = if at < contents(scene.day.count()) { &SET[..] } else { &[] };
+        for byte in ADDED.map(|byte| file[at].wrapping_add(byte)).iter().chain(set) {
+            let mut changed = file.to_vec();
+            changed[at] = *byte;
+            self.file(&format!("small, byte {at} now {byte:02x}"), &changed, scene);
         }
     }
 
@@ -184,8 +160,8 @@ impl Comparison<'_> {
         self.replaying(what, file, scene);
     }
 
-    /// Files as long and as full as can be, and longer.
-    fn sizes(&mut self) {
+    /// Files as long as can be, and longer.
+    fn longest(&mut self) {
         for length in [LONGEST_FILE - 1, LONGEST_FILE, LONGEST_FILE + 1, 65_535, 65_536] {
             if self.enough() {
                 return;
@@ -197,6 +173,10 @@ impl Comparison<'_> {
                 self.writing("longest", &day, room);
             }
         }
+    }
+
+    /// As many entries as can be, and more.
+    fn fullest(&mut self) {
         let most = (LONGEST_FILE - HEAD) / entry::WIDTH;
         for count in [0, 1, 2, most - 1, most, most + 1, 5_000, 65_535, 65_536, 65_537] {
             if self.enough() {
@@ -208,6 +188,10 @@ impl Comparison<'_> {
             day.push(1, 1, 1, &[1]);
             self.round_trip("empty bodies but one", &day);
         }
+    }
+
+    /// Files that end within their contents.
+    fn shortest(&mut self) {
         for length in 0..40 {
             let bytes: Vec<u8> = [1, 1, 0, 2].into_iter().chain([0; 36]).take(length).collect();
             self.reading("short", &bytes);
@@ -250,6 +234,29 @@ impl Comparison<'_> {
         }
     }
 
+    /// Demand 3: a replay counts as the calls it makes. Over renumbered tables, with the file's ports renamed, each answer and the tables are
+    /// renamed.
+    fn renumbered(&mut self, scene: &Scene) {
+        let map = self.random.permutation();
+        let (mut tables, day) = (scene.tables.clone(), scene.day.renamed(&map));
+        if renumber(&AsWritten, &mut tables, &map).is_err() {
+            return;
+        }
+        let (plain_file, file) = (scene.day.file(), day.file());
+        let renamed = Scene { tables, tally: scene.tally, day };
+        for program in [self.got, self.expected] {
+            let (mut plain, mut other) = (Replay::new(scene), Replay::new(&renamed));
+            for index in 0..scene.day.count() as u64 {
+                let answer = rename_outcome(&map, plain.step(program, &plain_file, index));
+                let same = answer == other.step(program, &file, index);
+                self.tally.holds("a renumbered replay's answer", same, self.options.damage);
+            }
+            let allowed = renumber(&AsWritten, &mut plain.tables, &map).is_ok();
+            let same = allowed && plain.tables == other.tables && plain.tally == other.tally;
+            self.tally.holds("a renumbered replay's tables and tally", same, self.options.damage);
+        }
+    }
+
     /// Recordings of random traffic.
     fn random(&mut self) {
         let mut scenes = Scenes::new(self.options.seed);
@@ -262,6 +269,9 @@ impl Comparison<'_> {
             self.replaying("random", &scene.day.file(), &scene);
             self.damages(&scene);
             self.given_damages(&scene.day);
+            if self.random.one_in(4) {
+                self.renumbered(&scene);
+            }
         }
     }
 }
@@ -284,36 +294,6 @@ fn read_again(program: &dyn RecordingCalls, file: &[u8]) -> Day {
     day
 }
 
-/// A replay under way.
-struct Replay {
-    tables: Vec<u8>,
-    tally: answer::Tally,
-    line: [u8; LINE],
-}
-
-impl Replay {
-    fn new(scene: &Scene) -> Self {
-        Self { tables: scene.tables.clone(), tally: scene.tally, line: [BEFORE; LINE] }
-    }
-
-    fn step(&mut self, program: &dyn RecordingCalls, file: &[u8], index: u64) -> Outcome {
-        self.line = [BEFORE; LINE];
-        program.replay_entry(file, index, &mut self.tables, &mut self.tally, &mut self.line)
-    }
-
-    fn whole(mut self, program: &dyn RecordingCalls, file: &[u8]) -> Called {
-        let text = program.replay(file, &mut self.tables, &mut self.tally);
-        let left = self.called(&Outcome::Done);
-        Called { buffer: [text.as_bytes(), &left.buffer].concat(), ..left }
-    }
-
-    /// What a step returned, and all that it left: the line, the tally, the tables.
-    fn called(&self, outcome: &Outcome) -> Called {
-        let tally = self.tally.map(u32::to_be_bytes).concat();
-        Called::new(0u8, &[format!("{outcome:?}").as_bytes(), &self.line, &tally, &self.tables].concat())
-    }
-}
-
 /// Compares two programs on recordings, and says what was reached.
 pub fn compare_programs(got: &dyn RecordingCalls, expected: &dyn RecordingCalls, options: &Options, tally: &mut Tally) -> Reached {
     compare_until(got, expected, options, tally, false)
@@ -330,13 +310,15 @@ fn compare_until(got: &dyn RecordingCalls, expected: &dyn RecordingCalls, option
     let random = Random::new(options.seed);
     let mut c = Comparison { options, tally, random, got, expected, reached: Reached::default(), first };
     c.small();
-    c.sizes();
+    c.shortest();
+    c.longest();
+    c.fullest();
     c.random();
     c.reached
 }
 
-/// Prints what was reached, and asks that it was often enough.
-pub fn reached(reached: &Reached, options: &Options, tally: &mut Tally) {
+pub fn run(options: &Options, tally: &mut Tally) {
+    let reached = compare_programs(&Core, &Relay::new(Tuned), options, tally);
     for (what, times) in reached.reached() {
         println!("{what}: {times}");
         if options.count >= ENOUGH {

@@ -1,10 +1,12 @@
 //! Recordings to compare programs on: of random traffic, with the tables that it comes to, and the same damaged.
 
 use crate::answer::Tally;
-use crate::engine::{Call, PacketCall, Run};
-use crate::limits::CLOCK_LIMIT;
+use crate::compare::renumbering::image;
+use crate::engine::{Call, Engine, PacketCall, Run};
+use crate::limits::{CLOCK_LIMIT, PORT_COUNT};
 use crate::random::Random;
 use crate::recording::{contents, count, entry, given, writing, HEAD, LONGEST_FILE};
+use crate::relay::renumbering::Map;
 use crate::relay::Relay;
 use crate::rules::{AsWritten, Tuned};
 use crate::traffic::Traffic;
@@ -22,6 +24,15 @@ impl Day {
         self.entries.extend([port, word]);
         self.entries.extend((body.len() as u16).to_be_bytes());
         self.bodies.extend(body);
+    }
+
+    /// The same with its ports renamed.
+    pub fn renamed(&self, map: &Map) -> Self {
+        let mut renamed = self.clone();
+        for entry in renamed.entries.chunks_exact_mut(given::WIDTH) {
+            entry[given::PORT] = image(map, entry[given::PORT].into()) as u8;
+        }
+        renamed
     }
 
     pub fn count(&self) -> usize {
@@ -84,7 +95,7 @@ impl Scenes {
         for _ in 0..self.random.below(40) {
             self.call();
         }
-        let (tables, tally) = (self.run.tables.clone(), self.run.tally);
+        let (mut tables, tally) = (self.run.tables.clone(), self.run.tally);
         let mut day = Day::default();
         for _ in 0..self.random.pick(&[0, 1, 4, 16, 40]) {
             if let Call::Packet(PacketCall { packet, port, clock, signature, .. }) = self.call() {
@@ -93,7 +104,17 @@ impl Scenes {
                 }
             }
         }
+        if self.random.one_in(4) {
+            self.leave_on(&mut tables, day.entries.get(given::PORT).copied().unwrap_or(0));
+        }
         Scene { tables, tally, day }
+    }
+
+    /// Turns all ports off but one, so that announces by it are kept.
+    fn leave_on(&mut self, tables: &mut [u8], port: u8) {
+        for other in 0..PORT_COUNT as u64 {
+            self.run.engine.set_port(tables, other, other == u64::from(port), 0);
+        }
     }
 }
 

@@ -1,6 +1,6 @@
-/* A recording's lines, as independent/src/compare/record.rs writes them. */
-#ifndef HOST_RECORDING_H
-#define HOST_RECORDING_H
+/* A list of calls, a line each, as independent/src/compare/record.rs writes it. */
+#ifndef HOST_CALLS_H
+#define HOST_CALLS_H
 
 #include "buffer.h"
 #include "library.h"
@@ -8,7 +8,7 @@
 /* A call of the library, or what its caller does to the tables in between. */
 enum edit { NO_EDIT, SAVE, RESTORE, OVERWRITE, COPY, RESIZE };
 
-struct recorded {
+struct listed {
     enum function function; /* NOTHING for an edit */
     enum edit edit;
     struct buffer bytes;    /* packet, address, map, or what is written */
@@ -21,9 +21,9 @@ struct recorded {
 };
 
 /* How many lines the first one promises, or 0. */
-size_t recording_size(const char *line);
+size_t calls_promised(const char *line);
 
-/* Reads a line. False where it is none of a recording. */
-bool recording_read(const char *line, struct recorded *call);
+/* Reads a line. False where it is no call. */
+bool calls_read(const char *line, struct listed *call);
 
 #endif

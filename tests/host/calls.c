@@ -1,4 +1,4 @@
-#include "recording.h"
+#include "calls.h"
 
 #include <ctype.h>
 #include <errno.h>
@@ -6,7 +6,7 @@
 #include <stdlib.h>
 #include <string.h>
 
-size_t recording_size(const char *line)
+size_t calls_promised(const char *line)
 {
     size_t lines = 0;
     return sscanf(line, "# %zu calls", &lines) == 1 ? lines : 0;
@@ -76,7 +76,7 @@ static bool sixteen(const char **at, struct buffer *bytes)
     return digits(at, bytes) && bytes->length == 16;
 }
 
-static bool read_call(const char **at, struct recorded *call)
+static bool read_call(const char **at, struct listed *call)
 {
     if (word(at, "fresh")) {
         call->function = FRESH;
@@ -101,7 +101,7 @@ static bool read_call(const char **at, struct recorded *call)
     return (call->function == ADD_LOCAL || word(at, "remove")) && word(at, "local") && sixteen(at, &call->bytes);
 }
 
-static bool read_edit(const char **at, struct recorded *call)
+static bool read_edit(const char **at, struct listed *call)
 {
     if (word(at, "save")) {
         call->edit = SAVE;
@@ -124,13 +124,13 @@ static bool read_edit(const char **at, struct recorded *call)
     return word(at, "resize") && word(at, "to") && number(at, &call->length);
 }
 
-bool recording_read(const char *line, struct recorded *call)
+bool calls_read(const char *line, struct listed *call)
 {
     const char *at = line;
-    *call = (struct recorded){0};
+    *call = (struct listed){0};
     if (!read_edit(&at, call)) {
         at = line;
-        *call = (struct recorded){0};
+        *call = (struct listed){0};
         if (!read_call(&at, call) || !word(&at, "=") || !number_in(&at, &call->number, 16) ||
             !number_in(&at, &call->sum, 16)) {
             return false;

@@ -1,0 +1,67 @@
+use Prim.Native.Nat.{_≤_}
+use mathlib.Core.List.{[], _∷_}
+use native.Mathlib.Omega.{arith}
+use lib.Dec.{lit≤}
+use lib.ListN.{length}
+use Rattle.text.specs.Numerals.{decimal}
+use Rattle.text.specs.Words.{refusedWord}
+use Rattle.text.proofs.NumeralLaws.{numeral-most}
+use Rattle.text.proofs.WordLaws.{line-most, words-appended, line-appended}
+use Rattle.replay.specs.Line.{tablesWord, tablesRefused}
+use borrow.Author.Needs.{needs}
+use Rattle.replay.proofs.tables_refused.Statement.{statement}
+use Rattle.replay.proofs.tables_refused.Tie as tie
+
+fits : length tablesRefused ≤ 160
+fits =
+    omega (
+      arith,
+      line-most tablesWord (refusedWord ∷ decimal 7 ∷ []) (6 ∷ 7 ∷ 1 ∷ [])
+          (lit≤ tt, (lit≤ tt, (numeral-most 10 (lit≤ tt) 1 7 (lit≤ tt) (lit≤ tt), tt))),
+    )
+
+empty-requires : tie.Need-empty-requires
+empty-requires c κs = search needs
+
+slice-aggregate-with-text : tie.Need-slice-aggregate-with-text
+slice-aggregate-with-text c = search needs
+
+with-text-requires : tie.Need-with-text-requires
+with-text-requires c κs = search needs
+
+slice-aggregate-with-word : tie.Need-slice-aggregate-with-word
+slice-aggregate-with-word c = search needs
+
+with-word-requires : tie.Need-with-word-requires
+with-word-requires c κs = search needs
+
+wide-requires : tie.Need-wide-requires
+wide-requires c κs = search needs
+
+with-number-requires : tie.Need-with-number-requires
+with-number-requires c κs = search needs
+
+with-character-requires : tie.Need-with-character-requires
+with-character-requires c κs = search needs
+
+returns : tie.Need-returns
+returns c =
+    let c3 = c .before .before .before in
+    let c5 = c3 .before .before in
+    let c7 = c5 .before .before in
+    rw (c .with-character .ensures, c .before .with-number .ensures, c .before .before .wide .ensures, c3 .with-word .ensures, c5 .with-text .ensures, c7 .empty .ensures, words-appended)
+    (line-appended tablesWord (refusedWord ∷ decimal 7 ∷ []) fits)
+
+pub tables-refused-spec : {M : Type 1} → statement M
+tables-refused-spec =
+    tie.close
+    (tie.spec
+    empty-requires
+    slice-aggregate-with-text
+    with-text-requires
+    slice-aggregate-with-word
+    with-word-requires
+    wide-requires
+    with-number-requires
+    with-character-requires
+    returns)

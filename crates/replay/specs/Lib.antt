@@ -1,0 +1,2 @@
+-- What the program says of tables that it can't take.
+pub mod Line
