@@ -1,5 +1,5 @@
-// Row 7 for each section of the tables, record by record. Returns and hashes go in groups of sixteen, of which one
-// that is all zeros is passed by one OR over its bytes.
+// Row 7 for each section of the tables, record by record. What is all zeros is passed by one OR over its bytes: paths
+// and links as a whole, for these fill from their first place on; returns and hashes in groups of thirty-two.
 use super::places::HASH_WIDTH;
 use super::places::HASHES_AT;
 use super::places::LINK_WIDTH;
@@ -34,7 +34,7 @@ ghost use Rattle.tables.specs.Layout.{recordsOk};
 ghost use Rattle.tables.specs.Groups.{groupSize, groupOk};
 
 // Records of a group.
-const GROUP: usize = 16;
+const GROUP: usize = 32;
 
 pub fn ports_ok(t: &[u8]) -> bool
     requires { ⌜ length (now t) ≡ tableSize ⌝ }
@@ -66,7 +66,9 @@ pub fn locals_ok(t: &[u8]) -> bool
     true
 }
 
-pub fn paths_ok(t: &[u8]) -> bool
+// ---- paths
+
+fn paths_each(t: &[u8]) -> bool
     requires { ⌜ length (now t) ≡ tableSize ⌝ }
     ensures { λ r. ⌜ r ≡ recordsOk pathBytesOk pathsAt pathWidth pathCount (now (t .entry)) ⌝ }
 {
@@ -81,7 +83,21 @@ pub fn paths_ok(t: &[u8]) -> bool
     true
 }
 
-pub fn links_ok(t: &[u8]) -> bool
+pub fn paths_ok(t: &[u8]) -> bool
+    requires { ⌜ length (now t) ≡ tableSize ⌝ }
+    ensures { λ r. ⌜ r ≡ recordsOk pathBytesOk pathsAt pathWidth pathCount (now (t .entry)) ⌝ }
+{
+    if t[PATHS_AT] == 0 {
+        if octets::is_zero(&t[PATHS_AT..PATHS_AT + PATH_WIDTH * PATH_COUNT]) {
+            return true;
+        }
+    }
+    paths_each(t)
+}
+
+// ---- links
+
+fn links_each(t: &[u8]) -> bool
     requires { ⌜ length (now t) ≡ tableSize ⌝ }
     ensures { λ r. ⌜ r ≡ recordsOk linkBytesOk linksAt linkWidth linkCount (now (t .entry)) ⌝ }
 {
@@ -94,6 +110,18 @@ pub fn links_ok(t: &[u8]) -> bool
         i += 1;
     }
     true
+}
+
+pub fn links_ok(t: &[u8]) -> bool
+    requires { ⌜ length (now t) ≡ tableSize ⌝ }
+    ensures { λ r. ⌜ r ≡ recordsOk linkBytesOk linksAt linkWidth linkCount (now (t .entry)) ⌝ }
+{
+    if t[LINKS_AT] == 0 {
+        if octets::is_zero(&t[LINKS_AT..LINKS_AT + LINK_WIDTH * LINK_COUNT]) {
+            return true;
+        }
+    }
+    links_each(t)
 }
 
 // ---- returns
