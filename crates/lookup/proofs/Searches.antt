@@ -1,5 +1,6 @@
 -- A search through records of one width: as its loop goes, and as the rules see it.
-use Prim.Native.Nat.{ℕ, _+_, _≤_, _<_}
+use Prim.Native.Nat.{ℕ, _+_, _-_, _≤_, _<_}
+use native.Mathlib.Omega.{arith}
 use mathlib.Core.Bool.{Bool, true, false, not}
 use mathlib.Core.List.{List}
 use mathlib.Core.Path.{_≡_, refl, sym, ap, _∙_}
@@ -8,15 +9,17 @@ use lib.ListN.{length, getD}
 use Rattle.octets.specs.Index.{_and_}
 use Rattle.octets.specs.Choice.{_then_otherwise_, same}
 use Rattle.octets.specs.Part.{part}
-use Rattle.octets.specs.BigEndian.{number}
-use Rattle.octets.proofs.Index.{and-assoc, first-none, first-more, first-hit, first-ended, first-cong}
+use Rattle.octets.specs.BigEndian.{number, word}
+use Rattle.octets.proofs.Part.{part-part}
+use Rattle.octets.proofs.Choice.{ne-same}
+use Rattle.octets.proofs.Index.{and-no, and-false, and-assoc, first-none, first-more, first-hit, first-ended, first-cong}
 use Rattle.numbers.specs.Numbers.{live}
 use Rattle.rules.specs.Relay.{holds, free, lowest, lowestFree}
 use Rattle.tables.specs.Places.{timeWidth}
 use Rattle.tables.specs.Records.{slotOf}
 use Rattle.tables.specs.Layout.{recordAt, rows}
 use Rattle.tables.proofs.Seen.{lowest-seen, free-seen}
-use Rattle.lookup.specs.Search.{isUsed, hasKey, isLiveOf, lowestRow}
+use Rattle.lookup.specs.Search.{lastWord, isUsed, hasKey, isLiveOf, lowestRow}
 
 -- ---- the loop
 module _ (test : List ℕ → Bool) (at width : ℕ) (t : List ℕ) where
@@ -45,6 +48,17 @@ pub lowest-cong : (p q : List ℕ → Bool) (at width n : ℕ) (t : List ℕ) �
     → lowestRow p at width n t ≡ lowestRow q at width n t
 unfolding lowestRow
 lowest-cong p q at width n t each = first-cong _ _ n (λ i l. each (recordAt at width t i))
+
+-- ---- the last eight bytes first, for keys of any width: where those of a record are not the key's, it is not of the key
+pub other-word : (key b : List ℕ) (expiry clock : ℕ) → 8 ≤ length key
+    → (word (part b (1 + (length key - 8)) 8) ≡ lastWord key → ⊥) → false ≡ isLiveOf key expiry clock b
+unfolding isLiveOf hasKey lastWord
+other-word key b expiry clock l ne =
+    let tail : ℕ = length key - 8 in
+    let other : same (part b 1 (length key)) key ≡ false =
+    ne-same (part b 1 (length key)) key
+    (λ q. ne (ap word (sym (part-part b 1 (length key) tail 8 (omega arith)) ∙ ap (λ (x : List ℕ). part x tail 8) q))) in
+    sym (and-no (live clock (number (part b expiry timeWidth))) (ap (isUsed b and_) other ∙ and-false (isUsed b)))
 
 -- ---- the rules' searches
 module _ {A : Type 0} (test : A → Bool) (read : List ℕ → A) where

@@ -1,6 +1,6 @@
 -- The tests of a record's bytes that a search makes, and the lowest record that passes one.
 -- For the contracts of helpers: not part of what a reader must believe.
-use Prim.Native.Nat.{ℕ}
+use Prim.Native.Nat.{ℕ, _-_}
 use mathlib.Core.Bool.{Bool, not}
 use mathlib.Core.List.{List}
 use lib.Dec.{eqb}
@@ -8,10 +8,14 @@ use lib.ListN.{length, getD}
 use Rattle.octets.specs.Index.{_and_, first}
 use Rattle.octets.specs.Choice.{same}
 use Rattle.octets.specs.Part.{part}
-use Rattle.octets.specs.BigEndian.{number}
+use Rattle.octets.specs.BigEndian.{number, word}
 use Rattle.numbers.specs.Numbers.{live}
 use Rattle.tables.specs.Places.{timeWidth}
 use Rattle.tables.specs.Layout.{recordAt}
+
+-- the last eight bytes of a key, as one number
+unfoldable pub lastWord : List ℕ → ℕ
+lastWord key = word (part key (length key - 8) 8)
 
 -- the record b is used
 unfoldable pub isUsed : List ℕ → Bool

@@ -6,7 +6,7 @@ ghost use Prim.Native.Nat.{_+_, _*_, _≤_};
 ghost use lib.ListN.{length};
 ghost use Rattle.tables.specs.Places.{timeWidth};
 ghost use Rattle.tables.specs.Layout.{recordAt};
-ghost use Rattle.lookup.specs.Search.{hasKey, isLive, isLiveOf, lowestRow};
+ghost use Rattle.lookup.specs.Search.{lastWord, hasKey, isLive, isLiveOf, lowestRow};
 
 // The bytes of the record at a place.
 pub fn record_at(tables: &[u8], at: usize, width: usize, place: usize) -> &[u8]
@@ -39,11 +39,17 @@ fn is_live(b: &[u8], expiry: usize, clock: u64) -> bool
     clock < octets::number_of_8_at(b, expiry)
 }
 
-// Whether a record has the key and is live. Most records fail at the key's first byte, before the expiry is read.
-fn is_live_of(b: &[u8], key: &[u8], expiry: usize, clock: u64) -> bool
-    requires { ⌜ (1 + length (now key) ≤ length (now b)) × (expiry + timeWidth ≤ length (now b)) ⌝ }
+// Whether a record has the key, of which `last` are the last eight bytes, and is live. They are compared first, as one
+// number: keys are digests, so most records are passed by this comparison, however much they share with the key before.
+fn is_live_of(b: &[u8], key: &[u8], last: u64, expiry: usize, clock: u64) -> bool
+    requires { ⌜ (1 + length (now key) ≤ length (now b)) × (expiry + timeWidth ≤ length (now b))
+        × (8 ≤ length (now key)) × (last ≡ lastWord (now key)) ⌝ }
     ensures { λ r. ⌜ r ≡ isLiveOf (now (key .entry)) expiry clock (now (b .entry)) ⌝ }
 {
+    let tail = key.len() - 8;
+    if octets::word_at(b, 1 + tail) != last {
+        return false;
+    }
     if !has_key(b, key) {
         return false;
     }
@@ -62,13 +68,14 @@ pub fn live_place(
     clock: u64,
 ) -> usize
     requires { ⌜ (at + width * count ≤ length (now tables)) × (1 + length (now key) ≤ width)
-        × (expiry + timeWidth ≤ width) ⌝ }
+        × (expiry + timeWidth ≤ width) × (8 ≤ length (now key)) ⌝ }
     ensures { λ r. ⌜ r ≡ lowestRow (isLiveOf (now (key .entry)) expiry clock) at width count (now (tables .entry)) ⌝ }
 {
+    let last = octets::word_at(key, key.len() - 8);
     let mut i = 0;
     let mut from = at;
     while i < count {
-        if is_live_of(&tables[from..from + width], key, expiry, clock) {
+        if is_live_of(&tables[from..from + width], key, last, expiry, clock) {
             return i;
         }
         from += width;

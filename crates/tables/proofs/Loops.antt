@@ -2,14 +2,15 @@
 use Prim.Native.Nat.{ℕ, _+_, _-_, _*_, _≤_, _<_}
 use mathlib.Core.Bool.{Bool, true, false, not}
 use mathlib.Core.List.{List}
-use mathlib.Core.Path.{_≡_, sym, ap, _∙_}
+use mathlib.Core.Path.{_≡_, sym, ap, ap₂, _∙_}
 use lib.ListN.{length, take, drop}
 use borrow.Author.Tests.{not-true, not-false}
 use Rattle.octets.specs.Index.{zeros}
 use Rattle.octets.specs.Part.{part}
-use Rattle.octets.proofs.Index.{all-none, all-more, all-fails}
-use Rattle.octets.proofs.Part.{part-range}
+use Rattle.octets.proofs.Index.{all-none, all-more, all-fails, all-intro, all-at}
+use Rattle.octets.proofs.Part.{part-range, part-part, range-length}
 use Rattle.octets.proofs.Records.{records-free, records-more, records-fails}
+use Rattle.codes.proofs.Rows.{row-end}
 use Rattle.tables.specs.Layout.{recordAt, recordsOk}
 use Rattle.tables.specs.Groups.{groupSize, groupOk}
 
@@ -59,6 +60,20 @@ pub group-free : (ok : List ℕ → Bool) (w : ℕ) (s : List ℕ) → ((b : Lis
     → length s ≡ w * groupSize → zeros (length s) s ≡ true → true ≡ groupOk ok w groupSize s
 unfolding groupOk
 group-free ok w s free e h = sym (records-free ok w free groupSize s (ap (λ (k : ℕ). zeros k s) (sym e) ∙ h))
+
+-- a section of zeros
+pub section-free : (ok : List ℕ → Bool) (base w n : ℕ) (t : List ℕ) → ((b : List ℕ) → zeros w b ≡ true → ok b ≡ true)
+    → base + w * n ≤ length t → {r : Bool} → r ≡ zeros (length (range t base (w * n))) (range t base (w * n)) → r ≡ true → true ≡ recordsOk ok base w n t
+unfolding recordsOk
+section-free ok base w n t free fits e q =
+    let s : List ℕ = part t base (w * n) in
+    let zero : zeros (w * n) s ≡ true =
+    ap₂ (λ (k : ℕ) (x : List ℕ). zeros k x) (sym (range-length t base (w * n) fits)) (sym (part-range t base (w * n))) ∙ sym e ∙ q in
+    sym
+    (all-intro (λ i. ok (recordAt base w t i)) n
+    (λ i l.
+    ap ok (sym (part-part t base (w * n) (w * i) w (row-end w n i l)))
+    ∙ all-at (λ k. ok (part s (w * k) w)) n i (records-free ok w free n s zero) l))
 
 module _ (ok : List ℕ → Bool) (base w : ℕ) (t : List ℕ) (g : ℕ) {r : Bool}
     (e : r ≡ groupOk ok w groupSize (range t (base + w * groupSize * g) (w * groupSize)))

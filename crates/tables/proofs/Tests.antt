@@ -1,20 +1,23 @@
 -- Row 7 of one record, as the code tests it and as others read it.
-use Prim.Native.Nat.{ℕ}
+use Prim.Native.Nat.{ℕ, _<_}
 use native.Mathlib.Nat.{zero-add}
 use native.Mathlib.Omega.{arith}
 use mathlib.Core.Bool.{Bool, true, false}
 use mathlib.Core.List.{List}
-use mathlib.Core.Path.{_≡_, refl, ap, _∙_}
+use mathlib.Core.Path.{_≡_, refl, sym, ap, _∙_}
 use lib.Dec.{eqb, ltb}
+use lib.Bits.{bitOr}
 use lib.ListN.{getD}
+use borrow.Author.Tests.{ne-eqb}
 use Rattle.octets.specs.Index.{_and_, zeros}
 use Rattle.octets.specs.Choice.{_then_otherwise_}
 use Rattle.octets.specs.Part.{part}
-use Rattle.octets.proofs.Index.{and-right, and-assoc, all-at, all-cong}
+use Rattle.octets.proofs.Index.{and-right, and-assoc, all-at, all-fails, all-cong}
+use Rattle.octets.proofs.Agree.{or-ltb}
 use Rattle.octets.proofs.Part.{part-at}
 use Rattle.codes.specs.Form.{Form, slot, code}
 use Rattle.codes.proofs.Rows.{all-true}
-use Rattle.numbers.specs.Numbers.{blobLimit}
+use Rattle.numbers.specs.Numbers.{portCount, blobLimit}
 use Rattle.rules.specs.Refusals.{portOk, pathOk, linkOk, returnOk, hashOk}
 use Rattle.tables.specs.Forms.{localForm, pathForm, linkForm, returnForm, hashForm}
 use Rattle.tables.specs.Places.{localWidth, pathWidth, linkWidth, returnWidth, hashWidth}
@@ -26,6 +29,24 @@ unfoldable pub slotBytesOk : ℕ → (List ℕ → Bool) → List ℕ → Bool
 slotBytesOk width ok b =
     eqb (getD b 0 0) 0 then zeros width b otherwise
     eqb (getD b 0 0) 1 and ok b
+
+module _ (width : ℕ) (ok : List ℕ → Bool) (b : List ℕ) where
+  -- what is not marked as used keeps row 7 where all of it is zeros, the mark too
+  pub slot-unused : 0 < width → (getD b 0 0 ≡ 1 → ⊥) → slotBytesOk width ok b ≡ zeros width b
+  unfolding slotBytesOk _then_otherwise_ _and_ zeros
+  slot-unused l ne = go (eqb (getD b 0 0) 0) refl
+    where
+      go : (m : Bool) → eqb (getD b 0 0) 0 ≡ m → slotBytesOk width ok b ≡ zeros width b
+      go true q = rw q
+      go false q = rw (q, ne-eqb (getD b 0 0) 1 ne) (sym (all-fails (λ k. eqb (getD b k 0) 0) 0 width l q))
+
+  pub slot-used : getD b 0 0 ≡ 1 → slotBytesOk width ok b ≡ ok b
+  unfolding slotBytesOk _then_otherwise_ _and_
+  slot-used e = rw (ap (λ (m : ℕ). eqb m 0) e, ap (λ (m : ℕ). eqb m 1) e)
+
+-- two ports tested by one comparison
+pub two-ports : (a b : ℕ) (x : Bool) → (ltb a portCount and (ltb b portCount and x)) ≡ (ltb (bitOr a b) portCount and x)
+two-ports a b x = sym (and-assoc (ltb a portCount) (ltb b portCount) x) ∙ ap (λ (v : Bool). v and x) (sym (or-ltb 4 a b))
 
 zeros-lent : (n : ℕ) (b : List ℕ) → zeros n (part b 0 n) ≡ zeros n b
 unfolding zeros

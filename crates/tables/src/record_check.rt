@@ -1,4 +1,5 @@
-// Row 7 for one record of each kind, as the slice of its bytes. An unused record is tested by one OR over its bytes.
+// Row 7 for one record of each kind, as the slice of its bytes. One that is not marked as used must be all zeros, mark
+// included, which is one OR over its bytes. Two ports are tested by one comparison: an OR is below 16 where both are.
 use super::fields::HASH_EXPIRY_AT;
 use super::fields::LINK_ANSWERING_AT;
 use super::fields::LINK_ASKING_AT;
@@ -34,11 +35,8 @@ pub fn local_ok(b: &[u8]) -> bool
     requires { ⌜ length (now b) ≡ localWidth ⌝ }
     ensures { λ r. ⌜ r ≡ localBytesOk (now (b .entry)) ⌝ }
 {
-    if b[0] == 0 {
-        return octets::is_zero(b);
-    }
     if b[0] != 1 {
-        return false;
+        return octets::is_zero(b);
     }
     true
 }
@@ -47,11 +45,8 @@ pub fn path_ok(b: &[u8]) -> bool
     requires { ⌜ length (now b) ≡ pathWidth ⌝ }
     ensures { λ r. ⌜ r ≡ pathBytesOk (now (b .entry)) ⌝ }
 {
-    if b[0] == 0 {
-        return octets::is_zero(b);
-    }
     if b[0] != 1 {
-        return false;
+        return octets::is_zero(b);
     }
     if b[PATH_PORT_AT] >= PORT_COUNT as u8 {
         return false;
@@ -69,19 +64,14 @@ pub fn link_ok(b: &[u8]) -> bool
     requires { ⌜ length (now b) ≡ linkWidth ⌝ }
     ensures { λ r. ⌜ r ≡ linkBytesOk (now (b .entry)) ⌝ }
 {
-    if b[0] == 0 {
-        return octets::is_zero(b);
-    }
     if b[0] != 1 {
-        return false;
+        return octets::is_zero(b);
     }
     if b[LINK_PROVED_AT] >= 2 {
         return false;
     }
-    if b[LINK_ASKING_AT] >= PORT_COUNT as u8 {
-        return false;
-    }
-    if b[LINK_ANSWERING_AT] >= PORT_COUNT as u8 {
+    let ports = b[LINK_ASKING_AT] | b[LINK_ANSWERING_AT];
+    if ports >= PORT_COUNT as u8 {
         return false;
     }
     octets::number_of_8_at(b, LINK_EXPIRY_AT) <= TIME_LIMIT
@@ -91,16 +81,11 @@ pub fn return_ok(b: &[u8]) -> bool
     requires { ⌜ length (now b) ≡ returnWidth ⌝ }
     ensures { λ r. ⌜ r ≡ returnBytesOk (now (b .entry)) ⌝ }
 {
-    if b[0] == 0 {
+    if b[0] != 1 {
         return octets::is_zero(b);
     }
-    if b[0] != 1 {
-        return false;
-    }
-    if b[RETURN_ARRIVAL_AT] >= PORT_COUNT as u8 {
-        return false;
-    }
-    if b[RETURN_LEAVING_AT] >= PORT_COUNT as u8 {
+    let ports = b[RETURN_ARRIVAL_AT] | b[RETURN_LEAVING_AT];
+    if ports >= PORT_COUNT as u8 {
         return false;
     }
     octets::number_of_8_at(b, RETURN_EXPIRY_AT) <= TIME_LIMIT
@@ -110,11 +95,8 @@ pub fn hash_ok(b: &[u8]) -> bool
     requires { ⌜ length (now b) ≡ hashWidth ⌝ }
     ensures { λ r. ⌜ r ≡ hashBytesOk (now (b .entry)) ⌝ }
 {
-    if b[0] == 0 {
-        return octets::is_zero(b);
-    }
     if b[0] != 1 {
-        return false;
+        return octets::is_zero(b);
     }
     octets::number_of_8_at(b, HASH_EXPIRY_AT) <= TIME_LIMIT
 }

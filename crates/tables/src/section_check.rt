@@ -1,5 +1,6 @@
-// Row 7 for each section of the tables, record by record. Returns and hashes go in groups of sixteen, of which one
-// that is all zeros is passed by one OR over its bytes.
+// Row 7 for each section of the tables, record by record. What is all zeros is passed by one OR over its bytes: paths
+// and links as a whole, for these fill from their first place on; returns and hashes in groups, where the first and the
+// last record of one are unused.
 use super::places::HASH_WIDTH;
 use super::places::HASHES_AT;
 use super::places::LINK_WIDTH;
@@ -34,7 +35,7 @@ ghost use Rattle.tables.specs.Layout.{recordsOk};
 ghost use Rattle.tables.specs.Groups.{groupSize, groupOk};
 
 // Records of a group.
-const GROUP: usize = 16;
+const GROUP: usize = 128;
 
 pub fn ports_ok(t: &[u8]) -> bool
     requires { ⌜ length (now t) ≡ tableSize ⌝ }
@@ -66,7 +67,9 @@ pub fn locals_ok(t: &[u8]) -> bool
     true
 }
 
-pub fn paths_ok(t: &[u8]) -> bool
+// ---- paths
+
+fn paths_each(t: &[u8]) -> bool
     requires { ⌜ length (now t) ≡ tableSize ⌝ }
     ensures { λ r. ⌜ r ≡ recordsOk pathBytesOk pathsAt pathWidth pathCount (now (t .entry)) ⌝ }
 {
@@ -81,7 +84,21 @@ pub fn paths_ok(t: &[u8]) -> bool
     true
 }
 
-pub fn links_ok(t: &[u8]) -> bool
+pub fn paths_ok(t: &[u8]) -> bool
+    requires { ⌜ length (now t) ≡ tableSize ⌝ }
+    ensures { λ r. ⌜ r ≡ recordsOk pathBytesOk pathsAt pathWidth pathCount (now (t .entry)) ⌝ }
+{
+    if t[PATHS_AT] == 0 {
+        if octets::is_zero(&t[PATHS_AT..PATHS_AT + PATH_WIDTH * PATH_COUNT]) {
+            return true;
+        }
+    }
+    paths_each(t)
+}
+
+// ---- links
+
+fn links_each(t: &[u8]) -> bool
     requires { ⌜ length (now t) ≡ tableSize ⌝ }
     ensures { λ r. ⌜ r ≡ recordsOk linkBytesOk linksAt linkWidth linkCount (now (t .entry)) ⌝ }
 {
@@ -94,6 +111,18 @@ pub fn links_ok(t: &[u8]) -> bool
         i += 1;
     }
     true
+}
+
+pub fn links_ok(t: &[u8]) -> bool
+    requires { ⌜ length (now t) ≡ tableSize ⌝ }
+    ensures { λ r. ⌜ r ≡ recordsOk linkBytesOk linksAt linkWidth linkCount (now (t .entry)) ⌝ }
+{
+    if t[LINKS_AT] == 0 {
+        if octets::is_zero(&t[LINKS_AT..LINKS_AT + LINK_WIDTH * LINK_COUNT]) {
+            return true;
+        }
+    }
+    links_each(t)
 }
 
 // ---- returns
@@ -117,7 +146,8 @@ fn return_group_ok(s: &[u8]) -> bool
     requires { ⌜ length (now s) ≡ returnWidth * groupSize ⌝ }
     ensures { λ r. ⌜ r ≡ groupOk returnBytesOk returnWidth groupSize (now (s .entry)) ⌝ }
 {
-    if s[0] == 0 {
+    let ends = s[0] | s[RETURN_WIDTH * (GROUP - 1)];
+    if ends == 0 {
         if octets::is_zero(s) {
             return true;
         }
@@ -161,7 +191,8 @@ fn hash_group_ok(s: &[u8]) -> bool
     requires { ⌜ length (now s) ≡ hashWidth * groupSize ⌝ }
     ensures { λ r. ⌜ r ≡ groupOk hashBytesOk hashWidth groupSize (now (s .entry)) ⌝ }
 {
-    if s[0] == 0 {
+    let ends = s[0] | s[HASH_WIDTH * (GROUP - 1)];
+    if ends == 0 {
         if octets::is_zero(s) {
             return true;
         }

@@ -5,7 +5,7 @@ use mathlib.Core.List.{List}
 use lib.ListN.{length, take, drop}
 use Rattle.octets.specs.Part.{part}
 use Rattle.octets.proofs.Part.{part-range, range-length}
-use Rattle.lookup.specs.Search.{isLiveOf, lowestRow}
+use Rattle.lookup.specs.Search.{lastWord, isLiveOf, lowestRow}
 use Rattle.lookup.proofs.Searches.{none-yet, not-here, found-here, nowhere}
 use Rattle.tables.specs.Layout.{recordAt}
 use Rattle.tables.proofs.Lent.{row-end}
@@ -15,11 +15,11 @@ use Rattle.lookup.proofs.search.live_place.Statement.{statement}
 use Rattle.lookup.proofs.search.live_place.Tie as tie
 
 abbrev Inv-loop : tie.InvT-loop
-Inv-loop tables at width count expiry key clock i₀ from₀ i from =
+Inv-loop tables at width count expiry key clock last i₀ from₀ i from =
     (i ≤ count) × (lowestRow (isLiveOf key expiry clock) at width i tables ≡ i) × (from ≡ at + width * i)
 
 abbrev μ-loop : tie.MeasureT-loop
-μ-loop tables at width count expiry key clock i₀ from₀ i from = count - i
+μ-loop tables at width count expiry key clock last i₀ from₀ i from = count - i
 
 -- the record at place i ends within the tables
 within : (tables : List ℕ) (at width count i from : ℕ) → at + width * count ≤ length tables → i < count → from ≡ at + width * i → from + width ≤ length tables
@@ -29,14 +29,20 @@ within tables at width count i from fits l e = omega (arith, row-end at width co
 row : (tables : List ℕ) (at width i from : ℕ) → from ≡ at + width * i → take (from + width - from) (drop from tables) ≡ recordAt at width tables i
 row tables at width i from e = part-range tables from width ∙ ap (λ (n : ℕ). part tables n width) e
 
+sub-word-at : tie.Need-sub-word-at Inv-loop μ-loop
+sub-word-at c = search needs
+
+word-at-requires : tie.Need-word-at-requires Inv-loop μ-loop
+word-at-requires c κs = search needs
+
 loop-holds : tie.Need-loop-holds Inv-loop μ-loop
 loop-holds c = (search needs, none-yet _ _ _ _, omega arith)
 
 add-is-live-of : tie.Need-add-is-live-of Inv-loop μ-loop
 add-is-live-of c =
-    let c4 = c .before .before .before .before in
-    let a = c4 .args in
-    let w = within (a .tables .now) (a .at) (a .width) (a .count) (c .before .loop .i) (c .before .loop .from) (c4 .pre .0) (c .loop-test .taken)
+    let c5 = c .before .before .before .before .before in
+    let a = c5 .args in
+    let w = within (a .tables .now) (a .at) (a .width) (a .count) (c .before .loop .i) (c .before .loop .from) (c5 .pre .0) (c .loop-test .taken)
     (c .before .loop .inv .2) in
     search needs
 
@@ -48,27 +54,29 @@ part-is-live-of-start c = search needs
 
 part-is-live-of-end : tie.Need-part-is-live-of-end Inv-loop μ-loop
 part-is-live-of-end c =
-    let c4 = c .before .before .before .before in
-    let a = c4 .args in
-    let w = within (a .tables .now) (a .at) (a .width) (a .count) (c .before .loop .i) (c .before .loop .from) (c4 .pre .0) (c .loop-test .taken)
+    let c5 = c .before .before .before .before .before in
+    let a = c5 .args in
+    let w = within (a .tables .now) (a .at) (a .width) (a .count) (c .before .loop .i) (c .before .loop .from) (c5 .pre .0) (c .loop-test .taken)
     (c .before .loop .inv .2) in
     search needs
 
 is-live-of-requires : tie.Need-is-live-of-requires Inv-loop μ-loop
+unfolding lastWord
 is-live-of-requires c κs =
-    let c5 = c .before .before .before .before .before in
-    let a = c5 .args in
-    let w = within (a .tables .now) (a .at) (a .width) (a .count) (c .before .before .loop .i) (c .before .before .loop .from) (c5 .pre .0)
+    let c3 = c .before .before .before in
+    let c6 = c3 .before .before .before in
+    let a = c6 .args in
+    let w = within (a .tables .now) (a .at) (a .width) (a .count) (c .before .before .loop .i) (c .before .before .loop .from) (c6 .pre .0)
     (c .before .loop-test .taken) (c .before .before .loop .inv .2) in
     let wide = range-length (a .tables .now) (c .before .before .loop .from) (a .width) w in
-    (omega (arith, wide, c5 .pre .1), omega (arith, wide, c5 .pre .2))
+    (omega (arith, wide, c6 .pre .1), omega (arith, wide, c6 .pre .2), c6 .pre .3, c3 .word-at .ensures)
 
 returns : tie.Need-returns Inv-loop μ-loop
 returns c =
     let c3 = c .before .before .before in
     let c4 = c3 .before in
-    let c7 = c4 .before .before .before in
-    let a = c7 .args in
+    let c8 = c4 .before .before .before .before in
+    let a = c8 .args in
     found-here _ _ _ _ _ (row (a .tables .now) (a .at) (a .width) (c4 .loop .i) (c4 .loop .from) (c4 .loop .inv .2)) (c .before .is-live-of .ensures)
     _ (c3 .loop-test .taken) (c .if1 .taken) (c4 .loop .inv .1)
 
@@ -76,9 +84,9 @@ add-from : tie.Need-add-from Inv-loop μ-loop
 add-from c =
     let c3 = c .before .before .before in
     let c4 = c3 .before in
-    let c7 = c4 .before .before .before in
-    let a = c7 .args in
-    let w = within (a .tables .now) (a .at) (a .width) (a .count) (c4 .loop .i) (c4 .loop .from) (c7 .pre .0) (c3 .loop-test .taken) (c4 .loop .inv .2) in
+    let c8 = c4 .before .before .before .before in
+    let a = c8 .args in
+    let w = within (a .tables .now) (a .at) (a .width) (a .count) (c4 .loop .i) (c4 .loop .from) (c8 .pre .0) (c3 .loop-test .taken) (c4 .loop .inv .2) in
     search needs
 
 add-i : tie.Need-add-i Inv-loop μ-loop
@@ -90,8 +98,8 @@ loop-less c = search needs
 loop-again : tie.Need-loop-again Inv-loop μ-loop
 loop-again c =
     let c4 = c .before .before .before .before in
-    let c7 = c4 .before .before .before in
-    let a = c7 .args in (
+    let c8 = c4 .before .before .before .before in
+    let a = c8 .args in (
       search needs,
       not-here _ _ _ _ _ (row (a .tables .now) (a .at) (a .width) (c4 .loop .i) (c4 .loop .from) (c4 .loop .inv .2)) (c .before .is-live-of .ensures)
           (c .if1 .left) (c4 .loop .inv .1),
@@ -107,6 +115,8 @@ live-place-spec =
     (tie.spec
     Inv-loop
     μ-loop
+    sub-word-at
+    word-at-requires
     loop-holds
     add-is-live-of
     sub-is-live-of

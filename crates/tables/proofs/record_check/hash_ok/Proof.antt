@@ -1,11 +1,11 @@
-use Rattle.octets.specs.Index.{_and_, zeros}
-use Rattle.octets.specs.Choice.{_then_otherwise_}
 use Prim.Native.Nat.{ℕ}
-use mathlib.Core.Path.{ap, _∙_}
-use borrow.Author.Tests.{eq-eqb, ne-eqb}
+use mathlib.Core.Path.{sym, ap, _∙_}
+use Rattle.octets.specs.Index.{zeros}
 use Rattle.rules.specs.Refusals.{timeOk, hashOk}
+use Rattle.tables.specs.Places.{hashWidth}
 use Rattle.tables.specs.Records.{hashOf}
-use Rattle.tables.proofs.Tests.{slotBytesOk, hash-test}
+use Rattle.tables.proofs.Tests.{slot-unused, slot-used, hash-test}
+use native.Mathlib.Omega.{arith}
 use borrow.Author.Needs.{needs}
 use Rattle.tables.proofs.record_check.hash_ok.Statement.{statement}
 use Rattle.tables.proofs.record_check.hash_ok.Tie as tie
@@ -17,33 +17,19 @@ is-zero-requires : tie.Need-is-zero-requires
 is-zero-requires c κs = search needs
 
 returns : tie.Need-returns
-unfolding slotBytesOk _then_otherwise_
 returns c =
     let c4 = c .before .before .before .before in
-    rw (hash-test _, eq-eqb _ _ (c .before .if1 .taken)) (c .is-zero .ensures ∙ ap (λ (k : ℕ). zeros k (c4 .args .b .now)) (c4 .pre))
-
-shared-slice-read-if2 : tie.Need-shared-slice-read-if2
-shared-slice-read-if2 c = search needs
-
-returns-2 : tie.Need-returns-2
-unfolding slotBytesOk _then_otherwise_ _and_
-returns-2 c = rw (hash-test _, ne-eqb _ _ (c .before .before .if1 .left), ne-eqb _ _ (c .if2 .taken))
+    let b = c4 .args .b .now in
+    c .is-zero .ensures ∙ ap (λ (k : ℕ). zeros k b) (c4 .pre) ∙ sym (hash-test b ∙ slot-unused hashWidth _ b (omega arith) (c .before .if1 .taken))
 
 number-of-8-at-requires : tie.Need-number-of-8-at-requires
 number-of-8-at-requires c κs = search needs
 
-returns-3 : tie.Need-returns-3
-unfolding slotBytesOk _then_otherwise_ _and_ hashOk hashOf timeOk
-returns-3 c = rw (hash-test _, ne-eqb _ _ (c .before .before .before .if1 .left), eq-eqb _ _ (c .before .if2 .left), ← c .number-of-8-at .ensures)
+returns-2 : tie.Need-returns-2
+unfolding hashOk hashOf timeOk
+returns-2 c = rw (hash-test _, slot-used hashWidth _ _ (c .before .if1 .left), ← c .number-of-8-at .ensures)
 
 pub hash-ok-spec : {M : Type 1} → statement M
 hash-ok-spec =
     tie.close
-    (tie.spec
-    shared-slice-read-if1
-    is-zero-requires
-    returns
-    shared-slice-read-if2
-    returns-2
-    number-of-8-at-requires
-    returns-3)
+    (tie.spec shared-slice-read-if1 is-zero-requires returns number-of-8-at-requires returns-2)

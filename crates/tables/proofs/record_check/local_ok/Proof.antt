@@ -1,9 +1,9 @@
-use Rattle.octets.specs.Index.{_and_, zeros}
-use Rattle.octets.specs.Choice.{_then_otherwise_}
 use Prim.Native.Nat.{ℕ}
-use mathlib.Core.Path.{ap, _∙_}
-use borrow.Author.Tests.{eq-eqb, ne-eqb}
-use Rattle.tables.proofs.Tests.{slotBytesOk, local-test}
+use mathlib.Core.Path.{sym, ap, _∙_}
+use Rattle.octets.specs.Index.{zeros}
+use Rattle.tables.specs.Places.{localWidth}
+use Rattle.tables.proofs.Tests.{slot-unused, slot-used, local-test}
+use native.Mathlib.Omega.{arith}
 use borrow.Author.Needs.{needs}
 use Rattle.tables.proofs.record_check.local_ok.Statement.{statement}
 use Rattle.tables.proofs.record_check.local_ok.Tie as tie
@@ -15,29 +15,13 @@ is-zero-requires : tie.Need-is-zero-requires
 is-zero-requires c κs = search needs
 
 returns : tie.Need-returns
-unfolding slotBytesOk _then_otherwise_
 returns c =
     let c4 = c .before .before .before .before in
-    rw (local-test _, eq-eqb _ _ (c .before .if1 .taken)) (c .is-zero .ensures ∙ ap (λ (k : ℕ). zeros k (c4 .args .b .now)) (c4 .pre))
-
-shared-slice-read-if2 : tie.Need-shared-slice-read-if2
-shared-slice-read-if2 c = search needs
+    let b = c4 .args .b .now in
+    c .is-zero .ensures ∙ ap (λ (k : ℕ). zeros k b) (c4 .pre) ∙ sym (local-test b ∙ slot-unused localWidth _ b (omega arith) (c .before .if1 .taken))
 
 returns-2 : tie.Need-returns-2
-unfolding slotBytesOk _then_otherwise_ _and_
-returns-2 c = rw (local-test _, ne-eqb _ _ (c .before .before .if1 .left), ne-eqb _ _ (c .if2 .taken))
-
-returns-3 : tie.Need-returns-3
-unfolding slotBytesOk _then_otherwise_ _and_
-returns-3 c = rw (local-test _, ne-eqb _ _ (c .before .before .if1 .left), eq-eqb _ _ (c .if2 .left))
+returns-2 c = sym (local-test _ ∙ slot-used localWidth _ _ (c .if1 .left))
 
 pub local-ok-spec : {M : Type 1} → statement M
-local-ok-spec =
-    tie.close
-    (tie.spec
-    shared-slice-read-if1
-    is-zero-requires
-    returns
-    shared-slice-read-if2
-    returns-2
-    returns-3)
+local-ok-spec = tie.close (tie.spec shared-slice-read-if1 is-zero-requires returns returns-2)

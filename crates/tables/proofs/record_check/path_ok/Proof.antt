@@ -1,12 +1,13 @@
-use Rattle.octets.specs.Index.{_and_, zeros}
-use Rattle.octets.specs.Choice.{_then_otherwise_}
 use Prim.Native.Nat.{ℕ}
-use mathlib.Core.Path.{ap, _∙_}
-use borrow.Author.Tests.{lt-ltb, le-ltb, le-leb, lt-leb, eq-eqb, ne-eqb}
+use mathlib.Core.Path.{sym, ap, _∙_}
+use borrow.Author.Tests.{lt-ltb, le-ltb, le-leb, lt-leb}
+use Rattle.octets.specs.Index.{zeros, _and_}
 use Rattle.rules.specs.Refusals.{timeOk, pathOk}
-use Rattle.tables.specs.Fields.{pathHopsAt}
+use Rattle.tables.specs.Places.{pathWidth}
 use Rattle.tables.specs.Records.{blobsOf, pathOf}
-use Rattle.tables.proofs.Tests.{slotBytesOk, path-test}
+use Rattle.tables.specs.Fields.{pathHopsAt}
+use Rattle.tables.proofs.Tests.{slot-unused, slot-used, path-test}
+use native.Mathlib.Omega.{arith}
 use borrow.Author.Needs.{needs}
 use Rattle.tables.proofs.record_check.path_ok.Statement.{statement}
 use Rattle.tables.proofs.record_check.path_ok.Tie as tie
@@ -18,88 +19,75 @@ is-zero-requires : tie.Need-is-zero-requires
 is-zero-requires c κs = search needs
 
 returns : tie.Need-returns
-unfolding slotBytesOk _then_otherwise_
 returns c =
     let c4 = c .before .before .before .before in
-    rw (path-test _, eq-eqb _ _ (c .before .if1 .taken)) (c .is-zero .ensures ∙ ap (λ (k : ℕ). zeros k (c4 .args .b .now)) (c4 .pre))
+    let b = c4 .args .b .now in
+    c .is-zero .ensures ∙ ap (λ (k : ℕ). zeros k b) (c4 .pre) ∙ sym (path-test b ∙ slot-unused pathWidth _ b (omega arith) (c .before .if1 .taken))
 
 shared-slice-read-if2 : tie.Need-shared-slice-read-if2
 shared-slice-read-if2 c = search needs
 
+cast-if2 : tie.Need-cast-if2
+cast-if2 c = search needs
+
 returns-2 : tie.Need-returns-2
-unfolding slotBytesOk _then_otherwise_ _and_
-returns-2 c = rw (path-test _, ne-eqb _ _ (c .before .before .if1 .left), ne-eqb _ _ (c .if2 .taken))
+unfolding pathOk pathOf blobsOf timeOk _and_
+returns-2 c = rw (path-test _, slot-used pathWidth _ _ (c .before .before .if1 .left), le-ltb _ _ (c .if2 .taken))
 
 shared-slice-read-if3 : tie.Need-shared-slice-read-if3
 shared-slice-read-if3 c = search needs
 
-cast-if3 : tie.Need-cast-if3
-cast-if3 c = search needs
-
 returns-3 : tie.Need-returns-3
-unfolding slotBytesOk _then_otherwise_ _and_ pathOk pathOf blobsOf timeOk
-returns-3 c = rw (path-test _, ne-eqb _ _ (c .before .before .before .before .if1 .left), eq-eqb _ _ (c .before .before .if2 .left), le-ltb _ _ (c .if3 .taken))
+unfolding pathOk pathOf blobsOf timeOk _and_
+returns-3 c =
+    let c4 = c .before .before .before .before in
+    let c6 = c4 .before .before in
+    rw (
+      path-test _,
+      slot-used pathWidth _ _ (c4 .if1 .left),
+      lt-ltb _ _ (c .before .before .if2 .left),
+      lt-ltb _ 256 (c6 .shared-slice-known .given pathHopsAt .fits),
+      lt-leb _ _ (c .if3 .taken),
+    )
 
 shared-slice-read-if4 : tie.Need-shared-slice-read-if4
 shared-slice-read-if4 c = search needs
 
+cast-if4 : tie.Need-cast-if4
+cast-if4 c = search needs
+
 returns-4 : tie.Need-returns-4
-unfolding slotBytesOk _then_otherwise_ _and_ pathOk pathOf blobsOf timeOk
+unfolding pathOk pathOf blobsOf timeOk _and_
 returns-4 c =
     let c4 = c .before .before .before .before in
     let c6 = c4 .before .before in
     let c8 = c6 .before .before in
     rw (
       path-test _,
-      ne-eqb _ _ (c6 .if1 .left),
-      eq-eqb _ _ (c4 .if2 .left),
-      lt-ltb _ _ (c .before .before .if3 .left),
+      slot-used pathWidth _ _ (c6 .if1 .left),
+      lt-ltb _ _ (c4 .if2 .left),
       lt-ltb _ 256 (c8 .shared-slice-known .given pathHopsAt .fits),
+      le-leb _ _ (c .before .before .if3 .left),
       lt-leb _ _ (c .if4 .taken),
-    )
-
-shared-slice-read-if5 : tie.Need-shared-slice-read-if5
-shared-slice-read-if5 c = search needs
-
-cast-if5 : tie.Need-cast-if5
-cast-if5 c = search needs
-
-returns-5 : tie.Need-returns-5
-unfolding slotBytesOk _then_otherwise_ _and_ pathOk pathOf blobsOf timeOk
-returns-5 c =
-    let c4 = c .before .before .before .before in
-    let c6 = c4 .before .before in
-    let c8 = c6 .before .before in
-    let c10 = c8 .before .before in
-    rw (
-      path-test _,
-      ne-eqb _ _ (c8 .if1 .left),
-      eq-eqb _ _ (c6 .if2 .left),
-      lt-ltb _ _ (c4 .if3 .left),
-      lt-ltb _ 256 (c10 .shared-slice-known .given pathHopsAt .fits),
-      le-leb _ _ (c .before .before .if4 .left),
-      lt-leb _ _ (c .if5 .taken),
     )
 
 number-of-8-at-requires : tie.Need-number-of-8-at-requires
 number-of-8-at-requires c κs = search needs
 
-returns-6 : tie.Need-returns-6
-unfolding slotBytesOk _then_otherwise_ _and_ pathOk pathOf blobsOf timeOk
-returns-6 c =
+returns-5 : tie.Need-returns-5
+unfolding pathOk pathOf blobsOf timeOk _and_
+returns-5 c =
     let c3 = c .before .before .before in
     let c5 = c3 .before .before in
     let c7 = c5 .before .before in
     let c9 = c7 .before .before in
-    let c11 = c9 .before .before in
     rw (
       path-test _,
-      ne-eqb _ _ (c9 .if1 .left),
-      eq-eqb _ _ (c7 .if2 .left),
-      lt-ltb _ _ (c5 .if3 .left),
-      lt-ltb _ 256 (c11 .shared-slice-known .given pathHopsAt .fits),
-      le-leb _ _ (c3 .if4 .left),
-      le-leb _ _ (c .before .if5 .left),
+      slot-used pathWidth _ _ (c7 .if1 .left),
+      lt-ltb _ _ (c5 .if2 .left),
+      lt-ltb _ 256 (c9 .shared-slice-known .given pathHopsAt .fits),
+      le-leb _ _ (c3 .if3 .left),
+      le-leb _ _ (c .before .if4 .left),
       ← c .number-of-8-at .ensures,
     )
 
@@ -111,14 +99,12 @@ path-ok-spec =
     is-zero-requires
     returns
     shared-slice-read-if2
+    cast-if2
     returns-2
     shared-slice-read-if3
-    cast-if3
     returns-3
     shared-slice-read-if4
+    cast-if4
     returns-4
-    shared-slice-read-if5
-    cast-if5
-    returns-5
     number-of-8-at-requires
-    returns-6)
+    returns-5)
