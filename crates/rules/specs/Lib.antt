@@ -12,4 +12,5 @@ pub mod Outgoing
 pub mod Judging
 pub mod Writes
 pub mod Calls
+pub mod Questions
 pub mod Run
