@@ -3,7 +3,7 @@
 use Prim.Native.Nat.{ℕ, zero, suc, _+_}
 use mathlib.Core.Bool.{Bool, true, false, not}
 use mathlib.Core.List.{List, []}
-use lib.Dec.{eqb, ltb}
+use lib.Dec.{eqb, leb}
 use lib.ListN.{getD}
 use Rattle.octets.specs.Choice.{_then_otherwise_}
 use Rattle.octets.specs.Listed.{_gives_otherwise_, firstOf}
@@ -91,7 +91,7 @@ unfoldable pub questionRule : Question → QuestionRule
 questionRule (port-settings port) =
     record {
       refusal = rowSeven;
-      answer = λ r. ltb port portCount then a-port (getD (r .ports) port noPort) otherwise none;
+      answer = λ r. leb portCount port then none otherwise a-port (getD (r .ports) port noPort);
       renamed = λ m. port-settings (image m port);
     }
 questionRule (local-at place) =
