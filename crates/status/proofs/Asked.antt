@@ -5,8 +5,8 @@ use native.Mathlib.Nat.{le-antisymm}
 use native.Mathlib.Omega.{arith}
 use mathlib.Core.Bool.{Bool, true, false}
 use mathlib.Core.List.{List}
-use mathlib.Core.Path.{_≡_, refl, sym, ap, subst, _∙_}
-use lib.Dec.{eqb, ltb, leb, lit≤}
+use mathlib.Core.Path.{_≡_, refl, sym, ap, _∙_}
+use lib.Dec.{eqb, ltb, lit≤}
 use lib.ListN.{length, getD, List·getD-eq-default}
 use borrow.Author.Tests.{le-leb, lt-leb}
 use Rattle.octets.specs.Bytes.{Bytes}
@@ -19,13 +19,13 @@ use Rattle.octets.proofs.Bytes.{part-bytes}
 use Rattle.octets.proofs.Index.{and-left, and-right, all-at}
 use Rattle.octets.proofs.Part.{part-length}
 use Rattle.numbers.specs.Numbers.{portCount, localCount, pathCount, linkCount, returnCount, hashCount, live}
-use Rattle.rules.specs.Relay.{Slot, empty, used, holds}
+use Rattle.rules.specs.Relay.{Slot, empty, holds}
 use Rattle.rules.specs.View.{pathPlace, viewAt}
-use Rattle.rules.specs.Questions.{Question, port-settings, local-at, path-at, link-at, live-path, live-returns, live-hashes, last-clock, Told, refused, a-port, an-address, a-path, a-link, a-number, toldOf, countBelow, countOf, rowSeven, questionRule, questionRefusal, tell}
+use Rattle.rules.specs.Questions.{Question, port-settings, local-at, path-at, link-at, live-path, live-returns, live-hashes, last-clock, Told, an-address, a-path, a-link, toldOf, countBelow, countOf, rowSeven, questionRule, questionRefusal, tell}
 use Rattle.rules.proofs.Counting.{count-cong, count-le}
 use Rattle.tables.specs.Places.{timeWidth, portsAt, portWidth, localsAt, localWidth, pathsAt, pathWidth, linksAt, linkWidth, returnsAt, returnWidth, hashesAt, hashWidth, tableSize}
 use Rattle.tables.specs.Fields.{linkProvedAt, returnExpiryAt, hashExpiryAt}
-use Rattle.tables.specs.Records.{markOf, slotOf, portOf, localOf, pathOf, linkOf, returnOf, hashOf, portBytesOk, linkBytesOk}
+use Rattle.tables.specs.Records.{markOf, slotOf, localOf, pathOf, linkOf, returnOf, hashOf, portBytesOk, linkBytesOk}
 use Rattle.tables.specs.Layout.{recordAt, recordsOk, relayOf, wellFormed}
 use Rattle.tables.specs.Asked.{tellOn, toldNumber, toldBytes, toldCount, Tells, TellsNumber}
 use Rattle.tables.proofs.Lent.{row-end}
@@ -206,9 +206,19 @@ module _ (t : List ℕ) (h : wellFormed t ≡ true) where
   pub returns-told : (clock n old : ℕ) → n ≡ liveRows returnsAt returnWidth returnCount returnExpiryAt clock t
       → TellsNumber (tellOn t (live-returns clock)) old 0 n
   unfolding questionRefusal questionRule toldNumber toldCount returnOf
-  returns-told clock n old e = rw (asked (live-returns clock) refl) (refl, e ∙ counted returnOf (λ r. live clock (r .expiry)) returnExpiryAt clock (λ b. refl) returnsAt returnWidth returnCount t (relayOf t .returns .slots) (return-seen t))
+  returns-told clock n old e =
+      rw (asked (live-returns clock) refl)
+      (refl,
+      e
+      ∙ counted returnOf (λ r. live clock (r .expiry)) returnExpiryAt clock (λ b. refl) returnsAt returnWidth returnCount t (relayOf t .returns .slots)
+      (return-seen t))
 
   pub hashes-told : (clock n old : ℕ) → n ≡ liveRows hashesAt hashWidth hashCount hashExpiryAt clock t
       → TellsNumber (tellOn t (live-hashes clock)) old 0 n
   unfolding questionRefusal questionRule toldNumber toldCount hashOf
-  hashes-told clock n old e = rw (asked (live-hashes clock) refl) (refl, e ∙ counted hashOf (λ r. live clock (r .expiry)) hashExpiryAt clock (λ b. refl) hashesAt hashWidth hashCount t (relayOf t .hashes .slots) (hash-seen t))
+  hashes-told clock n old e =
+      rw (asked (live-hashes clock) refl)
+      (refl,
+      e
+      ∙ counted hashOf (λ r. live clock (r .expiry)) hashExpiryAt clock (λ b. refl) hashesAt hashWidth hashCount t (relayOf t .hashes .slots)
+      (hash-seen t))

@@ -1,20 +1,18 @@
 -- What is told of a record is part of its bytes.
 use Prim.Native.Nat.{ℕ, zero, suc, _+_, _<_}
 use native.Mathlib.Omega.{arith}
-use mathlib.Core.Bool.{Bool, true, false, not}
+use mathlib.Core.Bool.{Bool, true, false}
 use mathlib.Core.List.{List, [], _∷_, _++_}
 use mathlib.Core.Path.{_≡_, refl, sym, ap, _∙_}
 use lib.Dec.{eqb, ltb}
 use lib.ListN.{length, getD}
 use borrow.Author.Tests.{ltb-true, ne-eqb}
 use Rattle.octets.specs.Bytes.{Bytes}
-use Rattle.octets.specs.Index.{_and_}
 use Rattle.octets.specs.Choice.{_then_otherwise_}
 use Rattle.octets.specs.Part.{part}
 use Rattle.octets.proofs.Part.{part-split, part-one, part-again, part-whole}
-use Rattle.rules.specs.Relay.{Slot, empty, used, holds}
-use Rattle.rules.specs.Questions.{Told, none, a-port, an-address, a-path, a-link, toldOf}
-use Rattle.tables.specs.Places.{timeWidth, portWidth, localWidth, pathWidth, linkWidth}
+use Rattle.rules.specs.Questions.{Told, a-port, an-address, a-path, a-link, toldOf}
+use Rattle.tables.specs.Places.{timeWidth, portWidth, pathWidth, linkWidth}
 use Rattle.tables.specs.Fields.{linkProvedAt}
 use Rattle.tables.specs.Records.{markOf, slotOf, portOf, localOf, blobsOf, pathOf, linkOf}
 use Rattle.tables.specs.Asked.{toldNumber, toldBytes, Tells}

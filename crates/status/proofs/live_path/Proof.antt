@@ -19,7 +19,9 @@ path-place-requires : tie.Need-path-place-requires
 path-place-requires c κs = formed _ (sym (c .before .check .ensures) ∙ not-false _ (c .if1 .left)) .size
 
 returns-2 : tie.Need-returns-2
-returns-2 c = no-live-path _ (sym (c .before .before .before .check .ensures) ∙ not-false _ (c .before .before .if1 .left)) _ _ _ _ (c .before .path-place .ensures) (c .if2 .taken)
+returns-2 c =
+    let c2 = c .before .before in
+    no-live-path _ (sym (c2 .before .check .ensures) ∙ not-false _ (c2 .if1 .left)) _ _ _ _ (c .before .path-place .ensures) (c .if2 .taken)
 
 put-record-requires : tie.Need-put-record-requires
 put-record-requires c κs =
@@ -28,9 +30,14 @@ put-record-requires c κs =
 
 returns-3 : tie.Need-returns-3
 returns-3 c =
-    let p = c .before .before .before .before .before .before .before .args in
-    let h = sym (c .before .before .before .before .before .check .ensures) ∙ not-false _ (c .before .before .before .before .if1 .left) in
-    let told = live-path-told (p .tables .now) h (known-bytes (p .tables .now) (c .before .before .before .before .before .before .shared-slice-known .given)) (p .destination) (p .clock) _ (p .path .now) (c .before .before .before .path-place .ensures) (c .before .before .if2 .left) (omega arith) in
+    let c3 = c .before .before .before in
+    let c6 = c3 .before .before .before in
+    let p = c6 .before .args in
+    let h = sym (c3 .before .before .check .ensures) ∙ not-false _ (c3 .before .if1 .left) in
+    let bytes = known-bytes (p .tables .now) (c6 .shared-slice-known .given) in
+    let told =
+    live-path-told (p .tables .now) h bytes (p .destination) (p .clock) _ (p .path .now) (c3 .path-place .ensures) (c .before .before .if2 .left)
+    (omega arith) in
     (c .put-record .ensures .0 ∙ told .0, c .put-record .ensures .1 ∙ told .1)
 
 pub live-path-spec : {M : Type 1} → statement M

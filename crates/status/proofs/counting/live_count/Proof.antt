@@ -46,7 +46,12 @@ loop-less c = search needs
 
 loop-again : tie.Need-loop-again Inv-loop μ-loop
 loop-again c =
-    (search needs, counted-more _ _ _ _ _ (c .before .before .before .before .before .loop .i) (c .before .before .before .before .before .loop .inv .1) (c .before .before .before .record-at .ensures .0) (c .before .before .is-live .ensures) (c .before .mark-of .ensures) (c .wide .ensures))
+    let c3 = c .before .before .before in
+    let at = c3 .before .before in (
+      search needs,
+      counted-more _ _ _ _ _ (at .loop .i) (at .loop .inv .1) (c3 .record-at .ensures .0) (c .before .before .is-live .ensures) (c .before .mark-of .ensures)
+          (c .wide .ensures),
+    )
 
 returns : tie.Need-returns Inv-loop μ-loop
 returns c = counted-all _ _ _ _ _ (c .before .loop .inv .0) (c .loop-test .left) (c .before .loop .inv .1)

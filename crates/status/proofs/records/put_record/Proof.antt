@@ -33,7 +33,9 @@ same-length : tie.Need-same-length
 same-length c = search needs
 
 returns-2 : tie.Need-returns-2
-returns-2 c = put-some _ _ _ (c .before .before .before .before .before .before .before .record-at .ensures .0) (c .before .before .before .before .before .if1 .left) _ (c .before .before .copy .ensures ∙ part-range _ 1 _)
+returns-2 c =
+    let c5 = c .before .before .before .before .before in
+    put-some _ _ _ (c5 .before .before .record-at .ensures .0) (c5 .if1 .left) _ (c .before .before .copy .ensures ∙ part-range _ 1 _)
 
 pub put-record-spec : {M : Type 1} → statement M
 put-record-spec =
