@@ -21,7 +21,7 @@ use Rattle.packet.specs.Write.{leastOutput, packetOf, writingRows, writingRefus
 use Rattle.packet.specs.Hash.{packetHashAnswer, linkIdAnswer}
 use Rattle.packet.specs.declared.Parts.{Parts}
 use Rattle.numbers.specs.Numbers.{portCount, localCount, modeCount, clockLimit}
-use Rattle.rules.specs.Relay.{Slot, empty, used, Relay}
+use Rattle.rules.specs.Relay.{Port, Slot, empty, used, Relay}
 use Rattle.rules.specs.View.{portOn, isLocal}
 use Rattle.rules.specs.Renumbering.{oneToOne}
 use Rattle.rules.specs.Arrival.{Arrival}
@@ -64,13 +64,14 @@ unfolding toldOf isRefused
 slot-given tells given empty = refl
 slot-given tells given (used x) = given x
 
+port-given : (b : Bool) (p : Port) → isRefused (b then none otherwise a-port p) ≡ false
+unfolding isRefused _then_otherwise_
+port-given true p = refl
+port-given false p = refl
+
 answer-given : (q : Question) (r : Relay) → isRefused (questionRule q .answer r) ≡ false
 unfolding questionRule isRefused _then_otherwise_
-answer-given (port-settings port) r = go (leb portCount port)
-  where
-    go : (b : Bool) → isRefused (b then none otherwise a-port _) ≡ false
-    go true = refl
-    go false = refl
+answer-given (port-settings port) r = port-given (leb portCount port) _
 answer-given (local-at place) r = slot-given an-address (λ _. refl) _
 answer-given (path-at place) r = slot-given a-path (λ _. refl) _
 answer-given (link-at place) r = slot-given a-link (λ _. refl) _

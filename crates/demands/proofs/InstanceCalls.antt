@@ -12,9 +12,9 @@ use Rattle.rules.specs.Relay.{freshPort, makePort, Port, makeRelay, empty, used
 use Rattle.rules.specs.View.{viewAt}
 use Rattle.rules.specs.Refusals.{all, tableOk}
 use Rattle.rules.specs.Judging.{Plan}
-use Rattle.rules.specs.Calls.{newTally, ruleOf}
-use Rattle.rules.specs.Questions.{path-at, link-at, word-matters, none, a-path, yes-or-no, cameWith}
-use Rattle.rules.specs.Run.{EachCall, Call, asks, port-setting, adding, removing, renumbering, Reply, answered, numbered, told, Outcome, ofSetting, perform, replies, relayAfter, tallyAfter}
+use Rattle.rules.specs.Calls.{newTally, packetCall, ruleOf}
+use Rattle.rules.specs.Questions.{path-at, link-at, word-matters, Told, none, a-path, yes-or-no, cameWith, tell}
+use Rattle.rules.specs.Run.{EachCall, Call, asks, port-setting, adding, removing, renumbering, Reply, answered, numbered, told, Outcome, ofSetting, ofTold, perform, replies, relayAfter, tallyAfter}
 use Rattle.rules.specs.declared.Reason.the-variants.{Duplicate}
 use Rattle.rules.specs.declared.Verdict.the-variants.{Drop}
 use Rattle.rules.specs.declared.Answer.the-variants.{Refused, Judged}
@@ -25,6 +25,7 @@ use Rattle.rules.proofs.Passed.{ofTest}
 use Rattle.rules.proofs.Scene.{own, blank, announceBytes, dataBytes, dataKey, receiptBytes, arrives, prepared}
 use Rattle.rules.proofs.Outcomes.{spreads, forwards, spreadBytes, dataLastHop, relayOf, remembers, knownPath, preparedRelay, announcedRelay, carriedRelay, judged-at, announce-form, announce-new, data-new, data-key, prepared-is}
 use Rattle.rules.proofs.Sanity.{oneUp}
+use Rattle.rules.proofs.SignatureWord.{word-matters-exactly}
 use Rattle.tables.specs.Shape.{isByte, isBytes}
 use Rattle.demands.specs.Given.{CallBytes, CallsBytes}
 
@@ -246,12 +247,21 @@ announce-forgotten : viewAt 2500 (lastRelay plainPorts 1) .remembered (packetHas
 unfolding rules passes
 announce-forgotten = seen-quick 2500 (lastRelay plainPorts 1) (packetHash announceBytes) refl
 
+word-yes : tell (word-matters announceBytes 1 2500 500) (lastRelay plainPorts 1) ≡ yes-or-no true
+unfolding rules goodPlan
+word-yes =
+    ap (λ (todo : Plan). yes-or-no (ofTest 9 todo))
+    (plan-good (viewAt 2500 (lastRelay plainPorts 1)) (cameWith announceBytes 1 2500 false) announce-forgotten announce-form)
+
+-- so the two words give two answers
+pub words-differ : packetCall (cameWith announceBytes 1 2500 true) (lastRelay plainPorts 1) lastTally blank .answer
+    ≡ packetCall (cameWith announceBytes 1 2500 false) (lastRelay plainPorts 1) lastTally blank .answer → ⊥
+words-differ = word-matters-exactly (cameWith announceBytes 1 2500 false) (lastRelay plainPorts 1) lastTally blank .yes-differs word-yes
+
 word-told : perform (asks (word-matters announceBytes 1 2500 500)) (lastRelay plainPorts 1) lastTally
     ≡ record { reply = told (yes-or-no true); relay = lastRelay plainPorts 1; tally = lastTally }
-unfolding rules goodPlan ofTest
-word-told =
-    ap (λ (todo : Plan). record { reply = told (yes-or-no (ofTest 9 todo)); relay = lastRelay plainPorts 1; tally = lastTally })
-    (plan-good (viewAt 2500 (lastRelay plainPorts 1)) (cameWith announceBytes 1 2500 false) announce-forgotten announce-form)
+unfolding perform ofTold
+word-told = ap (λ (x : Told). record { reply = told x; relay = lastRelay plainPorts 1; tally = lastTally }) word-yes
 
 nothing-told : perform (asks (link-at 64)) (lastRelay plainPorts 1) lastTally
     ≡ record { reply = told none; relay = lastRelay plainPorts 1; tally = lastTally }

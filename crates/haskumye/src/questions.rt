@@ -35,7 +35,12 @@ pub extern "C" fn haskumye_path(tables: &[u8], place: u64, path: &mut [u8; 43]) 
 
 // A destination's live path at a clock.
 #[no_mangle]
-pub extern "C" fn haskumye_live_path(tables: &[u8], destination: &[u8; 16], clock: u64, path: &mut [u8; 43]) -> u8
+pub extern "C" fn haskumye_live_path(
+    tables: &[u8],
+    destination: &[u8; 16],
+    clock: u64,
+    path: &mut [u8; 43],
+) -> u8
     ensures { λ r. ⌜ Tells (tellOn (now (tables .entry)) (live-path (now (destination .entry)) clock))
         (now (path .entry)) r (now (path .exit)) ⌝ }
 {
@@ -83,7 +88,13 @@ pub extern "C" fn haskumye_last_clock(tables: &[u8], clock: &mut u64) -> u8
 // Whether the signature word matters for a packet call with an output of `room` bytes. A refusal's number, as that call
 // gives it; 0: the word isn't read, and the answer is the same with either; 255: it is, so verify the signature.
 #[no_mangle]
-pub extern "C" fn haskumye_signature_matters(packet: &[u8], port: u64, clock: u64, tables: &[u8], room: usize) -> u8
+pub extern "C" fn haskumye_signature_matters(
+    packet: &[u8],
+    port: u64,
+    clock: u64,
+    tables: &[u8],
+    room: usize,
+) -> u8
     ensures { λ r. ⌜ r
         ≡ toldNumber (tellOn (now (tables .entry)) (word-matters (now (packet .entry)) port clock room)) ⌝ }
 {

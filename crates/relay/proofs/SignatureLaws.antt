@@ -24,6 +24,11 @@ use Rattle.relay.specs.Refusal.{packetRefusalOn}
 use Rattle.relay.specs.Signature.{reasonTells, decisionTells}
 use Rattle.relay.proofs.RefusalLaws.{accepted-formed, accepted-by-rules}
 
+either-tells : (b : Bool) (x y : Decision) → decisionTells x ≡ 0 → decisionTells y ≡ 0 → decisionTells (b then x otherwise y) ≡ 0
+unfolding _then_otherwise_
+either-tells true x y e f = e
+either-tells false x y e f = f
+
 -- what is decided tells whether test 9 dropped the packet
 module _ (r : Relay) (a : Arrival) where
   decided-tells : (todo : Plan) → decisionTells (decided r a todo) ≡ (ofTest 9 todo then 255 otherwise 0)
@@ -31,11 +36,7 @@ module _ (r : Relay) (a : Arrival) where
   decided-tells (dropped reason) = refl
   decided-tells delivered = refl
   decided-tells (follows (everywhere known)) = refl
-  decided-tells (follows (by-path p)) = go (isData (header a))
-    where
-      go : (b : Bool) → decisionTells (b then _ otherwise _) ≡ 0
-      go true = refl
-      go false = refl
+  decided-tells (follows (by-path p)) = either-tells (isData (header a)) _ _ refl refl
   decided-tells (follows (along-link l)) = refl
   decided-tells (follows (by-return t)) = refl
   decided-tells (follows (blocked why)) = refl

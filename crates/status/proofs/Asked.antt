@@ -207,18 +207,20 @@ module _ (t : List ℕ) (h : wellFormed t ≡ true) where
       → TellsNumber (tellOn t (live-returns clock)) old 0 n
   unfolding questionRefusal questionRule toldNumber toldCount returnOf
   returns-told clock n old e =
-      rw (asked (live-returns clock) refl)
-      (refl,
-      e
-      ∙ counted returnOf (λ r. live clock (r .expiry)) returnExpiryAt clock (λ b. refl) returnsAt returnWidth returnCount t (relayOf t .returns .slots)
-      (return-seen t))
+      rw (asked (live-returns clock) refl) (
+        refl,
+        e
+            ∙ counted returnOf (λ r. live clock (r .expiry)) returnExpiryAt clock (λ b. refl) returnsAt returnWidth returnCount t (relayOf t .returns .slots)
+            (return-seen t),
+      )
 
   pub hashes-told : (clock n old : ℕ) → n ≡ liveRows hashesAt hashWidth hashCount hashExpiryAt clock t
       → TellsNumber (tellOn t (live-hashes clock)) old 0 n
   unfolding questionRefusal questionRule toldNumber toldCount hashOf
   hashes-told clock n old e =
-      rw (asked (live-hashes clock) refl)
-      (refl,
-      e
-      ∙ counted hashOf (λ r. live clock (r .expiry)) hashExpiryAt clock (λ b. refl) hashesAt hashWidth hashCount t (relayOf t .hashes .slots)
-      (hash-seen t))
+      rw (asked (live-hashes clock) refl) (
+        refl,
+        e
+            ∙ counted hashOf (λ r. live clock (r .expiry)) hashExpiryAt clock (λ b. refl) hashesAt hashWidth hashCount t (relayOf t .hashes .slots)
+            (hash-seen t),
+      )
