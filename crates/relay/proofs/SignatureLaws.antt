@@ -21,7 +21,7 @@ use Rattle.plan.specs.declared.Arrived.{Arrived}
 use Rattle.plan.specs.declared.Decision.{Decision}
 use Rattle.plan.specs.Decided.{arrivalOf, decidedWay, decided, decision, decisionOn, seen}
 use Rattle.relay.specs.Refusal.{packetRefusalOn}
-use Rattle.relay.specs.Signature.{reasonTells, decisionTells}
+use Rattle.relay.specs.Signature.{decisionTells}
 use Rattle.relay.proofs.RefusalLaws.{accepted-formed, accepted-by-rules}
 
 either-tells : (b : Bool) (x y : Decision) → decisionTells x ≡ 0 → decisionTells y ≡ 0 → decisionTells (b then x otherwise y) ≡ 0
@@ -32,7 +32,7 @@ either-tells false x y e f = f
 -- what is decided tells whether test 9 dropped the packet
 module _ (r : Relay) (a : Arrival) where
   decided-tells : (todo : Plan) → decisionTells (decided r a todo) ≡ (ofTest 9 todo then 255 otherwise 0)
-  unfolding decisionTells reasonTells decided decidedWay ofTest _then_otherwise_
+  unfolding decided decidedWay ofTest _then_otherwise_
   decided-tells (dropped reason) = refl
   decided-tells delivered = refl
   decided-tells (follows (everywhere known)) = refl

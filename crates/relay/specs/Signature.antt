@@ -9,10 +9,10 @@ use Rattle.plan.specs.declared.Decision.{Decision}
 use Rattle.plan.specs.declared.Decision.the-variants.{Drop, Deliver, Announce, Data, Request, Carry, Receipt}
 
 -- 255 of test 9
-unfoldable pub reasonTells : Reason → ℕ
+abbrev pub reasonTells : Reason → ℕ
 reasonTells reason = eqb (reasonNumber reason) 9 then 255 otherwise 0
 
-unfoldable pub decisionTells : Decision → ℕ
+abbrev pub decisionTells : Decision → ℕ
 decisionTells (Drop reason) = reasonTells reason
 decisionTells Deliver = 0
 decisionTells (Announce place known) = 0
