@@ -63,7 +63,7 @@ laterBy from port =
     ∷ removing guest
     -- the path; whether the announce's signature would matter, now that it is remembered no more; and what is no place
     ∷ asks (path-at 0)
-    ∷ asks (word-matters announceBytes from 2500 500)
+    ∷ asks (word-matters announceBytes from 3000 500)
     ∷ asks (link-at 64)
     ∷ []
 
@@ -243,22 +243,22 @@ path-told : perform (asks (path-at 0)) (lastRelay plainPorts 1) lastTally
 unfolding rules
 path-told = refl
 
-announce-forgotten : viewAt 2500 (lastRelay plainPorts 1) .remembered (packetHash announceBytes) ≡ false
+announce-forgotten : viewAt 3000 (lastRelay plainPorts 1) .remembered (packetHash announceBytes) ≡ false
 unfolding rules passes
-announce-forgotten = seen-quick 2500 (lastRelay plainPorts 1) (packetHash announceBytes) refl
+announce-forgotten = seen-quick 3000 (lastRelay plainPorts 1) (packetHash announceBytes) refl
 
-word-yes : tell (word-matters announceBytes 1 2500 500) (lastRelay plainPorts 1) ≡ yes-or-no true
+word-yes : tell (word-matters announceBytes 1 3000 500) (lastRelay plainPorts 1) ≡ yes-or-no true
 unfolding rules goodPlan
 word-yes =
     ap (λ (todo : Plan). yes-or-no (ofTest 9 todo))
-    (plan-good (viewAt 2500 (lastRelay plainPorts 1)) (cameWith announceBytes 1 2500 false) announce-forgotten announce-form)
+    (plan-good (viewAt 3000 (lastRelay plainPorts 1)) (cameWith announceBytes 1 3000 false) announce-forgotten announce-form)
 
 -- so the two words give two answers
-pub words-differ : packetCall (cameWith announceBytes 1 2500 true) (lastRelay plainPorts 1) lastTally blank .answer
-    ≡ packetCall (cameWith announceBytes 1 2500 false) (lastRelay plainPorts 1) lastTally blank .answer → ⊥
-words-differ = word-matters-exactly (cameWith announceBytes 1 2500 false) (lastRelay plainPorts 1) lastTally blank .yes-differs word-yes
+pub words-differ : packetCall (cameWith announceBytes 1 3000 true) (lastRelay plainPorts 1) lastTally blank .answer
+    ≡ packetCall (cameWith announceBytes 1 3000 false) (lastRelay plainPorts 1) lastTally blank .answer → ⊥
+words-differ = word-matters-exactly (cameWith announceBytes 1 3000 false) (lastRelay plainPorts 1) lastTally blank .yes-differs word-yes
 
-word-told : perform (asks (word-matters announceBytes 1 2500 500)) (lastRelay plainPorts 1) lastTally
+word-told : perform (asks (word-matters announceBytes 1 3000 500)) (lastRelay plainPorts 1) lastTally
     ≡ record { reply = told (yes-or-no true); relay = lastRelay plainPorts 1; tally = lastTally }
 unfolding perform ofTold
 word-told = ap (λ (x : Told). record { reply = told x; relay = lastRelay plainPorts 1; tally = lastTally }) word-yes
