@@ -1,6 +1,6 @@
-// What a host asks of a relay, whose tables stay as they are. Each but the last returns 0 where what it asks for stands in
-// the buffer lent, 7 where the tables are refused, and 255 where there is none: a place outside its table or an empty
-// one, a number that is no port, no live path. Then the buffer stays too.
+// What a host asks of a relay, whose tables stay as they are. Each but the last returns 0 where what it asks for
+// stands in the buffer lent, 7 where the tables are refused, and 255 where there is none: a place outside its table or
+// an empty one, a number that is no port, no live path. Then the buffer stays too.
 ghost use mathlib.Core.Path.{_≡_};
 ghost use Rattle.rules.specs.Questions.{port-settings, local-at, path-at, link-at, live-path, live-returns, live-hashes, last-clock, word-matters};
 ghost use Rattle.tables.specs.Asked.{tellOn, toldNumber, Tells, TellsNumber};
