@@ -7,7 +7,7 @@ use Rattle.octets.specs.Index.{allBelow}
 use Rattle.octets.specs.Part.{part}
 
 abbrev pub groupSize : ℕ
-groupSize = 32
+groupSize = 128
 
 -- each of the n records that stand one after the other in the bytes s keeps row 7
 unfoldable pub groupOk : (List ℕ → Bool) → ℕ → ℕ → List ℕ → Bool

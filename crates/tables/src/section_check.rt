@@ -1,5 +1,6 @@
 // Row 7 for each section of the tables, record by record. What is all zeros is passed by one OR over its bytes: paths
-// and links as a whole, for these fill from their first place on; returns and hashes in groups of thirty-two.
+// and links as a whole, for these fill from their first place on; returns and hashes in groups, where the first and the
+// last record of one are unused.
 use super::places::HASH_WIDTH;
 use super::places::HASHES_AT;
 use super::places::LINK_WIDTH;
@@ -34,7 +35,7 @@ ghost use Rattle.tables.specs.Layout.{recordsOk};
 ghost use Rattle.tables.specs.Groups.{groupSize, groupOk};
 
 // Records of a group.
-const GROUP: usize = 32;
+const GROUP: usize = 128;
 
 pub fn ports_ok(t: &[u8]) -> bool
     requires { ⌜ length (now t) ≡ tableSize ⌝ }
@@ -145,7 +146,8 @@ fn return_group_ok(s: &[u8]) -> bool
     requires { ⌜ length (now s) ≡ returnWidth * groupSize ⌝ }
     ensures { λ r. ⌜ r ≡ groupOk returnBytesOk returnWidth groupSize (now (s .entry)) ⌝ }
 {
-    if s[0] == 0 {
+    let ends = s[0] | s[RETURN_WIDTH * (GROUP - 1)];
+    if ends == 0 {
         if octets::is_zero(s) {
             return true;
         }
@@ -189,7 +191,8 @@ fn hash_group_ok(s: &[u8]) -> bool
     requires { ⌜ length (now s) ≡ hashWidth * groupSize ⌝ }
     ensures { λ r. ⌜ r ≡ groupOk hashBytesOk hashWidth groupSize (now (s .entry)) ⌝ }
 {
-    if s[0] == 0 {
+    let ends = s[0] | s[HASH_WIDTH * (GROUP - 1)];
+    if ends == 0 {
         if octets::is_zero(s) {
             return true;
         }

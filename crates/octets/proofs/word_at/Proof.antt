@@ -54,7 +54,9 @@ number-of-8-requires c κs = search needs
 
 returns : tie.Need-returns
 unfolding number numberFrom word
-returns c = rw (part-eight (c .before .before .before .before .before .before .before .before .before .before .args .t .now) (c .before .before .before .before .before .before .before .before .before .before .args .at) (c .before .before .before .before .before .before .before .before .before .before .pre)) (c .number-of-8 .ensures)
+returns c =
+    let c10 = c .before .before .before .before .before .before .before .before .before .before in
+    rw (part-eight (c10 .args .t .now) (c10 .args .at) (c10 .pre)) (c .number-of-8 .ensures)
 
 pub word-at-spec : {M : Type 1} → statement M
 word-at-spec =

@@ -40,8 +40,10 @@ loop-holds c = (search needs, none-yet _ _ _ _, omega arith)
 
 add-is-live-of : tie.Need-add-is-live-of Inv-loop μ-loop
 add-is-live-of c =
-    let a = c .before .before .before .before .before .args in
-    let w = within (a .tables .now) (a .at) (a .width) (a .count) (c .before .loop .i) (c .before .loop .from) (c .before .before .before .before .before .pre .0) (c .loop-test .taken) (c .before .loop .inv .2) in
+    let c5 = c .before .before .before .before .before in
+    let a = c5 .args in
+    let w = within (a .tables .now) (a .at) (a .width) (a .count) (c .before .loop .i) (c .before .loop .from) (c5 .pre .0) (c .loop-test .taken)
+    (c .before .loop .inv .2) in
     search needs
 
 sub-is-live-of : tie.Need-sub-is-live-of Inv-loop μ-loop
@@ -52,28 +54,39 @@ part-is-live-of-start c = search needs
 
 part-is-live-of-end : tie.Need-part-is-live-of-end Inv-loop μ-loop
 part-is-live-of-end c =
-    let a = c .before .before .before .before .before .args in
-    let w = within (a .tables .now) (a .at) (a .width) (a .count) (c .before .loop .i) (c .before .loop .from) (c .before .before .before .before .before .pre .0) (c .loop-test .taken) (c .before .loop .inv .2) in
+    let c5 = c .before .before .before .before .before in
+    let a = c5 .args in
+    let w = within (a .tables .now) (a .at) (a .width) (a .count) (c .before .loop .i) (c .before .loop .from) (c5 .pre .0) (c .loop-test .taken)
+    (c .before .loop .inv .2) in
     search needs
 
 is-live-of-requires : tie.Need-is-live-of-requires Inv-loop μ-loop
 unfolding lastWord
 is-live-of-requires c κs =
-    let a = c .before .before .before .before .before .before .args in
-    let w = within (a .tables .now) (a .at) (a .width) (a .count) (c .before .before .loop .i) (c .before .before .loop .from) (c .before .before .before .before .before .before .pre .0) (c .before .loop-test .taken) (c .before .before .loop .inv .2) in
+    let c3 = c .before .before .before in
+    let c6 = c3 .before .before .before in
+    let a = c6 .args in
+    let w = within (a .tables .now) (a .at) (a .width) (a .count) (c .before .before .loop .i) (c .before .before .loop .from) (c6 .pre .0)
+    (c .before .loop-test .taken) (c .before .before .loop .inv .2) in
     let wide = range-length (a .tables .now) (c .before .before .loop .from) (a .width) w in
-    (omega (arith, wide, c .before .before .before .before .before .before .pre .1), omega (arith, wide, c .before .before .before .before .before .before .pre .2), c .before .before .before .before .before .before .pre .3, c .before .before .before .word-at .ensures)
+    (omega (arith, wide, c6 .pre .1), omega (arith, wide, c6 .pre .2), c6 .pre .3, c3 .word-at .ensures)
 
 returns : tie.Need-returns Inv-loop μ-loop
 returns c =
-    let a = c .before .before .before .before .before .before .before .before .args in
-    found-here _ _ _ _ _ (row (a .tables .now) (a .at) (a .width) (c .before .before .before .before .loop .i) (c .before .before .before .before .loop .from) (c .before .before .before .before .loop .inv .2)) (c .before .is-live-of .ensures)
-    _ (c .before .before .before .loop-test .taken) (c .if1 .taken) (c .before .before .before .before .loop .inv .1)
+    let c3 = c .before .before .before in
+    let c4 = c3 .before in
+    let c8 = c4 .before .before .before .before in
+    let a = c8 .args in
+    found-here _ _ _ _ _ (row (a .tables .now) (a .at) (a .width) (c4 .loop .i) (c4 .loop .from) (c4 .loop .inv .2)) (c .before .is-live-of .ensures)
+    _ (c3 .loop-test .taken) (c .if1 .taken) (c4 .loop .inv .1)
 
 add-from : tie.Need-add-from Inv-loop μ-loop
 add-from c =
-    let a = c .before .before .before .before .before .before .before .before .args in
-    let w = within (a .tables .now) (a .at) (a .width) (a .count) (c .before .before .before .before .loop .i) (c .before .before .before .before .loop .from) (c .before .before .before .before .before .before .before .before .pre .0) (c .before .before .before .loop-test .taken) (c .before .before .before .before .loop .inv .2) in
+    let c3 = c .before .before .before in
+    let c4 = c3 .before in
+    let c8 = c4 .before .before .before .before in
+    let a = c8 .args in
+    let w = within (a .tables .now) (a .at) (a .width) (a .count) (c4 .loop .i) (c4 .loop .from) (c8 .pre .0) (c3 .loop-test .taken) (c4 .loop .inv .2) in
     search needs
 
 add-i : tie.Need-add-i Inv-loop μ-loop
@@ -84,11 +97,13 @@ loop-less c = search needs
 
 loop-again : tie.Need-loop-again Inv-loop μ-loop
 loop-again c =
-    let a = c .before .before .before .before .before .before .before .before .args in (
+    let c4 = c .before .before .before .before in
+    let c8 = c4 .before .before .before .before in
+    let a = c8 .args in (
       search needs,
-      not-here _ _ _ _ _ (row (a .tables .now) (a .at) (a .width) (c .before .before .before .before .loop .i) (c .before .before .before .before .loop .from) (c .before .before .before .before .loop .inv .2)) (c .before .is-live-of .ensures)
-          (c .if1 .left) (c .before .before .before .before .loop .inv .1),
-      omega (arith, c .before .before .before .before .loop .inv .2, mul-suc (a .width) (c .before .before .before .before .loop .i)),
+      not-here _ _ _ _ _ (row (a .tables .now) (a .at) (a .width) (c4 .loop .i) (c4 .loop .from) (c4 .loop .inv .2)) (c .before .is-live-of .ensures)
+          (c .if1 .left) (c4 .loop .inv .1),
+      omega (arith, c4 .loop .inv .2, mul-suc (a .width) (c4 .loop .i)),
     )
 
 returns-2 : tie.Need-returns-2 Inv-loop μ-loop

@@ -20,8 +20,9 @@ is-zero-requires c κs = search needs
 
 returns : tie.Need-returns
 returns c =
-    let b = c .before .before .before .before .args .b .now in
-    c .is-zero .ensures ∙ ap (λ (k : ℕ). zeros k b) (c .before .before .before .before .pre) ∙ sym (path-test b ∙ slot-unused pathWidth _ b (omega arith) (c .before .if1 .taken))
+    let c4 = c .before .before .before .before in
+    let b = c4 .args .b .now in
+    c .is-zero .ensures ∙ ap (λ (k : ℕ). zeros k b) (c4 .pre) ∙ sym (path-test b ∙ slot-unused pathWidth _ b (omega arith) (c .before .if1 .taken))
 
 shared-slice-read-if2 : tie.Need-shared-slice-read-if2
 shared-slice-read-if2 c = search needs
@@ -38,7 +39,16 @@ shared-slice-read-if3 c = search needs
 
 returns-3 : tie.Need-returns-3
 unfolding pathOk pathOf blobsOf timeOk _and_
-returns-3 c = rw (path-test _, slot-used pathWidth _ _ (c .before .before .before .before .if1 .left), lt-ltb _ _ (c .before .before .if2 .left), lt-ltb _ 256 (c .before .before .before .before .before .before .shared-slice-known .given pathHopsAt .fits), lt-leb _ _ (c .if3 .taken))
+returns-3 c =
+    let c4 = c .before .before .before .before in
+    let c6 = c4 .before .before in
+    rw (
+      path-test _,
+      slot-used pathWidth _ _ (c4 .if1 .left),
+      lt-ltb _ _ (c .before .before .if2 .left),
+      lt-ltb _ 256 (c6 .shared-slice-known .given pathHopsAt .fits),
+      lt-leb _ _ (c .if3 .taken),
+    )
 
 shared-slice-read-if4 : tie.Need-shared-slice-read-if4
 shared-slice-read-if4 c = search needs
@@ -49,7 +59,17 @@ cast-if4 c = search needs
 returns-4 : tie.Need-returns-4
 unfolding pathOk pathOf blobsOf timeOk _and_
 returns-4 c =
-    rw (path-test _, slot-used pathWidth _ _ (c .before .before .before .before .before .before .if1 .left), lt-ltb _ _ (c .before .before .before .before .if2 .left), lt-ltb _ 256 (c .before .before .before .before .before .before .before .before .shared-slice-known .given pathHopsAt .fits), le-leb _ _ (c .before .before .if3 .left), lt-leb _ _ (c .if4 .taken))
+    let c4 = c .before .before .before .before in
+    let c6 = c4 .before .before in
+    let c8 = c6 .before .before in
+    rw (
+      path-test _,
+      slot-used pathWidth _ _ (c6 .if1 .left),
+      lt-ltb _ _ (c4 .if2 .left),
+      lt-ltb _ 256 (c8 .shared-slice-known .given pathHopsAt .fits),
+      le-leb _ _ (c .before .before .if3 .left),
+      lt-leb _ _ (c .if4 .taken),
+    )
 
 number-of-8-at-requires : tie.Need-number-of-8-at-requires
 number-of-8-at-requires c κs = search needs
@@ -57,7 +77,19 @@ number-of-8-at-requires c κs = search needs
 returns-5 : tie.Need-returns-5
 unfolding pathOk pathOf blobsOf timeOk _and_
 returns-5 c =
-    rw (path-test _, slot-used pathWidth _ _ (c .before .before .before .before .before .before .before .if1 .left), lt-ltb _ _ (c .before .before .before .before .before .if2 .left), lt-ltb _ 256 (c .before .before .before .before .before .before .before .before .before .shared-slice-known .given pathHopsAt .fits), le-leb _ _ (c .before .before .before .if3 .left), le-leb _ _ (c .before .if4 .left), ← c .number-of-8-at .ensures)
+    let c3 = c .before .before .before in
+    let c5 = c3 .before .before in
+    let c7 = c5 .before .before in
+    let c9 = c7 .before .before in
+    rw (
+      path-test _,
+      slot-used pathWidth _ _ (c7 .if1 .left),
+      lt-ltb _ _ (c5 .if2 .left),
+      lt-ltb _ 256 (c9 .shared-slice-known .given pathHopsAt .fits),
+      le-leb _ _ (c3 .if3 .left),
+      le-leb _ _ (c .before .if4 .left),
+      ← c .number-of-8-at .ensures,
+    )
 
 pub path-ok-spec : {M : Type 1} → statement M
 path-ok-spec =

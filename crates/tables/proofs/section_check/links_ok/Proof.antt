@@ -33,7 +33,9 @@ is-zero-requires c κs = search needs
 returns : tie.Need-returns
 unfolding linkBytesOk
 returns c =
-    section-free linkBytesOk linksAt linkWidth linkCount (c .before .before .before .before .before .before .args .t .now) (unused linkForm) (omega (arith, c .before .before .before .before .before .before .pre)) (c .before .is-zero .ensures) (c .if2 .taken)
+    let c6 = c .before .before .before .before .before .before in
+    section-free linkBytesOk linksAt linkWidth linkCount (c6 .args .t .now) (unused linkForm) (omega (arith, c6 .pre))
+    (c .before .is-zero .ensures) (c .if2 .taken)
 
 links-each-requires : tie.Need-links-each-requires
 links-each-requires c κs = search needs

@@ -33,7 +33,9 @@ is-zero-requires c κs = search needs
 returns : tie.Need-returns
 unfolding pathBytesOk
 returns c =
-    section-free pathBytesOk pathsAt pathWidth pathCount (c .before .before .before .before .before .before .args .t .now) (unused pathForm) (omega (arith, c .before .before .before .before .before .before .pre)) (c .before .is-zero .ensures) (c .if2 .taken)
+    let c6 = c .before .before .before .before .before .before in
+    section-free pathBytesOk pathsAt pathWidth pathCount (c6 .args .t .now) (unused pathForm) (omega (arith, c6 .pre))
+    (c .before .is-zero .ensures) (c .if2 .taken)
 
 paths-each-requires : tie.Need-paths-each-requires
 paths-each-requires c κs = search needs
