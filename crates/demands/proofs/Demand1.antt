@@ -21,23 +21,25 @@ use Rattle.packet.specs.Write.{leastOutput, packetOf, writingRows, writingRefus
 use Rattle.packet.specs.Hash.{packetHashAnswer, linkIdAnswer}
 use Rattle.packet.specs.declared.Parts.{Parts}
 use Rattle.numbers.specs.Numbers.{portCount, localCount, modeCount, clockLimit}
-use Rattle.rules.specs.Relay.{Relay}
+use Rattle.rules.specs.Relay.{Port, Slot, empty, used, Relay}
 use Rattle.rules.specs.View.{portOn, isLocal}
 use Rattle.rules.specs.Renumbering.{oneToOne}
 use Rattle.rules.specs.Arrival.{Arrival}
 use Rattle.rules.specs.Refusals.{tablesOk, emptyLocal, packetRows, refusalBy}
 use Rattle.octets.specs.Listed.{firstOf}
 use Rattle.rules.specs.Calls.{Setting, packetCall, judge, judged, settled, ruleOf, tableRefusal, settle}
-use Rattle.rules.specs.Run.{Call, packet, on-tables, port-setting, adding, removing, renumbering}
+use Rattle.rules.specs.Run.{Call, packet, on-tables, asks, port-setting, adding, removing, renumbering}
+use Rattle.rules.specs.Questions.{Question, port-settings, local-at, path-at, link-at, live-path, live-returns, live-hashes, last-clock, word-matters, Told, none, a-port, an-address, a-path, a-link, cameWith, toldOf, rowSeven, questionRule, questionRefusal, tell}
 use Rattle.rules.specs.declared.Tally.{Tally}
 use Rattle.tables.specs.Places.{tableSize}
 use Rattle.tables.specs.Layout.{relayOf, wellFormed}
 use Rattle.tables.proofs.Whole.{again, ok-relay}
 use Rattle.tables.specs.Called.{written, called}
+use Rattle.tables.specs.Asked.{tellOn}
 use Rattle.settings.specs.Calls.{freshOn}
 use Rattle.relay.specs.Promise.{inBytes, packetOn}
-use Rattle.demands.specs.Bytes.{ofPacket, ofCalled, performOn}
-use Rattle.demands.specs.Refusals.{refusal, refusalOn, refusing, isRefusal}
+use Rattle.demands.specs.Bytes.{ofPacket, ofCalled, ofAsked, performOn}
+use Rattle.demands.specs.Refusals.{refusal, refusalOn, refusing, isRefused, isRefusal}
 
 -- ---- the statement
 -- a call on the tables `start` and the tally `counts`
@@ -50,11 +52,35 @@ pub record RefusesExactly (c : Call) (start : List ℕ) (counts : Tally) : Type 
 
 -- ---- tables that row 7 names
 pub seven : (c : Call) (t : List ℕ) (tally : Tally) → wellFormed t ≡ false → performOn c t tally ≡ record { reply = refusing c 7; tables = t; tally = tally }
-unfolding performOn packetOn ofPacket ofCalled called refusing _then_otherwise_
+unfolding performOn packetOn ofPacket ofCalled ofAsked called tellOn refusing _then_otherwise_
 seven (packet arrival output) t tally h = rw h
 seven (on-tables c) t tally h = rw h
+seven (asks q) t tally h = rw h
 
 -- ---- all others
+-- what a question is told where no row refuses it is no refusal
+slot-given : {A : Type 0} (tells : A → Told) → ((x : A) → isRefused (tells x) ≡ false) → (slot : Slot A) → isRefused (toldOf tells slot) ≡ false
+unfolding toldOf isRefused
+slot-given tells given empty = refl
+slot-given tells given (used x) = given x
+
+port-given : (b : Bool) (p : Port) → isRefused (b then none otherwise a-port p) ≡ false
+unfolding isRefused _then_otherwise_
+port-given true p = refl
+port-given false p = refl
+
+answer-given : (q : Question) (r : Relay) → isRefused (questionRule q .answer r) ≡ false
+unfolding questionRule isRefused _then_otherwise_
+answer-given (port-settings port) r = port-given (leb portCount port) _
+answer-given (local-at place) r = slot-given an-address (λ _. refl) _
+answer-given (path-at place) r = slot-given a-path (λ _. refl) _
+answer-given (link-at place) r = slot-given a-link (λ _. refl) _
+answer-given (live-path destination clock) r = slot-given a-path (λ _. refl) _
+answer-given (live-returns clock) r = refl
+answer-given (live-hashes clock) r = refl
+answer-given last-clock r = refl
+answer-given (word-matters bytes port clock room) r = refl
+
 module _ (t : List ℕ) (tally : Tally) (b : Bytes t) (h : wellFormed t ≡ true) where
   setting-refused : (n : ℕ) (after : Relay) (call : Relay → Setting) → call (relayOf t) ≡ settled n (relayOf t) after → eqb n 0 ≡ false
       → called t call ≡ record { refusal = n; tables = t }
@@ -68,14 +94,16 @@ module _ (t : List ℕ) (tally : Tally) (b : Bytes t) (h : wellFormed t ≡ true
 
   rows-refused : (c : Call) → eqb (refusal c (relayOf t)) 0 ≡ false
       → performOn c t tally ≡ record { reply = refusing c (refusal c (relayOf t)); tables = t; tally = tally }
-  unfolding performOn packetOn packetCall inBytes ofPacket ofCalled settle refusal refusing _then_otherwise_
+  unfolding performOn packetOn packetCall inBytes ofPacket ofCalled ofAsked settle tellOn tell refusal refusing _then_otherwise_
   rows-refused (packet arrival output) z = rw (h, z, again t b h)
   rows-refused (on-tables c) z = ap (ofCalled tally) (setting-refused _ _ (settle c) refl z)
+  rows-refused (asks q) z = rw (h, z)
 
   rows-accepted : (c : Call) → eqb (refusal c (relayOf t)) 0 ≡ true → isRefusal (performOn c t tally .reply) ≡ false
-  unfolding performOn packetOn packetCall judge judged inBytes ofPacket ofCalled settle refusal isRefusal _then_otherwise_
+  unfolding performOn packetOn packetCall judge judged inBytes ofPacket ofCalled ofAsked settle tellOn tell refusal isRefusal _then_otherwise_
   rows-accepted (packet arrival output) z = rw (h, z)
   rows-accepted (on-tables c) z = setting-accepted _ _ (settle c) refl z
+  rows-accepted (asks q) z = rw (h, z) (answer-given q (relayOf t))
 
 -- ---- the theorem
 -- for every call, and all bytes
@@ -140,6 +168,28 @@ pub renumbering-rows : (images tables : List ℕ)
     → refusalOn (renumbering images) tables ≡ (not (wellFormed tables) then 7 otherwise not (oneToOne images) then 8 otherwise 0)
 unfolding refusalOn refusal tableRefusal ruleOf firstOf
 renumbering-rows images tables = after-seven tables _
+
+-- a question: 7
+pub question-rows : (tables : List ℕ)
+    → (let seven : ℕ = not (wellFormed tables) then 7 otherwise 0 in
+    ((port : ℕ) → refusalOn (asks (port-settings port)) tables ≡ seven)
+    × ((place : ℕ) → refusalOn (asks (local-at place)) tables ≡ seven)
+    × ((place : ℕ) → refusalOn (asks (path-at place)) tables ≡ seven)
+    × ((place : ℕ) → refusalOn (asks (link-at place)) tables ≡ seven)
+    × ((destination : List ℕ) (clock : ℕ) → refusalOn (asks (live-path destination clock)) tables ≡ seven)
+    × ((clock : ℕ) → refusalOn (asks (live-returns clock)) tables ≡ seven)
+    × ((clock : ℕ) → refusalOn (asks (live-hashes clock)) tables ≡ seven)
+    × (refusalOn (asks last-clock) tables ≡ seven))
+unfolding refusalOn refusal questionRefusal questionRule rowSeven firstOf
+question-rows tables =
+    let row = after-seven tables 0 in
+    (λ port. row, λ place. row, λ place. row, λ place. row, λ destination clock. row, λ clock. row, λ clock. row, row)
+
+-- whether the signature word matters: as the packet, whatever its word
+pub word-rows : (bytes : List ℕ) (port clock : ℕ) (word : Bool) (output tables : List ℕ)
+    → refusalOn (asks (word-matters bytes port clock (length output))) tables ≡ refusalOn (packet (cameWith bytes port clock word) output) tables
+unfolding refusalOn refusal questionRefusal questionRule
+word-rows bytes port clock word output tables = refl
 
 -- ---- the calls that take no relay's tables
 -- hashing: 2

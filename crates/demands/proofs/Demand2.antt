@@ -21,7 +21,7 @@ use Rattle.packet.proofs.RoundTrip.{reading-writing, writing-reading, write-pay
 use Rattle.rules.specs.Relay.{Relay, fresh}
 use Rattle.rules.specs.Refusals.{tablesOk}
 use Rattle.rules.specs.Calls.{newTally, Setting, settle}
-use Rattle.rules.specs.Run.{EachCall, Call, packet, on-tables, Reply, Outcome, ofJudgement, ofSetting, perform, replies, relayAfter, tallyAfter}
+use Rattle.rules.specs.Run.{EachCall, Call, packet, on-tables, asks, Reply, Outcome, ofJudgement, ofSetting, ofTold, perform, replies, relayAfter, tallyAfter}
 use Rattle.rules.specs.declared.Tally.{Tally}
 use Rattle.rules.proofs.History.{Fits, CountsHistory, history, history-since-fresh}
 use Rattle.rules.proofs.Valid.{step-ok, stays-ok, fresh-ok}
@@ -30,10 +30,11 @@ use Rattle.tables.specs.Layout.{relayOf, bytesOf, wellFormed}
 use Rattle.tables.specs.Shape.{isBytes, shaped}
 use Rattle.tables.proofs.Whole.{again, ok-relay, shaped-of, back, ok-bytes, bytes-bytes}
 use Rattle.tables.specs.Called.{Called, written, called}
+use Rattle.tables.specs.Asked.{tellOn}
 use Rattle.settings.specs.Calls.{freshOn}
 use Rattle.demands.specs.Given.{CallsBytes}
 use Rattle.relay.specs.Promise.{inBytes, packetOn}
-use Rattle.demands.specs.Bytes.{OutcomeOn, ofPacket, ofCalled, performOn, repliesOn, tablesAfterOn, tallyAfterOn}
+use Rattle.demands.specs.Bytes.{OutcomeOn, ofPacket, ofCalled, ofAsked, performOn, repliesOn, tablesAfterOn, tallyAfterOn}
 use Rattle.demands.proofs.Shape.{step-shaped, stays-shaped, fresh-shaped}
 
 -- ---- the statement
@@ -55,9 +56,10 @@ module _ (r : Relay) (s : shaped r ≡ true) (ok : tablesOk r ≡ true) (t : Tal
   called-bytes call = rw (ok-bytes r s ok, back r s ok)
 
   pub call-on : (c : Call) → performOn c (bytesOf r) t ≡ outcomeOn (perform c r t)
-  unfolding performOn perform packetOn inBytes ofPacket ofJudgement outcomeOn _then_otherwise_
+  unfolding performOn perform packetOn inBytes ofPacket ofJudgement ofAsked ofTold tellOn outcomeOn _then_otherwise_
   call-on (packet arrival output) = rw (ok-bytes r s ok, back r s ok)
   call-on (on-tables c) = called-bytes (settle c)
+  call-on (asks q) = rw (ok-bytes r s ok, back r s ok)
 
 -- ---- lists of calls on a relay's bytes
 pub run-on : (cs : List Call) (r : Relay) (t : Tally) → CallsBytes cs → tablesOk r ≡ true → shaped r ≡ true → FollowsTheRules cs (bytesOf r) t r

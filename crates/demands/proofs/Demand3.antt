@@ -16,7 +16,7 @@ use Rattle.rules.specs.Renumbering.{oneToOne, renumbered, composed}
 use Rattle.rules.specs.Refusals.{all, tablesOk}
 use Rattle.octets.specs.Listed.{firstOf}
 use Rattle.rules.specs.Calls.{newTally, settled, ruleOf, tableRefusal, settle}
-use Rattle.rules.specs.Run.{EachCall, Call, packet, on-tables, renumbering, Reply, numbered, relayAfter, renameArrival, renameCall, renameReply, noneRenumbers}
+use Rattle.rules.specs.Run.{EachCall, Call, packet, on-tables, asks, renumbering, Reply, numbered, relayAfter, renameArrival, renameCall, renameReply, noneRenumbers}
 use Rattle.rules.specs.declared.Tally.{Tally}
 use Rattle.rules.proofs.Valid.{stays-ok, fresh-ok}
 use Rattle.rules.proofs.CallsRenamed.{addresses-renamed}
@@ -82,6 +82,7 @@ call-given : (m : List ℕ) (c : Call) → CallBytes c → CallBytes (renameCall
 unfolding CallBytes renameCall renameArrival
 call-given m (packet arrival output) b = b
 call-given m (on-tables c) b = rw (addresses-renamed m c) b
+call-given m (asks q) b = b
 
 renamed-given : (m : List ℕ) (cs : List Call) → CallsBytes cs → CallsBytes (map (renameCall m) cs)
 unfolding EachCall

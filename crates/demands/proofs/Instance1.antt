@@ -10,7 +10,8 @@ use Rattle.octets.specs.Bytes.{Bytes}
 use Rattle.octets.specs.Choice.{_then_otherwise_}
 use Rattle.rules.specs.Relay.{used, Relay, makeRelay}
 use Rattle.rules.specs.Calls.{newTally}
-use Rattle.rules.specs.Run.{Call, packet, port-setting, adding, removing, renumbering, Reply, numbered}
+use Rattle.rules.specs.Run.{Call, packet, asks, port-setting, adding, removing, renumbering, Reply, numbered}
+use Rattle.rules.specs.Questions.{last-clock, word-matters}
 use Rattle.rules.specs.declared.Tally.{Tally}
 use Rattle.rules.proofs.Unfolding.{rules}
 use Rattle.rules.proofs.Scene.{own, dataBytes, receiptBytes, arrival, arrives}
@@ -71,6 +72,10 @@ pub seven : RefusedOn [] (arrives (receiptBytes 5) 2500 1) 7
 unfolding refusalOn wellFormed _then_otherwise_ rules
 seven = by-row [] (λ i. lit< tt) (arrives (receiptBytes 5) 2500 1) 7 refl refl
 
+pub seven-asked : RefusedOn [] (asks last-clock) 7
+unfolding refusalOn wellFormed _then_otherwise_ rules
+seven-asked = by-row [] (λ i. lit< tt) (asks last-clock) 7 refl refl
+
 -- sixteen local addresses
 abbrev fullRelay : Relay
 fullRelay =
@@ -97,6 +102,9 @@ pub rows : Refused (packet (arrival (receiptBytes 5) 2500 1) (replicate 499 0xee
     × Refused (adding guest) 11
     × Refused (removing own) 11
     × Refused (renumbering []) 8
+    × Refused (asks (word-matters (receiptBytes 5) 1 2500 499)) 6
+    × Refused (asks (word-matters (receiptBytes 5) 77 2500 500)) 4
+    × Refused (asks (word-matters (take 34 dataBytes) 1 2500 500)) 1
 unfolding refusal rules
 rows = (
   refused _ 6 refl refl,
@@ -111,6 +119,9 @@ rows = (
   refused _ 11 refl refl,
   refused _ 11 refl refl,
   refused _ 8 refl refl,
+  refused _ 6 refl refl,
+  refused _ 4 refl refl,
+  refused _ 1 refl refl,
 )
 
 -- ---- no row: no refusal
@@ -121,14 +132,14 @@ accepted =
     (ap (λ (n : ℕ). eqb n 0) (row-is (arrives (receiptBytes 5) 2500 1) refl))
 
 -- ---- after a refusal: the calls later reply as they would without it
-later-said : repliesOn later tables tally ≡ saidLater 2
+later-said : repliesOn later tables tally ≡ saidLater 2 1
 later-said =
     ap (λ (t : List ℕ). repliesOn later t tally) tables-are
     ∙ ap (repliesOn later (bytesOf midwayRelay)) (there .tally)
     ∙ run-on later midwayRelay midwayTally (given-later 1 5) (midway .ok) (midway .shape) .answers
     ∙ later-run .answers
 
-pub after-refusal : repliesOn (adding guest ∷ later) tables tally ≡ numbered 11 ∷ saidLater 2
+pub after-refusal : repliesOn (adding guest ∷ later) tables tally ≡ numbered 11 ∷ saidLater 2 1
 unfolding repliesOn refusal refusing rules
 after-refusal =
     ap (λ (o : OutcomeOn). o .reply ∷ repliesOn later (o .tables) (o .tally)) (refused (adding guest) 11 refl refl)

@@ -83,10 +83,10 @@ held {cs} given run =
 pub given : CallsBytes (before ++ later)
 given = both-given before later given-before (given-later 1 5)
 
-pub plain : Goes (before ++ later) (saidBefore ++ saidLater 2) (lastRelay plainPorts 1) lastTally
+pub plain : Goes (before ++ later) (saidBefore ++ saidLater 2 1) (lastRelay plainPorts 1) lastTally
 plain = goes given plain-run
 
--- ---- counts-history-fresh: of the sixteen replies five are verdicts
+-- ---- counts-history-fresh: of the nineteen replies five are verdicts
 abbrev last : Tally
 last = tallyAfterOn (before ++ later) start newTally
 

@@ -1,5 +1,5 @@
 -- Demand 3's theorems on one list of calls. The renumbering that is put in moves every port one up: the receipt comes in by 2, once 1, and leaves by 3,
--- once 2. Port 77, outside the sixteen, stays.
+-- once 2; the path that is told leaves by 2, once 1. Port 77, outside the sixteen, stays.
 use Prim.Native.Nat.{ℕ}
 use mathlib.Core.Bool.{true}
 use mathlib.Core.List.{List, [], _∷_, _++_, map}
@@ -9,6 +9,7 @@ use Rattle.rules.specs.Relay.{Port, freshPort, makePort, Relay}
 use Rattle.rules.specs.Renumbering.{oneToOne, renumbered, composed}
 use Rattle.rules.specs.Answers.{renameVerdict, renameAnswer}
 use Rattle.rules.specs.Calls.{newTally}
+use Rattle.rules.specs.Questions.{renameTold}
 use Rattle.rules.specs.Run.{Call, renumbering, Reply, numbered, renameArrival, renameCall, renameReply, movesPorts, noneRenumbers}
 use Rattle.rules.proofs.Unfolding.{rules}
 use Rattle.rules.proofs.Scene.{own}
@@ -30,11 +31,11 @@ end-held =
     ap relayOf (plain .tables) ∙ back end (tables-hold .shape) (tables-hold .ok)
 
 -- ---- forgets-nothing-fresh, by a map of which it is given what the last calls, their replies and the end become
-module _ (m : List ℕ) (ok : oneToOne m ≡ true) {from port by by-path : ℕ} {ports : List Port}
+module _ (m : List ℕ) (ok : oneToOne m ≡ true) {from port by path : ℕ} {ports : List Port}
     (calls : map (renameCall m) later ≡ laterBy from port)
-    (said : map (renameReply m) (saidLater 2) ≡ saidLater by)
-    (after : renumbered m end ≡ lastRelay ports by-path) where
-  pub put-in : Goes (before ++ (renumbering m ∷ laterBy from port)) (saidBefore ++ (numbered 0 ∷ saidLater by)) (lastRelay ports by-path) lastTally
+    (said : map (renameReply m) (saidLater 2 1) ≡ saidLater by path)
+    (after : renumbered m end ≡ lastRelay ports path) where
+  pub put-in : Goes (before ++ (renumbering m ∷ laterBy from port)) (saidBefore ++ (numbered 0 ∷ saidLater by path)) (lastRelay ports path) lastTally
   unfolding rules noneRenumbers movesPorts
   put-in =
       let holds = forgets-nothing-fresh before later given-before (given-later 1 5) buffer own size sixteen m ok refl in
@@ -65,8 +66,8 @@ one-up-ok = refl
 abbrev onePorts : List Port
 onePorts = freshPort ∷ freshPort ∷ makePort true 2 ∷ makePort true 0 ∷ freshPort ∷ freshPort ∷ makePort true 1 ∷ replicate 9 freshPort
 
-pub one-up : Goes (before ++ (renumbering oneUp ∷ laterBy 2 6)) (saidBefore ++ (numbered 0 ∷ saidLater 3)) (lastRelay onePorts 2) lastTally
-unfolding rules renameCall renameArrival renameReply renameAnswer renameVerdict
+pub one-up : Goes (before ++ (renumbering oneUp ∷ laterBy 2 6)) (saidBefore ++ (numbered 0 ∷ saidLater 3 2)) (lastRelay onePorts 2) lastTally
+unfolding rules renameCall renameArrival renameReply renameAnswer renameVerdict renameTold
 one-up = put-in oneUp one-up-ok refl refl refl
 
 -- ---- two-are-one-fresh: one up, and then 2 and 3 change places
@@ -92,12 +93,12 @@ both-ok = refl
 abbrev bothPorts : List Port
 bothPorts = freshPort ∷ freshPort ∷ makePort true 0 ∷ makePort true 2 ∷ freshPort ∷ freshPort ∷ makePort true 1 ∷ replicate 9 freshPort
 
-pub at-once : Goes (before ++ (renumbering both ∷ laterBy 3 6)) (saidBefore ++ (numbered 0 ∷ saidLater 2)) (lastRelay bothPorts 3) lastTally
-unfolding rules renameCall renameArrival renameReply renameAnswer renameVerdict
+pub at-once : Goes (before ++ (renumbering both ∷ laterBy 3 6)) (saidBefore ++ (numbered 0 ∷ saidLater 2 3)) (lastRelay bothPorts 3) lastTally
+unfolding rules renameCall renameArrival renameReply renameAnswer renameVerdict renameTold
 at-once = put-in both both-ok refl refl refl
 
 pub in-a-row : Goes (before ++ (renumbering oneUp ∷ renumbering swap ∷ laterBy 3 6))
-    (saidBefore ++ (numbered 0 ∷ numbered 0 ∷ saidLater 2)) (lastRelay bothPorts 3) lastTally
+    (saidBefore ++ (numbered 0 ∷ numbered 0 ∷ saidLater 2 3)) (lastRelay bothPorts 3) lastTally
 in-a-row =
     let holds = two-are-one-fresh before (laterBy 3 6) given-before (given-later 3 6) buffer own size sixteen oneUp swap one-up-ok swap-ok in
     let once : before ++ (renumbering (composed oneUp swap) ∷ laterBy 3 6) ≡ before ++ (renumbering both ∷ laterBy 3 6) =

@@ -11,18 +11,21 @@ use Rattle.packet.specs.Hash.{packetHash}
 use Rattle.rules.specs.Relay.{freshPort, makePort, Port, makeRelay, empty, used, Relay, fresh, withPathPort}
 use Rattle.rules.specs.View.{viewAt}
 use Rattle.rules.specs.Refusals.{all, tableOk}
-use Rattle.rules.specs.Calls.{newTally, ruleOf}
-use Rattle.rules.specs.Run.{EachCall, Call, port-setting, adding, removing, renumbering, Reply, answered, numbered, Outcome, ofSetting, perform, replies, relayAfter, tallyAfter}
+use Rattle.rules.specs.Judging.{Plan}
+use Rattle.rules.specs.Calls.{newTally, packetCall, ruleOf}
+use Rattle.rules.specs.Questions.{path-at, link-at, word-matters, Told, none, a-path, yes-or-no, cameWith, tell}
+use Rattle.rules.specs.Run.{EachCall, Call, asks, port-setting, adding, removing, renumbering, Reply, answered, numbered, told, Outcome, ofSetting, ofTold, perform, replies, relayAfter, tallyAfter}
 use Rattle.rules.specs.declared.Reason.the-variants.{Duplicate}
 use Rattle.rules.specs.declared.Verdict.the-variants.{Drop}
 use Rattle.rules.specs.declared.Answer.the-variants.{Refused, Judged}
 use Rattle.rules.specs.declared.Tally.{Tally}
 use Rattle.rules.proofs.Unfolding.{rules}
-use Rattle.rules.proofs.Shortcut.{passes, seen-quick, goodPlan, goodJudge}
+use Rattle.rules.proofs.Shortcut.{passes, seen-quick, goodPlan, plan-good, goodJudge}
 use Rattle.rules.proofs.Passed.{ofTest}
 use Rattle.rules.proofs.Scene.{own, blank, announceBytes, dataBytes, dataKey, receiptBytes, arrives, prepared}
 use Rattle.rules.proofs.Outcomes.{spreads, forwards, spreadBytes, dataLastHop, relayOf, remembers, knownPath, preparedRelay, announcedRelay, carriedRelay, judged-at, announce-form, announce-new, data-new, data-key, prepared-is}
 use Rattle.rules.proofs.Sanity.{oneUp}
+use Rattle.rules.proofs.SignatureWord.{word-matters-exactly}
 use Rattle.tables.specs.Shape.{isByte, isBytes}
 use Rattle.demands.specs.Given.{CallBytes, CallsBytes}
 
@@ -58,6 +61,10 @@ laterBy from port =
     -- no port: 9
     ∷ port-setting 77 true 1
     ∷ removing guest
+    -- the path; whether the announce's signature would matter, now that it is remembered no more; and what is no place
+    ∷ asks (path-at 0)
+    ∷ asks (word-matters announceBytes from 3000 500)
+    ∷ asks (link-at 64)
     ∷ []
 
 abbrev pub later : List Call
@@ -70,7 +77,7 @@ given-before = (refl, (refl, (refl, (refl, (refl, (refl, (refl, (refl, (refl, tt
 
 pub given-later : (from port : ℕ) → CallsBytes (laterBy from port)
 unfolding EachCall CallBytes ruleOf isBytes isByte tableOk all _and_
-given-later from port = (refl, (refl, (refl, (refl, (refl, (refl, (refl, tt)))))))
+given-later from port = (refl, (refl, (refl, (refl, (refl, (refl, (refl, (tt, (tt, (tt, tt))))))))))
 
 -- ---- a list of calls by the rules
 pub record Runs (cs : List Call) (r : Relay) (t : Tally) (said : List Reply) (after : Relay) (counts : Tally) : Type 0 where
@@ -111,10 +118,11 @@ saidBefore =
     numbered 0 ∷ numbered 0 ∷ numbered 0 ∷ numbered 0 ∷ numbered 11
     ∷ spreads spreadBytes 2 ∷ duplicate ∷ unknownPort ∷ forwards dataLastHop 1 ∷ []
 
--- the receipt leaves by this port
-abbrev pub saidLater : ℕ → List Reply
-saidLater by =
-    unknownPort ∷ numbered 8 ∷ forwards (receiptBytes 6) by ∷ duplicate ∷ numbered 0 ∷ numbered 9 ∷ numbered 0 ∷ []
+-- the receipt leaves by this port, and the path by that one
+abbrev pub saidLater : (by path : ℕ) → List Reply
+saidLater by path =
+    unknownPort ∷ numbered 8 ∷ forwards (receiptBytes 6) by ∷ duplicate ∷ numbered 0 ∷ numbered 9 ∷ numbered 0
+    ∷ told (a-path (withPathPort path knownPath)) ∷ told (yes-or-no true) ∷ told none ∷ []
 
 -- the guest in the lowest place
 abbrev pub hosting : Relay → Relay
@@ -230,6 +238,36 @@ guest-removed : perform (removing guest) (hosting (lastRelay plainPorts 1)) last
 unfolding rules
 guest-removed = refl
 
+path-told : perform (asks (path-at 0)) (lastRelay plainPorts 1) lastTally
+    ≡ record { reply = told (a-path knownPath); relay = lastRelay plainPorts 1; tally = lastTally }
+unfolding rules
+path-told = refl
+
+announce-forgotten : viewAt 3000 (lastRelay plainPorts 1) .remembered (packetHash announceBytes) ≡ false
+unfolding rules passes
+announce-forgotten = seen-quick 3000 (lastRelay plainPorts 1) (packetHash announceBytes) refl
+
+word-yes : tell (word-matters announceBytes 1 3000 500) (lastRelay plainPorts 1) ≡ yes-or-no true
+unfolding rules goodPlan
+word-yes =
+    ap (λ (todo : Plan). yes-or-no (ofTest 9 todo))
+    (plan-good (viewAt 3000 (lastRelay plainPorts 1)) (cameWith announceBytes 1 3000 false) announce-forgotten announce-form)
+
+-- so the two words give two answers
+pub words-differ : packetCall (cameWith announceBytes 1 3000 true) (lastRelay plainPorts 1) lastTally blank .answer
+    ≡ packetCall (cameWith announceBytes 1 3000 false) (lastRelay plainPorts 1) lastTally blank .answer → ⊥
+words-differ = word-matters-exactly (cameWith announceBytes 1 3000 false) (lastRelay plainPorts 1) lastTally blank .yes-differs word-yes
+
+word-told : perform (asks (word-matters announceBytes 1 3000 500)) (lastRelay plainPorts 1) lastTally
+    ≡ record { reply = told (yes-or-no true); relay = lastRelay plainPorts 1; tally = lastTally }
+unfolding perform ofTold
+word-told = ap (λ (x : Told). record { reply = told x; relay = lastRelay plainPorts 1; tally = lastTally }) word-yes
+
+nothing-told : perform (asks (link-at 64)) (lastRelay plainPorts 1) lastTally
+    ≡ record { reply = told none; relay = lastRelay plainPorts 1; tally = lastTally }
+unfolding rules
+nothing-told = refl
+
 -- ---- all of them
 abbrev pub midwayRelay : Relay
 midwayRelay = hosting (carriedRelay dataKey)
@@ -237,9 +275,10 @@ midwayRelay = hosting (carriedRelay dataKey)
 abbrev pub midwayTally : Tally
 midwayTally = counting 1 1 1
 
-pub later-run : Runs later midwayRelay midwayTally (saidLater 2) (lastRelay plainPorts 1) lastTally
+pub later-run : Runs later midwayRelay midwayTally (saidLater 2 1) (lastRelay plainPorts 1) lastTally
 later-run =
-    receipt-refused first map-refused first receipt-home first receipt-dropped first port-set first no-port first guest-removed first no-call
+    receipt-refused first map-refused first receipt-home first receipt-dropped first port-set first no-port first guest-removed
+    first path-told first word-told first nothing-told first no-call
 
 second-port : perform (port-setting 2 true 0) (perform (port-setting 1 true 2) (fresh own) newTally .relay) newTally
     ≡ record { reply = numbered 0; relay = preparedRelay; tally = newTally }
@@ -255,5 +294,5 @@ before-then rest =
 pub before-run : Runs before (fresh own) newTally saidBefore midwayRelay midwayTally
 before-run = before-then no-call
 
-pub plain-run : Runs (before ++ later) (fresh own) newTally (saidBefore ++ saidLater 2) (lastRelay plainPorts 1) lastTally
+pub plain-run : Runs (before ++ later) (fresh own) newTally (saidBefore ++ saidLater 2 1) (lastRelay plainPorts 1) lastTally
 plain-run = before-then later-run

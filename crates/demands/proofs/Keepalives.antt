@@ -11,7 +11,7 @@ use Rattle.octets.specs.Choice.{_then_otherwise_}
 use Rattle.rules.specs.Relay.{Relay}
 use Rattle.rules.specs.Refusals.{tablesOk}
 use Rattle.rules.specs.Arrival.{Arrival}
-use Rattle.rules.specs.Run.{Call, packet, on-tables, EachCall, Outcome, perform}
+use Rattle.rules.specs.Run.{Call, packet, on-tables, asks, EachCall, Outcome, perform}
 use Rattle.rules.specs.Keepalives.{keepsAlive, UpAt, Carried, accepted, Starts, InTime, CarriedIf, IsUp, Lasts}
 use Rattle.rules.specs.declared.Link.{Link}
 use Rattle.rules.specs.declared.Tally.{Tally}
@@ -32,6 +32,7 @@ by-rules : (c : Call) (r : Relay) → eqb (refusal c r) 0 ≡ accepted c r
 unfolding refusal accepted
 by-rules (packet a output) r = refl
 by-rules (on-tables c) r = refl
+by-rules (asks q) r = refl
 
 module _ (r : Relay) (s : shaped r ≡ true) (ok : tablesOk r ≡ true) where
   pub accepted-bytes : (c : Call) → eqb (refusalOn c (bytesOf r)) 0 ≡ accepted c r

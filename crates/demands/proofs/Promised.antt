@@ -4,12 +4,14 @@ use mathlib.Core.Bool.{Bool}
 use mathlib.Core.List.{List}
 use mathlib.Core.Path.{_≡_, refl}
 use Rattle.rules.specs.Arrival.{Arrival}
-use Rattle.rules.specs.Run.{packet, port-setting, adding, removing, renumbering}
+use Rattle.rules.specs.Run.{packet, asks, port-setting, adding, removing, renumbering}
+use Rattle.rules.specs.Questions.{Question}
 use Rattle.rules.specs.declared.Tally.{Tally}
+use Rattle.tables.specs.Asked.{tellOn}
 use Rattle.settings.specs.Calls.{setPortOn, addLocalOn, removeLocalOn}
 use Rattle.renumbering.specs.Calls.{renumberOn}
 use Rattle.relay.specs.Promise.{packetOn}
-use Rattle.demands.specs.Bytes.{ofPacket, ofCalled, performOn}
+use Rattle.demands.specs.Bytes.{ofPacket, ofCalled, ofAsked, performOn}
 
 module _ (tables : List ℕ) (tally : Tally) where
   pub packet-promised : (a : Arrival) (output : List ℕ)
@@ -32,3 +34,7 @@ module _ (tables : List ℕ) (tally : Tally) where
   pub renumbering-promised : (images : List ℕ) → performOn (renumbering images) tables tally ≡ ofCalled tally (renumberOn tables images)
   unfolding performOn
   renumbering-promised images = refl
+
+  pub question-promised : (q : Question) → performOn (asks q) tables tally ≡ ofAsked tables tally (tellOn tables q)
+  unfolding performOn
+  question-promised q = refl

@@ -27,7 +27,7 @@ use Rattle.octets.proofs.ListOf.{listOf-length, listOf-at}
 use Rattle.rules.specs.Relay.{Relay}
 use Rattle.rules.specs.Renumbering.{image, oneToOne}
 use Rattle.rules.specs.Answers.{renameAnswer}
-use Rattle.rules.specs.Run.{EachCall, Call, renumbering, Reply, answered, numbered, replies, relayAfter, tallyAfter, renameArrival, renameCall, renameReply, movesPorts, noneRenumbers}
+use Rattle.rules.specs.Run.{EachCall, Call, renumbering, Reply, answered, numbered, told, replies, relayAfter, tallyAfter, renameArrival, renameCall, renameReply, movesPorts, noneRenumbers}
 use Rattle.rules.specs.declared.Answer.{Answer}
 use Rattle.rules.specs.declared.Answer.the-variants.{Refused}
 use Rattle.rules.specs.declared.Tally.{Tally}
@@ -282,6 +282,7 @@ unfolding answerIn renameReply renameAnswer
 answers-renamed m [] = refl
 answers-renamed m (answered a o ∷ rs) = ap (λ (l : List Answer). renameAnswer m a ∷ l) (answers-renamed m rs)
 answers-renamed m (numbered n ∷ rs) = ap (λ (l : List Answer). Refused n ∷ l) (answers-renamed m rs)
+answers-renamed m (told x ∷ rs) = ap (λ (l : List Answer). Refused 0 ∷ l) (answers-renamed m rs)
 
 none-renumbers : (es : List Entry) → noneRenumbers (map callOf es) ≡ true
 unfolding noneRenumbers movesPorts callOf _and_

@@ -17,7 +17,7 @@ use Rattle.rules.specs.Ways.{Way, everywhere, by-path, along-link, by-return, b
 use Rattle.rules.specs.Judging.{Plan, dropped, delivered, follows, plan}
 use Rattle.rules.specs.Writes.{putNext, remember, putPath, emptiedWhere, putReturn, emptyReturn, putLink, renewLink, enact}
 use Rattle.rules.specs.Calls.{TableCall, sets-port, adds, removes, renumbers, ruleOf}
-use Rattle.rules.specs.Run.{Call, packet, on-tables, perform, relayAfter}
+use Rattle.rules.specs.Run.{Call, packet, on-tables, asks, ofTold, perform, relayAfter}
 use Rattle.rules.specs.declared.Link.{Link}
 use Rattle.rules.specs.declared.Tally.{Tally}
 use Rattle.rules.proofs.Held.{WayKeeps, PlanKeeps, TableKeeps, enact-held, table-held, packet-kept, table-kept, stays}
@@ -100,10 +100,11 @@ table-keeps (renumbers images) r b s = (
 )
 
 call-shaped : (c : Call) (r : Relay) (t : Tally) → CallBytes c → Valid r → Shaped r → Shaped (perform c r t .relay)
-unfolding CallBytes
+unfolding CallBytes perform ofTold
 call-shaped (packet a output) r t b ok s =
     packet-kept Shaped s a t output (λ e. enacted r ok s a (is-each _ (a .bytes) b) (accepted-whole r a (length output) e))
 call-shaped (on-tables c) r t b ok s = table-kept Shaped s c t (λ _. table-held s c (table-keeps c r b s))
+call-shaped (asks q) r t b ok s = s
 
 -- one call keeps the shape
 pub step-shaped : (c : Call) (r : Relay) (t : Tally) → CallBytes c → tablesOk r ≡ true → shaped r ≡ true → shaped (perform c r t .relay) ≡ true

@@ -1,9 +1,11 @@
 -- The calls on the bytes that a caller lends, one after the other: each gets the tables and the tally that the one before left.
 use Prim.Native.Nat.{ℕ}
 use mathlib.Core.List.{List, [], _∷_}
-use Rattle.rules.specs.Run.{Call, packet, on-tables, Reply, answered, numbered}
+use Rattle.rules.specs.Run.{Call, packet, on-tables, asks, Reply, answered, numbered, told}
+use Rattle.rules.specs.Questions.{Told}
 use Rattle.rules.specs.declared.Tally.{Tally}
 use Rattle.tables.specs.Called.{Called, callOn}
+use Rattle.tables.specs.Asked.{tellOn}
 use Rattle.relay.specs.Promise.{JudgementOn, packetOn}
 
 -- ---- any call
@@ -18,10 +20,15 @@ ofPacket o = record { reply = answered (o .answer) (o .output); tables = o .tabl
 unfoldable pub ofCalled : Tally → Called → OutcomeOn
 ofCalled tally c = record { reply = numbered (c .refusal); tables = c .tables; tally = tally }
 
+-- a question leaves the tables and the tally
+unfoldable pub ofAsked : List ℕ → Tally → Told → OutcomeOn
+ofAsked tables tally x = record { reply = told x; tables = tables; tally = tally }
+
 unfoldable pub performOn : Call → List ℕ → Tally → OutcomeOn
 performOn (packet arrival output) tables tally =
     ofPacket (packetOn (arrival .bytes) (arrival .port) (arrival .clock) (arrival .signed) tables tally output)
 performOn (on-tables c) tables tally = ofCalled tally (callOn tables c)
+performOn (asks q) tables tally = ofAsked tables tally (tellOn tables q)
 
 -- ---- lists of calls: what each replies, and the tables and the tally after the last
 unfoldable pub repliesOn : List Call → List ℕ → Tally → List Reply

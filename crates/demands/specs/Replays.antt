@@ -6,7 +6,7 @@ use lib.Dec.{eqb}
 use lib.ListN.{replicate}
 use Rattle.packet.specs.Write.{leastOutput}
 use Rattle.rules.specs.Renumbering.{image}
-use Rattle.rules.specs.Run.{Call, packet, Reply, answered, numbered}
+use Rattle.rules.specs.Run.{Call, packet, Reply, answered, numbered, told}
 use Rattle.rules.specs.declared.Answer.{Answer}
 use Rattle.rules.specs.declared.Answer.the-variants.{Refused}
 use Rattle.rules.specs.declared.Tally.{Tally}
@@ -22,10 +22,11 @@ callOf e = packet (record { bytes = e .body; port = e .port; clock = e .clock; s
 unfoldable pub callsOf : List ℕ → List Call
 callsOf file = map callOf (entriesOf file)
 
--- a reply without its output
+-- a packet call's reply without its output. Calls of other kinds are none of a replay's, and what is given for their replies is never read
 unfoldable pub answerIn : Reply → Answer
 answerIn (answered answer output) = answer
 answerIn (numbered refusal) = Refused refusal
+answerIn (told x) = Refused 0
 
 -- answers, tables and tally of a replay are those of these calls, one by one
 pub record IsPerformed (r : ReplayOn) (cs : List Call) (start : List ℕ) (counts : Tally) : Type 0 where

@@ -29,6 +29,8 @@ pub use ports::port_on;
 pub use returns::return_arrival;
 pub use returns::return_leaving;
 pub use returns::return_place;
+pub use search::is_live;
+pub use search::record_at;
 use tables::places::CLOCK_AT;
 ghost use mathlib.Core.Path.{_≡_};
 ghost use lib.ListN.{length};

@@ -29,7 +29,7 @@ pub fn has_key(b: &[u8], key: &[u8]) -> bool
 }
 
 // Whether a record is used and ends after the clock.
-fn is_live(b: &[u8], expiry: usize, clock: u64) -> bool
+pub fn is_live(b: &[u8], expiry: usize, clock: u64) -> bool
     requires { ⌜ expiry + timeWidth ≤ length (now b) ⌝ }
     ensures { λ r. ⌜ r ≡ isLive expiry clock (now (b .entry)) ⌝ }
 {

@@ -1,8 +1,9 @@
 // The packet call: a packet is refused, or decided, acted on and counted.
-// Entry points: judge, with the tally by value (crates/haskumye lends it to hosts by `&mut`), and reason_number. They
-// have no `requires`, and end on any bytes.
+// Entry points: judge, with the tally by value (crates/haskumye lends it to hosts by `&mut`), signature_matters and
+// reason_number. They have no `requires`, and end on any bytes.
 mod reasons;
 mod refusals;
+mod signature;
 mod tallies;
 
 use plan::Arrived;
@@ -12,6 +13,8 @@ use rules::Answer;
 use rules::Reason;
 use rules::Tally;
 use rules::Verdict;
+pub use signature::MATTERS;
+pub use signature::signature_matters;
 use tallies::counted;
 ghost use Rattle.relay.specs.Promise.{Promises, packetOn};
 

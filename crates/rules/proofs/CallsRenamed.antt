@@ -5,20 +5,19 @@ use mathlib.Core.List.{List}
 use mathlib.Core.Path.{_≡_, refl, sym, ap, _∙_}
 use lib.Dec.{eqb}
 use lib.ListN.{length, set}
-use borrow.Author.Tests.{eqb-true, not-false}
+use borrow.Author.Tests.{not-false}
 use Rattle.octets.specs.Choice.{_then_otherwise_}
 use Rattle.octets.proofs.Choice.{then-ap}
-use Rattle.octets.proofs.Index.{and-left, and-right}
 use Rattle.octets.specs.Listed.{firstOf}
 use Rattle.rules.specs.Relay.{Port, Relay, withPorts, withLocals}
 use Rattle.rules.specs.View.{View, viewAt, isLocal, localPlace}
 use Rattle.rules.specs.Renumbering.{image, oneToOne, renumbered}
-use Rattle.rules.specs.Refusals.{tableOk, tablesOk, packetRows, packetRefusal, refusalBy, emptyLocal}
+use Rattle.rules.specs.Refusals.{tablesOk, packetRefusal, emptyLocal}
 use Rattle.rules.specs.Arrival.{Arrival}
 use Rattle.rules.specs.Answers.{renameVerdict, renameAnswer}
 use Rattle.rules.specs.Judging.{Plan, plan, verdict}
 use Rattle.rules.specs.Calls.{counted, Judgement, judged, judge, packetCall, Setting, settled, TableCall, sets-port, adds, removes, renumbers, ruleOf, tableRefusal, settle}
-use Rattle.rules.specs.Run.{Call, packet, on-tables, renumbering, numbered, movesPorts, Outcome, ofJudgement, ofSetting, perform, renameArrival, renameCall, renameReply}
+use Rattle.rules.specs.Run.{Call, packet, on-tables, asks, renumbering, numbered, movesPorts, Outcome, ofJudgement, ofSetting, ofTold, perform, renameArrival, renameCall, renameReply}
 use Rattle.rules.specs.declared.Verdict.{Verdict}
 use Rattle.rules.specs.declared.Verdict.the-variants.{Drop, Deliver, Forward, Spread, Kept}
 use Rattle.rules.specs.declared.Answer.the-variants.{Refused, Judged}
@@ -27,9 +26,10 @@ use Rattle.octets.proofs.Listed.{NoneHolds}
 use Rattle.rules.proofs.Rows.{table-passed}
 use Rattle.rules.proofs.Images.{image-leb}
 use Rattle.rules.proofs.MovedPorts.{moved-set}
-use Rattle.rules.proofs.ViewRenamed.{renameView, no-port-on, on-image, view-renamed}
+use Rattle.rules.proofs.ViewRenamed.{renameView, no-port-on, view-renamed}
 use Rattle.rules.proofs.PlanRenamed.{renamePlan, plan-renamed, verdict-renamed, output-renamed}
 use Rattle.rules.proofs.WritesRenamed.{enact-renamed}
+use Rattle.rules.proofs.QuestionsRenamed.{sixteen-ports, packetRefusal-renamed, tell-renamed}
 
 -- ---- a refusal's number and a relay, renamed
 unfoldable renameJudgement : List ℕ → Judgement → Judgement
@@ -49,11 +49,6 @@ counted-renamed m (Forward port length) t = refl
 counted-renamed m (Spread ports length) t = refl
 counted-renamed m Kept t = refl
 
--- a relay that row 7 doesn't name has sixteen ports
-pub sixteen-ports : (r : Relay) → tablesOk r ≡ true → length (r .ports) ≡ 16
-unfolding tablesOk tableOk
-sixteen-ports r fine = eqb-true (length (r .ports)) 16 (and-left _ _ (and-left _ _ (and-right _ _ fine)))
-
 -- a renumbering by a one-to-one map is accepted
 pub accepted : (m : List ℕ) (r : Relay) (t : Tally) → tablesOk r ≡ true → oneToOne m ≡ true
     → perform (renumbering m) r t ≡ record { reply = numbered 0; relay = renumbered m r; tally = t }
@@ -70,10 +65,6 @@ addresses-renamed m (renumbers images) = refl
 
 -- ---- one call
 module _ (m : List ℕ) (ok : oneToOne m ≡ true) (r : Relay) (fine : tablesOk r ≡ true) (fine′ : tablesOk (renumbered m r) ≡ true) where
-  packetRefusal-renamed : (a : Arrival) (room : ℕ) → packetRefusal (renumbered m r) (renameArrival m a) room ≡ packetRefusal r a room
-  unfolding refusalBy packetRows renameArrival renumbered
-  packetRefusal-renamed a room = rw (fine, fine′, on-image m (a .clock) r (sixteen-ports r fine) ok (a .port))
-
   judged-renamed : (v : View) (a : Arrival) (todo : Plan) (t : Tally) (output : List ℕ) → v .on 16 ≡ false
       → judged (renameArrival m a) (renamePlan m todo) (renameView m v) (renumbered m r) t output ≡ renameJudgement m (judged a todo v r t output)
   unfolding judged renameJudgement renameAnswer
@@ -106,7 +97,7 @@ module _ (m : List ℕ) (ok : oneToOne m ≡ true) (r : Relay) (fine : tablesOk 
       eqb n 0
       then judge (renameArrival m a) (renumbered m r) t output
       otherwise record { answer = Refused n; relay = renumbered m r; tally = t; output = output })
-      (packetRefusal-renamed a (length output))
+      (packetRefusal-renamed m ok r fine fine′ a (length output))
       ∙ ap (λ (j : Judgement). eqb refusal 0 then j otherwise renameJudgement m refused) (judge-renamed a t output)
       ∙ sym (then-ap (renameJudgement m) (eqb refusal 0) (judge a r t output) refused)
 
@@ -156,6 +147,7 @@ module _ (m : List ℕ) (ok : oneToOne m ≡ true) (r : Relay) (fine : tablesOk 
 
   pub call-renamed : (c : Call) (t : Tally) → movesPorts c ≡ false
       → perform (renameCall m c) (renumbered m r) t ≡ renameOutcome m (perform c r t)
-  unfolding perform renameCall renameSetting renameOutcome movesPorts
+  unfolding perform renameCall renameReply renameSetting renameOutcome movesPorts ofTold
   call-renamed (packet a output) t h = ap ofJudgement (packetCall-renamed a t output) ∙ judgement-renamed (packetCall a r t output)
   call-renamed (on-tables c) t h = ap (ofSetting t) (settle-renamed c h) ∙ setting-renamed t _
+  call-renamed (asks q) t h = ap (ofTold (renumbered m r) t) (tell-renamed m ok r fine fine′ q)

@@ -13,7 +13,7 @@ use Rattle.rules.specs.View.{viewAt}
 use Rattle.rules.specs.Refusals.{packetRefusal}
 use Rattle.rules.specs.Judging.{plan, verdict}
 use Rattle.rules.specs.Calls.{newTally, up, counted, Judgement, judged, judge, packetCall}
-use Rattle.rules.specs.Run.{Call, packet, on-tables, Reply, answered, numbered, ofJudgement, ofSetting, perform, replies, tallyAfter}
+use Rattle.rules.specs.Run.{Call, packet, on-tables, asks, Reply, answered, numbered, told, ofJudgement, ofSetting, ofTold, perform, replies, tallyAfter}
 use Rattle.rules.specs.Answers.{verdictKind}
 use Rattle.rules.specs.declared.Verdict.{Verdict}
 use Rattle.rules.specs.declared.Verdict.the-variants.{Drop, Deliver, Forward, Spread, Kept}
@@ -26,6 +26,7 @@ abbrev pub counts : (Verdict → Bool) → Reply → ℕ
 counts kind (answered (Refused number) output) = 0
 counts kind (answered (Judged verdict) output) = kind verdict then 1 otherwise 0
 counts kind (numbered refusal) = 0
+counts kind (told x) = 0
 
 unfoldable pub number : (Verdict → Bool) → List Reply → ℕ
 number kind [] = 0
@@ -66,7 +67,7 @@ module _ (kind : Verdict → Bool) (counter : Tally → ℕ)
 
   after-call : (c : Call) (r : Relay) (t : Tally) → counter t < 2 ^ 32
       → counter (perform c r t .tally) ≡ (counter t + counts kind (perform c r t .reply)) % 2 ^ 32
-  unfolding perform ofJudgement ofSetting packetCall judge judged _then_otherwise_
+  unfolding perform ofJudgement ofSetting ofTold packetCall judge judged _then_otherwise_
   after-call (packet a output) r t small = go (eqb (packetRefusal r a (length output)) 0)
     where
       -- `accepted` chooses as the call does
@@ -79,6 +80,7 @@ module _ (kind : Verdict → Bool) (counter : Tally → ℕ)
       go true = after-verdict (verdict (viewAt (a .clock) r) a (plan (viewAt (a .clock) r) a)) t small
       go false = same-count (counter t) small
   after-call (on-tables c) r t small = same-count (counter t) small
+  after-call (asks q) r t small = same-count (counter t) small
 
   after-calls : (cs : List Call) (r : Relay) (t : Tally) → counter t < 2 ^ 32
       → counter (tallyAfter cs r t) ≡ (counter t + number kind (replies cs r t)) % 2 ^ 32

@@ -30,7 +30,8 @@ use Rattle.rules.specs.Outgoing.{outgoing, carriedPacket}
 use Rattle.rules.specs.Judging.{Plan, dropped, delivered, follows, plan, verdict, wayVerdict, leaves, outputAfter}
 use Rattle.rules.specs.Writes.{putPath, putReturn, emptyReturn, linkRecord, putLink, renewedLink, renewLink, writeWay, writePlan, remember, remembers, stamp, enact}
 use Rattle.rules.specs.Calls.{Judgement, judged, judge, packetCall, TableCall, sets-port, adds, removes, renumbers, ruleOf, tableRefusal, settle, settled}
-use Rattle.rules.specs.Run.{Call, packet, on-tables, answered, ofJudgement, ofSetting, perform}
+use Rattle.rules.specs.Questions.{Question}
+use Rattle.rules.specs.Run.{Call, packet, on-tables, asks, answered, ofJudgement, ofSetting, ofTold, perform}
 use Rattle.rules.specs.Keepalives.{keepsAlive, until, UpAt, Carried, accepted, fair, nextDeadline, Starts, InTime, CarriedIf, Lasts}
 use Rattle.rules.specs.declared.Link.{Link}
 use Rattle.rules.specs.declared.Tally.{Tally}
@@ -379,6 +380,10 @@ table-kept-by : (Q : Relay → Type 0) {r : Relay} → Q r → (c : TableCall) (
 unfolding perform ofSetting settle settled
 table-kept-by Q q c t taken = either Q _ taken (λ _. q)
 
+asked-kept-by : (Q : Relay → Type 0) {r : Relay} → Q r → (q : Question) (t : Tally) → Q (perform (asks q) r t .relay)
+unfolding perform ofTold
+asked-kept-by Q here q t = here
+
 -- the link at a later clock that is before its deadline
 up-later : (l : Link) (deadline : ℕ) (r : Relay) (s : Starts l deadline r) (a : Arrival) (room : ℕ) → eqb (packetRefusal r a room) 0 ≡ true
     → a .clock < deadline → UpAt l (s .expiry) (a .clock) r
@@ -424,6 +429,7 @@ module _ (l : Link) (deadline : ℕ) where
           subst (λ (n : ℕ). Starts l n R) (sym (then-false _ _ (ap (λ (b : Bool). eqb (packetRefusal r a (length output)) 0 and b) k ∙ and-false _)))
           (any-packet l (s .expiry) r a output t (later h) h deadline (s .lasts) (near h) (before h))
   call-up (on-tables c) r t s justly = table-kept-by (Starts l deadline) s c t (λ e. table-up l deadline r s c (justly e))
+  call-up (asks q) r t s justly = asked-kept-by (Starts l deadline) s q t
 
   call-carried : (c : Call) (r : Relay) (t : Tally) → Starts l deadline r → (accepted c r ≡ true → fair l deadline c ≡ true)
       → CarriedIf l c (accepted c r) (perform c r t .reply) (perform c r t .relay)
@@ -432,6 +438,7 @@ module _ (l : Link) (deadline : ℕ) where
       let now = up-later l deadline r s a (length output) e (ltb-true (a .clock) deadline (justly e)) in
       keepalive-carried l (s .expiry) r a output t now k e
   call-carried (on-tables c) r t s justly = tt
+  call-carried (asks q) r t s justly = tt
 
 -- ---- the second theorem: from any relay that has the link up, over any list in which its keepalives come in time
 pub keepalives-keep : (l : Link) (cs : List Call) (deadline : ℕ) (r : Relay) (t : Tally) → Starts l deadline r → InTime l deadline cs r t → Lasts l cs r t

@@ -26,8 +26,10 @@ pub mod AnswerFits
 pub mod MovedPorts
 pub mod SlotsRenamed
 pub mod ViewRenamed
+pub mod Counting
 pub mod TestsRenamed
 pub mod PlanRenamed
+pub mod QuestionsRenamed
 pub mod WritesRenamed
 pub mod CallsRenamed
 pub mod RunRenamed

@@ -1,8 +1,6 @@
 -- The tests that a packet passed that follows a way, each by its name; and the lists with what one test says given.
-use Prim.Native.Nat.{ℕ}
 use mathlib.Core.Bool.{Bool, true, false}
 use mathlib.Core.Path.{_≡_, refl, sym, ap, subst, _∙_}
-use lib.Dec.{eqb}
 use Rattle.octets.specs.Index.{_and_}
 use Rattle.octets.proofs.Listed.{allGive}
 use Rattle.rules.specs.View.{View}
@@ -10,15 +8,9 @@ use Rattle.rules.specs.Arrival.{Arrival, hops}
 use Rattle.rules.specs.Ways.{Way, wayOn}
 use Rattle.rules.specs.Tests.{notOurs, duplicate, badForm, ownAnnounce, deliveredHere, tooManyHops, noWayOn, alreadyKnown, wrongSide, notSigned, replay, notBetter, portOff, noRoom}
 use Rattle.rules.specs.Outgoing.{grownTooLong}
-use Rattle.rules.specs.Answers.{reasonNumber}
 use Rattle.rules.specs.Judging.{Plan, dropped, delivered, follows, earlyTests, onwardTests, onwardPlan, plan}
+unfoldable pub use Rattle.rules.specs.Questions.{ofTest}
 use Rattle.octets.proofs.Listed.{NoneHolds, none-first, none-holds}
-
--- the plan of the test with this number
-unfoldable pub ofTest : ℕ → Plan → Bool
-ofTest n (dropped reason) = eqb (reasonNumber reason) n
-ofTest n delivered = false
-ofTest n (follows w) = false
 
 -- the packet goes no further
 unfoldable pub stops : Plan → Bool

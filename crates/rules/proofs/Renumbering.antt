@@ -12,7 +12,7 @@ use Rattle.rules.specs.Run.{Call, renumbering, Reply, numbered, replies,
 use Rattle.rules.specs.declared.Tally.{Tally}
 use Rattle.rules.proofs.Images.{composed-one-to-one}
 use Rattle.rules.proofs.Valid.{stays-ok, fresh-ok}
-use Rattle.rules.proofs.CallsRenamed.{sixteen-ports}
+use Rattle.rules.proofs.QuestionsRenamed.{sixteen-ports}
 use Rattle.rules.proofs.RunRenamed.{replies-append, relay-append, tally-append, early, late, replies-after, relay-after, tally-after, renumbered-ok, replies-renamed, relay-renamed, tally-renamed}
 use Rattle.rules.proofs.RenumberedTwice.{renumbered-twice}
 

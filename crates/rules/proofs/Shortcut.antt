@@ -96,7 +96,7 @@ unfoldable pub goodPlan : Bool → View → Arrival → Plan
 goodPlan seen v a =
     firstOf (told (ofTest 3) false (told (ofTest 2) (testedAsDuplicate v a and seen) (earlyTests v a))) (onwardPlan v a (wayOn v a))
 
-plan-good : (v : View) (a : Arrival) {seen : Bool} → v .remembered (hash a) ≡ seen → badForm (a .bytes) ≡ false → plan v a ≡ goodPlan seen v a
+pub plan-good : (v : View) (a : Arrival) {seen : Bool} → v .remembered (hash a) ≡ seen → badForm (a .bytes) ≡ false → plan v a ≡ goodPlan seen v a
 unfolding plan goodPlan earlyTests told ofTest duplicate _then_otherwise_
 plan-good v a s g = rw (s, g)
 

@@ -1,16 +1,17 @@
 -- The signature word is read only where a rule names it: for packets that are neither announces nor link proofs, and wherever tests 1 to 8
--- drop, both words give equal results: answer, relay, tally and output.
+-- drop, both words give equal results: answer, relay, tally and output. And what a host is told that asks whether it matters.
 use Prim.Native.Nat.{ℕ, _≤_}
+use native.Mathlib.Omega.{arith}
 use mathlib.Core.Bool.{Bool, true, false, not, false≢true}
-use mathlib.Core.List.{List}
+use mathlib.Core.List.{List, [], _∷_}
 use mathlib.Core.Path.{_≡_, refl, sym, ap, ap₂, _∙_}
 use lib.Dec.{eqb, ltb}
-use lib.ListN.{length}
-use borrow.Author.Tests.{le-ltb}
+use lib.ListN.{length, take, drop}
+use borrow.Author.Tests.{le-ltb, not-true}
 use Rattle.octets.specs.Index.{_and_}
 use Rattle.octets.specs.Choice.{_then_otherwise_, _or_}
 use Rattle.packet.specs.Header.{isAnnounce}
-use Rattle.octets.specs.Listed.{firstOf}
+use Rattle.octets.specs.Listed.{Test, _gives_otherwise_, firstOf, anyHolds}
 use Rattle.octets.proofs.Listed.{told, allGive}
 use Rattle.rules.specs.Relay.{Relay, empty, used}
 use Rattle.rules.specs.View.{View, viewAt}
@@ -22,18 +23,20 @@ use Rattle.rules.specs.Answers.{reasonNumber}
 use Rattle.rules.specs.Outgoing.{spreadPorts, outgoing, exceeds}
 use Rattle.rules.specs.Judging.{Plan, dropped, delivered, follows, earlyTests, onwardTests, plan, onwardPlan, verdict, wayVerdict, spreadVerdict}
 use Rattle.rules.specs.Calls.{Judgement, judged, judge, packetCall}
+use Rattle.rules.specs.Questions.{word-matters, Told, refused, yes-or-no, cameWith, ofTest, wordMatters, questionRule, questionRefusal, tell}
 use Rattle.rules.specs.declared.Reason.{Reason}
+use Rattle.rules.specs.declared.Reason.the-variants.{NotSigned}
 use Rattle.rules.specs.declared.Verdict.{Verdict}
 use Rattle.rules.specs.declared.Verdict.the-variants.{Drop, Deliver, Forward, Spread, Kept}
 use Rattle.rules.specs.declared.Answer.the-variants.{Refused, Judged}
 use Rattle.rules.specs.declared.Tally.{Tally}
+use Rattle.octets.proofs.Index.{and-left, and-right}
 use Rattle.rules.proofs.Unfolding.{tests, answers, writes, calls, rules}
-use Rattle.octets.proofs.Listed.{lateFrom, rest-alike, told-alike}
-use Rattle.rules.proofs.Passed.{ofTest}
+use Rattle.octets.proofs.Listed.{lateFrom, all-first, rest-alike, told-alike}
 
 -- the packet with the host's word on its signature
 abbrev pub withWord : Bool → Arrival → Arrival
-withWord word a = record { bytes = a .bytes; port = a .port; clock = a .clock; signed = word }
+withWord word a = cameWith (a .bytes) (a .port) (a .clock) word
 
 -- ---- the plan, with what test 9 says given
 onwardBy : Bool → View → Arrival → Way → Plan
@@ -157,3 +160,227 @@ module _ (a : Arrival) (r : Relay) (t : Tally) (output : List ℕ) where
       ∙ result-alike (eqb refusal 0) (notSigned (withWord word a)) (notSigned (withWord other a)) reason
       (sym (ap (λ (j : Judgement). j .answer) (result-by word)) ∙ e) l
       ∙ sym (result-by word)
+
+-- ---- whether it matters, asked before it is known
+-- where what a list gives isn't of a kind, the tests for that kind may as well say no
+told-unread : {A : Type 0} (p : A → Bool) (b : Bool) (ts : List (Test A)) (rest : A) → p (firstOf (told p b ts) rest) ≡ false
+    → firstOf (told p false ts) rest ≡ firstOf (told p b ts) rest
+unfolding firstOf told _then_otherwise_
+told-unread p b [] rest e = refl
+told-unread p b (t ∷ ts) rest e = go (p (t .value)) refl b (t .holds) (told-unread p b ts rest) e
+  where
+    go : (k : Bool) → p (t .value) ≡ k → (c h : Bool)
+        → (p (firstOf (told p b ts) rest) ≡ false → firstOf (told p false ts) rest ≡ firstOf (told p b ts) rest)
+        → p ((k then c otherwise h) then t .value otherwise firstOf (told p b ts) rest) ≡ false
+        → ((k then false otherwise h) then t .value otherwise firstOf (told p false ts) rest)
+        ≡ ((k then c otherwise h) then t .value otherwise firstOf (told p b ts) rest)
+    go true q true h below e = absurd (false≢true (sym e ∙ q))
+    go true q false h below e = below e
+    go false q c true below e = refl
+    go false q c false below e = below e
+
+-- where they say no, nothing of the kind is given
+told-never : {A : Type 0} (p : A → Bool) (ts : List (Test A)) (rest : A) → p rest ≡ false → p (firstOf (told p false ts) rest) ≡ false
+unfolding firstOf told _then_otherwise_
+told-never p [] rest e = e
+told-never p (t ∷ ts) rest e = go (p (t .value)) refl (t .holds) (told-never p ts rest e)
+  where
+    go : (k : Bool) → p (t .value) ≡ k → (h : Bool) → p (firstOf (told p false ts) rest) ≡ false
+        → p ((k then false otherwise h) then t .value otherwise firstOf (told p false ts) rest) ≡ false
+    go true q h below = below
+    go false q true below = q
+    go false q false below = below
+
+-- tests that give nothing of the kind: it is given where none of them holds and what stands below them is of it
+kind-past : {A : Type 0} (p : A → Bool) (ts : List (Test A)) (rest : A) → allGive (λ x. not (p x)) ts ≡ true
+    → p (firstOf ts rest) ≡ (not (anyHolds ts) and p rest)
+unfolding firstOf allGive anyHolds _then_otherwise_ _or_ _and_
+kind-past p [] rest g = refl
+kind-past p (t ∷ ts) rest g = go (t .holds) (kind-past p ts rest (and-right (not (p (t .value))) _ g))
+  where
+    go : (b : Bool) → p (firstOf ts rest) ≡ (not (anyHolds ts) and p rest)
+        → p (b then t .value otherwise firstOf ts rest) ≡ (not (b or anyHolds ts) and p rest)
+    go true below = not-true _ (and-left (not (p (t .value))) _ g)
+    go false below = below
+
+module _ (v : View) (a : Arrival) where
+  -- a packet that test 9 doesn't drop is planned as with the word yes
+  plan-signed : (b : Bool) → ofTest 9 (planBy b v a) ≡ false → planBy false v a ≡ planBy b v a
+  unfolding planBy onwardBy
+  plan-signed b =
+      rest-alike (ofTest 9) (earlyTests v a) _ _ (told-unread (ofTest 9) b (onwardTests v a (wayOn v a)) (follows (wayOn v a)))
+
+  -- which test 9 never drops
+  signed-passes : ofTest 9 (planBy false v a) ≡ false
+  unfolding planBy onwardBy earlyTests allGive ofTest _and_
+  signed-passes =
+      not-true _
+      (all-first (λ x. not (ofTest 9 x)) (earlyTests v a) _ refl
+      (ap not (told-never (ofTest 9) (onwardTests v a (wayOn v a)) (follows (wayOn v a)) refl)))
+
+  -- it is so answered
+  isNine : Verdict → Bool
+  isNine (Drop reason) = eqb (reasonNumber reason) 9
+  isNine Deliver = false
+  isNine (Forward port length) = false
+  isNine (Spread ports length) = false
+  isNine Kept = false
+
+  nine-answered : (todo : Plan) → isNine (verdict v a todo) ≡ ofTest 9 todo
+  unfolding isNine verdict wayVerdict spreadVerdict ofTest _then_otherwise_
+  nine-answered (dropped reason) = refl
+  nine-answered delivered = refl
+  nine-answered (follows (everywhere known)) = go (eqb (spreadPorts v a) 0 or exceeds (outgoing v a (everywhere known)))
+    where
+      go : (b : Bool) → isNine (b then Kept otherwise Spread (spreadPorts v a) (length (outgoing v a (everywhere known)))) ≡ false
+      go true = refl
+      go false = refl
+  nine-answered (follows (by-path p)) = refl
+  nine-answered (follows (along-link l)) = refl
+  nine-answered (follows (by-return t)) = refl
+  nine-answered (follows (blocked why)) = refl
+
+yes-signed : (a : Arrival) → notSigned (withWord true a) ≡ false
+unfolding notSigned _and_
+yes-signed a = go (isAnnounce (header a) or isLinkProof (a .bytes))
+  where
+    go : (b : Bool) → (b and false) ≡ false
+    go true = refl
+    go false = refl
+
+-- ---- the statement
+-- a packet, and the two calls that could follow
+pub record WordMattersExactly (a : Arrival) (r : Relay) (t : Tally) (output : List ℕ) (said : Told) : Type 0 where
+  -- yes exactly if the packet call's answer with the word yes differs from its answer with the word no
+  pub yes-differs : said ≡ yes-or-no true
+      → packetCall (withWord true a) r t output .answer ≡ packetCall (withWord false a) r t output .answer → ⊥
+  pub differs-yes : (packetCall (withWord true a) r t output .answer ≡ packetCall (withWord false a) r t output .answer → ⊥)
+      → said ≡ yes-or-no true
+  -- no: both words give equal results
+  pub no-equal : said ≡ yes-or-no false → packetCall (withWord true a) r t output ≡ packetCall (withWord false a) r t output
+  -- refused exactly as the packet call is, whatever the word
+  pub refused-with : (n : ℕ) (word : Bool) → said ≡ refused n → packetCall (withWord word a) r t output .answer ≡ Refused n
+  pub refused-by : (n : ℕ) (word : Bool) → packetCall (withWord word a) r t output .answer ≡ Refused n → said ≡ refused n
+
+module _ (a : Arrival) (r : Relay) (t : Tally) (output : List ℕ) where
+  abbrev accepted : Bool
+  accepted = eqb (packetRefusal r a (length output)) 0
+
+  abbrev unsigned : Bool
+  unsigned = notSigned (withWord false a)
+
+  abbrev saidBy : Bool → Told
+  saidBy ok = ok then yes-or-no (wordMatters r (withWord false a)) otherwise refused (packetRefusal r a (length output))
+
+  abbrev shown : View
+  shown = seen a r t output
+
+  matters-by : wordMatters r (withWord false a) ≡ ofTest 9 (planBy unsigned shown a)
+  unfolding wordMatters seen
+  matters-by = ap (ofTest 9) (plan-by (viewAt (a .clock) r) a false)
+
+  answered-no : accepted ≡ false → (word : Bool) → packetCall (withWord word a) r t output .answer ≡ Refused (packetRefusal r a (length output))
+  unfolding refusal resultBy _then_otherwise_
+  answered-no is word = ap (λ (j : Judgement). j .answer) (result-by a r t output word) ∙ rw is
+
+  answered-yes : accepted ≡ true → (word : Bool)
+      → packetCall (withWord word a) r t output .answer ≡ Judged (verdict shown a (planBy (notSigned (withWord word a)) shown a))
+  unfolding refusal resultBy judged _then_otherwise_
+  answered-yes is word = ap (λ (j : Judgement). j .answer) (result-by a r t output word) ∙ rw is
+
+  unread : wordMatters r (withWord false a) ≡ false → packetCall (withWord true a) r t output ≡ packetCall (withWord false a) r t output
+  unfolding resultBy
+  unread e =
+      result-by a r t output true
+      ∙ ap (resultBy a r t output (eqb (refusal a r t output) 0)) (yes-signed a)
+      ∙ ap
+      (λ (todo : Plan).
+      eqb (refusal a r t output) 0 then judged a todo shown r t output otherwise
+      record { answer = Refused (refusal a r t output); relay = r; tally = t; output = output })
+      (plan-signed shown a unsigned (sym matters-by ∙ e))
+      ∙ sym (result-by a r t output false)
+
+  -- test 9 drops the packet with the one word, and not with the other
+  read : accepted ≡ true → wordMatters r (withWord false a) ≡ true
+      → packetCall (withWord true a) r t output .answer ≡ packetCall (withWord false a) r t output .answer → ⊥
+  read is m d =
+      let answers : Judged (verdict shown a (planBy (notSigned (withWord true a)) shown a)) ≡ Judged (verdict shown a (planBy unsigned shown a)) =
+      sym (answered-yes is true) ∙ d ∙ answered-yes is false in
+      let verdicts : verdict shown a (planBy (notSigned (withWord true a)) shown a) ≡ verdict shown a (planBy unsigned shown a) = cc in
+      false≢true
+      (sym (ap (λ (b : Bool). ofTest 9 (planBy b shown a)) (yes-signed a) ∙ signed-passes shown a)
+      ∙ sym (nine-answered shown a _)
+      ∙ ap (isNine shown a) verdicts
+      ∙ nine-answered shown a _
+      ∙ sym matters-by
+      ∙ m)
+
+  exactly-so : (ok : Bool) → accepted ≡ ok → WordMattersExactly a r t output (saidBy ok)
+  unfolding _then_otherwise_
+  exactly-so true is =
+      record {
+        yes-differs = λ e d. let m : wordMatters r (withWord false a) ≡ true = cc in read is m d;
+        differs-yes = λ d. go d (wordMatters r (withWord false a)) refl;
+        no-equal = λ e. let m : wordMatters r (withWord false a) ≡ false = cc in unread m;
+        refused-with = λ n word e. let z : _≡_ {A = ℕ} 0 1 = cc in absurd (omega arith);
+        refused-by = λ n word e. let f : Judged _ ≡ Refused n = sym (answered-yes is word) ∙ e in let z : _≡_ {A = ℕ} 0 1 = cc in absurd (omega arith);
+      }
+    where
+      go : (packetCall (withWord true a) r t output .answer ≡ packetCall (withWord false a) r t output .answer → ⊥)
+          → (b : Bool) → wordMatters r (withWord false a) ≡ b → yes-or-no b ≡ yes-or-no true
+      go d true e = refl
+      go d false e = absurd (d (ap (λ (j : Judgement). j .answer) (unread e)))
+  exactly-so false is =
+      record {
+        yes-differs = λ e d. let z : _≡_ {A = ℕ} 0 1 = cc in omega arith;
+        differs-yes = λ d. absurd (d (answered-no is true ∙ sym (answered-no is false)));
+        no-equal = λ e. let z : _≡_ {A = ℕ} 0 1 = cc in absurd (omega arith);
+        refused-with = λ n word e. let m : packetRefusal r a (length output) ≡ n = cc in answered-no is word ∙ ap Refused m;
+        refused-by = λ n word e.
+            let f : Refused (packetRefusal r a (length output)) ≡ Refused n = sym (answered-no is word) ∙ e in
+            let m : packetRefusal r a (length output) ≡ n = cc in
+            ap refused m;
+      }
+
+  -- ---- the theorems, for every relay, tally and output
+  pub word-matters-exactly : WordMattersExactly a r t output (tell (word-matters (a .bytes) (a .port) (a .clock) (length output)) r)
+  unfolding tell questionRefusal questionRule
+  word-matters-exactly = exactly-so accepted refl
+
+-- ---- tests 1 to 8, and what test 9 is about
+no-unsigned : (a : Arrival) → notSigned (withWord false a) ≡ (isAnnounce (header a) or isLinkProof (a .bytes))
+unfolding notSigned _and_
+no-unsigned a = go (isAnnounce (header a) or isLinkProof (a .bytes))
+  where
+    go : (b : Bool) → (b and true) ≡ b
+    go true = refl
+    go false = refl
+
+module _ (v : View) (a : Arrival) (w : Way) where
+  after-nine : (b : Bool) → ofTest 9 (firstOf (b gives dropped NotSigned otherwise drop 4 (onwardTests v a w)) (follows w)) ≡ b
+  unfolding firstOf ofTest onwardTests allGive _and_ _then_otherwise_
+  after-nine true = refl
+  after-nine false = not-true _ (all-first (λ x. not (ofTest 9 x)) (drop 4 (onwardTests v a w)) (follows w) refl refl)
+
+  onward-nine : (b : Bool) → ofTest 9 (onwardBy b v a w) ≡ (not (anyHolds (take 3 (onwardTests v a w))) and b)
+  unfolding onwardBy told firstOf ofTest onwardTests allGive _and_ _then_otherwise_
+  onward-nine b =
+      kind-past (ofTest 9) (take 3 (onwardTests v a w)) (firstOf (b gives dropped NotSigned otherwise drop 4 (onwardTests v a w)) (follows w)) refl
+      ∙ ap (λ (x : Bool). not (anyHolds (take 3 (onwardTests v a w))) and x) (after-nine b)
+
+-- exactly if tests 1 to 5, and the first three of those on the way, 6 to 8, let the packet by, and it is an announce or a link proof
+module _ (a : Arrival) (r : Relay) where
+  abbrev view : View
+  view = viewAt (a .clock) r
+
+  pub word-matters-when : wordMatters r (withWord false a)
+      ≡ (not (anyHolds (earlyTests view a))
+      and not (anyHolds (take 3 (onwardTests view a (wayOn view a))))
+      and (isAnnounce (header a) or isLinkProof (a .bytes)))
+  unfolding wordMatters planBy earlyTests allGive ofTest _and_
+  word-matters-when =
+      ap (ofTest 9) (plan-by view a false)
+      ∙ kind-past (ofTest 9) (earlyTests view a) (onwardBy (notSigned (withWord false a)) view a (wayOn view a)) refl
+      ∙ ap (λ (x : Bool). not (anyHolds (earlyTests view a)) and x)
+      (onward-nine view a (wayOn view a) (notSigned (withWord false a))
+      ∙ ap (λ (x : Bool). not (anyHolds (take 3 (onwardTests view a (wayOn view a)))) and x) (no-unsigned a))

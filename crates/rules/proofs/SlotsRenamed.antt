@@ -30,7 +30,7 @@ module _ {A : Type 0} (rename : A → A) where
     holds-renamed empty = refl
     holds-renamed (used x) = blind x
 
-    holds-at : (slots : List (Slot A)) (i : ℕ) → holds test (getD (map (renameSlot rename) slots) i empty) ≡ holds test (getD slots i empty)
+    pub holds-at : (slots : List (Slot A)) (i : ℕ) → holds test (getD (map (renameSlot rename) slots) i empty) ≡ holds test (getD slots i empty)
     holds-at slots i = ap (holds test) (slot-renamed slots i) ∙ holds-renamed (getD slots i empty)
 
     pub lowest-renamed : (n : ℕ) (slots : List (Slot A)) → lowest test n (map (renameSlot rename) slots) ≡ lowest test n slots

@@ -29,7 +29,8 @@ use Rattle.rules.specs.Outgoing.{rewritten, spreadHeader, spreadPacket, 
 use Rattle.rules.specs.Judging.{earlyTests, onwardTests, onwardPlan, plan, spreadVerdict, wayVerdict, verdict, leaves, outputAfter}
 use Rattle.rules.specs.Writes.{putNext, remembersPlan, remembers, remember, announcedBlobs, announcedPath, announcedPlace, putPath, returnKey, returnRecord, emptiedIf, emptiedWhere, putReturn, emptyReturn, linkRecord, putLink, renewedLink, renewLink, writeWay, writePlan, stamp, enact}
 use Rattle.rules.specs.Calls.{newTally, up, counted, judged, judge, packetCall, settled, ruleOf, tableRefusal, settle}
-use Rattle.rules.specs.Run.{ofJudgement, ofSetting, perform, replies, relayAfter, tallyAfter}
+use Rattle.rules.specs.Questions.{toldOf, countBelow, countOf, ofTest, wordMatters, rowSeven, questionRule, questionRefusal, tell}
+use Rattle.rules.specs.Run.{ofJudgement, ofSetting, ofTold, perform, replies, relayAfter, tallyAfter}
 
 -- SHA-256
 unfoldable pub hashing : Unit {0}
@@ -83,10 +84,15 @@ writes = tt
 
 -- the calls
 unfoldable pub calls : Unit {0}
-unfolding newTally up counted judged judge packetCall settled ruleOf tableRefusal settle ofJudgement ofSetting perform replies relayAfter tallyAfter
+unfolding newTally up counted judged judge packetCall settled ruleOf tableRefusal settle ofJudgement ofSetting ofTold perform replies relayAfter tallyAfter
 calls = tt
+
+-- the questions
+unfoldable pub questions : Unit {0}
+unfolding toldOf countBelow countOf ofTest wordMatters rowSeven questionRule questionRefusal tell
+questions = tt
 
 -- all of them but SHA-256
 unfoldable pub rules : Unit {0}
-unfolding lists layout tables refusals tests answers writes calls
+unfolding lists layout tables refusals tests answers writes calls questions
 rules = tt

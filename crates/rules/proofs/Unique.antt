@@ -16,7 +16,7 @@ use Rattle.rules.specs.Arrival.{Arrival}
 use Rattle.rules.specs.Judging.{Plan, plan}
 use Rattle.rules.specs.Writes.{remembers, remember, stamp, enact}
 use Rattle.rules.specs.Calls.{TableCall, sets-port, adds, removes, renumbers, ruleOf}
-use Rattle.rules.specs.Run.{Call, packet, on-tables, perform, relayAfter}
+use Rattle.rules.specs.Run.{Call, packet, on-tables, asks, ofTold, perform, relayAfter}
 use Rattle.rules.specs.declared.Tally.{Tally}
 use Rattle.rules.proofs.Choices.{either}
 use Rattle.octets.proofs.Listed.{NoneHolds}
@@ -96,8 +96,10 @@ table-unique c r valid u n clock l =
 
 -- one call keeps it, of a relay that keeps row 7
 pub step-unique : (c : Call) (r : Relay) (t : Tally) → tablesOk r ≡ true → Unique r → Unique (perform c r t .relay)
+unfolding perform ofTold
 step-unique (packet arrival output) r t ok u = packet-unique arrival r t output (valid-of r ok) u
 step-unique (on-tables c) r t ok u = table-kept Unique u c t (table-unique c r (valid-of r ok) u)
+step-unique (asks q) r t ok u = u
 
 pub stays-unique : (cs : List Call) (r : Relay) (t : Tally) → tablesOk r ≡ true → Unique r → Unique (relayAfter cs r t)
 stays-unique cs r t ok u =

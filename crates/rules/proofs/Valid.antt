@@ -20,7 +20,7 @@ use Rattle.rules.specs.Tests.{tooManyHops}
 use Rattle.rules.specs.Judging.{Plan, dropped, delivered, follows, plan}
 use Rattle.rules.specs.Writes.{remember, putPath, emptiedWhere, putReturn, emptyReturn, putLink, renewLink, enact}
 use Rattle.rules.specs.Calls.{TableCall, sets-port, adds, removes, renumbers, ruleOf}
-use Rattle.rules.specs.Run.{Call, packet, on-tables, perform, relayAfter}
+use Rattle.rules.specs.Run.{Call, packet, on-tables, asks, ofTold, perform, relayAfter}
 use Rattle.rules.specs.declared.Link.{Link}
 use Rattle.rules.specs.declared.Tally.{Tally}
 use Rattle.octets.proofs.Listed.{NoneHolds}
@@ -193,10 +193,12 @@ table-keeps (removes address) r v n = rw length-set (v .locals)
 table-keeps (renumbers images) r v n = renumbering-keeps images (not-false _ (n .0)) r v
 
 call-valid : (c : Call) (r : Relay) (t : Tally) → Valid r → Valid (perform c r t .relay)
+unfolding perform ofTold
 call-valid (packet a output) r t v =
     packet-kept Valid v a t output
     (λ e. let accepted : Accepted r a = accepted-packet r a (length output) e in enacted r v a (accepted .port) (accepted .clock))
 call-valid (on-tables c) r t v = table-kept Valid v c t (λ n. table-held v c (table-keeps c r v n))
+call-valid (asks q) r t v = v
 
 -- one call keeps row 7
 pub step-ok : (c : Call) (r : Relay) (t : Tally) → tablesOk r ≡ true → tablesOk (perform c r t .relay) ≡ true

@@ -60,7 +60,7 @@ module _ (m : List ℕ) (clock : ℕ) (r : Relay) where
   unfolding freeLink renumbered renameLink
   freeLink-renamed = lowestFree-renamed (renameLink m) (λ l. ltb clock (l .expiry)) (λ l. refl) 64 (r .links)
 
-  path-renamed : (destination : List ℕ)
+  pub path-renamed : (destination : List ℕ)
       → viewAt clock (renumbered m r) .path destination ≡ renameSlot (renamePath m) (viewAt clock r .path destination)
   unfolding viewAt renumbered
   path-renamed destination =

@@ -20,7 +20,8 @@ use Rattle.rules.specs.Ways.{along-link}
 use Rattle.rules.specs.Tests.{tooManyHops, fromAnsweringSide, fromAskingSide, leavingPort}
 use Rattle.rules.specs.Outgoing.{carriedPacket}
 use Rattle.rules.specs.Calls.{sets-port, adds, removes, renumbers, tableRefusal}
-use Rattle.rules.specs.Run.{Call, packet, on-tables, Reply, answered, perform}
+use Rattle.rules.specs.Questions.{questionRefusal}
+use Rattle.rules.specs.Run.{Call, packet, on-tables, asks, Reply, answered, perform}
 use Rattle.rules.specs.declared.Link.{Link}
 use Rattle.rules.specs.declared.Tally.{Tally}
 use Rattle.rules.specs.declared.Verdict.the-variants.{Forward}
@@ -66,6 +67,7 @@ pub record Carried (l : Link) (a : Arrival) (output : List ℕ) (reply : Reply) 
 unfoldable pub accepted : Call → Relay → Bool
 accepted (packet a output) r = eqb (packetRefusal r a (length output)) 0
 accepted (on-tables c) r = eqb (tableRefusal c r) 0
+accepted (asks q) r = eqb (questionRefusal q r) 0
 
 -- which calls may be accepted while the link must be kept before a deadline. "No call is accepted at a clock more than 719 s after the last"
 -- keepalive; "no accepted renumbering, and no accepted setting that leaves either port off"
@@ -75,11 +77,14 @@ fair l deadline (on-tables (sets-port port on mode)) = on or not (eqb port (l .a
 fair l deadline (on-tables (adds address)) = true
 fair l deadline (on-tables (removes address)) = true
 fair l deadline (on-tables (renumbers images)) = false
+-- a question changes nothing, whatever its clock
+fair l deadline (asks q) = true
 
 -- a keepalive that is accepted sets it anew: "at most 719 s from each to the next"
 unfoldable pub nextDeadline : Link → ℕ → Call → Bool → ℕ
 nextDeadline l deadline (packet a output) taken = taken and keepsAlive l a then a .clock + provedLifetime otherwise deadline
 nextDeadline l deadline (on-tables c) taken = deadline
+nextDeadline l deadline (asks q) taken = deadline
 
 -- "from the start": the link is up, and is to be kept before the deadline. That is its expiry, or less, and is at most 720 s ahead: where the
 -- link was renewed at the start, "at most 719 s from the start"
@@ -99,6 +104,7 @@ InTime l deadline (c ∷ cs) r t =
 unfoldable pub CarriedIf : Link → Call → Bool → Reply → Relay → Type 0
 CarriedIf l (packet a output) taken reply r′ = taken ≡ true → keepsAlive l a ≡ true → Carried l a output reply r′
 CarriedIf l (on-tables c) taken reply r′ = Unit {0}
+CarriedIf l (asks q) taken reply r′ = Unit {0}
 
 -- "the link is live and proved after every call": at the last clock that was accepted
 abbrev pub IsUp : Link → Relay → Type 0

@@ -13,5 +13,6 @@ pub mod Outgoing
 pub mod Judging
 pub mod Writes
 pub mod Calls
+pub mod Questions
 pub mod Run
 pub mod Keepalives

@@ -8,12 +8,14 @@ use Rattle.rules.specs.Renumbering.{image}
 use Rattle.rules.specs.Arrival.{Arrival}
 use Rattle.rules.specs.Answers.{renameAnswer}
 use Rattle.rules.specs.Calls.{Judgement, packetCall, Setting, TableCall, sets-port, adds, removes, renumbers, ruleOf, settle}
+use Rattle.rules.specs.Questions.{Question, Told, questionRule, tell, renameTold}
 use Rattle.rules.specs.declared.Answer.{Answer}
 use Rattle.rules.specs.declared.Tally.{Tally}
 
 pub data Call : Type 0 where
   packet : (arrival : Arrival) (output : List ℕ) → Call
   on-tables : TableCall → Call
+  asks : Question → Call
 
 -- the calls on the tables by their names
 abbrev pub port-setting : ℕ → Bool → ℕ → Call
@@ -37,6 +39,7 @@ EachCall such (c ∷ cs) = such c × EachCall such cs
 pub data Reply : Type 0 where
   answered : (answer : Answer) (output : List ℕ) → Reply
   numbered : (refusal : ℕ) → Reply
+  told : Told → Reply
 
 pub record Outcome : Type 0 where
   pub reply : Reply
@@ -49,9 +52,13 @@ ofJudgement j = record { reply = answered (j .answer) (j .output); relay = j .re
 unfoldable pub ofSetting : Tally → Setting → Outcome
 ofSetting t s = record { reply = numbered (s .refusal); relay = s .relay; tally = t }
 
+unfoldable pub ofTold : Relay → Tally → Told → Outcome
+ofTold r t x = record { reply = told x; relay = r; tally = t }
+
 unfoldable pub perform : Call → Relay → Tally → Outcome
 perform (packet arrival output) r t = ofJudgement (packetCall arrival r t output)
 perform (on-tables c) r t = ofSetting t (settle c r)
+perform (asks q) r t = ofTold r t (tell q r)
 
 -- what each call of a list replies, and the relay and the tally after it
 unfoldable pub replies : List Call → Relay → Tally → List Reply
@@ -73,15 +80,18 @@ renameArrival m a = record { bytes = a .bytes; port = image m (a .port); clock =
 unfoldable pub renameCall : List ℕ → Call → Call
 renameCall m (packet arrival output) = packet (renameArrival m arrival) output
 renameCall m (on-tables c) = on-tables (ruleOf c .renamed m)
+renameCall m (asks q) = asks (questionRule q .renamed m)
 
 unfoldable pub renameReply : List ℕ → Reply → Reply
 renameReply m (answered answer output) = answered (renameAnswer m answer) output
 renameReply m (numbered refusal) = numbered refusal
+renameReply m (told x) = told (renameTold m x)
 
 -- "where no renumbering stands later in the list": one that is refused may
 unfoldable pub movesPorts : Call → Bool
 movesPorts (packet arrival output) = false
 movesPorts (on-tables c) = ruleOf c .movesPorts
+movesPorts (asks q) = false
 
 unfoldable pub noneRenumbers : List Call → Bool
 noneRenumbers [] = true

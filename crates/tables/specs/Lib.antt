@@ -5,5 +5,6 @@ pub mod Fields
 pub mod Records
 pub mod Layout
 pub mod Called
+pub mod Asked
 pub mod Shape
 pub mod Groups

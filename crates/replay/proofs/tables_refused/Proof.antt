@@ -49,7 +49,16 @@ returns c =
     let c3 = c .before .before .before in
     let c5 = c3 .before .before in
     let c7 = c5 .before .before in
-    rw (c .with-character .ensures, c .before .with-number .ensures, c .before .before .wide .ensures, c3 .with-word .ensures, c5 .with-text .ensures, c7 .empty .ensures, words-appended)
+    let grown = c3 .with-word .ensures in
+    rw (
+      c .with-character .ensures,
+      c .before .with-number .ensures,
+      c .before .before .wide .ensures,
+      grown,
+      c5 .with-text .ensures,
+      c7 .empty .ensures,
+      words-appended,
+    )
     (line-appended tablesWord (refusedWord ∷ decimal 7 ∷ []) fits)
 
 pub tables-refused-spec : {M : Type 1} → statement M

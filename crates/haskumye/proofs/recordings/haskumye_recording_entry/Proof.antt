@@ -13,7 +13,8 @@ returns : tie.Need-returns
 returns c =
     let c4 = c .before .before .before .before in
     let a = c4 .args in
-    entry-given (a .file .now) (a .index) (a .entry .now) (c .before .before .entry .result) (c .before .before .entry .ensures) (c .before .if1 .taken) _ (c .entry-numbers .ensures)
+    entry-given (a .file .now) (a .index) (a .entry .now) (c .before .before .entry .result) (c .before .before .entry .ensures)
+    (c .before .if1 .taken) _ (c .entry-numbers .ensures)
 
 returns-2 : tie.Need-returns-2
 returns-2 c =
