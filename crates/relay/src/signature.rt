@@ -60,6 +60,6 @@ pub fn signature_matters(packet: &[u8], port: u64, clock: u64, tables: &[u8], ro
     if plan::not_ours(tables, packet, arrived) {
         return 0;
     }
-    let hash = packet::hash_of(packet);
+    let hash = plan::used_hash(packet);
     decision_tells(plan::decide(tables, packet, arrived, hash))
 }

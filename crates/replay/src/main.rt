@@ -48,7 +48,7 @@ fn print(line: Text)
     io::write_all(STDOUT_FILENO, &bytes[..n]);
 }
 
-// Reads the file that an argument names, as far as it fits; no bytes where that can't be, and standard error says why.
+// Reads the file that an argument names, as far as it fits; no bytes where it can't, and standard error says why.
 fn read_file(argument: usize, buffer: &mut [u8]) -> usize
     ensures { λ r. ⌜ Counts r (now (buffer .exit)) ⌝ }
 {
@@ -64,7 +64,7 @@ fn read_file(argument: usize, buffer: &mut [u8]) -> usize
     got
 }
 
-// Replays all entries, and prints the line of each. What the entries' calls leave in the tables is what all steps leave.
+// Replays all entries, and prints the line of each. What the calls leave in the tables is what all steps leave.
 fn replay(file: &[u8], tables: &mut [u8])
     ensures { λ _. ⌜ now (tables .exit)
         ≡ stepsOn (now (file .entry)) (countOf (now (file .entry))) (now (tables .entry)) newTally .tables ⌝ }

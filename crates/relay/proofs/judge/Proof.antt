@@ -1,4 +1,3 @@
--- ---- past the refusals
 use mathlib.Core.Path.{refl, sym, _∙_}
 use Rattle.octets.proofs.Bytes.{known-bytes}
 use borrow.Author.Needs.{needs}
@@ -12,6 +11,7 @@ use Rattle.relay.proofs.PromiseLaws.{refused-promised, accepted, judged
 use Rattle.relay.proofs.judge.Statement.{statement}
 use Rattle.relay.proofs.judge.Tie as tie
 
+-- ---- past the refusals
 abbrev s1 : tie.Else1 → tie.Start
 s1 c = c .before .before .before .before .before .before
 

@@ -37,8 +37,11 @@ step-requires c κs = search needs
 
 print-requires : tie.Need-print-requires Inv-loop μ-loop
 print-requires c κs =
-    let s : StepOn = stepOn (c .before .before .before .before .before .before .before .before .before .before .before .before .args .file .now) (c .before .before .before .before .before .before .before .loop .i) (c .before .before .before .before .before .before .before .loop .tables) (c .before .before .before .before .before .before .before .loop .tally) in
-    text-within (c .before .before .before .before .step .result .line) (s .line) (ap (λ (x : Stepped). x .line) (c .before .before .before .before .step .ensures .0))
+    let c4 = c .before .before .before .before in
+    let c7 = c4 .before .before .before in
+    let c12 = c7 .before .before .before .before .before in
+    let s : StepOn = stepOn (c12 .args .file .now) (c7 .loop .i) (c7 .loop .tables) (c7 .loop .tally) in
+    text-within (c4 .step .result .line) (s .line) (ap (λ (x : Stepped). x .line) (c4 .step .ensures .0))
 
 add-i : tie.Need-add-i Inv-loop μ-loop
 add-i c = search needs
@@ -69,10 +72,12 @@ same-length c = search needs
 
 returns : tie.Need-returns Inv-loop μ-loop
 returns c =
-    let f : List ℕ = c .before .before .before .before .before .before .args .file .now in
-    let t : List ℕ = c .before .before .before .before .before .before .args .tables .now in
+    let c3 = c .before .before .before in
+    let c6 = c3 .before .before .before in
+    let f : List ℕ = c6 .args .file .now in
+    let t : List ℕ = c6 .args .tables .now in
     let l = c .before .loop in
-    let end : l .i ≡ countOf f = le-antisymm (omega (arith, c .before .before .before .count .ensures, l .inv .0)) (omega (arith, c .before .before .before .count .ensures, c .loop-test .left)) in
+    let end : l .i ≡ countOf f = le-antisymm (omega (arith, c3 .count .ensures, l .inv .0)) (omega (arith, c3 .count .ensures, c .loop-test .left)) in
     l .inv .2 ∙ ap (λ (n : ℕ). stepsOn f n t newTally .tables) end
 
 pub replay-spec : {M : Type 1} → statement M

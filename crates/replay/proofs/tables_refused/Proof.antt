@@ -14,8 +14,11 @@ use Rattle.replay.proofs.tables_refused.Tie as tie
 
 fits : length tablesRefused ≤ 160
 fits =
-    omega
-    (arith, line-most tablesWord (refusedWord ∷ decimal 7 ∷ []) (6 ∷ 7 ∷ 1 ∷ []) (lit≤ tt, (lit≤ tt, (numeral-most 10 (lit≤ tt) 1 7 (lit≤ tt) (lit≤ tt), tt))))
+    omega (
+      arith,
+      line-most tablesWord (refusedWord ∷ decimal 7 ∷ []) (6 ∷ 7 ∷ 1 ∷ [])
+          (lit≤ tt, (lit≤ tt, (numeral-most 10 (lit≤ tt) 1 7 (lit≤ tt) (lit≤ tt), tt))),
+    )
 
 empty-requires : tie.Need-empty-requires
 empty-requires c κs = search needs
@@ -43,7 +46,10 @@ with-character-requires c κs = search needs
 
 returns : tie.Need-returns
 returns c =
-    rw (c .with-character .ensures, c .before .with-number .ensures, c .before .before .wide .ensures, c .before .before .before .with-word .ensures, c .before .before .before .before .before .with-text .ensures, c .before .before .before .before .before .before .before .empty .ensures, words-appended)
+    let c3 = c .before .before .before in
+    let c5 = c3 .before .before in
+    let c7 = c5 .before .before in
+    rw (c .with-character .ensures, c .before .with-number .ensures, c .before .before .wide .ensures, c3 .with-word .ensures, c5 .with-text .ensures, c7 .empty .ensures, words-appended)
     (line-appended tablesWord (refusedWord ∷ decimal 7 ∷ []) fits)
 
 pub tables-refused-spec : {M : Type 1} → statement M

@@ -1,4 +1,3 @@
--- past rows 7 and 4
 use mathlib.Core.Path.{sym, _∙_}
 use borrow.Author.Tests.{not-true, not-false}
 use Rattle.tables.proofs.Whole.{formed}
@@ -11,6 +10,7 @@ use Rattle.tables.specs.Layout.{relayOf, wellFormed}
 use Rattle.relay.proofs.refusals.refusal.Statement.{statement}
 use Rattle.relay.proofs.refusals.refusal.Tie as tie
 
+-- past rows 7 and 4
 well : (c : tie.Else1) → wellFormed (c .before .before .before .before .args .tables .now) ≡ true
 well c = sym (c .before .check .ensures) ∙ not-false _ (c .if1 .left)
 

@@ -1,4 +1,3 @@
--- ---- past the refusals
 use mathlib.Core.Path.{_≡_, refl, sym, _∙_}
 use borrow.Author.Needs.{needs}
 use Rattle.tables.proofs.Whole.{formed}
@@ -9,6 +8,7 @@ use Rattle.relay.proofs.SignatureLaws.{word-refused, word-not-ours, wor
 use Rattle.relay.proofs.signature.signature_matters.Statement.{statement}
 use Rattle.relay.proofs.signature.signature_matters.Tie as tie
 
+-- ---- past the refusals
 abbrev s1 : tie.Else1 → tie.Start
 s1 c = c .before .before .before .before
 
@@ -45,11 +45,11 @@ returns-2 c =
     word-not-ours (p .packet .now) (p .port) (p .clock) (p .tables .now) (p .room) (accepts (c2 .before)) _ (same-port c2) refl refl
     (sym (c .before .not-ours .ensures) ∙ c .if2 .taken)
 
-hash-of-requires : tie.Need-hash-of-requires
-hash-of-requires c κs = judges (c .before .before .before) .readable
+used-hash-requires : tie.Need-used-hash-requires
+used-hash-requires c κs = judges (c .before .before .before) .readable
 
 decide-requires : tie.Need-decide-requires
-decide-requires c κs = (judges (c .before .before .before .before), c .hash-of .ensures)
+decide-requires c κs = (judges (c .before .before .before .before), c .used-hash .ensures)
 
 decision-tells-requires : tie.Need-decision-tells-requires
 decision-tells-requires c κs = search needs
@@ -70,7 +70,7 @@ signature-matters-spec =
     low-byte-requires
     not-ours-requires
     returns-2
-    hash-of-requires
+    used-hash-requires
     decide-requires
     decision-tells-requires
     returns-3)

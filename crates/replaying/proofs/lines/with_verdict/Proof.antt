@@ -75,8 +75,10 @@ with-word-requires-5 c κs = search needs
 returns : tie.Need-returns
 unfolding verdictWords
 returns c =
-    rw (c .before .before .before .before .before .before .verdict .given .1) (
-      rw (c .with-number .ensures, c .before .wide .ensures, c .before .before .reason-number .ensures, c .before .before .before .with-word .ensures, words-appended) refl,
+    let c3 = c .before .before .before in
+    let c6 = c3 .before .before .before in
+    rw (c6 .verdict .given .1) (
+      rw (c .with-number .ensures, c .before .wide .ensures, c .before .before .reason-number .ensures, c3 .with-word .ensures, words-appended) refl,
       number-short dropWord (lit≤ tt) _ (omega (arith, c .before .before .reason-number .ensures)),
     )
 
