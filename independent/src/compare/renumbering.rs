@@ -92,6 +92,9 @@ impl<E: Engine> Pair<E> {
         if matches!(call, Call::Fresh(_)) {
             self.map = IDENTITY;
         }
+        for run in [&mut self.plain, &mut self.renamed] {
+            run.output.clear(); // an earlier reply has ports that aren't renamed here
+        }
         let plain = self.plain.make(call).map(|outcome| rename_outcome(&self.map, outcome));
         let renamed = self.renamed.make(&rename_call(&self.map, call));
         let mut tables = self.plain.tables.clone();

@@ -253,6 +253,7 @@ impl<R: Rules> Comparison<'_, R> {
         change(&mut self.random, &mut self.changed.tables);
         let allowed = self.check(what);
         self.ask(what);
+        self.ask(what);
         self.call(what);
         self.call(what);
         allowed

@@ -158,15 +158,10 @@ fn call_of(words: &[&str]) -> Option<Call> {
         ["add", "local", address] => Call::AddLocal(array_of(address)?),
         ["remove", "local", address] => Call::RemoveLocal(array_of(address)?),
         ["renumber", map] => Call::Renumber(array_of(map)?),
-        ["ask", "into", fill, question @ ..] => {
-            Call::Ask { question: question_of(question)?, fill: u8::from_be_bytes(array_of(fill)?) }
+        ["ask", "into", fill, question @ ..] => Call::Ask { question: question_of(question)?, fill: u8::from_be_bytes(array_of(fill)?) },
+        ["matters", "port", port, "clock", clock, "room", room, packet] => {
+            Call::Matters { packet: bytes_of(packet)?, port: port.parse().ok()?, clock: clock.parse().ok()?, room: room.parse().ok()? }
         }
-        ["matters", "port", port, "clock", clock, "room", room, packet] => Call::Matters {
-            packet: bytes_of(packet)?,
-            port: port.parse().ok()?,
-            clock: clock.parse().ok()?,
-            room: room.parse().ok()?,
-        },
         ["save"] => Call::Save,
         ["restore"] => Call::Restore,
         ["write", "at", at, bytes] => Call::Write { at: at.parse().ok()?, bytes: bytes_of(bytes)? },
@@ -188,9 +183,7 @@ fn question_of(words: &[&str]) -> Option<Question> {
         ["local", place] => Question::Local(place.parse().ok()?),
         ["path", place] => Question::Path(place.parse().ok()?),
         ["link", place] => Question::Link(place.parse().ok()?),
-        ["path", "to", destination, "at", clock] => {
-            Question::LivePath { destination: array_of(destination)?, clock: clock.parse().ok()? }
-        }
+        ["path", "to", destination, "at", clock] => Question::LivePath { destination: array_of(destination)?, clock: clock.parse().ok()? },
         ["returns", "at", clock] => Question::LiveReturns(clock.parse().ok()?),
         ["hashes", "at", clock] => Question::LiveHashes(clock.parse().ok()?),
         ["clock"] => Question::LastClock,

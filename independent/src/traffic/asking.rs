@@ -59,7 +59,9 @@ impl<I: Iterator<Item = Call>> Asking<I> {
         match self.random.below(16) {
             0 => room = self.random.pick(&[0, 499, 500, 501, usize::MAX]),
             1 => port = self.random.pick(&[0, 1, 15, 16, 256, u64::MAX]),
-            2 => clock = self.random.pick(&[clock.saturating_sub(1), clock.saturating_add(1), clock.saturating_add(HASH_LIFETIME), u64::MAX]),
+            2 => {
+                clock = self.random.pick(&[clock.saturating_sub(1), clock.saturating_add(1), clock.saturating_add(HASH_LIFETIME), u64::MAX])
+            }
             3 => packet.resize(self.random.pick(&[0, 18, 34, 501, 502]), 0),
             4 => packet.iter_mut().take(1).for_each(|header| *header |= 0x80),
             _ => {}
