@@ -109,32 +109,6 @@ pub fn renumber(tables: &mut [u8], map: &[u8; 16]) -> u8 {
     unsafe { haskumye_renumber(tables.as_mut_ptr(), tables.len(), map) }
 }
 
-/// The calls that read the tables, which `raw` doesn't declare yet.
-mod asked {
-    use crate::packet::Address;
-
-    extern "C" {
-        pub fn haskumye_port(tables: *const u8, size: usize, port: u64, settings: *mut [u8; 2]) -> u8;
-        pub fn haskumye_local(tables: *const u8, size: usize, place: u64, address: *mut Address) -> u8;
-        pub fn haskumye_path(tables: *const u8, size: usize, place: u64, path: *mut [u8; 43]) -> u8;
-        pub fn haskumye_live_path(tables: *const u8, size: usize, destination: *const Address, clock: u64, path: *mut [u8; 43]) -> u8;
-        pub fn haskumye_link(tables: *const u8, size: usize, place: u64, link: *mut [u8; 29]) -> u8;
-        pub fn haskumye_live_returns(tables: *const u8, size: usize, clock: u64, count: *mut u64) -> u8;
-        pub fn haskumye_live_hashes(tables: *const u8, size: usize, clock: u64, count: *mut u64) -> u8;
-        pub fn haskumye_last_clock(tables: *const u8, size: usize, clock: *mut u64) -> u8;
-        pub fn haskumye_signature_matters(
-            packet: *const u8,
-            length: usize,
-            port: u64,
-            clock: u64,
-            tables: *const u8,
-            size: usize,
-            room: usize,
-        ) -> u8;
-    }
-}
-use asked::*;
-
 /// 0 and what is told, which goes to the reply; refusal 7; or 255 for none. A number stands in the reply as eight bytes, big-endian.
 pub fn ask(tables: &[u8], question: &Question, reply: &mut [u8]) -> u8 {
     assert_eq!(reply.len(), question.width());
