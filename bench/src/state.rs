@@ -65,7 +65,7 @@ pub fn agreed(before: &State, call: &Call) -> State {
     let answered = match outcome {
         Outcome::Judged(answer) => Ok(answer.verdict),
         Outcome::Refused(number) => Err(number),
-        Outcome::Done => panic!("a packet call answers"),
+        _ => panic!("a packet call answers"),
     };
     assert_eq!(answered, call.expected.map_err(|refusal| refusal.number()));
     after
