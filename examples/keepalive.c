@@ -33,7 +33,7 @@ static void expect(int holds, const char *what)
 static struct packet written(haskumye_parts parts, const uint8_t *payload, size_t length)
 {
     struct packet packet;
-    uint64_t number = haskumye_write(&parts, payload, length, packet.bytes, sizeof packet.bytes);
+    haskumye_written number = haskumye_write(&parts, payload, length, packet.bytes, sizeof packet.bytes);
     expect(HASKUMYE_WRITTEN_REFUSAL(number) == HASKUMYE_REFUSAL_NONE, "writing a packet");
     packet.length = HASKUMYE_WRITTEN_LENGTH(number);
     return packet;

@@ -68,8 +68,9 @@ extern "C" {
 #define HASKUMYE_HASH_COUNT 1024  /* remembered packets */
 #define HASKUMYE_CLOCK_LIMIT UINT64_C(1099511627776) /* seconds: every clock is below 2^40 */
 
-/* Where the tables hold the last accepted clock: 8 bytes, big-endian. After a restart the clock goes on from there. */
-#define HASKUMYE_LAST_CLOCK_PLACE 16
+/* What a question answers beside a refusal and 0. */
+#define HASKUMYE_NONE 255   /* there is none: an empty place or one outside the table, no port, no live path */
+#define HASKUMYE_VERIFY 255 /* haskumye_signature_matters: verify the signature before the packet call */
 
 /* Whether a port carries packets. */
 #define HASKUMYE_OFF 0
@@ -246,6 +247,46 @@ typedef struct {
     char bytes[HASKUMYE_TEXT_SIZE];
 } haskumye_text;
 
+/* A time or clock in seconds, big-endian, so that the structs below have no padding: haskumye_seconds says it. */
+typedef struct {
+    uint8_t bytes[8];
+} haskumye_time;
+
+static inline uint64_t haskumye_seconds(haskumye_time time)
+{
+    uint64_t seconds = 0;
+    for (size_t i = 0; i < sizeof time.bytes; i++) {
+        seconds = seconds << 8 | time.bytes[i];
+    }
+    return seconds;
+}
+
+typedef struct {
+    uint8_t on;   /* HASKUMYE_ON or HASKUMYE_OFF */
+    uint8_t mode; /* one of haskumye_mode */
+} haskumye_port_settings;
+
+/* A path. It is live while the clock is below its expiry. */
+typedef struct {
+    haskumye_address destination;
+    uint8_t port;
+    uint8_t hops;              /* relays between the destination and this one */
+    haskumye_address next_hop; /* the relay address that its announce came with, or the destination */
+    haskumye_time expiry;
+    uint8_t blob_count;
+} haskumye_path_record;
+
+/* A link that leads through this relay. It is live while the clock is below its expiry. */
+typedef struct {
+    haskumye_address id;
+    uint8_t asking;         /* the port of the side that asked for it */
+    uint8_t answering;      /* the port of the side that it leads to */
+    uint8_t taken_hops;     /* relays between the asking side and this one */
+    uint8_t remaining_hops; /* relays between this one and the answering side */
+    uint8_t proved;         /* 1 or 0 */
+    haskumye_time expiry;
+} haskumye_link_record;
+
 /* The packet calls since fresh, each count modulo 2^32: all that were not refused, and those of each answer. */
 typedef struct {
     uint32_t total;
@@ -264,6 +305,10 @@ HASKUMYE_ASSERT_SIZE(haskumye_entry, 40);
 HASKUMYE_ASSERT_SIZE(haskumye_port_map, 16);
 HASKUMYE_ASSERT_SIZE(haskumye_text, HASKUMYE_TEXT_SIZE);
 HASKUMYE_ASSERT_SIZE(haskumye_tally, 24);
+HASKUMYE_ASSERT_SIZE(haskumye_time, 8);
+HASKUMYE_ASSERT_SIZE(haskumye_port_settings, 2);
+HASKUMYE_ASSERT_SIZE(haskumye_path_record, 43);
+HASKUMYE_ASSERT_SIZE(haskumye_link_record, 29);
 
 /* ---- Which library this is. ---- */
 
@@ -318,6 +363,47 @@ HASKUMYE_CHECKED uint8_t haskumye_renumber(uint8_t *tables, size_t length, const
 HASKUMYE_CHECKED haskumye_answer haskumye_packet(const uint8_t *packet, size_t length, uint64_t port, uint64_t clock,
                                                  uint8_t signed_well, uint8_t *tables, size_t size, uint8_t *output,
                                                  size_t room, haskumye_tally *tally);
+
+/*
+ * ---- Questions: what the tables hold. They change nothing but what is lent for the answer. ----
+ * Each returns 0 where that now holds the answer; HASKUMYE_NONE where there is none, or refusal 7, and then it stays as
+ * it was. A record that expired is told too, by haskumye_path and haskumye_link, until another takes its place.
+ */
+
+/* A port's settings. None: a number over 15. */
+HASKUMYE_CHECKED uint8_t haskumye_port(const uint8_t *tables, size_t length, uint64_t port,
+                                       haskumye_port_settings *settings);
+
+/* The local address at a place, 0 to 15. Removing one leaves its place empty. */
+HASKUMYE_CHECKED uint8_t haskumye_local(const uint8_t *tables, size_t length, uint64_t place,
+                                        haskumye_address *address);
+
+/* The path at a place, 0 to 63, live or not. */
+HASKUMYE_CHECKED uint8_t haskumye_path(const uint8_t *tables, size_t length, uint64_t place,
+                                       haskumye_path_record *path);
+
+/* A destination's live path at a clock, which may be any number. */
+HASKUMYE_CHECKED uint8_t haskumye_live_path(const uint8_t *tables, size_t length, const haskumye_address *destination,
+                                            uint64_t clock, haskumye_path_record *path);
+
+/* The link at a place, 0 to 63, live or not. */
+HASKUMYE_CHECKED uint8_t haskumye_link(const uint8_t *tables, size_t length, uint64_t place,
+                                       haskumye_link_record *link);
+
+/* How many receipts are under way at a clock, and how many packets are remembered. Never none. */
+HASKUMYE_CHECKED uint8_t haskumye_live_returns(const uint8_t *tables, size_t length, uint64_t clock, uint64_t *count);
+HASKUMYE_CHECKED uint8_t haskumye_live_hashes(const uint8_t *tables, size_t length, uint64_t clock, uint64_t *count);
+
+/* The last accepted clock, 0 in a fresh relay: after a restart the clock goes on from there. Never none. */
+HASKUMYE_CHECKED uint8_t haskumye_last_clock(const uint8_t *tables, size_t length, uint64_t *clock);
+
+/*
+ * Whether the packet call with the same arguments, and an output of `room` bytes, would read the word on the signature.
+ * HASKUMYE_VERIFY: it would, so verify the signature first. 0: its answer is the same with either word. Else the
+ * refusal that it would give.
+ */
+HASKUMYE_CHECKED uint8_t haskumye_signature_matters(const uint8_t *packet, size_t length, uint64_t port, uint64_t clock,
+                                                    const uint8_t *tables, size_t size, size_t room);
 
 /* ---- Packets. ---- */
 

@@ -18,14 +18,14 @@ const KEEPALIVES: &str = "Keepalives: packets of kind link with context fa, whic
 link packets of the same length, which are: hash / core is to be 1.20 or better.";
 
 /// Core and independent relay, by their places among the programs.
-const CORE: usize = 0;
+pub const CORE: usize = 0;
 const INDEPENDENT: usize = 1;
 
-const FILLS: [(&str, Fill); 3] = [("empty", Fill::Empty), ("half", Fill::FirstHalf), ("full", Fill::Full)];
+pub const FILLS: [(&str, Fill); 3] = [("empty", Fill::Empty), ("half", Fill::FirstHalf), ("full", Fill::Full)];
 
 /// A call changes the tables, so a turn makes one call on each of so many copies, restored before it outside the time that counts.
 /// All copies (8 of 71 KiB) lie in a second-level cache of 1 MiB, where a busy relay's tables lie too; no first-level cache holds one.
-const COPIES: usize = 8;
+pub const COPIES: usize = 8;
 
 /// Nanoseconds of each call on the program beside it.
 fn time<const N: usize>(before: &State, timed: [(usize, &Call); N]) -> [f64; N] {

@@ -133,6 +133,13 @@ fn announce_again(scene: &mut Scene) -> Call {
     arriving(packet, Verdict::Drop(Reason::Replay))
 }
 
+/// The same announce within 300 s of the first.
+pub fn announce_duplicate(scene: &mut Scene) -> Call {
+    let packet = announce(scene, 5).0;
+    scene.put(&HASHES, &hash_of(&packet), &[]);
+    arriving(packet, Verdict::Drop(Reason::Duplicate))
+}
+
 fn link_request(scene: &mut Scene) -> Call {
     scene.make_room(&LINKS);
     let destination = path_of(scene, 3);

@@ -1,6 +1,7 @@
 //! The speed of the proved core beside the independent Rust at opt-level 3 and plain C at gcc -O3, in one run.
 //! An argument picks the lines that have it in their name.
 
+mod asking;
 mod calls;
 mod check;
 mod hashing;
@@ -13,5 +14,5 @@ mod state;
 
 fn main() {
     let only = std::env::args().nth(1).unwrap_or_default();
-    measure::run(only, &[hashing::run, check::run, search::run, calls::run, calls::run_keepalives, replays::run]);
+    measure::run(only, &[hashing::run, check::run, search::run, calls::run, calls::run_keepalives, asking::run, replays::run]);
 }

@@ -40,7 +40,7 @@ pub type Program = fn(&mut Independent, &Call, &mut State);
 /// The core, then the independent relay.
 pub const PROGRAMS: [Program; 2] = [on_core, on_independent];
 
-fn arrival(call: &Call) -> Arrival<'_> {
+pub fn arrival(call: &Call) -> Arrival<'_> {
     Arrival { packet: &call.packet, port: u64::from(call.port), clock: CLOCK, signature: true }
 }
 
@@ -65,7 +65,7 @@ pub fn agreed(before: &State, call: &Call) -> State {
     let answered = match outcome {
         Outcome::Judged(answer) => Ok(answer.verdict),
         Outcome::Refused(number) => Err(number),
-        Outcome::Done => panic!("a packet call answers"),
+        _ => panic!("a packet call answers"),
     };
     assert_eq!(answered, call.expected.map_err(|refusal| refusal.number()));
     after

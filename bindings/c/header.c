@@ -103,6 +103,40 @@ static void check_relay_calls(void)
     CHECK(HASKUMYE_ANSWER_REFUSAL(answer) == HASKUMYE_REFUSAL_TOO_SHORT);
 }
 
+static void check_questions(void)
+{
+    static const haskumye_address address = {{0}};
+    static const haskumye_time time = {{0, 0, 0, 1, 2, 3, 4, 5}};
+    static haskumye_address local;
+    static haskumye_port_settings port;
+    static haskumye_path_record path;
+    static haskumye_link_record link;
+    static uint64_t number;
+    static uint8_t tables[HASKUMYE_TABLE_SIZE];
+    CHECK(haskumye_seconds(time) == UINT64_C(0x102030405));
+    CHECK(haskumye_port(NULL, 0, 0, &port) == HASKUMYE_REFUSAL_TABLES);
+    CHECK(haskumye_local(NULL, 0, 0, &local) == HASKUMYE_REFUSAL_TABLES);
+    CHECK(haskumye_path(NULL, 0, 0, &path) == HASKUMYE_REFUSAL_TABLES);
+    CHECK(haskumye_live_path(NULL, 0, &address, 0, &path) == HASKUMYE_REFUSAL_TABLES);
+    CHECK(haskumye_link(NULL, 0, 0, &link) == HASKUMYE_REFUSAL_TABLES);
+    CHECK(haskumye_live_returns(NULL, 0, 0, &number) == HASKUMYE_REFUSAL_TABLES);
+    CHECK(haskumye_live_hashes(NULL, 0, 0, &number) == HASKUMYE_REFUSAL_TABLES);
+    CHECK(haskumye_last_clock(NULL, 0, &number) == HASKUMYE_REFUSAL_TABLES);
+    CHECK(haskumye_signature_matters(NULL, 0, 0, 0, NULL, 0, 0) == HASKUMYE_REFUSAL_TABLES);
+    CHECK(haskumye_fresh(tables, sizeof tables, &address) == 0);
+    CHECK(haskumye_set_port(tables, sizeof tables, 2, HASKUMYE_ON, HASKUMYE_MODE_ROAMING) == 0);
+    CHECK(haskumye_port(tables, sizeof tables, 2, &port) == 0 && port.on == 1 && port.mode == HASKUMYE_MODE_ROAMING);
+    CHECK(haskumye_port(tables, sizeof tables, 16, &port) == HASKUMYE_NONE && port.on == 1);
+    CHECK(haskumye_local(tables, sizeof tables, 0, &local) == HASKUMYE_NONE);
+    CHECK(haskumye_path(tables, sizeof tables, 63, &path) == HASKUMYE_NONE);
+    CHECK(haskumye_live_path(tables, sizeof tables, &address, 0, &path) == HASKUMYE_NONE);
+    CHECK(haskumye_link(tables, sizeof tables, 0, &link) == HASKUMYE_NONE);
+    number = 1;
+    CHECK(haskumye_live_returns(tables, sizeof tables, 0, &number) == 0 && number == 0);
+    CHECK(haskumye_last_clock(tables, sizeof tables, &number) == 0 && number == 0);
+    CHECK(haskumye_signature_matters(NULL, 0, 2, 0, tables, sizeof tables, 500) == HASKUMYE_REFUSAL_TOO_SHORT);
+}
+
 static void check_recording_calls(void)
 {
     static haskumye_entry entry;
@@ -163,6 +197,7 @@ int main(int count, char **words)
     check_accessors();
     check_packet_calls();
     check_relay_calls();
+    check_questions();
     check_recording_calls();
     printf("%d passed, %d failed\n", passed, failed);
     return failed == 0 ? 0 : 1;

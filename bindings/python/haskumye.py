@@ -41,7 +41,8 @@ LINK_COUNT = 64
 RETURN_COUNT = 512
 HASH_COUNT = 1024
 CLOCK_LIMIT = 1 << 40
-LAST_CLOCK_PLACE = 16
+NONE = 255
+VERIFY = 255
 OFF = 0
 ON = 1
 NO_PORT = 0xFFFF
@@ -219,6 +220,36 @@ class Replayed(NamedTuple):
     length: int = 0
 
 
+class Port(NamedTuple):
+    """A port's settings."""
+
+    on: bool
+    mode: Mode
+
+
+class Path(NamedTuple):
+    """A path. It is live while the clock is below its expiry, in seconds."""
+
+    destination: bytes
+    port: int
+    hops: int
+    next_hop: bytes
+    expiry: int
+    blob_count: int
+
+
+class Link(NamedTuple):
+    """A link that leads through the relay. It is live while the clock is below its expiry, in seconds."""
+
+    id: bytes
+    asking: int
+    answering: int
+    taken_hops: int
+    remaining_hops: int
+    proved: bool
+    expiry: int
+
+
 class Tally(NamedTuple):
     """The packet calls since fresh, each count modulo 2^32: all that were not refused, and those of each answer."""
 
@@ -245,6 +276,15 @@ FUNCTIONS = {
     "haskumye_remove_local": (c_uint8, [*_BUFFER, _GIVEN]),
     "haskumye_renumber": (c_uint8, [*_BUFFER, _GIVEN]),
     "haskumye_packet": (c_uint64, [*_BYTES, c_uint64, c_uint64, c_uint8, *_BUFFER, *_BUFFER, _TAKEN]),
+    "haskumye_port": (c_uint8, [*_BYTES, c_uint64, _TAKEN]),
+    "haskumye_local": (c_uint8, [*_BYTES, c_uint64, _TAKEN]),
+    "haskumye_path": (c_uint8, [*_BYTES, c_uint64, _TAKEN]),
+    "haskumye_live_path": (c_uint8, [*_BYTES, _GIVEN, c_uint64, _TAKEN]),
+    "haskumye_link": (c_uint8, [*_BYTES, c_uint64, _TAKEN]),
+    "haskumye_live_returns": (c_uint8, [*_BYTES, c_uint64, _TAKEN]),
+    "haskumye_live_hashes": (c_uint8, [*_BYTES, c_uint64, _TAKEN]),
+    "haskumye_last_clock": (c_uint8, [*_BYTES, _TAKEN]),
+    "haskumye_signature_matters": (c_uint8, [*_BYTES, c_uint64, c_uint64, *_BYTES, c_size_t]),
     "haskumye_read": (c_uint8, [*_BYTES, _TAKEN]),
     "haskumye_payload_start": (c_size_t, [*_BYTES]),
     "haskumye_write": (c_uint32, [_GIVEN, *_BYTES, *_BUFFER]),
@@ -517,10 +557,70 @@ class Relay:
         """A copy of the tables' bytes; docs/LAYOUT.md says what lies where."""
         return self._tables.raw
 
+    def _told(self, function, size, *arguments):
+        """The bytes that a question tells, or None where there is none."""
+        told = ctypes.create_string_buffer(size)
+        number = function(self._tables, TABLE_SIZE, *arguments, told)
+        if number == NONE:
+            return None
+        _done(number)
+        return told.raw
+
+    def _told_number(self, function, *arguments):
+        number = c_uint64()
+        _done(function(self._tables, TABLE_SIZE, *arguments, ctypes.byref(number)))
+        return number.value
+
+    def port(self, port):
+        """A port's settings; None for a number over 15."""
+        told = self._told(_library.haskumye_port, 2, _number(port))
+        return told and Port(told[0] == ON, Mode(told[1]))
+
+    def local(self, place):
+        """The local address at a place, below LOCAL_COUNT; None where it is empty."""
+        return self._told(_library.haskumye_local, 16, _number(place))
+
+    def path(self, place):
+        """The path at a place, below PATH_COUNT, live or not; None where it is empty."""
+        return _path(self._told(_library.haskumye_path, 43, _number(place)))
+
+    def live_path(self, destination, clock):
+        """A destination's live path at a clock, or None."""
+        return _path(self._told(_library.haskumye_live_path, 43, _exactly(destination, 16, "an address"), _number(clock)))
+
+    def link(self, place):
+        """The link at a place, below LINK_COUNT, live or not; None where it is empty."""
+        told = self._told(_library.haskumye_link, 29, _number(place))
+        return told and Link(told[:16], *told[16:20], told[20] == 1, int.from_bytes(told[21:], "big"))
+
+    def live_returns(self, clock):
+        """How many receipts are under way at a clock."""
+        return self._told_number(_library.haskumye_live_returns, _number(clock))
+
+    def live_hashes(self, clock):
+        """How many packets are remembered at a clock."""
+        return self._told_number(_library.haskumye_live_hashes, _number(clock))
+
     @property
     def last_clock(self):
         """The last accepted clock, 0 in a fresh relay. After a restart the clock goes on from there."""
-        return int.from_bytes(self._tables[LAST_CLOCK_PLACE : LAST_CLOCK_PLACE + 8], "big")
+        return self._told_number(_library.haskumye_last_clock)
+
+    def signature_matters(self, packet, port, clock):
+        """Whether `packet` with the same arguments would read `signed`: verify the signature only then. Else the answer is the same with either word.
+        Refused as that call is."""
+        packet = _bytes(packet)
+        told = _library.haskumye_signature_matters(
+            packet, len(packet), _number(port), _number(clock), self._tables, TABLE_SIZE, OUTPUT_SIZE
+        )
+        if told == VERIFY:
+            return True
+        _done(told)
+        return False
+
+
+def _path(told):
+    return told and Path(told[:16], told[16], told[17], told[18:34], int.from_bytes(told[34:42], "big"), told[42])
 
 
 def _fields(number):

@@ -9,7 +9,7 @@ import sys
 import unittest
 
 import haskumye
-from haskumye import Deliver, Drop, Forward, Kept, Kind, Mode, Parts, Reason, Refusal, Refused, Relay, Spread, Tally
+from haskumye import Deliver, Drop, Forward, Kept, Kind, Link, Mode, Parts, Path, Port, Reason, Refusal, Refused, Relay, Spread, Tally
 
 ROOT = pathlib.Path(__file__).resolve().parents[2]
 OWN = bytes([0x0A] * 16)
@@ -153,6 +153,53 @@ class TestPackets(unittest.TestCase):
         box.packet(haskumye.write(Parts(destination=DESK)), 0, 77)
         again = Relay.from_tables(bytearray(box.tables), box.tally)
         self.assertEqual((again.tables, again.tally, again.last_clock), (box.tables, box.tally, 77))
+
+
+class TestQuestions(unittest.TestCase):
+    def test_ports_and_local_addresses(self):
+        box = relay(2)
+        box.set_port(3, True, Mode.ROAMING)
+        box.add_local(DESK)
+        before = box.tables
+        self.assertEqual([box.port(port) for port in (1, 2, 3)], [Port(True, Mode.BOUNDARY), Port(False, Mode.BOUNDARY), Port(True, Mode.ROAMING)])
+        self.assertEqual([box.local(place) for place in (0, 1, 16, (1 << 64) - 1)], [DESK, None, None, None])
+        self.assertIsNone(box.port(16))
+        self.assertEqual((box.last_clock, box.tables), (0, before))
+
+    def test_a_path_and_its_receipt(self):
+        box, (packet, destination) = relay(3), announce()
+        box.packet(packet, 1, 1000, signed=True)
+        path = Path(destination, 1, 0, destination, 1000 + 604800, 1)
+        self.assertEqual((box.path(0), box.path(1), box.path(64)), (path, None, None))
+        self.assertEqual([box.live_path(destination, clock) for clock in (1000, path.expiry - 1, path.expiry)], [path, path, None])
+        self.assertIsNone(box.live_path(DESK, 1000))
+        box.packet(data(destination, b"42 plants"), 2, 1001)
+        self.assertEqual([box.live_returns(clock) for clock in (1001, 2800, 2801)], [1, 1, 0])
+        self.assertEqual([box.live_hashes(clock) for clock in (1001, 1300, (1 << 64) - 1)], [2, 1, 0])
+        box.renumber([5, 6, 7, 0, 1, 2, 3, 4, *range(8, 16)])
+        self.assertEqual(box.path(0), path._replace(port=6))
+
+    def test_a_link(self):
+        box, (packet, destination) = relay(3), announce()
+        box.packet(packet, 1, 1000, signed=True)
+        request = haskumye.write(Parts(0x52, 0, OWN, destination), bytes(64))
+        self.assertEqual(box.packet(request, 2, 1001).port, 1)
+        link = box.link(0)
+        self.assertEqual(link[:6], (haskumye.link_id(request), 2, 1, 0, 0, False))
+        self.assertGreater(link.expiry, 1001)
+        self.assertIsNone(box.link(1))
+        self.assertIsInstance(link, Link)
+
+    def test_whether_the_signature_matters(self):
+        box, (packet, destination) = relay(2), announce()
+        self.assertIs(box.signature_matters(packet, 0, 1), True)
+        box.packet(packet, 0, 1, signed=True)
+        self.assertIs(box.signature_matters(packet, 0, 1), False)  # a duplicate
+        self.assertIs(box.signature_matters(data(destination, b""), 1, 1), False)
+        for refusal, arguments in ((1, (b"", 0, 1)), (4, (packet, 2, 1)), (5, (packet, 0, 0))):
+            with self.assertRaises(Refused) as caught:
+                box.signature_matters(*arguments)
+            self.assertEqual(caught.exception.refusal, refusal)
 
 
 class TestRecordings(unittest.TestCase):

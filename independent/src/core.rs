@@ -4,6 +4,7 @@
 use crate::answer::Tally;
 use crate::engine::Fields;
 use crate::packet::{Address, Blob, PacketHash, Parts};
+use crate::relay::asking::Question;
 use haskumye::raw::*;
 
 /// Header, hops, relay address, destination, context.
@@ -106,6 +107,32 @@ pub fn remove_local(tables: &mut [u8], address: &Address) -> u8 {
 
 pub fn renumber(tables: &mut [u8], map: &[u8; 16]) -> u8 {
     unsafe { haskumye_renumber(tables.as_mut_ptr(), tables.len(), map) }
+}
+
+/// 0 and what is told, which goes to the reply; refusal 7; or 255 for none. A number stands in the reply as eight bytes, big-endian.
+pub fn ask(tables: &[u8], question: &Question, reply: &mut [u8]) -> u8 {
+    assert_eq!(reply.len(), question.width());
+    let (at, size, out) = (tables.as_ptr(), tables.len(), reply.as_mut_ptr());
+    let numbered: unsafe fn(*const u8, usize, u64, *mut u64) -> u8 = match question {
+        Question::Port(port) => return unsafe { haskumye_port(at, size, *port, out.cast()) },
+        Question::Local(place) => return unsafe { haskumye_local(at, size, *place, out.cast()) },
+        Question::Path(place) => return unsafe { haskumye_path(at, size, *place, out.cast()) },
+        Question::Link(place) => return unsafe { haskumye_link(at, size, *place, out.cast()) },
+        Question::LivePath { destination, clock } => return unsafe { haskumye_live_path(at, size, destination, *clock, out.cast()) },
+        Question::LiveReturns(_) => |at, size, clock, count| unsafe { haskumye_live_returns(at, size, clock, count) },
+        Question::LiveHashes(_) => |at, size, clock, count| unsafe { haskumye_live_hashes(at, size, clock, count) },
+        Question::LastClock => |at, size, _, clock| unsafe { haskumye_last_clock(at, size, clock) },
+    };
+    let clock = if let Question::LiveReturns(clock) | Question::LiveHashes(clock) = question { *clock } else { 0 };
+    let mut number = u64::from_be_bytes(reply[..].try_into().expect("eight bytes"));
+    let told = unsafe { numbered(at, size, clock, &mut number) };
+    reply.copy_from_slice(&number.to_be_bytes());
+    told
+}
+
+/// A refusal of the packet call; 0 where it doesn't read the signature word, 255 where it does.
+pub fn signature_matters(packet: &[u8], port: u64, clock: u64, tables: &[u8], room: usize) -> u8 {
+    unsafe { haskumye_signature_matters(packet.as_ptr(), packet.len(), port, clock, tables.as_ptr(), tables.len(), room) }
 }
 
 /// The answer as one number, its fields as in `linked`; signed by 1, not by any other number.

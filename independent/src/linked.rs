@@ -4,10 +4,15 @@ use crate::answer::{Answer, Reason, Refusal, Tally, Verdict};
 use crate::core::{self, crossing, PartsBytes, LINE};
 use crate::engine::{Engine, Fields, Outcome, PacketCalls, RecordingCalls};
 use crate::packet::{payload_place, Address, Blob, PacketHash, Parts};
+use crate::relay::asking::Question;
 use crate::relay::Arrival;
 
 /// The core keeps nothing between calls: all is in the caller's bytes.
 pub struct Core;
+
+/// Answers to questions that are no refusals: there is none, and the signature is to be verified.
+const NONE: u8 = 255;
+const VERIFY: u8 = 255;
 
 /// A refusal's number, 0 for none.
 fn done(refusal: u8) -> Outcome {
@@ -85,6 +90,21 @@ impl Engine for Core {
 
     fn check(&mut self, tables: &[u8]) -> bool {
         core::check(tables) == 0
+    }
+
+    fn ask(&mut self, tables: &mut [u8], question: &Question, reply: &mut [u8]) -> Outcome {
+        match core::ask(tables, question, reply) {
+            NONE => Outcome::Nothing,
+            number => done(number),
+        }
+    }
+
+    fn signature_matters(&mut self, tables: &mut [u8], room: usize, arrival: &Arrival) -> Outcome {
+        match core::signature_matters(arrival.packet, arrival.port, arrival.clock, tables, room) {
+            0 => Outcome::Matters(false),
+            VERIFY => Outcome::Matters(true),
+            number => refused(number),
+        }
     }
 }
 

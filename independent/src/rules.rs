@@ -5,11 +5,12 @@ pub use crate::answer::{self, Answer, Reason, Refusal, Tally, Verdict, When};
 pub use crate::packet::{self, announced, hash, Address, Header, PacketHash, Parts};
 pub use crate::recording::replaying::Judged;
 pub use crate::recording::{self, reading, replaying, writing, Entry};
+pub use crate::relay::asking::{self, Question};
 pub use crate::relay::links::Side;
 pub use crate::relay::renumbering::Map;
 pub use crate::relay::{accept, announces, by_path, form, judge, links, outgoing, renumbering, returns, settings, Arrival, Packet};
 pub use crate::sha256::Sha256;
-pub use crate::tables::{self, check, tuned, Link, Mode, Path, Port, Return, Table};
+pub use crate::tables::{self, check, tuned, Link, Mode, Path, Port, Return, Section, Table};
 
 /// Hands the list to a macro: the file of each rule, its name, and its types. A rule that goes by others is given the rules.
 macro_rules! every_rule {
@@ -122,6 +123,17 @@ macro_rules! every_rule {
             outgoing::is_last_hop(stored: u8) -> bool;
             outgoing::last_hop_header(header: Header) -> Header;
             outgoing::put_unchanged(packet: &Packet, output: &mut [u8]);
+
+            asking::question_refusal(&rules, tables: &[u8], question: &Question) -> Result<(), Refusal>;
+            asking::leave_asked(question: &Question, tables: &mut [u8]);
+            asking::settings_of(port: u64, tables: &[u8]) -> Option<Vec<u8>>;
+            asking::used_at(section: &Section, place: u64, tables: &[u8]) -> Option<usize>;
+            asking::path_at(&rules, place: u64, tables: &[u8]) -> Option<usize>;
+            asking::path_told_live(&rules, destination: &Address, clock: u64, tables: &[u8]) -> Option<usize>;
+            asking::live_count(table: &Table, clock: u64, tables: &[u8]) -> u64;
+            asking::signature_matters(
+                &rules, sha: &Sha256, tables: &[u8], room: usize, arrival: &Arrival
+            ) -> Result<bool, Refusal>;
 
             reading::file_refusal(&rules, file: &[u8]) -> Result<(), Refusal>;
             reading::length_refused(file: &[u8]) -> bool;

@@ -65,6 +65,55 @@ static uint64_t packet(const struct use *use)
                            (haskumye_tally *)(void *)use->tally.bytes);
 }
 
+static uint64_t port(const struct use *use)
+{
+    return haskumye_port(use->tables.bytes, use->tables.length, use->port, (haskumye_port_settings *)use->output.bytes);
+}
+
+static uint64_t local(const struct use *use)
+{
+    return haskumye_local(use->tables.bytes, use->tables.length, use->index, (haskumye_address *)use->output.bytes);
+}
+
+static uint64_t path(const struct use *use)
+{
+    return haskumye_path(use->tables.bytes, use->tables.length, use->index, (haskumye_path_record *)use->output.bytes);
+}
+
+static uint64_t live_path(const struct use *use)
+{
+    return haskumye_live_path(use->tables.bytes, use->tables.length, (const haskumye_address *)use->input.bytes,
+                              use->clock, (haskumye_path_record *)use->output.bytes);
+}
+
+static uint64_t link_at(const struct use *use)
+{
+    return haskumye_link(use->tables.bytes, use->tables.length, use->index, (haskumye_link_record *)use->output.bytes);
+}
+
+static uint64_t live_returns(const struct use *use)
+{
+    return haskumye_live_returns(use->tables.bytes, use->tables.length, use->clock,
+                                 (uint64_t *)(void *)use->output.bytes);
+}
+
+static uint64_t live_hashes(const struct use *use)
+{
+    return haskumye_live_hashes(use->tables.bytes, use->tables.length, use->clock,
+                                (uint64_t *)(void *)use->output.bytes);
+}
+
+static uint64_t last_clock(const struct use *use)
+{
+    return haskumye_last_clock(use->tables.bytes, use->tables.length, (uint64_t *)(void *)use->output.bytes);
+}
+
+static uint64_t signature_matters(const struct use *use)
+{
+    return haskumye_signature_matters(use->input.bytes, use->input.length, use->port, use->clock, use->tables.bytes,
+                                      use->tables.length, use->room);
+}
+
 static uint64_t read_parts(const struct use *use)
 {
     return haskumye_read(use->input.bytes, use->input.length, (haskumye_parts *)use->output.bytes);
@@ -159,6 +208,15 @@ static const struct {
     [REMOVE_LOCAL] = {"haskumye_remove_local", remove_local},
     [RENUMBER] = {"haskumye_renumber", renumber},
     [PACKET] = {"haskumye_packet", packet},
+    [PORT] = {"haskumye_port", port},
+    [LOCAL] = {"haskumye_local", local},
+    [PATH] = {"haskumye_path", path},
+    [LIVE_PATH] = {"haskumye_live_path", live_path},
+    [LINK] = {"haskumye_link", link_at},
+    [LIVE_RETURNS] = {"haskumye_live_returns", live_returns},
+    [LIVE_HASHES] = {"haskumye_live_hashes", live_hashes},
+    [LAST_CLOCK] = {"haskumye_last_clock", last_clock},
+    [SIGNATURE_MATTERS] = {"haskumye_signature_matters", signature_matters},
     [READ] = {"haskumye_read", read_parts},
     [PAYLOAD_START] = {"haskumye_payload_start", payload_start},
     [WRITE] = {"haskumye_write", write_packet},

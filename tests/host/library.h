@@ -17,6 +17,15 @@ enum function {
     REMOVE_LOCAL,
     RENUMBER,
     PACKET,
+    PORT,
+    LOCAL,
+    PATH,
+    LIVE_PATH,
+    LINK,
+    LIVE_RETURNS,
+    LIVE_HASHES,
+    LAST_CLOCK,
+    SIGNATURE_MATTERS,
     READ,
     PAYLOAD_START,
     WRITE,
@@ -42,7 +51,8 @@ struct use {
     struct buffer output; /* or where an answer of a fixed size goes */
     struct buffer tables;
     struct buffer tally;
-    uint64_t port, clock, mode, index;
+    uint64_t port, clock, mode, index; /* index: of an entry, or a place in a table */
+    size_t room;          /* of the output that a packet call would be lent */
     uint8_t byte;         /* the signature word, on or off, or a header */
 };
 

@@ -4,6 +4,7 @@
 #include "haskumye.h"
 #include "library.h"
 #include "packets.h"
+#include "questions.h"
 
 #include <string.h>
 
@@ -50,6 +51,7 @@ static void odd_packet_call(size_t size, size_t length, size_t room)
 {
     struct use use = {.input = buffer_new(length, 0), .tables = buffer_new(size, 0), .output = buffer_new(room, 3),
                       .tally = buffer_new(sizeof(haskumye_tally), 4)};
+    questions_try_signature(&use);
     uint64_t refusal = HASKUMYE_REFUSAL_ARRIVAL_PORT;
     if (size != HASKUMYE_TABLE_SIZE) {
         refusal = HASKUMYE_REFUSAL_TABLES;
@@ -82,6 +84,7 @@ static void odd_tables(size_t size)
     expect("renumber", library_call(RENUMBER, &use), refusal);
     expect("table size", library_call(TABLE_SIZE, &use), HASKUMYE_TABLE_SIZE);
     expect("version", library_call(VERSION, &use), HASKUMYE_VERSION);
+    questions_try(use.tables, UINT64_MAX, UINT64_MAX);
     buffer_free(&use.tables);
     buffer_free(&use.input);
 }

@@ -2,6 +2,7 @@
 
 #include "check.h"
 #include "haskumye.h"
+#include "questions.h"
 
 #include <string.h>
 
@@ -96,8 +97,11 @@ void relay_make(struct relay *relay, const struct listed *call)
                       .clock = call->clock, .mode = call->mode, .byte = byte_of(call->yes)};
     if (call->function == PACKET) {
         use.output = buffer_new(call->room, call->fill);
+        questions_try_signature(&use);
     }
     expect_check(call, &use);
+    /* Places over each table's end too: ports have 16, paths and links 64. */
+    questions_try(relay->tables, call->clock, check_line() % 70);
     uint64_t number = library_call(call->function, &use);
     if (call->function == FRESH && number == 0) {
         memset(relay->tally.bytes, 0, relay->tally.length);

@@ -41,8 +41,10 @@ pub const HASH_COUNT: usize = 1024;
 /// Every clock, in seconds, is below 2^40.
 pub const CLOCK_LIMIT: u64 = 1099511627776;
 
-/// Where the tables hold the last accepted clock: 8 bytes, big-endian.
-pub const LAST_CLOCK_PLACE: usize = 16;
+/// What a question answers where there is none.
+pub const NONE: u8 = 255;
+/// What `haskumye_signature_matters` answers where the signature is to be verified.
+pub const VERIFY: u8 = 255;
 
 /// A port is off; every number but [`ON`] is taken so.
 pub const OFF: u8 = 0;
@@ -161,6 +163,57 @@ pub struct Entry {
     pub length: u64,
 }
 
+/// A time or clock in seconds, big-endian.
+pub type Time = [u8; 8];
+
+/// A port's settings.
+#[repr(C)]
+#[derive(Clone, Copy, Debug, Default, PartialEq, Eq)]
+pub struct PortSettings {
+    /// 1 or 0.
+    pub on: u8,
+    /// The mode's number.
+    pub mode: u8,
+}
+
+/// A path, live or not.
+#[repr(C)]
+#[derive(Clone, Copy, Debug, Default, PartialEq, Eq)]
+pub struct PathRecord {
+    /// Whom it leads to.
+    pub destination: Address,
+    /// The port it leads by.
+    pub port: u8,
+    /// How many relays are between the destination and this one.
+    pub hops: u8,
+    /// The relay address that its announce came with, or the destination.
+    pub next_hop: Address,
+    /// It is live while the clock is below.
+    pub expiry: Time,
+    /// How many blobs it holds.
+    pub blob_count: u8,
+}
+
+/// A link, live or not.
+#[repr(C)]
+#[derive(Clone, Copy, Debug, Default, PartialEq, Eq)]
+pub struct LinkRecord {
+    /// The link's id.
+    pub id: Address,
+    /// The port of the side that asked for it.
+    pub asking: u8,
+    /// The port of the side that it leads to.
+    pub answering: u8,
+    /// How many relays are between the asking side and this one.
+    pub taken_hops: u8,
+    /// How many relays are between this one and the answering side.
+    pub remaining_hops: u8,
+    /// 1 or 0.
+    pub proved: u8,
+    /// It is live while the clock is below.
+    pub expiry: Time,
+}
+
 /// A line of text. Zeros fill what is left, one at least.
 pub type Text = [u8; TEXT_SIZE];
 
@@ -186,6 +239,24 @@ extern "C" {
         room: usize,
         tally: *mut Tally,
     ) -> u64;
+
+    pub fn haskumye_port(tables: *const u8, length: usize, port: u64, settings: *mut PortSettings) -> u8;
+    pub fn haskumye_local(tables: *const u8, length: usize, place: u64, address: *mut Address) -> u8;
+    pub fn haskumye_path(tables: *const u8, length: usize, place: u64, path: *mut PathRecord) -> u8;
+    pub fn haskumye_live_path(tables: *const u8, length: usize, destination: *const Address, clock: u64, path: *mut PathRecord) -> u8;
+    pub fn haskumye_link(tables: *const u8, length: usize, place: u64, link: *mut LinkRecord) -> u8;
+    pub fn haskumye_live_returns(tables: *const u8, length: usize, clock: u64, count: *mut u64) -> u8;
+    pub fn haskumye_live_hashes(tables: *const u8, length: usize, clock: u64, count: *mut u64) -> u8;
+    pub fn haskumye_last_clock(tables: *const u8, length: usize, clock: *mut u64) -> u8;
+    pub fn haskumye_signature_matters(
+        packet: *const u8,
+        length: usize,
+        port: u64,
+        clock: u64,
+        tables: *const u8,
+        size: usize,
+        room: usize,
+    ) -> u8;
 
     pub fn haskumye_read(packet: *const u8, length: usize, parts: *mut Parts) -> u8;
     pub fn haskumye_payload_start(packet: *const u8, length: usize) -> usize;

@@ -1,7 +1,7 @@
 //! A relay: its tables and its tally, and the calls on them.
 
 use crate::answer::{done, judged, Mode, Refusal, Verdict};
-use crate::raw::{self, Tally, LAST_CLOCK_PLACE, TABLE_SIZE, TEXT_SIZE};
+use crate::raw::{self, Tally, TABLE_SIZE, TEXT_SIZE};
 use crate::recording::Replayed;
 use crate::{Address, PortMap};
 
@@ -103,11 +103,6 @@ impl Relay {
     /// The packet calls since fresh.
     pub fn tally(&self) -> &Tally {
         &self.tally
-    }
-
-    /// The last accepted clock, 0 in a fresh relay. After a restart the clock goes on from there.
-    pub fn last_clock(&self) -> u64 {
-        self.tables[LAST_CLOCK_PLACE..].iter().take(8).fold(0, |clock, byte| clock << 8 | u64::from(*byte))
     }
 
     /// The tables' bytes; docs/LAYOUT.md says what lies where.

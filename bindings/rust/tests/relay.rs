@@ -1,6 +1,8 @@
 //! A relay through the library: each verdict, each refusal, and a receipt that comes home after a renumbering.
 
-use haskumye::raw::{DESTINATION_PLAIN, HEADER_ACCESS_CODE, HEADER_TRANSPORT, HEADER_TYPE_2, PACKET_ANNOUNCE, PACKET_PROOF};
+use haskumye::raw::{
+    DESTINATION_PLAIN, HEADER_ACCESS_CODE, HEADER_TRANSPORT, HEADER_TYPE_2, PACKET_ANNOUNCE, PACKET_LINK_REQUEST, PACKET_PROOF,
+};
 use haskumye::*;
 
 const OWN: Address = [0x0a; 16];
@@ -148,6 +150,54 @@ fn the_last_clock_is_read() {
     assert_eq!(relay.last_clock(), 0);
     relay.packet(&data([0x2a; 16], b""), 0, CLOCK_LIMIT - 1, false, &mut [0; OUTPUT_SIZE]).unwrap();
     assert_eq!(relay.last_clock(), CLOCK_LIMIT - 1);
+}
+
+#[test]
+fn ports_and_local_addresses_are_told() {
+    let mut relay = relay(1);
+    relay.set_port(3, true, Mode::Roaming).unwrap();
+    relay.add_local(&[0x2a; 16]).unwrap();
+    let before = relay.clone();
+    assert_eq!(relay.port(0), Some(Port { on: true, mode: Mode::Boundary }));
+    assert_eq!(relay.port(1), Some(Port { on: false, mode: Mode::Boundary }));
+    assert_eq!(relay.port(3), Some(Port { on: true, mode: Mode::Roaming }));
+    assert_eq!(relay.port(16), None);
+    assert_eq!([0, 1, LOCAL_COUNT, usize::MAX].map(|place| relay.local(place)), [Some([0x2a; 16]), None, None, None]);
+    assert!(relay == before);
+}
+
+#[test]
+fn a_path_a_receipt_and_a_link_are_told() {
+    let (mut relay, mut output, (announce, destination)) = (relay(16), [0; OUTPUT_SIZE], announce(1));
+    relay.packet(&announce, 2, 1_000, true, &mut output).unwrap();
+    let path = Path { destination, port: 2, hops: 0, next_hop: destination, expiry: 1_000 + 604_800, blob_count: 1 };
+    assert_eq!([0, 1, PATH_COUNT].map(|place| relay.path(place)), [Some(path), None, None]);
+    let live = [1_000, path.expiry - 1, path.expiry].map(|clock| relay.live_path(&destination, clock));
+    assert_eq!(live, [Some(path), Some(path), None]);
+    relay.packet(&data(destination, b"42 plants"), 5, 1_001, false, &mut output).unwrap();
+    assert_eq!([1_001, 2_800, 2_801].map(|clock| relay.live_returns(clock)), [1, 1, 0]);
+    assert_eq!([1_001, 1_300, u64::MAX].map(|clock| relay.live_hashes(clock)), [2, 1, 0]);
+    let header = HEADER_TYPE_2 | HEADER_TRANSPORT | PACKET_LINK_REQUEST;
+    let request = packet(Parts { header, relay: OWN, destination, ..Parts::default() }, &[0; 64]);
+    relay.packet(&request, 5, 1_002, false, &mut output).unwrap();
+    let link = relay.link(0).unwrap();
+    assert_eq!((link.id, link.asking, link.answering, link.proved), (link_id(&request).unwrap(), 5, 2, false));
+    assert_eq!((link.taken_hops, link.remaining_hops, relay.link(1)), (0, 0, None));
+    relay.renumber(&REVERSED).unwrap();
+    assert_eq!(relay.path(0), Some(Path { port: 13, ..path }));
+    assert_eq!(relay.link(0), Some(Link { asking: 10, answering: 13, ..link }));
+}
+
+#[test]
+fn the_signature_is_asked_for_where_it_matters() {
+    let (mut relay, (announce, destination)) = (relay(2), announce(1));
+    assert_eq!(relay.signature_matters(&announce, 0, 1), Ok(true));
+    relay.packet(&announce, 0, 1, true, &mut [0; OUTPUT_SIZE]).unwrap();
+    assert_eq!(relay.signature_matters(&announce, 0, 1), Ok(false)); // a duplicate
+    assert_eq!(relay.signature_matters(&data(destination, b""), 1, 1), Ok(false));
+    assert_eq!(relay.signature_matters(&[], 0, 1), Err(Refusal::TooShort));
+    assert_eq!(relay.signature_matters(&announce, 2, 1), Err(Refusal::ArrivalPort));
+    assert_eq!(relay.signature_matters(&announce, 0, 0), Err(Refusal::Clock));
 }
 
 #[test]

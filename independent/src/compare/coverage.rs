@@ -4,6 +4,7 @@ use crate::answer::{Answer, Verdict};
 use crate::engine::{Call, Outcome, PacketCall};
 use crate::limits::{EXEMPT_CONTEXTS, HASH_LIFETIME, LONGEST};
 use crate::packet::{self, hash, PacketHash};
+use crate::relay::asking::{ALWAYS_TOLD, KINDS};
 use crate::rules::AsWritten;
 use crate::sha256::Sha256;
 use crate::tables::{self, HASHES};
@@ -21,6 +22,17 @@ pub struct Coverage {
     /// Calls without a packet that were done.
     pub done: usize,
     exempt: Exempt,
+    asked: Asked,
+}
+
+/// Questions, by their answers.
+#[derive(Default)]
+struct Asked {
+    /// By `Question::kind`: what was told, none and refusal 7.
+    replies: [[usize; 3]; KINDS.len()],
+    /// Whether the signature word matters: refusals by number, then no and yes.
+    refusals: [usize; 8],
+    matters: [usize; 2],
 }
 
 /// Exempt packets that were forwarded: those that came before within the time that a hash is remembered, and those whose hash was live in
@@ -45,12 +57,26 @@ impl Exempt {
 }
 
 impl Coverage {
-    /// Makes a call count.
+    /// Makes a call count; questions count by themselves.
+    pub fn count_call(&mut self, call: &Call, outcome: &Outcome) {
+        match (call, outcome) {
+            (Call::Ask { question, .. }, _) => {
+                let answer = [Outcome::Done, Outcome::Nothing].iter().position(|answer| answer == outcome).unwrap_or(2);
+                self.asked.replies[question.kind()][answer] += 1;
+            }
+            (Call::Matters { .. }, Outcome::Matters(matters)) => self.asked.matters[usize::from(*matters)] += 1,
+            (Call::Matters { .. }, Outcome::Refused(number)) => self.asked.refusals[usize::from(*number).min(7)] += 1,
+            _ => self.count(outcome),
+        }
+    }
+
+    /// Makes the outcome of a call that isn't a question count.
     pub fn count(&mut self, outcome: &Outcome) {
         self.calls += 1;
         match outcome {
             Outcome::Refused(number) => self.refusals[usize::from(*number).min(11)] += 1,
             Outcome::Done => self.done += 1,
+            Outcome::Nothing | Outcome::Matters(_) => {}
             Outcome::Judged(answer) => {
                 self.verdicts[answer.verdict.index()] += 1;
                 if let Verdict::Drop(reason) = answer.verdict {
@@ -87,6 +113,26 @@ impl Coverage {
         let words = ["drop", "deliver", "forward", "spread", "kept"];
         let verdicts = words.iter().zip(self.verdicts).map(|(word, times)| (word.to_string(), times));
         refusals.chain(reasons).chain(verdicts).chain(self.reached_exempt()).collect()
+    }
+
+    /// The same of questions to the tables. Some are never answered by none.
+    pub fn reached_replies(&self) -> Vec<(String, usize)> {
+        let mut reached = Vec::new();
+        for (kind, replies) in KINDS.iter().zip(&self.asked.replies) {
+            for (answer, times) in ["told", "none", "refusal 7"].iter().zip(replies) {
+                if *answer != "none" || !ALWAYS_TOLD.contains(kind) {
+                    reached.push((format!("asked for {kind}: {answer}"), *times));
+                }
+            }
+        }
+        reached
+    }
+
+    /// And of the question whether the signature word matters.
+    pub fn reached_matters(&self) -> Vec<(String, usize)> {
+        let refusals = (1..=7).map(|number| (format!("refusal {number}"), self.asked.refusals[number]));
+        let answers = refusals.chain(["no", "yes"].map(str::to_string).into_iter().zip(self.asked.matters));
+        answers.map(|(answer, times)| (format!("asked whether the signature word matters: {answer}"), times)).collect()
     }
 
     fn reached_exempt(&self) -> Vec<(String, usize)> {

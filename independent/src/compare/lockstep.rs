@@ -31,7 +31,7 @@ pub fn step<A: Engine, B: Engine>(
     let remembered = coverage.is_remembered(call, &expected.tables);
     let outcomes = (got.make(call), expected.make(call));
     if let Some(outcome) = &outcomes.1 {
-        coverage.count(outcome);
+        coverage.count_call(call, outcome);
         coverage.count_exempt(call, outcome, remembered);
     }
     let Some(turn) = damage else { return differences(got, expected, outcomes) };

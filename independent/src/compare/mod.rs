@@ -15,14 +15,14 @@ pub mod tables;
 
 use crate::engine::Call;
 use crate::faults::Fault;
-use crate::traffic::Traffic;
+use crate::traffic::{Asking, Traffic};
 
 /// What a run is asked for. Each subject reads the same options.
 pub struct Options {
     pub seed: u64,
     /// How many random cases.
     pub count: usize,
-    /// How many calls on a relay.
+    /// How many calls on a relay, beside questions.
     pub calls: usize,
     /// The calls on a relay themselves, where they are given.
     pub list: Option<Vec<Call>>,
@@ -40,11 +40,11 @@ impl Default for Options {
 }
 
 impl Options {
-    /// The calls that relays are compared on: those given, or random ones.
+    /// The calls that relays are compared on: those given, or random ones with questions among them.
     fn traffic(&self) -> Box<dyn Iterator<Item = Call> + '_> {
         match &self.list {
             Some(calls) => Box::new(calls.iter().cloned()),
-            None => Box::new(Traffic::new(self.seed).take(self.calls)),
+            None => Box::new(Asking::new(self.seed, Traffic::new(self.seed).take(self.calls))),
         }
     }
 }

@@ -5,10 +5,11 @@ use crate::answer::{Answer, Verdict};
 use crate::engine::{Call, Engine, Outcome, Run};
 use crate::linked::Core;
 use crate::random::Random;
-use crate::relay::renumbering::{renumber, Map};
+use crate::relay::asking::Question;
+use crate::relay::renumbering::{rename, renumber, Map};
 use crate::relay::Relay;
 use crate::rules::AsWritten;
-use crate::traffic::Traffic;
+use crate::traffic::{Asking, Traffic};
 
 const IDENTITY: Map = [0, 1, 2, 3, 4, 5, 6, 7, 8, 9, 10, 11, 12, 13, 14, 15];
 /// A renumbering is put in once in so many calls.
@@ -53,7 +54,8 @@ fn rename_call(map: &Map, call: &Call) -> Call {
     let mut renamed = call.clone();
     match &mut renamed {
         Call::Packet(packet) => packet.port = image(map, packet.port),
-        Call::SetPort { port, .. } => *port = image(map, *port),
+        Call::SetPort { port, .. } | Call::Matters { port, .. } => *port = image(map, *port),
+        Call::Ask { question: Question::Port(port), .. } => *port = image(map, *port),
         Call::Renumber(given) => {
             let there = given.map(|port| image(map, u64::from(port)) as u8);
             *given = inverse(map).map(|port| there[usize::from(port)]);
@@ -76,16 +78,28 @@ impl<E: Engine> Pair<E> {
         self.renamed.make(&Call::Renumber(*map)) == Some(Outcome::Done)
     }
 
+    /// The plain run's output, with the ports of a told reply renamed.
+    fn renamed_output(&self, call: &Call, outcome: Option<Outcome>) -> Vec<u8> {
+        let mut output = self.plain.output.clone();
+        if let (Call::Ask { question, .. }, Some(Outcome::Done)) = (call, outcome) {
+            rename(&self.map, question.ports(), &mut output);
+        }
+        output
+    }
+
     /// Makes a call in both runs and compares all that it returns and leaves.
     fn make(&mut self, call: &Call) -> bool {
         if matches!(call, Call::Fresh(_)) {
             self.map = IDENTITY;
         }
+        for run in [&mut self.plain, &mut self.renamed] {
+            run.output.clear(); // an earlier reply has ports that aren't renamed here
+        }
         let plain = self.plain.make(call).map(|outcome| rename_outcome(&self.map, outcome));
         let renamed = self.renamed.make(&rename_call(&self.map, call));
         let mut tables = self.plain.tables.clone();
         plain == renamed
-            && self.plain.output == self.renamed.output
+            && self.renamed_output(call, plain) == self.renamed.output
             && self.plain.tally == self.renamed.tally
             && renumber(&AsWritten, &mut tables, &self.map).is_ok()
             && tables == self.renamed.tables
@@ -100,7 +114,8 @@ pub fn run(options: &Options, tally: &mut Tally) {
 fn scenarios<E: Engine>(name: &str, engine: impl Fn() -> E, options: &Options, tally: &mut Tally) {
     let mut random = Random::new(options.seed);
     let mut pair = Pair { plain: Run::new(engine()), renamed: Run::new(engine()), map: IDENTITY };
-    for (number, call) in Traffic::unlent(options.seed).take(options.calls / PART).enumerate() {
+    let calls = Asking::new(options.seed, Traffic::unlent(options.seed).take(options.calls / PART));
+    for (number, call) in calls.enumerate() {
         let same = pair.make(&call);
         if same && !options.damage {
             tally.passed += 1;

@@ -1,17 +1,19 @@
 //! Refusal 7 and the calls that need no packet: the core against the independent program. The tables are fresh, or what random traffic
 //! leaves, lent ones among them, or random ones; the same with one field at an edge of row 7's clauses; and ones of a wrong size.
-//! After every call the number and all tables are compared.
+//! After every call the number and all tables are compared, and what questions are told.
 
 use super::coverage::Coverage;
 use super::{Called, Options, Tally};
 use crate::core;
-use crate::engine::{Call, Outcome, Run};
+use crate::engine::{Call, Outcome, PacketCall, Run};
+use crate::linked::Core;
 use crate::packet::Address;
 use crate::random::Random;
+use crate::relay::asking::{Question, KINDS};
 use crate::relay::Relay;
 use crate::rules::{AsWritten, Rules, Tuned};
 use crate::samples::{self, Fill, FIELDS, RECORDS, RINGS};
-use crate::tables::{LOCALS, PATHS, SIZE};
+use crate::tables::{time, Table, HASHES, LOCALS, PATHS, RETURNS, SIZE};
 use crate::traffic::Traffic;
 
 /// Each clause is broken, and kept, at least so often.
@@ -79,7 +81,38 @@ fn core_call(random: &mut Random, tables: &mut [u8], call: &Call) -> Option<u8> 
 fn number(outcome: &Outcome) -> u8 {
     match outcome {
         Outcome::Refused(number) => *number,
+        Outcome::Nothing | Outcome::Matters(true) => 255,
         _ => 0,
+    }
+}
+
+/// About a record's expiry, or any clock.
+fn a_clock(random: &mut Random, tables: &[u8], table: &Table) -> u64 {
+    let at = table.records.range(random.below(table.records.count)).start + table.expiry;
+    let expiry = if tables.len() >= SIZE { time(tables, at) } else { 0 };
+    let any = random.word() >> random.below(64);
+    random.pick(&[expiry, expiry, expiry.wrapping_sub(1), expiry.wrapping_add(1), any])
+}
+
+fn a_question(random: &mut Random, tables: &[u8], kind: usize) -> Question {
+    let place = |random: &mut Random, count: usize| match random.below(6) {
+        0 => random.pick(&[count as u64, 255, 256, 1 << 32, u64::MAX]),
+        _ => random.below(count) as u64,
+    };
+    match kind {
+        0 => Question::Port(place(random, 16)),
+        1 => Question::Local(place(random, 16)),
+        2 => Question::Path(place(random, 64)),
+        3 => Question::Link(place(random, 64)),
+        4 => {
+            let at = PATHS.records.range(random.below(64)).start + 1;
+            let known = tables.get(at..at + 16).and_then(|key| key.try_into().ok());
+            let destination = known.unwrap_or_else(|| random.array());
+            Question::LivePath { destination, clock: a_clock(random, tables, &PATHS) }
+        }
+        5 => Question::LiveReturns(a_clock(random, tables, &RETURNS)),
+        6 => Question::LiveHashes(a_clock(random, tables, &HASHES)),
+        _ => Question::LastClock,
     }
 }
 
@@ -122,8 +155,12 @@ struct Comparison<'a, R: Rules> {
     traffic: Run<Relay<R>>,
     /// And on tables that are changed.
     changed: Run<Relay<R>>,
+    /// The core on the same tables, for questions.
+    core: Run<Core>,
     /// The last allowed tables.
     allowed: Vec<u8>,
+    /// The last packet call of traffic.
+    packet: Option<PacketCall>,
     calls: Coverage,
 }
 
@@ -137,8 +174,8 @@ impl<R: Rules> Comparison<'_, R> {
             return;
         }
         let place = got.buffer.iter().zip(&expected.buffer).position(|(a, b)| a != b);
-        let tables = place.map_or(String::new(), |at| format!(", tables first differ at byte {at}"));
-        self.tally.fail(&format!("{what}: got {}, expected {}{tables}", got.number, expected.number));
+        let left = place.map_or(String::new(), |at| format!(", what it left first differs at byte {at}"));
+        self.tally.fail(&format!("{what}: got {}, expected {}{left}", got.number, expected.number));
     }
 
     /// Whether the changed tables are allowed, and the tuned check of them beside the plain one.
@@ -163,9 +200,33 @@ impl<R: Rules> Comparison<'_, R> {
         self.expect(&format!("{what}, {call}"), Called::new(refusal, &tables), expected);
     }
 
+    /// A random question to the changed tables.
+    fn ask(&mut self, what: &str) {
+        let kind = self.random.below(KINDS.len() + 1);
+        let call = match &self.packet {
+            Some(PacketCall { packet, port, clock, output, .. }) if kind == KINDS.len() => {
+                Call::Matters { packet: packet.clone(), port: *port, clock: *clock, room: *output }
+            }
+            _ => {
+                let question = a_question(&mut self.random, &self.changed.tables, kind);
+                Call::Ask { question, fill: self.random.word() as u8 }
+            }
+        };
+        self.core.tables.clone_from(&self.changed.tables);
+        let (got, expected) = (self.core.make(&call).expect("a call"), self.changed.make(&call).expect("a call"));
+        self.calls.count_call(&call, &expected);
+        let called = |outcome: &Outcome, output: &[u8], tables: &[u8]| Called::new(number(outcome), &[output, tables].concat());
+        let got = called(&got, &self.core.output, &self.core.tables);
+        let expected = called(&expected, &self.changed.output, &self.changed.tables);
+        self.expect(&format!("{what}, {call}"), got, expected);
+    }
+
     /// A call of traffic. What needs no packet is asked of the core too.
     fn traffic(&mut self, call: &Call) {
         let needs_packet = matches!(call, Call::Packet(_));
+        if let Call::Packet(packet) = call {
+            self.packet = Some(packet.clone());
+        }
         let mut tables = if needs_packet { Vec::new() } else { self.traffic.tables.clone() };
         let Some(outcome) = self.traffic.make(call) else { return };
         if let Some(refusal) = core_call(&mut self.random, &mut tables, call) {
@@ -191,6 +252,8 @@ impl<R: Rules> Comparison<'_, R> {
         self.choose();
         change(&mut self.random, &mut self.changed.tables);
         let allowed = self.check(what);
+        self.ask(what);
+        self.ask(what);
         self.call(what);
         self.call(what);
         allowed
@@ -202,6 +265,7 @@ impl<R: Rules> Comparison<'_, R> {
         self.choose();
         self.changed.tables.resize(size, 0);
         self.check("size");
+        self.ask("size");
         self.call("size");
         self.call("size");
     }
@@ -223,6 +287,10 @@ pub fn run(options: &Options, tally: &mut Tally) {
         println!("refusal {number}: {}", reached.calls.refusals[number]);
         least(format!("refusal {number}"), reached.calls.refusals[number]);
     }
+    for (what, times) in reached.calls.reached_replies() {
+        println!("{what}: {times}");
+        least(what, times);
+    }
 }
 
 /// Compares the core with the independent program that reads the scope document so.
@@ -233,7 +301,9 @@ pub fn compare_with<R: Rules + Clone>(rules: R, options: &Options, tally: &mut T
         random: Random::new(options.seed),
         traffic: Run::new(Relay::new(rules.clone())),
         changed: Run::new(Relay::new(rules)),
+        core: Run::new(Core),
         allowed: vec![0; SIZE],
+        packet: None,
         calls: Coverage::default(),
     };
     c.expect("size of tables", Called::new(core::table_size() as u64, &[]), Called::new(SIZE as u64, &[]));

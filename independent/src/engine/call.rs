@@ -2,6 +2,7 @@
 
 use crate::answer::Tally;
 use crate::packet::Address;
+use crate::relay::asking::Question;
 use std::fmt;
 use std::str::FromStr;
 
@@ -30,6 +31,18 @@ pub enum Call {
     AddLocal(Address),
     RemoveLocal(Address),
     Renumber([u8; 16]),
+    /// A question to the tables, and the byte that fills the reply before.
+    Ask {
+        question: Question,
+        fill: u8,
+    },
+    /// Does the signature word of this packet call matter?
+    Matters {
+        packet: Vec<u8>,
+        port: u64,
+        clock: u64,
+        room: usize,
+    },
     /// Puts a copy of the tables aside, and takes it back.
     Save,
     Restore,
@@ -50,9 +63,14 @@ pub enum Call {
 }
 
 impl Call {
-    /// Is it recorded for hosts in other languages? They set no tally.
+    /// Is it recorded for hosts in other languages? They set no tally, and are asked nothing.
     pub fn is_recorded(&self) -> bool {
-        !matches!(self, Call::Tally(_))
+        !matches!(self, Call::Tally(_)) && !self.is_question()
+    }
+
+    /// Does it only ask?
+    pub fn is_question(&self) -> bool {
+        matches!(self, Call::Ask { .. } | Call::Matters { .. })
     }
 }
 
@@ -68,6 +86,24 @@ impl fmt::Display for Digits<'_> {
     }
 }
 
+/// A question in words.
+struct Asked<'a>(&'a Question);
+
+impl fmt::Display for Asked<'_> {
+    fn fmt(&self, f: &mut fmt::Formatter) -> fmt::Result {
+        match self.0 {
+            Question::Port(port) => write!(f, "port {port}"),
+            Question::Local(place) => write!(f, "local {place}"),
+            Question::Path(place) => write!(f, "path {place}"),
+            Question::Link(place) => write!(f, "link {place}"),
+            Question::LivePath { destination, clock } => write!(f, "path to {} at {clock}", Digits(destination)),
+            Question::LiveReturns(clock) => write!(f, "returns at {clock}"),
+            Question::LiveHashes(clock) => write!(f, "hashes at {clock}"),
+            Question::LastClock => f.write_str("clock"),
+        }
+    }
+}
+
 impl fmt::Display for Call {
     fn fmt(&self, f: &mut fmt::Formatter) -> fmt::Result {
         match self {
@@ -79,6 +115,8 @@ impl fmt::Display for Call {
             Call::AddLocal(address) => write!(f, "add local {}", Digits(address)),
             Call::RemoveLocal(address) => write!(f, "remove local {}", Digits(address)),
             Call::Renumber(map) => write!(f, "renumber {}", Digits(map)),
+            Call::Ask { question, fill } => write!(f, "ask into {fill:02x} {}", Asked(question)),
+            Call::Matters { packet, port, clock, room } => write!(f, "matters port {port} clock {clock} room {room} {}", Digits(packet)),
             Call::Save => f.write_str("save"),
             Call::Restore => f.write_str("restore"),
             Call::Write { at, bytes } => write!(f, "write at {at} {}", Digits(bytes)),
@@ -120,6 +158,10 @@ fn call_of(words: &[&str]) -> Option<Call> {
         ["add", "local", address] => Call::AddLocal(array_of(address)?),
         ["remove", "local", address] => Call::RemoveLocal(array_of(address)?),
         ["renumber", map] => Call::Renumber(array_of(map)?),
+        ["ask", "into", fill, question @ ..] => Call::Ask { question: question_of(question)?, fill: u8::from_be_bytes(array_of(fill)?) },
+        ["matters", "port", port, "clock", clock, "room", room, packet] => {
+            Call::Matters { packet: bytes_of(packet)?, port: port.parse().ok()?, clock: clock.parse().ok()?, room: room.parse().ok()? }
+        }
         ["save"] => Call::Save,
         ["restore"] => Call::Restore,
         ["write", "at", at, bytes] => Call::Write { at: at.parse().ok()?, bytes: bytes_of(bytes)? },
@@ -131,6 +173,20 @@ fn call_of(words: &[&str]) -> Option<Call> {
             let counters: Option<Vec<u32>> = counters.iter().map(|counter| counter.parse().ok()).collect();
             Call::Tally(counters?.try_into().ok()?)
         }
+        _ => return None,
+    })
+}
+
+fn question_of(words: &[&str]) -> Option<Question> {
+    Some(match words {
+        ["port", port] => Question::Port(port.parse().ok()?),
+        ["local", place] => Question::Local(place.parse().ok()?),
+        ["path", place] => Question::Path(place.parse().ok()?),
+        ["link", place] => Question::Link(place.parse().ok()?),
+        ["path", "to", destination, "at", clock] => Question::LivePath { destination: array_of(destination)?, clock: clock.parse().ok()? },
+        ["returns", "at", clock] => Question::LiveReturns(clock.parse().ok()?),
+        ["hashes", "at", clock] => Question::LiveHashes(clock.parse().ok()?),
+        ["clock"] => Question::LastClock,
         _ => return None,
     })
 }
@@ -152,12 +208,12 @@ fn array_of<const N: usize>(digits: &str) -> Option<[u8; N]> {
 #[cfg(test)]
 mod tests {
     use super::*;
-    use crate::traffic::Traffic;
+    use crate::traffic::{Asking, Traffic};
 
     #[test]
     fn what_is_shown_reads_back() {
         for seed in 1..=4 {
-            for call in Traffic::new(seed).take(20_000) {
+            for call in Asking::new(seed, Traffic::new(seed)).take(20_000) {
                 assert!(call.to_string().parse() == Ok(call.clone()), "{call}");
             }
         }

@@ -10,6 +10,7 @@ pub use recordings::{Fields, RecordingCalls};
 
 use crate::answer::{Answer, Refusal, Tally};
 use crate::packet::Address;
+use crate::relay::asking::{self, Question};
 use crate::relay::{settings, Arrival, Relay};
 use crate::rules::Rules;
 use crate::tables;
@@ -19,7 +20,11 @@ use crate::tables;
 pub enum Outcome {
     Refused(u8),
     Done,
+    /// Asked for what isn't there.
+    Nothing,
     Judged(Answer),
+    /// Does the signature word matter?
+    Matters(bool),
 }
 
 impl From<Result<(), Refusal>> for Outcome {
@@ -34,6 +39,12 @@ impl From<Result<Answer, Refusal>> for Outcome {
     }
 }
 
+impl From<Result<bool, Refusal>> for Outcome {
+    fn from(result: Result<bool, Refusal>) -> Self {
+        result.map_or_else(|refusal| Outcome::Refused(refusal.number()), Outcome::Matters)
+    }
+}
+
 /// The calls on a relay, over bytes that the caller owns.
 pub trait Engine {
     /// A fresh relay and its tally of zeros.
@@ -45,6 +56,10 @@ pub trait Engine {
     fn renumber(&mut self, tables: &mut [u8], map: &[u8; 16]) -> Outcome;
     /// Is refusal 7 not given?
     fn check(&mut self, tables: &[u8]) -> bool;
+    /// What is told goes to the reply, which has its width, and is left as it was where nothing is told.
+    fn ask(&mut self, tables: &mut [u8], question: &Question, reply: &mut [u8]) -> Outcome;
+    /// The word that the arrival has isn't read.
+    fn signature_matters(&mut self, tables: &mut [u8], room: usize, arrival: &Arrival) -> Outcome;
 }
 
 impl<R: Rules> Engine for Relay<R> {
@@ -79,6 +94,21 @@ impl<R: Rules> Engine for Relay<R> {
     fn check(&mut self, tables: &[u8]) -> bool {
         self.rules.tables_allowed(tables)
     }
+
+    fn ask(&mut self, tables: &mut [u8], question: &Question, reply: &mut [u8]) -> Outcome {
+        match asking::ask(&self.rules, tables, question) {
+            Err(refusal) => Outcome::Refused(refusal.number()),
+            Ok(None) => Outcome::Nothing,
+            Ok(Some(told)) => {
+                reply.copy_from_slice(&told);
+                Outcome::Done
+            }
+        }
+    }
+
+    fn signature_matters(&mut self, tables: &mut [u8], room: usize, arrival: &Arrival) -> Outcome {
+        self.rules.signature_matters(&self.sha, tables, room, arrival).into()
+    }
 }
 
 /// An engine with the buffers that its calls are lent.
@@ -111,6 +141,15 @@ impl<E: Engine> Run<E> {
             Call::AddLocal(address) => self.engine.add_local(tables, address),
             Call::RemoveLocal(address) => self.engine.remove_local(tables, address),
             Call::Renumber(map) => self.engine.renumber(tables, map),
+            Call::Ask { question, fill } => {
+                self.output.clear();
+                self.output.resize(question.width(), *fill);
+                self.engine.ask(tables, question, &mut self.output)
+            }
+            Call::Matters { packet, port, clock, room } => {
+                let arrival = Arrival { packet, port: *port, clock: *clock, signature: false };
+                self.engine.signature_matters(tables, *room, &arrival)
+            }
             _ => {
                 self.edit(call);
                 return None;

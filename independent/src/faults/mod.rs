@@ -3,6 +3,7 @@
 
 mod accepting;
 mod announces;
+mod asking;
 mod by_path;
 mod check;
 mod exempt;
@@ -18,6 +19,7 @@ mod with;
 
 pub use accepting::*;
 pub use announces::*;
+pub use asking::*;
 pub use by_path::*;
 pub use check::*;
 pub use exempt::*;
@@ -59,7 +61,7 @@ impl Fault {
 pub const OF_PACKETS: &[&[Fault]] = &[packets::FAULTS];
 /// Those that show in calls without a packet.
 pub const OF_TABLES: &[&[Fault]] = &[check::FAULTS, settings::FAULTS, renumbering::FAULTS];
-/// The others, in document 01's order.
+/// The others, in document 01's order, and those of questions.
 const OF_JUDGING: &[&[Fault]] = &[
     accepting::FAULTS,
     judging::FAULTS,
@@ -69,6 +71,7 @@ const OF_JUDGING: &[&[Fault]] = &[
     links::FAULTS,
     returns::FAULTS,
     outgoing::FAULTS,
+    asking::FAULTS,
 ];
 
 /// Those that show in recordings alone.

@@ -2,6 +2,7 @@
 
 pub mod accept;
 pub mod announces;
+pub mod asking;
 pub mod by_path;
 pub mod form;
 pub mod judge;

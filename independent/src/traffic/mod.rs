@@ -2,11 +2,14 @@
 //! It knows what it sent, and believes what a relay made of it; no relay is asked.
 
 mod announces;
+mod asking;
 mod data;
 mod exempt;
 mod lent;
 mod links;
 mod settings;
+
+pub use asking::Asking;
 
 use crate::engine::{Call, PacketCall};
 use crate::limits::CLOCK_LIMIT;

@@ -2,6 +2,7 @@
 
 mod accepting;
 mod announces;
+mod asking;
 mod easy_to_get_wrong;
 mod edges;
 mod host;

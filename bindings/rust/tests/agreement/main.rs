@@ -53,7 +53,11 @@ impl Texts {
         lines.extend(functions_differ(&header, &rattle));
         lines.extend(functions_differ(&rust, &rattle));
         lines.extend(constants_differ(&header, &rust));
-        lines.extend(structs_differ(&named_as_in_rust(&header), &rust, &["Parts", "Tally", "Entry"]));
+        lines.extend(structs_differ(
+            &named_as_in_rust(&header),
+            &rust,
+            &["Parts", "Tally", "Entry", "PortSettings", "PathRecord", "LinkRecord"],
+        ));
         lines.extend(structs_differ(&rust, &rattle, &["Tally"]));
         lines.extend(self.limits_differ(&header));
         lines.join("\n")
@@ -65,7 +69,7 @@ impl Texts {
         let constants = plain.filter_map(|line| Some((line.split_once(':')?.0, text::number(line.split_once("= ")?.1)?)));
         let named = |name: &str| {
             let name = RECORDINGS.iter().find(|known| known.0 == name).map_or(name, |known| known.1);
-            let names = [format!("HASKUMYE_{name}"), format!("HASKUMYE_REFUSAL_{name}")];
+            let names = [format!("HASKUMYE_REFUSAL_{name}"), format!("HASKUMYE_{name}")];
             names.into_iter().find_map(|name| Some((name.clone(), *header.constants.get(&name)?)))
         };
         let both = constants.filter_map(|(name, here)| named(name).map(|(name, there)| (name, here, there)));
@@ -99,7 +103,15 @@ fn with_enums(mut rust: Interface) -> Interface {
 /// haskumye_parts becomes Parts.
 fn named_as_in_rust(header: &Interface) -> Interface {
     let mut renamed = header.clone();
-    for (c, rust) in [("haskumye_parts", "Parts"), ("haskumye_tally", "Tally"), ("haskumye_entry", "Entry")] {
+    let names = [
+        ("haskumye_parts", "Parts"),
+        ("haskumye_tally", "Tally"),
+        ("haskumye_entry", "Entry"),
+        ("haskumye_port_settings", "PortSettings"),
+        ("haskumye_path_record", "PathRecord"),
+        ("haskumye_link_record", "LinkRecord"),
+    ];
+    for (c, rust) in names {
         renamed.structs.extend(header.structs.get(c).map(|fields| (rust.into(), fields.clone())));
     }
     renamed
@@ -141,9 +153,9 @@ fn the_three_agree() {
 fn something_is_compared() {
     let texts = Texts::read();
     let header = header::read("the header", &texts.header);
-    assert_eq!((header.functions.len(), header.structs.len()), (24, 8));
+    assert_eq!((header.functions.len(), header.structs.len()), (33, 12));
     assert_eq!(header.functions["haskumye_packet"].arguments.len(), 10);
-    assert_eq!(header.constants.len(), 79);
+    assert_eq!(header.constants.len(), 80);
 }
 
 #[test]
@@ -167,8 +179,8 @@ fn swapped_and_missing_arguments_are_seen() {
     assert_seen(&[
         (
             HEADER,
-            "uint64_t port, uint64_t clock",
-            "uint64_t clock, uint64_t port",
+            "haskumye_packet(const uint8_t *packet, size_t length, uint64_t port, uint64_t clock",
+            "haskumye_packet(const uint8_t *packet, size_t length, uint64_t clock, uint64_t port",
             "haskumye_packet: argument 3 is `clock: u64` in the header, `port: u64` in the crate",
         ),
         (
@@ -286,13 +298,31 @@ fn lengths_of_blocks_are_seen() {
             "tally: &mut [u32; 5]",
             "haskumye_replay_entry: argument 6 is `tally: mut 6 of u32` in the header, `tally: mut 5 of u32` in the crate",
         ),
+        (
+            RATTLE,
+            "link: &mut [u8; 29]",
+            "link: &mut [u8; 30]",
+            "haskumye_link: argument 4 is `link: mut 29 of u8` in the header, `link: mut 30 of u8` in the crate",
+        ),
+        (
+            RATTLE,
+            "clock: &mut u64",
+            "clock: &mut u32",
+            "haskumye_last_clock: argument 3 is `clock: mut 1 of u64` in the header, `clock: mut 1 of u32` in the crate",
+        ),
+        (
+            HEADER,
+            "    uint8_t blob_count;\n",
+            "",
+            "haskumye_live_path: argument 5 is `path: mut 42 of u8` in the header, `path: mut 43 of u8` in the crate",
+        ),
     ]);
 }
 
 #[test]
 fn fields_in_another_order_are_seen() {
     let texts = Texts::read();
-    let swaps: [Damage; 4] = [
+    let swaps: [Damage; 6] = [
         (HEADER, "uint64_t clock;\n    uint64_t port;", "uint64_t port;\n    uint64_t clock;", "Entry is"),
         (HEADER, "uint32_t total;\n    uint32_t dropped;", "uint32_t dropped;\n    uint32_t total;", "Tally is"),
         (RATTLE, "pub spread: u32,\n    pub kept: u32,", "pub kept: u32,\n    pub spread: u32,", "Tally is"),
@@ -302,6 +332,8 @@ fn fields_in_another_order_are_seen() {
             "haskumye_address destination;\n    haskumye_address relay;",
             "Parts is",
         ),
+        (HEADER, "uint8_t port;\n    uint8_t hops; ", "uint8_t hops;\n    uint8_t port; ", "PathRecord is"),
+        (RUST, "pub asking: u8,", "pub answering: u8,", "LinkRecord is"),
     ];
     for (source, from, to, start) in swaps {
         let differences = texts.damaged(source, from, to).differences();

@@ -1,0 +1,101 @@
+#include "status.h"
+#include <stdio.h>
+
+enum { PATH_SIZE = 256 };
+
+static void print_address(FILE *page, const haskumye_address *address)
+{
+    for (unsigned i = 0; i < sizeof address->bytes; i++) {
+        fprintf(page, "%02x", address->bytes[i]);
+    }
+}
+
+/* How long a record lives on, or that it does not. */
+static void print_expiry(FILE *page, haskumye_time expiry, uint64_t clock)
+{
+    uint64_t seconds = haskumye_seconds(expiry);
+    if (clock < seconds) {
+        fprintf(page, " expires in %llu s\n", (unsigned long long)(seconds - clock));
+    } else {
+        fprintf(page, " expired\n");
+    }
+}
+
+static void print_ports(FILE *page, const struct state *state)
+{
+    haskumye_port_settings port;
+    for (unsigned i = 0; i < HASKUMYE_PORT_COUNT; i++) {
+        if (haskumye_port(state->tables, sizeof state->tables, i, &port) == HASKUMYE_REFUSAL_NONE && port.on) {
+            fprintf(page, "port %u %s %.16s\n", i, haskumye_mode_words(port.mode), state->wires[i]);
+        }
+    }
+}
+
+static void print_locals(FILE *page, const struct state *state)
+{
+    haskumye_address address;
+    for (unsigned i = 0; i < HASKUMYE_LOCAL_COUNT; i++) {
+        if (haskumye_local(state->tables, sizeof state->tables, i, &address) == HASKUMYE_REFUSAL_NONE) {
+            fprintf(page, "local ");
+            print_address(page, &address);
+            fprintf(page, "\n");
+        }
+    }
+}
+
+static void print_paths(FILE *page, const struct state *state, uint64_t clock)
+{
+    haskumye_path_record path;
+    for (unsigned i = 0; i < HASKUMYE_PATH_COUNT; i++) {
+        if (haskumye_path(state->tables, sizeof state->tables, i, &path) == HASKUMYE_REFUSAL_NONE) {
+            fprintf(page, "path ");
+            print_address(page, &path.destination);
+            fprintf(page, " hops %u port %u", path.hops, path.port);
+            print_expiry(page, path.expiry, clock);
+        }
+    }
+}
+
+static void print_links(FILE *page, const struct state *state, uint64_t clock)
+{
+    haskumye_link_record link;
+    for (unsigned i = 0; i < HASKUMYE_LINK_COUNT; i++) {
+        if (haskumye_link(state->tables, sizeof state->tables, i, &link) == HASKUMYE_REFUSAL_NONE) {
+            fprintf(page, "link ");
+            print_address(page, &link.id);
+            fprintf(page, " ports %u and %u%s", link.asking, link.answering, link.proved ? "" : " not proved");
+            print_expiry(page, link.expiry, clock);
+        }
+    }
+}
+
+static void print_counts(FILE *page, const struct state *state, uint64_t clock, unsigned verified)
+{
+    const haskumye_tally *tally = &state->tally;
+    uint64_t receipts, hashes;
+    if (haskumye_live_returns(state->tables, sizeof state->tables, clock, &receipts) == HASKUMYE_REFUSAL_NONE &&
+        haskumye_live_hashes(state->tables, sizeof state->tables, clock, &hashes) == HASKUMYE_REFUSAL_NONE) {
+        fprintf(page, "receipts under way %llu\npackets remembered %llu\n", (unsigned long long)receipts,
+                (unsigned long long)hashes);
+    }
+    fprintf(page, "packets %u dropped %u delivered %u forwarded %u spread %u kept %u\n", tally->total, tally->dropped,
+            tally->delivered, tally->forwarded, tally->spread, tally->kept);
+    fprintf(page, "signatures verified %u\n", verified);
+}
+
+int write_status(const char *folder, const struct state *state, uint64_t clock, unsigned verified)
+{
+    char being_written[PATH_SIZE], name[PATH_SIZE];
+    snprintf(being_written, sizeof being_written, "%s/status.new", folder);
+    snprintf(name, sizeof name, "%s/status", folder);
+    FILE *page = fopen(being_written, "w");
+    if (page == NULL) {
+        return 0;
+    }
+    print_ports(page, state);
+    print_locals(page, state);
+    print_paths(page, state, clock);
+    print_links(page, state, clock);
+    print_counts(page, state, clock, verified);
+    return fclose(page) == 0 && rename(being_written, name) == 0;
+}
