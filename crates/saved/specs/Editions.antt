@@ -1,19 +1,18 @@
 -- Document 02, Wish 4: what a file of saved tables holds, edition by edition. "Each body's layout is yours to fix, later fields too; write it down."
--- Each body is the layout's own section (docs/LAYOUT.md): own address and last clock, ports, local addresses, paths, links, returns, hashes; then the
--- tally. A later edition is one more line in `editions`.
-use Prim.Native.Nat.{ℕ, _+_, _-_, _*_}
+-- A body is a section of the tables as the layout has it, the last one the tally (docs/LAYOUT.md). A later edition is one more line in `editions`.
+use Prim.Native.Nat.{ℕ, _+_, _-_}
+use Prim.Native.String.{String}
 use mathlib.Core.Bool.{Bool}
 use mathlib.Core.List.{List, [], _∷_}
 use mathlib.Core.Path.{refl}
 use lib.Dec.{ltb, leb}
 use lib.ListN.{length, getD}
+use lib.Text.{eqt}
 use Rattle.octets.specs.Index.{_and_}
-use Rattle.codes.specs.Form.{Form, numberIn, field, _&_, asRecord, code}
-use Rattle.numbers.specs.Numbers.{portCount, localCount, pathCount, linkCount, returnCount, hashCount}
+use Rattle.codes.specs.Form.{Form, byte, mark, numberIn, octetsIn, given, field, _&_, many, firstsOf, slot, that, asRecord, code, oneOf}
 use Rattle.rules.specs.Relay.{Relay}
 use Rattle.rules.specs.declared.Tally.{Tally}
 use Rattle.tables.specs.Forms.{relayForm}
-use Rattle.tables.specs.Places.{addressWidth, timeWidth, ringWidth, portWidth, localWidth, pathWidth, linkWidth, returnWidth, hashWidth}
 
 -- what is saved, and what a load gives: the relay that the tables hold, and the tally
 abbrev pub Held : Type 0
@@ -40,30 +39,47 @@ tallyForm =
     & field "spread" (numberIn counterWidth)
     & field "kept" (numberIn counterWidth))
 
--- ---- an edition: what its bodies hold, one after the other, and how long each of the eight is. The form gives today's relay and tally: a field
--- that the edition lacks is said there, with its value (`since`, `given` and `firstsOf` of the forms)
-pub record Edition : Type 1 where
-  pub form : Form Held
-  pub widths : List ℕ
+-- ---- the eight bodies, by the fields of the layout that each holds: own address and last clock, ports, local addresses, paths, links, returns, hashes,
+-- tally. In every edition these are all fields, in the order in which they stand
+abbrev pub bodies : List (List String)
+bodies =
+    ("own" ∷ "clock" ∷ []) ∷
+    ("ports" ∷ []) ∷
+    ("locals" ∷ []) ∷
+    ("paths" ∷ []) ∷
+    ("links" ∷ []) ∷
+    ("returns" ∷ []) ∷
+    ("hashes" ∷ []) ∷
+    ("tally" ∷ []) ∷
+    []
 
-abbrev pub edition1 : Edition
-edition1 =
-    record {
-      form = relayForm & tallyForm;
-      widths =
-          (addressWidth + timeWidth) ∷
-          (portWidth * portCount) ∷
-          (localWidth * localCount) ∷
-          (pathWidth * pathCount) ∷
-          (linkWidth * linkCount) ∷
-          (ringWidth + returnWidth * returnCount) ∷
-          (ringWidth + hashWidth * hashCount) ∷
-          (counterWidth * 6) ∷
-          [];
-    }
+-- the width of the field of that name, 0 where there is none
+abbrev pub widthOf : {A : Type 0} → Form A → String → ℕ
+widthOf byte k = 0
+widthOf mark k = 0
+widthOf (numberIn n) k = 0
+widthOf (octetsIn n) k = 0
+widthOf (given v) k = 0
+widthOf (field name f) k = oneOf (eqt name k) (code f .width) 0
+widthOf (f & g) k = widthOf f k + widthOf g k
+widthOf (many n spare f) k = 0
+widthOf (firstsOf m n l spare f) k = 0
+widthOf (slot f) k = 0
+widthOf (that rule f) k = widthOf f k
+widthOf (asRecord to from same there f) k = widthOf f k
+
+-- of several fields
+abbrev pub widthsOf : {A : Type 0} → Form A → List String → ℕ
+widthsOf f [] = 0
+widthsOf f (k ∷ ks) = widthOf f k + widthsOf f ks
+
+-- ---- an edition: the form of what its bodies hold, one after the other. It gives today's relay and tally: for a field that the edition lacks the form
+-- says the value (`since` and `given`), for one with less room the rest (`firstsOf`)
+abbrev pub edition1 : Form Held
+edition1 = relayForm & field "tally" tallyForm
 
 -- all editions, the oldest first: an edition's number is its place in this list, counted from 1
-abbrev pub editions : List Edition
+abbrev pub editions : List (Form Held)
 editions = edition1 ∷ []
 
 -- the current one is the last
@@ -73,12 +89,12 @@ currentEdition = length editions
 unfoldable pub isKnown : ℕ → Bool
 isKnown n = ltb 0 n and leb n currentEdition
 
-abbrev pub editionAt : ℕ → Edition
+abbrev pub editionAt : ℕ → Form Held
 editionAt n = getD editions (n - 1) edition1
 
-abbrev pub current : Edition
+abbrev pub current : Form Held
 current = editionAt currentEdition
 
--- how long body i is
-abbrev pub widthAt : Edition → ℕ → ℕ
-widthAt e i = getD (e .widths) i 0
+-- how long body i of an edition is
+unfoldable pub widthAt : Form Held → ℕ → ℕ
+widthAt e i = widthsOf e (getD bodies i [])

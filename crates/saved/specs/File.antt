@@ -5,9 +5,9 @@ use Prim.Native.Nat.{ℕ, _+_}
 use mathlib.Core.List.{List, []}
 use Rattle.octets.specs.Index.{listOf}
 use Rattle.octets.specs.Part.{part}
-use Rattle.codes.specs.Form.{code}
 use Rattle.recording.specs.Shape.{entryPlace, sumBelow, shapeOf}
-use Rattle.saved.specs.Editions.{Held, Edition, currentEdition, current, widthAt}
+use Rattle.codes.specs.Form.{Form, code}
+use Rattle.saved.specs.Editions.{Held, currentEdition, current, widthAt}
 
 abbrev pub savedKind : ℕ
 savedKind = 2
@@ -30,8 +30,8 @@ abbrev pub bodiesAt : ℕ
 bodiesAt = entryPlace headWidth bodyCount
 
 -- body i of what is saved
-unfoldable pub bodyOf : Edition → Held → ℕ → List ℕ
-bodyOf e held i = part (code (e .form) .write held) (sumBelow (widthAt e) i) (widthAt e i)
+unfoldable pub bodyOf : Form Held → Held → ℕ → List ℕ
+bodyOf e held i = part (code e .write held) (sumBelow (widthAt e) i) (widthAt e i)
 
 -- the file of a relay and a tally, in the current edition
 unfoldable pub fileOf : Held → List ℕ
@@ -39,12 +39,12 @@ fileOf held = shapeOf savedKind currentEdition headWidth noHead wholeBody (listO
 
 -- how long every such file is
 abbrev pub savedSize : ℕ
-savedSize = bodiesAt + code (current .form) .width
+savedSize = bodiesAt + code current .width
 
 saved-size : savedSize ≡ 71192
 saved-size = refl
 
 -- the eight bodies are all that is saved
-widths-fill : sumBelow (widthAt current) bodyCount ≡ code (current .form) .width
-unfolding sumBelow
+pub widths-fill : sumBelow (widthAt current) bodyCount ≡ code current .width
+unfolding sumBelow widthAt
 widths-fill = refl

@@ -7,12 +7,12 @@ use lib.ListN.{length}
 use Rattle.octets.specs.Index.{_and_, allBelow}
 use Rattle.octets.specs.Choice.{_then_otherwise_}
 use Rattle.octets.specs.Listed.{Test, _gives_otherwise_, firstOf}
-use Rattle.codes.specs.Form.{code}
+use Rattle.codes.specs.Form.{Form, code}
 use Rattle.recording.specs.Shape.{kindOf, editionOf, countOf, lengthOf, offsetsRight, endRight}
 use Rattle.rules.specs.declared.Tally.{Tally}
 use Rattle.tables.specs.Places.{tableSize}
 use Rattle.tables.specs.Layout.{bytesOf}
-use Rattle.saved.specs.Editions.{Held, Edition, isKnown, editionAt, widthAt}
+use Rattle.saved.specs.Editions.{Held, isKnown, editionAt, widthAt}
 use Rattle.saved.specs.File.{savedKind, bodyCount, headWidth, bodiesAt}
 
 -- ---- "20 is any length but what the contents, by the file's own count, add up to": 4 + 6 n + the sum of the n lengths. Under 4 bytes there is no
@@ -29,12 +29,12 @@ unfoldable pub contentsWrong : List ℕ → Bool
 contentsWrong f = not (eqb (countOf f) bodyCount and offsetsRight headWidth f)
 
 -- 24 "body breaks refusal 7's rules, size too"
-unfoldable pub sizesRight : Edition → List ℕ → Bool
+unfoldable pub sizesRight : Form Held → List ℕ → Bool
 sizesRight e f = allBelow (λ i. eqb (lengthOf headWidth f i) (widthAt e i)) bodyCount
 
 unfoldable pub bodiesWrong : List ℕ → Bool
 bodiesWrong f =
-    not (sizesRight (editionAt (editionOf f)) f and code (editionAt (editionOf f) .form) .fine f bodiesAt)
+    not (sizesRight (editionAt (editionOf f)) f and code (editionAt (editionOf f)) .fine f bodiesAt)
 
 -- 25 "for a load not the tables' size, what it held unread"
 unfoldable pub loadRows : List ℕ → ℕ → List (Test ℕ)
@@ -51,7 +51,7 @@ loadRefusal f size = firstOf (loadRows f size) 0
 
 -- ---- what a file that is not refused holds
 unfoldable pub heldIn : List ℕ → Held
-heldIn f = code (editionAt (editionOf f) .form) .read f bodiesAt
+heldIn f = code (editionAt (editionOf f)) .read f bodiesAt
 
 -- the refusal or 0, and tables and tally after it: a refusal leaves both as they were, and a load sets all eight
 pub record LoadedOn : Type 0 where
