@@ -3,3 +3,4 @@ pub mod Editions
 pub mod File
 pub mod Save
 pub mod Load
+pub mod Steps

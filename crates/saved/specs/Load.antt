@@ -2,6 +2,7 @@
 use Prim.Native.Nat.{ℕ}
 use mathlib.Core.Bool.{Bool, not}
 use mathlib.Core.List.{List, []}
+use mathlib.Core.Path.{_≡_}
 use lib.Dec.{eqb}
 use lib.ListN.{length}
 use Rattle.octets.specs.Index.{_and_, allBelow}
@@ -64,3 +65,7 @@ loadOn f tables tally =
     eqb (loadRefusal f (length tables)) 0
     then record { refusal = 0; tables = bytesOf (heldIn f .0); tally = heldIn f .1 }
     otherwise record { refusal = loadRefusal f (length tables); tables = tables; tally = tally }
+
+-- what a load returned and left is this
+abbrev pub Loads : LoadedOn → ℕ → List ℕ → Tally → Type 0
+Loads x refusal tables tally = (refusal ≡ x .refusal) × (tables ≡ x .tables) × (tally ≡ x .tally)

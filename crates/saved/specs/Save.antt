@@ -2,6 +2,7 @@
 use Prim.Native.Nat.{ℕ}
 use mathlib.Core.Bool.{not}
 use mathlib.Core.List.{List, []}
+use mathlib.Core.Path.{_≡_}
 use lib.Dec.{eqb, ltb}
 use lib.ListN.{length}
 use Rattle.octets.specs.Choice.{_then_otherwise_}
@@ -31,3 +32,7 @@ saveOn tables tally room =
     eqb (saveRefusal tables (length room)) 0
     then record { answer = record { refusal = 0; length = savedSize }; room = patch room 0 (fileOf (relayOf tables, tally)) }
     otherwise record { answer = record { refusal = saveRefusal tables (length room); length = 0 }; room = room }
+
+-- what a saving returned and left is this
+abbrev pub Saves : SavedOn → Saved → List ℕ → Type 0
+Saves x answer room = (answer ≡ x .answer) × (room ≡ x .room)

@@ -1,0 +1,1 @@
+-- Laws of saving and loading, and the theorems.
