@@ -1,1 +1,4 @@
--- Laws of saving and loading, and the theorems.
+-- Laws of the widths, of loading and of saving; then the theorems over whole files, and a concrete one.
+pub mod Widths
+pub mod LoadLaws
+pub mod SaveLaws

@@ -57,7 +57,7 @@ fn length_wrong(file: &[u8]) -> bool
     if file.len() < at {
         return true;
     }
-    file.len() != at + lengths_sum(file, n)
+    at + lengths_sum(file, n) != file.len()
 }
 
 // Refusal 22, of a file that has its contents.

@@ -1,0 +1,76 @@
+use mathlib.Core.Path.{_≡_, sym, ap, ap₂, _∙_}
+use Prim.Native.Nat.{ℕ, _+_, _-_, _≤_}
+use native.Mathlib.Nat.{le-antisymm}
+use lib.ListN.{length}
+use Rattle.octets.proofs.Bytes.{known-bytes}
+use Rattle.recording.specs.Shape.{entryPlace, lengthOf, sumBelow}
+use Rattle.recording.proofs.Sums.{sum-none, sum-more}
+use Rattle.recording.proofs.ShapeLaws.{length-lt}
+use Rattle.saved.specs.File.{headWidth}
+use Rattle.saved.proofs.LoadLaws.{lengths-most}
+use native.Mathlib.Omega.{arith}
+use borrow.Author.Needs.{needs}
+use Rattle.saved.proofs.loading.lengths_sum.Statement.{statement}
+use Rattle.saved.proofs.loading.lengths_sum.Tie as tie
+use Rattle.saved.proofs.loading.lengths_sum.Reads as reads
+use Rattle.saved.proofs.loading.lengths_sum.Lts as lts
+use Rattle.saved.proofs.contents.length_of.Reads as length-of-reads
+
+abbrev Inv-loop : tie.InvT-loop
+Inv-loop file n sum₀ i₀ sum i = (i ≤ n) × (sum ≡ sumBelow (lengthOf headWidth file) i)
+
+abbrev μ-loop : tie.MeasureT-loop
+μ-loop file n sum₀ i₀ sum i = n - i
+
+-- src/loading.rt:41:5
+loop-holds : tie.Need-loop-holds Inv-loop μ-loop
+loop-holds c = (search needs, sym (sum-none (lengthOf headWidth (c .before .args .file .now))))
+
+-- src/loading.rt:42:16
+length-of-requires : tie.Need-length-of-requires Inv-loop μ-loop
+length-of-requires c κs = search needs
+
+-- src/loading.rt:42:9
+add-sum : tie.Need-add-sum Inv-loop μ-loop
+add-sum c =
+    let f = c .before .before .before .before .args .file .now in
+    let b = known-bytes f (c .before .before .before .shared-slice-known .given) in
+    let i = c .before .before .loop .i in
+    let inside : entryPlace headWidth i + 6 ≤ length f = omega (arith, c .before .before .before .before .pre .0, c .before .loop-test .taken) in
+    let most = lengths-most f i b (omega arith) in
+    let long = length-lt headWidth f i b inside in
+    record { fits = omega (arith, c .before .before .loop .inv .1, c .length-of .ensures, c .before .before .before .before .pre .1, c .before .loop-test .taken) }
+
+-- src/loading.rt:43:9
+add-i : tie.Need-add-i Inv-loop μ-loop
+add-i c = search needs
+
+-- src/loading.rt:41:5
+loop-less : tie.Need-loop-less Inv-loop μ-loop
+loop-less c = search needs
+
+-- src/loading.rt:41:5
+loop-again : tie.Need-loop-again Inv-loop μ-loop
+loop-again c =
+    let f = c .before .before .before .before .args .file .now in
+    let i = c .before .before .loop .i in
+    (search needs, ap₂ (λ (p q : ℕ). p + q) (c .before .before .loop .inv .1) (c .length-of .ensures) ∙ sym (sum-more (lengthOf headWidth f) i))
+
+-- src/loading.rt:35:1
+returns : tie.Need-returns Inv-loop μ-loop
+returns c =
+    c .before .loop .inv .1 ∙ ap (sumBelow (lengthOf headWidth (c .before .before .before .args .file .now))) (le-antisymm (c .before .loop .inv .0) (c .loop-test .left))
+
+pub lengths-sum-spec : {M : Type 1} → statement M
+lengths-sum-spec =
+    tie.close
+    (tie.spec
+    Inv-loop
+    μ-loop
+    loop-holds
+    length-of-requires
+    add-sum
+    add-i
+    loop-less
+    loop-again
+    returns)
