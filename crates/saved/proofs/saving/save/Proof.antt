@@ -1,3 +1,10 @@
+use mathlib.Core.Path.{sym, ap, _∙_}
+use Prim.Native.Nat.{ℕ}
+use lib.ListN.{length}
+use native.Mathlib.Omega.{arith}
+use borrow.Author.Tests.{not-true, not-false}
+use Rattle.saved.specs.Save.{SavedOn}
+use Rattle.saved.proofs.SaveLaws.{refused-tables, refused-room, not-refused, save-done, save-refused}
 use native.Mathlib.Omega.{arith}
 use borrow.Author.Needs.{needs}
 use Rattle.saved.proofs.saving.save.Statement.{statement}
@@ -13,15 +20,24 @@ check-requires c κs = search needs
 
 -- src/saving.rt:122:9
 returns : tie.Need-returns
-returns c = ?
+returns c =
+    let a = c .before .before .before .before .args in
+    let bad = sym (c .before .check .ensures) ∙ not-true _ (c .if1 .taken) in
+    let e = save-refused (a .tables .now) (a .tally) (a .room .now) 7 (λ q. omega arith) (refused-tables (a .tables .now) (length (a .room .now)) bad) in
+    (sym (ap (λ (x : SavedOn). x .answer) e), sym (ap (λ (x : SavedOn). x .room) e))
 
 -- src/saving.rt:128:9
 returns-2 : tie.Need-returns-2
-returns-2 c = ?
+returns-2 c =
+    let a = c .before .before .before .before .before .args in
+    let ok = sym (c .before .before .check .ensures) ∙ not-false _ (c .before .if1 .left) in
+    let small = refused-room (a .tables .now) (length (a .room .now)) ok (c .if2 .taken) in
+    let e = save-refused (a .tables .now) (a .tally) (a .room .now) 25 (λ q. omega arith) small in
+    (sym (ap (λ (x : SavedOn). x .answer) e), sym (ap (λ (x : SavedOn). x .room) e))
 
 -- src/saving.rt:133:5
 write-file-requires : tie.Need-write-file-requires
-write-file-requires c κs = ?
+write-file-requires c κs = (sym (c .before .before .before .check .ensures) ∙ not-false _ (c .before .before .if1 .left), c .before .if2 .left)
 
 -- src/saving.rt:118:1
 same-length : tie.Need-same-length
@@ -29,7 +45,11 @@ same-length c = search needs
 
 -- src/saving.rt:118:1
 returns-3 : tie.Need-returns-3
-returns-3 c = ?
+returns-3 c =
+    let a = c .before .before .before .before .before .before .before .before .before .args in
+    let ok = sym (c .before .before .before .before .before .before .check .ensures) ∙ not-false _ (c .before .before .before .before .before .if1 .left) in
+    let e = save-done (a .tables .now) (a .tally) (a .room .now) (not-refused (a .tables .now) (length (a .room .now)) ok (c .before .before .before .before .if2 .left)) in
+    (sym (ap (λ (x : SavedOn). x .answer) e), c .before .before .write-file .ensures ∙ sym (ap (λ (x : SavedOn). x .room) e))
 
 pub save-spec : {M : Type 1} → statement M
 save-spec =

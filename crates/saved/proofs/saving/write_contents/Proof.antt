@@ -1,3 +1,16 @@
+use mathlib.Core.Path.{_≡_, refl, sym, ap, ap₂, _∙_}
+use mathlib.Core.List.{List}
+use Prim.Native.Nat.{ℕ, _+_, _-_, _≤_}
+use native.Mathlib.Nat.{le-antisymm, add-assoc}
+use lib.ListN.{length}
+use Rattle.octets.specs.Part.{patch}
+use Rattle.recording.specs.Shape.{entryPlace, sumBelow}
+use Rattle.recording.proofs.Sums.{sum-none, sum-more}
+use Rattle.saved.specs.Editions.{current, widthAt}
+use Rattle.saved.specs.File.{bodyCount, headWidth, bodiesAt}
+use Rattle.saved.specs.Steps.{entryBytes, contentsBytes}
+use Rattle.saved.proofs.Widths.{width-within}
+use Rattle.saved.proofs.SaveLaws.{contents-none, contents-more}
 use native.Mathlib.Omega.{arith}
 use borrow.Author.Needs.{needs}
 use Rattle.saved.proofs.saving.write_contents.Statement.{statement}
@@ -8,18 +21,19 @@ use Rattle.saved.proofs.contents.width_of.Reads as width-of-reads
 use Rattle.saved.proofs.saving.write_entry.Reads as write-entry-reads
 
 abbrev Inv-loop : tie.InvT-loop
-Inv-loop room₀ offset₀ i₀ room offset i = ?
+Inv-loop room₀ offset₀ i₀ room offset i =
+    (i ≤ bodyCount) × ((length room ≡ length room₀) × ((offset ≡ bodiesAt + sumBelow (widthAt current) i) × (room ≡ patch room₀ 4 (contentsBytes i))))
 
 abbrev μ-loop : tie.MeasureT-loop
-μ-loop room₀ offset₀ i₀ room offset i = ?
+μ-loop room₀ offset₀ i₀ room offset i = bodyCount - i
 
 -- src/saving.rt:60:5
 loop-holds : tie.Need-loop-holds Inv-loop μ-loop
-loop-holds c = search needs
+loop-holds c = (search needs, (refl, (omega (arith, sum-none (widthAt current)), contents-none (c .before .args .room .now))))
 
 -- src/saving.rt:61:9
 write-entry-requires : tie.Need-write-entry-requires Inv-loop μ-loop
-write-entry-requires c κs = search needs
+write-entry-requires c κs = (c .before .loop-test .taken, omega (arith, c .before .before .before .before .pre, c .before .before .loop .inv .1 .0))
 
 -- src/saving.rt:62:19
 width-of-requires : tie.Need-width-of-requires Inv-loop μ-loop
@@ -27,7 +41,9 @@ width-of-requires c κs = search needs
 
 -- src/saving.rt:62:9
 add-offset : tie.Need-add-offset Inv-loop μ-loop
-add-offset c = search needs
+add-offset c =
+    let within = width-within (c .before .before .before .before .before .before .loop .i) (c .before .before .before .before .before .loop-test .taken) in
+    record { fits = omega (arith, c .width-of .ensures, c .before .before .before .before .before .before .loop .inv .1 .1 .0) }
 
 -- src/saving.rt:63:9
 add-i : tie.Need-add-i Inv-loop μ-loop
@@ -39,7 +55,12 @@ loop-less c = search needs
 
 -- src/saving.rt:60:5
 loop-again : tie.Need-loop-again Inv-loop μ-loop
-loop-again c = search needs
+loop-again c =
+    let i = c .before .before .before .before .before .before .loop .i in
+    let offset = c .before .before .before .before .before .before .loop .inv .1 .1 .0 in
+    let more = contents-more (c .before .before .before .before .before .before .before .before .args .room .now) i (omega (arith, c .before .before .before .before .before .before .before .before .pre, c .before .before .before .before .before .loop-test .taken)) in
+    let entry = ap₂ (λ (r : List ℕ) (k : ℕ). patch r (entryPlace headWidth i) (entryBytes k i)) (c .before .before .before .before .before .before .loop .inv .1 .1 .1) offset in
+    (search needs, (search needs, (omega (arith, offset, c .width-of .ensures, sum-more (widthAt current) i), c .before .before .before .write-entry .ensures ∙ entry ∙ more)))
 
 -- src/saving.rt:54:1
 same-length : tie.Need-same-length Inv-loop μ-loop
@@ -47,7 +68,9 @@ same-length c = search needs
 
 -- src/saving.rt:54:1
 returns : tie.Need-returns Inv-loop μ-loop
-returns c = search needs
+returns c =
+    c .before .loop .inv .1 .1 .1
+    ∙ ap (λ (k : ℕ). patch (c .before .before .before .args .room .now) 4 (contentsBytes k)) (le-antisymm (c .before .loop .inv .0) (c .loop-test .left))
 
 pub write-contents-spec : {M : Type 1} → statement M
 write-contents-spec =

@@ -1,3 +1,10 @@
+use mathlib.Core.Path.{ap, ap₂, _∙_}
+use mathlib.Core.List.{List}
+use Prim.Native.Nat.{ℕ, _+_}
+use Rattle.octets.specs.Part.{patch}
+use Rattle.octets.specs.BigEndian.{bigEndian}
+use Rattle.saved.specs.Steps.{entryBytes}
+use Rattle.saved.proofs.SaveLaws.{entry-written}
 use native.Mathlib.Omega.{arith}
 use borrow.Author.Needs.{needs}
 use Rattle.saved.proofs.saving.write_entry.Statement.{statement}
@@ -34,7 +41,13 @@ same-length c = search needs
 
 -- src/saving.rt:43:1
 returns : tie.Need-returns
-returns c = ?
+returns c =
+    let a = c .before .before .before .before .before .before .before .before .before .before .before .args in
+    let at = c .before .before .before .before .before .before .before .before .before .entry-place .result in
+    c .before .before .write-number-at2 .ensures
+    ∙ ap₂ (λ (r : List ℕ) (k : ℕ). patch r (at + 4) (bigEndian 2 k)) (c .before .before .before .before .before .before .before .write-number-at .ensures) (c .before .before .before .width-of .ensures)
+    ∙ entry-written (a .room .now) at (a .offset) (a .i) (omega (arith, c .before .before .before .before .before .before .before .before .before .entry-place .ensures, c .before .before .before .before .before .before .before .before .before .before .before .pre .0, c .before .before .before .before .before .before .before .before .before .before .before .pre .1))
+    ∙ ap (λ (k : ℕ). patch (a .room .now) k (entryBytes (a .offset) (a .i))) (c .before .before .before .before .before .before .before .before .before .entry-place .ensures)
 
 pub write-entry-spec : {M : Type 1} → statement M
 write-entry-spec =

@@ -1,3 +1,11 @@
+use mathlib.Core.Path.{ap, _∙_}
+use mathlib.Core.List.{List, [], _∷_}
+use Prim.Native.Nat.{ℕ}
+use Rattle.octets.specs.Part.{patch}
+use Rattle.octets.specs.BigEndian.{bigEndian}
+use Rattle.saved.specs.Editions.{currentEdition}
+use Rattle.saved.specs.File.{bodyCount}
+use Rattle.saved.proofs.SaveLaws.{start-written}
 use native.Mathlib.Omega.{arith}
 use borrow.Author.Needs.{needs}
 use Rattle.saved.proofs.saving.write_start.Statement.{statement}
@@ -25,7 +33,9 @@ same-length c = search needs
 
 -- src/saving.rt:33:1
 returns : tie.Need-returns
-returns c = ?
+returns c =
+    let edition = c .before .before .before .before .before .before .set-at2 .ensures ∙ ap (λ (r : List ℕ). patch r 1 (currentEdition ∷ [])) (c .before .before .before .before .before .before .before .before .before .before .set-at .ensures) in
+    c .before .before .write-number-at .ensures ∙ ap (λ (r : List ℕ). patch r 2 (bigEndian 2 bodyCount)) edition ∙ start-written (c .before .before .before .before .before .before .before .before .before .before .before .before .before .args .room .now) (c .before .before .before .before .before .before .before .before .before .before .before .before .before .pre)
 
 pub write-start-spec : {M : Type 1} → statement M
 write-start-spec =

@@ -1,3 +1,9 @@
+use mathlib.Core.Path.{ap, _∙_}
+use mathlib.Core.List.{List}
+use Prim.Native.Nat.{ℕ, _+_}
+use Rattle.octets.specs.Part.{patch}
+use Rattle.octets.specs.BigEndian.{bigEndian}
+use Rattle.saved.proofs.SaveLaws.{tally-written}
 use native.Mathlib.Omega.{arith}
 use borrow.Author.Needs.{needs}
 use Rattle.saved.proofs.saving.write_tally.Statement.{statement}
@@ -64,7 +70,7 @@ mul-write-number-at-3 c = search needs
 
 -- src/saving.rt:93:9
 add-write-number-at-4 : tie.Need-add-write-number-at-4
-add-write-number-at-4 c = ?
+add-write-number-at-4 c = record { fits = omega (arith, c .before .before .before .before .before .before .before .before .before .before .before .before .before .before .before .before .before .before .before .before .before .before .pre, c .before .before .before .before .before .before .before .before .before .before .before .before .before .before .before .before .before .before .before .before .before .before .good) }
 
 -- src/saving.rt:95:9
 cast-write-number-at-5 : tie.Need-cast-write-number-at-5
@@ -80,7 +86,7 @@ mul-write-number-at-4 c = search needs
 
 -- src/saving.rt:99:9
 add-write-number-at-5 : tie.Need-add-write-number-at-5
-add-write-number-at-5 c = ?
+add-write-number-at-5 c = record { fits = omega (arith, c .before .before .before .before .before .before .before .before .before .before .before .before .before .before .before .before .before .before .before .before .before .before .before .before .before .before .before .pre, c .before .before .before .before .before .before .before .before .before .before .before .before .before .before .before .before .before .before .before .before .before .before .before .before .before .before .before .good) }
 
 -- src/saving.rt:101:9
 cast-write-number-at-6 : tie.Need-cast-write-number-at-6
@@ -88,15 +94,27 @@ cast-write-number-at-6 c = search needs
 
 -- src/saving.rt:97:5
 write-number-at-requires-6 : tie.Need-write-number-at-requires-6
-write-number-at-requires-6 c κs = ?
+write-number-at-requires-6 c κs =
+    let size = c .before .before .before .before .write-number-at5 .kept .0 ∙ c .before .before .before .before .before .before .before .before .before .write-number-at4 .kept .0 ∙ c .before .before .before .before .before .before .before .before .before .before .before .before .before .before .write-number-at3 .kept .0 ∙ c .before .before .before .before .before .before .before .before .before .before .before .before .before .before .before .before .before .before .before .write-number-at2 .kept .0 ∙ c .before .before .before .before .before .before .before .before .before .before .before .before .before .before .before .before .before .before .before .before .before .before .before .before .write-number-at .kept .0 in
+    omega (arith, size, c .before .before .before .before .before .before .before .before .before .before .before .before .before .before .before .before .before .before .before .before .before .before .before .before .before .before .before .before .pre)
 
 -- src/saving.rt:68:1
 same-length : tie.Need-same-length
-same-length c = ?
+same-length c =
+    c .before .before .write-number-at6 .kept .0
+    ∙ c .before .before .before .before .before .before .before .write-number-at5 .kept .0 ∙ c .before .before .before .before .before .before .before .before .before .before .before .before .write-number-at4 .kept .0 ∙ c .before .before .before .before .before .before .before .before .before .before .before .before .before .before .before .before .before .write-number-at3 .kept .0 ∙ c .before .before .before .before .before .before .before .before .before .before .before .before .before .before .before .before .before .before .before .before .before .before .write-number-at2 .kept .0 ∙ c .before .before .before .before .before .before .before .before .before .before .before .before .before .before .before .before .before .before .before .before .before .before .before .before .before .before .before .write-number-at .kept .0
 
 -- src/saving.rt:68:1
 returns : tie.Need-returns
-returns c = ?
+returns c =
+    let a = c .before .before .before .before .before .before .before .before .before .before .before .before .before .before .before .before .before .before .before .before .before .before .before .before .before .before .before .before .before .before .before .args in
+    let at = a .at in
+    let put : ℕ → ℕ → List ℕ → List ℕ = λ k x r. patch r (at + k) (bigEndian 4 x) in
+    let two = c .before .before .before .before .before .before .before .before .before .before .before .before .before .before .before .before .before .before .before .before .before .before .write-number-at2 .ensures ∙ ap (put 4 (a .tally .dropped)) (c .before .before .before .before .before .before .before .before .before .before .before .before .before .before .before .before .before .before .before .before .before .before .before .before .before .before .before .write-number-at .ensures) in
+    let three = c .before .before .before .before .before .before .before .before .before .before .before .before .before .before .before .before .before .write-number-at3 .ensures ∙ ap (put 8 (a .tally .delivered)) two in
+    let four = c .before .before .before .before .before .before .before .before .before .before .before .before .write-number-at4 .ensures ∙ ap (put 12 (a .tally .forwarded)) three in
+    let five = c .before .before .before .before .before .before .before .write-number-at5 .ensures ∙ ap (put 16 (a .tally .spread)) four in
+    c .before .before .write-number-at6 .ensures ∙ ap (put 20 (a .tally .kept)) five ∙ tally-written (a .tally) (a .room .now) at (c .before .before .before .before .before .before .before .before .before .before .before .before .before .before .before .before .before .before .before .before .before .before .before .before .before .before .before .before .before .before .before .pre)
 
 pub write-tally-spec : {M : Type 1} → statement M
 write-tally-spec =
