@@ -2,3 +2,5 @@
 pub mod Widths
 pub mod LoadLaws
 pub mod SaveLaws
+pub mod Made
+pub mod RoundTrip

@@ -10,10 +10,11 @@ use lib.ListN.{length}
 use borrow.Author.Tests.{lt-ltb, ltb-true, lt-leb, leb-true, eq-eqb, ne-eqb, eqb-true, not-false}
 use Rattle.octets.specs.Bytes.{Bytes}
 use Rattle.octets.specs.Index.{_and_, allBelow}
+use Rattle.octets.specs.Choice.{_then_otherwise_}
 use Rattle.octets.specs.Listed.{firstOf}
 use Rattle.octets.specs.Part.{part}
 use Rattle.octets.specs.BigEndian.{number}
-use Rattle.octets.proofs.Choice.{then-true, then-false}
+use Rattle.octets.proofs.Choice.{then-true, then-false, then-ap}
 use Rattle.octets.proofs.Index.{and-left, and-right, and-both, and-no, and-yes, all-none, all-more, all-fails, all-at, all-intro}
 use Rattle.octets.proofs.Listed.{here, past, allGive, refuses, rows-passed, none-first}
 use Rattle.octets.proofs.Part.{part-length}
@@ -322,3 +323,15 @@ module _ (f tables : List ℕ) (tally : Tally) where
       → loadOn f tables tally ≡ record { refusal = loadRefusal f (length tables); tables = tables; tally = tally }
   unfolding loadOn
   load-refused ne = then-false _ _ (ne-eqb (loadRefusal f (length tables)) 0 ne)
+
+  pub load-number : loadOn f tables tally .refusal ≡ loadRefusal f (length tables)
+  unfolding loadOn
+  load-number =
+      then-ap (λ (x : LoadedOn). x .refusal) (eqb (loadRefusal f (length tables)) 0) _ _ ∙ zero-or (loadRefusal f (length tables))
+    where
+      zero-or : (n : ℕ) → (eqb n 0 then 0 otherwise n) ≡ n
+      zero-or n = go (eqb n 0) refl
+        where
+          go : (b : Bool) → eqb n 0 ≡ b → (b then 0 otherwise n) ≡ n
+          go true e = then-true 0 n refl ∙ sym (eqb-true n 0 e)
+          go false e = then-false 0 n refl

@@ -116,7 +116,7 @@ entry-length : (offset i : ℕ) → length (entryBytes offset i) ≡ 6
 unfolding entryBytes
 entry-length offset i = simp (length-append, bigEndian-length) refl
 
-contents-length : (n : ℕ) → length (contentsBytes n) ≡ 6 * n
+pub contents-length : (n : ℕ) → length (contentsBytes n) ≡ 6 * n
 unfolding contentsBytes
 contents-length n =
     joined-sum (λ i. entryBytes (bodiesAt + sumBelow (widthAt current) i) i) (λ i. i) n
