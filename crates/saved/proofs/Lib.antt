@@ -4,3 +4,4 @@ pub mod LoadLaws
 pub mod SaveLaws
 pub mod Made
 pub mod RoundTrip
+pub mod Example

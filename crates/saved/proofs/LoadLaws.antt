@@ -283,6 +283,13 @@ module _ (f : List ℕ) (size : ℕ) where
       not-refused f size right (kind-right f (t .kind) (t .edition)) (contents-right f (t .count) offsets)
       (bodies-now f (t .edition) ∙ ap not (and-both sizes (t .fine))) (t .room)
 
+-- the last row: a file that loads into tables of the right size is refused for any other
+pub other-size : (f : List ℕ) (size : ℕ) → loadRefusal f tableSize ≡ 0 → (size ≡ tableSize → ⊥) → loadRefusal f size ≡ 25
+unfolding loadRefusal loadRows
+other-size f size e ne =
+    let (a, (k, (p, (w, _)))) = rows-passed (loadRows f tableSize) 0 (rows-refuse f tableSize) (eq-eqb (loadRefusal f tableSize) 0 e) in
+    refused-size f size a k p w ne
+
 -- ---- what the code leaves is what the file holds
 module _ (f : List ℕ) (size : ℕ) (b : Bytes f) (t : Taken f size) where
   tables-fine : code relayForm .fine f bodiesAt ≡ true

@@ -16,9 +16,12 @@ use Rattle.octets.specs.Bytes.{Bytes}
 use Rattle.octets.specs.Part.{part, patch}
 use Rattle.octets.proofs.Bytes.{part-bytes}
 use Rattle.codes.specs.Form.{code}
+use Rattle.codes.proofs.Forms.{lawful}
 use Rattle.recording.specs.Shape.{editionOf}
+use Rattle.rules.specs.Relay.{Relay}
 use Rattle.rules.specs.declared.Tally.{Tally}
 use Rattle.rules.proofs.History.{Fits}
+use Rattle.tables.specs.Forms.{relayForm}
 use Rattle.tables.specs.Places.{tableSize}
 use Rattle.tables.specs.Layout.{relayOf, bytesOf, wellFormed}
 use Rattle.tables.proofs.Whole.{again, relay-good}
@@ -29,7 +32,7 @@ use Rattle.saved.specs.Load.{loadRefusal, heldIn, LoadedOn, loadOn}
 use Rattle.saved.specs.Steps.{bodiesFine}
 use Rattle.saved.proofs.SaveLaws.{not-refused, save-done}
 use Rattle.saved.proofs.LoadLaws.{Taken, taken, takes, tables-decide, tables-held, load-done, load-number}
-use Rattle.saved.proofs.Made.{file-length, made-taken, made-held, held-good, file-again}
+use Rattle.saved.proofs.Made.{file-length, made-edition, made-taken, made-held, made-bytes, held-good, file-again}
 
 -- ---- saved, then loaded
 module _ (t : List ℕ) (tally : Tally) (b : Bytes t) (h : wellFormed t ≡ true) (s : Fits tally) where
@@ -55,6 +58,12 @@ module _ (t : List ℕ) (tally : Tally) (b : Bytes t) (h : wellFormed t ≡ true
     written-file =
         rw (save-done t tally room (not-refused t (length room) h large))
         (take-at (fileOf (relayOf t, tally)) _ savedSize (file-length (relayOf t, tally)))
+
+    pub written-bytes : Bytes written
+    written-bytes = subst Bytes (sym written-file) (made-bytes (relayOf t, tally) held-right)
+
+    pub written-edition : editionOf written ≡ currentEdition
+    written-edition = ap editionOf written-file ∙ made-edition (relayOf t, tally)
 
     pub save-then-load : (tables : List ℕ) (old : Tally) → length tables ≡ tableSize
         → loadOn written tables old ≡ record { refusal = 0; tables = t; tally = tally }
@@ -93,3 +102,23 @@ module _ (f tables : List ℕ) (old : Tally) (b : Bytes f) (loads : loadOn f tab
         spread = g .1 .1 .1 .1 .0;
         kept = g .1 .1 .1 .1 .1;
       })
+
+  loaded-relay : relayOf (loadOn f tables old .tables) ≡ heldIn f .0
+  unfolding relayOf bytesOf
+  loaded-relay = ap (λ (x : LoadedOn). relayOf (x .tables)) done ∙ lawful relayForm .back (heldIn f .0) (held-good f (length tables) b file-taken .0)
+
+  pub load-then-save : editionOf f ≡ currentEdition → (room : List ℕ) → savedSize ≤ length room
+      → saveOn (loadOn f tables old .tables) (loadOn f tables old .tally) room
+      ≡ record { answer = record { refusal = 0; length = length f }; room = patch room 0 f }
+  load-then-save e room large =
+      let t : List ℕ = loadOn f tables old .tables in
+      let tally : Tally = loadOn f tables old .tally in
+      let same : fileOf (relayOf t, tally) ≡ f =
+      ap₂ (λ (r : Relay) (c : Tally). fileOf (r, c)) loaded-relay (ap (λ (x : LoadedOn). x .tally) done) ∙ file-again f (length tables) b file-taken in
+      save-done t tally room (not-refused t (length room) loaded-formed large)
+      ∙ ap₂ (λ (n : ℕ) (g : List ℕ). record { answer = record { refusal = 0; length = n }; room = patch room 0 g }) (sym (file-taken .long)) same
+
+pub load-unread : (f t u : List ℕ) (a b : Tally) → length u ≡ length t → loadOn f t a .refusal ≡ 0 → loadOn f u b ≡ loadOn f t a
+load-unread f t u a b e loads =
+    let ok : loadRefusal f (length t) ≡ 0 = sym (load-number f t a) ∙ loads in
+    load-done f u b (ap (loadRefusal f) e ∙ ok) ∙ sym (load-done f t a ok)
