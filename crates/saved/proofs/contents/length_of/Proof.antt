@@ -4,31 +4,22 @@ use native.Mathlib.Nat.{add-zero}
 use Rattle.octets.specs.Part.{part}
 use Rattle.octets.specs.BigEndian.{number}
 use Rattle.recording.specs.Shape.{lengthOf}
-use native.Mathlib.Omega.{arith}
 use borrow.Author.Needs.{needs}
 use Rattle.saved.proofs.contents.length_of.Statement.{statement}
 use Rattle.saved.proofs.contents.length_of.Tie as tie
-use Rattle.saved.proofs.contents.length_of.Reads as reads
-use Rattle.saved.proofs.contents.length_of.Lts as lts
-use Rattle.octets.proofs.number_at.Reads as number-at-reads
 
--- src/contents.rt:43:26
 mul-number-at : tie.Need-mul-number-at
 mul-number-at c = search needs
 
--- src/contents.rt:43:9
 add-number-at : tie.Need-add-number-at
 add-number-at c = search needs
 
--- src/contents.rt:43:9
 add-number-at-2 : tie.Need-add-number-at-2
 add-number-at-2 c = search needs
 
--- src/contents.rt:41:5
 number-at-requires : tie.Need-number-at-requires
 number-at-requires c κs = search needs
 
--- src/contents.rt:37:1
 returns : tie.Need-returns
 unfolding lengthOf
 returns c =

@@ -4,27 +4,19 @@ use native.Mathlib.Nat.{add-zero}
 use Rattle.octets.specs.Part.{part}
 use Rattle.octets.specs.BigEndian.{number}
 use Rattle.recording.specs.Shape.{offsetOf}
-use native.Mathlib.Omega.{arith}
 use borrow.Author.Needs.{needs}
 use Rattle.saved.proofs.contents.offset_of.Statement.{statement}
 use Rattle.saved.proofs.contents.offset_of.Tie as tie
-use Rattle.saved.proofs.contents.offset_of.Reads as reads
-use Rattle.saved.proofs.contents.offset_of.Lts as lts
-use Rattle.octets.proofs.number_at.Reads as number-at-reads
 
--- src/contents.rt:34:46
 mul-number-at : tie.Need-mul-number-at
 mul-number-at c = search needs
 
--- src/contents.rt:34:29
 add-number-at : tie.Need-add-number-at
 add-number-at c = search needs
 
--- src/contents.rt:34:5
 number-at-requires : tie.Need-number-at-requires
 number-at-requires c κs = search needs
 
--- src/contents.rt:30:1
 returns : tie.Need-returns
 unfolding offsetOf
 returns c =

@@ -1,53 +1,42 @@
+-- the next one
 use Prim.Native.Nat.{ℕ, suc, _≤_, zero-le}
 use mathlib.Core.Path.{_≡_, sym, ap}
 use Rattle.saved.specs.Editions.{current, widthAt}
 use native.Mathlib.Omega.{arith}
-use borrow.Author.Needs.{needs}
 use Rattle.saved.proofs.contents.width_of.Statement.{statement}
 use Rattle.saved.proofs.contents.width_of.Tie as tie
-use Rattle.saved.proofs.contents.width_of.Reads as reads
-use Rattle.saved.proofs.contents.width_of.Lts as lts
 
--- the next one
 above : {k i : ℕ} → k ≤ i → (i ≡ k → ⊥) → suc k ≤ i
 above l ne = omega (arith, l, ne)
 
--- src/contents.rt:49:1
 returns : tie.Need-returns
 unfolding widthAt
 returns c = sym (ap (widthAt current) (c .match .keys1))
 
--- src/contents.rt:49:1
 returns-2 : tie.Need-returns-2
 unfolding widthAt
 returns-2 c = sym (ap (widthAt current) (c .match .keys2))
 
--- src/contents.rt:49:1
 returns-3 : tie.Need-returns-3
 unfolding widthAt
 returns-3 c = sym (ap (widthAt current) (c .match .keys3))
 
--- src/contents.rt:49:1
 returns-4 : tie.Need-returns-4
 unfolding widthAt
 returns-4 c = sym (ap (widthAt current) (c .match .keys4))
 
--- src/contents.rt:49:1
 returns-5 : tie.Need-returns-5
 unfolding widthAt
 returns-5 c = sym (ap (widthAt current) (c .match .keys5))
 
--- src/contents.rt:49:1
 returns-6 : tie.Need-returns-6
 unfolding widthAt
 returns-6 c = sym (ap (widthAt current) (c .match .keys6))
 
--- src/contents.rt:49:1
 returns-7 : tie.Need-returns-7
 unfolding widthAt
 returns-7 c = sym (ap (widthAt current) (c .match .keys7))
 
--- src/contents.rt:49:1
 returns-8 : tie.Need-returns-8
 unfolding widthAt
 returns-8 c =

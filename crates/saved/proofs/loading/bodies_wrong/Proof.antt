@@ -3,32 +3,22 @@ use mathlib.Core.Path.{sym, ap, _∙_}
 use borrow.Author.Tests.{not-true, not-false}
 use Rattle.octets.proofs.Index.{and-no, and-yes}
 use Rattle.saved.proofs.LoadLaws.{counts-eight, has-entries, size-known}
-use native.Mathlib.Omega.{arith}
-use borrow.Author.Needs.{needs}
 use Rattle.saved.proofs.loading.bodies_wrong.Statement.{statement}
 use Rattle.saved.proofs.loading.bodies_wrong.Tie as tie
-use Rattle.saved.proofs.loading.bodies_wrong.Reads as reads
-use Rattle.saved.proofs.loading.bodies_wrong.Lts as lts
-use Rattle.saved.proofs.loading.bodies_fine.Reads as bodies-fine-reads
-use Rattle.saved.proofs.loading.sizes_right.Reads as sizes-right-reads
 
--- src/loading.rt:111:9
 sizes-right-requires : tie.Need-sizes-right-requires
 sizes-right-requires c κs =
     let f = c .before .args .file .now in
     has-entries f (c .before .pre .0) (counts-eight f (c .before .pre .1))
 
--- src/loading.rt:112:9
 returns : tie.Need-returns
 returns c = sym (ap not (and-no _ (sym (c .before .sizes-right .ensures) ∙ not-true _ (c .if1 .taken))))
 
--- src/loading.rt:114:6
 bodies-fine-requires : tie.Need-bodies-fine-requires
 bodies-fine-requires c κs =
     let f = c .before .before .before .args .file .now in
     size-known f (c .before .before .before .pre .0) (counts-eight f (c .before .before .before .pre .1)) (sym (c .before .sizes-right .ensures) ∙ not-false _ (c .if1 .left))
 
--- src/loading.rt:107:1
 returns-2 : tie.Need-returns-2
 returns-2 c =
     ap not (c .bodies-fine .ensures ∙ sym (and-yes _ (sym (c .before .before .sizes-right .ensures) ∙ not-false _ (c .before .if1 .left))))

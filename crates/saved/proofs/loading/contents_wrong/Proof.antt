@@ -12,11 +12,6 @@ use native.Mathlib.Omega.{arith}
 use borrow.Author.Needs.{needs}
 use Rattle.saved.proofs.loading.contents_wrong.Statement.{statement}
 use Rattle.saved.proofs.loading.contents_wrong.Tie as tie
-use Rattle.saved.proofs.loading.contents_wrong.Reads as reads
-use Rattle.saved.proofs.loading.contents_wrong.Lts as lts
-use Rattle.recording.proofs.count.Reads as count-reads
-use Rattle.saved.proofs.contents.length_of.Reads as length-of-reads
-use Rattle.saved.proofs.contents.offset_of.Reads as offset-of-reads
 
 abbrev Inv-loop : tie.InvT-loop
 Inv-loop file place₀ i₀ place i = Passed file place i
@@ -24,31 +19,24 @@ Inv-loop file place₀ i₀ place i = Passed file place i
 abbrev μ-loop : tie.MeasureT-loop
 μ-loop file place₀ i₀ place i = bodyCount - i
 
--- src/loading.rt:68:8
 count-requires : tie.Need-count-requires Inv-loop μ-loop
 count-requires c κs = search needs
 
--- src/loading.rt:69:9
 returns : tie.Need-returns Inv-loop μ-loop
 returns c = sym (other-count (c .before .before .before .args .file .now) (λ q. c .if1 .taken (c .before .count .ensures ∙ q)))
 
--- src/loading.rt:73:5
 loop-holds : tie.Need-loop-holds Inv-loop μ-loop
 loop-holds c = passed-none (c .before .before .before .args .file .now) (sym (c .before .count .ensures) ∙ c .if1 .left)
 
--- src/loading.rt:74:12
 offset-of-requires : tie.Need-offset-of-requires Inv-loop μ-loop
 offset-of-requires c κs = omega (arith, c .before .before .before .before .before .pre, c .before .loop .inv .count, c .loop-test .taken)
 
--- src/loading.rt:75:13
 returns-2 : tie.Need-returns-2 Inv-loop μ-loop
 returns-2 c = sym (passed-wrong (c .before .before .before .loop .inv) (c .before .before .loop-test .taken) (λ q. c .if2 .taken (c .before .offset-of .ensures ∙ q)))
 
--- src/loading.rt:77:18
 length-of-requires : tie.Need-length-of-requires Inv-loop μ-loop
 length-of-requires c κs = omega (arith, c .before .before .before .before .before .before .before .pre, c .before .before .before .loop .inv .count, c .before .before .loop-test .taken)
 
--- src/loading.rt:77:9
 add-place : tie.Need-add-place Inv-loop μ-loop
 add-place c =
     let f = c .before .before .before .before .before .before .before .before .args .file .now in
@@ -58,19 +46,15 @@ add-place c =
     let long = length-lt headWidth f i b inside in
     record { fits = omega (arith, passed-lt (c .before .before .before .before .loop .inv) b inside, c .length-of .ensures, c .before .before .before .loop-test .taken) }
 
--- src/loading.rt:78:9
 add-i : tie.Need-add-i Inv-loop μ-loop
 add-i c = search needs
 
--- src/loading.rt:73:5
 loop-less : tie.Need-loop-less Inv-loop μ-loop
 loop-less c = search needs
 
--- src/loading.rt:73:5
 loop-again : tie.Need-loop-again Inv-loop μ-loop
 loop-again c = rw (c .length-of .ensures) (passed-more (c .before .before .before .before .loop .inv) (c .before .before .before .loop-test .taken) (sym (c .before .before .offset-of .ensures) ∙ c .before .if2 .left))
 
--- src/loading.rt:64:1
 returns-3 : tie.Need-returns-3 Inv-loop μ-loop
 returns-3 c =
     let f = c .before .before .before .before .before .args .file .now in

@@ -4,21 +4,15 @@ use native.Mathlib.Omega.{arith}
 use borrow.Author.Needs.{needs}
 use Rattle.saved.proofs.loading.counter_at.Statement.{statement}
 use Rattle.saved.proofs.loading.counter_at.Tie as tie
-use Rattle.saved.proofs.loading.counter_at.Reads as reads
-use Rattle.saved.proofs.loading.counter_at.Lts as lts
-use Rattle.octets.proofs.number_at.Reads as number-at-reads
 
--- src/loading.rt:146:5
 number-at-requires : tie.Need-number-at-requires
 number-at-requires c κs = search needs
 
--- src/loading.rt:146:5
 cast-result : tie.Need-cast-result
 cast-result c =
     let f = c .before .before .args .file .now in
     record { fits = omega (arith, c .number-at .ensures, part-lt f (c .before .before .args .at) 4 (known-bytes f (c .before .shared-slice-known .given)) (c .before .before .pre)) }
 
--- src/loading.rt:142:1
 returns : tie.Need-returns
 returns c = search needs
 

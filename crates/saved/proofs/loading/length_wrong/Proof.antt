@@ -1,5 +1,5 @@
 use mathlib.Core.Path.{sym, ap, ap₂, _∙_}
-use mathlib.Core.Bool.{Bool, not}
+use mathlib.Core.Bool.{not}
 use Prim.Native.Nat.{ℕ, _+_, _≤_}
 use native.Mathlib.Omega.{arith}
 use lib.Dec.{eqb}
@@ -9,42 +9,30 @@ use Rattle.recording.specs.Shape.{entryPlace, lengthOf, sumBelow}
 use Rattle.recording.proofs.ShapeLaws.{count-lt}
 use Rattle.saved.specs.File.{headWidth}
 use Rattle.saved.proofs.LoadLaws.{too-short, cut-short, sum-decides, lengths-most}
-use native.Mathlib.Omega.{arith}
 use borrow.Author.Needs.{needs}
 use Rattle.saved.proofs.loading.length_wrong.Statement.{statement}
 use Rattle.saved.proofs.loading.length_wrong.Tie as tie
-use Rattle.saved.proofs.loading.length_wrong.Reads as reads
-use Rattle.saved.proofs.loading.length_wrong.Lts as lts
-use Rattle.recording.proofs.count.Reads as count-reads
-use Rattle.saved.proofs.contents.entry_place.Reads as entry-place-reads
-use Rattle.saved.proofs.loading.lengths_sum.Reads as lengths-sum-reads
 
--- src/loading.rt:53:9
 returns : tie.Need-returns
 returns c = sym (too-short (c .before .before .args .file .now) (c .if1 .taken))
 
--- src/loading.rt:55:9
 count-requires : tie.Need-count-requires
 count-requires c κs = search needs
 
--- src/loading.rt:56:9
 entry-place-requires : tie.Need-entry-place-requires
 entry-place-requires c κs =
     let f = c .before .before .before .args .file .now in
     omega (arith, count-lt f (known-bytes f (c .before .before .shared-slice-known .given)), c .count .ensures)
 
--- src/loading.rt:58:9
 returns-2 : tie.Need-returns-2
 returns-2 c = sym (cut-short (c .before .before .before .before .before .args .file .now) (omega (arith, c .if2 .taken, c .before .entry-place .ensures, c .before .before .count .ensures)))
 
--- src/loading.rt:60:10
 lengths-sum-requires : tie.Need-lengths-sum-requires
 lengths-sum-requires c κs =
     let f = c .before .before .before .before .before .args .file .now in
     let few = count-lt f (known-bytes f (c .before .before .before .before .shared-slice-known .given)) in
     (omega (arith, c .if2 .left, c .before .entry-place .ensures), omega (arith, c .before .before .count .ensures))
 
--- src/loading.rt:60:5
 add-result : tie.Need-add-result
 add-result c =
     let f = c .before .before .before .before .before .before .args .file .now in
@@ -54,7 +42,6 @@ add-result c =
     let few = count-lt f b in
     record { fits = omega (arith, lengths-most f n b inside, c .lengths-sum .ensures, c .before .before .entry-place .ensures, c .before .before .before .count .ensures) }
 
--- src/loading.rt:49:1
 returns-3 : tie.Need-returns-3
 returns-3 c =
     let f = c .before .before .before .before .before .before .args .file .now in

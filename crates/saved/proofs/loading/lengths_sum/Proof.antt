@@ -12,9 +12,6 @@ use native.Mathlib.Omega.{arith}
 use borrow.Author.Needs.{needs}
 use Rattle.saved.proofs.loading.lengths_sum.Statement.{statement}
 use Rattle.saved.proofs.loading.lengths_sum.Tie as tie
-use Rattle.saved.proofs.loading.lengths_sum.Reads as reads
-use Rattle.saved.proofs.loading.lengths_sum.Lts as lts
-use Rattle.saved.proofs.contents.length_of.Reads as length-of-reads
 
 abbrev Inv-loop : tie.InvT-loop
 Inv-loop file n sum₀ i₀ sum i = (i ≤ n) × (sum ≡ sumBelow (lengthOf headWidth file) i)
@@ -22,15 +19,12 @@ Inv-loop file n sum₀ i₀ sum i = (i ≤ n) × (sum ≡ sumBelow (lengthOf hea
 abbrev μ-loop : tie.MeasureT-loop
 μ-loop file n sum₀ i₀ sum i = n - i
 
--- src/loading.rt:41:5
 loop-holds : tie.Need-loop-holds Inv-loop μ-loop
 loop-holds c = (search needs, sym (sum-none (lengthOf headWidth (c .before .args .file .now))))
 
--- src/loading.rt:42:16
 length-of-requires : tie.Need-length-of-requires Inv-loop μ-loop
 length-of-requires c κs = search needs
 
--- src/loading.rt:42:9
 add-sum : tie.Need-add-sum Inv-loop μ-loop
 add-sum c =
     let f = c .before .before .before .before .args .file .now in
@@ -41,22 +35,18 @@ add-sum c =
     let long = length-lt headWidth f i b inside in
     record { fits = omega (arith, c .before .before .loop .inv .1, c .length-of .ensures, c .before .before .before .before .pre .1, c .before .loop-test .taken) }
 
--- src/loading.rt:43:9
 add-i : tie.Need-add-i Inv-loop μ-loop
 add-i c = search needs
 
--- src/loading.rt:41:5
 loop-less : tie.Need-loop-less Inv-loop μ-loop
 loop-less c = search needs
 
--- src/loading.rt:41:5
 loop-again : tie.Need-loop-again Inv-loop μ-loop
 loop-again c =
     let f = c .before .before .before .before .args .file .now in
     let i = c .before .before .loop .i in
     (search needs, ap₂ (λ (p q : ℕ). p + q) (c .before .before .loop .inv .1) (c .length-of .ensures) ∙ sym (sum-more (lengthOf headWidth f) i))
 
--- src/loading.rt:35:1
 returns : tie.Need-returns Inv-loop μ-loop
 returns c =
     c .before .loop .inv .1 ∙ ap (sumBelow (lengthOf headWidth (c .before .before .before .args .file .now))) (le-antisymm (c .before .loop .inv .0) (c .loop-test .left))

@@ -1,5 +1,4 @@
 use mathlib.Core.Path.{sym, ap, _∙_}
-use Prim.Native.Nat.{ℕ}
 use lib.ListN.{length}
 use native.Mathlib.Omega.{arith}
 use Rattle.octets.specs.Part.{part}
@@ -9,38 +8,29 @@ use Rattle.tables.specs.Places.{tableSize}
 use Rattle.saved.specs.File.{bodiesAt}
 use Rattle.saved.specs.Load.{LoadedOn}
 use Rattle.saved.proofs.LoadLaws.{taken, tables-held, tally-held, load-done, load-refused}
-use native.Mathlib.Omega.{arith}
 use borrow.Author.Needs.{needs}
 use Rattle.saved.proofs.loading.load.Statement.{statement}
 use Rattle.saved.proofs.loading.load.Tie as tie
-use Rattle.saved.proofs.loading.load.Reads as reads
-use Rattle.saved.proofs.loading.load.Lts as lts
-use Rattle.octets.proofs.copy.Reads as copy-reads
-use Rattle.saved.proofs.loading.load_refusal.Reads as load-refusal-reads
-use Rattle.saved.proofs.loading.tally_at.Reads as tally-at-reads
 
--- src/loading.rt:169:9
 load-refusal-requires : tie.Need-load-refusal-requires
 load-refusal-requires c κs = search needs
 
--- src/loading.rt:171:9
 returns : tie.Need-returns
 returns c =
     let a = c .before .before .before .before .args in
     let refusal = c .before .load-refusal .ensures in
-    let refused = load-refused (a .file .now) (a .tables .now) (a .tally) (λ q. c .if1 .taken (refusal ∙ q)) in
-    (refusal ∙ sym (ap (λ (x : LoadedOn). x .refusal) refused), sym (ap (λ (x : LoadedOn). x .tables) refused),
-    sym (ap (λ (x : LoadedOn). x .tally) refused))
+    let refused = load-refused (a .file .now) (a .tables .now) (a .tally) (λ q. c .if1 .taken (refusal ∙ q)) in (
+      refusal ∙ sym (ap (λ (x : LoadedOn). x .refusal) refused),
+      sym (ap (λ (x : LoadedOn). x .tables) refused),
+      sym (ap (λ (x : LoadedOn). x .tally) refused),
+    )
 
--- src/loading.rt:173:26
 sub-copy : tie.Need-sub-copy
 sub-copy c = search needs
 
--- src/loading.rt:173:26
 part-copy-start : tie.Need-part-copy-start
 part-copy-start c = search needs
 
--- src/loading.rt:173:26
 part-copy-end : tie.Need-part-copy-end
 part-copy-end c =
     let f = c .before .before .before .before .before .args .file .now in
@@ -48,7 +38,6 @@ part-copy-end c =
     let long = t .long in
     search needs
 
--- src/loading.rt:173:5
 copy-requires : tie.Need-copy-requires
 unfolding part
 copy-requires c κs =
@@ -56,28 +45,26 @@ copy-requires c κs =
     let t = taken f (length (c .before .before .before .before .before .before .args .tables .now)) (sym (c .before .before .before .load-refusal .ensures) ∙ c .before .before .if1 .left) in
     t .room ∙ sym (part-length f bodiesAt tableSize (omega (arith, t .long)))
 
--- src/loading.rt:176:16
 tally-at-requires : tie.Need-tally-at-requires
 tally-at-requires c κs =
     let f = c .before .before .before .before .before .before .before .before .before .args .file .now in
     let t = taken f (length (c .before .before .before .before .before .before .before .before .before .args .tables .now)) (sym (c .before .before .before .before .before .before .load-refusal .ensures) ∙ c .before .before .before .before .before .if1 .left) in
     omega (arith, t .long)
 
--- src/loading.rt:165:1
 same-length : tie.Need-same-length
 same-length c = search needs
 
--- src/loading.rt:165:1
 returns-2 : tie.Need-returns-2
 unfolding part
 returns-2 c =
     let f = c .before .before .before .before .before .before .before .before .before .before .args .file .now in
     let t = taken f (length (c .before .before .before .before .before .before .before .before .before .before .args .tables .now)) (sym (c .before .before .before .before .before .before .before .load-refusal .ensures) ∙ c .before .before .before .before .before .before .if1 .left) in
     let b = known-bytes f (c .before .before .before .before .before .before .before .before .before .shared-slice-known .given) in
-    let done = load-done f (c .before .before .before .before .before .before .before .before .before .before .args .tables .now) (c .before .before .before .before .before .before .before .before .before .before .args .tally) (sym (c .before .before .before .before .before .before .before .load-refusal .ensures) ∙ c .before .before .before .before .before .before .if1 .left) in
-    (sym (ap (λ (x : LoadedOn). x .refusal) done),
-    c .before .before .before .copy .ensures ∙ tables-held f _ b t ∙ sym (ap (λ (x : LoadedOn). x .tables) done),
-    c .tally-at .ensures ∙ tally-held f _ b t ∙ sym (ap (λ (x : LoadedOn). x .tally) done))
+    let done = load-done f (c .before .before .before .before .before .before .before .before .before .before .args .tables .now) (c .before .before .before .before .before .before .before .before .before .before .args .tally) (sym (c .before .before .before .before .before .before .before .load-refusal .ensures) ∙ c .before .before .before .before .before .before .if1 .left) in (
+      sym (ap (λ (x : LoadedOn). x .refusal) done),
+      c .before .before .before .copy .ensures ∙ tables-held f _ b t ∙ sym (ap (λ (x : LoadedOn). x .tables) done),
+      c .tally-at .ensures ∙ tally-held f _ b t ∙ sym (ap (λ (x : LoadedOn). x .tally) done),
+    )
 
 pub load-spec : {M : Type 1} → statement M
 load-spec =

@@ -7,14 +7,9 @@ use Rattle.octets.specs.Index.{allBelow}
 use Rattle.octets.proofs.Index.{all-none, all-more}
 use Rattle.saved.specs.File.{bodyCount}
 use Rattle.saved.proofs.LoadLaws.{sized, size-wrong, sizes-right}
-use native.Mathlib.Omega.{arith}
 use borrow.Author.Needs.{needs}
 use Rattle.saved.proofs.loading.sizes_right.Statement.{statement}
 use Rattle.saved.proofs.loading.sizes_right.Tie as tie
-use Rattle.saved.proofs.loading.sizes_right.Reads as reads
-use Rattle.saved.proofs.loading.sizes_right.Lts as lts
-use Rattle.saved.proofs.contents.length_of.Reads as length-of-reads
-use Rattle.saved.proofs.contents.width_of.Reads as width-of-reads
 
 abbrev Inv-loop : tie.InvT-loop
 Inv-loop file i₀ i = (i ≤ bodyCount) × (allBelow (sized file) i ≡ true)
@@ -22,40 +17,32 @@ Inv-loop file i₀ i = (i ≤ bodyCount) × (allBelow (sized file) i ≡ true)
 abbrev μ-loop : tie.MeasureT-loop
 μ-loop file i₀ i = bodyCount - i
 
--- src/loading.rt:89:5
 loop-holds : tie.Need-loop-holds Inv-loop μ-loop
 loop-holds c = (search needs, all-none (sized (c .before .args .file .now)))
 
--- src/loading.rt:90:12
 length-of-requires : tie.Need-length-of-requires Inv-loop μ-loop
 length-of-requires c κs = search needs
 
--- src/loading.rt:90:34
 width-of-requires : tie.Need-width-of-requires Inv-loop μ-loop
 width-of-requires c κs = search needs
 
--- src/loading.rt:91:13
 returns : tie.Need-returns Inv-loop μ-loop
 returns c =
     sym (size-wrong (c .before .before .before .before .before .before .args .file .now) (c .before .before .before .before .loop .i) (c .before .before .before .loop-test .taken)
     (λ q. c .if1 .taken (c .before .before .length-of .ensures ∙ q ∙ sym (c .before .width-of .ensures))))
 
--- src/loading.rt:93:9
 add-i : tie.Need-add-i Inv-loop μ-loop
 add-i c = search needs
 
--- src/loading.rt:89:5
 loop-less : tie.Need-loop-less Inv-loop μ-loop
 loop-less c = search needs
 
--- src/loading.rt:89:5
 loop-again : tie.Need-loop-again Inv-loop μ-loop
 loop-again c =
     let f = c .before .before .before .before .before .before .args .file .now in
     let right = sym (c .before .before .length-of .ensures) ∙ c .if1 .left ∙ c .before .width-of .ensures in
     (search needs, all-more (sized f) (c .before .before .before .before .loop .i) (c .before .before .before .before .loop .inv .1) (eq-eqb _ _ right))
 
--- src/loading.rt:84:1
 returns-2 : tie.Need-returns-2 Inv-loop μ-loop
 returns-2 c =
     let f = c .before .before .before .args .file .now in

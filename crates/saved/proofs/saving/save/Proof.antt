@@ -1,24 +1,16 @@
 use mathlib.Core.Path.{sym, ap, _∙_}
-use Prim.Native.Nat.{ℕ}
 use lib.ListN.{length}
 use native.Mathlib.Omega.{arith}
 use borrow.Author.Tests.{not-true, not-false}
 use Rattle.saved.specs.Save.{SavedOn}
 use Rattle.saved.proofs.SaveLaws.{refused-tables, refused-room, not-refused, save-done, save-refused}
-use native.Mathlib.Omega.{arith}
 use borrow.Author.Needs.{needs}
 use Rattle.saved.proofs.saving.save.Statement.{statement}
 use Rattle.saved.proofs.saving.save.Tie as tie
-use Rattle.saved.proofs.saving.save.Reads as reads
-use Rattle.saved.proofs.saving.save.Lts as lts
-use Rattle.saved.proofs.saving.write_file.Reads as write-file-reads
-use Rattle.tables.proofs.check.Reads as check-reads
 
--- src/saving.rt:121:9
 check-requires : tie.Need-check-requires
 check-requires c κs = search needs
 
--- src/saving.rt:122:9
 returns : tie.Need-returns
 returns c =
     let a = c .before .before .before .before .args in
@@ -26,7 +18,6 @@ returns c =
     let e = save-refused (a .tables .now) (a .tally) (a .room .now) 7 (λ q. omega arith) (refused-tables (a .tables .now) (length (a .room .now)) bad) in
     (sym (ap (λ (x : SavedOn). x .answer) e), sym (ap (λ (x : SavedOn). x .room) e))
 
--- src/saving.rt:128:9
 returns-2 : tie.Need-returns-2
 returns-2 c =
     let a = c .before .before .before .before .before .args in
@@ -35,15 +26,12 @@ returns-2 c =
     let e = save-refused (a .tables .now) (a .tally) (a .room .now) 25 (λ q. omega arith) small in
     (sym (ap (λ (x : SavedOn). x .answer) e), sym (ap (λ (x : SavedOn). x .room) e))
 
--- src/saving.rt:133:5
 write-file-requires : tie.Need-write-file-requires
 write-file-requires c κs = (sym (c .before .before .before .check .ensures) ∙ not-false _ (c .before .before .if1 .left), c .before .if2 .left)
 
--- src/saving.rt:118:1
 same-length : tie.Need-same-length
 same-length c = search needs
 
--- src/saving.rt:118:1
 returns-3 : tie.Need-returns-3
 returns-3 c =
     let a = c .before .before .before .before .before .before .before .before .before .args in

@@ -1,7 +1,7 @@
-use mathlib.Core.Path.{_≡_, refl, sym, ap, ap₂, _∙_}
+use mathlib.Core.Path.{_≡_, refl, ap, ap₂, _∙_}
 use mathlib.Core.List.{List}
 use Prim.Native.Nat.{ℕ, _+_, _-_, _≤_}
-use native.Mathlib.Nat.{le-antisymm, add-assoc}
+use native.Mathlib.Nat.{le-antisymm}
 use lib.ListN.{length}
 use Rattle.octets.specs.Part.{patch}
 use Rattle.recording.specs.Shape.{entryPlace, sumBelow}
@@ -15,10 +15,6 @@ use native.Mathlib.Omega.{arith}
 use borrow.Author.Needs.{needs}
 use Rattle.saved.proofs.saving.write_contents.Statement.{statement}
 use Rattle.saved.proofs.saving.write_contents.Tie as tie
-use Rattle.saved.proofs.saving.write_contents.Reads as reads
-use Rattle.saved.proofs.saving.write_contents.Lts as lts
-use Rattle.saved.proofs.contents.width_of.Reads as width-of-reads
-use Rattle.saved.proofs.saving.write_entry.Reads as write-entry-reads
 
 abbrev Inv-loop : tie.InvT-loop
 Inv-loop room₀ offset₀ i₀ room offset i =
@@ -27,33 +23,26 @@ Inv-loop room₀ offset₀ i₀ room offset i =
 abbrev μ-loop : tie.MeasureT-loop
 μ-loop room₀ offset₀ i₀ room offset i = bodyCount - i
 
--- src/saving.rt:60:5
 loop-holds : tie.Need-loop-holds Inv-loop μ-loop
 loop-holds c = (search needs, (refl, (omega (arith, sum-none (widthAt current)), contents-none (c .before .args .room .now))))
 
--- src/saving.rt:61:9
 write-entry-requires : tie.Need-write-entry-requires Inv-loop μ-loop
 write-entry-requires c κs = (c .before .loop-test .taken, omega (arith, c .before .before .before .before .pre, c .before .before .loop .inv .1 .0))
 
--- src/saving.rt:62:19
 width-of-requires : tie.Need-width-of-requires Inv-loop μ-loop
 width-of-requires c κs = search needs
 
--- src/saving.rt:62:9
 add-offset : tie.Need-add-offset Inv-loop μ-loop
 add-offset c =
     let within = width-within (c .before .before .before .before .before .before .loop .i) (c .before .before .before .before .before .loop-test .taken) in
     record { fits = omega (arith, c .width-of .ensures, c .before .before .before .before .before .before .loop .inv .1 .1 .0) }
 
--- src/saving.rt:63:9
 add-i : tie.Need-add-i Inv-loop μ-loop
 add-i c = search needs
 
--- src/saving.rt:60:5
 loop-less : tie.Need-loop-less Inv-loop μ-loop
 loop-less c = search needs
 
--- src/saving.rt:60:5
 loop-again : tie.Need-loop-again Inv-loop μ-loop
 loop-again c =
     let i = c .before .before .before .before .before .before .loop .i in
@@ -62,11 +51,9 @@ loop-again c =
     let entry = ap₂ (λ (r : List ℕ) (k : ℕ). patch r (entryPlace headWidth i) (entryBytes k i)) (c .before .before .before .before .before .before .loop .inv .1 .1 .1) offset in
     (search needs, (search needs, (omega (arith, offset, c .width-of .ensures, sum-more (widthAt current) i), c .before .before .before .write-entry .ensures ∙ entry ∙ more)))
 
--- src/saving.rt:54:1
 same-length : tie.Need-same-length Inv-loop μ-loop
 same-length c = search needs
 
--- src/saving.rt:54:1
 returns : tie.Need-returns Inv-loop μ-loop
 returns c =
     c .before .loop .inv .1 .1 .1

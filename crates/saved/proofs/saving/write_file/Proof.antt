@@ -8,41 +8,28 @@ use Rattle.tables.proofs.Whole.{formed}
 use Rattle.saved.specs.File.{bodyCount}
 use Rattle.saved.specs.Steps.{contentsBytes, tallyBytes}
 use Rattle.saved.proofs.SaveLaws.{file-written}
-use native.Mathlib.Omega.{arith}
 use borrow.Author.Needs.{needs}
 use Rattle.saved.proofs.saving.write_file.Statement.{statement}
 use Rattle.saved.proofs.saving.write_file.Tie as tie
-use Rattle.saved.proofs.saving.write_file.Reads as reads
-use Rattle.saved.proofs.saving.write_file.Lts as lts
-use Rattle.octets.proofs.copy_at.Reads as copy-at-reads
-use Rattle.saved.proofs.saving.write_contents.Reads as write-contents-reads
-use Rattle.saved.proofs.saving.write_start.Reads as write-start-reads
-use Rattle.saved.proofs.saving.write_tally.Reads as write-tally-reads
 
--- src/saving.rt:111:5
 write-start-requires : tie.Need-write-start-requires
 write-start-requires c κs = search needs
 
--- src/saving.rt:112:5
 write-contents-requires : tie.Need-write-contents-requires
 write-contents-requires c κs = search needs
 
--- src/saving.rt:113:5
 copy-at-requires : tie.Need-copy-at-requires
 copy-at-requires c κs =
     let tables = c .before .before .before .before .before .before .before .before .before .before .before .args .tables .now in
     let size = c .before .before .before .write-contents .kept .0 ∙ c .before .before .before .before .before .before .before .write-start .kept .0 in
     omega (arith, formed tables (c .before .before .before .before .before .before .before .before .before .before .before .pre .0) .size, size, c .before .before .before .before .before .before .before .before .before .before .before .pre .1)
 
--- src/saving.rt:114:5
 write-tally-requires : tie.Need-write-tally-requires
 write-tally-requires c κs = search needs
 
--- src/saving.rt:106:1
 same-length : tie.Need-same-length
 same-length c = search needs
 
--- src/saving.rt:106:1
 returns : tie.Need-returns
 returns c =
     let a = c .before .before .before .before .before .before .before .before .before .before .before .before .before .before .before .before .before .before .args in
