@@ -1,5 +1,5 @@
--- What crosses to C and Rust loses nothing: parts and 35 bytes give each other back, the payload's place gives the payload, and a writing's
--- number gives its refusal and its length.
+-- What crosses to C and Rust loses nothing: parts and 35 bytes give each other back, and a tally and its counters, the payload's place gives the payload,
+-- and the number of a writing or a saving gives its refusal and its length.
 use Prim.Native.Nat.{ℕ, _+_, _*_, _/_, _%_, _<_}
 use native.Mathlib.Nat.{mod-eq-of-lt}
 use native.Mathlib.Omega.{arith}
@@ -11,15 +11,20 @@ use lib.Dec.{ltb}
 use lib.ListN.{length, getD, take, drop, take-append-drop, drop-of-length-le}
 use lib.Seq.{drop-cons, drop-drop, drop-length, take-at}
 use borrow.Author.Tests.{ltb-true}
+use Rattle.octets.specs.Index.{listOf}
 use Rattle.octets.specs.Part.{part}
 use Rattle.octets.proofs.Choice.{then-true, then-false}
+use Rattle.octets.proofs.ListOf.{listOf-getD}
 use Rattle.packet.specs.Read.{headerOf, typeTwoParts, payloadStart, payload}
 use Rattle.packet.specs.declared.Parts.{Parts}
 use Rattle.packet.specs.declared.Written.{Written}
 use Rattle.packet.proofs.ListLaws.{behind, found-part, found-byte}
 use Rattle.packet.specs.Write.{Wide}
+use Rattle.rules.specs.declared.Tally.{Tally}
+use Rattle.saved.specs.declared.Saved.{Saved}
 use Rattle.haskumye.specs.Answers.{fieldsNumber}
 use Rattle.haskumye.specs.Packets.{partsBytes, partsIn, payloadPlace, writtenNumber}
+use Rattle.haskumye.specs.Saved.{tallyIn, countersOf, savedNumber}
 
 -- the parts, written to 35 bytes and read from them
 pub parts-back : (q : Parts) → Wide q → partsIn (partsBytes q) ≡ q
@@ -68,6 +73,25 @@ module _ (w : Written) (fits : w .refusal < 65536) where
   pub length-back : writtenNumber w / 65536 ≡ w .length
   unfolding writtenNumber
   length-back = digits-div (w .length) fits
+
+-- a saving's number likewise
+module _ (s : Saved) (fits : s .refusal < 65536) where
+  pub saved-refusal-back : savedNumber s % 65536 ≡ s .refusal
+  unfolding savedNumber
+  saved-refusal-back = digits-mod (s .length) fits
+
+  pub saved-length-back : savedNumber s / 65536 ≡ s .length
+  unfolding savedNumber
+  saved-length-back = digits-div (s .length) fits
+
+-- a tally's six counters: they stay as they are where the tally does
+pub tally-back : (t : Tally) → tallyIn (countersOf t) ≡ t
+unfolding tallyIn countersOf
+tally-back t = refl
+
+pub counters-back : (c : List ℕ) → length c ≡ 6 → countersOf (tallyIn c) ≡ c
+unfolding tallyIn countersOf listOf
+counters-back c e = listOf-getD 0 c 6 e
 
 -- an answer's number: each field is found at its bits, and bits 48 to 63 are zero
 module _ (kind detail ports size : ℕ) (k : kind < 256) (d : detail < 256) (p : ports < 65536) (z : size < 65536) where

@@ -1,3 +1,4 @@
 -- How what crosses to C and Rust lies in numbers and buffers.
 pub mod Packets
 pub mod Answers
+pub mod Saved

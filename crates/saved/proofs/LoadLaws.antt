@@ -37,7 +37,9 @@ use Rattle.saved.specs.Steps.{bodiesFine, bodiesWrongNow, tallyAt}
 module _ (f : List ℕ) where
   pub cut-short : length f < entryPlace headWidth (countOf f) → lengthWrong f ≡ true
   unfolding lengthWrong endRight runningPlace
-  cut-short l = ap not (ne-eqb (runningPlace headWidth f (countOf f)) (length f) (λ (q : runningPlace headWidth f (countOf f) ≡ length f). omega (arith, q, l)))
+  cut-short l =
+      let end : ℕ = runningPlace headWidth f (countOf f) in
+      ap not (ne-eqb end (length f) (λ (q : end ≡ length f). omega (arith, q, l)))
 
   pub too-short : length f < 4 → lengthWrong f ≡ true
   too-short l = cut-short (omega arith)

@@ -58,7 +58,8 @@ module _ (held : Held) where
   made-part =
       let front : List ℕ = startBytes ++ contentsBytes bodyCount in
       let long : length front ≡ bodiesAt = simp length-append (omega (arith, contents-length bodyCount, bigEndian-length 2 bodyCount)) in
-      ap (λ (r : List ℕ). part r bodiesAt (code current .width)) (file-made held ∙ sym (append-assoc startBytes (contentsBytes bodyCount) (code current .write held)))
+      ap (λ (r : List ℕ). part r bodiesAt (code current .width))
+      (file-made held ∙ sym (append-assoc startBytes (contentsBytes bodyCount) (code current .write held)))
       ∙ part-last front (code current .write held) bodiesAt (code current .width) long (saved-length held)
 
   module _ (g : code current .Good held) where

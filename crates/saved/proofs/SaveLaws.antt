@@ -1,9 +1,9 @@
 -- The laws of saving: each refusal, and what the code's writes leave.
-use Prim.Native.Nat.{ℕ, _+_, _*_, _≤_, _<_}
-use native.Mathlib.Nat.{zero-add, add-zero}
+use Prim.Native.Nat.{ℕ, _+_, _*_, _≤_, _<_, zero-le}
+use native.Mathlib.Nat.{le-refl, zero-add, add-zero}
 use native.Mathlib.Numerals.{add-one}
 use native.Mathlib.Omega.{arith}
-use mathlib.Core.Bool.{true, false, not}
+use mathlib.Core.Bool.{Bool, true, false, not}
 use mathlib.Core.List.{List, [], _∷_, _++_, append-assoc}
 use mathlib.Core.Path.{_≡_, refl, sym, ap, ap₂, _∙_}
 use lib.Dec.{eqb}
@@ -61,6 +61,15 @@ module _ (tables : List ℕ) (tally : Tally) (room : List ℕ) where
   save-refused n some e =
       then-false _ _ (ne-eqb (saveRefusal tables (length room)) 0 (λ q. some (sym e ∙ q)))
       ∙ ap (λ (k : ℕ). record { answer = record { refusal = k; length = 0 }; room = room }) e
+
+  -- the length is the file's or 0
+  pub save-most : saveOn tables tally room .answer .length ≤ savedSize
+  unfolding saveOn
+  save-most = go (eqb (saveRefusal tables (length room)) 0) refl
+    where
+      go : (b : Bool) → eqb (saveRefusal tables (length room)) 0 ≡ b → saveOn tables tally room .answer .length ≤ savedSize
+      go true e = rw (then-true {A = SavedOn} _ _ e) (le-refl savedSize)
+      go false e = rw (then-false {A = SavedOn} _ _ e) zero-le
 
 -- ---- the file, put together: start, contents, bodies
 module _ (held : Held) where

@@ -85,12 +85,12 @@ fn sizes_right(file: &[u8]) -> bool
     requires { ⌜ bodiesAt ≤ length (now file) ⌝ }
     ensures { λ r. ⌜ r ≡ sizesRight current (now (file .entry)) ⌝ }
 {
-    let mut i = 0;
-    while i < BODY_COUNT {
-        if length_of(file, i) != width_of(i) {
+    let mut body = 0;
+    while body < BODY_COUNT {
+        if length_of(file, body) != width_of(body) {
             return false;
         }
-        i += 1;
+        body += 1;
     }
     true
 }

@@ -23,7 +23,8 @@ number-at-requires c κs = search needs
 returns : tie.Need-returns
 unfolding lengthOf
 returns c =
-    c .number-at .ensures ∙ ap (λ (k : ℕ). number (part (c .before .before .args .file .now) (k + 4) 2)) (sym (add-zero (4 + 6 * c .before .before .args .i)))
+    let c2 = c .before .before in
+    c .number-at .ensures ∙ ap (λ (k : ℕ). number (part (c2 .args .file .now) (k + 4) 2)) (sym (add-zero (4 + 6 * c2 .args .i)))
 
 pub length-of-spec : {M : Type 1} → statement M
 length-of-spec =

@@ -20,7 +20,8 @@ number-at-requires c κs = search needs
 returns : tie.Need-returns
 unfolding offsetOf
 returns c =
-    c .number-at .ensures ∙ ap (λ (k : ℕ). number (part (c .before .before .args .file .now) k 4)) (sym (add-zero (4 + 6 * c .before .before .args .i)))
+    let c2 = c .before .before in
+    c .number-at .ensures ∙ ap (λ (k : ℕ). number (part (c2 .args .file .now) k 4)) (sym (add-zero (4 + 6 * c2 .args .i)))
 
 pub offset-of-spec : {M : Type 1} → statement M
 offset-of-spec = tie.close (tie.spec mul-number-at add-number-at number-at-requires returns)

@@ -19,7 +19,9 @@ check-requires c κs = search needs
 
 returns : tie.Need-returns
 unfolding part
-returns c = c .check .ensures ∙ tables-decide (c .before .before .before .args .file .now) (c .before .before .before .pre)
+returns c =
+    let c3 = c .before .before .before in
+    c .check .ensures ∙ tables-decide (c3 .args .file .now) (c3 .pre)
 
 pub bodies-fine-spec : {M : Type 1} → statement M
 bodies-fine-spec =

@@ -16,12 +16,14 @@ returns c = sym (ap not (and-no _ (sym (c .before .sizes-right .ensures) ∙ not
 
 bodies-fine-requires : tie.Need-bodies-fine-requires
 bodies-fine-requires c κs =
-    let f = c .before .before .before .args .file .now in
-    size-known f (c .before .before .before .pre .0) (counts-eight f (c .before .before .before .pre .1)) (sym (c .before .sizes-right .ensures) ∙ not-false _ (c .if1 .left))
+    let c3 = c .before .before .before in
+    let f = c3 .args .file .now in
+    size-known f (c3 .pre .0) (counts-eight f (c3 .pre .1)) (sym (c .before .sizes-right .ensures) ∙ not-false _ (c .if1 .left))
 
 returns-2 : tie.Need-returns-2
 returns-2 c =
-    ap not (c .bodies-fine .ensures ∙ sym (and-yes _ (sym (c .before .before .sizes-right .ensures) ∙ not-false _ (c .before .if1 .left))))
+    let c2 = c .before .before in
+    ap not (c .bodies-fine .ensures ∙ sym (and-yes _ (sym (c2 .sizes-right .ensures) ∙ not-false _ (c .before .if1 .left))))
 
 pub bodies-wrong-spec : {M : Type 1} → statement M
 bodies-wrong-spec =

@@ -23,28 +23,45 @@ count-requires : tie.Need-count-requires Inv-loop μ-loop
 count-requires c κs = search needs
 
 returns : tie.Need-returns Inv-loop μ-loop
-returns c = sym (other-count (c .before .before .before .args .file .now) (λ q. c .if1 .taken (c .before .count .ensures ∙ q)))
+returns c =
+    let c3 = c .before .before .before in
+    sym (other-count (c3 .args .file .now) (λ q. c .if1 .taken (c .before .count .ensures ∙ q)))
 
 loop-holds : tie.Need-loop-holds Inv-loop μ-loop
-loop-holds c = passed-none (c .before .before .before .args .file .now) (sym (c .before .count .ensures) ∙ c .if1 .left)
+loop-holds c =
+    let c3 = c .before .before .before in
+    passed-none (c3 .args .file .now) (sym (c .before .count .ensures) ∙ c .if1 .left)
 
 offset-of-requires : tie.Need-offset-of-requires Inv-loop μ-loop
-offset-of-requires c κs = omega (arith, c .before .before .before .before .before .pre, c .before .loop .inv .count, c .loop-test .taken)
+offset-of-requires c κs =
+    let c5 = c .before .before .before .before .before in
+    omega (arith, c5 .pre, c .before .loop .inv .count, c .loop-test .taken)
 
 returns-2 : tie.Need-returns-2 Inv-loop μ-loop
-returns-2 c = sym (passed-wrong (c .before .before .before .loop .inv) (c .before .before .loop-test .taken) (λ q. c .if2 .taken (c .before .offset-of .ensures ∙ q)))
+returns-2 c =
+    let c2 = c .before .before in
+    let c3 = c2 .before in
+    sym (passed-wrong (c3 .loop .inv) (c2 .loop-test .taken) (λ q. c .if2 .taken (c .before .offset-of .ensures ∙ q)))
 
 length-of-requires : tie.Need-length-of-requires Inv-loop μ-loop
-length-of-requires c κs = omega (arith, c .before .before .before .before .before .before .before .pre, c .before .before .before .loop .inv .count, c .before .before .loop-test .taken)
+length-of-requires c κs =
+    let c2 = c .before .before in
+    let c3 = c2 .before in
+    let c7 = c3 .before .before .before .before in
+    omega (arith, c7 .pre, c3 .loop .inv .count, c2 .loop-test .taken)
 
 add-place : tie.Need-add-place Inv-loop μ-loop
 add-place c =
-    let f = c .before .before .before .before .before .before .before .before .args .file .now in
-    let b = known-bytes f (c .before .before .before .before .before .before .before .shared-slice-known .given) in
-    let i = c .before .before .before .before .loop .i in
-    let inside : entryPlace headWidth i + 6 ≤ length f = omega (arith, c .before .before .before .before .before .before .before .before .pre, c .before .before .before .before .loop .inv .count, c .before .before .before .loop-test .taken) in
+    let c3 = c .before .before .before in
+    let c4 = c3 .before in
+    let c7 = c4 .before .before .before in
+    let c8 = c7 .before in
+    let f = c8 .args .file .now in
+    let b = known-bytes f (c7 .shared-slice-known .given) in
+    let i = c4 .loop .i in
+    let inside : entryPlace headWidth i + 6 ≤ length f = omega (arith, c8 .pre, c4 .loop .inv .count, c3 .loop-test .taken) in
     let long = length-lt headWidth f i b inside in
-    record { fits = omega (arith, passed-lt (c .before .before .before .before .loop .inv) b inside, c .length-of .ensures, c .before .before .before .loop-test .taken) }
+    record { fits = omega (arith, passed-lt (c4 .loop .inv) b inside, c .length-of .ensures, c3 .loop-test .taken) }
 
 add-i : tie.Need-add-i Inv-loop μ-loop
 add-i c = search needs
@@ -53,11 +70,16 @@ loop-less : tie.Need-loop-less Inv-loop μ-loop
 loop-less c = search needs
 
 loop-again : tie.Need-loop-again Inv-loop μ-loop
-loop-again c = rw (c .length-of .ensures) (passed-more (c .before .before .before .before .loop .inv) (c .before .before .before .loop-test .taken) (sym (c .before .before .offset-of .ensures) ∙ c .before .if2 .left))
+loop-again c =
+    let c2 = c .before .before in
+    let c3 = c2 .before in
+    let c4 = c3 .before in
+    rw (c .length-of .ensures) (passed-more (c4 .loop .inv) (c3 .loop-test .taken) (sym (c2 .offset-of .ensures) ∙ c .before .if2 .left))
 
 returns-3 : tie.Need-returns-3 Inv-loop μ-loop
 returns-3 c =
-    let f = c .before .before .before .before .before .args .file .now in
+    let c5 = c .before .before .before .before .before in
+    let f = c5 .args .file .now in
     let p = c .before .loop .inv in
     sym (contents-right f (p .count) (ap (allBelow (stands f)) (sym (le-antisymm (p .within) (c .loop-test .left))) ∙ p .offsets))
 

@@ -10,8 +10,9 @@ number-at-requires c κs = search needs
 
 cast-result : tie.Need-cast-result
 cast-result c =
-    let f = c .before .before .args .file .now in
-    record { fits = omega (arith, c .number-at .ensures, part-lt f (c .before .before .args .at) 4 (known-bytes f (c .before .shared-slice-known .given)) (c .before .before .pre)) }
+    let c2 = c .before .before in
+    let f = c2 .args .file .now in
+    record { fits = omega (arith, c .number-at .ensures, part-lt f (c2 .args .at) 4 (known-bytes f (c .before .shared-slice-known .given)) (c2 .pre)) }
 
 returns : tie.Need-returns
 returns c = search needs

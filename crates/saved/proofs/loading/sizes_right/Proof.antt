@@ -1,3 +1,4 @@
+use native.Mathlib.Omega.{arith}
 use mathlib.Core.Bool.{true}
 use mathlib.Core.Path.{_≡_, sym, ap, _∙_}
 use Prim.Native.Nat.{_-_, _≤_}
@@ -12,10 +13,10 @@ use Rattle.saved.proofs.loading.sizes_right.Statement.{statement}
 use Rattle.saved.proofs.loading.sizes_right.Tie as tie
 
 abbrev Inv-loop : tie.InvT-loop
-Inv-loop file i₀ i = (i ≤ bodyCount) × (allBelow (sized file) i ≡ true)
+Inv-loop file body₀ body = (body ≤ bodyCount) × (allBelow (sized file) body ≡ true)
 
 abbrev μ-loop : tie.MeasureT-loop
-μ-loop file i₀ i = bodyCount - i
+μ-loop file body₀ body = bodyCount - body
 
 loop-holds : tie.Need-loop-holds Inv-loop μ-loop
 loop-holds c = (search needs, all-none (sized (c .before .args .file .now)))
@@ -28,24 +29,32 @@ width-of-requires c κs = search needs
 
 returns : tie.Need-returns Inv-loop μ-loop
 returns c =
-    sym (size-wrong (c .before .before .before .before .before .before .args .file .now) (c .before .before .before .before .loop .i) (c .before .before .before .loop-test .taken)
-    (λ q. c .if1 .taken (c .before .before .length-of .ensures ∙ q ∙ sym (c .before .width-of .ensures))))
+    let c2 = c .before .before in
+    let c3 = c2 .before in
+    let c4 = c3 .before in
+    let c6 = c4 .before .before in
+    sym (size-wrong (c6 .args .file .now) (c4 .loop .body) (omega (arith, c3 .loop-test .taken))
+    (λ q. c .if1 .taken (c2 .length-of .ensures ∙ q ∙ sym (c .before .width-of .ensures))))
 
-add-i : tie.Need-add-i Inv-loop μ-loop
-add-i c = search needs
+add-body : tie.Need-add-body Inv-loop μ-loop
+add-body c = search needs
 
 loop-less : tie.Need-loop-less Inv-loop μ-loop
 loop-less c = search needs
 
 loop-again : tie.Need-loop-again Inv-loop μ-loop
 loop-again c =
-    let f = c .before .before .before .before .before .before .args .file .now in
-    let right = sym (c .before .before .length-of .ensures) ∙ c .if1 .left ∙ c .before .width-of .ensures in
-    (search needs, all-more (sized f) (c .before .before .before .before .loop .i) (c .before .before .before .before .loop .inv .1) (eq-eqb _ _ right))
+    let c2 = c .before .before in
+    let c4 = c2 .before .before in
+    let c6 = c4 .before .before in
+    let f = c6 .args .file .now in
+    let right = sym (c2 .length-of .ensures) ∙ c .if1 .left ∙ c .before .width-of .ensures in
+    (search needs, all-more (sized f) (c4 .loop .body) (c4 .loop .inv .1) (eq-eqb _ _ right))
 
 returns-2 : tie.Need-returns-2 Inv-loop μ-loop
 returns-2 c =
-    let f = c .before .before .before .args .file .now in
+    let c3 = c .before .before .before in
+    let f = c3 .args .file .now in
     sym (sizes-right f (ap (allBelow (sized f)) (sym (le-antisymm (c .before .loop .inv .0) (c .loop-test .left))) ∙ c .before .loop .inv .1))
 
 pub sizes-right-spec : {M : Type 1} → statement M
@@ -58,7 +67,7 @@ sizes-right-spec =
     length-of-requires
     width-of-requires
     returns
-    add-i
+    add-body
     loop-less
     loop-again
     returns-2)

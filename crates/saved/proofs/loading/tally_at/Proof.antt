@@ -50,9 +50,15 @@ counter-at-requires-6 c κs = search needs
 
 returns : tie.Need-returns
 returns c =
-    let f = c .before .before .before .before .before .before .before .args .file .now in
-    rw (c .before .before .before .before .before .counter-at .ensures, c .before .before .before .before .counter-at2 .ensures, c .before .before .before .counter-at3 .ensures, c .before .before .counter-at4 .ensures, c .before .counter-at5 .ensures, c .counter-at6 .ensures)
-    (tally-read f (c .before .before .before .before .before .before .before .args .at))
+    let c2 = c .before .before in
+    let c3 = c2 .before in
+    let c4 = c3 .before in
+    let c5 = c4 .before in
+    let c7 = c5 .before .before in
+    let c1 = c .before in
+    let f = c7 .args .file .now in
+    rw (c5 .counter-at .ensures, c4 .counter-at2 .ensures, c3 .counter-at3 .ensures, c2 .counter-at4 .ensures, c1 .counter-at5 .ensures, c .counter-at6 .ensures)
+    (tally-read f (c7 .args .at))
 
 pub tally-at-spec : {M : Type 1} → statement M
 tally-at-spec =

@@ -30,12 +30,17 @@ same-length c = search needs
 
 returns : tie.Need-returns
 returns c =
-    let a = c .before .before .before .before .before .before .before .before .before .before .before .args in
-    let at = c .before .before .before .before .before .before .before .before .before .entry-place .result in
-    c .before .before .write-number-at2 .ensures
-    ∙ ap₂ (λ (r : List ℕ) (k : ℕ). patch r (at + 4) (bigEndian 2 k)) (c .before .before .before .before .before .before .before .write-number-at .ensures) (c .before .before .before .width-of .ensures)
-    ∙ entry-written (a .room .now) at (a .offset) (a .i) (omega (arith, c .before .before .before .before .before .before .before .before .before .entry-place .ensures, c .before .before .before .before .before .before .before .before .before .before .before .pre .0, c .before .before .before .before .before .before .before .before .before .before .before .pre .1))
-    ∙ ap (λ (k : ℕ). patch (a .room .now) k (entryBytes (a .offset) (a .i))) (c .before .before .before .before .before .before .before .before .before .entry-place .ensures)
+    let c2 = c .before .before in
+    let c3 = c2 .before in
+    let c7 = c3 .before .before .before .before in
+    let c9 = c7 .before .before in
+    let c11 = c9 .before .before in
+    let a = c11 .args in
+    let at = c9 .entry-place .result in
+    c2 .write-number-at2 .ensures
+    ∙ ap₂ (λ (r : List ℕ) (k : ℕ). patch r (at + 4) (bigEndian 2 k)) (c7 .write-number-at .ensures) (c3 .width-of .ensures)
+    ∙ entry-written (a .room .now) at (a .offset) (a .i) (omega (arith, c9 .entry-place .ensures, c11 .pre .0, c11 .pre .1))
+    ∙ ap (λ (k : ℕ). patch (a .room .now) k (entryBytes (a .offset) (a .i))) (c9 .entry-place .ensures)
 
 pub write-entry-spec : {M : Type 1} → statement M
 write-entry-spec =

@@ -20,9 +20,12 @@ write-contents-requires c κs = search needs
 
 copy-at-requires : tie.Need-copy-at-requires
 copy-at-requires c κs =
-    let tables = c .before .before .before .before .before .before .before .before .before .before .before .args .tables .now in
-    let size = c .before .before .before .write-contents .kept .0 ∙ c .before .before .before .before .before .before .before .write-start .kept .0 in
-    omega (arith, formed tables (c .before .before .before .before .before .before .before .before .before .before .before .pre .0) .size, size, c .before .before .before .before .before .before .before .before .before .before .before .pre .1)
+    let c3 = c .before .before .before in
+    let c7 = c3 .before .before .before .before in
+    let c11 = c7 .before .before .before .before in
+    let tables = c11 .args .tables .now in
+    let size = c3 .write-contents .kept .0 ∙ c7 .write-start .kept .0 in
+    omega (arith, formed tables (c11 .pre .0) .size, size, c11 .pre .1)
 
 write-tally-requires : tie.Need-write-tally-requires
 write-tally-requires c κs = search needs
@@ -32,13 +35,19 @@ same-length c = search needs
 
 returns : tie.Need-returns
 returns c =
-    let a = c .before .before .before .before .before .before .before .before .before .before .before .before .before .before .before .before .before .before .args in
+    let c2 = c .before .before in
+    let c6 = c2 .before .before .before .before in
+    let c10 = c6 .before .before .before .before in
+    let c14 = c10 .before .before .before .before in
+    let c17 = c14 .before .before .before in
+    let c18 = c17 .before in
+    let a = c18 .args in
     let tables = a .tables .now in
-    let contents = c .before .before .before .before .before .before .before .before .before .before .write-contents .ensures ∙ ap (λ (r : List ℕ). patch r 4 (contentsBytes bodyCount)) (c .before .before .before .before .before .before .before .before .before .before .before .before .before .before .write-start .ensures) in
-    let copied = c .before .before .before .before .before .before .copy-at .ensures ∙ ap (λ (r : List ℕ). patch r 52 tables) contents in
-    c .before .before .write-tally .ensures
+    let contents = c10 .write-contents .ensures ∙ ap (λ (r : List ℕ). patch r 4 (contentsBytes bodyCount)) (c14 .write-start .ensures) in
+    let copied = c6 .copy-at .ensures ∙ ap (λ (r : List ℕ). patch r 52 tables) contents in
+    c2 .write-tally .ensures
     ∙ ap (λ (r : List ℕ). patch r 71168 (tallyBytes (a .tally))) copied
-    ∙ file-written tables (a .tally) (a .room .now) (known-bytes tables (c .before .before .before .before .before .before .before .before .before .before .before .before .before .before .before .before .before .shared-slice-known .given)) (c .before .before .before .before .before .before .before .before .before .before .before .before .before .before .before .before .before .before .pre .0) (c .before .before .before .before .before .before .before .before .before .before .before .before .before .before .before .before .before .before .pre .1)
+    ∙ file-written tables (a .tally) (a .room .now) (known-bytes tables (c17 .shared-slice-known .given)) (c18 .pre .0) (c18 .pre .1)
 
 pub write-file-spec : {M : Type 1} → statement M
 write-file-spec =

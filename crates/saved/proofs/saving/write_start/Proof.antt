@@ -24,8 +24,12 @@ same-length c = search needs
 
 returns : tie.Need-returns
 returns c =
-    let edition = c .before .before .before .before .before .before .set-at2 .ensures ∙ ap (λ (r : List ℕ). patch r 1 (currentEdition ∷ [])) (c .before .before .before .before .before .before .before .before .before .before .set-at .ensures) in
-    c .before .before .write-number-at .ensures ∙ ap (λ (r : List ℕ). patch r 2 (bigEndian 2 bodyCount)) edition ∙ start-written (c .before .before .before .before .before .before .before .before .before .before .before .before .before .args .room .now) (c .before .before .before .before .before .before .before .before .before .before .before .before .before .pre)
+    let c2 = c .before .before in
+    let c6 = c2 .before .before .before .before in
+    let c10 = c6 .before .before .before .before in
+    let c13 = c10 .before .before .before in
+    let edition = c6 .set-at2 .ensures ∙ ap (λ (r : List ℕ). patch r 1 (currentEdition ∷ [])) (c10 .set-at .ensures) in
+    c2 .write-number-at .ensures ∙ ap (λ (r : List ℕ). patch r 2 (bigEndian 2 bodyCount)) edition ∙ start-written (c13 .args .room .now) (c13 .pre)
 
 pub write-start-spec : {M : Type 1} → statement M
 write-start-spec =

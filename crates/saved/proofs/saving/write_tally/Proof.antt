@@ -52,7 +52,10 @@ mul-write-number-at-3 : tie.Need-mul-write-number-at-3
 mul-write-number-at-3 c = search needs
 
 add-write-number-at-4 : tie.Need-add-write-number-at-4
-add-write-number-at-4 c = record { fits = omega (arith, c .before .before .before .before .before .before .before .before .before .before .before .before .before .before .before .before .before .before .before .before .before .before .pre, c .before .before .before .before .before .before .before .before .before .before .before .before .before .before .before .before .before .before .before .before .before .before .good) }
+add-write-number-at-4 c =
+    let c11 = c .before .before .before .before .before .before .before .before .before .before .before in
+    let c22 = c11 .before .before .before .before .before .before .before .before .before .before .before in
+    record { fits = omega (arith, c22 .pre, c22 .good) }
 
 cast-write-number-at-5 : tie.Need-cast-write-number-at-5
 cast-write-number-at-5 c = search needs
@@ -64,31 +67,57 @@ mul-write-number-at-4 : tie.Need-mul-write-number-at-4
 mul-write-number-at-4 c = search needs
 
 add-write-number-at-5 : tie.Need-add-write-number-at-5
-add-write-number-at-5 c = record { fits = omega (arith, c .before .before .before .before .before .before .before .before .before .before .before .before .before .before .before .before .before .before .before .before .before .before .before .before .before .before .before .pre, c .before .before .before .before .before .before .before .before .before .before .before .before .before .before .before .before .before .before .before .before .before .before .before .before .before .before .before .good) }
+add-write-number-at-5 c =
+    let c14 = c .before .before .before .before .before .before .before .before .before .before .before .before .before .before in
+    let c27 = c14 .before .before .before .before .before .before .before .before .before .before .before .before .before in
+    record { fits = omega (arith, c27 .pre, c27 .good) }
 
 cast-write-number-at-6 : tie.Need-cast-write-number-at-6
 cast-write-number-at-6 c = search needs
 
 write-number-at-requires-6 : tie.Need-write-number-at-requires-6
 write-number-at-requires-6 c κs =
-    let size = c .before .before .before .before .write-number-at5 .kept .0 ∙ c .before .before .before .before .before .before .before .before .before .write-number-at4 .kept .0 ∙ c .before .before .before .before .before .before .before .before .before .before .before .before .before .before .write-number-at3 .kept .0 ∙ c .before .before .before .before .before .before .before .before .before .before .before .before .before .before .before .before .before .before .before .write-number-at2 .kept .0 ∙ c .before .before .before .before .before .before .before .before .before .before .before .before .before .before .before .before .before .before .before .before .before .before .before .before .write-number-at .kept .0 in
-    omega (arith, size, c .before .before .before .before .before .before .before .before .before .before .before .before .before .before .before .before .before .before .before .before .before .before .before .before .before .before .before .before .pre)
+    let c4 = c .before .before .before .before in
+    let c9 = c4 .before .before .before .before .before in
+    let c14 = c9 .before .before .before .before .before in
+    let c19 = c14 .before .before .before .before .before in
+    let c24 = c19 .before .before .before .before .before in
+    let c28 = c24 .before .before .before .before in
+    let later = c4 .write-number-at5 .kept .0 ∙ c9 .write-number-at4 .kept .0 ∙ c14 .write-number-at3 .kept .0 in
+    omega (arith, later ∙ c19 .write-number-at2 .kept .0 ∙ c24 .write-number-at .kept .0, c28 .pre)
 
 same-length : tie.Need-same-length
 same-length c =
-    c .before .before .write-number-at6 .kept .0
-    ∙ c .before .before .before .before .before .before .before .write-number-at5 .kept .0 ∙ c .before .before .before .before .before .before .before .before .before .before .before .before .write-number-at4 .kept .0 ∙ c .before .before .before .before .before .before .before .before .before .before .before .before .before .before .before .before .before .write-number-at3 .kept .0 ∙ c .before .before .before .before .before .before .before .before .before .before .before .before .before .before .before .before .before .before .before .before .before .before .write-number-at2 .kept .0 ∙ c .before .before .before .before .before .before .before .before .before .before .before .before .before .before .before .before .before .before .before .before .before .before .before .before .before .before .before .write-number-at .kept .0
+    let c2 = c .before .before in
+    let c7 = c2 .before .before .before .before .before in
+    let c12 = c7 .before .before .before .before .before in
+    let c17 = c12 .before .before .before .before .before in
+    let c22 = c17 .before .before .before .before .before in
+    let c27 = c22 .before .before .before .before .before in
+    c2 .write-number-at6 .kept .0
+    ∙ c7 .write-number-at5 .kept .0
+    ∙ c12 .write-number-at4 .kept .0
+    ∙ c17 .write-number-at3 .kept .0
+    ∙ c22 .write-number-at2 .kept .0
+    ∙ c27 .write-number-at .kept .0
 
 returns : tie.Need-returns
 returns c =
-    let a = c .before .before .before .before .before .before .before .before .before .before .before .before .before .before .before .before .before .before .before .before .before .before .before .before .before .before .before .before .before .before .before .args in
+    let c2 = c .before .before in
+    let c7 = c2 .before .before .before .before .before in
+    let c12 = c7 .before .before .before .before .before in
+    let c17 = c12 .before .before .before .before .before in
+    let c22 = c17 .before .before .before .before .before in
+    let c27 = c22 .before .before .before .before .before in
+    let c31 = c27 .before .before .before .before in
+    let a = c31 .args in
     let at = a .at in
     let put : ℕ → ℕ → List ℕ → List ℕ = λ k x r. patch r (at + k) (bigEndian 4 x) in
-    let two = c .before .before .before .before .before .before .before .before .before .before .before .before .before .before .before .before .before .before .before .before .before .before .write-number-at2 .ensures ∙ ap (put 4 (a .tally .dropped)) (c .before .before .before .before .before .before .before .before .before .before .before .before .before .before .before .before .before .before .before .before .before .before .before .before .before .before .before .write-number-at .ensures) in
-    let three = c .before .before .before .before .before .before .before .before .before .before .before .before .before .before .before .before .before .write-number-at3 .ensures ∙ ap (put 8 (a .tally .delivered)) two in
-    let four = c .before .before .before .before .before .before .before .before .before .before .before .before .write-number-at4 .ensures ∙ ap (put 12 (a .tally .forwarded)) three in
-    let five = c .before .before .before .before .before .before .before .write-number-at5 .ensures ∙ ap (put 16 (a .tally .spread)) four in
-    c .before .before .write-number-at6 .ensures ∙ ap (put 20 (a .tally .kept)) five ∙ tally-written (a .tally) (a .room .now) at (c .before .before .before .before .before .before .before .before .before .before .before .before .before .before .before .before .before .before .before .before .before .before .before .before .before .before .before .before .before .before .before .pre)
+    let two = c22 .write-number-at2 .ensures ∙ ap (put 4 (a .tally .dropped)) (c27 .write-number-at .ensures) in
+    let three = c17 .write-number-at3 .ensures ∙ ap (put 8 (a .tally .delivered)) two in
+    let four = c12 .write-number-at4 .ensures ∙ ap (put 12 (a .tally .forwarded)) three in
+    let five = c7 .write-number-at5 .ensures ∙ ap (put 16 (a .tally .spread)) four in
+    c2 .write-number-at6 .ensures ∙ ap (put 20 (a .tally .kept)) five ∙ tally-written (a .tally) (a .room .now) at (c31 .pre)
 
 pub write-tally-spec : {M : Type 1} → statement M
 write-tally-spec =
