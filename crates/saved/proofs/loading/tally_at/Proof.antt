@@ -57,7 +57,8 @@ returns c =
     let c7 = c5 .before .before in
     let c1 = c .before in
     let f = c7 .args .file .now in
-    rw (c5 .counter-at .ensures, c4 .counter-at2 .ensures, c3 .counter-at3 .ensures, c2 .counter-at4 .ensures, c1 .counter-at5 .ensures, c .counter-at6 .ensures)
+    let last = c .counter-at6 .ensures in
+    rw (c5 .counter-at .ensures, c4 .counter-at2 .ensures, c3 .counter-at3 .ensures, c2 .counter-at4 .ensures, c1 .counter-at5 .ensures, last)
     (tally-read f (c7 .args .at))
 
 pub tally-at-spec : {M : Type 1} → statement M
