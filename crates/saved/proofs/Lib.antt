@@ -1,0 +1,7 @@
+-- Laws of the widths, of loading and of saving; then the theorems over whole files, and a concrete one.
+pub mod Widths
+pub mod LoadLaws
+pub mod SaveLaws
+pub mod Made
+pub mod RoundTrip
+pub mod Example

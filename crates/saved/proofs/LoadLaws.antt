@@ -1,0 +1,346 @@
+-- The laws of loading: each refusal, and what a file that is not refused is.
+use Prim.Native.Nat.{ℕ, zero, suc, _+_, _*_, _≤_, _<_, zero-le}
+use native.Mathlib.Nat.{add-assoc, le-of-suc-le-suc}
+use native.Mathlib.Omega.{arith}
+use mathlib.Core.Bool.{Bool, true, false, not}
+use mathlib.Core.List.{List}
+use mathlib.Core.Path.{_≡_, refl, sym, ap, ap₂, _∙_}
+use lib.Dec.{eqb, leb, ltb}
+use lib.ListN.{length}
+use borrow.Author.Tests.{lt-ltb, ltb-true, lt-leb, leb-true, eq-eqb, ne-eqb, eqb-true, not-false}
+use Rattle.octets.specs.Bytes.{Bytes}
+use Rattle.octets.specs.Index.{_and_, allBelow}
+use Rattle.octets.specs.Choice.{_then_otherwise_}
+use Rattle.octets.specs.Listed.{firstOf}
+use Rattle.octets.specs.Part.{part}
+use Rattle.octets.specs.BigEndian.{number}
+use Rattle.octets.proofs.Choice.{then-true, then-false, then-ap}
+use Rattle.octets.proofs.Index.{and-left, and-right, and-both, and-no, and-yes, all-none, all-more, all-fails, all-at, all-intro}
+use Rattle.octets.proofs.Listed.{here, past, allGive, refuses, rows-passed, none-first}
+use Rattle.octets.proofs.Part.{part-length}
+use Rattle.codes.specs.Form.{code}
+use Rattle.codes.proofs.Law.{tests-part}
+use Rattle.codes.proofs.Forms.{lawful}
+use Rattle.recording.specs.Shape.{entryPlace, kindOf, editionOf, countOf, offsetOf, lengthOf, sumBelow, runningPlace, offsetsRight, endRight}
+use Rattle.recording.proofs.Sums.{sum-none, sum-more, sum-bound, sum-cong}
+use Rattle.recording.proofs.ShapeLaws.{length-lt, Shaped}
+use Rattle.rules.specs.declared.Tally.{Tally}
+use Rattle.tables.specs.Forms.{relayForm}
+use Rattle.tables.specs.Places.{tableSize}
+use Rattle.tables.specs.Layout.{bytesOf, wellFormed}
+use Rattle.saved.specs.Editions.{Held, tallyForm, currentEdition, isKnown, editionAt, current, widthAt}
+use Rattle.saved.specs.File.{savedKind, bodyCount, headWidth, bodiesAt, savedSize, widths-fill}
+use Rattle.saved.specs.Load.{lengthWrong, kindWrong, contentsWrong, sizesRight, bodiesWrong, loadRows, loadRefusal, heldIn, LoadedOn, loadOn}
+use Rattle.saved.specs.Steps.{bodiesFine, bodiesWrongNow, tallyAt}
+
+-- ---- 20
+module _ (f : List ℕ) where
+  pub cut-short : length f < entryPlace headWidth (countOf f) → lengthWrong f ≡ true
+  unfolding lengthWrong endRight runningPlace
+  cut-short l =
+      let end : ℕ = runningPlace headWidth f (countOf f) in
+      ap not (ne-eqb end (length f) (λ (q : end ≡ length f). omega (arith, q, l)))
+
+  pub too-short : length f < 4 → lengthWrong f ≡ true
+  too-short l = cut-short (omega arith)
+
+  pub sum-decides : lengthWrong f ≡ not (eqb (entryPlace headWidth (countOf f) + sumBelow (lengthOf headWidth f) (countOf f)) (length f))
+  unfolding lengthWrong endRight runningPlace
+  sum-decides = refl
+
+  module _ (h : lengthWrong f ≡ false) where
+    pub ends-right : runningPlace headWidth f (countOf f) ≡ length f
+    unfolding lengthWrong endRight
+    ends-right = eqb-true _ _ (not-false _ h)
+
+    pub has-contents : entryPlace headWidth (countOf f) ≤ length f
+    unfolding runningPlace
+    has-contents = omega (arith, ends-right)
+
+    pub has-start : 4 ≤ length f
+    has-start = omega (arith, has-contents)
+
+-- ---- 21
+unknown : (n : ℕ) → (n ≡ currentEdition → ⊥) → isKnown n ≡ false
+unfolding isKnown
+unknown zero ne = and-no (leb zero currentEdition) refl
+unknown (suc zero) ne = absurd (ne refl)
+unknown (suc (suc n)) ne = and-yes _ (lt-ltb 0 (suc (suc n)) (omega arith)) ∙ lt-leb (suc (suc n)) 1 (omega arith)
+
+module _ (f : List ℕ) where
+  pub other-kind : (kindOf f ≡ savedKind → ⊥) → kindWrong f ≡ true
+  unfolding kindWrong
+  other-kind ne = ap not (and-no _ (ne-eqb (kindOf f) savedKind ne))
+
+  module _ (k : kindOf f ≡ savedKind) where
+    pub other-edition : (editionOf f ≡ currentEdition → ⊥) → kindWrong f ≡ true
+    unfolding kindWrong
+    other-edition ne = ap not (and-yes _ (eq-eqb (kindOf f) savedKind k) ∙ unknown (editionOf f) ne)
+
+    pub kind-right : editionOf f ≡ currentEdition → kindWrong f ≡ false
+    unfolding kindWrong isKnown _and_
+    kind-right e = ap not (and-yes _ (eq-eqb (kindOf f) savedKind k) ∙ ap isKnown e)
+
+-- ---- 22
+-- body i starts at the running place
+abbrev pub stands : List ℕ → ℕ → Bool
+stands f i = eqb (offsetOf headWidth f i) (runningPlace headWidth f i)
+
+module _ (f : List ℕ) where
+  pub other-count : (countOf f ≡ bodyCount → ⊥) → contentsWrong f ≡ true
+  unfolding contentsWrong
+  other-count ne = ap not (and-no _ (ne-eqb (countOf f) bodyCount ne))
+
+  module _ (n : countOf f ≡ bodyCount) where
+    pub offset-wrong : (i : ℕ) → i < bodyCount → (offsetOf headWidth f i ≡ runningPlace headWidth f i → ⊥) → contentsWrong f ≡ true
+    unfolding contentsWrong offsetsRight
+    offset-wrong i l ne =
+        ap not
+        (and-yes _ (eq-eqb (countOf f) bodyCount n)
+        ∙ all-fails (stands f) i (countOf f) (omega (arith, n, l)) (ne-eqb (offsetOf headWidth f i) (runningPlace headWidth f i) ne))
+
+    pub contents-right : allBelow (stands f) bodyCount ≡ true → contentsWrong f ≡ false
+    unfolding contentsWrong offsetsRight
+    contents-right a = ap not (and-both (eq-eqb (countOf f) bodyCount n) (ap (allBelow (stands f)) n ∙ a))
+
+  module _ (h : contentsWrong f ≡ false) where
+    pub counts-eight : countOf f ≡ bodyCount
+    unfolding contentsWrong
+    counts-eight = eqb-true _ _ (and-left _ _ (not-false _ h))
+
+    pub offsets-right : (i : ℕ) → i < countOf f → offsetOf headWidth f i ≡ runningPlace headWidth f i
+    unfolding contentsWrong offsetsRight
+    offsets-right i l = eqb-true _ _ (all-at (stands f) (countOf f) i (and-right _ _ (not-false _ h)) l)
+
+-- lengths of n entries that stand in the file, added up
+pub lengths-most : (f : List ℕ) (n : ℕ) → Bytes f → entryPlace headWidth n ≤ length f → sumBelow (lengthOf headWidth f) n ≤ 65535 * n
+lengths-most f n b l =
+    sum-bound (lengthOf headWidth f) 65535 n (λ j m. le-of-suc-le-suc (length-lt headWidth f j b (omega arith)))
+
+-- the loop over the contents, where it has passed i entries
+pub record Passed (f : List ℕ) (place i : ℕ) : Type 0 where
+  pub count : countOf f ≡ bodyCount
+  pub within : i ≤ bodyCount
+  pub running : place ≡ runningPlace headWidth f i
+  pub offsets : allBelow (stands f) i ≡ true
+
+pub passed-none : (f : List ℕ) → countOf f ≡ bodyCount → Passed f bodiesAt 0
+unfolding runningPlace
+passed-none f n =
+    record {
+      count = n;
+      within = zero-le;
+      running = omega (arith, n, sum-none (lengthOf headWidth f));
+      offsets = all-none (stands f);
+    }
+
+module _ {f : List ℕ} {place i : ℕ} (p : Passed f place i) where
+  pub passed-more : i < bodyCount → offsetOf headWidth f i ≡ place → Passed f (place + lengthOf headWidth f i) (i + 1)
+  unfolding runningPlace
+  passed-more l e =
+      record {
+        count = p .count;
+        within = omega arith;
+        running = omega (arith, p .running, sum-more (lengthOf headWidth f) i);
+        offsets = all-more (stands f) i (p .offsets) (eq-eqb _ _ (e ∙ p .running));
+      }
+
+  pub passed-lt : Bytes f → entryPlace headWidth i + 6 ≤ length f → place ≤ bodiesAt + 65535 * i
+  unfolding runningPlace
+  passed-lt b h = omega (arith, p .running, p .count, lengths-most f i b (omega arith))
+
+  pub passed-wrong : i < bodyCount → (offsetOf headWidth f i ≡ place → ⊥) → contentsWrong f ≡ true
+  passed-wrong l ne = offset-wrong f (p .count) i l (λ q. ne (q ∙ sym (p .running)))
+
+-- ---- 24
+module _ (f : List ℕ) where
+  -- body i has its size
+  abbrev pub sized : ℕ → Bool
+  sized i = eqb (lengthOf headWidth f i) (widthAt current i)
+
+  pub size-wrong : (i : ℕ) → i < bodyCount → (lengthOf headWidth f i ≡ widthAt current i → ⊥) → sizesRight current f ≡ false
+  unfolding sizesRight
+  size-wrong i l ne = all-fails sized i bodyCount l (ne-eqb _ _ ne)
+
+  pub sizes-right : allBelow sized bodyCount ≡ true → sizesRight current f ≡ true
+  unfolding sizesRight
+  sizes-right a = a
+
+  pub size-at : sizesRight current f ≡ true → (i : ℕ) → i < bodyCount → lengthOf headWidth f i ≡ widthAt current i
+  unfolding sizesRight
+  size-at s i l = eqb-true _ _ (all-at sized bodyCount i s l)
+
+  module _ (h : lengthWrong f ≡ false) (n : countOf f ≡ bodyCount) where
+    pub has-entries : bodiesAt ≤ length f
+    has-entries = omega (arith, n, has-contents f h)
+
+    pub size-known : sizesRight current f ≡ true → length f ≡ savedSize
+    unfolding runningPlace
+    size-known s =
+        sym (ends-right f h)
+        ∙ ap (runningPlace headWidth f) n
+        ∙ ap₂ (λ (p q : ℕ). entryPlace headWidth p + q) n (sum-cong (lengthOf headWidth f) (widthAt current) bodyCount (size-at s) ∙ widths-fill)
+
+  -- the tally may be any bytes, so the bodies are fine where the tables are
+  and-true : (b : Bool) → (b and true) ≡ b
+  unfolding _and_
+  and-true true = refl
+  and-true false = refl
+
+  pub tables-decide : length f ≡ savedSize → wellFormed (part f bodiesAt tableSize) ≡ bodiesFine f
+  unfolding wellFormed bodiesFine _and_
+  tables-decide e =
+      and-yes _ (eq-eqb _ tableSize (part-length f bodiesAt tableSize (omega (arith, e))))
+      ∙ tests-part (lawful relayForm) f bodiesAt
+      ∙ sym (and-true (code relayForm .fine f bodiesAt))
+
+-- ---- the rows, in their order
+module _ (f : List ℕ) (size : ℕ) where
+  pub refused-length : lengthWrong f ≡ true → loadRefusal f size ≡ 20
+  unfolding loadRefusal loadRows
+  refused-length e = here _ 20 _ 0 e
+
+  module _ (a : lengthWrong f ≡ false) where
+    pub refused-kind : kindWrong f ≡ true → loadRefusal f size ≡ 21
+    unfolding loadRefusal loadRows
+    refused-kind e = past _ 20 _ 0 a ∙ here _ 21 _ 0 e
+
+    module _ (k : kindWrong f ≡ false) where
+      pub refused-place : contentsWrong f ≡ true → loadRefusal f size ≡ 22
+      unfolding loadRefusal loadRows
+      refused-place e = past _ 20 _ 0 a ∙ past _ 21 _ 0 k ∙ here _ 22 _ 0 e
+
+      module _ (p : contentsWrong f ≡ false) where
+        pub refused-body : bodiesWrong f ≡ true → loadRefusal f size ≡ 24
+        unfolding loadRefusal loadRows
+        refused-body e = past _ 20 _ 0 a ∙ past _ 21 _ 0 k ∙ past _ 22 _ 0 p ∙ here _ 24 _ 0 e
+
+        module _ (w : bodiesWrong f ≡ false) where
+          pub refused-size : (size ≡ tableSize → ⊥) → loadRefusal f size ≡ 25
+          unfolding loadRefusal loadRows
+          refused-size ne =
+              past _ 20 _ 0 a ∙ past _ 21 _ 0 k ∙ past _ 22 _ 0 p ∙ past _ 24 _ 0 w ∙ here _ 25 _ 0 (ap not (ne-eqb size tableSize ne))
+
+          pub not-refused : size ≡ tableSize → loadRefusal f size ≡ 0
+          unfolding loadRefusal loadRows
+          not-refused e = none-first (loadRows f size) 0 (a, (k, (p, (w, (ap not (eq-eqb size tableSize e), tt)))))
+
+-- ---- editions
+pub bodies-now : (f : List ℕ) → editionOf f ≡ currentEdition → bodiesWrong f ≡ bodiesWrongNow f
+unfolding bodiesWrong bodiesFine
+bodies-now f e = ap (λ (n : ℕ). not (sizesRight (editionAt n) f and code (editionAt n) .fine f bodiesAt)) e
+
+pub held-now : (f : List ℕ) → editionOf f ≡ currentEdition → heldIn f ≡ code current .read f bodiesAt
+unfolding heldIn
+held-now f e = ap (λ (n : ℕ). code (editionAt n) .read f bodiesAt) e
+
+-- ---- what a file that loads is
+pub record Taken (f : List ℕ) (size : ℕ) : Type 0 where
+  pub long : length f ≡ savedSize
+  pub kind : kindOf f ≡ savedKind
+  pub edition : editionOf f ≡ currentEdition
+  pub count : countOf f ≡ bodyCount
+  pub shaped : Shaped headWidth f
+  pub sizes : (i : ℕ) → i < bodyCount → lengthOf headWidth f i ≡ widthAt current i
+  pub fine : code current .fine f bodiesAt ≡ true
+  pub room : size ≡ tableSize
+
+known-one : (n : ℕ) → isKnown n ≡ true → n ≡ currentEdition
+unfolding isKnown
+known-one n h =
+    let low = ltb-true 0 n (and-left _ _ h) in
+    let high = leb-true n 1 (and-right _ _ h) in
+    omega arith
+
+module _ (f : List ℕ) (size : ℕ) where
+  rows-refuse : allGive refuses (loadRows f size) ≡ true
+  unfolding loadRows allGive refuses _and_
+  rows-refuse = refl
+
+  pub taken : loadRefusal f size ≡ 0 → Taken f size
+  unfolding loadRefusal loadRows kindWrong bodiesFine
+  taken e =
+      let (a, (k, (p, (w, (r, _))))) = rows-passed (loadRows f size) 0 rows-refuse (eq-eqb (loadRefusal f size) 0 e) in
+      let kinds = not-false _ k in
+      let edition = known-one (editionOf f) (and-right _ _ kinds) in
+      let count = counts-eight f p in
+      let fine = not-false _ (sym (bodies-now f edition) ∙ w) in
+      record {
+        long = size-known f a count (and-left _ _ fine);
+        kind = eqb-true (kindOf f) savedKind (and-left _ _ kinds);
+        edition = edition;
+        count = count;
+        shaped = record { start = has-start f a; whole = has-contents f a; offsets = offsets-right f p; ends = ends-right f a };
+        sizes = size-at f (and-left _ _ fine);
+        fine = and-right _ _ fine;
+        room = eqb-true size tableSize (not-false _ r);
+      }
+
+  pub takes : Taken f size → loadRefusal f size ≡ 0
+  unfolding lengthWrong endRight bodiesFine sizesRight
+  takes t =
+      let right : lengthWrong f ≡ false = ap not (eq-eqb _ _ (t .shaped .ends)) in
+      let offsets = all-intro (stands f) bodyCount (λ i l. eq-eqb _ _ (t .shaped .offsets i (omega (arith, t .count, l)))) in
+      let sizes = all-intro (sized f) bodyCount (λ i l. eq-eqb _ _ (t .sizes i l)) in
+      not-refused f size right (kind-right f (t .kind) (t .edition)) (contents-right f (t .count) offsets)
+      (bodies-now f (t .edition) ∙ ap not (and-both sizes (t .fine))) (t .room)
+
+-- the last row: a file that loads into tables of the right size is refused for any other
+pub other-size : (f : List ℕ) (size : ℕ) → loadRefusal f tableSize ≡ 0 → (size ≡ tableSize → ⊥) → loadRefusal f size ≡ 25
+unfolding loadRefusal loadRows
+other-size f size e ne =
+    let (a, (k, (p, (w, _)))) = rows-passed (loadRows f tableSize) 0 (rows-refuse f tableSize) (eq-eqb (loadRefusal f tableSize) 0 e) in
+    refused-size f size a k p w ne
+
+-- ---- what the code leaves is what the file holds
+module _ (f : List ℕ) (size : ℕ) (b : Bytes f) (t : Taken f size) where
+  tables-fine : code relayForm .fine f bodiesAt ≡ true
+  tables-fine = and-left _ _ (t .fine)
+
+  pub tables-held : part f bodiesAt tableSize ≡ bytesOf (heldIn f .0)
+  unfolding bytesOf
+  tables-held =
+      sym (lawful relayForm .again f bodiesAt b (omega (arith, t .long)) tables-fine)
+      ∙ ap (λ (x : Held). code relayForm .write (x .0)) (sym (held-now f (t .edition)))
+
+  pub tally-held : tallyAt f (bodiesAt + tableSize) ≡ heldIn f .1
+  unfolding tallyAt
+  tally-held = ap (λ (x : Held). x .1) (sym (held-now f (t .edition)))
+
+-- counter by counter
+pub tally-read : (f : List ℕ) (at : ℕ)
+    → record {
+      total = number (part f at 4);
+      dropped = number (part f (at + 4) 4);
+      delivered = number (part f (at + 8) 4);
+      forwarded = number (part f (at + 12) 4);
+      spread = number (part f (at + 16) 4);
+      kept = number (part f (at + 20) 4);
+    }
+    ≡ tallyAt f at
+unfolding tallyAt
+tally-read f at = rw (add-assoc at 4 4, add-assoc at 8 4, add-assoc at 12 4, add-assoc at 16 4)
+
+-- ---- `loadOn`, by its refusal
+module _ (f tables : List ℕ) (tally : Tally) where
+  pub load-done : loadRefusal f (length tables) ≡ 0
+      → loadOn f tables tally ≡ record { refusal = 0; tables = bytesOf (heldIn f .0); tally = heldIn f .1 }
+  unfolding loadOn
+  load-done e = then-true _ _ (eq-eqb (loadRefusal f (length tables)) 0 e)
+
+  pub load-refused : (loadRefusal f (length tables) ≡ 0 → ⊥)
+      → loadOn f tables tally ≡ record { refusal = loadRefusal f (length tables); tables = tables; tally = tally }
+  unfolding loadOn
+  load-refused ne = then-false _ _ (ne-eqb (loadRefusal f (length tables)) 0 ne)
+
+  pub load-number : loadOn f tables tally .refusal ≡ loadRefusal f (length tables)
+  unfolding loadOn
+  load-number =
+      then-ap (λ (x : LoadedOn). x .refusal) (eqb (loadRefusal f (length tables)) 0) _ _ ∙ zero-or (loadRefusal f (length tables))
+    where
+      zero-or : (n : ℕ) → (eqb n 0 then 0 otherwise n) ≡ n
+      zero-or n = go (eqb n 0) refl
+        where
+          go : (b : Bool) → eqb n 0 ≡ b → (b then 0 otherwise n) ≡ n
+          go true e = then-true 0 n refl ∙ sym (eqb-true n 0 e)
+          go false e = then-false 0 n refl

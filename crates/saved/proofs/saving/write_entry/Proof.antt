@@ -1,0 +1,55 @@
+use mathlib.Core.Path.{ap, ap₂, _∙_}
+use mathlib.Core.List.{List}
+use Prim.Native.Nat.{ℕ, _+_}
+use Rattle.octets.specs.Part.{patch}
+use Rattle.octets.specs.BigEndian.{bigEndian}
+use Rattle.saved.specs.Steps.{entryBytes}
+use Rattle.saved.proofs.SaveLaws.{entry-written}
+use native.Mathlib.Omega.{arith}
+use borrow.Author.Needs.{needs}
+use Rattle.saved.proofs.saving.write_entry.Statement.{statement}
+use Rattle.saved.proofs.saving.write_entry.Tie as tie
+
+entry-place-requires : tie.Need-entry-place-requires
+entry-place-requires c κs = search needs
+
+write-number-at-requires : tie.Need-write-number-at-requires
+write-number-at-requires c κs = search needs
+
+add-write-number-at : tie.Need-add-write-number-at
+add-write-number-at c = search needs
+
+width-of-requires : tie.Need-width-of-requires
+width-of-requires c κs = search needs
+
+write-number-at-requires-2 : tie.Need-write-number-at-requires-2
+write-number-at-requires-2 c κs = search needs
+
+same-length : tie.Need-same-length
+same-length c = search needs
+
+returns : tie.Need-returns
+returns c =
+    let c2 = c .before .before in
+    let c3 = c2 .before in
+    let c7 = c3 .before .before .before .before in
+    let c9 = c7 .before .before in
+    let c11 = c9 .before .before in
+    let a = c11 .args in
+    let at = c9 .entry-place .result in
+    c2 .write-number-at2 .ensures
+    ∙ ap₂ (λ (r : List ℕ) (k : ℕ). patch r (at + 4) (bigEndian 2 k)) (c7 .write-number-at .ensures) (c3 .width-of .ensures)
+    ∙ entry-written (a .room .now) at (a .offset) (a .i) (omega (arith, c9 .entry-place .ensures, c11 .pre .0, c11 .pre .1))
+    ∙ ap (λ (k : ℕ). patch (a .room .now) k (entryBytes (a .offset) (a .i))) (c9 .entry-place .ensures)
+
+pub write-entry-spec : {M : Type 1} → statement M
+write-entry-spec =
+    tie.close
+    (tie.spec
+    entry-place-requires
+    write-number-at-requires
+    add-write-number-at
+    width-of-requires
+    write-number-at-requires-2
+    same-length
+    returns)

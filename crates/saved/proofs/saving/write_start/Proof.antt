@@ -1,0 +1,37 @@
+use mathlib.Core.Path.{ap, _∙_}
+use mathlib.Core.List.{List, [], _∷_}
+use Prim.Native.Nat.{ℕ}
+use Rattle.octets.specs.Part.{patch}
+use Rattle.octets.specs.BigEndian.{bigEndian}
+use Rattle.saved.specs.Editions.{currentEdition}
+use Rattle.saved.specs.File.{bodyCount}
+use Rattle.saved.proofs.SaveLaws.{start-written}
+use borrow.Author.Needs.{needs}
+use Rattle.saved.proofs.saving.write_start.Statement.{statement}
+use Rattle.saved.proofs.saving.write_start.Tie as tie
+
+set-at-requires : tie.Need-set-at-requires
+set-at-requires c κs = search needs
+
+set-at-requires-2 : tie.Need-set-at-requires-2
+set-at-requires-2 c κs = search needs
+
+write-number-at-requires : tie.Need-write-number-at-requires
+write-number-at-requires c κs = search needs
+
+same-length : tie.Need-same-length
+same-length c = search needs
+
+returns : tie.Need-returns
+returns c =
+    let c2 = c .before .before in
+    let c6 = c2 .before .before .before .before in
+    let c10 = c6 .before .before .before .before in
+    let c13 = c10 .before .before .before in
+    let edition = c6 .set-at2 .ensures ∙ ap (λ (r : List ℕ). patch r 1 (currentEdition ∷ [])) (c10 .set-at .ensures) in
+    c2 .write-number-at .ensures ∙ ap (λ (r : List ℕ). patch r 2 (bigEndian 2 bodyCount)) edition ∙ start-written (c13 .args .room .now) (c13 .pre)
+
+pub write-start-spec : {M : Type 1} → statement M
+write-start-spec =
+    tie.close
+    (tie.spec set-at-requires set-at-requires-2 write-number-at-requires same-length returns)

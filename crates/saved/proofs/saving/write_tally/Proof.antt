@@ -1,0 +1,148 @@
+use mathlib.Core.Path.{ap, _∙_}
+use mathlib.Core.List.{List}
+use Prim.Native.Nat.{ℕ, _+_}
+use Rattle.octets.specs.Part.{patch}
+use Rattle.octets.specs.BigEndian.{bigEndian}
+use Rattle.saved.proofs.SaveLaws.{tally-written}
+use native.Mathlib.Omega.{arith}
+use borrow.Author.Needs.{needs}
+use Rattle.saved.proofs.saving.write_tally.Statement.{statement}
+use Rattle.saved.proofs.saving.write_tally.Tie as tie
+
+cast-write-number-at : tie.Need-cast-write-number-at
+cast-write-number-at c = search needs
+
+write-number-at-requires : tie.Need-write-number-at-requires
+write-number-at-requires c κs = search needs
+
+add-write-number-at : tie.Need-add-write-number-at
+add-write-number-at c = search needs
+
+cast-write-number-at-2 : tie.Need-cast-write-number-at-2
+cast-write-number-at-2 c = search needs
+
+write-number-at-requires-2 : tie.Need-write-number-at-requires-2
+write-number-at-requires-2 c κs = search needs
+
+mul-write-number-at : tie.Need-mul-write-number-at
+mul-write-number-at c = search needs
+
+add-write-number-at-2 : tie.Need-add-write-number-at-2
+add-write-number-at-2 c = search needs
+
+cast-write-number-at-3 : tie.Need-cast-write-number-at-3
+cast-write-number-at-3 c = search needs
+
+write-number-at-requires-3 : tie.Need-write-number-at-requires-3
+write-number-at-requires-3 c κs = search needs
+
+mul-write-number-at-2 : tie.Need-mul-write-number-at-2
+mul-write-number-at-2 c = search needs
+
+add-write-number-at-3 : tie.Need-add-write-number-at-3
+add-write-number-at-3 c = search needs
+
+cast-write-number-at-4 : tie.Need-cast-write-number-at-4
+cast-write-number-at-4 c = search needs
+
+write-number-at-requires-4 : tie.Need-write-number-at-requires-4
+write-number-at-requires-4 c κs = search needs
+
+mul-write-number-at-3 : tie.Need-mul-write-number-at-3
+mul-write-number-at-3 c = search needs
+
+add-write-number-at-4 : tie.Need-add-write-number-at-4
+add-write-number-at-4 c =
+    let c11 = c .before .before .before .before .before .before .before .before .before .before .before in
+    let c22 = c11 .before .before .before .before .before .before .before .before .before .before .before in
+    record { fits = omega (arith, c22 .pre, c22 .good) }
+
+cast-write-number-at-5 : tie.Need-cast-write-number-at-5
+cast-write-number-at-5 c = search needs
+
+write-number-at-requires-5 : tie.Need-write-number-at-requires-5
+write-number-at-requires-5 c κs = search needs
+
+mul-write-number-at-4 : tie.Need-mul-write-number-at-4
+mul-write-number-at-4 c = search needs
+
+add-write-number-at-5 : tie.Need-add-write-number-at-5
+add-write-number-at-5 c =
+    let c14 = c .before .before .before .before .before .before .before .before .before .before .before .before .before .before in
+    let c27 = c14 .before .before .before .before .before .before .before .before .before .before .before .before .before in
+    record { fits = omega (arith, c27 .pre, c27 .good) }
+
+cast-write-number-at-6 : tie.Need-cast-write-number-at-6
+cast-write-number-at-6 c = search needs
+
+write-number-at-requires-6 : tie.Need-write-number-at-requires-6
+write-number-at-requires-6 c κs =
+    let c4 = c .before .before .before .before in
+    let c9 = c4 .before .before .before .before .before in
+    let c14 = c9 .before .before .before .before .before in
+    let c19 = c14 .before .before .before .before .before in
+    let c24 = c19 .before .before .before .before .before in
+    let c28 = c24 .before .before .before .before in
+    let later = c4 .write-number-at5 .kept .0 ∙ c9 .write-number-at4 .kept .0 ∙ c14 .write-number-at3 .kept .0 in
+    omega (arith, later ∙ c19 .write-number-at2 .kept .0 ∙ c24 .write-number-at .kept .0, c28 .pre)
+
+same-length : tie.Need-same-length
+same-length c =
+    let c2 = c .before .before in
+    let c7 = c2 .before .before .before .before .before in
+    let c12 = c7 .before .before .before .before .before in
+    let c17 = c12 .before .before .before .before .before in
+    let c22 = c17 .before .before .before .before .before in
+    let c27 = c22 .before .before .before .before .before in
+    c2 .write-number-at6 .kept .0
+    ∙ c7 .write-number-at5 .kept .0
+    ∙ c12 .write-number-at4 .kept .0
+    ∙ c17 .write-number-at3 .kept .0
+    ∙ c22 .write-number-at2 .kept .0
+    ∙ c27 .write-number-at .kept .0
+
+returns : tie.Need-returns
+returns c =
+    let c2 = c .before .before in
+    let c7 = c2 .before .before .before .before .before in
+    let c12 = c7 .before .before .before .before .before in
+    let c17 = c12 .before .before .before .before .before in
+    let c22 = c17 .before .before .before .before .before in
+    let c27 = c22 .before .before .before .before .before in
+    let c31 = c27 .before .before .before .before in
+    let a = c31 .args in
+    let at = a .at in
+    let put : ℕ → ℕ → List ℕ → List ℕ = λ k x r. patch r (at + k) (bigEndian 4 x) in
+    let two = c22 .write-number-at2 .ensures ∙ ap (put 4 (a .tally .dropped)) (c27 .write-number-at .ensures) in
+    let three = c17 .write-number-at3 .ensures ∙ ap (put 8 (a .tally .delivered)) two in
+    let four = c12 .write-number-at4 .ensures ∙ ap (put 12 (a .tally .forwarded)) three in
+    let five = c7 .write-number-at5 .ensures ∙ ap (put 16 (a .tally .spread)) four in
+    c2 .write-number-at6 .ensures ∙ ap (put 20 (a .tally .kept)) five ∙ tally-written (a .tally) (a .room .now) at (c31 .pre)
+
+pub write-tally-spec : {M : Type 1} → statement M
+write-tally-spec =
+    tie.close
+    (tie.spec
+    cast-write-number-at
+    write-number-at-requires
+    add-write-number-at
+    cast-write-number-at-2
+    write-number-at-requires-2
+    mul-write-number-at
+    add-write-number-at-2
+    cast-write-number-at-3
+    write-number-at-requires-3
+    mul-write-number-at-2
+    add-write-number-at-3
+    cast-write-number-at-4
+    write-number-at-requires-4
+    mul-write-number-at-3
+    add-write-number-at-4
+    cast-write-number-at-5
+    write-number-at-requires-5
+    mul-write-number-at-4
+    add-write-number-at-5
+    cast-write-number-at-6
+    write-number-at-requires-6
+    same-length
+    returns)

@@ -1,0 +1,100 @@
+-- Document 02, Wish 4: what a file of saved tables holds, edition by edition. "Each body's layout is yours to fix, later fields too; write it down."
+-- A body is a section of the tables as the layout has it, the last one the tally (docs/LAYOUT.md). A later edition is one more line in `editions`.
+use Prim.Native.Nat.{ℕ, _+_, _-_}
+use Prim.Native.String.{String}
+use mathlib.Core.Bool.{Bool}
+use mathlib.Core.List.{List, [], _∷_}
+use mathlib.Core.Path.{refl}
+use lib.Dec.{ltb, leb}
+use lib.ListN.{length, getD}
+use lib.Text.{eqt}
+use Rattle.octets.specs.Index.{_and_}
+use Rattle.codes.specs.Form.{Form, byte, mark, numberIn, octetsIn, given, field, _&_, many, firstsOf, slot, that, asRecord, code, oneOf}
+use Rattle.rules.specs.Relay.{Relay}
+use Rattle.rules.specs.declared.Tally.{Tally}
+use Rattle.tables.specs.Forms.{relayForm}
+
+-- what is saved, and what a load gives: the relay that the tables hold, and the tally
+abbrev pub Held : Type 0
+Held = Relay × Tally
+
+-- ---- the tally: six numbers
+abbrev pub counterWidth : ℕ
+counterWidth = 4
+
+abbrev pub toTally : ℕ × (ℕ × (ℕ × (ℕ × (ℕ × ℕ)))) → Tally
+toTally (total, (dropped, (delivered, (forwarded, (spread, kept))))) =
+    record { total = total; dropped = dropped; delivered = delivered; forwarded = forwarded; spread = spread; kept = kept }
+
+abbrev pub tallyForm : Form Tally
+tallyForm =
+    asRecord toTally
+    (λ t. (t .total, (t .dropped, (t .delivered, (t .forwarded, (t .spread, t .kept))))))
+    (λ x. refl)
+    (λ y. refl)
+    (field "total" (numberIn counterWidth)
+    & field "dropped" (numberIn counterWidth)
+    & field "delivered" (numberIn counterWidth)
+    & field "forwarded" (numberIn counterWidth)
+    & field "spread" (numberIn counterWidth)
+    & field "kept" (numberIn counterWidth))
+
+-- ---- the eight bodies, by the fields of the layout that each holds: own address and last clock, ports, local addresses, paths, links, returns, hashes,
+-- tally. In every edition these are all fields, in the order in which they stand
+abbrev pub bodies : List (List String)
+bodies =
+    ("own" ∷ "clock" ∷ []) ∷
+    ("ports" ∷ []) ∷
+    ("locals" ∷ []) ∷
+    ("paths" ∷ []) ∷
+    ("links" ∷ []) ∷
+    ("returns" ∷ []) ∷
+    ("hashes" ∷ []) ∷
+    ("tally" ∷ []) ∷
+    []
+
+-- the width of the field of that name, 0 where there is none
+abbrev pub widthOf : {A : Type 0} → Form A → String → ℕ
+widthOf byte k = 0
+widthOf mark k = 0
+widthOf (numberIn n) k = 0
+widthOf (octetsIn n) k = 0
+widthOf (given v) k = 0
+widthOf (field name f) k = oneOf (eqt name k) (code f .width) 0
+widthOf (f & g) k = widthOf f k + widthOf g k
+widthOf (many n spare f) k = 0
+widthOf (firstsOf m n l spare f) k = 0
+widthOf (slot f) k = 0
+widthOf (that rule f) k = widthOf f k
+widthOf (asRecord to from same there f) k = widthOf f k
+
+-- of several fields
+abbrev pub widthsOf : {A : Type 0} → Form A → List String → ℕ
+widthsOf f [] = 0
+widthsOf f (k ∷ ks) = widthOf f k + widthsOf f ks
+
+-- ---- an edition: the form of what its bodies hold, one after the other. It gives today's relay and tally: for a field that the edition lacks the form
+-- says the value (`since` and `given`), for one with less room the rest (`firstsOf`)
+abbrev pub edition1 : Form Held
+edition1 = relayForm & field "tally" tallyForm
+
+-- all editions, the oldest first: an edition's number is its place in this list, counted from 1
+abbrev pub editions : List (Form Held)
+editions = edition1 ∷ []
+
+-- the current one is the last
+abbrev pub currentEdition : ℕ
+currentEdition = length editions
+
+unfoldable pub isKnown : ℕ → Bool
+isKnown n = ltb 0 n and leb n currentEdition
+
+abbrev pub editionAt : ℕ → Form Held
+editionAt n = getD editions (n - 1) edition1
+
+abbrev pub current : Form Held
+current = editionAt currentEdition
+
+-- how long body i of an edition is
+unfoldable pub widthAt : Form Held → ℕ → ℕ
+widthAt e i = widthsOf e (getD bodies i [])

@@ -1,0 +1,50 @@
+-- Document 02, Wish 4: "Save and load in the recordings' shape with kind byte 2: eight entries (..), own address and last clock, ports, local addresses,
+-- paths, links, returns, hashes, tally, in that order, each with offset (4) and length (2), then the bodies."
+use mathlib.Core.Path.{_≡_, refl}
+use Prim.Native.Nat.{ℕ, _+_}
+use mathlib.Core.List.{List, []}
+use Rattle.octets.specs.Index.{listOf}
+use Rattle.octets.specs.Part.{part}
+use Rattle.recording.specs.Shape.{entryPlace, sumBelow, shapeOf}
+use Rattle.codes.specs.Form.{Form, code}
+use Rattle.saved.specs.Editions.{Held, currentEdition, current, widthAt}
+
+abbrev pub savedKind : ℕ
+savedKind = 2
+
+abbrev pub bodyCount : ℕ
+bodyCount = 8
+
+-- an entry has no head before its offset and length
+abbrev pub headWidth : ℕ
+headWidth = 0
+
+abbrev pub noHead : List ℕ → List ℕ
+noHead body = []
+
+abbrev pub wholeBody : List ℕ → List ℕ
+wholeBody body = body
+
+-- where the first body starts: 52
+abbrev pub bodiesAt : ℕ
+bodiesAt = entryPlace headWidth bodyCount
+
+-- body i of what is saved
+unfoldable pub bodyOf : Form Held → Held → ℕ → List ℕ
+bodyOf e held i = part (code e .write held) (sumBelow (widthAt e) i) (widthAt e i)
+
+-- the file of a relay and a tally, in the current edition
+unfoldable pub fileOf : Held → List ℕ
+fileOf held = shapeOf savedKind currentEdition headWidth noHead wholeBody (listOf (bodyOf current held) bodyCount)
+
+-- how long every such file is
+abbrev pub savedSize : ℕ
+savedSize = bodiesAt + code current .width
+
+saved-size : savedSize ≡ 71192
+saved-size = refl
+
+-- the eight bodies are all that is saved
+pub widths-fill : sumBelow (widthAt current) bodyCount ≡ code current .width
+unfolding sumBelow widthAt
+widths-fill = refl

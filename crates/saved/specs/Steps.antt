@@ -1,0 +1,41 @@
+-- For the contracts of private helpers: no reader has to believe these.
+use Prim.Native.Nat.{ℕ, _+_}
+use mathlib.Core.Bool.{Bool, true, false, not}
+use mathlib.Core.List.{List, _∷_, _++_}
+use mathlib.Core.Path.{_≡_}
+use Rattle.octets.specs.Index.{_and_, listOf}
+use Rattle.octets.specs.Part.{joined}
+use Rattle.octets.specs.BigEndian.{bigEndian}
+use Rattle.codes.specs.Form.{code}
+use Rattle.recording.specs.Shape.{sumBelow}
+use Rattle.rules.specs.declared.Tally.{Tally}
+use Rattle.saved.specs.Editions.{tallyForm, currentEdition, current, widthAt}
+use Rattle.saved.specs.File.{savedKind, bodyCount, bodiesAt}
+use Rattle.saved.specs.Load.{lengthWrong, contentsWrong, sizesRight}
+
+-- ---- what a save writes: kind, edition and count; the entry of body i; the first n entries; the tally
+abbrev pub startBytes : List ℕ
+startBytes = savedKind ∷ currentEdition ∷ bigEndian 2 bodyCount
+
+unfoldable pub entryBytes : ℕ → ℕ → List ℕ
+entryBytes offset i = bigEndian 4 offset ++ bigEndian 2 (widthAt current i)
+
+unfoldable pub contentsBytes : ℕ → List ℕ
+contentsBytes n = joined (λ i. entryBytes (bodiesAt + sumBelow (widthAt current) i) i) (listOf (λ i. i) n)
+
+unfoldable pub tallyBytes : Tally → List ℕ
+tallyBytes tally = code tallyForm .write tally
+
+-- ---- what a load tests and reads, in the current edition
+-- refusals 20 and 22 are not given
+abbrev pub ContentsRight : List ℕ → Type 0
+ContentsRight f = (lengthWrong f ≡ false) × (contentsWrong f ≡ false)
+
+unfoldable pub bodiesFine : List ℕ → Bool
+bodiesFine f = code current .fine f bodiesAt
+
+abbrev pub bodiesWrongNow : List ℕ → Bool
+bodiesWrongNow f = not (sizesRight current f and bodiesFine f)
+
+unfoldable pub tallyAt : List ℕ → ℕ → Tally
+tallyAt f at = code tallyForm .read f at

@@ -1,0 +1,77 @@
+// The refusals' numbers, and the file's: specs/ in code. Each number once.
+use numbers::HASH_COUNT;
+use numbers::LINK_COUNT;
+use numbers::LOCAL_COUNT;
+use numbers::PATH_COUNT;
+use numbers::PORT_COUNT;
+use numbers::RETURN_COUNT;
+use tables::places::HASH_WIDTH;
+use tables::places::LINK_WIDTH;
+use tables::places::LOCAL_WIDTH;
+use tables::places::PATH_WIDTH;
+use tables::places::PORT_WIDTH;
+use tables::places::PORTS_AT;
+use tables::places::RETURN_WIDTH;
+use tables::places::RING_WIDTH;
+use tables::places::TABLE_SIZE;
+
+// A file whose length isn't what its contents add up to.
+pub const LENGTH_REFUSED: u8 = 20;
+
+// Another kind, or an edition that isn't known.
+pub const KIND_REFUSED: u8 = 21;
+
+// Another count, or an offset that breaks the rule.
+pub const PLACE_REFUSED: u8 = 22;
+
+// A body that breaks refusal 7's rules, size too.
+pub const BODY_REFUSED: u8 = 24;
+
+// Too little room, or for a load not the tables' size.
+pub const ROOM_REFUSED: u8 = 25;
+
+pub const KIND: u8 = 2;
+
+pub const EDITION: u8 = 1;
+
+// The file's head: kind, edition, count.
+pub const COUNT_AT: usize = 2;
+
+pub const COUNT_WIDTH: usize = 2;
+
+pub const CONTENTS_START: usize = COUNT_AT + COUNT_WIDTH;
+
+// An entry in the contents: offset, length.
+pub const OFFSET_WIDTH: usize = 4;
+
+pub const LENGTH_WIDTH: usize = 2;
+
+pub const ENTRY_WIDTH: usize = OFFSET_WIDTH + LENGTH_WIDTH;
+
+pub const BODY_COUNT: usize = 8;
+
+// The bodies' lengths: own address and last clock, ports, local addresses, paths, links, returns, hashes, tally.
+pub const OWN_BODY: usize = PORTS_AT;
+
+pub const PORTS_BODY: usize = PORT_COUNT * PORT_WIDTH;
+
+pub const LOCALS_BODY: usize = LOCAL_COUNT * LOCAL_WIDTH;
+
+pub const PATHS_BODY: usize = PATH_COUNT * PATH_WIDTH;
+
+pub const LINKS_BODY: usize = LINK_COUNT * LINK_WIDTH;
+
+pub const RETURNS_BODY: usize = RING_WIDTH + RETURN_COUNT * RETURN_WIDTH;
+
+pub const HASHES_BODY: usize = RING_WIDTH + HASH_COUNT * HASH_WIDTH;
+
+pub const COUNTER_WIDTH: usize = 4;
+
+pub const TALLY_BODY: usize = 6 * COUNTER_WIDTH;
+
+// Where the bodies stand: those of the tables' sections together are the tables.
+pub const BODIES_AT: usize = CONTENTS_START + BODY_COUNT * ENTRY_WIDTH;
+
+pub const TALLY_AT: usize = BODIES_AT + TABLE_SIZE;
+
+pub const SAVED_SIZE: usize = TALLY_AT + TALLY_BODY;

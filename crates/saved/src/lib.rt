@@ -1,0 +1,23 @@
+// Saved tables, as document 02's Wish 4 has them: a relay's tables and tally as a file, and back.
+// Entry points: save, load. Each ends on any bytes of any length; a refusal changes nothing.
+mod contents;
+mod format;
+mod loading;
+mod saving;
+
+pub use format::SAVED_SIZE;
+pub use loading::load;
+use rules::Tally;
+pub use saving::save;
+
+// A saving: refusal 0 and the file's length, or a refusal's number and 0.
+pub struct Saved {
+    pub refusal: u8,
+    pub length: usize,
+}
+
+// A load: refusal 0 and the saved tally, or a refusal's number and the tally that was given.
+pub struct Loaded {
+    pub refusal: u8,
+    pub tally: Tally,
+}

@@ -1,0 +1,178 @@
+// Loading a saved relay: everything is checked before a byte of the tables is written.
+use super::Loaded;
+use super::contents::entry_place;
+use super::contents::length_of;
+use super::contents::offset_of;
+use super::contents::width_of;
+use super::format::BODIES_AT;
+use super::format::BODY_COUNT;
+use super::format::BODY_REFUSED;
+use super::format::CONTENTS_START;
+use super::format::COUNTER_WIDTH;
+use super::format::EDITION;
+use super::format::KIND;
+use super::format::KIND_REFUSED;
+use super::format::LENGTH_REFUSED;
+use super::format::PLACE_REFUSED;
+use super::format::ROOM_REFUSED;
+use super::format::TALLY_AT;
+use numbers::refusals;
+use rules::Tally;
+use tables::places::TABLE_SIZE;
+ghost use mathlib.Core.Path.{_≡_};
+ghost use Prim.Native.Nat.{_+_, _≤_, _<_};
+ghost use lib.ListN.{length};
+ghost use Rattle.octets.specs.Part.{part};
+ghost use Rattle.octets.specs.BigEndian.{number};
+ghost use Rattle.codes.specs.Form.{code};
+ghost use Rattle.recording.specs.Shape.{entryPlace, countOf, lengthOf, sumBelow};
+ghost use Rattle.saved.specs.Editions.{counterWidth, tallyForm, current};
+ghost use Rattle.saved.specs.File.{headWidth, bodiesAt, savedSize};
+ghost use Rattle.saved.specs.Load.{lengthWrong, contentsWrong, sizesRight, loadRefusal, Loads, loadOn};
+ghost use Rattle.saved.specs.Steps.{ContentsRight, bodiesFine, bodiesWrongNow, tallyAt};
+
+// The sum of the lengths of n entries.
+fn lengths_sum(file: &[u8], n: usize) -> usize
+    requires { ⌜ (entryPlace headWidth n ≤ length (now file)) × (n < 65536) ⌝ }
+    ensures { λ r. ⌜ r ≡ sumBelow (lengthOf headWidth (now (file .entry))) n ⌝ }
+{
+    let mut sum = 0;
+    let mut i = 0;
+    while i < n {
+        sum += length_of(file, i);
+        i += 1;
+    }
+    sum
+}
+
+// Refusal 20.
+fn length_wrong(file: &[u8]) -> bool
+    ensures { λ r. ⌜ r ≡ lengthWrong (now (file .entry)) ⌝ }
+{
+    if file.len() < CONTENTS_START {
+        return true;
+    }
+    let n = recording::count(file);
+    let at = entry_place(n);
+    if file.len() < at {
+        return true;
+    }
+    at + lengths_sum(file, n) != file.len()
+}
+
+// Refusal 22, of a file that has its contents.
+fn contents_wrong(file: &[u8]) -> bool
+    requires { ⌜ entryPlace headWidth (countOf (now file)) ≤ length (now file) ⌝ }
+    ensures { λ r. ⌜ r ≡ contentsWrong (now (file .entry)) ⌝ }
+{
+    if recording::count(file) != BODY_COUNT {
+        return true;
+    }
+    let mut place = BODIES_AT;
+    let mut i = 0;
+    while i < BODY_COUNT {
+        if offset_of(file, i) != place {
+            return true;
+        }
+        place += length_of(file, i);
+        i += 1;
+    }
+    false
+}
+
+// Whether each body has its size.
+fn sizes_right(file: &[u8]) -> bool
+    requires { ⌜ bodiesAt ≤ length (now file) ⌝ }
+    ensures { λ r. ⌜ r ≡ sizesRight current (now (file .entry)) ⌝ }
+{
+    let mut body = 0;
+    while body < BODY_COUNT {
+        if length_of(file, body) != width_of(body) {
+            return false;
+        }
+        body += 1;
+    }
+    true
+}
+
+// The bodies of the tables' sections are one after the other what the tables are.
+fn bodies_fine(file: &[u8]) -> bool
+    requires { ⌜ length (now file) ≡ savedSize ⌝ }
+    ensures { λ r. ⌜ r ≡ bodiesFine (now (file .entry)) ⌝ }
+{
+    tables::check(&file[BODIES_AT..TALLY_AT])
+}
+
+// Refusal 24, of a file of the current edition that breaks none of the refusals before it.
+fn bodies_wrong(file: &[u8]) -> bool
+    requires { ⌜ ContentsRight (now file) ⌝ }
+    ensures { λ r. ⌜ r ≡ bodiesWrongNow (now (file .entry)) ⌝ }
+{
+    if !sizes_right(file) {
+        return true;
+    }
+    !bodies_fine(file)
+}
+
+// The refusal of a load into so many bytes, or 0.
+fn load_refusal(file: &[u8], size: usize) -> u8
+    ensures { λ r. ⌜ r ≡ loadRefusal (now (file .entry)) size ⌝ }
+{
+    if length_wrong(file) {
+        return LENGTH_REFUSED;
+    }
+    if file[0] != KIND {
+        return KIND_REFUSED;
+    }
+    if file[1] != EDITION {
+        return KIND_REFUSED;
+    }
+    if contents_wrong(file) {
+        return PLACE_REFUSED;
+    }
+    if bodies_wrong(file) {
+        return BODY_REFUSED;
+    }
+    if size != TABLE_SIZE {
+        return ROOM_REFUSED;
+    }
+    refusals::NONE
+}
+
+fn counter_at(file: &[u8], at: usize) -> u32
+    requires { ⌜ at + counterWidth ≤ length (now file) ⌝ }
+    ensures { λ r. ⌜ r ≡ number (part (now (file .entry)) at counterWidth) ⌝ }
+{
+    octets::number_at(file, at, COUNTER_WIDTH) as u32
+}
+
+// The tally that stands at a place.
+fn tally_at(file: &[u8], at: usize) -> Tally
+    requires { ⌜ at + code tallyForm .width ≤ length (now file) ⌝ }
+    ensures { λ r. ⌜ r ≡ tallyAt (now (file .entry)) at ⌝ }
+{
+    Tally {
+        total: counter_at(file, at),
+        dropped: counter_at(file, at + COUNTER_WIDTH),
+        delivered: counter_at(file, at + 2 * COUNTER_WIDTH),
+        forwarded: counter_at(file, at + 3 * COUNTER_WIDTH),
+        spread: counter_at(file, at + 4 * COUNTER_WIDTH),
+        kept: counter_at(file, at + 5 * COUNTER_WIDTH),
+    }
+}
+
+// Loads tables and tally, the own address and the last clock too. No clock is tested.
+pub fn load(file: &[u8], tables: &mut [u8], tally: Tally) -> Loaded
+    ensures { λ r. ⌜ Loads (loadOn (now (file .entry)) (now (tables .entry)) tally)
+        (r .refusal) (now (tables .exit)) (r .tally) ⌝ }
+{
+    let refusal = load_refusal(file, tables.len());
+    if refusal != refusals::NONE {
+        return Loaded { refusal, tally };
+    }
+    octets::copy(tables, &file[BODIES_AT..TALLY_AT]);
+    Loaded {
+        refusal: refusals::NONE,
+        tally: tally_at(file, TALLY_AT),
+    }
+}
