@@ -1,13 +1,13 @@
 // Laying out the signing bytes, and building the announce.
-use super::lengths::ADDRESS_LENGTH;
-use super::lengths::EMISSION_LENGTH;
-use super::lengths::FIELDS_LENGTH;
-use super::lengths::KEYS_LENGTH;
-use super::lengths::LEAST_LENGTH;
-use super::lengths::NAME_HASH_LENGTH;
-use super::lengths::PAYLOAD_START;
-use super::lengths::RANDOM_LENGTH;
-use super::lengths::SIGNATURE_LENGTH;
+use super::places::ADDRESS_LENGTH;
+use super::places::EMISSION_LENGTH;
+use super::places::FIELDS_LENGTH;
+use super::places::KEYS_LENGTH;
+use super::places::LEAST_LENGTH;
+use super::places::NAME_HASH_LENGTH;
+use super::places::PAYLOAD_START;
+use super::places::RANDOM_LENGTH;
+use super::places::SIGNATURE_LENGTH;
 use super::refusing::announce_refusal;
 use numbers::refusals;
 use packet::Parts;

@@ -1,10 +1,10 @@
 // The refusals of both calls, by lengths.
-use super::lengths::KEYS_LENGTH;
-use super::lengths::LEAST_LENGTH;
-use super::lengths::NAME_HASH_LENGTH;
-use super::lengths::RANDOM_LENGTH;
-use super::lengths::RATCHET_LENGTH;
-use super::lengths::SIGNATURE_LENGTH;
+use super::places::KEYS_LENGTH;
+use super::places::LEAST_LENGTH;
+use super::places::NAME_HASH_LENGTH;
+use super::places::RANDOM_LENGTH;
+use super::places::RATCHET_LENGTH;
+use super::places::SIGNATURE_LENGTH;
 use numbers::CLOCK_LIMIT;
 use numbers::LEAST_OUTPUT;
 use numbers::LONGEST_PACKET;
@@ -33,10 +33,11 @@ fn wrong_lengths(
     if random != RANDOM_LENGTH {
         return true;
     }
+    if ratchet == RATCHET_LENGTH {
+        return signature != SIGNATURE_LENGTH;
+    }
     if ratchet != 0 {
-        if ratchet != RATCHET_LENGTH {
-            return true;
-        }
+        return true;
     }
     signature != SIGNATURE_LENGTH
 }

@@ -1,0 +1,4 @@
+pub mod Lengths
+pub mod WriteLaws
+pub mod Fields
+pub mod RoundTrip
