@@ -21,7 +21,7 @@ use Rattle.packet.proofs.ReadLaws.{start-one}
 use Rattle.packet.proofs.WriteLaws.{packet-length}
 use Rattle.packet.proofs.Widths.{announced-length}
 use Rattle.packet.specs.declared.Parts.{Parts}
-use Rattle.announcing.specs.Announcing.{Announce, blob, destination, signedBytes, payloadWith, headOf, partsFor, announceWith, wrongLengths, announceRows, announceRefusal, laid, Lays}
+use Rattle.announcing.specs.Announcing.{Announce, blob, destination, signedBytes, payloadWith, headOf, partsFor, announceWith, wrongLengths, announceRows, announceRefusal, anySignature, laid, signing, building, Lays}
 use Rattle.announcing.specs.Steps.{announceLength}
 
 -- ---- the head
@@ -53,12 +53,16 @@ module _ (a : Announce) (signature : List ℕ) where
   unfolding blob
   blob-length = simp (length-append, bigEndian-length)
 
+  pub payload-length : length (payloadWith a signature)
+      ≡ length (a .keys) + (length (a .nameHash) + (length (a .random) + 5 + (length (a .ratchet) + (length signature + length (a .appData)))))
+  unfolding payloadWith
+  payload-length = simp length-append (omega (arith, blob-length))
+
   pub announce-length : length (announceWith a signature)
       ≡ 19 + (length (a .keys) + (length (a .nameHash) + (length (a .random) + 5 + (length (a .ratchet) + (length signature + length (a .appData))))))
-  unfolding announceWith payloadWith
+  unfolding announceWith
   announce-length =
-      packet-length (partsFor a) (payloadWith a signature) (parts-wide a)
-      ∙ rw (parts-start a) (simp length-append (omega (arith, blob-length)))
+      packet-length (partsFor a) (payloadWith a signature) (parts-wide a) ∙ omega (arith, parts-start a, payload-length)
 
   pub signed-length : length (signedBytes a)
       ≡ 16 + (length (a .keys) + (length (a .nameHash) + (length (a .random) + 5 + (length (a .ratchet) + length (a .appData)))))
@@ -157,3 +161,40 @@ module _ {refusal n : ℕ} (bytes room : List ℕ) where
       → Lays (laid refusal bytes room) (record { refusal = 0; length = n }) after
   unfolding laid _then_otherwise_
   laid-done z e w = rw (eq-eqb refusal 0 z, e, w) (refl, refl)
+
+-- the refusal is answered; then no length is, and the room is as it was
+module _ (refusal : ℕ) (bytes room : List ℕ) where
+  pub laid-refusal : laid refusal bytes room .answer .refusal ≡ refusal
+  unfolding laid _then_otherwise_
+  laid-refusal = go (eqb refusal 0) refl
+    where
+      go : (v : Bool) → eqb refusal 0 ≡ v → laid refusal bytes room .answer .refusal ≡ refusal
+      go true e = rw e (sym (eqb-true refusal 0 e))
+      go false e = rw e
+
+  pub laid-stays : eqb refusal 0 ≡ false → (laid refusal bytes room .answer .length ≡ 0) × (laid refusal bytes room .output ≡ room)
+  unfolding laid _then_otherwise_
+  laid-stays z = rw z (refl, refl)
+
+-- ---- what a call says it wrote is at most 500 bytes
+laid-most : (refusal : ℕ) (bytes room : List ℕ) → (refusal ≡ 0 → length bytes ≤ 500) → laid refusal bytes room .answer .length ≤ 500
+unfolding laid _then_otherwise_
+laid-most refusal bytes room h = go (eqb refusal 0) refl
+  where
+    go : (v : Bool) → eqb refusal 0 ≡ v → laid refusal bytes room .answer .length ≤ 500
+    go true e = rw e (h (eqb-true refusal 0 e))
+    go false e = rw e (lit≤ tt)
+
+pub building-most : (a : Announce) (signature room : List ℕ) → building a signature room .answer .length ≤ 500
+unfolding building
+building-most a signature room =
+    laid-most _ (announceWith a signature) room (λ z.
+    let b = buildable a signature (length room) z in omega (arith, built-length a signature (b .lengths), b .short))
+
+pub signing-most : (a : Announce) (room : List ℕ) → signing a room .answer .length ≤ 500
+unfolding signing
+signing-most a room =
+    laid-most _ (signedBytes a) room (λ z.
+    let b = buildable a anySignature (length room) z in
+    let w = b .lengths in
+    omega (arith, signed-length a anySignature, b .short, w .keys, w .nameHash, w .random))

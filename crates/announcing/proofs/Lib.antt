@@ -2,3 +2,4 @@ pub mod Lengths
 pub mod WriteLaws
 pub mod Fields
 pub mod RoundTrip
+pub mod Example

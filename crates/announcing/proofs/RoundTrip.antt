@@ -34,7 +34,8 @@ pub record GivesBack (longest : ℕ) (p : List ℕ) (a : Announce) (s : List ℕ
   pub appData : appDataOf (headerOf p) (payload p) ≡ a .appData
 
 module _ (a : Announce) (signature : List ℕ) {room : ℕ} (b : Buildable a signature room) where
-  pub announce-reads : (longest : ℕ) → length (announceWith a signature) ≤ longest → reading longest (announceWith a signature) ≡ record { refusal = 0; parts = partsFor a }
+  pub announce-reads : (longest : ℕ) → length (announceWith a signature) ≤ longest
+      → reading longest (announceWith a signature) ≡ record { refusal = 0; parts = partsFor a }
   unfolding announceWith
   announce-reads longest l =
       let p = packetOf (partsFor a) (payloadWith a signature) in
@@ -71,7 +72,8 @@ module _ (a : Announce) (signature : List ℕ) {room : ℕ} (b : Buildable a sig
 
 -- ---- the calls
 -- what stands in the room after a call that nothing refused
-laid-stands : (refusal : ℕ) (bytes room : List ℕ) → refusal ≡ 0 → take (laid refusal bytes room .answer .length) (laid refusal bytes room .output) ≡ bytes
+pub laid-stands : (refusal : ℕ) (bytes room : List ℕ) → refusal ≡ 0
+    → take (laid refusal bytes room .answer .length) (laid refusal bytes room .output) ≡ bytes
 unfolding laid _then_otherwise_
 laid-stands refusal bytes room z = rw (eq-eqb refusal 0 z) (patched-start room bytes (length bytes) refl)
 

@@ -23,7 +23,8 @@ filled t x y n e h =
 -- keys, name hash, random bytes, clock and ratchet
 module _ (out keys name random : List ℕ) (clock : ℕ) (ratchet : List ℕ) (at : ℕ)
     (k : length keys ≡ 64) (n : length name ≡ 10) (r : length random ≡ 5) (room : at + 84 + length ratchet ≤ length out) where
-  pub fields-written : patch (patch (patch (patch (patch out at keys) (at + 64) name) (at + 64 + 10) random) (at + 64 + 10 + 5) (bigEndian 5 clock)) (at + 84) ratchet
+  pub fields-written : patch (patch (patch (patch (patch out at keys) (at + 64) name) (at + 64 + 10) random) (at + 64 + 10 + 5) (bigEndian 5 clock))
+      (at + 84) ratchet
       ≡ patch out at (fields keys name random clock ratchet)
   unfolding fields
   fields-written =

@@ -7,7 +7,9 @@ pub mod Promised
 pub mod Demand1
 pub mod Demand2
 pub mod Demand3
+pub mod OwnAnnounces
 pub mod InstanceCalls
 pub mod Instance1
 pub mod Instance2
 pub mod Instance3
+pub mod InstanceAnnounce

@@ -2,3 +2,4 @@
 pub mod Given
 pub mod Bytes
 pub mod Refusals
+pub mod Drops

@@ -1,18 +1,21 @@
 use lib.ListN.{length}
-use Rattle.announcing.specs.Announcing.{makeAnnounce, destination}
-use Rattle.announcing.proofs.Lengths.{buildable, parts-start}
+use Rattle.announcing.specs.Announcing.{Announce, makeAnnounce, destination}
+use Rattle.announcing.proofs.Lengths.{Buildable, buildable, parts-start}
 use Rattle.announcing.proofs.WriteLaws.{announce-written}
 use native.Mathlib.Omega.{arith}
 use borrow.Author.Needs.{needs}
 use Rattle.announcing.proofs.builder.write_announce.Statement.{statement}
 use Rattle.announcing.proofs.builder.write_announce.Tie as tie
 
+abbrev given : tie.Start → Announce
+given s =
+    makeAnnounce (s .args .keys .now) (s .args .name-hash .now) (s .args .random .now) (s .args .clock) (s .args .ratchet .now) (s .args .app-data .now)
+
+able : (s : tie.Start) → Buildable (given s) (s .args .signature .now) (length (s .args .room .now))
+able s = buildable (given s) (s .args .signature .now) (length (s .args .room .now)) (s .pre)
+
 destination-of-requires : tie.Need-destination-of-requires
-destination-of-requires c κs =
-    let a = c .before .before .before .before .before .before .before .args in
-    let given = makeAnnounce (a .keys .now) (a .name-hash .now) (a .random .now) (a .clock) (a .ratchet .now) (a .app-data .now) in
-    let b = buildable given (a .signature .now) (length (a .room .now)) (c .before .before .before .before .before .before .before .pre) in
-    (b .lengths .keys, b .lengths .nameHash)
+destination-of-requires c κs = let w = able (c .before .before .before .before .before .before .before) .lengths in (w .keys, w .nameHash)
 
 head-requires : tie.Need-head-requires
 head-requires c κs = search needs
@@ -29,16 +32,12 @@ part-write-packet-end c = search needs
 write-packet-requires : tie.Need-write-packet-requires
 unfolding destination
 write-packet-requires c κs =
-    let a = c .before .before .before .before .before .before .before .before .before .before .before .args in
-    let given = makeAnnounce (a .keys .now) (a .name-hash .now) (a .random .now) (a .clock) (a .ratchet .now) (a .app-data .now) in
-    let b = buildable given (a .signature .now) (length (a .room .now)) (c .before .before .before .before .before .before .before .before .before .before .before .pre) in
-    rw (c .before .before .head .ensures, c .before .before .before .destination-of .ensures) (omega (arith, parts-start given, b .roomy))
+    let s = c .before .before .before .before .before .before .before .before .before .before .before in
+    rw (c .before .before .head .ensures, c .before .before .before .destination-of .ensures) (omega (arith, parts-start (given s), able s .roomy))
 
 write-fields-requires : tie.Need-write-fields-requires
 write-fields-requires c κs =
-    let a = c .before .before .before .before .before .before .before .before .before .before .before .before .before .before .before .args in
-    let given = makeAnnounce (a .keys .now) (a .name-hash .now) (a .random .now) (a .clock) (a .ratchet .now) (a .app-data .now) in
-    let b = buildable given (a .signature .now) (length (a .room .now)) (c .before .before .before .before .before .before .before .before .before .before .before .before .before .before .before .pre) in
+    let b = able (c .before .before .before .before .before .before .before .before .before .before .before .before .before .before .before) in
     (b .lengths .keys, b .lengths .nameHash, b .lengths .random, omega (arith, b .short, b .roomy))
 
 add-behind : tie.Need-add-behind
@@ -46,30 +45,24 @@ add-behind c = search needs
 
 add-behind-2 : tie.Need-add-behind-2
 add-behind-2 c =
-    let a = c .before .before .before .before .before .before .before .before .before .before .before .before .before .before .before .before .before .before .args in
-    let given = makeAnnounce (a .keys .now) (a .name-hash .now) (a .random .now) (a .clock) (a .ratchet .now) (a .app-data .now) in
-    let b = buildable given (a .signature .now) (length (a .room .now)) (c .before .before .before .before .before .before .before .before .before .before .before .before .before .before .before .before .before .before .pre) in
-    record { fits = omega (arith, b .short) }
+    let c9 = c .before .before .before .before .before .before .before .before .before in
+    record { fits = omega (arith, able (c9 .before .before .before .before .before .before .before .before .before) .short) }
 
 copy-at-requires : tie.Need-copy-at-requires
 copy-at-requires c κs =
-    let a = c .before .before .before .before .before .before .before .before .before .before .before .before .before .before .before .before .before .before .before .args in
-    let given = makeAnnounce (a .keys .now) (a .name-hash .now) (a .random .now) (a .clock) (a .ratchet .now) (a .app-data .now) in
-    let b = buildable given (a .signature .now) (length (a .room .now)) (c .before .before .before .before .before .before .before .before .before .before .before .before .before .before .before .before .before .before .before .pre) in
+    let c9 = c .before .before .before .before .before .before .before .before .before in
+    let b = able (c9 .before .before .before .before .before .before .before .before .before .before) in
     omega (arith, b .short, b .roomy, b .lengths .signature)
 
 add-copy-at : tie.Need-add-copy-at
 add-copy-at c =
-    let a = c .before .before .before .before .before .before .before .before .before .before .before .before .before .before .before .before .before .before .before .before .before .before .before .args in
-    let given = makeAnnounce (a .keys .now) (a .name-hash .now) (a .random .now) (a .clock) (a .ratchet .now) (a .app-data .now) in
-    let b = buildable given (a .signature .now) (length (a .room .now)) (c .before .before .before .before .before .before .before .before .before .before .before .before .before .before .before .before .before .before .before .before .before .before .before .pre) in
-    record { fits = omega (arith, b .short) }
+    let c9 = c .before .before .before .before .before .before .before .before .before in
+    record { fits = omega (arith, able (c9 .before .before .before .before .before .before .before .before .before .before .before .before .before .before) .short) }
 
 copy-at-requires-2 : tie.Need-copy-at-requires-2
 copy-at-requires-2 c κs =
-    let a = c .before .before .before .before .before .before .before .before .before .before .before .before .before .before .before .before .before .before .before .before .before .before .before .args in
-    let given = makeAnnounce (a .keys .now) (a .name-hash .now) (a .random .now) (a .clock) (a .ratchet .now) (a .app-data .now) in
-    let b = buildable given (a .signature .now) (length (a .room .now)) (c .before .before .before .before .before .before .before .before .before .before .before .before .before .before .before .before .before .before .before .before .before .before .before .pre) in
+    let c9 = c .before .before .before .before .before .before .before .before .before in
+    let b = able (c9 .before .before .before .before .before .before .before .before .before .before .before .before .before .before) in
     omega (arith, b .short, b .roomy)
 
 same-length : tie.Need-same-length
@@ -78,18 +71,21 @@ same-length c = search needs
 returns : tie.Need-returns
 unfolding destination
 returns c =
-    let a = c .before .before .before .before .before .before .before .before .before .before .before .before .before .before .before .before .before .before .before .before .before .before .before .before .before .before .args in
-    let given = makeAnnounce (a .keys .now) (a .name-hash .now) (a .random .now) (a .clock) (a .ratchet .now) (a .app-data .now) in
-    let b = buildable given (a .signature .now) (length (a .room .now)) (c .before .before .before .before .before .before .before .before .before .before .before .before .before .before .before .before .before .before .before .before .before .before .before .before .before .before .pre) in
+    let c2 = c .before .before in
+    let c6 = c2 .before .before .before .before in
+    let c10 = c6 .before .before .before .before in
+    let c14 = c10 .before .before .before .before in
+    let c17 = c14 .before .before .before in
+    let s = c17 .before .before .before .before .before .before .before .before .before in
     rw (
-      c .before .before .copy-at2 .ensures,
-      c .before .before .before .before .before .before .copy-at .ensures,
-      c .before .before .before .before .before .before .before .before .before .before .write-fields .ensures,
-      c .before .before .before .before .before .before .before .before .before .before .before .before .before .before .write-packet .ensures,
-      c .before .before .before .before .before .before .before .before .before .before .before .before .before .before .before .before .before .head .ensures,
-      c .before .before .before .before .before .before .before .before .before .before .before .before .before .before .before .before .before .before .destination-of .ensures,
+      c2 .copy-at2 .ensures,
+      c6 .copy-at .ensures,
+      c10 .write-fields .ensures,
+      c14 .write-packet .ensures,
+      c17 .head .ensures,
+      c17 .before .destination-of .ensures,
     )
-    (announce-written given (a .signature .now) (a .room .now) b)
+    (announce-written (given s) (s .args .signature .now) (s .args .room .now) (able s))
 
 pub write-announce-spec : {M : Type 1} → statement M
 write-announce-spec =
