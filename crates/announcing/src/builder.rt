@@ -146,8 +146,10 @@ pub fn signing_bytes(
     app_data: &[u8],
     room: &mut [u8],
 ) -> Written
-    ensures { λ r. ⌜ Lays (signing (makeAnnounce (now (keys .entry)) (now («name_hash» .entry)) (now (random .entry)) clock
-        (now (ratchet .entry)) (now («app_data» .entry))) (now (room .entry))) r (now (room .exit)) ⌝ }
+    ensures { λ r. ⌜ Lays
+        (signing (makeAnnounce (now (keys .entry)) (now («name_hash» .entry)) (now (random .entry)) clock
+        (now (ratchet .entry)) (now («app_data» .entry))) (now (room .entry)))
+        r (now (room .exit)) ⌝ }
 {
     let refusal = announce_refusal(
         keys.len(),
@@ -180,8 +182,10 @@ pub fn build(
     signature: &[u8],
     room: &mut [u8],
 ) -> Written
-    ensures { λ r. ⌜ Lays (building (makeAnnounce (now (keys .entry)) (now («name_hash» .entry)) (now (random .entry)) clock
-        (now (ratchet .entry)) (now («app_data» .entry))) (now (signature .entry)) (now (room .entry))) r (now (room .exit)) ⌝ }
+    ensures { λ r. ⌜ Lays
+        (building (makeAnnounce (now (keys .entry)) (now («name_hash» .entry)) (now (random .entry)) clock
+        (now (ratchet .entry)) (now («app_data» .entry))) (now (signature .entry)) (now (room .entry)))
+        r (now (room .exit)) ⌝ }
 {
     let refusal = announce_refusal(
         keys.len(),

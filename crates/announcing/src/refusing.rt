@@ -54,7 +54,8 @@ pub fn announce_refusal(
     room: usize,
 ) -> u8
     ensures { λ r. ⌜ r
-        ≡ firstOf (announceRows keys «name_hash» random ratchet signature clock (announceLength ratchet «app_data») room) 0 ⌝ }
+        ≡ firstOf (announceRows keys «name_hash» random ratchet signature clock (announceLength ratchet «app_data»)
+        room) 0 ⌝ }
 {
     if wrong_lengths(keys, name_hash, random, ratchet, signature) {
         return refusals::ANNOUNCE_PART;

@@ -26,7 +26,8 @@ pub extern "C" fn haskumye_announce_signing_bytes(
     app_data: &[u8],
     room: &mut [u8],
 ) -> u32
-    ensures { λ r. ⌜ Writes (signing (makeAnnounce (now (keys .entry)) (now («name_hash» .entry)) (now (random .entry)) clock
+    ensures { λ r. ⌜ Writes
+        (signing (makeAnnounce (now (keys .entry)) (now («name_hash» .entry)) (now (random .entry)) clock
         (now (ratchet .entry)) (now («app_data» .entry))) (now (room .entry)))
         r (now (room .exit)) ⌝ }
 {
@@ -54,7 +55,8 @@ pub extern "C" fn haskumye_build_announce(
     signature: &[u8],
     room: &mut [u8],
 ) -> u32
-    ensures { λ r. ⌜ Writes (building (makeAnnounce (now (keys .entry)) (now («name_hash» .entry)) (now (random .entry)) clock
+    ensures { λ r. ⌜ Writes
+        (building (makeAnnounce (now (keys .entry)) (now («name_hash» .entry)) (now (random .entry)) clock
         (now (ratchet .entry)) (now («app_data» .entry))) (now (signature .entry)) (now (room .entry)))
         r (now (room .exit)) ⌝ }
 {

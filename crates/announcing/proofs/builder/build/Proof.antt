@@ -12,10 +12,13 @@ abbrev given : tie.Start → Announce
 given s =
     makeAnnounce (s .args .keys .now) (s .args .name-hash .now) (s .args .random .now) (s .args .clock) (s .args .ratchet .now) (s .args .app-data .now)
 
+abbrev start : tie.After-announce-refusal → tie.Start
+start c = c .before .before .before .before .before .before .before .before
+
 -- the refusal is the one that is promised
 number : (c : tie.After-announce-refusal)
-    → let s = c .before .before .before .before .before .before .before .before in c .announce-refusal .result ≡ announceRefusal (given s) (s .args .signature .now) (length (s .args .room .now))
-number c = let s = c .before .before .before .before .before .before .before .before in c .announce-refusal .ensures ∙ sym (refusal-by (given s) (s .args .signature .now) (length (s .args .room .now)))
+    → c .announce-refusal .result ≡ announceRefusal (given (start c)) (start c .args .signature .now) (length (start c .args .room .now))
+number c = c .announce-refusal .ensures ∙ sym (refusal-by (given (start c)) (start c .args .signature .now) (length (start c .args .room .now)))
 
 announce-refusal-requires : tie.Need-announce-refusal-requires
 announce-refusal-requires c κs = search needs
@@ -23,7 +26,7 @@ announce-refusal-requires c κs = search needs
 returns : tie.Need-returns
 unfolding building
 returns c =
-    let s = c .before .before .before .before .before .before .before .before .before in
+    let s = start (c .before) in
     laid-refused (announceWith (given s) (s .args .signature .now)) (s .args .room .now) (number (c .before)) (c .if1 .taken)
 
 write-announce-requires : tie.Need-write-announce-requires
@@ -34,8 +37,9 @@ add-t11 c = search needs
 
 add-t16 : tie.Need-add-t16
 add-t16 c =
-    let s = c .before .before .before .before .before .before .before .before .before .before .before .before .before in
-    let b = buildable (given s) (s .args .signature .now) (length (s .args .room .now)) (sym (number (c .before .before .before .before .before)) ∙ c .before .before .before .before .if1 .left) in
+    let s = start (c .before .before .before .before .before) in
+    let zero = sym (number (c .before .before .before .before .before)) ∙ c .before .before .before .before .if1 .left in
+    let b = buildable (given s) (s .args .signature .now) (length (s .args .room .now)) zero in
     record { fits = omega (arith, b .short) }
 
 same-length : tie.Need-same-length
@@ -44,7 +48,7 @@ same-length c = search needs
 returns-2 : tie.Need-returns-2
 unfolding building
 returns-2 c =
-    let s = c .before .before .before .before .before .before .before .before .before .before .before .before .before in
+    let s = start (c .before .before .before .before .before) in
     let zero = sym (number (c .before .before .before .before .before)) ∙ c .before .before .before .before .if1 .left in
     let w = buildable (given s) (s .args .signature .now) (length (s .args .room .now)) zero .lengths in
     let long : length (announceWith (given s) (s .args .signature .now)) ≡ 167 + length (s .args .ratchet .now) + length (s .args .app-data .now) =

@@ -56,13 +56,13 @@ copy-at-requires c κs =
 
 add-copy-at : tie.Need-add-copy-at
 add-copy-at c =
-    let c9 = c .before .before .before .before .before .before .before .before .before in
-    record { fits = omega (arith, able (c9 .before .before .before .before .before .before .before .before .before .before .before .before .before .before) .short) }
+    let c12 = c .before .before .before .before .before .before .before .before .before .before .before .before in
+    record { fits = omega (arith, able (c12 .before .before .before .before .before .before .before .before .before .before .before) .short) }
 
 copy-at-requires-2 : tie.Need-copy-at-requires-2
 copy-at-requires-2 c κs =
-    let c9 = c .before .before .before .before .before .before .before .before .before in
-    let b = able (c9 .before .before .before .before .before .before .before .before .before .before .before .before .before .before) in
+    let c12 = c .before .before .before .before .before .before .before .before .before .before .before .before in
+    let b = able (c12 .before .before .before .before .before .before .before .before .before .before .before) in
     omega (arith, b .short, b .roomy)
 
 same-length : tie.Need-same-length
