@@ -1,8 +1,8 @@
 // The library for hosts in C and Rust: every function that crosses. A slice crosses as a pointer and a length, an
 // array or a struct as a pointer. Entry points: the functions marked #[no_mangle], in packet_call, table_calls,
-// packets, announcing and hashing. None has a `requires`; each ends on any bytes, returns a refusal as its number, and
+// packets, announces and hashing. None has a `requires`; each ends on any bytes, returns a refusal as its number, and
 // leaves the caller's buffers as they were where it refuses. include/haskumye.h declares them for C.
-mod announcing;
+mod announces;
 mod answer_numbers;
 mod hashing;
 mod packet_call;
