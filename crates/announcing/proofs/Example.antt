@@ -3,16 +3,16 @@ use Prim.Native.Nat.{ℕ, _+_, _-_, _^_}
 use mathlib.Core.List.{List, [], _∷_, _++_}
 use mathlib.Core.Path.{_≡_, refl, sym, ap, _∙_}
 use lib.Dec.{lit≤}
-use lib.ListN.{length, take, replicate}
+use lib.ListN.{length, replicate}
 use Rattle.octets.specs.Choice.{_then_otherwise_, _or_}
 use Rattle.octets.specs.Listed.{firstOf}
 use Rattle.octets.specs.BigEndian.{bigEndian}
 use Rattle.packet.specs.Header.{typeTwo}
 use Rattle.packet.specs.Read.{payload}
 use Rattle.packet.specs.Write.{addresses, packetOf}
-use Rattle.packet.specs.Announce.{blobOf, emissionOf, ratchetOf, signatureOf, appDataOf}
-use Rattle.announcing.specs.Announcing.{Announce, makeAnnounce, blob, destination, signedBytes, payloadWith, headOf, announceWith, wrongLengths, announceRows, announceRefusal, anySignature, signing, building, signedIn}
-use Rattle.announcing.proofs.Lengths.{refusal-by, buildable, announce-length}
+use Rattle.packet.specs.Announce.{blobOf, emissionOf}
+use Rattle.announcing.specs.Announcing.{Announce, makeAnnounce, blob, destination, signedBytes, payloadWith, headOf, announceWith, wrongLengths, announceRows, announceRefusal, anySignature, signing, signedIn}
+use Rattle.announcing.proofs.Lengths.{refusal-by, announce-length}
 use Rattle.announcing.proofs.RoundTrip.{GivesBack, built-stands, builtIn, built-read, signed-exactly, refused-alike, laid-stands}
 
 -- ---- refusals, by the lengths of keys, name hash, random bytes, ratchet and signature, the clock, and the lengths of app data and room

@@ -4,7 +4,7 @@ use native.Mathlib.Omega.{arith}
 use mathlib.Core.Bool.{Bool, true, false}
 use mathlib.Core.List.{List, [], _++_, append-assoc, append-nil}
 use mathlib.Core.Path.{_≡_, refl, sym, ap, ap₂, _∙_}
-use lib.ListN.{length, take, drop, length-append}
+use lib.ListN.{length, drop, length-append}
 use lib.Seq.{drop-at}
 use lib.Dec.{eqb}
 use Rattle.octets.specs.Choice.{_then_otherwise_}
@@ -13,12 +13,10 @@ use Rattle.octets.specs.BigEndian.{number, bigEndian}
 use Rattle.octets.proofs.Choice.{then-false}
 use Rattle.octets.proofs.Part.{part-mid}
 use Rattle.octets.proofs.BigEndian.{bigEndian-length, number-bigEndian}
-use Rattle.sha256.specs.Sha256.{sha256-of}
 use Rattle.packet.specs.Header.{accessCode, contextFlag, packetKind, destinationKind}
 use Rattle.packet.specs.Read.{headerOf, partsOf, payload}
 use Rattle.packet.specs.Write.{packetOf, readBack}
 use Rattle.packet.specs.Announce.{keysOf, nameHashOf, blobOf, emissionOf, ratchetLength, ratchetOf, signatureOf, leastAnnounce, appDataOf, identityHash, announcedDestination}
-use Rattle.packet.specs.declared.Parts.{Parts}
 use Rattle.packet.proofs.RoundTrip.{write-parts, write-payload}
 use Rattle.announcing.specs.Announcing.{Announce, blob, destination, payloadWith, headOf, partsFor, announceWith}
 use Rattle.announcing.proofs.Lengths.{head-one, parts-wide, ratchet-right, Buildable}

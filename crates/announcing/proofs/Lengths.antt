@@ -3,7 +3,7 @@ use Prim.Native.Nat.{ℕ, _+_, _^_, _≤_, _<_}
 use native.Mathlib.Omega.{arith}
 use mathlib.Core.Bool.{Bool, true, false, not}
 use mathlib.Core.List.{List, _++_}
-use mathlib.Core.Path.{_≡_, refl, sym, ap, subst, _∙_}
+use mathlib.Core.Path.{_≡_, refl, sym, subst, _∙_}
 use lib.Dec.{eqb, lit≤}
 use lib.ListN.{length, length-append}
 use borrow.Author.Tests.{eq-eqb, ne-eqb, eqb-true, ltb-false, leb-false}
@@ -16,11 +16,10 @@ use Rattle.octets.proofs.BigEndian.{bigEndian-length}
 use Rattle.octets.proofs.Listed.{allGive, refuses, rows-passed}
 use Rattle.packet.specs.Header.{typeTwo}
 use Rattle.packet.specs.Read.{payloadStart}
-use Rattle.packet.specs.Write.{Wide, packetOf}
+use Rattle.packet.specs.Write.{Wide}
 use Rattle.packet.proofs.ReadLaws.{start-one}
 use Rattle.packet.proofs.WriteLaws.{packet-length}
 use Rattle.packet.proofs.Widths.{announced-length}
-use Rattle.packet.specs.declared.Parts.{Parts}
 use Rattle.announcing.specs.Announcing.{Announce, blob, destination, signedBytes, payloadWith, headOf, partsFor, announceWith, wrongLengths, announceRows, announceRefusal, anySignature, laid, signing, building, Lays}
 use Rattle.announcing.specs.Steps.{announceLength}
 

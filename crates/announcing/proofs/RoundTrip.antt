@@ -4,17 +4,15 @@
 --   signed-exactly  what stands in the room after the signing bytes were laid out is what the announce's own parts say is signed;
 --   refused-alike   the signing bytes are refused as the announce is, whatever the signature's 64 bytes.
 use Prim.Native.Nat.{ℕ, _≤_}
-use native.Mathlib.Omega.{arith}
-use mathlib.Core.List.{List, _++_}
+use mathlib.Core.List.{List}
 use mathlib.Core.Path.{_≡_, refl, sym, ap, subst, _∙_}
-use lib.ListN.{length, take, length-replicate}
+use lib.ListN.{length, take}
 use borrow.Author.Tests.{eq-eqb}
 use Rattle.octets.specs.Choice.{_then_otherwise_}
 use Rattle.octets.specs.Part.{part}
-use Rattle.packet.specs.Read.{headerOf, partsOf, payload, reads, reading}
+use Rattle.packet.specs.Read.{headerOf, payload, reads, reading}
 use Rattle.packet.specs.Write.{packetOf}
 use Rattle.packet.specs.Announce.{keysOf, nameHashOf, blobOf, emissionOf, ratchetOf, signatureOf, appDataOf}
-use Rattle.packet.specs.declared.Reading.{Reading}
 use Rattle.packet.proofs.ListLaws.{patched-start}
 use Rattle.packet.proofs.ReadLaws.{accepted, reads-readable, answer-read}
 use Rattle.packet.proofs.RoundTrip.{write-reads}

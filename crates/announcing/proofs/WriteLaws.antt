@@ -2,8 +2,8 @@
 use Prim.Native.Nat.{ℕ, _+_, _≤_}
 use native.Mathlib.Omega.{arith}
 use mathlib.Core.List.{List, [], _∷_, _++_, append-assoc}
-use mathlib.Core.Path.{_≡_, refl, sym, ap, _∙_}
-use lib.ListN.{length, replicate, length-append, length-replicate}
+use mathlib.Core.Path.{_≡_, ap, _∙_}
+use lib.ListN.{length, length-append}
 use Rattle.octets.specs.Part.{patch}
 use Rattle.octets.specs.BigEndian.{bigEndian}
 use Rattle.octets.proofs.Part.{patch-join, patch-whole}
@@ -11,7 +11,7 @@ use Rattle.octets.proofs.BigEndian.{bigEndian-length}
 use Rattle.packet.specs.Write.{addresses, packetOf}
 use Rattle.packet.specs.declared.Parts.{Parts}
 use Rattle.packet.proofs.WriteLaws.{packet-length}
-use Rattle.announcing.specs.Announcing.{Announce, blob, destination, signedBytes, payloadWith, partsFor, announceWith, anySignature}
+use Rattle.announcing.specs.Announcing.{Announce, blob, destination, signedBytes, payloadWith, partsFor, announceWith}
 use Rattle.announcing.specs.Steps.{fields}
 use Rattle.announcing.proofs.Lengths.{destination-length, parts-wide, parts-start, Buildable}
 

@@ -2,7 +2,7 @@
 use Prim.Native.Nat.{ℕ}
 use mathlib.Core.Bool.{true, false}
 use mathlib.Core.List.{List, [], _∷_, _++_}
-use mathlib.Core.Path.{_≡_, refl, sym, ap, _∙_}
+use mathlib.Core.Path.{_≡_, refl, ap, _∙_}
 use lib.ListN.{length, replicate}
 use Rattle.octets.specs.Choice.{_then_otherwise_, _or_}
 use Rattle.octets.specs.Listed.{firstOf}
@@ -10,8 +10,6 @@ use Rattle.octets.specs.BigEndian.{bigEndian}
 use Rattle.packet.specs.Header.{typeTwo}
 use Rattle.packet.specs.Write.{addresses, packetOf}
 use Rattle.rules.specs.Calls.{newTally}
-use Rattle.rules.specs.Run.{Reply, answered}
-use Rattle.rules.specs.declared.Answer.the-variants.{Refused}
 use Rattle.rules.proofs.Unfolding.{rules, hashing}
 use Rattle.rules.proofs.Scene.{blank, emission, announceBody, destination, announceBytes, arrives}
 use Rattle.rules.proofs.Outcomes.{spreads, spreadBytes, preparedRelay}
@@ -23,7 +21,7 @@ use Rattle.announcing.proofs.RoundTrip.{builtIn, built-stands}
 use Rattle.demands.specs.Bytes.{repliesOn}
 use Rattle.demands.specs.Drops.{droppedBy}
 use Rattle.demands.proofs.OwnAnnounces.{answeredTo, never-dropped}
-use Rattle.demands.proofs.Instance2.{announce, announce-said}
+use Rattle.demands.proofs.Instance2.{announce-said}
 
 -- ---- the parts of the scene's announce
 abbrev given : Announce

@@ -7,15 +7,15 @@ use native.Mathlib.Omega.{arith}
 use mathlib.Core.Bool.{Bool, true, false, not, false≢true}
 use mathlib.Core.List.{List}
 use mathlib.Core.Path.{_≡_, refl, sym, ap, subst, _∙_}
-use lib.Dec.{eqb, ltb}
-use lib.ListN.{length}
+use lib.Dec.{ltb}
+use lib.ListN.{length, drop}
 use borrow.Author.Tests.{le-ltb}
 use Rattle.octets.specs.Index.{_and_}
 use Rattle.octets.specs.Choice.{_then_otherwise_, _or_, same}
 use Rattle.octets.specs.Listed.{firstOf, anyHolds}
-use Rattle.octets.proofs.Index.{and-left, and-right}
+use Rattle.octets.proofs.Index.{and-left, and-right, and-no}
 use Rattle.octets.proofs.Choice.{eq-same}
-use Rattle.octets.proofs.Listed.{allGive, all-first}
+use Rattle.octets.proofs.Listed.{allGive, all-first, past, none-first}
 use Rattle.packet.specs.Header.{typeTwo, packetKind, destinationKind}
 use Rattle.packet.specs.Read.{headerOf, partsOf, payload}
 use Rattle.packet.specs.Announce.{ratchetLength, leastAnnounce, announcedDestination}
@@ -24,17 +24,16 @@ use Rattle.rules.specs.View.{View, viewAt}
 use Rattle.rules.specs.Arrival.{Arrival, hops, isLinkProof}
 use Rattle.rules.specs.Ways.{Way, everywhere, by-path, along-link, by-return, blocked, wayOn}
 use Rattle.rules.specs.Tests.{notOurs, duplicate, typeTwoProof, typeTwoOfKindLink, announceNotSingle, announceTooShort, announceOfAnother, requestOfKindLink, requestTooShort, linkProofLength, formTests, badForm, ownAnnounce, deliveredHere, tooManyHops}
-use Rattle.rules.specs.Judging.{Plan, dropped, delivered, follows, earlyTests, onwardTests, onwardPlan, plan, spreadVerdict, wayVerdict, verdict}
+use Rattle.rules.specs.Judging.{Plan, dropped, follows, earlyTests, onwardTests, onwardPlan, plan, spreadVerdict, wayVerdict, verdict}
 use Rattle.rules.specs.Calls.{Judgement, judged, judge, packetCall}
 use Rattle.rules.specs.declared.Reason.the-variants.{Duplicate}
 use Rattle.rules.specs.declared.Verdict.{Verdict}
 use Rattle.rules.specs.declared.Answer.{Answer}
-use Rattle.rules.specs.declared.Answer.the-variants.{Refused, Judged}
+use Rattle.rules.specs.declared.Answer.the-variants.{Judged}
 use Rattle.rules.specs.declared.Tally.{Tally}
 use Rattle.rules.proofs.Choices.{either}
-use Rattle.rules.proofs.Passed.{ofTest}
 use Rattle.tables.specs.Layout.{relayOf, wellFormed}
-use Rattle.announcing.specs.Announcing.{Announce, destination, payloadWith, headOf, partsFor, announceWith, announceRefusal, signing, building}
+use Rattle.announcing.specs.Announcing.{Announce, destination, payloadWith, headOf, announceWith, announceRefusal}
 use Rattle.announcing.proofs.Lengths.{head-one, payload-length, Buildable, buildable}
 use Rattle.announcing.proofs.Fields.{head-announce, head-single, built-header, built-payload, built-parts, flagged, destination-found}
 use Rattle.announcing.proofs.RoundTrip.{builtIn, built-stands}
@@ -84,10 +83,30 @@ module _ (a : Announce) (signature : List ℕ) {room : ℕ} (b : Buildable a sig
     abbrev arrival : Arrival
     arrival = record { bytes = p; port = port; clock = clock; signed = signed }
 
+    ours : notOurs v arrival ≡ false
+    unfolding notOurs
+    ours = and-no _ two
+
+    elsewhere : deliveredHere v arrival ≡ false
+    unfolding deliveredHere _and_ _or_
+    elsewhere = rw kind
+
+    way : wayOn v arrival ≡ everywhere (v .path (destination a))
+    unfolding wayOn headOf _then_otherwise_
+    way = rw kind (ap (λ (q : Parts). everywhere (v .path (q .destination))) (built-parts a signature))
+
+    not-own : v .local (destination a) ≡ false → ownAnnounce v arrival ≡ false
+    unfolding ownAnnounce headOf _and_
+    not-own l = rw kind (ap (λ (q : Parts). v .local (q .destination)) (built-parts a signature) ∙ l)
+
     pub goes-on : v .local (destination a) ≡ false
         → plan v arrival ≡ (duplicate v arrival then dropped Duplicate otherwise onwardPlan v arrival (everywhere (v .path (destination a))))
-    unfolding plan earlyTests firstOf _then_otherwise_ notOurs ownAnnounce deliveredHere wayOn headOf _and_ _or_
-    goes-on elsewhere = rw (two, kind, form-passed, hops-passed, built-parts a signature, elsewhere)
+    unfolding plan earlyTests firstOf
+    goes-on l =
+        past _ _ (drop 1 (earlyTests v arrival)) _ ours
+        ∙ ap (λ (r : Plan). duplicate v arrival then dropped Duplicate otherwise r)
+        (none-first (drop 2 (earlyTests v arrival)) (onwardPlan v arrival (wayOn v arrival)) (form-passed, (not-own l, (elsewhere, (hops-passed, tt))))
+        ∙ ap (onwardPlan v arrival) way)
 
     -- neither 3 nor 5
     apart : Plan → Bool
@@ -147,5 +166,5 @@ module _ (a : Announce) (signature room : List ℕ) (z : announceRefusal a signa
   unfolding never
   never-dropped =
       let both : never answeredTo ≡ true =
-      rw (built-stands a signature room z) answer-never in
+      subst (λ (q : List ℕ). never (packetOn q port clock signed tables tally output .answer) ≡ true) (sym (built-stands a signature room z)) answer-never in
       (not-yes _ (and-left _ _ both), not-yes _ (and-right _ _ both))

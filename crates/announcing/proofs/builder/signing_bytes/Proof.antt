@@ -2,7 +2,7 @@ use Prim.Native.Nat.{_+_}
 use lib.ListN.{length}
 use mathlib.Core.Path.{_≡_, sym, _∙_}
 use Rattle.announcing.specs.Announcing.{Announce, makeAnnounce, anySignature, signedBytes, announceRefusal, signing}
-use Rattle.announcing.proofs.Lengths.{refusal-by, Buildable, buildable, signed-length, laid-refused, laid-done}
+use Rattle.announcing.proofs.Lengths.{refusal-by, buildable, signed-length, laid-refused, laid-done}
 use native.Mathlib.Omega.{arith}
 use borrow.Author.Needs.{needs}
 use Rattle.announcing.proofs.builder.signing_bytes.Statement.{statement}
