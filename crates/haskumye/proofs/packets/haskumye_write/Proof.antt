@@ -1,4 +1,3 @@
--- what is written is at most 500 bytes
 use mathlib.Core.Path.{ap, _∙_}
 use Prim.Native.Nat.{ℕ, _+_, _*_}
 use Rattle.packet.specs.Write.{Writing, writing}
@@ -11,6 +10,7 @@ use Prim.Native.Nat.{_≤_}
 use Rattle.haskumye.proofs.packets.haskumye_write.Statement.{statement}
 use Rattle.haskumye.proofs.packets.haskumye_write.Tie as tie
 
+-- what is written is at most 500 bytes
 most : (c : tie.After-write) → c .write .result .length ≤ 500
 most c =
     let a = c .before .before .before .before .before .before .args in
