@@ -1,12 +1,11 @@
 -- The fields of an announce that was built, found in it by their places.
 use Prim.Native.Nat.{ℕ, _+_}
 use native.Mathlib.Omega.{arith}
-use mathlib.Core.Bool.{Bool, true, false}
+use mathlib.Core.Bool.{false}
 use mathlib.Core.List.{List, [], _++_, append-assoc, append-nil}
 use mathlib.Core.Path.{_≡_, refl, sym, ap, ap₂, _∙_}
 use lib.ListN.{length, drop, length-append}
 use lib.Seq.{drop-at}
-use lib.Dec.{eqb}
 use Rattle.octets.specs.Choice.{_then_otherwise_}
 use Rattle.octets.specs.Part.{part}
 use Rattle.octets.specs.BigEndian.{number, bigEndian}
@@ -19,33 +18,22 @@ use Rattle.packet.specs.Write.{packetOf, readBack}
 use Rattle.packet.specs.Announce.{keysOf, nameHashOf, blobOf, emissionOf, ratchetLength, ratchetOf, signatureOf, leastAnnounce, appDataOf, identityHash, announcedDestination}
 use Rattle.packet.proofs.RoundTrip.{write-parts, write-payload}
 use Rattle.announcing.specs.Announcing.{Announce, blob, destination, payloadWith, headOf, partsFor, announceWith}
-use Rattle.announcing.proofs.Lengths.{head-one, parts-wide, ratchet-right, Buildable}
+use Rattle.announcing.proofs.Lengths.{head-either, head-one, parts-wide, ratchet-right, Buildable}
 
 -- ---- the head
 -- both headers are those of an announce of kind single without an access code
-pub head-free : (d : List ℕ) (n : ℕ) → accessCode (headOf d n .header) ≡ false
-unfolding headOf accessCode _then_otherwise_
-head-free d n = go (eqb n 0)
-  where
-    go : (t : Bool) → accessCode (t then 0x01 otherwise 0x21) ≡ false
-    go true = refl
-    go false = refl
+module _ (d : List ℕ) (n : ℕ) where
+  pub head-free : accessCode (headOf d n .header) ≡ false
+  unfolding accessCode
+  head-free = head-either (λ h. accessCode h ≡ false) d n refl refl
 
-pub head-announce : (d : List ℕ) (n : ℕ) → packetKind (headOf d n .header) ≡ 1
-unfolding headOf packetKind _then_otherwise_
-head-announce d n = go (eqb n 0)
-  where
-    go : (t : Bool) → packetKind (t then 0x01 otherwise 0x21) ≡ 1
-    go true = refl
-    go false = refl
+  pub head-announce : packetKind (headOf d n .header) ≡ 1
+  unfolding packetKind
+  head-announce = head-either (λ h. packetKind h ≡ 1) d n refl refl
 
-pub head-single : (d : List ℕ) (n : ℕ) → destinationKind (headOf d n .header) ≡ 0
-unfolding headOf destinationKind _then_otherwise_
-head-single d n = go (eqb n 0)
-  where
-    go : (t : Bool) → destinationKind (t then 0x01 otherwise 0x21) ≡ 0
-    go true = refl
-    go false = refl
+  pub head-single : destinationKind (headOf d n .header) ≡ 0
+  unfolding destinationKind
+  head-single = head-either (λ h. destinationKind h ≡ 0) d n refl refl
 
 -- the destination goes by keys and name hash alone
 announced-by : (x y : List ℕ) → keysOf x ≡ keysOf y → nameHashOf x ≡ nameHashOf y → announcedDestination x ≡ announcedDestination y

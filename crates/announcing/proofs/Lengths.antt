@@ -28,13 +28,18 @@ pub head-wide : (d : List ℕ) (n : ℕ) → length d ≡ 16 → Wide (headOf d 
 unfolding headOf
 head-wide d n e = record { relay = refl; destination = e }
 
-pub head-one : (d : List ℕ) (n : ℕ) → typeTwo (headOf d n .header) ≡ false
-unfolding headOf typeTwo _then_otherwise_
-head-one d n = go (eqb n 0)
+-- what holds of both headers holds of the head's
+pub head-either : (P : ℕ → Type 0) (d : List ℕ) (n : ℕ) → P 0x01 → P 0x21 → P (headOf d n .header)
+unfolding headOf _then_otherwise_
+head-either P d n one two = go (eqb n 0)
   where
-    go : (t : Bool) → typeTwo (t then 0x01 otherwise 0x21) ≡ false
-    go true = refl
-    go false = refl
+    go : (t : Bool) → P (t then 0x01 otherwise 0x21)
+    go true = one
+    go false = two
+
+pub head-one : (d : List ℕ) (n : ℕ) → typeTwo (headOf d n .header) ≡ false
+unfolding typeTwo
+head-one d n = head-either (λ h. typeTwo h ≡ false) d n refl refl
 
 pub destination-length : (a : Announce) → length (destination a) ≡ 16
 unfolding destination
