@@ -69,7 +69,7 @@ module _ (a : Announce) (signature : List ℕ) where
 
     blob-length : length (blob a) ≡ 10
     unfolding blob
-    blob-length = length-append (a .random) (bigEndian 5 (a .clock)) ∙ omega (arith, b .lengths .random, bigEndian-length 5 (a .clock))
+    blob-length = simp (length-append, bigEndian-length) (omega (arith, b .lengths .random))
 
     -- keys, name hash and blob
     abbrev start : List ℕ
@@ -92,10 +92,9 @@ module _ (a : Announce) (signature : List ℕ) where
     pub blob-found : blobOf body ≡ blob a
     unfolding blobOf payloadWith
     blob-found =
-        let rest = a .ratchet ++ (signature ++ a .appData) in
         let two : length (a .keys ++ a .nameHash) ≡ 74 = length-append (a .keys) (a .nameHash) ∙ omega (arith, b .lengths .keys, b .lengths .nameHash) in
-        ap (λ (r : List ℕ). part r 74 10) (sym (append-assoc (a .keys) (a .nameHash) (blob a ++ rest)))
-        ∙ part-mid (a .keys ++ a .nameHash) (blob a) rest 74 10 two blob-length
+        ap (λ (r : List ℕ). part r 74 10) (sym (append-assoc (a .keys) (a .nameHash) (blob a ++ _)))
+        ∙ part-mid (a .keys ++ a .nameHash) (blob a) _ 74 10 two blob-length
 
     pub random-found : part (blob a) 0 5 ≡ a .random
     unfolding blob

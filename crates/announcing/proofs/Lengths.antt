@@ -55,7 +55,7 @@ parts-start a = start-one (partsFor a .header) (head-one (destination a) (length
 module _ (a : Announce) (signature : List ℕ) where
   blob-length : length (blob a) ≡ length (a .random) + 5
   unfolding blob
-  blob-length = simp (length-append, bigEndian-length)
+  blob-length = simp (length-append, bigEndian-length) (omega arith)
 
   pub payload-length : length (payloadWith a signature)
       ≡ length (a .keys) + (length (a .nameHash) + (length (a .random) + 5 + (length (a .ratchet) + (length signature + length (a .appData)))))
