@@ -457,8 +457,10 @@ HASKUMYE_CHECKED uint8_t haskumye_sha256(const uint8_t *message, size_t length, 
  * HASKUMYE_WRITTEN_REFUSAL (26, 5, 27, 6 in this order; 0 for none) and HASKUMYE_WRITTEN_LENGTH.
  */
 
-/* The bytes to sign: destination, keys, name hash, blob, ratchet, application's data. The length of the signature and
-   of the announce is reckoned with: what is refused here is refused when it is built. */
+/*
+ * The bytes to sign: destination, keys, name hash, blob, ratchet, application's data. Refused as building is with the
+ * same parts and a signature of 64 bytes.
+ */
 HASKUMYE_CHECKED haskumye_written haskumye_announce_signing_bytes(
     const uint8_t *keys, size_t keys_length, const uint8_t *name_hash, size_t name_hash_length, const uint8_t *random,
     size_t random_length, uint64_t clock, const uint8_t *ratchet, size_t ratchet_length, const uint8_t *app_data,
