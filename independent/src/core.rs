@@ -136,45 +136,6 @@ pub fn signature_matters(packet: &[u8], port: u64, clock: u64, tables: &[u8], ro
     unsafe { haskumye_signature_matters(packet.as_ptr(), packet.len(), port, clock, tables.as_ptr(), tables.len(), room) }
 }
 
-/// The calls that build announces, which `raw` doesn't declare yet.
-mod announcing_calls {
-    extern "C" {
-        pub fn haskumye_announce_signing_bytes(
-            keys: *const u8,
-            keys_length: usize,
-            name_hash: *const u8,
-            name_hash_length: usize,
-            random: *const u8,
-            random_length: usize,
-            clock: u64,
-            ratchet: *const u8,
-            ratchet_length: usize,
-            app_data: *const u8,
-            app_data_length: usize,
-            room: *mut u8,
-            size: usize,
-        ) -> u32;
-        pub fn haskumye_build_announce(
-            keys: *const u8,
-            keys_length: usize,
-            name_hash: *const u8,
-            name_hash_length: usize,
-            random: *const u8,
-            random_length: usize,
-            clock: u64,
-            ratchet: *const u8,
-            ratchet_length: usize,
-            app_data: *const u8,
-            app_data_length: usize,
-            signature: *const u8,
-            signature_length: usize,
-            room: *mut u8,
-            size: usize,
-        ) -> u32;
-    }
-}
-use announcing_calls::*;
-
 /// The refusal number in the low 16 bits, the length in those above; what is to be signed goes to the room's start.
 pub fn announce_signing_bytes(own: &Own, room: &mut [u8]) -> u32 {
     let Own { keys, name_hash, random, clock, ratchet, app_data } = *own;
