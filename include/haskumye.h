@@ -131,7 +131,9 @@ enum haskumye_refusal {
     HASKUMYE_REFUSAL_FILE_KIND = 21,      /* another kind of file, or another edition */
     HASKUMYE_REFUSAL_FILE_PLACE = 22,     /* an offset, a length or the file's end breaks the rule; or no such entry */
     HASKUMYE_REFUSAL_SIGNATURE_WORD = 23, /* a signature word that is neither 0 nor 1 */
-    HASKUMYE_REFUSAL_ROOM = 25            /* too little room for what is to be written */
+    HASKUMYE_REFUSAL_ROOM = 25,           /* too little room for what is to be written */
+    HASKUMYE_REFUSAL_ANNOUNCE_PART = 26,  /* a key, name hash, random, ratchet or signature of wrong length */
+    HASKUMYE_REFUSAL_ANNOUNCE_TOO_LONG = 27 /* an announce over 500 bytes once built */
 };
 
 /* What a packet call answers: HASKUMYE_ANSWER_KIND. */
@@ -447,6 +449,29 @@ size_t haskumye_line(const uint8_t *packet, size_t length, haskumye_text *text);
 /* SHA-256. Returns refusal 2 for a message over HASKUMYE_LONGEST_MESSAGE, or 0. */
 HASKUMYE_CHECKED uint8_t haskumye_sha256(const uint8_t *message, size_t length, haskumye_hash *out);
 
+/*
+ * ---- Announces of the box's own addresses: what the host signs, and the packet with its signature. ----
+ * Both take the same parts: keys of 64 bytes (X25519, then Ed25519), a name hash of 10, 5 random bytes, the clock that
+ * becomes the emission time, a ratchet of 32 bytes or of none, and the application's data, up to 333 bytes, with a
+ * ratchet 301. Both write at the room's start; bytes behind stay. Each returns a number of two fields:
+ * HASKUMYE_WRITTEN_REFUSAL (26, 5, 27, 6 in this order; 0 for none) and HASKUMYE_WRITTEN_LENGTH.
+ */
+
+/*
+ * The bytes to sign: destination, keys, name hash, blob, ratchet, application's data. Refused as building is with the
+ * same parts and a signature of 64 bytes.
+ */
+HASKUMYE_CHECKED haskumye_written haskumye_announce_signing_bytes(
+    const uint8_t *keys, size_t keys_length, const uint8_t *name_hash, size_t name_hash_length, const uint8_t *random,
+    size_t random_length, uint64_t clock, const uint8_t *ratchet, size_t ratchet_length, const uint8_t *app_data,
+    size_t app_data_length, uint8_t *room, size_t room_length);
+
+/* The announce: header 01, or 21 with a ratchet; hops and context 0. The signature, 64 bytes, is not verified. */
+HASKUMYE_CHECKED haskumye_written haskumye_build_announce(
+    const uint8_t *keys, size_t keys_length, const uint8_t *name_hash, size_t name_hash_length, const uint8_t *random,
+    size_t random_length, uint64_t clock, const uint8_t *ratchet, size_t ratchet_length, const uint8_t *app_data,
+    size_t app_data_length, const uint8_t *signature, size_t signature_length, uint8_t *room, size_t room_length);
+
 /* ---- Recordings: a day's packets in a file, and what a relay answers to each. docs/LAYOUT.md has the file. ---- */
 
 /* The refusal of a file that is no recording (20, 21, 22, 23), or 0. */
@@ -501,6 +526,8 @@ static inline const char *haskumye_refusal_words(unsigned refusal)
     case HASKUMYE_REFUSAL_FILE_PLACE: return "offset, length or file end that breaks the rule";
     case HASKUMYE_REFUSAL_SIGNATURE_WORD: return "signature word";
     case HASKUMYE_REFUSAL_ROOM: return "too little room";
+    case HASKUMYE_REFUSAL_ANNOUNCE_PART: return "key, name, random, ratchet or signature of wrong length";
+    case HASKUMYE_REFUSAL_ANNOUNCE_TOO_LONG: return "announce over 500 once built";
     default: return "unknown";
     }
 }

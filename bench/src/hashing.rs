@@ -1,6 +1,7 @@
-//! SHA-256, the packet hash and reading a packet.
+//! SHA-256, the packet hash, reading a packet, and building an announce.
 
 use crate::measure::{best, turn, Pass, Report};
+use haskumye_independent::announcing::{self, Own};
 use haskumye_independent::core;
 use haskumye_independent::limits::LONGEST;
 use haskumye_independent::packet::{self, hash};
@@ -67,9 +68,29 @@ fn reading(report: &mut Report) {
     lines(report, "reading", [&core, &rust], &[19, 83, 500]);
 }
 
+/// An announce of our own with this much of the application's data: two digests, for its destination, and the writing.
+fn announces(report: &mut Report, independent: &Sha256) {
+    fn own(app_data: &[u8]) -> Own<'_> {
+        Own { keys: &[7; 64], name_hash: &[8; 10], random: &[9; 5], clock: 1_700_000_000, ratchet: &[], app_data }
+    }
+    let core = |app_data: &[u8]| {
+        let mut room = [0; LONGEST];
+        core::build_announce(&own(app_data), &[5; 64], &mut room);
+        room
+    };
+    let rust = |app_data: &[u8]| {
+        let mut room = [0; LONGEST];
+        announcing::build(&AsWritten, independent, &own(app_data), &[5; 64], &mut room).expect("an announce");
+        room
+    };
+    report.table("Building an announce", "application's data", &[]);
+    lines(report, "announce of our own", [&core, &rust], &[16, 333]);
+}
+
 pub fn run(report: &mut Report) {
     let independent = Sha256::default();
     sha256(report, &independent);
     packet_hash(report, &independent);
     reading(report);
+    announces(report, &independent);
 }

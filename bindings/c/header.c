@@ -137,6 +137,25 @@ static void check_questions(void)
     CHECK(haskumye_signature_matters(NULL, 0, 2, 0, tables, sizeof tables, 500) == HASKUMYE_REFUSAL_TOO_SHORT);
 }
 
+static void check_announce_calls(void)
+{
+    static const uint8_t zeros[64] = {0};
+    static uint8_t room[HASKUMYE_OUTPUT_SIZE];
+    haskumye_written written =
+        haskumye_announce_signing_bytes(NULL, 0, NULL, 0, NULL, 0, 0, NULL, 0, NULL, 0, NULL, 0);
+    CHECK(written == HASKUMYE_REFUSAL_ANNOUNCE_PART);
+    written = haskumye_build_announce(NULL, 0, NULL, 0, NULL, 0, 0, NULL, 0, NULL, 0, NULL, 0, NULL, 0);
+    CHECK(written == HASKUMYE_REFUSAL_ANNOUNCE_PART);
+    written = haskumye_announce_signing_bytes(zeros, 64, zeros, 10, zeros, 5, 0, NULL, 0, NULL, 0, NULL, 0);
+    CHECK(written == HASKUMYE_REFUSAL_OUTPUT);
+    written = haskumye_announce_signing_bytes(zeros, 64, zeros, 10, zeros, 5, 0, NULL, 0, NULL, 0, room, sizeof room);
+    CHECK(HASKUMYE_WRITTEN_REFUSAL(written) == HASKUMYE_REFUSAL_NONE && HASKUMYE_WRITTEN_LENGTH(written) == 100);
+    written = haskumye_build_announce(zeros, 64, zeros, 10, zeros, 5, 0, zeros, 32, NULL, 0, zeros, 64, room,
+                                      sizeof room);
+    CHECK(HASKUMYE_WRITTEN_REFUSAL(written) == HASKUMYE_REFUSAL_NONE && HASKUMYE_WRITTEN_LENGTH(written) == 199);
+    CHECK(room[0] == (HASKUMYE_HEADER_CONTEXT_FLAG | HASKUMYE_PACKET_ANNOUNCE));
+}
+
 static void check_recording_calls(void)
 {
     static haskumye_entry entry;
@@ -198,6 +217,7 @@ int main(int count, char **words)
     check_packet_calls();
     check_relay_calls();
     check_questions();
+    check_announce_calls();
     check_recording_calls();
     printf("%d passed, %d failed\n", passed, failed);
     return failed == 0 ? 0 : 1;

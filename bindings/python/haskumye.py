@@ -97,6 +97,8 @@ class Refusal(Words):
     FILE_PLACE = 22, "offset, length or file end that breaks the rule"
     SIGNATURE_WORD = 23, "signature word"
     ROOM = 25, "too little room"
+    ANNOUNCE_PART = 26, "key, name, random, ratchet or signature of wrong length"
+    ANNOUNCE_TOO_LONG = 27, "announce over 500 once built"
 
 
 class Reason(Words):
@@ -200,6 +202,18 @@ class Parts(NamedTuple):
     context: int = 0
 
 
+class Announce(NamedTuple):
+    """The parts of an announce of an own address: keys of 64 bytes (X25519, then Ed25519), a name hash of 10, five random bytes from the system, new for
+    each announce, the emission time in seconds (wall-clock time that never goes back), a ratchet of 32 bytes or none, and the application's data."""
+
+    keys: bytes
+    name_hash: bytes
+    random: bytes
+    clock: int
+    ratchet: bytes = b""
+    app_data: bytes = b""
+
+
 class Recorded(NamedTuple):
     """An entry of a recording: a packet as it came in. `signed` is the host's word on its signature."""
 
@@ -264,6 +278,7 @@ class Tally(NamedTuple):
 _BYTES = [c_char_p, c_size_t]  # bytes that a call reads
 _BUFFER = [c_void_p, c_size_t]  # a buffer that it may write
 _GIVEN, _TAKEN = c_char_p, c_void_p  # a struct that it reads, and one that it may write
+_ANNOUNCE = [*_BYTES, *_BYTES, *_BYTES, c_uint64, *_BYTES, *_BYTES]  # the parts of an announce
 
 # As the header declares them: what a function returns, then its arguments.
 FUNCTIONS = {
@@ -295,6 +310,8 @@ FUNCTIONS = {
     "haskumye_emission": (c_uint64, [_GIVEN]),
     "haskumye_line": (c_size_t, [*_BYTES, _TAKEN]),
     "haskumye_sha256": (c_uint8, [*_BYTES, _TAKEN]),
+    "haskumye_announce_signing_bytes": (c_uint32, [*_ANNOUNCE, *_BUFFER]),
+    "haskumye_build_announce": (c_uint32, [*_ANNOUNCE, *_BYTES, *_BUFFER]),
     "haskumye_check_recording": (c_uint8, [*_BYTES]),
     "haskumye_recording_count": (c_size_t, [*_BYTES]),
     "haskumye_recording_entry": (c_uint8, [*_BYTES, c_uint64, _TAKEN]),
@@ -432,6 +449,25 @@ def line(packet):
     packet, text = _bytes(packet), ctypes.create_string_buffer(TEXT_SIZE)
     length = _library.haskumye_line(packet, len(packet), text)
     return text.raw[:length].decode("ascii").rstrip("\n")
+
+
+def _announce(announce):
+    """The parts of an announce as the calls take them."""
+    keys, name_hash, random, clock, ratchet, app_data = announce
+    slices = [[data, len(data)] for data in map(_bytes, (keys, name_hash, random, ratchet, app_data))]
+    return [*slices[0], *slices[1], *slices[2], _number(clock), *slices[3], *slices[4]]
+
+
+def announce_signing_bytes(announce):
+    """The bytes that the host signs with the Ed25519 key of an Announce. Refusals 26, 5 and 27, in this order."""
+    room = ctypes.create_string_buffer(OUTPUT_SIZE)
+    return _written(_library.haskumye_announce_signing_bytes(*_announce(announce), room, OUTPUT_SIZE), room)
+
+
+def build_announce(announce, signature):
+    """The packet of an Announce with the host's signature, 64 bytes, which is not verified. Refusals 26, 5 and 27, in this order."""
+    signature, room = _bytes(signature), ctypes.create_string_buffer(OUTPUT_SIZE)
+    return _written(_library.haskumye_build_announce(*_announce(announce), signature, len(signature), room, OUTPUT_SIZE), room)
 
 
 def check_recording(file):

@@ -9,7 +9,7 @@ import sys
 import unittest
 
 import haskumye
-from haskumye import Deliver, Drop, Forward, Kept, Kind, Link, Mode, Parts, Path, Port, Reason, Refusal, Refused, Relay, Spread, Tally
+from haskumye import Announce, Deliver, Drop, Forward, Kept, Kind, Link, Mode, Parts, Path, Port, Reason, Refusal, Refused, Relay, Spread, Tally
 
 ROOT = pathlib.Path(__file__).resolve().parents[2]
 OWN = bytes([0x0A] * 16)
@@ -153,6 +153,48 @@ class TestPackets(unittest.TestCase):
         box.packet(haskumye.write(Parts(destination=DESK)), 0, 77)
         again = Relay.from_tables(bytearray(box.tables), box.tally)
         self.assertEqual((again.tables, again.tally, again.last_clock), (box.tables, box.tally, 77))
+
+
+class TestAnnounces(unittest.TestCase):
+    PARTS = Announce(keys=bytes([10] * 64), name_hash=bytes([11] * 10), random=bytes([12] * 5), clock=0x0102030405, app_data=b"desk")
+    RATCHET = bytes([13] * 32)
+    SIGNATURE = bytes([14] * 64)
+
+    def refused(self, refusal, **changes):
+        """Both calls are refused so."""
+        for call in (haskumye.announce_signing_bytes, lambda parts: haskumye.build_announce(parts, self.SIGNATURE)):
+            with self.assertRaises(Refused) as raised:
+                call(self.PARTS._replace(**changes))
+            self.assertEqual(raised.exception.refusal, refusal)
+
+    def test_parts_stand_where_they_should(self):
+        for ratchet, header in ((b"", 0x01), (self.RATCHET, 0x21)):
+            parts = self.PARTS._replace(ratchet=ratchet)
+            front = parts.keys + parts.name_hash + parts.random + bytes([1, 2, 3, 4, 5]) + ratchet
+            destination = haskumye.announced_destination(front)
+            self.assertEqual(haskumye.announce_signing_bytes(parts), destination + front + b"desk")
+            packet = haskumye.build_announce(parts, bytearray(self.SIGNATURE))
+            self.assertEqual(haskumye.read(packet), Parts(header=header, destination=destination))
+            self.assertEqual(haskumye.payload(packet), front + self.SIGNATURE + b"desk")
+
+    def test_another_relay_spreads_it(self):
+        box, packet = relay(2), haskumye.build_announce(self.PARTS, self.SIGNATURE)
+        self.assertEqual(box.packet(packet, 0, 1, signed=True).ports, (1,))
+
+    def test_refusals(self):
+        for length in (0, 1, 4, 6, 9, 11, 63, 65, 600):
+            for part in ("keys", "name_hash", "random", "ratchet")[: 3 if length == 0 else 4]:
+                self.refused(Refusal.ANNOUNCE_PART, **{part: bytes(length)})
+            with self.assertRaises(Refused) as raised:
+                haskumye.build_announce(self.PARTS, bytes(length))
+            self.assertEqual(raised.exception.refusal, Refusal.ANNOUNCE_PART)
+        self.refused(Refusal.ANNOUNCE_PART, keys=b"", clock=haskumye.CLOCK_LIMIT, app_data=bytes(334))
+        self.refused(Refusal.CLOCK, clock=haskumye.CLOCK_LIMIT, app_data=bytes(334))
+        self.refused(Refusal.ANNOUNCE_TOO_LONG, app_data=bytes(334))
+        self.refused(Refusal.ANNOUNCE_TOO_LONG, ratchet=self.RATCHET, app_data=bytes(302))
+        for ratchet, length in ((b"", 333), (self.RATCHET, 301)):
+            packet = haskumye.build_announce(self.PARTS._replace(ratchet=ratchet, app_data=bytes(length)), self.SIGNATURE)
+            self.assertEqual(len(packet), haskumye.LONGEST_PACKET)
 
 
 class TestQuestions(unittest.TestCase):

@@ -1,6 +1,7 @@
 //! The proved core behind safe functions: numbers as the library returns them, and buffers that the caller fills before, so that what a call
 //! leaves can be compared.
 
+use crate::announcing::Own;
 use crate::answer::Tally;
 use crate::engine::Fields;
 use crate::packet::{Address, Blob, PacketHash, Parts};
@@ -133,6 +134,23 @@ pub fn ask(tables: &[u8], question: &Question, reply: &mut [u8]) -> u8 {
 /// A refusal of the packet call; 0 where it doesn't read the signature word, 255 where it does.
 pub fn signature_matters(packet: &[u8], port: u64, clock: u64, tables: &[u8], room: usize) -> u8 {
     unsafe { haskumye_signature_matters(packet.as_ptr(), packet.len(), port, clock, tables.as_ptr(), tables.len(), room) }
+}
+
+/// The refusal number in the low 16 bits, the length in those above; what is to be signed goes to the room's start.
+pub fn announce_signing_bytes(own: &Own, room: &mut [u8]) -> u32 {
+    let Own { keys, name_hash, random, clock, ratchet, app_data } = *own;
+    let (k, n, r, t, a) = (keys.as_ptr(), name_hash.as_ptr(), random.as_ptr(), ratchet.as_ptr(), app_data.as_ptr());
+    let (kl, nl, rl, tl, al) = (keys.len(), name_hash.len(), random.len(), ratchet.len(), app_data.len());
+    unsafe { haskumye_announce_signing_bytes(k, kl, n, nl, r, rl, clock, t, tl, a, al, room.as_mut_ptr(), room.len()) }
+}
+
+/// The same of the announce.
+pub fn build_announce(own: &Own, signature: &[u8], room: &mut [u8]) -> u32 {
+    let Own { keys, name_hash, random, clock, ratchet, app_data } = *own;
+    let (k, n, r, t, a) = (keys.as_ptr(), name_hash.as_ptr(), random.as_ptr(), ratchet.as_ptr(), app_data.as_ptr());
+    let (kl, nl, rl, tl, al) = (keys.len(), name_hash.len(), random.len(), ratchet.len(), app_data.len());
+    let (s, sl) = (signature.as_ptr(), signature.len());
+    unsafe { haskumye_build_announce(k, kl, n, nl, r, rl, clock, t, tl, a, al, s, sl, room.as_mut_ptr(), room.len()) }
 }
 
 /// The answer as one number, its fields as in `linked`; signed by 1, not by any other number.

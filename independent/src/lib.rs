@@ -1,6 +1,7 @@
 //! A second implementation of what Haskumye does, written from the standards and the scope document alone, and its comparison with the proved core.
 //! Nothing here is shared with the core: `core` only declares the functions of the linked archives.
 
+pub mod announcing;
 pub mod answer;
 pub mod compare;
 pub mod core;

@@ -1,8 +1,9 @@
 //! The proved core as an engine: its numbers decoded into the independent program's answers.
 
+use crate::announcing::Own;
 use crate::answer::{Answer, Reason, Refusal, Tally, Verdict};
 use crate::core::{self, crossing, PartsBytes, LINE};
-use crate::engine::{Engine, Fields, Outcome, PacketCalls, RecordingCalls};
+use crate::engine::{AnnounceCalls, Engine, Fields, Outcome, PacketCalls, RecordingCalls};
 use crate::packet::{payload_place, Address, Blob, PacketHash, Parts};
 use crate::relay::asking::Question;
 use crate::relay::Arrival;
@@ -168,6 +169,16 @@ impl RecordingCalls for Core {
         core::recording_entry(file, index, &mut fields); // where there is no such entry, its body is empty
         let body = &file[fields[3] as usize..][..fields[4] as usize];
         judged(core::replay_entry(file, index, tables, tally, line), body)
+    }
+}
+
+impl AnnounceCalls for Core {
+    fn signing_bytes(&self, own: &Own, room: &mut [u8]) -> u32 {
+        core::announce_signing_bytes(own, room)
+    }
+
+    fn build_announce(&self, own: &Own, signature: &[u8], room: &mut [u8]) -> u32 {
+        core::build_announce(own, signature, room)
     }
 }
 

@@ -1,8 +1,9 @@
 //! The rules by name. Each stands in the file of its subject, under the words that it says; here they are listed, so that another can be
 //! put in the place of one of them.
 
+pub use crate::announcing::{self, Own};
 pub use crate::answer::{self, Answer, Reason, Refusal, Tally, Verdict, When};
-pub use crate::packet::{self, announced, hash, Address, Header, PacketHash, Parts};
+pub use crate::packet::{self, announced, hash, Address, Blob, Header, PacketHash, Parts};
 pub use crate::recording::replaying::Judged;
 pub use crate::recording::{self, reading, replaying, writing, Entry};
 pub use crate::relay::asking::{self, Question};
@@ -25,6 +26,14 @@ macro_rules! every_rule {
             announced::has_ratchet(parts: &Parts) -> bool;
             announced::destination(sha: &Sha256, keys: &[u8], name_hash: &[u8]) -> Address;
             announced::emission(blob: &[u8]) -> u64;
+
+            announcing::announcing_refusal(&rules, own: &Own, signature: Option<&[u8]>, room: usize) -> Result<(), Refusal>;
+            announcing::wrong_lengths(own: &Own) -> bool;
+            announcing::announce_grown(own: &Own) -> bool;
+            announcing::own_blob(own: &Own) -> Blob;
+            announcing::signed(&rules, destination: &Address, own: &Own) -> Vec<u8>;
+            announcing::own_parts(destination: Address, own: &Own) -> Parts;
+            announcing::own_payload(&rules, own: &Own, signature: &[u8]) -> Vec<u8>;
 
             check::tables_allowed(&rules, tables: &[u8]) -> bool;
             check::size_allowed(size: usize) -> bool;

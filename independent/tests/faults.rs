@@ -1,8 +1,10 @@
 //! The comparison notices every deliberate fault.
 
+use haskumye_independent::compare::announcing::programs_differ;
 use haskumye_independent::compare::faults::packets_differ;
 use haskumye_independent::compare::{tables::compare_with, Options, Tally, SUBJECTS};
-use haskumye_independent::faults::{self, OF_PACKETS, OF_TABLES};
+use haskumye_independent::faults::{self, OF_ANNOUNCING, OF_PACKETS, OF_TABLES};
+use haskumye_independent::relay::Relay;
 
 fn run(name: &str, options: &Options) -> Tally {
     let mut tally = Tally::default();
@@ -37,6 +39,14 @@ fn names_are_different() {
 fn the_comparison_notices_faults_in_packets() {
     for fault in OF_PACKETS.concat() {
         assert!(packets_differ(fault.rules()), "{}", fault.text);
+    }
+}
+
+#[test]
+fn the_comparison_notices_faults_in_announcing() {
+    assert!(!programs_differ(&Relay::as_written(), &Relay::as_written()));
+    for fault in OF_ANNOUNCING.concat() {
+        assert!(programs_differ(&Relay::as_written(), &fault.relay()), "{}", fault.text);
     }
 }
 

@@ -166,6 +166,22 @@ static uint64_t sha256(const struct use *use)
     return haskumye_sha256(use->input.bytes, use->input.length, (haskumye_hash *)use->output.bytes);
 }
 
+static uint64_t announce_signing_bytes(const struct use *use)
+{
+    return haskumye_announce_signing_bytes(use->keys.bytes, use->keys.length, use->name_hash.bytes,
+                                           use->name_hash.length, use->random.bytes, use->random.length, use->clock,
+                                           use->ratchet.bytes, use->ratchet.length, use->app_data.bytes,
+                                           use->app_data.length, use->output.bytes, use->output.length);
+}
+
+static uint64_t build_announce(const struct use *use)
+{
+    return haskumye_build_announce(use->keys.bytes, use->keys.length, use->name_hash.bytes, use->name_hash.length,
+                                   use->random.bytes, use->random.length, use->clock, use->ratchet.bytes,
+                                   use->ratchet.length, use->app_data.bytes, use->app_data.length,
+                                   use->signature.bytes, use->signature.length, use->output.bytes, use->output.length);
+}
+
 static uint64_t check_recording(const struct use *use)
 {
     return haskumye_check_recording(use->input.bytes, use->input.length);
@@ -227,6 +243,8 @@ static const struct {
     [EMISSION] = {"haskumye_emission", emission},
     [LINE] = {"haskumye_line", line},
     [SHA256] = {"haskumye_sha256", sha256},
+    [ANNOUNCE_SIGNING_BYTES] = {"haskumye_announce_signing_bytes", announce_signing_bytes},
+    [BUILD_ANNOUNCE] = {"haskumye_build_announce", build_announce},
     [CHECK_RECORDING] = {"haskumye_check_recording", check_recording},
     [RECORDING_COUNT] = {"haskumye_recording_count", recording_count},
     [RECORDING_ENTRY] = {"haskumye_recording_entry", recording_entry},

@@ -36,6 +36,8 @@ enum function {
     EMISSION,
     LINE,
     SHA256,
+    ANNOUNCE_SIGNING_BYTES,
+    BUILD_ANNOUNCE,
     CHECK_RECORDING,
     RECORDING_COUNT,
     RECORDING_ENTRY,
@@ -51,6 +53,7 @@ struct use {
     struct buffer output; /* or where an answer of a fixed size goes */
     struct buffer tables;
     struct buffer tally;
+    struct buffer keys, name_hash, random, ratchet, app_data, signature; /* of an announce to be built */
     uint64_t port, clock, mode, index; /* index: of an entry, or a place in a table */
     size_t room;          /* of the output that a packet call would be lent */
     uint8_t byte;         /* the signature word, on or off, or a header */

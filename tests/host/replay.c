@@ -7,6 +7,7 @@
  *   starts  each buffer starts behind such a page
  *   stack   as heap, each call on a painted stack: prints how deep each function goes
  */
+#include "announces.h"
 #include "buffer.h"
 #include "check.h"
 #include "library.h"
@@ -122,6 +123,7 @@ int main(int count, char **words)
     replay(file);
     fclose(file);
     odd_lengths();
+    announces_try();
     recordings_try();
     library_end();
     return check_end() ? 0 : 1;

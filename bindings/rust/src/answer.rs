@@ -53,6 +53,8 @@ numbered! {
         FilePlace = 22 "offset, length or file end that breaks the rule",
         SignatureWord = 23 "signature word",
         Room = 25 "too little room",
+        AnnouncePart = 26 "key, name, random, ratchet or signature of wrong length",
+        AnnounceTooLong = 27 "announce over 500 once built",
     }
 }
 
@@ -211,7 +213,15 @@ pub(crate) fn judged(number: u64) -> Result<Verdict, Refusal> {
     }
 }
 
-pub(crate) fn refusal(number: u8) -> Refusal {
+/// A writing call's number: the refusal in its low 16 bits, the length in those above.
+pub(crate) fn written_length(number: u32) -> Result<usize, Refusal> {
+    match number as u16 {
+        0 => Ok((number >> 16) as usize),
+        number => Err(refusal(number as u8)),
+    }
+}
+
+fn refusal(number: u8) -> Refusal {
     Refusal::from_number(number).unwrap_or_else(|| unknown(number.into()))
 }
 
@@ -228,6 +238,8 @@ mod tests {
     fn numbers_become_answers() {
         assert_eq!(done(0), Ok(()));
         assert_eq!(done(11), Err(Refusal::LocalAddress));
+        assert_eq!(written_length(19 << 16), Ok(19));
+        assert_eq!(written_length(27), Err(Refusal::AnnounceTooLong));
         assert_eq!(judged(0x0700), Err(Refusal::Tables));
         assert_eq!(judged(0x0e01), Ok(Verdict::Drop(Reason::GrownTooLong)));
         assert_eq!(judged(0x0023_0000_0000_0002), Ok(Verdict::Deliver { payload: 35 }));

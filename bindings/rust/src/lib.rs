@@ -9,6 +9,7 @@
 
 #![deny(missing_docs)]
 
+mod announce;
 mod answer;
 mod packet;
 mod question;
@@ -16,6 +17,7 @@ pub mod raw;
 mod recording;
 mod relay;
 
+pub use announce::Announce;
 pub use answer::{Mode, PortSet, Ports, Reason, Refusal, Verdict};
 pub use packet::{announced_destination, emission, least_announce, line, link_id, packet_hash, payload, read, sha256, write};
 pub use question::{Link, Path, Port};

@@ -1,6 +1,6 @@
 //! Packets and hashing, which need no relay.
 
-use crate::answer::{done, refusal, Refusal};
+use crate::answer::{done, written_length, Refusal};
 use crate::raw::{self, Parts};
 use crate::{Address, Blob, Hash};
 
@@ -33,10 +33,7 @@ pub fn payload(packet: &[u8]) -> &[u8] {
 /// Writes a packet at the output's start, and gives its length. Refusals 6, 2 and 3.
 pub fn write(parts: &Parts, payload: &[u8], output: &mut [u8]) -> Result<usize, Refusal> {
     let written = unsafe { raw::haskumye_write(parts, payload.as_ptr(), payload.len(), output.as_mut_ptr(), output.len()) };
-    match written as u16 {
-        0 => Ok((written >> 16) as usize),
-        number => Err(refusal(number as u8)),
-    }
+    written_length(written)
 }
 
 /// The packet hash. A receipt for a packet is addressed to its first 16 bytes. Refusals 1, 2 and 3.

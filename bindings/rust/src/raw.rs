@@ -269,6 +269,39 @@ extern "C" {
     pub fn haskumye_line(packet: *const u8, length: usize, text: *mut Text) -> usize;
     pub fn haskumye_sha256(message: *const u8, length: usize, out: *mut Hash) -> u8;
 
+    pub fn haskumye_announce_signing_bytes(
+        keys: *const u8,
+        keys_length: usize,
+        name_hash: *const u8,
+        name_hash_length: usize,
+        random: *const u8,
+        random_length: usize,
+        clock: u64,
+        ratchet: *const u8,
+        ratchet_length: usize,
+        app_data: *const u8,
+        app_data_length: usize,
+        room: *mut u8,
+        room_length: usize,
+    ) -> u32;
+    pub fn haskumye_build_announce(
+        keys: *const u8,
+        keys_length: usize,
+        name_hash: *const u8,
+        name_hash_length: usize,
+        random: *const u8,
+        random_length: usize,
+        clock: u64,
+        ratchet: *const u8,
+        ratchet_length: usize,
+        app_data: *const u8,
+        app_data_length: usize,
+        signature: *const u8,
+        signature_length: usize,
+        room: *mut u8,
+        room_length: usize,
+    ) -> u32;
+
     pub fn haskumye_check_recording(file: *const u8, length: usize) -> u8;
     pub fn haskumye_recording_count(file: *const u8, length: usize) -> usize;
     pub fn haskumye_recording_entry(file: *const u8, length: usize, index: u64, entry: *mut Entry) -> u8;

@@ -1,6 +1,6 @@
 //! Recordings: a day's packets in a file, and what a relay answers to each.
 
-use crate::answer::{done, refusal, Refusal, Verdict};
+use crate::answer::{done, written_length, Refusal, Verdict};
 use crate::raw::{self, ENTRY_WIDTH};
 
 // SAFETY of every call below: what crosses is a borrow, as `raw` asks, and borrows do not overlap.
@@ -91,8 +91,5 @@ pub fn write_recording(entries: &[Recorded], room: &mut [u8]) -> Result<usize, R
     let bodies: Vec<u8> = entries.iter().flat_map(|entry| entry.packet).copied().collect();
     let (room, size) = (room.as_mut_ptr(), room.len());
     let written = unsafe { raw::haskumye_write_recording(given.as_ptr(), given.len(), bodies.as_ptr(), bodies.len(), room, size) };
-    match written as u16 {
-        0 => Ok((written >> 16) as usize),
-        number => Err(refusal(number as u8)),
-    }
+    written_length(written)
 }

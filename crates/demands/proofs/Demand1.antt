@@ -38,6 +38,9 @@ use Rattle.tables.specs.Called.{written, called}
 use Rattle.tables.specs.Asked.{tellOn}
 use Rattle.settings.specs.Calls.{freshOn}
 use Rattle.relay.specs.Promise.{inBytes, packetOn}
+use Rattle.announcing.specs.Announcing.{Announce, signedBytes, announceWith, wrongLengths, announceRows, announceRefusal, anySignature, signing, building}
+use Rattle.announcing.proofs.Lengths.{laid-refusal, laid-stays}
+use Rattle.announcing.proofs.RoundTrip.{refused-alike}
 use Rattle.demands.specs.Bytes.{ofPacket, ofCalled, ofAsked, performOn}
 use Rattle.demands.specs.Refusals.{refusal, refusalOn, refusing, isRefused, isRefusal}
 
@@ -242,6 +245,38 @@ module _ (q : Parts) (body output : List ℕ) where
   writing-stays z =
       let refused : eqb row 0 ≡ false = ap (λ (n : ℕ). eqb n 0) (sym row-given) ∙ z in
       (ap (λ (w : Writing). w .answer .length) (then-false _ _ refused), ap (λ (w : Writing). w .output) (then-false _ _ refused))
+
+-- building an announce of our own: 26, 5, 27, 6; a refusal gives no length, and leaves the room
+module _ (a : Announce) (signature room : List ℕ) where
+  pub building-rows : building a signature room .answer .refusal
+      ≡ (wrongLengths (length (a .keys)) (length (a .nameHash)) (length (a .random)) (length (a .ratchet)) (length signature) then 26 otherwise
+      leb clockLimit (a .clock) then 5 otherwise
+      ltb longestPacket (length (announceWith a signature)) then 27 otherwise
+      ltb (length room) leastOutput then 6 otherwise 0)
+  unfolding building announceRefusal announceRows firstOf
+  building-rows = laid-refusal (announceRefusal a signature (length room)) (announceWith a signature) room
+
+  pub building-stays : eqb (building a signature room .answer .refusal) 0 ≡ false
+      → (building a signature room .answer .length ≡ 0) × (building a signature room .output ≡ room)
+  unfolding building
+  building-stays z =
+      let row = announceRefusal a signature (length room) in
+      laid-stays row (announceWith a signature) room (ap (λ (n : ℕ). eqb n 0) (sym (laid-refusal row (announceWith a signature) room)) ∙ z)
+
+-- "for the signing bytes too": as the announce, whatever the signature's 64 bytes
+module _ (a : Announce) (room : List ℕ) where
+  pub signing-rows : (signature : List ℕ) → length signature ≡ 64 → signing a room .answer .refusal ≡ building a signature room .answer .refusal
+  unfolding signing building
+  signing-rows signature e =
+      laid-refusal _ (signedBytes a) room
+      ∙ refused-alike a signature (length room) e
+      ∙ sym (laid-refusal (announceRefusal a signature (length room)) (announceWith a signature) room)
+
+  pub signing-stays : eqb (signing a room .answer .refusal) 0 ≡ false → (signing a room .answer .length ≡ 0) × (signing a room .output ≡ room)
+  unfolding signing
+  signing-stays z =
+      let row = announceRefusal a anySignature (length room) in
+      laid-stays row (signedBytes a) room (ap (λ (n : ℕ). eqb n 0) (sym (laid-refusal row (signedBytes a) room)) ∙ z)
 
 -- a fresh relay: 7 for a buffer of another size, which stays as it was
 pub fresh-rows : (tables own : List ℕ) → freshOn tables own .refusal ≡ (eqb (length tables) tableSize then 0 otherwise 7)

@@ -123,7 +123,7 @@ greatest =
       kept = 0xffff_ffff;
     }
 
-abbrev announce : List Call
+abbrev pub announce : List Call
 announce = arrives announceBytes 1000 1 ∷ []
 
 announce-given : CallsBytes announce
@@ -134,11 +134,11 @@ prepared-held : Held preparedRelay
 unfolding rules shaped isBytes isByte
 prepared-held = record { shape = refl; ok = refl }
 
-announce-said : repliesOn announce (bytesOf preparedRelay) greatest ≡ spreads spreadBytes 2 ∷ []
+pub announce-said : (t : Tally) → repliesOn announce (bytesOf preparedRelay) t ≡ spreads spreadBytes 2 ∷ []
 unfolding rules goodPlan goodJudge ofTest
-announce-said =
-    run-on announce preparedRelay greatest announce-given (prepared-held .ok) (prepared-held .shape) .answers
-    ∙ ap (λ (o : Outcome). o .reply ∷ []) (judged-at announceBytes 1000 preparedRelay greatest announce-new announce-form 1 refl)
+announce-said t =
+    run-on announce preparedRelay t announce-given (prepared-held .ok) (prepared-held .shape) .answers
+    ∙ ap (λ (o : Outcome). o .reply ∷ []) (judged-at announceBytes 1000 preparedRelay t announce-new announce-form 1 refl)
 
 abbrev wrapped : Tally
 wrapped = tallyAfterOn announce (bytesOf preparedRelay) greatest
@@ -149,9 +149,9 @@ counted-on =
     let h = prepared-held in
     let tables = ok-bytes preparedRelay (h .shape) (h .ok) in
     let history = counts-history announce _ greatest announce-given (bytes-bytes preparedRelay (h .shape) (h .ok)) tables (omega arith) in (
-      history .total ∙ ap (λ (x : List Reply). (0xffff_ffff + number isAny x) % 2 ^ 32) announce-said,
-      history .spread ∙ ap (λ (x : List Reply). (0xffff_ffff + number isSpread x) % 2 ^ 32) announce-said,
-      history .dropped ∙ ap (λ (x : List Reply). (0xffff_ffff + number isDrop x) % 2 ^ 32) announce-said,
+      history .total ∙ ap (λ (x : List Reply). (0xffff_ffff + number isAny x) % 2 ^ 32) (announce-said greatest),
+      history .spread ∙ ap (λ (x : List Reply). (0xffff_ffff + number isSpread x) % 2 ^ 32) (announce-said greatest),
+      history .dropped ∙ ap (λ (x : List Reply). (0xffff_ffff + number isDrop x) % 2 ^ 32) (announce-said greatest),
     )
 
 -- ---- read-then-written: data of type 2

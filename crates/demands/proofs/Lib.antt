@@ -9,9 +9,11 @@ pub mod Demand2
 pub mod Demand3
 pub mod Keepalives
 pub mod Replays
+pub mod OwnAnnounces
 pub mod InstanceCalls
 pub mod Instance1
 pub mod Instance2
 pub mod Instance3
 pub mod InstanceKeepalives
 pub mod InstanceReplay
+pub mod InstanceAnnounce

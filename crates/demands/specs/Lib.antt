@@ -4,3 +4,4 @@ pub mod Bytes
 pub mod Refusals
 pub mod Keepalives
 pub mod Replays
+pub mod Drops

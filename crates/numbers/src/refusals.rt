@@ -1,4 +1,4 @@
-// Document 01's refusals, by name. The names are those of the library's header.
+// The refusals by name: document 01's first. The names are those of the library's header.
 pub const NONE: u8 = 0;
 
 pub const TOO_SHORT: u8 = 1;
@@ -22,3 +22,8 @@ pub const SETTING: u8 = 9;
 pub const LOCAL_FULL: u8 = 10;
 
 pub const LOCAL_ADDRESS: u8 = 11;
+
+// Those of document 02.
+pub const ANNOUNCE_PART: u8 = 26;
+
+pub const ANNOUNCE_TOO_LONG: u8 = 27;

@@ -1,7 +1,7 @@
--- Document 01, test 3 and "Blob": the fields of an announce's payload.
-use Prim.Native.Nat.{ℕ}
+-- Document 01, test 3 and "Blob": the fields of an announce's payload, in source 000's order.
+use Prim.Native.Nat.{ℕ, _+_}
 use mathlib.Core.List.{List, _++_}
-use lib.ListN.{take}
+use lib.ListN.{take, drop}
 use Rattle.octets.specs.Part.{part}
 use Rattle.octets.specs.BigEndian.{number}
 use Rattle.sha256.specs.Sha256.{sha256-of}
@@ -23,9 +23,25 @@ blobOf body = part body 74 10
 unfoldable pub emissionOf : List ℕ → ℕ
 emissionOf blob = number (part blob 5 5)
 
--- the least payload: 148, or 180 with the context flag, which says that a ratchet is there
+-- the context flag says that a ratchet is there, of 32 bytes
+unfoldable pub ratchetLength : ℕ → ℕ
+ratchetLength header = contextFlag header then 32 otherwise 0
+
+-- the ratchet: payload bytes 84..115, or none
+unfoldable pub ratchetOf : ℕ → List ℕ → List ℕ
+ratchetOf header body = part body 84 (ratchetLength header)
+
+-- the signature: the 64 bytes behind
+unfoldable pub signatureOf : ℕ → List ℕ → List ℕ
+signatureOf header body = part body (84 + ratchetLength header) 64
+
+-- the least payload, all fields but the app data: 148, or 180 with the context flag
 unfoldable pub leastAnnounce : ℕ → ℕ
-leastAnnounce header = contextFlag header then 180 otherwise 148
+leastAnnounce header = 64 + 10 + 10 + ratchetLength header + 64
+
+-- the app data: the rest
+unfoldable pub appDataOf : ℕ → List ℕ → List ℕ
+appDataOf header body = drop (leastAnnounce header) body
 
 -- the first 16 of SHA-256(the 64 key bytes)
 unfoldable pub identityHash : List ℕ → List ℕ

@@ -12,7 +12,7 @@ use Rattle.octets.proofs.Index.{and-no, and-yes}
 use Rattle.octets.proofs.Choice.{then-true, then-false, then-ap}
 use Rattle.octets.proofs.Listed.{none-any}
 use Rattle.packet.specs.Header.{contextFlag, packetKind, ofKindLink, isData, isAnnounce, isLinkRequest, isProof}
-use Rattle.packet.specs.Announce.{leastAnnounce}
+use Rattle.packet.specs.Announce.{ratchetLength, leastAnnounce}
 use Rattle.rules.specs.Relay.{Relay}
 use Rattle.rules.specs.Arrival.{Arrival, header, body, isLinkProof}
 use Rattle.rules.specs.Tests.{announceTooShort, requestOfKindLink, formTests, badForm}
@@ -53,7 +53,7 @@ module _ (a : Arrival) where
 module _ (a : Arrival) (good : badForm (a .bytes) ≡ false) where
   -- an announce has room for its blob
   pub announce-long : isAnnounce (header a) ≡ true → 84 ≤ length (body a)
-  unfolding badForm formTests announceTooShort leastAnnounce _then_otherwise_
+  unfolding badForm formTests announceTooShort ratchetLength leastAnnounce _then_otherwise_
   announce-long is = go (contextFlag (header a)) refl
     where
       short : ltb (length (body a)) (leastAnnounce (header a)) ≡ false

@@ -11,7 +11,7 @@ use Rattle.packet.specs.Header.{accessCode, typeTwo, contextFlag, destinationKi
 use Rattle.packet.specs.Read.{typeOneParts, typeTwoParts, partsOf, payloadStart, payload, readingRows, readingRefusal, reads, reading}
 use Rattle.packet.specs.Write.{addresses, packetOf}
 use Rattle.packet.specs.Hash.{hashedPart, packetHash, linkId}
-use Rattle.packet.specs.Announce.{keysOf, nameHashOf, blobOf, emissionOf, leastAnnounce, identityHash, announcedDestination}
+use Rattle.packet.specs.Announce.{keysOf, nameHashOf, blobOf, emissionOf, ratchetLength, leastAnnounce, identityHash, announcedDestination}
 use Rattle.octets.specs.Listed.{firstOf, anyHolds, valued}
 use Rattle.octets.proofs.Listed.{told}
 use Rattle.numbers.specs.Numbers.{pathLifetime}
@@ -45,8 +45,8 @@ lists = tt
 -- packets
 unfoldable pub layout : Unit {0}
 unfolding accessCode typeTwo contextFlag destinationKind packetKind typeOneParts typeTwoParts partsOf payloadStart payload
-    readingRows readingRefusal reads reading addresses packetOf hashedPart packetHash linkId keysOf nameHashOf blobOf emissionOf leastAnnounce
-    identityHash announcedDestination
+    readingRows readingRefusal reads reading addresses packetOf hashedPart packetHash linkId keysOf nameHashOf blobOf emissionOf ratchetLength
+    leastAnnounce identityHash announcedDestination
 layout = tt
 
 -- the relay, and what is read of it

@@ -2,9 +2,9 @@
 //! can show it, on packets, or on recordings.
 
 use super::lockstep::{compare, Difference};
-use super::{packet, recording, shrink, Options, Tally};
+use super::{announcing, packet, recording, shrink, Options, Tally};
 use crate::engine::Call;
-use crate::faults::{self, Fault, OF_PACKETS, OF_RECORDINGS};
+use crate::faults::{self, Fault, OF_ANNOUNCING, OF_PACKETS, OF_RECORDINGS};
 use crate::linked::Core;
 use crate::relay::Relay;
 use crate::rules::{AsWritten, Rules};
@@ -17,8 +17,12 @@ const RANDOM_PACKETS: usize = 20;
 pub fn run(options: &Options, tally: &mut Tally) {
     for fault in options.fault.map_or_else(faults::all, |fault| vec![fault]) {
         let of_recordings = is_among(OF_RECORDINGS, fault);
-        let difference = if of_recordings { None } else { notice(options, fault) };
-        let noticed = difference.is_some() || in_packets(options, fault) || of_recordings && in_recordings(options, fault);
+        let of_announcing = is_among(OF_ANNOUNCING, fault);
+        let difference = if of_recordings || of_announcing { None } else { notice(options, fault) };
+        let noticed = difference.is_some()
+            || in_packets(options, fault)
+            || of_recordings && in_recordings(options, fault)
+            || of_announcing && in_announcing(options, fault);
         tally.holds(&format!("{} is noticed ({})", fault.name, fault.text), noticed, false);
         if options.fault.is_none() {
             continue;
@@ -31,6 +35,7 @@ pub fn run(options: &Options, tally: &mut Tally) {
                 println!("{}", shrink::again(&format!("faults --fault {}", fault.name), options, difference.calls, shown));
             }
             None if noticed && of_recordings => println!("    by recordings"),
+            None if noticed && of_announcing => println!("    by announces of our own"),
             None if noticed => println!("    by packets alone"),
             None => {}
         }
@@ -57,6 +62,11 @@ fn is_among(lists: &[&[Fault]], fault: Fault) -> bool {
 /// Does the comparison of recordings show a fault? With `--damage` there is none to show.
 fn in_recordings(options: &Options, fault: Fault) -> bool {
     !options.damage && recording::programs_differ(&Core, &fault.relay())
+}
+
+/// Does the comparison of our own announces show a fault?
+fn in_announcing(options: &Options, fault: Fault) -> bool {
+    !options.damage && announcing::programs_differ(&Core, &fault.relay())
 }
 
 /// Does the comparison of packets show a fault that traffic can't?

@@ -1,5 +1,6 @@
 //! The comparisons, a module for each subject.
 
+pub mod announcing;
 pub mod coverage;
 pub mod faults;
 pub mod listed;
@@ -55,6 +56,7 @@ pub type Subject = (&'static str, fn(&Options, &mut Tally));
 pub const SUBJECTS: &[Subject] = &[
     ("sha256", sha256::run),
     ("packet", packet::run),
+    ("announcing", announcing::run),
     ("tables", tables::run),
     ("relay", relay::run),
     ("renumbering", renumbering::run),

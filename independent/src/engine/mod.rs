@@ -1,9 +1,11 @@
 //! What makes calls on a relay: the independent relay, and in `linked` the proved core.
 
+mod announcing;
 mod call;
 mod packets;
 mod recordings;
 
+pub use announcing::AnnounceCalls;
 pub use call::{Call, PacketCall};
 pub use packets::PacketCalls;
 pub use recordings::{Fields, RecordingCalls};

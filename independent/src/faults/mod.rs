@@ -3,6 +3,7 @@
 
 mod accepting;
 mod announces;
+mod announcing;
 mod asking;
 mod by_path;
 mod check;
@@ -19,6 +20,7 @@ mod with;
 
 pub use accepting::*;
 pub use announces::*;
+pub use announcing::*;
 pub use asking::*;
 pub use by_path::*;
 pub use check::*;
@@ -77,8 +79,11 @@ const OF_JUDGING: &[&[Fault]] = &[
 /// Those that show in recordings alone.
 pub const OF_RECORDINGS: &[&[Fault]] = &[recordings::FAULTS];
 
+/// Those that show in announces of our own alone.
+pub const OF_ANNOUNCING: &[&[Fault]] = &[announcing::FAULTS];
+
 pub fn all() -> Vec<Fault> {
-    [OF_PACKETS, OF_TABLES, OF_JUDGING, OF_RECORDINGS].concat().concat()
+    [OF_PACKETS, OF_TABLES, OF_JUDGING, OF_RECORDINGS, OF_ANNOUNCING].concat().concat()
 }
 
 pub fn named(name: &str) -> Option<Fault> {

@@ -1,0 +1,5 @@
+pub mod Lengths
+pub mod WriteLaws
+pub mod Fields
+pub mod RoundTrip
+pub mod Example

@@ -1,0 +1,48 @@
+use mathlib.Core.Path.{ap}
+use Prim.Native.Nat.{ℕ}
+use lib.ListN.{replicate, length-replicate}
+use Rattle.packet.specs.Announce.{announcedDestination}
+use Rattle.announcing.proofs.WriteLaws.{filled}
+use native.Mathlib.Omega.{arith}
+use borrow.Author.Needs.{needs}
+use Rattle.announcing.proofs.builder.destination_of.Statement.{statement}
+use Rattle.announcing.proofs.builder.destination_of.Tie as tie
+
+slice-aggregate-copy-at : tie.Need-slice-aggregate-copy-at
+slice-aggregate-copy-at c = search needs
+
+copy-at-requires : tie.Need-copy-at-requires
+copy-at-requires c κs = search needs
+
+slice-aggregate-copy-at-2 : tie.Need-slice-aggregate-copy-at-2
+slice-aggregate-copy-at-2 c = search needs
+
+copy-at-requires-2 : tie.Need-copy-at-requires-2
+copy-at-requires-2 c κs = search needs
+
+slice-aggregate-announced-destination : tie.Need-slice-aggregate-announced-destination
+slice-aggregate-announced-destination c = search needs
+
+announced-destination-requires : tie.Need-announced-destination-requires
+announced-destination-requires c κs = search needs
+
+returns : tie.Need-returns
+returns c =
+    let c3 = c .before .before .before in
+    let c6 = c3 .before .before .before in
+    let a = c6 .before .before .before .before .args in
+    let pre = c6 .before .before .before .before .pre in
+    rw (c .announced-destination .ensures, c3 .copy-at2 .ensures, c6 .copy-at .ensures)
+    (ap announcedDestination (filled (replicate 74 0) (a .keys .now) (a .name-hash .now) 64 (pre .0) (omega (arith, pre .1, length-replicate {A = ℕ} 74 0))))
+
+pub destination-of-spec : {M : Type 1} → statement M
+destination-of-spec =
+    tie.close
+    (tie.spec
+    slice-aggregate-copy-at
+    copy-at-requires
+    slice-aggregate-copy-at-2
+    copy-at-requires-2
+    slice-aggregate-announced-destination
+    announced-destination-requires
+    returns)

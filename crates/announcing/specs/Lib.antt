@@ -1,0 +1,3 @@
+-- Announces of our own: document 02, Wish 12.
+pub mod Announcing
+pub mod Steps
