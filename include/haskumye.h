@@ -560,7 +560,7 @@ static inline const char *haskumye_refusal_words(unsigned refusal)
     case HASKUMYE_REFUSAL_LOCAL_ADDRESS: return "adding a local address already there, or removing one not there";
     case HASKUMYE_REFUSAL_FILE_LENGTH: return "file too long or shorter than its contents (saved: another length)";
     case HASKUMYE_REFUSAL_FILE_KIND: return "kind or edition";
-    case HASKUMYE_REFUSAL_FILE_PLACE: return "offset, length or file end that breaks the rule (saved: another count than 8)";
+    case HASKUMYE_REFUSAL_FILE_PLACE: return "offset, length, count or file end that breaks the rule";
     case HASKUMYE_REFUSAL_SIGNATURE_WORD: return "signature word";
     case HASKUMYE_REFUSAL_FILE_BODY: return "saved body of wrong size, or with bytes that no relay has";
     case HASKUMYE_REFUSAL_ROOM: return "too little room (loading: not the tables' size)";

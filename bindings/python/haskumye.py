@@ -96,7 +96,7 @@ class Refusal(Words):
     LOCAL_ADDRESS = 11, "adding a local address already there, or removing one not there"
     FILE_LENGTH = 20, "file too long or shorter than its contents (saved: another length)"
     FILE_KIND = 21, "kind or edition"
-    FILE_PLACE = 22, "offset, length or file end that breaks the rule (saved: another count than 8)"
+    FILE_PLACE = 22, "offset, length, count or file end that breaks the rule"
     SIGNATURE_WORD = 23, "signature word"
     FILE_BODY = 24, "saved body of wrong size, or with bytes that no relay has"
     ROOM = 25, "too little room (loading: not the tables' size)"

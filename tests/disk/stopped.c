@@ -240,7 +240,8 @@ static int is_old_or_new(enum loaded loaded, int had_old)
     if (loaded == NOTHING_SAVED) {
         return !had_old;
     }
-    return loaded == LOADED && (is_state(&loaded_state, &new_state) || (had_old && is_state(&loaded_state, &old_state)));
+    return loaded == LOADED &&
+           (is_state(&loaded_state, &new_state) || (had_old && is_state(&loaded_state, &old_state)));
 }
 
 static int is_new(enum loaded loaded)
@@ -299,7 +300,7 @@ static void cut_power(const char *folder, const struct bytes *old)
 
 /* ---- every step ---- */
 
-/* Saves the new state over the old one, if there is one; the call at this step ends so. Whether there was such a step. */
+/* Saves the new state over the old one, if there is one; the call at a step ends so. Whether there was such a step. */
 static int try_step(const char *folder, int had_old, int step, enum ending ending)
 {
     static struct bytes old;
@@ -322,7 +323,8 @@ static int try_step(const char *folder, int had_old, int step, enum ending endin
     }
     cut_power(folder, &old);
     save_until(folder, &new_state, NO_STEP, BEFORE); /* over what the stop left behind */
-    expect(writer->result == 1 && is_new(load_quietly(folder, &loaded_state)), "the next save", step, ending_words[ending]);
+    loaded = load_quietly(folder, &loaded_state);
+    expect(writer->result == 1 && is_new(loaded), "the next save", step, ending_words[ending]);
     return 1;
 }
 
@@ -336,8 +338,8 @@ static void try_every_step(const char *folder, int had_old)
         expect(step >= 8, "every step was seen", step, ending_words[ending]);
     }
     save_until(folder, &new_state, NO_STEP, BEFORE);
-    expect(strcmp(writer->calls, "open openat write fsync close renameat fsync close ") == 0, "the calls in their order",
-           writer->step, writer->calls);
+    expect(strcmp(writer->calls, "open openat write fsync close renameat fsync close ") == 0,
+           "the calls in their order", writer->step, writer->calls);
 }
 
 /* ---- files that lost bytes ---- */

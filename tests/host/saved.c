@@ -91,7 +91,8 @@ static void expect_load(const char *what, struct buffer file, size_t size, uint6
 /* Saves into a room of this size, and expects this refusal. The buffer is the file, empty where there is none. */
 static struct buffer save(struct buffer tables, struct buffer tally, size_t room, uint64_t refusal)
 {
-    struct use use = {.tables = buffer_copy(tables.bytes, tables.length), .tally = buffer_copy(tally.bytes, tally.length),
+    struct use use = {.tables = buffer_copy(tables.bytes, tables.length),
+                      .tally = buffer_copy(tally.bytes, tally.length),
                       .output = buffer_new(room, FILL)};
     size_t length = refusal == HASKUMYE_REFUSAL_NONE ? HASKUMYE_SAVED_SIZE : 0;
     expect("saving", library_call(SAVE_TABLES, &use), (uint64_t)length << 16 | refusal);
@@ -157,7 +158,9 @@ static void load_resized(struct buffer file, size_t length, uint64_t refusal)
 {
     static const size_t sizes[] = {0, HASKUMYE_TABLE_SIZE - 1, HASKUMYE_TABLE_SIZE, HASKUMYE_TABLE_SIZE + 1};
     struct buffer resized = buffer_new(length, 0);
-    memcpy(resized.bytes, file.bytes, length < file.length ? length : file.length);
+    if (length > 0) {
+        memcpy(resized.bytes, file.bytes, length < file.length ? length : file.length);
+    }
     for (size_t i = 0; i < sizeof sizes / sizeof sizes[0]; i++) {
         uint64_t size_refusal = sizes[i] == HASKUMYE_TABLE_SIZE ? 0 : HASKUMYE_REFUSAL_ROOM;
         expect_load("a file of some length", resized, sizes[i], refusal != 0 ? refusal : size_refusal);
@@ -185,7 +188,7 @@ static void try_heads(struct buffer file)
     load_changed(file, 2, 2, ENTRIES - 1, HASKUMYE_REFUSAL_FILE_LENGTH);
     load_changed(file, 2, 2, 0, HASKUMYE_REFUSAL_FILE_LENGTH);
     load_changed(file, 2, 2, 0xffff, HASKUMYE_REFUSAL_FILE_LENGTH);
-    /* A count that adds up: of no entries, and of seven whose lengths are those of a file six bytes and a tally shorter */
+    /* A count that adds up: of no entries, and of seven, in a file that lacks an entry and the tally. */
     static uint8_t empty[] = {2, 1, 0, 0};
     expect_load("a file of no entries", (struct buffer){empty, sizeof empty}, 0, HASKUMYE_REFUSAL_FILE_PLACE);
     put_number(file.bytes + 2, 2, ENTRIES - 1);

@@ -50,7 +50,7 @@ numbered! {
         LocalAddress = 11 "adding a local address already there, or removing one not there",
         FileLength = 20 "file too long or shorter than its contents (saved: another length)",
         FileKind = 21 "kind or edition",
-        FilePlace = 22 "offset, length or file end that breaks the rule (saved: another count than 8)",
+        FilePlace = 22 "offset, length, count or file end that breaks the rule",
         SignatureWord = 23 "signature word",
         FileBody = 24 "saved body of wrong size, or with bytes that no relay has",
         Room = 25 "too little room (loading: not the tables' size)",
