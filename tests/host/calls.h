@@ -1,4 +1,4 @@
-/* A list of calls, a line each, as independent/src/compare/record.rs writes it. */
+/* A list of calls, a line each, as independent/src/compare/answered.rs writes it. */
 #ifndef HOST_CALLS_H
 #define HOST_CALLS_H
 

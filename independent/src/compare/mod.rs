@@ -1,12 +1,12 @@
 //! The comparisons, a module for each subject.
 
 pub mod announcing;
+pub mod answered;
 pub mod coverage;
 pub mod faults;
 pub mod listed;
 pub mod lockstep;
 pub mod packet;
-pub mod record;
 pub mod recording;
 mod relay;
 mod renumbering;

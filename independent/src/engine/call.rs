@@ -63,8 +63,8 @@ pub enum Call {
 }
 
 impl Call {
-    /// Is it recorded for hosts in other languages? They set no tally, and are asked nothing.
-    pub fn is_recorded(&self) -> bool {
+    /// Is it listed for hosts in other languages? They set no tally, and are asked nothing.
+    pub fn is_for_hosts(&self) -> bool {
         !matches!(self, Call::Tally(_)) && !self.is_question()
     }
 
