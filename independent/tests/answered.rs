@@ -17,7 +17,7 @@ fn it_is_a_list_with_an_answer_to_each_call() {
     assert_eq!(text.lines().next(), Some(&format!("# {} calls of seed 3", calls.len())[..]));
     assert_eq!(text.lines().count(), 1 + calls.len());
     for (line, call) in text.lines().skip(1).zip(&calls) {
-        let edit = matches!(call, Call::Save | Call::Restore | Call::Write { .. } | Call::Copy { .. } | Call::Resize(_));
+        let edit = matches!(call, Call::PutAside | Call::TakeBack | Call::Write { .. } | Call::Copy { .. } | Call::Resize(_));
         assert_ne!(line.contains(" = "), edit, "{line}");
     }
     assert!(listed::read(&path) == Ok(calls));

@@ -6,7 +6,7 @@
 #include "library.h"
 
 /* A call of the library, or what its caller does to the tables in between. */
-enum edit { NO_EDIT, SAVE, RESTORE, OVERWRITE, COPY, RESIZE };
+enum edit { NO_EDIT, PUT_ASIDE, TAKE_BACK, OVERWRITE, COPY, RESIZE };
 
 struct listed {
     enum function function; /* NOTHING for an edit */

@@ -44,8 +44,8 @@ pub enum Call {
         room: usize,
     },
     /// Puts a copy of the tables aside, and takes it back.
-    Save,
-    Restore,
+    PutAside,
+    TakeBack,
     /// Writes bytes into the tables.
     Write {
         at: usize,
@@ -117,8 +117,8 @@ impl fmt::Display for Call {
             Call::Renumber(map) => write!(f, "renumber {}", Digits(map)),
             Call::Ask { question, fill } => write!(f, "ask into {fill:02x} {}", Asked(question)),
             Call::Matters { packet, port, clock, room } => write!(f, "matters port {port} clock {clock} room {room} {}", Digits(packet)),
-            Call::Save => f.write_str("save"),
-            Call::Restore => f.write_str("restore"),
+            Call::PutAside => f.write_str("put aside"),
+            Call::TakeBack => f.write_str("take back"),
             Call::Write { at, bytes } => write!(f, "write at {at} {}", Digits(bytes)),
             Call::Copy { from, to, length } => write!(f, "copy {length} from {from} to {to}"),
             Call::Resize(length) => write!(f, "resize to {length}"),
@@ -162,8 +162,8 @@ fn call_of(words: &[&str]) -> Option<Call> {
         ["matters", "port", port, "clock", clock, "room", room, packet] => {
             Call::Matters { packet: bytes_of(packet)?, port: port.parse().ok()?, clock: clock.parse().ok()?, room: room.parse().ok()? }
         }
-        ["save"] => Call::Save,
-        ["restore"] => Call::Restore,
+        ["put", "aside"] => Call::PutAside,
+        ["take", "back"] => Call::TakeBack,
         ["write", "at", at, bytes] => Call::Write { at: at.parse().ok()?, bytes: bytes_of(bytes)? },
         ["copy", length, "from", from, "to", to] => {
             Call::Copy { from: from.parse().ok()?, to: to.parse().ok()?, length: length.parse().ok()? }
@@ -227,7 +227,7 @@ mod tests {
         let address = "00112233445566778899aabbccddeeff";
         assert!(format!(" add  local {address} ").parse() == Ok(Call::AddLocal(array_of(address).expect("sixteen bytes"))));
         for line in
-            ["", "save me", "add local 00", "set port 1 on 1 mode 0", "write at 3 0", "write at 3 0g", "resize to -1", "tally 1 2 3"]
+            ["", "put aside me", "add local 00", "set port 1 on 1 mode 0", "write at 3 0", "write at 3 0g", "resize to -1", "tally 1 2 3"]
         {
             assert!(line.parse::<Call>().is_err(), "{line}");
         }

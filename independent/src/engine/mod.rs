@@ -119,13 +119,13 @@ pub struct Run<E: Engine> {
     pub tables: Vec<u8>,
     pub tally: Tally,
     pub output: Vec<u8>,
-    saved: Vec<u8>,
+    aside: Vec<u8>,
 }
 
 impl<E: Engine> Run<E> {
     pub fn new(engine: E) -> Self {
         let tables = vec![0; tables::SIZE];
-        Self { engine, saved: tables.clone(), tables, tally: [0; 6], output: Vec::new() }
+        Self { engine, aside: tables.clone(), tables, tally: [0; 6], output: Vec::new() }
     }
 
     /// Makes one call. None is what the caller does on its own.
@@ -174,8 +174,8 @@ impl<E: Engine> Run<E> {
         let size = self.tables.len();
         let within = |at: usize, length: usize| at.checked_add(length).is_some_and(|end| end <= size);
         match call {
-            Call::Save => self.saved.clone_from(&self.tables),
-            Call::Restore => self.tables.clone_from(&self.saved),
+            Call::PutAside => self.aside.clone_from(&self.tables),
+            Call::TakeBack => self.tables.clone_from(&self.aside),
             Call::Write { at, bytes } if within(*at, bytes.len()) => self.tables[*at..*at + bytes.len()].copy_from_slice(bytes),
             Call::Copy { from, to, length } if within(*from, *length) && within(*to, *length) => {
                 self.tables.copy_within(*from..*from + *length, *to)

@@ -42,7 +42,7 @@ impl Traffic {
         if !self.lent {
             return;
         }
-        self.queue.push_back(Call::Save);
+        self.queue.push_back(Call::PutAside);
         for _ in 0..1 + self.random.below(2) {
             self.change();
         }
@@ -55,7 +55,7 @@ impl Traffic {
             self.call_on_lent();
             self.queue.push_back(Call::Fresh(self.world.own));
         }
-        self.queue.push_back(Call::Restore);
+        self.queue.push_back(Call::TakeBack);
     }
 
     /// Lends some fresh relays, whose address tells, a tally that is soon at its end.
