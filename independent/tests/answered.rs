@@ -10,7 +10,7 @@ use std::path::PathBuf;
 #[test]
 fn it_is_a_list_with_an_answer_to_each_call() {
     let path = PathBuf::from(env!("CARGO_TARGET_TMPDIR")).join("answered.calls");
-    let calls: Vec<Call> = Traffic::new(3).take(1_000).filter(Call::is_for_hosts).collect();
+    let calls: Vec<Call> = Traffic::for_hosts(3).take(1_000).filter(Call::is_for_hosts).collect();
     let options = Options { seed: 3, calls: 1_000, ..Options::default() };
     assert_eq!(answered::write(&options, &path), Ok(calls.len()));
     let text = fs::read_to_string(&path).expect("it was written");
@@ -27,7 +27,7 @@ fn it_is_a_list_with_an_answer_to_each_call() {
 #[test]
 fn the_gates_list_reaches_every_refusal_reason_and_verdict() {
     let (mut run, mut coverage) = (Run::new(Relay::as_written()), Coverage::default());
-    for call in Traffic::new(1).take(20_000) {
+    for call in Traffic::for_hosts(1).take(20_000) {
         let remembered = coverage.is_remembered(&call, &run.tables);
         if let Some(outcome) = run.make(&call) {
             coverage.count(&outcome);

@@ -6,6 +6,7 @@ use super::{listed, Options};
 use crate::engine::{Call, Engine, Outcome, Run};
 use crate::linked;
 use crate::relay::Relay;
+use crate::traffic::Traffic;
 use std::path::Path;
 
 /// Takes bytes into a sum, eight at a time, little-endian, the last ones filled up with zeros. Each step is one-to-one in the sum and in the word, so
@@ -35,7 +36,10 @@ fn number(call: &Call, outcome: &Outcome) -> u64 {
 
 /// Writes the calls that the options name, with what the independent relay makes of them.
 pub fn write(options: &Options, path: &Path) -> Result<usize, String> {
-    let calls: Vec<Call> = options.traffic().filter(Call::is_for_hosts).collect();
+    let calls: Vec<Call> = match &options.list {
+        Some(list) => list.iter().filter(|call| call.is_for_hosts()).cloned().collect(),
+        None => Traffic::for_hosts(options.seed).take(options.calls).filter(Call::is_for_hosts).collect(),
+    };
     let mut run = Run::new(Relay::as_written());
     let lines = calls.iter().map(|call| match run.make(call) {
         Some(outcome) => format!("{call} = {:x} {:016x}", number(call, &outcome), left_by(call, &run)),
