@@ -9,6 +9,8 @@ pub mod Demand2
 pub mod Demand3
 pub mod Keepalives
 pub mod Replays
+pub mod Fourteen
+pub mod Lengths
 pub mod OwnAnnounces
 pub mod InstanceCalls
 pub mod Instance1
@@ -17,3 +19,4 @@ pub mod Instance3
 pub mod InstanceKeepalives
 pub mod InstanceReplay
 pub mod InstanceAnnounce
+pub mod InstanceLengths

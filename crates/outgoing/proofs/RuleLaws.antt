@@ -14,7 +14,8 @@ use Rattle.rules.specs.Arrival.{Arrival}
 use Rattle.rules.specs.Ways.{Way, everywhere, by-path, along-link, by-return, blocked}
 use Rattle.rules.specs.Outgoing.{spreadPacket, pathPacket, carriedPacket, exceeds, grownTooLong}
 use Rattle.outgoing.specs.Leaving.{spreadLength}
-use Rattle.outgoing.proofs.LeavingLaws.{spread-length, rewritten-length, path-room, path-last, path-next-hop, carried-length}
+use Rattle.rules.proofs.Lengths.{rewritten-length, path-last, path-next-hop, carried-length}
+use Rattle.outgoing.proofs.LeavingLaws.{spread-length, path-room}
 
 -- ---- a spread announce: what decides whether it is kept
 pub spread-exceeds : (own p : List ℕ) → reads longestPacket p ≡ true → length own ≡ 16 → exceeds (spreadPacket own p) ≡ ltb longestPacket (spreadLength p)

@@ -22,6 +22,8 @@ pub mod Ranges
 pub mod Valid
 pub mod Images
 pub mod PortSets
+pub mod Lengths
+pub mod Fourteen
 pub mod AnswerFits
 pub mod MovedPorts
 pub mod SlotsRenamed
