@@ -9,7 +9,6 @@ pub mod Demand2
 pub mod Demand3
 pub mod Keepalives
 pub mod Replays
-pub mod Fourteen
 pub mod Lengths
 pub mod OwnAnnounces
 pub mod InstanceCalls

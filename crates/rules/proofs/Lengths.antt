@@ -101,7 +101,7 @@ module _ (hops : ℕ) (nextHop p : List ℕ) where
 
 -- ---- the lengths
 module _ (p : List ℕ) (n : ℕ) where
-  pub as-it-came : n ≡ length p → forwardedLength p n ≡ true
+  as-it-came : n ≡ length p → forwardedLength p n ≡ true
   unfolding forwardedLength
   as-it-came e = or-left _ (eq-eqb n (length p) e)
 
@@ -110,7 +110,7 @@ module _ (p : List ℕ) (n : ℕ) where
   sixteen-shorter e = or-right _ (eq-eqb (n + 16) (length p) e)
 
 module _ (p : List ℕ) (h : reads longestPacket p ≡ true) where
-  pub path-length : (hops : ℕ) (nextHop : List ℕ) → length nextHop ≡ 16 → forwardedLength p (length (pathPacket hops nextHop p)) ≡ true
+  path-length : (hops : ℕ) (nextHop : List ℕ) → length nextHop ≡ 16 → forwardedLength p (length (pathPacket hops nextHop p)) ≡ true
   path-length hops nextHop wide = go (eqb hops 0) refl
     where
       -- on the last hop a packet of type 2 loses its relay address
@@ -139,7 +139,7 @@ module _ (p : List ℕ) (h : reads longestPacket p ≡ true) where
       (body-length longestPacket p h)
 
   -- a packet that reads is at most 500 long, and so is what is no longer
-  pub forwarded-short : (n : ℕ) → forwardedLength p n ≡ true → n ≤ longestPacket
+  forwarded-short : (n : ℕ) → forwardedLength p n ≡ true → n ≤ longestPacket
   unfolding forwardedLength _or_
   forwarded-short n f = go (eqb n (length p)) refl f
     where
@@ -189,7 +189,7 @@ module _ (v : View) (a : Arrival) (h : reads longestPacket (a .bytes) ≡ true) 
       → (leb n longestPacket and not (isAnnounce (header a)) and forwardedLength (a .bytes) n) ≡ true
   forwarded none n f = and-both (le-leb n longestPacket (forwarded-short (a .bytes) h n f)) (and-both (ap not none) f)
 
-  pub way-length : (w : Way) → Sent v a w → verdictLengthOk (a .bytes) (wayVerdict v a w) ≡ true
+  way-length : (w : Way) → Sent v a w → verdictLengthOk (a .bytes) (wayVerdict v a w) ≡ true
   unfolding wayVerdict verdictLengthOk outgoing spreadVerdict exceeds
   way-length (everywhere known) s =
       either (λ (x : Verdict). verdictLengthOk (a .bytes) x ≡ true) _ (λ _. s)
@@ -211,18 +211,22 @@ module _ (v : View) (a : Arrival) (h : reads longestPacket (a .bytes) ≡ true) 
 
 -- ---- the theorem: of every packet call on a relay whose addresses are addresses
 module _ (r : Relay) (wide : addressed r ≡ true) where
-  pub own-wide : length (r .own) ≡ 16
+  own-wide : length (r .own) ≡ 16
   unfolding addressed isAddress
   own-wide = eqb-true _ 16 (and-left _ _ wide)
 
-  pub hop-wide : (clock : ℕ) (destination : List ℕ) (p : Path) → viewAt clock r .path destination ≡ used p → length (p .nextHop) ≡ 16
+  hop-wide : (clock : ℕ) (destination : List ℕ) (p : Path) → viewAt clock r .path destination ≡ used p → length (p .nextHop) ≡ 16
   unfolding viewAt addressed byAddress isAddress slotOk
   hop-wide clock destination p e =
       eqb-true _ 16 (subst (λ (s : Slot Path). slotOk byAddress s ≡ true) e (all-getD (slotOk byAddress) (r .paths) _ empty (and-right _ _ wide) refl))
 
+  pub judged-length : (a : Arrival) (room : ℕ) → eqb (packetRefusal r a room) 0 ≡ true
+      → verdictLengthOk (a .bytes) (verdict (viewAt (a .clock) r) a (plan (viewAt (a .clock) r) a)) ≡ true
+  unfolding viewAt
+  judged-length a room e = plan-length (viewAt (a .clock) r) a (accepted-reads r a room e) own-wide (hop-wide (a .clock) (destination a))
+
   pub lengths-kept : (a : Arrival) (t : Tally) (output : List ℕ) → answerLengthOk (a .bytes) (packetCall a r t output .answer) ≡ true
-  unfolding packetCall judge judged viewAt answerLengthOk
+  unfolding packetCall judge judged answerLengthOk
   lengths-kept a t output =
       either (λ (j : Judgement). answerLengthOk (a .bytes) (j .answer) ≡ true) (eqb (packetRefusal r a (length output)) 0)
-      (λ e. plan-length (viewAt (a .clock) r) a (accepted-reads r a (length output) e) own-wide (hop-wide (a .clock) (destination a)))
-      (λ _. refl)
+      (judged-length a (length output)) (λ _. refl)

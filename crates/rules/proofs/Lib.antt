@@ -23,7 +23,6 @@ pub mod Valid
 pub mod Images
 pub mod PortSets
 pub mod Lengths
-pub mod Fourteen
 pub mod AnswerFits
 pub mod MovedPorts
 pub mod SlotsRenamed
