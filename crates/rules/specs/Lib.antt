@@ -6,6 +6,7 @@ pub mod Arrival
 pub mod Refusals
 pub mod Blobs
 pub mod Exempt
+pub mod Rate
 pub mod Ways
 pub mod Tests
 pub mod Answers
@@ -16,3 +17,4 @@ pub mod Calls
 pub mod Questions
 pub mod Run
 pub mod Keepalives
+pub mod Chatty
