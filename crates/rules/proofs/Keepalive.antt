@@ -18,7 +18,7 @@ use Rattle.rules.specs.View.{View}
 use Rattle.rules.specs.Arrival.{Arrival, header, hops, destination, isLinkProof}
 use Rattle.rules.specs.Exempt.{exemptContext, exempt}
 use Rattle.rules.specs.Ways.{Way, along-link, linkWay, wayOn}
-use Rattle.rules.specs.Tests.{notOurs, testedAsDuplicate, duplicate, typeTwoProof, typeTwoOfKindLink, announceNotSingle, announceTooShort, announceOfAnother, requestOfKindLink, requestTooShort, linkProofLength, formTests, badForm, ownAnnounce, deliveredHere, tooManyHops, noWayOn, alreadyKnown, fromAnsweringSide, fromAskingSide, wrongSide, notSigned, replay, notBetter, leavingPort, portOff, noRoom}
+use Rattle.rules.specs.Tests.{notOurs, testedAsDuplicate, duplicate, typeTwoProof, typeTwoOfKindLink, announceNotSingle, announceTooShort, announceOfAnother, requestOfKindLink, requestTooShort, linkProofLength, formTests, badForm, ownAnnounce, deliveredHere, tooManyHops, noWayOn, alreadyKnown, fromAnsweringSide, fromAskingSide, wrongSide, notSigned, ofKnown, replay, notBetter, rateLimited, leavingPort, portOff, noRoom}
 use Rattle.rules.specs.Outgoing.{carriedPacket, exceeds, grownTooLong}
 use Rattle.rules.specs.Judging.{follows, earlyTests, onwardTests, onwardPlan, plan}
 use Rattle.rules.specs.Keepalives.{isKeepalive, keepsAlive}
@@ -132,7 +132,7 @@ module _ (l : Link) (a : Arrival) (k : keepsAlive l a ≡ true) where
 
     late-none : length (a .bytes) ≤ longestPacket → v .on (l .asking) ≡ true → v .on (l .answering) ≡ true
         → firstOf (onwardTests v a (along-link l)) (follows (along-link l)) ≡ follows (along-link l)
-    unfolding onwardTests noWayOn alreadyKnown notSigned replay notBetter portOff noRoom grownTooLong exceeds carriedPacket
+    unfolding onwardTests noWayOn alreadyKnown notSigned ofKnown replay notBetter rateLimited portOff noRoom grownTooLong exceeds carriedPacket
     late-none short asking answering =
         let fits : length (set (a .bytes) 1 (hops a + 1)) ≤ longestPacket = rw length-set short in
         none-first (onwardTests v a (along-link l)) _ (
@@ -148,8 +148,11 @@ module _ (l : Link) (a : Arrival) (k : keepsAlive l a ≡ true) where
                   (
                     refl,
                     (
-                      ap (λ (b : Bool). not (isAnnounce (header a)) and not b) (port-on asking answering) ∙ and-false _,
-                      (refl, (le-ltb _ _ fits, tt)),
+                      refl,
+                      (
+                        ap (λ (b : Bool). not (isAnnounce (header a)) and not b) (port-on asking answering) ∙ and-false _,
+                        (refl, (le-ltb _ _ fits, tt)),
+                      ),
                     ),
                   ),
                 ),

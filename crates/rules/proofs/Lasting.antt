@@ -20,7 +20,7 @@ use Rattle.packet.specs.Read.{longestPacket, readingRefusal}
 use Rattle.packet.specs.Hash.{linkId}
 use Rattle.packet.proofs.ReadLaws.{readable}
 use Rattle.numbers.specs.Numbers.{portCount, linkCount, provedLifetime, live}
-use Rattle.rules.specs.Relay.{Port, Slot, empty, used, makePort, noPort, Path, Relay, holds, free, lowestFree, withClock, withPorts, withLocals, withPaths, withLinks, withReturns, withHashes}
+use Rattle.rules.specs.Relay.{Port, Slot, empty, used, makePort, noPort, Path, Relay, holds, free, lowestFree, withClock, withRate, withPorts, withLocals, withPaths, withLinks, withReturns, withHashes}
 use Rattle.rules.specs.View.{View, viewAt, portOn, isLiveLink, linkPlace, freeLink}
 use Rattle.rules.specs.Refusals.{slotOk, linkOk, packetRows, packetRefusal, refusalBy}
 use Rattle.rules.specs.Arrival.{Arrival, header, hops, destination}
@@ -29,7 +29,7 @@ use Rattle.rules.specs.Tests.{isThere, alreadyKnown, fromAnsweringSide, 
 use Rattle.rules.specs.Outgoing.{outgoing, carriedPacket}
 use Rattle.rules.specs.Judging.{Plan, dropped, delivered, follows, plan, verdict, wayVerdict, leaves, outputAfter}
 use Rattle.rules.specs.Writes.{putPath, putReturn, emptyReturn, linkRecord, putLink, renewedLink, renewLink, writeWay, writePlan, remember, remembers, stamp, enact}
-use Rattle.rules.specs.Calls.{Judgement, judged, judge, packetCall, TableCall, sets-port, adds, removes, renumbers, ruleOf, tableRefusal, settle, settled}
+use Rattle.rules.specs.Calls.{Judgement, judged, judge, packetCall, TableCall, sets-port, sets-rate, adds, removes, renumbers, ruleOf, tableRefusal, settle, settled}
 use Rattle.rules.specs.Questions.{Question}
 use Rattle.rules.specs.Run.{Call, packet, on-tables, asks, answered, ofJudgement, ofSetting, ofTold, perform}
 use Rattle.rules.specs.Keepalives.{keepsAlive, until, UpAt, Carried, accepted, fair, nextDeadline, Starts, InTime, CarriedIf, Lasts}
@@ -42,6 +42,7 @@ use Rattle.rules.proofs.Tables.{table-length}
 use Rattle.rules.proofs.Slots.{used-same}
 use Rattle.rules.proofs.Lowest.{Lowest, lowest-later, lowest-place, lowest-found, found-lowest, lowest-other, lowest-renewed}
 use Rattle.rules.proofs.Accepted.{accepted-packet}
+use Rattle.rules.proofs.Stamped.{drop-kept}
 use Rattle.rules.proofs.Followed.{Followed, Planned, planned, is-request}
 use Rattle.rules.proofs.Held.{packet-kept}
 use Rattle.rules.proofs.Valid.{Valid, valid-of}
@@ -147,8 +148,8 @@ module _ (l : Link) (r : Relay) (size : length (r .links) ≡ linkCount) (a : Ar
     way-links v (blocked why) f = as-it-was
 
     plan-links : (v : View) (todo : Plan) → Planned (viewAt (a .clock) r) a todo → Still (writePlan v a todo r .links)
-    unfolding writePlan
-    plan-links v (dropped reason) h = as-it-was
+    unfolding writePlan withPaths
+    plan-links v (dropped reason) h = drop-kept v a (λ s. Still (s .links)) reason r as-it-was (λ paths. as-it-was)
     plan-links v delivered h = as-it-was
     plan-links v (follows w) h = way-links v w h
 
@@ -171,8 +172,8 @@ module _ (v : View) (a : Arrival) (todo : Plan) (r : Relay) where
   way-ports (blocked why) = refl
 
   plan-ports : (todo : Plan) → writePlan v a todo r .ports ≡ r .ports
-  unfolding writePlan
-  plan-ports (dropped reason) = refl
+  unfolding writePlan withPaths
+  plan-ports (dropped reason) = drop-kept v a (λ s. s .ports ≡ r .ports) reason r refl (λ paths. refl)
   plan-ports delivered = refl
   plan-ports (follows w) = way-ports w
 
@@ -346,7 +347,7 @@ still-on r port on mode p rightly h = go (ℕ-discrete p port) (decLt port (leng
 -- a call on the tables leaves clock and links, and both ports on
 table-up : (l : Link) (deadline : ℕ) (r : Relay) → Starts l deadline r → (c : TableCall) → fair l deadline (on-tables c) ≡ true
     → Starts l deadline (ruleOf c .after r)
-unfolding ruleOf fair viewAt linkPlace withPorts withLocals portOn
+unfolding ruleOf fair viewAt linkPlace withRate withPorts withLocals portOn
 table-up l deadline r s (sets-port port on mode) h =
     record {
       expiry = s .expiry;
@@ -356,6 +357,13 @@ table-up l deadline r s (sets-port port on mode) h =
             asking = still-on r port on mode (l .asking) (λ q. rightly-left on _ _ h (eq-eqb port (l .asking) q)) (s .up .asking);
             answering = still-on r port on mode (l .answering) (λ q. rightly-right on _ _ h (eq-eqb port (l .answering) q)) (s .up .answering);
           };
+      lasts = s .lasts;
+      near = s .near;
+    }
+table-up l deadline r s (sets-rate target grace penalty) h =
+    record {
+      expiry = s .expiry;
+      up = record { lives = s .up .lives; asking = s .up .asking; answering = s .up .answering };
       lasts = s .lasts;
       near = s .near;
     }

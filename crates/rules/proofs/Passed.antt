@@ -6,7 +6,7 @@ use Rattle.octets.proofs.Listed.{allGive}
 use Rattle.rules.specs.View.{View}
 use Rattle.rules.specs.Arrival.{Arrival, hops}
 use Rattle.rules.specs.Ways.{Way, wayOn}
-use Rattle.rules.specs.Tests.{notOurs, duplicate, badForm, ownAnnounce, deliveredHere, tooManyHops, noWayOn, alreadyKnown, wrongSide, notSigned, replay, notBetter, portOff, noRoom}
+use Rattle.rules.specs.Tests.{notOurs, duplicate, badForm, ownAnnounce, deliveredHere, tooManyHops, noWayOn, alreadyKnown, wrongSide, notSigned, replay, notBetter, rateLimited, portOff, noRoom}
 use Rattle.rules.specs.Outgoing.{grownTooLong}
 use Rattle.rules.specs.Judging.{Plan, dropped, delivered, follows, earlyTests, onwardTests, onwardPlan, plan}
 unfoldable pub use Rattle.rules.specs.Questions.{ofTest}
@@ -31,6 +31,7 @@ pub record Passed (v : View) (a : Arrival) (w : Way) : Type 0 where
   pub signed : notSigned a ≡ false
   pub newBlob : replay a w ≡ false
   pub better : notBetter a w ≡ false
+  pub unlimited : rateLimited v a w ≡ false
   pub portOn : portOff v a w ≡ false
   pub room : noRoom v a w ≡ false
   pub fits : grownTooLong a w ≡ false
@@ -40,7 +41,7 @@ module _ (v : View) (a : Arrival) where
   unfolding earlyTests onwardTests
   passed-all w early late =
       let (ours, (new, (form, (notOwn, (elsewhere, (fewHops, _)))))) = early in
-      let (someWay, (unknown, (side, (signed, (newBlob, (better, (portOn, (room, (fits, _))))))))) = late in
+      let (someWay, (unknown, (side, (signed, (newBlob, (better, (unlimited, (portOn, (room, (fits, _)))))))))) = late in
       record {
         ours = ours;
         new = new;
@@ -54,6 +55,7 @@ module _ (v : View) (a : Arrival) where
         signed = signed;
         newBlob = newBlob;
         better = better;
+        unlimited = unlimited;
         portOn = portOn;
         room = room;
         fits = fits;

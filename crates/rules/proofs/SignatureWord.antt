@@ -13,15 +13,16 @@ use Rattle.octets.specs.Choice.{_then_otherwise_, _or_}
 use Rattle.packet.specs.Header.{isAnnounce}
 use Rattle.octets.specs.Listed.{Test, _gives_otherwise_, firstOf, anyHolds}
 use Rattle.octets.proofs.Listed.{told, allGive}
-use Rattle.rules.specs.Relay.{Relay, empty, used}
+use Rattle.rules.specs.Relay.{Relay, Slot, empty, used, Path}
 use Rattle.rules.specs.View.{View, viewAt}
 use Rattle.rules.specs.Refusals.{packetRows, packetRefusal, refusalBy}
-use Rattle.rules.specs.Arrival.{Arrival, header, isLinkProof}
+use Rattle.rules.specs.Arrival.{Arrival, header, destination, isLinkProof}
 use Rattle.rules.specs.Ways.{Way, everywhere, by-path, along-link, by-return, blocked, wayOn}
 use Rattle.rules.specs.Tests.{noWayOn, notSigned}
 use Rattle.rules.specs.Answers.{reasonNumber}
 use Rattle.rules.specs.Outgoing.{spreadPorts, outgoing, exceeds}
 use Rattle.rules.specs.Judging.{Plan, dropped, delivered, follows, earlyTests, onwardTests, plan, onwardPlan, verdict, wayVerdict, spreadVerdict}
+use Rattle.rules.specs.Writes.{limitPath, isRateDrop, writeDrop}
 use Rattle.rules.specs.Calls.{Judgement, judged, judge, packetCall}
 use Rattle.rules.specs.Questions.{word-matters, Told, refused, yes-or-no, cameWith, ofTest, wordMatters, questionRule, questionRefusal, tell}
 use Rattle.rules.specs.declared.Reason.{Reason}
@@ -61,9 +62,18 @@ module _ (v : View) (a : Arrival) (word : Bool) where
   plan-by = ap (firstOf (earlyTests v a)) (onward-by (wayOn v a))
 
   -- nor does what is written by it
+  limited-by : (s : Slot Path) (r : Relay) → limitPath v (withWord word a) s r ≡ limitPath v a s r
+  unfolding writes
+  limited-by empty r = refl
+  limited-by (used p) r = refl
+
+  drop-by : (reason : Reason) (r : Relay) → writeDrop v (withWord word a) reason r ≡ writeDrop v a reason r
+  unfolding writeDrop
+  drop-by reason r = ap (λ (s : Relay). isRateDrop reason then s otherwise r) (limited-by (v .path (destination a)) r)
+
   judged-by : (todo : Plan) (r : Relay) (t : Tally) (output : List ℕ) → judged (withWord word a) todo v r t output ≡ judged a todo v r t output
   unfolding tests answers writes calls
-  judged-by (dropped reason) r t output = refl
+  judged-by (dropped reason) r t output = rw (drop-by reason r)
   judged-by delivered r t output = refl
   judged-by (follows (everywhere empty)) r t output = refl
   judged-by (follows (everywhere (used p))) r t output = refl
@@ -73,13 +83,13 @@ module _ (v : View) (a : Arrival) (word : Bool) where
   judged-by (follows (blocked why)) r t output = refl
 
 -- ---- tests 1 to 8
--- the test that dropped the packet, or 15
+-- the test that dropped the packet, or 255
 dropOf : Verdict → ℕ
 dropOf (Drop reason) = reasonNumber reason
-dropOf Deliver = 15
-dropOf (Forward port length) = 15
-dropOf (Spread ports length) = 15
-dropOf Kept = 15
+dropOf Deliver = 255
+dropOf (Forward port length) = 255
+dropOf (Spread ports length) = 255
+dropOf Kept = 255
 
 module _ (v : View) (a : Arrival) where
   -- none of them drops

@@ -155,7 +155,8 @@ abbrev pub withSlots : {A : Type 0} → List (Slot A) → Ring A → Ring A
 withSlots slots ring = makeRing slots (ring .next)
 
 -- ---- a relay
-abbrev pub makeRelay : List ℕ → ℕ → RateSettings → List Port → List (Slot (List ℕ)) → List (Slot Path) → List (Slot Link) → Ring Return → Ring Remembered → Relay
+abbrev pub makeRelay : List ℕ → ℕ → RateSettings → List Port → List (Slot (List ℕ)) → List (Slot Path) → List (Slot Link) → Ring Return
+    → Ring Remembered → Relay
 makeRelay own clock rate ports locals paths links returns hashes =
     record {
       own = own;

@@ -5,13 +5,14 @@ use mathlib.Core.Path.{_≡_}
 use lib.ListN.{length, set}
 use Rattle.octets.specs.Part.{patch, fields}
 use Rattle.octets.specs.BigEndian.{bigEndian}
-use Rattle.codes.specs.Form.{Form, numberIn, octetsIn, many, slot}
+use Rattle.codes.specs.Form.{Form, code, numberIn, octetsIn, many, slot}
 use Rattle.codes.proofs.Inside.{Inside, here, item, inRule, _within_, named}
 use Rattle.numbers.specs.Numbers.{portCount, localCount, pathCount, linkCount, returnCount, hashCount}
-use Rattle.rules.specs.Relay.{Port, noPort, Slot, empty, Path, Return, Remembered, makeRing, withSlots, Relay, withClock, withPorts, withLocals, withPaths, withLinks, withReturns, withHashes}
+use Rattle.rules.specs.Relay.{Port, noPort, Slot, empty, Path, Return, Remembered, makeRing, withSlots, Relay, withClock, withRate, withPorts, withLocals, withPaths, withLinks, withReturns, withHashes}
 use Rattle.rules.specs.declared.Link.{Link}
-use Rattle.tables.specs.Forms.{portForm, localForm, pathForm, linkForm, returnForm, hashForm, ringForm, relayForm}
-use Rattle.tables.specs.Places.{addressWidth, timeWidth, ringWidth, portWidth, localWidth, pathWidth, linkWidth, returnWidth, hashWidth, clockAt, portsAt, localsAt, pathsAt, linksAt, returnNextAt, returnsAt, hashNextAt, hashesAt}
+use Rattle.rules.specs.declared.RateSettings.{RateSettings}
+use Rattle.tables.specs.Forms.{rateSettingsForm, portForm, localForm, pathForm, linkForm, returnForm, hashForm, ringForm, relayForm}
+use Rattle.tables.specs.Places.{addressWidth, timeWidth, ringWidth, portWidth, localWidth, pathWidth, linkWidth, returnWidth, hashWidth, clockAt, rateAt, portsAt, localsAt, pathsAt, linksAt, returnNextAt, returnsAt, hashNextAt, hashesAt}
 use Rattle.tables.specs.Records.{portBytes, slotBytes, localBytes, pathBytes, linkBytes, returnBytes, hashBytes}
 use Rattle.tables.specs.Layout.{bytesOf}
 
@@ -21,6 +22,9 @@ own-in = named relayForm "own" .inside
 
 abbrev pub clock-in : Inside relayForm (numberIn timeWidth)
 clock-in = inRule here within named relayForm "clock" .inside
+
+abbrev pub rate-in : Inside relayForm rateSettingsForm
+rate-in = named relayForm "rate" .inside
 
 abbrev pub ports-in : Inside relayForm (many portCount noPort portForm)
 ports-in = named relayForm "ports" .inside
@@ -58,6 +62,10 @@ module _ (r : Relay) where
   pub patch-clock : (clock : ℕ) → patch (bytesOf r) clockAt (bigEndian timeWidth clock) ≡ bytesOf (withClock clock r)
   unfolding bytesOf withClock
   patch-clock clock = clock-in .place .patched r clock (tt, tt)
+
+  pub patch-rate : (rate : RateSettings) → patch (bytesOf r) rateAt (code rateSettingsForm .write rate) ≡ bytesOf (withRate rate r)
+  unfolding bytesOf withRate
+  patch-rate rate = rate-in .place .patched r rate tt
 
   pub patch-return-next : (n : ℕ) → patch (bytesOf r) returnNextAt (bigEndian ringWidth n)
       ≡ bytesOf (withReturns (makeRing (r .returns .slots) n) r)

@@ -3,16 +3,10 @@ use mathlib.Core.Path.{_≡_, refl}
 use Prim.Native.Nat.{ℕ, _+_}
 use Rattle.codes.specs.Form.{slot, code, placeOf}
 use Rattle.numbers.specs.Numbers.{returnCount, hashCount}
-use Rattle.tables.specs.Forms.{rateSettingsForm, rateEntryForm, portForm, localForm, pathForm, linkForm, returnForm, hashForm, ringForm, relayForm}
+use Rattle.tables.specs.Forms.{portForm, localForm, pathForm, linkForm, returnForm, hashForm, ringForm, relayForm}
 pub use Rattle.tables.specs.Forms.{addressWidth, digestWidth, timeWidth, blobWidth, ringWidth, settingWidth}
 
 -- ---- widths, in bytes. A record's first byte is its mark
-abbrev pub rateSettingsWidth : ℕ
-rateSettingsWidth = code rateSettingsForm .width
-
-abbrev pub rateEntryWidth : ℕ
-rateEntryWidth = code rateEntryForm .width
-
 abbrev pub portWidth : ℕ
 portWidth = code portForm .width
 
