@@ -103,7 +103,7 @@ module _ (f tables : List ℕ) (old : Tally) (b : Bytes f) (loads : loadOn f tab
         kept = g .1 .1 .1 .1 .1;
       })
 
-  loaded-relay : relayOf (loadOn f tables old .tables) ≡ heldIn f .0
+  pub loaded-relay : relayOf (loadOn f tables old .tables) ≡ heldIn f .0
   unfolding relayOf bytesOf
   loaded-relay = ap (λ (x : LoadedOn). relayOf (x .tables)) done ∙ lawful relayForm .back (heldIn f .0) (held-good f (length tables) b file-taken .0)
 
