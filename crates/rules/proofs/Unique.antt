@@ -8,21 +8,21 @@ use borrow.Author.Tests.{ltb-false, eqb-true}
 use Rattle.octets.specs.Choice.{same}
 use Rattle.octets.proofs.Choice.{eq-same}
 use Rattle.numbers.specs.Numbers.{localCount, pathCount, linkCount, returnCount, hashCount}
-use Rattle.rules.specs.Relay.{Relay, fresh, lowest, withClock, withRate, withPorts, withLocals, withHashes}
+use Rattle.rules.specs.Relay.{Relay, fresh, lowest, withRate, withPorts, withLocals}
 use Rattle.rules.specs.View.{View, viewAt, localPlace, isLocal}
 use Rattle.rules.specs.Renumbering.{renumbered}
 use Rattle.rules.specs.Refusals.{tablesOk}
 use Rattle.rules.specs.Arrival.{Arrival}
-use Rattle.rules.specs.Judging.{Plan, plan}
-use Rattle.rules.specs.Writes.{remembers, remember, stamp, enact}
+use Rattle.rules.specs.Judging.{plan}
+use Rattle.rules.specs.Writes.{enact}
 use Rattle.rules.specs.Calls.{TableCall, sets-port, sets-rate, adds, removes, renumbers, ruleOf}
 use Rattle.rules.specs.Run.{Call, packet, on-tables, asks, saves, loads, ofTold, perform, relayAfter, setsRelay, noneLoads}
 use Rattle.rules.specs.declared.Tally.{Tally}
-use Rattle.rules.proofs.Choices.{either}
 use Rattle.octets.proofs.Listed.{NoneHolds}
 use Rattle.rules.proofs.Held.{TableKeeps, enact-held, table-held, packet-kept, table-kept, save-kept, load-kept, each-none, stays}
 use Rattle.rules.proofs.Slots.{every-fresh, single-fresh, single-set, single-emptied, none-passes, not-found}
 use Rattle.rules.proofs.Followed.{planned, remembered-new}
+use Rattle.rules.proofs.Stamped.{enact-clock}
 use Rattle.rules.proofs.Accepted.{Accepted, accepted-packet}
 use Rattle.rules.proofs.Valid.{Valid, valid-of, step-ok, fresh-ok}
 use Rattle.rules.proofs.UniqueAt.{onceAt, UniqueAt, later, renumbering-keeps}
@@ -48,11 +48,6 @@ fresh-unique own clock l =
     }
 
 -- ---- the calls
--- every accepted packet sets the last clock
-enact-clock : (v : View) (a : Arrival) (todo : Plan) (r : Relay) → enact v a todo r .clock ≡ a .clock
-unfolding enact stamp withClock remember withHashes
-enact-clock v a todo r = either (λ (s : Relay). s .clock ≡ a .clock) (remembers v a todo) (λ _. refl) (λ _. refl)
-
 enact-unique : (a : Arrival) (r : Relay) → Valid r → UniqueAt (a .clock) r
     → UniqueAt (a .clock) (enact (viewAt (a .clock) r) a (plan (viewAt (a .clock) r) a) r)
 enact-unique a r valid u =
@@ -84,7 +79,7 @@ table-keeps (removes address) r clock valid u n = single-emptied _ _ (r .locals)
 table-keeps (renumbers images) r clock valid u n = renumbering-keeps clock r u images
 
 -- a call on the tables leaves the last clock
-table-clock : (c : TableCall) (r : Relay) → ruleOf c .after r .clock ≡ r .clock
+pub table-clock : (c : TableCall) (r : Relay) → ruleOf c .after r .clock ≡ r .clock
 unfolding ruleOf withRate withPorts withLocals renumbered
 table-clock (sets-port port on mode) r = refl
 table-clock (sets-rate target grace penalty) r = refl

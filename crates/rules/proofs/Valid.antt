@@ -7,13 +7,14 @@ use mathlib.Core.Path.{_≡_, refl, subst}
 use lib.Dec.{eqb, ltb, lit<, lit≤}
 use lib.ListN.{length, getD, set, length-set}
 use borrow.Author.Tests.{lt-ltb, le-leb, leb-false, not-false}
+use Rattle.octets.specs.Index.{_and_}
 use Rattle.octets.proofs.Index.{and-left, and-right, and-both}
 use Rattle.octets.proofs.Choice.{or-no-right}
 use Rattle.numbers.specs.Numbers.{portCount, localCount, pathCount, linkCount, returnCount, hashCount, clockLimit, timeLimit, modeCount}
 use Rattle.rules.specs.Relay.{freshPort, noPort, Slot, empty, used, Path, Ring, Relay, fresh, withPaths, withLinks, withReturns, withHashes}
 use Rattle.rules.specs.View.{View, viewAt}
 use Rattle.rules.specs.Renumbering.{oneToOne, preimage, movedPorts, renamePath, renameLink, renameReturn}
-use Rattle.rules.specs.Refusals.{timeOk, rateSettingsOk, portOk, pathOk, linkOk, returnOk, hashOk, slotOk, tableOk, tablesOk}
+use Rattle.rules.specs.Refusals.{timeOk, rateSettingsOk, portOk, pathOk, linkOk, returnOk, hashOk, slotOk, tableOk, tablesOk, packetRows, packetRefusal, refusalBy}
 use Rattle.rules.specs.Arrival.{Arrival, hops}
 use Rattle.rules.specs.Ways.{Way, everywhere, by-path, along-link, by-return, blocked}
 use Rattle.rules.specs.Tests.{tooManyHops}
@@ -23,7 +24,7 @@ use Rattle.rules.specs.Calls.{TableCall, sets-port, sets-rate, adds, rem
 use Rattle.rules.specs.Run.{Call, packet, on-tables, asks, saves, loads, ofTold, perform, relayAfter}
 use Rattle.rules.specs.declared.Link.{Link}
 use Rattle.rules.specs.declared.Tally.{Tally}
-use Rattle.octets.proofs.Listed.{NoneHolds}
+use Rattle.octets.proofs.Listed.{NoneHolds, allGive, refuses, rows-passed}
 use Rattle.rules.proofs.Held.{Property, Holds, WayKeeps, PlanKeeps, TableKeeps, enact-held, table-held, packet-kept, table-kept, save-kept, load-kept, any-calls, stays}
 use Rattle.rules.proofs.Rows.{loaded-ok}
 use Rattle.rules.proofs.Tables.{table-listOf, table-replicate, table-set, table-map, table-getD}
@@ -187,6 +188,12 @@ module _ (r : Relay) (valid : Valid r) where
         })
 
 -- ---- the calls
+-- row 7 comes first
+pub accepted-valid : (r : Relay) (a : Arrival) (room : ℕ) → eqb (packetRefusal r a room) 0 ≡ true → Valid r
+unfolding refusalBy packetRows allGive refuses _and_
+accepted-valid r a room taken =
+    valid-of r (not-false _ (rows-passed (packetRows r (a .port) (a .clock) room) _ refl taken .0))
+
 renumbering-keeps : (m : List ℕ) → oneToOne m ≡ true → (r : Relay) → Valid r → TableKeeps rowSeven r (renumbers m)
 unfolding movedPorts portOk
 renumbering-keeps m ok r v = (
