@@ -9,7 +9,7 @@ use lib.Dec.{ltb, lit≤}
 use borrow.Author.Tests.{lt-ltb, ltb-true, le-leb, leb-true, leb-false}
 use Rattle.octets.proofs.Index.{and-left, and-right, and-both, all-at}
 use Rattle.octets.proofs.Choice.{then-true}
-use Rattle.numbers.specs.Numbers.{portCount, blobLimit, clockLimit, timeLimit, targetLimit, penaltyLimit, violationLimit, blockedLimit, pathLifetime}
+use Rattle.numbers.specs.Numbers.{portCount, blobLimit, clockLimit, timeLimit, targetLimit, graceLimit, penaltyLimit, violationLimit, blockedLimit, pathLifetime}
 use Rattle.rules.specs.Relay.{Slot, empty, used, Path, Return, Ring, withPathRate, holds}
 use Rattle.rules.specs.View.{View}
 use Rattle.rules.specs.Renumbering.{image, oneToOne, renamePath, renameLink, renameReturn, renameSlot}
@@ -56,35 +56,45 @@ one-more-small : (n : ℕ) → oneMore n < 256
 unfolding oneMore
 one-more-small n = either (λ (m : ℕ). m < 256) (ltb n violationLimit) (λ e. let l = ltb-true n violationLimit e in omega (arith, l)) (λ _. lit≤ tt)
 
+-- the bounds by name
+pub record SettingsWithin (s : RateSettings) : Type 0 where
+  pub target : s .target ≤ targetLimit
+  pub grace : s .grace ≤ graceLimit
+  pub penalty : s .penalty ≤ penaltyLimit
+
+pub settings-within : (s : RateSettings) → rateSettingsOk s ≡ true → SettingsWithin s
+unfolding rateSettingsOk
+settings-within s h =
+    let rest = and-right _ _ h in
+    record { target = leb-true _ _ (and-left _ _ h); grace = leb-true _ _ (and-left _ _ rest); penalty = leb-true _ _ (and-right _ _ rest) }
+
+pub record EntryWithin (e : RateEntry) : Type 0 where
+  pub last : e .last < clockLimit
+  pub violations : e .violations < 256
+  pub blocked : e .«blocked_until» ≤ blockedLimit
+
+pub entry-within : (e : RateEntry) → rateEntryOk e ≡ true → EntryWithin e
+unfolding rateEntryOk
+entry-within e h =
+    let rest = and-right _ _ h in
+    record { last = ltb-true _ _ (and-left _ _ h); violations = ltb-true _ _ (and-left _ _ rest); blocked = leb-true _ _ (and-right _ _ rest) }
+
 module _ (s : RateSettings) (e : RateEntry) (clock : ℕ) (sound : rateSettingsOk s ≡ true) (fine : rateEntryOk e ≡ true) where
-  pub last-small : e .last < clockLimit
-  unfolding rateEntryOk
-  last-small = ltb-true _ _ (and-left _ _ fine)
+  within : EntryWithin e
+  within = entry-within e fine
 
-  violations-small : e .violations < 256
-  unfolding rateEntryOk
-  violations-small = ltb-true _ _ (and-left _ _ (and-right _ _ fine))
-
-  blocked-small : e .«blocked_until» ≤ blockedLimit
-  unfolding rateEntryOk
-  blocked-small = leb-true _ _ (and-right _ _ (and-right _ _ fine))
-
-  pub sum-small : e .last + s .target + s .penalty ≤ blockedLimit
-  unfolding rateSettingsOk
-  sum-small =
-      let target = leb-true (s .target) targetLimit (and-left _ _ sound) in
-      let penalty = leb-true (s .penalty) penaltyLimit (and-right _ _ (and-right _ _ sound)) in
-      omega (arith, last-small, target, penalty)
+  sum-small : e .last + s .target + s .penalty ≤ blockedLimit
+  sum-small = let w = settings-within s sound in omega (arith, entry-within e fine .last, w .target, w .penalty)
 
   rated-small : Bounded (rated s clock e)
   unfolding rated violated
   rated-small =
-      either Bounded (ltb clock (e .«blocked_until»)) (λ _. (violations-small, blocked-small))
+      either Bounded (ltb clock (e .«blocked_until»)) (λ _. (within .violations, within .blocked))
       (λ _. either Bounded (ltb clock (e .last + s .target))
       (λ _. either Bounded (ltb (s .grace) (oneMore (e .violations)))
       (λ _. (one-more-small (e .violations), sum-small))
-      (λ _. (one-more-small (e .violations), blocked-small)))
-      (λ _. (omega (arith, violations-small), blocked-small)))
+      (λ _. (one-more-small (e .violations), within .blocked)))
+      (λ _. (let l = within .violations in omega (arith, l), within .blocked)))
 
   pub accepted-rate-ok : clock < clockLimit → rateEntryOk (entryAccepted s clock e) ≡ true
   unfolding rateEntryOk entryAccepted
@@ -92,7 +102,7 @@ module _ (s : RateSettings) (e : RateEntry) (clock : ℕ) (sound : rateSettingsO
 
   pub dropped-rate-ok : rateEntryOk (entryDropped s clock e) ≡ true
   unfolding rateEntryOk entryDropped
-  dropped-rate-ok = and-both (lt-ltb _ _ last-small) (and-both (lt-ltb _ _ (rated-small .0)) (le-leb _ _ (rated-small .1)))
+  dropped-rate-ok = and-both (lt-ltb _ _ (within .last)) (and-both (lt-ltb _ _ (rated-small .0)) (le-leb _ _ (rated-small .1)))
 
 -- ---- what an accepted packet makes
 lifetime-small : (mode : ℕ) → pathLifetime mode ≤ 604800

@@ -17,13 +17,14 @@ use Rattle.octets.proofs.ListOf.{listOf-length}
 use Rattle.codes.specs.Form.{Form, octetsIn, many, slot, that, code}
 use Rattle.codes.proofs.Law.{whole-again}
 use Rattle.codes.proofs.Forms.{lawful}
-use Rattle.numbers.specs.Numbers.{portCount, localCount, pathCount, linkCount, returnCount, hashCount, blobLimit, modeCount, clockLimit, timeLimit, targetLimit, graceLimit, penaltyLimit, blockedLimit}
+use Rattle.numbers.specs.Numbers.{portCount, localCount, pathCount, linkCount, returnCount, hashCount, blobLimit, modeCount, timeLimit}
 use Rattle.rules.specs.Relay.{Port, noPort, Slot, empty, used, Path, Return, Remembered, Ring, Relay}
 use Rattle.rules.specs.Blobs.{noBlob}
 use Rattle.rules.specs.Refusals.{timeOk, rateSettingsOk, rateEntryOk, portOk, pathOk, linkOk, returnOk, hashOk, slotOk, all, tableOk, tablesOk}
 use Rattle.rules.specs.declared.Link.{Link}
 use Rattle.rules.specs.declared.RateSettings.{RateSettings}
 use Rattle.rules.specs.declared.RateEntry.{RateEntry}
+use Rattle.rules.proofs.Ranges.{settings-within, entry-within}
 use Rattle.rules.proofs.Valid.{RingOk, valid-of, ok-of}
 use Rattle.rules.proofs.Tables.{all-listOf, table-of, table-length, table-all}
 use Rattle.tables.specs.Forms.{rateSettingsForm, rateEntryForm, portForm, localForm, pathForm, linkForm, returnForm, hashForm, ringForm, relayForm}
@@ -109,19 +110,14 @@ unfolding timeOk
 time-good x h = let l = leb-true x timeLimit h in omega (arith, l)
 
 rate-settings-good : (s : RateSettings) → rateSettingsOk s ≡ true → code rateSettingsForm .Good s
-unfolding rateSettingsOk
 rate-settings-good s h =
-    let target = leb-true (s .target) targetLimit (and-left _ _ h) in
-    let grace = leb-true (s .grace) graceLimit (and-left _ _ (and-right _ _ h)) in
-    let penalty = leb-true (s .penalty) penaltyLimit (and-right _ _ (and-right _ _ h)) in
-    (omega (arith, target) also omega (arith, grace) also omega (arith, penalty)) also h
+    let w = settings-within s h in
+    (omega (arith, w .target) also omega (arith, w .grace) also omega (arith, w .penalty)) also h
 
 rate-entry-good : (e : RateEntry) → rateEntryOk e ≡ true → code rateEntryForm .Good e
-unfolding rateEntryOk
 rate-entry-good e h =
-    let last = ltb-true (e .last) clockLimit (and-left _ _ h) in
-    let blocked = leb-true (e .«blocked_until») blockedLimit (and-right _ _ (and-right _ _ h)) in
-    omega (arith, last) also ltb-true (e .violations) 256 (and-left _ _ (and-right _ _ h)) also omega (arith, blocked)
+    let w = entry-within e h in
+    omega (arith, w .last) also w .violations also omega (arith, w .blocked)
 
 port-small : (x : ℕ) → ltb x portCount ≡ true → x < 256
 port-small x h = let l = ltb-true x portCount h in omega (arith, l)
