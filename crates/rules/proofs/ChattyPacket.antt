@@ -1,11 +1,11 @@
 -- Wish 5, of one announce for a live path: while it is blocked no record of a path changes, and one that comes on time is let by.
-use Prim.Native.Nat.{ℕ, _+_, _-_, _≤_, _<_}
+use Prim.Native.Nat.{ℕ, _-_, _<_}
 use native.Mathlib.Omega.{arith}
-use mathlib.Core.Bool.{Bool, true, false, false≢true}
+use mathlib.Core.Bool.{true, false, false≢true}
 use mathlib.Core.List.{List}
 use mathlib.Core.Path.{_≡_, refl, sym, ap, subst, _∙_}
 use lib.Dec.{eqb, lit<}
-use lib.ListN.{length, getD, set}
+use lib.ListN.{length, set}
 use lib.Seq.{set-getD}
 use borrow.Author.Tests.{lt-ltb}
 use Rattle.octets.proofs.Index.{and-left, and-right}
@@ -16,12 +16,12 @@ use Rattle.rules.specs.View.{View, viewAt, isLivePath, pathPlace}
 use Rattle.rules.specs.Refusals.{slotOk, pathOk, packetRefusal}
 use Rattle.rules.specs.Arrival.{Arrival, header, destination}
 use Rattle.rules.specs.Rate.{rated, entryAccepted}
-use Rattle.rules.specs.Ways.{Way, everywhere, wayOn}
+use Rattle.rules.specs.Ways.{everywhere, wayOn}
 use Rattle.rules.specs.Tests.{ofKnown, isRateLimited, rateLimited}
 use Rattle.rules.specs.Judging.{Plan, dropped, delivered, follows, plan}
-use Rattle.rules.specs.Writes.{pathExpiry, announcedRate, announcedPath, announcedPlace, putPath, limitPath, writeWay, isRateDrop, writeDrop, writePlan, enact}
+use Rattle.rules.specs.Writes.{pathExpiry, announcedRate, announcedPath, announcedPlace, putPath, limitPath, writeWay, isRateDrop, writeDrop, writePlan}
 use Rattle.rules.specs.Run.{packet, perform}
-use Rattle.rules.specs.Chatty.{NoRateDrop, WhileBlocked, PathsStay, BlockedStays, OnTime, Forgiven, reachesRate, LetBy, OnTimeLetBy}
+use Rattle.rules.specs.Chatty.{NoRateDrop, WhileBlocked, PathsStay, BlockedStays, OnTime, Forgiven, reachesRate, OnTimeLetBy}
 use Rattle.rules.specs.declared.RateEntry.{RateEntry}
 use Rattle.rules.specs.declared.Rated.{Rated}
 use Rattle.rules.specs.declared.Tally.{Tally}

@@ -11,30 +11,36 @@ use Rattle.octets.specs.Index.{_and_}
 use Rattle.octets.specs.Choice.{_then_otherwise_, _or_}
 use Rattle.octets.specs.Listed.{_gives_otherwise_, firstOf}
 use Rattle.octets.proofs.Index.{and-no}
-use Rattle.octets.proofs.Choice.{then-true, then-false}
+use Rattle.octets.proofs.Choice.{then-true}
 use Rattle.octets.proofs.Listed.{told, allGive, NoneHolds, none-first, none-holds, all-first}
-use Rattle.packet.specs.Header.{ofKindLink, isAnnounce, isProof}
+use Rattle.packet.specs.Header.{isAnnounce}
 use Rattle.rules.specs.Relay.{Slot, empty, used, Path, Return, Relay}
 use Rattle.rules.specs.View.{View, viewAt}
 use Rattle.rules.specs.Refusals.{packetRefusal}
 use Rattle.rules.specs.Arrival.{Arrival, header, destination, isLinkProof}
 use Rattle.rules.specs.Ways.{Way, everywhere, by-path, along-link, by-return, blocked, pathWay, linkWay, returnWay, wayOn}
-use Rattle.rules.specs.Tests.{ofKnown, isRateLimited, rateLimited, portOff, noRoom}
+use Rattle.rules.specs.Tests.{ofKnown, rateLimited, portOff, noRoom}
 use Rattle.rules.specs.Outgoing.{grownTooLong}
-use Rattle.rules.specs.Judging.{Plan, dropped, follows, earlyTests, onwardTests, onwardPlan, plan, verdict, outputAfter}
+use Rattle.rules.specs.Judging.{Plan, dropped, follows, earlyTests, onwardTests, onwardPlan, plan, verdict}
 use Rattle.rules.specs.Calls.{Judgement, judged, judge, packetCall}
 use Rattle.rules.specs.Questions.{ofTest}
-use Rattle.rules.specs.Run.{packet, Reply, answered, ofJudgement, perform}
+use Rattle.rules.specs.Run.{packet, answered, ofJudgement, perform}
 use Rattle.rules.specs.Chatty.{rateSays, planIf, RateDrop}
 use Rattle.rules.specs.declared.Link.{Link}
 use Rattle.rules.specs.declared.Reason.the-variants.{RateLimited}
-use Rattle.rules.specs.declared.Verdict.{Verdict}
 use Rattle.rules.specs.declared.Verdict.the-variants.{Drop}
-use Rattle.rules.specs.declared.Answer.the-variants.{Refused, Judged}
 use Rattle.rules.specs.declared.Tally.{Tally}
 use Rattle.rules.proofs.Choices.{either}
 use Rattle.rules.proofs.Passed.{passed, namesTest, names-test}
 use Rattle.rules.proofs.SignatureWord.{told-never}
+
+-- the way is an announce's
+unfoldable pub isSpread : Way → Bool
+isSpread (everywhere known) = true
+isSpread (by-path p) = false
+isSpread (along-link l) = false
+isSpread (by-return t) = false
+isSpread (blocked why) = false
 
 module _ (v : View) (a : Arrival) where
   -- ---- the plan is the one with what test 15 does say
@@ -96,13 +102,6 @@ module _ (v : View) (a : Arrival) where
           absurd (false≢true (sym never-dropped ∙ sym (ap (λ (b : Bool). ofTest 15 (planIf b v a)) e) ∙ sym (ap (ofTest 15) plan-if) ∙ h))
 
   -- ---- only announces go everywhere, and only of a known path can test 15 hold
-  pub isSpread : Way → Bool
-  isSpread (everywhere known) = true
-  isSpread (by-path p) = false
-  isSpread (along-link l) = false
-  isSpread (by-return t) = false
-  isSpread (blocked why) = false
-
   path-not : (s : Slot Path) → isSpread (pathWay s) ≡ false
   unfolding isSpread pathWay
   path-not empty = refl

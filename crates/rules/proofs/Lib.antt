@@ -43,3 +43,5 @@ pub mod Lasting
 pub mod RateLaws
 pub mod ChattyPlan
 pub mod ChattyPacket
+pub mod ChattyOff
+pub mod ChattySpaced

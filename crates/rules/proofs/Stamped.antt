@@ -1,5 +1,4 @@
 -- The records that a packet writes leave the remembered hashes; a drop writes paths alone; and the stamp leaves all but the clock and the hashes.
-use mathlib.Core.Bool.{false}
 use mathlib.Core.List.{List}
 use mathlib.Core.Path.{_≡_, refl}
 use Rattle.packet.specs.Header.{isData}
