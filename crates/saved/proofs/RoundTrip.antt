@@ -36,7 +36,7 @@ use Rattle.saved.proofs.Made.{file-length, made-edition, made-taken, ma
 
 -- ---- saved, then loaded
 module _ (t : List ℕ) (tally : Tally) (b : Bytes t) (h : wellFormed t ≡ true) (s : Fits tally) where
-  held-right : code current .Good (relayOf t, tally)
+  pub held-right : code current .Good (relayOf t, tally)
   held-right = (relay-good t b h, (s .total, (s .dropped, (s .delivered, (s .forwarded, (s .spread, s .kept))))))
 
   pub file-loads : (tables : List ℕ) (old : Tally) → length tables ≡ tableSize
