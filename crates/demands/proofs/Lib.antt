@@ -9,6 +9,7 @@ pub mod Demand2
 pub mod Demand3
 pub mod SavedTables
 pub mod Keepalives
+pub mod Chatty
 pub mod Replays
 pub mod OwnAnnounces
 pub mod InstanceCalls

@@ -235,7 +235,8 @@ module _ (r : Relay) (h : CalmRelay r) (t : Tally) where
       }
 
 -- ---- any list
-calls-off : (cs : List Call) (r : Relay) (t : Tally) → CalmRelay r → noneLoads cs ≡ true → NoTarget cs r t → RateOff cs r t (replies cs r t)
+calls-off : (cs : List Call) (r : Relay) (t : Tally) → CalmRelay r → noneLoads cs ≡ true → NoTarget cs (replies cs r t)
+    → RateOff cs r t (replies cs r t)
 unfolding NoTarget NoneRateDrop replies repliesWithout
 calls-off [] r t h none target = record { none-dropped = tt; without = refl }
 calls-off (c ∷ cs) r t h none target =

@@ -75,10 +75,11 @@ targetOf (asks q) = 0
 targetOf (saves f room) = 0
 targetOf (loads f file) = 0
 
-unfoldable pub NoTarget : List Call → Relay → Tally → Type 0
-NoTarget [] r t = Unit {0}
-NoTarget (c ∷ cs) r t =
-    (perform c r t .reply ≡ numbered 0 → targetOf c ≡ 0) × NoTarget cs (perform c r t .relay) (perform c r t .tally)
+-- by what each call replied
+unfoldable pub NoTarget : List Call → List Reply → Type 0
+NoTarget [] said = Unit {0}
+NoTarget (c ∷ cs) [] = Unit {0}
+NoTarget (c ∷ cs) (x ∷ said) = (x ≡ numbered 0 → targetOf c ≡ 0) × NoTarget cs said
 
 -- "no packet is dropped by 15, and every answer is the one that the rules without test 15 give"
 pub record RateOff (cs : List Call) (r : Relay) (t : Tally) (said : List Reply) : Type 0 where
@@ -87,7 +88,7 @@ pub record RateOff (cs : List Call) (r : Relay) (t : Tally) (said : List Reply) 
 
 abbrev pub OffWithoutTarget : Type 0
 OffWithoutTarget =
-    (own : List ℕ) (cs : List Call) → noneLoads cs ≡ true → NoTarget cs (fresh own) newTally
+    (own : List ℕ) (cs : List Call) → noneLoads cs ≡ true → NoTarget cs (replies cs (fresh own) newTally)
     → RateOff cs (fresh own) newTally (replies cs (fresh own) newTally)
 
 -- ---- (b) "an announce for a live path at clock < blocked-until changes nothing in the record"
