@@ -79,33 +79,29 @@ blobsForm =
     asRecord toBlobs (λ b. (b .count, b .places)) (λ x. refl) (λ y. refl)
     (field "count" byte & field "places" (many blobLimit noBlob (octetsIn blobWidth)))
 
--- what stands before the blobs
+-- what an announce says of the way
 abbrev pub Head : Type 0
-Head = List ℕ × (ℕ × (ℕ × (List ℕ × (ℕ × RateEntry))))
+Head = List ℕ × (ℕ × (ℕ × (List ℕ × ℕ)))
 
-abbrev pub headFormIn : Edition → Form Head
-headFormIn e =
+abbrev pub headForm : Form Head
+headForm =
     field "destination" (octetsIn addressWidth)
     & field "port" byte
     & field "hops" byte
     & field "next hop" (octetsIn addressWidth)
     & field "expiry" (numberIn timeWidth)
-    & field "rate" (e .rateEntry)
 
-abbrev pub toPath : Head × Blobs → Path
-toPath ((destination, (port, (hops, (nextHop, (expiry, rate))))), blobs) = makePath destination port hops nextHop expiry rate blobs
+abbrev pub toPath : Head × (RateEntry × Blobs) → Path
+toPath ((destination, (port, (hops, (nextHop, expiry)))), (rate, blobs)) = makePath destination port hops nextHop expiry rate blobs
 
 abbrev pub pathFormIn : Edition → Form Path
 pathFormIn e =
     that pathOk
     (asRecord toPath
-    (λ p. ((p .destination, (p .port, (p .hops, (p .nextHop, (p .expiry, p .rate))))), p .blobs))
+    (λ p. ((p .destination, (p .port, (p .hops, (p .nextHop, p .expiry)))), (p .rate, p .blobs)))
     (λ x. refl)
     (λ y. refl)
-    (headFormIn e & field "blobs" blobsForm))
-
-abbrev pub headForm : Form Head
-headForm = headFormIn today
+    (headForm & field "rate" (e .rateEntry) & field "blobs" blobsForm))
 
 abbrev pub pathForm : Form Path
 pathForm = pathFormIn today
