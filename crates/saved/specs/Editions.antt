@@ -1,5 +1,6 @@
 -- Document 02, Wish 4: what a file of saved tables holds, edition by edition. "Each body's layout is yours to fix, later fields too; write it down."
--- A body is a section of the tables as the layout has it, the last one the tally (docs/LAYOUT.md). A later edition is one more line in `editions`.
+-- A body is a section of the tables as the layout has it, the last one the tally (docs/LAYOUT.md). A later edition is one more line in `editions`,
+-- and a field of `Edition` (tables/specs/Forms.antt) for each part of the layout that it has otherwise.
 use Prim.Native.Nat.{ℕ, _+_, _-_}
 use Prim.Native.String.{String}
 use mathlib.Core.Bool.{Bool}
@@ -10,9 +11,9 @@ use lib.ListN.{length, getD}
 use lib.Text.{eqt}
 use Rattle.octets.specs.Index.{_and_}
 use Rattle.codes.specs.Form.{Form, byte, mark, numberIn, octetsIn, given, field, _&_, many, firstsOf, slot, that, asRecord, code, oneOf}
-use Rattle.rules.specs.Relay.{Relay}
+use Rattle.rules.specs.Relay.{noRateSettings, noRateEntry, Relay}
 use Rattle.rules.specs.declared.Tally.{Tally}
-use Rattle.tables.specs.Forms.{relayForm}
+use Rattle.tables.specs.Forms.{Edition, today, relayFormIn}
 
 -- what is saved, and what a load gives: the relay that the tables hold, and the tally
 abbrev pub Held : Type 0
@@ -40,10 +41,10 @@ tallyForm =
     & field "kept" (numberIn counterWidth))
 
 -- ---- the eight bodies, by the fields of the layout that each holds: own address and last clock, ports, local addresses, paths, links, returns, hashes,
--- tally. In every edition these are all fields, in the order in which they stand
+-- tally. In every edition these are all fields, in the order in which they stand. Behind the last clock stand wish 5's settings
 abbrev pub bodies : List (List String)
 bodies =
-    ("own" ∷ "clock" ∷ []) ∷
+    ("own" ∷ "clock" ∷ "rate" ∷ []) ∷
     ("ports" ∷ []) ∷
     ("locals" ∷ []) ∷
     ("paths" ∷ []) ∷
@@ -74,13 +75,21 @@ widthsOf f [] = 0
 widthsOf f (k ∷ ks) = widthOf f k + widthsOf f ks
 
 -- ---- an edition: the form of what its bodies hold, one after the other. It gives today's relay and tally: for a field that the edition lacks the form
--- says the value (`since` and `given`), for one with less room the rest (`firstsOf`)
+-- says the value (`given`), for one with less room the rest (`firstsOf`)
+abbrev pub held : Edition → Form Held
+held e = relayFormIn e & field "tally" tallyForm
+
+-- wish 5: "edition 1 and a fresh relay have settings and new fields at 0"
 abbrev pub edition1 : Form Held
-edition1 = relayForm & field "tally" tallyForm
+edition1 = held (record { rateSettings = given noRateSettings; rateEntry = given noRateEntry })
+
+-- "Saved tables take edition 2"
+abbrev pub edition2 : Form Held
+edition2 = held today
 
 -- all editions, the oldest first: an edition's number is its place in this list, counted from 1
 abbrev pub editions : List (Form Held)
-editions = edition1 ∷ []
+editions = edition1 ∷ edition2 ∷ []
 
 -- the current one is the last
 abbrev pub currentEdition : ℕ

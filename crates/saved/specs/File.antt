@@ -41,7 +41,7 @@ fileOf held = shapeOf savedKind currentEdition headWidth noHead wholeBody (listO
 abbrev pub savedSize : ℕ
 savedSize = bodiesAt + code current .width
 
-saved-size : savedSize ≡ 71192
+saved-size : savedSize ≡ 72292
 saved-size = refl
 
 -- the eight bodies are all that is saved

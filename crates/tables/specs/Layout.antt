@@ -6,10 +6,13 @@ use lib.Dec.{eqb}
 use lib.ListN.{length}
 use Rattle.octets.specs.Index.{_and_, allBelow, listOf}
 use Rattle.octets.specs.Part.{part}
+use Rattle.octets.specs.BigEndian.{number}
 use Rattle.codes.specs.Form.{code}
 use Rattle.rules.specs.Relay.{Relay}
-use Rattle.tables.specs.Forms.{relayForm}
-use Rattle.tables.specs.Places.{tableSize}
+use Rattle.rules.specs.Refusals.{timeOk, rateSettingsOk}
+use Rattle.rules.specs.declared.RateSettings.{RateSettings}
+use Rattle.tables.specs.Forms.{rateSettingsForm, relayForm}
+use Rattle.tables.specs.Places.{timeWidth, clockAt, rateAt, tableSize}
 
 unfoldable pub relayOf : List ℕ → Relay
 relayOf t = code relayForm .read t 0
@@ -20,6 +23,13 @@ bytesOf = code relayForm .write
 -- refusal 7 is given exactly when this is false
 unfoldable pub wellFormed : List ℕ → Bool
 wellFormed t = eqb (length t) tableSize and code relayForm .fine t 0
+
+-- ---- the last clock and the announce rate's settings, for the contract of a helper
+unfoldable pub rateSettingsIn : List ℕ → RateSettings
+rateSettingsIn t = code rateSettingsForm .read t rateAt
+
+unfoldable pub startOk : List ℕ → Bool
+startOk t = timeOk (number (part t clockAt timeWidth)) and rateSettingsOk (rateSettingsIn t)
 
 -- ---- the records of one section, for the contracts of helpers
 -- record i of the section that starts at `at`, whose records are `width` wide

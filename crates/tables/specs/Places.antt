@@ -4,7 +4,7 @@ use Prim.Native.Nat.{ℕ, _+_}
 use Rattle.codes.specs.Form.{slot, code, placeOf}
 use Rattle.numbers.specs.Numbers.{returnCount, hashCount}
 use Rattle.tables.specs.Forms.{portForm, localForm, pathForm, linkForm, returnForm, hashForm, ringForm, relayForm}
-pub use Rattle.tables.specs.Forms.{addressWidth, digestWidth, timeWidth, blobWidth, ringWidth}
+pub use Rattle.tables.specs.Forms.{addressWidth, digestWidth, timeWidth, blobWidth, ringWidth, settingWidth}
 
 -- ---- widths, in bytes. A record's first byte is its mark
 abbrev pub portWidth : ℕ
@@ -31,6 +31,9 @@ ownAt = placeOf relayForm "own"
 
 abbrev pub clockAt : ℕ
 clockAt = placeOf relayForm "clock"
+
+abbrev pub rateAt : ℕ
+rateAt = placeOf relayForm "rate"
 
 abbrev pub portsAt : ℕ
 portsAt = placeOf relayForm "ports"
@@ -60,6 +63,6 @@ hashesAt = hashNextAt + placeOf (ringForm hashCount hashForm) "slots"
 abbrev pub tableSize : ℕ
 tableSize = code relayForm .width
 
--- 71,116 bytes: under 72 KiB
-table-size : tableSize ≡ 71116
+-- 72,216 bytes: under 72 KiB
+table-size : tableSize ≡ 72216
 table-size = refl

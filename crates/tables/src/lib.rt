@@ -7,8 +7,6 @@ mod section_check;
 
 use numbers::HASH_COUNT;
 use numbers::RETURN_COUNT;
-use numbers::TIME_LIMIT;
-use places::CLOCK_AT;
 use places::HASH_NEXT_AT;
 use places::RETURN_NEXT_AT;
 use places::RING_WIDTH;
@@ -19,6 +17,7 @@ use section_check::locals_ok;
 use section_check::paths_ok;
 use section_check::ports_ok;
 use section_check::returns_ok;
+use section_check::start_ok;
 ghost use mathlib.Core.Path.{_≡_};
 ghost use Rattle.tables.specs.Records.{markOf};
 ghost use Rattle.tables.specs.Layout.{wellFormed};
@@ -30,7 +29,7 @@ pub fn check(tables: &[u8]) -> bool
     if tables.len() != TABLE_SIZE {
         return false;
     }
-    if octets::number_of_8_at(tables, CLOCK_AT) > TIME_LIMIT {
+    if !start_ok(tables) {
         return false;
     }
     if !ports_ok(tables) {

@@ -1,6 +1,8 @@
 // Row 7 for each section of the tables, record by record. What is all zeros is passed by one OR over its bytes: paths
 // and links as a whole, for these fill from their first place on; returns and hashes in groups, where the first and the
 // last record of one are unused.
+use super::places::CLOCK_AT;
+use super::places::GRACE_AT;
 use super::places::HASH_WIDTH;
 use super::places::HASHES_AT;
 use super::places::LINK_WIDTH;
@@ -9,33 +11,57 @@ use super::places::LOCAL_WIDTH;
 use super::places::LOCALS_AT;
 use super::places::PATH_WIDTH;
 use super::places::PATHS_AT;
+use super::places::PENALTY_AT;
 use super::places::PORT_WIDTH;
 use super::places::PORTS_AT;
 use super::places::RETURN_WIDTH;
 use super::places::RETURNS_AT;
+use super::places::SETTING_WIDTH;
+use super::places::TARGET_AT;
 use super::record_check::hash_ok;
 use super::record_check::link_ok;
 use super::record_check::local_ok;
 use super::record_check::path_ok;
 use super::record_check::port_ok;
 use super::record_check::return_ok;
+use numbers::GRACE_LIMIT;
 use numbers::HASH_COUNT;
 use numbers::LINK_COUNT;
 use numbers::LOCAL_COUNT;
 use numbers::PATH_COUNT;
+use numbers::PENALTY_LIMIT;
 use numbers::PORT_COUNT;
 use numbers::RETURN_COUNT;
+use numbers::TARGET_LIMIT;
+use numbers::TIME_LIMIT;
 ghost use mathlib.Core.Path.{_≡_};
 ghost use Prim.Native.Nat.{_*_};
 ghost use lib.ListN.{length};
 ghost use Rattle.numbers.specs.Numbers.{portCount, localCount, pathCount, linkCount, returnCount, hashCount};
 ghost use Rattle.tables.specs.Places.{portWidth, localWidth, pathWidth, linkWidth, returnWidth, hashWidth, portsAt, localsAt, pathsAt, linksAt, returnsAt, hashesAt, tableSize};
 ghost use Rattle.tables.specs.Records.{portBytesOk, localBytesOk, pathBytesOk, linkBytesOk, returnBytesOk, hashBytesOk};
-ghost use Rattle.tables.specs.Layout.{recordsOk};
+ghost use Rattle.tables.specs.Layout.{startOk, recordsOk};
 ghost use Rattle.tables.specs.Groups.{groupSize, groupOk};
 
 // Records of a group.
 const GROUP: usize = 128;
+
+// The last clock, and the announce rate's settings behind it.
+pub fn start_ok(t: &[u8]) -> bool
+    requires { ⌜ length (now t) ≡ tableSize ⌝ }
+    ensures { λ r. ⌜ r ≡ startOk (now (t .entry)) ⌝ }
+{
+    if octets::number_of_8_at(t, CLOCK_AT) > TIME_LIMIT {
+        return false;
+    }
+    if octets::number_at(t, TARGET_AT, SETTING_WIDTH) > TARGET_LIMIT {
+        return false;
+    }
+    if octets::number_at(t, GRACE_AT, SETTING_WIDTH) > GRACE_LIMIT {
+        return false;
+    }
+    octets::number_at(t, PENALTY_AT, SETTING_WIDTH) <= PENALTY_LIMIT
+}
 
 pub fn ports_ok(t: &[u8]) -> bool
     requires { ⌜ length (now t) ≡ tableSize ⌝ }
