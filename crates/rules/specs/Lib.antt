@@ -19,4 +19,5 @@ pub mod Saved
 pub mod Run
 pub mod Keepalives
 pub mod Chatty
+pub mod DeadPaths
 pub mod Lengths

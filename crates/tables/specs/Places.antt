@@ -63,6 +63,6 @@ hashesAt = hashNextAt + placeOf (ringForm hashCount hashForm) "slots"
 abbrev pub tableSize : ℕ
 tableSize = code relayForm .width
 
--- 72,216 bytes: under 72 KiB
-table-size : tableSize ≡ 72216
+-- 72,280 bytes: under 72 KiB
+table-size : tableSize ≡ 72280
 table-size = refl
