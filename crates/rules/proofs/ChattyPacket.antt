@@ -1,14 +1,16 @@
 -- Wish 5, of one announce for a live path: while it is blocked no record of a path changes, and one that comes on time is let by.
 use Prim.Native.Nat.{ℕ, _-_, _<_}
 use native.Mathlib.Omega.{arith}
-use mathlib.Core.Bool.{true, false, false≢true}
+use mathlib.Core.Bool.{true, false, not, false≢true}
 use mathlib.Core.List.{List}
 use mathlib.Core.Path.{_≡_, refl, sym, ap, subst, _∙_}
 use lib.Dec.{eqb, lit<}
 use lib.ListN.{length, set}
 use lib.Seq.{set-getD}
-use borrow.Author.Tests.{lt-ltb}
-use Rattle.octets.proofs.Index.{and-left, and-right}
+use borrow.Author.Tests.{lt-ltb, not-true}
+use Rattle.octets.specs.Index.{_and_}
+use Rattle.octets.proofs.Index.{and-left, and-right, and-both, and-no}
+use Rattle.octets.proofs.Choice.{then-false}
 use Rattle.packet.specs.Header.{isAnnounce}
 use Rattle.numbers.specs.Numbers.{pathCount, pathLifetime, live}
 use Rattle.rules.specs.Relay.{Slot, empty, used, Path, withPathRate, Relay, withPaths}
@@ -17,15 +19,15 @@ use Rattle.rules.specs.Refusals.{slotOk, pathOk, packetRefusal}
 use Rattle.rules.specs.Arrival.{Arrival, header, destination}
 use Rattle.rules.specs.Rate.{rated, entryAccepted}
 use Rattle.rules.specs.Ways.{everywhere, wayOn}
-use Rattle.rules.specs.Tests.{ofKnown, isRateLimited, rateLimited}
+use Rattle.rules.specs.Tests.{revives, ofKnown, isRateLimited, rateLimited}
 use Rattle.rules.specs.Judging.{Plan, dropped, delivered, follows, plan}
 use Rattle.rules.specs.Writes.{pathExpiry, announcedRate, announcedPath, announcedPlace, putPath, limitPath, writeWay, isRateDrop, writeDrop, writePlan}
 use Rattle.rules.specs.Run.{packet, perform}
-use Rattle.rules.specs.Chatty.{NoRateDrop, WhileBlocked, PathsStay, BlockedStays, OnTime, Forgiven, reachesRate, OnTimeLetBy}
+use Rattle.rules.specs.Chatty.{NoRateDrop, WhileBlocked, PathsStay, BlockedStays, OnTime, Forgiven, rateIsMade, reachesRate, OnTimeLetBy}
 use Rattle.rules.specs.declared.RateEntry.{RateEntry}
 use Rattle.rules.specs.declared.Rated.{Rated}
 use Rattle.rules.specs.declared.Tally.{Tally}
-use Rattle.rules.proofs.Choices.{either}
+use Rattle.rules.proofs.Choices.{either, and-false}
 use Rattle.rules.proofs.Tables.{table-length}
 use Rattle.rules.proofs.Lowest.{Lowest, lowest-found, found-lowest, lowest-renewed}
 use Rattle.rules.proofs.Passed.{passed}
@@ -37,9 +39,15 @@ use Rattle.rules.proofs.ChattyPlan.{announce-way, dropped-reached, reac
 
 -- what test 15 says of an announce of a known path
 pub known-limited : (v : View) (a : Arrival) (p : Path) → isAnnounce (header a) ≡ true → v .path (destination a) ≡ used p
-    → rateLimited v a (wayOn v a) ≡ rated (v .rate) (a .clock) (p .rate) .dropped
+    → rateLimited v a (wayOn v a) ≡ (not (revives a p) and rated (v .rate) (a .clock) (p .rate) .dropped)
 unfolding rateLimited ofKnown isRateLimited
 known-limited v a p announce known = ap (rateLimited v a) (announce-way v a announce ∙ ap everywhere known)
+
+-- it is made, unless the announce revives a marked one
+pub known-made : (v : View) (a : Arrival) (p : Path) → isAnnounce (header a) ≡ true → v .path (destination a) ≡ used p
+    → rateIsMade v a ≡ (not (revives a p) and true)
+unfolding rateIsMade ofKnown
+known-made v a p announce known = ap (ofKnown a (λ p. true)) (announce-way v a announce ∙ ap everywhere known)
 
 -- ---- (b)
 module _ (p : Path) (a : Arrival) (r : Relay) (h : WhileBlocked p a r) where
@@ -47,7 +55,10 @@ module _ (p : Path) (a : Arrival) (r : Relay) (h : WhileBlocked p a r) where
   seen = viewAt (a .clock) r
 
   holds-then : rateLimited seen a (wayOn seen a) ≡ true
-  holds-then = known-limited seen a p (h .announce) (h .live) ∙ ap (λ (x : Rated). x .dropped) (rated-blocked (seen .rate) (a .clock) (p .rate) (h .blocked))
+  unfolding revives
+  holds-then =
+      known-limited seen a p (h .announce) (h .live)
+      ∙ and-both (ap not (and-no _ (h .unmarked))) (ap (λ (x : Rated). x .dropped) (rated-blocked (seen .rate) (a .clock) (p .rate) (h .blocked)))
 
   -- test 15 writes what stood there
   limit-stays : limitPath seen a (seen .path (destination a)) r .paths ≡ r .paths
@@ -94,7 +105,7 @@ module _ (p : Path) (a : Arrival) (output : List ℕ) (r : Relay) (t : Tally) (h
   says = rated-on-time (r .rate) (a .clock) (p .rate) (h .free) (h .spaced)
 
   off : rateLimited view a (wayOn view a) ≡ false
-  off = known-limited view a p (h .announce) (h .live) ∙ ap (λ (x : Rated). x .dropped) says
+  off = known-limited view a p (h .announce) (h .live) ∙ ap (λ (x : Rated). not (revives a p) and x .dropped) says ∙ and-false _
 
   not-dropped-then : NoRateDrop (perform (packet a output) r t .reply)
   not-dropped-then room reply = false≢true (sym off ∙ dropped-reached view a (rate-dropped a output r t room reply .1) .0)
@@ -125,17 +136,25 @@ module _ (p : Path) (a : Arrival) (output : List ℕ) (r : Relay) (t : Tally) (h
         let some = lifetime-some (view .mode (a .port)) in
         lowest-found _ _ pathCount (a .clock) (R .paths) _ after lowest-after (lt-ltb (a .clock) (pathExpiry view a) (omega (arith, some)))
 
-    forgiven-after : Forgiven p after a
+    -- where test 15 is made
+    forgiven-after : revives a p ≡ false → Forgiven p after a
     unfolding announcedPath announcedRate entryAccepted
-    forgiven-after =
-        record { last = refl; violations = ap (λ (x : Rated). x .violations) says; stays = ap (λ (x : Rated). x .«blocked_until») says }
+    forgiven-after made =
+        let by-rule : announcedRate view a (used p) ≡ entryAccepted (view .rate) (a .clock) (p .rate) = then-false _ _ made in
+        record {
+          last = ap (λ (e : RateEntry). e .last) by-rule;
+          violations = ap (λ (e : RateEntry). e .violations) by-rule ∙ ap (λ (x : Rated). x .violations) says;
+          stays = ap (λ (e : RateEntry). e .«blocked_until») by-rule ∙ ap (λ (x : Rated). x .«blocked_until») says;
+        }
 
   forgiven-then : reachesRate a (length output) r ≡ true → (p′ : Path) × (viewAt (a .clock) R .path (destination a) ≡ used p′) × Forgiven p p′ a
   unfolding reachesRate
   forgiven-then e =
       let taken = and-left _ _ e in
-      let todo = past-rate view a p (h .announce) (h .live) off (reaches view a (and-right _ _ e)) in
-      (announcedPath view a (used p), shown-after taken todo, forgiven-after taken todo)
+      let rest = and-right _ _ e in
+      let made = not-true _ (and-left _ _ (sym (known-made view a p (h .announce) (h .live)) ∙ and-left _ _ rest)) in
+      let todo = past-rate view a p (h .announce) (h .live) off (reaches view a (and-right _ _ rest)) in
+      (announcedPath view a (used p), shown-after taken todo, forgiven-after taken todo made)
 
 pub on-time-let-by : OnTimeLetBy
 on-time-let-by p a output r t h = record { not-dropped = not-dropped-then p a output r t h; forgiven = forgiven-then p a output r t h }

@@ -36,6 +36,7 @@ pub mod CallsRenamed
 pub mod RunRenamed
 pub mod RenumberedTwice
 pub mod Renumbering
+pub mod Marks
 pub mod UniqueAt
 pub mod UniqueWrites
 pub mod Unique

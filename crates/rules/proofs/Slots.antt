@@ -90,6 +90,16 @@ module _ {A : Type 0} (alive : A → Bool) (So : A → Type 0) where
   pub every-fresh : (n : ℕ) → Every alive So (replicate n empty)
   every-fresh n i x e l = absurd (used-not-empty (sym (fresh-empty n i) ∙ e))
 
+  -- a record is changed where it stands
+  pub every-changed : (change : A → A) → ((y : A) → alive (change y) ≡ alive y) → ((y : A) → So y → So (change y))
+      → (slots : List (Slot A)) (i : ℕ) → Every alive So slots → Every alive So (set slots i (renameSlot change (getD slots i empty)))
+  every-changed change lives keeps slots i every j x e l =
+      written slots i _ j x e
+      (λ p q.
+      let (y, o, r) = renamed change (getD slots i empty) x q in
+      subst So r (keeps y (every i y o (sym (lives y) ∙ ap alive r ∙ l))))
+      (λ _ o. every j x o l)
+
   pub every-renamed : (rename : A → A) → ((y : A) → alive (rename y) ≡ alive y) → ((y : A) → So y → So (rename y))
       → (slots : List (Slot A)) → Every alive So slots → Every alive So (map (renameSlot rename) slots)
   every-renamed rename lives keeps slots every i x e l =
@@ -122,6 +132,18 @@ module _ {A : Type 0} (alive : A → Bool) (key : A → List ℕ) where
       (λ i x e l.
       let (y, o, q) = renamed-at rename slots i x e in
       (y, o, sym (lives y) ∙ ap alive q ∙ l, ap key (sym q) ∙ keyed y))
+
+  -- .. or changed where it stands
+  pub single-changed : (change : A → A) → ((y : A) → alive (change y) ≡ alive y) → ((y : A) → key (change y) ≡ key y)
+      → (slots : List (Slot A)) (i : ℕ) → Single alive key slots → Single alive key (set slots i (renameSlot change (getD slots i empty)))
+  single-changed change lives keyed slots i =
+      single-from slots (set slots i (renameSlot change (getD slots i empty)))
+      (λ j x e l.
+      written slots i _ j x e
+      (λ p q.
+      let (y, o, r) = renamed change (getD slots i empty) x q in
+      (y, ap (λ (k : ℕ). getD slots k empty) p ∙ o, sym (lives y) ∙ ap alive r ∙ l, ap key (sym r) ∙ keyed y))
+      (λ _ o. (x, o, l, refl)))
 
   pub single-emptied-where : (test : A → Bool) (slots : List (Slot A)) → Single alive key slots → Single alive key (map (emptiedIf test) slots)
   single-emptied-where test slots =
