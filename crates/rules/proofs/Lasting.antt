@@ -8,19 +8,19 @@ use mathlib.Core.Path.{_≡_, refl, sym, ap, subst, _∙_}
 use lib.Dec.{eqb, ltb}
 use lib.ListN.{length, getD, set, length-set}
 use lib.Seq.{getD-set-same, getD-set-other, set-out}
-use borrow.Author.Tests.{ltb-true, ltb-false, lt-ltb, eqb-true, eq-eqb, not-true, not-false}
+use borrow.Author.Tests.{ltb-true, ltb-false, lt-ltb, eq-eqb, not-true}
 use Rattle.octets.specs.Index.{_and_}
 use Rattle.octets.specs.Choice.{_then_otherwise_, _or_, same}
 use Rattle.octets.specs.Part.{patch}
 use Rattle.octets.proofs.Index.{and-left, and-both, and-no, and-yes, first-holds}
 use Rattle.octets.proofs.Choice.{then-true, then-false, or-no-left, or-no-right, same-eq, eq-same}
-use Rattle.octets.proofs.Listed.{allGive, refuses, NoneHolds, rows-passed}
+use Rattle.octets.proofs.Listed.{NoneHolds}
 use Rattle.packet.specs.Header.{isData}
 use Rattle.packet.specs.Hash.{linkId}
 use Rattle.numbers.specs.Numbers.{portCount, linkCount, provedLifetime, live}
 use Rattle.rules.specs.Relay.{Port, Slot, empty, used, makePort, noPort, Path, Relay, holds, free, lowestFree, withClock, withRate, withPorts, withLocals, withPaths, withLinks, withReturns, withHashes}
 use Rattle.rules.specs.View.{View, viewAt, portOn, isLiveLink, linkPlace, freeLink}
-use Rattle.rules.specs.Refusals.{slotOk, linkOk, tablesOk, packetRows, packetRefusal, refusalBy}
+use Rattle.rules.specs.Refusals.{slotOk, linkOk, tablesOk, packetRefusal}
 use Rattle.rules.specs.Arrival.{Arrival, header, hops, destination}
 use Rattle.rules.specs.Ways.{Way, everywhere, by-path, along-link, by-return, blocked}
 use Rattle.rules.specs.Tests.{isThere, alreadyKnown, fromAnsweringSide, fromAskingSide, leavingPort}

@@ -44,7 +44,10 @@ pub mod Keepalive
 pub mod Lasting
 pub mod RateLaws
 pub mod ChattyPlan
+pub mod Announced
 pub mod ChattyPacket
 pub mod ChattyOff
 pub mod ChattySpaced
 pub mod ChattyScene
+pub mod Revived
+pub mod StaysMarked

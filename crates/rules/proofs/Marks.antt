@@ -10,7 +10,7 @@ use Rattle.rules.specs.Renumbering.{renameSlot}
 use Rattle.rules.specs.Writes.{markedSlot, markPath}
 use Rattle.rules.proofs.Slots.{Single, Every, every-changed, single-changed}
 
-marked-is : (s : Slot Path) → markedSlot s ≡ renameSlot withPathMark s
+pub marked-is : (s : Slot Path) → markedSlot s ≡ renameSlot withPathMark s
 unfolding markedSlot renameSlot
 marked-is empty = refl
 marked-is (used p) = refl

@@ -44,7 +44,7 @@ module _ {A : Type 0} where
       go (no l) = List·getD-eq-default (replicate n empty) empty (rw length-replicate (omega arith))
 
   -- a record that stands there after a write was written, or stood there before
-  written : {C : Type 0} (slots : List (Slot A)) (i : ℕ) (s : Slot A) (j : ℕ) (x : A) → getD (set slots i s) j empty ≡ used x
+  pub written : {C : Type 0} (slots : List (Slot A)) (i : ℕ) (s : Slot A) (j : ℕ) (x : A) → getD (set slots i s) j empty ≡ used x
       → (j ≡ i → s ≡ used x → C) → ((j ≡ i → ⊥) → getD slots j empty ≡ used x → C) → C
   written {C} slots i s j x e new old = go (ℕ-discrete j i) (decLt j (length slots))
     where
@@ -60,7 +60,7 @@ module _ {A : Type 0} where
       → f (getD slots i empty) ≡ used x
   mapped f none slots i x e = sym (List·getD-map f slots i empty) ∙ ap (getD (map f slots) i) none ∙ e
 
-  renamed : (rename : A → A) (s : Slot A) (x : A) → renameSlot rename s ≡ used x → (y : A) × (s ≡ used y) × (rename y ≡ x)
+  pub renamed : (rename : A → A) (s : Slot A) (x : A) → renameSlot rename s ≡ used x → (y : A) × (s ≡ used y) × (rename y ≡ x)
   unfolding renameSlot
   renamed rename empty x e = absurd (used-not-empty e)
   renamed rename (used y) x e = (y, refl, used-same e)
@@ -79,7 +79,7 @@ module _ {A : Type 0} (test : A → Bool) (slots : List (Slot A)) where
   emptied-at i x e = emptied test (getD slots i empty) x (mapped (emptiedIf test) refl slots i x e)
 
 module _ {A : Type 0} (rename : A → A) (slots : List (Slot A)) where
-  renamed-at : (i : ℕ) (x : A) → getD (map (renameSlot rename) slots) i empty ≡ used x → (y : A) × (getD slots i empty ≡ used y) × (rename y ≡ x)
+  pub renamed-at : (i : ℕ) (x : A) → getD (map (renameSlot rename) slots) i empty ≡ used x → (y : A) × (getD slots i empty ≡ used y) × (rename y ≡ x)
   unfolding renameSlot
   renamed-at i x e = renamed rename (getD slots i empty) x (mapped (renameSlot rename) refl slots i x e)
 

@@ -66,8 +66,8 @@ refusals = tt
 
 -- the tests
 unfoldable pub tests : Unit {0}
-unfolding exemptContext exempt isLinkProof pathWay linkWay returnWay wayOn notOurs isMarked forMarkedPath testedAsDuplicate duplicate typeTwoProof typeTwoOfKindLink
-    announceNotSingle announceTooShort announceOfAnother requestOfKindLink requestTooShort linkProofLength formTests badForm failing ownAnnounce
+unfolding exemptContext exempt isLinkProof pathWay linkWay returnWay wayOn notOurs isMarked forMarkedPath testedAsDuplicate duplicate
+    typeTwoProof typeTwoOfKindLink announceNotSingle announceTooShort announceOfAnother requestOfKindLink requestTooShort linkProofLength formTests badForm failing ownAnnounce
     deliveredHere tooManyHops noWayOn whyBlocked isThere followsProvedLink alreadyKnown fromAnsweringSide fromAskingSide wrongSide notSigned
     revives ofKnown isReplay replay isNotBetter notBetter oneMore violated rated isRateLimited rateLimited leavingPort portOff noRoom
 tests = tt
@@ -81,7 +81,8 @@ answers = tt
 -- what is written
 unfoldable pub writes : Unit {0}
 unfolding putNext remembersPlan alreadyLive remembers remember announcedBlobs entryAccepted entryRevived entryDropped announcedRate announcedPath
-    announcedPlace putPath limitPath markedSlot markPath returnKey returnRecord emptiedIf emptiedWhere putReturn emptyReturn linkRecord putLink renewedLink renewLink writeWay writeDrop writePlan stamp enact
+    announcedPlace putPath limitPath markedSlot markPath returnKey returnRecord emptiedIf emptiedWhere putReturn emptyReturn linkRecord
+    putLink renewedLink renewLink writeWay writeDrop writePlan stamp enact
 writes = tt
 
 -- the calls

@@ -174,7 +174,9 @@ module _ (m : List ℕ) (ok : oneToOne m ≡ true) where
   mark-renamed destination clock r =
       let slot : Slot Path = viewAt clock r .path destination in
       ap (λ (paths : List (Slot Path)). withClock clock (withPaths paths (renumbered m r)))
-      (ap (λ (paths : List (Slot Path)). set paths (pathPlace clock (renumbered m r) destination) (markedSlot (viewAt clock (renumbered m r) .path destination)))
+      (ap
+      (λ (paths : List (Slot Path)).
+      set paths (pathPlace clock (renumbered m r) destination) (markedSlot (viewAt clock (renumbered m r) .path destination)))
       (paths-of r)
       ∙ set-renamed (renamePath m) (r .paths) _ _ _ (markedSlot slot) (pathPlace-renamed m clock r destination)
       (ap markedSlot (path-renamed m clock r destination) ∙ marked-renamed slot))
