@@ -1,4 +1,4 @@
-use Prim.Native.Nat.{ℕ, _+_, _*_}
+use Prim.Native.Nat.{_+_, _*_}
 use Rattle.tables.specs.Places.{pathsAt, pathWidth}
 use Rattle.update.specs.Written.{pathWritten}
 use Rattle.update.proofs.PathWrites.{path-kept}
