@@ -58,6 +58,8 @@ extern "C" {
 #define HASKUMYE_TEXT_SIZE 160  /* a line of haskumye_line or haskumye_replay_entry */
 #define HASKUMYE_RECORDING_SIZE 60000 /* the longest recording */
 #define HASKUMYE_ENTRY_WIDTH 12 /* an entry as haskumye_write_recording takes it */
+#define HASKUMYE_SAVED_SIZE 71192 /* what haskumye_save writes, exactly; haskumye_saved_size() says the same */
+#define HASKUMYE_LONGEST_SAVED 524332 /* no saved file of any edition is longer */
 
 /* Limits: how many of each a relay has room for. */
 #define HASKUMYE_PORT_COUNT 16    /* ports 0 to 15 */
@@ -127,11 +129,14 @@ enum haskumye_refusal {
     HASKUMYE_REFUSAL_SETTING = 9,         /* setting a port over 15, or an unknown mode */
     HASKUMYE_REFUSAL_LOCAL_FULL = 10,     /* a 17th local address */
     HASKUMYE_REFUSAL_LOCAL_ADDRESS = 11,  /* adding a local address already there, or removing one not there */
-    HASKUMYE_REFUSAL_FILE_LENGTH = 20,    /* a file over 60,000 bytes, or shorter than its contents */
-    HASKUMYE_REFUSAL_FILE_KIND = 21,      /* another kind of file, or another edition */
-    HASKUMYE_REFUSAL_FILE_PLACE = 22,     /* an offset, a length or the file's end breaks the rule; or no such entry */
+    HASKUMYE_REFUSAL_FILE_LENGTH = 20,    /* a recording over 60,000 bytes, or shorter than its contents; a saved file
+                                             of another length than its contents add up to */
+    HASKUMYE_REFUSAL_FILE_KIND = 21,      /* another kind of file, or an edition that this library does not know */
+    HASKUMYE_REFUSAL_FILE_PLACE = 22,     /* an offset, a length or the file's end breaks the rule; no such entry; a
+                                             saved file of another count than 8 */
     HASKUMYE_REFUSAL_SIGNATURE_WORD = 23, /* a signature word that is neither 0 nor 1 */
-    HASKUMYE_REFUSAL_ROOM = 25,           /* too little room for what is to be written */
+    HASKUMYE_REFUSAL_FILE_BODY = 24,      /* a saved body of wrong size, or with bytes that no relay has */
+    HASKUMYE_REFUSAL_ROOM = 25,           /* too little room for what is to be written; loading: not the tables' size */
     HASKUMYE_REFUSAL_ANNOUNCE_PART = 26,  /* a key, name hash, random, ratchet or signature of wrong length */
     HASKUMYE_REFUSAL_ANNOUNCE_TOO_LONG = 27 /* an announce over 500 bytes once built */
 };
@@ -207,6 +212,15 @@ typedef uint32_t haskumye_written;
 
 #define HASKUMYE_WRITTEN_REFUSAL(written) HASKUMYE_CAST(unsigned, HASKUMYE_WRITTEN(written) & 0xffff)
 #define HASKUMYE_WRITTEN_LENGTH(written) HASKUMYE_CAST(size_t, HASKUMYE_WRITTEN(written) >> 16)
+
+/* The fields of haskumye_save's number: a refusal, 0 for none, and the length written. */
+typedef uint64_t haskumye_saved;
+
+/* The number itself. One of another width, such as a writing call's, does not compile. */
+#define HASKUMYE_SAVED(saved) ((saved) + 0 * sizeof(char[sizeof(saved) == sizeof(haskumye_saved) ? 1 : -1]))
+
+#define HASKUMYE_SAVED_REFUSAL(saved) HASKUMYE_CAST(unsigned, HASKUMYE_SAVED(saved) & 0xffff)
+#define HASKUMYE_SAVED_LENGTH(saved) HASKUMYE_CAST(size_t, HASKUMYE_SAVED(saved) >> 16)
 
 /* Bytes of a fixed number cross in a struct of exactly that size. */
 typedef struct {
@@ -367,6 +381,29 @@ HASKUMYE_CHECKED haskumye_answer haskumye_packet(const uint8_t *packet, size_t l
                                                  size_t room, haskumye_tally *tally);
 
 /*
+ * ---- Saved files: a relay's tables and tally in one file, which this library and later ones load. ----
+ * docs/LAYOUT.md has the file. It has no checksum: put one behind it on a disk, and cut that off before a load
+ * (section 10 of docs/HOST.md).
+ */
+
+/* HASKUMYE_SAVED_SIZE, as the library was built. */
+size_t haskumye_saved_size(void);
+
+/*
+ * Writes tables and tally as a file at the room's start; bytes behind it stay, and so do tables and tally. Returns a
+ * number of two fields: HASKUMYE_SAVED_REFUSAL (7, 25 in this order; 0 for none) and HASKUMYE_SAVED_LENGTH.
+ */
+HASKUMYE_CHECKED haskumye_saved haskumye_save(const uint8_t *tables, size_t tables_length, const haskumye_tally *tally,
+                                              uint8_t *room, size_t room_length);
+
+/*
+ * Sets tables and tally to what a saved file of this edition or an older one holds; what they held does not matter.
+ * `file_length` is that of the saved file alone, without what a host put behind it. Refusals: 20, 21, 22, 24, 25.
+ */
+HASKUMYE_CHECKED uint8_t haskumye_load(const uint8_t *file, size_t file_length, uint8_t *tables, size_t tables_length,
+                                       haskumye_tally *tally);
+
+/*
  * ---- Questions: what the tables hold. They change nothing but what is lent for the answer. ----
  * Each returns 0 where that now holds the answer; HASKUMYE_NONE where there is none, or refusal 7, and then it stays as
  * it was. A record that expired is told too, by haskumye_path and haskumye_link, until another takes its place.
@@ -521,11 +558,12 @@ static inline const char *haskumye_refusal_words(unsigned refusal)
     case HASKUMYE_REFUSAL_SETTING: return "setting a port over 15 or an unknown mode";
     case HASKUMYE_REFUSAL_LOCAL_FULL: return "adding a 17th local address";
     case HASKUMYE_REFUSAL_LOCAL_ADDRESS: return "adding a local address already there, or removing one not there";
-    case HASKUMYE_REFUSAL_FILE_LENGTH: return "file too long or shorter than its contents";
+    case HASKUMYE_REFUSAL_FILE_LENGTH: return "file too long or shorter than its contents (saved: another length)";
     case HASKUMYE_REFUSAL_FILE_KIND: return "kind or edition";
-    case HASKUMYE_REFUSAL_FILE_PLACE: return "offset, length or file end that breaks the rule";
+    case HASKUMYE_REFUSAL_FILE_PLACE: return "offset, length, count or file end that breaks the rule";
     case HASKUMYE_REFUSAL_SIGNATURE_WORD: return "signature word";
-    case HASKUMYE_REFUSAL_ROOM: return "too little room";
+    case HASKUMYE_REFUSAL_FILE_BODY: return "saved body of wrong size, or with bytes that no relay has";
+    case HASKUMYE_REFUSAL_ROOM: return "too little room (loading: not the tables' size)";
     case HASKUMYE_REFUSAL_ANNOUNCE_PART: return "key, name, random, ratchet or signature of wrong length";
     case HASKUMYE_REFUSAL_ANNOUNCE_TOO_LONG: return "announce over 500 once built";
     default: return "unknown";

@@ -1,6 +1,6 @@
 /*
  * The header in C and in C++: it compiles without a warning, its accessors give the fields of an answer, and every call
- * takes NULL where the length is 0. With NARROW, WRITTEN, WIDE or IGNORED it does not compile. The last line is
+ * takes NULL where the length is 0. With NARROW, WRITTEN, WIDE, SHORT or IGNORED it does not compile. The last line is
  * `N passed, M failed`. `header words` prints the words of every number, as bindings/words has them.
  */
 #include "haskumye.h"
@@ -43,6 +43,9 @@ static void check_accessors(void)
     next = forward;
     CHECK(HASKUMYE_ANSWER_PORT(next++) == 15 && next == forward + 1);
     CHECK(HASKUMYE_WRITTEN_REFUSAL(6) == HASKUMYE_REFUSAL_OUTPUT && HASKUMYE_WRITTEN_LENGTH(19u << 16) == 19);
+    const haskumye_saved saved = UINT64_C(71192) << 16, not_saved = HASKUMYE_REFUSAL_ROOM;
+    CHECK(HASKUMYE_SAVED_REFUSAL(saved) == HASKUMYE_REFUSAL_NONE && HASKUMYE_SAVED_LENGTH(saved) == 71192);
+    CHECK(HASKUMYE_SAVED_REFUSAL(not_saved) == HASKUMYE_REFUSAL_ROOM && HASKUMYE_SAVED_LENGTH(not_saved) == 0);
 }
 
 /* The words of each number under 256 that has some. */
@@ -101,6 +104,23 @@ static void check_relay_calls(void)
     CHECK(HASKUMYE_ANSWER_REFUSAL(answer) == HASKUMYE_REFUSAL_OUTPUT);
     answer = haskumye_packet(NULL, 0, 0, 0, 0, tables, sizeof tables, output, sizeof output, &tally);
     CHECK(HASKUMYE_ANSWER_REFUSAL(answer) == HASKUMYE_REFUSAL_TOO_SHORT);
+}
+
+static void check_saving_calls(void)
+{
+    static const haskumye_address address = {{1}};
+    static haskumye_tally tally = {1, 2, 3, 4, 5, 6}, other;
+    static uint8_t tables[HASKUMYE_TABLE_SIZE], room[HASKUMYE_SAVED_SIZE], others[HASKUMYE_TABLE_SIZE];
+    CHECK(haskumye_saved_size() == HASKUMYE_SAVED_SIZE);
+    CHECK(haskumye_save(NULL, 0, &tally, NULL, 0) == HASKUMYE_REFUSAL_TABLES);
+    CHECK(haskumye_load(NULL, 0, NULL, 0, &tally) == HASKUMYE_REFUSAL_FILE_LENGTH);
+    CHECK(haskumye_fresh(tables, sizeof tables, &address) == 0);
+    CHECK(haskumye_save(tables, sizeof tables, &tally, NULL, 0) == HASKUMYE_REFUSAL_ROOM);
+    haskumye_saved saved = haskumye_save(tables, sizeof tables, &tally, room, sizeof room);
+    CHECK(HASKUMYE_SAVED_REFUSAL(saved) == 0 && HASKUMYE_SAVED_LENGTH(saved) == HASKUMYE_SAVED_SIZE);
+    CHECK(haskumye_load(room, sizeof room, NULL, 0, &other) == HASKUMYE_REFUSAL_ROOM && other.total == 0);
+    CHECK(haskumye_load(room, sizeof room, others, sizeof others, &other) == HASKUMYE_REFUSAL_NONE);
+    CHECK(memcmp(tables, others, sizeof tables) == 0 && memcmp(&tally, &other, sizeof tally) == 0);
 }
 
 static void check_questions(void)
@@ -196,6 +216,13 @@ unsigned wide(void)
     return HASKUMYE_WRITTEN_REFUSAL(haskumye_packet(NULL, 0, 0, 0, 0, NULL, 0, NULL, 0, NULL));
 }
 #endif
+#ifdef SHORT
+unsigned short_number(void);
+unsigned short_number(void)
+{
+    return HASKUMYE_SAVED_REFUSAL(haskumye_write(NULL, NULL, 0, NULL, 0));
+}
+#endif
 #ifdef IGNORED
 void ignored(void);
 void ignored(void)
@@ -216,6 +243,7 @@ int main(int count, char **words)
     check_accessors();
     check_packet_calls();
     check_relay_calls();
+    check_saving_calls();
     check_questions();
     check_announce_calls();
     check_recording_calls();

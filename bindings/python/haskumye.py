@@ -34,6 +34,8 @@ LONGEST_MESSAGE = 65535
 TEXT_SIZE = 160
 RECORDING_SIZE = 60000
 ENTRY_WIDTH = 12
+SAVED_SIZE = 71192
+LONGEST_SAVED = 524332
 PORT_COUNT = 16
 LOCAL_COUNT = 16
 PATH_COUNT = 64
@@ -92,11 +94,12 @@ class Refusal(Words):
     SETTING = 9, "setting a port over 15 or an unknown mode"
     LOCAL_FULL = 10, "adding a 17th local address"
     LOCAL_ADDRESS = 11, "adding a local address already there, or removing one not there"
-    FILE_LENGTH = 20, "file too long or shorter than its contents"
+    FILE_LENGTH = 20, "file too long or shorter than its contents (saved: another length)"
     FILE_KIND = 21, "kind or edition"
-    FILE_PLACE = 22, "offset, length or file end that breaks the rule"
+    FILE_PLACE = 22, "offset, length, count or file end that breaks the rule"
     SIGNATURE_WORD = 23, "signature word"
-    ROOM = 25, "too little room"
+    FILE_BODY = 24, "saved body of wrong size, or with bytes that no relay has"
+    ROOM = 25, "too little room (loading: not the tables' size)"
     ANNOUNCE_PART = 26, "key, name, random, ratchet or signature of wrong length"
     ANNOUNCE_TOO_LONG = 27, "announce over 500 once built"
 
@@ -291,6 +294,9 @@ FUNCTIONS = {
     "haskumye_remove_local": (c_uint8, [*_BUFFER, _GIVEN]),
     "haskumye_renumber": (c_uint8, [*_BUFFER, _GIVEN]),
     "haskumye_packet": (c_uint64, [*_BYTES, c_uint64, c_uint64, c_uint8, *_BUFFER, *_BUFFER, _TAKEN]),
+    "haskumye_saved_size": (c_size_t, []),
+    "haskumye_save": (c_uint64, [*_BYTES, _GIVEN, *_BUFFER]),
+    "haskumye_load": (c_uint8, [*_BYTES, *_BUFFER, _TAKEN]),
     "haskumye_port": (c_uint8, [*_BYTES, c_uint64, _TAKEN]),
     "haskumye_local": (c_uint8, [*_BYTES, c_uint64, _TAKEN]),
     "haskumye_path": (c_uint8, [*_BYTES, c_uint64, _TAKEN]),
@@ -533,6 +539,19 @@ class Relay:
         relay._tables.raw = _bytes(tables)
         relay._tally[:] = [_number(count, 32) for count in tally]
         return relay
+
+    @classmethod
+    def load(cls, file):
+        """The relay of a file that `save` gave, of this edition or an older one. What a host put behind it is cut off first. Refusals 20, 21, 22 and
+        24, in this order."""
+        relay, file = cls(bytes(16)), _bytes(file)
+        _done(_library.haskumye_load(file, len(file), relay._tables, TABLE_SIZE, relay._tally))
+        return relay
+
+    def save(self):
+        """The relay's tables and tally as a file, which has no checksum; docs/LAYOUT.md says what lies where."""
+        room = ctypes.create_string_buffer(SAVED_SIZE)
+        return _written(_library.haskumye_save(self._tables, TABLE_SIZE, bytes(self._tally), room, SAVED_SIZE), room)
 
     def _call(self, function, *arguments):
         _done(function(self._tables, TABLE_SIZE, *arguments))

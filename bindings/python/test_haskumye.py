@@ -292,6 +292,63 @@ class TestRecordings(unittest.TestCase):
         self.assertRaises(OverflowError, haskumye.write_recording, [(0, 256, False, b"")])
 
 
+class TestSaved(unittest.TestCase):
+    def box(self):
+        """A relay with something in it, and a tally that is another in each byte."""
+        box, (packet, destination) = relay(3), announce()
+        box.add_local(DESK)
+        box.packet(packet, 1, 1000, signed=True)
+        box.packet(data(destination, b"42 plants"), 2, 1001)
+        return Relay.from_tables(box.tables, Tally(0x01020304, 0x05060708, 0x090A0B0C, 0x0D0E0F10, 0x11121314, 0xFFFFFFFF))
+
+    def test_what_is_saved_loads(self):
+        box = self.box()
+        file = box.save()
+        self.assertEqual((len(file), file[:4]), (haskumye.SAVED_SIZE, bytes([2, 1, 0, 8])))
+        self.assertEqual(file[52:-24], box.tables)
+        self.assertEqual(file[-24:], bytes(range(1, 21)) + bytes([0xFF] * 4))
+        for given in (file, bytearray(file), memoryview(file)):
+            again = Relay.load(given)
+            self.assertEqual((again.tables, again.tally, again.save()), (box.tables, box.tally, file))
+        self.assertEqual(haskumye._library.haskumye_saved_size(), haskumye.SAVED_SIZE)
+
+    def test_a_loaded_relay_goes_on(self):
+        box, again = self.box(), Relay.load(self.box().save())
+        packet = haskumye.write(Parts(destination=DESK), b"43 plants")
+        self.assertEqual(again.packet(packet, 0, 1001), box.packet(packet, 0, 1001))
+        self.assertEqual((again.tables, again.tally), (box.tables, box.tally))
+        with self.assertRaises(Refused) as caught:
+            Relay.load(again.save()).packet(packet, 0, 1000)
+        self.assertEqual(caught.exception.refusal, Refusal.CLOCK)
+
+    def test_refusals(self):
+        file = self.box().save()
+        spoiled = lambda at, byte: file[:at] + bytes([byte]) + file[at + 1 :]
+        files = [
+            (20, b""),
+            (20, file[:-1]),
+            (20, file + bytes(32)),  # a seal that was not cut off
+            (21, spoiled(0, 1)),
+            (21, spoiled(1, 0)),
+            (21, spoiled(1, 2)),
+            (22, bytes([2, 1, 0, 0])),
+            (22, spoiled(7, 53)),
+            (24, spoiled(77, 3)),
+        ]
+        for refusal, wrong in files:
+            with self.assertRaises(Refused) as caught:
+                Relay.load(wrong)
+            self.assertEqual(caught.exception.refusal, refusal)
+
+    def test_a_file_of_every_edition(self):
+        files = sorted((ROOT / "tests/saved").glob("edition-*.saved"))
+        self.assertEqual([path.read_bytes()[1] for path in files], list(range(1, self.box().save()[1] + 1)))
+        for path in files:
+            box = Relay.load(path.read_bytes())
+            self.assertEqual(box.local(3), bytes([3] * 16))
+            self.assertEqual((box.last_clock, box.tally.kept), (0x0102030405, 1))
+
+
 class TestAgreement(unittest.TestCase):
     """What the header declares, without its comments and inline functions."""
 
@@ -308,6 +365,7 @@ class TestAgreement(unittest.TestCase):
             "haskumye_written": ctypes.c_uint32,
             "uint64_t": ctypes.c_uint64,
             "haskumye_answer": ctypes.c_uint64,
+            "haskumye_saved": ctypes.c_uint64,
             "size_t": ctypes.c_size_t,
             "void": None,
         }

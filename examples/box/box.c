@@ -245,6 +245,9 @@ static void set_ports(void)
 static void restore(void)
 {
     enum loaded loaded = load_state(folder, &state);
+    if (loaded == OTHER_EDITION) {
+        give_up("a newer box saved the state: start that one, or take the file away");
+    }
     if (loaded == NOT_WHOLE) {
         fprintf(stderr, "box: the saved state is not whole: starting fresh\n");
     }

@@ -2,7 +2,7 @@
 #include <stdio.h>
 #include <string.h>
 
-enum { LINE_SIZE = 128 };
+enum { LINE_SIZE = 512 };
 
 static int mode_of(const char *word)
 {

@@ -44,6 +44,7 @@ numbered! {
         FileKind = 21,
         FilePlaces = 22,
         SignatureWord = 23,
+        FileBody = 24,
         Room = 25,
         PartLength = 26,
         AnnounceLength = 27,
@@ -140,7 +141,7 @@ mod tests {
     #[test]
     fn reasons_and_refusals_have_the_documents_numbers() {
         for number in 0..=255 {
-            let refusal = matches!(number, 1..=11 | 20..=23 | 25..=27);
+            let refusal = matches!(number, 1..=11 | 20..=27);
             assert_eq!(Reason::from_number(number).map(Reason::number), (1..=14).contains(&number).then_some(number));
             assert_eq!(Refusal::from_number(number).map(Refusal::number), refusal.then_some(number));
         }

@@ -180,6 +180,21 @@ pub fn write_recording(entries: &[u8], bodies: &[u8], room: &mut [u8]) -> u32 {
     unsafe { haskumye_write_recording(given.0, entries.len(), given.1, bodies.len(), room.as_mut_ptr(), size) }
 }
 
+/// How long a saved file is.
+pub fn saved_size() -> usize {
+    unsafe { haskumye_saved_size() }
+}
+
+/// The refusal number in the low 16 bits, the length in those above; the file goes to the room's start.
+pub fn save(tables: &[u8], tally: &Tally, room: &mut [u8]) -> u64 {
+    unsafe { haskumye_save(tables.as_ptr(), tables.len(), tally.as_ptr().cast(), room.as_mut_ptr(), room.len()) }
+}
+
+/// A file's refusal, 20 to 25, or 0.
+pub fn load(file: &[u8], tables: &mut [u8], tally: &mut Tally) -> u8 {
+    unsafe { haskumye_load(file.as_ptr(), file.len(), tables.as_mut_ptr(), tables.len(), tally.as_mut_ptr().cast()) }
+}
+
 /// The packet call of an entry, its answer as one number; its line goes to the buffer, with zeros behind it.
 pub fn replay_entry(file: &[u8], index: u64, tables: &mut [u8], tally: &mut Tally, line: &mut [u8; LINE]) -> u64 {
     let size = tables.len();

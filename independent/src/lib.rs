@@ -16,6 +16,7 @@ pub mod recording;
 pub mod relay;
 pub mod rules;
 pub mod samples;
+pub mod saved;
 pub mod sha256;
 pub mod tables;
 pub mod traffic;

@@ -3,7 +3,7 @@
 use crate::announcing::Own;
 use crate::answer::{Answer, Reason, Refusal, Tally, Verdict};
 use crate::core::{self, crossing, PartsBytes, LINE};
-use crate::engine::{AnnounceCalls, Engine, Fields, Outcome, PacketCalls, RecordingCalls};
+use crate::engine::{AnnounceCalls, Engine, Fields, Outcome, PacketCalls, RecordingCalls, SavedCalls};
 use crate::packet::{payload_place, Address, Blob, PacketHash, Parts};
 use crate::relay::asking::Question;
 use crate::relay::Arrival;
@@ -169,6 +169,20 @@ impl RecordingCalls for Core {
         core::recording_entry(file, index, &mut fields); // where there is no such entry, its body is empty
         let body = &file[fields[3] as usize..][..fields[4] as usize];
         judged(core::replay_entry(file, index, tables, tally, line), body)
+    }
+}
+
+impl SavedCalls for Core {
+    fn saved_size(&self) -> usize {
+        core::saved_size()
+    }
+
+    fn save(&self, tables: &[u8], tally: &Tally, room: &mut [u8]) -> u64 {
+        core::save(tables, tally, room)
+    }
+
+    fn load(&self, file: &[u8], tables: &mut [u8], tally: &mut Tally) -> u8 {
+        core::load(file, tables, tally)
     }
 }
 

@@ -10,6 +10,7 @@ pub use crate::relay::asking::{self, Question};
 pub use crate::relay::links::Side;
 pub use crate::relay::renumbering::Map;
 pub use crate::relay::{accept, announces, by_path, form, judge, links, outgoing, renumbering, returns, settings, Arrival, Packet};
+pub use crate::saved::{loading, saving};
 pub use crate::sha256::Sha256;
 pub use crate::tables::{self, check, tuned, Link, Mode, Path, Port, Return, Section, Table};
 
@@ -161,6 +162,21 @@ macro_rules! every_rule {
             writing::put_file(entries: &[u8], bodies: &[u8], room: &mut [u8]) -> usize;
             replaying::replay_line(number: u64, judged: &Judged) -> String;
             replaying::goes_on(judged: &Judged) -> bool;
+
+            saving::save(&rules, tables: &[u8], tally: &Tally, room: &mut [u8]) -> Result<usize, Refusal>;
+            saving::saving_room_refused(room: usize) -> bool;
+            saving::put_saved(tables: &[u8], tally: &Tally, room: &mut [u8]);
+            loading::load(&rules, file: &[u8], tables: &mut [u8], tally: &mut Tally) -> Result<(), Refusal>;
+            loading::loading_refusal(&rules, file: &[u8], tables: &[u8]) -> Result<(), Refusal>;
+            loading::saved_length_refused(file: &[u8]) -> bool;
+            loading::saved_kind_refused(file: &[u8]) -> bool;
+            loading::saved_places_refused(&rules, file: &[u8]) -> bool;
+            loading::count_refused(count: usize) -> bool;
+            loading::offsets_run(file: &[u8]) -> bool;
+            loading::bodies_refused(&rules, file: &[u8]) -> bool;
+            loading::body_lengths_allowed(file: &[u8]) -> bool;
+            loading::loading_room_refused(tables: &[u8]) -> bool;
+            loading::put_loaded(file: &[u8], tables: &mut [u8], tally: &mut Tally);
         }
     };
 }

@@ -103,13 +103,13 @@ static bool read_call(const char **at, struct listed *call)
 
 static bool read_edit(const char **at, struct listed *call)
 {
-    if (word(at, "save")) {
-        call->edit = SAVE;
-        return true;
+    if (word(at, "put")) {
+        call->edit = PUT_ASIDE;
+        return word(at, "aside");
     }
-    if (word(at, "restore")) {
-        call->edit = RESTORE;
-        return true;
+    if (word(at, "take")) {
+        call->edit = TAKE_BACK;
+        return word(at, "back");
     }
     if (word(at, "write")) {
         call->edit = OVERWRITE;

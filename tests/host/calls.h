@@ -1,4 +1,4 @@
-/* A list of calls, a line each, as independent/src/compare/record.rs writes it. */
+/* A list of calls, a line each, as independent/src/compare/answered.rs writes it. */
 #ifndef HOST_CALLS_H
 #define HOST_CALLS_H
 
@@ -6,7 +6,7 @@
 #include "library.h"
 
 /* A call of the library, or what its caller does to the tables in between. */
-enum edit { NO_EDIT, SAVE, RESTORE, OVERWRITE, COPY, RESIZE };
+enum edit { NO_EDIT, PUT_ASIDE, TAKE_BACK, OVERWRITE, COPY, RESIZE };
 
 struct listed {
     enum function function; /* NOTHING for an edit */

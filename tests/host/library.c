@@ -65,6 +65,24 @@ static uint64_t packet(const struct use *use)
                            (haskumye_tally *)(void *)use->tally.bytes);
 }
 
+static uint64_t saved_size(const struct use *use)
+{
+    (void)use;
+    return haskumye_saved_size();
+}
+
+static uint64_t save_tables(const struct use *use)
+{
+    return haskumye_save(use->tables.bytes, use->tables.length, (const haskumye_tally *)(void *)use->tally.bytes,
+                         use->output.bytes, use->output.length);
+}
+
+static uint64_t load_tables(const struct use *use)
+{
+    return haskumye_load(use->input.bytes, use->input.length, use->tables.bytes, use->tables.length,
+                         (haskumye_tally *)(void *)use->tally.bytes);
+}
+
 static uint64_t port(const struct use *use)
 {
     return haskumye_port(use->tables.bytes, use->tables.length, use->port, (haskumye_port_settings *)use->output.bytes);
@@ -224,6 +242,9 @@ static const struct {
     [REMOVE_LOCAL] = {"haskumye_remove_local", remove_local},
     [RENUMBER] = {"haskumye_renumber", renumber},
     [PACKET] = {"haskumye_packet", packet},
+    [SAVED_SIZE] = {"haskumye_saved_size", saved_size},
+    [SAVE_TABLES] = {"haskumye_save", save_tables},
+    [LOAD_TABLES] = {"haskumye_load", load_tables},
     [PORT] = {"haskumye_port", port},
     [LOCAL] = {"haskumye_local", local},
     [PATH] = {"haskumye_path", path},

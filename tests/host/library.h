@@ -17,6 +17,9 @@ enum function {
     REMOVE_LOCAL,
     RENUMBER,
     PACKET,
+    SAVED_SIZE,
+    SAVE_TABLES,
+    LOAD_TABLES,
     PORT,
     LOCAL,
     PATH,
@@ -48,7 +51,7 @@ enum function {
 
 /* What a function is given; each takes what it needs of it. */
 struct use {
-    struct buffer input;  /* packet, payload, message, address, map, blob or recording; bodies to be written */
+    struct buffer input;  /* packet, payload, message, address, map, blob or file; bodies to be written */
     struct buffer parts;  /* or entries to be written */
     struct buffer output; /* or where an answer of a fixed size goes */
     struct buffer tables;

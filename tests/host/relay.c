@@ -10,7 +10,7 @@ struct relay relay_new(void)
 {
     struct relay relay;
     relay.tables = buffer_new(HASKUMYE_TABLE_SIZE, 0);
-    relay.saved = buffer_new(HASKUMYE_TABLE_SIZE, 0);
+    relay.aside = buffer_new(HASKUMYE_TABLE_SIZE, 0);
     relay.tally = buffer_new(sizeof(haskumye_tally), 0);
     return relay;
 }
@@ -18,7 +18,7 @@ struct relay relay_new(void)
 void relay_free(struct relay *relay)
 {
     buffer_free(&relay->tables);
-    buffer_free(&relay->saved);
+    buffer_free(&relay->aside);
     buffer_free(&relay->tally);
 }
 
@@ -47,11 +47,11 @@ static void edit(struct relay *relay, const struct listed *call)
 {
     struct buffer *tables = &relay->tables;
     switch (call->edit) {
-    case SAVE:
-        replace(&relay->saved, buffer_copy(tables->bytes, tables->length));
+    case PUT_ASIDE:
+        replace(&relay->aside, buffer_copy(tables->bytes, tables->length));
         break;
-    case RESTORE:
-        replace(tables, buffer_copy(relay->saved.bytes, relay->saved.length));
+    case TAKE_BACK:
+        replace(tables, buffer_copy(relay->aside.bytes, relay->aside.length));
         break;
     case OVERWRITE:
         if (lies_within(*tables, call->at, call->bytes.length)) {

@@ -48,11 +48,12 @@ numbered! {
         Setting = 9 "setting a port over 15 or an unknown mode",
         LocalFull = 10 "adding a 17th local address",
         LocalAddress = 11 "adding a local address already there, or removing one not there",
-        FileLength = 20 "file too long or shorter than its contents",
+        FileLength = 20 "file too long or shorter than its contents (saved: another length)",
         FileKind = 21 "kind or edition",
-        FilePlace = 22 "offset, length or file end that breaks the rule",
+        FilePlace = 22 "offset, length, count or file end that breaks the rule",
         SignatureWord = 23 "signature word",
-        Room = 25 "too little room",
+        FileBody = 24 "saved body of wrong size, or with bytes that no relay has",
+        Room = 25 "too little room (loading: not the tables' size)",
         AnnouncePart = 26 "key, name, random, ratchet or signature of wrong length",
         AnnounceTooLong = 27 "announce over 500 once built",
     }
@@ -213,8 +214,9 @@ pub(crate) fn judged(number: u64) -> Result<Verdict, Refusal> {
     }
 }
 
-/// A writing call's number: the refusal in its low 16 bits, the length in those above.
-pub(crate) fn written_length(number: u32) -> Result<usize, Refusal> {
+/// A writing or saving call's number: the refusal in its low 16 bits, the length in those above.
+pub(crate) fn written_length(number: impl Into<u64>) -> Result<usize, Refusal> {
+    let number = number.into();
     match number as u16 {
         0 => Ok((number >> 16) as usize),
         number => Err(refusal(number as u8)),
@@ -238,8 +240,9 @@ mod tests {
     fn numbers_become_answers() {
         assert_eq!(done(0), Ok(()));
         assert_eq!(done(11), Err(Refusal::LocalAddress));
-        assert_eq!(written_length(19 << 16), Ok(19));
-        assert_eq!(written_length(27), Err(Refusal::AnnounceTooLong));
+        assert_eq!(written_length(19u32 << 16), Ok(19));
+        assert_eq!(written_length(27u32), Err(Refusal::AnnounceTooLong));
+        assert_eq!(written_length(71_192u64 << 16), Ok(71_192));
         assert_eq!(judged(0x0700), Err(Refusal::Tables));
         assert_eq!(judged(0x0e01), Ok(Verdict::Drop(Reason::GrownTooLong)));
         assert_eq!(judged(0x0023_0000_0000_0002), Ok(Verdict::Deliver { payload: 35 }));

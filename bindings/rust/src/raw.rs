@@ -25,6 +25,10 @@ pub const TEXT_SIZE: usize = 160;
 pub const RECORDING_SIZE: usize = 60000;
 /// The bytes of an entry as `haskumye_write_recording` takes it.
 pub const ENTRY_WIDTH: usize = 12;
+/// The bytes that `haskumye_save` writes, exactly.
+pub const SAVED_SIZE: usize = 71192;
+/// No saved file of any edition is longer.
+pub const LONGEST_SAVED: usize = 524332;
 
 /// Ports 0 to 15.
 pub const PORT_COUNT: usize = 16;
@@ -239,6 +243,10 @@ extern "C" {
         room: usize,
         tally: *mut Tally,
     ) -> u64;
+
+    pub fn haskumye_saved_size() -> usize;
+    pub fn haskumye_save(tables: *const u8, tables_length: usize, tally: *const Tally, room: *mut u8, room_length: usize) -> u64;
+    pub fn haskumye_load(file: *const u8, file_length: usize, tables: *mut u8, tables_length: usize, tally: *mut Tally) -> u8;
 
     pub fn haskumye_port(tables: *const u8, length: usize, port: u64, settings: *mut PortSettings) -> u8;
     pub fn haskumye_local(tables: *const u8, length: usize, place: u64, address: *mut Address) -> u8;

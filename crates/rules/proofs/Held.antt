@@ -1,11 +1,13 @@
 -- What holds of each part of a relay holds after a call, if it holds of the parts that the call writes: one family of laws. It serves refusal
 -- 7 (Valid), keys that are live once (Unique), and what bytes can hold (demands).
 use Prim.Native.Nat.{ℕ}
-use mathlib.Core.Bool.{true, false}
+use mathlib.Core.Bool.{Bool, true, false}
 use mathlib.Core.List.{List, [], _∷_, map}
 use mathlib.Core.Path.{_≡_}
 use lib.Dec.{eqb}
 use lib.ListN.{length, set}
+use borrow.Author.Tests.{not-true}
+use Rattle.octets.proofs.Index.{and-left, and-right}
 use Rattle.packet.specs.Header.{isData}
 use Rattle.rules.specs.Relay.{Port, Slot, empty, used, Path, Return, Remembered, Ring, makePort, withSlots, Relay, withClock, withPorts, withLocals, withPaths, withLinks, withReturns, withHashes}
 use Rattle.rules.specs.View.{View, viewAt, localPlace}
@@ -16,7 +18,8 @@ use Rattle.rules.specs.Ways.{Way, everywhere, by-path, along-link, by-re
 use Rattle.rules.specs.Judging.{Plan, dropped, delivered, follows, plan}
 use Rattle.rules.specs.Writes.{remembers, remember, putPath, putReturn, emptyReturn, putLink, renewLink, writeWay, writePlan, stamp, enact}
 use Rattle.rules.specs.Calls.{Judgement, judged, judge, packetCall, settled, TableCall, sets-port, adds, removes, renumbers, ruleOf, settle}
-use Rattle.rules.specs.Run.{Call, packet, on-tables, EachCall, ofJudgement, ofSetting, perform, relayAfter}
+use Rattle.rules.specs.Saved.{Format, loadRefusal}
+use Rattle.rules.specs.Run.{Call, packet, on-tables, saves, loads, EachCall, Outcome, ofJudgement, ofSetting, ofSaid, perform, relayAfter, noCall}
 use Rattle.rules.specs.declared.Link.{Link}
 use Rattle.rules.specs.declared.Tally.{Tally}
 use Rattle.octets.proofs.Listed.{NoneHolds}
@@ -170,12 +173,36 @@ module _ (Q : Relay → Type 0) {r : Relay} (q : Q r) where
   unfolding perform ofSetting settle settled
   table-kept c t accepted = either Q _ (λ e. accepted (table-passed c r e)) (λ _. q)
 
+  pub save-kept : (f : Format) (room : List ℕ) (t : Tally) → Q (perform (saves f room) r t .relay)
+  unfolding perform
+  save-kept f room t = q
+
+  pub load-kept : (f : Format) (file : List ℕ) (t : Tally) → (eqb (loadRefusal (f .says file)) 0 ≡ true → Q (f .says file .relay))
+      → Q (perform (loads f file) r t .relay)
+  unfolding perform ofSaid
+  load-kept f file t accepted = either (λ (o : Outcome). Q (o .relay)) (eqb (loadRefusal (f .says file)) 0) accepted (λ _. q)
+
 -- ---- any list of calls, each of which is given what it needs
 -- where none needs anything
 pub any-calls : (cs : List Call) → EachCall (λ c. Unit {0}) cs
 unfolding EachCall
 any-calls [] = tt
 any-calls (c ∷ cs) = (tt, any-calls cs)
+
+-- a list without such calls: its first, the others, and each
+module _ (such : Call → Bool) where
+  pub first-none : (c : Call) (cs : List Call) → noCall such (c ∷ cs) ≡ true → such c ≡ false
+  unfolding noCall
+  first-none c cs h = not-true _ (and-left _ _ h)
+
+  pub others-none : (c : Call) (cs : List Call) → noCall such (c ∷ cs) ≡ true → noCall such cs ≡ true
+  unfolding noCall
+  others-none c cs h = and-right _ _ h
+
+  pub each-none : (cs : List Call) → noCall such cs ≡ true → EachCall (λ c. such c ≡ false) cs
+  unfolding EachCall
+  each-none [] h = tt
+  each-none (c ∷ cs) h = (first-none c cs h, each-none cs (others-none c cs h))
 
 pub stays : (Q : Relay → Type 0) (given : Call → Type 0)
     → ((c : Call) (r : Relay) (t : Tally) → given c → Q r → Q (perform c r t .relay))

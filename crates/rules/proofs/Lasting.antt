@@ -31,7 +31,7 @@ use Rattle.rules.specs.Judging.{Plan, dropped, delivered, follows, plan,
 use Rattle.rules.specs.Writes.{putPath, putReturn, emptyReturn, linkRecord, putLink, renewedLink, renewLink, writeWay, writePlan, remember, remembers, stamp, enact}
 use Rattle.rules.specs.Calls.{Judgement, judged, judge, packetCall, TableCall, sets-port, adds, removes, renumbers, ruleOf, tableRefusal, settle, settled}
 use Rattle.rules.specs.Questions.{Question}
-use Rattle.rules.specs.Run.{Call, packet, on-tables, asks, answered, ofJudgement, ofSetting, ofTold, perform}
+use Rattle.rules.specs.Run.{Call, packet, on-tables, asks, saves, loads, answered, ofJudgement, ofSetting, ofTold, perform}
 use Rattle.rules.specs.Keepalives.{keepsAlive, until, UpAt, Carried, accepted, fair, nextDeadline, Starts, InTime, CarriedIf, Lasts}
 use Rattle.rules.specs.declared.Link.{Link}
 use Rattle.rules.specs.declared.Tally.{Tally}
@@ -43,7 +43,7 @@ use Rattle.rules.proofs.Slots.{used-same}
 use Rattle.rules.proofs.Lowest.{Lowest, lowest-later, lowest-place, lowest-found, found-lowest, lowest-other, lowest-renewed}
 use Rattle.rules.proofs.Accepted.{accepted-packet}
 use Rattle.rules.proofs.Followed.{Followed, Planned, planned, is-request}
-use Rattle.rules.proofs.Held.{packet-kept}
+use Rattle.rules.proofs.Held.{packet-kept, save-kept, load-kept}
 use Rattle.rules.proofs.Valid.{Valid, valid-of}
 use Rattle.rules.proofs.Keepalive.{names-link, keepalive-follows}
 
@@ -430,6 +430,8 @@ module _ (l : Link) (deadline : ℕ) where
           (any-packet l (s .expiry) r a output t (later h) h deadline (s .lasts) (near h) (before h))
   call-up (on-tables c) r t s justly = table-kept-by (Starts l deadline) s c t (λ e. table-up l deadline r s c (justly e))
   call-up (asks q) r t s justly = asked-kept-by (Starts l deadline) s q t
+  call-up (saves f room) r t s justly = save-kept (Starts l deadline) s f room t
+  call-up (loads f file) r t s justly = load-kept (Starts l deadline) s f file t (λ e. absurd (false≢true (justly e)))
 
   call-carried : (c : Call) (r : Relay) (t : Tally) → Starts l deadline r → (accepted c r ≡ true → fair l deadline c ≡ true)
       → CarriedIf l c (accepted c r) (perform c r t .reply) (perform c r t .relay)
@@ -439,6 +441,8 @@ module _ (l : Link) (deadline : ℕ) where
       keepalive-carried l (s .expiry) r a output t now k e
   call-carried (on-tables c) r t s justly = tt
   call-carried (asks q) r t s justly = tt
+  call-carried (saves f room) r t s justly = tt
+  call-carried (loads f file) r t s justly = tt
 
 -- ---- the second theorem: from any relay that has the link up, over any list in which its keepalives come in time
 pub keepalives-keep : (l : Link) (cs : List Call) (deadline : ℕ) (r : Relay) (t : Tally) → Starts l deadline r → InTime l deadline cs r t → Lasts l cs r t

@@ -20,11 +20,12 @@ use Rattle.rules.specs.Tests.{tooManyHops}
 use Rattle.rules.specs.Judging.{Plan, dropped, delivered, follows, plan}
 use Rattle.rules.specs.Writes.{remember, putPath, emptiedWhere, putReturn, emptyReturn, putLink, renewLink, enact}
 use Rattle.rules.specs.Calls.{TableCall, sets-port, adds, removes, renumbers, ruleOf}
-use Rattle.rules.specs.Run.{Call, packet, on-tables, asks, ofTold, perform, relayAfter}
+use Rattle.rules.specs.Run.{Call, packet, on-tables, asks, saves, loads, ofTold, perform, relayAfter}
 use Rattle.rules.specs.declared.Link.{Link}
 use Rattle.rules.specs.declared.Tally.{Tally}
 use Rattle.octets.proofs.Listed.{NoneHolds}
-use Rattle.rules.proofs.Held.{Property, Holds, WayKeeps, PlanKeeps, TableKeeps, enact-held, table-held, packet-kept, table-kept, any-calls, stays}
+use Rattle.rules.proofs.Held.{Property, Holds, WayKeeps, PlanKeeps, TableKeeps, enact-held, table-held, packet-kept, table-kept, save-kept, load-kept, any-calls, stays}
+use Rattle.rules.proofs.Rows.{loaded-ok}
 use Rattle.rules.proofs.Tables.{table-listOf, table-replicate, table-set, table-map, table-getD}
 use Rattle.rules.proofs.Followed.{Found, Planned, planned}
 use Rattle.rules.proofs.Accepted.{Accepted, accepted-packet}
@@ -199,6 +200,8 @@ call-valid (packet a output) r t v =
     (λ e. let accepted : Accepted r a = accepted-packet r a (length output) e in enacted r v a (accepted .port) (accepted .clock))
 call-valid (on-tables c) r t v = table-kept Valid v c t (λ n. table-held v c (table-keeps c r v n))
 call-valid (asks q) r t v = v
+call-valid (saves f room) r t v = save-kept Valid v f room t
+call-valid (loads f file) r t v = load-kept Valid v f file t (λ e. valid-of (f .says file .relay) (loaded-ok (f .says file) e))
 
 -- one call keeps row 7
 pub step-ok : (c : Call) (r : Relay) (t : Tally) → tablesOk r ≡ true → tablesOk (perform c r t .relay) ≡ true

@@ -14,5 +14,6 @@ pub mod Judging
 pub mod Writes
 pub mod Calls
 pub mod Questions
+pub mod Saved
 pub mod Run
 pub mod Keepalives

@@ -23,6 +23,7 @@ pub struct Coverage {
     pub done: usize,
     exempt: Exempt,
     asked: Asked,
+    pub files: Files,
 }
 
 /// Questions, by their answers.
@@ -33,6 +34,31 @@ struct Asked {
     /// Whether the signature word matters: refusals by number, then no and yes.
     refusals: [usize; 8],
     matters: [usize; 2],
+}
+
+/// Saves and loads by their refusals' numbers, 0 for none.
+#[derive(Default)]
+pub struct Files {
+    pub saves: [usize; 26],
+    pub loads: [usize; 26],
+}
+
+impl Files {
+    /// Each answer that can be given, in words, and how often it was.
+    pub fn reached(&self) -> Vec<(String, usize)> {
+        let saves = [0, 7, 25].map(|number| (format!("save: {}", answer(number)), self.saves[number]));
+        let loads = [0, 20, 21, 22, 24, 25].map(|number| (format!("load: {}", answer(number)), self.loads[number]));
+        saves.into_iter().chain(loads).collect()
+    }
+}
+
+/// A refusal's number in words.
+pub fn answer(refusal: usize) -> String {
+    if refusal == 0 {
+        "done".to_string()
+    } else {
+        format!("refusal {refusal}")
+    }
 }
 
 /// Exempt packets that were forwarded: those that came before within the time that a hash is remembered, and those whose hash was live in
@@ -57,7 +83,7 @@ impl Exempt {
 }
 
 impl Coverage {
-    /// Makes a call count; questions count by themselves.
+    /// Makes a call count; questions, saves and loads count by themselves.
     pub fn count_call(&mut self, call: &Call, outcome: &Outcome) {
         match (call, outcome) {
             (Call::Ask { question, .. }, _) => {
@@ -66,17 +92,19 @@ impl Coverage {
             }
             (Call::Matters { .. }, Outcome::Matters(matters)) => self.asked.matters[usize::from(*matters)] += 1,
             (Call::Matters { .. }, Outcome::Refused(number)) => self.asked.refusals[usize::from(*number).min(7)] += 1,
+            (Call::Save { .. }, _) => self.files.saves[refusal(outcome)] += 1,
+            (Call::Load, _) => self.files.loads[refusal(outcome)] += 1,
             _ => self.count(outcome),
         }
     }
 
-    /// Makes the outcome of a call that isn't a question count.
+    /// Makes the outcome of another call count.
     pub fn count(&mut self, outcome: &Outcome) {
         self.calls += 1;
         match outcome {
             Outcome::Refused(number) => self.refusals[usize::from(*number).min(11)] += 1,
             Outcome::Done => self.done += 1,
-            Outcome::Nothing | Outcome::Matters(_) => {}
+            Outcome::Nothing | Outcome::Matters(_) | Outcome::Saved(_) => {}
             Outcome::Judged(answer) => {
                 self.verdicts[answer.verdict.index()] += 1;
                 if let Verdict::Drop(reason) = answer.verdict {
@@ -95,7 +123,7 @@ impl Coverage {
 
     /// After a call: an exempt packet that was forwarded.
     pub fn count_exempt(&mut self, call: &Call, outcome: &Outcome, remembered: bool) {
-        if matches!(call, Call::Fresh(_)) {
+        if matches!(call, Call::Fresh(_) | Call::Load) {
             self.exempt.forwarded.clear();
         }
         let Call::Packet(PacketCall { packet, clock, .. }) = call else { return };
@@ -142,5 +170,14 @@ impl Coverage {
         };
         let again: Vec<_> = line("again within 300 s", &self.exempt.again);
         [again, line("with its hash in the ring", &self.exempt.remembered)].concat()
+    }
+}
+
+/// A refusal's number, 0 for none.
+fn refusal(outcome: &Outcome) -> usize {
+    if let Outcome::Refused(number) = outcome {
+        usize::from(*number)
+    } else {
+        0
     }
 }

@@ -165,17 +165,8 @@ struct Comparison<'a, R: Rules> {
 }
 
 impl<R: Rules> Comparison<'_, R> {
-    /// Of tables only the first byte that differs is shown.
     fn expect(&mut self, what: &str, got: Called, expected: Called) {
-        let turn = self.tally.passed + self.tally.failed;
-        let expected = if self.options.damage { expected.damaged(turn) } else { expected };
-        if got == expected {
-            self.tally.passed += 1;
-            return;
-        }
-        let place = got.buffer.iter().zip(&expected.buffer).position(|(a, b)| a != b);
-        let left = place.map_or(String::new(), |at| format!(", what it left first differs at byte {at}"));
-        self.tally.fail(&format!("{what}: got {}, expected {}{left}", got.number, expected.number));
+        self.tally.long_call(what, got, expected, self.options.damage);
     }
 
     /// Whether the changed tables are allowed, and the tuned check of them beside the plain one.

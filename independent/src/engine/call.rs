@@ -43,9 +43,16 @@ pub enum Call {
         clock: u64,
         room: usize,
     },
+    /// Saves into so much room, filled with a byte; the file is kept.
+    Save {
+        room: usize,
+        fill: u8,
+    },
+    /// Loads the kept file.
+    Load,
     /// Puts a copy of the tables aside, and takes it back.
-    Save,
-    Restore,
+    PutAside,
+    TakeBack,
     /// Writes bytes into the tables.
     Write {
         at: usize,
@@ -59,13 +66,24 @@ pub enum Call {
     },
     /// Cuts the tables, or lengthens them with zeros.
     Resize(usize),
+    /// The same of the kept file.
+    WriteFile {
+        at: usize,
+        bytes: Vec<u8>,
+    },
+    ResizeFile(usize),
     Tally(Tally),
 }
 
 impl Call {
-    /// Is it recorded for hosts in other languages? They set no tally, and are asked nothing.
-    pub fn is_recorded(&self) -> bool {
-        !matches!(self, Call::Tally(_)) && !self.is_question()
+    /// Is it listed for hosts in other languages? They set no tally, are asked nothing, and keep no file.
+    pub fn is_for_hosts(&self) -> bool {
+        !matches!(self, Call::Tally(_)) && !self.is_question() && !self.is_of_files()
+    }
+
+    /// Does it save, load, or change a kept file?
+    fn is_of_files(&self) -> bool {
+        matches!(self, Call::Save { .. } | Call::Load | Call::WriteFile { .. } | Call::ResizeFile(_))
     }
 
     /// Does it only ask?
@@ -117,11 +135,15 @@ impl fmt::Display for Call {
             Call::Renumber(map) => write!(f, "renumber {}", Digits(map)),
             Call::Ask { question, fill } => write!(f, "ask into {fill:02x} {}", Asked(question)),
             Call::Matters { packet, port, clock, room } => write!(f, "matters port {port} clock {clock} room {room} {}", Digits(packet)),
-            Call::Save => f.write_str("save"),
-            Call::Restore => f.write_str("restore"),
+            Call::Save { room, fill } => write!(f, "save into {room} of {fill:02x}"),
+            Call::Load => f.write_str("load"),
+            Call::PutAside => f.write_str("put aside"),
+            Call::TakeBack => f.write_str("take back"),
             Call::Write { at, bytes } => write!(f, "write at {at} {}", Digits(bytes)),
             Call::Copy { from, to, length } => write!(f, "copy {length} from {from} to {to}"),
             Call::Resize(length) => write!(f, "resize to {length}"),
+            Call::WriteFile { at, bytes } => write!(f, "write file at {at} {}", Digits(bytes)),
+            Call::ResizeFile(length) => write!(f, "resize file to {length}"),
             Call::Tally([total, dropped, delivered, forwarded, spread, kept]) => {
                 write!(f, "tally {total} {dropped} {delivered} {forwarded} {spread} {kept}")
             }
@@ -134,7 +156,7 @@ impl FromStr for Call {
 
     fn from_str(line: &str) -> Result<Self, String> {
         let words: Vec<&str> = line.split_whitespace().collect();
-        call_of(&words).ok_or_else(|| format!("not a call: {line}"))
+        call_of(&words).or_else(|| edit_of(&words)).ok_or_else(|| format!("not a call: {line}"))
     }
 }
 
@@ -162,13 +184,24 @@ fn call_of(words: &[&str]) -> Option<Call> {
         ["matters", "port", port, "clock", clock, "room", room, packet] => {
             Call::Matters { packet: bytes_of(packet)?, port: port.parse().ok()?, clock: clock.parse().ok()?, room: room.parse().ok()? }
         }
-        ["save"] => Call::Save,
-        ["restore"] => Call::Restore,
+        ["save", "into", room, "of", fill] => Call::Save { room: room.parse().ok()?, fill: u8::from_be_bytes(array_of(fill)?) },
+        ["load"] => Call::Load,
+        _ => return None,
+    })
+}
+
+/// What a caller does on its own.
+fn edit_of(words: &[&str]) -> Option<Call> {
+    Some(match words {
+        ["put", "aside"] => Call::PutAside,
+        ["take", "back"] => Call::TakeBack,
         ["write", "at", at, bytes] => Call::Write { at: at.parse().ok()?, bytes: bytes_of(bytes)? },
         ["copy", length, "from", from, "to", to] => {
             Call::Copy { from: from.parse().ok()?, to: to.parse().ok()?, length: length.parse().ok()? }
         }
         ["resize", "to", length] => Call::Resize(length.parse().ok()?),
+        ["write", "file", "at", at, bytes] => Call::WriteFile { at: at.parse().ok()?, bytes: bytes_of(bytes)? },
+        ["resize", "file", "to", length] => Call::ResizeFile(length.parse().ok()?),
         ["tally", counters @ ..] => {
             let counters: Option<Vec<u32>> = counters.iter().map(|counter| counter.parse().ok()).collect();
             Call::Tally(counters?.try_into().ok()?)
@@ -227,7 +260,7 @@ mod tests {
         let address = "00112233445566778899aabbccddeeff";
         assert!(format!(" add  local {address} ").parse() == Ok(Call::AddLocal(array_of(address).expect("sixteen bytes"))));
         for line in
-            ["", "save me", "add local 00", "set port 1 on 1 mode 0", "write at 3 0", "write at 3 0g", "resize to -1", "tally 1 2 3"]
+            ["", "put aside me", "add local 00", "set port 1 on 1 mode 0", "write at 3 0", "write at 3 0g", "resize to -1", "tally 1 2 3"]
         {
             assert!(line.parse::<Call>().is_err(), "{line}");
         }

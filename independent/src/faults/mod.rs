@@ -15,6 +15,7 @@ mod packets;
 mod recordings;
 mod renumbering;
 mod returns;
+mod saved;
 mod settings;
 mod with;
 
@@ -32,6 +33,7 @@ pub use packets::*;
 pub use recordings::*;
 pub use renumbering::*;
 pub use returns::*;
+pub use saved::*;
 pub use settings::*;
 pub use with::{Changes, With};
 
@@ -79,11 +81,14 @@ const OF_JUDGING: &[&[Fault]] = &[
 /// Those that show in recordings alone.
 pub const OF_RECORDINGS: &[&[Fault]] = &[recordings::FAULTS];
 
+/// Those that show in saved files alone.
+pub const OF_SAVED: &[&[Fault]] = &[saved::FAULTS];
+
 /// Those that show in announces of our own alone.
 pub const OF_ANNOUNCING: &[&[Fault]] = &[announcing::FAULTS];
 
 pub fn all() -> Vec<Fault> {
-    [OF_PACKETS, OF_TABLES, OF_JUDGING, OF_RECORDINGS, OF_ANNOUNCING].concat().concat()
+    [OF_PACKETS, OF_TABLES, OF_JUDGING, OF_RECORDINGS, OF_SAVED, OF_ANNOUNCING].concat().concat()
 }
 
 pub fn named(name: &str) -> Option<Fault> {

@@ -36,7 +36,7 @@ impl<I: Iterator<Item = Call>> Asking<I> {
                 self.matters(0);
             }
         }
-        let changes = matches!(call, Call::Write { .. } | Call::Copy { .. } | Call::Resize(_));
+        let changes = matches!(call, Call::Write { .. } | Call::Copy { .. } | Call::Resize(_) | Call::Load);
         self.queue.push_back(call);
         if changes && self.random.one_in(2) {
             (0..KINDS.len()).for_each(|kind| self.ask(kind));

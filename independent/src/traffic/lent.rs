@@ -42,12 +42,15 @@ impl Traffic {
         if !self.lent {
             return;
         }
-        self.queue.push_back(Call::Save);
+        self.queue.push_back(Call::PutAside);
         for _ in 0..1 + self.random.below(2) {
             self.change();
         }
         for _ in 0..1 + self.random.below(5) {
             self.call_on_lent();
+        }
+        if self.random.one_in(3) {
+            self.save_lent();
         }
         if self.random.one_in(6) {
             let size = self.random.pick(&[0, 1, 24, SIZE - 1, SIZE + 1, SIZE + 100]);
@@ -55,7 +58,7 @@ impl Traffic {
             self.call_on_lent();
             self.queue.push_back(Call::Fresh(self.world.own));
         }
-        self.queue.push_back(Call::Restore);
+        self.queue.push_back(Call::TakeBack);
     }
 
     /// Lends some fresh relays, whose address tells, a tally that is soon at its end.
@@ -66,7 +69,7 @@ impl Traffic {
         }
     }
 
-    fn call_on_lent(&mut self) {
+    pub(super) fn call_on_lent(&mut self) {
         match self.random.below(10) {
             0..=2 => self.setting_on_lent(),
             3 => self.data_by_path(),
@@ -92,12 +95,7 @@ impl Traffic {
 
     fn change(&mut self) {
         match self.random.below(12) {
-            0 => self.change_byte(),
-            1 => self.change_ports(),
-            2 => self.change_clock(),
-            3 => self.change_rings(),
-            4 => self.change_field(),
-            5 => self.change_marks(),
+            0..=5 => self.change_one(),
             6 | 7 => self.lend_path(),
             8 => self.lend_link(),
             9 => self.lend_return(),
@@ -106,7 +104,19 @@ impl Traffic {
         }
     }
 
-    fn change_byte(&mut self) {
+    /// Writes into one place.
+    pub(super) fn change_one(&mut self) {
+        match self.random.below(6) {
+            0 => self.change_byte(),
+            1 => self.change_ports(),
+            2 => self.change_clock(),
+            3 => self.change_rings(),
+            4 => self.change_field(),
+            _ => self.change_marks(),
+        }
+    }
+
+    pub(super) fn change_byte(&mut self) {
         let at = self.random.below(SIZE);
         let byte = self.random.pick(&[0, 1, 2, 15, 16, 255]);
         self.write(at, [byte]);

@@ -7,6 +7,7 @@ mod data;
 mod exempt;
 mod lent;
 mod links;
+pub mod saved;
 mod settings;
 
 pub use asking::Asking;
@@ -20,6 +21,7 @@ use crate::sha256::Sha256;
 use std::collections::VecDeque;
 
 /// Somebody who announces: its keys and name, what it sent, and the path that a relay should have to it.
+#[derive(Clone)]
 struct Station {
     keys: [u8; 64],
     name_hash: [u8; 10],
@@ -52,12 +54,14 @@ struct Carried {
     leaving: u8,
 }
 
+#[derive(Clone)]
 struct Port {
     on: bool,
     mode: u8,
 }
 
 /// What is believed of the relay and its neighbours.
+#[derive(Clone)]
 struct World {
     own: Address,
     clock: u64,
@@ -77,8 +81,12 @@ pub struct Traffic {
     queue: VecDeque<Call>,
     /// Episodes until the next fresh relay.
     left: usize,
+    /// Does another caller write tables, and are files saved and loaded?
     lent: bool,
+    files: bool,
     world: World,
+    /// What was believed of the relay whose file is kept, where that is known.
+    saved: Option<World>,
 }
 
 /// How many links, forwarded packets and sent packets are kept in mind.
@@ -123,25 +131,34 @@ const EPISODES: &[(usize, Episode)] = &[
     (5, Traffic::local_calls),
     (1, Traffic::locals_full),
     (12, Traffic::renumbering),
-    (36, Traffic::refused_packet),
+    (44, Traffic::refused_packet),
     (12, Traffic::lent_tables),
+    (4, Traffic::save_and_load),
+    (2, Traffic::load_again),
+    (16, Traffic::load_refused),
+    (6, Traffic::load_changed),
 ];
 
 impl Traffic {
     pub fn new(seed: u64) -> Self {
-        Self::start(seed, true)
+        Self::start(seed, true, true)
     }
 
     /// Only calls on tables that nobody else writes.
     pub fn unlent(seed: u64) -> Self {
-        Self::start(seed, false)
+        Self::start(seed, false, true)
     }
 
-    fn start(seed: u64, lent: bool) -> Self {
+    /// Only calls that are listed for hosts in other languages, but for tallies.
+    pub fn for_hosts(seed: u64) -> Self {
+        Self::start(seed, true, false)
+    }
+
+    fn start(seed: u64, lent: bool, files: bool) -> Self {
         let mut random = Random::new(seed);
         let sha = Sha256::default();
         let world = World::new(&mut random, &sha);
-        let mut traffic = Self { random, sha, queue: VecDeque::new(), left: 0, lent, world };
+        let mut traffic = Self { random, sha, queue: VecDeque::new(), left: 0, lent, files, world, saved: None };
         traffic.begin();
         traffic
     }

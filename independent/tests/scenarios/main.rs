@@ -12,6 +12,7 @@ mod packets;
 mod recordings;
 mod renumbering;
 mod returns;
+mod saved;
 mod settings;
 mod tables;
 

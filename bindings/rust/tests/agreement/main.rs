@@ -40,7 +40,7 @@ impl Texts {
             header: text("include/haskumye.h"),
             rust: text("bindings/rust/src/lib.rs") + &text("bindings/rust/src/raw.rs"),
             rattle: text("crates/rules/src/lib.rt") + &rattle_texts("crates/haskumye/src"),
-            numbers: rattle_texts("crates/numbers/src") + &text("crates/recording/src/numbers.rt"),
+            numbers: rattle_texts("crates/numbers/src") + &text("crates/recording/src/numbers.rt") + &text("crates/saved/src/format.rt"),
         }
     }
 
@@ -68,7 +68,7 @@ impl Texts {
         let plain = self.numbers.lines().filter_map(|line| line.strip_prefix("pub const ")?.strip_suffix(';'));
         let constants = plain.filter_map(|line| Some((line.split_once(':')?.0, text::number(line.split_once("= ")?.1)?)));
         let named = |name: &str| {
-            let name = RECORDINGS.iter().find(|known| known.0 == name).map_or(name, |known| known.1);
+            let name = FILES.iter().find(|known| known.0 == name).map_or(name, |known| known.1);
             let names = [format!("HASKUMYE_REFUSAL_{name}"), format!("HASKUMYE_{name}")];
             names.into_iter().find_map(|name| Some((name.clone(), *header.constants.get(&name)?)))
         };
@@ -117,14 +117,15 @@ fn named_as_in_rust(header: &Interface) -> Interface {
     renamed
 }
 
-/// What the crate `recording` calls a number, and what the header does.
-const RECORDINGS: [(&str, &str); 7] = [
+/// What the crates `recording` and `saved` call a number, and what the header does.
+const FILES: [(&str, &str); 8] = [
     ("LONGEST_FILE", "RECORDING_SIZE"),
     ("CLOCK_REFUSED", "CLOCK"),
     ("LENGTH_REFUSED", "FILE_LENGTH"),
     ("KIND_REFUSED", "FILE_KIND"),
     ("PLACE_REFUSED", "FILE_PLACE"),
     ("WORD_REFUSED", "SIGNATURE_WORD"),
+    ("BODY_REFUSED", "FILE_BODY"),
     ("ROOM_REFUSED", "ROOM"),
 ];
 
@@ -153,9 +154,9 @@ fn the_three_agree() {
 fn something_is_compared() {
     let texts = Texts::read();
     let header = header::read("the header", &texts.header);
-    assert_eq!((header.functions.len(), header.structs.len()), (35, 12));
+    assert_eq!((header.functions.len(), header.structs.len()), (38, 12));
     assert_eq!(header.functions["haskumye_packet"].arguments.len(), 10);
-    assert_eq!(header.constants.len(), 82);
+    assert_eq!(header.constants.len(), 85);
 }
 
 #[test]
@@ -250,6 +251,12 @@ fn const_and_mut_are_told_apart() {
             "haskumye_check_tables(tables: &mut [u8])",
             "haskumye_check_tables: argument 1 is `tables: const bytes` in the header, `tables: mut bytes` in the crate",
         ),
+        (
+            RATTLE,
+            "tally: &[u32; 6]",
+            "tally: &mut [u32; 6]",
+            "haskumye_save: argument 3 is `tally: const 6 of u32` in the header, `tally: mut 6 of u32` in the crate",
+        ),
     ]);
 }
 
@@ -294,8 +301,8 @@ fn lengths_of_blocks_are_seen() {
         ),
         (
             RATTLE,
-            "tally: &mut [u32; 6]",
-            "tally: &mut [u32; 5]",
+            "tally: &mut [u32; 6],\n",
+            "tally: &mut [u32; 5],\n",
             "haskumye_replay_entry: argument 6 is `tally: mut 6 of u32` in the header, `tally: mut 5 of u32` in the crate",
         ),
         (
@@ -370,7 +377,13 @@ fn limits_are_those_of_the_crate_of_numbers() {
         assert_eq!(texts.damaged(NUMBERS, &from, &to).differences(), line);
     }
     assert_seen(&[
-        (NUMBERS, "u8 = 22;", "u8 = 24;", "HASKUMYE_REFUSAL_FILE_PLACE is 22 in the header, 24 in the numbers"),
+        (
+            NUMBERS,
+            "end that breaks the rule.\npub const PLACE_REFUSED: u8 = 22;",
+            "\npub const PLACE_REFUSED: u8 = 24;",
+            "HASKUMYE_REFUSAL_FILE_PLACE is 22 in the header, 24 in the numbers",
+        ),
+        (NUMBERS, "u8 = 24;", "u8 = 23;", "HASKUMYE_REFUSAL_FILE_BODY is 24 in the header, 23 in the numbers"),
         (NUMBERS, "60_000", "60_001", "HASKUMYE_RECORDING_SIZE is 60000 in the header, 60001 in the numbers"),
         (
             NUMBERS,
