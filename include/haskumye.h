@@ -151,7 +151,7 @@ enum haskumye_kind {
     HASKUMYE_KEPT = 5     /* an announce was taken in, and nothing leaves */
 };
 
-/* Why a packet was dropped: the number of document 01's first test that held. */
+/* Why a packet was dropped: the number of document 01's first test that held. 14 is not used again. */
 enum haskumye_reason {
     HASKUMYE_REASON_NOT_OURS = 1,       /* type 2 for another relay */
     HASKUMYE_REASON_DUPLICATE = 2,      /* its hash was remembered less than 300 s ago */
@@ -165,8 +165,7 @@ enum haskumye_reason {
     HASKUMYE_REASON_REPLAY = 10,        /* an announce whose blob is stored in its path */
     HASKUMYE_REASON_NOT_BETTER = 11,    /* an announce neither emitted later nor of fewer hops than its path */
     HASKUMYE_REASON_PORT_OFF = 12,      /* the port to leave by */
-    HASKUMYE_REASON_NO_ROOM = 13,       /* for a new path or link */
-    HASKUMYE_REASON_GROWN_TOO_LONG = 14 /* over 500 bytes once rewritten */
+    HASKUMYE_REASON_NO_ROOM = 13        /* for a new path or link */
 };
 
 /*
@@ -587,7 +586,6 @@ static inline const char *haskumye_reason_words(unsigned reason)
     case HASKUMYE_REASON_NOT_BETTER: return "not better";
     case HASKUMYE_REASON_PORT_OFF: return "port off";
     case HASKUMYE_REASON_NO_ROOM: return "no room";
-    case HASKUMYE_REASON_GROWN_TOO_LONG: return "grown too long";
     default: return "unknown";
     }
 }

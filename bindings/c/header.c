@@ -23,12 +23,12 @@ static void check(int holds, const char *what)
 
 static void check_accessors(void)
 {
-    const haskumye_answer refused = UINT64_C(0x0b00), drop = UINT64_C(0x0e01), forward = UINT64_C(0x0013000f0003),
+    const haskumye_answer refused = UINT64_C(0x0b00), drop = UINT64_C(0x0d01), forward = UINT64_C(0x0013000f0003),
                           spread = UINT64_C(0x01f480010004), deliver = UINT64_C(0x0023000000000002);
     CHECK(HASKUMYE_ANSWER_KIND(refused) == HASKUMYE_REFUSED);
     CHECK(HASKUMYE_ANSWER_REFUSAL(refused) == HASKUMYE_REFUSAL_LOCAL_ADDRESS);
     CHECK(HASKUMYE_ANSWER_KIND(drop) == HASKUMYE_DROP);
-    CHECK(HASKUMYE_ANSWER_REASON(drop) == HASKUMYE_REASON_GROWN_TOO_LONG);
+    CHECK(HASKUMYE_ANSWER_REASON(drop) == HASKUMYE_REASON_NO_ROOM);
     CHECK(HASKUMYE_ANSWER_KIND(forward) == HASKUMYE_FORWARD);
     CHECK(HASKUMYE_ANSWER_PORT(forward) == 15 && HASKUMYE_ANSWER_LENGTH(forward) == 19);
     CHECK(HASKUMYE_ANSWER_KIND(spread) == HASKUMYE_SPREAD && HASKUMYE_ANSWER_LENGTH(spread) == 500);

@@ -120,7 +120,6 @@ class Reason(Words):
     NOT_BETTER = 11, "not better"
     PORT_OFF = 12, "port off"
     NO_ROOM = 13, "no room"
-    GROWN_TOO_LONG = 14, "grown too long"
 
 
 class Kind(Words):

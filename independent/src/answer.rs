@@ -52,7 +52,7 @@ numbered! {
 }
 
 numbered! {
-    /// Why a packet is dropped: the first test that holds.
+    /// Why a packet is dropped: the first test that holds. 14 went with Wish 9: "Its number isn't used again."
     Reason {
         NotOurs = 1,
         Duplicate = 2,
@@ -67,7 +67,6 @@ numbered! {
         NotBetter = 11,
         PortOff = 12,
         NoRoom = 13,
-        GrownTooLong = 14,
     }
 }
 
@@ -142,7 +141,7 @@ mod tests {
     fn reasons_and_refusals_have_the_documents_numbers() {
         for number in 0..=255 {
             let refusal = matches!(number, 1..=11 | 20..=27);
-            assert_eq!(Reason::from_number(number).map(Reason::number), (1..=14).contains(&number).then_some(number));
+            assert_eq!(Reason::from_number(number).map(Reason::number), (1..=13).contains(&number).then_some(number));
             assert_eq!(Refusal::from_number(number).map(Refusal::number), refusal.then_some(number));
         }
     }

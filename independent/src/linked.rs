@@ -205,7 +205,7 @@ mod tests {
         let packet = [&[0x40][..], &[0; 40]].concat();
         let judged = |number| judged(number, &packet);
         assert_eq!(judged(0x0000_0700), Outcome::Refused(7));
-        assert_eq!(judged(0x0000_0e01), Outcome::Judged(Answer::silent(Verdict::Drop(Reason::GrownTooLong))));
+        assert_eq!(judged(0x0000_0d01), Outcome::Judged(Answer::silent(Verdict::Drop(Reason::NoRoom))));
         assert_eq!(judged(0x0023_0000_0000_0002), Outcome::Judged(Answer::silent(Verdict::Deliver)));
         assert_eq!(judged(0x0013_000f_0003), Outcome::Judged(Answer { verdict: Verdict::Forward(15), length: 19 }));
         assert_eq!(judged(0x01f4_8001_0004), Outcome::Judged(Answer { verdict: Verdict::Spread(0x8001), length: 500 }));

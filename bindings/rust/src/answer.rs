@@ -75,7 +75,6 @@ numbered! {
         NotBetter = 11 "not better",
         PortOff = 12 "port off",
         NoRoom = 13 "no room",
-        GrownTooLong = 14 "grown too long",
     }
 }
 
@@ -244,7 +243,7 @@ mod tests {
         assert_eq!(written_length(27u32), Err(Refusal::AnnounceTooLong));
         assert_eq!(written_length(71_192u64 << 16), Ok(71_192));
         assert_eq!(judged(0x0700), Err(Refusal::Tables));
-        assert_eq!(judged(0x0e01), Ok(Verdict::Drop(Reason::GrownTooLong)));
+        assert_eq!(judged(0x0d01), Ok(Verdict::Drop(Reason::NoRoom)));
         assert_eq!(judged(0x0023_0000_0000_0002), Ok(Verdict::Deliver { payload: 35 }));
         assert_eq!(judged(0x0013_000f_0003), Ok(Verdict::Forward { port: 15, length: 19 }));
         assert_eq!(judged(0x01f4_8001_0004), Ok(Verdict::Spread { ports: PortSet(0x8001), length: 500 }));

@@ -15,6 +15,7 @@ use Rattle.rules.specs.declared.Tally.{Tally}
 use Rattle.rules.proofs.Choices.{either}
 use Rattle.rules.proofs.AnswerFits.{AnswerFits, answer-fits}
 use Rattle.tables.specs.Layout.{relayOf, wellFormed}
+use Rattle.tables.proofs.Addressed.{addressed-of}
 use Rattle.relay.specs.Promise.{JudgementOn, inBytes, packetOn}
 use Rattle.haskumye.specs.Answers.{fieldsNumber, verdictNumber, answerNumber, renamePorts, renameNumber}
 use Rattle.haskumye.specs.Packets.{payloadPlace}
@@ -130,7 +131,9 @@ module _ (packet : List ℕ) (port clock : ℕ) (signed : Bool) (tables : List �
   answer-in-range : AnswerFits answer
   unfolding packetOn inBytes
   answer-in-range =
-      either (λ (o : JudgementOn). AnswerFits (o .answer)) (wellFormed tables) (λ _. answer-fits _ (relayOf tables) tally output) (λ _. lit< tt)
+      either (λ (o : JudgementOn). AnswerFits (o .answer)) (wellFormed tables)
+      (λ h. answer-fits _ (relayOf tables) (addressed-of tables h) tally output)
+      (λ _. lit< tt)
 
   abbrev start : ℕ
   start = payloadPlace packet

@@ -78,7 +78,7 @@ pub enum Decision {
     },
 }
 
-// Tests 6 to 14, by the way that the packet would follow.
+// Tests 6 to 13, by the way that the packet would follow.
 fn decide_onward(tables: &[u8], packet: &[u8], arrived: Arrived) -> Decision
     requires { ⌜ CanJudge (now packet) (now tables) × (badForm (now packet) ≡ false) ⌝ }
     ensures { λ r. ⌜ r ≡ onwardOn (now (packet .entry)) arrived (now (tables .entry)) ⌝ }

@@ -21,6 +21,5 @@ pub fn reason_number(reason: Reason) -> u8
         Reason::NotBetter => 11,
         Reason::PortOff => 12,
         Reason::NoRoom => 13,
-        Reason::GrownTooLong => 14,
     }
 }

@@ -22,6 +22,7 @@ pub mod Ranges
 pub mod Valid
 pub mod Images
 pub mod PortSets
+pub mod Lengths
 pub mod AnswerFits
 pub mod MovedPorts
 pub mod SlotsRenamed

@@ -7,7 +7,6 @@ use Rattle.rules.specs.View.{View}
 use Rattle.rules.specs.Arrival.{Arrival, hops}
 use Rattle.rules.specs.Ways.{Way, wayOn}
 use Rattle.rules.specs.Tests.{notOurs, duplicate, badForm, ownAnnounce, deliveredHere, tooManyHops, noWayOn, alreadyKnown, wrongSide, notSigned, replay, notBetter, portOff, noRoom}
-use Rattle.rules.specs.Outgoing.{grownTooLong}
 use Rattle.rules.specs.Judging.{Plan, dropped, delivered, follows, earlyTests, onwardTests, onwardPlan, plan}
 unfoldable pub use Rattle.rules.specs.Questions.{ofTest}
 use Rattle.octets.proofs.Listed.{NoneHolds, none-first, none-holds}
@@ -33,14 +32,13 @@ pub record Passed (v : View) (a : Arrival) (w : Way) : Type 0 where
   pub better : notBetter a w ≡ false
   pub portOn : portOff v a w ≡ false
   pub room : noRoom v a w ≡ false
-  pub fits : grownTooLong a w ≡ false
 
 module _ (v : View) (a : Arrival) where
   passed-all : (w : Way) → NoneHolds (earlyTests v a) → NoneHolds (onwardTests v a w) → Passed v a w
   unfolding earlyTests onwardTests
   passed-all w early late =
       let (ours, (new, (form, (notOwn, (elsewhere, (fewHops, _)))))) = early in
-      let (someWay, (unknown, (side, (signed, (newBlob, (better, (portOn, (room, (fits, _))))))))) = late in
+      let (someWay, (unknown, (side, (signed, (newBlob, (better, (portOn, (room, _)))))))) = late in
       record {
         ours = ours;
         new = new;
@@ -56,7 +54,6 @@ module _ (v : View) (a : Arrival) where
         better = better;
         portOn = portOn;
         room = room;
-        fits = fits;
       }
 
   -- .. and the way is the one that the rules find

@@ -1,4 +1,4 @@
--- The fourteen tests of a renamed packet by a renamed view: each says the same as before.
+-- The thirteen tests of a renamed packet by a renamed view: each says the same as before.
 use Prim.Native.Nat.{ℕ}
 use native.Mathlib.Nat.{le-refl}
 use mathlib.Core.Bool.{Bool, true, not}
@@ -15,7 +15,7 @@ use Rattle.rules.specs.Renumbering.{image, oneToOne, renamePath, renameL
 use Rattle.rules.specs.Arrival.{Arrival, header, isLinkProof}
 use Rattle.rules.specs.Ways.{Way, everywhere, by-path, along-link, by-return, blocked, pathWay, linkWay, returnWay, wayOn}
 use Rattle.rules.specs.Tests.{notOurs, duplicate, testedAsDuplicate, ownAnnounce, deliveredHere, noWayOn, whyBlocked, isThere, followsProvedLink, alreadyKnown, fromAnsweringSide, fromAskingSide, wrongSide, notSigned, replay, notBetter, leavingPort, portOff, noRoom}
-use Rattle.rules.specs.Outgoing.{outgoing, grownTooLong}
+use Rattle.rules.specs.Outgoing.{outgoing}
 use Rattle.rules.specs.Run.{renameArrival}
 use Rattle.rules.specs.declared.Link.{Link}
 use Rattle.rules.specs.declared.Blocked.the-variants.{NotProved}
@@ -148,14 +148,6 @@ module _ (m : List ℕ) where
   outgoing-renamed v a (along-link l) = refl
   outgoing-renamed v a (by-return t) = refl
   outgoing-renamed v a (blocked why) = refl
-
-  pub grownTooLong-renamed : (a : Arrival) (w : Way) → grownTooLong (renameArrival m a) (renameWay m w) ≡ grownTooLong a w
-  unfolding grownTooLong renameArrival renameWay renamePath
-  grownTooLong-renamed a (everywhere known) = refl
-  grownTooLong-renamed a (by-path p) = refl
-  grownTooLong-renamed a (along-link l) = refl
-  grownTooLong-renamed a (by-return t) = refl
-  grownTooLong-renamed a (blocked why) = refl
 
 -- ---- tests that look at ports
 module _ (m : List ℕ) (ok : oneToOne m ≡ true) where

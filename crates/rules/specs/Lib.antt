@@ -17,3 +17,4 @@ pub mod Questions
 pub mod Saved
 pub mod Run
 pub mod Keepalives
+pub mod Lengths

@@ -27,7 +27,7 @@ pub enum Blocked {
     NoReturn,
 }
 
-// Why a packet was dropped: document 01's tests 1 to 14, in their order. `reasonNumber` of specs/Answers.antt gives
+// Why a packet was dropped: document 01's tests 1 to 13, in their order. `reasonNumber` of specs/Answers.antt gives
 // the numbers.
 pub enum Reason {
     NotOurs,
@@ -43,7 +43,6 @@ pub enum Reason {
     NotBetter,
     PortOff,
     NoRoom,
-    GrownTooLong,
 }
 
 // What was decided of an accepted packet. A length is that of the packet that stands at the output's start.

@@ -14,9 +14,9 @@ use std::collections::HashMap;
 #[derive(Default)]
 pub struct Coverage {
     pub calls: usize,
-    /// By number: refusals 1 to 11, reasons 1 to 14.
+    /// By number: refusals 1 to 11, reasons 1 to 13.
     pub refusals: [usize; 12],
-    pub reasons: [usize; 15],
+    pub reasons: [usize; 14],
     /// By `Verdict::index`.
     pub verdicts: [usize; 5],
     /// Calls without a packet that were done.
@@ -134,7 +134,7 @@ impl Coverage {
         self.exempt.remembered[place] += usize::from(remembered);
     }
 
-    /// Each thing that can be reached, in words, and how often it was. Reason 14 can't be.
+    /// Each thing that can be reached, in words, and how often it was.
     pub fn reached(&self) -> Vec<(String, usize)> {
         let refusals = (1..=11).map(|number| (format!("refusal {number}"), self.refusals[number]));
         let reasons = (1..=13).map(|number| (format!("drop {number}"), self.reasons[number]));

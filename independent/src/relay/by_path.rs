@@ -1,5 +1,4 @@
-//! Data and link requests not of kind link, which go by a path: tests 6, 7, 12 and 13. Test 14 can't hold: nothing that goes by a path
-//! grows.
+//! Data and link requests not of kind link, which go by a path: tests 6, 7, 12 and 13.
 
 use super::{outgoing, Packet};
 use crate::answer::{Answer, Reason, When};

@@ -7,7 +7,7 @@ use denote.Enum.Declared.{tagOf}
 use Rattle.rules.proofs.Reason.{the-type}
 use Rattle.rules.specs.Writes.{remembersDrop}
 use Rattle.rules.specs.declared.Reason.{Reason}
-use Rattle.rules.specs.declared.Reason.the-variants.{NotOurs, Duplicate, BadForm, OwnAnnounce, TooManyHops, NoWayOn, AlreadyKnown, WrongSide, NotSigned, Replay, NotBetter, PortOff, NoRoom, GrownTooLong}
+use Rattle.rules.specs.declared.Reason.the-variants.{NotOurs, Duplicate, BadForm, OwnAnnounce, TooManyHops, NoWayOn, AlreadyKnown, WrongSide, NotSigned, Replay, NotBetter, PortOff, NoRoom}
 use Rattle.act.proofs.stamps.remembers_drop.Statement.{statement}
 use Rattle.act.proofs.stamps.remembers_drop.Tie as tie
 
@@ -15,7 +15,7 @@ abbrev first : List ℕ
 first = 0 ∷ 1 ∷ []
 
 abbrev later : List ℕ
-later = 2 ∷ 3 ∷ 4 ∷ 5 ∷ 6 ∷ 7 ∷ 8 ∷ 9 ∷ 10 ∷ 11 ∷ 12 ∷ 13 ∷ []
+later = 2 ∷ 3 ∷ 4 ∷ 5 ∷ 6 ∷ 7 ∷ 8 ∷ 9 ∷ 10 ∷ 11 ∷ 12 ∷ []
 
 -- by which arm the reason goes
 told : (r : Reason) → (OneOf first (tagOf the-type r) → false ≡ remembersDrop r) × (OneOf later (tagOf the-type r) → true ≡ remembersDrop r)
@@ -32,7 +32,6 @@ told Replay = (λ is. absurd (miss first 9 tt is), λ _. refl)
 told NotBetter = (λ is. absurd (miss first 10 tt is), λ _. refl)
 told PortOff = (λ is. absurd (miss first 11 tt is), λ _. refl)
 told NoRoom = (λ is. absurd (miss first 12 tt is), λ _. refl)
-told GrownTooLong = (λ is. absurd (miss first 13 tt is), λ _. refl)
 
 returns : tie.Need-returns
 returns c = told (c .before .args .reason) .0 (c .match .keys1)

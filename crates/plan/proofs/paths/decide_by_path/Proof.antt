@@ -81,10 +81,10 @@ returns-3 c =
     let c3 = c .before .before .before in
     let c4 = c3 .before in
     let s = s1 c4 in
-    let (judged, other, kind, proof) = s .pre in
+    let (_, other, kind, proof) = s .pre in
     let is = sym (c .before .before .is-data .ensures) ∙ c .before .if3 .taken in
     c .send .ensures
-    ∙ data-at (t s) (a s) other kind proof (two (c4 .before .before .before)) (found c4) (judged .readable) (sized s .size) (c3 .if2 .left) is
+    ∙ data-at (t s) (a s) other kind proof (two (c4 .before .before .before)) (found c4) (c3 .if2 .left) is
 
 request-requires : tie.Need-request-requires
 request-requires c κs = let c2 = c .before .before in (sized (s1 (c2 .before)), c2 .if2 .left)
@@ -94,10 +94,10 @@ returns-4 c =
     let c3 = c .before .before .before in
     let c4 = c3 .before in
     let s = s1 c4 in
-    let (judged, other, kind, proof) = s .pre in
+    let (_, other, kind, proof) = s .pre in
     let not-data = sym (c .before .before .is-data .ensures) ∙ c .before .if3 .left in
     c .request .ensures
-    ∙ request-at (t s) (a s) other kind proof (two (c4 .before .before .before)) (found c4) (judged .readable) (sized s .size) (c3 .if2 .left)
+    ∙ request-at (t s) (a s) other kind proof (two (c4 .before .before .before)) (found c4) (c3 .if2 .left)
     not-data
 
 pub decide-by-path-spec : {M : Type 1} → statement M
