@@ -2,8 +2,10 @@
 use Prim.Native.Nat.{ℕ, _≤_}
 use mathlib.Core.Bool.{true}
 use mathlib.Core.List.{List}
-use mathlib.Core.Path.{_≡_, refl, subst}
+use mathlib.Core.Path.{_≡_, refl, sym, subst, _∙_}
+use lib.Dec.{eqb}
 use lib.ListN.{length}
+use borrow.Author.Tests.{eqb-true}
 use Rattle.octets.specs.Bytes.{Bytes}
 use Rattle.octets.proofs.Index.{and-left, and-both}
 use Rattle.packet.specs.Read.{payloadStart}
@@ -15,12 +17,13 @@ use Rattle.rules.specs.Refusals.{pathOk, slotOk, all, tablesOk}
 use Rattle.rules.specs.Arrival.{Arrival, header}
 use Rattle.rules.specs.Ways.{Way, everywhere, by-path, along-link, by-return, blocked}
 use Rattle.rules.specs.Judging.{Plan, dropped, delivered, follows, plan}
-use Rattle.rules.specs.Writes.{putNext, remember, putPath, limitPath, emptiedWhere, putReturn, emptyReturn, putLink, renewLink, enact}
-use Rattle.rules.specs.Calls.{TableCall, sets-port, sets-rate, adds, removes, renumbers, ruleOf}
-use Rattle.rules.specs.Run.{Call, packet, on-tables, asks, ofTold, perform, relayAfter}
+use Rattle.rules.specs.Writes.{putNext, remember, putPath, emptiedWhere, putReturn, emptyReturn, putLink, renewLink, enact}
+use Rattle.rules.specs.Saved.{Format, loadRefusal}
+use Rattle.rules.specs.Calls.{TableCall, sets-port, adds, removes, renumbers, ruleOf}
+use Rattle.rules.specs.Run.{Call, packet, on-tables, asks, saves, loads, ofTold, perform, relayAfter}
 use Rattle.rules.specs.declared.Link.{Link}
 use Rattle.rules.specs.declared.Tally.{Tally}
-use Rattle.rules.proofs.Held.{WayKeeps, PlanKeeps, TableKeeps, enact-held, table-held, packet-kept, table-kept, stays}
+use Rattle.rules.proofs.Held.{WayKeeps, PlanKeeps, TableKeeps, enact-held, table-held, packet-kept, table-kept, save-kept, load-kept, stays}
 use Rattle.rules.proofs.Tables.{all-set, all-map, all-getD, all-replicate, table-getD}
 use Rattle.rules.proofs.Followed.{Found, Planned, planned}
 use Rattle.rules.proofs.Ranges.{emptied-ok, slot-renamed}
@@ -29,6 +32,8 @@ use Rattle.tables.specs.Places.{addressWidth}
 use Rattle.tables.specs.Shape.{isBytes, pathShaped, linkShaped, returnShaped, hashShaped, shaped}
 use Rattle.tables.proofs.All.{is-each}
 use Rattle.tables.proofs.Shaped.{shape, Shaped, shaped-parts, shaped-from}
+use Rattle.saved.specs.Format.{saidBy}
+use Rattle.saved.proofs.FormatLaws.{said-shaped, load-refused-alike}
 use Rattle.demands.specs.Given.{CallBytes, CallsBytes}
 use Rattle.demands.proofs.Announced.{WayBlob, PlanBlob, plan-blob}
 use Rattle.demands.proofs.Made.{remembered-shaped, return-shaped, link-made, link-renewed, path-made, accepted-whole, path-renumbered, link-renumbered, return-renumbered}
@@ -71,16 +76,8 @@ module _ (r : Relay) (v : Valid r) (s : Shaped r) where
     way-keeps view (by-return t) long ok = all-set (slotOk returnShaped) (r .returns .slots) _ empty (s .returns) refl
     way-keeps view (blocked why) long ok = tt
 
-    -- a rate drop leaves the path's addresses and blobs
-    limit-keeps : (view : View) (known : Slot Path) → slotOk pathShaped known ≡ true → shape .paths (limitPath view a known r .paths)
-    unfolding limitPath withPaths slotOk pathShaped
-    limit-keeps view empty ok = s .paths
-    limit-keeps view (used p) ok = all-set (slotOk pathShaped) (r .paths) _ _ (s .paths) ok
-
     plan-keeps : (todo : Plan) → Planned (viewAt (a .clock) r) a todo → PlanBlob a todo → PlanKeeps shape (viewAt (a .clock) r) a r todo
-    unfolding viewAt slotOk
-    plan-keeps (dropped reason) h long = λ _.
-        limit-keeps (viewAt (a .clock) r) _ (all-getD (slotOk pathShaped) (r .paths) _ empty (s .paths) refl)
+    plan-keeps (dropped reason) h long = tt
     plan-keeps delivered h long = tt
     plan-keeps (follows w) h long = way-keeps (viewAt (a .clock) r) w long (found-shaped (a .clock) a w (h .found))
 
@@ -98,7 +95,6 @@ module _ (r : Relay) (v : Valid r) (s : Shaped r) where
 table-keeps : (c : TableCall) (r : Relay) → all (isBytes addressWidth) (ruleOf c .addresses) ≡ true → Shaped r → TableKeeps shape r c
 unfolding ruleOf all slotOk
 table-keeps (sets-port port on mode) r b s = tt
-table-keeps (sets-rate target grace penalty) r b s = tt
 table-keeps (adds address) r b s = all-set (slotOk (isBytes addressWidth)) (r .locals) _ (used address) (s .locals) (and-left _ _ b)
 table-keeps (removes address) r b s = all-set (slotOk (isBytes addressWidth)) (r .locals) _ empty (s .locals) refl
 table-keeps (renumbers images) r b s = (
@@ -108,12 +104,22 @@ table-keeps (renumbers images) r b s = (
   all-map (slotOk returnShaped) _ (slot-renamed returnShaped (renameReturn images) (return-renumbered images)) (r .returns .slots) (s .returns),
 )
 
+-- a load that isn't refused sets what tables can hold
+load-shaped : (format : Format) (file : List ℕ) → CallBytes (loads format file) → eqb (loadRefusal (format .says file)) 0 ≡ true
+    → shaped (format .says file .relay) ≡ true
+unfolding CallBytes saidBy
+load-shaped format file (e, b) taken =
+    let zero : eqb (loadRefusal (saidBy file)) 0 ≡ true = subst (λ (f : Format). eqb (loadRefusal (f .says file)) 0 ≡ true) e taken in
+    subst (λ (f : Format). shaped (f .says file .relay) ≡ true) (sym e) (said-shaped file b (sym (load-refused-alike file b) ∙ eqb-true _ 0 zero))
+
 call-shaped : (c : Call) (r : Relay) (t : Tally) → CallBytes c → Valid r → Shaped r → Shaped (perform c r t .relay)
 unfolding CallBytes perform ofTold
 call-shaped (packet a output) r t b ok s =
     packet-kept Shaped s a t output (λ e. enacted r ok s a (is-each _ (a .bytes) b) (accepted-whole r a (length output) e))
 call-shaped (on-tables c) r t b ok s = table-kept Shaped s c t (λ _. table-held s c (table-keeps c r b s))
 call-shaped (asks q) r t b ok s = s
+call-shaped (saves format room) r t b ok s = save-kept Shaped s format room t
+call-shaped (loads format file) r t b ok s = load-kept Shaped s format file t (λ e. shaped-parts (format .says file .relay) (load-shaped format file b e))
 
 -- one call keeps the shape
 pub step-shaped : (c : Call) (r : Relay) (t : Tally) → CallBytes c → tablesOk r ≡ true → shaped r ≡ true → shaped (perform c r t .relay) ≡ true
