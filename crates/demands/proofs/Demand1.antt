@@ -25,11 +25,12 @@ use Rattle.rules.specs.Relay.{Port, Slot, empty, used, Relay}
 use Rattle.rules.specs.View.{portOn, isLocal}
 use Rattle.rules.specs.Renumbering.{oneToOne}
 use Rattle.rules.specs.Arrival.{Arrival}
-use Rattle.rules.specs.Refusals.{tablesOk, emptyLocal, packetRows, refusalBy}
+use Rattle.rules.specs.Refusals.{tablesOk, emptyLocal, packetRows, refusalBy, packetRefusal}
 use Rattle.octets.specs.Listed.{firstOf}
 use Rattle.rules.specs.Calls.{Setting, packetCall, judge, judged, settled, ruleOf, tableRefusal, settle}
-use Rattle.rules.specs.Run.{Call, packet, on-tables, asks, port-setting, adding, removing, renumbering}
+use Rattle.rules.specs.Run.{Call, packet, on-tables, asks, saves, loads, port-setting, adding, removing, renumbering, answered, saveReply}
 use Rattle.rules.specs.Questions.{Question, port-settings, local-at, path-at, link-at, live-path, live-returns, live-hashes, last-clock, word-matters, Told, none, a-port, an-address, a-path, a-link, cameWith, toldOf, rowSeven, questionRule, questionRefusal, tell}
+use Rattle.rules.specs.declared.Answer.the-variants.{Refused}
 use Rattle.rules.specs.declared.Tally.{Tally}
 use Rattle.tables.specs.Places.{tableSize}
 use Rattle.tables.specs.Layout.{relayOf, wellFormed}
@@ -38,11 +39,15 @@ use Rattle.tables.specs.Called.{written, called}
 use Rattle.tables.specs.Asked.{tellOn}
 use Rattle.settings.specs.Calls.{freshOn}
 use Rattle.relay.specs.Promise.{inBytes, packetOn}
+use Rattle.saved.specs.File.{savedSize}
+use Rattle.saved.specs.Save.{saveRows, saveRefusal}
+use Rattle.saved.specs.Load.{lengthWrong, kindWrong, contentsWrong, bodiesWrong, loadRows, loadRefusal, loadOn}
+use Rattle.saved.specs.Format.{saving, loading}
 use Rattle.announcing.specs.Announcing.{Announce, signedBytes, announceWith, wrongLengths, announceRows, announceRefusal, anySignature, signing, building}
 use Rattle.announcing.proofs.Lengths.{laid-refusal, laid-stays}
 use Rattle.announcing.proofs.RoundTrip.{refused-alike}
-use Rattle.demands.specs.Bytes.{ofPacket, ofCalled, ofAsked, performOn}
-use Rattle.demands.specs.Refusals.{refusal, refusalOn, refusing, isRefused, isRefusal}
+use Rattle.demands.specs.Bytes.{ofPacket, ofCalled, ofAsked, ofSave, ofLoaded, performOn}
+use Rattle.demands.specs.Refusals.{refusal, afterSeven, refusalOn, refusing, isRefused, isRefusal}
 
 -- ---- the statement
 -- a call on the tables `start` and the tally `counts`
@@ -54,11 +59,10 @@ pub record RefusesExactly (c : Call) (start : List ℕ) (counts : Tally) : Type 
   pub accepted : eqb (refusalOn c start) 0 ≡ true → isRefusal (performOn c start counts .reply) ≡ false
 
 -- ---- tables that row 7 names
-pub seven : (c : Call) (t : List ℕ) (tally : Tally) → wellFormed t ≡ false → performOn c t tally ≡ record { reply = refusing c 7; tables = t; tally = tally }
-unfolding performOn packetOn ofPacket ofCalled ofAsked called tellOn refusing _then_otherwise_
-seven (packet arrival output) t tally h = rw h
-seven (on-tables c) t tally h = rw h
-seven (asks q) t tally h = rw h
+pub seven : (a : Arrival) (output t : List ℕ) (tally : Tally) → wellFormed t ≡ false
+    → performOn (packet a output) t tally ≡ record { reply = answered (Refused 7) output; tables = t; tally = tally }
+unfolding performOn packetOn ofPacket _then_otherwise_
+seven a output t tally h = rw h
 
 -- ---- all others
 -- what a question is told where no row refuses it is no refusal
@@ -95,28 +99,50 @@ module _ (t : List ℕ) (tally : Tally) (b : Bytes t) (h : wellFormed t ≡ true
   unfolding called written settled _then_otherwise_
   setting-accepted n after call e z = rw (h, e, z)
 
-  rows-refused : (c : Call) → eqb (refusal c (relayOf t)) 0 ≡ false
-      → performOn c t tally ≡ record { reply = refusing c (refusal c (relayOf t)); tables = t; tally = tally }
-  unfolding performOn packetOn packetCall inBytes ofPacket ofCalled ofAsked settle tellOn tell refusal refusing _then_otherwise_
-  rows-refused (packet arrival output) z = rw (h, z, again t b h)
-  rows-refused (on-tables c) z = ap (ofCalled tally) (setting-refused _ _ (settle c) refl z)
-  rows-refused (asks q) z = rw (h, z)
+  packet-refused : (a : Arrival) (output : List ℕ) → eqb (packetRefusal (relayOf t) a (length output)) 0 ≡ false
+      → performOn (packet a output) t tally
+      ≡ record { reply = answered (Refused (packetRefusal (relayOf t) a (length output))) output; tables = t; tally = tally }
+  unfolding performOn packetOn packetCall inBytes ofPacket _then_otherwise_
+  packet-refused a output z = rw (h, z, again t b h)
 
-  rows-accepted : (c : Call) → eqb (refusal c (relayOf t)) 0 ≡ true → isRefusal (performOn c t tally .reply) ≡ false
-  unfolding performOn packetOn packetCall judge judged inBytes ofPacket ofCalled ofAsked settle tellOn tell refusal isRefusal _then_otherwise_
-  rows-accepted (packet arrival output) z = rw (h, z)
-  rows-accepted (on-tables c) z = setting-accepted _ _ (settle c) refl z
-  rows-accepted (asks q) z = rw (h, z) (answer-given q (relayOf t))
+  packet-accepted : (a : Arrival) (output : List ℕ) → eqb (packetRefusal (relayOf t) a (length output)) 0 ≡ true
+      → isRefusal (performOn (packet a output) t tally .reply) ≡ false
+  unfolding performOn packetOn packetCall judge judged inBytes ofPacket isRefusal _then_otherwise_
+  packet-accepted a output z = rw (h, z)
 
 -- ---- the theorem
+-- a call whose row 7 stands first: on tables that it names, and on all others
+module _ (t : List ℕ) (tally : Tally) (b : Bytes t) where
+  by-seven : (c : Call) → refusalOn c t ≡ afterSeven c t
+      → (wellFormed t ≡ false → performOn c t tally ≡ record { reply = refusing c 7; tables = t; tally = tally })
+      → (wellFormed t ≡ true → eqb (refusal c (relayOf t)) 0 ≡ false
+      → performOn c t tally ≡ record { reply = refusing c (refusal c (relayOf t)); tables = t; tally = tally })
+      → (wellFormed t ≡ true → eqb (refusal c (relayOf t)) 0 ≡ true → isRefusal (performOn c t tally .reply) ≡ false)
+      → RefusesExactly c t tally
+  unfolding afterSeven _then_otherwise_
+  by-seven c same named rows passed = go (wellFormed t) refl
+    where
+      go : (v : Bool) → wellFormed t ≡ v → RefusesExactly c t tally
+      go true h =
+          let e : refusalOn c t ≡ refusal c (relayOf t) = same ∙ rw h in
+          record { refused = λ z. rw e (rows h (rw e at z)); accepted = λ z. passed h (rw e at z) }
+      go false h =
+          let e : refusalOn c t ≡ 7 = same ∙ rw h in
+          record { refused = λ z. rw e (named h); accepted = λ z. absurd (false≢true (rw e at z)) }
+
 -- for every call, and all bytes
 pub refuses-exactly : (c : Call) (tables : List ℕ) (tally : Tally) → Bytes tables → RefusesExactly c tables tally
-unfolding refusalOn _then_otherwise_
-refuses-exactly c tables tally b = go (wellFormed tables) refl
-  where
-    go : (v : Bool) → wellFormed tables ≡ v → RefusesExactly c tables tally
-    go true h = record { refused = λ z. rw h (rows-refused tables tally b h c (rw h at z)); accepted = λ z. rows-accepted tables tally b h c (rw h at z) }
-    go false h = record { refused = λ z. rw h (seven c tables tally h); accepted = λ z. absurd (false≢true (rw h at z)) }
+unfolding refusalOn refusal performOn ofCalled ofAsked ofSave ofLoaded called settle tellOn tell saveReply loadOn refusing isRefusal _then_otherwise_
+refuses-exactly (packet a output) t tally b =
+    by-seven t tally b (packet a output) refl (seven a output t tally) (λ h z. packet-refused t tally b h a output z)
+    (λ h z. packet-accepted t tally b h a output z)
+refuses-exactly (on-tables c) t tally b =
+    by-seven t tally b (on-tables c) refl (λ h. rw h) (λ h z. ap (ofCalled tally) (setting-refused t tally b h _ _ (settle c) refl z))
+    (λ h z. setting-accepted t tally b h _ _ (settle c) refl z)
+refuses-exactly (asks q) t tally b =
+    by-seven t tally b (asks q) refl (λ h. rw h) (λ h z. rw (h, z)) (λ h z. rw (h, z) (answer-given q (relayOf t)))
+refuses-exactly (saves format room) t tally b = record { refused = λ z. rw z; accepted = λ z. rw z }
+refuses-exactly (loads format file) t tally b = record { refused = λ z. rw z; accepted = λ z. rw z }
 
 -- ---- the rows of each call, written out
 -- well-formed tables hold a relay that row 7 doesn't name, so that the rows below it decide
@@ -141,14 +167,14 @@ pub packet-rows : (a : Arrival) (output tables : List ℕ)
     ltb longestPacket (length (a .bytes)) then 2 otherwise
     accessCode (headerOf (a .bytes)) then 3 otherwise
     typeTwo (headerOf (a .bytes)) and ltb (length (a .bytes)) 35 then 1 otherwise 0)
-unfolding refusalOn refusal refusalBy packetRows firstOf readingRefusal readingRows
+unfolding refusalOn afterSeven refusal refusalBy packetRows firstOf readingRefusal readingRows
 packet-rows a output tables = after-seven tables _
 
 -- setting a port: 7, 9
 pub port-rows : (port : ℕ) (on : Bool) (mode : ℕ) (tables : List ℕ)
     → refusalOn (port-setting port on mode) tables
     ≡ (not (wellFormed tables) then 7 otherwise leb portCount port or leb modeCount mode then 9 otherwise 0)
-unfolding refusalOn refusal tableRefusal ruleOf firstOf
+unfolding refusalOn afterSeven refusal tableRefusal ruleOf firstOf
 port-rows port on mode tables = after-seven tables _
 
 -- adding a local address: 7, 11, 10
@@ -157,20 +183,37 @@ pub adding-rows : (address tables : List ℕ)
     ≡ (not (wellFormed tables) then 7 otherwise
     isLocal (relayOf tables) address then 11 otherwise
     leb localCount (emptyLocal (relayOf tables)) then 10 otherwise 0)
-unfolding refusalOn refusal tableRefusal ruleOf firstOf
+unfolding refusalOn afterSeven refusal tableRefusal ruleOf firstOf
 adding-rows address tables = after-seven tables _
 
 -- removing one: 7, 11
 pub removing-rows : (address tables : List ℕ)
     → refusalOn (removing address) tables ≡ (not (wellFormed tables) then 7 otherwise not (isLocal (relayOf tables) address) then 11 otherwise 0)
-unfolding refusalOn refusal tableRefusal ruleOf firstOf
+unfolding refusalOn afterSeven refusal tableRefusal ruleOf firstOf
 removing-rows address tables = after-seven tables _
 
 -- renumbering: 7, 8
 pub renumbering-rows : (images tables : List ℕ)
     → refusalOn (renumbering images) tables ≡ (not (wellFormed tables) then 7 otherwise not (oneToOne images) then 8 otherwise 0)
-unfolding refusalOn refusal tableRefusal ruleOf firstOf
+unfolding refusalOn afterSeven refusal tableRefusal ruleOf firstOf
 renumbering-rows images tables = after-seven tables _
+
+-- saving: 7, 25
+pub save-rows : (room tables : List ℕ)
+    → refusalOn (saving room) tables ≡ (not (wellFormed tables) then 7 otherwise ltb (length room) savedSize then 25 otherwise 0)
+unfolding refusalOn saveRefusal saveRows firstOf
+save-rows room tables = refl
+
+-- loading: 20, 21, 22, 24, 25
+pub load-rows : (file tables : List ℕ)
+    → refusalOn (loading file) tables
+    ≡ (lengthWrong file then 20 otherwise
+    kindWrong file then 21 otherwise
+    contentsWrong file then 22 otherwise
+    bodiesWrong file then 24 otherwise
+    not (eqb (length tables) tableSize) then 25 otherwise 0)
+unfolding refusalOn loadRefusal loadRows firstOf
+load-rows file tables = refl
 
 -- a question: 7
 pub question-rows : (tables : List ℕ)
@@ -183,7 +226,7 @@ pub question-rows : (tables : List ℕ)
     × ((clock : ℕ) → refusalOn (asks (live-returns clock)) tables ≡ seven)
     × ((clock : ℕ) → refusalOn (asks (live-hashes clock)) tables ≡ seven)
     × (refusalOn (asks last-clock) tables ≡ seven))
-unfolding refusalOn refusal questionRefusal questionRule rowSeven firstOf
+unfolding refusalOn afterSeven refusal questionRefusal questionRule rowSeven firstOf
 question-rows tables =
     let row = after-seven tables 0 in
     (λ port. row, λ place. row, λ place. row, λ place. row, λ destination clock. row, λ clock. row, λ clock. row, row)
@@ -191,7 +234,7 @@ question-rows tables =
 -- whether the signature word matters: as the packet, whatever its word
 pub word-rows : (bytes : List ℕ) (port clock : ℕ) (word : Bool) (output tables : List ℕ)
     → refusalOn (asks (word-matters bytes port clock (length output))) tables ≡ refusalOn (packet (cameWith bytes port clock word) output) tables
-unfolding refusalOn refusal questionRefusal questionRule
+unfolding refusalOn afterSeven refusal questionRefusal questionRule
 word-rows bytes port clock word output tables = refl
 
 -- ---- the calls that take no relay's tables

@@ -4,12 +4,13 @@ use Prim.Native.Nat.{ℕ, _≤_}
 use mathlib.Core.Bool.{true}
 use mathlib.Core.List.{List, [], _∷_}
 use mathlib.Core.Path.{_≡_, refl, sym, ap, subst, _∙_}
+use lib.Dec.{eqb}
 use lib.ListN.{length, take}
 use borrow.Author.Tests.{eq-eqb}
 use Rattle.octets.specs.Bytes.{Bytes}
 use Rattle.octets.specs.Part.{patch}
 use Rattle.octets.specs.Choice.{_then_otherwise_}
-use Rattle.octets.proofs.Choice.{then-true}
+use Rattle.octets.proofs.Choice.{then-true, then-ap}
 use Rattle.packet.specs.Read.{payload, longestPacket, reads, reading}
 use Rattle.packet.specs.Write.{packetOf, leastOutput, writingRefusal, writing, readBack}
 use Rattle.packet.specs.declared.Parts.{Parts}
@@ -21,20 +22,26 @@ use Rattle.packet.proofs.RoundTrip.{reading-writing, writing-reading, write-pay
 use Rattle.rules.specs.Relay.{Relay, fresh}
 use Rattle.rules.specs.Refusals.{tablesOk}
 use Rattle.rules.specs.Calls.{newTally, Setting, settle}
-use Rattle.rules.specs.Run.{EachCall, Call, packet, on-tables, asks, Reply, Outcome, ofJudgement, ofSetting, ofTold, perform, replies, relayAfter, tallyAfter}
+use Rattle.rules.specs.Saved.{Format, saveRefusal, loadRefusal as loadRefusalOf}
+use Rattle.rules.specs.Run.{EachCall, Call, packet, on-tables, asks, saves, loads, Reply, numbered, Outcome, ofJudgement, ofSetting, ofTold, ofSaid, perform, replies, relayAfter, tallyAfter, noneLoads}
 use Rattle.rules.specs.declared.Tally.{Tally}
 use Rattle.rules.proofs.History.{Fits, CountsHistory, history, history-since-fresh}
 use Rattle.rules.proofs.Valid.{step-ok, stays-ok, fresh-ok}
 use Rattle.tables.specs.Places.{addressWidth, tableSize}
 use Rattle.tables.specs.Layout.{relayOf, bytesOf, wellFormed}
 use Rattle.tables.specs.Shape.{isBytes, shaped}
-use Rattle.tables.proofs.Whole.{again, ok-relay, shaped-of, back, ok-bytes, bytes-bytes}
+use Rattle.tables.proofs.Whole.{again, ok-relay, shaped-of, bytes-length, back, ok-bytes, bytes-bytes}
 use Rattle.tables.specs.Called.{Called, written, called}
 use Rattle.tables.specs.Asked.{tellOn}
 use Rattle.settings.specs.Calls.{freshOn}
-use Rattle.demands.specs.Given.{CallsBytes}
+use Rattle.saved.specs.Editions.{Held}
+use Rattle.saved.specs.Load.{loadRefusal, heldIn, loadOn}
+use Rattle.saved.specs.Format.{saidBy, saving}
+use Rattle.saved.proofs.FormatLaws.{save-refused-alike, load-refused-alike}
+use Rattle.demands.specs.Given.{CallBytes, CallsBytes}
 use Rattle.relay.specs.Promise.{inBytes, packetOn}
-use Rattle.demands.specs.Bytes.{OutcomeOn, ofPacket, ofCalled, ofAsked, performOn, repliesOn, tablesAfterOn, tallyAfterOn}
+use Rattle.demands.specs.Bytes.{OutcomeOn, ofPacket, ofCalled, ofAsked, ofSave, ofLoaded, performOn, repliesOn, tablesAfterOn, tallyAfterOn}
+use Rattle.demands.specs.Refusals.{refusal, afterSeven, refusalOn}
 use Rattle.demands.proofs.Shape.{step-shaped, stays-shaped, fresh-shaped}
 
 -- ---- the statement
@@ -46,6 +53,24 @@ pub record FollowsTheRules (cs : List Call) (start : List ℕ) (counts : Tally) 
   pub tally : tallyAfterOn cs start counts ≡ tallyAfter cs r counts
 
 -- ---- one call on a relay's bytes
+module _ (r : Relay) (s : shaped r ≡ true) (ok : tablesOk r ≡ true) where
+  after-seven : (c : Call) → afterSeven c (bytesOf r) ≡ refusal c r
+  unfolding afterSeven _then_otherwise_
+  after-seven c = rw (ok-bytes r s ok, back r s ok)
+
+  -- they are refused by its rows
+  pub refusal-bytes : (c : Call) → CallBytes c → refusalOn c (bytesOf r) ≡ refusal c r
+  unfolding CallBytes refusalOn refusal
+  refusal-bytes (packet a output) given = after-seven (packet a output)
+  refusal-bytes (on-tables c) given = after-seven (on-tables c)
+  refusal-bytes (asks q) given = after-seven (asks q)
+  refusal-bytes (saves format room) given =
+      save-refused-alike r s ok (length room) ∙ ap (λ (f : Format). saveRefusal f (length room) r) (sym given)
+  refusal-bytes (loads format file) given =
+      ap (loadRefusal file) (bytes-length r)
+      ∙ sym (load-refused-alike file (given .1))
+      ∙ ap (λ (f : Format). loadRefusalOf (f .says file)) (sym (given .0))
+
 -- an outcome with the relay's bytes
 unfoldable pub outcomeOn : Outcome → OutcomeOn
 outcomeOn o = record { reply = o .reply; tables = bytesOf (o .relay); tally = o .tally }
@@ -55,11 +80,33 @@ module _ (r : Relay) (s : shaped r ≡ true) (ok : tablesOk r ≡ true) (t : Tal
   unfolding called written ofCalled ofSetting outcomeOn _then_otherwise_
   called-bytes call = rw (ok-bytes r s ok, back r s ok)
 
-  pub call-on : (c : Call) → performOn c (bytesOf r) t ≡ outcomeOn (perform c r t)
-  unfolding performOn perform packetOn inBytes ofPacket ofJudgement ofAsked ofTold tellOn outcomeOn _then_otherwise_
-  call-on (packet arrival output) = rw (ok-bytes r s ok, back r s ok)
-  call-on (on-tables c) = called-bytes (settle c)
-  call-on (asks q) = rw (ok-bytes r s ok, back r s ok)
+  -- a save's refusal and its reply
+  saved-bytes : (room : List ℕ) → ofSave (bytesOf r) t room ≡ outcomeOn (perform (saving room) r t)
+  unfolding ofSave perform outcomeOn
+  saved-bytes room = rw (save-refused-alike r s ok (length room), back r s ok)
+
+  -- a load's refusal, and what it sets
+  loaded-bytes : (file : List ℕ) → Bytes file → ofLoaded (loadOn file (bytesOf r) t) ≡ outcomeOn (ofSaid (saidBy file) r t)
+  unfolding loadOn ofLoaded ofSaid saidBy outcomeOn
+  loaded-bytes file b =
+      let n : ℕ = loadRefusal file tableSize in
+      let h : Held = heldIn file in
+      ap (λ (size : ℕ). ofLoaded
+      (eqb (loadRefusal file size) 0 then record { refusal = 0; tables = bytesOf (h .0); tally = h .1 } otherwise
+      record { refusal = loadRefusal file size; tables = bytesOf r; tally = t })) (bytes-length r)
+      ∙ then-ap ofLoaded (eqb n 0) (record { refusal = 0; tables = bytesOf (h .0); tally = h .1 }) (record { refusal = n; tables = bytesOf r; tally = t })
+      ∙ sym (then-ap outcomeOn (eqb n 0) (record { reply = numbered 0; relay = h .0; tally = h .1 }) (record { reply = numbered n; relay = r; tally = t }))
+      ∙ sym (ap (λ (k : ℕ). outcomeOn
+      (eqb k 0 then record { reply = numbered 0; relay = h .0; tally = h .1 } otherwise record { reply = numbered k; relay = r; tally = t }))
+      (load-refused-alike file b))
+
+  pub call-on : (c : Call) → CallBytes c → performOn c (bytesOf r) t ≡ outcomeOn (perform c r t)
+  unfolding CallBytes performOn perform packetOn inBytes ofPacket ofJudgement ofAsked ofTold tellOn outcomeOn _then_otherwise_
+  call-on (packet arrival output) given = rw (ok-bytes r s ok, back r s ok)
+  call-on (on-tables c) given = called-bytes (settle c)
+  call-on (asks q) given = rw (ok-bytes r s ok, back r s ok)
+  call-on (saves format room) given = saved-bytes room ∙ ap (λ (f : Format). outcomeOn (perform (saves f room) r t)) (sym given)
+  call-on (loads format file) given = loaded-bytes file (given .1) ∙ ap (λ (f : Format). outcomeOn (perform (loads f file) r t)) (sym (given .0))
 
 -- ---- lists of calls on a relay's bytes
 pub run-on : (cs : List Call) (r : Relay) (t : Tally) → CallsBytes cs → tablesOk r ≡ true → shaped r ≡ true → FollowsTheRules cs (bytesOf r) t r
@@ -67,7 +114,7 @@ unfolding EachCall repliesOn tablesAfterOn tallyAfterOn replies relayAfter tally
 run-on [] r t b ok s = record { answers = refl; tables = refl; tally = refl }
 run-on (c ∷ cs) r t b ok s =
     let o : Outcome = perform c r t in
-    let first : performOn c (bytesOf r) t ≡ outcomeOn o = call-on r s ok t c in
+    let first : performOn c (bytesOf r) t ≡ outcomeOn o = call-on r s ok t c (b .0) in
     let rest : FollowsTheRules cs (bytesOf (o .relay)) (o .tally) (o .relay) =
     run-on cs (o .relay) (o .tally) (b .1) (step-ok c r t ok) (step-shaped c r t (b .0) ok s) in
     record {
@@ -86,12 +133,13 @@ follows-the-rules cs tables tally given b h =
     subst (λ (x : List ℕ). FollowsTheRules cs x tally (relayOf tables)) (again tables b h)
     (run-on cs (relayOf tables) tally given (ok-relay tables h) (shaped-of tables b h))
 
--- from there the tally counts history: each counter is what it was, plus the number of such answers among the calls' replies, modulo 2^32
-pub counts-history : (cs : List Call) (tables : List ℕ) (tally : Tally)
+-- from there the tally counts history: each counter is what it was, plus the number of such answers among the calls' replies, modulo 2^32. An accepted load
+-- sets the tally, and history goes on from there: `counts-history-since-load`, SavedTables.antt
+pub counts-history : (cs : List Call) (tables : List ℕ) (tally : Tally) → noneLoads cs ≡ true
     → CallsBytes cs → Bytes tables → wellFormed tables ≡ true → Fits tally → CountsHistory (repliesOn cs tables tally) tally (tallyAfterOn cs tables tally)
-counts-history cs tables tally given b h fits =
+counts-history cs tables tally none given b h fits =
     let follows = follows-the-rules cs tables tally given b h in
-    rw (follows .answers, follows .tally) (history cs (relayOf tables) tally fits)
+    rw (follows .answers, follows .tally) (history cs (relayOf tables) tally none fits)
 
 -- the tables after any list of calls are bytes and well formed: refusal 7 never names them, and the theorem starts anew from them
 module _ (cs : List Call) (tables : List ℕ) (tally : Tally) (given : CallsBytes cs) (b : Bytes tables) (h : wellFormed tables ≡ true) where
@@ -123,11 +171,11 @@ module _ (buffer own : List ℕ) (size : length buffer ≡ tableSize) where
       (run-on cs (fresh own) newTally given (fresh-ok own) (fresh-shaped own h))
 
   -- so the tally counts history: each counter is the number of such answers among the calls' replies, modulo 2^32
-  pub counts-history-fresh : (cs : List Call) → CallsBytes cs → isBytes addressWidth own ≡ true
+  pub counts-history-fresh : (cs : List Call) → noneLoads cs ≡ true → CallsBytes cs → isBytes addressWidth own ≡ true
       → CountsHistory (repliesOn cs (freshOn buffer own .tables) newTally) newTally (tallyAfterOn cs (freshOn buffer own .tables) newTally)
-  counts-history-fresh cs given h =
+  counts-history-fresh cs none given h =
       let follows = follows-the-rules-fresh cs given h in
-      rw (follows .answers, follows .tally) (history-since-fresh cs (fresh own))
+      rw (follows .answers, follows .tally) (history-since-fresh cs (fresh own) none)
 
 -- ---- reading and writing a packet undo each other
 -- the parts that a reading gives, written with the payload: the packet stands at the output's start, byte for byte

@@ -16,7 +16,7 @@ use Rattle.rules.specs.Renumbering.{oneToOne, renumbered, composed}
 use Rattle.rules.specs.Refusals.{all, tablesOk}
 use Rattle.octets.specs.Listed.{firstOf}
 use Rattle.rules.specs.Calls.{newTally, settled, ruleOf, tableRefusal, settle}
-use Rattle.rules.specs.Run.{EachCall, Call, packet, on-tables, asks, renumbering, Reply, numbered, relayAfter, renameArrival, renameCall, renameReply, noneRenumbers}
+use Rattle.rules.specs.Run.{EachCall, Call, packet, on-tables, asks, saves, loads, renumbering, Reply, numbered, relayAfter, renameArrival, renameCall, renameReply, noneRenumbers, noneLoads}
 use Rattle.rules.specs.declared.Tally.{Tally}
 use Rattle.rules.proofs.Valid.{stays-ok, fresh-ok}
 use Rattle.rules.proofs.CallsRenamed.{addresses-renamed}
@@ -83,6 +83,8 @@ unfolding CallBytes renameCall renameArrival
 call-given m (packet arrival output) b = b
 call-given m (on-tables c) b = rw (addresses-renamed m c) b
 call-given m (asks q) b = b
+call-given m (saves format room) b = b
+call-given m (loads format file) b = b
 
 renamed-given : (m : List ℕ) (cs : List Call) → CallsBytes cs → CallsBytes (map (renameCall m) cs)
 unfolding EachCall
@@ -97,15 +99,16 @@ after-map m cs b = (refl, b)
 -- ---- on a relay's bytes
 module _ (r : Relay) (t : Tally) (ok : tablesOk r ≡ true) (s : shaped r ≡ true) (before later : List Call)
     (b : CallsBytes before) (l : CallsBytes later) where
-  forgets-nothing-bytes : (m : List ℕ) → oneToOne m ≡ true → noneRenumbers later ≡ true → ForgetsNothingOn m before later (bytesOf r) t
-  forgets-nothing-bytes m one-to-one h =
+  forgets-nothing-bytes : (m : List ℕ) → oneToOne m ≡ true → noneRenumbers later ≡ true → noneLoads later ≡ true
+      → ForgetsNothingOn m before later (bytesOf r) t
+  forgets-nothing-bytes m one-to-one h kept =
       let plain : List Call = before ++ later in
       let given : CallsBytes plain = both-given before later b l in
       let changed : List Call = before ++ (renumbering m ∷ map (renameCall m) later) in
       let p : FollowsTheRules plain (bytesOf r) t r = run-on plain r t given ok s in
       let q : FollowsTheRules changed (bytesOf r) t r =
       run-on changed r t (both-given before _ b (after-map m _ (renamed-given m later l))) ok s in
-      let f : ForgetsNothing m before later r t = forgets-nothing m before later r t one-to-one h ok in
+      let f : ForgetsNothing m before later r t = forgets-nothing m before later r t one-to-one h kept ok in
       record {
         answers =
             q .answers
@@ -140,13 +143,14 @@ module _ (r : Relay) (t : Tally) (ok : tablesOk r ≡ true) (s : shaped r ≡ tr
 
 -- ---- the theorems
 -- demand 3, for every list of calls, every place in it after which no accepted renumbering stands, and every one-to-one map, from all
--- well-formed tables and every tally
+-- well-formed tables and every tally. Document 02, Wish 4: "demand 3's later calls hold no load", those before may
 module _ (before later : List Call) (b : CallsBytes before) (l : CallsBytes later) where
   module _ (tables : List ℕ) (tally : Tally) (bytes : Bytes tables) (h : wellFormed tables ≡ true) where
-    pub forgets-nothing-on : (m : List ℕ) → oneToOne m ≡ true → noneRenumbers later ≡ true → ForgetsNothingOn m before later tables tally
-    forgets-nothing-on m one-to-one none =
+    pub forgets-nothing-on : (m : List ℕ) → oneToOne m ≡ true → noneRenumbers later ≡ true → noneLoads later ≡ true
+        → ForgetsNothingOn m before later tables tally
+    forgets-nothing-on m one-to-one none kept =
         subst (λ (x : List ℕ). ForgetsNothingOn m before later x tally) (again tables bytes h)
-        (forgets-nothing-bytes (relayOf tables) tally (ok-relay tables h) (shaped-of tables bytes h) before later b l m one-to-one none)
+        (forgets-nothing-bytes (relayOf tables) tally (ok-relay tables h) (shaped-of tables bytes h) before later b l m one-to-one none kept)
 
     -- two in a row are one, at any place of any list, whatever calls stand after it
     pub two-are-one-on : (one two : List ℕ) → oneToOne one ≡ true → oneToOne two ≡ true → TwoAreOneOn one two before later tables tally
@@ -157,10 +161,10 @@ module _ (before later : List Call) (b : CallsBytes before) (l : CallsBytes late
   -- "Both runs start from the same fresh relay, tally 0": the bytes that `fresh` makes
   module _ (buffer own : List ℕ) (size : length buffer ≡ tableSize) (sixteen : isBytes addressWidth own ≡ true) where
     pub forgets-nothing-fresh : (m : List ℕ) → oneToOne m ≡ true → noneRenumbers later ≡ true
-        → ForgetsNothingOn m before later (freshOn buffer own .tables) newTally
-    forgets-nothing-fresh m one-to-one none =
+        → noneLoads later ≡ true → ForgetsNothingOn m before later (freshOn buffer own .tables) newTally
+    forgets-nothing-fresh m one-to-one none kept =
         subst (λ (x : Called). ForgetsNothingOn m before later (x .tables) newTally) (sym (fresh-made buffer own size))
-        (forgets-nothing-bytes (fresh own) newTally (fresh-ok own) (fresh-shaped own sixteen) before later b l m one-to-one none)
+        (forgets-nothing-bytes (fresh own) newTally (fresh-ok own) (fresh-shaped own sixteen) before later b l m one-to-one none kept)
 
     pub two-are-one-fresh : (one two : List ℕ) → oneToOne one ≡ true → oneToOne two ≡ true
         → TwoAreOneOn one two before later (freshOn buffer own .tables) newTally

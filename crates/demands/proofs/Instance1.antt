@@ -5,11 +5,13 @@ use mathlib.Core.Bool.{true, false}
 use mathlib.Core.List.{List, [], _∷_}
 use mathlib.Core.Path.{_≡_, refl, sym, ap, subst, _∙_}
 use lib.Dec.{eqb, lit<}
-use lib.ListN.{replicate, take}
+use lib.ListN.{replicate, take, length-replicate}
 use Rattle.octets.specs.Bytes.{Bytes}
 use Rattle.octets.specs.Choice.{_then_otherwise_}
+use Rattle.octets.proofs.Bytes.{nil-bytes}
 use Rattle.rules.specs.Relay.{used, Relay, makeRelay}
-use Rattle.rules.specs.Calls.{newTally}
+use Rattle.rules.specs.Calls.{newTally, ruleOf}
+use Rattle.rules.specs.Saved.{saveRefusal}
 use Rattle.rules.specs.Run.{Call, packet, asks, port-setting, adding, removing, renumbering, Reply, numbered}
 use Rattle.rules.specs.Questions.{last-clock, word-matters}
 use Rattle.rules.specs.declared.Tally.{Tally}
@@ -18,12 +20,16 @@ use Rattle.rules.proofs.Scene.{own, dataBytes, receiptBytes, arrival, arrives}
 use Rattle.rules.proofs.Outcomes.{preparedRelay}
 use Rattle.tables.specs.Layout.{bytesOf, wellFormed}
 use Rattle.tables.specs.Shape.{isByte, isBytes, shaped}
-use Rattle.tables.proofs.Whole.{back, ok-bytes, bytes-bytes}
+use Rattle.tables.proofs.Whole.{bytes-bytes}
+use Rattle.saved.specs.Save.{saveRows, saveRefusal as saveRefusalOn}
+use Rattle.saved.specs.Format.{saidBy, savedFormat, saving, loading}
+use Rattle.saved.proofs.Example.{computing}
+use Rattle.demands.specs.Given.{CallBytes}
 use Rattle.demands.specs.Bytes.{OutcomeOn, performOn, repliesOn, tablesAfterOn, tallyAfterOn}
-use Rattle.demands.specs.Refusals.{refusal, refusalOn, refusing, isRefusal}
+use Rattle.demands.specs.Refusals.{refusal, afterSeven, refusalOn, refusing, isRefusal}
 use Rattle.demands.proofs.Demand1.{refuses-exactly}
-use Rattle.demands.proofs.Demand2.{run-on}
-use Rattle.demands.proofs.InstanceCalls.{guest, before, later, given-before, given-later, saidBefore, saidLater, midwayRelay, midwayTally, before-run, later-run}
+use Rattle.demands.proofs.Demand2.{refusal-bytes, run-on}
+use Rattle.demands.proofs.InstanceCalls.{guest, before, later, given-before, given-later, saidBefore, saidLater, lastRelay, plainPorts, midwayRelay, midwayTally, before-run, later-run}
 use Rattle.demands.proofs.Instance2.{start, Held, Goes, goes, held}
 
 -- ---- the tables and the tally after the calls before
@@ -46,12 +52,11 @@ bytes : Bytes tables
 bytes = subst Bytes (sym tables-are) (bytes-bytes midwayRelay (midway .shape) (midway .ok))
 
 -- a relay's bytes are refused by its rows
-pub row-of : {r : Relay} → Held r → (c : Call) {n : ℕ} → refusal c r ≡ n → refusalOn c (bytesOf r) ≡ n
-unfolding refusalOn _then_otherwise_
-row-of {r} h c e = rw (ok-bytes r (h .shape) (h .ok), back r (h .shape) (h .ok)) e
+pub row-of : {r : Relay} → Held r → (c : Call) {n : ℕ} → CallBytes c → refusal c r ≡ n → refusalOn c (bytesOf r) ≡ n
+row-of {r} h c given e = refusal-bytes r (h .shape) (h .ok) c given ∙ e
 
-row-is : (c : Call) {n : ℕ} → refusal c midwayRelay ≡ n → refusalOn c tables ≡ n
-row-is c e = ap (refusalOn c) tables-are ∙ row-of midway c e
+row-is : (c : Call) {n : ℕ} → CallBytes c → refusal c midwayRelay ≡ n → refusalOn c tables ≡ n
+row-is c given e = ap (refusalOn c) tables-are ∙ row-of midway c given e
 
 -- ---- refused: the number alone, and nothing is changed
 abbrev RefusedOn : List ℕ → Call → ℕ → Type 0
@@ -65,15 +70,15 @@ by-row t b c n e z =
 abbrev Refused : Call → ℕ → Type 0
 Refused = RefusedOn tables
 
-refused : (c : Call) (n : ℕ) → refusal c midwayRelay ≡ n → eqb n 0 ≡ false → Refused c n
-refused c n e z = by-row tables bytes c n (row-is c e) z
+refused : (c : Call) (n : ℕ) → CallBytes c → refusal c midwayRelay ≡ n → eqb n 0 ≡ false → Refused c n
+refused c n given e z = by-row tables bytes c n (row-is c given e) z
 
 pub seven : RefusedOn [] (arrives (receiptBytes 5) 2500 1) 7
-unfolding refusalOn wellFormed _then_otherwise_ rules
+unfolding refusalOn afterSeven wellFormed _then_otherwise_ rules
 seven = by-row [] (λ i. lit< tt) (arrives (receiptBytes 5) 2500 1) 7 refl refl
 
 pub seven-asked : RefusedOn [] (asks last-clock) 7
-unfolding refusalOn wellFormed _then_otherwise_ rules
+unfolding refusalOn afterSeven wellFormed _then_otherwise_ rules
 seven-asked = by-row [] (λ i. lit< tt) (asks last-clock) 7 refl refl
 
 -- sixteen local addresses
@@ -87,8 +92,18 @@ unfolding rules shaped isBytes isByte
 full = record { shape = refl; ok = refl }
 
 pub ten : RefusedOn (bytesOf fullRelay) (adding own) 10
-unfolding refusal rules
-ten = by-row (bytesOf fullRelay) (bytes-bytes fullRelay (full .shape) (full .ok)) (adding own) 10 (row-of full (adding own) refl) refl
+unfolding CallBytes ruleOf isBytes isByte refusal rules
+ten = by-row (bytesOf fullRelay) (bytes-bytes fullRelay (full .shape) (full .ok)) (adding own) 10 (row-of full (adding own) refl refl) refl
+
+short-room : refusal (saving (replicate 71191 0xee)) midwayRelay ≡ 25
+unfolding refusal saveRefusal rules
+short-room =
+    ap (λ (n : ℕ). saveRefusal savedFormat n midwayRelay) (length-replicate {A = ℕ} 71191 0xee)
+
+-- row 7 is a save's too
+pub seven-saved : RefusedOn [] (saving []) 7
+unfolding refusalOn saveRefusalOn saveRows wellFormed _then_otherwise_ rules
+seven-saved = by-row [] nil-bytes (saving []) 7 refl refl
 
 pub rows : Refused (packet (arrival (receiptBytes 5) 2500 1) (replicate 499 0xee)) 6
     × Refused (arrives (receiptBytes 5) 2500 77) 4
@@ -105,42 +120,49 @@ pub rows : Refused (packet (arrival (receiptBytes 5) 2500 1) (replicate 499 0xee
     × Refused (asks (word-matters (receiptBytes 5) 1 2500 499)) 6
     × Refused (asks (word-matters (receiptBytes 5) 77 2500 500)) 4
     × Refused (asks (word-matters (take 34 dataBytes) 1 2500 500)) 1
-unfolding refusal rules
+    × Refused (saving (replicate 71191 0xee)) 25
+    × Refused (loading []) 20
+unfolding CallBytes ruleOf isBytes isByte refusal rules saidBy computing
 rows = (
-  refused _ 6 refl refl,
-  refused _ 4 refl refl,
-  refused _ 5 refl refl,
-  refused _ 1 refl refl,
-  refused _ 2 refl refl,
-  refused _ 3 refl refl,
-  refused _ 1 refl refl,
-  refused _ 9 refl refl,
-  refused _ 9 refl refl,
-  refused _ 11 refl refl,
-  refused _ 11 refl refl,
-  refused _ 8 refl refl,
-  refused _ 6 refl refl,
-  refused _ 4 refl refl,
-  refused _ 1 refl refl,
+  refused _ 6 refl refl refl,
+  refused _ 4 refl refl refl,
+  refused _ 5 refl refl refl,
+  refused _ 1 refl refl refl,
+  refused _ 2 refl refl refl,
+  refused _ 3 refl refl refl,
+  refused _ 1 refl refl refl,
+  refused _ 9 refl refl refl,
+  refused _ 9 refl refl refl,
+  refused _ 11 refl refl refl,
+  refused _ 11 refl refl refl,
+  refused _ 8 refl refl refl,
+  refused _ 6 tt refl refl,
+  refused _ 4 tt refl refl,
+  refused _ 1 tt refl refl,
+  refused _ 25 refl short-room refl,
+  refused _ 20 (refl, nil-bytes) refl refl,
 )
 
 -- ---- no row: no refusal
 pub accepted : isRefusal (performOn (arrives (receiptBytes 5) 2500 1) tables tally .reply) ≡ false
-unfolding refusal rules
+unfolding CallBytes isBytes isByte refusal rules
 accepted =
     refuses-exactly (arrives (receiptBytes 5) 2500 1) tables tally bytes .accepted
-    (ap (λ (n : ℕ). eqb n 0) (row-is (arrives (receiptBytes 5) 2500 1) refl))
+    (ap (λ (n : ℕ). eqb n 0) (row-is (arrives (receiptBytes 5) 2500 1) refl refl))
 
 -- ---- after a refusal: the calls later reply as they would without it
-later-said : repliesOn later tables tally ≡ saidLater 2 1
+abbrev end : Relay
+end = lastRelay plainPorts 1
+
+later-said : repliesOn later tables tally ≡ saidLater 2 1 end
 later-said =
     ap (λ (t : List ℕ). repliesOn later t tally) tables-are
     ∙ ap (repliesOn later (bytesOf midwayRelay)) (there .tally)
     ∙ run-on later midwayRelay midwayTally (given-later 1 5) (midway .ok) (midway .shape) .answers
     ∙ later-run .answers
 
-pub after-refusal : repliesOn (adding guest ∷ later) tables tally ≡ numbered 11 ∷ saidLater 2 1
-unfolding repliesOn refusal refusing rules
+pub after-refusal : repliesOn (adding guest ∷ later) tables tally ≡ numbered 11 ∷ saidLater 2 1 end
+unfolding CallBytes ruleOf isBytes isByte repliesOn refusal refusing rules
 after-refusal =
-    ap (λ (o : OutcomeOn). o .reply ∷ repliesOn later (o .tables) (o .tally)) (refused (adding guest) 11 refl refl)
+    ap (λ (o : OutcomeOn). o .reply ∷ repliesOn later (o .tables) (o .tally)) (refused (adding guest) 11 refl refl refl)
     ∙ ap (λ (l : List Reply). numbered 11 ∷ l) later-said

@@ -14,7 +14,7 @@ use Rattle.packet.specs.declared.Parts.{Parts}
 use Rattle.rules.specs.Relay.{Relay, fresh}
 use Rattle.rules.specs.Refusals.{all, tableOk, tablesOk}
 use Rattle.rules.specs.Calls.{newTally}
-use Rattle.rules.specs.Run.{EachCall, Call, Reply, Outcome}
+use Rattle.rules.specs.Run.{EachCall, Call, Reply, Outcome, noCall, setsRelay}
 use Rattle.rules.specs.declared.Tally.{Tally}
 use Rattle.rules.proofs.Unfolding.{lists, layout, rules}
 use Rattle.rules.proofs.Shortcut.{goodPlan, goodJudge}
@@ -33,7 +33,7 @@ use Rattle.demands.specs.Bytes.{repliesOn, tablesAfterOn, tallyAfterOn}
 use Rattle.demands.proofs.Shape.{stays-shaped, fresh-shaped}
 use Rattle.demands.proofs.Demand2.{run-on, counts-history, follows-the-rules-fresh, counts-history-fresh, read-then-written, written-then-read, written-payload}
 use Rattle.demands.proofs.Demand3.{both-given}
-use Rattle.demands.proofs.InstanceCalls.{before, later, given-before, given-later, Runs, saidBefore, saidLater, lastRelay, plainPorts, lastTally, plain-run}
+use Rattle.demands.proofs.InstanceCalls.{before, later, given-before, given-later, none-load, Runs, saidBefore, saidLater, lastRelay, plainPorts, lastTally, plain-run}
 
 -- ---- a fresh relay, made of a buffer that held something else
 abbrev pub buffer : List ℕ
@@ -83,10 +83,10 @@ held {cs} given run =
 pub given : CallsBytes (before ++ later)
 given = both-given before later given-before (given-later 1 5)
 
-pub plain : Goes (before ++ later) (saidBefore ++ saidLater 2 1) (lastRelay plainPorts 1) lastTally
+pub plain : Goes (before ++ later) (saidBefore ++ saidLater 2 1 (lastRelay plainPorts 1)) (lastRelay plainPorts 1) lastTally
 plain = goes given plain-run
 
--- ---- counts-history-fresh: of the nineteen replies five are verdicts
+-- ---- counts-history-fresh: of the twenty-two replies five are verdicts
 abbrev last : Tally
 last = tallyAfterOn (before ++ later) start newTally
 
@@ -102,7 +102,7 @@ CountersAre total dropped delivered forwarded spread kept =
 pub counted : CountersAre 5 2 0 2 1 0
 unfolding number newTally _then_otherwise_
 counted =
-    let history = counts-history-fresh buffer own size (before ++ later) given sixteen in (
+    let history = counts-history-fresh buffer own size (before ++ later) none-load given sixteen in (
       history .total ∙ ap (λ (x : List Reply). (0 + number isAny x) % 2 ^ 32) (plain .answers),
       history .dropped ∙ ap (λ (x : List Reply). (0 + number isDrop x) % 2 ^ 32) (plain .answers),
       history .delivered ∙ ap (λ (x : List Reply). (0 + number isDelivery x) % 2 ^ 32) (plain .answers),
@@ -144,11 +144,11 @@ abbrev wrapped : Tally
 wrapped = tallyAfterOn announce (bytesOf preparedRelay) greatest
 
 pub counted-on : (wrapped .total ≡ 0) × (wrapped .spread ≡ 0) × (wrapped .dropped ≡ 0xffff_ffff)
-unfolding number _then_otherwise_
+unfolding number noCall setsRelay _and_ _then_otherwise_
 counted-on =
     let h = prepared-held in
     let tables = ok-bytes preparedRelay (h .shape) (h .ok) in
-    let history = counts-history announce _ greatest announce-given (bytes-bytes preparedRelay (h .shape) (h .ok)) tables (omega arith) in (
+    let history = counts-history announce _ greatest refl announce-given (bytes-bytes preparedRelay (h .shape) (h .ok)) tables (omega arith) in (
       history .total ∙ ap (λ (x : List Reply). (0xffff_ffff + number isAny x) % 2 ^ 32) (announce-said greatest),
       history .spread ∙ ap (λ (x : List Reply). (0xffff_ffff + number isSpread x) % 2 ^ 32) (announce-said greatest),
       history .dropped ∙ ap (λ (x : List Reply). (0xffff_ffff + number isDrop x) % 2 ^ 32) (announce-said greatest),

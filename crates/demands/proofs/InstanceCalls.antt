@@ -3,18 +3,22 @@
 use Prim.Native.Nat.{ℕ, _+_}
 use mathlib.Core.Bool.{true, false}
 use mathlib.Core.List.{List, [], _∷_, _++_}
-use mathlib.Core.Path.{_≡_, refl, ap, _∙_}
-use lib.ListN.{replicate}
+use mathlib.Core.Path.{_≡_, refl, ap, ap₂, _∙_}
+use lib.ListN.{replicate, length-replicate}
 use Rattle.octets.specs.Index.{_and_}
+use Rattle.octets.specs.Choice.{_then_otherwise_}
+use Rattle.octets.specs.Listed.{firstOf}
 use Rattle.octets.proofs.Choice.{eq-same}
+use Rattle.octets.proofs.Bytes.{nil-bytes}
 use Rattle.packet.specs.Hash.{packetHash}
 use Rattle.rules.specs.Relay.{freshPort, makePort, Port, makeRelay, empty, used, Relay, fresh, withPathPort}
 use Rattle.rules.specs.View.{viewAt}
-use Rattle.rules.specs.Refusals.{all, tableOk}
+use Rattle.rules.specs.Refusals.{all, tableOk, tablesOk}
+use Rattle.rules.specs.Saved.{saveRefusal}
 use Rattle.rules.specs.Judging.{Plan}
 use Rattle.rules.specs.Calls.{newTally, packetCall, ruleOf}
 use Rattle.rules.specs.Questions.{path-at, link-at, word-matters, Told, none, a-path, yes-or-no, cameWith, tell}
-use Rattle.rules.specs.Run.{EachCall, Call, asks, port-setting, adding, removing, renumbering, Reply, answered, numbered, told, Outcome, ofSetting, ofTold, perform, replies, relayAfter, tallyAfter}
+use Rattle.rules.specs.Run.{EachCall, Call, asks, port-setting, adding, removing, renumbering, Reply, answered, numbered, told, saved, unsaved, saveReply, Outcome, ofSetting, ofTold, perform, replies, relayAfter, tallyAfter, noCall, setsRelay, noneLoads}
 use Rattle.rules.specs.declared.Reason.the-variants.{Duplicate}
 use Rattle.rules.specs.declared.Verdict.the-variants.{Drop}
 use Rattle.rules.specs.declared.Answer.the-variants.{Refused, Judged}
@@ -25,13 +29,20 @@ use Rattle.rules.proofs.Passed.{ofTest}
 use Rattle.rules.proofs.Scene.{own, blank, announceBytes, dataBytes, dataKey, receiptBytes, arrives, prepared}
 use Rattle.rules.proofs.Outcomes.{spreads, forwards, spreadBytes, dataLastHop, relayOf, remembers, knownPath, preparedRelay, announcedRelay, carriedRelay, judged-at, announce-form, announce-new, data-new, data-key, prepared-is}
 use Rattle.rules.proofs.Sanity.{oneUp}
+use Rattle.rules.proofs.RunRenamed.{replies-append, relay-append, tally-append}
 use Rattle.rules.proofs.SignatureWord.{word-matters-exactly}
 use Rattle.tables.specs.Shape.{isByte, isBytes}
+use Rattle.saved.specs.Format.{saidBy, savedFormat, saving, loading}
+use Rattle.saved.proofs.Example.{computing}
 use Rattle.demands.specs.Given.{CallBytes, CallsBytes}
 
 -- ---- the calls
 abbrev pub guest : List ℕ
 guest = replicate 16 0x0b
+
+-- eight bytes more than a file has
+abbrev pub room : List ℕ
+room = replicate 71200 0xee
 
 abbrev pub before : List Call
 before =
@@ -65,6 +76,11 @@ laterBy from port =
     ∷ asks (path-at 0)
     ∷ asks (word-matters announceBytes from 3000 500)
     ∷ asks (link-at 64)
+    -- no file: 20
+    ∷ loading []
+    -- all of it; and with a byte too little room: 25
+    ∷ saving room
+    ∷ saving (replicate 71191 0xee)
     ∷ []
 
 abbrev pub later : List Call
@@ -77,7 +93,16 @@ given-before = (refl, (refl, (refl, (refl, (refl, (refl, (refl, (refl, (refl, tt
 
 pub given-later : (from port : ℕ) → CallsBytes (laterBy from port)
 unfolding EachCall CallBytes ruleOf isBytes isByte tableOk all _and_
-given-later from port = (refl, (refl, (refl, (refl, (refl, (refl, (refl, (tt, (tt, (tt, tt))))))))))
+given-later from port = (refl, (refl, (refl, (refl, (refl, (refl, (refl, (tt, (tt, (tt, ((refl, nil-bytes), (refl, (refl, tt)))))))))))))
+
+-- none loads: the one that would is refused
+pub none-load : noneLoads (before ++ later) ≡ true
+unfolding rules noCall setsRelay saidBy computing
+none-load = refl
+
+pub none-load-later : noneLoads later ≡ true
+unfolding rules noCall setsRelay saidBy computing
+none-load-later = refl
 
 -- ---- a list of calls by the rules
 pub record Runs (cs : List Call) (r : Relay) (t : Tally) (said : List Reply) (after : Relay) (counts : Tally) : Type 0 where
@@ -102,12 +127,28 @@ _first_ {c} {cs} {r} {between} {after} {t} {counts} {end} {reply} {said} e rest 
       tally = ap (λ (o : Outcome). tallyAfter cs (o .relay) (o .tally)) e ∙ rest .tally;
     }
 
+-- two lists
+infixr 4 _then-runs_
+pub _then-runs_ : {cs ds : List Call} {r between after : Relay} {t counts end : Tally} {said rest : List Reply}
+    → Runs cs r t said between counts → Runs ds between counts rest after end → Runs (cs ++ ds) r t (said ++ rest) after end
+_then-runs_ {cs} {ds} {r} {between} {after} {t} {counts} {end} {said} {rest} x y =
+    record {
+      answers =
+          replies-append cs ds r t
+          ∙ ap₂ (λ (l k : List Reply). l ++ k) (x .answers) (ap₂ (replies ds) (x .relay) (x .tally) ∙ y .answers);
+      relay = relay-append cs ds r t ∙ ap₂ (relayAfter ds) (x .relay) (x .tally) ∙ y .relay;
+      tally = tally-append cs ds r t ∙ ap₂ (tallyAfter ds) (x .relay) (x .tally) ∙ y .tally;
+    }
+
 -- ---- what they leave
 abbrev pub counting : (dropped forwarded spread : ℕ) → Tally
 counting dropped forwarded spread =
     record { total = dropped + forwarded + spread; dropped = dropped; delivered = 0; forwarded = forwarded; spread = spread; kept = 0 }
 
-abbrev duplicate : Reply
+abbrev pub lastTally : Tally
+lastTally = counting 2 2 1
+
+abbrev pub duplicate : Reply
 duplicate = answered (Judged (Drop Duplicate)) blank
 
 abbrev unknownPort : Reply
@@ -118,18 +159,19 @@ saidBefore =
     numbered 0 ∷ numbered 0 ∷ numbered 0 ∷ numbered 0 ∷ numbered 11
     ∷ spreads spreadBytes 2 ∷ duplicate ∷ unknownPort ∷ forwards dataLastHop 1 ∷ []
 
--- the receipt leaves by this port, and the path by that one
-abbrev pub saidLater : (by path : ℕ) → List Reply
-saidLater by path =
+-- the receipt leaves by this port, and the path by that one; the file is of this relay
+abbrev pub saidLater : (by path : ℕ) → Relay → List Reply
+saidLater by path end =
     unknownPort ∷ numbered 8 ∷ forwards (receiptBytes 6) by ∷ duplicate ∷ numbered 0 ∷ numbered 9 ∷ numbered 0
-    ∷ told (a-path (withPathPort path knownPath)) ∷ told (yes-or-no true) ∷ told none ∷ []
+    ∷ told (a-path (withPathPort path knownPath)) ∷ told (yes-or-no true) ∷ told none
+    ∷ numbered 20 ∷ saved end lastTally room ∷ unsaved 25 (replicate 71191 0xee) ∷ []
 
 -- the guest in the lowest place
 abbrev pub hosting : Relay → Relay
 hosting r = makeRelay (r .own) (r .clock) (r .ports) (used guest ∷ replicate 15 empty) (r .paths) (r .links) (r .returns) (r .hashes)
 
 -- the receipt carried
-abbrev receivedRelay : Relay
+abbrev pub receivedRelay : Relay
 receivedRelay =
     relayOf 2500 (used knownPath ∷ []) [] (empty ∷ [])
     (remembers announceBytes 1300 ∷ remembers dataBytes 2300 ∷ remembers (receiptBytes 5) 2800 ∷ [])
@@ -143,9 +185,6 @@ lastRelay ports port =
 
 abbrev pub plainPorts : List Port
 plainPorts = freshPort ∷ makePort true 2 ∷ makePort true 0 ∷ freshPort ∷ freshPort ∷ makePort true 1 ∷ replicate 10 freshPort
-
-abbrev pub lastTally : Tally
-lastTally = counting 2 2 1
 
 -- ---- call by call
 fresh-moved : perform (renumbering oneUp) (fresh own) newTally ≡ record { reply = numbered 0; relay = fresh own; tally = newTally }
@@ -203,7 +242,7 @@ map-refused : perform (renumbering []) (hosting (carriedRelay dataKey)) (countin
 unfolding rules
 map-refused = refl
 
-receipt-new : viewAt 2500 (hosting (carriedRelay dataKey)) .remembered (packetHash (receiptBytes 5)) ≡ false
+pub receipt-new : viewAt 2500 (hosting (carriedRelay dataKey)) .remembered (packetHash (receiptBytes 5)) ≡ false
 unfolding rules passes
 receipt-new = seen-quick 2500 (hosting (carriedRelay dataKey)) (packetHash (receiptBytes 5)) refl
 
@@ -268,6 +307,32 @@ nothing-told : perform (asks (link-at 64)) (lastRelay plainPorts 1) lastTally
 unfolding rules
 nothing-told = refl
 
+end-ok : tablesOk (lastRelay plainPorts 1) ≡ true
+unfolding rules
+end-ok = refl
+
+none-loaded : perform (loading []) (lastRelay plainPorts 1) lastTally
+    ≡ record { reply = numbered 20; relay = lastRelay plainPorts 1; tally = lastTally }
+unfolding rules saidBy computing
+none-loaded = refl
+
+-- a save, with so much room
+with-room : (r : Relay) (t : Tally) (n : ℕ) (k : ℕ) → saveRefusal savedFormat n r ≡ k
+    → perform (saving (replicate n 0xee)) r t ≡ record { reply = saveReply k r t (replicate n 0xee); relay = r; tally = t }
+unfolding perform
+with-room r t n k e =
+    ap (λ (i : ℕ). record { reply = saveReply i r t (replicate n 0xee); relay = r; tally = t })
+    (ap (λ (i : ℕ). saveRefusal savedFormat i r) (length-replicate {A = ℕ} n 0xee) ∙ e)
+
+pub all-saved : (r : Relay) (t : Tally) → tablesOk r ≡ true → perform (saving room) r t ≡ record { reply = saved r t room; relay = r; tally = t }
+unfolding saveRefusal saveReply firstOf _then_otherwise_
+all-saved r t ok = with-room r t 71200 0 (rw ok refl)
+
+pub room-short : (r : Relay) (t : Tally) → tablesOk r ≡ true
+    → perform (saving (replicate 71191 0xee)) r t ≡ record { reply = unsaved 25 (replicate 71191 0xee); relay = r; tally = t }
+unfolding saveRefusal saveReply firstOf _then_otherwise_
+room-short r t ok = with-room r t 71191 25 (rw ok refl)
+
 -- ---- all of them
 abbrev pub midwayRelay : Relay
 midwayRelay = hosting (carriedRelay dataKey)
@@ -275,17 +340,18 @@ midwayRelay = hosting (carriedRelay dataKey)
 abbrev pub midwayTally : Tally
 midwayTally = counting 1 1 1
 
-pub later-run : Runs later midwayRelay midwayTally (saidLater 2 1) (lastRelay plainPorts 1) lastTally
+pub later-run : Runs later midwayRelay midwayTally (saidLater 2 1 (lastRelay plainPorts 1)) (lastRelay plainPorts 1) lastTally
 later-run =
     receipt-refused first map-refused first receipt-home first receipt-dropped first port-set first no-port first guest-removed
-    first path-told first word-told first nothing-told first no-call
+    first path-told first word-told first nothing-told first none-loaded
+    first all-saved (lastRelay plainPorts 1) lastTally end-ok first room-short (lastRelay plainPorts 1) lastTally end-ok first no-call
 
 second-port : perform (port-setting 2 true 0) (perform (port-setting 1 true 2) (fresh own) newTally .relay) newTally
     ≡ record { reply = numbered 0; relay = preparedRelay; tally = newTally }
 unfolding prepared perform ofSetting
 second-port = prepared-is
 
-before-then : {rest : List Call} {said : List Reply} {after : Relay} {end : Tally}
+pub before-then : {rest : List Call} {said : List Reply} {after : Relay} {end : Tally}
     → Runs rest midwayRelay midwayTally said after end → Runs (before ++ rest) (fresh own) newTally (saidBefore ++ said) after end
 before-then rest =
     fresh-moved first first-port first second-port first guest-added first guest-there first announce-spread first announce-dropped
@@ -294,5 +360,5 @@ before-then rest =
 pub before-run : Runs before (fresh own) newTally saidBefore midwayRelay midwayTally
 before-run = before-then no-call
 
-pub plain-run : Runs (before ++ later) (fresh own) newTally (saidBefore ++ saidLater 2 1) (lastRelay plainPorts 1) lastTally
+pub plain-run : Runs (before ++ later) (fresh own) newTally (saidBefore ++ saidLater 2 1 (lastRelay plainPorts 1)) (lastRelay plainPorts 1) lastTally
 plain-run = before-then later-run

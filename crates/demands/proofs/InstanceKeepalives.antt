@@ -247,16 +247,17 @@ past {c} {cs} {r} {between} {t} left done =
           (record { shape = step-shaped c r t (left .given-rest .0) (h .ok) (h .shape); ok = step-ok c r t (h .ok) });
       given-rest = left .given-rest .1;
       lasts-on =
-          subst (λ (o : OutcomeOn). LastsOn l cs (o .tables) (o .tally)) (call-on r (h .shape) (h .ok) t c ∙ ap outcomeOn done) (left .lasts-on .2);
+          subst (λ (o : OutcomeOn). LastsOn l cs (o .tables) (o .tally)) (call-on r (h .shape) (h .ok) t c (left .given-rest .0) ∙ ap outcomeOn done)
+          (left .lasts-on .2);
     }
 
 -- of a keepalive
 said : {a : Arrival} {output : List ℕ} {cs : List Call} {r : Relay} {t : Tally} → Left (packet a output ∷ cs) r t
     → accepted (packet a output) r ≡ true → keepsAlive l a ≡ true
     → Carried l a output (performOn (packet a output) (bytesOf r) t .reply) (relayOf (performOn (packet a output) (bytesOf r) t .tables))
-unfolding LastsOn CarriedIf
+unfolding EachCall LastsOn CarriedIf
 said {a} {output} {cs} {r} left taken k =
-    left .lasts-on .0 (accepted-bytes r (left .held .shape) (left .held .ok) (packet a output) ∙ taken) k
+    left .lasts-on .0 (accepted-bytes r (left .held .shape) (left .held .ok) (packet a output) (left .given-rest .0) ∙ taken) k
 
 behind-first : Left later (upRelay (portsBy 2) 2100 2820) (counting 0 1)
 behind-first = past begin first-done
@@ -286,6 +287,6 @@ one-forwarded =
     let h = start-held in
     let there : provedRelay ≡ relayOf (bytesOf provedRelay) = sym (back provedRelay (h .shape) (h .ok)) in
     let up : UpAt l 2721 2100 provedRelay = record { lives = refl; asking = refl; answering = refl } in
-    let none : refusalOn first-call (bytesOf provedRelay) ≡ 0 = eqb-true _ 0 (accepted-bytes provedRelay (h .shape) (h .ok) first-call) in
+    let none : refusalOn first-call (bytesOf provedRelay) ≡ 0 = eqb-true _ 0 (accepted-bytes provedRelay (h .shape) (h .ok) first-call (given .0)) in
     keepalive-carried-on (bytesOf provedRelay) newTally (bytes-bytes provedRelay (h .shape) (h .ok)) (ok-bytes provedRelay (h .shape) (h .ok)) l 2721
     (arrival (keepaliveBytes 0) 2100 1) blank (given .0) (subst (UpAt l 2721 2100) there up) refl none .forwarded

@@ -41,6 +41,7 @@ use Rattle.replaying.specs.Promise.{replayOn, stepsOn}
 use Rattle.replaying.proofs.Replay.{replay-lines}
 use Rattle.text.specs.Numerals.{digit, numeralWithin, numeral}
 use Rattle.text.specs.Words.{spaced, wordsLine}
+use Rattle.demands.specs.Given.{CallBytes}
 use Rattle.demands.specs.Bytes.{performOn}
 use Rattle.demands.specs.Refusals.{refusal, refusalOn, refusing}
 use Rattle.demands.specs.Replays.{callOf, callsOf, answerIn, renamedFile}
@@ -239,13 +240,13 @@ first-is =
 
 pub first-refused : performOn (callOf (recorded dataBytes 900 77)) start newTally
     ≡ record { reply = answered (Refused 4) (replicate leastOutput 0); tables = start; tally = newTally }
-unfolding callOf refusal refusing rules stepsOn
+unfolding CallBytes isBytes isByte callOf refusal refusing rules stepsOn
 first-refused =
     let exactly = replay-refuses-exactly file start newTally given taken start-bytes 0
     (omega (arith, entries-length file, ap length (file-entries entries recordable))) in
     let here : RefusesExactly (callOf (recorded dataBytes 900 77)) start newTally =
     subst (λ (e : Entry). RefusesExactly (callOf e) start newTally) first-is exactly in
-    let four : refusalOn (callOf (recorded dataBytes 900 77)) start ≡ 4 = row-of start-held (callOf (recorded dataBytes 900 77)) refl in
+    let four : refusalOn (callOf (recorded dataBytes 900 77)) start ≡ 4 = row-of start-held (callOf (recorded dataBytes 900 77)) refl refl in
     here .refused (ap (λ (n : ℕ). eqb n 0) four)
     ∙ ap (λ (n : ℕ). record { reply = refusing (callOf (recorded dataBytes 900 77)) n; tables = start; tally = newTally }) four
 

@@ -7,11 +7,10 @@ use mathlib.Core.Path.{_≡_, refl, sym, ap, subst, _∙_}
 use lib.Dec.{eqb}
 use borrow.Author.Tests.{eq-eqb}
 use Rattle.octets.specs.Bytes.{Bytes}
-use Rattle.octets.specs.Choice.{_then_otherwise_}
 use Rattle.rules.specs.Relay.{Relay}
 use Rattle.rules.specs.Refusals.{tablesOk}
 use Rattle.rules.specs.Arrival.{Arrival}
-use Rattle.rules.specs.Run.{Call, packet, on-tables, asks, EachCall, Outcome, perform}
+use Rattle.rules.specs.Run.{Call, packet, on-tables, asks, saves, loads, EachCall, Outcome, perform}
 use Rattle.rules.specs.Keepalives.{keepsAlive, UpAt, Carried, accepted, Starts, InTime, CarriedIf, IsUp, Lasts}
 use Rattle.rules.specs.declared.Link.{Link}
 use Rattle.rules.specs.declared.Tally.{Tally}
@@ -19,13 +18,13 @@ use Rattle.rules.proofs.Valid.{step-ok}
 use Rattle.rules.proofs.Lasting.{keepalive-carried, keepalives-keep}
 use Rattle.tables.specs.Layout.{relayOf, bytesOf, wellFormed}
 use Rattle.tables.specs.Shape.{shaped}
-use Rattle.tables.proofs.Whole.{again, ok-relay, shaped-of, back, ok-bytes}
+use Rattle.tables.proofs.Whole.{again, ok-relay, shaped-of, back}
 use Rattle.demands.specs.Given.{CallBytes, CallsBytes}
 use Rattle.demands.specs.Bytes.{OutcomeOn, performOn}
 use Rattle.demands.specs.Refusals.{refusal, refusalOn}
 use Rattle.demands.specs.Keepalives.{LastsOn}
 use Rattle.demands.proofs.Shape.{step-shaped}
-use Rattle.demands.proofs.Demand2.{outcomeOn, call-on}
+use Rattle.demands.proofs.Demand2.{refusal-bytes, outcomeOn, call-on}
 
 -- ---- one call on a relay's bytes
 by-rules : (c : Call) (r : Relay) → eqb (refusal c r) 0 ≡ accepted c r
@@ -33,22 +32,23 @@ unfolding refusal accepted
 by-rules (packet a output) r = refl
 by-rules (on-tables c) r = refl
 by-rules (asks q) r = refl
+by-rules (saves format room) r = refl
+by-rules (loads format file) r = refl
 
 module _ (r : Relay) (s : shaped r ≡ true) (ok : tablesOk r ≡ true) where
-  pub accepted-bytes : (c : Call) → eqb (refusalOn c (bytesOf r)) 0 ≡ accepted c r
-  unfolding refusalOn _then_otherwise_
-  accepted-bytes c = rw (ok-bytes r s ok, back r s ok) (by-rules c r)
+  pub accepted-bytes : (c : Call) → CallBytes c → eqb (refusalOn c (bytesOf r)) 0 ≡ accepted c r
+  accepted-bytes c given = ap (λ (n : ℕ). eqb n 0) (refusal-bytes r s ok c given) ∙ by-rules c r
 
   module _ (t : Tally) (c : Call) (b : CallBytes c) where
     pub relay-bytes : relayOf (performOn c (bytesOf r) t .tables) ≡ perform c r t .relay
     unfolding outcomeOn
     relay-bytes =
-        ap (λ (o : OutcomeOn). relayOf (o .tables)) (call-on r s ok t c)
+        ap (λ (o : OutcomeOn). relayOf (o .tables)) (call-on r s ok t c b)
         ∙ back (perform c r t .relay) (step-shaped c r t b ok s) (step-ok c r t ok)
 
     pub reply-bytes : performOn c (bytesOf r) t .reply ≡ perform c r t .reply
     unfolding outcomeOn
-    reply-bytes = ap (λ (o : OutcomeOn). o .reply) (call-on r s ok t c)
+    reply-bytes = ap (λ (o : OutcomeOn). o .reply) (call-on r s ok t c b)
 
 -- ---- lists of calls on a relay's bytes
 lasts-on : (l : Link) (cs : List Call) (r : Relay) (t : Tally) → CallsBytes cs → tablesOk r ≡ true → shaped r ≡ true → Lasts l cs r t
@@ -61,12 +61,12 @@ lasts-on l (c ∷ cs) r t b ok s lasts =
     let relay : o .relay ≡ relayOf (x .tables) = sym (relay-bytes r s ok t c (b .0)) in
     let carried = subst (λ (y : Relay). CarriedIf l c (accepted c r) (o .reply) y) relay (lasts .0) in
     let told = subst (λ y. CarriedIf l c (accepted c r) y (relayOf (x .tables))) (sym (reply-bytes r s ok t c (b .0))) carried in
-    let taken = subst (λ (y : Bool). CarriedIf l c y (x .reply) (relayOf (x .tables))) (sym (accepted-bytes r s ok c)) told in
+    let taken = subst (λ (y : Bool). CarriedIf l c y (x .reply) (relayOf (x .tables))) (sym (accepted-bytes r s ok c (b .0))) told in
     let rest : LastsOn l cs (bytesOf (o .relay)) (o .tally) =
     lasts-on l cs (o .relay) (o .tally) (b .1) (step-ok c r t ok) (step-shaped c r t (b .0) ok s) (lasts .2) in (
       taken,
       subst (IsUp l) relay (lasts .1),
-      subst (λ (y : OutcomeOn). LastsOn l cs (y .tables) (y .tally)) (sym (call-on r s ok t c)) rest,
+      subst (λ (y : OutcomeOn). LastsOn l cs (y .tables) (y .tally)) (sym (call-on r s ok t c (b .0))) rest,
     )
 
 -- ---- the theorems, from any tables that are well formed, and any tally
@@ -82,7 +82,7 @@ module _ (tables : List ℕ) (tally : Tally) (b : Bytes tables) (h : wellFormed 
       let s = shaped-of tables b h in
       let ok = ok-relay tables h in
       let zero : eqb (refusalOn c (bytesOf r)) 0 ≡ true = eq-eqb _ 0 (ap (refusalOn c) (again tables b h) ∙ none) in
-      let carried = keepalive-carried l expiry r a output tally up k (sym (accepted-bytes r s ok c) ∙ zero) in
+      let carried = keepalive-carried l expiry r a output tally up k (sym (accepted-bytes r s ok c given) ∙ zero) in
       subst (λ (x : List ℕ). Carried l a output (performOn c x tally .reply) (relayOf (performOn c x tally .tables))) (again tables b h)
       (subst (λ y. Carried l a output y (relayOf (performOn c (bytesOf r) tally .tables))) (sym (reply-bytes r s ok tally c given))
       (subst (λ (y : Relay). Carried l a output (perform c r tally .reply) y) (sym (relay-bytes r s ok tally c given)) carried))

@@ -1,4 +1,4 @@
--- Demands 1 to 3 and wish 2's theorem, about the bytes. First what keeps a relay one that tables can hold; last the theorems on lists of calls,
+-- Demands 1 to 3, and what wishes 2 and 4 add to them, about the bytes. First what keeps a relay one that tables can hold; last the theorems on lists of calls,
 -- with what they say computed, so that none can become empty unseen.
 pub mod Announced
 pub mod Made
@@ -7,13 +7,16 @@ pub mod Promised
 pub mod Demand1
 pub mod Demand2
 pub mod Demand3
+pub mod SavedTables
 pub mod Keepalives
+pub mod Chatty
 pub mod Replays
 pub mod OwnAnnounces
 pub mod InstanceCalls
 pub mod Instance1
 pub mod Instance2
 pub mod Instance3
+pub mod InstanceSaved
 pub mod InstanceKeepalives
 pub mod InstanceReplay
 pub mod InstanceAnnounce

@@ -1,17 +1,25 @@
--- The run over the bytes is made of what the functions promise: what each call does is the definition that its function's `ensures` cites.
+-- The run over the bytes is made of what the functions promise: what each call does is the definition that its function's `ensures` cites. A save's reply
+-- names the relay and the tally that are saved: as bytes in the room it is that definition.
 use Prim.Native.Nat.{ℕ}
 use mathlib.Core.Bool.{Bool}
 use mathlib.Core.List.{List}
 use mathlib.Core.Path.{_≡_, refl}
+use lib.Dec.{eqb}
+use lib.ListN.{length}
+use Rattle.octets.proofs.Choice.{then-ap}
 use Rattle.rules.specs.Arrival.{Arrival}
-use Rattle.rules.specs.Run.{packet, asks, port-setting, adding, removing, renumbering}
+use Rattle.rules.specs.Run.{packet, asks, port-setting, adding, removing, renumbering, saved, unsaved, saveReply}
 use Rattle.rules.specs.Questions.{Question}
 use Rattle.rules.specs.declared.Tally.{Tally}
+use Rattle.tables.specs.Layout.{relayOf}
 use Rattle.tables.specs.Asked.{tellOn}
 use Rattle.settings.specs.Calls.{setPortOn, addLocalOn, removeLocalOn}
 use Rattle.renumbering.specs.Calls.{renumberOn}
 use Rattle.relay.specs.Promise.{packetOn}
-use Rattle.demands.specs.Bytes.{ofPacket, ofCalled, ofAsked, performOn}
+use Rattle.saved.specs.Save.{saveRefusal, saveOn}
+use Rattle.saved.specs.Load.{loadOn}
+use Rattle.saved.specs.Format.{saving, loading, inRoom}
+use Rattle.demands.specs.Bytes.{ofPacket, ofCalled, ofAsked, ofSave, ofLoaded, performOn}
 
 module _ (tables : List ℕ) (tally : Tally) where
   pub packet-promised : (a : Arrival) (output : List ℕ)
@@ -38,3 +46,16 @@ module _ (tables : List ℕ) (tally : Tally) where
   pub question-promised : (q : Question) → performOn (asks q) tables tally ≡ ofAsked tables tally (tellOn tables q)
   unfolding performOn
   question-promised q = refl
+
+  pub save-promised : (room : List ℕ) → inRoom (performOn (saving room) tables tally .reply) ≡ saveOn tables tally room
+  unfolding performOn ofSave saveReply saveOn inRoom
+  save-promised room =
+      then-ap inRoom (eqb (saveRefusal tables (length room)) 0) (saved (relayOf tables) tally room) (unsaved (saveRefusal tables (length room)) room)
+
+  pub save-reads : (room : List ℕ) → (performOn (saving room) tables tally .tables ≡ tables) × (performOn (saving room) tables tally .tally ≡ tally)
+  unfolding performOn ofSave
+  save-reads room = (refl, refl)
+
+  pub load-promised : (file : List ℕ) → performOn (loading file) tables tally ≡ ofLoaded (loadOn file tables tally)
+  unfolding performOn
+  load-promised file = refl

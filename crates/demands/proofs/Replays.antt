@@ -27,7 +27,7 @@ use Rattle.octets.proofs.ListOf.{listOf-length, listOf-at}
 use Rattle.rules.specs.Relay.{Relay}
 use Rattle.rules.specs.Renumbering.{image, oneToOne}
 use Rattle.rules.specs.Answers.{renameAnswer}
-use Rattle.rules.specs.Run.{EachCall, Call, renumbering, Reply, answered, numbered, told, replies, relayAfter, tallyAfter, renameArrival, renameCall, renameReply, movesPorts, noneRenumbers}
+use Rattle.rules.specs.Run.{EachCall, Call, renumbering, Reply, answered, numbered, told, saved, unsaved, replies, relayAfter, tallyAfter, renameArrival, renameCall, renameReply, noCall, movesPorts, noneRenumbers, setsRelay, noneLoads}
 use Rattle.rules.specs.declared.Answer.{Answer}
 use Rattle.rules.specs.declared.Answer.the-variants.{Refused}
 use Rattle.rules.specs.declared.Tally.{Tally}
@@ -50,7 +50,6 @@ use Rattle.replaying.proofs.Replay.{steps-calls, replay-calls}
 use Rattle.text.specs.Words.{wordsLine, refusedWords}
 use Rattle.demands.specs.Given.{CallBytes, CallsBytes}
 use Rattle.demands.specs.Bytes.{OutcomeOn, ofPacket, ofCalled, performOn, repliesOn, tablesAfterOn, tallyAfterOn}
-use Rattle.demands.specs.Refusals.{refusing}
 use Rattle.demands.specs.Replays.{callOf, callsOf, answerIn, IsPerformed, renameEntry, renamedFile}
 use Rattle.demands.proofs.Demand1.{RefusesExactly, seven, refuses-exactly}
 use Rattle.demands.proofs.Demand2.{FollowsTheRules, follows-the-rules, counts-history, stays-bytes}
@@ -130,7 +129,18 @@ pub step-performed : (f : List ℕ) (i : ℕ) (t : List ℕ) (tally : Tally) →
 unfolding performOn ofPacket callOf entryCall stepOf
 step-performed f i t tally e = rw (step-there f i t tally e)
 
--- ---- its calls are given bytes
+-- ---- its calls are packets: none renumbers or loads
+none-renumbers : (es : List Entry) → noneRenumbers (map callOf es) ≡ true
+unfolding noCall movesPorts callOf _and_
+none-renumbers [] = refl
+none-renumbers (e ∷ es) = none-renumbers es
+
+none-loads : (es : List Entry) → noneLoads (map callOf es) ≡ true
+unfolding noCall setsRelay callOf _and_
+none-loads [] = refl
+none-loads (e ∷ es) = none-loads es
+
+-- ---- they are given bytes
 each-given : (es : List Entry) → ((i : ℕ) → i < length es → RecordableEntry (getD es i noEntry)) → CallsBytes (map callOf es)
 unfolding EachCall CallBytes callOf
 each-given [] h = tt
@@ -156,29 +166,29 @@ module _ (f : List ℕ) (b : Bytes f) (e : fileRefusal f ≡ 0) where
 
 -- ---- tables that row 7 names: each call is refused, and nothing changes
 module _ (t : List ℕ) (tally : Tally) (h : wellFormed t ≡ false) where
-  tables-stay : (cs : List Call) → tablesAfterOn cs t tally ≡ t
-  unfolding tablesAfterOn
+  tables-stay : (es : List Entry) → tablesAfterOn (map callOf es) t tally ≡ t
+  unfolding tablesAfterOn callOf
   tables-stay [] = refl
-  tables-stay (c ∷ cs) = ap (λ (o : OutcomeOn). tablesAfterOn cs (o .tables) (o .tally)) (seven c t tally h) ∙ tables-stay cs
+  tables-stay (e ∷ es) = ap (λ (o : OutcomeOn). tablesAfterOn (map callOf es) (o .tables) (o .tally)) (seven _ _ t tally h) ∙ tables-stay es
 
-  tally-stays : (cs : List Call) → tallyAfterOn cs t tally ≡ tally
-  unfolding tallyAfterOn
+  tally-stays : (es : List Entry) → tallyAfterOn (map callOf es) t tally ≡ tally
+  unfolding tallyAfterOn callOf
   tally-stays [] = refl
-  tally-stays (c ∷ cs) = ap (λ (o : OutcomeOn). tallyAfterOn cs (o .tables) (o .tally)) (seven c t tally h) ∙ tally-stays cs
+  tally-stays (e ∷ es) = ap (λ (o : OutcomeOn). tallyAfterOn (map callOf es) (o .tables) (o .tally)) (seven _ _ t tally h) ∙ tally-stays es
 
   all-refused : (es : List Entry) → map answerIn (repliesOn (map callOf es) t tally) ≡ replicate (length es) (Refused 7)
-  unfolding repliesOn refusing answerIn callOf
+  unfolding repliesOn answerIn callOf
   all-refused [] = refl
   all-refused (e ∷ es) =
-      ap (λ (o : OutcomeOn). answerIn (o .reply) ∷ map answerIn (repliesOn (map callOf es) (o .tables) (o .tally))) (seven (callOf e) t tally h)
+      ap (λ (o : OutcomeOn). answerIn (o .reply) ∷ map answerIn (repliesOn (map callOf es) (o .tables) (o .tally))) (seven _ _ t tally h)
       ∙ ap (λ (l : List Answer). Refused 7 ∷ l) (all-refused es)
 
-bytes-stay : (cs : List Call) (t : List ℕ) (tally : Tally) → CallsBytes cs → Bytes t → Bytes (tablesAfterOn cs t tally)
-bytes-stay cs t tally given b = go (wellFormed t) refl
+bytes-stay : (es : List Entry) (t : List ℕ) (tally : Tally) → CallsBytes (map callOf es) → Bytes t → Bytes (tablesAfterOn (map callOf es) t tally)
+bytes-stay es t tally given b = go (wellFormed t) refl
   where
-    go : (v : Bool) → wellFormed t ≡ v → Bytes (tablesAfterOn cs t tally)
-    go true h = stays-bytes cs t tally given b h
-    go false h = subst Bytes (sym (tables-stay t tally h cs)) b
+    go : (v : Bool) → wellFormed t ≡ v → Bytes (tablesAfterOn (map callOf es) t tally)
+    go true h = stays-bytes (map callOf es) t tally given b h
+    go false h = subst Bytes (sym (tables-stay t tally h es)) b
 
 module _ (f t : List ℕ) (tally : Tally) (b : Bytes f) (e : fileRefusal f ≡ 0) (bt : Bytes t) where
   -- ---- demand 1: entry i's call, on the tables and the tally that the steps before it left
@@ -189,7 +199,7 @@ module _ (f t : List ℕ) (tally : Tally) (b : Bytes f) (e : fileRefusal f ≡ 0
       let before : stepsOn f i t tally .tables ≡ tablesAfterOn cs t tally =
       ap (λ (r : ReplayOn). r .tables) (steps-calls f t tally e i (omega arith)) ∙ from-performed 1 (listOf (entryOf f) i) t tally .tables in
       refuses-exactly (callOf (entryOf f i)) (stepsOn f i t tally .tables) (stepsOn f i t tally .tally)
-      (subst Bytes (sym before) (bytes-stay cs t tally (first-given f b e i (omega arith)) bt))
+      (subst Bytes (sym before) (bytes-stay (listOf (entryOf f) i) t tally (first-given f b e i (omega arith)) bt))
 
   -- ---- demand 2
   -- from tables that row 7 names
@@ -199,8 +209,8 @@ module _ (f t : List ℕ) (tally : Tally) (b : Bytes f) (e : fileRefusal f ≡ 0
   replay-of-no-tables h =
       let p = replay-performed f t tally e in (
         p .answers ∙ all-refused t tally h (entriesOf f) ∙ ap (λ (n : ℕ). replicate n (Refused 7)) (entries-length f),
-        p .tables ∙ tables-stay t tally h (callsOf f),
-        p .tally ∙ tally-stays t tally h (callsOf f),
+        p .tables ∙ tables-stay t tally h (entriesOf f),
+        p .tally ∙ tally-stays t tally h (entriesOf f),
       )
 
   module _ (h : wellFormed t ≡ true) where
@@ -214,9 +224,10 @@ module _ (f t : List ℕ) (tally : Tally) (b : Bytes f) (e : fileRefusal f ≡ 0
         (p .answers ∙ ap (map answerIn) (q .answers), p .tables ∙ q .tables, p .tally ∙ q .tally)
 
     pub replay-counts-history : Fits tally → CountsHistory (repliesOn (callsOf f) t tally) tally (replayOn f t tally .tally)
+    unfolding callsOf
     replay-counts-history fits =
         subst (λ (x : Tally). CountsHistory (repliesOn (callsOf f) t tally) tally x) (sym (replay-performed f t tally e .tally))
-        (counts-history (callsOf f) t tally (calls-given f b e) bt h fits)
+        (counts-history (callsOf f) t tally (none-loads (entriesOf f)) (calls-given f b e) bt h fits)
 
 -- ---- demand 3: the file's ports renamed
 module _ (m : List ℕ) (one : oneToOne m ≡ true) where
@@ -283,11 +294,8 @@ answers-renamed m [] = refl
 answers-renamed m (answered a o ∷ rs) = ap (λ (l : List Answer). renameAnswer m a ∷ l) (answers-renamed m rs)
 answers-renamed m (numbered n ∷ rs) = ap (λ (l : List Answer). Refused n ∷ l) (answers-renamed m rs)
 answers-renamed m (told x ∷ rs) = ap (λ (l : List Answer). Refused 0 ∷ l) (answers-renamed m rs)
-
-none-renumbers : (es : List Entry) → noneRenumbers (map callOf es) ≡ true
-unfolding noneRenumbers movesPorts callOf _and_
-none-renumbers [] = refl
-none-renumbers (e ∷ es) = none-renumbers es
+answers-renamed m (saved r t room ∷ rs) = ap (λ (l : List Answer). Refused 0 ∷ l) (answers-renamed m rs)
+answers-renamed m (unsaved n room ∷ rs) = ap (λ (l : List Answer). Refused 0 ∷ l) (answers-renamed m rs)
 
 -- over renamed tables the renamed file gives the answers renamed; the tables after it are the plain replay's renamed, and the tallies are equal
 pub record ReplayForgetsNothing (m f start : List ℕ) (counts : Tally) : Type 0 where
@@ -309,7 +317,7 @@ module _ (m f t : List ℕ) (tally : Tally) (one : oneToOne m ≡ true) (b : Byt
       let plain = replay-performed f t tally e in
       let second = subst (λ (cs : List Call). IsPerformed (replayOn (renamedFile m f) (renamedTables m t) tally) cs (renamedTables m t) tally)
       (renamed-calls m one f b e) (replay-performed (renamedFile m f) (renamedTables m t) tally (renamed-taken m one f b e)) in
-      let forgets = forgets-nothing-on [] (callsOf f) tt (calls-given f b e) t tally bt h m one (none-renumbers (entriesOf f)) in
+      let forgets = forgets-nothing-on [] (callsOf f) tt (calls-given f b e) t tally bt h m one (none-renumbers (entriesOf f)) (none-loads (entriesOf f)) in
       record {
         answers =
             second .answers

@@ -2,8 +2,10 @@
 use Prim.Native.Nat.{ℕ, _≤_}
 use mathlib.Core.Bool.{true}
 use mathlib.Core.List.{List}
-use mathlib.Core.Path.{_≡_, refl, subst}
+use mathlib.Core.Path.{_≡_, refl, sym, subst, _∙_}
+use lib.Dec.{eqb}
 use lib.ListN.{length}
+use borrow.Author.Tests.{eqb-true}
 use Rattle.octets.specs.Bytes.{Bytes}
 use Rattle.octets.proofs.Index.{and-left, and-both}
 use Rattle.packet.specs.Read.{payloadStart}
@@ -16,11 +18,12 @@ use Rattle.rules.specs.Arrival.{Arrival, header}
 use Rattle.rules.specs.Ways.{Way, everywhere, by-path, along-link, by-return, blocked}
 use Rattle.rules.specs.Judging.{Plan, dropped, delivered, follows, plan}
 use Rattle.rules.specs.Writes.{putNext, remember, putPath, emptiedWhere, putReturn, emptyReturn, putLink, renewLink, enact}
+use Rattle.rules.specs.Saved.{Format, loadRefusal}
 use Rattle.rules.specs.Calls.{TableCall, sets-port, adds, removes, renumbers, ruleOf}
-use Rattle.rules.specs.Run.{Call, packet, on-tables, asks, ofTold, perform, relayAfter}
+use Rattle.rules.specs.Run.{Call, packet, on-tables, asks, saves, loads, ofTold, perform, relayAfter}
 use Rattle.rules.specs.declared.Link.{Link}
 use Rattle.rules.specs.declared.Tally.{Tally}
-use Rattle.rules.proofs.Held.{WayKeeps, PlanKeeps, TableKeeps, enact-held, table-held, packet-kept, table-kept, stays}
+use Rattle.rules.proofs.Held.{WayKeeps, PlanKeeps, TableKeeps, enact-held, table-held, packet-kept, table-kept, save-kept, load-kept, stays}
 use Rattle.rules.proofs.Tables.{all-set, all-map, all-getD, all-replicate, table-getD}
 use Rattle.rules.proofs.Followed.{Found, Planned, planned}
 use Rattle.rules.proofs.Ranges.{emptied-ok, slot-renamed}
@@ -29,6 +32,8 @@ use Rattle.tables.specs.Places.{addressWidth}
 use Rattle.tables.specs.Shape.{isBytes, pathShaped, linkShaped, returnShaped, hashShaped, shaped}
 use Rattle.tables.proofs.All.{is-each}
 use Rattle.tables.proofs.Shaped.{shape, Shaped, shaped-parts, shaped-from}
+use Rattle.saved.specs.Format.{saidBy}
+use Rattle.saved.proofs.FormatLaws.{said-shaped, load-refused-alike}
 use Rattle.demands.specs.Given.{CallBytes, CallsBytes}
 use Rattle.demands.proofs.Announced.{WayBlob, PlanBlob, plan-blob}
 use Rattle.demands.proofs.Made.{remembered-shaped, return-shaped, link-made, link-renewed, path-made, accepted-whole, path-renumbered, link-renumbered, return-renumbered}
@@ -99,12 +104,22 @@ table-keeps (renumbers images) r b s = (
   all-map (slotOk returnShaped) _ (slot-renamed returnShaped (renameReturn images) (return-renumbered images)) (r .returns .slots) (s .returns),
 )
 
+-- a load that isn't refused sets what tables can hold
+load-shaped : (format : Format) (file : List ℕ) → CallBytes (loads format file) → eqb (loadRefusal (format .says file)) 0 ≡ true
+    → shaped (format .says file .relay) ≡ true
+unfolding CallBytes saidBy
+load-shaped format file (e, b) taken =
+    let zero : eqb (loadRefusal (saidBy file)) 0 ≡ true = subst (λ (f : Format). eqb (loadRefusal (f .says file)) 0 ≡ true) e taken in
+    subst (λ (f : Format). shaped (f .says file .relay) ≡ true) (sym e) (said-shaped file b (sym (load-refused-alike file b) ∙ eqb-true _ 0 zero))
+
 call-shaped : (c : Call) (r : Relay) (t : Tally) → CallBytes c → Valid r → Shaped r → Shaped (perform c r t .relay)
 unfolding CallBytes perform ofTold
 call-shaped (packet a output) r t b ok s =
     packet-kept Shaped s a t output (λ e. enacted r ok s a (is-each _ (a .bytes) b) (accepted-whole r a (length output) e))
 call-shaped (on-tables c) r t b ok s = table-kept Shaped s c t (λ _. table-held s c (table-keeps c r b s))
 call-shaped (asks q) r t b ok s = s
+call-shaped (saves format room) r t b ok s = save-kept Shaped s format room t
+call-shaped (loads format file) r t b ok s = load-kept Shaped s format file t (λ e. shaped-parts (format .says file .relay) (load-shaped format file b e))
 
 -- one call keeps the shape
 pub step-shaped : (c : Call) (r : Relay) (t : Tally) → CallBytes c → tablesOk r ≡ true → shaped r ≡ true → shaped (perform c r t .relay) ≡ true

@@ -3,5 +3,6 @@ pub mod Given
 pub mod Bytes
 pub mod Refusals
 pub mod Keepalives
+pub mod Chatty
 pub mod Replays
 pub mod Drops

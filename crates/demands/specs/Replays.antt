@@ -6,7 +6,7 @@ use lib.Dec.{eqb}
 use lib.ListN.{replicate}
 use Rattle.packet.specs.Write.{leastOutput}
 use Rattle.rules.specs.Renumbering.{image}
-use Rattle.rules.specs.Run.{Call, packet, Reply, answered, numbered, told}
+use Rattle.rules.specs.Run.{Call, packet, Reply, answered, numbered, told, saved, unsaved}
 use Rattle.rules.specs.declared.Answer.{Answer}
 use Rattle.rules.specs.declared.Answer.the-variants.{Refused}
 use Rattle.rules.specs.declared.Tally.{Tally}
@@ -27,6 +27,8 @@ unfoldable pub answerIn : Reply → Answer
 answerIn (answered answer output) = answer
 answerIn (numbered refusal) = Refused refusal
 answerIn (told x) = Refused 0
+answerIn (saved relay tally room) = Refused 0
+answerIn (unsaved refusal room) = Refused 0
 
 -- answers, tables and tally of a replay are those of these calls, one by one
 pub record IsPerformed (r : ReplayOn) (cs : List Call) (start : List ℕ) (counts : Tally) : Type 0 where

@@ -23,9 +23,12 @@ use Rattle.packet.proofs.ReadLaws.{start-most}
 use Rattle.packet.specs.Write.{Wide}
 use Rattle.rules.specs.declared.Tally.{Tally}
 use Rattle.recording.specs.declared.Written.{Written as Recorded}
+use Rattle.saved.specs.declared.Saved.{Saved}
 use Rattle.haskumye.specs.Answers.{fieldsNumber}
 use Rattle.haskumye.specs.Packets.{partsBytes, partsIn, payloadPlace, writtenNumber}
-use Rattle.haskumye.specs.Recordings.{recordedNumber, tallyNumbers, tallyIn}
+use Rattle.haskumye.specs.Tallies.{tallyNumbers, tallyIn}
+use Rattle.haskumye.specs.Recordings.{recordedNumber}
+use Rattle.haskumye.specs.Saved.{savedNumber}
 
 -- the parts, written to 35 bytes and read from them
 pub parts-back : (q : Parts) → Wide q → partsIn (partsBytes q) ≡ q
@@ -87,7 +90,7 @@ module _ (w : Written) (fits : w .refusal < 65536) where
   unfolding writtenNumber
   length-back = digits-div (w .length) fits
 
--- a recording's too
+-- a recording's, and a saving's
 module _ (w : Recorded) (fits : w .refusal < 65536) where
   pub recorded-refusal-back : recordedNumber w % 65536 ≡ w .refusal
   unfolding recordedNumber
@@ -97,7 +100,16 @@ module _ (w : Recorded) (fits : w .refusal < 65536) where
   unfolding recordedNumber
   recorded-length-back = digits-div (w .length) fits
 
--- a tally, as six numbers and back; six numbers, as a tally and back: a step that is not made changes none
+module _ (s : Saved) (fits : s .refusal < 65536) where
+  pub saved-refusal-back : savedNumber s % 65536 ≡ s .refusal
+  unfolding savedNumber
+  saved-refusal-back = digits-mod (s .length) fits
+
+  pub saved-length-back : savedNumber s / 65536 ≡ s .length
+  unfolding savedNumber
+  saved-length-back = digits-div (s .length) fits
+
+-- a tally, as six numbers and back; six numbers, as a tally and back: a step that is not made, and a load that is refused, change none
 pub tally-back : (t : Tally) → tallyIn (tallyNumbers t) ≡ t
 unfolding tallyIn tallyNumbers
 tally-back t = refl

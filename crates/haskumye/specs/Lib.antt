@@ -2,4 +2,6 @@
 pub mod Packets
 pub mod Tables
 pub mod Answers
+pub mod Tallies
 pub mod Recordings
+pub mod Saved

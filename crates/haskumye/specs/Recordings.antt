@@ -1,16 +1,15 @@
--- How an entry of a recording, a writing of one, and a replay's tally and line cross to hosts.
+-- How an entry of a recording, a writing of one, and a replay's line cross to hosts.
 use Prim.Native.Nat.{ℕ, _+_, _*_}
 use mathlib.Core.List.{List, [], _∷_}
 use mathlib.Core.Path.{_≡_}
-use lib.ListN.{getD}
 use Rattle.octets.specs.Choice.{_then_otherwise_}
-use Rattle.rules.specs.declared.Tally.{Tally}
 use Rattle.recording.specs.Reader.{isThere, fieldsOf}
 use Rattle.recording.specs.Writer.{Writing}
 use Rattle.recording.specs.declared.Fields.{Fields}
 use Rattle.recording.specs.declared.Written.{Written}
 use Rattle.text.specs.Text.{textOf}
 use Rattle.replaying.specs.Promise.{StepOn}
+use Rattle.haskumye.specs.Tallies.{tallyNumbers}
 use Rattle.haskumye.specs.Answers.{answerNumber}
 
 -- an entry in five numbers: clock, port, signature word, and where its body starts and how long it is
@@ -31,21 +30,6 @@ recordedNumber w = w .length * 65536 + w .refusal
 -- what a writing returned and left is this
 abbrev pub Records : Writing → ℕ → List ℕ → Type 0
 Records w number room = (number ≡ recordedNumber (w .answer)) × (room ≡ w .room)
-
--- a tally as six numbers, in the order of its fields
-unfoldable pub tallyNumbers : Tally → List ℕ
-tallyNumbers t = t .total ∷ t .dropped ∷ t .delivered ∷ t .forwarded ∷ t .spread ∷ t .kept ∷ []
-
-unfoldable pub tallyIn : List ℕ → Tally
-tallyIn ns =
-    record {
-      total = getD ns 0 0;
-      dropped = getD ns 1 0;
-      delivered = getD ns 2 0;
-      forwarded = getD ns 3 0;
-      spread = getD ns 4 0;
-      kept = getD ns 5 0;
-    }
 
 -- the caller's 160 bytes after a step: the entry's line, zeros behind it, or what stood there where the entry isn't there
 unfoldable pub lineAfter : StepOn → List ℕ → List ℕ

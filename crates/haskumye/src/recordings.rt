@@ -1,15 +1,16 @@
 // Recordings: reading and writing them, and their replay entry by entry.
 use super::answer_numbers::answer_number;
 use super::packets::haskumye_payload_start;
+use super::tallies::tally_in;
+use super::tallies::tally_numbers;
 use recording::Fields;
-use rules::Tally;
 ghost use mathlib.Core.Path.{_≡_};
 ghost use Rattle.recording.specs.Shape.{countOf};
 ghost use Rattle.recording.specs.Reader.{fileRefusal, bodyOf};
 ghost use Rattle.recording.specs.Writer.{writing};
 ghost use Rattle.replaying.specs.Promise.{stepOn};
-ghost use Rattle.haskumye.specs.Recordings.{entryNumbers, entryRefusal, entryAfter, Records};
-ghost use Rattle.haskumye.specs.Recordings.{tallyNumbers, tallyIn, Replays};
+ghost use Rattle.haskumye.specs.Recordings.{entryNumbers, entryRefusal, entryAfter, Records, Replays};
+ghost use Rattle.haskumye.specs.Tallies.{tallyIn};
 ghost use Rattle.haskumye.specs.Packets.{payloadPlace};
 
 // The refusal of a recording, 20, 21, 22 or 23, or 0.
@@ -66,34 +67,6 @@ pub extern "C" fn haskumye_write_recording(entries: &[u8], bodies: &[u8], room: 
 {
     let written = recording::write(entries, bodies, room);
     (written.length as u32) * 65536 + (written.refusal as u32)
-}
-
-// The tally that six numbers are.
-fn tally_in(counts: [u32; 6]) -> Tally
-    ensures { λ r. ⌜ r ≡ tallyIn counts ⌝ }
-{
-    Tally {
-        total: counts[0],
-        dropped: counts[1],
-        delivered: counts[2],
-        forwarded: counts[3],
-        spread: counts[4],
-        kept: counts[5],
-    }
-}
-
-// A tally as six numbers.
-fn tally_numbers(tally: Tally) -> [u32; 6]
-    ensures { λ r. ⌜ r ≡ tallyNumbers tally ⌝ }
-{
-    [
-        tally.total,
-        tally.dropped,
-        tally.delivered,
-        tally.forwarded,
-        tally.spread,
-        tally.kept,
-    ]
 }
 
 // The packet call of entry `index` of a recording, with an output of its own: its answer's number, as

@@ -91,6 +91,6 @@ violationLimit = 255
 abbrev pub blockedLimit : ℕ
 blockedLimit = 2 ^ 40 + 691199
 
--- refusal 7's bound on a stored time
+-- refusal 7's "time over 2^40 + 604,799": the bound on the last clock and on every expiry; blocked-until and the last announce have wish 5's
 abbrev pub timeLimit : ℕ
 timeLimit = 2 ^ 40 + 604799

@@ -17,7 +17,8 @@ use Rattle.rules.specs.Arrival.{Arrival}
 use Rattle.rules.specs.Answers.{renameVerdict, renameAnswer}
 use Rattle.rules.specs.Judging.{Plan, plan, verdict}
 use Rattle.rules.specs.Calls.{counted, Judgement, judged, judge, packetCall, Setting, settled, TableCall, sets-port, sets-rate, adds, removes, renumbers, ruleOf, tableRefusal, settle}
-use Rattle.rules.specs.Run.{Call, packet, on-tables, asks, renumbering, numbered, movesPorts, Outcome, ofJudgement, ofSetting, ofTold, perform, renameArrival, renameCall, renameReply}
+use Rattle.rules.specs.Saved.{Said, Format, saveRefusal, loadRefusal}
+use Rattle.rules.specs.Run.{Call, packet, on-tables, asks, saves, loads, renumbering, Reply, numbered, saved, unsaved, movesPorts, setsRelay, Outcome, ofJudgement, ofSetting, ofTold, saveReply, ofSaid, perform, renameArrival, renameCall, renameReply}
 use Rattle.rules.specs.declared.Verdict.{Verdict}
 use Rattle.rules.specs.declared.Verdict.the-variants.{Drop, Deliver, Forward, Spread, Kept}
 use Rattle.rules.specs.declared.Answer.the-variants.{Refused, Judged}
@@ -148,9 +149,26 @@ module _ (m : List ℕ) (ok : oneToOne m ≡ true) (r : Relay) (fine : tablesOk 
   unfolding ofJudgement renameJudgement renameOutcome renameReply
   judgement-renamed j = refl
 
-  pub call-renamed : (c : Call) (t : Tally) → movesPorts c ≡ false
+  -- a save is of the renamed relay, by the same rows
+  saved-renamed : (n : ℕ) (t : Tally) (room : List ℕ) → saveReply n (renumbered m r) t room ≡ renameReply m (saveReply n r t room)
+  unfolding saveReply renameReply
+  saved-renamed n t room = sym (then-ap (renameReply m) (eqb n 0) (saved r t room) (unsaved n room))
+
+  save-renamed : (f : Format) (room : List ℕ) (t : Tally)
+      → saveReply (saveRefusal f (length room) (renumbered m r)) (renumbered m r) t room ≡ renameReply m (saveReply (saveRefusal f (length room) r) r t room)
+  unfolding saveRefusal
+  save-renamed f room t = rw (fine, fine′) (saved-renamed _ t room)
+
+  -- a load that is refused leaves either relay
+  load-renamed : (s : Said) (t : Tally) → eqb (loadRefusal s) 0 ≡ false → ofSaid s (renumbered m r) t ≡ renameOutcome m (ofSaid s r t)
+  unfolding ofSaid renameOutcome renameReply _then_otherwise_
+  load-renamed s t none = rw none
+
+  pub call-renamed : (c : Call) (t : Tally) → movesPorts c ≡ false → setsRelay c ≡ false
       → perform (renameCall m c) (renumbered m r) t ≡ renameOutcome m (perform c r t)
-  unfolding perform renameCall renameReply renameSetting renameOutcome movesPorts ofTold
-  call-renamed (packet a output) t h = ap ofJudgement (packetCall-renamed a t output) ∙ judgement-renamed (packetCall a r t output)
-  call-renamed (on-tables c) t h = ap (ofSetting t) (settle-renamed c h) ∙ setting-renamed t _
-  call-renamed (asks q) t h = ap (ofTold (renumbered m r) t) (tell-renamed m ok r fine fine′ q)
+  unfolding perform renameCall renameReply renameSetting renameOutcome movesPorts setsRelay ofTold
+  call-renamed (packet a output) t h none = ap ofJudgement (packetCall-renamed a t output) ∙ judgement-renamed (packetCall a r t output)
+  call-renamed (on-tables c) t h none = ap (ofSetting t) (settle-renamed c h) ∙ setting-renamed t _
+  call-renamed (asks q) t h none = ap (ofTold (renumbered m r) t) (tell-renamed m ok r fine fine′ q)
+  call-renamed (saves f room) t h none = ap (λ (x : Reply). record { reply = x; relay = renumbered m r; tally = t }) (save-renamed f room t)
+  call-renamed (loads f file) t h none = load-renamed (f .says file) t none

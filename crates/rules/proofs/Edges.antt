@@ -15,7 +15,7 @@ use Rattle.rules.specs.Relay.{empty, used}
 use Rattle.rules.specs.View.{viewAt}
 use Rattle.rules.specs.Refusals.{packetRefusal}
 use Rattle.rules.specs.Arrival.{blob}
-use Rattle.rules.specs.Run.{Reply, answered, numbered, told, Outcome, ofJudgement}
+use Rattle.rules.specs.Run.{Reply, answered, numbered, told, saved, unsaved, Outcome, ofJudgement}
 use Rattle.rules.specs.declared.Reason.the-variants.{Duplicate, Replay}
 use Rattle.rules.specs.declared.Verdict.the-variants.{Drop}
 use Rattle.rules.specs.declared.Answer.the-variants.{Judged}
@@ -51,6 +51,8 @@ abbrev headers : List ℕ → Reply → List ℕ
 headers bytes (answered answer output) = headerOf bytes ∷ headerOf output ∷ []
 headers bytes (numbered refusal) = []
 headers bytes (told x) = []
+headers bytes (saved r t room) = []
+headers bytes (unsaved refusal room) = []
 
 abbrev pub table : List Edge
 table =

@@ -1,11 +1,14 @@
 -- What holds of each part of a relay holds after a call, if it holds of the parts that the call writes: one family of laws. It serves refusal
 -- 7 (Valid), keys that are live once (Unique), and what bytes can hold (demands).
 use Prim.Native.Nat.{ℕ}
-use mathlib.Core.Bool.{true, false}
+use mathlib.Core.Bool.{Bool, true, false}
 use mathlib.Core.List.{List, [], _∷_, map}
-use mathlib.Core.Path.{_≡_}
+use mathlib.Core.Path.{_≡_, ap}
 use lib.Dec.{eqb}
 use lib.ListN.{length, set}
+use borrow.Author.Tests.{not-true}
+use Rattle.octets.proofs.Index.{and-left, and-right}
+use Rattle.octets.proofs.Choice.{then-true}
 use Rattle.packet.specs.Header.{isData}
 use Rattle.rules.specs.Relay.{Port, Slot, empty, used, Path, Return, Remembered, Ring, makePort, makeRateSettings, withSlots, Relay, withClock, withRate, withPorts, withLocals, withPaths, withLinks, withReturns, withHashes}
 use Rattle.rules.specs.View.{View, viewAt, localPlace}
@@ -15,8 +18,10 @@ use Rattle.rules.specs.Arrival.{Arrival, header, destination}
 use Rattle.rules.specs.Ways.{Way, everywhere, by-path, along-link, by-return, blocked}
 use Rattle.rules.specs.Judging.{Plan, dropped, delivered, follows, plan}
 use Rattle.rules.specs.Writes.{remembers, remember, putPath, limitPath, putReturn, emptyReturn, putLink, renewLink, writeWay, isRateDrop, writeDrop, writePlan, stamp, enact}
-use Rattle.rules.specs.Calls.{Judgement, judged, judge, packetCall, settled, TableCall, sets-port, sets-rate, adds, removes, renumbers, ruleOf, settle}
-use Rattle.rules.specs.Run.{Call, packet, on-tables, EachCall, ofJudgement, ofSetting, perform, relayAfter}
+use Rattle.rules.specs.Calls.{Judgement, judged, judge, packetCall, settled, TableCall, sets-port, sets-rate, adds, removes, renumbers, ruleOf, tableRefusal, settle}
+use Rattle.rules.specs.Questions.{Question}
+use Rattle.rules.specs.Saved.{Format, loadRefusal}
+use Rattle.rules.specs.Run.{Call, packet, on-tables, asks, saves, loads, EachCall, Outcome, ofJudgement, ofSetting, ofTold, ofSaid, perform, relayAfter, noCall}
 use Rattle.rules.specs.declared.Link.{Link}
 use Rattle.rules.specs.declared.RateSettings.{RateSettings}
 use Rattle.rules.specs.declared.Tally.{Tally}
@@ -173,6 +178,11 @@ table-held h (removes address) k = locals-held h k
 table-held h (renumbers images) k = ports-held (paths-held (links-held (returns-held h (k .3)) (k .2)) (k .1)) (k .0)
 
 -- ---- any call: a refused one leaves the relay as it was
+pub judged-relay : (a : Arrival) (r : Relay) (t : Tally) (output : List ℕ) → eqb (packetRefusal r a (length output)) 0 ≡ true
+    → perform (packet a output) r t .relay ≡ enact (viewAt (a .clock) r) a (plan (viewAt (a .clock) r) a) r
+unfolding perform ofJudgement packetCall judge judged
+judged-relay a r t output taken = ap (λ (j : Judgement). j .relay) (then-true _ _ taken)
+
 module _ (Q : Relay → Type 0) {r : Relay} (q : Q r) where
   pub packet-kept : (a : Arrival) (t : Tally) (output : List ℕ)
       → (eqb (packetRefusal r a (length output)) 0 ≡ true → Q (enact (viewAt (a .clock) r) a (plan (viewAt (a .clock) r) a) r))
@@ -181,9 +191,25 @@ module _ (Q : Relay → Type 0) {r : Relay} (q : Q r) where
   packet-kept a t output accepted =
       either (λ (j : Judgement). Q (j .relay)) (eqb (packetRefusal r a (length output)) 0) accepted (λ _. q)
 
-  pub table-kept : (c : TableCall) (t : Tally) → (NoneHolds (ruleOf c .rows r) → Q (ruleOf c .after r)) → Q (perform (on-tables c) r t .relay)
+  pub table-kept-by : (c : TableCall) (t : Tally) → (eqb (tableRefusal c r) 0 ≡ true → Q (ruleOf c .after r)) → Q (perform (on-tables c) r t .relay)
   unfolding perform ofSetting settle settled
-  table-kept c t accepted = either Q _ (λ e. accepted (table-passed c r e)) (λ _. q)
+  table-kept-by c t accepted = either Q _ accepted (λ _. q)
+
+  pub table-kept : (c : TableCall) (t : Tally) → (NoneHolds (ruleOf c .rows r) → Q (ruleOf c .after r)) → Q (perform (on-tables c) r t .relay)
+  table-kept c t accepted = table-kept-by c t (λ e. accepted (table-passed c r e))
+
+  pub ask-kept : (question : Question) (t : Tally) → Q (perform (asks question) r t .relay)
+  unfolding perform ofTold
+  ask-kept question t = q
+
+  pub save-kept : (f : Format) (room : List ℕ) (t : Tally) → Q (perform (saves f room) r t .relay)
+  unfolding perform
+  save-kept f room t = q
+
+  pub load-kept : (f : Format) (file : List ℕ) (t : Tally) → (eqb (loadRefusal (f .says file)) 0 ≡ true → Q (f .says file .relay))
+      → Q (perform (loads f file) r t .relay)
+  unfolding perform ofSaid
+  load-kept f file t accepted = either (λ (o : Outcome). Q (o .relay)) (eqb (loadRefusal (f .says file)) 0) accepted (λ _. q)
 
 -- ---- any list of calls, each of which is given what it needs
 -- where none needs anything
@@ -191,6 +217,21 @@ pub any-calls : (cs : List Call) → EachCall (λ c. Unit {0}) cs
 unfolding EachCall
 any-calls [] = tt
 any-calls (c ∷ cs) = (tt, any-calls cs)
+
+-- a list without such calls: its first, the others, and each
+module _ (such : Call → Bool) where
+  pub first-none : (c : Call) (cs : List Call) → noCall such (c ∷ cs) ≡ true → such c ≡ false
+  unfolding noCall
+  first-none c cs h = not-true _ (and-left _ _ h)
+
+  pub others-none : (c : Call) (cs : List Call) → noCall such (c ∷ cs) ≡ true → noCall such cs ≡ true
+  unfolding noCall
+  others-none c cs h = and-right _ _ h
+
+  pub each-none : (cs : List Call) → noCall such cs ≡ true → EachCall (λ c. such c ≡ false) cs
+  unfolding EachCall
+  each-none [] h = tt
+  each-none (c ∷ cs) h = (first-none c cs h, each-none cs (others-none c cs h))
 
 pub stays : (Q : Relay → Type 0) (given : Call → Type 0)
     → ((c : Call) (r : Relay) (t : Tally) → given c → Q r → Q (perform c r t .relay))

@@ -1,10 +1,10 @@
 -- The tally counts history: after any list of calls each counter is what it was at the start plus the number of such accepted packet
--- calls, modulo 2^32. The numbers are counted over what the calls replied.
+-- calls, modulo 2^32. The numbers are counted over what the calls replied. An accepted load sets the tally: it is a start of its own.
 use Prim.Native.Nat.{ℕ, _+_, _%_, _^_, _<_}
 use native.Mathlib.Omega.{arith}
-use mathlib.Core.Bool.{Bool, true, false}
+use mathlib.Core.Bool.{Bool, true, false, false≢true}
 use mathlib.Core.List.{List, [], _∷_}
-use mathlib.Core.Path.{_≡_, refl, ap, _∙_}
+use mathlib.Core.Path.{_≡_, refl, sym, ap, _∙_}
 use lib.Dec.{eqb}
 use lib.ListN.{length}
 use Rattle.octets.specs.Choice.{_then_otherwise_}
@@ -13,12 +13,15 @@ use Rattle.rules.specs.View.{viewAt}
 use Rattle.rules.specs.Refusals.{packetRefusal}
 use Rattle.rules.specs.Judging.{plan, verdict}
 use Rattle.rules.specs.Calls.{newTally, up, counted, Judgement, judged, judge, packetCall}
-use Rattle.rules.specs.Run.{Call, packet, on-tables, asks, Reply, answered, numbered, told, ofJudgement, ofSetting, ofTold, perform, replies, tallyAfter}
+use Rattle.rules.specs.Saved.{Said, saveRefusal, loadRefusal}
+use Rattle.rules.specs.Run.{Call, packet, on-tables, asks, saves, loads, Reply, answered, numbered, told, saved, unsaved, Outcome, ofJudgement, ofSetting, ofTold, saveReply, ofSaid, perform, replies, tallyAfter, setsRelay, noneLoads}
 use Rattle.rules.specs.Answers.{verdictKind}
 use Rattle.rules.specs.declared.Verdict.{Verdict}
 use Rattle.rules.specs.declared.Verdict.the-variants.{Drop, Deliver, Forward, Spread, Kept}
 use Rattle.rules.specs.declared.Answer.the-variants.{Refused, Judged}
 use Rattle.rules.specs.declared.Tally.{Tally}
+use Rattle.rules.proofs.Choices.{either}
+use Rattle.rules.proofs.Held.{first-none, others-none}
 
 -- ---- counting
 -- an accepted packet's answer counts where it is of the kind; a refusal, and what another call returns, doesn't
@@ -27,6 +30,8 @@ counts kind (answered (Refused number) output) = 0
 counts kind (answered (Judged verdict) output) = kind verdict then 1 otherwise 0
 counts kind (numbered refusal) = 0
 counts kind (told x) = 0
+counts kind (saved r t room) = 0
+counts kind (unsaved refusal room) = 0
 
 unfoldable pub number : (Verdict → Bool) → List Reply → ℕ
 number kind [] = 0
@@ -65,10 +70,23 @@ module _ (kind : Verdict → Bool) (counter : Tally → ℕ)
       go true = refl
       go false = same-count (counter t) small
 
-  after-call : (c : Call) (r : Relay) (t : Tally) → counter t < 2 ^ 32
+  -- a save's reply doesn't count
+  saved-count : (n : ℕ) (r : Relay) (t : Tally) (room : List ℕ) → counts kind (saveReply n r t room) ≡ 0
+  unfolding saveReply
+  saved-count n r t room = either (λ (x : Reply). counts kind x ≡ 0) (eqb n 0) (λ _. refl) (λ _. refl)
+
+  -- a load that is refused leaves the tally
+  refused-load : (s : Said) (r : Relay) (t : Tally) → eqb (loadRefusal s) 0 ≡ false → counter t < 2 ^ 32
+      → counter (ofSaid s r t .tally) ≡ (counter t + counts kind (ofSaid s r t .reply)) % 2 ^ 32
+  unfolding ofSaid
+  refused-load s r t none small =
+      either (λ (o : Outcome). counter (o .tally) ≡ (counter t + counts kind (o .reply)) % 2 ^ 32) (eqb (loadRefusal s) 0)
+      (λ e. absurd (false≢true (sym none ∙ e))) (λ _. same-count (counter t) small)
+
+  after-call : (c : Call) (r : Relay) (t : Tally) → setsRelay c ≡ false → counter t < 2 ^ 32
       → counter (perform c r t .tally) ≡ (counter t + counts kind (perform c r t .reply)) % 2 ^ 32
-  unfolding perform ofJudgement ofSetting ofTold packetCall judge judged _then_otherwise_
-  after-call (packet a output) r t small = go (eqb (packetRefusal r a (length output)) 0)
+  unfolding perform ofJudgement ofSetting ofTold packetCall judge judged setsRelay _then_otherwise_
+  after-call (packet a output) r t none small = go (eqb (packetRefusal r a (length output)) 0)
     where
       -- `accepted` chooses as the call does
       result : Bool → Judgement
@@ -79,17 +97,20 @@ module _ (kind : Verdict → Bool) (counter : Tally → ℕ)
       go : (accepted : Bool) → counter (result accepted .tally) ≡ (counter t + counts kind (ofJudgement (result accepted) .reply)) % 2 ^ 32
       go true = after-verdict (verdict (viewAt (a .clock) r) a (plan (viewAt (a .clock) r) a)) t small
       go false = same-count (counter t) small
-  after-call (on-tables c) r t small = same-count (counter t) small
-  after-call (asks q) r t small = same-count (counter t) small
+  after-call (on-tables c) r t none small = same-count (counter t) small
+  after-call (asks q) r t none small = same-count (counter t) small
+  after-call (saves f room) r t none small = rw (saved-count (saveRefusal f (length room) r) r t room) (same-count (counter t) small)
+  after-call (loads f file) r t none small = refused-load (f .says file) r t none small
 
-  after-calls : (cs : List Call) (r : Relay) (t : Tally) → counter t < 2 ^ 32
+  after-calls : (cs : List Call) (r : Relay) (t : Tally) → noneLoads cs ≡ true → counter t < 2 ^ 32
       → counter (tallyAfter cs r t) ≡ (counter t + number kind (replies cs r t)) % 2 ^ 32
   unfolding tallyAfter replies number
-  after-calls [] r t small = same-count (counter t) small
-  after-calls (c ∷ cs) r t small =
-      let e : counter (perform c r t .tally) ≡ (counter t + counts kind (perform c r t .reply)) % 2 ^ 32 = after-call c r t small in
+  after-calls [] r t none small = same-count (counter t) small
+  after-calls (c ∷ cs) r t none small =
+      let e : counter (perform c r t .tally) ≡ (counter t + counts kind (perform c r t .reply)) % 2 ^ 32 =
+      after-call c r t (first-none setsRelay c cs none) small in
       let l : counter (perform c r t .tally) < 2 ^ 32 = omega arith in
-      after-calls cs (perform c r t .relay) (perform c r t .tally) l ∙ omega arith
+      after-calls cs (perform c r t .relay) (perform c r t .tally) (others-none setsRelay c cs none) l ∙ omega arith
 
 -- ---- all six
 pub record Fits (t : Tally) : Type 0 where
@@ -125,19 +146,19 @@ by-kind (Forward port length) t = refl
 by-kind (Spread ports length) t = refl
 by-kind Kept t = refl
 
--- the tally counts history
-pub history : (cs : List Call) (r : Relay) (t : Tally) → Fits t → CountsHistory (replies cs r t) t (tallyAfter cs r t)
-history cs r t small =
+-- the tally counts history, over calls among which no load is accepted
+pub history : (cs : List Call) (r : Relay) (t : Tally) → noneLoads cs ≡ true → Fits t → CountsHistory (replies cs r t) t (tallyAfter cs r t)
+history cs r t none small =
     record {
-      total = after-calls isAny (λ t. t .total) (λ v t. ap (λ (t : Tally). t .total) (by-kind v t)) cs r t (small .total);
-      dropped = after-calls isDrop (λ t. t .dropped) (λ v t. ap (λ (t : Tally). t .dropped) (by-kind v t)) cs r t (small .dropped);
-      delivered = after-calls isDelivery (λ t. t .delivered) (λ v t. ap (λ (t : Tally). t .delivered) (by-kind v t)) cs r t (small .delivered);
-      forwarded = after-calls isForward (λ t. t .forwarded) (λ v t. ap (λ (t : Tally). t .forwarded) (by-kind v t)) cs r t (small .forwarded);
-      spread = after-calls isSpread (λ t. t .spread) (λ v t. ap (λ (t : Tally). t .spread) (by-kind v t)) cs r t (small .spread);
-      kept = after-calls isKept (λ t. t .kept) (λ v t. ap (λ (t : Tally). t .kept) (by-kind v t)) cs r t (small .kept);
+      total = after-calls isAny (λ t. t .total) (λ v t. ap (λ (t : Tally). t .total) (by-kind v t)) cs r t none (small .total);
+      dropped = after-calls isDrop (λ t. t .dropped) (λ v t. ap (λ (t : Tally). t .dropped) (by-kind v t)) cs r t none (small .dropped);
+      delivered = after-calls isDelivery (λ t. t .delivered) (λ v t. ap (λ (t : Tally). t .delivered) (by-kind v t)) cs r t none (small .delivered);
+      forwarded = after-calls isForward (λ t. t .forwarded) (λ v t. ap (λ (t : Tally). t .forwarded) (by-kind v t)) cs r t none (small .forwarded);
+      spread = after-calls isSpread (λ t. t .spread) (λ v t. ap (λ (t : Tally). t .spread) (by-kind v t)) cs r t none (small .spread);
+      kept = after-calls isKept (λ t. t .kept) (λ v t. ap (λ (t : Tally). t .kept) (by-kind v t)) cs r t none (small .kept);
     }
 
 -- since fresh, whatever the relay
-pub history-since-fresh : (cs : List Call) (r : Relay) → CountsHistory (replies cs r newTally) newTally (tallyAfter cs r newTally)
+pub history-since-fresh : (cs : List Call) (r : Relay) → noneLoads cs ≡ true → CountsHistory (replies cs r newTally) newTally (tallyAfter cs r newTally)
 unfolding newTally
-history-since-fresh cs r = history cs r newTally (omega arith)
+history-since-fresh cs r none = history cs r newTally none (omega arith)

@@ -40,3 +40,8 @@ pub mod UniqueWrites
 pub mod Unique
 pub mod Keepalive
 pub mod Lasting
+pub mod RateLaws
+pub mod ChattyPlan
+pub mod ChattyPacket
+pub mod ChattyOff
+pub mod ChattySpaced

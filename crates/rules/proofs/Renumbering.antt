@@ -8,12 +8,12 @@ use Rattle.rules.specs.Relay.{Relay, fresh}
 use Rattle.rules.specs.Renumbering.{oneToOne, renumbered, composed}
 use Rattle.rules.specs.Refusals.{tablesOk}
 use Rattle.rules.specs.Calls.{newTally}
-use Rattle.rules.specs.Run.{Call, renumbering, Reply, numbered, replies, relayAfter, tallyAfter, renameCall, renameReply, noneRenumbers}
+use Rattle.rules.specs.Run.{Call, renumbering, Reply, numbered, replies, relayAfter, tallyAfter, renameCall, renameReply, noneRenumbers, noneLoads}
 use Rattle.rules.specs.declared.Tally.{Tally}
 use Rattle.rules.proofs.Images.{composed-one-to-one}
 use Rattle.rules.proofs.Valid.{stays-ok, fresh-ok}
 use Rattle.rules.proofs.QuestionsRenamed.{sixteen-ports}
-use Rattle.rules.proofs.RunRenamed.{replies-append, relay-append, tally-append, early, late, replies-after, relay-after, tally-after, renumbered-ok, replies-renamed, relay-renamed, tally-renamed}
+use Rattle.rules.proofs.RunRenamed.{Renamable, replies-append, relay-append, tally-append, early, late, replies-after, relay-after, tally-after, renumbered-ok, replies-renamed, relay-renamed, tally-renamed}
 use Rattle.rules.proofs.RenumberedTwice.{renumbered-twice}
 
 -- ---- the statements
@@ -47,11 +47,12 @@ pub record TwoAreOne (one two : List ℕ) (before later : List Call) (r : Relay)
       ≡ tallyAfter (before ++ (renumbering (composed one two) ∷ later)) r t
 
 -- ---- the theorems
--- demand 3, for every list of calls, every place in it after which no accepted renumbering stands, and every one-to-one map, from
+-- demand 3, for every list of calls, every place in it after which no accepted renumbering and no accepted load stands, and every one-to-one map, from
 -- every relay that refusal 7 doesn't name and every tally
 pub forgets-nothing : (m : List ℕ) (before later : List Call) (r : Relay) (t : Tally)
-    → oneToOne m ≡ true → noneRenumbers later ≡ true → tablesOk r ≡ true → ForgetsNothing m before later r t
-forgets-nothing m before later r t ok h fine =
+    → oneToOne m ≡ true → noneRenumbers later ≡ true → noneLoads later ≡ true → tablesOk r ≡ true → ForgetsNothing m before later r t
+forgets-nothing m before later r t ok still kept fine =
+    let h : Renamable later = (still, kept) in
     let s : Relay = relayAfter before r t in
     let u : Tally = tallyAfter before r t in
     let fine-then : tablesOk s ≡ true = stays-ok before r t fine in
@@ -117,8 +118,8 @@ two-are-one one two before later r t ok-one ok-two fine =
 
 -- ---- "Both runs start from the same fresh relay, tally 0"
 pub forgets-nothing-fresh : (own m : List ℕ) (before later : List Call)
-    → oneToOne m ≡ true → noneRenumbers later ≡ true → ForgetsNothing m before later (fresh own) newTally
-forgets-nothing-fresh own m before later ok h = forgets-nothing m before later (fresh own) newTally ok h (fresh-ok own)
+    → oneToOne m ≡ true → noneRenumbers later ≡ true → noneLoads later ≡ true → ForgetsNothing m before later (fresh own) newTally
+forgets-nothing-fresh own m before later ok still kept = forgets-nothing m before later (fresh own) newTally ok still kept (fresh-ok own)
 
 pub two-are-one-fresh : (own one two : List ℕ) (before later : List Call)
     → oneToOne one ≡ true → oneToOne two ≡ true → TwoAreOne one two before later (fresh own) newTally

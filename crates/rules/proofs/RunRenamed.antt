@@ -1,18 +1,17 @@
 -- Lists of calls, one after the other and renamed.
 use Prim.Native.Nat.{ℕ, suc}
-use mathlib.Core.Bool.{Bool, true, false}
+use mathlib.Core.Bool.{true}
 use mathlib.Core.List.{List, [], _∷_, _++_, map}
 use mathlib.Core.Path.{_≡_, refl, ap, subst, _∙_}
 use lib.ListN.{length, take, drop}
 use lib.Seq.{take-at, drop-at}
-use Rattle.octets.proofs.Index.{and-left, and-right}
-use borrow.Author.Tests.{not-true}
 use Rattle.rules.specs.Relay.{Relay}
 use Rattle.rules.specs.Renumbering.{oneToOne, renumbered}
 use Rattle.rules.specs.Refusals.{tablesOk}
 use Rattle.rules.specs.Calls.{newTally}
-use Rattle.rules.specs.Run.{Call, renumbering, Reply, numbered, Outcome, perform, replies, relayAfter, tallyAfter, renameCall, renameReply, movesPorts, noneRenumbers}
+use Rattle.rules.specs.Run.{Call, renumbering, Reply, numbered, Outcome, perform, replies, relayAfter, tallyAfter, renameCall, renameReply, movesPorts, noneRenumbers, setsRelay, noneLoads}
 use Rattle.rules.specs.declared.Tally.{Tally}
+use Rattle.rules.proofs.Held.{first-none, others-none}
 use Rattle.rules.proofs.Valid.{step-ok}
 use Rattle.rules.proofs.CallsRenamed.{renameOutcome, accepted, call-renamed}
 
@@ -68,40 +67,44 @@ module _ (m : List ℕ) (ok : oneToOne m ≡ true) (later : List Call) (r : Rela
   tally-after = ap (λ (o : Outcome). tallyAfter later (o .relay) (o .tally)) (accepted m r t fine ok)
 
 -- ---- a list, renamed
-here : (c : Call) (cs : List Call) → noneRenumbers (c ∷ cs) ≡ true → movesPorts c ≡ false
-unfolding noneRenumbers
-here c cs h = not-true _ (and-left _ _ h)
+-- neither an accepted renumbering nor an accepted load stands in it
+abbrev pub Renamable : List Call → Type 0
+Renamable cs = (noneRenumbers cs ≡ true) × (noneLoads cs ≡ true)
 
-rest : (c : Call) (cs : List Call) → noneRenumbers (c ∷ cs) ≡ true → noneRenumbers cs ≡ true
-unfolding noneRenumbers
-rest c cs h = and-right _ _ h
+others : (c : Call) (cs : List Call) → Renamable (c ∷ cs) → Renamable cs
+others c cs h = (others-none movesPorts c cs (h .0), others-none setsRelay c cs (h .1))
 
 module _ (m : List ℕ) (ok : oneToOne m ≡ true) where
   pub renumbered-ok : (r : Relay) → tablesOk r ≡ true → tablesOk (renumbered m r) ≡ true
   renumbered-ok r fine =
       subst (λ (o : Outcome). tablesOk (o .relay) ≡ true) (accepted m r newTally fine ok) (step-ok (renumbering m) r newTally fine)
 
-  pub replies-renamed : (cs : List Call) (r : Relay) (t : Tally) → tablesOk r ≡ true → noneRenumbers cs ≡ true
+  first-renamed : (r : Relay) → tablesOk r ≡ true → (c : Call) (cs : List Call) (t : Tally) → Renamable (c ∷ cs)
+      → perform (renameCall m c) (renumbered m r) t ≡ renameOutcome m (perform c r t)
+  first-renamed r fine c cs t h =
+      call-renamed m ok r fine (renumbered-ok r fine) c t (first-none movesPorts c cs (h .0)) (first-none setsRelay c cs (h .1))
+
+  pub replies-renamed : (cs : List Call) (r : Relay) (t : Tally) → tablesOk r ≡ true → Renamable cs
       → replies (map (renameCall m) cs) (renumbered m r) t ≡ map (renameReply m) (replies cs r t)
   unfolding replies renameOutcome
   replies-renamed [] r t fine h = refl
   replies-renamed (c ∷ cs) r t fine h =
-      ap (λ (o : Outcome). o .reply ∷ replies (map (renameCall m) cs) (o .relay) (o .tally)) (call-renamed m ok r fine (renumbered-ok r fine) c t (here c cs h))
+      ap (λ (o : Outcome). o .reply ∷ replies (map (renameCall m) cs) (o .relay) (o .tally)) (first-renamed r fine c cs t h)
       ∙ ap (λ (l : List Reply). renameReply m (perform c r t .reply) ∷ l)
-      (replies-renamed cs (perform c r t .relay) (perform c r t .tally) (step-ok c r t fine) (rest c cs h))
+      (replies-renamed cs (perform c r t .relay) (perform c r t .tally) (step-ok c r t fine) (others c cs h))
 
-  pub relay-renamed : (cs : List Call) (r : Relay) (t : Tally) → tablesOk r ≡ true → noneRenumbers cs ≡ true
+  pub relay-renamed : (cs : List Call) (r : Relay) (t : Tally) → tablesOk r ≡ true → Renamable cs
       → relayAfter (map (renameCall m) cs) (renumbered m r) t ≡ renumbered m (relayAfter cs r t)
   unfolding relayAfter renameOutcome
   relay-renamed [] r t fine h = refl
   relay-renamed (c ∷ cs) r t fine h =
-      ap (λ (o : Outcome). relayAfter (map (renameCall m) cs) (o .relay) (o .tally)) (call-renamed m ok r fine (renumbered-ok r fine) c t (here c cs h))
-      ∙ relay-renamed cs (perform c r t .relay) (perform c r t .tally) (step-ok c r t fine) (rest c cs h)
+      ap (λ (o : Outcome). relayAfter (map (renameCall m) cs) (o .relay) (o .tally)) (first-renamed r fine c cs t h)
+      ∙ relay-renamed cs (perform c r t .relay) (perform c r t .tally) (step-ok c r t fine) (others c cs h)
 
-  pub tally-renamed : (cs : List Call) (r : Relay) (t : Tally) → tablesOk r ≡ true → noneRenumbers cs ≡ true
+  pub tally-renamed : (cs : List Call) (r : Relay) (t : Tally) → tablesOk r ≡ true → Renamable cs
       → tallyAfter (map (renameCall m) cs) (renumbered m r) t ≡ tallyAfter cs r t
   unfolding tallyAfter renameOutcome
   tally-renamed [] r t fine h = refl
   tally-renamed (c ∷ cs) r t fine h =
-      ap (λ (o : Outcome). tallyAfter (map (renameCall m) cs) (o .relay) (o .tally)) (call-renamed m ok r fine (renumbered-ok r fine) c t (here c cs h))
-      ∙ tally-renamed cs (perform c r t .relay) (perform c r t .tally) (step-ok c r t fine) (rest c cs h)
+      ap (λ (o : Outcome). tallyAfter (map (renameCall m) cs) (o .relay) (o .tally)) (first-renamed r fine c cs t h)
+      ∙ tally-renamed cs (perform c r t .relay) (perform c r t .tally) (step-ok c r t fine) (others c cs h)

@@ -13,7 +13,7 @@ use Rattle.rules.specs.Refusals.{packetRefusal}
 use Rattle.rules.specs.Renumbering.{renumbered}
 use Rattle.rules.specs.Tests.{badForm}
 use Rattle.rules.specs.Calls.{newTally, renumbers, ruleOf, tableRefusal, settle, settled}
-use Rattle.rules.specs.Run.{Call, port-setting, renumbering, Reply, numbered, Outcome, ofJudgement, ofSetting, perform, replies, movesPorts, noneRenumbers}
+use Rattle.rules.specs.Run.{Call, port-setting, renumbering, Reply, numbered, Outcome, ofJudgement, ofSetting, perform, replies, movesPorts, setsRelay, noCall}
 use Rattle.rules.specs.declared.Tally.{Tally}
 use Rattle.rules.proofs.Unfolding.{rules}
 use Rattle.rules.proofs.Shortcut.{passes, seen-quick, goodPlan, goodJudge}
@@ -138,5 +138,5 @@ pub receipt-after-renumbering : ForgetsNothing oneUp
     (port-setting 1 true 2 ∷ port-setting 2 true 0 ∷ arrives announceBytes 1000 1 ∷ arrives dataBytes 2000 2 ∷ [])
     (arrives (receiptBytes 5) 2500 1 ∷ renumbering [] ∷ [])
     (fresh own) newTally
-unfolding rules noneRenumbers movesPorts
-receipt-after-renumbering = forgets-nothing-fresh own oneUp _ _ refl refl
+unfolding rules noCall movesPorts setsRelay
+receipt-after-renumbering = forgets-nothing-fresh own oneUp _ _ refl refl refl

@@ -33,6 +33,7 @@ use Rattle.rules.specs.declared.Answer.the-variants.{Refused, Judged}
 use Rattle.rules.specs.declared.Tally.{Tally}
 use Rattle.octets.proofs.Index.{and-left, and-right}
 use Rattle.rules.proofs.Unfolding.{tests, answers, writes, calls, rules}
+use Rattle.rules.proofs.Passed.{namesTest, names-test}
 use Rattle.octets.proofs.Listed.{lateFrom, all-first, rest-alike, told-alike}
 
 -- the packet with the host's word on its signature
@@ -190,7 +191,7 @@ told-unread p b (t ∷ ts) rest e = go (p (t .value)) refl b (t .holds) (told-un
     go false q c false below e = below e
 
 -- where they say no, nothing of the kind is given
-told-never : {A : Type 0} (p : A → Bool) (ts : List (Test A)) (rest : A) → p rest ≡ false → p (firstOf (told p false ts) rest) ≡ false
+pub told-never : {A : Type 0} (p : A → Bool) (ts : List (Test A)) (rest : A) → p rest ≡ false → p (firstOf (told p false ts) rest) ≡ false
 unfolding firstOf told _then_otherwise_
 told-never p [] rest e = e
 told-never p (t ∷ ts) rest e = go (p (t .value)) refl (t .holds) (told-never p ts rest e)
@@ -227,28 +228,6 @@ module _ (v : View) (a : Arrival) where
       not-true _
       (all-first (λ x. not (ofTest 9 x)) (earlyTests v a) _ refl
       (ap not (told-never (ofTest 9) (onwardTests v a (wayOn v a)) (follows (wayOn v a)) refl)))
-
-  -- it is so answered
-  isNine : Verdict → Bool
-  isNine (Drop reason) = eqb (reasonNumber reason) 9
-  isNine Deliver = false
-  isNine (Forward port length) = false
-  isNine (Spread ports length) = false
-  isNine Kept = false
-
-  nine-answered : (todo : Plan) → isNine (verdict v a todo) ≡ ofTest 9 todo
-  unfolding isNine verdict wayVerdict spreadVerdict ofTest _then_otherwise_
-  nine-answered (dropped reason) = refl
-  nine-answered delivered = refl
-  nine-answered (follows (everywhere known)) = go (eqb (spreadPorts v a) 0 or exceeds (outgoing v a (everywhere known)))
-    where
-      go : (b : Bool) → isNine (b then Kept otherwise Spread (spreadPorts v a) (length (outgoing v a (everywhere known)))) ≡ false
-      go true = refl
-      go false = refl
-  nine-answered (follows (by-path p)) = refl
-  nine-answered (follows (along-link l)) = refl
-  nine-answered (follows (by-return t)) = refl
-  nine-answered (follows (blocked why)) = refl
 
 yes-signed : (a : Arrival) → notSigned (withWord true a) ≡ false
 unfolding notSigned _and_
@@ -319,9 +298,9 @@ module _ (a : Arrival) (r : Relay) (t : Tally) (output : List ℕ) where
       let verdicts : verdict shown a (planBy (notSigned (withWord true a)) shown a) ≡ verdict shown a (planBy unsigned shown a) = cc in
       false≢true
       (sym (ap (λ (b : Bool). ofTest 9 (planBy b shown a)) (yes-signed a) ∙ signed-passes shown a)
-      ∙ sym (nine-answered shown a _)
-      ∙ ap (isNine shown a) verdicts
-      ∙ nine-answered shown a _
+      ∙ sym (names-test shown a 9 refl _)
+      ∙ ap (namesTest 9) verdicts
+      ∙ names-test shown a 9 refl _
       ∙ sym matters-by
       ∙ m)
 

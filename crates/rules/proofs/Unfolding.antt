@@ -31,7 +31,8 @@ use Rattle.rules.specs.Judging.{earlyTests, onwardTests, onwardPlan, pla
 use Rattle.rules.specs.Writes.{putNext, remembersPlan, remembers, remember, announcedBlobs, announcedRate, announcedPath, announcedPlace, putPath, limitPath, returnKey, returnRecord, emptiedIf, emptiedWhere, putReturn, emptyReturn, linkRecord, putLink, renewedLink, renewLink, writeWay, writeDrop, writePlan, stamp, enact}
 use Rattle.rules.specs.Calls.{newTally, up, counted, judged, judge, packetCall, settled, ruleOf, tableRefusal, settle}
 use Rattle.rules.specs.Questions.{toldOf, countBelow, countOf, ofTest, wordMatters, rowSeven, questionRule, questionRefusal, tell}
-use Rattle.rules.specs.Run.{ofJudgement, ofSetting, ofTold, perform, replies, relayAfter, tallyAfter}
+use Rattle.rules.specs.Saved.{saveRefusal, loadRefusal}
+use Rattle.rules.specs.Run.{ofJudgement, ofSetting, ofTold, saveReply, ofSaid, perform, replies, relayAfter, tallyAfter}
 
 -- SHA-256
 unfoldable pub hashing : Unit {0}
@@ -85,7 +86,8 @@ writes = tt
 
 -- the calls
 unfoldable pub calls : Unit {0}
-unfolding newTally up counted judged judge packetCall settled ruleOf tableRefusal settle ofJudgement ofSetting ofTold perform replies relayAfter tallyAfter
+unfolding newTally up counted judged judge packetCall settled ruleOf tableRefusal settle ofJudgement ofSetting ofTold saveRefusal saveReply
+    loadRefusal ofSaid perform replies relayAfter tallyAfter
 calls = tt
 
 -- the questions

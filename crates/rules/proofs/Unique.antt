@@ -1,28 +1,28 @@
--- From fresh, no table has two live records of one key, nor a live path two equal blobs, at any clock not below the last.
+-- From fresh with no load, no table has two live records of one key, nor a live path two equal blobs, at any clock not below the last.
 use Prim.Native.Nat.{ℕ, _≤_}
-use mathlib.Core.Bool.{true}
+use mathlib.Core.Bool.{true, false, false≢true}
 use mathlib.Core.List.{List}
-use mathlib.Core.Path.{_≡_, refl, sym, subst}
+use mathlib.Core.Path.{_≡_, refl, sym, subst, _∙_}
 use lib.ListN.{length}
 use borrow.Author.Tests.{ltb-false, eqb-true}
 use Rattle.octets.specs.Choice.{same}
 use Rattle.octets.proofs.Choice.{eq-same}
 use Rattle.numbers.specs.Numbers.{localCount, pathCount, linkCount, returnCount, hashCount}
-use Rattle.rules.specs.Relay.{Relay, fresh, lowest, withClock, withRate, withPorts, withLocals, withHashes}
+use Rattle.rules.specs.Relay.{Relay, fresh, lowest, withRate, withPorts, withLocals}
 use Rattle.rules.specs.View.{View, viewAt, localPlace, isLocal}
 use Rattle.rules.specs.Renumbering.{renumbered}
 use Rattle.rules.specs.Refusals.{tablesOk}
 use Rattle.rules.specs.Arrival.{Arrival}
-use Rattle.rules.specs.Judging.{Plan, plan}
-use Rattle.rules.specs.Writes.{remembers, remember, stamp, enact}
+use Rattle.rules.specs.Judging.{plan}
+use Rattle.rules.specs.Writes.{enact}
 use Rattle.rules.specs.Calls.{TableCall, sets-port, sets-rate, adds, removes, renumbers, ruleOf}
-use Rattle.rules.specs.Run.{Call, packet, on-tables, asks, ofTold, perform, relayAfter}
+use Rattle.rules.specs.Run.{Call, packet, on-tables, asks, saves, loads, ofTold, perform, relayAfter, setsRelay, noneLoads}
 use Rattle.rules.specs.declared.Tally.{Tally}
-use Rattle.rules.proofs.Choices.{either}
 use Rattle.octets.proofs.Listed.{NoneHolds}
-use Rattle.rules.proofs.Held.{TableKeeps, enact-held, table-held, packet-kept, table-kept, any-calls, stays}
+use Rattle.rules.proofs.Held.{TableKeeps, enact-held, table-held, packet-kept, table-kept, save-kept, load-kept, each-none, stays}
 use Rattle.rules.proofs.Slots.{every-fresh, single-fresh, single-set, single-emptied, none-passes, not-found}
 use Rattle.rules.proofs.Followed.{planned, remembered-new}
+use Rattle.rules.proofs.Stamped.{enact-clock}
 use Rattle.rules.proofs.Accepted.{Accepted, accepted-packet}
 use Rattle.rules.proofs.Valid.{Valid, valid-of, step-ok, fresh-ok}
 use Rattle.rules.proofs.UniqueAt.{onceAt, UniqueAt, later, renumbering-keeps}
@@ -48,11 +48,6 @@ fresh-unique own clock l =
     }
 
 -- ---- the calls
--- every accepted packet sets the last clock
-enact-clock : (v : View) (a : Arrival) (todo : Plan) (r : Relay) → enact v a todo r .clock ≡ a .clock
-unfolding enact stamp withClock remember withHashes
-enact-clock v a todo r = either (λ (s : Relay). s .clock ≡ a .clock) (remembers v a todo) (λ _. refl) (λ _. refl)
-
 enact-unique : (a : Arrival) (r : Relay) → Valid r → UniqueAt (a .clock) r
     → UniqueAt (a .clock) (enact (viewAt (a .clock) r) a (plan (viewAt (a .clock) r) a) r)
 enact-unique a r valid u =
@@ -84,7 +79,7 @@ table-keeps (removes address) r clock valid u n = single-emptied _ _ (r .locals)
 table-keeps (renumbers images) r clock valid u n = renumbering-keeps clock r u images
 
 -- a call on the tables leaves the last clock
-table-clock : (c : TableCall) (r : Relay) → ruleOf c .after r .clock ≡ r .clock
+pub table-clock : (c : TableCall) (r : Relay) → ruleOf c .after r .clock ≡ r .clock
 unfolding ruleOf withRate withPorts withLocals renumbered
 table-clock (sets-port port on mode) r = refl
 table-clock (sets-rate target grace penalty) r = refl
@@ -98,17 +93,20 @@ table-unique c r valid u n clock l =
     table-held now c (table-keeps c r clock valid now n)
 
 -- one call keeps it, of a relay that keeps row 7
-pub step-unique : (c : Call) (r : Relay) (t : Tally) → tablesOk r ≡ true → Unique r → Unique (perform c r t .relay)
-unfolding perform ofTold
-step-unique (packet arrival output) r t ok u = packet-unique arrival r t output (valid-of r ok) u
-step-unique (on-tables c) r t ok u = table-kept Unique u c t (table-unique c r (valid-of r ok) u)
-step-unique (asks q) r t ok u = u
+pub step-unique : (c : Call) (r : Relay) (t : Tally) → setsRelay c ≡ false → tablesOk r ≡ true → Unique r → Unique (perform c r t .relay)
+unfolding perform ofTold setsRelay
+step-unique (packet arrival output) r t none ok u = packet-unique arrival r t output (valid-of r ok) u
+step-unique (on-tables c) r t none ok u = table-kept Unique u c t (table-unique c r (valid-of r ok) u)
+step-unique (asks q) r t none ok u = u
+step-unique (saves f room) r t none ok u = save-kept Unique u f room t
+step-unique (loads f file) r t none ok u = load-kept Unique u f file t (λ e. absurd (false≢true (sym none ∙ e)))
 
-pub stays-unique : (cs : List Call) (r : Relay) (t : Tally) → tablesOk r ≡ true → Unique r → Unique (relayAfter cs r t)
-stays-unique cs r t ok u =
-    stays (λ s. (tablesOk s ≡ true) × Unique s) (λ c. Unit {0}) (λ c s t _ q. (step-ok c s t (q .0), step-unique c s t (q .0) (q .1)))
-    cs r t (any-calls cs) (ok, u) .1
+pub stays-unique : (cs : List Call) (r : Relay) (t : Tally) → noneLoads cs ≡ true → tablesOk r ≡ true → Unique r → Unique (relayAfter cs r t)
+stays-unique cs r t none ok u =
+    stays (λ s. (tablesOk s ≡ true) × Unique s) (λ c. setsRelay c ≡ false)
+    (λ c s t g q. (step-ok c s t (q .0), step-unique c s t g (q .0) (q .1)))
+    cs r t (each-none setsRelay cs none) (ok, u) .1
 
--- after any list of calls on a fresh relay
-pub unique-after : (own : List ℕ) (cs : List Call) (t : Tally) → Unique (relayAfter cs (fresh own) t)
-unique-after own cs t = stays-unique cs (fresh own) t (fresh-ok own) (fresh-unique own)
+-- after any list of calls on a fresh relay, among them no accepted load: a file may hold tables with two live records of one key
+pub unique-after : (own : List ℕ) (cs : List Call) (t : Tally) → noneLoads cs ≡ true → Unique (relayAfter cs (fresh own) t)
+unique-after own cs t none = stays-unique cs (fresh own) t none (fresh-ok own) (fresh-unique own)

@@ -7,24 +7,26 @@ use mathlib.Core.Path.{_≡_, refl, subst}
 use lib.Dec.{eqb, ltb, lit<, lit≤}
 use lib.ListN.{length, getD, set, length-set}
 use borrow.Author.Tests.{lt-ltb, le-leb, leb-false, not-false}
+use Rattle.octets.specs.Index.{_and_}
 use Rattle.octets.proofs.Index.{and-left, and-right, and-both}
 use Rattle.octets.proofs.Choice.{or-no-right}
 use Rattle.numbers.specs.Numbers.{portCount, localCount, pathCount, linkCount, returnCount, hashCount, clockLimit, timeLimit, modeCount}
 use Rattle.rules.specs.Relay.{freshPort, noPort, Slot, empty, used, Path, Ring, Relay, fresh, withPaths, withLinks, withReturns, withHashes}
 use Rattle.rules.specs.View.{View, viewAt}
 use Rattle.rules.specs.Renumbering.{oneToOne, preimage, movedPorts, renamePath, renameLink, renameReturn}
-use Rattle.rules.specs.Refusals.{timeOk, rateSettingsOk, portOk, pathOk, linkOk, returnOk, hashOk, slotOk, tableOk, tablesOk}
+use Rattle.rules.specs.Refusals.{timeOk, rateSettingsOk, portOk, pathOk, linkOk, returnOk, hashOk, slotOk, tableOk, tablesOk, packetRows, packetRefusal, refusalBy}
 use Rattle.rules.specs.Arrival.{Arrival, hops}
 use Rattle.rules.specs.Ways.{Way, everywhere, by-path, along-link, by-return, blocked}
 use Rattle.rules.specs.Tests.{tooManyHops}
 use Rattle.rules.specs.Judging.{Plan, dropped, delivered, follows, plan}
 use Rattle.rules.specs.Writes.{remember, putPath, limitPath, emptiedWhere, putReturn, emptyReturn, putLink, renewLink, enact}
 use Rattle.rules.specs.Calls.{TableCall, sets-port, sets-rate, adds, removes, renumbers, ruleOf}
-use Rattle.rules.specs.Run.{Call, packet, on-tables, asks, ofTold, perform, relayAfter}
+use Rattle.rules.specs.Run.{Call, packet, on-tables, asks, saves, loads, ofTold, perform, relayAfter}
 use Rattle.rules.specs.declared.Link.{Link}
 use Rattle.rules.specs.declared.Tally.{Tally}
-use Rattle.octets.proofs.Listed.{NoneHolds}
-use Rattle.rules.proofs.Held.{Property, Holds, WayKeeps, PlanKeeps, TableKeeps, enact-held, table-held, packet-kept, table-kept, any-calls, stays}
+use Rattle.octets.proofs.Listed.{NoneHolds, allGive, refuses, rows-passed}
+use Rattle.rules.proofs.Held.{Property, Holds, WayKeeps, PlanKeeps, TableKeeps, enact-held, table-held, packet-kept, table-kept, save-kept, load-kept, any-calls, stays}
+use Rattle.rules.proofs.Rows.{loaded-ok}
 use Rattle.rules.proofs.Tables.{table-listOf, table-replicate, table-set, table-map, table-getD}
 use Rattle.rules.proofs.Followed.{Found, Planned, planned}
 use Rattle.rules.proofs.Accepted.{Accepted, accepted-packet}
@@ -186,6 +188,12 @@ module _ (r : Relay) (valid : Valid r) where
         })
 
 -- ---- the calls
+-- row 7 comes first
+pub accepted-valid : (r : Relay) (a : Arrival) (room : ℕ) → eqb (packetRefusal r a room) 0 ≡ true → Valid r
+unfolding refusalBy packetRows allGive refuses _and_
+accepted-valid r a room taken =
+    valid-of r (not-false _ (rows-passed (packetRows r (a .port) (a .clock) room) _ refl taken .0))
+
 renumbering-keeps : (m : List ℕ) → oneToOne m ≡ true → (r : Relay) → Valid r → TableKeeps rowSeven r (renumbers m)
 unfolding movedPorts portOk
 renumbering-keeps m ok r v = (
@@ -214,6 +222,8 @@ call-valid (packet a output) r t v =
     (λ e. let accepted : Accepted r a = accepted-packet r a (length output) e in enacted r v a (accepted .port) (accepted .clock))
 call-valid (on-tables c) r t v = table-kept Valid v c t (λ n. table-held v c (table-keeps c r v n))
 call-valid (asks q) r t v = v
+call-valid (saves f room) r t v = save-kept Valid v f room t
+call-valid (loads f file) r t v = load-kept Valid v f file t (λ e. valid-of (f .says file .relay) (loaded-ok (f .says file) e))
 
 -- one call keeps row 7
 pub step-ok : (c : Call) (r : Relay) (t : Tally) → tablesOk r ≡ true → tablesOk (perform c r t .relay) ≡ true

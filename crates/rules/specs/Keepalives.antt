@@ -21,7 +21,8 @@ use Rattle.rules.specs.Tests.{tooManyHops, fromAnsweringSide, fromAsking
 use Rattle.rules.specs.Outgoing.{carriedPacket}
 use Rattle.rules.specs.Calls.{sets-port, sets-rate, adds, removes, renumbers, tableRefusal}
 use Rattle.rules.specs.Questions.{questionRefusal}
-use Rattle.rules.specs.Run.{Call, packet, on-tables, asks, Reply, answered, perform}
+use Rattle.rules.specs.Saved.{saveRefusal, loadRefusal}
+use Rattle.rules.specs.Run.{Call, packet, on-tables, asks, saves, loads, Reply, answered, perform}
 use Rattle.rules.specs.declared.Link.{Link}
 use Rattle.rules.specs.declared.Tally.{Tally}
 use Rattle.rules.specs.declared.Verdict.the-variants.{Forward}
@@ -68,9 +69,11 @@ unfoldable pub accepted : Call → Relay → Bool
 accepted (packet a output) r = eqb (packetRefusal r a (length output)) 0
 accepted (on-tables c) r = eqb (tableRefusal c r) 0
 accepted (asks q) r = eqb (questionRefusal q r) 0
+accepted (saves f room) r = eqb (saveRefusal f (length room) r) 0
+accepted (loads f file) r = eqb (loadRefusal (f .says file)) 0
 
 -- which calls may be accepted while the link must be kept before a deadline. "No call is accepted at a clock more than 719 s after the last"
--- keepalive; "no accepted renumbering, and no accepted setting that leaves either port off"
+-- keepalive; "no accepted renumbering, and no accepted setting that leaves either port off", and no accepted load
 unfoldable pub fair : Link → ℕ → Call → Bool
 fair l deadline (packet a output) = ltb (a .clock) deadline
 fair l deadline (on-tables (sets-port port on mode)) = on or not (eqb port (l .asking) or eqb port (l .answering))
@@ -80,12 +83,17 @@ fair l deadline (on-tables (removes address)) = true
 fair l deadline (on-tables (renumbers images)) = false
 -- a question changes nothing, whatever its clock
 fair l deadline (asks q) = true
+-- nor does a save; a load sets everything
+fair l deadline (saves f room) = true
+fair l deadline (loads f file) = false
 
 -- a keepalive that is accepted sets it anew: "at most 719 s from each to the next"
 unfoldable pub nextDeadline : Link → ℕ → Call → Bool → ℕ
 nextDeadline l deadline (packet a output) taken = taken and keepsAlive l a then a .clock + provedLifetime otherwise deadline
 nextDeadline l deadline (on-tables c) taken = deadline
 nextDeadline l deadline (asks q) taken = deadline
+nextDeadline l deadline (saves f room) taken = deadline
+nextDeadline l deadline (loads f file) taken = deadline
 
 -- "from the start": the link is up, and is to be kept before the deadline. That is its expiry, or less, and is at most 720 s ahead: where the
 -- link was renewed at the start, "at most 719 s from the start"
@@ -106,6 +114,8 @@ unfoldable pub CarriedIf : Link → Call → Bool → Reply → Relay → Type 0
 CarriedIf l (packet a output) taken reply r′ = taken ≡ true → keepsAlive l a ≡ true → Carried l a output reply r′
 CarriedIf l (on-tables c) taken reply r′ = Unit {0}
 CarriedIf l (asks q) taken reply r′ = Unit {0}
+CarriedIf l (saves f room) taken reply r′ = Unit {0}
+CarriedIf l (loads f file) taken reply r′ = Unit {0}
 
 -- "the link is live and proved after every call": at the last clock that was accepted
 abbrev pub IsUp : Link → Relay → Type 0

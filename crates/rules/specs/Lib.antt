@@ -15,6 +15,7 @@ pub mod Judging
 pub mod Writes
 pub mod Calls
 pub mod Questions
+pub mod Saved
 pub mod Run
 pub mod Keepalives
 pub mod Chatty

@@ -21,7 +21,8 @@ letsBy violations blockedUntil = record { dropped = false; violations = violatio
 unfoldable pub oneMore : ℕ → ℕ
 oneMore violations = ltb violations violationLimit then violations + 1 otherwise violationLimit
 
--- so many violations, this one included: "one above the grace blocks until last + target + penalty and drops"; within the grace it is kept
+-- so many violations, this one included: "one above the grace blocks until last + target + penalty and drops"; within the grace the violation stays,
+-- and the announce is let by
 unfoldable pub violated : RateSettings → RateEntry → ℕ → Rated
 violated s e violations =
     ltb (s .grace) violations

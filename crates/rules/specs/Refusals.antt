@@ -18,7 +18,7 @@ use Rattle.rules.specs.declared.RateSettings.{RateSettings}
 use Rattle.rules.specs.declared.RateEntry.{RateEntry}
 
 -- ---- row 7, of a relay's tables. Marks and unused records, which only bytes can spoil, are the layout's part of this row
--- a time over 2^40 + 604,799 is refused
+-- "or time over 2^40 + 604,799": the last clock and every expiry. Blocked-until and the last announce have bounds of their own, `rateEntryOk`
 unfoldable pub timeOk : ℕ → Bool
 timeOk time = leb time timeLimit
 
@@ -66,7 +66,7 @@ all ok (x ∷ xs) = ok x and all ok xs
 unfoldable pub tableOk : {A : Type 0} → ℕ → (A → Bool) → List A → Bool
 tableOk n ok xs = eqb (length xs) n and all ok xs
 
--- row 7 as far as a relay can break it; no count but those named is stored
+-- row 7 as far as a relay can break it; no other count of a table's records is stored
 unfoldable pub tablesOk : Relay → Bool
 tablesOk r =
     timeOk (r .clock)

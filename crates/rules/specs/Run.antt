@@ -2,13 +2,17 @@
 use Prim.Native.Nat.{ℕ}
 use mathlib.Core.Bool.{Bool, true, false, not}
 use mathlib.Core.List.{List, [], _∷_}
+use lib.Dec.{eqb}
+use lib.ListN.{length}
 use Rattle.octets.specs.Index.{_and_}
+use Rattle.octets.specs.Choice.{_then_otherwise_}
 use Rattle.rules.specs.Relay.{Relay}
-use Rattle.rules.specs.Renumbering.{image}
+use Rattle.rules.specs.Renumbering.{image, renumbered}
 use Rattle.rules.specs.Arrival.{Arrival}
 use Rattle.rules.specs.Answers.{renameAnswer}
 use Rattle.rules.specs.Calls.{Judgement, packetCall, Setting, TableCall, sets-port, sets-rate, adds, removes, renumbers, ruleOf, settle}
 use Rattle.rules.specs.Questions.{Question, Told, questionRule, tell, renameTold}
+use Rattle.rules.specs.Saved.{Said, Format, saveRefusal, loadRefusal}
 use Rattle.rules.specs.declared.Answer.{Answer}
 use Rattle.rules.specs.declared.Tally.{Tally}
 
@@ -16,6 +20,8 @@ pub data Call : Type 0 where
   packet : (arrival : Arrival) (output : List ℕ) → Call
   on-tables : TableCall → Call
   asks : Question → Call
+  saves : Format → (room : List ℕ) → Call
+  loads : Format → (file : List ℕ) → Call
 
 -- the calls on the tables by their names
 abbrev pub port-setting : ℕ → Bool → ℕ → Call
@@ -43,6 +49,9 @@ pub data Reply : Type 0 where
   answered : (answer : Answer) (output : List ℕ) → Reply
   numbered : (refusal : ℕ) → Reply
   told : Told → Reply
+  -- the room that was lent now starts with the file of this relay and this tally; or it is as it was
+  saved : (relay : Relay) (tally : Tally) (room : List ℕ) → Reply
+  unsaved : (refusal : ℕ) (room : List ℕ) → Reply
 
 pub record Outcome : Type 0 where
   pub reply : Reply
@@ -58,10 +67,23 @@ ofSetting t s = record { reply = numbered (s .refusal); relay = s .relay; tally 
 unfoldable pub ofTold : Relay → Tally → Told → Outcome
 ofTold r t x = record { reply = told x; relay = r; tally = t }
 
+-- a save leaves both
+unfoldable pub saveReply : ℕ → Relay → Tally → List ℕ → Reply
+saveReply refusal r t room = eqb refusal 0 then saved r t room otherwise unsaved refusal room
+
+-- a load sets both, the last clock with the relay, or leaves both
+unfoldable pub ofSaid : Said → Relay → Tally → Outcome
+ofSaid s r t =
+    eqb (loadRefusal s) 0
+    then record { reply = numbered 0; relay = s .relay; tally = s .tally }
+    otherwise record { reply = numbered (loadRefusal s); relay = r; tally = t }
+
 unfoldable pub perform : Call → Relay → Tally → Outcome
 perform (packet arrival output) r t = ofJudgement (packetCall arrival r t output)
 perform (on-tables c) r t = ofSetting t (settle c r)
 perform (asks q) r t = ofTold r t (tell q r)
+perform (saves f room) r t = record { reply = saveReply (saveRefusal f (length room) r) r t room; relay = r; tally = t }
+perform (loads f file) r t = ofSaid (f .says file) r t
 
 -- what each call of a list replies, and the relay and the tally after it
 unfoldable pub replies : List Call → Relay → Tally → List Reply
@@ -84,18 +106,40 @@ unfoldable pub renameCall : List ℕ → Call → Call
 renameCall m (packet arrival output) = packet (renameArrival m arrival) output
 renameCall m (on-tables c) = on-tables (ruleOf c .renamed m)
 renameCall m (asks q) = asks (questionRule q .renamed m)
+renameCall m (saves f room) = saves f room
+renameCall m (loads f file) = loads f file
 
 unfoldable pub renameReply : List ℕ → Reply → Reply
 renameReply m (answered answer output) = answered (renameAnswer m answer) output
 renameReply m (numbered refusal) = numbered refusal
 renameReply m (told x) = told (renameTold m x)
+-- "a save among them is of the renamed tables"
+renameReply m (saved r t room) = saved (renumbered m r) t room
+renameReply m (unsaved refusal room) = unsaved refusal room
+
+-- ---- what no call of a list may be
+unfoldable pub noCall : (Call → Bool) → List Call → Bool
+noCall such [] = true
+noCall such (c ∷ cs) = not (such c) and noCall such cs
 
 -- "where no renumbering stands later in the list": one that is refused may
 unfoldable pub movesPorts : Call → Bool
 movesPorts (packet arrival output) = false
 movesPorts (on-tables c) = ruleOf c .movesPorts
 movesPorts (asks q) = false
+movesPorts (saves f room) = false
+movesPorts (loads f file) = false
 
-unfoldable pub noneRenumbers : List Call → Bool
-noneRenumbers [] = true
-noneRenumbers (c ∷ cs) = not (movesPorts c) and noneRenumbers cs
+abbrev pub noneRenumbers : List Call → Bool
+noneRenumbers = noCall movesPorts
+
+-- "hold no load", "with no load": one that is refused may stand there
+unfoldable pub setsRelay : Call → Bool
+setsRelay (packet arrival output) = false
+setsRelay (on-tables c) = false
+setsRelay (asks q) = false
+setsRelay (saves f room) = false
+setsRelay (loads f file) = eqb (loadRefusal (f .says file)) 0
+
+abbrev pub noneLoads : List Call → Bool
+noneLoads = noCall setsRelay

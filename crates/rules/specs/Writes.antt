@@ -79,7 +79,7 @@ announcedPlace a (used p) r = pathPlace (a .clock) r (destination a)
 unfoldable pub putPath : View → Arrival → Slot Path → Relay → Relay
 putPath v a known r = withPaths (set (r .paths) (announcedPlace a known r) (used (announcedPath v a known))) r
 
--- a rate drop changes these fields of its destination's live path alone
+-- a rate drop changes violations and blocked-until of its destination's live path alone; last stays
 unfoldable pub limitPath : View → Arrival → Slot Path → Relay → Relay
 limitPath v a empty r = r
 limitPath v a (used p) r =
@@ -140,7 +140,7 @@ writeWay v a (along-link l) r = renewLink a l r
 writeWay v a (by-return t) r = emptyReturn a r
 writeWay v a (blocked why) r = r
 
--- wish 5: a drop by test 15 writes, and no other does
+-- wish 5: a drop by test 15 writes its path, and no other drop writes one
 abbrev pub isRateDrop : Reason → Bool
 isRateDrop reason = eqb (reasonNumber reason) 15
 

@@ -34,7 +34,7 @@ use Rattle.saved.proofs.LoadLaws.{other-size, load-refused, load-number
 use Rattle.saved.proofs.RoundTrip.{written, written-file, written-edition, written-bytes, save-then-load, loaded-formed, load-then-save}
 
 -- ---- what is computed with
-unfoldable computing : Unit {0}
+unfoldable pub computing : Unit {0}
 unfolding number numberFrom bigEndian part joined listOf allBelow sumBelow firstOf _and_ _then_otherwise_ widthAt entryBytes contentsBytes
     loadRefusal loadRows lengthWrong kindWrong contentsWrong bodiesWrong sizesRight isKnown endRight offsetsRight runningPlace kindOf editionOf
     countOf offsetOf lengthOf

@@ -4,4 +4,5 @@ pub mod LoadLaws
 pub mod SaveLaws
 pub mod Made
 pub mod RoundTrip
+pub mod FormatLaws
 pub mod Example

@@ -36,7 +36,7 @@ use Rattle.saved.proofs.Made.{file-length, made-edition, made-taken, ma
 
 -- ---- saved, then loaded
 module _ (t : List ℕ) (tally : Tally) (b : Bytes t) (h : wellFormed t ≡ true) (s : Fits tally) where
-  held-right : code current .Good (relayOf t, tally)
+  pub held-right : code current .Good (relayOf t, tally)
   held-right = (relay-good t b h, (s .total, (s .dropped, (s .delivered, (s .forwarded, (s .spread, s .kept))))))
 
   pub file-loads : (tables : List ℕ) (old : Tally) → length tables ≡ tableSize
@@ -103,7 +103,7 @@ module _ (f tables : List ℕ) (old : Tally) (b : Bytes f) (loads : loadOn f tab
         kept = g .1 .1 .1 .1 .1;
       })
 
-  loaded-relay : relayOf (loadOn f tables old .tables) ≡ heldIn f .0
+  pub loaded-relay : relayOf (loadOn f tables old .tables) ≡ heldIn f .0
   unfolding relayOf bytesOf
   loaded-relay = ap (λ (x : LoadedOn). relayOf (x .tables)) done ∙ lawful relayForm .back (heldIn f .0) (held-good f (length tables) b file-taken .0)
 

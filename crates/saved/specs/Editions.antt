@@ -1,5 +1,6 @@
 -- Document 02, Wish 4: what a file of saved tables holds, edition by edition. "Each body's layout is yours to fix, later fields too; write it down."
--- A body is a section of the tables as the layout has it, the last one the tally (docs/LAYOUT.md). A later edition is one more line in `editions`.
+-- A body is a section of the tables as the layout has it, the last one the tally (docs/LAYOUT.md). A later edition is one more line in `editions`,
+-- and a field of `Edition` (tables/specs/Forms.antt) for each part of the layout that it has otherwise.
 use Prim.Native.Nat.{ℕ, _+_, _-_}
 use Prim.Native.String.{String}
 use mathlib.Core.Bool.{Bool}
@@ -74,7 +75,7 @@ widthsOf f [] = 0
 widthsOf f (k ∷ ks) = widthOf f k + widthsOf f ks
 
 -- ---- an edition: the form of what its bodies hold, one after the other. It gives today's relay and tally: for a field that the edition lacks the form
--- says the value (`since` and `given`), for one with less room the rest (`firstsOf`)
+-- says the value (`given`), for one with less room the rest (`firstsOf`)
 abbrev pub held : Edition → Form Held
 held e = relayFormIn e & field "tally" tallyForm
 

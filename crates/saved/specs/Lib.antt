@@ -3,4 +3,5 @@ pub mod Editions
 pub mod File
 pub mod Save
 pub mod Load
+pub mod Format
 pub mod Steps

@@ -7,7 +7,7 @@ use Rattle.replaying.specs.Promise.{StepOn, stepOn, Steps}
 use Rattle.replaying.specs.declared.Stepped.{Stepped}
 use Rattle.haskumye.specs.Answers.{answerNumber}
 use Rattle.haskumye.specs.Packets.{payloadPlace}
-use Rattle.haskumye.specs.Recordings.{tallyNumbers, tallyIn}
+use Rattle.haskumye.specs.Tallies.{tallyNumbers, tallyIn}
 use Rattle.haskumye.proofs.RecordingLaws.{line-written, line-stays}
 use borrow.Author.Needs.{needs}
 use Rattle.haskumye.proofs.recordings.haskumye_replay_entry.Statement.{statement}

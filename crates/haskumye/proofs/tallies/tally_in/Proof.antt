@@ -1,8 +1,8 @@
 use mathlib.Core.Path.{refl}
-use Rattle.haskumye.specs.Recordings.{tallyIn}
+use Rattle.haskumye.specs.Tallies.{tallyIn}
 use borrow.Author.Needs.{needs}
-use Rattle.haskumye.proofs.recordings.tally_in.Statement.{statement}
-use Rattle.haskumye.proofs.recordings.tally_in.Tie as tie
+use Rattle.haskumye.proofs.tallies.tally_in.Statement.{statement}
+use Rattle.haskumye.proofs.tallies.tally_in.Tie as tie
 
 array-read-t5 : tie.Need-array-read-t5
 array-read-t5 c = search needs
