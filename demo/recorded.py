@@ -1,5 +1,5 @@
 #!/usr/bin/env python3
-"""Writes what the demo's cold store hears as a recording, and the tables that its relay starts from: data for the program `replay`.
+"""Writes what the demo's cold store hears as a recording, and saves the relay that it starts from: data for the program `replay`.
 
 Usage: demo/recorded.py FOLDER. The library is that of bindings/python, which `make` builds. crates/replay/data was written by it.
 """
@@ -58,7 +58,7 @@ def main(folder):
         (1010, SOUTH, True, announce(3, more=333)[0]),  # too long once it were spread
         (1011, CABLE, True, announce(4)[0]),
     ]
-    (folder / "tables").write_bytes(cold_store().tables)
+    (folder / "tables").write_bytes(cold_store().save())
     (folder / "recording").write_bytes(haskumye.write_recording(day))
 
 

@@ -1,2 +1,2 @@
--- What the program says of tables that it can't take.
+-- What the program says of tables that it can't load.
 pub mod Line

@@ -1,4 +1,4 @@
--- The line for bytes that are no tables' by their length.
+-- The line for a file that is no saved relay.
 use Prim.Native.Nat.{ℕ}
 use mathlib.Core.List.{List, [], _∷_}
 use Rattle.text.specs.Words.{wordsLine, refusedWords}
@@ -7,6 +7,6 @@ use Rattle.text.specs.Words.{wordsLine, refusedWords}
 abbrev pub tablesWord : List ℕ
 tablesWord = 116 ∷ 97 ∷ 98 ∷ 108 ∷ 101 ∷ 115 ∷ []
 
--- `tables refused 7`
-abbrev pub tablesRefused : List ℕ
-tablesRefused = wordsLine (tablesWord ∷ refusedWords 7)
+-- `tables refused` and the number
+abbrev pub tablesRefused : ℕ → List ℕ
+tablesRefused refusal = wordsLine (tablesWord ∷ refusedWords refusal)

@@ -25,9 +25,6 @@ abbrev μ-loop : tie.MeasureT-loop
 count-requires : tie.Need-count-requires Inv-loop μ-loop
 count-requires c κs = search needs
 
-new-tally-requires : tie.Need-new-tally-requires Inv-loop μ-loop
-new-tally-requires c κs = search needs
-
 loop-holds : tie.Need-loop-holds Inv-loop μ-loop
 unfolding stepsOn
 loop-holds c = (search needs, refl, refl, c .new-tally .ensures)
@@ -87,7 +84,6 @@ replay-spec =
     Inv-loop
     μ-loop
     count-requires
-    new-tally-requires
     loop-holds
     step-requires
     print-requires

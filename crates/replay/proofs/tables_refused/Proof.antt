@@ -1,4 +1,4 @@
-use Prim.Native.Nat.{_≤_}
+use Prim.Native.Nat.{ℕ, _≤_, _<_}
 use mathlib.Core.List.{[], _∷_}
 use native.Mathlib.Omega.{arith}
 use lib.Dec.{lit≤}
@@ -12,12 +12,12 @@ use borrow.Author.Needs.{needs}
 use Rattle.replay.proofs.tables_refused.Statement.{statement}
 use Rattle.replay.proofs.tables_refused.Tie as tie
 
-fits : length tablesRefused ≤ 160
-fits =
+fits : (n : ℕ) → n < 1000 → length (tablesRefused n) ≤ 160
+fits n small =
     omega (
       arith,
-      line-most tablesWord (refusedWord ∷ decimal 7 ∷ []) (6 ∷ 7 ∷ 1 ∷ [])
-          (lit≤ tt, (lit≤ tt, (numeral-most 10 (lit≤ tt) 1 7 (lit≤ tt) (lit≤ tt), tt))),
+      line-most tablesWord (refusedWord ∷ decimal n ∷ []) (6 ∷ 7 ∷ 3 ∷ [])
+          (lit≤ tt, (lit≤ tt, (numeral-most 10 (lit≤ tt) 3 n (lit≤ tt) small, tt))),
     )
 
 empty-requires : tie.Need-empty-requires
@@ -49,6 +49,7 @@ returns c =
     let c3 = c .before .before .before in
     let c5 = c3 .before .before in
     let c7 = c5 .before .before in
+    let n = c7 .before .before .args .refusal in
     let grown = c3 .with-word .ensures in
     rw (
       c .with-character .ensures,
@@ -59,7 +60,7 @@ returns c =
       c7 .empty .ensures,
       words-appended,
     )
-    (line-appended tablesWord (refusedWord ∷ decimal 7 ∷ []) fits)
+    (line-appended tablesWord (refusedWord ∷ decimal n ∷ []) (fits n (omega arith)))
 
 pub tables-refused-spec : {M : Type 1} → statement M
 tables-refused-spec =
