@@ -42,6 +42,19 @@ spaced-by d (c ∷ cs) r t b ok s spaced =
       spaced-by d cs (o .relay) (o .tally) (b .1) (step-ok c r t ok) (step-shaped c r t (b .0) ok s) rest,
     )
 
+-- .. and the other way
+pub spaced-on : (d : List ℕ) (cs : List Call) (r : Relay) (t : Tally) → CallsBytes cs → tablesOk r ≡ true → shaped r ≡ true → Spaced d cs r t
+    → SpacedOn d cs (bytesOf r) t
+unfolding EachCall Spaced SpacedOn outcomeOn
+spaced-on d [] r t b ok s spaced = tt
+spaced-on d (c ∷ cs) r t b ok s spaced =
+    let o : Outcome = perform c r t in
+    let rest : SpacedOn d cs (bytesOf (o .relay)) (o .tally) =
+    spaced-on d cs (o .relay) (o .tally) (b .1) (step-ok c r t ok) (step-shaped c r t (b .0) ok s) (spaced .1) in (
+      subst (SpacedCall d c) (sym (back r s ok)) (spaced .0),
+      subst (λ (y : OutcomeOn). SpacedOn d cs (y .tables) (y .tally)) (sym (call-on r s ok t c (b .0))) rest,
+    )
+
 never-on : (d : List ℕ) (cs : List Call) (r : Relay) (t : Tally) → CallsBytes cs → tablesOk r ≡ true → shaped r ≡ true → NeverBlocked d cs r t
     → NeverBlockedOn d cs (bytesOf r) t
 unfolding EachCall NeverBlocked NeverBlockedOn outcomeOn
@@ -71,10 +84,10 @@ module _ (buffer own : List ℕ) (size : length buffer ≡ tableSize) (cs : List
   pub spaced-never-blocked-on : (d : List ℕ) → SpacedOn d cs start newTally → NeverBlockedOn d cs start newTally
   spaced-never-blocked-on d spaced =
       let made = fresh-made buffer own size in
-      let first : SpacedOn d cs (bytesOf (fresh own)) newTally = subst (λ (x : Called). SpacedOn d cs (x .tables) newTally) made spaced in
+      let spaced′ : SpacedOn d cs (bytesOf (fresh own)) newTally = subst (λ (x : Called). SpacedOn d cs (x .tables) newTally) made spaced in
       subst (λ (x : Called). NeverBlockedOn d cs (x .tables) newTally) (sym made)
       (never-on d cs (fresh own) newTally given (fresh-ok own) (fresh-shaped own h)
-      (spaced-never-blocked own d cs none (spaced-by d cs (fresh own) newTally given (fresh-ok own) (fresh-shaped own h) first)))
+      (spaced-never-blocked own d cs none (spaced-by d cs (fresh own) newTally given (fresh-ok own) (fresh-shaped own h) spaced′)))
 
 -- ---- the theorems about one packet, from any tables that are well formed, and any tally
 module _ (tables : List ℕ) (tally : Tally) (b : Bytes tables) (h : wellFormed tables ≡ true) (p : Path) (a : Arrival) (output : List ℕ)

@@ -1,5 +1,5 @@
--- Demands 1 to 3, and what wishes 2 and 4 add to them, about the bytes. First what keeps a relay one that tables can hold; last the theorems on lists of calls,
--- with what they say computed, so that none can become empty unseen.
+-- Demands 1 to 3, and what wishes 2, 4 and 5 add to them, about the bytes. First what keeps a relay one that tables can hold; last the theorems on lists
+-- of calls, with what they say computed, so that none can become empty unseen.
 pub mod Announced
 pub mod Made
 pub mod Shape
@@ -18,5 +18,6 @@ pub mod Instance2
 pub mod Instance3
 pub mod InstanceSaved
 pub mod InstanceKeepalives
+pub mod InstanceChatty
 pub mod InstanceReplay
 pub mod InstanceAnnounce

@@ -45,3 +45,4 @@ pub mod ChattyPlan
 pub mod ChattyPacket
 pub mod ChattyOff
 pub mod ChattySpaced
+pub mod ChattyScene
