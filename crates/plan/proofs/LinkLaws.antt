@@ -41,14 +41,9 @@ module _ (a : Arrival) (good : badForm (a .bytes) ≡ false) (announce : isAnnou
       isLinkProof (a .bytes) and not (a .signed) then dropped NotSigned otherwise
       not (v .on (leavingPort a (along-link l))) then dropped PortOff otherwise
       follows (along-link l))
-<<<<<<< HEAD
-  unfolding onwardPlan onwardTests firstOf noWayOn alreadyKnown followsProvedLink notSigned ofKnown replay notBetter rateLimited portOff noRoom _then_otherwise_ _and_ _or_
-  link-plan v l = rw (link-no-request a good kind, announce)
-=======
   unfolding onwardPlan onwardTests firstOf noWayOn alreadyKnown followsProvedLink notSigned ofKnown replay notBetter rateLimited portOff noRoom
       _then_otherwise_ _and_ _or_
-  link-plan v l = rw (link-no-request a good kind, announce, fits l)
->>>>>>> r5
+  link-plan v l = rw (link-no-request a good kind, announce)
 
   module _ (r : Relay) where
     link-none : viewAt (a .clock) r .link (destination a) ≡ empty → Drop (NoWayOn NoLink) ≡ onward r a
