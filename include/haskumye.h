@@ -47,10 +47,10 @@ extern "C" {
 #define HASKUMYE_CHECKED
 #endif
 
-#define HASKUMYE_VERSION 2 /* of this interface: it rises where a host has to be changed or compiled again */
+#define HASKUMYE_VERSION 3 /* of this interface: it rises where a host has to be changed or compiled again */
 
 /* Sizes, in bytes unless another unit is named. */
-#define HASKUMYE_TABLE_SIZE 71116 /* a relay's tables, exactly; haskumye_table_size() says the same */
+#define HASKUMYE_TABLE_SIZE 72216 /* a relay's tables, exactly; haskumye_table_size() says the same */
 #define HASKUMYE_OUTPUT_SIZE 500  /* the least output buffer, however short the packet */
 #define HASKUMYE_SHORTEST_PACKET 19 /* 35 in type 2 */
 #define HASKUMYE_LONGEST_PACKET 500
@@ -58,7 +58,7 @@ extern "C" {
 #define HASKUMYE_TEXT_SIZE 160  /* a line of haskumye_line or haskumye_replay_entry */
 #define HASKUMYE_RECORDING_SIZE 60000 /* the longest recording */
 #define HASKUMYE_ENTRY_WIDTH 12 /* an entry as haskumye_write_recording takes it */
-#define HASKUMYE_SAVED_SIZE 71192 /* what haskumye_save writes, exactly; haskumye_saved_size() says the same */
+#define HASKUMYE_SAVED_SIZE 72292 /* what haskumye_save writes, exactly; haskumye_saved_size() says the same */
 #define HASKUMYE_LONGEST_SAVED 524332 /* no saved file of any edition is longer */
 
 /* Limits: how many of each a relay has room for. */
@@ -69,6 +69,11 @@ extern "C" {
 #define HASKUMYE_RETURN_COUNT 512 /* receipts under way */
 #define HASKUMYE_HASH_COUNT 1024  /* remembered packets */
 #define HASKUMYE_CLOCK_LIMIT UINT64_C(1099511627776) /* seconds: every clock is below 2^40 */
+
+/* The announce rate is set to these at most. */
+#define HASKUMYE_TARGET_LIMIT 86400 /* seconds: a day */
+#define HASKUMYE_GRACE_LIMIT 254
+#define HASKUMYE_PENALTY_LIMIT 604800 /* seconds: seven days */
 
 /* What a question answers beside a refusal and 0. */
 #define HASKUMYE_NONE 255   /* there is none: an empty place or one outside the table, no port, no live path */
@@ -126,7 +131,7 @@ enum haskumye_refusal {
     HASKUMYE_REFUSAL_OUTPUT = 6,          /* the output buffer is under 500 bytes */
     HASKUMYE_REFUSAL_TABLES = 7,          /* the tables' length is wrong, or no relay has these bytes */
     HASKUMYE_REFUSAL_MAP = 8,             /* the renumbering map is not one-to-one on 0..15 */
-    HASKUMYE_REFUSAL_SETTING = 9,         /* setting a port over 15, or an unknown mode */
+    HASKUMYE_REFUSAL_SETTING = 9,         /* setting a port over 15, an unknown mode, or a rate over its limit */
     HASKUMYE_REFUSAL_LOCAL_FULL = 10,     /* a 17th local address */
     HASKUMYE_REFUSAL_LOCAL_ADDRESS = 11,  /* adding a local address already there, or removing one not there */
     HASKUMYE_REFUSAL_FILE_LENGTH = 20,    /* a recording over 60,000 bytes, or shorter than its contents; a saved file
@@ -165,7 +170,8 @@ enum haskumye_reason {
     HASKUMYE_REASON_REPLAY = 10,        /* an announce whose blob is stored in its path */
     HASKUMYE_REASON_NOT_BETTER = 11,    /* an announce neither emitted later nor of fewer hops than its path */
     HASKUMYE_REASON_PORT_OFF = 12,      /* the port to leave by */
-    HASKUMYE_REASON_NO_ROOM = 13        /* for a new path or link */
+    HASKUMYE_REASON_NO_ROOM = 13,       /* for a new path or link */
+    HASKUMYE_REASON_RATE_LIMITED = 15   /* an announce too soon after the last; tested after 11, before 12 */
 };
 
 /*
@@ -281,6 +287,27 @@ typedef struct {
     uint8_t mode; /* one of haskumye_mode */
 } haskumye_port_settings;
 
+/* A setting's number, big-endian: haskumye_setting_number says it. */
+typedef struct {
+    uint8_t bytes[4];
+} haskumye_setting;
+
+static inline uint32_t haskumye_setting_number(haskumye_setting setting)
+{
+    uint32_t number = 0;
+    for (size_t i = 0; i < sizeof setting.bytes; i++) {
+        number = number << 8 | setting.bytes[i];
+    }
+    return number;
+}
+
+/* How often a destination may announce itself. With a target of 0 there is no limit. */
+typedef struct {
+    haskumye_setting target;  /* the least seconds between two of its announces */
+    haskumye_setting grace;   /* how many violations are let through */
+    haskumye_setting penalty; /* seconds that it is blocked for beyond the target */
+} haskumye_rate_settings;
+
 /* A path. It is live while the clock is below its expiry. */
 typedef struct {
     haskumye_address destination;
@@ -288,6 +315,9 @@ typedef struct {
     uint8_t hops;              /* relays between the destination and this one */
     haskumye_address next_hop; /* the relay address that its announce came with, or the destination */
     haskumye_time expiry;
+    haskumye_time last_announce; /* the clock of its last accepted announce */
+    uint8_t violations;          /* announces sooner than the target after it, less those forgiven; 255 at most */
+    haskumye_time blocked_until; /* while the clock is below, its announces are dropped by 15 */
     uint8_t blob_count;
 } haskumye_path_record;
 
@@ -322,7 +352,9 @@ HASKUMYE_ASSERT_SIZE(haskumye_text, HASKUMYE_TEXT_SIZE);
 HASKUMYE_ASSERT_SIZE(haskumye_tally, 24);
 HASKUMYE_ASSERT_SIZE(haskumye_time, 8);
 HASKUMYE_ASSERT_SIZE(haskumye_port_settings, 2);
-HASKUMYE_ASSERT_SIZE(haskumye_path_record, 43);
+HASKUMYE_ASSERT_SIZE(haskumye_setting, 4);
+HASKUMYE_ASSERT_SIZE(haskumye_rate_settings, 12);
+HASKUMYE_ASSERT_SIZE(haskumye_path_record, 60);
 HASKUMYE_ASSERT_SIZE(haskumye_link_record, 29);
 
 /* ---- Which library this is. ---- */
@@ -355,6 +387,15 @@ HASKUMYE_CHECKED uint8_t haskumye_check_tables(const uint8_t *tables, size_t len
  * switches the port off and is not refused. Records that name the port stay. Refusals: 7, 9.
  */
 HASKUMYE_CHECKED uint8_t haskumye_set_port(uint8_t *tables, size_t length, uint64_t port, uint8_t on, uint64_t mode);
+
+/*
+ * Sets how often every destination may announce itself. An announce under `target` seconds after the last accepted one
+ * is a violation. One that makes more than `grace` of them is dropped by 15, and so are all until `target` and
+ * `penalty` seconds after that last one. A target of 0, as a fresh relay has, makes none. Paths stay, blocked ones too.
+ * Refusals: 7, 9.
+ */
+HASKUMYE_CHECKED uint8_t haskumye_set_announce_rate(uint8_t *tables, size_t length, uint64_t target, uint64_t grace,
+                                                    uint64_t penalty);
 
 /* Adds an address whose packets are delivered here. The relay's own address is not one of them. Refusals: 7, 11, 10. */
 HASKUMYE_CHECKED uint8_t haskumye_add_local(uint8_t *tables, size_t length, const haskumye_address *address);
@@ -411,6 +452,9 @@ HASKUMYE_CHECKED uint8_t haskumye_load(const uint8_t *file, size_t file_length, 
 /* A port's settings. None: a number over 15. */
 HASKUMYE_CHECKED uint8_t haskumye_port(const uint8_t *tables, size_t length, uint64_t port,
                                        haskumye_port_settings *settings);
+
+/* The announce rate's settings. Never none. */
+HASKUMYE_CHECKED uint8_t haskumye_announce_rate(const uint8_t *tables, size_t length, haskumye_rate_settings *settings);
 
 /* The local address at a place, 0 to 15. Removing one leaves its place empty. */
 HASKUMYE_CHECKED uint8_t haskumye_local(const uint8_t *tables, size_t length, uint64_t place,
@@ -554,7 +598,7 @@ static inline const char *haskumye_refusal_words(unsigned refusal)
     case HASKUMYE_REFUSAL_OUTPUT: return "output buffer under 500 bytes";
     case HASKUMYE_REFUSAL_TABLES: return "tables of wrong size, or with bytes that no relay has";
     case HASKUMYE_REFUSAL_MAP: return "renumbering map not one-to-one on 0..15";
-    case HASKUMYE_REFUSAL_SETTING: return "setting a port over 15 or an unknown mode";
+    case HASKUMYE_REFUSAL_SETTING: return "setting a port over 15, an unknown mode or an announce rate over its limit";
     case HASKUMYE_REFUSAL_LOCAL_FULL: return "adding a 17th local address";
     case HASKUMYE_REFUSAL_LOCAL_ADDRESS: return "adding a local address already there, or removing one not there";
     case HASKUMYE_REFUSAL_FILE_LENGTH: return "file too long or shorter than its contents (saved: another length)";
@@ -586,6 +630,7 @@ static inline const char *haskumye_reason_words(unsigned reason)
     case HASKUMYE_REASON_NOT_BETTER: return "not better";
     case HASKUMYE_REASON_PORT_OFF: return "port off";
     case HASKUMYE_REASON_NO_ROOM: return "no room";
+    case HASKUMYE_REASON_RATE_LIMITED: return "announced too often";
     default: return "unknown";
     }
 }

@@ -43,8 +43,8 @@ static void check_accessors(void)
     next = forward;
     CHECK(HASKUMYE_ANSWER_PORT(next++) == 15 && next == forward + 1);
     CHECK(HASKUMYE_WRITTEN_REFUSAL(6) == HASKUMYE_REFUSAL_OUTPUT && HASKUMYE_WRITTEN_LENGTH(19u << 16) == 19);
-    const haskumye_saved saved = UINT64_C(71192) << 16, not_saved = HASKUMYE_REFUSAL_ROOM;
-    CHECK(HASKUMYE_SAVED_REFUSAL(saved) == HASKUMYE_REFUSAL_NONE && HASKUMYE_SAVED_LENGTH(saved) == 71192);
+    const haskumye_saved saved = UINT64_C(72292) << 16, not_saved = HASKUMYE_REFUSAL_ROOM;
+    CHECK(HASKUMYE_SAVED_REFUSAL(saved) == HASKUMYE_REFUSAL_NONE && HASKUMYE_SAVED_LENGTH(saved) == 72292);
     CHECK(HASKUMYE_SAVED_REFUSAL(not_saved) == HASKUMYE_REFUSAL_ROOM && HASKUMYE_SAVED_LENGTH(not_saved) == 0);
 }
 
@@ -92,6 +92,7 @@ static void check_relay_calls(void)
     CHECK(haskumye_fresh(NULL, 0, &address) == HASKUMYE_REFUSAL_TABLES);
     CHECK(haskumye_check_tables(NULL, 0) == HASKUMYE_REFUSAL_TABLES);
     CHECK(haskumye_set_port(NULL, 0, 0, HASKUMYE_ON, HASKUMYE_MODE_BOUNDARY) == HASKUMYE_REFUSAL_TABLES);
+    CHECK(haskumye_set_announce_rate(NULL, 0, 0, 0, 0) == HASKUMYE_REFUSAL_TABLES);
     CHECK(haskumye_add_local(NULL, 0, &address) == HASKUMYE_REFUSAL_TABLES);
     CHECK(haskumye_remove_local(NULL, 0, &address) == HASKUMYE_REFUSAL_TABLES);
     CHECK(haskumye_renumber(NULL, 0, &map) == HASKUMYE_REFUSAL_TABLES);
@@ -128,13 +129,17 @@ static void check_questions(void)
     static const haskumye_address address = {{0}};
     static const haskumye_time time = {{0, 0, 0, 1, 2, 3, 4, 5}};
     static haskumye_address local;
+    static const haskumye_setting setting = {{1, 2, 3, 4}};
     static haskumye_port_settings port;
+    static haskumye_rate_settings rate;
     static haskumye_path_record path;
     static haskumye_link_record link;
     static uint64_t number;
     static uint8_t tables[HASKUMYE_TABLE_SIZE];
     CHECK(haskumye_seconds(time) == UINT64_C(0x102030405));
+    CHECK(haskumye_setting_number(setting) == UINT32_C(0x1020304));
     CHECK(haskumye_port(NULL, 0, 0, &port) == HASKUMYE_REFUSAL_TABLES);
+    CHECK(haskumye_announce_rate(NULL, 0, &rate) == HASKUMYE_REFUSAL_TABLES);
     CHECK(haskumye_local(NULL, 0, 0, &local) == HASKUMYE_REFUSAL_TABLES);
     CHECK(haskumye_path(NULL, 0, 0, &path) == HASKUMYE_REFUSAL_TABLES);
     CHECK(haskumye_live_path(NULL, 0, &address, 0, &path) == HASKUMYE_REFUSAL_TABLES);
@@ -147,6 +152,10 @@ static void check_questions(void)
     CHECK(haskumye_set_port(tables, sizeof tables, 2, HASKUMYE_ON, HASKUMYE_MODE_ROAMING) == 0);
     CHECK(haskumye_port(tables, sizeof tables, 2, &port) == 0 && port.on == 1 && port.mode == HASKUMYE_MODE_ROAMING);
     CHECK(haskumye_port(tables, sizeof tables, 16, &port) == HASKUMYE_NONE && port.on == 1);
+    CHECK(haskumye_set_announce_rate(tables, sizeof tables, 3600, 5, HASKUMYE_PENALTY_LIMIT) == 0);
+    CHECK(haskumye_set_announce_rate(tables, sizeof tables, 3600, 256, 0) == HASKUMYE_REFUSAL_SETTING);
+    CHECK(haskumye_announce_rate(tables, sizeof tables, &rate) == 0 && haskumye_setting_number(rate.target) == 3600);
+    CHECK(haskumye_setting_number(rate.grace) == 5 && haskumye_setting_number(rate.penalty) == 604800);
     CHECK(haskumye_local(tables, sizeof tables, 0, &local) == HASKUMYE_NONE);
     CHECK(haskumye_path(tables, sizeof tables, 63, &path) == HASKUMYE_NONE);
     CHECK(haskumye_live_path(tables, sizeof tables, &address, 0, &path) == HASKUMYE_NONE);

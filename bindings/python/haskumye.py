@@ -11,7 +11,7 @@ Signatures, access codes, framing and timers are the host's; docs/HOST.md tells 
         send(answer.port, answer.packet)
 
 Packets, addresses and payloads are bytes-like. A refused call raises Refused and has changed nothing. A call holds Python's lock, so those on one relay
-are made one at a time. The shared library, libhaskumye.so.2, is found in the repository's target/, below the prefix that this file is installed
+are made one at a time. The shared library, libhaskumye.so.3, is found in the repository's target/, below the prefix that this file is installed
 in, or by the system; HASKUMYE_LIBRARY names another file.
 """
 
@@ -23,10 +23,10 @@ import pathlib
 from ctypes import c_char_p, c_size_t, c_uint8, c_uint32, c_uint64, c_void_p
 from typing import NamedTuple, Optional
 
-VERSION = 2  # of the interface, as the header has it
+VERSION = 3  # of the interface, as the header has it
 
 # Sizes in bytes, and limits.
-TABLE_SIZE = 71116
+TABLE_SIZE = 72216
 OUTPUT_SIZE = 500
 SHORTEST_PACKET = 19
 LONGEST_PACKET = 500
@@ -34,7 +34,7 @@ LONGEST_MESSAGE = 65535
 TEXT_SIZE = 160
 RECORDING_SIZE = 60000
 ENTRY_WIDTH = 12
-SAVED_SIZE = 71192
+SAVED_SIZE = 72292
 LONGEST_SAVED = 524332
 PORT_COUNT = 16
 LOCAL_COUNT = 16
@@ -43,6 +43,9 @@ LINK_COUNT = 64
 RETURN_COUNT = 512
 HASH_COUNT = 1024
 CLOCK_LIMIT = 1 << 40
+TARGET_LIMIT = 86400
+GRACE_LIMIT = 254
+PENALTY_LIMIT = 604800
 NONE = 255
 VERIFY = 255
 OFF = 0
@@ -91,7 +94,7 @@ class Refusal(Words):
     OUTPUT = 6, "output buffer under 500 bytes"
     TABLES = 7, "tables of wrong size, or with bytes that no relay has"
     MAP = 8, "renumbering map not one-to-one on 0..15"
-    SETTING = 9, "setting a port over 15 or an unknown mode"
+    SETTING = 9, "setting a port over 15, an unknown mode or an announce rate over its limit"
     LOCAL_FULL = 10, "adding a 17th local address"
     LOCAL_ADDRESS = 11, "adding a local address already there, or removing one not there"
     FILE_LENGTH = 20, "file too long or shorter than its contents (saved: another length)"
@@ -120,6 +123,7 @@ class Reason(Words):
     NOT_BETTER = 11, "not better"
     PORT_OFF = 12, "port off"
     NO_ROOM = 13, "no room"
+    RATE_LIMITED = 15, "announced too often"
 
 
 class Kind(Words):
@@ -243,14 +247,27 @@ class Port(NamedTuple):
     mode: Mode
 
 
+class AnnounceRate(NamedTuple):
+    """How often a destination may announce itself: the least seconds between two announces, how many violations are let through, and the seconds that
+    it is blocked for beyond the target. With a target of 0 there is no limit."""
+
+    target: int = 0
+    grace: int = 0
+    penalty: int = 0
+
+
 class Path(NamedTuple):
-    """A path. It is live while the clock is below its expiry, in seconds."""
+    """A path. It is live while the clock is below its expiry, in seconds. Announces of its destination are dropped by 15 while the clock is below
+    `blocked_until`."""
 
     destination: bytes
     port: int
     hops: int
     next_hop: bytes
     expiry: int
+    last_announce: int
+    violations: int
+    blocked_until: int
     blob_count: int
 
 
@@ -289,6 +306,7 @@ FUNCTIONS = {
     "haskumye_fresh": (c_uint8, [*_BUFFER, _GIVEN]),
     "haskumye_check_tables": (c_uint8, [*_BYTES]),
     "haskumye_set_port": (c_uint8, [*_BUFFER, c_uint64, c_uint8, c_uint64]),
+    "haskumye_set_announce_rate": (c_uint8, [*_BUFFER, c_uint64, c_uint64, c_uint64]),
     "haskumye_add_local": (c_uint8, [*_BUFFER, _GIVEN]),
     "haskumye_remove_local": (c_uint8, [*_BUFFER, _GIVEN]),
     "haskumye_renumber": (c_uint8, [*_BUFFER, _GIVEN]),
@@ -297,6 +315,7 @@ FUNCTIONS = {
     "haskumye_save": (c_uint64, [*_BYTES, _GIVEN, *_BUFFER]),
     "haskumye_load": (c_uint8, [*_BYTES, *_BUFFER, _TAKEN]),
     "haskumye_port": (c_uint8, [*_BYTES, c_uint64, _TAKEN]),
+    "haskumye_announce_rate": (c_uint8, [*_BYTES, _TAKEN]),
     "haskumye_local": (c_uint8, [*_BYTES, c_uint64, _TAKEN]),
     "haskumye_path": (c_uint8, [*_BYTES, c_uint64, _TAKEN]),
     "haskumye_live_path": (c_uint8, [*_BYTES, _GIVEN, c_uint64, _TAKEN]),
@@ -589,6 +608,11 @@ class Relay:
         """Sets a port on or off, and its mode. Records that name the port stay. Refusal 9."""
         self._call(_library.haskumye_set_port, _number(port), ON if on else OFF, _number(mode))
 
+    def set_announce_rate(self, target, grace, penalty):
+        """Sets how often every destination may announce itself, as AnnounceRate says. Paths stay, blocked ones too. Refusal 9 for a number over its
+        limit."""
+        self._call(_library.haskumye_set_announce_rate, _number(target), _number(grace), _number(penalty))
+
     def add_local(self, address):
         """Adds an address whose packets are delivered here. Refusal 11 where it is there already, 10 for a 17th."""
         self._call(_library.haskumye_add_local, _exactly(address, 16, "an address"))
@@ -630,17 +654,23 @@ class Relay:
         told = self._told(_library.haskumye_port, 2, _number(port))
         return told and Port(told[0] == ON, Mode(told[1]))
 
+    @property
+    def announce_rate(self):
+        """The announce rate's settings."""
+        told = self._told(_library.haskumye_announce_rate, 12)
+        return AnnounceRate(*(int.from_bytes(told[at : at + 4], "big") for at in (0, 4, 8)))
+
     def local(self, place):
         """The local address at a place, below LOCAL_COUNT; None where it is empty."""
         return self._told(_library.haskumye_local, 16, _number(place))
 
     def path(self, place):
         """The path at a place, below PATH_COUNT, live or not; None where it is empty."""
-        return _path(self._told(_library.haskumye_path, 43, _number(place)))
+        return _path(self._told(_library.haskumye_path, 60, _number(place)))
 
     def live_path(self, destination, clock):
         """A destination's live path at a clock, or None."""
-        return _path(self._told(_library.haskumye_live_path, 43, _exactly(destination, 16, "an address"), _number(clock)))
+        return _path(self._told(_library.haskumye_live_path, 60, _exactly(destination, 16, "an address"), _number(clock)))
 
     def link(self, place):
         """The link at a place, below LINK_COUNT, live or not; None where it is empty."""
@@ -674,7 +704,10 @@ class Relay:
 
 
 def _path(told):
-    return told and Path(told[:16], told[16], told[17], told[18:34], int.from_bytes(told[34:42], "big"), told[42])
+    if told is None:
+        return None
+    time = lambda at: int.from_bytes(told[at : at + 8], "big")
+    return Path(told[:16], told[16], told[17], told[18:34], time(34), time(42), told[50], time(51), told[59])
 
 
 def _fields(number):

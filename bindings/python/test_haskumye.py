@@ -9,7 +9,7 @@ import sys
 import unittest
 
 import haskumye
-from haskumye import Announce, Deliver, Drop, Forward, Kept, Kind, Link, Mode, Parts, Path, Port, Reason, Refusal, Refused, Relay, Spread, Tally
+from haskumye import Announce, AnnounceRate, Deliver, Drop, Forward, Kept, Kind, Link, Mode, Parts, Path, Port, Reason, Refusal, Refused, Relay, Spread, Tally
 
 ROOT = pathlib.Path(__file__).resolve().parents[2]
 OWN = bytes([0x0A] * 16)
@@ -108,6 +108,10 @@ class TestRefusals(unittest.TestCase):
         self.refused(Refusal.LOCAL_ADDRESS, box.remove_local, DESK)
         self.refused(Refusal.SETTING, box.set_port, 16, True, Mode.BOUNDARY)
         self.refused(Refusal.SETTING, box.set_port, 0, True, 3)
+        self.refused(Refusal.SETTING, box.set_announce_rate, haskumye.TARGET_LIMIT + 1, 0, 0)
+        self.refused(Refusal.SETTING, box.set_announce_rate, 0, haskumye.GRACE_LIMIT + 1, 0)
+        self.refused(Refusal.SETTING, box.set_announce_rate, 0, 0, (1 << 64) - 1)
+        self.assertEqual(box.announce_rate, AnnounceRate(0, 0, 0))
         self.refused(Refusal.MAP, box.renumber, [0] * 16)
         box.remove_local(bytes(16))
 
@@ -125,6 +129,7 @@ class TestRefusals(unittest.TestCase):
             self.assertRaises(OverflowError, box.packet, packet, wrong, 1)
             self.assertRaises(OverflowError, box.packet, packet, 0, wrong)
             self.assertRaises(OverflowError, box.set_port, wrong, True, Mode.ROAMING)
+            self.assertRaises(OverflowError, box.set_announce_rate, 0, wrong, 0)
         self.assertRaises(OverflowError, haskumye.write, Parts(hops=256))
         self.assertRaises(TypeError, box.packet, packet, 0.5, 1)
         self.assertRaises(ValueError, box.add_local, bytes(15))
@@ -211,7 +216,7 @@ class TestQuestions(unittest.TestCase):
     def test_a_path_and_its_receipt(self):
         box, (packet, destination) = relay(3), announce()
         box.packet(packet, 1, 1000, signed=True)
-        path = Path(destination, 1, 0, destination, 1000 + 604800, 1)
+        path = Path(destination, 1, 0, destination, 1000 + 604800, 1000, 0, 0, 1)
         self.assertEqual((box.path(0), box.path(1), box.path(64)), (path, None, None))
         self.assertEqual([box.live_path(destination, clock) for clock in (1000, path.expiry - 1, path.expiry)], [path, path, None])
         self.assertIsNone(box.live_path(DESK, 1000))
@@ -220,6 +225,19 @@ class TestQuestions(unittest.TestCase):
         self.assertEqual([box.live_hashes(clock) for clock in (1001, 1300, (1 << 64) - 1)], [2, 1, 0])
         box.renumber([5, 6, 7, 0, 1, 2, 3, 4, *range(8, 16)])
         self.assertEqual(box.path(0), path._replace(port=6))
+
+    def test_the_announce_rate(self):
+        """A sensor that announces itself every five seconds: let through while it has grace, then blocked, then heard again."""
+        box = relay(2)
+        box.set_announce_rate(target=60, grace=2, penalty=600)
+        self.assertEqual(box.announce_rate, AnnounceRate(60, 2, 600))
+        clocks = (1000, 1005, 1010, 1015, 1669, 1670)
+        answers = [str(box.packet(announce(emission)[0], 0, clock, signed=True)) for emission, clock in enumerate(clocks, start=1)]
+        dropped = "drop 15: announced too often"
+        self.assertEqual(answers, ["spread 1", "spread 1", "spread 1", dropped, dropped, "spread 1"])
+        self.assertEqual(box.path(0)[5:8], (1670, 2, 1670))
+        box.set_announce_rate(*AnnounceRate())
+        self.assertEqual(box.path(0)[5:8], (1670, 2, 1670))
 
     def test_a_link(self):
         box, (packet, destination) = relay(3), announce()
@@ -304,7 +322,7 @@ class TestSaved(unittest.TestCase):
     def test_what_is_saved_loads(self):
         box = self.box()
         file = box.save()
-        self.assertEqual((len(file), file[:4]), (haskumye.SAVED_SIZE, bytes([2, 1, 0, 8])))
+        self.assertEqual((len(file), file[:4]), (haskumye.SAVED_SIZE, bytes([2, 2, 0, 8])))
         self.assertEqual(file[52:-24], box.tables)
         self.assertEqual(file[-24:], bytes(range(1, 21)) + bytes([0xFF] * 4))
         for given in (file, bytearray(file), memoryview(file)):
@@ -330,10 +348,11 @@ class TestSaved(unittest.TestCase):
             (20, file + bytes(32)),  # a seal that was not cut off
             (21, spoiled(0, 1)),
             (21, spoiled(1, 0)),
-            (21, spoiled(1, 2)),
-            (22, bytes([2, 1, 0, 0])),
+            (21, spoiled(1, 255)),
+            (22, bytes([2, 2, 0, 0])),
             (22, spoiled(7, 53)),
-            (24, spoiled(77, 3)),
+            (24, spoiled(1, 1)),  # bodies longer than an older edition's
+            (24, spoiled(89, 3)),
         ]
         for refusal, wrong in files:
             with self.assertRaises(Refused) as caught:

@@ -187,6 +187,13 @@ static int read_wires_file(struct wires *into)
     return read_wires(path, into);
 }
 
+static void set_announce_rate(const struct wires *from)
+{
+    expect_done("setting the announce rate",
+                haskumye_set_announce_rate(state.tables, sizeof state.tables, from->rate_target, from->rate_grace,
+                                           from->rate_penalty));
+}
+
 /* Ports by their new numbers, wires and tables in one step: between two packets nothing else is under way. */
 static void renumber(void)
 {
@@ -197,6 +204,7 @@ static void renumber(void)
     }
     haskumye_port_map map = map_to(&changed, state.wires);
     expect_done("renumbering", haskumye_renumber(state.tables, sizeof state.tables, &map));
+    set_announce_rate(&changed);
     for (unsigned i = 0; i < wires.count; i++) {
         wires.wire[i].port = map.to[wires.wire[i].port];
     }
@@ -257,6 +265,7 @@ static void restore(void)
     }
     take_saved_ports();
     set_ports();
+    set_announce_rate(&wires);
     expect_done("reading the clock", haskumye_last_clock(state.tables, sizeof state.tables, &clock_at_start));
     started = monotonic_seconds();
     printf("%s at clock %llu\n", loaded == LOADED ? "restored" : "fresh", (unsigned long long)clock_at_start);

@@ -45,7 +45,7 @@ numbered! {
         Output = 6 "output buffer under 500 bytes",
         Tables = 7 "tables of wrong size, or with bytes that no relay has",
         Map = 8 "renumbering map not one-to-one on 0..15",
-        Setting = 9 "setting a port over 15 or an unknown mode",
+        Setting = 9 "setting a port over 15, an unknown mode or an announce rate over its limit",
         LocalFull = 10 "adding a 17th local address",
         LocalAddress = 11 "adding a local address already there, or removing one not there",
         FileLength = 20 "file too long or shorter than its contents (saved: another length)",
@@ -75,6 +75,7 @@ numbered! {
         NotBetter = 11 "not better",
         PortOff = 12 "port off",
         NoRoom = 13 "no room",
+        RateLimited = 15 "announced too often",
     }
 }
 
@@ -241,9 +242,10 @@ mod tests {
         assert_eq!(done(11), Err(Refusal::LocalAddress));
         assert_eq!(written_length(19u32 << 16), Ok(19));
         assert_eq!(written_length(27u32), Err(Refusal::AnnounceTooLong));
-        assert_eq!(written_length(71_192u64 << 16), Ok(71_192));
+        assert_eq!(written_length(72_292u64 << 16), Ok(72_292));
         assert_eq!(judged(0x0700), Err(Refusal::Tables));
         assert_eq!(judged(0x0d01), Ok(Verdict::Drop(Reason::NoRoom)));
+        assert_eq!(judged(0x0f01), Ok(Verdict::Drop(Reason::RateLimited)));
         assert_eq!(judged(0x0023_0000_0000_0002), Ok(Verdict::Deliver { payload: 35 }));
         assert_eq!(judged(0x0013_000f_0003), Ok(Verdict::Forward { port: 15, length: 19 }));
         assert_eq!(judged(0x01f4_8001_0004), Ok(Verdict::Spread { ports: PortSet(0x8001), length: 500 }));
@@ -252,7 +254,7 @@ mod tests {
 
     #[test]
     fn numbers_that_the_core_never_returns_are_not_taken_for_others() {
-        for number in [0x06, 0xff, 0x0001, 0x0f01, 0x0000, 0x0c00, 0x0010_0003] {
+        for number in [0x06, 0xff, 0x0001, 0x0e01, 0x1001, 0x0000, 0x0c00, 0x0010_0003] {
             assert!(std::panic::catch_unwind(|| judged(number)).is_err(), "{number:#x}");
         }
     }

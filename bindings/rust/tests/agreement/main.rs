@@ -56,7 +56,7 @@ impl Texts {
         lines.extend(structs_differ(
             &named_as_in_rust(&header),
             &rust,
-            &["Parts", "Tally", "Entry", "PortSettings", "PathRecord", "LinkRecord"],
+            &["Parts", "Tally", "Entry", "PortSettings", "RateSettings", "PathRecord", "LinkRecord"],
         ));
         lines.extend(structs_differ(&rust, &rattle, &["Tally"]));
         lines.extend(self.limits_differ(&header));
@@ -108,6 +108,7 @@ fn named_as_in_rust(header: &Interface) -> Interface {
         ("haskumye_tally", "Tally"),
         ("haskumye_entry", "Entry"),
         ("haskumye_port_settings", "PortSettings"),
+        ("haskumye_rate_settings", "RateSettings"),
         ("haskumye_path_record", "PathRecord"),
         ("haskumye_link_record", "LinkRecord"),
     ];
@@ -154,9 +155,9 @@ fn the_three_agree() {
 fn something_is_compared() {
     let texts = Texts::read();
     let header = header::read("the header", &texts.header);
-    assert_eq!((header.functions.len(), header.structs.len()), (38, 12));
+    assert_eq!((header.functions.len(), header.structs.len()), (40, 14));
     assert_eq!(header.functions["haskumye_packet"].arguments.len(), 10);
-    assert_eq!(header.constants.len(), 84);
+    assert_eq!(header.constants.len(), 88);
 }
 
 #[test]
@@ -183,6 +184,12 @@ fn swapped_and_missing_arguments_are_seen() {
             "haskumye_packet(const uint8_t *packet, size_t length, uint64_t port, uint64_t clock",
             "haskumye_packet(const uint8_t *packet, size_t length, uint64_t clock, uint64_t port",
             "haskumye_packet: argument 3 is `clock: u64` in the header, `port: u64` in the crate",
+        ),
+        (
+            RUST,
+            "target: u64, grace: u64, penalty: u64",
+            "grace: u64, target: u64, penalty: u64",
+            "haskumye_set_announce_rate: argument 3 is `target: u64` in the header, `grace: u64` in Rust",
         ),
         (
             RUST,
@@ -307,6 +314,12 @@ fn lengths_of_blocks_are_seen() {
         ),
         (
             RATTLE,
+            "settings: &mut [u8; 12]",
+            "settings: &mut [u8; 3]",
+            "haskumye_announce_rate: argument 3 is `settings: mut 12 of u8` in the header, `settings: mut 3 of u8` in the crate",
+        ),
+        (
+            RATTLE,
             "link: &mut [u8; 29]",
             "link: &mut [u8; 30]",
             "haskumye_link: argument 4 is `link: mut 29 of u8` in the header, `link: mut 30 of u8` in the crate",
@@ -321,7 +334,7 @@ fn lengths_of_blocks_are_seen() {
             HEADER,
             "    uint8_t blob_count;\n",
             "",
-            "haskumye_live_path: argument 5 is `path: mut 42 of u8` in the header, `path: mut 43 of u8` in the crate",
+            "haskumye_live_path: argument 5 is `path: mut 59 of u8` in the header, `path: mut 60 of u8` in the crate",
         ),
     ]);
 }
@@ -329,7 +342,7 @@ fn lengths_of_blocks_are_seen() {
 #[test]
 fn fields_in_another_order_are_seen() {
     let texts = Texts::read();
-    let swaps: [Damage; 6] = [
+    let swaps: [Damage; 8] = [
         (HEADER, "uint64_t clock;\n    uint64_t port;", "uint64_t port;\n    uint64_t clock;", "Entry is"),
         (HEADER, "uint32_t total;\n    uint32_t dropped;", "uint32_t dropped;\n    uint32_t total;", "Tally is"),
         (RATTLE, "pub spread: u32,\n    pub kept: u32,", "pub kept: u32,\n    pub spread: u32,", "Tally is"),
@@ -340,6 +353,8 @@ fn fields_in_another_order_are_seen() {
             "Parts is",
         ),
         (HEADER, "uint8_t port;\n    uint8_t hops; ", "uint8_t hops;\n    uint8_t port; ", "PathRecord is"),
+        (RUST, "pub last_announce: Time,", "pub blocked_until: Time,", "PathRecord is"),
+        (RUST, "pub target: Setting,", "pub grace: Setting,", "RateSettings is"),
         (RUST, "pub asking: u8,", "pub answering: u8,", "LinkRecord is"),
     ];
     for (source, from, to, start) in swaps {
@@ -390,6 +405,19 @@ fn limits_are_those_of_the_crate_of_numbers() {
             "LONGEST_PACKET: usize = 500",
             "LONGEST_PACKET: usize = 501",
             "HASKUMYE_LONGEST_PACKET is 500 in the header, 501 in the numbers",
+        ),
+        (
+            NUMBERS,
+            "TARGET_LIMIT: u64 = 86_400",
+            "TARGET_LIMIT: u64 = 86_401",
+            "HASKUMYE_TARGET_LIMIT is 86400 in the header, 86401 in the numbers",
+        ),
+        (NUMBERS, "GRACE_LIMIT: u64 = 254", "GRACE_LIMIT: u64 = 255", "HASKUMYE_GRACE_LIMIT is 254 in the header, 255 in the numbers"),
+        (
+            NUMBERS,
+            "PENALTY_LIMIT: u64 = 604_800",
+            "PENALTY_LIMIT: u64 = 604_801",
+            "HASKUMYE_PENALTY_LIMIT is 604800 in the header, 604801 in the numbers",
         ),
         (NUMBERS, "MAP: u8 = 8", "MAP: u8 = 9", "HASKUMYE_REFUSAL_MAP is 8 in the header, 9 in the numbers"),
     ]);
