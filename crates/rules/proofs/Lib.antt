@@ -13,6 +13,7 @@ pub mod SignatureWord
 pub mod Tables
 pub mod Slots
 pub mod Lowest
+pub mod Latest
 pub mod BlobLaws
 pub mod Accepted
 pub mod Followed

@@ -16,3 +16,4 @@ pub mod Calls
 pub mod Questions
 pub mod Run
 pub mod Keepalives
+pub mod Reasons
