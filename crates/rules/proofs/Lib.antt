@@ -23,6 +23,7 @@ pub mod Ranges
 pub mod Valid
 pub mod Images
 pub mod PortSets
+pub mod ReasonFits
 pub mod AnswerFits
 pub mod MovedPorts
 pub mod SlotsRenamed

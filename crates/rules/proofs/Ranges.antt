@@ -65,6 +65,10 @@ module _ (p : Path) (h : pathOk p ≡ true) where
       let rest = and-right _ _ (and-right _ _ h) in
       record { some = leb-true _ _ (and-left _ _ rest); most = leb-true _ _ (and-left _ _ (and-right _ _ rest)) }
 
+  pub path-time : p .expiry ≤ timeLimit
+  unfolding pathOk timeOk
+  path-time = leb-true _ _ (and-right _ _ (and-right _ _ (and-right _ _ (and-right _ _ h))))
+
 announced-counted : (a : Arrival) (known : Slot Path) → slotOk pathOk known ≡ true → Counted blobLimit (announcedBlobs a known .count)
 unfolding announcedBlobs slotOk
 announced-counted a empty h = one-counted blobLimit (lit≤ tt) _

@@ -69,17 +69,20 @@ module _ (m : List ℕ) (clock : ℕ) (r : Relay) where
       ap (λ (i : ℕ). getD (map (renameSlot (renamePath m)) (r .paths)) i empty) (pathPlace-renamed destination)
       ∙ slot-renamed (renamePath m) (r .paths) (pathPlace clock r destination)
 
+  same-expiry : (destination : List ℕ) (s : Slot Path)
+      → expiryIf (isExpiredPath clock destination) (renameSlot (renamePath m) s) ≡ expiryIf (isExpiredPath clock destination) s
+  unfolding expiryIf isExpiredPath renameSlot renamePath
+  same-expiry destination empty = refl
+  same-expiry destination (used p) = refl
+
+  -- expiries aren't renamed
   expired-renamed : (destination : List ℕ) → viewAt clock (renumbered m r) .expired destination ≡ viewAt clock r .expired destination
   unfolding viewAt expiredPath renumbered
   expired-renamed destination =
       latest-cong _ _ 64
-      (λ i l. ap (expiryIf (isExpiredPath clock destination)) (slot-renamed (renamePath m) (r .paths) i) ∙ same-expiry (getD (r .paths) i empty))
-    where
-      same-expiry : (s : Slot Path) → expiryIf (isExpiredPath clock destination) (renameSlot (renamePath m) s)
-          ≡ expiryIf (isExpiredPath clock destination) s
-      unfolding expiryIf isExpiredPath renameSlot renamePath
-      same-expiry empty = refl
-      same-expiry (used p) = refl
+      (λ i l.
+      ap (expiryIf (isExpiredPath clock destination)) (slot-renamed (renamePath m) (r .paths) i)
+      ∙ same-expiry destination (getD (r .paths) i empty))
 
   link-renamed : (id : List ℕ) → viewAt clock (renumbered m r) .link id ≡ renameSlot (renameLink m) (viewAt clock r .link id)
   unfolding viewAt renumbered
