@@ -42,3 +42,4 @@ pub mod UniqueWrites
 pub mod Unique
 pub mod Keepalive
 pub mod Lasting
+pub mod Reasons

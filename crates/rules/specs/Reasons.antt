@@ -76,7 +76,7 @@ clauses p =
 -- ---- test 6's sentences, 6.1 to 6.6. No two hold together
 -- a data packet or link request not of kind link
 unfoldable pub wantsPath : Arrival → Bool
-wantsPath a = (isData (header a) or isLinkRequest (header a)) and not (ofKindLink (header a))
+wantsPath a = not (ofKindLink (header a)) and (isData (header a) or isLinkRequest (header a))
 
 -- for kind link. No announce of that kind comes so far
 unfoldable pub ofLink : Arrival → Bool
@@ -84,7 +84,7 @@ ofLink a = ofKindLink (header a) and not (isAnnounce (header a))
 
 -- an ordinary proof (any other kind)
 unfoldable pub isOrdinaryProof : Arrival → Bool
-isOrdinaryProof a = isProof (header a) and not (ofKindLink (header a))
+isOrdinaryProof a = not (ofKindLink (header a)) and isProof (header a)
 
 -- a link that is there and isn't proved
 unfoldable pub isUnproved : Slot Link → Bool
