@@ -103,7 +103,7 @@ cases v a =
     wantsPath a and not (typeTwo (header a)) gives 0 otherwise
     wantsPath a and typeTwo (header a) and not (isThere (v .path (destination a))) and not (isThere (v .expired (destination a))) gives 0 otherwise
     wantsPath a and typeTwo (header a) and not (isThere (v .path (destination a))) and isThere (v .expired (destination a))
-        gives expiryOr0 (v .expired (destination a)) otherwise
+    gives expiryOr0 (v .expired (destination a)) otherwise
     ofLink a and not (isThere (v .link (destination a))) gives 0 otherwise
     ofLink a and isUnproved (v .link (destination a)) and not (isLinkProof (a .bytes)) gives 0 otherwise
     isOrdinaryProof a and not (isThere (v .return (destination a))) gives 0 otherwise
