@@ -1,6 +1,7 @@
 use Prim.Native.Nat.{_-_, _≤_}
 use mathlib.Core.Path.{_≡_, _∙_}
 use Rattle.numbers.specs.Numbers.{pathCount}
+use Rattle.rules.specs.View.{latest}
 use Rattle.lookup.specs.Expired.{latestOf, expiryAt}
 use Rattle.lookup.proofs.ExpiredPaths.{none-yet, one-more, all-seen}
 use borrow.Author.Needs.{needs}
@@ -8,11 +9,11 @@ use Rattle.lookup.proofs.expired.expired_path.Statement.{statement}
 use Rattle.lookup.proofs.expired.expired_path.Tie as tie
 
 abbrev Inv-loop : tie.InvT-loop
-Inv-loop tables clock destination latest₀ i₀ latest i =
-    (i ≤ pathCount) × (latest ≡ latestOf (latestTime (expiryAt clock destination tables) i))
+Inv-loop tables clock destination found₀ i₀ found i =
+    (i ≤ pathCount) × (found ≡ latestOf (latest (expiryAt clock destination tables) i))
 
 abbrev μ-loop : tie.MeasureT-loop
-μ-loop tables clock destination latest₀ i₀ latest i = pathCount - i
+μ-loop tables clock destination found₀ i₀ found i = pathCount - i
 
 loop-holds : tie.Need-loop-holds Inv-loop μ-loop
 unfolding latestOf
