@@ -39,10 +39,10 @@ module _ (v : View) (a : Arrival) where
   return-blob empty = tt
   return-blob (used t) = tt
 
-  path-blob : (s : Slot Path) → WayBlob a (pathWay s)
+  path-blob : (s : Slot Path) (expired : Slot ℕ) → WayBlob a (pathWay s expired)
   unfolding pathWay
-  path-blob empty = tt
-  path-blob (used p) = tt
+  path-blob empty expired = tt
+  path-blob (used p) expired = tt
 
   way-blob : badForm (a .bytes) ≡ false → WayBlob a (wayOn v a)
   unfolding wayOn
@@ -50,7 +50,7 @@ module _ (v : View) (a : Arrival) where
       either (WayBlob a) _ (announce-long a good)
       (λ _. either (WayBlob a) _ (λ _. link-blob _)
       (λ _. either (WayBlob a) _ (λ _. return-blob _)
-      (λ _. either (WayBlob a) _ (λ _. tt) (λ _. path-blob _))))
+      (λ _. either (WayBlob a) _ (λ _. tt) (λ _. path-blob _ _))))
 
   pub plan-blob : PlanBlob a (plan v a)
   plan-blob = go (plan v a) refl
