@@ -2,4 +2,5 @@
 pub mod Packets
 pub mod Tables
 pub mod Answers
+pub mod Texts
 pub mod Recordings
