@@ -1,5 +1,5 @@
 -- A packet that is spread is an announce of good form, and so long enough for its blob.
-use Prim.Native.Nat.{_≤_}
+use Prim.Native.Nat.{ℕ, _≤_}
 use mathlib.Core.Bool.{false}
 use mathlib.Core.Path.{_≡_, refl, subst}
 use lib.ListN.{length}

@@ -10,6 +10,7 @@ pub mod Demand3
 pub mod Keepalives
 pub mod Replays
 pub mod OwnAnnounces
+pub mod Reasons
 pub mod InstanceCalls
 pub mod Instance1
 pub mod Instance2
@@ -17,3 +18,4 @@ pub mod Instance3
 pub mod InstanceKeepalives
 pub mod InstanceReplay
 pub mod InstanceAnnounce
+pub mod InstanceReasons

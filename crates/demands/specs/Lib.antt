@@ -4,4 +4,3 @@ pub mod Bytes
 pub mod Refusals
 pub mod Keepalives
 pub mod Replays
-pub mod Drops
