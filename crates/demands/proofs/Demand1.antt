@@ -29,7 +29,7 @@ use Rattle.rules.specs.Refusals.{tablesOk, emptyLocal, packetRows, refusalBy, p
 use Rattle.octets.specs.Listed.{firstOf}
 use Rattle.rules.specs.Calls.{Setting, packetCall, judge, judged, settled, ruleOf, tableRefusal, settle}
 use Rattle.rules.specs.Run.{Call, packet, on-tables, asks, saves, loads, port-setting, adding, removing, renumbering, answered, saveReply}
-use Rattle.rules.specs.Questions.{Question, port-settings, local-at, path-at, link-at, live-path, live-returns, live-hashes, last-clock, word-matters, Told, none, a-port, an-address, a-path, a-link, cameWith, toldOf, rowSeven, questionRule, questionRefusal, tell}
+use Rattle.rules.specs.Questions.{Question, port-settings, rate-settings, local-at, path-at, link-at, live-path, live-returns, live-hashes, last-clock, word-matters, Told, none, a-port, an-address, a-path, a-link, cameWith, toldOf, rowSeven, questionRule, questionRefusal, tell}
 use Rattle.rules.specs.declared.Answer.the-variants.{Refused}
 use Rattle.rules.specs.declared.Tally.{Tally}
 use Rattle.tables.specs.Places.{tableSize}
@@ -79,6 +79,7 @@ port-given false p = refl
 answer-given : (q : Question) (r : Relay) → isRefused (questionRule q .answer r) ≡ false
 unfolding questionRule isRefused _then_otherwise_
 answer-given (port-settings port) r = port-given (leb portCount port) _
+answer-given rate-settings r = refl
 answer-given (local-at place) r = slot-given an-address (λ _. refl) _
 answer-given (path-at place) r = slot-given a-path (λ _. refl) _
 answer-given (link-at place) r = slot-given a-link (λ _. refl) _
@@ -219,6 +220,7 @@ load-rows file tables = refl
 pub question-rows : (tables : List ℕ)
     → (let seven : ℕ = not (wellFormed tables) then 7 otherwise 0 in
     ((port : ℕ) → refusalOn (asks (port-settings port)) tables ≡ seven)
+    × (refusalOn (asks rate-settings) tables ≡ seven)
     × ((place : ℕ) → refusalOn (asks (local-at place)) tables ≡ seven)
     × ((place : ℕ) → refusalOn (asks (path-at place)) tables ≡ seven)
     × ((place : ℕ) → refusalOn (asks (link-at place)) tables ≡ seven)
@@ -229,7 +231,7 @@ pub question-rows : (tables : List ℕ)
 unfolding refusalOn afterSeven refusal questionRefusal questionRule rowSeven firstOf
 question-rows tables =
     let row = after-seven tables 0 in
-    (λ port. row, λ place. row, λ place. row, λ place. row, λ destination clock. row, λ clock. row, λ clock. row, row)
+    (λ port. row, row, λ place. row, λ place. row, λ place. row, λ destination clock. row, λ clock. row, λ clock. row, row)
 
 -- whether the signature word matters: as the packet, whatever its word
 pub word-rows : (bytes : List ℕ) (port clock : ℕ) (word : Bool) (output tables : List ℕ)
