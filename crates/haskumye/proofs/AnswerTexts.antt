@@ -95,7 +95,9 @@ module _ (n : ℕ) where
       words-text refusedWord (decimal (n / 256 % 256) ∷ []) (number-fits refusedWord (lit≤ tt) (n / 256 % 256) (omega arith)) ∙ sym (rw e refl)
 
   pub drop-made : n % 256 ≡ 1
-      → appended (appended (textOf []) dropWord) (spaced (reasonWords (numbersOf (n / 256 % 256) (n / 65536 % 16) (n / 1048576 % 2199023255552)))) ≡ numberText n
+      → appended (appended (textOf []) dropWord)
+      (spaced (reasonWords (numbersOf (n / 256 % 256) (n / 65536 % 16) (n / 1048576 % 2199023255552))))
+      ≡ numberText n
   unfolding numberText numberWords _then_otherwise_
   drop-made e =
       words-text dropWord (reasonWords (numbersOf (n / 256 % 256) (n / 65536 % 16) (n / 1048576 % 2199023255552)))

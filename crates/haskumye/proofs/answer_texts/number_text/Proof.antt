@@ -89,19 +89,28 @@ empty-requires-7 : tie.Need-empty-requires-7
 empty-requires-7 c κs = search needs
 
 returns : tie.Need-returns
-returns c = c .with-number .ensures ∙ rw (c .before .wide .ensures, c .before .before .with-text .ensures, c .before .before .before .before .empty .ensures) (refused-made _ (c .before .before .before .before .before .match .keys1))
+returns c =
+    let e = c .before .before .before .before in
+    c .with-number .ensures
+    ∙ rw (c .before .wide .ensures, c .before .before .with-text .ensures, e .empty .ensures) (refused-made _ (e .before .match .keys1))
 
 returns-2 : tie.Need-returns-2
-returns-2 c = c .with-reason .ensures ∙ rw (c .before .with-text2 .ensures, c .before .before .before .empty2 .ensures) (drop-made _ (c .before .before .before .before .match .keys2))
+returns-2 c =
+    let e = c .before .before .before in
+    c .with-reason .ensures ∙ rw (c .before .with-text2 .ensures, e .empty2 .ensures) (drop-made _ (e .before .match .keys2))
 
 returns-3 : tie.Need-returns-3
 returns-3 c = c .with-text3 .ensures ∙ rw (c .before .before .empty3 .ensures) (deliver-made _ (c .before .before .before .match .keys3))
 
 returns-4 : tie.Need-returns-4
-returns-4 c = c .with-number2 .ensures ∙ rw (c .before .with-text4 .ensures, c .before .before .before .empty4 .ensures) (forward-made _ (c .before .before .before .before .match .keys4))
+returns-4 c =
+    let e = c .before .before .before in
+    c .with-number2 .ensures ∙ rw (c .before .with-text4 .ensures, e .empty4 .ensures) (forward-made _ (e .before .match .keys4))
 
 returns-5 : tie.Need-returns-5
-returns-5 c = c .with-ports .ensures ∙ rw (c .before .with-text5 .ensures, c .before .before .before .empty5 .ensures) (spread-made _ (c .before .before .before .before .match .keys5))
+returns-5 c =
+    let e = c .before .before .before in
+    c .with-ports .ensures ∙ rw (c .before .with-text5 .ensures, e .empty5 .ensures) (spread-made _ (e .before .match .keys5))
 
 returns-6 : tie.Need-returns-6
 returns-6 c = c .with-text6 .ensures ∙ rw (c .before .before .empty6 .ensures) (kept-made _ (c .before .before .before .match .keys6))
