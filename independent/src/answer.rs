@@ -67,6 +67,7 @@ numbered! {
         NotBetter = 11,
         PortOff = 12,
         NoRoom = 13,
+        TooOften = 15,
     }
 }
 
@@ -141,7 +142,7 @@ mod tests {
     fn reasons_and_refusals_have_the_documents_numbers() {
         for number in 0..=255 {
             let refusal = matches!(number, 1..=11 | 20..=27);
-            assert_eq!(Reason::from_number(number).map(Reason::number), (1..=13).contains(&number).then_some(number));
+            assert_eq!(Reason::from_number(number).map(Reason::number), matches!(number, 1..=13 | 15).then_some(number));
             assert_eq!(Refusal::from_number(number).map(Refusal::number), refusal.then_some(number));
         }
     }

@@ -6,6 +6,7 @@ use crate::answer::Tally;
 use crate::engine::Fields;
 use crate::packet::{Address, Blob, PacketHash, Parts};
 use crate::relay::asking::Question;
+use crate::tables::AnnounceRate;
 use haskumye::raw::*;
 
 /// Header, hops, relay address, destination, context.
@@ -98,6 +99,10 @@ pub fn set_port(tables: &mut [u8], port: u64, on: u8, mode: u64) -> u8 {
     unsafe { haskumye_set_port(tables.as_mut_ptr(), tables.len(), port, on, mode) }
 }
 
+pub fn set_announce_rate(tables: &mut [u8], rate: &AnnounceRate) -> u8 {
+    unsafe { haskumye_set_announce_rate(tables.as_mut_ptr(), tables.len(), rate.target, rate.grace, rate.penalty) }
+}
+
 pub fn add_local(tables: &mut [u8], address: &Address) -> u8 {
     unsafe { haskumye_add_local(tables.as_mut_ptr(), tables.len(), address) }
 }
@@ -119,6 +124,7 @@ pub fn ask(tables: &[u8], question: &Question, reply: &mut [u8]) -> u8 {
         Question::Local(place) => return unsafe { haskumye_local(at, size, *place, out.cast()) },
         Question::Path(place) => return unsafe { haskumye_path(at, size, *place, out.cast()) },
         Question::Link(place) => return unsafe { haskumye_link(at, size, *place, out.cast()) },
+        Question::AnnounceRate => return unsafe { haskumye_announce_rate(at, size, out.cast()) },
         Question::LivePath { destination, clock } => return unsafe { haskumye_live_path(at, size, destination, *clock, out.cast()) },
         Question::LiveReturns(_) => |at, size, clock, count| unsafe { haskumye_live_returns(at, size, clock, count) },
         Question::LiveHashes(_) => |at, size, clock, count| unsafe { haskumye_live_hashes(at, size, clock, count) },

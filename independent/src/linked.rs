@@ -7,6 +7,7 @@ use crate::engine::{AnnounceCalls, Engine, Fields, Outcome, PacketCalls, Recordi
 use crate::packet::{payload_place, Address, Blob, PacketHash, Parts};
 use crate::relay::asking::Question;
 use crate::relay::Arrival;
+use crate::tables::AnnounceRate;
 
 /// The core keeps nothing between calls: all is in the caller's bytes.
 pub struct Core;
@@ -75,6 +76,10 @@ impl Engine for Core {
 
     fn set_port(&mut self, tables: &mut [u8], port: u64, on: bool, mode: u64) -> Outcome {
         done(core::set_port(tables, port, u8::from(on), mode))
+    }
+
+    fn set_announce_rate(&mut self, tables: &mut [u8], rate: &AnnounceRate) -> Outcome {
+        done(core::set_announce_rate(tables, rate))
     }
 
     fn add_local(&mut self, tables: &mut [u8], address: &Address) -> Outcome {

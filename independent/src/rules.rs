@@ -9,10 +9,10 @@ pub use crate::recording::{self, reading, replaying, writing, Entry};
 pub use crate::relay::asking::{self, Question};
 pub use crate::relay::links::Side;
 pub use crate::relay::renumbering::Map;
-pub use crate::relay::{accept, announces, by_path, form, judge, links, outgoing, renumbering, returns, settings, Arrival, Packet};
+pub use crate::relay::{accept, announces, by_path, form, judge, links, outgoing, rate, renumbering, returns, settings, Arrival, Packet};
 pub use crate::saved::{loading, saving};
 pub use crate::sha256::Sha256;
-pub use crate::tables::{self, check, tuned, Link, Mode, Path, Port, Return, Section, Table};
+pub use crate::tables::{self, check, tuned, AnnounceRate, Link, Mode, Path, Port, RateEntry, Return, Section, Table};
 
 /// Hands the list to a macro: the file of each rule, its name, and its types. A rule that goes by others is given the rules.
 macro_rules! every_rule {
@@ -46,6 +46,9 @@ macro_rules! every_rule {
             check::unused_allowed(record: &[u8]) -> bool;
             check::path_allowed(&rules, path: &[u8]) -> bool;
             check::blob_count_allowed(count: u8) -> bool;
+            check::last_announce_allowed(time: u64) -> bool;
+            check::block_allowed(time: u64) -> bool;
+            check::rate_allowed(rate: &AnnounceRate) -> bool;
             check::ring_place_allowed(place: usize, count: usize) -> bool;
             tables::find(table: &Table, tables: &[u8], key: &[u8], clock: u64) -> Option<usize>;
 
@@ -55,6 +58,8 @@ macro_rules! every_rule {
             settings::is_there(address: &Address, tables: &[u8]) -> bool;
             settings::empty_local(tables: &[u8]) -> Option<usize>;
             settings::clear_local(place: usize, tables: &mut [u8]);
+            rate::set_announce_rate(&rules, tables: &mut [u8], rate: &AnnounceRate) -> Result<(), Refusal>;
+            rate::rate_refused(rate: &AnnounceRate) -> bool;
             renumbering::renumber(&rules, tables: &mut [u8], map: &Map) -> Result<(), Refusal>;
             renumbering::move_settings(map: &Map, tables: &mut [u8]);
             renumbering::rename_ports(map: &Map, table: &Table, tables: &mut [u8]);
@@ -100,6 +105,15 @@ macro_rules! every_rule {
             announces::path_lifetime(mode: Mode) -> u64;
             announces::store_blob(blob: &[u8], path: &mut [u8]);
 
+            rate::test_15(&rules, clock: u64, known: Option<usize>, tables: &mut [u8]) -> Result<RateEntry, Reason>;
+            rate::is_blocked(clock: u64, entry: &RateEntry) -> bool;
+            rate::is_violation(clock: u64, rate: &AnnounceRate, entry: &RateEntry) -> bool;
+            rate::one_violation_more(violations: u8) -> u8;
+            rate::above_grace(violations: u8, rate: &AnnounceRate) -> bool;
+            rate::block_end(clock: u64, rate: &AnnounceRate, entry: &RateEntry) -> u64;
+            rate::forgiven(violations: u8) -> u8;
+            rate::store_rate(clock: u64, entry: &RateEntry, path: &mut [u8]);
+
             by_path::path_to(&rules, packet: &Packet, tables: &[u8]) -> Result<Path, Reason>;
             by_path::not_to_be_relayed(packet: &Packet) -> bool;
             by_path::live_path(&rules, packet: &Packet, tables: &[u8]) -> Option<usize>;
@@ -140,6 +154,8 @@ macro_rules! every_rule {
             asking::used_at(section: &Section, place: u64, tables: &[u8]) -> Option<usize>;
             asking::path_at(&rules, place: u64, tables: &[u8]) -> Option<usize>;
             asking::path_told_live(&rules, destination: &Address, clock: u64, tables: &[u8]) -> Option<usize>;
+            asking::rate_told(rate: &AnnounceRate) -> Vec<u8>;
+            asking::entry_told(entry: &RateEntry) -> Vec<u8>;
             asking::live_count(table: &Table, clock: u64, tables: &[u8]) -> u64;
             asking::signature_matters(
                 &rules, sha: &Sha256, tables: &[u8], room: usize, arrival: &Arrival

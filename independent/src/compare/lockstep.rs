@@ -2,7 +2,7 @@
 
 use super::coverage::Coverage;
 use crate::engine::{Call, Engine, Outcome, Run};
-use crate::tables::{Section, HASHES, LINKS, LOCALS, PATHS, PORTS, RETURNS};
+use crate::tables::{Section, HASHES, LINKS, LOCALS, PATHS, PORTS, RATE, RETURNS};
 use std::fmt;
 
 /// The first call on which two engines differ.
@@ -28,11 +28,10 @@ pub fn step<A: Engine, B: Engine>(
     coverage: &mut Coverage,
     damage: Option<usize>,
 ) -> Vec<String> {
-    let remembered = coverage.is_remembered(call, &expected.tables);
+    let before = coverage.before(call, &expected.tables);
     let outcomes = (got.make(call), expected.make(call));
     if let Some(outcome) = &outcomes.1 {
-        coverage.count_call(call, outcome);
-        coverage.count_exempt(call, outcome, remembered);
+        coverage.after(call, outcome, &before);
     }
     let Some(turn) = damage else { return differences(got, expected, outcomes) };
     if turn % 4 == 3 {
@@ -83,7 +82,8 @@ fn first_difference(what: &str, got: &[u8], expected: &[u8]) -> Option<String> {
 
 /// Where a byte of the tables stands.
 fn table_place(at: usize) -> String {
-    let sections: [(&str, &Section); 6] = [
+    let sections: [(&str, &Section); 7] = [
+        ("announce rate", &RATE),
         ("port", &PORTS),
         ("local address", &LOCALS),
         ("path", &PATHS.records),

@@ -12,6 +12,7 @@ mod judging;
 mod links;
 mod outgoing;
 mod packets;
+mod rates;
 mod recordings;
 mod renumbering;
 mod returns;
@@ -30,6 +31,7 @@ pub use judging::*;
 pub use links::*;
 pub use outgoing::*;
 pub use packets::*;
+pub use rates::*;
 pub use recordings::*;
 pub use renumbering::*;
 pub use returns::*;
@@ -71,6 +73,7 @@ const OF_JUDGING: &[&[Fault]] = &[
     judging::FAULTS,
     exempt::FAULTS,
     announces::FAULTS,
+    rates::FAULTS,
     by_path::FAULTS,
     links::FAULTS,
     returns::FAULTS,

@@ -9,6 +9,7 @@ mod host;
 mod keepalives;
 mod links;
 mod packets;
+mod rates;
 mod recordings;
 mod renumbering;
 mod returns;
