@@ -21,14 +21,14 @@ use Rattle.packet.specs.Write.{leastOutput, packetOf, writingRows, writingRefus
 use Rattle.packet.specs.Hash.{packetHashAnswer, linkIdAnswer}
 use Rattle.packet.specs.declared.Parts.{Parts}
 use Rattle.numbers.specs.Numbers.{portCount, localCount, modeCount, clockLimit}
-use Rattle.rules.specs.Relay.{Port, Slot, empty, used, Relay}
+use Rattle.rules.specs.Relay.{makeRateSettings, Port, Slot, empty, used, Relay}
 use Rattle.rules.specs.View.{portOn, isLocal}
 use Rattle.rules.specs.Renumbering.{oneToOne}
 use Rattle.rules.specs.Arrival.{Arrival}
-use Rattle.rules.specs.Refusals.{tablesOk, emptyLocal, packetRows, refusalBy, packetRefusal}
+use Rattle.rules.specs.Refusals.{rateSettingsOk, tablesOk, emptyLocal, packetRows, refusalBy, packetRefusal}
 use Rattle.octets.specs.Listed.{firstOf}
 use Rattle.rules.specs.Calls.{Setting, packetCall, judge, judged, settled, ruleOf, tableRefusal, settle}
-use Rattle.rules.specs.Run.{Call, packet, on-tables, asks, saves, loads, port-setting, adding, removing, renumbering, answered, saveReply}
+use Rattle.rules.specs.Run.{Call, packet, on-tables, asks, saves, loads, port-setting, rate-setting, adding, removing, renumbering, answered, saveReply}
 use Rattle.rules.specs.Questions.{Question, port-settings, rate-settings, local-at, path-at, link-at, live-path, live-returns, live-hashes, last-clock, word-matters, Told, none, a-port, an-address, a-path, a-link, cameWith, toldOf, rowSeven, questionRule, questionRefusal, tell}
 use Rattle.rules.specs.declared.Answer.the-variants.{Refused}
 use Rattle.rules.specs.declared.Tally.{Tally}
@@ -177,6 +177,13 @@ pub port-rows : (port : ℕ) (on : Bool) (mode : ℕ) (tables : List ℕ)
     ≡ (not (wellFormed tables) then 7 otherwise leb portCount port or leb modeCount mode then 9 otherwise 0)
 unfolding refusalOn afterSeven refusal tableRefusal ruleOf firstOf
 port-rows port on mode tables = after-seven tables _
+
+-- setting the announce rate: 7, 9
+pub rate-rows : (target grace penalty : ℕ) (tables : List ℕ)
+    → refusalOn (rate-setting target grace penalty) tables
+    ≡ (not (wellFormed tables) then 7 otherwise not (rateSettingsOk (makeRateSettings target grace penalty)) then 9 otherwise 0)
+unfolding refusalOn afterSeven refusal tableRefusal ruleOf firstOf
+rate-rows target grace penalty tables = after-seven tables _
 
 -- adding a local address: 7, 11, 10
 pub adding-rows : (address tables : List ℕ)
