@@ -129,6 +129,7 @@ module _ (p : Path) (h : pathOk p ≡ true) where
   pub path-time : p .expiry ≤ timeLimit
   unfolding pathOk timeOk
   path-time = leb-true _ _ (and-left _ _ (and-right _ _ (and-right _ _ (and-right _ _ (and-right _ _ h)))))
+
   pub path-rate : rateEntryOk (p .rate) ≡ true
   unfolding pathOk
   path-rate = and-right _ _ (and-right _ _ (and-right _ _ (and-right _ _ (and-right _ _ h))))
