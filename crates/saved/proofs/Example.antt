@@ -75,7 +75,7 @@ small = record { total = lit< tt; dropped = lit< tt; delivered = lit< tt; forwar
 
 -- eight bytes more than the file has; tables and a tally that hold something else
 abbrev pub room : List ℕ
-room = replicate 71200 9
+room = replicate 72300 9
 
 abbrev pub other : List ℕ
 other = replicate tableSize 255
@@ -84,7 +84,7 @@ abbrev pub old : Tally
 old = record { total = 5; dropped = 5; delivered = 0; forwarded = 0; spread = 0; kept = 0 }
 
 pub large : savedSize ≤ length room
-large = omega (arith, length-replicate {A = ℕ} 71200 9)
+large = omega (arith, length-replicate {A = ℕ} 72300 9)
 
 -- the file, as it stands in the room
 abbrev pub file : List ℕ
@@ -109,15 +109,15 @@ loaded-well =
 -- ---- the contents, computed: kind, edition, count; then the offset and the length of each body
 abbrev pub contents : List ℕ
 contents =
-    2 ∷ 1 ∷ 0 ∷ 8 ∷
-    0 ∷ 0 ∷ 0 ∷ 52 ∷ 0 ∷ 24 ∷
-    0 ∷ 0 ∷ 0 ∷ 76 ∷ 0 ∷ 32 ∷
-    0 ∷ 0 ∷ 0 ∷ 108 ∷ 1 ∷ 16 ∷
-    0 ∷ 0 ∷ 1 ∷ 124 ∷ 51 ∷ 0 ∷
-    0 ∷ 0 ∷ 52 ∷ 124 ∷ 7 ∷ 128 ∷
-    0 ∷ 0 ∷ 59 ∷ 252 ∷ 54 ∷ 2 ∷
-    0 ∷ 0 ∷ 113 ∷ 254 ∷ 164 ∷ 2 ∷
-    0 ∷ 1 ∷ 22 ∷ 0 ∷ 0 ∷ 24 ∷
+    2 ∷ 2 ∷ 0 ∷ 8 ∷
+    0 ∷ 0 ∷ 0 ∷ 52 ∷ 0 ∷ 36 ∷
+    0 ∷ 0 ∷ 0 ∷ 88 ∷ 0 ∷ 32 ∷
+    0 ∷ 0 ∷ 0 ∷ 120 ∷ 1 ∷ 16 ∷
+    0 ∷ 0 ∷ 1 ∷ 136 ∷ 55 ∷ 64 ∷
+    0 ∷ 0 ∷ 56 ∷ 200 ∷ 7 ∷ 128 ∷
+    0 ∷ 0 ∷ 64 ∷ 72 ∷ 54 ∷ 2 ∷
+    0 ∷ 0 ∷ 118 ∷ 74 ∷ 164 ∷ 2 ∷
+    0 ∷ 1 ∷ 26 ∷ 76 ∷ 0 ∷ 24 ∷
     []
 
 start : startBytes ++ contentsBytes bodyCount ≡ contents
@@ -138,14 +138,14 @@ abbrev pub empties : List ℕ
 empties = 2 ∷ 1 ∷ 0 ∷ 8 ∷ joined (λ i. 0 ∷ 0 ∷ 0 ∷ 52 ∷ 0 ∷ 0 ∷ []) (listOf (λ i. i) 8)
 
 -- where two faults meet, the earlier row's number: nothing; three bytes; a byte too many, of another kind; of another kind, with another count;
--- edition 0; edition 2; no entries; a wrong offset, and bodies of wrong length; bodies of wrong length, and tables of another size; cut by a byte
+-- edition 0; edition 3; no entries; a wrong offset, and bodies of wrong length; bodies of wrong length, and tables of another size; cut by a byte
 pub refusals : _≡_ {A = List ℕ}
     (loadRefusal [] 0 ∷
     loadRefusal (2 ∷ 1 ∷ 0 ∷ []) 0 ∷
     loadRefusal (1 ∷ 1 ∷ 0 ∷ 0 ∷ 0 ∷ []) 0 ∷
     loadRefusal (1 ∷ 1 ∷ 0 ∷ 0 ∷ []) 0 ∷
     loadRefusal (set empties 1 0) 0 ∷
-    loadRefusal (set empties 1 2) 0 ∷
+    loadRefusal (set empties 1 3) 0 ∷
     loadRefusal (2 ∷ 1 ∷ 0 ∷ 0 ∷ []) 0 ∷
     loadRefusal (set empties 49 51) 0 ∷
     loadRefusal empties 0 ∷
@@ -155,21 +155,21 @@ unfolding computing
 refusals = refl
 
 -- tables one byte short stay, and so does the tally
-pub short : loadOn file (replicate 71115 255) old ≡ record { refusal = 25; tables = replicate 71115 255; tally = old }
+pub short : loadOn file (replicate 72215 255) old ≡ record { refusal = 25; tables = replicate 72215 255; tally = old }
 short =
     let fits : loadRefusal file tableSize ≡ 0 =
     ap (loadRefusal file) (sym (length-replicate {A = ℕ} tableSize 255)) ∙ sym (load-number file other old) ∙ ap (λ (x : LoadedOn). x .refusal) loaded in
-    let wrong : loadRefusal file (length (replicate {A = ℕ} 71115 255)) ≡ 25 =
-    ap (loadRefusal file) (length-replicate {A = ℕ} 71115 255) ∙ other-size file 71115 fits (λ (q : _≡_ {A = ℕ} 71115 tableSize). omega (arith, q)) in
-    load-refused file (replicate 71115 255) old (λ q. omega (arith, wrong, q))
-    ∙ ap (λ (n : ℕ). record { refusal = n; tables = replicate 71115 255; tally = old }) wrong
+    let wrong : loadRefusal file (length (replicate {A = ℕ} 72215 255)) ≡ 25 =
+    ap (loadRefusal file) (length-replicate {A = ℕ} 72215 255) ∙ other-size file 72215 fits (λ (q : _≡_ {A = ℕ} 72215 tableSize). omega (arith, q)) in
+    load-refused file (replicate 72215 255) old (λ q. omega (arith, wrong, q))
+    ∙ ap (λ (n : ℕ). record { refusal = n; tables = replicate 72215 255; tally = old }) wrong
 
 -- ---- the refusals of a save
 pub not-tables : saveOn [] tally [] ≡ record { answer = record { refusal = 7; length = 0 }; room = [] }
 unfolding wellFormed _and_
 not-tables = save-refused [] tally [] 7 (λ q. omega arith) (refused-tables [] 0 refl)
 
-pub small-room : saveOn tables tally (replicate 71191 9) ≡ record { answer = record { refusal = 25; length = 0 }; room = replicate 71191 9 }
+pub small-room : saveOn tables tally (replicate 72291 9) ≡ record { answer = record { refusal = 25; length = 0 }; room = replicate 72291 9 }
 small-room =
-    save-refused tables tally (replicate 71191 9) 25 (λ q. omega arith)
-    (refused-room tables (length (replicate {A = ℕ} 71191 9)) well (omega (arith, length-replicate {A = ℕ} 71191 9)))
+    save-refused tables tally (replicate 72291 9) 25 (λ q. omega arith)
+    (refused-room tables (length (replicate {A = ℕ} 72291 9)) well (omega (arith, length-replicate {A = ℕ} 72291 9)))

@@ -2,6 +2,7 @@
 use Prim.Native.Nat.{ℕ, _+_, _^_, _≤_, _<_}
 use native.Mathlib.Nat.{le-refl}
 use native.Mathlib.Omega.{arith}
+use mathlib.Core.Bool.{true}
 use mathlib.Core.List.{List, [], _++_, append-assoc}
 use mathlib.Core.Path.{_≡_, refl, sym, ap, ap₂, subst, _∙_}
 use lib.Dec.{lit<}
@@ -19,13 +20,18 @@ use Rattle.recording.specs.Shape.{entryPlace, kindOf, editionOf, countOf, offse
 use Rattle.recording.proofs.Sums.{sum-cong, part-last}
 use Rattle.recording.proofs.ShapeLaws.{longOf, shape-again, shape-length, shape-long, shape-kind, shape-edition, shape-count, shape-shaped, shape-bytes}
 use Rattle.tables.specs.Places.{tableSize}
-use Rattle.saved.specs.Editions.{Held, currentEdition, current, widthAt}
+use Rattle.saved.specs.Editions.{Held, currentEdition, isKnown, numbered, editionAt, current, widthAt}
 use Rattle.saved.specs.File.{savedKind, bodyCount, headWidth, noHead, wholeBody, bodiesAt, bodyOf, fileOf, savedSize, widths-fill}
 use Rattle.saved.specs.Load.{heldIn}
-use Rattle.saved.specs.Steps.{startBytes, contentsBytes}
-use Rattle.saved.proofs.Widths.{width-small, width-within}
+use Rattle.saved.specs.Steps.{sizeIn, startBytes, contentsBytes}
+use Rattle.saved.proofs.Widths.{width-small, width-within, now-known}
 use Rattle.saved.proofs.SaveLaws.{saved-length, body-length, body-place, contents-length, file-made}
-use Rattle.saved.proofs.LoadLaws.{held-now, Taken}
+use Rattle.saved.proofs.LoadLaws.{Taken}
+
+-- what a file of the current edition holds
+held-now : (f : List ℕ) → editionOf f ≡ currentEdition → heldIn f ≡ code current .read f bodiesAt
+unfolding heldIn
+held-now f e = ap (λ (n : ℕ). code (editionAt n) .read f bodiesAt) e
 
 -- ---- saved, then read
 module _ (held : Held) where
@@ -67,14 +73,18 @@ module _ (held : Held) where
     unfolding fileOf
     made-taken =
         record {
-          long = file-length;
+          long = file-length ∙ ap (λ (n : ℕ). sizeIn (numbered n)) (sym made-edition);
           kind = shape-kind savedKind currentEdition headWidth noHead wholeBody no-head (bodyOf current held) bodyCount;
-          edition = made-edition;
+          known = ap isKnown made-edition ∙ now-known;
           count = shape-count savedKind currentEdition headWidth noHead wholeBody no-head (bodyOf current held) bodyCount few;
           shaped = shape-shaped savedKind currentEdition headWidth noHead wholeBody no-head (bodyOf current held) bodyCount few small fits;
           sizes = λ i l.
-              shape-long savedKind currentEdition headWidth noHead wholeBody no-head (bodyOf current held) bodyCount i l (small i l) ∙ body-length held i l;
-          fine = passes-at (lawful current) (fileOf held) bodiesAt held made-part g;
+              shape-long savedKind currentEdition headWidth noHead wholeBody no-head (bodyOf current held) bodyCount i l (small i l)
+              ∙ body-length held i l
+              ∙ ap (λ (n : ℕ). widthAt (editionAt n) i) (sym made-edition);
+          fine =
+              ap (λ (n : ℕ). code (editionAt n) .fine (fileOf held) bodiesAt) made-edition
+              ∙ passes-at (lawful current) (fileOf held) bodiesAt held made-part g;
           room = refl;
         }
 
@@ -87,13 +97,19 @@ module _ (held : Held) where
         shape-bytes savedKind currentEdition headWidth noHead wholeBody no-head (bodyOf current held) bodyCount (lit< tt) (lit< tt)
         (λ i l. nil-bytes) (λ i l. part-bytes (code current .write held) (sumBelow (widthAt current) i) (widthAt current i) (lawful current .bytes held g))
 
--- ---- read, then saved
-module _ (f : List ℕ) (size : ℕ) (b : Bytes f) (t : Taken f size) where
-  pub held-good : code current .Good (heldIn f)
-  held-good = rw (held-now f (t .edition)) (lawful current .keeps f bodiesAt b (omega (arith, t .long)) (t .fine))
+-- ---- read, then saved, in the current edition
+module _ (f : List ℕ) (size : ℕ) (b : Bytes f) (t : Taken f size) (now : editionOf f ≡ currentEdition) where
+  pub long-now : length f ≡ savedSize
+  long-now = t .long ∙ ap (λ (n : ℕ). sizeIn (numbered n)) now
+
+  fine-now : code current .fine f bodiesAt ≡ true
+  fine-now = ap (λ (n : ℕ). code (editionAt n) .fine f bodiesAt) (sym now) ∙ t .fine
+
+  sizes-now : (i : ℕ) → i < bodyCount → lengthOf headWidth f i ≡ widthAt current i
+  sizes-now i l = t .sizes i l ∙ ap (λ (n : ℕ). widthAt (editionAt n) i) now
 
   write-again : code current .write (heldIn f) ≡ part f bodiesAt (code current .width)
-  write-again = ap (code current .write) (held-now f (t .edition)) ∙ lawful current .again f bodiesAt b (omega (arith, t .long)) (t .fine)
+  write-again = ap (code current .write) (held-now f now) ∙ lawful current .again f bodiesAt b (omega (arith, long-now)) fine-now
 
   place-again : (i : ℕ) → i < bodyCount → bodiesAt + sumBelow (widthAt current) i ≡ offsetOf headWidth f i
   unfolding runningPlace
@@ -101,20 +117,20 @@ module _ (f : List ℕ) (size : ℕ) (b : Bytes f) (t : Taken f size) where
       sym
       (t .shaped .offsets i (omega (arith, t .count, l))
       ∙ ap₂ (λ (p q : ℕ). entryPlace headWidth p + q) (t .count)
-      (sum-cong (lengthOf headWidth f) (widthAt current) i (λ j m. t .sizes j (omega arith))))
+      (sum-cong (lengthOf headWidth f) (widthAt current) i (λ j m. sizes-now j (omega arith))))
 
   body-again : (i : ℕ) → i < bodyCount → bodyOf current (heldIn f) i ≡ part f (offsetOf headWidth f i) (lengthOf headWidth f i)
   unfolding bodyOf
   body-again i l =
       ap (λ (r : List ℕ). part r (sumBelow (widthAt current) i) (widthAt current i)) write-again
       ∙ part-part f bodiesAt (code current .width) (sumBelow (widthAt current) i) (widthAt current i) (width-within i l)
-      ∙ ap₂ (part f) (place-again i l) (sym (t .sizes i l))
+      ∙ ap₂ (part f) (place-again i l) (sym (sizes-now i l))
 
   pub file-again : fileOf (heldIn f) ≡ f
   unfolding fileOf
   file-again =
       let made : ℕ → ℕ → ℕ → List ℕ = λ k e n. shapeOf k e headWidth noHead wholeBody (listOf (bodyOf current (heldIn f)) n) in
       ap (made savedKind currentEdition) (sym (t .count))
-      ∙ ap₂ (λ (k e : ℕ). made k e (countOf f)) (sym (t .kind)) (sym (t .edition))
+      ∙ ap₂ (λ (k e : ℕ). made k e (countOf f)) (sym (t .kind)) (sym now)
       ∙ shape-again headWidth noHead wholeBody (bodyOf current (heldIn f)) f b (t .shaped)
       (λ i l. sym (part-nil f (entryPlace headWidth i))) (λ i l. body-again i (omega (arith, t .count, l)))

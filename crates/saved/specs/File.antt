@@ -7,7 +7,7 @@ use Rattle.octets.specs.Index.{listOf}
 use Rattle.octets.specs.Part.{part}
 use Rattle.recording.specs.Shape.{entryPlace, sumBelow, shapeOf}
 use Rattle.codes.specs.Form.{Form, code}
-use Rattle.saved.specs.Editions.{Held, currentEdition, current, widthAt}
+use Rattle.saved.specs.Editions.{Held, edition1, held, currentEdition, current, widthAt}
 
 abbrev pub savedKind : ℕ
 savedKind = 2
@@ -48,3 +48,11 @@ saved-size = refl
 pub widths-fill : sumBelow (widthAt current) bodyCount ≡ code current .width
 unfolding sumBelow widthAt
 widths-fill = refl
+
+-- ---- older editions keep their shape: a file of edition 1, and its eight bodies
+edition1-size : bodiesAt + code (held edition1) .width ≡ 71192
+edition1-size = refl
+
+edition1-fill : sumBelow (widthAt (held edition1)) bodyCount ≡ code (held edition1) .width
+unfolding sumBelow widthAt
+edition1-fill = refl

@@ -9,7 +9,7 @@ use Rattle.recording.proofs.Sums.{sum-none, sum-more}
 use Rattle.saved.specs.Editions.{current, widthAt}
 use Rattle.saved.specs.File.{bodyCount, headWidth, bodiesAt}
 use Rattle.saved.specs.Steps.{entryBytes, contentsBytes}
-use Rattle.saved.proofs.Widths.{width-within}
+use Rattle.saved.proofs.Widths.{width-within, now-known}
 use Rattle.saved.proofs.SaveLaws.{contents-none, contents-more}
 use native.Mathlib.Omega.{arith}
 use borrow.Author.Needs.{needs}
@@ -33,7 +33,7 @@ write-entry-requires c κs =
     (c .before .loop-test .taken, omega (arith, c4 .pre, c2 .loop .inv .1 .0))
 
 width-of-requires : tie.Need-width-of-requires Inv-loop μ-loop
-width-of-requires c κs = search needs
+width-of-requires c κs = search (now-known, needs)
 
 add-offset : tie.Need-add-offset Inv-loop μ-loop
 add-offset c =
