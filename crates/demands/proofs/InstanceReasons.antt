@@ -26,8 +26,8 @@ use Rattle.rules.proofs.Scene.{own, blank, destination, announceBytes, dataByte
 use Rattle.rules.proofs.Outcomes.{preparedRelay, announcedRelay, judged-at, announce-new, announce-form, tallyOf}
 use Rattle.tables.specs.Layout.{bytesOf}
 use Rattle.tables.proofs.Whole.{back}
-use Rattle.demands.specs.Refusals.{refusal}
-use Rattle.demands.proofs.Instance1.{row-of}
+use Rattle.demands.specs.Refusals.{refusal, refusalOn}
+use Rattle.demands.proofs.Demand2.{after-seven}
 use Rattle.demands.proofs.Shape.{stays-shaped}
 use Rattle.demands.proofs.Instance2.{Held, announce, announce-given, prepared-held}
 use Rattle.demands.proofs.Reasons.{answerOn, taken, shown, clause-on, case-on}
@@ -72,8 +72,8 @@ module _ (bytes : List ℕ) (clock port : ℕ) where
 
   -- where no row refuses it, and no hash is equal
   taken-is : {n : ℕ} → packetRefusal announcedRelay a 500 ≡ n → taken a (bytesOf announcedRelay) tally blank ≡ eqb n 0
-  unfolding refusal
-  taken-is e = ap (λ (m : ℕ). eqb m 0) (row-of held (packet a blank) e)
+  unfolding refusalOn refusal
+  taken-is e = ap (λ (m : ℕ). eqb m 0) (after-seven announcedRelay (held .shape) (held .ok) (packet a blank) ∙ e)
 
   shown-is : shown a (bytesOf announcedRelay) tally blank ≡ view
   shown-is = ap (viewAt clock) (back announcedRelay (held .shape) (held .ok))

@@ -24,7 +24,7 @@ use Rattle.rules.specs.declared.Tally.{Tally}
 use Rattle.rules.proofs.Reasons.{number-3, number-6, clause-told, case-told}
 use Rattle.tables.specs.Layout.{relayOf, wellFormed}
 use Rattle.relay.specs.Promise.{JudgementOn, inBytes, packetOn}
-use Rattle.demands.specs.Refusals.{refusal, refusalOn}
+use Rattle.demands.specs.Refusals.{refusal, afterSeven, refusalOn}
 
 module _ (a : Arrival) (tables : List ℕ) (tally : Tally) (output : List ℕ) where
   abbrev pub answerOn : Answer
@@ -41,7 +41,7 @@ module _ (a : Arrival) (tables : List ℕ) (tally : Tally) (output : List ℕ) w
   on-bytes : (f : Answer → Bool) (x : Bool) → ((n : ℕ) → f (Refused n) ≡ false)
       → f (packetCall a (relayOf tables) tally output .answer) ≡ (eqb (packetRefusal (relayOf tables) a (length output)) 0 and x)
       → f answerOn ≡ (taken and x)
-  unfolding packetOn inBytes refusalOn refusal _and_
+  unfolding packetOn inBytes refusalOn afterSeven refusal _and_
   on-bytes f x none e = go (wellFormed tables) refl
     where
       go : (b : Bool) → wellFormed tables ≡ b → f answerOn ≡ (taken and x)

@@ -45,7 +45,8 @@ module _ (a : Arrival) (announce : isAnnounce (header a) ≡ false) (link : ofKi
       not (v .on (p .port)) then dropped PortOff otherwise
       isLinkRequest (header a) and not (v .roomForLink) then dropped NoRoom otherwise
       follows (by-path p))
-  unfolding onwardPlan onwardTests firstOf noWayOn alreadyKnown wrongSide notSigned ofKnown replay notBetter rateLimited leavingPort portOff noRoom _then_otherwise_ _and_ _or_
+  unfolding onwardPlan onwardTests firstOf noWayOn alreadyKnown wrongSide notSigned ofKnown replay notBetter rateLimited leavingPort portOff
+      noRoom _then_otherwise_ _and_ _or_
   path-plan v p = rw (no-proof, or-false (isLinkRequest (header a) and isThere (v .link (linkId (a .bytes)))), announce)
 
   module _ (r : Relay) where

@@ -1,7 +1,8 @@
-// What a host asks of the tables, which stay as they are: a port's settings, the announce rate, the record at a place, a
-// destination's live path, how many records are live, the last clock.
-// Entry points: port_settings, rate_settings, local_at, path_at, link_at, live_path, live_returns, live_hashes, last_clock. Each
-// returns refusal 7, 0 where what is asked for stands in the buffer lent, or NOTHING, and then leaves the buffer.
+// What a host asks of the tables, which stay as they are: a port's settings, the announce rate, the record at a place,
+// a destination's live path, how many records are live, the last clock.
+// Entry points: port_settings, rate_settings, local_at, path_at, link_at, live_path, live_returns, live_hashes,
+// last_clock. Each returns refusal 7, 0 where what is asked for stands in the buffer lent, or NOTHING, and then leaves
+// the buffer.
 mod counting;
 mod records;
 
