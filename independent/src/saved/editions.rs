@@ -12,9 +12,13 @@ pub struct Added {
     pub unsaved: &'static [u8],
 }
 
-/// What each edition adds to the one before; the first is edition 1. "edition 1 and a fresh relay have settings and new fields at 0."
-pub const EDITIONS: &[&[Added]] =
-    &[&[], &[Added { body: OWN, at: 24, unsaved: &[0; 12] }, Added { body: PATH, at: 43, unsaved: &[0; 17] }]];
+/// What each edition adds to the one before.
+pub const EDITIONS: &[&[Added]] = &[
+    // 1
+    &[],
+    // 2: "edition 1 and a fresh relay have settings and new fields at 0."
+    &[Added { body: OWN, at: 24, unsaved: &[0; 12] }, Added { body: PATH, at: 43, unsaved: &[0; 17] }],
+];
 /// The places of the bodies whose records grow.
 const OWN: usize = 0;
 const PATH: usize = 3;

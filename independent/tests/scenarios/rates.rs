@@ -200,7 +200,7 @@ fn a_rate_drop_changes_two_fields_alone(host: &mut Host) {
     assert_eq!(host.verdict(&other, 2, 130), TOO_OFTEN);
     let mut expected = before.clone();
     expected[path::VIOLATIONS] = 1;
-    expected[path::BLOCKED_UNTIL..path::BLOB_COUNT].copy_from_slice(&170u64.to_be_bytes());
+    tables::set_time(&mut expected, path::BLOCKED_UNTIL, 170);
     assert_eq!(host.path(0), expected);
     assert_eq!(host.tally, [2, 1, 0, 0, 1, 0]);
     assert_eq!(tables::last_clock(&host.tables), 130);

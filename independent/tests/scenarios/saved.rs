@@ -34,8 +34,16 @@ crate::on_both_programs!(
 );
 
 /// Offset and length of the bodies, as docs/LAYOUT.md has them.
-const BODIES: [(usize, usize); 8] =
-    [(52, 36), (88, 32), (120, 272), (392, 14_144), (14_536, 1_920), (16_456, 13_826), (30_282, 41_986), (TALLY_AT, 24)];
+const BODIES: [(usize, usize); 8] = [
+    (52, 36), // own address, last clock, announce rate
+    (88, 32),
+    (120, 272),
+    (392, 14_144),
+    (14_536, 1_920),
+    (16_456, 13_826),
+    (30_282, 41_986),
+    (TALLY_AT, 24),
+];
 const EDITION: u8 = 2;
 const PORTS_AT: usize = 88;
 const TALLY_AT: usize = 72_268;
