@@ -165,7 +165,10 @@ zeros-opened k n b l =
     let z : List ℕ = part b k (length b - k) in
     let long : k + (length b - k) ≡ length b = omega arith in
     let whole : b ≡ x ++ z =
-    sym (part-whole b (length b) refl) ∙ ap (part b 0) (sym long) ∙ part-split b 0 k (length b - k) ∙ ap (λ (j : ℕ). x ++ part b j (length b - k)) (zero-add k) in
+    sym (part-whole b (length b) refl)
+    ∙ ap (part b 0) (sym long)
+    ∙ part-split b 0 k (length b - k)
+    ∙ ap (λ (j : ℕ). x ++ part b j (length b - k)) (zero-add k) in
     ap₂ (λ (j : ℕ) (y : List ℕ). zeros j y) (sym long) whole
     ∙ zeros-append x z k (length b - k) (front k n b l)
     ∙ ap (λ (q : Bool). zeros k x and q)
@@ -190,7 +193,8 @@ module _ (t : List ℕ) (a : ℕ) (u : List ℕ) (b k n L : ℕ) (fits : a + L �
             sym (part-part t a L j m (omega arith))
             ∙ ap (λ (i : ℕ). part (part t a L) i m) (sym (zero-add j))
             ∙ sym (part-part (part t a L) 0 k j m h)
-            ∙ ap (λ (r : List ℕ). part r j m) (sym (opened-front k n (part t a L) inside) ∙ ap (λ (r : List ℕ). part r 0 k) (sym e) ∙ part-part u b (L + n) 0 k (omega arith))
+            ∙ ap (λ (r : List ℕ). part r j m)
+            (sym (opened-front k n (part t a L) inside) ∙ ap (λ (r : List ℕ). part r 0 k) (sym e) ∙ part-part u b (L + n) 0 k (omega arith))
             ∙ part-part u (b + 0) k j m h
             ∙ ap (λ (i : ℕ). part u (i + j) m) (add-zero b);
         gap = sym (part-part u b (L + n) k n (omega arith)) ∙ ap (λ (r : List ℕ). part r k n) e ∙ opened-gap k n (part t a L) inside;

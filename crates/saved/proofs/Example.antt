@@ -1,37 +1,40 @@
--- What is stated of all files, on one: a relay with two ports on, a path and a remembered hash. The contents and the refusals are computed.
-use Prim.Native.Nat.{ℕ, _≤_}
+-- What is stated of all files, on one: a relay with two ports on, a path and a remembered hash; and on one of edition 1. The contents and the refusals are
+-- computed.
+use Prim.Native.Nat.{ℕ, zero, suc, _≤_}
 use native.Mathlib.Omega.{arith}
 use mathlib.Core.Bool.{true}
 use mathlib.Core.List.{List, [], _∷_, _++_, append-assoc}
-use mathlib.Core.Path.{_≡_, refl, sym, ap, _∙_}
+use mathlib.Core.Path.{_≡_, refl, sym, ap, subst, _∙_}
 use lib.Dec.{lit<}
-use lib.ListN.{length, take, set, replicate, length-replicate}
+use lib.ListN.{length, getD, take, set, replicate, length-replicate}
 use Rattle.octets.specs.Bytes.{Bytes}
 use Rattle.octets.specs.Index.{_and_, allBelow, listOf}
 use Rattle.octets.specs.Choice.{_then_otherwise_}
 use Rattle.octets.specs.Listed.{firstOf}
 use Rattle.octets.specs.Part.{part, patch, joined}
 use Rattle.octets.specs.BigEndian.{numberFrom, number, bigEndian}
-use Rattle.codes.specs.Form.{code}
+use Rattle.codes.specs.Form.{slot, code}
 use Rattle.recording.specs.Shape.{kindOf, editionOf, countOf, offsetOf, lengthOf, sumBelow, runningPlace, offsetsRight, endRight}
-use Rattle.rules.specs.Relay.{Relay, used}
+use Rattle.rules.specs.Relay.{noRateSettings, noRateEntry, Slot, empty, used, Path, makePath, Relay}
 use Rattle.rules.specs.Refusals.{tablesOk}
 use Rattle.rules.specs.declared.Tally.{Tally}
 use Rattle.rules.proofs.History.{Fits}
 use Rattle.rules.proofs.Unfolding.{rules}
 use Rattle.rules.proofs.Outcomes.{relayOf, knownPath, linkOf, returnOf}
+use Rattle.tables.specs.Forms.{pathFormIn, pathForm, relayFormIn, relayForm}
 use Rattle.tables.specs.Places.{tableSize}
 use Rattle.tables.specs.Layout.{relayOf as layoutRelay, bytesOf, wellFormed}
 use Rattle.tables.specs.Shape.{isByte, isBytes, pathShaped, linkShaped, returnShaped, hashShaped, shaped}
-use Rattle.tables.proofs.Whole.{ok-bytes, bytes-bytes}
-use Rattle.saved.specs.Editions.{isKnown, current, widthAt}
-use Rattle.saved.specs.File.{bodyCount, savedSize}
+use Rattle.tables.proofs.Whole.{relay-good, back, ok-bytes, bytes-bytes}
+use Rattle.saved.specs.Editions.{edition1, isKnown, held, current, widthAt}
+use Rattle.saved.specs.File.{bodyCount, fileIn, savedSize}
 use Rattle.saved.specs.Save.{saveRows, saveRefusal, saveOn}
 use Rattle.saved.specs.Load.{lengthWrong, kindWrong, contentsWrong, sizesRight, bodiesWrong, loadRows, loadRefusal, LoadedOn, loadOn}
 use Rattle.saved.specs.Steps.{startBytes, entryBytes, contentsBytes}
 use Rattle.saved.proofs.SaveLaws.{refused-tables, refused-room, save-refused, file-made}
 use Rattle.saved.proofs.LoadLaws.{other-size, load-refused, load-number}
-use Rattle.saved.proofs.RoundTrip.{written, written-file, written-edition, written-bytes, save-then-load, loaded-formed, load-then-save}
+use Rattle.saved.proofs.Made.{file-long}
+use Rattle.saved.proofs.RoundTrip.{written, written-file, written-edition, written-bytes, save-then-load, loaded-formed, load-then-save, older-loads}
 
 -- ---- what is computed with
 unfoldable pub computing : Unit {0}
@@ -42,13 +45,16 @@ computing = tt
 
 -- ---- a relay's tables and a tally
 -- a path and a proved link, a receipt under way, and a hash that has expired at the last clock
-abbrev pub relay : Relay
-relay =
+abbrev relayWith : Path → Relay
+relayWith path =
     relayOf 2000
-    (used knownPath ∷ [])
+    (used path ∷ [])
     (used (linkOf (replicate 16 8) 2 1 true 2720) ∷ [])
     (used (returnOf (replicate 16 9)) ∷ [])
     (used (record { hash = replicate 32 7; expiry = 1300 }) ∷ [])
+
+abbrev pub relay : Relay
+relay = relayWith knownPath
 
 abbrev pub tables : List ℕ
 tables = bytesOf relay
@@ -173,3 +179,54 @@ pub small-room : saveOn tables tally (replicate 72291 9) ≡ record { answer = r
 small-room =
     save-refused tables tally (replicate 72291 9) 25 (λ q. omega arith)
     (refused-room tables (length (replicate {A = ℕ} 72291 9)) well (omega (arith, length-replicate {A = ℕ} 72291 9)))
+
+-- ---- a file of edition 1, which has neither settings nor what a path's record has of the announce rate: "edition 1 .. have settings and new fields at 0"
+abbrev Unrated : Slot Path → Type 0
+Unrated empty = Unit
+Unrated (used p) = p .rate ≡ noRateEntry
+
+-- what tables hold without these fields, edition 1 can hold
+unrated-good : (r : Relay) → code relayForm .Good r → r .rate ≡ noRateSettings → ((i : ℕ) → Unrated (getD (r .paths) i empty))
+    → code (relayFormIn edition1) .Good r
+unrated-good r g none each =
+    let (own, (clock, (_, (ports, (locals, (paths, back)))))) = g in
+    (own, (clock, (none, (ports, (locals, ((paths .0, λ i l. path (getD (r .paths) i empty) (paths .1 i l) (each i)), back))))))
+  where
+    path : (s : Slot Path) → code (slot pathForm) .Good s → Unrated s → code (slot (pathFormIn edition1)) .Good s
+    path empty h e = tt
+    path (used p) h e = ((h .0 .0, (e, h .0 .1 .1)), h .1)
+
+abbrev pub olderRelay : Relay
+olderRelay = relayWith (makePath (knownPath .destination) 1 0 (knownPath .nextHop) 22600 noRateEntry (knownPath .blobs))
+
+older-shape : shaped olderRelay ≡ true
+unfolding rules shaped pathShaped linkShaped returnShaped hashShaped isBytes isByte
+older-shape = refl
+
+older-ok : tablesOk olderRelay ≡ true
+unfolding rules
+older-ok = refl
+
+older-good : code (held edition1) .Good (olderRelay, tally)
+older-good =
+    let g = relay-good (bytesOf olderRelay) (bytes-bytes olderRelay older-shape older-ok) (ok-bytes olderRelay older-shape older-ok) in (
+      unrated-good olderRelay (subst (code relayForm .Good) (back olderRelay older-shape older-ok) g) refl unrated,
+      (small .total, (small .dropped, (small .delivered, (small .forwarded, (small .spread, small .kept))))),
+    )
+  where
+    none : (n i : ℕ) → getD (replicate {A = Slot Path} n empty) i empty ≡ empty
+    none zero i = refl
+    none (suc n) zero = refl
+    none (suc n) (suc i) = none n i
+
+    unrated : (i : ℕ) → Unrated (getD (olderRelay .paths) i empty)
+    unrated zero = refl
+    unrated (suc i) = subst Unrated (sym (none 63 i)) tt
+
+-- it is 71,192 bytes long, and loads: the relay is in the tables, the path with zeros
+pub older-long : length (fileIn 1 (olderRelay, tally)) ≡ 71192
+older-long = file-long 1 (olderRelay, tally)
+
+pub older-loaded : loadOn (fileIn 1 (olderRelay, tally)) other old ≡ record { refusal = 0; tables = bytesOf olderRelay; tally = tally }
+unfolding isKnown _and_
+older-loaded = older-loads 1 refl (olderRelay, tally) older-good other old (length-replicate {A = ℕ} tableSize 255)

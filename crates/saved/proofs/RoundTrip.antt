@@ -5,6 +5,7 @@
 --   load-then-save     a file of the current edition that loads is what saving writes, from the tables and the tally that were loaded;
 --   loaded-formed, loaded-bytes, loaded-fits
 --                      loaded tables pass refusal 7, and are bytes; each counter of the loaded tally fits its four bytes;
+--   older-loads        what an edition can hold, in a file of that edition, loads, and is then in the tables;
 --   load-unread        what stood in the tables, and the tally that was given, matter nothing to a load that is not refused.
 use Prim.Native.Nat.{ℕ, _≤_}
 use mathlib.Core.Bool.{true}
@@ -22,14 +23,14 @@ use Rattle.rules.proofs.History.{Fits}
 use Rattle.tables.specs.Places.{tableSize}
 use Rattle.tables.specs.Layout.{relayOf, bytesOf, wellFormed}
 use Rattle.tables.proofs.Whole.{again, relay-good}
-use Rattle.saved.specs.Editions.{Held, currentEdition, current}
-use Rattle.saved.specs.File.{fileOf, savedSize}
+use Rattle.saved.specs.Editions.{Held, isKnown, editionAt, currentEdition, current}
+use Rattle.saved.specs.File.{fileIn, fileOf, savedSize}
 use Rattle.saved.specs.Save.{SavedOn, saveOn}
 use Rattle.saved.specs.Load.{loadRefusal, heldIn, LoadedOn, loadOn}
 use Rattle.saved.specs.Steps.{tablesNow}
 use Rattle.saved.proofs.SaveLaws.{not-refused, save-done}
 use Rattle.saved.proofs.LoadLaws.{Taken, taken, takes, editionIn, held-relay, held-formed, held-bytes, tables-held, tally-good, load-done, load-number}
-use Rattle.saved.proofs.Made.{file-length, made-edition, made-taken, made-held, made-bytes, long-now, file-again}
+use Rattle.saved.proofs.Made.{taken-in, held-in, file-length, made-edition, made-taken, made-held, made-bytes, long-now, file-again}
 
 -- ---- saved, then loaded
 module _ (t : List ℕ) (tally : Tally) (b : Bytes t) (h : wellFormed t ≡ true) (s : Fits tally) where
@@ -111,7 +112,17 @@ module _ (f tables : List ℕ) (old : Tally) (b : Bytes f) (loads : loadOn f tab
       let same : fileOf (relayOf t, tally) ≡ f =
       ap₂ (λ (r : Relay) (c : Tally). fileOf (r, c)) loaded-relay (ap (λ (x : LoadedOn). x .tally) done) ∙ file-again f (length tables) b file-taken e in
       save-done t tally room (not-refused t (length room) loaded-formed large)
-      ∙ ap₂ (λ (n : ℕ) (g : List ℕ). record { answer = record { refusal = 0; length = n }; room = patch room 0 g }) (sym (long-now f (length tables) b file-taken e)) same
+      ∙ ap₂ (λ (n : ℕ) (g : List ℕ). record { answer = record { refusal = 0; length = n }; room = patch room 0 g })
+      (sym (long-now f (length tables) b file-taken e)) same
+
+-- ---- saved in any edition, by a program of its time
+module _ (n : ℕ) (known : isKnown n ≡ true) (held : Held) (g : code (editionAt n) .Good held) where
+  pub older-loads : (tables : List ℕ) (old : Tally) → length tables ≡ tableSize
+      → loadOn (fileIn n held) tables old ≡ record { refusal = 0; tables = bytesOf (held .0); tally = held .1 }
+  older-loads tables old size =
+      let f : List ℕ = fileIn n held in
+      load-done f tables old (ap (loadRefusal f) size ∙ takes f tableSize (taken-in n held g known))
+      ∙ ap (λ (x : Held). record { refusal = 0; tables = bytesOf (x .0); tally = x .1 }) (held-in n held g)
 
 pub load-unread : (f t u : List ℕ) (a b : Tally) → length u ≡ length t → loadOn f t a .refusal ≡ 0 → loadOn f u b ≡ loadOn f t a
 load-unread f t u a b e loads =

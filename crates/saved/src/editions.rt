@@ -1,5 +1,5 @@
-// What each edition has, in numbers: a line for each, and the last line for today's. The next edition adds its line to the
-// function whose bytes it changes. A path's new fields stand before its blobs, and the first body's at its end.
+// What each edition has, in numbers: a line for each, the last one for today's. The next edition adds its line where
+// it changes a width. A path's new fields stand before its blobs, and the first body's at its end.
 use super::format::BODIES_AT;
 use super::format::BODY_COUNT;
 use super::format::EDITION;

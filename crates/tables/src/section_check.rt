@@ -1,6 +1,6 @@
-// Row 7 for each section of the tables, record by record. What is all zeros is passed by one OR over its bytes: paths
-// and links as a whole, for these fill from their first place on; returns and hashes in groups, where the first and the
-// last record of one are unused.
+// Row 7 for each section of the tables, record by record, and for those before and behind the paths, which a saved file
+// has at other places. What is all zeros is passed by one OR over its bytes: paths and links as a whole, for these fill
+// from their first place on; returns and hashes in groups, where the first and the last record of one are unused.
 use super::places::CLOCK_AT;
 use super::places::GRACE_AT;
 use super::places::HASH_WIDTH;

@@ -9,6 +9,7 @@ use Rattle.recording.proofs.Sums.{sum-none, sum-more}
 use Rattle.saved.specs.Editions.{current, widthAt}
 use Rattle.saved.specs.File.{bodyCount, headWidth, bodiesAt}
 use Rattle.saved.specs.Steps.{entryBytes, contentsBytes}
+use Rattle.tables.specs.Forms.{today}
 use Rattle.saved.proofs.Widths.{width-within, now-known}
 use Rattle.saved.proofs.SaveLaws.{contents-none, contents-more}
 use native.Mathlib.Omega.{arith}
@@ -39,7 +40,7 @@ add-offset : tie.Need-add-offset Inv-loop μ-loop
 add-offset c =
     let c5 = c .before .before .before .before .before in
     let c6 = c5 .before in
-    let within = width-within (c6 .loop .i) (c5 .loop-test .taken) in
+    let within = width-within today (c6 .loop .i) (c5 .loop-test .taken) in
     record { fits = omega (arith, c .width-of .ensures, c6 .loop .inv .1 .1 .0) }
 
 add-i : tie.Need-add-i Inv-loop μ-loop

@@ -58,7 +58,8 @@ loop-again c =
 returns-2 : tie.Need-returns-2 Inv-loop μ-loop
 returns-2 c =
     let c3 = c .before .before .before in
-    ended (λ (k : ℕ). recordsOk linkBytesOk (c3 .args .at) linkWidth k (c3 .args .t .now)) (c .before .loop .inv .0) (c .loop-test .left) (c .before .loop .inv .1)
+    ended (λ (k : ℕ). recordsOk linkBytesOk (c3 .args .at) linkWidth k (c3 .args .t .now)) (c .before .loop .inv .0)
+    (c .loop-test .left) (c .before .loop .inv .1)
 
 pub links-each-spec : {M : Type 1} → statement M
 links-each-spec =
