@@ -60,8 +60,8 @@ int main(int count, char **words)
     make_state();
     show(words[1], "nothing lost", 0, 0);
     show(words[1], "zeros alone", 0, FILE_SIZE);
-    show(words[1], "cut before the local addresses, then zeros", 108, FILE_SIZE);
-    show(words[1], "one byte of a local address", 109, 110);
-    show(words[1], "the mark of a port, so that it is off", 82, 83);
+    show(words[1], "cut before the local addresses, then zeros", 120, FILE_SIZE);
+    show(words[1], "one byte of a local address", 121, 122);
+    show(words[1], "the mark of a port, so that it is off", 94, 95);
     return 0;
 }

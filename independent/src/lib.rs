@@ -7,6 +7,7 @@ pub mod compare;
 pub mod core;
 pub mod engine;
 pub mod faults;
+pub mod files;
 pub mod limits;
 pub mod line;
 pub mod linked;

@@ -405,9 +405,9 @@ int main(int count, char **words)
     try_every_step(words[1], 1);
     try_every_step(words[1], 0);
     try_losses(words[1]);
-    try_sealed(words[1], 1, 2, OTHER_EDITION);
+    try_sealed(words[1], 1, 255, OTHER_EDITION);
     try_sealed(words[1], 0, 1, OTHER_EDITION);
-    try_sealed(words[1], 77, 3, NOT_WHOLE);
+    try_sealed(words[1], 89, 3, NOT_WHOLE); /* the mode of port 0 */
     use_folder(words[1]);
     save_until(words[1], &new_state, NO_STEP, BEFORE); /* for the same in Python */
     printf("%d passed, %d failed\n", passed, failed);

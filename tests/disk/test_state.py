@@ -189,7 +189,7 @@ class TestDisk(unittest.TestCase):
         self.assertRaises(NotWhole, state.load_state, self.folder)
 
     def test_a_whole_file_that_is_not_taken(self):
-        for at, byte, refusal in ((1, 2, 21), (0, 1, 21), (77, 3, 24)):
+        for at, byte, refusal in ((1, 255, 21), (0, 1, 21), (89, 3, 24)):
             self.save_until(NEW)
             path = self.folder / SAVED
             data = bytearray(path.read_bytes()[: -state.SEAL_SIZE])

@@ -1,5 +1,6 @@
 #include "relay.h"
 
+#include "answers.h"
 #include "check.h"
 #include "haskumye.h"
 #include "questions.h"
@@ -94,7 +95,8 @@ void relay_make(struct relay *relay, const struct listed *call)
         return;
     }
     struct use use = {.input = call->bytes, .tables = relay->tables, .tally = relay->tally, .port = call->port,
-                      .clock = call->clock, .mode = call->mode, .byte = byte_of(call->yes)};
+                      .clock = call->clock, .mode = call->mode, .byte = byte_of(call->yes), .target = call->target,
+                      .grace = call->grace, .penalty = call->penalty};
     if (call->function == PACKET) {
         use.output = buffer_new(call->room, call->fill);
         questions_try_signature(&use);
@@ -107,6 +109,9 @@ void relay_make(struct relay *relay, const struct listed *call)
         memset(relay->tally.bytes, 0, relay->tally.length);
     }
     expect("the number", number, call->number);
+    if (call->function == PACKET) {
+        answers_try(number);
+    }
     uint64_t sum = sum_of(0, use.tables.bytes, use.tables.length);
     sum = sum_of(sum, use.tally.bytes, use.tally.length);
     expect("the bytes left", sum_of(sum, use.output.bytes, use.output.length), call->sum);

@@ -15,7 +15,18 @@ enum {
     FILL = 0xee
 };
 
-static const size_t lengths[ENTRIES] = {24, 32, 272, 13056, 1920, 13826, 41986, 24};
+static const size_t lengths[ENTRIES] = {36, 32, 272, 14144, 1920, 13826, 41986, 24};
+
+/* What edition 1 lacks: the announce rate behind the last clock, and in each path what is kept of its announces. */
+enum {
+    RATE_AT = 24,
+    RATE_WIDTH = 12,
+    PATHS_AT = 340,
+    PATH_WIDTH = 221,
+    ENTRY_RATE_AT = 43,
+    ENTRY_RATE_WIDTH = 17,
+    OLD_SIZE = HASKUMYE_SAVED_SIZE - RATE_WIDTH - HASKUMYE_PATH_COUNT * ENTRY_RATE_WIDTH
+};
 
 /* How many bytes of a buffer are this one, from a place on. */
 static size_t run(struct buffer buffer, size_t at)
@@ -61,7 +72,7 @@ static void expect_tally(const uint8_t *file, struct buffer tally)
 static void expect_contents(const uint8_t *file)
 {
     size_t place = CONTENTS;
-    expect("kind, edition and count", number_at(file, 4), 0x02010008);
+    expect("kind, edition and count", number_at(file, 4), 0x02020008);
     for (size_t i = 0; i < ENTRIES; i++) {
         expect("an offset", number_at(file + 4 + ENTRY_WIDTH * i, 4), place);
         expect("a length", number_at(file + 8 + ENTRY_WIDTH * i, 2), lengths[i]);
@@ -124,12 +135,13 @@ void saved_try(struct buffer tables, struct buffer tally)
 static struct buffer make_tables(struct buffer *tally)
 {
     struct use use = {.input = buffer_new(16, 0), .tables = buffer_new(HASKUMYE_TABLE_SIZE, 0), .port = 9, .byte = 1,
-                      .mode = 2};
+                      .mode = 2, .target = 0x10203, .grace = 0xfd, .penalty = 0x90807};
     for (uint8_t i = 0; i < 16; i++) {
         use.input.bytes[i] = (uint8_t)(0xa0 + i);
     }
     expect("fresh", library_call(FRESH, &use), 0);
     expect("set port", library_call(SET_PORT, &use), 0);
+    expect("set announce rate", library_call(SET_ANNOUNCE_RATE, &use), 0);
     expect("add local", library_call(ADD_LOCAL, &use), 0);
     *tally = buffer_new(sizeof(haskumye_tally), 0);
     for (uint8_t i = 0; i < tally->length; i++) {
@@ -179,17 +191,18 @@ static void load_changed(struct buffer file, size_t at, size_t width, uint64_t n
 
 static void try_heads(struct buffer file)
 {
-    static const uint8_t editions[] = {0, 2, 3, 128, 255};
+    static const uint8_t editions[] = {0, 3, 128, 255};
     load_changed(file, 0, 1, 1, HASKUMYE_REFUSAL_FILE_KIND);
     load_changed(file, 0, 1, 0, HASKUMYE_REFUSAL_FILE_KIND);
     for (size_t i = 0; i < sizeof editions; i++) {
         load_changed(file, 1, 1, editions[i], HASKUMYE_REFUSAL_FILE_KIND);
     }
+    load_changed(file, 1, 1, 1, HASKUMYE_REFUSAL_FILE_BODY); /* longer bodies than edition 1 has */
     load_changed(file, 2, 2, ENTRIES - 1, HASKUMYE_REFUSAL_FILE_LENGTH);
     load_changed(file, 2, 2, 0, HASKUMYE_REFUSAL_FILE_LENGTH);
     load_changed(file, 2, 2, 0xffff, HASKUMYE_REFUSAL_FILE_LENGTH);
     /* A count that adds up: of no entries, and of seven, in a file that lacks an entry and the tally. */
-    static uint8_t empty[] = {2, 1, 0, 0};
+    static uint8_t empty[] = {2, 2, 0, 0};
     expect_load("a file of no entries", (struct buffer){empty, sizeof empty}, 0, HASKUMYE_REFUSAL_FILE_PLACE);
     put_number(file.bytes + 2, 2, ENTRIES - 1);
     load_resized(file, file.length - ENTRY_WIDTH - lengths[ENTRIES - 1], HASKUMYE_REFUSAL_FILE_PLACE);
@@ -227,25 +240,85 @@ static void try_bodies(struct buffer file)
         {CONTENTS, 8, UINT64_MAX, 0},                                     /* own address */
         {CONTENTS + 16, 8, UINT64_C(1099511627776) + 604799, 0},          /* last clock */
         {CONTENTS + 16, 8, UINT64_C(1099511627776) + 604800, HASKUMYE_REFUSAL_FILE_BODY},
-        {76, 1, 2, HASKUMYE_REFUSAL_FILE_BODY},                           /* port 0's mark */
-        {77, 1, 3, HASKUMYE_REFUSAL_FILE_BODY},                           /* its mode */
-        {108 + 17, 1, 2, HASKUMYE_REFUSAL_FILE_BODY},                     /* the mark of local address 1 */
-        {108 + 18, 1, 1, HASKUMYE_REFUSAL_FILE_BODY},                     /* a byte of it, which is unused */
-        {380, 1, 2, HASKUMYE_REFUSAL_FILE_BODY},                          /* paths */
-        {13436 - 1, 1, 1, HASKUMYE_REFUSAL_FILE_BODY},
-        {13436, 1, 2, HASKUMYE_REFUSAL_FILE_BODY},                        /* links */
-        {15356 - 1, 1, 1, HASKUMYE_REFUSAL_FILE_BODY},
-        {15356, 2, HASKUMYE_RETURN_COUNT - 1, 0},                         /* the ring place of return records */
-        {15356, 2, HASKUMYE_RETURN_COUNT, HASKUMYE_REFUSAL_FILE_BODY},
-        {29182 - 1, 1, 1, HASKUMYE_REFUSAL_FILE_BODY},
-        {29182, 2, HASKUMYE_HASH_COUNT - 1, 0},                           /* that of hashes */
-        {29182, 2, HASKUMYE_HASH_COUNT, HASKUMYE_REFUSAL_FILE_BODY},
+        {CONTENTS + RATE_AT, 4, HASKUMYE_TARGET_LIMIT, 0},                /* the announce rate */
+        {CONTENTS + RATE_AT, 4, HASKUMYE_TARGET_LIMIT + 1, HASKUMYE_REFUSAL_FILE_BODY},
+        {CONTENTS + RATE_AT + 4, 4, HASKUMYE_GRACE_LIMIT + 1, HASKUMYE_REFUSAL_FILE_BODY},
+        {CONTENTS + RATE_AT + 8, 4, HASKUMYE_PENALTY_LIMIT + 1, HASKUMYE_REFUSAL_FILE_BODY},
+        {88, 1, 2, HASKUMYE_REFUSAL_FILE_BODY},                           /* port 0's mark */
+        {89, 1, 3, HASKUMYE_REFUSAL_FILE_BODY},                           /* its mode */
+        {120 + 17, 1, 2, HASKUMYE_REFUSAL_FILE_BODY},                     /* the mark of local address 1 */
+        {120 + 18, 1, 1, HASKUMYE_REFUSAL_FILE_BODY},                     /* a byte of it, which is unused */
+        {392, 1, 2, HASKUMYE_REFUSAL_FILE_BODY},                          /* paths */
+        {14536 - 1, 1, 1, HASKUMYE_REFUSAL_FILE_BODY},
+        {14536, 1, 2, HASKUMYE_REFUSAL_FILE_BODY},                        /* links */
+        {16456 - 1, 1, 1, HASKUMYE_REFUSAL_FILE_BODY},
+        {16456, 2, HASKUMYE_RETURN_COUNT - 1, 0},                         /* the ring place of return records */
+        {16456, 2, HASKUMYE_RETURN_COUNT, HASKUMYE_REFUSAL_FILE_BODY},
+        {30282 - 1, 1, 1, HASKUMYE_REFUSAL_FILE_BODY},
+        {30282, 2, HASKUMYE_HASH_COUNT - 1, 0},                           /* that of hashes */
+        {30282, 2, HASKUMYE_HASH_COUNT, HASKUMYE_REFUSAL_FILE_BODY},
         {TALLY_AT - 1, 1, 1, HASKUMYE_REFUSAL_FILE_BODY},
         {TALLY_AT, 8, UINT64_MAX, 0},
     };
     for (size_t i = 0; i < sizeof changes / sizeof changes[0]; i++) {
         load_changed(file, changes[i].at, changes[i].width, changes[i].number, changes[i].refusal);
     }
+}
+
+/* Whether a byte of the tables stands in edition 1's bodies too. */
+static bool is_old(size_t place)
+{
+    if (place >= RATE_AT && place < RATE_AT + RATE_WIDTH) {
+        return false;
+    }
+    bool in_path = place >= PATHS_AT && place < PATHS_AT + HASKUMYE_PATH_COUNT * PATH_WIDTH;
+    size_t at = (place - PATHS_AT) % PATH_WIDTH;
+    return !in_path || at < ENTRY_RATE_AT || at >= ENTRY_RATE_AT + ENTRY_RATE_WIDTH;
+}
+
+/* The head and the contents of the same relay's file in edition 1. */
+static void put_old_contents(const uint8_t *file, uint8_t *old)
+{
+    size_t place = CONTENTS;
+    memcpy(old, file, CONTENTS);
+    old[1] = 1;
+    for (size_t i = 0; i < ENTRIES; i++) {
+        size_t lacking = i == 0 ? RATE_WIDTH : i == 3 ? HASKUMYE_PATH_COUNT * ENTRY_RATE_WIDTH : 0;
+        put_number(old + 4 + ENTRY_WIDTH * i, 4, place);
+        put_number(old + 8 + ENTRY_WIDTH * i, 2, lengths[i] - lacking);
+        place += lengths[i] - lacking;
+    }
+}
+
+/* The bodies, and the tables that a load makes of them: zeros where edition 1 has no field. */
+static void put_old_bodies(const uint8_t *file, uint8_t *old, uint8_t *tables)
+{
+    size_t end = CONTENTS;
+    for (size_t i = 0; i < HASKUMYE_TABLE_SIZE; i++) {
+        tables[i] = is_old(i) ? file[CONTENTS + i] : 0;
+        if (is_old(i)) {
+            old[end++] = tables[i];
+        }
+    }
+    memcpy(old + end, file + TALLY_AT, sizeof(haskumye_tally));
+}
+
+static void try_older(struct buffer file)
+{
+    struct use use = {.input = buffer_new(OLD_SIZE, 0), .tables = buffer_new(HASKUMYE_TABLE_SIZE, FILL),
+                      .tally = buffer_new(sizeof(haskumye_tally), FILL)};
+    struct buffer expected = buffer_new(HASKUMYE_TABLE_SIZE, FILL);
+    put_old_contents(file.bytes, use.input.bytes);
+    put_old_bodies(file.bytes, use.input.bytes, expected.bytes);
+    expect("loading edition 1", library_call(LOAD_TABLES, &use), 0);
+    expect("its tables", same(use.tables.bytes, expected.bytes, HASKUMYE_TABLE_SIZE), 1);
+    expect_tally(file.bytes, use.tally);
+    use.input.bytes[1] = 2;
+    expect("its bodies in edition 2", library_call(LOAD_TABLES, &use), HASKUMYE_REFUSAL_FILE_BODY);
+    buffer_free(&use.input);
+    buffer_free(&use.tables);
+    buffer_free(&use.tally);
+    buffer_free(&expected);
 }
 
 void saved_try_odd(void)
@@ -264,6 +337,7 @@ void saved_try_odd(void)
     try_heads(file);
     try_entries(file);
     try_bodies(file);
+    try_older(file);
     expect("the size of a saved file", library_call(SAVED_SIZE, &(struct use){0}), HASKUMYE_SAVED_SIZE);
     buffer_free(&file);
     buffer_free(&tables);

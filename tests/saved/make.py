@@ -51,7 +51,7 @@ def destination(number):
 
 def announce(number, emission, hops=0, relay=None, length=4):
     """An announce of a destination; with a relay, of type 2."""
-    payload = keys(number) + bytes([emission] * 5) + (1_700_000_000 + emission).to_bytes(5, "big") + bytes(64) + bytes(length)
+    payload = keys(number) + bytes([emission % 256] * 5) + (1_700_000_000 + emission).to_bytes(5, "big") + bytes(64) + bytes(length)
     header = haskumye.PACKET_ANNOUNCE | (haskumye.HEADER_TYPE_2 | haskumye.HEADER_TRANSPORT if relay else 0)
     return haskumye.write(Parts(header, hops, relay or bytes(16), destination(number)), payload)
 
@@ -78,6 +78,26 @@ def fill_paths(box):
     for emission in range(2, 5):
         assert box.give(announce(8, emission, length=333), 3, 300 + emission, True) == "kept"
     assert box.give(announce(9, 2), 9, 400).startswith("drop 9")
+
+
+def chatter(box):
+    """Destinations that announce too often: 10 is blocked beyond the end, 11 is forgiven a violation, 13 was blocked and is heard again, and 14 has all the
+    violations that are counted. Every byte of the settings that are left is another."""
+    box.relay.set_announce_rate(target=100, grace=2, penalty=30000)
+    for clock, number, answer in [
+        *((clock, number, "spread") for clock in (1000, 1001, 1002) for number in (10, 11)),
+        (1003, 10, "drop 15"),
+        (1200, 11, "spread"),
+    ]:
+        assert box.give(announce(number, clock - 990), list(WIRES)[number % 5], clock, True).startswith(answer)
+    box.relay.set_announce_rate(target=100, grace=0, penalty=50)
+    for clock, answer in (1300, "spread"), (1301, "drop 15"), (1449, "drop 15"), (1450, "spread"):
+        assert box.give(announce(13, clock - 1290), 3, clock, True).startswith(answer)
+    box.relay.set_announce_rate(haskumye.TARGET_LIMIT, haskumye.GRACE_LIMIT, 0)
+    for violations in range(1, 256):
+        answer = "spread" if violations <= haskumye.GRACE_LIMIT else "drop 15"
+        assert box.give(announce(14, 1 + violations), 9, 1500 + violations, True).startswith(answer)
+    box.relay.set_announce_rate(target=0x010203, grace=0xFD, penalty=0x090807)
 
 
 def live(number):
@@ -122,6 +142,7 @@ def keep_alive(box, links, clock):
 def make():
     box = Box()
     fill_paths(box)
+    chatter(box)
     give_data(box, 600, 20300, 3)
     numbers = [number for number in range(haskumye.PATH_COUNT) if live(number)]
     proved = list(give_links(box, (numbers + numbers)[: haskumye.LINK_COUNT], 22600))
@@ -155,22 +176,26 @@ def lines(relay):
     tables = relay.tables
     yield f"own {tables[:16].hex()}"
     yield f"clock {number_of(tables[16:24])}"
+    if any(tables[24:36]):
+        yield f"rate target {number_of(tables[24:28])} grace {number_of(tables[28:32])} penalty {number_of(tables[32:36])}"
     for port in range(16):
-        on, mode = tables[24 + 2 * port : 26 + 2 * port]
+        on, mode = tables[36 + 2 * port : 38 + 2 * port]
         yield f"port {port} on {on} mode {mode}"
-    for place, data in records(tables, 56, 16, 17):
+    for place, data in records(tables, 68, 16, 17):
         yield f"local {place} {data.hex()}"
-    for place, data in records(tables, 328, 64, 204):
-        blobs = [data[43 + 10 * i : 53 + 10 * i].hex() for i in range(data[42])]
-        yield f"path {place} {data[:16].hex()} port {data[16]} hops {data[17]} next {data[18:34].hex()} expiry {number_of(data[34:42])} blobs " + " ".join(blobs)
-    for place, data in records(tables, 13384, 64, 30):
+    for place, data in records(tables, 340, 64, 221):
+        way = f"path {place} {data[:16].hex()} port {data[16]} hops {data[17]} next {data[18:34].hex()} expiry {number_of(data[34:42])}"
+        rate = {"last": number_of(data[42:50]), "violations": data[50], "blocked": number_of(data[51:59])}
+        blobs = [data[60 + 10 * i : 70 + 10 * i].hex() for i in range(data[59])]
+        yield " ".join([way, *(f"{name} {number}" for name, number in rate.items() if number), "blobs", *blobs])
+    for place, data in records(tables, 14484, 64, 30):
         sides = f"asking {data[16]} answering {data[17]} taken {data[18]} remaining {data[19]} proved {data[20]}"
         yield f"link {place} {data[:16].hex()} {sides} expiry {number_of(data[21:])}"
-    yield f"returns next {number_of(tables[15304:15306])}"
-    for place, data in records(tables, 15306, 512, 27):
+    yield f"returns next {number_of(tables[16404:16406])}"
+    for place, data in records(tables, 16406, 512, 27):
         yield f"return {place} {data[:16].hex()} arrival {data[16]} leaving {data[17]} expiry {number_of(data[18:])}"
-    yield f"hashes next {number_of(tables[29130:29132])}"
-    for place, data in records(tables, 29132, 1024, 41):
+    yield f"hashes next {number_of(tables[30230:30232])}"
+    for place, data in records(tables, 30232, 1024, 41):
         yield f"hash {place} {data[:32].hex()} expiry {number_of(data[32:])}"
     yield "tally " + " ".join(f"{name} {count}" for name, count in relay.tally._asdict().items())
 

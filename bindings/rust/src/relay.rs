@@ -1,6 +1,7 @@
 //! A relay: its tables and its tally, and the calls on them.
 
 use crate::answer::{done, judged, written_length, Mode, Refusal, Verdict};
+use crate::question::AnnounceRate;
 use crate::raw::{self, Tally, SAVED_SIZE, TABLE_SIZE, TEXT_SIZE};
 use crate::recording::Replayed;
 use crate::{Address, PortMap};
@@ -110,6 +111,12 @@ impl Relay {
         done(unsafe { raw::haskumye_set_port(self.tables.as_mut_ptr(), self.tables.len(), port, on, mode) })
     }
 
+    /// Sets how often every destination may announce itself. Paths stay, blocked ones too. Refusal 9 for a number over its limit.
+    pub fn set_announce_rate(&mut self, rate: AnnounceRate) -> Result<(), Refusal> {
+        let AnnounceRate { target, grace, penalty } = rate;
+        done(unsafe { raw::haskumye_set_announce_rate(self.tables.as_mut_ptr(), self.tables.len(), target, grace, penalty) })
+    }
+
     /// Adds an address whose packets are delivered here. Refusal 11 where it is there already, 10 for a 17th.
     pub fn add_local(&mut self, address: &Address) -> Result<(), Refusal> {
         done(unsafe { raw::haskumye_add_local(self.tables.as_mut_ptr(), self.tables.len(), address) })
@@ -161,7 +168,7 @@ impl Tally {
     }
 }
 
-/// The tally stands for the 71,116 bytes.
+/// The tally stands for the 72,216 bytes.
 impl std::fmt::Debug for Relay {
     fn fmt(&self, f: &mut std::fmt::Formatter) -> std::fmt::Result {
         f.debug_struct("Relay").field("tally", &self.tally).finish_non_exhaustive()

@@ -6,7 +6,7 @@ use haskumye::*;
 const OWN: Address = [0x0a; 16];
 
 /// A file of each edition, the oldest first: tests/saved/NAME.saved, and NAME.text with what it holds. A later edition is one more line.
-const EDITIONS: [&str; 1] = ["edition-1"];
+const EDITIONS: [&str; 2] = ["edition-1", "edition-2"];
 
 fn read(name: &str) -> Vec<u8> {
     let path = format!("{}/../../tests/saved/{name}", env!("CARGO_MANIFEST_DIR"));
@@ -21,6 +21,7 @@ fn pair(name: &str) -> (Vec<u8>, String) {
 fn relay() -> Relay {
     let mut relay = Relay::fresh(&OWN);
     relay.set_port(3, true, Mode::Roaming).unwrap();
+    relay.set_announce_rate(AnnounceRate { target: 3_600, grace: 5, penalty: 7_200 }).unwrap();
     relay.add_local(&OWN).unwrap();
     Relay::from_tables(relay.tables(), Tally { total: 0x01020304, dropped: 5, kept: u32::MAX, ..Tally::default() }).unwrap()
 }
@@ -29,7 +30,7 @@ fn relay() -> Relay {
 fn what_is_saved_loads() {
     let (relay, file) = (relay(), relay().save());
     assert_eq!((file.len(), unsafe { haskumye_saved_size() }), (SAVED_SIZE, SAVED_SIZE));
-    assert_eq!(file[..4], [2, 1, 0, 8]);
+    assert_eq!(file[..4], [2, 2, 0, 8]);
     assert_eq!((&file[52..52 + TABLE_SIZE], &file[52 + TABLE_SIZE..]), (relay.tables(), &relay.tally().to_bytes()[..]));
     assert_eq!(Relay::load(&file), Ok(relay));
 }
@@ -45,9 +46,10 @@ fn loading_is_refused() {
         (spoiled(0, 1), Refusal::FileKind),
         (spoiled(1, 0), Refusal::FileKind),
         (spoiled(1, 255), Refusal::FileKind),
-        (vec![2, 1, 0, 0], Refusal::FilePlace),
+        (vec![2, 2, 0, 0], Refusal::FilePlace),
         (spoiled(7, 53), Refusal::FilePlace),
-        (spoiled(77, 3), Refusal::FileBody),
+        (spoiled(1, 1), Refusal::FileBody), // bodies longer than an older edition's
+        (spoiled(89, 3), Refusal::FileBody),
     ];
     for (file, refusal) in files {
         assert_eq!(Relay::load(&file), Err(refusal));
@@ -81,9 +83,18 @@ impl Line<'_> {
         self.0[1].parse().expect("a place")
     }
 
+    fn field(&self, name: &str) -> Option<u64> {
+        let at = self.0.iter().position(|word| *word == name)?;
+        Some(self.0[at + 1].parse().expect(name))
+    }
+
     fn number(&self, name: &str) -> u64 {
-        let at = self.0.iter().position(|word| *word == name).unwrap_or_else(|| panic!("no {name} in {:?}", self.0));
-        self.0[at + 1].parse().expect(name)
+        self.field(name).unwrap_or_else(|| panic!("no {name} in {:?}", self.0))
+    }
+
+    /// A field that an older edition lacks, and loads as 0.
+    fn number_or_zero(&self, name: &str) -> u64 {
+        self.field(name).unwrap_or(0)
     }
 
     fn byte(&self, name: &str) -> [u8; 1] {
@@ -100,6 +111,17 @@ impl Line<'_> {
         self.number("expiry").to_be_bytes()
     }
 
+    /// A path's last accepted announce, violations and blocked-until.
+    fn rate(&self) -> (u64, u8, u64) {
+        let [last, violations, blocked] = ["last", "violations", "blocked"].map(|name| self.number_or_zero(name));
+        (last, violations.try_into().expect("a byte"), blocked)
+    }
+
+    fn rate_bytes(&self) -> Vec<u8> {
+        let (last, violations, blocked) = self.rate();
+        [&last.to_be_bytes()[..], &[violations], &blocked.to_be_bytes()].concat()
+    }
+
     /// A used record behind its mark.
     fn record(&self) -> Vec<u8> {
         if self.0[0] == "port" {
@@ -112,7 +134,8 @@ impl Line<'_> {
                 let from = self.0.iter().position(|word| *word == "blobs").expect("blobs") + 1;
                 let blobs: Vec<u8> = (from..self.0.len()).flat_map(|place| self.bytes_at(place)).collect();
                 let count = [(blobs.len() / 10) as u8];
-                [&key, &self.byte("port")[..], &self.byte("hops"), &self.bytes_at(8), &self.expiry(), &count, &blobs].concat()
+                let way = [&key, &self.byte("port")[..], &self.byte("hops"), &self.bytes_at(8), &self.expiry()].concat();
+                [&way, &self.rate_bytes()[..], &count, &blobs].concat()
             }
             "link" => {
                 let bytes = ["asking", "answering", "taken", "remaining", "proved"].map(|name| self.byte(name)[0]);
@@ -140,6 +163,17 @@ impl<'a> Written<'a> {
         self.all(kind).next().unwrap_or_else(|| panic!("no line of {kind}"))
     }
 
+    /// The announce rate, 0 in files of edition 1.
+    fn announce_rate(&self) -> AnnounceRate {
+        let setting = |name: &str| self.all("rate").next().map_or(0, |line| line.number(name));
+        AnnounceRate { target: setting("target"), grace: setting("grace"), penalty: setting("penalty") }
+    }
+
+    fn announce_rate_bytes(&self) -> Vec<u8> {
+        let AnnounceRate { target, grace, penalty } = self.announce_rate();
+        [target, grace, penalty].iter().flat_map(|setting| setting.to_be_bytes()[4..].to_vec()).collect()
+    }
+
     /// A table of so many places; a record has a mark before it, and zeros where it is unused.
     fn table(&self, kind: &'static str, count: usize, width: usize) -> Vec<u8> {
         let mut table = vec![0; count * width];
@@ -162,9 +196,10 @@ impl<'a> Written<'a> {
         [
             self.one("own").bytes_at(1),
             self.one("clock").number("clock").to_be_bytes().to_vec(),
+            self.announce_rate_bytes(),
             self.all("port").flat_map(Line::record).collect(),
             self.table("local", LOCAL_COUNT, 17),
-            self.table("path", PATH_COUNT, 204),
+            self.table("path", PATH_COUNT, 221),
             self.table("link", LINK_COUNT, 30),
             self.next_place("returns"),
             self.table("return", RETURN_COUNT, 27),
@@ -212,10 +247,12 @@ fn every_edition_answers() {
         let (relay, written) = (Relay::load(&file).unwrap(), Written::read(&text));
         let clock = relay.last_clock();
         assert_eq!(clock, written.one("clock").number("clock"));
+        assert_eq!(relay.announce_rate(), written.announce_rate());
         assert_eq!((relay.live_returns(clock), relay.live_hashes(clock)), (written.live("return", clock), written.live("hash", clock)));
         for line in written.all("path") {
             let path = relay.path(line.place()).expect("a path");
             assert_eq!((path.destination.to_vec(), path.expiry), (line.bytes_at(2), line.number("expiry")));
+            assert_eq!((path.last_announce, path.violations, path.blocked_until), line.rate());
         }
         for line in written.all("link") {
             let link = relay.link(line.place()).expect("a link");
@@ -237,9 +274,9 @@ fn no_edition_is_missing() {
 /// Text of another relay is seen: one change for each kind of line.
 #[test]
 fn a_damaged_text_is_seen() {
-    let text = pair("edition-1").1;
+    let text = pair(EDITIONS[EDITIONS.len() - 1]).1;
     let (whole, tally) = (Written::read(&text).tables(), Written::read(&text).tally());
-    for kind in ["own", "clock", "port", "local", "path", "link", "returns", "return", "hashes", "hash", "tally"] {
+    for kind in ["own", "clock", "rate", "port", "local", "path", "link", "returns", "return", "hashes", "hash", "tally"] {
         let line = text.lines().find(|line| line.starts_with(&format!("{kind} "))).expect(kind);
         let last = line.chars().last().expect("a word");
         let changed = format!("{}{}", &line[..line.len() - 1], if last == '1' { '0' } else { '1' });

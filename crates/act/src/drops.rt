@@ -1,4 +1,4 @@
-// Dropped packets: one that test 15 drops changes violations and blocked-until of its path, and no other writes a record.
+// Dropped packets: one that test 15 drops changes its path's violations and blocked-until, no other writes a record.
 use numbers::PATH_COUNT;
 use plan::Arrived;
 use rules::RateEntry;

@@ -41,7 +41,8 @@ module _ (a : Arrival) (good : badForm (a .bytes) ≡ false) (announce : isAnnou
       isLinkProof (a .bytes) and not (a .signed) then dropped NotSigned otherwise
       not (v .on (leavingPort a (along-link l))) then dropped PortOff otherwise
       follows (along-link l))
-  unfolding onwardPlan onwardTests firstOf noWayOn alreadyKnown followsProvedLink notSigned ofKnown replay notBetter rateLimited portOff noRoom _then_otherwise_ _and_ _or_
+  unfolding onwardPlan onwardTests firstOf noWayOn alreadyKnown followsProvedLink notSigned ofKnown replay notBetter rateLimited portOff noRoom
+      _then_otherwise_ _and_ _or_
   link-plan v l = rw (link-no-request a good kind, announce)
 
   module _ (r : Relay) where

@@ -21,3 +21,4 @@ pub mod Keepalives
 pub mod Chatty
 pub mod DeadPaths
 pub mod Lengths
+pub mod Reasons

@@ -1,6 +1,6 @@
 -- Document 02, Wish 4: what a file of saved tables holds, edition by edition. "Each body's layout is yours to fix, later fields too; write it down."
 -- A body is a section of the tables as the layout has it, the last one the tally (docs/LAYOUT.md). A later edition is one more line in `editions`,
--- and a field of `Edition` (tables/specs/Forms.antt) for each part of the layout that it has otherwise.
+-- and a field of `Edition` (tables/specs/Forms.antt) for each part of the layout that older ones have otherwise.
 use Prim.Native.Nat.{ℕ, _+_, _-_}
 use Prim.Native.String.{String}
 use mathlib.Core.Bool.{Bool, false}
@@ -74,25 +74,21 @@ abbrev pub widthsOf : {A : Type 0} → Form A → List String → ℕ
 widthsOf f [] = 0
 widthsOf f (k ∷ ks) = widthOf f k + widthsOf f ks
 
--- ---- an edition: the form of what its bodies hold, one after the other. It gives today's relay and tally: for a field that the edition lacks the form
--- says the value (`given`), for one with less room the rest (`firstsOf`)
-abbrev pub held : Edition → Form Held
-held e = relayFormIn e & field "tally" tallyForm
-
+-- ---- the editions, the oldest first: an edition's number is its place in this list, counted from 1. For a field that an edition lacks it says the
+-- value (`given`), for one with less room the rest (`firstsOf`)
 -- wish 5: "edition 1 and a fresh relay have settings and new fields at 0"
-abbrev pub edition1 : Form Held
-edition1 = held (record { rateSettings = given noRateSettings; rateEntry = given noRateEntry; pathMark = given false })
+abbrev pub edition1 : Edition
+edition1 = record { rateSettings = given noRateSettings; rateEntry = given noRateEntry; pathMark = given false }
 
 -- "Saved tables take edition 2"; wish 6: "older ones load unmarked"
-abbrev pub edition2 : Form Held
-edition2 = held (record { rateSettings = rateSettingsForm; rateEntry = rateEntryForm; pathMark = given false })
+abbrev pub edition2 : Edition
+edition2 = record { rateSettings = rateSettingsForm; rateEntry = rateEntryForm; pathMark = given false }
 
--- wish 6: "saved tables take edition 3"
-abbrev pub edition3 : Form Held
-edition3 = held today
+-- wish 6: "saved tables take edition 3": as the tables are
+abbrev pub edition3 : Edition
+edition3 = today
 
--- all editions, the oldest first: an edition's number is its place in this list, counted from 1
-abbrev pub editions : List (Form Held)
+abbrev pub editions : List Edition
 editions = edition1 ∷ edition2 ∷ edition3 ∷ []
 
 -- the current one is the last
@@ -102,8 +98,15 @@ currentEdition = length editions
 unfoldable pub isKnown : ℕ → Bool
 isKnown n = ltb 0 n and leb n currentEdition
 
+abbrev pub numbered : ℕ → Edition
+numbered n = getD editions (n - 1) edition1
+
+-- the form of what an edition's bodies hold, one after the other. It gives today's relay and tally
+abbrev pub held : Edition → Form Held
+held e = relayFormIn e & field "tally" tallyForm
+
 abbrev pub editionAt : ℕ → Form Held
-editionAt n = getD editions (n - 1) edition1
+editionAt n = held (numbered n)
 
 abbrev pub current : Form Held
 current = editionAt currentEdition

@@ -30,7 +30,7 @@ use Rattle.rules.proofs.Tables.{all-listOf, table-of, table-length, table-all}
 use Rattle.tables.specs.Forms.{rateSettingsForm, rateEntryForm, portForm, localForm, pathForm, linkForm, returnForm, hashForm, ringForm, relayForm}
 use Rattle.tables.specs.Places.{addressWidth, timeWidth, blobWidth, ringWidth, portWidth, localWidth, pathWidth, linkWidth, returnWidth, hashWidth, clockAt, portsAt, localsAt, pathsAt, linksAt, returnNextAt, returnsAt, hashNextAt, hashesAt, tableSize}
 use Rattle.tables.specs.Records.{portBytesOk, localBytesOk, pathBytesOk, linkBytesOk, returnBytesOk, hashBytesOk}
-use Rattle.tables.specs.Layout.{startOk, rateSettingsIn, recordsOk, relayOf, bytesOf, wellFormed}
+use Rattle.tables.specs.Layout.{startOk, rateSettingsIn, recordsOk, frontOk, backOk, relayOf, bytesOf, wellFormed}
 use Rattle.tables.specs.Shape.{isByte, isBytes, pathShaped, linkShaped, returnShaped, hashShaped, shaped}
 use Rattle.tables.proofs.Patches.{own-in, locals-in, paths-in, links-in, returns-in, hashes-in}
 use Rattle.tables.proofs.Shaped.{shaped-parts, shaped-from}
@@ -51,47 +51,51 @@ pub record Formed (t : List ℕ) : Type 0 where
   pub hash-next : ltb (number (part t hashNextAt ringWidth)) hashCount ≡ true
   pub hashes : recordsOk hashBytesOk hashesAt hashWidth hashCount t ≡ true
 
+-- ---- in the order in which the code tests them
+pub back-clauses : (t : List ℕ) (at : ℕ) → backOk t at
+    ≡ (recordsOk linkBytesOk at linkWidth linkCount t
+    and ltb (number (part t (at + linkWidth * linkCount) ringWidth)) returnCount
+    and recordsOk returnBytesOk (at + linkWidth * linkCount + ringWidth) returnWidth returnCount t
+    and ltb (number (part t (at + linkWidth * linkCount + (ringWidth + returnWidth * returnCount)) ringWidth)) hashCount
+    and recordsOk hashBytesOk (at + linkWidth * linkCount + (ringWidth + returnWidth * returnCount) + ringWidth) hashWidth hashCount t)
+unfolding backOk recordsOk linkBytesOk returnBytesOk hashBytesOk _and_
+back-clauses t at = rw (and-assoc (ltb (number (part t (at + linkWidth * linkCount) ringWidth)) returnCount))
+
 module _ (t : List ℕ) where
-  -- in the order in which the code tests them
   pub clauses : wellFormed t
-      ≡ (eqb (length t) tableSize
-      and startOk t
-      and recordsOk portBytesOk portsAt portWidth portCount t
-      and recordsOk localBytesOk localsAt localWidth localCount t
-      and recordsOk pathBytesOk pathsAt pathWidth pathCount t
-      and recordsOk linkBytesOk linksAt linkWidth linkCount t
-      and ltb (number (part t returnNextAt ringWidth)) returnCount
-      and recordsOk returnBytesOk returnsAt returnWidth returnCount t
-      and ltb (number (part t hashNextAt ringWidth)) hashCount
-      and recordsOk hashBytesOk hashesAt hashWidth hashCount t)
-  unfolding wellFormed startOk rateSettingsIn recordsOk portBytesOk localBytesOk pathBytesOk linkBytesOk returnBytesOk hashBytesOk _and_
+      ≡ (eqb (length t) tableSize and frontOk t and recordsOk pathBytesOk pathsAt pathWidth pathCount t and backOk t linksAt)
+  unfolding wellFormed frontOk startOk rateSettingsIn recordsOk backOk portBytesOk localBytesOk pathBytesOk _and_
   clauses =
-      rw (and-assoc (ltb (number (part t returnNextAt ringWidth)) returnCount), and-assoc (timeOk (number (part t clockAt timeWidth))))
+      rw (
+        and-assoc (timeOk (number (part t clockAt timeWidth)) and rateSettingsOk (rateSettingsIn t)),
+        and-assoc (timeOk (number (part t clockAt timeWidth))),
+        and-assoc (recordsOk portBytesOk portsAt portWidth portCount t),
+      )
 
   pub formed : wellFormed t ≡ true → Formed t
-  unfolding wellFormed startOk
+  unfolding wellFormed frontOk startOk
   formed h =
       let h1 = and-right _ _ (sym clauses ∙ h) in
-      let h2 = and-right _ _ h1 in
-      let h3 = and-right _ _ h2 in
-      let h4 = and-right _ _ h3 in
+      let front = and-left _ _ h1 in
+      let h2 = and-right _ _ front in
+      let h3 = and-right _ _ h1 in
+      let h4 = sym (back-clauses t linksAt) ∙ and-right _ _ h3 in
       let h5 = and-right _ _ h4 in
       let h6 = and-right _ _ h5 in
       let h7 = and-right _ _ h6 in
-      let h8 = and-right _ _ h7 in
       record {
         size = eqb-true (length t) tableSize (and-left _ _ h);
         fine = and-right _ _ h;
-        clock = and-left _ _ (and-left _ _ h1);
-        rate = and-right _ _ (and-left _ _ h1);
+        clock = and-left _ _ (and-left _ _ front);
+        rate = and-right _ _ (and-left _ _ front);
         ports = and-left _ _ h2;
-        locals = and-left _ _ h3;
-        paths = and-left _ _ h4;
-        links = and-left _ _ h5;
-        return-next = and-left _ _ h6;
-        returns = and-left _ _ h7;
-        hash-next = and-left _ _ h8;
-        hashes = and-right _ _ h8;
+        locals = and-right _ _ h2;
+        paths = and-left _ _ h3;
+        links = and-left _ _ h4;
+        return-next = and-left _ _ h5;
+        returns = and-left _ _ h6;
+        hash-next = and-left _ _ h7;
+        hashes = and-right _ _ h7;
       }
 
 -- ---- a relay that the layout can hold is one of the right shape that keeps the rules

@@ -168,6 +168,13 @@ Sections = List ℕ
 abbrev pub toRelay : Sections → Relay
 toRelay (own, (clock, (rate, (ports, (locals, (paths, (links, (returns, hashes)))))))) = makeRelay own clock rate ports locals paths links returns hashes
 
+-- what stands behind the paths: no edition has it otherwise
+abbrev pub backForm : Form (List (Slot Link) × (Ring Return × Ring Remembered))
+backForm =
+    field "links" (many linkCount empty (slot linkForm))
+    & field "returns" (ringForm returnCount returnForm)
+    & field "hashes" (ringForm hashCount hashForm)
+
 abbrev pub relayFormIn : Edition → Form Relay
 relayFormIn e =
     asRecord toRelay
@@ -180,9 +187,7 @@ relayFormIn e =
     & field "ports" (many portCount noPort portForm)
     & field "locals" (many localCount empty (slot localForm))
     & field "paths" (many pathCount empty (slot (pathFormIn e)))
-    & field "links" (many linkCount empty (slot linkForm))
-    & field "returns" (ringForm returnCount returnForm)
-    & field "hashes" (ringForm hashCount hashForm))
+    & backForm)
 
 abbrev pub relayForm : Form Relay
 relayForm = relayFormIn today

@@ -11,8 +11,10 @@ use Rattle.codes.specs.Form.{code}
 use Rattle.rules.specs.Relay.{Relay}
 use Rattle.rules.specs.Refusals.{timeOk, rateSettingsOk}
 use Rattle.rules.specs.declared.RateSettings.{RateSettings}
-use Rattle.tables.specs.Forms.{rateSettingsForm, relayForm}
-use Rattle.tables.specs.Places.{timeWidth, clockAt, rateAt, tableSize}
+use Rattle.numbers.specs.Numbers.{portCount, localCount}
+use Rattle.tables.specs.Forms.{rateSettingsForm, backForm, relayForm}
+use Rattle.tables.specs.Places.{timeWidth, portWidth, localWidth, clockAt, rateAt, portsAt, localsAt, tableSize}
+use Rattle.tables.specs.Records.{portBytesOk, localBytesOk}
 
 unfoldable pub relayOf : List ℕ → Relay
 relayOf t = code relayForm .read t 0
@@ -43,3 +45,13 @@ rows recordOf at width n t = listOf (λ i. recordOf (recordAt at width t i)) n
 -- each of a section's n records keeps row 7
 unfoldable pub recordsOk : (List ℕ → Bool) → ℕ → ℕ → ℕ → List ℕ → Bool
 recordsOk ok at width n t = allBelow (λ i. ok (recordAt at width t i)) n
+
+-- the sections before the paths; and those behind them, which stand from `at` on
+unfoldable pub frontOk : List ℕ → Bool
+frontOk t =
+    startOk t
+    and recordsOk portBytesOk portsAt portWidth portCount t
+    and recordsOk localBytesOk localsAt localWidth localCount t
+
+unfoldable pub backOk : List ℕ → ℕ → Bool
+backOk t at = code backForm .fine t at

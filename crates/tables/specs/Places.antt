@@ -3,7 +3,7 @@ use mathlib.Core.Path.{_≡_, refl}
 use Prim.Native.Nat.{ℕ, _+_}
 use Rattle.codes.specs.Form.{slot, code, placeOf}
 use Rattle.numbers.specs.Numbers.{returnCount, hashCount}
-use Rattle.tables.specs.Forms.{portForm, localForm, pathForm, linkForm, returnForm, hashForm, ringForm, relayForm}
+use Rattle.tables.specs.Forms.{portForm, localForm, pathForm, linkForm, returnForm, hashForm, ringForm, backForm, relayForm}
 pub use Rattle.tables.specs.Forms.{addressWidth, digestWidth, timeWidth, blobWidth, ringWidth, settingWidth}
 
 -- ---- widths, in bytes. A record's first byte is its mark
@@ -59,6 +59,10 @@ hashNextAt = placeOf relayForm "hashes"
 
 abbrev pub hashesAt : ℕ
 hashesAt = hashNextAt + placeOf (ringForm hashCount hashForm) "slots"
+
+-- all behind the paths: links, returns and hashes
+abbrev pub backWidth : ℕ
+backWidth = code backForm .width
 
 abbrev pub tableSize : ℕ
 tableSize = code relayForm .width

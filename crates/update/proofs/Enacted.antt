@@ -78,7 +78,8 @@ module _ (v : View) (a : Arrival) (t : List ℕ) (b : Bytes t) (h : wellFormed t
     announced-as known set-by =
         rw (set-by .destination-is, set-by .port-is, set-by .hops-are, set-by .next-hop-is, set-by .expiry-is, set-by .rate-is)
 
-    pub new-path-written : Announces v a empty x added → (u : List ℕ) → slot ≡ freePath (a .clock) before → u ≡ pathWritten t slot (announced x (oneBlob blobLimit added))
+    pub new-path-written : Announces v a empty x added → (u : List ℕ) → slot ≡ freePath (a .clock) before
+        → u ≡ pathWritten t slot (announced x (oneBlob blobLimit added))
         → u ≡ bytesOf (writeWay v a (everywhere empty) before)
     unfolding writeWay putPath announcedPlace announcedBlobs
     new-path-written set-by u free e =
@@ -86,7 +87,8 @@ module _ (v : View) (a : Arrival) (t : List ℕ) (b : Bytes t) (h : wellFormed t
         ∙ ap₂ (λ (k : ℕ) (p : Path). bytesOf (withPaths (set (before .paths) k (used p)) before)) free
         (ap (λ (y : List ℕ). announced x (oneBlob blobLimit y)) (set-by .blob-is) ∙ announced-as empty set-by)
 
-    pub known-path-written : (p : Path) → Announces v a (used p) x added → (u : List ℕ) → slot ≡ pathPlace (a .clock) before (destination a) → getD (before .paths) slot empty ≡ used p
+    pub known-path-written : (p : Path) → Announces v a (used p) x added → (u : List ℕ) → slot ≡ pathPlace (a .clock) before (destination a)
+        → getD (before .paths) slot empty ≡ used p
         → u ≡ pathWritten t slot (announced x (storeBlob blobLimit added (blobsOf (recordAt pathsAt pathWidth t slot))))
         → u ≡ bytesOf (writeWay v a (everywhere (used p)) before)
     unfolding writeWay putPath announcedPlace announcedBlobs

@@ -3,6 +3,7 @@
 use crate::answer::Tally;
 use crate::packet::Address;
 use crate::relay::asking::Question;
+use crate::tables::AnnounceRate;
 use std::fmt;
 use std::str::FromStr;
 
@@ -28,6 +29,7 @@ pub enum Call {
         on: bool,
         mode: u64,
     },
+    SetAnnounceRate(AnnounceRate),
     AddLocal(Address),
     RemoveLocal(Address),
     Renumber([u8; 16]),
@@ -72,6 +74,8 @@ pub enum Call {
         bytes: Vec<u8>,
     },
     ResizeFile(usize),
+    /// Makes of the kept file what a program of an older edition would have saved.
+    AgeFile(u8),
     Tally(Tally),
 }
 
@@ -83,7 +87,7 @@ impl Call {
 
     /// Does it save, load, or change a kept file?
     fn is_of_files(&self) -> bool {
-        matches!(self, Call::Save { .. } | Call::Load | Call::WriteFile { .. } | Call::ResizeFile(_))
+        matches!(self, Call::Save { .. } | Call::Load | Call::WriteFile { .. } | Call::ResizeFile(_) | Call::AgeFile(_))
     }
 
     /// Does it only ask?
@@ -118,6 +122,7 @@ impl fmt::Display for Asked<'_> {
             Question::LiveReturns(clock) => write!(f, "returns at {clock}"),
             Question::LiveHashes(clock) => write!(f, "hashes at {clock}"),
             Question::LastClock => f.write_str("clock"),
+            Question::AnnounceRate => f.write_str("announce rate"),
         }
     }
 }
@@ -130,6 +135,9 @@ impl fmt::Display for Call {
                 write!(f, "packet port {port} clock {clock} signature {signature} output {output} of {fill:02x} {}", Digits(packet))
             }
             Call::SetPort { port, on, mode } => write!(f, "set port {port} on {on} mode {mode}"),
+            Call::SetAnnounceRate(AnnounceRate { target, grace, penalty }) => {
+                write!(f, "set announce rate target {target} grace {grace} penalty {penalty}")
+            }
             Call::AddLocal(address) => write!(f, "add local {}", Digits(address)),
             Call::RemoveLocal(address) => write!(f, "remove local {}", Digits(address)),
             Call::Renumber(map) => write!(f, "renumber {}", Digits(map)),
@@ -144,6 +152,7 @@ impl fmt::Display for Call {
             Call::Resize(length) => write!(f, "resize to {length}"),
             Call::WriteFile { at, bytes } => write!(f, "write file at {at} {}", Digits(bytes)),
             Call::ResizeFile(length) => write!(f, "resize file to {length}"),
+            Call::AgeFile(edition) => write!(f, "age file to {edition}"),
             Call::Tally([total, dropped, delivered, forwarded, spread, kept]) => {
                 write!(f, "tally {total} {dropped} {delivered} {forwarded} {spread} {kept}")
             }
@@ -177,6 +186,9 @@ fn call_of(words: &[&str]) -> Option<Call> {
         ["set", "port", port, "on", on, "mode", mode] => {
             Call::SetPort { port: port.parse().ok()?, on: on.parse().ok()?, mode: mode.parse().ok()? }
         }
+        ["set", "announce", "rate", "target", target, "grace", grace, "penalty", penalty] => {
+            Call::SetAnnounceRate(AnnounceRate { target: target.parse().ok()?, grace: grace.parse().ok()?, penalty: penalty.parse().ok()? })
+        }
         ["add", "local", address] => Call::AddLocal(array_of(address)?),
         ["remove", "local", address] => Call::RemoveLocal(array_of(address)?),
         ["renumber", map] => Call::Renumber(array_of(map)?),
@@ -202,6 +214,7 @@ fn edit_of(words: &[&str]) -> Option<Call> {
         ["resize", "to", length] => Call::Resize(length.parse().ok()?),
         ["write", "file", "at", at, bytes] => Call::WriteFile { at: at.parse().ok()?, bytes: bytes_of(bytes)? },
         ["resize", "file", "to", length] => Call::ResizeFile(length.parse().ok()?),
+        ["age", "file", "to", edition] => Call::AgeFile(edition.parse().ok()?),
         ["tally", counters @ ..] => {
             let counters: Option<Vec<u32>> = counters.iter().map(|counter| counter.parse().ok()).collect();
             Call::Tally(counters?.try_into().ok()?)
@@ -220,6 +233,7 @@ fn question_of(words: &[&str]) -> Option<Question> {
         ["returns", "at", clock] => Question::LiveReturns(clock.parse().ok()?),
         ["hashes", "at", clock] => Question::LiveHashes(clock.parse().ok()?),
         ["clock"] => Question::LastClock,
+        ["announce", "rate"] => Question::AnnounceRate,
         _ => return None,
     })
 }

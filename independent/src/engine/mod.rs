@@ -1,23 +1,26 @@
 //! What makes calls on a relay: the independent relay, and in `linked` the proved core.
 
 mod announcing;
+mod answers;
 mod call;
 mod packets;
 mod recordings;
 mod saved;
 
 pub use announcing::AnnounceCalls;
+pub use answers::{decoded, encoded, AnswerCalls};
 pub use call::{Call, PacketCall};
 pub use packets::PacketCalls;
 pub use recordings::{Fields, RecordingCalls};
 pub use saved::SavedCalls;
 
 use crate::answer::{Answer, Refusal, Tally};
+use crate::files::aged;
 use crate::packet::Address;
 use crate::relay::asking::{self, Question};
 use crate::relay::{settings, Arrival, Relay};
 use crate::rules::Rules;
-use crate::tables;
+use crate::tables::{self, AnnounceRate};
 
 /// What a call returns.
 #[derive(Clone, Copy, Debug, PartialEq, Eq)]
@@ -52,11 +55,12 @@ impl From<Result<bool, Refusal>> for Outcome {
 }
 
 /// The calls on a relay, over bytes that the caller owns.
-pub trait Engine: SavedCalls {
+pub trait Engine: SavedCalls + AnswerCalls {
     /// A fresh relay and its tally of zeros.
     fn fresh(&mut self, tables: &mut [u8], tally: &mut Tally, own: &Address) -> Outcome;
     fn packet(&mut self, tables: &mut [u8], tally: &mut Tally, output: &mut [u8], arrival: &Arrival) -> Outcome;
     fn set_port(&mut self, tables: &mut [u8], port: u64, on: bool, mode: u64) -> Outcome;
+    fn set_announce_rate(&mut self, tables: &mut [u8], rate: &AnnounceRate) -> Outcome;
     fn add_local(&mut self, tables: &mut [u8], address: &Address) -> Outcome;
     fn remove_local(&mut self, tables: &mut [u8], address: &Address) -> Outcome;
     fn renumber(&mut self, tables: &mut [u8], map: &[u8; 16]) -> Outcome;
@@ -83,6 +87,10 @@ impl<R: Rules> Engine for Relay<R> {
 
     fn set_port(&mut self, tables: &mut [u8], port: u64, on: bool, mode: u64) -> Outcome {
         self.rules.set_port(tables, port, on, mode).into()
+    }
+
+    fn set_announce_rate(&mut self, tables: &mut [u8], rate: &AnnounceRate) -> Outcome {
+        self.rules.set_announce_rate(tables, rate).into()
     }
 
     fn add_local(&mut self, tables: &mut [u8], address: &Address) -> Outcome {
@@ -145,6 +153,7 @@ impl<E: Engine> Run<E> {
                 self.engine.packet(tables, &mut self.tally, &mut self.output, &arrival)
             }
             Call::SetPort { port, on, mode } => self.engine.set_port(tables, *port, *on, *mode),
+            Call::SetAnnounceRate(rate) => self.engine.set_announce_rate(tables, rate),
             Call::AddLocal(address) => self.engine.add_local(tables, address),
             Call::RemoveLocal(address) => self.engine.remove_local(tables, address),
             Call::Renumber(map) => self.engine.renumber(tables, map),
@@ -205,6 +214,7 @@ impl<E: Engine> Run<E> {
             Call::Resize(length) => self.tables.resize(*length, 0),
             Call::WriteFile { at, bytes } if ends(*at, bytes.len(), file) => self.file[*at..*at + bytes.len()].copy_from_slice(bytes),
             Call::ResizeFile(length) => self.file.resize(*length, 0),
+            Call::AgeFile(edition) => self.file = aged(&self.file, *edition),
             Call::Tally(tally) => self.tally = *tally,
             _ => {}
         }

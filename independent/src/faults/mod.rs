@@ -12,6 +12,8 @@ mod judging;
 mod links;
 mod outgoing;
 mod packets;
+mod rates;
+mod reasons;
 mod recordings;
 mod renumbering;
 mod returns;
@@ -30,6 +32,8 @@ pub use judging::*;
 pub use links::*;
 pub use outgoing::*;
 pub use packets::*;
+pub use rates::*;
+pub use reasons::*;
 pub use recordings::*;
 pub use renumbering::*;
 pub use returns::*;
@@ -71,10 +75,12 @@ const OF_JUDGING: &[&[Fault]] = &[
     judging::FAULTS,
     exempt::FAULTS,
     announces::FAULTS,
+    rates::FAULTS,
     by_path::FAULTS,
     links::FAULTS,
     returns::FAULTS,
     outgoing::FAULTS,
+    reasons::FAULTS,
     asking::FAULTS,
 ];
 

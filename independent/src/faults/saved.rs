@@ -1,14 +1,14 @@
 //! Wish 4: the file of saved tables, saving and loading.
 
 use super::{faults, Changes, Fault};
+use crate::files::contents_of;
 use crate::limits::CLOCK_LIMIT;
 use crate::recording::{count, number, LONGEST_FILE};
 use crate::rules::*;
 use crate::saved::editions::CURRENT;
 use crate::saved::{contents, BODIES, CONTENTS, LENGTH, TALLY};
 use crate::tables::{blobs, is_used, last_clock, path, set_last_clock, set_ring_place, BLOB, OWN, SIZE};
-use crate::tables::{HASHES, HASH_PLACE, LINKS, PATHS, RETURNS, RETURN_PLACE};
-use crate::traffic::saved::contents_of;
+use crate::tables::{HASHES, HASH_PLACE, LINKS, PATHS, RATE, RETURNS, RETURN_PLACE};
 
 /// Saves other tables than those that are given.
 fn put_others(tables: &[u8], tally: &Tally, room: &mut [u8], other: impl Fn(&mut [u8])) {
@@ -94,6 +94,27 @@ faults! {
             file.iter_mut().skip(1).take(1).for_each(|edition| *edition = CURRENT.min(*edition));
             loading::load(rules, &file, tables, tally)
         },
+    }
+    OlderEditionRefused: "an older edition is refused by 21"
+    breaks "edition 1 and a fresh relay have settings and new fields at 0." {
+        saved_kind_refused = |_, file| loading::saved_kind_refused(file) || file[1] < CURRENT,
+    }
+    OlderRateStays: "a file of edition 1 leaves the announce rate as it was"
+    breaks "edition 1 and a fresh relay have settings and new fields at 0." {
+        put_loaded = |_, file, tables, tally| put_but(file, tables, tally, |before, tables| {
+            if file[1] == 1 {
+                tables[RATE.bytes()].copy_from_slice(&before[RATE.bytes()]);
+            }
+        }),
+    }
+    OlderPathsAnnouncedNow: "the paths of a file of edition 1 were last announced at its last clock"
+    breaks "edition 1 and a fresh relay have settings and new fields at 0." {
+        put_loaded = |_, file, tables, tally| put_but(file, tables, tally, |_, tables| {
+            let last = last_clock(tables);
+            for path in PATHS.records.iter_mut(tables).filter(|path| file[1] == 1 && is_used(path)) {
+                RateEntry { last, ..RateEntry::read(path) }.write(path);
+            }
+        }),
     }
     RecordingLoaded: "a file of kind 1 is loaded"
     breaks "Save and load in the recordings' shape with kind byte 2" {

@@ -6,14 +6,22 @@ use crate::tables::{Section, HASHES, HASH_PLACE, LINKS, LOCALS, PATHS, PORTS, RE
 use std::borrow::Cow;
 
 /// A field that an edition adds to every record of a body: where it stands there, and what it is where it was not saved yet.
-struct Added {
-    body: usize,
-    at: usize,
-    unsaved: &'static [u8],
+pub struct Added {
+    pub body: usize,
+    pub at: usize,
+    pub unsaved: &'static [u8],
 }
 
-/// What each edition adds to the one before; the first is edition 1.
-const EDITIONS: &[&[Added]] = &[&[]];
+/// What each edition adds to the one before.
+pub const EDITIONS: &[&[Added]] = &[
+    // 1
+    &[],
+    // 2: "edition 1 and a fresh relay have settings and new fields at 0."
+    &[Added { body: OWN, at: 24, unsaved: &[0; 12] }, Added { body: PATH, at: 43, unsaved: &[0; 17] }],
+];
+/// The places of the bodies whose records grow.
+const OWN: usize = 0;
+const PATH: usize = 3;
 /// The edition that is saved.
 pub const CURRENT: u8 = EDITIONS.len() as u8;
 
@@ -43,6 +51,11 @@ const ALL: [Body; BODIES] = [
     ring(HASH_PLACE, &HASHES.records),
     Body { head: 0, count: 1, width: TALLY },
 ];
+
+/// The bytes before a body's records, and how many it has.
+pub fn records(body: usize) -> (usize, usize) {
+    (ALL[body].head, ALL[body].count)
+}
 
 /// The fields of a body that later editions added, the earlier first.
 fn added_later(edition: u8, body: usize) -> impl Iterator<Item = &'static Added> {
@@ -91,8 +104,9 @@ mod tests {
     /// What docs/LAYOUT.md says of each edition.
     #[test]
     fn the_bodies_are_the_drawn_ones() {
-        assert_eq!(CURRENT, 1);
+        assert_eq!(CURRENT, 2);
         assert_eq!(lengths(1), [24, 32, 272, 13_056, 1_920, 13_826, 41_986, 24]);
-        assert_eq!(super::super::LENGTH, 71_192);
+        assert_eq!(lengths(2), [36, 32, 272, 14_144, 1_920, 13_826, 41_986, 24]);
+        assert_eq!(super::super::LENGTH, 72_292);
     }
 }

@@ -78,7 +78,8 @@ impl<I: Iterator<Item = Call>> Asking<I> {
             4 => self.live_path(),
             5 => Question::LiveReturns(self.clock(&[RETURN_LIFETIME])),
             6 => Question::LiveHashes(self.clock(&[HASH_LIFETIME])),
-            _ => Question::LastClock,
+            7 => Question::LastClock,
+            _ => Question::AnnounceRate,
         };
         let fill = self.random.word() as u8;
         self.queue.push_back(Call::Ask { question, fill });

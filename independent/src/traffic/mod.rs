@@ -7,7 +7,9 @@ mod data;
 mod exempt;
 mod lent;
 mod links;
-pub mod saved;
+mod rates;
+mod reasons;
+mod saved;
 mod settings;
 
 pub use asking::Asking;
@@ -18,6 +20,7 @@ use crate::packet::{announced, hash, Address, Blob, Header, PacketHash, Parts};
 use crate::random::Random;
 use crate::rules::AsWritten;
 use crate::sha256::Sha256;
+use crate::tables::{AnnounceRate, RateEntry};
 use std::collections::VecDeque;
 
 /// Somebody who announces: its keys and name, what it sent, and the path that a relay should have to it.
@@ -32,6 +35,7 @@ struct Station {
     port: u8,
     hops: u8,
     expiry: u64,
+    rate: RateEntry,
 }
 
 /// A link that was asked for.
@@ -67,6 +71,7 @@ struct World {
     clock: u64,
     /// The longest time between two episodes.
     pace: u64,
+    rate: AnnounceRate,
     ports: [Port; 16],
     stations: Vec<Station>,
     locals: Vec<Address>,
@@ -107,6 +112,9 @@ const EPISODES: &[(usize, Episode)] = &[
     (3, Traffic::announce_local),
     (2, Traffic::announce_crowd),
     (2, Traffic::path_edge),
+    (8, Traffic::chatter),
+    (4, Traffic::refused_rate),
+    (12, Traffic::lent_chatter),
     (25, Traffic::data_by_path),
     (8, Traffic::data_lost),
     (6, Traffic::data_local),
@@ -131,11 +139,14 @@ const EPISODES: &[(usize, Episode)] = &[
     (5, Traffic::local_calls),
     (1, Traffic::locals_full),
     (12, Traffic::renumbering),
-    (44, Traffic::refused_packet),
-    (12, Traffic::lent_tables),
+    (54, Traffic::refused_packet),
+    (14, Traffic::lent_tables),
+    (4, Traffic::bad_forms),
+    (12, Traffic::lent_reasons),
     (4, Traffic::save_and_load),
     (2, Traffic::load_again),
-    (16, Traffic::load_refused),
+    (3, Traffic::load_older),
+    (20, Traffic::load_refused),
     (6, Traffic::load_changed),
 ];
 
@@ -304,6 +315,7 @@ impl World {
             own: random.array(),
             clock: random.pick(&[0, 1, 1_000, 1_700_000_000, CLOCK_LIMIT - 2_000_000, CLOCK_LIMIT - 100_000]),
             pace: random.pick(&[0, 1, 1, 5, 5, 40, 300, 4_000]),
+            rate: rates::OFF,
             ports: std::array::from_fn(|_| Port { on: false, mode: 0 }),
             stations: (0..stations).map(|_| Station::new(random, sha)).collect(),
             locals: Vec::new(),
@@ -320,7 +332,7 @@ impl Station {
         let name_hash = random.array();
         let address = announced::destination(sha, &keys, &name_hash);
         let emission = 1_000 + random.below(1_700_000_000) as u64;
-        Self { keys, name_hash, address, blobs: Vec::new(), emission, port: 0, hops: 0, expiry: 0 }
+        Self { keys, name_hash, address, blobs: Vec::new(), emission, port: 0, hops: 0, expiry: 0, rate: RateEntry::default() }
     }
 }
 

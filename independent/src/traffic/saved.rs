@@ -1,24 +1,12 @@
 //! Wish 4: saves and loads among other calls: of the relay's own file, of an earlier relay's, of damaged ones, into tables of another size.
 
-use super::Traffic;
+use super::{rates, Traffic};
 use crate::engine::Call;
+use crate::files::contents_of;
 use crate::recording::COUNT;
 use crate::saved::editions::{lengths, CURRENT};
-use crate::saved::{contents, entry, BODIES, CONTENTS, KIND, LENGTH, TALLY};
-use crate::tables::SIZE;
-
-/// The contents of a file whose bodies have these lengths.
-pub fn contents_of(edition: u8, lengths: &[usize]) -> Vec<u8> {
-    let mut bytes = vec![KIND, edition];
-    bytes.extend((lengths.len() as u16).to_be_bytes());
-    let mut offset = contents(lengths.len());
-    for length in lengths {
-        bytes.extend((offset as u32).to_be_bytes());
-        bytes.extend((*length as u16).to_be_bytes());
-        offset += length;
-    }
-    bytes
-}
+use crate::saved::{contents, entry, BODIES, CONTENTS, LENGTH, TALLY};
+use crate::tables::{RateEntry, SIZE};
 
 impl Traffic {
     fn save_into(&mut self, room: usize) {
@@ -83,6 +71,23 @@ impl Traffic {
         }
         self.load();
         self.some_packets();
+    }
+
+    /// Loads the relay's file as an older program would have saved it: fields that it hadn't are 0.
+    pub(super) fn load_older(&mut self) {
+        if !self.files {
+            return;
+        }
+        self.save();
+        let edition = self.random.pick(&[1, CURRENT - 1]);
+        self.queue.push_back(Call::AgeFile(edition));
+        self.queue.push_back(Call::Load);
+        self.saved = None;
+        self.world.rate = rates::OFF;
+        self.world.stations.iter_mut().for_each(|station| station.rate = RateEntry::default());
+        for _ in 0..1 + self.random.below(3) {
+            self.some_packets();
+        }
     }
 
     /// A load that is refused: by 20, 21 or 22, by the bodies' lengths, or by the size of the tables that are lent; and a save by its room.

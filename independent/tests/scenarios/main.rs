@@ -9,6 +9,8 @@ mod host;
 mod keepalives;
 mod links;
 mod packets;
+mod rates;
+mod reasons;
 mod recordings;
 mod renumbering;
 mod returns;

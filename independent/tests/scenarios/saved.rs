@@ -1,10 +1,11 @@
 //! Saved tables: document 02's Wish 4.
 
-use crate::host::{announce, to_station, type_1, Host, OWN};
-use haskumye_independent::answer::{Reason, Tally, Verdict};
+use crate::host::{announce, lost, to_station, type_1, Host, OWN};
+use haskumye_independent::answer::{NoWay, Tally};
 use haskumye_independent::engine::Outcome;
 use haskumye_independent::limits::LATEST;
-use haskumye_independent::tables::{link, path, HASHES, HASH_PLACE, LAST_CLOCK, LINKS, PATHS, PORTS, RETURNS, RETURN_PLACE, SIZE};
+use haskumye_independent::tables::{link, path, AnnounceRate, HASHES, HASH_PLACE, LAST_CLOCK, LINKS, PATHS, PORTS};
+use haskumye_independent::tables::{RATE, RETURNS, RETURN_PLACE, SIZE};
 
 crate::on_both_programs!(
     a_file_to_the_byte(TallyReversed),
@@ -27,12 +28,26 @@ crate::on_both_programs!(
     what_the_tables_held_is_not_read(LoadingRoomRead),
     a_refused_load_changes_nothing(LoadedBeforeChecked),
     the_relay_goes_on_from_what_was_loaded(LaterClockKept),
+    edition_1_has_no_announce_rate(OlderRateStays),
+    paths_of_edition_1(OlderPathsAnnouncedNow),
+    other_lengths_of_edition_1(OlderEditionRefused),
 );
 
 /// Offset and length of the bodies, as docs/LAYOUT.md has them.
-const BODIES: [(usize, usize); 8] =
-    [(52, 24), (76, 32), (108, 272), (380, 13_056), (13_436, 1_920), (15_356, 13_826), (29_182, 41_986), (71_168, 24)];
-const LENGTH: usize = 71_192;
+const BODIES: [(usize, usize); 8] = [
+    (52, 36), // own address, last clock, announce rate
+    (88, 32),
+    (120, 272),
+    (392, 14_144),
+    (14_536, 1_920),
+    (16_456, 13_826),
+    (30_282, 41_986),
+    (TALLY_AT, 24),
+];
+const EDITION: u8 = 2;
+const PORTS_AT: usize = 88;
+const TALLY_AT: usize = 72_268;
+const LENGTH: usize = 72_292;
 const TALLY: Tally = [0x0102_0304, 1, 2, 3, 4, u32::MAX];
 
 fn save(host: &Host, room: usize) -> (u64, Vec<u8>) {
@@ -68,9 +83,9 @@ fn load_changed(host: &Host, file: &[u8], writes: &[(usize, &[u8])]) -> u8 {
     load(host, &file)
 }
 
-/// The contents of a file of edition 1 whose bodies have these lengths.
+/// The contents of a file of this edition whose bodies have these lengths.
 fn contents(lengths: &[usize]) -> Vec<u8> {
-    let mut bytes = vec![2, 1, 0, lengths.len() as u8];
+    let mut bytes = vec![2, EDITION, 0, lengths.len() as u8];
     let mut offset = 4 + 6 * lengths.len();
     for length in lengths {
         bytes.extend((offset as u32).to_be_bytes());
@@ -86,12 +101,12 @@ fn a_file_to_the_byte(host: &mut Host) {
     host.tally = TALLY;
     let (number, room) = save(host, LENGTH + 3);
     assert_eq!(number, (LENGTH as u64) << 16);
-    assert_eq!(room[..4], [2, 1, 0, 8]);
+    assert_eq!(room[..4], [2, EDITION, 0, 8]);
     for (entry, (offset, length)) in room[4..52].chunks_exact(6).zip(BODIES) {
         assert_eq!(entry, [&(offset as u32).to_be_bytes()[..], &(length as u16).to_be_bytes()].concat());
     }
-    assert!(room[52..71_168] == host.tables);
-    assert_eq!(room[71_168..LENGTH], [1, 2, 3, 4, 0, 0, 0, 1, 0, 0, 0, 2, 0, 0, 0, 3, 0, 0, 0, 4, 255, 255, 255, 255]);
+    assert!(room[52..TALLY_AT] == host.tables);
+    assert_eq!(room[TALLY_AT..LENGTH], [1, 2, 3, 4, 0, 0, 0, 1, 0, 0, 0, 2, 0, 0, 0, 3, 0, 0, 0, 4, 255, 255, 255, 255]);
     assert_eq!(room[LENGTH..], [0xee; 3]);
 }
 
@@ -121,7 +136,7 @@ fn expired_records_and_ring_places(host: &mut Host) {
     assert_eq!(file[52 + RETURNS.records.start], 1);
     assert_eq!(file[52 + RETURN_PLACE..][..2], [0, 1]);
     assert_eq!(file[52 + HASH_PLACE..][..2], [0, 3]);
-    assert!(file[52..71_168] == host.tables);
+    assert!(file[52..TALLY_AT] == host.tables);
 }
 
 fn refusals_of_a_save_come_in_order(host: &mut Host) {
@@ -150,28 +165,28 @@ fn room_for_a_save(host: &mut Host) {
 /// Each beside faults of all later ones.
 fn refusals_of_a_load_come_in_order(host: &mut Host) {
     let mut file = saved(host);
-    file[76] = 2;
+    file[PORTS_AT] = 2;
     file[10] ^= 1;
-    file[1] = 2;
+    file[1] = EDITION + 1;
     file.push(0);
     let load = |file: &[u8]| host.program.load(file, &mut vec![0; SIZE - 1], &mut [0; 6]);
     assert_eq!(load(&file), 20);
     file.pop();
     assert_eq!(load(&file), 21);
-    file[1] = 1;
+    file[1] = EDITION;
     assert_eq!(load(&file), 22);
     file[10] ^= 1;
     assert_eq!(load(&file), 24);
-    file[76] = 1;
+    file[PORTS_AT] = 1;
     assert_eq!(load(&file), 25);
 }
 
 fn places_before_bodies(host: &mut Host) {
     let file = saved(host);
-    assert_eq!(load_changed(host, &file, &[(76, &[2])]), 24);
-    assert_eq!(load_changed(host, &file, &[(76, &[2]), (7, &[53])]), 22);
-    let eight = [24, 32, 272, 13_056, 1_920, 13_826, 41_986, 24];
-    let other = [&contents(&eight[..7])[..], &vec![255; 71_116]].concat();
+    assert_eq!(load_changed(host, &file, &[(PORTS_AT, &[2])]), 24);
+    assert_eq!(load_changed(host, &file, &[(PORTS_AT, &[2]), (7, &[53])]), 22);
+    let lengths = BODIES.map(|(_, length)| length);
+    let other = [&contents(&lengths[..7])[..], &vec![255; SIZE]].concat();
     assert_eq!(load(host, &other), 22);
 }
 
@@ -210,7 +225,7 @@ fn other_counts(host: &mut Host) {
     let mut lengths: Vec<usize> = BODIES.iter().map(|(_, length)| *length).collect();
     lengths.push(0);
     assert_eq!(load(host, &[&contents(&lengths)[..], &file[52..]].concat()), 22);
-    assert_eq!(load(host, &[&contents(&lengths[..7])[..], &file[52..71_168]].concat()), 22);
+    assert_eq!(load(host, &[&contents(&lengths[..7])[..], &file[52..TALLY_AT]].concat()), 22);
 }
 
 fn kinds_and_editions(host: &mut Host) {
@@ -224,7 +239,7 @@ fn kinds_and_editions(host: &mut Host) {
 
 fn newer_editions(host: &mut Host) {
     let file = saved(host);
-    for edition in [2, 3, 128, 255] {
+    for edition in [EDITION + 1, EDITION + 2, 128, 255] {
         assert_eq!(load_changed(host, &file, &[(1, &[edition])]), 21);
     }
 }
@@ -288,8 +303,8 @@ fn every_clause_of_refusal_7(host: &mut Host) {
 
 fn any_own_address_and_tally(host: &mut Host) {
     let file = saved(host);
-    assert_eq!(load_changed(host, &file, &[(52, &[0; 16]), (71_168, &[255; 24])]), 0);
-    assert_eq!(load_changed(host, &file, &[(52, &[255; 16]), (71_171, &[1])]), 0);
+    assert_eq!(load_changed(host, &file, &[(52, &[0; 16]), (TALLY_AT, &[255; 24])]), 0);
+    assert_eq!(load_changed(host, &file, &[(52, &[255; 16]), (TALLY_AT + 3, &[1])]), 0);
 }
 
 fn tables_of_another_size(host: &mut Host) {
@@ -322,12 +337,53 @@ fn the_relay_goes_on_from_what_was_loaded(host: &mut Host) {
     let packet = type_1(0, 0, [9; 16], 0, b"x");
     host.verdict(&type_1(0, 0, [9; 16], 0, b"before"), 0, 10);
     let file = saved(host);
-    assert_eq!(host.verdict(&packet, 0, 50), Verdict::Drop(Reason::NoWayOn));
+    assert_eq!(host.verdict(&packet, 0, 50), lost(NoWay::NotAsking));
     host.set_port(0, false, 0);
     assert_eq!(host.program.load(&file, &mut host.tables, &mut host.tally), 0);
     assert_eq!(host.tally, [1, 1, 0, 0, 0, 0]);
     assert_eq!(host.tables[..24], [&OWN[..], &10u64.to_be_bytes()].concat());
     assert_eq!(host.call(&packet, 0, 9, true), Outcome::Refused(5));
-    assert_eq!(host.verdict(&packet, 0, 10), Verdict::Drop(Reason::NoWayOn));
+    assert_eq!(host.verdict(&packet, 0, 10), lost(NoWay::NotAsking));
     assert_eq!(host.tally, [2, 2, 0, 0, 0, 0]);
+}
+
+/// What the program of edition 1 saved.
+const EDITION_1: &[u8] = include_bytes!("../../../tests/saved/edition-1.saved");
+
+/// The tables of edition 1's file, loaded into tables that had an announce rate.
+fn loaded_1(host: &mut Host) -> &[u8] {
+    let rate = AnnounceRate { target: 60, grace: 3, penalty: 10 };
+    assert_eq!(host.program.set_announce_rate(&mut host.tables, &rate), Outcome::Done);
+    assert_eq!(host.program.load(EDITION_1, &mut host.tables, &mut host.tally), 0);
+    &host.tables
+}
+
+/// All else is in the file, byte for byte.
+fn edition_1_has_no_announce_rate(host: &mut Host) {
+    let tables = loaded_1(host);
+    assert_eq!(tables[..24], EDITION_1[52..76]);
+    assert_eq!(tables[RATE.bytes()], [0; 12]);
+    assert!(tables[PORTS.start..PATHS.records.start] == EDITION_1[76..380]);
+    assert!(tables[LINKS.records.start..] == EDITION_1[13_436..71_168]);
+    let counters = EDITION_1[71_168..].chunks_exact(4).map(|bytes| u32::from_be_bytes(bytes.try_into().expect("four bytes")));
+    assert_eq!(host.tally.to_vec(), counters.collect::<Vec<_>>());
+    assert_eq!(saved(host)[1], EDITION);
+}
+
+fn paths_of_edition_1(host: &mut Host) {
+    let tables = loaded_1(host);
+    for (path, older) in PATHS.records.iter(tables).zip(EDITION_1[380..13_436].chunks_exact(204)) {
+        assert_eq!(path[..path::LAST_ANNOUNCE], older[..43]);
+        assert_eq!(path[path::LAST_ANNOUNCE..path::BLOB_COUNT], [0; 17]);
+        assert_eq!(path[path::BLOB_COUNT..], older[43..]);
+    }
+}
+
+/// Each edition has its own bodies' lengths.
+fn other_lengths_of_edition_1(host: &mut Host) {
+    let file = saved(host);
+    assert_eq!(load(host, EDITION_1), 0);
+    assert_eq!(load_changed(host, &file, &[(1, &[1])]), 24);
+    assert_eq!(load_changed(host, EDITION_1, &[(1, &[EDITION])]), 24);
+    assert_eq!(load_changed(host, EDITION_1, &[(76, &[2])]), 24);
 }

@@ -1,12 +1,12 @@
 //! What is done to a saved file before it is loaded, mostly for one refusal.
 
+use crate::files::contents_of;
 use crate::random::Random;
 use crate::recording::{count, COUNT, HEAD};
 use crate::samples::{self, FIELDS, RECORDS, RINGS};
 use crate::saved::editions::CURRENT;
 use crate::saved::{contents, entry, BODIES, CONTENTS, LENGTH, TALLY};
 use crate::tables::SIZE;
-use crate::traffic::saved::contents_of;
 
 pub type Damage = fn(&mut Random, &mut Vec<u8>);
 

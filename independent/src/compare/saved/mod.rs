@@ -7,6 +7,7 @@ use super::coverage::Files;
 use super::{Called, Options, Tally};
 use crate::answer;
 use crate::engine::{Run, SavedCalls};
+use crate::files::{aged, contents_of};
 use crate::linked::Core;
 use crate::random::Random;
 use crate::recording::HEAD;
@@ -16,7 +17,6 @@ use crate::samples::{self, Fill};
 use crate::saved::editions::{lengths, CURRENT};
 use crate::saved::{loading, BODIES, CONTENTS, KIND, LENGTH, TALLY};
 use crate::tables::SIZE;
-use crate::traffic::saved::contents_of;
 use crate::traffic::Traffic;
 use damages::{change_tables, recount, resize_body, swap_offsets, DAMAGES};
 
@@ -193,6 +193,7 @@ impl Comparison<'_> {
             self.loading("clause", &changed, if number % 4 == 0 { SIZE - 1 } else { SIZE });
             let room = self.random.pick(&[0, LENGTH - 1, LENGTH, LENGTH]);
             self.saving("clause", &changed[CONTENTS..][..SIZE], &[7; 6], room);
+            self.older("clause", &changed);
         }
     }
 
@@ -229,6 +230,17 @@ impl Comparison<'_> {
         self.counts(&file);
         self.contents(&file);
         self.clauses(&file);
+    }
+
+    /// A file as each older program would have saved it; and one of another edition's lengths.
+    fn older(&mut self, what: &str, file: &[u8]) {
+        for edition in 1..CURRENT {
+            let aged = aged(file, edition);
+            self.loading(&format!("{what}, edition {edition}"), &aged, SIZE);
+            for other in (1..=CURRENT).filter(|other| *other != edition) {
+                self.damaged(&format!("{what}, edition {edition} as {other}"), &aged, |file| file[1] = other);
+            }
+        }
     }
 
     /// The kept files of each edition, whole and damaged.
@@ -269,6 +281,7 @@ impl Comparison<'_> {
         }
         self.round_trip(what, tables, tally);
         let file = file_of(tables, tally);
+        self.older(what, &file);
         for _ in 0..DAMAGED {
             let mut damaged = file.clone();
             for _ in 0..1 + self.random.below(2) {

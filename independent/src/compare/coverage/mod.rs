@@ -1,5 +1,8 @@
 //! What calls reach, and how often.
 
+mod rates;
+mod reasons;
+
 use crate::answer::{Answer, Verdict};
 use crate::engine::{Call, Outcome, PacketCall};
 use crate::limits::{EXEMPT_CONTEXTS, HASH_LIFETIME, LONGEST};
@@ -8,15 +11,17 @@ use crate::relay::asking::{ALWAYS_TOLD, KINDS};
 use crate::rules::AsWritten;
 use crate::sha256::Sha256;
 use crate::tables::{self, HASHES};
+use rates::{Found, Rates};
+use reasons::Reasons;
 use std::collections::HashMap;
 
 /// How often each refusal, reason and verdict was reached, and packets that are exempt from test 2.
 #[derive(Default)]
 pub struct Coverage {
     pub calls: usize,
-    /// By number: refusals 1 to 11, reasons 1 to 13.
+    /// By number: refusals 1 to 11, reasons 1 to 15.
     pub refusals: [usize; 12],
-    pub reasons: [usize; 14],
+    pub reasons: [usize; 16],
     /// By `Verdict::index`.
     pub verdicts: [usize; 5],
     /// Calls without a packet that were done.
@@ -24,6 +29,17 @@ pub struct Coverage {
     exempt: Exempt,
     asked: Asked,
     pub files: Files,
+    rates: Rates,
+    split: Reasons,
+    /// Settings of the announce rate: those set, then refusals by number.
+    rate_settings: [usize; 10],
+}
+
+/// What a call finds: an exempt packet its hash in the ring, an announce its entry, any packet the expiries of its destination's paths.
+pub struct Before {
+    remembered: bool,
+    found: Option<Found>,
+    expiries: Vec<u64>,
 }
 
 /// Questions, by their answers.
@@ -83,7 +99,7 @@ impl Exempt {
 }
 
 impl Coverage {
-    /// Makes a call count; questions, saves and loads count by themselves.
+    /// Makes a call count; questions, saves, loads and settings of the announce rate count by themselves.
     pub fn count_call(&mut self, call: &Call, outcome: &Outcome) {
         match (call, outcome) {
             (Call::Ask { question, .. }, _) => {
@@ -94,6 +110,7 @@ impl Coverage {
             (Call::Matters { .. }, Outcome::Refused(number)) => self.asked.refusals[usize::from(*number).min(7)] += 1,
             (Call::Save { .. }, _) => self.files.saves[refusal(outcome)] += 1,
             (Call::Load, _) => self.files.loads[refusal(outcome)] += 1,
+            (Call::SetAnnounceRate(_), _) => self.rate_settings[refusal(outcome).min(9)] += 1,
             _ => self.count(outcome),
         }
     }
@@ -114,15 +131,33 @@ impl Coverage {
         }
     }
 
-    /// Before a call: is it an exempt packet whose hash is live in these tables?
-    pub fn is_remembered(&self, call: &Call, tables: &[u8]) -> bool {
+    /// What is looked up before a call.
+    pub fn before(&mut self, call: &Call, tables: &[u8]) -> Before {
+        let expiries = self.split.before(call, tables);
+        Before { remembered: self.is_remembered(call, tables), found: Found::before(call, tables), expiries }
+    }
+
+    /// Makes a call count, with what was looked up before it.
+    pub fn after(&mut self, call: &Call, outcome: &Outcome, before: &Before) {
+        self.count_call(call, outcome);
+        self.count_exempt(call, outcome, before.remembered);
+        if let Some(found) = &before.found {
+            self.rates.count(found, outcome);
+        }
+        if let Outcome::Judged(Answer { verdict, .. }) = outcome {
+            self.split.count(call, &before.expiries, *verdict);
+        }
+    }
+
+    /// Is it an exempt packet whose hash is live in these tables?
+    fn is_remembered(&self, call: &Call, tables: &[u8]) -> bool {
         let Call::Packet(PacketCall { packet, clock, .. }) = call else { return false };
         let Some((_, hash)) = self.exempt.place(packet) else { return false };
         tables.len() == tables::SIZE && tables::find(&HASHES, tables, &hash, *clock).is_some()
     }
 
-    /// After a call: an exempt packet that was forwarded.
-    pub fn count_exempt(&mut self, call: &Call, outcome: &Outcome, remembered: bool) {
+    /// An exempt packet that was forwarded.
+    fn count_exempt(&mut self, call: &Call, outcome: &Outcome, remembered: bool) {
         if matches!(call, Call::Fresh(_) | Call::Load) {
             self.exempt.forwarded.clear();
         }
@@ -137,10 +172,15 @@ impl Coverage {
     /// Each thing that can be reached, in words, and how often it was.
     pub fn reached(&self) -> Vec<(String, usize)> {
         let refusals = (1..=11).map(|number| (format!("refusal {number}"), self.refusals[number]));
-        let reasons = (1..=13).map(|number| (format!("drop {number}"), self.reasons[number]));
+        let reasons = (1..=13).chain([15]).map(|number| (format!("drop {number}"), self.reasons[number]));
         let words = ["drop", "deliver", "forward", "spread", "kept"];
         let verdicts = words.iter().zip(self.verdicts).map(|(word, times)| (word.to_string(), times));
-        refusals.chain(reasons).chain(verdicts).chain(self.reached_exempt()).collect()
+        refusals.chain(reasons).chain(self.split.reached()).chain(verdicts).chain(self.reached_exempt()).collect()
+    }
+
+    /// The clauses of test 3 and the cases of test 6 over lent tables, and what they are told of.
+    pub fn reached_reasons(&self) -> Vec<(String, usize)> {
+        self.split.reached_edges()
     }
 
     /// The same of questions to the tables. Some are never answered by none.
@@ -161,6 +201,16 @@ impl Coverage {
         let refusals = (1..=7).map(|number| (format!("refusal {number}"), self.asked.refusals[number]));
         let answers = refusals.chain(["no", "yes"].map(str::to_string).into_iter().zip(self.asked.matters));
         answers.map(|(answer, times)| (format!("asked whether the signature word matters: {answer}"), times)).collect()
+    }
+
+    /// The branches of test 15.
+    pub fn reached_rates(&self) -> Vec<(String, usize)> {
+        self.rates.reached()
+    }
+
+    /// The calls that set the announce rate.
+    pub fn reached_settings(&self) -> Vec<(String, usize)> {
+        [0, 7, 9].map(|number| (format!("announce rate set: {}", answer(number)), self.rate_settings[number])).to_vec()
     }
 
     fn reached_exempt(&self) -> Vec<(String, usize)> {
