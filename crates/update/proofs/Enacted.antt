@@ -109,15 +109,6 @@ module _ (v : View) (a : Arrival) (t : List ℕ) (b : Bytes t) (h : wellFormed t
       rate-step before held slot p rate (paths-length t) within there e
       ∙ ap₂ (λ (k : ℕ) (x : RateEntry). bytesOf (withPaths (set (before .paths) k (used (withPathRate x p))) before)) live is
 
-  -- ---- a mark
-  pub path-marked : (p : Path) (to : List ℕ) (clock slot : ℕ) (u : List ℕ) → slot < pathCount → slot ≡ pathPlace clock before to
-      → getD (before .paths) slot empty ≡ used p → u ≡ markWritten t slot → u ≡ bytesOf (markPath to clock before)
-  unfolding markPath markedSlot viewAt
-  path-marked p to clock slot u within live there e =
-      mark-step before held slot p (paths-length t) within there e
-      ∙ ap₂ (λ (k : ℕ) (x : Slot Path). bytesOf (withPaths (set (before .paths) k (markedSlot x)) before)) live
-      (sym there ∙ ap (λ (k : ℕ). getD (before .paths) k empty) live)
-
   -- ---- data by a path: other live records of the key are emptied
   pub return-written : (p : Path) (first : List ℕ) (out slot : ℕ) (u : List ℕ) → isData (header a) ≡ true
       → first ≡ returnKey a → out ≡ p .port → slot ≡ before .returns .next
@@ -156,3 +147,13 @@ module _ (v : View) (a : Arrival) (t : List ℕ) (b : Bytes t) (h : wellFormed t
   return-emptied x slot u within live e =
       emptied-step before held slot (returns-length t) within e
       ∙ ap (λ (k : ℕ). bytesOf (withReturns (withSlots (set (before .returns .slots) k empty) (before .returns)) before)) live
+
+-- ---- a mark, at a clock
+module _ (t : List ℕ) (b : Bytes t) (h : wellFormed t ≡ true) where
+  pub path-marked : (p : Path) (to : List ℕ) (clock slot : ℕ) (u : List ℕ) → slot < pathCount → slot ≡ pathPlace clock (relayOf t) to
+      → getD (relayOf t .paths) slot empty ≡ used p → u ≡ markWritten t slot → u ≡ bytesOf (markPath to clock (relayOf t))
+  unfolding markPath markedSlot viewAt
+  path-marked p to clock slot u within live there e =
+      mark-step (relayOf t) (sym (again t b h)) slot p (paths-length t) within there e
+      ∙ ap₂ (λ (k : ℕ) (x : Slot Path). bytesOf (withPaths (set (relayOf t .paths) k (markedSlot x)) (relayOf t))) live
+      (sym there ∙ ap (λ (k : ℕ). getD (relayOf t .paths) k empty) live)
