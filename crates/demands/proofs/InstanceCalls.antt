@@ -165,6 +165,10 @@ saidBefore =
     numbered 0 ∷ numbered 0 ∷ numbered 0 ∷ numbered 0 ∷ numbered 11
     ∷ spreads spreadBytes 2 ∷ duplicate ∷ unknownPort ∷ forwards dataLastHop 1 ∷ []
 
+-- the announce rate that is set
+abbrev pub hourly : RateSettings
+hourly = makeRateSettings 3600 5 7200
+
 -- the receipt leaves by this port, and the path by that one; the file is of this relay
 abbrev pub saidLater : (by path : ℕ) → Relay → List Reply
 saidLater by path end =
@@ -181,10 +185,6 @@ abbrev pub receivedRelay : Relay
 receivedRelay =
     relayOf 2500 (used knownPath ∷ []) [] (empty ∷ [])
     (remembers announceBytes 1300 ∷ remembers dataBytes 2300 ∷ remembers (receiptBytes 5) 2800 ∷ [])
-
--- the announce rate that is set
-abbrev pub hourly : RateSettings
-hourly = makeRateSettings 3600 5 7200
 
 abbrev ratedRelay : Relay
 ratedRelay =
