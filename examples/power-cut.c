@@ -1,5 +1,5 @@
 /*
- * What the library's check sees of a saved relay that lost bytes, and what the seal of state.c sees.
+ * What the library's load sees of a saved relay that lost bytes, and what the seal of state.c sees.
  * Usage: power-cut FOLDER, an empty one.
  */
 #include "state.h"
@@ -7,7 +7,7 @@
 #include <stdlib.h>
 #include <string.h>
 
-enum { SEAL = 64, FILE_SIZE = SEAL + sizeof(struct state) };
+enum { BEHIND = 8 + 256 + 32, FILE_SIZE = HASKUMYE_SAVED_SIZE + BEHIND }; /* the box's own and the seal */
 
 static struct state state;
 
@@ -29,27 +29,28 @@ static void make_state(void)
     strcpy(state.wires[3], "radio 4711");
 }
 
-/* Bytes of the file become zeros. Returns the refusal that the library's check gives of the tables in it then. */
+/* Bytes of the file become zeros. Returns the refusal that the library gives of the saved part then. */
 static unsigned lose(const char *folder, size_t from, size_t to)
 {
-    static uint8_t bytes[FILE_SIZE];
+    static uint8_t bytes[FILE_SIZE], tables[HASKUMYE_TABLE_SIZE];
+    haskumye_tally tally;
     char path[4096];
-    snprintf(path, sizeof path, "%s/relay.state", folder);
+    snprintf(path, sizeof path, "%s/relay.saved", folder);
     FILE *file = fopen(path, "r+b");
     expect(file != NULL && fread(bytes, 1, FILE_SIZE, file) == FILE_SIZE, "reading the file");
     memset(bytes + from, 0, to - from);
     rewind(file);
     expect(fwrite(bytes, 1, FILE_SIZE, file) == FILE_SIZE && fclose(file) == 0, "writing the file");
-    return haskumye_check_tables(bytes + SEAL, HASKUMYE_TABLE_SIZE);
+    return haskumye_load(bytes, HASKUMYE_SAVED_SIZE, tables, sizeof tables, &tally);
 }
 
 static void show(const char *folder, const char *what, size_t from, size_t to)
 {
-    static const char *const words[] = {"loaded", "nothing saved", "not whole"};
+    static const char *const words[] = {"loaded", "nothing saved", "not whole", "other edition"};
     static struct state loaded;
     expect(save_state(folder, &state), "saving");
-    const char *check = lose(folder, from, to) == HASKUMYE_REFUSAL_NONE ? "good" : "bad";
-    printf("%-43s the check: %s   load_state: %s\n", what, check, words[load_state(folder, &loaded)]);
+    unsigned refusal = lose(folder, from, to);
+    printf("%-42s  haskumye_load: %2u  load_state: %s\n", what, refusal, words[load_state(folder, &loaded)]);
 }
 
 int main(int count, char **words)
@@ -59,8 +60,8 @@ int main(int count, char **words)
     make_state();
     show(words[1], "nothing lost", 0, 0);
     show(words[1], "zeros alone", 0, FILE_SIZE);
-    show(words[1], "cut before the local addresses, then zeros", SEAL + 56, FILE_SIZE);
-    show(words[1], "one byte of a local address", SEAL + 57, SEAL + 58);
-    show(words[1], "the mark of a port, so that it is off", SEAL + 30, SEAL + 31);
+    show(words[1], "cut before the local addresses, then zeros", 120, FILE_SIZE);
+    show(words[1], "one byte of a local address", 121, 122);
+    show(words[1], "the mark of a port, so that it is off", 94, 95);
     return 0;
 }

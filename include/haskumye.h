@@ -47,17 +47,19 @@ extern "C" {
 #define HASKUMYE_CHECKED
 #endif
 
-#define HASKUMYE_VERSION 2 /* of this interface: it rises where a host has to be changed or compiled again */
+#define HASKUMYE_VERSION 3 /* of this interface: it rises where a host has to be changed or compiled again */
 
 /* Sizes, in bytes unless another unit is named. */
-#define HASKUMYE_TABLE_SIZE 71116 /* a relay's tables, exactly; haskumye_table_size() says the same */
+#define HASKUMYE_TABLE_SIZE 72216 /* a relay's tables, exactly; haskumye_table_size() says the same */
 #define HASKUMYE_OUTPUT_SIZE 500  /* the least output buffer, however short the packet */
 #define HASKUMYE_SHORTEST_PACKET 19 /* 35 in type 2 */
 #define HASKUMYE_LONGEST_PACKET 500
 #define HASKUMYE_LONGEST_MESSAGE 65535 /* for haskumye_sha256 */
-#define HASKUMYE_TEXT_SIZE 160  /* a line of haskumye_line or haskumye_replay_entry */
+#define HASKUMYE_TEXT_SIZE 160  /* a line of haskumye_line or haskumye_replay_entry, an answer's text or sentence */
 #define HASKUMYE_RECORDING_SIZE 60000 /* the longest recording */
 #define HASKUMYE_ENTRY_WIDTH 12 /* an entry as haskumye_write_recording takes it */
+#define HASKUMYE_SAVED_SIZE 72292 /* what haskumye_save writes, exactly; haskumye_saved_size() says the same */
+#define HASKUMYE_LONGEST_SAVED 524332 /* no saved file of any edition is longer */
 
 /* Limits: how many of each a relay has room for. */
 #define HASKUMYE_PORT_COUNT 16    /* ports 0 to 15 */
@@ -67,6 +69,11 @@ extern "C" {
 #define HASKUMYE_RETURN_COUNT 512 /* receipts under way */
 #define HASKUMYE_HASH_COUNT 1024  /* remembered packets */
 #define HASKUMYE_CLOCK_LIMIT UINT64_C(1099511627776) /* seconds: every clock is below 2^40 */
+
+/* The announce rate is set to these at most. */
+#define HASKUMYE_TARGET_LIMIT 86400 /* seconds: a day */
+#define HASKUMYE_GRACE_LIMIT 254
+#define HASKUMYE_PENALTY_LIMIT 604800 /* seconds: seven days */
 
 /* What a question answers beside a refusal and 0. */
 #define HASKUMYE_NONE 255   /* there is none: an empty place or one outside the table, no port, no live path */
@@ -124,14 +131,17 @@ enum haskumye_refusal {
     HASKUMYE_REFUSAL_OUTPUT = 6,          /* the output buffer is under 500 bytes */
     HASKUMYE_REFUSAL_TABLES = 7,          /* the tables' length is wrong, or no relay has these bytes */
     HASKUMYE_REFUSAL_MAP = 8,             /* the renumbering map is not one-to-one on 0..15 */
-    HASKUMYE_REFUSAL_SETTING = 9,         /* setting a port over 15, or an unknown mode */
+    HASKUMYE_REFUSAL_SETTING = 9,         /* setting a port over 15, an unknown mode, or a rate over its limit */
     HASKUMYE_REFUSAL_LOCAL_FULL = 10,     /* a 17th local address */
     HASKUMYE_REFUSAL_LOCAL_ADDRESS = 11,  /* adding a local address already there, or removing one not there */
-    HASKUMYE_REFUSAL_FILE_LENGTH = 20,    /* a file over 60,000 bytes, or shorter than its contents */
-    HASKUMYE_REFUSAL_FILE_KIND = 21,      /* another kind of file, or another edition */
-    HASKUMYE_REFUSAL_FILE_PLACE = 22,     /* an offset, a length or the file's end breaks the rule; or no such entry */
+    HASKUMYE_REFUSAL_FILE_LENGTH = 20,    /* a recording over 60,000 bytes, or shorter than its contents; a saved file
+                                             of another length than its contents add up to */
+    HASKUMYE_REFUSAL_FILE_KIND = 21,      /* another kind of file, or an edition that this library does not know */
+    HASKUMYE_REFUSAL_FILE_PLACE = 22,     /* an offset, a length or the file's end breaks the rule; no such entry; a
+                                             saved file of another count than 8 */
     HASKUMYE_REFUSAL_SIGNATURE_WORD = 23, /* a signature word that is neither 0 nor 1 */
-    HASKUMYE_REFUSAL_ROOM = 25,           /* too little room for what is to be written */
+    HASKUMYE_REFUSAL_FILE_BODY = 24,      /* a saved body of wrong size, or with bytes that no relay has */
+    HASKUMYE_REFUSAL_ROOM = 25,           /* too little room for what is to be written; loading: not the tables' size */
     HASKUMYE_REFUSAL_ANNOUNCE_PART = 26,  /* a key, name hash, random, ratchet or signature of wrong length */
     HASKUMYE_REFUSAL_ANNOUNCE_TOO_LONG = 27 /* an announce over 500 bytes once built */
 };
@@ -139,21 +149,21 @@ enum haskumye_refusal {
 /* What a packet call answers: HASKUMYE_ANSWER_KIND. */
 enum haskumye_kind {
     HASKUMYE_REFUSED = 0, /* HASKUMYE_ANSWER_REFUSAL says why; nothing changed */
-    HASKUMYE_DROP = 1,    /* HASKUMYE_ANSWER_REASON says why; the packet was accepted and counts */
+    HASKUMYE_DROP = 1,    /* HASKUMYE_ANSWER_REASON says why, and _CLAUSE and _VALUE more; the packet was accepted */
     HASKUMYE_DELIVER = 2, /* for a local address; the payload is the packet from HASKUMYE_ANSWER_PAYLOAD on */
     HASKUMYE_FORWARD = 3, /* send the output's first HASKUMYE_ANSWER_LENGTH bytes by HASKUMYE_ANSWER_PORT */
     HASKUMYE_SPREAD = 4,  /* send them by each port of HASKUMYE_ANSWER_PORTS */
     HASKUMYE_KEPT = 5     /* an announce was taken in, and nothing leaves */
 };
 
-/* Why a packet was dropped: the number of document 01's first test that held. */
+/* Why a packet was dropped: the number of document 01's first test that held. 14 is not used again. */
 enum haskumye_reason {
     HASKUMYE_REASON_NOT_OURS = 1,       /* type 2 for another relay */
     HASKUMYE_REASON_DUPLICATE = 2,      /* its hash was remembered less than 300 s ago */
-    HASKUMYE_REASON_BAD_FORM = 3,       /* type, destination kind, payload length or announced destination */
+    HASKUMYE_REASON_BAD_FORM = 3,       /* one of haskumye_bad_form */
     HASKUMYE_REASON_OWN_ANNOUNCE = 4,   /* an announce of a local address */
     HASKUMYE_REASON_TOO_MANY_HOPS = 5,  /* 128 or more */
-    HASKUMYE_REASON_NO_WAY_ON = 6,      /* no live path, proved link or return record; or type 1 */
+    HASKUMYE_REASON_NO_WAY_ON = 6,      /* one of haskumye_no_way_on */
     HASKUMYE_REASON_ALREADY_KNOWN = 7,  /* a link request or link proof again */
     HASKUMYE_REASON_WRONG_SIDE = 8,     /* in by another port, or with other hops, than its link or return record has */
     HASKUMYE_REASON_NOT_SIGNED = 9,     /* the host's word on the signature was no */
@@ -161,14 +171,36 @@ enum haskumye_reason {
     HASKUMYE_REASON_NOT_BETTER = 11,    /* an announce neither emitted later nor of fewer hops than its path */
     HASKUMYE_REASON_PORT_OFF = 12,      /* the port to leave by */
     HASKUMYE_REASON_NO_ROOM = 13,       /* for a new path or link */
-    HASKUMYE_REASON_GROWN_TOO_LONG = 14 /* over 500 bytes once rewritten */
+    HASKUMYE_REASON_RATE_LIMITED = 15   /* an announce too soon after the last; tested after 11, before 12 */
+};
+
+/* The clause of test 3 that a packet's form breaks, the first in document 01's order: HASKUMYE_ANSWER_CLAUSE. */
+enum haskumye_bad_form {
+    HASKUMYE_BAD_FORM_TYPE_TWO_PROOF = 1,        /* a proof of type 2 */
+    HASKUMYE_BAD_FORM_TYPE_TWO_OF_KIND_LINK = 2, /* another packet of kind link of type 2 */
+    HASKUMYE_BAD_FORM_ANNOUNCE_NOT_SINGLE = 3,   /* an announce not of kind single */
+    HASKUMYE_BAD_FORM_ANNOUNCE_TOO_SHORT = 4,    /* an announce's payload under 148, or 180 with the context flag */
+    HASKUMYE_BAD_FORM_ANNOUNCE_OF_ANOTHER = 5,   /* an announce whose keys give another destination */
+    HASKUMYE_BAD_FORM_REQUEST_OF_KIND_LINK = 6,  /* a link request of kind link */
+    HASKUMYE_BAD_FORM_REQUEST_TOO_SHORT = 7,     /* a link request's payload under 64 */
+    HASKUMYE_BAD_FORM_LINK_PROOF_LENGTH = 8      /* a link proof's payload neither 96 nor 99 */
+};
+
+/* The case of test 6: HASKUMYE_ANSWER_CLAUSE. */
+enum haskumye_no_way_on {
+    HASKUMYE_NO_WAY_ON_NOT_ASKING = 1,   /* data or a link request of type 1 */
+    HASKUMYE_NO_WAY_ON_NO_PATH = 2,      /* no path record of the destination */
+    HASKUMYE_NO_WAY_ON_ONLY_EXPIRED = 3, /* expired ones alone: the value is their greatest expiry */
+    HASKUMYE_NO_WAY_ON_NO_LINK = 4,      /* no live link */
+    HASKUMYE_NO_WAY_ON_NOT_PROVED = 5,   /* a link that is not proved yet */
+    HASKUMYE_NO_WAY_ON_NO_RETURN = 6     /* a proof, and no live return record */
 };
 
 /*
  * The fields of a packet call's answer, and of no other call's number. Bits 0 to 15 say the kind, and the refusal or
- * reason; what bits 16 to 63 hold goes by them. Read a field only for the kind it is named with: later versions may put
- * data where zeros stand today. The port of what is no forward is HASKUMYE_NO_PORT, and the ports of what is no spread
- * are none.
+ * reason; what bits 16 to 63 hold goes by them. Read a field only for the kind it is named with: of another one the
+ * port is HASKUMYE_NO_PORT, the ports are none, and clause, value, length and payload are 0. A drop's value is the
+ * least payload length that would have served (3.4, 3.7, 3.8), or when the last path ran out (6.3); else 0.
  */
 typedef uint64_t haskumye_answer;
 
@@ -181,11 +213,38 @@ typedef uint64_t haskumye_answer;
 #define HASKUMYE_ANSWER_KIND(answer) HASKUMYE_ANSWER_BITS(answer, 0, 0xff)
 #define HASKUMYE_ANSWER_REFUSAL(answer) HASKUMYE_ANSWER_BITS(answer, 8, 0xff)        /* refused */
 #define HASKUMYE_ANSWER_REASON(answer) HASKUMYE_ANSWER_BITS(answer, 8, 0xff)         /* drop */
-#define HASKUMYE_ANSWER_PAYLOAD(answer) HASKUMYE_CAST(size_t, HASKUMYE_ANSWER(answer) >> 48) /* deliver */
+#define HASKUMYE_ANSWER_CLAUSE(answer) haskumye_answer_clause(HASKUMYE_ANSWER(answer)) /* drop; 0: of none */
+#define HASKUMYE_ANSWER_VALUE(answer) haskumye_answer_value(HASKUMYE_ANSWER(answer))   /* drop: a uint64_t */
+#define HASKUMYE_ANSWER_PAYLOAD(answer) haskumye_answer_payload(HASKUMYE_ANSWER(answer)) /* deliver */
 #define HASKUMYE_ANSWER_PORT(answer) haskumye_answer_port(HASKUMYE_ANSWER(answer))   /* forward */
 #define HASKUMYE_ANSWER_PORTS(answer) haskumye_answer_ports(HASKUMYE_ANSWER(answer)) /* spread: bit i is port i */
 #define HASKUMYE_ANSWER_HAS_PORT(answer, port) (HASKUMYE_ANSWER_PORTS(answer) >> (port) & 1u) /* spread: port 0 to 15 */
-#define HASKUMYE_ANSWER_LENGTH(answer) HASKUMYE_CAST(size_t, HASKUMYE_ANSWER(answer) >> 32 & 0xffff) /* either */
+#define HASKUMYE_ANSWER_LENGTH(answer) haskumye_answer_length(HASKUMYE_ANSWER(answer)) /* forward, spread */
+
+static inline unsigned haskumye_answer_clause(haskumye_answer answer)
+{
+    unsigned clause = HASKUMYE_ANSWER_BITS(answer, 16, 0xf);
+    return HASKUMYE_ANSWER_KIND(answer) == HASKUMYE_DROP ? clause : 0;
+}
+
+static inline uint64_t haskumye_answer_value(haskumye_answer answer)
+{
+    uint64_t value = answer >> 20 & UINT64_C(0x1ffffffffff);
+    return HASKUMYE_ANSWER_KIND(answer) == HASKUMYE_DROP ? value : 0;
+}
+
+static inline size_t haskumye_answer_payload(haskumye_answer answer)
+{
+    size_t payload = HASKUMYE_CAST(size_t, answer >> 48);
+    return HASKUMYE_ANSWER_KIND(answer) == HASKUMYE_DELIVER ? payload : 0;
+}
+
+static inline size_t haskumye_answer_length(haskumye_answer answer)
+{
+    size_t length = HASKUMYE_CAST(size_t, answer >> 32 & 0xffff);
+    unsigned kind = HASKUMYE_ANSWER_KIND(answer);
+    return kind == HASKUMYE_FORWARD || kind == HASKUMYE_SPREAD ? length : 0;
+}
 
 static inline unsigned haskumye_answer_port(haskumye_answer answer)
 {
@@ -207,6 +266,15 @@ typedef uint32_t haskumye_written;
 
 #define HASKUMYE_WRITTEN_REFUSAL(written) HASKUMYE_CAST(unsigned, HASKUMYE_WRITTEN(written) & 0xffff)
 #define HASKUMYE_WRITTEN_LENGTH(written) HASKUMYE_CAST(size_t, HASKUMYE_WRITTEN(written) >> 16)
+
+/* The fields of haskumye_save's number: a refusal, 0 for none, and the length written. */
+typedef uint64_t haskumye_saved;
+
+/* The number itself. One of another width, such as a writing call's, does not compile. */
+#define HASKUMYE_SAVED(saved) ((saved) + 0 * sizeof(char[sizeof(saved) == sizeof(haskumye_saved) ? 1 : -1]))
+
+#define HASKUMYE_SAVED_REFUSAL(saved) HASKUMYE_CAST(unsigned, HASKUMYE_SAVED(saved) & 0xffff)
+#define HASKUMYE_SAVED_LENGTH(saved) HASKUMYE_CAST(size_t, HASKUMYE_SAVED(saved) >> 16)
 
 /* Bytes of a fixed number cross in a struct of exactly that size. */
 typedef struct {
@@ -268,6 +336,27 @@ typedef struct {
     uint8_t mode; /* one of haskumye_mode */
 } haskumye_port_settings;
 
+/* A setting's number, big-endian: haskumye_setting_number says it. */
+typedef struct {
+    uint8_t bytes[4];
+} haskumye_setting;
+
+static inline uint32_t haskumye_setting_number(haskumye_setting setting)
+{
+    uint32_t number = 0;
+    for (size_t i = 0; i < sizeof setting.bytes; i++) {
+        number = number << 8 | setting.bytes[i];
+    }
+    return number;
+}
+
+/* How often a destination may announce itself. With a target of 0 there is no limit. */
+typedef struct {
+    haskumye_setting target;  /* the least seconds between two of its announces */
+    haskumye_setting grace;   /* how many violations are let through */
+    haskumye_setting penalty; /* seconds that it is blocked for beyond the target */
+} haskumye_rate_settings;
+
 /* A path. It is live while the clock is below its expiry. */
 typedef struct {
     haskumye_address destination;
@@ -275,6 +364,9 @@ typedef struct {
     uint8_t hops;              /* relays between the destination and this one */
     haskumye_address next_hop; /* the relay address that its announce came with, or the destination */
     haskumye_time expiry;
+    haskumye_time last_announce; /* the clock of its last accepted announce */
+    uint8_t violations;          /* announces sooner than the target after it, less those forgiven; 255 at most */
+    haskumye_time blocked_until; /* while the clock is below, its announces are dropped by 15 */
     uint8_t blob_count;
 } haskumye_path_record;
 
@@ -309,7 +401,9 @@ HASKUMYE_ASSERT_SIZE(haskumye_text, HASKUMYE_TEXT_SIZE);
 HASKUMYE_ASSERT_SIZE(haskumye_tally, 24);
 HASKUMYE_ASSERT_SIZE(haskumye_time, 8);
 HASKUMYE_ASSERT_SIZE(haskumye_port_settings, 2);
-HASKUMYE_ASSERT_SIZE(haskumye_path_record, 43);
+HASKUMYE_ASSERT_SIZE(haskumye_setting, 4);
+HASKUMYE_ASSERT_SIZE(haskumye_rate_settings, 12);
+HASKUMYE_ASSERT_SIZE(haskumye_path_record, 60);
 HASKUMYE_ASSERT_SIZE(haskumye_link_record, 29);
 
 /* ---- Which library this is. ---- */
@@ -343,6 +437,15 @@ HASKUMYE_CHECKED uint8_t haskumye_check_tables(const uint8_t *tables, size_t len
  */
 HASKUMYE_CHECKED uint8_t haskumye_set_port(uint8_t *tables, size_t length, uint64_t port, uint8_t on, uint64_t mode);
 
+/*
+ * Sets how often every destination may announce itself. An announce under `target` seconds after the last accepted one
+ * is a violation. One that makes more than `grace` of them is dropped by 15, and so are all until `target` and
+ * `penalty` seconds after that last one. A target of 0, as a fresh relay has, makes none. Paths stay, blocked ones too.
+ * Refusals: 7, 9.
+ */
+HASKUMYE_CHECKED uint8_t haskumye_set_announce_rate(uint8_t *tables, size_t length, uint64_t target, uint64_t grace,
+                                                    uint64_t penalty);
+
 /* Adds an address whose packets are delivered here. The relay's own address is not one of them. Refusals: 7, 11, 10. */
 HASKUMYE_CHECKED uint8_t haskumye_add_local(uint8_t *tables, size_t length, const haskumye_address *address);
 
@@ -367,6 +470,35 @@ HASKUMYE_CHECKED haskumye_answer haskumye_packet(const uint8_t *packet, size_t l
                                                  size_t room, haskumye_tally *tally);
 
 /*
+ * An answer as text, with its numbers: `drop 6.3 22600`, `forward 4`, `spread 1 5`, `refused 1`. These are the words of
+ * a replay's line, without a line feed. Returns their length, 0 for a number whose kind is none of haskumye_kind.
+ */
+size_t haskumye_answer_text(haskumye_answer answer, haskumye_text *text);
+
+/*
+ * ---- Saved files: a relay's tables and tally in one file, which this library and later ones load. ----
+ * docs/LAYOUT.md has the file. It has no checksum: put one behind it on a disk, and cut that off before a load
+ * (section 10 of docs/HOST.md).
+ */
+
+/* HASKUMYE_SAVED_SIZE, as the library was built. */
+size_t haskumye_saved_size(void);
+
+/*
+ * Writes tables and tally as a file at the room's start; bytes behind it stay, and so do tables and tally. Returns a
+ * number of two fields: HASKUMYE_SAVED_REFUSAL (7, 25 in this order; 0 for none) and HASKUMYE_SAVED_LENGTH.
+ */
+HASKUMYE_CHECKED haskumye_saved haskumye_save(const uint8_t *tables, size_t tables_length, const haskumye_tally *tally,
+                                              uint8_t *room, size_t room_length);
+
+/*
+ * Sets tables and tally to what a saved file of this edition or an older one holds; what they held does not matter.
+ * `file_length` is that of the saved file alone, without what a host put behind it. Refusals: 20, 21, 22, 24, 25.
+ */
+HASKUMYE_CHECKED uint8_t haskumye_load(const uint8_t *file, size_t file_length, uint8_t *tables, size_t tables_length,
+                                       haskumye_tally *tally);
+
+/*
  * ---- Questions: what the tables hold. They change nothing but what is lent for the answer. ----
  * Each returns 0 where that now holds the answer; HASKUMYE_NONE where there is none, or refusal 7, and then it stays as
  * it was. A record that expired is told too, by haskumye_path and haskumye_link, until another takes its place.
@@ -375,6 +507,9 @@ HASKUMYE_CHECKED haskumye_answer haskumye_packet(const uint8_t *packet, size_t l
 /* A port's settings. None: a number over 15. */
 HASKUMYE_CHECKED uint8_t haskumye_port(const uint8_t *tables, size_t length, uint64_t port,
                                        haskumye_port_settings *settings);
+
+/* The announce rate's settings. Never none. */
+HASKUMYE_CHECKED uint8_t haskumye_announce_rate(const uint8_t *tables, size_t length, haskumye_rate_settings *settings);
 
 /* The local address at a place, 0 to 15. Removing one leaves its place empty. */
 HASKUMYE_CHECKED uint8_t haskumye_local(const uint8_t *tables, size_t length, uint64_t place,
@@ -518,14 +653,15 @@ static inline const char *haskumye_refusal_words(unsigned refusal)
     case HASKUMYE_REFUSAL_OUTPUT: return "output buffer under 500 bytes";
     case HASKUMYE_REFUSAL_TABLES: return "tables of wrong size, or with bytes that no relay has";
     case HASKUMYE_REFUSAL_MAP: return "renumbering map not one-to-one on 0..15";
-    case HASKUMYE_REFUSAL_SETTING: return "setting a port over 15 or an unknown mode";
+    case HASKUMYE_REFUSAL_SETTING: return "setting a port over 15, an unknown mode or an announce rate over its limit";
     case HASKUMYE_REFUSAL_LOCAL_FULL: return "adding a 17th local address";
     case HASKUMYE_REFUSAL_LOCAL_ADDRESS: return "adding a local address already there, or removing one not there";
-    case HASKUMYE_REFUSAL_FILE_LENGTH: return "file too long or shorter than its contents";
+    case HASKUMYE_REFUSAL_FILE_LENGTH: return "file too long or shorter than its contents (saved: another length)";
     case HASKUMYE_REFUSAL_FILE_KIND: return "kind or edition";
-    case HASKUMYE_REFUSAL_FILE_PLACE: return "offset, length or file end that breaks the rule";
+    case HASKUMYE_REFUSAL_FILE_PLACE: return "offset, length, count or file end that breaks the rule";
     case HASKUMYE_REFUSAL_SIGNATURE_WORD: return "signature word";
-    case HASKUMYE_REFUSAL_ROOM: return "too little room";
+    case HASKUMYE_REFUSAL_FILE_BODY: return "saved body of wrong size, or with bytes that no relay has";
+    case HASKUMYE_REFUSAL_ROOM: return "too little room (loading: not the tables' size)";
     case HASKUMYE_REFUSAL_ANNOUNCE_PART: return "key, name, random, ratchet or signature of wrong length";
     case HASKUMYE_REFUSAL_ANNOUNCE_TOO_LONG: return "announce over 500 once built";
     default: return "unknown";
@@ -549,7 +685,7 @@ static inline const char *haskumye_reason_words(unsigned reason)
     case HASKUMYE_REASON_NOT_BETTER: return "not better";
     case HASKUMYE_REASON_PORT_OFF: return "port off";
     case HASKUMYE_REASON_NO_ROOM: return "no room";
-    case HASKUMYE_REASON_GROWN_TOO_LONG: return "grown too long";
+    case HASKUMYE_REASON_RATE_LIMITED: return "announced too often";
     default: return "unknown";
     }
 }
@@ -577,6 +713,100 @@ static inline const char *haskumye_mode_words(unsigned mode)
     case HASKUMYE_MODE_ROAMING: return "roaming";
     default: return "unknown";
     }
+}
+
+/* The sentence of a clause of test 3, with # for the value. */
+static inline const char *haskumye_bad_form_sentence(unsigned clause)
+{
+    switch (clause) {
+    case HASKUMYE_BAD_FORM_TYPE_TWO_PROOF: return "a proof that names a relay: no proof is of type 2";
+    case HASKUMYE_BAD_FORM_TYPE_TWO_OF_KIND_LINK: return "a packet of a link that names a relay: none is of type 2";
+    case HASKUMYE_BAD_FORM_ANNOUNCE_NOT_SINGLE: return "an announce whose destination is not of kind single";
+    case HASKUMYE_BAD_FORM_ANNOUNCE_TOO_SHORT: return "an announce whose payload is under # bytes";
+    case HASKUMYE_BAD_FORM_ANNOUNCE_OF_ANOTHER: return "an announce whose destination does not belong to its keys";
+    case HASKUMYE_BAD_FORM_REQUEST_OF_KIND_LINK: return "a link request whose destination is a link";
+    case HASKUMYE_BAD_FORM_REQUEST_TOO_SHORT: return "a link request whose payload is under # bytes";
+    case HASKUMYE_BAD_FORM_LINK_PROOF_LENGTH: return "a link proof whose payload is not # bytes, nor three more";
+    default: return "unknown";
+    }
+}
+
+/* The sentence of a case of test 6, with # for the value. */
+static inline const char *haskumye_no_way_on_sentence(unsigned clause)
+{
+    switch (clause) {
+    case HASKUMYE_NO_WAY_ON_NOT_ASKING: return "it asks no relay to carry it, and is not for this box";
+    case HASKUMYE_NO_WAY_ON_NO_PATH: return "no path to this destination: none is held";
+    case HASKUMYE_NO_WAY_ON_ONLY_EXPIRED: return "no path to this destination: the last one ran out at #";
+    case HASKUMYE_NO_WAY_ON_NO_LINK: return "no such link: it ran out, or never led through here";
+    case HASKUMYE_NO_WAY_ON_NOT_PROVED: return "this link is not proved yet";
+    case HASKUMYE_NO_WAY_ON_NO_RETURN:
+        return "nobody waits for this receipt: it is late, or its packet did not go through here";
+    default: return "unknown";
+    }
+}
+
+/* The sentence of a reason and its clause, with # for the value. */
+static inline const char *haskumye_reason_sentence(unsigned reason, unsigned clause)
+{
+    switch (reason) {
+    case HASKUMYE_REASON_BAD_FORM: return haskumye_bad_form_sentence(clause);
+    case HASKUMYE_REASON_NO_WAY_ON: return haskumye_no_way_on_sentence(clause);
+    case HASKUMYE_REASON_NOT_OURS: return "another relay is asked to carry it";
+    case HASKUMYE_REASON_DUPLICATE: return "the same packet came less than 300 s ago";
+    case HASKUMYE_REASON_OWN_ANNOUNCE: return "an announce of this box's own came back";
+    case HASKUMYE_REASON_TOO_MANY_HOPS: return "128 relays or more carried it";
+    case HASKUMYE_REASON_ALREADY_KNOWN: return "this link is known already";
+    case HASKUMYE_REASON_WRONG_SIDE: return "it came by another port, or with other hops, than its way has";
+    case HASKUMYE_REASON_NOT_SIGNED: return "its signature was not found good";
+    case HASKUMYE_REASON_REPLAY: return "this announce was taken in before";
+    case HASKUMYE_REASON_NOT_BETTER: return "an announce no newer than the one held, by no shorter way";
+    case HASKUMYE_REASON_PORT_OFF: return "the port to leave by is off";
+    case HASKUMYE_REASON_NO_ROOM: return "no room for another path or link";
+    case HASKUMYE_REASON_RATE_LIMITED: return "this destination announces itself too often";
+    default: return "unknown";
+    }
+}
+
+/* A number's digits at a place. Returns how many they are. */
+static inline size_t haskumye_put_digits(uint64_t number, char *at)
+{
+    size_t count = 1;
+    for (uint64_t rest = number; rest >= 10; rest /= 10) {
+        count++;
+    }
+    for (size_t i = count; i > 0; i--) {
+        at[i - 1] = HASKUMYE_CAST(char, '0' + number % 10);
+        number /= 10;
+    }
+    return count;
+}
+
+/*
+ * An answer in words for people: of a drop its sentence, with the value filled in (`no path to this destination: the
+ * last one ran out at 22600`), of a refusal its words, of another the kind's. Returns the length. haskumye_answer_text
+ * gives the numbers that go before it in a log.
+ */
+static inline size_t haskumye_sentence(haskumye_answer answer, haskumye_text *text)
+{
+    const char *words = haskumye_kind_words(HASKUMYE_ANSWER_KIND(answer));
+    size_t length = 0;
+    if (HASKUMYE_ANSWER_KIND(answer) == HASKUMYE_REFUSED) {
+        words = haskumye_refusal_words(HASKUMYE_ANSWER_REFUSAL(answer));
+    } else if (HASKUMYE_ANSWER_KIND(answer) == HASKUMYE_DROP) {
+        words = haskumye_reason_sentence(HASKUMYE_ANSWER_REASON(answer), HASKUMYE_ANSWER_CLAUSE(answer));
+    }
+    for (; *words != '\0'; words++) {
+        if (*words == '#') {
+            length += haskumye_put_digits(HASKUMYE_ANSWER_VALUE(answer), text->bytes + length);
+        } else {
+            text->bytes[length++] = *words;
+        }
+    }
+    for (size_t i = length; i < HASKUMYE_TEXT_SIZE; i++) {
+        text->bytes[i] = '\0';
+    }
+    return length;
 }
 
 #ifdef __cplusplus

@@ -8,11 +8,12 @@ mod hashing;
 mod kinds;
 mod measure;
 mod replays;
+mod saved;
 mod scene;
 mod search;
 mod state;
 
 fn main() {
     let only = std::env::args().nth(1).unwrap_or_default();
-    measure::run(only, &[hashing::run, check::run, search::run, calls::run, calls::run_keepalives, asking::run, replays::run]);
+    measure::run(only, &[hashing::run, check::run, search::run, calls::run, calls::run_keepalives, asking::run, replays::run, saved::run]);
 }

@@ -1,6 +1,6 @@
 /*
  * The header in C and in C++: it compiles without a warning, its accessors give the fields of an answer, and every call
- * takes NULL where the length is 0. With NARROW, WRITTEN, WIDE or IGNORED it does not compile. The last line is
+ * takes NULL where the length is 0. With NARROW, WRITTEN, WIDE, SHORT or IGNORED it does not compile. The last line is
  * `N passed, M failed`. `header words` prints the words of every number, as bindings/words has them.
  */
 #include "haskumye.h"
@@ -23,12 +23,12 @@ static void check(int holds, const char *what)
 
 static void check_accessors(void)
 {
-    const haskumye_answer refused = UINT64_C(0x0b00), drop = UINT64_C(0x0e01), forward = UINT64_C(0x0013000f0003),
+    const haskumye_answer refused = UINT64_C(0x0b00), drop = UINT64_C(0x0d01), forward = UINT64_C(0x0013000f0003),
                           spread = UINT64_C(0x01f480010004), deliver = UINT64_C(0x0023000000000002);
     CHECK(HASKUMYE_ANSWER_KIND(refused) == HASKUMYE_REFUSED);
     CHECK(HASKUMYE_ANSWER_REFUSAL(refused) == HASKUMYE_REFUSAL_LOCAL_ADDRESS);
     CHECK(HASKUMYE_ANSWER_KIND(drop) == HASKUMYE_DROP);
-    CHECK(HASKUMYE_ANSWER_REASON(drop) == HASKUMYE_REASON_GROWN_TOO_LONG);
+    CHECK(HASKUMYE_ANSWER_REASON(drop) == HASKUMYE_REASON_NO_ROOM);
     CHECK(HASKUMYE_ANSWER_KIND(forward) == HASKUMYE_FORWARD);
     CHECK(HASKUMYE_ANSWER_PORT(forward) == 15 && HASKUMYE_ANSWER_LENGTH(forward) == 19);
     CHECK(HASKUMYE_ANSWER_KIND(spread) == HASKUMYE_SPREAD && HASKUMYE_ANSWER_LENGTH(spread) == 500);
@@ -42,7 +42,53 @@ static void check_accessors(void)
     CHECK(HASKUMYE_ANSWER_KIND(next++) == HASKUMYE_DROP && next == drop + 1); /* evaluated once */
     next = forward;
     CHECK(HASKUMYE_ANSWER_PORT(next++) == 15 && next == forward + 1);
+    CHECK(HASKUMYE_ANSWER_LENGTH(deliver) == 0 && HASKUMYE_ANSWER_PAYLOAD(forward) == 0);
     CHECK(HASKUMYE_WRITTEN_REFUSAL(6) == HASKUMYE_REFUSAL_OUTPUT && HASKUMYE_WRITTEN_LENGTH(19u << 16) == 19);
+    const haskumye_saved saved = UINT64_C(72292) << 16, not_saved = HASKUMYE_REFUSAL_ROOM;
+    CHECK(HASKUMYE_SAVED_REFUSAL(saved) == HASKUMYE_REFUSAL_NONE && HASKUMYE_SAVED_LENGTH(saved) == 72292);
+    CHECK(HASKUMYE_SAVED_REFUSAL(not_saved) == HASKUMYE_REFUSAL_ROOM && HASKUMYE_SAVED_LENGTH(not_saved) == 0);
+}
+
+/* Clause, value and sentence of a drop: 6.3 with the greatest value that fits, and 3.4; and of what is none. */
+static void check_reasons(void)
+{
+    static haskumye_text text;
+    const uint64_t greatest = (UINT64_C(1) << 41) - 1;
+    const haskumye_answer expired = greatest << 20 | 0x30601, kept = 5, refused = UINT64_C(0x0700);
+    const haskumye_answer cut = UINT64_C(148) << 20 | 0x40301;
+    CHECK(HASKUMYE_ANSWER_REASON(expired) == HASKUMYE_REASON_NO_WAY_ON);
+    CHECK(HASKUMYE_ANSWER_CLAUSE(expired) == HASKUMYE_NO_WAY_ON_ONLY_EXPIRED);
+    CHECK(HASKUMYE_ANSWER_VALUE(expired) == greatest);
+    CHECK(HASKUMYE_ANSWER_CLAUSE(cut) == HASKUMYE_BAD_FORM_ANNOUNCE_TOO_SHORT && HASKUMYE_ANSWER_VALUE(cut) == 148);
+    CHECK(HASKUMYE_ANSWER_LENGTH(expired) == 0 && HASKUMYE_ANSWER_PAYLOAD(expired) == 0);
+    CHECK(HASKUMYE_ANSWER_PORTS(expired) == 0 && HASKUMYE_ANSWER_PORT(expired) == HASKUMYE_NO_PORT);
+    CHECK(HASKUMYE_ANSWER_CLAUSE(kept | 0x30000) == 0 && HASKUMYE_ANSWER_VALUE(kept | greatest << 20) == 0);
+    CHECK(haskumye_sentence(expired, &text) == strlen(text.bytes));
+    CHECK(strcmp(text.bytes, "no path to this destination: the last one ran out at 2199023255551") == 0);
+    CHECK(haskumye_sentence(cut, &text) == strlen(text.bytes));
+    CHECK(strcmp(text.bytes, "an announce whose payload is under 148 bytes") == 0);
+    CHECK(haskumye_sentence(UINT64_C(0x30601), &text) > 0 && strstr(text.bytes, " at 0") != NULL);
+    CHECK(haskumye_sentence(kept, &text) == 4 && strcmp(text.bytes, "kept") == 0);
+    CHECK(haskumye_sentence(refused, &text) == strlen(haskumye_refusal_words(HASKUMYE_REFUSAL_TABLES)));
+    CHECK(haskumye_answer_text(expired, &text) == 22 && strcmp(text.bytes, "drop 6.3 2199023255551") == 0);
+    CHECK(haskumye_answer_text(cut, &text) == 12 && strcmp(text.bytes, "drop 3.4 148") == 0);
+    CHECK(haskumye_answer_text(kept, &text) == 4 && text.bytes[HASKUMYE_TEXT_SIZE - 1] == '\0');
+}
+
+/* The sentence of each reason and clause that has one. The value has up to thirteen digits, and a zero follows. */
+static void print_sentences(void)
+{
+    for (unsigned number = 0; number < 256 * 16; number++) {
+        const char *words = haskumye_reason_sentence(number / 16, number % 16);
+        if (strcmp(words, "unknown") == 0 || strlen(words) + 13 > HASKUMYE_TEXT_SIZE) {
+            continue;
+        }
+        if (number / 16 == HASKUMYE_REASON_BAD_FORM || number / 16 == HASKUMYE_REASON_NO_WAY_ON) {
+            printf("sentence %u.%u %s\n", number / 16, number % 16, words);
+        } else if (number % 16 == 0) {
+            printf("sentence %u %s\n", number / 16, words);
+        }
+    }
 }
 
 /* The words of each number under 256 that has some. */
@@ -89,6 +135,7 @@ static void check_relay_calls(void)
     CHECK(haskumye_fresh(NULL, 0, &address) == HASKUMYE_REFUSAL_TABLES);
     CHECK(haskumye_check_tables(NULL, 0) == HASKUMYE_REFUSAL_TABLES);
     CHECK(haskumye_set_port(NULL, 0, 0, HASKUMYE_ON, HASKUMYE_MODE_BOUNDARY) == HASKUMYE_REFUSAL_TABLES);
+    CHECK(haskumye_set_announce_rate(NULL, 0, 0, 0, 0) == HASKUMYE_REFUSAL_TABLES);
     CHECK(haskumye_add_local(NULL, 0, &address) == HASKUMYE_REFUSAL_TABLES);
     CHECK(haskumye_remove_local(NULL, 0, &address) == HASKUMYE_REFUSAL_TABLES);
     CHECK(haskumye_renumber(NULL, 0, &map) == HASKUMYE_REFUSAL_TABLES);
@@ -103,18 +150,39 @@ static void check_relay_calls(void)
     CHECK(HASKUMYE_ANSWER_REFUSAL(answer) == HASKUMYE_REFUSAL_TOO_SHORT);
 }
 
+static void check_saving_calls(void)
+{
+    static const haskumye_address address = {{1}};
+    static haskumye_tally tally = {1, 2, 3, 4, 5, 6}, other;
+    static uint8_t tables[HASKUMYE_TABLE_SIZE], room[HASKUMYE_SAVED_SIZE], others[HASKUMYE_TABLE_SIZE];
+    CHECK(haskumye_saved_size() == HASKUMYE_SAVED_SIZE);
+    CHECK(haskumye_save(NULL, 0, &tally, NULL, 0) == HASKUMYE_REFUSAL_TABLES);
+    CHECK(haskumye_load(NULL, 0, NULL, 0, &tally) == HASKUMYE_REFUSAL_FILE_LENGTH);
+    CHECK(haskumye_fresh(tables, sizeof tables, &address) == 0);
+    CHECK(haskumye_save(tables, sizeof tables, &tally, NULL, 0) == HASKUMYE_REFUSAL_ROOM);
+    haskumye_saved saved = haskumye_save(tables, sizeof tables, &tally, room, sizeof room);
+    CHECK(HASKUMYE_SAVED_REFUSAL(saved) == 0 && HASKUMYE_SAVED_LENGTH(saved) == HASKUMYE_SAVED_SIZE);
+    CHECK(haskumye_load(room, sizeof room, NULL, 0, &other) == HASKUMYE_REFUSAL_ROOM && other.total == 0);
+    CHECK(haskumye_load(room, sizeof room, others, sizeof others, &other) == HASKUMYE_REFUSAL_NONE);
+    CHECK(memcmp(tables, others, sizeof tables) == 0 && memcmp(&tally, &other, sizeof tally) == 0);
+}
+
 static void check_questions(void)
 {
     static const haskumye_address address = {{0}};
     static const haskumye_time time = {{0, 0, 0, 1, 2, 3, 4, 5}};
     static haskumye_address local;
+    static const haskumye_setting setting = {{1, 2, 3, 4}};
     static haskumye_port_settings port;
+    static haskumye_rate_settings rate;
     static haskumye_path_record path;
     static haskumye_link_record link;
     static uint64_t number;
     static uint8_t tables[HASKUMYE_TABLE_SIZE];
     CHECK(haskumye_seconds(time) == UINT64_C(0x102030405));
+    CHECK(haskumye_setting_number(setting) == UINT32_C(0x1020304));
     CHECK(haskumye_port(NULL, 0, 0, &port) == HASKUMYE_REFUSAL_TABLES);
+    CHECK(haskumye_announce_rate(NULL, 0, &rate) == HASKUMYE_REFUSAL_TABLES);
     CHECK(haskumye_local(NULL, 0, 0, &local) == HASKUMYE_REFUSAL_TABLES);
     CHECK(haskumye_path(NULL, 0, 0, &path) == HASKUMYE_REFUSAL_TABLES);
     CHECK(haskumye_live_path(NULL, 0, &address, 0, &path) == HASKUMYE_REFUSAL_TABLES);
@@ -127,6 +195,10 @@ static void check_questions(void)
     CHECK(haskumye_set_port(tables, sizeof tables, 2, HASKUMYE_ON, HASKUMYE_MODE_ROAMING) == 0);
     CHECK(haskumye_port(tables, sizeof tables, 2, &port) == 0 && port.on == 1 && port.mode == HASKUMYE_MODE_ROAMING);
     CHECK(haskumye_port(tables, sizeof tables, 16, &port) == HASKUMYE_NONE && port.on == 1);
+    CHECK(haskumye_set_announce_rate(tables, sizeof tables, 3600, 5, HASKUMYE_PENALTY_LIMIT) == 0);
+    CHECK(haskumye_set_announce_rate(tables, sizeof tables, 3600, 256, 0) == HASKUMYE_REFUSAL_SETTING);
+    CHECK(haskumye_announce_rate(tables, sizeof tables, &rate) == 0 && haskumye_setting_number(rate.target) == 3600);
+    CHECK(haskumye_setting_number(rate.grace) == 5 && haskumye_setting_number(rate.penalty) == 604800);
     CHECK(haskumye_local(tables, sizeof tables, 0, &local) == HASKUMYE_NONE);
     CHECK(haskumye_path(tables, sizeof tables, 63, &path) == HASKUMYE_NONE);
     CHECK(haskumye_live_path(tables, sizeof tables, &address, 0, &path) == HASKUMYE_NONE);
@@ -196,6 +268,13 @@ unsigned wide(void)
     return HASKUMYE_WRITTEN_REFUSAL(haskumye_packet(NULL, 0, 0, 0, 0, NULL, 0, NULL, 0, NULL));
 }
 #endif
+#ifdef SHORT
+unsigned short_number(void);
+unsigned short_number(void)
+{
+    return HASKUMYE_SAVED_REFUSAL(haskumye_write(NULL, NULL, 0, NULL, 0));
+}
+#endif
 #ifdef IGNORED
 void ignored(void);
 void ignored(void)
@@ -209,13 +288,16 @@ int main(int count, char **words)
     if (count == 2 && strcmp(words[1], "words") == 0) {
         print_words("refusal", haskumye_refusal_words);
         print_words("reason", haskumye_reason_words);
+        print_sentences();
         print_words("kind", haskumye_kind_words);
         print_words("mode", haskumye_mode_words);
         return 0;
     }
     check_accessors();
+    check_reasons();
     check_packet_calls();
     check_relay_calls();
+    check_saving_calls();
     check_questions();
     check_announce_calls();
     check_recording_calls();

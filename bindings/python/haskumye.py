@@ -11,7 +11,7 @@ Signatures, access codes, framing and timers are the host's; docs/HOST.md tells 
         send(answer.port, answer.packet)
 
 Packets, addresses and payloads are bytes-like. A refused call raises Refused and has changed nothing. A call holds Python's lock, so those on one relay
-are made one at a time. The shared library, libhaskumye.so.2, is found in the repository's target/, below the prefix that this file is installed
+are made one at a time. The shared library, libhaskumye.so.3, is found in the repository's target/, below the prefix that this file is installed
 in, or by the system; HASKUMYE_LIBRARY names another file.
 """
 
@@ -21,12 +21,12 @@ import operator
 import os
 import pathlib
 from ctypes import c_char_p, c_size_t, c_uint8, c_uint32, c_uint64, c_void_p
-from typing import NamedTuple, Optional
+from typing import NamedTuple, Optional, Union
 
-VERSION = 2  # of the interface, as the header has it
+VERSION = 3  # of the interface, as the header has it
 
 # Sizes in bytes, and limits.
-TABLE_SIZE = 71116
+TABLE_SIZE = 72216
 OUTPUT_SIZE = 500
 SHORTEST_PACKET = 19
 LONGEST_PACKET = 500
@@ -34,6 +34,8 @@ LONGEST_MESSAGE = 65535
 TEXT_SIZE = 160
 RECORDING_SIZE = 60000
 ENTRY_WIDTH = 12
+SAVED_SIZE = 72292
+LONGEST_SAVED = 524332
 PORT_COUNT = 16
 LOCAL_COUNT = 16
 PATH_COUNT = 64
@@ -41,6 +43,9 @@ LINK_COUNT = 64
 RETURN_COUNT = 512
 HASH_COUNT = 1024
 CLOCK_LIMIT = 1 << 40
+TARGET_LIMIT = 86400
+GRACE_LIMIT = 254
+PENALTY_LIMIT = 604800
 NONE = 255
 VERIFY = 255
 OFF = 0
@@ -70,11 +75,11 @@ ANNOUNCE_EMISSION = 79
 
 
 class Words(enum.IntEnum):
-    """A number of the header, with its words: those of bindings/words, which the tests compare."""
+    """A number of the header, with its words and, for some, a sentence: those of bindings/words, which the tests compare."""
 
-    def __new__(cls, number, words):
+    def __new__(cls, number, words, sentence=None):
         member = int.__new__(cls, number)
-        member._value_, member.words = number, words
+        member._value_, member.words, member.sentence = number, words, sentence
         return member
 
 
@@ -89,35 +94,60 @@ class Refusal(Words):
     OUTPUT = 6, "output buffer under 500 bytes"
     TABLES = 7, "tables of wrong size, or with bytes that no relay has"
     MAP = 8, "renumbering map not one-to-one on 0..15"
-    SETTING = 9, "setting a port over 15 or an unknown mode"
+    SETTING = 9, "setting a port over 15, an unknown mode or an announce rate over its limit"
     LOCAL_FULL = 10, "adding a 17th local address"
     LOCAL_ADDRESS = 11, "adding a local address already there, or removing one not there"
-    FILE_LENGTH = 20, "file too long or shorter than its contents"
+    FILE_LENGTH = 20, "file too long or shorter than its contents (saved: another length)"
     FILE_KIND = 21, "kind or edition"
-    FILE_PLACE = 22, "offset, length or file end that breaks the rule"
+    FILE_PLACE = 22, "offset, length, count or file end that breaks the rule"
     SIGNATURE_WORD = 23, "signature word"
-    ROOM = 25, "too little room"
+    FILE_BODY = 24, "saved body of wrong size, or with bytes that no relay has"
+    ROOM = 25, "too little room (loading: not the tables' size)"
     ANNOUNCE_PART = 26, "key, name, random, ratchet or signature of wrong length"
     ANNOUNCE_TOO_LONG = 27, "announce over 500 once built"
 
 
-class Reason(Words):
-    """Why a packet was dropped: document 01's first test that held."""
+class BadForm(Words):
+    """The clause of test 3 that a packet's form breaks. Its words are a sentence, with # for the least payload length."""
 
-    NOT_OURS = 1, "not ours"
-    DUPLICATE = 2, "duplicate"
+    TYPE_TWO_PROOF = 1, "a proof that names a relay: no proof is of type 2"
+    TYPE_TWO_OF_KIND_LINK = 2, "a packet of a link that names a relay: none is of type 2"
+    ANNOUNCE_NOT_SINGLE = 3, "an announce whose destination is not of kind single"
+    ANNOUNCE_TOO_SHORT = 4, "an announce whose payload is under # bytes"
+    ANNOUNCE_OF_ANOTHER = 5, "an announce whose destination does not belong to its keys"
+    REQUEST_OF_KIND_LINK = 6, "a link request whose destination is a link"
+    REQUEST_TOO_SHORT = 7, "a link request whose payload is under # bytes"
+    LINK_PROOF_LENGTH = 8, "a link proof whose payload is not # bytes, nor three more"
+
+
+class NoWayOn(Words):
+    """The case of test 6. Its words are a sentence, with # for the expiry."""
+
+    NOT_ASKING = 1, "it asks no relay to carry it, and is not for this box"
+    NO_PATH = 2, "no path to this destination: none is held"
+    ONLY_EXPIRED = 3, "no path to this destination: the last one ran out at #"
+    NO_LINK = 4, "no such link: it ran out, or never led through here"
+    NOT_PROVED = 5, "this link is not proved yet"
+    NO_RETURN = 6, "nobody waits for this receipt: it is late, or its packet did not go through here"
+
+
+class Reason(Words):
+    """Why a packet was dropped: the first test that held, with a sentence where it has no clauses."""
+
+    NOT_OURS = 1, "not ours", "another relay is asked to carry it"
+    DUPLICATE = 2, "duplicate", "the same packet came less than 300 s ago"
     BAD_FORM = 3, "bad form"
-    OWN_ANNOUNCE = 4, "own announce"
-    TOO_MANY_HOPS = 5, "hops 128 or more"
+    OWN_ANNOUNCE = 4, "own announce", "an announce of this box's own came back"
+    TOO_MANY_HOPS = 5, "hops 128 or more", "128 relays or more carried it"
     NO_WAY_ON = 6, "no way on"
-    ALREADY_KNOWN = 7, "already known"
-    WRONG_SIDE = 8, "wrong side"
-    NOT_SIGNED = 9, "signature word no"
-    REPLAY = 10, "replay"
-    NOT_BETTER = 11, "not better"
-    PORT_OFF = 12, "port off"
-    NO_ROOM = 13, "no room"
-    GROWN_TOO_LONG = 14, "grown too long"
+    ALREADY_KNOWN = 7, "already known", "this link is known already"
+    WRONG_SIDE = 8, "wrong side", "it came by another port, or with other hops, than its way has"
+    NOT_SIGNED = 9, "signature word no", "its signature was not found good"
+    REPLAY = 10, "replay", "this announce was taken in before"
+    NOT_BETTER = 11, "not better", "an announce no newer than the one held, by no shorter way"
+    PORT_OFF = 12, "port off", "the port to leave by is off"
+    NO_ROOM = 13, "no room", "no room for another path or link"
+    RATE_LIMITED = 15, "announced too often", "this destination announces itself too often"
 
 
 class Kind(Words):
@@ -148,12 +178,28 @@ class Refused(Exception):
 
 
 class Drop(NamedTuple):
-    """The packet goes no further."""
+    """The packet goes no further. The clause is a BadForm or a NoWayOn where the reason has some. The value is the least payload length that would have
+    served, or 0 where length is not the fault (3); or the greatest expiry of the destination's expired paths, in seconds (6.3); else 0."""
 
     reason: Reason
+    clause: Union[BadForm, NoWayOn, None] = None
+    value: int = 0
+
+    @property
+    def text(self):
+        """The words of a replay's line: drop 6.3 22600."""
+        clause = "" if self.clause is None else f".{self.clause.value}"
+        told = isinstance(self.clause, BadForm) or self.clause is NoWayOn.ONLY_EXPIRED
+        return f"drop {self.reason.value}{clause}" + (f" {self.value}" if told else "")
+
+    @property
+    def sentence(self):
+        """A sentence for people, with the value filled in."""
+        form = self.reason.sentence if self.clause is None else self.clause.words
+        return form.replace("#", str(self.value))
 
     def __str__(self):
-        return f"drop {self.reason.value}: {self.reason.words}"
+        return f"{self.text}: {self.sentence}"
 
 
 class Deliver(NamedTuple):
@@ -232,6 +278,8 @@ class Replayed(NamedTuple):
     reason: Optional[Reason] = None
     ports: tuple = ()
     length: int = 0
+    clause: Union[BadForm, NoWayOn, None] = None
+    value: int = 0
 
 
 class Port(NamedTuple):
@@ -241,14 +289,27 @@ class Port(NamedTuple):
     mode: Mode
 
 
+class AnnounceRate(NamedTuple):
+    """How often a destination may announce itself: the least seconds between two announces, how many violations are let through, and the seconds that
+    it is blocked for beyond the target. With a target of 0 there is no limit."""
+
+    target: int = 0
+    grace: int = 0
+    penalty: int = 0
+
+
 class Path(NamedTuple):
-    """A path. It is live while the clock is below its expiry, in seconds."""
+    """A path. It is live while the clock is below its expiry, in seconds. Announces of its destination are dropped by 15 while the clock is below
+    `blocked_until`."""
 
     destination: bytes
     port: int
     hops: int
     next_hop: bytes
     expiry: int
+    last_announce: int
+    violations: int
+    blocked_until: int
     blob_count: int
 
 
@@ -287,11 +348,17 @@ FUNCTIONS = {
     "haskumye_fresh": (c_uint8, [*_BUFFER, _GIVEN]),
     "haskumye_check_tables": (c_uint8, [*_BYTES]),
     "haskumye_set_port": (c_uint8, [*_BUFFER, c_uint64, c_uint8, c_uint64]),
+    "haskumye_set_announce_rate": (c_uint8, [*_BUFFER, c_uint64, c_uint64, c_uint64]),
     "haskumye_add_local": (c_uint8, [*_BUFFER, _GIVEN]),
     "haskumye_remove_local": (c_uint8, [*_BUFFER, _GIVEN]),
     "haskumye_renumber": (c_uint8, [*_BUFFER, _GIVEN]),
     "haskumye_packet": (c_uint64, [*_BYTES, c_uint64, c_uint64, c_uint8, *_BUFFER, *_BUFFER, _TAKEN]),
+    "haskumye_answer_text": (c_size_t, [c_uint64, _TAKEN]),
+    "haskumye_saved_size": (c_size_t, []),
+    "haskumye_save": (c_uint64, [*_BYTES, _GIVEN, *_BUFFER]),
+    "haskumye_load": (c_uint8, [*_BYTES, *_BUFFER, _TAKEN]),
     "haskumye_port": (c_uint8, [*_BYTES, c_uint64, _TAKEN]),
+    "haskumye_announce_rate": (c_uint8, [*_BYTES, _TAKEN]),
     "haskumye_local": (c_uint8, [*_BYTES, c_uint64, _TAKEN]),
     "haskumye_path": (c_uint8, [*_BYTES, c_uint64, _TAKEN]),
     "haskumye_live_path": (c_uint8, [*_BYTES, _GIVEN, c_uint64, _TAKEN]),
@@ -534,6 +601,19 @@ class Relay:
         relay._tally[:] = [_number(count, 32) for count in tally]
         return relay
 
+    @classmethod
+    def load(cls, file):
+        """The relay of a file that `save` gave, of this edition or an older one. What a host put behind it is cut off first. Refusals 20, 21, 22 and
+        24, in this order."""
+        relay, file = cls(bytes(16)), _bytes(file)
+        _done(_library.haskumye_load(file, len(file), relay._tables, TABLE_SIZE, relay._tally))
+        return relay
+
+    def save(self):
+        """The relay's tables and tally as a file, which has no checksum; docs/LAYOUT.md says what lies where."""
+        room = ctypes.create_string_buffer(SAVED_SIZE)
+        return _written(_library.haskumye_save(self._tables, TABLE_SIZE, bytes(self._tally), room, SAVED_SIZE), room)
+
     def _call(self, function, *arguments):
         _done(function(self._tables, TABLE_SIZE, *arguments))
 
@@ -570,6 +650,11 @@ class Relay:
     def set_port(self, port, on, mode):
         """Sets a port on or off, and its mode. Records that name the port stay. Refusal 9."""
         self._call(_library.haskumye_set_port, _number(port), ON if on else OFF, _number(mode))
+
+    def set_announce_rate(self, target, grace, penalty):
+        """Sets how often every destination may announce itself, as AnnounceRate says. Paths stay, blocked ones too. Refusal 9 for a number over its
+        limit."""
+        self._call(_library.haskumye_set_announce_rate, _number(target), _number(grace), _number(penalty))
 
     def add_local(self, address):
         """Adds an address whose packets are delivered here. Refusal 11 where it is there already, 10 for a 17th."""
@@ -612,17 +697,23 @@ class Relay:
         told = self._told(_library.haskumye_port, 2, _number(port))
         return told and Port(told[0] == ON, Mode(told[1]))
 
+    @property
+    def announce_rate(self):
+        """The announce rate's settings."""
+        told = self._told(_library.haskumye_announce_rate, 12)
+        return AnnounceRate(*(int.from_bytes(told[at : at + 4], "big") for at in (0, 4, 8)))
+
     def local(self, place):
         """The local address at a place, below LOCAL_COUNT; None where it is empty."""
         return self._told(_library.haskumye_local, 16, _number(place))
 
     def path(self, place):
         """The path at a place, below PATH_COUNT, live or not; None where it is empty."""
-        return _path(self._told(_library.haskumye_path, 43, _number(place)))
+        return _path(self._told(_library.haskumye_path, 60, _number(place)))
 
     def live_path(self, destination, clock):
         """A destination's live path at a clock, or None."""
-        return _path(self._told(_library.haskumye_live_path, 43, _exactly(destination, 16, "an address"), _number(clock)))
+        return _path(self._told(_library.haskumye_live_path, 60, _exactly(destination, 16, "an address"), _number(clock)))
 
     def link(self, place):
         """The link at a place, below LINK_COUNT, live or not; None where it is empty."""
@@ -656,12 +747,26 @@ class Relay:
 
 
 def _path(told):
-    return told and Path(told[:16], told[16], told[17], told[18:34], int.from_bytes(told[34:42], "big"), told[42])
+    if told is None:
+        return None
+    time = lambda at: int.from_bytes(told[at : at + 8], "big")
+    return Path(told[:16], told[16], told[17], told[18:34], time(34), time(42), told[50], time(51), told[59])
 
 
 def _fields(number):
-    """The fields of a packet call's number: kind, detail, ports, length, and where a delivered payload starts."""
+    """The fields of a packet call's number: kind, detail, ports, length, and where a delivered payload starts. A drop has others behind the detail."""
     return number & 0xFF, number >> 8 & 0xFF, number >> 16 & 0xFFFF, number >> 32 & 0xFFFF, number >> 48
+
+
+def _drop(number):
+    """The drop that a packet call's number says."""
+    reason, clause, value = Reason(number >> 8 & 0xFF), number >> 16 & 0xF, number >> 20
+    clauses = {Reason.BAD_FORM: BadForm, Reason.NO_WAY_ON: NoWayOn}
+    if reason in clauses and value < 1 << 41:
+        return Drop(reason, clauses[reason](clause), value)
+    if clause == value == 0:
+        return Drop(reason)
+    raise ValueError(f"the library answered {number:#x}, which this module does not know")
 
 
 def _port_set(ports):
@@ -672,14 +777,11 @@ def _replayed(number, line):
     kind, detail, ports, length, _ = _fields(number)
     if (kind, detail) == (Kind.REFUSED, Refusal.FILE_PLACE):
         raise Refused(detail)
-    return Replayed(
-        line,
-        Kind(kind),
-        refusal=Refusal(detail) if kind == Kind.REFUSED else None,
-        reason=Reason(detail) if kind == Kind.DROP else None,
-        ports=(ports,) if kind == Kind.FORWARD else _port_set(ports),
-        length=length,
-    )
+    if kind == Kind.REFUSED:
+        return Replayed(line, Kind.REFUSED, refusal=Refusal(detail))
+    if kind == Kind.DROP:
+        return Replayed(line, Kind.DROP, **_drop(number)._asdict())
+    return Replayed(line, Kind(kind), ports=(ports,) if kind == Kind.FORWARD else _port_set(ports), length=length)
 
 
 def _answer(number, packet, output):
@@ -688,7 +790,7 @@ def _answer(number, packet, output):
     if kind == Kind.REFUSED:
         raise Refused(detail)
     if kind == Kind.DROP:
-        return Drop(Reason(detail))
+        return _drop(number)
     if kind == Kind.DELIVER:
         return Deliver(packet[start:])
     if kind == Kind.FORWARD:

@@ -125,28 +125,38 @@ static uint8_t signed_well(const struct wire *wire, const uint8_t *packet, size_
     return 1;
 }
 
+/* A refusal or a drop: `drop 6.3 22600: no path to this destination: the last one ran out at 22600`. */
+static void print_why(haskumye_answer answer)
+{
+    haskumye_text text, sentence;
+    haskumye_answer_text(answer, &text);
+    haskumye_sentence(answer, &sentence);
+    printf("%s: %s", text.bytes, sentence.bytes);
+}
+
 static void act(const struct wire *wire, haskumye_answer answer, const uint8_t *packet, size_t length)
 {
     size_t payload = HASKUMYE_ANSWER_PAYLOAD(answer);
-    printf("%s (%u) %s", wire->name, wire->port, haskumye_kind_words(HASKUMYE_ANSWER_KIND(answer)));
+    printf("%s (%u) ", wire->name, wire->port);
     switch (HASKUMYE_ANSWER_KIND(answer)) {
     case HASKUMYE_REFUSED:
-        printf(" %u: %s", HASKUMYE_ANSWER_REFUSAL(answer), haskumye_refusal_words(HASKUMYE_ANSWER_REFUSAL(answer)));
-        break;
     case HASKUMYE_DROP:
-        printf(" %u: %s", HASKUMYE_ANSWER_REASON(answer), haskumye_reason_words(HASKUMYE_ANSWER_REASON(answer)));
+        print_why(answer);
         break;
     case HASKUMYE_DELIVER:
-        printf(" %.*s", (int)(length - payload), (const char *)packet + payload);
+        printf("deliver %.*s", (int)(length - payload), (const char *)packet + payload);
         send_receipt(wire, packet, length);
         break;
     case HASKUMYE_FORWARD:
+        printf("forward");
         transmit(HASKUMYE_ANSWER_PORT(answer), HASKUMYE_ANSWER_LENGTH(answer));
         break;
     case HASKUMYE_SPREAD:
+        printf("spread");
         transmit_by_each(answer);
         break;
-    default: /* kept */
+    default:
+        printf("kept");
         break;
     }
     printf("\n");
@@ -187,6 +197,13 @@ static int read_wires_file(struct wires *into)
     return read_wires(path, into);
 }
 
+static void set_announce_rate(const struct wires *from)
+{
+    expect_done("setting the announce rate",
+                haskumye_set_announce_rate(state.tables, sizeof state.tables, from->rate_target, from->rate_grace,
+                                           from->rate_penalty));
+}
+
 /* Ports by their new numbers, wires and tables in one step: between two packets nothing else is under way. */
 static void renumber(void)
 {
@@ -197,6 +214,7 @@ static void renumber(void)
     }
     haskumye_port_map map = map_to(&changed, state.wires);
     expect_done("renumbering", haskumye_renumber(state.tables, sizeof state.tables, &map));
+    set_announce_rate(&changed);
     for (unsigned i = 0; i < wires.count; i++) {
         wires.wire[i].port = map.to[wires.wire[i].port];
     }
@@ -245,6 +263,9 @@ static void set_ports(void)
 static void restore(void)
 {
     enum loaded loaded = load_state(folder, &state);
+    if (loaded == OTHER_EDITION) {
+        give_up("a newer box saved the state: start that one, or take the file away");
+    }
     if (loaded == NOT_WHOLE) {
         fprintf(stderr, "box: the saved state is not whole: starting fresh\n");
     }
@@ -254,6 +275,7 @@ static void restore(void)
     }
     take_saved_ports();
     set_ports();
+    set_announce_rate(&wires);
     expect_done("reading the clock", haskumye_last_clock(state.tables, sizeof state.tables, &clock_at_start));
     started = monotonic_seconds();
     printf("%s at clock %llu\n", loaded == LOADED ? "restored" : "fresh", (unsigned long long)clock_at_start);

@@ -31,6 +31,16 @@ static void print_ports(FILE *page, const struct state *state)
     }
 }
 
+static void print_rate(FILE *page, const struct state *state)
+{
+    haskumye_rate_settings rate;
+    if (haskumye_announce_rate(state->tables, sizeof state->tables, &rate) == HASKUMYE_REFUSAL_NONE &&
+        haskumye_setting_number(rate.target) > 0) {
+        fprintf(page, "announce rate target %u grace %u penalty %u\n", haskumye_setting_number(rate.target),
+                haskumye_setting_number(rate.grace), haskumye_setting_number(rate.penalty));
+    }
+}
+
 static void print_locals(FILE *page, const struct state *state)
 {
     haskumye_address address;
@@ -43,6 +53,18 @@ static void print_locals(FILE *page, const struct state *state)
     }
 }
 
+/* Whether the destination announces too often, and for how long it is not heard. */
+static void print_blocked(FILE *page, const haskumye_path_record *path, uint64_t clock)
+{
+    uint64_t until = haskumye_seconds(path->blocked_until);
+    if (path->violations > 0) {
+        fprintf(page, " violations %u", path->violations);
+    }
+    if (clock < until) {
+        fprintf(page, " blocked for %llu s", (unsigned long long)(until - clock));
+    }
+}
+
 static void print_paths(FILE *page, const struct state *state, uint64_t clock)
 {
     haskumye_path_record path;
@@ -51,6 +73,7 @@ static void print_paths(FILE *page, const struct state *state, uint64_t clock)
             fprintf(page, "path ");
             print_address(page, &path.destination);
             fprintf(page, " hops %u port %u", path.hops, path.port);
+            print_blocked(page, &path, clock);
             print_expiry(page, path.expiry, clock);
         }
     }
@@ -93,6 +116,7 @@ int write_status(const char *folder, const struct state *state, uint64_t clock, 
         return 0;
     }
     print_ports(page, state);
+    print_rate(page, state);
     print_locals(page, state);
     print_paths(page, state, clock);
     print_links(page, state, clock);

@@ -129,7 +129,7 @@ static FILE *wires_of(int box)
 static void wire_cold_store(unsigned cable, unsigned north, unsigned south)
 {
     FILE *file = wires_of(COLD);
-    fprintf(file, "own cold-store\n");
+    fprintf(file, "own cold-store\nannounce-rate 3600 5 7200\n");
     fprintf(file, "wire cable %u boundary %u %u\n", cable, udp[COLD_CABLE], udp[DESK_CABLE]);
     fprintf(file, "wire radio-north %u roaming %u %u\n", north, udp[COLD_NORTH], udp[GROWTH_RADIO]);
     fprintf(file, "wire radio-south %u roaming %u %u\n", south, udp[COLD_SOUTH], udp[NOWHERE]);

@@ -2,7 +2,7 @@
 #include <stdio.h>
 #include <string.h>
 
-enum { LINE_SIZE = 128 };
+enum { LINE_SIZE = 512 };
 
 static int mode_of(const char *word)
 {
@@ -55,6 +55,14 @@ static int read_wire(const char *line, struct wires *wires)
     return 1;
 }
 
+/* announce-rate TARGET GRACE PENALTY */
+static int read_rate(const char *line, struct wires *wires)
+{
+    return sscanf(line, "announce-rate %u %u %u", &wires->rate_target, &wires->rate_grace, &wires->rate_penalty) == 3 &&
+           wires->rate_target <= HASKUMYE_TARGET_LIMIT && wires->rate_grace <= HASKUMYE_GRACE_LIMIT &&
+           wires->rate_penalty <= HASKUMYE_PENALTY_LIMIT;
+}
+
 static int read_line(const char *line, struct wires *wires)
 {
     char own[NAME_SIZE + 1];
@@ -71,7 +79,7 @@ static int read_line(const char *line, struct wires *wires)
         wires->desk_key = (uint8_t)key;
         return 1;
     }
-    return read_wire(line, wires);
+    return strncmp(line, "announce-rate", 13) == 0 ? read_rate(line, wires) : read_wire(line, wires);
 }
 
 int read_wires(const char *path, struct wires *wires)

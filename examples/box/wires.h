@@ -17,6 +17,7 @@ struct wires {
     haskumye_address own;
     int has_desk; /* whether packets for `desk_key` are for people at this box */
     uint8_t desk_key;
+    unsigned rate_target, rate_grace, rate_penalty; /* the announce rate; 0 without a line for it */
     struct wire wire[HASKUMYE_PORT_COUNT];
     unsigned count;
 };

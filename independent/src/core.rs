@@ -6,12 +6,13 @@ use crate::answer::Tally;
 use crate::engine::Fields;
 use crate::packet::{Address, Blob, PacketHash, Parts};
 use crate::relay::asking::Question;
+use crate::tables::AnnounceRate;
 use haskumye::raw::*;
 
 /// Header, hops, relay address, destination, context.
 pub type PartsBytes = [u8; 35];
 
-/// The bytes that a line of the showing program is given in.
+/// The bytes that a line of the showing program, a replay's line and an answer's text are given in.
 pub const LINE: usize = 160;
 
 /// The parts of a packet as they cross.
@@ -98,6 +99,10 @@ pub fn set_port(tables: &mut [u8], port: u64, on: u8, mode: u64) -> u8 {
     unsafe { haskumye_set_port(tables.as_mut_ptr(), tables.len(), port, on, mode) }
 }
 
+pub fn set_announce_rate(tables: &mut [u8], rate: &AnnounceRate) -> u8 {
+    unsafe { haskumye_set_announce_rate(tables.as_mut_ptr(), tables.len(), rate.target, rate.grace, rate.penalty) }
+}
+
 pub fn add_local(tables: &mut [u8], address: &Address) -> u8 {
     unsafe { haskumye_add_local(tables.as_mut_ptr(), tables.len(), address) }
 }
@@ -119,6 +124,7 @@ pub fn ask(tables: &[u8], question: &Question, reply: &mut [u8]) -> u8 {
         Question::Local(place) => return unsafe { haskumye_local(at, size, *place, out.cast()) },
         Question::Path(place) => return unsafe { haskumye_path(at, size, *place, out.cast()) },
         Question::Link(place) => return unsafe { haskumye_link(at, size, *place, out.cast()) },
+        Question::AnnounceRate => return unsafe { haskumye_announce_rate(at, size, out.cast()) },
         Question::LivePath { destination, clock } => return unsafe { haskumye_live_path(at, size, destination, *clock, out.cast()) },
         Question::LiveReturns(_) => |at, size, clock, count| unsafe { haskumye_live_returns(at, size, clock, count) },
         Question::LiveHashes(_) => |at, size, clock, count| unsafe { haskumye_live_hashes(at, size, clock, count) },
@@ -153,11 +159,16 @@ pub fn build_announce(own: &Own, signature: &[u8], room: &mut [u8]) -> u32 {
     unsafe { haskumye_build_announce(k, kl, n, nl, r, rl, clock, t, tl, a, al, s, sl, room.as_mut_ptr(), room.len()) }
 }
 
-/// The answer as one number, its fields as in `linked`; signed by 1, not by any other number.
+/// The answer as one number, its fields as in `engine::decoded`; signed by 1, not by any other number.
 pub fn packet(packet: &[u8], port: u64, clock: u64, signed: u8, tables: &mut [u8], output: &mut [u8], tally: &mut Tally) -> u64 {
     let (size, room) = (tables.len(), output.len());
     let (tables, output) = (tables.as_mut_ptr(), output.as_mut_ptr());
     unsafe { haskumye_packet(packet.as_ptr(), packet.len(), port, clock, signed, tables, size, output, room, tally.as_mut_ptr().cast()) }
+}
+
+/// The length of an answer's text; the text goes to the buffer, with zeros behind it.
+pub fn answer_text(answer: u64, text: &mut [u8; LINE]) -> usize {
+    unsafe { haskumye_answer_text(answer, text) }
 }
 
 /// A file's refusal, 20 to 23, or 0.
@@ -178,6 +189,21 @@ pub fn recording_entry(file: &[u8], index: u64, fields: &mut Fields) -> u8 {
 pub fn write_recording(entries: &[u8], bodies: &[u8], room: &mut [u8]) -> u32 {
     let (given, size) = ((entries.as_ptr(), bodies.as_ptr()), room.len());
     unsafe { haskumye_write_recording(given.0, entries.len(), given.1, bodies.len(), room.as_mut_ptr(), size) }
+}
+
+/// How long a saved file is.
+pub fn saved_size() -> usize {
+    unsafe { haskumye_saved_size() }
+}
+
+/// The refusal number in the low 16 bits, the length in those above; the file goes to the room's start.
+pub fn save(tables: &[u8], tally: &Tally, room: &mut [u8]) -> u64 {
+    unsafe { haskumye_save(tables.as_ptr(), tables.len(), tally.as_ptr().cast(), room.as_mut_ptr(), room.len()) }
+}
+
+/// A file's refusal, 20 to 25, or 0.
+pub fn load(file: &[u8], tables: &mut [u8], tally: &mut Tally) -> u8 {
+    unsafe { haskumye_load(file.as_ptr(), file.len(), tables.as_mut_ptr(), tables.len(), tally.as_mut_ptr().cast()) }
 }
 
 /// The packet call of an entry, its answer as one number; its line goes to the buffer, with zeros behind it.

@@ -45,6 +45,16 @@ pub const LINK_KEYS: usize = 64;
 pub const LINK_PROOF: u8 = 0xff;
 pub const LINK_PROOF_LENGTHS: [usize; 2] = [96, 99];
 
+/// Wish 5: "Target, grace and penalty are at most 86,400, 254 and 604,800"
+pub const TARGET_LIMIT: u64 = 86_400;
+pub const GRACE_LIMIT: u64 = 254;
+pub const PENALTY_LIMIT: u64 = 604_800;
+/// "refusal 7's bound is 2^40 + 691,199 for blocked-until, 2^40 - 1 for the last announce"
+pub const LATEST_BLOCK: u64 = CLOCK_LIMIT + 691_199;
+pub const LATEST_ANNOUNCE: u64 = CLOCK_LIMIT - 1;
+/// "Violations stop at 255."
+pub const VIOLATIONS_LIMIT: u8 = 255;
+
 /// Wish 2: "context 0x01, 0x03, 0x05, 0x08, 0x0E or 0xFA". Source 003 names them: a resource, its request and its proof, a cache request,
 /// channel data, a keepalive.
 pub const EXEMPT_CONTEXTS: [u8; 6] = [0x01, 0x03, 0x05, 0x08, 0x0e, 0xfa];

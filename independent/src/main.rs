@@ -1,9 +1,9 @@
 //! compare [SUBJECT..] [--seed N] [--count N] [--calls N] [--file PATH] [--fault NAME] [--damage]
 //! Compares the proved core with the independent program. The last line is `N passed, M failed`.
-//! compare record --file PATH [--seed N] [--calls N]
+//! compare list --file PATH [--seed N] [--calls N]
 //! Writes calls, and what the independent relay makes of them, for hosts in other languages.
 
-use haskumye_independent::compare::{listed, record, Options, Subject, Tally, SUBJECTS};
+use haskumye_independent::compare::{answered, listed, Options, Subject, Tally, SUBJECTS};
 use haskumye_independent::faults::{named, Fault};
 use std::path::PathBuf;
 use std::process::ExitCode;
@@ -14,14 +14,14 @@ const OF_CALLS: [&str; 2] = ["relay", "faults"];
 /// What is asked for.
 enum Task {
     Compare(Vec<Subject>),
-    Record(PathBuf),
+    List(PathBuf),
 }
 
 fn main() -> ExitCode {
     let done = read_arguments(std::env::args().skip(1)).and_then(|(options, task)| match task {
         Task::Compare(subjects) => Ok(compare(&options, &subjects)),
-        Task::Record(path) => record::record(&options, &path).map(|calls| {
-            println!("{calls} calls recorded, seed {}", options.seed);
+        Task::List(path) => answered::write(&options, &path).map(|calls| {
+            println!("{calls} calls listed, seed {}", options.seed);
             ExitCode::SUCCESS
         }),
     });
@@ -60,8 +60,8 @@ fn read_arguments(mut words: impl Iterator<Item = String>) -> Result<(Options, T
             _ => names.push(word),
         }
     }
-    if names == ["record"] {
-        return Ok((options, Task::Record(file.ok_or("record wants --file")?)));
+    if names == ["list"] {
+        return Ok((options, Task::List(file.ok_or("list wants --file")?)));
     }
     if let Some(path) = file {
         if names.is_empty() || names.iter().any(|name| !OF_CALLS.contains(&name.as_str())) {

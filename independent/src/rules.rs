@@ -2,16 +2,17 @@
 //! put in the place of one of them.
 
 pub use crate::announcing::{self, Own};
-pub use crate::answer::{self, Answer, Reason, Refusal, Tally, Verdict, When};
+pub use crate::answer::{self, no_way_on, Answer, Clause, NoWay, Reason, Refusal, Tally, Verdict, When};
 pub use crate::packet::{self, announced, hash, Address, Blob, Header, PacketHash, Parts};
 pub use crate::recording::replaying::Judged;
 pub use crate::recording::{self, reading, replaying, writing, Entry};
 pub use crate::relay::asking::{self, Question};
 pub use crate::relay::links::Side;
 pub use crate::relay::renumbering::Map;
-pub use crate::relay::{accept, announces, by_path, form, judge, links, outgoing, renumbering, returns, settings, Arrival, Packet};
+pub use crate::relay::{accept, announces, by_path, form, judge, links, outgoing, rate, renumbering, returns, settings, Arrival, Packet};
+pub use crate::saved::{loading, saving};
 pub use crate::sha256::Sha256;
-pub use crate::tables::{self, check, tuned, Link, Mode, Path, Port, Return, Section, Table};
+pub use crate::tables::{self, check, tuned, AnnounceRate, Link, Mode, Path, Port, RateEntry, Return, Section, Table};
 
 /// Hands the list to a macro: the file of each rule, its name, and its types. A rule that goes by others is given the rules.
 macro_rules! every_rule {
@@ -45,6 +46,9 @@ macro_rules! every_rule {
             check::unused_allowed(record: &[u8]) -> bool;
             check::path_allowed(&rules, path: &[u8]) -> bool;
             check::blob_count_allowed(count: u8) -> bool;
+            check::last_announce_allowed(time: u64) -> bool;
+            check::block_allowed(time: u64) -> bool;
+            check::rate_allowed(rate: &AnnounceRate) -> bool;
             check::ring_place_allowed(place: usize, count: usize) -> bool;
             tables::find(table: &Table, tables: &[u8], key: &[u8], clock: u64) -> Option<usize>;
 
@@ -54,6 +58,8 @@ macro_rules! every_rule {
             settings::is_there(address: &Address, tables: &[u8]) -> bool;
             settings::empty_local(tables: &[u8]) -> Option<usize>;
             settings::clear_local(place: usize, tables: &mut [u8]);
+            rate::set_announce_rate(&rules, tables: &mut [u8], rate: &AnnounceRate) -> Result<(), Refusal>;
+            rate::rate_refused(rate: &AnnounceRate) -> bool;
             renumbering::renumber(&rules, tables: &mut [u8], map: &Map) -> Result<(), Refusal>;
             renumbering::move_settings(map: &Map, tables: &mut [u8]);
             renumbering::rename_ports(map: &Map, table: &Table, tables: &mut [u8]);
@@ -75,6 +81,8 @@ macro_rules! every_rule {
             judge::is_exempt(packet: &Packet) -> bool;
             judge::is_duplicate(&rules, hash: &PacketHash, clock: u64, tables: &[u8]) -> bool;
             judge::remember(hash: &PacketHash, clock: u64, tables: &mut [u8]);
+            form::failing_clause(&rules, packet: &Packet) -> Option<Clause>;
+            form::least_length(&rules, clause: Clause, packet: &Packet) -> usize;
             form::type_2_proof(packet: &Packet) -> bool;
             form::type_2_link(packet: &Packet) -> bool;
             form::announce_not_single(packet: &Packet) -> bool;
@@ -99,9 +107,19 @@ macro_rules! every_rule {
             announces::path_lifetime(mode: Mode) -> u64;
             announces::store_blob(blob: &[u8], path: &mut [u8]);
 
+            rate::test_15(&rules, clock: u64, known: Option<usize>, tables: &mut [u8]) -> Result<RateEntry, Reason>;
+            rate::is_blocked(clock: u64, entry: &RateEntry) -> bool;
+            rate::is_violation(clock: u64, rate: &AnnounceRate, entry: &RateEntry) -> bool;
+            rate::one_violation_more(violations: u8) -> u8;
+            rate::above_grace(violations: u8, rate: &AnnounceRate) -> bool;
+            rate::block_end(clock: u64, rate: &AnnounceRate, entry: &RateEntry) -> u64;
+            rate::forgiven(violations: u8) -> u8;
+            rate::store_rate(clock: u64, entry: &RateEntry, path: &mut [u8]);
+
             by_path::path_to(&rules, packet: &Packet, tables: &[u8]) -> Result<Path, Reason>;
             by_path::not_to_be_relayed(packet: &Packet) -> bool;
             by_path::live_path(&rules, packet: &Packet, tables: &[u8]) -> Option<usize>;
+            by_path::greatest_expiry(packet: &Packet, tables: &[u8]) -> Option<u64>;
             by_path::request_tests(&rules, packet: &Packet, id: &Address, path: &Path, tables: &[u8]) -> Result<usize, Reason>;
             links::is_known_link(&rules, id: &Address, clock: u64, tables: &[u8]) -> bool;
             links::link_slot(clock: u64, tables: &[u8]) -> Option<usize>;
@@ -139,6 +157,8 @@ macro_rules! every_rule {
             asking::used_at(section: &Section, place: u64, tables: &[u8]) -> Option<usize>;
             asking::path_at(&rules, place: u64, tables: &[u8]) -> Option<usize>;
             asking::path_told_live(&rules, destination: &Address, clock: u64, tables: &[u8]) -> Option<usize>;
+            asking::rate_told(rate: &AnnounceRate) -> Vec<u8>;
+            asking::entry_told(entry: &RateEntry) -> Vec<u8>;
             asking::live_count(table: &Table, clock: u64, tables: &[u8]) -> u64;
             asking::signature_matters(
                 &rules, sha: &Sha256, tables: &[u8], room: usize, arrival: &Arrival
@@ -159,8 +179,24 @@ macro_rules! every_rule {
             writing::not_a_file(entries: &[u8], bodies: usize) -> bool;
             writing::room_refused(room: usize, length: usize) -> bool;
             writing::put_file(entries: &[u8], bodies: &[u8], room: &mut [u8]) -> usize;
-            replaying::replay_line(number: u64, judged: &Judged) -> String;
+            replaying::replay_line(&rules, number: u64, judged: &Judged) -> String;
+            replaying::reason_words(reason: Reason) -> String;
             replaying::goes_on(judged: &Judged) -> bool;
+
+            saving::save(&rules, tables: &[u8], tally: &Tally, room: &mut [u8]) -> Result<usize, Refusal>;
+            saving::saving_room_refused(room: usize) -> bool;
+            saving::put_saved(tables: &[u8], tally: &Tally, room: &mut [u8]);
+            loading::load(&rules, file: &[u8], tables: &mut [u8], tally: &mut Tally) -> Result<(), Refusal>;
+            loading::loading_refusal(&rules, file: &[u8], tables: &[u8]) -> Result<(), Refusal>;
+            loading::saved_length_refused(file: &[u8]) -> bool;
+            loading::saved_kind_refused(file: &[u8]) -> bool;
+            loading::saved_places_refused(&rules, file: &[u8]) -> bool;
+            loading::count_refused(count: usize) -> bool;
+            loading::offsets_run(file: &[u8]) -> bool;
+            loading::bodies_refused(&rules, file: &[u8]) -> bool;
+            loading::body_lengths_allowed(file: &[u8]) -> bool;
+            loading::loading_room_refused(tables: &[u8]) -> bool;
+            loading::put_loaded(file: &[u8], tables: &mut [u8], tally: &mut Tally);
         }
     };
 }

@@ -1,9 +1,9 @@
 //! Tables made for a test: records with random fields that row 7 allows, and fields set to numbers on both sides of its clauses.
 
-use crate::limits::{BLOB_LIMIT, CLOCK_LIMIT, LATEST, PORT_COUNT};
+use crate::limits::{BLOB_LIMIT, CLOCK_LIMIT, GRACE_LIMIT, LATEST, LATEST_ANNOUNCE, LATEST_BLOCK, PENALTY_LIMIT, PORT_COUNT, TARGET_LIMIT};
 use crate::random::Random;
-use crate::tables::{link, path, port, returned, set_ring_place, Section, HASHES, HASH_PLACE};
-use crate::tables::{LAST_CLOCK, LINKS, LOCALS, PATHS, PORTS, RETURNS, RETURN_PLACE, SIZE};
+use crate::tables::{link, path, port, rate, returned, set_ring_place, Section, HASHES, HASH_PLACE};
+use crate::tables::{LAST_CLOCK, LINKS, LOCALS, PATHS, PORTS, RATE, RETURNS, RETURN_PLACE, SIZE};
 
 /// What row 7 asks of a field.
 #[derive(Clone, Copy, PartialEq, Eq)]
@@ -12,7 +12,9 @@ pub enum Clause {
     Mode,
     Port,
     BlobCount,
-    Time,
+    /// At most so much.
+    Time(u64),
+    Setting(u64),
 }
 
 impl Clause {
@@ -23,7 +25,8 @@ impl Clause {
             Clause::Mode => vec![random.below(3) as u8],
             Clause::Port => vec![random.below(PORT_COUNT) as u8],
             Clause::BlobCount => vec![1 + random.below(BLOB_LIMIT) as u8],
-            Clause::Time => (random.word() % (LATEST + 1)).to_be_bytes().to_vec(),
+            Clause::Time(latest) => (random.word() % (latest + 1)).to_be_bytes().to_vec(),
+            Clause::Setting(limit) => ((random.word() % (limit + 1)) as u32).to_be_bytes().to_vec(),
         }
     }
 
@@ -34,9 +37,13 @@ impl Clause {
             Clause::Mode => random.pick(&[0, 1, 2, 3, 4, 255]),
             Clause::Port => random.pick(&[0, 14, 15, 16, 17, 31, 255]),
             Clause::BlobCount => random.pick(&[0, 1, 2, BLOB_LIMIT as u8 - 1, BLOB_LIMIT as u8, BLOB_LIMIT as u8 + 1, 255]),
-            Clause::Time => {
-                let times = [0, CLOCK_LIMIT, LATEST - 1, LATEST, LATEST + 1, LATEST + 2, 1 << 48, 1 << 63, u64::MAX];
+            Clause::Time(latest) => {
+                let times = [0, CLOCK_LIMIT - 1, CLOCK_LIMIT, latest - 1, latest, latest + 1, latest + 2, 1 << 48, 1 << 63, u64::MAX];
                 return random.pick(&times).to_be_bytes().to_vec();
+            }
+            Clause::Setting(limit) => {
+                let limit = limit as u32;
+                return random.pick(&[0, 1, limit - 1, limit, limit + 1, limit + 2, 1 << 24, u32::MAX]).to_be_bytes().to_vec();
             }
         };
         vec![byte]
@@ -57,24 +64,29 @@ const fn field(name: &'static str, section: &'static Section, at: usize, clause:
 
 /// Every field that row 7 speaks of, but the last clock and the ring places.
 pub const FIELDS: &[Field] = &[
+    field("announce rate's target", &RATE, rate::TARGET, Clause::Setting(TARGET_LIMIT)),
+    field("announce rate's grace", &RATE, rate::GRACE, Clause::Setting(GRACE_LIMIT)),
+    field("announce rate's penalty", &RATE, rate::PENALTY, Clause::Setting(PENALTY_LIMIT)),
     field("port's on mark", &PORTS, port::ON, Clause::YesOrNo),
     field("port's mode", &PORTS, port::MODE, Clause::Mode),
     field("local address's mark", &LOCALS, 0, Clause::YesOrNo),
     field("path's mark", &PATHS.records, 0, Clause::YesOrNo),
     field("path's port", &PATHS.records, path::PORT, Clause::Port),
-    field("path's expiry", &PATHS.records, path::EXPIRY, Clause::Time),
+    field("path's expiry", &PATHS.records, path::EXPIRY, Clause::Time(LATEST)),
+    field("path's last announce", &PATHS.records, path::LAST_ANNOUNCE, Clause::Time(LATEST_ANNOUNCE)),
+    field("path's blocked-until", &PATHS.records, path::BLOCKED_UNTIL, Clause::Time(LATEST_BLOCK)),
     field("path's blob count", &PATHS.records, path::BLOB_COUNT, Clause::BlobCount),
     field("link's mark", &LINKS.records, 0, Clause::YesOrNo),
     field("link's asking port", &LINKS.records, link::ASKING, Clause::Port),
     field("link's answering port", &LINKS.records, link::ANSWERING, Clause::Port),
     field("link's proved mark", &LINKS.records, link::PROVED, Clause::YesOrNo),
-    field("link's expiry", &LINKS.records, link::EXPIRY, Clause::Time),
+    field("link's expiry", &LINKS.records, link::EXPIRY, Clause::Time(LATEST)),
     field("return's mark", &RETURNS.records, 0, Clause::YesOrNo),
     field("return's arrival port", &RETURNS.records, returned::ARRIVAL, Clause::Port),
     field("return's leaving port", &RETURNS.records, returned::LEAVING, Clause::Port),
-    field("return's expiry", &RETURNS.records, returned::EXPIRY, Clause::Time),
+    field("return's expiry", &RETURNS.records, returned::EXPIRY, Clause::Time(LATEST)),
     field("hash's mark", &HASHES.records, 0, Clause::YesOrNo),
-    field("hash's expiry", &HASHES.records, HASHES.expiry, Clause::Time),
+    field("hash's expiry", &HASHES.records, HASHES.expiry, Clause::Time(LATEST)),
 ];
 
 /// The sections whose records are used or not.
@@ -132,7 +144,8 @@ pub fn filled(random: &mut Random, fill: Fill) -> Vec<u8> {
 /// Sets a field of some record to a number at its clause's edge. The record is used, or made so.
 pub fn set_field(random: &mut Random, tables: &mut [u8], field: &Field) {
     let place = random.below(field.section.count);
-    if field.section.start != PORTS.start && tables[field.section.range(place).start] == 0 {
+    let is_record = ![RATE.start, PORTS.start].contains(&field.section.start);
+    if is_record && tables[field.section.range(place).start] == 0 {
         use_record(random, tables, field.section, place);
     }
     let number = field.clause.edge(random);
@@ -148,7 +161,7 @@ pub fn set_unused(random: &mut Random, tables: &mut [u8], section: &Section) {
 }
 
 pub fn set_last_clock(random: &mut Random, tables: &mut [u8]) {
-    tables[LAST_CLOCK..LAST_CLOCK + 8].copy_from_slice(&Clause::Time.edge(random));
+    tables[LAST_CLOCK..LAST_CLOCK + 8].copy_from_slice(&Clause::Time(LATEST).edge(random));
 }
 
 /// Sets a ring's place to one at the ring's end, on either side.

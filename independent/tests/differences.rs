@@ -36,9 +36,9 @@ fn a_list_reads_back_from_its_file() {
 #[test]
 fn a_list_may_be_cut_by_hand() {
     let path = path("by_hand.calls");
-    fs::write(&path, "# a comment\n\n  save\nresize to 3 = 0 1234\n# restore\nrestore").expect("it is written");
-    assert!(listed::read(&path) == Ok(vec![Call::Save, Call::Resize(3), Call::Restore]));
-    fs::write(&path, "save\n\nsaved\n").expect("it is written");
+    fs::write(&path, "# a comment\n\n  put aside\nresize to 3 = 0 1234\n# take back\ntake back").expect("it is written");
+    assert!(listed::read(&path) == Ok(vec![Call::PutAside, Call::Resize(3), Call::TakeBack]));
+    fs::write(&path, "put aside\n\nput away\n").expect("it is written");
     let problem = listed::read(&path).err().expect("not a call");
-    assert!(problem.ends_with("by_hand.calls, line 3: not a call: saved"), "{problem}");
+    assert!(problem.ends_with("by_hand.calls, line 3: not a call: put away"), "{problem}");
 }

@@ -2,8 +2,9 @@
 
 use haskumye_independent::compare::announcing::programs_differ;
 use haskumye_independent::compare::faults::packets_differ;
+use haskumye_independent::compare::saved;
 use haskumye_independent::compare::{tables::compare_with, Options, Tally, SUBJECTS};
-use haskumye_independent::faults::{self, OF_ANNOUNCING, OF_PACKETS, OF_TABLES};
+use haskumye_independent::faults::{self, OF_ANNOUNCING, OF_PACKETS, OF_SAVED, OF_TABLES};
 use haskumye_independent::relay::Relay;
 
 fn run(name: &str, options: &Options) -> Tally {
@@ -47,6 +48,14 @@ fn the_comparison_notices_faults_in_announcing() {
     assert!(!programs_differ(&Relay::as_written(), &Relay::as_written()));
     for fault in OF_ANNOUNCING.concat() {
         assert!(programs_differ(&Relay::as_written(), &fault.relay()), "{}", fault.text);
+    }
+}
+
+#[test]
+fn the_comparison_notices_faults_in_saved_files() {
+    assert!(!saved::programs_differ(&Relay::as_written(), &Relay::as_written()));
+    for fault in OF_SAVED.concat() {
+        assert!(saved::programs_differ(&Relay::as_written(), &fault.relay()), "{}", fault.text);
     }
 }
 

@@ -76,6 +76,18 @@ static bool sixteen(const char **at, struct buffer *bytes)
     return digits(at, bytes) && bytes->length == 16;
 }
 
+static bool read_setting(const char **at, struct listed *call)
+{
+    if (word(at, "port")) {
+        call->function = SET_PORT;
+        return number(at, &call->port) && word(at, "on") && truth(at, &call->yes) && word(at, "mode") &&
+               number(at, &call->mode);
+    }
+    call->function = SET_ANNOUNCE_RATE;
+    return word(at, "announce") && word(at, "rate") && word(at, "target") && number(at, &call->target) &&
+           word(at, "grace") && number(at, &call->grace) && word(at, "penalty") && number(at, &call->penalty);
+}
+
 static bool read_call(const char **at, struct listed *call)
 {
     if (word(at, "fresh")) {
@@ -89,9 +101,7 @@ static bool read_call(const char **at, struct listed *call)
                word(at, "of") && byte(at, &call->fill) && digits(at, &call->bytes);
     }
     if (word(at, "set")) {
-        call->function = SET_PORT;
-        return word(at, "port") && number(at, &call->port) && word(at, "on") && truth(at, &call->yes) &&
-               word(at, "mode") && number(at, &call->mode);
+        return read_setting(at, call);
     }
     if (word(at, "renumber")) {
         call->function = RENUMBER;
@@ -103,13 +113,13 @@ static bool read_call(const char **at, struct listed *call)
 
 static bool read_edit(const char **at, struct listed *call)
 {
-    if (word(at, "save")) {
-        call->edit = SAVE;
-        return true;
+    if (word(at, "put")) {
+        call->edit = PUT_ASIDE;
+        return word(at, "aside");
     }
-    if (word(at, "restore")) {
-        call->edit = RESTORE;
-        return true;
+    if (word(at, "take")) {
+        call->edit = TAKE_BACK;
+        return word(at, "back");
     }
     if (word(at, "write")) {
         call->edit = OVERWRITE;

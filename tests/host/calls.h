@@ -1,4 +1,4 @@
-/* A list of calls, a line each, as independent/src/compare/record.rs writes it. */
+/* A list of calls, a line each, as independent/src/compare/answered.rs writes it. */
 #ifndef HOST_CALLS_H
 #define HOST_CALLS_H
 
@@ -6,13 +6,14 @@
 #include "library.h"
 
 /* A call of the library, or what its caller does to the tables in between. */
-enum edit { NO_EDIT, SAVE, RESTORE, OVERWRITE, COPY, RESIZE };
+enum edit { NO_EDIT, PUT_ASIDE, TAKE_BACK, OVERWRITE, COPY, RESIZE };
 
 struct listed {
     enum function function; /* NOTHING for an edit */
     enum edit edit;
     struct buffer bytes;    /* packet, address, map, or what is written */
     uint64_t port, clock, mode;
+    uint64_t target, grace, penalty; /* of the announce rate */
     bool yes;               /* the signature word, or on */
     uint64_t room;          /* of the output */
     uint8_t fill;

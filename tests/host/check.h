@@ -18,7 +18,7 @@ void expect(const char *what, uint64_t got, uint64_t expected);
 /* Prints the last line, `N passed, M failed`. Whether some expectation was met and none failed. */
 bool check_end(void);
 
-/* Takes bytes into a sum, as the list does: independent/src/compare/record.rs. */
+/* Takes bytes into a sum, as the list does: independent/src/compare/answered.rs. */
 uint64_t sum_of(uint64_t start, const uint8_t *bytes, size_t length);
 
 #endif

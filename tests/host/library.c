@@ -43,6 +43,11 @@ static uint64_t set_port(const struct use *use)
     return haskumye_set_port(use->tables.bytes, use->tables.length, use->port, use->byte, use->mode);
 }
 
+static uint64_t set_announce_rate(const struct use *use)
+{
+    return haskumye_set_announce_rate(use->tables.bytes, use->tables.length, use->target, use->grace, use->penalty);
+}
+
 static uint64_t add_local(const struct use *use)
 {
     return haskumye_add_local(use->tables.bytes, use->tables.length, (const haskumye_address *)use->input.bytes);
@@ -65,9 +70,37 @@ static uint64_t packet(const struct use *use)
                            (haskumye_tally *)(void *)use->tally.bytes);
 }
 
+static uint64_t answer_text(const struct use *use)
+{
+    return haskumye_answer_text(use->index, (haskumye_text *)use->output.bytes);
+}
+
+static uint64_t saved_size(const struct use *use)
+{
+    (void)use;
+    return haskumye_saved_size();
+}
+
+static uint64_t save_tables(const struct use *use)
+{
+    return haskumye_save(use->tables.bytes, use->tables.length, (const haskumye_tally *)(void *)use->tally.bytes,
+                         use->output.bytes, use->output.length);
+}
+
+static uint64_t load_tables(const struct use *use)
+{
+    return haskumye_load(use->input.bytes, use->input.length, use->tables.bytes, use->tables.length,
+                         (haskumye_tally *)(void *)use->tally.bytes);
+}
+
 static uint64_t port(const struct use *use)
 {
     return haskumye_port(use->tables.bytes, use->tables.length, use->port, (haskumye_port_settings *)use->output.bytes);
+}
+
+static uint64_t announce_rate(const struct use *use)
+{
+    return haskumye_announce_rate(use->tables.bytes, use->tables.length, (haskumye_rate_settings *)use->output.bytes);
 }
 
 static uint64_t local(const struct use *use)
@@ -220,11 +253,17 @@ static const struct {
     [CHECK] = {"haskumye_check_tables", check},
     [FRESH] = {"haskumye_fresh", fresh},
     [SET_PORT] = {"haskumye_set_port", set_port},
+    [SET_ANNOUNCE_RATE] = {"haskumye_set_announce_rate", set_announce_rate},
     [ADD_LOCAL] = {"haskumye_add_local", add_local},
     [REMOVE_LOCAL] = {"haskumye_remove_local", remove_local},
     [RENUMBER] = {"haskumye_renumber", renumber},
     [PACKET] = {"haskumye_packet", packet},
+    [ANSWER_TEXT] = {"haskumye_answer_text", answer_text},
+    [SAVED_SIZE] = {"haskumye_saved_size", saved_size},
+    [SAVE_TABLES] = {"haskumye_save", save_tables},
+    [LOAD_TABLES] = {"haskumye_load", load_tables},
     [PORT] = {"haskumye_port", port},
+    [ANNOUNCE_RATE] = {"haskumye_announce_rate", announce_rate},
     [LOCAL] = {"haskumye_local", local},
     [PATH] = {"haskumye_path", path},
     [LIVE_PATH] = {"haskumye_live_path", live_path},

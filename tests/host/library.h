@@ -13,11 +13,17 @@ enum function {
     CHECK,
     FRESH,
     SET_PORT,
+    SET_ANNOUNCE_RATE,
     ADD_LOCAL,
     REMOVE_LOCAL,
     RENUMBER,
     PACKET,
+    ANSWER_TEXT,
+    SAVED_SIZE,
+    SAVE_TABLES,
+    LOAD_TABLES,
     PORT,
+    ANNOUNCE_RATE,
     LOCAL,
     PATH,
     LIVE_PATH,
@@ -48,13 +54,14 @@ enum function {
 
 /* What a function is given; each takes what it needs of it. */
 struct use {
-    struct buffer input;  /* packet, payload, message, address, map, blob or recording; bodies to be written */
+    struct buffer input;  /* packet, payload, message, address, map, blob or file; bodies to be written */
     struct buffer parts;  /* or entries to be written */
     struct buffer output; /* or where an answer of a fixed size goes */
     struct buffer tables;
     struct buffer tally;
     struct buffer keys, name_hash, random, ratchet, app_data, signature; /* of an announce to be built */
-    uint64_t port, clock, mode, index; /* index: of an entry, or a place in a table */
+    uint64_t port, clock, mode, index; /* index: of an entry, a place in a table, or an answer */
+    uint64_t target, grace, penalty;   /* of the announce rate */
     size_t room;          /* of the output that a packet call would be lent */
     uint8_t byte;         /* the signature word, on or off, or a header */
 };

@@ -65,15 +65,34 @@ static void odd_packet_call(size_t size, size_t length, size_t room)
     buffer_free(&use.tally);
 }
 
+/* Announce rates with one number over its limit, a byte's width and a word's too. */
+static void odd_rates(struct use *use, uint64_t refusal)
+{
+    static const uint64_t rates[][3] = {{HASKUMYE_TARGET_LIMIT + 1, 0, 0}, {0, HASKUMYE_GRACE_LIMIT + 1, 0}, {0, 256, 0},
+                                        {0, 0, HASKUMYE_PENALTY_LIMIT + 1}, {UINT64_C(1) << 32, 0, 0},
+                                        {UINT64_MAX, UINT64_MAX, UINT64_MAX}};
+    struct use odd = *use;
+    for (size_t i = 0; i < sizeof rates / sizeof rates[0]; i++) {
+        odd.target = rates[i][0];
+        odd.grace = rates[i][1];
+        odd.penalty = rates[i][2];
+        expect("an announce rate over a limit", library_call(SET_ANNOUNCE_RATE, &odd), refusal);
+    }
+}
+
 /* The other calls on tables, in an order in which none but removing twice is refused where the size is right. */
 static void odd_tables(size_t size)
 {
-    struct use use = {.tables = buffer_new(size, 0), .input = buffer_new(16, 0), .port = 15, .mode = 2, .byte = 1};
+    struct use use = {.tables = buffer_new(size, 0), .input = buffer_new(16, 0), .port = 15, .mode = 2, .byte = 1,
+                      .target = HASKUMYE_TARGET_LIMIT, .grace = HASKUMYE_GRACE_LIMIT,
+                      .penalty = HASKUMYE_PENALTY_LIMIT};
     bool right = size == HASKUMYE_TABLE_SIZE;
     uint64_t refusal = right ? 0 : HASKUMYE_REFUSAL_TABLES;
     expect("fresh", library_call(FRESH, &use), refusal);
     expect("check", library_call(CHECK, &use), refusal);
     expect("set port", library_call(SET_PORT, &use), refusal);
+    expect("set announce rate", library_call(SET_ANNOUNCE_RATE, &use), refusal);
+    odd_rates(&use, right ? HASKUMYE_REFUSAL_SETTING : refusal);
     expect("add local", library_call(ADD_LOCAL, &use), refusal);
     expect("remove local", library_call(REMOVE_LOCAL, &use), refusal);
     expect("remove local again", library_call(REMOVE_LOCAL, &use), right ? HASKUMYE_REFUSAL_LOCAL_ADDRESS : refusal);

@@ -13,11 +13,11 @@ struct table {
     size_t start, count, width, expiry;
 };
 
-static const struct table locals = {56, HASKUMYE_LOCAL_COUNT, 17, 0}, paths = {328, HASKUMYE_PATH_COUNT, 204, 35},
-                          links = {13384, HASKUMYE_LINK_COUNT, 30, 22},
-                          returns = {15306, HASKUMYE_RETURN_COUNT, 27, 19},
-                          hashes = {29132, HASKUMYE_HASH_COUNT, 41, 33};
-enum { CLOCK_PLACE = 16, PORTS_PLACE = 24 };
+static const struct table locals = {68, HASKUMYE_LOCAL_COUNT, 17, 0}, paths = {340, HASKUMYE_PATH_COUNT, 221, 35},
+                          links = {14484, HASKUMYE_LINK_COUNT, 30, 22},
+                          returns = {16406, HASKUMYE_RETURN_COUNT, 27, 19},
+                          hashes = {30232, HASKUMYE_HASH_COUNT, 41, 33};
+enum { CLOCK_PLACE = 16, RATE_PLACE = 24, PORTS_PLACE = 36 };
 
 static uint64_t number_at(const uint8_t *bytes)
 {
@@ -83,8 +83,8 @@ static void try_refused(const struct use *use)
     static const struct {
         enum function function;
         size_t size;
-    } questions[] = {{PORT, 2}, {LOCAL, 16}, {PATH, 43}, {LIVE_PATH, 43}, {LINK, 29}, {LIVE_RETURNS, 8},
-                     {LIVE_HASHES, 8}, {LAST_CLOCK, 8}};
+    } questions[] = {{PORT, 2}, {ANNOUNCE_RATE, 12}, {LOCAL, 16}, {PATH, 60}, {LIVE_PATH, 60}, {LINK, 29},
+                     {LIVE_RETURNS, 8}, {LIVE_HASHES, 8}, {LAST_CLOCK, 8}};
     for (size_t i = 0; i < sizeof questions / sizeof questions[0]; i++) {
         ask(questions[i].function, *use, NULL, questions[i].size, HASKUMYE_REFUSAL_TABLES);
     }
@@ -95,6 +95,7 @@ static void try_told(const struct use *use)
     struct buffer tables = use->tables;
     const uint8_t *port = use->port < HASKUMYE_PORT_COUNT ? tables.bytes + PORTS_PLACE + 2 * use->port : NULL;
     ask(PORT, *use, port, sizeof(haskumye_port_settings), HASKUMYE_NONE);
+    ask(ANNOUNCE_RATE, *use, tables.bytes + RATE_PLACE, sizeof(haskumye_rate_settings), 0);
     ask_record(LOCAL, use, record_at(tables, &locals, use->index), sizeof(haskumye_address));
     ask_record(PATH, use, record_at(tables, &paths, use->index), sizeof(haskumye_path_record));
     ask_record(LINK, use, record_at(tables, &links, use->index), sizeof(haskumye_link_record));

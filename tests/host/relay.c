@@ -1,5 +1,6 @@
 #include "relay.h"
 
+#include "answers.h"
 #include "check.h"
 #include "haskumye.h"
 #include "questions.h"
@@ -10,7 +11,7 @@ struct relay relay_new(void)
 {
     struct relay relay;
     relay.tables = buffer_new(HASKUMYE_TABLE_SIZE, 0);
-    relay.saved = buffer_new(HASKUMYE_TABLE_SIZE, 0);
+    relay.aside = buffer_new(HASKUMYE_TABLE_SIZE, 0);
     relay.tally = buffer_new(sizeof(haskumye_tally), 0);
     return relay;
 }
@@ -18,7 +19,7 @@ struct relay relay_new(void)
 void relay_free(struct relay *relay)
 {
     buffer_free(&relay->tables);
-    buffer_free(&relay->saved);
+    buffer_free(&relay->aside);
     buffer_free(&relay->tally);
 }
 
@@ -47,11 +48,11 @@ static void edit(struct relay *relay, const struct listed *call)
 {
     struct buffer *tables = &relay->tables;
     switch (call->edit) {
-    case SAVE:
-        replace(&relay->saved, buffer_copy(tables->bytes, tables->length));
+    case PUT_ASIDE:
+        replace(&relay->aside, buffer_copy(tables->bytes, tables->length));
         break;
-    case RESTORE:
-        replace(tables, buffer_copy(relay->saved.bytes, relay->saved.length));
+    case TAKE_BACK:
+        replace(tables, buffer_copy(relay->aside.bytes, relay->aside.length));
         break;
     case OVERWRITE:
         if (lies_within(*tables, call->at, call->bytes.length)) {
@@ -94,7 +95,8 @@ void relay_make(struct relay *relay, const struct listed *call)
         return;
     }
     struct use use = {.input = call->bytes, .tables = relay->tables, .tally = relay->tally, .port = call->port,
-                      .clock = call->clock, .mode = call->mode, .byte = byte_of(call->yes)};
+                      .clock = call->clock, .mode = call->mode, .byte = byte_of(call->yes), .target = call->target,
+                      .grace = call->grace, .penalty = call->penalty};
     if (call->function == PACKET) {
         use.output = buffer_new(call->room, call->fill);
         questions_try_signature(&use);
@@ -107,6 +109,9 @@ void relay_make(struct relay *relay, const struct listed *call)
         memset(relay->tally.bytes, 0, relay->tally.length);
     }
     expect("the number", number, call->number);
+    if (call->function == PACKET) {
+        answers_try(number);
+    }
     uint64_t sum = sum_of(0, use.tables.bytes, use.tables.length);
     sum = sum_of(sum, use.tally.bytes, use.tally.length);
     expect("the bytes left", sum_of(sum, use.output.bytes, use.output.length), call->sum);

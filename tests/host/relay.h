@@ -7,7 +7,7 @@
 
 struct relay {
     struct buffer tables;
-    struct buffer saved; /* a copy of the tables, put aside */
+    struct buffer aside; /* a copy of the tables */
     struct buffer tally;
 };
 

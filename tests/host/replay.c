@@ -8,6 +8,7 @@
  *   stack   as heap, each call on a painted stack: prints how deep each function goes
  */
 #include "announces.h"
+#include "answers.h"
 #include "buffer.h"
 #include "check.h"
 #include "library.h"
@@ -16,6 +17,7 @@
 #include "recordings.h"
 #include "calls.h"
 #include "relay.h"
+#include "saved.h"
 
 #include <signal.h>
 #include <stdio.h>
@@ -28,6 +30,9 @@ enum { SANITIZED = 1 };
 #else
 enum { SANITIZED = 0 };
 #endif
+
+/* How many lines of the list go by between two savings. */
+enum { SAVE_EVERY = 50 };
 
 /* A touched guard page: says where, and stops. */
 static void stop(int number)
@@ -95,6 +100,9 @@ static void replay(FILE *file)
         if (!replay_line(&relay, line)) {
             break;
         }
+        if (lines % SAVE_EVERY == 0) {
+            saved_try(relay.tables, relay.tally);
+        }
     }
     check_at(0);
     expect("all lines are there", lines == promised && promised > 0, 1);
@@ -123,8 +131,10 @@ int main(int count, char **words)
     replay(file);
     fclose(file);
     odd_lengths();
+    answers_try_odd();
     announces_try();
     recordings_try();
+    saved_try_odd();
     library_end();
     return check_end() ? 0 : 1;
 }

@@ -46,8 +46,7 @@ fn main() -> Result<(), Refusal> {
     }
 
     // What is saved, and what goes on after a restart.
-    let (tables, tally) = (relay.tables().to_vec(), relay.tally().to_bytes());
-    let again = Relay::from_tables(&tables, haskumye::Tally::from_bytes(&tally))?;
+    let again = Relay::load(&relay.save())?;
     println!("after a restart the clock goes on from {}; {} packets so far", again.last_clock(), again.tally().total);
     Ok(())
 }

@@ -1,7 +1,7 @@
 //! What a host asks of a relay: all but the signature is told of the tables as they are.
 
 use crate::answer::{done, Mode, Refusal};
-use crate::raw::{self, LinkRecord, PathRecord, PortSettings, NONE, OUTPUT_SIZE, REFUSAL_NONE, VERIFY};
+use crate::raw::{self, LinkRecord, PathRecord, PortSettings, RateSettings, NONE, OUTPUT_SIZE, REFUSAL_NONE, VERIFY};
 use crate::relay::Relay;
 use crate::Address;
 
@@ -14,6 +14,17 @@ pub struct Port {
     pub on: bool,
     /// How long a path through it lives.
     pub mode: Mode,
+}
+
+/// How often a destination may announce itself, as a relay's settings. With a target of 0, as a fresh relay has, there is no limit.
+#[derive(Clone, Copy, Debug, Default, PartialEq, Eq)]
+pub struct AnnounceRate {
+    /// The least seconds between two announces, at most [`TARGET_LIMIT`](crate::TARGET_LIMIT).
+    pub target: u64,
+    /// How many violations are let through, at most [`GRACE_LIMIT`](crate::GRACE_LIMIT).
+    pub grace: u64,
+    /// Seconds that a destination is blocked for beyond the target, at most [`PENALTY_LIMIT`](crate::PENALTY_LIMIT).
+    pub penalty: u64,
 }
 
 /// A path: it is live while the clock is below its expiry.
@@ -29,6 +40,12 @@ pub struct Path {
     pub next_hop: Address,
     /// When it expires, in seconds.
     pub expiry: u64,
+    /// The clock of its last accepted announce.
+    pub last_announce: u64,
+    /// Announces sooner than the target after it, less those forgiven; 255 at most.
+    pub violations: u8,
+    /// While the clock is below, its announces are dropped by 15.
+    pub blocked_until: u64,
     /// How many blobs it holds.
     pub blob_count: u8,
 }
@@ -59,6 +76,14 @@ impl Relay {
         let settings: PortSettings = self.told(|tables, length, told| unsafe { raw::haskumye_port(tables, length, port.into(), told) })?;
         let mode = Mode::from_number(settings.mode)?;
         Some(Port { on: settings.on == raw::ON, mode })
+    }
+
+    /// The announce rate's settings.
+    pub fn announce_rate(&self) -> AnnounceRate {
+        let told = self.told(|tables, length, told| unsafe { raw::haskumye_announce_rate(tables, length, told) });
+        let RateSettings { target, grace, penalty } = told.expect("settings are always told");
+        let [target, grace, penalty] = [target, grace, penalty].map(|setting| u32::from_be_bytes(setting).into());
+        AnnounceRate { target, grace, penalty }
     }
 
     /// The local address at a place, below [`LOCAL_COUNT`](crate::LOCAL_COUNT).
@@ -131,6 +156,8 @@ impl Relay {
     }
 }
 
-fn path_of(PathRecord { destination, port, hops, next_hop, expiry, blob_count }: PathRecord) -> Path {
-    Path { destination, port, hops, next_hop, expiry: u64::from_be_bytes(expiry), blob_count }
+fn path_of(record: PathRecord) -> Path {
+    let PathRecord { destination, port, hops, next_hop, expiry, last_announce, violations, blocked_until, blob_count } = record;
+    let [expiry, last_announce, blocked_until] = [expiry, last_announce, blocked_until].map(u64::from_be_bytes);
+    Path { destination, port, hops, next_hop, expiry, last_announce, violations, blocked_until, blob_count }
 }

@@ -7,10 +7,10 @@
 use crate::{Address, Blob, Hash, PortMap};
 
 /// The version of this interface.
-pub const VERSION: u32 = 2;
+pub const VERSION: u32 = 3;
 
 /// The bytes of a relay's tables, exactly.
-pub const TABLE_SIZE: usize = 71116;
+pub const TABLE_SIZE: usize = 72216;
 /// The least output buffer, however short the packet.
 pub const OUTPUT_SIZE: usize = 500;
 /// The shortest packet; type 2 has 35 bytes at least.
@@ -25,6 +25,10 @@ pub const TEXT_SIZE: usize = 160;
 pub const RECORDING_SIZE: usize = 60000;
 /// The bytes of an entry as `haskumye_write_recording` takes it.
 pub const ENTRY_WIDTH: usize = 12;
+/// The bytes that `haskumye_save` writes, exactly.
+pub const SAVED_SIZE: usize = 72292;
+/// No saved file of any edition is longer.
+pub const LONGEST_SAVED: usize = 524332;
 
 /// Ports 0 to 15.
 pub const PORT_COUNT: usize = 16;
@@ -40,6 +44,13 @@ pub const RETURN_COUNT: usize = 512;
 pub const HASH_COUNT: usize = 1024;
 /// Every clock, in seconds, is below 2^40.
 pub const CLOCK_LIMIT: u64 = 1099511627776;
+
+/// The announce rate's target, in seconds, is this at most.
+pub const TARGET_LIMIT: u64 = 86400;
+/// Its grace is this at most.
+pub const GRACE_LIMIT: u64 = 254;
+/// Its penalty, in seconds, is this at most.
+pub const PENALTY_LIMIT: u64 = 604800;
 
 /// What a question answers where there is none.
 pub const NONE: u8 = 255;
@@ -176,6 +187,21 @@ pub struct PortSettings {
     pub mode: u8,
 }
 
+/// A setting's number, big-endian.
+pub type Setting = [u8; 4];
+
+/// The announce rate's settings.
+#[repr(C)]
+#[derive(Clone, Copy, Debug, Default, PartialEq, Eq)]
+pub struct RateSettings {
+    /// The least seconds between two announces of a destination.
+    pub target: Setting,
+    /// How many violations are let through.
+    pub grace: Setting,
+    /// Seconds that a destination is blocked for beyond the target.
+    pub penalty: Setting,
+}
+
 /// A path, live or not.
 #[repr(C)]
 #[derive(Clone, Copy, Debug, Default, PartialEq, Eq)]
@@ -190,6 +216,12 @@ pub struct PathRecord {
     pub next_hop: Address,
     /// It is live while the clock is below.
     pub expiry: Time,
+    /// The clock of its last accepted announce.
+    pub last_announce: Time,
+    /// Announces sooner than the target after it, less those forgiven.
+    pub violations: u8,
+    /// While the clock is below, its announces are dropped.
+    pub blocked_until: Time,
     /// How many blobs it holds.
     pub blob_count: u8,
 }
@@ -224,6 +256,7 @@ extern "C" {
     pub fn haskumye_fresh(tables: *mut u8, length: usize, own: *const Address) -> u8;
     pub fn haskumye_check_tables(tables: *const u8, length: usize) -> u8;
     pub fn haskumye_set_port(tables: *mut u8, length: usize, port: u64, on: u8, mode: u64) -> u8;
+    pub fn haskumye_set_announce_rate(tables: *mut u8, length: usize, target: u64, grace: u64, penalty: u64) -> u8;
     pub fn haskumye_add_local(tables: *mut u8, length: usize, address: *const Address) -> u8;
     pub fn haskumye_remove_local(tables: *mut u8, length: usize, address: *const Address) -> u8;
     pub fn haskumye_renumber(tables: *mut u8, length: usize, map: *const PortMap) -> u8;
@@ -239,8 +272,14 @@ extern "C" {
         room: usize,
         tally: *mut Tally,
     ) -> u64;
+    pub fn haskumye_answer_text(answer: u64, text: *mut Text) -> usize;
+
+    pub fn haskumye_saved_size() -> usize;
+    pub fn haskumye_save(tables: *const u8, tables_length: usize, tally: *const Tally, room: *mut u8, room_length: usize) -> u64;
+    pub fn haskumye_load(file: *const u8, file_length: usize, tables: *mut u8, tables_length: usize, tally: *mut Tally) -> u8;
 
     pub fn haskumye_port(tables: *const u8, length: usize, port: u64, settings: *mut PortSettings) -> u8;
+    pub fn haskumye_announce_rate(tables: *const u8, length: usize, settings: *mut RateSettings) -> u8;
     pub fn haskumye_local(tables: *const u8, length: usize, place: u64, address: *mut Address) -> u8;
     pub fn haskumye_path(tables: *const u8, length: usize, place: u64, path: *mut PathRecord) -> u8;
     pub fn haskumye_live_path(tables: *const u8, length: usize, destination: *const Address, clock: u64, path: *mut PathRecord) -> u8;

@@ -1,7 +1,8 @@
 //! A relay: its tables and its tally, and the calls on them.
 
-use crate::answer::{done, judged, Mode, Refusal, Verdict};
-use crate::raw::{self, Tally, TABLE_SIZE, TEXT_SIZE};
+use crate::answer::{done, judged, written_length, Mode, Refusal, Verdict};
+use crate::question::AnnounceRate;
+use crate::raw::{self, Tally, SAVED_SIZE, TABLE_SIZE, TEXT_SIZE};
 use crate::recording::Replayed;
 use crate::{Address, PortMap};
 
@@ -54,6 +55,32 @@ impl Relay {
         Ok(Self { tables: tables.into(), tally })
     }
 
+    /// The relay of a file that [`save`](Self::save) gave, of this edition or an older one. What a host put behind it is cut off first. Refusals 20,
+    /// 21, 22 and 24, in this order.
+    pub fn load(file: &[u8]) -> Result<Self, Refusal> {
+        same_version();
+        let mut tables = vec![0; TABLE_SIZE].into_boxed_slice();
+        let mut tally = Tally::default();
+        done(unsafe { raw::haskumye_load(file.as_ptr(), file.len(), tables.as_mut_ptr(), tables.len(), &mut tally) })?;
+        Ok(Self { tables, tally })
+    }
+
+    /// The relay's tables and tally as a file, of [`SAVED_SIZE`](crate::SAVED_SIZE) bytes. It has no checksum: a host puts one behind it on a disk.
+    ///
+    /// ```
+    /// use haskumye::Relay;
+    ///
+    /// let relay = Relay::fresh(&[0x0a; 16]);
+    /// assert_eq!(Relay::load(&relay.save()), Ok(relay));
+    /// ```
+    pub fn save(&self) -> Vec<u8> {
+        let mut room = vec![0; SAVED_SIZE];
+        let (tables, size) = (self.tables.as_ptr(), self.tables.len());
+        let length = written_length(unsafe { raw::haskumye_save(tables, size, &self.tally, room.as_mut_ptr(), room.len()) });
+        room.truncate(length.expect("a relay's own tables are saved where there is room"));
+        room
+    }
+
     /// Judges a packet that came in by a port at a clock, in seconds. `signature` is the host's word on its signature, which is read only for
     /// announces and link proofs. What leaves stands at the output's start, and all other bytes of the output stay.
     pub fn packet(&mut self, packet: &[u8], port: u8, clock: u64, signature: bool, output: &mut [u8]) -> Result<Verdict, Refusal> {
@@ -82,6 +109,12 @@ impl Relay {
     pub fn set_port(&mut self, port: u8, on: bool, mode: Mode) -> Result<(), Refusal> {
         let (port, on, mode) = (port.into(), on.into(), mode.number().into());
         done(unsafe { raw::haskumye_set_port(self.tables.as_mut_ptr(), self.tables.len(), port, on, mode) })
+    }
+
+    /// Sets how often every destination may announce itself. Paths stay, blocked ones too. Refusal 9 for a number over its limit.
+    pub fn set_announce_rate(&mut self, rate: AnnounceRate) -> Result<(), Refusal> {
+        let AnnounceRate { target, grace, penalty } = rate;
+        done(unsafe { raw::haskumye_set_announce_rate(self.tables.as_mut_ptr(), self.tables.len(), target, grace, penalty) })
     }
 
     /// Adds an address whose packets are delivered here. Refusal 11 where it is there already, 10 for a 17th.
@@ -135,7 +168,7 @@ impl Tally {
     }
 }
 
-/// The tally stands for the 71,116 bytes.
+/// The tally stands for the 72,216 bytes.
 impl std::fmt::Debug for Relay {
     fn fmt(&self, f: &mut std::fmt::Formatter) -> std::fmt::Result {
         f.debug_struct("Relay").field("tally", &self.tally).finish_non_exhaustive()

@@ -1,7 +1,8 @@
 //! A relay through the library: each verdict, each refusal, and a receipt that comes home after a renumbering.
 
 use haskumye::raw::{
-    DESTINATION_PLAIN, HEADER_ACCESS_CODE, HEADER_TRANSPORT, HEADER_TYPE_2, PACKET_ANNOUNCE, PACKET_LINK_REQUEST, PACKET_PROOF,
+    DESTINATION_LINK, DESTINATION_PLAIN, HEADER_ACCESS_CODE, HEADER_CONTEXT_FLAG, HEADER_TRANSPORT, HEADER_TYPE_2, PACKET_ANNOUNCE,
+    PACKET_LINK_REQUEST, PACKET_PROOF,
 };
 use haskumye::*;
 
@@ -96,7 +97,29 @@ fn renumbering_keeps_the_receipt() {
 
 #[test]
 fn emptied_tables_lose_it() {
-    assert_eq!(receipt_after(|relay| *relay = self::relay(16), 13), Ok(Verdict::Drop(Reason::NoWayOn)));
+    assert_eq!(
+        receipt_after(|relay| *relay = self::relay(16), 13),
+        Ok(Verdict::Drop(Reason::NoWayOn { case: NoWayOn::NoReturn, expiry: 0 }))
+    );
+}
+
+/// What a drop by test 3 or 6 tells: the clause with the least length, and the last expiry.
+#[test]
+fn a_drop_tells_its_clause() {
+    let (mut relay, mut output, (announce, destination)) = (relay(2), [0; OUTPUT_SIZE], announce(1));
+    let mut judge = |packet: &[u8], clock| match relay.packet(packet, 0, clock, true, &mut output) {
+        Ok(Verdict::Drop(reason)) => reason,
+        other => panic!("{other:?}"),
+    };
+    let cut = |least| Reason::BadForm { clause: BadForm::AnnounceTooShort, least };
+    let flagged: Vec<u8> = [&[announce[0] | HEADER_CONTEXT_FLAG][..], &announce[1..]].concat();
+    assert_eq!((judge(&announce[..announce.len() - 1], 1), judge(&flagged, 1)), (cut(148), cut(180)));
+    assert_eq!(judge(&data(destination, b"1"), 1), Reason::NoWayOn { case: NoWayOn::NoPath, expiry: 0 });
+    let proof = packet(Parts { header: PACKET_PROOF | DESTINATION_LINK, context: 0xff, ..Parts::default() }, &[0; 97]);
+    assert_eq!(judge(&proof, 1), Reason::BadForm { clause: BadForm::LinkProofLength, least: 96 });
+    relay.packet(&announce, 1, 1_000, true, &mut output).unwrap();
+    let late = relay.packet(&data(destination, b"2"), 0, 605_800, true, &mut output);
+    assert_eq!(late, Ok(Verdict::Drop(Reason::NoWayOn { case: NoWayOn::OnlyExpired, expiry: 605_800 })));
 }
 
 /// The refusals of packet calls, in the order of their numbers.
@@ -136,12 +159,38 @@ fn settings_are_refused() {
     let before = relay.clone();
     assert_eq!(relay.renumber(&[0; 16]), Err(Refusal::Map));
     assert_eq!(relay.set_port(16, true, Mode::Roaming), Err(Refusal::Setting));
+    let limits = AnnounceRate { target: TARGET_LIMIT, grace: GRACE_LIMIT, penalty: PENALTY_LIMIT };
+    for over in [
+        AnnounceRate { target: TARGET_LIMIT + 1, ..limits },
+        AnnounceRate { grace: GRACE_LIMIT + 1, ..limits },
+        AnnounceRate { grace: 256, ..limits }, // wider than a byte
+        AnnounceRate { penalty: PENALTY_LIMIT + 1, ..limits },
+        AnnounceRate { target: u64::MAX, grace: u64::MAX, penalty: u64::MAX },
+    ] {
+        assert_eq!(relay.set_announce_rate(over), Err(Refusal::Setting));
+    }
     assert_eq!(relay.add_local(&address(16)), Err(Refusal::LocalFull));
     assert_eq!(relay.add_local(&address(15)), Err(Refusal::LocalAddress));
     assert_eq!(relay.remove_local(&address(16)), Err(Refusal::LocalAddress));
     assert!(relay == before);
     relay.remove_local(&address(7)).unwrap();
     relay.add_local(&address(16)).unwrap();
+    assert_eq!(relay.announce_rate(), AnnounceRate::default());
+    relay.set_announce_rate(limits).unwrap();
+    assert_eq!(relay.announce_rate(), limits);
+}
+
+/// A sensor that announces itself every five seconds: let through while it has grace, then blocked, then heard again.
+#[test]
+fn a_destination_that_announces_too_often_is_blocked() {
+    let (mut relay, mut output) = (relay(2), [0; OUTPUT_SIZE]);
+    relay.set_announce_rate(AnnounceRate { target: 60, grace: 2, penalty: 600 }).unwrap();
+    let clocks = [1_000, 1_005, 1_010, 1_015, 1_669, 1_670];
+    let answers = clocks.into_iter().zip(1..).map(|(clock, emission)| relay.packet(&announce(emission).0, 0, clock, true, &mut output));
+    let (spread, dropped) = (Ok(Verdict::Spread { ports: PortSet::from_bits(0b10), length: 183 }), Ok(Verdict::Drop(Reason::RateLimited)));
+    assert_eq!(answers.collect::<Vec<_>>(), [spread, spread, spread, dropped, dropped, spread]);
+    let path = relay.path(0).unwrap();
+    assert_eq!((path.last_announce, path.violations, path.blocked_until), (1_670, 2, 1_670));
 }
 
 #[test]
@@ -170,7 +219,17 @@ fn ports_and_local_addresses_are_told() {
 fn a_path_a_receipt_and_a_link_are_told() {
     let (mut relay, mut output, (announce, destination)) = (relay(16), [0; OUTPUT_SIZE], announce(1));
     relay.packet(&announce, 2, 1_000, true, &mut output).unwrap();
-    let path = Path { destination, port: 2, hops: 0, next_hop: destination, expiry: 1_000 + 604_800, blob_count: 1 };
+    let path = Path {
+        destination,
+        port: 2,
+        hops: 0,
+        next_hop: destination,
+        expiry: 1_000 + 604_800,
+        last_announce: 1_000,
+        violations: 0,
+        blocked_until: 0,
+        blob_count: 1,
+    };
     assert_eq!([0, 1, PATH_COUNT].map(|place| relay.path(place)), [Some(path), None, None]);
     let live = [1_000, path.expiry - 1, path.expiry].map(|clock| relay.live_path(&destination, clock));
     assert_eq!(live, [Some(path), Some(path), None]);
@@ -214,6 +273,6 @@ fn tables_go_out_and_come_in_again() {
     assert_eq!(Relay::from_tables(tables, *relay.tally()), Ok(relay.clone()));
     assert_eq!(Relay::from_tables(&tables[1..], Tally::default()), Err(Refusal::Tables));
     let mut bad = tables.to_vec();
-    bad[24] = 2; // the mark of port 0: neither on nor off
+    bad[36] = 2; // the mark of port 0: neither on nor off
     assert_eq!(Relay::from_tables(&bad, Tally::default()), Err(Refusal::Tables));
 }

@@ -1,4 +1,4 @@
--- Demands 1 to 3, and what wishes 2, 4 and 5 add to them, about the bytes. First what keeps a relay one that tables can hold; last the theorems on lists
+-- Demands 1 to 3 and the theorems of wishes 2, 4, 5, 9 and 12, about the bytes. First what keeps a relay one that tables can hold; last the theorems on lists
 -- of calls, with what they say computed, so that none can become empty unseen.
 pub mod Announced
 pub mod Made
@@ -11,7 +11,9 @@ pub mod SavedTables
 pub mod Keepalives
 pub mod Chatty
 pub mod Replays
+pub mod Lengths
 pub mod OwnAnnounces
+pub mod Reasons
 pub mod InstanceCalls
 pub mod Instance1
 pub mod Instance2
@@ -21,3 +23,5 @@ pub mod InstanceKeepalives
 pub mod InstanceChatty
 pub mod InstanceReplay
 pub mod InstanceAnnounce
+pub mod InstanceLengths
+pub mod InstanceReasons

@@ -1,42 +1,22 @@
 -- The laws of what leaves: how long it is, and the bytes that the code writes one after the other.
-use Prim.Native.Nat.{ℕ, _+_, _*_, _/_, _%_, _≤_, _<_}
+use Prim.Native.Nat.{ℕ, _+_, _%_, _≤_, _<_}
 use native.Mathlib.Nat.{not-suc-le-zero, le-of-suc-le-suc}
 use native.Mathlib.Omega.{arith}
 use mathlib.Core.Bool.{true, false}
 use mathlib.Core.List.{List, [], _∷_, _++_, append-assoc}
 use mathlib.Core.Path.{_≡_, refl, sym, ap, _∙_}
-use lib.Dec.{eqb}
-use lib.ListN.{length, getD, set, length-drop, length-set}
-use borrow.Author.Tests.{eq-eqb, ne-eqb}
+use lib.ListN.{length, getD, set}
 use Rattle.octets.specs.Part.{patch}
 use Rattle.octets.proofs.Part.{patch-join}
-use Rattle.octets.proofs.Choice.{then-true, then-false}
 use Rattle.packet.specs.Header.{typeTwo}
-use Rattle.packet.specs.Read.{headerOf, noAddress, payloadStart, payload, reads}
+use Rattle.packet.specs.Read.{headerOf, payloadStart, payload, reads}
 use Rattle.packet.specs.Write.{addresses, packetOf}
 use Rattle.packet.specs.declared.Parts.{Parts}
-use Rattle.packet.proofs.ReadLaws.{start-two, start-one, start-least, reads-readable, parts-hops}
-use Rattle.packet.specs.Write.{Wide}
+use Rattle.packet.proofs.ReadLaws.{start-one, start-least, reads-readable}
 use Rattle.packet.proofs.WriteLaws.{packet-length}
-use Rattle.packet.proofs.Widths.{parts-wide}
-use Rattle.rules.specs.Outgoing.{rewritten, spreadHeader, pathPacket, carriedPacket, spreadPacket}
+use Rattle.rules.specs.Outgoing.{rewritten, spreadHeader, carriedPacket, spreadPacket}
+use Rattle.rules.proofs.Lengths.{last-hop-start, spread-start, body-length, rewritten-wide, rewritten-length, carried-is}
 use Rattle.outgoing.specs.Leaving.{rewrittenParts, spreadLength}
-
--- ---- headers: modulo 16 a packet is of type 1, and spread it is of type 2
-last-hop-one : (header : ℕ) → typeTwo (header % 16) ≡ false
-unfolding typeTwo
-last-hop-one header =
-    let bit : header % 16 / 64 % 2 ≡ 0 = omega arith in
-    ap (λ (k : ℕ). eqb k 1) bit
-
-spread-header-two : (header : ℕ) → typeTwo (spreadHeader header) ≡ true
-unfolding typeTwo spreadHeader
-spread-header-two header =
-    let bit : (64 + header / 32 % 2 * 32 + 16 + header % 16) / 64 % 2 ≡ 1 = omega arith in
-    ap (λ (k : ℕ). eqb k 1) bit
-
-pub spread-start : (header : ℕ) → payloadStart (spreadHeader header) ≡ 35
-spread-start header = start-two (spreadHeader header) (spread-header-two header)
 
 -- ---- a packet that reads
 module _ (longest : ℕ) (p : List ℕ) (h : reads longest p ≡ true) where
@@ -46,24 +26,11 @@ module _ (longest : ℕ) (p : List ℕ) (h : reads longest p ≡ true) where
   pub long : 19 ≤ length p
   long = omega (arith, start-least (headerOf p), whole)
 
-  body-length : payloadStart (headerOf p) + length (payload p) ≡ length p
-  unfolding payload
-  body-length = simp length-drop (omega (arith, whole))
-
-  -- under another header and relay address
-  module _ (header : ℕ) (relay : List ℕ) (wide : length relay ≡ 16) where
-    rewritten-wide : Wide (rewrittenParts header relay p)
-    rewritten-wide = record { relay = wide; destination = parts-wide p whole .destination }
-
-    pub rewritten-length : length (rewritten header relay p) ≡ payloadStart header + length (payload p)
-    unfolding rewritten
-    rewritten-length = packet-length (rewrittenParts header relay p) (payload p) rewritten-wide
-
   -- spread
   pub spread-length : (own : List ℕ) → length own ≡ 16 → length (spreadPacket own p) ≡ spreadLength p
   unfolding spreadPacket spreadLength
   spread-length own wide =
-      rewritten-length (spreadHeader (headerOf p)) own wide
+      rewritten-length longest p h (spreadHeader (headerOf p)) own wide
       ∙ ap (λ (k : ℕ). k + length (payload p)) (spread-start (headerOf p))
 
   pub spread-result : (own : List ℕ) → length own ≡ 16 → (body : List ℕ) → body ≡ payload p → 35 + length body ≡ length (spreadPacket own p)
@@ -73,22 +40,13 @@ module _ (longest : ℕ) (p : List ℕ) (h : reads longest p ≡ true) where
   -- type 1 grows by 16 bytes, so that 484 bytes are the most that spread
   pub spread-one : typeTwo (headerOf p) ≡ false → spreadLength p ≡ length p + 16
   unfolding spreadLength
-  spread-one e = omega (arith, body-length, start-one (headerOf p) e)
+  spread-one e = omega (arith, body-length longest p h, start-one (headerOf p) e)
 
   -- by a path: on the last hop a packet of type 2 loses the relay address, and otherwise it stays as long
   pub path-room : (payloadStart (headerOf p % 16) + length (payload p) ≤ length p) × (payloadStart (headerOf p) + length (payload p) ≤ length p)
   path-room =
-      (omega (arith, body-length, start-least (headerOf p), start-one (headerOf p % 16) (last-hop-one (headerOf p))), omega (arith, body-length))
-
--- ---- what a path's hops decide
-module _ (hops : ℕ) (nextHop p : List ℕ) where
-  pub path-last : hops ≡ 0 → pathPacket hops nextHop p ≡ rewritten (headerOf p % 16) noAddress p
-  unfolding pathPacket
-  path-last e = then-true _ _ (eq-eqb hops 0 e)
-
-  pub path-next-hop : (hops ≡ 0 → ⊥) → pathPacket hops nextHop p ≡ rewritten (headerOf p) nextHop p
-  unfolding pathPacket
-  path-next-hop ne = then-false _ _ (ne-eqb hops 0 ne)
+      let body = body-length longest p h in
+      (omega (arith, body, start-least (headerOf p), last-hop-start (headerOf p)), omega (arith, body))
 
 -- ---- what the code writes
 -- a head, which is a packet without payload, and the payload behind it
@@ -113,12 +71,5 @@ carry-over out (x ∷ []) v l = absurd (not-suc-le-zero (le-of-suc-le-suc l))
 carry-over out (x ∷ y ∷ p) v l = refl
 
 module _ (p : List ℕ) where
-  carried-is : carriedPacket p ≡ set p 1 (getD p 1 0 + 1)
-  unfolding carriedPacket
-  carried-is = ap (λ (k : ℕ). set p 1 (k + 1)) (parts-hops p)
-
-  pub carried-length : length (carriedPacket p) ≡ length p
-  carried-length = ap length carried-is ∙ length-set p 1 (getD p 1 0 + 1)
-
   pub carried-written : (out : List ℕ) → 1 < length p → patch (patch out 0 p) 1 ((getD p 1 0 + 1) ∷ []) ≡ patch out 0 (carriedPacket p)
-  carried-written out l = carry-over out p (getD p 1 0 + 1) l ∙ ap (patch out 0) (sym carried-is)
+  carried-written out l = carry-over out p (getD p 1 0 + 1) l ∙ ap (patch out 0) (sym (carried-is p))

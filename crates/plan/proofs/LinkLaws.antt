@@ -1,6 +1,5 @@
 -- Packets of kind link: tests 6, 7, 8, 9 and 12 are all that can hold of them.
 use Prim.Native.Nat.{ℕ, _≤_, _<_}
-use native.Mathlib.Omega.{arith}
 use mathlib.Core.Bool.{Bool, true, false, not}
 use mathlib.Core.Path.{_≡_, refl, sym, ap, _∙_}
 use mathlib.Core.List.{List}
@@ -12,7 +11,6 @@ use Rattle.octets.specs.Choice.{_or_, _then_otherwise_}
 use Rattle.octets.proofs.Choice.{then-true, then-false, or-right}
 use Rattle.octets.proofs.Index.{and-no, and-yes}
 use Rattle.packet.specs.Header.{ofKindLink, isAnnounce}
-use Rattle.packet.specs.Read.{longestPacket, reads}
 use Rattle.packet.proofs.ReadLaws.{parts-hops}
 use Rattle.octets.specs.Listed.{firstOf}
 use Rattle.rules.specs.Relay.{empty, used, Relay}
@@ -20,7 +18,6 @@ use Rattle.rules.specs.View.{View, linkPlace, viewAt}
 use Rattle.rules.specs.Arrival.{Arrival, header, destination, isLinkProof}
 use Rattle.rules.specs.Ways.{Way, along-link, blocked, linkWay, wayOn}
 use Rattle.rules.specs.Tests.{badForm, noWayOn, whyBlocked, followsProvedLink, alreadyKnown, fromAnsweringSide, fromAskingSide, wrongSide, notSigned, ofKnown, replay, notBetter, rateLimited, leavingPort, portOff, noRoom}
-use Rattle.rules.specs.Outgoing.{grownTooLong}
 use Rattle.rules.specs.Judging.{dropped, follows, onwardPlan, onwardTests}
 use Rattle.rules.specs.declared.Link.{Link}
 use Rattle.rules.specs.declared.Blocked.the-variants.{NoLink, NotProved}
@@ -28,20 +25,15 @@ use Rattle.rules.specs.declared.Reason.the-variants.{NoWayOn, AlreadyKnown, Wro
 use Rattle.numbers.specs.Numbers.{linkCount}
 use Rattle.tables.specs.Layout.{relayOf}
 use Rattle.lookup.proofs.Found.{link-found, link-missing}
-use Rattle.outgoing.proofs.RuleLaws.{never-grown}
 use Rattle.plan.specs.Decided.{linkAt, decidedWay, decided, onward}
 use Rattle.plan.specs.Kinds.{leaving, carried, proving, carrying}
 use Rattle.plan.specs.declared.Decision.the-variants.{Drop, Carry}
 use Rattle.plan.proofs.KindLaws.{link-no-request, decided-test}
 
-module _ (a : Arrival) (readable : reads longestPacket (a .bytes) ≡ true) (good : badForm (a .bytes) ≡ false)
-    (announce : isAnnounce (header a) ≡ false) (kind : ofKindLink (header a) ≡ true) where
+module _ (a : Arrival) (good : badForm (a .bytes) ≡ false) (announce : isAnnounce (header a) ≡ false) (kind : ofKindLink (header a) ≡ true) where
   link-way : (v : View) → wayOn v a ≡ linkWay (isLinkProof (a .bytes)) (v .link (destination a))
   unfolding wayOn
   link-way v = then-false _ _ announce ∙ then-true _ _ kind
-
-  fits : (l : Link) → grownTooLong a (along-link l) ≡ false
-  fits l = never-grown a readable (along-link l) (λ p e. let z : _≡_ {A = ℕ} 0 1 = cc in absurd (omega arith))
 
   link-plan : (v : View) (l : Link) → onwardPlan v a (along-link l)
       ≡ (isLinkProof (a .bytes) and l .proved then dropped AlreadyKnown otherwise
@@ -51,7 +43,7 @@ module _ (a : Arrival) (readable : reads longestPacket (a .bytes) ≡ true) (goo
       follows (along-link l))
   unfolding onwardPlan onwardTests firstOf noWayOn alreadyKnown followsProvedLink notSigned ofKnown replay notBetter rateLimited portOff noRoom
       _then_otherwise_ _and_ _or_
-  link-plan v l = rw (link-no-request a good kind, announce, fits l)
+  link-plan v l = rw (link-no-request a good kind, announce)
 
   module _ (r : Relay) where
     link-none : viewAt (a .clock) r .link (destination a) ≡ empty → Drop (NoWayOn NoLink) ≡ onward r a
@@ -102,21 +94,21 @@ module _ (a : Arrival) (readable : reads longestPacket (a .bytes) ≡ true) (goo
           go true p false q false s = sym (along l (way p) ∙ rw (other, q, s, p))
 
 -- ---- on tables, where the search for the link gave place i
-module _ (t : List ℕ) (a : Arrival) (readable : reads longestPacket (a .bytes) ≡ true) (good : badForm (a .bytes) ≡ false)
+module _ (t : List ℕ) (a : Arrival) (good : badForm (a .bytes) ≡ false)
     (announce : isAnnounce (header a) ≡ false) (kind : ofKindLink (header a) ≡ true)
     {i : ℕ} (e : i ≡ linkPlace (a .clock) (relayOf t) (destination a)) where
   pub link-nowhere : linkCount ≤ i → Drop (NoWayOn NoLink) ≡ onward (relayOf t) a
-  link-nowhere l = link-none a readable good announce kind (relayOf t) (link-missing t (a .clock) (destination a) i e l)
+  link-nowhere l = link-none a good announce kind (relayOf t) (link-missing t (a .clock) (destination a) i e l)
 
   module _ (l : i < linkCount) {link : Link} (read : link ≡ linkAt t i) where
     found : viewAt (a .clock) (relayOf t) .link (destination a) ≡ used link
     found = link-found t (a .clock) (destination a) i e l ∙ ap used (sym read)
 
     pub proof-at : isLinkProof (a .bytes) ≡ true → proving (relayOf t) a link i ≡ onward (relayOf t) a
-    proof-at is = ap (proving (relayOf t) a link) e ∙ link-proof a readable good announce kind (relayOf t) link found is
+    proof-at is = ap (proving (relayOf t) a link) e ∙ link-proof a good announce kind (relayOf t) link found is
 
     pub other-at : isLinkProof (a .bytes) ≡ false → carrying (relayOf t) a link i ≡ onward (relayOf t) a
-    other-at other = ap (carrying (relayOf t) a link) e ∙ link-other a readable good announce kind (relayOf t) link found other
+    other-at other = ap (carrying (relayOf t) a link) e ∙ link-other a good announce kind (relayOf t) link found other
 
 -- ---- the sides
 module _ (l : Link) (a : Arrival) where

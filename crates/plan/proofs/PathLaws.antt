@@ -1,35 +1,32 @@
 -- Data and link requests: tests 6, 7, 12 and 13 are all that can hold of them.
-use Prim.Native.Nat.{ℕ, _+_, _*_, _≤_, _<_}
+use Prim.Native.Nat.{ℕ, _≤_, _<_}
 use native.Mathlib.Omega.{arith}
-use mathlib.Core.Bool.{true, false, not}
+use mathlib.Core.Bool.{true, false, not, false≢true}
 use mathlib.Core.Path.{_≡_, refl, sym, ap, ap₂, _∙_}
 use mathlib.Core.List.{List}
-use lib.ListN.{length}
 use borrow.Author.Tests.{lt-ltb, le-ltb}
 use Rattle.octets.specs.Index.{_and_}
 use Rattle.octets.specs.Choice.{_or_, _then_otherwise_}
 use Rattle.octets.proofs.Choice.{then-true, then-false}
-use Rattle.octets.proofs.Part.{part-length}
 use Rattle.packet.specs.Header.{packetKind, typeTwo, ofKindLink, isData, isAnnounce, isLinkRequest, isProof}
-use Rattle.packet.specs.Read.{longestPacket, reads}
 use Rattle.packet.specs.Hash.{linkId}
 use Rattle.numbers.specs.Numbers.{linkCount, pathCount}
 use Rattle.octets.specs.Listed.{firstOf}
-use Rattle.rules.specs.Relay.{empty, used, Path, Relay}
-use Rattle.rules.specs.View.{View, pathPlace, linkPlace, freeLink, viewAt, portOn}
+use Rattle.rules.specs.Relay.{Slot, empty, used, Path, Relay}
+use Rattle.rules.specs.View.{View, pathPlace, linkPlace, freeLink, expiredPath, viewAt, portOn}
 use Rattle.rules.specs.Arrival.{Arrival, header, destination, isLinkProof}
-use Rattle.rules.specs.Ways.{Way, by-path, blocked, pathWay, wayOn}
+use Rattle.rules.specs.Ways.{Way, by-path, blocked, noPath, pathWay, wayOn}
 use Rattle.rules.specs.Tests.{isThere, noWayOn, whyBlocked, alreadyKnown, wrongSide, notSigned, ofKnown, replay, notBetter, rateLimited, leavingPort, portOff, noRoom}
-use Rattle.rules.specs.Outgoing.{grownTooLong}
 use Rattle.rules.specs.Judging.{dropped, follows, onwardPlan, onwardTests}
-use Rattle.rules.specs.declared.Blocked.the-variants.{NotAsking, NoPath}
+use Rattle.rules.specs.declared.Blocked.the-variants.{NotAsking, NoPath, OnlyExpired}
 use Rattle.rules.specs.declared.Reason.the-variants.{NoWayOn, AlreadyKnown, PortOff, NoRoom}
+use Rattle.tables.specs.Layout.{recordAt, relayOf}
 use Rattle.tables.specs.Places.{addressWidth, pathsAt, pathWidth, tableSize}
 use Rattle.tables.specs.Fields.{pathNextHopAt}
 use Rattle.tables.specs.Records.{pathOf}
-use Rattle.tables.specs.Layout.{recordAt, relayOf}
+use Rattle.lookup.specs.Expired.{latestOf}
+use Rattle.lookup.specs.declared.Latest.{Latest}
 use Rattle.lookup.proofs.Found.{path-found, path-missing, link-found, link-missing}
-use Rattle.outgoing.proofs.RuleLaws.{never-grown}
 use Rattle.plan.specs.Decided.{pathAt, highOf, lowOf, decidedWay, decided, onward}
 use Rattle.plan.specs.Kinds.{leaving, sending, requesting}
 use Rattle.plan.specs.declared.Decision.the-variants.{Drop, Request}
@@ -39,18 +36,18 @@ module _ (a : Arrival) (announce : isAnnounce (header a) ≡ false) (link : ofKi
   no-proof : isLinkProof (a .bytes) ≡ false
   no-proof = no-link-proof a proof
 
-  path-way : (v : View) → wayOn v a ≡ (not (typeTwo (header a)) then blocked NotAsking otherwise pathWay (v .path (destination a)))
+  path-way : (v : View) → wayOn v a ≡ (not (typeTwo (header a)) then blocked NotAsking otherwise pathWay (v .path (destination a)) (v .expired (destination a)))
   unfolding wayOn
   path-way v = then-false _ _ announce ∙ then-false _ _ link ∙ then-false _ _ proof
 
-  path-plan : (v : View) (p : Path) → grownTooLong a (by-path p) ≡ false → onwardPlan v a (by-path p)
+  path-plan : (v : View) (p : Path) → onwardPlan v a (by-path p)
       ≡ (isLinkRequest (header a) and isThere (v .link (linkId (a .bytes))) then dropped AlreadyKnown otherwise
       not (v .on (p .port)) then dropped PortOff otherwise
       isLinkRequest (header a) and not (v .roomForLink) then dropped NoRoom otherwise
       follows (by-path p))
   unfolding onwardPlan onwardTests firstOf noWayOn alreadyKnown wrongSide notSigned ofKnown replay notBetter rateLimited leavingPort portOff
       noRoom _then_otherwise_ _and_ _or_
-  path-plan v p fits = rw (no-proof, or-false (isLinkRequest (header a) and isThere (v .link (linkId (a .bytes)))), announce, fits)
+  path-plan v p = rw (no-proof, or-false (isLinkRequest (header a) and isThere (v .link (linkId (a .bytes)))), announce)
 
   module _ (r : Relay) where
     pub path-not-asking : typeTwo (header a) ≡ false → Drop (NoWayOn NotAsking) ≡ onward r a
@@ -61,15 +58,15 @@ module _ (a : Arrival) (announce : isAnnounce (header a) ≡ false) (link : ofKi
         sym (ap (λ (w : Way). decided r a (onwardPlan v a w)) way)
 
     module _ (two : typeTwo (header a) ≡ true) where
-      path-none : viewAt (a .clock) r .path (destination a) ≡ empty → Drop (NoWayOn NoPath) ≡ onward r a
-      unfolding onward onwardPlan onwardTests firstOf noWayOn whyBlocked decided pathWay _then_otherwise_
+      path-none : viewAt (a .clock) r .path (destination a) ≡ empty → Drop (NoWayOn (noPath (expiredPath (a .clock) r (destination a)))) ≡ onward r a
+      unfolding onward onwardPlan onwardTests firstOf noWayOn whyBlocked decided viewAt pathWay _then_otherwise_
       path-none e =
           let v : View = viewAt (a .clock) r in
-          let way : wayOn v a ≡ blocked NoPath = path-way v ∙ rw two (ap pathWay e) in
+          let expired = expiredPath (a .clock) r (destination a) in
+          let way : wayOn v a ≡ blocked (noPath expired) = path-way v ∙ rw two (ap (λ (s : Slot Path). pathWay s expired) e) in
           sym (ap (λ (w : Way). decided r a (onwardPlan v a w)) way)
 
-      module _ (readable : reads longestPacket (a .bytes) ≡ true) (p : Path) (wide : length (p .nextHop) ≡ 16)
-          (there : viewAt (a .clock) r .path (destination a) ≡ used p) where
+      module _ (p : Path) (there : viewAt (a .clock) r .path (destination a) ≡ used p) where
         path-onward : onward r a
             ≡ (isLinkRequest (header a) and isThere (viewAt (a .clock) r .link (linkId (a .bytes))) then Drop AlreadyKnown otherwise
             not (viewAt (a .clock) r .on (p .port)) then Drop PortOff otherwise
@@ -78,11 +75,9 @@ module _ (a : Arrival) (announce : isAnnounce (header a) ≡ false) (link : ofKi
         unfolding onward decided pathWay _then_otherwise_
         path-onward =
             let v : View = viewAt (a .clock) r in
-            let way : wayOn v a ≡ by-path p = path-way v ∙ rw two (ap pathWay there) in
-            let fits : grownTooLong a (by-path p) ≡ false =
-            never-grown a readable (by-path p) (λ q e. let m : p ≡ q = cc in ap (λ (x : Path). length (x .nextHop)) (sym m) ∙ wide) in
+            let way : wayOn v a ≡ by-path p = path-way v ∙ rw two (ap (λ (s : Slot Path). pathWay s (v .expired (destination a))) there) in
             ap (λ (w : Way). decided r a (onwardPlan v a w)) way
-            ∙ ap (decided r a) (path-plan v p fits)
+            ∙ ap (decided r a) (path-plan v p)
             ∙ simp decided-test
 
         path-data : isData (header a) ≡ true → sending r p (pathPlace (a .clock) r (destination a)) ≡ onward r a
@@ -94,30 +89,36 @@ module _ (a : Arrival) (announce : isAnnounce (header a) ≡ false) (link : ofKi
         path-request other = sym (path-onward ∙ rw (request-left (header a) other announce proof, other))
 
 -- ---- on tables, where the search for the path gave place i
-next-hop-wide : (t : List ℕ) (i : ℕ) → length t ≡ tableSize → i < pathCount → length (pathAt t i .nextHop) ≡ 16
-unfolding pathOf
-next-hop-wide t i size l =
-    let row : length (recordAt pathsAt pathWidth t i) ≡ pathWidth = part-length t (pathsAt + pathWidth * i) pathWidth (omega (arith, size, l)) in
-    part-length (recordAt pathsAt pathWidth t i) pathNextHopAt addressWidth (omega (arith, row))
-
 module _ (t : List ℕ) (a : Arrival) (announce : isAnnounce (header a) ≡ false) (link : ofKindLink (header a) ≡ false)
     (proof : isProof (header a) ≡ false) (two : typeTwo (header a) ≡ true)
     {i : ℕ} (e : i ≡ pathPlace (a .clock) (relayOf t) (destination a)) where
-  pub path-nowhere : pathCount ≤ i → Drop (NoWayOn NoPath) ≡ onward (relayOf t) a
+  pub path-nowhere : pathCount ≤ i → Drop (NoWayOn (noPath (expiredPath (a .clock) (relayOf t) (destination a)))) ≡ onward (relayOf t) a
   path-nowhere l = path-none a announce link proof (relayOf t) two (path-missing t (a .clock) (destination a) i e l)
 
-  module _ (readable : reads longestPacket (a .bytes) ≡ true) (size : length t ≡ tableSize) (l : i < pathCount) where
+  module _ (l : i < pathCount) where
     pub data-at : isData (header a) ≡ true → sending (relayOf t) (pathAt t i) i ≡ onward (relayOf t) a
     data-at is =
         let there = path-found t (a .clock) (destination a) i e l in
         ap (sending (relayOf t) (pathAt t i)) e
-        ∙ path-data a announce link proof (relayOf t) two readable (pathAt t i) (next-hop-wide t i size l) there is
+        ∙ path-data a announce link proof (relayOf t) two (pathAt t i) there is
 
     pub request-at : isData (header a) ≡ false → requesting (relayOf t) a (pathAt t i) i ≡ onward (relayOf t) a
     request-at other =
         let there = path-found t (a .clock) (destination a) i e l in
         ap (requesting (relayOf t) a (pathAt t i)) e
-        ∙ path-request a announce link proof (relayOf t) two readable (pathAt t i) (next-hop-wide t i size l) there other
+        ∙ path-request a announce link proof (relayOf t) two (pathAt t i) there other
+
+-- ---- why there is no live path, by the latest time that the search gave
+module _ (found : Latest) where
+  pub expired-there : (s : Slot ℕ) → found ≡ latestOf s → found .there ≡ true → OnlyExpired (found .time) ≡ noPath s
+  unfolding latestOf noPath
+  expired-there empty e there = absurd (false≢true (sym (ap (λ (x : Latest). x .there) e) ∙ there))
+  expired-there (used t) e there = ap (λ (x : Latest). OnlyExpired (x .time)) e
+
+  pub expired-none : (s : Slot ℕ) → found ≡ latestOf s → found .there ≡ false → NoPath ≡ noPath s
+  unfolding latestOf noPath
+  expired-none empty e none = refl
+  expired-none (used t) e none = absurd (false≢true (sym none ∙ ap (λ (x : Latest). x .there) e))
 
 -- ---- whether an id is live, by the place that the search gave
 module _ (t : List ℕ) (clock : ℕ) (id : List ℕ) {i : ℕ} (e : i ≡ linkPlace clock (relayOf t) id) where

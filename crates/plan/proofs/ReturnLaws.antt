@@ -1,6 +1,5 @@
 -- Ordinary proofs: tests 6, 8 and 12 are all that can hold of them.
 use Prim.Native.Nat.{ℕ, _≤_, _<_}
-use native.Mathlib.Omega.{arith}
 use mathlib.Core.Bool.{true, false, not}
 use mathlib.Core.Path.{_≡_, refl, sym, ap, _∙_}
 use mathlib.Core.List.{List}
@@ -10,21 +9,18 @@ use Rattle.octets.specs.Index.{_and_}
 use Rattle.octets.specs.Choice.{_or_, _then_otherwise_}
 use Rattle.octets.proofs.Choice.{then-true, then-false}
 use Rattle.packet.specs.Header.{packetKind, ofKindLink, isAnnounce, isLinkRequest, isProof}
-use Rattle.packet.specs.Read.{longestPacket, reads}
 use Rattle.octets.specs.Listed.{firstOf}
 use Rattle.rules.specs.Relay.{empty, used, Return, Relay}
 use Rattle.rules.specs.View.{View, returnPlace, viewAt, portOn}
 use Rattle.rules.specs.Arrival.{Arrival, header, destination, isLinkProof}
 use Rattle.rules.specs.Ways.{Way, by-return, returnWay, wayOn}
 use Rattle.rules.specs.Tests.{noWayOn, whyBlocked, alreadyKnown, wrongSide, notSigned, ofKnown, replay, notBetter, rateLimited, leavingPort, portOff, noRoom}
-use Rattle.rules.specs.Outgoing.{grownTooLong}
 use Rattle.rules.specs.Judging.{dropped, follows, onwardPlan, onwardTests}
 use Rattle.rules.specs.declared.Blocked.the-variants.{NoReturn}
 use Rattle.rules.specs.declared.Reason.the-variants.{NoWayOn, WrongSide, PortOff}
 use Rattle.numbers.specs.Numbers.{returnCount}
 use Rattle.tables.specs.Layout.{relayOf}
 use Rattle.lookup.proofs.Found.{return-found, return-missing}
-use Rattle.outgoing.proofs.RuleLaws.{never-grown}
 use Rattle.plan.specs.Decided.{returnAt, decidedWay, decided, onward}
 use Rattle.plan.specs.Kinds.{leaving, returning}
 use Rattle.plan.specs.declared.Decision.the-variants.{Drop, Receipt}
@@ -44,12 +40,12 @@ module _ (a : Arrival) (kind : ofKindLink (header a) ≡ false) (proof : isProof
   unfolding wayOn
   return-way v = then-false _ _ no-announce ∙ then-false _ _ kind ∙ then-true _ _ proof
 
-  return-plan : (v : View) (t : Return) → grownTooLong a (by-return t) ≡ false → onwardPlan v a (by-return t)
+  return-plan : (v : View) (t : Return) → onwardPlan v a (by-return t)
       ≡ (wrongSide a (by-return t) then dropped WrongSide otherwise
       not (v .on (leavingPort a (by-return t))) then dropped PortOff otherwise
       follows (by-return t))
   unfolding onwardPlan onwardTests firstOf noWayOn alreadyKnown notSigned ofKnown replay notBetter rateLimited portOff noRoom _then_otherwise_ _and_ _or_
-  return-plan v t fits = rw (no-request, no-link-proof, no-announce, fits)
+  return-plan v t = rw (no-request, no-link-proof, no-announce)
 
   module _ (r : Relay) where
     return-none : viewAt (a .clock) r .return (destination a) ≡ empty → Drop (NoWayOn NoReturn) ≡ onward r a
@@ -58,16 +54,14 @@ module _ (a : Arrival) (kind : ofKindLink (header a) ≡ false) (proof : isProof
         let v : View = viewAt (a .clock) r in
         sym (ap (λ (w : Way). decided r a (onwardPlan v a w)) (return-way v ∙ ap returnWay e))
 
-    return-there : reads longestPacket (a .bytes) ≡ true → (t : Return) → viewAt (a .clock) r .return (destination a) ≡ used t
+    return-there : (t : Return) → viewAt (a .clock) r .return (destination a) ≡ used t
         → returning r (a .port) t (returnPlace (a .clock) r (destination a)) ≡ onward r a
     unfolding onward decided decidedWay returning leaving wrongSide leavingPort viewAt returnWay
-    return-there readable t e =
+    return-there t e =
         let v : View = viewAt (a .clock) r in
-        let fits : grownTooLong a (by-return t) ≡ false =
-        never-grown a readable (by-return t) (λ p q. let z : _≡_ {A = ℕ} 0 1 = cc in absurd (omega arith)) in
         sym
         (ap (λ (w : Way). decided r a (onwardPlan v a w)) (return-way v ∙ ap returnWay e)
-        ∙ ap (decided r a) (return-plan v t fits)
+        ∙ ap (decided r a) (return-plan v t)
         ∙ simp decided-test)
 
 -- ---- on tables, where the search for the return record gave place i
@@ -76,11 +70,10 @@ module _ (t : List ℕ) (a : Arrival) (kind : ofKindLink (header a) ≡ false) (
   pub return-nowhere : returnCount ≤ i → Drop (NoWayOn NoReturn) ≡ onward (relayOf t) a
   return-nowhere l = return-none a kind proof (relayOf t) (return-missing t (a .clock) (destination a) i e l)
 
-  pub return-at : reads longestPacket (a .bytes) ≡ true → i < returnCount
-      → returning (relayOf t) (a .port) (returnAt t i) i ≡ onward (relayOf t) a
-  return-at readable l =
+  pub return-at : i < returnCount → returning (relayOf t) (a .port) (returnAt t i) i ≡ onward (relayOf t) a
+  return-at l =
       ap (returning (relayOf t) (a .port) (returnAt t i)) e
-      ∙ return-there a kind proof (relayOf t) readable (returnAt t i) (return-found t (a .clock) (destination a) i e l)
+      ∙ return-there a kind proof (relayOf t) (returnAt t i) (return-found t (a .clock) (destination a) i e l)
 
 -- ---- by what was read of the record
 module _ (r : Relay) (port : ℕ) (t : Return) (place : ℕ) {leaving : ℕ} (read : leaving ≡ t .leaving) where

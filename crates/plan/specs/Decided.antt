@@ -106,7 +106,7 @@ decision r a = decided r a (plan (viewAt (a .clock) r) a)
 abbrev pub decisionOn : List ℕ → Arrived → List ℕ → Decision
 decisionOn packet m t = decision (relayOf t) (arrivalOf packet m)
 
--- the decision of tests 6 to 14
+-- the decision of tests 6 to 13
 unfoldable pub onward : Relay → Arrival → Decision
 onward r a = decided r a (onwardPlan (viewAt (a .clock) r) a (wayOn (viewAt (a .clock) r) a))
 

@@ -1,4 +1,4 @@
--- Tests 6 to 14 for each kind of packet, once its record is found: those that can hold of it, in document 01's order.
+-- Tests 6 to 13 for each kind of packet, once its record is found: those that can hold of it, in document 01's order.
 -- For the contracts of helpers: not part of what a reader must believe.
 use Prim.Native.Nat.{ℕ}
 use mathlib.Core.Bool.{Bool, true, false, not}

@@ -20,7 +20,9 @@ use first::first_tests;
 pub use first::not_ours;
 use links::decide_of_link;
 use paths::decide_by_path;
+pub use reasons::reason_clause;
 pub use reasons::reason_number;
+pub use reasons::reason_value;
 use returns::decide_proof;
 use rules::Clause;
 use rules::Reason;
@@ -82,7 +84,7 @@ pub enum Decision {
     },
 }
 
-// Tests 6 to 14, by the way that the packet would follow.
+// Tests 6 to 13, by the way that the packet would follow.
 fn decide_onward(tables: &[u8], packet: &[u8], arrived: Arrived) -> Decision
     requires { ⌜ CanJudge (now packet) (now tables) × (badForm (now packet) ≡ false) ⌝ }
     ensures { λ r. ⌜ r ≡ onwardOn (now (packet .entry)) arrived (now (tables .entry)) ⌝ }

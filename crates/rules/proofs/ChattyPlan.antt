@@ -20,7 +20,6 @@ use Rattle.rules.specs.Refusals.{packetRefusal}
 use Rattle.rules.specs.Arrival.{Arrival, header, destination, isLinkProof}
 use Rattle.rules.specs.Ways.{Way, everywhere, by-path, along-link, by-return, blocked, pathWay, linkWay, returnWay, wayOn}
 use Rattle.rules.specs.Tests.{ofKnown, rateLimited, portOff, noRoom}
-use Rattle.rules.specs.Outgoing.{grownTooLong}
 use Rattle.rules.specs.Judging.{Plan, dropped, follows, earlyTests, onwardTests, onwardPlan, plan, verdict}
 use Rattle.rules.specs.Calls.{Judgement, judged, judge, packetCall}
 use Rattle.rules.specs.Questions.{ofTest}
@@ -102,10 +101,10 @@ module _ (v : View) (a : Arrival) where
           absurd (false≢true (sym never-dropped ∙ sym (ap (λ (b : Bool). ofTest 15 (planIf b v a)) e) ∙ sym (ap (ofTest 15) plan-if) ∙ h))
 
   -- ---- only announces go everywhere, and only of a known path can test 15 hold
-  path-not : (s : Slot Path) → isSpread (pathWay s) ≡ false
+  path-not : (s : Slot Path) (expired : Slot ℕ) → isSpread (pathWay s expired) ≡ false
   unfolding isSpread pathWay
-  path-not empty = refl
-  path-not (used p) = refl
+  path-not empty expired = refl
+  path-not (used p) expired = refl
 
   link-not : (s : Slot Link) → isSpread (linkWay (isLinkProof (a .bytes)) s) ≡ false
   unfolding isSpread linkWay
@@ -123,7 +122,7 @@ module _ (v : View) (a : Arrival) where
       either So _ (λ e _. e)
       (λ _. either So _ (λ _ h. absurd (false≢true (sym (link-not _) ∙ h)))
       (λ _. either So _ (λ _ h. absurd (false≢true (sym (return-not _) ∙ h)))
-      (λ _. either So _ (λ _ h. absurd (false≢true h)) (λ _ h. absurd (false≢true (sym (path-not _) ∙ h))))))
+      (λ _. either So _ (λ _ h. absurd (false≢true h)) (λ _ h. absurd (false≢true (sym (path-not _ _) ∙ h))))))
     where
       So : Way → Type 0
       So w = isSpread w ≡ true → isAnnounce (header a) ≡ true
@@ -143,13 +142,13 @@ module _ (v : View) (a : Arrival) where
   -- an announce of a known path that gets past test 15 is accepted
   pub past-rate : (p : Path) → isAnnounce (header a) ≡ true → v .path (destination a) ≡ used p → rateLimited v a (wayOn v a) ≡ false → Reaches
       → plan v a ≡ follows (everywhere (used p))
-  unfolding onwardTests firstOf _then_otherwise_ portOff noRoom grownTooLong
+  unfolding onwardTests firstOf _then_otherwise_ portOff noRoom
   past-rate p announce known off h =
       plan-if
       ∙ ap (λ (b : Bool). planIf b v a) off
       ∙ from-rate h false
       ∙ ap (λ (w : Way). firstOf (drop 7 (onwardTests v a w)) (follows w)) (announce-way announce ∙ ap everywhere known)
-      ∙ none-first (drop 7 (onwardTests v a (everywhere (used p)))) _ (and-no _ (ap not announce), (refl, (refl, tt)))
+      ∙ none-first (drop 7 (onwardTests v a (everywhere (used p)))) _ (and-no _ (ap not announce), (refl, tt))
 
 -- ---- a reply that names test 15 is of an accepted packet that it drops
 module _ (a : Arrival) (output : List ℕ) (r : Relay) (t : Tally) where

@@ -1,10 +1,9 @@
 -- Wish 2, what was wanted, of one keepalive: no test holds of it, so it follows its link, whatever hashes are remembered.
-use Prim.Native.Nat.{ℕ, _+_, _≤_}
+use Prim.Native.Nat.{ℕ}
 use mathlib.Core.Bool.{Bool, true, false, not, false≢true}
 use mathlib.Core.Path.{_≡_, refl, ap, _∙_}
 use lib.Dec.{eqb}
-use lib.ListN.{length, set, length-set}
-use borrow.Author.Tests.{eqb-true, le-ltb, not-true}
+use borrow.Author.Tests.{eqb-true, not-true}
 use Rattle.octets.specs.Index.{_and_}
 use Rattle.octets.specs.Choice.{_then_otherwise_, _or_}
 use Rattle.octets.specs.Listed.{firstOf, anyHolds}
@@ -12,14 +11,13 @@ use Rattle.octets.proofs.Index.{and-left, and-right, and-both, and-no}
 use Rattle.octets.proofs.Choice.{or-no, same-eq}
 use Rattle.octets.proofs.Listed.{none-first}
 use Rattle.packet.specs.Header.{typeTwo, ofKindLink, packetKind, isData, isAnnounce, isLinkRequest, isProof}
-use Rattle.packet.specs.Read.{partsOf, longestPacket}
+use Rattle.packet.specs.Read.{partsOf}
 use Rattle.rules.specs.Relay.{used}
 use Rattle.rules.specs.View.{View}
 use Rattle.rules.specs.Arrival.{Arrival, header, hops, destination, isLinkProof}
 use Rattle.rules.specs.Exempt.{exemptContext, exempt}
 use Rattle.rules.specs.Ways.{Way, along-link, linkWay, wayOn}
 use Rattle.rules.specs.Tests.{notOurs, testedAsDuplicate, duplicate, typeTwoProof, typeTwoOfKindLink, announceNotSingle, announceTooShort, announceOfAnother, requestOfKindLink, requestTooShort, linkProofLength, formTests, badForm, ownAnnounce, deliveredHere, tooManyHops, noWayOn, alreadyKnown, fromAnsweringSide, fromAskingSide, wrongSide, notSigned, ofKnown, replay, notBetter, rateLimited, leavingPort, portOff, noRoom}
-use Rattle.rules.specs.Outgoing.{carriedPacket, exceeds, grownTooLong}
 use Rattle.rules.specs.Judging.{follows, earlyTests, onwardTests, onwardPlan, plan}
 use Rattle.rules.specs.Keepalives.{isKeepalive, keepsAlive}
 use Rattle.rules.specs.declared.Link.{Link}
@@ -130,11 +128,10 @@ module _ (l : Link) (a : Arrival) (k : keepsAlive l a ≡ true) where
     unfolding leavingPort
     port-on asking answering = either (λ (port : ℕ). v .on port ≡ true) (fromAnsweringSide l a) (λ _. asking) (λ _. answering)
 
-    late-none : length (a .bytes) ≤ longestPacket → v .on (l .asking) ≡ true → v .on (l .answering) ≡ true
+    late-none : v .on (l .asking) ≡ true → v .on (l .answering) ≡ true
         → firstOf (onwardTests v a (along-link l)) (follows (along-link l)) ≡ follows (along-link l)
-    unfolding onwardTests noWayOn alreadyKnown notSigned ofKnown replay notBetter rateLimited portOff noRoom grownTooLong exceeds carriedPacket
-    late-none short asking answering =
-        let fits : length (set (a .bytes) 1 (hops a + 1)) ≤ longestPacket = rw length-set short in
+    unfolding onwardTests noWayOn alreadyKnown notSigned ofKnown replay notBetter rateLimited portOff noRoom
+    late-none asking answering =
         none-first (onwardTests v a (along-link l)) _ (
           refl,
           (
@@ -151,7 +148,7 @@ module _ (l : Link) (a : Arrival) (k : keepsAlive l a ≡ true) where
                       refl,
                       (
                         ap (λ (b : Bool). not (isAnnounce (header a)) and not b) (port-on asking answering) ∙ and-false _,
-                        (refl, (le-ltb _ _ fits, tt)),
+                        (refl, tt),
                       ),
                     ),
                   ),
@@ -162,8 +159,8 @@ module _ (l : Link) (a : Arrival) (k : keepsAlive l a ≡ true) where
         )
 
     -- it follows its link
-    pub keepalive-follows : length (a .bytes) ≤ longestPacket → v .link (destination a) ≡ used l → l .proved ≡ true
+    pub keepalive-follows : v .link (destination a) ≡ used l → l .proved ≡ true
         → v .on (l .asking) ≡ true → v .on (l .answering) ≡ true → plan v a ≡ follows (along-link l)
     unfolding plan onwardPlan
-    keepalive-follows short found proved asking answering =
-        early-none ∙ ap (λ (w : Way). onwardPlan v a w) (way-found found proved) ∙ late-none short asking answering
+    keepalive-follows found proved asking answering =
+        early-none ∙ ap (λ (w : Way). onwardPlan v a w) (way-found found proved) ∙ late-none asking answering

@@ -8,17 +8,15 @@ use mathlib.Core.Path.{_≡_, refl, sym, ap, subst, _∙_}
 use lib.Dec.{eqb, ltb}
 use lib.ListN.{length, getD, set, length-set}
 use lib.Seq.{getD-set-same, getD-set-other, set-out}
-use borrow.Author.Tests.{ltb-true, lt-ltb, eqb-true, eq-eqb, not-true}
+use borrow.Author.Tests.{ltb-true, lt-ltb, eqb-true, eq-eqb, not-true, not-false}
 use Rattle.octets.specs.Index.{_and_}
 use Rattle.octets.specs.Choice.{_then_otherwise_, _or_, same}
 use Rattle.octets.specs.Part.{patch}
 use Rattle.octets.proofs.Index.{and-left, and-both, and-no, and-yes, first-holds}
 use Rattle.octets.proofs.Choice.{then-true, then-false, or-no-left, same-eq, eq-same}
-use Rattle.octets.proofs.Listed.{allGive, none-first, refuses, rows-passed}
+use Rattle.octets.proofs.Listed.{allGive, refuses, rows-passed}
 use Rattle.packet.specs.Header.{isData}
-use Rattle.packet.specs.Read.{longestPacket, readingRefusal}
 use Rattle.packet.specs.Hash.{linkId}
-use Rattle.packet.proofs.ReadLaws.{readable}
 use Rattle.numbers.specs.Numbers.{portCount, linkCount, provedLifetime, live}
 use Rattle.rules.specs.Relay.{Port, Slot, empty, used, makePort, noPort, Path, Relay, holds, free, lowestFree, withClock, withRate, withPorts, withLocals, withPaths, withLinks, withReturns, withHashes}
 use Rattle.rules.specs.View.{View, viewAt, portOn, isLiveLink, linkPlace, freeLink}
@@ -177,12 +175,6 @@ unfolding portOn
 same-ports r s e port h = rw e h
 
 -- ---- one packet
-accepted-short : (r : Relay) (a : Arrival) (room : ℕ) → eqb (packetRefusal r a room) 0 ≡ true → length (a .bytes) ≤ longestPacket
-unfolding refusalBy packetRows allGive refuses _and_
-accepted-short r a room taken =
-    let rows = packetRows r (a .port) (a .clock) room in
-    let below = none-first rows (readingRefusal longestPacket (a .bytes)) (rows-passed rows _ refl taken) in
-    readable longestPacket (a .bytes) (sym below ∙ eqb-true _ _ taken) .fits
 
 module _ (l : Link) (expiry : ℕ) (r : Relay) (a : Arrival) (output : List ℕ) (t : Tally) (up : UpAt l expiry (a .clock) r)
     (taken : eqb (packetRefusal r a (length output)) 0 ≡ true) where
@@ -257,7 +249,7 @@ module _ (l : Link) (expiry : ℕ) (r : Relay) (a : Arrival) (output : List ℕ)
     was-followed : todo ≡ follows (along-link was)
     unfolding viewAt
     was-followed =
-        keepalive-follows was a was-kept seen (accepted-short r a (length output) taken) was-shown refl (up .asking) (up .answering)
+        keepalive-follows was a was-kept seen was-shown refl (up .asking) (up .answering)
 
     its-links : writePlan seen a todo r .links ≡ renewLink a was r .links
     unfolding writePlan writeWay

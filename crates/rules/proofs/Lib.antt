@@ -13,6 +13,7 @@ pub mod SignatureWord
 pub mod Tables
 pub mod Slots
 pub mod Lowest
+pub mod Latest
 pub mod BlobLaws
 pub mod Accepted
 pub mod Followed
@@ -22,6 +23,8 @@ pub mod Ranges
 pub mod Valid
 pub mod Images
 pub mod PortSets
+pub mod Lengths
+pub mod ReasonFits
 pub mod AnswerFits
 pub mod MovedPorts
 pub mod SlotsRenamed
@@ -46,3 +49,4 @@ pub mod ChattyPacket
 pub mod ChattyOff
 pub mod ChattySpaced
 pub mod ChattyScene
+pub mod Reasons

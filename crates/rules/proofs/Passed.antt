@@ -12,7 +12,7 @@ use Rattle.rules.specs.Arrival.{Arrival, hops}
 use Rattle.rules.specs.Ways.{Way, everywhere, by-path, along-link, by-return, blocked, wayOn}
 use Rattle.rules.specs.Tests.{notOurs, duplicate, badForm, ownAnnounce, deliveredHere, tooManyHops, noWayOn, alreadyKnown, wrongSide, notSigned, replay, notBetter, rateLimited, portOff, noRoom}
 use Rattle.rules.specs.Answers.{reasonNumber}
-use Rattle.rules.specs.Outgoing.{spreadPorts, outgoing, exceeds, grownTooLong}
+use Rattle.rules.specs.Outgoing.{spreadPorts, outgoing, exceeds}
 use Rattle.rules.specs.Judging.{Plan, dropped, delivered, follows, earlyTests, onwardTests, onwardPlan, plan, spreadVerdict, wayVerdict, verdict}
 unfoldable pub use Rattle.rules.specs.Questions.{ofTest}
 use Rattle.rules.specs.declared.Verdict.{Verdict}
@@ -41,14 +41,13 @@ pub record Passed (v : View) (a : Arrival) (w : Way) : Type 0 where
   pub unlimited : rateLimited v a w ≡ false
   pub portOn : portOff v a w ≡ false
   pub room : noRoom v a w ≡ false
-  pub fits : grownTooLong a w ≡ false
 
 module _ (v : View) (a : Arrival) where
   passed-all : (w : Way) → NoneHolds (earlyTests v a) → NoneHolds (onwardTests v a w) → Passed v a w
   unfolding earlyTests onwardTests
   passed-all w early late =
       let (ours, (new, (form, (notOwn, (elsewhere, (fewHops, _)))))) = early in
-      let (someWay, (unknown, (side, (signed, (newBlob, (better, (unlimited, (portOn, (room, (fits, _)))))))))) = late in
+      let (someWay, (unknown, (side, (signed, (newBlob, (better, (unlimited, (portOn, (room, _))))))))) = late in
       record {
         ours = ours;
         new = new;
@@ -65,7 +64,6 @@ module _ (v : View) (a : Arrival) where
         unlimited = unlimited;
         portOn = portOn;
         room = room;
-        fits = fits;
       }
 
   -- .. and the way is the one that the rules find

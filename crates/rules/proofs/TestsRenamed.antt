@@ -15,7 +15,7 @@ use Rattle.rules.specs.Renumbering.{image, oneToOne, renamePath, renameL
 use Rattle.rules.specs.Arrival.{Arrival, header, isLinkProof}
 use Rattle.rules.specs.Ways.{Way, everywhere, by-path, along-link, by-return, blocked, pathWay, linkWay, returnWay, wayOn}
 use Rattle.rules.specs.Tests.{notOurs, duplicate, testedAsDuplicate, ownAnnounce, deliveredHere, noWayOn, whyBlocked, isThere, followsProvedLink, alreadyKnown, fromAnsweringSide, fromAskingSide, wrongSide, notSigned, ofKnown, isReplay, replay, isNotBetter, notBetter, isRateLimited, rateLimited, leavingPort, portOff, noRoom}
-use Rattle.rules.specs.Outgoing.{outgoing, grownTooLong}
+use Rattle.rules.specs.Outgoing.{outgoing}
 use Rattle.rules.specs.Run.{renameArrival}
 use Rattle.rules.specs.declared.Link.{Link}
 use Rattle.rules.specs.declared.Blocked.the-variants.{NotProved}
@@ -31,10 +31,10 @@ renameWay m (blocked why) = blocked why
 
 module _ (m : List ℕ) where
   -- ---- the way on
-  pathWay-renamed : (slot : Slot Path) → pathWay (renameSlot (renamePath m) slot) ≡ renameWay m (pathWay slot)
+  pathWay-renamed : (slot : Slot Path) (expired : Slot ℕ) → pathWay (renameSlot (renamePath m) slot) expired ≡ renameWay m (pathWay slot expired)
   unfolding pathWay renameSlot renameWay
-  pathWay-renamed empty = refl
-  pathWay-renamed (used p) = refl
+  pathWay-renamed empty expired = refl
+  pathWay-renamed (used p) expired = refl
 
   linkWay-renamed : (proof : Bool) (slot : Slot Link) → linkWay proof (renameSlot (renameLink m) slot) ≡ renameWay m (linkWay proof slot)
   unfolding linkWay renameSlot renameWay renameLink
@@ -152,14 +152,6 @@ module _ (m : List ℕ) where
   outgoing-renamed v a (along-link l) = refl
   outgoing-renamed v a (by-return t) = refl
   outgoing-renamed v a (blocked why) = refl
-
-  pub grownTooLong-renamed : (a : Arrival) (w : Way) → grownTooLong (renameArrival m a) (renameWay m w) ≡ grownTooLong a w
-  unfolding grownTooLong renameArrival renameWay renamePath
-  grownTooLong-renamed a (everywhere known) = refl
-  grownTooLong-renamed a (by-path p) = refl
-  grownTooLong-renamed a (along-link l) = refl
-  grownTooLong-renamed a (by-return t) = refl
-  grownTooLong-renamed a (blocked why) = refl
 
 -- ---- tests that look at ports
 module _ (m : List ℕ) (ok : oneToOne m ≡ true) where

@@ -19,3 +19,5 @@ pub mod Saved
 pub mod Run
 pub mod Keepalives
 pub mod Chatty
+pub mod Lengths
+pub mod Reasons

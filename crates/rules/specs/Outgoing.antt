@@ -1,6 +1,6 @@
--- The bytes that leave, and test 14.
+-- The bytes that leave.
 use Prim.Native.Nat.{ℕ, _+_, _*_, _/_, _%_}
-use mathlib.Core.Bool.{Bool, true, false, not}
+use mathlib.Core.Bool.{Bool, not}
 use mathlib.Core.List.{List, []}
 use lib.Dec.{eqb, ltb}
 use lib.ListN.{length, set}
@@ -52,11 +52,3 @@ outgoing v a (blocked why) = []
 
 unfoldable pub exceeds : List ℕ → Bool
 exceeds packet = ltb longestPacket (length packet)
-
--- 14. Grown too long: a forwarded packet over 500 once rewritten.
-unfoldable pub grownTooLong : Arrival → Way → Bool
-grownTooLong a (everywhere known) = false
-grownTooLong a (by-path p) = exceeds (pathPacket (p .hops) (p .nextHop) (a .bytes))
-grownTooLong a (along-link l) = exceeds (carriedPacket (a .bytes))
-grownTooLong a (by-return t) = exceeds (carriedPacket (a .bytes))
-grownTooLong a (blocked why) = false

@@ -1,5 +1,5 @@
--- Document 01, "Judging a packet": tests 1 to 13, each under its own name, and document 02's 15. Test 6's cases are found in Ways.antt, and test 14,
--- which reads the outgoing bytes, stands in Outgoing.antt.
+-- Document 01, "Judging a packet": tests 1 to 13, each under its own name, and document 02's 15. Test 6's cases are found in Ways.antt. Document 02, wish 9, on
+-- test 14: "Show that no accepted packet reaches it and take it out. Its number isn't used again." What it tested is shown of what leaves: Lengths.antt.
 use Prim.Native.Nat.{ℕ}
 use mathlib.Core.Bool.{Bool, true, false, not}
 use mathlib.Core.List.{List, []}
@@ -75,7 +75,7 @@ formTests p =
     typeTwoProof p gives TypeTwoProof otherwise
     typeTwoOfKindLink p gives TypeTwoOfKindLink otherwise
     announceNotSingle p gives AnnounceNotSingle otherwise
-    announceTooShort p gives AnnounceTooShort otherwise
+    announceTooShort p gives AnnounceTooShort (leastAnnounce (headerOf p)) otherwise
     announceOfAnother p gives AnnounceOfAnother otherwise
     requestOfKindLink p gives RequestOfKindLink otherwise
     requestTooShort p gives RequestTooShort otherwise
@@ -85,7 +85,7 @@ formTests p =
 unfoldable pub badForm : List ℕ → Bool
 badForm p = anyHolds (formTests p)
 
--- the first clause that fails. It is read of a bad form alone
+-- Wish 10: "Bad form names the first failing clause of test 3". It is read of a bad form alone
 unfoldable pub failing : List ℕ → Clause
 failing p = firstOf (formTests p) TypeTwoProof
 

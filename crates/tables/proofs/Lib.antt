@@ -8,4 +8,5 @@ pub mod Section
 pub mod Patches
 pub mod Shaped
 pub mod Whole
+pub mod Addressed
 pub mod Called

@@ -1,10 +1,10 @@
 //! Every deliberate fault must be noticed: the core is compared with an independent program that has it, on traffic; and where no traffic
-//! can show it, on packets, or on recordings.
+//! can show it, on packets, on recordings, on saved files, or on announces of our own.
 
 use super::lockstep::{compare, Difference};
-use super::{announcing, packet, recording, shrink, Options, Tally};
+use super::{announcing, packet, recording, saved, shrink, Options, Tally};
 use crate::engine::Call;
-use crate::faults::{self, Fault, OF_ANNOUNCING, OF_PACKETS, OF_RECORDINGS};
+use crate::faults::{self, Fault, With, OF_ANNOUNCING, OF_PACKETS, OF_RECORDINGS, OF_SAVED};
 use crate::linked::Core;
 use crate::relay::Relay;
 use crate::rules::{AsWritten, Rules};
@@ -14,15 +14,23 @@ const DAMAGED_CALLS: usize = 500;
 /// Packets show a fault by their edges: random ones are few.
 const RANDOM_PACKETS: usize = 20;
 
+/// Faults that a comparison apart shows, and whether the core differs in it from a relay with one.
+type Apart = (&'static [&'static [Fault]], &'static str, fn(&Relay<With>) -> bool);
+
+const APART: &[Apart] = &[
+    (OF_RECORDINGS, "recordings", |relay| recording::programs_differ(&Core, relay)),
+    (OF_SAVED, "saved files", |relay| saved::programs_differ(&Core, relay)),
+    (OF_ANNOUNCING, "announces of our own", |relay| announcing::programs_differ(&Core, relay)),
+];
+
 pub fn run(options: &Options, tally: &mut Tally) {
     for fault in options.fault.map_or_else(faults::all, |fault| vec![fault]) {
-        let of_recordings = is_among(OF_RECORDINGS, fault);
-        let of_announcing = is_among(OF_ANNOUNCING, fault);
-        let difference = if of_recordings || of_announcing { None } else { notice(options, fault) };
+        let apart = APART.iter().find(|(faults, ..)| is_among(faults, fault));
+        let difference = if apart.is_some() { None } else { notice(options, fault) };
+        // with `--damage` there is no fault to show
         let noticed = difference.is_some()
             || in_packets(options, fault)
-            || of_recordings && in_recordings(options, fault)
-            || of_announcing && in_announcing(options, fault);
+            || apart.is_some_and(|(_, _, differ)| !options.damage && differ(&fault.relay()));
         tally.holds(&format!("{} is noticed ({})", fault.name, fault.text), noticed, false);
         if options.fault.is_none() {
             continue;
@@ -34,9 +42,7 @@ pub fn run(options: &Options, tally: &mut Tally) {
                 println!("{difference}");
                 println!("{}", shrink::again(&format!("faults --fault {}", fault.name), options, difference.calls, shown));
             }
-            None if noticed && of_recordings => println!("    by recordings"),
-            None if noticed && of_announcing => println!("    by announces of our own"),
-            None if noticed => println!("    by packets alone"),
+            None if noticed => println!("    by {}", apart.map_or("packets alone", |(_, subject, _)| subject)),
             None => {}
         }
     }
@@ -57,16 +63,6 @@ pub fn differs(fault: Fault, calls: impl Iterator<Item = Call>) -> Option<Differ
 
 fn is_among(lists: &[&[Fault]], fault: Fault) -> bool {
     lists.concat().iter().any(|other| other.name == fault.name)
-}
-
-/// Does the comparison of recordings show a fault? With `--damage` there is none to show.
-fn in_recordings(options: &Options, fault: Fault) -> bool {
-    !options.damage && recording::programs_differ(&Core, &fault.relay())
-}
-
-/// Does the comparison of our own announces show a fault?
-fn in_announcing(options: &Options, fault: Fault) -> bool {
-    !options.damage && announcing::programs_differ(&Core, &fault.relay())
 }
 
 /// Does the comparison of packets show a fault that traffic can't?

@@ -1,8 +1,9 @@
 //! Two engines on the same calls: after every call the answer, the whole output, all tables and the tally are compared.
 
+use super::answers::Text;
 use super::coverage::Coverage;
-use crate::engine::{Call, Engine, Outcome, Run};
-use crate::tables::{Section, HASHES, LINKS, LOCALS, PATHS, PORTS, RETURNS};
+use crate::engine::{encoded, Call, Engine, Outcome, Run};
+use crate::tables::{Section, HASHES, LINKS, LOCALS, PATHS, PORTS, RATE, RETURNS};
 use std::fmt;
 
 /// The first call on which two engines differ.
@@ -28,13 +29,15 @@ pub fn step<A: Engine, B: Engine>(
     coverage: &mut Coverage,
     damage: Option<usize>,
 ) -> Vec<String> {
-    let remembered = coverage.is_remembered(call, &expected.tables);
+    let before = coverage.before(call, &expected.tables);
     let outcomes = (got.make(call), expected.make(call));
     if let Some(outcome) = &outcomes.1 {
-        coverage.count_call(call, outcome);
-        coverage.count_exempt(call, outcome, remembered);
+        coverage.after(call, outcome, &before);
     }
-    let Some(turn) = damage else { return differences(got, expected, outcomes) };
+    let Some(turn) = damage else {
+        let lines = differences(got, expected, outcomes);
+        return if lines.is_empty() { text_difference(got, expected, call, outcomes.0) } else { lines };
+    };
     if turn % 4 == 3 {
         return differences(got, expected, (outcomes.0, Some(other_than(outcomes.1))));
     }
@@ -70,6 +73,17 @@ fn differences<A: Engine, B: Engine>(got: &Run<A>, expected: &Run<B>, outcomes: 
     lines
 }
 
+/// What differs in the text of a packet call's answer, whose number is the same on both sides.
+fn text_difference<A: Engine, B: Engine>(got: &Run<A>, expected: &Run<B>, call: &Call, outcome: Option<Outcome>) -> Vec<String> {
+    let (Call::Packet(call), Some(outcome)) = (call, outcome) else { return Vec::new() };
+    let number = encoded(&outcome, &call.packet);
+    let (got, expected) = (Text::of(&got.engine, number), Text::of(&expected.engine, number));
+    if got == expected {
+        return Vec::new();
+    }
+    vec![format!("text of {number:x}: got {got:?}, expected {expected:?}")]
+}
+
 fn first_difference(what: &str, got: &[u8], expected: &[u8]) -> Option<String> {
     if got == expected {
         return None;
@@ -83,7 +97,8 @@ fn first_difference(what: &str, got: &[u8], expected: &[u8]) -> Option<String> {
 
 /// Where a byte of the tables stands.
 fn table_place(at: usize) -> String {
-    let sections: [(&str, &Section); 6] = [
+    let sections: [(&str, &Section); 7] = [
+        ("announce rate", &RATE),
         ("port", &PORTS),
         ("local address", &LOCALS),
         ("path", &PATHS.records),

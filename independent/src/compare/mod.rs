@@ -1,15 +1,17 @@
 //! The comparisons, a module for each subject.
 
 pub mod announcing;
+pub mod answered;
+mod answers;
 pub mod coverage;
 pub mod faults;
 pub mod listed;
 pub mod lockstep;
 pub mod packet;
-pub mod record;
 pub mod recording;
 mod relay;
 mod renumbering;
+pub mod saved;
 mod sha256;
 pub mod shrink;
 pub mod tables;
@@ -57,10 +59,12 @@ pub const SUBJECTS: &[Subject] = &[
     ("sha256", sha256::run),
     ("packet", packet::run),
     ("announcing", announcing::run),
+    ("answers", answers::run),
     ("tables", tables::run),
     ("relay", relay::run),
     ("renumbering", renumbering::run),
     ("recording", recording::run),
+    ("saved", saved::run),
     ("faults", faults::run),
 ];
 
@@ -114,6 +118,19 @@ impl Tally {
         } else {
             self.fail(&format!("{what}: got {got:02x?}, expected {expected:02x?}"));
         }
+    }
+
+    /// The same of long buffers: only the first byte that differs is shown.
+    pub fn long_call(&mut self, what: &str, got: Called, expected: Called, damage: bool) {
+        let turn = self.passed + self.failed;
+        let expected = if damage { expected.damaged(turn) } else { expected };
+        if got == expected {
+            self.passed += 1;
+            return;
+        }
+        let place = got.buffer.iter().zip(&expected.buffer).position(|(a, b)| a != b);
+        let left = place.map_or(String::new(), |at| format!(", what it left first differs at byte {at}"));
+        self.fail(&format!("{what}: got {:x}, expected {:x}{left}", got.number, expected.number));
     }
 
     /// Something that must hold; damaged, nothing does.

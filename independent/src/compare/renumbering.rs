@@ -9,6 +9,8 @@ use crate::relay::asking::Question;
 use crate::relay::renumbering::{rename, renumber, Map};
 use crate::relay::Relay;
 use crate::rules::AsWritten;
+use crate::saved::CONTENTS;
+use crate::tables::SIZE;
 use crate::traffic::{Asking, Traffic};
 
 const IDENTITY: Map = [0, 1, 2, 3, 4, 5, 6, 7, 8, 9, 10, 11, 12, 13, 14, 15];
@@ -78,13 +80,31 @@ impl<E: Engine> Pair<E> {
         self.renamed.make(&Call::Renumber(*map)) == Some(Outcome::Done)
     }
 
-    /// The plain run's output, with the ports of a told reply renamed.
-    fn renamed_output(&self, call: &Call, outcome: Option<Outcome>) -> Vec<u8> {
+    /// The plain run's output, with the ports of a told reply renamed; a saved file is that of the renamed tables.
+    fn renamed_output(&self, call: &Call, outcome: Option<Outcome>) -> Option<Vec<u8>> {
         let mut output = self.plain.output.clone();
-        if let (Call::Ask { question, .. }, Some(Outcome::Done)) = (call, outcome) {
-            rename(&self.map, question.ports(), &mut output);
+        match (call, outcome) {
+            (Call::Ask { question, .. }, Some(Outcome::Done)) => rename(&self.map, question.ports(), &mut output),
+            (_, Some(Outcome::Saved(_))) => renumber(&AsWritten, &mut output[CONTENTS..][..SIZE], &self.map).ok()?,
+            _ => {}
         }
-        output
+        Some(output)
+    }
+
+    /// "After a load, demands 2 and 3 start again from the saved tables": both runs load the plain run's file, and are equal then.
+    fn load(&mut self) -> bool {
+        self.renamed.file.clone_from(&self.plain.file);
+        let outcomes = (self.plain.make(&Call::Load), self.renamed.make(&Call::Load));
+        if outcomes.0 == Some(Outcome::Done) {
+            self.map = IDENTITY;
+        }
+        outcomes.0 == outcomes.1 && self.same_tables()
+    }
+
+    /// Are the renamed run's tables the plain run's, renamed, and the tallies equal?
+    fn same_tables(&self) -> bool {
+        let mut tables = self.plain.tables.clone();
+        self.plain.tally == self.renamed.tally && renumber(&AsWritten, &mut tables, &self.map).is_ok() && tables == self.renamed.tables
     }
 
     /// Makes a call in both runs and compares all that it returns and leaves.
@@ -95,14 +115,12 @@ impl<E: Engine> Pair<E> {
         for run in [&mut self.plain, &mut self.renamed] {
             run.output.clear(); // an earlier reply has ports that aren't renamed here
         }
+        if matches!(call, Call::Load) {
+            return self.load();
+        }
         let plain = self.plain.make(call).map(|outcome| rename_outcome(&self.map, outcome));
         let renamed = self.renamed.make(&rename_call(&self.map, call));
-        let mut tables = self.plain.tables.clone();
-        plain == renamed
-            && self.renamed_output(call, plain) == self.renamed.output
-            && self.plain.tally == self.renamed.tally
-            && renumber(&AsWritten, &mut tables, &self.map).is_ok()
-            && tables == self.renamed.tables
+        plain == renamed && self.renamed_output(call, plain).as_ref() == Some(&self.renamed.output) && self.same_tables()
     }
 }
 

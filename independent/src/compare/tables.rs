@@ -6,6 +6,7 @@ use super::coverage::Coverage;
 use super::{Called, Options, Tally};
 use crate::core;
 use crate::engine::{Call, Outcome, PacketCall, Run};
+use crate::limits::{GRACE_LIMIT, PENALTY_LIMIT, TARGET_LIMIT};
 use crate::linked::Core;
 use crate::packet::Address;
 use crate::random::Random;
@@ -13,7 +14,7 @@ use crate::relay::asking::{Question, KINDS};
 use crate::relay::Relay;
 use crate::rules::{AsWritten, Rules, Tuned};
 use crate::samples::{self, Fill, FIELDS, RECORDS, RINGS};
-use crate::tables::{time, Table, HASHES, LOCALS, PATHS, RETURNS, SIZE};
+use crate::tables::{time, AnnounceRate, Table, HASHES, LOCALS, PATHS, RETURNS, SIZE};
 use crate::traffic::Traffic;
 
 /// Each clause is broken, and kept, at least so often.
@@ -70,6 +71,7 @@ fn core_call(random: &mut Random, tables: &mut [u8], call: &Call) -> Option<u8> 
             let on = if *on { 1 } else { random.pick(&[0, 2, 128, 255]) };
             core::set_port(tables, *port, on, *mode)
         }
+        Call::SetAnnounceRate(rate) => core::set_announce_rate(tables, rate),
         Call::AddLocal(address) => core::add_local(tables, address),
         Call::RemoveLocal(address) => core::remove_local(tables, address),
         Call::Renumber(map) => core::renumber(tables, map),
@@ -112,7 +114,8 @@ fn a_question(random: &mut Random, tables: &[u8], kind: usize) -> Question {
         }
         5 => Question::LiveReturns(a_clock(random, tables, &RETURNS)),
         6 => Question::LiveHashes(a_clock(random, tables, &HASHES)),
-        _ => Question::LastClock,
+        7 => Question::LastClock,
+        _ => Question::AnnounceRate,
     }
 }
 
@@ -134,8 +137,14 @@ fn a_map(random: &mut Random) -> [u8; 16] {
     map
 }
 
+/// Settings about their limits, and of more than four bytes.
+fn a_rate(random: &mut Random) -> AnnounceRate {
+    let mut setting = |limit: u64| random.pick(&[0, 1, limit - 1, limit, limit, limit, limit + 1, 1 << 32, (1 << 32) + 1, u64::MAX]);
+    AnnounceRate { target: setting(TARGET_LIMIT), grace: setting(GRACE_LIMIT), penalty: setting(PENALTY_LIMIT) }
+}
+
 fn a_call(random: &mut Random, tables: &[u8]) -> Call {
-    match random.below(9) {
+    match random.below(11) {
         0 => Call::Fresh(random.array()),
         1 | 2 => {
             let port = random.pick(&[0, 1, 7, 14, 15, 16, 17, 256, u64::MAX]);
@@ -143,6 +152,7 @@ fn a_call(random: &mut Random, tables: &[u8]) -> Call {
         }
         3 | 4 => Call::AddLocal(an_address(random, tables)),
         5 | 6 => Call::RemoveLocal(an_address(random, tables)),
+        7 | 8 => Call::SetAnnounceRate(a_rate(random)),
         _ => Call::Renumber(a_map(random)),
     }
 }
@@ -165,17 +175,8 @@ struct Comparison<'a, R: Rules> {
 }
 
 impl<R: Rules> Comparison<'_, R> {
-    /// Of tables only the first byte that differs is shown.
     fn expect(&mut self, what: &str, got: Called, expected: Called) {
-        let turn = self.tally.passed + self.tally.failed;
-        let expected = if self.options.damage { expected.damaged(turn) } else { expected };
-        if got == expected {
-            self.tally.passed += 1;
-            return;
-        }
-        let place = got.buffer.iter().zip(&expected.buffer).position(|(a, b)| a != b);
-        let left = place.map_or(String::new(), |at| format!(", what it left first differs at byte {at}"));
-        self.tally.fail(&format!("{what}: got {}, expected {}{left}", got.number, expected.number));
+        self.tally.long_call(what, got, expected, self.options.damage);
     }
 
     /// Whether the changed tables are allowed, and the tuned check of them beside the plain one.
@@ -195,7 +196,7 @@ impl<R: Rules> Comparison<'_, R> {
         let mut tables = self.changed.tables.clone();
         let refusal = core_call(&mut self.random, &mut tables, &call).expect("a call without a packet");
         let outcome = self.changed.make(&call).expect("a call");
-        self.calls.count(&outcome);
+        self.calls.count_call(&call, &outcome);
         let expected = Called::new(number(&outcome), &self.changed.tables);
         self.expect(&format!("{what}, {call}"), Called::new(refusal, &tables), expected);
     }
@@ -230,7 +231,7 @@ impl<R: Rules> Comparison<'_, R> {
         let mut tables = if needs_packet { Vec::new() } else { self.traffic.tables.clone() };
         let Some(outcome) = self.traffic.make(call) else { return };
         if let Some(refusal) = core_call(&mut self.random, &mut tables, call) {
-            self.calls.count(&outcome);
+            self.calls.count_call(call, &outcome);
             let expected = Called::new(number(&outcome), &self.traffic.tables);
             self.expect(&format!("traffic, {call}"), Called::new(refusal, &tables), expected);
         }
@@ -287,7 +288,7 @@ pub fn run(options: &Options, tally: &mut Tally) {
         println!("refusal {number}: {}", reached.calls.refusals[number]);
         least(format!("refusal {number}"), reached.calls.refusals[number]);
     }
-    for (what, times) in reached.calls.reached_replies() {
+    for (what, times) in [reached.calls.reached_replies(), reached.calls.reached_settings()].concat() {
         println!("{what}: {times}");
         least(what, times);
     }

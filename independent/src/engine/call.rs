@@ -3,6 +3,7 @@
 use crate::answer::Tally;
 use crate::packet::Address;
 use crate::relay::asking::Question;
+use crate::tables::AnnounceRate;
 use std::fmt;
 use std::str::FromStr;
 
@@ -28,6 +29,7 @@ pub enum Call {
         on: bool,
         mode: u64,
     },
+    SetAnnounceRate(AnnounceRate),
     AddLocal(Address),
     RemoveLocal(Address),
     Renumber([u8; 16]),
@@ -43,9 +45,16 @@ pub enum Call {
         clock: u64,
         room: usize,
     },
+    /// Saves into so much room, filled with a byte; the file is kept.
+    Save {
+        room: usize,
+        fill: u8,
+    },
+    /// Loads the kept file.
+    Load,
     /// Puts a copy of the tables aside, and takes it back.
-    Save,
-    Restore,
+    PutAside,
+    TakeBack,
     /// Writes bytes into the tables.
     Write {
         at: usize,
@@ -59,13 +68,26 @@ pub enum Call {
     },
     /// Cuts the tables, or lengthens them with zeros.
     Resize(usize),
+    /// The same of the kept file.
+    WriteFile {
+        at: usize,
+        bytes: Vec<u8>,
+    },
+    ResizeFile(usize),
+    /// Makes of the kept file what a program of an older edition would have saved.
+    AgeFile(u8),
     Tally(Tally),
 }
 
 impl Call {
-    /// Is it recorded for hosts in other languages? They set no tally, and are asked nothing.
-    pub fn is_recorded(&self) -> bool {
-        !matches!(self, Call::Tally(_)) && !self.is_question()
+    /// Is it listed for hosts in other languages? They set no tally, are asked nothing, and keep no file.
+    pub fn is_for_hosts(&self) -> bool {
+        !matches!(self, Call::Tally(_)) && !self.is_question() && !self.is_of_files()
+    }
+
+    /// Does it save, load, or change a kept file?
+    fn is_of_files(&self) -> bool {
+        matches!(self, Call::Save { .. } | Call::Load | Call::WriteFile { .. } | Call::ResizeFile(_) | Call::AgeFile(_))
     }
 
     /// Does it only ask?
@@ -100,6 +122,7 @@ impl fmt::Display for Asked<'_> {
             Question::LiveReturns(clock) => write!(f, "returns at {clock}"),
             Question::LiveHashes(clock) => write!(f, "hashes at {clock}"),
             Question::LastClock => f.write_str("clock"),
+            Question::AnnounceRate => f.write_str("announce rate"),
         }
     }
 }
@@ -112,16 +135,24 @@ impl fmt::Display for Call {
                 write!(f, "packet port {port} clock {clock} signature {signature} output {output} of {fill:02x} {}", Digits(packet))
             }
             Call::SetPort { port, on, mode } => write!(f, "set port {port} on {on} mode {mode}"),
+            Call::SetAnnounceRate(AnnounceRate { target, grace, penalty }) => {
+                write!(f, "set announce rate target {target} grace {grace} penalty {penalty}")
+            }
             Call::AddLocal(address) => write!(f, "add local {}", Digits(address)),
             Call::RemoveLocal(address) => write!(f, "remove local {}", Digits(address)),
             Call::Renumber(map) => write!(f, "renumber {}", Digits(map)),
             Call::Ask { question, fill } => write!(f, "ask into {fill:02x} {}", Asked(question)),
             Call::Matters { packet, port, clock, room } => write!(f, "matters port {port} clock {clock} room {room} {}", Digits(packet)),
-            Call::Save => f.write_str("save"),
-            Call::Restore => f.write_str("restore"),
+            Call::Save { room, fill } => write!(f, "save into {room} of {fill:02x}"),
+            Call::Load => f.write_str("load"),
+            Call::PutAside => f.write_str("put aside"),
+            Call::TakeBack => f.write_str("take back"),
             Call::Write { at, bytes } => write!(f, "write at {at} {}", Digits(bytes)),
             Call::Copy { from, to, length } => write!(f, "copy {length} from {from} to {to}"),
             Call::Resize(length) => write!(f, "resize to {length}"),
+            Call::WriteFile { at, bytes } => write!(f, "write file at {at} {}", Digits(bytes)),
+            Call::ResizeFile(length) => write!(f, "resize file to {length}"),
+            Call::AgeFile(edition) => write!(f, "age file to {edition}"),
             Call::Tally([total, dropped, delivered, forwarded, spread, kept]) => {
                 write!(f, "tally {total} {dropped} {delivered} {forwarded} {spread} {kept}")
             }
@@ -134,7 +165,7 @@ impl FromStr for Call {
 
     fn from_str(line: &str) -> Result<Self, String> {
         let words: Vec<&str> = line.split_whitespace().collect();
-        call_of(&words).ok_or_else(|| format!("not a call: {line}"))
+        call_of(&words).or_else(|| edit_of(&words)).ok_or_else(|| format!("not a call: {line}"))
     }
 }
 
@@ -155,6 +186,9 @@ fn call_of(words: &[&str]) -> Option<Call> {
         ["set", "port", port, "on", on, "mode", mode] => {
             Call::SetPort { port: port.parse().ok()?, on: on.parse().ok()?, mode: mode.parse().ok()? }
         }
+        ["set", "announce", "rate", "target", target, "grace", grace, "penalty", penalty] => {
+            Call::SetAnnounceRate(AnnounceRate { target: target.parse().ok()?, grace: grace.parse().ok()?, penalty: penalty.parse().ok()? })
+        }
         ["add", "local", address] => Call::AddLocal(array_of(address)?),
         ["remove", "local", address] => Call::RemoveLocal(array_of(address)?),
         ["renumber", map] => Call::Renumber(array_of(map)?),
@@ -162,13 +196,25 @@ fn call_of(words: &[&str]) -> Option<Call> {
         ["matters", "port", port, "clock", clock, "room", room, packet] => {
             Call::Matters { packet: bytes_of(packet)?, port: port.parse().ok()?, clock: clock.parse().ok()?, room: room.parse().ok()? }
         }
-        ["save"] => Call::Save,
-        ["restore"] => Call::Restore,
+        ["save", "into", room, "of", fill] => Call::Save { room: room.parse().ok()?, fill: u8::from_be_bytes(array_of(fill)?) },
+        ["load"] => Call::Load,
+        _ => return None,
+    })
+}
+
+/// What a caller does on its own.
+fn edit_of(words: &[&str]) -> Option<Call> {
+    Some(match words {
+        ["put", "aside"] => Call::PutAside,
+        ["take", "back"] => Call::TakeBack,
         ["write", "at", at, bytes] => Call::Write { at: at.parse().ok()?, bytes: bytes_of(bytes)? },
         ["copy", length, "from", from, "to", to] => {
             Call::Copy { from: from.parse().ok()?, to: to.parse().ok()?, length: length.parse().ok()? }
         }
         ["resize", "to", length] => Call::Resize(length.parse().ok()?),
+        ["write", "file", "at", at, bytes] => Call::WriteFile { at: at.parse().ok()?, bytes: bytes_of(bytes)? },
+        ["resize", "file", "to", length] => Call::ResizeFile(length.parse().ok()?),
+        ["age", "file", "to", edition] => Call::AgeFile(edition.parse().ok()?),
         ["tally", counters @ ..] => {
             let counters: Option<Vec<u32>> = counters.iter().map(|counter| counter.parse().ok()).collect();
             Call::Tally(counters?.try_into().ok()?)
@@ -187,6 +233,7 @@ fn question_of(words: &[&str]) -> Option<Question> {
         ["returns", "at", clock] => Question::LiveReturns(clock.parse().ok()?),
         ["hashes", "at", clock] => Question::LiveHashes(clock.parse().ok()?),
         ["clock"] => Question::LastClock,
+        ["announce", "rate"] => Question::AnnounceRate,
         _ => return None,
     })
 }
@@ -227,7 +274,7 @@ mod tests {
         let address = "00112233445566778899aabbccddeeff";
         assert!(format!(" add  local {address} ").parse() == Ok(Call::AddLocal(array_of(address).expect("sixteen bytes"))));
         for line in
-            ["", "save me", "add local 00", "set port 1 on 1 mode 0", "write at 3 0", "write at 3 0g", "resize to -1", "tally 1 2 3"]
+            ["", "put aside me", "add local 00", "set port 1 on 1 mode 0", "write at 3 0", "write at 3 0g", "resize to -1", "tally 1 2 3"]
         {
             assert!(line.parse::<Call>().is_err(), "{line}");
         }

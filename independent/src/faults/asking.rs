@@ -68,6 +68,14 @@ faults! {
             table.records.iter(tables).filter(|record| tables::is_used(record) && clock <= time(record, table.expiry)).count() as u64
         },
     }
+    RateToldSwapped: "of the announce rate's settings the penalty is told before the grace"
+    breaks "target interval, grace and penalty, set for the relay." {
+        rate_told = |_, rate| asking::rate_told(&AnnounceRate { grace: rate.penalty, penalty: rate.grace, ..*rate }),
+    }
+    BlockToldFirst: "a path's block is told before its violations"
+    breaks "Last accepted announce, violations and blocked-until live in the path record" {
+        entry_told = |_, entry| [&entry.last.to_be_bytes()[..], &entry.blocked_until.to_be_bytes(), &[entry.violations]].concat(),
+    }
     QuestionSetsClock: "a question sets the last clock"
     breaks "every accepted packet, dropped or not, counts and sets the last clock." {
         leave_asked = |_, question, tables| {

@@ -12,9 +12,12 @@ mod judging;
 mod links;
 mod outgoing;
 mod packets;
+mod rates;
+mod reasons;
 mod recordings;
 mod renumbering;
 mod returns;
+mod saved;
 mod settings;
 mod with;
 
@@ -29,9 +32,12 @@ pub use judging::*;
 pub use links::*;
 pub use outgoing::*;
 pub use packets::*;
+pub use rates::*;
+pub use reasons::*;
 pub use recordings::*;
 pub use renumbering::*;
 pub use returns::*;
+pub use saved::*;
 pub use settings::*;
 pub use with::{Changes, With};
 
@@ -69,21 +75,26 @@ const OF_JUDGING: &[&[Fault]] = &[
     judging::FAULTS,
     exempt::FAULTS,
     announces::FAULTS,
+    rates::FAULTS,
     by_path::FAULTS,
     links::FAULTS,
     returns::FAULTS,
     outgoing::FAULTS,
+    reasons::FAULTS,
     asking::FAULTS,
 ];
 
 /// Those that show in recordings alone.
 pub const OF_RECORDINGS: &[&[Fault]] = &[recordings::FAULTS];
 
+/// Those that show in saved files alone.
+pub const OF_SAVED: &[&[Fault]] = &[saved::FAULTS];
+
 /// Those that show in announces of our own alone.
 pub const OF_ANNOUNCING: &[&[Fault]] = &[announcing::FAULTS];
 
 pub fn all() -> Vec<Fault> {
-    [OF_PACKETS, OF_TABLES, OF_JUDGING, OF_RECORDINGS, OF_ANNOUNCING].concat().concat()
+    [OF_PACKETS, OF_TABLES, OF_JUDGING, OF_RECORDINGS, OF_SAVED, OF_ANNOUNCING].concat().concat()
 }
 
 pub fn named(name: &str) -> Option<Fault> {

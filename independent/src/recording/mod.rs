@@ -9,7 +9,7 @@ use std::ops::Range;
 /// "kind byte 1, edition byte 1, entry count (2 bytes)"
 pub const KIND: u8 = 1;
 pub const EDITION: u8 = 1;
-const COUNT: Range<usize> = 2..4;
+pub const COUNT: Range<usize> = 2..4;
 pub const HEAD: usize = COUNT.end;
 
 /// "60,000 bytes at most"
@@ -58,7 +58,7 @@ pub fn number(bytes: &[u8]) -> u64 {
 }
 
 /// The last bytes of a number, big-endian.
-fn put_number(number: u64, bytes: &mut [u8]) {
+pub fn put_number(number: u64, bytes: &mut [u8]) {
     let width = bytes.len();
     bytes.copy_from_slice(&number.to_be_bytes()[8 - width..]);
 }

@@ -1,4 +1,4 @@
-//! Announces: tests 9, 10, 11 and 13, and the path that an accepted one leaves.
+//! Announces: tests 9, 10, 11, 15 and 13, and the path that an accepted one leaves.
 
 use super::Packet;
 use crate::answer::{Answer, Reason, When};
@@ -11,8 +11,10 @@ use crate::tables::{blobs, path, Mode, Path, Port, BLOB, PATHS, PORTS};
 pub fn announce<R: Rules>(rules: &R, packet: &Packet, tables: &mut [u8], output: &mut [u8]) -> Result<Answer, Reason> {
     let known = rules.find(&PATHS, tables, &packet.parts.destination, packet.clock);
     rules.announce_tests(packet, known.map(|place| PATHS.records.get(tables, place)))?;
+    let entry = rules.test_15(packet.clock, known, tables)?;
     let place = rules.path_slot(packet, known, tables).ok_or(Reason::NoRoom)?;
     rules.store_path(packet, known.is_some(), place, tables);
+    rules.store_rate(packet.clock, &entry, PATHS.records.get_mut(tables, place));
     Ok(rules.spread(packet, tables, output))
 }
 

@@ -8,7 +8,9 @@ use crate::packet::Address;
 use crate::rules::Rules;
 use crate::sha256::Sha256;
 use crate::tables::check::checked;
-use crate::tables::{is_used, last_clock, path, Link, Path, Section, Table, HASHES, LINKS, LOCALS, PATHS, PORTS, RETURNS};
+use crate::tables::{
+    is_used, last_clock, path, AnnounceRate, Link, Path, RateEntry, Section, Table, HASHES, LINKS, LOCALS, PATHS, PORTS, RETURNS,
+};
 
 /// What a host asks the tables.
 #[derive(Clone, Debug, PartialEq, Eq)]
@@ -28,13 +30,15 @@ pub enum Question {
     LiveReturns(u64),
     LiveHashes(u64),
     LastClock,
+    /// The announce rate's settings.
+    AnnounceRate,
 }
 
 /// The kinds of questions.
-pub const KINDS: [&str; 8] = ["port", "local", "path", "link", "live path", "live returns", "live hashes", "last clock"];
+pub const KINDS: [&str; 9] = ["port", "local", "path", "link", "live path", "live returns", "live hashes", "last clock", "announce rate"];
 
-/// Those that are answered by a number.
-pub const ALWAYS_TOLD: [&str; 3] = ["live returns", "live hashes", "last clock"];
+/// Those that are never answered by none.
+pub const ALWAYS_TOLD: [&str; 4] = ["live returns", "live hashes", "last clock", "announce rate"];
 
 impl Question {
     /// Its place among the kinds.
@@ -48,6 +52,7 @@ impl Question {
             Question::LiveReturns(_) => 5,
             Question::LiveHashes(_) => 6,
             Question::LastClock => 7,
+            Question::AnnounceRate => 8,
         }
     }
 
@@ -56,9 +61,10 @@ impl Question {
         match self {
             Question::Port(_) => 2,
             Question::Local(_) => 16,
-            Question::Path(_) | Question::LivePath { .. } => 43,
+            Question::Path(_) | Question::LivePath { .. } => 60,
             Question::Link(_) => 29,
             Question::LiveReturns(_) | Question::LiveHashes(_) | Question::LastClock => 8,
+            Question::AnnounceRate => 12,
         }
     }
 
@@ -75,7 +81,7 @@ impl Question {
 /// What is told, or none.
 pub fn ask<R: Rules>(rules: &R, tables: &mut [u8], question: &Question) -> Result<Option<Vec<u8>>, Refusal> {
     rules.question_refusal(tables, question)?;
-    let path = |place| path_told(PATHS.records.get(tables, place));
+    let path = |place| path_told(rules, PATHS.records.get(tables, place));
     let told = match question {
         Question::Port(port) => rules.settings_of(*port, tables),
         Question::Local(place) => rules.used_at(&LOCALS, *place, tables).map(|place| LOCALS.get(tables, place)[1..].to_vec()),
@@ -85,6 +91,7 @@ pub fn ask<R: Rules>(rules: &R, tables: &mut [u8], question: &Question) -> Resul
         Question::LiveReturns(clock) => Some(number(rules.live_count(&RETURNS, *clock, tables))),
         Question::LiveHashes(clock) => Some(number(rules.live_count(&HASHES, *clock, tables))),
         Question::LastClock => Some(number(last_clock(tables))),
+        Question::AnnounceRate => Some(rules.rate_told(&AnnounceRate::read(tables))),
     };
     rules.leave_asked(question, tables);
     Ok(told)
@@ -127,10 +134,20 @@ fn number(number: u64) -> Vec<u8> {
     number.to_be_bytes().to_vec()
 }
 
-/// Destination, port, hops, next hop, expiry and blob count.
-fn path_told(record: &[u8]) -> Vec<u8> {
+/// Target, grace and penalty, each in four bytes.
+pub fn rate_told(rate: &AnnounceRate) -> Vec<u8> {
+    [rate.target, rate.grace, rate.penalty].map(|setting| (setting as u32).to_be_bytes()).concat()
+}
+
+/// Destination, port, hops, next hop, expiry, last announce, violations, blocked-until and blob count.
+fn path_told<R: Rules>(rules: &R, record: &[u8]) -> Vec<u8> {
     let Path { destination, port, hops, next_hop, expiry } = Path::read(record);
-    [&destination[..], &[port, hops], &next_hop, &expiry.to_be_bytes(), &[record[path::BLOB_COUNT]]].concat()
+    let rate = rules.entry_told(&RateEntry::read(record));
+    [&destination[..], &[port, hops], &next_hop, &expiry.to_be_bytes(), &rate, &[record[path::BLOB_COUNT]]].concat()
+}
+
+pub fn entry_told(entry: &RateEntry) -> Vec<u8> {
+    [&entry.last.to_be_bytes()[..], &[entry.violations], &entry.blocked_until.to_be_bytes()].concat()
 }
 
 /// Id, asking and answering port, taken and remaining hops, proved, expiry.

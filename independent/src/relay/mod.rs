@@ -8,6 +8,7 @@ pub mod form;
 pub mod judge;
 pub mod links;
 pub mod outgoing;
+pub mod rate;
 pub mod renumbering;
 pub mod returns;
 pub mod settings;

@@ -2,10 +2,10 @@
 //! outside 1..16 in a used record, another count over its table, a used, proved or port-on mark neither yes nor no, an unused record not
 //! all zeros, or time over 2^40 + 604,799". No other count is stored than blob counts.
 
-use super::{last_clock, link, path, port, ring_place, time, Mode, Section, Table};
+use super::{last_clock, link, path, port, ring_place, time, AnnounceRate, Mode, RateEntry, Section, Table};
 use super::{HASHES, HASH_PLACE, LINKS, LOCALS, PATHS, PORTS, RETURNS, RETURN_PLACE, SIZE};
 use crate::answer::{Refusal, When};
-use crate::limits::{BLOB_LIMIT, LATEST, PORT_COUNT};
+use crate::limits::{BLOB_LIMIT, GRACE_LIMIT, LATEST, LATEST_ANNOUNCE, LATEST_BLOCK, PENALTY_LIMIT, PORT_COUNT, TARGET_LIMIT};
 use crate::rules::Rules;
 
 /// Refusal 7 where tables are not allowed.
@@ -18,6 +18,7 @@ pub fn tables_allowed<R: Rules>(rules: &R, tables: &[u8]) -> bool {
     let any = |_: &[u8]| true;
     rules.size_allowed(tables.len())
         && rules.last_clock_allowed(last_clock(tables))
+        && rules.rate_allowed(&AnnounceRate::read(tables))
         && PORTS.iter(tables).all(|settings| rules.on_mark(settings[port::ON]).is_some() && mode_known(settings[port::MODE]))
         && records_allowed(rules, tables, &LOCALS, any)
         && table_allowed(rules, tables, &PATHS, |path| rules.path_allowed(path))
@@ -67,12 +68,27 @@ fn mode_known(mode: u8) -> bool {
 
 /// What a path holds beside its port and its expiry.
 pub fn path_allowed<R: Rules>(rules: &R, path: &[u8]) -> bool {
-    rules.blob_count_allowed(path[path::BLOB_COUNT])
+    let RateEntry { last, blocked_until, .. } = RateEntry::read(path);
+    rules.blob_count_allowed(path[path::BLOB_COUNT]) && rules.last_announce_allowed(last) && rules.block_allowed(blocked_until)
 }
 
 /// "blob count outside 1..16 in a used record"
 pub fn blob_count_allowed(count: u8) -> bool {
     (1..=BLOB_LIMIT).contains(&usize::from(count))
+}
+
+/// "refusal 7's bound is 2^40 + 691,199 for blocked-until, 2^40 - 1 for the last announce, and these for settings." Violations are a byte.
+pub fn block_allowed(time: u64) -> bool {
+    time <= LATEST_BLOCK
+}
+
+pub fn last_announce_allowed(time: u64) -> bool {
+    time <= LATEST_ANNOUNCE
+}
+
+/// "Target, grace and penalty are at most 86,400, 254 and 604,800"
+pub fn rate_allowed(rate: &AnnounceRate) -> bool {
+    rate.target <= TARGET_LIMIT && rate.grace <= GRACE_LIMIT && rate.penalty <= PENALTY_LIMIT
 }
 
 /// "a used, proved or port-on mark neither yes nor no"

@@ -4,7 +4,7 @@ pub mod check;
 mod record;
 pub mod tuned;
 
-pub use record::{blobs, Link, Mode, Path, Port, Return, BLOB};
+pub use record::{blobs, AnnounceRate, Link, Mode, Path, Port, RateEntry, Return, BLOB};
 
 use crate::limits::{BLOB_LIMIT, HASH_COUNT, LINK_COUNT, LOCAL_COUNT, PATH_COUNT, PORT_COUNT, RETURN_COUNT};
 use crate::packet::Address;
@@ -16,6 +16,17 @@ const KEY: usize = 1;
 const ADDRESS: usize = 16;
 const TIME: usize = 8;
 const PLACE: usize = 2;
+/// A setting of the announce rate has four bytes.
+const SETTING: usize = 4;
+
+/// The announce rate's settings, which are no record.
+pub mod rate {
+    use super::SETTING;
+    pub const TARGET: usize = 0;
+    pub const GRACE: usize = TARGET + SETTING;
+    pub const PENALTY: usize = GRACE + SETTING;
+    pub const WIDTH: usize = PENALTY + SETTING;
+}
 
 /// The settings of a port, which are no record.
 pub mod port {
@@ -31,7 +42,10 @@ pub mod path {
     pub const HOPS: usize = PORT + 1;
     pub const NEXT_HOP: usize = HOPS + 1;
     pub const EXPIRY: usize = NEXT_HOP + ADDRESS;
-    pub const BLOB_COUNT: usize = EXPIRY + TIME;
+    pub const LAST_ANNOUNCE: usize = EXPIRY + TIME;
+    pub const VIOLATIONS: usize = LAST_ANNOUNCE + TIME;
+    pub const BLOCKED_UNTIL: usize = VIOLATIONS + 1;
+    pub const BLOB_COUNT: usize = BLOCKED_UNTIL + TIME;
     pub const BLOBS: usize = BLOB_COUNT + 1;
     pub const WIDTH: usize = BLOBS + BLOB_LIMIT * BLOB;
 }
@@ -88,7 +102,8 @@ const fn table<const WIDTH: usize, const KEY: usize, const EXPIRY: usize>(start:
 
 pub const OWN: Range<usize> = 0..ADDRESS;
 pub const LAST_CLOCK: usize = OWN.end;
-pub const PORTS: Section = Section { start: LAST_CLOCK + TIME, width: port::WIDTH, count: PORT_COUNT };
+pub const RATE: Section = Section { start: LAST_CLOCK + TIME, width: rate::WIDTH, count: 1 };
+pub const PORTS: Section = Section { start: RATE.end(), width: port::WIDTH, count: PORT_COUNT };
 pub const LOCALS: Section = Section { start: PORTS.end(), width: KEY + ADDRESS, count: LOCAL_COUNT };
 pub const PATHS: Table = table::<{ path::WIDTH }, ADDRESS, { path::EXPIRY }>(LOCALS.end(), PATH_COUNT, &[path::PORT]);
 pub const LINKS: Table =
@@ -189,6 +204,15 @@ pub fn time(bytes: &[u8], at: usize) -> u64 {
     u64::from_be_bytes(bytes[at..at + TIME].try_into().expect("eight bytes"))
 }
 
+/// A setting of the announce rate.
+pub fn setting(bytes: &[u8], at: usize) -> u64 {
+    u32::from_be_bytes(bytes[at..at + SETTING].try_into().expect("four bytes")).into()
+}
+
+pub fn set_setting(bytes: &mut [u8], at: usize, number: u64) {
+    bytes[at..at + SETTING].copy_from_slice(&(number as u32).to_be_bytes());
+}
+
 pub fn set_time(bytes: &mut [u8], at: usize, time: u64) {
     bytes[at..at + TIME].copy_from_slice(&time.to_be_bytes());
 }
@@ -242,12 +266,13 @@ mod tests {
     /// Where docs/LAYOUT.md says that each section begins.
     #[test]
     fn the_layout_is_the_drawn_one() {
-        assert_eq!([PORTS.start, LOCALS.start, PATHS.records.start, LINKS.records.start], [24, 56, 328, 13_384]);
-        assert_eq!([RETURN_PLACE, RETURNS.records.start, HASH_PLACE, HASHES.records.start], [15_304, 15_306, 29_130, 29_132]);
+        assert_eq!([RATE.start, PORTS.start, LOCALS.start, PATHS.records.start, LINKS.records.start], [24, 36, 68, 340, 14_484]);
+        assert_eq!([RETURN_PLACE, RETURNS.records.start, HASH_PLACE, HASHES.records.start], [16_404, 16_406, 30_230, 30_232]);
         assert_eq!(
             [PATHS, LINKS, RETURNS, HASHES].map(|table| (table.records.width, table.expiry)),
-            [(204, 35), (30, 22), (27, 19), (41, 33)]
+            [(221, 35), (30, 22), (27, 19), (41, 33)]
         );
-        assert_eq!(SIZE, 71_116);
+        assert_eq!([path::LAST_ANNOUNCE, path::VIOLATIONS, path::BLOCKED_UNTIL, path::BLOB_COUNT], [43, 51, 52, 60]);
+        assert_eq!(SIZE, 72_216);
     }
 }

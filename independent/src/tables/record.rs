@@ -1,6 +1,6 @@
 //! What records hold, read from their bytes and written to them.
 
-use super::{link, path, port, returned, set_key, set_time, time, KEY};
+use super::{link, path, port, rate, returned, set_key, set_setting, set_time, setting, time, KEY, RATE};
 use crate::packet::{address, Address};
 
 /// A blob's bytes.
@@ -44,7 +44,50 @@ impl Port {
     }
 }
 
-/// A path, but for its blobs.
+/// The announce rate: "target interval, grace and penalty, set for the relay."
+#[derive(Clone, Copy, Debug, PartialEq, Eq)]
+pub struct AnnounceRate {
+    pub target: u64,
+    pub grace: u64,
+    pub penalty: u64,
+}
+
+impl AnnounceRate {
+    /// That of a relay's tables.
+    pub fn read(tables: &[u8]) -> Self {
+        let settings = RATE.get(tables, 0);
+        Self { target: setting(settings, rate::TARGET), grace: setting(settings, rate::GRACE), penalty: setting(settings, rate::PENALTY) }
+    }
+
+    pub fn write(&self, tables: &mut [u8]) {
+        let settings = RATE.get_mut(tables, 0);
+        set_setting(settings, rate::TARGET, self.target);
+        set_setting(settings, rate::GRACE, self.grace);
+        set_setting(settings, rate::PENALTY, self.penalty);
+    }
+}
+
+/// "Last accepted announce, violations and blocked-until live in the path record"
+#[derive(Clone, Copy, Debug, Default, PartialEq, Eq)]
+pub struct RateEntry {
+    pub last: u64,
+    pub violations: u8,
+    pub blocked_until: u64,
+}
+
+impl RateEntry {
+    pub fn read(path: &[u8]) -> Self {
+        Self { last: time(path, path::LAST_ANNOUNCE), violations: path[path::VIOLATIONS], blocked_until: time(path, path::BLOCKED_UNTIL) }
+    }
+
+    pub fn write(&self, path: &mut [u8]) {
+        set_time(path, path::LAST_ANNOUNCE, self.last);
+        path[path::VIOLATIONS] = self.violations;
+        set_time(path, path::BLOCKED_UNTIL, self.blocked_until);
+    }
+}
+
+/// A path, but for its rate entry and its blobs.
 #[derive(Clone, Copy, Debug)]
 pub struct Path {
     pub destination: Address,

@@ -1,10 +1,10 @@
 //! Refusal 7's test once more, tuned: records as arrays of known width, whose zeros are tested by whole words, for the rings sixteen
 //! records at once.
 
-use super::check::{all_zero, is_port};
-use super::{link, path, port, remembered, returned, ring_place, time, HASHES, HASH_PLACE, LAST_CLOCK};
+use super::check::{all_zero, is_port, rate_allowed};
+use super::{link, path, port, remembered, returned, ring_place, time, AnnounceRate, HASHES, HASH_PLACE, LAST_CLOCK};
 use super::{LINKS, LOCALS, PATHS, PORTS, RETURNS, RETURN_PLACE, SIZE};
-use crate::limits::{BLOB_LIMIT, LATEST};
+use crate::limits::{BLOB_LIMIT, LATEST, LATEST_ANNOUNCE, LATEST_BLOCK};
 
 /// Records of a ring that are passed at once where all are zeros.
 const GROUP: usize = 16;
@@ -12,6 +12,7 @@ const GROUP: usize = 16;
 pub fn tables_allowed(tables: &[u8]) -> bool {
     tables.len() == SIZE
         && time(tables, LAST_CLOCK) <= LATEST
+        && rate_allowed(&AnnounceRate::read(tables))
         && tables[PORTS.bytes()]
             .as_chunks()
             .0
@@ -19,7 +20,11 @@ pub fn tables_allowed(tables: &[u8]) -> bool {
             .all(|settings: &[u8; port::WIDTH]| settings[port::ON] <= 1 && settings[port::MODE] <= 2)
         && records_allowed(&tables[LOCALS.bytes()], |_: &[u8; LOCALS.width]| true)
         && records_allowed(&tables[PATHS.records.bytes()], |path: &[u8; path::WIDTH]| {
-            is_port(path[path::PORT]) && path[path::BLOB_COUNT].wrapping_sub(1) < BLOB_LIMIT as u8 && time(path, path::EXPIRY) <= LATEST
+            is_port(path[path::PORT])
+                && path[path::BLOB_COUNT].wrapping_sub(1) < BLOB_LIMIT as u8
+                && time(path, path::EXPIRY) <= LATEST
+                && time(path, path::LAST_ANNOUNCE) <= LATEST_ANNOUNCE
+                && time(path, path::BLOCKED_UNTIL) <= LATEST_BLOCK
         })
         && records_allowed(&tables[LINKS.records.bytes()], |link: &[u8; link::WIDTH]| {
             is_port(link[link::ASKING] | link[link::ANSWERING]) && link[link::PROVED] <= 1 && time(link, link::EXPIRY) <= LATEST

@@ -58,9 +58,12 @@ impl Traffic {
         self.send_signed(bytes, draft.port, signature);
     }
 
-    /// Sends a draft that should be accepted, and believes so.
+    /// Sends a draft that should be accepted but for the announce rate, and believes so.
     fn accept_draft(&mut self, draft: &Draft) {
         self.send_draft(draft, true);
+        if !self.passes_rate(draft.station) {
+            return;
+        }
         let lifetime = [604_800, 86_400, 21_600][usize::from(self.world.ports[usize::from(draft.port)].mode)];
         let clock = self.world.clock;
         let station = &mut self.world.stations[draft.station];
@@ -85,6 +88,10 @@ impl Traffic {
 
     pub(super) fn announce_newer(&mut self) {
         let station = self.station();
+        self.announce_of(station);
+    }
+
+    pub(super) fn announce_of(&mut self, station: usize) {
         let draft = self.newer(station);
         self.accept_draft(&draft);
     }
@@ -92,8 +99,7 @@ impl Traffic {
     /// The station's path is live after this.
     pub(super) fn ensure_path(&mut self, station: usize) {
         if self.world.clock >= self.world.stations[station].expiry {
-            let draft = self.newer(station);
-            self.accept_draft(&draft);
+            self.announce_of(station);
         }
     }
 

@@ -36,7 +36,7 @@ impl<I: Iterator<Item = Call>> Asking<I> {
                 self.matters(0);
             }
         }
-        let changes = matches!(call, Call::Write { .. } | Call::Copy { .. } | Call::Resize(_));
+        let changes = matches!(call, Call::Write { .. } | Call::Copy { .. } | Call::Resize(_) | Call::Load);
         self.queue.push_back(call);
         if changes && self.random.one_in(2) {
             (0..KINDS.len()).for_each(|kind| self.ask(kind));
@@ -78,7 +78,8 @@ impl<I: Iterator<Item = Call>> Asking<I> {
             4 => self.live_path(),
             5 => Question::LiveReturns(self.clock(&[RETURN_LIFETIME])),
             6 => Question::LiveHashes(self.clock(&[HASH_LIFETIME])),
-            _ => Question::LastClock,
+            7 => Question::LastClock,
+            _ => Question::AnnounceRate,
         };
         let fill = self.random.word() as u8;
         self.queue.push_back(Call::Ask { question, fill });

@@ -86,7 +86,7 @@ impl Traffic {
             return;
         }
         let link = self.proved_link();
-        self.queue.push_back(Call::Save);
+        self.queue.push_back(Call::PutAside);
         for context in self.exempt_contexts() {
             let (parts, payload, port) = self.from_a_side(&link, context);
             self.lend_hash(&parts, &payload);
@@ -96,7 +96,7 @@ impl Traffic {
         let (parts, payload, port) = self.from_a_side(&link, context);
         self.lend_hash(&parts, &payload);
         self.send(encode(&parts, &payload), port);
-        self.queue.push_back(Call::Restore);
+        self.queue.push_back(Call::TakeBack);
     }
 
     /// Writes a packet's hash into some ring place, live for a while.

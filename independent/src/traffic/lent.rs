@@ -5,7 +5,9 @@ use crate::engine::Call;
 use crate::limits::{BLOB_LIMIT, LATEST};
 use crate::packet::Address;
 use crate::random::Random;
-use crate::tables::{link, path, port, returned, set_key, Link, Path, Return, Table, BLOB, HASHES, HASH_PLACE, LAST_CLOCK, LINKS, LOCALS};
+use crate::tables::{
+    link, path, port, returned, set_key, set_time, Link, Path, Return, Table, BLOB, HASHES, HASH_PLACE, LAST_CLOCK, LINKS, LOCALS,
+};
 use crate::tables::{PATHS, PORTS, RETURNS, RETURN_PLACE, SIZE};
 
 /// A place near the table's start, where traffic lies, or anywhere.
@@ -33,7 +35,7 @@ fn a_time(random: &mut Random, clock: u64) -> u64 {
 }
 
 impl Traffic {
-    fn write(&mut self, at: usize, bytes: impl Into<Vec<u8>>) {
+    pub(super) fn write(&mut self, at: usize, bytes: impl Into<Vec<u8>>) {
         self.queue.push_back(Call::Write { at, bytes: bytes.into() });
     }
 
@@ -42,12 +44,15 @@ impl Traffic {
         if !self.lent {
             return;
         }
-        self.queue.push_back(Call::Save);
+        self.queue.push_back(Call::PutAside);
         for _ in 0..1 + self.random.below(2) {
             self.change();
         }
         for _ in 0..1 + self.random.below(5) {
             self.call_on_lent();
+        }
+        if self.random.one_in(2) {
+            self.save_lent();
         }
         if self.random.one_in(6) {
             let size = self.random.pick(&[0, 1, 24, SIZE - 1, SIZE + 1, SIZE + 100]);
@@ -55,7 +60,7 @@ impl Traffic {
             self.call_on_lent();
             self.queue.push_back(Call::Fresh(self.world.own));
         }
-        self.queue.push_back(Call::Restore);
+        self.queue.push_back(Call::TakeBack);
     }
 
     /// Lends some fresh relays, whose address tells, a tally that is soon at its end.
@@ -66,7 +71,7 @@ impl Traffic {
         }
     }
 
-    fn call_on_lent(&mut self) {
+    pub(super) fn call_on_lent(&mut self) {
         match self.random.below(10) {
             0..=2 => self.setting_on_lent(),
             3 => self.data_by_path(),
@@ -81,10 +86,11 @@ impl Traffic {
 
     /// Not the episodes of these calls: what they change would be believed after the tables of before are back.
     fn setting_on_lent(&mut self) {
-        let call = match self.random.below(4) {
+        let call = match self.random.below(6) {
             0 => Call::SetPort { port: self.random.below(17) as u64, on: self.random.one_in(2), mode: self.random.below(4) as u64 },
             1 => Call::AddLocal(self.stray_address()),
             2 => Call::RemoveLocal(self.stray_address()),
+            3 | 4 => Call::SetAnnounceRate(self.a_rate()),
             _ => Call::Renumber(self.random.permutation()),
         };
         self.queue.push_back(call);
@@ -92,12 +98,7 @@ impl Traffic {
 
     fn change(&mut self) {
         match self.random.below(12) {
-            0 => self.change_byte(),
-            1 => self.change_ports(),
-            2 => self.change_clock(),
-            3 => self.change_rings(),
-            4 => self.change_field(),
-            5 => self.change_marks(),
+            0..=5 => self.change_one(),
             6 | 7 => self.lend_path(),
             8 => self.lend_link(),
             9 => self.lend_return(),
@@ -106,7 +107,20 @@ impl Traffic {
         }
     }
 
-    fn change_byte(&mut self) {
+    /// Writes into one place.
+    pub(super) fn change_one(&mut self) {
+        match self.random.below(7) {
+            0 => self.change_byte(),
+            1 => self.change_ports(),
+            2 => self.change_clock(),
+            3 => self.change_rings(),
+            4 => self.change_field(),
+            5 => self.change_rate(),
+            _ => self.change_marks(),
+        }
+    }
+
+    pub(super) fn change_byte(&mut self) {
         let at = self.random.below(SIZE);
         let byte = self.random.pick(&[0, 1, 2, 15, 16, 255]);
         self.write(at, [byte]);
@@ -143,7 +157,7 @@ impl Traffic {
         let small = self.random.pick(&[0, 1, 2, 15, 16, 17, 255]);
         let time = a_time(&mut self.random, self.world.clock).to_be_bytes();
         let random = &mut self.random;
-        let (at, bytes) = match random.below(12) {
+        let (at, bytes) = match random.below(15) {
             0 => (start(random, &PATHS) + path::PORT, vec![small]),
             1 => (start(random, &PATHS) + path::BLOB_COUNT, vec![small]),
             2 => (start(random, &PATHS) + path::HOPS, vec![small]),
@@ -155,6 +169,9 @@ impl Traffic {
             8 => (start(random, &RETURNS) + returned::ARRIVAL, vec![small]),
             9 => (start(random, &RETURNS) + returned::LEAVING, vec![small]),
             10 => (start(random, &RETURNS) + returned::EXPIRY, time.to_vec()),
+            11 => (start(random, &PATHS) + path::LAST_ANNOUNCE, time.to_vec()),
+            12 => (start(random, &PATHS) + path::VIOLATIONS, vec![small]),
+            13 => (start(random, &PATHS) + path::BLOCKED_UNTIL, time.to_vec()),
             _ => (start(random, &HASHES) + HASHES.expiry, time.to_vec()),
         };
         self.write(at, bytes);
@@ -173,9 +190,28 @@ impl Traffic {
         self.write(at, [mark]);
     }
 
-    /// A path to a station: a second one perhaps, with hops over 127, any blob count, and spare places that hold blobs it sent.
+    /// A path to a station, and what may go by it.
     fn lend_path(&mut self) {
         let number = self.reachable();
+        let record = self.path_record(number);
+        let at = start(&mut self.random, &PATHS);
+        self.write(at, record);
+        self.data_to(number);
+        self.replay_of(number);
+        self.replay_of(number);
+        self.stale_of(number);
+    }
+
+    /// A path to a station at the table's start, so that it counts, live for a while.
+    pub(super) fn lend_rated_path(&mut self, number: usize) {
+        let mut record = self.path_record(number);
+        set_time(&mut record, path::EXPIRY, self.world.clock + 50_000);
+        (record[path::PORT], record[path::BLOB_COUNT]) = (record[path::PORT] % 16, record[path::BLOB_COUNT].clamp(1, BLOB_LIMIT as u8));
+        self.write(PATHS.records.start, record);
+    }
+
+    /// A second one perhaps, with hops over 127, any blob count, any rate entry, and spare places that hold blobs it sent.
+    fn path_record(&mut self, number: usize) -> Vec<u8> {
         let most = BLOB_LIMIT as u8;
         let count = self.random.pick(&[0, 1, 1, 1, 2, 2, 3, most - 1, most, most, most + 1]);
         let lasting = self.world.clock + 50_000;
@@ -190,12 +226,8 @@ impl Traffic {
             let sent = station.blobs.iter().rev().nth(back);
             place.copy_from_slice(&sent.copied().unwrap_or([self.random.pick(&[0, 0, 7]); BLOB]));
         }
-        let at = start(&mut self.random, &PATHS);
-        self.write(at, record);
-        self.data_to(number);
-        self.replay_of(number);
-        self.replay_of(number);
-        self.stale_of(number);
+        self.lent_rate().write(&mut record);
+        record
     }
 
     /// A link of before again: proved or not, perhaps beside the first.

@@ -7,6 +7,9 @@ mod data;
 mod exempt;
 mod lent;
 mod links;
+mod rates;
+mod reasons;
+mod saved;
 mod settings;
 
 pub use asking::Asking;
@@ -17,9 +20,11 @@ use crate::packet::{announced, hash, Address, Blob, Header, PacketHash, Parts};
 use crate::random::Random;
 use crate::rules::AsWritten;
 use crate::sha256::Sha256;
+use crate::tables::{AnnounceRate, RateEntry};
 use std::collections::VecDeque;
 
 /// Somebody who announces: its keys and name, what it sent, and the path that a relay should have to it.
+#[derive(Clone)]
 struct Station {
     keys: [u8; 64],
     name_hash: [u8; 10],
@@ -30,6 +35,7 @@ struct Station {
     port: u8,
     hops: u8,
     expiry: u64,
+    rate: RateEntry,
 }
 
 /// A link that was asked for.
@@ -52,17 +58,20 @@ struct Carried {
     leaving: u8,
 }
 
+#[derive(Clone)]
 struct Port {
     on: bool,
     mode: u8,
 }
 
 /// What is believed of the relay and its neighbours.
+#[derive(Clone)]
 struct World {
     own: Address,
     clock: u64,
     /// The longest time between two episodes.
     pace: u64,
+    rate: AnnounceRate,
     ports: [Port; 16],
     stations: Vec<Station>,
     locals: Vec<Address>,
@@ -77,8 +86,12 @@ pub struct Traffic {
     queue: VecDeque<Call>,
     /// Episodes until the next fresh relay.
     left: usize,
+    /// Does another caller write tables, and are files saved and loaded?
     lent: bool,
+    files: bool,
     world: World,
+    /// What was believed of the relay whose file is kept, where that is known.
+    saved: Option<World>,
 }
 
 /// How many links, forwarded packets and sent packets are kept in mind.
@@ -99,6 +112,9 @@ const EPISODES: &[(usize, Episode)] = &[
     (3, Traffic::announce_local),
     (2, Traffic::announce_crowd),
     (2, Traffic::path_edge),
+    (8, Traffic::chatter),
+    (4, Traffic::refused_rate),
+    (12, Traffic::lent_chatter),
     (25, Traffic::data_by_path),
     (8, Traffic::data_lost),
     (6, Traffic::data_local),
@@ -123,25 +139,37 @@ const EPISODES: &[(usize, Episode)] = &[
     (5, Traffic::local_calls),
     (1, Traffic::locals_full),
     (12, Traffic::renumbering),
-    (36, Traffic::refused_packet),
-    (12, Traffic::lent_tables),
+    (54, Traffic::refused_packet),
+    (14, Traffic::lent_tables),
+    (4, Traffic::bad_forms),
+    (12, Traffic::lent_reasons),
+    (4, Traffic::save_and_load),
+    (2, Traffic::load_again),
+    (3, Traffic::load_older),
+    (20, Traffic::load_refused),
+    (6, Traffic::load_changed),
 ];
 
 impl Traffic {
     pub fn new(seed: u64) -> Self {
-        Self::start(seed, true)
+        Self::start(seed, true, true)
     }
 
     /// Only calls on tables that nobody else writes.
     pub fn unlent(seed: u64) -> Self {
-        Self::start(seed, false)
+        Self::start(seed, false, true)
     }
 
-    fn start(seed: u64, lent: bool) -> Self {
+    /// Only calls that are listed for hosts in other languages, but for tallies.
+    pub fn for_hosts(seed: u64) -> Self {
+        Self::start(seed, true, false)
+    }
+
+    fn start(seed: u64, lent: bool, files: bool) -> Self {
         let mut random = Random::new(seed);
         let sha = Sha256::default();
         let world = World::new(&mut random, &sha);
-        let mut traffic = Self { random, sha, queue: VecDeque::new(), left: 0, lent, world };
+        let mut traffic = Self { random, sha, queue: VecDeque::new(), left: 0, lent, files, world, saved: None };
         traffic.begin();
         traffic
     }
@@ -287,6 +315,7 @@ impl World {
             own: random.array(),
             clock: random.pick(&[0, 1, 1_000, 1_700_000_000, CLOCK_LIMIT - 2_000_000, CLOCK_LIMIT - 100_000]),
             pace: random.pick(&[0, 1, 1, 5, 5, 40, 300, 4_000]),
+            rate: rates::OFF,
             ports: std::array::from_fn(|_| Port { on: false, mode: 0 }),
             stations: (0..stations).map(|_| Station::new(random, sha)).collect(),
             locals: Vec::new(),
@@ -303,7 +332,7 @@ impl Station {
         let name_hash = random.array();
         let address = announced::destination(sha, &keys, &name_hash);
         let emission = 1_000 + random.below(1_700_000_000) as u64;
-        Self { keys, name_hash, address, blobs: Vec::new(), emission, port: 0, hops: 0, expiry: 0 }
+        Self { keys, name_hash, address, blobs: Vec::new(), emission, port: 0, hops: 0, expiry: 0, rate: RateEntry::default() }
     }
 }
 

@@ -92,13 +92,13 @@ impl Traffic {
         let mut map = self.random.permutation();
         match self.random.below(6) {
             // not one-to-one on 0..15
-            0 => {
+            0 | 1 => {
                 let place = self.random.below(16);
                 map[place] = self.random.pick(&[map[(place + 1) % 16], 16, 17, 255]);
                 self.queue.push_back(Call::Renumber(map));
                 return;
             }
-            1 => {
+            2 => {
                 map = std::array::from_fn(|port| port as u8);
                 map.swap(self.random.below(16), self.random.below(16));
             }

@@ -4,7 +4,7 @@ use crate::host::{announce, destination, link_id, return_key, to_station, type_1
 use haskumye_independent::engine::Outcome;
 use haskumye_independent::relay::asking::Question;
 use haskumye_independent::relay::Arrival;
-use haskumye_independent::tables::{LAST_CLOCK, PATHS, PORTS};
+use haskumye_independent::tables::{AnnounceRate, LAST_CLOCK, PATHS, PORTS};
 
 crate::on_both_programs!(
     a_ports_settings(OffPortNone),
@@ -15,6 +15,8 @@ crate::on_both_programs!(
     a_link(PlaceCut),
     counts(CountedAtExpiry),
     the_last_clock(QuestionSetsClock),
+    the_announce_rate(RateToldSwapped),
+    a_paths_rate(BlockToldFirst),
     bad_tables(LastClockUnrefused),
     words_of_announces(WordOfAccepted),
     words_of_duplicates(WordOfDuplicates),
@@ -70,7 +72,8 @@ fn local_addresses(host: &mut Host) {
 
 /// Of an announce in type 2 that came in by port 3 at clock 10, with two hops.
 fn path_of(station: u8) -> Vec<u8> {
-    [&destination(station)[..], &[3, 2], &NEIGHBOUR, &604_810u64.to_be_bytes(), &[1]].concat()
+    let rate = [&10u64.to_be_bytes()[..], &[0; 9]].concat();
+    [&destination(station)[..], &[3, 2], &NEIGHBOUR, &604_810u64.to_be_bytes(), &rate, &[1]].concat()
 }
 
 fn a_path_at_its_place(host: &mut Host) {
@@ -135,6 +138,24 @@ fn the_last_clock(host: &mut Host) {
     assert_eq!(ask(host, Question::LastClock), number(0x01_0203_0405));
 }
 
+fn the_announce_rate(host: &mut Host) {
+    assert_eq!(ask(host, Question::AnnounceRate), Ok(vec![0; 12]));
+    host.program.set_announce_rate(&mut host.tables, &AnnounceRate { target: 0x0102, grace: 3, penalty: 0x04_0506 });
+    assert_eq!(ask(host, Question::AnnounceRate), Ok(vec![0, 0, 1, 2, 0, 0, 0, 3, 0, 4, 5, 6]));
+}
+
+fn a_paths_rate(host: &mut Host) {
+    host.program.set_announce_rate(&mut host.tables, &AnnounceRate { target: 100, grace: 0, penalty: 5 });
+    host.verdict(&announce(1, 0x41, 2, 5, 200), 3, 10);
+    assert_eq!(ask(host, Question::Path(0)), Ok(path_of(1)));
+    host.verdict(&announce(1, 0x41, 2, 6, 200), 3, 20);
+    let mut path = path_of(1);
+    path[50] = 1;
+    path[58] = 115;
+    assert_eq!(ask(host, Question::Path(0)), Ok(path.clone()));
+    assert_eq!(ask(host, Question::LivePath { destination: destination(1), clock: 20 }), Ok(path));
+}
+
 fn bad_tables(host: &mut Host) {
     let questions = [
         Question::Port(16),
@@ -145,6 +166,7 @@ fn bad_tables(host: &mut Host) {
         Question::LiveReturns(0),
         Question::LiveHashes(0),
         Question::LastClock,
+        Question::AnnounceRate,
     ];
     for (at, byte) in [(LAST_CLOCK, 1), (PORTS.start, 2)] {
         let before = host.tables[at];

@@ -9,9 +9,12 @@ mod host;
 mod keepalives;
 mod links;
 mod packets;
+mod rates;
+mod reasons;
 mod recordings;
 mod renumbering;
 mod returns;
+mod saved;
 mod settings;
 mod tables;
 

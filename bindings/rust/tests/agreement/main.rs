@@ -5,7 +5,7 @@ mod model;
 mod rust;
 mod text;
 
-use haskumye::{Mode, Reason, Refusal};
+use haskumye::{BadForm, Mode, NoWayOn, Reason, Refusal};
 use model::{constants_differ, functions_differ, structs_differ, Interface};
 use std::path::{Path, PathBuf};
 
@@ -40,7 +40,7 @@ impl Texts {
             header: text("include/haskumye.h"),
             rust: text("bindings/rust/src/lib.rs") + &text("bindings/rust/src/raw.rs"),
             rattle: text("crates/rules/src/lib.rt") + &rattle_texts("crates/haskumye/src"),
-            numbers: rattle_texts("crates/numbers/src") + &text("crates/recording/src/numbers.rt"),
+            numbers: rattle_texts("crates/numbers/src") + &text("crates/recording/src/numbers.rt") + &text("crates/saved/src/format.rt"),
         }
     }
 
@@ -56,7 +56,7 @@ impl Texts {
         lines.extend(structs_differ(
             &named_as_in_rust(&header),
             &rust,
-            &["Parts", "Tally", "Entry", "PortSettings", "PathRecord", "LinkRecord"],
+            &["Parts", "Tally", "Entry", "PortSettings", "RateSettings", "PathRecord", "LinkRecord"],
         ));
         lines.extend(structs_differ(&rust, &rattle, &["Tally"]));
         lines.extend(self.limits_differ(&header));
@@ -68,7 +68,7 @@ impl Texts {
         let plain = self.numbers.lines().filter_map(|line| line.strip_prefix("pub const ")?.strip_suffix(';'));
         let constants = plain.filter_map(|line| Some((line.split_once(':')?.0, text::number(line.split_once("= ")?.1)?)));
         let named = |name: &str| {
-            let name = RECORDINGS.iter().find(|known| known.0 == name).map_or(name, |known| known.1);
+            let name = FILES.iter().find(|known| known.0 == name).map_or(name, |known| known.1);
             let names = [format!("HASKUMYE_REFUSAL_{name}"), format!("HASKUMYE_{name}")];
             names.into_iter().find_map(|name| Some((name.clone(), *header.constants.get(&name)?)))
         };
@@ -91,9 +91,12 @@ impl Texts {
 /// Rust's numbered enums as the compiler has them, by the header's names.
 fn with_enums(mut rust: Interface) -> Interface {
     let refusals = Refusal::ALL.iter().map(|case| (format!("Refusal{case:?}"), case.number()));
-    let reasons = Reason::ALL.iter().map(|case| (format!("Reason{case:?}"), case.number()));
+    let name = |reason: &Reason| format!("{reason:?}").split(' ').next().unwrap_or_default().to_string();
+    let reasons = Reason::all().into_iter().map(|reason| (format!("Reason{}", name(&reason)), reason.number()));
+    let clauses = BadForm::ALL.iter().map(|case| (format!("BadForm{case:?}"), case.number()));
+    let cases = NoWayOn::ALL.iter().map(|case| (format!("NoWayOn{case:?}"), case.number()));
     let modes = Mode::ALL.iter().map(|case| (format!("Mode{case:?}"), case.number()));
-    for (name, number) in refusals.chain(reasons).chain(modes) {
+    for (name, number) in refusals.chain(reasons).chain(clauses).chain(cases).chain(modes) {
         let words = name.chars().flat_map(|sign| sign.is_uppercase().then_some('_').into_iter().chain([sign.to_ascii_uppercase()]));
         rust.constants.insert(format!("HASKUMYE{}", words.collect::<String>()), number.into());
     }
@@ -108,6 +111,7 @@ fn named_as_in_rust(header: &Interface) -> Interface {
         ("haskumye_tally", "Tally"),
         ("haskumye_entry", "Entry"),
         ("haskumye_port_settings", "PortSettings"),
+        ("haskumye_rate_settings", "RateSettings"),
         ("haskumye_path_record", "PathRecord"),
         ("haskumye_link_record", "LinkRecord"),
     ];
@@ -117,14 +121,15 @@ fn named_as_in_rust(header: &Interface) -> Interface {
     renamed
 }
 
-/// What the crate `recording` calls a number, and what the header does.
-const RECORDINGS: [(&str, &str); 7] = [
+/// What the crates `recording` and `saved` call a number, and what the header does.
+const FILES: [(&str, &str); 8] = [
     ("LONGEST_FILE", "RECORDING_SIZE"),
     ("CLOCK_REFUSED", "CLOCK"),
     ("LENGTH_REFUSED", "FILE_LENGTH"),
     ("KIND_REFUSED", "FILE_KIND"),
     ("PLACE_REFUSED", "FILE_PLACE"),
     ("WORD_REFUSED", "SIGNATURE_WORD"),
+    ("BODY_REFUSED", "FILE_BODY"),
     ("ROOM_REFUSED", "ROOM"),
 ];
 
@@ -153,9 +158,9 @@ fn the_three_agree() {
 fn something_is_compared() {
     let texts = Texts::read();
     let header = header::read("the header", &texts.header);
-    assert_eq!((header.functions.len(), header.structs.len()), (35, 12));
+    assert_eq!((header.functions.len(), header.structs.len()), (41, 14));
     assert_eq!(header.functions["haskumye_packet"].arguments.len(), 10);
-    assert_eq!(header.constants.len(), 82);
+    assert_eq!(header.constants.len(), 102);
 }
 
 #[test]
@@ -182,6 +187,12 @@ fn swapped_and_missing_arguments_are_seen() {
             "haskumye_packet(const uint8_t *packet, size_t length, uint64_t port, uint64_t clock",
             "haskumye_packet(const uint8_t *packet, size_t length, uint64_t clock, uint64_t port",
             "haskumye_packet: argument 3 is `clock: u64` in the header, `port: u64` in the crate",
+        ),
+        (
+            RUST,
+            "target: u64, grace: u64, penalty: u64",
+            "grace: u64, target: u64, penalty: u64",
+            "haskumye_set_announce_rate: argument 3 is `target: u64` in the header, `grace: u64` in Rust",
         ),
         (
             RUST,
@@ -250,6 +261,12 @@ fn const_and_mut_are_told_apart() {
             "haskumye_check_tables(tables: &mut [u8])",
             "haskumye_check_tables: argument 1 is `tables: const bytes` in the header, `tables: mut bytes` in the crate",
         ),
+        (
+            RATTLE,
+            "tally: &[u32; 6]",
+            "tally: &mut [u32; 6]",
+            "haskumye_save: argument 3 is `tally: const 6 of u32` in the header, `tally: mut 6 of u32` in the crate",
+        ),
     ]);
 }
 
@@ -294,9 +311,15 @@ fn lengths_of_blocks_are_seen() {
         ),
         (
             RATTLE,
-            "tally: &mut [u32; 6]",
-            "tally: &mut [u32; 5]",
+            "tally: &mut [u32; 6],\n",
+            "tally: &mut [u32; 5],\n",
             "haskumye_replay_entry: argument 6 is `tally: mut 6 of u32` in the header, `tally: mut 5 of u32` in the crate",
+        ),
+        (
+            RATTLE,
+            "settings: &mut [u8; 12]",
+            "settings: &mut [u8; 3]",
+            "haskumye_announce_rate: argument 3 is `settings: mut 12 of u8` in the header, `settings: mut 3 of u8` in the crate",
         ),
         (
             RATTLE,
@@ -314,7 +337,7 @@ fn lengths_of_blocks_are_seen() {
             HEADER,
             "    uint8_t blob_count;\n",
             "",
-            "haskumye_live_path: argument 5 is `path: mut 42 of u8` in the header, `path: mut 43 of u8` in the crate",
+            "haskumye_live_path: argument 5 is `path: mut 59 of u8` in the header, `path: mut 60 of u8` in the crate",
         ),
     ]);
 }
@@ -322,7 +345,7 @@ fn lengths_of_blocks_are_seen() {
 #[test]
 fn fields_in_another_order_are_seen() {
     let texts = Texts::read();
-    let swaps: [Damage; 6] = [
+    let swaps: [Damage; 8] = [
         (HEADER, "uint64_t clock;\n    uint64_t port;", "uint64_t port;\n    uint64_t clock;", "Entry is"),
         (HEADER, "uint32_t total;\n    uint32_t dropped;", "uint32_t dropped;\n    uint32_t total;", "Tally is"),
         (RATTLE, "pub spread: u32,\n    pub kept: u32,", "pub kept: u32,\n    pub spread: u32,", "Tally is"),
@@ -333,6 +356,8 @@ fn fields_in_another_order_are_seen() {
             "Parts is",
         ),
         (HEADER, "uint8_t port;\n    uint8_t hops; ", "uint8_t hops;\n    uint8_t port; ", "PathRecord is"),
+        (RUST, "pub last_announce: Time,", "pub blocked_until: Time,", "PathRecord is"),
+        (RUST, "pub target: Setting,", "pub grace: Setting,", "RateSettings is"),
         (RUST, "pub asking: u8,", "pub answering: u8,", "LinkRecord is"),
     ];
     for (source, from, to, start) in swaps {
@@ -346,7 +371,13 @@ fn constants_are_compared() {
     assert_seen(&[
         (HEADER, "HASKUMYE_OUTPUT_SIZE 500", "HASKUMYE_OUTPUT_SIZE 501", "HASKUMYE_OUTPUT_SIZE is 501 in the header, 500 in Rust"),
         (HEADER, "HASKUMYE_REFUSAL_MAP = 8", "HASKUMYE_REFUSAL_MAP = 9", "HASKUMYE_REFUSAL_MAP is 9 in the header, 8 in Rust"),
-        (HEADER, "HASKUMYE_REASON_NO_ROOM = 13,", "", "HASKUMYE_REASON_NO_ROOM is missing in the header"),
+        (HEADER, "HASKUMYE_REASON_PORT_OFF = 12,", "", "HASKUMYE_REASON_PORT_OFF is missing in the header"),
+        (
+            HEADER,
+            "HASKUMYE_NO_WAY_ON_NO_LINK = 4,",
+            "HASKUMYE_NO_WAY_ON_NO_LINK = 5,",
+            "HASKUMYE_NO_WAY_ON_NO_LINK is 5 in the header, 4 in Rust",
+        ),
         (HEADER, "#define HASKUMYE_PACKET_DATA 0x00", "", "HASKUMYE_PACKET_DATA is missing in the header"),
         (
             HEADER,
@@ -370,13 +401,32 @@ fn limits_are_those_of_the_crate_of_numbers() {
         assert_eq!(texts.damaged(NUMBERS, &from, &to).differences(), line);
     }
     assert_seen(&[
-        (NUMBERS, "u8 = 22;", "u8 = 24;", "HASKUMYE_REFUSAL_FILE_PLACE is 22 in the header, 24 in the numbers"),
+        (
+            NUMBERS,
+            "end that breaks the rule.\npub const PLACE_REFUSED: u8 = 22;",
+            "\npub const PLACE_REFUSED: u8 = 24;",
+            "HASKUMYE_REFUSAL_FILE_PLACE is 22 in the header, 24 in the numbers",
+        ),
+        (NUMBERS, "u8 = 24;", "u8 = 23;", "HASKUMYE_REFUSAL_FILE_BODY is 24 in the header, 23 in the numbers"),
         (NUMBERS, "60_000", "60_001", "HASKUMYE_RECORDING_SIZE is 60000 in the header, 60001 in the numbers"),
         (
             NUMBERS,
             "LONGEST_PACKET: usize = 500",
             "LONGEST_PACKET: usize = 501",
             "HASKUMYE_LONGEST_PACKET is 500 in the header, 501 in the numbers",
+        ),
+        (
+            NUMBERS,
+            "TARGET_LIMIT: u64 = 86_400",
+            "TARGET_LIMIT: u64 = 86_401",
+            "HASKUMYE_TARGET_LIMIT is 86400 in the header, 86401 in the numbers",
+        ),
+        (NUMBERS, "GRACE_LIMIT: u64 = 254", "GRACE_LIMIT: u64 = 255", "HASKUMYE_GRACE_LIMIT is 254 in the header, 255 in the numbers"),
+        (
+            NUMBERS,
+            "PENALTY_LIMIT: u64 = 604_800",
+            "PENALTY_LIMIT: u64 = 604_801",
+            "HASKUMYE_PENALTY_LIMIT is 604800 in the header, 604801 in the numbers",
         ),
         (NUMBERS, "MAP: u8 = 8", "MAP: u8 = 9", "HASKUMYE_REFUSAL_MAP is 8 in the header, 9 in the numbers"),
     ]);

@@ -44,17 +44,8 @@ struct Comparison<'a> {
 }
 
 impl Comparison<'_> {
-    /// Of the buffers only the first byte that differs is shown.
     fn expect(&mut self, what: &str, got: Called, expected: Called) {
-        let turn = self.tally.passed + self.tally.failed;
-        let expected = if self.options.damage { expected.damaged(turn) } else { expected };
-        if got == expected {
-            self.tally.passed += 1;
-            return;
-        }
-        let place = got.buffer.iter().zip(&expected.buffer).position(|(a, b)| a != b);
-        let bytes = place.map_or(String::new(), |at| format!(", first differ at byte {at}"));
-        self.tally.fail(&format!("{what}: got {:x}, expected {:x}{bytes}", got.number, expected.number));
+        self.tally.long_call(what, got, expected, self.options.damage);
     }
 
     /// Is what was found enough?

@@ -1,5 +1,6 @@
 //! What a comparison of recordings reaches, and how often.
 
+use crate::compare::coverage::answer;
 use crate::engine::Outcome;
 
 /// What was reached, and how often.
@@ -15,8 +16,8 @@ pub struct Reached {
 impl Reached {
     /// Each thing that can be reached, in words, and how often it was.
     pub fn reached(&self) -> Vec<(String, usize)> {
-        let reading = [0, 20, 21, 22, 23].map(|number| (format!("reading, {}", outcome(number)), self.reading[number]));
-        let writing = [0, 5, 20, 23, 25].map(|number| (format!("writing, {}", outcome(number)), self.writing[number]));
+        let reading = [0, 20, 21, 22, 23].map(|number| (format!("reading, {}", answer(number)), self.reading[number]));
+        let writing = [0, 5, 20, 23, 25].map(|number| (format!("writing, {}", answer(number)), self.writing[number]));
         let words = ["refused", "drop", "deliver", "forward", "spread", "kept"];
         let entries = words.iter().zip(self.entries).map(|(word, times)| (format!("replayed entries, {word}"), times));
         reading.into_iter().chain(writing).chain(entries).collect()
@@ -27,13 +28,5 @@ impl Reached {
             Outcome::Judged(answer) => self.entries[1 + answer.verdict.index()] += 1,
             _ => self.entries[0] += 1,
         }
-    }
-}
-
-fn outcome(refusal: usize) -> String {
-    if refusal == 0 {
-        "done".to_string()
-    } else {
-        format!("refusal {refusal}")
     }
 }

@@ -4,7 +4,8 @@ use mathlib.Core.List.{List, [], _∷_}
 use lib.ListN.{length, getD}
 use Rattle.octets.specs.Part.{patch}
 use Rattle.packet.proofs.ReadLaws.{reads-readable, parts-hops}
-use Rattle.outgoing.proofs.LeavingLaws.{long, carried-length, carried-written}
+use Rattle.rules.proofs.Lengths.{carried-length}
+use Rattle.outgoing.proofs.LeavingLaws.{long, carried-written}
 use native.Mathlib.Omega.{arith}
 use borrow.Author.Needs.{needs}
 use Rattle.packet.specs.Read.{longestPacket}

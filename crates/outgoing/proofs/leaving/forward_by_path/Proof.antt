@@ -2,7 +2,8 @@ use mathlib.Core.Path.{sym, ap, _∙_}
 use lib.ListN.{length}
 use Rattle.octets.specs.Part.{patch}
 use Rattle.packet.proofs.ReadLaws.{reads-readable}
-use Rattle.outgoing.proofs.LeavingLaws.{long, path-room, path-last, path-next-hop}
+use Rattle.rules.proofs.Lengths.{path-last, path-next-hop}
+use Rattle.outgoing.proofs.LeavingLaws.{long, path-room}
 use native.Mathlib.Omega.{arith}
 use borrow.Author.Needs.{needs}
 use Rattle.packet.specs.Read.{longestPacket}

@@ -7,7 +7,7 @@ use Rattle.packet.specs.Read.{payloadStart}
 use Rattle.packet.specs.Write.{packetOf}
 use Rattle.packet.specs.declared.Parts.{Parts}
 use Rattle.rules.specs.Outgoing.{rewritten}
-use Rattle.outgoing.proofs.LeavingLaws.{rewritten-length}
+use Rattle.rules.proofs.Lengths.{rewritten-length}
 use native.Mathlib.Omega.{arith}
 use borrow.Author.Needs.{needs}
 use Rattle.packet.specs.Read.{longestPacket}

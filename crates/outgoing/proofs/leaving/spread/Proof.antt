@@ -9,7 +9,8 @@ use Rattle.packet.specs.Read.{headerOf, payloadStart}
 use Rattle.packet.specs.Write.{packetOf}
 use Rattle.packet.specs.declared.Parts.{Parts}
 use Rattle.outgoing.specs.Leaving.{rewrittenParts, spreadLength}
-use Rattle.outgoing.proofs.LeavingLaws.{long, spread-start, spread-result, spread-written}
+use Rattle.rules.proofs.Lengths.{spread-start}
+use Rattle.outgoing.proofs.LeavingLaws.{long, spread-result, spread-written}
 use native.Mathlib.Omega.{arith}
 use borrow.Author.Needs.{needs}
 use Rattle.packet.specs.Read.{longestPacket}

@@ -43,8 +43,8 @@ link-place-requires c κs = sized (c .before .before .before .before) .size
 returns : tie.Need-returns
 returns c =
     let s = s1 (c .before) in
-    let (judged, good, other, kind) = s .pre in
-    link-nowhere (t s) (a s) (judged .readable) good other kind (found (c .before)) (c .if1 .taken)
+    let (_, good, other, kind) = s .pre in
+    link-nowhere (t s) (a s) good other kind (found (c .before)) (c .if1 .taken)
 
 link-at-requires : tie.Need-link-at-requires
 link-at-requires c κs = (sized (s1 (c .before)) .size, c .if1 .left)
@@ -60,10 +60,10 @@ returns-2 c =
     let c3 = c .before .before .before in
     let c5 = c3 .before .before in
     let s = s1 c5 in
-    let (judged, good, other, kind) = s .pre in
+    let (_, good, other, kind) = s .pre in
     let is = sym (c .before .before .is-link-proof .ensures) ∙ c .before .if2 .taken in
     c .prove .ensures
-    ∙ proof-at (t s) (a s) (judged .readable) good other kind (found c5) (c3 .before .if1 .left) (c3 .link-at .ensures) is
+    ∙ proof-at (t s) (a s) good other kind (found c5) (c3 .before .if1 .left) (c3 .link-at .ensures) is
 
 pass-requires : tie.Need-pass-requires
 pass-requires c κs = sized (s1 (c .before .before .before .before))
@@ -73,10 +73,10 @@ returns-3 c =
     let c3 = c .before .before .before in
     let c5 = c3 .before .before in
     let s = s1 c5 in
-    let (judged, good, other, kind) = s .pre in
+    let (_, good, other, kind) = s .pre in
     let not-proof = sym (c .before .before .is-link-proof .ensures) ∙ c .before .if2 .left in
     c .pass .ensures
-    ∙ other-at (t s) (a s) (judged .readable) good other kind (found c5) (c3 .before .if1 .left) (c3 .link-at .ensures) not-proof
+    ∙ other-at (t s) (a s) good other kind (found c5) (c3 .before .if1 .left) (c3 .link-at .ensures) not-proof
 
 pub decide-of-link-spec : {M : Type 1} → statement M
 decide-of-link-spec =

@@ -3,7 +3,11 @@ use mathlib.Core.Path.{sym, ap, _∙_}
 use borrow.Author.Tests.{not-true, not-false}
 use borrow.Author.Needs.{needs}
 use Rattle.packet.specs.declared.Parts.{Parts}
-use Rattle.rules.specs.View.{pathPlace}
+use Rattle.rules.specs.View.{pathPlace, expiredPath}
+use Rattle.rules.specs.Ways.{noPath}
+use Rattle.rules.specs.declared.Blocked.{Blocked}
+use Rattle.rules.specs.declared.Reason.the-variants.{NoWayOn}
+use Rattle.plan.specs.declared.Decision.the-variants.{Drop}
 use Rattle.tables.proofs.Whole.{formed}
 use Rattle.tables.specs.Layout.{relayOf}
 use Rattle.outgoing.proofs.LeavingLaws.{whole, long}
@@ -63,12 +67,17 @@ parts-of-requires c κs =
 path-place-requires : tie.Need-path-place-requires
 path-place-requires c κs = sized (c .before .before .before .before .before .before .before) .size
 
+no-path-requires : tie.Need-no-path-requires
+no-path-requires c κs = sized (s1 (c .before)) .size
+
 returns-2 : tie.Need-returns-2
 returns-2 c =
-    let c1 = c .before in
+    let c1 = c .before .before in
     let s = s1 c1 in
     let (_, other, kind, proof) = s .pre in
-    path-nowhere (t s) (a s) other kind proof (two (c1 .before .before .before)) (found c1) (c .if2 .taken)
+    let why : Parts → Blocked = λ q. noPath (expiredPath (s .args .arrived .clock) (relayOf (t s)) (q .destination)) in
+    ap (λ (b : Blocked). Drop (NoWayOn b)) (c .no-path .ensures ∙ ap why (c1 .before .before .parts-of .ensures))
+    ∙ path-nowhere (t s) (a s) other kind proof (two (c1 .before .before .before)) (found c1) (c .before .if2 .taken)
 
 is-data-requires : tie.Need-is-data-requires
 is-data-requires c κs = search needs
@@ -81,10 +90,10 @@ returns-3 c =
     let c3 = c .before .before .before in
     let c4 = c3 .before in
     let s = s1 c4 in
-    let (judged, other, kind, proof) = s .pre in
+    let (_, other, kind, proof) = s .pre in
     let is = sym (c .before .before .is-data .ensures) ∙ c .before .if3 .taken in
     c .send .ensures
-    ∙ data-at (t s) (a s) other kind proof (two (c4 .before .before .before)) (found c4) (judged .readable) (sized s .size) (c3 .if2 .left) is
+    ∙ data-at (t s) (a s) other kind proof (two (c4 .before .before .before)) (found c4) (c3 .if2 .left) is
 
 request-requires : tie.Need-request-requires
 request-requires c κs = let c2 = c .before .before in (sized (s1 (c2 .before)), c2 .if2 .left)
@@ -94,10 +103,10 @@ returns-4 c =
     let c3 = c .before .before .before in
     let c4 = c3 .before in
     let s = s1 c4 in
-    let (judged, other, kind, proof) = s .pre in
+    let (_, other, kind, proof) = s .pre in
     let not-data = sym (c .before .before .is-data .ensures) ∙ c .before .if3 .left in
     c .request .ensures
-    ∙ request-at (t s) (a s) other kind proof (two (c4 .before .before .before)) (found c4) (judged .readable) (sized s .size) (c3 .if2 .left)
+    ∙ request-at (t s) (a s) other kind proof (two (c4 .before .before .before)) (found c4) (c3 .if2 .left)
     not-data
 
 pub decide-by-path-spec : {M : Type 1} → statement M
@@ -109,6 +118,7 @@ decide-by-path-spec =
     returns
     parts-of-requires
     path-place-requires
+    no-path-requires
     returns-2
     is-data-requires
     send-requires

@@ -47,8 +47,8 @@ returns : tie.Need-returns
 returns c =
     let c2 = c .before .before in
     let s = s1 c2 in
-    let (judged, kind, proof) = s .pre in
-    c .receipt .ensures ∙ return-at (t s) (a s) kind proof (found c2) (judged .readable) (c .before .if1 .taken)
+    let (_, kind, proof) = s .pre in
+    c .receipt .ensures ∙ return-at (t s) (a s) kind proof (found c2) (c .before .if1 .taken)
 
 returns-2 : tie.Need-returns-2
 returns-2 c =

@@ -1,5 +1,8 @@
 //! What calls reach, and how often.
 
+mod rates;
+mod reasons;
+
 use crate::answer::{Answer, Verdict};
 use crate::engine::{Call, Outcome, PacketCall};
 use crate::limits::{EXEMPT_CONTEXTS, HASH_LIFETIME, LONGEST};
@@ -8,21 +11,35 @@ use crate::relay::asking::{ALWAYS_TOLD, KINDS};
 use crate::rules::AsWritten;
 use crate::sha256::Sha256;
 use crate::tables::{self, HASHES};
+use rates::{Found, Rates};
+use reasons::Reasons;
 use std::collections::HashMap;
 
 /// How often each refusal, reason and verdict was reached, and packets that are exempt from test 2.
 #[derive(Default)]
 pub struct Coverage {
     pub calls: usize,
-    /// By number: refusals 1 to 11, reasons 1 to 14.
+    /// By number: refusals 1 to 11, reasons 1 to 15.
     pub refusals: [usize; 12],
-    pub reasons: [usize; 15],
+    pub reasons: [usize; 16],
     /// By `Verdict::index`.
     pub verdicts: [usize; 5],
     /// Calls without a packet that were done.
     pub done: usize,
     exempt: Exempt,
     asked: Asked,
+    pub files: Files,
+    rates: Rates,
+    split: Reasons,
+    /// Settings of the announce rate: those set, then refusals by number.
+    rate_settings: [usize; 10],
+}
+
+/// What a call finds: an exempt packet its hash in the ring, an announce its entry, any packet the expiries of its destination's paths.
+pub struct Before {
+    remembered: bool,
+    found: Option<Found>,
+    expiries: Vec<u64>,
 }
 
 /// Questions, by their answers.
@@ -33,6 +50,31 @@ struct Asked {
     /// Whether the signature word matters: refusals by number, then no and yes.
     refusals: [usize; 8],
     matters: [usize; 2],
+}
+
+/// Saves and loads by their refusals' numbers, 0 for none.
+#[derive(Default)]
+pub struct Files {
+    pub saves: [usize; 26],
+    pub loads: [usize; 26],
+}
+
+impl Files {
+    /// Each answer that can be given, in words, and how often it was.
+    pub fn reached(&self) -> Vec<(String, usize)> {
+        let saves = [0, 7, 25].map(|number| (format!("save: {}", answer(number)), self.saves[number]));
+        let loads = [0, 20, 21, 22, 24, 25].map(|number| (format!("load: {}", answer(number)), self.loads[number]));
+        saves.into_iter().chain(loads).collect()
+    }
+}
+
+/// A refusal's number in words.
+pub fn answer(refusal: usize) -> String {
+    if refusal == 0 {
+        "done".to_string()
+    } else {
+        format!("refusal {refusal}")
+    }
 }
 
 /// Exempt packets that were forwarded: those that came before within the time that a hash is remembered, and those whose hash was live in
@@ -57,7 +99,7 @@ impl Exempt {
 }
 
 impl Coverage {
-    /// Makes a call count; questions count by themselves.
+    /// Makes a call count; questions, saves, loads and settings of the announce rate count by themselves.
     pub fn count_call(&mut self, call: &Call, outcome: &Outcome) {
         match (call, outcome) {
             (Call::Ask { question, .. }, _) => {
@@ -66,17 +108,20 @@ impl Coverage {
             }
             (Call::Matters { .. }, Outcome::Matters(matters)) => self.asked.matters[usize::from(*matters)] += 1,
             (Call::Matters { .. }, Outcome::Refused(number)) => self.asked.refusals[usize::from(*number).min(7)] += 1,
+            (Call::Save { .. }, _) => self.files.saves[refusal(outcome)] += 1,
+            (Call::Load, _) => self.files.loads[refusal(outcome)] += 1,
+            (Call::SetAnnounceRate(_), _) => self.rate_settings[refusal(outcome).min(9)] += 1,
             _ => self.count(outcome),
         }
     }
 
-    /// Makes the outcome of a call that isn't a question count.
+    /// Makes the outcome of another call count.
     pub fn count(&mut self, outcome: &Outcome) {
         self.calls += 1;
         match outcome {
             Outcome::Refused(number) => self.refusals[usize::from(*number).min(11)] += 1,
             Outcome::Done => self.done += 1,
-            Outcome::Nothing | Outcome::Matters(_) => {}
+            Outcome::Nothing | Outcome::Matters(_) | Outcome::Saved(_) => {}
             Outcome::Judged(answer) => {
                 self.verdicts[answer.verdict.index()] += 1;
                 if let Verdict::Drop(reason) = answer.verdict {
@@ -86,16 +131,34 @@ impl Coverage {
         }
     }
 
-    /// Before a call: is it an exempt packet whose hash is live in these tables?
-    pub fn is_remembered(&self, call: &Call, tables: &[u8]) -> bool {
+    /// What is looked up before a call.
+    pub fn before(&mut self, call: &Call, tables: &[u8]) -> Before {
+        let expiries = self.split.before(call, tables);
+        Before { remembered: self.is_remembered(call, tables), found: Found::before(call, tables), expiries }
+    }
+
+    /// Makes a call count, with what was looked up before it.
+    pub fn after(&mut self, call: &Call, outcome: &Outcome, before: &Before) {
+        self.count_call(call, outcome);
+        self.count_exempt(call, outcome, before.remembered);
+        if let Some(found) = &before.found {
+            self.rates.count(found, outcome);
+        }
+        if let Outcome::Judged(Answer { verdict, .. }) = outcome {
+            self.split.count(call, &before.expiries, *verdict);
+        }
+    }
+
+    /// Is it an exempt packet whose hash is live in these tables?
+    fn is_remembered(&self, call: &Call, tables: &[u8]) -> bool {
         let Call::Packet(PacketCall { packet, clock, .. }) = call else { return false };
         let Some((_, hash)) = self.exempt.place(packet) else { return false };
         tables.len() == tables::SIZE && tables::find(&HASHES, tables, &hash, *clock).is_some()
     }
 
-    /// After a call: an exempt packet that was forwarded.
-    pub fn count_exempt(&mut self, call: &Call, outcome: &Outcome, remembered: bool) {
-        if matches!(call, Call::Fresh(_)) {
+    /// An exempt packet that was forwarded.
+    fn count_exempt(&mut self, call: &Call, outcome: &Outcome, remembered: bool) {
+        if matches!(call, Call::Fresh(_) | Call::Load) {
             self.exempt.forwarded.clear();
         }
         let Call::Packet(PacketCall { packet, clock, .. }) = call else { return };
@@ -106,13 +169,18 @@ impl Coverage {
         self.exempt.remembered[place] += usize::from(remembered);
     }
 
-    /// Each thing that can be reached, in words, and how often it was. Reason 14 can't be.
+    /// Each thing that can be reached, in words, and how often it was.
     pub fn reached(&self) -> Vec<(String, usize)> {
         let refusals = (1..=11).map(|number| (format!("refusal {number}"), self.refusals[number]));
-        let reasons = (1..=13).map(|number| (format!("drop {number}"), self.reasons[number]));
+        let reasons = (1..=13).chain([15]).map(|number| (format!("drop {number}"), self.reasons[number]));
         let words = ["drop", "deliver", "forward", "spread", "kept"];
         let verdicts = words.iter().zip(self.verdicts).map(|(word, times)| (word.to_string(), times));
-        refusals.chain(reasons).chain(verdicts).chain(self.reached_exempt()).collect()
+        refusals.chain(reasons).chain(self.split.reached()).chain(verdicts).chain(self.reached_exempt()).collect()
+    }
+
+    /// The clauses of test 3 and the cases of test 6 over lent tables, and what they are told of.
+    pub fn reached_reasons(&self) -> Vec<(String, usize)> {
+        self.split.reached_edges()
     }
 
     /// The same of questions to the tables. Some are never answered by none.
@@ -135,6 +203,16 @@ impl Coverage {
         answers.map(|(answer, times)| (format!("asked whether the signature word matters: {answer}"), times)).collect()
     }
 
+    /// The branches of test 15.
+    pub fn reached_rates(&self) -> Vec<(String, usize)> {
+        self.rates.reached()
+    }
+
+    /// The calls that set the announce rate.
+    pub fn reached_settings(&self) -> Vec<(String, usize)> {
+        [0, 7, 9].map(|number| (format!("announce rate set: {}", answer(number)), self.rate_settings[number])).to_vec()
+    }
+
     fn reached_exempt(&self) -> Vec<(String, usize)> {
         let line = |what: &str, times: &[usize; 6]| {
             let contexts = EXEMPT_CONTEXTS.iter().zip(times);
@@ -142,5 +220,14 @@ impl Coverage {
         };
         let again: Vec<_> = line("again within 300 s", &self.exempt.again);
         [again, line("with its hash in the ring", &self.exempt.remembered)].concat()
+    }
+}
+
+/// A refusal's number, 0 for none.
+fn refusal(outcome: &Outcome) -> usize {
+    if let Outcome::Refused(number) = outcome {
+        usize::from(*number)
+    } else {
+        0
     }
 }

@@ -1,11 +1,11 @@
-//! Recorded calls, for hosts in other languages. The first line says how many there are; then each is a line, as in any list of calls, and behind
-//! ` = ` stand the number that the library's function must return and the sum of all bytes that it must leave, both in hexadecimal. They are the
-//! independent relay's.
+//! Calls with their answers, for hosts in other languages. The first line says how many there are; then each is a line, as in any list of calls, and
+//! behind ` = ` stand the number that the library's function must return and the sum of all bytes that it must leave, both in hexadecimal. They are
+//! the independent relay's.
 
 use super::{listed, Options};
-use crate::engine::{Call, Engine, Outcome, Run};
-use crate::linked;
+use crate::engine::{encoded, Call, Engine, Outcome, Run};
 use crate::relay::Relay;
+use crate::traffic::Traffic;
 use std::path::Path;
 
 /// Takes bytes into a sum, eight at a time, little-endian, the last ones filled up with zeros. Each step is one-to-one in the sum and in the word, so
@@ -27,15 +27,18 @@ fn left_by(call: &Call, run: &Run<impl Engine>) -> u64 {
 
 fn number(call: &Call, outcome: &Outcome) -> u64 {
     match (call, outcome) {
-        (Call::Packet(call), _) => linked::encoded(outcome, &call.packet),
+        (Call::Packet(call), _) => encoded(outcome, &call.packet),
         (_, Outcome::Refused(number)) => u64::from(*number),
         _ => 0,
     }
 }
 
 /// Writes the calls that the options name, with what the independent relay makes of them.
-pub fn record(options: &Options, path: &Path) -> Result<usize, String> {
-    let calls: Vec<Call> = options.traffic().filter(Call::is_recorded).collect();
+pub fn write(options: &Options, path: &Path) -> Result<usize, String> {
+    let calls: Vec<Call> = match &options.list {
+        Some(list) => list.iter().filter(|call| call.is_for_hosts()).cloned().collect(),
+        None => Traffic::for_hosts(options.seed).take(options.calls).filter(Call::is_for_hosts).collect(),
+    };
     let mut run = Run::new(Relay::as_written());
     let lines = calls.iter().map(|call| match run.make(call) {
         Some(outcome) => format!("{call} = {:x} {:016x}", number(call, &outcome), left_by(call, &run)),

@@ -1,0 +1,39 @@
+//! Saved files made for a test: contents of any bodies, and what an older program would have saved.
+
+use crate::saved::editions::{lengths, records, CURRENT, EDITIONS};
+use crate::saved::{contents, loading, CONTENTS, KIND};
+
+/// The contents of a file whose bodies have these lengths.
+pub fn contents_of(edition: u8, lengths: &[usize]) -> Vec<u8> {
+    let mut bytes = vec![KIND, edition];
+    bytes.extend((lengths.len() as u16).to_be_bytes());
+    let mut offset = contents(lengths.len());
+    for length in lengths {
+        bytes.extend((offset as u32).to_be_bytes());
+        bytes.extend((*length as u16).to_be_bytes());
+        offset += length;
+    }
+    bytes
+}
+
+/// A file of the current edition without the fields that were added since an older one. Any other file stays.
+pub fn aged(file: &[u8], edition: u8) -> Vec<u8> {
+    let whole = !loading::saved_length_refused(file) && loading::entries(file).map(|(_, length)| length).eq(lengths(CURRENT));
+    if !whole || file[..2] != [KIND, CURRENT] || !(1..=CURRENT).contains(&edition) {
+        return file.to_vec();
+    }
+    let mut rest = &file[CONTENTS..];
+    let mut bodies: Vec<Vec<u8>> = lengths(CURRENT).map(|length| rest.split_off(..length).expect("a body").to_vec()).to_vec();
+    for added in EDITIONS[usize::from(edition)..].iter().rev().copied().flatten().rev() {
+        bodies[added.body] = without(&bodies[added.body], added.body, added.at, added.unsaved.len());
+    }
+    [contents_of(edition, &lengths(edition)), bodies.concat()].concat()
+}
+
+/// A body whose records lose some bytes at a place.
+fn without(bytes: &[u8], body: usize, at: usize, length: usize) -> Vec<u8> {
+    let (head, count) = records(body);
+    let (first, rest) = bytes.split_at(head);
+    let record = |record: &[u8]| [&record[..at], &record[at + length..]].concat();
+    [first.to_vec(), rest.chunks_exact(rest.len() / count).flat_map(record).collect()].concat()
+}
