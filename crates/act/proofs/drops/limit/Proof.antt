@@ -51,7 +51,8 @@ returns c =
     let c2 = c .before .before in
     let c7 = c2 .before .before .before .before .before in
     let s = s1 c7 in
-    limit-left _ (s .args .arrived) _ (s .pre .formed) (known-bytes (s .args .tables .now) (c7 .before .before .before .before .slice-known .given)) _ (found c7)
+    limit-left _ (s .args .arrived) _ (s .pre .formed)
+    (known-bytes (s .args .tables .now) (c7 .before .before .before .before .slice-known .given)) _ (found c7)
     (c2 .before .before .before .before .if1 .taken) _ _ (c2 .before .before .dropped-entry .ensures) (c2 .put-rate .ensures)
 
 same-length-2 : tie.Need-same-length-2
@@ -61,7 +62,8 @@ returns-2 : tie.Need-returns-2
 returns-2 c =
     let c1 = c .before in
     let s = s1 c1 in
-    limit-none _ (s .args .arrived) _ (s .pre .formed) (known-bytes (s .args .tables .now) (c1 .before .before .before .before .slice-known .given)) _ (found c1)
+    limit-none _ (s .args .arrived) _ (s .pre .formed)
+    (known-bytes (s .args .tables .now) (c1 .before .before .before .before .slice-known .given)) _ (found c1)
     (c .if1 .left)
 
 pub limit-spec : {M : Type 1} → statement M
