@@ -1,11 +1,11 @@
 //! The kinds of packet calls: each puts the records that it needs into a scene's tables and says what must be answered.
 
-use crate::scene::{hash_of, Scene, OWN};
+use crate::scene::{hash_of, Scene, CLOCK, OWN};
 use haskumye_independent::answer::{Reason, Refusal, Verdict};
 use haskumye_independent::limits;
 use haskumye_independent::packet::{announced, Address, START_1};
 use haskumye_independent::sha256::Sha256;
-use haskumye_independent::tables::{link, path, returned, BLOB, HASHES, LINKS, PATHS, RETURNS};
+use haskumye_independent::tables::{link, path, returned, AnnounceRate, RateEntry, BLOB, HASHES, LINKS, PATHS, RETURNS};
 
 /// The port that data and requests come in by, and the one they leave by; what answers them goes the other way.
 const ARRIVAL: u8 = 1;
@@ -46,6 +46,7 @@ pub const KINDS: &[(&str, Kind)] = &[
     ("announce, new path, spread", announce_new),
     ("announce, known path, spread", announce_known),
     ("announce, replay (drop 10)", announce_again),
+    ("announce, too often (drop 15)", announce_too_often),
     ("link request, onward", link_request),
     ("link proof", link_proof),
     ("link data to the answering side", link_data_asking),
@@ -112,12 +113,13 @@ fn announce_new(scene: &mut Scene) -> Call {
     arriving(announce(scene, 5).0, Verdict::Spread(OTHERS))
 }
 
-/// A path that holds all blobs it can, of emissions from 1 on.
+/// A path that holds all blobs it can, of emissions from 1 on, announced now and never too often.
 fn known_path<'a>(scene: &'a mut Scene, destination: &Address) -> &'a mut [u8] {
     let record = scene.put(&PATHS, destination, &[(path::HOPS, 1)]);
     for (blob, emission) in record[path::BLOBS..].chunks_exact_mut(BLOB).zip(1u64..) {
         blob[5..].copy_from_slice(&emission.to_be_bytes()[3..]);
     }
+    RateEntry { last: CLOCK, violations: 0, blocked_until: 0 }.write(record);
     record
 }
 
@@ -131,6 +133,12 @@ fn announce_again(scene: &mut Scene) -> Call {
     let (packet, destination) = announce(scene, limits::BLOB_LIMIT as u64);
     known_path(scene, &destination)[path::WIDTH - BLOB..].copy_from_slice(&packet[START_1..][announced::BLOB]);
     arriving(packet, Verdict::Drop(Reason::Replay))
+}
+
+/// In the second of the one before, which no grace allows.
+fn announce_too_often(scene: &mut Scene) -> Call {
+    AnnounceRate { target: 60, grace: 0, penalty: 600 }.write(&mut scene.tables);
+    Call { expected: Ok(Verdict::Drop(Reason::TooOften)), ..announce_known(scene) }
 }
 
 /// The same announce within 300 s of the first.
