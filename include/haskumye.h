@@ -390,8 +390,8 @@ HASKUMYE_CHECKED uint8_t haskumye_set_port(uint8_t *tables, size_t length, uint6
 
 /*
  * Sets how often every destination may announce itself. An announce under `target` seconds after the last accepted one
- * is a violation; one that makes more than `grace` of them is dropped by 15, and so are all until `target` and `penalty`
- * seconds after that last one. A target of 0, as a fresh relay has, makes none. Paths stay, blocked ones too.
+ * is a violation. One that makes more than `grace` of them is dropped by 15, and so are all until `target` and
+ * `penalty` seconds after that last one. A target of 0, as a fresh relay has, makes none. Paths stay, blocked ones too.
  * Refusals: 7, 9.
  */
 HASKUMYE_CHECKED uint8_t haskumye_set_announce_rate(uint8_t *tables, size_t length, uint64_t target, uint64_t grace,

@@ -25,8 +25,10 @@ use Rattle.rules.specs.Tests.{isThere, noRoom}
 use Rattle.rules.specs.Answers.{portSet}
 use Rattle.rules.specs.Outgoing.{spreadPorts, spreadPacket, outgoing, exceeds}
 use Rattle.rules.specs.Judging.{Plan, follows, spreadVerdict, wayVerdict, verdict, leaves, outputAfter}
-use Rattle.rules.specs.Writes.{announcedPlace, writePlan}
+use Rattle.rules.specs.Rate.{entryAccepted}
+use Rattle.rules.specs.Writes.{announcedRate, announcedPlace, writePlan}
 use Rattle.rules.specs.declared.Link.{Link}
+use Rattle.rules.specs.declared.RateEntry.{RateEntry}
 use Rattle.rules.specs.declared.Verdict.{Verdict}
 use Rattle.rules.specs.declared.Verdict.the-variants.{Spread, Kept}
 use Rattle.rules.proofs.Choices.{either}
@@ -41,9 +43,10 @@ use Rattle.outgoing.specs.Leaving.{CanLeave, spreadLength}
 use Rattle.outgoing.proofs.RuleLaws.{spread-exceeds}
 use Rattle.plan.specs.declared.Arrived.{Arrived}
 use Rattle.plan.specs.declared.Decision.the-variants.{Announce}
-use Rattle.plan.specs.Decided.{seen, arrivalOf, decision}
+use Rattle.plan.specs.Decided.{CanKnow, seen, arrivalOf, pathAt, decision}
 use Rattle.plan.proofs.KindLaws.{announce-long}
-use Rattle.act.specs.Stored.{blobsStored, pathPut}
+use Rattle.plan.proofs.AnnounceLaws.{can-know}
+use Rattle.act.specs.Stored.{blobsStored, rateStored, pathPut}
 use Rattle.act.specs.Acted.{AcceptedOn, planOn, verdictOn, writtenOn, outputOn, CarriesOut, spreadOn, spreadVerdictOn, announcedBy}
 use Rattle.rules.proofs.Passed.{passed}
 use Rattle.act.proofs.Inverted.{inverted, at-place}
@@ -159,16 +162,39 @@ module _ (packet : List ℕ) (m : Arrived) (t : List ℕ) (ok : AcceptedOn packe
   pub announce-room : place < pathCount
   announce-room = let k = inverted r a (Announce place known) d in placed (k .0) (k .1) (k .2)
 
-  module _ (x : Announced) (blob : List ℕ) (set : x ≡ announcedBy v a) (is : blob ≡ blobOf (payload packet)) where
-    set-by : Announces v a x blob
+  -- a known path is the one at the place
+  known-at : (p : Path) → planOn packet m t ≡ follows (everywhere (used p)) → place ≡ announcedPlace a (used p) r → p ≡ pathAt t place
+  unfolding announcedPlace
+  known-at p e at =
+      at-place place pathCount (shown (used p) e) (path-found t (m .clock) (destination a) place at) (path-missing t (m .clock) (destination a) place at) .1
+
+  knowable : (s : Slot Path) → place ≡ announcedPlace a s r → isThere s ≡ known → known ≡ true → CanKnow t place
+  unfolding announcedPlace isThere
+  knowable empty at there is = absurd (false≢true (there ∙ is))
+  knowable (used p) at there is = can-know t (m .clock) (destination a) place at (ok .formed) announce-room
+
+  pub announce-known : known ≡ true → CanKnow t place
+  announce-known is = let k = inverted r a (Announce place known) d in knowable (k .0) (k .2) (k .3) is
+
+  module _ (x : Announced) (blob : List ℕ) (rate : RateEntry) (set : x ≡ announcedBy v a rate) (rated : rate ≡ rateStored t place known (m .clock))
+      (is : blob ≡ blobOf (payload packet)) where
+    rate-stored : (s : Slot Path) → planOn packet m t ≡ follows (everywhere s) → place ≡ announcedPlace a s r → isThere s ≡ known
+        → rateStored t place known (m .clock) ≡ announcedRate v a s
+    unfolding rateStored announcedRate isThere viewAt
+    rate-stored empty e at there = then-false _ _ (sym there)
+    rate-stored (used p) e at there =
+        then-true _ _ (sym there) ∙ ap (λ (q : Path). entryAccepted (r .rate) (m .clock) (q .rate)) (sym (known-at p e at))
+
+    set-by : (s : Slot Path) → planOn packet m t ≡ follows (everywhere s) → place ≡ announcedPlace a s r → isThere s ≡ known → Announces v a s x blob
     unfolding announcedBy
-    set-by =
+    set-by s e at there =
         record {
           destination-is = ap (λ (y : Announced). y .destination) set;
           port-is = ap (λ (y : Announced). y .port) set;
           hops-are = ap (λ (y : Announced). y .hops) set;
           next-hop-is = ap (λ (y : Announced). y .«next_hop») set;
           expiry-is = ap (λ (y : Announced). y .expiry) set;
+          rate-is = ap (λ (y : Announced). y .rate) set ∙ rated ∙ rate-stored s e at there;
           blob-is = is;
         }
 
@@ -176,10 +202,10 @@ module _ (packet : List ℕ) (m : Arrived) (t : List ℕ) (ok : AcceptedOn packe
         → (u : List ℕ) → u ≡ pathPut t place known x blob → u ≡ bytesOf (writePlan v a (follows (everywhere s)) r)
     unfolding announcedPlace isThere pathPut blobsStored viewAt writePlan
     path-left empty e at there b u q =
-        new-path-written v a t b (ok .formed) x blob set-by place announce-room u at
+        new-path-written v a t b (ok .formed) x blob place announce-room (set-by empty e at there) u at
         (q ∙ ap (λ (y : Blobs). pathWritten t place (announced x y)) (then-false _ _ (sym there)))
     path-left (used p) e at there b u q =
-        known-path-written v a t b (ok .formed) x blob set-by place announce-room p u at
+        known-path-written v a t b (ok .formed) x blob place announce-room p (set-by (used p) e at there) u at
         (ap (λ (n : ℕ). getD (r .paths) n empty) at ∙ shown (used p) e)
         (q ∙ ap (λ (y : Blobs). pathWritten t place (announced x y)) (then-true _ _ (sym there)))
 

@@ -11,7 +11,9 @@ use Rattle.rules.specs.View.{View}
 use Rattle.rules.specs.Arrival.{Arrival, hops, destination}
 use Rattle.rules.specs.Outgoing.{spreadPorts, spreadPacket, pathPacket}
 use Rattle.rules.specs.Judging.{Plan, plan, spreadVerdict, verdict, outputAfter}
-use Rattle.rules.specs.Writes.{remembers, nextHopOf, pathExpiry, writePlan, enact}
+use Rattle.rules.specs.Writes.{remembers, nextHopOf, pathExpiry, limitPath, writeDrop, writePlan, enact}
+use Rattle.rules.specs.declared.RateEntry.{RateEntry}
+use Rattle.rules.specs.declared.Reason.{Reason}
 use Rattle.rules.specs.declared.Verdict.{Verdict}
 use Rattle.tables.specs.Layout.{relayOf, bytesOf, wellFormed}
 use Rattle.update.specs.declared.Announced.{Announced}
@@ -62,6 +64,13 @@ abbrev pub Acts : List ℕ → Arrived → List ℕ → List ℕ → Verdict →
 Acts packet m t output verdict t′ output′ =
     (verdict ≡ verdictOn packet m t) × (t′ ≡ tablesOn packet m t) × (output′ ≡ outputOn packet m t output)
 
+-- ---- what a drop by test 15 leaves, and one for any reason
+unfoldable pub limitedOn : List ℕ → Arrived → List ℕ → List ℕ
+limitedOn packet m t = bytesOf (limitPath (seen m t) (arrivalOf packet m) (seen m t .path (destination (arrivalOf packet m))) (relayOf t))
+
+unfoldable pub droppedOn : List ℕ → Arrived → Reason → List ℕ → List ℕ
+droppedOn packet m reason t = bytesOf (writeDrop (seen m t) (arrivalOf packet m) reason (relayOf t))
+
 -- ---- what leaves
 -- by the path at a place
 abbrev pub forwardedOn : List ℕ → List ℕ → ℕ → List ℕ
@@ -75,12 +84,13 @@ abbrev pub spreadVerdictOn : List ℕ → Arrived → List ℕ → Verdict
 spreadVerdictOn packet m t = spreadVerdict (spreadPorts (seen m t) (arrivalOf packet m)) (spreadOn packet t)
 
 -- what an announce sets of its path, beside the blob
-unfoldable pub announcedBy : View → Arrival → Announced
-announcedBy v a =
+unfoldable pub announcedBy : View → Arrival → RateEntry → Announced
+announcedBy v a rate =
     record {
       destination = destination a;
       port = a .port;
       hops = hops a;
       «next_hop» = nextHopOf (a .bytes);
       expiry = pathExpiry v a;
+      rate = rate;
     }

@@ -11,13 +11,16 @@ use Rattle.numbers.specs.Numbers.{blobLimit, hashLifetime, returnLifetime}
 use Rattle.rules.specs.Relay.{Blobs}
 use Rattle.rules.specs.Exempt.{exempt}
 use Rattle.rules.specs.Blobs.{oneBlob, addBlob}
+use Rattle.rules.specs.Rate.{startsAt, entryAccepted}
 use Rattle.rules.specs.Writes.{remembersDrop}
 use Rattle.tables.specs.Places.{pathsAt, pathWidth}
 use Rattle.tables.specs.Records.{blobsOf}
 use Rattle.tables.specs.Layout.{recordAt, relayOf}
 use Rattle.update.specs.declared.Announced.{Announced}
 use Rattle.update.specs.Written.{clockWritten, hashWritten, announced, pathWritten, returnWritten, returnsEmptied}
+use Rattle.rules.specs.declared.RateEntry.{RateEntry}
 use Rattle.plan.specs.declared.Decision.{Decision}
+use Rattle.plan.specs.Decided.{pathAt}
 use Rattle.plan.specs.declared.Decision.the-variants.{Drop, Deliver, Announce, Data, Request, Carry, Receipt}
 
 -- ---- the stamp
@@ -48,6 +51,12 @@ blobsStored t place known blob =
     known
     then addBlob blobLimit blob (blobsOf (recordAt pathsAt pathWidth t place))
     otherwise oneBlob blobLimit blob
+
+unfoldable pub rateStored : List ℕ → ℕ → Bool → ℕ → RateEntry
+rateStored t place known clock =
+    known
+    then entryAccepted (relayOf t .rate) clock (pathAt t place .rate)
+    otherwise startsAt clock
 
 unfoldable pub pathPut : List ℕ → ℕ → Bool → Announced → List ℕ → List ℕ
 pathPut t place known path blob = pathWritten t place (announced path (blobsStored t place known blob))

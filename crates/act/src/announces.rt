@@ -5,6 +5,7 @@ use numbers::PORT_COUNT;
 use numbers::ROAMING_LIFETIME;
 use packet::LONGEST_PACKET;
 use plan::Arrived;
+use rules::RateEntry;
 use rules::Verdict;
 use update::Announced;
 ghost use mathlib.Core.Path.{_≡_};
@@ -25,8 +26,8 @@ ghost use Rattle.tables.specs.Places.{tableSize};
 ghost use Rattle.tables.specs.Layout.{relayOf};
 ghost use Rattle.outgoing.specs.Leaving.{CanLeave};
 ghost use Rattle.plan.specs.declared.Decision.the-variants.{Announce};
-ghost use Rattle.plan.specs.Decided.{arrivalOf, CanRead, seen};
-ghost use Rattle.act.specs.Stored.{pathPut};
+ghost use Rattle.plan.specs.Decided.{arrivalOf, CanRead, CanKnow, seen};
+ghost use Rattle.act.specs.Stored.{rateStored, pathPut};
 ghost use Rattle.act.specs.Acted.{CanCarryOut, CarriesOut, spreadOn, spreadVerdictOn, announcedBy};
 
 // The number of ports as a byte.
@@ -57,10 +58,31 @@ fn next_hop_of(packet: &[u8]) -> [u8; 16]
     parts.destination
 }
 
+// Last accepted announce, violations and blocked-until of its path: a new one starts with none.
+fn announced_rate(tables: &[u8], clock: u64, place: usize, known: bool) -> RateEntry
+    requires { ⌜ (length (now tables) ≡ tableSize) × (known ≡ true → CanKnow (now tables) place) ⌝ }
+    ensures { λ r. ⌜ r ≡ rateStored (now (tables .entry)) place known clock ⌝ }
+{
+    if known {
+        let rated = plan::rate_at(tables, place, clock);
+        return RateEntry {
+            last: clock,
+            violations: rated.violations,
+            blocked_until: rated.blocked_until,
+        };
+    }
+    RateEntry {
+        last: clock,
+        violations: 0,
+        blocked_until: 0,
+    }
+}
+
 // What the announce sets of its path.
-fn announced_path(tables: &[u8], packet: &[u8], arrived: Arrived) -> Announced
+fn announced_path(tables: &[u8], packet: &[u8], arrived: Arrived, rate: RateEntry) -> Announced
     requires { ⌜ CanRead (now packet) (now tables) × (arrived .port < portCount) × (arrived .clock < clockLimit) ⌝ }
-    ensures { λ r. ⌜ r ≡ announcedBy (seen arrived (now (tables .entry))) (arrivalOf (now (packet .entry)) arrived) ⌝ }
+    ensures { λ r. ⌜ r
+        ≡ announcedBy (seen arrived (now (tables .entry))) (arrivalOf (now (packet .entry)) arrived) rate ⌝ }
 {
     let parts = packet::parts_of(packet);
     let destination = parts.destination;
@@ -72,6 +94,7 @@ fn announced_path(tables: &[u8], packet: &[u8], arrived: Arrived) -> Announced
         hops: parts.hops,
         next_hop,
         expiry: arrived.clock + lifetime,
+        rate,
     }
 }
 
@@ -135,7 +158,8 @@ pub fn announce(
         r (now (tables .exit)) (now (output .exit)) ⌝ }
 {
     let verdict = spread(packet, tables, arrived, output);
-    let path = announced_path(tables, packet, arrived);
+    let rate = announced_rate(tables, arrived.clock, place, known);
+    let path = announced_path(tables, packet, arrived, rate);
     let blob = packet::blob(packet::payload(packet));
     put_path(tables, place, known, path, blob);
     verdict

@@ -2,12 +2,14 @@
 // Entry points: none. Every function is a helper of the packet call: the caller shows that the packet is accepted, and
 // what was decided.
 mod announces;
+mod drops;
 mod links;
 mod paths;
 mod returns;
 mod stamps;
 
 use announces::announce;
+use drops::drop_packet;
 use links::carry;
 use paths::request;
 use paths::send;
@@ -37,7 +39,7 @@ fn carry_out(
         r (now (tables .exit)) (now (output .exit)) ⌝ }
 {
     match decision {
-        Decision::Drop(reason) => Verdict::Drop(reason),
+        Decision::Drop(reason) => drop_packet(packet, arrived, reason, tables),
         Decision::Deliver => Verdict::Deliver,
         Decision::Announce { place, known } => {
             announce(packet, arrived, place, known, tables, output)

@@ -13,14 +13,14 @@ ghost use Rattle.rules.specs.Writes.{remembersDrop};
 ghost use Rattle.tables.specs.Places.{tableSize};
 ghost use Rattle.act.specs.Stored.{remembersDecided, stamped};
 
+// Drops up to this one remember nothing.
+const DUPLICATE: u8 = 2;
+
 // Whether the hash of a dropped packet is remembered.
 fn remembers_drop(reason: Reason) -> bool
     ensures { λ r. ⌜ r ≡ remembersDrop reason ⌝ }
 {
-    match reason {
-        Reason::NotOurs | Reason::Duplicate => false,
-        _ => true,
-    }
+    plan::reason_number(reason) > DUPLICATE
 }
 
 // Whether the packet's hash is remembered: an exempt packet's is not, whatever was decided.

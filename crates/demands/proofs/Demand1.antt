@@ -21,15 +21,15 @@ use Rattle.packet.specs.Write.{leastOutput, packetOf, writingRows, writingRefus
 use Rattle.packet.specs.Hash.{packetHashAnswer, linkIdAnswer}
 use Rattle.packet.specs.declared.Parts.{Parts}
 use Rattle.numbers.specs.Numbers.{portCount, localCount, modeCount, clockLimit}
-use Rattle.rules.specs.Relay.{Port, Slot, empty, used, Relay}
+use Rattle.rules.specs.Relay.{makeRateSettings, Port, Slot, empty, used, Relay}
 use Rattle.rules.specs.View.{portOn, isLocal}
 use Rattle.rules.specs.Renumbering.{oneToOne}
 use Rattle.rules.specs.Arrival.{Arrival}
-use Rattle.rules.specs.Refusals.{tablesOk, emptyLocal, packetRows, refusalBy, packetRefusal}
+use Rattle.rules.specs.Refusals.{rateSettingsOk, tablesOk, emptyLocal, packetRows, refusalBy, packetRefusal}
 use Rattle.octets.specs.Listed.{firstOf}
 use Rattle.rules.specs.Calls.{Setting, packetCall, judge, judged, settled, ruleOf, tableRefusal, settle}
-use Rattle.rules.specs.Run.{Call, packet, on-tables, asks, saves, loads, port-setting, adding, removing, renumbering, answered, saveReply}
-use Rattle.rules.specs.Questions.{Question, port-settings, local-at, path-at, link-at, live-path, live-returns, live-hashes, last-clock, word-matters, Told, none, a-port, an-address, a-path, a-link, cameWith, toldOf, rowSeven, questionRule, questionRefusal, tell}
+use Rattle.rules.specs.Run.{Call, packet, on-tables, asks, saves, loads, port-setting, rate-setting, adding, removing, renumbering, answered, saveReply}
+use Rattle.rules.specs.Questions.{Question, port-settings, rate-settings, local-at, path-at, link-at, live-path, live-returns, live-hashes, last-clock, word-matters, Told, none, a-port, an-address, a-path, a-link, cameWith, toldOf, rowSeven, questionRule, questionRefusal, tell}
 use Rattle.rules.specs.declared.Answer.the-variants.{Refused}
 use Rattle.rules.specs.declared.Tally.{Tally}
 use Rattle.tables.specs.Places.{tableSize}
@@ -79,6 +79,7 @@ port-given false p = refl
 answer-given : (q : Question) (r : Relay) → isRefused (questionRule q .answer r) ≡ false
 unfolding questionRule isRefused _then_otherwise_
 answer-given (port-settings port) r = port-given (leb portCount port) _
+answer-given rate-settings r = refl
 answer-given (local-at place) r = slot-given an-address (λ _. refl) _
 answer-given (path-at place) r = slot-given a-path (λ _. refl) _
 answer-given (link-at place) r = slot-given a-link (λ _. refl) _
@@ -177,6 +178,13 @@ pub port-rows : (port : ℕ) (on : Bool) (mode : ℕ) (tables : List ℕ)
 unfolding refusalOn afterSeven refusal tableRefusal ruleOf firstOf
 port-rows port on mode tables = after-seven tables _
 
+-- setting the announce rate: 7, 9
+pub rate-rows : (target grace penalty : ℕ) (tables : List ℕ)
+    → refusalOn (rate-setting target grace penalty) tables
+    ≡ (not (wellFormed tables) then 7 otherwise not (rateSettingsOk (makeRateSettings target grace penalty)) then 9 otherwise 0)
+unfolding refusalOn afterSeven refusal tableRefusal ruleOf firstOf
+rate-rows target grace penalty tables = after-seven tables _
+
 -- adding a local address: 7, 11, 10
 pub adding-rows : (address tables : List ℕ)
     → refusalOn (adding address) tables
@@ -219,6 +227,7 @@ load-rows file tables = refl
 pub question-rows : (tables : List ℕ)
     → (let seven : ℕ = not (wellFormed tables) then 7 otherwise 0 in
     ((port : ℕ) → refusalOn (asks (port-settings port)) tables ≡ seven)
+    × (refusalOn (asks rate-settings) tables ≡ seven)
     × ((place : ℕ) → refusalOn (asks (local-at place)) tables ≡ seven)
     × ((place : ℕ) → refusalOn (asks (path-at place)) tables ≡ seven)
     × ((place : ℕ) → refusalOn (asks (link-at place)) tables ≡ seven)
@@ -229,7 +238,7 @@ pub question-rows : (tables : List ℕ)
 unfolding refusalOn afterSeven refusal questionRefusal questionRule rowSeven firstOf
 question-rows tables =
     let row = after-seven tables 0 in
-    (λ port. row, λ place. row, λ place. row, λ place. row, λ destination clock. row, λ clock. row, λ clock. row, row)
+    (λ port. row, row, λ place. row, λ place. row, λ place. row, λ destination clock. row, λ clock. row, λ clock. row, row)
 
 -- whether the signature word matters: as the packet, whatever its word
 pub word-rows : (bytes : List ℕ) (port clock : ℕ) (word : Bool) (output tables : List ℕ)

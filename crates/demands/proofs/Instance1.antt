@@ -12,7 +12,7 @@ use Rattle.octets.proofs.Bytes.{nil-bytes}
 use Rattle.rules.specs.Relay.{used, Relay, makeRelay}
 use Rattle.rules.specs.Calls.{newTally, ruleOf}
 use Rattle.rules.specs.Saved.{saveRefusal}
-use Rattle.rules.specs.Run.{Call, packet, asks, port-setting, adding, removing, renumbering, Reply, numbered}
+use Rattle.rules.specs.Run.{Call, packet, asks, port-setting, rate-setting, adding, removing, renumbering, Reply, numbered}
 use Rattle.rules.specs.Questions.{last-clock, word-matters}
 use Rattle.rules.specs.declared.Tally.{Tally}
 use Rattle.rules.proofs.Unfolding.{rules}
@@ -84,7 +84,7 @@ seven-asked = by-row [] (λ i. lit< tt) (asks last-clock) 7 refl refl
 -- sixteen local addresses
 abbrev fullRelay : Relay
 fullRelay =
-    makeRelay own 0 (preparedRelay .ports) (replicate 16 (used guest))
+    makeRelay own 0 (preparedRelay .rate) (preparedRelay .ports) (replicate 16 (used guest))
     (preparedRelay .paths) (preparedRelay .links) (preparedRelay .returns) (preparedRelay .hashes)
 
 full : Held fullRelay
@@ -95,10 +95,10 @@ pub ten : RefusedOn (bytesOf fullRelay) (adding own) 10
 unfolding CallBytes ruleOf isBytes isByte refusal rules
 ten = by-row (bytesOf fullRelay) (bytes-bytes fullRelay (full .shape) (full .ok)) (adding own) 10 (row-of full (adding own) refl refl) refl
 
-short-room : refusal (saving (replicate 71191 0xee)) midwayRelay ≡ 25
+short-room : refusal (saving (replicate 72291 0xee)) midwayRelay ≡ 25
 unfolding refusal saveRefusal rules
 short-room =
-    ap (λ (n : ℕ). saveRefusal savedFormat n midwayRelay) (length-replicate {A = ℕ} 71191 0xee)
+    ap (λ (n : ℕ). saveRefusal savedFormat n midwayRelay) (length-replicate {A = ℕ} 72291 0xee)
 
 -- row 7 is a save's too
 pub seven-saved : RefusedOn [] (saving []) 7
@@ -114,13 +114,16 @@ pub rows : Refused (packet (arrival (receiptBytes 5) 2500 1) (replicate 499 0xee
     × Refused (arrives (take 34 dataBytes) 2500 1) 1
     × Refused (port-setting 16 true 0) 9
     × Refused (port-setting 0 true 3) 9
+    × Refused (rate-setting 86401 0 0) 9
+    × Refused (rate-setting 0 255 0) 9
+    × Refused (rate-setting 0 0 604801) 9
     × Refused (adding guest) 11
     × Refused (removing own) 11
     × Refused (renumbering []) 8
     × Refused (asks (word-matters (receiptBytes 5) 1 2500 499)) 6
     × Refused (asks (word-matters (receiptBytes 5) 77 2500 500)) 4
     × Refused (asks (word-matters (take 34 dataBytes) 1 2500 500)) 1
-    × Refused (saving (replicate 71191 0xee)) 25
+    × Refused (saving (replicate 72291 0xee)) 25
     × Refused (loading []) 20
 unfolding CallBytes ruleOf isBytes isByte refusal rules saidBy computing
 rows = (
@@ -131,6 +134,9 @@ rows = (
   refused _ 2 refl refl refl,
   refused _ 3 refl refl refl,
   refused _ 1 refl refl refl,
+  refused _ 9 refl refl refl,
+  refused _ 9 refl refl refl,
+  refused _ 9 refl refl refl,
   refused _ 9 refl refl refl,
   refused _ 9 refl refl refl,
   refused _ 11 refl refl refl,

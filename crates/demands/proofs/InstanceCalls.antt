@@ -11,17 +11,18 @@ use Rattle.octets.specs.Listed.{firstOf}
 use Rattle.octets.proofs.Choice.{eq-same}
 use Rattle.octets.proofs.Bytes.{nil-bytes}
 use Rattle.packet.specs.Hash.{packetHash}
-use Rattle.rules.specs.Relay.{freshPort, makePort, Port, makeRelay, empty, used, Relay, fresh, withPathPort}
+use Rattle.rules.specs.Relay.{freshPort, makeRateSettings, makePort, Port, makeRelay, empty, used, Relay, fresh, withPathPort}
 use Rattle.rules.specs.View.{viewAt}
 use Rattle.rules.specs.Refusals.{all, tableOk, tablesOk}
 use Rattle.rules.specs.Saved.{saveRefusal}
 use Rattle.rules.specs.Judging.{Plan}
 use Rattle.rules.specs.Calls.{newTally, packetCall, ruleOf}
-use Rattle.rules.specs.Questions.{path-at, link-at, word-matters, Told, none, a-path, yes-or-no, cameWith, tell}
-use Rattle.rules.specs.Run.{EachCall, Call, asks, port-setting, adding, removing, renumbering, Reply, answered, numbered, told, saved, unsaved, saveReply, Outcome, ofSetting, ofTold, perform, replies, relayAfter, tallyAfter, noCall, setsRelay, noneLoads}
+use Rattle.rules.specs.Questions.{rate-settings, a-rate, path-at, link-at, word-matters, Told, none, a-path, yes-or-no, cameWith, tell}
+use Rattle.rules.specs.Run.{EachCall, Call, asks, port-setting, rate-setting, adding, removing, renumbering, Reply, answered, numbered, told, saved, unsaved, saveReply, Outcome, ofSetting, ofTold, perform, replies, relayAfter, tallyAfter, noCall, setsRelay, noneLoads}
 use Rattle.rules.specs.declared.Reason.the-variants.{Duplicate}
 use Rattle.rules.specs.declared.Verdict.the-variants.{Drop}
 use Rattle.rules.specs.declared.Answer.the-variants.{Refused, Judged}
+use Rattle.rules.specs.declared.RateSettings.{RateSettings}
 use Rattle.rules.specs.declared.Tally.{Tally}
 use Rattle.rules.proofs.Unfolding.{rules}
 use Rattle.rules.proofs.Shortcut.{passes, seen-quick, goodPlan, plan-good, goodJudge}
@@ -42,7 +43,7 @@ guest = replicate 16 0x0b
 
 -- eight bytes more than a file has
 abbrev pub room : List ℕ
-room = replicate 71200 0xee
+room = replicate 72300 0xee
 
 abbrev pub before : List Call
 before =
@@ -68,11 +69,15 @@ laterBy from port =
     ∷ renumbering []
     ∷ arrives (receiptBytes 5) 2500 from
     ∷ arrives (receiptBytes 5) 2500 from
+    ∷ rate-setting 3600 5 7200
+    -- a target over a day: 9
+    ∷ rate-setting 86401 5 7200
     ∷ port-setting port true 1
     -- no port: 9
     ∷ port-setting 77 true 1
     ∷ removing guest
-    -- the path; whether the announce's signature would matter, now that it is remembered no more; and what is no place
+    -- the announce rate; the path; whether the announce's signature would matter, now that it is remembered no more; and what is no place
+    ∷ asks rate-settings
     ∷ asks (path-at 0)
     ∷ asks (word-matters announceBytes from 3000 500)
     ∷ asks (link-at 64)
@@ -80,7 +85,7 @@ laterBy from port =
     ∷ loading []
     -- all of it; and with a byte too little room: 25
     ∷ saving room
-    ∷ saving (replicate 71191 0xee)
+    ∷ saving (replicate 72291 0xee)
     ∷ []
 
 abbrev pub later : List Call
@@ -93,7 +98,8 @@ given-before = (refl, (refl, (refl, (refl, (refl, (refl, (refl, (refl, (refl, tt
 
 pub given-later : (from port : ℕ) → CallsBytes (laterBy from port)
 unfolding EachCall CallBytes ruleOf isBytes isByte tableOk all _and_
-given-later from port = (refl, (refl, (refl, (refl, (refl, (refl, (refl, (tt, (tt, (tt, ((refl, nil-bytes), (refl, (refl, tt)))))))))))))
+given-later from port =
+    (refl, (refl, (refl, (refl, (refl, (refl, (refl, (refl, (refl, (tt, (tt, (tt, (tt, ((refl, nil-bytes), (refl, (refl, tt))))))))))))))))
 
 -- none loads: the one that would is refused
 pub none-load : noneLoads (before ++ later) ≡ true
@@ -159,16 +165,20 @@ saidBefore =
     numbered 0 ∷ numbered 0 ∷ numbered 0 ∷ numbered 0 ∷ numbered 11
     ∷ spreads spreadBytes 2 ∷ duplicate ∷ unknownPort ∷ forwards dataLastHop 1 ∷ []
 
+-- the announce rate that is set
+abbrev pub hourly : RateSettings
+hourly = makeRateSettings 3600 5 7200
+
 -- the receipt leaves by this port, and the path by that one; the file is of this relay
 abbrev pub saidLater : (by path : ℕ) → Relay → List Reply
 saidLater by path end =
-    unknownPort ∷ numbered 8 ∷ forwards (receiptBytes 6) by ∷ duplicate ∷ numbered 0 ∷ numbered 9 ∷ numbered 0
-    ∷ told (a-path (withPathPort path knownPath)) ∷ told (yes-or-no true) ∷ told none
-    ∷ numbered 20 ∷ saved end lastTally room ∷ unsaved 25 (replicate 71191 0xee) ∷ []
+    unknownPort ∷ numbered 8 ∷ forwards (receiptBytes 6) by ∷ duplicate ∷ numbered 0 ∷ numbered 9 ∷ numbered 0 ∷ numbered 9 ∷ numbered 0
+    ∷ told (a-rate hourly) ∷ told (a-path (withPathPort path knownPath)) ∷ told (yes-or-no true) ∷ told none
+    ∷ numbered 20 ∷ saved end lastTally room ∷ unsaved 25 (replicate 72291 0xee) ∷ []
 
 -- the guest in the lowest place
 abbrev pub hosting : Relay → Relay
-hosting r = makeRelay (r .own) (r .clock) (r .ports) (used guest ∷ replicate 15 empty) (r .paths) (r .links) (r .returns) (r .hashes)
+hosting r = makeRelay (r .own) (r .clock) (r .rate) (r .ports) (used guest ∷ replicate 15 empty) (r .paths) (r .links) (r .returns) (r .hashes)
 
 -- the receipt carried
 abbrev pub receivedRelay : Relay
@@ -176,10 +186,15 @@ receivedRelay =
     relayOf 2500 (used knownPath ∷ []) [] (empty ∷ [])
     (remembers announceBytes 1300 ∷ remembers dataBytes 2300 ∷ remembers (receiptBytes 5) 2800 ∷ [])
 
+abbrev ratedRelay : Relay
+ratedRelay =
+    makeRelay own 2500 hourly (receivedRelay .ports) (receivedRelay .locals) (receivedRelay .paths) (receivedRelay .links) (receivedRelay .returns)
+    (receivedRelay .hashes)
+
 -- the end, with these settings of ports, and the path by this port
 abbrev pub lastRelay : List Port → ℕ → Relay
 lastRelay ports port =
-    makeRelay own 2500 ports (replicate 16 empty)
+    makeRelay own 2500 hourly ports (replicate 16 empty)
     (used (withPathPort port knownPath) ∷ replicate 63 empty)
     (receivedRelay .links) (receivedRelay .returns) (receivedRelay .hashes)
 
@@ -262,7 +277,17 @@ receipt-dropped : perform (arrives (receiptBytes 5) 2500 1) (hosting receivedRel
 unfolding rules goodPlan goodJudge ofTest
 receipt-dropped = judged-at (receiptBytes 5) 2500 (hosting receivedRelay) (counting 1 2 1) receipt-seen refl 1 refl
 
-port-set : perform (port-setting 5 true 1) (hosting receivedRelay) lastTally
+rate-set : perform (rate-setting 3600 5 7200) (hosting receivedRelay) lastTally
+    ≡ record { reply = numbered 0; relay = hosting ratedRelay; tally = lastTally }
+unfolding rules
+rate-set = refl
+
+no-rate : perform (rate-setting 86401 5 7200) (hosting ratedRelay) lastTally
+    ≡ record { reply = numbered 9; relay = hosting ratedRelay; tally = lastTally }
+unfolding rules
+no-rate = refl
+
+port-set : perform (port-setting 5 true 1) (hosting ratedRelay) lastTally
     ≡ record { reply = numbered 0; relay = hosting (lastRelay plainPorts 1); tally = lastTally }
 unfolding rules
 port-set = refl
@@ -276,6 +301,11 @@ guest-removed : perform (removing guest) (hosting (lastRelay plainPorts 1)) last
     ≡ record { reply = numbered 0; relay = lastRelay plainPorts 1; tally = lastTally }
 unfolding rules
 guest-removed = refl
+
+rate-told : perform (asks rate-settings) (lastRelay plainPorts 1) lastTally
+    ≡ record { reply = told (a-rate hourly); relay = lastRelay plainPorts 1; tally = lastTally }
+unfolding rules
+rate-told = refl
 
 path-told : perform (asks (path-at 0)) (lastRelay plainPorts 1) lastTally
     ≡ record { reply = told (a-path knownPath); relay = lastRelay plainPorts 1; tally = lastTally }
@@ -326,12 +356,12 @@ with-room r t n k e =
 
 pub all-saved : (r : Relay) (t : Tally) → tablesOk r ≡ true → perform (saving room) r t ≡ record { reply = saved r t room; relay = r; tally = t }
 unfolding saveRefusal saveReply firstOf _then_otherwise_
-all-saved r t ok = with-room r t 71200 0 (rw ok refl)
+all-saved r t ok = with-room r t 72300 0 (rw ok refl)
 
 pub room-short : (r : Relay) (t : Tally) → tablesOk r ≡ true
-    → perform (saving (replicate 71191 0xee)) r t ≡ record { reply = unsaved 25 (replicate 71191 0xee); relay = r; tally = t }
+    → perform (saving (replicate 72291 0xee)) r t ≡ record { reply = unsaved 25 (replicate 72291 0xee); relay = r; tally = t }
 unfolding saveRefusal saveReply firstOf _then_otherwise_
-room-short r t ok = with-room r t 71191 25 (rw ok refl)
+room-short r t ok = with-room r t 72291 25 (rw ok refl)
 
 -- ---- all of them
 abbrev pub midwayRelay : Relay
@@ -342,8 +372,8 @@ midwayTally = counting 1 1 1
 
 pub later-run : Runs later midwayRelay midwayTally (saidLater 2 1 (lastRelay plainPorts 1)) (lastRelay plainPorts 1) lastTally
 later-run =
-    receipt-refused first map-refused first receipt-home first receipt-dropped first port-set first no-port first guest-removed
-    first path-told first word-told first nothing-told first none-loaded
+    receipt-refused first map-refused first receipt-home first receipt-dropped first rate-set first no-rate first port-set first no-port
+    first guest-removed first rate-told first path-told first word-told first nothing-told first none-loaded
     first all-saved (lastRelay plainPorts 1) lastTally end-ok first room-short (lastRelay plainPorts 1) lastTally end-ok first no-call
 
 second-port : perform (port-setting 2 true 0) (perform (port-setting 1 true 2) (fresh own) newTally .relay) newTally

@@ -8,7 +8,7 @@ use lib.Dec.{lit≤}
 use lib.ListN.{replicate}
 use borrow.Author.Tests.{eqb-true}
 use Rattle.octets.specs.Index.{_and_}
-use Rattle.rules.specs.Relay.{freshPort, makePort, Port, makeRelay, empty, used, Relay, fresh}
+use Rattle.rules.specs.Relay.{freshPort, noRateSettings, makePort, Port, makeRelay, empty, used, Relay, fresh}
 use Rattle.rules.specs.View.{viewAt}
 use Rattle.rules.specs.Refusals.{all, tableOk}
 use Rattle.rules.specs.Arrival.{Arrival}
@@ -120,7 +120,7 @@ start-up =
 -- the link with this expiry, at a clock, with these settings of ports
 abbrev upRelay : List Port → ℕ → ℕ → Relay
 upRelay ports clock expiry =
-    makeRelay own clock ports (provedRelay .locals) (provedRelay .paths) (used (linkIs expiry) ∷ replicate 63 empty) (provedRelay .returns)
+    makeRelay own clock noRateSettings ports (provedRelay .locals) (provedRelay .paths) (used (linkIs expiry) ∷ replicate 63 empty) (provedRelay .returns)
     (provedRelay .hashes)
 
 abbrev portsBy : ℕ → List Port

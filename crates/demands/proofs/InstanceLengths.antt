@@ -14,7 +14,7 @@ use Rattle.rules.specs.View.{viewAt}
 use Rattle.rules.specs.Refusals.{all, tableOk}
 use Rattle.rules.specs.Tests.{badForm}
 use Rattle.rules.specs.Calls.{newTally}
-use Rattle.rules.specs.Run.{EachCall, Call, packet, on-tables, asks, Reply, answered, Outcome}
+use Rattle.rules.specs.Run.{EachCall, Call, packet, on-tables, asks, saves, loads, Reply, answered, Outcome}
 use Rattle.rules.specs.Lengths.{forwardedLength, grownLength, verdictLengthOk, answerLengthOk}
 use Rattle.rules.specs.declared.Verdict.{Verdict}
 use Rattle.rules.specs.declared.Verdict.the-variants.{Drop, Deliver, Forward, Spread, Kept}
@@ -37,7 +37,7 @@ use Rattle.demands.proofs.InstanceCalls.{before, later, saidBefore, sai
 use Rattle.demands.proofs.Instance2.{start, given, plain, Held, held}
 
 -- ---- the theorem on the list
-pub said-so : lengthsOk (before ++ later) (saidBefore ++ saidLater 2 1) ≡ true
+pub said-so : lengthsOk (before ++ later) (saidBefore ++ saidLater 2 1 (lastRelay plainPorts 1)) ≡ true
 said-so = ap (lengthsOk (before ++ later)) (sym (plain .answers)) ∙ lengths-on-calls (before ++ later) start newTally
 
 -- of each packet that left, how long it came in and how long it left
@@ -55,6 +55,8 @@ left (c ∷ cs) [] = []
 left (packet a output ∷ cs) (reply ∷ said) = leftBy (a .bytes) (answerIn reply) ++ left cs said
 left (on-tables c ∷ cs) (reply ∷ said) = left cs said
 left (asks q ∷ cs) (reply ∷ said) = left cs said
+left (saves format room ∷ cs) (reply ∷ said) = left cs said
+left (loads format file ∷ cs) (reply ∷ said) = left cs said
 
 -- the announce, data on the last hop, and its receipt
 pub three-left : left (before ++ later) (repliesOn (before ++ later) start newTally) ≡ (199, 215) ∷ (55, 39) ∷ (83, 83) ∷ []

@@ -5,7 +5,7 @@ use mathlib.Core.Bool.{Bool, true}
 use mathlib.Core.List.{List, [], _∷_}
 use mathlib.Core.Path.{_≡_, refl}
 use Rattle.octets.proofs.Index.{and-both}
-use Rattle.rules.specs.Run.{Call, packet, on-tables, asks}
+use Rattle.rules.specs.Run.{Call, packet, on-tables, asks, saves, loads}
 use Rattle.rules.specs.Lengths.{answerLengthOk}
 use Rattle.rules.specs.declared.Tally.{Tally}
 use Rattle.rules.proofs.Choices.{either}
@@ -32,6 +32,8 @@ unfolding replyLengthOk performOn ofPacket answerIn
 call-length (packet a output) tables tally = lengths-on (a .bytes) (a .port) (a .clock) (a .signed) tables tally output
 call-length (on-tables c) tables tally = refl
 call-length (asks q) tables tally = refl
+call-length (saves format room) tables tally = refl
+call-length (loads format file) tables tally = refl
 
 pub lengths-on-calls : (cs : List Call) (tables : List ℕ) (tally : Tally) → lengthsOk cs (repliesOn cs tables tally) ≡ true
 unfolding lengthsOk repliesOn

@@ -8,12 +8,12 @@ use lib.Dec.{eqb}
 use lib.ListN.{length}
 use Rattle.octets.proofs.Choice.{then-ap}
 use Rattle.rules.specs.Arrival.{Arrival}
-use Rattle.rules.specs.Run.{packet, asks, port-setting, adding, removing, renumbering, saved, unsaved, saveReply}
+use Rattle.rules.specs.Run.{packet, asks, port-setting, rate-setting, adding, removing, renumbering, saved, unsaved, saveReply}
 use Rattle.rules.specs.Questions.{Question}
 use Rattle.rules.specs.declared.Tally.{Tally}
 use Rattle.tables.specs.Layout.{relayOf}
 use Rattle.tables.specs.Asked.{tellOn}
-use Rattle.settings.specs.Calls.{setPortOn, addLocalOn, removeLocalOn}
+use Rattle.settings.specs.Calls.{setPortOn, setRateOn, addLocalOn, removeLocalOn}
 use Rattle.renumbering.specs.Calls.{renumberOn}
 use Rattle.relay.specs.Promise.{packetOn}
 use Rattle.saved.specs.Save.{saveRefusal, saveOn}
@@ -30,6 +30,11 @@ module _ (tables : List ℕ) (tally : Tally) where
   pub port-promised : (port : ℕ) (on : Bool) (mode : ℕ) → performOn (port-setting port on mode) tables tally ≡ ofCalled tally (setPortOn tables port on mode)
   unfolding performOn
   port-promised port on mode = refl
+
+  pub rate-promised : (target grace penalty : ℕ)
+      → performOn (rate-setting target grace penalty) tables tally ≡ ofCalled tally (setRateOn tables target grace penalty)
+  unfolding performOn
+  rate-promised target grace penalty = refl
 
   pub adding-promised : (address : List ℕ) → performOn (adding address) tables tally ≡ ofCalled tally (addLocalOn tables address)
   unfolding performOn

@@ -17,9 +17,9 @@ use Rattle.rules.specs.Refusals.{pathOk, slotOk, all, tablesOk}
 use Rattle.rules.specs.Arrival.{Arrival, header}
 use Rattle.rules.specs.Ways.{Way, everywhere, by-path, along-link, by-return, blocked}
 use Rattle.rules.specs.Judging.{Plan, dropped, delivered, follows, plan}
-use Rattle.rules.specs.Writes.{putNext, remember, putPath, emptiedWhere, putReturn, emptyReturn, putLink, renewLink, enact}
+use Rattle.rules.specs.Writes.{putNext, remember, putPath, limitPath, emptiedWhere, putReturn, emptyReturn, putLink, renewLink, enact}
 use Rattle.rules.specs.Saved.{Format, loadRefusal}
-use Rattle.rules.specs.Calls.{TableCall, sets-port, adds, removes, renumbers, ruleOf}
+use Rattle.rules.specs.Calls.{TableCall, sets-port, sets-rate, adds, removes, renumbers, ruleOf}
 use Rattle.rules.specs.Run.{Call, packet, on-tables, asks, saves, loads, ofTold, perform, relayAfter}
 use Rattle.rules.specs.declared.Link.{Link}
 use Rattle.rules.specs.declared.Tally.{Tally}
@@ -76,8 +76,16 @@ module _ (r : Relay) (v : Valid r) (s : Shaped r) where
     way-keeps view (by-return t) long ok = all-set (slotOk returnShaped) (r .returns .slots) _ empty (s .returns) refl
     way-keeps view (blocked why) long ok = tt
 
+    -- a rate drop leaves the path's addresses and blobs
+    limit-keeps : (view : View) (known : Slot Path) → slotOk pathShaped known ≡ true → shape .paths (limitPath view a known r .paths)
+    unfolding limitPath withPaths slotOk pathShaped
+    limit-keeps view empty ok = s .paths
+    limit-keeps view (used p) ok = all-set (slotOk pathShaped) (r .paths) _ _ (s .paths) ok
+
     plan-keeps : (todo : Plan) → Planned (viewAt (a .clock) r) a todo → PlanBlob a todo → PlanKeeps shape (viewAt (a .clock) r) a r todo
-    plan-keeps (dropped reason) h long = tt
+    unfolding viewAt slotOk
+    plan-keeps (dropped reason) h long = λ _.
+        limit-keeps (viewAt (a .clock) r) _ (all-getD (slotOk pathShaped) (r .paths) _ empty (s .paths) refl)
     plan-keeps delivered h long = tt
     plan-keeps (follows w) h long = way-keeps (viewAt (a .clock) r) w long (found-shaped (a .clock) a w (h .found))
 
@@ -95,6 +103,7 @@ module _ (r : Relay) (v : Valid r) (s : Shaped r) where
 table-keeps : (c : TableCall) (r : Relay) → all (isBytes addressWidth) (ruleOf c .addresses) ≡ true → Shaped r → TableKeeps shape r c
 unfolding ruleOf all slotOk
 table-keeps (sets-port port on mode) r b s = tt
+table-keeps (sets-rate target grace penalty) r b s = tt
 table-keeps (adds address) r b s = all-set (slotOk (isBytes addressWidth)) (r .locals) _ (used address) (s .locals) (and-left _ _ b)
 table-keeps (removes address) r b s = all-set (slotOk (isBytes addressWidth)) (r .locals) _ empty (s .locals) refl
 table-keeps (renumbers images) r b s = (

@@ -2,7 +2,7 @@
 use mathlib.Core.Bool.{Bool, true, false}
 use mathlib.Core.List.{List, [], _∷_}
 use Rattle.octets.specs.Index.{_and_}
-use Rattle.rules.specs.Run.{Call, packet, on-tables, asks, Reply}
+use Rattle.rules.specs.Run.{Call, packet, on-tables, asks, saves, loads, Reply}
 use Rattle.rules.specs.Lengths.{answerLengthOk}
 use Rattle.demands.specs.Replays.{answerIn}
 
@@ -10,6 +10,8 @@ unfoldable pub replyLengthOk : Call → Reply → Bool
 replyLengthOk (packet arrival output) reply = answerLengthOk (arrival .bytes) (answerIn reply)
 replyLengthOk (on-tables c) reply = true
 replyLengthOk (asks q) reply = true
+replyLengthOk (saves format room) reply = true
+replyLengthOk (loads format file) reply = true
 
 -- the calls, and what each replied
 unfoldable pub lengthsOk : List Call → List Reply → Bool

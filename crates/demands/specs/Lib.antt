@@ -3,6 +3,7 @@ pub mod Given
 pub mod Bytes
 pub mod Refusals
 pub mod Keepalives
+pub mod Chatty
 pub mod Replays
 pub mod Drops
 pub mod Lengths

@@ -8,7 +8,7 @@ use Rattle.octets.specs.Choice.{_then_otherwise_}
 use Rattle.rules.specs.Relay.{Relay}
 use Rattle.rules.specs.Refusals.{packetRefusal}
 use Rattle.rules.specs.Calls.{tableRefusal}
-use Rattle.rules.specs.Questions.{Told, refused, none, a-port, an-address, a-path, a-link, a-number, yes-or-no, questionRefusal}
+use Rattle.rules.specs.Questions.{Told, refused, none, a-port, a-rate, an-address, a-path, a-link, a-number, yes-or-no, questionRefusal}
 use Rattle.rules.specs.Saved.{saveRefusal, loadRefusal}
 use Rattle.rules.specs.Run.{Call, packet, on-tables, asks, saves, loads, Reply, answered, numbered, told, saved, unsaved}
 use Rattle.rules.specs.declared.Answer.the-variants.{Refused, Judged}
@@ -48,6 +48,7 @@ unfoldable pub isRefused : Told → Bool
 isRefused (refused n) = true
 isRefused none = false
 isRefused (a-port port) = false
+isRefused (a-rate rate) = false
 isRefused (an-address address) = false
 isRefused (a-path p) = false
 isRefused (a-link l) = false

@@ -65,6 +65,7 @@ home =
     record {
       own = preparedRelay .own;
       clock = 0;
+      rate = preparedRelay .rate;
       ports = preparedRelay .ports;
       locals = used destination ∷ replicate 15 empty;
       paths = preparedRelay .paths;

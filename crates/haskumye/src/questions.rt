@@ -2,7 +2,7 @@
 // stands in the buffer lent, 7 where the tables are refused, and 255 where there is none: a place outside its table or
 // an empty one, a number that is no port, no live path. Then the buffer stays too.
 ghost use mathlib.Core.Path.{_≡_};
-ghost use Rattle.rules.specs.Questions.{port-settings, local-at, path-at, link-at, live-path, live-returns, live-hashes, last-clock, word-matters};
+ghost use Rattle.rules.specs.Questions.{port-settings, rate-settings, local-at, path-at, link-at, live-path, live-returns, live-hashes, last-clock, word-matters};
 ghost use Rattle.tables.specs.Asked.{tellOn, toldNumber, Tells, TellsNumber};
 
 // A port's settings: on, 1 or 0, and its mode.
@@ -14,6 +14,15 @@ pub extern "C" fn haskumye_port(tables: &[u8], port: u64, settings: &mut [u8; 2]
     status::port_settings(tables, port, settings)
 }
 
+// The announce rate's settings: target interval, grace, penalty, each as 4 bytes, the highest first. Never none.
+#[no_mangle]
+pub extern "C" fn haskumye_announce_rate(tables: &[u8], settings: &mut [u8; 12]) -> u8
+    ensures { λ r. ⌜ Tells (tellOn (now (tables .entry)) rate-settings)
+        (now (settings .entry)) r (now (settings .exit)) ⌝ }
+{
+    status::rate_settings(tables, settings)
+}
+
 // The local address at a place.
 #[no_mangle]
 pub extern "C" fn haskumye_local(tables: &[u8], place: u64, address: &mut [u8; 16]) -> u8
@@ -23,10 +32,10 @@ pub extern "C" fn haskumye_local(tables: &[u8], place: u64, address: &mut [u8; 1
     status::local_at(tables, place, address)
 }
 
-// The path at a place, live or not: destination, port, hops, next hop, expiry as 8 bytes, the highest first, and the
-// number of blobs.
+// The path at a place, live or not: destination, port, hops, next hop, expiry, last accepted announce, violations,
+// blocked-until, and the number of blobs. A time has 8 bytes, the highest first.
 #[no_mangle]
-pub extern "C" fn haskumye_path(tables: &[u8], place: u64, path: &mut [u8; 43]) -> u8
+pub extern "C" fn haskumye_path(tables: &[u8], place: u64, path: &mut [u8; 60]) -> u8
     ensures { λ r. ⌜ Tells (tellOn (now (tables .entry)) (path-at place))
         (now (path .entry)) r (now (path .exit)) ⌝ }
 {
@@ -39,7 +48,7 @@ pub extern "C" fn haskumye_live_path(
     tables: &[u8],
     destination: &[u8; 16],
     clock: u64,
-    path: &mut [u8; 43],
+    path: &mut [u8; 60],
 ) -> u8
     ensures { λ r. ⌜ Tells (tellOn (now (tables .entry)) (live-path (now (destination .entry)) clock))
         (now (path .entry)) r (now (path .exit)) ⌝ }

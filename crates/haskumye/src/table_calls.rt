@@ -6,7 +6,7 @@ ghost use mathlib.Core.Path.{_≡_};
 ghost use lib.Dec.{eqb};
 ghost use Rattle.tables.specs.Places.{tableSize};
 ghost use Rattle.tables.specs.Called.{Returns};
-ghost use Rattle.settings.specs.Calls.{freshOn, setPortOn, addLocalOn, removeLocalOn};
+ghost use Rattle.settings.specs.Calls.{freshOn, setPortOn, setRateOn, addLocalOn, removeLocalOn};
 ghost use Rattle.renumbering.specs.Calls.{renumberOn};
 ghost use Rattle.haskumye.specs.Tables.{interfaceVersion, tablesRefusal};
 
@@ -15,7 +15,7 @@ ghost use Rattle.haskumye.specs.Tables.{interfaceVersion, tablesRefusal}
 pub extern "C" fn haskumye_version() -> u32
     ensures { λ r. ⌜ r ≡ interfaceVersion ⌝ }
 {
-    2
+    3
 }
 
 // How many bytes tables have.
@@ -52,6 +52,19 @@ pub extern "C" fn haskumye_set_port(tables: &mut [u8], port: u64, on: u8, mode: 
     ensures { λ r. ⌜ Returns (setPortOn (now (tables .entry)) port (eqb on 1) mode) r (now (tables .exit)) ⌝ }
 {
     settings::set_port(tables, port, on == 1, mode)
+}
+
+// Sets the announce rate: target interval, grace and penalty.
+#[no_mangle]
+pub extern "C" fn haskumye_set_announce_rate(
+    tables: &mut [u8],
+    target: u64,
+    grace: u64,
+    penalty: u64,
+) -> u8
+    ensures { λ r. ⌜ Returns (setRateOn (now (tables .entry)) target grace penalty) r (now (tables .exit)) ⌝ }
+{
+    settings::set_rate(tables, target, grace, penalty)
 }
 
 // Adds a local address, in the lowest empty place.

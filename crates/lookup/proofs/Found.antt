@@ -68,7 +68,7 @@ module _ (t : List ℕ) (clock : ℕ) where
         ∙ missing (isLivePath clock destination) pathOf pathsAt pathWidth pathCount t i e l
 
     module _ (h : wellFormed t ≡ true) (l : i < pathCount) where
-      path-ok : pathOk (pathOf (recordAt pathsAt pathWidth t i)) ≡ true
+      pub path-ok : pathOk (pathOf (recordAt pathsAt pathWidth t i)) ≡ true
       unfolding pathPlace relayOf slotOf pathOf
       path-ok =
           found-ok (isLivePath clock destination) pathOf pathsAt pathWidth pathCount t i e pathBytesOk pathOk path-kept (formed t h .paths) l
@@ -76,10 +76,6 @@ module _ (t : List ℕ) (clock : ℕ) where
       pub path-port-ok : pathOf (recordAt pathsAt pathWidth t i) .port < portCount
       unfolding pathOk
       path-port-ok = ltb-true _ _ (and-left _ _ path-ok)
-
-      pub path-blobs-ok : pathOf (recordAt pathsAt pathWidth t i) .blobs .count ≤ blobLimit
-      unfolding pathOk
-      path-blobs-ok = leb-true _ _ (and-left _ _ (and-right _ _ (and-right _ _ (and-right _ _ path-ok))))
 
   module _ (id : List ℕ) (i : ℕ) (e : i ≡ linkPlace clock (relayOf t) id) where
     pub link-found : i < linkCount → viewAt clock (relayOf t) .link id ≡ used (linkOf (recordAt linksAt linkWidth t i))

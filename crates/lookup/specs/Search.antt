@@ -1,11 +1,11 @@
 -- The tests of a record's bytes that a search makes, and the lowest record that passes one.
 -- For the contracts of helpers: not part of what a reader must believe.
-use Prim.Native.Nat.{ℕ, _-_}
+use Prim.Native.Nat.{ℕ, _+_, _-_, _*_}
 use mathlib.Core.Bool.{Bool, not}
 use mathlib.Core.List.{List}
 use lib.Dec.{eqb}
 use lib.ListN.{length, getD}
-use Rattle.octets.specs.Index.{_and_, first}
+use Rattle.octets.specs.Index.{_and_, allBelow, first}
 use Rattle.octets.specs.Choice.{same}
 use Rattle.octets.specs.Part.{part}
 use Rattle.octets.specs.BigEndian.{number, word}
@@ -16,6 +16,10 @@ use Rattle.tables.specs.Layout.{recordAt}
 -- the last eight bytes of a key, as one number
 unfoldable pub lastWord : List ℕ → ℕ
 lastWord key = word (part key (length key - 8) 8)
+
+-- none of n words of eight bytes that stand `width` apart, from `at` on, is x
+unfoldable pub noneIs : ℕ → ℕ → ℕ → ℕ → List ℕ → Bool
+noneIs x at width n t = allBelow (λ i. not (eqb (word (part t (at + width * i) 8)) x)) n
 
 -- the record b is used
 unfoldable pub isUsed : List ℕ → Bool

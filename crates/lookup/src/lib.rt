@@ -24,14 +24,20 @@ pub use paths::path_hops;
 pub use paths::path_next_hop;
 pub use paths::path_place;
 pub use paths::path_port;
+pub use paths::path_rate;
 pub use ports::port_mode;
 pub use ports::port_on;
 pub use returns::return_arrival;
 pub use returns::return_leaving;
 pub use returns::return_place;
+use rules::RateSettings;
 pub use search::is_live;
 pub use search::record_at;
 use tables::places::CLOCK_AT;
+use tables::places::GRACE_AT;
+use tables::places::PENALTY_AT;
+use tables::places::SETTING_WIDTH;
+use tables::places::TARGET_AT;
 ghost use mathlib.Core.Path.{_≡_};
 ghost use lib.ListN.{length};
 ghost use Rattle.tables.specs.Places.{tableSize};
@@ -49,4 +55,16 @@ pub fn last_clock(tables: &[u8]) -> u64
     ensures { λ r. ⌜ r ≡ relayOf (now (tables .entry)) .clock ⌝ }
 {
     octets::number_of_8_at(tables, CLOCK_AT)
+}
+
+// The announce rate's settings.
+pub fn rate_settings(tables: &[u8]) -> RateSettings
+    requires { ⌜ length (now tables) ≡ tableSize ⌝ }
+    ensures { λ r. ⌜ r ≡ relayOf (now (tables .entry)) .rate ⌝ }
+{
+    RateSettings {
+        target: octets::number_at(tables, TARGET_AT, SETTING_WIDTH),
+        grace: octets::number_at(tables, GRACE_AT, SETTING_WIDTH),
+        penalty: octets::number_at(tables, PENALTY_AT, SETTING_WIDTH),
+    }
 }

@@ -5,10 +5,14 @@ use super::search::free_place;
 use super::search::live_place;
 use super::search::record_at;
 use numbers::PATH_COUNT;
+use rules::RateEntry;
+use tables::fields::PATH_BLOCKED_UNTIL_AT;
 use tables::fields::PATH_EXPIRY_AT;
 use tables::fields::PATH_HOPS_AT;
+use tables::fields::PATH_LAST_AT;
 use tables::fields::PATH_NEXT_HOP_AT;
 use tables::fields::PATH_PORT_AT;
+use tables::fields::PATH_VIOLATIONS_AT;
 use tables::places::PATH_WIDTH;
 use tables::places::PATHS_AT;
 ghost use mathlib.Core.Path.{_≡_};
@@ -78,6 +82,27 @@ pub fn path_next_hop(tables: &[u8], place: usize) -> [u8; 16]
         record_at(tables, PATHS_AT, PATH_WIDTH, place),
         PATH_NEXT_HOP_AT,
     )
+}
+
+fn rate_of(b: &[u8]) -> RateEntry
+    requires { ⌜ length (now b) ≡ pathWidth ⌝ }
+    ensures { λ r. ⌜ r ≡ pathOf (now (b .entry)) .rate ⌝ }
+{
+    let last = octets::number_of_8_at(b, PATH_LAST_AT);
+    let blocked_until = octets::number_of_8_at(b, PATH_BLOCKED_UNTIL_AT);
+    RateEntry {
+        last,
+        violations: b[PATH_VIOLATIONS_AT],
+        blocked_until,
+    }
+}
+
+// Last accepted announce, violations and blocked-until.
+pub fn path_rate(tables: &[u8], place: usize) -> RateEntry
+    requires { ⌜ (length (now tables) ≡ tableSize) × (place < pathCount) ⌝ }
+    ensures { λ r. ⌜ r ≡ pathOf (recordAt pathsAt pathWidth (now (tables .entry)) place) .rate ⌝ }
+{
+    rate_of(record_at(tables, PATHS_AT, PATH_WIDTH, place))
 }
 
 // Whether the path holds the blob.

@@ -73,6 +73,24 @@ unprovedLifetime remaining = 6 * (remaining + 1)
 abbrev pub provedLifetime : ℕ
 provedLifetime = 720
 
--- refusal 7's bound on a stored time
+-- document 02, wish 5: "Target, grace and penalty are at most 86,400, 254 and 604,800"
+abbrev pub targetLimit : ℕ
+targetLimit = 86400
+
+abbrev pub graceLimit : ℕ
+graceLimit = 254
+
+abbrev pub penaltyLimit : ℕ
+penaltyLimit = 604800
+
+-- "Violations stop at 255"
+abbrev pub violationLimit : ℕ
+violationLimit = 255
+
+-- "refusal 7's bound is 2^40 + 691,199 for blocked-until"
+abbrev pub blockedLimit : ℕ
+blockedLimit = 2 ^ 40 + 691199
+
+-- refusal 7's "time over 2^40 + 604,799": the bound on the last clock and on every expiry; blocked-until and the last announce have wish 5's
 abbrev pub timeLimit : ℕ
 timeLimit = 2 ^ 40 + 604799

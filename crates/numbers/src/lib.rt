@@ -30,6 +30,18 @@ pub const CLOCK_LIMIT: u64 = 1_099_511_627_776;
 // A stored time over this is refused.
 pub const TIME_LIMIT: u64 = CLOCK_LIMIT + 604_799;
 
+// Settings of the announce rate over these are refused, and violations stop at theirs.
+pub const TARGET_LIMIT: u64 = 86_400;
+
+pub const GRACE_LIMIT: u64 = 254;
+
+pub const PENALTY_LIMIT: u64 = 604_800;
+
+pub const VIOLATION_LIMIT: u8 = 255;
+
+// A stored blocked-until over this is refused.
+pub const BLOCKED_LIMIT: u64 = CLOCK_LIMIT + 691_199;
+
 // Seconds that a path lives, by the mode of the arrival port.
 pub const BOUNDARY_LIFETIME: u64 = 604_800;
 

@@ -1,36 +1,41 @@
--- An announce: tests 9, 10, 11 and 13 are all that can hold of it.
+-- An announce: tests 9, 10, 11, 15 and 13 are all that can hold of it.
 use Prim.Native.Nat.{ℕ, _≤_, _<_}
 use native.Mathlib.Omega.{arith}
 use mathlib.Core.Bool.{Bool, true, false, not}
 use mathlib.Core.Path.{_≡_, refl, sym, ap, _∙_}
 use mathlib.Core.List.{List}
-use lib.Dec.{leb}
-use lib.ListN.{getD}
-use borrow.Author.Tests.{lt-ltb, le-ltb, le-leb, lt-leb}
+use borrow.Author.Tests.{lt-ltb, le-ltb}
 use Rattle.octets.specs.Index.{_and_}
 use Rattle.octets.specs.Choice.{_or_, _then_otherwise_}
 use Rattle.octets.proofs.Choice.{then-true, then-false}
-use Rattle.octets.proofs.Index.{and-no, and-yes}
 use Rattle.packet.specs.Header.{packetKind, isAnnounce, isLinkRequest}
 use Rattle.packet.specs.Announce.{emissionOf}
-use Rattle.packet.proofs.ReadLaws.{parts-hops}
 use Rattle.octets.specs.Listed.{firstOf}
 use Rattle.rules.specs.Relay.{Slot, empty, used, Path, Relay}
 use Rattle.rules.specs.View.{View, pathPlace, freePath, viewAt}
 use Rattle.rules.specs.Arrival.{Arrival, header, hops, destination, blob, isLinkProof}
 use Rattle.rules.specs.Ways.{Way, everywhere, wayOn}
-use Rattle.rules.specs.Tests.{isThere, noWayOn, alreadyKnown, wrongSide, notSigned, replay, notBetter, portOff, noRoom}
+use Rattle.rules.specs.Rate.{rated}
+use Rattle.rules.specs.Tests.{isThere, noWayOn, alreadyKnown, wrongSide, notSigned, ofKnown, isReplay, replay, isNotBetter, notBetter, isRateLimited, rateLimited, portOff, noRoom}
 use Rattle.rules.specs.Judging.{dropped, follows, onwardPlan, onwardTests}
 use Rattle.rules.specs.Writes.{announcedPlace}
-use Rattle.rules.specs.declared.Reason.the-variants.{NotSigned, Replay, NotBetter, NoRoom}
+use Rattle.rules.specs.declared.Reason.the-variants.{NotSigned, Replay, NotBetter, RateLimited, NoRoom}
 use Rattle.numbers.specs.Numbers.{pathCount}
-use Rattle.rules.specs.Blobs.{held, isAmong, greatestEmission}
-use Rattle.tables.specs.Layout.{relayOf}
-use Rattle.lookup.proofs.Found.{path-found, path-missing}
-use Rattle.plan.specs.Decided.{pathAt, decidedWay, decided, onward}
-use Rattle.plan.specs.Kinds.{newPath, knownPath}
+use Rattle.rules.specs.Blobs.{held, isAmong}
+use Rattle.rules.specs.declared.RateSettings.{RateSettings}
+use Rattle.tables.specs.Layout.{rateSettingsIn, relayOf, wellFormed}
+use Rattle.tables.proofs.Whole.{formed}
+use Rattle.lookup.proofs.Found.{path-found, path-missing, path-ok}
+use Rattle.plan.specs.Decided.{CanKnow, pathAt, decidedWay, decided, onward}
+use Rattle.plan.specs.Kinds.{newPath, worseThan, knownPath}
+use Rattle.plan.specs.declared.Decision.{Decision}
 use Rattle.plan.specs.declared.Decision.the-variants.{Drop, Announce}
 use Rattle.plan.proofs.KindLaws.{other-kind, no-link-proof, decided-test}
+
+-- a live path that a search found in well-formed tables
+pub can-know : (t : List ℕ) (clock : ℕ) (to : List ℕ) (i : ℕ) → i ≡ pathPlace clock (relayOf t) to → wellFormed t ≡ true → i < pathCount → CanKnow t i
+unfolding relayOf rateSettingsIn
+can-know t clock to i e h l = record { within = l; fine = path-ok t clock to i e h l; sound = formed t h .rate }
 
 module _ (a : Arrival) (is : isAnnounce (header a) ≡ true) where
   no-request : isLinkRequest (header a) ≡ false
@@ -43,6 +48,7 @@ module _ (a : Arrival) (is : isAnnounce (header a) ≡ true) where
       ≡ (not (a .signed) then dropped NotSigned otherwise
       replay a (everywhere known) then dropped Replay otherwise
       notBetter a (everywhere known) then dropped NotBetter otherwise
+      rateLimited v a (everywhere known) then dropped RateLimited otherwise
       noRoom v a (everywhere known) then dropped NoRoom otherwise
       follows (everywhere known))
   unfolding onwardPlan onwardTests firstOf noWayOn alreadyKnown wrongSide notSigned portOff _then_otherwise_ _and_ _or_
@@ -53,6 +59,7 @@ module _ (a : Arrival) (is : isAnnounce (header a) ≡ true) where
       ≡ (not (a .signed) then Drop NotSigned otherwise
       replay a (everywhere known) then Drop Replay otherwise
       notBetter a (everywhere known) then Drop NotBetter otherwise
+      rateLimited (viewAt (a .clock) r) a (everywhere known) then Drop RateLimited otherwise
       noRoom (viewAt (a .clock) r) a (everywhere known) then Drop NoRoom otherwise
       Announce (announcedPlace a known r) (isThere known))
   unfolding onward wayOn decided decidedWay
@@ -68,20 +75,21 @@ module _ (a : Arrival) (is : isAnnounce (header a) ≡ true) where
     announce-unsigned e = sym (announce-onward r _ refl ∙ rw e)
 
     announce-new : a .signed ≡ true → viewAt (a .clock) r .path (destination a) ≡ empty → newPath (a .clock) r ≡ onward r a
-    unfolding newPath replay notBetter noRoom viewAt isThere announcedPlace _then_otherwise_
+    unfolding newPath ofKnown replay notBetter rateLimited noRoom viewAt isThere announcedPlace _then_otherwise_
     announce-new e none = sym (announce-onward r empty none ∙ rw e)
 
     announce-known : a .signed ≡ true → (p : Path) → viewAt (a .clock) r .path (destination a) ≡ used p
-        → knownPath a p (pathPlace (a .clock) r (destination a)) ≡ onward r a
-    unfolding knownPath noRoom isThere announcedPlace _then_otherwise_
+        → knownPath (r .rate) a p (pathPlace (a .clock) r (destination a)) ≡ onward r a
+    unfolding knownPath worseThan ofKnown replay isReplay notBetter isNotBetter rateLimited isRateLimited noRoom viewAt isThere announcedPlace
+        _then_otherwise_
     announce-known e p there = sym (announce-onward r (used p) there ∙ rw e)
 
 -- ---- on tables, where the search for the path gave place i
 module _ (t : List ℕ) (a : Arrival) (is : isAnnounce (header a) ≡ true) (signed : a .signed ≡ true)
     {i : ℕ} (e : i ≡ pathPlace (a .clock) (relayOf t) (destination a)) where
-  pub announce-at : i < pathCount → knownPath a (pathAt t i) i ≡ onward (relayOf t) a
+  pub announce-at : i < pathCount → knownPath (relayOf t .rate) a (pathAt t i) i ≡ onward (relayOf t) a
   announce-at l =
-      ap (knownPath a (pathAt t i)) e
+      ap (knownPath (relayOf t .rate) a (pathAt t i)) e
       ∙ announce-known a is (relayOf t) signed (pathAt t i) (path-found t (a .clock) (destination a) i e l)
 
   pub announce-nowhere : pathCount ≤ i → newPath (a .clock) (relayOf t) ≡ onward (relayOf t) a
@@ -100,38 +108,33 @@ module _ (clock : ℕ) (r : Relay) {place : ℕ} (e : place ≡ freePath clock r
   new-full l = sym (then-true _ _ (ap not (le-ltb (freePath clock r) pathCount (omega (arith, e, l)))))
 
 -- ---- a known path, by what was read of the announce and of the path
-module _ (a : Arrival) (p : Path) (place : ℕ) {b : List ℕ} (read : b ≡ blob a) where
-  pub known-replay : isAmong b (held (p .blobs)) ≡ true → Drop Replay ≡ knownPath a p place
-  unfolding knownPath replay
+module _ (s : RateSettings) (a : Arrival) (p : Path) (place : ℕ) {b : List ℕ} (read : b ≡ blob a) where
+  pub known-replay : isAmong b (held (p .blobs)) ≡ true → Drop Replay ≡ knownPath s a p place
+  unfolding knownPath
   known-replay old = sym (then-true _ _ (ap (λ (x : List ℕ). isAmong x (held (p .blobs))) (sym read) ∙ old))
 
-  module _ (new : isAmong b (held (p .blobs)) ≡ false) {emission greatest : ℕ}
-      (e : emission ≡ emissionOf b) (g : greatest ≡ greatestEmission (held (p .blobs))) where
-    known-by : (worse : Bool) → (leb (emissionOf (blob a)) (greatestEmission (held (p .blobs))) and leb (p .hops) (hops a)) ≡ worse
-        → knownPath a p place ≡ (worse then Drop NotBetter otherwise Announce place true)
-    unfolding knownPath replay notBetter
+  module _ (new : isAmong b (held (p .blobs)) ≡ false) where
+    knownBy : Bool → Decision
+    knownBy worse =
+        worse then Drop NotBetter otherwise
+        rated s (a .clock) (p .rate) .dropped then Drop RateLimited otherwise
+        Announce place true
+
+    known-by : (worse : Bool) → worse ≡ worseThan (emissionOf b) (hops a) p → knownPath s a p place ≡ knownBy worse
+    unfolding knownPath knownBy
     known-by worse q =
         then-false _ _ (ap (λ (x : List ℕ). isAmong x (held (p .blobs))) (sym read) ∙ new)
-        ∙ ap (λ (x : Bool). x then Drop NotBetter otherwise Announce place true) q
+        ∙ ap knownBy (ap (λ (x : List ℕ). worseThan (emissionOf x) (hops a) p) (sym read) ∙ sym q)
 
-    emitted : emission ≡ emissionOf (blob a)
-    emitted = e ∙ ap emissionOf read
+    pub known-worse : worseThan (emissionOf b) (hops a) p ≡ true → Drop NotBetter ≡ knownPath s a p place
+    unfolding knownBy _then_otherwise_
+    known-worse q = sym (known-by true (sym q))
 
-    pub known-newer : greatest < emission → Announce place true ≡ knownPath a p place
-    unfolding _then_otherwise_
-    known-newer l =
-        sym (known-by false (and-no _ (lt-leb (emissionOf (blob a)) (greatestEmission (held (p .blobs))) (omega (arith, l, emitted, g)))))
+    module _ (better : worseThan (emissionOf b) (hops a) p ≡ false) where
+      pub known-limited : rated s (a .clock) (p .rate) .dropped ≡ true → Drop RateLimited ≡ knownPath s a p place
+      unfolding knownBy _then_otherwise_
+      known-limited q = sym (known-by false (sym better) ∙ rw q)
 
-    module _ (l : emission ≤ greatest) {stored : ℕ} (s : stored ≡ p .hops) where
-      older : leb (emissionOf (blob a)) (greatestEmission (held (p .blobs))) ≡ true
-      older = le-leb (emissionOf (blob a)) (greatestEmission (held (p .blobs))) (omega (arith, l, emitted, g))
-
-      pub known-nearer : getD (a .bytes) 1 0 < stored → Announce place true ≡ knownPath a p place
-      unfolding _then_otherwise_
-      known-nearer n =
-          sym (known-by false (and-yes _ older ∙ lt-leb (p .hops) (hops a) (omega (arith, n, s, parts-hops (a .bytes)))))
-
-      pub known-worse : stored ≤ getD (a .bytes) 1 0 → Drop NotBetter ≡ knownPath a p place
-      unfolding _then_otherwise_
-      known-worse n =
-          sym (known-by true (and-yes _ older ∙ le-leb (p .hops) (hops a) (omega (arith, n, s, parts-hops (a .bytes)))))
+      pub known-accepted : rated s (a .clock) (p .rate) .dropped ≡ false → Announce place true ≡ knownPath s a p place
+      unfolding knownBy _then_otherwise_
+      known-accepted q = sym (known-by false (sym better) ∙ rw q)

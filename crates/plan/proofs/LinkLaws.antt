@@ -17,7 +17,7 @@ use Rattle.rules.specs.Relay.{empty, used, Relay}
 use Rattle.rules.specs.View.{View, linkPlace, viewAt}
 use Rattle.rules.specs.Arrival.{Arrival, header, destination, isLinkProof}
 use Rattle.rules.specs.Ways.{Way, along-link, blocked, linkWay, wayOn}
-use Rattle.rules.specs.Tests.{badForm, noWayOn, whyBlocked, followsProvedLink, alreadyKnown, fromAnsweringSide, fromAskingSide, wrongSide, notSigned, replay, notBetter, leavingPort, portOff, noRoom}
+use Rattle.rules.specs.Tests.{badForm, noWayOn, whyBlocked, followsProvedLink, alreadyKnown, fromAnsweringSide, fromAskingSide, wrongSide, notSigned, ofKnown, replay, notBetter, rateLimited, leavingPort, portOff, noRoom}
 use Rattle.rules.specs.Judging.{dropped, follows, onwardPlan, onwardTests}
 use Rattle.rules.specs.declared.Link.{Link}
 use Rattle.rules.specs.declared.Blocked.the-variants.{NoLink, NotProved}
@@ -41,7 +41,8 @@ module _ (a : Arrival) (good : badForm (a .bytes) ≡ false) (announce : isAnnou
       isLinkProof (a .bytes) and not (a .signed) then dropped NotSigned otherwise
       not (v .on (leavingPort a (along-link l))) then dropped PortOff otherwise
       follows (along-link l))
-  unfolding onwardPlan onwardTests firstOf noWayOn alreadyKnown followsProvedLink notSigned replay notBetter portOff noRoom _then_otherwise_ _and_ _or_
+  unfolding onwardPlan onwardTests firstOf noWayOn alreadyKnown followsProvedLink notSigned ofKnown replay notBetter rateLimited portOff noRoom
+      _then_otherwise_ _and_ _or_
   link-plan v l = rw (link-no-request a good kind, announce)
 
   module _ (r : Relay) where

@@ -16,7 +16,7 @@ use Rattle.rules.specs.Relay.{empty, used, Path, Relay}
 use Rattle.rules.specs.View.{View, pathPlace, linkPlace, freeLink, viewAt, portOn}
 use Rattle.rules.specs.Arrival.{Arrival, header, destination, isLinkProof}
 use Rattle.rules.specs.Ways.{Way, by-path, blocked, pathWay, wayOn}
-use Rattle.rules.specs.Tests.{isThere, noWayOn, whyBlocked, alreadyKnown, wrongSide, notSigned, replay, notBetter, leavingPort, portOff, noRoom}
+use Rattle.rules.specs.Tests.{isThere, noWayOn, whyBlocked, alreadyKnown, wrongSide, notSigned, ofKnown, replay, notBetter, rateLimited, leavingPort, portOff, noRoom}
 use Rattle.rules.specs.Judging.{dropped, follows, onwardPlan, onwardTests}
 use Rattle.rules.specs.declared.Blocked.the-variants.{NotAsking, NoPath}
 use Rattle.rules.specs.declared.Reason.the-variants.{NoWayOn, AlreadyKnown, PortOff, NoRoom}
@@ -40,7 +40,8 @@ module _ (a : Arrival) (announce : isAnnounce (header a) ≡ false) (link : ofKi
       not (v .on (p .port)) then dropped PortOff otherwise
       isLinkRequest (header a) and not (v .roomForLink) then dropped NoRoom otherwise
       follows (by-path p))
-  unfolding onwardPlan onwardTests firstOf noWayOn alreadyKnown wrongSide notSigned replay notBetter leavingPort portOff noRoom _then_otherwise_ _and_ _or_
+  unfolding onwardPlan onwardTests firstOf noWayOn alreadyKnown wrongSide notSigned ofKnown replay notBetter rateLimited leavingPort portOff
+      noRoom _then_otherwise_ _and_ _or_
   path-plan v p = rw (no-proof, or-false (isLinkRequest (header a) and isThere (v .link (linkId (a .bytes)))), announce)
 
   module _ (r : Relay) where

@@ -14,7 +14,7 @@ use Rattle.rules.specs.Relay.{empty, used, Return, Relay}
 use Rattle.rules.specs.View.{View, returnPlace, viewAt, portOn}
 use Rattle.rules.specs.Arrival.{Arrival, header, destination, isLinkProof}
 use Rattle.rules.specs.Ways.{Way, by-return, returnWay, wayOn}
-use Rattle.rules.specs.Tests.{noWayOn, whyBlocked, alreadyKnown, wrongSide, notSigned, replay, notBetter, leavingPort, portOff, noRoom}
+use Rattle.rules.specs.Tests.{noWayOn, whyBlocked, alreadyKnown, wrongSide, notSigned, ofKnown, replay, notBetter, rateLimited, leavingPort, portOff, noRoom}
 use Rattle.rules.specs.Judging.{dropped, follows, onwardPlan, onwardTests}
 use Rattle.rules.specs.declared.Blocked.the-variants.{NoReturn}
 use Rattle.rules.specs.declared.Reason.the-variants.{NoWayOn, WrongSide, PortOff}
@@ -44,7 +44,7 @@ module _ (a : Arrival) (kind : ofKindLink (header a) ≡ false) (proof : isProof
       ≡ (wrongSide a (by-return t) then dropped WrongSide otherwise
       not (v .on (leavingPort a (by-return t))) then dropped PortOff otherwise
       follows (by-return t))
-  unfolding onwardPlan onwardTests firstOf noWayOn alreadyKnown notSigned replay notBetter portOff noRoom _then_otherwise_ _and_ _or_
+  unfolding onwardPlan onwardTests firstOf noWayOn alreadyKnown notSigned ofKnown replay notBetter rateLimited portOff noRoom _then_otherwise_ _and_ _or_
   return-plan v t = rw (no-request, no-link-proof, no-announce)
 
   module _ (r : Relay) where

@@ -1,6 +1,6 @@
 -- What the code decides of an accepted packet: the rules' plan, with the places of the records that it concerns. In t are the tables' bytes.
 -- For the contracts of helpers: not part of what a reader must believe.
-use Prim.Native.Nat.{ℕ}
+use Prim.Native.Nat.{ℕ, _<_}
 use mathlib.Core.Bool.{true}
 use mathlib.Core.List.{List}
 use mathlib.Core.Path.{_≡_}
@@ -14,12 +14,16 @@ use Rattle.packet.specs.Hash.{packetHash, linkId}
 use Rattle.rules.specs.Relay.{Path, Return, Relay}
 use Rattle.rules.specs.View.{View, viewAt, pathPlace, linkPlace, returnPlace, freeLink}
 use Rattle.rules.specs.Arrival.{Arrival, header, destination}
+use Rattle.numbers.specs.Numbers.{pathCount}
 use Rattle.rules.specs.Exempt.{exempt}
+use Rattle.rules.specs.Rate.{rated}
+use Rattle.rules.specs.Refusals.{rateSettingsOk, pathOk}
 use Rattle.rules.specs.Ways.{Way, everywhere, by-path, along-link, by-return, blocked, wayOn}
 use Rattle.rules.specs.Tests.{isThere, leavingPort}
 use Rattle.rules.specs.Judging.{Plan, dropped, delivered, follows, onwardPlan, plan}
 use Rattle.rules.specs.Writes.{announcedPlace}
 use Rattle.rules.specs.declared.Link.{Link}
+use Rattle.rules.specs.declared.Rated.{Rated}
 use Rattle.rules.specs.declared.Reason.the-variants.{NoWayOn}
 use Rattle.tables.specs.Places.{tableSize, pathsAt, pathWidth, linksAt, linkWidth, returnsAt, returnWidth}
 use Rattle.tables.specs.Records.{pathOf, linkOf, returnOf}
@@ -39,6 +43,16 @@ highOf address = number (part address 0 8)
 abbrev pub lowOf : List ℕ → ℕ
 lowOf address = number (part address 8 8)
 
+-- ---- the records that the tables hold
+abbrev pub pathAt : List ℕ → ℕ → Path
+pathAt t place = pathOf (recordAt pathsAt pathWidth t place)
+
+abbrev pub linkAt : List ℕ → ℕ → Link
+linkAt t place = linkOf (recordAt linksAt linkWidth t place)
+
+abbrev pub returnAt : List ℕ → ℕ → Return
+returnAt t place = returnOf (recordAt returnsAt returnWidth t place)
+
 -- ---- what a caller shows
 -- the packet reads, and the tables have their length
 pub record CanRead (packet t : List ℕ) : Type 0 where
@@ -50,6 +64,12 @@ pub record CanJudge (packet t : List ℕ) : Type 0 where
   pub readable : reads longestPacket packet ≡ true
   pub formed : wellFormed t ≡ true
 
+-- the path at a place keeps row 7, and so do the announce rate's settings
+pub record CanKnow (t : List ℕ) (place : ℕ) : Type 0 where
+  pub within : place < pathCount
+  pub fine : pathOk (pathAt t place) ≡ true
+  pub sound : rateSettingsOk (relayOf t .rate) ≡ true
+
 -- ---- the hash that goes with a packet: nothing uses an exempt packet's, and zeros stand in its place
 unfoldable pub usedHash : List ℕ → List ℕ
 usedHash packet = exempt packet then replicate 32 0 otherwise packetHash packet
@@ -59,15 +79,9 @@ usedHash packet = exempt packet then replicate 32 0 otherwise packetHash packet
 abbrev pub seen : Arrived → List ℕ → View
 seen m t = viewAt (m .clock) (relayOf t)
 
--- at a place
-abbrev pub pathAt : List ℕ → ℕ → Path
-pathAt t place = pathOf (recordAt pathsAt pathWidth t place)
-
-abbrev pub linkAt : List ℕ → ℕ → Link
-linkAt t place = linkOf (recordAt linksAt linkWidth t place)
-
-abbrev pub returnAt : List ℕ → ℕ → Return
-returnAt t place = returnOf (recordAt returnsAt returnWidth t place)
+-- what the rate rule says of an announce at a clock for the path at a place
+abbrev pub ratedOn : List ℕ → ℕ → ℕ → Rated
+ratedOn t place clock = rated (relayOf t .rate) clock (pathAt t place .rate)
 
 -- ---- decisions
 unfoldable pub decidedWay : Relay → Arrival → Way → Decision

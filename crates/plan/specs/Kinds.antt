@@ -1,19 +1,23 @@
 -- Tests 6 to 13 for each kind of packet, once its record is found: those that can hold of it, in document 01's order.
 -- For the contracts of helpers: not part of what a reader must believe.
 use Prim.Native.Nat.{ℕ}
-use mathlib.Core.Bool.{true, false, not}
-use lib.Dec.{eqb, ltb}
+use mathlib.Core.Bool.{Bool, true, false, not}
+use lib.Dec.{eqb, ltb, leb}
+use Rattle.octets.specs.Index.{_and_}
 use Rattle.octets.specs.Choice.{_then_otherwise_}
 use Rattle.packet.specs.Hash.{linkId}
+use Rattle.packet.specs.Announce.{emissionOf}
 use Rattle.numbers.specs.Numbers.{pathCount, linkCount}
-use Rattle.rules.specs.Relay.{used, Path, Return, Relay}
+use Rattle.rules.specs.Relay.{Path, Return, Relay}
 use Rattle.rules.specs.View.{portOn, freePath, freeLink, viewAt}
-use Rattle.rules.specs.Arrival.{Arrival}
-use Rattle.rules.specs.Ways.{everywhere}
-use Rattle.rules.specs.Tests.{isThere, fromAnsweringSide, fromAskingSide, replay, notBetter}
+use Rattle.rules.specs.Arrival.{Arrival, hops, blob}
+use Rattle.rules.specs.Blobs.{held, isAmong, greatestEmission}
+use Rattle.rules.specs.Rate.{rated}
+use Rattle.rules.specs.Tests.{isThere, fromAnsweringSide, fromAskingSide}
+use Rattle.rules.specs.declared.RateSettings.{RateSettings}
 use Rattle.rules.specs.declared.Link.{Link}
 use Rattle.rules.specs.declared.Blocked.the-variants.{NotProved}
-use Rattle.rules.specs.declared.Reason.the-variants.{NoWayOn, AlreadyKnown, WrongSide, NotSigned, Replay, NotBetter, PortOff, NoRoom}
+use Rattle.rules.specs.declared.Reason.the-variants.{NoWayOn, AlreadyKnown, WrongSide, NotSigned, Replay, NotBetter, RateLimited, PortOff, NoRoom}
 use Rattle.plan.specs.declared.Decision.{Decision}
 use Rattle.plan.specs.Decided.{highOf, lowOf}
 use Rattle.plan.specs.declared.Decision.the-variants.{Drop, Announce, Data, Request, Carry, Receipt}
@@ -25,11 +29,16 @@ newPath clock r =
     not (ltb (freePath clock r) pathCount) then Drop NoRoom otherwise
     Announce (freePath clock r) false
 
--- of the known path at a place: 10, 11
-unfoldable pub knownPath : Arrival → Path → ℕ → Decision
-knownPath a p place =
-    replay a (everywhere (used p)) then Drop Replay otherwise
-    notBetter a (everywhere (used p)) then Drop NotBetter otherwise
+-- 11, by an announce's emission and hops
+unfoldable pub worseThan : ℕ → ℕ → Path → Bool
+worseThan emission hops p = leb emission (greatestEmission (held (p .blobs))) and leb (p .hops) hops
+
+-- of the known path at a place: 10, 11, 15
+unfoldable pub knownPath : RateSettings → Arrival → Path → ℕ → Decision
+knownPath s a p place =
+    isAmong (blob a) (held (p .blobs)) then Drop Replay otherwise
+    worseThan (emissionOf (blob a)) (hops a) p then Drop NotBetter otherwise
+    rated s (a .clock) (p .rate) .dropped then Drop RateLimited otherwise
     Announce place true
 
 -- ---- 12, by a port

@@ -1,20 +1,21 @@
-// Announces: tests 9, 10, 11 and 13.
+// Announces: tests 9, 10, 11, 15 and 13.
 use super::Arrived;
 use super::Decision;
 use numbers::PATH_COUNT;
+use rules::Rated;
 use rules::Reason;
 ghost use mathlib.Core.Path.{_≡_};
 ghost use mathlib.Core.Bool.{true, false};
-ghost use Prim.Native.Nat.{_≤_, _<_};
+ghost use Prim.Native.Nat.{_≤_};
 ghost use lib.ListN.{length};
 ghost use Rattle.packet.specs.Header.{isAnnounce};
-ghost use Rattle.packet.specs.Read.{headerOf, payload};
-ghost use Rattle.numbers.specs.Numbers.{pathCount, blobLimit};
+ghost use Rattle.packet.specs.Read.{headerOf, partsOf, payload};
+ghost use Rattle.packet.specs.Announce.{emissionOf};
 ghost use Rattle.rules.specs.Tests.{badForm};
 ghost use Rattle.tables.specs.Places.{tableSize};
 ghost use Rattle.tables.specs.Layout.{relayOf};
-ghost use Rattle.plan.specs.Decided.{arrivalOf, CanRead, CanJudge, pathAt, onwardOn};
-ghost use Rattle.plan.specs.Kinds.{newPath, knownPath};
+ghost use Rattle.plan.specs.Decided.{arrivalOf, CanRead, CanJudge, CanKnow, pathAt, ratedOn, onwardOn};
+ghost use Rattle.plan.specs.Kinds.{newPath, worseThan, knownPath};
 
 // A new path: test 13.
 fn new_path(tables: &[u8], clock: u64) -> Decision
@@ -31,23 +32,47 @@ fn new_path(tables: &[u8], clock: u64) -> Decision
     Decision::Drop(Reason::NoRoom)
 }
 
-// The known path at a place: tests 10 and 11.
+// Test 11, of the path at a place and an announce with this blob.
+fn not_better(tables: &[u8], packet: &[u8], place: usize, blob: [u8; 10]) -> bool
+    requires { ⌜ CanRead (now packet) (now tables) × CanKnow (now tables) place ⌝ }
+    ensures { λ r. ⌜ r ≡ worseThan (emissionOf blob) (partsOf (now (packet .entry)) .hops)
+        (pathAt (now (tables .entry)) place) ⌝ }
+{
+    if packet::emission(blob) > lookup::greatest_emission(tables, place) {
+        return false;
+    }
+    let stored = lookup::path_hops(tables, place);
+    let hops = packet[1];
+    stored <= hops
+}
+
+// What the rate rule says of an announce at a clock for the path at a place.
+pub fn rate_at(tables: &[u8], place: usize, clock: u64) -> Rated
+    requires { ⌜ (length (now tables) ≡ tableSize) × CanKnow (now tables) place ⌝ }
+    ensures { λ r. ⌜ r ≡ ratedOn (now (tables .entry)) place clock ⌝ }
+{
+    let settings = lookup::rate_settings(tables);
+    let entry = lookup::path_rate(tables, place);
+    rate::rule(settings, clock, entry)
+}
+
+// The known path at a place: tests 10, 11 and 15.
 fn known_path(tables: &[u8], packet: &[u8], arrived: Arrived, place: usize) -> Decision
-    requires { ⌜ CanRead (now packet) (now tables) × (place < pathCount)
-        × (pathAt (now tables) place .blobs .count ≤ blobLimit) × (84 ≤ length (payload (now packet))) ⌝ }
-    ensures { λ r. ⌜ r ≡ knownPath (arrivalOf (now (packet .entry)) arrived)
+    requires { ⌜ CanRead (now packet) (now tables) × CanKnow (now tables) place
+        × (84 ≤ length (payload (now packet))) ⌝ }
+    ensures { λ r. ⌜ r ≡ knownPath (relayOf (now (tables .entry)) .rate) (arrivalOf (now (packet .entry)) arrived)
         (pathAt (now (tables .entry)) place) place ⌝ }
 {
     let blob = packet::blob(packet::payload(packet));
     if lookup::holds_blob(tables, place, blob) {
         return Decision::Drop(Reason::Replay);
     }
-    if packet::emission(blob) <= lookup::greatest_emission(tables, place) {
-        let stored = lookup::path_hops(tables, place);
-        let hops = packet[1];
-        if stored <= hops {
-            return Decision::Drop(Reason::NotBetter);
-        }
+    if not_better(tables, packet, place, blob) {
+        return Decision::Drop(Reason::NotBetter);
+    }
+    let rated = rate_at(tables, place, arrived.clock);
+    if rated.dropped {
+        return Decision::Drop(Reason::RateLimited);
     }
     Decision::Announce { place, known: true }
 }

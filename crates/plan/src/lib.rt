@@ -1,15 +1,18 @@
 // What is to be done with an accepted packet, decided from the tables' bytes before anything is written.
 // Every function here is a helper of the packet call: the caller shows that the tables are well formed and that the
-// packet reads. Entry points: none. The packet call decides by `not_ours`, before it hashes, and by `decide`.
+// packet reads. Entry points: none. The packet call decides by `not_ours`, before it hashes, and by `decide`;
+// `reason_number` stands here for all above.
 mod announces;
 mod bad_form;
 mod contexts;
 mod first;
 mod links;
 mod paths;
+mod reasons;
 mod returns;
 
 use announces::decide_announce;
+pub use announces::rate_at;
 pub use bad_form::is_link_proof;
 pub use contexts::exempt;
 pub use contexts::used_hash;
@@ -17,6 +20,7 @@ use first::first_tests;
 pub use first::not_ours;
 use links::decide_of_link;
 use paths::decide_by_path;
+pub use reasons::reason_number;
 use returns::decide_proof;
 use rules::Clause;
 use rules::Reason;

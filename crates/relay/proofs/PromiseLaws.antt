@@ -1,5 +1,6 @@
 -- The promise, from what refusing and acting give.
 use Prim.Native.Nat.{ℕ, _<_}
+use native.Mathlib.Omega.{arith}
 use mathlib.Core.Bool.{Bool, true, false}
 use mathlib.Core.List.{List}
 use mathlib.Core.Path.{_≡_, refl, sym, ap, subst, _∙_}
@@ -28,7 +29,7 @@ use Rattle.plan.specs.declared.Decision.the-variants as decided-as
 use Rattle.plan.specs.Decided.{arrivalOf, decided, decision}
 use Rattle.update.specs.Written.{clockWritten}
 use Rattle.act.specs.Stored.{remembersDecided, stamped}
-use Rattle.act.proofs.Stays.{drop-left}
+use Rattle.act.proofs.Stays.{drop-left, drop-stays}
 use Rattle.act.proofs.StampLaws.{remembered-by, stamp-left}
 use Rattle.act.specs.Acted.{AcceptedOn, verdictOn, tablesOn, rememberedOn, outputOn}
 use Rattle.relay.specs.Refusal.{packetRefusalOn}
@@ -106,7 +107,8 @@ module _ (packet : List ℕ) (port clock : ℕ) (signed : Bool) (t : List ℕ) (
     unfolding decision decided plan earlyTests firstOf stamped remembersDecided _then_otherwise_
     not-ours-promised b ours after u q n =
         let d : decision (relayOf t) (arrivalOf packet m) ≡ decided-as.Drop NotOurs = rw ours in
-        let left = drop-left packet m t accepted b output NotOurs d in
+        let same = drop-stays packet m t (accepted .formed) b NotOurs (λ e. omega (arith, e)) in
+        let left = drop-left packet m t accepted b output NotOurs d (Drop NotOurs) t refl same in
         let forgets : false ≡ rememberedOn packet m t = sym (and-false _) ∙ remembered-by packet m t (decided-as.Drop NotOurs) d in
         let stamped = stamp-left packet m t accepted b _ t _ false refl (left .1) refl forgets in
         judged-promised (Drop NotOurs) after u output (left .0) (q ∙ stamped) (left .2) n

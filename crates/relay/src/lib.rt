@@ -1,13 +1,12 @@
 // The packet call: a packet is refused, or decided, acted on and counted.
 // Entry points: judge, with the tally by value (crates/haskumye lends it to hosts by `&mut`), signature_matters and
 // reason_number. They have no `requires`, and end on any bytes.
-mod reasons;
 mod refusals;
 mod signature;
 mod tallies;
 
 use plan::Arrived;
-pub use reasons::reason_number;
+pub use plan::reason_number;
 use refusals::refusal;
 use rules::Answer;
 use rules::Reason;

@@ -1,8 +1,8 @@
 // Whether the signature word matters, so that a host verifies a signature only where it does.
-use super::reasons::reason_number;
 use super::refusals::refusal;
 use plan::Arrived;
 use plan::Decision;
+use plan::reason_number;
 use rules::Reason;
 ghost use mathlib.Core.Path.{_≡_};
 ghost use Rattle.rules.specs.Questions.{word-matters};

@@ -9,14 +9,14 @@ use borrow.Author.Tests.{not-false}
 use Rattle.octets.specs.Choice.{_then_otherwise_}
 use Rattle.octets.proofs.Choice.{then-ap}
 use Rattle.octets.specs.Listed.{firstOf}
-use Rattle.rules.specs.Relay.{Port, Relay, withPorts, withLocals}
+use Rattle.rules.specs.Relay.{Port, Relay, withRate, withPorts, withLocals}
 use Rattle.rules.specs.View.{View, viewAt, isLocal, localPlace}
 use Rattle.rules.specs.Renumbering.{image, oneToOne, renumbered}
 use Rattle.rules.specs.Refusals.{tablesOk, packetRefusal, emptyLocal}
 use Rattle.rules.specs.Arrival.{Arrival}
 use Rattle.rules.specs.Answers.{renameVerdict, renameAnswer}
 use Rattle.rules.specs.Judging.{Plan, plan, verdict}
-use Rattle.rules.specs.Calls.{counted, Judgement, judged, judge, packetCall, Setting, settled, TableCall, sets-port, adds, removes, renumbers, ruleOf, tableRefusal, settle}
+use Rattle.rules.specs.Calls.{counted, Judgement, judged, judge, packetCall, Setting, settled, TableCall, sets-port, sets-rate, adds, removes, renumbers, ruleOf, tableRefusal, settle}
 use Rattle.rules.specs.Saved.{Said, Format, saveRefusal, loadRefusal}
 use Rattle.rules.specs.Run.{Call, packet, on-tables, asks, saves, loads, renumbering, Reply, numbered, saved, unsaved, movesPorts, setsRelay, Outcome, ofJudgement, ofSetting, ofTold, saveReply, ofSaid, perform, renameArrival, renameCall, renameReply}
 use Rattle.rules.specs.declared.Verdict.{Verdict}
@@ -60,6 +60,7 @@ accepted m r t fine ok = rw (fine, ok)
 pub addresses-renamed : (m : List ℕ) (c : TableCall) → ruleOf (ruleOf c .renamed m) .addresses ≡ ruleOf c .addresses
 unfolding ruleOf
 addresses-renamed m (sets-port port on mode) = refl
+addresses-renamed m (sets-rate target grace penalty) = refl
 addresses-renamed m (adds address) = refl
 addresses-renamed m (removes address) = refl
 addresses-renamed m (renumbers images) = refl
@@ -111,14 +112,16 @@ module _ (m : List ℕ) (ok : oneToOne m ≡ true) (r : Relay) (fine : tablesOk 
   rows-renamed : (c : TableCall) → ruleOf (ruleOf c .renamed m) .rows (renumbered m r) ≡ ruleOf c .rows r
   unfolding ruleOf isLocal localPlace emptyLocal renumbered
   rows-renamed (sets-port port on mode) = rw (image-leb m ok port)
+  rows-renamed (sets-rate target grace penalty) = refl
   rows-renamed (adds address) = refl
   rows-renamed (removes address) = refl
   rows-renamed (renumbers images) = refl
 
   after-renamed : (c : TableCall) → ruleOf c .movesPorts ≡ false → NoneHolds (ruleOf c .rows r)
       → ruleOf (ruleOf c .renamed m) .after (renumbered m r) ≡ renumbered m (ruleOf c .after r)
-  unfolding ruleOf localPlace emptyLocal withLocals renumbered
+  unfolding ruleOf localPlace emptyLocal withRate withLocals renumbered
   after-renamed (sets-port port on mode) no-map n = ports-renamed port (record { on = on; mode = mode })
+  after-renamed (sets-rate target grace penalty) no-map n = refl
   after-renamed (adds address) no-map n = refl
   after-renamed (removes address) no-map n = refl
   after-renamed (renumbers images) no-map n = absurd (false≢true (sym no-map ∙ not-false _ (n .0)))

@@ -65,7 +65,7 @@ module _ (v : View) (a : Arrival) where
   found-return empty e = tt
   found-return (used t) e = e
 
-  found-way : Found v a (wayOn v a)
+  pub found-way : Found v a (wayOn v a)
   unfolding wayOn
   found-way =
       either (Found v a) _ (λ _. refl)

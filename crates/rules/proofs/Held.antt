@@ -3,24 +3,27 @@
 use Prim.Native.Nat.{ℕ}
 use mathlib.Core.Bool.{Bool, true, false}
 use mathlib.Core.List.{List, [], _∷_, map}
-use mathlib.Core.Path.{_≡_}
+use mathlib.Core.Path.{_≡_, ap}
 use lib.Dec.{eqb}
 use lib.ListN.{length, set}
 use borrow.Author.Tests.{not-true}
 use Rattle.octets.proofs.Index.{and-left, and-right}
+use Rattle.octets.proofs.Choice.{then-true}
 use Rattle.packet.specs.Header.{isData}
-use Rattle.rules.specs.Relay.{Port, Slot, empty, used, Path, Return, Remembered, Ring, makePort, withSlots, Relay, withClock, withPorts, withLocals, withPaths, withLinks, withReturns, withHashes}
+use Rattle.rules.specs.Relay.{Port, Slot, empty, used, Path, Return, Remembered, Ring, makePort, makeRateSettings, withSlots, Relay, withClock, withRate, withPorts, withLocals, withPaths, withLinks, withReturns, withHashes}
 use Rattle.rules.specs.View.{View, viewAt, localPlace}
 use Rattle.rules.specs.Renumbering.{movedPorts, renamePath, renameLink, renameReturn, renameSlot, renumbered}
 use Rattle.rules.specs.Refusals.{packetRefusal, emptyLocal}
-use Rattle.rules.specs.Arrival.{Arrival, header}
+use Rattle.rules.specs.Arrival.{Arrival, header, destination}
 use Rattle.rules.specs.Ways.{Way, everywhere, by-path, along-link, by-return, blocked}
 use Rattle.rules.specs.Judging.{Plan, dropped, delivered, follows, plan}
-use Rattle.rules.specs.Writes.{remembers, remember, putPath, putReturn, emptyReturn, putLink, renewLink, writeWay, writePlan, stamp, enact}
-use Rattle.rules.specs.Calls.{Judgement, judged, judge, packetCall, settled, TableCall, sets-port, adds, removes, renumbers, ruleOf, settle}
+use Rattle.rules.specs.Writes.{remembers, remember, putPath, limitPath, putReturn, emptyReturn, putLink, renewLink, writeWay, isRateDrop, writeDrop, writePlan, stamp, enact}
+use Rattle.rules.specs.Calls.{Judgement, judged, judge, packetCall, settled, TableCall, sets-port, sets-rate, adds, removes, renumbers, ruleOf, tableRefusal, settle}
+use Rattle.rules.specs.Questions.{Question}
 use Rattle.rules.specs.Saved.{Format, loadRefusal}
-use Rattle.rules.specs.Run.{Call, packet, on-tables, saves, loads, EachCall, Outcome, ofJudgement, ofSetting, ofSaid, perform, relayAfter, noCall}
+use Rattle.rules.specs.Run.{Call, packet, on-tables, asks, saves, loads, EachCall, Outcome, ofJudgement, ofSetting, ofTold, ofSaid, perform, relayAfter, noCall}
 use Rattle.rules.specs.declared.Link.{Link}
+use Rattle.rules.specs.declared.RateSettings.{RateSettings}
 use Rattle.rules.specs.declared.Tally.{Tally}
 use Rattle.octets.proofs.Listed.{NoneHolds}
 use Rattle.rules.proofs.Choices.{either}
@@ -31,6 +34,7 @@ use Rattle.rules.proofs.Stamped.{plan-hashes}
 pub record Property : Type 1 where
   pub own : List ℕ → Type 0
   pub clock : ℕ → Type 0
+  pub rate : RateSettings → Type 0
   pub ports : List Port → Type 0
   pub locals : List (Slot (List ℕ)) → Type 0
   pub paths : List (Slot Path) → Type 0
@@ -42,6 +46,7 @@ pub record Property : Type 1 where
 pub record Holds (P : Property) (r : Relay) : Type 0 where
   pub own : P .own (r .own)
   pub clock : P .clock (r .clock)
+  pub rate : P .rate (r .rate)
   pub ports : P .ports (r .ports)
   pub locals : P .locals (r .locals)
   pub paths : P .paths (r .paths)
@@ -51,12 +56,13 @@ pub record Holds (P : Property) (r : Relay) : Type 0 where
 
 -- ---- a relay with one part changed
 module _ {P : Property} where
-  held : {r : Relay} → P .own (r .own) → P .clock (r .clock) → P .ports (r .ports) → P .locals (r .locals) → P .paths (r .paths)
+  held : {r : Relay} → P .own (r .own) → P .clock (r .clock) → P .rate (r .rate) → P .ports (r .ports) → P .locals (r .locals) → P .paths (r .paths)
       → P .links (r .links) → P .returns (r .returns) → P .hashes (r .hashes) → Holds P r
-  held own clock ports locals paths links returns hashes =
+  held own clock rate ports locals paths links returns hashes =
       record {
         own = own;
         clock = clock;
+        rate = rate;
         ports = ports;
         locals = locals;
         paths = paths;
@@ -68,31 +74,35 @@ module _ {P : Property} where
   module _ {r : Relay} (h : Holds P r) where
     pub clock-held : {c : ℕ} → P .clock c → Holds P (withClock c r)
     unfolding withClock
-    clock-held k = held (h .own) k (h .ports) (h .locals) (h .paths) (h .links) (h .returns) (h .hashes)
+    clock-held k = held (h .own) k (h .rate) (h .ports) (h .locals) (h .paths) (h .links) (h .returns) (h .hashes)
+
+    pub rate-held : {x : RateSettings} → P .rate x → Holds P (withRate x r)
+    unfolding withRate
+    rate-held k = held (h .own) (h .clock) k (h .ports) (h .locals) (h .paths) (h .links) (h .returns) (h .hashes)
 
     pub ports-held : {x : List Port} → P .ports x → Holds P (withPorts x r)
     unfolding withPorts
-    ports-held k = held (h .own) (h .clock) k (h .locals) (h .paths) (h .links) (h .returns) (h .hashes)
+    ports-held k = held (h .own) (h .clock) (h .rate) k (h .locals) (h .paths) (h .links) (h .returns) (h .hashes)
 
     pub locals-held : {x : List (Slot (List ℕ))} → P .locals x → Holds P (withLocals x r)
     unfolding withLocals
-    locals-held k = held (h .own) (h .clock) (h .ports) k (h .paths) (h .links) (h .returns) (h .hashes)
+    locals-held k = held (h .own) (h .clock) (h .rate) (h .ports) k (h .paths) (h .links) (h .returns) (h .hashes)
 
     pub paths-held : {x : List (Slot Path)} → P .paths x → Holds P (withPaths x r)
     unfolding withPaths
-    paths-held k = held (h .own) (h .clock) (h .ports) (h .locals) k (h .links) (h .returns) (h .hashes)
+    paths-held k = held (h .own) (h .clock) (h .rate) (h .ports) (h .locals) k (h .links) (h .returns) (h .hashes)
 
     pub links-held : {x : List (Slot Link)} → P .links x → Holds P (withLinks x r)
     unfolding withLinks
-    links-held k = held (h .own) (h .clock) (h .ports) (h .locals) (h .paths) k (h .returns) (h .hashes)
+    links-held k = held (h .own) (h .clock) (h .rate) (h .ports) (h .locals) (h .paths) k (h .returns) (h .hashes)
 
     pub returns-held : {x : Ring Return} → P .returns x → Holds P (withReturns x r)
     unfolding withReturns
-    returns-held k = held (h .own) (h .clock) (h .ports) (h .locals) (h .paths) (h .links) k (h .hashes)
+    returns-held k = held (h .own) (h .clock) (h .rate) (h .ports) (h .locals) (h .paths) (h .links) k (h .hashes)
 
     pub hashes-held : {x : Ring Remembered} → P .hashes x → Holds P (withHashes x r)
     unfolding withHashes
-    hashes-held k = held (h .own) (h .clock) (h .ports) (h .locals) (h .paths) (h .links) (h .returns) k
+    hashes-held k = held (h .own) (h .clock) (h .rate) (h .ports) (h .locals) (h .paths) (h .links) (h .returns) k
 
 -- ---- a packet
 -- it holds of the part that a packet writes which follows a way
@@ -105,7 +115,7 @@ WayKeeps P v a r (by-return t) = P .returns (emptyReturn a r .returns)
 WayKeeps P v a r (blocked why) = Unit {0}
 
 abbrev pub PlanKeeps : Property → View → Arrival → Relay → Plan → Type 0
-PlanKeeps P v a r (dropped reason) = Unit {0}
+PlanKeeps P v a r (dropped reason) = isRateDrop reason ≡ true → P .paths (limitPath v a (v .path (destination a)) r .paths)
 PlanKeeps P v a r delivered = Unit {0}
 PlanKeeps P v a r (follows w) = WayKeeps P v a r w
 
@@ -124,9 +134,14 @@ module _ {P : Property} {r : Relay} (h : Holds P r) where
   way-held v a (by-return t) k = returns-held h k
   way-held v a (blocked why) k = h
 
+  limit-held : (v : View) (a : Arrival) (s : Slot Path) → P .paths (limitPath v a s r .paths) → Holds P (limitPath v a s r)
+  unfolding limitPath withPaths
+  limit-held v a empty k = h
+  limit-held v a (used p) k = paths-held h k
+
   plan-held : (v : View) (a : Arrival) (todo : Plan) → PlanKeeps P v a r todo → Holds P (writePlan v a todo r)
-  unfolding writePlan
-  plan-held v a (dropped reason) k = h
+  unfolding writePlan writeDrop
+  plan-held v a (dropped reason) k = either (Holds P) (isRateDrop reason) (λ e. limit-held v a _ (k e)) (λ _. h)
   plan-held v a delivered k = h
   plan-held v a (follows w) k = way-held v a w k
 
@@ -145,6 +160,7 @@ module _ {P : Property} {r : Relay} (h : Holds P r) where
 -- ---- a call on the tables
 abbrev pub TableKeeps : Property → Relay → TableCall → Type 0
 TableKeeps P r (sets-port port on mode) = P .ports (set (r .ports) port (makePort on mode))
+TableKeeps P r (sets-rate target grace penalty) = P .rate (makeRateSettings target grace penalty)
 TableKeeps P r (adds address) = P .locals (set (r .locals) (emptyLocal r) (used address))
 TableKeeps P r (removes address) = P .locals (set (r .locals) (localPlace r address) empty)
 TableKeeps P r (renumbers images) =
@@ -156,11 +172,17 @@ TableKeeps P r (renumbers images) =
 pub table-held : {P : Property} {r : Relay} → Holds P r → (c : TableCall) → TableKeeps P r c → Holds P (ruleOf c .after r)
 unfolding ruleOf renumbered
 table-held h (sets-port port on mode) k = ports-held h k
+table-held h (sets-rate target grace penalty) k = rate-held h k
 table-held h (adds address) k = locals-held h k
 table-held h (removes address) k = locals-held h k
 table-held h (renumbers images) k = ports-held (paths-held (links-held (returns-held h (k .3)) (k .2)) (k .1)) (k .0)
 
 -- ---- any call: a refused one leaves the relay as it was
+pub judged-relay : (a : Arrival) (r : Relay) (t : Tally) (output : List ℕ) → eqb (packetRefusal r a (length output)) 0 ≡ true
+    → perform (packet a output) r t .relay ≡ enact (viewAt (a .clock) r) a (plan (viewAt (a .clock) r) a) r
+unfolding perform ofJudgement packetCall judge judged
+judged-relay a r t output taken = ap (λ (j : Judgement). j .relay) (then-true _ _ taken)
+
 module _ (Q : Relay → Type 0) {r : Relay} (q : Q r) where
   pub packet-kept : (a : Arrival) (t : Tally) (output : List ℕ)
       → (eqb (packetRefusal r a (length output)) 0 ≡ true → Q (enact (viewAt (a .clock) r) a (plan (viewAt (a .clock) r) a) r))
@@ -169,9 +191,16 @@ module _ (Q : Relay → Type 0) {r : Relay} (q : Q r) where
   packet-kept a t output accepted =
       either (λ (j : Judgement). Q (j .relay)) (eqb (packetRefusal r a (length output)) 0) accepted (λ _. q)
 
-  pub table-kept : (c : TableCall) (t : Tally) → (NoneHolds (ruleOf c .rows r) → Q (ruleOf c .after r)) → Q (perform (on-tables c) r t .relay)
+  pub table-kept-by : (c : TableCall) (t : Tally) → (eqb (tableRefusal c r) 0 ≡ true → Q (ruleOf c .after r)) → Q (perform (on-tables c) r t .relay)
   unfolding perform ofSetting settle settled
-  table-kept c t accepted = either Q _ (λ e. accepted (table-passed c r e)) (λ _. q)
+  table-kept-by c t accepted = either Q _ accepted (λ _. q)
+
+  pub table-kept : (c : TableCall) (t : Tally) → (NoneHolds (ruleOf c .rows r) → Q (ruleOf c .after r)) → Q (perform (on-tables c) r t .relay)
+  table-kept c t accepted = table-kept-by c t (λ e. accepted (table-passed c r e))
+
+  pub ask-kept : (question : Question) (t : Tally) → Q (perform (asks question) r t .relay)
+  unfolding perform ofTold
+  ask-kept question t = q
 
   pub save-kept : (f : Format) (room : List ℕ) (t : Tally) → Q (perform (saves f room) r t .relay)
   unfolding perform

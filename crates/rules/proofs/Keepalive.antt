@@ -17,7 +17,7 @@ use Rattle.rules.specs.View.{View}
 use Rattle.rules.specs.Arrival.{Arrival, header, hops, destination, isLinkProof}
 use Rattle.rules.specs.Exempt.{exemptContext, exempt}
 use Rattle.rules.specs.Ways.{Way, along-link, linkWay, wayOn}
-use Rattle.rules.specs.Tests.{notOurs, testedAsDuplicate, duplicate, typeTwoProof, typeTwoOfKindLink, announceNotSingle, announceTooShort, announceOfAnother, requestOfKindLink, requestTooShort, linkProofLength, formTests, badForm, ownAnnounce, deliveredHere, tooManyHops, noWayOn, alreadyKnown, fromAnsweringSide, fromAskingSide, wrongSide, notSigned, replay, notBetter, leavingPort, portOff, noRoom}
+use Rattle.rules.specs.Tests.{notOurs, testedAsDuplicate, duplicate, typeTwoProof, typeTwoOfKindLink, announceNotSingle, announceTooShort, announceOfAnother, requestOfKindLink, requestTooShort, linkProofLength, formTests, badForm, ownAnnounce, deliveredHere, tooManyHops, noWayOn, alreadyKnown, fromAnsweringSide, fromAskingSide, wrongSide, notSigned, ofKnown, replay, notBetter, rateLimited, leavingPort, portOff, noRoom}
 use Rattle.rules.specs.Judging.{follows, earlyTests, onwardTests, onwardPlan, plan}
 use Rattle.rules.specs.Keepalives.{isKeepalive, keepsAlive}
 use Rattle.rules.specs.declared.Link.{Link}
@@ -130,7 +130,7 @@ module _ (l : Link) (a : Arrival) (k : keepsAlive l a ≡ true) where
 
     late-none : v .on (l .asking) ≡ true → v .on (l .answering) ≡ true
         → firstOf (onwardTests v a (along-link l)) (follows (along-link l)) ≡ follows (along-link l)
-    unfolding onwardTests noWayOn alreadyKnown notSigned replay notBetter portOff noRoom
+    unfolding onwardTests noWayOn alreadyKnown notSigned ofKnown replay notBetter rateLimited portOff noRoom
     late-none asking answering =
         none-first (onwardTests v a (along-link l)) _ (
           refl,
@@ -145,8 +145,11 @@ module _ (l : Link) (a : Arrival) (k : keepsAlive l a ≡ true) where
                   (
                     refl,
                     (
-                      ap (λ (b : Bool). not (isAnnounce (header a)) and not b) (port-on asking answering) ∙ and-false _,
-                      (refl, tt),
+                      refl,
+                      (
+                        ap (λ (b : Bool). not (isAnnounce (header a)) and not b) (port-on asking answering) ∙ and-false _,
+                        (refl, tt),
+                      ),
                     ),
                   ),
                 ),

@@ -8,7 +8,7 @@ use mathlib.Core.Path.{_≡_, refl, sym, ap, subst, _∙_}
 use lib.Dec.{eqb, ltb}
 use lib.ListN.{length, getD, set, length-set}
 use lib.Seq.{getD-set-same, getD-set-other, set-out}
-use borrow.Author.Tests.{ltb-true, lt-ltb, eq-eqb, not-true, not-false}
+use borrow.Author.Tests.{ltb-true, lt-ltb, eqb-true, eq-eqb, not-true, not-false}
 use Rattle.octets.specs.Index.{_and_}
 use Rattle.octets.specs.Choice.{_then_otherwise_, _or_, same}
 use Rattle.octets.specs.Part.{patch}
@@ -18,7 +18,7 @@ use Rattle.octets.proofs.Listed.{allGive, refuses, rows-passed}
 use Rattle.packet.specs.Header.{isData}
 use Rattle.packet.specs.Hash.{linkId}
 use Rattle.numbers.specs.Numbers.{portCount, linkCount, provedLifetime, live}
-use Rattle.rules.specs.Relay.{Port, Slot, empty, used, makePort, noPort, Path, Relay, holds, free, lowestFree, withClock, withPorts, withLocals, withPaths, withLinks, withReturns, withHashes}
+use Rattle.rules.specs.Relay.{Port, Slot, empty, used, makePort, noPort, Path, Relay, holds, free, lowestFree, withClock, withRate, withPorts, withLocals, withPaths, withLinks, withReturns, withHashes}
 use Rattle.rules.specs.View.{View, viewAt, portOn, isLiveLink, linkPlace, freeLink}
 use Rattle.rules.specs.Refusals.{slotOk, linkOk, packetRows, packetRefusal, refusalBy}
 use Rattle.rules.specs.Arrival.{Arrival, header, hops, destination}
@@ -27,9 +27,8 @@ use Rattle.rules.specs.Tests.{isThere, alreadyKnown, fromAnsweringSide, 
 use Rattle.rules.specs.Outgoing.{outgoing, carriedPacket}
 use Rattle.rules.specs.Judging.{Plan, dropped, delivered, follows, plan, verdict, wayVerdict, leaves, outputAfter}
 use Rattle.rules.specs.Writes.{putPath, putReturn, emptyReturn, linkRecord, putLink, renewedLink, renewLink, writeWay, writePlan, remember, remembers, stamp, enact}
-use Rattle.rules.specs.Calls.{Judgement, judged, judge, packetCall, TableCall, sets-port, adds, removes, renumbers, ruleOf, tableRefusal, settle, settled}
-use Rattle.rules.specs.Questions.{Question}
-use Rattle.rules.specs.Run.{Call, packet, on-tables, asks, saves, loads, answered, ofJudgement, ofSetting, ofTold, perform}
+use Rattle.rules.specs.Calls.{Judgement, judged, judge, packetCall, TableCall, sets-port, sets-rate, adds, removes, renumbers, ruleOf}
+use Rattle.rules.specs.Run.{Call, packet, on-tables, asks, saves, loads, answered, ofJudgement, perform}
 use Rattle.rules.specs.Keepalives.{keepsAlive, until, UpAt, Carried, accepted, fair, nextDeadline, Starts, InTime, CarriedIf, Lasts}
 use Rattle.rules.specs.declared.Link.{Link}
 use Rattle.rules.specs.declared.Tally.{Tally}
@@ -40,9 +39,10 @@ use Rattle.rules.proofs.Tables.{table-length}
 use Rattle.rules.proofs.Slots.{used-same}
 use Rattle.rules.proofs.Lowest.{Lowest, lowest-later, lowest-place, lowest-found, found-lowest, lowest-other, lowest-renewed}
 use Rattle.rules.proofs.Accepted.{accepted-packet}
+use Rattle.rules.proofs.Stamped.{drop-kept, enact-clock, enact-links}
 use Rattle.rules.proofs.Followed.{Followed, Planned, planned, is-request}
-use Rattle.rules.proofs.Held.{packet-kept, save-kept, load-kept}
-use Rattle.rules.proofs.Valid.{Valid, valid-of}
+use Rattle.rules.proofs.Held.{judged-relay, packet-kept, table-kept-by, ask-kept, save-kept, load-kept}
+use Rattle.rules.proofs.Valid.{accepted-valid}
 use Rattle.rules.proofs.Keepalive.{names-link, keepalive-follows}
 
 -- ---- the link table through one packet
@@ -145,21 +145,13 @@ module _ (l : Link) (r : Relay) (size : length (r .links) ≡ linkCount) (a : Ar
     way-links v (blocked why) f = as-it-was
 
     plan-links : (v : View) (todo : Plan) → Planned (viewAt (a .clock) r) a todo → Still (writePlan v a todo r .links)
-    unfolding writePlan
-    plan-links v (dropped reason) h = as-it-was
+    unfolding writePlan withPaths
+    plan-links v (dropped reason) h = drop-kept v a (λ s. Still (s .links)) reason r as-it-was (λ paths. as-it-was)
     plan-links v delivered h = as-it-was
     plan-links v (follows w) h = way-links v w h
 
--- the stamp leaves the links, and every accepted packet sets the clock and leaves the ports
+-- every accepted packet leaves the ports
 module _ (v : View) (a : Arrival) (todo : Plan) (r : Relay) where
-  enact-links : enact v a todo r .links ≡ writePlan v a todo r .links
-  unfolding enact stamp withClock remember withHashes
-  enact-links = either (λ (s : Relay). s .links ≡ writePlan v a todo r .links) (remembers v a todo) (λ _. refl) (λ _. refl)
-
-  enact-clock : enact v a todo r .clock ≡ a .clock
-  unfolding enact stamp withClock remember withHashes
-  enact-clock = either (λ (s : Relay). s .clock ≡ a .clock) (remembers v a todo) (λ _. refl) (λ _. refl)
-
   way-ports : (w : Way) → writeWay v a w r .ports ≡ r .ports
   unfolding writeWay putPath putReturn putLink renewLink emptyReturn withPaths withLinks withReturns
   way-ports (everywhere known) = refl
@@ -169,8 +161,8 @@ module _ (v : View) (a : Arrival) (todo : Plan) (r : Relay) where
   way-ports (blocked why) = refl
 
   plan-ports : (todo : Plan) → writePlan v a todo r .ports ≡ r .ports
-  unfolding writePlan
-  plan-ports (dropped reason) = refl
+  unfolding writePlan withPaths
+  plan-ports (dropped reason) = drop-kept v a (λ s. s .ports ≡ r .ports) reason r refl (λ paths. refl)
   plan-ports delivered = refl
   plan-ports (follows w) = way-ports w
 
@@ -183,15 +175,6 @@ unfolding portOn
 same-ports r s e port h = rw e h
 
 -- ---- one packet
-accepted-valid : (r : Relay) (a : Arrival) (room : ℕ) → eqb (packetRefusal r a room) 0 ≡ true → Valid r
-unfolding refusalBy packetRows allGive refuses _and_
-accepted-valid r a room taken =
-    valid-of r (not-false _ (rows-passed (packetRows r (a .port) (a .clock) room) _ refl taken .0))
-
-judged-relay : (a : Arrival) (r : Relay) (t : Tally) (output : List ℕ) → eqb (packetRefusal r a (length output)) 0 ≡ true
-    → perform (packet a output) r t .relay ≡ enact (viewAt (a .clock) r) a (plan (viewAt (a .clock) r) a) r
-unfolding perform ofJudgement packetCall judge judged
-judged-relay a r t output taken = ap (λ (j : Judgement). j .relay) (then-true _ _ taken)
 
 module _ (l : Link) (expiry : ℕ) (r : Relay) (a : Arrival) (output : List ℕ) (t : Tally) (up : UpAt l expiry (a .clock) r)
     (taken : eqb (packetRefusal r a (length output)) 0 ≡ true) where
@@ -337,7 +320,7 @@ still-on r port on mode p rightly h = go (ℕ-discrete p port) (decLt port (leng
 -- a call on the tables leaves clock and links, and both ports on
 table-up : (l : Link) (deadline : ℕ) (r : Relay) → Starts l deadline r → (c : TableCall) → fair l deadline (on-tables c) ≡ true
     → Starts l deadline (ruleOf c .after r)
-unfolding ruleOf fair viewAt linkPlace withPorts withLocals portOn
+unfolding ruleOf fair viewAt linkPlace withRate withPorts withLocals portOn
 table-up l deadline r s (sets-port port on mode) h =
     record {
       expiry = s .expiry;
@@ -347,6 +330,13 @@ table-up l deadline r s (sets-port port on mode) h =
             asking = still-on r port on mode (l .asking) (λ q. rightly-left on _ _ h (eq-eqb port (l .asking) q)) (s .up .asking);
             answering = still-on r port on mode (l .answering) (λ q. rightly-right on _ _ h (eq-eqb port (l .answering) q)) (s .up .answering);
           };
+      lasts = s .lasts;
+      near = s .near;
+    }
+table-up l deadline r s (sets-rate target grace penalty) h =
+    record {
+      expiry = s .expiry;
+      up = record { lives = s .up .lives; asking = s .up .asking; answering = s .up .answering };
       lasts = s .lasts;
       near = s .near;
     }
@@ -365,15 +355,6 @@ table-up l deadline r s (removes address) h =
       near = s .near;
     }
 table-up l deadline r s (renumbers images) h = absurd (false≢true h)
-
-table-kept-by : (Q : Relay → Type 0) {r : Relay} → Q r → (c : TableCall) (t : Tally)
-    → (eqb (tableRefusal c r) 0 ≡ true → Q (ruleOf c .after r)) → Q (perform (on-tables c) r t .relay)
-unfolding perform ofSetting settle settled
-table-kept-by Q q c t taken = either Q _ taken (λ _. q)
-
-asked-kept-by : (Q : Relay → Type 0) {r : Relay} → Q r → (q : Question) (t : Tally) → Q (perform (asks q) r t .relay)
-unfolding perform ofTold
-asked-kept-by Q here q t = here
 
 -- the link at a later clock that is before its deadline
 up-later : (l : Link) (deadline : ℕ) (r : Relay) (s : Starts l deadline r) (a : Arrival) (room : ℕ) → eqb (packetRefusal r a room) 0 ≡ true
@@ -420,7 +401,7 @@ module _ (l : Link) (deadline : ℕ) where
           subst (λ (n : ℕ). Starts l n R) (sym (then-false _ _ (ap (λ (b : Bool). eqb (packetRefusal r a (length output)) 0 and b) k ∙ and-false _)))
           (any-packet l (s .expiry) r a output t (later h) h deadline (s .lasts) (near h) (before h))
   call-up (on-tables c) r t s justly = table-kept-by (Starts l deadline) s c t (λ e. table-up l deadline r s c (justly e))
-  call-up (asks q) r t s justly = asked-kept-by (Starts l deadline) s q t
+  call-up (asks q) r t s justly = ask-kept (Starts l deadline) s q t
   call-up (saves f room) r t s justly = save-kept (Starts l deadline) s f room t
   call-up (loads f file) r t s justly = load-kept (Starts l deadline) s f file t (λ e. absurd (false≢true (justly e)))
 

@@ -41,3 +41,9 @@ pub mod UniqueWrites
 pub mod Unique
 pub mod Keepalive
 pub mod Lasting
+pub mod RateLaws
+pub mod ChattyPlan
+pub mod ChattyPacket
+pub mod ChattyOff
+pub mod ChattySpaced
+pub mod ChattyScene

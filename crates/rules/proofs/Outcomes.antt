@@ -7,8 +7,9 @@ use lib.ListN.{length, take, replicate}
 use Rattle.octets.specs.Part.{patch}
 use Rattle.packet.specs.Hash.{packetHash, linkId}
 use Rattle.numbers.specs.Numbers.{localCount, pathCount, blobLimit, linkCount, returnCount, hashCount}
-use Rattle.rules.specs.Relay.{freshPort, Slot, empty, used, Path, Return, Remembered, Relay}
+use Rattle.rules.specs.Relay.{freshPort, noRateSettings, Slot, empty, used, Path, Return, Remembered, Relay}
 use Rattle.rules.specs.Blobs.{noBlob}
+use Rattle.rules.specs.Rate.{startsAt}
 use Rattle.rules.specs.View.{viewAt}
 use Rattle.rules.specs.Refusals.{packetRefusal}
 use Rattle.rules.specs.Tests.{badForm}
@@ -56,6 +57,7 @@ relayOf clock paths links returns hashes =
     record {
       own = own;
       clock = clock;
+      rate = noRateSettings;
       ports = freshPort ∷ record { on = true; mode = 2 } ∷ record { on = true; mode = 0 } ∷ replicate 13 freshPort;
       locals = replicate localCount empty;
       paths = filled pathCount paths;
@@ -76,6 +78,7 @@ knownPath =
       hops = 0;
       nextHop = destination;
       expiry = 22600;
+      rate = startsAt 1000;
       blobs = record { count = 1; places = blobWith emission ∷ replicate (blobLimit - 1) noBlob };
     }
 

@@ -1,14 +1,22 @@
--- The tests that a packet passed that follows a way, each by its name; and the lists with what one test says given.
+-- The tests that a packet passed that follows a way, each by its name; and the test that an answer names.
 use mathlib.Core.Bool.{Bool, true, false}
+use Prim.Native.Nat.{ℕ}
 use mathlib.Core.Path.{_≡_, refl, sym, ap, subst, _∙_}
+use lib.Dec.{eqb}
+use lib.ListN.{length}
 use Rattle.octets.specs.Index.{_and_}
+use Rattle.octets.specs.Choice.{_then_otherwise_, _or_}
 use Rattle.octets.proofs.Listed.{allGive}
 use Rattle.rules.specs.View.{View}
 use Rattle.rules.specs.Arrival.{Arrival, hops}
-use Rattle.rules.specs.Ways.{Way, wayOn}
-use Rattle.rules.specs.Tests.{notOurs, duplicate, badForm, ownAnnounce, deliveredHere, tooManyHops, noWayOn, alreadyKnown, wrongSide, notSigned, replay, notBetter, portOff, noRoom}
-use Rattle.rules.specs.Judging.{Plan, dropped, delivered, follows, earlyTests, onwardTests, onwardPlan, plan}
+use Rattle.rules.specs.Ways.{Way, everywhere, by-path, along-link, by-return, blocked, wayOn}
+use Rattle.rules.specs.Tests.{notOurs, duplicate, badForm, ownAnnounce, deliveredHere, tooManyHops, noWayOn, alreadyKnown, wrongSide, notSigned, replay, notBetter, rateLimited, portOff, noRoom}
+use Rattle.rules.specs.Answers.{reasonNumber}
+use Rattle.rules.specs.Outgoing.{spreadPorts, outgoing, exceeds}
+use Rattle.rules.specs.Judging.{Plan, dropped, delivered, follows, earlyTests, onwardTests, onwardPlan, plan, spreadVerdict, wayVerdict, verdict}
 unfoldable pub use Rattle.rules.specs.Questions.{ofTest}
+use Rattle.rules.specs.declared.Verdict.{Verdict}
+use Rattle.rules.specs.declared.Verdict.the-variants.{Drop, Deliver, Forward, Spread, Kept}
 use Rattle.octets.proofs.Listed.{NoneHolds, none-first, none-holds}
 
 -- the packet goes no further
@@ -30,6 +38,7 @@ pub record Passed (v : View) (a : Arrival) (w : Way) : Type 0 where
   pub signed : notSigned a ≡ false
   pub newBlob : replay a w ≡ false
   pub better : notBetter a w ≡ false
+  pub unlimited : rateLimited v a w ≡ false
   pub portOn : portOff v a w ≡ false
   pub room : noRoom v a w ≡ false
 
@@ -38,7 +47,7 @@ module _ (v : View) (a : Arrival) where
   unfolding earlyTests onwardTests
   passed-all w early late =
       let (ours, (new, (form, (notOwn, (elsewhere, (fewHops, _)))))) = early in
-      let (someWay, (unknown, (side, (signed, (newBlob, (better, (portOn, (room, _)))))))) = late in
+      let (someWay, (unknown, (side, (signed, (newBlob, (better, (unlimited, (portOn, (room, _))))))))) = late in
       record {
         ours = ours;
         new = new;
@@ -52,6 +61,7 @@ module _ (v : View) (a : Arrival) where
         signed = signed;
         newBlob = newBlob;
         better = better;
+        unlimited = unlimited;
         portOn = portOn;
         room = room;
       }
@@ -66,3 +76,26 @@ module _ (v : View) (a : Arrival) where
       let end : follows (wayOn v a) ≡ follows w = sym (none-first (onwardTests v a (wayOn v a)) _ late) ∙ on in
       let way : wayOn v a ≡ w = cc in
       (way, subst (Passed v a) way (passed-all (wayOn v a) early late))
+
+-- ---- the answer names this test
+unfoldable pub namesTest : ℕ → Verdict → Bool
+namesTest n (Drop reason) = eqb (reasonNumber reason) n
+namesTest n Deliver = false
+namesTest n (Forward port length) = false
+namesTest n (Spread ports length) = false
+namesTest n Kept = false
+
+-- as the plan does; a way that is blocked, which no plan follows, would be answered by test 6
+pub names-test : (v : View) (a : Arrival) (n : ℕ) → eqb 6 n ≡ false → (todo : Plan) → namesTest n (verdict v a todo) ≡ ofTest n todo
+unfolding namesTest verdict wayVerdict spreadVerdict ofTest _then_otherwise_
+names-test v a n other (dropped reason) = refl
+names-test v a n other delivered = refl
+names-test v a n other (follows (everywhere known)) = go (eqb (spreadPorts v a) 0 or exceeds (outgoing v a (everywhere known)))
+  where
+    go : (b : Bool) → namesTest n (b then Kept otherwise Spread (spreadPorts v a) (length (outgoing v a (everywhere known)))) ≡ false
+    go true = refl
+    go false = refl
+names-test v a n other (follows (by-path p)) = refl
+names-test v a n other (follows (along-link l)) = refl
+names-test v a n other (follows (by-return t)) = refl
+names-test v a n other (follows (blocked why)) = other

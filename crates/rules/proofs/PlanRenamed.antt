@@ -25,7 +25,7 @@ use Rattle.octets.proofs.Listed.{first-ap}
 use Rattle.rules.proofs.Images.{image-port, image-eqb, preimage-holds, source, source-port}
 use Rattle.rules.proofs.PortSets.{image-set, image-set-empty}
 use Rattle.rules.proofs.ViewRenamed.{renameView}
-use Rattle.rules.proofs.TestsRenamed.{renameWay, wayOn-renamed, notOurs-renamed, duplicate-renamed, bytes-renamed, ownAnnounce-renamed, deliveredHere-renamed, noWayOn-renamed, whyBlocked-renamed, alreadyKnown-renamed, wrongSide-renamed, notSigned-renamed, replay-renamed, notBetter-renamed, leavingPort-renamed, portOff-renamed, noRoom-renamed, outgoing-renamed}
+use Rattle.rules.proofs.TestsRenamed.{renameWay, wayOn-renamed, notOurs-renamed, duplicate-renamed, bytes-renamed, ownAnnounce-renamed, deliveredHere-renamed, noWayOn-renamed, whyBlocked-renamed, alreadyKnown-renamed, wrongSide-renamed, notSigned-renamed, replay-renamed, notBetter-renamed, rateLimited-renamed, leavingPort-renamed, portOff-renamed, noRoom-renamed, outgoing-renamed}
 
 unfoldable pub renamePlan : List ℕ → Plan → Plan
 renamePlan m (dropped reason) = dropped reason
@@ -56,6 +56,7 @@ module _ (m : List ℕ) (ok : oneToOne m ≡ true) where
         notSigned-renamed m a,
         replay-renamed m a w,
         notBetter-renamed m a w,
+        rateLimited-renamed m v a w,
         portOff-renamed m ok v a w,
         noRoom-renamed m v a w,
       )

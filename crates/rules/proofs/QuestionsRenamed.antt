@@ -17,7 +17,7 @@ use Rattle.rules.specs.Renumbering.{image, oneToOne, renamePath, renameL
 use Rattle.rules.specs.Refusals.{tableOk, tablesOk, packetRows, packetRefusal, refusalBy}
 use Rattle.rules.specs.Arrival.{Arrival}
 use Rattle.rules.specs.Judging.{Plan, dropped, delivered, follows, plan}
-use Rattle.rules.specs.Questions.{Question, port-settings, local-at, path-at, link-at, live-path, live-returns, live-hashes, last-clock, word-matters, Told, refused, none, a-port, an-address, a-path, a-link, a-number, yes-or-no, toldOf, countOf, cameWith, ofTest, wordMatters, rowSeven, questionRule, questionRefusal, tell, renameTold}
+use Rattle.rules.specs.Questions.{Question, port-settings, rate-settings, local-at, path-at, link-at, live-path, live-returns, live-hashes, last-clock, word-matters, Told, refused, none, a-port, a-rate, an-address, a-path, a-link, a-number, yes-or-no, toldOf, countOf, cameWith, ofTest, wordMatters, rowSeven, questionRule, questionRefusal, tell, renameTold}
 use Rattle.rules.specs.Run.{renameArrival}
 use Rattle.rules.proofs.Images.{image-leb, source-image}
 use Rattle.rules.proofs.MovedPorts.{moved-at}
@@ -29,7 +29,7 @@ use Rattle.rules.proofs.PlanRenamed.{renamePlan, plan-renamed}
 -- a relay that row 7 doesn't name has sixteen ports
 pub sixteen-ports : (r : Relay) → tablesOk r ≡ true → length (r .ports) ≡ 16
 unfolding tablesOk tableOk
-sixteen-ports r fine = eqb-true (length (r .ports)) 16 (and-left _ _ (and-left _ _ (and-right _ _ fine)))
+sixteen-ports r fine = eqb-true (length (r .ports)) 16 (and-left _ _ (and-left _ _ (and-right _ _ (and-right _ _ fine))))
 
 -- what a renamed slot holds, told
 told-renamed : {A : Type 0} (m : List ℕ) (rename : A → A) (tells : A → Told) → ((x : A) → renameTold m (tells x) ≡ tells (rename x))
@@ -75,6 +75,7 @@ module _ (m : List ℕ) (ok : oneToOne m ≡ true) (r : Relay) (fine : tablesOk 
   refusal-renamed : (q : Question) → questionRefusal (questionRule q .renamed m) (renumbered m r) ≡ questionRefusal q r
   unfolding questionRefusal questionRule renameArrival
   refusal-renamed (port-settings port) = row-renamed
+  refusal-renamed rate-settings = row-renamed
   refusal-renamed (local-at place) = row-renamed
   refusal-renamed (path-at place) = row-renamed
   refusal-renamed (link-at place) = row-renamed
@@ -89,6 +90,7 @@ module _ (m : List ℕ) (ok : oneToOne m ≡ true) (r : Relay) (fine : tablesOk 
   answer-renamed (port-settings port) =
       ap₂ (λ (b : Bool) (p : Port). b then none otherwise a-port p) (image-leb m ok port) (port-renamed port)
       ∙ sym (then-ap (renameTold m) (leb portCount port) none (a-port (getD (r .ports) port noPort)))
+  answer-renamed rate-settings = refl
   answer-renamed (local-at place) = address-stays m (getD (r .locals) place empty)
   answer-renamed (path-at place) =
       ap (toldOf a-path) (slot-renamed (renamePath m) (r .paths) place) ∙ told-renamed m (renamePath m) a-path (λ x. refl) (getD (r .paths) place empty)

@@ -9,15 +9,19 @@ use lib.Dec.{ltb, lit≤}
 use borrow.Author.Tests.{lt-ltb, ltb-true, le-leb, leb-true, leb-false}
 use Rattle.octets.proofs.Index.{and-left, and-right, and-both, all-at}
 use Rattle.octets.proofs.Choice.{then-true}
-use Rattle.numbers.specs.Numbers.{portCount, blobLimit, clockLimit, timeLimit, pathLifetime}
-use Rattle.rules.specs.Relay.{Slot, empty, used, Path, Return, Ring, holds}
+use Rattle.numbers.specs.Numbers.{portCount, blobLimit, clockLimit, timeLimit, targetLimit, graceLimit, penaltyLimit, violationLimit, blockedLimit, pathLifetime}
+use Rattle.rules.specs.Relay.{Slot, empty, used, Path, Return, Ring, withPathRate, holds}
 use Rattle.rules.specs.View.{View}
 use Rattle.rules.specs.Renumbering.{image, oneToOne, renamePath, renameLink, renameReturn, renameSlot}
-use Rattle.rules.specs.Refusals.{timeOk, pathOk, linkOk, returnOk, slotOk, tableOk}
+use Rattle.rules.specs.Refusals.{timeOk, rateSettingsOk, rateEntryOk, pathOk, linkOk, returnOk, slotOk, tableOk}
 use Rattle.rules.specs.Arrival.{Arrival, hops}
+use Rattle.rules.specs.Rate.{oneMore, violated, rated, entryAccepted, entryDropped}
 use Rattle.rules.specs.Tests.{tooManyHops}
-use Rattle.rules.specs.Writes.{putNext, announcedBlobs, announcedPath, returnRecord, emptiedIf, linkRecord, renewedLink}
+use Rattle.rules.specs.Writes.{putNext, announcedBlobs, announcedRate, announcedPath, returnRecord, emptiedIf, linkRecord, renewedLink}
 use Rattle.rules.specs.declared.Link.{Link}
+use Rattle.rules.specs.declared.RateSettings.{RateSettings}
+use Rattle.rules.specs.declared.RateEntry.{RateEntry}
+use Rattle.rules.specs.declared.Rated.{Rated}
 use Rattle.rules.proofs.Choices.{either}
 use Rattle.rules.proofs.Tables.{table-set}
 use Rattle.rules.proofs.BlobLaws.{Counted, one-counted, add-counted}
@@ -43,6 +47,63 @@ unfolding slotOk renameSlot
 slot-renamed rule rename keeps empty h = refl
 slot-renamed rule rename keeps (used x) h = keeps x h
 
+-- ---- the rate rule keeps its bounds
+-- violations stay a byte, and blocked-until at most 2^40 + 691,199
+abbrev Bounded : Rated → Type 0
+Bounded x = (x .violations < 256) × (x .«blocked_until» ≤ blockedLimit)
+
+one-more-small : (n : ℕ) → oneMore n < 256
+unfolding oneMore
+one-more-small n = either (λ (m : ℕ). m < 256) (ltb n violationLimit) (λ e. let l = ltb-true n violationLimit e in omega (arith, l)) (λ _. lit≤ tt)
+
+-- the bounds by name
+pub record SettingsWithin (s : RateSettings) : Type 0 where
+  pub target : s .target ≤ targetLimit
+  pub grace : s .grace ≤ graceLimit
+  pub penalty : s .penalty ≤ penaltyLimit
+
+pub settings-within : (s : RateSettings) → rateSettingsOk s ≡ true → SettingsWithin s
+unfolding rateSettingsOk
+settings-within s h =
+    let rest = and-right _ _ h in
+    record { target = leb-true _ _ (and-left _ _ h); grace = leb-true _ _ (and-left _ _ rest); penalty = leb-true _ _ (and-right _ _ rest) }
+
+pub record EntryWithin (e : RateEntry) : Type 0 where
+  pub last : e .last < clockLimit
+  pub violations : e .violations < 256
+  pub blocked : e .«blocked_until» ≤ blockedLimit
+
+pub entry-within : (e : RateEntry) → rateEntryOk e ≡ true → EntryWithin e
+unfolding rateEntryOk
+entry-within e h =
+    let rest = and-right _ _ h in
+    record { last = ltb-true _ _ (and-left _ _ h); violations = ltb-true _ _ (and-left _ _ rest); blocked = leb-true _ _ (and-right _ _ rest) }
+
+module _ (s : RateSettings) (e : RateEntry) (clock : ℕ) (sound : rateSettingsOk s ≡ true) (fine : rateEntryOk e ≡ true) where
+  within : EntryWithin e
+  within = entry-within e fine
+
+  sum-small : e .last + s .target + s .penalty ≤ blockedLimit
+  sum-small = let w = settings-within s sound in omega (arith, entry-within e fine .last, w .target, w .penalty)
+
+  rated-small : Bounded (rated s clock e)
+  unfolding rated violated
+  rated-small =
+      either Bounded (ltb clock (e .«blocked_until»)) (λ _. (within .violations, within .blocked))
+      (λ _. either Bounded (ltb clock (e .last + s .target))
+      (λ _. either Bounded (ltb (s .grace) (oneMore (e .violations)))
+      (λ _. (one-more-small (e .violations), sum-small))
+      (λ _. (one-more-small (e .violations), within .blocked)))
+      (λ _. (let l = within .violations in omega (arith, l), within .blocked)))
+
+  pub accepted-rate-ok : clock < clockLimit → rateEntryOk (entryAccepted s clock e) ≡ true
+  unfolding rateEntryOk entryAccepted
+  accepted-rate-ok l = and-both (lt-ltb _ _ l) (and-both (lt-ltb _ _ (rated-small .0)) (le-leb _ _ (rated-small .1)))
+
+  pub dropped-rate-ok : rateEntryOk (entryDropped s clock e) ≡ true
+  unfolding rateEntryOk entryDropped
+  dropped-rate-ok = and-both (lt-ltb _ _ (within .last)) (and-both (lt-ltb _ _ (rated-small .0)) (le-leb _ _ (rated-small .1)))
+
 -- ---- what an accepted packet makes
 lifetime-small : (mode : ℕ) → pathLifetime mode ≤ 604800
 unfolding pathLifetime
@@ -65,6 +126,20 @@ module _ (p : Path) (h : pathOk p ≡ true) where
       let rest = and-right _ _ (and-right _ _ h) in
       record { some = leb-true _ _ (and-left _ _ rest); most = leb-true _ _ (and-left _ _ (and-right _ _ rest)) }
 
+  pub path-rate : rateEntryOk (p .rate) ≡ true
+  unfolding pathOk
+  path-rate = and-right _ _ (and-right _ _ (and-right _ _ (and-right _ _ (and-right _ _ h))))
+
+  -- a rate drop leaves the other fields
+  pub limited-ok : (rate : RateEntry) → rateEntryOk rate ≡ true → pathOk (withPathRate rate p) ≡ true
+  unfolding pathOk
+  limited-ok rate k =
+      let h1 = and-right _ _ h in
+      let h2 = and-right _ _ h1 in
+      let h3 = and-right _ _ h2 in
+      let h4 = and-right _ _ h3 in
+      and-both (and-left _ _ h) (and-both (and-left _ _ h1) (and-both (and-left _ _ h2) (and-both (and-left _ _ h3) (and-both (and-left _ _ h4) k))))
+
 announced-counted : (a : Arrival) (known : Slot Path) → slotOk pathOk known ≡ true → Counted blobLimit (announcedBlobs a known .count)
 unfolding announcedBlobs slotOk
 announced-counted a empty h = one-counted blobLimit (lit≤ tt) _
@@ -78,15 +153,22 @@ module _ (a : Arrival) (port : a .port < portCount) (clock : a .clock < clockLim
   unfolding timeOk
   time-small lifetime l = le-leb (a .clock + lifetime) timeLimit (omega arith)
 
-  pub announced-ok : (v : View) (known : Slot Path) → tooManyHops (hops a) ≡ false → slotOk pathOk known ≡ true → pathOk (announcedPath v a known) ≡ true
+  announced-rate : (v : View) (known : Slot Path) → rateSettingsOk (v .rate) ≡ true → slotOk pathOk known ≡ true → rateEntryOk (announcedRate v a known) ≡ true
+  unfolding announcedRate slotOk rateEntryOk
+  announced-rate v empty sound h = and-both (lt-ltb (a .clock) clockLimit clock) (and-both refl refl)
+  announced-rate v (used p) sound h = accepted-rate-ok (v .rate) (p .rate) (a .clock) sound (path-rate p h) clock
+
+  pub announced-ok : (v : View) (known : Slot Path) → rateSettingsOk (v .rate) ≡ true → tooManyHops (hops a) ≡ false → slotOk pathOk known ≡ true
+      → pathOk (announcedPath v a known) ≡ true
   unfolding pathOk announcedPath tooManyHops
-  announced-ok v known few h =
+  announced-ok v known sound few h =
       let l : hops a < 128 = leb-false 128 (hops a) few in
       let c : Counted blobLimit (announcedBlobs a known .count) = announced-counted a known h in
       and-both arrival-port
       (and-both (lt-ltb (hops a) 256 (omega arith))
       (and-both (le-leb _ _ (c .some))
-      (and-both (le-leb _ _ (c .most)) (time-small _ (lifetime-small _)))))
+      (and-both (le-leb _ _ (c .most))
+      (and-both (time-small _ (lifetime-small _)) (announced-rate v known sound h)))))
 
   pub return-ok : (p : Path) → pathOk p ≡ true → returnOk (returnRecord a p) ≡ true
   unfolding returnOk returnRecord

@@ -21,6 +21,7 @@ module _ (one two : List ℕ) (ok-one : oneToOne one ≡ true) (ok-two : oneToOn
         hops = p .hops;
         nextHop = p .nextHop;
         expiry = p .expiry;
+        rate = p .rate;
         blobs = p .blobs;
       }
 
@@ -53,6 +54,7 @@ module _ (one two : List ℕ) (ok-one : oneToOne one ≡ true) (ok-two : oneToOn
       record {
         own = r .own;
         clock = r .clock;
+        rate = r .rate;
         ports = moved-twice one two (r .ports) ok-one ok-two sixteen i;
         locals = r .locals;
         paths = slots-twice (renamePath one) (renamePath two) (renamePath (composed one two)) path-twice (r .paths) i;

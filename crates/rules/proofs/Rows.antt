@@ -7,7 +7,7 @@ use Rattle.octets.specs.Choice.{_then_otherwise_}
 use Rattle.octets.proofs.Listed.{allGive}
 use Rattle.rules.specs.Relay.{Relay}
 use Rattle.rules.specs.Refusals.{tablesOk}
-use Rattle.rules.specs.Calls.{TableCall, sets-port, adds, removes, renumbers, ruleOf, tableRefusal}
+use Rattle.rules.specs.Calls.{TableCall, sets-port, sets-rate, adds, removes, renumbers, ruleOf, tableRefusal}
 use Rattle.rules.specs.Saved.{Said, loadRefusal}
 use Rattle.octets.proofs.Listed.{NoneHolds, refuses, rows-passed}
 
@@ -15,6 +15,7 @@ use Rattle.octets.proofs.Listed.{NoneHolds, refuses, rows-passed}
 rows-refuse : (c : TableCall) (r : Relay) → allGive refuses (ruleOf c .rows r) ≡ true
 unfolding ruleOf allGive refuses _and_
 rows-refuse (sets-port port on mode) r = refl
+rows-refuse (sets-rate target grace penalty) r = refl
 rows-refuse (adds address) r = refl
 rows-refuse (removes address) r = refl
 rows-refuse (renumbers images) r = refl

@@ -13,15 +13,16 @@ use Rattle.octets.specs.Choice.{_then_otherwise_, _or_}
 use Rattle.packet.specs.Header.{isAnnounce}
 use Rattle.octets.specs.Listed.{Test, _gives_otherwise_, firstOf, anyHolds}
 use Rattle.octets.proofs.Listed.{told, allGive}
-use Rattle.rules.specs.Relay.{Relay, empty, used}
+use Rattle.rules.specs.Relay.{Relay, Slot, empty, used, Path}
 use Rattle.rules.specs.View.{View, viewAt}
 use Rattle.rules.specs.Refusals.{packetRows, packetRefusal, refusalBy}
-use Rattle.rules.specs.Arrival.{Arrival, header, isLinkProof}
+use Rattle.rules.specs.Arrival.{Arrival, header, destination, isLinkProof}
 use Rattle.rules.specs.Ways.{Way, everywhere, by-path, along-link, by-return, blocked, wayOn}
 use Rattle.rules.specs.Tests.{noWayOn, notSigned}
 use Rattle.rules.specs.Answers.{reasonNumber}
 use Rattle.rules.specs.Outgoing.{spreadPorts, outgoing, exceeds}
 use Rattle.rules.specs.Judging.{Plan, dropped, delivered, follows, earlyTests, onwardTests, plan, onwardPlan, verdict, wayVerdict, spreadVerdict}
+use Rattle.rules.specs.Writes.{limitPath, isRateDrop, writeDrop}
 use Rattle.rules.specs.Calls.{Judgement, judged, judge, packetCall}
 use Rattle.rules.specs.Questions.{word-matters, Told, refused, yes-or-no, cameWith, ofTest, wordMatters, questionRule, questionRefusal, tell}
 use Rattle.rules.specs.declared.Reason.{Reason}
@@ -32,6 +33,7 @@ use Rattle.rules.specs.declared.Answer.the-variants.{Refused, Judged}
 use Rattle.rules.specs.declared.Tally.{Tally}
 use Rattle.octets.proofs.Index.{and-left, and-right}
 use Rattle.rules.proofs.Unfolding.{tests, answers, writes, calls, rules}
+use Rattle.rules.proofs.Passed.{namesTest, names-test}
 use Rattle.octets.proofs.Listed.{lateFrom, all-first, rest-alike, told-alike}
 
 -- the packet with the host's word on its signature
@@ -61,9 +63,18 @@ module _ (v : View) (a : Arrival) (word : Bool) where
   plan-by = ap (firstOf (earlyTests v a)) (onward-by (wayOn v a))
 
   -- nor does what is written by it
+  limited-by : (s : Slot Path) (r : Relay) → limitPath v (withWord word a) s r ≡ limitPath v a s r
+  unfolding writes
+  limited-by empty r = refl
+  limited-by (used p) r = refl
+
+  drop-by : (reason : Reason) (r : Relay) → writeDrop v (withWord word a) reason r ≡ writeDrop v a reason r
+  unfolding writeDrop
+  drop-by reason r = ap (λ (s : Relay). isRateDrop reason then s otherwise r) (limited-by (v .path (destination a)) r)
+
   judged-by : (todo : Plan) (r : Relay) (t : Tally) (output : List ℕ) → judged (withWord word a) todo v r t output ≡ judged a todo v r t output
   unfolding tests answers writes calls
-  judged-by (dropped reason) r t output = refl
+  judged-by (dropped reason) r t output = rw (drop-by reason r)
   judged-by delivered r t output = refl
   judged-by (follows (everywhere empty)) r t output = refl
   judged-by (follows (everywhere (used p))) r t output = refl
@@ -73,13 +84,13 @@ module _ (v : View) (a : Arrival) (word : Bool) where
   judged-by (follows (blocked why)) r t output = refl
 
 -- ---- tests 1 to 8
--- the test that dropped the packet, or 15
+-- the test that dropped the packet, or 255
 dropOf : Verdict → ℕ
 dropOf (Drop reason) = reasonNumber reason
-dropOf Deliver = 15
-dropOf (Forward port length) = 15
-dropOf (Spread ports length) = 15
-dropOf Kept = 15
+dropOf Deliver = 255
+dropOf (Forward port length) = 255
+dropOf (Spread ports length) = 255
+dropOf Kept = 255
 
 module _ (v : View) (a : Arrival) where
   -- none of them drops
@@ -180,7 +191,7 @@ told-unread p b (t ∷ ts) rest e = go (p (t .value)) refl b (t .holds) (told-un
     go false q c false below e = below e
 
 -- where they say no, nothing of the kind is given
-told-never : {A : Type 0} (p : A → Bool) (ts : List (Test A)) (rest : A) → p rest ≡ false → p (firstOf (told p false ts) rest) ≡ false
+pub told-never : {A : Type 0} (p : A → Bool) (ts : List (Test A)) (rest : A) → p rest ≡ false → p (firstOf (told p false ts) rest) ≡ false
 unfolding firstOf told _then_otherwise_
 told-never p [] rest e = e
 told-never p (t ∷ ts) rest e = go (p (t .value)) refl (t .holds) (told-never p ts rest e)
@@ -217,28 +228,6 @@ module _ (v : View) (a : Arrival) where
       not-true _
       (all-first (λ x. not (ofTest 9 x)) (earlyTests v a) _ refl
       (ap not (told-never (ofTest 9) (onwardTests v a (wayOn v a)) (follows (wayOn v a)) refl)))
-
-  -- it is so answered
-  isNine : Verdict → Bool
-  isNine (Drop reason) = eqb (reasonNumber reason) 9
-  isNine Deliver = false
-  isNine (Forward port length) = false
-  isNine (Spread ports length) = false
-  isNine Kept = false
-
-  nine-answered : (todo : Plan) → isNine (verdict v a todo) ≡ ofTest 9 todo
-  unfolding isNine verdict wayVerdict spreadVerdict ofTest _then_otherwise_
-  nine-answered (dropped reason) = refl
-  nine-answered delivered = refl
-  nine-answered (follows (everywhere known)) = go (eqb (spreadPorts v a) 0 or exceeds (outgoing v a (everywhere known)))
-    where
-      go : (b : Bool) → isNine (b then Kept otherwise Spread (spreadPorts v a) (length (outgoing v a (everywhere known)))) ≡ false
-      go true = refl
-      go false = refl
-  nine-answered (follows (by-path p)) = refl
-  nine-answered (follows (along-link l)) = refl
-  nine-answered (follows (by-return t)) = refl
-  nine-answered (follows (blocked why)) = refl
 
 yes-signed : (a : Arrival) → notSigned (withWord true a) ≡ false
 unfolding notSigned _and_
@@ -309,9 +298,9 @@ module _ (a : Arrival) (r : Relay) (t : Tally) (output : List ℕ) where
       let verdicts : verdict shown a (planBy (notSigned (withWord true a)) shown a) ≡ verdict shown a (planBy unsigned shown a) = cc in
       false≢true
       (sym (ap (λ (b : Bool). ofTest 9 (planBy b shown a)) (yes-signed a) ∙ signed-passes shown a)
-      ∙ sym (nine-answered shown a _)
-      ∙ ap (isNine shown a) verdicts
-      ∙ nine-answered shown a _
+      ∙ sym (names-test shown a 9 refl _)
+      ∙ ap (namesTest 9) verdicts
+      ∙ names-test shown a 9 refl _
       ∙ sym matters-by
       ∙ m)
 

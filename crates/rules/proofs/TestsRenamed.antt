@@ -1,4 +1,4 @@
--- The thirteen tests of a renamed packet by a renamed view: each says the same as before.
+-- The tests of a renamed packet by a renamed view: each says the same as before.
 use Prim.Native.Nat.{ℕ}
 use native.Mathlib.Nat.{le-refl}
 use mathlib.Core.Bool.{Bool, true, not}
@@ -14,7 +14,7 @@ use Rattle.rules.specs.View.{View}
 use Rattle.rules.specs.Renumbering.{image, oneToOne, renamePath, renameLink, renameReturn, renameSlot}
 use Rattle.rules.specs.Arrival.{Arrival, header, isLinkProof}
 use Rattle.rules.specs.Ways.{Way, everywhere, by-path, along-link, by-return, blocked, pathWay, linkWay, returnWay, wayOn}
-use Rattle.rules.specs.Tests.{notOurs, duplicate, testedAsDuplicate, ownAnnounce, deliveredHere, noWayOn, whyBlocked, isThere, followsProvedLink, alreadyKnown, fromAnsweringSide, fromAskingSide, wrongSide, notSigned, replay, notBetter, leavingPort, portOff, noRoom}
+use Rattle.rules.specs.Tests.{notOurs, duplicate, testedAsDuplicate, ownAnnounce, deliveredHere, noWayOn, whyBlocked, isThere, followsProvedLink, alreadyKnown, fromAnsweringSide, fromAskingSide, wrongSide, notSigned, ofKnown, isReplay, replay, isNotBetter, notBetter, isRateLimited, rateLimited, leavingPort, portOff, noRoom}
 use Rattle.rules.specs.Outgoing.{outgoing}
 use Rattle.rules.specs.Run.{renameArrival}
 use Rattle.rules.specs.declared.Link.{Link}
@@ -113,23 +113,27 @@ module _ (m : List ℕ) where
   unfolding notSigned renameArrival
   notSigned-renamed a = refl
 
+  -- a test of an announce and the live path of its destination that looks at no port
+  ofKnown-renamed : (one two : Path → Bool) → ((p : Path) → one (renamePath m p) ≡ two p) → (w : Way) → ofKnown one (renameWay m w) ≡ ofKnown two w
+  unfolding ofKnown renameWay renameSlot
+  ofKnown-renamed one two blind (everywhere empty) = refl
+  ofKnown-renamed one two blind (everywhere (used p)) = blind p
+  ofKnown-renamed one two blind (by-path p) = refl
+  ofKnown-renamed one two blind (along-link l) = refl
+  ofKnown-renamed one two blind (by-return t) = refl
+  ofKnown-renamed one two blind (blocked why) = refl
+
   pub replay-renamed : (a : Arrival) (w : Way) → replay (renameArrival m a) (renameWay m w) ≡ replay a w
-  unfolding replay renameArrival renameWay renameSlot renamePath
-  replay-renamed a (everywhere empty) = refl
-  replay-renamed a (everywhere (used p)) = refl
-  replay-renamed a (by-path p) = refl
-  replay-renamed a (along-link l) = refl
-  replay-renamed a (by-return t) = refl
-  replay-renamed a (blocked why) = refl
+  unfolding replay isReplay renameArrival renamePath
+  replay-renamed a w = ofKnown-renamed (isReplay (renameArrival m a)) (isReplay a) (λ p. refl) w
 
   pub notBetter-renamed : (a : Arrival) (w : Way) → notBetter (renameArrival m a) (renameWay m w) ≡ notBetter a w
-  unfolding notBetter renameArrival renameWay renameSlot renamePath
-  notBetter-renamed a (everywhere empty) = refl
-  notBetter-renamed a (everywhere (used p)) = refl
-  notBetter-renamed a (by-path p) = refl
-  notBetter-renamed a (along-link l) = refl
-  notBetter-renamed a (by-return t) = refl
-  notBetter-renamed a (blocked why) = refl
+  unfolding notBetter isNotBetter renameArrival renamePath
+  notBetter-renamed a w = ofKnown-renamed (isNotBetter (renameArrival m a)) (isNotBetter a) (λ p. refl) w
+
+  pub rateLimited-renamed : (v : View) (a : Arrival) (w : Way) → rateLimited (renameView m v) (renameArrival m a) (renameWay m w) ≡ rateLimited v a w
+  unfolding rateLimited isRateLimited renameView renameArrival renamePath
+  rateLimited-renamed v a w = ofKnown-renamed (isRateLimited (renameView m v) (renameArrival m a)) (isRateLimited v a) (λ p. refl) w
 
   pub noRoom-renamed : (v : View) (a : Arrival) (w : Way) → noRoom (renameView m v) (renameArrival m a) (renameWay m w) ≡ noRoom v a w
   unfolding noRoom renameView renameArrival renameWay renameSlot

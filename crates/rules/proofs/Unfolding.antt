@@ -15,19 +15,20 @@ use Rattle.packet.specs.Announce.{keysOf, nameHashOf, blobOf, emissionOf, ratch
 use Rattle.octets.specs.Listed.{firstOf, anyHolds, valued}
 use Rattle.octets.proofs.Listed.{told}
 use Rattle.numbers.specs.Numbers.{pathLifetime}
-use Rattle.rules.specs.Relay.{fresh, withClock, withPorts, withLocals, withPaths, withLinks, withReturns, withHashes, holds, lowest, free, lowestFree}
+use Rattle.rules.specs.Relay.{fresh, withClock, withRate, withPorts, withLocals, withPaths, withLinks, withReturns, withHashes, holds, lowest, free, lowestFree}
 use Rattle.rules.specs.View.{portOn, portMode, localPlace, isLocal, isLivePath, isLiveLink, isLiveReturn, isLiveHash, pathPlace, linkPlace, returnPlace, hashPlace, freePath, freeLink, viewAt}
 use Rattle.rules.specs.Blobs.{held, isAmong, greatest, greatestEmission, oneBlob, addBlob}
-use Rattle.rules.specs.Refusals.{timeOk, portOk, pathOk, linkOk, returnOk, hashOk, slotOk, all, tableOk, tablesOk, packetRows, refusalBy, emptyLocal}
+use Rattle.rules.specs.Refusals.{timeOk, rateSettingsOk, rateEntryOk, portOk, pathOk, linkOk, returnOk, hashOk, slotOk, all, tableOk, tablesOk, packetRows, refusalBy, emptyLocal}
 use Rattle.rules.specs.Renumbering.{image, differsBefore, oneToOne, preimage, movedPorts, renamePath, renameLink, renameReturn, renameSlot, renumbered}
 use Rattle.rules.specs.Arrival.{isLinkProof}
 use Rattle.rules.specs.Exempt.{exemptContext, exempt}
+use Rattle.rules.specs.Rate.{oneMore, violated, rated, entryAccepted, entryDropped}
 use Rattle.rules.specs.Ways.{pathWay, linkWay, returnWay, wayOn}
-use Rattle.rules.specs.Tests.{notOurs, testedAsDuplicate, duplicate, typeTwoProof, typeTwoOfKindLink, announceNotSingle, announceTooShort, announceOfAnother, requestOfKindLink, requestTooShort, linkProofLength, formTests, badForm, failing, ownAnnounce, deliveredHere, tooManyHops, noWayOn, whyBlocked, isThere, followsProvedLink, alreadyKnown, fromAnsweringSide, fromAskingSide, wrongSide, notSigned, replay, notBetter, leavingPort, portOff, noRoom}
+use Rattle.rules.specs.Tests.{notOurs, testedAsDuplicate, duplicate, typeTwoProof, typeTwoOfKindLink, announceNotSingle, announceTooShort, announceOfAnother, requestOfKindLink, requestTooShort, linkProofLength, formTests, badForm, failing, ownAnnounce, deliveredHere, tooManyHops, noWayOn, whyBlocked, isThere, followsProvedLink, alreadyKnown, fromAnsweringSide, fromAskingSide, wrongSide, notSigned, ofKnown, isReplay, replay, isNotBetter, notBetter, isRateLimited, rateLimited, leavingPort, portOff, noRoom}
 use Rattle.rules.specs.Answers.{setBelow, portSet}
 use Rattle.rules.specs.Outgoing.{rewritten, spreadHeader, spreadPacket, spreadPorts, pathPacket, carriedPacket, outgoing, exceeds}
 use Rattle.rules.specs.Judging.{earlyTests, onwardTests, onwardPlan, plan, spreadVerdict, wayVerdict, verdict, leaves, outputAfter}
-use Rattle.rules.specs.Writes.{putNext, remembersPlan, remembers, remember, announcedBlobs, announcedPath, announcedPlace, putPath, returnKey, returnRecord, emptiedIf, emptiedWhere, putReturn, emptyReturn, linkRecord, putLink, renewedLink, renewLink, writeWay, writePlan, stamp, enact}
+use Rattle.rules.specs.Writes.{putNext, remembersPlan, remembers, remember, announcedBlobs, announcedRate, announcedPath, announcedPlace, putPath, limitPath, returnKey, returnRecord, emptiedIf, emptiedWhere, putReturn, emptyReturn, linkRecord, putLink, renewedLink, renewLink, writeWay, writeDrop, writePlan, stamp, enact}
 use Rattle.rules.specs.Calls.{newTally, up, counted, judged, judge, packetCall, settled, ruleOf, tableRefusal, settle}
 use Rattle.rules.specs.Questions.{toldOf, countBelow, countOf, ofTest, wordMatters, rowSeven, questionRule, questionRefusal, tell}
 use Rattle.rules.specs.Saved.{saveRefusal, loadRefusal}
@@ -52,14 +53,14 @@ layout = tt
 
 -- the relay, and what is read of it
 unfoldable pub tables : Unit {0}
-unfolding pathLifetime fresh withClock withPorts withLocals withPaths withLinks withReturns withHashes holds lowest free lowestFree
+unfolding pathLifetime fresh withClock withRate withPorts withLocals withPaths withLinks withReturns withHashes holds lowest free lowestFree
     portOn portMode localPlace isLocal isLivePath isLiveLink isLiveReturn isLiveHash pathPlace linkPlace returnPlace hashPlace freePath freeLink viewAt held
     isAmong greatest greatestEmission oneBlob addBlob
 tables = tt
 
 -- refusals and renumbering
 unfoldable pub refusals : Unit {0}
-unfolding timeOk portOk pathOk linkOk returnOk hashOk slotOk all tableOk tablesOk packetRows refusalBy emptyLocal
+unfolding timeOk rateSettingsOk rateEntryOk portOk pathOk linkOk returnOk hashOk slotOk all tableOk tablesOk packetRows refusalBy emptyLocal
     image differsBefore oneToOne preimage movedPorts renamePath renameLink renameReturn renameSlot renumbered
 refusals = tt
 
@@ -67,8 +68,8 @@ refusals = tt
 unfoldable pub tests : Unit {0}
 unfolding exemptContext exempt isLinkProof pathWay linkWay returnWay wayOn notOurs testedAsDuplicate duplicate typeTwoProof typeTwoOfKindLink
     announceNotSingle announceTooShort announceOfAnother requestOfKindLink requestTooShort linkProofLength formTests badForm failing ownAnnounce
-    deliveredHere tooManyHops noWayOn whyBlocked isThere followsProvedLink alreadyKnown fromAnsweringSide fromAskingSide wrongSide notSigned replay notBetter
-    leavingPort portOff noRoom
+    deliveredHere tooManyHops noWayOn whyBlocked isThere followsProvedLink alreadyKnown fromAnsweringSide fromAskingSide wrongSide notSigned
+    ofKnown isReplay replay isNotBetter notBetter oneMore violated rated isRateLimited rateLimited leavingPort portOff noRoom
 tests = tt
 
 -- answers and the bytes that leave
@@ -79,8 +80,8 @@ answers = tt
 
 -- what is written
 unfoldable pub writes : Unit {0}
-unfolding putNext remembersPlan remembers remember announcedBlobs announcedPath announcedPlace putPath returnKey returnRecord emptiedIf emptiedWhere
-    putReturn emptyReturn linkRecord putLink renewedLink renewLink writeWay writePlan stamp enact
+unfolding putNext remembersPlan remembers remember announcedBlobs entryAccepted entryDropped announcedRate announcedPath announcedPlace putPath limitPath
+    returnKey returnRecord emptiedIf emptiedWhere putReturn emptyReturn linkRecord putLink renewedLink renewLink writeWay writeDrop writePlan stamp enact
 writes = tt
 
 -- the calls

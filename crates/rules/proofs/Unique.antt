@@ -8,21 +8,21 @@ use borrow.Author.Tests.{ltb-false, eqb-true}
 use Rattle.octets.specs.Choice.{same}
 use Rattle.octets.proofs.Choice.{eq-same}
 use Rattle.numbers.specs.Numbers.{localCount, pathCount, linkCount, returnCount, hashCount}
-use Rattle.rules.specs.Relay.{Relay, fresh, lowest, withClock, withPorts, withLocals, withHashes}
+use Rattle.rules.specs.Relay.{Relay, fresh, lowest, withRate, withPorts, withLocals}
 use Rattle.rules.specs.View.{View, viewAt, localPlace, isLocal}
 use Rattle.rules.specs.Renumbering.{renumbered}
 use Rattle.rules.specs.Refusals.{tablesOk}
 use Rattle.rules.specs.Arrival.{Arrival}
-use Rattle.rules.specs.Judging.{Plan, plan}
-use Rattle.rules.specs.Writes.{remembers, remember, stamp, enact}
-use Rattle.rules.specs.Calls.{TableCall, sets-port, adds, removes, renumbers, ruleOf}
+use Rattle.rules.specs.Judging.{plan}
+use Rattle.rules.specs.Writes.{enact}
+use Rattle.rules.specs.Calls.{TableCall, sets-port, sets-rate, adds, removes, renumbers, ruleOf}
 use Rattle.rules.specs.Run.{Call, packet, on-tables, asks, saves, loads, ofTold, perform, relayAfter, setsRelay, noneLoads}
 use Rattle.rules.specs.declared.Tally.{Tally}
-use Rattle.rules.proofs.Choices.{either}
 use Rattle.octets.proofs.Listed.{NoneHolds}
 use Rattle.rules.proofs.Held.{TableKeeps, enact-held, table-held, packet-kept, table-kept, save-kept, load-kept, each-none, stays}
 use Rattle.rules.proofs.Slots.{every-fresh, single-fresh, single-set, single-emptied, none-passes, not-found}
 use Rattle.rules.proofs.Followed.{planned, remembered-new}
+use Rattle.rules.proofs.Stamped.{enact-clock}
 use Rattle.rules.proofs.Accepted.{Accepted, accepted-packet}
 use Rattle.rules.proofs.Valid.{Valid, valid-of, step-ok, fresh-ok}
 use Rattle.rules.proofs.UniqueAt.{onceAt, UniqueAt, later, renumbering-keeps}
@@ -38,6 +38,7 @@ fresh-unique own clock l =
     record {
       own = tt;
       clock = tt;
+      rate = tt;
       ports = tt;
       locals = single-fresh _ _ localCount;
       paths = (single-fresh _ _ pathCount, every-fresh _ _ pathCount, every-fresh _ _ pathCount);
@@ -47,17 +48,12 @@ fresh-unique own clock l =
     }
 
 -- ---- the calls
--- every accepted packet sets the last clock
-enact-clock : (v : View) (a : Arrival) (todo : Plan) (r : Relay) → enact v a todo r .clock ≡ a .clock
-unfolding enact stamp withClock remember withHashes
-enact-clock v a todo r = either (λ (s : Relay). s .clock ≡ a .clock) (remembers v a todo) (λ _. refl) (λ _. refl)
-
 enact-unique : (a : Arrival) (r : Relay) → Valid r → UniqueAt (a .clock) r
     → UniqueAt (a .clock) (enact (viewAt (a .clock) r) a (plan (viewAt (a .clock) r) a) r)
 enact-unique a r valid u =
     let v : View = viewAt (a .clock) r in
     enact-held u v a (plan v a)
-    (record { writes = plan-keeps a r valid u v (plan v a) (planned v a); clock = tt; hash = λ e. hash-put a r valid u (remembered-new v a e) })
+    (record { writes = plan-keeps a r valid u (plan v a) (planned v a); clock = tt; hash = λ e. hash-put a r valid u (remembered-new v a e) })
 
 packet-unique : (a : Arrival) (r : Relay) (t : Tally) (output : List ℕ) → Valid r → Unique r → Unique (perform (packet a output) r t .relay)
 packet-unique a r t output valid u =
@@ -71,6 +67,7 @@ packet-unique a r t output valid u =
 table-keeps : (c : TableCall) (r : Relay) (clock : ℕ) → Valid r → UniqueAt clock r → NoneHolds (ruleOf c .rows r) → TableKeeps (onceAt clock) r c
 unfolding ruleOf isLocal localPlace
 table-keeps (sets-port port on mode) r clock valid u n = tt
+table-keeps (sets-rate target grace penalty) r clock valid u n = tt
 -- an added local address is none of those there
 table-keeps (adds address) r clock valid u n =
     let size : length (r .locals) ≡ localCount = eqb-true _ _ (valid .locals) in
@@ -82,9 +79,10 @@ table-keeps (removes address) r clock valid u n = single-emptied _ _ (r .locals)
 table-keeps (renumbers images) r clock valid u n = renumbering-keeps clock r u images
 
 -- a call on the tables leaves the last clock
-table-clock : (c : TableCall) (r : Relay) → ruleOf c .after r .clock ≡ r .clock
-unfolding ruleOf withPorts withLocals renumbered
+pub table-clock : (c : TableCall) (r : Relay) → ruleOf c .after r .clock ≡ r .clock
+unfolding ruleOf withRate withPorts withLocals renumbered
 table-clock (sets-port port on mode) r = refl
+table-clock (sets-rate target grace penalty) r = refl
 table-clock (adds address) r = refl
 table-clock (removes address) r = refl
 table-clock (renumbers images) r = refl

@@ -19,6 +19,7 @@ onceAt clock =
     record {
       own = λ own. Unit {0};
       clock = λ last. Unit {0};
+      rate = λ rate. Unit {0};
       ports = λ ports. Unit {0};
       -- two equal local addresses stand in one place
       locals = Single (λ (address : List ℕ). true) (λ (address : List ℕ). address);
@@ -42,6 +43,7 @@ later r l u =
     record {
       own = tt;
       clock = tt;
+      rate = tt;
       ports = tt;
       locals = u .locals;
       paths = (

@@ -11,15 +11,16 @@ use Rattle.octets.proofs.Index.{and-both, and-yes}
 use Rattle.octets.proofs.Choice.{or-no-left, eq-same}
 use Rattle.packet.specs.Hash.{linkId}
 use Rattle.numbers.specs.Numbers.{pathCount, linkCount, hashCount, blobLimit, live}
-use Rattle.rules.specs.Relay.{Slot, empty, used, Path, Return, Relay, withPaths, withLinks, withReturns, withHashes}
+use Rattle.rules.specs.Relay.{Slot, empty, used, Path, Return, Relay, withPathRate, withPaths, withLinks, withReturns, withHashes}
 use Rattle.rules.specs.View.{View, viewAt, isLivePath, isLiveLink, isLiveReturn, isLiveHash, pathPlace, linkPlace, hashPlace}
 use Rattle.rules.specs.Refusals.{slotOk, pathOk, linkOk, hashOk}
 use Rattle.rules.specs.Arrival.{Arrival, header, destination, hash, blob}
 use Rattle.rules.specs.Blobs.{held}
+use Rattle.rules.specs.Rate.{entryDropped}
 use Rattle.rules.specs.Ways.{Way, everywhere, by-path, along-link, by-return, blocked}
-use Rattle.rules.specs.Tests.{isThere, alreadyKnown, replay}
+use Rattle.rules.specs.Tests.{isThere, alreadyKnown, ofKnown, isReplay, replay}
 use Rattle.rules.specs.Judging.{Plan, dropped, delivered, follows}
-use Rattle.rules.specs.Writes.{putNext, remember, announcedBlobs, announcedPath, announcedPlace, putPath, returnKey, returnRecord, emptiedIf, emptiedWhere, putReturn, emptyReturn, linkRecord, putLink, renewedLink, renewLink}
+use Rattle.rules.specs.Writes.{putNext, remember, announcedBlobs, announcedPath, announcedPlace, putPath, limitPath, returnKey, returnRecord, emptiedIf, emptiedWhere, putReturn, emptyReturn, linkRecord, putLink, renewedLink, renewLink}
 use Rattle.rules.specs.declared.Link.{Link}
 use Rattle.rules.proofs.Tables.{table-length, table-getD}
 use Rattle.rules.proofs.Slots.{emptied-at, every-set, single-emptied, single-emptied-where, single-set, not-found, found-key, none-live, found-alone}
@@ -65,7 +66,7 @@ module _ (a : Arrival) (s : Relay) (valid : Valid s) (u : UniqueAt (a .clock) s)
 
   announced-distinct : (known : Slot Path) → viewAt (a .clock) s .path (destination a) ≡ known → replay a (everywhere known) ≡ false
       → Distinct (held (announcedBlobs a known))
-  unfolding viewAt announcedBlobs replay pathPlace isLivePath
+  unfolding viewAt announcedBlobs replay ofKnown isReplay pathPlace isLivePath
   announced-distinct empty f new = one-distinct blobLimit (lit≤ tt) (blob a)
   announced-distinct (used p) f new =
       add-distinct blobLimit (lit≤ tt) (blob a) (p .blobs)
@@ -82,6 +83,19 @@ module _ (a : Arrival) (s : Relay) (valid : Valid s) (u : UniqueAt (a .clock) s)
         single-set _ _ (s .paths) place p (u .paths .0) (announced-alone known f),
         every-set _ _ (s .paths) place p (u .paths .1) (announced-distinct known f new),
         every-set _ _ (s .paths) place p (u .paths .2) (announced-placed known f),
+      )
+
+  -- a rate drop leaves destination, expiry and blobs
+  limit-path : (v : View) (known : Slot Path) → viewAt (a .clock) s .path (destination a) ≡ known → onceAt (a .clock) .paths (limitPath v a known s .paths)
+  unfolding limitPath withPaths viewAt pathPlace isLivePath
+  limit-path v empty f = u .paths
+  limit-path v (used p) f =
+      let q : Path = withPathRate (entryDropped (v .rate) (a .clock) (p .rate)) p in
+      let (to, lives) = found-key _ _ (destination a) pathCount (s .paths) path-size p f in (
+        single-set _ _ (s .paths) _ q (u .paths .0)
+            (λ j x other e l k. found-alone _ _ (destination a) pathCount (s .paths) path-size (u .paths .0) j x other e l (k ∙ to)),
+        every-set _ _ (s .paths) _ q (u .paths .1) (u .paths .1 _ p f lives),
+        every-set _ _ (s .paths) _ q (u .paths .2) (u .paths .2 _ p f refl),
       )
 
   -- ---- return records: any other live one of the same key is emptied
@@ -118,10 +132,10 @@ module _ (a : Arrival) (s : Relay) (valid : Valid s) (u : UniqueAt (a .clock) s)
   way-keeps v (by-return t) f = single-emptied _ _ (s .returns .slots) _ (u .returns)
   way-keeps v (blocked why) f = tt
 
-  pub plan-keeps : (v : View) (todo : Plan) → Planned (viewAt (a .clock) s) a todo → PlanKeeps (onceAt (a .clock)) v a s todo
-  plan-keeps v (dropped reason) h = tt
-  plan-keeps v delivered h = tt
-  plan-keeps v (follows w) h = way-keeps v w h
+  pub plan-keeps : (todo : Plan) → Planned (viewAt (a .clock) s) a todo → PlanKeeps (onceAt (a .clock)) (viewAt (a .clock) s) a s todo
+  plan-keeps (dropped reason) h = λ _. limit-path (viewAt (a .clock) s) _ refl
+  plan-keeps delivered h = tt
+  plan-keeps (follows w) h = way-keeps (viewAt (a .clock) s) w h
 
   -- ---- remembered hashes
   pub hash-put : viewAt (a .clock) s .remembered (hash a) ≡ false → onceAt (a .clock) .hashes (remember a s .hashes)

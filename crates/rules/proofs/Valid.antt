@@ -7,29 +7,30 @@ use mathlib.Core.Path.{_≡_, refl, subst}
 use lib.Dec.{eqb, ltb, lit<, lit≤}
 use lib.ListN.{length, getD, set, length-set}
 use borrow.Author.Tests.{lt-ltb, le-leb, leb-false, not-false}
+use Rattle.octets.specs.Index.{_and_}
 use Rattle.octets.proofs.Index.{and-left, and-right, and-both}
 use Rattle.octets.proofs.Choice.{or-no-right}
 use Rattle.numbers.specs.Numbers.{portCount, localCount, pathCount, linkCount, returnCount, hashCount, clockLimit, timeLimit, modeCount}
 use Rattle.rules.specs.Relay.{freshPort, noPort, Slot, empty, used, Path, Ring, Relay, fresh, withPaths, withLinks, withReturns, withHashes}
 use Rattle.rules.specs.View.{View, viewAt}
 use Rattle.rules.specs.Renumbering.{oneToOne, preimage, movedPorts, renamePath, renameLink, renameReturn}
-use Rattle.rules.specs.Refusals.{timeOk, portOk, pathOk, linkOk, returnOk, hashOk, slotOk, tableOk, tablesOk}
+use Rattle.rules.specs.Refusals.{timeOk, rateSettingsOk, portOk, pathOk, linkOk, returnOk, hashOk, slotOk, tableOk, tablesOk, packetRows, packetRefusal, refusalBy}
 use Rattle.rules.specs.Arrival.{Arrival, hops}
 use Rattle.rules.specs.Ways.{Way, everywhere, by-path, along-link, by-return, blocked}
 use Rattle.rules.specs.Tests.{tooManyHops}
 use Rattle.rules.specs.Judging.{Plan, dropped, delivered, follows, plan}
-use Rattle.rules.specs.Writes.{remember, putPath, emptiedWhere, putReturn, emptyReturn, putLink, renewLink, enact}
-use Rattle.rules.specs.Calls.{TableCall, sets-port, adds, removes, renumbers, ruleOf}
+use Rattle.rules.specs.Writes.{remember, putPath, limitPath, emptiedWhere, putReturn, emptyReturn, putLink, renewLink, enact}
+use Rattle.rules.specs.Calls.{TableCall, sets-port, sets-rate, adds, removes, renumbers, ruleOf}
 use Rattle.rules.specs.Run.{Call, packet, on-tables, asks, saves, loads, ofTold, perform, relayAfter}
 use Rattle.rules.specs.declared.Link.{Link}
 use Rattle.rules.specs.declared.Tally.{Tally}
-use Rattle.octets.proofs.Listed.{NoneHolds}
+use Rattle.octets.proofs.Listed.{NoneHolds, allGive, refuses, rows-passed}
 use Rattle.rules.proofs.Held.{Property, Holds, WayKeeps, PlanKeeps, TableKeeps, enact-held, table-held, packet-kept, table-kept, save-kept, load-kept, any-calls, stays}
 use Rattle.rules.proofs.Rows.{loaded-ok}
 use Rattle.rules.proofs.Tables.{table-listOf, table-replicate, table-set, table-map, table-getD}
 use Rattle.rules.proofs.Followed.{Found, Planned, planned}
 use Rattle.rules.proofs.Accepted.{Accepted, accepted-packet}
-use Rattle.rules.proofs.Ranges.{put-next, place-next, emptied-ok, time-small, announced-ok, return-ok, link-ok, renewed-ok, path-renamed, link-renamed, return-renamed, slot-renamed}
+use Rattle.rules.proofs.Ranges.{put-next, place-next, emptied-ok, dropped-rate-ok, path-rate, limited-ok, time-small, announced-ok, return-ok, link-ok, renewed-ok, path-renamed, link-renamed, return-renamed, slot-renamed}
 
 -- ---- row 7, part by part
 -- a ring whose records keep a rule and whose place is one of its own
@@ -41,6 +42,7 @@ rowSeven =
     record {
       own = λ own. Unit {0};
       clock = λ clock. timeOk clock ≡ true;
+      rate = λ rate. rateSettingsOk rate ≡ true;
       ports = λ ports. tableOk portCount portOk ports ≡ true;
       locals = λ locals. eqb (length locals) localCount ≡ true;
       paths = λ paths. tableOk pathCount (slotOk pathOk) paths ≡ true;
@@ -62,35 +64,39 @@ valid-of r h₁ =
     let h₆ = and-right _ _ h₅ in
     let h₇ = and-right _ _ h₆ in
     let h₈ = and-right _ _ h₇ in
+    let h₉ = and-right _ _ h₈ in
     record {
       own = tt;
       clock = and-left _ _ h₁;
-      ports = and-left _ _ h₂;
-      locals = and-left _ _ h₃;
-      paths = and-left _ _ h₄;
-      links = and-left _ _ h₅;
-      returns = (and-left _ _ h₆, and-left _ _ h₇);
-      hashes = (and-left _ _ h₈, and-right _ _ h₈);
+      rate = and-left _ _ h₂;
+      ports = and-left _ _ h₃;
+      locals = and-left _ _ h₄;
+      paths = and-left _ _ h₅;
+      links = and-left _ _ h₆;
+      returns = (and-left _ _ h₇, and-left _ _ h₈);
+      hashes = (and-left _ _ h₉, and-right _ _ h₉);
     }
 
 pub ok-of : (r : Relay) → Valid r → tablesOk r ≡ true
 unfolding tablesOk
 ok-of r v =
     and-both (v .clock)
+    (and-both (v .rate)
     (and-both (v .ports)
     (and-both (v .locals)
     (and-both (v .paths)
     (and-both (v .links)
     (and-both (v .returns .0)
     (and-both (v .returns .1)
-    (and-both (v .hashes .0) (v .hashes .1))))))))
+    (and-both (v .hashes .0) (v .hashes .1)))))))))
 
 fresh-valid : (own : List ℕ) → Valid (fresh own)
-unfolding fresh timeOk portOk slotOk
+unfolding fresh timeOk rateSettingsOk portOk slotOk
 fresh-valid own =
     record {
       own = tt;
       clock = refl;
+      rate = and-both refl (and-both refl refl);
       ports = table-replicate portOk portCount freshPort refl;
       locals = refl;
       paths = table-replicate (slotOk pathOk) pathCount empty refl;
@@ -142,19 +148,28 @@ module _ (r : Relay) (valid : Valid r) where
       place-next returnOk returnCount (lit< tt) _ _,
     )
 
-    way-keeps : (v : View) (w : Way) → tooManyHops (hops a) ≡ false → WayOk w → WayKeeps rowSeven v a r w
+    way-keeps : (v : View) (w : Way) → rateSettingsOk (v .rate) ≡ true → tooManyHops (hops a) ≡ false → WayOk w → WayKeeps rowSeven v a r w
     unfolding putPath putLink renewLink emptyReturn withPaths withLinks withReturns slotOk
-    way-keeps v (everywhere known) few ok = path-changed _ _ (announced-ok a port clock v known few ok)
-    way-keeps v (by-path p) few ok = (λ _. return-put p ok, λ _. link-changed _ _ (link-ok a port clock p ok))
-    way-keeps v (along-link l) few ok = link-changed _ _ (renewed-ok a port clock l ok)
-    way-keeps v (by-return t) few ok =
+    way-keeps v (everywhere known) sound few ok = path-changed _ _ (announced-ok a port clock v known sound few ok)
+    way-keeps v (by-path p) sound few ok = (λ _. return-put p ok, λ _. link-changed _ _ (link-ok a port clock p ok))
+    way-keeps v (along-link l) sound few ok = link-changed _ _ (renewed-ok a port clock l ok)
+    way-keeps v (by-return t) sound few ok =
         (table-set (slotOk returnOk) returnCount (r .returns .slots) (valid .returns .0) _ empty refl, valid .returns .1)
-    way-keeps v (blocked why) few ok = tt
+    way-keeps v (blocked why) sound few ok = tt
+
+    -- a rate drop keeps the path's other fields, and the rule its bounds
+    limit-keeps : (v : View) → rateSettingsOk (v .rate) ≡ true → (known : Slot Path) → slotOk pathOk known ≡ true
+        → rowSeven .paths (limitPath v a known r .paths)
+    unfolding limitPath withPaths slotOk
+    limit-keeps v sound empty ok = valid .paths
+    limit-keeps v sound (used p) ok =
+        path-changed _ _ (limited-ok p ok _ (dropped-rate-ok (v .rate) (p .rate) (a .clock) sound (path-rate p ok)))
 
     plan-keeps : (todo : Plan) → Planned (viewAt (a .clock) r) a todo → PlanKeeps rowSeven (viewAt (a .clock) r) a r todo
-    plan-keeps (dropped reason) h = tt
+    unfolding viewAt
+    plan-keeps (dropped reason) h = λ _. limit-keeps (viewAt (a .clock) r) (valid .rate) _ (path-ok _)
     plan-keeps delivered h = tt
-    plan-keeps (follows w) h = way-keeps (viewAt (a .clock) r) w (h .fewHops) (found-ok (a .clock) a w (h .found))
+    plan-keeps (follows w) h = way-keeps (viewAt (a .clock) r) w (valid .rate) (h .fewHops) (found-ok (a .clock) a w (h .found))
 
     hash-put : rowSeven .hashes (remember a r .hashes)
     unfolding remember withHashes slotOk hashOk
@@ -173,6 +188,12 @@ module _ (r : Relay) (valid : Valid r) where
         })
 
 -- ---- the calls
+-- row 7 comes first
+pub accepted-valid : (r : Relay) (a : Arrival) (room : ℕ) → eqb (packetRefusal r a room) 0 ≡ true → Valid r
+unfolding refusalBy packetRows allGive refuses _and_
+accepted-valid r a room taken =
+    valid-of r (not-false _ (rows-passed (packetRows r (a .port) (a .clock) room) _ refl taken .0))
+
 renumbering-keeps : (m : List ℕ) → oneToOne m ≡ true → (r : Relay) → Valid r → TableKeeps rowSeven r (renumbers m)
 unfolding movedPorts portOk
 renumbering-keeps m ok r v = (
@@ -189,6 +210,7 @@ table-keeps : (c : TableCall) (r : Relay) → Valid r → NoneHolds (ruleOf c .r
 unfolding ruleOf portOk
 table-keeps (sets-port port on mode) r v n =
     table-set portOk portCount (r .ports) (v .ports) _ _ (lt-ltb mode modeCount (leb-false _ _ (or-no-right _ _ (n .0))))
+table-keeps (sets-rate target grace penalty) r v n = not-false _ (n .0)
 table-keeps (adds address) r v n = rw length-set (v .locals)
 table-keeps (removes address) r v n = rw length-set (v .locals)
 table-keeps (renumbers images) r v n = renumbering-keeps images (not-false _ (n .0)) r v

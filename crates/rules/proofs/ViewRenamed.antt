@@ -22,6 +22,7 @@ unfoldable pub renameView : List ℕ → View → View
 renameView m v =
     record {
       own = v .own;
+      rate = v .rate;
       on = λ port. v .on (source m port);
       mode = λ port. v .mode (source m port);
       local = v .local;
@@ -109,6 +110,7 @@ module _ (m : List ℕ) (clock : ℕ) (r : Relay) where
     view-renamed = λ i.
         record {
           own = r .own;
+          rate = r .rate;
           on = λ n. on-renamed n i;
           mode = λ n. mode-renamed n i;
           local = isLocal r;

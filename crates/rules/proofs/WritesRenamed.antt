@@ -8,15 +8,17 @@ use Rattle.octets.specs.Choice.{_then_otherwise_}
 use Rattle.octets.proofs.Choice.{then-ap}
 use Rattle.packet.specs.Header.{typeTwo, isData}
 use Rattle.numbers.specs.Numbers.{pathLifetime}
-use Rattle.rules.specs.Relay.{Slot, empty, used, Path, Return, Relay, withClock, withPaths, withLinks, withReturns, withHashes}
-use Rattle.rules.specs.View.{View, isLiveReturn, linkPlace, returnPlace, freeLink}
+use Rattle.rules.specs.Relay.{Slot, empty, used, Path, Return, withPathRate, Relay, withClock, withPaths, withLinks, withReturns, withHashes}
+use Rattle.rules.specs.View.{View, isLiveReturn, pathPlace, linkPlace, returnPlace, freeLink}
 use Rattle.rules.specs.Renumbering.{image, oneToOne, renamePath, renameLink, renameReturn, renameSlot, renumbered}
 use Rattle.rules.specs.Arrival.{Arrival, header, hops, relayAddress, destination}
+use Rattle.rules.specs.Rate.{entryDropped}
 use Rattle.rules.specs.Ways.{Way, everywhere, by-path, along-link, by-return, blocked}
 use Rattle.rules.specs.Judging.{Plan, dropped, delivered, follows}
-use Rattle.rules.specs.Writes.{putNext, remembersPlan, remembers, remember, announcedBlobs, announcedPath, announcedPlace, putPath, returnKey, returnRecord, emptiedIf, emptiedWhere, putReturn, emptyReturn, linkRecord, putLink, renewedLink, renewLink, writeWay, writePlan, stamp, enact}
+use Rattle.rules.specs.Writes.{putNext, remembersPlan, remembers, remember, announcedBlobs, announcedRate, announcedPath, announcedPlace, putPath, limitPath, returnKey, returnRecord, emptiedIf, emptiedWhere, putReturn, emptyReturn, linkRecord, putLink, renewedLink, renewLink, writeWay, isRateDrop, writeDrop, writePlan, stamp, enact}
 use Rattle.rules.specs.Run.{renameArrival}
 use Rattle.rules.specs.declared.Link.{Link}
+use Rattle.rules.specs.declared.Reason.{Reason}
 use Rattle.rules.proofs.Images.{source-image}
 use Rattle.rules.proofs.SlotsRenamed.{set-renamed, emptied-renamed}
 use Rattle.rules.proofs.ViewRenamed.{renameView, pathPlace-renamed, linkPlace-renamed, returnPlace-renamed, freePath-renamed, freeLink-renamed}
@@ -115,6 +117,12 @@ module _ (m : List ℕ) (ok : oneToOne m ≡ true) where
   announcedBlobs-renamed a empty = refl
   announcedBlobs-renamed a (used p) = refl
 
+  announcedRate-renamed : (v : View) (a : Arrival) (known : Slot Path)
+      → announcedRate (renameView m v) (renameArrival m a) (renameSlot (renamePath m) known) ≡ announcedRate v a known
+  unfolding announcedRate renameView renameArrival renameSlot renamePath
+  announcedRate-renamed v a empty = refl
+  announcedRate-renamed v a (used p) = refl
+
   announcedPath-renamed : (v : View) (a : Arrival) (known : Slot Path)
       → announcedPath (renameView m v) (renameArrival m a) (renameSlot (renamePath m) known) ≡ renamePath m (announcedPath v a known)
   unfolding announcedPath renameView renameArrival renamePath
@@ -125,6 +133,7 @@ module _ (m : List ℕ) (ok : oneToOne m ≡ true) where
         hops = hops a;
         nextHop = typeTwo (header a) then relayAddress a otherwise destination a;
         expiry = a .clock + pathLifetime (v .mode (source-image m ok (a .port) i));
+        rate = announcedRate-renamed v a known i;
         blobs = announcedBlobs-renamed a known i;
       }
 
@@ -143,6 +152,24 @@ module _ (m : List ℕ) (ok : oneToOne m ≡ true) where
       (ap used (announcedPath-renamed v a known)))
       ∙ paths-renamed m (set (r .paths) (announcedPlace a known r) (used (announcedPath v a known))) r
 
+  -- ---- a rate drop
+  limitPath-renamed : (v : View) (a : Arrival) (known : Slot Path) (r : Relay)
+      → limitPath (renameView m v) (renameArrival m a) (renameSlot (renamePath m) known) (renumbered m r) ≡ renumbered m (limitPath v a known r)
+  unfolding limitPath renumbered renameView renameArrival renameSlot renamePath
+  limitPath-renamed v a empty r = refl
+  limitPath-renamed v a (used p) r =
+      let q : Path = withPathRate (entryDropped (v .rate) (a .clock) (p .rate)) p in
+      ap (λ (paths : List (Slot Path)). withPaths paths (renumbered m r))
+      (set-renamed (renamePath m) (r .paths) _ _ _ (used q) (pathPlace-renamed m (a .clock) r (destination a)) refl)
+      ∙ paths-renamed m (set (r .paths) (pathPlace (a .clock) r (destination a)) (used q)) r
+
+  writeDrop-renamed : (v : View) (a : Arrival) (reason : Reason) (r : Relay)
+      → writeDrop (renameView m v) (renameArrival m a) reason (renumbered m r) ≡ renumbered m (writeDrop v a reason r)
+  unfolding writeDrop renameView renameArrival
+  writeDrop-renamed v a reason r =
+      ap (λ (x : Relay). isRateDrop reason then x otherwise renumbered m r) (limitPath-renamed v a (v .path (destination a)) r)
+      ∙ sym (then-ap (renumbered m) (isRateDrop reason) (limitPath v a (v .path (destination a)) r) r)
+
   -- ---- all of it
   writeWay-renamed : (v : View) (a : Arrival) (w : Way) (r : Relay)
       → writeWay (renameView m v) (renameArrival m a) (renameWay m w) (renumbered m r) ≡ renumbered m (writeWay v a w r)
@@ -158,7 +185,7 @@ module _ (m : List ℕ) (ok : oneToOne m ≡ true) where
   writePlan-renamed : (v : View) (a : Arrival) (todo : Plan) (r : Relay)
       → writePlan (renameView m v) (renameArrival m a) (renamePlan m todo) (renumbered m r) ≡ renumbered m (writePlan v a todo r)
   unfolding writePlan renamePlan
-  writePlan-renamed v a (dropped reason) r = refl
+  writePlan-renamed v a (dropped reason) r = writeDrop-renamed v a reason r
   writePlan-renamed v a delivered r = refl
   writePlan-renamed v a (follows w) r = writeWay-renamed v a w r
 

@@ -7,7 +7,7 @@ use Rattle.octets.specs.Choice.{_then_otherwise_}
 use Rattle.numbers.specs.Numbers.{portCount}
 use Rattle.rules.specs.Renumbering.{image, preimage}
 use Rattle.rules.specs.declared.Reason.{Reason}
-use Rattle.rules.specs.declared.Reason.the-variants.{NotOurs, Duplicate, BadForm, OwnAnnounce, TooManyHops, NoWayOn, AlreadyKnown, WrongSide, NotSigned, Replay, NotBetter, PortOff, NoRoom}
+use Rattle.rules.specs.declared.Reason.the-variants.{NotOurs, Duplicate, BadForm, OwnAnnounce, TooManyHops, NoWayOn, AlreadyKnown, WrongSide, NotSigned, Replay, NotBetter, RateLimited, PortOff, NoRoom}
 use Rattle.rules.specs.declared.Verdict.{Verdict}
 use Rattle.rules.specs.declared.Verdict.the-variants.{Drop, Deliver, Forward, Spread, Kept}
 use Rattle.rules.specs.declared.Answer.{Answer}
@@ -26,6 +26,7 @@ reasonNumber WrongSide = 8
 reasonNumber NotSigned = 9
 reasonNumber Replay = 10
 reasonNumber NotBetter = 11
+reasonNumber RateLimited = 15
 reasonNumber PortOff = 12
 reasonNumber NoRoom = 13
 

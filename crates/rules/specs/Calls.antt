@@ -7,10 +7,10 @@ use lib.ListN.{length, set}
 use Rattle.octets.specs.Choice.{_then_otherwise_, _or_}
 use Rattle.octets.specs.Listed.{Test, _gives_otherwise_, firstOf}
 use Rattle.numbers.specs.Numbers.{portCount, localCount, modeCount}
-use Rattle.rules.specs.Relay.{empty, used, makePort, Relay, withPorts, withLocals}
+use Rattle.rules.specs.Relay.{empty, used, makePort, makeRateSettings, Relay, withRate, withPorts, withLocals}
 use Rattle.rules.specs.View.{View, viewAt, isLocal, localPlace}
 use Rattle.rules.specs.Renumbering.{image, oneToOne, renumbered}
-use Rattle.rules.specs.Refusals.{tablesOk, packetRefusal, emptyLocal}
+use Rattle.rules.specs.Refusals.{rateSettingsOk, tablesOk, packetRefusal, emptyLocal}
 use Rattle.rules.specs.Arrival.{Arrival}
 use Rattle.rules.specs.Judging.{Plan, plan, verdict, outputAfter}
 use Rattle.rules.specs.Writes.{enact}
@@ -77,6 +77,7 @@ settled refusal before after = record { refusal = refusal; relay = eqb refusal 0
 -- ---- what each call on the tables is
 pub data TableCall : Type 0 where
   sets-port : (port : ℕ) (on : Bool) (mode : ℕ) → TableCall
+  sets-rate : (target grace penalty : ℕ) → TableCall
   adds : (address : List ℕ) → TableCall
   removes : (address : List ℕ) → TableCall
   renumbers : (images : List ℕ) → TableCall
@@ -100,6 +101,15 @@ ruleOf (sets-port port on mode) =
       rows = λ r. leb portCount port or leb modeCount mode gives 9 otherwise [];
       after = λ r. withPorts (set (r .ports) port (makePort on mode)) r;
       renamed = λ m. sets-port (image m port) on mode;
+      addresses = [];
+      movesPorts = false;
+    }
+-- wish 5, setting target interval, grace and penalty: "9 also for settings over these"
+ruleOf (sets-rate target grace penalty) =
+    record {
+      rows = λ r. not (rateSettingsOk (makeRateSettings target grace penalty)) gives 9 otherwise [];
+      after = λ r. withRate (makeRateSettings target grace penalty) r;
+      renamed = λ m. sets-rate target grace penalty;
       addresses = [];
       movesPorts = false;
     }

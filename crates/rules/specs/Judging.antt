@@ -10,10 +10,10 @@ use Rattle.octets.specs.Listed.{Test, _gives_otherwise_, firstOf}
 use Rattle.rules.specs.View.{View}
 use Rattle.rules.specs.Arrival.{Arrival, hops}
 use Rattle.rules.specs.Ways.{Way, everywhere, by-path, along-link, by-return, blocked, wayOn}
-use Rattle.rules.specs.Tests.{notOurs, duplicate, badForm, failing, ownAnnounce, deliveredHere, tooManyHops, noWayOn, whyBlocked, alreadyKnown, wrongSide, notSigned, replay, notBetter, leavingPort, portOff, noRoom}
+use Rattle.rules.specs.Tests.{notOurs, duplicate, badForm, failing, ownAnnounce, deliveredHere, tooManyHops, noWayOn, whyBlocked, alreadyKnown, wrongSide, notSigned, replay, notBetter, rateLimited, leavingPort, portOff, noRoom}
 use Rattle.rules.specs.Outgoing.{spreadPorts, outgoing, exceeds}
 use Rattle.rules.specs.declared.Reason.{Reason}
-use Rattle.rules.specs.declared.Reason.the-variants.{NotOurs, Duplicate, BadForm, OwnAnnounce, TooManyHops, NoWayOn, AlreadyKnown, WrongSide, NotSigned, Replay, NotBetter, PortOff, NoRoom}
+use Rattle.rules.specs.declared.Reason.the-variants.{NotOurs, Duplicate, BadForm, OwnAnnounce, TooManyHops, NoWayOn, AlreadyKnown, WrongSide, NotSigned, Replay, NotBetter, RateLimited, PortOff, NoRoom}
 use Rattle.rules.specs.declared.Verdict.{Verdict}
 use Rattle.rules.specs.declared.Verdict.the-variants.{Drop, Deliver, Forward, Spread, Kept}
 
@@ -34,7 +34,7 @@ earlyTests v a =
     tooManyHops (hops a) gives dropped TooManyHops otherwise
     []
 
--- tests 6 to 13, on the way that the packet would follow
+-- tests 6 to 13, on the way that the packet would follow; wish 5: "drop 15, tested after 11"
 unfoldable pub onwardTests : View → Arrival → Way → List (Test Plan)
 onwardTests v a w =
     noWayOn w gives dropped (NoWayOn (whyBlocked w)) otherwise
@@ -43,6 +43,7 @@ onwardTests v a w =
     notSigned a gives dropped NotSigned otherwise
     replay a w gives dropped Replay otherwise
     notBetter a w gives dropped NotBetter otherwise
+    rateLimited v a w gives dropped RateLimited otherwise
     portOff v a w gives dropped PortOff otherwise
     noRoom v a w gives dropped NoRoom otherwise
     []

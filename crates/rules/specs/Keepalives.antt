@@ -19,7 +19,7 @@ use Rattle.rules.specs.Arrival.{Arrival, destination}
 use Rattle.rules.specs.Ways.{along-link}
 use Rattle.rules.specs.Tests.{tooManyHops, fromAnsweringSide, fromAskingSide, leavingPort}
 use Rattle.rules.specs.Outgoing.{carriedPacket}
-use Rattle.rules.specs.Calls.{sets-port, adds, removes, renumbers, tableRefusal}
+use Rattle.rules.specs.Calls.{sets-port, sets-rate, adds, removes, renumbers, tableRefusal}
 use Rattle.rules.specs.Questions.{questionRefusal}
 use Rattle.rules.specs.Saved.{saveRefusal, loadRefusal}
 use Rattle.rules.specs.Run.{Call, packet, on-tables, asks, saves, loads, Reply, answered, perform}
@@ -77,6 +77,7 @@ accepted (loads f file) r = eqb (loadRefusal (f .says file)) 0
 unfoldable pub fair : Link → ℕ → Call → Bool
 fair l deadline (packet a output) = ltb (a .clock) deadline
 fair l deadline (on-tables (sets-port port on mode)) = on or not (eqb port (l .asking) or eqb port (l .answering))
+fair l deadline (on-tables (sets-rate target grace penalty)) = true
 fair l deadline (on-tables (adds address)) = true
 fair l deadline (on-tables (removes address)) = true
 fair l deadline (on-tables (renumbers images)) = false

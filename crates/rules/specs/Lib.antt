@@ -6,6 +6,7 @@ pub mod Arrival
 pub mod Refusals
 pub mod Blobs
 pub mod Exempt
+pub mod Rate
 pub mod Ways
 pub mod Tests
 pub mod Answers
@@ -17,4 +18,5 @@ pub mod Questions
 pub mod Saved
 pub mod Run
 pub mod Keepalives
+pub mod Chatty
 pub mod Lengths

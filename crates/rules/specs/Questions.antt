@@ -16,10 +16,13 @@ use Rattle.rules.specs.Arrival.{Arrival}
 use Rattle.rules.specs.Answers.{reasonNumber}
 use Rattle.rules.specs.Judging.{Plan, dropped, delivered, follows, plan}
 use Rattle.rules.specs.declared.Link.{Link}
+use Rattle.rules.specs.declared.RateSettings.{RateSettings}
 
 pub data Question : Type 0 where
   -- a port's settings
   port-settings : (port : ℕ) → Question
+  -- the announce rate: target interval, grace, penalty
+  rate-settings : Question
   -- the local address, the path and the link at a place; an expired record is told too
   local-at : (place : ℕ) → Question
   path-at : (place : ℕ) → Question
@@ -38,6 +41,7 @@ pub data Told : Type 0 where
   -- a place outside the table or an empty one, a number that is no port, or no live path
   none : Told
   a-port : Port → Told
+  a-rate : RateSettings → Told
   an-address : List ℕ → Told
   a-path : Path → Told
   a-link : Link → Told
@@ -94,6 +98,7 @@ questionRule (port-settings port) =
       answer = λ r. leb portCount port then none otherwise a-port (getD (r .ports) port noPort);
       renamed = λ m. port-settings (image m port);
     }
+questionRule rate-settings = record { refusal = rowSeven; answer = λ r. a-rate (r .rate); renamed = λ m. rate-settings }
 questionRule (local-at place) =
     record { refusal = rowSeven; answer = λ r. toldOf an-address (getD (r .locals) place empty); renamed = λ m. local-at place }
 questionRule (path-at place) =
@@ -134,6 +139,7 @@ unfoldable pub renameTold : List ℕ → Told → Told
 renameTold m (refused number) = refused number
 renameTold m none = none
 renameTold m (a-port port) = a-port port
+renameTold m (a-rate rate) = a-rate rate
 renameTold m (an-address address) = an-address address
 renameTold m (a-path p) = a-path (renamePath m p)
 renameTold m (a-link l) = a-link (renameLink m l)

@@ -9,20 +9,30 @@ use Rattle.octets.specs.Choice.{_or_}
 use Rattle.packet.specs.Read.{longestPacket, readingRefusal}
 use Rattle.packet.specs.Write.{leastOutput}
 use Rattle.octets.specs.Listed.{Test, _gives_otherwise_, firstOf}
-use Rattle.numbers.specs.Numbers.{portCount, localCount, pathCount, linkCount, returnCount, hashCount, blobLimit, modeCount, clockLimit, timeLimit}
+use Rattle.numbers.specs.Numbers.{portCount, localCount, pathCount, linkCount, returnCount, hashCount, blobLimit, modeCount, clockLimit, timeLimit, targetLimit, graceLimit, penaltyLimit, blockedLimit}
 use Rattle.rules.specs.Relay.{Port, Slot, empty, used, Path, Return, Remembered, Relay, lowestFree}
 use Rattle.rules.specs.View.{portOn}
 use Rattle.rules.specs.Arrival.{Arrival}
 use Rattle.rules.specs.declared.Link.{Link}
+use Rattle.rules.specs.declared.RateSettings.{RateSettings}
+use Rattle.rules.specs.declared.RateEntry.{RateEntry}
 
 -- ---- row 7, of a relay's tables. Marks and unused records, which only bytes can spoil, are the layout's part of this row
--- a time over 2^40 + 604,799 is refused
+-- "or time over 2^40 + 604,799": the last clock and every expiry. Blocked-until and the last announce have bounds of their own, `rateEntryOk`
 unfoldable pub timeOk : ℕ → Bool
 timeOk time = leb time timeLimit
 
 -- mode unknown
 unfoldable pub portOk : Port → Bool
 portOk p = ltb (p .mode) modeCount
+
+-- wish 5: "Target, grace and penalty are at most 86,400, 254 and 604,800"
+unfoldable pub rateSettingsOk : RateSettings → Bool
+rateSettingsOk s = leb (s .target) targetLimit and leb (s .grace) graceLimit and leb (s .penalty) penaltyLimit
+
+-- "refusal 7's bound is 2^40 + 691,199 for blocked-until, 2^40 - 1 for the last announce". Violations are a byte, which no bytes of tables can break
+unfoldable pub rateEntryOk : RateEntry → Bool
+rateEntryOk e = ltb (e .last) clockLimit and ltb (e .violations) 256 and leb (e .«blocked_until») blockedLimit
 
 -- a stored port over 15; blob count outside 1..16 in a used record. Hops are a byte, which no bytes of tables can break
 unfoldable pub pathOk : Path → Bool
@@ -32,6 +42,7 @@ pathOk p =
     and leb 1 (p .blobs .count)
     and leb (p .blobs .count) blobLimit
     and timeOk (p .expiry)
+    and rateEntryOk (p .rate)
 
 unfoldable pub linkOk : Link → Bool
 linkOk l = ltb (l .asking) portCount and ltb (l .answering) portCount and timeOk (l .expiry)
@@ -55,10 +66,11 @@ all ok (x ∷ xs) = ok x and all ok xs
 unfoldable pub tableOk : {A : Type 0} → ℕ → (A → Bool) → List A → Bool
 tableOk n ok xs = eqb (length xs) n and all ok xs
 
--- row 7 as far as a relay can break it; no count but those named is stored
+-- row 7 as far as a relay can break it; no other count of a table's records is stored
 unfoldable pub tablesOk : Relay → Bool
 tablesOk r =
     timeOk (r .clock)
+    and rateSettingsOk (r .rate)
     and tableOk portCount portOk (r .ports)
     and eqb (length (r .locals)) localCount
     and tableOk pathCount (slotOk pathOk) (r .paths)

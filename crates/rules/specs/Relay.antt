@@ -8,6 +8,8 @@ use Rattle.octets.specs.Index.{first}
 pub use Rattle.codes.specs.Codes.{Slot, empty, used}
 use Rattle.numbers.specs.Numbers.{portCount, localCount, pathCount, linkCount, returnCount, hashCount}
 use Rattle.rules.specs.declared.Link.{Link}
+use Rattle.rules.specs.declared.RateSettings.{RateSettings}
+use Rattle.rules.specs.declared.RateEntry.{RateEntry}
 
 -- each on or off and boundary, access point or roaming
 pub record Port : Type 0 where
@@ -19,13 +21,15 @@ pub record Blobs : Type 0 where
   pub count : ℕ
   pub places : List (List ℕ)
 
--- by an announce: the port it came in by, its hops, its next hop (relay address, or the destination if type 1), and when this ends
+-- by an announce: the port it came in by, its hops, its next hop (relay address, or the destination if type 1), and when this ends.
+-- Wish 5: "Last accepted announce, violations and blocked-until live in the path record"
 pub record Path : Type 0 where
   pub destination : List ℕ
   pub port : ℕ
   pub hops : ℕ
   pub nextHop : List ℕ
   pub expiry : ℕ
+  pub rate : RateEntry
   pub blobs : Blobs
 
 -- of data forwarded by a path: first 16 of packet hash, arrival port, leaving port
@@ -44,9 +48,11 @@ pub record Ring (A : Type 0) : Type 0 where
   pub slots : List (Slot A)
   pub next : ℕ
 
+-- wish 5: "target interval, grace and penalty, set for the relay"
 pub record Relay : Type 0 where
   pub own : List ℕ
   pub clock : ℕ
+  pub rate : RateSettings
   pub ports : List Port
   pub locals : List (Slot (List ℕ))
   pub paths : List (Slot Path)
@@ -66,9 +72,22 @@ freshPort = makePort false 0
 abbrev pub noPort : Port
 noPort = makePort false 0
 
-abbrev pub makePath : List ℕ → ℕ → ℕ → List ℕ → ℕ → Blobs → Path
-makePath destination port hops nextHop expiry blobs =
-    record { destination = destination; port = port; hops = hops; nextHop = nextHop; expiry = expiry; blobs = blobs }
+abbrev pub makeRateSettings : ℕ → ℕ → ℕ → RateSettings
+makeRateSettings target grace penalty = record { target = target; grace = grace; penalty = penalty }
+
+abbrev pub makeRateEntry : ℕ → ℕ → ℕ → RateEntry
+makeRateEntry last violations blockedUntil = record { last = last; violations = violations; «blocked_until» = blockedUntil }
+
+-- "edition 1 and a fresh relay have settings and new fields at 0"
+abbrev pub noRateSettings : RateSettings
+noRateSettings = makeRateSettings 0 0 0
+
+abbrev pub noRateEntry : RateEntry
+noRateEntry = makeRateEntry 0 0 0
+
+abbrev pub makePath : List ℕ → ℕ → ℕ → List ℕ → ℕ → RateEntry → Blobs → Path
+makePath destination port hops nextHop expiry rate blobs =
+    record { destination = destination; port = port; hops = hops; nextHop = nextHop; expiry = expiry; rate = rate; blobs = blobs }
 
 -- a link that is not proved yet
 abbrev pub makeLink : List ℕ → ℕ → ℕ → ℕ → ℕ → ℕ → Link
@@ -95,7 +114,11 @@ makeRing slots next = record { slots = slots; next = next }
 -- ---- a record with some fields changed
 -- a path by another port
 abbrev pub withPathPort : ℕ → Path → Path
-withPathPort port p = makePath (p .destination) port (p .hops) (p .nextHop) (p .expiry) (p .blobs)
+withPathPort port p = makePath (p .destination) port (p .hops) (p .nextHop) (p .expiry) (p .rate) (p .blobs)
+
+-- a path with another rate entry
+abbrev pub withPathRate : RateEntry → Path → Path
+withPathRate rate p = makePath (p .destination) (p .port) (p .hops) (p .nextHop) (p .expiry) rate (p .blobs)
 
 -- a link between other ports
 abbrev pub withLinkPorts : ℕ → ℕ → Link → Link
@@ -132,11 +155,13 @@ abbrev pub withSlots : {A : Type 0} → List (Slot A) → Ring A → Ring A
 withSlots slots ring = makeRing slots (ring .next)
 
 -- ---- a relay
-abbrev pub makeRelay : List ℕ → ℕ → List Port → List (Slot (List ℕ)) → List (Slot Path) → List (Slot Link) → Ring Return → Ring Remembered → Relay
-makeRelay own clock ports locals paths links returns hashes =
+abbrev pub makeRelay : List ℕ → ℕ → RateSettings → List Port → List (Slot (List ℕ)) → List (Slot Path) → List (Slot Link) → Ring Return
+    → Ring Remembered → Relay
+makeRelay own clock rate ports locals paths links returns hashes =
     record {
       own = own;
       clock = clock;
+      rate = rate;
       ports = ports;
       locals = locals;
       paths = paths;
@@ -145,10 +170,10 @@ makeRelay own clock ports locals paths links returns hashes =
       hashes = hashes;
     }
 
--- a fresh relay has its own address, all ports off and boundary, clock 0, tables empty
+-- a fresh relay has its own address, all ports off and boundary, clock 0, tables empty; wish 5: settings at 0
 unfoldable pub fresh : List ℕ → Relay
 fresh own =
-    makeRelay own 0
+    makeRelay own 0 noRateSettings
     (replicate portCount freshPort)
     (replicate localCount empty)
     (replicate pathCount empty)
@@ -158,25 +183,28 @@ fresh own =
 
 -- ---- a relay with one part changed
 unfoldable pub withClock : ℕ → Relay → Relay
-withClock clock r = makeRelay (r .own) clock (r .ports) (r .locals) (r .paths) (r .links) (r .returns) (r .hashes)
+withClock clock r = makeRelay (r .own) clock (r .rate) (r .ports) (r .locals) (r .paths) (r .links) (r .returns) (r .hashes)
+
+unfoldable pub withRate : RateSettings → Relay → Relay
+withRate rate r = makeRelay (r .own) (r .clock) rate (r .ports) (r .locals) (r .paths) (r .links) (r .returns) (r .hashes)
 
 unfoldable pub withPorts : List Port → Relay → Relay
-withPorts ports r = makeRelay (r .own) (r .clock) ports (r .locals) (r .paths) (r .links) (r .returns) (r .hashes)
+withPorts ports r = makeRelay (r .own) (r .clock) (r .rate) ports (r .locals) (r .paths) (r .links) (r .returns) (r .hashes)
 
 unfoldable pub withLocals : List (Slot (List ℕ)) → Relay → Relay
-withLocals locals r = makeRelay (r .own) (r .clock) (r .ports) locals (r .paths) (r .links) (r .returns) (r .hashes)
+withLocals locals r = makeRelay (r .own) (r .clock) (r .rate) (r .ports) locals (r .paths) (r .links) (r .returns) (r .hashes)
 
 unfoldable pub withPaths : List (Slot Path) → Relay → Relay
-withPaths paths r = makeRelay (r .own) (r .clock) (r .ports) (r .locals) paths (r .links) (r .returns) (r .hashes)
+withPaths paths r = makeRelay (r .own) (r .clock) (r .rate) (r .ports) (r .locals) paths (r .links) (r .returns) (r .hashes)
 
 unfoldable pub withLinks : List (Slot Link) → Relay → Relay
-withLinks links r = makeRelay (r .own) (r .clock) (r .ports) (r .locals) (r .paths) links (r .returns) (r .hashes)
+withLinks links r = makeRelay (r .own) (r .clock) (r .rate) (r .ports) (r .locals) (r .paths) links (r .returns) (r .hashes)
 
 unfoldable pub withReturns : Ring Return → Relay → Relay
-withReturns returns r = makeRelay (r .own) (r .clock) (r .ports) (r .locals) (r .paths) (r .links) returns (r .hashes)
+withReturns returns r = makeRelay (r .own) (r .clock) (r .rate) (r .ports) (r .locals) (r .paths) (r .links) returns (r .hashes)
 
 unfoldable pub withHashes : Ring Remembered → Relay → Relay
-withHashes hashes r = makeRelay (r .own) (r .clock) (r .ports) (r .locals) (r .paths) (r .links) (r .returns) hashes
+withHashes hashes r = makeRelay (r .own) (r .clock) (r .rate) (r .ports) (r .locals) (r .paths) (r .links) (r .returns) hashes
 
 -- ---- looking through a table
 -- the slot holds a record that passes the test

@@ -10,7 +10,7 @@ use Rattle.rules.specs.Relay.{Relay}
 use Rattle.rules.specs.Renumbering.{image, renumbered}
 use Rattle.rules.specs.Arrival.{Arrival}
 use Rattle.rules.specs.Answers.{renameAnswer}
-use Rattle.rules.specs.Calls.{Judgement, packetCall, Setting, TableCall, sets-port, adds, removes, renumbers, ruleOf, settle}
+use Rattle.rules.specs.Calls.{Judgement, packetCall, Setting, TableCall, sets-port, sets-rate, adds, removes, renumbers, ruleOf, settle}
 use Rattle.rules.specs.Questions.{Question, Told, questionRule, tell, renameTold}
 use Rattle.rules.specs.Saved.{Said, Format, saveRefusal, loadRefusal}
 use Rattle.rules.specs.declared.Answer.{Answer}
@@ -26,6 +26,9 @@ pub data Call : Type 0 where
 -- the calls on the tables by their names
 abbrev pub port-setting : ℕ → Bool → ℕ → Call
 port-setting port on mode = on-tables (sets-port port on mode)
+
+abbrev pub rate-setting : ℕ → ℕ → ℕ → Call
+rate-setting target grace penalty = on-tables (sets-rate target grace penalty)
 
 abbrev pub adding : List ℕ → Call
 adding address = on-tables (adds address)

@@ -1,5 +1,5 @@
--- Document 01, "Judging a packet": tests 1 to 13, each under its own name. Test 6's cases are found in Ways.antt. Document 02, wish 9, on test 14:
--- "Show that no accepted packet reaches it and take it out. Its number isn't used again." What it tested is shown of what leaves: Lengths.antt.
+-- Document 01, "Judging a packet": tests 1 to 13, each under its own name, and document 02's 15. Test 6's cases are found in Ways.antt. Document 02, wish 9, on
+-- test 14: "Show that no accepted packet reaches it and take it out. Its number isn't used again." What it tested is shown of what leaves: Lengths.antt.
 use Prim.Native.Nat.{ℕ}
 use mathlib.Core.Bool.{Bool, true, false, not}
 use mathlib.Core.List.{List, []}
@@ -13,11 +13,12 @@ use Rattle.packet.specs.Read.{headerOf, partsOf, payload}
 use Rattle.packet.specs.Hash.{linkId}
 use Rattle.packet.specs.Announce.{emissionOf, leastAnnounce, announcedDestination}
 use Rattle.numbers.specs.Numbers.{portCount}
-use Rattle.rules.specs.Relay.{Slot, empty, used}
+use Rattle.rules.specs.Relay.{Slot, empty, used, Path}
 use Rattle.rules.specs.View.{View}
 use Rattle.rules.specs.Arrival.{Arrival, header, hops, relayAddress, destination, hash, blob, isLinkProof}
 use Rattle.rules.specs.Exempt.{exempt}
 use Rattle.rules.specs.Blobs.{held, isAmong, greatestEmission}
+use Rattle.rules.specs.Rate.{rated}
 use Rattle.rules.specs.Ways.{Way, everywhere, by-path, along-link, by-return, blocked}
 use Rattle.rules.specs.declared.Link.{Link}
 use Rattle.rules.specs.declared.Clause.{Clause}
@@ -157,24 +158,35 @@ wrongSide a (blocked why) = false
 unfoldable pub notSigned : Arrival → Bool
 notSigned a = (isAnnounce (header a) or isLinkProof (a .bytes)) and not (a .signed)
 
+-- tests 10, 11 and 15 are of an announce and the live path of its destination; where there is none, they don't hold
+unfoldable pub ofKnown : (Path → Bool) → Way → Bool
+ofKnown test (everywhere empty) = false
+ofKnown test (everywhere (used p)) = test p
+ofKnown test (by-path p) = false
+ofKnown test (along-link l) = false
+ofKnown test (by-return t) = false
+ofKnown test (blocked why) = false
+
 -- 10. Replay: the announce's blob is stored in its live path.
+unfoldable pub isReplay : Arrival → Path → Bool
+isReplay a p = isAmong (blob a) (held (p .blobs))
+
 unfoldable pub replay : Arrival → Way → Bool
-replay a (everywhere empty) = false
-replay a (everywhere (used p)) = isAmong (blob a) (held (p .blobs))
-replay a (by-path p) = false
-replay a (along-link l) = false
-replay a (by-return t) = false
-replay a (blocked why) = false
+replay a = ofKnown (isReplay a)
 
 -- 11. Not better: emission not above the greatest among stored blobs, and hops not below the stored hops.
+unfoldable pub isNotBetter : Arrival → Path → Bool
+isNotBetter a p = leb (emissionOf (blob a)) (greatestEmission (held (p .blobs))) and leb (p .hops) (hops a)
+
 unfoldable pub notBetter : Arrival → Way → Bool
-notBetter a (everywhere empty) = false
-notBetter a (everywhere (used p)) =
-    leb (emissionOf (blob a)) (greatestEmission (held (p .blobs))) and leb (p .hops) (hops a)
-notBetter a (by-path p) = false
-notBetter a (along-link l) = false
-notBetter a (by-return t) = false
-notBetter a (blocked why) = false
+notBetter a = ofKnown (isNotBetter a)
+
+-- 15. Document 02, wish 5: "drop 15, tested after 11", by the rate rule. "A destination with no live path is let through"
+unfoldable pub isRateLimited : View → Arrival → Path → Bool
+isRateLimited v a p = rated (v .rate) (a .clock) (p .rate) .dropped
+
+unfoldable pub rateLimited : View → Arrival → Way → Bool
+rateLimited v a = ofKnown (isRateLimited v a)
 
 -- the port to leave by: the path's, which may be the arrival port; from the answering side the asking port, else the answering port; the
 -- return record's arrival port. An announce leaves by many, and what is blocked by none: 16 is no port

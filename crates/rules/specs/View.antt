@@ -10,6 +10,7 @@ use Rattle.octets.specs.Choice.{same}
 use Rattle.numbers.specs.Numbers.{portCount, localCount, pathCount, linkCount, returnCount, hashCount, live}
 use Rattle.rules.specs.Relay.{noPort, Slot, empty, Path, Return, Remembered, Relay, lowest, lowestFree}
 use Rattle.rules.specs.declared.Link.{Link}
+use Rattle.rules.specs.declared.RateSettings.{RateSettings}
 
 -- ---- ports and local addresses
 -- one of the sixteen, and on
@@ -62,6 +63,7 @@ freeLink clock r = lowestFree (λ l. live clock (l .expiry)) linkCount (r .links
 -- ---- the view
 pub record View : Type 0 where
   pub own : List ℕ
+  pub rate : RateSettings
   pub on : ℕ → Bool
   pub mode : ℕ → ℕ
   pub local : List ℕ → Bool
@@ -76,6 +78,7 @@ unfoldable pub viewAt : ℕ → Relay → View
 viewAt clock r =
     record {
       own = r .own;
+      rate = r .rate;
       on = portOn r;
       mode = portMode r;
       local = isLocal r;

@@ -2,7 +2,7 @@
 use Prim.Native.Nat.{ℕ, _+_, _%_}
 use mathlib.Core.Bool.{Bool, true, not}
 use mathlib.Core.List.{List, map}
-use lib.Dec.{ltb}
+use lib.Dec.{eqb, ltb}
 use lib.ListN.{take, set}
 use Rattle.octets.specs.Index.{_and_}
 use Rattle.octets.specs.Choice.{_then_otherwise_, _or_}
@@ -10,16 +10,18 @@ use Rattle.packet.specs.Header.{typeTwo, isData}
 use Rattle.packet.specs.Read.{headerOf, partsOf}
 use Rattle.packet.specs.Hash.{linkId}
 use Rattle.numbers.specs.Numbers.{blobLimit, returnCount, hashCount, pathLifetime, hashLifetime, returnLifetime, unprovedLifetime, provedLifetime}
-use Rattle.rules.specs.Relay.{Slot, empty, used, Ring, makeRing, withSlots, makePath, makeLink, withLinkState, makeReturn, makeRemembered, Blobs, Path, Return, Relay, holds, withClock, withPaths, withLinks, withReturns, withHashes}
+use Rattle.rules.specs.Relay.{Slot, empty, used, Ring, makeRing, withSlots, makePath, withPathRate, makeLink, withLinkState, makeReturn, makeRemembered, Blobs, Path, Return, Relay, holds, withClock, withPaths, withLinks, withReturns, withHashes}
 use Rattle.rules.specs.View.{View, isLiveReturn, pathPlace, linkPlace, returnPlace, freePath, freeLink}
 use Rattle.rules.specs.Arrival.{Arrival, header, hops, destination, hash, blob, isLinkProof}
 use Rattle.rules.specs.Exempt.{exempt}
 use Rattle.rules.specs.Blobs.{oneBlob, addBlob}
+use Rattle.rules.specs.Rate.{startsAt, entryAccepted, entryDropped}
 use Rattle.rules.specs.Ways.{Way, everywhere, by-path, along-link, by-return, blocked}
 use Rattle.rules.specs.Answers.{reasonNumber}
 use Rattle.rules.specs.Judging.{Plan, dropped, delivered, follows}
 use Rattle.rules.specs.declared.Link.{Link}
 use Rattle.rules.specs.declared.Reason.{Reason}
+use Rattle.rules.specs.declared.RateEntry.{RateEntry}
 
 -- a ring of n places: the next one is written, and the one after it is next
 unfoldable pub putNext : {A : Type 0} → ℕ → Slot A → Ring A → Ring A
@@ -60,9 +62,14 @@ nextHopOf p = typeTwo (headerOf p) then partsOf p .relay otherwise partsOf p .de
 abbrev pub pathExpiry : View → Arrival → ℕ
 pathExpiry v a = a .clock + pathLifetime (v .mode (a .port))
 
+-- the rate rule's fields: a new path starts with none, a known one keeps what the rule leaves
+unfoldable pub announcedRate : View → Arrival → Slot Path → RateEntry
+announcedRate v a empty = startsAt (a .clock)
+announcedRate v a (used p) = entryAccepted (v .rate) (a .clock) (p .rate)
+
 unfoldable pub announcedPath : View → Arrival → Slot Path → Path
 announcedPath v a known =
-    makePath (destination a) (a .port) (hops a) (nextHopOf (a .bytes)) (pathExpiry v a) (announcedBlobs a known)
+    makePath (destination a) (a .port) (hops a) (nextHopOf (a .bytes)) (pathExpiry v a) (announcedRate v a known) (announcedBlobs a known)
 
 -- a known path keeps its slot; a new one overwrites the lowest slot empty or expired
 unfoldable pub announcedPlace : Arrival → Slot Path → Relay → ℕ
@@ -71,6 +78,14 @@ announcedPlace a (used p) r = pathPlace (a .clock) r (destination a)
 
 unfoldable pub putPath : View → Arrival → Slot Path → Relay → Relay
 putPath v a known r = withPaths (set (r .paths) (announcedPlace a known r) (used (announcedPath v a known))) r
+
+-- a rate drop changes violations and blocked-until of its destination's live path alone; last stays
+unfoldable pub limitPath : View → Arrival → Slot Path → Relay → Relay
+limitPath v a empty r = r
+limitPath v a (used p) r =
+    withPaths
+    (set (r .paths) (pathPlace (a .clock) r (destination a)) (used (withPathRate (entryDropped (v .rate) (a .clock) (p .rate)) p)))
+    r
 
 -- ---- return records
 -- first 16 of packet hash, arrival port, leaving port
@@ -125,8 +140,15 @@ writeWay v a (along-link l) r = renewLink a l r
 writeWay v a (by-return t) r = emptyReturn a r
 writeWay v a (blocked why) r = r
 
+-- wish 5: a drop by test 15 writes its path, and no other drop writes one
+abbrev pub isRateDrop : Reason → Bool
+isRateDrop reason = eqb (reasonNumber reason) 15
+
+unfoldable pub writeDrop : View → Arrival → Reason → Relay → Relay
+writeDrop v a reason r = isRateDrop reason then limitPath v a (v .path (destination a)) r otherwise r
+
 unfoldable pub writePlan : View → Arrival → Plan → Relay → Relay
-writePlan v a (dropped reason) r = r
+writePlan v a (dropped reason) r = writeDrop v a reason r
 writePlan v a delivered r = r
 writePlan v a (follows w) r = writeWay v a w r
 

@@ -27,8 +27,8 @@ pub enum Blocked {
     NoReturn,
 }
 
-// Why a packet was dropped: document 01's tests 1 to 13, in their order. `reasonNumber` of specs/Answers.antt gives
-// the numbers.
+// Why a packet was dropped: the tests in their order, document 02's 15 after 11. `reasonNumber` of specs/Answers.antt
+// gives the numbers.
 pub enum Reason {
     NotOurs,
     Duplicate,
@@ -41,6 +41,7 @@ pub enum Reason {
     NotSigned,
     Replay,
     NotBetter,
+    RateLimited,
     PortOff,
     NoRoom,
 }
@@ -76,6 +77,28 @@ pub struct Link {
     pub remaining: RemainingHops,
     pub proved: bool,
     pub expiry: u64,
+}
+
+// How often destinations may announce, set for the relay: target interval, grace and penalty.
+pub struct RateSettings {
+    pub target: u64,
+    pub grace: u64,
+    pub penalty: u64,
+}
+
+// What a path's record has of its destination's announces: when the last one was accepted, the violations, and until
+// when they are dropped.
+pub struct RateEntry {
+    pub last: u64,
+    pub violations: u8,
+    pub blocked_until: u64,
+}
+
+// What the rate rule says of an announce: whether it is dropped, and the two fields after it.
+pub struct Rated {
+    pub dropped: bool,
+    pub violations: u8,
+    pub blocked_until: u64,
 }
 
 // Packet calls since fresh, each modulo 2^32: all accepted ones, and those of each answer. A host's tally is six

@@ -1,5 +1,7 @@
--- Laws of the widths, of loading and of saving; then the theorems over whole files, and a concrete one.
+-- Laws of the widths, of older editions, of loading and of saving; then the theorems over whole files, and a concrete one.
 pub mod Widths
+pub mod Alike
+pub mod EditionLaws
 pub mod LoadLaws
 pub mod SaveLaws
 pub mod Made

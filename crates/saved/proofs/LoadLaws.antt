@@ -1,5 +1,5 @@
 -- The laws of loading: each refusal, and what a file that is not refused is.
-use Prim.Native.Nat.{ℕ, zero, suc, _+_, _*_, _≤_, _<_, zero-le}
+use Prim.Native.Nat.{ℕ, _+_, _-_, _*_, _≤_, _<_, zero-le}
 use native.Mathlib.Nat.{add-assoc, le-of-suc-le-suc}
 use native.Mathlib.Omega.{arith}
 use mathlib.Core.Bool.{Bool, true, false, not}
@@ -18,20 +18,23 @@ use Rattle.octets.proofs.Choice.{then-true, then-false, then-ap}
 use Rattle.octets.proofs.Index.{and-left, and-right, and-both, and-no, and-yes, all-none, all-more, all-fails, all-at, all-intro}
 use Rattle.octets.proofs.Listed.{here, past, allGive, refuses, rows-passed, none-first}
 use Rattle.octets.proofs.Part.{part-length}
-use Rattle.codes.specs.Form.{code}
-use Rattle.codes.proofs.Law.{tests-part}
+use Rattle.codes.specs.Form.{Form, code}
 use Rattle.codes.proofs.Forms.{lawful}
 use Rattle.recording.specs.Shape.{entryPlace, kindOf, editionOf, countOf, offsetOf, lengthOf, sumBelow, runningPlace, offsetsRight, endRight}
 use Rattle.recording.proofs.Sums.{sum-none, sum-more, sum-bound, sum-cong}
 use Rattle.recording.proofs.ShapeLaws.{length-lt, Shaped}
+use Rattle.numbers.specs.Numbers.{pathCount}
 use Rattle.rules.specs.declared.Tally.{Tally}
-use Rattle.tables.specs.Forms.{relayForm}
+use Rattle.tables.specs.Forms.{Edition, relayFormIn}
 use Rattle.tables.specs.Places.{tableSize}
-use Rattle.tables.specs.Layout.{bytesOf, wellFormed}
-use Rattle.saved.specs.Editions.{Held, tallyForm, currentEdition, isKnown, editionAt, current, widthAt}
-use Rattle.saved.specs.File.{savedKind, bodyCount, headWidth, bodiesAt, savedSize, widths-fill}
+use Rattle.tables.specs.Layout.{frontOk, backOk, relayOf, bytesOf, wellFormed}
+use Rattle.tables.proofs.Whole.{again}
+use Rattle.saved.specs.Editions.{Held, tallyForm, isKnown, numbered, held, widthAt}
+use Rattle.saved.specs.File.{savedKind, bodyCount, headWidth, bodiesAt}
 use Rattle.saved.specs.Load.{lengthWrong, kindWrong, contentsWrong, sizesRight, bodiesWrong, loadRows, loadRefusal, heldIn, LoadedOn, loadOn}
-use Rattle.saved.specs.Steps.{bodiesFine, bodiesWrongNow, tallyAt}
+use Rattle.saved.specs.Steps.{backPlace, tallyPlace, sizeIn, frontNow, pathsFine, tablesNow, bodiesFine, tallyAt}
+use Rattle.saved.proofs.Widths.{widths-in, size-in}
+use Rattle.saved.proofs.EditionLaws.{each-brings, now-relay, now-formed, now-bytes, now-clauses}
 
 -- ---- 20
 module _ (f : List ℕ) where
@@ -61,25 +64,14 @@ module _ (f : List ℕ) where
     has-start = omega (arith, has-contents)
 
 -- ---- 21
-unknown : (n : ℕ) → (n ≡ currentEdition → ⊥) → isKnown n ≡ false
-unfolding isKnown
-unknown zero ne = and-no (leb zero currentEdition) refl
-unknown (suc zero) ne = absurd (ne refl)
-unknown (suc (suc n)) ne = and-yes _ (lt-ltb 0 (suc (suc n)) (omega arith)) ∙ lt-leb (suc (suc n)) 1 (omega arith)
-
 module _ (f : List ℕ) where
   pub other-kind : (kindOf f ≡ savedKind → ⊥) → kindWrong f ≡ true
   unfolding kindWrong
   other-kind ne = ap not (and-no _ (ne-eqb (kindOf f) savedKind ne))
 
-  module _ (k : kindOf f ≡ savedKind) where
-    pub other-edition : (editionOf f ≡ currentEdition → ⊥) → kindWrong f ≡ true
-    unfolding kindWrong
-    other-edition ne = ap not (and-yes _ (eq-eqb (kindOf f) savedKind k) ∙ unknown (editionOf f) ne)
-
-    pub kind-right : editionOf f ≡ currentEdition → kindWrong f ≡ false
-    unfolding kindWrong isKnown _and_
-    kind-right e = ap not (and-yes _ (eq-eqb (kindOf f) savedKind k) ∙ ap isKnown e)
+  pub edition-decides : kindOf f ≡ savedKind → kindWrong f ≡ not (isKnown (editionOf f))
+  unfolding kindWrong
+  edition-decides k = ap not (and-yes _ (eq-eqb (kindOf f) savedKind k))
 
 -- ---- 22
 -- body i starts at the running place
@@ -153,46 +145,58 @@ module _ {f : List ℕ} {place i : ℕ} (p : Passed f place i) where
   passed-wrong l ne = offset-wrong f (p .count) i l (λ q. ne (q ∙ sym (p .running)))
 
 -- ---- 24
-module _ (f : List ℕ) where
+module _ (f : List ℕ) (form : Form Held) where
   -- body i has its size
   abbrev pub sized : ℕ → Bool
-  sized i = eqb (lengthOf headWidth f i) (widthAt current i)
+  sized i = eqb (lengthOf headWidth f i) (widthAt form i)
 
-  pub size-wrong : (i : ℕ) → i < bodyCount → (lengthOf headWidth f i ≡ widthAt current i → ⊥) → sizesRight current f ≡ false
+  pub size-wrong : (i : ℕ) → i < bodyCount → (lengthOf headWidth f i ≡ widthAt form i → ⊥) → sizesRight form f ≡ false
   unfolding sizesRight
   size-wrong i l ne = all-fails sized i bodyCount l (ne-eqb _ _ ne)
 
-  pub sizes-right : allBelow sized bodyCount ≡ true → sizesRight current f ≡ true
+  pub sizes-right : allBelow sized bodyCount ≡ true → sizesRight form f ≡ true
   unfolding sizesRight
   sizes-right a = a
 
-  pub size-at : sizesRight current f ≡ true → (i : ℕ) → i < bodyCount → lengthOf headWidth f i ≡ widthAt current i
+  pub size-at : sizesRight form f ≡ true → (i : ℕ) → i < bodyCount → lengthOf headWidth f i ≡ widthAt form i
   unfolding sizesRight
   size-at s i l = eqb-true _ _ (all-at sized bodyCount i s l)
 
-  module _ (h : lengthWrong f ≡ false) (n : countOf f ≡ bodyCount) where
-    pub has-entries : bodiesAt ≤ length f
-    has-entries = omega (arith, n, has-contents f h)
+-- the edition that the file names
+abbrev pub editionIn : List ℕ → Edition
+editionIn f = numbered (editionOf f)
 
-    pub size-known : sizesRight current f ≡ true → length f ≡ savedSize
-    unfolding runningPlace
-    size-known s =
-        sym (ends-right f h)
-        ∙ ap (runningPlace headWidth f) n
-        ∙ ap₂ (λ (p q : ℕ). entryPlace headWidth p + q) n (sum-cong (lengthOf headWidth f) (widthAt current) bodyCount (size-at s) ∙ widths-fill)
+module _ (f : List ℕ) (h : lengthWrong f ≡ false) (n : countOf f ≡ bodyCount) where
+  pub has-entries : bodiesAt ≤ length f
+  has-entries = omega (arith, n, has-contents f h)
 
-  -- the tally may be any bytes, so the bodies are fine where the tables are
-  and-true : (b : Bool) → (b and true) ≡ b
-  unfolding _and_
-  and-true true = refl
-  and-true false = refl
+  pub size-known : (e : Edition) → sizesRight (held e) f ≡ true → length f ≡ sizeIn e
+  unfolding runningPlace
+  size-known e s =
+      sym (ends-right f h)
+      ∙ ap (runningPlace headWidth f) n
+      ∙ ap₂ (λ (p q : ℕ). entryPlace headWidth p + q) n
+      (sum-cong (lengthOf headWidth f) (widthAt (held e)) bodyCount (size-at f (held e) s) ∙ widths-in e)
+      ∙ size-in e
 
-  pub tables-decide : length f ≡ savedSize → wellFormed (part f bodiesAt tableSize) ≡ bodiesFine f
-  unfolding wellFormed bodiesFine _and_
-  tables-decide e =
-      and-yes _ (eq-eqb _ tableSize (part-length f bodiesAt tableSize (omega (arith, e))))
-      ∙ tests-part (lawful relayForm) f bodiesAt
-      ∙ sym (and-true (code relayForm .fine f bodiesAt))
+pub bodies-decide : (f : List ℕ) → bodiesWrong f ≡ not (sizesRight (held (editionIn f)) f and bodiesFine (editionIn f) f)
+unfolding bodiesWrong bodiesFine
+bodies-decide f = refl
+
+-- the tally may be any bytes, so the bodies are fine where those of the tables' sections are
+pub relay-decides : (e : Edition) (f : List ℕ) → bodiesFine e f ≡ code (relayFormIn e) .fine f bodiesAt
+unfolding bodiesFine _and_
+relay-decides e f = and-true (code (relayFormIn e) .fine f bodiesAt)
+  where
+    and-true : (b : Bool) → (b and true) ≡ b
+    and-true true = refl
+    and-true false = refl
+
+-- as the code tests them
+pub bodies-clauses : (n : ℕ) (f : List ℕ) → tallyPlace (numbered n) ≤ length f
+    → bodiesFine (numbered n) f
+    ≡ (frontOk (frontNow (numbered n) f) and pathsFine (numbered n) f pathCount and backOk f (backPlace (numbered n)))
+bodies-clauses n f size = relay-decides (numbered n) f ∙ now-clauses (numbered n) (each-brings (n - 1)) f size
 
 -- ---- the rows, in their order
 module _ (f : List ℕ) (size : ℕ) where
@@ -225,32 +229,16 @@ module _ (f : List ℕ) (size : ℕ) where
           unfolding loadRefusal loadRows
           not-refused e = none-first (loadRows f size) 0 (a, (k, (p, (w, (ap not (eq-eqb size tableSize e), tt)))))
 
--- ---- editions
-pub bodies-now : (f : List ℕ) → editionOf f ≡ currentEdition → bodiesWrong f ≡ bodiesWrongNow f
-unfolding bodiesWrong bodiesFine
-bodies-now f e = ap (λ (n : ℕ). not (sizesRight (editionAt n) f and code (editionAt n) .fine f bodiesAt)) e
-
-pub held-now : (f : List ℕ) → editionOf f ≡ currentEdition → heldIn f ≡ code current .read f bodiesAt
-unfolding heldIn
-held-now f e = ap (λ (n : ℕ). code (editionAt n) .read f bodiesAt) e
-
 -- ---- what a file that loads is
 pub record Taken (f : List ℕ) (size : ℕ) : Type 0 where
-  pub long : length f ≡ savedSize
+  pub long : length f ≡ sizeIn (editionIn f)
   pub kind : kindOf f ≡ savedKind
-  pub edition : editionOf f ≡ currentEdition
+  pub known : isKnown (editionOf f) ≡ true
   pub count : countOf f ≡ bodyCount
   pub shaped : Shaped headWidth f
-  pub sizes : (i : ℕ) → i < bodyCount → lengthOf headWidth f i ≡ widthAt current i
-  pub fine : code current .fine f bodiesAt ≡ true
+  pub sizes : (i : ℕ) → i < bodyCount → lengthOf headWidth f i ≡ widthAt (held (editionIn f)) i
+  pub fine : code (held (editionIn f)) .fine f bodiesAt ≡ true
   pub room : size ≡ tableSize
-
-known-one : (n : ℕ) → isKnown n ≡ true → n ≡ currentEdition
-unfolding isKnown
-known-one n h =
-    let low = ltb-true 0 n (and-left _ _ h) in
-    let high = leb-true n 1 (and-right _ _ h) in
-    omega arith
 
 module _ (f : List ℕ) (size : ℕ) where
   rows-refuse : allGive refuses (loadRows f size) ≡ true
@@ -262,16 +250,15 @@ module _ (f : List ℕ) (size : ℕ) where
   taken e =
       let (a, (k, (p, (w, (r, _))))) = rows-passed (loadRows f size) 0 rows-refuse (eq-eqb (loadRefusal f size) 0 e) in
       let kinds = not-false _ k in
-      let edition = known-one (editionOf f) (and-right _ _ kinds) in
       let count = counts-eight f p in
-      let fine = not-false _ (sym (bodies-now f edition) ∙ w) in
+      let fine = not-false _ (sym (bodies-decide f) ∙ w) in
       record {
-        long = size-known f a count (and-left _ _ fine);
+        long = size-known f a count (editionIn f) (and-left _ _ fine);
         kind = eqb-true (kindOf f) savedKind (and-left _ _ kinds);
-        edition = edition;
+        known = and-right _ _ kinds;
         count = count;
         shaped = record { start = has-start f a; whole = has-contents f a; offsets = offsets-right f p; ends = ends-right f a };
-        sizes = size-at f (and-left _ _ fine);
+        sizes = size-at f (held (editionIn f)) (and-left _ _ fine);
         fine = and-right _ _ fine;
         room = eqb-true size tableSize (not-false _ r);
       }
@@ -281,9 +268,9 @@ module _ (f : List ℕ) (size : ℕ) where
   takes t =
       let right : lengthWrong f ≡ false = ap not (eq-eqb _ _ (t .shaped .ends)) in
       let offsets = all-intro (stands f) bodyCount (λ i l. eq-eqb _ _ (t .shaped .offsets i (omega (arith, t .count, l)))) in
-      let sizes = all-intro (sized f) bodyCount (λ i l. eq-eqb _ _ (t .sizes i l)) in
-      not-refused f size right (kind-right f (t .kind) (t .edition)) (contents-right f (t .count) offsets)
-      (bodies-now f (t .edition) ∙ ap not (and-both sizes (t .fine))) (t .room)
+      let sizes = all-intro (sized f (held (editionIn f))) bodyCount (λ i l. eq-eqb _ _ (t .sizes i l)) in
+      not-refused f size right (edition-decides f (t .kind) ∙ ap not (t .known)) (contents-right f (t .count) offsets)
+      (bodies-decide f ∙ ap not (and-both sizes (t .fine))) (t .room)
 
 -- the last row: a file that loads into tables of the right size is refused for any other
 pub other-size : (f : List ℕ) (size : ℕ) → loadRefusal f tableSize ≡ 0 → (size ≡ tableSize → ⊥) → loadRefusal f size ≡ 25
@@ -293,19 +280,32 @@ other-size f size e ne =
     refused-size f size a k p w ne
 
 -- ---- what the code leaves is what the file holds
-module _ (f : List ℕ) (size : ℕ) (b : Bytes f) (t : Taken f size) where
-  tables-fine : code relayForm .fine f bodiesAt ≡ true
-  tables-fine = and-left _ _ (t .fine)
+module _ (f : List ℕ) (size : ℕ) (t : Taken f size) where
+  pub has-tables : tallyPlace (editionIn f) ≤ length f
+  has-tables = omega (arith, t .long)
 
-  pub tables-held : part f bodiesAt tableSize ≡ bytesOf (heldIn f .0)
-  unfolding bytesOf
-  tables-held =
-      sym (lawful relayForm .again f bodiesAt b (omega (arith, t .long)) tables-fine)
-      ∙ ap (λ (x : Held). code relayForm .write (x .0)) (sym (held-now f (t .edition)))
+  pub held-relay : heldIn f .0 ≡ relayOf (tablesNow (editionIn f) f)
+  unfolding heldIn
+  held-relay = now-relay (editionIn f) (each-brings (editionOf f - 1)) f has-tables
 
-  pub tally-held : tallyAt f (bodiesAt + tableSize) ≡ heldIn f .1
-  unfolding tallyAt
-  tally-held = ap (λ (x : Held). x .1) (sym (held-now f (t .edition)))
+  pub held-formed : wellFormed (tablesNow (editionIn f) f) ≡ true
+  unfolding bodiesFine
+  held-formed =
+      sym (now-formed (editionIn f) (each-brings (editionOf f - 1)) f has-tables) ∙ sym (relay-decides (editionIn f) f) ∙ t .fine
+
+  pub held-bytes : Bytes f → Bytes (tablesNow (editionIn f) f)
+  held-bytes b = now-bytes (editionIn f) (each-brings (editionOf f - 1)) f has-tables b
+
+  pub tables-held : Bytes f → tablesNow (editionIn f) f ≡ bytesOf (heldIn f .0)
+  tables-held b = sym (again (tablesNow (editionIn f) f) (held-bytes b) held-formed) ∙ ap bytesOf (sym held-relay)
+
+  pub tally-held : (at : ℕ) → at + code tallyForm .width ≡ length f → tallyAt f at ≡ heldIn f .1
+  unfolding tallyAt heldIn
+  tally-held at e = ap (code tallyForm .read f) (omega (arith, e, t .long))
+
+  pub tally-good : Bytes f → code tallyForm .Good (heldIn f .1)
+  unfolding heldIn _and_
+  tally-good b = lawful tallyForm .keeps f (bodiesAt + code (relayFormIn (editionIn f)) .width) b (omega (arith, t .long)) refl
 
 -- counter by counter
 pub tally-read : (f : List ℕ) (at : ℕ)

@@ -5,6 +5,7 @@
 --   load-then-save     a file of the current edition that loads is what saving writes, from the tables and the tally that were loaded;
 --   loaded-formed, loaded-bytes, loaded-fits
 --                      loaded tables pass refusal 7, and are bytes; each counter of the loaded tally fits its four bytes;
+--   older-loads        what an edition can hold, in a file of that edition, loads, and is then in the tables;
 --   load-unread        what stood in the tables, and the tally that was given, matter nothing to a load that is not refused.
 use Prim.Native.Nat.{ℕ, _≤_}
 use mathlib.Core.Bool.{true}
@@ -13,26 +14,23 @@ use mathlib.Core.Path.{_≡_, refl, sym, ap, ap₂, subst, _∙_}
 use lib.ListN.{length, take}
 use lib.Seq.{take-at}
 use Rattle.octets.specs.Bytes.{Bytes}
-use Rattle.octets.specs.Part.{part, patch}
-use Rattle.octets.proofs.Bytes.{part-bytes}
+use Rattle.octets.specs.Part.{patch}
 use Rattle.codes.specs.Form.{code}
-use Rattle.codes.proofs.Forms.{lawful}
 use Rattle.recording.specs.Shape.{editionOf}
 use Rattle.rules.specs.Relay.{Relay}
 use Rattle.rules.specs.declared.Tally.{Tally}
 use Rattle.rules.proofs.History.{Fits}
-use Rattle.tables.specs.Forms.{relayForm}
 use Rattle.tables.specs.Places.{tableSize}
 use Rattle.tables.specs.Layout.{relayOf, bytesOf, wellFormed}
 use Rattle.tables.proofs.Whole.{again, relay-good}
-use Rattle.saved.specs.Editions.{Held, tallyForm, currentEdition, current}
-use Rattle.saved.specs.File.{bodiesAt, fileOf, savedSize}
+use Rattle.saved.specs.Editions.{Held, isKnown, editionAt, currentEdition, current}
+use Rattle.saved.specs.File.{fileIn, fileOf, savedSize}
 use Rattle.saved.specs.Save.{SavedOn, saveOn}
 use Rattle.saved.specs.Load.{loadRefusal, heldIn, LoadedOn, loadOn}
-use Rattle.saved.specs.Steps.{bodiesFine}
+use Rattle.saved.specs.Steps.{tablesNow}
 use Rattle.saved.proofs.SaveLaws.{not-refused, save-done}
-use Rattle.saved.proofs.LoadLaws.{Taken, taken, takes, tables-decide, tables-held, load-done, load-number}
-use Rattle.saved.proofs.Made.{file-length, made-edition, made-taken, made-held, made-bytes, held-good, file-again}
+use Rattle.saved.proofs.LoadLaws.{Taken, taken, takes, editionIn, held-relay, held-formed, held-bytes, tables-held, tally-good, load-done, load-number}
+use Rattle.saved.proofs.Made.{taken-in, held-in, file-length, made-edition, made-taken, made-held, made-bytes, long-now, file-again}
 
 -- ---- saved, then loaded
 module _ (t : List ℕ) (tally : Tally) (b : Bytes t) (h : wellFormed t ≡ true) (s : Fits tally) where
@@ -80,19 +78,18 @@ module _ (f tables : List ℕ) (old : Tally) (b : Bytes f) (loads : loadOn f tab
   done : loadOn f tables old ≡ record { refusal = 0; tables = bytesOf (heldIn f .0); tally = heldIn f .1 }
   done = load-done f tables old ok
 
-  loaded-part : loadOn f tables old .tables ≡ part f bodiesAt tableSize
-  loaded-part = ap (λ (x : LoadedOn). x .tables) done ∙ sym (tables-held f (length tables) b file-taken)
+  loaded-now : loadOn f tables old .tables ≡ tablesNow (editionIn f) f
+  loaded-now = ap (λ (x : LoadedOn). x .tables) done ∙ sym (tables-held f (length tables) file-taken b)
 
   pub loaded-bytes : Bytes (loadOn f tables old .tables)
-  loaded-bytes = subst Bytes (sym loaded-part) (part-bytes f bodiesAt tableSize b)
+  loaded-bytes = subst Bytes (sym loaded-now) (held-bytes f (length tables) file-taken b)
 
   pub loaded-formed : wellFormed (loadOn f tables old .tables) ≡ true
-  unfolding bodiesFine
-  loaded-formed = ap wellFormed loaded-part ∙ tables-decide f (file-taken .long) ∙ file-taken .fine
+  loaded-formed = ap wellFormed loaded-now ∙ held-formed f (length tables) file-taken
 
   pub loaded-fits : Fits (loadOn f tables old .tally)
   loaded-fits =
-      let g = held-good f (length tables) b file-taken .1 in
+      let g = tally-good f (length tables) file-taken b in
       subst Fits (sym (ap (λ (x : LoadedOn). x .tally) done))
       (record {
         total = g .0;
@@ -104,8 +101,7 @@ module _ (f tables : List ℕ) (old : Tally) (b : Bytes f) (loads : loadOn f tab
       })
 
   pub loaded-relay : relayOf (loadOn f tables old .tables) ≡ heldIn f .0
-  unfolding relayOf bytesOf
-  loaded-relay = ap (λ (x : LoadedOn). relayOf (x .tables)) done ∙ lawful relayForm .back (heldIn f .0) (held-good f (length tables) b file-taken .0)
+  loaded-relay = ap relayOf loaded-now ∙ sym (held-relay f (length tables) file-taken)
 
   pub load-then-save : editionOf f ≡ currentEdition → (room : List ℕ) → savedSize ≤ length room
       → saveOn (loadOn f tables old .tables) (loadOn f tables old .tally) room
@@ -114,9 +110,19 @@ module _ (f tables : List ℕ) (old : Tally) (b : Bytes f) (loads : loadOn f tab
       let t : List ℕ = loadOn f tables old .tables in
       let tally : Tally = loadOn f tables old .tally in
       let same : fileOf (relayOf t, tally) ≡ f =
-      ap₂ (λ (r : Relay) (c : Tally). fileOf (r, c)) loaded-relay (ap (λ (x : LoadedOn). x .tally) done) ∙ file-again f (length tables) b file-taken in
+      ap₂ (λ (r : Relay) (c : Tally). fileOf (r, c)) loaded-relay (ap (λ (x : LoadedOn). x .tally) done) ∙ file-again f (length tables) b file-taken e in
       save-done t tally room (not-refused t (length room) loaded-formed large)
-      ∙ ap₂ (λ (n : ℕ) (g : List ℕ). record { answer = record { refusal = 0; length = n }; room = patch room 0 g }) (sym (file-taken .long)) same
+      ∙ ap₂ (λ (n : ℕ) (g : List ℕ). record { answer = record { refusal = 0; length = n }; room = patch room 0 g })
+      (sym (long-now f (length tables) b file-taken e)) same
+
+-- ---- saved in any edition, by a program of its time
+module _ (n : ℕ) (known : isKnown n ≡ true) (held : Held) (g : code (editionAt n) .Good held) where
+  pub older-loads : (tables : List ℕ) (old : Tally) → length tables ≡ tableSize
+      → loadOn (fileIn n held) tables old ≡ record { refusal = 0; tables = bytesOf (held .0); tally = held .1 }
+  older-loads tables old size =
+      let f : List ℕ = fileIn n held in
+      load-done f tables old (ap (loadRefusal f) size ∙ takes f tableSize (taken-in n held g known))
+      ∙ ap (λ (x : Held). record { refusal = 0; tables = bytesOf (x .0); tally = x .1 }) (held-in n held g)
 
 pub load-unread : (f t u : List ℕ) (a b : Tally) → length u ≡ length t → loadOn f t a .refusal ≡ 0 → loadOn f u b ≡ loadOn f t a
 load-unread f t u a b e loads =

@@ -27,11 +27,11 @@ use Rattle.recording.proofs.ShapeLaws.{longOf, placeOf, shape-listOf}
 use Rattle.rules.specs.declared.Tally.{Tally}
 use Rattle.tables.specs.Layout.{relayOf, bytesOf, wellFormed}
 use Rattle.tables.proofs.Whole.{again, formed}
-use Rattle.saved.specs.Editions.{Held, tallyForm, currentEdition, current, widthAt}
-use Rattle.saved.specs.File.{savedKind, bodyCount, headWidth, noHead, wholeBody, bodiesAt, bodyOf, fileOf, savedSize, widths-fill}
+use Rattle.saved.specs.Editions.{Held, tallyForm, numbered, editionAt, currentEdition, current, widthAt}
+use Rattle.saved.specs.File.{savedKind, bodyCount, headWidth, noHead, wholeBody, bodiesAt, bodyOf, fileIn, fileOf, savedSize}
 use Rattle.saved.specs.Save.{saveRows, saveRefusal, SavedOn, saveOn}
 use Rattle.saved.specs.Steps.{startBytes, entryBytes, contentsBytes, tallyBytes}
-use Rattle.saved.proofs.Widths.{width-within}
+use Rattle.saved.proofs.Widths.{widths-in, width-within}
 
 -- ---- the rows, in their order
 module _ (tables : List ℕ) (room : ℕ) where
@@ -71,42 +71,46 @@ module _ (tables : List ℕ) (tally : Tally) (room : List ℕ) where
       go true e = rw (then-true {A = SavedOn} _ _ e) (le-refl savedSize)
       go false e = rw (then-false {A = SavedOn} _ _ e) zero-le
 
--- ---- the file, put together: start, contents, bodies
-module _ (held : Held) where
+-- ---- the bodies of a file in edition n, one after the other
+module _ (n : ℕ) (held : Held) where
   abbrev saved : List ℕ
-  saved = code current .write held
+  saved = code (editionAt n) .write held
 
-  pub saved-length : length saved ≡ code current .width
-  saved-length = lawful current .wide held
+  pub saved-length : length saved ≡ code (editionAt n) .width
+  saved-length = lawful (editionAt n) .wide held
 
-  pub body-length : (i : ℕ) → i < bodyCount → longOf wholeBody (bodyOf current held) i ≡ widthAt current i
+  pub body-length : (i : ℕ) → i < bodyCount → longOf wholeBody (bodyOf (editionAt n) held) i ≡ widthAt (editionAt n) i
   unfolding bodyOf
-  body-length i l = part-length saved (sumBelow (widthAt current) i) (widthAt current i) (omega (arith, saved-length, width-within i l))
+  body-length i l =
+      part-length saved (sumBelow (widthAt (editionAt n)) i) (widthAt (editionAt n) i) (omega (arith, saved-length, width-within (numbered n) i l))
 
-  pub body-place : (i : ℕ) → i ≤ bodyCount → sumBelow (longOf wholeBody (bodyOf current held)) i ≡ sumBelow (widthAt current) i
-  body-place i l = sum-cong (longOf wholeBody (bodyOf current held)) (widthAt current) i (λ j m. body-length j (omega arith))
+  pub body-place : (i : ℕ) → i ≤ bodyCount → sumBelow (longOf wholeBody (bodyOf (editionAt n) held)) i ≡ sumBelow (widthAt (editionAt n)) i
+  body-place i l = sum-cong (longOf wholeBody (bodyOf (editionAt n) held)) (widthAt (editionAt n)) i (λ j m. body-length j (omega arith))
 
-  pub bodies-joined : joined wholeBody (listOf (bodyOf current held) bodyCount) ≡ saved
+  pub bodies-joined : joined wholeBody (listOf (bodyOf (editionAt n) held) bodyCount) ≡ saved
   unfolding bodyOf
   bodies-joined =
-      joined-cut wholeBody (bodyOf current held) saved 0 (widthAt current) bodyCount
-      (λ i l. ap (λ (k : ℕ). part saved k (widthAt current i)) (sym (zero-add (sumBelow (widthAt current) i))))
-      ∙ part-whole saved (sumBelow (widthAt current) bodyCount) (saved-length ∙ sym widths-fill)
+      joined-cut wholeBody (bodyOf (editionAt n) held) saved 0 (widthAt (editionAt n)) bodyCount
+      (λ i l. ap (λ (k : ℕ). part saved k (widthAt (editionAt n) i)) (sym (zero-add (sumBelow (widthAt (editionAt n)) i))))
+      ∙ part-whole saved (sumBelow (widthAt (editionAt n)) bodyCount) (saved-length ∙ sym (widths-in (numbered n)))
 
+-- ---- the current edition's file, put together: start, contents, bodies
+module _ (held : Held) where
   row-made : (i : ℕ) → i < bodyCount
       → entryBytes (bodiesAt + sumBelow (widthAt current) i) i ≡ rowOf noHead wholeBody (placeOf wholeBody (bodyOf current held) bodiesAt i)
   unfolding entryBytes rowOf
   row-made i l =
-      ap₂ (λ (p q : ℕ). bigEndian 4 (bodiesAt + p) ++ bigEndian 2 q) (sym (body-place i (omega arith))) (sym (body-length i l))
+      ap₂ (λ (p q : ℕ). bigEndian 4 (bodiesAt + p) ++ bigEndian 2 q)
+      (sym (body-place currentEdition held i (omega arith))) (sym (body-length currentEdition held i l))
 
-  pub file-made : fileOf held ≡ startBytes ++ (contentsBytes bodyCount ++ saved)
-  unfolding fileOf contentsBytes
+  pub file-made : fileOf held ≡ startBytes ++ (contentsBytes bodyCount ++ code current .write held)
+  unfolding fileOf fileIn contentsBytes
   file-made =
       shape-listOf savedKind currentEdition headWidth noHead wholeBody (bodyOf current held) bodyCount
       ∙ ap₂ (λ (p q : List ℕ). startBytes ++ (p ++ q))
       (sym (joined-cong (λ i. entryBytes (bodiesAt + sumBelow (widthAt current) i) i) (λ i. i)
       (rowOf noHead wholeBody) (placeOf wholeBody (bodyOf current held) bodiesAt) bodyCount row-made))
-      bodies-joined
+      (bodies-joined currentEdition held)
 
 -- ---- the code's writes, one after the other, are one
 pub start-written : (room : List ℕ) → 4 ≤ length room
@@ -165,7 +169,7 @@ tally-written tally room at l = rw (sym (fields-written tallyForm tally room at 
 
 -- start, contents, tables and tally
 pub file-written : (tables : List ℕ) (tally : Tally) (room : List ℕ) → Bytes tables → wellFormed tables ≡ true → savedSize ≤ length room
-    → patch (patch (patch (patch room 0 startBytes) 4 (contentsBytes bodyCount)) 52 tables) 71168 (tallyBytes tally)
+    → patch (patch (patch (patch room 0 startBytes) 4 (contentsBytes bodyCount)) 52 tables) 72268 (tallyBytes tally)
     ≡ patch room 0 (fileOf (relayOf tables, tally))
 unfolding bytesOf tallyBytes
 file-written tables tally room b h l =
@@ -174,10 +178,10 @@ file-written tables tally room b h l =
     let contents = contents-length bodyCount in
     let start = bigEndian-length 2 bodyCount in
     let front : List ℕ = startBytes ++ (contentsBytes bodyCount ++ tables) in
-    let long : length front ≡ 71168 = simp length-append (omega arith) in
-    ap (λ (r : List ℕ). patch r 71168 (tallyBytes tally))
+    let long : length front ≡ 72268 = simp length-append (omega arith) in
+    ap (λ (r : List ℕ). patch r 72268 (tallyBytes tally))
     (patch-three room 0 4 52 startBytes (contentsBytes bodyCount) tables (omega arith) (omega arith) (omega arith))
-    ∙ patch-join room 0 71168 front (tallyBytes tally) (omega (arith, long)) (omega arith)
+    ∙ patch-join room 0 72268 front (tallyBytes tally) (omega (arith, long)) (omega arith)
     ∙ ap (patch room 0)
     (append-assoc startBytes (contentsBytes bodyCount ++ tables) (tallyBytes tally)
     ∙ ap (λ (r : List ℕ). startBytes ++ r) (append-assoc (contentsBytes bodyCount) tables (tallyBytes tally))

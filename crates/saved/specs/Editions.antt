@@ -1,5 +1,6 @@
 -- Document 02, Wish 4: what a file of saved tables holds, edition by edition. "Each body's layout is yours to fix, later fields too; write it down."
--- A body is a section of the tables as the layout has it, the last one the tally (docs/LAYOUT.md). A later edition is one more line in `editions`.
+-- A body is a section of the tables as the layout has it, the last one the tally (docs/LAYOUT.md). A later edition is one more line in `editions`,
+-- and a field of `Edition` (tables/specs/Forms.antt) for each part of the layout that older ones have otherwise.
 use Prim.Native.Nat.{ℕ, _+_, _-_}
 use Prim.Native.String.{String}
 use mathlib.Core.Bool.{Bool}
@@ -10,9 +11,9 @@ use lib.ListN.{length, getD}
 use lib.Text.{eqt}
 use Rattle.octets.specs.Index.{_and_}
 use Rattle.codes.specs.Form.{Form, byte, mark, numberIn, octetsIn, given, field, _&_, many, firstsOf, slot, that, asRecord, code, oneOf}
-use Rattle.rules.specs.Relay.{Relay}
+use Rattle.rules.specs.Relay.{noRateSettings, noRateEntry, Relay}
 use Rattle.rules.specs.declared.Tally.{Tally}
-use Rattle.tables.specs.Forms.{relayForm}
+use Rattle.tables.specs.Forms.{Edition, today, relayFormIn}
 
 -- what is saved, and what a load gives: the relay that the tables hold, and the tally
 abbrev pub Held : Type 0
@@ -40,10 +41,10 @@ tallyForm =
     & field "kept" (numberIn counterWidth))
 
 -- ---- the eight bodies, by the fields of the layout that each holds: own address and last clock, ports, local addresses, paths, links, returns, hashes,
--- tally. In every edition these are all fields, in the order in which they stand
+-- tally. In every edition these are all fields, in the order in which they stand. Behind the last clock stand wish 5's settings
 abbrev pub bodies : List (List String)
 bodies =
-    ("own" ∷ "clock" ∷ []) ∷
+    ("own" ∷ "clock" ∷ "rate" ∷ []) ∷
     ("ports" ∷ []) ∷
     ("locals" ∷ []) ∷
     ("paths" ∷ []) ∷
@@ -73,14 +74,18 @@ abbrev pub widthsOf : {A : Type 0} → Form A → List String → ℕ
 widthsOf f [] = 0
 widthsOf f (k ∷ ks) = widthOf f k + widthsOf f ks
 
--- ---- an edition: the form of what its bodies hold, one after the other. It gives today's relay and tally: for a field that the edition lacks the form
--- says the value (`since` and `given`), for one with less room the rest (`firstsOf`)
-abbrev pub edition1 : Form Held
-edition1 = relayForm & field "tally" tallyForm
+-- ---- the editions, the oldest first: an edition's number is its place in this list, counted from 1. For a field that an edition lacks it says the
+-- value (`given`), for one with less room the rest (`firstsOf`)
+-- wish 5: "edition 1 and a fresh relay have settings and new fields at 0"
+abbrev pub edition1 : Edition
+edition1 = record { rateSettings = given noRateSettings; rateEntry = given noRateEntry }
 
--- all editions, the oldest first: an edition's number is its place in this list, counted from 1
-abbrev pub editions : List (Form Held)
-editions = edition1 ∷ []
+-- "Saved tables take edition 2": as the tables are
+abbrev pub edition2 : Edition
+edition2 = today
+
+abbrev pub editions : List Edition
+editions = edition1 ∷ edition2 ∷ []
 
 -- the current one is the last
 abbrev pub currentEdition : ℕ
@@ -89,8 +94,15 @@ currentEdition = length editions
 unfoldable pub isKnown : ℕ → Bool
 isKnown n = ltb 0 n and leb n currentEdition
 
+abbrev pub numbered : ℕ → Edition
+numbered n = getD editions (n - 1) edition1
+
+-- the form of what an edition's bodies hold, one after the other. It gives today's relay and tally
+abbrev pub held : Edition → Form Held
+held e = relayFormIn e & field "tally" tallyForm
+
 abbrev pub editionAt : ℕ → Form Held
-editionAt n = getD editions (n - 1) edition1
+editionAt n = held (numbered n)
 
 abbrev pub current : Form Held
 current = editionAt currentEdition

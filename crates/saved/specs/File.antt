@@ -7,7 +7,7 @@ use Rattle.octets.specs.Index.{listOf}
 use Rattle.octets.specs.Part.{part}
 use Rattle.recording.specs.Shape.{entryPlace, sumBelow, shapeOf}
 use Rattle.codes.specs.Form.{Form, code}
-use Rattle.saved.specs.Editions.{Held, currentEdition, current, widthAt}
+use Rattle.saved.specs.Editions.{Held, edition1, held, editionAt, currentEdition, current, widthAt}
 
 abbrev pub savedKind : ℕ
 savedKind = 2
@@ -33,18 +33,29 @@ bodiesAt = entryPlace headWidth bodyCount
 unfoldable pub bodyOf : Form Held → Held → ℕ → List ℕ
 bodyOf e held i = part (code e .write held) (sumBelow (widthAt e) i) (widthAt e i)
 
--- the file of a relay and a tally, in the current edition
+-- the file of a relay and a tally in edition n; a save writes the current one
+unfoldable pub fileIn : ℕ → Held → List ℕ
+fileIn n held = shapeOf savedKind n headWidth noHead wholeBody (listOf (bodyOf (editionAt n) held) bodyCount)
+
 unfoldable pub fileOf : Held → List ℕ
-fileOf held = shapeOf savedKind currentEdition headWidth noHead wholeBody (listOf (bodyOf current held) bodyCount)
+fileOf held = fileIn currentEdition held
 
 -- how long every such file is
 abbrev pub savedSize : ℕ
 savedSize = bodiesAt + code current .width
 
-saved-size : savedSize ≡ 71192
+saved-size : savedSize ≡ 72292
 saved-size = refl
 
 -- the eight bodies are all that is saved
 pub widths-fill : sumBelow (widthAt current) bodyCount ≡ code current .width
 unfolding sumBelow widthAt
 widths-fill = refl
+
+-- ---- older editions keep their shape: a file of edition 1, and its eight bodies
+edition1-size : bodiesAt + code (held edition1) .width ≡ 71192
+edition1-size = refl
+
+edition1-fill : sumBelow (widthAt (held edition1)) bodyCount ≡ code (held edition1) .width
+unfolding sumBelow widthAt
+edition1-fill = refl

@@ -1,17 +1,23 @@
 -- For the contracts of private helpers: no reader has to believe these.
-use Prim.Native.Nat.{ℕ, _+_}
-use mathlib.Core.Bool.{Bool, true, false, not}
+use Prim.Native.Nat.{ℕ, _+_, _-_, _*_}
+use mathlib.Core.Bool.{Bool, false}
 use mathlib.Core.List.{List, _∷_, _++_}
 use mathlib.Core.Path.{_≡_}
-use Rattle.octets.specs.Index.{_and_, listOf}
-use Rattle.octets.specs.Part.{joined}
+use lib.ListN.{length, replicate}
+use Rattle.octets.specs.Index.{allBelow, listOf}
+use Rattle.octets.specs.Part.{part, joined}
 use Rattle.octets.specs.BigEndian.{bigEndian}
 use Rattle.codes.specs.Form.{code}
 use Rattle.recording.specs.Shape.{sumBelow}
+use Rattle.numbers.specs.Numbers.{pathCount}
 use Rattle.rules.specs.declared.Tally.{Tally}
-use Rattle.saved.specs.Editions.{tallyForm, currentEdition, current, widthAt}
+use Rattle.tables.specs.Forms.{Edition}
+use Rattle.tables.specs.Places.{rateAt, portsAt, pathsAt, backWidth}
+use Rattle.tables.specs.Fields.{pathRateAt, pathBlobsAt, blobsWidth}
+use Rattle.tables.specs.Records.{pathBytesOk}
+use Rattle.saved.specs.Editions.{tallyForm, held, currentEdition, current, widthAt}
 use Rattle.saved.specs.File.{savedKind, bodyCount, bodiesAt}
-use Rattle.saved.specs.Load.{lengthWrong, contentsWrong, sizesRight}
+use Rattle.saved.specs.Load.{lengthWrong, contentsWrong}
 
 -- ---- what a save writes: kind, edition and count; the entry of body i; the first n entries; the tally
 abbrev pub startBytes : List ℕ
@@ -26,16 +32,57 @@ contentsBytes n = joined (λ i. entryBytes (bodiesAt + sumBelow (widthAt current
 unfoldable pub tallyBytes : Tally → List ℕ
 tallyBytes tally = code tallyForm .write tally
 
--- ---- what a load tests and reads, in the current edition
+-- ---- an edition in numbers: how many bytes of the first body, and of a path's record, stand before the place where a later one has more
+abbrev pub startWidth : Edition → ℕ
+startWidth e = rateAt + code (e .rateSettings) .width
+
+abbrev pub beforeBlobs : Edition → ℕ
+beforeBlobs e = pathRateAt + code (e .rateEntry) .width
+
+-- how wide a path's record is; where the paths stand in the file, what is behind them, and the tally
+abbrev pub pathWidthIn : Edition → ℕ
+pathWidthIn e = beforeBlobs e + blobsWidth
+
+abbrev pub pathsPlace : Edition → ℕ
+pathsPlace e = bodiesAt + (startWidth e + (pathsAt - portsAt))
+
+abbrev pub backPlace : Edition → ℕ
+backPlace e = pathsPlace e + pathWidthIn e * pathCount
+
+abbrev pub tallyPlace : Edition → ℕ
+tallyPlace e = backPlace e + backWidth
+
+abbrev pub sizeIn : Edition → ℕ
+sizeIn e = tallyPlace e + code tallyForm .width
+
+-- ---- what a load tests and reads, as the tables have it: with zeros for what the edition lacks
 -- refusals 20 and 22 are not given
 abbrev pub ContentsRight : List ℕ → Type 0
 ContentsRight f = (lengthWrong f ≡ false) × (contentsWrong f ≡ false)
 
-unfoldable pub bodiesFine : List ℕ → Bool
-bodiesFine f = code current .fine f bodiesAt
+-- n zeros put in at place k
+unfoldable pub opened : ℕ → ℕ → List ℕ → List ℕ
+opened k n b = part b 0 k ++ (replicate n 0 ++ part b k (length b - k))
 
-abbrev pub bodiesWrongNow : List ℕ → Bool
-bodiesWrongNow f = not (sizesRight current f and bodiesFine f)
+-- own address, last clock, settings, ports and local addresses
+unfoldable pub frontNow : Edition → List ℕ → List ℕ
+frontNow e f = opened (startWidth e) (portsAt - startWidth e) (part f bodiesAt (startWidth e + (pathsAt - portsAt)))
+
+-- the record of path i; of the first n
+unfoldable pub pathNow : Edition → List ℕ → ℕ → List ℕ
+pathNow e f i = opened (beforeBlobs e) (pathBlobsAt - beforeBlobs e) (part f (pathsPlace e + pathWidthIn e * i) (pathWidthIn e))
+
+unfoldable pub pathsNow : Edition → List ℕ → ℕ → List ℕ
+pathsNow e f n = joined (pathNow e f) (listOf (λ i. i) n)
+
+unfoldable pub pathsFine : Edition → List ℕ → ℕ → Bool
+pathsFine e f n = allBelow (λ i. pathBytesOk (pathNow e f i)) n
+
+unfoldable pub tablesNow : Edition → List ℕ → List ℕ
+tablesNow e f = frontNow e f ++ (pathsNow e f pathCount ++ part f (backPlace e) backWidth)
+
+unfoldable pub bodiesFine : Edition → List ℕ → Bool
+bodiesFine e f = code (held e) .fine f bodiesAt
 
 unfoldable pub tallyAt : List ℕ → ℕ → Tally
 tallyAt f at = code tallyForm .read f at

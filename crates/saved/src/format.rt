@@ -2,13 +2,13 @@
 use numbers::HASH_COUNT;
 use numbers::LINK_COUNT;
 use numbers::LOCAL_COUNT;
-use numbers::PATH_COUNT;
 use numbers::PORT_COUNT;
 use numbers::RETURN_COUNT;
 use tables::places::HASH_WIDTH;
 use tables::places::LINK_WIDTH;
+use tables::places::LINKS_AT;
 use tables::places::LOCAL_WIDTH;
-use tables::places::PATH_WIDTH;
+use tables::places::PATHS_AT;
 use tables::places::PORT_WIDTH;
 use tables::places::PORTS_AT;
 use tables::places::RETURN_WIDTH;
@@ -32,7 +32,8 @@ pub const ROOM_REFUSED: u8 = 25;
 
 pub const KIND: u8 = 2;
 
-pub const EDITION: u8 = 1;
+// The current edition: the last of those in editions.rt.
+pub const EDITION: u8 = 2;
 
 // The file's head: kind, edition, count.
 pub const COUNT_AT: usize = 2;
@@ -50,14 +51,10 @@ pub const ENTRY_WIDTH: usize = OFFSET_WIDTH + LENGTH_WIDTH;
 
 pub const BODY_COUNT: usize = 8;
 
-// The bodies' lengths: own address and last clock, ports, local addresses, paths, links, returns, hashes, tally.
-pub const OWN_BODY: usize = PORTS_AT;
-
+// The bodies' lengths, those that are one in every edition: ports, local addresses, links, returns, hashes, tally.
 pub const PORTS_BODY: usize = PORT_COUNT * PORT_WIDTH;
 
 pub const LOCALS_BODY: usize = LOCAL_COUNT * LOCAL_WIDTH;
-
-pub const PATHS_BODY: usize = PATH_COUNT * PATH_WIDTH;
 
 pub const LINKS_BODY: usize = LINK_COUNT * LINK_WIDTH;
 
@@ -69,9 +66,14 @@ pub const COUNTER_WIDTH: usize = 4;
 
 pub const TALLY_BODY: usize = 6 * COUNTER_WIDTH;
 
-// Where the bodies stand: those of the tables' sections together are the tables.
+// Where the bodies stand: those of the tables' sections together are the tables, in the current edition.
 pub const BODIES_AT: usize = CONTENTS_START + BODY_COUNT * ENTRY_WIDTH;
 
 pub const TALLY_AT: usize = BODIES_AT + TABLE_SIZE;
 
 pub const SAVED_SIZE: usize = TALLY_AT + TALLY_BODY;
+
+// The sections between the first and the paths, and all behind the paths: no edition has these otherwise.
+pub const MIDDLE_SIZE: usize = PATHS_AT - PORTS_AT;
+
+pub const BACK_SIZE: usize = TABLE_SIZE - LINKS_AT;

@@ -3,33 +3,36 @@ use super::Loaded;
 use super::contents::entry_place;
 use super::contents::length_of;
 use super::contents::offset_of;
-use super::contents::width_of;
+use super::editions::is_known;
+use super::editions::width_of;
 use super::format::BODIES_AT;
 use super::format::BODY_COUNT;
 use super::format::BODY_REFUSED;
 use super::format::CONTENTS_START;
 use super::format::COUNTER_WIDTH;
-use super::format::EDITION;
 use super::format::KIND;
 use super::format::KIND_REFUSED;
 use super::format::LENGTH_REFUSED;
 use super::format::PLACE_REFUSED;
 use super::format::ROOM_REFUSED;
-use super::format::TALLY_AT;
+use super::format::TALLY_BODY;
+use super::older::bodies_fine;
+use super::older::write_tables;
 use numbers::refusals;
 use rules::Tally;
 use tables::places::TABLE_SIZE;
 ghost use mathlib.Core.Path.{_≡_};
+ghost use mathlib.Core.Bool.{true};
 ghost use Prim.Native.Nat.{_+_, _≤_, _<_};
 ghost use lib.ListN.{length};
 ghost use Rattle.octets.specs.Part.{part};
 ghost use Rattle.octets.specs.BigEndian.{number};
 ghost use Rattle.codes.specs.Form.{code};
-ghost use Rattle.recording.specs.Shape.{entryPlace, countOf, lengthOf, sumBelow};
-ghost use Rattle.saved.specs.Editions.{counterWidth, tallyForm, current};
-ghost use Rattle.saved.specs.File.{headWidth, bodiesAt, savedSize};
-ghost use Rattle.saved.specs.Load.{lengthWrong, contentsWrong, sizesRight, loadRefusal, Loads, loadOn};
-ghost use Rattle.saved.specs.Steps.{ContentsRight, bodiesFine, bodiesWrongNow, tallyAt};
+ghost use Rattle.recording.specs.Shape.{entryPlace, countOf, editionOf, lengthOf, sumBelow};
+ghost use Rattle.saved.specs.Editions.{counterWidth, tallyForm, isKnown, editionAt};
+ghost use Rattle.saved.specs.File.{headWidth, bodiesAt};
+ghost use Rattle.saved.specs.Load.{lengthWrong, contentsWrong, sizesRight, bodiesWrong, loadRefusal, Loads, loadOn};
+ghost use Rattle.saved.specs.Steps.{ContentsRight, tallyAt};
 
 // The sum of the lengths of n entries.
 fn lengths_sum(file: &[u8], n: usize) -> usize
@@ -81,13 +84,13 @@ fn contents_wrong(file: &[u8]) -> bool
 }
 
 // Whether each body has its size.
-fn sizes_right(file: &[u8]) -> bool
-    requires { ⌜ bodiesAt ≤ length (now file) ⌝ }
-    ensures { λ r. ⌜ r ≡ sizesRight current (now (file .entry)) ⌝ }
+fn sizes_right(file: &[u8], edition: u8) -> bool
+    requires { ⌜ (isKnown edition ≡ true) × (bodiesAt ≤ length (now file)) ⌝ }
+    ensures { λ r. ⌜ r ≡ sizesRight (editionAt edition) (now (file .entry)) ⌝ }
 {
     let mut body = 0;
     while body < BODY_COUNT {
-        if length_of(file, body) != width_of(body) {
+        if length_of(file, body) != width_of(edition, body) {
             return false;
         }
         body += 1;
@@ -95,23 +98,15 @@ fn sizes_right(file: &[u8]) -> bool
     true
 }
 
-// The bodies of the tables' sections are one after the other what the tables are.
-fn bodies_fine(file: &[u8]) -> bool
-    requires { ⌜ length (now file) ≡ savedSize ⌝ }
-    ensures { λ r. ⌜ r ≡ bodiesFine (now (file .entry)) ⌝ }
-{
-    tables::check(&file[BODIES_AT..TALLY_AT])
-}
-
-// Refusal 24, of a file of the current edition that breaks none of the refusals before it.
+// Refusal 24, of a file that breaks none of the refusals before it.
 fn bodies_wrong(file: &[u8]) -> bool
-    requires { ⌜ ContentsRight (now file) ⌝ }
-    ensures { λ r. ⌜ r ≡ bodiesWrongNow (now (file .entry)) ⌝ }
+    requires { ⌜ (isKnown (editionOf (now file)) ≡ true) × ContentsRight (now file) ⌝ }
+    ensures { λ r. ⌜ r ≡ bodiesWrong (now (file .entry)) ⌝ }
 {
-    if !sizes_right(file) {
+    if !sizes_right(file, file[1]) {
         return true;
     }
-    !bodies_fine(file)
+    !bodies_fine(file, file[1])
 }
 
 // The refusal of a load into so many bytes, or 0.
@@ -124,7 +119,7 @@ fn load_refusal(file: &[u8], size: usize) -> u8
     if file[0] != KIND {
         return KIND_REFUSED;
     }
-    if file[1] != EDITION {
+    if !is_known(file[1]) {
         return KIND_REFUSED;
     }
     if contents_wrong(file) {
@@ -170,9 +165,9 @@ pub fn load(file: &[u8], tables: &mut [u8], tally: Tally) -> Loaded
     if refusal != refusals::NONE {
         return Loaded { refusal, tally };
     }
-    octets::copy(tables, &file[BODIES_AT..TALLY_AT]);
+    write_tables(file, file[1], tables);
     Loaded {
         refusal: refusals::NONE,
-        tally: tally_at(file, TALLY_AT),
+        tally: tally_at(file, file.len() - TALLY_BODY),
     }
 }

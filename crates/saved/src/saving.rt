@@ -1,7 +1,7 @@
 // Saving a relay.
 use super::Saved;
 use super::contents::entry_place;
-use super::contents::width_of;
+use super::editions::width_of;
 use super::format::BODIES_AT;
 use super::format::BODY_COUNT;
 use super::format::COUNT_AT;
@@ -47,7 +47,12 @@ fn write_entry(room: &mut [u8], i: usize, offset: usize)
 {
     let at = entry_place(i);
     octets::write_number_at(room, at, OFFSET_WIDTH, offset as u64);
-    octets::write_number_at(room, at + OFFSET_WIDTH, LENGTH_WIDTH, width_of(i) as u64);
+    octets::write_number_at(
+        room,
+        at + OFFSET_WIDTH,
+        LENGTH_WIDTH,
+        width_of(EDITION, i) as u64,
+    );
 }
 
 // Writes the contents.
@@ -59,7 +64,7 @@ fn write_contents(room: &mut [u8])
     let mut i = 0;
     while i < BODY_COUNT {
         write_entry(room, i, offset);
-        offset += width_of(i);
+        offset += width_of(EDITION, i);
         i += 1;
     }
 }

@@ -9,14 +9,16 @@ use Rattle.octets.specs.Bytes.{Bytes}
 use Rattle.octets.specs.Choice.{_then_otherwise_}
 use Rattle.octets.specs.Part.{patch}
 use Rattle.numbers.specs.Numbers.{portCount, localCount}
-use Rattle.rules.specs.Relay.{Slot, makePort, withLocals}
-use Rattle.rules.specs.Calls.{sets-port, ruleOf}
-use Rattle.tables.specs.Places.{portWidth, localWidth, ownAt, portsAt, localsAt, tableSize, addressWidth}
+use Rattle.codes.specs.Form.{code}
+use Rattle.rules.specs.Relay.{Slot, makePort, makeRateSettings, withLocals}
+use Rattle.rules.specs.Calls.{sets-port, sets-rate, ruleOf}
+use Rattle.tables.specs.Forms.{rateSettingsForm}
+use Rattle.tables.specs.Places.{portWidth, localWidth, ownAt, rateAt, portsAt, localsAt, tableSize, addressWidth}
 use Rattle.tables.specs.Records.{portBytes, slotBytes, localBytes}
 use Rattle.tables.specs.Layout.{relayOf, bytesOf, wellFormed}
 use Rattle.tables.specs.Called.{refused}
 use Rattle.tables.proofs.Whole.{again}
-use Rattle.tables.proofs.Patches.{patch-port, patch-local}
+use Rattle.tables.proofs.Patches.{patch-rate, patch-port, patch-local}
 use Rattle.tables.proofs.Seen.{ports-length, locals-length}
 use Rattle.settings.specs.Calls.{freshOn, freshPorts}
 use Rattle.settings.proofs.Zeros.{fresh-writes}
@@ -28,6 +30,14 @@ module _ (t : List ℕ) (h : wellFormed t ≡ true) (b : Bytes t) where
   port-set port on mode l =
       ap (λ (x : List ℕ). patch x (portsAt + portWidth * port) (portBytes (makePort on mode))) (sym (again t b h))
       ∙ patch-port (relayOf t) port (makePort on mode) (ports-length t) l
+
+  pub rate-set : (target grace penalty : ℕ)
+      → patch t rateAt (code rateSettingsForm .write (makeRateSettings target grace penalty))
+      ≡ bytesOf (ruleOf (sets-rate target grace penalty) .after (relayOf t))
+  unfolding ruleOf
+  rate-set target grace penalty =
+      ap (λ (x : List ℕ). patch x rateAt (code rateSettingsForm .write (makeRateSettings target grace penalty))) (sym (again t b h))
+      ∙ patch-rate (relayOf t) (makeRateSettings target grace penalty)
 
   -- at a place that a search gave
   pub local-set : (new : Slot (List ℕ)) (place found : ℕ) → place ≡ found → place < localCount

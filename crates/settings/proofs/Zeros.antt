@@ -13,7 +13,7 @@ use Rattle.octets.proofs.ListOf.{mixed, mixed-more, mixed-all}
 use Rattle.octets.proofs.Joined.{fields-all}
 use Rattle.numbers.specs.Numbers.{portCount, localCount, pathCount, linkCount, returnCount, hashCount}
 use Rattle.rules.specs.Relay.{Port, freshPort, noPort, empty, fresh}
-use Rattle.tables.specs.Places.{addressWidth, timeWidth, ringWidth, portWidth, localWidth, pathWidth, linkWidth, returnWidth, hashWidth, ownAt, portsAt, tableSize}
+use Rattle.tables.specs.Places.{addressWidth, timeWidth, settingWidth, ringWidth, portWidth, localWidth, pathWidth, linkWidth, returnWidth, hashWidth, ownAt, portsAt, tableSize}
 use Rattle.tables.specs.Records.{exactly, portBytes, slotBytes, localBytes, pathBytes, linkBytes, returnBytes, hashBytes}
 use Rattle.tables.specs.Layout.{bytesOf}
 use Rattle.tables.proofs.All.{exactly-length, exactly-same}
@@ -88,6 +88,10 @@ module _ (x z y rest : List ℕ) (n a : ℕ) (first : Zeros z) (then : Zeros res
       ∙ patch-mid (x ++ z) (replicate (length y) 0) rest y a at (length-replicate {A = ℕ} (length y) 0)
       ∙ append-assoc x z _
 
+-- the announce rate's settings of a fresh relay
+abbrev rateZeros : List ℕ
+rateZeros = bigEndian settingWidth 0 ++ (bigEndian settingWidth 0 ++ bigEndian settingWidth 0)
+
 -- a fresh relay's tables: zeros, with its own address written over their start, and its ports
 pub fresh-writes : (n : ℕ) (own : List ℕ) → n ≡ tableSize → length own ≡ addressWidth
     → patch (patch (replicate {A = ℕ} n 0) ownAt own) portsAt freshPorts ≡ bytesOf (fresh own)
@@ -95,15 +99,16 @@ unfolding bytesOf fresh freshPorts portBytes localBytes pathBytes linkBytes retu
 fresh-writes n own e l =
     ap₂ (λ (x y : List ℕ). patch (patch (replicate {A = ℕ} n 0) ownAt x) portsAt y) (sym (exactly-same addressWidth own l))
     (sym (fields-all portBytes portCount noPort (replicate portCount freshPort) (length-replicate portCount freshPort)))
-    ∙ over-zeros (exactly addressWidth own) (bigEndian timeWidth 0) _ _ n portsAt
-    (number-zeros timeWidth)
+    ∙ over-zeros (exactly addressWidth own) (bigEndian timeWidth 0 ++ rateZeros) _ _ n portsAt
+    (append-zeros (number-zeros timeWidth) (append-zeros (number-zeros settingWidth) (append-zeros (number-zeros settingWidth) (number-zeros settingWidth))))
     (append-zeros (slots-zeros localWidth localBytes localCount)
     (append-zeros (slots-zeros pathWidth pathBytes pathCount)
     (append-zeros (slots-zeros linkWidth linkBytes linkCount)
     (append-zeros (append-zeros (number-zeros ringWidth) (slots-zeros returnWidth returnBytes returnCount))
     (append-zeros (number-zeros ringWidth) (slots-zeros hashWidth hashBytes hashCount))))))
-    (bytes-length (fresh own) ∙ sym e)
+    (ap length (ap (λ (r : List ℕ). exactly addressWidth own ++ r) (append-assoc (bigEndian timeWidth 0) rateZeros _)) ∙ bytes-length (fresh own) ∙ sym e)
     (simp (length-append, exactly-length, bigEndian-length))
+    ∙ ap (λ (r : List ℕ). exactly addressWidth own ++ r) (append-assoc (bigEndian timeWidth 0) rateZeros _)
 
 -- ---- a loop that writes fresh ports
 module _ (t₀ : List ℕ) (size : length t₀ ≡ tableSize) (t : List ℕ) (i : ℕ)

@@ -8,7 +8,7 @@ use Rattle.octets.specs.Choice.{_then_otherwise_}
 use Rattle.octets.specs.Part.{joined}
 use Rattle.numbers.specs.Numbers.{portCount}
 use Rattle.rules.specs.Relay.{freshPort, fresh}
-use Rattle.rules.specs.Calls.{sets-port, adds, removes}
+use Rattle.rules.specs.Calls.{sets-port, sets-rate, adds, removes}
 use Rattle.tables.specs.Places.{tableSize}
 use Rattle.tables.specs.Records.{portBytes}
 use Rattle.tables.specs.Layout.{bytesOf}
@@ -17,6 +17,10 @@ use Rattle.tables.specs.Called.{Called, refused, callOn}
 -- setting a port: 7, 9
 abbrev pub setPortOn : List ℕ → ℕ → Bool → ℕ → Called
 setPortOn t port on mode = callOn t (sets-port port on mode)
+
+-- setting the announce rate: 7, 9
+abbrev pub setRateOn : List ℕ → ℕ → ℕ → ℕ → Called
+setRateOn t target grace penalty = callOn t (sets-rate target grace penalty)
 
 -- adding a local address: 7, 11, 10
 abbrev pub addLocalOn : List ℕ → List ℕ → Called

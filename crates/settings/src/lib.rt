@@ -1,14 +1,18 @@
-// The calls that need no packet, apart from renumbering: a fresh relay, a port's settings, local addresses.
-// Entry points: fresh, set_port, add_local, remove_local. Each returns a refusal's number, or 0, and a refusal
-// changes no byte.
+// The calls that need no packet, apart from renumbering: a fresh relay, a port's settings, the announce rate, local
+// addresses.
+// Entry points: fresh, set_port, set_rate, add_local, remove_local. Each returns a refusal's number, or 0, and a
+// refusal changes no byte.
 mod writes;
 
 use lookup::empty_local;
 use lookup::is_local;
 use lookup::local_place;
+use numbers::GRACE_LIMIT;
 use numbers::LOCAL_COUNT;
 use numbers::MODE_COUNT;
+use numbers::PENALTY_LIMIT;
 use numbers::PORT_COUNT;
+use numbers::TARGET_LIMIT;
 use numbers::refusals;
 use tables::check;
 use tables::places::OWN_AT;
@@ -18,8 +22,12 @@ use writes::empty_place;
 use writes::put_fresh_ports;
 use writes::put_local;
 use writes::put_port;
+use writes::put_rate;
+ghost use mathlib.Core.Path.{_≡_};
+ghost use Rattle.rules.specs.Relay.{makeRateSettings};
+ghost use Rattle.rules.specs.Refusals.{rateSettingsOk};
 ghost use Rattle.tables.specs.Called.{Returns};
-ghost use Rattle.settings.specs.Calls.{freshOn, setPortOn, addLocalOn, removeLocalOn};
+ghost use Rattle.settings.specs.Calls.{freshOn, setPortOn, setRateOn, addLocalOn, removeLocalOn};
 
 // The tables of a relay with its own address, all ports off and boundary, clock 0, tables empty.
 pub fn fresh(tables: &mut [u8], own: [u8; 16]) -> u8
@@ -48,6 +56,33 @@ pub fn set_port(tables: &mut [u8], port: u64, on: bool, mode: u64) -> u8
         return refusals::SETTING;
     }
     put_port(tables, port as usize, on, mode as u8);
+    refusals::NONE
+}
+
+// Whether the announce rate may be set to these.
+fn rate_within(target: u64, grace: u64, penalty: u64) -> bool
+    ensures { λ r. ⌜ r ≡ rateSettingsOk (makeRateSettings target grace penalty) ⌝ }
+{
+    if target > TARGET_LIMIT {
+        return false;
+    }
+    if grace > GRACE_LIMIT {
+        return false;
+    }
+    penalty <= PENALTY_LIMIT
+}
+
+// Sets the announce rate: target interval, grace and penalty.
+pub fn set_rate(tables: &mut [u8], target: u64, grace: u64, penalty: u64) -> u8
+    ensures { λ r. ⌜ Returns (setRateOn (now (tables .entry)) target grace penalty) r (now (tables .exit)) ⌝ }
+{
+    if !check(tables) {
+        return refusals::TABLES;
+    }
+    if !rate_within(target, grace, penalty) {
+        return refusals::SETTING;
+    }
+    put_rate(tables, target, grace, penalty);
     refusals::NONE
 }
 

@@ -1,19 +1,25 @@
-// Writes of a port's settings, of a local address, and of zeros.
+// Writes of a port's settings, of the announce rate, of a local address, and of zeros.
 use numbers::PORT_COUNT;
 use tables::fields::PORT_MODE_AT;
 use tables::fields::PORT_ON_AT;
 use tables::mark_of;
+use tables::places::GRACE_AT;
 use tables::places::LOCAL_WIDTH;
 use tables::places::LOCALS_AT;
+use tables::places::PENALTY_AT;
 use tables::places::PORT_WIDTH;
 use tables::places::PORTS_AT;
+use tables::places::SETTING_WIDTH;
+use tables::places::TARGET_AT;
 ghost use mathlib.Core.Path.{_≡_};
 ghost use Prim.Native.Nat.{_+_, _*_, _<_};
 ghost use lib.ListN.{length, replicate};
 ghost use Rattle.octets.specs.Part.{patch};
 ghost use Rattle.numbers.specs.Numbers.{portCount, localCount};
-ghost use Rattle.rules.specs.Relay.{empty, used, makePort};
-ghost use Rattle.tables.specs.Places.{portWidth, localWidth, portsAt, localsAt, tableSize};
+ghost use Rattle.codes.specs.Form.{code};
+ghost use Rattle.rules.specs.Relay.{empty, used, makePort, makeRateSettings};
+ghost use Rattle.tables.specs.Forms.{rateSettingsForm};
+ghost use Rattle.tables.specs.Places.{portWidth, localWidth, rateAt, portsAt, localsAt, tableSize};
 ghost use Rattle.tables.specs.Records.{portBytes, slotBytes, localBytes};
 ghost use Rattle.settings.specs.Calls.{freshPorts};
 
@@ -25,6 +31,17 @@ pub fn put_port(tables: &mut [u8], port: usize, on: bool, mode: u8)
     let at = PORTS_AT + PORT_WIDTH * port;
     octets::set_at(tables, at + PORT_ON_AT, mark_of(on));
     octets::set_at(tables, at + PORT_MODE_AT, mode);
+}
+
+// The announce rate's settings.
+pub fn put_rate(tables: &mut [u8], target: u64, grace: u64, penalty: u64)
+    requires { ⌜ length (now tables) ≡ tableSize ⌝ }
+    ensures { λ _. ⌜ now (tables .exit) ≡ patch (now (tables .entry)) rateAt
+        (code rateSettingsForm .write (makeRateSettings target grace penalty)) ⌝ }
+{
+    octets::write_number_at(tables, TARGET_AT, SETTING_WIDTH, target);
+    octets::write_number_at(tables, GRACE_AT, SETTING_WIDTH, grace);
+    octets::write_number_at(tables, PENALTY_AT, SETTING_WIDTH, penalty);
 }
 
 // Every port as a fresh relay has it.

@@ -21,12 +21,12 @@ use Rattle.octets.proofs.Part.{part-length}
 use Rattle.numbers.specs.Numbers.{portCount, localCount, pathCount, linkCount, returnCount, hashCount, live}
 use Rattle.rules.specs.Relay.{Slot, empty, holds}
 use Rattle.rules.specs.View.{pathPlace, viewAt}
-use Rattle.rules.specs.Questions.{Question, port-settings, local-at, path-at, link-at, live-path, live-returns, live-hashes, last-clock, Told, an-address, a-path, a-link, toldOf, countBelow, countOf, rowSeven, questionRule, questionRefusal, tell}
+use Rattle.rules.specs.Questions.{Question, port-settings, rate-settings, local-at, path-at, link-at, live-path, live-returns, live-hashes, last-clock, Told, an-address, a-path, a-link, toldOf, countBelow, countOf, rowSeven, questionRule, questionRefusal, tell}
 use Rattle.rules.proofs.Counting.{count-cong, count-le}
-use Rattle.tables.specs.Places.{timeWidth, portsAt, portWidth, localsAt, localWidth, pathsAt, pathWidth, linksAt, linkWidth, returnsAt, returnWidth, hashesAt, hashWidth, tableSize}
+use Rattle.tables.specs.Places.{timeWidth, rateAt, portsAt, portWidth, localsAt, localWidth, pathsAt, pathWidth, linksAt, linkWidth, returnsAt, returnWidth, hashesAt, hashWidth, tableSize}
 use Rattle.tables.specs.Fields.{linkProvedAt, returnExpiryAt, hashExpiryAt}
 use Rattle.tables.specs.Records.{markOf, slotOf, localOf, pathOf, linkOf, returnOf, hashOf, portBytesOk, linkBytesOk}
-use Rattle.tables.specs.Layout.{recordAt, recordsOk, relayOf, wellFormed}
+use Rattle.tables.specs.Layout.{rateSettingsIn, recordAt, recordsOk, relayOf, wellFormed}
 use Rattle.tables.specs.Asked.{tellOn, toldNumber, toldBytes, toldCount, Tells, TellsNumber}
 use Rattle.tables.proofs.Lent.{row-end}
 use Rattle.tables.proofs.Seen.{port-seen, local-seen, locals-length, path-seen, paths-length, link-seen, links-length, return-seen, hash-seen}
@@ -34,7 +34,7 @@ use Rattle.tables.proofs.Tests.{slotBytesOk, port-test, link-test}
 use Rattle.tables.proofs.Whole.{formed, ok-relay}
 use Rattle.lookup.specs.Search.{isUsed, isLive}
 use Rattle.status.specs.Put.{putNumber, putBytes, liveRows}
-use Rattle.status.proofs.Told.{port-bytes, local-bytes, path-bytes, link-bytes, slot-told}
+use Rattle.status.proofs.Told.{port-bytes, rate-bytes, local-bytes, path-bytes, link-bytes, slot-told}
 
 -- ---- tables that row 7 names
 pub refused-7 : (t : List ℕ) (q : Question) (old : List ℕ) → wellFormed t ≡ false → Tells (tellOn t q) old 7 old
@@ -124,6 +124,12 @@ module _ (t : List ℕ) (h : wellFormed t ≡ true) where
       rw (asked (port-settings port) refl, lt-leb portCount port l, port-seen t port l)
       (refl, sym (port-bytes b (part-bytes t _ _ bytes) wide mark old))
 
+  pub rate-told : Bytes t → (old : List ℕ) → Tells (tellOn t rate-settings) old 0 (part t rateAt 12)
+  unfolding questionRefusal questionRule toldNumber relayOf rateSettingsIn
+  rate-told bytes old =
+      let size = formed t h .size in
+      rw (asked rate-settings refl) (refl, sym (rate-bytes t bytes (omega (arith, size)) old))
+
   -- ---- the record at a place
   outside : {A : Type 0} (q : Question) (tells : A → Told) (slots : List (Slot A)) (place : ℕ) (old : List ℕ)
       → tellOn t q ≡ toldOf tells (getD slots place empty) → length slots ≤ place → Tells (tellOn t q) old 255 old
@@ -167,19 +173,19 @@ module _ (t : List ℕ) (h : wellFormed t ≡ true) where
       (rw (paths-length t) l)
 
   module _ (bytes : Bytes t) where
-    path-part : (place : ℕ) (old : List ℕ) → place < pathCount → length old ≡ 43
+    path-part : (place : ℕ) (old : List ℕ) → place < pathCount → length old ≡ 60
         → (let b = recordAt pathsAt pathWidth t place in toldBytes (a-path (pathOf b)) old ≡ part b 1 (length old))
     path-part place old l n =
         path-bytes _ (part-bytes t _ _ bytes) (record-length pathsAt pathWidth pathCount place (lit≤ tt) l) old ∙ ap (part _ 1) (sym n)
 
-    pub path-told : (place : ℕ) (old : List ℕ) → place < pathCount → length old ≡ 43
+    pub path-told : (place : ℕ) (old : List ℕ) → place < pathCount → length old ≡ 60
         → (let b = recordAt pathsAt pathWidth t place in Tells (tellOn t (path-at place)) old (putNumber b) (putBytes b old))
     unfolding questionRefusal questionRule toldNumber
     path-told place old l n =
         inside (path-at place) a-path pathOf _ _ old (asked (path-at place) refl) (path-seen t place l) refl (λ _. path-part place old l n)
 
     pub live-path-told : (destination : List ℕ) (clock place : ℕ) (old : List ℕ) → place ≡ pathPlace clock (relayOf t) destination
-        → place < pathCount → length old ≡ 43
+        → place < pathCount → length old ≡ 60
         → (let b = recordAt pathsAt pathWidth t place in Tells (tellOn t (live-path destination clock)) old (putNumber b) (putBytes b old))
     unfolding questionRefusal questionRule toldNumber viewAt
     live-path-told destination clock place old e l n =

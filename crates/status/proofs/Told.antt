@@ -1,5 +1,5 @@
 -- What is told of a record is part of its bytes.
-use Prim.Native.Nat.{ℕ, zero, suc, _+_, _<_}
+use Prim.Native.Nat.{ℕ, zero, suc, _+_, _≤_, _<_}
 use native.Mathlib.Omega.{arith}
 use mathlib.Core.Bool.{Bool, true, false}
 use mathlib.Core.List.{List, [], _∷_, _++_}
@@ -11,11 +11,12 @@ use Rattle.octets.specs.Bytes.{Bytes}
 use Rattle.octets.specs.Choice.{_then_otherwise_}
 use Rattle.octets.specs.Part.{part}
 use Rattle.octets.proofs.Part.{part-split, part-one, part-again, part-whole}
-use Rattle.rules.specs.Questions.{Told, a-port, an-address, a-path, a-link, toldOf}
-use Rattle.tables.specs.Places.{timeWidth, portWidth, pathWidth, linkWidth}
+use Rattle.rules.specs.Questions.{Told, a-port, a-rate, an-address, a-path, a-link, toldOf}
+use Rattle.tables.specs.Layout.{rateSettingsIn}
+use Rattle.tables.specs.Places.{timeWidth, settingWidth, rateAt, portsAt, portWidth, pathWidth, linkWidth}
 use Rattle.tables.specs.Fields.{linkProvedAt}
 use Rattle.tables.specs.Records.{markOf, slotOf, portOf, localOf, blobsOf, pathOf, linkOf}
-use Rattle.tables.specs.Asked.{toldNumber, toldBytes, Tells}
+use Rattle.tables.specs.Asked.{rateBytes, toldNumber, toldBytes, Tells}
 use Rattle.lookup.specs.Search.{isUsed}
 use Rattle.status.specs.Put.{putNumber, putBytes}
 
@@ -37,17 +38,33 @@ module _ (b : List ℕ) (bytes : Bytes b) where
       rw (mark-again (getD b 0 0) m)
       (sym (sym (part-whole b portWidth wide) ∙ part-cons b 0 1 (omega arith) ∙ ap (λ (x : List ℕ). getD b 0 0 ∷ x) (part-one b 1 (omega arith))))
 
-  pub path-bytes : length b ≡ pathWidth → (old : List ℕ) → toldBytes (a-path (pathOf b)) old ≡ part b 1 43
-  unfolding toldBytes pathOf blobsOf
+  pub rate-bytes : portsAt ≤ length b → (old : List ℕ) → toldBytes (a-rate (rateSettingsIn b)) old ≡ part b rateAt 12
+  unfolding toldBytes rateSettingsIn
+  rate-bytes long old =
+      rw (
+        part-again b 24 settingWidth bytes (omega arith),
+        part-again b 28 settingWidth bytes (omega arith),
+        part-again b 32 settingWidth bytes (omega arith),
+        part-split b 24 4 8,
+        part-split b 28 4 4,
+      )
+
+  pub path-bytes : length b ≡ pathWidth → (old : List ℕ) → toldBytes (a-path (pathOf b)) old ≡ part b 1 60
+  unfolding toldBytes rateBytes pathOf blobsOf
   path-bytes wide old =
       rw (
         part-again b 35 timeWidth bytes (omega arith),
-        part-split b 1 16 27,
-        part-cons b 17 26 (omega arith),
-        part-cons b 18 25 (omega arith),
-        part-split b 19 16 9,
-        part-split b 35 8 1,
-        part-one b 43 (omega arith),
+        part-again b 43 timeWidth bytes (omega arith),
+        part-again b 52 timeWidth bytes (omega arith),
+        part-split b 1 16 44,
+        part-cons b 17 43 (omega arith),
+        part-cons b 18 42 (omega arith),
+        part-split b 19 16 26,
+        part-split b 35 8 18,
+        part-split b 43 17 1,
+        part-split b 43 8 9,
+        part-cons b 51 8 (omega arith),
+        part-one b 60 (omega arith),
       )
 
   pub link-bytes : length b ≡ linkWidth → ltb (getD b linkProvedAt 0) 2 ≡ true → (old : List ℕ) → toldBytes (a-link (linkOf b)) old ≡ part b 1 29

@@ -1,7 +1,8 @@
-// What a host asks of the tables, which stay as they are: a port's settings, the record at a place, a destination's
-// live path, how many records are live, the last clock.
-// Entry points: port_settings, local_at, path_at, link_at, live_path, live_returns, live_hashes, last_clock. Each
-// returns refusal 7, 0 where what is asked for stands in the buffer lent, or NOTHING, and then leaves the buffer.
+// What a host asks of the tables, which stay as they are: a port's settings, the announce rate, the record at a place,
+// a destination's live path, how many records are live, the last clock.
+// Entry points: port_settings, rate_settings, local_at, path_at, link_at, live_path, live_returns, live_hashes,
+// last_clock. Each returns refusal 7, 0 where what is asked for stands in the buffer lent, or NOTHING, and then leaves
+// the buffer.
 mod counting;
 mod records;
 
@@ -31,7 +32,8 @@ use tables::places::PORT_WIDTH;
 use tables::places::PORTS_AT;
 use tables::places::RETURN_WIDTH;
 use tables::places::RETURNS_AT;
-ghost use Rattle.rules.specs.Questions.{port-settings, local-at, path-at, link-at, live-path, live-returns, live-hashes, last-clock};
+use tables::places::TARGET_AT;
+ghost use Rattle.rules.specs.Questions.{port-settings, rate-settings, local-at, path-at, link-at, live-path, live-returns, live-hashes, last-clock};
 ghost use Rattle.tables.specs.Asked.{tellOn, Tells, TellsNumber};
 
 // A place outside its table or an empty one, a number that is no port, or no live path.
@@ -55,6 +57,18 @@ pub fn port_settings(tables: &[u8], port: u64, settings: &mut [u8; 2]) -> u8
     refusals::NONE
 }
 
+// The announce rate's settings: target interval, grace, penalty, each in four bytes.
+pub fn rate_settings(tables: &[u8], settings: &mut [u8; 12]) -> u8
+    ensures { λ r. ⌜ Tells (tellOn (now (tables .entry)) rate-settings)
+        (now (settings .entry)) r (now (settings .exit)) ⌝ }
+{
+    if !check(tables) {
+        return refusals::TABLES;
+    }
+    octets::copy(settings, &tables[TARGET_AT..PORTS_AT]);
+    refusals::NONE
+}
+
 // The local address at a place.
 pub fn local_at(tables: &[u8], place: u64, address: &mut [u8; 16]) -> u8
     ensures { λ r. ⌜ Tells (tellOn (now (tables .entry)) (local-at place))
@@ -69,8 +83,9 @@ pub fn local_at(tables: &[u8], place: u64, address: &mut [u8; 16]) -> u8
     put_record(tables, LOCALS_AT, LOCAL_WIDTH, place as usize, address)
 }
 
-// The path at a place, live or not: destination, port, hops, next hop, expiry, number of blobs.
-pub fn path_at(tables: &[u8], place: u64, path: &mut [u8; 43]) -> u8
+// The path at a place, live or not: destination, port, hops, next hop, expiry, last accepted announce, violations,
+// blocked-until, number of blobs.
+pub fn path_at(tables: &[u8], place: u64, path: &mut [u8; 60]) -> u8
     ensures { λ r. ⌜ Tells (tellOn (now (tables .entry)) (path-at place))
         (now (path .entry)) r (now (path .exit)) ⌝ }
 {
@@ -98,7 +113,7 @@ pub fn link_at(tables: &[u8], place: u64, link: &mut [u8; 29]) -> u8
 }
 
 // A destination's live path at a clock.
-pub fn live_path(tables: &[u8], destination: [u8; 16], clock: u64, path: &mut [u8; 43]) -> u8
+pub fn live_path(tables: &[u8], destination: [u8; 16], clock: u64, path: &mut [u8; 60]) -> u8
     ensures { λ r. ⌜ Tells (tellOn (now (tables .entry)) (live-path destination clock))
         (now (path .entry)) r (now (path .exit)) ⌝ }
 {

@@ -1,17 +1,20 @@
 -- Where the parts of a relay stand in its bytes, and what a write over one does to the relay.
 use Prim.Native.Nat.{ℕ, _+_, _*_, _<_}
+use native.Mathlib.Nat.{add-assoc}
 use mathlib.Core.List.{List}
-use mathlib.Core.Path.{_≡_}
-use lib.ListN.{length, set}
+use mathlib.Core.Path.{_≡_, sym, ap, _∙_}
+use lib.ListN.{length, getD, set}
 use Rattle.octets.specs.Part.{patch, fields}
 use Rattle.octets.specs.BigEndian.{bigEndian}
-use Rattle.codes.specs.Form.{Form, numberIn, octetsIn, many, slot}
-use Rattle.codes.proofs.Inside.{Inside, here, item, inRule, _within_, named}
+use Rattle.codes.specs.Form.{Form, code, numberIn, octetsIn, many, slot}
+use Rattle.codes.specs.Codes.{recordOf}
+use Rattle.codes.proofs.Inside.{Inside, here, item, inSlot, inRule, _within_, named}
 use Rattle.numbers.specs.Numbers.{portCount, localCount, pathCount, linkCount, returnCount, hashCount}
-use Rattle.rules.specs.Relay.{Port, noPort, Slot, empty, Path, Return, Remembered, makeRing, withSlots, Relay, withClock, withPorts, withLocals, withPaths, withLinks, withReturns, withHashes}
+use Rattle.rules.specs.Relay.{Port, noPort, Slot, empty, used, Path, Return, Remembered, makeRing, withSlots, Relay, withClock, withRate, withPorts, withLocals, withPaths, withLinks, withReturns, withHashes}
 use Rattle.rules.specs.declared.Link.{Link}
-use Rattle.tables.specs.Forms.{portForm, localForm, pathForm, linkForm, returnForm, hashForm, ringForm, relayForm}
-use Rattle.tables.specs.Places.{addressWidth, timeWidth, ringWidth, portWidth, localWidth, pathWidth, linkWidth, returnWidth, hashWidth, clockAt, portsAt, localsAt, pathsAt, linksAt, returnNextAt, returnsAt, hashNextAt, hashesAt}
+use Rattle.rules.specs.declared.RateSettings.{RateSettings}
+use Rattle.tables.specs.Forms.{rateSettingsForm, portForm, localForm, pathForm, linkForm, returnForm, hashForm, ringForm, relayForm}
+use Rattle.tables.specs.Places.{addressWidth, timeWidth, ringWidth, portWidth, localWidth, pathWidth, linkWidth, returnWidth, hashWidth, clockAt, rateAt, portsAt, localsAt, pathsAt, linksAt, returnNextAt, returnsAt, hashNextAt, hashesAt}
 use Rattle.tables.specs.Records.{portBytes, slotBytes, localBytes, pathBytes, linkBytes, returnBytes, hashBytes}
 use Rattle.tables.specs.Layout.{bytesOf}
 
@@ -21,6 +24,9 @@ own-in = named relayForm "own" .inside
 
 abbrev pub clock-in : Inside relayForm (numberIn timeWidth)
 clock-in = inRule here within named relayForm "clock" .inside
+
+abbrev pub rate-in : Inside relayForm rateSettingsForm
+rate-in = named relayForm "rate" .inside
 
 abbrev pub ports-in : Inside relayForm (many portCount noPort portForm)
 ports-in = named relayForm "ports" .inside
@@ -55,9 +61,24 @@ hashes-in = slots-in within hash-ring-in
 
 -- ---- writes
 module _ (r : Relay) where
+  -- a field of the used path at a place, written over where it stands: the path with that field changed
+  pub patch-in-path : {B : Type 0} {f : Form B} (s : Inside pathForm f) (i : ℕ) (p : Path) (y : B) → length (r .paths) ≡ pathCount → i < pathCount
+      → getD (r .paths) i empty ≡ used p → s .place .Has p
+      → patch (bytesOf r) (pathsAt + pathWidth * i + (1 + s .place .offset)) (code f .write y)
+      ≡ bytesOf (withPaths (set (r .paths) i (used (s .place .put y p))) r)
+  unfolding bytesOf withPaths recordOf
+  patch-in-path {B} {f} s i p y e l there has =
+      ap (λ (k : ℕ). patch (bytesOf r) k (code f .write y)) (sym (add-assoc (pathsAt + pathWidth * i) 1 (s .place .offset)))
+      ∙ (s within inSlot p within item i l within paths-in) .place .patched r y (((tt, e), rw there tt), rw there has)
+      ∙ ap (λ (x : Slot Path). bytesOf (withPaths (set (r .paths) i (used (s .place .put y (recordOf p x)))) r)) there
+
   pub patch-clock : (clock : ℕ) → patch (bytesOf r) clockAt (bigEndian timeWidth clock) ≡ bytesOf (withClock clock r)
   unfolding bytesOf withClock
   patch-clock clock = clock-in .place .patched r clock (tt, tt)
+
+  pub patch-rate : (rate : RateSettings) → patch (bytesOf r) rateAt (code rateSettingsForm .write rate) ≡ bytesOf (withRate rate r)
+  unfolding bytesOf withRate
+  patch-rate rate = rate-in .place .patched r rate tt
 
   pub patch-return-next : (n : ℕ) → patch (bytesOf r) returnNextAt (bigEndian ringWidth n)
       ≡ bytesOf (withReturns (makeRing (r .returns .slots) n) r)

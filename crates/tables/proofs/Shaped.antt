@@ -14,6 +14,7 @@ shape =
     record {
       own = λ own. isBytes addressWidth own ≡ true;
       clock = λ clock. Unit {0};
+      rate = λ rate. Unit {0};
       ports = λ ports. Unit {0};
       locals = λ locals. all (slotOk (isBytes addressWidth)) locals ≡ true;
       paths = λ paths. all (slotOk pathShaped) paths ≡ true;
@@ -35,6 +36,7 @@ shaped-parts r h₁ =
     record {
       own = and-left _ _ h₁;
       clock = tt;
+      rate = tt;
       ports = tt;
       locals = and-left _ _ h₂;
       paths = and-left _ _ h₃;

@@ -20,14 +20,17 @@ use Rattle.codes.proofs.Forms.{lawful}
 use Rattle.numbers.specs.Numbers.{portCount, localCount, pathCount, linkCount, returnCount, hashCount, blobLimit, modeCount, timeLimit}
 use Rattle.rules.specs.Relay.{Port, noPort, Slot, empty, used, Path, Return, Remembered, Ring, Relay}
 use Rattle.rules.specs.Blobs.{noBlob}
-use Rattle.rules.specs.Refusals.{timeOk, portOk, pathOk, linkOk, returnOk, hashOk, slotOk, all, tableOk, tablesOk}
+use Rattle.rules.specs.Refusals.{timeOk, rateSettingsOk, rateEntryOk, portOk, pathOk, linkOk, returnOk, hashOk, slotOk, all, tableOk, tablesOk}
 use Rattle.rules.specs.declared.Link.{Link}
+use Rattle.rules.specs.declared.RateSettings.{RateSettings}
+use Rattle.rules.specs.declared.RateEntry.{RateEntry}
+use Rattle.rules.proofs.Ranges.{settings-within, entry-within}
 use Rattle.rules.proofs.Valid.{RingOk, valid-of, ok-of}
 use Rattle.rules.proofs.Tables.{all-listOf, table-of, table-length, table-all}
-use Rattle.tables.specs.Forms.{portForm, localForm, pathForm, linkForm, returnForm, hashForm, ringForm, relayForm}
+use Rattle.tables.specs.Forms.{rateSettingsForm, rateEntryForm, portForm, localForm, pathForm, linkForm, returnForm, hashForm, ringForm, relayForm}
 use Rattle.tables.specs.Places.{addressWidth, timeWidth, blobWidth, ringWidth, portWidth, localWidth, pathWidth, linkWidth, returnWidth, hashWidth, clockAt, portsAt, localsAt, pathsAt, linksAt, returnNextAt, returnsAt, hashNextAt, hashesAt, tableSize}
 use Rattle.tables.specs.Records.{portBytesOk, localBytesOk, pathBytesOk, linkBytesOk, returnBytesOk, hashBytesOk}
-use Rattle.tables.specs.Layout.{recordsOk, relayOf, bytesOf, wellFormed}
+use Rattle.tables.specs.Layout.{startOk, rateSettingsIn, recordsOk, frontOk, backOk, relayOf, bytesOf, wellFormed}
 use Rattle.tables.specs.Shape.{isByte, isBytes, pathShaped, linkShaped, returnShaped, hashShaped, shaped}
 use Rattle.tables.proofs.Patches.{own-in, locals-in, paths-in, links-in, returns-in, hashes-in}
 use Rattle.tables.proofs.Shaped.{shaped-parts, shaped-from}
@@ -38,6 +41,7 @@ pub record Formed (t : List ℕ) : Type 0 where
   pub size : length t ≡ tableSize
   pub fine : code relayForm .fine t 0 ≡ true
   pub clock : timeOk (number (part t clockAt timeWidth)) ≡ true
+  pub rate : rateSettingsOk (rateSettingsIn t) ≡ true
   pub ports : recordsOk portBytesOk portsAt portWidth portCount t ≡ true
   pub locals : recordsOk localBytesOk localsAt localWidth localCount t ≡ true
   pub paths : recordsOk pathBytesOk pathsAt pathWidth pathCount t ≡ true
@@ -47,45 +51,51 @@ pub record Formed (t : List ℕ) : Type 0 where
   pub hash-next : ltb (number (part t hashNextAt ringWidth)) hashCount ≡ true
   pub hashes : recordsOk hashBytesOk hashesAt hashWidth hashCount t ≡ true
 
+-- ---- in the order in which the code tests them
+pub back-clauses : (t : List ℕ) (at : ℕ) → backOk t at
+    ≡ (recordsOk linkBytesOk at linkWidth linkCount t
+    and ltb (number (part t (at + linkWidth * linkCount) ringWidth)) returnCount
+    and recordsOk returnBytesOk (at + linkWidth * linkCount + ringWidth) returnWidth returnCount t
+    and ltb (number (part t (at + linkWidth * linkCount + (ringWidth + returnWidth * returnCount)) ringWidth)) hashCount
+    and recordsOk hashBytesOk (at + linkWidth * linkCount + (ringWidth + returnWidth * returnCount) + ringWidth) hashWidth hashCount t)
+unfolding backOk recordsOk linkBytesOk returnBytesOk hashBytesOk _and_
+back-clauses t at = rw (and-assoc (ltb (number (part t (at + linkWidth * linkCount) ringWidth)) returnCount))
+
 module _ (t : List ℕ) where
-  -- in the order in which the code tests them
   pub clauses : wellFormed t
-      ≡ (eqb (length t) tableSize
-      and timeOk (number (part t clockAt timeWidth))
-      and recordsOk portBytesOk portsAt portWidth portCount t
-      and recordsOk localBytesOk localsAt localWidth localCount t
-      and recordsOk pathBytesOk pathsAt pathWidth pathCount t
-      and recordsOk linkBytesOk linksAt linkWidth linkCount t
-      and ltb (number (part t returnNextAt ringWidth)) returnCount
-      and recordsOk returnBytesOk returnsAt returnWidth returnCount t
-      and ltb (number (part t hashNextAt ringWidth)) hashCount
-      and recordsOk hashBytesOk hashesAt hashWidth hashCount t)
-  unfolding wellFormed recordsOk portBytesOk localBytesOk pathBytesOk linkBytesOk returnBytesOk hashBytesOk _and_
-  clauses = rw (and-assoc (ltb (number (part t returnNextAt ringWidth)) returnCount))
+      ≡ (eqb (length t) tableSize and frontOk t and recordsOk pathBytesOk pathsAt pathWidth pathCount t and backOk t linksAt)
+  unfolding wellFormed frontOk startOk rateSettingsIn recordsOk backOk portBytesOk localBytesOk pathBytesOk _and_
+  clauses =
+      rw (
+        and-assoc (timeOk (number (part t clockAt timeWidth)) and rateSettingsOk (rateSettingsIn t)),
+        and-assoc (timeOk (number (part t clockAt timeWidth))),
+        and-assoc (recordsOk portBytesOk portsAt portWidth portCount t),
+      )
 
   pub formed : wellFormed t ≡ true → Formed t
-  unfolding wellFormed
+  unfolding wellFormed frontOk startOk
   formed h =
       let h1 = and-right _ _ (sym clauses ∙ h) in
-      let h2 = and-right _ _ h1 in
-      let h3 = and-right _ _ h2 in
-      let h4 = and-right _ _ h3 in
+      let front = and-left _ _ h1 in
+      let h2 = and-right _ _ front in
+      let h3 = and-right _ _ h1 in
+      let h4 = sym (back-clauses t linksAt) ∙ and-right _ _ h3 in
       let h5 = and-right _ _ h4 in
       let h6 = and-right _ _ h5 in
       let h7 = and-right _ _ h6 in
-      let h8 = and-right _ _ h7 in
       record {
         size = eqb-true (length t) tableSize (and-left _ _ h);
         fine = and-right _ _ h;
-        clock = and-left _ _ h1;
+        clock = and-left _ _ (and-left _ _ front);
+        rate = and-right _ _ (and-left _ _ front);
         ports = and-left _ _ h2;
-        locals = and-left _ _ h3;
-        paths = and-left _ _ h4;
-        links = and-left _ _ h5;
-        return-next = and-left _ _ h6;
-        returns = and-left _ _ h7;
-        hash-next = and-left _ _ h8;
-        hashes = and-right _ _ h8;
+        locals = and-right _ _ h2;
+        paths = and-left _ _ h3;
+        links = and-left _ _ h4;
+        return-next = and-left _ _ h5;
+        returns = and-left _ _ h6;
+        hash-next = and-left _ _ h7;
+        hashes = and-right _ _ h7;
       }
 
 -- ---- a relay that the layout can hold is one of the right shape that keeps the rules
@@ -102,6 +112,16 @@ octets-shaped n x g = is-bytes n x (g .0) (g .1)
 time-good : (x : ℕ) → timeOk x ≡ true → x < 256 ^ timeWidth
 unfolding timeOk
 time-good x h = let l = leb-true x timeLimit h in omega (arith, l)
+
+rate-settings-good : (s : RateSettings) → rateSettingsOk s ≡ true → code rateSettingsForm .Good s
+rate-settings-good s h =
+    let w = settings-within s h in
+    (omega (arith, w .target) also omega (arith, w .grace) also omega (arith, w .penalty)) also h
+
+rate-entry-good : (e : RateEntry) → rateEntryOk e ≡ true → code rateEntryForm .Good e
+rate-entry-good e h =
+    let w = entry-within e h in
+    omega (arith, w .last) also w .violations also omega (arith, w .blocked)
 
 port-small : (x : ℕ) → ltb x portCount ≡ true → x < 256
 port-small x h = let l = ltb-true x portCount h in omega (arith, l)
@@ -124,7 +144,8 @@ path-good p h k =
     also port-small (p .port) (and-left _ _ h)
     also ltb-true (p .hops) 256 (and-left _ _ h1)
     also octets-good addressWidth (p .nextHop) (and-left _ _ (and-right _ _ k))
-    also time-good (p .expiry) (and-right _ _ h2))
+    also time-good (p .expiry) (and-left _ _ (and-right _ _ h2)))
+    also rate-entry-good (p .rate) (and-right _ _ (and-right _ _ h2))
     also count
     also long
     also (λ i l. octets-good blobWidth _ (all-nth (isBytes blobWidth) (p .blobs .places) i noBlob shapes (omega (arith, long, l)))))
@@ -132,7 +153,7 @@ path-good p h k =
 
 path-shaped : (p : Path) → code pathForm .Good p → pathShaped p ≡ true
 unfolding pathShaped
-path-shaped p (((destination, (_, (_, (nextHop, _)))), (_, (long, each))), _) =
+path-shaped p (((destination, (_, (_, (nextHop, _)))), (_, (_, (long, each)))), _) =
     and-both (octets-shaped addressWidth (p .destination) destination)
     (and-both (octets-shaped addressWidth (p .nextHop) nextHop)
     (table-of (isBytes blobWidth) blobLimit (p .blobs .places) long
@@ -212,6 +233,7 @@ good-shaped r g =
     (record {
       own = octets-shaped addressWidth (r .own) (own-in .place .good r tt g);
       clock = tt;
+      rate = tt;
       ports = tt;
       locals = slots-shaped localForm (isBytes addressWidth) localCount (r .locals) (octets-shaped addressWidth) (locals-in .place .good r tt g);
       paths = slots-shaped pathForm pathShaped pathCount (r .paths) path-shaped (paths-in .place .good r tt g);
@@ -243,13 +265,14 @@ module _ {A : Type 0} (rule : A → Bool) (f : Form A)
 module _ (t : List ℕ) where
   -- the relay that they hold breaks no clause of row 7
   pub ok-relay : wellFormed t ≡ true → tablesOk (relayOf t) ≡ true
-  unfolding relayOf recordsOk portBytesOk pathBytesOk linkBytesOk returnBytesOk hashBytesOk
+  unfolding relayOf rateSettingsIn recordsOk portBytesOk pathBytesOk linkBytesOk returnBytesOk hashBytesOk
   ok-relay h =
       let f = formed t h in
       ok-of (relayOf t)
       (record {
         own = tt;
         clock = f .clock;
+        rate = f .rate;
         ports =
             table-of portOk portCount _ (listOf-length _ portCount)
             (all-listOf portOk _ portCount (λ i l. and-right _ _ (all-at _ portCount i (f .ports) l)));
@@ -304,6 +327,7 @@ module _ (r : Relay) (s : shaped r ≡ true) (h : tablesOk r ≡ true) where
       let locals = table-of (slotOk (λ x. true)) localCount (r .locals) (eqb-true _ _ (rules .locals)) any in
       octets-good addressWidth (r .own) (shape .own)
       also (time-good (r .clock) (rules .clock) also rules .clock)
+      also rate-settings-good (r .rate) (rules .rate)
       also (ports also (λ i l. port-good _ (all-nth portOk (r .ports) i noPort modes (omega (arith, ports, l)))))
       also slots-good localForm (isBytes addressWidth) localCount (r .locals) (λ x. true) (λ x e k. octets-good addressWidth x k) locals (shape .locals)
       also slots-good pathForm pathShaped pathCount (r .paths) pathOk path-good (rules .paths) (shape .paths)

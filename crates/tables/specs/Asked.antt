@@ -5,8 +5,9 @@ use mathlib.Core.List.{List, [], _∷_, _++_}
 use mathlib.Core.Path.{_≡_}
 use Rattle.octets.specs.Choice.{_then_otherwise_}
 use Rattle.octets.specs.BigEndian.{bigEndian}
-use Rattle.rules.specs.Questions.{Question, Told, refused, none, a-port, an-address, a-path, a-link, a-number, yes-or-no, tell}
-use Rattle.tables.specs.Places.{timeWidth}
+use Rattle.rules.specs.Questions.{Question, Told, refused, none, a-port, a-rate, an-address, a-path, a-link, a-number, yes-or-no, tell}
+use Rattle.rules.specs.declared.RateEntry.{RateEntry}
+use Rattle.tables.specs.Places.{timeWidth, settingWidth}
 use Rattle.tables.specs.Records.{markOf}
 use Rattle.tables.specs.Layout.{relayOf, wellFormed}
 
@@ -19,20 +20,27 @@ unfoldable pub toldNumber : Told → ℕ
 toldNumber (refused number) = number
 toldNumber none = 255
 toldNumber (a-port port) = 0
+toldNumber (a-rate rate) = 0
 toldNumber (an-address address) = 0
 toldNumber (a-path p) = 0
 toldNumber (a-link l) = 0
 toldNumber (a-number n) = 0
 toldNumber (yes-or-no answer) = answer then 255 otherwise 0
 
--- the caller's buffer after the call: a record's fields in order, where one is told; else what stood there. A time has eight bytes, the highest first; a
--- path's blobs are counted, and not told
+-- last accepted announce, violations, blocked-until
+unfoldable pub rateBytes : RateEntry → List ℕ
+rateBytes e = bigEndian timeWidth (e .last) ++ (e .violations ∷ bigEndian timeWidth (e .«blocked_until»))
+
+-- the caller's buffer after the call: a record's fields in order, where one is told; else what stood there. A time has eight bytes, a setting of the
+-- announce rate four, the highest first; a path's blobs are counted, and not told
 unfoldable pub toldBytes : Told → List ℕ → List ℕ
 toldBytes (refused number) old = old
 toldBytes none old = old
 toldBytes (a-port port) old = markOf (port .on) ∷ port .mode ∷ []
+toldBytes (a-rate rate) old = bigEndian settingWidth (rate .target) ++ (bigEndian settingWidth (rate .grace) ++ bigEndian settingWidth (rate .penalty))
 toldBytes (an-address address) old = address
-toldBytes (a-path p) old = p .destination ++ (p .port ∷ p .hops ∷ (p .nextHop ++ (bigEndian timeWidth (p .expiry) ++ (p .blobs .count ∷ []))))
+toldBytes (a-path p) old =
+    p .destination ++ (p .port ∷ p .hops ∷ (p .nextHop ++ (bigEndian timeWidth (p .expiry) ++ (rateBytes (p .rate) ++ (p .blobs .count ∷ [])))))
 toldBytes (a-link l) old =
     l .id ++ (l .asking ∷ l .answering ∷ l .taken .0 ∷ l .remaining .0 ∷ markOf (l .proved) ∷ bigEndian timeWidth (l .expiry))
 toldBytes (a-number n) old = old
@@ -43,6 +51,7 @@ unfoldable pub toldCount : Told → ℕ → ℕ
 toldCount (refused number) old = old
 toldCount none old = old
 toldCount (a-port port) old = old
+toldCount (a-rate rate) old = old
 toldCount (an-address address) old = old
 toldCount (a-path p) old = old
 toldCount (a-link l) old = old

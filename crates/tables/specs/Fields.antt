@@ -19,6 +19,9 @@ pathNextHopAt = 1 + placeOf pathForm "next hop"
 abbrev pub pathExpiryAt : ℕ
 pathExpiryAt = 1 + placeOf pathForm "expiry"
 
+abbrev pub pathRateAt : ℕ
+pathRateAt = 1 + placeOf pathForm "rate"
+
 abbrev pub pathBlobsAt : ℕ
 pathBlobsAt = 1 + placeOf pathForm "blobs"
 

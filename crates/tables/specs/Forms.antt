@@ -7,10 +7,12 @@ use mathlib.Core.Path.{refl}
 use lib.Dec.{ltb}
 use Rattle.codes.specs.Form.{Form, byte, mark, numberIn, octetsIn, field, _&_, many, slot, that, asRecord}
 use Rattle.numbers.specs.Numbers.{portCount, localCount, pathCount, blobLimit, linkCount, returnCount, hashCount}
-use Rattle.rules.specs.Relay.{Port, noPort, Slot, empty, Blobs, Path, Return, Remembered, Ring, Relay, makePort, makePath, makeLink, withLinkState, makeReturn, makeRemembered, makeRing, makeRelay}
+use Rattle.rules.specs.Relay.{Port, noPort, Slot, empty, Blobs, Path, Return, Remembered, Ring, Relay, makePort, makeRateSettings, makeRateEntry, makePath, makeLink, withLinkState, makeReturn, makeRemembered, makeRing, makeRelay}
 use Rattle.rules.specs.Blobs.{noBlob}
-use Rattle.rules.specs.Refusals.{timeOk, portOk, pathOk, linkOk, returnOk, hashOk}
+use Rattle.rules.specs.Refusals.{timeOk, rateSettingsOk, portOk, pathOk, linkOk, returnOk, hashOk}
 use Rattle.rules.specs.declared.Link.{Link}
+use Rattle.rules.specs.declared.RateSettings.{RateSettings}
+use Rattle.rules.specs.declared.RateEntry.{RateEntry}
 
 -- ---- widths of fields, in bytes
 abbrev pub addressWidth : ℕ
@@ -27,6 +29,35 @@ blobWidth = 10
 
 abbrev pub ringWidth : ℕ
 ringWidth = 2
+
+abbrev pub settingWidth : ℕ
+settingWidth = 4
+
+-- ---- the announce rate: its settings, and what a path's record has of it
+abbrev pub toRateSettings : ℕ × (ℕ × ℕ) → RateSettings
+toRateSettings (target, (grace, penalty)) = makeRateSettings target grace penalty
+
+abbrev pub rateSettingsForm : Form RateSettings
+rateSettingsForm =
+    that rateSettingsOk
+    (asRecord toRateSettings (λ s. (s .target, (s .grace, s .penalty))) (λ x. refl) (λ y. refl)
+    (field "target" (numberIn settingWidth) & field "grace" (numberIn settingWidth) & field "penalty" (numberIn settingWidth)))
+
+abbrev pub toRateEntry : ℕ × (ℕ × ℕ) → RateEntry
+toRateEntry (last, (violations, blockedUntil)) = makeRateEntry last violations blockedUntil
+
+abbrev pub rateEntryForm : Form RateEntry
+rateEntryForm =
+    asRecord toRateEntry (λ e. (e .last, (e .violations, e .«blocked_until»))) (λ x. refl) (λ y. refl)
+    (field "last" (numberIn timeWidth) & field "violations" byte & field "blocked until" (numberIn timeWidth))
+
+-- ---- what older editions of saved tables have otherwise (crates/saved): the tables are of today's
+pub record Edition : Type 1 where
+  pub rateSettings : Form RateSettings
+  pub rateEntry : Form RateEntry
+
+abbrev pub today : Edition
+today = record { rateSettings = rateSettingsForm; rateEntry = rateEntryForm }
 
 -- ---- a port's settings. No slot: a port that is off keeps its mode
 abbrev pub toPort : Bool × ℕ → Port
@@ -48,7 +79,7 @@ blobsForm =
     asRecord toBlobs (λ b. (b .count, b .places)) (λ x. refl) (λ y. refl)
     (field "count" byte & field "places" (many blobLimit noBlob (octetsIn blobWidth)))
 
--- what stands before the blobs
+-- what an announce says of the way
 abbrev pub Head : Type 0
 Head = List ℕ × (ℕ × (ℕ × (List ℕ × ℕ)))
 
@@ -60,17 +91,20 @@ headForm =
     & field "next hop" (octetsIn addressWidth)
     & field "expiry" (numberIn timeWidth)
 
-abbrev pub toPath : Head × Blobs → Path
-toPath ((destination, (port, (hops, (nextHop, expiry)))), blobs) = makePath destination port hops nextHop expiry blobs
+abbrev pub toPath : Head × (RateEntry × Blobs) → Path
+toPath ((destination, (port, (hops, (nextHop, expiry)))), (rate, blobs)) = makePath destination port hops nextHop expiry rate blobs
 
-abbrev pub pathForm : Form Path
-pathForm =
+abbrev pub pathFormIn : Edition → Form Path
+pathFormIn e =
     that pathOk
     (asRecord toPath
-    (λ p. ((p .destination, (p .port, (p .hops, (p .nextHop, p .expiry)))), p .blobs))
+    (λ p. ((p .destination, (p .port, (p .hops, (p .nextHop, p .expiry)))), (p .rate, p .blobs)))
     (λ x. refl)
     (λ y. refl)
-    (headForm & field "blobs" blobsForm))
+    (headForm & field "rate" (e .rateEntry) & field "blobs" blobsForm))
+
+abbrev pub pathForm : Form Path
+pathForm = pathFormIn today
 
 -- ---- a link
 abbrev pub toLink : List ℕ × (ℕ × (ℕ × (ℕ × (ℕ × (Bool × ℕ))))) → Link
@@ -125,20 +159,33 @@ ringForm n f =
     (field "next" (that (below n) (numberIn ringWidth)) & field "slots" (many n empty (slot f)))
 
 -- ---- the tables
-abbrev pub toRelay : List ℕ × (ℕ × (List Port × (List (Slot (List ℕ)) × (List (Slot Path) × (List (Slot Link) × (Ring Return × Ring Remembered)))))) → Relay
-toRelay (own, (clock, (ports, (locals, (paths, (links, (returns, hashes))))))) = makeRelay own clock ports locals paths links returns hashes
+abbrev pub Sections : Type 0
+Sections = List ℕ
+    × (ℕ × (RateSettings × (List Port × (List (Slot (List ℕ)) × (List (Slot Path) × (List (Slot Link) × (Ring Return × Ring Remembered)))))))
 
-abbrev pub relayForm : Form Relay
-relayForm =
+abbrev pub toRelay : Sections → Relay
+toRelay (own, (clock, (rate, (ports, (locals, (paths, (links, (returns, hashes)))))))) = makeRelay own clock rate ports locals paths links returns hashes
+
+-- what stands behind the paths: no edition has it otherwise
+abbrev pub backForm : Form (List (Slot Link) × (Ring Return × Ring Remembered))
+backForm =
+    field "links" (many linkCount empty (slot linkForm))
+    & field "returns" (ringForm returnCount returnForm)
+    & field "hashes" (ringForm hashCount hashForm)
+
+abbrev pub relayFormIn : Edition → Form Relay
+relayFormIn e =
     asRecord toRelay
-    (λ r. (r .own, (r .clock, (r .ports, (r .locals, (r .paths, (r .links, (r .returns, r .hashes))))))))
+    (λ r. (r .own, (r .clock, (r .rate, (r .ports, (r .locals, (r .paths, (r .links, (r .returns, r .hashes)))))))))
     (λ x. refl)
     (λ y. refl)
     (field "own" (octetsIn addressWidth)
     & field "clock" (that timeOk (numberIn timeWidth))
+    & field "rate" (e .rateSettings)
     & field "ports" (many portCount noPort portForm)
     & field "locals" (many localCount empty (slot localForm))
-    & field "paths" (many pathCount empty (slot pathForm))
-    & field "links" (many linkCount empty (slot linkForm))
-    & field "returns" (ringForm returnCount returnForm)
-    & field "hashes" (ringForm hashCount hashForm))
+    & field "paths" (many pathCount empty (slot (pathFormIn e)))
+    & backForm)
+
+abbrev pub relayForm : Form Relay
+relayForm = relayFormIn today

@@ -3,8 +3,8 @@ use mathlib.Core.Path.{_≡_, refl}
 use Prim.Native.Nat.{ℕ, _+_}
 use Rattle.codes.specs.Form.{slot, code, placeOf}
 use Rattle.numbers.specs.Numbers.{returnCount, hashCount}
-use Rattle.tables.specs.Forms.{portForm, localForm, pathForm, linkForm, returnForm, hashForm, ringForm, relayForm}
-pub use Rattle.tables.specs.Forms.{addressWidth, digestWidth, timeWidth, blobWidth, ringWidth}
+use Rattle.tables.specs.Forms.{portForm, localForm, pathForm, linkForm, returnForm, hashForm, ringForm, backForm, relayForm}
+pub use Rattle.tables.specs.Forms.{addressWidth, digestWidth, timeWidth, blobWidth, ringWidth, settingWidth}
 
 -- ---- widths, in bytes. A record's first byte is its mark
 abbrev pub portWidth : ℕ
@@ -32,6 +32,9 @@ ownAt = placeOf relayForm "own"
 abbrev pub clockAt : ℕ
 clockAt = placeOf relayForm "clock"
 
+abbrev pub rateAt : ℕ
+rateAt = placeOf relayForm "rate"
+
 abbrev pub portsAt : ℕ
 portsAt = placeOf relayForm "ports"
 
@@ -57,9 +60,13 @@ hashNextAt = placeOf relayForm "hashes"
 abbrev pub hashesAt : ℕ
 hashesAt = hashNextAt + placeOf (ringForm hashCount hashForm) "slots"
 
+-- all behind the paths: links, returns and hashes
+abbrev pub backWidth : ℕ
+backWidth = code backForm .width
+
 abbrev pub tableSize : ℕ
 tableSize = code relayForm .width
 
--- 71,116 bytes: under 72 KiB
-table-size : tableSize ≡ 71116
+-- 72,216 bytes: under 72 KiB
+table-size : tableSize ≡ 72216
 table-size = refl

@@ -18,7 +18,13 @@ pub const PATH_NEXT_HOP_AT: usize = PATH_HOPS_AT + 1;
 
 pub const PATH_EXPIRY_AT: usize = PATH_NEXT_HOP_AT + ADDRESS_WIDTH;
 
-pub const PATH_BLOB_COUNT_AT: usize = PATH_EXPIRY_AT + TIME_WIDTH;
+pub const PATH_LAST_AT: usize = PATH_EXPIRY_AT + TIME_WIDTH;
+
+pub const PATH_VIOLATIONS_AT: usize = PATH_LAST_AT + TIME_WIDTH;
+
+pub const PATH_BLOCKED_UNTIL_AT: usize = PATH_VIOLATIONS_AT + 1;
+
+pub const PATH_BLOB_COUNT_AT: usize = PATH_BLOCKED_UNTIL_AT + TIME_WIDTH;
 
 pub const PATH_BLOBS_AT: usize = PATH_BLOB_COUNT_AT + 1;
 

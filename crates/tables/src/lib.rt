@@ -5,20 +5,12 @@ pub mod places;
 mod record_check;
 mod section_check;
 
-use numbers::HASH_COUNT;
-use numbers::RETURN_COUNT;
-use numbers::TIME_LIMIT;
-use places::CLOCK_AT;
-use places::HASH_NEXT_AT;
-use places::RETURN_NEXT_AT;
-use places::RING_WIDTH;
+use places::LINKS_AT;
 use places::TABLE_SIZE;
-use section_check::hashes_ok;
-use section_check::links_ok;
-use section_check::locals_ok;
+pub use record_check::path_ok;
+pub use section_check::back_ok;
+pub use section_check::front_ok;
 use section_check::paths_ok;
-use section_check::ports_ok;
-use section_check::returns_ok;
 ghost use mathlib.Core.Path.{_≡_};
 ghost use Rattle.tables.specs.Records.{markOf};
 ghost use Rattle.tables.specs.Layout.{wellFormed};
@@ -30,31 +22,13 @@ pub fn check(tables: &[u8]) -> bool
     if tables.len() != TABLE_SIZE {
         return false;
     }
-    if octets::number_of_8_at(tables, CLOCK_AT) > TIME_LIMIT {
-        return false;
-    }
-    if !ports_ok(tables) {
-        return false;
-    }
-    if !locals_ok(tables) {
+    if !front_ok(tables) {
         return false;
     }
     if !paths_ok(tables) {
         return false;
     }
-    if !links_ok(tables) {
-        return false;
-    }
-    if octets::number_at(tables, RETURN_NEXT_AT, RING_WIDTH) >= RETURN_COUNT as u64 {
-        return false;
-    }
-    if !returns_ok(tables) {
-        return false;
-    }
-    if octets::number_at(tables, HASH_NEXT_AT, RING_WIDTH) >= HASH_COUNT as u64 {
-        return false;
-    }
-    hashes_ok(tables)
+    back_ok(tables, LINKS_AT)
 }
 
 // A mark: 1 yes, 0 no.

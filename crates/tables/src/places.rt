@@ -22,6 +22,8 @@ pub const BLOB_WIDTH: usize = 10;
 
 pub const RING_WIDTH: usize = 2;
 
+pub const SETTING_WIDTH: usize = 4;
+
 pub const PORT_WIDTH: usize = PORT_MODE_AT + 1;
 
 pub const LOCAL_WIDTH: usize = 1 + ADDRESS_WIDTH;
@@ -38,7 +40,13 @@ pub const OWN_AT: usize = 0;
 
 pub const CLOCK_AT: usize = OWN_AT + ADDRESS_WIDTH;
 
-pub const PORTS_AT: usize = CLOCK_AT + TIME_WIDTH;
+pub const TARGET_AT: usize = CLOCK_AT + TIME_WIDTH;
+
+pub const GRACE_AT: usize = TARGET_AT + SETTING_WIDTH;
+
+pub const PENALTY_AT: usize = GRACE_AT + SETTING_WIDTH;
+
+pub const PORTS_AT: usize = PENALTY_AT + SETTING_WIDTH;
 
 pub const LOCALS_AT: usize = PORTS_AT + PORT_COUNT * PORT_WIDTH;
 

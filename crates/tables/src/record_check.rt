@@ -6,19 +6,24 @@ use super::fields::LINK_ASKING_AT;
 use super::fields::LINK_EXPIRY_AT;
 use super::fields::LINK_PROVED_AT;
 use super::fields::PATH_BLOB_COUNT_AT;
+use super::fields::PATH_BLOCKED_UNTIL_AT;
 use super::fields::PATH_EXPIRY_AT;
+use super::fields::PATH_LAST_AT;
 use super::fields::PATH_PORT_AT;
 use super::fields::PORT_MODE_AT;
 use super::fields::RETURN_ARRIVAL_AT;
 use super::fields::RETURN_EXPIRY_AT;
 use super::fields::RETURN_LEAVING_AT;
 use numbers::BLOB_LIMIT;
+use numbers::BLOCKED_LIMIT;
+use numbers::CLOCK_LIMIT;
 use numbers::MODE_COUNT;
 use numbers::PORT_COUNT;
 use numbers::TIME_LIMIT;
 ghost use mathlib.Core.Path.{_≡_};
 ghost use lib.ListN.{length};
-ghost use Rattle.tables.specs.Records.{portBytesOk, localBytesOk, pathBytesOk, linkBytesOk, returnBytesOk, hashBytesOk};
+ghost use Rattle.rules.specs.Refusals.{rateEntryOk};
+ghost use Rattle.tables.specs.Records.{portBytesOk, localBytesOk, pathOf, pathBytesOk, linkBytesOk, returnBytesOk, hashBytesOk};
 ghost use Rattle.tables.specs.Places.{portWidth, localWidth, pathWidth, linkWidth, returnWidth, hashWidth};
 
 pub fn port_ok(b: &[u8]) -> bool
@@ -41,6 +46,17 @@ pub fn local_ok(b: &[u8]) -> bool
     true
 }
 
+// A path's last accepted announce and blocked-until. Its violations are any byte.
+fn rate_ok(b: &[u8]) -> bool
+    requires { ⌜ length (now b) ≡ pathWidth ⌝ }
+    ensures { λ r. ⌜ r ≡ rateEntryOk (pathOf (now (b .entry)) .rate) ⌝ }
+{
+    if octets::number_of_8_at(b, PATH_LAST_AT) >= CLOCK_LIMIT {
+        return false;
+    }
+    octets::number_of_8_at(b, PATH_BLOCKED_UNTIL_AT) <= BLOCKED_LIMIT
+}
+
 pub fn path_ok(b: &[u8]) -> bool
     requires { ⌜ length (now b) ≡ pathWidth ⌝ }
     ensures { λ r. ⌜ r ≡ pathBytesOk (now (b .entry)) ⌝ }
@@ -57,7 +73,10 @@ pub fn path_ok(b: &[u8]) -> bool
     if b[PATH_BLOB_COUNT_AT] > BLOB_LIMIT as u8 {
         return false;
     }
-    octets::number_of_8_at(b, PATH_EXPIRY_AT) <= TIME_LIMIT
+    if octets::number_of_8_at(b, PATH_EXPIRY_AT) > TIME_LIMIT {
+        return false;
+    }
+    rate_ok(b)
 }
 
 pub fn link_ok(b: &[u8]) -> bool

@@ -1,44 +1,68 @@
-// Row 7 for each section of the tables, record by record. What is all zeros is passed by one OR over its bytes: paths
-// and links as a whole, for these fill from their first place on; returns and hashes in groups, where the first and the
-// last record of one are unused.
+// Row 7 for each section of the tables, record by record, and for those before and behind the paths, which a saved file
+// has at other places. What is all zeros is passed by one OR over its bytes: paths and links as a whole, for these fill
+// from their first place on; returns and hashes in groups, where the first and the last record of one are unused.
+use super::places::CLOCK_AT;
+use super::places::GRACE_AT;
 use super::places::HASH_WIDTH;
-use super::places::HASHES_AT;
 use super::places::LINK_WIDTH;
-use super::places::LINKS_AT;
 use super::places::LOCAL_WIDTH;
 use super::places::LOCALS_AT;
 use super::places::PATH_WIDTH;
 use super::places::PATHS_AT;
+use super::places::PENALTY_AT;
 use super::places::PORT_WIDTH;
 use super::places::PORTS_AT;
 use super::places::RETURN_WIDTH;
-use super::places::RETURNS_AT;
+use super::places::RING_WIDTH;
+use super::places::SETTING_WIDTH;
+use super::places::TARGET_AT;
 use super::record_check::hash_ok;
 use super::record_check::link_ok;
 use super::record_check::local_ok;
 use super::record_check::path_ok;
 use super::record_check::port_ok;
 use super::record_check::return_ok;
+use numbers::GRACE_LIMIT;
 use numbers::HASH_COUNT;
 use numbers::LINK_COUNT;
 use numbers::LOCAL_COUNT;
 use numbers::PATH_COUNT;
+use numbers::PENALTY_LIMIT;
 use numbers::PORT_COUNT;
 use numbers::RETURN_COUNT;
+use numbers::TARGET_LIMIT;
+use numbers::TIME_LIMIT;
 ghost use mathlib.Core.Path.{_≡_};
-ghost use Prim.Native.Nat.{_*_};
+ghost use Prim.Native.Nat.{_+_, _*_, _≤_};
 ghost use lib.ListN.{length};
 ghost use Rattle.numbers.specs.Numbers.{portCount, localCount, pathCount, linkCount, returnCount, hashCount};
-ghost use Rattle.tables.specs.Places.{portWidth, localWidth, pathWidth, linkWidth, returnWidth, hashWidth, portsAt, localsAt, pathsAt, linksAt, returnsAt, hashesAt, tableSize};
+ghost use Rattle.tables.specs.Places.{portWidth, localWidth, pathWidth, linkWidth, returnWidth, hashWidth, portsAt, localsAt, pathsAt, backWidth, tableSize};
 ghost use Rattle.tables.specs.Records.{portBytesOk, localBytesOk, pathBytesOk, linkBytesOk, returnBytesOk, hashBytesOk};
-ghost use Rattle.tables.specs.Layout.{recordsOk};
+ghost use Rattle.tables.specs.Layout.{startOk, recordsOk, frontOk, backOk};
 ghost use Rattle.tables.specs.Groups.{groupSize, groupOk};
 
 // Records of a group.
 const GROUP: usize = 128;
 
-pub fn ports_ok(t: &[u8]) -> bool
-    requires { ⌜ length (now t) ≡ tableSize ⌝ }
+// The last clock, and the announce rate's settings behind it.
+fn start_ok(t: &[u8]) -> bool
+    requires { ⌜ pathsAt ≤ length (now t) ⌝ }
+    ensures { λ r. ⌜ r ≡ startOk (now (t .entry)) ⌝ }
+{
+    if octets::number_of_8_at(t, CLOCK_AT) > TIME_LIMIT {
+        return false;
+    }
+    if octets::number_at(t, TARGET_AT, SETTING_WIDTH) > TARGET_LIMIT {
+        return false;
+    }
+    if octets::number_at(t, GRACE_AT, SETTING_WIDTH) > GRACE_LIMIT {
+        return false;
+    }
+    octets::number_at(t, PENALTY_AT, SETTING_WIDTH) <= PENALTY_LIMIT
+}
+
+fn ports_ok(t: &[u8]) -> bool
+    requires { ⌜ pathsAt ≤ length (now t) ⌝ }
     ensures { λ r. ⌜ r ≡ recordsOk portBytesOk portsAt portWidth portCount (now (t .entry)) ⌝ }
 {
     let mut i = 0;
@@ -52,8 +76,8 @@ pub fn ports_ok(t: &[u8]) -> bool
     true
 }
 
-pub fn locals_ok(t: &[u8]) -> bool
-    requires { ⌜ length (now t) ≡ tableSize ⌝ }
+fn locals_ok(t: &[u8]) -> bool
+    requires { ⌜ pathsAt ≤ length (now t) ⌝ }
     ensures { λ r. ⌜ r ≡ recordsOk localBytesOk localsAt localWidth localCount (now (t .entry)) ⌝ }
 {
     let mut i = 0;
@@ -65,6 +89,20 @@ pub fn locals_ok(t: &[u8]) -> bool
         i += 1;
     }
     true
+}
+
+// The sections before the paths.
+pub fn front_ok(t: &[u8]) -> bool
+    requires { ⌜ pathsAt ≤ length (now t) ⌝ }
+    ensures { λ r. ⌜ r ≡ frontOk (now (t .entry)) ⌝ }
+{
+    if !start_ok(t) {
+        return false;
+    }
+    if !ports_ok(t) {
+        return false;
+    }
+    locals_ok(t)
 }
 
 // ---- paths
@@ -98,14 +136,14 @@ pub fn paths_ok(t: &[u8]) -> bool
 
 // ---- links
 
-fn links_each(t: &[u8]) -> bool
-    requires { ⌜ length (now t) ≡ tableSize ⌝ }
-    ensures { λ r. ⌜ r ≡ recordsOk linkBytesOk linksAt linkWidth linkCount (now (t .entry)) ⌝ }
+fn links_each(t: &[u8], at: usize) -> bool
+    requires { ⌜ at + linkWidth * linkCount ≤ length (now t) ⌝ }
+    ensures { λ r. ⌜ r ≡ recordsOk linkBytesOk at linkWidth linkCount (now (t .entry)) ⌝ }
 {
     let mut i = 0;
     while i < LINK_COUNT {
-        let at = LINKS_AT + LINK_WIDTH * i;
-        if !link_ok(&t[at..at + LINK_WIDTH]) {
+        let start = at + LINK_WIDTH * i;
+        if !link_ok(&t[start..start + LINK_WIDTH]) {
             return false;
         }
         i += 1;
@@ -113,16 +151,16 @@ fn links_each(t: &[u8]) -> bool
     true
 }
 
-pub fn links_ok(t: &[u8]) -> bool
-    requires { ⌜ length (now t) ≡ tableSize ⌝ }
-    ensures { λ r. ⌜ r ≡ recordsOk linkBytesOk linksAt linkWidth linkCount (now (t .entry)) ⌝ }
+fn links_ok(t: &[u8], at: usize) -> bool
+    requires { ⌜ at + linkWidth * linkCount ≤ length (now t) ⌝ }
+    ensures { λ r. ⌜ r ≡ recordsOk linkBytesOk at linkWidth linkCount (now (t .entry)) ⌝ }
 {
-    if t[LINKS_AT] == 0 {
-        if octets::is_zero(&t[LINKS_AT..LINKS_AT + LINK_WIDTH * LINK_COUNT]) {
+    if t[at] == 0 {
+        if octets::is_zero(&t[at..at + LINK_WIDTH * LINK_COUNT]) {
             return true;
         }
     }
-    links_each(t)
+    links_each(t, at)
 }
 
 // ---- returns
@@ -155,14 +193,14 @@ fn return_group_ok(s: &[u8]) -> bool
     return_group_each(s)
 }
 
-pub fn returns_ok(t: &[u8]) -> bool
-    requires { ⌜ length (now t) ≡ tableSize ⌝ }
-    ensures { λ r. ⌜ r ≡ recordsOk returnBytesOk returnsAt returnWidth returnCount (now (t .entry)) ⌝ }
+fn returns_ok(t: &[u8], at: usize) -> bool
+    requires { ⌜ at + returnWidth * returnCount ≤ length (now t) ⌝ }
+    ensures { λ r. ⌜ r ≡ recordsOk returnBytesOk at returnWidth returnCount (now (t .entry)) ⌝ }
 {
     let mut g = 0;
     while g < RETURN_COUNT / GROUP {
-        let at = RETURNS_AT + RETURN_WIDTH * GROUP * g;
-        if !return_group_ok(&t[at..at + RETURN_WIDTH * GROUP]) {
+        let start = at + RETURN_WIDTH * GROUP * g;
+        if !return_group_ok(&t[start..start + RETURN_WIDTH * GROUP]) {
             return false;
         }
         g += 1;
@@ -200,17 +238,41 @@ fn hash_group_ok(s: &[u8]) -> bool
     hash_group_each(s)
 }
 
-pub fn hashes_ok(t: &[u8]) -> bool
-    requires { ⌜ length (now t) ≡ tableSize ⌝ }
-    ensures { λ r. ⌜ r ≡ recordsOk hashBytesOk hashesAt hashWidth hashCount (now (t .entry)) ⌝ }
+fn hashes_ok(t: &[u8], at: usize) -> bool
+    requires { ⌜ at + hashWidth * hashCount ≤ length (now t) ⌝ }
+    ensures { λ r. ⌜ r ≡ recordsOk hashBytesOk at hashWidth hashCount (now (t .entry)) ⌝ }
 {
     let mut g = 0;
     while g < HASH_COUNT / GROUP {
-        let at = HASHES_AT + HASH_WIDTH * GROUP * g;
-        if !hash_group_ok(&t[at..at + HASH_WIDTH * GROUP]) {
+        let start = at + HASH_WIDTH * GROUP * g;
+        if !hash_group_ok(&t[start..start + HASH_WIDTH * GROUP]) {
             return false;
         }
         g += 1;
     }
     true
+}
+
+// ---- all behind the paths
+
+// Links, returns and hashes, which stand from this place on. A ring's next place stands before its records.
+pub fn back_ok(t: &[u8], at: usize) -> bool
+    requires { ⌜ at + backWidth ≤ length (now t) ⌝ }
+    ensures { λ r. ⌜ r ≡ backOk (now (t .entry)) at ⌝ }
+{
+    if !links_ok(t, at) {
+        return false;
+    }
+    let returns = at + LINK_WIDTH * LINK_COUNT;
+    if octets::number_at(t, returns, RING_WIDTH) >= RETURN_COUNT as u64 {
+        return false;
+    }
+    if !returns_ok(t, returns + RING_WIDTH) {
+        return false;
+    }
+    let hashes = returns + (RING_WIDTH + RETURN_WIDTH * RETURN_COUNT);
+    if octets::number_at(t, hashes, RING_WIDTH) >= HASH_COUNT as u64 {
+        return false;
+    }
+    hashes_ok(t, hashes + RING_WIDTH)
 }

@@ -11,12 +11,14 @@ use Rattle.octets.specs.Choice.{_then_otherwise_}
 use Rattle.octets.proofs.Choice.{then-false}
 use Rattle.packet.specs.Header.{typeTwo, isData}
 use Rattle.numbers.specs.Numbers.{blobLimit, pathCount, linkCount, returnCount, hashCount, pathLifetime, hashLifetime, returnLifetime}
-use Rattle.rules.specs.Relay.{Slot, empty, used, Ring, Blobs, Path, Return, Remembered, makeReturn, makeRemembered, withSlots, Relay, withClock, withPaths, withLinks, withReturns}
+use Rattle.rules.specs.Relay.{Slot, empty, used, Ring, Blobs, Path, Return, Remembered, withPathRate, makeReturn, makeRemembered, withSlots, Relay, withClock, withPaths, withLinks, withReturns}
 use Rattle.rules.specs.View.{View, pathPlace, linkPlace, returnPlace, freePath, freeLink, isLiveReturn}
 use Rattle.rules.specs.Arrival.{Arrival, header, hops, relayAddress, destination, hash, blob}
 use Rattle.rules.specs.Blobs.{oneBlob, addBlob}
+use Rattle.rules.specs.Rate.{entryDropped}
+use Rattle.rules.specs.declared.RateEntry.{RateEntry}
 use Rattle.rules.specs.Ways.{everywhere, by-path, along-link, by-return}
-use Rattle.rules.specs.Writes.{remember, announcedBlobs, announcedPath, announcedPlace, putPath, returnKey, returnRecord, emptiedIf, emptiedWhere, putReturn, emptyReturn, linkRecord, putLink, renewedLink, renewLink, writeWay}
+use Rattle.rules.specs.Writes.{remember, announcedBlobs, announcedRate, limitPath, announcedPath, announcedPlace, putPath, returnKey, returnRecord, emptiedIf, emptiedWhere, putReturn, emptyReturn, linkRecord, putLink, renewedLink, renewLink, writeWay}
 use Rattle.rules.specs.declared.Link.{Link}
 use Rattle.tables.specs.Places.{pathWidth, pathsAt}
 use Rattle.tables.specs.Records.{slotOf, pathOf, blobsOf}
@@ -24,8 +26,8 @@ use Rattle.tables.specs.Layout.{recordAt, relayOf, bytesOf, wellFormed}
 use Rattle.tables.proofs.Seen.{path-seen, paths-length, links-length, returns-length, hashes-length}
 use Rattle.tables.proofs.Whole.{again}
 use Rattle.update.specs.declared.Announced.{Announced}
-use Rattle.update.specs.Written.{clockWritten, hashWritten, announced, pathWritten, linkWritten, returnWritten, returnEmptied, returnsEmptied}
-use Rattle.update.proofs.Steps.{clock-step, path-step, link-step, emptied-step, return-step, hash-step, return-next-within, hash-next-within}
+use Rattle.update.specs.Written.{clockWritten, hashWritten, announced, pathWritten, rateWritten, linkWritten, returnWritten, returnEmptied, returnsEmptied}
+use Rattle.update.proofs.Steps.{clock-step, path-step, rate-step, link-step, emptied-step, return-step, hash-step, return-next-within, hash-next-within}
 
 -- the blobs of a used record
 held-blobs : (row : List ℕ) (p : Path) → slotOf pathOf row ≡ used p → blobsOf row ≡ p .blobs
@@ -37,12 +39,13 @@ held-blobs row p e = go (eqb (getD row 0 0) 0) refl
     go false q = let n : used (pathOf row) ≡ used p = rw q at e in let m : pathOf row ≡ p = cc in ap (λ (x : Path). x .blobs) m
 
 -- what an announce sets, as the code has it
-pub record Announces (v : View) (a : Arrival) (x : Announced) (added : List ℕ) : Type 0 where
+pub record Announces (v : View) (a : Arrival) (known : Slot Path) (x : Announced) (added : List ℕ) : Type 0 where
   pub destination-is : x .destination ≡ destination a
   pub port-is : x .port ≡ a .port
   pub hops-are : x .hops ≡ hops a
   pub next-hop-is : x .«next_hop» ≡ (typeTwo (header a) then relayAddress a otherwise destination a)
   pub expiry-is : x .expiry ≡ a .clock + pathLifetime (v .mode (a .port))
+  pub rate-is : x .rate ≡ announcedRate v a known
   pub blob-is : added ≡ blob a
 
 -- t are the tables before
@@ -69,30 +72,42 @@ module _ (v : View) (a : Arrival) (t : List ℕ) (b : Bytes t) (h : wellFormed t
         ∙ rw is
 
   -- ---- an announce
-  module _ (x : Announced) (added : List ℕ) (set-by : Announces v a x added) (slot : ℕ) (within : slot < pathCount) where
-    announced-as : (known : Slot Path) → announced x (announcedBlobs a known) ≡ announcedPath v a known
+  module _ (x : Announced) (added : List ℕ) (slot : ℕ) (within : slot < pathCount) where
+    announced-as : (known : Slot Path) → Announces v a known x added → announced x (announcedBlobs a known) ≡ announcedPath v a known
     unfolding announced announcedPath
-    announced-as known = rw (set-by .destination-is, set-by .port-is, set-by .hops-are, set-by .next-hop-is, set-by .expiry-is)
+    announced-as known set-by =
+        rw (set-by .destination-is, set-by .port-is, set-by .hops-are, set-by .next-hop-is, set-by .expiry-is, set-by .rate-is)
 
-    pub new-path-written : (u : List ℕ) → slot ≡ freePath (a .clock) before → u ≡ pathWritten t slot (announced x (oneBlob blobLimit added))
+    pub new-path-written : Announces v a empty x added → (u : List ℕ) → slot ≡ freePath (a .clock) before
+        → u ≡ pathWritten t slot (announced x (oneBlob blobLimit added))
         → u ≡ bytesOf (writeWay v a (everywhere empty) before)
     unfolding writeWay putPath announcedPlace announcedBlobs
-    new-path-written u free e =
+    new-path-written set-by u free e =
         path-step before held slot _ (paths-length t) within e
         ∙ ap₂ (λ (k : ℕ) (p : Path). bytesOf (withPaths (set (before .paths) k (used p)) before)) free
-        (ap (λ (y : List ℕ). announced x (oneBlob blobLimit y)) (set-by .blob-is) ∙ announced-as empty)
+        (ap (λ (y : List ℕ). announced x (oneBlob blobLimit y)) (set-by .blob-is) ∙ announced-as empty set-by)
 
-    pub known-path-written : (p : Path) (u : List ℕ) → slot ≡ pathPlace (a .clock) before (destination a) → getD (before .paths) slot empty ≡ used p
+    pub known-path-written : (p : Path) → Announces v a (used p) x added → (u : List ℕ) → slot ≡ pathPlace (a .clock) before (destination a)
+        → getD (before .paths) slot empty ≡ used p
         → u ≡ pathWritten t slot (announced x (addBlob blobLimit added (blobsOf (recordAt pathsAt pathWidth t slot))))
         → u ≡ bytesOf (writeWay v a (everywhere (used p)) before)
     unfolding writeWay putPath announcedPlace announcedBlobs
-    known-path-written p u live there e =
+    known-path-written p set-by u live there e =
         path-step before held slot _ (paths-length t) within e
         ∙ ap₂ (λ (k : ℕ) (q : Path). bytesOf (withPaths (set (before .paths) k (used q)) before)) live
-        (ap₂ (λ (y : List ℕ) (s : Blobs). announced x (addBlob blobLimit y s)) (set-by .blob-is) row-blobs ∙ announced-as (used p))
+        (ap₂ (λ (y : List ℕ) (s : Blobs). announced x (addBlob blobLimit y s)) (set-by .blob-is) row-blobs ∙ announced-as (used p) set-by)
       where
         row-blobs : blobsOf (recordAt pathsAt pathWidth t slot) ≡ p .blobs
         row-blobs = held-blobs (recordAt pathsAt pathWidth t slot) p (sym (path-seen t slot within) ∙ there)
+
+  -- ---- a rate drop
+  pub rate-limited : (p : Path) (rate : RateEntry) (slot : ℕ) (u : List ℕ) → slot < pathCount → slot ≡ pathPlace (a .clock) before (destination a)
+      → getD (before .paths) slot empty ≡ used p → rate ≡ entryDropped (v .rate) (a .clock) (p .rate) → u ≡ rateWritten t slot rate
+      → u ≡ bytesOf (limitPath v a (used p) before)
+  unfolding limitPath
+  rate-limited p rate slot u within live there is e =
+      rate-step before held slot p rate (paths-length t) within there e
+      ∙ ap₂ (λ (k : ℕ) (x : RateEntry). bytesOf (withPaths (set (before .paths) k (used (withPathRate x p))) before)) live is
 
   -- ---- data by a path: other live records of the key are emptied
   pub return-written : (p : Path) (first : List ℕ) (out slot : ℕ) (u : List ℕ) → isData (header a) ≡ true

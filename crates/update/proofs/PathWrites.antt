@@ -21,14 +21,14 @@ use Rattle.codes.proofs.Inside.{Inside, item, _within_, named}
 use Rattle.numbers.specs.Numbers.{blobLimit}
 use Rattle.rules.specs.Relay.{used, Blobs}
 use Rattle.rules.specs.Blobs.{noBlob, oneBlob, addBlob}
-use Rattle.tables.specs.Forms.{blobsForm, headForm}
+use Rattle.tables.specs.Forms.{rateEntryForm, blobsForm, headForm}
 use Rattle.tables.specs.Places.{blobWidth, pathWidth}
 use Rattle.tables.specs.Fields.{blobsWidth, blobPlacesAt, pathBlobsAt}
 use Rattle.tables.specs.Records.{exactly, slotBytes, blobsOf, blobsBytes, pathBytes}
 use Rattle.tables.proofs.All.{exactly-same}
 use Rattle.tables.proofs.Section.{part-behind}
 use Rattle.update.specs.declared.Announced.{Announced}
-use Rattle.update.specs.Written.{headOf, announced, headWidth, headBytes, newerWidth, blobsIn}
+use Rattle.update.specs.Written.{rateBytes, headOf, announced, headWidth, headBytes, startWidth, startBytes, newerWidth, blobsIn}
 
 blobs-length : (s : Blobs) → length (blobsBytes s) ≡ blobsWidth
 unfolding blobsBytes
@@ -151,7 +151,7 @@ module _ (s : List ℕ) (ls : length s ≡ blobsWidth) where
         rw (le-ltb (blobsIn s .count) blobLimit (full l))
         (e1 ∙ ap₂ (λ (x y : List ℕ). patch x blobPlacesAt y) whole bytes ∙ places-in .place .patched (blobsIn s) (kept ++ (blob ∷ [])) tt)
 
--- ---- the record: what stands before its blobs is written first
+-- ---- the record: what stands before its blobs is written first, the way on before the rate
 head-length : (x : Announced) → length (headBytes x) ≡ headWidth
 unfolding headBytes
 head-length x = let l = lawful headForm .wide (headOf x) in omega (arith, l)
@@ -161,33 +161,50 @@ pub head-written : (t : List ℕ) (a : ℕ) (x : Announced) → a + headWidth �
 unfolding headBytes
 head-written t a x fits = marked-written headForm (headOf x) t a fits
 
+-- .. and then the rate
+start-length : (x : Announced) → length (startBytes x) ≡ startWidth
+unfolding startBytes rateBytes
+start-length x =
+    let l = head-length x in
+    let w = lawful rateEntryForm .wide (x .rate) in
+    length-append (headBytes x) (rateBytes (x .rate)) ∙ omega (arith, l, w)
+
+pub start-written : (t : List ℕ) (a : ℕ) (x : Announced) → a + startWidth ≤ length t
+    → patch (patch t a (headBytes x)) (a + headWidth) (rateBytes (x .rate)) ≡ patch t a (startBytes x)
+unfolding startBytes rateBytes
+start-written t a x fits =
+    let l = head-length x in
+    let w = lawful rateEntryForm .wide (x .rate) in
+    patch-join t a (a + headWidth) (headBytes x) (rateBytes (x .rate)) (omega (arith, l)) (omega (arith, l, w))
+
 -- the blobs of a record at a
-behind-head : (t : List ℕ) (a : ℕ) → blobsIn (part t (a + headWidth) blobsWidth) ≡ blobsOf (part t a pathWidth)
+behind-start : (t : List ℕ) (a : ℕ) → blobsIn (part t (a + startWidth) blobsWidth) ≡ blobsOf (part t a pathWidth)
 unfolding blobsIn blobsOf
-behind-head t a =
-    lawful blobsForm .sees (part t (a + headWidth) blobsWidth) 0 (part t a pathWidth) pathBlobsAt
-    (part-part t (a + headWidth) blobsWidth 0 blobsWidth (omega arith)
-    ∙ ap (λ (k : ℕ). part t k blobsWidth) (add-zero (a + headWidth))
+behind-start t a =
+    lawful blobsForm .sees (part t (a + startWidth) blobsWidth) 0 (part t a pathWidth) pathBlobsAt
+    (part-part t (a + startWidth) blobsWidth 0 blobsWidth (omega arith)
+    ∙ ap (λ (k : ℕ). part t k blobsWidth) (add-zero (a + startWidth))
     ∙ sym (part-part t a pathWidth pathBlobsAt blobsWidth (omega arith)))
 
-module _ (t t1 : List ℕ) (a : ℕ) (x : Announced) (fits : a + pathWidth ≤ length t) (e1 : t1 ≡ patch t a (headBytes x)) where
+module _ (t t1 : List ℕ) (a : ℕ) (x : Announced) (fits : a + pathWidth ≤ length t) (e1 : t1 ≡ patch t a (startBytes x)) where
   -- the blobs are lent as `&mut t1[from..from + blobsWidth]`
   abbrev from : ℕ
-  from = a + headWidth
+  from = a + startWidth
 
   pub path-put : (s : List ℕ) (blobs : Blobs) → s ≡ blobsBytes blobs
       → putMid from (from + blobsWidth - from) t1 s ≡ patch t a (slotBytes pathWidth pathBytes (used (announced x blobs)))
-  unfolding slotBytes pathBytes blobsBytes announced headBytes
+  unfolding slotBytes pathBytes blobsBytes announced startBytes rateBytes headBytes
   path-put s blobs e =
-      let long = head-length x in
+      let long = start-length x in
       let wide = blobs-length blobs in
       ap (putMid from (from + blobsWidth - from) t1) e
       ∙ patch-range t1 from blobsWidth (blobsBytes blobs) wide
       ∙ ap (λ (u : List ℕ). patch u from (blobsBytes blobs)) e1
-      ∙ patch-join t a from (headBytes x) (blobsBytes blobs) (omega arith) (omega arith)
+      ∙ patch-join t a from (startBytes x) (blobsBytes blobs) (omega arith) (omega arith)
+      ∙ ap (patch t a) (append-assoc (headBytes x) (rateBytes (x .rate)) (blobsBytes blobs))
 
   pub blobs-kept : blobsIn (take (from + blobsWidth - from) (drop from t1)) ≡ blobsOf (part t a pathWidth)
   blobs-kept =
       ap blobsIn (part-range t1 from blobsWidth ∙ ap (λ (u : List ℕ). part u from blobsWidth) e1)
-      ∙ ap blobsIn (part-behind t (headBytes x) a from blobsWidth (ap (λ (k : ℕ). a + k) (head-length x)) (omega arith))
-      ∙ behind-head t a
+      ∙ ap blobsIn (part-behind t (startBytes x) a from blobsWidth (ap (λ (k : ℕ). a + k) (start-length x)) (omega arith))
+      ∙ behind-start t a

@@ -1,7 +1,7 @@
 -- What each write leaves in the tables' bytes t: a record over the one at its place, and what goes with it.
 -- For the contracts of helpers: not part of what a reader must believe.
 use Prim.Native.Nat.{ℕ, _+_, _-_, _*_, _%_}
-use mathlib.Core.List.{List, _∷_}
+use mathlib.Core.List.{List, _∷_, _++_}
 use Rattle.octets.specs.Choice.{_then_otherwise_}
 use Rattle.octets.specs.Part.{patch}
 use Rattle.octets.specs.BigEndian.{bigEndian}
@@ -10,10 +10,11 @@ use Rattle.rules.specs.Relay.{empty, used, Blobs, Path, Return, Remembered, hol
 use Rattle.rules.specs.View.{isLiveReturn}
 use Rattle.rules.specs.Writes.{emptiedWhere}
 use Rattle.rules.specs.declared.Link.{Link}
+use Rattle.rules.specs.declared.RateEntry.{RateEntry}
 use Rattle.codes.specs.Form.{code}
-use Rattle.tables.specs.Forms.{blobsForm, Head, headForm, toPath}
+use Rattle.tables.specs.Forms.{rateEntryForm, blobsForm, Head, headForm, toPath}
 use Rattle.tables.specs.Places.{timeWidth, ringWidth, blobWidth, pathWidth, linkWidth, returnWidth, hashWidth, clockAt, pathsAt, linksAt, returnNextAt, returnsAt, hashNextAt, hashesAt}
-use Rattle.tables.specs.Fields.{pathBlobsAt}
+use Rattle.tables.specs.Fields.{pathRateAt, pathBlobsAt}
 use Rattle.tables.specs.Records.{slotOf, slotBytes, pathBytes, linkBytes, returnOf, returnBytes, hashBytes}
 use Rattle.tables.specs.Layout.{recordAt, relayOf, bytesOf}
 use Rattle.update.specs.declared.Announced.{Announced}
@@ -31,19 +32,35 @@ hashWritten t place m =
 unfoldable pub pathWritten : List ℕ → ℕ → Path → List ℕ
 pathWritten t place p = patch t (pathsAt + pathWidth * place) (slotBytes pathWidth pathBytes (used p))
 
+-- last accepted announce, violations and blocked-until alone
+abbrev pub rateWidth : ℕ
+rateWidth = code rateEntryForm .width
+
+unfoldable pub rateBytes : RateEntry → List ℕ
+rateBytes = code rateEntryForm .write
+
+unfoldable pub rateWritten : List ℕ → ℕ → RateEntry → List ℕ
+rateWritten t place rate = patch t (pathsAt + pathWidth * place + pathRateAt) (rateBytes rate)
+
 -- what an announce sets of a path, and the path with these blobs
 abbrev pub headOf : Announced → Head
 headOf x = (x .destination, (x .port, (x .hops, (x .«next_hop», x .expiry))))
 
 unfoldable pub announced : Announced → Blobs → Path
-announced x blobs = toPath (headOf x, blobs)
+announced x blobs = toPath (headOf x, (x .rate, blobs))
 
--- a record's bytes before its blobs
+-- a record's bytes before its rate, and before its blobs
 abbrev pub headWidth : ℕ
-headWidth = pathBlobsAt
+headWidth = pathRateAt
 
 unfoldable pub headBytes : Announced → List ℕ
 headBytes x = 1 ∷ code headForm .write (headOf x)
+
+abbrev pub startWidth : ℕ
+startWidth = pathBlobsAt
+
+unfoldable pub startBytes : Announced → List ℕ
+startBytes x = headBytes x ++ rateBytes (x .rate)
 
 -- the bytes of the blob places behind the oldest
 abbrev pub newerWidth : ℕ

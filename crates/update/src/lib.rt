@@ -12,10 +12,12 @@ pub use hashes::remember;
 pub use links::put_link;
 pub use paths::put_known_path;
 pub use paths::put_new_path;
+pub use paths::put_rate;
 pub use returns::empty_return;
 pub use returns::empty_returns;
 pub use returns::next_return;
 pub use returns::put_return;
+use rules::RateEntry;
 use tables::places::CLOCK_AT;
 use tables::places::TIME_WIDTH;
 ghost use mathlib.Core.Path.{_≡_};
@@ -30,6 +32,7 @@ pub struct Announced {
     pub hops: u8,
     pub next_hop: [u8; 16],
     pub expiry: u64,
+    pub rate: RateEntry,
 }
 
 // Every accepted packet sets the last clock.

@@ -1,3 +1,4 @@
+-- what it shows of the decision that it found
 use mathlib.Core.Path.{_≡_, _∙_}
 use Rattle.octets.proofs.Bytes.{known-bytes}
 use Rattle.act.proofs.Stays.{drop-left, deliver-left}
@@ -8,13 +9,15 @@ use Rattle.act.specs.Acted.{CanCarryOut}
 use Rattle.act.proofs.carry_out.Statement.{statement}
 use Rattle.act.proofs.carry_out.Tie as tie
 
--- what it shows of the decision that it found
 carries : (s : tie.Start) {d : Decision} → s .args .decision ≡ d
     → CanCarryOut (s .args .packet .now) (s .args .arrived) (s .args .tables .now) (s .args .output .now) d
 carries s is = record { accepted = s .pre .0 .accepted; roomy = s .pre .0 .roomy; decided = s .pre .0 .decided ∙ is }
 
 enum-known-decision : tie.Need-enum-known-decision
 enum-known-decision c = search needs
+
+drop-packet-requires : tie.Need-drop-packet-requires
+drop-packet-requires c κs = search needs
 
 enum-told : tie.Need-enum-told
 enum-told c = search needs
@@ -60,12 +63,17 @@ receipt-requires c κs =
     let s = c .before .before .before .before .before .before .before .before in
     carries s (c .before .before .before .decision6 .given .1)
 
+same-length : tie.Need-same-length
+same-length c = search needs
+
 returns : tie.Need-returns
 returns c =
-    let c4 = c .before .before .before .before in
-    let s = c4 .before .before in
-    drop-left _ _ _ (s .pre .0 .accepted) (known-bytes (s .args .tables .now) (c4 .slice-known .given)) _ _
-    (s .pre .0 .decided ∙ c .before .decision .given .1)
+    let c2 = c .before .before in
+    let c5 = c2 .before .before .before in
+    let c8 = c5 .before .before .before in
+    let s = c8 .before .before in
+    drop-left _ _ _ (s .pre .0 .accepted) (known-bytes (s .args .tables .now) (c8 .slice-known .given)) _ _
+    (s .pre .0 .decided ∙ c5 .decision .given .1) _ _ (c2 .drop-packet .ensures .0) (c2 .drop-packet .ensures .1)
 
 returns-2 : tie.Need-returns-2
 returns-2 c =
@@ -73,47 +81,47 @@ returns-2 c =
     deliver-left _ _ _ (s .pre .0 .accepted) (known-bytes (s .args .tables .now) (c .before .before .before .slice-known .given)) _
     (s .pre .0 .decided ∙ c .enum-told .given .1)
 
-same-length : tie.Need-same-length
-same-length c = search needs
-
 same-length-2 : tie.Need-same-length-2
 same-length-2 c = search needs
-
-returns-3 : tie.Need-returns-3
-returns-3 c = search needs
 
 same-length-3 : tie.Need-same-length-3
 same-length-3 c = search needs
 
+returns-3 : tie.Need-returns-3
+returns-3 c = search needs
+
 same-length-4 : tie.Need-same-length-4
 same-length-4 c = search needs
-
-returns-4 : tie.Need-returns-4
-returns-4 c = search needs
 
 same-length-5 : tie.Need-same-length-5
 same-length-5 c = search needs
 
+returns-4 : tie.Need-returns-4
+returns-4 c = search needs
+
 same-length-6 : tie.Need-same-length-6
 same-length-6 c = search needs
-
-returns-5 : tie.Need-returns-5
-returns-5 c = search needs
 
 same-length-7 : tie.Need-same-length-7
 same-length-7 c = search needs
 
+returns-5 : tie.Need-returns-5
+returns-5 c = search needs
+
 same-length-8 : tie.Need-same-length-8
 same-length-8 c = search needs
-
-returns-6 : tie.Need-returns-6
-returns-6 c = search needs
 
 same-length-9 : tie.Need-same-length-9
 same-length-9 c = search needs
 
+returns-6 : tie.Need-returns-6
+returns-6 c = search needs
+
 same-length-10 : tie.Need-same-length-10
 same-length-10 c = search needs
+
+same-length-11 : tie.Need-same-length-11
+same-length-11 c = search needs
 
 returns-7 : tie.Need-returns-7
 returns-7 c = search needs
@@ -123,6 +131,7 @@ carry-out-spec =
     tie.close
     (tie.spec
     enum-known-decision
+    drop-packet-requires
     enum-told
     enum-known-decision-2
     announce-requires
@@ -134,20 +143,21 @@ carry-out-spec =
     carry-requires
     enum-known-decision-6
     receipt-requires
+    same-length
     returns
     returns-2
-    same-length
     same-length-2
-    returns-3
     same-length-3
+    returns-3
     same-length-4
-    returns-4
     same-length-5
+    returns-4
     same-length-6
-    returns-5
     same-length-7
+    returns-5
     same-length-8
-    returns-6
     same-length-9
+    returns-6
     same-length-10
+    same-length-11
     returns-7)

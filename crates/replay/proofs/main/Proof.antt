@@ -33,6 +33,21 @@ slice-aggregate-read-file-2 c = search needs
 read-file-requires-2 : tie.Need-read-file-requires-2
 read-file-requires-2 c κs = search needs
 
+array-share-prefix-stored : tie.Need-array-share-prefix-stored
+array-share-prefix-stored c = search needs
+
+slice-aggregate-load : tie.Need-slice-aggregate-load
+slice-aggregate-load c = search needs
+
+slice-aggregate-load-2 : tie.Need-slice-aggregate-load-2
+slice-aggregate-load-2 c = search needs
+
+new-tally-requires : tie.Need-new-tally-requires
+new-tally-requires c κs = search needs
+
+load-requires : tie.Need-load-requires
+load-requires c κs = search needs
+
 tables-refused-requires : tie.Need-tables-refused-requires
 tables-refused-requires c κs = search needs
 
@@ -47,9 +62,6 @@ array-share-prefix-file-2 c = search needs
 
 slice-aggregate-replay : tie.Need-slice-aggregate-replay
 slice-aggregate-replay c = search needs
-
-array-borrow-prefix-lent : tie.Need-array-borrow-prefix-lent
-array-borrow-prefix-lent c = search needs
 
 slice-aggregate-replay-2 : tie.Need-slice-aggregate-replay-2
 slice-aggregate-replay-2 c = search needs
@@ -74,12 +86,16 @@ main-spec =
     returns
     slice-aggregate-read-file-2
     read-file-requires-2
+    array-share-prefix-stored
+    slice-aggregate-load
+    slice-aggregate-load-2
+    new-tally-requires
+    load-requires
     tables-refused-requires
     print-requires-2
     returns-2
     array-share-prefix-file-2
     slice-aggregate-replay
-    array-borrow-prefix-lent
     slice-aggregate-replay-2
     replay-requires
     returns-3)

@@ -4,7 +4,6 @@ use native.Mathlib.Numerals.{add-one}
 use mathlib.Core.List.{List}
 use lib.ListN.{length}
 use mathlib.Core.Path.{_≡_, refl, ap, _∙_}
-use Rattle.rules.specs.Calls.{newTally}
 use Rattle.rules.specs.declared.Tally.{Tally}
 use Rattle.recording.specs.Shape.{countOf}
 use Rattle.replaying.specs.Promise.{StepOn, stepOn, ReplayOn, oneMore, stepsOn}
@@ -17,7 +16,7 @@ use Rattle.replay.proofs.replay.Tie as tie
 
 abbrev Inv-loop : tie.InvT-loop
 Inv-loop file tables₀ n tally₀ i₀ tables tally i =
-    (i ≤ n) × (length tables ≡ length tables₀) × (tables ≡ stepsOn file i tables₀ newTally .tables) × (tally ≡ stepsOn file i tables₀ newTally .tally)
+    (i ≤ n) × (length tables ≡ length tables₀) × (tables ≡ stepsOn file i tables₀ tally₀ .tables) × (tally ≡ stepsOn file i tables₀ tally₀ .tally)
 
 abbrev μ-loop : tie.MeasureT-loop
 μ-loop file tables₀ n tally₀ i₀ tables tally i = n - i
@@ -27,7 +26,7 @@ count-requires c κs = search needs
 
 loop-holds : tie.Need-loop-holds Inv-loop μ-loop
 unfolding stepsOn
-loop-holds c = (search needs, refl, refl, c .new-tally .ensures)
+loop-holds c = (search needs, refl, refl, refl)
 
 step-requires : tie.Need-step-requires Inv-loop μ-loop
 step-requires c κs = search needs
@@ -36,8 +35,8 @@ print-requires : tie.Need-print-requires Inv-loop μ-loop
 print-requires c κs =
     let c4 = c .before .before .before .before in
     let c7 = c4 .before .before .before in
-    let c12 = c7 .before .before .before .before .before in
-    let s : StepOn = stepOn (c12 .args .file .now) (c7 .loop .i) (c7 .loop .tables) (c7 .loop .tally) in
+    let c11 = c7 .before .before .before .before in
+    let s : StepOn = stepOn (c11 .args .file .now) (c7 .loop .i) (c7 .loop .tables) (c7 .loop .tally) in
     text-within (c4 .step .result .line) (s .line) (ap (λ (x : Stepped). x .line) (c4 .step .ensures .0))
 
 add-i : tie.Need-add-i Inv-loop μ-loop
@@ -49,14 +48,16 @@ loop-less c = search needs
 loop-again : tie.Need-loop-again Inv-loop μ-loop
 unfolding stepsOn oneMore
 loop-again c =
-    let f : List ℕ = c .before .before .before .before .before .before .before .before .before .before .before .before .before .args .file .now in
-    let t : List ℕ = c .before .before .before .before .before .before .before .before .before .before .before .before .before .args .tables .now in
+    let a = c .before .before .before .before .before .before .before .before .before .before .before .before .args in
+    let f : List ℕ = a .file .now in
+    let t : List ℕ = a .tables .now in
+    let counts : Tally = a .counts in
     let l = c .before .before .before .before .before .before .before .before .loop in
     let i : ℕ = l .i in
-    let at : (u : List ℕ) (y : Tally) → u ≡ stepsOn f i t newTally .tables → y ≡ stepsOn f i t newTally .tally
-    → oneMore (stepsOn f i t newTally) (stepOn f i u y) ≡ stepsOn f (i + 1) t newTally =
+    let at : (u : List ℕ) (y : Tally) → u ≡ stepsOn f i t counts .tables → y ≡ stepsOn f i t counts .tally
+    → oneMore (stepsOn f i t counts) (stepOn f i u y) ≡ stepsOn f (i + 1) t counts =
     λ u y p q. rw (p, q, add-one) refl in
-    let next : oneMore (stepsOn f i t newTally) (stepOn f i (l .tables) (l .tally)) ≡ stepsOn f (i + 1) t newTally =
+    let next : oneMore (stepsOn f i t counts) (stepOn f i (l .tables) (l .tally)) ≡ stepsOn f (i + 1) t counts =
     at (l .tables) (l .tally) (l .inv .2) (l .inv .3) in (
       search needs,
       search needs,
@@ -69,13 +70,13 @@ same-length c = search needs
 
 returns : tie.Need-returns Inv-loop μ-loop
 returns c =
-    let c3 = c .before .before .before in
-    let c6 = c3 .before .before .before in
-    let f : List ℕ = c6 .args .file .now in
-    let t : List ℕ = c6 .args .tables .now in
+    let c2 = c .before .before in
+    let a = c2 .before .before .before .args in
+    let f : List ℕ = a .file .now in
+    let t : List ℕ = a .tables .now in
     let l = c .before .loop in
-    let end : l .i ≡ countOf f = le-antisymm (omega (arith, c3 .count .ensures, l .inv .0)) (omega (arith, c3 .count .ensures, c .loop-test .left)) in
-    l .inv .2 ∙ ap (λ (n : ℕ). stepsOn f n t newTally .tables) end
+    let end : l .i ≡ countOf f = le-antisymm (omega (arith, c2 .count .ensures, l .inv .0)) (omega (arith, c2 .count .ensures, c .loop-test .left)) in
+    l .inv .2 ∙ ap (λ (n : ℕ). stepsOn f n t (a .counts) .tables) end
 
 pub replay-spec : {M : Type 1} → statement M
 replay-spec =

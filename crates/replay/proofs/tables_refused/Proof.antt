@@ -49,7 +49,7 @@ returns c =
     let c3 = c .before .before .before in
     let c5 = c3 .before .before in
     let c7 = c5 .before .before in
-    let n = c7 .before .before .args .refusal in
+    let n = c7 .before .args .refusal in
     let grown = c3 .with-word .ensures in
     rw (
       c .with-character .ensures,

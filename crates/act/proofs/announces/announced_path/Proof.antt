@@ -21,8 +21,8 @@ port-mode-requires c κs = search needs
 path-lifetime-requires : tie.Need-path-lifetime-requires
 path-lifetime-requires c κs = search needs
 
-add-t9 : tie.Need-add-t9
-add-t9 c = search needs
+add-t10 : tie.Need-add-t10
+add-t10 c = search needs
 
 returns : tie.Need-returns
 unfolding announcedBy viewAt
@@ -41,5 +41,5 @@ announced-path-spec =
     wide-requires
     port-mode-requires
     path-lifetime-requires
-    add-t9
+    add-t10
     returns)

@@ -1,36 +1,39 @@
-use Prim.Native.Nat.{ℕ, _+_, _*_, _-_, _≤_, _<_}
-use native.Mathlib.Nat.{mul-suc}
-use mathlib.Core.Path.{_≡_, ap, _∙_}
-use mathlib.Core.List.{List}
-use lib.ListN.{length, take, drop}
-use Rattle.octets.specs.Part.{part}
-use Rattle.octets.proofs.Part.{part-range, range-length}
-use Rattle.lookup.specs.Search.{lastWord, isLiveOf, lowestRow}
-use Rattle.lookup.proofs.Searches.{none-yet, not-here, found-here, nowhere}
-use Rattle.tables.specs.Layout.{recordAt}
-use Rattle.tables.proofs.Lent.{row-end}
+use Prim.Native.Nat.{ℕ, _+_, _*_, _-_, _≤_}
+use native.Mathlib.Nat.{mul-add}
 use native.Mathlib.Omega.{arith}
+use mathlib.Core.List.{List}
+use mathlib.Core.Path.{_≡_, sym, ap, _∙_}
+use lib.ListN.{length}
+use Rattle.lookup.specs.Search.{lastWord, isLiveOf, lowestRow}
+use Rattle.lookup.proofs.Searches.{none-yet, within-run, runs, run-passed, run-found}
 use borrow.Author.Needs.{needs}
 use Rattle.lookup.proofs.search.live_place.Statement.{statement}
 use Rattle.lookup.proofs.search.live_place.Tie as tie
 
 abbrev Inv-loop : tie.InvT-loop
-Inv-loop tables at width count expiry key clock last i₀ from₀ i from =
+Inv-loop tables at width count expiry key clock tail last i₀ from₀ i from =
     (i ≤ count) × (lowestRow (isLiveOf key expiry clock) at width i tables ≡ i) × (from ≡ at + width * i)
 
 abbrev μ-loop : tie.MeasureT-loop
-μ-loop tables at width count expiry key clock last i₀ from₀ i from = count - i
+μ-loop tables at width count expiry key clock tail last i₀ from₀ i from = count - i
 
--- the record at place i ends within the tables
-within : (tables : List ℕ) (at width count i from : ℕ) → at + width * count ≤ length tables → i < count → from ≡ at + width * i → from + width ≤ length tables
-within tables at width count i from fits l e = omega (arith, row-end at width count i l)
+-- the n records from place i on end within the tables
+within : (tables : List ℕ) (at width count i n from : ℕ) → at + width * count ≤ length tables → i + n ≤ count → from ≡ at + width * i
+    → from + width * n ≤ length tables
+within tables at width count i n from fits l e =
+    let all : i + n + (count - (i + n)) ≡ count = omega arith in
+    omega (arith, mul-add width i n, mul-add width (i + n) (count - (i + n)), ap (λ (x : ℕ). width * x) all)
 
--- and its bytes are the row's
-row : (tables : List ℕ) (at width i from : ℕ) → from ≡ at + width * i → take (from + width - from) (drop from tables) ≡ recordAt at width tables i
-row tables at width i from e = part-range tables from width ∙ ap (λ (n : ℕ). part tables n width) e
+four-within : (c : tie.In-loop Inv-loop μ-loop)
+    → c .before .loop .from + c .before .before .before .before .before .args .width * 4 ≤ length (c .before .before .before .before .before .args .tables .now)
+four-within c =
+    let s = c .before .before .before .before .before in
+    let a = s .args in
+    within (a .tables .now) (a .at) (a .width) (a .count) (c .before .loop .i) 4 (c .before .loop .from) (s .pre .0)
+    (omega (arith, c .loop-test .taken)) (c .before .loop .inv .2)
 
-sub-word-at : tie.Need-sub-word-at Inv-loop μ-loop
-sub-word-at c = search needs
+sub-tail : tie.Need-sub-tail Inv-loop μ-loop
+sub-tail c = search needs
 
 word-at-requires : tie.Need-word-at-requires Inv-loop μ-loop
 word-at-requires c κs = search needs
@@ -38,56 +41,30 @@ word-at-requires c κs = search needs
 loop-holds : tie.Need-loop-holds Inv-loop μ-loop
 loop-holds c = (search needs, none-yet _ _ _ _, omega arith)
 
-add-is-live-of : tie.Need-add-is-live-of Inv-loop μ-loop
-add-is-live-of c =
-    let c5 = c .before .before .before .before .before in
-    let a = c5 .args in
-    let w = within (a .tables .now) (a .at) (a .width) (a .count) (c .before .loop .i) (c .before .loop .from) (c5 .pre .0) (c .loop-test .taken)
-    (c .before .loop .inv .2) in
-    search needs
+sub-loop : tie.Need-sub-loop Inv-loop μ-loop
+sub-loop c = search needs
 
-sub-is-live-of : tie.Need-sub-is-live-of Inv-loop μ-loop
-sub-is-live-of c = search needs
-
-part-is-live-of-start : tie.Need-part-is-live-of-start Inv-loop μ-loop
-part-is-live-of-start c = search needs
-
-part-is-live-of-end : tie.Need-part-is-live-of-end Inv-loop μ-loop
-part-is-live-of-end c =
-    let c5 = c .before .before .before .before .before in
-    let a = c5 .args in
-    let w = within (a .tables .now) (a .at) (a .width) (a .count) (c .before .loop .i) (c .before .loop .from) (c5 .pre .0) (c .loop-test .taken)
-    (c .before .loop .inv .2) in
-    search needs
-
-is-live-of-requires : tie.Need-is-live-of-requires Inv-loop μ-loop
+live-of-four-requires : tie.Need-live-of-four-requires Inv-loop μ-loop
 unfolding lastWord
-is-live-of-requires c κs =
-    let c3 = c .before .before .before in
-    let c6 = c3 .before .before .before in
-    let a = c6 .args in
-    let w = within (a .tables .now) (a .at) (a .width) (a .count) (c .before .before .loop .i) (c .before .before .loop .from) (c6 .pre .0)
-    (c .before .loop-test .taken) (c .before .before .loop .inv .2) in
-    let wide = range-length (a .tables .now) (c .before .before .loop .from) (a .width) w in
-    (omega (arith, wide, c6 .pre .1), omega (arith, wide, c6 .pre .2), c6 .pre .3, c3 .word-at .ensures)
+live-of-four-requires c κs =
+    let s = c .before .before .before .before .before in
+    (four-within c, s .pre .1, s .pre .2, omega (arith, s .pre .3), c .before .before .word-at .ensures)
+
+add-result : tie.Need-add-result Inv-loop μ-loop
+add-result c = search needs
 
 returns : tie.Need-returns Inv-loop μ-loop
 returns c =
-    let c3 = c .before .before .before in
-    let c4 = c3 .before in
-    let c8 = c4 .before .before .before .before in
-    let a = c8 .args in
-    found-here _ _ _ _ _ (row (a .tables .now) (a .at) (a .width) (c4 .loop .i) (c4 .loop .from) (c4 .loop .inv .2)) (c .before .is-live-of .ensures)
-    _ (c3 .loop-test .taken) (c .if1 .taken) (c4 .loop .inv .1)
+    let at = c .before .before .before in
+    let a = at .before .before .before .before .args in
+    run-found _ _ _ _ (at .loop .i) 4 (at .loop .inv .2) (at .loop .inv .1) (c .before .live-of-four .ensures) _
+    (omega (arith, c .before .before .loop-test .taken)) (c .if1 .taken)
+
+mul-from : tie.Need-mul-from Inv-loop μ-loop
+mul-from c = let w = four-within (c .before .before) in search needs
 
 add-from : tie.Need-add-from Inv-loop μ-loop
-add-from c =
-    let c3 = c .before .before .before in
-    let c4 = c3 .before in
-    let c8 = c4 .before .before .before .before in
-    let a = c8 .args in
-    let w = within (a .tables .now) (a .at) (a .width) (a .count) (c4 .loop .i) (c4 .loop .from) (c8 .pre .0) (c3 .loop-test .taken) (c4 .loop .inv .2) in
-    search needs
+add-from c = let w = four-within (c .before .before) in search needs
 
 add-i : tie.Need-add-i Inv-loop μ-loop
 add-i c = search needs
@@ -97,17 +74,44 @@ loop-less c = search needs
 
 loop-again : tie.Need-loop-again Inv-loop μ-loop
 loop-again c =
-    let c4 = c .before .before .before .before in
-    let c8 = c4 .before .before .before .before in
-    let a = c8 .args in (
+    let at = c .before .before .before in
+    let a = at .before .before .before .before .args in (
       search needs,
-      not-here _ _ _ _ _ (row (a .tables .now) (a .at) (a .width) (c4 .loop .i) (c4 .loop .from) (c4 .loop .inv .2)) (c .before .is-live-of .ensures)
-          (c .if1 .left) (c4 .loop .inv .1),
-      omega (arith, c4 .loop .inv .2, mul-suc (a .width) (c4 .loop .i)),
+      run-passed _ _ _ _ (at .loop .i) 4 (at .loop .inv .2) (at .loop .inv .1) (c .before .live-of-four .ensures) (c .if1 .left),
+      omega (arith, at .loop .inv .2, mul-add (a .width) (at .loop .i) 4),
     )
 
+sub-live-each : tie.Need-sub-live-each Inv-loop μ-loop
+sub-live-each c = search needs
+
+live-each-requires : tie.Need-live-each-requires Inv-loop μ-loop
+unfolding lastWord
+live-each-requires c κs =
+    let at = c .before in
+    let s = at .before .before .before .before in
+    let a = s .args in (
+      within (a .tables .now) (a .at) (a .width) (a .count) (at .loop .i) (a .count - at .loop .i) (at .loop .from) (s .pre .0)
+          (omega (arith, at .loop .inv .0)) (at .loop .inv .2),
+      s .pre .1,
+      s .pre .2,
+      s .pre .3,
+      at .before .word-at .ensures,
+    )
+
+add-result-2 : tie.Need-add-result-2 Inv-loop μ-loop
+add-result-2 c =
+    let at = c .before .before in
+    let a = at .before .before .before .before .args in
+    let w = within-run _ _ _ _ (at .loop .i) (a .count - at .loop .i) (at .loop .inv .2) (at .loop .inv .1) (c .live-each .ensures) in
+    search needs
+
 returns-2 : tie.Need-returns-2 Inv-loop μ-loop
-returns-2 c = nowhere _ _ _ _ (c .before .loop .inv .0) (c .loop-test .left) (c .before .loop .inv .1)
+returns-2 c =
+    let at = c .before .before in
+    let a = at .before .before .before .before .args in
+    let all : at .loop .i + (a .count - at .loop .i) ≡ a .count = omega (arith, at .loop .inv .0) in
+    sym (runs _ _ _ _ (at .loop .i) (a .count - at .loop .i) (at .loop .inv .2) (at .loop .inv .1) (c .live-each .ensures))
+    ∙ ap (λ (n : ℕ). lowestRow (isLiveOf (a .key .now) (a .expiry) (a .clock)) (a .at) (a .width) n (a .tables .now)) all
 
 pub live-place-spec : {M : Type 1} → statement M
 live-place-spec =
@@ -115,17 +119,19 @@ live-place-spec =
     (tie.spec
     Inv-loop
     μ-loop
-    sub-word-at
+    sub-tail
     word-at-requires
     loop-holds
-    add-is-live-of
-    sub-is-live-of
-    part-is-live-of-start
-    part-is-live-of-end
-    is-live-of-requires
+    sub-loop
+    live-of-four-requires
+    add-result
     returns
+    mul-from
     add-from
     add-i
     loop-less
     loop-again
+    sub-live-each
+    live-each-requires
+    add-result-2
     returns-2)

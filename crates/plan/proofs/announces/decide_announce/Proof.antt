@@ -4,11 +4,10 @@ use Rattle.packet.specs.declared.Parts.{Parts}
 use Rattle.rules.specs.View.{pathPlace}
 use Rattle.tables.proofs.Whole.{formed}
 use Rattle.tables.specs.Layout.{relayOf}
-use Rattle.lookup.proofs.Found.{path-blobs-ok}
 use Rattle.outgoing.proofs.LeavingLaws.{whole}
 use Rattle.plan.specs.Decided.{arrivalOf}
 use Rattle.plan.proofs.KindLaws.{announce-long}
-use Rattle.plan.proofs.AnnounceLaws.{announce-unsigned, announce-at, announce-nowhere}
+use Rattle.plan.proofs.AnnounceLaws.{can-know, announce-unsigned, announce-at, announce-nowhere}
 use Rattle.packet.specs.Read.{longestPacket}
 use Rattle.rules.specs.Arrival.{Arrival}
 use Prim.Native.Nat.{ℕ}
@@ -51,8 +50,7 @@ known-path-requires c κs =
     let (judged, good, is) = s .pre in
     let clock = s .args .arrived .clock in (
       record { readable = judged .readable; size = formed (t s) (judged .formed) .size },
-      c .if2 .taken,
-      path-blobs-ok (t s) clock _ (c1 .path-place .result) (c1 .path-place .ensures) (judged .formed) (c .if2 .taken),
+      can-know (t s) clock _ (c1 .path-place .result) (c1 .path-place .ensures) (judged .formed) (c .if2 .taken),
       announce-long (a s) good is,
     )
 

@@ -1,13 +1,10 @@
 use mathlib.Core.Path.{sym, ap, _∙_}
 use lib.ListN.{length}
 use native.Mathlib.Omega.{arith}
-use Rattle.octets.specs.Part.{part}
 use Rattle.octets.proofs.Bytes.{known-bytes}
-use Rattle.octets.proofs.Part.{part-length}
-use Rattle.tables.specs.Places.{tableSize}
-use Rattle.saved.specs.File.{bodiesAt}
+use Rattle.recording.specs.Shape.{editionOf}
 use Rattle.saved.specs.Load.{LoadedOn}
-use Rattle.saved.proofs.LoadLaws.{taken, tables-held, tally-held, load-done, load-refused}
+use Rattle.saved.proofs.LoadLaws.{taken, has-tables, tables-held, tally-held, load-done, load-refused}
 use borrow.Author.Needs.{needs}
 use Rattle.saved.proofs.loading.load.Statement.{statement}
 use Rattle.saved.proofs.loading.load.Tie as tie
@@ -26,30 +23,34 @@ returns c =
       sym (ap (λ (x : LoadedOn). x .tally) refused),
     )
 
-sub-copy : tie.Need-sub-copy
-sub-copy c = search needs
-
-part-copy-start : tie.Need-part-copy-start
-part-copy-start c = search needs
-
-part-copy-end : tie.Need-part-copy-end
-part-copy-end c =
-    let c2 = c .before .before in
+shared-slice-read-write-tables : tie.Need-shared-slice-read-write-tables
+shared-slice-read-write-tables c =
+    let c1 = c .before in
+    let c2 = c1 .before in
     let c5 = c2 .before .before .before in
     let f = c5 .args .file .now in
-    let t = taken f (length (c5 .args .tables .now)) (sym (c2 .load-refusal .ensures) ∙ c .before .if1 .left) in
-    let long = t .long in
-    search needs
+    let t = taken f (length (c5 .args .tables .now)) (sym (c2 .load-refusal .ensures) ∙ c1 .if1 .left) in
+    omega (arith, t .long)
 
-copy-requires : tie.Need-copy-requires
-unfolding part
-copy-requires c κs =
+write-tables-requires : tie.Need-write-tables-requires
+unfolding editionOf
+write-tables-requires c κs =
     let c2 = c .before .before in
     let c3 = c2 .before in
     let c6 = c3 .before .before .before in
     let f = c6 .args .file .now in
     let t = taken f (length (c6 .args .tables .now)) (sym (c3 .load-refusal .ensures) ∙ c2 .if1 .left) in
-    t .room ∙ sym (part-length f bodiesAt tableSize (omega (arith, t .long)))
+    (t .known, has-tables f (length (c6 .args .tables .now)) t, t .room)
+
+sub-tally-at : tie.Need-sub-tally-at
+sub-tally-at c =
+    let c5 = c .before .before .before .before .before in
+    let c6 = c5 .before in
+    let c9 = c6 .before .before .before in
+    let f = c9 .args .file .now in
+    let t = taken f (length (c9 .args .tables .now)) (sym (c6 .load-refusal .ensures) ∙ c5 .if1 .left) in
+    let long = t .long in
+    search needs
 
 tally-at-requires : tie.Need-tally-at-requires
 tally-at-requires c κs =
@@ -64,7 +65,7 @@ same-length : tie.Need-same-length
 same-length c = search needs
 
 returns-2 : tie.Need-returns-2
-unfolding part
+unfolding editionOf
 returns-2 c =
     let c3 = c .before .before .before in
     let c6 = c3 .before .before .before in
@@ -76,8 +77,8 @@ returns-2 c =
     let b = known-bytes f (c9 .shared-slice-known .given) in
     let done = load-done f (c10 .args .tables .now) (c10 .args .tally) (sym (c7 .load-refusal .ensures) ∙ c6 .if1 .left) in (
       sym (ap (λ (x : LoadedOn). x .refusal) done),
-      c3 .copy .ensures ∙ tables-held f _ b t ∙ sym (ap (λ (x : LoadedOn). x .tables) done),
-      c .tally-at .ensures ∙ tally-held f _ b t ∙ sym (ap (λ (x : LoadedOn). x .tally) done),
+      c3 .write-tables .ensures ∙ tables-held f _ t b ∙ sym (ap (λ (x : LoadedOn). x .tables) done),
+      c .tally-at .ensures ∙ tally-held f _ t _ (omega (arith, t .long)) ∙ sym (ap (λ (x : LoadedOn). x .tally) done),
     )
 
 pub load-spec : {M : Type 1} → statement M
@@ -86,10 +87,9 @@ load-spec =
     (tie.spec
     load-refusal-requires
     returns
-    sub-copy
-    part-copy-start
-    part-copy-end
-    copy-requires
+    shared-slice-read-write-tables
+    write-tables-requires
+    sub-tally-at
     tally-at-requires
     same-length
     returns-2)

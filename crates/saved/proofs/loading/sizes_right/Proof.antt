@@ -6,6 +6,7 @@ use native.Mathlib.Nat.{le-antisymm}
 use borrow.Author.Tests.{eq-eqb}
 use Rattle.octets.specs.Index.{allBelow}
 use Rattle.octets.proofs.Index.{all-none, all-more}
+use Rattle.saved.specs.Editions.{editionAt}
 use Rattle.saved.specs.File.{bodyCount}
 use Rattle.saved.proofs.LoadLaws.{sized, size-wrong, sizes-right}
 use borrow.Author.Needs.{needs}
@@ -13,13 +14,13 @@ use Rattle.saved.proofs.loading.sizes_right.Statement.{statement}
 use Rattle.saved.proofs.loading.sizes_right.Tie as tie
 
 abbrev Inv-loop : tie.InvT-loop
-Inv-loop file body₀ body = (body ≤ bodyCount) × (allBelow (sized file) body ≡ true)
+Inv-loop file edition body₀ body = (body ≤ bodyCount) × (allBelow (sized file (editionAt edition)) body ≡ true)
 
 abbrev μ-loop : tie.MeasureT-loop
-μ-loop file body₀ body = bodyCount - body
+μ-loop file edition body₀ body = bodyCount - body
 
 loop-holds : tie.Need-loop-holds Inv-loop μ-loop
-loop-holds c = (search needs, all-none (sized (c .before .args .file .now)))
+loop-holds c = (search needs, all-none (sized (c .before .args .file .now) (editionAt (c .before .args .edition))))
 
 length-of-requires : tie.Need-length-of-requires Inv-loop μ-loop
 length-of-requires c κs = search needs
@@ -33,7 +34,7 @@ returns c =
     let c3 = c2 .before in
     let c4 = c3 .before in
     let c6 = c4 .before .before in
-    sym (size-wrong (c6 .args .file .now) (c4 .loop .body) (omega (arith, c3 .loop-test .taken))
+    sym (size-wrong (c6 .args .file .now) (editionAt (c6 .args .edition)) (c4 .loop .body) (omega (arith, c3 .loop-test .taken))
     (λ q. c .if1 .taken (c2 .length-of .ensures ∙ q ∙ sym (c .before .width-of .ensures))))
 
 add-body : tie.Need-add-body Inv-loop μ-loop
@@ -49,13 +50,14 @@ loop-again c =
     let c6 = c4 .before .before in
     let f = c6 .args .file .now in
     let right = sym (c2 .length-of .ensures) ∙ c .if1 .left ∙ c .before .width-of .ensures in
-    (search needs, all-more (sized f) (c4 .loop .body) (c4 .loop .inv .1) (eq-eqb _ _ right))
+    (search needs, all-more (sized f (editionAt (c6 .args .edition))) (c4 .loop .body) (c4 .loop .inv .1) (eq-eqb _ _ right))
 
 returns-2 : tie.Need-returns-2 Inv-loop μ-loop
 returns-2 c =
     let c3 = c .before .before .before in
     let f = c3 .args .file .now in
-    sym (sizes-right f (ap (allBelow (sized f)) (sym (le-antisymm (c .before .loop .inv .0) (c .loop-test .left))) ∙ c .before .loop .inv .1))
+    let form = editionAt (c3 .args .edition) in
+    sym (sizes-right f form (ap (allBelow (sized f form)) (sym (le-antisymm (c .before .loop .inv .0) (c .loop-test .left))) ∙ c .before .loop .inv .1))
 
 pub sizes-right-spec : {M : Type 1} → statement M
 sizes-right-spec =

@@ -9,7 +9,8 @@ use Rattle.recording.proofs.Sums.{sum-none, sum-more}
 use Rattle.saved.specs.Editions.{current, widthAt}
 use Rattle.saved.specs.File.{bodyCount, headWidth, bodiesAt}
 use Rattle.saved.specs.Steps.{entryBytes, contentsBytes}
-use Rattle.saved.proofs.Widths.{width-within}
+use Rattle.tables.specs.Forms.{today}
+use Rattle.saved.proofs.Widths.{width-within, now-known}
 use Rattle.saved.proofs.SaveLaws.{contents-none, contents-more}
 use native.Mathlib.Omega.{arith}
 use borrow.Author.Needs.{needs}
@@ -33,13 +34,13 @@ write-entry-requires c κs =
     (c .before .loop-test .taken, omega (arith, c4 .pre, c2 .loop .inv .1 .0))
 
 width-of-requires : tie.Need-width-of-requires Inv-loop μ-loop
-width-of-requires c κs = search needs
+width-of-requires c κs = search (now-known, needs)
 
 add-offset : tie.Need-add-offset Inv-loop μ-loop
 add-offset c =
     let c5 = c .before .before .before .before .before in
     let c6 = c5 .before in
-    let within = width-within (c6 .loop .i) (c5 .loop-test .taken) in
+    let within = width-within today (c6 .loop .i) (c5 .loop-test .taken) in
     record { fits = omega (arith, c .width-of .ensures, c6 .loop .inv .1 .1 .0) }
 
 add-i : tie.Need-add-i Inv-loop μ-loop

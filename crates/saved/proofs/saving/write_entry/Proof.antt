@@ -5,6 +5,7 @@ use Rattle.octets.specs.Part.{patch}
 use Rattle.octets.specs.BigEndian.{bigEndian}
 use Rattle.saved.specs.Steps.{entryBytes}
 use Rattle.saved.proofs.SaveLaws.{entry-written}
+use Rattle.saved.proofs.Widths.{now-known}
 use native.Mathlib.Omega.{arith}
 use borrow.Author.Needs.{needs}
 use Rattle.saved.proofs.saving.write_entry.Statement.{statement}
@@ -20,7 +21,7 @@ add-write-number-at : tie.Need-add-write-number-at
 add-write-number-at c = search needs
 
 width-of-requires : tie.Need-width-of-requires
-width-of-requires c κs = search needs
+width-of-requires c κs = search (now-known, needs)
 
 write-number-at-requires-2 : tie.Need-write-number-at-requires-2
 write-number-at-requires-2 c κs = search needs

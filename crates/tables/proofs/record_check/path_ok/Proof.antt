@@ -77,19 +77,44 @@ number-of-8-at-requires c κs = search needs
 returns-5 : tie.Need-returns-5
 unfolding pathOk pathOf blobsOf timeOk _and_
 returns-5 c =
+    let c2 = c .before .before in
+    let c4 = c2 .before .before in
+    let c6 = c4 .before .before in
+    let c8 = c6 .before .before in
+    let c10 = c8 .before .before in
+    rw (
+      path-test _,
+      slot-used pathWidth _ _ (c8 .if1 .left),
+      lt-ltb _ _ (c6 .if2 .left),
+      lt-ltb _ 256 (c10 .shared-slice-known .given pathHopsAt .fits),
+      le-leb _ _ (c4 .if3 .left),
+      le-leb _ _ (c2 .if4 .left),
+      ← c .before .number-of-8-at .ensures,
+      lt-leb _ _ (c .if5 .taken),
+    )
+
+rate-ok-requires : tie.Need-rate-ok-requires
+rate-ok-requires c κs = search needs
+
+returns-6 : tie.Need-returns-6
+unfolding pathOk pathOf blobsOf timeOk _and_
+returns-6 c =
     let c3 = c .before .before .before in
     let c5 = c3 .before .before in
     let c7 = c5 .before .before in
     let c9 = c7 .before .before in
+    let c11 = c9 .before .before in
     rw (
       path-test _,
-      slot-used pathWidth _ _ (c7 .if1 .left),
-      lt-ltb _ _ (c5 .if2 .left),
-      lt-ltb _ 256 (c9 .shared-slice-known .given pathHopsAt .fits),
-      le-leb _ _ (c3 .if3 .left),
-      le-leb _ _ (c .before .if4 .left),
-      ← c .number-of-8-at .ensures,
+      slot-used pathWidth _ _ (c9 .if1 .left),
+      lt-ltb _ _ (c7 .if2 .left),
+      lt-ltb _ 256 (c11 .shared-slice-known .given pathHopsAt .fits),
+      le-leb _ _ (c5 .if3 .left),
+      le-leb _ _ (c3 .if4 .left),
+      ← c .before .before .number-of-8-at .ensures,
+      le-leb _ _ (c .before .if5 .left),
     )
+    (c .rate-ok .ensures)
 
 pub path-ok-spec : {M : Type 1} → statement M
 path-ok-spec =
@@ -107,4 +132,6 @@ path-ok-spec =
     cast-if4
     returns-4
     number-of-8-at-requires
-    returns-5)
+    returns-5
+    rate-ok-requires
+    returns-6)

@@ -3,7 +3,7 @@ use mathlib.Core.Path.{_≡_}
 use mathlib.Core.Bool.{true}
 use Rattle.octets.proofs.Index.{ended}
 use Rattle.numbers.specs.Numbers.{hashCount}
-use Rattle.tables.specs.Places.{hashWidth, hashesAt}
+use Rattle.tables.specs.Places.{hashWidth}
 use Rattle.tables.specs.Records.{hashBytesOk}
 use Rattle.tables.specs.Layout.{recordsOk}
 use Rattle.tables.specs.Groups.{groupSize}
@@ -14,22 +14,22 @@ use Rattle.tables.proofs.section_check.hashes_ok.Statement.{statement}
 use Rattle.tables.proofs.section_check.hashes_ok.Tie as tie
 
 abbrev Inv-loop : tie.InvT-loop
-Inv-loop t g₀ g = (g ≤ hashCount / groupSize) × (recordsOk hashBytesOk hashesAt hashWidth (groupSize * g) t ≡ true)
+Inv-loop t at g₀ g = (g ≤ hashCount / groupSize) × (recordsOk hashBytesOk at hashWidth (groupSize * g) t ≡ true)
 
 abbrev μ-loop : tie.MeasureT-loop
-μ-loop t g₀ g = hashCount / groupSize - g
+μ-loop t at g₀ g = hashCount / groupSize - g
 
 loop-holds : tie.Need-loop-holds Inv-loop μ-loop
-loop-holds c = (search needs, none-yet hashBytesOk hashesAt hashWidth _)
+loop-holds c = (search needs, none-yet hashBytesOk (c .before .args .at) hashWidth _)
 
-mul-at : tie.Need-mul-at Inv-loop μ-loop
-mul-at c = search needs
+mul-start : tie.Need-mul-start Inv-loop μ-loop
+mul-start c = search needs
 
-mul-at-2 : tie.Need-mul-at-2 Inv-loop μ-loop
-mul-at-2 c = search needs
+mul-start-2 : tie.Need-mul-start-2 Inv-loop μ-loop
+mul-start-2 c = search needs
 
-add-at : tie.Need-add-at Inv-loop μ-loop
-add-at c = search needs
+add-start : tie.Need-add-start Inv-loop μ-loop
+add-start c = search needs
 
 mul-hash-group-ok : tie.Need-mul-hash-group-ok Inv-loop μ-loop
 mul-hash-group-ok c = search needs
@@ -52,7 +52,7 @@ hash-group-ok-requires c κs = search needs
 returns : tie.Need-returns Inv-loop μ-loop
 returns c =
     let c4 = c .before .before .before .before in
-    group-fails hashBytesOk hashesAt hashWidth _ _ (c .before .hash-group-ok .ensures) (c4 .loop .inv .1) hashCount (omega arith) (c .if1 .taken)
+    group-fails hashBytesOk _ hashWidth _ _ (c .before .hash-group-ok .ensures) (c4 .loop .inv .1) hashCount (omega arith) (c .if1 .taken)
 
 add-g : tie.Need-add-g Inv-loop μ-loop
 add-g c = search needs
@@ -63,12 +63,12 @@ loop-less c = search needs
 loop-again : tie.Need-loop-again Inv-loop μ-loop
 loop-again c =
     let c4 = c .before .before .before .before in
-    (search needs, group-passes hashBytesOk hashesAt hashWidth _ _ (c .before .hash-group-ok .ensures) (c4 .loop .inv .1) (c .if1 .left))
+    (search needs, group-passes hashBytesOk _ hashWidth _ _ (c .before .hash-group-ok .ensures) (c4 .loop .inv .1) (c .if1 .left))
 
 returns-2 : tie.Need-returns-2 Inv-loop μ-loop
 returns-2 c =
     let c3 = c .before .before .before in
-    ended (λ (k : ℕ). recordsOk hashBytesOk hashesAt hashWidth (groupSize * k) (c3 .args .t .now)) (c .before .loop .inv .0) (c .loop-test .left)
+    ended (λ (k : ℕ). recordsOk hashBytesOk (c3 .args .at) hashWidth (groupSize * k) (c3 .args .t .now)) (c .before .loop .inv .0) (c .loop-test .left)
     (c .before .loop .inv .1)
 
 pub hashes-ok-spec : {M : Type 1} → statement M
@@ -78,9 +78,9 @@ hashes-ok-spec =
     Inv-loop
     μ-loop
     loop-holds
-    mul-at
-    mul-at-2
-    add-at
+    mul-start
+    mul-start-2
+    add-start
     mul-hash-group-ok
     add-hash-group-ok
     sub-hash-group-ok

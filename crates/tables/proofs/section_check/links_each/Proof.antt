@@ -3,7 +3,7 @@ use mathlib.Core.Path.{_≡_}
 use mathlib.Core.Bool.{true}
 use Rattle.octets.proofs.Index.{ended}
 use Rattle.numbers.specs.Numbers.{linkCount}
-use Rattle.tables.specs.Places.{linkWidth, linksAt}
+use Rattle.tables.specs.Places.{linkWidth}
 use Rattle.tables.specs.Records.{linkBytesOk}
 use Rattle.tables.specs.Layout.{recordsOk}
 use Rattle.tables.proofs.Loops.{none-yet, row-passes, row-fails}
@@ -12,19 +12,19 @@ use Rattle.tables.proofs.section_check.links_each.Statement.{statement}
 use Rattle.tables.proofs.section_check.links_each.Tie as tie
 
 abbrev Inv-loop : tie.InvT-loop
-Inv-loop t i₀ i = (i ≤ linkCount) × (recordsOk linkBytesOk linksAt linkWidth i t ≡ true)
+Inv-loop t at i₀ i = (i ≤ linkCount) × (recordsOk linkBytesOk at linkWidth i t ≡ true)
 
 abbrev μ-loop : tie.MeasureT-loop
-μ-loop t i₀ i = linkCount - i
+μ-loop t at i₀ i = linkCount - i
 
 loop-holds : tie.Need-loop-holds Inv-loop μ-loop
-loop-holds c = (search needs, none-yet linkBytesOk linksAt linkWidth _)
+loop-holds c = (search needs, none-yet linkBytesOk (c .before .args .at) linkWidth _)
 
-mul-at : tie.Need-mul-at Inv-loop μ-loop
-mul-at c = search needs
+mul-start : tie.Need-mul-start Inv-loop μ-loop
+mul-start c = search needs
 
-add-at : tie.Need-add-at Inv-loop μ-loop
-add-at c = search needs
+add-start : tie.Need-add-start Inv-loop μ-loop
+add-start c = search needs
 
 add-link-ok : tie.Need-add-link-ok Inv-loop μ-loop
 add-link-ok c = search needs
@@ -42,7 +42,7 @@ link-ok-requires : tie.Need-link-ok-requires Inv-loop μ-loop
 link-ok-requires c κs = search needs
 
 returns : tie.Need-returns Inv-loop μ-loop
-returns c = row-fails linkBytesOk linksAt linkWidth _ _ (c .before .link-ok .ensures) linkCount (c .before .before .before .loop-test .taken) (c .if1 .taken)
+returns c = row-fails linkBytesOk _ linkWidth _ _ (c .before .link-ok .ensures) linkCount (c .before .before .before .loop-test .taken) (c .if1 .taken)
 
 add-i : tie.Need-add-i Inv-loop μ-loop
 add-i c = search needs
@@ -53,12 +53,13 @@ loop-less c = search needs
 loop-again : tie.Need-loop-again Inv-loop μ-loop
 loop-again c =
     let c4 = c .before .before .before .before in
-    (search needs, row-passes linkBytesOk linksAt linkWidth _ _ (c .before .link-ok .ensures) (c .if1 .left) (c4 .loop .inv .1))
+    (search needs, row-passes linkBytesOk _ linkWidth _ _ (c .before .link-ok .ensures) (c .if1 .left) (c4 .loop .inv .1))
 
 returns-2 : tie.Need-returns-2 Inv-loop μ-loop
 returns-2 c =
     let c3 = c .before .before .before in
-    ended (λ (k : ℕ). recordsOk linkBytesOk linksAt linkWidth k (c3 .args .t .now)) (c .before .loop .inv .0) (c .loop-test .left) (c .before .loop .inv .1)
+    ended (λ (k : ℕ). recordsOk linkBytesOk (c3 .args .at) linkWidth k (c3 .args .t .now)) (c .before .loop .inv .0)
+    (c .loop-test .left) (c .before .loop .inv .1)
 
 pub links-each-spec : {M : Type 1} → statement M
 links-each-spec =
@@ -67,8 +68,8 @@ links-each-spec =
     Inv-loop
     μ-loop
     loop-holds
-    mul-at
-    add-at
+    mul-start
+    add-start
     add-link-ok
     sub-link-ok
     part-link-ok-start

@@ -1,5 +1,5 @@
 use Rattle.numbers.specs.Numbers.{linkCount}
-use Rattle.tables.specs.Places.{linkWidth, linksAt}
+use Rattle.tables.specs.Places.{linkWidth}
 use Rattle.tables.specs.Forms.{linkForm}
 use Rattle.tables.specs.Records.{linkBytesOk}
 use Rattle.tables.proofs.Loops.{section-free}
@@ -34,7 +34,7 @@ returns : tie.Need-returns
 unfolding linkBytesOk
 returns c =
     let c6 = c .before .before .before .before .before .before in
-    section-free linkBytesOk linksAt linkWidth linkCount (c6 .args .t .now) (unused linkForm) (omega (arith, c6 .pre))
+    section-free linkBytesOk (c6 .args .at) linkWidth linkCount (c6 .args .t .now) (unused linkForm) (omega (arith, c6 .pre))
     (c .before .is-zero .ensures) (c .if2 .taken)
 
 links-each-requires : tie.Need-links-each-requires

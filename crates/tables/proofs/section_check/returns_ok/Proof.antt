@@ -3,7 +3,7 @@ use mathlib.Core.Path.{_≡_}
 use mathlib.Core.Bool.{true}
 use Rattle.octets.proofs.Index.{ended}
 use Rattle.numbers.specs.Numbers.{returnCount}
-use Rattle.tables.specs.Places.{returnWidth, returnsAt}
+use Rattle.tables.specs.Places.{returnWidth}
 use Rattle.tables.specs.Records.{returnBytesOk}
 use Rattle.tables.specs.Layout.{recordsOk}
 use Rattle.tables.specs.Groups.{groupSize}
@@ -14,22 +14,22 @@ use Rattle.tables.proofs.section_check.returns_ok.Statement.{statement}
 use Rattle.tables.proofs.section_check.returns_ok.Tie as tie
 
 abbrev Inv-loop : tie.InvT-loop
-Inv-loop t g₀ g = (g ≤ returnCount / groupSize) × (recordsOk returnBytesOk returnsAt returnWidth (groupSize * g) t ≡ true)
+Inv-loop t at g₀ g = (g ≤ returnCount / groupSize) × (recordsOk returnBytesOk at returnWidth (groupSize * g) t ≡ true)
 
 abbrev μ-loop : tie.MeasureT-loop
-μ-loop t g₀ g = returnCount / groupSize - g
+μ-loop t at g₀ g = returnCount / groupSize - g
 
 loop-holds : tie.Need-loop-holds Inv-loop μ-loop
-loop-holds c = (search needs, none-yet returnBytesOk returnsAt returnWidth _)
+loop-holds c = (search needs, none-yet returnBytesOk (c .before .args .at) returnWidth _)
 
-mul-at : tie.Need-mul-at Inv-loop μ-loop
-mul-at c = search needs
+mul-start : tie.Need-mul-start Inv-loop μ-loop
+mul-start c = search needs
 
-mul-at-2 : tie.Need-mul-at-2 Inv-loop μ-loop
-mul-at-2 c = search needs
+mul-start-2 : tie.Need-mul-start-2 Inv-loop μ-loop
+mul-start-2 c = search needs
 
-add-at : tie.Need-add-at Inv-loop μ-loop
-add-at c = search needs
+add-start : tie.Need-add-start Inv-loop μ-loop
+add-start c = search needs
 
 mul-return-group-ok : tie.Need-mul-return-group-ok Inv-loop μ-loop
 mul-return-group-ok c = search needs
@@ -52,7 +52,7 @@ return-group-ok-requires c κs = search needs
 returns : tie.Need-returns Inv-loop μ-loop
 returns c =
     let c4 = c .before .before .before .before in
-    group-fails returnBytesOk returnsAt returnWidth _ _ (c .before .return-group-ok .ensures) (c4 .loop .inv .1) returnCount (omega arith) (c .if1 .taken)
+    group-fails returnBytesOk _ returnWidth _ _ (c .before .return-group-ok .ensures) (c4 .loop .inv .1) returnCount (omega arith) (c .if1 .taken)
 
 add-g : tie.Need-add-g Inv-loop μ-loop
 add-g c = search needs
@@ -63,12 +63,12 @@ loop-less c = search needs
 loop-again : tie.Need-loop-again Inv-loop μ-loop
 loop-again c =
     let c4 = c .before .before .before .before in
-    (search needs, group-passes returnBytesOk returnsAt returnWidth _ _ (c .before .return-group-ok .ensures) (c4 .loop .inv .1) (c .if1 .left))
+    (search needs, group-passes returnBytesOk _ returnWidth _ _ (c .before .return-group-ok .ensures) (c4 .loop .inv .1) (c .if1 .left))
 
 returns-2 : tie.Need-returns-2 Inv-loop μ-loop
 returns-2 c =
     let c3 = c .before .before .before in
-    ended (λ (k : ℕ). recordsOk returnBytesOk returnsAt returnWidth (groupSize * k) (c3 .args .t .now)) (c .before .loop .inv .0)
+    ended (λ (k : ℕ). recordsOk returnBytesOk (c3 .args .at) returnWidth (groupSize * k) (c3 .args .t .now)) (c .before .loop .inv .0)
     (c .loop-test .left) (c .before .loop .inv .1)
 
 pub returns-ok-spec : {M : Type 1} → statement M
@@ -78,9 +78,9 @@ returns-ok-spec =
     Inv-loop
     μ-loop
     loop-holds
-    mul-at
-    mul-at-2
-    add-at
+    mul-start
+    mul-start-2
+    add-start
     mul-return-group-ok
     add-return-group-ok
     sub-return-group-ok

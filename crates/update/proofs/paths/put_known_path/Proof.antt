@@ -20,8 +20,8 @@ mul-at c = search needs
 add-at : tie.Need-add-at
 add-at c = search needs
 
-put-head-requires : tie.Need-put-head-requires
-put-head-requires c κs = search needs
+put-start-requires : tie.Need-put-start-requires
+put-start-requires c κs = search needs
 
 add-from : tie.Need-add-from
 add-from c = search needs
@@ -52,9 +52,9 @@ returns c =
     let a = c9 .args in
     let at : ℕ = pathsAt + pathWidth * a .place in
     let fits : at + pathWidth ≤ length (a .tables .now) = omega (arith, c9 .pre .0, c9 .pre .1) in
-    path-put (a .tables .now) _ at (a .path) fits (c6 .put-head .ensures) _ _
+    path-put (a .tables .now) _ at (a .path) fits (c6 .put-start .ensures) _ _
     (c .before .before .add-blob .ensures ∙ ap (λ (s : Blobs). blobsBytes (addBlob blobLimit (a .blob) s))
-    (blobs-kept (a .tables .now) _ at (a .path) fits (c6 .put-head .ensures)))
+    (blobs-kept (a .tables .now) _ at (a .path) fits (c6 .put-start .ensures)))
 
 pub put-known-path-spec : {M : Type 1} → statement M
 put-known-path-spec =
@@ -62,7 +62,7 @@ put-known-path-spec =
     (tie.spec
     mul-at
     add-at
-    put-head-requires
+    put-start-requires
     add-from
     add-add-blob
     sub-add-blob

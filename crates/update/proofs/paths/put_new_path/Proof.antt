@@ -13,8 +13,8 @@ mul-at c = search needs
 add-at : tie.Need-add-at
 add-at c = search needs
 
-put-head-requires : tie.Need-put-head-requires
-put-head-requires c κs = search needs
+put-start-requires : tie.Need-put-start-requires
+put-start-requires c κs = search needs
 
 add-from : tie.Need-add-from
 add-from c = search needs
@@ -44,7 +44,7 @@ returns c =
     let c9 = c6 .before .before .before in
     let a = c9 .args in
     let at : ℕ = pathsAt + pathWidth * a .place in
-    path-put (a .tables .now) _ at (a .path) (omega (arith, c9 .pre .0, c9 .pre .1)) (c6 .put-head .ensures) _ _ (c .before .before .one-blob .ensures)
+    path-put (a .tables .now) _ at (a .path) (omega (arith, c9 .pre .0, c9 .pre .1)) (c6 .put-start .ensures) _ _ (c .before .before .one-blob .ensures)
 
 pub put-new-path-spec : {M : Type 1} → statement M
 put-new-path-spec =
@@ -52,7 +52,7 @@ put-new-path-spec =
     (tie.spec
     mul-at
     add-at
-    put-head-requires
+    put-start-requires
     add-from
     add-one-blob
     sub-one-blob

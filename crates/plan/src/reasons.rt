@@ -19,6 +19,7 @@ pub fn reason_number(reason: Reason) -> u8
         Reason::NotSigned => 9,
         Reason::Replay => 10,
         Reason::NotBetter => 11,
+        Reason::RateLimited => 15,
         Reason::PortOff => 12,
         Reason::NoRoom => 13,
     }

@@ -1,0 +1,34 @@
+use mathlib.Core.Path.{refl, sym, _∙_}
+use Rattle.octets.proofs.Bytes.{known-bytes}
+use Rattle.act.proofs.Stays.{drop-limited, drop-stays}
+use borrow.Author.Needs.{needs}
+use Rattle.act.proofs.drops.drop_packet.Statement.{statement}
+use Rattle.act.proofs.drops.drop_packet.Tie as tie
+
+reason-number-requires : tie.Need-reason-number-requires
+reason-number-requires c κs = search needs
+
+limit-requires : tie.Need-limit-requires
+limit-requires c κs = search needs
+
+same-length : tie.Need-same-length
+same-length c = search needs
+
+returns : tie.Need-returns
+returns c =
+    let c2 = c .before .before in
+    let c5 = c2 .before .before .before in
+    let s = c5 .before .before .before in
+    let b = known-bytes (s .args .tables .now) (c5 .before .slice-known .given) in
+    (refl, c2 .limit .ensures ∙ drop-limited _ (s .args .arrived) _ (s .pre .formed) b _ (sym (c5 .reason-number .ensures) ∙ c2 .before .before .if1 .taken))
+
+returns-2 : tie.Need-returns-2
+returns-2 c =
+    let c1 = c .before in
+    let s = c1 .before .before .before in
+    let b = known-bytes (s .args .tables .now) (c1 .before .slice-known .given) in
+    (refl, drop-stays _ (s .args .arrived) _ (s .pre .formed) b _ (λ n. c .if1 .left (c1 .reason-number .ensures ∙ n)))
+
+pub drop-packet-spec : {M : Type 1} → statement M
+drop-packet-spec =
+    tie.close (tie.spec reason-number-requires limit-requires same-length returns returns-2)

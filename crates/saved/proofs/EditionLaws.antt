@@ -1,0 +1,315 @@
+-- A file of any edition, as the tables have it: what they then hold is what the file holds, and they pass refusal 7 exactly if its bodies do.
+use Prim.Native.Nat.{ℕ, zero, suc, _+_, _-_, _*_, _≤_, _<_}
+use native.Mathlib.Nat.{zero-add, add-zero, le-refl}
+use native.Mathlib.Numerals.{add-one}
+use native.Mathlib.Omega.{arith}
+use mathlib.Core.Bool.{Bool, true, false}
+use mathlib.Core.List.{List, [], _++_}
+use mathlib.Core.Path.{_≡_, refl, sym, ap, ap₂, _∙_}
+use lib.Dec.{lit<}
+use borrow.Author.Tests.{eq-eqb, ltb-true, leb-true}
+use lib.ListN.{length, getD, take, drop, replicate, length-append, take-append-drop}
+use Rattle.octets.specs.Bytes.{Bytes}
+use Rattle.octets.specs.Index.{_and_, allBelow, listOf, zeros}
+use Rattle.octets.specs.Part.{part, patch, joined}
+use Rattle.octets.specs.BigEndian.{number, bigEndian}
+use Rattle.octets.proofs.Index.{and-left, and-right, and-yes, all-none, all-more, all-fails, all-cong}
+use Rattle.octets.proofs.Bytes.{append-bytes, replicate-bytes, part-bytes}
+use Rattle.octets.proofs.Part.{part-length, part-part, part-mid, part-whole, patch-join, patch-whole}
+use Rattle.codes.specs.Form.{octetsIn, numberIn, many, slot, that, code}
+use Rattle.codes.proofs.Rows.{row-end}
+use Rattle.codes.proofs.Forms.{lawful}
+use Rattle.codes.proofs.Same.{Same, same-first, same-inside, same-byte}
+use Rattle.recording.specs.Shape.{sumBelow}
+use Rattle.recording.proofs.Sums.{sum-cong, sum-const, joined-sum, joined-found, joined-each-bytes, joined-none, joined-more, patch-three, part-last, part-front, part-back}
+use Rattle.numbers.specs.Numbers.{portCount, localCount, pathCount}
+use Rattle.rules.specs.Relay.{noPort, noRateSettings, noRateEntry, empty}
+use Rattle.rules.specs.Refusals.{timeOk, rateSettingsOk}
+use Rattle.tables.specs.Forms.{Edition, today, addressWidth, timeWidth, rateSettingsForm, rateEntryForm, portForm, localForm, headForm, blobsForm, pathFormIn, pathForm, backForm, relayFormIn, relayForm}
+use Rattle.tables.specs.Places.{portWidth, localWidth, pathWidth, clockAt, rateAt, portsAt, localsAt, pathsAt, linksAt, backWidth, tableSize}
+use Rattle.tables.specs.Fields.{pathBlobsAt}
+use Rattle.tables.specs.Records.{portBytesOk, localBytesOk, pathBytesOk}
+use Rattle.tables.specs.Layout.{rateSettingsIn, startOk, recordsOk, frontOk, backOk, relayOf, wellFormed}
+use Rattle.tables.proofs.Whole.{clauses}
+use Rattle.saved.specs.Editions.{edition1, editions, currentEdition, isKnown, numbered}
+use Rattle.saved.specs.File.{bodiesAt}
+use Rattle.saved.specs.Steps.{startWidth, beforeBlobs, pathWidthIn, pathsPlace, backPlace, tallyPlace, opened, frontNow, pathNow, pathsNow, pathsFine, tablesNow}
+use Rattle.saved.proofs.Alike.{Alike, same-alike, moved-alike, both-alike, field-alike, that-alike, record-alike, slot-alike, many-alike, opened-length, Opening, opening, Brought, kept, lacked, brought-within, brought-alike}
+
+-- ---- what each edition has of the fields that a later one brought
+pub record Brings (e : Edition) : Type 1 where
+  pub rateSettings : Brought rateSettingsForm (e .rateSettings)
+  pub rateEntry : Brought rateEntryForm (e .rateEntry)
+
+first-brings : Brings edition1
+unfolding bigEndian rateSettingsOk _and_
+first-brings =
+    record {
+      rateSettings = lacked noRateSettings ((lit< tt, (lit< tt, lit< tt)), refl) refl;
+      rateEntry = lacked noRateEntry (lit< tt, (lit< tt, lit< tt)) refl;
+    }
+
+pub each-brings : (i : ℕ) → Brings (getD editions i edition1)
+each-brings zero = first-brings
+each-brings (suc zero) = record { rateSettings = kept; rateEntry = kept }
+each-brings (suc (suc i)) = first-brings
+
+-- the sections before the paths, alone
+front-same : (t : List ℕ) → frontOk (part t 0 pathsAt) ≡ frontOk t
+unfolding frontOk startOk rateSettingsIn recordsOk
+front-same t =
+    let inside : (k n : ℕ) → k + n ≤ pathsAt → part (part t 0 pathsAt) k n ≡ part t k n =
+    λ k n l. part-part t 0 pathsAt k n l ∙ ap (λ (a : ℕ). part t a n) (zero-add k) in
+    let clock = ap (λ (b : List ℕ). timeOk (number b)) (inside clockAt timeWidth (omega arith)) in
+    let rate = ap rateSettingsOk (lawful rateSettingsForm .sees (part t 0 pathsAt) rateAt t rateAt (inside rateAt 12 (omega arith))) in
+    let ports = all-cong _ _ portCount (λ i l. ap portBytesOk (inside (portsAt + portWidth * i) portWidth (omega arith))) in
+    let locals = all-cong _ _ localCount (λ i l. ap localBytesOk (inside (localsAt + localWidth * i) localWidth (omega arith))) in
+    λ i. (clock i and rate i) and (ports i and locals i)
+
+opened-bytes : (k n : ℕ) (b : List ℕ) → Bytes b → Bytes (opened k n b)
+unfolding opened
+opened-bytes k n b h =
+    let rest : List ℕ = part b k (length b - k) in
+    append-bytes (part b 0 k) (replicate n 0 ++ rest) (part-bytes b 0 k h)
+    (append-bytes (replicate n 0) rest (replicate-bytes n 0 (lit< tt)) (part-bytes b k (length b - k) h))
+
+module _ (e : Edition) (h : Brings e) where
+  settings-within : code (e .rateSettings) .width ≤ 12
+  settings-within = brought-within (h .rateSettings)
+
+  entry-within : code (e .rateEntry) .width ≤ 17
+  entry-within = brought-within (h .rateEntry)
+
+  pub start-within : startWidth e ≤ portsAt
+  start-within = omega (arith, settings-within)
+
+  pub before-within : beforeBlobs e ≤ pathBlobsAt
+  before-within = omega (arith, entry-within)
+
+  module _ (f : List ℕ) (size : tallyPlace e ≤ length f) where
+    -- ---- one path
+    module _ (i : ℕ) (l : i < pathCount) where
+      pub path-end : pathsPlace e + pathWidthIn e * i + pathWidthIn e ≤ length f
+      path-end = omega (arith, size, row-end (pathWidthIn e) pathCount i l)
+
+      pub path-length : length (pathNow e f i) ≡ pathWidth
+      unfolding pathNow
+      path-length =
+          let long = part-length f (pathsPlace e + pathWidthIn e * i) (pathWidthIn e) path-end in
+          opened-length (beforeBlobs e) (pathBlobsAt - beforeBlobs e) _ (omega (arith, long))
+          ∙ omega (arith, long, entry-within)
+
+    pub paths-length : (n : ℕ) → n ≤ pathCount → length (pathsNow e f n) ≡ pathWidth * n
+    unfolding pathsNow
+    paths-length n m =
+        joined-sum (pathNow e f) (λ i. i) n
+        ∙ sum-cong (λ i. length (pathNow e f i)) (λ i. pathWidth) n (λ i l. path-length i (omega arith))
+        ∙ sum-const pathWidth n
+
+    path-found : (i : ℕ) → i < pathCount → part (pathsNow e f pathCount) (pathWidth * i) pathWidth ≡ pathNow e f i
+    unfolding pathsNow
+    path-found i l =
+        let place : sumBelow (λ j. length (pathNow e f j)) i ≡ pathWidth * i =
+        sum-cong (λ j. length (pathNow e f j)) (λ j. pathWidth) i (λ j m. path-length j (omega arith)) ∙ sum-const pathWidth i in
+        ap₂ (part (joined (pathNow e f) (listOf (λ j. j) pathCount))) (sym place) (sym (path-length i l))
+        ∙ joined-found (pathNow e f) (λ j. j) pathCount i l
+
+    -- ---- the whole
+    pub front-length : length (frontNow e f) ≡ pathsAt
+    unfolding frontNow
+    front-length =
+        let long = part-length f bodiesAt (startWidth e + (pathsAt - portsAt)) (omega (arith, size)) in
+        opened-length (startWidth e) (portsAt - startWidth e) _ (omega (arith, long))
+        ∙ omega (arith, long, settings-within)
+
+    pub back-length : length (part f (backPlace e) backWidth) ≡ backWidth
+    back-length = part-length f (backPlace e) backWidth size
+
+    pub now-length : length (tablesNow e f) ≡ tableSize
+    unfolding tablesNow
+    now-length = simp length-append (omega (arith, front-length, paths-length pathCount (le-refl pathCount), back-length))
+
+    pub now-front : part (tablesNow e f) 0 pathsAt ≡ frontNow e f
+    unfolding tablesNow
+    now-front = part-mid [] (frontNow e f) (pathsNow e f pathCount ++ part f (backPlace e) backWidth) 0 pathsAt refl front-length
+
+    pub now-path : (i : ℕ) → i < pathCount → part (tablesNow e f) (pathsAt + pathWidth * i) pathWidth ≡ pathNow e f i
+    unfolding tablesNow
+    now-path i l =
+        part-back (frontNow e f) (pathsNow e f pathCount ++ part f (backPlace e) backWidth) pathsAt (pathWidth * i) pathWidth front-length
+        ∙ part-front (pathsNow e f pathCount) (part f (backPlace e) backWidth) (pathWidth * i) pathWidth
+        (omega (arith, paths-length pathCount (le-refl pathCount), row-end pathWidth pathCount i l))
+        ∙ path-found i l
+
+    pub now-back : part (tablesNow e f) linksAt backWidth ≡ part f (backPlace e) backWidth
+    unfolding tablesNow
+    now-back =
+        part-back (frontNow e f) (pathsNow e f pathCount ++ part f (backPlace e) backWidth) pathsAt (pathWidth * pathCount) backWidth front-length
+        ∙ part-last (pathsNow e f pathCount) (part f (backPlace e) backWidth) (pathWidth * pathCount) backWidth
+        (paths-length pathCount (le-refl pathCount)) back-length
+
+    -- ---- what the tables then hold
+    front-opening : Opening f bodiesAt (tablesNow e f) 0 (startWidth e) (portsAt - startWidth e) (startWidth e + (pathsAt - portsAt))
+    unfolding frontNow
+    front-opening =
+        opening f bodiesAt (tablesNow e f) 0 (startWidth e) (portsAt - startWidth e) (startWidth e + (pathsAt - portsAt)) (omega (arith, size)) (omega arith)
+        (ap (part (tablesNow e f) 0) (omega (arith, settings-within)) ∙ now-front)
+
+    -- ports and local addresses
+    middle : Same (pathsAt - portsAt) f (bodiesAt + rateAt + code (e .rateSettings) .width) (tablesNow e f) portsAt
+    middle =
+        ap (λ (a : ℕ). part f a (pathsAt - portsAt)) (omega arith)
+        ∙ front-opening .after (pathsAt - portsAt) (le-refl _)
+        ∙ ap (λ (a : ℕ). part (tablesNow e f) a (pathsAt - portsAt)) (omega (arith, settings-within))
+
+    module _ (i : ℕ) (l : i < pathCount) where
+      abbrev old : List ℕ
+      old = part f (pathsPlace e + pathWidthIn e * i) (pathWidthIn e)
+
+      old-length : length old ≡ pathWidthIn e
+      old-length = part-length f (pathsPlace e + pathWidthIn e * i) (pathWidthIn e) (path-end i l)
+
+      path-opening : Opening old 0 (pathNow e f i) 0 (beforeBlobs e) (pathBlobsAt - beforeBlobs e) (pathWidthIn e)
+      unfolding pathNow
+      path-opening =
+          opening old 0 (pathNow e f i) 0 (beforeBlobs e) (pathBlobsAt - beforeBlobs e) (pathWidthIn e) (omega (arith, old-length)) (omega arith)
+          (part-whole (pathNow e f i) (pathWidthIn e + (pathBlobsAt - beforeBlobs e)) (path-length i l ∙ omega (arith, entry-within))
+          ∙ ap (opened (beforeBlobs e) (pathBlobsAt - beforeBlobs e)) (sym (part-whole old (pathWidthIn e) old-length)))
+
+      wide : pathWidthIn e ≡ 1 + code (pathFormIn e) .width
+      wide = omega arith
+
+      path-alike : Alike (slot (pathFormIn e)) (slot pathForm) old 0 (pathNow e f i) 0
+      path-alike =
+          slot-alike (same-byte 1 old 0 (pathNow e f i) 0 (path-opening .before 0 1 (omega arith)) (omega arith))
+          (ap (λ (k : ℕ). zeros k (part old 0 k)) (sym wide)
+          ∙ path-opening .empties
+          ∙ ap (λ (k : ℕ). zeros k (part (pathNow e f i) 0 k)) (omega (arith, entry-within)))
+          (that-alike (record-alike
+          (both-alike (same-alike headForm (path-opening .before 1 42 (omega arith)))
+          (both-alike (field-alike (brought-alike (h .rateEntry) 43 (omega (arith, entry-within)) path-opening))
+          (field-alike (same-alike blobsForm
+          (ap (λ (a : ℕ). part old a 161) (sym (zero-add (beforeBlobs e)))
+          ∙ path-opening .after 161 (le-refl _)
+          ∙ ap (λ (a : ℕ). part (pathNow e f i) a 161) (omega (arith, entry-within)))))))))
+
+    pub now-alike : Alike (relayFormIn e) relayForm f bodiesAt (tablesNow e f) 0
+    now-alike =
+        record-alike
+        (both-alike (field-alike (same-alike (octetsIn addressWidth) (front-opening .before 0 16 (omega arith))))
+        (both-alike (field-alike (same-alike (that timeOk (numberIn timeWidth)) (front-opening .before 16 8 (omega arith))))
+        (both-alike (field-alike (brought-alike (h .rateSettings) 24 (omega (arith, settings-within)) front-opening))
+        (both-alike (field-alike (same-alike (many portCount noPort portForm) (same-first _ f _ (tablesNow e f) _ middle 32 (omega arith))))
+        (both-alike (field-alike (same-alike (many localCount empty (slot localForm)) (same-inside _ f _ (tablesNow e f) _ middle 32 272 (omega arith))))
+        (both-alike (field-alike (many-alike pathCount empty (λ i l. moved-alike (place i l) (now-path i l) (path-alike i l))))
+        (same-alike backForm (ap (λ (a : ℕ). part f a backWidth) (omega arith) ∙ sym now-back))))))))
+      where
+        place : (i : ℕ) (l : i < pathCount)
+            → part f (bodiesAt + rateAt + code (e .rateSettings) .width + 32 + 272 + (1 + code (pathFormIn e) .width) * i) (1 + code (pathFormIn e) .width)
+            ≡ old i l
+        place i l = ap₂ (λ (a w : ℕ). part f (a + w * i) w) (omega arith) (sym (wide i l))
+
+    pub now-relay : code (relayFormIn e) .read f bodiesAt ≡ relayOf (tablesNow e f)
+    unfolding relayOf
+    now-relay = now-alike .reads
+
+    pub now-formed : code (relayFormIn e) .fine f bodiesAt ≡ wellFormed (tablesNow e f)
+    unfolding wellFormed
+    now-formed = now-alike .tests ∙ sym (and-yes _ (eq-eqb _ tableSize now-length))
+
+    pub now-bytes : Bytes f → Bytes (tablesNow e f)
+    unfolding tablesNow frontNow pathsNow pathNow
+    now-bytes b =
+        append-bytes (frontNow e f) (pathsNow e f pathCount ++ part f (backPlace e) backWidth) front-bytes
+        (append-bytes (pathsNow e f pathCount) (part f (backPlace e) backWidth) paths-bytes (part-bytes f (backPlace e) backWidth b))
+      where
+        front-bytes : Bytes (frontNow e f)
+        front-bytes = opened-bytes (startWidth e) (portsAt - startWidth e) _ (part-bytes f bodiesAt (startWidth e + (pathsAt - portsAt)) b)
+
+        paths-bytes : Bytes (pathsNow e f pathCount)
+        paths-bytes =
+            joined-each-bytes (pathNow e f) (λ i. i) pathCount
+            (λ i l. opened-bytes (beforeBlobs e) (pathBlobsAt - beforeBlobs e) _ (part-bytes f (pathsPlace e + pathWidthIn e * i) (pathWidthIn e) b))
+
+    -- ---- the three parts, as the code tests them
+    front-seen : frontOk (tablesNow e f) ≡ frontOk (frontNow e f)
+    front-seen = sym (front-same (tablesNow e f)) ∙ ap frontOk now-front
+
+    paths-seen : recordsOk pathBytesOk pathsAt pathWidth pathCount (tablesNow e f) ≡ pathsFine e f pathCount
+    unfolding recordsOk pathsFine
+    paths-seen = all-cong _ _ pathCount (λ i l. ap pathBytesOk (now-path i l))
+
+    back-seen : backOk (tablesNow e f) linksAt ≡ backOk f (backPlace e)
+    unfolding backOk
+    back-seen = lawful backForm .tests (tablesNow e f) linksAt f (backPlace e) now-back
+
+    pub now-clauses : code (relayFormIn e) .fine f bodiesAt ≡ (frontOk (frontNow e f) and pathsFine e f pathCount and backOk f (backPlace e))
+    now-clauses =
+        now-formed
+        ∙ clauses (tablesNow e f)
+        ∙ and-yes _ (eq-eqb _ tableSize now-length)
+        ∙ (λ i. front-seen i and paths-seen i and back-seen i)
+
+-- ---- record by record
+module _ (e : Edition) (f : List ℕ) where
+  pub fine-none : pathsFine e f 0 ≡ true
+  unfolding pathsFine
+  fine-none = all-none (λ i. pathBytesOk (pathNow e f i))
+
+  pub fine-more : (i : ℕ) → pathsFine e f i ≡ true → pathBytesOk (pathNow e f i) ≡ true → pathsFine e f (i + 1) ≡ true
+  unfolding pathsFine
+  fine-more i = all-more (λ k. pathBytesOk (pathNow e f k)) i
+
+  pub fine-fails : (i : ℕ) → i < pathCount → pathBytesOk (pathNow e f i) ≡ false → pathsFine e f pathCount ≡ false
+  unfolding pathsFine
+  fine-fails i = all-fails (λ k. pathBytesOk (pathNow e f k)) i pathCount
+
+  pub paths-none : (t : List ℕ) → t ≡ patch t pathsAt (pathsNow e f 0)
+  unfolding pathsNow patch
+  paths-none t =
+      sym (take-append-drop pathsAt t)
+      ∙ ap (λ (r : List ℕ). take pathsAt t ++ (r ++ drop (pathsAt + length r) t)) (sym (joined-none (pathNow e f) (λ i. i)))
+
+  module _ (h : Brings e) (size : tallyPlace e ≤ length f) where
+    pub paths-more : (t : List ℕ) (i : ℕ) → i < pathCount → length t ≡ tableSize
+        → patch (patch t pathsAt (pathsNow e f i)) (pathsAt + pathWidth * i) (pathNow e f i) ≡ patch t pathsAt (pathsNow e f (i + 1))
+    unfolding pathsNow
+    paths-more t i l long =
+        patch-join t pathsAt (pathsAt + pathWidth * i) (pathsNow e f i) (pathNow e f i)
+        (ap (λ (k : ℕ). pathsAt + k) (paths-length e h f size i (omega arith)))
+        (omega (arith, long, path-length e h f size i l, row-end pathWidth pathCount i l))
+        ∙ ap (patch t pathsAt) (sym (joined-more (pathNow e f) (λ j. j) i) ∙ ap (pathsNow e f) (sym (add-one i)))
+
+    pub now-written : (t : List ℕ) → length t ≡ tableSize
+        → patch (patch (patch t 0 (frontNow e f)) pathsAt (pathsNow e f pathCount)) linksAt (part f (backPlace e) backWidth) ≡ tablesNow e f
+    unfolding tablesNow
+    now-written t long =
+        let front = front-length e h f size in
+        let paths = paths-length e h f size pathCount (le-refl pathCount) in
+        let back = back-length e h f size in
+        patch-three t 0 pathsAt linksAt (frontNow e f) (pathsNow e f pathCount) (part f (backPlace e) backWidth)
+        (omega (arith, front)) (omega (arith, paths)) (omega (arith, back, long))
+        ∙ patch-whole t (frontNow e f ++ (pathsNow e f pathCount ++ part f (backPlace e) backWidth))
+        (simp length-append (omega (arith, front, paths, back, long)))
+
+-- ---- by number
+module _ (n : ℕ) where
+  pub start-most : startWidth (numbered n) ≤ portsAt
+  start-most = start-within (numbered n) (each-brings (n - 1))
+
+  pub before-most : beforeBlobs (numbered n) ≤ pathBlobsAt
+  before-most = before-within (numbered n) (each-brings (n - 1))
+
+  pub last-known : isKnown n ≡ true → (n ≡ 1 → ⊥) → n ≡ currentEdition
+  unfolding isKnown
+  last-known h ne =
+      let low = ltb-true 0 n (and-left _ _ h) in
+      let high = leb-true n currentEdition (and-right _ _ h) in
+      omega (arith, low, high, ne)
+
+  -- path i's record stands in the file
+  pub path-room : (f : List ℕ) → tallyPlace (numbered n) ≤ length f → (i : ℕ) → i < pathCount
+      → {w p : ℕ} → w ≡ pathWidthIn (numbered n) → p ≡ pathsPlace (numbered n) → p + w * i + w ≤ length f
+  path-room f size i l {w} {p} e d =
+      let place : w * i ≡ pathWidthIn (numbered n) * i = ap (λ (k : ℕ). k * i) e in
+      omega (arith, path-end (numbered n) (each-brings (n - 1)) f size i l, e, d, place)

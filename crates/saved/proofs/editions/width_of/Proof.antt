@@ -1,0 +1,79 @@
+-- the next one
+use native.Mathlib.Omega.{arith}
+use Rattle.saved.proofs.EditionLaws.{before-most}
+use Prim.Native.Nat.{ℕ, suc, _*_, _≤_, zero-le}
+use mathlib.Core.Path.{_≡_, sym, ap, _∙_}
+use Rattle.saved.specs.Editions.{numbered, held, editionAt, widthAt}
+use Rattle.saved.proofs.Widths.{width-start, width-paths}
+use borrow.Author.Needs.{needs}
+use Rattle.saved.proofs.editions.width_of.Statement.{statement}
+use Rattle.saved.proofs.editions.width_of.Tie as tie
+
+above : {k i : ℕ} → k ≤ i → (i ≡ k → ⊥) → suc k ≤ i
+above l ne = omega (arith, l, ne)
+
+start-width-requires : tie.Need-start-width-requires
+start-width-requires c κs = search needs
+
+path-width-requires : tie.Need-path-width-requires
+path-width-requires c κs = search needs
+
+mul-result : tie.Need-mul-result
+mul-result c =
+    let most = before-most (c .before .before .args .edition) in
+    record { fits = omega (arith, c .path-width .ensures, most) }
+
+returns : tie.Need-returns
+returns c =
+    let e = numbered (c .before .before .args .edition) in
+    c .start-width .ensures ∙ sym (width-start e) ∙ ap (widthAt (held e)) (sym (c .before .match .keys1))
+
+returns-2 : tie.Need-returns-2
+unfolding widthAt
+returns-2 c = sym (ap (widthAt (editionAt (c .before .args .edition))) (c .match .keys2))
+
+returns-3 : tie.Need-returns-3
+unfolding widthAt
+returns-3 c = sym (ap (widthAt (editionAt (c .before .args .edition))) (c .match .keys3))
+
+returns-4 : tie.Need-returns-4
+returns-4 c =
+    let e = numbered (c .before .before .args .edition) in
+    ap (λ (w : ℕ). w * 64) (c .path-width .ensures) ∙ sym (width-paths e) ∙ ap (widthAt (held e)) (sym (c .before .match .keys4))
+
+returns-5 : tie.Need-returns-5
+unfolding widthAt
+returns-5 c = sym (ap (widthAt (editionAt (c .before .args .edition))) (c .match .keys5))
+
+returns-6 : tie.Need-returns-6
+unfolding widthAt
+returns-6 c = sym (ap (widthAt (editionAt (c .before .args .edition))) (c .match .keys6))
+
+returns-7 : tie.Need-returns-7
+unfolding widthAt
+returns-7 c = sym (ap (widthAt (editionAt (c .before .args .edition))) (c .match .keys7))
+
+returns-8 : tie.Need-returns-8
+unfolding widthAt
+returns-8 c =
+    let r = c .match .rest in
+    let three = above (above (above (zero-le) (r .0 .0 .0 .0 .0 .0 .1)) (r .0 .0 .0 .0 .0 .1)) (r .0 .0 .0 .0 .1) in
+    let seven = above (above (above (above three (r .0 .0 .0 .1)) (r .0 .0 .1)) (r .0 .1)) (r .1) in
+    let last : c .before .args .i ≡ 7 = omega (arith, seven, c .before .pre .1) in
+    sym (ap (widthAt (editionAt (c .before .args .edition))) last)
+
+pub width-of-spec : {M : Type 1} → statement M
+width-of-spec =
+    tie.close
+    (tie.spec
+    start-width-requires
+    path-width-requires
+    mul-result
+    returns
+    returns-2
+    returns-3
+    returns-4
+    returns-5
+    returns-6
+    returns-7
+    returns-8)

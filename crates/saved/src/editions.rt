@@ -1,0 +1,96 @@
+// What each edition has, in numbers: a line for each, the last one for today's. The next edition adds its line where
+// it changes a width. A path's new fields stand before its blobs, and the first body's at its end.
+use super::format::BODIES_AT;
+use super::format::BODY_COUNT;
+use super::format::EDITION;
+use super::format::HASHES_BODY;
+use super::format::LINKS_BODY;
+use super::format::LOCALS_BODY;
+use super::format::MIDDLE_SIZE;
+use super::format::PORTS_BODY;
+use super::format::RETURNS_BODY;
+use super::format::TALLY_BODY;
+use numbers::PATH_COUNT;
+use tables::fields::PATH_BLOB_COUNT_AT;
+use tables::fields::PATH_LAST_AT;
+use tables::places::PATH_WIDTH;
+use tables::places::PORTS_AT;
+use tables::places::TARGET_AT;
+ghost use mathlib.Core.Path.{_≡_};
+ghost use mathlib.Core.Bool.{true};
+ghost use Prim.Native.Nat.{_<_};
+ghost use Rattle.saved.specs.Editions.{isKnown, numbered, editionAt, widthAt};
+ghost use Rattle.saved.specs.File.{bodyCount};
+ghost use Rattle.saved.specs.Steps.{startWidth, beforeBlobs, pathWidthIn, pathsPlace, backPlace};
+
+pub fn is_known(edition: u8) -> bool
+    ensures { λ r. ⌜ r ≡ isKnown edition ⌝ }
+{
+    if edition == 0 {
+        return false;
+    }
+    edition <= EDITION
+}
+
+// How long the first body is. Edition 2 brought the announce rate's settings.
+pub fn start_width(edition: u8) -> usize
+    requires { ⌜ isKnown edition ≡ true ⌝ }
+    ensures { λ r. ⌜ r ≡ startWidth (numbered edition) ⌝ }
+{
+    match edition {
+        1 => TARGET_AT,
+        _ => PORTS_AT,
+    }
+}
+
+// How much of a path's record stands before its blobs. Edition 2 brought what the announce rate has there.
+pub fn before_blobs(edition: u8) -> usize
+    requires { ⌜ isKnown edition ≡ true ⌝ }
+    ensures { λ r. ⌜ r ≡ beforeBlobs (numbered edition) ⌝ }
+{
+    match edition {
+        1 => PATH_LAST_AT,
+        _ => PATH_BLOB_COUNT_AT,
+    }
+}
+
+// ---- what follows from these
+
+pub fn path_width(edition: u8) -> usize
+    requires { ⌜ isKnown edition ≡ true ⌝ }
+    ensures { λ r. ⌜ r ≡ pathWidthIn (numbered edition) ⌝ }
+{
+    before_blobs(edition) + (PATH_WIDTH - PATH_BLOB_COUNT_AT)
+}
+
+// How long body i is.
+pub fn width_of(edition: u8, i: usize) -> usize
+    requires { ⌜ (isKnown edition ≡ true) × (i < bodyCount) ⌝ }
+    ensures { λ r. ⌜ r ≡ widthAt (editionAt edition) i ⌝ }
+{
+    match i {
+        0 => start_width(edition),
+        1 => PORTS_BODY,
+        2 => LOCALS_BODY,
+        3 => path_width(edition) * PATH_COUNT,
+        4 => LINKS_BODY,
+        5 => RETURNS_BODY,
+        6 => HASHES_BODY,
+        _ => TALLY_BODY,
+    }
+}
+
+// Where the paths stand in the file, and what is behind them.
+pub fn paths_place(edition: u8) -> usize
+    requires { ⌜ isKnown edition ≡ true ⌝ }
+    ensures { λ r. ⌜ r ≡ pathsPlace (numbered edition) ⌝ }
+{
+    BODIES_AT + (start_width(edition) + MIDDLE_SIZE)
+}
+
+pub fn back_place(edition: u8) -> usize
+    requires { ⌜ isKnown edition ≡ true ⌝ }
+    ensures { λ r. ⌜ r ≡ backPlace (numbered edition) ⌝ }
+{
+    paths_place(edition) + path_width(edition) * PATH_COUNT
+}

@@ -1,0 +1,118 @@
+// The file's bodies as the tables have them, of any edition: with zeros for what the edition lacks.
+use super::editions::back_place;
+use super::editions::before_blobs;
+use super::editions::path_width;
+use super::editions::paths_place;
+use super::editions::start_width;
+use super::format::BACK_SIZE;
+use super::format::BODIES_AT;
+use super::format::MIDDLE_SIZE;
+use numbers::PATH_COUNT;
+use tables::places::LINKS_AT;
+use tables::places::PATH_WIDTH;
+use tables::places::PATHS_AT;
+ghost use mathlib.Core.Path.{_≡_};
+ghost use mathlib.Core.Bool.{true};
+ghost use Prim.Native.Nat.{_-_, _≤_, _<_};
+ghost use lib.ListN.{length, replicate};
+ghost use Rattle.octets.specs.Part.{patch};
+ghost use Rattle.numbers.specs.Numbers.{pathCount};
+ghost use Rattle.tables.specs.Places.{pathsAt, tableSize};
+ghost use Rattle.saved.specs.Editions.{isKnown, numbered};
+ghost use Rattle.saved.specs.Steps.{tallyPlace, opened, frontNow, pathNow, pathsNow, pathsFine, tablesNow, bodiesFine};
+
+// Writes bytes over zeros, with those of these that are more than the bytes put in at a place.
+fn open(from: &[u8], at: usize, to: &mut [u8])
+    requires { ⌜ (at ≤ length (now from)) × (length (now from) ≤ length (now to))
+        × (now to ≡ replicate (length (now to)) 0) ⌝ }
+    ensures { λ _. ⌜ now (to .exit)
+        ≡ opened at (length (now (to .entry)) - length (now (from .entry))) (now (from .entry)) ⌝ }
+{
+    let gap = to.len() - from.len();
+    octets::copy_at(to, 0, &from[0..at]);
+    octets::copy_at(to, at + gap, &from[at..from.len()]);
+}
+
+// The sections before the paths.
+fn front_now(file: &[u8], edition: u8) -> [u8; PATHS_AT]
+    requires { ⌜ (isKnown edition ≡ true) × (tallyPlace (numbered edition) ≤ length (now file)) ⌝ }
+    ensures { λ r. ⌜ r ≡ frontNow (numbered edition) (now (file .entry)) ⌝ }
+{
+    let mut front = [0u8; PATHS_AT];
+    let start = start_width(edition);
+    open(
+        &file[BODIES_AT..BODIES_AT + (start + MIDDLE_SIZE)],
+        start,
+        &mut front,
+    );
+    front
+}
+
+// The record of path i.
+fn path_now(file: &[u8], edition: u8, i: usize) -> [u8; PATH_WIDTH]
+    requires { ⌜ (isKnown edition ≡ true) × (tallyPlace (numbered edition) ≤ length (now file)) × (i < pathCount) ⌝ }
+    ensures { λ r. ⌜ r ≡ pathNow (numbered edition) (now (file .entry)) i ⌝ }
+{
+    let mut path = [0u8; PATH_WIDTH];
+    let width = path_width(edition);
+    let at = paths_place(edition) + width * i;
+    open(&file[at..at + width], before_blobs(edition), &mut path);
+    path
+}
+
+fn paths_fine(file: &[u8], edition: u8) -> bool
+    requires { ⌜ (isKnown edition ≡ true) × (tallyPlace (numbered edition) ≤ length (now file)) ⌝ }
+    ensures { λ r. ⌜ r ≡ pathsFine (numbered edition) (now (file .entry)) pathCount ⌝ }
+{
+    let mut i = 0;
+    while i < PATH_COUNT {
+        let path = path_now(file, edition, i);
+        if !tables::path_ok(&path) {
+            return false;
+        }
+        i += 1;
+    }
+    true
+}
+
+// Whether the bodies break none of refusal 7's rules. A tally may be any bytes.
+pub fn bodies_fine(file: &[u8], edition: u8) -> bool
+    requires { ⌜ (isKnown edition ≡ true) × (tallyPlace (numbered edition) ≤ length (now file)) ⌝ }
+    ensures { λ r. ⌜ r ≡ bodiesFine (numbered edition) (now (file .entry)) ⌝ }
+{
+    let front = front_now(file, edition);
+    if !tables::front_ok(&front) {
+        return false;
+    }
+    if !paths_fine(file, edition) {
+        return false;
+    }
+    tables::back_ok(file, back_place(edition))
+}
+
+fn write_paths(file: &[u8], edition: u8, tables: &mut [u8])
+    requires { ⌜ (isKnown edition ≡ true) × (tallyPlace (numbered edition) ≤ length (now file))
+        × (length (now tables) ≡ tableSize) ⌝ }
+    ensures { λ _. ⌜ now (tables .exit)
+        ≡ patch (now (tables .entry)) pathsAt (pathsNow (numbered edition) (now (file .entry)) pathCount) ⌝ }
+{
+    let mut i = 0;
+    while i < PATH_COUNT {
+        let path = path_now(file, edition, i);
+        octets::copy_at(tables, PATHS_AT + PATH_WIDTH * i, &path);
+        i += 1;
+    }
+}
+
+// Writes the whole tables.
+pub fn write_tables(file: &[u8], edition: u8, tables: &mut [u8])
+    requires { ⌜ (isKnown edition ≡ true) × (tallyPlace (numbered edition) ≤ length (now file))
+        × (length (now tables) ≡ tableSize) ⌝ }
+    ensures { λ _. ⌜ now (tables .exit) ≡ tablesNow (numbered edition) (now (file .entry)) ⌝ }
+{
+    let front = front_now(file, edition);
+    octets::copy_at(tables, 0, &front);
+    write_paths(file, edition, tables);
+    let back = back_place(edition);
+    octets::copy_at(tables, LINKS_AT, &file[back..back + BACK_SIZE]);
+}
