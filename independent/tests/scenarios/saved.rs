@@ -31,6 +31,7 @@ crate::on_both_programs!(
     edition_1_has_no_announce_rate(OlderRateStays),
     paths_of_edition_1(OlderPathsAnnouncedNow),
     other_lengths_of_edition_1(OlderEditionRefused),
+    a_kept_file_of_edition_2(ExpiredNotSaved),
 );
 
 /// Offset and length of the bodies, as docs/LAYOUT.md has them.
@@ -386,4 +387,11 @@ fn other_lengths_of_edition_1(host: &mut Host) {
     assert_eq!(load_changed(host, &file, &[(1, &[1])]), 24);
     assert_eq!(load_changed(host, EDITION_1, &[(1, &[EDITION])]), 24);
     assert_eq!(load_changed(host, EDITION_1, &[(76, &[2])]), 24);
+}
+
+/// What the program of edition 2 saved is saved again byte for byte.
+fn a_kept_file_of_edition_2(host: &mut Host) {
+    let file = include_bytes!("../../../tests/saved/edition-2.saved");
+    assert_eq!(host.program.load(file, &mut host.tables, &mut host.tally), 0);
+    assert!(saved(host) == file);
 }
