@@ -78,6 +78,14 @@ static void transmit(unsigned port, size_t length)
     print_hex(output, length);
 }
 
+static void print_drop(haskumye_answer answer)
+{
+    haskumye_text text, sentence;
+    haskumye_answer_text(answer, &text);  /* drop 6.3 22600 */
+    haskumye_sentence(answer, &sentence); /* no path to this destination: the last one ran out at 22600 */
+    printf("%s: %s\n", text.bytes, sentence.bytes);
+}
+
 static void act(haskumye_answer answer, const uint8_t *packet, size_t length)
 {
     switch (HASKUMYE_ANSWER_KIND(answer)) {
@@ -85,7 +93,7 @@ static void act(haskumye_answer answer, const uint8_t *packet, size_t length)
         print_done(HASKUMYE_ANSWER_REFUSAL(answer));
         break;
     case HASKUMYE_DROP:
-        printf("drop %u: %s\n", HASKUMYE_ANSWER_REASON(answer), haskumye_reason_words(HASKUMYE_ANSWER_REASON(answer)));
+        print_drop(answer);
         break;
     case HASKUMYE_DELIVER:
         printf("deliver ");

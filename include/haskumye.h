@@ -55,7 +55,7 @@ extern "C" {
 #define HASKUMYE_SHORTEST_PACKET 19 /* 35 in type 2 */
 #define HASKUMYE_LONGEST_PACKET 500
 #define HASKUMYE_LONGEST_MESSAGE 65535 /* for haskumye_sha256 */
-#define HASKUMYE_TEXT_SIZE 160  /* a line of haskumye_line or haskumye_replay_entry */
+#define HASKUMYE_TEXT_SIZE 160  /* a line of haskumye_line or haskumye_replay_entry, an answer's text or sentence */
 #define HASKUMYE_RECORDING_SIZE 60000 /* the longest recording */
 #define HASKUMYE_ENTRY_WIDTH 12 /* an entry as haskumye_write_recording takes it */
 #define HASKUMYE_SAVED_SIZE 72292 /* what haskumye_save writes, exactly; haskumye_saved_size() says the same */
@@ -149,7 +149,7 @@ enum haskumye_refusal {
 /* What a packet call answers: HASKUMYE_ANSWER_KIND. */
 enum haskumye_kind {
     HASKUMYE_REFUSED = 0, /* HASKUMYE_ANSWER_REFUSAL says why; nothing changed */
-    HASKUMYE_DROP = 1,    /* HASKUMYE_ANSWER_REASON says why; the packet was accepted and counts */
+    HASKUMYE_DROP = 1,    /* HASKUMYE_ANSWER_REASON says why, and _CLAUSE and _VALUE more; the packet was accepted */
     HASKUMYE_DELIVER = 2, /* for a local address; the payload is the packet from HASKUMYE_ANSWER_PAYLOAD on */
     HASKUMYE_FORWARD = 3, /* send the output's first HASKUMYE_ANSWER_LENGTH bytes by HASKUMYE_ANSWER_PORT */
     HASKUMYE_SPREAD = 4,  /* send them by each port of HASKUMYE_ANSWER_PORTS */
@@ -160,10 +160,10 @@ enum haskumye_kind {
 enum haskumye_reason {
     HASKUMYE_REASON_NOT_OURS = 1,       /* type 2 for another relay */
     HASKUMYE_REASON_DUPLICATE = 2,      /* its hash was remembered less than 300 s ago */
-    HASKUMYE_REASON_BAD_FORM = 3,       /* type, destination kind, payload length or announced destination */
+    HASKUMYE_REASON_BAD_FORM = 3,       /* one of haskumye_bad_form */
     HASKUMYE_REASON_OWN_ANNOUNCE = 4,   /* an announce of a local address */
     HASKUMYE_REASON_TOO_MANY_HOPS = 5,  /* 128 or more */
-    HASKUMYE_REASON_NO_WAY_ON = 6,      /* no live path, proved link or return record; or type 1 */
+    HASKUMYE_REASON_NO_WAY_ON = 6,      /* one of haskumye_no_way_on */
     HASKUMYE_REASON_ALREADY_KNOWN = 7,  /* a link request or link proof again */
     HASKUMYE_REASON_WRONG_SIDE = 8,     /* in by another port, or with other hops, than its link or return record has */
     HASKUMYE_REASON_NOT_SIGNED = 9,     /* the host's word on the signature was no */
@@ -174,11 +174,33 @@ enum haskumye_reason {
     HASKUMYE_REASON_RATE_LIMITED = 15   /* an announce too soon after the last; tested after 11, before 12 */
 };
 
+/* The clause of test 3 that a packet's form breaks, the first in document 01's order: HASKUMYE_ANSWER_CLAUSE. */
+enum haskumye_bad_form {
+    HASKUMYE_BAD_FORM_TYPE_TWO_PROOF = 1,        /* a proof of type 2 */
+    HASKUMYE_BAD_FORM_TYPE_TWO_OF_KIND_LINK = 2, /* another packet of kind link of type 2 */
+    HASKUMYE_BAD_FORM_ANNOUNCE_NOT_SINGLE = 3,   /* an announce not of kind single */
+    HASKUMYE_BAD_FORM_ANNOUNCE_TOO_SHORT = 4,    /* an announce's payload under 148, or 180 with the context flag */
+    HASKUMYE_BAD_FORM_ANNOUNCE_OF_ANOTHER = 5,   /* an announce whose keys give another destination */
+    HASKUMYE_BAD_FORM_REQUEST_OF_KIND_LINK = 6,  /* a link request of kind link */
+    HASKUMYE_BAD_FORM_REQUEST_TOO_SHORT = 7,     /* a link request's payload under 64 */
+    HASKUMYE_BAD_FORM_LINK_PROOF_LENGTH = 8      /* a link proof's payload neither 96 nor 99 */
+};
+
+/* The case of test 6: HASKUMYE_ANSWER_CLAUSE. */
+enum haskumye_no_way_on {
+    HASKUMYE_NO_WAY_ON_NOT_ASKING = 1,   /* data or a link request of type 1 */
+    HASKUMYE_NO_WAY_ON_NO_PATH = 2,      /* no path record of the destination */
+    HASKUMYE_NO_WAY_ON_ONLY_EXPIRED = 3, /* expired ones alone: the value is their greatest expiry */
+    HASKUMYE_NO_WAY_ON_NO_LINK = 4,      /* no live link */
+    HASKUMYE_NO_WAY_ON_NOT_PROVED = 5,   /* a link that is not proved yet */
+    HASKUMYE_NO_WAY_ON_NO_RETURN = 6     /* a proof, and no live return record */
+};
+
 /*
  * The fields of a packet call's answer, and of no other call's number. Bits 0 to 15 say the kind, and the refusal or
- * reason; what bits 16 to 63 hold goes by them. Read a field only for the kind it is named with: later versions may put
- * data where zeros stand today. The port of what is no forward is HASKUMYE_NO_PORT, and the ports of what is no spread
- * are none.
+ * reason; what bits 16 to 63 hold goes by them. Read a field only for the kind it is named with: of another one the
+ * port is HASKUMYE_NO_PORT, the ports are none, and clause, value, length and payload are 0. A drop's value is the
+ * least payload length that would have served (3.4, 3.7, 3.8), or when the last path ran out (6.3); else 0.
  */
 typedef uint64_t haskumye_answer;
 
@@ -191,11 +213,38 @@ typedef uint64_t haskumye_answer;
 #define HASKUMYE_ANSWER_KIND(answer) HASKUMYE_ANSWER_BITS(answer, 0, 0xff)
 #define HASKUMYE_ANSWER_REFUSAL(answer) HASKUMYE_ANSWER_BITS(answer, 8, 0xff)        /* refused */
 #define HASKUMYE_ANSWER_REASON(answer) HASKUMYE_ANSWER_BITS(answer, 8, 0xff)         /* drop */
-#define HASKUMYE_ANSWER_PAYLOAD(answer) HASKUMYE_CAST(size_t, HASKUMYE_ANSWER(answer) >> 48) /* deliver */
+#define HASKUMYE_ANSWER_CLAUSE(answer) haskumye_answer_clause(HASKUMYE_ANSWER(answer)) /* drop; 0: of none */
+#define HASKUMYE_ANSWER_VALUE(answer) haskumye_answer_value(HASKUMYE_ANSWER(answer))   /* drop: a uint64_t */
+#define HASKUMYE_ANSWER_PAYLOAD(answer) haskumye_answer_payload(HASKUMYE_ANSWER(answer)) /* deliver */
 #define HASKUMYE_ANSWER_PORT(answer) haskumye_answer_port(HASKUMYE_ANSWER(answer))   /* forward */
 #define HASKUMYE_ANSWER_PORTS(answer) haskumye_answer_ports(HASKUMYE_ANSWER(answer)) /* spread: bit i is port i */
 #define HASKUMYE_ANSWER_HAS_PORT(answer, port) (HASKUMYE_ANSWER_PORTS(answer) >> (port) & 1u) /* spread: port 0 to 15 */
-#define HASKUMYE_ANSWER_LENGTH(answer) HASKUMYE_CAST(size_t, HASKUMYE_ANSWER(answer) >> 32 & 0xffff) /* either */
+#define HASKUMYE_ANSWER_LENGTH(answer) haskumye_answer_length(HASKUMYE_ANSWER(answer)) /* forward, spread */
+
+static inline unsigned haskumye_answer_clause(haskumye_answer answer)
+{
+    unsigned clause = HASKUMYE_ANSWER_BITS(answer, 16, 0xf);
+    return HASKUMYE_ANSWER_KIND(answer) == HASKUMYE_DROP ? clause : 0;
+}
+
+static inline uint64_t haskumye_answer_value(haskumye_answer answer)
+{
+    uint64_t value = answer >> 20 & UINT64_C(0x1ffffffffff);
+    return HASKUMYE_ANSWER_KIND(answer) == HASKUMYE_DROP ? value : 0;
+}
+
+static inline size_t haskumye_answer_payload(haskumye_answer answer)
+{
+    size_t payload = HASKUMYE_CAST(size_t, answer >> 48);
+    return HASKUMYE_ANSWER_KIND(answer) == HASKUMYE_DELIVER ? payload : 0;
+}
+
+static inline size_t haskumye_answer_length(haskumye_answer answer)
+{
+    size_t length = HASKUMYE_CAST(size_t, answer >> 32 & 0xffff);
+    unsigned kind = HASKUMYE_ANSWER_KIND(answer);
+    return kind == HASKUMYE_FORWARD || kind == HASKUMYE_SPREAD ? length : 0;
+}
 
 static inline unsigned haskumye_answer_port(haskumye_answer answer)
 {
@@ -419,6 +468,12 @@ HASKUMYE_CHECKED uint8_t haskumye_renumber(uint8_t *tables, size_t length, const
 HASKUMYE_CHECKED haskumye_answer haskumye_packet(const uint8_t *packet, size_t length, uint64_t port, uint64_t clock,
                                                  uint8_t signed_well, uint8_t *tables, size_t size, uint8_t *output,
                                                  size_t room, haskumye_tally *tally);
+
+/*
+ * An answer as text, with its numbers: `drop 6.3 22600`, `forward 4`, `spread 1 5`, `refused 1`. These are the words of
+ * a replay's line, without a line feed. Returns their length, 0 for a number whose kind is none of haskumye_kind.
+ */
+size_t haskumye_answer_text(haskumye_answer answer, haskumye_text *text);
 
 /*
  * ---- Saved files: a relay's tables and tally in one file, which this library and later ones load. ----
@@ -658,6 +713,100 @@ static inline const char *haskumye_mode_words(unsigned mode)
     case HASKUMYE_MODE_ROAMING: return "roaming";
     default: return "unknown";
     }
+}
+
+/* The sentence of a clause of test 3, with # for the value. */
+static inline const char *haskumye_bad_form_sentence(unsigned clause)
+{
+    switch (clause) {
+    case HASKUMYE_BAD_FORM_TYPE_TWO_PROOF: return "a proof that names a relay: no proof is of type 2";
+    case HASKUMYE_BAD_FORM_TYPE_TWO_OF_KIND_LINK: return "a packet of a link that names a relay: none is of type 2";
+    case HASKUMYE_BAD_FORM_ANNOUNCE_NOT_SINGLE: return "an announce whose destination is not of kind single";
+    case HASKUMYE_BAD_FORM_ANNOUNCE_TOO_SHORT: return "an announce whose payload is under # bytes";
+    case HASKUMYE_BAD_FORM_ANNOUNCE_OF_ANOTHER: return "an announce whose destination does not belong to its keys";
+    case HASKUMYE_BAD_FORM_REQUEST_OF_KIND_LINK: return "a link request whose destination is a link";
+    case HASKUMYE_BAD_FORM_REQUEST_TOO_SHORT: return "a link request whose payload is under # bytes";
+    case HASKUMYE_BAD_FORM_LINK_PROOF_LENGTH: return "a link proof whose payload is not # bytes, nor three more";
+    default: return "unknown";
+    }
+}
+
+/* The sentence of a case of test 6, with # for the value. */
+static inline const char *haskumye_no_way_on_sentence(unsigned clause)
+{
+    switch (clause) {
+    case HASKUMYE_NO_WAY_ON_NOT_ASKING: return "it asks no relay to carry it, and is not for this box";
+    case HASKUMYE_NO_WAY_ON_NO_PATH: return "no path to this destination: none is held";
+    case HASKUMYE_NO_WAY_ON_ONLY_EXPIRED: return "no path to this destination: the last one ran out at #";
+    case HASKUMYE_NO_WAY_ON_NO_LINK: return "no such link: it ran out, or never led through here";
+    case HASKUMYE_NO_WAY_ON_NOT_PROVED: return "this link is not proved yet";
+    case HASKUMYE_NO_WAY_ON_NO_RETURN:
+        return "nobody waits for this receipt: it is late, or its packet did not go through here";
+    default: return "unknown";
+    }
+}
+
+/* The sentence of a reason and its clause, with # for the value. */
+static inline const char *haskumye_reason_sentence(unsigned reason, unsigned clause)
+{
+    switch (reason) {
+    case HASKUMYE_REASON_BAD_FORM: return haskumye_bad_form_sentence(clause);
+    case HASKUMYE_REASON_NO_WAY_ON: return haskumye_no_way_on_sentence(clause);
+    case HASKUMYE_REASON_NOT_OURS: return "another relay is asked to carry it";
+    case HASKUMYE_REASON_DUPLICATE: return "the same packet came less than 300 s ago";
+    case HASKUMYE_REASON_OWN_ANNOUNCE: return "an announce of this box's own came back";
+    case HASKUMYE_REASON_TOO_MANY_HOPS: return "128 relays or more carried it";
+    case HASKUMYE_REASON_ALREADY_KNOWN: return "this link is known already";
+    case HASKUMYE_REASON_WRONG_SIDE: return "it came by another port, or with other hops, than its way has";
+    case HASKUMYE_REASON_NOT_SIGNED: return "its signature was not found good";
+    case HASKUMYE_REASON_REPLAY: return "this announce was taken in before";
+    case HASKUMYE_REASON_NOT_BETTER: return "an announce no newer than the one held, by no shorter way";
+    case HASKUMYE_REASON_PORT_OFF: return "the port to leave by is off";
+    case HASKUMYE_REASON_NO_ROOM: return "no room for another path or link";
+    case HASKUMYE_REASON_RATE_LIMITED: return "this destination announces itself too often";
+    default: return "unknown";
+    }
+}
+
+/* A number's digits at a place. Returns how many they are. */
+static inline size_t haskumye_put_digits(uint64_t number, char *at)
+{
+    size_t count = 1;
+    for (uint64_t rest = number; rest >= 10; rest /= 10) {
+        count++;
+    }
+    for (size_t i = count; i > 0; i--) {
+        at[i - 1] = HASKUMYE_CAST(char, '0' + number % 10);
+        number /= 10;
+    }
+    return count;
+}
+
+/*
+ * An answer in words for people: of a drop its sentence, with the value filled in (`no path to this destination: the
+ * last one ran out at 22600`), of a refusal its words, of another the kind's. Returns the length. haskumye_answer_text
+ * gives the numbers that go before it in a log.
+ */
+static inline size_t haskumye_sentence(haskumye_answer answer, haskumye_text *text)
+{
+    const char *words = haskumye_kind_words(HASKUMYE_ANSWER_KIND(answer));
+    size_t length = 0;
+    if (HASKUMYE_ANSWER_KIND(answer) == HASKUMYE_REFUSED) {
+        words = haskumye_refusal_words(HASKUMYE_ANSWER_REFUSAL(answer));
+    } else if (HASKUMYE_ANSWER_KIND(answer) == HASKUMYE_DROP) {
+        words = haskumye_reason_sentence(HASKUMYE_ANSWER_REASON(answer), HASKUMYE_ANSWER_CLAUSE(answer));
+    }
+    for (; *words != '\0'; words++) {
+        if (*words == '#') {
+            length += haskumye_put_digits(HASKUMYE_ANSWER_VALUE(answer), text->bytes + length);
+        } else {
+            text->bytes[length++] = *words;
+        }
+    }
+    for (size_t i = length; i < HASKUMYE_TEXT_SIZE; i++) {
+        text->bytes[i] = '\0';
+    }
+    return length;
 }
 
 #ifdef __cplusplus

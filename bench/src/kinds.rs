@@ -1,11 +1,11 @@
 //! The kinds of packet calls: each puts the records that it needs into a scene's tables and says what must be answered.
 
 use crate::scene::{hash_of, Scene, CLOCK, OWN};
-use haskumye_independent::answer::{Reason, Refusal, Verdict};
+use haskumye_independent::answer::{no_way_on, NoWay, Reason, Refusal, Verdict};
 use haskumye_independent::limits;
 use haskumye_independent::packet::{announced, Address, START_1};
 use haskumye_independent::sha256::Sha256;
-use haskumye_independent::tables::{link, path, returned, AnnounceRate, RateEntry, BLOB, HASHES, LINKS, PATHS, RETURNS};
+use haskumye_independent::tables::{link, path, returned, set_time, AnnounceRate, RateEntry, BLOB, HASHES, LINKS, PATHS, RETURNS};
 
 /// The port that data and requests come in by, and the one they leave by; what answers them goes the other way.
 const ARRIVAL: u8 = 1;
@@ -41,6 +41,7 @@ pub const KINDS: &[(&str, Kind)] = &[
     ("data, onward", data_onward),
     ("data, delivered", data_delivered),
     ("data, no way on (drop 6)", data_without_path),
+    ("data, expired path (drop 6.3)", data_by_expired_path),
     ("data, not ours (drop 1)", data_not_ours),
     ("data, duplicate (drop 2)", data_again),
     ("announce, new path, spread", announce_new),
@@ -80,7 +81,14 @@ fn data_delivered(scene: &mut Scene) -> Call {
 
 fn data_without_path(scene: &mut Scene) -> Call {
     let destination = scene.random.array();
-    arriving(scene.packet(0x50, destination, DATA), Verdict::Drop(Reason::NoWayOn))
+    arriving(scene.packet(0x50, destination, DATA), Verdict::Drop(no_way_on(NoWay::NoPath)))
+}
+
+fn data_by_expired_path(scene: &mut Scene) -> Call {
+    let destination = scene.random.array();
+    let record = scene.put(&PATHS, &destination, &[(path::PORT, LEAVING)]);
+    set_time(record, path::EXPIRY, CLOCK);
+    arriving(scene.packet(0x50, destination, DATA), Verdict::Drop(no_way_on(NoWay::OnlyExpired { expiry: CLOCK })))
 }
 
 fn data_not_ours(scene: &mut Scene) -> Call {

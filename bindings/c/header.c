@@ -42,10 +42,53 @@ static void check_accessors(void)
     CHECK(HASKUMYE_ANSWER_KIND(next++) == HASKUMYE_DROP && next == drop + 1); /* evaluated once */
     next = forward;
     CHECK(HASKUMYE_ANSWER_PORT(next++) == 15 && next == forward + 1);
+    CHECK(HASKUMYE_ANSWER_LENGTH(deliver) == 0 && HASKUMYE_ANSWER_PAYLOAD(forward) == 0);
     CHECK(HASKUMYE_WRITTEN_REFUSAL(6) == HASKUMYE_REFUSAL_OUTPUT && HASKUMYE_WRITTEN_LENGTH(19u << 16) == 19);
     const haskumye_saved saved = UINT64_C(72292) << 16, not_saved = HASKUMYE_REFUSAL_ROOM;
     CHECK(HASKUMYE_SAVED_REFUSAL(saved) == HASKUMYE_REFUSAL_NONE && HASKUMYE_SAVED_LENGTH(saved) == 72292);
     CHECK(HASKUMYE_SAVED_REFUSAL(not_saved) == HASKUMYE_REFUSAL_ROOM && HASKUMYE_SAVED_LENGTH(not_saved) == 0);
+}
+
+/* Clause, value and sentence of a drop: 6.3 with the greatest value that fits, and 3.4; and of what is none. */
+static void check_reasons(void)
+{
+    static haskumye_text text;
+    const uint64_t greatest = (UINT64_C(1) << 41) - 1;
+    const haskumye_answer expired = greatest << 20 | 0x30601, kept = 5, refused = UINT64_C(0x0700);
+    const haskumye_answer cut = UINT64_C(148) << 20 | 0x40301;
+    CHECK(HASKUMYE_ANSWER_REASON(expired) == HASKUMYE_REASON_NO_WAY_ON);
+    CHECK(HASKUMYE_ANSWER_CLAUSE(expired) == HASKUMYE_NO_WAY_ON_ONLY_EXPIRED);
+    CHECK(HASKUMYE_ANSWER_VALUE(expired) == greatest);
+    CHECK(HASKUMYE_ANSWER_CLAUSE(cut) == HASKUMYE_BAD_FORM_ANNOUNCE_TOO_SHORT && HASKUMYE_ANSWER_VALUE(cut) == 148);
+    CHECK(HASKUMYE_ANSWER_LENGTH(expired) == 0 && HASKUMYE_ANSWER_PAYLOAD(expired) == 0);
+    CHECK(HASKUMYE_ANSWER_PORTS(expired) == 0 && HASKUMYE_ANSWER_PORT(expired) == HASKUMYE_NO_PORT);
+    CHECK(HASKUMYE_ANSWER_CLAUSE(kept | 0x30000) == 0 && HASKUMYE_ANSWER_VALUE(kept | greatest << 20) == 0);
+    CHECK(haskumye_sentence(expired, &text) == strlen(text.bytes));
+    CHECK(strcmp(text.bytes, "no path to this destination: the last one ran out at 2199023255551") == 0);
+    CHECK(haskumye_sentence(cut, &text) == strlen(text.bytes));
+    CHECK(strcmp(text.bytes, "an announce whose payload is under 148 bytes") == 0);
+    CHECK(haskumye_sentence(UINT64_C(0x30601), &text) > 0 && strstr(text.bytes, " at 0") != NULL);
+    CHECK(haskumye_sentence(kept, &text) == 4 && strcmp(text.bytes, "kept") == 0);
+    CHECK(haskumye_sentence(refused, &text) == strlen(haskumye_refusal_words(HASKUMYE_REFUSAL_TABLES)));
+    CHECK(haskumye_answer_text(expired, &text) == 22 && strcmp(text.bytes, "drop 6.3 2199023255551") == 0);
+    CHECK(haskumye_answer_text(cut, &text) == 12 && strcmp(text.bytes, "drop 3.4 148") == 0);
+    CHECK(haskumye_answer_text(kept, &text) == 4 && text.bytes[HASKUMYE_TEXT_SIZE - 1] == '\0');
+}
+
+/* The sentence of each reason and clause that has one. The value has up to thirteen digits, and a zero follows. */
+static void print_sentences(void)
+{
+    for (unsigned number = 0; number < 256 * 16; number++) {
+        const char *words = haskumye_reason_sentence(number / 16, number % 16);
+        if (strcmp(words, "unknown") == 0 || strlen(words) + 13 > HASKUMYE_TEXT_SIZE) {
+            continue;
+        }
+        if (number / 16 == HASKUMYE_REASON_BAD_FORM || number / 16 == HASKUMYE_REASON_NO_WAY_ON) {
+            printf("sentence %u.%u %s\n", number / 16, number % 16, words);
+        } else if (number % 16 == 0) {
+            printf("sentence %u %s\n", number / 16, words);
+        }
+    }
 }
 
 /* The words of each number under 256 that has some. */
@@ -245,11 +288,13 @@ int main(int count, char **words)
     if (count == 2 && strcmp(words[1], "words") == 0) {
         print_words("refusal", haskumye_refusal_words);
         print_words("reason", haskumye_reason_words);
+        print_sentences();
         print_words("kind", haskumye_kind_words);
         print_words("mode", haskumye_mode_words);
         return 0;
     }
     check_accessors();
+    check_reasons();
     check_packet_calls();
     check_relay_calls();
     check_saving_calls();

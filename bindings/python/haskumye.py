@@ -21,7 +21,7 @@ import operator
 import os
 import pathlib
 from ctypes import c_char_p, c_size_t, c_uint8, c_uint32, c_uint64, c_void_p
-from typing import NamedTuple, Optional
+from typing import NamedTuple, Optional, Union
 
 VERSION = 3  # of the interface, as the header has it
 
@@ -75,11 +75,11 @@ ANNOUNCE_EMISSION = 79
 
 
 class Words(enum.IntEnum):
-    """A number of the header, with its words: those of bindings/words, which the tests compare."""
+    """A number of the header, with its words and, for some, a sentence: those of bindings/words, which the tests compare."""
 
-    def __new__(cls, number, words):
+    def __new__(cls, number, words, sentence=None):
         member = int.__new__(cls, number)
-        member._value_, member.words = number, words
+        member._value_, member.words, member.sentence = number, words, sentence
         return member
 
 
@@ -107,23 +107,47 @@ class Refusal(Words):
     ANNOUNCE_TOO_LONG = 27, "announce over 500 once built"
 
 
-class Reason(Words):
-    """Why a packet was dropped: document 01's first test that held."""
+class BadForm(Words):
+    """The clause of test 3 that a packet's form breaks. Its words are a sentence, with # for the least payload length."""
 
-    NOT_OURS = 1, "not ours"
-    DUPLICATE = 2, "duplicate"
+    TYPE_TWO_PROOF = 1, "a proof that names a relay: no proof is of type 2"
+    TYPE_TWO_OF_KIND_LINK = 2, "a packet of a link that names a relay: none is of type 2"
+    ANNOUNCE_NOT_SINGLE = 3, "an announce whose destination is not of kind single"
+    ANNOUNCE_TOO_SHORT = 4, "an announce whose payload is under # bytes"
+    ANNOUNCE_OF_ANOTHER = 5, "an announce whose destination does not belong to its keys"
+    REQUEST_OF_KIND_LINK = 6, "a link request whose destination is a link"
+    REQUEST_TOO_SHORT = 7, "a link request whose payload is under # bytes"
+    LINK_PROOF_LENGTH = 8, "a link proof whose payload is not # bytes, nor three more"
+
+
+class NoWayOn(Words):
+    """The case of test 6. Its words are a sentence, with # for the expiry."""
+
+    NOT_ASKING = 1, "it asks no relay to carry it, and is not for this box"
+    NO_PATH = 2, "no path to this destination: none is held"
+    ONLY_EXPIRED = 3, "no path to this destination: the last one ran out at #"
+    NO_LINK = 4, "no such link: it ran out, or never led through here"
+    NOT_PROVED = 5, "this link is not proved yet"
+    NO_RETURN = 6, "nobody waits for this receipt: it is late, or its packet did not go through here"
+
+
+class Reason(Words):
+    """Why a packet was dropped: the first test that held, with a sentence where it has no clauses."""
+
+    NOT_OURS = 1, "not ours", "another relay is asked to carry it"
+    DUPLICATE = 2, "duplicate", "the same packet came less than 300 s ago"
     BAD_FORM = 3, "bad form"
-    OWN_ANNOUNCE = 4, "own announce"
-    TOO_MANY_HOPS = 5, "hops 128 or more"
+    OWN_ANNOUNCE = 4, "own announce", "an announce of this box's own came back"
+    TOO_MANY_HOPS = 5, "hops 128 or more", "128 relays or more carried it"
     NO_WAY_ON = 6, "no way on"
-    ALREADY_KNOWN = 7, "already known"
-    WRONG_SIDE = 8, "wrong side"
-    NOT_SIGNED = 9, "signature word no"
-    REPLAY = 10, "replay"
-    NOT_BETTER = 11, "not better"
-    PORT_OFF = 12, "port off"
-    NO_ROOM = 13, "no room"
-    RATE_LIMITED = 15, "announced too often"
+    ALREADY_KNOWN = 7, "already known", "this link is known already"
+    WRONG_SIDE = 8, "wrong side", "it came by another port, or with other hops, than its way has"
+    NOT_SIGNED = 9, "signature word no", "its signature was not found good"
+    REPLAY = 10, "replay", "this announce was taken in before"
+    NOT_BETTER = 11, "not better", "an announce no newer than the one held, by no shorter way"
+    PORT_OFF = 12, "port off", "the port to leave by is off"
+    NO_ROOM = 13, "no room", "no room for another path or link"
+    RATE_LIMITED = 15, "announced too often", "this destination announces itself too often"
 
 
 class Kind(Words):
@@ -154,12 +178,28 @@ class Refused(Exception):
 
 
 class Drop(NamedTuple):
-    """The packet goes no further."""
+    """The packet goes no further. The clause is a BadForm or a NoWayOn where the reason has some. The value is the least payload length that would have
+    served, or 0 where length is not the fault (3); or the greatest expiry of the destination's expired paths, in seconds (6.3); else 0."""
 
     reason: Reason
+    clause: Union[BadForm, NoWayOn, None] = None
+    value: int = 0
+
+    @property
+    def text(self):
+        """The words of a replay's line: drop 6.3 22600."""
+        clause = "" if self.clause is None else f".{self.clause.value}"
+        told = isinstance(self.clause, BadForm) or self.clause is NoWayOn.ONLY_EXPIRED
+        return f"drop {self.reason.value}{clause}" + (f" {self.value}" if told else "")
+
+    @property
+    def sentence(self):
+        """A sentence for people, with the value filled in."""
+        form = self.reason.sentence if self.clause is None else self.clause.words
+        return form.replace("#", str(self.value))
 
     def __str__(self):
-        return f"drop {self.reason.value}: {self.reason.words}"
+        return f"{self.text}: {self.sentence}"
 
 
 class Deliver(NamedTuple):
@@ -238,6 +278,8 @@ class Replayed(NamedTuple):
     reason: Optional[Reason] = None
     ports: tuple = ()
     length: int = 0
+    clause: Union[BadForm, NoWayOn, None] = None
+    value: int = 0
 
 
 class Port(NamedTuple):
@@ -311,6 +353,7 @@ FUNCTIONS = {
     "haskumye_remove_local": (c_uint8, [*_BUFFER, _GIVEN]),
     "haskumye_renumber": (c_uint8, [*_BUFFER, _GIVEN]),
     "haskumye_packet": (c_uint64, [*_BYTES, c_uint64, c_uint64, c_uint8, *_BUFFER, *_BUFFER, _TAKEN]),
+    "haskumye_answer_text": (c_size_t, [c_uint64, _TAKEN]),
     "haskumye_saved_size": (c_size_t, []),
     "haskumye_save": (c_uint64, [*_BYTES, _GIVEN, *_BUFFER]),
     "haskumye_load": (c_uint8, [*_BYTES, *_BUFFER, _TAKEN]),
@@ -711,8 +754,19 @@ def _path(told):
 
 
 def _fields(number):
-    """The fields of a packet call's number: kind, detail, ports, length, and where a delivered payload starts."""
+    """The fields of a packet call's number: kind, detail, ports, length, and where a delivered payload starts. A drop has others behind the detail."""
     return number & 0xFF, number >> 8 & 0xFF, number >> 16 & 0xFFFF, number >> 32 & 0xFFFF, number >> 48
+
+
+def _drop(number):
+    """The drop that a packet call's number says."""
+    reason, clause, value = Reason(number >> 8 & 0xFF), number >> 16 & 0xF, number >> 20
+    clauses = {Reason.BAD_FORM: BadForm, Reason.NO_WAY_ON: NoWayOn}
+    if reason in clauses and value < 1 << 41:
+        return Drop(reason, clauses[reason](clause), value)
+    if clause == value == 0:
+        return Drop(reason)
+    raise ValueError(f"the library answered {number:#x}, which this module does not know")
 
 
 def _port_set(ports):
@@ -723,14 +777,11 @@ def _replayed(number, line):
     kind, detail, ports, length, _ = _fields(number)
     if (kind, detail) == (Kind.REFUSED, Refusal.FILE_PLACE):
         raise Refused(detail)
-    return Replayed(
-        line,
-        Kind(kind),
-        refusal=Refusal(detail) if kind == Kind.REFUSED else None,
-        reason=Reason(detail) if kind == Kind.DROP else None,
-        ports=(ports,) if kind == Kind.FORWARD else _port_set(ports),
-        length=length,
-    )
+    if kind == Kind.REFUSED:
+        return Replayed(line, Kind.REFUSED, refusal=Refusal(detail))
+    if kind == Kind.DROP:
+        return Replayed(line, Kind.DROP, **_drop(number)._asdict())
+    return Replayed(line, Kind(kind), ports=(ports,) if kind == Kind.FORWARD else _port_set(ports), length=length)
 
 
 def _answer(number, packet, output):
@@ -739,7 +790,7 @@ def _answer(number, packet, output):
     if kind == Kind.REFUSED:
         raise Refused(detail)
     if kind == Kind.DROP:
-        return Drop(Reason(detail))
+        return _drop(number)
     if kind == Kind.DELIVER:
         return Deliver(packet[start:])
     if kind == Kind.FORWARD:

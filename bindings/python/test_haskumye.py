@@ -9,7 +9,28 @@ import sys
 import unittest
 
 import haskumye
-from haskumye import Announce, AnnounceRate, Deliver, Drop, Forward, Kept, Kind, Link, Mode, Parts, Path, Port, Reason, Refusal, Refused, Relay, Spread, Tally
+from haskumye import (
+    Announce,
+    AnnounceRate,
+    BadForm,
+    Deliver,
+    Drop,
+    Forward,
+    Kept,
+    Kind,
+    Link,
+    Mode,
+    NoWayOn,
+    Parts,
+    Path,
+    Port,
+    Reason,
+    Refusal,
+    Refused,
+    Relay,
+    Spread,
+    Tally,
+)
 
 ROOT = pathlib.Path(__file__).resolve().parents[2]
 OWN = bytes([0x0A] * 16)
@@ -36,6 +57,12 @@ def data(destination, payload):
     """Data that asks the relay to carry it."""
     header = haskumye.HEADER_TYPE_2 | haskumye.HEADER_TRANSPORT | haskumye.PACKET_DATA
     return haskumye.write(Parts(header=header, relay=OWN, destination=destination), payload)
+
+
+def drops():
+    """A drop of each reason and clause."""
+    clauses = {Reason.BAD_FORM: BadForm, Reason.NO_WAY_ON: NoWayOn}
+    return [Drop(reason, clause) for reason in Reason for clause in clauses.get(reason, [None])]
 
 
 class TestAnswers(unittest.TestCase):
@@ -65,8 +92,37 @@ class TestAnswers(unittest.TestCase):
         self.assertEqual(relay(1).packet(announce()[0], 0, 1), Drop(Reason.NOT_SIGNED))
 
     def test_answers_print_as_document_01_writes_them(self):
-        answers = [Drop(Reason.NO_WAY_ON), Deliver(b""), Forward(4, b""), Spread((1, 5), b""), Kept()]
-        self.assertEqual([str(answer) for answer in answers], ["drop 6: no way on", "deliver", "forward 4", "spread 1 5", "kept"])
+        answers = [Drop(Reason.NOT_OURS), Deliver(b""), Forward(4, b""), Spread((1, 5), b""), Kept()]
+        texts = ["drop 1: another relay is asked to carry it", "deliver", "forward 4", "spread 1 5", "kept"]
+        self.assertEqual([str(answer) for answer in answers], texts)
+
+    def test_what_a_drop_tells(self):
+        box, (packet, destination) = relay(2), announce()
+        cut, flagged = packet[:-1], bytes([packet[0] | haskumye.HEADER_CONTEXT_FLAG]) + packet[1:]
+        self.assertEqual(box.packet(cut, 0, 1, signed=True), Drop(Reason.BAD_FORM, BadForm.ANNOUNCE_TOO_SHORT, 148))
+        self.assertEqual(box.packet(flagged, 0, 1, signed=True), Drop(Reason.BAD_FORM, BadForm.ANNOUNCE_TOO_SHORT, 180))
+        self.assertEqual(box.packet(data(destination, b"1"), 0, 1), Drop(Reason.NO_WAY_ON, NoWayOn.NO_PATH))
+        box.packet(packet, 1, 1000, signed=True)
+        dropped = box.packet(data(destination, b"2"), 0, 1000 + 604800)
+        self.assertEqual(dropped, Drop(Reason.NO_WAY_ON, NoWayOn.ONLY_EXPIRED, 605800))
+        self.assertEqual(dropped.text, "drop 6.3 605800")
+        self.assertEqual(dropped.sentence, "no path to this destination: the last one ran out at 605800")
+        self.assertEqual(str(box.packet(haskumye.write(Parts(destination=DESK)), 0, 605801)).split(":")[0], "drop 6.1")
+
+    def test_texts_are_those_of_the_library(self):
+        greatest, text = (1 << 41) - 1, ctypes.create_string_buffer(haskumye.TEXT_SIZE)
+        for drop in drops():
+            number = 1 | drop.reason << 8 | (drop.clause or 0) << 16
+            if drop.clause is not None and "#" in drop.clause.words:
+                drop, number = drop._replace(value=greatest), number | greatest << 20
+            length = haskumye._library.haskumye_answer_text(number, text)
+            self.assertEqual(text.raw, text.raw[:length].ljust(haskumye.TEXT_SIZE, b"\0"))
+            self.assertEqual(text.raw[:length].decode("ascii"), drop.text)
+            self.assertEqual(haskumye._drop(number), drop)
+
+    def test_drops_that_the_library_never_answers(self):
+        for number in (0x0001, 0x0301, 0x90301, 0x0601, 0x70601, 1 << 61 | 0x30601, 0x10201, 1 << 20 | 0x0201, 0x0E01, 0x1001):
+            self.assertRaises(ValueError, haskumye._drop, number)
 
     def test_bytes_like_arguments(self):
         packet = haskumye.write(Parts(destination=bytearray(DESK)), memoryview(b"42 plants"))
@@ -233,7 +289,7 @@ class TestQuestions(unittest.TestCase):
         self.assertEqual(box.announce_rate, AnnounceRate(60, 2, 600))
         clocks = (1000, 1005, 1010, 1015, 1669, 1670)
         answers = [str(box.packet(announce(emission)[0], 0, clock, signed=True)) for emission, clock in enumerate(clocks, start=1)]
-        dropped = "drop 15: announced too often"
+        dropped = "drop 15: this destination announces itself too often"
         self.assertEqual(answers, ["spread 1", "spread 1", "spread 1", dropped, dropped, "spread 1"])
         self.assertEqual(box.path(0)[5:8], (1670, 2, 1670))
         box.set_announce_rate(*AnnounceRate())
@@ -287,6 +343,12 @@ class TestRecordings(unittest.TestCase):
         for clock, port, signed, packet in self.day()[:2]:
             live.packet(packet, port, clock, signed)
         self.assertEqual((replayed.tables, replayed.tally), (live.tables, live.tally))
+
+    def test_a_replayed_drop_tells_its_clause(self):
+        late = (700000, 0, False, data(announce()[1], b"late"))
+        step = list(relay(3).replay(haskumye.write_recording([*self.day(), late])))[3]
+        self.assertEqual((step.line, step.reason, step.clause), ("4 drop 6.3 605800", Reason.NO_WAY_ON, NoWayOn.ONLY_EXPIRED))
+        self.assertEqual((step.value, step.ports, step.length), (605800, (), 0))
 
     def refused(self, number, call, *arguments):
         with self.assertRaises(Refused) as caught:
@@ -408,16 +470,18 @@ class TestAgreement(unittest.TestCase):
             self.assertEqual(getattr(haskumye, name), int(number, 0), name)
 
     def test_enums(self):
-        for prefix, numbered in (("REFUSAL_", Refusal), ("REASON_", Reason), ("MODE_", Mode), ("", Kind)):
-            enum = re.search(rf"enum haskumye_{numbered.__name__.lower()} {{(.*?)}}", self.header, flags=re.DOTALL).group(1)
+        lists = (("REFUSAL_", Refusal), ("REASON_", Reason), ("BAD_FORM_", BadForm), ("NO_WAY_ON_", NoWayOn), ("MODE_", Mode), ("", Kind))
+        for prefix, numbered in lists:
+            name = prefix.lower().rstrip("_") or "kind"
+            enum = re.search(rf"enum haskumye_{name} {{(.*?)}}", self.header, flags=re.DOTALL).group(1)
             cases = {name: int(number) for name, number in re.findall(rf"HASKUMYE_{prefix}(\w+) = (\d+)", enum) if name != "NONE"}
             self.assertEqual({case.name: case.value for case in numbered}, cases)
 
     def test_words(self):
         lines = [line for line in (ROOT / "bindings/words").read_text().splitlines() if not line.startswith("#")]
-        lists = {"refusal": Refusal, "reason": Reason, "kind": Kind, "mode": Mode}
-        words = [f"{name} {case.value} {case.words}" for name, numbered in lists.items() for case in numbered]
-        self.assertEqual(words, lines)
+        words = lambda name, numbered: [f"{name} {case.value} {case.words}" for case in numbered]
+        sentences = [f"sentence {drop.text.split()[1]} {drop.clause.words if drop.clause else drop.reason.sentence}" for drop in drops()]
+        self.assertEqual(words("refusal", Refusal) + words("reason", Reason) + sentences + words("kind", Kind) + words("mode", Mode), lines)
 
 
 class TestLoading(unittest.TestCase):

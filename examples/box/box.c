@@ -125,28 +125,38 @@ static uint8_t signed_well(const struct wire *wire, const uint8_t *packet, size_
     return 1;
 }
 
+/* A refusal or a drop: `drop 6.3 22600: no path to this destination: the last one ran out at 22600`. */
+static void print_why(haskumye_answer answer)
+{
+    haskumye_text text, sentence;
+    haskumye_answer_text(answer, &text);
+    haskumye_sentence(answer, &sentence);
+    printf("%s: %s", text.bytes, sentence.bytes);
+}
+
 static void act(const struct wire *wire, haskumye_answer answer, const uint8_t *packet, size_t length)
 {
     size_t payload = HASKUMYE_ANSWER_PAYLOAD(answer);
-    printf("%s (%u) %s", wire->name, wire->port, haskumye_kind_words(HASKUMYE_ANSWER_KIND(answer)));
+    printf("%s (%u) ", wire->name, wire->port);
     switch (HASKUMYE_ANSWER_KIND(answer)) {
     case HASKUMYE_REFUSED:
-        printf(" %u: %s", HASKUMYE_ANSWER_REFUSAL(answer), haskumye_refusal_words(HASKUMYE_ANSWER_REFUSAL(answer)));
-        break;
     case HASKUMYE_DROP:
-        printf(" %u: %s", HASKUMYE_ANSWER_REASON(answer), haskumye_reason_words(HASKUMYE_ANSWER_REASON(answer)));
+        print_why(answer);
         break;
     case HASKUMYE_DELIVER:
-        printf(" %.*s", (int)(length - payload), (const char *)packet + payload);
+        printf("deliver %.*s", (int)(length - payload), (const char *)packet + payload);
         send_receipt(wire, packet, length);
         break;
     case HASKUMYE_FORWARD:
+        printf("forward");
         transmit(HASKUMYE_ANSWER_PORT(answer), HASKUMYE_ANSWER_LENGTH(answer));
         break;
     case HASKUMYE_SPREAD:
+        printf("spread");
         transmit_by_each(answer);
         break;
-    default: /* kept */
+    default:
+        printf("kept");
         break;
     }
     printf("\n");

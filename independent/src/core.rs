@@ -12,7 +12,7 @@ use haskumye::raw::*;
 /// Header, hops, relay address, destination, context.
 pub type PartsBytes = [u8; 35];
 
-/// The bytes that a line of the showing program is given in.
+/// The bytes that a line of the showing program, a replay's line and an answer's text are given in.
 pub const LINE: usize = 160;
 
 /// The parts of a packet as they cross.
@@ -159,11 +159,16 @@ pub fn build_announce(own: &Own, signature: &[u8], room: &mut [u8]) -> u32 {
     unsafe { haskumye_build_announce(k, kl, n, nl, r, rl, clock, t, tl, a, al, s, sl, room.as_mut_ptr(), room.len()) }
 }
 
-/// The answer as one number, its fields as in `linked`; signed by 1, not by any other number.
+/// The answer as one number, its fields as in `engine::decoded`; signed by 1, not by any other number.
 pub fn packet(packet: &[u8], port: u64, clock: u64, signed: u8, tables: &mut [u8], output: &mut [u8], tally: &mut Tally) -> u64 {
     let (size, room) = (tables.len(), output.len());
     let (tables, output) = (tables.as_mut_ptr(), output.as_mut_ptr());
     unsafe { haskumye_packet(packet.as_ptr(), packet.len(), port, clock, signed, tables, size, output, room, tally.as_mut_ptr().cast()) }
+}
+
+/// The length of an answer's text; the text goes to the buffer, with zeros behind it.
+pub fn answer_text(answer: u64, text: &mut [u8; LINE]) -> usize {
+    unsafe { haskumye_answer_text(answer, text) }
 }
 
 /// A file's refusal, 20 to 23, or 0.

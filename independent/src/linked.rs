@@ -1,10 +1,10 @@
 //! The proved core as an engine: its numbers decoded into the independent program's answers.
 
 use crate::announcing::Own;
-use crate::answer::{Answer, Reason, Refusal, Tally, Verdict};
+use crate::answer::{Refusal, Tally};
 use crate::core::{self, crossing, PartsBytes, LINE};
-use crate::engine::{AnnounceCalls, Engine, Fields, Outcome, PacketCalls, RecordingCalls, SavedCalls};
-use crate::packet::{payload_place, Address, Blob, PacketHash, Parts};
+use crate::engine::{decoded, encoded, AnnounceCalls, AnswerCalls, Engine, Fields, Outcome, PacketCalls, RecordingCalls, SavedCalls};
+use crate::packet::{Address, Blob, PacketHash, Parts};
 use crate::relay::asking::Question;
 use crate::relay::Arrival;
 use crate::tables::AnnounceRate;
@@ -28,36 +28,11 @@ fn refused(number: u8) -> Outcome {
     Outcome::Refused(Refusal::from_number(number).expect("a refusal's number").number())
 }
 
-/// Bits 0 to 7 the kind, 8 to 15 the refusal's or the reason's number, 16 to 31 the port or the ports, 32 to 47 the length, 48 to 63 where the payload
-/// of a delivered packet starts.
+/// What a packet call's number says. Nothing is lost on the way.
 fn judged(number: u64, packet: &[u8]) -> Outcome {
-    let (kind, detail, ports, length) = (number as u8, (number >> 8) as u8, (number >> 16) as u16, (number >> 32) as u16);
-    let outcome = match kind {
-        0 => refused(detail),
-        1 => Outcome::Judged(Answer::silent(Verdict::Drop(Reason::from_number(detail).expect("a reason's number")))),
-        2 => Outcome::Judged(Answer::silent(Verdict::Deliver)),
-        3 => Outcome::Judged(Answer { verdict: Verdict::Forward(ports as u8), length: usize::from(length) }),
-        4 => Outcome::Judged(Answer { verdict: Verdict::Spread(ports), length: usize::from(length) }),
-        5 => Outcome::Judged(Answer::silent(Verdict::Kept)),
-        _ => panic!("the core answered {number:x}"),
-    };
+    let outcome = decoded(number).unwrap_or_else(|| panic!("the core answered {number:x}")).into();
     assert_eq!(encoded(&outcome, packet), number, "the core's number has bits that no answer has");
     outcome
-}
-
-/// The number of an answer to a packet.
-pub fn encoded(outcome: &Outcome, packet: &[u8]) -> u64 {
-    let Outcome::Judged(Answer { verdict, length }) = outcome else {
-        return if let Outcome::Refused(number) = outcome { u64::from(*number) << 8 } else { 0 };
-    };
-    let fields = match verdict {
-        Verdict::Drop(reason) => u64::from(reason.number()) << 8,
-        Verdict::Forward(port) => u64::from(*port) << 16,
-        Verdict::Spread(ports) => u64::from(*ports) << 16,
-        Verdict::Deliver => (payload_place(packet) as u64) << 48,
-        Verdict::Kept => 0,
-    };
-    1 + verdict.index() as u64 + fields + ((*length as u64) << 32)
 }
 
 impl Engine for Core {
@@ -191,6 +166,12 @@ impl SavedCalls for Core {
     }
 }
 
+impl AnswerCalls for Core {
+    fn answer_text(&self, answer: u64, text: &mut [u8; LINE]) -> usize {
+        core::answer_text(answer, text)
+    }
+}
+
 impl AnnounceCalls for Core {
     fn signing_bytes(&self, own: &Own, room: &mut [u8]) -> u32 {
         core::announce_signing_bytes(own, room)
@@ -198,21 +179,5 @@ impl AnnounceCalls for Core {
 
     fn build_announce(&self, own: &Own, signature: &[u8], room: &mut [u8]) -> u32 {
         core::build_announce(own, signature, room)
-    }
-}
-
-#[cfg(test)]
-mod tests {
-    use super::*;
-
-    #[test]
-    fn numbers_are_decoded() {
-        let packet = [&[0x40][..], &[0; 40]].concat();
-        let judged = |number| judged(number, &packet);
-        assert_eq!(judged(0x0000_0700), Outcome::Refused(7));
-        assert_eq!(judged(0x0000_0d01), Outcome::Judged(Answer::silent(Verdict::Drop(Reason::NoRoom))));
-        assert_eq!(judged(0x0023_0000_0000_0002), Outcome::Judged(Answer::silent(Verdict::Deliver)));
-        assert_eq!(judged(0x0013_000f_0003), Outcome::Judged(Answer { verdict: Verdict::Forward(15), length: 19 }));
-        assert_eq!(judged(0x01f4_8001_0004), Outcome::Judged(Answer { verdict: Verdict::Spread(0x8001), length: 500 }));
     }
 }

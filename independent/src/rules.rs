@@ -2,7 +2,7 @@
 //! put in the place of one of them.
 
 pub use crate::announcing::{self, Own};
-pub use crate::answer::{self, Answer, Reason, Refusal, Tally, Verdict, When};
+pub use crate::answer::{self, no_way_on, Answer, Clause, NoWay, Reason, Refusal, Tally, Verdict, When};
 pub use crate::packet::{self, announced, hash, Address, Blob, Header, PacketHash, Parts};
 pub use crate::recording::replaying::Judged;
 pub use crate::recording::{self, reading, replaying, writing, Entry};
@@ -81,6 +81,8 @@ macro_rules! every_rule {
             judge::is_exempt(packet: &Packet) -> bool;
             judge::is_duplicate(&rules, hash: &PacketHash, clock: u64, tables: &[u8]) -> bool;
             judge::remember(hash: &PacketHash, clock: u64, tables: &mut [u8]);
+            form::failing_clause(&rules, packet: &Packet) -> Option<Clause>;
+            form::least_length(&rules, clause: Clause, packet: &Packet) -> usize;
             form::type_2_proof(packet: &Packet) -> bool;
             form::type_2_link(packet: &Packet) -> bool;
             form::announce_not_single(packet: &Packet) -> bool;
@@ -117,6 +119,7 @@ macro_rules! every_rule {
             by_path::path_to(&rules, packet: &Packet, tables: &[u8]) -> Result<Path, Reason>;
             by_path::not_to_be_relayed(packet: &Packet) -> bool;
             by_path::live_path(&rules, packet: &Packet, tables: &[u8]) -> Option<usize>;
+            by_path::greatest_expiry(packet: &Packet, tables: &[u8]) -> Option<u64>;
             by_path::request_tests(&rules, packet: &Packet, id: &Address, path: &Path, tables: &[u8]) -> Result<usize, Reason>;
             links::is_known_link(&rules, id: &Address, clock: u64, tables: &[u8]) -> bool;
             links::link_slot(clock: u64, tables: &[u8]) -> Option<usize>;
@@ -176,7 +179,8 @@ macro_rules! every_rule {
             writing::not_a_file(entries: &[u8], bodies: usize) -> bool;
             writing::room_refused(room: usize, length: usize) -> bool;
             writing::put_file(entries: &[u8], bodies: &[u8], room: &mut [u8]) -> usize;
-            replaying::replay_line(number: u64, judged: &Judged) -> String;
+            replaying::replay_line(&rules, number: u64, judged: &Judged) -> String;
+            replaying::reason_words(reason: Reason) -> String;
             replaying::goes_on(judged: &Judged) -> bool;
 
             saving::save(&rules, tables: &[u8], tally: &Tally, room: &mut [u8]) -> Result<usize, Refusal>;

@@ -70,6 +70,11 @@ static uint64_t packet(const struct use *use)
                            (haskumye_tally *)(void *)use->tally.bytes);
 }
 
+static uint64_t answer_text(const struct use *use)
+{
+    return haskumye_answer_text(use->index, (haskumye_text *)use->output.bytes);
+}
+
 static uint64_t saved_size(const struct use *use)
 {
     (void)use;
@@ -253,6 +258,7 @@ static const struct {
     [REMOVE_LOCAL] = {"haskumye_remove_local", remove_local},
     [RENUMBER] = {"haskumye_renumber", renumber},
     [PACKET] = {"haskumye_packet", packet},
+    [ANSWER_TEXT] = {"haskumye_answer_text", answer_text},
     [SAVED_SIZE] = {"haskumye_saved_size", saved_size},
     [SAVE_TABLES] = {"haskumye_save", save_tables},
     [LOAD_TABLES] = {"haskumye_load", load_tables},

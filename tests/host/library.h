@@ -18,6 +18,7 @@ enum function {
     REMOVE_LOCAL,
     RENUMBER,
     PACKET,
+    ANSWER_TEXT,
     SAVED_SIZE,
     SAVE_TABLES,
     LOAD_TABLES,
@@ -59,7 +60,7 @@ struct use {
     struct buffer tables;
     struct buffer tally;
     struct buffer keys, name_hash, random, ratchet, app_data, signature; /* of an announce to be built */
-    uint64_t port, clock, mode, index; /* index: of an entry, or a place in a table */
+    uint64_t port, clock, mode, index; /* index: of an entry, a place in a table, or an answer */
     uint64_t target, grace, penalty;   /* of the announce rate */
     size_t room;          /* of the output that a packet call would be lent */
     uint8_t byte;         /* the signature word, on or off, or a header */

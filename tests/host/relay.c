@@ -1,5 +1,6 @@
 #include "relay.h"
 
+#include "answers.h"
 #include "check.h"
 #include "haskumye.h"
 #include "questions.h"
@@ -108,6 +109,9 @@ void relay_make(struct relay *relay, const struct listed *call)
         memset(relay->tally.bytes, 0, relay->tally.length);
     }
     expect("the number", number, call->number);
+    if (call->function == PACKET) {
+        answers_try(number);
+    }
     uint64_t sum = sum_of(0, use.tables.bytes, use.tables.length);
     sum = sum_of(sum, use.tally.bytes, use.tally.length);
     expect("the bytes left", sum_of(sum, use.output.bytes, use.output.length), call->sum);

@@ -8,6 +8,7 @@
  *   stack   as heap, each call on a painted stack: prints how deep each function goes
  */
 #include "announces.h"
+#include "answers.h"
 #include "buffer.h"
 #include "check.h"
 #include "library.h"
@@ -130,6 +131,7 @@ int main(int count, char **words)
     replay(file);
     fclose(file);
     odd_lengths();
+    answers_try_odd();
     announces_try();
     recordings_try();
     saved_try_odd();

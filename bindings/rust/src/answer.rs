@@ -60,22 +60,142 @@ numbered! {
 }
 
 numbered! {
-    /// Why a packet was dropped: document 01's first test that held.
-    Reason {
-        NotOurs = 1 "not ours",
-        Duplicate = 2 "duplicate",
-        BadForm = 3 "bad form",
-        OwnAnnounce = 4 "own announce",
-        TooManyHops = 5 "hops 128 or more",
-        NoWayOn = 6 "no way on",
-        AlreadyKnown = 7 "already known",
-        WrongSide = 8 "wrong side",
-        NotSigned = 9 "signature word no",
-        Replay = 10 "replay",
-        NotBetter = 11 "not better",
-        PortOff = 12 "port off",
-        NoRoom = 13 "no room",
-        RateLimited = 15 "announced too often",
+    /// The clause of test 3 that a packet's form breaks. Its words are a sentence, with `#` for the least payload length.
+    BadForm {
+        TypeTwoProof = 1 "a proof that names a relay: no proof is of type 2",
+        TypeTwoOfKindLink = 2 "a packet of a link that names a relay: none is of type 2",
+        AnnounceNotSingle = 3 "an announce whose destination is not of kind single",
+        AnnounceTooShort = 4 "an announce whose payload is under # bytes",
+        AnnounceOfAnother = 5 "an announce whose destination does not belong to its keys",
+        RequestOfKindLink = 6 "a link request whose destination is a link",
+        RequestTooShort = 7 "a link request whose payload is under # bytes",
+        LinkProofLength = 8 "a link proof whose payload is not # bytes, nor three more",
+    }
+}
+
+numbered! {
+    /// The case of test 6. Its words are a sentence, with `#` for the expiry.
+    NoWayOn {
+        NotAsking = 1 "it asks no relay to carry it, and is not for this box",
+        NoPath = 2 "no path to this destination: none is held",
+        OnlyExpired = 3 "no path to this destination: the last one ran out at #",
+        NoLink = 4 "no such link: it ran out, or never led through here",
+        NotProved = 5 "this link is not proved yet",
+        NoReturn = 6 "nobody waits for this receipt: it is late, or its packet did not go through here",
+    }
+}
+
+/// Why a packet was dropped: tests without clauses by their numbers, words and sentences; tests 3 and 6 have more to tell.
+macro_rules! reasons {
+    ($($case:ident = $number:literal $words:literal $sentence:literal,)*) => {
+        /// Why a packet was dropped: the first test that held, and what it tells.
+        ///
+        /// ```
+        /// use haskumye::{NoWayOn, Reason};
+        ///
+        /// let reason = Reason::NoWayOn { case: NoWayOn::OnlyExpired, expiry: 22_600 };
+        /// assert_eq!(reason.to_string(), "drop 6.3 22600: no path to this destination: the last one ran out at 22600");
+        /// ```
+        #[derive(Clone, Copy, Debug, PartialEq, Eq, Hash)]
+        #[non_exhaustive]
+        pub enum Reason {
+            $(#[doc = $words] $case,)*
+            /// bad form
+            BadForm {
+                /// The first clause of test 3 that fails.
+                clause: BadForm,
+                /// The least payload length that would have served, or 0 where length is not the fault.
+                least: u64,
+            },
+            /// no way on
+            NoWayOn {
+                /// Which case of test 6.
+                case: NoWayOn,
+                /// With [`NoWayOn::OnlyExpired`] the greatest expiry of the destination's expired paths, in seconds; else 0.
+                expiry: u64,
+            },
+        }
+
+        impl Reason {
+            /// Each of them once, clauses and cases too, with no value; in the order of their numbers.
+            pub fn all() -> Vec<Self> {
+                let mut all = vec![$(Self::$case,)*];
+                all.extend(BadForm::ALL.iter().map(|clause| Self::BadForm { clause: *clause, least: 0 }));
+                all.extend(NoWayOn::ALL.iter().map(|case| Self::NoWayOn { case: *case, expiry: 0 }));
+                all.sort_by_key(|reason| (reason.number(), reason.clause()));
+                all
+            }
+
+            /// The number of its test in document 01, document 02 and the header.
+            pub fn number(self) -> u8 {
+                match self { $(Self::$case => $number,)* Self::BadForm { .. } => 3, Self::NoWayOn { .. } => 6 }
+            }
+
+            /// The one of these numbers.
+            pub fn from_numbers(number: u8, clause: u8, value: u64) -> Option<Self> {
+                let reason = match number {
+                    $($number => Self::$case,)*
+                    3 => Self::BadForm { clause: BadForm::from_number(clause)?, least: value },
+                    6 => Self::NoWayOn { case: NoWayOn::from_number(clause)?, expiry: value },
+                    _ => return None,
+                };
+                ((reason.clause(), reason.value()) == (clause, value)).then_some(reason)
+            }
+
+            /// What document 01 calls its test.
+            pub fn words(self) -> &'static str {
+                match self { $(Self::$case => $words,)* Self::BadForm { .. } => "bad form", Self::NoWayOn { .. } => "no way on" }
+            }
+
+            /// A sentence for people, with `#` for the value.
+            pub fn sentence_form(self) -> &'static str {
+                match self {
+                    $(Self::$case => $sentence,)*
+                    Self::BadForm { clause, .. } => clause.words(),
+                    Self::NoWayOn { case, .. } => case.words(),
+                }
+            }
+        }
+    };
+}
+
+reasons! {
+    NotOurs = 1 "not ours" "another relay is asked to carry it",
+    Duplicate = 2 "duplicate" "the same packet came less than 300 s ago",
+    OwnAnnounce = 4 "own announce" "an announce of this box's own came back",
+    TooManyHops = 5 "hops 128 or more" "128 relays or more carried it",
+    AlreadyKnown = 7 "already known" "this link is known already",
+    WrongSide = 8 "wrong side" "it came by another port, or with other hops, than its way has",
+    NotSigned = 9 "signature word no" "its signature was not found good",
+    Replay = 10 "replay" "this announce was taken in before",
+    NotBetter = 11 "not better" "an announce no newer than the one held, by no shorter way",
+    PortOff = 12 "port off" "the port to leave by is off",
+    NoRoom = 13 "no room" "no room for another path or link",
+    RateLimited = 15 "announced too often" "this destination announces itself too often",
+}
+
+impl Reason {
+    /// The number of its clause or case; 0 where its test has none.
+    pub fn clause(self) -> u8 {
+        match self {
+            Self::BadForm { clause, .. } => clause.number(),
+            Self::NoWayOn { case, .. } => case.number(),
+            _ => 0,
+        }
+    }
+
+    /// The least payload length, the expiry, or 0.
+    pub fn value(self) -> u64 {
+        match self {
+            Self::BadForm { least, .. } => least,
+            Self::NoWayOn { expiry, .. } => expiry,
+            _ => 0,
+        }
+    }
+
+    /// A sentence for people, with the value filled in.
+    pub fn sentence(self) -> String {
+        self.sentence_form().replace('#', &self.value().to_string())
     }
 }
 
@@ -96,9 +216,17 @@ impl fmt::Display for Refusal {
 
 impl std::error::Error for Refusal {}
 
+/// The text that a replay's line has, then a sentence for people.
 impl fmt::Display for Reason {
     fn fmt(&self, f: &mut fmt::Formatter) -> fmt::Result {
-        write!(f, "drop {}: {}", self.number(), self.words())
+        write!(f, "drop {}", self.number())?;
+        if self.clause() != 0 {
+            write!(f, ".{}", self.clause())?;
+        }
+        if matches!(self, Reason::BadForm { .. } | Reason::NoWayOn { case: NoWayOn::OnlyExpired, .. }) {
+            write!(f, " {}", self.value())?;
+        }
+        write!(f, ": {}", self.sentence())
     }
 }
 
@@ -199,19 +327,25 @@ pub(crate) fn done(number: u8) -> Result<(), Refusal> {
     }
 }
 
-/// A packet call's number: the kind in bits 0 to 7, the refusal or reason in 8 to 15, the port or ports in 16 to 31, the length in 32 to 47, where a
-/// delivered payload starts in 48 to 63.
+/// A packet call's number: the kind in bits 0 to 7, the refusal or reason in 8 to 15. A drop has the clause in 16 to 19 and the value in 20 to 60; else the
+/// port or ports are in 16 to 31, the length in 32 to 47, and where a delivered payload starts in 48 to 63.
 pub(crate) fn judged(number: u64) -> Result<Verdict, Refusal> {
     let (kind, detail, ports, length) = (number as u8, (number >> 8) as u8, (number >> 16) as u16, usize::from((number >> 32) as u16));
     match kind {
         raw::REFUSED => Err(refusal(detail)),
-        raw::DROP => Ok(Verdict::Drop(Reason::from_number(detail).unwrap_or_else(|| unknown(number)))),
+        raw::DROP => Ok(Verdict::Drop(dropped(number).unwrap_or_else(|| unknown(number)))),
         raw::DELIVER => Ok(Verdict::Deliver { payload: (number >> 48) as usize }),
         raw::FORWARD if ports < 16 => Ok(Verdict::Forward { port: ports as u8, length }),
         raw::SPREAD => Ok(Verdict::Spread { ports: PortSet(ports), length }),
         raw::KEPT => Ok(Verdict::Kept),
         _ => unknown(number),
     }
+}
+
+/// The reason in a drop's number.
+fn dropped(number: u64) -> Option<Reason> {
+    let (clause, value) = ((number >> 16 & 0xf) as u8, number >> 20);
+    Reason::from_numbers((number >> 8) as u8, clause, value).filter(|_| value < 1 << 41)
 }
 
 /// A writing or saving call's number: the refusal in its low 16 bits, the length in those above.
@@ -246,6 +380,10 @@ mod tests {
         assert_eq!(judged(0x0700), Err(Refusal::Tables));
         assert_eq!(judged(0x0d01), Ok(Verdict::Drop(Reason::NoRoom)));
         assert_eq!(judged(0x0f01), Ok(Verdict::Drop(Reason::RateLimited)));
+        let cut = Reason::BadForm { clause: BadForm::AnnounceTooShort, least: 148 };
+        assert_eq!(judged(148 << 20 | 0x4_0301), Ok(Verdict::Drop(cut)));
+        let expired = Reason::NoWayOn { case: NoWayOn::OnlyExpired, expiry: (1 << 41) - 1 };
+        assert_eq!(judged(((1 << 41) - 1) << 20 | 0x3_0601), Ok(Verdict::Drop(expired)));
         assert_eq!(judged(0x0023_0000_0000_0002), Ok(Verdict::Deliver { payload: 35 }));
         assert_eq!(judged(0x0013_000f_0003), Ok(Verdict::Forward { port: 15, length: 19 }));
         assert_eq!(judged(0x01f4_8001_0004), Ok(Verdict::Spread { ports: PortSet(0x8001), length: 500 }));
@@ -254,7 +392,23 @@ mod tests {
 
     #[test]
     fn numbers_that_the_core_never_returns_are_not_taken_for_others() {
-        for number in [0x06, 0xff, 0x0001, 0x0e01, 0x1001, 0x0000, 0x0c00, 0x0010_0003] {
+        for number in [
+            0x06,
+            0xff,
+            0x0001,
+            0x0301,
+            0x9_0301,
+            0x0601,
+            0x7_0601,
+            1 << 61 | 0x3_0601,
+            0x1_0201,
+            0x10_0d01,
+            0x0e01,
+            0x1001,
+            0x0000,
+            0x0c00,
+            0x0010_0003,
+        ] {
             assert!(std::panic::catch_unwind(|| judged(number)).is_err(), "{number:#x}");
         }
     }
@@ -262,7 +416,12 @@ mod tests {
     #[test]
     fn answers_print_as_document_01_writes_them() {
         assert_eq!(Refusal::TooShort.to_string(), "refused 1: length under 19, or type 2 under 35");
-        assert_eq!(Verdict::Drop(Reason::NoWayOn).to_string(), "drop 6: no way on");
+        let drop = |number, clause, value| Verdict::Drop(Reason::from_numbers(number, clause, value).expect("a reason")).to_string();
+        assert_eq!(drop(2, 0, 0), "drop 2: the same packet came less than 300 s ago");
+        assert_eq!(drop(3, 1, 0), "drop 3.1 0: a proof that names a relay: no proof is of type 2");
+        assert_eq!(drop(3, 4, 148), "drop 3.4 148: an announce whose payload is under 148 bytes");
+        assert_eq!(drop(6, 1, 0), "drop 6.1: it asks no relay to carry it, and is not for this box");
+        assert_eq!(drop(6, 3, 22_600), "drop 6.3 22600: no path to this destination: the last one ran out at 22600");
         assert_eq!(Verdict::Forward { port: 4, length: 19 }.to_string(), "forward 4");
         assert_eq!(Verdict::Spread { ports: PortSet(0b10_0010), length: 19 }.to_string(), "spread 1 5");
     }

@@ -18,7 +18,7 @@ mod recording;
 mod relay;
 
 pub use announce::Announce;
-pub use answer::{Mode, PortSet, Ports, Reason, Refusal, Verdict};
+pub use answer::{BadForm, Mode, NoWayOn, PortSet, Ports, Reason, Refusal, Verdict};
 pub use packet::{announced_destination, emission, least_announce, line, link_id, packet_hash, payload, read, sha256, write};
 pub use question::{AnnounceRate, Link, Path, Port};
 pub use raw::{

@@ -272,6 +272,7 @@ extern "C" {
         room: usize,
         tally: *mut Tally,
     ) -> u64;
+    pub fn haskumye_answer_text(answer: u64, text: *mut Text) -> usize;
 
     pub fn haskumye_saved_size() -> usize;
     pub fn haskumye_save(tables: *const u8, tables_length: usize, tally: *const Tally, room: *mut u8, room_length: usize) -> u64;

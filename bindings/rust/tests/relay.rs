@@ -1,7 +1,8 @@
 //! A relay through the library: each verdict, each refusal, and a receipt that comes home after a renumbering.
 
 use haskumye::raw::{
-    DESTINATION_PLAIN, HEADER_ACCESS_CODE, HEADER_TRANSPORT, HEADER_TYPE_2, PACKET_ANNOUNCE, PACKET_LINK_REQUEST, PACKET_PROOF,
+    DESTINATION_LINK, DESTINATION_PLAIN, HEADER_ACCESS_CODE, HEADER_CONTEXT_FLAG, HEADER_TRANSPORT, HEADER_TYPE_2, PACKET_ANNOUNCE,
+    PACKET_LINK_REQUEST, PACKET_PROOF,
 };
 use haskumye::*;
 
@@ -96,7 +97,29 @@ fn renumbering_keeps_the_receipt() {
 
 #[test]
 fn emptied_tables_lose_it() {
-    assert_eq!(receipt_after(|relay| *relay = self::relay(16), 13), Ok(Verdict::Drop(Reason::NoWayOn)));
+    assert_eq!(
+        receipt_after(|relay| *relay = self::relay(16), 13),
+        Ok(Verdict::Drop(Reason::NoWayOn { case: NoWayOn::NoReturn, expiry: 0 }))
+    );
+}
+
+/// What a drop by test 3 or 6 tells: the clause with the least length, and the last expiry.
+#[test]
+fn a_drop_tells_its_clause() {
+    let (mut relay, mut output, (announce, destination)) = (relay(2), [0; OUTPUT_SIZE], announce(1));
+    let mut judge = |packet: &[u8], clock| match relay.packet(packet, 0, clock, true, &mut output) {
+        Ok(Verdict::Drop(reason)) => reason,
+        other => panic!("{other:?}"),
+    };
+    let cut = |least| Reason::BadForm { clause: BadForm::AnnounceTooShort, least };
+    let flagged: Vec<u8> = [&[announce[0] | HEADER_CONTEXT_FLAG][..], &announce[1..]].concat();
+    assert_eq!((judge(&announce[..announce.len() - 1], 1), judge(&flagged, 1)), (cut(148), cut(180)));
+    assert_eq!(judge(&data(destination, b"1"), 1), Reason::NoWayOn { case: NoWayOn::NoPath, expiry: 0 });
+    let proof = packet(Parts { header: PACKET_PROOF | DESTINATION_LINK, context: 0xff, ..Parts::default() }, &[0; 97]);
+    assert_eq!(judge(&proof, 1), Reason::BadForm { clause: BadForm::LinkProofLength, least: 96 });
+    relay.packet(&announce, 1, 1_000, true, &mut output).unwrap();
+    let late = relay.packet(&data(destination, b"2"), 0, 605_800, true, &mut output);
+    assert_eq!(late, Ok(Verdict::Drop(Reason::NoWayOn { case: NoWayOn::OnlyExpired, expiry: 605_800 })));
 }
 
 /// The refusals of packet calls, in the order of their numbers.

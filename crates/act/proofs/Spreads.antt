@@ -63,10 +63,10 @@ isEverywhere (blocked why) = false
 abbrev Elsewhere : Way → Type 0
 Elsewhere w = isEverywhere w ≡ false
 
-path-elsewhere : (s : Slot Path) → Elsewhere (pathWay s)
+path-elsewhere : (s : Slot Path) (expired : Slot ℕ) → Elsewhere (pathWay s expired)
 unfolding pathWay
-path-elsewhere empty = refl
-path-elsewhere (used p) = refl
+path-elsewhere empty expired = refl
+path-elsewhere (used p) expired = refl
 
 link-elsewhere : (linkProof : Bool) (s : Slot Link) → Elsewhere (linkWay linkProof s)
 unfolding linkWay
@@ -89,7 +89,7 @@ announce-way v a known =
     (sym
     (either Elsewhere _ (λ _. link-elsewhere _ _)
     (λ _. either Elsewhere _ (λ _. return-elsewhere _)
-    (λ _. either Elsewhere _ (λ _. refl) (λ _. path-elsewhere _))))
+    (λ _. either Elsewhere _ (λ _. refl) (λ _. path-elsewhere _ _))))
     ∙ ap isEverywhere e)))
 
 -- ---- spread or kept

@@ -1,5 +1,5 @@
 -- A packet that is spread is an announce of good form, and so long enough for its blob.
-use Prim.Native.Nat.{_≤_}
+use Prim.Native.Nat.{ℕ, _≤_}
 use mathlib.Core.Bool.{false}
 use mathlib.Core.Path.{_≡_, refl, subst}
 use lib.ListN.{length}
@@ -39,10 +39,10 @@ module _ (v : View) (a : Arrival) where
   return-blob empty = tt
   return-blob (used t) = tt
 
-  path-blob : (s : Slot Path) → WayBlob a (pathWay s)
+  path-blob : (s : Slot Path) (expired : Slot ℕ) → WayBlob a (pathWay s expired)
   unfolding pathWay
-  path-blob empty = tt
-  path-blob (used p) = tt
+  path-blob empty expired = tt
+  path-blob (used p) expired = tt
 
   way-blob : badForm (a .bytes) ≡ false → WayBlob a (wayOn v a)
   unfolding wayOn
@@ -50,7 +50,7 @@ module _ (v : View) (a : Arrival) where
       either (WayBlob a) _ (announce-long a good)
       (λ _. either (WayBlob a) _ (λ _. link-blob _)
       (λ _. either (WayBlob a) _ (λ _. return-blob _)
-      (λ _. either (WayBlob a) _ (λ _. tt) (λ _. path-blob _))))
+      (λ _. either (WayBlob a) _ (λ _. tt) (λ _. path-blob _ _))))
 
   pub plan-blob : PlanBlob a (plan v a)
   plan-blob = go (plan v a) refl

@@ -54,7 +54,7 @@ pub record FollowsTheRules (cs : List Call) (start : List ℕ) (counts : Tally) 
 
 -- ---- one call on a relay's bytes
 module _ (r : Relay) (s : shaped r ≡ true) (ok : tablesOk r ≡ true) where
-  after-seven : (c : Call) → afterSeven c (bytesOf r) ≡ refusal c r
+  pub after-seven : (c : Call) → afterSeven c (bytesOf r) ≡ refusal c r
   unfolding afterSeven _then_otherwise_
   after-seven c = rw (ok-bytes r s ok, back r s ok)
 

@@ -126,11 +126,11 @@ greatest =
 abbrev pub announce : List Call
 announce = arrives announceBytes 1000 1 ∷ []
 
-announce-given : CallsBytes announce
+pub announce-given : CallsBytes announce
 unfolding EachCall CallBytes isBytes isByte tableOk all _and_
 announce-given = (refl, tt)
 
-prepared-held : Held preparedRelay
+pub prepared-held : Held preparedRelay
 unfolding rules shaped isBytes isByte
 prepared-held = record { shape = refl; ok = refl }
 

@@ -19,7 +19,7 @@ use Rattle.announcing.specs.Announcing.{Announce, makeAnnounce, blob, payloadWi
 use Rattle.announcing.proofs.Lengths.{refusal-by}
 use Rattle.announcing.proofs.RoundTrip.{builtIn, built-stands}
 use Rattle.demands.specs.Bytes.{repliesOn}
-use Rattle.demands.specs.Drops.{droppedBy}
+use Rattle.rules.specs.Reasons.{droppedBy}
 use Rattle.demands.proofs.OwnAnnounces.{answeredTo, never-dropped}
 use Rattle.demands.proofs.Instance2.{announce-said}
 

@@ -8,12 +8,12 @@ use lib.Dec.{eqb, lit<}
 use lib.ListN.{length, getD, replicate}
 use Rattle.octets.specs.Bytes.{Bytes}
 use Rattle.octets.specs.Index.{_and_}
-use Rattle.octets.specs.Choice.{_then_otherwise_}
+use Rattle.octets.specs.Choice.{_then_otherwise_, _or_}
 use Rattle.octets.specs.Part.{joined}
 use Rattle.packet.specs.Write.{leastOutput}
 use Rattle.rules.specs.Relay.{Relay}
 use Rattle.rules.specs.Renumbering.{oneToOne}
-use Rattle.rules.specs.Answers.{inSet, imageSet, renameVerdict, renameAnswer}
+use Rattle.rules.specs.Answers.{tellsValue, inSet, imageSet, renameVerdict, renameAnswer}
 use Rattle.rules.specs.Arrival.{Arrival}
 use Rattle.rules.specs.Refusals.{all, tableOk, packetRefusal}
 use Rattle.rules.specs.Calls.{newTally, judged, judge, packetCall}
@@ -36,7 +36,7 @@ use Rattle.recording.specs.Reader.{fileRefusal, entryOf, entriesOf}
 use Rattle.recording.specs.Writer.{bodiesOf}
 use Rattle.recording.proofs.ReadLaws.{entries-length, entries-at}
 use Rattle.recording.proofs.RoundTrip.{file-size, file-taken, file-entries, file-bytes}
-use Rattle.replaying.specs.Lines.{portsBelow, verdictWords, answerWords, answerLine, linesFrom}
+use Rattle.replaying.specs.Lines.{portsBelow, testWord, reasonWords, verdictWords, answerWords, answerLine, linesFrom}
 use Rattle.replaying.specs.Promise.{replayOn, stepsOn}
 use Rattle.replaying.proofs.Replay.{replay-lines}
 use Rattle.text.specs.Numerals.{digit, numeralWithin, numeral}
@@ -219,7 +219,8 @@ text =
     52 ∷ 32 ∷ 102 ∷ 111 ∷ 114 ∷ 119 ∷ 97 ∷ 114 ∷ 100 ∷ 32 ∷ 49 ∷ 10 ∷ []
 
 lines : linesFrom 1 (answersBy 4 1) ≡ text
-unfolding digit numeralWithin numeral spaced wordsLine joined inSet portsBelow verdictWords answerWords answerLine linesFrom _then_otherwise_
+unfolding digit numeralWithin numeral spaced wordsLine joined inSet portsBelow tellsValue testWord reasonWords verdictWords answerWords answerLine
+    linesFrom _then_otherwise_ _or_ _and_
 lines = refl
 
 pub printed : replayOn file start newTally .text ≡ text

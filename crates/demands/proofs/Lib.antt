@@ -13,6 +13,7 @@ pub mod Chatty
 pub mod Replays
 pub mod Lengths
 pub mod OwnAnnounces
+pub mod Reasons
 pub mod InstanceCalls
 pub mod Instance1
 pub mod Instance2
@@ -23,3 +24,4 @@ pub mod InstanceChatty
 pub mod InstanceReplay
 pub mod InstanceAnnounce
 pub mod InstanceLengths
+pub mod InstanceReasons

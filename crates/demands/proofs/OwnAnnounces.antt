@@ -26,6 +26,7 @@ use Rattle.rules.specs.Ways.{Way, everywhere, by-path, along-link, by-return, b
 use Rattle.rules.specs.Tests.{notOurs, duplicate, typeTwoProof, typeTwoOfKindLink, announceNotSingle, announceTooShort, announceOfAnother, requestOfKindLink, requestTooShort, linkProofLength, formTests, badForm, ownAnnounce, deliveredHere, tooManyHops}
 use Rattle.rules.specs.Judging.{Plan, dropped, follows, earlyTests, onwardTests, onwardPlan, plan, spreadVerdict, wayVerdict, verdict}
 use Rattle.rules.specs.Calls.{Judgement, judged, judge, packetCall}
+use Rattle.rules.specs.Reasons.{dropBy, droppedBy}
 use Rattle.rules.specs.declared.Reason.the-variants.{Duplicate}
 use Rattle.rules.specs.declared.Verdict.{Verdict}
 use Rattle.rules.specs.declared.Answer.{Answer}
@@ -38,7 +39,6 @@ use Rattle.announcing.proofs.Lengths.{head-one, payload-length, Buildable, buil
 use Rattle.announcing.proofs.Fields.{head-announce, head-single, built-header, built-payload, built-parts, flagged, destination-found}
 use Rattle.announcing.proofs.RoundTrip.{builtIn, built-stands}
 use Rattle.relay.specs.Promise.{JudgementOn, inBytes, packetOn}
-use Rattle.demands.specs.Drops.{droppedBy}
 
 -- ---- the rules, for what is built of parts that nothing refuses
 module _ (a : Announce) (signature : List ℕ) {room : ℕ} (b : Buildable a signature room) where
@@ -113,7 +113,7 @@ module _ (a : Announce) (signature : List ℕ) {room : ℕ} (b : Buildable a sig
     apart todo = not (droppedBy 3 (Judged (verdict v arrival todo))) and not (droppedBy 5 (Judged (verdict v arrival todo)))
 
     way-apart : (w : Way) → apart (follows w) ≡ true
-    unfolding apart verdict wayVerdict spreadVerdict droppedBy _and_
+    unfolding apart verdict wayVerdict spreadVerdict dropBy droppedBy _and_
     way-apart (everywhere known) =
         either (λ (x : Verdict). (not (droppedBy 3 (Judged x)) and not (droppedBy 5 (Judged x))) ≡ true) _ (λ _. refl) (λ _. refl)
     way-apart (by-path q) = refl
@@ -122,11 +122,11 @@ module _ (a : Announce) (signature : List ℕ) {room : ℕ} (b : Buildable a sig
     way-apart (blocked why) = refl
 
     onward-apart : (w : Way) → apart (onwardPlan v arrival w) ≡ true
-    unfolding onwardPlan onwardTests allGive apart verdict droppedBy _and_
+    unfolding onwardPlan onwardTests allGive apart verdict dropBy droppedBy _and_
     onward-apart w = all-first apart (onwardTests v arrival w) (follows w) refl (way-apart w)
 
     plan-apart : apart (plan v arrival) ≡ true
-    unfolding plan earlyTests firstOf apart verdict droppedBy _and_
+    unfolding plan earlyTests firstOf apart verdict dropBy droppedBy _and_
     plan-apart =
         let P : Plan → Type 0 = λ todo. apart todo ≡ true in
         either P _ (λ _. refl)
@@ -151,7 +151,7 @@ module _ (a : Announce) (signature room : List ℕ) (z : announceRefusal a signa
   x = record { bytes = announceWith a signature; port = port; clock = clock; signed = signed }
 
   answer-never : never (packetOn (announceWith a signature) port clock signed tables tally output .answer) ≡ true
-  unfolding packetOn inBytes packetCall judge judged never apart droppedBy _and_
+  unfolding packetOn inBytes packetCall judge judged never apart dropBy droppedBy _and_
   answer-never =
       either (λ (o : JudgementOn). never (o .answer) ≡ true) (wellFormed tables)
       (λ _. either (λ (j : Judgement). never (j .answer) ≡ true) _

@@ -5,5 +5,4 @@ pub mod Refusals
 pub mod Keepalives
 pub mod Chatty
 pub mod Replays
-pub mod Drops
 pub mod Lengths

@@ -2,17 +2,17 @@
 -- that is delivered. All that is returned and left is computed; of the last the number.
 use Prim.Native.Nat.{ℕ}
 use mathlib.Core.Bool.{true, false}
-use mathlib.Core.List.{List, _∷_}
+use mathlib.Core.List.{List, [], _∷_}
 use mathlib.Core.Path.{_≡_, refl, ap, subst, _∙_}
 use lib.ListN.{replicate}
 use Rattle.octets.specs.Choice.{_then_otherwise_}
-use Rattle.octets.specs.Part.{patch}
+use Rattle.octets.specs.Part.{joined, patch}
 use Rattle.packet.specs.Hash.{packetHash}
 use Rattle.rules.specs.Relay.{empty, used, Relay}
 use Rattle.rules.specs.View.{viewAt}
 use Rattle.rules.specs.Tests.{badForm}
 use Rattle.rules.specs.Refusals.{tablesOk}
-use Rattle.rules.specs.Answers.{inSet, imageSet}
+use Rattle.rules.specs.Answers.{tellsValue, inSet, imageSet}
 use Rattle.rules.specs.Calls.{newTally, packetCall}
 use Rattle.rules.specs.declared.Tally.{Tally}
 use Rattle.rules.specs.declared.Verdict.the-variants.{Deliver, Spread}
@@ -26,9 +26,13 @@ use Rattle.rules.proofs.Sanity.{oneUp}
 use Rattle.tables.specs.Layout.{bytesOf}
 use Rattle.tables.specs.Shape.{isByte, isBytes, shaped}
 use Rattle.tables.proofs.Whole.{back, ok-bytes}
+use Rattle.text.specs.Numerals.{digit, numeralWithin, numeral}
+use Rattle.text.specs.Words.{spaced}
+use Rattle.replaying.specs.Lines.{portsBelow, testWord, reasonWords}
 use Rattle.relay.specs.Promise.{JudgementOn, inBytes, packetOn}
-use Rattle.haskumye.specs.Answers.{fieldsNumber, verdictNumber, answerNumber, Answers, renamePorts, renameNumber}
+use Rattle.haskumye.specs.Answers.{fieldsNumber, dropNumber, verdictNumber, answerNumber, Answers, renamePorts, renameNumber}
 use Rattle.haskumye.specs.Packets.{payloadPlace}
+use Rattle.haskumye.specs.Texts.{wordsText, numberWords}
 
 -- a packet call on the bytes of a relay is that on the relay
 on-relay : (r : Relay) → shaped r ≡ true → tablesOk r ≡ true → (bytes : List ℕ) (port clock : ℕ)
@@ -119,5 +123,25 @@ module _ (number : ℕ) (tally : Tally) (after output : List ℕ) where
 -- ---- the numbers with every port one up: ports {3}, and the others as they were
 pub renamed : (renameNumber oneUp 0xd7_0004_0004 ≡ 0xd7_0008_0004) × (renameNumber oneUp 0x400 ≡ 0x400)
     × (renameNumber oneUp 0x23_0000_0000_0002 ≡ 0x23_0000_0000_0002)
+    × (renameNumber oneUp 0x5_8483_0601 ≡ 0x5_8483_0601)
 unfolding rules renameNumber renamePorts fieldsNumber imageSet inSet
-renamed = (refl, refl, refl)
+renamed = (refl, refl, refl, refl)
+
+-- ---- a drop, and its text: `drop 6.3 22600`; a number of kind 6, which no call returns, has none
+pub drop-told : (dropNumber 6 3 22600 ≡ 0x5_8483_0601) × (dropNumber 3 4 148 ≡ 0x944_0301)
+unfolding dropNumber
+drop-told = (refl, refl)
+
+pub drop-text : _≡_ {A = List (List ℕ)}
+    (wordsText (numberWords 0x5_8483_0601) ∷
+    wordsText (numberWords 0x944_0301) ∷
+    wordsText (numberWords 0xd7_0004_0004) ∷
+    wordsText (numberWords 0x400) ∷
+    wordsText (numberWords 6) ∷ [])
+    ((100 ∷ 114 ∷ 111 ∷ 112 ∷ 32 ∷ 54 ∷ 46 ∷ 51 ∷ 32 ∷ 50 ∷ 50 ∷ 54 ∷ 48 ∷ 48 ∷ []) ∷
+    (100 ∷ 114 ∷ 111 ∷ 112 ∷ 32 ∷ 51 ∷ 46 ∷ 52 ∷ 32 ∷ 49 ∷ 52 ∷ 56 ∷ []) ∷
+    (115 ∷ 112 ∷ 114 ∷ 101 ∷ 97 ∷ 100 ∷ 32 ∷ 50 ∷ []) ∷
+    (114 ∷ 101 ∷ 102 ∷ 117 ∷ 115 ∷ 101 ∷ 100 ∷ 32 ∷ 52 ∷ []) ∷
+    [] ∷ [])
+unfolding rules wordsText numberWords reasonWords testWord tellsValue portsBelow inSet spaced joined numeral numeralWithin digit
+drop-text = refl

@@ -3,5 +3,6 @@
 pub mod ExportLaws
 pub mod LosesNothing
 pub mod AnswerBits
+pub mod AnswerTexts
 pub mod Instance
 pub mod RecordingLaws

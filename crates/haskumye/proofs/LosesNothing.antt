@@ -24,7 +24,7 @@ use Rattle.packet.specs.Write.{Wide}
 use Rattle.rules.specs.declared.Tally.{Tally}
 use Rattle.recording.specs.declared.Written.{Written as Recorded}
 use Rattle.saved.specs.declared.Saved.{Saved}
-use Rattle.haskumye.specs.Answers.{fieldsNumber}
+use Rattle.haskumye.specs.Answers.{fieldsNumber, dropNumber}
 use Rattle.haskumye.specs.Packets.{partsBytes, partsIn, payloadPlace, writtenNumber}
 use Rattle.haskumye.specs.Tallies.{tallyNumbers, tallyIn}
 use Rattle.haskumye.specs.Recordings.{recordedNumber}
@@ -167,3 +167,36 @@ module _ (kind detail ports size start : ℕ) (k : kind < 256) (d : detail < 256
     where
       low-first : number ≡ start * 281474976710656 + (size * 4294967296 + lower)
       low-first = by-bytes ∙ omega arith
+
+-- a drop's number: the test, its clause or case, and the value
+module _ (test clause value : ℕ) (t : test < 256) (k : clause < 16) (x : value < 2199023255552) where
+  abbrev told : ℕ
+  told = dropNumber test clause value
+
+  told-bytes : told ≡ ((value * 16 + clause) * 256 + test) * 256 + 1
+  unfolding dropNumber
+  told-bytes = omega (arith, mod-eq-of-lt x)
+
+  told-words : told ≡ (value * 16 + clause) * 65536 + (test * 256 + 1)
+  told-words = told-bytes ∙ omega arith
+
+  pub drop-back : told % 256 ≡ 1
+  drop-back = ap (λ (n : ℕ). n % 256) told-bytes ∙ digits-mod ((value * 16 + clause) * 256 + test) (omega arith)
+
+  pub test-back : told / 256 % 256 ≡ test
+  test-back =
+      ap (λ (n : ℕ). n / 256 % 256) told-bytes
+      ∙ ap (λ (n : ℕ). n % 256) (digits-div ((value * 16 + clause) * 256 + test) (omega arith))
+      ∙ digits-mod (value * 16 + clause) t
+
+  pub clause-back : told / 65536 % 16 ≡ clause
+  clause-back =
+      ap (λ (n : ℕ). n / 65536 % 16) told-words
+      ∙ ap (λ (n : ℕ). n % 16) (digits-div (value * 16 + clause) (omega arith))
+      ∙ digits-mod value k
+
+  pub value-back : told / 1048576 ≡ value
+  value-back = ap (λ (n : ℕ). n / 1048576) value-first ∙ digits-div value (omega arith)
+    where
+      value-first : told ≡ value * 1048576 + (clause * 65536 + (test * 256 + 1))
+      value-first = told-bytes ∙ omega arith

@@ -3,9 +3,9 @@ use Prim.Native.Nat.{ℕ, _+_, _*_, _/_, _%_}
 use mathlib.Core.List.{List}
 use mathlib.Core.Path.{_≡_}
 use lib.Dec.{eqb}
-use Rattle.octets.specs.Choice.{_then_otherwise_}
+use Rattle.octets.specs.Choice.{_then_otherwise_, _or_}
 use Rattle.rules.specs.Renumbering.{image}
-use Rattle.rules.specs.Answers.{reasonNumber, verdictKind, imageSet}
+use Rattle.rules.specs.Answers.{reasonNumbers, verdictKind, imageSet}
 use Rattle.rules.specs.declared.Verdict.{Verdict}
 use Rattle.rules.specs.declared.Verdict.the-variants.{Drop, Deliver, Forward, Spread, Kept}
 use Rattle.rules.specs.declared.Answer.{Answer}
@@ -13,15 +13,19 @@ use Rattle.rules.specs.declared.Answer.the-variants.{Refused, Judged}
 use Rattle.rules.specs.declared.Tally.{Tally}
 use Rattle.relay.specs.Promise.{JudgementOn}
 
--- the kind in bits 0 to 7, a refusal's or a reason's number in 8 to 15, a port or a port set in 16 to 31, the length in 32 to 47, where a
--- delivered payload starts in 48 to 63
+-- the kind in bits 0 to 7, a refusal's number in 8 to 15, a port or a port set in 16 to 31, the length in 32 to 47, where a delivered payload
+-- starts in 48 to 63
 unfoldable pub fieldsNumber : (kind detail ports length start : ℕ) → ℕ
 fieldsNumber kind detail ports length start =
     kind + detail * 256 + ports * 65536 + length % 65536 * 4294967296 + start % 65536 * 281474976710656
 
+-- a drop: the kind in bits 0 to 7, the test in 8 to 15, its clause or case in 16 to 19, the value in 20 to 60
+unfoldable pub dropNumber : (test clause value : ℕ) → ℕ
+dropNumber test clause value = 1 + test * 256 + clause * 65536 + value % 2199023255552 * 1048576
+
 -- of a packet whose payload starts there
 unfoldable pub verdictNumber : (start : ℕ) → Verdict → ℕ
-verdictNumber start (Drop reason) = fieldsNumber (verdictKind (Drop reason)) (reasonNumber reason) 0 0 0
+verdictNumber start (Drop reason) = dropNumber (reasonNumbers reason .test) (reasonNumbers reason .clause) (reasonNumbers reason .value)
 verdictNumber start Deliver = fieldsNumber (verdictKind Deliver) 0 0 0 start
 verdictNumber start (Forward port length) = fieldsNumber (verdictKind (Forward port length)) 0 port length 0
 verdictNumber start (Spread ports length) = fieldsNumber (verdictKind (Spread ports length)) 0 ports length 0
@@ -41,7 +45,10 @@ renamePorts m kind ports =
     eqb kind 3 then image m ports otherwise
     eqb kind 4 then imageSet m ports otherwise ports
 
+-- a number of another kind holds no port there
 unfoldable pub renameNumber : List ℕ → ℕ → ℕ
 renameNumber m number =
-    fieldsNumber (number % 256) (number / 256 % 256) (renamePorts m (number % 256) (number / 65536 % 65536)) (number / 4294967296 % 65536)
+    eqb (number % 256) 3 or eqb (number % 256) 4
+    then fieldsNumber (number % 256) (number / 256 % 256) (renamePorts m (number % 256) (number / 65536 % 65536)) (number / 4294967296 % 65536)
     (number / 281474976710656)
+    otherwise number

@@ -3,5 +3,6 @@ pub mod Packets
 pub mod Tables
 pub mod Answers
 pub mod Tallies
+pub mod Texts
 pub mod Recordings
 pub mod Saved

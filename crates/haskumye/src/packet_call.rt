@@ -38,9 +38,11 @@ fn judge_numbered(
 
 // A packet that came by a port at a clock; `signed` is 1 where the host found its signature good, any other number
 // where not. Tables, output and tally are changed where they lie.
-// One number: bits 0 to 7 are 0 refused, 1 drop, 2 deliver, 3 forward, 4 spread, 5 kept; bits 8 to 15 the refusal's or
-// the reason's number; bits 16 to 31 the port of a forward, or the ports of a spread, bit i for port i; bits 32 to 47
-// the length that leaves; bits 48 to 63 where a delivered payload starts.
+// One number: bits 0 to 7 are 0 refused, 1 drop, 2 deliver, 3 forward, 4 spread, 5 kept; bits 8 to 15 the refusal's
+// number, or the test's that dropped it. Of a drop, bits 16 to 19 are the clause of test 3 or the case of test 6, bits
+// 20 to 60 the value that goes with it, 0 where there is none. Of any other, bits 16 to 31 are the port of a forward,
+// or the ports of a spread, bit i for port i; bits 32 to 47 the length that leaves; bits 48 to 63 where a delivered
+// payload starts.
 #[no_mangle]
 pub extern "C" fn haskumye_packet(
     packet: &[u8],

@@ -1,4 +1,5 @@
 pub mod Searches
 pub mod Tables
 pub mod HeldBlobs
+pub mod ExpiredPaths
 pub mod Found

@@ -2,6 +2,7 @@
 // and its fields. Every function here is a helper: the caller shows the tables' size and that a place is within its
 // table. No entry points.
 mod blobs;
+mod expired;
 mod hashes;
 mod links;
 mod locals;
@@ -10,6 +11,7 @@ mod ports;
 mod returns;
 mod search;
 
+pub use expired::expired_path;
 pub use hashes::hash_place;
 pub use links::free_link;
 pub use links::link_at;
@@ -42,6 +44,12 @@ ghost use mathlib.Core.Path.{_≡_};
 ghost use lib.ListN.{length};
 ghost use Rattle.tables.specs.Places.{tableSize};
 ghost use Rattle.tables.specs.Layout.{relayOf};
+
+// A time, or none: then it is 0.
+pub struct Latest {
+    pub there: bool,
+    pub time: u64,
+}
 
 pub fn own_address(tables: &[u8]) -> [u8; 16]
     requires { ⌜ length (now tables) ≡ tableSize ⌝ }

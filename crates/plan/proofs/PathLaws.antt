@@ -1,7 +1,7 @@
 -- Data and link requests: tests 6, 7, 12 and 13 are all that can hold of them.
 use Prim.Native.Nat.{ℕ, _≤_, _<_}
 use native.Mathlib.Omega.{arith}
-use mathlib.Core.Bool.{true, false, not}
+use mathlib.Core.Bool.{true, false, not, false≢true}
 use mathlib.Core.Path.{_≡_, refl, sym, ap, ap₂, _∙_}
 use mathlib.Core.List.{List}
 use borrow.Author.Tests.{lt-ltb, le-ltb}
@@ -12,15 +12,20 @@ use Rattle.packet.specs.Header.{packetKind, typeTwo, ofKindLink, isData, isAnno
 use Rattle.packet.specs.Hash.{linkId}
 use Rattle.numbers.specs.Numbers.{linkCount, pathCount}
 use Rattle.octets.specs.Listed.{firstOf}
-use Rattle.rules.specs.Relay.{empty, used, Path, Relay}
-use Rattle.rules.specs.View.{View, pathPlace, linkPlace, freeLink, viewAt, portOn}
+use Rattle.rules.specs.Relay.{Slot, empty, used, Path, Relay}
+use Rattle.rules.specs.View.{View, pathPlace, linkPlace, freeLink, expiredPath, viewAt, portOn}
 use Rattle.rules.specs.Arrival.{Arrival, header, destination, isLinkProof}
-use Rattle.rules.specs.Ways.{Way, by-path, blocked, pathWay, wayOn}
+use Rattle.rules.specs.Ways.{Way, by-path, blocked, noPath, pathWay, wayOn}
 use Rattle.rules.specs.Tests.{isThere, noWayOn, whyBlocked, alreadyKnown, wrongSide, notSigned, ofKnown, replay, notBetter, rateLimited, leavingPort, portOff, noRoom}
 use Rattle.rules.specs.Judging.{dropped, follows, onwardPlan, onwardTests}
-use Rattle.rules.specs.declared.Blocked.the-variants.{NotAsking, NoPath}
+use Rattle.rules.specs.declared.Blocked.the-variants.{NotAsking, NoPath, OnlyExpired}
 use Rattle.rules.specs.declared.Reason.the-variants.{NoWayOn, AlreadyKnown, PortOff, NoRoom}
-use Rattle.tables.specs.Layout.{relayOf}
+use Rattle.tables.specs.Layout.{recordAt, relayOf}
+use Rattle.tables.specs.Places.{addressWidth, pathsAt, pathWidth, tableSize}
+use Rattle.tables.specs.Fields.{pathNextHopAt}
+use Rattle.tables.specs.Records.{pathOf}
+use Rattle.lookup.specs.Expired.{latestOf}
+use Rattle.lookup.specs.declared.Latest.{Latest}
 use Rattle.lookup.proofs.Found.{path-found, path-missing, link-found, link-missing}
 use Rattle.plan.specs.Decided.{pathAt, highOf, lowOf, decidedWay, decided, onward}
 use Rattle.plan.specs.Kinds.{leaving, sending, requesting}
@@ -31,7 +36,7 @@ module _ (a : Arrival) (announce : isAnnounce (header a) ≡ false) (link : ofKi
   no-proof : isLinkProof (a .bytes) ≡ false
   no-proof = no-link-proof a proof
 
-  path-way : (v : View) → wayOn v a ≡ (not (typeTwo (header a)) then blocked NotAsking otherwise pathWay (v .path (destination a)))
+  path-way : (v : View) → wayOn v a ≡ (not (typeTwo (header a)) then blocked NotAsking otherwise pathWay (v .path (destination a)) (v .expired (destination a)))
   unfolding wayOn
   path-way v = then-false _ _ announce ∙ then-false _ _ link ∙ then-false _ _ proof
 
@@ -53,11 +58,12 @@ module _ (a : Arrival) (announce : isAnnounce (header a) ≡ false) (link : ofKi
         sym (ap (λ (w : Way). decided r a (onwardPlan v a w)) way)
 
     module _ (two : typeTwo (header a) ≡ true) where
-      path-none : viewAt (a .clock) r .path (destination a) ≡ empty → Drop (NoWayOn NoPath) ≡ onward r a
-      unfolding onward onwardPlan onwardTests firstOf noWayOn whyBlocked decided pathWay _then_otherwise_
+      path-none : viewAt (a .clock) r .path (destination a) ≡ empty → Drop (NoWayOn (noPath (expiredPath (a .clock) r (destination a)))) ≡ onward r a
+      unfolding onward onwardPlan onwardTests firstOf noWayOn whyBlocked decided viewAt pathWay _then_otherwise_
       path-none e =
           let v : View = viewAt (a .clock) r in
-          let way : wayOn v a ≡ blocked NoPath = path-way v ∙ rw two (ap pathWay e) in
+          let expired = expiredPath (a .clock) r (destination a) in
+          let way : wayOn v a ≡ blocked (noPath expired) = path-way v ∙ rw two (ap (λ (s : Slot Path). pathWay s expired) e) in
           sym (ap (λ (w : Way). decided r a (onwardPlan v a w)) way)
 
       module _ (p : Path) (there : viewAt (a .clock) r .path (destination a) ≡ used p) where
@@ -69,7 +75,7 @@ module _ (a : Arrival) (announce : isAnnounce (header a) ≡ false) (link : ofKi
         unfolding onward decided pathWay _then_otherwise_
         path-onward =
             let v : View = viewAt (a .clock) r in
-            let way : wayOn v a ≡ by-path p = path-way v ∙ rw two (ap pathWay there) in
+            let way : wayOn v a ≡ by-path p = path-way v ∙ rw two (ap (λ (s : Slot Path). pathWay s (v .expired (destination a))) there) in
             ap (λ (w : Way). decided r a (onwardPlan v a w)) way
             ∙ ap (decided r a) (path-plan v p)
             ∙ simp decided-test
@@ -86,7 +92,7 @@ module _ (a : Arrival) (announce : isAnnounce (header a) ≡ false) (link : ofKi
 module _ (t : List ℕ) (a : Arrival) (announce : isAnnounce (header a) ≡ false) (link : ofKindLink (header a) ≡ false)
     (proof : isProof (header a) ≡ false) (two : typeTwo (header a) ≡ true)
     {i : ℕ} (e : i ≡ pathPlace (a .clock) (relayOf t) (destination a)) where
-  pub path-nowhere : pathCount ≤ i → Drop (NoWayOn NoPath) ≡ onward (relayOf t) a
+  pub path-nowhere : pathCount ≤ i → Drop (NoWayOn (noPath (expiredPath (a .clock) (relayOf t) (destination a)))) ≡ onward (relayOf t) a
   path-nowhere l = path-none a announce link proof (relayOf t) two (path-missing t (a .clock) (destination a) i e l)
 
   module _ (l : i < pathCount) where
@@ -101,6 +107,18 @@ module _ (t : List ℕ) (a : Arrival) (announce : isAnnounce (header a) ≡ fals
         let there = path-found t (a .clock) (destination a) i e l in
         ap (requesting (relayOf t) a (pathAt t i)) e
         ∙ path-request a announce link proof (relayOf t) two (pathAt t i) there other
+
+-- ---- why there is no live path, by the latest time that the search gave
+module _ (found : Latest) where
+  pub expired-there : (s : Slot ℕ) → found ≡ latestOf s → found .there ≡ true → OnlyExpired (found .time) ≡ noPath s
+  unfolding latestOf noPath
+  expired-there empty e there = absurd (false≢true (sym (ap (λ (x : Latest). x .there) e) ∙ there))
+  expired-there (used t) e there = ap (λ (x : Latest). OnlyExpired (x .time)) e
+
+  pub expired-none : (s : Slot ℕ) → found ≡ latestOf s → found .there ≡ false → NoPath ≡ noPath s
+  unfolding latestOf noPath
+  expired-none empty e none = refl
+  expired-none (used t) e none = absurd (false≢true (sym none ∙ ap (λ (x : Latest). x .there) e))
 
 -- ---- whether an id is live, by the place that the search gave
 module _ (t : List ℕ) (clock : ℕ) (id : List ℕ) {i : ℕ} (e : i ≡ linkPlace clock (relayOf t) id) where

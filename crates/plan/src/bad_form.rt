@@ -82,7 +82,7 @@ pub fn form_of(packet: &[u8]) -> Form
         packet::is_announce(header),
         length < packet::least_announce(header),
     ) {
-        return Form::Bad(Clause::AnnounceTooShort);
+        return Form::Bad(Clause::AnnounceTooShort(packet::least_announce(header)));
     }
     if announce_of_another(packet) {
         return Form::Bad(Clause::AnnounceOfAnother);

@@ -12,6 +12,8 @@ ghost use lib.ListN.{length};
 ghost use Rattle.packet.specs.Header.{isAnnounce, isProof, ofKindLink};
 ghost use Rattle.packet.specs.Read.{headerOf};
 ghost use Rattle.numbers.specs.Numbers.{pathCount};
+ghost use Rattle.rules.specs.View.{expiredPath};
+ghost use Rattle.rules.specs.Ways.{noPath};
 ghost use Rattle.tables.specs.Places.{tableSize};
 ghost use Rattle.tables.specs.Layout.{relayOf};
 ghost use Rattle.plan.specs.Decided.{arrivalOf, CanRead, CanJudge, pathAt, onwardOn};
@@ -55,6 +57,18 @@ fn request(tables: &[u8], packet: &[u8], arrived: Arrived, place: usize) -> Deci
     Decision::Drop(Reason::NoRoom)
 }
 
+// Why a destination has no live path: its expired ones are looked for only here.
+fn no_path(tables: &[u8], destination: [u8; 16], clock: u64) -> Blocked
+    requires { ⌜ length (now tables) ≡ tableSize ⌝ }
+    ensures { λ r. ⌜ r ≡ noPath (expiredPath clock (relayOf (now (tables .entry))) destination) ⌝ }
+{
+    let latest = lookup::expired_path(tables, destination, clock);
+    if latest.there {
+        return Blocked::OnlyExpired(latest.time);
+    }
+    Blocked::NoPath
+}
+
 pub fn decide_by_path(tables: &[u8], packet: &[u8], arrived: Arrived) -> Decision
     requires { ⌜ CanJudge (now packet) (now tables) × (isAnnounce (headerOf (now packet)) ≡ false)
         × (ofKindLink (headerOf (now packet)) ≡ false) × (isProof (headerOf (now packet)) ≡ false) ⌝ }
@@ -68,7 +82,7 @@ pub fn decide_by_path(tables: &[u8], packet: &[u8], arrived: Arrived) -> Decisio
     let destination = parts.destination;
     let place = lookup::path_place(tables, destination, arrived.clock);
     if place >= PATH_COUNT {
-        return Decision::Drop(Reason::NoWayOn(Blocked::NoPath));
+        return Decision::Drop(Reason::NoWayOn(no_path(tables, destination, arrived.clock)));
     }
     if packet::is_data(header) {
         return send(tables, place);

@@ -1,7 +1,10 @@
-// The numbers of document 01's tests.
+// The numbers of a reason: document 01's test, document 02's clause or case, and the value that goes with it.
+use rules::Blocked;
+use rules::Clause;
 use rules::Reason;
 ghost use mathlib.Core.Path.{_≡_};
-ghost use Rattle.rules.specs.Answers.{reasonNumber};
+ghost use Rattle.rules.specs.Answers.{clauseNumber, leastLength, caseNumber, greatestExpiry};
+ghost use Rattle.rules.specs.Answers.{reasonNumber, reasonNumbers};
 
 // The number of the test that dropped a packet, whichever its clause or case.
 pub fn reason_number(reason: Reason) -> u8
@@ -22,5 +25,106 @@ pub fn reason_number(reason: Reason) -> u8
         Reason::RateLimited => 15,
         Reason::PortOff => 12,
         Reason::NoRoom => 13,
+    }
+}
+
+fn clause_number(clause: Clause) -> u8
+    ensures { λ r. ⌜ r ≡ clauseNumber clause ⌝ }
+{
+    match clause {
+        Clause::TypeTwoProof => 1,
+        Clause::TypeTwoOfKindLink => 2,
+        Clause::AnnounceNotSingle => 3,
+        Clause::AnnounceTooShort(_) => 4,
+        Clause::AnnounceOfAnother => 5,
+        Clause::RequestOfKindLink => 6,
+        Clause::RequestTooShort => 7,
+        Clause::LinkProofLength => 8,
+    }
+}
+
+// The least payload length that would have served, or 0 where length isn't the fault.
+fn least_length(clause: Clause) -> u64
+    ensures { λ r. ⌜ r ≡ leastLength clause ⌝ }
+{
+    match clause {
+        Clause::TypeTwoProof => 0,
+        Clause::TypeTwoOfKindLink => 0,
+        Clause::AnnounceNotSingle => 0,
+        Clause::AnnounceTooShort(least) => least as u64,
+        Clause::AnnounceOfAnother => 0,
+        Clause::RequestOfKindLink => 0,
+        Clause::RequestTooShort => 64,
+        Clause::LinkProofLength => 96,
+    }
+}
+
+fn case_number(why: Blocked) -> u8
+    ensures { λ r. ⌜ r ≡ caseNumber why ⌝ }
+{
+    match why {
+        Blocked::NotAsking => 1,
+        Blocked::NoPath => 2,
+        Blocked::OnlyExpired(_) => 3,
+        Blocked::NoLink => 4,
+        Blocked::NotProved => 5,
+        Blocked::NoReturn => 6,
+    }
+}
+
+fn greatest_expiry(why: Blocked) -> u64
+    ensures { λ r. ⌜ r ≡ greatestExpiry why ⌝ }
+{
+    match why {
+        Blocked::NotAsking => 0,
+        Blocked::NoPath => 0,
+        Blocked::OnlyExpired(expiry) => expiry,
+        Blocked::NoLink => 0,
+        Blocked::NotProved => 0,
+        Blocked::NoReturn => 0,
+    }
+}
+
+// The clause of test 3 or the case of test 6, or 0.
+pub fn reason_clause(reason: Reason) -> u8
+    ensures { λ r. ⌜ r ≡ reasonNumbers reason .clause ⌝ }
+{
+    match reason {
+        Reason::NotOurs => 0,
+        Reason::Duplicate => 0,
+        Reason::BadForm(clause) => clause_number(clause),
+        Reason::OwnAnnounce => 0,
+        Reason::TooManyHops => 0,
+        Reason::NoWayOn(why) => case_number(why),
+        Reason::AlreadyKnown => 0,
+        Reason::WrongSide => 0,
+        Reason::NotSigned => 0,
+        Reason::Replay => 0,
+        Reason::NotBetter => 0,
+        Reason::RateLimited => 0,
+        Reason::PortOff => 0,
+        Reason::NoRoom => 0,
+    }
+}
+
+// The value that goes with it, or 0.
+pub fn reason_value(reason: Reason) -> u64
+    ensures { λ r. ⌜ r ≡ reasonNumbers reason .value ⌝ }
+{
+    match reason {
+        Reason::NotOurs => 0,
+        Reason::Duplicate => 0,
+        Reason::BadForm(clause) => least_length(clause),
+        Reason::OwnAnnounce => 0,
+        Reason::TooManyHops => 0,
+        Reason::NoWayOn(why) => greatest_expiry(why),
+        Reason::AlreadyKnown => 0,
+        Reason::WrongSide => 0,
+        Reason::NotSigned => 0,
+        Reason::Replay => 0,
+        Reason::NotBetter => 0,
+        Reason::RateLimited => 0,
+        Reason::PortOff => 0,
+        Reason::NoRoom => 0,
     }
 }

@@ -1,12 +1,14 @@
 // The packet call: a packet is refused, or decided, acted on and counted.
-// Entry points: judge, with the tally by value (crates/haskumye lends it to hosts by `&mut`), signature_matters and
-// reason_number. They have no `requires`, and end on any bytes.
+// Entry points: judge, with the tally by value (crates/haskumye lends it to hosts by `&mut`), signature_matters,
+// reason_number, reason_clause and reason_value. They have no `requires`, and end on any bytes.
 mod refusals;
 mod signature;
 mod tallies;
 
 use plan::Arrived;
+pub use plan::reason_clause;
 pub use plan::reason_number;
+pub use plan::reason_value;
 use refusals::refusal;
 use rules::Answer;
 use rules::Reason;

@@ -1,24 +1,26 @@
--- The laws of an entry's line: that it fits a text, and the ports of a set one by one.
+-- The laws of an entry's line: that it fits a text, the ports of a set one by one, and a reason's words.
 use Prim.Native.Nat.{ℕ, zero, suc, _+_, _/_, _%_, _^_, _≤_, _<_}
 use native.Mathlib.Nat.{pow-suc, div-div-eq-div-mul}
 use native.Mathlib.Numerals.{add-one}
 use native.Mathlib.Omega.{arith}
 use mathlib.Core.Bool.{Bool, true, false}
 use mathlib.Core.List.{List, [], _∷_, _++_, append-nil}
-use mathlib.Core.Path.{_≡_, sym, subst, _∙_}
+use mathlib.Core.Path.{_≡_, sym, ap, subst, _∙_}
 use lib.Dec.{eqb, lit≤}
 use lib.ListN.{length, replicate, length-append}
 use Rattle.octets.specs.Choice.{_then_otherwise_}
-use Rattle.rules.specs.Answers.{inSet}
+use Rattle.rules.specs.Answers.{ReasonNumbers, tellsValue, inSet}
+use Rattle.rules.proofs.Choices.{either}
 use Rattle.rules.specs.declared.Answer.{Answer}
 use Rattle.text.specs.Numerals.{decimal}
-use Rattle.text.specs.Words.{newline, spaced, wordsLine}
+use Rattle.text.specs.Words.{space, newline, spaced, wordsLine}
 use Rattle.text.specs.Text.{textSize, textOf, appended}
 use Rattle.text.specs.declared.Text.{Text}
 use Rattle.text.proofs.NumeralLaws.{numeral-most}
-use Rattle.text.proofs.WordLaws.{Most, spaced-most, words-appended, line-appended}
-use Rattle.replaying.specs.Words.{spreadWord}
-use Rattle.replaying.specs.Lines.{portsBelow, answerWords, answerLine}
+use Rattle.text.proofs.TextLaws.{appended-append}
+use Rattle.text.proofs.WordLaws.{Most, spaced-most, word-appended, words-appended, line-appended}
+use Rattle.replaying.specs.Words.{dropWord, spreadWord, point}
+use Rattle.replaying.specs.Lines.{portsBelow, numbersOf, testWord, reasonWords, answerWords, answerLine}
 
 -- ---- the ports of a set: `rest` is the set without its bits below i
 module _ (set i rest : ℕ) (e : rest ≡ set / 2 ^ i) where
@@ -63,6 +65,43 @@ module _ (w : List ℕ) (l : length w ≤ 7) where
 
   pub number-short : (n : ℕ) → n < 1000 → length (spaced (w ∷ decimal n ∷ [])) ≤ 72
   number-short n few = omega (arith, spaced-most (w ∷ decimal n ∷ []) (7 ∷ 3 ∷ []) (l, (numeral-most 10 (lit≤ tt) 3 n (lit≤ tt) few, tt)))
+
+-- ---- a reason's words
+pub pointed : (t : Text) (w v : List ℕ) → appended (appended (appended t (spaced (w ∷ []))) (point ∷ [])) v ≡ appended t (spaced ((w ++ (point ∷ v)) ∷ []))
+pointed t w v =
+    let s : Text = appended t (space ∷ []) in
+    ap (λ (x : Text). appended (appended x (point ∷ [])) v) (sym (word-appended t w))
+    ∙ appended-append (appended s w) (point ∷ []) v
+    ∙ appended-append s w (point ∷ v)
+    ∙ word-appended t (w ++ (point ∷ v))
+
+module _ (test clause value : ℕ) (t : test < 1000) (k : clause < 1000) (x : value < 2 ^ 64) where
+  test-most : length (testWord test clause) ≤ 7
+  unfolding testWord
+  test-most =
+      let one = numeral-most 10 (lit≤ tt) 3 test (lit≤ tt) t in
+      let two = numeral-most 10 (lit≤ tt) 3 clause (lit≤ tt) k in
+      either (λ (w : List ℕ). length w ≤ 7) (eqb clause 0) (λ _. omega (arith, one))
+      (λ _. omega (arith, one, two, length-append (decimal test) (point ∷ decimal clause)))
+
+  reason-most : Most (reasonWords (numbersOf test clause value)) (7 ∷ 20 ∷ [])
+  unfolding reasonWords
+  reason-most =
+      let digits : length (decimal value) ≤ 20 = numeral-most 10 (lit≤ tt) 20 value (lit≤ tt) (omega (arith, x)) in
+      (test-most, either (λ (ws : List (List ℕ)). Most ws (20 ∷ [])) (tellsValue (numbersOf test clause value)) (λ _. (digits, tt)) (λ _. tt))
+
+  pub reason-short : length (spaced (dropWord ∷ reasonWords (numbersOf test clause value))) ≤ 72
+  reason-short = omega (arith, spaced-most (dropWord ∷ reasonWords (numbersOf test clause value)) (7 ∷ 7 ∷ 20 ∷ []) (lit≤ tt, reason-most))
+
+  -- a reason's numbers, which code has one by one
+  pub drop-words : (r : ReasonNumbers) → test ≡ r .test → clause ≡ r .clause → value ≡ r .value → (line y : Text)
+      → y ≡ appended line (spaced (dropWord ∷ reasonWords (numbersOf test clause value)))
+      → (y ≡ appended line (spaced (dropWord ∷ reasonWords r))) × (length (spaced (dropWord ∷ reasonWords r)) ≤ 72)
+  drop-words r e f g line y h =
+      let alike : numbersOf test clause value ≡ r = λ i. numbersOf (e i) (f i) (g i) in (
+        h ∙ ap (λ (n : ReasonNumbers). appended line (spaced (dropWord ∷ reasonWords n))) alike,
+        subst (λ (n : ReasonNumbers). length (spaced (dropWord ∷ reasonWords n)) ≤ 72) alike reason-short,
+      )
 
 -- ---- the longest line fits: twenty digits, those words, and the end
 pub line-made : (number : ℕ) (answer : Answer) → number < 2 ^ 64 → length (spaced (answerWords answer)) ≤ 72

@@ -21,3 +21,7 @@ spreadWord = 115 ∷ 112 ∷ 114 ∷ 101 ∷ 97 ∷ 100 ∷ []
 -- kept
 abbrev pub keptWord : List ℕ
 keptWord = 107 ∷ 101 ∷ 112 ∷ 116 ∷ []
+
+-- the point between a test and its clause
+abbrev pub point : ℕ
+point = 46

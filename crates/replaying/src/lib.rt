@@ -1,9 +1,12 @@
 // The replay of a recording, as document 02's Wish 1 has it: one step for each entry, and the line that it prints.
-// Entry points: step, line_of. They have no `requires`, and end on any bytes.
+// Entry points: step, line_of, with_reason, with_ports. They have no `requires`, and end on any bytes.
 mod lines;
+mod reasons;
 
 pub use lines::line_of;
+pub use lines::with_ports;
 use numbers::LEAST_OUTPUT;
+pub use reasons::with_reason;
 use recording::PLACE_REFUSED;
 use rules::Answer;
 use rules::Tally;

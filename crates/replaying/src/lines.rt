@@ -1,4 +1,5 @@
 // The line of an answer.
+use super::reasons::with_reason;
 use numbers::PORT_COUNT;
 use rules::Answer;
 use rules::Verdict;
@@ -28,7 +29,7 @@ fn with_port(line: Text, port: u64, named: bool) -> Text
 }
 
 // The line with the ports of a set, rising.
-fn with_ports(line: Text, ports: u16) -> Text
+pub fn with_ports(line: Text, ports: u16) -> Text
     ensures { λ r. ⌜ r ≡ appended line (spaced (portsBelow ports portCount)) ⌝ }
 {
     let mut grown = line;
@@ -49,9 +50,11 @@ fn with_verdict(line: Text, verdict: Verdict) -> Text
 {
     match verdict {
         Verdict::Drop(reason) => {
-            with_number(
+            with_reason(
                 with_word(line, b"drop"),
-                octets::wide(relay::reason_number(reason)),
+                relay::reason_number(reason),
+                relay::reason_clause(reason),
+                relay::reason_value(reason),
             )
         }
         Verdict::Deliver => with_word(line, b"deliver"),

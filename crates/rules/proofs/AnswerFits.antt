@@ -1,4 +1,5 @@
--- Every answer is within bounds: a port among the sixteen, a set of those, a packet of at most 500 bytes, and numbers that fit a byte.
+-- Every answer is within bounds: a port among the sixteen, a set of those, a packet of at most 500 bytes, a reason's numbers within their bits, and a
+-- refusal that fits a byte.
 use Prim.Native.Nat.{ℕ, _≤_, _<_, _^_}
 use mathlib.Core.Bool.{Bool, true, false, not, false≢true}
 use mathlib.Core.List.{List}
@@ -11,20 +12,18 @@ use Rattle.octets.proofs.Index.{and-left}
 use Rattle.octets.proofs.Choice.{or-no-right}
 use Rattle.octets.proofs.Listed.{allGive, all-first}
 use Rattle.packet.specs.Read.{longestPacket, readingRows, readingRefusal}
-use Rattle.numbers.specs.Numbers.{portCount}
+use Rattle.numbers.specs.Numbers.{portCount, timeLimit}
 use Rattle.rules.specs.Relay.{Relay}
 use Rattle.rules.specs.View.{View, viewAt, portOn}
 use Rattle.rules.specs.Arrival.{Arrival}
 use Rattle.rules.specs.Ways.{Way, everywhere, by-path, along-link, by-return, blocked}
-use Rattle.rules.specs.Tests.{leavingPort, portOff}
-use Rattle.rules.specs.Answers.{reasonNumber, portSet}
+use Rattle.rules.specs.Tests.{noWayOn, leavingPort, portOff}
+use Rattle.rules.specs.Answers.{portSet}
 use Rattle.rules.specs.Outgoing.{spreadPorts, spreadPacket, outgoing, exceeds}
 use Rattle.rules.specs.Judging.{Plan, dropped, delivered, follows, plan, spreadVerdict, wayVerdict, verdict}
 use Rattle.rules.specs.Refusals.{packetRows, packetRefusal, refusalBy}
 use Rattle.rules.specs.Calls.{Judgement, judged, judge, packetCall}
 use Rattle.rules.specs.Lengths.{addressed, verdictLengthOk}
-use Rattle.rules.specs.declared.Reason.{Reason}
-use Rattle.rules.specs.declared.Reason.the-variants.{NotOurs, Duplicate, BadForm, OwnAnnounce, TooManyHops, NoWayOn, AlreadyKnown, WrongSide, NotSigned, Replay, NotBetter, RateLimited, PortOff, NoRoom}
 use Rattle.rules.specs.declared.Verdict.{Verdict}
 use Rattle.rules.specs.declared.Verdict.the-variants.{Drop, Deliver, Forward, Spread, Kept}
 use Rattle.rules.specs.declared.Answer.{Answer}
@@ -34,10 +33,12 @@ use Rattle.rules.proofs.Choices.{either}
 use Rattle.rules.proofs.Passed.{Passed, passed}
 use Rattle.rules.proofs.PortSets.{set-below}
 use Rattle.rules.proofs.Lengths.{Sent, sent-way, judged-length}
+use Rattle.rules.proofs.Latest.{AtMost}
+use Rattle.rules.proofs.ReasonFits.{ReasonFits, expired-most, plan-reason-fits}
 
 -- ---- the bounds
 abbrev pub VerdictFits : Verdict → Type 0
-VerdictFits (Drop reason) = reasonNumber reason < 256
+VerdictFits (Drop reason) = ReasonFits reason
 VerdictFits Deliver = Unit {0}
 VerdictFits (Forward port length) = (port < portCount) × (length ≤ longestPacket)
 VerdictFits (Spread ports length) = (ports < 2 ^ portCount) × (length ≤ longestPacket)
@@ -47,23 +48,7 @@ abbrev pub AnswerFits : Answer → Type 0
 AnswerFits (Refused number) = number < 256
 AnswerFits (Judged verdict) = VerdictFits verdict
 
--- ---- numbers
-reason-fits : (reason : Reason) → reasonNumber reason < 256
-reason-fits NotOurs = lit< tt
-reason-fits Duplicate = lit< tt
-reason-fits (BadForm clause) = lit< tt
-reason-fits OwnAnnounce = lit< tt
-reason-fits TooManyHops = lit< tt
-reason-fits (NoWayOn why) = lit< tt
-reason-fits AlreadyKnown = lit< tt
-reason-fits WrongSide = lit< tt
-reason-fits NotSigned = lit< tt
-reason-fits Replay = lit< tt
-reason-fits NotBetter = lit< tt
-reason-fits RateLimited = lit< tt
-reason-fits PortOff = lit< tt
-reason-fits NoRoom = lit< tt
-
+-- ---- refusals
 refusal-fits : (r : Relay) (a : Arrival) (room : ℕ) → packetRefusal r a room < 256
 unfolding refusalBy packetRows readingRefusal readingRows allGive _and_
 refusal-fits r a room =
@@ -78,23 +63,23 @@ on-of true c e h = absurd (false≢true (sym e))
 on-of false true e h = refl
 on-of false false e h = absurd (false≢true (sym h))
 
-module _ (v : View) (a : Arrival) (sixteen : (p : ℕ) → v .on p ≡ true → p < portCount) where
+module _ (v : View) (a : Arrival) (sixteen : (p : ℕ) → v .on p ≡ true → p < portCount) (past : (d : List ℕ) → AtMost timeLimit (v .expired d)) where
   way-fits : (w : Way) → Sent v a w → Passed v a w → verdictLengthOk (a .bytes) (wayVerdict v a w) ≡ true → VerdictFits (wayVerdict v a w)
-  unfolding wayVerdict verdictLengthOk portOff exceeds spreadVerdict outgoing spreadPorts portSet leavingPort
+  unfolding wayVerdict noWayOn verdictLengthOk portOff exceeds spreadVerdict outgoing spreadPorts portSet leavingPort
   way-fits (everywhere known) s p h =
       either VerdictFits _ (λ _. tt)
       (λ e. (set-below _ portCount, ltb-false longestPacket (length (spreadPacket (v .own) (a .bytes))) (or-no-right _ _ e)))
   way-fits (by-path path) s p h = (sixteen _ (on-of _ _ (s .0) (p .portOn)), leb-true _ longestPacket (and-left _ _ h))
   way-fits (along-link l) s p h = (sixteen _ (on-of _ _ s (p .portOn)), leb-true _ longestPacket (and-left _ _ h))
   way-fits (by-return t) s p h = (sixteen _ (on-of _ _ s (p .portOn)), leb-true _ longestPacket (and-left _ _ h))
-  way-fits (blocked why) s p h = reason-fits (NoWayOn why)
+  way-fits (blocked why) s p h = absurd (false≢true (sym (p .someWay)))
 
   plan-fits : verdictLengthOk (a .bytes) (verdict v a (plan v a)) ≡ true → VerdictFits (verdict v a (plan v a))
   unfolding verdict
   plan-fits = go (plan v a) refl
     where
       go : (todo : Plan) → plan v a ≡ todo → verdictLengthOk (a .bytes) (verdict v a todo) ≡ true → VerdictFits (verdict v a todo)
-      go (dropped reason) e h = reason-fits reason
+      go (dropped reason) e h = plan-reason-fits v a past reason e
       go delivered e h = tt
       go (follows w) e h =
           let (way, p) = passed v a w e in
@@ -110,5 +95,5 @@ pub answer-fits : (a : Arrival) (r : Relay) → addressed r ≡ true → (t : Ta
 unfolding packetCall judge judged viewAt
 answer-fits a r wide t output =
     either (λ (j : Judgement). AnswerFits (j .answer)) (eqb (packetRefusal r a (length output)) 0)
-    (λ e. plan-fits (viewAt (a .clock) r) a (on-port r) (judged-length r wide a (length output) e))
+    (λ e. plan-fits (viewAt (a .clock) r) a (on-port r) (expired-most r a (length output) e) (judged-length r wide a (length output) e))
     (λ _. refusal-fits r a (length output))

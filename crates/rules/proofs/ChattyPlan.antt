@@ -101,10 +101,10 @@ module _ (v : View) (a : Arrival) where
           absurd (false≢true (sym never-dropped ∙ sym (ap (λ (b : Bool). ofTest 15 (planIf b v a)) e) ∙ sym (ap (ofTest 15) plan-if) ∙ h))
 
   -- ---- only announces go everywhere, and only of a known path can test 15 hold
-  path-not : (s : Slot Path) → isSpread (pathWay s) ≡ false
+  path-not : (s : Slot Path) (expired : Slot ℕ) → isSpread (pathWay s expired) ≡ false
   unfolding isSpread pathWay
-  path-not empty = refl
-  path-not (used p) = refl
+  path-not empty expired = refl
+  path-not (used p) expired = refl
 
   link-not : (s : Slot Link) → isSpread (linkWay (isLinkProof (a .bytes)) s) ≡ false
   unfolding isSpread linkWay
@@ -122,7 +122,7 @@ module _ (v : View) (a : Arrival) where
       either So _ (λ e _. e)
       (λ _. either So _ (λ _ h. absurd (false≢true (sym (link-not _) ∙ h)))
       (λ _. either So _ (λ _ h. absurd (false≢true (sym (return-not _) ∙ h)))
-      (λ _. either So _ (λ _ h. absurd (false≢true h)) (λ _ h. absurd (false≢true (sym (path-not _) ∙ h))))))
+      (λ _. either So _ (λ _ h. absurd (false≢true h)) (λ _ h. absurd (false≢true (sym (path-not _ _) ∙ h))))))
     where
       So : Way → Type 0
       So w = isSpread w ≡ true → isAnnounce (header a) ≡ true

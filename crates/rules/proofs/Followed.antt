@@ -50,10 +50,10 @@ Planned v a (follows w) = Followed v a w
 
 module _ (v : View) (a : Arrival) where
   found-path : isAnnounce (header a) ≡ false → isProof (header a) ≡ false → ofKindLink (header a) ≡ false → (s : Slot Path) → v .path (destination a) ≡ s
-      → Found v a (pathWay s)
+      → (expired : Slot ℕ) → Found v a (pathWay s expired)
   unfolding pathWay
-  found-path n m k empty e = tt
-  found-path n m k (used p) e = (e, n, m, k)
+  found-path n m k empty e expired = tt
+  found-path n m k (used p) e expired = (e, n, m, k)
 
   found-link : (s : Slot Link) → v .link (destination a) ≡ s → Found v a (linkWay (isLinkProof (a .bytes)) s)
   unfolding linkWay
@@ -72,7 +72,7 @@ module _ (v : View) (a : Arrival) where
       (λ n. either (Found v a) _ (λ _. found-link _ refl)
       (λ k. either (Found v a) _ (λ _. found-return _ refl)
       (λ m. either (Found v a) _ (λ _. tt)
-      (λ _. found-path n m k _ refl))))
+      (λ _. found-path n m k _ refl _))))
 
   pub planned : Planned v a (plan v a)
   planned = go (plan v a) refl

@@ -169,10 +169,10 @@ module _ (v : View) (a : Arrival) where
   sent-return n empty = tt
   sent-return n (used t) = n
 
-  sent-path : isAnnounce (header a) ≡ false → (s : Slot Path) → v .path (destination a) ≡ s → Sent (pathWay s)
+  sent-path : isAnnounce (header a) ≡ false → (s : Slot Path) → v .path (destination a) ≡ s → (expired : Slot ℕ) → Sent (pathWay s expired)
   unfolding pathWay
-  sent-path n empty e = tt
-  sent-path n (used p) e = (n, e)
+  sent-path n empty e expired = tt
+  sent-path n (used p) e expired = (n, e)
 
   pub sent-way : Sent (wayOn v a)
   unfolding wayOn
@@ -180,7 +180,7 @@ module _ (v : View) (a : Arrival) where
       either Sent _ (λ y. y)
       (λ n. either Sent _ (λ _. sent-link n _)
       (λ _. either Sent _ (λ _. sent-return n _)
-      (λ _. either Sent _ (λ _. tt) (λ _. sent-path n _ refl))))
+      (λ _. either Sent _ (λ _. tt) (λ _. sent-path n _ refl _))))
 
 -- ---- what leaves
 module _ (v : View) (a : Arrival) (h : reads longestPacket (a .bytes) ≡ true) (own : length (v .own) ≡ 16)

@@ -13,6 +13,7 @@ pub mod SignatureWord
 pub mod Tables
 pub mod Slots
 pub mod Lowest
+pub mod Latest
 pub mod BlobLaws
 pub mod Accepted
 pub mod Followed
@@ -23,6 +24,7 @@ pub mod Valid
 pub mod Images
 pub mod PortSets
 pub mod Lengths
+pub mod ReasonFits
 pub mod AnswerFits
 pub mod MovedPorts
 pub mod SlotsRenamed
@@ -47,3 +49,4 @@ pub mod ChattyPacket
 pub mod ChattyOff
 pub mod ChattySpaced
 pub mod ChattyScene
+pub mod Reasons

@@ -126,6 +126,10 @@ module _ (p : Path) (h : pathOk p ≡ true) where
       let rest = and-right _ _ (and-right _ _ h) in
       record { some = leb-true _ _ (and-left _ _ rest); most = leb-true _ _ (and-left _ _ (and-right _ _ rest)) }
 
+  pub path-time : p .expiry ≤ timeLimit
+  unfolding pathOk timeOk
+  path-time = leb-true _ _ (and-left _ _ (and-right _ _ (and-right _ _ (and-right _ _ (and-right _ _ h)))))
+
   pub path-rate : rateEntryOk (p .rate) ≡ true
   unfolding pathOk
   path-rate = and-right _ _ (and-right _ _ (and-right _ _ (and-right _ _ (and-right _ _ h))))

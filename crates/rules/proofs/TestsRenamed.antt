@@ -31,10 +31,10 @@ renameWay m (blocked why) = blocked why
 
 module _ (m : List ℕ) where
   -- ---- the way on
-  pathWay-renamed : (slot : Slot Path) → pathWay (renameSlot (renamePath m) slot) ≡ renameWay m (pathWay slot)
+  pathWay-renamed : (slot : Slot Path) (expired : Slot ℕ) → pathWay (renameSlot (renamePath m) slot) expired ≡ renameWay m (pathWay slot expired)
   unfolding pathWay renameSlot renameWay
-  pathWay-renamed empty = refl
-  pathWay-renamed (used p) = refl
+  pathWay-renamed empty expired = refl
+  pathWay-renamed (used p) expired = refl
 
   linkWay-renamed : (proof : Bool) (slot : Slot Link) → linkWay proof (renameSlot (renameLink m) slot) ≡ renameWay m (linkWay proof slot)
   unfolding linkWay renameSlot renameWay renameLink

@@ -16,14 +16,14 @@ use Rattle.octets.specs.Listed.{firstOf, anyHolds, valued}
 use Rattle.octets.proofs.Listed.{told}
 use Rattle.numbers.specs.Numbers.{pathLifetime}
 use Rattle.rules.specs.Relay.{fresh, withClock, withRate, withPorts, withLocals, withPaths, withLinks, withReturns, withHashes, holds, lowest, free, lowestFree}
-use Rattle.rules.specs.View.{portOn, portMode, localPlace, isLocal, isLivePath, isLiveLink, isLiveReturn, isLiveHash, pathPlace, linkPlace, returnPlace, hashPlace, freePath, freeLink, viewAt}
+use Rattle.rules.specs.View.{portOn, portMode, localPlace, isLocal, isLivePath, isLiveLink, isLiveReturn, isLiveHash, pathPlace, linkPlace, returnPlace, hashPlace, freePath, freeLink, isExpiredPath, expiryIf, later, latest, expiredPath, viewAt}
 use Rattle.rules.specs.Blobs.{held, isAmong, greatest, greatestEmission, oneBlob, addBlob}
 use Rattle.rules.specs.Refusals.{timeOk, rateSettingsOk, rateEntryOk, portOk, pathOk, linkOk, returnOk, hashOk, slotOk, all, tableOk, tablesOk, packetRows, refusalBy, emptyLocal}
 use Rattle.rules.specs.Renumbering.{image, differsBefore, oneToOne, preimage, movedPorts, renamePath, renameLink, renameReturn, renameSlot, renumbered}
 use Rattle.rules.specs.Arrival.{isLinkProof}
 use Rattle.rules.specs.Exempt.{exemptContext, exempt}
 use Rattle.rules.specs.Rate.{oneMore, violated, rated, entryAccepted, entryDropped}
-use Rattle.rules.specs.Ways.{pathWay, linkWay, returnWay, wayOn}
+use Rattle.rules.specs.Ways.{noPath, pathWay, linkWay, returnWay, wayOn}
 use Rattle.rules.specs.Tests.{notOurs, testedAsDuplicate, duplicate, typeTwoProof, typeTwoOfKindLink, announceNotSingle, announceTooShort, announceOfAnother, requestOfKindLink, requestTooShort, linkProofLength, formTests, badForm, failing, ownAnnounce, deliveredHere, tooManyHops, noWayOn, whyBlocked, isThere, followsProvedLink, alreadyKnown, fromAnsweringSide, fromAskingSide, wrongSide, notSigned, ofKnown, isReplay, replay, isNotBetter, notBetter, isRateLimited, rateLimited, leavingPort, portOff, noRoom}
 use Rattle.rules.specs.Answers.{setBelow, portSet}
 use Rattle.rules.specs.Outgoing.{rewritten, spreadHeader, spreadPacket, spreadPorts, pathPacket, carriedPacket, outgoing, exceeds}
@@ -54,8 +54,8 @@ layout = tt
 -- the relay, and what is read of it
 unfoldable pub tables : Unit {0}
 unfolding pathLifetime fresh withClock withRate withPorts withLocals withPaths withLinks withReturns withHashes holds lowest free lowestFree
-    portOn portMode localPlace isLocal isLivePath isLiveLink isLiveReturn isLiveHash pathPlace linkPlace returnPlace hashPlace freePath freeLink viewAt held
-    isAmong greatest greatestEmission oneBlob addBlob
+    portOn portMode localPlace isLocal isLivePath isLiveLink isLiveReturn isLiveHash pathPlace linkPlace returnPlace hashPlace freePath freeLink
+    isExpiredPath expiryIf later latest expiredPath viewAt held isAmong greatest greatestEmission oneBlob addBlob
 tables = tt
 
 -- refusals and renumbering
@@ -66,7 +66,7 @@ refusals = tt
 
 -- the tests
 unfoldable pub tests : Unit {0}
-unfolding exemptContext exempt isLinkProof pathWay linkWay returnWay wayOn notOurs testedAsDuplicate duplicate typeTwoProof typeTwoOfKindLink
+unfolding exemptContext exempt isLinkProof noPath pathWay linkWay returnWay wayOn notOurs testedAsDuplicate duplicate typeTwoProof typeTwoOfKindLink
     announceNotSingle announceTooShort announceOfAnother requestOfKindLink requestTooShort linkProofLength formTests badForm failing ownAnnounce
     deliveredHere tooManyHops noWayOn whyBlocked isThere followsProvedLink alreadyKnown fromAnsweringSide fromAskingSide wrongSide notSigned
     ofKnown isReplay replay isNotBetter notBetter oneMore violated rated isRateLimited rateLimited leavingPort portOff noRoom

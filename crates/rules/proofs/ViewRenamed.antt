@@ -10,11 +10,12 @@ use lib.ListN.{length, getD, List·getD-eq-default}
 use borrow.Author.Tests.{lt-ltb, le-ltb}
 use Rattle.octets.specs.Index.{_and_}
 use Rattle.octets.proofs.Index.{and-no, and-yes}
-use Rattle.rules.specs.Relay.{Port, noPort, empty, Relay}
+use Rattle.rules.specs.Relay.{Port, noPort, Slot, empty, used, Path, Relay}
 use Rattle.rules.specs.Renumbering.{image, oneToOne, renamePath, renameLink, renameReturn, renameSlot, renumbered}
-use Rattle.rules.specs.View.{portOn, portMode, localPlace, isLocal, isLivePath, isLiveLink, isLiveReturn, pathPlace, linkPlace, returnPlace, hashPlace, freePath, freeLink, View, viewAt}
+use Rattle.rules.specs.View.{portOn, portMode, localPlace, isLocal, isLivePath, isLiveLink, isLiveReturn, pathPlace, linkPlace, returnPlace, hashPlace, freePath, freeLink, isExpiredPath, expiryIf, expiredPath, View, viewAt}
 use Rattle.rules.proofs.Images.{source, source-other, source-image}
 use Rattle.rules.proofs.MovedPorts.{moved-at}
+use Rattle.rules.proofs.Latest.{latest-cong}
 use Rattle.rules.proofs.SlotsRenamed.{slot-renamed, lowest-renamed, lowestFree-renamed}
 
 -- a view whose ports have other numbers
@@ -28,6 +29,7 @@ renameView m v =
       local = v .local;
       remembered = v .remembered;
       path = λ destination. renameSlot (renamePath m) (v .path destination);
+      expired = v .expired;
       link = λ id. renameSlot (renameLink m) (v .link id);
       return = λ key. renameSlot (renameReturn m) (v .return key);
       roomForPath = v .roomForPath;
@@ -67,6 +69,21 @@ module _ (m : List ℕ) (clock : ℕ) (r : Relay) where
   path-renamed destination =
       ap (λ (i : ℕ). getD (map (renameSlot (renamePath m)) (r .paths)) i empty) (pathPlace-renamed destination)
       ∙ slot-renamed (renamePath m) (r .paths) (pathPlace clock r destination)
+
+  same-expiry : (destination : List ℕ) (s : Slot Path)
+      → expiryIf (isExpiredPath clock destination) (renameSlot (renamePath m) s) ≡ expiryIf (isExpiredPath clock destination) s
+  unfolding expiryIf isExpiredPath renameSlot renamePath
+  same-expiry destination empty = refl
+  same-expiry destination (used p) = refl
+
+  -- expiries aren't renamed
+  expired-renamed : (destination : List ℕ) → viewAt clock (renumbered m r) .expired destination ≡ viewAt clock r .expired destination
+  unfolding viewAt expiredPath renumbered
+  expired-renamed destination =
+      latest-cong _ _ 64
+      (λ i l.
+      ap (expiryIf (isExpiredPath clock destination)) (slot-renamed (renamePath m) (r .paths) i)
+      ∙ same-expiry destination (getD (r .paths) i empty))
 
   link-renamed : (id : List ℕ) → viewAt clock (renumbered m r) .link id ≡ renameSlot (renameLink m) (viewAt clock r .link id)
   unfolding viewAt renumbered
@@ -116,6 +133,7 @@ module _ (m : List ℕ) (clock : ℕ) (r : Relay) where
           local = isLocal r;
           remembered = λ hash. ltb (hashPlace clock r hash) 1024;
           path = λ destination. path-renamed destination i;
+          expired = λ destination. expired-renamed destination i;
           link = λ id. link-renamed id i;
           return = λ key. return-renamed key i;
           roomForPath = ltb (freePath-renamed i) 64;

@@ -20,3 +20,4 @@ pub mod Run
 pub mod Keepalives
 pub mod Chatty
 pub mod Lengths
+pub mod Reasons

@@ -75,7 +75,7 @@ formTests p =
     typeTwoProof p gives TypeTwoProof otherwise
     typeTwoOfKindLink p gives TypeTwoOfKindLink otherwise
     announceNotSingle p gives AnnounceNotSingle otherwise
-    announceTooShort p gives AnnounceTooShort otherwise
+    announceTooShort p gives AnnounceTooShort (leastAnnounce (headerOf p)) otherwise
     announceOfAnother p gives AnnounceOfAnother otherwise
     requestOfKindLink p gives RequestOfKindLink otherwise
     requestTooShort p gives RequestTooShort otherwise
@@ -85,7 +85,7 @@ formTests p =
 unfoldable pub badForm : List ℕ → Bool
 badForm p = anyHolds (formTests p)
 
--- the first clause that fails. It is read of a bad form alone
+-- Wish 10: "Bad form names the first failing clause of test 3". It is read of a bad form alone
 unfoldable pub failing : List ℕ → Clause
 failing p = firstOf (formTests p) TypeTwoProof
 

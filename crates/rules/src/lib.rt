@@ -1,24 +1,27 @@
 // The types that the rules of document 01 and the code share. The rules themselves are definitions, in specs/: no
 // function stands here.
 
-// Which clause of test 3 a packet's form breaks, in document 01's order.
+// Which clause of test 3 a packet's form breaks, in document 01's order: 3.1 to 3.8 in document 02.
 pub enum Clause {
     TypeTwoProof,
     TypeTwoOfKindLink,
     AnnounceNotSingle,
-    AnnounceTooShort,
+    // With the least payload length: 148, or 180 with the context flag.
+    AnnounceTooShort(usize),
     AnnounceOfAnother,
     RequestOfKindLink,
     RequestTooShort,
     LinkProofLength,
 }
 
-// Why there is no way on: the cases of test 6, in document 01's order.
+// Why there is no way on: the cases of test 6, in document 01's order, 6.1 to 6.6 in document 02.
 pub enum Blocked {
     // A type 1 data packet or link request not of kind link.
     NotAsking,
-    // A type 2 one without a live path.
+    // A type 2 one without a live path: no path record,
     NoPath,
+    // .. or only expired ones, with the greatest expiry.
+    OnlyExpired(u64),
     // For kind link, no live link,
     NoLink,
     // .. or an unproved one, except for a link proof.
@@ -27,7 +30,7 @@ pub enum Blocked {
     NoReturn,
 }
 
-// Why a packet was dropped: the tests in their order, document 02's 15 after 11. `reasonNumber` of specs/Answers.antt
+// Why a packet was dropped: the tests in their order, document 02's 15 after 11. `reasonNumbers` of specs/Answers.antt
 // gives the numbers.
 pub enum Reason {
     NotOurs,

@@ -3,8 +3,7 @@
 //! the independent relay's.
 
 use super::{listed, Options};
-use crate::engine::{Call, Engine, Outcome, Run};
-use crate::linked;
+use crate::engine::{encoded, Call, Engine, Outcome, Run};
 use crate::relay::Relay;
 use crate::traffic::Traffic;
 use std::path::Path;
@@ -28,7 +27,7 @@ fn left_by(call: &Call, run: &Run<impl Engine>) -> u64 {
 
 fn number(call: &Call, outcome: &Outcome) -> u64 {
     match (call, outcome) {
-        (Call::Packet(call), _) => linked::encoded(outcome, &call.packet),
+        (Call::Packet(call), _) => encoded(outcome, &call.packet),
         (_, Outcome::Refused(number)) => u64::from(*number),
         _ => 0,
     }

@@ -1,7 +1,8 @@
 //! Two engines on the same calls: after every call the answer, the whole output, all tables and the tally are compared.
 
+use super::answers::Text;
 use super::coverage::Coverage;
-use crate::engine::{Call, Engine, Outcome, Run};
+use crate::engine::{encoded, Call, Engine, Outcome, Run};
 use crate::tables::{Section, HASHES, LINKS, LOCALS, PATHS, PORTS, RATE, RETURNS};
 use std::fmt;
 
@@ -33,7 +34,10 @@ pub fn step<A: Engine, B: Engine>(
     if let Some(outcome) = &outcomes.1 {
         coverage.after(call, outcome, &before);
     }
-    let Some(turn) = damage else { return differences(got, expected, outcomes) };
+    let Some(turn) = damage else {
+        let lines = differences(got, expected, outcomes);
+        return if lines.is_empty() { text_difference(got, expected, call, outcomes.0) } else { lines };
+    };
     if turn % 4 == 3 {
         return differences(got, expected, (outcomes.0, Some(other_than(outcomes.1))));
     }
@@ -67,6 +71,17 @@ fn differences<A: Engine, B: Engine>(got: &Run<A>, expected: &Run<B>, outcomes: 
         lines.push(line);
     }
     lines
+}
+
+/// What differs in the text of a packet call's answer, whose number is the same on both sides.
+fn text_difference<A: Engine, B: Engine>(got: &Run<A>, expected: &Run<B>, call: &Call, outcome: Option<Outcome>) -> Vec<String> {
+    let (Call::Packet(call), Some(outcome)) = (call, outcome) else { return Vec::new() };
+    let number = encoded(&outcome, &call.packet);
+    let (got, expected) = (Text::of(&got.engine, number), Text::of(&expected.engine, number));
+    if got == expected {
+        return Vec::new();
+    }
+    vec![format!("text of {number:x}: got {got:?}, expected {expected:?}")]
 }
 
 fn first_difference(what: &str, got: &[u8], expected: &[u8]) -> Option<String> {

@@ -2,6 +2,7 @@
 
 pub mod announcing;
 pub mod answered;
+mod answers;
 pub mod coverage;
 pub mod faults;
 pub mod listed;
@@ -58,6 +59,7 @@ pub const SUBJECTS: &[Subject] = &[
     ("sha256", sha256::run),
     ("packet", packet::run),
     ("announcing", announcing::run),
+    ("answers", answers::run),
     ("tables", tables::run),
     ("relay", relay::run),
     ("renumbering", renumbering::run),

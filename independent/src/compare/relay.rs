@@ -20,7 +20,7 @@ pub fn run(options: &Options, tally: &mut Tally) {
     compare_with("tuned check", || Relay::new(Tuned), options, tally);
     let coverage = compare_with("core", || Core, options, tally);
     let asked = [coverage.reached_replies(), coverage.reached_matters()].concat();
-    let rates = [coverage.reached_rates(), coverage.reached_settings()].concat();
+    let rates = [coverage.reached_rates(), coverage.reached_settings(), coverage.reached_reasons()].concat();
     for (what, times) in [coverage.reached(), rates, asked, coverage.files.reached()].concat() {
         println!("{what}: {times}");
         if options.list.is_none() && options.calls >= ENOUGH {

@@ -1,12 +1,14 @@
 //! What makes calls on a relay: the independent relay, and in `linked` the proved core.
 
 mod announcing;
+mod answers;
 mod call;
 mod packets;
 mod recordings;
 mod saved;
 
 pub use announcing::AnnounceCalls;
+pub use answers::{decoded, encoded, AnswerCalls};
 pub use call::{Call, PacketCall};
 pub use packets::PacketCalls;
 pub use recordings::{Fields, RecordingCalls};
@@ -53,7 +55,7 @@ impl From<Result<bool, Refusal>> for Outcome {
 }
 
 /// The calls on a relay, over bytes that the caller owns.
-pub trait Engine: SavedCalls {
+pub trait Engine: SavedCalls + AnswerCalls {
     /// A fresh relay and its tally of zeros.
     fn fresh(&mut self, tables: &mut [u8], tally: &mut Tally, own: &Address) -> Outcome;
     fn packet(&mut self, tables: &mut [u8], tally: &mut Tally, output: &mut [u8], arrival: &Arrival) -> Outcome;

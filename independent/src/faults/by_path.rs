@@ -21,7 +21,7 @@ faults! {
     OffPortNoWay: "a path by a port that is off is no way on"
     breaks "Port off: the port to leave by." {
         path_to = |rules, packet, tables| match by_path::path_to(rules, packet, tables) {
-            Ok(path) if !port_on(tables, path.port) => Err(Reason::NoWayOn),
+            Ok(path) if !port_on(tables, path.port) => Err(no_way_on(NoWay::NoPath)),
             path => path,
         },
     }

@@ -118,7 +118,7 @@ faults! {
     breaks "Drops 1 and 2 remember nothing" {
         first_tests = |rules, packet, tables| {
             let tested = judge::first_tests(rules, packet, tables);
-            if tested == Err(Reason::BadForm) && !rules.is_exempt(packet) {
+            if matches!(tested, Err(Reason::BadForm { .. })) && !rules.is_exempt(packet) {
                 forget(tables);
             }
             tested

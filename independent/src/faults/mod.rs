@@ -13,6 +13,7 @@ mod links;
 mod outgoing;
 mod packets;
 mod rates;
+mod reasons;
 mod recordings;
 mod renumbering;
 mod returns;
@@ -32,6 +33,7 @@ pub use links::*;
 pub use outgoing::*;
 pub use packets::*;
 pub use rates::*;
+pub use reasons::*;
 pub use recordings::*;
 pub use renumbering::*;
 pub use returns::*;
@@ -78,6 +80,7 @@ const OF_JUDGING: &[&[Fault]] = &[
     links::FAULTS,
     returns::FAULTS,
     outgoing::FAULTS,
+    reasons::FAULTS,
     asking::FAULTS,
 ];
 

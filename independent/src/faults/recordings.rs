@@ -162,12 +162,12 @@ faults! {
     }
     LinesFromZero: "lines are counted from 0"
     breaks "prints one line per entry, counted from 1" {
-        replay_line = |_, number, judged| replaying::replay_line(number - 1, judged),
+        replay_line = |rules, number, judged| replaying::replay_line(rules, number - 1, judged),
     }
     PortsFalling: "the ports of a spread are printed falling"
     breaks "`4 spread 1 5` (rising)" {
-        replay_line = |_, number, judged| {
-            let line = replaying::replay_line(number, judged);
+        replay_line = |rules, number, judged| {
+            let line = replaying::replay_line(rules, number, judged);
             let mut words: Vec<&str> = line.split_whitespace().collect();
             if words[1] == "spread" {
                 words[2..].reverse();

@@ -1,7 +1,7 @@
 //! The replay: "The replay makes these calls over given tables and prints one line per entry".
 
 use super::count;
-use crate::answer::{Answer, Refusal, Tally, Verdict};
+use crate::answer::{Answer, Reason, Refusal, Tally, Verdict};
 use crate::limits::{LONGEST, PORT_COUNT};
 use crate::relay::{Arrival, Relay};
 use crate::rules::Rules;
@@ -39,8 +39,8 @@ pub fn goes_on(_: &Judged) -> bool {
 }
 
 /// "one line per entry, counted from 1: `1 forward 4`, `2 drop 6`, `3 deliver`, `4 spread 1 5` (rising), `5 kept`". A line feed ends it.
-pub fn replay_line(number: u64, judged: &Judged) -> String {
-    format!("{number} {}\n", words(judged))
+pub fn replay_line<R: Rules>(rules: &R, number: u64, judged: &Judged) -> String {
+    format!("{number} {}\n", words(rules, judged))
 }
 
 /// The ports of a set, each behind a space.
@@ -48,16 +48,27 @@ fn rising(ports: u16) -> String {
     (0..PORT_COUNT).filter(|port| ports >> port & 1 == 1).map(|port| format!(" {port}")).collect()
 }
 
-fn words(judged: &Judged) -> String {
+/// An answer in the words of a line.
+pub fn words<R: Rules>(rules: &R, judged: &Judged) -> String {
     let answer = match judged {
         Ok(answer) => answer,
         Err(refusal) => return format!("refused {}", refusal.number()),
     };
     match answer.verdict {
-        Verdict::Drop(reason) => format!("drop {}", reason.number()),
+        Verdict::Drop(reason) => format!("drop {}", rules.reason_words(reason)),
         Verdict::Deliver => "deliver".to_string(),
         Verdict::Forward(port) => format!("forward {port}"),
         Verdict::Spread(ports) => format!("spread{}", rising(ports)),
         Verdict::Kept => "kept".to_string(),
+    }
+}
+
+/// "Replay lines: `2 drop 3.4 148`, `2 drop 3.1 0`, `2 drop 6.3 22600`, `2 drop 6.1`."
+pub fn reason_words(reason: Reason) -> String {
+    let number = reason.number();
+    match reason.clause() {
+        None => format!("{number}"),
+        Some((clause, None)) => format!("{number}.{clause}"),
+        Some((clause, Some(value))) => format!("{number}.{clause} {value}"),
     }
 }

@@ -1,21 +1,40 @@
 //! Test 3, clause by clause.
 
 use super::Packet;
+use crate::answer::Clause;
 use crate::limits::{LINK_KEYS, LINK_PROOF_LENGTHS};
 use crate::packet::announced::{least_announce, KEYS, NAME_HASH};
 use crate::packet::DestinationKind;
 use crate::rules::Rules;
 
-/// Does a clause hold? In document 01's order, so that the destination is worked out only of a payload that is long enough for it.
-pub fn bad_form<R: Rules>(rules: &R, packet: &Packet) -> bool {
-    rules.type_2_proof(packet)
-        || rules.type_2_link(packet)
-        || rules.announce_not_single(packet)
-        || rules.announce_too_short(packet)
-        || rules.announce_of_another(packet)
-        || rules.request_of_kind_link(packet)
-        || rules.request_too_short(packet)
-        || rules.link_proof_length(packet)
+/// "Bad form names the first failing clause of test 3 (3.1 to 3.8, a link request having two)": in document 01's order, so that the
+/// destination is worked out only of a payload that is long enough for it.
+pub fn failing_clause<R: Rules>(rules: &R, packet: &Packet) -> Option<Clause> {
+    Clause::ALL.iter().copied().find(|clause| fails(rules, *clause, packet))
+}
+
+pub fn fails<R: Rules>(rules: &R, clause: Clause, packet: &Packet) -> bool {
+    match clause {
+        Clause::TypeTwoProof => rules.type_2_proof(packet),
+        Clause::TypeTwoLink => rules.type_2_link(packet),
+        Clause::AnnounceNotSingle => rules.announce_not_single(packet),
+        Clause::AnnounceTooShort => rules.announce_too_short(packet),
+        Clause::AnnounceOfAnother => rules.announce_of_another(packet),
+        Clause::RequestOfKindLink => rules.request_of_kind_link(packet),
+        Clause::RequestTooShort => rules.request_too_short(packet),
+        Clause::LinkProofLength => rules.link_proof_length(packet),
+    }
+}
+
+/// "the least payload length that would have served, or 0 where length isn't the fault." Of a link proof's two lengths it is the lesser, also
+/// where the payload is longer.
+pub fn least_length<R: Rules>(rules: &R, clause: Clause, packet: &Packet) -> usize {
+    match clause {
+        Clause::AnnounceTooShort => least_announce(rules, &packet.parts),
+        Clause::RequestTooShort => LINK_KEYS,
+        Clause::LinkProofLength => LINK_PROOF_LENGTHS[0],
+        _ => 0,
+    }
 }
 
 /// "type 2 proof"

@@ -1,6 +1,6 @@
 //! "Tests in order; the first that holds gives the drop." Tests 1 to 5 are made of every packet; then each kind has its own.
 
-use super::{by_path, form, Packet};
+use super::{by_path, Packet};
 use crate::answer::{Answer, Reason, Verdict, When};
 use crate::limits::{EXEMPT_CONTEXTS, HASH_LIFETIME, HOPS_LIMIT};
 use crate::packet::{hash, Address, Header, PacketHash, PacketKind};
@@ -77,8 +77,10 @@ pub fn write_hash(hash: &PacketHash, clock: u64, record: &mut [u8]) {
     set_time(record, HASHES.expiry, clock + HASH_LIFETIME);
 }
 
+/// "3. Bad form", with "the first failing clause" and "the least payload length that would have served".
 pub fn test_3<R: Rules>(rules: &R, packet: &Packet) -> Result<(), Reason> {
-    Reason::BadForm.when(form::bad_form(rules, packet))
+    let Some(clause) = rules.failing_clause(packet) else { return Ok(()) };
+    Err(Reason::BadForm { clause, least: rules.least_length(clause, packet) as u64 })
 }
 
 /// "4. Own announce: destination local. Data and link requests to a local address, kind link excepted, are delivered here"

@@ -1,7 +1,7 @@
 //! Links: what a request leaves, and tests 6 to 9 and 12 of data and proofs of kind link.
 
 use super::{outgoing, Packet};
-use crate::answer::{Answer, Reason, When};
+use crate::answer::{no_way_on, Answer, NoWay, Reason, When};
 use crate::limits::{HOP_LIFETIME, PROVED_LIFETIME};
 use crate::packet::Address;
 use crate::rules::Rules;
@@ -34,9 +34,9 @@ pub fn link_of(packet: &Packet, id: &Address, path: &Path) -> Link {
     Link { id: *id, asking: packet.port, answering: path.port, taken: packet.parts.hops, remaining: path.hops, proved: false, expiry }
 }
 
-/// "6. No way on": "for kind link, no live link".
+/// "6. No way on": "for kind link, no live link". "6.4 no live link": of a link proof too.
 pub fn link_packet<R: Rules>(rules: &R, packet: &Packet, tables: &mut [u8], output: &mut [u8]) -> Result<Answer, Reason> {
-    let place = rules.find(&LINKS, tables, &packet.parts.destination, packet.clock).ok_or(Reason::NoWayOn)?;
+    let place = rules.find(&LINKS, tables, &packet.parts.destination, packet.clock).ok_or(no_way_on(NoWay::NoLink))?;
     let mut link = Link::read(LINKS.records.get(tables, place));
     let side = rules.link_tests(packet, &link)?;
     let leaving = opposite(side, &link);
@@ -48,14 +48,14 @@ pub fn link_packet<R: Rules>(rules: &R, packet: &Packet, tables: &mut [u8], outp
 
 /// Tests 6 to 9 against a live link: the side that the packet comes from.
 pub fn link_tests<R: Rules>(rules: &R, packet: &Packet, link: &Link) -> Result<Side, Reason> {
-    Reason::NoWayOn.when(!rules.carries(packet, link))?;
+    no_way_on(NoWay::NotProved).when(!rules.carries(packet, link))?;
     Reason::AlreadyKnown.when(rules.is_proved_again(packet, link))?;
     let side = rules.test_8(packet, link)?;
     Reason::BadSignature.when(rules.link_proof_unsigned(packet))?;
     Ok(side)
 }
 
-/// Test 6, of a live link: "(a proved one, except for a link proof)".
+/// Test 6, of a live link: "(a proved one, except for a link proof)". So "6.5 link not proved yet" is never a link proof's.
 pub fn carries(packet: &Packet, link: &Link) -> bool {
     link.proved || packet.parts.is_link_proof()
 }

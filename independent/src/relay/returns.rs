@@ -1,7 +1,7 @@
 //! Return records: what forwarded data leaves, and tests 6, 8 and 12 of the ordinary proofs that go back by them.
 
 use super::{outgoing, Packet};
-use crate::answer::{Answer, Reason, When};
+use crate::answer::{no_way_on, Answer, NoWay, Reason, When};
 use crate::limits::RETURN_LIFETIME;
 use crate::packet::{address, Address};
 use crate::rules::Rules;
@@ -33,9 +33,9 @@ pub fn is_emptied(key: &Address, clock: u64, record: &[u8]) -> bool {
     has_key(record, key) && RETURNS.is_live(record, clock)
 }
 
-/// "6. No way on": "for an ordinary proof (any other kind), no live return record whose key is the destination."
+/// "6. No way on": "for an ordinary proof (any other kind), no live return record whose key is the destination." "6.6 no live return record."
 pub fn ordinary_proof<R: Rules>(rules: &R, packet: &Packet, tables: &mut [u8], output: &mut [u8]) -> Result<Answer, Reason> {
-    let place = rules.find(&RETURNS, tables, &packet.parts.destination, packet.clock).ok_or(Reason::NoWayOn)?;
+    let place = rules.find(&RETURNS, tables, &packet.parts.destination, packet.clock).ok_or(no_way_on(NoWay::NoReturn))?;
     let record = Return::read(RETURNS.records.get(tables, place));
     rules.proof_tests(packet, &record)?;
     let leaving = rules.way_back(&record);

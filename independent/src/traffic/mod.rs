@@ -8,6 +8,7 @@ mod exempt;
 mod lent;
 mod links;
 mod rates;
+mod reasons;
 mod saved;
 mod settings;
 
@@ -113,7 +114,7 @@ const EPISODES: &[(usize, Episode)] = &[
     (2, Traffic::path_edge),
     (8, Traffic::chatter),
     (4, Traffic::refused_rate),
-    (10, Traffic::lent_chatter),
+    (12, Traffic::lent_chatter),
     (25, Traffic::data_by_path),
     (8, Traffic::data_lost),
     (6, Traffic::data_local),
@@ -139,7 +140,9 @@ const EPISODES: &[(usize, Episode)] = &[
     (1, Traffic::locals_full),
     (12, Traffic::renumbering),
     (54, Traffic::refused_packet),
-    (12, Traffic::lent_tables),
+    (14, Traffic::lent_tables),
+    (4, Traffic::bad_forms),
+    (12, Traffic::lent_reasons),
     (4, Traffic::save_and_load),
     (2, Traffic::load_again),
     (3, Traffic::load_older),

@@ -1,7 +1,7 @@
 //! Refusals, local addresses, and what is remembered of accepted packets.
 
-use crate::host::{announce, destination, to_station, type_1, Host, BEFORE};
-use haskumye_independent::answer::{Reason, Verdict};
+use crate::host::{announce, destination, lost, to_station, type_1, Host, BEFORE};
+use haskumye_independent::answer::{NoWay, Reason, Verdict};
 use haskumye_independent::engine::Outcome;
 use haskumye_independent::relay::Arrival;
 use haskumye_independent::tables::{self, HASHES, HASH_PLACE};
@@ -42,23 +42,23 @@ fn local_addresses_get_data_and_requests_of_any_hops(host: &mut Host) {
     assert_eq!(host.verdict(&announce(1, 0x01, 200, 5, 200), 0, 10), Verdict::Drop(Reason::OwnAnnounce));
     assert_eq!(host.verdict(&type_1(0x08, 255, destination(1), 0, b"a"), 0, 10), Verdict::Deliver);
     assert_eq!(host.verdict(&to_station(1, 0x42, 128, &[0; 64]), 0, 10), Verdict::Deliver);
-    assert_eq!(host.verdict(&type_1(0x0c, 0, destination(1), 0, b"a"), 0, 10), Verdict::Drop(Reason::NoWayOn));
-    assert_eq!(host.verdict(&type_1(0x03, 0, destination(1), 0, b"a"), 0, 10), Verdict::Drop(Reason::NoWayOn));
+    assert_eq!(host.verdict(&type_1(0x0c, 0, destination(1), 0, b"a"), 0, 10), lost(NoWay::NoLink));
+    assert_eq!(host.verdict(&type_1(0x03, 0, destination(1), 0, b"a"), 0, 10), lost(NoWay::NoReturn));
 }
 
 fn the_hash_ring_wraps(host: &mut Host) {
     let packet = |number: u16| type_1(0, 0, [9; 16], 0, &number.to_be_bytes());
     for number in 0..1_025 {
-        assert_eq!(host.verdict(&packet(number), 0, 5), Verdict::Drop(Reason::NoWayOn));
+        assert_eq!(host.verdict(&packet(number), 0, 5), lost(NoWay::NotAsking));
     }
     assert_eq!(tables::ring_place(&host.tables, HASH_PLACE), 1);
     assert_eq!(host.verdict(&packet(1), 0, 5), Verdict::Drop(Reason::Duplicate));
-    assert_eq!(host.verdict(&packet(0), 0, 5), Verdict::Drop(Reason::NoWayOn));
+    assert_eq!(host.verdict(&packet(0), 0, 5), lost(NoWay::NotAsking));
     assert!(HASHES.records.iter(&host.tables).all(|record| record[0] == 1));
 }
 
 fn the_tally_wraps(host: &mut Host) {
     host.tally = [u32::MAX; 6];
-    assert_eq!(host.verdict(&type_1(0, 0, [9; 16], 0, b"x"), 0, 5), Verdict::Drop(Reason::NoWayOn));
+    assert_eq!(host.verdict(&type_1(0, 0, [9; 16], 0, b"x"), 0, 5), lost(NoWay::NotAsking));
     assert_eq!(host.tally, [0, 0, u32::MAX, u32::MAX, u32::MAX, u32::MAX]);
 }

@@ -1,7 +1,7 @@
 //! The four points of document 01's "Easy to get wrong", each a scenario by its name.
 
-use crate::host::{announce, destination, to_station, Host, NEIGHBOUR, OWN};
-use haskumye_independent::answer::{Reason, Verdict};
+use crate::host::{announce, bad_form, destination, to_station, Host, NEIGHBOUR, OWN};
+use haskumye_independent::answer::{Clause, Reason, Verdict};
 use haskumye_independent::packet::{encode, Header, Parts};
 use haskumye_independent::tables::{self, link, path, LINKS};
 
@@ -30,10 +30,10 @@ fn the_ratchet_goes_by_the_flag_bit_and_not_by_the_context_byte(host: &mut Host)
     // a payload too short for a ratchet: of good form without the flag, whatever the context says
     for (station, payload) in [(1, 148), (2, 164), (3, 179)] {
         assert_eq!(verdict(station, 0x01, 1, payload), Verdict::Spread(0b1110));
-        assert_eq!(verdict(10 + station, 0x21, 0, payload), Verdict::Drop(Reason::BadForm));
-        assert_eq!(verdict(20 + station, 0x21, 1, payload), Verdict::Drop(Reason::BadForm));
+        assert_eq!(verdict(10 + station, 0x21, 0, payload), bad_form(Clause::AnnounceTooShort, 180));
+        assert_eq!(verdict(20 + station, 0x21, 1, payload), bad_form(Clause::AnnounceTooShort, 180));
     }
-    assert_eq!(verdict(4, 0x01, 1, 147), Verdict::Drop(Reason::BadForm));
+    assert_eq!(verdict(4, 0x01, 1, 147), bad_form(Clause::AnnounceTooShort, 148));
     assert_eq!(verdict(5, 0x21, 0, 180), Verdict::Spread(0b1110));
 }
 

@@ -1,7 +1,7 @@
 //! Document 01's edges, starred and not. What concerns a packet's bytes alone stands in `packets.rs` too.
 
-use crate::host::{announce, destination, to_station, type_1, Host, BEFORE, NEIGHBOUR, OWN};
-use haskumye_independent::answer::{Answer, Reason, Verdict};
+use crate::host::{announce, destination, lost, to_station, type_1, Host, BEFORE, NEIGHBOUR, OWN};
+use haskumye_independent::answer::{no_way_on, Answer, NoWay, Reason, Verdict};
 use haskumye_independent::engine::Outcome;
 use haskumye_independent::tables::{self, path, HASH_PLACE};
 
@@ -23,10 +23,10 @@ fn lengths_and_the_access_code(host: &mut Host) {
     };
     let dropped = |reason| Outcome::Judged(Answer::silent(Verdict::Drop(reason)));
     assert_eq!(call(0x00, 18), Outcome::Refused(1));
-    assert_eq!(call(0x00, 19), dropped(Reason::NoWayOn));
+    assert_eq!(call(0x00, 19), dropped(no_way_on(NoWay::NotAsking)));
     assert_eq!(call(0x40, 34), Outcome::Refused(1));
     assert_eq!(call(0x40, 35), dropped(Reason::NotOurs));
-    assert_eq!(call(0x00, 500), dropped(Reason::NoWayOn));
+    assert_eq!(call(0x00, 500), dropped(no_way_on(NoWay::NotAsking)));
     assert_eq!(call(0x00, 501), Outcome::Refused(2));
     assert_eq!(call(0x80, 19), Outcome::Refused(3));
 }
@@ -34,15 +34,15 @@ fn lengths_and_the_access_code(host: &mut Host) {
 fn a_roaming_path_lives_until_22_600(host: &mut Host) {
     assert_eq!(host.verdict(&announce(1, 0x01, 0, 5, 200), 1, 1_000), Verdict::Spread(0b1101));
     assert_eq!(host.verdict(&to_station(1, 0x40, 0, b"a"), 0, 22_599), Verdict::Forward(1));
-    assert_eq!(host.verdict(&to_station(1, 0x40, 0, b"b"), 0, 22_600), Verdict::Drop(Reason::NoWayOn));
+    assert_eq!(host.verdict(&to_station(1, 0x40, 0, b"b"), 0, 22_600), lost(NoWay::OnlyExpired { expiry: 22_600 }));
     assert_eq!(host.tally, [3, 1, 0, 1, 1, 0]);
 }
 
 fn a_hash_is_a_duplicate_until_1_300(host: &mut Host) {
     let packet = type_1(0, 0, [9; 16], 0, b"x");
-    assert_eq!(host.verdict(&packet, 0, 1_000), Verdict::Drop(Reason::NoWayOn));
+    assert_eq!(host.verdict(&packet, 0, 1_000), lost(NoWay::NotAsking));
     assert_eq!(host.verdict(&packet, 0, 1_299), Verdict::Drop(Reason::Duplicate));
-    assert_eq!(host.verdict(&packet, 0, 1_300), Verdict::Drop(Reason::NoWayOn));
+    assert_eq!(host.verdict(&packet, 0, 1_300), lost(NoWay::NotAsking));
     assert_eq!(tables::ring_place(&host.tables, HASH_PLACE), 2);
 }
 

@@ -1,6 +1,6 @@
 //! A relay of either program, and the packets that scenarios send it.
 
-use haskumye_independent::answer::{Tally, Verdict};
+use haskumye_independent::answer::{no_way_on, Clause, NoWay, Reason, Tally, Verdict};
 use haskumye_independent::engine::{Engine, Outcome, PacketCalls, RecordingCalls};
 use haskumye_independent::limits::LONGEST;
 use haskumye_independent::packet::{self, announced, encode, hash, Address, Header, PacketHash, Parts};
@@ -79,6 +79,16 @@ impl Host {
     }
 }
 
+/// A drop by this clause of test 3, and the length that it tells.
+pub fn bad_form(clause: Clause, least: u64) -> Verdict {
+    Verdict::Drop(Reason::BadForm { clause, least })
+}
+
+/// A drop by test 6 in this case.
+pub fn lost(case: NoWay) -> Verdict {
+    Verdict::Drop(no_way_on(case))
+}
+
 /// A station is a number here: its keys are bytes of that number.
 pub fn destination(station: u8) -> Address {
     announced::destination(&Sha256::default(), &[station; 64], &[station; 10])
@@ -100,6 +110,25 @@ pub fn to_station(station: u8, header: u8, hops: u8, payload: &[u8]) -> Vec<u8> 
 
 pub fn type_1(header: u8, hops: u8, destination: Address, context: u8, payload: &[u8]) -> Vec<u8> {
     encode(&Parts { header: Header(header), hops, relay: [0; 16], destination, context }, payload)
+}
+
+/// The file of packets: clock, port, signature word, body.
+pub fn recorded(host: &Host, packets: &[(u64, u8, u8, &[u8])]) -> Vec<u8> {
+    let (mut entries, mut bodies) = (Vec::new(), Vec::new());
+    for (clock, port, word, body) in packets {
+        entries.extend(clock.to_be_bytes());
+        entries.extend([*port, *word]);
+        entries.extend((body.len() as u16).to_be_bytes());
+        bodies.extend(*body);
+    }
+    let mut room = vec![0; 4 + 13 * packets.len() + bodies.len()];
+    assert_eq!(host.program.write_recording(&entries, &bodies, &mut room), (room.len() as u32) << 16);
+    room
+}
+
+/// What a replay of a file prints.
+pub fn replay(host: &mut Host, file: &[u8]) -> String {
+    host.program.replay(file, &mut host.tables, &mut host.tally)
 }
 
 /// The parts and the payload of a packet.

@@ -1,7 +1,7 @@
 //! Wish 2: packets of kind link that may come again as the same bytes.
 
-use crate::host::{announce, link_id, packet_hash, to_station, type_1, Host, NEIGHBOUR, OWN};
-use haskumye_independent::answer::{Reason, Verdict};
+use crate::host::{announce, bad_form, link_id, lost, packet_hash, to_station, type_1, Host, NEIGHBOUR, OWN};
+use haskumye_independent::answer::{Clause, NoWay, Reason, Verdict};
 use haskumye_independent::limits::EXEMPT_CONTEXTS;
 use haskumye_independent::packet::{encode, Address, Header, Parts};
 use haskumye_independent::tables::{self, link, set_key, set_time, HASHES, HASH_PLACE, LINKS};
@@ -52,7 +52,7 @@ fn keepalives_keep_a_link_alive(host: &mut Host) {
     }
     assert!(host.tables[HASH_PLACE..] == ring);
     assert_eq!(host.verdict(&request, 0, 86_500 + 719), Verdict::Forward(3));
-    assert_eq!(host.verdict(&request, 0, 86_500 + 719 + 720), Verdict::Drop(Reason::NoWayOn));
+    assert_eq!(host.verdict(&request, 0, 86_500 + 719 + 720), lost(NoWay::NoLink));
 }
 
 /// Every context of data over a link, twice.
@@ -83,7 +83,7 @@ fn proofs_of_kind_link_are_exempt_too(host: &mut Host) {
 fn other_kinds_are_not_exempt(host: &mut Host) {
     for (header, context) in [0x00, 0x04, 0x08].into_iter().flat_map(|header| EXEMPT_CONTEXTS.map(|context| (header, context))) {
         let packet = type_1(header, 0, [9; 16], context, b"a");
-        assert_eq!(host.verdict(&packet, 0, 10), Verdict::Drop(Reason::NoWayOn));
+        assert_eq!(host.verdict(&packet, 0, 10), lost(NoWay::NotAsking));
         assert_eq!(host.verdict(&packet, 0, 10), Verdict::Drop(Reason::Duplicate));
     }
     assert_eq!(tables::ring_place(&host.tables, HASH_PLACE), 18);
@@ -109,18 +109,18 @@ fn the_other_tests_stand(host: &mut Host) {
     let ring = host.tables[HASH_PLACE..].to_vec();
     let type_2 =
         |relay: Address, header: u8| encode(&Parts { header: Header(header), hops: 4, relay, destination: id, context: 0xfa }, &[0xff]);
-    for (packet, reason) in [
-        (type_2(NEIGHBOUR, 0x4c), Reason::NotOurs),
-        (type_2(OWN, 0x4c), Reason::BadForm),
-        (type_2(OWN, 0x4f), Reason::BadForm),
-        (type_1(0x0d, 4, id, 0xfa, &[0xff]), Reason::BadForm),
-        (type_1(0x0e, 4, id, 0xfa, &[1; 64]), Reason::BadForm),
-        (type_1(0x0c, 128, id, 0xfa, &[0xff]), Reason::TooManyHops),
-        (type_1(0x0c, 4, [9; 16], 0xfa, &[0xff]), Reason::NoWayOn),
-        (type_1(0x0c, 5, id, 0xfa, &[0xff]), Reason::WrongSide),
+    for (packet, verdict) in [
+        (type_2(NEIGHBOUR, 0x4c), Verdict::Drop(Reason::NotOurs)),
+        (type_2(OWN, 0x4c), bad_form(Clause::TypeTwoLink, 0)),
+        (type_2(OWN, 0x4f), bad_form(Clause::TypeTwoProof, 0)),
+        (type_1(0x0d, 4, id, 0xfa, &[0xff]), bad_form(Clause::AnnounceNotSingle, 0)),
+        (type_1(0x0e, 4, id, 0xfa, &[1; 64]), bad_form(Clause::RequestOfKindLink, 0)),
+        (type_1(0x0c, 128, id, 0xfa, &[0xff]), Verdict::Drop(Reason::TooManyHops)),
+        (type_1(0x0c, 4, [9; 16], 0xfa, &[0xff]), lost(NoWay::NoLink)),
+        (type_1(0x0c, 5, id, 0xfa, &[0xff]), Verdict::Drop(Reason::WrongSide)),
     ] {
         for _ in 0..2 {
-            assert_eq!(host.verdict(&packet, 0, 101), Verdict::Drop(reason));
+            assert_eq!(host.verdict(&packet, 0, 101), verdict);
         }
     }
     host.set_port(3, false, 0);

@@ -10,6 +10,7 @@ mod keepalives;
 mod links;
 mod packets;
 mod rates;
+mod reasons;
 mod recordings;
 mod renumbering;
 mod returns;

@@ -1,6 +1,6 @@
 //! Recordings: document 02's Wish 1.
 
-use crate::host::{announce, to_station, type_1, Host};
+use crate::host::{announce, recorded, replay, to_station, type_1, Host};
 use haskumye_independent::core::LINE;
 use haskumye_independent::engine::Outcome;
 use haskumye_independent::packet::Address;
@@ -33,24 +33,6 @@ fn changed(changes: &[(usize, u8)]) -> Vec<u8> {
     let mut file = FILE.to_vec();
     changes.iter().for_each(|(at, byte)| file[*at] = *byte);
     file
-}
-
-/// The file of packets: clock, port, signature word, body.
-fn recorded(host: &Host, packets: &[(u64, u8, u8, &[u8])]) -> Vec<u8> {
-    let (mut entries, mut bodies) = (Vec::new(), Vec::new());
-    for (clock, port, word, body) in packets {
-        entries.extend(clock.to_be_bytes());
-        entries.extend([*port, *word]);
-        entries.extend((body.len() as u16).to_be_bytes());
-        bodies.extend(*body);
-    }
-    let mut room = vec![0; 4 + 13 * packets.len() + bodies.len()];
-    assert_eq!(host.program.write_recording(&entries, &bodies, &mut room), (room.len() as u32) << 16);
-    room
-}
-
-fn replay(host: &mut Host, file: &[u8]) -> String {
-    host.program.replay(file, &mut host.tables, &mut host.tally)
 }
 
 fn a_file_written_by_hand_reads_and_writes_again(host: &mut Host) {

@@ -1,7 +1,7 @@
 //! Return records, and the receipts that go back by them.
 
-use crate::host::{announce, return_key, to_station, type_1, Host};
-use haskumye_independent::answer::{Reason, Verdict};
+use crate::host::{announce, lost, return_key, to_station, type_1, Host};
+use haskumye_independent::answer::{NoWay, Reason, Verdict};
 use haskumye_independent::tables::{self, RETURNS, RETURN_PLACE};
 
 crate::on_both_programs!(a_receipt_goes_back_once(ReceiptKeepsRecord), the_same_data_later_leaves_one_live_return_record(OtherReturnsStay),);
@@ -15,7 +15,7 @@ fn a_receipt_goes_back_once(host: &mut Host) {
     assert_eq!(host.judged(&type_1(0x03, 9, key, 0, b"2"), 3, 1_819, false), Verdict::Forward(0));
     assert_eq!(host.output[..2], [0x03, 10]);
     assert_eq!(RETURNS.records.get(&host.tables, 0), [0; 27]);
-    assert_eq!(host.verdict(&type_1(0x03, 0, key, 0, b"3"), 3, 1_819), Verdict::Drop(Reason::NoWayOn));
+    assert_eq!(host.verdict(&type_1(0x03, 0, key, 0, b"3"), 3, 1_819), lost(NoWay::NoReturn));
 }
 
 fn the_same_data_later_leaves_one_live_return_record(host: &mut Host) {

@@ -1,7 +1,7 @@
 //! Saved tables: document 02's Wish 4.
 
-use crate::host::{announce, to_station, type_1, Host, OWN};
-use haskumye_independent::answer::{Reason, Tally, Verdict};
+use crate::host::{announce, lost, to_station, type_1, Host, OWN};
+use haskumye_independent::answer::{NoWay, Tally};
 use haskumye_independent::engine::Outcome;
 use haskumye_independent::limits::LATEST;
 use haskumye_independent::tables::{link, path, AnnounceRate, HASHES, HASH_PLACE, LAST_CLOCK, LINKS, PATHS, PORTS};
@@ -338,13 +338,13 @@ fn the_relay_goes_on_from_what_was_loaded(host: &mut Host) {
     let packet = type_1(0, 0, [9; 16], 0, b"x");
     host.verdict(&type_1(0, 0, [9; 16], 0, b"before"), 0, 10);
     let file = saved(host);
-    assert_eq!(host.verdict(&packet, 0, 50), Verdict::Drop(Reason::NoWayOn));
+    assert_eq!(host.verdict(&packet, 0, 50), lost(NoWay::NotAsking));
     host.set_port(0, false, 0);
     assert_eq!(host.program.load(&file, &mut host.tables, &mut host.tally), 0);
     assert_eq!(host.tally, [1, 1, 0, 0, 0, 0]);
     assert_eq!(host.tables[..24], [&OWN[..], &10u64.to_be_bytes()].concat());
     assert_eq!(host.call(&packet, 0, 9, true), Outcome::Refused(5));
-    assert_eq!(host.verdict(&packet, 0, 10), Verdict::Drop(Reason::NoWayOn));
+    assert_eq!(host.verdict(&packet, 0, 10), lost(NoWay::NotAsking));
     assert_eq!(host.tally, [2, 2, 0, 0, 0, 0]);
 }
 

@@ -5,7 +5,7 @@ mod model;
 mod rust;
 mod text;
 
-use haskumye::{Mode, Reason, Refusal};
+use haskumye::{BadForm, Mode, NoWayOn, Reason, Refusal};
 use model::{constants_differ, functions_differ, structs_differ, Interface};
 use std::path::{Path, PathBuf};
 
@@ -91,9 +91,12 @@ impl Texts {
 /// Rust's numbered enums as the compiler has them, by the header's names.
 fn with_enums(mut rust: Interface) -> Interface {
     let refusals = Refusal::ALL.iter().map(|case| (format!("Refusal{case:?}"), case.number()));
-    let reasons = Reason::ALL.iter().map(|case| (format!("Reason{case:?}"), case.number()));
+    let name = |reason: &Reason| format!("{reason:?}").split(' ').next().unwrap_or_default().to_string();
+    let reasons = Reason::all().into_iter().map(|reason| (format!("Reason{}", name(&reason)), reason.number()));
+    let clauses = BadForm::ALL.iter().map(|case| (format!("BadForm{case:?}"), case.number()));
+    let cases = NoWayOn::ALL.iter().map(|case| (format!("NoWayOn{case:?}"), case.number()));
     let modes = Mode::ALL.iter().map(|case| (format!("Mode{case:?}"), case.number()));
-    for (name, number) in refusals.chain(reasons).chain(modes) {
+    for (name, number) in refusals.chain(reasons).chain(clauses).chain(cases).chain(modes) {
         let words = name.chars().flat_map(|sign| sign.is_uppercase().then_some('_').into_iter().chain([sign.to_ascii_uppercase()]));
         rust.constants.insert(format!("HASKUMYE{}", words.collect::<String>()), number.into());
     }
@@ -155,9 +158,9 @@ fn the_three_agree() {
 fn something_is_compared() {
     let texts = Texts::read();
     let header = header::read("the header", &texts.header);
-    assert_eq!((header.functions.len(), header.structs.len()), (40, 14));
+    assert_eq!((header.functions.len(), header.structs.len()), (41, 14));
     assert_eq!(header.functions["haskumye_packet"].arguments.len(), 10);
-    assert_eq!(header.constants.len(), 88);
+    assert_eq!(header.constants.len(), 102);
 }
 
 #[test]
@@ -369,6 +372,12 @@ fn constants_are_compared() {
         (HEADER, "HASKUMYE_OUTPUT_SIZE 500", "HASKUMYE_OUTPUT_SIZE 501", "HASKUMYE_OUTPUT_SIZE is 501 in the header, 500 in Rust"),
         (HEADER, "HASKUMYE_REFUSAL_MAP = 8", "HASKUMYE_REFUSAL_MAP = 9", "HASKUMYE_REFUSAL_MAP is 9 in the header, 8 in Rust"),
         (HEADER, "HASKUMYE_REASON_PORT_OFF = 12,", "", "HASKUMYE_REASON_PORT_OFF is missing in the header"),
+        (
+            HEADER,
+            "HASKUMYE_NO_WAY_ON_NO_LINK = 4,",
+            "HASKUMYE_NO_WAY_ON_NO_LINK = 5,",
+            "HASKUMYE_NO_WAY_ON_NO_LINK is 5 in the header, 4 in Rust",
+        ),
         (HEADER, "#define HASKUMYE_PACKET_DATA 0x00", "", "HASKUMYE_PACKET_DATA is missing in the header"),
         (
             HEADER,

@@ -1,6 +1,7 @@
 //! What calls reach, and how often.
 
 mod rates;
+mod reasons;
 
 use crate::answer::{Answer, Verdict};
 use crate::engine::{Call, Outcome, PacketCall};
@@ -11,6 +12,7 @@ use crate::rules::AsWritten;
 use crate::sha256::Sha256;
 use crate::tables::{self, HASHES};
 use rates::{Found, Rates};
+use reasons::Reasons;
 use std::collections::HashMap;
 
 /// How often each refusal, reason and verdict was reached, and packets that are exempt from test 2.
@@ -28,14 +30,16 @@ pub struct Coverage {
     asked: Asked,
     pub files: Files,
     rates: Rates,
+    split: Reasons,
     /// Settings of the announce rate: those set, then refusals by number.
     rate_settings: [usize; 10],
 }
 
-/// What a call finds: an exempt packet its hash in the ring, an announce its entry.
+/// What a call finds: an exempt packet its hash in the ring, an announce its entry, any packet the expiries of its destination's paths.
 pub struct Before {
     remembered: bool,
     found: Option<Found>,
+    expiries: Vec<u64>,
 }
 
 /// Questions, by their answers.
@@ -128,8 +132,9 @@ impl Coverage {
     }
 
     /// What is looked up before a call.
-    pub fn before(&self, call: &Call, tables: &[u8]) -> Before {
-        Before { remembered: self.is_remembered(call, tables), found: Found::before(call, tables) }
+    pub fn before(&mut self, call: &Call, tables: &[u8]) -> Before {
+        let expiries = self.split.before(call, tables);
+        Before { remembered: self.is_remembered(call, tables), found: Found::before(call, tables), expiries }
     }
 
     /// Makes a call count, with what was looked up before it.
@@ -138,6 +143,9 @@ impl Coverage {
         self.count_exempt(call, outcome, before.remembered);
         if let Some(found) = &before.found {
             self.rates.count(found, outcome);
+        }
+        if let Outcome::Judged(Answer { verdict, .. }) = outcome {
+            self.split.count(call, &before.expiries, *verdict);
         }
     }
 
@@ -167,7 +175,12 @@ impl Coverage {
         let reasons = (1..=13).chain([15]).map(|number| (format!("drop {number}"), self.reasons[number]));
         let words = ["drop", "deliver", "forward", "spread", "kept"];
         let verdicts = words.iter().zip(self.verdicts).map(|(word, times)| (word.to_string(), times));
-        refusals.chain(reasons).chain(verdicts).chain(self.reached_exempt()).collect()
+        refusals.chain(reasons).chain(self.split.reached()).chain(verdicts).chain(self.reached_exempt()).collect()
+    }
+
+    /// The clauses of test 3 and the cases of test 6 over lent tables, and what they are told of.
+    pub fn reached_reasons(&self) -> Vec<(String, usize)> {
+        self.split.reached_edges()
     }
 
     /// The same of questions to the tables. Some are never answered by none.

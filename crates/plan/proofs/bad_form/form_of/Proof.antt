@@ -11,9 +11,11 @@ use Rattle.octets.specs.Index.{_and_}
 use Rattle.octets.specs.Listed.{firstOf, valued}
 use Rattle.octets.proofs.Listed.{here, past}
 use Rattle.rules.specs.Tests.{typeTwoProof, typeTwoOfKindLink, announceNotSingle, announceTooShort, announceOfAnother, requestOfKindLink, requestTooShort, linkProofLength, formTests}
+use Rattle.rules.specs.declared.Clause.the-variants.{AnnounceTooShort}
 use Rattle.packet.specs.Read.{longestPacket}
 use Rattle.outgoing.proofs.LeavingLaws.{long}
 use Rattle.plan.specs.First.{formOf}
+use Rattle.plan.specs.declared.Form.the-variants.{Bad}
 use Rattle.plan.proofs.FormLaws.{formFrom}
 use Rattle.plan.proofs.bad_form.form_of.Statement.{statement}
 use Rattle.plan.proofs.bad_form.form_of.Tie as tie
@@ -168,9 +170,15 @@ least-announce-requires c κs = search needs
 both-requires-4 : tie.Need-both-requires-4
 both-requires-4 c κs = search needs
 
+least-announce-requires-2 : tie.Need-least-announce-requires-2
+least-announce-requires-2 c κs = search needs
+
 returns-4 : tie.Need-returns-4
 unfolding formOf formFrom formTests valued
-returns-4 c = sym (past-3 (c .before .before .before .before) ∙ here _ _ _ _ (sym (test-4 (c .before)) ∙ c .if4 .taken))
+returns-4 c =
+    let d = c .before in
+    ap (λ (n : ℕ). Bad (AnnounceTooShort n)) (c .least-announce2 .ensures)
+    ∙ sym (past-3 (d .before .before .before .before) ∙ here _ _ _ _ (sym (test-4 (d .before)) ∙ d .if4 .taken))
 
 announce-of-another-requires : tie.Need-announce-of-another-requires
 announce-of-another-requires c κs = search needs
@@ -234,6 +242,7 @@ form-of-spec =
     is-announce-requires-2
     least-announce-requires
     both-requires-4
+    least-announce-requires-2
     returns-4
     announce-of-another-requires
     returns-5

@@ -3,7 +3,11 @@ use mathlib.Core.Path.{sym, ap, _∙_}
 use borrow.Author.Tests.{not-true, not-false}
 use borrow.Author.Needs.{needs}
 use Rattle.packet.specs.declared.Parts.{Parts}
-use Rattle.rules.specs.View.{pathPlace}
+use Rattle.rules.specs.View.{pathPlace, expiredPath}
+use Rattle.rules.specs.Ways.{noPath}
+use Rattle.rules.specs.declared.Blocked.{Blocked}
+use Rattle.rules.specs.declared.Reason.the-variants.{NoWayOn}
+use Rattle.plan.specs.declared.Decision.the-variants.{Drop}
 use Rattle.tables.proofs.Whole.{formed}
 use Rattle.tables.specs.Layout.{relayOf}
 use Rattle.outgoing.proofs.LeavingLaws.{whole, long}
@@ -63,12 +67,17 @@ parts-of-requires c κs =
 path-place-requires : tie.Need-path-place-requires
 path-place-requires c κs = sized (c .before .before .before .before .before .before .before) .size
 
+no-path-requires : tie.Need-no-path-requires
+no-path-requires c κs = sized (s1 (c .before)) .size
+
 returns-2 : tie.Need-returns-2
 returns-2 c =
-    let c1 = c .before in
+    let c1 = c .before .before in
     let s = s1 c1 in
     let (_, other, kind, proof) = s .pre in
-    path-nowhere (t s) (a s) other kind proof (two (c1 .before .before .before)) (found c1) (c .if2 .taken)
+    let why : Parts → Blocked = λ q. noPath (expiredPath (s .args .arrived .clock) (relayOf (t s)) (q .destination)) in
+    ap (λ (b : Blocked). Drop (NoWayOn b)) (c .no-path .ensures ∙ ap why (c1 .before .before .parts-of .ensures))
+    ∙ path-nowhere (t s) (a s) other kind proof (two (c1 .before .before .before)) (found c1) (c .before .if2 .taken)
 
 is-data-requires : tie.Need-is-data-requires
 is-data-requires c κs = search needs
@@ -109,6 +118,7 @@ decide-by-path-spec =
     returns
     parts-of-requires
     path-place-requires
+    no-path-requires
     returns-2
     is-data-requires
     send-requires

@@ -1,10 +1,10 @@
-use mathlib.Core.Path.{refl}
+use mathlib.Core.Path.{refl, _∙_}
 use lib.Dec.{lit≤}
 use native.Mathlib.Omega.{arith}
 use Rattle.text.proofs.WordLaws.{words-appended}
-use Rattle.replaying.specs.Words.{forwardWord, dropWord, deliverWord, keptWord}
+use Rattle.replaying.specs.Words.{forwardWord, deliverWord, keptWord}
 use Rattle.replaying.specs.Lines.{verdictWords}
-use Rattle.replaying.proofs.LineLaws.{ports-short, word-short, number-short}
+use Rattle.replaying.proofs.LineLaws.{ports-short, word-short, number-short, drop-words}
 use borrow.Author.Needs.{needs}
 use Rattle.replaying.proofs.lines.with_verdict.Statement.{statement}
 use Rattle.replaying.proofs.lines.with_verdict.Tie as tie
@@ -21,11 +21,14 @@ with-word-requires c κs = search needs
 reason-number-requires : tie.Need-reason-number-requires
 reason-number-requires c κs = search needs
 
-wide-requires : tie.Need-wide-requires
-wide-requires c κs = search needs
+reason-clause-requires : tie.Need-reason-clause-requires
+reason-clause-requires c κs = search needs
 
-with-number-requires : tie.Need-with-number-requires
-with-number-requires c κs = search needs
+reason-value-requires : tie.Need-reason-value-requires
+reason-value-requires c κs = search needs
+
+with-reason-requires : tie.Need-with-reason-requires
+with-reason-requires c κs = search needs
 
 enum-told : tie.Need-enum-told
 enum-told c = search needs
@@ -48,8 +51,8 @@ with-word-requires-3 c κs = search needs
 cast-with-number : tie.Need-cast-with-number
 cast-with-number c = search needs
 
-with-number-requires-2 : tie.Need-with-number-requires-2
-with-number-requires-2 c κs = search needs
+with-number-requires : tie.Need-with-number-requires
+with-number-requires c κs = search needs
 
 enum-known-verdict-3 : tie.Need-enum-known-verdict-3
 enum-known-verdict-3 c = search needs
@@ -75,12 +78,13 @@ with-word-requires-5 c κs = search needs
 returns : tie.Need-returns
 unfolding verdictWords
 returns c =
-    let c3 = c .before .before .before in
-    let c6 = c3 .before .before .before in
-    rw (c6 .verdict .given .1) (
-      rw (c .with-number .ensures, c .before .wide .ensures, c .before .before .reason-number .ensures, c3 .with-word .ensures, words-appended) refl,
-      number-short dropWord (lit≤ tt) _ (omega (arith, c .before .before .reason-number .ensures)),
-    )
+    let value = c .before .reason-value in
+    let clause = c .before .before .reason-clause in
+    let test = c .before .before .before .reason-number in
+    let c4 = c .before .before .before .before in
+    rw (c4 .before .before .before .verdict .given .1)
+    (drop-words (test .result) (clause .result) (value .result) (omega arith) (omega arith) (omega arith) _ (test .ensures) (clause .ensures) (value .ensures)
+    _ _ (c .with-reason .ensures ∙ rw (c4 .with-word .ensures) (words-appended _ _ _)))
 
 returns-2 : tie.Need-returns-2
 unfolding verdictWords
@@ -90,7 +94,7 @@ returns-3 : tie.Need-returns-3
 unfolding verdictWords
 returns-3 c =
     rw (c .before .before .before .before .verdict2 .given .1)
-    (rw (c .with-number2 .ensures, c .before .with-word3 .ensures, words-appended) refl, number-short forwardWord (lit≤ tt) _ (omega arith))
+    (rw (c .with-number .ensures, c .before .with-word3 .ensures, words-appended) refl, number-short forwardWord (lit≤ tt) _ (omega arith))
 
 returns-4 : tie.Need-returns-4
 unfolding verdictWords
@@ -110,8 +114,9 @@ with-verdict-spec =
     slice-aggregate-with-word
     with-word-requires
     reason-number-requires
-    wide-requires
-    with-number-requires
+    reason-clause-requires
+    reason-value-requires
+    with-reason-requires
     enum-told
     slice-aggregate-with-word-2
     with-word-requires-2
@@ -119,7 +124,7 @@ with-verdict-spec =
     slice-aggregate-with-word-3
     with-word-requires-3
     cast-with-number
-    with-number-requires-2
+    with-number-requires
     enum-known-verdict-3
     slice-aggregate-with-word-4
     with-word-requires-4

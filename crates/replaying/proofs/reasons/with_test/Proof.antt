@@ -1,0 +1,48 @@
+use mathlib.Core.Path.{refl, _∙_}
+use borrow.Author.Tests.{eq-eqb, ne-eqb}
+use borrow.Author.Needs.{needs}
+use Rattle.octets.specs.Choice.{_then_otherwise_}
+use Rattle.replaying.specs.Lines.{testWord}
+use Rattle.replaying.proofs.LineLaws.{pointed}
+use Rattle.replaying.proofs.reasons.with_test.Statement.{statement}
+use Rattle.replaying.proofs.reasons.with_test.Tie as tie
+
+wide-requires : tie.Need-wide-requires
+wide-requires c κs = search needs
+
+with-number-requires : tie.Need-with-number-requires
+with-number-requires c κs = search needs
+
+returns : tie.Need-returns
+unfolding testWord _then_otherwise_
+returns c = rw (eq-eqb _ _ (c .if1 .taken)) (c .before .with-number .ensures ∙ rw (c .before .before .wide .ensures) refl)
+
+with-character-requires : tie.Need-with-character-requires
+with-character-requires c κs = search needs
+
+wide-requires-2 : tie.Need-wide-requires-2
+wide-requires-2 c κs = search needs
+
+with-decimal-requires : tie.Need-with-decimal-requires
+with-decimal-requires c κs = search needs
+
+returns-2 : tie.Need-returns-2
+unfolding testWord _then_otherwise_
+returns-2 c =
+    let c2 = c .before .before in
+    let c4 = c2 .before .before in
+    rw (ne-eqb _ _ (c2 .before .if1 .left))
+    (c .with-decimal .ensures
+    ∙ rw (c .before .wide2 .ensures, c2 .with-character .ensures, c4 .with-number .ensures, c4 .before .wide .ensures) (pointed _ _ _))
+
+pub with-test-spec : {M : Type 1} → statement M
+with-test-spec =
+    tie.close
+    (tie.spec
+    wide-requires
+    with-number-requires
+    returns
+    with-character-requires
+    wide-requires-2
+    with-decimal-requires
+    returns-2)
