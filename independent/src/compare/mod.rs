@@ -43,6 +43,11 @@ impl Default for Options {
 }
 
 impl Options {
+    /// Is traffic long enough to reach everything? Shorter runs show a difference again.
+    fn is_long(&self) -> bool {
+        self.list.is_none() && self.calls >= Self::default().calls
+    }
+
     /// The calls that relays are compared on: those given, or random ones with questions among them.
     fn traffic(&self) -> Box<dyn Iterator<Item = Call> + '_> {
         match &self.list {
