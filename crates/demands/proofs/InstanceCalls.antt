@@ -43,7 +43,7 @@ guest = replicate 16 0x0b
 
 -- eight bytes more than a file has
 abbrev pub room : List ℕ
-room = replicate 72300 0xee
+room = replicate 72364 0xee
 
 abbrev pub before : List Call
 before =
@@ -85,7 +85,7 @@ laterBy from port =
     ∷ loading []
     -- all of it; and with a byte too little room: 25
     ∷ saving room
-    ∷ saving (replicate 72291 0xee)
+    ∷ saving (replicate 72355 0xee)
     ∷ []
 
 abbrev pub later : List Call
@@ -174,7 +174,7 @@ abbrev pub saidLater : (by path : ℕ) → Relay → List Reply
 saidLater by path end =
     unknownPort ∷ numbered 8 ∷ forwards (receiptBytes 6) by ∷ duplicate ∷ numbered 0 ∷ numbered 9 ∷ numbered 0 ∷ numbered 9 ∷ numbered 0
     ∷ told (a-rate hourly) ∷ told (a-path (withPathPort path knownPath)) ∷ told (yes-or-no true) ∷ told none
-    ∷ numbered 20 ∷ saved end lastTally room ∷ unsaved 25 (replicate 72291 0xee) ∷ []
+    ∷ numbered 20 ∷ saved end lastTally room ∷ unsaved 25 (replicate 72355 0xee) ∷ []
 
 -- the guest in the lowest place
 abbrev pub hosting : Relay → Relay
@@ -356,12 +356,12 @@ with-room r t n k e =
 
 pub all-saved : (r : Relay) (t : Tally) → tablesOk r ≡ true → perform (saving room) r t ≡ record { reply = saved r t room; relay = r; tally = t }
 unfolding saveRefusal saveReply firstOf _then_otherwise_
-all-saved r t ok = with-room r t 72300 0 (rw ok refl)
+all-saved r t ok = with-room r t 72364 0 (rw ok refl)
 
 pub room-short : (r : Relay) (t : Tally) → tablesOk r ≡ true
-    → perform (saving (replicate 72291 0xee)) r t ≡ record { reply = unsaved 25 (replicate 72291 0xee); relay = r; tally = t }
+    → perform (saving (replicate 72355 0xee)) r t ≡ record { reply = unsaved 25 (replicate 72355 0xee); relay = r; tally = t }
 unfolding saveRefusal saveReply firstOf _then_otherwise_
-room-short r t ok = with-room r t 72291 25 (rw ok refl)
+room-short r t ok = with-room r t 72355 25 (rw ok refl)
 
 -- ---- all of them
 abbrev pub midwayRelay : Relay
