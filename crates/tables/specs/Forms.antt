@@ -33,6 +33,9 @@ ringWidth = 2
 abbrev pub settingWidth : ℕ
 settingWidth = 4
 
+abbrev pub sizeWidth : ℕ
+sizeWidth = 2
+
 -- ---- the announce rate: its settings, and what a path's record has of it
 abbrev pub toRateSettings : ℕ × (ℕ × ℕ) → RateSettings
 toRateSettings (target, (grace, penalty)) = makeRateSettings target grace penalty
@@ -56,17 +59,24 @@ pub record Edition : Type 1 where
   pub rateSettings : Form RateSettings
   pub rateEntry : Form RateEntry
   pub pathMark : Form Bool
+  pub portSize : Form ℕ
 
 -- wish 6: "7 also for a mark neither yes nor no"
 abbrev pub today : Edition
-today = record { rateSettings = rateSettingsForm; rateEntry = rateEntryForm; pathMark = mark }
+today = record { rateSettings = rateSettingsForm; rateEntry = rateEntryForm; pathMark = mark; portSize = numberIn sizeWidth }
 
--- ---- a port's settings. No slot: a port that is off keeps its mode
-abbrev pub toPort : Bool × ℕ → Port
-toPort (on, mode) = makePort on mode
+-- ---- a port's settings. No slot: a port that is off keeps its mode and its size, which stands here as itself
+abbrev pub toPort : Bool × (ℕ × ℕ) → Port
+toPort (on, (mode, size)) = makePort on mode size
+
+abbrev pub portFormIn : Edition → Form Port
+portFormIn e =
+    that portOk
+    (asRecord toPort (λ p. (p .on, (p .mode, p .size))) (λ x. refl) (λ y. refl)
+    (field "on" mark & field "mode" byte & field "size" (e .portSize)))
 
 abbrev pub portForm : Form Port
-portForm = that portOk (asRecord toPort (λ p. (p .on, p .mode)) (λ x. refl) (λ y. refl) (field "on" mark & field "mode" byte))
+portForm = portFormIn today
 
 -- ---- a local address
 abbrev pub localForm : Form (List ℕ)
@@ -184,7 +194,7 @@ relayFormIn e =
     (field "own" (octetsIn addressWidth)
     & field "clock" (that timeOk (numberIn timeWidth))
     & field "rate" (e .rateSettings)
-    & field "ports" (many portCount noPort portForm)
+    & field "ports" (many portCount noPort (portFormIn e))
     & field "locals" (many localCount empty (slot localForm))
     & field "paths" (many pathCount empty (slot (pathFormIn e)))
     & backForm)

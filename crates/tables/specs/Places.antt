@@ -4,7 +4,7 @@ use Prim.Native.Nat.{ℕ, _+_}
 use Rattle.codes.specs.Form.{slot, code, placeOf}
 use Rattle.numbers.specs.Numbers.{returnCount, hashCount}
 use Rattle.tables.specs.Forms.{portForm, localForm, pathForm, linkForm, returnForm, hashForm, ringForm, backForm, relayForm}
-pub use Rattle.tables.specs.Forms.{addressWidth, digestWidth, timeWidth, blobWidth, ringWidth, settingWidth}
+pub use Rattle.tables.specs.Forms.{addressWidth, digestWidth, timeWidth, blobWidth, ringWidth, settingWidth, sizeWidth}
 
 -- ---- widths, in bytes. A record's first byte is its mark
 abbrev pub portWidth : ℕ
@@ -67,6 +67,6 @@ backWidth = code backForm .width
 abbrev pub tableSize : ℕ
 tableSize = code relayForm .width
 
--- 72,280 bytes: under 72 KiB
-table-size : tableSize ≡ 72280
+-- 72,312 bytes: under 72 KiB
+table-size : tableSize ≡ 72312
 table-size = refl
