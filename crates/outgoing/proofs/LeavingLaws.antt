@@ -19,9 +19,9 @@ use Rattle.rules.proofs.Lengths.{last-hop-start, spread-start, body-length, rew
 use Rattle.outgoing.specs.Leaving.{rewrittenParts, spreadLength}
 
 -- ---- a packet that reads
-module _ (longest : ℕ) (p : List ℕ) (h : reads longest p ≡ true) where
+module _ (size : ℕ) (p : List ℕ) (h : reads size p ≡ true) where
   pub whole : payloadStart (headerOf p) ≤ length p
-  whole = reads-readable longest p h .whole
+  whole = reads-readable size p h .whole
 
   pub long : 19 ≤ length p
   long = omega (arith, start-least (headerOf p), whole)
@@ -30,7 +30,7 @@ module _ (longest : ℕ) (p : List ℕ) (h : reads longest p ≡ true) where
   pub spread-length : (own : List ℕ) → length own ≡ 16 → length (spreadPacket own p) ≡ spreadLength p
   unfolding spreadPacket spreadLength
   spread-length own wide =
-      rewritten-length longest p h (spreadHeader (headerOf p)) own wide
+      rewritten-length size p h (spreadHeader (headerOf p)) own wide
       ∙ ap (λ (k : ℕ). k + length (payload p)) (spread-start (headerOf p))
 
   pub spread-result : (own : List ℕ) → length own ≡ 16 → (body : List ℕ) → body ≡ payload p → 35 + length body ≡ length (spreadPacket own p)
@@ -40,12 +40,12 @@ module _ (longest : ℕ) (p : List ℕ) (h : reads longest p ≡ true) where
   -- type 1 grows by 16 bytes, so that 484 bytes are the most that spread
   pub spread-one : typeTwo (headerOf p) ≡ false → spreadLength p ≡ length p + 16
   unfolding spreadLength
-  spread-one e = omega (arith, body-length longest p h, start-one (headerOf p) e)
+  spread-one e = omega (arith, body-length size p h, start-one (headerOf p) e)
 
   -- by a path: on the last hop a packet of type 2 loses the relay address, and otherwise it stays as long
   pub path-room : (payloadStart (headerOf p % 16) + length (payload p) ≤ length p) × (payloadStart (headerOf p) + length (payload p) ≤ length p)
   path-room =
-      let body = body-length longest p h in
+      let body = body-length size p h in
       (omega (arith, body, start-least (headerOf p), last-hop-start (headerOf p)), omega (arith, body))
 
 -- ---- what the code writes
@@ -54,12 +54,12 @@ head-body : (q : Parts) (body : List ℕ) → packetOf q [] ++ body ≡ packetOf
 unfolding packetOf
 head-body q body = ap (λ (r : List ℕ). q .header ∷ q .hops ∷ r) (append-assoc (addresses q) (q .context ∷ []) body)
 
-module _ (longest : ℕ) (out own p : List ℕ) (h : reads longest p ≡ true) (wide : length own ≡ 16) (room : spreadLength p ≤ length out) where
+module _ (size : ℕ) (out own p : List ℕ) (h : reads size p ≡ true) (wide : length own ≡ 16) (room : spreadLength p ≤ length out) where
   pub spread-written : patch (patch out 0 (packetOf (rewrittenParts (spreadHeader (headerOf p)) own p) [])) 35 (payload p) ≡ patch out 0 (spreadPacket own p)
   unfolding spreadPacket rewritten spreadLength
   spread-written =
       let q : Parts = rewrittenParts (spreadHeader (headerOf p)) own p in
-      let q-wide = rewritten-wide longest p h (spreadHeader (headerOf p)) own wide in
+      let q-wide = rewritten-wide size p h (spreadHeader (headerOf p)) own wide in
       let head : length (packetOf q []) ≡ 35 = packet-length q [] q-wide ∙ ap (λ (k : ℕ). k + 0) (spread-start (headerOf p)) in
       patch-join out 0 35 (packetOf q []) (payload p) (omega (arith, head)) room ∙ ap (patch out 0) (head-body q (payload p))
 

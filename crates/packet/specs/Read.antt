@@ -9,7 +9,8 @@ use Rattle.octets.specs.Index.{_and_}
 use Rattle.octets.specs.Part.{part}
 use Rattle.octets.specs.Choice.{_then_otherwise_}
 use Rattle.octets.specs.Listed.{Test, _gives_otherwise_, firstOf}
-pub use Rattle.numbers.specs.Numbers.{longestPacket, isSize}
+pub use Rattle.numbers.specs.Numbers.{longestPacket}
+use Rattle.numbers.specs.Numbers.{isSize}
 use Rattle.packet.specs.Header.{accessCode, typeTwo}
 use Rattle.packet.specs.declared.Parts.{Parts}
 use Rattle.packet.specs.declared.Reading.{Reading}

@@ -65,16 +65,16 @@ start-is P header one two = go (typeTwo header) refl
     go false e = subst P (sym (start-one header e)) one
 
 -- ---- a packet that reads
-module _ (longest : ℕ) (p : List ℕ) (h : reads longest p ≡ true) where
+module _ (size : ℕ) (p : List ℕ) (h : reads size p ≡ true) where
   pub body-length : payloadStart (headerOf p) + length (payload p) ≡ length p
   unfolding payload
-  body-length = simp length-drop (omega (arith, reads-readable longest p h .whole))
+  body-length = simp length-drop (omega (arith, reads-readable size p h .whole))
 
   -- under another header and relay address
   module _ (header : ℕ) (relay : List ℕ) (wide : length relay ≡ 16) where
     pub rewritten-wide : Wide
         (record { header = header; hops = partsOf p .hops + 1; relay = relay; destination = partsOf p .destination; context = partsOf p .context })
-    rewritten-wide = record { relay = wide; destination = parts-wide p (reads-readable longest p h .whole) .destination }
+    rewritten-wide = record { relay = wide; destination = parts-wide p (reads-readable size p h .whole) .destination }
 
     pub rewritten-length : length (rewritten header relay p) ≡ payloadStart header + length (payload p)
     unfolding rewritten

@@ -6,10 +6,10 @@ use lib.Dec.{eqb, ltb, leb}
 use lib.ListN.{length}
 use Rattle.octets.specs.Index.{_and_}
 use Rattle.octets.specs.Choice.{_or_}
-use Rattle.packet.specs.Read.{isSize, readingRefusal}
+use Rattle.packet.specs.Read.{readingRefusal}
 use Rattle.packet.specs.Write.{leastOutput}
 use Rattle.octets.specs.Listed.{Test, _gives_otherwise_, firstOf}
-use Rattle.numbers.specs.Numbers.{portCount, localCount, pathCount, linkCount, returnCount, hashCount, blobLimit, modeCount, clockLimit, timeLimit, targetLimit, graceLimit, penaltyLimit, blockedLimit}
+use Rattle.numbers.specs.Numbers.{portCount, localCount, pathCount, linkCount, returnCount, hashCount, blobLimit, modeCount, isSize, clockLimit, timeLimit, targetLimit, graceLimit, penaltyLimit, blockedLimit}
 use Rattle.rules.specs.Relay.{Port, Slot, empty, used, Path, Return, Remembered, Relay, lowestFree}
 use Rattle.rules.specs.View.{portOn, portSize}
 use Rattle.rules.specs.Arrival.{Arrival}
