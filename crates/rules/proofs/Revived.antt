@@ -16,7 +16,7 @@ use Rattle.rules.specs.View.{View, viewAt}
 use Rattle.rules.specs.Arrival.{Arrival, header, isLinkProof}
 use Rattle.rules.specs.Exempt.{exempt}
 use Rattle.rules.specs.Ways.{everywhere}
-use Rattle.rules.specs.Tests.{notOurs, isMarked, forMarkedPath, testedAsDuplicate, duplicate, ownAnnounce, deliveredHere, noWayOn, alreadyKnown, wrongSide, notSigned, revives, ofKnown, replay, notBetter, rateLimited, portOff, noRoom}
+use Rattle.rules.specs.Tests.{notOurs, isMarked, forMarkedPath, testedAsDuplicate, duplicate, ownAnnounce, deliveredHere, noWayOn, alreadyKnown, wrongSide, notSigned, revives, ofKnown, replay, notBetter, rateLimited, portOff, tooLongForPort, noRoom}
 use Rattle.rules.specs.Judging.{follows, earlyTests, onwardTests, onwardPlan, plan}
 use Rattle.rules.specs.Rate.{entryRevived}
 use Rattle.rules.specs.Writes.{announcedRate, announcedPath}
@@ -83,13 +83,17 @@ module _ (p : Path) (a : Arrival) (output : List ℕ) (r : Relay) (h : NewEnough
   unfolding notSigned
   is-signed = ap (λ (b : Bool). (isAnnounce (header a) or isLinkProof (a .bytes)) and not b) (h .signed) ∙ and-false _
 
+  -- announces skip tests 12 and 16
+  skipped : (b : Bool) → (not (isAnnounce (header a)) and b) ≡ false
+  skipped b = and-no b (ap not (h .announce))
+
   accepted-then : plan seen a ≡ follows (everywhere (used p))
-  unfolding plan onwardPlan earlyTests onwardTests noWayOn wrongSide replay notBetter rateLimited portOff noRoom
+  unfolding plan onwardPlan earlyTests onwardTests noWayOn wrongSide replay notBetter rateLimited portOff tooLongForPort noRoom
   accepted-then =
       none-first (earlyTests seen a) _ (ours, (untested, (h .formed, (not-own, (not-here, (h .few-hops, tt))))))
       ∙ ap (onwardPlan seen a) (announce-way seen a (h .announce) ∙ ap everywhere (h .live))
       ∙ none-first (onwardTests seen a (everywhere (used p))) _
-      (refl, (unknown, (refl, (is-signed, (not-made _, (not-made _, (not-made _, (and-no _ (ap not (h .announce)), (refl, tt)))))))))
+      (refl, (unknown, (refl, (is-signed, (not-made _, (not-made _, (not-made _, (skipped _, (skipped _, (refl, tt))))))))))
 
   last-moves : announcedRate seen a (used p) .last ≡ a .clock
   unfolding announcedRate entryRevived

@@ -71,9 +71,9 @@ makePort on mode size = record { on = on; mode = mode; size = size }
 abbrev pub freshPort : Port
 freshPort = makePort false 0 longestPacket
 
--- what is read for a number outside the sixteen: off, and carrying nothing
+-- what is read for a number outside the sixteen: off, so that nothing goes by its mode or its size, which keep row 7
 abbrev pub noPort : Port
-noPort = makePort false 0 0
+noPort = makePort false 0 longestPacket
 
 abbrev pub makeRateSettings : ℕ → ℕ → ℕ → RateSettings
 makeRateSettings target grace penalty = record { target = target; grace = grace; penalty = penalty }
