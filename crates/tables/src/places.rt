@@ -2,7 +2,7 @@
 use super::fields::HASH_EXPIRY_AT;
 use super::fields::LINK_EXPIRY_AT;
 use super::fields::PATH_BLOBS_AT;
-use super::fields::PORT_MODE_AT;
+use super::fields::PORT_SIZE_AT;
 use super::fields::RETURN_EXPIRY_AT;
 use numbers::BLOB_LIMIT;
 use numbers::HASH_COUNT;
@@ -24,7 +24,9 @@ pub const RING_WIDTH: usize = 2;
 
 pub const SETTING_WIDTH: usize = 4;
 
-pub const PORT_WIDTH: usize = PORT_MODE_AT + 1;
+pub const SIZE_WIDTH: usize = 2;
+
+pub const PORT_WIDTH: usize = PORT_SIZE_AT + SIZE_WIDTH;
 
 pub const LOCAL_WIDTH: usize = 1 + ADDRESS_WIDTH;
 
