@@ -14,8 +14,8 @@ ghost use Rattle.tables.specs.Places.{tableSize};
 ghost use Rattle.tables.specs.Records.{portBytes};
 ghost use Rattle.tables.specs.Layout.{relayOf, wellFormed};
 
-// What is read for a number that is no port: off and boundary.
-const NO_PORT: [u8; PORT_WIDTH] = [0, 0];
+// What is read for a number that is no port: off, boundary and of size 500.
+const NO_PORT: [u8; PORT_WIDTH] = [0, 0, 1, 244];
 
 // The settings of port i.
 fn settings_of(tables: &[u8], i: usize) -> [u8; PORT_WIDTH]

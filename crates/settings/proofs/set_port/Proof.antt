@@ -83,7 +83,7 @@ returns-5 c =
     let ok = sym (c .before .before .before .before .before .before .before .before .before .check .ensures) ∙ not-false _ (c .before .before .before .before .before .before .before .before .if1 .left) in
     let sized = ap not (sym (c .before .before .before .before .before .is-size .ensures)) ∙ c .before .before .before .before .if4 .left in
     let after =
-        c .before .before .put-port .ensures ∙ port-set t ok (known-bytes t (c .before .before .before .before .before .before .before .before .before .before .before .slice-known .given)) (a .port) (a .on) (a .mode) (a .size) (c .before .before .before .before .before .before .before .if2 .left) in
+    c .before .before .put-port .ensures ∙ port-set t ok (known-bytes t (c .before .before .before .before .before .before .before .before .before .before .before .slice-known .given)) (a .port) (a .on) (a .mode) (a .size) (c .before .before .before .before .before .before .before .if2 .left) in
     call-done (sets-port (a .port) (a .on) (a .mode) (a .size)) t ok
     (rw (or-no (lt-leb _ _ (c .before .before .before .before .before .before .before .if2 .left)) (or-no (lt-leb _ _ (c .before .before .before .before .before .before .if3 .left)) sized))) after
 
