@@ -2,21 +2,25 @@
 use Prim.Native.Nat.{ℕ, _+_, _%_, _≤_, _<_}
 use native.Mathlib.Nat.{not-suc-le-zero, le-of-suc-le-suc}
 use native.Mathlib.Omega.{arith}
-use mathlib.Core.Bool.{true, false}
+use mathlib.Core.Bool.{Bool, true, false}
 use mathlib.Core.List.{List, [], _∷_, _++_, append-assoc}
 use mathlib.Core.Path.{_≡_, refl, sym, ap, _∙_}
+use lib.Dec.{eqb}
 use lib.ListN.{length, getD, set}
+use borrow.Author.Tests.{eqb-true, eqb-false}
+use Rattle.octets.specs.Choice.{_then_otherwise_}
 use Rattle.octets.specs.Part.{patch}
 use Rattle.octets.proofs.Part.{patch-join}
+use Rattle.octets.proofs.Choice.{then-true, then-false}
 use Rattle.packet.specs.Header.{typeTwo}
-use Rattle.packet.specs.Read.{headerOf, payloadStart, payload, reads}
+use Rattle.packet.specs.Read.{headerOf, noAddress, payloadStart, payload, reads}
 use Rattle.packet.specs.Write.{addresses, packetOf}
 use Rattle.packet.specs.declared.Parts.{Parts}
 use Rattle.packet.proofs.ReadLaws.{start-one, start-least, reads-readable}
 use Rattle.packet.proofs.WriteLaws.{packet-length}
-use Rattle.rules.specs.Outgoing.{rewritten, spreadHeader, carriedPacket, spreadPacket}
-use Rattle.rules.proofs.Lengths.{last-hop-start, spread-start, body-length, rewritten-wide, rewritten-length, carried-is}
-use Rattle.outgoing.specs.Leaving.{rewrittenParts, spreadLength}
+use Rattle.rules.specs.Outgoing.{rewritten, spreadHeader, pathPacket, carriedPacket, spreadPacket}
+use Rattle.rules.proofs.Lengths.{last-hop-start, spread-start, body-length, rewritten-wide, rewritten-length, path-last, path-next-hop, carried-is}
+use Rattle.outgoing.specs.Leaving.{rewrittenParts, spreadLength, pathLength}
 
 -- ---- a packet that reads
 module _ (size : ℕ) (p : List ℕ) (h : reads size p ≡ true) where
@@ -47,6 +51,22 @@ module _ (size : ℕ) (p : List ℕ) (h : reads size p ≡ true) where
   path-room =
       let body = body-length size p h in
       (omega (arith, body, start-least (headerOf p), last-hop-start (headerOf p)), omega (arith, body))
+
+  pub path-length : (hops : ℕ) (nextHop : List ℕ) → length nextHop ≡ 16 → length (pathPacket hops nextHop p) ≡ pathLength hops p
+  unfolding pathLength
+  path-length hops nextHop wide = go (eqb hops 0) refl
+    where
+      go : (b : Bool) → eqb hops 0 ≡ b → length (pathPacket hops nextHop p) ≡ (eqb hops 0 then 19 + length (payload p) otherwise length p)
+      go true e =
+          ap length (path-last hops nextHop p (eqb-true hops 0 e))
+          ∙ rewritten-length size p h (headerOf p % 16) noAddress refl
+          ∙ ap (λ (k : ℕ). k + length (payload p)) (last-hop-start (headerOf p))
+          ∙ sym (then-true _ _ e)
+      go false e =
+          ap length (path-next-hop hops nextHop p (eqb-false hops 0 e))
+          ∙ rewritten-length size p h (headerOf p) nextHop wide
+          ∙ body-length size p h
+          ∙ sym (then-false _ _ e)
 
 -- ---- what the code writes
 -- a head, which is a packet without payload, and the payload behind it
