@@ -10,7 +10,7 @@ use Rattle.rules.specs.Relay.{Path, Relay, fresh}
 use Rattle.rules.specs.Refusals.{tablesOk}
 use Rattle.rules.specs.Arrival.{Arrival}
 use Rattle.rules.specs.Calls.{newTally}
-use Rattle.rules.specs.Run.{Call, packet, Reply, EachCall, Outcome, perform, noneLoads}
+use Rattle.rules.specs.Run.{Call, packet, EachCall, Outcome, perform, noneLoads}
 use Rattle.rules.specs.Chatty.{NoTarget, RateOff, WhileBlocked, PathsStay, OnTime, LetBy, SpacedCall, Spaced, NotDropped, NotBlocked, NeverBlocked}
 use Rattle.rules.specs.declared.Tally.{Tally}
 use Rattle.rules.proofs.Valid.{step-ok, fresh-ok}
@@ -21,7 +21,7 @@ use Rattle.tables.specs.Places.{addressWidth, tableSize}
 use Rattle.tables.specs.Layout.{relayOf, bytesOf, wellFormed}
 use Rattle.tables.specs.Shape.{isBytes, shaped}
 use Rattle.tables.specs.Called.{Called}
-use Rattle.tables.proofs.Whole.{again, ok-relay, shaped-of, back}
+use Rattle.tables.proofs.Whole.{back}
 use Rattle.settings.specs.Calls.{freshOn}
 use Rattle.demands.specs.Given.{CallBytes, CallsBytes}
 use Rattle.demands.specs.Bytes.{OutcomeOn, performOn, repliesOn}

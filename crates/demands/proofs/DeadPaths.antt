@@ -1,6 +1,6 @@
 -- Document 02, wish 6, about the bytes: "When a box dies, we sit on its path until something newer comes." Once the path is marked, what is at least as new
 -- revives it, and until then the mark stays.
-use Prim.Native.Nat.{ℕ, _≤_, _<_}
+use Prim.Native.Nat.{ℕ, _≤_}
 use mathlib.Core.Bool.{true}
 use mathlib.Core.List.{List}
 use mathlib.Core.Path.{_≡_, sym, ap, subst, _∙_}
@@ -12,7 +12,7 @@ use Rattle.rules.specs.View.{viewAt}
 use Rattle.rules.specs.Refusals.{tablesOk}
 use Rattle.rules.specs.Arrival.{Arrival}
 use Rattle.rules.specs.Calls.{settle, settled, tableRefusal, marks}
-use Rattle.rules.specs.Run.{Call, packet, marking, Reply, numbered, ofSetting, perform, relayAfter, noneLoads}
+use Rattle.rules.specs.Run.{Call, packet, marking, numbered, ofSetting, perform, relayAfter, noneLoads}
 use Rattle.rules.specs.DeadPaths.{NewEnough, Revived, NoneAccepted, MarkedAt}
 use Rattle.rules.specs.declared.Tally.{Tally}
 use Rattle.rules.proofs.Valid.{step-ok, stays-ok}

@@ -76,10 +76,9 @@ laterBy from port =
     -- no port: 9
     ∷ port-setting 77 true 1
     ∷ removing guest
-    -- the destination's path is marked; the guest has none: 12; and before the last clock: 5
+    -- the destination's path is marked; the guest has none: 12
     ∷ marking destination 2500
     ∷ marking guest 2500
-    ∷ marking destination 2499
     -- the announce rate; the path; whether the announce's signature would matter, now that it is remembered no more; and what is no place
     ∷ asks rate-settings
     ∷ asks (path-at 0)
@@ -103,7 +102,7 @@ given-before = (refl, (refl, (refl, (refl, (refl, (refl, (refl, (refl, (refl, tt
 pub given-later : (from port : ℕ) → CallsBytes (laterBy from port)
 unfolding EachCall CallBytes ruleOf isBytes isByte tableOk all _and_
 given-later from port =
-    (refl, (refl, (refl, (refl, (refl, (refl, (refl, (refl, (refl, (refl, (refl, (refl, (tt, (tt, (tt, (tt, ((refl, nil-bytes), (refl, (refl, tt)))))))))))))))))))
+    (refl, (refl, (refl, (refl, (refl, (refl, (refl, (refl, (refl, (refl, (refl, (tt, (tt, (tt, (tt, ((refl, nil-bytes), (refl, (refl, tt))))))))))))))))))
 
 -- none loads: the one that would is refused
 pub none-load : noneLoads (before ++ later) ≡ true
@@ -180,7 +179,7 @@ markedPath = withPathMark knownPath
 abbrev pub saidLater : (by path : ℕ) → Relay → List Reply
 saidLater by path end =
     unknownPort ∷ numbered 8 ∷ forwards (receiptBytes 6) by ∷ duplicate ∷ numbered 0 ∷ numbered 9 ∷ numbered 0 ∷ numbered 9 ∷ numbered 0
-    ∷ numbered 0 ∷ numbered 12 ∷ numbered 5
+    ∷ numbered 0 ∷ numbered 12
     ∷ told (a-rate hourly) ∷ told (a-path (withPathPort path markedPath)) ∷ told (yes-or-no true) ∷ told none
     ∷ numbered 20 ∷ saved end lastTally room ∷ unsaved 25 (replicate 72355 0xee) ∷ []
 
@@ -327,11 +326,6 @@ no-path : perform (marking guest 2500) (lastRelay plainPorts 1) lastTally
 unfolding rules
 no-path = refl
 
-mark-early : perform (marking destination 2499) (lastRelay plainPorts 1) lastTally
-    ≡ record { reply = numbered 5; relay = lastRelay plainPorts 1; tally = lastTally }
-unfolding rules
-mark-early = refl
-
 rate-told : perform (asks rate-settings) (lastRelay plainPorts 1) lastTally
     ≡ record { reply = told (a-rate hourly); relay = lastRelay plainPorts 1; tally = lastTally }
 unfolding rules
@@ -403,7 +397,7 @@ midwayTally = counting 1 1 1
 pub later-run : Runs later midwayRelay midwayTally (saidLater 2 1 (lastRelay plainPorts 1)) (lastRelay plainPorts 1) lastTally
 later-run =
     receipt-refused first map-refused first receipt-home first receipt-dropped first rate-set first no-rate first port-set first no-port
-    first guest-removed first path-marked first no-path first mark-early first rate-told first path-told first word-told first nothing-told first none-loaded
+    first guest-removed first path-marked first no-path first rate-told first path-told first word-told first nothing-told first none-loaded
     first all-saved (lastRelay plainPorts 1) lastTally end-ok first room-short (lastRelay plainPorts 1) lastTally end-ok first no-call
 
 second-port : perform (port-setting 2 true 0) (perform (port-setting 1 true 2) (fresh own) newTally .relay) newTally

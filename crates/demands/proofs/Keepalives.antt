@@ -18,7 +18,7 @@ use Rattle.rules.proofs.Valid.{step-ok}
 use Rattle.rules.proofs.Lasting.{keepalive-carried, keepalives-keep}
 use Rattle.tables.specs.Layout.{relayOf, bytesOf, wellFormed}
 use Rattle.tables.specs.Shape.{shaped}
-use Rattle.tables.proofs.Whole.{again, ok-relay, shaped-of, back}
+use Rattle.tables.proofs.Whole.{again, ok-relay, shaped-of}
 use Rattle.demands.specs.Given.{CallBytes, CallsBytes}
 use Rattle.demands.specs.Bytes.{OutcomeOn, performOn}
 use Rattle.demands.specs.Refusals.{refusal, refusalOn}

@@ -12,7 +12,7 @@ use Rattle.rules.specs.Relay.{makeRateEntry, makeReturn, Slot, used, Pat
 use Rattle.rules.specs.View.{viewAt}
 use Rattle.rules.specs.Calls.{newTally}
 use Rattle.rules.specs.Chatty.{RateDrop}
-use Rattle.rules.specs.Run.{Call, marking, Reply, answered, numbered, Outcome, perform}
+use Rattle.rules.specs.Run.{marking, answered, numbered, Outcome, perform}
 use Rattle.rules.specs.DeadPaths.{NewEnough}
 use Rattle.rules.specs.declared.Tally.{Tally}
 use Rattle.rules.specs.declared.Answer.the-variants.{Refused, Judged}

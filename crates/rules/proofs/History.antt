@@ -1,6 +1,6 @@
 -- The tally counts history: after any list of calls each counter is what it was at the start plus the number of such accepted packet
--- calls, modulo 2^32. The numbers are counted over what the calls replied. An accepted load sets the tally: it is a start of its own. So has the last clock its
--- history: it is that of the last packet or mark that was accepted.
+-- calls, modulo 2^32. The numbers are counted over what the calls replied. An accepted load sets the tally: it is a start of its own. The last
+-- clock has its history too: it is that of the last packet or mark that was accepted.
 use Prim.Native.Nat.{ℕ, _+_, _%_, _^_, _<_}
 use native.Mathlib.Omega.{arith}
 use mathlib.Core.Bool.{Bool, true, false, false≢true}
@@ -170,8 +170,8 @@ unfolding newTally
 history-since-fresh cs r none = history cs r newTally none (omega arith)
 
 -- ---- the last clock
--- the last accepted clock after a call that is accepted: "every accepted packet, dropped or not, .. sets the last clock", and wish 6: "An accepted mark sets the
--- last clock." The others leave it
+-- after a call that is accepted: "every accepted packet, dropped or not, .. sets the last clock"; wish 6: "An accepted mark sets the last clock." The others
+-- leave it
 unfoldable pub clockAfter : Call → ℕ → ℕ
 clockAfter (packet a output) last = a .clock
 clockAfter (on-tables (sets-port port on mode)) last = last
