@@ -6,3 +6,4 @@ pub mod Keepalives
 pub mod Chatty
 pub mod Replays
 pub mod Lengths
+pub mod OldAnnounces
