@@ -1,6 +1,6 @@
--- Document 02, wish 7: "Say what an old announce can do." Three sentences, each said of one packet: by the relay before it, what is replied, and the relay after
--- it. A destination's path and a key's return record are what the view gives at the packet's clock; from fresh with no load it is the only live one
--- (`unique-after`, proofs/Unique.antt). Proved in proofs/OldAnnounces.antt.
+-- Document 02, wish 7: "Say what an old announce can do." Three sentences, each said of one packet: by the relay before it, the reply, and the relay after it.
+-- A destination's path and a key's return record are what the view gives at the packet's clock: from fresh with no load the only live one (`unique-after`,
+-- proofs/Unique.antt). Proved in proofs/OldAnnounces.antt and proofs/ReturnedProofs.antt.
 use Prim.Native.Nat.{ℕ, _≤_}
 use mathlib.Core.Bool.{Bool, true, false, not}
 use mathlib.Core.List.{List}
@@ -47,15 +47,15 @@ FromFresh says =
 abbrev pub LivePath : List ℕ → Path → Arrival → Relay → Type 0
 LivePath d p a r = viewAt (a .clock) r .path d ≡ used p
 
--- "an announce for it whose blob it holds": of any type, kind and length, whatever the word. The blob is payload bytes 74..83, so a payload under 84 bytes has none
+-- "an announce for it whose blob it holds": of any type, kind, length and word. The blob is payload bytes 74..83: under 84 bytes there is none
 pub record HeldAnnounce (d : List ℕ) (p : Path) (a : Arrival) : Type 0 where
   pub announce : isAnnounce (header a) ≡ true
   pub for-it : destination a ≡ d
   pub has-blob : 84 ≤ length (body a)
   pub is-held : isAmong (blob a) (held (p .blobs)) ≡ true
 
--- ---- 1. "while a destination's path is live and unmarked, a packet dropped as duplicate, and an announce for it whose blob it holds, leave its port, next hop,
--- hops, expiry and blobs as they were."
+-- ---- 1. "while a destination's path is live and unmarked, a packet dropped as duplicate, and an announce for it whose blob it holds, leave its port, next
+-- hop, hops, expiry and blobs as they were."
 pub record AsItWas (d : List ℕ) (p : Path) (a : Arrival) (r′ : Relay) : Type 0 where
   pub path : Path
   pub live : LivePath d path a r′
@@ -84,8 +84,8 @@ saysForwarded (told x) = false
 saysForwarded (saved r t room) = false
 saysForwarded (unsaved refusal room) = false
 
--- of the live return record whose key is its destination, if there is one. `reachesWay` is that tests 1 to 5 let it by; at test 4's place no proof is delivered.
--- Test 12 is of the port to leave by
+-- of the live return record whose key is its destination, if there is one. `reachesWay`: tests 1 to 5 let it by; it also says that the packet isn't delivered,
+-- which no proof is (`proof-not-delivered`, proofs/ReturnedProofs.antt). Test 12 is of the port to leave by
 unfoldable pub goesBack : View → Arrival → Slot Return → Bool
 goesBack v a empty = false
 goesBack v a (used t) = eqb (a .port) (t .leaving) and reachesWay v a and not (portOff v a (by-return t))
@@ -99,8 +99,8 @@ pub record Returns (a : Arrival) (r : Relay) (reply : Reply) : Type 0 where
 abbrev pub ProofReturns : Sentence
 ProofReturns a r reply r′ = isOrdinaryProof a ≡ true → Returns a r reply
 
--- ---- 3. "Beside it, the marked case: an announce for a live marked path that holds its blob is spread or Kept exactly if its emission is the greatest held and
--- tests 3, 4, 5 and 9 let it by; the blobs then stay."
+-- ---- 3. "Beside it, the marked case: an announce for a live marked path that holds its blob is spread or Kept exactly if its emission is the greatest held
+-- and tests 3, 4, 5 and 9 let it by; the blobs then stay."
 unfoldable pub isNewest : Path → Arrival → Bool
 isNewest p a = eqb (emissionOf (blob a)) (greatestEmission (held (p .blobs)))
 
