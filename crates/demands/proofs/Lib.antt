@@ -1,4 +1,4 @@
--- Demands 1 to 3 and the theorems of wishes 2, 4, 5, 9 and 12, about the bytes. First what keeps a relay one that tables can hold; last the theorems on lists
+-- Demands 1 to 3 and the theorems of wishes 2, 4, 5, 7, 9 and 12, about the bytes. First what keeps a relay one that tables can hold; last the theorems on lists
 -- of calls, with what they say computed, so that none can become empty unseen.
 pub mod Announced
 pub mod Made
@@ -14,6 +14,7 @@ pub mod Replays
 pub mod Lengths
 pub mod OwnAnnounces
 pub mod Reasons
+pub mod OldAnnounces
 pub mod InstanceCalls
 pub mod Instance1
 pub mod Instance2
@@ -25,3 +26,4 @@ pub mod InstanceReplay
 pub mod InstanceAnnounce
 pub mod InstanceLengths
 pub mod InstanceReasons
+pub mod InstanceOldAnnounces
