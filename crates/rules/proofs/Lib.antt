@@ -55,5 +55,6 @@ pub mod Reasons
 pub mod AnnounceTests
 pub mod Revived
 pub mod StaysMarked
+pub mod DeadPathScene
 pub mod OldAnnounces
 pub mod ReturnedProofs
