@@ -27,14 +27,14 @@ use Rattle.rules.specs.declared.Reason.the-variants.{Duplicate}
 use Rattle.rules.specs.declared.Verdict.the-variants.{Drop, Forward}
 use Rattle.rules.specs.declared.Answer.the-variants.{Judged}
 use Rattle.rules.specs.declared.Tally.{Tally}
-use Rattle.rules.proofs.Unfolding.{rules, hashing}
+use Rattle.rules.proofs.Unfolding.{rules}
 use Rattle.rules.proofs.Shortcut.{passes, seen-quick, goodPlan, goodJudge}
 use Rattle.rules.proofs.Passed.{ofTest}
 use Rattle.rules.proofs.Slots.{used-same}
 use Rattle.rules.proofs.Scene.{own, blank, destination, announceBytes, dataBytes, dataKey, receiptBytes, arrival, arrives}
 use Rattle.rules.proofs.Outcomes.{remembers, knownPath, returnOf, judged-at}
 use Rattle.rules.proofs.Sanity.{oneUp}
-use Rattle.rules.proofs.ChattyScene.{sent, hears, spreadOf, counting, pathOf, heardRelay, port-one, port-two, mild, thrice, all-without}
+use Rattle.rules.proofs.ChattyScene.{sent, hears, spreadOf, form, counting, pathOf, heardRelay, port-one, port-two, mild, thrice, all-without}
 use Rattle.tables.specs.Layout.{relayOf, bytesOf}
 use Rattle.tables.specs.Shape.{isByte, isBytes}
 use Rattle.tables.proofs.Whole.{back}
@@ -44,8 +44,7 @@ use Rattle.demands.specs.Given.{CallBytes, CallsBytes}
 use Rattle.demands.specs.Bytes.{OutcomeOn, performOn, tablesAfterOn, tallyAfterOn}
 use Rattle.demands.specs.Refusals.{refusal, refusalOn}
 use Rattle.demands.specs.OldAnnounces.{FromFreshOn}
-use Rattle.demands.proofs.Demand2.{refusal-bytes}
-use Rattle.demands.proofs.Keepalives.{reply-bytes}
+use Rattle.demands.proofs.Demand2.{refusal-bytes, reply-bytes}
 use Rattle.demands.proofs.OldAnnounces.{old-leaves-path-fresh, proof-returns-fresh, marked-takes-again-fresh}
 use Rattle.demands.proofs.InstanceCalls.{before, given-before, before-run, midwayRelay, midwayTally, receipt-new, Runs, no-call, _first_}
 use Rattle.demands.proofs.Instance2.{buffer, size, sixteen, start, Goes, goes, Held, held}
@@ -252,9 +251,6 @@ unfolding rules
 first-of = again-of 1 true first-given refl (record { announce = refl; for-it = refl; has-blob = lit≤ tt; is-held = refl })
 
 -- the third is the newest, and is taken although its hash is live
-third-form : badForm (sent 3) ≡ false
-unfolding rules hashing
-third-form = refl
 
 pub newest-taken : saysAccepted (behind marked (again 3 true) .reply) ≡ true
 unfolding rules isNewest isLetBy
