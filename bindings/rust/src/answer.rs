@@ -48,6 +48,7 @@ numbered! {
         Setting = 9 "setting a port over 15, an unknown mode or an announce rate over its limit",
         LocalFull = 10 "adding a 17th local address",
         LocalAddress = 11 "adding a local address already there, or removing one not there",
+        NoLivePath = 12 "marking a destination that has no live path",
         FileLength = 20 "file too long or shorter than its contents (saved: another length)",
         FileKind = 21 "kind or edition",
         FilePlace = 22 "offset, length, count or file end that breaks the rule",

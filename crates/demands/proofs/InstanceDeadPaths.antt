@@ -18,6 +18,7 @@ use Rattle.rules.specs.declared.Answer.the-variants.{Refused, Judged}
 use Rattle.rules.specs.declared.Reason.the-variants.{Duplicate, NotBetter}
 use Rattle.rules.specs.declared.Verdict.the-variants.{Drop}
 use Rattle.rules.proofs.Unfolding.{rules}
+use Rattle.rules.proofs.History.{lastClock, clock-history}
 use Rattle.rules.proofs.Scene.{own, blank, destination, dataBytes, arrival, arrives}
 use Rattle.rules.proofs.Outcomes.{forwards, dataLastHop}
 use Rattle.rules.proofs.ChattyScene.{sent, hears, spreadOf, port-one, port-two, strict-set}
@@ -242,3 +243,16 @@ last-clock =
 -- in the last second before the path expires, too
 pub still-marked : MarkedAt destination 22850 22849 (relayOf last-tables)
 still-marked = stays-marked 22849 (subst (λ (n : ℕ). n ≤ 22849) (sym last-clock) (lit≤ tt)) (lit≤ tt)
+
+-- ---- clock-history: the last clock is the mark's, and then that of the data
+none-load-again : noneLoads again ≡ true
+unfolding noCall setsRelay _and_
+none-load-again = refl
+
+pub clock-of-mark : lastClock again blockedRelay (counting 2 0 2) 1600 ≡ 1900
+unfolding withRate
+clock-of-mark = sym (clock-history again blockedRelay (counting 2 0 2) none-load-again) ∙ ap (λ (r : Relay). r .clock) (again-run .relay)
+
+pub clock-of-data : lastClock since-mark markedAgain (counting 2 0 2) 1900 ≡ 2200
+unfolding withRate
+clock-of-data = sym (clock-history since-mark markedAgain (counting 2 0 2) none-load) ∙ ap (λ (r : Relay). r .clock) (since-run .relay)
