@@ -48,6 +48,7 @@ pub const KINDS: &[(&str, Kind)] = &[
     ("announce, known path, spread", announce_known),
     ("announce, replay (drop 10)", announce_again),
     ("announce, too often (drop 15)", announce_too_often),
+    ("announce, dead path, spread", announce_reviving),
     ("link request, onward", link_request),
     ("link proof", link_proof),
     ("link data to the answering side", link_data_asking),
@@ -123,7 +124,7 @@ fn announce_new(scene: &mut Scene) -> Call {
 
 /// A path that holds all blobs it can, of emissions from 1 on, announced now and never too often.
 fn known_path<'a>(scene: &'a mut Scene, destination: &Address) -> &'a mut [u8] {
-    let record = scene.put(&PATHS, destination, &[(path::HOPS, 1)]);
+    let record = scene.put(&PATHS, destination, &[(path::HOPS, 1), (path::UNRESPONSIVE, 0)]);
     for (blob, emission) in record[path::BLOBS..].chunks_exact_mut(BLOB).zip(1u64..) {
         blob[5..].copy_from_slice(&emission.to_be_bytes()[3..]);
     }
@@ -147,6 +148,15 @@ fn announce_again(scene: &mut Scene) -> Call {
 fn announce_too_often(scene: &mut Scene) -> Call {
     AnnounceRate { target: 60, grace: 0, penalty: 600 }.write(&mut scene.tables);
     Call { expected: Ok(Verdict::Drop(Reason::TooOften)), ..announce_known(scene) }
+}
+
+/// The announce that a marked path holds already.
+fn announce_reviving(scene: &mut Scene) -> Call {
+    let (packet, destination) = announce(scene, limits::BLOB_LIMIT as u64);
+    let record = known_path(scene, &destination);
+    record[path::WIDTH - BLOB..].copy_from_slice(&packet[START_1..][announced::BLOB]);
+    record[path::UNRESPONSIVE] = 1;
+    arriving(packet, Verdict::Spread(OTHERS))
 }
 
 /// The same announce within 300 s of the first.

@@ -49,6 +49,7 @@ listed! {
         Setting = 9,
         LocalsFull = 10,
         LocalAddress = 11,
+        NoLivePath = 12,
         FileLength = 20,
         FileKind = 21,
         FilePlaces = 22,
@@ -235,7 +236,7 @@ mod tests {
     #[test]
     fn refusals_have_the_documents_numbers() {
         for number in 0..=255 {
-            let refusal = matches!(number, 1..=11 | 20..=27);
+            let refusal = matches!(number, 1..=12 | 20..=27);
             assert_eq!(Refusal::from_number(number).map(Refusal::number), refusal.then_some(number));
         }
     }

@@ -103,6 +103,10 @@ pub fn set_announce_rate(tables: &mut [u8], rate: &AnnounceRate) -> u8 {
     unsafe { haskumye_set_announce_rate(tables.as_mut_ptr(), tables.len(), rate.target, rate.grace, rate.penalty) }
 }
 
+pub fn mark_path_unresponsive(tables: &mut [u8], destination: &Address, clock: u64) -> u8 {
+    unsafe { haskumye_mark_path_unresponsive(tables.as_mut_ptr(), tables.len(), destination, clock) }
+}
+
 pub fn add_local(tables: &mut [u8], address: &Address) -> u8 {
     unsafe { haskumye_add_local(tables.as_mut_ptr(), tables.len(), address) }
 }

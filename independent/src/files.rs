@@ -24,7 +24,7 @@ pub fn aged(file: &[u8], edition: u8) -> Vec<u8> {
     }
     let mut rest = &file[CONTENTS..];
     let mut bodies: Vec<Vec<u8>> = lengths(CURRENT).map(|length| rest.split_off(..length).expect("a body").to_vec()).to_vec();
-    for added in EDITIONS[usize::from(edition)..].iter().rev().copied().flatten().rev() {
+    for added in EDITIONS[usize::from(edition)..].iter().rev().flat_map(|added| added.iter().rev()) {
         bodies[added.body] = without(&bodies[added.body], added.body, added.at, added.unsaved.len());
     }
     [contents_of(edition, &lengths(edition)), bodies.concat()].concat()
@@ -36,4 +36,38 @@ fn without(bytes: &[u8], body: usize, at: usize, length: usize) -> Vec<u8> {
     let (first, rest) = bytes.split_at(head);
     let record = |record: &[u8]| [&record[..at], &record[at + length..]].concat();
     [first.to_vec(), rest.chunks_exact(rest.len() / count).flat_map(record).collect()].concat()
+}
+
+#[cfg(test)]
+mod tests {
+    use super::*;
+    use crate::random::Random;
+    use crate::rules::{AsWritten, Rules};
+    use crate::samples::{filled, Fill};
+    use crate::saved::LENGTH;
+    use crate::tables::{path, RateEntry, PATHS, RATE, SIZE};
+
+    /// An older file loads as the tables that it is of, without the fields that it lacks.
+    #[test]
+    fn an_aged_file_lacks_later_fields_alone() {
+        let tables = filled(&mut Random::new(1), Fill::RandomHalf);
+        for edition in 1..=CURRENT {
+            let mut expected = tables.clone();
+            if edition < 2 {
+                expected[RATE.bytes()].fill(0);
+            }
+            for path in PATHS.records.iter_mut(&mut expected) {
+                if edition < 2 {
+                    RateEntry::default().write(path);
+                }
+                path[path::UNRESPONSIVE] = if edition < 3 { 0 } else { path[path::UNRESPONSIVE] };
+            }
+            let mut file = vec![0; LENGTH];
+            AsWritten.put_saved(&tables, &[7; 6], &mut file);
+            let (mut loaded, mut tally) = (vec![1; SIZE], [0; 6]);
+            assert_eq!(AsWritten.load(&aged(&file, edition), &mut loaded, &mut tally), Ok(()), "edition {edition}");
+            assert!(loaded == expected, "edition {edition}");
+            assert_eq!(tally, [7; 6]);
+        }
+    }
 }

@@ -57,6 +57,10 @@ impl Engine for Core {
         done(core::set_announce_rate(tables, rate))
     }
 
+    fn mark_unresponsive(&mut self, tables: &mut [u8], destination: &Address, clock: u64) -> Outcome {
+        done(core::mark_path_unresponsive(tables, destination, clock))
+    }
+
     fn add_local(&mut self, tables: &mut [u8], address: &Address) -> Outcome {
         done(core::add_local(tables, address))
     }

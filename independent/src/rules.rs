@@ -9,7 +9,9 @@ pub use crate::recording::{self, reading, replaying, writing, Entry};
 pub use crate::relay::asking::{self, Question};
 pub use crate::relay::links::Side;
 pub use crate::relay::renumbering::Map;
-pub use crate::relay::{accept, announces, by_path, form, judge, links, outgoing, rate, renumbering, returns, settings, Arrival, Packet};
+pub use crate::relay::{
+    accept, announces, by_path, form, judge, links, marks, outgoing, rate, renumbering, returns, settings, Arrival, Packet,
+};
 pub use crate::saved::{loading, saving};
 pub use crate::sha256::Sha256;
 pub use crate::tables::{self, check, tuned, AnnounceRate, Link, Mode, Path, Port, RateEntry, Return, Section, Table};
@@ -49,6 +51,7 @@ macro_rules! every_rule {
             check::last_announce_allowed(time: u64) -> bool;
             check::block_allowed(time: u64) -> bool;
             check::rate_allowed(rate: &AnnounceRate) -> bool;
+            check::unresponsive_mark(mark: u8) -> Option<bool>;
             check::ring_place_allowed(place: usize, count: usize) -> bool;
             tables::find(table: &Table, tables: &[u8], key: &[u8], clock: u64) -> Option<usize>;
 
@@ -60,6 +63,10 @@ macro_rules! every_rule {
             settings::clear_local(place: usize, tables: &mut [u8]);
             rate::set_announce_rate(&rules, tables: &mut [u8], rate: &AnnounceRate) -> Result<(), Refusal>;
             rate::rate_refused(rate: &AnnounceRate) -> bool;
+            marks::mark_unresponsive(&rules, tables: &mut [u8], destination: &Address, clock: u64) -> Result<(), Refusal>;
+            marks::path_to_mark(&rules, destination: &Address, clock: u64, tables: &[u8]) -> Option<usize>;
+            marks::set_mark(path: &mut [u8]);
+            marks::settle_mark(clock: u64, tables: &mut [u8]);
             renumbering::renumber(&rules, tables: &mut [u8], map: &Map) -> Result<(), Refusal>;
             renumbering::move_settings(map: &Map, tables: &mut [u8]);
             renumbering::rename_ports(map: &Map, table: &Table, tables: &mut [u8]);
@@ -115,6 +122,12 @@ macro_rules! every_rule {
             rate::block_end(clock: u64, rate: &AnnounceRate, entry: &RateEntry) -> u64;
             rate::forgiven(violations: u8) -> u8;
             rate::store_rate(clock: u64, entry: &RateEntry, path: &mut [u8]);
+
+            marks::skips_test_2(&rules, packet: &Packet, tables: &[u8]) -> bool;
+            marks::revives(&rules, packet: &Packet, path: &[u8]) -> bool;
+            marks::revived_entry(path: &[u8]) -> RateEntry;
+            marks::holds_blob(blob: &[u8], path: &[u8]) -> bool;
+            marks::clear_mark(path: &mut [u8]);
 
             by_path::path_to(&rules, packet: &Packet, tables: &[u8]) -> Result<Path, Reason>;
             by_path::not_to_be_relayed(packet: &Packet) -> bool;

@@ -75,6 +75,7 @@ pub const FIELDS: &[Field] = &[
     field("path's expiry", &PATHS.records, path::EXPIRY, Clause::Time(LATEST)),
     field("path's last announce", &PATHS.records, path::LAST_ANNOUNCE, Clause::Time(LATEST_ANNOUNCE)),
     field("path's blocked-until", &PATHS.records, path::BLOCKED_UNTIL, Clause::Time(LATEST_BLOCK)),
+    field("path's unresponsive mark", &PATHS.records, path::UNRESPONSIVE, Clause::YesOrNo),
     field("path's blob count", &PATHS.records, path::BLOB_COUNT, Clause::BlobCount),
     field("link's mark", &LINKS.records, 0, Clause::YesOrNo),
     field("link's asking port", &LINKS.records, link::ASKING, Clause::Port),

@@ -21,11 +21,10 @@ use Rattle.rules.specs.Relay.{Slot, empty, used, Blobs, Path, Return, Relay}
 use Rattle.rules.specs.View.{View, viewAt, portOn}
 use Rattle.rules.specs.Arrival.{Arrival, header, destination}
 use Rattle.rules.specs.Ways.{Way, everywhere, by-path, along-link, by-return, blocked, pathWay, linkWay, returnWay, wayOn}
-use Rattle.rules.specs.Tests.{isThere, noRoom}
+use Rattle.rules.specs.Tests.{isThere, revives, noRoom}
 use Rattle.rules.specs.Answers.{portSet}
 use Rattle.rules.specs.Outgoing.{spreadPorts, spreadPacket, outgoing, exceeds}
 use Rattle.rules.specs.Judging.{Plan, follows, spreadVerdict, wayVerdict, verdict, leaves, outputAfter}
-use Rattle.rules.specs.Rate.{entryAccepted}
 use Rattle.rules.specs.Writes.{announcedRate, announcedPlace, writePlan}
 use Rattle.rules.specs.declared.Link.{Link}
 use Rattle.rules.specs.declared.RateEntry.{RateEntry}
@@ -44,9 +43,10 @@ use Rattle.outgoing.proofs.RuleLaws.{spread-exceeds}
 use Rattle.plan.specs.declared.Arrived.{Arrived}
 use Rattle.plan.specs.declared.Decision.the-variants.{Announce}
 use Rattle.plan.specs.Decided.{CanKnow, seen, arrivalOf, pathAt, decision}
+use Rattle.plan.specs.Kinds.{revivedBy}
 use Rattle.plan.proofs.KindLaws.{announce-long}
 use Rattle.plan.proofs.AnnounceLaws.{can-know}
-use Rattle.act.specs.Stored.{blobsStored, rateStored, pathPut}
+use Rattle.act.specs.Stored.{blobsStored, rateKnown, rateStored, pathPut}
 use Rattle.act.specs.Acted.{AcceptedOn, planOn, verdictOn, writtenOn, outputOn, CarriesOut, spreadOn, spreadVerdictOn, announcedBy}
 use Rattle.rules.proofs.Passed.{passed}
 use Rattle.act.proofs.Inverted.{inverted, at-place}
@@ -176,14 +176,14 @@ module _ (packet : List ℕ) (m : Arrived) (t : List ℕ) (ok : AcceptedOn packe
   pub announce-known : known ≡ true → CanKnow t place
   announce-known is = let k = inverted r a (Announce place known) d in knowable (k .0) (k .2) (k .3) is
 
-  module _ (x : Announced) (blob : List ℕ) (rate : RateEntry) (set : x ≡ announcedBy v a rate) (rated : rate ≡ rateStored t place known (m .clock))
+  module _ (x : Announced) (blob : List ℕ) (rate : RateEntry) (set : x ≡ announcedBy v a rate) (rated : rate ≡ rateStored t place known (m .clock) blob)
       (is : blob ≡ blobOf (payload packet)) where
     rate-stored : (s : Slot Path) → planOn packet m t ≡ follows (everywhere s) → place ≡ announcedPlace a s r → isThere s ≡ known
-        → rateStored t place known (m .clock) ≡ announcedRate v a s
-    unfolding rateStored announcedRate isThere viewAt
+        → rateStored t place known (m .clock) blob ≡ announcedRate v a s
+    unfolding rateStored rateKnown revivedBy revives announcedRate isThere viewAt
     rate-stored empty e at there = then-false _ _ (sym there)
     rate-stored (used p) e at there =
-        then-true _ _ (sym there) ∙ ap (λ (q : Path). entryAccepted (r .rate) (m .clock) (q .rate)) (sym (known-at p e at))
+        then-true _ _ (sym there) ∙ ap₂ (λ (q : Path) (y : List ℕ). rateKnown t q (m .clock) y) (sym (known-at p e at)) is
 
     set-by : (s : Slot Path) → planOn packet m t ≡ follows (everywhere s) → place ≡ announcedPlace a s r → isThere s ≡ known → Announces v a s x blob
     unfolding announcedBy

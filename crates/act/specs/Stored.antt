@@ -7,20 +7,23 @@ use lib.ListN.{take}
 use Rattle.octets.specs.Index.{_and_}
 use Rattle.octets.specs.Choice.{_then_otherwise_}
 use Rattle.octets.specs.BigEndian.{bigEndian}
+use Rattle.packet.specs.Announce.{emissionOf}
 use Rattle.numbers.specs.Numbers.{blobLimit, hashLifetime, returnLifetime}
-use Rattle.rules.specs.Relay.{Blobs}
+use Rattle.rules.specs.Relay.{Blobs, Path}
 use Rattle.rules.specs.Exempt.{exempt}
-use Rattle.rules.specs.Blobs.{oneBlob, addBlob}
-use Rattle.rules.specs.Rate.{startsAt, entryAccepted}
-use Rattle.rules.specs.Writes.{remembersDrop}
+use Rattle.rules.specs.Blobs.{oneBlob, storeBlob}
+use Rattle.rules.specs.Rate.{startsAt, entryAccepted, entryRevived}
+use Rattle.rules.specs.Writes.{remembersDrop, alreadyLive}
 use Rattle.tables.specs.Places.{pathsAt, pathWidth}
 use Rattle.tables.specs.Records.{blobsOf}
 use Rattle.tables.specs.Layout.{recordAt, relayOf}
 use Rattle.update.specs.declared.Announced.{Announced}
 use Rattle.update.specs.Written.{clockWritten, hashWritten, announced, pathWritten, returnWritten, returnsEmptied}
 use Rattle.rules.specs.declared.RateEntry.{RateEntry}
+use Rattle.plan.specs.declared.Arrived.{Arrived}
 use Rattle.plan.specs.declared.Decision.{Decision}
-use Rattle.plan.specs.Decided.{pathAt}
+use Rattle.plan.specs.Decided.{arrivalOf, seen, pathAt}
+use Rattle.plan.specs.Kinds.{revivedBy}
 use Rattle.plan.specs.declared.Decision.the-variants.{Drop, Deliver, Announce, Data, Request, Carry, Receipt}
 
 -- ---- the stamp
@@ -34,9 +37,9 @@ decisionRemembers (Request path place high low) = true
 decisionRemembers (Carry link port) = true
 decisionRemembers (Receipt place port) = true
 
--- .. and whether it is: an exempt packet's never
-unfoldable pub remembersDecided : List ℕ → Decision → Bool
-remembersDecided packet d = not (exempt packet) and decisionRemembers d
+-- .. and whether it is: an exempt packet's never, nor one that is already live
+unfoldable pub remembersDecided : List ℕ → Arrived → List ℕ → Decision → Bool
+remembersDecided packet m t d = not (exempt packet) and not (alreadyLive (seen m t) (arrivalOf packet m)) and decisionRemembers d
 
 -- the clock, and the hash, if it is remembered, at a place of its ring
 unfoldable pub stamped : List ℕ → ℕ → Bool → List ℕ → ℕ → List ℕ
@@ -49,14 +52,18 @@ stamped t place remembered hash clock =
 unfoldable pub blobsStored : List ℕ → ℕ → Bool → List ℕ → Blobs
 blobsStored t place known blob =
     known
-    then addBlob blobLimit blob (blobsOf (recordAt pathsAt pathWidth t place))
+    then storeBlob blobLimit blob (blobsOf (recordAt pathsAt pathWidth t place))
     otherwise oneBlob blobLimit blob
 
-unfoldable pub rateStored : List ℕ → ℕ → Bool → ℕ → RateEntry
-rateStored t place known clock =
-    known
-    then entryAccepted (relayOf t .rate) clock (pathAt t place .rate)
-    otherwise startsAt clock
+-- of the known path p: test 15 isn't made where the announce revives it
+unfoldable pub rateKnown : List ℕ → Path → ℕ → List ℕ → RateEntry
+rateKnown t p clock blob =
+    revivedBy (emissionOf blob) p
+    then entryRevived clock (p .rate)
+    otherwise entryAccepted (relayOf t .rate) clock (p .rate)
+
+unfoldable pub rateStored : List ℕ → ℕ → Bool → ℕ → List ℕ → RateEntry
+rateStored t place known clock blob = known then rateKnown t (pathAt t place) clock blob otherwise startsAt clock
 
 unfoldable pub pathPut : List ℕ → ℕ → Bool → Announced → List ℕ → List ℕ
 pathPut t place known path blob = pathWritten t place (announced path (blobsStored t place known blob))

@@ -58,12 +58,21 @@ fn next_hop_of(packet: &[u8]) -> [u8; 16]
     parts.destination
 }
 
-// Last accepted announce, violations and blocked-until of its path: a new one starts with none.
-fn announced_rate(tables: &[u8], clock: u64, place: usize, known: bool) -> RateEntry
+// Last accepted announce, violations and blocked-until of its path: a new one starts with none, and where test 15 isn't
+// made, the other two stay.
+fn announced_rate(tables: &[u8], clock: u64, place: usize, known: bool, blob: [u8; 10]) -> RateEntry
     requires { ⌜ (length (now tables) ≡ tableSize) × (known ≡ true → CanKnow (now tables) place) ⌝ }
-    ensures { λ r. ⌜ r ≡ rateStored (now (tables .entry)) place known clock ⌝ }
+    ensures { λ r. ⌜ r ≡ rateStored (now (tables .entry)) place known clock blob ⌝ }
 {
     if known {
+        if plan::revives(tables, place, blob) {
+            let entry = lookup::path_rate(tables, place);
+            return RateEntry {
+                last: clock,
+                violations: entry.violations,
+                blocked_until: entry.blocked_until,
+            };
+        }
         let rated = plan::rate_at(tables, place, clock);
         return RateEntry {
             last: clock,
@@ -98,12 +107,17 @@ fn announced_path(tables: &[u8], packet: &[u8], arrived: Arrived, rate: RateEntr
     }
 }
 
-// Puts the path of an announce at its place. A known path keeps its blobs.
+// Puts the path of an announce at its place. A known path keeps its blobs, and one already stored isn't stored twice.
 fn put_path(tables: &mut [u8], place: usize, known: bool, path: Announced, blob: [u8; 10])
-    requires { ⌜ (length (now tables) ≡ tableSize) × (place < pathCount) ⌝ }
+    requires { ⌜ (length (now tables) ≡ tableSize) × (place < pathCount)
+        × (known ≡ true → CanKnow (now tables) place) ⌝ }
     ensures { λ _. ⌜ now (tables .exit) ≡ pathPut (now (tables .entry)) place known path blob ⌝ }
 {
     if known {
+        if lookup::holds_blob(tables, place, blob) {
+            update::put_kept_path(tables, place, path);
+            return;
+        }
         update::put_known_path(tables, place, path, blob);
         return;
     }
@@ -158,9 +172,9 @@ pub fn announce(
         r (now (tables .exit)) (now (output .exit)) ⌝ }
 {
     let verdict = spread(packet, tables, arrived, output);
-    let rate = announced_rate(tables, arrived.clock, place, known);
-    let path = announced_path(tables, packet, arrived, rate);
     let blob = packet::blob(packet::payload(packet));
+    let rate = announced_rate(tables, arrived.clock, place, known, blob);
+    let path = announced_path(tables, packet, arrived, rate);
     put_path(tables, place, known, path, blob);
     verdict
 }

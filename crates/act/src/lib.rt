@@ -73,7 +73,7 @@ pub fn act(
         r (now (tables .exit)) (now (output .exit)) ⌝ }
 {
     let place = update::next_hash(tables);
-    let remembered = remembers(packet, decision);
+    let remembered = remembers(tables, packet, arrived, hash, decision);
     let verdict = carry_out(packet, arrived, hash, decision, tables, output);
     stamp(tables, place, remembered, hash, arrived.clock);
     verdict

@@ -27,7 +27,7 @@ use Rattle.rules.specs.Refusals.{pathOk, slotOk, all, tableOk, packetRows, pack
 use Rattle.octets.specs.Index.{_and_}
 use Rattle.octets.proofs.Listed.{allGive, none-first, refuses, rows-passed}
 use Rattle.rules.specs.Arrival.{Arrival, header, hops, destination, body, hash, blob}
-use Rattle.rules.specs.Blobs.{noBlob, oneBlob, addBlob}
+use Rattle.rules.specs.Blobs.{held, isAmong, noBlob, oneBlob, addBlob, storeBlob}
 use Rattle.rules.specs.Writes.{announcedBlobs, announcedPath, returnKey, returnRecord, linkRecord, renewedLink}
 use Rattle.rules.specs.declared.Link.{Link}
 use Rattle.rules.proofs.Choices.{either}
@@ -94,6 +94,13 @@ add-shaped x s h k =
     (all-append (isBytes blobWidth) (drop 1 (s .places)) (x ∷ [])
     (all-tail (isBytes blobWidth) (s .places) (table-all (isBytes blobWidth) blobLimit (s .places) k)) (and-both h refl)))
 
+-- one already stored leaves them
+store-shaped : (x : List ℕ) (s : Blobs) → isBytes blobWidth x ≡ true → tableOk blobLimit (isBytes blobWidth) (s .places) ≡ true
+    → tableOk blobLimit (isBytes blobWidth) (storeBlob blobLimit x s .places) ≡ true
+unfolding storeBlob
+store-shaped x s h k =
+    either (λ (y : Blobs). tableOk blobLimit (isBytes blobWidth) (y .places) ≡ true) (isAmong x (held s)) (λ _. k) (λ _. add-shaped x s h k)
+
 -- ---- what an accepted packet makes
 module _ (a : Arrival) (b : Bytes (a .bytes)) where
   pub remembered-shaped : (expiry : ℕ) → hashShaped (record { hash = hash a; expiry = expiry }) ≡ true
@@ -128,7 +135,7 @@ module _ (a : Arrival) (b : Bytes (a .bytes)) where
         → tableOk blobLimit (isBytes blobWidth) (announcedBlobs a known .places) ≡ true
     unfolding announcedBlobs slotOk pathShaped
     places-shaped empty h = one-shaped (blob a) (blob-shaped (a .bytes) b long)
-    places-shaped (used p) h = add-shaped (blob a) (p .blobs) (blob-shaped (a .bytes) b long) (and-right _ _ (and-right _ _ h))
+    places-shaped (used p) h = store-shaped (blob a) (p .blobs) (blob-shaped (a .bytes) b long) (and-right _ _ (and-right _ _ h))
 
     pub path-made : (v : View) (known : Slot Path) → slotOk pathShaped known ≡ true → pathShaped (announcedPath v a known) ≡ true
     unfolding pathShaped announcedPath

@@ -33,9 +33,9 @@ pub extern "C" fn haskumye_local(tables: &[u8], place: u64, address: &mut [u8; 1
 }
 
 // The path at a place, live or not: destination, port, hops, next hop, expiry, last accepted announce, violations,
-// blocked-until, and the number of blobs. A time has 8 bytes, the highest first.
+// blocked-until, marked unresponsive, 1 or 0, and the number of blobs. A time has 8 bytes, the highest first.
 #[no_mangle]
-pub extern "C" fn haskumye_path(tables: &[u8], place: u64, path: &mut [u8; 60]) -> u8
+pub extern "C" fn haskumye_path(tables: &[u8], place: u64, path: &mut [u8; 61]) -> u8
     ensures { λ r. ⌜ Tells (tellOn (now (tables .entry)) (path-at place))
         (now (path .entry)) r (now (path .exit)) ⌝ }
 {
@@ -48,7 +48,7 @@ pub extern "C" fn haskumye_live_path(
     tables: &[u8],
     destination: &[u8; 16],
     clock: u64,
-    path: &mut [u8; 60],
+    path: &mut [u8; 61],
 ) -> u8
     ensures { λ r. ⌜ Tells (tellOn (now (tables .entry)) (live-path (now (destination .entry)) clock))
         (now (path .entry)) r (now (path .exit)) ⌝ }

@@ -6,7 +6,7 @@ ghost use mathlib.Core.Path.{_≡_};
 ghost use lib.Dec.{eqb};
 ghost use Rattle.tables.specs.Places.{tableSize};
 ghost use Rattle.tables.specs.Called.{Returns};
-ghost use Rattle.settings.specs.Calls.{freshOn, setPortOn, setRateOn, addLocalOn, removeLocalOn};
+ghost use Rattle.settings.specs.Calls.{freshOn, setPortOn, setRateOn, addLocalOn, removeLocalOn, markOn};
 ghost use Rattle.renumbering.specs.Calls.{renumberOn};
 ghost use Rattle.haskumye.specs.Tables.{interfaceVersion, tablesRefusal};
 
@@ -15,7 +15,7 @@ ghost use Rattle.haskumye.specs.Tables.{interfaceVersion, tablesRefusal}
 pub extern "C" fn haskumye_version() -> u32
     ensures { λ r. ⌜ r ≡ interfaceVersion ⌝ }
 {
-    3
+    4
 }
 
 // How many bytes tables have.
@@ -83,6 +83,19 @@ pub extern "C" fn haskumye_remove_local(tables: &mut [u8], address: &[u8; 16]) -
 {
     let bytes = *address;
     settings::remove_local(tables, bytes)
+}
+
+// Marks a destination's live path unresponsive, and sets the last clock.
+#[no_mangle]
+pub extern "C" fn haskumye_mark_path_unresponsive(
+    tables: &mut [u8],
+    destination: &[u8; 16],
+    clock: u64,
+) -> u8
+    ensures { λ r. ⌜ Returns (markOn (now (tables .entry)) (now (destination .entry)) clock) r (now (tables .exit)) ⌝ }
+{
+    let address = *destination;
+    settings::mark_path_unresponsive(tables, address, clock)
 }
 
 // Replaces every stored port by its image, and moves each port's settings with it.

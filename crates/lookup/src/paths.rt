@@ -10,6 +10,7 @@ use tables::fields::PATH_BLOCKED_UNTIL_AT;
 use tables::fields::PATH_EXPIRY_AT;
 use tables::fields::PATH_HOPS_AT;
 use tables::fields::PATH_LAST_AT;
+use tables::fields::PATH_MARK_AT;
 use tables::fields::PATH_NEXT_HOP_AT;
 use tables::fields::PATH_PORT_AT;
 use tables::fields::PATH_VIOLATIONS_AT;
@@ -103,6 +104,15 @@ pub fn path_rate(tables: &[u8], place: usize) -> RateEntry
     ensures { λ r. ⌜ r ≡ pathOf (recordAt pathsAt pathWidth (now (tables .entry)) place) .rate ⌝ }
 {
     rate_of(record_at(tables, PATHS_AT, PATH_WIDTH, place))
+}
+
+// Whether it is marked unresponsive.
+pub fn path_marked(tables: &[u8], place: usize) -> bool
+    requires { ⌜ (length (now tables) ≡ tableSize) × (place < pathCount) ⌝ }
+    ensures { λ r. ⌜ r ≡ pathOf (recordAt pathsAt pathWidth (now (tables .entry)) place) .marked ⌝ }
+{
+    let b = record_at(tables, PATHS_AT, PATH_WIDTH, place);
+    b[PATH_MARK_AT] == 1
 }
 
 // Whether the path holds the blob.

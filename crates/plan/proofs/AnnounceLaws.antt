@@ -16,7 +16,7 @@ use Rattle.rules.specs.View.{View, pathPlace, freePath, viewAt}
 use Rattle.rules.specs.Arrival.{Arrival, header, hops, destination, blob, isLinkProof}
 use Rattle.rules.specs.Ways.{Way, everywhere, wayOn}
 use Rattle.rules.specs.Rate.{rated}
-use Rattle.rules.specs.Tests.{isThere, noWayOn, alreadyKnown, wrongSide, notSigned, ofKnown, isReplay, replay, isNotBetter, notBetter, isRateLimited, rateLimited, portOff, noRoom}
+use Rattle.rules.specs.Tests.{isThere, noWayOn, alreadyKnown, wrongSide, notSigned, revives, ofKnown, isReplay, replay, isNotBetter, notBetter, isRateLimited, rateLimited, portOff, noRoom}
 use Rattle.rules.specs.Judging.{dropped, follows, onwardPlan, onwardTests}
 use Rattle.rules.specs.Writes.{announcedPlace}
 use Rattle.rules.specs.declared.Reason.the-variants.{NotSigned, Replay, NotBetter, RateLimited, NoRoom}
@@ -27,7 +27,7 @@ use Rattle.tables.specs.Layout.{rateSettingsIn, relayOf, wellFormed}
 use Rattle.tables.proofs.Whole.{formed}
 use Rattle.lookup.proofs.Found.{path-found, path-missing, path-ok}
 use Rattle.plan.specs.Decided.{CanKnow, pathAt, decidedWay, decided, onward}
-use Rattle.plan.specs.Kinds.{newPath, worseThan, knownPath}
+use Rattle.plan.specs.Kinds.{newPath, revivedBy, worseThan, knownPath}
 use Rattle.plan.specs.declared.Decision.{Decision}
 use Rattle.plan.specs.declared.Decision.the-variants.{Drop, Announce}
 use Rattle.plan.proofs.KindLaws.{other-kind, no-link-proof, decided-test}
@@ -81,8 +81,15 @@ module _ (a : Arrival) (is : isAnnounce (header a) ≡ true) where
     announce-known : a .signed ≡ true → (p : Path) → viewAt (a .clock) r .path (destination a) ≡ used p
         → knownPath (r .rate) a p (pathPlace (a .clock) r (destination a)) ≡ onward r a
     unfolding knownPath worseThan ofKnown replay isReplay notBetter isNotBetter rateLimited isRateLimited noRoom viewAt isThere announcedPlace
-        _then_otherwise_
-    announce-known e p there = sym (announce-onward r (used p) there ∙ rw e)
+        _then_otherwise_ _and_
+    announce-known e p there = go (revives a p) refl
+      where
+        revived-is : revivedBy (emissionOf (blob a)) p ≡ revives a p
+        revived-is = unfold revivedBy in unfold revives in refl
+
+        go : (b : Bool) → revives a p ≡ b → knownPath (r .rate) a p (pathPlace (a .clock) r (destination a)) ≡ onward r a
+        go true q = sym (announce-onward r (used p) there ∙ rw (revived-is, q, e))
+        go false q = sym (announce-onward r (used p) there ∙ rw (revived-is, q, e))
 
 -- ---- on tables, where the search for the path gave place i
 module _ (t : List ℕ) (a : Arrival) (is : isAnnounce (header a) ≡ true) (signed : a .signed ≡ true)
@@ -109,11 +116,19 @@ module _ (clock : ℕ) (r : Relay) {place : ℕ} (e : place ≡ freePath clock r
 
 -- ---- a known path, by what was read of the announce and of the path
 module _ (s : RateSettings) (a : Arrival) (p : Path) (place : ℕ) {b : List ℕ} (read : b ≡ blob a) where
-  pub known-replay : isAmong b (held (p .blobs)) ≡ true → Drop Replay ≡ knownPath s a p place
+  pub known-revived : revivedBy (emissionOf b) p ≡ true → Announce place true ≡ knownPath s a p place
   unfolding knownPath
-  known-replay old = sym (then-true _ _ (ap (λ (x : List ℕ). isAmong x (held (p .blobs))) (sym read) ∙ old))
+  known-revived q = sym (then-true _ _ (ap (λ (x : List ℕ). revivedBy (emissionOf x) p) (sym read) ∙ q))
 
-  module _ (new : isAmong b (held (p .blobs)) ≡ false) where
+  made : revivedBy (emissionOf b) p ≡ false → revivedBy (emissionOf (blob a)) p ≡ false
+  made q = ap (λ (x : List ℕ). revivedBy (emissionOf x) p) (sym read) ∙ q
+
+  pub known-replay : revivedBy (emissionOf b) p ≡ false → isAmong b (held (p .blobs)) ≡ true → Drop Replay ≡ knownPath s a p place
+  unfolding knownPath
+  known-replay q old =
+      sym (then-false _ _ (made q) ∙ then-true _ _ (ap (λ (x : List ℕ). isAmong x (held (p .blobs))) (sym read) ∙ old))
+
+  module _ (unrevived : revivedBy (emissionOf b) p ≡ false) (new : isAmong b (held (p .blobs)) ≡ false) where
     knownBy : Bool → Decision
     knownBy worse =
         worse then Drop NotBetter otherwise
@@ -123,7 +138,8 @@ module _ (s : RateSettings) (a : Arrival) (p : Path) (place : ℕ) {b : List ℕ
     known-by : (worse : Bool) → worse ≡ worseThan (emissionOf b) (hops a) p → knownPath s a p place ≡ knownBy worse
     unfolding knownPath knownBy
     known-by worse q =
-        then-false _ _ (ap (λ (x : List ℕ). isAmong x (held (p .blobs))) (sym read) ∙ new)
+        then-false _ _ (made unrevived)
+        ∙ then-false _ _ (ap (λ (x : List ℕ). isAmong x (held (p .blobs))) (sym read) ∙ new)
         ∙ ap knownBy (ap (λ (x : List ℕ). worseThan (emissionOf x) (hops a) p) (sym read) ∙ sym q)
 
     pub known-worse : worseThan (emissionOf b) (hops a) p ≡ true → Drop NotBetter ≡ knownPath s a p place

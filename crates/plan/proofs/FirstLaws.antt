@@ -21,9 +21,9 @@ use Rattle.octets.proofs.Listed.{allGive}
 use Rattle.numbers.specs.Numbers.{hashCount}
 use Rattle.rules.specs.Relay.{Relay}
 use Rattle.rules.specs.View.{View, hashPlace, isLocal, viewAt}
-use Rattle.rules.specs.Arrival.{Arrival, header, hops, relayAddress, destination}
+use Rattle.rules.specs.Arrival.{Arrival, header, hops, relayAddress, destination, hash}
 use Rattle.rules.specs.Exempt.{exempt}
-use Rattle.rules.specs.Tests.{notOurs, testedAsDuplicate, duplicate, badForm, ownAnnounce, deliveredHere, tooManyHops}
+use Rattle.rules.specs.Tests.{notOurs, forMarkedPath, testedAsDuplicate, duplicate, badForm, ownAnnounce, deliveredHere, tooManyHops}
 use Rattle.rules.specs.Ways.{wayOn}
 use Rattle.rules.specs.Judging.{Plan, dropped, delivered, follows, earlyTests, onwardPlan, plan}
 use Rattle.rules.specs.declared.Reason.{Reason}
@@ -31,12 +31,14 @@ use Rattle.tables.specs.Places.{addressWidth, ownAt, tableSize}
 use Rattle.tables.specs.Layout.{relayOf}
 use Rattle.outgoing.proofs.LeavingLaws.{whole}
 use Rattle.octets.proofs.Listed.{NoneHolds}
+use Rattle.rules.proofs.Choices.{and-false}
 use Rattle.rules.proofs.Passed.{stops}
 use Rattle.plan.specs.First.{early, firstTests}
 use Rattle.plan.specs.Decided.{usedHash, decided, decision, onward}
 use Rattle.plan.specs.declared.Early.{Early}
 use Rattle.plan.specs.declared.Early.the-variants.{Dropped, Delivered, Undecided}
 use Rattle.plan.specs.declared.Decision.the-variants.{Drop, Deliver}
+use Rattle.plan.proofs.KindLaws.{and-true}
 use Rattle.plan.proofs.ContextLaws.{used-own}
 
 -- what the tests behind the first n say
@@ -96,14 +98,26 @@ module _ (r : Relay) (a : Arrival) where
 
   pub not-tested : exempt (a .bytes) ≡ true → duplicate (viewAt (a .clock) r) a ≡ false
   unfolding duplicate testedAsDuplicate
-  not-tested is = and-no _ (ap not is)
+  not-tested is = and-no _ (and-no _ (ap not is))
 
-  pub duplicate-place : exempt (a .bytes) ≡ false → {i : ℕ} → i ≡ hashPlace (a .clock) r (usedHash (a .bytes))
-      → duplicate (viewAt (a .clock) r) a ≡ ltb i hashCount
-  unfolding duplicate testedAsDuplicate viewAt
-  duplicate-place tested e =
-      and-yes _ (ap not tested)
-      ∙ ap (λ (k : ℕ). ltb k hashCount) (sym (e ∙ ap (hashPlace (a .clock) r) (used-own (a .bytes) tested)))
+  -- whether the hash is remembered, by the place that the search gave
+  pub remembered-place : exempt (a .bytes) ≡ false → {i : ℕ} → i ≡ hashPlace (a .clock) r (usedHash (a .bytes))
+      → viewAt (a .clock) r .remembered (hash a) ≡ ltb i hashCount
+  unfolding viewAt
+  remembered-place tested e =
+      ap (λ (k : ℕ). ltb k hashCount) (sym (e ∙ ap (hashPlace (a .clock) r) (used-own (a .bytes) tested)))
+
+  pub duplicate-not : viewAt (a .clock) r .remembered (hash a) ≡ false → duplicate (viewAt (a .clock) r) a ≡ false
+  unfolding duplicate
+  duplicate-not new = ap (λ (b : Bool). testedAsDuplicate (viewAt (a .clock) r) a and b) new ∙ and-false _
+
+  pub duplicate-there : exempt (a .bytes) ≡ false → viewAt (a .clock) r .remembered (hash a) ≡ true
+      → duplicate (viewAt (a .clock) r) a ≡ not (forMarkedPath (viewAt (a .clock) r) a)
+  unfolding duplicate testedAsDuplicate
+  duplicate-there tested old =
+      ap (λ (b : Bool). (not (exempt (a .bytes)) and not (forMarkedPath (viewAt (a .clock) r) a)) and b) old
+      ∙ and-true _
+      ∙ and-yes _ (ap not tested)
 
   pub own-clauses : ownAnnounce (viewAt (a .clock) r) a ≡ (isAnnounce (header a) and isLocal r (destination a))
   unfolding ownAnnounce viewAt

@@ -33,9 +33,14 @@ newPath clock r =
 unfoldable pub worseThan : ℕ → ℕ → Path → Bool
 worseThan emission hops p = leb emission (greatestEmission (held (p .blobs))) and leb (p .hops) hops
 
--- of the known path at a place: 10, 11, 15
+-- whether an announce revives the path, by its emission
+unfoldable pub revivedBy : ℕ → Path → Bool
+revivedBy emission p = p .marked and leb (greatestEmission (held (p .blobs))) emission
+
+-- of the known path at a place: 10, 11, 15, unless it is revived
 unfoldable pub knownPath : RateSettings → Arrival → Path → ℕ → Decision
 knownPath s a p place =
+    revivedBy (emissionOf (blob a)) p then Announce place true otherwise
     isAmong (blob a) (held (p .blobs)) then Drop Replay otherwise
     worseThan (emissionOf (blob a)) (hops a) p then Drop NotBetter otherwise
     rated s (a .clock) (p .rate) .dropped then Drop RateLimited otherwise

@@ -1,6 +1,7 @@
 // Announces: tests 9, 10, 11, 15 and 13.
 use super::Arrived;
 use super::Decision;
+use super::marked::revives;
 use numbers::PATH_COUNT;
 use rules::Rated;
 use rules::Reason;
@@ -56,7 +57,7 @@ pub fn rate_at(tables: &[u8], place: usize, clock: u64) -> Rated
     rate::rule(settings, clock, entry)
 }
 
-// The known path at a place: tests 10, 11 and 15.
+// The known path at a place: tests 10, 11 and 15, unless the announce revives it.
 fn known_path(tables: &[u8], packet: &[u8], arrived: Arrived, place: usize) -> Decision
     requires { ⌜ CanRead (now packet) (now tables) × CanKnow (now tables) place
         × (84 ≤ length (payload (now packet))) ⌝ }
@@ -64,6 +65,9 @@ fn known_path(tables: &[u8], packet: &[u8], arrived: Arrived, place: usize) -> D
         (pathAt (now (tables .entry)) place) place ⌝ }
 {
     let blob = packet::blob(packet::payload(packet));
+    if revives(tables, place, blob) {
+        return Decision::Announce { place, known: true };
+    }
     if lookup::holds_blob(tables, place, blob) {
         return Decision::Drop(Reason::Replay);
     }

@@ -4,6 +4,7 @@ use super::Early;
 use super::Form;
 use super::bad_form::form_of;
 use super::contexts::exempt;
+use super::marked::for_marked_path;
 use numbers::HASH_COUNT;
 use numbers::HOPS_LIMIT;
 use numbers::LOCAL_COUNT;
@@ -33,7 +34,7 @@ pub fn not_ours(tables: &[u8], packet: &[u8], arrived: Arrived) -> bool
     !octets::equal16(relay, lookup::own_address(tables))
 }
 
-// Test 2. An exempt packet's hash is not read.
+// Test 2. An exempt packet's hash is not read, and an announce for a marked path is no duplicate.
 fn duplicate(tables: &[u8], packet: &[u8], arrived: Arrived, hash: [u8; 32]) -> bool
     requires { ⌜ CanRead (now packet) (now tables) × (hash ≡ usedHash (now packet)) ⌝ }
     ensures { λ r. ⌜ r ≡ isDuplicate (seen arrived (now (tables .entry))) (arrivalOf (now (packet .entry)) arrived) ⌝ }
@@ -41,7 +42,10 @@ fn duplicate(tables: &[u8], packet: &[u8], arrived: Arrived, hash: [u8; 32]) -> 
     if exempt(packet) {
         return false;
     }
-    lookup::hash_place(tables, hash, arrived.clock) < HASH_COUNT
+    if lookup::hash_place(tables, hash, arrived.clock) < HASH_COUNT {
+        return !for_marked_path(tables, packet, arrived);
+    }
+    false
 }
 
 // Whether the packet's destination is local.

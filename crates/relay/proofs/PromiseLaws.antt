@@ -21,16 +21,16 @@ use Rattle.rules.specs.View.{viewAt}
 use Rattle.rules.specs.Tests.{notOurs}
 use Rattle.rules.specs.Judging.{plan, earlyTests}
 use Rattle.octets.specs.Listed.{firstOf}
-use Rattle.rules.proofs.Choices.{and-false}
 use Rattle.tables.specs.Layout.{relayOf, wellFormed}
 use Rattle.tables.proofs.Whole.{again}
 use Rattle.plan.specs.declared.Arrived.{Arrived}
+use Rattle.plan.specs.declared.Decision.{Decision}
 use Rattle.plan.specs.declared.Decision.the-variants as decided-as
 use Rattle.plan.specs.Decided.{arrivalOf, decided, decision}
 use Rattle.update.specs.Written.{clockWritten}
-use Rattle.act.specs.Stored.{remembersDecided, stamped}
+use Rattle.act.specs.Stored.{stamped}
 use Rattle.act.proofs.Stays.{drop-left, drop-stays}
-use Rattle.act.proofs.StampLaws.{remembered-by, stamp-left}
+use Rattle.act.proofs.StampLaws.{remembered-by, forgotten, stamp-left}
 use Rattle.act.specs.Acted.{AcceptedOn, verdictOn, tablesOn, rememberedOn, outputOn}
 use Rattle.relay.specs.Refusal.{packetRefusalOn}
 use Rattle.relay.proofs.RefusalLaws.{accepted-formed, accepted-by-rules, accepted-judge, accepted-port, accepted-clock}
@@ -104,11 +104,12 @@ module _ (packet : List ℕ) (port clock : ℕ) (signed : Bool) (t : List ℕ) (
     -- ---- test 1's drop: the clock alone is written
     pub not-ours-promised : Bytes t → notOurs (viewAt (m .clock) (relayOf t)) (arrivalOf packet m) ≡ true → (after : Tally) (u : List ℕ)
         → u ≡ clockWritten t (m .clock) → after ≡ counted (Drop NotOurs) tally → Promises promise (Judged (Drop NotOurs)) after u output
-    unfolding decision decided plan earlyTests firstOf stamped remembersDecided _then_otherwise_
+    unfolding decision decided plan earlyTests firstOf stamped _then_otherwise_
     not-ours-promised b ours after u q n =
         let d : decision (relayOf t) (arrivalOf packet m) ≡ decided-as.Drop NotOurs = rw ours in
         let same = drop-stays packet m t (accepted .formed) b NotOurs (λ e. omega (arith, e)) in
         let left = drop-left packet m t accepted b output NotOurs d (Drop NotOurs) t refl same in
-        let forgets : false ≡ rememberedOn packet m t = sym (and-false _) ∙ remembered-by packet m t (decided-as.Drop NotOurs) d in
+        let drop : Decision = decided-as.Drop NotOurs in
+        let forgets : false ≡ rememberedOn packet m t = sym (forgotten packet m t drop refl) ∙ remembered-by packet m t drop d in
         let stamped = stamp-left packet m t accepted b _ t _ false refl (left .1) refl forgets in
         judged-promised (Drop NotOurs) after u output (left .0) (q ∙ stamped) (left .2) n

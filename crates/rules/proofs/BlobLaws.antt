@@ -13,7 +13,7 @@ use lib.Seq.{take-suc-set, take-all, getD-at}
 use borrow.Author.Tests.{ltb-true, ltb-false}
 use Rattle.octets.proofs.Choice.{or-no-left, or-no-right, same-ne}
 use Rattle.rules.specs.Relay.{Blobs}
-use Rattle.rules.specs.Blobs.{held, isAmong, oneBlob, addBlob}
+use Rattle.rules.specs.Blobs.{held, isAmong, oneBlob, addBlob, storeBlob}
 use Rattle.rules.proofs.Choices.{either}
 
 -- no two are equal
@@ -90,15 +90,20 @@ module _ (limit : ℕ) (least : 1 ≤ limit) (x : List ℕ) where
 
   -- ---- one more blob
   module _ (b : Blobs) (counted : Counted limit (b .count)) where
-    pub add-counted : Counted limit (addBlob limit x b .count)
+    add-counted : Counted limit (addBlob limit x b .count)
     unfolding addBlob
     add-counted =
         either (λ (c : Blobs). Counted limit (c .count)) (ltb (b .count) limit)
         (λ less. let l : b .count < limit = ltb-true _ _ less in record { some = omega arith; most = omega arith })
         (λ _. counted)
 
+    -- one that is held already isn't stored twice
+    pub store-counted : Counted limit (storeBlob limit x b .count)
+    unfolding storeBlob
+    store-counted = either (λ (c : Blobs). Counted limit (c .count)) (isAmong x (held b)) (λ _. counted) (λ _. add-counted)
+
     module _ (placed : Placed limit b) where
-      pub add-placed : Placed limit (addBlob limit x b)
+      add-placed : Placed limit (addBlob limit x b)
       unfolding addBlob
       add-placed =
           either (Placed limit) (ltb (b .count) limit)
@@ -106,7 +111,7 @@ module _ (limit : ℕ) (least : 1 ≤ limit) (x : List ℕ) where
           (λ _. simp (length-append, length-drop) (omega arith))
 
       -- it is none of those held
-      pub add-distinct : Distinct (held b) → isAmong x (held b) ≡ false → Distinct (held (addBlob limit x b))
+      add-distinct : Distinct (held b) → isAmong x (held b) ≡ false → Distinct (held (addBlob limit x b))
       unfolding addBlob held
       add-distinct d h =
           either (λ (c : Blobs). Distinct (held c)) (ltb (b .count) limit)
@@ -120,3 +125,11 @@ module _ (limit : ℕ) (least : 1 ≤ limit) (x : List ℕ) where
           let all : take (b .count) (b .places) ≡ b .places = take-all (b .count) (b .places) (omega arith) in
           subst Distinct (sym (take-all (b .count) (drop 1 (b .places) ++ (x ∷ [])) (simp (length-append, length-drop) (omega arith))))
           (distinct-more (drop 1 (b .places)) x (distinct-tail (b .places) (subst Distinct all d)) (not-in-tail x (b .places) (rw all at h))))
+
+      pub store-placed : Placed limit (storeBlob limit x b)
+      unfolding storeBlob
+      store-placed = either (Placed limit) (isAmong x (held b)) (λ _. placed) (λ _. add-placed)
+
+      pub store-distinct : Distinct (held b) → Distinct (held (storeBlob limit x b))
+      unfolding storeBlob
+      store-distinct d = either (λ (c : Blobs). Distinct (held c)) (isAmong x (held b)) (λ _. d) (λ new. add-distinct d new)

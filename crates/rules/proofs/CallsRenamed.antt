@@ -1,22 +1,23 @@
 -- A renamed call on a renumbered relay: it answers what the call answers, renamed, and leaves the relay that it leaves, renumbered.
 use Prim.Native.Nat.{ℕ}
-use mathlib.Core.Bool.{Bool, true, false, false≢true}
-use mathlib.Core.List.{List}
+use mathlib.Core.Bool.{Bool, true, false, not, false≢true}
+use mathlib.Core.List.{List, []}
 use mathlib.Core.Path.{_≡_, refl, sym, ap, _∙_}
 use lib.Dec.{eqb}
 use lib.ListN.{length, set}
 use borrow.Author.Tests.{not-false}
 use Rattle.octets.specs.Choice.{_then_otherwise_}
 use Rattle.octets.proofs.Choice.{then-ap}
-use Rattle.octets.specs.Listed.{firstOf}
+use Rattle.octets.specs.Listed.{_gives_otherwise_, firstOf}
 use Rattle.rules.specs.Relay.{Port, Relay, withRate, withPorts, withLocals}
 use Rattle.rules.specs.View.{View, viewAt, isLocal, localPlace}
-use Rattle.rules.specs.Renumbering.{image, oneToOne, renumbered}
-use Rattle.rules.specs.Refusals.{tablesOk, packetRefusal, emptyLocal}
+use Rattle.rules.specs.Renumbering.{image, oneToOne, renamePath, renumbered}
+use Rattle.rules.specs.Refusals.{tablesOk, clockBad, packetRefusal, emptyLocal}
 use Rattle.rules.specs.Arrival.{Arrival}
+use Rattle.rules.specs.Tests.{isThere}
 use Rattle.rules.specs.Answers.{renameVerdict, renameAnswer}
 use Rattle.rules.specs.Judging.{Plan, plan, verdict}
-use Rattle.rules.specs.Calls.{counted, Judgement, judged, judge, packetCall, Setting, settled, TableCall, sets-port, sets-rate, adds, removes, renumbers, ruleOf, tableRefusal, settle}
+use Rattle.rules.specs.Calls.{counted, Judgement, judged, judge, packetCall, Setting, settled, TableCall, sets-port, sets-rate, adds, removes, renumbers, marks, ruleOf, tableRefusal, settle}
 use Rattle.rules.specs.Saved.{Said, Format, saveRefusal, loadRefusal}
 use Rattle.rules.specs.Run.{Call, packet, on-tables, asks, saves, loads, renumbering, Reply, numbered, saved, unsaved, movesPorts, setsRelay, Outcome, ofJudgement, ofSetting, ofTold, saveReply, ofSaid, perform, renameArrival, renameCall, renameReply}
 use Rattle.rules.specs.declared.Verdict.{Verdict}
@@ -27,9 +28,10 @@ use Rattle.octets.proofs.Listed.{NoneHolds}
 use Rattle.rules.proofs.Rows.{table-passed}
 use Rattle.rules.proofs.Images.{image-leb}
 use Rattle.rules.proofs.MovedPorts.{moved-set}
-use Rattle.rules.proofs.ViewRenamed.{renameView, no-port-on, view-renamed}
+use Rattle.rules.proofs.ViewRenamed.{renameView, no-port-on, path-renamed, view-renamed}
+use Rattle.rules.proofs.TestsRenamed.{isThere-renamed}
 use Rattle.rules.proofs.PlanRenamed.{renamePlan, plan-renamed, verdict-renamed, output-renamed}
-use Rattle.rules.proofs.WritesRenamed.{enact-renamed}
+use Rattle.rules.proofs.WritesRenamed.{mark-renamed, enact-renamed}
 use Rattle.rules.proofs.QuestionsRenamed.{sixteen-ports, packetRefusal-renamed, tell-renamed}
 
 -- ---- a refusal's number and a relay, renamed
@@ -64,6 +66,7 @@ addresses-renamed m (sets-rate target grace penalty) = refl
 addresses-renamed m (adds address) = refl
 addresses-renamed m (removes address) = refl
 addresses-renamed m (renumbers images) = refl
+addresses-renamed m (marks destination clock) = refl
 
 -- ---- one call
 module _ (m : List ℕ) (ok : oneToOne m ≡ true) (r : Relay) (fine : tablesOk r ≡ true) (fine′ : tablesOk (renumbered m r) ≡ true) where
@@ -116,6 +119,10 @@ module _ (m : List ℕ) (ok : oneToOne m ≡ true) (r : Relay) (fine : tablesOk 
   rows-renamed (adds address) = refl
   rows-renamed (removes address) = refl
   rows-renamed (renumbers images) = refl
+  rows-renamed (marks destination clock) =
+      let there : isThere (viewAt clock (renumbered m r) .path destination) ≡ isThere (viewAt clock r .path destination) =
+      ap isThere (path-renamed m clock r destination) ∙ isThere-renamed m (renamePath m) (viewAt clock r .path destination) in
+      ap (λ (b : Bool). clockBad r clock gives 5 otherwise not b gives 12 otherwise []) there
 
   after-renamed : (c : TableCall) → ruleOf c .movesPorts ≡ false → NoneHolds (ruleOf c .rows r)
       → ruleOf (ruleOf c .renamed m) .after (renumbered m r) ≡ renumbered m (ruleOf c .after r)
@@ -125,6 +132,7 @@ module _ (m : List ℕ) (ok : oneToOne m ≡ true) (r : Relay) (fine : tablesOk 
   after-renamed (adds address) no-map n = refl
   after-renamed (removes address) no-map n = refl
   after-renamed (renumbers images) no-map n = absurd (false≢true (sym no-map ∙ not-false _ (n .0)))
+  after-renamed (marks destination clock) no-map n = mark-renamed m ok destination clock r
 
   settle-renamed : (c : TableCall) → ruleOf c .movesPorts ≡ false → settle (ruleOf c .renamed m) (renumbered m r) ≡ renameSetting m (settle c r)
   unfolding settle settled renameSetting _then_otherwise_

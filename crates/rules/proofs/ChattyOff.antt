@@ -2,36 +2,41 @@
 use Prim.Native.Nat.{ℕ, _-_, _≤_}
 use native.Mathlib.Nat.{le-refl}
 use native.Mathlib.Omega.{arith}
-use mathlib.Core.Bool.{Bool, true, false, false≢true}
+use mathlib.Core.Bool.{Bool, true, false, not, false≢true}
 use mathlib.Core.List.{List, [], _∷_}
 use mathlib.Core.Path.{_≡_, refl, sym, ap, subst, _∙_}
 use lib.Dec.{eqb}
 use lib.ListN.{length}
 use borrow.Author.Tests.{eqb-true}
+use Rattle.octets.specs.Index.{_and_}
 use Rattle.octets.proofs.Choice.{then-true, then-false}
+use Rattle.octets.proofs.Listed.{NoneHolds}
 use Rattle.numbers.specs.Numbers.{pathCount}
 use Rattle.rules.specs.Relay.{Slot, empty, used, Path, Relay, fresh, withPaths}
 use Rattle.rules.specs.View.{View, viewAt}
 use Rattle.rules.specs.Renumbering.{renamePath}
 use Rattle.rules.specs.Refusals.{packetRefusal}
 use Rattle.rules.specs.Arrival.{Arrival, destination}
-use Rattle.rules.specs.Rate.{letsBy, rated, entryAccepted, entryDropped}
+use Rattle.rules.specs.Rate.{letsBy, rated, entryAccepted, entryRevived, entryDropped}
 use Rattle.rules.specs.Ways.{Way, everywhere, by-path, along-link, by-return, blocked, wayOn}
-use Rattle.rules.specs.Tests.{ofKnown, isRateLimited, rateLimited}
+use Rattle.rules.specs.Tests.{revives, ofKnown, isRateLimited, rateLimited}
 use Rattle.rules.specs.Judging.{Plan, dropped, delivered, follows, plan}
 use Rattle.rules.specs.Writes.{announcedRate, announcedPath, putPath, limitPath, enact}
-use Rattle.rules.specs.Calls.{newTally, judged, judge, packetCall, TableCall, sets-port, sets-rate, adds, removes, renumbers, ruleOf, tableRefusal, settle, settled}
+use Rattle.rules.specs.Calls.{newTally, judged, judge, packetCall, TableCall, sets-port, sets-rate, adds, removes, renumbers, marks, ruleOf, tableRefusal, settle, settled}
 use Rattle.rules.specs.Saved.{saveRefusal, loadRefusal}
 use Rattle.rules.specs.Run.{Call, packet, on-tables, asks, saves, loads, Reply, answered, numbered, told, saved, unsaved, Outcome, ofJudgement, ofSetting, ofTold, saveReply, ofSaid, perform, replies, setsRelay, noneLoads}
 use Rattle.rules.specs.Chatty.{planIf, packetCallWithout, performWithout, repliesWithout, NoRateDrop, NoneRateDrop, targetOf, NoTarget, RateOff, OffWithoutTarget}
+use Rattle.rules.specs.declared.RateEntry.{RateEntry}
 use Rattle.rules.specs.declared.Rated.{Rated}
 use Rattle.rules.specs.declared.Tally.{Tally}
-use Rattle.rules.proofs.Choices.{either}
+use Rattle.rules.proofs.Choices.{either, and-false}
+use Rattle.rules.proofs.Rows.{table-passed}
 use Rattle.rules.proofs.Slots.{Every, every-set, every-fresh, every-renamed}
 use Rattle.rules.proofs.Accepted.{accepted-packet}
 use Rattle.rules.proofs.Followed.{Found, Planned, planned, found-way}
 use Rattle.rules.proofs.Stamped.{enact-clock}
 use Rattle.rules.proofs.Held.{Property, Holds, WayKeeps, PlanKeeps, TableKeeps, enact-held, table-held, packet-kept, table-kept-by, ask-kept, save-kept, load-kept, first-none, others-none}
+use Rattle.rules.proofs.Marks.{mark-every}
 use Rattle.rules.proofs.Unique.{table-clock}
 use Rattle.rules.proofs.RateLaws.{rated-on-time}
 use Rattle.rules.proofs.ChattyPlan.{plan-if, dropped-reached, rate-dropped}
@@ -110,7 +115,7 @@ module _ (a : Arrival) (r : Relay) (h : Holds (calmAt (a .clock)) r) where
   way-off : (w : Way) → Found seen a w → rateLimited seen a w ≡ false
   unfolding rateLimited ofKnown isRateLimited
   way-off (everywhere empty) f = refl
-  way-off (everywhere (used p)) f = ap (λ (x : Rated). x .dropped) (on-time p f)
+  way-off (everywhere (used p)) f = ap (λ (x : Rated). not (revives a p) and x .dropped) (on-time p f) ∙ and-false _
   way-off (by-path p) f = refl
   way-off (along-link l) f = refl
   way-off (by-return t) f = refl
@@ -120,9 +125,11 @@ module _ (a : Arrival) (r : Relay) (h : Holds (calmAt (a .clock)) r) where
   off = way-off (wayOn seen a) (found-way seen a)
 
   announced-calm : (known : Slot Path) → seen .path (destination a) ≡ known → Calm (a .clock) (announcedPath seen a known)
-  unfolding announcedPath announcedRate entryAccepted
+  unfolding announcedPath announcedRate entryAccepted entryRevived
   announced-calm empty e = (refl, le-refl (a .clock))
-  announced-calm (used p) e = (unblocked p e, le-refl (a .clock))
+  announced-calm (used p) e =
+      either (λ (x : RateEntry). (x .«blocked_until» ≡ 0) × (x .last ≤ a .clock)) (revives a p)
+      (λ _. (calm p e .0, le-refl (a .clock))) (λ _. (unblocked p e, le-refl (a .clock)))
 
   limit-calm : (known : Slot Path) → seen .path (destination a) ≡ known → calmAt (a .clock) .paths (limitPath seen a known r .paths)
   unfolding limitPath withPaths entryDropped
@@ -153,20 +160,26 @@ table-accepted : (c : TableCall) (r : Relay) (t : Tally) → eqb (tableRefusal c
 unfolding perform ofSetting settle settled
 table-accepted c r t e = ap numbered (eqb-true _ _ e)
 
-table-calm : (c : TableCall) (r : Relay) → CalmRelay r → targetOf (on-tables c) ≡ 0 → CalmRelay (ruleOf c .after r)
+table-calm : (c : TableCall) (r : Relay) → CalmRelay r → targetOf (on-tables c) ≡ 0 → NoneHolds (ruleOf c .rows r) → CalmRelay (ruleOf c .after r)
 unfolding targetOf renamePath
-table-calm c r h none =
-    subst (λ (now : ℕ). Holds (calmAt now) (ruleOf c .after r)) (sym (table-clock c r)) (table-held h c (go c none))
+table-calm c r before none n = table-held h c (go c none)
   where
-    go : (c : TableCall) → targetOf (on-tables c) ≡ 0 → TableKeeps (calmAt (r .clock)) r c
+    now : ℕ
+    now = ruleOf c .after r .clock
+
+    h : Holds (calmAt now) r
+    h = calm-later r (table-clock c r n) before
+
+    go : (c : TableCall) → targetOf (on-tables c) ≡ 0 → TableKeeps (calmAt now) r c
     go (sets-port port on mode) none = tt
     go (sets-rate target grace penalty) none = none
     go (adds address) none = tt
     go (removes address) none = tt
     go (renumbers images) none = (tt, every-renamed _ _ (renamePath images) (λ _. refl) (renamed images) (r .paths) (h .paths), tt, tt)
       where
-        renamed : (m : List ℕ) (p : Path) → Calm (r .clock) p → Calm (r .clock) (renamePath m p)
+        renamed : (m : List ℕ) (p : Path) → Calm now p → Calm now (renamePath m p)
         renamed m p k = k
+    go (marks destination clock) none = (tt, mark-every destination clock r _ (λ _. refl) _ (λ _ k. k) (h .paths))
 
 -- only a packet is answered
 isAnswer : Reply → Bool
@@ -218,7 +231,7 @@ module _ (r : Relay) (h : CalmRelay r) (t : Tally) where
       record {
         not-dropped = no-answer refl;
         same = refl;
-        calm-after = table-kept-by CalmRelay h c t (λ e. table-calm c r h (target (table-accepted c r t e)));
+        calm-after = table-kept-by CalmRelay h c t (λ e. table-calm c r h (target (table-accepted c r t e)) (table-passed c r e));
       }
   call-off (asks q) none target = record { not-dropped = no-answer refl; same = refl; calm-after = ask-kept CalmRelay h q t }
   call-off (saves f room) none target =

@@ -1,45 +1,48 @@
 -- Wish 5, of one announce for a live path: while it is blocked no record of a path changes, and one that comes on time is let by.
-use Prim.Native.Nat.{ℕ, _-_, _<_}
-use native.Mathlib.Omega.{arith}
-use mathlib.Core.Bool.{true, false, false≢true}
+use Prim.Native.Nat.{ℕ, _-_}
+use mathlib.Core.Bool.{true, false, not, false≢true}
 use mathlib.Core.List.{List}
-use mathlib.Core.Path.{_≡_, refl, sym, ap, subst, _∙_}
-use lib.Dec.{eqb, lit<}
+use mathlib.Core.Path.{_≡_, refl, sym, ap, _∙_}
 use lib.ListN.{length, set}
 use lib.Seq.{set-getD}
-use borrow.Author.Tests.{lt-ltb}
-use Rattle.octets.proofs.Index.{and-left, and-right}
+use borrow.Author.Tests.{not-true}
+use Rattle.octets.specs.Index.{_and_}
+use Rattle.octets.proofs.Index.{and-left, and-right, and-both, and-no}
+use Rattle.octets.proofs.Choice.{then-false}
 use Rattle.packet.specs.Header.{isAnnounce}
-use Rattle.numbers.specs.Numbers.{pathCount, pathLifetime, live}
+use Rattle.numbers.specs.Numbers.{live}
 use Rattle.rules.specs.Relay.{Slot, empty, used, Path, withPathRate, Relay, withPaths}
-use Rattle.rules.specs.View.{View, viewAt, isLivePath, pathPlace}
-use Rattle.rules.specs.Refusals.{slotOk, pathOk, packetRefusal}
+use Rattle.rules.specs.View.{View, viewAt, pathPlace}
 use Rattle.rules.specs.Arrival.{Arrival, header, destination}
 use Rattle.rules.specs.Rate.{rated, entryAccepted}
 use Rattle.rules.specs.Ways.{everywhere, wayOn}
-use Rattle.rules.specs.Tests.{ofKnown, isRateLimited, rateLimited}
+use Rattle.rules.specs.Tests.{revives, ofKnown, isRateLimited, rateLimited}
 use Rattle.rules.specs.Judging.{Plan, dropped, delivered, follows, plan}
-use Rattle.rules.specs.Writes.{pathExpiry, announcedRate, announcedPath, announcedPlace, putPath, limitPath, writeWay, isRateDrop, writeDrop, writePlan}
+use Rattle.rules.specs.Writes.{announcedRate, announcedPath, limitPath, isRateDrop, writeDrop, writePlan}
 use Rattle.rules.specs.Run.{packet, perform}
-use Rattle.rules.specs.Chatty.{NoRateDrop, WhileBlocked, PathsStay, BlockedStays, OnTime, Forgiven, reachesRate, OnTimeLetBy}
+use Rattle.rules.specs.Chatty.{NoRateDrop, WhileBlocked, PathsStay, BlockedStays, OnTime, Forgiven, rateIsMade, reachesRate, OnTimeLetBy}
 use Rattle.rules.specs.declared.RateEntry.{RateEntry}
 use Rattle.rules.specs.declared.Rated.{Rated}
 use Rattle.rules.specs.declared.Tally.{Tally}
-use Rattle.rules.proofs.Choices.{either}
-use Rattle.rules.proofs.Tables.{table-length}
-use Rattle.rules.proofs.Lowest.{Lowest, lowest-found, found-lowest, lowest-renewed}
+use Rattle.rules.proofs.Choices.{either, and-false}
 use Rattle.rules.proofs.Passed.{passed}
 use Rattle.rules.proofs.Stamped.{enact-paths}
-use Rattle.rules.proofs.Held.{judged-relay, packet-kept}
-use Rattle.rules.proofs.Valid.{accepted-valid}
+use Rattle.rules.proofs.Held.{packet-kept}
+use Rattle.rules.proofs.Announced.{shown-after}
 use Rattle.rules.proofs.RateLaws.{rated-blocked, blocked-stays, rated-on-time}
 use Rattle.rules.proofs.ChattyPlan.{announce-way, dropped-reached, reaches, past-rate, rate-dropped}
 
 -- what test 15 says of an announce of a known path
 pub known-limited : (v : View) (a : Arrival) (p : Path) → isAnnounce (header a) ≡ true → v .path (destination a) ≡ used p
-    → rateLimited v a (wayOn v a) ≡ rated (v .rate) (a .clock) (p .rate) .dropped
+    → rateLimited v a (wayOn v a) ≡ (not (revives a p) and rated (v .rate) (a .clock) (p .rate) .dropped)
 unfolding rateLimited ofKnown isRateLimited
 known-limited v a p announce known = ap (rateLimited v a) (announce-way v a announce ∙ ap everywhere known)
+
+-- it is made, unless the announce revives a marked one
+pub known-made : (v : View) (a : Arrival) (p : Path) → isAnnounce (header a) ≡ true → v .path (destination a) ≡ used p
+    → rateIsMade v a ≡ (not (revives a p) and true)
+unfolding rateIsMade ofKnown
+known-made v a p announce known = ap (ofKnown a (λ p. true)) (announce-way v a announce ∙ ap everywhere known)
 
 -- ---- (b)
 module _ (p : Path) (a : Arrival) (r : Relay) (h : WhileBlocked p a r) where
@@ -47,7 +50,10 @@ module _ (p : Path) (a : Arrival) (r : Relay) (h : WhileBlocked p a r) where
   seen = viewAt (a .clock) r
 
   holds-then : rateLimited seen a (wayOn seen a) ≡ true
-  holds-then = known-limited seen a p (h .announce) (h .live) ∙ ap (λ (x : Rated). x .dropped) (rated-blocked (seen .rate) (a .clock) (p .rate) (h .blocked))
+  unfolding revives
+  holds-then =
+      known-limited seen a p (h .announce) (h .live)
+      ∙ and-both (ap not (and-no _ (h .unmarked))) (ap (λ (x : Rated). x .dropped) (rated-blocked (seen .rate) (a .clock) (p .rate) (h .blocked)))
 
   -- test 15 writes what stood there
   limit-stays : limitPath seen a (seen .path (destination a)) r .paths ≡ r .paths
@@ -73,15 +79,6 @@ blocked-announce-stays p a output r t h =
     (λ _. enact-paths (viewAt (a .clock) r) a (plan (viewAt (a .clock) r) a) r ∙ plan-stays p a r h _ refl)
 
 -- ---- (c)
-lifetime-some : (mode : ℕ) → 0 < pathLifetime mode
-unfolding pathLifetime
-lifetime-some mode =
-    either (λ (n : ℕ). 0 < n) _ (λ _. lit< tt)
-    (λ _. either (λ (n : ℕ). 0 < n) _ (λ _. lit< tt) (λ _. lit< tt))
-
-abbrev LowestPath : ℕ → List (Slot Path) → ℕ → Path → Type 0
-LowestPath = Lowest (λ (p : Path). p .destination) (λ (p : Path). p .expiry) pathCount
-
 module _ (p : Path) (a : Arrival) (output : List ℕ) (r : Relay) (t : Tally) (h : OnTime p a r) where
   abbrev view : View
   view = viewAt (a .clock) r
@@ -94,48 +91,30 @@ module _ (p : Path) (a : Arrival) (output : List ℕ) (r : Relay) (t : Tally) (h
   says = rated-on-time (r .rate) (a .clock) (p .rate) (h .free) (h .spaced)
 
   off : rateLimited view a (wayOn view a) ≡ false
-  off = known-limited view a p (h .announce) (h .live) ∙ ap (λ (x : Rated). x .dropped) says
+  off = known-limited view a p (h .announce) (h .live) ∙ ap (λ (x : Rated). not (revives a p) and x .dropped) says ∙ and-false _
 
   not-dropped-then : NoRateDrop (perform (packet a output) r t .reply)
   not-dropped-then room reply = false≢true (sym off ∙ dropped-reached view a (rate-dropped a output r t room reply .1) .0)
 
-  module _ (taken : eqb (packetRefusal r a (length output)) 0 ≡ true) (todo : plan view a ≡ follows (everywhere (used p))) where
-    abbrev after : Path
-    after = announcedPath view a (used p)
-
-    new-paths : R .paths ≡ set (r .paths) (pathPlace (a .clock) r (destination a)) (used after)
-    unfolding writePlan writeWay putPath announcedPlace withPaths
-    new-paths =
-        ap (λ (s : Relay). s .paths) (judged-relay a r t output taken)
-        ∙ enact-paths view a (plan view a) r
-        ∙ ap (λ (x : Plan). writePlan view a x r .paths) todo
-
-    lowest-after : LowestPath (a .clock) (R .paths) (pathPlace (a .clock) r (destination a)) after
-    unfolding viewAt pathPlace isLivePath announcedPath
-    lowest-after =
-        let size : length (r .paths) ≡ pathCount =
-        table-length (slotOk pathOk) pathCount (r .paths) (accepted-valid r a (length output) taken .paths) in
-        let (key, _, low) = found-lowest _ _ pathCount (a .clock) (r .paths) size (destination a) p (h .live) in
-        subst (λ (paths : List (Slot Path)). LowestPath (a .clock) paths (pathPlace (a .clock) r (destination a)) after) (sym new-paths)
-        (lowest-renewed _ _ pathCount (a .clock) (r .paths) size _ p low after (sym key))
-
-    shown-after : viewAt (a .clock) R .path (destination a) ≡ used after
-    unfolding viewAt pathPlace isLivePath announcedPath
-    shown-after =
-        let some = lifetime-some (view .mode (a .port)) in
-        lowest-found _ _ pathCount (a .clock) (R .paths) _ after lowest-after (lt-ltb (a .clock) (pathExpiry view a) (omega (arith, some)))
-
-    forgiven-after : Forgiven p after a
-    unfolding announcedPath announcedRate entryAccepted
-    forgiven-after =
-        record { last = refl; violations = ap (λ (x : Rated). x .violations) says; stays = ap (λ (x : Rated). x .«blocked_until») says }
+  -- where test 15 is made
+  forgiven-after : revives a p ≡ false → Forgiven p (announcedPath view a (used p)) a
+  unfolding announcedPath announcedRate entryAccepted
+  forgiven-after made =
+      let by-rule : announcedRate view a (used p) ≡ entryAccepted (view .rate) (a .clock) (p .rate) = then-false _ _ made in
+      record {
+        last = ap (λ (e : RateEntry). e .last) by-rule;
+        violations = ap (λ (e : RateEntry). e .violations) by-rule ∙ ap (λ (x : Rated). x .violations) says;
+        stays = ap (λ (e : RateEntry). e .«blocked_until») by-rule ∙ ap (λ (x : Rated). x .«blocked_until») says;
+      }
 
   forgiven-then : reachesRate a (length output) r ≡ true → (p′ : Path) × (viewAt (a .clock) R .path (destination a) ≡ used p′) × Forgiven p p′ a
   unfolding reachesRate
   forgiven-then e =
       let taken = and-left _ _ e in
-      let todo = past-rate view a p (h .announce) (h .live) off (reaches view a (and-right _ _ e)) in
-      (announcedPath view a (used p), shown-after taken todo, forgiven-after taken todo)
+      let rest = and-right _ _ e in
+      let made = not-true _ (and-left _ _ (sym (known-made view a p (h .announce) (h .live)) ∙ and-left _ _ rest)) in
+      let todo = past-rate view a p (h .announce) (h .live) off (reaches view a (and-right _ _ rest)) in
+      (announcedPath view a (used p), shown-after a output r t taken p (h .live) todo, forgiven-after made)
 
 pub on-time-let-by : OnTimeLetBy
 on-time-let-by p a output r t h = record { not-dropped = not-dropped-then p a output r t h; forgiven = forgiven-then p a output r t h }

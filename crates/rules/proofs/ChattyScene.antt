@@ -19,7 +19,7 @@ use Rattle.rules.specs.Ways.{everywhere}
 use Rattle.rules.specs.Tests.{badForm}
 use Rattle.rules.specs.Calls.{newTally}
 use Rattle.rules.specs.Run.{Call, port-setting, rate-setting, Reply, numbered, Outcome, ofJudgement, perform}
-use Rattle.rules.specs.Chatty.{RateDrop, WhileBlocked, OnTime, reachesRate, SpacedCall, Spaced}
+use Rattle.rules.specs.Chatty.{RateDrop, WhileBlocked, OnTime, rateIsMade, reachesRate, SpacedCall, Spaced}
 use Rattle.rules.specs.declared.RateSettings.{RateSettings}
 use Rattle.rules.specs.declared.RateEntry.{RateEntry}
 use Rattle.rules.specs.declared.Tally.{Tally}
@@ -46,7 +46,7 @@ hears k clock = arrives (sent k) clock 1
 abbrev pub spreadOf : ℕ → Reply
 spreadOf k = spreads (0x71 ∷ 1 ∷ (own ++ (destination ++ (0x00 ∷ announceBody (emitted k))))) 2
 
-form : (k : ℕ) → badForm (sent k) ≡ false
+pub form : (k : ℕ) → badForm (sent k) ≡ false
 unfolding rules hashing
 form k = refl
 
@@ -56,7 +56,7 @@ blobsOf ks = record { count = length ks; places = map (λ k. blobWith (emitted k
 
 abbrev pub pathOf : ℕ → RateEntry → List ℕ → Path
 pathOf expiry rate ks =
-    record { destination = destination; port = 1; hops = 0; nextHop = destination; expiry = expiry; rate = rate; blobs = blobsOf ks }
+    record { destination = destination; port = 1; hops = 0; nextHop = destination; expiry = expiry; rate = rate; marked = false; blobs = blobsOf ks }
 
 abbrev pub counting : (dropped spread : ℕ) → Tally
 counting dropped spread = record { total = dropped + spread; dropped = dropped; delivered = 0; forwarded = 0; spread = spread; kept = 0 }
@@ -65,7 +65,7 @@ abbrev pub heardRelay : RateSettings → ℕ → Path → List (Slot Remembered)
 heardRelay s clock p hashes = withRate s (relayOf clock (used p ∷ []) [] [] hashes)
 
 -- a packet that is new and isn't refused is judged
-hear : (k clock : ℕ) (r : Relay) (t : Tally) → length (r .hashes .slots) ≡ hashCount
+pub hear : (k clock : ℕ) (r : Relay) (t : Tally) → length (r .hashes .slots) ≡ hashCount
     → passes (λ m. live clock (m .expiry) and same (m .hash) (packetHash (sent k))) (r .hashes .slots) ≡ false
     → packetRefusal r (arrival (sent k) clock 1) (length blank) ≡ 0
     → perform (hears k clock) r t ≡ ofJudgement (goodJudge false (arrival (sent k) clock 1) r t blank)
@@ -142,19 +142,20 @@ fourth-heard = hear 4 2600 stillBlocked (counting 2 1) refl refl refl
 -- the third came while the path was blocked, the fourth at the clock until which it was
 pub while-blocked : WhileBlocked blockedPath (arrival (sent 3) 1800 1) blockedRelay
 unfolding rules
-while-blocked = record { announce = refl; live = refl; blocked = lit≤ tt }
+while-blocked = record { announce = refl; live = refl; unmarked = refl; blocked = lit≤ tt }
 
 pub on-time : OnTime blockedPath (arrival (sent 4) 2600 1) stillBlocked
 unfolding rules
 on-time = record { announce = refl; live = refl; free = lit≤ tt; spaced = lit≤ tt }
 
 pub fourth-reaches : reachesRate (arrival (sent 4) 2600 1) (length blank) stillBlocked ≡ true
-unfolding rules passes goodPlan ofTest reachesRate
+unfolding rules passes goodPlan ofTest reachesRate rateIsMade
 fourth-reaches =
     let a : Arrival = arrival (sent 4) 2600 1 in
     let v : View = viewAt 2600 stillBlocked in
     and-both refl
-    (follows-reached v a (everywhere (used blockedPath)) (plan-good v a (seen-quick 2600 stillBlocked (packetHash (sent 4)) refl) (form 4)))
+    (and-both refl
+    (follows-reached v a (everywhere (used blockedPath)) (plan-good v a (seen-quick 2600 stillBlocked (packetHash (sent 4)) refl) (form 4))))
 
 -- ---- target interval 0 or 300 s: the announces come every 300 s, and all are spread
 module _ (target : ℕ) where

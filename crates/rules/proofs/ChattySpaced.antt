@@ -1,12 +1,13 @@
 -- Wish 5, (d): from fresh with no load, a destination whose announces keep the target interval is never blocked, whatever the others do.
 use Prim.Native.Nat.{ℕ, _-_}
 use native.Mathlib.Omega.{arith}
-use mathlib.Core.Bool.{true, false, false≢true}
+use mathlib.Core.Bool.{true, false, not, false≢true}
 use mathlib.Core.List.{List, [], _∷_}
 use mathlib.Core.Path.{_≡_, refl, sym, ap, subst, _∙_}
 use lib.Dec.{eqb}
 use lib.ListN.{length}
-use Rattle.octets.proofs.Index.{and-both}
+use borrow.Author.Tests.{not-true}
+use Rattle.octets.proofs.Index.{and-left, and-right, and-both}
 use Rattle.packet.specs.Header.{isAnnounce}
 use Rattle.numbers.specs.Numbers.{pathCount, live}
 use Rattle.rules.specs.Relay.{Slot, empty, used, Path, Relay, fresh, withPaths}
@@ -14,16 +15,18 @@ use Rattle.rules.specs.View.{View, viewAt, isLivePath, pathPlace}
 use Rattle.rules.specs.Renumbering.{renamePath}
 use Rattle.rules.specs.Refusals.{slotOk, pathOk, packetRefusal}
 use Rattle.rules.specs.Arrival.{Arrival, header, destination}
-use Rattle.rules.specs.Rate.{letsBy, rated, entryAccepted, entryDropped}
+use Rattle.rules.specs.Rate.{letsBy, rated, entryAccepted, entryRevived, entryDropped}
 use Rattle.rules.specs.Ways.{Way, everywhere, by-path, along-link, by-return, blocked, wayOn}
-use Rattle.rules.specs.Tests.{ofKnown, rateLimited}
+use Rattle.rules.specs.Tests.{revives, ofKnown, rateLimited}
 use Rattle.rules.specs.Judging.{Plan, dropped, delivered, follows, plan}
 use Rattle.rules.specs.Writes.{announcedRate, announcedPath, putPath, limitPath, enact}
-use Rattle.rules.specs.Calls.{newTally, TableCall, sets-port, sets-rate, adds, removes, renumbers, ruleOf}
+use Rattle.rules.specs.Calls.{newTally, TableCall, sets-port, sets-rate, adds, removes, renumbers, marks, ruleOf}
 use Rattle.rules.specs.Questions.{ofTest}
 use Rattle.rules.specs.Run.{Call, packet, on-tables, asks, saves, loads, perform, setsRelay, noneLoads}
 use Rattle.rules.specs.Chatty.{planIf, reachesRate, SpacedCall, Spaced, NotDropped, NeverBlocked, SpacedNeverBlocked}
+use Rattle.rules.specs.declared.RateEntry.{RateEntry}
 use Rattle.rules.specs.declared.Rated.{Rated}
+use Rattle.rules.proofs.Choices.{either}
 use Rattle.rules.specs.declared.Tally.{Tally}
 use Rattle.rules.proofs.Tables.{table-length}
 use Rattle.rules.proofs.Slots.{Every, every-set, every-fresh, every-renamed, found-key}
@@ -31,9 +34,10 @@ use Rattle.rules.proofs.Passed.{passed}
 use Rattle.rules.proofs.Followed.{Planned, planned}
 use Rattle.rules.proofs.Held.{Property, Holds, WayKeeps, PlanKeeps, TableKeeps, enact-held, table-held, packet-kept, table-kept-by, ask-kept, save-kept, load-kept, first-none, others-none}
 use Rattle.rules.proofs.Valid.{accepted-valid}
+use Rattle.rules.proofs.Marks.{mark-every}
 use Rattle.rules.proofs.RateLaws.{rated-on-time}
 use Rattle.rules.proofs.ChattyPlan.{isSpread, spread-announce, limited-spread, announce-way, follows-reached, dropped-reached, rate-dropped}
-use Rattle.rules.proofs.ChattyPacket.{known-limited}
+use Rattle.rules.proofs.ChattyPacket.{known-limited, known-made}
 
 module _ (d : List ℕ) where
   -- ---- what holds all along: no record of the destination is blocked
@@ -86,24 +90,33 @@ module _ (d : List ℕ) where
         table-length (slotOk pathOk) pathCount (r .paths) (accepted-valid r a (length output) taken .paths) in
         found-key (λ (p : Path). live (a .clock) (p .expiry)) (λ (p : Path). p .destination) (destination a) pathCount (r .paths) size p known .0
 
-    module _ (announce : isAnnounce (header a) ≡ true) (is : destination a ≡ d) (reach : ofTest 15 (planIf true seen a) ≡ true)
-        (p : Path) (known : seen .path (destination a) ≡ used p) where
-      not-blocked : p .rate .«blocked_until» ≡ 0
-      unfolding viewAt
-      not-blocked = h .paths _ p known refl (its-key p known ∙ is)
+    not-blocked : destination a ≡ d → (p : Path) → seen .path (destination a) ≡ used p → p .rate .«blocked_until» ≡ 0
+    unfolding viewAt
+    not-blocked is p known = h .paths _ p known refl (its-key p known ∙ is)
 
+    -- an announce that test 15 is made of
+    module _ (announce : isAnnounce (header a) ≡ true) (is : destination a ≡ d) (reach : ofTest 15 (planIf true seen a) ≡ true)
+        (p : Path) (known : seen .path (destination a) ≡ used p) (made : revives a p ≡ false) where
       on-time : rated (seen .rate) (a .clock) (p .rate) ≡ letsBy (p .rate .violations - 1) (p .rate .«blocked_until»)
       unfolding viewAt reachesRate
       on-time =
-          let none = not-blocked in
+          let none = not-blocked is p known in
+          let is-made = known-made seen a p announce known ∙ and-both (ap not made) refl in
           rated-on-time (r .rate) (a .clock) (p .rate) (omega (arith, none))
-          (spaced p announce is (subst (λ (x : List ℕ). viewAt (a .clock) r .path x ≡ used p) is known) (and-both taken reach))
+          (spaced p announce is (subst (λ (x : List ℕ). viewAt (a .clock) r .path x ≡ used p) is known) (and-both taken (and-both is-made reach)))
 
       still-free : rated (seen .rate) (a .clock) (p .rate) .«blocked_until» ≡ 0
-      still-free = ap (λ (x : Rated). x .«blocked_until») on-time ∙ not-blocked
+      still-free = ap (λ (x : Rated). x .«blocked_until») on-time ∙ not-blocked is p known
 
       lets-by : rated (seen .rate) (a .clock) (p .rate) .dropped ≡ false
       lets-by = ap (λ (x : Rated). x .dropped) on-time
+
+    -- where it holds, it is made
+    holds-made : isAnnounce (header a) ≡ true → (p : Path) → seen .path (destination a) ≡ used p → rateLimited seen a (wayOn seen a) ≡ true
+        → (revives a p ≡ false) × (rated (seen .rate) (a .clock) (p .rate) .dropped ≡ true)
+    holds-made announce p known holds-then =
+        let both = sym (known-limited seen a p announce known) ∙ holds-then in
+        (not-true _ (and-left _ _ both), and-right _ _ both)
 
     -- test 15 drops no announce of it
     unlimited : isAnnounce (header a) ≡ true → destination a ≡ d → ofTest 15 (plan seen a) ≡ true → ⊥
@@ -116,7 +129,8 @@ module _ (d : List ℕ) where
         go reach holds-then empty e =
             false≢true (sym (ap (rateLimited seen a) (announce-way seen a announce ∙ ap everywhere e)) ∙ holds-then)
         go reach holds-then (used p) e =
-            false≢true (sym (lets-by announce is reach p e) ∙ sym (known-limited seen a p announce e) ∙ holds-then)
+            let (made, dropped-then) = holds-made announce p e holds-then in
+            false≢true (sym (lets-by announce is reach p e made) ∙ dropped-then)
 
     limit-free : ofTest 15 (plan seen a) ≡ true → (s : Slot Path) → seen .path (destination a) ≡ s → free .paths (limitPath seen a s r .paths)
     unfolding limitPath withPaths entryDropped
@@ -124,13 +138,16 @@ module _ (d : List ℕ) where
     limit-free by15 (used p) e =
         let (holds-then, reach) = dropped-reached seen a by15 in
         let announce = spread-announce seen a (limited-spread seen a (wayOn seen a) holds-then) in
-        every-set _ _ (r .paths) _ _ (h .paths) (λ is. still-free announce (sym (its-key p e) ∙ is) reach p e)
+        let made = holds-made announce p e holds-then .0 in
+        every-set _ _ (r .paths) _ _ (h .paths) (λ is. still-free announce (sym (its-key p e) ∙ is) reach p e made)
 
     announced-free : isAnnounce (header a) ≡ true → ofTest 15 (planIf true seen a) ≡ true → (s : Slot Path) → seen .path (destination a) ≡ s
         → Free (announcedPath seen a s)
-    unfolding announcedPath announcedRate entryAccepted
+    unfolding announcedPath announcedRate entryAccepted entryRevived
     announced-free announce reach empty e is = refl
-    announced-free announce reach (used p) e is = still-free announce is reach p e
+    announced-free announce reach (used p) e is =
+        either (λ (x : RateEntry). x .«blocked_until» ≡ 0) (revives a p)
+        (λ _. not-blocked is p e) (λ made. still-free announce is reach p e made)
 
     way-free : (w : Way) → Planned seen a (follows w) → plan seen a ≡ follows w → WayKeeps free seen a r w
     unfolding putPath withPaths isSpread
@@ -163,6 +180,7 @@ module _ (d : List ℕ) where
       go (adds address) = tt
       go (removes address) = tt
       go (renumbers images) = (tt, every-renamed _ _ (renamePath images) (λ _. refl) (λ p k. k) (r .paths) (h .paths), tt, tt)
+      go (marks destination clock) = (tt, mark-every destination clock r _ (λ _. refl) _ (λ p k. k) (h .paths))
 
   module _ (r : Relay) (h : FreeRelay r) (t : Tally) where
     call-free : (c : Call) → setsRelay c ≡ false → SpacedCall d c r → FreeRelay (perform c r t .relay)

@@ -1,20 +1,20 @@
 -- What the tests leave of a packet that follows a way: where the way's record was found, and which tests did not hold.
 use Prim.Native.Nat.{ℕ, _%_}
 use native.Mathlib.Omega.{arith}
-use mathlib.Core.Bool.{true, false, false≢true}
-use mathlib.Core.Path.{_≡_, refl, sym, subst, _∙_}
-use borrow.Author.Tests.{eq-eqb, eqb-false}
+use mathlib.Core.Bool.{Bool, true, false, not, false≢true}
+use mathlib.Core.Path.{_≡_, refl, sym, ap, subst, _∙_}
+use borrow.Author.Tests.{eq-eqb, eqb-false, not-true}
 use Rattle.octets.specs.Choice.{_or_}
-use Rattle.octets.proofs.Index.{and-left, and-right, and-yes}
+use Rattle.octets.proofs.Index.{and-left, and-right, and-both, and-yes}
 use Rattle.packet.specs.Header.{ofKindLink, packetKind, isData, isAnnounce, isLinkRequest, isProof}
 use Rattle.octets.specs.Listed.{firstOf}
 use Rattle.rules.specs.Relay.{Slot, empty, used, Path, Return}
 use Rattle.rules.specs.View.{View}
 use Rattle.rules.specs.Arrival.{Arrival, hops, header, destination, hash, isLinkProof}
 use Rattle.rules.specs.Ways.{Way, everywhere, by-path, along-link, by-return, blocked, pathWay, linkWay, returnWay, wayOn}
-use Rattle.rules.specs.Tests.{testedAsDuplicate, duplicate, tooManyHops, alreadyKnown, replay}
+use Rattle.rules.specs.Tests.{forMarkedPath, testedAsDuplicate, duplicate, tooManyHops, alreadyKnown}
 use Rattle.rules.specs.Judging.{Plan, dropped, delivered, follows, earlyTests, plan}
-use Rattle.rules.specs.Writes.{remembersPlan, remembers}
+use Rattle.rules.specs.Writes.{remembersPlan, alreadyLive, remembers}
 use Rattle.rules.specs.declared.Link.{Link}
 use Rattle.rules.proofs.Choices.{either}
 use Rattle.rules.proofs.Passed.{passed}
@@ -32,7 +32,6 @@ pub record Followed (v : View) (a : Arrival) (w : Way) : Type 0 where
   pub found : Found v a w
   pub fewHops : tooManyHops (hops a) ≡ false
   pub unknown : alreadyKnown v a w ≡ false
-  pub newBlob : replay a w ≡ false
 
 -- what is neither announce, proof nor data is a link request
 pub is-request : (h : ℕ) → isAnnounce h ≡ false → isProof h ≡ false → isData h ≡ false → isLinkRequest h ≡ true
@@ -82,7 +81,7 @@ module _ (v : View) (a : Arrival) where
       go delivered e = tt
       go (follows w) e =
           let (way, p) = passed v a w e in
-          record { found = subst (Found v a) way found-way; fewHops = p .fewHops; unknown = p .unknown; newBlob = p .newBlob }
+          record { found = subst (Found v a) way found-way; fewHops = p .fewHops; unknown = p .unknown }
 
   -- where the plan says so, the packet is no duplicate
   planned-new : remembersPlan (plan v a) ≡ true → duplicate v a ≡ false
@@ -93,5 +92,9 @@ module _ (v : View) (a : Arrival) where
 
   -- a hash that is now remembered was not remembered
   pub remembered-new : remembers v a (plan v a) ≡ true → v .remembered (hash a) ≡ false
-  unfolding remembers duplicate testedAsDuplicate
-  remembered-new h = sym (and-yes _ (and-left _ _ h)) ∙ planned-new (and-right _ _ h)
+  unfolding remembers alreadyLive duplicate testedAsDuplicate
+  remembered-new h = go (forMarkedPath v a) refl
+    where
+      go : (b : Bool) → forMarkedPath v a ≡ b → v .remembered (hash a) ≡ false
+      go true e = sym (and-yes _ e) ∙ not-true _ (and-left _ _ (and-right _ _ h))
+      go false e = sym (and-yes _ (and-both (and-left _ _ h) (ap not e))) ∙ planned-new (and-right _ _ (and-right _ _ h))

@@ -102,7 +102,7 @@ module _ (l : Link) (a : Arrival) (k : keepsAlive l a ≡ true) where
   module _ (v : View) where
     not-duplicate : duplicate v a ≡ false
     unfolding duplicate testedAsDuplicate
-    not-duplicate = and-no _ (ap not is-exempt)
+    not-duplicate = and-no _ (and-no _ (ap not is-exempt))
 
     elsewhere : deliveredHere v a ≡ false
     unfolding deliveredHere

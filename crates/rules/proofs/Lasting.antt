@@ -8,26 +8,26 @@ use mathlib.Core.Path.{_≡_, refl, sym, ap, subst, _∙_}
 use lib.Dec.{eqb, ltb}
 use lib.ListN.{length, getD, set, length-set}
 use lib.Seq.{getD-set-same, getD-set-other, set-out}
-use borrow.Author.Tests.{ltb-true, lt-ltb, eqb-true, eq-eqb, not-true, not-false}
+use borrow.Author.Tests.{ltb-true, ltb-false, lt-ltb, eq-eqb, not-true}
 use Rattle.octets.specs.Index.{_and_}
 use Rattle.octets.specs.Choice.{_then_otherwise_, _or_, same}
 use Rattle.octets.specs.Part.{patch}
 use Rattle.octets.proofs.Index.{and-left, and-both, and-no, and-yes, first-holds}
-use Rattle.octets.proofs.Choice.{then-true, then-false, or-no-left, same-eq, eq-same}
-use Rattle.octets.proofs.Listed.{allGive, refuses, rows-passed}
+use Rattle.octets.proofs.Choice.{then-true, then-false, or-no-left, or-no-right, same-eq, eq-same}
+use Rattle.octets.proofs.Listed.{NoneHolds}
 use Rattle.packet.specs.Header.{isData}
 use Rattle.packet.specs.Hash.{linkId}
 use Rattle.numbers.specs.Numbers.{portCount, linkCount, provedLifetime, live}
 use Rattle.rules.specs.Relay.{Port, Slot, empty, used, makePort, noPort, Path, Relay, holds, free, lowestFree, withClock, withRate, withPorts, withLocals, withPaths, withLinks, withReturns, withHashes}
 use Rattle.rules.specs.View.{View, viewAt, portOn, isLiveLink, linkPlace, freeLink}
-use Rattle.rules.specs.Refusals.{slotOk, linkOk, packetRows, packetRefusal, refusalBy}
+use Rattle.rules.specs.Refusals.{slotOk, linkOk, tablesOk, packetRefusal}
 use Rattle.rules.specs.Arrival.{Arrival, header, hops, destination}
 use Rattle.rules.specs.Ways.{Way, everywhere, by-path, along-link, by-return, blocked}
 use Rattle.rules.specs.Tests.{isThere, alreadyKnown, fromAnsweringSide, fromAskingSide, leavingPort}
 use Rattle.rules.specs.Outgoing.{outgoing, carriedPacket}
 use Rattle.rules.specs.Judging.{Plan, dropped, delivered, follows, plan, verdict, wayVerdict, leaves, outputAfter}
-use Rattle.rules.specs.Writes.{putPath, putReturn, emptyReturn, linkRecord, putLink, renewedLink, renewLink, writeWay, writePlan, remember, remembers, stamp, enact}
-use Rattle.rules.specs.Calls.{Judgement, judged, judge, packetCall, TableCall, sets-port, sets-rate, adds, removes, renumbers, ruleOf}
+use Rattle.rules.specs.Writes.{putPath, markPath, putReturn, emptyReturn, linkRecord, putLink, renewedLink, renewLink, writeWay, writePlan, remember, remembers, stamp, enact}
+use Rattle.rules.specs.Calls.{Judgement, judged, judge, packetCall, TableCall, sets-port, sets-rate, adds, removes, renumbers, marks, ruleOf}
 use Rattle.rules.specs.Run.{Call, packet, on-tables, asks, saves, loads, answered, ofJudgement, perform}
 use Rattle.rules.specs.Keepalives.{keepsAlive, until, UpAt, Carried, accepted, fair, nextDeadline, Starts, InTime, CarriedIf, Lasts}
 use Rattle.rules.specs.declared.Link.{Link}
@@ -37,12 +37,13 @@ use Rattle.rules.specs.declared.Answer.the-variants.{Judged}
 use Rattle.rules.proofs.Choices.{either, and-false}
 use Rattle.rules.proofs.Tables.{table-length}
 use Rattle.rules.proofs.Slots.{used-same}
+use Rattle.rules.proofs.Rows.{table-passed, table-ok}
 use Rattle.rules.proofs.Lowest.{Lowest, lowest-later, lowest-place, lowest-found, found-lowest, lowest-other, lowest-renewed}
 use Rattle.rules.proofs.Accepted.{accepted-packet}
 use Rattle.rules.proofs.Stamped.{drop-kept, enact-clock, enact-links}
 use Rattle.rules.proofs.Followed.{Followed, Planned, planned, is-request}
 use Rattle.rules.proofs.Held.{judged-relay, packet-kept, table-kept-by, ask-kept, save-kept, load-kept}
-use Rattle.rules.proofs.Valid.{accepted-valid}
+use Rattle.rules.proofs.Valid.{valid-of, ok-of, accepted-valid}
 use Rattle.rules.proofs.Keepalive.{names-link, keepalive-follows}
 
 -- ---- the link table through one packet
@@ -317,11 +318,26 @@ still-on r port on mode p rightly h = go (ℕ-discrete p port) (decLt port (leng
     go (yes q) (no l) = ap (λ (xs : List Port). ltb p portCount and getD xs p noPort .on) (set-out (r .ports) port (makePort on mode) (omega arith)) ∙ h
     go (no q) b = ap (λ (x : Port). ltb p portCount and x .on) (getD-set-other (r .ports) port p (makePort on mode) noPort q) ∙ h
 
--- a call on the tables leaves clock and links, and both ports on
+-- the link at a later clock that is before its deadline
+up-later : (l : Link) (deadline : ℕ) (r : Relay) (s : Starts l deadline r) (clock : ℕ) → tablesOk r ≡ true → r .clock ≤ clock → clock < deadline
+    → UpAt l (s .expiry) clock r
+unfolding viewAt linkPlace isLiveLink
+up-later l deadline r s clock fine after before =
+    let e : ℕ = s .expiry in
+    let size : length (r .links) ≡ linkCount = table-length (slotOk linkOk) linkCount (r .links) (valid-of r fine .links) in
+    let low = found-lowest _ _ linkCount (r .clock) (r .links) size (l .id) (until l e) (s .up .lives) .2 in
+    let now = lowest-later _ _ linkCount (r .clock) clock after (r .links) _ (until l e) low in
+    record {
+      lives = lowest-found _ _ linkCount clock (r .links) _ (until l e) now (lt-ltb clock e (omega (arith, before, s .lasts)));
+      asking = s .up .asking;
+      answering = s .up .answering;
+    }
+
+-- a call on the tables leaves links, and both ports on
 table-up : (l : Link) (deadline : ℕ) (r : Relay) → Starts l deadline r → (c : TableCall) → fair l deadline (on-tables c) ≡ true
-    → Starts l deadline (ruleOf c .after r)
-unfolding ruleOf fair viewAt linkPlace withRate withPorts withLocals portOn
-table-up l deadline r s (sets-port port on mode) h =
+    → tablesOk r ≡ true → NoneHolds (ruleOf c .rows r) → Starts l deadline (ruleOf c .after r)
+unfolding ruleOf fair viewAt linkPlace withClock withRate withPorts withLocals markPath withPaths portOn
+table-up l deadline r s (sets-port port on mode) h fine n =
     record {
       expiry = s .expiry;
       up =
@@ -333,43 +349,44 @@ table-up l deadline r s (sets-port port on mode) h =
       lasts = s .lasts;
       near = s .near;
     }
-table-up l deadline r s (sets-rate target grace penalty) h =
+table-up l deadline r s (sets-rate target grace penalty) h fine n =
     record {
       expiry = s .expiry;
       up = record { lives = s .up .lives; asking = s .up .asking; answering = s .up .answering };
       lasts = s .lasts;
       near = s .near;
     }
-table-up l deadline r s (adds address) h =
+table-up l deadline r s (adds address) h fine n =
     record {
       expiry = s .expiry;
       up = record { lives = s .up .lives; asking = s .up .asking; answering = s .up .answering };
       lasts = s .lasts;
       near = s .near;
     }
-table-up l deadline r s (removes address) h =
+table-up l deadline r s (removes address) h fine n =
     record {
       expiry = s .expiry;
       up = record { lives = s .up .lives; asking = s .up .asking; answering = s .up .answering };
       lasts = s .lasts;
       near = s .near;
     }
-table-up l deadline r s (renumbers images) h = absurd (false≢true h)
+table-up l deadline r s (renumbers images) h fine n = absurd (false≢true h)
+-- a mark sets the clock too
+table-up l deadline r s (marks destination clock) h fine n =
+    let after : r .clock ≤ clock = ltb-false _ _ (or-no-right _ _ (n .0)) in
+    let up = up-later l deadline r s clock fine after (ltb-true clock deadline h) in
+    record {
+      expiry = s .expiry;
+      up = record { lives = up .lives; asking = s .up .asking; answering = s .up .answering };
+      lasts = s .lasts;
+      near = omega (arith, after, s .near);
+    }
 
--- the link at a later clock that is before its deadline
-up-later : (l : Link) (deadline : ℕ) (r : Relay) (s : Starts l deadline r) (a : Arrival) (room : ℕ) → eqb (packetRefusal r a room) 0 ≡ true
+-- .. at a packet's clock
+packet-up : (l : Link) (deadline : ℕ) (r : Relay) (s : Starts l deadline r) (a : Arrival) (room : ℕ) → eqb (packetRefusal r a room) 0 ≡ true
     → a .clock < deadline → UpAt l (s .expiry) (a .clock) r
-unfolding viewAt linkPlace isLiveLink
-up-later l deadline r s a room taken before =
-    let e : ℕ = s .expiry in
-    let size : length (r .links) ≡ linkCount = table-length (slotOk linkOk) linkCount (r .links) (accepted-valid r a room taken .links) in
-    let low = found-lowest _ _ linkCount (r .clock) (r .links) size (l .id) (until l e) (s .up .lives) .2 in
-    let now = lowest-later _ _ linkCount (r .clock) (a .clock) (accepted-packet r a room taken .notBefore) (r .links) _ (until l e) low in
-    record {
-      lives = lowest-found _ _ linkCount (a .clock) (r .links) _ (until l e) now (lt-ltb (a .clock) e (omega (arith, before, s .lasts)));
-      asking = s .up .asking;
-      answering = s .up .answering;
-    }
+packet-up l deadline r s a room taken before =
+    up-later l deadline r s (a .clock) (ok-of r (accepted-valid r a room taken)) (accepted-packet r a room taken .notBefore) before
 
 module _ (l : Link) (deadline : ℕ) where
   call-up : (c : Call) (r : Relay) (t : Tally) → Starts l deadline r → (accepted c r ≡ true → fair l deadline c ≡ true)
@@ -384,7 +401,7 @@ module _ (l : Link) (deadline : ℕ) where
       before e = ltb-true (a .clock) deadline (justly e)
 
       later : (e : eqb (packetRefusal r a (length output)) 0 ≡ true) → UpAt l (s .expiry) (a .clock) r
-      later e = up-later l deadline r s a (length output) e (before e)
+      later e = packet-up l deadline r s a (length output) e (before e)
 
       near : eqb (packetRefusal r a (length output)) 0 ≡ true → deadline ≤ a .clock + provedLifetime
       near e = let after = accepted-packet r a (length output) e .notBefore in omega (arith, after, s .near)
@@ -400,7 +417,7 @@ module _ (l : Link) (deadline : ℕ) where
       go true h false k =
           subst (λ (n : ℕ). Starts l n R) (sym (then-false _ _ (ap (λ (b : Bool). eqb (packetRefusal r a (length output)) 0 and b) k ∙ and-false _)))
           (any-packet l (s .expiry) r a output t (later h) h deadline (s .lasts) (near h) (before h))
-  call-up (on-tables c) r t s justly = table-kept-by (Starts l deadline) s c t (λ e. table-up l deadline r s c (justly e))
+  call-up (on-tables c) r t s justly = table-kept-by (Starts l deadline) s c t (λ e. table-up l deadline r s c (justly e) (table-ok c r e) (table-passed c r e))
   call-up (asks q) r t s justly = ask-kept (Starts l deadline) s q t
   call-up (saves f room) r t s justly = save-kept (Starts l deadline) s f room t
   call-up (loads f file) r t s justly = load-kept (Starts l deadline) s f file t (λ e. absurd (false≢true (justly e)))
@@ -409,7 +426,7 @@ module _ (l : Link) (deadline : ℕ) where
       → CarriedIf l c (accepted c r) (perform c r t .reply) (perform c r t .relay)
   unfolding accepted fair CarriedIf
   call-carried (packet a output) r t s justly = λ e k.
-      let now = up-later l deadline r s a (length output) e (ltb-true (a .clock) deadline (justly e)) in
+      let now = packet-up l deadline r s a (length output) e (ltb-true (a .clock) deadline (justly e)) in
       keepalive-carried l (s .expiry) r a output t now k e
   call-carried (on-tables c) r t s justly = tt
   call-carried (asks q) r t s justly = tt

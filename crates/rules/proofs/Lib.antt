@@ -38,6 +38,7 @@ pub mod CallsRenamed
 pub mod RunRenamed
 pub mod RenumberedTwice
 pub mod Renumbering
+pub mod Marks
 pub mod UniqueAt
 pub mod UniqueWrites
 pub mod Unique
@@ -45,8 +46,12 @@ pub mod Keepalive
 pub mod Lasting
 pub mod RateLaws
 pub mod ChattyPlan
+pub mod Announced
 pub mod ChattyPacket
 pub mod ChattyOff
 pub mod ChattySpaced
 pub mod ChattyScene
 pub mod Reasons
+pub mod Revived
+pub mod StaysMarked
+pub mod DeadPathScene

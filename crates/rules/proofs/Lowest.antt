@@ -3,9 +3,9 @@ use Prim.Native.Nat.{ℕ, _≤_, _<_}
 use native.Mathlib.Decide.{ℕ-discrete, decLt}
 use native.Mathlib.Omega.{arith}
 use mathlib.Core.Bool.{Bool, true, false, false≢true}
-use mathlib.Core.List.{List}
+use mathlib.Core.List.{List, map}
 use mathlib.Core.Path.{_≡_, refl, sym, ap, _∙_}
-use lib.ListN.{length, getD, set, List·getD-eq-default}
+use lib.ListN.{length, getD, set, List·getD-eq-default, List·getD-map}
 use lib.Seq.{getD-set-same, getD-set-other}
 use borrow.Author.Tests.{le-ltb, ltb-false}
 use Rattle.octets.specs.Index.{_and_}
@@ -14,7 +14,8 @@ use Rattle.octets.proofs.Index.{and-left, and-right, and-both, first-holds, fir
 use Rattle.octets.proofs.Choice.{same-eq, eq-same}
 use Rattle.numbers.specs.Numbers.{live}
 use Rattle.rules.specs.Relay.{Slot, empty, used, holds, lowest}
-use Rattle.rules.proofs.Slots.{used-same, used-not-empty}
+use Rattle.rules.specs.Renumbering.{renameSlot}
+use Rattle.rules.proofs.Slots.{used-same, used-not-empty, written, renamed, renamed-at}
 
 module _ {A : Type 0} (key : A → List ℕ) (expiry : A → ℕ) (n : ℕ) where
   -- the live records of a key at a clock
@@ -107,3 +108,55 @@ module _ {A : Type 0} (key : A → List ℕ) (expiry : A → ℕ) (n : ℕ) wher
         inside = f .inside;
         below = λ k z m e p. f .below k z m (sym (getD-set-other slots i k (used y) empty (omega arith)) ∙ e) (p ∙ q);
       }
+
+  -- each record stood there before, with the same key and expiry
+  lowest-from : (now : ℕ) (old new : List (Slot A)) (i : ℕ) (x y : A) → Lowest now old i x → getD new i empty ≡ used y → key y ≡ key x
+      → ((j : ℕ) (z : A) → getD new j empty ≡ used z → (w : A) × (getD old j empty ≡ used w) × (key z ≡ key w) × (expiry z ≡ expiry w))
+      → Lowest now new i y
+  lowest-from now old new i x y f there q from =
+      record {
+        here = there;
+        inside = f .inside;
+        below = λ j z m e k.
+            let (w, o, kw, ew) = from j z e in
+            ap (live now) ew ∙ f .below j w m o (sym kw ∙ k ∙ q);
+      }
+
+  module _ (change : A → A) (keyed : (y : A) → key (change y) ≡ key y) (expires : (y : A) → expiry (change y) ≡ expiry y) where
+    -- all records are changed
+    pub lowest-mapped : (now : ℕ) (slots : List (Slot A)) (i : ℕ) (x : A) → Lowest now slots i x → Lowest now (map (renameSlot change) slots) i (change x)
+    unfolding renameSlot
+    lowest-mapped now slots i x f =
+        lowest-from now slots (map (renameSlot change) slots) i x (change x) f
+        (List·getD-map (renameSlot change) slots i empty ∙ ap (renameSlot change) (f .here)) (keyed x)
+        (λ j z e.
+        let (y, o, q) = renamed-at change slots j z e in
+        (y, o, ap key (sym q) ∙ keyed y, ap expiry (sym q) ∙ expires y))
+
+    -- one is changed where it stands: itself, or another
+    pub lowest-changed : (So : A → Type 0) → ((y : A) → So y → So (change y)) → (now : ℕ) (slots : List (Slot A)) → length slots ≡ n
+        → (i : ℕ) (x : A) → Lowest now slots i x → So x → (j : ℕ)
+        → (y : A) × Lowest now (set slots j (renameSlot change (getD slots j empty))) i y × (key y ≡ key x) × (expiry y ≡ expiry x) × So y
+    unfolding renameSlot
+    lowest-changed So keeps now slots size i x f so j = go (ℕ-discrete i j)
+      where
+        new : List (Slot A)
+        new = set slots j (renameSlot change (getD slots j empty))
+
+        from : (k : ℕ) (z : A) → getD new k empty ≡ used z → (w : A) × (getD slots k empty ≡ used w) × (key z ≡ key w) × (expiry z ≡ expiry w)
+        from k z e =
+            written slots j _ k z e
+            (λ p q.
+            let (y, o, r) = renamed change (getD slots j empty) z q in
+            (y, ap (λ (h : ℕ). getD slots h empty) p ∙ o, ap key (sym r) ∙ keyed y, ap expiry (sym r) ∙ expires y))
+            (λ _ o. (z, o, refl, refl))
+
+        go : Dec (i ≡ j) → (y : A) × Lowest now new i y × (key y ≡ key x) × (expiry y ≡ expiry x) × So y
+        go (yes p) =
+            let l : j < length slots = omega (arith, size, p, f .inside) in
+            let there : getD new i empty ≡ used (change x) =
+            ap (λ (h : ℕ). getD new h empty) p
+            ∙ getD-set-same slots j _ empty l
+            ∙ ap (renameSlot change) (ap (λ (h : ℕ). getD slots h empty) (sym p) ∙ f .here) in
+            (change x, lowest-from now slots new i x (change x) f there (keyed x) from, keyed x, expires x, keeps x so)
+        go (no p) = (x, lowest-from now slots new i x x f (getD-set-other slots j i _ empty p ∙ f .here) refl from, refl, refl, so)

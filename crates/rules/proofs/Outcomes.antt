@@ -79,6 +79,7 @@ knownPath =
       nextHop = destination;
       expiry = 22600;
       rate = startsAt 1000;
+      marked = false;
       blobs = record { count = 1; places = blobWith emission ∷ replicate (blobLimit - 1) noBlob };
     }
 

@@ -15,16 +15,16 @@ use Rattle.rules.specs.View.{View}
 use Rattle.rules.specs.Renumbering.{image, oneToOne, renamePath, renameLink, renameReturn, renameSlot}
 use Rattle.rules.specs.Refusals.{timeOk, rateSettingsOk, rateEntryOk, pathOk, linkOk, returnOk, slotOk, tableOk}
 use Rattle.rules.specs.Arrival.{Arrival, hops}
-use Rattle.rules.specs.Rate.{oneMore, violated, rated, entryAccepted, entryDropped}
-use Rattle.rules.specs.Tests.{tooManyHops}
-use Rattle.rules.specs.Writes.{putNext, announcedBlobs, announcedRate, announcedPath, returnRecord, emptiedIf, linkRecord, renewedLink}
+use Rattle.rules.specs.Rate.{oneMore, violated, rated, entryAccepted, entryRevived, entryDropped}
+use Rattle.rules.specs.Tests.{tooManyHops, revives}
+use Rattle.rules.specs.Writes.{putNext, markedSlot, announcedBlobs, announcedRate, announcedPath, returnRecord, emptiedIf, linkRecord, renewedLink}
 use Rattle.rules.specs.declared.Link.{Link}
 use Rattle.rules.specs.declared.RateSettings.{RateSettings}
 use Rattle.rules.specs.declared.RateEntry.{RateEntry}
 use Rattle.rules.specs.declared.Rated.{Rated}
 use Rattle.rules.proofs.Choices.{either}
 use Rattle.rules.proofs.Tables.{table-set}
-use Rattle.rules.proofs.BlobLaws.{Counted, one-counted, add-counted}
+use Rattle.rules.proofs.BlobLaws.{Counted, one-counted, store-counted}
 
 -- ---- slots and rings
 -- a record that is put into a ring's next place, and the place after it
@@ -144,10 +144,16 @@ module _ (p : Path) (h : pathOk p ≡ true) where
       let h4 = and-right _ _ h3 in
       and-both (and-left _ _ h) (and-both (and-left _ _ h1) (and-both (and-left _ _ h2) (and-both (and-left _ _ h3) (and-both (and-left _ _ h4) k))))
 
+-- a mark leaves all of them
+pub marked-ok : (s : Slot Path) → slotOk pathOk s ≡ true → slotOk pathOk (markedSlot s) ≡ true
+unfolding slotOk pathOk markedSlot
+marked-ok empty h = refl
+marked-ok (used p) h = h
+
 announced-counted : (a : Arrival) (known : Slot Path) → slotOk pathOk known ≡ true → Counted blobLimit (announcedBlobs a known .count)
 unfolding announcedBlobs slotOk
 announced-counted a empty h = one-counted blobLimit (lit≤ tt) _
-announced-counted a (used p) h = add-counted blobLimit (lit≤ tt) _ (p .blobs) (path-counted p h)
+announced-counted a (used p) h = store-counted blobLimit (lit≤ tt) _ (p .blobs) (path-counted p h)
 
 module _ (a : Arrival) (port : a .port < portCount) (clock : a .clock < clockLimit) where
   arrival-port : ltb (a .port) portCount ≡ true
@@ -158,9 +164,12 @@ module _ (a : Arrival) (port : a .port < portCount) (clock : a .clock < clockLim
   time-small lifetime l = le-leb (a .clock + lifetime) timeLimit (omega arith)
 
   announced-rate : (v : View) (known : Slot Path) → rateSettingsOk (v .rate) ≡ true → slotOk pathOk known ≡ true → rateEntryOk (announcedRate v a known) ≡ true
-  unfolding announcedRate slotOk rateEntryOk
+  unfolding announcedRate entryRevived slotOk rateEntryOk
   announced-rate v empty sound h = and-both (lt-ltb (a .clock) clockLimit clock) (and-both refl refl)
-  announced-rate v (used p) sound h = accepted-rate-ok (v .rate) (p .rate) (a .clock) sound (path-rate p h) clock
+  announced-rate v (used p) sound h =
+      either (λ (e : RateEntry). rateEntryOk e ≡ true) (revives a p)
+      (λ _. and-both (lt-ltb (a .clock) clockLimit clock) (and-right _ _ (path-rate p h)))
+      (λ _. accepted-rate-ok (v .rate) (p .rate) (a .clock) sound (path-rate p h) clock)
 
   pub announced-ok : (v : View) (known : Slot Path) → rateSettingsOk (v .rate) ≡ true → tooManyHops (hops a) ≡ false → slotOk pathOk known ≡ true
       → pathOk (announcedPath v a known) ≡ true

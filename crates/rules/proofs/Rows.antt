@@ -2,12 +2,13 @@
 use mathlib.Core.Bool.{Bool, true, false, false≢true}
 use mathlib.Core.Path.{_≡_, refl, sym, _∙_}
 use lib.Dec.{eqb}
+use borrow.Author.Tests.{not-false}
 use Rattle.octets.specs.Index.{_and_}
 use Rattle.octets.specs.Choice.{_then_otherwise_}
 use Rattle.octets.proofs.Listed.{allGive}
 use Rattle.rules.specs.Relay.{Relay}
 use Rattle.rules.specs.Refusals.{tablesOk}
-use Rattle.rules.specs.Calls.{TableCall, sets-port, sets-rate, adds, removes, renumbers, ruleOf, tableRefusal}
+use Rattle.rules.specs.Calls.{TableCall, sets-port, sets-rate, adds, removes, renumbers, marks, ruleOf, tableRefusal}
 use Rattle.rules.specs.Saved.{Said, loadRefusal}
 use Rattle.octets.proofs.Listed.{NoneHolds, refuses, rows-passed}
 
@@ -19,10 +20,16 @@ rows-refuse (sets-rate target grace penalty) r = refl
 rows-refuse (adds address) r = refl
 rows-refuse (removes address) r = refl
 rows-refuse (renumbers images) r = refl
+rows-refuse (marks destination clock) r = refl
 
 pub table-passed : (c : TableCall) (r : Relay) → eqb (tableRefusal c r) 0 ≡ true → NoneHolds (ruleOf c .rows r)
 unfolding tableRefusal allGive refuses _and_
 table-passed c r e = rows-passed _ 0 (rows-refuse c r) e .1
+
+-- row 7 comes first
+pub table-ok : (c : TableCall) (r : Relay) → eqb (tableRefusal c r) 0 ≡ true → tablesOk r ≡ true
+unfolding tableRefusal allGive refuses _and_
+table-ok c r e = not-false _ (rows-passed _ 0 (rows-refuse c r) e .0)
 
 pub loaded-ok : (s : Said) → eqb (loadRefusal s) 0 ≡ true → tablesOk (s .relay) ≡ true
 unfolding loadRefusal _then_otherwise_

@@ -44,7 +44,7 @@ module _ {A : Type 0} where
       go (no l) = List·getD-eq-default (replicate n empty) empty (rw length-replicate (omega arith))
 
   -- a record that stands there after a write was written, or stood there before
-  written : {C : Type 0} (slots : List (Slot A)) (i : ℕ) (s : Slot A) (j : ℕ) (x : A) → getD (set slots i s) j empty ≡ used x
+  pub written : {C : Type 0} (slots : List (Slot A)) (i : ℕ) (s : Slot A) (j : ℕ) (x : A) → getD (set slots i s) j empty ≡ used x
       → (j ≡ i → s ≡ used x → C) → ((j ≡ i → ⊥) → getD slots j empty ≡ used x → C) → C
   written {C} slots i s j x e new old = go (ℕ-discrete j i) (decLt j (length slots))
     where
@@ -60,7 +60,7 @@ module _ {A : Type 0} where
       → f (getD slots i empty) ≡ used x
   mapped f none slots i x e = sym (List·getD-map f slots i empty) ∙ ap (getD (map f slots) i) none ∙ e
 
-  renamed : (rename : A → A) (s : Slot A) (x : A) → renameSlot rename s ≡ used x → (y : A) × (s ≡ used y) × (rename y ≡ x)
+  pub renamed : (rename : A → A) (s : Slot A) (x : A) → renameSlot rename s ≡ used x → (y : A) × (s ≡ used y) × (rename y ≡ x)
   unfolding renameSlot
   renamed rename empty x e = absurd (used-not-empty e)
   renamed rename (used y) x e = (y, refl, used-same e)
@@ -79,7 +79,7 @@ module _ {A : Type 0} (test : A → Bool) (slots : List (Slot A)) where
   emptied-at i x e = emptied test (getD slots i empty) x (mapped (emptiedIf test) refl slots i x e)
 
 module _ {A : Type 0} (rename : A → A) (slots : List (Slot A)) where
-  renamed-at : (i : ℕ) (x : A) → getD (map (renameSlot rename) slots) i empty ≡ used x → (y : A) × (getD slots i empty ≡ used y) × (rename y ≡ x)
+  pub renamed-at : (i : ℕ) (x : A) → getD (map (renameSlot rename) slots) i empty ≡ used x → (y : A) × (getD slots i empty ≡ used y) × (rename y ≡ x)
   unfolding renameSlot
   renamed-at i x e = renamed rename (getD slots i empty) x (mapped (renameSlot rename) refl slots i x e)
 
@@ -89,6 +89,16 @@ module _ {A : Type 0} (alive : A → Bool) (So : A → Type 0) where
 
   pub every-fresh : (n : ℕ) → Every alive So (replicate n empty)
   every-fresh n i x e l = absurd (used-not-empty (sym (fresh-empty n i) ∙ e))
+
+  -- a record is changed where it stands
+  pub every-changed : (change : A → A) → ((y : A) → alive (change y) ≡ alive y) → ((y : A) → So y → So (change y))
+      → (slots : List (Slot A)) (i : ℕ) → Every alive So slots → Every alive So (set slots i (renameSlot change (getD slots i empty)))
+  every-changed change lives keeps slots i every j x e l =
+      written slots i _ j x e
+      (λ p q.
+      let (y, o, r) = renamed change (getD slots i empty) x q in
+      subst So r (keeps y (every i y o (sym (lives y) ∙ ap alive r ∙ l))))
+      (λ _ o. every j x o l)
 
   pub every-renamed : (rename : A → A) → ((y : A) → alive (rename y) ≡ alive y) → ((y : A) → So y → So (rename y))
       → (slots : List (Slot A)) → Every alive So slots → Every alive So (map (renameSlot rename) slots)
@@ -122,6 +132,18 @@ module _ {A : Type 0} (alive : A → Bool) (key : A → List ℕ) where
       (λ i x e l.
       let (y, o, q) = renamed-at rename slots i x e in
       (y, o, sym (lives y) ∙ ap alive q ∙ l, ap key (sym q) ∙ keyed y))
+
+  -- .. or changed where it stands
+  pub single-changed : (change : A → A) → ((y : A) → alive (change y) ≡ alive y) → ((y : A) → key (change y) ≡ key y)
+      → (slots : List (Slot A)) (i : ℕ) → Single alive key slots → Single alive key (set slots i (renameSlot change (getD slots i empty)))
+  single-changed change lives keyed slots i =
+      single-from slots (set slots i (renameSlot change (getD slots i empty)))
+      (λ j x e l.
+      written slots i _ j x e
+      (λ p q.
+      let (y, o, r) = renamed change (getD slots i empty) x q in
+      (y, ap (λ (k : ℕ). getD slots k empty) p ∙ o, sym (lives y) ∙ ap alive r ∙ l, ap key (sym r) ∙ keyed y))
+      (λ _ o. (x, o, l, refl)))
 
   pub single-emptied-where : (test : A → Bool) (slots : List (Slot A)) → Single alive key slots → Single alive key (map (emptiedIf test) slots)
   single-emptied-where test slots =

@@ -7,14 +7,15 @@ use mathlib.Core.Path.{_≡_, refl, sym, ap, ap₂, _∙_}
 use Rattle.octets.specs.Index.{_and_}
 use Rattle.octets.specs.Choice.{_then_otherwise_, _or_}
 use Rattle.octets.proofs.Choice.{then-ap}
-use Rattle.packet.specs.Header.{isAnnounce, isLinkRequest}
+use Rattle.packet.specs.Header.{ofKindSingle, isAnnounce, isLinkRequest}
 use Rattle.packet.specs.Hash.{linkId}
 use Rattle.rules.specs.Relay.{Slot, empty, used, Path, Return}
 use Rattle.rules.specs.View.{View}
 use Rattle.rules.specs.Renumbering.{image, oneToOne, renamePath, renameLink, renameReturn, renameSlot}
-use Rattle.rules.specs.Arrival.{Arrival, header, isLinkProof}
+use Rattle.rules.specs.Arrival.{Arrival, header, destination, hash, isLinkProof}
+use Rattle.rules.specs.Exempt.{exempt}
 use Rattle.rules.specs.Ways.{Way, everywhere, by-path, along-link, by-return, blocked, pathWay, linkWay, returnWay, wayOn}
-use Rattle.rules.specs.Tests.{notOurs, duplicate, testedAsDuplicate, ownAnnounce, deliveredHere, noWayOn, whyBlocked, isThere, followsProvedLink, alreadyKnown, fromAnsweringSide, fromAskingSide, wrongSide, notSigned, ofKnown, isReplay, replay, isNotBetter, notBetter, isRateLimited, rateLimited, leavingPort, portOff, noRoom}
+use Rattle.rules.specs.Tests.{notOurs, isMarked, forMarkedPath, duplicate, testedAsDuplicate, ownAnnounce, deliveredHere, noWayOn, whyBlocked, isThere, followsProvedLink, alreadyKnown, fromAnsweringSide, fromAskingSide, wrongSide, notSigned, revives, ofKnown, isReplay, replay, isNotBetter, notBetter, isRateLimited, rateLimited, leavingPort, portOff, noRoom}
 use Rattle.rules.specs.Outgoing.{outgoing}
 use Rattle.rules.specs.Run.{renameArrival}
 use Rattle.rules.specs.declared.Link.{Link}
@@ -55,9 +56,19 @@ module _ (m : List ℕ) where
   unfolding notOurs renameView renameArrival
   notOurs-renamed v a = refl
 
+  isMarked-renamed : (slot : Slot Path) → isMarked (renameSlot (renamePath m) slot) ≡ isMarked slot
+  unfolding isMarked renameSlot renamePath
+  isMarked-renamed empty = refl
+  isMarked-renamed (used p) = refl
+
+  pub forMarkedPath-renamed : (v : View) (a : Arrival) → forMarkedPath (renameView m v) (renameArrival m a) ≡ forMarkedPath v a
+  unfolding forMarkedPath renameView renameArrival
+  forMarkedPath-renamed v a =
+      ap (λ (b : Bool). isAnnounce (header a) and ofKindSingle (header a) and b) (isMarked-renamed (v .path (destination a)))
+
   pub duplicate-renamed : (v : View) (a : Arrival) → duplicate (renameView m v) (renameArrival m a) ≡ duplicate v a
   unfolding duplicate testedAsDuplicate renameView renameArrival
-  duplicate-renamed v a = refl
+  duplicate-renamed v a = ap (λ (b : Bool). (not (exempt (a .bytes)) and not b) and v .remembered (hash a)) (forMarkedPath-renamed v a)
 
   pub bytes-renamed : (a : Arrival) → renameArrival m a .bytes ≡ a .bytes
   unfolding renameArrival
@@ -88,7 +99,7 @@ module _ (m : List ℕ) where
   whyBlocked-renamed (by-return t) = refl
   whyBlocked-renamed (blocked why) = refl
 
-  isThere-renamed : {A : Type 0} (rename : A → A) (slot : Slot A) → isThere (renameSlot rename slot) ≡ isThere slot
+  pub isThere-renamed : {A : Type 0} (rename : A → A) (slot : Slot A) → isThere (renameSlot rename slot) ≡ isThere slot
   unfolding isThere renameSlot
   isThere-renamed rename empty = refl
   isThere-renamed rename (used x) = refl
@@ -114,26 +125,27 @@ module _ (m : List ℕ) where
   notSigned-renamed a = refl
 
   -- a test of an announce and the live path of its destination that looks at no port
-  ofKnown-renamed : (one two : Path → Bool) → ((p : Path) → one (renamePath m p) ≡ two p) → (w : Way) → ofKnown one (renameWay m w) ≡ ofKnown two w
-  unfolding ofKnown renameWay renameSlot
-  ofKnown-renamed one two blind (everywhere empty) = refl
-  ofKnown-renamed one two blind (everywhere (used p)) = blind p
-  ofKnown-renamed one two blind (by-path p) = refl
-  ofKnown-renamed one two blind (along-link l) = refl
-  ofKnown-renamed one two blind (by-return t) = refl
-  ofKnown-renamed one two blind (blocked why) = refl
+  ofKnown-renamed : (a : Arrival) (one two : Path → Bool) → ((p : Path) → one (renamePath m p) ≡ two p)
+      → (w : Way) → ofKnown (renameArrival m a) one (renameWay m w) ≡ ofKnown a two w
+  unfolding ofKnown revives renameWay renameSlot renamePath renameArrival
+  ofKnown-renamed a one two blind (everywhere empty) = refl
+  ofKnown-renamed a one two blind (everywhere (used p)) = ap (λ (b : Bool). not (revives a p) and b) (blind p)
+  ofKnown-renamed a one two blind (by-path p) = refl
+  ofKnown-renamed a one two blind (along-link l) = refl
+  ofKnown-renamed a one two blind (by-return t) = refl
+  ofKnown-renamed a one two blind (blocked why) = refl
 
   pub replay-renamed : (a : Arrival) (w : Way) → replay (renameArrival m a) (renameWay m w) ≡ replay a w
   unfolding replay isReplay renameArrival renamePath
-  replay-renamed a w = ofKnown-renamed (isReplay (renameArrival m a)) (isReplay a) (λ p. refl) w
+  replay-renamed a w = ofKnown-renamed a (isReplay (renameArrival m a)) (isReplay a) (λ p. refl) w
 
   pub notBetter-renamed : (a : Arrival) (w : Way) → notBetter (renameArrival m a) (renameWay m w) ≡ notBetter a w
   unfolding notBetter isNotBetter renameArrival renamePath
-  notBetter-renamed a w = ofKnown-renamed (isNotBetter (renameArrival m a)) (isNotBetter a) (λ p. refl) w
+  notBetter-renamed a w = ofKnown-renamed a (isNotBetter (renameArrival m a)) (isNotBetter a) (λ p. refl) w
 
   pub rateLimited-renamed : (v : View) (a : Arrival) (w : Way) → rateLimited (renameView m v) (renameArrival m a) (renameWay m w) ≡ rateLimited v a w
   unfolding rateLimited isRateLimited renameView renameArrival renamePath
-  rateLimited-renamed v a w = ofKnown-renamed (isRateLimited (renameView m v) (renameArrival m a)) (isRateLimited v a) (λ p. refl) w
+  rateLimited-renamed v a w = ofKnown-renamed a (isRateLimited (renameView m v) (renameArrival m a)) (isRateLimited v a) (λ p. refl) w
 
   pub noRoom-renamed : (v : View) (a : Arrival) (w : Way) → noRoom (renameView m v) (renameArrival m a) (renameWay m w) ≡ noRoom v a w
   unfolding noRoom renameView renameArrival renameWay renameSlot

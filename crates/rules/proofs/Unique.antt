@@ -1,21 +1,23 @@
 -- From fresh with no load, no table has two live records of one key, nor a live path two equal blobs, at any clock not below the last.
 use Prim.Native.Nat.{ℕ, _≤_}
+use native.Mathlib.Nat.{le-refl}
+use native.Mathlib.Omega.{arith}
 use mathlib.Core.Bool.{true, false, false≢true}
 use mathlib.Core.List.{List}
-use mathlib.Core.Path.{_≡_, refl, sym, subst, _∙_}
+use mathlib.Core.Path.{_≡_, sym, subst, _∙_}
 use lib.ListN.{length}
 use borrow.Author.Tests.{ltb-false, eqb-true}
 use Rattle.octets.specs.Choice.{same}
-use Rattle.octets.proofs.Choice.{eq-same}
+use Rattle.octets.proofs.Choice.{eq-same, or-no-right}
 use Rattle.numbers.specs.Numbers.{localCount, pathCount, linkCount, returnCount, hashCount}
-use Rattle.rules.specs.Relay.{Relay, fresh, lowest, withRate, withPorts, withLocals}
+use Rattle.rules.specs.Relay.{Relay, fresh, lowest, withClock, withRate, withPorts, withLocals}
 use Rattle.rules.specs.View.{View, viewAt, localPlace, isLocal}
 use Rattle.rules.specs.Renumbering.{renumbered}
 use Rattle.rules.specs.Refusals.{tablesOk}
 use Rattle.rules.specs.Arrival.{Arrival}
 use Rattle.rules.specs.Judging.{plan}
 use Rattle.rules.specs.Writes.{enact}
-use Rattle.rules.specs.Calls.{TableCall, sets-port, sets-rate, adds, removes, renumbers, ruleOf}
+use Rattle.rules.specs.Calls.{TableCall, sets-port, sets-rate, adds, removes, renumbers, marks, ruleOf}
 use Rattle.rules.specs.Run.{Call, packet, on-tables, asks, saves, loads, ofTold, perform, relayAfter, setsRelay, noneLoads}
 use Rattle.rules.specs.declared.Tally.{Tally}
 use Rattle.octets.proofs.Listed.{NoneHolds}
@@ -25,7 +27,7 @@ use Rattle.rules.proofs.Followed.{planned, remembered-new}
 use Rattle.rules.proofs.Stamped.{enact-clock}
 use Rattle.rules.proofs.Accepted.{Accepted, accepted-packet}
 use Rattle.rules.proofs.Valid.{Valid, valid-of, step-ok, fresh-ok}
-use Rattle.rules.proofs.UniqueAt.{onceAt, UniqueAt, later, renumbering-keeps}
+use Rattle.rules.proofs.UniqueAt.{onceAt, UniqueAt, later, mark-keeps, renumbering-keeps}
 use Rattle.rules.proofs.UniqueWrites.{plan-keeps, hash-put}
 
 -- at any clock not below the last
@@ -77,19 +79,21 @@ table-keeps (adds address) r clock valid u n =
     (λ j x _ o _ q. none-passes (same address) localCount (r .locals) size found j x o (eq-same address x (sym q)))
 table-keeps (removes address) r clock valid u n = single-emptied _ _ (r .locals) _ (u .locals)
 table-keeps (renumbers images) r clock valid u n = renumbering-keeps clock r u images
+table-keeps (marks destination now) r clock valid u n = (tt, mark-keeps clock r u destination now)
 
--- a call on the tables leaves the last clock
-pub table-clock : (c : TableCall) (r : Relay) → ruleOf c .after r .clock ≡ r .clock
-unfolding ruleOf withRate withPorts withLocals renumbered
-table-clock (sets-port port on mode) r = refl
-table-clock (sets-rate target grace penalty) r = refl
-table-clock (adds address) r = refl
-table-clock (removes address) r = refl
-table-clock (renumbers images) r = refl
+-- a mark sets the last clock, which is not before it, and the other calls on the tables leave it
+pub table-clock : (c : TableCall) (r : Relay) → NoneHolds (ruleOf c .rows r) → r .clock ≤ ruleOf c .after r .clock
+unfolding ruleOf withClock withRate withPorts withLocals renumbered
+table-clock (sets-port port on mode) r n = le-refl (r .clock)
+table-clock (sets-rate target grace penalty) r n = le-refl (r .clock)
+table-clock (adds address) r n = le-refl (r .clock)
+table-clock (removes address) r n = le-refl (r .clock)
+table-clock (renumbers images) r n = le-refl (r .clock)
+table-clock (marks destination clock) r n = ltb-false _ _ (or-no-right _ _ (n .0))
 
 table-unique : (c : TableCall) (r : Relay) → Valid r → Unique r → NoneHolds (ruleOf c .rows r) → Unique (ruleOf c .after r)
 table-unique c r valid u n clock l =
-    let now : UniqueAt clock r = u clock (subst (λ (c : ℕ). c ≤ clock) (table-clock c r) l) in
+    let now : UniqueAt clock r = u clock (omega (arith, table-clock c r n, l)) in
     table-held now c (table-keeps c r clock valid now n)
 
 -- one call keeps it, of a relay that keeps row 7

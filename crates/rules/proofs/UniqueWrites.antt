@@ -18,13 +18,13 @@ use Rattle.rules.specs.Arrival.{Arrival, header, destination, hash, blob
 use Rattle.rules.specs.Blobs.{held}
 use Rattle.rules.specs.Rate.{entryDropped}
 use Rattle.rules.specs.Ways.{Way, everywhere, by-path, along-link, by-return, blocked}
-use Rattle.rules.specs.Tests.{isThere, alreadyKnown, ofKnown, isReplay, replay}
+use Rattle.rules.specs.Tests.{isThere, alreadyKnown}
 use Rattle.rules.specs.Judging.{Plan, dropped, delivered, follows}
 use Rattle.rules.specs.Writes.{putNext, remember, announcedBlobs, announcedPath, announcedPlace, putPath, limitPath, returnKey, returnRecord, emptiedIf, emptiedWhere, putReturn, emptyReturn, linkRecord, putLink, renewedLink, renewLink}
 use Rattle.rules.specs.declared.Link.{Link}
 use Rattle.rules.proofs.Tables.{table-length, table-getD}
 use Rattle.rules.proofs.Slots.{emptied-at, every-set, single-emptied, single-emptied-where, single-set, not-found, found-key, none-live, found-alone}
-use Rattle.rules.proofs.BlobLaws.{Distinct, Counted, Placed, one-placed, one-distinct, add-placed, add-distinct}
+use Rattle.rules.proofs.BlobLaws.{Distinct, Counted, Placed, one-placed, one-distinct, store-placed, store-distinct}
 use Rattle.rules.proofs.Followed.{Followed, Planned, is-request}
 use Rattle.rules.proofs.Ranges.{path-counted}
 use Rattle.rules.proofs.Held.{WayKeeps, PlanKeeps}
@@ -61,27 +61,24 @@ module _ (a : Arrival) (s : Relay) (valid : Valid s) (u : UniqueAt (a .clock) s)
   unfolding viewAt announcedBlobs
   announced-placed empty f = one-placed blobLimit (lit≤ tt) (blob a)
   announced-placed (used p) f =
-      add-placed blobLimit (lit≤ tt) (blob a) (p .blobs)
+      store-placed blobLimit (lit≤ tt) (blob a) (p .blobs)
       (known-counted p f) (u .paths .2 _ p f refl)
 
-  announced-distinct : (known : Slot Path) → viewAt (a .clock) s .path (destination a) ≡ known → replay a (everywhere known) ≡ false
-      → Distinct (held (announcedBlobs a known))
-  unfolding viewAt announcedBlobs replay ofKnown isReplay pathPlace isLivePath
-  announced-distinct empty f new = one-distinct blobLimit (lit≤ tt) (blob a)
-  announced-distinct (used p) f new =
-      add-distinct blobLimit (lit≤ tt) (blob a) (p .blobs)
+  announced-distinct : (known : Slot Path) → viewAt (a .clock) s .path (destination a) ≡ known → Distinct (held (announcedBlobs a known))
+  unfolding viewAt announcedBlobs pathPlace isLivePath
+  announced-distinct empty f = one-distinct blobLimit (lit≤ tt) (blob a)
+  announced-distinct (used p) f =
+      store-distinct blobLimit (lit≤ tt) (blob a) (p .blobs)
       (known-counted p f) (u .paths .2 _ p f refl)
       (u .paths .1 _ p f (found-key _ _ (destination a) pathCount (s .paths) path-size p f .1))
-      new
 
-  put-path : (v : View) (known : Slot Path) → viewAt (a .clock) s .path (destination a) ≡ known → replay a (everywhere known) ≡ false
-      → onceAt (a .clock) .paths (putPath v a known s .paths)
+  put-path : (v : View) (known : Slot Path) → viewAt (a .clock) s .path (destination a) ≡ known → onceAt (a .clock) .paths (putPath v a known s .paths)
   unfolding putPath withPaths announcedPath
-  put-path v known f new =
+  put-path v known f =
       let p : Path = announcedPath v a known in
       let place : ℕ = announcedPlace a known s in (
         single-set _ _ (s .paths) place p (u .paths .0) (announced-alone known f),
-        every-set _ _ (s .paths) place p (u .paths .1) (announced-distinct known f new),
+        every-set _ _ (s .paths) place p (u .paths .1) (announced-distinct known f),
         every-set _ _ (s .paths) place p (u .paths .2) (announced-placed known f),
       )
 
@@ -123,7 +120,7 @@ module _ (a : Arrival) (s : Relay) (valid : Valid s) (u : UniqueAt (a .clock) s)
 
   way-keeps : (v : View) (w : Way) → Followed (viewAt (a .clock) s) a w → WayKeeps (onceAt (a .clock)) v a s w
   unfolding alreadyKnown emptyReturn withReturns
-  way-keeps v (everywhere known) f = put-path v known (f .found) (f .newBlob)
+  way-keeps v (everywhere known) f = put-path v known (f .found)
   way-keeps v (by-path p) f = (
     λ _. put-return p,
     λ data₀. put-link p (sym (and-yes _ (is-request (header a) (f .found .1) (f .found .2) data₀)) ∙ or-no-left _ _ (f .unknown)),

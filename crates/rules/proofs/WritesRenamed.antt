@@ -1,28 +1,31 @@
 -- What a renamed packet writes into a renumbered relay: what it wrote, renamed.
 use Prim.Native.Nat.{ℕ, _+_, _%_}
-use mathlib.Core.Bool.{Bool, true, false}
+use mathlib.Core.Bool.{Bool, true, false, not}
 use mathlib.Core.List.{List, map}
 use mathlib.Core.Path.{_≡_, refl, sym, ap, ap₂, _∙_}
 use lib.ListN.{set}
+use Rattle.octets.specs.Index.{_and_}
 use Rattle.octets.specs.Choice.{_then_otherwise_}
 use Rattle.octets.proofs.Choice.{then-ap}
 use Rattle.packet.specs.Header.{typeTwo, isData}
 use Rattle.numbers.specs.Numbers.{pathLifetime}
 use Rattle.rules.specs.Relay.{Slot, empty, used, Path, Return, withPathRate, Relay, withClock, withPaths, withLinks, withReturns, withHashes}
-use Rattle.rules.specs.View.{View, isLiveReturn, pathPlace, linkPlace, returnPlace, freeLink}
+use Rattle.rules.specs.View.{View, viewAt, isLiveReturn, pathPlace, linkPlace, returnPlace, freeLink}
 use Rattle.rules.specs.Renumbering.{image, oneToOne, renamePath, renameLink, renameReturn, renameSlot, renumbered}
-use Rattle.rules.specs.Arrival.{Arrival, header, hops, relayAddress, destination}
+use Rattle.rules.specs.Arrival.{Arrival, header, hops, relayAddress, destination, hash}
+use Rattle.rules.specs.Exempt.{exempt}
 use Rattle.rules.specs.Rate.{entryDropped}
 use Rattle.rules.specs.Ways.{Way, everywhere, by-path, along-link, by-return, blocked}
+use Rattle.rules.specs.Tests.{revives}
 use Rattle.rules.specs.Judging.{Plan, dropped, delivered, follows}
-use Rattle.rules.specs.Writes.{putNext, remembersPlan, remembers, remember, announcedBlobs, announcedRate, announcedPath, announcedPlace, putPath, limitPath, returnKey, returnRecord, emptiedIf, emptiedWhere, putReturn, emptyReturn, linkRecord, putLink, renewedLink, renewLink, writeWay, isRateDrop, writeDrop, writePlan, stamp, enact}
+use Rattle.rules.specs.Writes.{putNext, remembersPlan, alreadyLive, remembers, remember, announcedBlobs, announcedRate, announcedPath, announcedPlace, putPath, limitPath, markedSlot, markPath, returnKey, returnRecord, emptiedIf, emptiedWhere, putReturn, emptyReturn, linkRecord, putLink, renewedLink, renewLink, writeWay, isRateDrop, writeDrop, writePlan, stamp, enact}
 use Rattle.rules.specs.Run.{renameArrival}
 use Rattle.rules.specs.declared.Link.{Link}
 use Rattle.rules.specs.declared.Reason.{Reason}
 use Rattle.rules.proofs.Images.{source-image}
 use Rattle.rules.proofs.SlotsRenamed.{set-renamed, emptied-renamed}
-use Rattle.rules.proofs.ViewRenamed.{renameView, pathPlace-renamed, linkPlace-renamed, returnPlace-renamed, freePath-renamed, freeLink-renamed}
-use Rattle.rules.proofs.TestsRenamed.{renameWay}
+use Rattle.rules.proofs.ViewRenamed.{renameView, path-renamed, pathPlace-renamed, linkPlace-renamed, returnPlace-renamed, freePath-renamed, freeLink-renamed}
+use Rattle.rules.proofs.TestsRenamed.{renameWay, forMarkedPath-renamed}
 use Rattle.rules.proofs.PlanRenamed.{renamePlan}
 
 module _ (m : List ℕ) where
@@ -35,11 +38,17 @@ module _ (m : List ℕ) where
   unfolding remember withHashes renumbered renameArrival
   remember-renamed a r = refl
 
+  remembersPlan-renamed : (todo : Plan) → remembersPlan (renamePlan m todo) ≡ remembersPlan todo
+  unfolding remembersPlan renamePlan
+  remembersPlan-renamed (dropped reason) = refl
+  remembersPlan-renamed delivered = refl
+  remembersPlan-renamed (follows w) = refl
+
   remembers-renamed : (v : View) (a : Arrival) (todo : Plan) → remembers (renameView m v) (renameArrival m a) (renamePlan m todo) ≡ remembers v a todo
-  unfolding remembers remembersPlan renamePlan renameArrival
-  remembers-renamed v a (dropped reason) = refl
-  remembers-renamed v a delivered = refl
-  remembers-renamed v a (follows w) = refl
+  unfolding remembers alreadyLive renameView renameArrival
+  remembers-renamed v a todo =
+      ap₂ (λ (b c : Bool). not (exempt (a .bytes)) and not (b and v .remembered (hash a)) and c)
+      (forMarkedPath-renamed m v a) (remembersPlan-renamed todo)
 
   -- ---- one table put in the place of another
   paths-renamed : (paths : List (Slot Path)) (r : Relay)
@@ -119,7 +128,7 @@ module _ (m : List ℕ) (ok : oneToOne m ≡ true) where
 
   announcedRate-renamed : (v : View) (a : Arrival) (known : Slot Path)
       → announcedRate (renameView m v) (renameArrival m a) (renameSlot (renamePath m) known) ≡ announcedRate v a known
-  unfolding announcedRate renameView renameArrival renameSlot renamePath
+  unfolding announcedRate revives renameView renameArrival renameSlot renamePath
   announcedRate-renamed v a empty = refl
   announcedRate-renamed v a (used p) = refl
 
@@ -134,6 +143,7 @@ module _ (m : List ℕ) (ok : oneToOne m ≡ true) where
         nextHop = typeTwo (header a) then relayAddress a otherwise destination a;
         expiry = a .clock + pathLifetime (v .mode (source-image m ok (a .port) i));
         rate = announcedRate-renamed v a known i;
+        marked = false;
         blobs = announcedBlobs-renamed a known i;
       }
 
@@ -151,6 +161,30 @@ module _ (m : List ℕ) (ok : oneToOne m ≡ true) where
       (set-renamed (renamePath m) (r .paths) _ _ _ (used (announcedPath v a known)) (announcedPlace-renamed a known r)
       (ap used (announcedPath-renamed v a known)))
       ∙ paths-renamed m (set (r .paths) (announcedPlace a known r) (used (announcedPath v a known))) r
+
+  -- ---- a mark
+  marked-renamed : (slot : Slot Path) → markedSlot (renameSlot (renamePath m) slot) ≡ renameSlot (renamePath m) (markedSlot slot)
+  unfolding markedSlot renameSlot renamePath
+  marked-renamed empty = refl
+  marked-renamed (used p) = refl
+
+  pub mark-renamed : (destination : List ℕ) (clock : ℕ) (r : Relay)
+      → withClock clock (markPath destination clock (renumbered m r)) ≡ renumbered m (withClock clock (markPath destination clock r))
+  unfolding markPath
+  mark-renamed destination clock r =
+      let slot : Slot Path = viewAt clock r .path destination in
+      ap (λ (paths : List (Slot Path)). withClock clock (withPaths paths (renumbered m r)))
+      (ap
+      (λ (paths : List (Slot Path)).
+      set paths (pathPlace clock (renumbered m r) destination) (markedSlot (viewAt clock (renumbered m r) .path destination)))
+      (paths-of r)
+      ∙ set-renamed (renamePath m) (r .paths) _ _ _ (markedSlot slot) (pathPlace-renamed m clock r destination)
+      (ap markedSlot (path-renamed m clock r destination) ∙ marked-renamed slot))
+      ∙ ap (withClock clock) (paths-renamed m (set (r .paths) (pathPlace clock r destination) (markedSlot slot)) r)
+      ∙ withClock-renamed m clock (markPath destination clock r)
+    where
+      paths-of : (r : Relay) → renumbered m r .paths ≡ map (renameSlot (renamePath m)) (r .paths)
+      paths-of r = unfold renumbered in refl
 
   -- ---- a rate drop
   limitPath-renamed : (v : View) (a : Arrival) (known : Slot Path) (r : Relay)

@@ -38,3 +38,7 @@ addBlob limit x b =
     ltb (b .count) limit
     then record { count = b .count + 1; places = set (b .places) (b .count) x }
     otherwise record { count = b .count; places = drop 1 (b .places) ++ (x ∷ []) }
+
+-- wish 6: "a blob already stored isn't stored twice", and the list stays, order included
+unfoldable pub storeBlob : ℕ → List ℕ → Blobs → Blobs
+storeBlob limit x b = isAmong x (held b) then b otherwise addBlob limit x b

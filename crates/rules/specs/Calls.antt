@@ -7,13 +7,14 @@ use lib.ListN.{length, set}
 use Rattle.octets.specs.Choice.{_then_otherwise_, _or_}
 use Rattle.octets.specs.Listed.{Test, _gives_otherwise_, firstOf}
 use Rattle.numbers.specs.Numbers.{portCount, localCount, modeCount}
-use Rattle.rules.specs.Relay.{empty, used, makePort, makeRateSettings, Relay, withRate, withPorts, withLocals}
+use Rattle.rules.specs.Relay.{empty, used, makePort, makeRateSettings, Relay, withClock, withRate, withPorts, withLocals}
 use Rattle.rules.specs.View.{View, viewAt, isLocal, localPlace}
 use Rattle.rules.specs.Renumbering.{image, oneToOne, renumbered}
-use Rattle.rules.specs.Refusals.{rateSettingsOk, tablesOk, packetRefusal, emptyLocal}
+use Rattle.rules.specs.Refusals.{rateSettingsOk, tablesOk, clockBad, packetRefusal, emptyLocal}
 use Rattle.rules.specs.Arrival.{Arrival}
+use Rattle.rules.specs.Tests.{isThere}
 use Rattle.rules.specs.Judging.{Plan, plan, verdict, outputAfter}
-use Rattle.rules.specs.Writes.{enact}
+use Rattle.rules.specs.Writes.{markPath, enact}
 use Rattle.rules.specs.declared.Verdict.{Verdict}
 use Rattle.rules.specs.declared.Verdict.the-variants.{Drop, Deliver, Forward, Spread, Kept}
 use Rattle.rules.specs.declared.Answer.{Answer}
@@ -81,6 +82,7 @@ pub data TableCall : Type 0 where
   adds : (address : List ℕ) → TableCall
   removes : (address : List ℕ) → TableCall
   renumbers : (images : List ℕ) → TableCall
+  marks : (destination : List ℕ) (clock : ℕ) → TableCall
 
 pub record TableRule : Type 0 where
   -- the rows below row 7
@@ -139,6 +141,15 @@ ruleOf (renumbers images) =
       renamed = λ m. renumbers images;
       addresses = [];
       movesPorts = oneToOne images;
+    }
+-- wish 6, marking a destination's live path unresponsive: 5, and "12, marking with no live path, after 5". "An accepted mark sets the last clock."
+ruleOf (marks destination clock) =
+    record {
+      rows = λ r. clockBad r clock gives 5 otherwise not (isThere (viewAt clock r .path destination)) gives 12 otherwise [];
+      after = λ r. withClock clock (markPath destination clock r);
+      renamed = λ m. marks destination clock;
+      addresses = destination ∷ [];
+      movesPorts = false;
     }
 
 -- row 7 comes first

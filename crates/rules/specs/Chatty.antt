@@ -16,8 +16,9 @@ use Rattle.rules.specs.View.{View, viewAt}
 use Rattle.rules.specs.Refusals.{packetRefusal}
 use Rattle.rules.specs.Arrival.{Arrival, header, destination}
 use Rattle.rules.specs.Ways.{wayOn}
+use Rattle.rules.specs.Tests.{ofKnown}
 use Rattle.rules.specs.Judging.{Plan, follows, earlyTests, onwardTests}
-use Rattle.rules.specs.Calls.{newTally, Judgement, judged, packetCall, sets-port, sets-rate, adds, removes, renumbers}
+use Rattle.rules.specs.Calls.{newTally, Judgement, judged, packetCall, sets-port, sets-rate, adds, removes, renumbers, marks}
 use Rattle.rules.specs.Questions.{ofTest}
 use Rattle.rules.specs.Run.{Call, packet, on-tables, asks, saves, loads, Reply, answered, numbered, Outcome, ofJudgement, perform, replies, noneLoads}
 use Rattle.rules.specs.declared.Tally.{Tally}
@@ -71,6 +72,7 @@ targetOf (on-tables (sets-rate target grace penalty)) = target
 targetOf (on-tables (adds address)) = 0
 targetOf (on-tables (removes address)) = 0
 targetOf (on-tables (renumbers images)) = 0
+targetOf (on-tables (marks destination clock)) = 0
 targetOf (asks q) = 0
 targetOf (saves f room) = 0
 targetOf (loads f file) = 0
@@ -91,10 +93,11 @@ OffWithoutTarget =
     (own : List ℕ) (cs : List Call) → noneLoads cs ≡ true → NoTarget cs (replies cs (fresh own) newTally)
     → RateOff cs (fresh own) newTally (replies cs (fresh own) newTally)
 
--- ---- (b) "an announce for a live path at clock < blocked-until changes nothing in the record"
+-- ---- (b) "an announce for a live path at clock < blocked-until changes nothing in the record (from request 6 on: an unmarked one)"
 pub record WhileBlocked (p : Path) (a : Arrival) (r : Relay) : Type 0 where
   pub announce : isAnnounce (header a) ≡ true
   pub live : viewAt (a .clock) r .path (destination a) ≡ used p
+  pub unmarked : p .marked ≡ false
   pub blocked : a .clock < p .rate .«blocked_until»
 
 -- nor in any other path's
@@ -117,9 +120,16 @@ pub record Forgiven (p p′ : Path) (a : Arrival) : Type 0 where
   pub violations : p′ .rate .violations ≡ p .rate .violations - 1
   pub stays : p′ .rate .«blocked_until» ≡ p .rate .«blocked_until»
 
--- a packet reaches test 15 if it would be dropped by it, were it to hold
+-- test 15 is made: of an announce for a known path, and wish 6 doesn't leave it out
+unfoldable pub rateIsMade : View → Arrival → Bool
+rateIsMade v a = ofKnown a (λ p. true) (wayOn v a)
+
+-- a packet reaches test 15 if it is made of it, and would drop it, were it to hold
 unfoldable pub reachesRate : Arrival → ℕ → Relay → Bool
-reachesRate a room r = eqb (packetRefusal r a room) 0 and ofTest 15 (planIf true (viewAt (a .clock) r) a)
+reachesRate a room r =
+    eqb (packetRefusal r a room) 0
+    and rateIsMade (viewAt (a .clock) r) a
+    and ofTest 15 (planIf true (viewAt (a .clock) r) a)
 
 -- an announce of a known path that gets past test 15 is accepted
 pub record LetBy (p : Path) (a : Arrival) (output : List ℕ) (r : Relay) (reply : Reply) (r′ : Relay) : Type 0 where

@@ -19,5 +19,6 @@ pub mod Saved
 pub mod Run
 pub mod Keepalives
 pub mod Chatty
+pub mod DeadPaths
 pub mod Lengths
 pub mod Reasons

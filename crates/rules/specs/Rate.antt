@@ -46,6 +46,10 @@ startsAt clock = makeRateEntry clock 0 0
 unfoldable pub entryAccepted : RateSettings → ℕ → RateEntry → RateEntry
 entryAccepted s clock e = makeRateEntry clock (rated s clock e .violations) (rated s clock e .«blocked_until»)
 
+-- after one that is accepted without test 15, wish 6: "Where 15 isn't made, the last accepted announce moves and Wish 5's other fields stay."
+unfoldable pub entryRevived : ℕ → RateEntry → RateEntry
+entryRevived clock e = makeRateEntry clock (e .violations) (e .«blocked_until»)
+
 -- after one that is dropped: "A rate drop changes violations and blocked-until alone, besides what every drop changes."
 unfoldable pub entryDropped : RateSettings → ℕ → RateEntry → RateEntry
 entryDropped s clock e = makeRateEntry (e .last) (rated s clock e .violations) (rated s clock e .«blocked_until»)

@@ -80,13 +80,18 @@ tablesOk r =
     and tableOk hashCount (slotOk hashOk) (r .hashes .slots)
     and ltb (r .hashes .next) hashCount
 
+-- ---- row 5, of a packet and of a mark: "clock 2^40 or more, or below the last accepted clock". Wish 6: "An accepted mark sets the last clock", so the last
+-- accepted clock is that of packets and marks
+abbrev pub clockBad : Relay → ℕ → Bool
+clockBad r clock = leb clockLimit clock or ltb clock (r .clock)
+
 -- ---- a packet, with an output buffer of `room` bytes: 7, 6, 4, 5, and the reading's 1, 2, 3, 1
 unfoldable pub packetRows : Relay → ℕ → ℕ → ℕ → List (Test ℕ)
 packetRows r port clock room =
     not (tablesOk r) gives 7 otherwise
     ltb room leastOutput gives 6 otherwise
     not (portOn r port) gives 4 otherwise
-    leb clockLimit clock or ltb clock (r .clock) gives 5 otherwise
+    clockBad r clock gives 5 otherwise
     []
 
 unfoldable pub refusalBy : Relay → List ℕ → ℕ → ℕ → ℕ → ℕ

@@ -22,7 +22,7 @@ pub record Blobs : Type 0 where
   pub places : List (List ℕ)
 
 -- by an announce: the port it came in by, its hops, its next hop (relay address, or the destination if type 1), and when this ends.
--- Wish 5: "Last accepted announce, violations and blocked-until live in the path record"
+-- Wish 5: "Last accepted announce, violations and blocked-until live in the path record"; wish 6: "The mark lies in the path record"
 pub record Path : Type 0 where
   pub destination : List ℕ
   pub port : ℕ
@@ -30,6 +30,8 @@ pub record Path : Type 0 where
   pub nextHop : List ℕ
   pub expiry : ℕ
   pub rate : RateEntry
+  -- the host has marked it unresponsive
+  pub marked : Bool
   pub blobs : Blobs
 
 -- of data forwarded by a path: first 16 of packet hash, arrival port, leaving port
@@ -85,9 +87,18 @@ noRateSettings = makeRateSettings 0 0 0
 abbrev pub noRateEntry : RateEntry
 noRateEntry = makeRateEntry 0 0 0
 
-abbrev pub makePath : List ℕ → ℕ → ℕ → List ℕ → ℕ → RateEntry → Blobs → Path
-makePath destination port hops nextHop expiry rate blobs =
-    record { destination = destination; port = port; hops = hops; nextHop = nextHop; expiry = expiry; rate = rate; blobs = blobs }
+abbrev pub makePath : List ℕ → ℕ → ℕ → List ℕ → ℕ → RateEntry → Bool → Blobs → Path
+makePath destination port hops nextHop expiry rate marked blobs =
+    record {
+      destination = destination;
+      port = port;
+      hops = hops;
+      nextHop = nextHop;
+      expiry = expiry;
+      rate = rate;
+      marked = marked;
+      blobs = blobs;
+    }
 
 -- a link that is not proved yet
 abbrev pub makeLink : List ℕ → ℕ → ℕ → ℕ → ℕ → ℕ → Link
@@ -114,11 +125,15 @@ makeRing slots next = record { slots = slots; next = next }
 -- ---- a record with some fields changed
 -- a path by another port
 abbrev pub withPathPort : ℕ → Path → Path
-withPathPort port p = makePath (p .destination) port (p .hops) (p .nextHop) (p .expiry) (p .rate) (p .blobs)
+withPathPort port p = makePath (p .destination) port (p .hops) (p .nextHop) (p .expiry) (p .rate) (p .marked) (p .blobs)
 
 -- a path with another rate entry
 abbrev pub withPathRate : RateEntry → Path → Path
-withPathRate rate p = makePath (p .destination) (p .port) (p .hops) (p .nextHop) (p .expiry) rate (p .blobs)
+withPathRate rate p = makePath (p .destination) (p .port) (p .hops) (p .nextHop) (p .expiry) rate (p .marked) (p .blobs)
+
+-- a path that is marked
+abbrev pub withPathMark : Path → Path
+withPathMark p = makePath (p .destination) (p .port) (p .hops) (p .nextHop) (p .expiry) (p .rate) true (p .blobs)
 
 -- a link between other ports
 abbrev pub withLinkPorts : ℕ → ℕ → Link → Link

@@ -10,7 +10,7 @@ use Rattle.rules.specs.Relay.{Relay}
 use Rattle.rules.specs.Renumbering.{image, renumbered}
 use Rattle.rules.specs.Arrival.{Arrival}
 use Rattle.rules.specs.Answers.{renameAnswer}
-use Rattle.rules.specs.Calls.{Judgement, packetCall, Setting, TableCall, sets-port, sets-rate, adds, removes, renumbers, ruleOf, settle}
+use Rattle.rules.specs.Calls.{Judgement, packetCall, Setting, TableCall, sets-port, sets-rate, adds, removes, renumbers, marks, ruleOf, settle}
 use Rattle.rules.specs.Questions.{Question, Told, questionRule, tell, renameTold}
 use Rattle.rules.specs.Saved.{Said, Format, saveRefusal, loadRefusal}
 use Rattle.rules.specs.declared.Answer.{Answer}
@@ -38,6 +38,9 @@ removing address = on-tables (removes address)
 
 abbrev pub renumbering : List ℕ → Call
 renumbering images = on-tables (renumbers images)
+
+abbrev pub marking : List ℕ → ℕ → Call
+marking destination clock = on-tables (marks destination clock)
 
 -- each call of a list is such
 unfoldable pub EachCall : (Call → Type 0) → List Call → Type 0

@@ -30,9 +30,17 @@ use Rattle.rules.specs.declared.Blocked.the-variants.{NoPath, NoLink, No
 unfoldable pub notOurs : View → Arrival → Bool
 notOurs v a = typeTwo (header a) and not (isAnnounce (header a)) and not (same (relayAddress a) (v .own))
 
--- 2. Duplicate: equal to a live remembered hash. Wish 2 exempts some packets of links
+-- wish 6: "For a marked path an announce of kind single": its destination has a live path, and that is marked
+unfoldable pub isMarked : Slot Path → Bool
+isMarked empty = false
+isMarked (used p) = p .marked
+
+unfoldable pub forMarkedPath : View → Arrival → Bool
+forMarkedPath v a = isAnnounce (header a) and ofKindSingle (header a) and isMarked (v .path (destination a))
+
+-- 2. Duplicate: equal to a live remembered hash. Wish 2 exempts some packets of links; wish 6: such an announce "skips test 2"
 unfoldable pub testedAsDuplicate : View → Arrival → Bool
-testedAsDuplicate v a = not (exempt (a .bytes))
+testedAsDuplicate v a = not (exempt (a .bytes)) and not (forMarkedPath v a)
 
 unfoldable pub duplicate : View → Arrival → Bool
 duplicate v a = testedAsDuplicate v a and v .remembered (hash a)
@@ -158,35 +166,40 @@ wrongSide a (blocked why) = false
 unfoldable pub notSigned : Arrival → Bool
 notSigned a = (isAnnounce (header a) or isLinkProof (a .bytes)) and not (a .signed)
 
--- tests 10, 11 and 15 are of an announce and the live path of its destination; where there is none, they don't hold
-unfoldable pub ofKnown : (Path → Bool) → Way → Bool
-ofKnown test (everywhere empty) = false
-ofKnown test (everywhere (used p)) = test p
-ofKnown test (by-path p) = false
-ofKnown test (along-link l) = false
-ofKnown test (by-return t) = false
-ofKnown test (blocked why) = false
+-- wish 6, for a marked path: "tests 10, 11 and 15 aren't made if its emission is at least the greatest stored". Below it all three are made. By test 3
+-- the announce is of kind single
+unfoldable pub revives : Arrival → Path → Bool
+revives a p = p .marked and leb (greatestEmission (held (p .blobs))) (emissionOf (blob a))
 
--- 10. Replay: the announce's blob is stored in its live path.
+-- tests 10, 11 and 15 are of an announce and the live path of its destination; where there is none, they don't hold
+unfoldable pub ofKnown : Arrival → (Path → Bool) → Way → Bool
+ofKnown a test (everywhere empty) = false
+ofKnown a test (everywhere (used p)) = not (revives a p) and test p
+ofKnown a test (by-path p) = false
+ofKnown a test (along-link l) = false
+ofKnown a test (by-return t) = false
+ofKnown a test (blocked why) = false
+
+-- 10. Replay: the announce's blob is stored in its live path. Wish 6: not made of one that `revives` it
 unfoldable pub isReplay : Arrival → Path → Bool
 isReplay a p = isAmong (blob a) (held (p .blobs))
 
 unfoldable pub replay : Arrival → Way → Bool
-replay a = ofKnown (isReplay a)
+replay a = ofKnown a (isReplay a)
 
--- 11. Not better: emission not above the greatest among stored blobs, and hops not below the stored hops.
+-- 11. Not better: emission not above the greatest among stored blobs, and hops not below the stored hops. Wish 6: not made of one that `revives` the path
 unfoldable pub isNotBetter : Arrival → Path → Bool
 isNotBetter a p = leb (emissionOf (blob a)) (greatestEmission (held (p .blobs))) and leb (p .hops) (hops a)
 
 unfoldable pub notBetter : Arrival → Way → Bool
-notBetter a = ofKnown (isNotBetter a)
+notBetter a = ofKnown a (isNotBetter a)
 
--- 15. Document 02, wish 5: "drop 15, tested after 11", by the rate rule. "A destination with no live path is let through"
+-- 15. Document 02, wish 5: "drop 15, tested after 11", by the rate rule. "A destination with no live path is let through". Wish 6: nor of one that `revives` it
 unfoldable pub isRateLimited : View → Arrival → Path → Bool
 isRateLimited v a p = rated (v .rate) (a .clock) (p .rate) .dropped
 
 unfoldable pub rateLimited : View → Arrival → Way → Bool
-rateLimited v a = ofKnown (isRateLimited v a)
+rateLimited v a = ofKnown a (isRateLimited v a)
 
 -- the port to leave by: the path's, which may be the arrival port; from the answering side the asking port, else the answering port; the
 -- return record's arrival port. An announce leaves by many, and what is blocked by none: 16 is no port

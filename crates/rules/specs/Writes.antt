@@ -1,6 +1,6 @@
--- What an accepted packet writes into the tables, by what was planned. No test is made here.
+-- What an accepted packet writes into the tables, by what was planned, and what a mark writes. Nothing is dropped here.
 use Prim.Native.Nat.{ℕ, _+_, _%_}
-use mathlib.Core.Bool.{Bool, true, not}
+use mathlib.Core.Bool.{Bool, true, false, not}
 use mathlib.Core.List.{List, map}
 use lib.Dec.{eqb, ltb}
 use lib.ListN.{take, set}
@@ -10,13 +10,14 @@ use Rattle.packet.specs.Header.{typeTwo, isData}
 use Rattle.packet.specs.Read.{headerOf, partsOf}
 use Rattle.packet.specs.Hash.{linkId}
 use Rattle.numbers.specs.Numbers.{blobLimit, returnCount, hashCount, pathLifetime, hashLifetime, returnLifetime, unprovedLifetime, provedLifetime}
-use Rattle.rules.specs.Relay.{Slot, empty, used, Ring, makeRing, withSlots, makePath, withPathRate, makeLink, withLinkState, makeReturn, makeRemembered, Blobs, Path, Return, Relay, holds, withClock, withPaths, withLinks, withReturns, withHashes}
-use Rattle.rules.specs.View.{View, isLiveReturn, pathPlace, linkPlace, returnPlace, freePath, freeLink}
+use Rattle.rules.specs.Relay.{Slot, empty, used, Ring, makeRing, withSlots, makePath, withPathRate, withPathMark, makeLink, withLinkState, makeReturn, makeRemembered, Blobs, Path, Return, Relay, holds, withClock, withPaths, withLinks, withReturns, withHashes}
+use Rattle.rules.specs.View.{View, viewAt, isLiveReturn, pathPlace, linkPlace, returnPlace, freePath, freeLink}
 use Rattle.rules.specs.Arrival.{Arrival, header, hops, destination, hash, blob, isLinkProof}
 use Rattle.rules.specs.Exempt.{exempt}
-use Rattle.rules.specs.Blobs.{oneBlob, addBlob}
-use Rattle.rules.specs.Rate.{startsAt, entryAccepted, entryDropped}
+use Rattle.rules.specs.Blobs.{oneBlob, storeBlob}
+use Rattle.rules.specs.Rate.{startsAt, entryAccepted, entryRevived, entryDropped}
 use Rattle.rules.specs.Ways.{Way, everywhere, by-path, along-link, by-return, blocked}
+use Rattle.rules.specs.Tests.{forMarkedPath, revives}
 use Rattle.rules.specs.Answers.{reasonNumber}
 use Rattle.rules.specs.Judging.{Plan, dropped, delivered, follows}
 use Rattle.rules.specs.declared.Link.{Link}
@@ -37,9 +38,13 @@ remembersPlan (dropped reason) = remembersDrop reason
 remembersPlan delivered = true
 remembersPlan (follows w) = true
 
+-- wish 6, of an announce that skips test 2: "its hash is remembered if it isn't already live", whether a later test drops it or not. A live one is not renewed
+unfoldable pub alreadyLive : View → Arrival → Bool
+alreadyLive v a = forMarkedPath v a and v .remembered (hash a)
+
 -- nor is an exempt packet remembered, whatever was planned: wish 2
 unfoldable pub remembers : View → Arrival → Plan → Bool
-remembers v a todo = not (exempt (a .bytes)) and remembersPlan todo
+remembers v a todo = not (exempt (a .bytes)) and not (alreadyLive v a) and remembersPlan todo
 
 -- the hash is now remembered in the next ring place, the oldest's once 1,024 are held
 unfoldable pub remember : Arrival → Relay → Relay
@@ -49,10 +54,11 @@ remember a r =
     r
 
 -- ---- paths
--- an accepted announce sets arrival port, hops, expiry, and next hop (relay address, or the destination if type 1), and adds its blob
+-- an accepted announce sets arrival port, hops, expiry, and next hop (relay address, or the destination if type 1), and adds its blob; wish 6: "a blob already
+-- stored isn't stored twice"
 unfoldable pub announcedBlobs : Arrival → Slot Path → Blobs
 announcedBlobs a empty = oneBlob blobLimit (blob a)
-announcedBlobs a (used p) = addBlob blobLimit (blob a) (p .blobs)
+announcedBlobs a (used p) = storeBlob blobLimit (blob a) (p .blobs)
 
 -- next hop: the relay address, or the destination if type 1
 abbrev pub nextHopOf : List ℕ → List ℕ
@@ -62,14 +68,15 @@ nextHopOf p = typeTwo (headerOf p) then partsOf p .relay otherwise partsOf p .de
 abbrev pub pathExpiry : View → Arrival → ℕ
 pathExpiry v a = a .clock + pathLifetime (v .mode (a .port))
 
--- the rate rule's fields: a new path starts with none, a known one keeps what the rule leaves
+-- the rate rule's fields: a new path starts with none, a known one has what the rule leaves, and where 15 isn't made, violations and blocked-until stay
 unfoldable pub announcedRate : View → Arrival → Slot Path → RateEntry
 announcedRate v a empty = startsAt (a .clock)
-announcedRate v a (used p) = entryAccepted (v .rate) (a .clock) (p .rate)
+announcedRate v a (used p) = revives a p then entryRevived (a .clock) (p .rate) otherwise entryAccepted (v .rate) (a .clock) (p .rate)
 
+-- wish 6: "Acceptance clears the mark", and a new path has none
 unfoldable pub announcedPath : View → Arrival → Slot Path → Path
 announcedPath v a known =
-    makePath (destination a) (a .port) (hops a) (nextHopOf (a .bytes)) (pathExpiry v a) (announcedRate v a known) (announcedBlobs a known)
+    makePath (destination a) (a .port) (hops a) (nextHopOf (a .bytes)) (pathExpiry v a) (announcedRate v a known) false (announcedBlobs a known)
 
 -- a known path keeps its slot; a new one overwrites the lowest slot empty or expired
 unfoldable pub announcedPlace : Arrival → Slot Path → Relay → ℕ
@@ -86,6 +93,15 @@ limitPath v a (used p) r =
     withPaths
     (set (r .paths) (pathPlace (a .clock) r (destination a)) (used (withPathRate (entryDropped (v .rate) (a .clock) (p .rate)) p)))
     r
+
+-- wish 6: "Let the host mark a destination's live path unresponsive."
+unfoldable pub markedSlot : Slot Path → Slot Path
+markedSlot empty = empty
+markedSlot (used p) = used (withPathMark p)
+
+unfoldable pub markPath : List ℕ → ℕ → Relay → Relay
+markPath destination clock r =
+    withPaths (set (r .paths) (pathPlace clock r destination) (markedSlot (viewAt clock r .path destination))) r
 
 -- ---- return records
 -- first 16 of packet hash, arrival port, leaving port

@@ -6,14 +6,14 @@ use native.Mathlib.Nat.{add-zero, zero-add, le-refl}
 use native.Mathlib.Omega.{arith}
 use mathlib.Core.Bool.{Bool}
 use mathlib.Core.List.{List, [], _++_, append-assoc, append-nil}
-use mathlib.Core.Path.{_≡_, refl, sym, ap, ap₂, _∙_}
+use mathlib.Core.Path.{_≡_, refl, sym, ap, ap₂, subst, _∙_}
 use lib.Dec.{eqb}
 use lib.ListN.{length, getD, take, drop, replicate, length-append, length-replicate, replicate-append-replicate, List·getD-append}
 use lib.Seq.{getD-append-add}
 use Rattle.octets.specs.Index.{_and_, allBelow, listOf, zeros}
 use Rattle.octets.specs.Choice.{_then_otherwise_}
 use Rattle.octets.specs.Part.{part, patch}
-use Rattle.octets.proofs.Index.{and-yes, all-plus, all-cong}
+use Rattle.octets.proofs.Index.{and-left, and-right, and-yes, all-plus, all-cong}
 use Rattle.octets.proofs.Agree.{zeros-replicate}
 use Rattle.octets.proofs.ListOf.{listOf-cong}
 use Rattle.octets.proofs.Part.{part-length, part-part, part-mid, part-split, part-whole, part-range, patch-mid}
@@ -230,3 +230,34 @@ brought-alike {A} {g} (lacked v good e) {t} {u} {a} {b} {n} place wide o =
     let long : n ≡ code g .width = sym (add-zero n) ∙ wide in
     given-alike v g good
     (ap₂ (λ (i m : ℕ). part u (b + i) m) (sym (add-zero place)) (sym long) ∙ o .gap ∙ ap (λ (m : ℕ). replicate m 0) long ∙ sym e)
+
+-- ---- two such fields, one behind the other: an edition that lacks the first lacks the second
+pub data BroughtTwo {A B : Type 0} (g : Form A) (k : Form B) : Form A → Form B → Type 1 where
+  first-kept : {h : Form B} → Brought k h → BroughtTwo g k g h
+  both-lacked : (v : A) (w : B) → code (g & k) .Good (v, w) → code (g & k) .write (v, w) ≡ replicate (code (g & k) .width) 0
+      → BroughtTwo g k (given v) (given w)
+
+pub two-within : {A B : Type 0} {g f : Form A} {k h : Form B} → BroughtTwo g k f h → code f .width + code h .width ≤ code g .width + code k .width
+two-within (first-kept b) = let l = brought-within b in omega (arith, l)
+two-within (both-lacked v w good e) = zero-le
+
+shifted : {A : Type 0} {f g : Form A} {t u : List ℕ} {a a′ b b′ : ℕ} → a ≡ a′ → b ≡ b′ → Alike f g t a u b → Alike f g t a′ u b′
+shifted {A} {f} {g} {t} {u} {a} {a′} {b} {b′} p q r = subst (λ (x : ℕ). Alike f g t x u b′) p (subst (λ (y : ℕ). Alike f g t a u y) q r)
+
+pub two-alike : {A B : Type 0} {g f : Form A} {k h : Form B} (x : BroughtTwo g k f h) {t u : List ℕ} {a b n L : ℕ} (place : ℕ)
+    → n + (code f .width + code h .width) ≡ code g .width + code k .width
+    → Opening t a u b (place + code f .width + code h .width) n L
+    → Alike f g t (a + place) u (b + place) × Alike h k t (a + place + code f .width) u (b + place + code g .width)
+two-alike {A} {B} {g} {f} {k} {h} (first-kept y) {t} {u} {a} {b} {n} place wide o = (
+  same-alike g (o .before place (code g .width) (omega arith)),
+  shifted (omega arith) (omega arith) (brought-alike y (place + code g .width) (omega (arith, wide)) o),
+)
+two-alike {A} {B} {g} {f} {k} {h} (both-lacked v w good e) {t} {u} {a} {b} {n} place wide o =
+    let long : n ≡ code g .width + code k .width = sym (add-zero n) ∙ wide in
+    let here : place ≡ place + 0 + 0 = omega arith in
+    let zeroed : part u (b + place) (code g .width + code k .width) ≡ code (g & k) .write (v, w) =
+    ap₂ (λ (i m : ℕ). part u (b + i) m) here (sym long) ∙ o .gap ∙ ap (λ (m : ℕ). replicate m 0) long ∙ sym e in
+    let p : Alike (given (v, w)) (g & k) t (a + place) u (b + place) = given-alike (v, w) (g & k) good zeroed in (
+      record { reads = ap (λ (y : A × B). y .0) (p .reads); tests = sym (and-left _ _ (sym (p .tests))) },
+      record { reads = ap (λ (y : A × B). y .1) (p .reads); tests = sym (and-right _ _ (sym (p .tests))) },
+    )

@@ -3,20 +3,22 @@ use Prim.Native.Nat.{ℕ, zero, suc, _+_, _-_, _*_, _≤_, _<_}
 use native.Mathlib.Nat.{zero-add, add-zero, le-refl}
 use native.Mathlib.Numerals.{add-one}
 use native.Mathlib.Omega.{arith}
-use mathlib.Core.Bool.{Bool, true, false}
+use mathlib.Core.Bool.{Bool, true, false, false≢true}
 use mathlib.Core.List.{List, [], _++_}
 use mathlib.Core.Path.{_≡_, refl, sym, ap, ap₂, _∙_}
-use lib.Dec.{lit<}
-use borrow.Author.Tests.{eq-eqb, ltb-true, leb-true}
+use lib.Dec.{eqb, lit<}
+use borrow.Author.Tests.{eq-eqb, eqb-true, ltb-true, leb-true}
 use lib.ListN.{length, getD, take, drop, replicate, length-append, take-append-drop}
 use Rattle.octets.specs.Bytes.{Bytes}
 use Rattle.octets.specs.Index.{_and_, allBelow, listOf, zeros}
+use Rattle.octets.specs.Choice.{_then_otherwise_}
 use Rattle.octets.specs.Part.{part, patch, joined}
 use Rattle.octets.specs.BigEndian.{number, bigEndian}
 use Rattle.octets.proofs.Index.{and-left, and-right, and-yes, all-none, all-more, all-fails, all-cong}
 use Rattle.octets.proofs.Bytes.{append-bytes, replicate-bytes, part-bytes}
 use Rattle.octets.proofs.Part.{part-length, part-part, part-mid, part-whole, patch-join, patch-whole}
-use Rattle.codes.specs.Form.{octetsIn, numberIn, many, slot, that, code}
+use Rattle.codes.specs.Form.{mark, octetsIn, numberIn, many, slot, that, code}
+use Rattle.codes.specs.Codes.{markOf}
 use Rattle.codes.proofs.Rows.{row-end}
 use Rattle.codes.proofs.Forms.{lawful}
 use Rattle.codes.proofs.Same.{Same, same-first, same-inside, same-byte}
@@ -31,28 +33,33 @@ use Rattle.tables.specs.Fields.{pathBlobsAt}
 use Rattle.tables.specs.Records.{portBytesOk, localBytesOk, pathBytesOk}
 use Rattle.tables.specs.Layout.{rateSettingsIn, startOk, recordsOk, frontOk, backOk, relayOf, wellFormed}
 use Rattle.tables.proofs.Whole.{clauses}
-use Rattle.saved.specs.Editions.{edition1, editions, currentEdition, isKnown, numbered}
+use Rattle.saved.specs.Editions.{edition1, edition2, editions, currentEdition, isKnown, numbered}
 use Rattle.saved.specs.File.{bodiesAt}
 use Rattle.saved.specs.Steps.{startWidth, beforeBlobs, pathWidthIn, pathsPlace, backPlace, tallyPlace, opened, frontNow, pathNow, pathsNow, pathsFine, tablesNow}
-use Rattle.saved.proofs.Alike.{Alike, same-alike, moved-alike, both-alike, field-alike, that-alike, record-alike, slot-alike, many-alike, opened-length, Opening, opening, Brought, kept, lacked, brought-within, brought-alike}
+use Rattle.saved.proofs.Alike.{Alike, same-alike, moved-alike, both-alike, field-alike, that-alike, record-alike, slot-alike, many-alike, opened-length, Opening, opening, Brought, kept, lacked, brought-within, brought-alike, BroughtTwo, first-kept, both-lacked, two-within, two-alike}
 
 -- ---- what each edition has of the fields that a later one brought
 pub record Brings (e : Edition) : Type 1 where
   pub rateSettings : Brought rateSettingsForm (e .rateSettings)
-  pub rateEntry : Brought rateEntryForm (e .rateEntry)
+  pub pathFields : BroughtTwo rateEntryForm mark (e .rateEntry) (e .pathMark)
 
 first-brings : Brings edition1
-unfolding bigEndian rateSettingsOk _and_
+unfolding bigEndian rateSettingsOk markOf _and_ _then_otherwise_
 first-brings =
     record {
       rateSettings = lacked noRateSettings ((lit< tt, (lit< tt, lit< tt)), refl) refl;
-      rateEntry = lacked noRateEntry (lit< tt, (lit< tt, lit< tt)) refl;
+      pathFields = both-lacked noRateEntry false ((lit< tt, (lit< tt, lit< tt)), tt) refl;
     }
+
+second-brings : Brings edition2
+unfolding markOf _then_otherwise_
+second-brings = record { rateSettings = kept; pathFields = first-kept (lacked false tt refl) }
 
 pub each-brings : (i : ℕ) → Brings (getD editions i edition1)
 each-brings zero = first-brings
-each-brings (suc zero) = record { rateSettings = kept; rateEntry = kept }
-each-brings (suc (suc i)) = first-brings
+each-brings (suc zero) = second-brings
+each-brings (suc (suc zero)) = record { rateSettings = kept; pathFields = first-kept kept }
+each-brings (suc (suc (suc i))) = first-brings
 
 -- the sections before the paths, alone
 front-same : (t : List ℕ) → frontOk (part t 0 pathsAt) ≡ frontOk t
@@ -77,8 +84,8 @@ module _ (e : Edition) (h : Brings e) where
   settings-within : code (e .rateSettings) .width ≤ 12
   settings-within = brought-within (h .rateSettings)
 
-  entry-within : code (e .rateEntry) .width ≤ 17
-  entry-within = brought-within (h .rateEntry)
+  entry-within : code (e .rateEntry) .width + code (e .pathMark) .width ≤ 18
+  entry-within = two-within (h .pathFields)
 
   pub start-within : startWidth e ≤ portsAt
   start-within = omega (arith, settings-within)
@@ -181,17 +188,19 @@ module _ (e : Edition) (h : Brings e) where
 
       path-alike : Alike (slot (pathFormIn e)) (slot pathForm) old 0 (pathNow e f i) 0
       path-alike =
+          let brought = two-alike (h .pathFields) 43 (omega (arith, entry-within)) path-opening in
           slot-alike (same-byte 1 old 0 (pathNow e f i) 0 (path-opening .before 0 1 (omega arith)) (omega arith))
           (ap (λ (k : ℕ). zeros k (part old 0 k)) (sym wide)
           ∙ path-opening .empties
           ∙ ap (λ (k : ℕ). zeros k (part (pathNow e f i) 0 k)) (omega (arith, entry-within)))
           (that-alike (record-alike
           (both-alike (same-alike headForm (path-opening .before 1 42 (omega arith)))
-          (both-alike (field-alike (brought-alike (h .rateEntry) 43 (omega (arith, entry-within)) path-opening))
+          (both-alike (field-alike (brought .0))
+          (both-alike (field-alike (brought .1))
           (field-alike (same-alike blobsForm
           (ap (λ (a : ℕ). part old a 161) (sym (zero-add (beforeBlobs e)))
           ∙ path-opening .after 161 (le-refl _)
-          ∙ ap (λ (a : ℕ). part (pathNow e f i) a 161) (omega (arith, entry-within)))))))))
+          ∙ ap (λ (a : ℕ). part (pathNow e f i) a 161) (omega (arith, entry-within))))))))))
 
     pub now-alike : Alike (relayFormIn e) relayForm f bodiesAt (tablesNow e f) 0
     now-alike =
@@ -300,12 +309,24 @@ module _ (n : ℕ) where
   pub before-most : beforeBlobs (numbered n) ≤ pathBlobsAt
   before-most = before-within (numbered n) (each-brings (n - 1))
 
-  pub last-known : isKnown n ≡ true → (n ≡ 1 → ⊥) → n ≡ currentEdition
+  known-low : isKnown n ≡ true → 0 < n
   unfolding isKnown
-  last-known h ne =
-      let low = ltb-true 0 n (and-left _ _ h) in
-      let high = leb-true n currentEdition (and-right _ _ h) in
-      omega (arith, low, high, ne)
+  known-low h = ltb-true 0 n (and-left _ _ h)
+
+  known-high : isKnown n ≡ true → n ≤ currentEdition
+  unfolding isKnown
+  known-high h = leb-true n currentEdition (and-right _ _ h)
+
+  pub last-known : isKnown n ≡ true → (n ≡ 1 → ⊥) → (n ≡ 2 → ⊥) → n ≡ currentEdition
+  last-known h one two = omega (arith, known-low h, known-high h, one, two)
+
+  -- from edition 2 on, settings stand in the first body
+  pub later-start : isKnown n ≡ true → (n ≡ 1 → ⊥) → startWidth (numbered n) ≡ portsAt
+  later-start h one = go (eqb n 2) refl
+    where
+      go : (b : Bool) → eqb n 2 ≡ b → startWidth (numbered n) ≡ portsAt
+      go true q = ap (λ (m : ℕ). startWidth (numbered m)) (eqb-true n 2 q)
+      go false q = ap (λ (m : ℕ). startWidth (numbered m)) (last-known h one (λ (e : n ≡ 2). false≢true (sym q ∙ eq-eqb n 2 e)))
 
   -- path i's record stands in the file
   pub path-room : (f : List ℕ) → tallyPlace (numbered n) ≤ length f → (i : ℕ) → i < pathCount

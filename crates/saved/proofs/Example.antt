@@ -2,7 +2,7 @@
 -- computed.
 use Prim.Native.Nat.{ℕ, zero, suc, _≤_}
 use native.Mathlib.Omega.{arith}
-use mathlib.Core.Bool.{true}
+use mathlib.Core.Bool.{true, false}
 use mathlib.Core.List.{List, [], _∷_, _++_, append-assoc}
 use mathlib.Core.Path.{_≡_, refl, sym, ap, subst, _∙_}
 use lib.Dec.{lit<}
@@ -81,7 +81,7 @@ small = record { total = lit< tt; dropped = lit< tt; delivered = lit< tt; forwar
 
 -- eight bytes more than the file has; tables and a tally that hold something else
 abbrev pub room : List ℕ
-room = replicate 72300 9
+room = replicate 72364 9
 
 abbrev pub other : List ℕ
 other = replicate tableSize 255
@@ -90,7 +90,7 @@ abbrev pub old : Tally
 old = record { total = 5; dropped = 5; delivered = 0; forwarded = 0; spread = 0; kept = 0 }
 
 pub large : savedSize ≤ length room
-large = omega (arith, length-replicate {A = ℕ} 72300 9)
+large = omega (arith, length-replicate {A = ℕ} 72364 9)
 
 -- the file, as it stands in the room
 abbrev pub file : List ℕ
@@ -115,15 +115,15 @@ loaded-well =
 -- ---- the contents, computed: kind, edition, count; then the offset and the length of each body
 abbrev pub contents : List ℕ
 contents =
-    2 ∷ 2 ∷ 0 ∷ 8 ∷
+    2 ∷ 3 ∷ 0 ∷ 8 ∷
     0 ∷ 0 ∷ 0 ∷ 52 ∷ 0 ∷ 36 ∷
     0 ∷ 0 ∷ 0 ∷ 88 ∷ 0 ∷ 32 ∷
     0 ∷ 0 ∷ 0 ∷ 120 ∷ 1 ∷ 16 ∷
-    0 ∷ 0 ∷ 1 ∷ 136 ∷ 55 ∷ 64 ∷
-    0 ∷ 0 ∷ 56 ∷ 200 ∷ 7 ∷ 128 ∷
-    0 ∷ 0 ∷ 64 ∷ 72 ∷ 54 ∷ 2 ∷
-    0 ∷ 0 ∷ 118 ∷ 74 ∷ 164 ∷ 2 ∷
-    0 ∷ 1 ∷ 26 ∷ 76 ∷ 0 ∷ 24 ∷
+    0 ∷ 0 ∷ 1 ∷ 136 ∷ 55 ∷ 128 ∷
+    0 ∷ 0 ∷ 57 ∷ 8 ∷ 7 ∷ 128 ∷
+    0 ∷ 0 ∷ 64 ∷ 136 ∷ 54 ∷ 2 ∷
+    0 ∷ 0 ∷ 118 ∷ 138 ∷ 164 ∷ 2 ∷
+    0 ∷ 1 ∷ 26 ∷ 140 ∷ 0 ∷ 24 ∷
     []
 
 start : startBytes ++ contentsBytes bodyCount ≡ contents
@@ -144,14 +144,14 @@ abbrev pub empties : List ℕ
 empties = 2 ∷ 1 ∷ 0 ∷ 8 ∷ joined (λ i. 0 ∷ 0 ∷ 0 ∷ 52 ∷ 0 ∷ 0 ∷ []) (listOf (λ i. i) 8)
 
 -- where two faults meet, the earlier row's number: nothing; three bytes; a byte too many, of another kind; of another kind, with another count;
--- edition 0; edition 3; no entries; a wrong offset, and bodies of wrong length; bodies of wrong length, and tables of another size; cut by a byte
+-- edition 0; edition 4; no entries; a wrong offset, and bodies of wrong length; bodies of wrong length, and tables of another size; cut by a byte
 pub refusals : _≡_ {A = List ℕ}
     (loadRefusal [] 0 ∷
     loadRefusal (2 ∷ 1 ∷ 0 ∷ []) 0 ∷
     loadRefusal (1 ∷ 1 ∷ 0 ∷ 0 ∷ 0 ∷ []) 0 ∷
     loadRefusal (1 ∷ 1 ∷ 0 ∷ 0 ∷ []) 0 ∷
     loadRefusal (set empties 1 0) 0 ∷
-    loadRefusal (set empties 1 3) 0 ∷
+    loadRefusal (set empties 1 4) 0 ∷
     loadRefusal (2 ∷ 1 ∷ 0 ∷ 0 ∷ []) 0 ∷
     loadRefusal (set empties 49 51) 0 ∷
     loadRefusal empties 0 ∷
@@ -161,29 +161,30 @@ unfolding computing
 refusals = refl
 
 -- tables one byte short stay, and so does the tally
-pub short : loadOn file (replicate 72215 255) old ≡ record { refusal = 25; tables = replicate 72215 255; tally = old }
+pub short : loadOn file (replicate 72279 255) old ≡ record { refusal = 25; tables = replicate 72279 255; tally = old }
 short =
     let fits : loadRefusal file tableSize ≡ 0 =
     ap (loadRefusal file) (sym (length-replicate {A = ℕ} tableSize 255)) ∙ sym (load-number file other old) ∙ ap (λ (x : LoadedOn). x .refusal) loaded in
-    let wrong : loadRefusal file (length (replicate {A = ℕ} 72215 255)) ≡ 25 =
-    ap (loadRefusal file) (length-replicate {A = ℕ} 72215 255) ∙ other-size file 72215 fits (λ (q : _≡_ {A = ℕ} 72215 tableSize). omega (arith, q)) in
-    load-refused file (replicate 72215 255) old (λ q. omega (arith, wrong, q))
-    ∙ ap (λ (n : ℕ). record { refusal = n; tables = replicate 72215 255; tally = old }) wrong
+    let wrong : loadRefusal file (length (replicate {A = ℕ} 72279 255)) ≡ 25 =
+    ap (loadRefusal file) (length-replicate {A = ℕ} 72279 255) ∙ other-size file 72279 fits (λ (q : _≡_ {A = ℕ} 72279 tableSize). omega (arith, q)) in
+    load-refused file (replicate 72279 255) old (λ q. omega (arith, wrong, q))
+    ∙ ap (λ (n : ℕ). record { refusal = n; tables = replicate 72279 255; tally = old }) wrong
 
 -- ---- the refusals of a save
 pub not-tables : saveOn [] tally [] ≡ record { answer = record { refusal = 7; length = 0 }; room = [] }
 unfolding wellFormed _and_
 not-tables = save-refused [] tally [] 7 (λ q. omega arith) (refused-tables [] 0 refl)
 
-pub small-room : saveOn tables tally (replicate 72291 9) ≡ record { answer = record { refusal = 25; length = 0 }; room = replicate 72291 9 }
+pub small-room : saveOn tables tally (replicate 72355 9) ≡ record { answer = record { refusal = 25; length = 0 }; room = replicate 72355 9 }
 small-room =
-    save-refused tables tally (replicate 72291 9) 25 (λ q. omega arith)
-    (refused-room tables (length (replicate {A = ℕ} 72291 9)) well (omega (arith, length-replicate {A = ℕ} 72291 9)))
+    save-refused tables tally (replicate 72355 9) 25 (λ q. omega arith)
+    (refused-room tables (length (replicate {A = ℕ} 72355 9)) well (omega (arith, length-replicate {A = ℕ} 72355 9)))
 
--- ---- a file of edition 1, which has neither settings nor what a path's record has of the announce rate: "edition 1 .. have settings and new fields at 0"
+-- ---- a file of edition 1, which has neither settings nor what a path's record has of the announce rate: "edition 1 .. have settings and new fields at 0",
+-- and no mark: "older ones load unmarked"
 abbrev Unrated : Slot Path → Type 0
 Unrated empty = Unit
-Unrated (used p) = p .rate ≡ noRateEntry
+Unrated (used p) = (p .rate ≡ noRateEntry) × (p .marked ≡ false)
 
 -- what tables hold without these fields, edition 1 can hold
 unrated-good : (r : Relay) → code relayForm .Good r → r .rate ≡ noRateSettings → ((i : ℕ) → Unrated (getD (r .paths) i empty))
@@ -194,10 +195,10 @@ unrated-good r g none each =
   where
     path : (s : Slot Path) → code (slot pathForm) .Good s → Unrated s → code (slot (pathFormIn edition1)) .Good s
     path empty h e = tt
-    path (used p) h e = ((h .0 .0, (e, h .0 .1 .1)), h .1)
+    path (used p) h e = ((h .0 .0, (e .0, (e .1, h .0 .1 .1 .1))), h .1)
 
 abbrev pub olderRelay : Relay
-olderRelay = relayWith (makePath (knownPath .destination) 1 0 (knownPath .nextHop) 22600 noRateEntry (knownPath .blobs))
+olderRelay = relayWith (makePath (knownPath .destination) 1 0 (knownPath .nextHop) 22600 noRateEntry false (knownPath .blobs))
 
 older-shape : shaped olderRelay ≡ true
 unfolding rules shaped pathShaped linkShaped returnShaped hashShaped isBytes isByte
@@ -220,7 +221,7 @@ older-good =
     none (suc n) (suc i) = none n i
 
     unrated : (i : ℕ) → Unrated (getD (olderRelay .paths) i empty)
-    unrated zero = refl
+    unrated zero = (refl, refl)
     unrated (suc i) = subst Unrated (sym (none 63 i)) tt
 
 -- it is 71,192 bytes long, and loads: the relay is in the tables, the path with zeros

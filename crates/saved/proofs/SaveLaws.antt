@@ -169,7 +169,7 @@ tally-written tally room at l = rw (sym (fields-written tallyForm tally room at 
 
 -- start, contents, tables and tally
 pub file-written : (tables : List ℕ) (tally : Tally) (room : List ℕ) → Bytes tables → wellFormed tables ≡ true → savedSize ≤ length room
-    → patch (patch (patch (patch room 0 startBytes) 4 (contentsBytes bodyCount)) 52 tables) 72268 (tallyBytes tally)
+    → patch (patch (patch (patch room 0 startBytes) 4 (contentsBytes bodyCount)) 52 tables) 72332 (tallyBytes tally)
     ≡ patch room 0 (fileOf (relayOf tables, tally))
 unfolding bytesOf tallyBytes
 file-written tables tally room b h l =
@@ -178,10 +178,10 @@ file-written tables tally room b h l =
     let contents = contents-length bodyCount in
     let start = bigEndian-length 2 bodyCount in
     let front : List ℕ = startBytes ++ (contentsBytes bodyCount ++ tables) in
-    let long : length front ≡ 72268 = simp length-append (omega arith) in
-    ap (λ (r : List ℕ). patch r 72268 (tallyBytes tally))
+    let long : length front ≡ 72332 = simp length-append (omega arith) in
+    ap (λ (r : List ℕ). patch r 72332 (tallyBytes tally))
     (patch-three room 0 4 52 startBytes (contentsBytes bodyCount) tables (omega arith) (omega arith) (omega arith))
-    ∙ patch-join room 0 72268 front (tallyBytes tally) (omega (arith, long)) (omega arith)
+    ∙ patch-join room 0 72332 front (tallyBytes tally) (omega (arith, long)) (omega arith)
     ∙ ap (patch room 0)
     (append-assoc startBytes (contentsBytes bodyCount ++ tables) (tallyBytes tally)
     ∙ ap (λ (r : List ℕ). startBytes ++ r) (append-assoc (contentsBytes bodyCount) tables (tallyBytes tally))

@@ -46,7 +46,8 @@ all-small : (j : ℕ) → allBelow (λ i. ltb (widthAt (held (getD editions j ed
 unfolding allBelow _and_ widthAt
 all-small zero = refl
 all-small (suc zero) = refl
-all-small (suc (suc j)) = refl
+all-small (suc (suc zero)) = refl
+all-small (suc (suc (suc j))) = refl
 
 pub width-small : (n i : ℕ) → i < bodyCount → widthAt (editionAt n) i < 65536
 width-small n i l = ltb-true (widthAt (editionAt n) i) 65536 (all-at (λ j. ltb (widthAt (editionAt n) j) 65536) bodyCount i (all-small (n - 1)) l)
@@ -57,4 +58,5 @@ size-small n = go (n - 1)
     go : (j : ℕ) → bodiesAt + code (held (getD editions j edition1)) .width < 2 ^ 32
     go zero = lit< tt
     go (suc zero) = lit< tt
-    go (suc (suc j)) = lit< tt
+    go (suc (suc zero)) = lit< tt
+    go (suc (suc (suc j))) = lit< tt

@@ -3,7 +3,7 @@
 -- and a field of `Edition` (tables/specs/Forms.antt) for each part of the layout that older ones have otherwise.
 use Prim.Native.Nat.{ℕ, _+_, _-_}
 use Prim.Native.String.{String}
-use mathlib.Core.Bool.{Bool}
+use mathlib.Core.Bool.{Bool, false}
 use mathlib.Core.List.{List, [], _∷_}
 use mathlib.Core.Path.{refl}
 use lib.Dec.{ltb, leb}
@@ -13,7 +13,7 @@ use Rattle.octets.specs.Index.{_and_}
 use Rattle.codes.specs.Form.{Form, byte, mark, numberIn, octetsIn, given, field, _&_, many, firstsOf, slot, that, asRecord, code, oneOf}
 use Rattle.rules.specs.Relay.{noRateSettings, noRateEntry, Relay}
 use Rattle.rules.specs.declared.Tally.{Tally}
-use Rattle.tables.specs.Forms.{Edition, today, relayFormIn}
+use Rattle.tables.specs.Forms.{Edition, rateSettingsForm, rateEntryForm, today, relayFormIn}
 
 -- what is saved, and what a load gives: the relay that the tables hold, and the tally
 abbrev pub Held : Type 0
@@ -78,14 +78,18 @@ widthsOf f (k ∷ ks) = widthOf f k + widthsOf f ks
 -- value (`given`), for one with less room the rest (`firstsOf`)
 -- wish 5: "edition 1 and a fresh relay have settings and new fields at 0"
 abbrev pub edition1 : Edition
-edition1 = record { rateSettings = given noRateSettings; rateEntry = given noRateEntry }
+edition1 = record { rateSettings = given noRateSettings; rateEntry = given noRateEntry; pathMark = given false }
 
--- "Saved tables take edition 2": as the tables are
+-- "Saved tables take edition 2"; wish 6: "older ones load unmarked"
 abbrev pub edition2 : Edition
-edition2 = today
+edition2 = record { rateSettings = rateSettingsForm; rateEntry = rateEntryForm; pathMark = given false }
+
+-- wish 6: "saved tables take edition 3": as the tables are
+abbrev pub edition3 : Edition
+edition3 = today
 
 abbrev pub editions : List Edition
-editions = edition1 ∷ edition2 ∷ []
+editions = edition1 ∷ edition2 ∷ edition3 ∷ []
 
 -- the current one is the last
 abbrev pub currentEdition : ℕ

@@ -7,7 +7,7 @@ use Rattle.octets.specs.Index.{listOf}
 use Rattle.octets.specs.Part.{part}
 use Rattle.recording.specs.Shape.{entryPlace, sumBelow, shapeOf}
 use Rattle.codes.specs.Form.{Form, code}
-use Rattle.saved.specs.Editions.{Held, edition1, held, editionAt, currentEdition, current, widthAt}
+use Rattle.saved.specs.Editions.{Held, edition1, edition2, held, editionAt, currentEdition, current, widthAt}
 
 abbrev pub savedKind : ℕ
 savedKind = 2
@@ -44,7 +44,7 @@ fileOf held = fileIn currentEdition held
 abbrev pub savedSize : ℕ
 savedSize = bodiesAt + code current .width
 
-saved-size : savedSize ≡ 72292
+saved-size : savedSize ≡ 72356
 saved-size = refl
 
 -- the eight bodies are all that is saved
@@ -52,10 +52,17 @@ pub widths-fill : sumBelow (widthAt current) bodyCount ≡ code current .width
 unfolding sumBelow widthAt
 widths-fill = refl
 
--- ---- older editions keep their shape: a file of edition 1, and its eight bodies
+-- ---- older editions keep their shape: a file of each, and its eight bodies
 edition1-size : bodiesAt + code (held edition1) .width ≡ 71192
 edition1-size = refl
 
 edition1-fill : sumBelow (widthAt (held edition1)) bodyCount ≡ code (held edition1) .width
 unfolding sumBelow widthAt
 edition1-fill = refl
+
+edition2-size : bodiesAt + code (held edition2) .width ≡ 72292
+edition2-size = refl
+
+edition2-fill : sumBelow (widthAt (held edition2)) bodyCount ≡ code (held edition2) .width
+unfolding sumBelow widthAt
+edition2-fill = refl

@@ -37,7 +37,7 @@ abbrev pub startWidth : Edition → ℕ
 startWidth e = rateAt + code (e .rateSettings) .width
 
 abbrev pub beforeBlobs : Edition → ℕ
-beforeBlobs e = pathRateAt + code (e .rateEntry) .width
+beforeBlobs e = pathRateAt + code (e .rateEntry) .width + code (e .pathMark) .width
 
 -- how wide a path's record is; where the paths stand in the file, what is behind them, and the tally
 abbrev pub pathWidthIn : Edition → ℕ

@@ -13,6 +13,7 @@ use super::format::TALLY_BODY;
 use numbers::PATH_COUNT;
 use tables::fields::PATH_BLOB_COUNT_AT;
 use tables::fields::PATH_LAST_AT;
+use tables::fields::PATH_MARK_AT;
 use tables::places::PATH_WIDTH;
 use tables::places::PORTS_AT;
 use tables::places::TARGET_AT;
@@ -43,13 +44,15 @@ pub fn start_width(edition: u8) -> usize
     }
 }
 
-// How much of a path's record stands before its blobs. Edition 2 brought what the announce rate has there.
+// How much of a path's record stands before its blobs. Edition 2 brought what the announce rate has there, edition 3 the
+// mark.
 pub fn before_blobs(edition: u8) -> usize
     requires { ⌜ isKnown edition ≡ true ⌝ }
     ensures { λ r. ⌜ r ≡ beforeBlobs (numbered edition) ⌝ }
 {
     match edition {
         1 => PATH_LAST_AT,
+        2 => PATH_MARK_AT,
         _ => PATH_BLOB_COUNT_AT,
     }
 }

@@ -33,7 +33,7 @@ pub const ROOM_REFUSED: u8 = 25;
 pub const KIND: u8 = 2;
 
 // The current edition: the last of those in editions.rt.
-pub const EDITION: u8 = 2;
+pub const EDITION: u8 = 3;
 
 // The file's head: kind, edition, count.
 pub const COUNT_AT: usize = 2;

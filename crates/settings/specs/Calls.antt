@@ -8,7 +8,7 @@ use Rattle.octets.specs.Choice.{_then_otherwise_}
 use Rattle.octets.specs.Part.{joined}
 use Rattle.numbers.specs.Numbers.{portCount}
 use Rattle.rules.specs.Relay.{freshPort, fresh}
-use Rattle.rules.specs.Calls.{sets-port, sets-rate, adds, removes}
+use Rattle.rules.specs.Calls.{sets-port, sets-rate, adds, removes, marks}
 use Rattle.tables.specs.Places.{tableSize}
 use Rattle.tables.specs.Records.{portBytes}
 use Rattle.tables.specs.Layout.{bytesOf}
@@ -29,6 +29,10 @@ addLocalOn t address = callOn t (adds address)
 -- removing one: 7, 11
 abbrev pub removeLocalOn : List ℕ → List ℕ → Called
 removeLocalOn t address = callOn t (removes address)
+
+-- marking a destination's live path unresponsive: 7, 5, 12
+abbrev pub markOn : List ℕ → List ℕ → ℕ → Called
+markOn t destination clock = callOn t (marks destination clock)
 
 -- a fresh relay's tables: 7 where the buffer has the wrong size. What it held is not read
 unfoldable pub freshOn : List ℕ → List ℕ → Called

@@ -1,15 +1,19 @@
 // The calls that need no packet, apart from renumbering: a fresh relay, a port's settings, the announce rate, local
-// addresses.
-// Entry points: fresh, set_port, set_rate, add_local, remove_local. Each returns a refusal's number, or 0, and a
-// refusal changes no byte.
+// addresses, and marking a path.
+// Entry points: fresh, set_port, set_rate, add_local, remove_local, mark_path_unresponsive. Each returns a refusal's
+// number, or 0, and a refusal changes no byte.
 mod writes;
 
 use lookup::empty_local;
 use lookup::is_local;
+use lookup::last_clock;
 use lookup::local_place;
+use lookup::path_place;
+use numbers::CLOCK_LIMIT;
 use numbers::GRACE_LIMIT;
 use numbers::LOCAL_COUNT;
 use numbers::MODE_COUNT;
+use numbers::PATH_COUNT;
 use numbers::PENALTY_LIMIT;
 use numbers::PORT_COUNT;
 use numbers::TARGET_LIMIT;
@@ -17,6 +21,8 @@ use numbers::refusals;
 use tables::check;
 use tables::places::OWN_AT;
 use tables::places::TABLE_SIZE;
+use update::put_mark;
+use update::set_clock;
 use writes::clear;
 use writes::empty_place;
 use writes::put_fresh_ports;
@@ -24,10 +30,16 @@ use writes::put_local;
 use writes::put_port;
 use writes::put_rate;
 ghost use mathlib.Core.Path.{_≡_};
+ghost use lib.ListN.{length};
 ghost use Rattle.rules.specs.Relay.{makeRateSettings};
-ghost use Rattle.rules.specs.Refusals.{rateSettingsOk};
+ghost use Rattle.rules.specs.Refusals.{rateSettingsOk, clockBad};
+ghost use Rattle.tables.specs.Places.{tableSize};
+ghost use Rattle.tables.specs.Layout.{relayOf};
 ghost use Rattle.tables.specs.Called.{Returns};
-ghost use Rattle.settings.specs.Calls.{freshOn, setPortOn, setRateOn, addLocalOn, removeLocalOn};
+ghost use Rattle.settings.specs.Calls.{freshOn, setPortOn, setRateOn, addLocalOn, removeLocalOn, markOn};
+
+// Marking with no live path.
+const NO_LIVE_PATH: u8 = 12;
 
 // The tables of a relay with its own address, all ports off and boundary, clock 0, tables empty.
 pub fn fresh(tables: &mut [u8], own: [u8; 16]) -> u8
@@ -116,5 +128,35 @@ pub fn remove_local(tables: &mut [u8], address: [u8; 16]) -> u8
         return refusals::LOCAL_ADDRESS;
     }
     empty_place(tables, place);
+    refusals::NONE
+}
+
+// Whether a clock is 2^40 or more, or below the last accepted clock.
+fn clock_bad(tables: &[u8], clock: u64) -> bool
+    requires { ⌜ length (now tables) ≡ tableSize ⌝ }
+    ensures { λ r. ⌜ r ≡ clockBad (relayOf (now (tables .entry))) clock ⌝ }
+{
+    if clock >= CLOCK_LIMIT {
+        return true;
+    }
+    clock < last_clock(tables)
+}
+
+// Marks a destination's live path unresponsive, and sets the last clock.
+pub fn mark_path_unresponsive(tables: &mut [u8], destination: [u8; 16], clock: u64) -> u8
+    ensures { λ r. ⌜ Returns (markOn (now (tables .entry)) destination clock) r (now (tables .exit)) ⌝ }
+{
+    if !check(tables) {
+        return refusals::TABLES;
+    }
+    if clock_bad(tables, clock) {
+        return refusals::CLOCK;
+    }
+    let place = path_place(tables, destination, clock);
+    if place >= PATH_COUNT {
+        return NO_LIVE_PATH;
+    }
+    put_mark(tables, place);
+    set_clock(tables, clock);
     refusals::NONE
 }

@@ -24,13 +24,13 @@ use Rattle.rules.specs.View.{pathPlace, viewAt}
 use Rattle.rules.specs.Questions.{Question, port-settings, rate-settings, local-at, path-at, link-at, live-path, live-returns, live-hashes, last-clock, Told, an-address, a-path, a-link, toldOf, countBelow, countOf, rowSeven, questionRule, questionRefusal, tell}
 use Rattle.rules.proofs.Counting.{count-cong, count-le}
 use Rattle.tables.specs.Places.{timeWidth, rateAt, portsAt, portWidth, localsAt, localWidth, pathsAt, pathWidth, linksAt, linkWidth, returnsAt, returnWidth, hashesAt, hashWidth, tableSize}
-use Rattle.tables.specs.Fields.{linkProvedAt, returnExpiryAt, hashExpiryAt}
-use Rattle.tables.specs.Records.{markOf, slotOf, localOf, pathOf, linkOf, returnOf, hashOf, portBytesOk, linkBytesOk}
+use Rattle.tables.specs.Fields.{pathMarkAt, linkProvedAt, returnExpiryAt, hashExpiryAt}
+use Rattle.tables.specs.Records.{markOf, slotOf, localOf, pathOf, linkOf, returnOf, hashOf, portBytesOk, pathBytesOk, linkBytesOk}
 use Rattle.tables.specs.Layout.{rateSettingsIn, recordAt, recordsOk, relayOf, wellFormed}
 use Rattle.tables.specs.Asked.{tellOn, toldNumber, toldBytes, toldCount, Tells, TellsNumber}
 use Rattle.tables.proofs.Lent.{row-end}
 use Rattle.tables.proofs.Seen.{port-seen, local-seen, locals-length, path-seen, paths-length, link-seen, links-length, return-seen, hash-seen}
-use Rattle.tables.proofs.Tests.{slotBytesOk, port-test, link-test}
+use Rattle.tables.proofs.Tests.{slotBytesOk, port-test, path-test, link-test}
 use Rattle.tables.proofs.Whole.{formed, ok-relay}
 use Rattle.lookup.specs.Search.{isUsed, isLive}
 use Rattle.status.specs.Put.{putNumber, putBytes, liveRows}
@@ -45,7 +45,11 @@ pub number-refused-7 : (t : List ℕ) (q : Question) (old : ℕ) → wellFormed 
 unfolding tellOn toldNumber toldCount _then_otherwise_
 number-refused-7 t q old e = rw e (refl, refl)
 
--- the mark of a used link that keeps row 7
+-- the mark of a used path, and of a used link, that keeps row 7
+path-mark : (b : List ℕ) → eqb (getD b 0 0) 0 ≡ false → pathBytesOk b ≡ true → ltb (getD b pathMarkAt 0) 2 ≡ true
+unfolding slotBytesOk _then_otherwise_
+path-mark b u fine = and-left _ _ (and-right _ _ (rw (path-test b, u) at fine))
+
 proved-mark : (b : List ℕ) → eqb (getD b 0 0) 0 ≡ false → linkBytesOk b ≡ true → ltb (getD b linkProvedAt 0) 2 ≡ true
 unfolding slotBytesOk _then_otherwise_
 proved-mark b u fine = and-left _ _ (and-right _ _ (rw (link-test b, u) at fine))
@@ -173,25 +177,28 @@ module _ (t : List ℕ) (h : wellFormed t ≡ true) where
       (rw (paths-length t) l)
 
   module _ (bytes : Bytes t) where
-    path-part : (place : ℕ) (old : List ℕ) → place < pathCount → length old ≡ 60
-        → (let b = recordAt pathsAt pathWidth t place in toldBytes (a-path (pathOf b)) old ≡ part b 1 (length old))
-    path-part place old l n =
-        path-bytes _ (part-bytes t _ _ bytes) (record-length pathsAt pathWidth pathCount place (lit≤ tt) l) old ∙ ap (part _ 1) (sym n)
+    path-part : (place : ℕ) (old : List ℕ) → place < pathCount → length old ≡ 61
+        → (let b = recordAt pathsAt pathWidth t place in eqb (getD b 0 0) 0 ≡ false → toldBytes (a-path (pathOf b)) old ≡ part b 1 (length old))
+    unfolding recordsOk
+    path-part place old l n u =
+        let b = recordAt pathsAt pathWidth t place in
+        let fine : pathBytesOk b ≡ true = all-at (λ k. pathBytesOk (recordAt pathsAt pathWidth t k)) pathCount place (formed t h .paths) l in
+        path-bytes b (part-bytes t _ _ bytes) (record-length pathsAt pathWidth pathCount place (lit≤ tt) l) (path-mark b u fine) old ∙ ap (part b 1) (sym n)
 
-    pub path-told : (place : ℕ) (old : List ℕ) → place < pathCount → length old ≡ 60
+    pub path-told : (place : ℕ) (old : List ℕ) → place < pathCount → length old ≡ 61
         → (let b = recordAt pathsAt pathWidth t place in Tells (tellOn t (path-at place)) old (putNumber b) (putBytes b old))
     unfolding questionRefusal questionRule toldNumber
     path-told place old l n =
-        inside (path-at place) a-path pathOf _ _ old (asked (path-at place) refl) (path-seen t place l) refl (λ _. path-part place old l n)
+        inside (path-at place) a-path pathOf _ _ old (asked (path-at place) refl) (path-seen t place l) refl (path-part place old l n)
 
     pub live-path-told : (destination : List ℕ) (clock place : ℕ) (old : List ℕ) → place ≡ pathPlace clock (relayOf t) destination
-        → place < pathCount → length old ≡ 60
+        → place < pathCount → length old ≡ 61
         → (let b = recordAt pathsAt pathWidth t place in Tells (tellOn t (live-path destination clock)) old (putNumber b) (putBytes b old))
     unfolding questionRefusal questionRule toldNumber viewAt
     live-path-told destination clock place old e l n =
         inside (live-path destination clock) a-path pathOf _ _ old
         (asked (live-path destination clock) refl ∙ ap (λ (k : ℕ). toldOf a-path (getD (relayOf t .paths) k empty)) (sym e))
-        (path-seen t place l) refl (λ _. path-part place old l n)
+        (path-seen t place l) refl (path-part place old l n)
 
     pub link-told : (place : ℕ) (old : List ℕ) → place < linkCount → length old ≡ 29
         → (let b = recordAt linksAt linkWidth t place in Tells (tellOn t (link-at place)) old (putNumber b) (putBytes b old))

@@ -14,7 +14,7 @@ use Rattle.octets.proofs.Part.{part-split, part-one, part-again, part-whole}
 use Rattle.rules.specs.Questions.{Told, a-port, a-rate, an-address, a-path, a-link, toldOf}
 use Rattle.tables.specs.Layout.{rateSettingsIn}
 use Rattle.tables.specs.Places.{timeWidth, settingWidth, rateAt, portsAt, portWidth, pathWidth, linkWidth}
-use Rattle.tables.specs.Fields.{linkProvedAt}
+use Rattle.tables.specs.Fields.{pathMarkAt, linkProvedAt}
 use Rattle.tables.specs.Records.{markOf, slotOf, portOf, localOf, blobsOf, pathOf, linkOf}
 use Rattle.tables.specs.Asked.{rateBytes, toldNumber, toldBytes, Tells}
 use Rattle.lookup.specs.Search.{isUsed}
@@ -49,22 +49,24 @@ module _ (b : List ℕ) (bytes : Bytes b) where
         part-split b 28 4 4,
       )
 
-  pub path-bytes : length b ≡ pathWidth → (old : List ℕ) → toldBytes (a-path (pathOf b)) old ≡ part b 1 60
+  pub path-bytes : length b ≡ pathWidth → ltb (getD b pathMarkAt 0) 2 ≡ true → (old : List ℕ) → toldBytes (a-path (pathOf b)) old ≡ part b 1 61
   unfolding toldBytes rateBytes pathOf blobsOf
-  path-bytes wide old =
+  path-bytes wide m old =
       rw (
         part-again b 35 timeWidth bytes (omega arith),
         part-again b 43 timeWidth bytes (omega arith),
         part-again b 52 timeWidth bytes (omega arith),
-        part-split b 1 16 44,
-        part-cons b 17 43 (omega arith),
-        part-cons b 18 42 (omega arith),
-        part-split b 19 16 26,
-        part-split b 35 8 18,
-        part-split b 43 17 1,
+        mark-again (getD b pathMarkAt 0) m,
+        part-split b 1 16 45,
+        part-cons b 17 44 (omega arith),
+        part-cons b 18 43 (omega arith),
+        part-split b 19 16 27,
+        part-split b 35 8 19,
+        part-split b 43 17 2,
         part-split b 43 8 9,
         part-cons b 51 8 (omega arith),
-        part-one b 60 (omega arith),
+        part-cons b 60 1 (omega arith),
+        part-one b 61 (omega arith),
       )
 
   pub link-bytes : length b ≡ linkWidth → ltb (getD b linkProvedAt 0) 2 ≡ true → (old : List ℕ) → toldBytes (a-link (linkOf b)) old ≡ part b 1 29

@@ -84,8 +84,8 @@ pub fn local_at(tables: &[u8], place: u64, address: &mut [u8; 16]) -> u8
 }
 
 // The path at a place, live or not: destination, port, hops, next hop, expiry, last accepted announce, violations,
-// blocked-until, number of blobs.
-pub fn path_at(tables: &[u8], place: u64, path: &mut [u8; 60]) -> u8
+// blocked-until, marked unresponsive or not, number of blobs.
+pub fn path_at(tables: &[u8], place: u64, path: &mut [u8; 61]) -> u8
     ensures { λ r. ⌜ Tells (tellOn (now (tables .entry)) (path-at place))
         (now (path .entry)) r (now (path .exit)) ⌝ }
 {
@@ -113,7 +113,7 @@ pub fn link_at(tables: &[u8], place: u64, link: &mut [u8; 29]) -> u8
 }
 
 // A destination's live path at a clock.
-pub fn live_path(tables: &[u8], destination: [u8; 16], clock: u64, path: &mut [u8; 60]) -> u8
+pub fn live_path(tables: &[u8], destination: [u8; 16], clock: u64, path: &mut [u8; 61]) -> u8
     ensures { λ r. ⌜ Tells (tellOn (now (tables .entry)) (live-path destination clock))
         (now (path .entry)) r (now (path .exit)) ⌝ }
 {

@@ -146,6 +146,7 @@ path-good p h k =
     also octets-good addressWidth (p .nextHop) (and-left _ _ (and-right _ _ k))
     also time-good (p .expiry) (and-left _ _ (and-right _ _ h2)))
     also rate-entry-good (p .rate) (and-right _ _ (and-right _ _ h2))
+    also tt
     also count
     also long
     also (λ i l. octets-good blobWidth _ (all-nth (isBytes blobWidth) (p .blobs .places) i noBlob shapes (omega (arith, long, l)))))
@@ -153,7 +154,7 @@ path-good p h k =
 
 path-shaped : (p : Path) → code pathForm .Good p → pathShaped p ≡ true
 unfolding pathShaped
-path-shaped p (((destination, (_, (_, (nextHop, _)))), (_, (_, (long, each)))), _) =
+path-shaped p (((destination, (_, (_, (nextHop, _)))), (_, (_, (_, (long, each))))), _) =
     and-both (octets-shaped addressWidth (p .destination) destination)
     (and-both (octets-shaped addressWidth (p .nextHop) nextHop)
     (table-of (isBytes blobWidth) blobLimit (p .blobs .places) long

@@ -22,6 +22,9 @@ pathExpiryAt = 1 + placeOf pathForm "expiry"
 abbrev pub pathRateAt : ℕ
 pathRateAt = 1 + placeOf pathForm "rate"
 
+abbrev pub pathMarkAt : ℕ
+pathMarkAt = 1 + placeOf pathForm "marked"
+
 abbrev pub pathBlobsAt : ℕ
 pathBlobsAt = 1 + placeOf pathForm "blobs"
 

@@ -55,9 +55,11 @@ rateEntryForm =
 pub record Edition : Type 1 where
   pub rateSettings : Form RateSettings
   pub rateEntry : Form RateEntry
+  pub pathMark : Form Bool
 
+-- wish 6: "7 also for a mark neither yes nor no"
 abbrev pub today : Edition
-today = record { rateSettings = rateSettingsForm; rateEntry = rateEntryForm }
+today = record { rateSettings = rateSettingsForm; rateEntry = rateEntryForm; pathMark = mark }
 
 -- ---- a port's settings. No slot: a port that is off keeps its mode
 abbrev pub toPort : Bool × ℕ → Port
@@ -91,17 +93,17 @@ headForm =
     & field "next hop" (octetsIn addressWidth)
     & field "expiry" (numberIn timeWidth)
 
-abbrev pub toPath : Head × (RateEntry × Blobs) → Path
-toPath ((destination, (port, (hops, (nextHop, expiry)))), (rate, blobs)) = makePath destination port hops nextHop expiry rate blobs
+abbrev pub toPath : Head × (RateEntry × (Bool × Blobs)) → Path
+toPath ((destination, (port, (hops, (nextHop, expiry)))), (rate, (marked, blobs))) = makePath destination port hops nextHop expiry rate marked blobs
 
 abbrev pub pathFormIn : Edition → Form Path
 pathFormIn e =
     that pathOk
     (asRecord toPath
-    (λ p. ((p .destination, (p .port, (p .hops, (p .nextHop, p .expiry)))), (p .rate, p .blobs)))
+    (λ p. ((p .destination, (p .port, (p .hops, (p .nextHop, p .expiry)))), (p .rate, (p .marked, p .blobs))))
     (λ x. refl)
     (λ y. refl)
-    (headForm & field "rate" (e .rateEntry) & field "blobs" blobsForm))
+    (headForm & field "rate" (e .rateEntry) & field "marked" (e .pathMark) & field "blobs" blobsForm))
 
 abbrev pub pathForm : Form Path
 pathForm = pathFormIn today

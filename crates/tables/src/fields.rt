@@ -24,7 +24,9 @@ pub const PATH_VIOLATIONS_AT: usize = PATH_LAST_AT + TIME_WIDTH;
 
 pub const PATH_BLOCKED_UNTIL_AT: usize = PATH_VIOLATIONS_AT + 1;
 
-pub const PATH_BLOB_COUNT_AT: usize = PATH_BLOCKED_UNTIL_AT + TIME_WIDTH;
+pub const PATH_MARK_AT: usize = PATH_BLOCKED_UNTIL_AT + TIME_WIDTH;
+
+pub const PATH_BLOB_COUNT_AT: usize = PATH_MARK_AT + 1;
 
 pub const PATH_BLOBS_AT: usize = PATH_BLOB_COUNT_AT + 1;
 

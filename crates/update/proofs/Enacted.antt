@@ -12,13 +12,13 @@ use Rattle.octets.proofs.Choice.{then-false}
 use Rattle.packet.specs.Header.{typeTwo, isData}
 use Rattle.numbers.specs.Numbers.{blobLimit, pathCount, linkCount, returnCount, hashCount, pathLifetime, hashLifetime, returnLifetime}
 use Rattle.rules.specs.Relay.{Slot, empty, used, Ring, Blobs, Path, Return, Remembered, withPathRate, makeReturn, makeRemembered, withSlots, Relay, withClock, withPaths, withLinks, withReturns}
-use Rattle.rules.specs.View.{View, pathPlace, linkPlace, returnPlace, freePath, freeLink, isLiveReturn}
+use Rattle.rules.specs.View.{View, viewAt, pathPlace, linkPlace, returnPlace, freePath, freeLink, isLiveReturn}
 use Rattle.rules.specs.Arrival.{Arrival, header, hops, relayAddress, destination, hash, blob}
-use Rattle.rules.specs.Blobs.{oneBlob, addBlob}
+use Rattle.rules.specs.Blobs.{oneBlob, storeBlob}
 use Rattle.rules.specs.Rate.{entryDropped}
 use Rattle.rules.specs.declared.RateEntry.{RateEntry}
 use Rattle.rules.specs.Ways.{everywhere, by-path, along-link, by-return}
-use Rattle.rules.specs.Writes.{remember, announcedBlobs, announcedRate, limitPath, announcedPath, announcedPlace, putPath, returnKey, returnRecord, emptiedIf, emptiedWhere, putReturn, emptyReturn, linkRecord, putLink, renewedLink, renewLink, writeWay}
+use Rattle.rules.specs.Writes.{remember, announcedBlobs, announcedRate, limitPath, markedSlot, markPath, announcedPath, announcedPlace, putPath, returnKey, returnRecord, emptiedIf, emptiedWhere, putReturn, emptyReturn, linkRecord, putLink, renewedLink, renewLink, writeWay}
 use Rattle.rules.specs.declared.Link.{Link}
 use Rattle.tables.specs.Places.{pathWidth, pathsAt}
 use Rattle.tables.specs.Records.{slotOf, pathOf, blobsOf}
@@ -26,8 +26,8 @@ use Rattle.tables.specs.Layout.{recordAt, relayOf, bytesOf, wellFormed}
 use Rattle.tables.proofs.Seen.{path-seen, paths-length, links-length, returns-length, hashes-length}
 use Rattle.tables.proofs.Whole.{again}
 use Rattle.update.specs.declared.Announced.{Announced}
-use Rattle.update.specs.Written.{clockWritten, hashWritten, announced, pathWritten, rateWritten, linkWritten, returnWritten, returnEmptied, returnsEmptied}
-use Rattle.update.proofs.Steps.{clock-step, path-step, rate-step, link-step, emptied-step, return-step, hash-step, return-next-within, hash-next-within}
+use Rattle.update.specs.Written.{clockWritten, hashWritten, announced, pathWritten, rateWritten, markWritten, linkWritten, returnWritten, returnEmptied, returnsEmptied}
+use Rattle.update.proofs.Steps.{clock-step, path-step, rate-step, mark-step, link-step, emptied-step, return-step, hash-step, return-next-within, hash-next-within}
 
 -- the blobs of a used record
 held-blobs : (row : List ℕ) (p : Path) → slotOf pathOf row ≡ used p → blobsOf row ≡ p .blobs
@@ -89,13 +89,13 @@ module _ (v : View) (a : Arrival) (t : List ℕ) (b : Bytes t) (h : wellFormed t
 
     pub known-path-written : (p : Path) → Announces v a (used p) x added → (u : List ℕ) → slot ≡ pathPlace (a .clock) before (destination a)
         → getD (before .paths) slot empty ≡ used p
-        → u ≡ pathWritten t slot (announced x (addBlob blobLimit added (blobsOf (recordAt pathsAt pathWidth t slot))))
+        → u ≡ pathWritten t slot (announced x (storeBlob blobLimit added (blobsOf (recordAt pathsAt pathWidth t slot))))
         → u ≡ bytesOf (writeWay v a (everywhere (used p)) before)
     unfolding writeWay putPath announcedPlace announcedBlobs
     known-path-written p set-by u live there e =
         path-step before held slot _ (paths-length t) within e
         ∙ ap₂ (λ (k : ℕ) (q : Path). bytesOf (withPaths (set (before .paths) k (used q)) before)) live
-        (ap₂ (λ (y : List ℕ) (s : Blobs). announced x (addBlob blobLimit y s)) (set-by .blob-is) row-blobs ∙ announced-as (used p) set-by)
+        (ap₂ (λ (y : List ℕ) (s : Blobs). announced x (storeBlob blobLimit y s)) (set-by .blob-is) row-blobs ∙ announced-as (used p) set-by)
       where
         row-blobs : blobsOf (recordAt pathsAt pathWidth t slot) ≡ p .blobs
         row-blobs = held-blobs (recordAt pathsAt pathWidth t slot) p (sym (path-seen t slot within) ∙ there)
@@ -147,3 +147,13 @@ module _ (v : View) (a : Arrival) (t : List ℕ) (b : Bytes t) (h : wellFormed t
   return-emptied x slot u within live e =
       emptied-step before held slot (returns-length t) within e
       ∙ ap (λ (k : ℕ). bytesOf (withReturns (withSlots (set (before .returns .slots) k empty) (before .returns)) before)) live
+
+-- ---- a mark, at a clock
+module _ (t : List ℕ) (b : Bytes t) (h : wellFormed t ≡ true) where
+  pub path-marked : (p : Path) (to : List ℕ) (clock slot : ℕ) (u : List ℕ) → slot < pathCount → slot ≡ pathPlace clock (relayOf t) to
+      → getD (relayOf t .paths) slot empty ≡ used p → u ≡ markWritten t slot → u ≡ bytesOf (markPath to clock (relayOf t))
+  unfolding markPath markedSlot viewAt
+  path-marked p to clock slot u within live there e =
+      mark-step (relayOf t) (sym (again t b h)) slot p (paths-length t) within there e
+      ∙ ap₂ (λ (k : ℕ) (x : Slot Path). bytesOf (withPaths (set (relayOf t .paths) k (markedSlot x)) (relayOf t))) live
+      (sym there ∙ ap (λ (k : ℕ). getD (relayOf t .paths) k empty) live)

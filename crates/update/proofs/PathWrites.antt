@@ -12,7 +12,7 @@ use Rattle.octets.specs.Index.{listOf}
 use Rattle.octets.specs.Choice.{_then_otherwise_}
 use Rattle.octets.specs.Part.{part, patch, joined, fields}
 use Rattle.octets.proofs.ListOf.{listOf-length, listOf-cong}
-use Rattle.octets.proofs.Part.{part-length, part-one, part-part, part-split, part-whole, patch-length, patch-join, patch-whole, part-range, patch-range}
+use Rattle.octets.proofs.Part.{part-length, part-one, part-part, part-split, part-whole, patch-length, patch-join, patch-whole, patch-mid, part-range, patch-range}
 use Rattle.octets.proofs.Joined.{joined-append, joined-one, joined-parts, fields-all}
 use Rattle.codes.specs.Form.{byte, octetsIn, many}
 use Rattle.codes.proofs.Forms.{lawful}
@@ -23,8 +23,8 @@ use Rattle.rules.specs.Relay.{used, Blobs}
 use Rattle.rules.specs.Blobs.{noBlob, oneBlob, addBlob}
 use Rattle.tables.specs.Forms.{rateEntryForm, blobsForm, headForm}
 use Rattle.tables.specs.Places.{blobWidth, pathWidth}
-use Rattle.tables.specs.Fields.{blobsWidth, blobPlacesAt, pathBlobsAt}
-use Rattle.tables.specs.Records.{exactly, slotBytes, blobsOf, blobsBytes, pathBytes}
+use Rattle.tables.specs.Fields.{blobsWidth, blobPlacesAt, pathMarkAt, pathBlobsAt}
+use Rattle.tables.specs.Records.{exactly, markOf, slotBytes, blobsOf, blobsBytes, pathBytes}
 use Rattle.tables.proofs.All.{exactly-same}
 use Rattle.tables.proofs.Section.{part-behind}
 use Rattle.update.specs.declared.Announced.{Announced}
@@ -95,7 +95,7 @@ module _ (s : List ℕ) (ls : length s ≡ blobsWidth) where
   places-again =
       fields-all (exactly blobWidth) blobLimit noBlob (blobsIn s .places) places-length ∙ run blobPlacesAt blobLimit (omega arith)
 
-  whole : s ≡ blobsBytes (blobsIn s)
+  pub whole : s ≡ blobsBytes (blobsIn s)
   unfolding blobsBytes blobsIn
   whole =
       sym (part-whole s blobsWidth ls)
@@ -161,21 +161,41 @@ pub head-written : (t : List ℕ) (a : ℕ) (x : Announced) → a + headWidth �
 unfolding headBytes
 head-written t a x fits = marked-written headForm (headOf x) t a fits
 
--- .. and then the rate
+-- .. and then the rate, and no mark
 start-length : (x : Announced) → length (startBytes x) ≡ startWidth
 unfolding startBytes rateBytes
 start-length x =
     let l = head-length x in
     let w = lawful rateEntryForm .wide (x .rate) in
-    length-append (headBytes x) (rateBytes (x .rate)) ∙ omega (arith, l, w)
+    length-append (headBytes x) (rateBytes (x .rate) ++ (0 ∷ []))
+    ∙ ap (λ (k : ℕ). length (headBytes x) + k) (length-append (rateBytes (x .rate)) (0 ∷ []))
+    ∙ omega (arith, l, w)
 
 pub start-written : (t : List ℕ) (a : ℕ) (x : Announced) → a + startWidth ≤ length t
-    → patch (patch t a (headBytes x)) (a + headWidth) (rateBytes (x .rate)) ≡ patch t a (startBytes x)
+    → patch (patch (patch t a (headBytes x)) (a + headWidth) (rateBytes (x .rate))) (a + pathMarkAt) (0 ∷ []) ≡ patch t a (startBytes x)
 unfolding startBytes rateBytes
 start-written t a x fits =
     let l = head-length x in
     let w = lawful rateEntryForm .wide (x .rate) in
-    patch-join t a (a + headWidth) (headBytes x) (rateBytes (x .rate)) (omega (arith, l)) (omega (arith, l, w))
+    let both = length-append (headBytes x) (rateBytes (x .rate)) in
+    ap (λ (u : List ℕ). patch u (a + pathMarkAt) (0 ∷ []))
+    (patch-join t a (a + headWidth) (headBytes x) (rateBytes (x .rate)) (omega (arith, l)) (omega (arith, l, w)))
+    ∙ patch-join t a (a + pathMarkAt) (headBytes x ++ rateBytes (x .rate)) (0 ∷ []) (omega (arith, l, w, both)) (omega arith)
+    ∙ ap (patch t a) (append-assoc (headBytes x) (rateBytes (x .rate)) (0 ∷ []))
+
+-- what is written over itself stays
+patch-own : (t : List ℕ) (a n : ℕ) → a + n ≤ length t → patch t a (part t a n) ≡ t
+patch-own t a n fits =
+    let m : ℕ = length t - (a + n) in
+    let from-zero : 0 + a ≡ a = omega arith in
+    let split : t ≡ part t 0 a ++ (part t a n ++ part t (a + n) m) =
+    sym (part-whole t (a + (n + m)) (omega arith))
+    ∙ part-split t 0 a (n + m)
+    ∙ ap (λ (k : ℕ). part t 0 a ++ part t k (n + m)) from-zero
+    ∙ ap (λ (y : List ℕ). part t 0 a ++ y) (part-split t a n m) in
+    ap (λ (u : List ℕ). patch u a (part t a n)) split
+    ∙ patch-mid (part t 0 a) (part t a n) (part t (a + n) m) (part t a n) a (part-length t 0 a (omega arith)) refl
+    ∙ sym split
 
 -- the blobs of a record at a
 behind-start : (t : List ℕ) (a : ℕ) → blobsIn (part t (a + startWidth) blobsWidth) ≡ blobsOf (part t a pathWidth)
@@ -193,7 +213,7 @@ module _ (t t1 : List ℕ) (a : ℕ) (x : Announced) (fits : a + pathWidth ≤ l
 
   pub path-put : (s : List ℕ) (blobs : Blobs) → s ≡ blobsBytes blobs
       → putMid from (from + blobsWidth - from) t1 s ≡ patch t a (slotBytes pathWidth pathBytes (used (announced x blobs)))
-  unfolding slotBytes pathBytes blobsBytes announced startBytes rateBytes headBytes
+  unfolding _then_otherwise_ markOf slotBytes pathBytes blobsBytes announced startBytes rateBytes headBytes
   path-put s blobs e =
       let long = start-length x in
       let wide = blobs-length blobs in
@@ -201,10 +221,24 @@ module _ (t t1 : List ℕ) (a : ℕ) (x : Announced) (fits : a + pathWidth ≤ l
       ∙ patch-range t1 from blobsWidth (blobsBytes blobs) wide
       ∙ ap (λ (u : List ℕ). patch u from (blobsBytes blobs)) e1
       ∙ patch-join t a from (startBytes x) (blobsBytes blobs) (omega arith) (omega arith)
-      ∙ ap (patch t a) (append-assoc (headBytes x) (rateBytes (x .rate)) (blobsBytes blobs))
+      ∙ ap (patch t a)
+      (append-assoc (headBytes x) (rateBytes (x .rate) ++ (0 ∷ [])) (blobsBytes blobs)
+      ∙ ap (λ (y : List ℕ). headBytes x ++ y) (append-assoc (rateBytes (x .rate)) (0 ∷ []) (blobsBytes blobs)))
 
   pub blobs-kept : blobsIn (take (from + blobsWidth - from) (drop from t1)) ≡ blobsOf (part t a pathWidth)
   blobs-kept =
       ap blobsIn (part-range t1 from blobsWidth ∙ ap (λ (u : List ℕ). part u from blobsWidth) e1)
       ∙ ap blobsIn (part-behind t (startBytes x) a from blobsWidth (ap (λ (k : ℕ). a + k) (start-length x)) (omega arith))
       ∙ behind-start t a
+
+  -- .. and where nothing else is written, they stay
+  pub path-kept : t1 ≡ patch t a (slotBytes pathWidth pathBytes (used (announced x (blobsOf (part t a pathWidth)))))
+  path-kept =
+      let same = ap length e1 ∙ patch-length t a (startBytes x) (let long = start-length x in omega (arith, long)) in
+      let own = take (from + blobsWidth - from) (drop from t1) in
+      let own-is = part-range t1 from blobsWidth in
+      let wide = ap length own-is ∙ part-length t1 from blobsWidth (omega (arith, same)) in
+      sym (patch-own t1 from blobsWidth (omega (arith, same)))
+      ∙ ap (patch t1 from) (sym own-is)
+      ∙ sym (patch-range t1 from blobsWidth own wide)
+      ∙ path-put own (blobsOf (part t a pathWidth)) (whole own wide ∙ ap blobsBytes blobs-kept)

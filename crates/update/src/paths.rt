@@ -9,6 +9,7 @@ use tables::fields::PATH_DESTINATION_AT;
 use tables::fields::PATH_EXPIRY_AT;
 use tables::fields::PATH_HOPS_AT;
 use tables::fields::PATH_LAST_AT;
+use tables::fields::PATH_MARK_AT;
 use tables::fields::PATH_NEXT_HOP_AT;
 use tables::fields::PATH_PORT_AT;
 use tables::fields::PATH_VIOLATIONS_AT;
@@ -24,7 +25,7 @@ ghost use Rattle.rules.specs.Blobs.{oneBlob, addBlob};
 ghost use Rattle.tables.specs.Places.{tableSize, pathsAt, pathWidth};
 ghost use Rattle.tables.specs.Records.{blobsOf};
 ghost use Rattle.tables.specs.Layout.{recordAt};
-ghost use Rattle.update.specs.Written.{rateWidth, rateBytes, rateWritten, headWidth, headBytes, startWidth, startBytes, announced, pathWritten};
+ghost use Rattle.update.specs.Written.{rateWidth, rateBytes, rateWritten, markWritten, headWidth, headBytes, startWidth, startBytes, announced, pathWritten};
 
 // How wide a path's blobs are, with their count.
 const BLOBS_WIDTH: usize = PATH_WIDTH - PATH_BLOB_COUNT_AT;
@@ -57,6 +58,14 @@ pub fn put_rate(tables: &mut [u8], place: usize, rate: RateEntry)
     write_rate(tables, PATHS_AT + PATH_WIDTH * place + PATH_LAST_AT, rate);
 }
 
+// Marks the path at a place unresponsive.
+pub fn put_mark(tables: &mut [u8], place: usize)
+    requires { ⌜ (length (now tables) ≡ tableSize) × (place < pathCount) ⌝ }
+    ensures { λ _. ⌜ now (tables .exit) ≡ markWritten (now (tables .entry)) place ⌝ }
+{
+    octets::set_at(tables, PATHS_AT + PATH_WIDTH * place + PATH_MARK_AT, 1);
+}
+
 // Writes what stands before a record's rate.
 fn put_head(tables: &mut [u8], at: usize, path: Announced)
     requires { ⌜ at + headWidth ≤ length (now tables) ⌝ }
@@ -72,7 +81,7 @@ fn put_head(tables: &mut [u8], at: usize, path: Announced)
     octets::write_number_at(tables, at + PATH_EXPIRY_AT, TIME_WIDTH, path.expiry);
 }
 
-// Writes what stands before its blobs.
+// Writes what stands before its blobs. An announce leaves no mark.
 fn put_start(tables: &mut [u8], at: usize, path: Announced)
     requires { ⌜ at + startWidth ≤ length (now tables) ⌝ }
     ensures { λ _. ⌜ now (tables .exit) ≡ patch (now (tables .entry)) at (startBytes path) ⌝ }
@@ -80,6 +89,7 @@ fn put_start(tables: &mut [u8], at: usize, path: Announced)
     put_head(tables, at, path);
     let rate = path.rate;
     write_rate(tables, at + PATH_LAST_AT, rate);
+    octets::set_at(tables, at + PATH_MARK_AT, 0);
 }
 
 // Puts a new path at a place, spare blob places zero.
@@ -105,4 +115,13 @@ pub fn put_known_path(tables: &mut [u8], place: usize, path: Announced, blob: [u
     put_start(tables, at, path);
     let from = at + PATH_BLOB_COUNT_AT;
     add_blob(&mut tables[from..from + BLOBS_WIDTH], blob);
+}
+
+// Puts a known path, which keeps its place, and its blobs stay.
+pub fn put_kept_path(tables: &mut [u8], place: usize, path: Announced)
+    requires { ⌜ (length (now tables) ≡ tableSize) × (place < pathCount) ⌝ }
+    ensures { λ _. ⌜ now (tables .exit) ≡ pathWritten (now (tables .entry)) place
+        (announced path (blobsOf (recordAt pathsAt pathWidth (now (tables .entry)) place))) ⌝ }
+{
+    put_start(tables, PATHS_AT + PATH_WIDTH * place, path);
 }

@@ -38,11 +38,16 @@ pub struct Options {
 impl Default for Options {
     /// What the gate runs.
     fn default() -> Self {
-        Self { seed: 1, count: 2_000, calls: 100_000, list: None, fault: None, damage: false }
+        Self { seed: 1, count: 2_000, calls: 150_000, list: None, fault: None, damage: false }
     }
 }
 
 impl Options {
+    /// Is traffic long enough to reach everything? Shorter runs show a difference again.
+    fn is_long(&self) -> bool {
+        self.list.is_none() && self.calls >= Self::default().calls
+    }
+
     /// The calls that relays are compared on: those given, or random ones with questions among them.
     fn traffic(&self) -> Box<dyn Iterator<Item = Call> + '_> {
         match &self.list {

@@ -11,8 +11,6 @@ use crate::rules::Tuned;
 
 /// Each that can be reached is reached at least so often.
 const LEAST: usize = 100;
-/// In runs of at least so many calls, that is: shorter ones show a difference again.
-const ENOUGH: usize = 100_000;
 /// Long runs say how far they are once in so many calls.
 const PROGRESS: usize = 200_000;
 
@@ -21,9 +19,10 @@ pub fn run(options: &Options, tally: &mut Tally) {
     let coverage = compare_with("core", || Core, options, tally);
     let asked = [coverage.reached_replies(), coverage.reached_matters()].concat();
     let rates = [coverage.reached_rates(), coverage.reached_settings(), coverage.reached_reasons()].concat();
-    for (what, times) in [coverage.reached(), rates, asked, coverage.files.reached()].concat() {
+    let marks = [coverage.reached_marks(), coverage.reached_mark_calls()].concat();
+    for (what, times) in [coverage.reached(), rates, marks, asked, coverage.files.reached()].concat() {
         println!("{what}: {times}");
-        if options.list.is_none() && options.calls >= ENOUGH {
+        if options.is_long() {
             tally.holds(&format!("{what} is reached at least {LEAST} times"), times >= LEAST, options.damage);
         }
     }

@@ -18,6 +18,19 @@ const IDENTITY: Map = [0, 1, 2, 3, 4, 5, 6, 7, 8, 9, 10, 11, 12, 13, 14, 15];
 const RARITY: usize = 40;
 /// Of the calls asked for only such a part is made: each costs two calls and a renumbering.
 const PART: usize = 4;
+/// Each kind of call is done at least so often.
+const LEAST: usize = 100;
+
+/// The kinds of calls beside packets and questions, whether they name ports or not.
+const KINDS: [(&str, fn(&Call) -> bool); 7] = [
+    ("port settings", |call| matches!(call, Call::SetPort { .. })),
+    ("local addresses", |call| matches!(call, Call::AddLocal(_) | Call::RemoveLocal(_))),
+    ("renumberings of the list", |call| matches!(call, Call::Renumber(_))),
+    ("announce rates", |call| matches!(call, Call::SetAnnounceRate(_))),
+    ("marks", |call| matches!(call, Call::Mark { .. })),
+    ("saves", |call| matches!(call, Call::Save { .. })),
+    ("loads", |call| matches!(call, Call::Load)),
+];
 
 /// The first map, then the second.
 fn compose(first: &Map, second: &Map) -> Map {
@@ -72,6 +85,8 @@ struct Pair<E: Engine> {
     plain: Run<E>,
     renamed: Run<E>,
     map: Map,
+    /// By `KINDS`: calls that were done.
+    done: [usize; KINDS.len()],
 }
 
 impl<E: Engine> Pair<E> {
@@ -95,10 +110,18 @@ impl<E: Engine> Pair<E> {
     fn load(&mut self) -> bool {
         self.renamed.file.clone_from(&self.plain.file);
         let outcomes = (self.plain.make(&Call::Load), self.renamed.make(&Call::Load));
+        self.count(&Call::Load, outcomes.0);
         if outcomes.0 == Some(Outcome::Done) {
             self.map = IDENTITY;
         }
         outcomes.0 == outcomes.1 && self.same_tables()
+    }
+
+    fn count(&mut self, call: &Call, outcome: Option<Outcome>) {
+        let done = matches!(outcome, Some(Outcome::Done | Outcome::Saved(_)));
+        for (times, (_, is_it)) in self.done.iter_mut().zip(KINDS) {
+            *times += usize::from(done && is_it(call));
+        }
     }
 
     /// Are the renamed run's tables the plain run's, renamed, and the tallies equal?
@@ -120,6 +143,7 @@ impl<E: Engine> Pair<E> {
         }
         let plain = self.plain.make(call).map(|outcome| rename_outcome(&self.map, outcome));
         let renamed = self.renamed.make(&rename_call(&self.map, call));
+        self.count(call, plain);
         plain == renamed && self.renamed_output(call, plain).as_ref() == Some(&self.renamed.output) && self.same_tables()
     }
 }
@@ -131,7 +155,7 @@ pub fn run(options: &Options, tally: &mut Tally) {
 
 fn scenarios<E: Engine>(name: &str, engine: impl Fn() -> E, options: &Options, tally: &mut Tally) {
     let mut random = Random::new(options.seed);
-    let mut pair = Pair { plain: Run::new(engine()), renamed: Run::new(engine()), map: IDENTITY };
+    let mut pair = Pair { plain: Run::new(engine()), renamed: Run::new(engine()), map: IDENTITY, done: [0; KINDS.len()] };
     let calls = Asking::new(options.seed, Traffic::unlent(options.seed).take(options.calls / PART));
     for (number, call) in calls.enumerate() {
         let same = pair.make(&call);
@@ -146,6 +170,12 @@ fn scenarios<E: Engine>(name: &str, engine: impl Fn() -> E, options: &Options, t
         }
         if random.one_in(RARITY) {
             tally.holds("a renumbering put in", pair.renumber(&random.permutation()), options.damage);
+        }
+    }
+    for ((what, _), times) in KINDS.iter().zip(pair.done) {
+        println!("{name}, renumbered: {what}: {times}");
+        if options.is_long() {
+            tally.holds(&format!("{what} at least {LEAST} times"), times >= LEAST, options.damage);
         }
     }
 }

@@ -6,7 +6,7 @@ use super::coverage::Coverage;
 use super::{Called, Options, Tally};
 use crate::core;
 use crate::engine::{Call, Outcome, PacketCall, Run};
-use crate::limits::{GRACE_LIMIT, PENALTY_LIMIT, TARGET_LIMIT};
+use crate::limits::{CLOCK_LIMIT, GRACE_LIMIT, PENALTY_LIMIT, TARGET_LIMIT};
 use crate::linked::Core;
 use crate::packet::Address;
 use crate::random::Random;
@@ -14,7 +14,7 @@ use crate::relay::asking::{Question, KINDS};
 use crate::relay::Relay;
 use crate::rules::{AsWritten, Rules, Tuned};
 use crate::samples::{self, Fill, FIELDS, RECORDS, RINGS};
-use crate::tables::{time, AnnounceRate, Table, HASHES, LOCALS, PATHS, RETURNS, SIZE};
+use crate::tables::{last_clock, time, AnnounceRate, Table, HASHES, LOCALS, PATHS, RETURNS, SIZE};
 use crate::traffic::Traffic;
 
 /// Each clause is broken, and kept, at least so often.
@@ -72,6 +72,7 @@ fn core_call(random: &mut Random, tables: &mut [u8], call: &Call) -> Option<u8> 
             core::set_port(tables, *port, on, *mode)
         }
         Call::SetAnnounceRate(rate) => core::set_announce_rate(tables, rate),
+        Call::Mark { destination, clock } => core::mark_path_unresponsive(tables, destination, *clock),
         Call::AddLocal(address) => core::add_local(tables, address),
         Call::RemoveLocal(address) => core::remove_local(tables, address),
         Call::Renumber(map) => core::renumber(tables, map),
@@ -106,12 +107,7 @@ fn a_question(random: &mut Random, tables: &[u8], kind: usize) -> Question {
         1 => Question::Local(place(random, 16)),
         2 => Question::Path(place(random, 64)),
         3 => Question::Link(place(random, 64)),
-        4 => {
-            let at = PATHS.records.range(random.below(64)).start + 1;
-            let known = tables.get(at..at + 16).and_then(|key| key.try_into().ok());
-            let destination = known.unwrap_or_else(|| random.array());
-            Question::LivePath { destination, clock: a_clock(random, tables, &PATHS) }
-        }
+        4 => Question::LivePath { destination: a_destination(random, tables), clock: a_clock(random, tables, &PATHS) },
         5 => Question::LiveReturns(a_clock(random, tables, &RETURNS)),
         6 => Question::LiveHashes(a_clock(random, tables, &HASHES)),
         7 => Question::LastClock,
@@ -143,8 +139,23 @@ fn a_rate(random: &mut Random) -> AnnounceRate {
     AnnounceRate { target: setting(TARGET_LIMIT), grace: setting(GRACE_LIMIT), penalty: setting(PENALTY_LIMIT) }
 }
 
+/// What stands in a path's place: zeros, if that is unused.
+fn a_destination(random: &mut Random, tables: &[u8]) -> Address {
+    let at = PATHS.records.range(random.below(64)).start + 1;
+    let known = tables.get(at..at + 16).and_then(|key| key.try_into().ok());
+    known.unwrap_or_else(|| random.array())
+}
+
+/// A mark about the last clock, or about an expiry.
+fn a_mark(random: &mut Random, tables: &[u8]) -> Call {
+    let last = if tables.len() >= SIZE { last_clock(tables) } else { 0 };
+    let any = a_clock(random, tables, &PATHS);
+    let clock = random.pick(&[last, last, last, last.wrapping_sub(1), last + 1, CLOCK_LIMIT - 1, CLOCK_LIMIT, any]);
+    Call::Mark { destination: a_destination(random, tables), clock }
+}
+
 fn a_call(random: &mut Random, tables: &[u8]) -> Call {
-    match random.below(11) {
+    match random.below(13) {
         0 => Call::Fresh(random.array()),
         1 | 2 => {
             let port = random.pick(&[0, 1, 7, 14, 15, 16, 17, 256, u64::MAX]);
@@ -153,6 +164,7 @@ fn a_call(random: &mut Random, tables: &[u8]) -> Call {
         3 | 4 => Call::AddLocal(an_address(random, tables)),
         5 | 6 => Call::RemoveLocal(an_address(random, tables)),
         7 | 8 => Call::SetAnnounceRate(a_rate(random)),
+        9 | 10 => a_mark(random, tables),
         _ => Call::Renumber(a_map(random)),
     }
 }
@@ -288,7 +300,7 @@ pub fn run(options: &Options, tally: &mut Tally) {
         println!("refusal {number}: {}", reached.calls.refusals[number]);
         least(format!("refusal {number}"), reached.calls.refusals[number]);
     }
-    for (what, times) in [reached.calls.reached_replies(), reached.calls.reached_settings()].concat() {
+    for (what, times) in [reached.calls.reached_replies(), reached.calls.reached_settings(), reached.calls.reached_mark_calls()].concat() {
         println!("{what}: {times}");
         least(what, times);
     }

@@ -30,6 +30,11 @@ pub enum Call {
         mode: u64,
     },
     SetAnnounceRate(AnnounceRate),
+    /// Marks a destination's live path unresponsive.
+    Mark {
+        destination: Address,
+        clock: u64,
+    },
     AddLocal(Address),
     RemoveLocal(Address),
     Renumber([u8; 16]),
@@ -138,6 +143,7 @@ impl fmt::Display for Call {
             Call::SetAnnounceRate(AnnounceRate { target, grace, penalty }) => {
                 write!(f, "set announce rate target {target} grace {grace} penalty {penalty}")
             }
+            Call::Mark { destination, clock } => write!(f, "mark {} clock {clock}", Digits(destination)),
             Call::AddLocal(address) => write!(f, "add local {}", Digits(address)),
             Call::RemoveLocal(address) => write!(f, "remove local {}", Digits(address)),
             Call::Renumber(map) => write!(f, "renumber {}", Digits(map)),
@@ -189,6 +195,7 @@ fn call_of(words: &[&str]) -> Option<Call> {
         ["set", "announce", "rate", "target", target, "grace", grace, "penalty", penalty] => {
             Call::SetAnnounceRate(AnnounceRate { target: target.parse().ok()?, grace: grace.parse().ok()?, penalty: penalty.parse().ok()? })
         }
+        ["mark", destination, "clock", clock] => Call::Mark { destination: array_of(destination)?, clock: clock.parse().ok()? },
         ["add", "local", address] => Call::AddLocal(array_of(address)?),
         ["remove", "local", address] => Call::RemoveLocal(array_of(address)?),
         ["renumber", map] => Call::Renumber(array_of(map)?),

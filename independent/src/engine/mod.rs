@@ -61,6 +61,7 @@ pub trait Engine: SavedCalls + AnswerCalls {
     fn packet(&mut self, tables: &mut [u8], tally: &mut Tally, output: &mut [u8], arrival: &Arrival) -> Outcome;
     fn set_port(&mut self, tables: &mut [u8], port: u64, on: bool, mode: u64) -> Outcome;
     fn set_announce_rate(&mut self, tables: &mut [u8], rate: &AnnounceRate) -> Outcome;
+    fn mark_unresponsive(&mut self, tables: &mut [u8], destination: &Address, clock: u64) -> Outcome;
     fn add_local(&mut self, tables: &mut [u8], address: &Address) -> Outcome;
     fn remove_local(&mut self, tables: &mut [u8], address: &Address) -> Outcome;
     fn renumber(&mut self, tables: &mut [u8], map: &[u8; 16]) -> Outcome;
@@ -91,6 +92,10 @@ impl<R: Rules> Engine for Relay<R> {
 
     fn set_announce_rate(&mut self, tables: &mut [u8], rate: &AnnounceRate) -> Outcome {
         self.rules.set_announce_rate(tables, rate).into()
+    }
+
+    fn mark_unresponsive(&mut self, tables: &mut [u8], destination: &Address, clock: u64) -> Outcome {
+        self.rules.mark_unresponsive(tables, destination, clock).into()
     }
 
     fn add_local(&mut self, tables: &mut [u8], address: &Address) -> Outcome {
@@ -154,6 +159,7 @@ impl<E: Engine> Run<E> {
             }
             Call::SetPort { port, on, mode } => self.engine.set_port(tables, *port, *on, *mode),
             Call::SetAnnounceRate(rate) => self.engine.set_announce_rate(tables, rate),
+            Call::Mark { destination, clock } => self.engine.mark_unresponsive(tables, destination, *clock),
             Call::AddLocal(address) => self.engine.add_local(tables, address),
             Call::RemoveLocal(address) => self.engine.remove_local(tables, address),
             Call::Renumber(map) => self.engine.renumber(tables, map),

@@ -10,6 +10,7 @@ mod check;
 mod exempt;
 mod judging;
 mod links;
+mod marks;
 mod outgoing;
 mod packets;
 mod rates;
@@ -30,6 +31,7 @@ pub use check::*;
 pub use exempt::*;
 pub use judging::*;
 pub use links::*;
+pub use marks::*;
 pub use outgoing::*;
 pub use packets::*;
 pub use rates::*;
@@ -76,6 +78,7 @@ const OF_JUDGING: &[&[Fault]] = &[
     exempt::FAULTS,
     announces::FAULTS,
     rates::FAULTS,
+    marks::FAULTS,
     by_path::FAULTS,
     links::FAULTS,
     returns::FAULTS,

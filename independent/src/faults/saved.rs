@@ -116,6 +116,14 @@ faults! {
             }
         }),
     }
+    OlderLoadsMarked: "the paths of an older file are marked"
+    breaks "saved tables take edition 3, older ones load unmarked." {
+        put_loaded = |_, file, tables, tally| put_but(file, tables, tally, |_, tables| {
+            for path in PATHS.records.iter_mut(tables).filter(|path| file[1] < 3 && is_used(path)) {
+                marks::set_mark(path);
+            }
+        }),
+    }
     RecordingLoaded: "a file of kind 1 is loaded"
     breaks "Save and load in the recordings' shape with kind byte 2" {
         saved_kind_refused = |_, file| file.first() != Some(&1) && loading::saved_kind_refused(file) || file[1] == 0 || file[1] > CURRENT,

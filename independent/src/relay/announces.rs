@@ -5,23 +5,31 @@ use crate::answer::{Answer, Reason, When};
 use crate::limits::{ACCESS_POINT_LIFETIME, BLOB_LIMIT, BOUNDARY_LIFETIME, ROAMING_LIFETIME};
 use crate::packet::announced;
 use crate::rules::Rules;
-use crate::tables::{blobs, path, Mode, Path, Port, BLOB, PATHS, PORTS};
+use crate::tables::{blobs, path, Mode, Path, Port, RateEntry, BLOB, PATHS, PORTS};
 
 /// "An accepted announce (no test drops it)" leaves a path and is spread.
 pub fn announce<R: Rules>(rules: &R, packet: &Packet, tables: &mut [u8], output: &mut [u8]) -> Result<Answer, Reason> {
     let known = rules.find(&PATHS, tables, &packet.parts.destination, packet.clock);
     rules.announce_tests(packet, known.map(|place| PATHS.records.get(tables, place)))?;
-    let entry = rules.test_15(packet.clock, known, tables)?;
+    let entry = rate_entry(rules, packet, known, tables)?;
     let place = rules.path_slot(packet, known, tables).ok_or(Reason::NoRoom)?;
     rules.store_path(packet, known.is_some(), place, tables);
     rules.store_rate(packet.clock, &entry, PATHS.records.get_mut(tables, place));
     Ok(rules.spread(packet, tables, output))
 }
 
+/// What the announce leaves of its destination's rate entry: by test 15, where that is made.
+fn rate_entry<R: Rules>(rules: &R, packet: &Packet, known: Option<usize>, tables: &mut [u8]) -> Result<RateEntry, Reason> {
+    match known.map(|place| PATHS.records.get(tables, place)) {
+        Some(path) if rules.revives(packet, path) => Ok(rules.revived_entry(path)),
+        _ => rules.test_15(packet.clock, known, tables),
+    }
+}
+
 /// Tests 9, 10 and 11; `known` is the record of a live path. "9. Signature word no, for announces and link proofs."
 pub fn announce_tests<R: Rules>(rules: &R, packet: &Packet, known: Option<&[u8]>) -> Result<(), Reason> {
     Reason::BadSignature.when(!packet.signature)?;
-    let Some(path) = known else { return Ok(()) };
+    let Some(path) = known.filter(|path| !rules.revives(packet, path)) else { return Ok(()) };
     Reason::Replay.when(rules.is_replay(blob(packet), path))?;
     Reason::NotBetter.when(rules.not_better(packet, path))
 }
@@ -66,7 +74,10 @@ pub fn store_path<R: Rules>(rules: &R, packet: &Packet, known: bool, place: usiz
         rules.clear_slot(record);
     }
     rules.path_of(packet, mode).write(record);
-    rules.store_blob(blob(packet), record);
+    if !rules.holds_blob(blob(packet), record) {
+        rules.store_blob(blob(packet), record);
+    }
+    rules.clear_mark(record);
 }
 
 /// In a new path's slot, "spare blob places zero".

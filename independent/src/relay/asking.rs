@@ -61,7 +61,7 @@ impl Question {
         match self {
             Question::Port(_) => 2,
             Question::Local(_) => 16,
-            Question::Path(_) | Question::LivePath { .. } => 60,
+            Question::Path(_) | Question::LivePath { .. } => 61,
             Question::Link(_) => 29,
             Question::LiveReturns(_) | Question::LiveHashes(_) | Question::LastClock => 8,
             Question::AnnounceRate => 12,
@@ -139,11 +139,12 @@ pub fn rate_told(rate: &AnnounceRate) -> Vec<u8> {
     [rate.target, rate.grace, rate.penalty].map(|setting| (setting as u32).to_be_bytes()).concat()
 }
 
-/// Destination, port, hops, next hop, expiry, last announce, violations, blocked-until and blob count.
+/// Destination, port, hops, next hop, expiry, last announce, violations, blocked-until, mark and blob count.
 fn path_told<R: Rules>(rules: &R, record: &[u8]) -> Vec<u8> {
     let Path { destination, port, hops, next_hop, expiry } = Path::read(record);
     let rate = rules.entry_told(&RateEntry::read(record));
-    [&destination[..], &[port, hops], &next_hop, &expiry.to_be_bytes(), &rate, &[record[path::BLOB_COUNT]]].concat()
+    let last = [record[path::UNRESPONSIVE], record[path::BLOB_COUNT]];
+    [&destination[..], &[port, hops], &next_hop, &expiry.to_be_bytes(), &rate, &last].concat()
 }
 
 pub fn entry_told(entry: &RateEntry) -> Vec<u8> {

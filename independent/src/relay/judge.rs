@@ -42,15 +42,18 @@ pub fn not_ours(packet: &Packet, tables: &[u8]) -> bool {
 }
 
 /// "Otherwise the hash is now remembered in the next ring place, the oldest's once 1,024 are held. Drops 1 and 2 remember nothing".
-/// Exempt packets "are no longer tested as duplicates nor remembered." So nothing asks for their hash.
+/// Exempt packets "are no longer tested as duplicates nor remembered." So nothing asks for their hash. Of an announce that skips the test
+/// "(its hash is remembered if it isn't already live)".
 pub fn test_2<R: Rules>(rules: &R, packet: &mut Packet, tables: &mut [u8]) -> Result<(), Reason> {
     if rules.is_exempt(packet) {
         return Ok(());
     }
     packet.hash = packet_hash(rules, packet);
-    Reason::Duplicate.when(rules.is_duplicate(&packet.hash, packet.clock, tables))?;
-    rules.remember(&packet.hash, packet.clock, tables);
-    Ok(())
+    if !rules.is_duplicate(&packet.hash, packet.clock, tables) {
+        rules.remember(&packet.hash, packet.clock, tables);
+        return Ok(());
+    }
+    Reason::Duplicate.when(!rules.skips_test_2(packet, tables))
 }
 
 /// "Packets of kind link with context 0x01, 0x03, 0x05, 0x08, 0x0E or 0xFA": of any packet kind and type.

@@ -7,6 +7,7 @@ pub mod by_path;
 pub mod form;
 pub mod judge;
 pub mod links;
+pub mod marks;
 pub mod outgoing;
 pub mod rate;
 pub mod renumbering;

@@ -18,6 +18,8 @@ pub const EDITIONS: &[&[Added]] = &[
     &[],
     // 2: "edition 1 and a fresh relay have settings and new fields at 0."
     &[Added { body: OWN, at: 24, unsaved: &[0; 12] }, Added { body: PATH, at: 43, unsaved: &[0; 17] }],
+    // 3: "older ones load unmarked."
+    &[Added { body: PATH, at: 60, unsaved: &[0] }],
 ];
 /// The places of the bodies whose records grow.
 const OWN: usize = 0;
@@ -104,9 +106,10 @@ mod tests {
     /// What docs/LAYOUT.md says of each edition.
     #[test]
     fn the_bodies_are_the_drawn_ones() {
-        assert_eq!(CURRENT, 2);
+        assert_eq!(CURRENT, 3);
         assert_eq!(lengths(1), [24, 32, 272, 13_056, 1_920, 13_826, 41_986, 24]);
         assert_eq!(lengths(2), [36, 32, 272, 14_144, 1_920, 13_826, 41_986, 24]);
-        assert_eq!(super::super::LENGTH, 72_292);
+        assert_eq!(lengths(3), [36, 32, 272, 14_208, 1_920, 13_826, 41_986, 24]);
+        assert_eq!(super::super::LENGTH, 72_356);
     }
 }

@@ -69,7 +69,10 @@ fn mode_known(mode: u8) -> bool {
 /// What a path holds beside its port and its expiry.
 pub fn path_allowed<R: Rules>(rules: &R, path: &[u8]) -> bool {
     let RateEntry { last, blocked_until, .. } = RateEntry::read(path);
-    rules.blob_count_allowed(path[path::BLOB_COUNT]) && rules.last_announce_allowed(last) && rules.block_allowed(blocked_until)
+    rules.blob_count_allowed(path[path::BLOB_COUNT])
+        && rules.last_announce_allowed(last)
+        && rules.block_allowed(blocked_until)
+        && rules.unresponsive_mark(path[path::UNRESPONSIVE]).is_some()
 }
 
 /// "blob count outside 1..16 in a used record"
@@ -109,6 +112,11 @@ pub fn proved_mark(mark: u8) -> Option<bool> {
 }
 
 pub fn on_mark(mark: u8) -> Option<bool> {
+    yes_or_no(mark)
+}
+
+/// Wish 6: "7 also for a mark neither yes nor no."
+pub fn unresponsive_mark(mark: u8) -> Option<bool> {
     yes_or_no(mark)
 }
 

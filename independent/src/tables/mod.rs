@@ -45,7 +45,8 @@ pub mod path {
     pub const LAST_ANNOUNCE: usize = EXPIRY + TIME;
     pub const VIOLATIONS: usize = LAST_ANNOUNCE + TIME;
     pub const BLOCKED_UNTIL: usize = VIOLATIONS + 1;
-    pub const BLOB_COUNT: usize = BLOCKED_UNTIL + TIME;
+    pub const UNRESPONSIVE: usize = BLOCKED_UNTIL + TIME;
+    pub const BLOB_COUNT: usize = UNRESPONSIVE + 1;
     pub const BLOBS: usize = BLOB_COUNT + 1;
     pub const WIDTH: usize = BLOBS + BLOB_LIMIT * BLOB;
 }
@@ -266,13 +267,14 @@ mod tests {
     /// Where docs/LAYOUT.md says that each section begins.
     #[test]
     fn the_layout_is_the_drawn_one() {
-        assert_eq!([RATE.start, PORTS.start, LOCALS.start, PATHS.records.start, LINKS.records.start], [24, 36, 68, 340, 14_484]);
-        assert_eq!([RETURN_PLACE, RETURNS.records.start, HASH_PLACE, HASHES.records.start], [16_404, 16_406, 30_230, 30_232]);
+        assert_eq!([RATE.start, PORTS.start, LOCALS.start, PATHS.records.start, LINKS.records.start], [24, 36, 68, 340, 14_548]);
+        assert_eq!([RETURN_PLACE, RETURNS.records.start, HASH_PLACE, HASHES.records.start], [16_468, 16_470, 30_294, 30_296]);
         assert_eq!(
             [PATHS, LINKS, RETURNS, HASHES].map(|table| (table.records.width, table.expiry)),
-            [(221, 35), (30, 22), (27, 19), (41, 33)]
+            [(222, 35), (30, 22), (27, 19), (41, 33)]
         );
-        assert_eq!([path::LAST_ANNOUNCE, path::VIOLATIONS, path::BLOCKED_UNTIL, path::BLOB_COUNT], [43, 51, 52, 60]);
-        assert_eq!(SIZE, 72_216);
+        assert_eq!([path::LAST_ANNOUNCE, path::VIOLATIONS, path::BLOCKED_UNTIL], [43, 51, 52]);
+        assert_eq!([path::UNRESPONSIVE, path::BLOB_COUNT, path::BLOBS], [60, 61, 62]);
+        assert_eq!(SIZE, 72_280);
     }
 }

@@ -87,7 +87,7 @@ impl RateEntry {
     }
 }
 
-/// A path, but for its rate entry and its blobs.
+/// A path, but for its rate entry, its mark and its blobs.
 #[derive(Clone, Copy, Debug)]
 pub struct Path {
     pub destination: Address,

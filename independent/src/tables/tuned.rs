@@ -25,6 +25,7 @@ pub fn tables_allowed(tables: &[u8]) -> bool {
                 && time(path, path::EXPIRY) <= LATEST
                 && time(path, path::LAST_ANNOUNCE) <= LATEST_ANNOUNCE
                 && time(path, path::BLOCKED_UNTIL) <= LATEST_BLOCK
+                && path[path::UNRESPONSIVE] <= 1
         })
         && records_allowed(&tables[LINKS.records.bytes()], |link: &[u8; link::WIDTH]| {
             is_port(link[link::ASKING] | link[link::ANSWERING]) && link[link::PROVED] <= 1 && time(link, link::EXPIRY) <= LATEST

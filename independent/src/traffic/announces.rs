@@ -55,7 +55,59 @@ impl Traffic {
 
     fn send_draft(&mut self, draft: &Draft, signature: bool) {
         let bytes = self.announce_bytes(draft);
+        self.world.stations[draft.station].announce = Some((bytes.clone(), draft.port));
         self.send_signed(bytes, draft.port, signature);
+    }
+
+    /// The very bytes of a station's last announce.
+    pub(super) fn same_announce(&mut self, station: usize) {
+        let Some((bytes, port)) = self.world.stations[station].announce.clone() else { return self.announce_of(station) };
+        let port = if self.random.one_in(4) { self.other_port(port) } else { port };
+        self.send(bytes, port);
+    }
+
+    /// The newest blob in another announce, with any hops.
+    pub(super) fn replay_newest(&mut self, station: usize) {
+        let Some(newest) = self.world.stations[station].blobs.last().copied() else { return self.announce_of(station) };
+        let mut draft = self.draft(station, 0);
+        draft.blob = newest;
+        self.send_draft(&draft, true);
+    }
+
+    /// An announce that is too short, or of other keys, or not of kind single, or from too far, or unsigned, and the same once more.
+    pub(super) fn forged_twice(&mut self, station: usize) {
+        let draft = self.newer(station);
+        let mut bytes = self.announce_bytes(&draft);
+        let start = if draft.type_2 { 35 } else { 19 };
+        let signature = match self.random.below(5) {
+            0 => {
+                bytes.truncate(start + self.random.below(148));
+                true
+            }
+            1 => {
+                bytes[start] ^= 1;
+                true
+            }
+            2 => {
+                bytes[0] |= self.random.pick(&[4, 8, 12]);
+                true
+            }
+            3 => {
+                bytes[1] = self.random.pick(&[128, 129, 255]);
+                true
+            }
+            _ => false,
+        };
+        for _ in 0..2 {
+            self.send_signed(bytes.clone(), draft.port, signature);
+        }
+    }
+
+    /// A newer announce by a port.
+    pub(super) fn announce_by(&mut self, station: usize, port: u8) {
+        let mut draft = self.newer(station);
+        draft.port = port;
+        self.accept_draft(&draft);
     }
 
     /// Sends a draft that should be accepted but for the announce rate, and believes so.
@@ -208,6 +260,10 @@ impl Traffic {
     /// Around the longest announce that can be spread.
     pub(super) fn announce_long(&mut self) {
         let station = self.station();
+        self.announce_long_of(station);
+    }
+
+    pub(super) fn announce_long_of(&mut self, station: usize) {
         let mut draft = self.newer(station);
         let length = if draft.type_2 { self.random.pick(&[499, 500, 501]) } else { self.random.pick(&[483, 484, 485, 486, 500]) };
         let start = if draft.type_2 { 35 } else { 19 };
@@ -236,11 +292,13 @@ impl Traffic {
         }
     }
 
-    /// All stations, one after another: with ninety there is no room for all.
+    /// All stations, one after another: with ninety there is no room for all. Then some once more.
     pub(super) fn announce_crowd(&mut self) {
         for station in 0..self.world.stations.len() {
-            let draft = self.newer(station);
-            self.accept_draft(&draft);
+            self.announce_of(station);
+        }
+        for _ in 0..4 {
+            self.announce_newer();
         }
     }
 

@@ -86,11 +86,12 @@ impl Traffic {
 
     /// Not the episodes of these calls: what they change would be believed after the tables of before are back.
     fn setting_on_lent(&mut self) {
-        let call = match self.random.below(6) {
+        let call = match self.random.below(8) {
             0 => Call::SetPort { port: self.random.below(17) as u64, on: self.random.one_in(2), mode: self.random.below(4) as u64 },
             1 => Call::AddLocal(self.stray_address()),
             2 => Call::RemoveLocal(self.stray_address()),
             3 | 4 => Call::SetAnnounceRate(self.a_rate()),
+            5 | 6 => Call::Mark { destination: self.stray_address(), clock: self.world.clock },
             _ => Call::Renumber(self.random.permutation()),
         };
         self.queue.push_back(call);
@@ -157,7 +158,7 @@ impl Traffic {
         let small = self.random.pick(&[0, 1, 2, 15, 16, 17, 255]);
         let time = a_time(&mut self.random, self.world.clock).to_be_bytes();
         let random = &mut self.random;
-        let (at, bytes) = match random.below(15) {
+        let (at, bytes) = match random.below(16) {
             0 => (start(random, &PATHS) + path::PORT, vec![small]),
             1 => (start(random, &PATHS) + path::BLOB_COUNT, vec![small]),
             2 => (start(random, &PATHS) + path::HOPS, vec![small]),
@@ -172,6 +173,7 @@ impl Traffic {
             11 => (start(random, &PATHS) + path::LAST_ANNOUNCE, time.to_vec()),
             12 => (start(random, &PATHS) + path::VIOLATIONS, vec![small]),
             13 => (start(random, &PATHS) + path::BLOCKED_UNTIL, time.to_vec()),
+            14 => (start(random, &PATHS) + path::UNRESPONSIVE, vec![small]),
             _ => (start(random, &HASHES) + HASHES.expiry, time.to_vec()),
         };
         self.write(at, bytes);
@@ -210,6 +212,14 @@ impl Traffic {
         self.write(PATHS.records.start, record);
     }
 
+    /// The same at a place near the start, marked or not, or neither.
+    pub(super) fn lend_marked_path(&mut self, number: usize, place: usize) {
+        self.lend_rated_path(number);
+        let Some(Call::Write { bytes: mut record, .. }) = self.queue.pop_back() else { return };
+        record[path::UNRESPONSIVE] = self.random.pick(&[0, 0, 0, 1, 1, 1, 1, 1, 1, 2]);
+        self.write(PATHS.records.range(place).start, record);
+    }
+
     /// A second one perhaps, with hops over 127, any blob count, any rate entry, and spare places that hold blobs it sent.
     fn path_record(&mut self, number: usize) -> Vec<u8> {
         let most = BLOB_LIMIT as u8;
@@ -227,6 +237,7 @@ impl Traffic {
             place.copy_from_slice(&sent.copied().unwrap_or([self.random.pick(&[0, 0, 7]); BLOB]));
         }
         self.lent_rate().write(&mut record);
+        record[path::UNRESPONSIVE] = u8::from(self.random.one_in(4));
         record
     }
 

@@ -7,6 +7,7 @@ mod data;
 mod exempt;
 mod lent;
 mod links;
+mod marks;
 mod rates;
 mod reasons;
 mod saved;
@@ -36,6 +37,9 @@ struct Station {
     hops: u8,
     expiry: u64,
     rate: RateEntry,
+    marked: bool,
+    /// Its last announce, and where that came in.
+    announce: Option<(Vec<u8>, u8)>,
 }
 
 /// A link that was asked for.
@@ -115,6 +119,10 @@ const EPISODES: &[(usize, Episode)] = &[
     (8, Traffic::chatter),
     (4, Traffic::refused_rate),
     (12, Traffic::lent_chatter),
+    (14, Traffic::dead_path),
+    (10, Traffic::refused_mark),
+    (2, Traffic::mark_edge),
+    (4, Traffic::lent_marks),
     (25, Traffic::data_by_path),
     (8, Traffic::data_lost),
     (6, Traffic::data_local),
@@ -133,20 +141,20 @@ const EPISODES: &[(usize, Episode)] = &[
     (1, Traffic::link_flood),
     (2, Traffic::keepalives),
     (2, Traffic::keepalives_astray),
-    (2, Traffic::keepalives_remembered),
+    (3, Traffic::keepalives_remembered),
     (10, Traffic::port_setting),
-    (3, Traffic::port_off_and_on),
+    (5, Traffic::port_off_and_on),
     (5, Traffic::local_calls),
-    (1, Traffic::locals_full),
+    (2, Traffic::locals_full),
     (12, Traffic::renumbering),
-    (54, Traffic::refused_packet),
-    (14, Traffic::lent_tables),
+    (64, Traffic::refused_packet),
+    (16, Traffic::lent_tables),
     (4, Traffic::bad_forms),
     (12, Traffic::lent_reasons),
     (4, Traffic::save_and_load),
     (2, Traffic::load_again),
     (3, Traffic::load_older),
-    (20, Traffic::load_refused),
+    (24, Traffic::load_refused),
     (6, Traffic::load_changed),
 ];
 
@@ -332,7 +340,19 @@ impl Station {
         let name_hash = random.array();
         let address = announced::destination(sha, &keys, &name_hash);
         let emission = 1_000 + random.below(1_700_000_000) as u64;
-        Self { keys, name_hash, address, blobs: Vec::new(), emission, port: 0, hops: 0, expiry: 0, rate: RateEntry::default() }
+        Self {
+            keys,
+            name_hash,
+            address,
+            blobs: Vec::new(),
+            emission,
+            port: 0,
+            hops: 0,
+            expiry: 0,
+            rate: RateEntry::default(),
+            marked: false,
+            announce: None,
+        }
     }
 }
 

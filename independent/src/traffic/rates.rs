@@ -43,8 +43,13 @@ impl Traffic {
         let (clock, rate) = (self.world.clock, self.world.rate);
         let station = &mut self.world.stations[station];
         let live = clock < station.expiry;
-        let left = if live { rate_rule(&AsWritten, clock, &rate, station.rate) } else { Ok(RateEntry::default()) };
+        let left = match (live, station.marked) {
+            (true, true) => Ok(station.rate),
+            (true, false) => rate_rule(&AsWritten, clock, &rate, station.rate),
+            (false, _) => Ok(RateEntry::default()),
+        };
         station.rate = left.map_or_else(|dropped| dropped, |entry| RateEntry { last: clock, ..entry });
+        station.marked &= left.is_err();
         left.is_ok()
     }
 
@@ -107,7 +112,7 @@ impl Traffic {
         self.queue.push_back(Call::PutAside);
         let before = self.world.rate;
         let mut rate = self.a_rate();
-        if self.random.one_in(4) {
+        if self.random.one_in(3) {
             rate.target = 0;
         }
         self.set_rate(rate);

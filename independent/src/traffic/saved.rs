@@ -78,16 +78,24 @@ impl Traffic {
         if !self.files {
             return;
         }
+        if self.random.one_in(2) {
+            let rate = self.a_rate();
+            self.set_rate(rate);
+        }
         self.save();
         let edition = self.random.pick(&[1, CURRENT - 1]);
         self.queue.push_back(Call::AgeFile(edition));
         self.queue.push_back(Call::Load);
         self.saved = None;
-        self.world.rate = rates::OFF;
-        self.world.stations.iter_mut().for_each(|station| station.rate = RateEntry::default());
+        if edition == 1 {
+            self.world.rate = rates::OFF;
+            self.world.stations.iter_mut().for_each(|station| station.rate = RateEntry::default());
+        }
+        self.world.stations.iter_mut().for_each(|station| station.marked = false);
         for _ in 0..1 + self.random.below(3) {
             self.some_packets();
         }
+        self.set_rate(rates::OFF);
     }
 
     /// A load that is refused: by 20, 21 or 22, by the bodies' lengths, or by the size of the tables that are lent; and a save by its room.

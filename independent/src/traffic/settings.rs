@@ -115,7 +115,10 @@ impl Traffic {
             let settings = &mut self.world.ports[usize::from(map[port])];
             (settings.on, settings.mode) = (on, mode);
         }
-        self.world.stations.iter_mut().for_each(|station| image(&mut station.port));
+        for station in &mut self.world.stations {
+            image(&mut station.port);
+            station.announce.iter_mut().for_each(|(_, port)| image(port));
+        }
         for link in &mut self.world.links {
             image(&mut link.asking);
             image(&mut link.answering);

@@ -73,7 +73,7 @@ fn local_addresses(host: &mut Host) {
 /// Of an announce in type 2 that came in by port 3 at clock 10, with two hops.
 fn path_of(station: u8) -> Vec<u8> {
     let rate = [&10u64.to_be_bytes()[..], &[0; 9]].concat();
-    [&destination(station)[..], &[3, 2], &NEIGHBOUR, &604_810u64.to_be_bytes(), &rate, &[1]].concat()
+    [&destination(station)[..], &[3, 2], &NEIGHBOUR, &604_810u64.to_be_bytes(), &rate, &[0, 1]].concat()
 }
 
 fn a_path_at_its_place(host: &mut Host) {
@@ -153,7 +153,10 @@ fn a_paths_rate(host: &mut Host) {
     path[50] = 1;
     path[58] = 115;
     assert_eq!(ask(host, Question::Path(0)), Ok(path.clone()));
-    assert_eq!(ask(host, Question::LivePath { destination: destination(1), clock: 20 }), Ok(path));
+    assert_eq!(ask(host, Question::LivePath { destination: destination(1), clock: 20 }), Ok(path.clone()));
+    assert_eq!(host.program.mark_unresponsive(&mut host.tables, &destination(1), 20), Outcome::Done);
+    path[59] = 1;
+    assert_eq!(ask(host, Question::Path(0)), Ok(path));
 }
 
 fn bad_tables(host: &mut Host) {

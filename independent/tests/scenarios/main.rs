@@ -8,6 +8,7 @@ mod edges;
 mod host;
 mod keepalives;
 mod links;
+mod marks;
 mod packets;
 mod rates;
 mod reasons;

@@ -31,6 +31,7 @@ crate::on_both_programs!(
     edition_1_has_no_announce_rate(OlderRateStays),
     paths_of_edition_1(OlderPathsAnnouncedNow),
     other_lengths_of_edition_1(OlderEditionRefused),
+    a_kept_file_of_edition_2(OlderLoadsMarked),
 );
 
 /// Offset and length of the bodies, as docs/LAYOUT.md has them.
@@ -38,16 +39,16 @@ const BODIES: [(usize, usize); 8] = [
     (52, 36), // own address, last clock, announce rate
     (88, 32),
     (120, 272),
-    (392, 14_144),
-    (14_536, 1_920),
-    (16_456, 13_826),
-    (30_282, 41_986),
+    (392, 14_208),
+    (14_600, 1_920),
+    (16_520, 13_826),
+    (30_346, 41_986),
     (TALLY_AT, 24),
 ];
-const EDITION: u8 = 2;
+const EDITION: u8 = 3;
 const PORTS_AT: usize = 88;
-const TALLY_AT: usize = 72_268;
-const LENGTH: usize = 72_292;
+const TALLY_AT: usize = 72_332;
+const LENGTH: usize = 72_356;
 const TALLY: Tally = [0x0102_0304, 1, 2, 3, 4, u32::MAX];
 
 fn save(host: &Host, room: usize) -> (u64, Vec<u8>) {
@@ -278,7 +279,7 @@ fn every_clause_of_refusal_7(host: &mut Host) {
     host.verdict(&to_station(1, 0x40, 0, b"a"), 0, 11);
     let file = saved(host);
     let late = (LATEST + 1).to_be_bytes();
-    let broken: [(usize, &[u8]); 15] = [
+    let broken: [(usize, &[u8]); 16] = [
         (LAST_CLOCK, &late),
         (PORTS.start, &[2]),
         (PORTS.start + 1, &[3]),
@@ -287,6 +288,7 @@ fn every_clause_of_refusal_7(host: &mut Host) {
         (PATHS.records.start + path::BLOB_COUNT, &[0]),
         (PATHS.records.start + path::BLOB_COUNT, &[17]),
         (PATHS.records.start + path::EXPIRY, &late),
+        (PATHS.records.start + path::UNRESPONSIVE, &[2]),
         (PATHS.records.range(1).end - 1, &[1]),
         (LINKS.records.start + link::ANSWERING, &[16]),
         (LINKS.records.start + link::PROVED, &[2]),
@@ -374,7 +376,7 @@ fn paths_of_edition_1(host: &mut Host) {
     let tables = loaded_1(host);
     for (path, older) in PATHS.records.iter(tables).zip(EDITION_1[380..13_436].chunks_exact(204)) {
         assert_eq!(path[..path::LAST_ANNOUNCE], older[..43]);
-        assert_eq!(path[path::LAST_ANNOUNCE..path::BLOB_COUNT], [0; 17]);
+        assert_eq!(path[path::LAST_ANNOUNCE..path::BLOB_COUNT], [0; 18]);
         assert_eq!(path[path::BLOB_COUNT..], older[43..]);
     }
 }
@@ -386,4 +388,18 @@ fn other_lengths_of_edition_1(host: &mut Host) {
     assert_eq!(load_changed(host, &file, &[(1, &[1])]), 24);
     assert_eq!(load_changed(host, EDITION_1, &[(1, &[EDITION])]), 24);
     assert_eq!(load_changed(host, EDITION_1, &[(76, &[2])]), 24);
+}
+
+/// What the program of edition 2 saved: its records lack the mark alone, and no path is marked.
+fn a_kept_file_of_edition_2(host: &mut Host) {
+    let file = include_bytes!("../../../tests/saved/edition-2.saved");
+    assert_eq!(host.program.load(file, &mut host.tables, &mut host.tally), 0);
+    let tables = &host.tables;
+    assert!(tables[..PATHS.records.start] == file[52..392]);
+    assert!(tables[LINKS.records.start..] == file[14_536..72_268]);
+    for (path, older) in PATHS.records.iter(tables).zip(file[392..14_536].chunks_exact(221)) {
+        assert_eq!(path[..path::UNRESPONSIVE], older[..60]);
+        assert_eq!(path[path::UNRESPONSIVE], 0);
+        assert_eq!(path[path::BLOB_COUNT..], older[60..]);
+    }
 }

@@ -1,5 +1,6 @@
 //! What calls reach, and how often.
 
+mod marks;
 mod rates;
 mod reasons;
 
@@ -11,6 +12,7 @@ use crate::relay::asking::{ALWAYS_TOLD, KINDS};
 use crate::rules::AsWritten;
 use crate::sha256::Sha256;
 use crate::tables::{self, HASHES};
+use marks::{Marked, Marks};
 use rates::{Found, Rates};
 use reasons::Reasons;
 use std::collections::HashMap;
@@ -30,15 +32,18 @@ pub struct Coverage {
     asked: Asked,
     pub files: Files,
     rates: Rates,
+    marks: Marks,
     split: Reasons,
     /// Settings of the announce rate: those set, then refusals by number.
     rate_settings: [usize; 10],
 }
 
-/// What a call finds: an exempt packet its hash in the ring, an announce its entry, any packet the expiries of its destination's paths.
+/// What a call finds: an exempt packet its hash in the ring, an announce its entry and a marked path, any packet the expiries of its destination's
+/// paths.
 pub struct Before {
     remembered: bool,
     found: Option<Found>,
+    marked: Option<Marked>,
     expiries: Vec<u64>,
 }
 
@@ -111,6 +116,7 @@ impl Coverage {
             (Call::Save { .. }, _) => self.files.saves[refusal(outcome)] += 1,
             (Call::Load, _) => self.files.loads[refusal(outcome)] += 1,
             (Call::SetAnnounceRate(_), _) => self.rate_settings[refusal(outcome).min(9)] += 1,
+            (Call::Mark { .. }, _) => self.marks.marks[refusal(outcome).min(12)] += 1,
             _ => self.count(outcome),
         }
     }
@@ -134,15 +140,18 @@ impl Coverage {
     /// What is looked up before a call.
     pub fn before(&mut self, call: &Call, tables: &[u8]) -> Before {
         let expiries = self.split.before(call, tables);
-        Before { remembered: self.is_remembered(call, tables), found: Found::before(call, tables), expiries }
+        let marked = Marked::before(&self.exempt.sha, call, tables);
+        Before { remembered: self.is_remembered(call, tables), found: Found::before(call, tables), marked, expiries }
     }
 
     /// Makes a call count, with what was looked up before it.
     pub fn after(&mut self, call: &Call, outcome: &Outcome, before: &Before) {
         self.count_call(call, outcome);
         self.count_exempt(call, outcome, before.remembered);
-        if let Some(found) = &before.found {
-            self.rates.count(found, outcome);
+        match (&before.marked, &before.found) {
+            (Some(marked), _) => self.marks.count(marked, outcome),
+            (None, Some(found)) => self.rates.count(found, outcome),
+            _ => {}
         }
         if let Outcome::Judged(Answer { verdict, .. }) = outcome {
             self.split.count(call, &before.expiries, *verdict);
@@ -206,6 +215,16 @@ impl Coverage {
     /// The branches of test 15.
     pub fn reached_rates(&self) -> Vec<(String, usize)> {
         self.rates.reached()
+    }
+
+    /// Announces for marked paths.
+    pub fn reached_marks(&self) -> Vec<(String, usize)> {
+        self.marks.reached()
+    }
+
+    /// The calls that mark them.
+    pub fn reached_mark_calls(&self) -> Vec<(String, usize)> {
+        self.marks.reached_calls()
     }
 
     /// The calls that set the announce rate.

@@ -37,7 +37,11 @@ const CHANGES: usize = 400;
 const KEPT_DAMAGES: usize = 200;
 
 /// What programs of each edition saved.
-const KEPT: &[&[u8]] = &[include_bytes!("../../../../tests/saved/edition-1.saved")];
+const KEPT: &[&[u8]] = &[
+    include_bytes!("../../../../tests/saved/edition-1.saved"),
+    include_bytes!("../../../../tests/saved/edition-2.saved"),
+    include_bytes!("../../../../tests/saved/edition-3.saved"),
+];
 
 struct Comparison<'a> {
     options: &'a Options,
@@ -46,6 +50,8 @@ struct Comparison<'a> {
     got: &'a dyn SavedCalls,
     expected: &'a dyn SavedCalls,
     reached: Files,
+    /// Files of each edition that were loaded, from the first on.
+    editions: [usize; CURRENT as usize],
     /// Is the first difference enough?
     first: bool,
 }
@@ -99,6 +105,9 @@ impl Comparison<'_> {
         let of = |program| loaded_by(program, file, size);
         let (got, expected) = (of(self.got), of(self.expected));
         self.reached.loads[(expected.number as usize).min(25)] += 1;
+        if expected.number == 0 {
+            self.editions[usize::from(file[1]) - 1] += 1;
+        }
         let head = &file[..file.len().min(HEAD)];
         self.expect(&format!("{what}: load of {} bytes beginning {head:02x?} into {size}", file.len()), got, expected);
     }
@@ -294,15 +303,23 @@ impl Comparison<'_> {
     }
 }
 
-/// Compares two programs on saved tables, and says what was reached.
-fn compare_until(got: &dyn SavedCalls, expected: &dyn SavedCalls, options: &Options, tally: &mut Tally, first: bool) -> Files {
+/// Compares two programs on saved tables, and says what was reached, and how often.
+fn compare_until(
+    got: &dyn SavedCalls,
+    expected: &dyn SavedCalls,
+    options: &Options,
+    tally: &mut Tally,
+    first: bool,
+) -> Vec<(String, usize)> {
     let random = Random::new(options.seed);
-    let mut c = Comparison { options, tally, random, got, expected, reached: Files::default(), first };
+    let editions = [0; CURRENT as usize];
+    let mut c = Comparison { options, tally, random, got, expected, reached: Files::default(), editions, first };
     c.expect("size of a saved file", Called::new(got.saved_size() as u64, &[]), Called::new(expected.saved_size() as u64, &[]));
     c.edges();
     c.kept();
     c.random();
-    c.reached
+    let editions = (1..).zip(c.editions).map(|(edition, times)| (format!("load: edition {edition}"), times));
+    c.reached.reached().into_iter().chain(editions).collect()
 }
 
 /// Do two programs differ on saved tables?
@@ -314,7 +331,7 @@ pub fn programs_differ(got: &dyn SavedCalls, expected: &dyn SavedCalls) -> bool 
 
 pub fn run(options: &Options, tally: &mut Tally) {
     let reached = compare_until(&Core, &Relay::new(Tuned), options, tally, false);
-    for (what, times) in reached.reached() {
+    for (what, times) in reached {
         println!("{what}: {times}");
         if options.count >= ENOUGH {
             tally.holds(&format!("{what} at least {LEAST} times"), times >= LEAST, options.damage);

@@ -1,21 +1,42 @@
+use mathlib.Core.Path.{sym, _∙_}
 use Rattle.octets.specs.Choice.{_then_otherwise_}
-use Rattle.rules.specs.Rate.{entryAccepted}
-use Rattle.act.specs.Stored.{rateStored}
+use Rattle.rules.specs.Rate.{entryAccepted, entryRevived}
+use Rattle.act.specs.Stored.{rateKnown, rateStored}
 use Rattle.act.proofs.announces.announced_rate.Statement.{statement}
 use Rattle.act.proofs.announces.announced_rate.Tie as tie
 
-rate-at-requires : tie.Need-rate-at-requires
-rate-at-requires c κs =
+revives-requires : tie.Need-revives-requires
+revives-requires c κs =
     let s = c .before .before in
     (s .pre .0, s .pre .1 (c .if1 .taken))
 
+path-rate-requires : tie.Need-path-rate-requires
+path-rate-requires c κs =
+    let c2 = c .before .before in
+    let s = c2 .before .before in
+    (s .pre .0, s .pre .1 (c2 .if1 .taken) .within)
+
 returns : tie.Need-returns
-unfolding rateStored entryAccepted _then_otherwise_
-returns c = rw (c .rate-at .ensures, c .before .if1 .taken)
+unfolding rateStored rateKnown entryRevived _then_otherwise_
+returns c =
+    let c1 = c .before in
+    rw (c .path-rate .ensures, c1 .before .before .if1 .taken, sym (c1 .before .revives .ensures) ∙ c1 .if2 .taken)
+
+rate-at-requires : tie.Need-rate-at-requires
+rate-at-requires c κs =
+    let c2 = c .before .before in
+    let s = c2 .before .before in
+    (s .pre .0, s .pre .1 (c2 .if1 .taken))
 
 returns-2 : tie.Need-returns-2
+unfolding rateStored rateKnown entryAccepted _then_otherwise_
+returns-2 c =
+    let c1 = c .before in
+    rw (c .rate-at .ensures, c1 .before .before .if1 .taken, sym (c1 .before .revives .ensures) ∙ c1 .if2 .left)
+
+returns-3 : tie.Need-returns-3
 unfolding rateStored _then_otherwise_
-returns-2 c = rw (c .if1 .left)
+returns-3 c = rw (c .if1 .left)
 
 pub announced-rate-spec : {M : Type 1} → statement M
-announced-rate-spec = tie.close (tie.spec rate-at-requires returns returns-2)
+announced-rate-spec = tie.close (tie.spec revives-requires path-rate-requires returns rate-at-requires returns-2 returns-3)

@@ -46,7 +46,7 @@ returns c =
     let contents = c10 .write-contents .ensures ∙ ap (λ (r : List ℕ). patch r 4 (contentsBytes bodyCount)) (c14 .write-start .ensures) in
     let copied = c6 .copy-at .ensures ∙ ap (λ (r : List ℕ). patch r 52 tables) contents in
     c2 .write-tally .ensures
-    ∙ ap (λ (r : List ℕ). patch r 72268 (tallyBytes (a .tally))) copied
+    ∙ ap (λ (r : List ℕ). patch r 72332 (tallyBytes (a .tally))) copied
     ∙ file-written tables (a .tally) (a .room .now) (known-bytes tables (c17 .shared-slice-known .given)) (c18 .pre .0) (c18 .pre .1)
 
 pub write-file-spec : {M : Type 1} → statement M

@@ -27,52 +27,47 @@ returns c =
 shared-slice-read-if2 : tie.Need-shared-slice-read-if2
 shared-slice-read-if2 c = search needs
 
-cast-if2 : tie.Need-cast-if2
-cast-if2 c = search needs
-
 returns-2 : tie.Need-returns-2
-unfolding pathOk pathOf blobsOf timeOk _and_
+unfolding _and_
 returns-2 c = rw (path-test _, slot-used pathWidth _ _ (c .before .before .if1 .left), le-ltb _ _ (c .if2 .taken))
 
 shared-slice-read-if3 : tie.Need-shared-slice-read-if3
 shared-slice-read-if3 c = search needs
 
+cast-if3 : tie.Need-cast-if3
+cast-if3 c = search needs
+
 returns-3 : tie.Need-returns-3
 unfolding pathOk pathOf blobsOf timeOk _and_
 returns-3 c =
-    let c4 = c .before .before .before .before in
-    let c6 = c4 .before .before in
-    rw (
-      path-test _,
-      slot-used pathWidth _ _ (c4 .if1 .left),
-      lt-ltb _ _ (c .before .before .if2 .left),
-      lt-ltb _ 256 (c6 .shared-slice-known .given pathHopsAt .fits),
-      lt-leb _ _ (c .if3 .taken),
-    )
+    let c2 = c .before .before in
+    let c4 = c2 .before .before in
+    rw (path-test _, slot-used pathWidth _ _ (c4 .if1 .left), lt-ltb _ _ (c2 .if2 .left), le-ltb _ _ (c .if3 .taken))
 
 shared-slice-read-if4 : tie.Need-shared-slice-read-if4
 shared-slice-read-if4 c = search needs
 
-cast-if4 : tie.Need-cast-if4
-cast-if4 c = search needs
-
 returns-4 : tie.Need-returns-4
 unfolding pathOk pathOf blobsOf timeOk _and_
 returns-4 c =
-    let c4 = c .before .before .before .before in
+    let c2 = c .before .before in
+    let c4 = c2 .before .before in
     let c6 = c4 .before .before in
     let c8 = c6 .before .before in
     rw (
       path-test _,
       slot-used pathWidth _ _ (c6 .if1 .left),
       lt-ltb _ _ (c4 .if2 .left),
+      lt-ltb _ _ (c2 .if3 .left),
       lt-ltb _ 256 (c8 .shared-slice-known .given pathHopsAt .fits),
-      le-leb _ _ (c .before .before .if3 .left),
       lt-leb _ _ (c .if4 .taken),
     )
 
-number-of-8-at-requires : tie.Need-number-of-8-at-requires
-number-of-8-at-requires c κs = search needs
+shared-slice-read-if5 : tie.Need-shared-slice-read-if5
+shared-slice-read-if5 c = search needs
+
+cast-if5 : tie.Need-cast-if5
+cast-if5 c = search needs
 
 returns-5 : tie.Need-returns-5
 unfolding pathOk pathOf blobsOf timeOk _and_
@@ -86,33 +81,58 @@ returns-5 c =
       path-test _,
       slot-used pathWidth _ _ (c8 .if1 .left),
       lt-ltb _ _ (c6 .if2 .left),
+      lt-ltb _ _ (c4 .if3 .left),
       lt-ltb _ 256 (c10 .shared-slice-known .given pathHopsAt .fits),
-      le-leb _ _ (c4 .if3 .left),
       le-leb _ _ (c2 .if4 .left),
-      ← c .before .number-of-8-at .ensures,
       lt-leb _ _ (c .if5 .taken),
+    )
+
+number-of-8-at-requires : tie.Need-number-of-8-at-requires
+number-of-8-at-requires c κs = search needs
+
+returns-6 : tie.Need-returns-6
+unfolding pathOk pathOf blobsOf timeOk _and_
+returns-6 c =
+    let c2 = c .before .before in
+    let c4 = c2 .before .before in
+    let c6 = c4 .before .before in
+    let c8 = c6 .before .before in
+    let c10 = c8 .before .before in
+    let c12 = c10 .before .before in
+    rw (
+      path-test _,
+      slot-used pathWidth _ _ (c10 .if1 .left),
+      lt-ltb _ _ (c8 .if2 .left),
+      lt-ltb _ _ (c6 .if3 .left),
+      lt-ltb _ 256 (c12 .shared-slice-known .given pathHopsAt .fits),
+      le-leb _ _ (c4 .if4 .left),
+      le-leb _ _ (c2 .if5 .left),
+      ← c .before .number-of-8-at .ensures,
+      lt-leb _ _ (c .if6 .taken),
     )
 
 rate-ok-requires : tie.Need-rate-ok-requires
 rate-ok-requires c κs = search needs
 
-returns-6 : tie.Need-returns-6
+returns-7 : tie.Need-returns-7
 unfolding pathOk pathOf blobsOf timeOk _and_
-returns-6 c =
+returns-7 c =
     let c3 = c .before .before .before in
     let c5 = c3 .before .before in
     let c7 = c5 .before .before in
     let c9 = c7 .before .before in
     let c11 = c9 .before .before in
+    let c13 = c11 .before .before in
     rw (
       path-test _,
-      slot-used pathWidth _ _ (c9 .if1 .left),
-      lt-ltb _ _ (c7 .if2 .left),
-      lt-ltb _ 256 (c11 .shared-slice-known .given pathHopsAt .fits),
-      le-leb _ _ (c5 .if3 .left),
-      le-leb _ _ (c3 .if4 .left),
+      slot-used pathWidth _ _ (c11 .if1 .left),
+      lt-ltb _ _ (c9 .if2 .left),
+      lt-ltb _ _ (c7 .if3 .left),
+      lt-ltb _ 256 (c13 .shared-slice-known .given pathHopsAt .fits),
+      le-leb _ _ (c5 .if4 .left),
+      le-leb _ _ (c3 .if5 .left),
       ← c .before .before .number-of-8-at .ensures,
-      le-leb _ _ (c .before .if5 .left),
+      le-leb _ _ (c .before .if6 .left),
     )
     (c .rate-ok .ensures)
 
@@ -124,14 +144,16 @@ path-ok-spec =
     is-zero-requires
     returns
     shared-slice-read-if2
-    cast-if2
     returns-2
     shared-slice-read-if3
+    cast-if3
     returns-3
     shared-slice-read-if4
-    cast-if4
     returns-4
-    number-of-8-at-requires
+    shared-slice-read-if5
+    cast-if5
     returns-5
+    number-of-8-at-requires
+    returns-6
     rate-ok-requires
-    returns-6)
+    returns-7)

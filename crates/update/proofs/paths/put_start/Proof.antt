@@ -13,17 +13,25 @@ add-write-rate c = search needs
 write-rate-requires : tie.Need-write-rate-requires
 write-rate-requires c κs = search needs
 
+add-set-at : tie.Need-add-set-at
+add-set-at c = search needs
+
+set-at-requires : tie.Need-set-at-requires
+set-at-requires c κs = search needs
+
 same-length : tie.Need-same-length
 same-length c = search needs
 
 returns : tie.Need-returns
 returns c =
     let c2 = c .before .before in
-    let c7 = c2 .before .before .before .before .before in
-    let c10 = c7 .before .before .before in
-    let a = c10 .args in
-    rw (c2 .write-rate .ensures, c7 .put-head .ensures) (start-written (a .tables .now) (a .at) (a .path) (omega (arith, c10 .pre)))
+    let c6 = c2 .before .before .before .before in
+    let c11 = c6 .before .before .before .before .before in
+    let c14 = c11 .before .before .before in
+    let a = c14 .args in
+    rw (c2 .set-at .ensures, c6 .write-rate .ensures, c11 .put-head .ensures)
+    (start-written (a .tables .now) (a .at) (a .path) (omega (arith, c14 .pre)))
 
 pub put-start-spec : {M : Type 1} → statement M
 put-start-spec =
-    tie.close (tie.spec put-head-requires add-write-rate write-rate-requires same-length returns)
+    tie.close (tie.spec put-head-requires add-write-rate write-rate-requires add-set-at set-at-requires same-length returns)

@@ -1,0 +1,58 @@
+// Announces for a path that the host has marked unresponsive.
+use super::Arrived;
+use numbers::HASH_COUNT;
+use numbers::PATH_COUNT;
+ghost use mathlib.Core.Path.{_≡_};
+ghost use mathlib.Core.Bool.{false};
+ghost use lib.ListN.{length};
+ghost use Rattle.packet.specs.Announce.{emissionOf};
+ghost use Rattle.rules.specs.Exempt.{exempt};
+ghost use Rattle.rules.specs.Tests.{forMarkedPath};
+ghost use Rattle.rules.specs.Writes.{alreadyLive};
+ghost use Rattle.tables.specs.Places.{tableSize};
+ghost use Rattle.plan.specs.Decided.{arrivalOf, CanRead, CanKnow, usedHash, seen, pathAt};
+ghost use Rattle.plan.specs.Kinds.{revivedBy};
+
+// Whether the packet is an announce of kind single whose destination has a live path, and that is marked.
+pub fn for_marked_path(tables: &[u8], packet: &[u8], arrived: Arrived) -> bool
+    requires { ⌜ CanRead (now packet) (now tables) ⌝ }
+    ensures { λ r. ⌜ r ≡ forMarkedPath (seen arrived (now (tables .entry)))
+        (arrivalOf (now (packet .entry)) arrived) ⌝ }
+{
+    let header = packet[0];
+    if !packet::is_announce(header) {
+        return false;
+    }
+    if !packet::of_kind_single(header) {
+        return false;
+    }
+    let parts = packet::parts_of(packet);
+    let destination = parts.destination;
+    let place = lookup::path_place(tables, destination, arrived.clock);
+    if place < PATH_COUNT {
+        return lookup::path_marked(tables, place);
+    }
+    false
+}
+
+// Whether the hash of such an announce is remembered already.
+pub fn already_live(tables: &[u8], packet: &[u8], arrived: Arrived, hash: [u8; 32]) -> bool
+    requires { ⌜ CanRead (now packet) (now tables) × (hash ≡ usedHash (now packet)) × (exempt (now packet) ≡ false) ⌝ }
+    ensures { λ r. ⌜ r ≡ alreadyLive (seen arrived (now (tables .entry))) (arrivalOf (now (packet .entry)) arrived) ⌝ }
+{
+    if for_marked_path(tables, packet, arrived) {
+        return lookup::hash_place(tables, hash, arrived.clock) < HASH_COUNT;
+    }
+    false
+}
+
+// Whether an announce with this blob revives the path at a place: it is marked, and holds none that was emitted later.
+pub fn revives(tables: &[u8], place: usize, blob: [u8; 10]) -> bool
+    requires { ⌜ (length (now tables) ≡ tableSize) × CanKnow (now tables) place ⌝ }
+    ensures { λ r. ⌜ r ≡ revivedBy (emissionOf blob) (pathAt (now (tables .entry)) place) ⌝ }
+{
+    if lookup::path_marked(tables, place) {
+        return lookup::greatest_emission(tables, place) <= packet::emission(blob);
+    }
+    false
+}

@@ -1,0 +1,116 @@
+use mathlib.Core.Bool.{true, false}
+use mathlib.Core.Path.{_≡_, sym, _∙_}
+use borrow.Author.Tests.{not-true, not-false}
+use Rattle.octets.proofs.Bytes.{known-bytes}
+use Rattle.rules.specs.Refusals.{clockBad}
+use Rattle.rules.specs.Calls.{marks}
+use Rattle.tables.specs.Layout.{relayOf, wellFormed}
+use Rattle.tables.proofs.Called.{size-of, call-bad, call-refused, call-done}
+use Rattle.settings.proofs.Answered.{mark-early, mark-nowhere, mark-accepted, mark-set}
+use native.Mathlib.Omega.{arith}
+use borrow.Author.Needs.{needs}
+use Rattle.settings.proofs.mark_path_unresponsive.Statement.{statement}
+use Rattle.settings.proofs.mark_path_unresponsive.Tie as tie
+
+-- past row 7, and past row 5
+abbrev s1 : tie.Else1 → tie.Start
+s1 c = c .before .before .before .before
+
+well : (c : tie.Else1) → wellFormed (s1 c .args .tables .now) ≡ true
+well c = sym (c .before .check .ensures) ∙ not-false _ (c .if1 .left)
+
+abbrev e1 : tie.Else2 → tie.Else1
+e1 c = c .before .before .before
+
+fine : (c : tie.Else2) → clockBad (relayOf (s1 (e1 c) .args .tables .now)) (s1 (e1 c) .args .clock) ≡ false
+fine c = sym (c .before .clock-bad .ensures) ∙ c .if2 .left
+
+abbrev e2 : tie.Else3 → tie.Else2
+e2 c = c .before .before .before
+
+check-requires : tie.Need-check-requires
+check-requires c κs = search needs
+
+same-length : tie.Need-same-length
+same-length c = search needs
+
+returns : tie.Need-returns
+returns c =
+    let a = c .before .before .before .before .args in
+    call-bad (marks (a .destination) (a .clock)) (a .tables .now) (sym (c .before .check .ensures) ∙ not-true _ (c .if1 .taken))
+
+clock-bad-requires : tie.Need-clock-bad-requires
+clock-bad-requires c κs = size-of (s1 (c .before) .args .tables .now) (well (c .before))
+
+same-length-2 : tie.Need-same-length-2
+same-length-2 c = search needs
+
+returns-2 : tie.Need-returns-2
+returns-2 c =
+    let c3 = c .before .before .before in
+    let a = s1 c3 .args in
+    let t = a .tables .now in
+    call-refused (marks (a .destination) (a .clock)) t (well c3) (known-bytes t (c3 .before .before .before .slice-known .given)) 5 (λ e. omega arith)
+    (mark-early t (a .destination) (a .clock) (sym (c .before .clock-bad .ensures) ∙ c .if2 .taken))
+
+path-place-requires : tie.Need-path-place-requires
+path-place-requires c κs = size-of (s1 (e1 (c .before)) .args .tables .now) (well (e1 (c .before)))
+
+same-length-3 : tie.Need-same-length-3
+same-length-3 c = search needs
+
+returns-3 : tie.Need-returns-3
+returns-3 c =
+    let c3 = c .before .before .before in
+    let c6 = e1 c3 in
+    let a = s1 c6 .args in
+    let t = a .tables .now in
+    call-refused (marks (a .destination) (a .clock)) t (well c6) (known-bytes t (c6 .before .before .before .slice-known .given)) 12 (λ e. omega arith)
+    (mark-nowhere t (a .destination) (a .clock) _ (c .before .path-place .ensures) (fine c3) (c .if3 .taken))
+
+put-mark-requires : tie.Need-put-mark-requires
+put-mark-requires c κs =
+    let c1 = c .before in
+    (size-of (s1 (e1 (e2 c1)) .args .tables .now) (well (e1 (e2 c1))), c1 .if3 .left)
+
+set-clock-requires : tie.Need-set-clock-requires
+set-clock-requires c κs =
+    let c5 = c .before .before .before .before .before in
+    let size = size-of (s1 (e1 (e2 c5)) .args .tables .now) (well (e1 (e2 c5))) in
+    search needs
+
+same-length-4 : tie.Need-same-length-4
+same-length-4 c = search needs
+
+returns-4 : tie.Need-returns-4
+returns-4 c =
+    let c2 = c .before .before in
+    let c6 = c2 .before .before .before .before in
+    let c8 = c6 .before .before in
+    let c11 = e2 c8 in
+    let c14 = e1 c11 in
+    let a = s1 c14 .args in
+    let t = a .tables .now in
+    let place = c8 .before .path-place .ensures in
+    let known = known-bytes t (c14 .before .before .before .slice-known .given) in
+    let after = mark-set t (a .destination) (a .clock) _ place (c8 .if3 .left) (well c14) known _ _ (c6 .put-mark .ensures) (c2 .set-clock .ensures) in
+    call-done (marks (a .destination) (a .clock)) t (well c14)
+    (mark-accepted t (a .destination) (a .clock) _ place (c8 .if3 .left) (fine c11)) after
+
+pub mark-path-unresponsive-spec : {M : Type 1} → statement M
+mark-path-unresponsive-spec =
+    tie.close
+    (tie.spec
+    check-requires
+    same-length
+    returns
+    clock-bad-requires
+    same-length-2
+    returns-2
+    path-place-requires
+    same-length-3
+    returns-3
+    put-mark-requires
+    set-clock-requires
+    same-length-4
+    returns-4)
