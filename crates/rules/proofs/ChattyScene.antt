@@ -46,7 +46,7 @@ hears k clock = arrives (sent k) clock 1
 abbrev pub spreadOf : ℕ → Reply
 spreadOf k = spreads (0x71 ∷ 1 ∷ (own ++ (destination ++ (0x00 ∷ announceBody (emitted k))))) 2
 
-form : (k : ℕ) → badForm (sent k) ≡ false
+pub form : (k : ℕ) → badForm (sent k) ≡ false
 unfolding rules hashing
 form k = refl
 
@@ -70,7 +70,7 @@ abbrev pub heardRelay : RateSettings → ℕ → Path → List (Slot Remembered)
 heardRelay s clock p hashes = withRate s (relayOf clock (used p ∷ []) [] [] hashes)
 
 -- a packet that is new and isn't refused is judged
-hear : (k clock : ℕ) (r : Relay) (t : Tally) → length (r .hashes .slots) ≡ hashCount
+pub hear : (k clock : ℕ) (r : Relay) (t : Tally) → length (r .hashes .slots) ≡ hashCount
     → passes (λ m. live clock (m .expiry) and same (m .hash) (packetHash (sent k))) (r .hashes .slots) ≡ false
     → packetRefusal r (arrival (sent k) clock 1) (length blank) ≡ 0
     → perform (hears k clock) r t ≡ ofJudgement (goodJudge false (arrival (sent k) clock 1) r t blank)

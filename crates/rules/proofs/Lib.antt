@@ -54,3 +54,4 @@ pub mod ChattyScene
 pub mod Reasons
 pub mod Revived
 pub mod StaysMarked
+pub mod DeadPathScene
