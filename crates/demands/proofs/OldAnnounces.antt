@@ -44,8 +44,8 @@ from-fresh says so buffer own size sixteen cs given none a output b =
     (subst (λ (x : Relay). OfPacket says a output x t) (sym (back r s ok)) (so own cs none a output)))
 
 -- ---- the theorems, "over every sequence of calls from a fresh relay with no load"
--- 1. while a destination's path is live and unmarked, a packet dropped as duplicate, and an announce for it whose blob it holds, leave its port, next hop, hops,
--- expiry and blobs as they were
+-- 1. while a destination's path is live and unmarked, a packet dropped as duplicate, and an announce for it whose blob it holds, leave its port, next hop,
+-- hops, expiry and blobs as they were
 pub old-leaves-path-fresh : FromFreshOn OldLeavesPath
 old-leaves-path-fresh = from-fresh OldLeavesPath leaves-fresh
 
@@ -54,8 +54,8 @@ old-leaves-path-fresh = from-fresh OldLeavesPath leaves-fresh
 pub proof-returns-fresh : FromFreshOn ProofReturns
 proof-returns-fresh = from-fresh ProofReturns returns-fresh
 
--- 3. an announce for a live marked path that holds its blob is spread or Kept exactly if its emission is the greatest held and tests 3, 4, 5 and 9 let it by; the
--- blobs then stay
+-- 3. an announce for a live marked path that holds its blob is spread or Kept exactly if its emission is the greatest held and tests 3, 4, 5 and 9 let it by;
+-- the blobs then stay
 pub marked-takes-again-fresh : FromFreshOn MarkedTakesAgain
 marked-takes-again-fresh = from-fresh MarkedTakesAgain takes-fresh
 
