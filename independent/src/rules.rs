@@ -245,7 +245,7 @@ pub struct AsWritten;
 
 impl Rules for AsWritten {}
 
-/// The same, and refusal 7 by the tuned check.
+/// The same, and refusal 7 by the tuned check, blobs by the tuned searches.
 #[derive(Clone, Copy, Debug)]
 pub struct Tuned;
 
@@ -253,5 +253,20 @@ impl Rules for Tuned {
     #[inline(always)]
     fn tables_allowed(&self, tables: &[u8]) -> bool {
         tuned::tables_allowed(tables)
+    }
+
+    #[inline(always)]
+    fn is_replay(&self, blob: &[u8], path: &[u8]) -> bool {
+        tuned::holds(blob, path)
+    }
+
+    #[inline(always)]
+    fn greatest_emission(&self, path: &[u8]) -> u64 {
+        tuned::greatest_emission(path)
+    }
+
+    #[inline(always)]
+    fn holds_blob(&self, blob: &[u8], path: &[u8]) -> bool {
+        marks::is_marked(path) && tuned::holds(blob, path)
     }
 }
