@@ -2,6 +2,7 @@
 //! An argument picks the lines that have it in their name.
 
 mod asking;
+mod blobs;
 mod calls;
 mod check;
 mod hashing;
@@ -15,5 +16,8 @@ mod state;
 
 fn main() {
     let only = std::env::args().nth(1).unwrap_or_default();
-    measure::run(only, &[hashing::run, check::run, search::run, calls::run, calls::run_keepalives, asking::run, replays::run, saved::run]);
+    measure::run(
+        only,
+        &[hashing::run, check::run, search::run, blobs::run, calls::run, calls::run_keepalives, asking::run, replays::run, saved::run],
+    );
 }
