@@ -7,6 +7,7 @@ mod calls;
 mod check;
 mod hashing;
 mod kinds;
+mod marking;
 mod measure;
 mod replays;
 mod saved;
@@ -16,8 +17,6 @@ mod state;
 
 fn main() {
     let only = std::env::args().nth(1).unwrap_or_default();
-    measure::run(
-        only,
-        &[hashing::run, check::run, search::run, blobs::run, calls::run, calls::run_keepalives, asking::run, replays::run, saved::run],
-    );
+    let packets = [calls::run, calls::run_keepalives, asking::run, marking::run, replays::run];
+    measure::run(only, &[&[hashing::run, check::run, search::run, blobs::run][..], &packets, &[saved::run]].concat());
 }

@@ -100,6 +100,15 @@ def chatter(box):
     box.relay.set_announce_rate(target=0x010203, grace=0xFD, penalty=0x090807)
 
 
+def mark(box):
+    """Destinations whose paths were marked: 15 is still; 16 was revived by the announce that it holds, by more hops; 17's expires before the end; 18 heard
+    an older announce since."""
+    for number in range(15, 19):
+        box.relay.mark_path_unresponsive(destination(number), START + 2000)
+    assert box.give(announce(16, 1, hops=5), 1, 2000, True).startswith("spread")
+    assert box.give(announce(18, 0, hops=4), 3, 2000, True).startswith("drop 11")
+
+
 def live(number):
     """Whether a destination's path is not by the roaming wire."""
     return number % 5 != 2
@@ -143,6 +152,7 @@ def make():
     box = Box()
     fill_paths(box)
     chatter(box)
+    mark(box)
     give_data(box, 600, 20300, 3)
     numbers = [number for number in range(haskumye.PATH_COUNT) if live(number)]
     proved = list(give_links(box, (numbers + numbers)[: haskumye.LINK_COUNT], 22600))
@@ -183,19 +193,19 @@ def lines(relay):
         yield f"port {port} on {on} mode {mode}"
     for place, data in records(tables, 68, 16, 17):
         yield f"local {place} {data.hex()}"
-    for place, data in records(tables, 340, 64, 221):
+    for place, data in records(tables, 340, 64, 222):
         way = f"path {place} {data[:16].hex()} port {data[16]} hops {data[17]} next {data[18:34].hex()} expiry {number_of(data[34:42])}"
-        rate = {"last": number_of(data[42:50]), "violations": data[50], "blocked": number_of(data[51:59])}
-        blobs = [data[60 + 10 * i : 70 + 10 * i].hex() for i in range(data[59])]
-        yield " ".join([way, *(f"{name} {number}" for name, number in rate.items() if number), "blobs", *blobs])
-    for place, data in records(tables, 14484, 64, 30):
+        later = {"last": number_of(data[42:50]), "violations": data[50], "blocked": number_of(data[51:59]), "unresponsive": data[59]}
+        blobs = [data[61 + 10 * i : 71 + 10 * i].hex() for i in range(data[60])]
+        yield " ".join([way, *(f"{name} {number}" for name, number in later.items() if number), "blobs", *blobs])
+    for place, data in records(tables, 14548, 64, 30):
         sides = f"asking {data[16]} answering {data[17]} taken {data[18]} remaining {data[19]} proved {data[20]}"
         yield f"link {place} {data[:16].hex()} {sides} expiry {number_of(data[21:])}"
-    yield f"returns next {number_of(tables[16404:16406])}"
-    for place, data in records(tables, 16406, 512, 27):
+    yield f"returns next {number_of(tables[16468:16470])}"
+    for place, data in records(tables, 16470, 512, 27):
         yield f"return {place} {data[:16].hex()} arrival {data[16]} leaving {data[17]} expiry {number_of(data[18:])}"
-    yield f"hashes next {number_of(tables[30230:30232])}"
-    for place, data in records(tables, 30232, 1024, 41):
+    yield f"hashes next {number_of(tables[30294:30296])}"
+    for place, data in records(tables, 30296, 1024, 41):
         yield f"hash {place} {data[:32].hex()} expiry {number_of(data[32:])}"
     yield "tally " + " ".join(f"{name} {count}" for name, count in relay.tally._asdict().items())
 

@@ -37,8 +37,11 @@ const CHANGES: usize = 400;
 const KEPT_DAMAGES: usize = 200;
 
 /// What programs of each edition saved.
-const KEPT: &[&[u8]] =
-    &[include_bytes!("../../../../tests/saved/edition-1.saved"), include_bytes!("../../../../tests/saved/edition-2.saved")];
+const KEPT: &[&[u8]] = &[
+    include_bytes!("../../../../tests/saved/edition-1.saved"),
+    include_bytes!("../../../../tests/saved/edition-2.saved"),
+    include_bytes!("../../../../tests/saved/edition-3.saved"),
+];
 
 struct Comparison<'a> {
     options: &'a Options,
