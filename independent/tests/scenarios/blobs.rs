@@ -21,6 +21,7 @@ crate::on_both_programs!(
     spare_places_are_saved(BehindSixteenNotSaved),
     a_save_is_of_edition_4(SavedAsThird),
     older_files_hold_up_to_16(OlderBlobsUpTo64),
+    of_edition_3_too(ThirdEditionBlobsUpTo64),
     more_are_not_left_out(OlderCountCut),
     older_blobs_come_first(OlderBlobsLast),
     older_spare_places(OlderSpareBlobsLost),
@@ -32,9 +33,10 @@ const REPLAY: Verdict = Verdict::Drop(Reason::Replay);
 const NOT_BETTER: Verdict = Verdict::Drop(Reason::NotBetter);
 
 /// Files of older editions, where their paths begin, how wide those are, and where the blob count stands in one.
-const OLDER: [(&[u8], usize, usize, usize); 2] = [
+const OLDER: [(&[u8], usize, usize, usize); 3] = [
     (include_bytes!("../../../tests/saved/edition-1.saved"), 380, 204, 43),
     (include_bytes!("../../../tests/saved/edition-2.saved"), 392, 221, 60),
+    (include_bytes!("../../../tests/saved/edition-3.saved"), 392, 222, 61),
 ];
 
 /// Station 1 announces itself once for each emission, from port 0 with three hops.
@@ -194,6 +196,12 @@ fn older_files_hold_up_to_16(host: &mut Host) {
             assert_eq!(load(host, &counted(file, paths + count, held)), 24, "{held}");
         }
     }
+}
+
+fn of_edition_3_too(host: &mut Host) {
+    let (file, paths, _, count) = OLDER[2];
+    assert_eq!(load(host, &counted(file, paths + count, 16)), 0);
+    assert_eq!(load(host, &counted(file, paths + count, 17)), 24);
 }
 
 /// A refused load changes nothing.

@@ -32,6 +32,7 @@ crate::on_both_programs!(
     paths_of_edition_1(OlderPathsAnnouncedNow),
     other_lengths_of_edition_1(OlderEditionRefused),
     a_kept_file_of_edition_2(OlderLoadsMarked),
+    a_kept_file_of_edition_3(OlderBlobsLast),
 );
 
 /// Offset and length of the bodies, as docs/LAYOUT.md has them.
@@ -406,4 +407,18 @@ fn a_kept_file_of_edition_2(host: &mut Host) {
         assert_eq!(path[path::BLOB_COUNT..BEHIND_16], older[60..]);
         assert_eq!(path[BEHIND_16..], [0; 480]);
     }
+}
+
+/// What the program of edition 3 saved: its records lack 48 blob places alone, and some paths are marked.
+fn a_kept_file_of_edition_3(host: &mut Host) {
+    let file = include_bytes!("../../../tests/saved/edition-3.saved");
+    assert_eq!(host.program.load(file, &mut host.tables, &mut host.tally), 0);
+    let tables = &host.tables;
+    assert!(tables[..PATHS.records.start] == file[52..392]);
+    assert!(tables[LINKS.records.start..] == file[14_600..72_332]);
+    for (path, older) in PATHS.records.iter(tables).zip(file[392..14_600].chunks_exact(222)) {
+        assert_eq!(path[..BEHIND_16], *older);
+        assert_eq!(path[BEHIND_16..], [0; 480]);
+    }
+    assert!(PATHS.records.iter(tables).any(|path| path[path::UNRESPONSIVE] == 1));
 }
