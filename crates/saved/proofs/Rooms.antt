@@ -8,12 +8,12 @@ use mathlib.Core.Path.{_≡_, refl, sym, ap, ap₂, _∙_}
 use lib.Dec.{eqb, leb, lit<}
 use lib.ListN.{length, getD, replicate}
 use borrow.Author.Tests.{le-leb, eqb-true}
-use Rattle.octets.specs.Index.{_and_, zeros}
+use Rattle.octets.specs.Index.{_and_, allBelow, zeros}
 use Rattle.octets.specs.Choice.{_then_otherwise_}
 use Rattle.octets.specs.Part.{part}
 use Rattle.octets.proofs.Bytes.{replicate-bytes}
 use Rattle.octets.proofs.Index.{all-at, all-cong}
-use Rattle.octets.proofs.Part.{part-at}
+use Rattle.octets.proofs.Part.{part-at, part-whole}
 use Rattle.codes.specs.Form.{Form, byte, mark, octetsIn, slot, that, code}
 use Rattle.codes.proofs.Same.{Same, same-first, same-inside}
 use Rattle.numbers.specs.Numbers.{pathCount, blobLimit}
@@ -132,3 +132,8 @@ limited-clauses e t =
     ∙ ap (λ (w : ℕ).
     frontOk t and recordsOk (λ b. code (slot (limitedPath r)) .fine b 0) pathsAt w pathCount t and backOk t (pathsAt + w * pathCount)) (limited-width r)
     ∙ ap (λ (q : Bool). frontOk t and q and backOk t linksAt) (all-cong _ _ pathCount (λ i l. limited-tests r _))
+
+-- one record, as the section's test has it
+pub one-path : (b : List ℕ) → length b ≡ pathWidth → pathBytesOk b ≡ recordsOk pathBytesOk 0 pathWidth 1 b
+unfolding recordsOk allBelow _and_
+one-path b e = ap pathBytesOk (sym (part-whole b pathWidth e))

@@ -82,7 +82,7 @@ fn path_fine(path: &[u8], edition: u8) -> bool
     requires { ⌜ (isKnown edition ≡ true) × (length (now path) ≡ pathWidth) ⌝ }
     ensures { λ r. ⌜ r ≡ pathFine (numbered edition) (now (path .entry)) ⌝ }
 {
-    if !tables::path_ok(path) {
+    if !tables::paths_each(path, 0, 1) {
         return false;
     }
     path[PATH_BLOB_COUNT_AT] <= most_blobs(edition)
