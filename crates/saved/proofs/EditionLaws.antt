@@ -244,7 +244,7 @@ module _ (e : Edition) (h : Brings e) where
           ∙ ap (λ (a : ℕ). part (pathNow e f i) a (blobsWidthIn e)) (omega (arith, entry-within)))
           path-behind)))))))
 
-    pub now-alike : Alike (relayFormIn e) (relayFormOf rateSettingsForm (limitedPath room)) f bodiesAt (tablesNow e f) 0
+    pub now-alike : Alike (relayFormIn e) (relayFormOf rateSettingsForm portForm (limitedPath room)) f bodiesAt (tablesNow e f) 0
     now-alike =
         record-alike
         (both-alike (field-alike (same-alike (octetsIn addressWidth) (front-opening .before 0 16 (omega arith))))

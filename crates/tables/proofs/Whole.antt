@@ -63,7 +63,7 @@ unfolding backOk recordsOk linkBytesOk returnBytesOk hashBytesOk _and_
 back-clauses t at = rw (and-assoc (ltb (number (part t (at + linkWidth * linkCount) ringWidth)) returnCount))
 
 -- the records of paths being of any form: an older edition has its own limit on their blobs
-pub clauses-of : (path : Form Path) (t : List ℕ) → code (relayFormOf rateSettingsForm path) .fine t 0
+pub clauses-of : (path : Form Path) (t : List ℕ) → code (relayFormOf rateSettingsForm portForm path) .fine t 0
     ≡ (frontOk t
     and recordsOk (λ b. code (slot path) .fine b 0) pathsAt (code (slot path) .width) pathCount t
     and backOk t (pathsAt + code (slot path) .width * pathCount))
