@@ -20,7 +20,7 @@ use Rattle.numbers.specs.Numbers.{pathCount, blobLimit}
 use Rattle.rules.specs.Relay.{Blobs, Path}
 use Rattle.rules.specs.Blobs.{noBlob}
 use Rattle.rules.proofs.Ranges.{path-counted}
-use Rattle.tables.specs.Forms.{BlobRoom, as-today, fewer, Edition, rateSettingsForm, rateEntryForm, blobWidth, blobsForm, holdsAtMost, blobsFormIn, pathFormOf, pathForm, relayFormOf, relayForm}
+use Rattle.tables.specs.Forms.{BlobRoom, as-today, fewer, Edition, rateSettingsForm, rateEntryForm, blobWidth, blobsForm, holdsAtMost, blobsFormIn, portForm, pathFormOf, pathForm, relayFormOf, relayForm}
 use Rattle.tables.specs.Places.{pathWidth, pathsAt, linksAt}
 use Rattle.tables.specs.Fields.{pathBlobsAt, blobsWidth}
 use Rattle.tables.specs.Records.{blobsOf, pathOf, pathBytesOk}

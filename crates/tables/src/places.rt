@@ -8,6 +8,7 @@ use numbers::BLOB_LIMIT;
 use numbers::HASH_COUNT;
 use numbers::LINK_COUNT;
 use numbers::LOCAL_COUNT;
+use numbers::LONGEST_PACKET;
 use numbers::PATH_COUNT;
 use numbers::PORT_COUNT;
 use numbers::RETURN_COUNT;
@@ -27,6 +28,14 @@ pub const SETTING_WIDTH: usize = 4;
 pub const SIZE_WIDTH: usize = 2;
 
 pub const PORT_WIDTH: usize = PORT_SIZE_AT + SIZE_WIDTH;
+
+// A fresh port's settings: off, boundary, and the longest packet's length for its size.
+pub const FRESH_PORT: [u8; PORT_WIDTH] = [
+    0,
+    0,
+    (LONGEST_PACKET / 256) as u8,
+    (LONGEST_PACKET % 256) as u8,
+];
 
 pub const LOCAL_WIDTH: usize = 1 + ADDRESS_WIDTH;
 
