@@ -47,10 +47,10 @@ extern "C" {
 #define HASKUMYE_CHECKED
 #endif
 
-#define HASKUMYE_VERSION 4 /* of this interface: it rises where a host has to be changed or compiled again */
+#define HASKUMYE_VERSION 5 /* of this interface: it rises where a host has to be changed or compiled again */
 
 /* Sizes, in bytes unless another unit is named. */
-#define HASKUMYE_TABLE_SIZE 72280 /* a relay's tables, exactly; haskumye_table_size() says the same */
+#define HASKUMYE_TABLE_SIZE 103000 /* a relay's tables, exactly; haskumye_table_size() says the same */
 #define HASKUMYE_OUTPUT_SIZE 500  /* the least output buffer, however short the packet */
 #define HASKUMYE_SHORTEST_PACKET 19 /* 35 in type 2 */
 #define HASKUMYE_LONGEST_PACKET 500
@@ -58,7 +58,7 @@ extern "C" {
 #define HASKUMYE_TEXT_SIZE 160  /* a line of haskumye_line or haskumye_replay_entry, an answer's text or sentence */
 #define HASKUMYE_RECORDING_SIZE 60000 /* the longest recording */
 #define HASKUMYE_ENTRY_WIDTH 12 /* an entry as haskumye_write_recording takes it */
-#define HASKUMYE_SAVED_SIZE 72356 /* what haskumye_save writes, exactly; haskumye_saved_size() says the same */
+#define HASKUMYE_SAVED_SIZE 103076 /* what haskumye_save writes, exactly; haskumye_saved_size() says the same */
 #define HASKUMYE_LONGEST_SAVED 524332 /* no saved file of any edition is longer */
 
 /* Limits: how many of each a relay has room for. */

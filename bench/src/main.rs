@@ -2,6 +2,7 @@
 //! An argument picks the lines that have it in their name.
 
 mod asking;
+mod blobs;
 mod calls;
 mod check;
 mod hashing;
@@ -17,5 +18,5 @@ mod state;
 fn main() {
     let only = std::env::args().nth(1).unwrap_or_default();
     let packets = [calls::run, calls::run_keepalives, asking::run, marking::run, replays::run];
-    measure::run(only, &[&[hashing::run, check::run, search::run][..], &packets, &[saved::run]].concat());
+    measure::run(only, &[&[hashing::run, check::run, search::run, blobs::run][..], &packets, &[saved::run]].concat());
 }

@@ -44,8 +44,8 @@ static void check_accessors(void)
     CHECK(HASKUMYE_ANSWER_PORT(next++) == 15 && next == forward + 1);
     CHECK(HASKUMYE_ANSWER_LENGTH(deliver) == 0 && HASKUMYE_ANSWER_PAYLOAD(forward) == 0);
     CHECK(HASKUMYE_WRITTEN_REFUSAL(6) == HASKUMYE_REFUSAL_OUTPUT && HASKUMYE_WRITTEN_LENGTH(19u << 16) == 19);
-    const haskumye_saved saved = UINT64_C(72356) << 16, not_saved = HASKUMYE_REFUSAL_ROOM;
-    CHECK(HASKUMYE_SAVED_REFUSAL(saved) == HASKUMYE_REFUSAL_NONE && HASKUMYE_SAVED_LENGTH(saved) == 72356);
+    const haskumye_saved saved = UINT64_C(103076) << 16, not_saved = HASKUMYE_REFUSAL_ROOM;
+    CHECK(HASKUMYE_SAVED_REFUSAL(saved) == HASKUMYE_REFUSAL_NONE && HASKUMYE_SAVED_LENGTH(saved) == 103076);
     CHECK(HASKUMYE_SAVED_REFUSAL(not_saved) == HASKUMYE_REFUSAL_ROOM && HASKUMYE_SAVED_LENGTH(not_saved) == 0);
 }
 

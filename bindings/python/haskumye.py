@@ -11,7 +11,7 @@ Signatures, access codes, framing and timers are the host's; docs/HOST.md tells 
         send(answer.port, answer.packet)
 
 Packets, addresses and payloads are bytes-like. A refused call raises Refused and has changed nothing. A call holds Python's lock, so those on one relay
-are made one at a time. The shared library, libhaskumye.so.4, is found in the repository's target/, below the prefix that this file is installed
+are made one at a time. The shared library, libhaskumye.so.5, is found in the repository's target/, below the prefix that this file is installed
 in, or by the system; HASKUMYE_LIBRARY names another file.
 """
 
@@ -23,10 +23,10 @@ import pathlib
 from ctypes import c_char_p, c_size_t, c_uint8, c_uint32, c_uint64, c_void_p
 from typing import NamedTuple, Optional, Union
 
-VERSION = 4  # of the interface, as the header has it
+VERSION = 5  # of the interface, as the header has it
 
 # Sizes in bytes, and limits.
-TABLE_SIZE = 72280
+TABLE_SIZE = 103000
 OUTPUT_SIZE = 500
 SHORTEST_PACKET = 19
 LONGEST_PACKET = 500
@@ -34,7 +34,7 @@ LONGEST_MESSAGE = 65535
 TEXT_SIZE = 160
 RECORDING_SIZE = 60000
 ENTRY_WIDTH = 12
-SAVED_SIZE = 72356
+SAVED_SIZE = 103076
 LONGEST_SAVED = 524332
 PORT_COUNT = 16
 LOCAL_COUNT = 16

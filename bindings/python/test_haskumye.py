@@ -314,6 +314,15 @@ class TestQuestions(unittest.TestCase):
         self.assertEqual(box.path(0), path._replace(port=1, expiry=1500 + 604800, last_announce=1500))
         self.assertEqual(box.packet(packet, 1, 1501, signed=True), Drop(Reason.DUPLICATE))
 
+    def test_blobs(self):
+        """The oldest of 65 announces is forgotten, so that it is no replay when it comes round again."""
+        box = relay()
+        for emission in range(1, 66):
+            box.packet(announce(emission)[0], 0, 1000, signed=True)
+            self.assertEqual(box.path(0).blob_count, min(emission, 64))
+        for emission, reason in (1, Reason.NOT_BETTER), (2, Reason.REPLAY), (65, Reason.REPLAY):
+            self.assertEqual(box.packet(announce(emission)[0], 0, 1300, signed=True), Drop(reason))
+
     def test_a_link(self):
         box, (packet, destination) = relay(3), announce()
         box.packet(packet, 1, 1000, signed=True)
@@ -403,7 +412,7 @@ class TestSaved(unittest.TestCase):
     def test_what_is_saved_loads(self):
         box = self.box()
         file = box.save()
-        self.assertEqual((len(file), file[:4]), (haskumye.SAVED_SIZE, bytes([2, 3, 0, 8])))
+        self.assertEqual((len(file), file[:4]), (haskumye.SAVED_SIZE, bytes([2, 4, 0, 8])))
         self.assertEqual(file[52:-24], box.tables)
         self.assertEqual(file[-24:], bytes(range(1, 21)) + bytes([0xFF] * 4))
         for given in (file, bytearray(file), memoryview(file)):
@@ -430,10 +439,11 @@ class TestSaved(unittest.TestCase):
             (21, spoiled(0, 1)),
             (21, spoiled(1, 0)),
             (21, spoiled(1, 255)),
-            (22, bytes([2, 3, 0, 0])),
+            (22, bytes([2, 4, 0, 0])),
             (22, spoiled(7, 53)),
             (24, spoiled(1, 1)),  # bodies longer than an older edition's
             (24, spoiled(1, 2)),
+            (24, spoiled(1, 3)),
             (24, spoiled(89, 3)),
         ]
         for refusal, wrong in files:
@@ -450,6 +460,7 @@ class TestSaved(unittest.TestCase):
             self.assertEqual((box.last_clock, box.tally.kept), (0x0102030405, 1))
             marked = [place for place in range(haskumye.PATH_COUNT) if box.path(place).unresponsive]
             self.assertEqual(marked, [15, 17, 18] if path.read_bytes()[1] >= 3 else [])
+            self.assertEqual((box.path(5).blob_count, box.path(6).blob_count), (20, 64) if path.read_bytes()[1] >= 4 else (1, 16))
 
 
 class TestAgreement(unittest.TestCase):

@@ -13,10 +13,10 @@ struct table {
     size_t start, count, width, expiry;
 };
 
-static const struct table locals = {68, HASKUMYE_LOCAL_COUNT, 17, 0}, paths = {340, HASKUMYE_PATH_COUNT, 222, 35},
-                          links = {14548, HASKUMYE_LINK_COUNT, 30, 22},
-                          returns = {16470, HASKUMYE_RETURN_COUNT, 27, 19},
-                          hashes = {30296, HASKUMYE_HASH_COUNT, 41, 33};
+static const struct table locals = {68, HASKUMYE_LOCAL_COUNT, 17, 0}, paths = {340, HASKUMYE_PATH_COUNT, 702, 35},
+                          links = {45268, HASKUMYE_LINK_COUNT, 30, 22},
+                          returns = {47190, HASKUMYE_RETURN_COUNT, 27, 19},
+                          hashes = {61016, HASKUMYE_HASH_COUNT, 41, 33};
 enum { CLOCK_PLACE = 16, RATE_PLACE = 24, PORTS_PLACE = 36 };
 
 static uint64_t number_at(const uint8_t *bytes)

@@ -15,19 +15,21 @@ enum {
     FILL = 0xee
 };
 
-static const size_t lengths[ENTRIES] = {36, 32, 272, 14208, 1920, 13826, 41986, 24};
+static const size_t lengths[ENTRIES] = {36, 32, 272, 44928, 1920, 13826, 41986, 24};
 
 /* What older editions lack: the announce rate behind the last clock, and in each path what is kept of its announces,
-   and its mark. */
+   its mark, and all blob places but sixteen. */
 enum {
     RATE_AT = 24,
     RATE_WIDTH = 12,
     PATHS_AT = 340,
-    PATH_WIDTH = 222,
+    PATH_WIDTH = 702,
     EXPIRY_AT = 35,
     LAST_ANNOUNCE_AT = 43,
     UNRESPONSIVE_AT = 60,
-    EDITION = 3
+    BLOB_COUNT_AT = 61,
+    MORE_BLOBS_AT = 222,
+    EDITION = 4
 };
 
 /* How many bytes of a buffer are this one, from a place on. */
@@ -133,7 +135,7 @@ void saved_try(struct buffer tables, struct buffer tally)
     buffer_free(&file);
 }
 
-/* A path that is used, marked, and holds a blob. */
+/* A path that is used, marked, and holds a blob; its spare places hold bytes too. */
 static void put_path(uint8_t *path)
 {
     for (uint8_t i = 0; i < EXPIRY_AT; i++) {
@@ -144,6 +146,9 @@ static void put_path(uint8_t *path)
     path[LAST_ANNOUNCE_AT + 8] = 6;
     put_number(path + LAST_ANNOUNCE_AT + 9, 8, 0x607080900);
     put_number(path + UNRESPONSIVE_AT, 2, 0x0101);
+    for (size_t i = BLOB_COUNT_AT + 1; i < PATH_WIDTH; i++) {
+        path[i] = (uint8_t)(1 + i % 251);
+    }
 }
 
 /* Tables that are no fresh relay's: every byte of the own address and of the tally is another. */
@@ -270,14 +275,18 @@ static void try_bodies(struct buffer file)
         {392 + UNRESPONSIVE_AT, 1, 0, 0},                                 /* whether one is marked */
         {392 + UNRESPONSIVE_AT, 1, 2, HASKUMYE_REFUSAL_FILE_BODY},
         {392 + UNRESPONSIVE_AT, 1, 255, HASKUMYE_REFUSAL_FILE_BODY},
-        {14600 - 1, 1, 1, HASKUMYE_REFUSAL_FILE_BODY},
-        {14600, 1, 2, HASKUMYE_REFUSAL_FILE_BODY},                        /* links */
-        {16520 - 1, 1, 1, HASKUMYE_REFUSAL_FILE_BODY},
-        {16520, 2, HASKUMYE_RETURN_COUNT - 1, 0},                         /* the ring place of return records */
-        {16520, 2, HASKUMYE_RETURN_COUNT, HASKUMYE_REFUSAL_FILE_BODY},
-        {30346 - 1, 1, 1, HASKUMYE_REFUSAL_FILE_BODY},
-        {30346, 2, HASKUMYE_HASH_COUNT - 1, 0},                           /* that of hashes */
-        {30346, 2, HASKUMYE_HASH_COUNT, HASKUMYE_REFUSAL_FILE_BODY},
+        {392 + BLOB_COUNT_AT, 1, 0, HASKUMYE_REFUSAL_FILE_BODY},          /* how many blobs it holds */
+        {392 + BLOB_COUNT_AT, 1, 17, 0},
+        {392 + BLOB_COUNT_AT, 1, 64, 0},
+        {392 + BLOB_COUNT_AT, 1, 65, HASKUMYE_REFUSAL_FILE_BODY},
+        {45320 - 1, 1, 1, HASKUMYE_REFUSAL_FILE_BODY},
+        {45320, 1, 2, HASKUMYE_REFUSAL_FILE_BODY},                        /* links */
+        {47240 - 1, 1, 1, HASKUMYE_REFUSAL_FILE_BODY},
+        {47240, 2, HASKUMYE_RETURN_COUNT - 1, 0},                         /* the ring place of return records */
+        {47240, 2, HASKUMYE_RETURN_COUNT, HASKUMYE_REFUSAL_FILE_BODY},
+        {61066 - 1, 1, 1, HASKUMYE_REFUSAL_FILE_BODY},
+        {61066, 2, HASKUMYE_HASH_COUNT - 1, 0},                           /* that of hashes */
+        {61066, 2, HASKUMYE_HASH_COUNT, HASKUMYE_REFUSAL_FILE_BODY},
         {TALLY_AT - 1, 1, 1, HASKUMYE_REFUSAL_FILE_BODY},
         {TALLY_AT, 8, UINT64_MAX, 0},
     };
@@ -296,7 +305,20 @@ static uint8_t brought_by(size_t place)
         return 1;
     }
     size_t at = (place - PATHS_AT) % PATH_WIDTH;
+    if (at >= MORE_BLOBS_AT) {
+        return 4;
+    }
     return at == UNRESPONSIVE_AT ? 3 : at >= LAST_ANNOUNCE_AT && at < UNRESPONSIVE_AT ? 2 : 1;
+}
+
+/* Where a byte of the tables stands in an edition's file. */
+static size_t place_in(uint8_t edition, size_t place)
+{
+    size_t at = CONTENTS;
+    for (size_t i = 0; i < place; i++) {
+        at += brought_by(i) <= edition;
+    }
+    return at;
 }
 
 /* The head and the contents of the same relay's file in an older edition. Returns the file's size. */
@@ -332,6 +354,19 @@ static void put_old_bodies(const uint8_t *file, uint8_t *old, uint8_t *tables, u
     memcpy(old + end, file + TALLY_AT, sizeof(haskumye_tally));
 }
 
+/* An older edition's path holds one to sixteen blobs. */
+static void try_counts(struct use *use, uint8_t edition)
+{
+    static const uint8_t counts[] = {0, 1, 16, 17, 64, 65, 255};
+    uint8_t *count = use->input.bytes + place_in(edition, PATHS_AT + BLOB_COUNT_AT), was = *count;
+    for (size_t i = 0; i < sizeof counts; i++) {
+        *count = counts[i];
+        expect("its blobs", library_call(LOAD_TABLES, use),
+               counts[i] >= 1 && counts[i] <= 16 ? 0 : HASKUMYE_REFUSAL_FILE_BODY);
+    }
+    *count = was;
+}
+
 static void try_older(struct buffer file, uint8_t edition)
 {
     static uint8_t old[HASKUMYE_SAVED_SIZE];
@@ -344,6 +379,7 @@ static void try_older(struct buffer file, uint8_t edition)
     expect("loading an older edition", library_call(LOAD_TABLES, &use), 0);
     expect("its tables", same(use.tables.bytes, expected.bytes, HASKUMYE_TABLE_SIZE), 1);
     expect_tally(file.bytes, use.tally);
+    try_counts(&use, edition);
     for (uint8_t other = 1; other <= EDITION; other++) {
         use.input.bytes[1] = other;
         expect("its bodies in another edition", library_call(LOAD_TABLES, &use),

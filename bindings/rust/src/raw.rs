@@ -7,10 +7,10 @@
 use crate::{Address, Blob, Hash, PortMap};
 
 /// The version of this interface.
-pub const VERSION: u32 = 4;
+pub const VERSION: u32 = 5;
 
 /// The bytes of a relay's tables, exactly.
-pub const TABLE_SIZE: usize = 72280;
+pub const TABLE_SIZE: usize = 103000;
 /// The least output buffer, however short the packet.
 pub const OUTPUT_SIZE: usize = 500;
 /// The shortest packet; type 2 has 35 bytes at least.
@@ -26,7 +26,7 @@ pub const RECORDING_SIZE: usize = 60000;
 /// The bytes of an entry as `haskumye_write_recording` takes it.
 pub const ENTRY_WIDTH: usize = 12;
 /// The bytes that `haskumye_save` writes, exactly.
-pub const SAVED_SIZE: usize = 72356;
+pub const SAVED_SIZE: usize = 103076;
 /// No saved file of any edition is longer.
 pub const LONGEST_SAVED: usize = 524332;
 

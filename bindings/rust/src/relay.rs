@@ -176,7 +176,7 @@ impl Tally {
     }
 }
 
-/// The tally stands for the 72,280 bytes.
+/// The tally stands for the tables' bytes.
 impl std::fmt::Debug for Relay {
     fn fmt(&self, f: &mut std::fmt::Formatter) -> std::fmt::Result {
         f.debug_struct("Relay").field("tally", &self.tally).finish_non_exhaustive()

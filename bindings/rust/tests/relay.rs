@@ -288,6 +288,19 @@ fn a_path_a_receipt_and_a_link_are_told() {
     assert_eq!(relay.link(0), Some(Link { asking: 10, answering: 13, ..link }));
 }
 
+/// The oldest of 65 announces is forgotten, so that it is no replay when it comes round again.
+#[test]
+fn a_path_holds_64_blobs() {
+    let (mut relay, mut output) = (relay(2), [0; OUTPUT_SIZE]);
+    for emission in 1..=65 {
+        relay.packet(&announce(emission).0, 0, 1_000, true, &mut output).unwrap();
+        assert_eq!(relay.path(0).unwrap().blob_count, emission.min(64));
+    }
+    for (emission, reason) in [(1, Reason::NotBetter), (2, Reason::Replay), (65, Reason::Replay)] {
+        assert_eq!(relay.packet(&announce(emission).0, 0, 1_300, true, &mut output), Ok(Verdict::Drop(reason)));
+    }
+}
+
 #[test]
 fn the_signature_is_asked_for_where_it_matters() {
     let (mut relay, (announce, destination)) = (relay(2), announce(1));

@@ -1,6 +1,6 @@
 -- Demand 1's theorem on the tables that calls led to: every row refuses a call, 7 on tables of no bytes and 10 on those of a relay without an empty place;
 -- then a packet that no row refuses, and what the calls after a refusal reply.
-use Prim.Native.Nat.{ℕ, _^_}
+use Prim.Native.Nat.{ℕ, _-_, _^_}
 use mathlib.Core.Bool.{true, false}
 use mathlib.Core.List.{List, [], _∷_}
 use mathlib.Core.Path.{_≡_, refl, sym, ap, subst, _∙_}
@@ -21,6 +21,7 @@ use Rattle.rules.proofs.Outcomes.{preparedRelay}
 use Rattle.tables.specs.Layout.{bytesOf, wellFormed}
 use Rattle.tables.specs.Shape.{isByte, isBytes, shaped}
 use Rattle.tables.proofs.Whole.{bytes-bytes}
+use Rattle.saved.specs.File.{savedSize}
 use Rattle.saved.specs.Save.{saveRows, saveRefusal as saveRefusalOn}
 use Rattle.saved.specs.Format.{saidBy, savedFormat, saving, loading}
 use Rattle.saved.proofs.Example.{computing}
@@ -29,7 +30,7 @@ use Rattle.demands.specs.Bytes.{OutcomeOn, performOn, repliesOn, tablesA
 use Rattle.demands.specs.Refusals.{refusal, afterSeven, refusalOn, refusing, isRefusal}
 use Rattle.demands.proofs.Demand1.{refuses-exactly}
 use Rattle.demands.proofs.Demand2.{refusal-bytes, run-on}
-use Rattle.demands.proofs.InstanceCalls.{guest, before, later, given-before, given-later, saidBefore, saidLater, lastRelay, plainPorts, midwayRelay, midwayTally, before-run, later-run}
+use Rattle.demands.proofs.InstanceCalls.{guest, shortRoom, before, later, given-before, given-later, saidBefore, saidLater, lastRelay, plainPorts, midwayRelay, midwayTally, before-run, later-run}
 use Rattle.demands.proofs.Instance2.{start, Held, Goes, goes, held}
 
 -- ---- the tables and the tally after the calls before
@@ -95,10 +96,10 @@ pub ten : RefusedOn (bytesOf fullRelay) (adding own) 10
 unfolding CallBytes ruleOf isBytes isByte refusal rules
 ten = by-row (bytesOf fullRelay) (bytes-bytes fullRelay (full .shape) (full .ok)) (adding own) 10 (row-of full (adding own) refl refl) refl
 
-short-room : refusal (saving (replicate 72355 0xee)) midwayRelay ≡ 25
+short-room : refusal (saving shortRoom) midwayRelay ≡ 25
 unfolding refusal saveRefusal rules
 short-room =
-    ap (λ (n : ℕ). saveRefusal savedFormat n midwayRelay) (length-replicate {A = ℕ} 72355 0xee)
+    ap (λ (n : ℕ). saveRefusal savedFormat n midwayRelay) (length-replicate {A = ℕ} (savedSize - 1) 0xee)
 
 -- row 7 is a save's too
 pub seven-saved : RefusedOn [] (saving []) 7
@@ -123,7 +124,7 @@ pub rows : Refused (packet (arrival (receiptBytes 5) 2500 1) (replicate 499 0xee
     × Refused (asks (word-matters (receiptBytes 5) 1 2500 499)) 6
     × Refused (asks (word-matters (receiptBytes 5) 77 2500 500)) 4
     × Refused (asks (word-matters (take 34 dataBytes) 1 2500 500)) 1
-    × Refused (saving (replicate 72355 0xee)) 25
+    × Refused (saving shortRoom) 25
     × Refused (loading []) 20
 unfolding CallBytes ruleOf isBytes isByte refusal rules saidBy computing
 rows = (

@@ -1,6 +1,6 @@
 -- One list of calls on which the demands' theorems are tried: calls of every kind, among them packets that are accepted, dropped and refused, before
 -- the place where a renumbering is put in and after it. What they give by the rules is computed here, call by call.
-use Prim.Native.Nat.{ℕ, _+_}
+use Prim.Native.Nat.{ℕ, _+_, _-_}
 use mathlib.Core.Bool.{true, false}
 use mathlib.Core.List.{List, [], _∷_, _++_}
 use mathlib.Core.Path.{_≡_, refl, ap, ap₂, _∙_}
@@ -33,6 +33,7 @@ use Rattle.rules.proofs.Sanity.{oneUp}
 use Rattle.rules.proofs.RunRenamed.{replies-append, relay-append, tally-append}
 use Rattle.rules.proofs.SignatureWord.{word-matters-exactly}
 use Rattle.tables.specs.Shape.{isByte, isBytes}
+use Rattle.saved.specs.File.{savedSize}
 use Rattle.saved.specs.Format.{saidBy, savedFormat, saving, loading}
 use Rattle.saved.proofs.Example.{computing}
 use Rattle.demands.specs.Given.{CallBytes, CallsBytes}
@@ -43,7 +44,11 @@ guest = replicate 16 0x0b
 
 -- eight bytes more than a file has
 abbrev pub room : List ℕ
-room = replicate 72364 0xee
+room = replicate (savedSize + 8) 0xee
+
+-- a byte too few
+abbrev pub shortRoom : List ℕ
+shortRoom = replicate (savedSize - 1) 0xee
 
 abbrev pub before : List Call
 before =
@@ -88,7 +93,7 @@ laterBy from port =
     ∷ loading []
     -- all of it; and with a byte too little room: 25
     ∷ saving room
-    ∷ saving (replicate 72355 0xee)
+    ∷ saving shortRoom
     ∷ []
 
 abbrev pub later : List Call
@@ -181,7 +186,7 @@ saidLater by path end =
     unknownPort ∷ numbered 8 ∷ forwards (receiptBytes 6) by ∷ duplicate ∷ numbered 0 ∷ numbered 9 ∷ numbered 0 ∷ numbered 9 ∷ numbered 0
     ∷ numbered 0 ∷ numbered 12
     ∷ told (a-rate hourly) ∷ told (a-path (withPathPort path markedPath)) ∷ told (yes-or-no true) ∷ told none
-    ∷ numbered 20 ∷ saved end lastTally room ∷ unsaved 25 (replicate 72355 0xee) ∷ []
+    ∷ numbered 20 ∷ saved end lastTally room ∷ unsaved 25 shortRoom ∷ []
 
 -- the guest in the lowest place
 abbrev pub hosting : Relay → Relay
@@ -380,12 +385,12 @@ with-room r t n k e =
 
 pub all-saved : (r : Relay) (t : Tally) → tablesOk r ≡ true → perform (saving room) r t ≡ record { reply = saved r t room; relay = r; tally = t }
 unfolding saveRefusal saveReply firstOf _then_otherwise_
-all-saved r t ok = with-room r t 72364 0 (rw ok refl)
+all-saved r t ok = with-room r t (savedSize + 8) 0 (rw ok refl)
 
 pub room-short : (r : Relay) (t : Tally) → tablesOk r ≡ true
-    → perform (saving (replicate 72355 0xee)) r t ≡ record { reply = unsaved 25 (replicate 72355 0xee); relay = r; tally = t }
+    → perform (saving shortRoom) r t ≡ record { reply = unsaved 25 shortRoom; relay = r; tally = t }
 unfolding saveRefusal saveReply firstOf _then_otherwise_
-room-short r t ok = with-room r t 72355 25 (rw ok refl)
+room-short r t ok = with-room r t (savedSize - 1) 25 (rw ok refl)
 
 -- ---- all of them
 abbrev pub midwayRelay : Relay

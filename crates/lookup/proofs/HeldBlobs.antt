@@ -1,5 +1,5 @@
 -- Loops over the blobs that a path holds.
-use Prim.Native.Nat.{ℕ, zero, suc, _+_, _-_, _*_, _≤_, _<_}
+use Prim.Native.Nat.{ℕ, zero, suc, _+_, _-_, _*_, _%_, _≤_, _<_}
 use native.Mathlib.Nat.{not-suc-le-zero, le-of-suc-le-suc}
 use native.Mathlib.Numerals.{add-one}
 use native.Mathlib.Omega.{arith}
@@ -9,11 +9,13 @@ use mathlib.Core.Path.{_≡_, refl, sym, ap, _∙_}
 use lib.ListN.{length, getD, take, drop, drop-of-length-le}
 use lib.Seq.{drop-cons, length-take-le, getD-take}
 use Rattle.octets.specs.Choice.{same}
+use Rattle.octets.specs.Bytes.{Bytes}
 use Rattle.octets.specs.Part.{part}
+use Rattle.octets.specs.BigEndian.{numberFrom, number}
 use Rattle.octets.specs.Index.{agree}
 use Rattle.octets.proofs.Choice.{or-left, or-right, or-no, or-no-left, or-no-right, same-agree}
 use Rattle.octets.proofs.ListOf.{listOf-length, listOf-at}
-use Rattle.octets.proofs.Part.{part-length}
+use Rattle.octets.proofs.Part.{part-length, part-part, part-eight}
 use Rattle.packet.specs.Announce.{emissionOf}
 use Rattle.numbers.specs.Numbers.{blobLimit}
 use Rattle.rules.specs.Blobs.{held, isAmong, greatest, greatestEmission}
@@ -53,6 +55,15 @@ greatest-more : (h : List (List ℕ)) (i : ℕ) → i < length h
     → greatest (emissionOf (getD h i [])) (greatestEmission (drop (suc i) h)) ≡ greatestEmission (drop i h)
 unfolding greatestEmission
 greatest-more h i l = sym (ap greatestEmission (drop-cons h i [] l))
+
+-- ---- a blob's emission is the low five of its last eight bytes
+pub low-five : (t : List ℕ) (a : ℕ) → Bytes t → a + 8 ≤ length t → number (part t a 8) % 1099511627776 ≡ number (part t (a + 3) 5)
+unfolding number numberFrom part
+low-five t a h l =
+    let eight = part-eight t a l in
+    let five : number (part t (a + 3) 5) ≡ number (getD t (a + 3) 0 ∷ getD t (a + 4) 0 ∷ getD t (a + 5) 0 ∷ getD t (a + 6) 0 ∷ getD t (a + 7) 0 ∷ []) =
+    ap number (sym (part-part t a 8 3 5 (omega arith)) ∙ ap (λ (x : List ℕ). part x 3 5) eight) in
+    ap (λ (x : List ℕ). number x % 1099511627776) eight ∙ omega (arith, h (a + 3), h (a + 4), h (a + 5), h (a + 6), h (a + 7)) ∙ sym five
 
 -- ---- the record b of a path
 module _ (b : List ℕ) where

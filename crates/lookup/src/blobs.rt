@@ -30,12 +30,15 @@ pub fn has_blob(b: &[u8], blob: &[u8]) -> bool
     false
 }
 
-// The emission of the blob at a place.
+// 256 ^ 5: below it is what five bytes write.
+const FIVE_BYTES: u64 = 1_099_511_627_776;
+
+// The emission of the blob at a place, its last five bytes, by one load of its last eight.
 fn emission_at(b: &[u8], i: usize) -> u64
     requires { ⌜ (length (now b) ≡ pathWidth) × (i < blobLimit) ⌝ }
     ensures { λ r. ⌜ r ≡ emissionOf (part (now (b .entry)) (pathPlacesAt + blobWidth * i) blobWidth) ⌝ }
 {
-    octets::number_at(b, PATH_BLOBS_AT + BLOB_WIDTH * i + 5, 5)
+    octets::number_of_8_at(b, PATH_BLOBS_AT + BLOB_WIDTH * i + 2) % FIVE_BYTES
 }
 
 fn greater(x: u64, y: u64) -> u64

@@ -107,14 +107,16 @@ pub fn front_ok(t: &[u8]) -> bool
 
 // ---- paths
 
-fn paths_each(t: &[u8]) -> bool
-    requires { ⌜ length (now t) ≡ tableSize ⌝ }
-    ensures { λ r. ⌜ r ≡ recordsOk pathBytesOk pathsAt pathWidth pathCount (now (t .entry)) ⌝ }
+// The n records of paths that stand from this place on. A saved file's are tested one at a time: so `path_ok` has one
+// caller, in which the compiler knows a record's width.
+pub fn paths_each(t: &[u8], at: usize, n: usize) -> bool
+    requires { ⌜ at + pathWidth * n ≤ length (now t) ⌝ }
+    ensures { λ r. ⌜ r ≡ recordsOk pathBytesOk at pathWidth n (now (t .entry)) ⌝ }
 {
     let mut i = 0;
-    while i < PATH_COUNT {
-        let at = PATHS_AT + PATH_WIDTH * i;
-        if !path_ok(&t[at..at + PATH_WIDTH]) {
+    while i < n {
+        let start = at + PATH_WIDTH * i;
+        if !path_ok(&t[start..start + PATH_WIDTH]) {
             return false;
         }
         i += 1;
@@ -131,7 +133,7 @@ pub fn paths_ok(t: &[u8]) -> bool
             return true;
         }
     }
-    paths_each(t)
+    paths_each(t, PATHS_AT, PATH_COUNT)
 }
 
 // ---- links

@@ -16,7 +16,7 @@ struct Draft {
     app_data: usize,
 }
 
-fn blob(random: [u8; 5], emission: u64) -> Blob {
+pub(super) fn blob(random: [u8; 5], emission: u64) -> Blob {
     let time = emission.to_be_bytes();
     std::array::from_fn(|i| if i < 5 { random[i] } else { time[i - 2] })
 }
@@ -71,6 +71,14 @@ impl Traffic {
         let Some(newest) = self.world.stations[station].blobs.last().copied() else { return self.announce_of(station) };
         let mut draft = self.draft(station, 0);
         draft.blob = newest;
+        self.send_draft(&draft, true);
+    }
+
+    /// A blob in some announce, with hops as stored or more, or with fewer.
+    pub(super) fn announce_blob(&mut self, station: usize, blob: Blob, fewer: bool) {
+        let mut draft = self.draft(station, 0);
+        let stored = self.world.stations[station].hops;
+        (draft.blob, draft.hops) = (blob, if fewer { stored.saturating_sub(1) } else { stored + self.random.pick(&[0, 0, 1]) });
         self.send_draft(&draft, true);
     }
 
