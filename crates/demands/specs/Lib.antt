@@ -5,5 +5,6 @@ pub mod Refusals
 pub mod Keepalives
 pub mod Chatty
 pub mod DeadPaths
+pub mod OldAnnounces
 pub mod Replays
 pub mod Lengths
