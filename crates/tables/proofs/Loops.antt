@@ -5,9 +5,9 @@ use mathlib.Core.List.{List}
 use mathlib.Core.Path.{_≡_, sym, ap, ap₂, _∙_}
 use lib.ListN.{length, take, drop}
 use borrow.Author.Tests.{not-true, not-false}
-use Rattle.octets.specs.Index.{zeros}
+use Rattle.octets.specs.Index.{allBelow, zeros}
 use Rattle.octets.specs.Part.{part}
-use Rattle.octets.proofs.Index.{all-none, all-more, all-fails, all-intro, all-at}
+use Rattle.octets.proofs.Index.{all-none, all-more, all-fails, all-intro, all-at, all-cong}
 use Rattle.octets.proofs.Part.{part-range, part-part, range-length}
 use Rattle.octets.proofs.Records.{records-free, records-more, records-fails}
 use Rattle.codes.proofs.Rows.{row-end}
@@ -88,3 +88,18 @@ module _ (ok : List ℕ → Bool) (base w : ℕ) (t : List ℕ) (g : ℕ) {r : B
   pub group-fails : (count : ℕ) → groupSize * g + groupSize ≤ count → not r ≡ true → false ≡ recordsOk ok base w count t
   unfolding recordsOk groupOk
   group-fails count l n = sym (records-fails ok w t base groupSize g count l h (seen-group ∙ not-true r n))
+
+-- ---- groups of any size m, each tested from its own place on
+module _ (ok : List ℕ → Bool) (base w m : ℕ) (t : List ℕ) (g : ℕ) {r : Bool} (e : r ≡ recordsOk ok (base + w * m * g) w m t)
+    (h : recordsOk ok base w (m * g) t ≡ true) where
+  seen-run : allBelow (λ j. ok (part (part t (base + w * m * g) (w * m)) (w * j) w)) m ≡ r
+  unfolding recordsOk
+  seen-run = all-cong _ _ m (λ j l. ap ok (part-part t (base + w * m * g) (w * m) (w * j) w (row-end w m j l))) ∙ sym e
+
+  pub run-passes : not r ≡ false → recordsOk ok base w (m * (g + 1)) t ≡ true
+  unfolding recordsOk
+  run-passes n = records-more ok w t base m g h (seen-run ∙ not-false r n)
+
+  pub run-fails : (count : ℕ) → m * g + m ≤ count → not r ≡ true → false ≡ recordsOk ok base w count t
+  unfolding recordsOk
+  run-fails count l n = sym (records-fails ok w t base m g count l h (seen-run ∙ not-true r n))

@@ -9,6 +9,9 @@ use Rattle.octets.specs.Part.{part}
 abbrev pub groupSize : ℕ
 groupSize = 128
 
+abbrev pub pathGroupSize : ℕ
+pathGroupSize = 16
+
 -- each of the n records that stand one after the other in the bytes s keeps row 7
 unfoldable pub groupOk : (List ℕ → Bool) → ℕ → ℕ → List ℕ → Bool
 groupOk ok width n s = allBelow (λ i. ok (part s (width * i) width)) n
