@@ -1,0 +1,5 @@
+-- The second opinion and the rules answer alike; two announces may come in either order.
+pub mod Looking
+pub mod Taken
+pub mod Coarse
+pub mod Agrees
