@@ -7,7 +7,7 @@ use native.Mathlib.Omega.{arith}
 use mathlib.Core.Bool.{Bool, true, false}
 use mathlib.Core.List.{List}
 use mathlib.Core.Path.{_≡_, refl, sym, ap, subst, _∙_}
-use lib.Dec.{ltb}
+use lib.Dec.{eqb, ltb}
 use lib.ListN.{length, getD, set, List·getD-eq-default}
 use borrow.Author.Tests.{lt-ltb, le-ltb, ltb-true}
 use Rattle.octets.specs.Index.{_and_}
@@ -25,8 +25,9 @@ use Rattle.rules.proofs.Tables.{table-length}
 use Rattle.rules.proofs.Valid.{Valid}
 use Rattle.history.specs.Known.{Known, onlyIf, seenAt, nowUnder, nowPath, nowLink, nowReturn, nowUntil, nowClock, nowRate, nowPort, nowLocal}
 use Rattle.history.specs.Opinion.{listLimit}
-use Rattle.history.proofs.Looking.{Kind, ofKey, look, Tells, tells-later, found-there}
-use Rattle.history.proofs.Taken.{taken, room, Unturned, turned-later}
+use Rattle.history.proofs.Looking.{Kind, ofKey, Tells, found-there}
+use Rattle.history.proofs.Taken.{taken, room}
+use Rattle.history.proofs.Holding.{InTable, InRing, table-later, ring-later, table-more, ring-more}
 use Rattle.history.proofs.Coarse.{unexpired}
 
 -- ---- the tables
@@ -62,16 +63,6 @@ hashesOf until hash = used (makeRemembered hash (until hash))
 abbrev pub localsOf : (List ℕ → Bool) → List ℕ → Slot (List ℕ)
 localsOf local address = local address then used address otherwise empty
 
--- at most n slots are taken
-pub record InTable {A : Type 0} (T : Kind A) (now n : ℕ) (slots : List (Slot A)) (known : List ℕ → Slot A) : Type 0 where
-  pub tells : Tells T now slots known
-  pub few : taken slots ≤ n
-
--- at most n places were written
-pub record InRing {A : Type 0} (T : Kind A) (now n : ℕ) (ring : Ring A) (known : List ℕ → Slot A) : Type 0 where
-  pub tells : Tells T now (ring .slots) known
-  pub unturned : Unturned ring n
-
 -- all are counted
 pub record AmongLocals (slots : List (Slot (List ℕ))) (local : List ℕ → Bool) (count : ℕ) : Type 0 where
   pub tells : Tells localKind 0 slots (localsOf local)
@@ -87,20 +78,6 @@ pub record Agrees (now n : ℕ) (k : Known) (r : Relay) : Type 0 where
   pub links : InTable linkKind now n (r .links) (k .link)
   pub returns : InRing returnKind now n (r .returns) (k .return)
   pub hashes : InRing hashKind now n (r .hashes) (hashesOf (k .until))
-
--- ---- later, and with one more call
-module _ {A : Type 0} {T : Kind A} {now n : ℕ} where
-  table-later : {later : ℕ} → now ≤ later → {slots : List (Slot A)} {known : List ℕ → Slot A} → InTable T now n slots known → InTable T later n slots known
-  table-later l h = record { tells = tells-later l (h .tells); few = h .few }
-
-  ring-later : {later : ℕ} → now ≤ later → {ring : Ring A} {known : List ℕ → Slot A} → InRing T now n ring known → InRing T later n ring known
-  ring-later l h = record { tells = tells-later l (h .tells); unturned = h .unturned }
-
-  table-more : {slots : List (Slot A)} {known : List ℕ → Slot A} → InTable T now n slots known → InTable T now (suc n) slots known
-  table-more h = record { tells = h .tells; few = omega (arith, h .few) }
-
-  ring-more : {ring : Ring A} {known : List ℕ → Slot A} → InRing T now n ring known → InRing T now (suc n) ring known
-  ring-more h = record { tells = h .tells; unturned = turned-later (h .unturned) }
 
 -- ---- whether a record counts
 only-there : {A : Type 0} (test : A → Bool) (x : A) → isThere (onlyIf test (used x)) ≡ test x
@@ -211,3 +188,60 @@ module _ {now n : ℕ} {k : Known} {r : Relay} (h : Agrees now n k r) where
           roomForPath = path-room clock i;
           roomForLink = link-room clock i;
         }
+
+-- ---- one thing known anew, and one part of the relay written
+agree : {now n : ℕ} {k : Known} {r : Relay} → r .own ≡ k .own → r .clock ≡ k .clock → r .rate ≡ k .rate
+    → ((port : ℕ) → getD (r .ports) port noPort ≡ k .port port) → AmongLocals (r .locals) (k .local) (k .locals)
+    → InTable pathKind now n (r .paths) (k .path) → InTable linkKind now n (r .links) (k .link) → InRing returnKind now n (r .returns) (k .return)
+    → InRing hashKind now n (r .hashes) (hashesOf (k .until)) → Agrees now n k r
+agree own clock rate ports locals paths links returns hashes =
+    record {
+      own = own;
+      clock = clock;
+      rate = rate;
+      ports = ports;
+      locals = locals;
+      paths = paths;
+      links = links;
+      returns = returns;
+      hashes = hashes;
+    }
+
+module _ {now n : ℕ} {k : Known} {r : Relay} (h : Agrees now n k r) where
+  pub paths-agree : (d : List ℕ) (s : Slot Path) {paths : List (Slot Path)} → InTable pathKind now n paths (nowUnder d s (k .path))
+      → Agrees now n (nowPath d s k) (withPaths paths r)
+  unfolding nowPath withPaths
+  paths-agree d s t = agree (h .own) (h .clock) (h .rate) (h .ports) (h .locals) t (h .links) (h .returns) (h .hashes)
+
+  pub links-agree : (d : List ℕ) (s : Slot Link) {links : List (Slot Link)} → InTable linkKind now n links (nowUnder d s (k .link))
+      → Agrees now n (nowLink d s k) (withLinks links r)
+  unfolding nowLink withLinks
+  links-agree d s t = agree (h .own) (h .clock) (h .rate) (h .ports) (h .locals) (h .paths) t (h .returns) (h .hashes)
+
+  pub returns-agree : (d : List ℕ) (s : Slot Return) {returns : Ring Return} → InRing returnKind now n returns (nowUnder d s (k .return))
+      → Agrees now n (nowReturn d s k) (withReturns returns r)
+  unfolding nowReturn withReturns
+  returns-agree d s t = agree (h .own) (h .clock) (h .rate) (h .ports) (h .locals) (h .paths) (h .links) t (h .hashes)
+
+  pub hashes-agree : (d : List ℕ) (time : ℕ) {hashes : Ring Remembered} → InRing hashKind now n hashes (hashesOf (nowUnder d time (k .until)))
+      → Agrees now n (nowUntil d time k) (withHashes hashes r)
+  unfolding nowUntil withHashes
+  hashes-agree d time t = agree (h .own) (h .clock) (h .rate) (h .ports) (h .locals) (h .paths) (h .links) (h .returns) t
+
+  pub clock-agrees : (clock : ℕ) → Agrees now n (nowClock clock k) (withClock clock r)
+  unfolding nowClock withClock
+  clock-agrees clock = agree (h .own) refl (h .rate) (h .ports) (h .locals) (h .paths) (h .links) (h .returns) (h .hashes)
+
+  pub rate-agrees : (rate : RateSettings) → Agrees now n (nowRate rate k) (withRate rate r)
+  unfolding nowRate withRate
+  rate-agrees rate = agree (h .own) (h .clock) refl (h .ports) (h .locals) (h .paths) (h .links) (h .returns) (h .hashes)
+
+  pub port-agrees : (port : ℕ) (new : Port) (ports : List Port) → ((p : ℕ) → getD ports p noPort ≡ (eqb p port then new otherwise k .port p))
+      → Agrees now n (nowPort port new k) (withPorts ports r)
+  unfolding nowPort withPorts
+  port-agrees port new ports t = agree (h .own) (h .clock) (h .rate) t (h .locals) (h .paths) (h .links) (h .returns) (h .hashes)
+
+  pub locals-agree : (address : List ℕ) (new : Bool) {count : ℕ} {locals : List (Slot (List ℕ))} → AmongLocals locals (nowUnder address new (k .local)) count
+      → Agrees now n (nowLocal address new count k) (withLocals locals r)
+  unfolding nowLocal withLocals
+  locals-agree address new t = agree (h .own) (h .clock) (h .rate) (h .ports) t (h .paths) (h .links) (h .returns) (h .hashes)

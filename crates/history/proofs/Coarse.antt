@@ -186,5 +186,5 @@ module _ (v : View) (a : Arrival) where
   unfolding afterPacket afterHash
   known-coarse k =
       ap (λ (todo : Plan). afterPacket (unexpired v) a todo k) (sym plan-coarse)
-      ∙ ap₂ (λ (b : Bool) (after : Known). nowClock (a .clock) (b then nowUntil (hash a) (a .clock + hashLifetime) after otherwise after))
+      ∙ ap₂ (λ (b : Bool) (after : Known). b then nowUntil (hash a) (a .clock + hashLifetime) (nowClock (a .clock) after) otherwise nowClock (a .clock) after)
       (remembers-coarse (plan v a)) (plan-then (plan v a) k)

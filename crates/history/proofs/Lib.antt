@@ -2,4 +2,6 @@
 pub mod Looking
 pub mod Taken
 pub mod Coarse
+pub mod Holding
 pub mod Agrees
+pub mod Packets

@@ -263,7 +263,7 @@ module _ {A : Type 0} (T : Kind A) (now : ℕ) (slots : List (Slot A)) where
               ∙ sym (then-false _ _ lives)
 
 -- ---- every live record of a key is emptied
-emptied-slot : {A : Type 0} (test : A → Bool) (slots : List (Slot A)) (i : ℕ) → getD (map (emptiedIf test) slots) i empty ≡ emptiedIf test (getD slots i empty)
+pub emptied-slot : {A : Type 0} (test : A → Bool) (slots : List (Slot A)) (i : ℕ) → getD (map (emptiedIf test) slots) i empty ≡ emptiedIf test (getD slots i empty)
 unfolding emptiedIf holds _then_otherwise_
 emptied-slot test slots i = List·getD-map (emptiedIf test) slots i empty
 

@@ -3,13 +3,13 @@ use Prim.Native.Nat.{ℕ, zero, suc, _+_, _%_, _≤_, _<_}
 use native.Mathlib.Nat.{mod-eq-of-lt, not-suc-le-zero, le-of-suc-le-suc}
 use native.Mathlib.Decide.{decLt}
 use native.Mathlib.Omega.{arith}
-use mathlib.Core.Bool.{Bool, true, not, false≢true}
+use mathlib.Core.Bool.{Bool, true, false, not, false≢true}
 use mathlib.Core.List.{List, [], _∷_, map}
 use mathlib.Core.Path.{_≡_, refl, sym, ap, _∙_}
 use lib.Dec.{leb}
 use lib.ListN.{length, getD, set, replicate}
 use lib.Seq.{getD-set-other}
-use borrow.Author.Tests.{le-leb, lt-leb}
+use borrow.Author.Tests.{le-leb, lt-leb, not-true}
 use Rattle.octets.proofs.Index.{first-holds, first-before}
 use Rattle.rules.specs.Relay.{Slot, empty, used, Ring, holds, free, lowestFree}
 use Rattle.rules.specs.Renumbering.{renameSlot}
@@ -82,11 +82,11 @@ module _ {A : Type 0} where
   taken-below (empty ∷ slots) (suc j) l e = omega (arith, taken-below slots j (le-of-suc-le-suc l) e)
   taken-below (used x ∷ slots) (suc j) l e = omega (arith, taken-below slots j (le-of-suc-le-suc l) e)
 
-  module _ (alive : A → Bool) (n : ℕ) (slots : List (Slot A)) (size : length slots ≡ n) where
+  module _ (alive : A → Bool) (n : ℕ) (slots : List (Slot A)) where
     -- there is room
-    pub room : taken slots < n → lowestFree alive n slots < n
+    pub room : length slots ≡ n → taken slots < n → lowestFree alive n slots < n
     unfolding lowestFree free holds
-    room few = go (decLt (lowestFree alive n slots) n)
+    room size few = go (decLt (lowestFree alive n slots) n)
       where
         go : Dec (lowestFree alive n slots < n) → lowestFree alive n slots < n
         go (yes l) = l
@@ -99,6 +99,11 @@ module _ {A : Type 0} where
             ∙ ap (λ (s : Slot A). not (holds alive s)) e))
             in
             omega arith
+
+    -- .. where no record lives
+    pub spare-dead : lowestFree alive n slots < n → holds alive (getD slots (lowestFree alive n slots) empty) ≡ false
+    unfolding lowestFree free
+    spare-dead l = not-true _ (first-holds (λ i. free alive (getD slots i empty)) n l)
 
   -- of records that never expire, a slot with room is empty
   module _ (n : ℕ) (slots : List (Slot A)) (size : length slots ≡ n) where

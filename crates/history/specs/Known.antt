@@ -163,7 +163,7 @@ afterHash v a todo k = remembers v a todo then nowUntil (hash a) (a .clock + has
 
 -- "every accepted packet, dropped or not, .. sets the last clock"
 unfoldable pub afterPacket : View → Arrival → Plan → Known → Known
-afterPacket v a todo k = nowClock (a .clock) (afterHash v a todo (afterPlan v a todo k))
+afterPacket v a todo k = afterHash v a todo (nowClock (a .clock) (afterPlan v a todo k))
 
 -- ---- a call on the tables
 -- renumbering replaces every port, of records that have ended too, by its image, and each port's settings move with it
