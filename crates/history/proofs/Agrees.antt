@@ -94,7 +94,7 @@ local-there true address = refl
 local-there false address = refl
 
 -- the rules compare the other way round
-local-test : (address : List ℕ) (s : Slot (List ℕ)) → holds (same address) s ≡ holds (ofKey localKind 0 address) s
+pub local-test : (address : List ℕ) (s : Slot (List ℕ)) → holds (same address) s ≡ holds (ofKey localKind 0 address) s
 unfolding holds _and_
 local-test address empty = refl
 local-test address (used x) = same-sym address x ∙ go (same x address)
@@ -134,7 +134,7 @@ module _ {now n : ℕ} {k : Known} {r : Relay} (h : Agrees now n k r) where
 
   -- ---- what is read of both is the same, while under 64 calls are listed
   module _ (valid : Valid r) where
-    sixteen : length (r .ports) ≡ portCount
+    pub sixteen : length (r .ports) ≡ portCount
     sixteen = table-length portOk portCount (r .ports) (valid .ports)
 
     pub on-agrees : (port : ℕ) → portOn r port ≡ k .port port .on
@@ -190,7 +190,7 @@ module _ {now n : ℕ} {k : Known} {r : Relay} (h : Agrees now n k r) where
         }
 
 -- ---- one thing known anew, and one part of the relay written
-agree : {now n : ℕ} {k : Known} {r : Relay} → r .own ≡ k .own → r .clock ≡ k .clock → r .rate ≡ k .rate
+pub agree : {now n : ℕ} {k : Known} {r : Relay} → r .own ≡ k .own → r .clock ≡ k .clock → r .rate ≡ k .rate
     → ((port : ℕ) → getD (r .ports) port noPort ≡ k .port port) → AmongLocals (r .locals) (k .local) (k .locals)
     → InTable pathKind now n (r .paths) (k .path) → InTable linkKind now n (r .links) (k .link) → InRing returnKind now n (r .returns) (k .return)
     → InRing hashKind now n (r .hashes) (hashesOf (k .until)) → Agrees now n k r

@@ -4,7 +4,7 @@ use native.Mathlib.Decide.{decLt, ℕ-discrete}
 use native.Mathlib.Nat.{le-refl}
 use native.Mathlib.Omega.{arith}
 use mathlib.Core.Bool.{Bool, true, false}
-use mathlib.Core.List.{List}
+use mathlib.Core.List.{List, map}
 use mathlib.Core.Path.{_≡_, refl, sym, ap, subst, _∙_}
 use lib.ListN.{length, getD, set, length-set, List·getD-eq-default}
 use lib.Seq.{getD-set-same, getD-set-other}
@@ -14,9 +14,10 @@ use Rattle.rules.specs.Relay.{Slot, empty, used, Ring, withSlots, holds, lowest
 use Rattle.rules.specs.Renumbering.{renameSlot}
 use Rattle.rules.specs.Writes.{putNext, emptiedIf, emptiedWhere}
 use Rattle.rules.proofs.Slots.{Single, used-not-empty, used-same}
+use Rattle.rules.proofs.SlotsRenamed.{slot-renamed}
 use Rattle.history.specs.Known.{onlyIf, nowUnder}
-use Rattle.history.proofs.Looking.{Kind, ofKey, look, Harmless, Tells, tells-later, tells-same, tells-over, tells-changed, tells-gone, tells-new, tells-emptied, emptied-slot}
-use Rattle.history.proofs.Taken.{taken, taken-set, room, spare-dead, Unturned, turned-later, unturned-put}
+use Rattle.history.proofs.Looking.{Kind, ofKey, look, Harmless, Tells, tells-later, tells-same, tells-over, tells-changed, tells-gone, tells-new, tells-renamed, tells-emptied, emptied-slot}
+use Rattle.history.proofs.Taken.{taken, taken-set, taken-renamed, room, spare-dead, Unturned, turned-later, unturned-put}
 
 -- at most n slots are taken
 pub record InTable {A : Type 0} (T : Kind A) (now n : ℕ) (slots : List (Slot A)) (known : List ℕ → Slot A) : Type 0 where
@@ -86,12 +87,30 @@ module _ {A : Type 0} {T : Kind A} {now n : ℕ} where
           → InTable T now (suc n) (set slots (lowest (ofKey T now k) (T .count) slots) (used (change x))) (nowUnder k (renameSlot change (known k)) known)
       table-changed change keyed = record { tells = tells-changed (h .tells) single k x f change keyed; few = more _ _ }
 
+    pub table-renamed : (rename : A → A) → ((x : A) → T .key (rename x) ≡ T .key x) → ((clock : ℕ) (x : A) → T .alive clock (rename x) ≡ T .alive clock x)
+        → InTable T now n (map (renameSlot rename) slots) (λ k. renameSlot rename (known k))
+    table-renamed rename keyed lives =
+        record { tells = tells-renamed rename keyed lives (h .tells); few = omega (arith, taken-renamed rename slots, h .few) }
+
     -- where none of k lives, nothing is written
     pub table-gone : (k : List ℕ) → look T now slots k ≡ empty → (change : A → A) → ((clock : ℕ) (x : A) → T .alive clock (change x) ≡ T .alive clock x)
         → InTable T now (suc n) slots (nowUnder k (renameSlot change (known k)) known)
     table-gone k none change lives = record { tells = tells-gone (h .tells) k none change lives; few = omega (arith, h .few) }
 
   module _ {ring : Ring A} {known : List ℕ → Slot A} (h : InRing T now n ring known) where
+    pub ring-renamed : (rename : A → A) → ((x : A) → T .key (rename x) ≡ T .key x) → ((clock : ℕ) (x : A) → T .alive clock (rename x) ≡ T .alive clock x)
+        → InRing T now n (withSlots (map (renameSlot rename) (ring .slots)) ring) (λ k. renameSlot rename (known k))
+    unfolding renameSlot
+    ring-renamed rename keyed lives =
+        record {
+          tells = tells-renamed rename keyed lives (h .tells);
+          unturned =
+              record {
+                few = h .unturned .few;
+                rest = λ j l. slot-renamed rename (ring .slots) j ∙ ap (renameSlot rename) (h .unturned .rest j l);
+              };
+        }
+
     -- a new record of k goes into the next place
     pub ring-new : suc n < T .count → (k : List ℕ) → look T now (ring .slots) k ≡ empty → (y : A) → T .key y ≡ k
         → InRing T now (suc n) (putNext (T .count) (used y) ring) (nowUnder k (used y) known)

@@ -5,3 +5,4 @@ pub mod Coarse
 pub mod Holding
 pub mod Agrees
 pub mod Packets
+pub mod Calls
