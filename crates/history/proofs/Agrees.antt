@@ -8,14 +8,14 @@ use mathlib.Core.Bool.{Bool, true, false}
 use mathlib.Core.List.{List}
 use mathlib.Core.Path.{_≡_, refl, sym, ap, subst, _∙_}
 use lib.Dec.{eqb, ltb}
-use lib.ListN.{length, getD, set, List·getD-eq-default}
+use lib.ListN.{length, getD, replicate, getD-replicate, length-replicate, List·getD-eq-default}
 use borrow.Author.Tests.{lt-ltb, le-ltb, ltb-true}
 use Rattle.octets.specs.Index.{_and_}
 use Rattle.octets.specs.Choice.{_then_otherwise_, same}
 use Rattle.octets.proofs.Index.{and-no, and-yes, first-cong}
-use Rattle.octets.proofs.Choice.{same-sym}
+use Rattle.octets.proofs.Choice.{then-false, same-sym}
 use Rattle.numbers.specs.Numbers.{portCount, localCount, pathCount, linkCount, returnCount, hashCount, live}
-use Rattle.rules.specs.Relay.{Port, noPort, Slot, empty, used, makeRemembered, Path, Return, Remembered, Ring, Relay, holds, lowest, withClock, withRate, withPorts, withLocals, withPaths, withLinks, withReturns, withHashes}
+use Rattle.rules.specs.Relay.{Port, freshPort, noPort, fresh, Slot, empty, used, makeRemembered, Path, Return, Remembered, Ring, Relay, holds, lowest, withClock, withRate, withPorts, withLocals, withPaths, withLinks, withReturns, withHashes}
 use Rattle.rules.specs.View.{viewAt, portOn, portMode, isLocal, localPlace, isLivePath, isLiveLink, isLiveReturn, isLiveHash, pathPlace, linkPlace, returnPlace, hashPlace, freePath, freeLink}
 use Rattle.rules.specs.Refusals.{portOk}
 use Rattle.rules.specs.Tests.{isThere}
@@ -23,10 +23,10 @@ use Rattle.rules.specs.declared.Link.{Link}
 use Rattle.rules.specs.declared.RateSettings.{RateSettings}
 use Rattle.rules.proofs.Tables.{table-length}
 use Rattle.rules.proofs.Valid.{Valid}
-use Rattle.history.specs.Known.{Known, onlyIf, seenAt, nowUnder, nowPath, nowLink, nowReturn, nowUntil, nowClock, nowRate, nowPort, nowLocal}
+use Rattle.history.specs.Known.{Known, freshKnown, onlyIf, seenAt, nowUnder, nowPath, nowLink, nowReturn, nowUntil, nowClock, nowRate, nowPort, nowLocal}
 use Rattle.history.specs.Opinion.{listLimit}
-use Rattle.history.proofs.Looking.{Kind, ofKey, Tells, found-there}
-use Rattle.history.proofs.Taken.{taken, room}
+use Rattle.history.proofs.Looking.{Kind, ofKey, Tells, tells-fresh, found-there}
+use Rattle.history.proofs.Taken.{taken, taken-fresh, room, unturned-fresh}
 use Rattle.history.proofs.Holding.{InTable, InRing, table-later, ring-later, table-more, ring-more}
 use Rattle.history.proofs.Coarse.{unexpired}
 
@@ -245,3 +245,26 @@ module _ {now n : ℕ} {k : Known} {r : Relay} (h : Agrees now n k r) where
       → Agrees now n (nowLocal address new count k) (withLocals locals r)
   unfolding nowLocal withLocals
   locals-agree address new t = agree (h .own) (h .clock) (h .rate) (h .ports) t (h .paths) (h .links) (h .returns) (h .hashes)
+
+-- ---- a fresh relay
+all-off : (n i : ℕ) → getD (replicate n freshPort) i noPort ≡ freshPort
+all-off n i = go (decLt i n)
+  where
+    go : Dec (i < n) → getD (replicate n freshPort) i noPort ≡ freshPort
+    go (yes l) = getD-replicate n i freshPort noPort l
+    go (no l) = List·getD-eq-default (replicate n freshPort) noPort (rw length-replicate (omega arith))
+
+-- a hash that is remembered until 0 is never live
+never : (clock : ℕ) (hash : List ℕ) → onlyIf (hashKind .alive clock) (hashesOf (λ hash. 0) hash) ≡ empty
+unfolding onlyIf
+never clock hash = then-false _ _ (le-ltb clock 0 (omega arith))
+
+pub fresh-agrees : (own : List ℕ) → Agrees 0 0 (freshKnown own) (fresh own)
+unfolding freshKnown fresh _then_otherwise_ onlyIf
+fresh-agrees own =
+    agree refl refl refl (all-off portCount)
+    (record { tells = tells-fresh _ (λ _ _. refl); counted = taken-fresh (List ℕ) localCount })
+    (record { tells = tells-fresh _ (λ _ _. refl); few = omega (arith, taken-fresh Path pathCount) })
+    (record { tells = tells-fresh _ (λ _ _. refl); few = omega (arith, taken-fresh Link linkCount) })
+    (record { tells = tells-fresh _ (λ _ _. refl); unturned = unturned-fresh returnCount })
+    (record { tells = tells-fresh _ never; unturned = unturned-fresh hashCount })

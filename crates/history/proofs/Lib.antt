@@ -6,3 +6,4 @@ pub mod Holding
 pub mod Agrees
 pub mod Packets
 pub mod Calls
+pub mod SecondOpinion

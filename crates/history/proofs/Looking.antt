@@ -142,9 +142,10 @@ module _ {A : Type 0} {T : Kind A} where
       → Tells T now slots known → Tells T now slots other
   tells-same e h = record { size = h .size; told = λ clock m k. h .told clock m k ∙ ap (onlyIf (T .alive clock)) (e k) }
 
-  pub tells-fresh : (now : ℕ) → Tells T now (replicate (T .count) empty) (λ k. empty)
-  unfolding onlyIf
-  tells-fresh now = record { size = length-replicate (T .count) empty; told = λ clock m k. nothing-there (T .count) _ }
+  -- an empty table, while nothing that is known counts
+  pub tells-fresh : (known : List ℕ → Slot A) → ((clock : ℕ) (k : List ℕ) → onlyIf (T .alive clock) (known k) ≡ empty)
+      → Tells T 0 (replicate (T .count) empty) known
+  tells-fresh known never = record { size = length-replicate (T .count) empty; told = λ clock m k. nothing-there (T .count) _ ∙ sym (never clock k) }
 
   -- what is found now lives, and is known
   pub known-now : {now : ℕ} {slots : List (Slot A)} {known : List ℕ → Slot A} → Tells T now slots known → (k : List ℕ) (x : A)

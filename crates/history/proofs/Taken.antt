@@ -1,6 +1,6 @@
 -- How many slots of a table are taken, and that there is room while fewer are than it has.
 use Prim.Native.Nat.{ℕ, zero, suc, _+_, _%_, _≤_, _<_}
-use native.Mathlib.Nat.{mod-eq-of-lt, not-suc-le-zero, le-of-suc-le-suc}
+use native.Mathlib.Nat.{le-refl, mod-eq-of-lt, not-suc-le-zero, le-of-suc-le-suc}
 use native.Mathlib.Decide.{decLt}
 use native.Mathlib.Omega.{arith}
 use mathlib.Core.Bool.{Bool, true, false, not, false≢true}
@@ -11,10 +11,11 @@ use lib.ListN.{length, getD, set, replicate}
 use lib.Seq.{getD-set-other}
 use borrow.Author.Tests.{le-leb, lt-leb, not-true}
 use Rattle.octets.proofs.Index.{first-holds, first-before}
-use Rattle.rules.specs.Relay.{Slot, empty, used, Ring, holds, free, lowestFree}
+use Rattle.rules.specs.Relay.{Slot, empty, used, Ring, makeRing, holds, free, lowestFree}
 use Rattle.rules.specs.Renumbering.{renameSlot}
 use Rattle.rules.specs.Writes.{putNext}
 use Rattle.rules.proofs.Slots.{used-not-empty}
+use Rattle.history.proofs.Looking.{nothing-there}
 
 unfoldable pub taken : {A : Type 0} → List (Slot A) → ℕ
 taken [] = 0
@@ -131,6 +132,9 @@ module _ {A : Type 0} where
 pub record Unturned {A : Type 0} (ring : Ring A) (count : ℕ) : Type 0 where
   pub few : ring .next ≤ count
   pub rest : (j : ℕ) → ring .next ≤ j → getD (ring .slots) j empty ≡ empty
+
+pub unturned-fresh : {A : Type 0} (n : ℕ) → Unturned {A = A} (makeRing (replicate n empty) 0) 0
+unturned-fresh n = record { few = le-refl 0; rest = λ j l. nothing-there n j }
 
 module _ {A : Type 0} {ring : Ring A} {count : ℕ} (u : Unturned ring count) where
   pub turned-later : Unturned ring (suc count)
