@@ -7,3 +7,4 @@ pub mod Agrees
 pub mod Packets
 pub mod Calls
 pub mod SecondOpinion
+pub mod EitherOrder

@@ -9,8 +9,8 @@ use mathlib.Core.List.{List, map}
 use mathlib.Core.Path.{_≡_, refl, sym, ap, subst, _∙_}
 use lib.Dec.{ltb}
 use lib.ListN.{length, getD, set, replicate, length-set, length-map, getD-replicate, length-replicate, List·getD-eq-default, List·getD-map}
-use lib.Seq.{getD-set-same, getD-set-other}
-use borrow.Author.Tests.{lt-ltb, le-ltb, not-true}
+use lib.Seq.{getD-set-same, getD-set-other, set-out}
+use borrow.Author.Tests.{lt-ltb, le-ltb, ltb-false}
 use Rattle.octets.specs.Index.{_and_}
 use Rattle.octets.specs.Choice.{_then_otherwise_, same}
 use Rattle.octets.proofs.Index.{and-left, and-right, and-both, first-holds, first-before, first-absent, first-only, first-cong}
@@ -89,6 +89,22 @@ module _ {A : Type 0} (test : A → Bool) (n : ℕ) where
         go (yes l) empty e = absurd (false≢true (ap (holds test) (sym e) ∙ first-holds (passes slots) n l))
         go (no l) (used x) e = absurd (l (found-below x e))
         go (no l) empty e = le-ltb _ n (omega arith)
+
+  -- none is found, and what is written anywhere does not pass
+  pub none-over : (slots : List (Slot A)) (i : ℕ) (y : A) → ltb (lowest test n slots) n ≡ false → test y ≡ false
+      → ltb (lowest test n (set slots i (used y))) n ≡ false
+  unfolding lowest holds
+  none-over slots i y none fails =
+      le-ltb _ n (omega (arith, first-absent (passes (set slots i (used y))) n (λ j l. at j l (ℕ-discrete j i) (decLt i (length slots)))))
+    where
+      old : (j : ℕ) → j < n → passes slots j ≡ false
+      old j l = first-before (passes slots) n j (omega (arith, ltb-false (lowest test n slots) n none))
+
+      at : (j : ℕ) → j < n → Dec (j ≡ i) → Dec (i < length slots) → passes (set slots i (used y)) j ≡ false
+      at j l (yes p) (yes m) =
+          ap (passes (set slots i (used y))) p ∙ ap (holds test) (getD-set-same slots i (used y) empty m) ∙ fails
+      at j l (yes p) (no m) = ap (λ (t : List (Slot A)). passes t j) (set-out slots i (used y) (omega arith)) ∙ old j l
+      at j l (no p) b = ap (holds test) (getD-set-other slots i j (used y) empty p) ∙ old j l
 
 -- ---- a table whose records have keys
 pub record Kind (A : Type 0) : Type 0 where
@@ -244,7 +260,7 @@ module _ {A : Type 0} (T : Kind A) (now : ℕ) (slots : List (Slot A)) where
               (sym fails ∙ ap (holds (ofKey T clock k₀)) (sym there) ∙ ap (λ (j : ℕ). holds (ofKey T clock k₀) (getD written j empty)) (sym p) ∙ h)
           none j h (no p) = elsewhere j p h
 
-      own-key : (t : Slot A) → s ≡ t → look T clock written k₀ ≡ onlyIf (T .alive clock) t
+      pub own-key : (t : Slot A) → s ≡ t → look T clock written k₀ ≡ onlyIf (T .alive clock) t
       unfolding onlyIf holds
       own-key empty e = nowhere (ap (holds (ofKey T clock k₀)) e)
       own-key (used y) e = go (T .alive clock y) refl
