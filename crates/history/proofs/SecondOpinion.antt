@@ -22,7 +22,7 @@ use Rattle.rules.specs.Arrival.{Arrival}
 use Rattle.rules.specs.Judging.{plan}
 use Rattle.rules.specs.Writes.{enact}
 use Rattle.rules.specs.Calls.{Judgement, judge, packetCall, TableCall, ruleOf, tableRefusal, settled, settle}
-use Rattle.rules.specs.Run.{Call, packet, on-tables, asks, saves, loads, Reply, answered, numbered, ofJudgement, ofSetting, perform, relayAfter, tallyAfter, setsRelay, noneLoads}
+use Rattle.rules.specs.Run.{Call, packet, on-tables, asks, saves, loads, Reply, answered, numbered, ofJudgement, ofSetting, perform, setsRelay, noneLoads}
 use Rattle.rules.specs.declared.Answer.the-variants.{Refused}
 use Rattle.rules.specs.declared.Tally.{Tally}
 use Rattle.rules.proofs.Choices.{either}
@@ -30,12 +30,12 @@ use Rattle.rules.proofs.Rows.{table-passed}
 use Rattle.rules.proofs.Held.{judged-relay, judged-reply, ask-kept, save-kept, load-kept, first-none, others-none}
 use Rattle.rules.proofs.Stamped.{enact-clock}
 use Rattle.rules.proofs.Accepted.{Accepted, accepted-packet}
-use Rattle.rules.proofs.Valid.{Valid, valid-of, step-ok, fresh-ok, ok-after}
-use Rattle.rules.proofs.Unique.{Unique, fresh-unique, step-unique, unique-after}
+use Rattle.rules.proofs.Valid.{Valid, valid-of, step-ok, fresh-ok}
+use Rattle.rules.proofs.Unique.{Unique, fresh-unique, step-unique}
 use Rattle.history.specs.Known.{Entry, came, called, Known, seenAt, afterPacket, after, knownOf}
-use Rattle.history.specs.Opinion.{listLimit, packetRefused, callRefused, judgedBy, onPacket, onCall, listed, listedAfter}
+use Rattle.history.specs.Opinion.{listLimit, packetRefused, callRefused, judgedBy, onPacket, onCall, listed}
 use Rattle.history.specs.Opinion as opinion
-use Rattle.history.specs.SecondOpinion.{coarse, coarseAnswer, Alike, SecondOpinion}
+use Rattle.history.specs.SecondOpinion.{coarse, coarseAnswer, RepliesAlike, Alike, SecondOpinion}
 use Rattle.history.proofs.Coarse.{judged-coarse, known-coarse}
 use Rattle.history.proofs.Agrees.{Agrees, agrees-later, on-agrees, seen-agrees, fresh-agrees}
 use Rattle.history.proofs.Packets.{packet-agrees}
@@ -125,14 +125,23 @@ module _ (own : List ℕ) (entries : List Entry) (r : Relay) (h : Follows own en
         go true e = call-agrees r valid (length entries) under k h (u (r .clock) (le-refl (r .clock))) c (table-passed c r e)
         go false e = h
 
-  -- ---- any call: of the others none changes the relay
-  call-step : (c : Call) (t : Tally) → setsRelay c ≡ false → Follows own (listed own entries c) (perform c r t .relay)
+  -- ---- any call
+  replies-alike : (c : Call) (t : Tally) → RepliesAlike own entries c (perform c r t .reply)
+  unfolding RepliesAlike
+  replies-alike (packet a output) t = packet-alike a output t
+  replies-alike (on-tables c) t = call-alike c t
+  replies-alike (asks q) t = tt
+  replies-alike (saves f room) t = tt
+  replies-alike (loads f file) t = tt
+
+  -- of those that are not listed none changes the relay
+  still-follows : (c : Call) (t : Tally) → setsRelay c ≡ false → Follows own (listed own entries c) (perform c r t .relay)
   unfolding listed setsRelay
-  call-step (packet a output) t none = packet-follows a output t
-  call-step (on-tables c) t none = call-follows c t
-  call-step (asks q) t none = ask-kept (Follows own entries) h q t
-  call-step (saves f room) t none = save-kept (Follows own entries) h f room t
-  call-step (loads f file) t none = load-kept (Follows own entries) h f file t (λ e. absurd (false≢true (sym none ∙ e)))
+  still-follows (packet a output) t none = packet-follows a output t
+  still-follows (on-tables c) t none = call-follows c t
+  still-follows (asks q) t none = ask-kept (Follows own entries) h q t
+  still-follows (saves f room) t none = save-kept (Follows own entries) h f room t
+  still-follows (loads f file) t none = load-kept (Follows own entries) h f file t (λ e. absurd (false≢true (sym none ∙ e)))
 
 -- ---- lists of calls
 listed-longer : (own : List ℕ) (entries : List Entry) (c : Call) → length entries ≤ length (listed own entries c)
@@ -143,20 +152,20 @@ listed-longer own entries (asks q) = le-refl (length entries)
 listed-longer own entries (saves f room) = le-refl (length entries)
 listed-longer own entries (loads f file) = le-refl (length entries)
 
-after-longer : (own : List ℕ) (cs : List Call) (entries : List Entry) → length entries ≤ length (listedAfter own cs entries)
-unfolding listedAfter
-after-longer own [] entries = le-refl (length entries)
-after-longer own (c ∷ cs) entries = omega (arith, listed-longer own entries c, after-longer own cs (listed own entries c))
-
-follows-after : (own : List ℕ) (cs : List Call) (entries : List Entry) (r : Relay) (t : Tally) → noneLoads cs ≡ true → Follows own entries r → tablesOk r ≡ true
-    → Unique r → length (listedAfter own cs entries) < listLimit → Follows own (listedAfter own cs entries) (relayAfter cs r t)
-unfolding listedAfter relayAfter
-follows-after own [] entries r t none h ok u under = h
-follows-after own (c ∷ cs) entries r t none h ok u under =
-    let few : length entries < listLimit = omega (arith, listed-longer own entries c, after-longer own cs (listed own entries c)) in
-    let first : setsRelay c ≡ false = first-none setsRelay c cs none in
-    follows-after own cs (listed own entries c) (perform c r t .relay) (perform c r t .tally) (others-none setsRelay c cs none)
-    (call-step own entries r h ok u few c t first) (step-ok c r t ok) (step-unique c r t first ok u) under
+-- once 64 are listed nothing more is said
+all-alike : (own : List ℕ) (entries : List Entry) (cs : List Call) (r : Relay) (t : Tally) → noneLoads cs ≡ true → tablesOk r ≡ true → Unique r
+    → (length entries < listLimit → Follows own entries r) → Alike own entries cs r t
+unfolding Alike
+all-alike own entries [] r t none ok u h = tt
+all-alike own entries (c ∷ cs) r t none ok u h =
+    let first : setsRelay c ≡ false = first-none setsRelay c cs none in (
+      λ under. replies-alike own entries r (h under) ok u under c t,
+      all-alike own (listed own entries c) cs (perform c r t .relay) (perform c r t .tally) (others-none setsRelay c cs none) (step-ok c r t ok)
+          (step-unique c r t first ok u)
+          (λ few.
+          let under : length entries < listLimit = omega (arith, few, listed-longer own entries c) in
+          still-follows own entries r (h under) ok u under c t first),
+    )
 
 fresh-follows : (own : List ℕ) → Follows own [] (fresh own)
 unfolding knownOf fresh
@@ -164,10 +173,4 @@ fresh-follows own = fresh-agrees own
 
 -- THE CLAIM
 pub second-opinion : SecondOpinion
-second-opinion own cs t none under =
-    let r : Relay = relayAfter cs (fresh own) t in
-    let h : Follows own (listedAfter own cs []) r = follows-after own cs [] (fresh own) t none (fresh-follows own) (fresh-ok own) (fresh-unique own) under in
-    record {
-      packets = λ a output. packet-alike own (listedAfter own cs []) r h (ok-after own cs t) (unique-after own cs t none) under a output _;
-      calls = λ c. call-alike own (listedAfter own cs []) r h (ok-after own cs t) (unique-after own cs t none) under c _;
-    }
+second-opinion own cs t none = all-alike own [] cs (fresh own) t none (fresh-ok own) (fresh-unique own) (λ _. fresh-follows own)

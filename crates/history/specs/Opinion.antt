@@ -81,8 +81,3 @@ listed own entries (on-tables c) = eqb (callRefused own entries c) 0 then called
 listed own entries (asks q) = entries
 listed own entries (saves f room) = entries
 listed own entries (loads f file) = entries
-
--- .. and after a list of calls, the first of which comes first
-unfoldable pub listedAfter : List ℕ → List Call → List Entry → List Entry
-listedAfter own [] entries = entries
-listedAfter own (c ∷ cs) entries = listedAfter own cs (listed own entries c)

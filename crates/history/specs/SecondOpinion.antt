@@ -2,17 +2,15 @@
 -- need only say 6.2 or 6.3." Proved in proofs/SecondOpinion.antt.
 use Prim.Native.Nat.{ℕ, _<_}
 use mathlib.Core.Bool.{true}
-use mathlib.Core.List.{List, []}
+use mathlib.Core.List.{List, [], _∷_}
 use mathlib.Core.Path.{_≡_}
 use lib.Dec.{eqb}
 use lib.ListN.{length}
 use Rattle.octets.specs.Index.{_and_}
 use Rattle.octets.specs.Choice.{_then_otherwise_}
 use Rattle.rules.specs.Relay.{Relay, fresh}
-use Rattle.rules.specs.Arrival.{Arrival}
 use Rattle.rules.specs.Answers.{reasonNumbers}
-use Rattle.rules.specs.Calls.{TableCall}
-use Rattle.rules.specs.Run.{Call, packet, on-tables, Reply, answered, numbered, told, saved, unsaved, perform, relayAfter, tallyAfter, noneLoads}
+use Rattle.rules.specs.Run.{Call, packet, on-tables, asks, saves, loads, Reply, answered, numbered, told, saved, unsaved, perform, noneLoads}
 use Rattle.rules.specs.declared.Blocked.the-variants.{NoPath}
 use Rattle.rules.specs.declared.Reason.{Reason}
 use Rattle.rules.specs.declared.Reason.the-variants.{NoWayOn}
@@ -22,7 +20,7 @@ use Rattle.rules.specs.declared.Answer.{Answer}
 use Rattle.rules.specs.declared.Answer.the-variants.{Refused, Judged}
 use Rattle.rules.specs.declared.Tally.{Tally}
 use Rattle.history.specs.Known.{Entry}
-use Rattle.history.specs.Opinion.{listLimit, onPacket, onCall, listedAfter}
+use Rattle.history.specs.Opinion.{listLimit, onPacket, onCall, listed}
 
 -- ---- what the core says, with 6.3 told as 6.2; all else as it is
 unfoldable pub coarseReason : Reason → Reason
@@ -46,14 +44,22 @@ coarse (told x) = told x
 coarse (saved r t room) = saved r t room
 coarse (unsaved refusal room) = unsaved refusal room
 
--- ---- the second opinion from these entries and the core with this relay reply alike to every packet and every call on the tables. A reply is all that a call
--- returns, and its whole output buffer
-pub record Alike (own : List ℕ) (entries : List Entry) (r : Relay) (t : Tally) : Type 0 where
-  pub packets : (a : Arrival) (output : List ℕ) → onPacket own entries a output ≡ coarse (perform (packet a output) r t .reply)
-  pub calls : (c : TableCall) → onCall own entries c ≡ perform (on-tables c) r t .reply
+-- ---- the two reply alike to a call. A reply is all that a call returns, with its whole output buffer. Questions, saves and loads are not asked of the second
+-- opinion
+unfoldable pub RepliesAlike : List ℕ → List Entry → Call → Reply → Type 0
+RepliesAlike own entries (packet a output) reply = onPacket own entries a output ≡ coarse reply
+RepliesAlike own entries (on-tables c) reply = onCall own entries c ≡ reply
+RepliesAlike own entries (asks q) reply = Unit {0}
+RepliesAlike own entries (saves f room) reply = Unit {0}
+RepliesAlike own entries (loads f file) reply = Unit {0}
 
--- .. behind any calls cs on a fresh relay, refused ones, questions and saves among them, but of loads only refused ones, if these leave under 64 listed
+-- "at each call that finds under 64 listed"
+unfoldable pub Alike : List ℕ → List Entry → List Call → Relay → Tally → Type 0
+Alike own entries [] r t = Unit {0}
+Alike own entries (c ∷ cs) r t =
+    (length entries < listLimit → RepliesAlike own entries c (perform c r t .reply))
+    × Alike own (listed own entries c) cs (perform c r t .relay) (perform c r t .tally)
+
+-- over every list of calls on a fresh relay: refused ones, questions and saves may stand among them, but of loads only refused ones
 abbrev pub SecondOpinion : Type 0
-SecondOpinion =
-    (own : List ℕ) (cs : List Call) (t : Tally) → noneLoads cs ≡ true → length (listedAfter own cs []) < listLimit
-    → Alike own (listedAfter own cs []) (relayAfter cs (fresh own) t) (tallyAfter cs (fresh own) t)
+SecondOpinion = (own : List ℕ) (cs : List Call) (t : Tally) → noneLoads cs ≡ true → Alike own [] cs (fresh own) t
