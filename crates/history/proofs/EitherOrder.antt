@@ -281,9 +281,10 @@ module _ (r : Relay) (t : Tally) (a b : Arrival) (outA outB : List ℕ) (m : Mee
   planned-second =
       none-first (earlyTests v′ b) _ (passes .ours, (not-duplicate, (passes .form, (passes .notOwn, (passes .elsewhere, (passes .fewHops, tt))))))
       ∙ ap (onwardPlan v′ b) (announce-way v′ b announce-b ∙ ap everywhere same-path)
-      ∙ none-first (onwardTests v′ b (everywhere (v .path (destination b)))) _
-      (passes .someWay,
-      (passes .unknown, (passes .side, (passes .signed, (passes .newBlob, (passes .better, (passes .unlimited, (passes .portOn, (room-second _, tt)))))))))
+      ∙ none-first (onwardTests v′ b (everywhere (v .path (destination b)))) _ (
+        passes .someWay,
+        (passes .unknown, (passes .side, (passes .signed, (passes .newBlob, (passes .better, (passes .unlimited, (passes .portOn, (room-second _, tt)))))))),
+      )
 
   accepted-second : eqb (packetRefusal (one a r) b (length outB)) 0 ≡ true
   unfolding refusalBy packetRows portOn changed
