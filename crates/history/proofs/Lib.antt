@@ -8,3 +8,4 @@ pub mod Packets
 pub mod Calls
 pub mod SecondOpinion
 pub mod EitherOrder
+pub mod InstanceOpinion
