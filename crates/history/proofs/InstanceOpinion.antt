@@ -1,7 +1,7 @@
 -- The second opinion on one list of calls, with what it replies to each written out: packets that are spread, forwarded, dropped and refused, marks that are
 -- accepted and refused. The rules' replies are computed in rules' DeadPathScene, call by call; the last packet finds an ended path, which the rules tell as
 -- 6.3 and the second opinion as 6.2.
-use Prim.Native.Nat.{ℕ, suc, _+_, _≤_, _<_}
+use Prim.Native.Nat.{ℕ, suc, _+_, _≤_}
 use native.Mathlib.Nat.{le-refl}
 use native.Mathlib.Omega.{arith}
 use mathlib.Core.Bool.{true, false}
@@ -13,12 +13,12 @@ use Rattle.octets.specs.Index.{_and_}
 use Rattle.octets.specs.Choice.{_then_otherwise_}
 use Rattle.packet.specs.Hash.{packetHash}
 use Rattle.numbers.specs.Numbers.{hashCount}
-use Rattle.rules.specs.Relay.{used, makeRemembered, Relay, fresh, withClock, withHashes}
+use Rattle.rules.specs.Relay.{empty, used, makeRemembered, Relay, fresh, withClock, withHashes}
 use Rattle.rules.specs.Writes.{putNext}
 use Rattle.rules.specs.View.{viewAt}
 use Rattle.rules.specs.Calls.{newTally}
 use Rattle.rules.specs.Chatty.{RateDrop}
-use Rattle.rules.specs.Run.{Call, packet, on-tables, asks, saves, loads, port-setting, rate-setting, marking, Reply, answered, numbered, Outcome, perform, noCall, setsRelay, noneLoads}
+use Rattle.rules.specs.Run.{Call, packet, on-tables, asks, saves, loads, port-setting, rate-setting, marking, Reply, answered, numbered, Outcome, perform, noCall, setsRelay}
 use Rattle.rules.specs.declared.Blocked.the-variants.{NoPath, OnlyExpired}
 use Rattle.rules.specs.declared.Reason.the-variants.{Duplicate, NotBetter, NoWayOn}
 use Rattle.rules.specs.declared.Verdict.the-variants.{Drop}
@@ -28,12 +28,12 @@ use Rattle.rules.proofs.Choices.{either}
 use Rattle.rules.proofs.Unfolding.{rules}
 use Rattle.rules.proofs.Shortcut.{passes, seen-quick, goodPlan, goodJudge}
 use Rattle.rules.proofs.Passed.{ofTest}
-use Rattle.rules.proofs.Scene.{own, blank, destination, dataBytes, arrival, arrives}
-use Rattle.rules.proofs.Outcomes.{forwards, dataLastHop, judged-at}
+use Rattle.rules.proofs.Scene.{own, blank, destination, announceBytes, dataBytes, dataKey, receiptBytes, requestBytes, link, linkProofBytes, arrives, next, announced, carried, asked, proved}
+use Rattle.rules.proofs.Outcomes.{spreads, forwards, spreadBytes, dataLastHop, requestLastHop, tallyOf, relayOf, remembers, knownPath, preparedRelay, announcedRelay, carriedRelay, askedRelay, provedRelay, judged-at, prepared-is, announced-is, carried-is, asked-is, proved-is}
 use Rattle.rules.proofs.ChattyScene.{hears, spreadOf, port-one, port-two, strict-set}
 use Rattle.rules.proofs.DeadPathScene.{stranger, counting, lastRelay, first-heard, again-dropped, no-path, early-mark, marked, early-refused, revived, third-dropped, marked-blocked, late-refused, still-no-path, marked-twice, older-dropped, data-carried, revived-again, fourth-dropped}
 use Rattle.history.specs.Known.{Entry}
-use Rattle.history.specs.Opinion.{listLimit, onPacket, onCall, listed}
+use Rattle.history.specs.Opinion.{listLimit, listed}
 use Rattle.history.specs.SecondOpinion.{coarseReason, coarseVerdict, coarseAnswer, coarse, RepliesAlike, Alike}
 use Rattle.history.proofs.SecondOpinion.{second-opinion}
 
@@ -103,7 +103,8 @@ unfolding Replies Alike
 replies-so own entries done few h = tt
 replies-so own entries (_and-then_ {c = c} {cs = cs} e run) few h = (
   subst (λ (o : Outcome). RepliesAlike own entries c (o .reply)) e (h .0 (omega arith)),
-  replies-so own (listed own entries c) run (omega (arith, listed-one own entries c)) (subst (λ (o : Outcome). Alike own (listed own entries c) cs (o .relay) (o .tally)) e (h .1)),
+  replies-so own (listed own entries c) run (omega (arith, listed-one own entries c))
+      (subst (λ (o : Outcome). Alike own (listed own entries c) cs (o .relay) (o .tally)) e (h .1)),
 )
 
 -- ---- what it replies
@@ -158,3 +159,56 @@ run =
 pub day-said : Replies own [] day said
 unfolding Replies RepliesAlike coarse coarseAnswer coarseVerdict coarseReason _and_ _then_otherwise_ noCall setsRelay
 day-said = replies-so own [] run (lit≤ tt) (second-opinion own day newTally refl)
+
+-- ---- a receipt comes home, and a link is proved
+abbrev pub start : List Call
+start = port-setting 1 true 2 ∷ port-setting 2 true 0 ∷ arrives announceBytes 1000 1 ∷ []
+
+pub announce-spread : perform (arrives announceBytes 1000 1) preparedRelay newTally
+    ≡ record { reply = spreads spreadBytes 2; relay = announcedRelay; tally = tallyOf 1 0 }
+unfolding announced
+announce-spread = sym (ap (next (arrives announceBytes 1000 1)) prepared-is) ∙ announced-is
+
+data-forwarded : perform (arrives dataBytes 2000 2) announcedRelay (tallyOf 1 0)
+    ≡ record { reply = forwards dataLastHop 1; relay = carriedRelay dataKey; tally = tallyOf 1 1 }
+unfolding carried
+data-forwarded = sym (ap (next (arrives dataBytes 2000 2)) announced-is) ∙ carried-is
+
+request-forwarded : perform (arrives requestBytes 2000 2) announcedRelay (tallyOf 1 0)
+    ≡ record { reply = forwards requestLastHop 1; relay = askedRelay link; tally = tallyOf 1 1 }
+unfolding asked
+request-forwarded = sym (ap (next (arrives requestBytes 2000 2)) announced-is) ∙ asked-is
+
+proof-carried : perform (arrives (linkProofBytes 0) 2001 1) (askedRelay link) (tallyOf 1 1)
+    ≡ record { reply = forwards (linkProofBytes 1) 2; relay = provedRelay; tally = tallyOf 1 2 }
+unfolding proved
+proof-carried = sym (ap (next (arrives (linkProofBytes 0) 2001 1)) asked-is) ∙ proved-is
+
+receipt-new : viewAt 2500 (carriedRelay dataKey) .remembered (packetHash (receiptBytes 5)) ≡ false
+unfolding rules passes
+receipt-new = seen-quick 2500 (carriedRelay dataKey) (packetHash (receiptBytes 5)) refl
+
+-- its return record is gone
+abbrev homeRelay : Relay
+homeRelay =
+    relayOf 2500 (used knownPath ∷ []) [] (empty ∷ [])
+    (remembers announceBytes 1300 ∷ remembers dataBytes 2300 ∷ remembers (receiptBytes 5) 2800 ∷ [])
+
+receipt-home : perform (arrives (receiptBytes 5) 2500 1) (carriedRelay dataKey) (tallyOf 1 1)
+    ≡ record { reply = forwards (receiptBytes 6) 2; relay = homeRelay; tally = tallyOf 1 2 }
+unfolding rules goodPlan goodJudge ofTest
+receipt-home = judged-at (receiptBytes 5) 2500 (carriedRelay dataKey) (tallyOf 1 1) receipt-new refl 1 refl
+
+pub home-said : Replies own [] (start ++ (arrives dataBytes 2000 2 ∷ arrives (receiptBytes 5) 2500 1 ∷ []))
+    (numbered 0 ∷ numbered 0 ∷ spreads spreadBytes 2 ∷ forwards dataLastHop 1 ∷ forwards (receiptBytes 6) 2 ∷ [])
+unfolding Replies RepliesAlike coarse coarseAnswer coarseVerdict noCall setsRelay _and_
+home-said =
+    replies-so own [] (port-one and-then port-two and-then announce-spread and-then data-forwarded and-then receipt-home and-then done) (lit≤ tt)
+    (second-opinion own _ newTally refl)
+
+pub link-said : Replies own [] (start ++ (arrives requestBytes 2000 2 ∷ arrives (linkProofBytes 0) 2001 1 ∷ []))
+    (numbered 0 ∷ numbered 0 ∷ spreads spreadBytes 2 ∷ forwards requestLastHop 1 ∷ forwards (linkProofBytes 1) 2 ∷ [])
+unfolding Replies RepliesAlike coarse coarseAnswer coarseVerdict noCall setsRelay _and_
+link-said =
+    replies-so own [] (port-one and-then port-two and-then announce-spread and-then request-forwarded and-then proof-carried and-then done) (lit≤ tt)
+    (second-opinion own _ newTally refl)

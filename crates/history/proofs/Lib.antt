@@ -9,3 +9,4 @@ pub mod Calls
 pub mod SecondOpinion
 pub mod EitherOrder
 pub mod InstanceOpinion
+pub mod InstanceOrder
