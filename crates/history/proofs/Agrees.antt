@@ -1,12 +1,12 @@
--- What is known from a list of calls agrees with a relay's tables: table by table, each key's newest record is what is found under it, from a clock on. And each
--- call has taken at most one slot of a table and one place of a ring, so that while under 64 are listed there is room, and no ring has turned.
+-- What is known from a list of calls agrees with a relay's tables: table by table, each key's newest record is what is found under it, from a clock on. And
+-- each call has taken at most one slot of a table and one place of a ring, so that while under 64 are listed there is room, and no ring has turned.
 use Prim.Native.Nat.{ℕ, suc, _≤_, _<_}
 use native.Mathlib.Decide.{decLt}
 use native.Mathlib.Nat.{le-refl}
 use native.Mathlib.Omega.{arith}
 use mathlib.Core.Bool.{Bool, true, false}
 use mathlib.Core.List.{List}
-use mathlib.Core.Path.{_≡_, refl, sym, ap, subst, _∙_}
+use mathlib.Core.Path.{_≡_, refl, sym, ap, _∙_}
 use lib.Dec.{eqb, ltb}
 use lib.ListN.{length, getD, replicate, getD-replicate, length-replicate, List·getD-eq-default}
 use borrow.Author.Tests.{lt-ltb, le-ltb, ltb-true}

@@ -4,38 +4,36 @@ use native.Mathlib.Decide.{decLt, ℕ-discrete}
 use native.Mathlib.Nat.{le-refl}
 use native.Mathlib.Omega.{arith}
 use mathlib.Core.Bool.{Bool, true, false, not, false≢true}
-use mathlib.Core.List.{List, [], map}
-use mathlib.Core.Path.{_≡_, refl, sym, ap, ap₂, subst, _∙_}
+use mathlib.Core.List.{List, []}
+use mathlib.Core.Path.{_≡_, refl, sym, ap, ap₂, _∙_}
 use lib.Dec.{eqb, ltb, leb}
-use lib.ListN.{length, getD, set, List·getD-eq-default}
+use lib.ListN.{getD, set, List·getD-eq-default}
 use lib.Seq.{getD-set-same, getD-set-other}
-use borrow.Author.Tests.{lt-ltb, leb-false, ltb-false, eq-eqb, ne-eqb, not-false}
+use borrow.Author.Tests.{leb-false, ltb-false, eq-eqb, ne-eqb, not-false}
 use Rattle.octets.specs.Choice.{_then_otherwise_, _or_, same}
-use Rattle.octets.specs.Listed.{Test, _gives_otherwise_, firstOf}
+use Rattle.octets.specs.Listed.{_gives_otherwise_, firstOf}
 use Rattle.octets.proofs.Index.{first-cong}
 use Rattle.octets.proofs.Choice.{same-eq, then-true, then-false, or-no-left, or-no-right}
 use Rattle.octets.proofs.Listed.{NoneHolds}
 use Rattle.numbers.specs.Numbers.{portCount, localCount, clockLimit}
-use Rattle.rules.specs.Relay.{Port, noPort, makePort, Slot, empty, used, Path, withPathMark, Ring, withSlots, Relay, lowest, lowestFree, withClock, withRate, withPorts, withLocals, withPaths}
+use Rattle.rules.specs.Relay.{Port, noPort, makePort, Slot, empty, used, Path, withPathMark, Relay, lowest, withClock, withRate, withPorts, withLocals, withPaths}
 use Rattle.rules.specs.View.{View, viewAt, isLocal, localPlace, isLivePath, pathPlace}
-use Rattle.rules.specs.Renumbering.{oneToOne, preimage, movedPorts, renamePath, renameLink, renameReturn, renameSlot, renumbered}
-use Rattle.rules.specs.Refusals.{portOk, tablesOk, emptyLocal}
+use Rattle.rules.specs.Renumbering.{oneToOne, preimage, movedPorts, renamePath, renameLink, renameReturn, renumbered}
+use Rattle.rules.specs.Refusals.{emptyLocal}
 use Rattle.rules.specs.Tests.{isThere}
 use Rattle.rules.specs.Writes.{markedSlot, markPath}
-use Rattle.rules.specs.Calls.{TableCall, sets-port, sets-rate, adds, removes, renumbers, marks, ruleOf, tableRefusal}
-use Rattle.rules.proofs.Choices.{either}
+use Rattle.rules.specs.Calls.{TableCall, sets-port, sets-rate, adds, removes, renumbers, marks, ruleOf}
 use Rattle.rules.proofs.Slots.{used-not-empty}
-use Rattle.rules.proofs.SlotsRenamed.{slot-renamed}
 use Rattle.rules.proofs.Images.{image-below, preimage-holds, source, source-port, source-other}
 use Rattle.rules.proofs.MovedPorts.{moved-at}
 use Rattle.rules.proofs.Valid.{Valid}
 use Rattle.rules.proofs.UniqueAt.{UniqueAt, later}
 use Rattle.history.specs.Known.{Known, onlyIf, seenAt, nowUnder, changePath, renumberedKnown, afterCall}
 use Rattle.history.specs.Opinion.{listLimit, callRows}
-use Rattle.history.proofs.Looking.{Kind, ofKey, look, tells-same, tells-over, tells-new, tells-renamed}
+use Rattle.history.proofs.Looking.{ofKey, look, tells-same, tells-over, tells-new}
 use Rattle.history.proofs.Taken.{taken-more, taken-less, spare-dead, spare-empty, full-same}
 use Rattle.history.proofs.Holding.{table-changed, table-renamed, ring-renamed}
-use Rattle.history.proofs.Agrees.{pathKind, localKind, localsOf, AmongLocals, local-test, Agrees, agree, agrees-later, agrees-more, local-agrees, seen-agrees, sixteen, clock-agrees, rate-agrees, port-agrees, locals-agree, paths-agree}
+use Rattle.history.proofs.Agrees.{localKind, localsOf, AmongLocals, local-test, Agrees, agree, agrees-later, agrees-more, local-agrees, seen-agrees, sixteen, clock-agrees, rate-agrees, port-agrees, locals-agree, paths-agree}
 use Rattle.history.proofs.Coarse.{unexpired}
 
 module _ (r : Relay) (valid : Valid r) (n : ℕ) (under : n < listLimit) (k : Known) (h : Agrees (r .clock) n k r) where
@@ -86,10 +84,13 @@ module _ (r : Relay) (valid : Valid r) (n : ℕ) (under : n < listLimit) (k : Kn
       go true e = ap (λ (x : List ℕ). new then used x otherwise empty) (same-eq address j e)
       go false e = refl
 
+  told-local : (address : List ℕ) → look localKind 0 (r .locals) address ≡ onlyIf (localKind .alive 0) (localsOf (k .local) address)
+  told-local = h .locals .tells .told 0 (le-refl 0)
+
   local-look : (address : List ℕ) (b : Bool) → k .local address ≡ b → look localKind 0 (r .locals) address ≡ (b then used address otherwise empty)
   unfolding onlyIf _then_otherwise_
-  local-look address true e = h .locals .tells .told 0 (le-refl 0) address ∙ ap (λ (b : Bool). onlyIf (localKind .alive 0) (b then used address otherwise empty)) e
-  local-look address false e = h .locals .tells .told 0 (le-refl 0) address ∙ ap (λ (b : Bool). onlyIf (localKind .alive 0) (b then used address otherwise empty)) e
+  local-look address true e = told-local address ∙ ap (λ (b : Bool). onlyIf (localKind .alive 0) (b then used address otherwise empty)) e
+  local-look address false e = told-local address ∙ ap (λ (b : Bool). onlyIf (localKind .alive 0) (b then used address otherwise empty)) e
 
   added : (address : List ℕ) → isLocal r address ≡ false → emptyLocal r < localCount
       → AmongLocals (set (r .locals) (emptyLocal r) (used address)) (nowUnder address true (k .local)) (k .locals + 1)
@@ -161,7 +162,8 @@ module _ (r : Relay) (valid : Valid r) (n : ℕ) (under : n < listLimit) (k : Kn
           paths-agree (agrees-more now) destination _ (table-changed (now .paths) (later r l u .paths .0) destination p f withPathMark (λ _. refl))
 
   -- ---- each call, where no row refuses it
-  pub call-agrees : UniqueAt (r .clock) r → (c : TableCall) → NoneHolds (ruleOf c .rows r) → Agrees (ruleOf c .after r .clock) (suc n) (afterCall c k) (ruleOf c .after r)
+  pub call-agrees : UniqueAt (r .clock) r → (c : TableCall) → NoneHolds (ruleOf c .rows r)
+      → Agrees (ruleOf c .after r .clock) (suc n) (afterCall c k) (ruleOf c .after r)
   unfolding ruleOf afterCall isLocal withClock withRate withPorts withLocals renumbered
   call-agrees u (sets-port port on mode) p =
       port-agrees (agrees-more h) port (makePort on mode) _ (port-set port (leb-false _ _ (or-no-left _ _ (p .0))) (makePort on mode))

@@ -1,6 +1,6 @@
 -- Wish 13: two announces at one clock may come in either order. The second reads of the tables what it read alone: its own hash, its own destination's path,
 -- whether there is room, and what the first leaves as it was.
-use Prim.Native.Nat.{ℕ, _+_, _≤_, _<_}
+use Prim.Native.Nat.{ℕ, _<_}
 use native.Mathlib.Nat.{le-refl}
 use native.Mathlib.Decide.{decLt, ℕ-discrete}
 use native.Mathlib.Omega.{arith}
@@ -10,31 +10,31 @@ use mathlib.Core.Path.{_≡_, refl, sym, ap, ap₂, subst, _∙_}
 use lib.Dec.{eqb, ltb, leb, lit<}
 use lib.ListN.{length, getD, set}
 use lib.Seq.{getD-set-same, getD-set-other}
-use borrow.Author.Tests.{lt-ltb, le-ltb, ltb-false}
+use borrow.Author.Tests.{lt-ltb, le-ltb}
 use Rattle.octets.specs.Index.{_and_}
 use Rattle.octets.specs.Choice.{_then_otherwise_, _or_, same}
 use Rattle.octets.specs.Listed.{_gives_otherwise_, firstOf}
 use Rattle.octets.proofs.Index.{and-no, and-yes, first-before}
-use Rattle.octets.proofs.Choice.{then-true, then-false, ne-same, same-eq, same-refl}
+use Rattle.octets.proofs.Choice.{then-true, then-false, ne-same, same-eq}
 use Rattle.octets.proofs.Listed.{none-first, past}
 use Rattle.packet.specs.Header.{isAnnounce}
 use Rattle.packet.specs.Read.{longestPacket, readingRefusal}
 use Rattle.packet.specs.Write.{leastOutput}
-use Rattle.numbers.specs.Numbers.{pathCount, hashCount, hashLifetime, live, clockLimit, pathLifetime}
+use Rattle.numbers.specs.Numbers.{pathCount, hashCount, live, clockLimit, pathLifetime}
 use Rattle.rules.specs.Relay.{Slot, empty, used, Path, Remembered, Ring, Relay, makeRelay, holds, lowest, free, lowestFree, withClock, withPaths, withHashes}
-use Rattle.rules.specs.View.{View, viewAt, portOn, portMode, isLocal, localPlace, isLivePath, isLiveHash, pathPlace, linkPlace, returnPlace, hashPlace, freePath, freeLink}
-use Rattle.rules.specs.Refusals.{slotOk, pathOk, hashOk, tablesOk, packetRows, refusalBy, packetRefusal}
+use Rattle.rules.specs.View.{View, viewAt, portOn, portMode, isLocal, localPlace, isLivePath, isLiveHash, pathPlace, linkPlace, hashPlace, freePath}
+use Rattle.rules.specs.Refusals.{slotOk, pathOk, tablesOk, packetRows, refusalBy, packetRefusal}
 use Rattle.rules.specs.Arrival.{Arrival, header, destination, hash}
-use Rattle.rules.specs.Ways.{Way, everywhere, by-path, along-link, by-return, blocked, wayOn}
+use Rattle.rules.specs.Ways.{everywhere, by-path, along-link, by-return, blocked}
 use Rattle.rules.specs.Tests.{notOurs, forMarkedPath, testedAsDuplicate, duplicate, ownAnnounce, deliveredHere, alreadyKnown, rateLimited, isRateLimited, ofKnown, portOff, noRoom}
 use Rattle.rules.specs.Answers.{verdictKind}
 use Rattle.rules.specs.Outgoing.{spreadPacket, spreadPorts, outgoing}
 use Rattle.rules.specs.Judging.{Plan, dropped, delivered, follows, earlyTests, onwardTests, onwardPlan, plan, wayVerdict, verdict, outputAfter}
 use Rattle.rules.specs.Writes.{putNext, remembers, remember, announcedRate, announcedPath, announcedPlace, putPath, writeWay, writePlan, stamp, enact}
-use Rattle.rules.specs.Calls.{Judgement, judged, judge, packetCall}
+use Rattle.rules.specs.Calls.{Judgement, packetCall}
 use Rattle.rules.specs.Run.{packet, answered, ofJudgement, perform}
 use Rattle.rules.specs.DeadPaths.{saysAccepted}
-use Rattle.rules.specs.declared.Answer.the-variants.{Refused, Judged}
+use Rattle.rules.specs.declared.Answer.the-variants.{Judged}
 use Rattle.rules.specs.declared.Tally.{Tally}
 use Rattle.rules.proofs.Choices.{either}
 use Rattle.rules.proofs.Tables.{table-length}
@@ -47,8 +47,8 @@ use Rattle.rules.proofs.ChattyPlan.{isSpread, spread-announce, announce-way}
 use Rattle.rules.proofs.Announced.{LowestPath}
 use Rattle.rules.proofs.Lowest.{lowest-found, found-lowest, lowest-renewed}
 use Rattle.rules.proofs.Valid.{Valid, valid-of, step-ok}
-use Rattle.history.specs.Known.{onlyIf, nowUnder}
-use Rattle.history.specs.EitherOrder.{next, freeAt, Meet, SamePaths, InEitherOrder, EitherOrder}
+use Rattle.history.specs.Known.{nowUnder}
+use Rattle.history.specs.EitherOrder.{next, freeAt, Meet, EitherOrder}
 use Rattle.history.proofs.Looking.{found-below, none-over, Harmless, other-key}
 use Rattle.history.proofs.Taken.{spare-dead}
 use Rattle.history.proofs.Agrees.{pathKind}
@@ -145,7 +145,8 @@ module _ (a : Arrival) (r : Relay) where
         (λ y q _. ap (λ (x : Path). x .destination) (sym (used-same q))) (a .clock) (le-refl (a .clock)) d differs
 
     -- no live path of its destination lies below that place
-    none-live-there : known ≡ empty → (j : ℕ) (y : Path) → getD (r .paths) j empty ≡ used y → y .destination ≡ destination a → live (a .clock) (y .expiry) ≡ false
+    none-live-there : known ≡ empty → (j : ℕ) (y : Path) → getD (r .paths) j empty ≡ used y → y .destination ≡ destination a
+        → live (a .clock) (y .expiry) ≡ false
     unfolding viewAt pathPlace isLivePath
     none-live-there f j y there q = go (live (a .clock) (y .expiry)) refl
       where
@@ -276,8 +277,8 @@ module _ (r : Relay) (t : Tally) (a b : Arrival) (outA outB : List ℕ) (m : Mee
   announce-b = spread-announce v b (ap isSpread (passed v b _ planned-b .0))
 
   planned-second : plan v′ b ≡ follows (everywhere (v .path (destination b)))
-  unfolding plan onwardPlan earlyTests onwardTests notOurs ownAnnounce deliveredHere alreadyKnown rateLimited isRateLimited ofKnown portOff viewAt portOn isLocal
-      localPlace linkPlace changed
+  unfolding plan onwardPlan earlyTests onwardTests notOurs ownAnnounce deliveredHere alreadyKnown rateLimited isRateLimited ofKnown portOff viewAt portOn
+      isLocal localPlace linkPlace changed
   planned-second =
       none-first (earlyTests v′ b) _ (passes .ours, (not-duplicate, (passes .form, (passes .notOwn, (passes .elsewhere, (passes .fewHops, tt))))))
       ∙ ap (onwardPlan v′ b) (announce-way v′ b announce-b ∙ ap everywhere same-path)
@@ -300,16 +301,16 @@ module _ (r : Relay) (t : Tally) (a b : Arrival) (outA outB : List ℕ) (m : Mee
       ∙ accepted-b
 
   -- ---- and answered, output bytes too
-  same-reply : answered (Judged (verdict v′ b (follows (everywhere (v .path (destination b)))))) (outputAfter v′ b (follows (everywhere (v .path (destination b)))) outB)
-      ≡ answered (Judged (verdict v b (follows (everywhere (v .path (destination b)))))) (outputAfter v b (follows (everywhere (v .path (destination b)))) outB)
+  same-reply : (s : Slot Path) → answered (Judged (verdict v′ b (follows (everywhere s)))) (outputAfter v′ b (follows (everywhere s)) outB)
+      ≡ answered (Judged (verdict v b (follows (everywhere s)))) (outputAfter v b (follows (everywhere s)) outB)
   unfolding verdict outputAfter wayVerdict outgoing spreadPacket spreadPorts viewAt portOn changed
-  same-reply = refl
+  same-reply s = refl
 
   second-reply : (u : Tally) → perform (packet b outB) (one a r) u .reply ≡ perform (packet b outB) r t .reply
   second-reply u =
       judged-reply b (one a r) u outB accepted-second
       ∙ ap (λ (todo : Plan). answered (Judged (verdict v′ b todo)) (outputAfter v′ b todo outB)) planned-second
-      ∙ same-reply
+      ∙ same-reply (v .path (destination b))
       ∙ sym (judged-reply b r t outB accepted-b
       ∙ ap (λ (todo : Plan). answered (Judged (verdict v b todo)) (outputAfter v b todo outB)) planned-b)
 

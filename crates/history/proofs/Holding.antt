@@ -16,7 +16,7 @@ use Rattle.rules.specs.Writes.{putNext, emptiedIf, emptiedWhere}
 use Rattle.rules.proofs.Slots.{Single, used-not-empty, used-same}
 use Rattle.rules.proofs.SlotsRenamed.{slot-renamed}
 use Rattle.history.specs.Known.{onlyIf, nowUnder}
-use Rattle.history.proofs.Looking.{Kind, ofKey, look, Harmless, Tells, tells-later, tells-same, tells-over, tells-changed, tells-gone, tells-new, tells-renamed, tells-emptied, emptied-slot}
+use Rattle.history.proofs.Looking.{Kind, ofKey, look, Tells, tells-later, tells-same, tells-over, tells-changed, tells-gone, tells-new, tells-renamed, tells-emptied, emptied-slot}
 use Rattle.history.proofs.Taken.{taken, taken-set, taken-renamed, room, spare-dead, Unturned, turned-later, unturned-put}
 
 -- at most n slots are taken

@@ -8,3 +8,5 @@ pub mod Packets
 pub mod Calls
 pub mod SecondOpinion
 pub mod EitherOrder
+pub mod InstanceOpinion
+pub mod InstanceOrder

@@ -4,7 +4,7 @@ use Prim.Native.Nat.{ℕ, _≤_, _<_}
 use native.Mathlib.Decide.{ℕ-discrete, decLt}
 use native.Mathlib.Nat.{le-refl}
 use native.Mathlib.Omega.{arith}
-use mathlib.Core.Bool.{Bool, true, false, not, false≢true}
+use mathlib.Core.Bool.{Bool, true, false, false≢true}
 use mathlib.Core.List.{List, map}
 use mathlib.Core.Path.{_≡_, refl, sym, ap, subst, _∙_}
 use lib.Dec.{ltb}
@@ -15,7 +15,7 @@ use Rattle.octets.specs.Index.{_and_}
 use Rattle.octets.specs.Choice.{_then_otherwise_, same}
 use Rattle.octets.proofs.Index.{and-left, and-right, and-both, first-holds, first-before, first-absent, first-only, first-cong}
 use Rattle.octets.proofs.Choice.{same-eq, eq-same, then-true, then-false, then-ap}
-use Rattle.rules.specs.Relay.{Slot, empty, used, holds, lowest, free, lowestFree}
+use Rattle.rules.specs.Relay.{Slot, empty, used, holds, lowest}
 use Rattle.rules.specs.Renumbering.{renameSlot}
 use Rattle.rules.specs.Tests.{isThere}
 use Rattle.rules.specs.Writes.{emptiedIf}
@@ -280,7 +280,8 @@ module _ {A : Type 0} (T : Kind A) (now : ℕ) (slots : List (Slot A)) where
               ∙ sym (then-false _ _ lives)
 
 -- ---- every live record of a key is emptied
-pub emptied-slot : {A : Type 0} (test : A → Bool) (slots : List (Slot A)) (i : ℕ) → getD (map (emptiedIf test) slots) i empty ≡ emptiedIf test (getD slots i empty)
+pub emptied-slot : {A : Type 0} (test : A → Bool) (slots : List (Slot A)) (i : ℕ)
+    → getD (map (emptiedIf test) slots) i empty ≡ emptiedIf test (getD slots i empty)
 unfolding emptiedIf holds _then_otherwise_
 emptied-slot test slots i = List·getD-map (emptiedIf test) slots i empty
 

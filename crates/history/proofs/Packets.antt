@@ -3,23 +3,22 @@ use Prim.Native.Nat.{ℕ, suc, _+_, _<_}
 use native.Mathlib.Omega.{arith}
 use mathlib.Core.Bool.{Bool, true, false, false≢true}
 use mathlib.Core.List.{List}
-use mathlib.Core.Path.{_≡_, refl, sym, ap, subst, _∙_}
+use mathlib.Core.Path.{_≡_, refl, sym, ap, _∙_}
 use borrow.Author.Tests.{ltb-false}
 use Rattle.octets.specs.Choice.{_then_otherwise_, same}
 use Rattle.octets.proofs.Index.{and-yes}
 use Rattle.octets.proofs.Choice.{or-no-left, same-eq}
 use Rattle.packet.specs.Header.{isData}
 use Rattle.packet.specs.Hash.{linkId}
-use Rattle.numbers.specs.Numbers.{pathCount, linkCount, returnCount, hashCount, hashLifetime}
-use Rattle.rules.specs.Relay.{Slot, empty, used, makeRemembered, Path, Remembered, Relay, withClock, withPaths, withLinks, withReturns, withHashes}
+use Rattle.numbers.specs.Numbers.{linkCount, hashCount, hashLifetime}
+use Rattle.rules.specs.Relay.{Slot, empty, used, makeRemembered, Path, Relay, withClock, withPaths, withLinks, withReturns, withHashes}
 use Rattle.rules.specs.View.{View, viewAt, isLivePath, isLiveLink, isLiveReturn, isLiveHash, pathPlace, linkPlace, returnPlace, hashPlace, freePath, freeLink}
 use Rattle.rules.specs.Arrival.{Arrival, header, destination, hash}
 use Rattle.rules.specs.Ways.{Way, everywhere, by-path, along-link, by-return, blocked}
 use Rattle.rules.specs.Tests.{isThere, alreadyKnown}
 use Rattle.rules.specs.Judging.{Plan, dropped, delivered, follows, plan}
-use Rattle.rules.specs.Writes.{putNext, remembers, remember, announcedPath, announcedPlace, putPath, limitPath, returnKey, returnRecord, putReturn, emptyReturn, linkRecord, putLink, renewedLink, renewLink, writeWay, isRateDrop, writeDrop, writePlan, stamp, enact}
+use Rattle.rules.specs.Writes.{remembers, remember, announcedPath, announcedPlace, putPath, limitPath, returnKey, returnRecord, putReturn, emptyReturn, linkRecord, putLink, renewedLink, renewLink, writeWay, isRateDrop, writeDrop, writePlan, stamp, enact}
 use Rattle.rules.specs.declared.Link.{Link}
-use Rattle.rules.specs.declared.Reason.{Reason}
 use Rattle.rules.proofs.Choices.{either}
 use Rattle.rules.proofs.Slots.{found-key, not-found}
 use Rattle.rules.proofs.Followed.{Followed, Planned, is-request, planned, remembered-new}
@@ -47,10 +46,12 @@ module _ (a : Arrival) (r : Relay) (u : UniqueAt (a .clock) r) (n : ℕ) (under 
   announced v empty f = table-new (h .paths) under (destination a) f (announcedPath v a empty) refl
   announced v (used p) f = table-over (h .paths) (u .paths .0) (destination a) p f (announcedPath v a (used p)) refl
 
-  limited : (v : View) (known : Slot Path) → viewAt now r .path (destination a) ≡ known → Agrees now (suc n) (changePath (destination a) (limitedPath v a) k) (limitPath v a known r)
+  limited : (v : View) (known : Slot Path) → viewAt now r .path (destination a) ≡ known
+      → Agrees now (suc n) (changePath (destination a) (limitedPath v a) k) (limitPath v a known r)
   unfolding changePath limitPath withPaths viewAt pathPlace isLivePath limitedPath
   limited v empty f = paths-agree (agrees-more h) (destination a) _ (table-gone (h .paths) (destination a) f (limitedPath v a) (λ _ _. refl))
-  limited v (used p) f = paths-agree (agrees-more h) (destination a) _ (table-changed (h .paths) (u .paths .0) (destination a) p f (limitedPath v a) (λ _. refl))
+  limited v (used p) f =
+      paths-agree (agrees-more h) (destination a) _ (table-changed (h .paths) (u .paths .0) (destination a) p f (limitedPath v a) (λ _. refl))
 
   returned : (p : Path) → InRing returnKind now (suc n) (putReturn a p r .returns) (nowUnder (returnKey a) (used (returnRecord a p)) (k .return))
   unfolding putReturn withReturns isLiveReturn returnRecord
@@ -107,7 +108,8 @@ module _ (a : Arrival) (r : Relay) (u : UniqueAt (a .clock) r) (n : ℕ) (under 
   hash-known time j = go (same (hash a) j) refl
     where
       go : (b : Bool) → same (hash a) j ≡ b
-          → (b then used (makeRemembered (hash a) time) otherwise used (makeRemembered j (k .until j))) ≡ used (makeRemembered j (b then time otherwise k .until j))
+          → (b then used (makeRemembered (hash a) time) otherwise used (makeRemembered j (k .until j)))
+          ≡ used (makeRemembered j (b then time otherwise k .until j))
       go true e = ap (λ (x : List ℕ). used (makeRemembered x time)) (same-eq (hash a) j e)
       go false e = refl
 

@@ -6,17 +6,17 @@ use mathlib.Core.Bool.{Bool, true, false, not, false≢true}
 use mathlib.Core.List.{List, [], _∷_}
 use mathlib.Core.Path.{_≡_, refl, sym, ap, ap₂, subst, _∙_}
 use lib.Dec.{eqb, ltb, leb}
-use lib.ListN.{length, length-replicate, replicate, getD, getD-replicate, List·getD-eq-default}
-use borrow.Author.Tests.{lt-leb, le-ltb}
+use lib.ListN.{length}
+use borrow.Author.Tests.{lt-leb}
 use Rattle.octets.specs.Choice.{_then_otherwise_, _or_}
 use Rattle.octets.specs.Listed.{_gives_otherwise_, firstOf}
-use Rattle.octets.proofs.Choice.{then-true, then-false}
+use Rattle.octets.proofs.Choice.{then-false}
 use Rattle.octets.proofs.Listed.{past}
 use Rattle.packet.specs.Read.{longestPacket, readingRefusal}
 use Rattle.packet.specs.Write.{leastOutput}
 use Rattle.numbers.specs.Numbers.{clockLimit}
 use Rattle.rules.specs.Relay.{Relay, fresh}
-use Rattle.rules.specs.View.{View, viewAt, portOn}
+use Rattle.rules.specs.View.{View, viewAt}
 use Rattle.rules.specs.Refusals.{tablesOk, packetRows, refusalBy, packetRefusal}
 use Rattle.rules.specs.Arrival.{Arrival}
 use Rattle.rules.specs.Judging.{plan}
@@ -29,7 +29,7 @@ use Rattle.rules.proofs.Choices.{either}
 use Rattle.rules.proofs.Rows.{table-passed}
 use Rattle.rules.proofs.Held.{judged-relay, judged-reply, ask-kept, save-kept, load-kept, first-none, others-none}
 use Rattle.rules.proofs.Stamped.{enact-clock}
-use Rattle.rules.proofs.Accepted.{Accepted, accepted-packet}
+use Rattle.rules.proofs.Accepted.{accepted-packet}
 use Rattle.rules.proofs.Valid.{Valid, valid-of, step-ok, fresh-ok}
 use Rattle.rules.proofs.Unique.{Unique, fresh-unique, step-unique}
 use Rattle.history.specs.Known.{Entry, came, called, Known, seenAt, afterPacket, after, knownOf}
@@ -66,7 +66,10 @@ module _ (own : List ℕ) (entries : List Entry) (r : Relay) (h : Follows own en
 
   call-refused : (c : TableCall) → callRefused own entries c ≡ tableRefusal c r
   unfolding callRefused tableRefusal
-  call-refused c = past _ 28 _ _ (lt-leb listLimit (length entries) under) ∙ sym (rows-agree r valid (length entries) under k h c) ∙ sym (past _ 7 _ _ (ap not ok))
+  call-refused c =
+      past _ 28 _ _ (lt-leb listLimit (length entries) under)
+      ∙ sym (rows-agree r valid (length entries) under k h c)
+      ∙ sym (past _ 7 _ _ (ap not ok))
 
   -- ---- a packet
   module _ (a : Arrival) (output : List ℕ) (t : Tally) where
