@@ -28,7 +28,8 @@ use Rattle.rules.proofs.Images.{image-below, preimage-holds, source, source-por
 use Rattle.rules.proofs.MovedPorts.{moved-at}
 use Rattle.rules.proofs.Valid.{Valid}
 use Rattle.rules.proofs.UniqueAt.{UniqueAt, later}
-use Rattle.history.specs.Known.{Known, onlyIf, seenAt, nowUnder, changePath, renumberedKnown, afterCall}
+use Rattle.history.specs.Known.{Known, onlyIf, seenAt, nowUnder, changePath}
+use Rattle.history.specs.After.{renumberedKnown, afterCall}
 use Rattle.history.specs.Opinion.{listLimit, callRows}
 use Rattle.history.proofs.Looking.{ofKey, look, tells-same, tells-over, tells-new}
 use Rattle.history.proofs.Taken.{taken-more, taken-less, spare-dead, spare-empty, full-same}

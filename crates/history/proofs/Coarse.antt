@@ -32,7 +32,8 @@ use Rattle.rules.specs.declared.Verdict.{Verdict}
 use Rattle.rules.specs.declared.Verdict.the-variants.{Drop, Kept}
 use Rattle.rules.specs.declared.Answer.the-variants.{Judged}
 use Rattle.rules.proofs.Choices.{either}
-use Rattle.history.specs.Known.{Known, nowUntil, nowClock, changePath, afterWay, limitedPath, afterDrop, afterPlan, afterHash, afterPacket}
+use Rattle.history.specs.Known.{Known, nowUntil, nowClock, changePath}
+use Rattle.history.specs.After.{afterWay, limitedPath, afterDrop, afterPlan, afterHash, afterPacket}
 use Rattle.history.specs.Opinion.{judgedBy}
 use Rattle.history.specs.SecondOpinion.{coarseReason, coarseVerdict, coarseAnswer, coarse}
 

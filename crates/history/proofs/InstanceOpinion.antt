@@ -32,7 +32,7 @@ use Rattle.rules.proofs.Scene.{own, blank, destination, announceBytes, dataByte
 use Rattle.rules.proofs.Outcomes.{spreads, forwards, spreadBytes, dataLastHop, requestLastHop, tallyOf, relayOf, remembers, knownPath, preparedRelay, announcedRelay, carriedRelay, askedRelay, provedRelay, judged-at, prepared-is, announced-is, carried-is, asked-is, proved-is}
 use Rattle.rules.proofs.ChattyScene.{hears, spreadOf, port-one, port-two, strict-set}
 use Rattle.rules.proofs.DeadPathScene.{stranger, counting, lastRelay, first-heard, again-dropped, no-path, early-mark, marked, early-refused, revived, third-dropped, marked-blocked, late-refused, still-no-path, marked-twice, older-dropped, data-carried, revived-again, fourth-dropped}
-use Rattle.history.specs.Known.{Entry}
+use Rattle.history.specs.After.{Entry}
 use Rattle.history.specs.Opinion.{listLimit, listed}
 use Rattle.history.specs.SecondOpinion.{coarseReason, coarseVerdict, coarseAnswer, coarse, RepliesAlike, Alike}
 use Rattle.history.proofs.SecondOpinion.{second-opinion}

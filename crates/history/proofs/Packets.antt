@@ -24,7 +24,8 @@ use Rattle.rules.proofs.Slots.{found-key, not-found}
 use Rattle.rules.proofs.Followed.{Followed, Planned, is-request, planned, remembered-new}
 use Rattle.rules.proofs.Stamped.{plan-hashes}
 use Rattle.rules.proofs.UniqueAt.{UniqueAt}
-use Rattle.history.specs.Known.{Known, nowUnder, nowPath, nowLink, nowReturn, nowUntil, nowClock, changePath, afterWay, limitedPath, afterDrop, afterPlan, afterHash, afterPacket}
+use Rattle.history.specs.Known.{Known, nowUnder, nowPath, nowLink, nowReturn, nowUntil, nowClock, changePath}
+use Rattle.history.specs.After.{afterWay, limitedPath, afterDrop, afterPlan, afterHash, afterPacket}
 use Rattle.history.specs.Opinion.{listLimit}
 use Rattle.history.proofs.Looking.{tells-same}
 use Rattle.history.proofs.Holding.{InTable, InRing, table-new, table-over, table-changed, table-gone, ring-new, ring-over, ring-anew, ring-more}

@@ -32,7 +32,8 @@ use Rattle.rules.proofs.Stamped.{enact-clock}
 use Rattle.rules.proofs.Accepted.{accepted-packet}
 use Rattle.rules.proofs.Valid.{Valid, valid-of, step-ok, fresh-ok}
 use Rattle.rules.proofs.Unique.{Unique, fresh-unique, step-unique}
-use Rattle.history.specs.Known.{Entry, came, called, Known, seenAt, afterPacket, after, knownOf}
+use Rattle.history.specs.Known.{Known, seenAt}
+use Rattle.history.specs.After.{Entry, came, called, afterPacket, after, knownOf}
 use Rattle.history.specs.Opinion.{listLimit, packetRefused, callRefused, judgedBy, onPacket, onCall, listed}
 use Rattle.history.specs.Opinion as opinion
 use Rattle.history.specs.SecondOpinion.{coarse, coarseAnswer, RepliesAlike, Alike, SecondOpinion}

@@ -1,34 +1,18 @@
 -- Document 02, wish 13: "a slow engine that keeps the list of accepted calls since fresh .. and works out each answer from it with no tables, slots or rings".
--- What is known after such a list, told call by call. Of each key the newest record is known, and it counts while it is live: an older one never counts again,
--- even where it would have lived longer. Nothing has a place here, and nothing but a local address is counted.
-use Prim.Native.Nat.{ℕ, _+_, _-_}
+-- What is known from such a list. Nothing lies in a place here, and nothing but local addresses is counted: of each key the newest record is known. It counts
+-- while it is live; an older one never counts again, not even where it would have lived longer. `Slot` is for a record or none, as everywhere in the rules.
+use Prim.Native.Nat.{ℕ}
 use mathlib.Core.Bool.{Bool, true, false}
-use mathlib.Core.List.{List, [], _∷_}
+use mathlib.Core.List.{List}
 use lib.Dec.{eqb}
 use Rattle.octets.specs.Choice.{_then_otherwise_, same}
-use Rattle.packet.specs.Header.{isData}
-use Rattle.packet.specs.Hash.{linkId}
-use Rattle.numbers.specs.Numbers.{live, hashLifetime}
-use Rattle.rules.specs.Relay.{Port, makePort, freshPort, makeRateSettings, noRateSettings, Slot, empty, used, Path, withPathRate, withPathMark, Return}
+use Rattle.numbers.specs.Numbers.{live}
+use Rattle.rules.specs.Relay.{Port, freshPort, noRateSettings, Slot, empty, used, Path, Return}
 use Rattle.rules.specs.View.{View}
-use Rattle.rules.specs.Renumbering.{preimage, renamePath, renameLink, renameReturn, renameSlot}
-use Rattle.rules.specs.Arrival.{Arrival, header, destination, hash}
-use Rattle.rules.specs.Rate.{entryDropped}
-use Rattle.rules.specs.Ways.{Way, everywhere, by-path, along-link, by-return, blocked}
-use Rattle.rules.specs.Judging.{Plan, dropped, delivered, follows, plan}
-use Rattle.rules.specs.Writes.{remembers, announcedPath, returnKey, returnRecord, linkRecord, renewedLink, isRateDrop}
-use Rattle.rules.specs.Calls.{TableCall, sets-port, sets-rate, adds, removes, renumbers, marks}
+use Rattle.rules.specs.Renumbering.{renameSlot}
 use Rattle.rules.specs.declared.Link.{Link}
 use Rattle.rules.specs.declared.RateSettings.{RateSettings}
-use Rattle.rules.specs.declared.Reason.{Reason}
 
--- ---- the list: an accepted call is a packet that came, dropped or not, or a call on the tables. "none a load, save or replay": a replay is the packets that it
--- brings. Nor is a question one, which changes nothing
-pub data Entry : Type 0 where
-  came : Arrival → Entry
-  called : TableCall → Entry
-
--- ---- what is known
 pub record Known : Type 0 where
   pub own : List ℕ
   -- the last accepted clock
@@ -130,66 +114,3 @@ nowLocal address new locals k =
 -- a destination's path with some fields changed
 unfoldable pub changePath : List ℕ → (Path → Path) → Known → Known
 changePath destination change k = nowPath destination (renameSlot change (k .path destination)) k
-
--- ---- a packet that came; v is what was seen of it at its clock
--- an announce that is spread or Kept gives its destination's path. Data forwarded by a path gives the return record of the first 16 of its hash, and a link
--- request so forwarded the link of its id. A packet carried along a link renews that, and a link proof proves it. An ordinary proof that goes back takes its
--- return record with it
-unfoldable pub afterWay : View → Arrival → Way → Known → Known
-afterWay v a (everywhere known) k = nowPath (destination a) (used (announcedPath v a known)) k
-afterWay v a (by-path p) k =
-    isData (header a)
-    then nowReturn (returnKey a) (used (returnRecord a p)) k
-    otherwise nowLink (linkId (a .bytes)) (used (linkRecord a p)) k
-afterWay v a (along-link l) k = nowLink (destination a) (used (renewedLink a l)) k
-afterWay v a (by-return t) k = nowReturn (destination a) empty k
-afterWay v a (blocked why) k = k
-
--- wish 5: "A rate drop changes violations and blocked-until alone, besides what every drop changes", which is the clock and the hash
-unfoldable pub limitedPath : View → Arrival → Path → Path
-limitedPath v a p = withPathRate (entryDropped (v .rate) (a .clock) (p .rate)) p
-
-unfoldable pub afterDrop : View → Arrival → Reason → Known → Known
-afterDrop v a reason k = isRateDrop reason then changePath (destination a) (limitedPath v a) k otherwise k
-
-unfoldable pub afterPlan : View → Arrival → Plan → Known → Known
-afterPlan v a (dropped reason) k = afterDrop v a reason k
-afterPlan v a delivered k = k
-afterPlan v a (follows w) k = afterWay v a w k
-
--- its hash is remembered for 300 s, by document 01 unless test 1 or 2 drops it, by wish 2 unless it is exempt, by wish 6 unless it is remembered already
-unfoldable pub afterHash : View → Arrival → Plan → Known → Known
-afterHash v a todo k = remembers v a todo then nowUntil (hash a) (a .clock + hashLifetime) k otherwise k
-
--- "every accepted packet, dropped or not, .. sets the last clock"
-unfoldable pub afterPacket : View → Arrival → Plan → Known → Known
-afterPacket v a todo k = afterHash v a todo (nowClock (a .clock) (afterPlan v a todo k))
-
--- ---- a call on the tables
--- renumbering replaces every port, of records that have ended too, by its image, and each port's settings move with it
-unfoldable pub renumberedKnown : List ℕ → Known → Known
-renumberedKnown m k =
-    makeKnown (k .own) (k .clock) (k .rate)
-    (λ port. k .port (preimage m port))
-    (k .local) (k .locals) (k .until)
-    (λ destination. renameSlot (renamePath m) (k .path destination))
-    (λ id. renameSlot (renameLink m) (k .link id))
-    (λ key. renameSlot (renameReturn m) (k .return key))
-
-unfoldable pub afterCall : TableCall → Known → Known
-afterCall (sets-port port on mode) k = nowPort port (makePort on mode) k
-afterCall (sets-rate target grace penalty) k = nowRate (makeRateSettings target grace penalty) k
-afterCall (adds address) k = nowLocal address true (k .locals + 1) k
-afterCall (removes address) k = nowLocal address false (k .locals - 1) k
-afterCall (renumbers images) k = renumberedKnown images k
--- wish 6: "An accepted mark sets the last clock."
-afterCall (marks destination clock) k = nowClock clock (changePath destination withPathMark k)
-
--- ---- the list, the newest call first. A packet was judged by what was known before it
-unfoldable pub after : Entry → Known → Known
-after (came a) k = afterPacket (seenAt (a .clock) k) a (plan (seenAt (a .clock) k) a) k
-after (called c) k = afterCall c k
-
-unfoldable pub knownOf : List ℕ → List Entry → Known
-knownOf own [] = freshKnown own
-knownOf own (entry ∷ entries) = after entry (knownOf own entries)

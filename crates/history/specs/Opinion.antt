@@ -19,7 +19,8 @@ use Rattle.rules.specs.Judging.{plan, verdict, outputAfter}
 use Rattle.rules.specs.Calls.{TableCall, sets-port, sets-rate, adds, removes, renumbers, marks}
 use Rattle.rules.specs.Run.{Call, packet, on-tables, asks, saves, loads, Reply, answered, numbered}
 use Rattle.rules.specs.declared.Answer.the-variants.{Refused, Judged}
-use Rattle.history.specs.Known.{Entry, came, called, Known, seenAt, knownOf}
+use Rattle.history.specs.Known.{Known, seenAt}
+use Rattle.history.specs.After.{Entry, came, called, knownOf}
 
 -- "up to 64"
 abbrev pub listLimit : ℕ

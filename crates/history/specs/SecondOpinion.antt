@@ -19,7 +19,7 @@ use Rattle.rules.specs.declared.Verdict.the-variants.{Drop, Deliver, Forward, S
 use Rattle.rules.specs.declared.Answer.{Answer}
 use Rattle.rules.specs.declared.Answer.the-variants.{Refused, Judged}
 use Rattle.rules.specs.declared.Tally.{Tally}
-use Rattle.history.specs.Known.{Entry}
+use Rattle.history.specs.After.{Entry}
 use Rattle.history.specs.Opinion.{listLimit, onPacket, onCall, listed}
 
 -- ---- what the core says, with 6.3 told as 6.2; all else as it is
