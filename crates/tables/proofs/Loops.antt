@@ -1,18 +1,19 @@
 -- Loops over a section's records, one by one and group by group.
 use Prim.Native.Nat.{ℕ, _+_, _-_, _*_, _≤_, _<_}
+use native.Mathlib.Nat.{add-assoc, mul-add, mul-assoc}
+use native.Mathlib.Omega.{arith}
 use mathlib.Core.Bool.{Bool, true, false, not}
 use mathlib.Core.List.{List}
 use mathlib.Core.Path.{_≡_, sym, ap, ap₂, _∙_}
 use lib.ListN.{length, take, drop}
 use borrow.Author.Tests.{not-true, not-false}
-use Rattle.octets.specs.Index.{zeros}
+use Rattle.octets.specs.Index.{allBelow, zeros}
 use Rattle.octets.specs.Part.{part}
-use Rattle.octets.proofs.Index.{all-none, all-more, all-fails, all-intro, all-at}
+use Rattle.octets.proofs.Index.{and-yes, all-none, all-more, all-fails, all-intro, all-at, all-plus, all-short, all-cong}
 use Rattle.octets.proofs.Part.{part-range, part-part, range-length}
-use Rattle.octets.proofs.Records.{records-free, records-more, records-fails}
+use Rattle.octets.proofs.Zeros.{zeros-part}
 use Rattle.codes.proofs.Rows.{row-end}
 use Rattle.tables.specs.Layout.{recordAt, recordsOk}
-use Rattle.tables.specs.Groups.{groupSize, groupOk}
 
 -- what `&t[a..a + w]` holds
 abbrev pub range : List ℕ → ℕ → ℕ → List ℕ
@@ -36,31 +37,7 @@ module _ (ok : List ℕ → Bool) (base w : ℕ) (t : List ℕ) where
     unfolding recordsOk
     row-fails count l n = sym (all-fails (λ k. ok (recordAt base w t k)) i count l (seen ∙ not-true r n))
 
--- ---- the records of a group
-module _ (ok : List ℕ → Bool) (w : ℕ) (s : List ℕ) where
-  pub none-of-group : groupOk ok w 0 s ≡ true
-  unfolding groupOk
-  none-of-group = all-none (λ k. ok (part s (w * k) w))
-
-  module _ (i : ℕ) {r : Bool} (e : r ≡ ok (range s (w * i) w)) where
-    seen-in-group : ok (part s (w * i) w) ≡ r
-    seen-in-group = sym (e ∙ ap ok (part-range s (w * i) w))
-
-    pub record-passes : not r ≡ false → groupOk ok w i s ≡ true → groupOk ok w (i + 1) s ≡ true
-    unfolding groupOk
-    record-passes n h = all-more (λ k. ok (part s (w * k) w)) i h (seen-in-group ∙ not-false r n)
-
-    pub record-fails : (count : ℕ) → i < count → not r ≡ true → false ≡ groupOk ok w count s
-    unfolding groupOk
-    record-fails count l n = sym (all-fails (λ k. ok (part s (w * k) w)) i count l (seen-in-group ∙ not-true r n))
-
--- ---- the groups
--- a group of zeros
-pub group-free : (ok : List ℕ → Bool) (w : ℕ) (s : List ℕ) → ((b : List ℕ) → zeros w b ≡ true → ok b ≡ true)
-    → length s ≡ w * groupSize → zeros (length s) s ≡ true → true ≡ groupOk ok w groupSize s
-unfolding groupOk
-group-free ok w s free e h = sym (records-free ok w free groupSize s (ap (λ (k : ℕ). zeros k s) (sym e) ∙ h))
-
+-- ---- several records at once
 -- a section of zeros
 pub section-free : (ok : List ℕ → Bool) (base w n : ℕ) (t : List ℕ) → ((b : List ℕ) → zeros w b ≡ true → ok b ≡ true)
     → base + w * n ≤ length t → {r : Bool} → r ≡ zeros (length (range t base (w * n))) (range t base (w * n)) → r ≡ true → true ≡ recordsOk ok base w n t
@@ -72,19 +49,38 @@ section-free ok base w n t free fits e q =
     sym
     (all-intro (λ i. ok (recordAt base w t i)) n
     (λ i l.
-    ap ok (sym (part-part t base (w * n) (w * i) w (row-end w n i l)))
-    ∙ all-at (λ k. ok (part s (w * k) w)) n i (records-free ok w free n s zero) l))
+    let within = row-end w n i l in
+    free (recordAt base w t i) (ap (zeros w) (sym (part-part t base (w * n) (w * i) w within)) ∙ zeros-part s (w * n) (w * i) w zero within)))
 
-module _ (ok : List ℕ → Bool) (base w : ℕ) (t : List ℕ) (g : ℕ) {r : Bool}
-    (e : r ≡ groupOk ok w groupSize (range t (base + w * groupSize * g) (w * groupSize)))
-    (h : recordsOk ok base w (groupSize * g) t ≡ true) where
-  seen-group : groupOk ok w groupSize (part t (base + w * groupSize * g) (w * groupSize)) ≡ r
-  seen-group = sym (e ∙ ap (groupOk ok w groupSize) (part-range t (base + w * groupSize * g) (w * groupSize)))
+-- records that keep a stronger rule
+pub records-kept : (strong ok : List ℕ → Bool) (base w n : ℕ) (t : List ℕ)
+    → ((i : ℕ) → i < n → strong (recordAt base w t i) ≡ true → ok (recordAt base w t i) ≡ true)
+    → recordsOk strong base w n t ≡ true → true ≡ recordsOk ok base w n t
+unfolding recordsOk
+records-kept strong ok base w n t kept h =
+    sym
+    (all-intro (λ i. ok (recordAt base w t i)) n (λ i l. kept i l (all-at (λ k. strong (recordAt base w t k)) n i h l)))
 
-  pub group-passes : not r ≡ false → recordsOk ok base w (groupSize * (g + 1)) t ≡ true
-  unfolding recordsOk groupOk
-  group-passes n = records-more ok w t base groupSize g h (seen-group ∙ not-false r n)
+-- the test r of m records, of which the first is record m * g
+module _ (ok : List ℕ → Bool) (base w m : ℕ) (t : List ℕ) (g : ℕ) {r : Bool}
+    (e : r ≡ recordsOk ok (base + w * m * g) w m t) (h : recordsOk ok base w (m * g) t ≡ true) where
+  place : (j : ℕ) → base + w * m * g + w * j ≡ base + w * (m * g + j)
+  place j =
+      add-assoc base (w * m * g) (w * j)
+      ∙ ap (λ (a : ℕ). base + a) (ap (λ (a : ℕ). a + w * j) (mul-assoc w m g) ∙ sym (mul-add w (m * g) j))
 
-  pub group-fails : (count : ℕ) → groupSize * g + groupSize ≤ count → not r ≡ true → false ≡ recordsOk ok base w count t
-  unfolding recordsOk groupOk
-  group-fails count l n = sym (records-fails ok w t base groupSize g count l h (seen-group ∙ not-true r n))
+  seen-rows : recordsOk ok base w (m * g + m) t ≡ r
+  unfolding recordsOk
+  seen-rows =
+      all-plus (λ i. ok (recordAt base w t i)) (m * g) m ∙ and-yes _ h
+      ∙ sym (e ∙ all-cong (λ j. ok (recordAt (base + w * m * g) w t j)) (λ j. ok (recordAt base w t (m * g + j))) m
+      (λ j l. ap (λ (a : ℕ). ok (part t a w)) (place j)))
+
+  pub rows-pass : not r ≡ false → recordsOk ok base w (m * (g + 1)) t ≡ true
+  rows-pass n =
+      let q : m * (g + 1) ≡ m * g + m = mul-add m g 1 ∙ omega arith in
+      ap (λ (k : ℕ). recordsOk ok base w k t) q ∙ seen-rows ∙ not-false r n
+
+  pub rows-fail : (count : ℕ) → m * g + m ≤ count → not r ≡ true → false ≡ recordsOk ok base w count t
+  unfolding recordsOk
+  rows-fail count l n = sym (all-short (λ i. ok (recordAt base w t i)) (m * g + m) count l (seen-rows ∙ not-true r n))

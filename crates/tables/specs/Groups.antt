@@ -1,14 +1,36 @@
--- Records tested in groups: a way to test a section fast. It changes nothing of what is tested.
+-- Records tested in groups, and four at once: ways to test a section fast. They change nothing of what is tested.
 -- For the contracts of helpers: not part of what a reader must believe.
-use Prim.Native.Nat.{ℕ, _*_}
+use Prim.Native.Nat.{ℕ, zero, suc, _%_, _^_}
 use mathlib.Core.Bool.{Bool}
 use mathlib.Core.List.{List}
-use Rattle.octets.specs.Index.{allBelow}
+use lib.Dec.{eqb, ltb}
+use lib.Bits.{bitOr}
+use lib.ListN.{getD}
+use Rattle.octets.specs.Index.{_and_}
 use Rattle.octets.specs.Part.{part}
+use Rattle.octets.specs.BigEndian.{number}
+use Rattle.numbers.specs.Numbers.{clockLimit}
+use Rattle.tables.specs.Places.{timeWidth}
+use Rattle.tables.specs.Fields.{returnArrivalAt, hashExpiryAt}
 
 abbrev pub groupSize : ℕ
 groupSize = 128
 
--- each of the n records that stand one after the other in the bytes s keeps row 7
-unfoldable pub groupOk : (List ℕ → Bool) → ℕ → ℕ → List ℕ → Bool
-groupOk ok width n s = allBelow (λ i. ok (part s (width * i) width)) n
+abbrev pub pathGroupSize : ℕ
+pathGroupSize = 16
+
+-- the OR of f 0, .., f (n - 1)
+unfoldable pub together : (ℕ → ℕ) → ℕ → ℕ
+together f zero = 0
+together f (suc n) = bitOr (together f n) (f n)
+
+-- ---- records that are plain: used, with ports below 16 and times below 2^40. Most used records are
+-- eight bytes of a return record, as one number: its two ports, and the first six of its time
+unfoldable pub waysPlain : ℕ → Bool
+waysPlain x = ltb x (2 ^ 60) and ltb (x % 2 ^ 56) (2 ^ 52) and ltb (x % 2 ^ 48) (2 ^ 24)
+
+unfoldable pub returnPlain : List ℕ → Bool
+returnPlain b = eqb (getD b 0 0) 1 and waysPlain (number (part b returnArrivalAt 8))
+
+unfoldable pub hashPlain : List ℕ → Bool
+hashPlain b = eqb (getD b 0 0) 1 and ltb (number (part b hashExpiryAt timeWidth)) clockLimit

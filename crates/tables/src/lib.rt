@@ -2,6 +2,7 @@
 // Entry point: check. The other functions are helpers. docs/LAYOUT.md draws the layout.
 pub mod fields;
 pub mod places;
+mod plain_check;
 mod record_check;
 mod section_check;
 

@@ -1,6 +1,8 @@
 // Row 7 for each section of the tables, record by record, and for those before and behind the paths, which a saved file
-// has at other places. What is all zeros is passed by one OR over its bytes: paths and links as a whole, for these fill
-// from their first place on; returns and hashes in groups, where the first and the last record of one are unused.
+// has at other places. What is all zeros is passed by one OR over its bytes: links as a whole, for these fill from their
+// first place on, and paths, whose records are wide, in groups, where the first record of one is unused; returns and
+// hashes in larger groups, where the first and the last one are. Used returns and hashes are passed four at once, where
+// these are plain.
 use super::places::CLOCK_AT;
 use super::places::GRACE_AT;
 use super::places::HASH_WIDTH;
@@ -16,6 +18,8 @@ use super::places::RETURN_WIDTH;
 use super::places::RING_WIDTH;
 use super::places::SETTING_WIDTH;
 use super::places::TARGET_AT;
+use super::plain_check::four_hashes_plain;
+use super::plain_check::four_returns_plain;
 use super::record_check::hash_ok;
 use super::record_check::link_ok;
 use super::record_check::local_ok;
@@ -39,10 +43,12 @@ ghost use Rattle.numbers.specs.Numbers.{portCount, localCount, pathCount, linkC
 ghost use Rattle.tables.specs.Places.{portWidth, localWidth, pathWidth, linkWidth, returnWidth, hashWidth, portsAt, localsAt, pathsAt, backWidth, tableSize};
 ghost use Rattle.tables.specs.Records.{portBytesOk, localBytesOk, pathBytesOk, linkBytesOk, returnBytesOk, hashBytesOk};
 ghost use Rattle.tables.specs.Layout.{startOk, recordsOk, frontOk, backOk};
-ghost use Rattle.tables.specs.Groups.{groupSize, groupOk};
+ghost use Rattle.tables.specs.Groups.{groupSize, pathGroupSize};
 
-// Records of a group.
+// Records of a group, and of one of paths.
 const GROUP: usize = 128;
+
+const PATH_GROUP: usize = 16;
 
 // The last clock, and the announce rate's settings behind it.
 fn start_ok(t: &[u8]) -> bool
@@ -124,16 +130,30 @@ pub fn paths_each(t: &[u8], at: usize, n: usize) -> bool
     true
 }
 
+fn path_group_ok(t: &[u8], at: usize) -> bool
+    requires { ⌜ at + pathWidth * pathGroupSize ≤ length (now t) ⌝ }
+    ensures { λ r. ⌜ r ≡ recordsOk pathBytesOk at pathWidth pathGroupSize (now (t .entry)) ⌝ }
+{
+    if t[at] == 0 {
+        if octets::is_zero(&t[at..at + PATH_WIDTH * PATH_GROUP]) {
+            return true;
+        }
+    }
+    paths_each(t, at, PATH_GROUP)
+}
+
 pub fn paths_ok(t: &[u8]) -> bool
     requires { ⌜ length (now t) ≡ tableSize ⌝ }
     ensures { λ r. ⌜ r ≡ recordsOk pathBytesOk pathsAt pathWidth pathCount (now (t .entry)) ⌝ }
 {
-    if t[PATHS_AT] == 0 {
-        if octets::is_zero(&t[PATHS_AT..PATHS_AT + PATH_WIDTH * PATH_COUNT]) {
-            return true;
+    let mut g = 0;
+    while g < PATH_COUNT / PATH_GROUP {
+        if !path_group_ok(t, PATHS_AT + PATH_WIDTH * PATH_GROUP * g) {
+            return false;
         }
+        g += 1;
     }
-    paths_each(t, PATHS_AT, PATH_COUNT)
+    true
 }
 
 // ---- links
@@ -167,14 +187,14 @@ fn links_ok(t: &[u8], at: usize) -> bool
 
 // ---- returns
 
-fn return_group_each(s: &[u8]) -> bool
-    requires { ⌜ length (now s) ≡ returnWidth * groupSize ⌝ }
-    ensures { λ r. ⌜ r ≡ groupOk returnBytesOk returnWidth groupSize (now (s .entry)) ⌝ }
+fn four_returns_each(t: &[u8], at: usize) -> bool
+    requires { ⌜ at + returnWidth * 4 ≤ length (now t) ⌝ }
+    ensures { λ r. ⌜ r ≡ recordsOk returnBytesOk at returnWidth 4 (now (t .entry)) ⌝ }
 {
     let mut i = 0;
-    while i < GROUP {
-        let at = RETURN_WIDTH * i;
-        if !return_ok(&s[at..at + RETURN_WIDTH]) {
+    while i < 4 {
+        let start = at + RETURN_WIDTH * i;
+        if !return_ok(&t[start..start + RETURN_WIDTH]) {
             return false;
         }
         i += 1;
@@ -182,17 +202,41 @@ fn return_group_each(s: &[u8]) -> bool
     true
 }
 
-fn return_group_ok(s: &[u8]) -> bool
-    requires { ⌜ length (now s) ≡ returnWidth * groupSize ⌝ }
-    ensures { λ r. ⌜ r ≡ groupOk returnBytesOk returnWidth groupSize (now (s .entry)) ⌝ }
+fn four_returns_ok(t: &[u8], at: usize) -> bool
+    requires { ⌜ at + returnWidth * 4 ≤ length (now t) ⌝ }
+    ensures { λ r. ⌜ r ≡ recordsOk returnBytesOk at returnWidth 4 (now (t .entry)) ⌝ }
 {
-    let ends = s[0] | s[RETURN_WIDTH * (GROUP - 1)];
+    if four_returns_plain(t, at) {
+        return true;
+    }
+    four_returns_each(t, at)
+}
+
+fn return_group_each(t: &[u8], at: usize) -> bool
+    requires { ⌜ at + returnWidth * groupSize ≤ length (now t) ⌝ }
+    ensures { λ r. ⌜ r ≡ recordsOk returnBytesOk at returnWidth groupSize (now (t .entry)) ⌝ }
+{
+    let mut i = 0;
+    while i < GROUP / 4 {
+        if !four_returns_ok(t, at + RETURN_WIDTH * 4 * i) {
+            return false;
+        }
+        i += 1;
+    }
+    true
+}
+
+fn return_group_ok(t: &[u8], at: usize) -> bool
+    requires { ⌜ at + returnWidth * groupSize ≤ length (now t) ⌝ }
+    ensures { λ r. ⌜ r ≡ recordsOk returnBytesOk at returnWidth groupSize (now (t .entry)) ⌝ }
+{
+    let ends = t[at] | t[at + RETURN_WIDTH * (GROUP - 1)];
     if ends == 0 {
-        if octets::is_zero(s) {
+        if octets::is_zero(&t[at..at + RETURN_WIDTH * GROUP]) {
             return true;
         }
     }
-    return_group_each(s)
+    return_group_each(t, at)
 }
 
 fn returns_ok(t: &[u8], at: usize) -> bool
@@ -201,8 +245,7 @@ fn returns_ok(t: &[u8], at: usize) -> bool
 {
     let mut g = 0;
     while g < RETURN_COUNT / GROUP {
-        let start = at + RETURN_WIDTH * GROUP * g;
-        if !return_group_ok(&t[start..start + RETURN_WIDTH * GROUP]) {
+        if !return_group_ok(t, at + RETURN_WIDTH * GROUP * g) {
             return false;
         }
         g += 1;
@@ -212,14 +255,14 @@ fn returns_ok(t: &[u8], at: usize) -> bool
 
 // ---- hashes
 
-fn hash_group_each(s: &[u8]) -> bool
-    requires { ⌜ length (now s) ≡ hashWidth * groupSize ⌝ }
-    ensures { λ r. ⌜ r ≡ groupOk hashBytesOk hashWidth groupSize (now (s .entry)) ⌝ }
+fn four_hashes_each(t: &[u8], at: usize) -> bool
+    requires { ⌜ at + hashWidth * 4 ≤ length (now t) ⌝ }
+    ensures { λ r. ⌜ r ≡ recordsOk hashBytesOk at hashWidth 4 (now (t .entry)) ⌝ }
 {
     let mut i = 0;
-    while i < GROUP {
-        let at = HASH_WIDTH * i;
-        if !hash_ok(&s[at..at + HASH_WIDTH]) {
+    while i < 4 {
+        let start = at + HASH_WIDTH * i;
+        if !hash_ok(&t[start..start + HASH_WIDTH]) {
             return false;
         }
         i += 1;
@@ -227,17 +270,41 @@ fn hash_group_each(s: &[u8]) -> bool
     true
 }
 
-fn hash_group_ok(s: &[u8]) -> bool
-    requires { ⌜ length (now s) ≡ hashWidth * groupSize ⌝ }
-    ensures { λ r. ⌜ r ≡ groupOk hashBytesOk hashWidth groupSize (now (s .entry)) ⌝ }
+fn four_hashes_ok(t: &[u8], at: usize) -> bool
+    requires { ⌜ at + hashWidth * 4 ≤ length (now t) ⌝ }
+    ensures { λ r. ⌜ r ≡ recordsOk hashBytesOk at hashWidth 4 (now (t .entry)) ⌝ }
 {
-    let ends = s[0] | s[HASH_WIDTH * (GROUP - 1)];
+    if four_hashes_plain(t, at) {
+        return true;
+    }
+    four_hashes_each(t, at)
+}
+
+fn hash_group_each(t: &[u8], at: usize) -> bool
+    requires { ⌜ at + hashWidth * groupSize ≤ length (now t) ⌝ }
+    ensures { λ r. ⌜ r ≡ recordsOk hashBytesOk at hashWidth groupSize (now (t .entry)) ⌝ }
+{
+    let mut i = 0;
+    while i < GROUP / 4 {
+        if !four_hashes_ok(t, at + HASH_WIDTH * 4 * i) {
+            return false;
+        }
+        i += 1;
+    }
+    true
+}
+
+fn hash_group_ok(t: &[u8], at: usize) -> bool
+    requires { ⌜ at + hashWidth * groupSize ≤ length (now t) ⌝ }
+    ensures { λ r. ⌜ r ≡ recordsOk hashBytesOk at hashWidth groupSize (now (t .entry)) ⌝ }
+{
+    let ends = t[at] | t[at + HASH_WIDTH * (GROUP - 1)];
     if ends == 0 {
-        if octets::is_zero(s) {
+        if octets::is_zero(&t[at..at + HASH_WIDTH * GROUP]) {
             return true;
         }
     }
-    hash_group_each(s)
+    hash_group_each(t, at)
 }
 
 fn hashes_ok(t: &[u8], at: usize) -> bool
@@ -246,8 +313,7 @@ fn hashes_ok(t: &[u8], at: usize) -> bool
 {
     let mut g = 0;
     while g < HASH_COUNT / GROUP {
-        let start = at + HASH_WIDTH * GROUP * g;
-        if !hash_group_ok(&t[start..start + HASH_WIDTH * GROUP]) {
+        if !hash_group_ok(t, at + HASH_WIDTH * GROUP * g) {
             return false;
         }
         g += 1;

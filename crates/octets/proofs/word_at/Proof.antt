@@ -1,81 +1,119 @@
-use Rattle.octets.specs.BigEndian.{numberFrom, number, word}
 use Rattle.octets.proofs.Part.{part-eight}
+use Prim.Native.Nat.{_+_}
+use Rattle.octets.specs.BigEndian.{word}
+use native.Mathlib.Omega.{arith}
 use borrow.Author.Needs.{needs}
 use Rattle.octets.proofs.word_at.Statement.{statement}
 use Rattle.octets.proofs.word_at.Tie as tie
 
-add-number-of-8 : tie.Need-add-number-of-8
-add-number-of-8 c = search needs
+shared-slice-read-word-of-4 : tie.Need-shared-slice-read-word-of-4
+shared-slice-read-word-of-4 c = search needs
 
-shared-slice-read-number-of-8 : tie.Need-shared-slice-read-number-of-8
-shared-slice-read-number-of-8 c = search needs
+add-word-of-4 : tie.Need-add-word-of-4
+add-word-of-4 c = search needs
 
-add-number-of-8-2 : tie.Need-add-number-of-8-2
-add-number-of-8-2 c = search needs
+shared-slice-read-word-of-4-2 : tie.Need-shared-slice-read-word-of-4-2
+shared-slice-read-word-of-4-2 c = search needs
 
-shared-slice-read-number-of-8-2 : tie.Need-shared-slice-read-number-of-8-2
-shared-slice-read-number-of-8-2 c = search needs
+add-word-of-4-2 : tie.Need-add-word-of-4-2
+add-word-of-4-2 c = search needs
 
-add-number-of-8-3 : tie.Need-add-number-of-8-3
-add-number-of-8-3 c = search needs
+shared-slice-read-word-of-4-3 : tie.Need-shared-slice-read-word-of-4-3
+shared-slice-read-word-of-4-3 c = search needs
 
-shared-slice-read-number-of-8-3 : tie.Need-shared-slice-read-number-of-8-3
-shared-slice-read-number-of-8-3 c = search needs
+add-word-of-4-3 : tie.Need-add-word-of-4-3
+add-word-of-4-3 c = search needs
 
-add-number-of-8-4 : tie.Need-add-number-of-8-4
-add-number-of-8-4 c = search needs
+shared-slice-read-word-of-4-4 : tie.Need-shared-slice-read-word-of-4-4
+shared-slice-read-word-of-4-4 c = search needs
 
-shared-slice-read-number-of-8-4 : tie.Need-shared-slice-read-number-of-8-4
-shared-slice-read-number-of-8-4 c = search needs
+word-of-4-requires : tie.Need-word-of-4-requires
+word-of-4-requires c κs = search needs
 
-add-number-of-8-5 : tie.Need-add-number-of-8-5
-add-number-of-8-5 c = search needs
+add-word-of-4-4 : tie.Need-add-word-of-4-4
+add-word-of-4-4 c = search needs
 
-shared-slice-read-number-of-8-5 : tie.Need-shared-slice-read-number-of-8-5
-shared-slice-read-number-of-8-5 c = search needs
+shared-slice-read-word-of-4-5 : tie.Need-shared-slice-read-word-of-4-5
+shared-slice-read-word-of-4-5 c = search needs
 
-add-number-of-8-6 : tie.Need-add-number-of-8-6
-add-number-of-8-6 c = search needs
+add-word-of-4-5 : tie.Need-add-word-of-4-5
+add-word-of-4-5 c = search needs
 
-shared-slice-read-number-of-8-6 : tie.Need-shared-slice-read-number-of-8-6
-shared-slice-read-number-of-8-6 c = search needs
+shared-slice-read-word-of-4-6 : tie.Need-shared-slice-read-word-of-4-6
+shared-slice-read-word-of-4-6 c = search needs
 
-add-number-of-8-7 : tie.Need-add-number-of-8-7
-add-number-of-8-7 c = search needs
+add-word-of-4-6 : tie.Need-add-word-of-4-6
+add-word-of-4-6 c = search needs
 
-shared-slice-read-number-of-8-7 : tie.Need-shared-slice-read-number-of-8-7
-shared-slice-read-number-of-8-7 c = search needs
+shared-slice-read-word-of-4-7 : tie.Need-shared-slice-read-word-of-4-7
+shared-slice-read-word-of-4-7 c = search needs
 
-shared-slice-read-number-of-8-8 : tie.Need-shared-slice-read-number-of-8-8
-shared-slice-read-number-of-8-8 c = search needs
+add-word-of-4-7 : tie.Need-add-word-of-4-7
+add-word-of-4-7 c = search needs
 
-number-of-8-requires : tie.Need-number-of-8-requires
-number-of-8-requires c κs = search needs
+shared-slice-read-word-of-4-8 : tie.Need-shared-slice-read-word-of-4-8
+shared-slice-read-word-of-4-8 c = search needs
+
+word-of-4-requires-2 : tie.Need-word-of-4-requires-2
+word-of-4-requires-2 c κs = search needs
+
+mul-result : tie.Need-mul-result
+unfolding word
+mul-result c =
+    let c9 = c .before .before .before .before .before .before .before .before .before in
+    let known = c9 .before .shared-slice-known .given in
+    let at = c9 .before .before .args .at in
+    omega (arith, c .word-of-42 .ensures, known (at + 4), known (at + 5), known (at + 6), known (at + 7))
+
+add-result : tie.Need-add-result
+unfolding word
+add-result c =
+    let c5 = c .before .before .before .before .before in
+    let c9 = c5 .before .before .before .before in
+    let known = c9 .before .shared-slice-known .given in
+    let at = c9 .before .before .args .at in
+    omega (
+      arith,
+      c5 .word-of-4 .ensures,
+      c .word-of-42 .ensures,
+      known at,
+      known (at + 1),
+      known (at + 2),
+      known (at + 3),
+      known (at + 4),
+      known (at + 5),
+      known (at + 6),
+      known (at + 7),
+    )
 
 returns : tie.Need-returns
-unfolding number numberFrom word
+unfolding word
 returns c =
-    let c10 = c .before .before .before .before .before .before .before .before .before .before in
-    rw (part-eight (c10 .args .t .now) (c10 .args .at) (c10 .pre)) (c .number-of-8 .ensures)
+    let c5 = c .before .before .before .before .before in
+    let c11 = c5 .before .before .before .before .before .before in
+    rw (part-eight (c11 .args .t .now) (c11 .args .at) (c11 .pre)) (omega (arith, c5 .word-of-4 .ensures, c .word-of-42 .ensures))
 
 pub word-at-spec : {M : Type 1} → statement M
 word-at-spec =
     tie.close
     (tie.spec
-    add-number-of-8
-    shared-slice-read-number-of-8
-    add-number-of-8-2
-    shared-slice-read-number-of-8-2
-    add-number-of-8-3
-    shared-slice-read-number-of-8-3
-    add-number-of-8-4
-    shared-slice-read-number-of-8-4
-    add-number-of-8-5
-    shared-slice-read-number-of-8-5
-    add-number-of-8-6
-    shared-slice-read-number-of-8-6
-    add-number-of-8-7
-    shared-slice-read-number-of-8-7
-    shared-slice-read-number-of-8-8
-    number-of-8-requires
+    shared-slice-read-word-of-4
+    add-word-of-4
+    shared-slice-read-word-of-4-2
+    add-word-of-4-2
+    shared-slice-read-word-of-4-3
+    add-word-of-4-3
+    shared-slice-read-word-of-4-4
+    word-of-4-requires
+    add-word-of-4-4
+    shared-slice-read-word-of-4-5
+    add-word-of-4-5
+    shared-slice-read-word-of-4-6
+    add-word-of-4-6
+    shared-slice-read-word-of-4-7
+    add-word-of-4-7
+    shared-slice-read-word-of-4-8
+    word-of-4-requires-2
+    mul-result
+    add-result
     returns)

@@ -1,44 +1,42 @@
-use Prim.Native.Nat.{ℕ, _≤_, _-_}
+use Prim.Native.Nat.{ℕ, _≤_, _-_, _*_, _/_}
 use mathlib.Core.Path.{_≡_}
 use mathlib.Core.Bool.{true}
 use Rattle.octets.proofs.Index.{ended}
 use Rattle.tables.specs.Places.{hashWidth}
 use Rattle.tables.specs.Records.{hashBytesOk}
-use Rattle.tables.specs.Groups.{groupSize, groupOk}
-use Rattle.tables.proofs.Loops.{none-of-group, record-passes, record-fails}
+use Rattle.tables.specs.Layout.{recordsOk}
+use Rattle.tables.specs.Groups.{groupSize}
+use Rattle.tables.proofs.Loops.{none-yet, rows-pass, rows-fail}
+use native.Mathlib.Omega.{arith}
 use borrow.Author.Needs.{needs}
 use Rattle.tables.proofs.section_check.hash_group_each.Statement.{statement}
 use Rattle.tables.proofs.section_check.hash_group_each.Tie as tie
 
 abbrev Inv-loop : tie.InvT-loop
-Inv-loop s i₀ i = (i ≤ groupSize) × (groupOk hashBytesOk hashWidth i s ≡ true)
+Inv-loop t at i₀ i = (i ≤ groupSize / 4) × (recordsOk hashBytesOk at hashWidth (4 * i) t ≡ true)
 
 abbrev μ-loop : tie.MeasureT-loop
-μ-loop s i₀ i = groupSize - i
+μ-loop t at i₀ i = groupSize / 4 - i
 
 loop-holds : tie.Need-loop-holds Inv-loop μ-loop
-loop-holds c = (search needs, none-of-group hashBytesOk hashWidth _)
+loop-holds c = (search needs, none-yet hashBytesOk (c .before .args .at) hashWidth _)
 
-mul-at : tie.Need-mul-at Inv-loop μ-loop
-mul-at c = search needs
+mul-four-hashes-ok : tie.Need-mul-four-hashes-ok Inv-loop μ-loop
+mul-four-hashes-ok c = search needs
 
-add-hash-ok : tie.Need-add-hash-ok Inv-loop μ-loop
-add-hash-ok c = search needs
+mul-four-hashes-ok-2 : tie.Need-mul-four-hashes-ok-2 Inv-loop μ-loop
+mul-four-hashes-ok-2 c = search needs
 
-sub-hash-ok : tie.Need-sub-hash-ok Inv-loop μ-loop
-sub-hash-ok c = search needs
+add-four-hashes-ok : tie.Need-add-four-hashes-ok Inv-loop μ-loop
+add-four-hashes-ok c = search needs
 
-part-hash-ok-start : tie.Need-part-hash-ok-start Inv-loop μ-loop
-part-hash-ok-start c = search needs
-
-part-hash-ok-end : tie.Need-part-hash-ok-end Inv-loop μ-loop
-part-hash-ok-end c = search needs
-
-hash-ok-requires : tie.Need-hash-ok-requires Inv-loop μ-loop
-hash-ok-requires c κs = search needs
+four-hashes-ok-requires : tie.Need-four-hashes-ok-requires Inv-loop μ-loop
+four-hashes-ok-requires c κs = search needs
 
 returns : tie.Need-returns Inv-loop μ-loop
-returns c = record-fails hashBytesOk hashWidth _ _ (c .before .hash-ok .ensures) groupSize (c .before .before .before .loop-test .taken) (c .if1 .taken)
+returns c =
+    let c3 = c .before .before .before in
+    rows-fail hashBytesOk _ hashWidth 4 _ (c3 .loop .i) (c .before .four-hashes-ok .ensures) (c3 .loop .inv .1) groupSize (omega arith) (c .if1 .taken)
 
 add-i : tie.Need-add-i Inv-loop μ-loop
 add-i c = search needs
@@ -48,13 +46,14 @@ loop-less c = search needs
 
 loop-again : tie.Need-loop-again Inv-loop μ-loop
 loop-again c =
-    let c4 = c .before .before .before .before in
-    (search needs, record-passes hashBytesOk hashWidth _ _ (c .before .hash-ok .ensures) (c .if1 .left) (c4 .loop .inv .1))
+    let c3 = c .before .before .before in
+    (search needs, rows-pass hashBytesOk _ hashWidth 4 _ (c3 .loop .i) (c .before .four-hashes-ok .ensures) (c3 .loop .inv .1) (c .if1 .left))
 
 returns-2 : tie.Need-returns-2 Inv-loop μ-loop
 returns-2 c =
     let c3 = c .before .before .before in
-    ended (λ (k : ℕ). groupOk hashBytesOk hashWidth k (c3 .args .s .now)) (c .before .loop .inv .0) (c .loop-test .left) (c .before .loop .inv .1)
+    ended (λ (k : ℕ). recordsOk hashBytesOk (c3 .args .at) hashWidth (4 * k) (c3 .args .t .now)) (c .before .loop .inv .0)
+    (c .loop-test .left) (c .before .loop .inv .1)
 
 pub hash-group-each-spec : {M : Type 1} → statement M
 hash-group-each-spec =
@@ -63,12 +62,10 @@ hash-group-each-spec =
     Inv-loop
     μ-loop
     loop-holds
-    mul-at
-    add-hash-ok
-    sub-hash-ok
-    part-hash-ok-start
-    part-hash-ok-end
-    hash-ok-requires
+    mul-four-hashes-ok
+    mul-four-hashes-ok-2
+    add-four-hashes-ok
+    four-hashes-ok-requires
     returns
     add-i
     loop-less

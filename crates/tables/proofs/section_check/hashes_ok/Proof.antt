@@ -7,7 +7,7 @@ use Rattle.tables.specs.Places.{hashWidth}
 use Rattle.tables.specs.Records.{hashBytesOk}
 use Rattle.tables.specs.Layout.{recordsOk}
 use Rattle.tables.specs.Groups.{groupSize}
-use Rattle.tables.proofs.Loops.{none-yet, group-passes, group-fails}
+use Rattle.tables.proofs.Loops.{none-yet, rows-pass, rows-fail}
 use native.Mathlib.Omega.{arith}
 use borrow.Author.Needs.{needs}
 use Rattle.tables.proofs.section_check.hashes_ok.Statement.{statement}
@@ -22,37 +22,22 @@ abbrev μ-loop : tie.MeasureT-loop
 loop-holds : tie.Need-loop-holds Inv-loop μ-loop
 loop-holds c = (search needs, none-yet hashBytesOk (c .before .args .at) hashWidth _)
 
-mul-start : tie.Need-mul-start Inv-loop μ-loop
-mul-start c = search needs
-
-mul-start-2 : tie.Need-mul-start-2 Inv-loop μ-loop
-mul-start-2 c = search needs
-
-add-start : tie.Need-add-start Inv-loop μ-loop
-add-start c = search needs
-
 mul-hash-group-ok : tie.Need-mul-hash-group-ok Inv-loop μ-loop
 mul-hash-group-ok c = search needs
 
+mul-hash-group-ok-2 : tie.Need-mul-hash-group-ok-2 Inv-loop μ-loop
+mul-hash-group-ok-2 c = search needs
+
 add-hash-group-ok : tie.Need-add-hash-group-ok Inv-loop μ-loop
 add-hash-group-ok c = search needs
-
-sub-hash-group-ok : tie.Need-sub-hash-group-ok Inv-loop μ-loop
-sub-hash-group-ok c = search needs
-
-part-hash-group-ok-start : tie.Need-part-hash-group-ok-start Inv-loop μ-loop
-part-hash-group-ok-start c = search needs
-
-part-hash-group-ok-end : tie.Need-part-hash-group-ok-end Inv-loop μ-loop
-part-hash-group-ok-end c = search needs
 
 hash-group-ok-requires : tie.Need-hash-group-ok-requires Inv-loop μ-loop
 hash-group-ok-requires c κs = search needs
 
 returns : tie.Need-returns Inv-loop μ-loop
 returns c =
-    let c4 = c .before .before .before .before in
-    group-fails hashBytesOk _ hashWidth _ _ (c .before .hash-group-ok .ensures) (c4 .loop .inv .1) hashCount (omega arith) (c .if1 .taken)
+    let c3 = c .before .before .before in
+    rows-fail hashBytesOk _ hashWidth groupSize _ (c3 .loop .g) (c .before .hash-group-ok .ensures) (c3 .loop .inv .1) hashCount (omega arith) (c .if1 .taken)
 
 add-g : tie.Need-add-g Inv-loop μ-loop
 add-g c = search needs
@@ -62,14 +47,14 @@ loop-less c = search needs
 
 loop-again : tie.Need-loop-again Inv-loop μ-loop
 loop-again c =
-    let c4 = c .before .before .before .before in
-    (search needs, group-passes hashBytesOk _ hashWidth _ _ (c .before .hash-group-ok .ensures) (c4 .loop .inv .1) (c .if1 .left))
+    let c3 = c .before .before .before in
+    (search needs, rows-pass hashBytesOk _ hashWidth groupSize _ (c3 .loop .g) (c .before .hash-group-ok .ensures) (c3 .loop .inv .1) (c .if1 .left))
 
 returns-2 : tie.Need-returns-2 Inv-loop μ-loop
 returns-2 c =
     let c3 = c .before .before .before in
-    ended (λ (k : ℕ). recordsOk hashBytesOk (c3 .args .at) hashWidth (groupSize * k) (c3 .args .t .now)) (c .before .loop .inv .0) (c .loop-test .left)
-    (c .before .loop .inv .1)
+    ended (λ (k : ℕ). recordsOk hashBytesOk (c3 .args .at) hashWidth (groupSize * k) (c3 .args .t .now)) (c .before .loop .inv .0)
+    (c .loop-test .left) (c .before .loop .inv .1)
 
 pub hashes-ok-spec : {M : Type 1} → statement M
 hashes-ok-spec =
@@ -78,14 +63,9 @@ hashes-ok-spec =
     Inv-loop
     μ-loop
     loop-holds
-    mul-start
-    mul-start-2
-    add-start
     mul-hash-group-ok
+    mul-hash-group-ok-2
     add-hash-group-ok
-    sub-hash-group-ok
-    part-hash-group-ok-start
-    part-hash-group-ok-end
     hash-group-ok-requires
     returns
     add-g

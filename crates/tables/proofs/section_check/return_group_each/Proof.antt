@@ -1,44 +1,42 @@
-use Prim.Native.Nat.{ℕ, _≤_, _-_}
+use Prim.Native.Nat.{ℕ, _≤_, _-_, _*_, _/_}
 use mathlib.Core.Path.{_≡_}
 use mathlib.Core.Bool.{true}
 use Rattle.octets.proofs.Index.{ended}
 use Rattle.tables.specs.Places.{returnWidth}
 use Rattle.tables.specs.Records.{returnBytesOk}
-use Rattle.tables.specs.Groups.{groupSize, groupOk}
-use Rattle.tables.proofs.Loops.{none-of-group, record-passes, record-fails}
+use Rattle.tables.specs.Layout.{recordsOk}
+use Rattle.tables.specs.Groups.{groupSize}
+use Rattle.tables.proofs.Loops.{none-yet, rows-pass, rows-fail}
+use native.Mathlib.Omega.{arith}
 use borrow.Author.Needs.{needs}
 use Rattle.tables.proofs.section_check.return_group_each.Statement.{statement}
 use Rattle.tables.proofs.section_check.return_group_each.Tie as tie
 
 abbrev Inv-loop : tie.InvT-loop
-Inv-loop s i₀ i = (i ≤ groupSize) × (groupOk returnBytesOk returnWidth i s ≡ true)
+Inv-loop t at i₀ i = (i ≤ groupSize / 4) × (recordsOk returnBytesOk at returnWidth (4 * i) t ≡ true)
 
 abbrev μ-loop : tie.MeasureT-loop
-μ-loop s i₀ i = groupSize - i
+μ-loop t at i₀ i = groupSize / 4 - i
 
 loop-holds : tie.Need-loop-holds Inv-loop μ-loop
-loop-holds c = (search needs, none-of-group returnBytesOk returnWidth _)
+loop-holds c = (search needs, none-yet returnBytesOk (c .before .args .at) returnWidth _)
 
-mul-at : tie.Need-mul-at Inv-loop μ-loop
-mul-at c = search needs
+mul-four-returns-ok : tie.Need-mul-four-returns-ok Inv-loop μ-loop
+mul-four-returns-ok c = search needs
 
-add-return-ok : tie.Need-add-return-ok Inv-loop μ-loop
-add-return-ok c = search needs
+mul-four-returns-ok-2 : tie.Need-mul-four-returns-ok-2 Inv-loop μ-loop
+mul-four-returns-ok-2 c = search needs
 
-sub-return-ok : tie.Need-sub-return-ok Inv-loop μ-loop
-sub-return-ok c = search needs
+add-four-returns-ok : tie.Need-add-four-returns-ok Inv-loop μ-loop
+add-four-returns-ok c = search needs
 
-part-return-ok-start : tie.Need-part-return-ok-start Inv-loop μ-loop
-part-return-ok-start c = search needs
-
-part-return-ok-end : tie.Need-part-return-ok-end Inv-loop μ-loop
-part-return-ok-end c = search needs
-
-return-ok-requires : tie.Need-return-ok-requires Inv-loop μ-loop
-return-ok-requires c κs = search needs
+four-returns-ok-requires : tie.Need-four-returns-ok-requires Inv-loop μ-loop
+four-returns-ok-requires c κs = search needs
 
 returns : tie.Need-returns Inv-loop μ-loop
-returns c = record-fails returnBytesOk returnWidth _ _ (c .before .return-ok .ensures) groupSize (c .before .before .before .loop-test .taken) (c .if1 .taken)
+returns c =
+    let c3 = c .before .before .before in
+    rows-fail returnBytesOk _ returnWidth 4 _ (c3 .loop .i) (c .before .four-returns-ok .ensures) (c3 .loop .inv .1) groupSize (omega arith) (c .if1 .taken)
 
 add-i : tie.Need-add-i Inv-loop μ-loop
 add-i c = search needs
@@ -48,13 +46,14 @@ loop-less c = search needs
 
 loop-again : tie.Need-loop-again Inv-loop μ-loop
 loop-again c =
-    let c4 = c .before .before .before .before in
-    (search needs, record-passes returnBytesOk returnWidth _ _ (c .before .return-ok .ensures) (c .if1 .left) (c4 .loop .inv .1))
+    let c3 = c .before .before .before in
+    (search needs, rows-pass returnBytesOk _ returnWidth 4 _ (c3 .loop .i) (c .before .four-returns-ok .ensures) (c3 .loop .inv .1) (c .if1 .left))
 
 returns-2 : tie.Need-returns-2 Inv-loop μ-loop
 returns-2 c =
     let c3 = c .before .before .before in
-    ended (λ (k : ℕ). groupOk returnBytesOk returnWidth k (c3 .args .s .now)) (c .before .loop .inv .0) (c .loop-test .left) (c .before .loop .inv .1)
+    ended (λ (k : ℕ). recordsOk returnBytesOk (c3 .args .at) returnWidth (4 * k) (c3 .args .t .now)) (c .before .loop .inv .0)
+    (c .loop-test .left) (c .before .loop .inv .1)
 
 pub return-group-each-spec : {M : Type 1} → statement M
 return-group-each-spec =
@@ -63,12 +62,10 @@ return-group-each-spec =
     Inv-loop
     μ-loop
     loop-holds
-    mul-at
-    add-return-ok
-    sub-return-ok
-    part-return-ok-start
-    part-return-ok-end
-    return-ok-requires
+    mul-four-returns-ok
+    mul-four-returns-ok-2
+    add-four-returns-ok
+    four-returns-ok-requires
     returns
     add-i
     loop-less

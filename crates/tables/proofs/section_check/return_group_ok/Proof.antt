@@ -1,9 +1,10 @@
-use mathlib.Core.Path.{sym, _∙_}
 use Rattle.tables.specs.Places.{returnWidth}
-use Rattle.tables.specs.Records.{returnBytesOk}
-use Rattle.tables.proofs.Loops.{group-free}
 use Rattle.tables.specs.Forms.{returnForm}
+use Rattle.tables.specs.Records.{returnBytesOk}
+use Rattle.tables.specs.Groups.{groupSize}
+use Rattle.tables.proofs.Loops.{section-free}
 use Rattle.tables.proofs.Tests.{unused}
+use native.Mathlib.Omega.{arith}
 use borrow.Author.Needs.{needs}
 use Rattle.tables.proofs.section_check.return_group_ok.Statement.{statement}
 use Rattle.tables.proofs.section_check.return_group_ok.Tie as tie
@@ -17,8 +18,26 @@ sub-ends c = search needs
 mul-ends : tie.Need-mul-ends
 mul-ends c = search needs
 
+add-ends : tie.Need-add-ends
+add-ends c = search needs
+
 shared-slice-read-ends-2 : tie.Need-shared-slice-read-ends-2
 shared-slice-read-ends-2 c = search needs
+
+mul-is-zero : tie.Need-mul-is-zero
+mul-is-zero c = search needs
+
+add-is-zero : tie.Need-add-is-zero
+add-is-zero c = search needs
+
+sub-is-zero : tie.Need-sub-is-zero
+sub-is-zero c = search needs
+
+part-is-zero-start : tie.Need-part-is-zero-start
+part-is-zero-start c = search needs
+
+part-is-zero-end : tie.Need-part-is-zero-end
+part-is-zero-end c = search needs
 
 is-zero-requires : tie.Need-is-zero-requires
 is-zero-requires c κs = search needs
@@ -26,8 +45,9 @@ is-zero-requires c κs = search needs
 returns : tie.Need-returns
 unfolding returnBytesOk
 returns c =
-    let c6 = c .before .before .before .before .before .before in
-    group-free returnBytesOk returnWidth _ (unused returnForm) (c6 .pre) (sym (c .before .is-zero .ensures) ∙ c .if2 .taken)
+    let c7 = c .before .before .before .before .before .before .before in
+    section-free returnBytesOk (c7 .args .at) returnWidth groupSize (c7 .args .t .now) (unused returnForm) (omega (arith, c7 .pre))
+    (c .before .is-zero .ensures) (c .if2 .taken)
 
 return-group-each-requires : tie.Need-return-group-each-requires
 return-group-each-requires c κs = search needs
@@ -38,4 +58,18 @@ returns-2 c = search needs
 pub return-group-ok-spec : {M : Type 1} → statement M
 return-group-ok-spec =
     tie.close
-    (tie.spec shared-slice-read-ends sub-ends mul-ends shared-slice-read-ends-2 is-zero-requires returns return-group-each-requires returns-2)
+    (tie.spec
+    shared-slice-read-ends
+    sub-ends
+    mul-ends
+    add-ends
+    shared-slice-read-ends-2
+    mul-is-zero
+    add-is-zero
+    sub-is-zero
+    part-is-zero-start
+    part-is-zero-end
+    is-zero-requires
+    returns
+    return-group-each-requires
+    returns-2)

@@ -7,7 +7,7 @@ use Rattle.tables.specs.Places.{returnWidth}
 use Rattle.tables.specs.Records.{returnBytesOk}
 use Rattle.tables.specs.Layout.{recordsOk}
 use Rattle.tables.specs.Groups.{groupSize}
-use Rattle.tables.proofs.Loops.{none-yet, group-passes, group-fails}
+use Rattle.tables.proofs.Loops.{none-yet, rows-pass, rows-fail}
 use native.Mathlib.Omega.{arith}
 use borrow.Author.Needs.{needs}
 use Rattle.tables.proofs.section_check.returns_ok.Statement.{statement}
@@ -22,37 +22,22 @@ abbrev μ-loop : tie.MeasureT-loop
 loop-holds : tie.Need-loop-holds Inv-loop μ-loop
 loop-holds c = (search needs, none-yet returnBytesOk (c .before .args .at) returnWidth _)
 
-mul-start : tie.Need-mul-start Inv-loop μ-loop
-mul-start c = search needs
-
-mul-start-2 : tie.Need-mul-start-2 Inv-loop μ-loop
-mul-start-2 c = search needs
-
-add-start : tie.Need-add-start Inv-loop μ-loop
-add-start c = search needs
-
 mul-return-group-ok : tie.Need-mul-return-group-ok Inv-loop μ-loop
 mul-return-group-ok c = search needs
 
+mul-return-group-ok-2 : tie.Need-mul-return-group-ok-2 Inv-loop μ-loop
+mul-return-group-ok-2 c = search needs
+
 add-return-group-ok : tie.Need-add-return-group-ok Inv-loop μ-loop
 add-return-group-ok c = search needs
-
-sub-return-group-ok : tie.Need-sub-return-group-ok Inv-loop μ-loop
-sub-return-group-ok c = search needs
-
-part-return-group-ok-start : tie.Need-part-return-group-ok-start Inv-loop μ-loop
-part-return-group-ok-start c = search needs
-
-part-return-group-ok-end : tie.Need-part-return-group-ok-end Inv-loop μ-loop
-part-return-group-ok-end c = search needs
 
 return-group-ok-requires : tie.Need-return-group-ok-requires Inv-loop μ-loop
 return-group-ok-requires c κs = search needs
 
 returns : tie.Need-returns Inv-loop μ-loop
 returns c =
-    let c4 = c .before .before .before .before in
-    group-fails returnBytesOk _ returnWidth _ _ (c .before .return-group-ok .ensures) (c4 .loop .inv .1) returnCount (omega arith) (c .if1 .taken)
+    let c3 = c .before .before .before in
+    rows-fail returnBytesOk _ returnWidth groupSize _ (c3 .loop .g) (c .before .return-group-ok .ensures) (c3 .loop .inv .1) returnCount (omega arith) (c .if1 .taken)
 
 add-g : tie.Need-add-g Inv-loop μ-loop
 add-g c = search needs
@@ -62,8 +47,8 @@ loop-less c = search needs
 
 loop-again : tie.Need-loop-again Inv-loop μ-loop
 loop-again c =
-    let c4 = c .before .before .before .before in
-    (search needs, group-passes returnBytesOk _ returnWidth _ _ (c .before .return-group-ok .ensures) (c4 .loop .inv .1) (c .if1 .left))
+    let c3 = c .before .before .before in
+    (search needs, rows-pass returnBytesOk _ returnWidth groupSize _ (c3 .loop .g) (c .before .return-group-ok .ensures) (c3 .loop .inv .1) (c .if1 .left))
 
 returns-2 : tie.Need-returns-2 Inv-loop μ-loop
 returns-2 c =
@@ -78,14 +63,9 @@ returns-ok-spec =
     Inv-loop
     μ-loop
     loop-holds
-    mul-start
-    mul-start-2
-    add-start
     mul-return-group-ok
+    mul-return-group-ok-2
     add-return-group-ok
-    sub-return-group-ok
-    part-return-group-ok-start
-    part-return-group-ok-end
     return-group-ok-requires
     returns
     add-g

@@ -1,0 +1,138 @@
+-- Four records at once: the laws of `together`, and plain records keep row 7.
+use Prim.Native.Nat.{ℕ, zero, suc, _+_, _*_, _%_, _^_, _≤_, _<_}
+use native.Mathlib.Nat.{zero-mod, add-zero}
+use native.Mathlib.Numerals.{add-one}
+use native.Mathlib.Omega.{arith}
+use mathlib.Core.Bool.{Bool, true, false}
+use mathlib.Core.List.{List}
+use mathlib.Core.Path.{_≡_, refl, sym, ap, ap₂, _∙_}
+use lib.Bits.{bitOr, or-mod}
+use lib.Dec.{eqb, ltb}
+use lib.ListN.{length, getD}
+use lib.Pow.{pow-pos}
+use borrow.Author.Tests.{lt-ltb, ltb-true, le-leb, eq-eqb, ne-eqb, eqb-true}
+use Rattle.octets.specs.Bytes.{Bytes}
+use Rattle.octets.specs.Index.{_and_, allBelow}
+use Rattle.octets.specs.Part.{part}
+use Rattle.octets.specs.BigEndian.{number}
+use Rattle.octets.proofs.Agree.{or-ltb}
+use Rattle.octets.proofs.BigEndian.{number-lt}
+use Rattle.octets.proofs.Bytes.{part-bytes}
+use Rattle.octets.proofs.Index.{and-left, and-right, and-both, and-yes, all-both, all-cong, all-fails}
+use Rattle.octets.proofs.Part.{part-at, part-part, part-length, number-part, number-one}
+use Rattle.numbers.specs.Numbers.{portCount}
+use Rattle.rules.specs.Refusals.{timeOk, returnOk, hashOk}
+use Rattle.tables.specs.Places.{returnWidth, hashWidth}
+use Rattle.tables.specs.Fields.{returnArrivalAt, returnLeavingAt, returnExpiryAt}
+use Rattle.tables.specs.Records.{returnOf, returnBytesOk, hashOf, hashBytesOk}
+use Rattle.tables.specs.Layout.{recordAt, recordsOk}
+use Rattle.tables.specs.Groups.{together, waysPlain, returnPlain, hashPlain}
+use Rattle.tables.proofs.Tests.{slot-used, return-test, hash-test}
+
+-- ---- `together`: an OR is tested in place of its numbers
+pub together-ltb : (k : ℕ) (f : ℕ → ℕ) (n : ℕ) → ltb (together f n) (2 ^ k) ≡ allBelow (λ i. ltb (f i) (2 ^ k)) n
+unfolding together allBelow
+together-ltb k f zero = lt-ltb 0 (2 ^ k) (pow-pos k)
+together-ltb k f (suc n) = or-ltb k (together f n) (f n) ∙ ap (λ (b : Bool). b and ltb (f n) (2 ^ k)) (together-ltb k f n)
+
+together-mod : (k : ℕ) (f : ℕ → ℕ) (n : ℕ) → together f n % 2 ^ k ≡ together (λ i. f i % 2 ^ k) n
+unfolding together
+together-mod k f zero = zero-mod (2 ^ k)
+together-mod k f (suc n) = or-mod (together f n) (f n) k ∙ ap (λ (x : ℕ). bitOr x (f n % 2 ^ k)) (together-mod k f n)
+
+together-low : (j k : ℕ) (f : ℕ → ℕ) (n : ℕ) → ltb (together f n % 2 ^ j) (2 ^ k) ≡ allBelow (λ i. ltb (f i % 2 ^ j) (2 ^ k)) n
+together-low j k f n = ap (λ (x : ℕ). ltb x (2 ^ k)) (together-mod j f n) ∙ together-ltb k (λ i. f i % 2 ^ j) n
+
+pub together-plain : (f : ℕ → ℕ) (n : ℕ) → waysPlain (together f n) ≡ allBelow (λ i. waysPlain (f i)) n
+unfolding waysPlain
+together-plain f n =
+    let a : ℕ → Bool = λ i. ltb (f i) (2 ^ 60) in
+    let b : ℕ → Bool = λ i. ltb (f i % 2 ^ 56) (2 ^ 52) in
+    let c : ℕ → Bool = λ i. ltb (f i % 2 ^ 48) (2 ^ 24) in
+    ap₂ (λ (p q : Bool). p and q) (together-ltb 60 f n) (ap₂ (λ (p q : Bool). p and q) (together-low 56 52 f n) (together-low 48 24 f n))
+    ∙ sym (all-both a (λ i. b i and c i) n ∙ ap (λ (q : Bool). allBelow a n and q) (all-both b c n))
+
+-- the numbers one after the other: the one of index k is x, read at its place
+module _ (t : List ℕ) (at w : ℕ) where
+  abbrev pub numberOf : ℕ → ℕ
+  numberOf k = number (part t (at + w * k) 8)
+
+  pub none-together : 0 ≡ together numberOf 0
+  unfolding together
+  none-together = refl
+
+  pub one-together : (k : ℕ) {place x before : ℕ} → place ≡ at + w * k → x ≡ number (part t place 8)
+      → before ≡ together numberOf k → bitOr before x ≡ together numberOf (k + 1)
+  unfolding together
+  one-together k there read h = rw (add-one, read, there, h)
+
+-- ---- marks, one after the other: the one of index k stands at its place
+module _ (t : List ℕ) (at w : ℕ) where
+  abbrev pub marked : ℕ → Bool
+  marked k = eqb (getD t (at + w * k) 0) 1
+
+  module _ (k : ℕ) {place : ℕ} (there : place ≡ at + w * k) where
+    pub mark-last : allBelow marked k ≡ true → eqb (getD t place 0) 1 ≡ allBelow marked (k + 1)
+    unfolding allBelow
+    mark-last h = rw (add-one, there) (sym (and-yes _ h))
+
+    pub mark-more : allBelow marked k ≡ true → getD t place 0 ≡ 1 → allBelow marked (k + 1) ≡ true
+    mark-more h e = sym (mark-last h) ∙ eq-eqb _ _ e
+
+    pub mark-fails : (n : ℕ) → k < n → (getD t place 0 ≡ 1 → ⊥) → false ≡ allBelow marked n
+    mark-fails n l ne = sym (all-fails marked k n l (ap (λ (i : ℕ). eqb (getD t i 0) 1) (sym there) ∙ ne-eqb _ _ ne))
+
+-- ---- the marks and the numbers of n records, where they stand in the tables
+module _ (p : ℕ → Bool) (at a w n : ℕ) (t : List ℕ) (fits : a + 8 ≤ w) where
+  abbrev tested : List ℕ → Bool
+  tested b = eqb (getD b 0 0) 1 and p (number (part b a 8))
+
+  pub rows-apart : recordsOk tested at w n t
+      ≡ (allBelow (λ k. eqb (getD t (at + w * k) 0) 1) n and allBelow (λ k. p (number (part t (at + a + w * k) 8))) n)
+  unfolding recordsOk
+  rows-apart =
+      all-cong (λ k. tested (recordAt at w t k)) (λ k. eqb (getD t (at + w * k) 0) 1 and p (number (part t (at + a + w * k) 8))) n
+      (λ k l. ap₂ (λ (x y : ℕ). eqb x 1 and p y)
+      (part-at t (at + w * k) w 0 (omega arith) ∙ ap (λ (i : ℕ). getD t i 0) (add-zero (at + w * k)))
+      (ap number (part-part t (at + w * k) w a 8 fits ∙ ap (λ (i : ℕ). part t i 8) (omega arith))))
+      ∙ all-both (λ k. eqb (getD t (at + w * k) 0) 1) (λ k. p (number (part t (at + a + w * k) 8))) n
+
+-- ---- plain records keep row 7
+time-plain : (x : ℕ) → x < 2 ^ 40 → timeOk x ≡ true
+unfolding timeOk
+time-plain x h = le-leb x _ (omega arith)
+
+pub hash-plain : (b : List ℕ) → hashPlain b ≡ true → hashBytesOk b ≡ true
+unfolding hashPlain hashOk hashOf
+hash-plain b h =
+    hash-test b ∙ slot-used hashWidth _ b (eqb-true _ _ (and-left _ _ h)) ∙ time-plain _ (ltb-true _ _ (and-right _ _ h))
+
+module _ (b : List ℕ) (bytes : Bytes b) (size : length b ≡ returnWidth) where
+  below : (a n : ℕ) → a + n ≤ length b → number (part b a n) < 256 ^ n
+  below a n l = number-lt (part b a n) n (part-bytes b a n bytes) (part-length b a n l)
+
+  ways : waysPlain (number (part b returnArrivalAt 8)) ≡ true → returnOk (returnOf b) ≡ true
+  unfolding waysPlain returnOk returnOf
+  ways h =
+      let x : ℕ = number (part b returnArrivalAt 8) in
+      let first : number (part b returnArrivalAt 8) ≡ getD b returnArrivalAt 0 * 256 ^ 7 + number (part b returnLeavingAt 7) =
+      number-part b returnArrivalAt 1 7 (omega arith) ∙ ap (λ (k : ℕ). k * 256 ^ 7 + number (part b returnLeavingAt 7)) (number-one b returnArrivalAt (omega arith)) in
+      let second : number (part b returnLeavingAt 7) ≡ getD b returnLeavingAt 0 * 256 ^ 6 + number (part b returnExpiryAt 6) =
+      number-part b returnLeavingAt 1 6 (omega arith) ∙ ap (λ (k : ℕ). k * 256 ^ 6 + number (part b returnExpiryAt 6)) (number-one b returnLeavingAt (omega arith)) in
+      let third : number (part b returnExpiryAt 8) ≡ number (part b returnExpiryAt 6) * 256 ^ 2 + number (part b (returnExpiryAt + 6) 2) =
+      number-part b returnExpiryAt 6 2 (omega arith) in
+      let l1 : x < 2 ^ 60 = ltb-true _ _ (and-left _ _ h) in
+      let l2 : x % 2 ^ 56 < 2 ^ 52 = ltb-true _ _ (and-left _ _ (and-right _ _ h)) in
+      let l3 : x % 2 ^ 48 < 2 ^ 24 = ltb-true _ _ (and-right _ _ (and-right _ _ h)) in
+      let s1 = below returnLeavingAt 7 (omega arith) in
+      let s2 = below returnExpiryAt 6 (omega arith) in
+      let s3 = below (returnExpiryAt + 6) 2 (omega arith) in
+      let arrival : getD b returnArrivalAt 0 < portCount = omega arith in
+      let leaving : getD b returnLeavingAt 0 < portCount = omega arith in
+      let expiry : number (part b returnExpiryAt 8) < 2 ^ 40 = omega arith in
+      and-both (lt-ltb _ _ arrival) (and-both (lt-ltb _ _ leaving) (time-plain _ expiry))
+
+  pub return-plain : returnPlain b ≡ true → returnBytesOk b ≡ true
+  unfolding returnPlain
+  return-plain h =
+      return-test b ∙ slot-used returnWidth _ b (eqb-true _ _ (and-left _ _ h)) ∙ ways (and-right _ _ h)

@@ -1,0 +1,79 @@
+// Four records at once. Plain ones, used, with ports below 16 and times below 2^40, keep row 7, and most used records are.
+// A number of each of the four is tested by one comparison: an OR is below a power of two where all of them are.
+use super::fields::HASH_EXPIRY_AT;
+use super::fields::RETURN_ARRIVAL_AT;
+use super::places::HASH_WIDTH;
+use super::places::RETURN_WIDTH;
+use numbers::CLOCK_LIMIT;
+ghost use mathlib.Core.Path.{_≡_};
+ghost use Prim.Native.Nat.{_+_, _*_, _≤_, _<_};
+ghost use lib.Dec.{eqb};
+ghost use lib.ListN.{length, getD};
+ghost use Rattle.octets.specs.Index.{allBelow};
+ghost use Rattle.octets.specs.Part.{part};
+ghost use Rattle.octets.specs.BigEndian.{number};
+ghost use Rattle.tables.specs.Places.{returnWidth, hashWidth};
+ghost use Rattle.tables.specs.Layout.{recordsOk};
+ghost use Rattle.tables.specs.Groups.{together, waysPlain, returnPlain, hashPlain};
+
+// Whether the four records of this width that stand from a place on are marked as used.
+fn four_used(t: &[u8], at: usize, width: usize) -> bool
+    requires { ⌜ at + width * 3 < length (now t) ⌝ }
+    ensures { λ r. ⌜ r ≡ allBelow (λ k. eqb (getD (now (t .entry)) (at + width * k) 0) 1) 4 ⌝ }
+{
+    if t[at] != 1 {
+        return false;
+    }
+    if t[at + width] != 1 {
+        return false;
+    }
+    if t[at + width * 2] != 1 {
+        return false;
+    }
+    t[at + width * 3] == 1
+}
+
+// The OR of four numbers of eight bytes: the first from a place on, each so much behind the one before it.
+fn four_together(t: &[u8], at: usize, width: usize) -> u64
+    requires { ⌜ at + width * 3 + 8 ≤ length (now t) ⌝ }
+    ensures { λ r. ⌜ r ≡ together (λ k. number (part (now (t .entry)) (at + width * k) 8)) 4 ⌝ }
+{
+    octets::number_of_8_at(t, at)
+        | octets::number_of_8_at(t, at + width)
+        | octets::number_of_8_at(t, at + width * 2)
+        | octets::number_of_8_at(t, at + width * 3)
+}
+
+// Of two ports and the first six bytes of a time, as one number: whether the ports are below 16 and the time below 2^40.
+// The numbers are 16 * 256^7, 256^7, 16 * 256^6, 256^6 and 256^3; the compiler makes one test of the three.
+fn ways_plain(x: u64) -> bool
+    ensures { λ r. ⌜ r ≡ waysPlain x ⌝ }
+{
+    if x >= 1152921504606846976 {
+        return false;
+    }
+    if x % 72057594037927936 >= 4503599627370496 {
+        return false;
+    }
+    x % 281474976710656 < 16777216
+}
+
+pub fn four_returns_plain(t: &[u8], at: usize) -> bool
+    requires { ⌜ at + returnWidth * 4 ≤ length (now t) ⌝ }
+    ensures { λ r. ⌜ r ≡ recordsOk returnPlain at returnWidth 4 (now (t .entry)) ⌝ }
+{
+    if !four_used(t, at, RETURN_WIDTH) {
+        return false;
+    }
+    ways_plain(four_together(t, at + RETURN_ARRIVAL_AT, RETURN_WIDTH))
+}
+
+pub fn four_hashes_plain(t: &[u8], at: usize) -> bool
+    requires { ⌜ at + hashWidth * 4 ≤ length (now t) ⌝ }
+    ensures { λ r. ⌜ r ≡ recordsOk hashPlain at hashWidth 4 (now (t .entry)) ⌝ }
+{
+    if !four_used(t, at, HASH_WIDTH) {
+        return false;
+    }
+    four_together(t, at + HASH_EXPIRY_AT, HASH_WIDTH) < CLOCK_LIMIT
+}
