@@ -7,7 +7,7 @@ use native.Mathlib.Omega.{arith}
 use mathlib.Core.Bool.{Bool, true, false, not, false≢true}
 use mathlib.Core.List.{List, []}
 use mathlib.Core.Path.{_≡_, refl, sym, ap, ap₂, subst, _∙_}
-use lib.Dec.{eqb, ltb, leb, lit<}
+use lib.Dec.{eqb, ltb, leb}
 use lib.ListN.{length, getD, set}
 use lib.Seq.{getD-set-same, getD-set-other}
 use borrow.Author.Tests.{lt-ltb, le-ltb}
@@ -20,7 +20,7 @@ use Rattle.octets.proofs.Listed.{none-first, past}
 use Rattle.packet.specs.Header.{isAnnounce}
 use Rattle.packet.specs.Read.{longestPacket, readingRefusal}
 use Rattle.packet.specs.Write.{leastOutput}
-use Rattle.numbers.specs.Numbers.{pathCount, hashCount, live, clockLimit, pathLifetime}
+use Rattle.numbers.specs.Numbers.{pathCount, hashCount, live, clockLimit}
 use Rattle.rules.specs.Relay.{Slot, empty, used, Path, Remembered, Ring, Relay, makeRelay, holds, lowest, free, lowestFree, withClock, withPaths, withHashes}
 use Rattle.rules.specs.View.{View, viewAt, portOn, portMode, isLocal, localPlace, isLivePath, isLiveHash, pathPlace, linkPlace, hashPlace, freePath}
 use Rattle.rules.specs.Refusals.{slotOk, pathOk, tablesOk, packetRows, refusalBy, packetRefusal}
@@ -44,7 +44,7 @@ use Rattle.rules.proofs.Followed.{Planned, planned}
 use Rattle.rules.proofs.Accepted.{accepted-packet}
 use Rattle.rules.proofs.Held.{judged-relay, judged-reply}
 use Rattle.rules.proofs.ChattyPlan.{isSpread, spread-announce, announce-way}
-use Rattle.rules.proofs.Announced.{LowestPath}
+use Rattle.rules.proofs.Announced.{lifetime-some, LowestPath}
 use Rattle.rules.proofs.Lowest.{lowest-found, found-lowest, lowest-renewed}
 use Rattle.rules.proofs.Valid.{Valid, valid-of, step-ok}
 use Rattle.history.specs.Known.{nowUnder}
@@ -64,12 +64,6 @@ accepted-plan v a (follows (by-path q)) p h = absurd (false≢true h)
 accepted-plan v a (follows (along-link l)) p h = absurd (false≢true h)
 accepted-plan v a (follows (by-return t)) p h = absurd (false≢true h)
 accepted-plan v a (follows (blocked why)) p h = absurd (false≢true h)
-
-lifetime-some : (mode : ℕ) → 0 < pathLifetime mode
-unfolding pathLifetime
-lifetime-some mode =
-    either (λ (n : ℕ). 0 < n) _ (λ _. lit< tt)
-    (λ _. either (λ (n : ℕ). 0 < n) _ (λ _. lit< tt) (λ _. lit< tt))
 
 -- a relay with other paths and hashes, at another clock
 unfoldable changed : ℕ → List (Slot Path) → Ring Remembered → Relay → Relay

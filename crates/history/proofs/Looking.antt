@@ -8,7 +8,7 @@ use mathlib.Core.Bool.{Bool, true, false, false≢true}
 use mathlib.Core.List.{List, map}
 use mathlib.Core.Path.{_≡_, refl, sym, ap, subst, _∙_}
 use lib.Dec.{ltb}
-use lib.ListN.{length, getD, set, replicate, length-set, length-map, getD-replicate, length-replicate, List·getD-eq-default, List·getD-map}
+use lib.ListN.{length, getD, set, replicate, length-set, length-map, length-replicate, List·getD-eq-default, List·getD-map}
 use lib.Seq.{getD-set-same, getD-set-other, set-out}
 use borrow.Author.Tests.{lt-ltb, le-ltb, ltb-false}
 use Rattle.octets.specs.Index.{_and_}
@@ -20,17 +20,9 @@ use Rattle.rules.specs.Renumbering.{renameSlot}
 use Rattle.rules.specs.Tests.{isThere}
 use Rattle.rules.specs.Writes.{emptiedIf}
 use Rattle.rules.proofs.Choices.{either}
-use Rattle.rules.proofs.Slots.{Single, used-not-empty, used-same, emptied-at, found-key, none-live, found-alone}
+use Rattle.rules.proofs.Slots.{Single, used-not-empty, fresh-empty, used-same, emptied-at, found-key, none-live, found-alone}
 use Rattle.rules.proofs.SlotsRenamed.{slot-renamed, lowest-renamed}
 use Rattle.history.specs.Known.{onlyIf, nowUnder}
-
--- a table that holds nothing
-pub nothing-there : {A : Type 0} (n i : ℕ) → getD {A = Slot A} (replicate n empty) i empty ≡ empty
-nothing-there {A} n i = go (decLt i n)
-  where
-    go : Dec (i < n) → getD {A = Slot A} (replicate n empty) i empty ≡ empty
-    go (yes l) = getD-replicate n i empty empty l
-    go (no l) = List·getD-eq-default (replicate n empty) empty (rw length-replicate (omega arith))
 
 -- ---- the lowest record that passes a test
 module _ {A : Type 0} (test : A → Bool) (n : ℕ) where
@@ -161,7 +153,7 @@ module _ {A : Type 0} {T : Kind A} where
   -- an empty table, while nothing that is known counts
   pub tells-fresh : (known : List ℕ → Slot A) → ((clock : ℕ) (k : List ℕ) → onlyIf (T .alive clock) (known k) ≡ empty)
       → Tells T 0 (replicate (T .count) empty) known
-  tells-fresh known never = record { size = length-replicate (T .count) empty; told = λ clock m k. nothing-there (T .count) _ ∙ sym (never clock k) }
+  tells-fresh known never = record { size = length-replicate (T .count) empty; told = λ clock m k. fresh-empty (T .count) _ ∙ sym (never clock k) }
 
   -- what is found now lives, and is known
   pub known-now : {now : ℕ} {slots : List (Slot A)} {known : List ℕ → Slot A} → Tells T now slots known → (k : List ℕ) (x : A)

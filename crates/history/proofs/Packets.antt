@@ -1,7 +1,7 @@
 -- An accepted packet: what is known then agrees with what the packet writes.
 use Prim.Native.Nat.{ℕ, suc, _+_, _<_}
 use native.Mathlib.Omega.{arith}
-use mathlib.Core.Bool.{Bool, true, false, false≢true}
+use mathlib.Core.Bool.{Bool, true, false}
 use mathlib.Core.List.{List}
 use mathlib.Core.Path.{_≡_, refl, sym, ap, _∙_}
 use borrow.Author.Tests.{ltb-false}
@@ -24,17 +24,13 @@ use Rattle.rules.proofs.Slots.{found-key, not-found}
 use Rattle.rules.proofs.Followed.{Followed, Planned, is-request, planned, remembered-new}
 use Rattle.rules.proofs.Stamped.{plan-hashes}
 use Rattle.rules.proofs.UniqueAt.{UniqueAt}
+use Rattle.rules.proofs.UniqueWrites.{there-not}
 use Rattle.history.specs.Known.{Known, nowUnder, nowPath, nowLink, nowReturn, nowUntil, nowClock, changePath}
 use Rattle.history.specs.After.{afterWay, limitedPath, afterDrop, afterPlan, afterHash, afterPacket}
 use Rattle.history.specs.Opinion.{listLimit}
 use Rattle.history.proofs.Looking.{tells-same}
 use Rattle.history.proofs.Holding.{InTable, InRing, table-new, table-over, table-changed, table-gone, ring-new, ring-over, ring-anew, ring-more}
 use Rattle.history.proofs.Agrees.{pathKind, linkKind, returnKind, hashKind, hashesOf, Agrees, agrees-more, paths-agree, links-agree, returns-agree, hashes-agree, clock-agrees}
-
-nothing : {A : Type 0} (s : Slot A) → isThere s ≡ false → s ≡ empty
-unfolding isThere
-nothing empty h = refl
-nothing (used x) h = absurd (false≢true (sym h))
 
 module _ (a : Arrival) (r : Relay) (u : UniqueAt (a .clock) r) (n : ℕ) (under : n < listLimit) (k : Known) (h : Agrees (a .clock) n k r) where
   abbrev now : ℕ
@@ -61,7 +57,7 @@ module _ (a : Arrival) (r : Relay) (u : UniqueAt (a .clock) r) (n : ℕ) (under 
   asked : (p : Path) → isThere (viewAt now r .link (linkId (a .bytes))) ≡ false
       → InTable linkKind now (suc n) (putLink a p r .links) (nowUnder (linkId (a .bytes)) (used (linkRecord a p)) (k .link))
   unfolding putLink withLinks viewAt linkPlace isLiveLink freeLink linkRecord
-  asked p new = table-new (h .links) under (linkId (a .bytes)) (nothing _ new) (linkRecord a p) refl
+  asked p new = table-new (h .links) under (linkId (a .bytes)) (there-not _ new) (linkRecord a p) refl
 
   renewed : (l : Link) → viewAt now r .link (destination a) ≡ used l
       → InTable linkKind now (suc n) (renewLink a l r .links) (nowUnder (destination a) (used (renewedLink a l)) (k .link))

@@ -14,8 +14,7 @@ use Rattle.octets.proofs.Index.{first-holds, first-before}
 use Rattle.rules.specs.Relay.{Slot, empty, used, Ring, makeRing, holds, free, lowestFree}
 use Rattle.rules.specs.Renumbering.{renameSlot}
 use Rattle.rules.specs.Writes.{putNext}
-use Rattle.rules.proofs.Slots.{used-not-empty}
-use Rattle.history.proofs.Looking.{nothing-there}
+use Rattle.rules.proofs.Slots.{used-not-empty, fresh-empty}
 
 unfoldable pub taken : {A : Type 0} → List (Slot A) → ℕ
 taken [] = 0
@@ -134,7 +133,7 @@ pub record Unturned {A : Type 0} (ring : Ring A) (count : ℕ) : Type 0 where
   pub rest : (j : ℕ) → ring .next ≤ j → getD (ring .slots) j empty ≡ empty
 
 pub unturned-fresh : {A : Type 0} (n : ℕ) → Unturned {A = A} (makeRing (replicate n empty) 0) 0
-unturned-fresh n = record { few = le-refl 0; rest = λ j l. nothing-there n j }
+unturned-fresh n = record { few = le-refl 0; rest = λ j l. fresh-empty n j }
 
 module _ {A : Type 0} {ring : Ring A} {count : ℕ} (u : Unturned ring count) where
   pub turned-later : Unturned ring (suc count)

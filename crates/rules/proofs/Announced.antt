@@ -31,7 +31,7 @@ use Rattle.rules.proofs.Stamped.{enact-paths}
 use Rattle.rules.proofs.Held.{judged-relay}
 use Rattle.rules.proofs.Valid.{accepted-valid}
 
-lifetime-some : (mode : ℕ) → 0 < pathLifetime mode
+pub lifetime-some : (mode : ℕ) → 0 < pathLifetime mode
 unfolding pathLifetime
 lifetime-some mode =
     either (λ (n : ℕ). 0 < n) _ (λ _. lit< tt)

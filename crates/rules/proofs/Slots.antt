@@ -36,7 +36,7 @@ module _ {A : Type 0} where
   used-same e = cc
 
   -- ---- what is read after a write, and in a fresh table
-  fresh-empty : (n i : ℕ) → getD {A = Slot A} (replicate n empty) i empty ≡ empty
+  pub fresh-empty : (n i : ℕ) → getD {A = Slot A} (replicate n empty) i empty ≡ empty
   fresh-empty n i = go (decLt i n)
     where
       go : Dec (i < n) → getD {A = Slot A} (replicate n empty) i empty ≡ empty

@@ -31,7 +31,7 @@ use Rattle.rules.proofs.Held.{WayKeeps, PlanKeeps}
 use Rattle.rules.proofs.Valid.{Valid}
 use Rattle.rules.proofs.UniqueAt.{onceAt, UniqueAt}
 
-there-not : {A : Type 0} (s : Slot A) → isThere s ≡ false → s ≡ empty
+pub there-not : {A : Type 0} (s : Slot A) → isThere s ≡ false → s ≡ empty
 unfolding isThere
 there-not empty h = refl
 there-not (used x) h = absurd (false≢true (sym h))
