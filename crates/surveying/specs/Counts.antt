@@ -76,7 +76,7 @@ bytesOutBy port x = leavingBy port (x .answer)
 
 -- packets accepted on a port and dropped, and packets dropped by a test
 unfoldable pub droppedOn : ℕ → Answered → ℕ
-droppedOn port x = acceptedOn port x and not (eqb (testOf (x .answer)) 0) then 1 otherwise 0
+droppedOn port x = not (eqb (testOf (x .answer)) 0) and acceptedOn port x then 1 otherwise 0
 
 unfoldable pub droppedBy : ℕ → Answered → ℕ
 droppedBy test x = eqb (testOf (x .answer)) test then 1 otherwise 0

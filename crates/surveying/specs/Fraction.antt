@@ -4,6 +4,7 @@ use mathlib.Core.Bool.{Bool}
 use lib.Dec.{eqb}
 use Rattle.octets.specs.Choice.{_then_otherwise_}
 use Rattle.octets.specs.Index.{_and_}
+use Rattle.surveying.specs.declared.Fraction.{Fraction}
 
 -- the greatest number from 1 to n that passes, or 0
 unfoldable pub greatestUpTo : (ℕ → Bool) → ℕ → ℕ
@@ -19,10 +20,6 @@ dividesBoth a b d = eqb (a % d) 0 and eqb (b % d) 0
 -- none of two numbers' common divisors is greater than their sum, unless both are 0, which then have 0
 unfoldable pub greatestCommonDivisor : ℕ → ℕ → ℕ
 greatestCommonDivisor a b = greatestUpTo (dividesBoth a b) (a + b)
-
-pub record Fraction : Type 0 where
-  pub above : ℕ
-  pub below : ℕ
 
 unfoldable pub lowestTerms : ℕ → ℕ → Fraction
 lowestTerms a b = record { above = a / greatestCommonDivisor a b; below = b / greatestCommonDivisor a b }

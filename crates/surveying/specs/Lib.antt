@@ -7,4 +7,5 @@ pub mod Start
 pub mod Lines
 pub mod Survey
 pub mod Promise
+pub mod Steps
 pub mod Example

@@ -4,7 +4,8 @@ use mathlib.Core.List.{List, [], _∷_, _++_}
 use Rattle.text.specs.Numerals.{decimal}
 use Rattle.text.specs.Words.{wordsLine, refusedWords}
 use Rattle.surveying.specs.Words.{surveyWord, settingsWord, recordingWord, portWord, packetsWord, inWord, outWord, droppedWord, reasonWord, stroke}
-use Rattle.surveying.specs.Fraction.{Fraction, share}
+use Rattle.surveying.specs.Fraction.{share}
+use Rattle.surveying.specs.declared.Fraction.{Fraction}
 
 -- "The text begins with the line `survey`"
 abbrev pub surveyLine : List ℕ

@@ -8,34 +8,38 @@ use Rattle.octets.specs.Index.{listOf}
 use Rattle.numbers.specs.Numbers.{portCount}
 use Rattle.rules.specs.Relay.{Port, noPort, Slot, empty, used, Relay, fresh}
 use Rattle.rules.specs.View.{isLocal}
-use Rattle.rules.specs.Calls.{newTally}
-use Rattle.rules.specs.Run.{Call, port-setting, rate-setting, adding}
+use Rattle.rules.specs.Calls.{TableCall, sets-port, sets-rate, adds}
 use Rattle.tables.specs.Layout.{bytesOf}
-use Rattle.demands.specs.Bytes.{tablesAfterOn}
+use Rattle.tables.specs.Called.{callOn}
 
 -- ---- the calls that set a fresh relay as another is set
 -- a port: on or off, and its mode
-unfoldable pub portCall : Relay → ℕ → Call
+unfoldable pub portCall : Relay → ℕ → TableCall
 portCall r i =
     let port : Port = getD (r .ports) i noPort in
-    port-setting i (port .on) (port .mode)
+    sets-port i (port .on) (port .mode)
 
 -- the announce rate
-unfoldable pub rateCall : Relay → Call
-rateCall r = rate-setting (r .rate .target) (r .rate .grace) (r .rate .penalty)
+unfoldable pub rateCall : Relay → TableCall
+rateCall r = sets-rate (r .rate .target) (r .rate .grace) (r .rate .penalty)
 
 -- the local addresses, from the lowest place on. Of two equal ones, which a saved relay may have, the second is refused
-unfoldable pub localCalls : List (Slot (List ℕ)) → List Call
+unfoldable pub localCalls : List (Slot (List ℕ)) → List TableCall
 localCalls [] = []
 localCalls (empty ∷ slots) = localCalls slots
-localCalls (used address ∷ slots) = adding address ∷ localCalls slots
+localCalls (used address ∷ slots) = adds address ∷ localCalls slots
 
-unfoldable pub settingCalls : Relay → List Call
+unfoldable pub settingCalls : Relay → List TableCall
 settingCalls r = listOf (portCall r) portCount ++ (rateCall r ∷ localCalls (r .locals))
+
+-- the tables after calls on them, each on what the one before left
+unfoldable pub tablesAfter : List TableCall → List ℕ → List ℕ
+tablesAfter [] tables = tables
+tablesAfter (c ∷ cs) tables = tablesAfter cs (callOn tables c .tables)
 
 -- the tables that every recording is replayed over, each with tally 0
 unfoldable pub startOf : Relay → List ℕ
-startOf r = tablesAfterOn (settingCalls r) (bytesOf (fresh (r .own))) newTally
+startOf r = tablesAfter (settingCalls r) (bytesOf (fresh (r .own)))
 
 -- ---- what these tables hold: own address, ports, announce rate and local addresses of r, and all else of a fresh relay, clock 0 too. The addresses may
 -- lie in other places (StartLaws, starts-as)
