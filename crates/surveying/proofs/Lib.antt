@@ -7,3 +7,5 @@ pub mod StartLaws
 pub mod BoundLaws
 pub mod ReadingLaws
 pub mod SurveyLaws
+pub mod AddressLaws
+pub mod Started

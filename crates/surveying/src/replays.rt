@@ -79,7 +79,8 @@ pub fn add_recording(
         (recordingOn (now (file .entry)) (now (start .entry)) (now (work .entry)) (now (counts .entry)) (now (refusals .entry)))
         r (now (start .entry)) (now (work .exit)) (now (counts .exit)) (now (refusals .exit)) ⌝ }
 {
-    if refusals[0] as usize >= RECORDING_LIMIT {
+    let read = refusals[0];
+    if read as usize >= RECORDING_LIMIT {
         refusals[RECORDING_LIMIT + 1] = ONE_TOO_MANY;
         return ONE_TOO_MANY;
     }

@@ -41,7 +41,10 @@ new-tally-requires : tie.Need-new-tally-requires Inv-loop μ-loop
 new-tally-requires c κs = search needs
 
 loop-holds : tie.Need-loop-holds Inv-loop μ-loop
-loop-holds c = search needs
+unfolding stepsOn addAll
+loop-holds c =
+    let a = c .before .before .before .before .args in
+    (search needs, refl, refl, refl, sym (ap (addAll (a .counts)) (no-answers (a .file .now) (a .work .now) (c .new-tally .result))))
 
 entry-requires : tie.Need-entry-requires Inv-loop μ-loop
 entry-requires c κs = search needs
@@ -62,13 +65,38 @@ loop-less : tie.Need-loop-less Inv-loop μ-loop
 loop-less c = search needs
 
 loop-again : tie.Need-loop-again Inv-loop μ-loop
-loop-again c = search needs
+loop-again c =
+    let a = c .before .before .before .before .before .before .before .before .before .before .before .before .before .before .args in
+    let f = a .file .now in
+    let w = a .work .now in
+    let y = c .before .before .before .before .before .before .before .before .before .before .new-tally .result in
+    let l = c .before .before .before .before .before .before .before .before .before .loop in
+    let step = c .before .before .before .before .step .ensures in (
+      search needs,
+      search needs,
+      next-tables f w y (l .i) (l .work) (l .tally) (l .inv .2) (l .inv .3) _ (step .1),
+      next-tally f w y (l .i) (l .work) (l .tally) (l .inv .2) (l .inv .3) _ (ap (λ (x : Stepped). x .tally) (step .0)),
+      next-counts f w y (l .i) (l .work) (l .tally) (l .inv .2) (l .inv .3) (a .counts) (l .grown) _ (l .inv .4) (c .before .before .before .before .before .before .before .entry .result) (c .before .before .before .before .before .before .before .entry .ensures) _
+          (c .before .before .before .before .before .before .body .ensures) _ (ap (λ (x : Stepped). x .answer) (step .0)) (c .add-one .ensures),
+    )
 
 same-length : tie.Need-same-length Inv-loop μ-loop
 same-length c = search needs
 
 returns : tie.Need-returns Inv-loop μ-loop
-returns c = search needs
+unfolding answersUpTo entriesOf
+returns c =
+    let a = c .before .before .before .before .before .before .args in
+    let f : List ℕ = a .file .now in
+    let w : List ℕ = a .work .now in
+    let y : Tally = c .before .before .new-tally .result in
+    let l = c .before .loop in
+    let end : l .i ≡ countOf f = le-antisymm (omega (arith, c .before .before .before .count .ensures, l .inv .0)) (omega (arith, c .before .before .before .count .ensures, c .loop-test .left)) in (
+      l .inv .4
+          ∙ ap (λ (n : ℕ). addAll (a .counts) (answersUpTo f w y n)) end
+          ∙ ap (λ (z : Tally). addAll (a .counts) (answersUpTo f w z (countOf f))) (c .before .before .new-tally .ensures),
+      l .inv .2 ∙ ap (λ (n : ℕ). stepsOn f n w y .tables) end ∙ ap (λ (z : Tally). stepsOn f (countOf f) w z .tables) (c .before .before .new-tally .ensures),
+    )
 
 pub replay-spec : {M : Type 1} → statement M
 replay-spec =
