@@ -3,6 +3,7 @@ pub mod Widths
 pub mod Alike
 pub mod EditionLaws
 pub mod LoadLaws
+pub mod CurrentLaws
 pub mod SaveLaws
 pub mod Made
 pub mod RoundTrip
