@@ -1,4 +1,4 @@
-/* Plain C for comparison: SHA-256 from FIPS 180-4, and a search among remembered hashes. */
+/* Plain C for comparison: SHA-256 from FIPS 180-4, and searches among remembered hashes and among blobs. */
 #include <stddef.h>
 #include <stdint.h>
 #include <string.h>
@@ -69,6 +69,18 @@ size_t plain_search(const uint8_t *records, size_t count, const uint8_t hash[32]
         while (equal < 32 && record[1 + equal] == hash[equal])
             equal++;
         if (equal == 32 && clock < time_at(record + 33))
+            return place;
+    }
+    return count;
+}
+
+/* The place of a blob of ten bytes, compared from the first byte on. */
+size_t plain_blob(const uint8_t *blobs, size_t count, const uint8_t blob[10]) {
+    for (size_t place = 0; place < count; place++) {
+        size_t equal = 0;
+        while (equal < 10 && blobs[10 * place + equal] == blob[equal])
+            equal++;
+        if (equal == 10)
             return place;
     }
     return count;

@@ -47,10 +47,10 @@ extern "C" {
 #define HASKUMYE_CHECKED
 #endif
 
-#define HASKUMYE_VERSION 3 /* of this interface: it rises where a host has to be changed or compiled again */
+#define HASKUMYE_VERSION 5 /* of this interface: it rises where a host has to be changed or compiled again */
 
 /* Sizes, in bytes unless another unit is named. */
-#define HASKUMYE_TABLE_SIZE 72216 /* a relay's tables, exactly; haskumye_table_size() says the same */
+#define HASKUMYE_TABLE_SIZE 103000 /* a relay's tables, exactly; haskumye_table_size() says the same */
 #define HASKUMYE_OUTPUT_SIZE 500  /* the least output buffer, however short the packet */
 #define HASKUMYE_SHORTEST_PACKET 19 /* 35 in type 2 */
 #define HASKUMYE_LONGEST_PACKET 500
@@ -58,7 +58,7 @@ extern "C" {
 #define HASKUMYE_TEXT_SIZE 160  /* a line of haskumye_line or haskumye_replay_entry, an answer's text or sentence */
 #define HASKUMYE_RECORDING_SIZE 60000 /* the longest recording */
 #define HASKUMYE_ENTRY_WIDTH 12 /* an entry as haskumye_write_recording takes it */
-#define HASKUMYE_SAVED_SIZE 72292 /* what haskumye_save writes, exactly; haskumye_saved_size() says the same */
+#define HASKUMYE_SAVED_SIZE 103076 /* what haskumye_save writes, exactly; haskumye_saved_size() says the same */
 #define HASKUMYE_LONGEST_SAVED 524332 /* no saved file of any edition is longer */
 
 /* Limits: how many of each a relay has room for. */
@@ -134,6 +134,7 @@ enum haskumye_refusal {
     HASKUMYE_REFUSAL_SETTING = 9,         /* setting a port over 15, an unknown mode, or a rate over its limit */
     HASKUMYE_REFUSAL_LOCAL_FULL = 10,     /* a 17th local address */
     HASKUMYE_REFUSAL_LOCAL_ADDRESS = 11,  /* adding a local address already there, or removing one not there */
+    HASKUMYE_REFUSAL_NO_LIVE_PATH = 12,   /* marking a destination that has no live path */
     HASKUMYE_REFUSAL_FILE_LENGTH = 20,    /* a recording over 60,000 bytes, or shorter than its contents; a saved file
                                              of another length than its contents add up to */
     HASKUMYE_REFUSAL_FILE_KIND = 21,      /* another kind of file, or an edition that this library does not know */
@@ -367,6 +368,7 @@ typedef struct {
     haskumye_time last_announce; /* the clock of its last accepted announce */
     uint8_t violations;          /* announces sooner than the target after it, less those forgiven; 255 at most */
     haskumye_time blocked_until; /* while the clock is below, its announces are dropped by 15 */
+    uint8_t unresponsive;        /* 1 where the host marked it, and no announce was taken in since; else 0 */
     uint8_t blob_count;
 } haskumye_path_record;
 
@@ -403,7 +405,7 @@ HASKUMYE_ASSERT_SIZE(haskumye_time, 8);
 HASKUMYE_ASSERT_SIZE(haskumye_port_settings, 2);
 HASKUMYE_ASSERT_SIZE(haskumye_setting, 4);
 HASKUMYE_ASSERT_SIZE(haskumye_rate_settings, 12);
-HASKUMYE_ASSERT_SIZE(haskumye_path_record, 60);
+HASKUMYE_ASSERT_SIZE(haskumye_path_record, 61);
 HASKUMYE_ASSERT_SIZE(haskumye_link_record, 29);
 
 /* ---- Which library this is. ---- */
@@ -451,6 +453,16 @@ HASKUMYE_CHECKED uint8_t haskumye_add_local(uint8_t *tables, size_t length, cons
 
 /* Removes one. Refusals: 7, 11. */
 HASKUMYE_CHECKED uint8_t haskumye_remove_local(uint8_t *tables, size_t length, const haskumye_address *address);
+
+/*
+ * Marks a destination's live path unresponsive: what was sent by it was not answered. Packets still go by it. Of the
+ * destination's announces, one emitted no earlier than the newest held is no longer dropped by 2, 10, 11 or 15, though
+ * it came before; the first that is taken in leads the path its way, and takes the mark off. Marking twice does no more
+ * than once, and no call takes a mark off. The clock is one as packet calls have, and from then on the last accepted.
+ * Refusals: 7, 5, 12.
+ */
+HASKUMYE_CHECKED uint8_t haskumye_mark_path_unresponsive(uint8_t *tables, size_t length,
+                                                         const haskumye_address *destination, uint64_t clock);
 
 /*
  * Renumbers the ports while the relay runs: every stored port becomes its image, and each port's settings move with it.
@@ -531,7 +543,10 @@ HASKUMYE_CHECKED uint8_t haskumye_link(const uint8_t *tables, size_t length, uin
 HASKUMYE_CHECKED uint8_t haskumye_live_returns(const uint8_t *tables, size_t length, uint64_t clock, uint64_t *count);
 HASKUMYE_CHECKED uint8_t haskumye_live_hashes(const uint8_t *tables, size_t length, uint64_t clock, uint64_t *count);
 
-/* The last accepted clock, 0 in a fresh relay: after a restart the clock goes on from there. Never none. */
+/*
+ * The last accepted clock, of packets and of marks, 0 in a fresh relay: after a restart the clock goes on from there.
+ * Never none.
+ */
 HASKUMYE_CHECKED uint8_t haskumye_last_clock(const uint8_t *tables, size_t length, uint64_t *clock);
 
 /*
@@ -656,6 +671,7 @@ static inline const char *haskumye_refusal_words(unsigned refusal)
     case HASKUMYE_REFUSAL_SETTING: return "setting a port over 15, an unknown mode or an announce rate over its limit";
     case HASKUMYE_REFUSAL_LOCAL_FULL: return "adding a 17th local address";
     case HASKUMYE_REFUSAL_LOCAL_ADDRESS: return "adding a local address already there, or removing one not there";
+    case HASKUMYE_REFUSAL_NO_LIVE_PATH: return "marking a destination that has no live path";
     case HASKUMYE_REFUSAL_FILE_LENGTH: return "file too long or shorter than its contents (saved: another length)";
     case HASKUMYE_REFUSAL_FILE_KIND: return "kind or edition";
     case HASKUMYE_REFUSAL_FILE_PLACE: return "offset, length, count or file end that breaks the rule";

@@ -24,7 +24,7 @@ const INDEPENDENT: usize = 1;
 pub const FILLS: [(&str, Fill); 3] = [("empty", Fill::Empty), ("half", Fill::FirstHalf), ("full", Fill::Full)];
 
 /// A call changes the tables, so a turn makes one call on each of so many copies, restored before it outside the time that counts.
-/// All copies (8 of 71 KiB) lie in a second-level cache of 1 MiB, where a busy relay's tables lie too; no first-level cache holds one.
+/// All copies (8 of 101 KiB) lie in a second-level cache of 1 MiB, where a busy relay's tables lie too; no first-level cache holds one.
 pub const COPIES: usize = 8;
 
 /// Nanoseconds of each call on the program beside it.

@@ -139,8 +139,14 @@ fn announce_known(scene: &mut Scene) -> Call {
 }
 
 fn announce_again(scene: &mut Scene) -> Call {
+    announce_again_at(scene, limits::BLOB_LIMIT - 1)
+}
+
+/// A replay of the blob at this place of its path.
+pub fn announce_again_at(scene: &mut Scene, place: usize) -> Call {
     let (packet, destination) = announce(scene, limits::BLOB_LIMIT as u64);
-    known_path(scene, &destination)[path::WIDTH - BLOB..].copy_from_slice(&packet[START_1..][announced::BLOB]);
+    let at = path::BLOBS + place * BLOB;
+    known_path(scene, &destination)[at..at + BLOB].copy_from_slice(&packet[START_1..][announced::BLOB]);
     arriving(packet, Verdict::Drop(Reason::Replay))
 }
 

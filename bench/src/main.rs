@@ -2,10 +2,12 @@
 //! An argument picks the lines that have it in their name.
 
 mod asking;
+mod blobs;
 mod calls;
 mod check;
 mod hashing;
 mod kinds;
+mod marking;
 mod measure;
 mod replays;
 mod saved;
@@ -15,5 +17,6 @@ mod state;
 
 fn main() {
     let only = std::env::args().nth(1).unwrap_or_default();
-    measure::run(only, &[hashing::run, check::run, search::run, calls::run, calls::run_keepalives, asking::run, replays::run, saved::run]);
+    let packets = [calls::run, calls::run_keepalives, asking::run, marking::run, replays::run];
+    measure::run(only, &[&[hashing::run, check::run, search::run, blobs::run][..], &packets, &[saved::run]].concat());
 }

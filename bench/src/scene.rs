@@ -56,7 +56,7 @@ impl Scene {
         self.used(section).max(1) - 1
     }
 
-    /// A live record of random fields: a path with 16 blobs, a proved link.
+    /// A live record of random fields: a path with 64 blobs, a proved link.
     fn use_live(&mut self, table: &Table, place: usize) {
         use_record(&mut self.random, &mut self.tables, &table.records, place);
         let record = table.records.get_mut(&mut self.tables, place);

@@ -83,7 +83,8 @@ fn time(others: Others) -> [f64; 6] {
     })
 }
 
-fn difference(times: &[f64]) -> Vec<f64> {
+/// What the last place costs beyond the first.
+pub fn difference(times: &[f64]) -> Vec<f64> {
     let (first, last) = times.split_at(3);
     first.iter().zip(last).map(|(first, last)| last - first).collect()
 }

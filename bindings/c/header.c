@@ -44,8 +44,8 @@ static void check_accessors(void)
     CHECK(HASKUMYE_ANSWER_PORT(next++) == 15 && next == forward + 1);
     CHECK(HASKUMYE_ANSWER_LENGTH(deliver) == 0 && HASKUMYE_ANSWER_PAYLOAD(forward) == 0);
     CHECK(HASKUMYE_WRITTEN_REFUSAL(6) == HASKUMYE_REFUSAL_OUTPUT && HASKUMYE_WRITTEN_LENGTH(19u << 16) == 19);
-    const haskumye_saved saved = UINT64_C(72292) << 16, not_saved = HASKUMYE_REFUSAL_ROOM;
-    CHECK(HASKUMYE_SAVED_REFUSAL(saved) == HASKUMYE_REFUSAL_NONE && HASKUMYE_SAVED_LENGTH(saved) == 72292);
+    const haskumye_saved saved = UINT64_C(103076) << 16, not_saved = HASKUMYE_REFUSAL_ROOM;
+    CHECK(HASKUMYE_SAVED_REFUSAL(saved) == HASKUMYE_REFUSAL_NONE && HASKUMYE_SAVED_LENGTH(saved) == 103076);
     CHECK(HASKUMYE_SAVED_REFUSAL(not_saved) == HASKUMYE_REFUSAL_ROOM && HASKUMYE_SAVED_LENGTH(not_saved) == 0);
 }
 
@@ -138,12 +138,16 @@ static void check_relay_calls(void)
     CHECK(haskumye_set_announce_rate(NULL, 0, 0, 0, 0) == HASKUMYE_REFUSAL_TABLES);
     CHECK(haskumye_add_local(NULL, 0, &address) == HASKUMYE_REFUSAL_TABLES);
     CHECK(haskumye_remove_local(NULL, 0, &address) == HASKUMYE_REFUSAL_TABLES);
+    CHECK(haskumye_mark_path_unresponsive(NULL, 0, &address, 0) == HASKUMYE_REFUSAL_TABLES);
     CHECK(haskumye_renumber(NULL, 0, &map) == HASKUMYE_REFUSAL_TABLES);
     haskumye_answer answer = haskumye_packet(NULL, 0, 0, 0, 0, NULL, 0, NULL, 0, &tally);
     CHECK(HASKUMYE_ANSWER_REFUSAL(answer) == HASKUMYE_REFUSAL_TABLES);
     CHECK(haskumye_fresh(tables, sizeof tables, &address) == 0);
     CHECK(haskumye_check_tables(tables, sizeof tables) == HASKUMYE_REFUSAL_NONE);
     CHECK(haskumye_set_port(tables, sizeof tables, 0, HASKUMYE_ON, HASKUMYE_MODE_ROAMING) == 0);
+    CHECK(haskumye_mark_path_unresponsive(tables, sizeof tables, &address, 1) == HASKUMYE_REFUSAL_NO_LIVE_PATH);
+    CHECK(haskumye_mark_path_unresponsive(tables, sizeof tables, &address, HASKUMYE_CLOCK_LIMIT) ==
+          HASKUMYE_REFUSAL_CLOCK);
     answer = haskumye_packet(NULL, 0, 0, 0, 0, tables, sizeof tables, NULL, 0, &tally);
     CHECK(HASKUMYE_ANSWER_REFUSAL(answer) == HASKUMYE_REFUSAL_OUTPUT);
     answer = haskumye_packet(NULL, 0, 0, 0, 0, tables, sizeof tables, output, sizeof output, &tally);

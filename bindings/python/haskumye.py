@@ -11,7 +11,7 @@ Signatures, access codes, framing and timers are the host's; docs/HOST.md tells 
         send(answer.port, answer.packet)
 
 Packets, addresses and payloads are bytes-like. A refused call raises Refused and has changed nothing. A call holds Python's lock, so those on one relay
-are made one at a time. The shared library, libhaskumye.so.3, is found in the repository's target/, below the prefix that this file is installed
+are made one at a time. The shared library, libhaskumye.so.5, is found in the repository's target/, below the prefix that this file is installed
 in, or by the system; HASKUMYE_LIBRARY names another file.
 """
 
@@ -23,10 +23,10 @@ import pathlib
 from ctypes import c_char_p, c_size_t, c_uint8, c_uint32, c_uint64, c_void_p
 from typing import NamedTuple, Optional, Union
 
-VERSION = 3  # of the interface, as the header has it
+VERSION = 5  # of the interface, as the header has it
 
 # Sizes in bytes, and limits.
-TABLE_SIZE = 72216
+TABLE_SIZE = 103000
 OUTPUT_SIZE = 500
 SHORTEST_PACKET = 19
 LONGEST_PACKET = 500
@@ -34,7 +34,7 @@ LONGEST_MESSAGE = 65535
 TEXT_SIZE = 160
 RECORDING_SIZE = 60000
 ENTRY_WIDTH = 12
-SAVED_SIZE = 72292
+SAVED_SIZE = 103076
 LONGEST_SAVED = 524332
 PORT_COUNT = 16
 LOCAL_COUNT = 16
@@ -97,6 +97,7 @@ class Refusal(Words):
     SETTING = 9, "setting a port over 15, an unknown mode or an announce rate over its limit"
     LOCAL_FULL = 10, "adding a 17th local address"
     LOCAL_ADDRESS = 11, "adding a local address already there, or removing one not there"
+    NO_LIVE_PATH = 12, "marking a destination that has no live path"
     FILE_LENGTH = 20, "file too long or shorter than its contents (saved: another length)"
     FILE_KIND = 21, "kind or edition"
     FILE_PLACE = 22, "offset, length, count or file end that breaks the rule"
@@ -300,7 +301,7 @@ class AnnounceRate(NamedTuple):
 
 class Path(NamedTuple):
     """A path. It is live while the clock is below its expiry, in seconds. Announces of its destination are dropped by 15 while the clock is below
-    `blocked_until`."""
+    `blocked_until`. It is `unresponsive` where the host marked it, and no announce was taken in since."""
 
     destination: bytes
     port: int
@@ -310,6 +311,7 @@ class Path(NamedTuple):
     last_announce: int
     violations: int
     blocked_until: int
+    unresponsive: bool
     blob_count: int
 
 
@@ -351,6 +353,7 @@ FUNCTIONS = {
     "haskumye_set_announce_rate": (c_uint8, [*_BUFFER, c_uint64, c_uint64, c_uint64]),
     "haskumye_add_local": (c_uint8, [*_BUFFER, _GIVEN]),
     "haskumye_remove_local": (c_uint8, [*_BUFFER, _GIVEN]),
+    "haskumye_mark_path_unresponsive": (c_uint8, [*_BUFFER, _GIVEN, c_uint64]),
     "haskumye_renumber": (c_uint8, [*_BUFFER, _GIVEN]),
     "haskumye_packet": (c_uint64, [*_BYTES, c_uint64, c_uint64, c_uint8, *_BUFFER, *_BUFFER, _TAKEN]),
     "haskumye_answer_text": (c_size_t, [c_uint64, _TAKEN]),
@@ -664,6 +667,13 @@ class Relay:
         """Removes one. Refusal 11 where it is not there."""
         self._call(_library.haskumye_remove_local, _exactly(address, 16, "an address"))
 
+    def mark_path_unresponsive(self, destination, clock):
+        """Marks a destination's live path unresponsive: what was sent by it was not answered. Packets still go by it. Of the destination's announces, one
+        emitted no earlier than the newest held is no longer dropped by 2, 10, 11 or 15, though it came before; the first that is taken in leads the path
+        its way, and takes the mark off. The clock is one as packets have, and from then on the last accepted. Refusal 5 for the clock, 12 where no path
+        of the destination is live at it."""
+        self._call(_library.haskumye_mark_path_unresponsive, _exactly(destination, 16, "an address"), _number(clock))
+
     def renumber(self, ports):
         """Renumbers the ports while the relay runs: port i becomes ports[i]. Nothing is forgotten. Refusal 8 where they are not one-to-one on 0..15."""
         self._call(_library.haskumye_renumber, _exactly(bytes(ports), 16, "a map"))
@@ -709,11 +719,11 @@ class Relay:
 
     def path(self, place):
         """The path at a place, below PATH_COUNT, live or not; None where it is empty."""
-        return _path(self._told(_library.haskumye_path, 60, _number(place)))
+        return _path(self._told(_library.haskumye_path, 61, _number(place)))
 
     def live_path(self, destination, clock):
         """A destination's live path at a clock, or None."""
-        return _path(self._told(_library.haskumye_live_path, 60, _exactly(destination, 16, "an address"), _number(clock)))
+        return _path(self._told(_library.haskumye_live_path, 61, _exactly(destination, 16, "an address"), _number(clock)))
 
     def link(self, place):
         """The link at a place, below LINK_COUNT, live or not; None where it is empty."""
@@ -750,7 +760,7 @@ def _path(told):
     if told is None:
         return None
     time = lambda at: int.from_bytes(told[at : at + 8], "big")
-    return Path(told[:16], told[16], told[17], told[18:34], time(34), time(42), told[50], time(51), told[59])
+    return Path(told[:16], told[16], told[17], told[18:34], time(34), time(42), told[50], time(51), told[59] == 1, told[60])
 
 
 def _fields(number):

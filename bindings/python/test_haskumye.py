@@ -169,6 +169,8 @@ class TestRefusals(unittest.TestCase):
         self.refused(Refusal.SETTING, box.set_announce_rate, 0, 0, (1 << 64) - 1)
         self.assertEqual(box.announce_rate, AnnounceRate(0, 0, 0))
         self.refused(Refusal.MAP, box.renumber, [0] * 16)
+        self.refused(Refusal.NO_LIVE_PATH, box.mark_path_unresponsive, DESK, 1)
+        self.refused(Refusal.CLOCK, box.mark_path_unresponsive, DESK, haskumye.CLOCK_LIMIT)
         box.remove_local(bytes(16))
 
     def test_packets_and_tables(self):
@@ -186,9 +188,11 @@ class TestRefusals(unittest.TestCase):
             self.assertRaises(OverflowError, box.packet, packet, 0, wrong)
             self.assertRaises(OverflowError, box.set_port, wrong, True, Mode.ROAMING)
             self.assertRaises(OverflowError, box.set_announce_rate, 0, wrong, 0)
+            self.assertRaises(OverflowError, box.mark_path_unresponsive, DESK, wrong)
         self.assertRaises(OverflowError, haskumye.write, Parts(hops=256))
         self.assertRaises(TypeError, box.packet, packet, 0.5, 1)
         self.assertRaises(ValueError, box.add_local, bytes(15))
+        self.assertRaises(ValueError, box.mark_path_unresponsive, bytes(17), 1)
         self.assertRaises(ValueError, box.renumber, range(15))
 
 
@@ -272,7 +276,7 @@ class TestQuestions(unittest.TestCase):
     def test_a_path_and_its_receipt(self):
         box, (packet, destination) = relay(3), announce()
         box.packet(packet, 1, 1000, signed=True)
-        path = Path(destination, 1, 0, destination, 1000 + 604800, 1000, 0, 0, 1)
+        path = Path(destination, 1, 0, destination, 1000 + 604800, 1000, 0, 0, False, 1)
         self.assertEqual((box.path(0), box.path(1), box.path(64)), (path, None, None))
         self.assertEqual([box.live_path(destination, clock) for clock in (1000, path.expiry - 1, path.expiry)], [path, path, None])
         self.assertIsNone(box.live_path(DESK, 1000))
@@ -294,6 +298,30 @@ class TestQuestions(unittest.TestCase):
         self.assertEqual(box.path(0)[5:8], (1670, 2, 1670))
         box.set_announce_rate(*AnnounceRate())
         self.assertEqual(box.path(0)[5:8], (1670, 2, 1670))
+
+    def test_an_unresponsive_path(self):
+        """A box dies, and comes back by another way before it announces itself anew: its path leads the new way only where it is marked."""
+        box, (packet, destination) = relay(3), announce(5)
+        box.packet(packet, 0, 1000, signed=True)
+        path = box.path(0)
+        self.assertEqual(box.packet(packet, 1, 1400, signed=True), Drop(Reason.REPLAY))
+        box.mark_path_unresponsive(bytearray(destination), 1500)
+        self.assertEqual((box.path(0), box.last_clock), (path._replace(unresponsive=True), 1500))
+        older = announce(4)[0]
+        self.assertEqual(box.packet(older, 1, 1500, signed=True), Drop(Reason.NOT_BETTER))
+        self.assertIs(box.signature_matters(packet, 1, 1500), True)
+        self.assertEqual(box.packet(packet, 1, 1500, signed=True).ports, (0, 2))
+        self.assertEqual(box.path(0), path._replace(port=1, expiry=1500 + 604800, last_announce=1500))
+        self.assertEqual(box.packet(packet, 1, 1501, signed=True), Drop(Reason.DUPLICATE))
+
+    def test_blobs(self):
+        """The oldest of 65 announces is forgotten, so that it is no replay when it comes round again."""
+        box = relay()
+        for emission in range(1, 66):
+            box.packet(announce(emission)[0], 0, 1000, signed=True)
+            self.assertEqual(box.path(0).blob_count, min(emission, 64))
+        for emission, reason in (1, Reason.NOT_BETTER), (2, Reason.REPLAY), (65, Reason.REPLAY):
+            self.assertEqual(box.packet(announce(emission)[0], 0, 1300, signed=True), Drop(reason))
 
     def test_a_link(self):
         box, (packet, destination) = relay(3), announce()
@@ -384,7 +412,7 @@ class TestSaved(unittest.TestCase):
     def test_what_is_saved_loads(self):
         box = self.box()
         file = box.save()
-        self.assertEqual((len(file), file[:4]), (haskumye.SAVED_SIZE, bytes([2, 2, 0, 8])))
+        self.assertEqual((len(file), file[:4]), (haskumye.SAVED_SIZE, bytes([2, 4, 0, 8])))
         self.assertEqual(file[52:-24], box.tables)
         self.assertEqual(file[-24:], bytes(range(1, 21)) + bytes([0xFF] * 4))
         for given in (file, bytearray(file), memoryview(file)):
@@ -411,9 +439,11 @@ class TestSaved(unittest.TestCase):
             (21, spoiled(0, 1)),
             (21, spoiled(1, 0)),
             (21, spoiled(1, 255)),
-            (22, bytes([2, 2, 0, 0])),
+            (22, bytes([2, 4, 0, 0])),
             (22, spoiled(7, 53)),
             (24, spoiled(1, 1)),  # bodies longer than an older edition's
+            (24, spoiled(1, 2)),
+            (24, spoiled(1, 3)),
             (24, spoiled(89, 3)),
         ]
         for refusal, wrong in files:
@@ -428,6 +458,9 @@ class TestSaved(unittest.TestCase):
             box = Relay.load(path.read_bytes())
             self.assertEqual(box.local(3), bytes([3] * 16))
             self.assertEqual((box.last_clock, box.tally.kept), (0x0102030405, 1))
+            marked = [place for place in range(haskumye.PATH_COUNT) if box.path(place).unresponsive]
+            self.assertEqual(marked, [15, 17, 18] if path.read_bytes()[1] >= 3 else [])
+            self.assertEqual((box.path(5).blob_count, box.path(6).blob_count), (20, 64) if path.read_bytes()[1] >= 4 else (1, 16))
 
 
 class TestAgreement(unittest.TestCase):

@@ -72,7 +72,7 @@ static void print_paths(FILE *page, const struct state *state, uint64_t clock)
         if (haskumye_path(state->tables, sizeof state->tables, i, &path) == HASKUMYE_REFUSAL_NONE) {
             fprintf(page, "path ");
             print_address(page, &path.destination);
-            fprintf(page, " hops %u port %u", path.hops, path.port);
+            fprintf(page, " hops %u port %u%s", path.hops, path.port, path.unresponsive ? " unresponsive" : "");
             print_blocked(page, &path, clock);
             print_expiry(page, path.expiry, clock);
         }

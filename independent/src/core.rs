@@ -103,11 +103,6 @@ pub fn set_announce_rate(tables: &mut [u8], rate: &AnnounceRate) -> u8 {
     unsafe { haskumye_set_announce_rate(tables.as_mut_ptr(), tables.len(), rate.target, rate.grace, rate.penalty) }
 }
 
-// Until the bindings declare it.
-extern "C" {
-    fn haskumye_mark_path_unresponsive(tables: *mut u8, size: usize, destination: *const Address, clock: u64) -> u8;
-}
-
 pub fn mark_path_unresponsive(tables: &mut [u8], destination: &Address, clock: u64) -> u8 {
     unsafe { haskumye_mark_path_unresponsive(tables.as_mut_ptr(), tables.len(), destination, clock) }
 }

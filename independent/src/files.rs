@@ -1,7 +1,9 @@
 //! Saved files made for a test: contents of any bodies, and what an older program would have saved.
 
-use crate::saved::editions::{lengths, records, CURRENT, EDITIONS};
+use crate::limits::BLOB_LIMIT;
+use crate::saved::editions::{blob_limit, lengths, place, records, CURRENT, EDITIONS, PATH};
 use crate::saved::{contents, loading, CONTENTS, KIND};
+use crate::tables::{path, PATHS};
 
 /// The contents of a file whose bodies have these lengths.
 pub fn contents_of(edition: u8, lengths: &[usize]) -> Vec<u8> {
@@ -16,7 +18,8 @@ pub fn contents_of(edition: u8, lengths: &[usize]) -> Vec<u8> {
     bytes
 }
 
-/// A file of the current edition without the fields that were added since an older one. Any other file stays.
+/// A file of the current edition without the fields that were added since an older one, and of more blobs than that had room for the first ones.
+/// Any other file stays.
 pub fn aged(file: &[u8], edition: u8) -> Vec<u8> {
     let whole = !loading::saved_length_refused(file) && loading::entries(file).map(|(_, length)| length).eq(lengths(CURRENT));
     if !whole || file[..2] != [KIND, CURRENT] || !(1..=CURRENT).contains(&edition) {
@@ -27,7 +30,16 @@ pub fn aged(file: &[u8], edition: u8) -> Vec<u8> {
     for added in EDITIONS[usize::from(edition)..].iter().rev().flat_map(|added| added.iter().rev()) {
         bodies[added.body] = without(&bodies[added.body], added.body, added.at, added.unsaved.len());
     }
-    [contents_of(edition, &lengths(edition)), bodies.concat()].concat()
+    let mut aged = [contents_of(edition, &lengths(edition)), bodies.concat()].concat();
+    (0..PATHS.records.count).for_each(|record| limit_blobs(&mut aged[place(edition, PATH, record, path::BLOB_COUNT)], blob_limit(edition)));
+    aged
+}
+
+/// A count that is allowed today is no more than an older limit. Any other stays.
+fn limit_blobs(count: &mut u8, limit: usize) {
+    if usize::from(*count) <= BLOB_LIMIT {
+        *count = (*count).min(limit as u8);
+    }
 }
 
 /// A body whose records lose some bytes at a place.
@@ -45,7 +57,7 @@ mod tests {
     use crate::rules::{AsWritten, Rules};
     use crate::samples::{filled, Fill};
     use crate::saved::LENGTH;
-    use crate::tables::{path, RateEntry, PATHS, RATE, SIZE};
+    use crate::tables::{RateEntry, BLOB, RATE, SIZE};
 
     /// An older file loads as the tables that it is of, without the fields that it lacks.
     #[test]
@@ -61,6 +73,10 @@ mod tests {
                     RateEntry::default().write(path);
                 }
                 path[path::UNRESPONSIVE] = if edition < 3 { 0 } else { path[path::UNRESPONSIVE] };
+                if edition < 4 {
+                    path[path::BLOB_COUNT] = path[path::BLOB_COUNT].min(16);
+                    path[path::BLOBS + 16 * BLOB..].fill(0);
+                }
             }
             let mut file = vec![0; LENGTH];
             AsWritten.put_saved(&tables, &[7; 6], &mut file);

@@ -2,9 +2,11 @@
 
 /// "16 ports, 0 to 15, each on or off and boundary, access point or roaming."
 pub const PORT_COUNT: usize = 16;
-/// "64 paths, 16 stored blobs each."
+/// "64 paths, 16 stored blobs each." Wish 8: "Store 64 per path."
 pub const PATH_COUNT: usize = 64;
-pub const BLOB_LIMIT: usize = 16;
+pub const BLOB_LIMIT: usize = 64;
+/// "Refusal 7 reads 1..64, 1..16 in older files."
+pub const OLDER_BLOB_LIMIT: usize = 16;
 /// "64 links."
 pub const LINK_COUNT: usize = 64;
 /// "512 return records."

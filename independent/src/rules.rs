@@ -12,7 +12,7 @@ pub use crate::relay::renumbering::Map;
 pub use crate::relay::{
     accept, announces, by_path, form, judge, links, marks, outgoing, rate, renumbering, returns, settings, Arrival, Packet,
 };
-pub use crate::saved::{loading, saving};
+pub use crate::saved::{editions, loading, saving};
 pub use crate::sha256::Sha256;
 pub use crate::tables::{self, check, tuned, AnnounceRate, Link, Mode, Path, Port, RateEntry, Return, Section, Table};
 
@@ -207,6 +207,7 @@ macro_rules! every_rule {
             loading::count_refused(count: usize) -> bool;
             loading::offsets_run(file: &[u8]) -> bool;
             loading::bodies_refused(&rules, file: &[u8]) -> bool;
+            editions::blob_limit(edition: u8) -> usize;
             loading::body_lengths_allowed(file: &[u8]) -> bool;
             loading::loading_room_refused(tables: &[u8]) -> bool;
             loading::put_loaded(file: &[u8], tables: &mut [u8], tally: &mut Tally);
@@ -244,7 +245,7 @@ pub struct AsWritten;
 
 impl Rules for AsWritten {}
 
-/// The same, and refusal 7 by the tuned check.
+/// The same, and refusal 7 by the tuned check, blobs by the tuned searches.
 #[derive(Clone, Copy, Debug)]
 pub struct Tuned;
 
@@ -252,5 +253,20 @@ impl Rules for Tuned {
     #[inline(always)]
     fn tables_allowed(&self, tables: &[u8]) -> bool {
         tuned::tables_allowed(tables)
+    }
+
+    #[inline(always)]
+    fn is_replay(&self, blob: &[u8], path: &[u8]) -> bool {
+        tuned::holds(blob, path)
+    }
+
+    #[inline(always)]
+    fn greatest_emission(&self, path: &[u8]) -> u64 {
+        tuned::greatest_emission(path)
+    }
+
+    #[inline(always)]
+    fn holds_blob(&self, blob: &[u8], path: &[u8]) -> bool {
+        marks::is_marked(path) && tuned::holds(blob, path)
     }
 }

@@ -36,7 +36,7 @@ impl Clause {
             Clause::YesOrNo => random.pick(&[0, 1, 1, 2, 3, 255]),
             Clause::Mode => random.pick(&[0, 1, 2, 3, 4, 255]),
             Clause::Port => random.pick(&[0, 14, 15, 16, 17, 31, 255]),
-            Clause::BlobCount => random.pick(&[0, 1, 2, BLOB_LIMIT as u8 - 1, BLOB_LIMIT as u8, BLOB_LIMIT as u8 + 1, 255]),
+            Clause::BlobCount => random.pick(&[0, 1, 2, 16, 17, BLOB_LIMIT as u8 - 1, BLOB_LIMIT as u8, BLOB_LIMIT as u8 + 1, 255]),
             Clause::Time(latest) => {
                 let times = [0, CLOCK_LIMIT - 1, CLOCK_LIMIT, latest - 1, latest, latest + 1, latest + 2, 1 << 48, 1 << 63, u64::MAX];
                 return random.pick(&times).to_be_bytes().to_vec();

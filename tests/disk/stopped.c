@@ -358,7 +358,8 @@ static void try_losses(const char *folder)
     use_folder(folder);
     save_until(folder, &new_state, NO_STEP, BEFORE);
     read_file(folder, SAVED, &whole);
-    for (size_t at = 0; at < whole.length; at += 509) {
+    /* Closer behind the tables: of what is there the seal alone sees that it changed. */
+    for (size_t at = 0; at < whole.length; at += at + 509 < HASKUMYE_TABLE_SIZE ? 509 : 17) {
         spoiled = whole;
         spoiled.length = at;
         expect_seen(folder, &spoiled, "a cut file is seen", at);

@@ -180,7 +180,7 @@ class TestDisk(unittest.TestCase):
         self.save_until(NEW)
         path = self.folder / SAVED
         whole = path.read_bytes()
-        for at in range(0, len(whole), 509):
+        for at in (*range(0, len(whole), 509), *range(haskumye.TABLE_SIZE, len(whole), 17)):
             changed = whole[:at] + bytes([whole[at] ^ 1]) + whole[at + 1 :]
             for spoiled in (whole[:at], whole[:at].ljust(len(whole), b"\0"), changed):
                 path.write_bytes(spoiled)

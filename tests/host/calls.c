@@ -103,6 +103,10 @@ static bool read_call(const char **at, struct listed *call)
     if (word(at, "set")) {
         return read_setting(at, call);
     }
+    if (word(at, "mark")) {
+        call->function = MARK_PATH_UNRESPONSIVE;
+        return sixteen(at, &call->bytes) && word(at, "clock") && number(at, &call->clock);
+    }
     if (word(at, "renumber")) {
         call->function = RENUMBER;
         return sixteen(at, &call->bytes);

@@ -58,6 +58,12 @@ static uint64_t remove_local(const struct use *use)
     return haskumye_remove_local(use->tables.bytes, use->tables.length, (const haskumye_address *)use->input.bytes);
 }
 
+static uint64_t mark_path_unresponsive(const struct use *use)
+{
+    return haskumye_mark_path_unresponsive(use->tables.bytes, use->tables.length,
+                                           (const haskumye_address *)use->input.bytes, use->clock);
+}
+
 static uint64_t renumber(const struct use *use)
 {
     return haskumye_renumber(use->tables.bytes, use->tables.length, (const haskumye_port_map *)use->input.bytes);
@@ -256,6 +262,7 @@ static const struct {
     [SET_ANNOUNCE_RATE] = {"haskumye_set_announce_rate", set_announce_rate},
     [ADD_LOCAL] = {"haskumye_add_local", add_local},
     [REMOVE_LOCAL] = {"haskumye_remove_local", remove_local},
+    [MARK_PATH_UNRESPONSIVE] = {"haskumye_mark_path_unresponsive", mark_path_unresponsive},
     [RENUMBER] = {"haskumye_renumber", renumber},
     [PACKET] = {"haskumye_packet", packet},
     [ANSWER_TEXT] = {"haskumye_answer_text", answer_text},

@@ -16,6 +16,7 @@ enum function {
     SET_ANNOUNCE_RATE,
     ADD_LOCAL,
     REMOVE_LOCAL,
+    MARK_PATH_UNRESPONSIVE,
     RENUMBER,
     PACKET,
     ANSWER_TEXT,

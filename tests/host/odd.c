@@ -96,6 +96,11 @@ static void odd_tables(size_t size)
     expect("add local", library_call(ADD_LOCAL, &use), refusal);
     expect("remove local", library_call(REMOVE_LOCAL, &use), refusal);
     expect("remove local again", library_call(REMOVE_LOCAL, &use), right ? HASKUMYE_REFUSAL_LOCAL_ADDRESS : refusal);
+    expect("mark without a path", library_call(MARK_PATH_UNRESPONSIVE, &use),
+           right ? HASKUMYE_REFUSAL_NO_LIVE_PATH : refusal);
+    use.clock = HASKUMYE_CLOCK_LIMIT;
+    expect("mark at a wrong clock", library_call(MARK_PATH_UNRESPONSIVE, &use),
+           right ? HASKUMYE_REFUSAL_CLOCK : refusal);
     expect("no map", library_call(RENUMBER, &use), right ? HASKUMYE_REFUSAL_MAP : refusal);
     for (uint8_t i = 0; i < 16; i++) {
         use.input.bytes[i] = 15 - i;

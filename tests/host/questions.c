@@ -13,10 +13,10 @@ struct table {
     size_t start, count, width, expiry;
 };
 
-static const struct table locals = {68, HASKUMYE_LOCAL_COUNT, 17, 0}, paths = {340, HASKUMYE_PATH_COUNT, 221, 35},
-                          links = {14484, HASKUMYE_LINK_COUNT, 30, 22},
-                          returns = {16406, HASKUMYE_RETURN_COUNT, 27, 19},
-                          hashes = {30232, HASKUMYE_HASH_COUNT, 41, 33};
+static const struct table locals = {68, HASKUMYE_LOCAL_COUNT, 17, 0}, paths = {340, HASKUMYE_PATH_COUNT, 702, 35},
+                          links = {45268, HASKUMYE_LINK_COUNT, 30, 22},
+                          returns = {47190, HASKUMYE_RETURN_COUNT, 27, 19},
+                          hashes = {61016, HASKUMYE_HASH_COUNT, 41, 33};
 enum { CLOCK_PLACE = 16, RATE_PLACE = 24, PORTS_PLACE = 36 };
 
 static uint64_t number_at(const uint8_t *bytes)
@@ -83,7 +83,7 @@ static void try_refused(const struct use *use)
     static const struct {
         enum function function;
         size_t size;
-    } questions[] = {{PORT, 2}, {ANNOUNCE_RATE, 12}, {LOCAL, 16}, {PATH, 60}, {LIVE_PATH, 60}, {LINK, 29},
+    } questions[] = {{PORT, 2}, {ANNOUNCE_RATE, 12}, {LOCAL, 16}, {PATH, 61}, {LIVE_PATH, 61}, {LINK, 29},
                      {LIVE_RETURNS, 8}, {LIVE_HASHES, 8}, {LAST_CLOCK, 8}};
     for (size_t i = 0; i < sizeof questions / sizeof questions[0]; i++) {
         ask(questions[i].function, *use, NULL, questions[i].size, HASKUMYE_REFUSAL_TABLES);

@@ -15,17 +15,21 @@ enum {
     FILL = 0xee
 };
 
-static const size_t lengths[ENTRIES] = {36, 32, 272, 14144, 1920, 13826, 41986, 24};
+static const size_t lengths[ENTRIES] = {36, 32, 272, 44928, 1920, 13826, 41986, 24};
 
-/* What edition 1 lacks: the announce rate behind the last clock, and in each path what is kept of its announces. */
+/* What older editions lack: the announce rate behind the last clock, and in each path what is kept of its announces,
+   its mark, and all blob places but sixteen. */
 enum {
     RATE_AT = 24,
     RATE_WIDTH = 12,
     PATHS_AT = 340,
-    PATH_WIDTH = 221,
-    ENTRY_RATE_AT = 43,
-    ENTRY_RATE_WIDTH = 17,
-    OLD_SIZE = HASKUMYE_SAVED_SIZE - RATE_WIDTH - HASKUMYE_PATH_COUNT * ENTRY_RATE_WIDTH
+    PATH_WIDTH = 702,
+    EXPIRY_AT = 35,
+    LAST_ANNOUNCE_AT = 43,
+    UNRESPONSIVE_AT = 60,
+    BLOB_COUNT_AT = 61,
+    MORE_BLOBS_AT = 222,
+    EDITION = 4
 };
 
 /* How many bytes of a buffer are this one, from a place on. */
@@ -72,7 +76,7 @@ static void expect_tally(const uint8_t *file, struct buffer tally)
 static void expect_contents(const uint8_t *file)
 {
     size_t place = CONTENTS;
-    expect("kind, edition and count", number_at(file, 4), 0x02020008);
+    expect("kind, edition and count", number_at(file, 4), 0x02000008 | EDITION << 16);
     for (size_t i = 0; i < ENTRIES; i++) {
         expect("an offset", number_at(file + 4 + ENTRY_WIDTH * i, 4), place);
         expect("a length", number_at(file + 8 + ENTRY_WIDTH * i, 2), lengths[i]);
@@ -131,6 +135,22 @@ void saved_try(struct buffer tables, struct buffer tally)
     buffer_free(&file);
 }
 
+/* A path that is used, marked, and holds a blob; its spare places hold bytes too. */
+static void put_path(uint8_t *path)
+{
+    for (uint8_t i = 0; i < EXPIRY_AT; i++) {
+        path[i] = (uint8_t)(1 + i % 15);
+    }
+    put_number(path + EXPIRY_AT, 8, 0x102030405);
+    put_number(path + LAST_ANNOUNCE_AT, 8, 0x504030201);
+    path[LAST_ANNOUNCE_AT + 8] = 6;
+    put_number(path + LAST_ANNOUNCE_AT + 9, 8, 0x607080900);
+    put_number(path + UNRESPONSIVE_AT, 2, 0x0101);
+    for (size_t i = BLOB_COUNT_AT + 1; i < PATH_WIDTH; i++) {
+        path[i] = (uint8_t)(1 + i % 251);
+    }
+}
+
 /* Tables that are no fresh relay's: every byte of the own address and of the tally is another. */
 static struct buffer make_tables(struct buffer *tally)
 {
@@ -143,6 +163,7 @@ static struct buffer make_tables(struct buffer *tally)
     expect("set port", library_call(SET_PORT, &use), 0);
     expect("set announce rate", library_call(SET_ANNOUNCE_RATE, &use), 0);
     expect("add local", library_call(ADD_LOCAL, &use), 0);
+    put_path(use.tables.bytes + PATHS_AT);
     *tally = buffer_new(sizeof(haskumye_tally), 0);
     for (uint8_t i = 0; i < tally->length; i++) {
         tally->bytes[i] = (uint8_t)(1 + i);
@@ -191,18 +212,20 @@ static void load_changed(struct buffer file, size_t at, size_t width, uint64_t n
 
 static void try_heads(struct buffer file)
 {
-    static const uint8_t editions[] = {0, 3, 128, 255};
+    static const uint8_t editions[] = {0, EDITION + 1, 128, 255};
     load_changed(file, 0, 1, 1, HASKUMYE_REFUSAL_FILE_KIND);
     load_changed(file, 0, 1, 0, HASKUMYE_REFUSAL_FILE_KIND);
     for (size_t i = 0; i < sizeof editions; i++) {
         load_changed(file, 1, 1, editions[i], HASKUMYE_REFUSAL_FILE_KIND);
     }
-    load_changed(file, 1, 1, 1, HASKUMYE_REFUSAL_FILE_BODY); /* longer bodies than edition 1 has */
+    for (uint8_t older = 1; older < EDITION; older++) {
+        load_changed(file, 1, 1, older, HASKUMYE_REFUSAL_FILE_BODY); /* longer bodies than it has */
+    }
     load_changed(file, 2, 2, ENTRIES - 1, HASKUMYE_REFUSAL_FILE_LENGTH);
     load_changed(file, 2, 2, 0, HASKUMYE_REFUSAL_FILE_LENGTH);
     load_changed(file, 2, 2, 0xffff, HASKUMYE_REFUSAL_FILE_LENGTH);
     /* A count that adds up: of no entries, and of seven, in a file that lacks an entry and the tally. */
-    static uint8_t empty[] = {2, 2, 0, 0};
+    static uint8_t empty[] = {2, EDITION, 0, 0};
     expect_load("a file of no entries", (struct buffer){empty, sizeof empty}, 0, HASKUMYE_REFUSAL_FILE_PLACE);
     put_number(file.bytes + 2, 2, ENTRIES - 1);
     load_resized(file, file.length - ENTRY_WIDTH - lengths[ENTRIES - 1], HASKUMYE_REFUSAL_FILE_PLACE);
@@ -249,14 +272,21 @@ static void try_bodies(struct buffer file)
         {120 + 17, 1, 2, HASKUMYE_REFUSAL_FILE_BODY},                     /* the mark of local address 1 */
         {120 + 18, 1, 1, HASKUMYE_REFUSAL_FILE_BODY},                     /* a byte of it, which is unused */
         {392, 1, 2, HASKUMYE_REFUSAL_FILE_BODY},                          /* paths */
-        {14536 - 1, 1, 1, HASKUMYE_REFUSAL_FILE_BODY},
-        {14536, 1, 2, HASKUMYE_REFUSAL_FILE_BODY},                        /* links */
-        {16456 - 1, 1, 1, HASKUMYE_REFUSAL_FILE_BODY},
-        {16456, 2, HASKUMYE_RETURN_COUNT - 1, 0},                         /* the ring place of return records */
-        {16456, 2, HASKUMYE_RETURN_COUNT, HASKUMYE_REFUSAL_FILE_BODY},
-        {30282 - 1, 1, 1, HASKUMYE_REFUSAL_FILE_BODY},
-        {30282, 2, HASKUMYE_HASH_COUNT - 1, 0},                           /* that of hashes */
-        {30282, 2, HASKUMYE_HASH_COUNT, HASKUMYE_REFUSAL_FILE_BODY},
+        {392 + UNRESPONSIVE_AT, 1, 0, 0},                                 /* whether one is marked */
+        {392 + UNRESPONSIVE_AT, 1, 2, HASKUMYE_REFUSAL_FILE_BODY},
+        {392 + UNRESPONSIVE_AT, 1, 255, HASKUMYE_REFUSAL_FILE_BODY},
+        {392 + BLOB_COUNT_AT, 1, 0, HASKUMYE_REFUSAL_FILE_BODY},          /* how many blobs it holds */
+        {392 + BLOB_COUNT_AT, 1, 17, 0},
+        {392 + BLOB_COUNT_AT, 1, 64, 0},
+        {392 + BLOB_COUNT_AT, 1, 65, HASKUMYE_REFUSAL_FILE_BODY},
+        {45320 - 1, 1, 1, HASKUMYE_REFUSAL_FILE_BODY},
+        {45320, 1, 2, HASKUMYE_REFUSAL_FILE_BODY},                        /* links */
+        {47240 - 1, 1, 1, HASKUMYE_REFUSAL_FILE_BODY},
+        {47240, 2, HASKUMYE_RETURN_COUNT - 1, 0},                         /* the ring place of return records */
+        {47240, 2, HASKUMYE_RETURN_COUNT, HASKUMYE_REFUSAL_FILE_BODY},
+        {61066 - 1, 1, 1, HASKUMYE_REFUSAL_FILE_BODY},
+        {61066, 2, HASKUMYE_HASH_COUNT - 1, 0},                           /* that of hashes */
+        {61066, 2, HASKUMYE_HASH_COUNT, HASKUMYE_REFUSAL_FILE_BODY},
         {TALLY_AT - 1, 1, 1, HASKUMYE_REFUSAL_FILE_BODY},
         {TALLY_AT, 8, UINT64_MAX, 0},
     };
@@ -265,56 +295,96 @@ static void try_bodies(struct buffer file)
     }
 }
 
-/* Whether a byte of the tables stands in edition 1's bodies too. */
-static bool is_old(size_t place)
+/* The edition that brought a byte of the tables. */
+static uint8_t brought_by(size_t place)
 {
     if (place >= RATE_AT && place < RATE_AT + RATE_WIDTH) {
-        return false;
+        return 2;
     }
-    bool in_path = place >= PATHS_AT && place < PATHS_AT + HASKUMYE_PATH_COUNT * PATH_WIDTH;
+    if (place < PATHS_AT || place >= PATHS_AT + HASKUMYE_PATH_COUNT * PATH_WIDTH) {
+        return 1;
+    }
     size_t at = (place - PATHS_AT) % PATH_WIDTH;
-    return !in_path || at < ENTRY_RATE_AT || at >= ENTRY_RATE_AT + ENTRY_RATE_WIDTH;
-}
-
-/* The head and the contents of the same relay's file in edition 1. */
-static void put_old_contents(const uint8_t *file, uint8_t *old)
-{
-    size_t place = CONTENTS;
-    memcpy(old, file, CONTENTS);
-    old[1] = 1;
-    for (size_t i = 0; i < ENTRIES; i++) {
-        size_t lacking = i == 0 ? RATE_WIDTH : i == 3 ? HASKUMYE_PATH_COUNT * ENTRY_RATE_WIDTH : 0;
-        put_number(old + 4 + ENTRY_WIDTH * i, 4, place);
-        put_number(old + 8 + ENTRY_WIDTH * i, 2, lengths[i] - lacking);
-        place += lengths[i] - lacking;
+    if (at >= MORE_BLOBS_AT) {
+        return 4;
     }
+    return at == UNRESPONSIVE_AT ? 3 : at >= LAST_ANNOUNCE_AT && at < UNRESPONSIVE_AT ? 2 : 1;
 }
 
-/* The bodies, and the tables that a load makes of them: zeros where edition 1 has no field. */
-static void put_old_bodies(const uint8_t *file, uint8_t *old, uint8_t *tables)
+/* Where a byte of the tables stands in an edition's file. */
+static size_t place_in(uint8_t edition, size_t place)
+{
+    size_t at = CONTENTS;
+    for (size_t i = 0; i < place; i++) {
+        at += brought_by(i) <= edition;
+    }
+    return at;
+}
+
+/* The head and the contents of the same relay's file in an older edition. Returns the file's size. */
+static size_t put_old_contents(const uint8_t *file, uint8_t *old, uint8_t edition)
+{
+    size_t place = CONTENTS, section = 0;
+    memcpy(old, file, CONTENTS);
+    old[1] = edition;
+    for (size_t i = 0; i < ENTRIES; i++) {
+        size_t length = 0;
+        for (size_t at = section; at < section + lengths[i]; at++) {
+            length += brought_by(at) <= edition;
+        }
+        put_number(old + 4 + ENTRY_WIDTH * i, 4, place);
+        put_number(old + 8 + ENTRY_WIDTH * i, 2, length);
+        place += length;
+        section += lengths[i];
+    }
+    return place;
+}
+
+/* The bodies, and the tables that a load makes of them: zeros where the edition has no field. */
+static void put_old_bodies(const uint8_t *file, uint8_t *old, uint8_t *tables, uint8_t edition)
 {
     size_t end = CONTENTS;
     for (size_t i = 0; i < HASKUMYE_TABLE_SIZE; i++) {
-        tables[i] = is_old(i) ? file[CONTENTS + i] : 0;
-        if (is_old(i)) {
+        bool there = brought_by(i) <= edition;
+        tables[i] = there ? file[CONTENTS + i] : 0;
+        if (there) {
             old[end++] = tables[i];
         }
     }
     memcpy(old + end, file + TALLY_AT, sizeof(haskumye_tally));
 }
 
-static void try_older(struct buffer file)
+/* An older edition's path holds one to sixteen blobs. */
+static void try_counts(struct use *use, uint8_t edition)
 {
-    struct use use = {.input = buffer_new(OLD_SIZE, 0), .tables = buffer_new(HASKUMYE_TABLE_SIZE, FILL),
+    static const uint8_t counts[] = {0, 1, 16, 17, 64, 65, 255};
+    uint8_t *count = use->input.bytes + place_in(edition, PATHS_AT + BLOB_COUNT_AT), was = *count;
+    for (size_t i = 0; i < sizeof counts; i++) {
+        *count = counts[i];
+        expect("its blobs", library_call(LOAD_TABLES, use),
+               counts[i] >= 1 && counts[i] <= 16 ? 0 : HASKUMYE_REFUSAL_FILE_BODY);
+    }
+    *count = was;
+}
+
+static void try_older(struct buffer file, uint8_t edition)
+{
+    static uint8_t old[HASKUMYE_SAVED_SIZE];
+    size_t size = put_old_contents(file.bytes, old, edition);
+    struct use use = {.tables = buffer_new(HASKUMYE_TABLE_SIZE, FILL),
                       .tally = buffer_new(sizeof(haskumye_tally), FILL)};
     struct buffer expected = buffer_new(HASKUMYE_TABLE_SIZE, FILL);
-    put_old_contents(file.bytes, use.input.bytes);
-    put_old_bodies(file.bytes, use.input.bytes, expected.bytes);
-    expect("loading edition 1", library_call(LOAD_TABLES, &use), 0);
+    put_old_bodies(file.bytes, old, expected.bytes, edition);
+    use.input = buffer_copy(old, size);
+    expect("loading an older edition", library_call(LOAD_TABLES, &use), 0);
     expect("its tables", same(use.tables.bytes, expected.bytes, HASKUMYE_TABLE_SIZE), 1);
     expect_tally(file.bytes, use.tally);
-    use.input.bytes[1] = 2;
-    expect("its bodies in edition 2", library_call(LOAD_TABLES, &use), HASKUMYE_REFUSAL_FILE_BODY);
+    try_counts(&use, edition);
+    for (uint8_t other = 1; other <= EDITION; other++) {
+        use.input.bytes[1] = other;
+        expect("its bodies in another edition", library_call(LOAD_TABLES, &use),
+               other == edition ? 0 : HASKUMYE_REFUSAL_FILE_BODY);
+    }
     buffer_free(&use.input);
     buffer_free(&use.tables);
     buffer_free(&use.tally);
@@ -337,7 +407,9 @@ void saved_try_odd(void)
     try_heads(file);
     try_entries(file);
     try_bodies(file);
-    try_older(file);
+    for (uint8_t older = 1; older < EDITION; older++) {
+        try_older(file, older);
+    }
     expect("the size of a saved file", library_call(SAVED_SIZE, &(struct use){0}), HASKUMYE_SAVED_SIZE);
     buffer_free(&file);
     buffer_free(&tables);

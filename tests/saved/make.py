@@ -66,15 +66,17 @@ def proof(to, payload, hops=0, context=0, kind=0):
 
 
 def fill_paths(box):
-    """All 64 places; those by the roaming wire expire before the end. One has more blobs than it has room for; one grew too long to be spread; a 65th
-    finds no room."""
+    """All 64 places; those by the roaming wire expire before the end. One has more blobs than it has room for, one more than it had in older editions; one
+    grew too long to be spread; a 65th finds no room."""
     for number in range(haskumye.PATH_COUNT):
         relay = bytes([0xC0 + number % 16] * 16) if number % 3 == 0 else None
         answer = box.give(announce(number, 1, number % 7, relay), list(WIRES)[number % 5], number, True)
         assert answer.startswith("spread"), answer
     assert box.give(announce(64, 1), 0, 100, True).startswith("drop 13")
-    for emission in range(2, 21):
+    for emission in range(2, 71):
         assert box.give(announce(6, emission), 1, 200 + emission, True).startswith("spread")
+    for emission in range(2, 21):
+        assert box.give(announce(5, emission), 0, 280, True).startswith("spread")
     for emission in range(2, 5):
         assert box.give(announce(8, emission, length=333), 3, 300 + emission, True) == "kept"
     assert box.give(announce(9, 2), 9, 400).startswith("drop 9")
@@ -98,6 +100,15 @@ def chatter(box):
         answer = "spread" if violations <= haskumye.GRACE_LIMIT else "drop 15"
         assert box.give(announce(14, 1 + violations), 9, 1500 + violations, True).startswith(answer)
     box.relay.set_announce_rate(target=0x010203, grace=0xFD, penalty=0x090807)
+
+
+def mark(box):
+    """Destinations whose paths were marked: 15 is still; 16 was revived by the announce that it holds, by more hops; 17's expires before the end; 18 heard
+    an older announce since."""
+    for number in range(15, 19):
+        box.relay.mark_path_unresponsive(destination(number), START + 2000)
+    assert box.give(announce(16, 1, hops=5), 1, 2000, True).startswith("spread")
+    assert box.give(announce(18, 0, hops=4), 3, 2000, True).startswith("drop 11")
 
 
 def live(number):
@@ -143,6 +154,7 @@ def make():
     box = Box()
     fill_paths(box)
     chatter(box)
+    mark(box)
     give_data(box, 600, 20300, 3)
     numbers = [number for number in range(haskumye.PATH_COUNT) if live(number)]
     proved = list(give_links(box, (numbers + numbers)[: haskumye.LINK_COUNT], 22600))
@@ -183,19 +195,19 @@ def lines(relay):
         yield f"port {port} on {on} mode {mode}"
     for place, data in records(tables, 68, 16, 17):
         yield f"local {place} {data.hex()}"
-    for place, data in records(tables, 340, 64, 221):
+    for place, data in records(tables, 340, 64, 702):
         way = f"path {place} {data[:16].hex()} port {data[16]} hops {data[17]} next {data[18:34].hex()} expiry {number_of(data[34:42])}"
-        rate = {"last": number_of(data[42:50]), "violations": data[50], "blocked": number_of(data[51:59])}
-        blobs = [data[60 + 10 * i : 70 + 10 * i].hex() for i in range(data[59])]
-        yield " ".join([way, *(f"{name} {number}" for name, number in rate.items() if number), "blobs", *blobs])
-    for place, data in records(tables, 14484, 64, 30):
+        later = {"last": number_of(data[42:50]), "violations": data[50], "blocked": number_of(data[51:59]), "unresponsive": data[59]}
+        blobs = [data[61 + 10 * i : 71 + 10 * i].hex() for i in range(data[60])]
+        yield " ".join([way, *(f"{name} {number}" for name, number in later.items() if number), "blobs", *blobs])
+    for place, data in records(tables, 45268, 64, 30):
         sides = f"asking {data[16]} answering {data[17]} taken {data[18]} remaining {data[19]} proved {data[20]}"
         yield f"link {place} {data[:16].hex()} {sides} expiry {number_of(data[21:])}"
-    yield f"returns next {number_of(tables[16404:16406])}"
-    for place, data in records(tables, 16406, 512, 27):
+    yield f"returns next {number_of(tables[47188:47190])}"
+    for place, data in records(tables, 47190, 512, 27):
         yield f"return {place} {data[:16].hex()} arrival {data[16]} leaving {data[17]} expiry {number_of(data[18:])}"
-    yield f"hashes next {number_of(tables[30230:30232])}"
-    for place, data in records(tables, 30232, 1024, 41):
+    yield f"hashes next {number_of(tables[61014:61016])}"
+    for place, data in records(tables, 61016, 1024, 41):
         yield f"hash {place} {data[:32].hex()} expiry {number_of(data[32:])}"
     yield "tally " + " ".join(f"{name} {count}" for name, count in relay.tally._asdict().items())
 

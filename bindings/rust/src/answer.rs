@@ -48,6 +48,7 @@ numbered! {
         Setting = 9 "setting a port over 15, an unknown mode or an announce rate over its limit",
         LocalFull = 10 "adding a 17th local address",
         LocalAddress = 11 "adding a local address already there, or removing one not there",
+        NoLivePath = 12 "marking a destination that has no live path",
         FileLength = 20 "file too long or shorter than its contents (saved: another length)",
         FileKind = 21 "kind or edition",
         FilePlace = 22 "offset, length, count or file end that breaks the rule",
@@ -374,9 +375,10 @@ mod tests {
     fn numbers_become_answers() {
         assert_eq!(done(0), Ok(()));
         assert_eq!(done(11), Err(Refusal::LocalAddress));
+        assert_eq!(done(12), Err(Refusal::NoLivePath));
         assert_eq!(written_length(19u32 << 16), Ok(19));
         assert_eq!(written_length(27u32), Err(Refusal::AnnounceTooLong));
-        assert_eq!(written_length(72_292u64 << 16), Ok(72_292));
+        assert_eq!(written_length(72_356u64 << 16), Ok(72_356));
         assert_eq!(judged(0x0700), Err(Refusal::Tables));
         assert_eq!(judged(0x0d01), Ok(Verdict::Drop(Reason::NoRoom)));
         assert_eq!(judged(0x0f01), Ok(Verdict::Drop(Reason::RateLimited)));
@@ -406,7 +408,7 @@ mod tests {
             0x0e01,
             0x1001,
             0x0000,
-            0x0c00,
+            0x0d00,
             0x0010_0003,
         ] {
             assert!(std::panic::catch_unwind(|| judged(number)).is_err(), "{number:#x}");

@@ -46,6 +46,8 @@ pub struct Path {
     pub violations: u8,
     /// While the clock is below, its announces are dropped by 15.
     pub blocked_until: u64,
+    /// Whether the host marked it, and no announce was taken in since.
+    pub unresponsive: bool,
     /// How many blobs it holds.
     pub blob_count: u8,
 }
@@ -157,7 +159,16 @@ impl Relay {
 }
 
 fn path_of(record: PathRecord) -> Path {
-    let PathRecord { destination, port, hops, next_hop, expiry, last_announce, violations, blocked_until, blob_count } = record;
-    let [expiry, last_announce, blocked_until] = [expiry, last_announce, blocked_until].map(u64::from_be_bytes);
-    Path { destination, port, hops, next_hop, expiry, last_announce, violations, blocked_until, blob_count }
+    Path {
+        destination: record.destination,
+        port: record.port,
+        hops: record.hops,
+        next_hop: record.next_hop,
+        expiry: u64::from_be_bytes(record.expiry),
+        last_announce: u64::from_be_bytes(record.last_announce),
+        violations: record.violations,
+        blocked_until: u64::from_be_bytes(record.blocked_until),
+        unresponsive: record.unresponsive == 1,
+        blob_count: record.blob_count,
+    }
 }

@@ -7,10 +7,10 @@
 use crate::{Address, Blob, Hash, PortMap};
 
 /// The version of this interface.
-pub const VERSION: u32 = 3;
+pub const VERSION: u32 = 5;
 
 /// The bytes of a relay's tables, exactly.
-pub const TABLE_SIZE: usize = 72216;
+pub const TABLE_SIZE: usize = 103000;
 /// The least output buffer, however short the packet.
 pub const OUTPUT_SIZE: usize = 500;
 /// The shortest packet; type 2 has 35 bytes at least.
@@ -26,7 +26,7 @@ pub const RECORDING_SIZE: usize = 60000;
 /// The bytes of an entry as `haskumye_write_recording` takes it.
 pub const ENTRY_WIDTH: usize = 12;
 /// The bytes that `haskumye_save` writes, exactly.
-pub const SAVED_SIZE: usize = 72292;
+pub const SAVED_SIZE: usize = 103076;
 /// No saved file of any edition is longer.
 pub const LONGEST_SAVED: usize = 524332;
 
@@ -222,6 +222,8 @@ pub struct PathRecord {
     pub violations: u8,
     /// While the clock is below, its announces are dropped.
     pub blocked_until: Time,
+    /// 1 where the host marked it, and no announce was taken in since; else 0.
+    pub unresponsive: u8,
     /// How many blobs it holds.
     pub blob_count: u8,
 }
@@ -259,6 +261,7 @@ extern "C" {
     pub fn haskumye_set_announce_rate(tables: *mut u8, length: usize, target: u64, grace: u64, penalty: u64) -> u8;
     pub fn haskumye_add_local(tables: *mut u8, length: usize, address: *const Address) -> u8;
     pub fn haskumye_remove_local(tables: *mut u8, length: usize, address: *const Address) -> u8;
+    pub fn haskumye_mark_path_unresponsive(tables: *mut u8, length: usize, destination: *const Address, clock: u64) -> u8;
     pub fn haskumye_renumber(tables: *mut u8, length: usize, map: *const PortMap) -> u8;
     pub fn haskumye_packet(
         packet: *const u8,

@@ -127,6 +127,14 @@ impl Relay {
         done(unsafe { raw::haskumye_remove_local(self.tables.as_mut_ptr(), self.tables.len(), address) })
     }
 
+    /// Marks a destination's live path unresponsive: what was sent by it was not answered. Packets still go by it. Of the destination's
+    /// announces, one emitted no earlier than the newest held is no longer dropped by 2, 10, 11 or 15, though it came before; the first that
+    /// is taken in leads the path its way, and takes the mark off. The clock is one as packets have, and from then on the last accepted.
+    /// Refusal 5 for the clock, 12 where no path of the destination is live at it.
+    pub fn mark_path_unresponsive(&mut self, destination: &Address, clock: u64) -> Result<(), Refusal> {
+        done(unsafe { raw::haskumye_mark_path_unresponsive(self.tables.as_mut_ptr(), self.tables.len(), destination, clock) })
+    }
+
     /// Renumbers the ports while the relay runs: port i becomes port `map[i]`, in every record, and its settings move with it. Nothing is
     /// forgotten. Refusal 8 where the map is not one-to-one on 0..15.
     pub fn renumber(&mut self, map: &PortMap) -> Result<(), Refusal> {
@@ -168,7 +176,7 @@ impl Tally {
     }
 }
 
-/// The tally stands for the 72,216 bytes.
+/// The tally stands for the tables' bytes.
 impl std::fmt::Debug for Relay {
     fn fmt(&self, f: &mut std::fmt::Formatter) -> std::fmt::Result {
         f.debug_struct("Relay").field("tally", &self.tally).finish_non_exhaustive()

@@ -193,6 +193,46 @@ fn a_destination_that_announces_too_often_is_blocked() {
     assert_eq!((path.last_announce, path.violations, path.blocked_until), (1_670, 2, 1_670));
 }
 
+/// A box dies, and comes back by another way before it announces itself anew: its path leads the new way only where it is marked.
+#[test]
+fn a_marked_path_is_revived_by_the_announce_that_it_holds() {
+    let (mut relay, mut output, (announce, destination)) = (relay(3), [0; OUTPUT_SIZE], announce(5));
+    assert_eq!(relay.mark_path_unresponsive(&destination, 1_000), Err(Refusal::NoLivePath));
+    relay.packet(&announce, 0, 1_000, true, &mut output).unwrap();
+    let mut again = |relay: &mut Relay, clock| relay.packet(&announce, 1, clock, true, &mut output);
+    assert_eq!(again(&mut relay, 1_001), Ok(Verdict::Drop(Reason::Duplicate)));
+    assert_eq!(again(&mut relay, 1_400), Ok(Verdict::Drop(Reason::Replay)));
+    let before = relay.path(0).unwrap();
+    assert_eq!(relay.mark_path_unresponsive(&destination, 1_500), Ok(()));
+    assert_eq!((relay.path(0), relay.last_clock()), (Some(Path { unresponsive: true, ..before }), 1_500));
+    assert_eq!(relay.signature_matters(&announce, 1, 1_500), Ok(true));
+    assert_eq!(again(&mut relay, 1_500), Ok(Verdict::Spread { ports: PortSet::from_bits(0b101), length: 183 }));
+    assert_eq!(relay.path(0), Some(Path { port: 1, expiry: 1_500 + 604_800, last_announce: 1_500, ..before }));
+    assert_eq!(again(&mut relay, 1_501), Ok(Verdict::Drop(Reason::Duplicate)));
+}
+
+#[test]
+fn marks_are_refused() {
+    let (mut relay, (announce, destination)) = (relay(2), announce(5));
+    relay.packet(&announce, 0, 1_000, true, &mut [0; OUTPUT_SIZE]).unwrap();
+    let (before, expiry) = (relay.clone(), 1_000 + 604_800);
+    for (destination, clock, refusal) in [
+        (destination, 999, Refusal::Clock),
+        (destination, CLOCK_LIMIT, Refusal::Clock),
+        ([0x2a; 16], u64::MAX, Refusal::Clock),
+        ([0x2a; 16], 1_000, Refusal::NoLivePath),
+        (OWN, 1_000, Refusal::NoLivePath),
+        (destination, expiry, Refusal::NoLivePath),
+    ] {
+        assert_eq!(relay.mark_path_unresponsive(&destination, clock), Err(refusal));
+    }
+    assert!(relay == before);
+    for clock in [1_000, expiry - 1, expiry - 1] {
+        assert_eq!(relay.mark_path_unresponsive(&destination, clock), Ok(()));
+    }
+    assert_eq!((relay.last_clock(), *relay.tally()), (expiry - 1, *before.tally()));
+}
+
 #[test]
 fn the_last_clock_is_read() {
     let mut relay = relay(1);
@@ -228,6 +268,7 @@ fn a_path_a_receipt_and_a_link_are_told() {
         last_announce: 1_000,
         violations: 0,
         blocked_until: 0,
+        unresponsive: false,
         blob_count: 1,
     };
     assert_eq!([0, 1, PATH_COUNT].map(|place| relay.path(place)), [Some(path), None, None]);
@@ -245,6 +286,19 @@ fn a_path_a_receipt_and_a_link_are_told() {
     relay.renumber(&REVERSED).unwrap();
     assert_eq!(relay.path(0), Some(Path { port: 13, ..path }));
     assert_eq!(relay.link(0), Some(Link { asking: 10, answering: 13, ..link }));
+}
+
+/// The oldest of 65 announces is forgotten, so that it is no replay when it comes round again.
+#[test]
+fn a_path_holds_64_blobs() {
+    let (mut relay, mut output) = (relay(2), [0; OUTPUT_SIZE]);
+    for emission in 1..=65 {
+        relay.packet(&announce(emission).0, 0, 1_000, true, &mut output).unwrap();
+        assert_eq!(relay.path(0).unwrap().blob_count, emission.min(64));
+    }
+    for (emission, reason) in [(1, Reason::NotBetter), (2, Reason::Replay), (65, Reason::Replay)] {
+        assert_eq!(relay.packet(&announce(emission).0, 0, 1_300, true, &mut output), Ok(Verdict::Drop(reason)));
+    }
 }
 
 #[test]

@@ -6,7 +6,7 @@ use haskumye::*;
 const OWN: Address = [0x0a; 16];
 
 /// A file of each edition, the oldest first: tests/saved/NAME.saved, and NAME.text with what it holds. A later edition is one more line.
-const EDITIONS: [&str; 2] = ["edition-1", "edition-2"];
+const EDITIONS: [&str; 4] = ["edition-1", "edition-2", "edition-3", "edition-4"];
 
 fn read(name: &str) -> Vec<u8> {
     let path = format!("{}/../../tests/saved/{name}", env!("CARGO_MANIFEST_DIR"));
@@ -30,7 +30,7 @@ fn relay() -> Relay {
 fn what_is_saved_loads() {
     let (relay, file) = (relay(), relay().save());
     assert_eq!((file.len(), unsafe { haskumye_saved_size() }), (SAVED_SIZE, SAVED_SIZE));
-    assert_eq!(file[..4], [2, 2, 0, 8]);
+    assert_eq!(file[..4], [2, 4, 0, 8]);
     assert_eq!((&file[52..52 + TABLE_SIZE], &file[52 + TABLE_SIZE..]), (relay.tables(), &relay.tally().to_bytes()[..]));
     assert_eq!(Relay::load(&file), Ok(relay));
 }
@@ -46,9 +46,11 @@ fn loading_is_refused() {
         (spoiled(0, 1), Refusal::FileKind),
         (spoiled(1, 0), Refusal::FileKind),
         (spoiled(1, 255), Refusal::FileKind),
-        (vec![2, 2, 0, 0], Refusal::FilePlace),
+        (vec![2, 4, 0, 0], Refusal::FilePlace),
         (spoiled(7, 53), Refusal::FilePlace),
         (spoiled(1, 1), Refusal::FileBody), // bodies longer than an older edition's
+        (spoiled(1, 2), Refusal::FileBody),
+        (spoiled(1, 3), Refusal::FileBody),
         (spoiled(89, 3), Refusal::FileBody),
     ];
     for (file, refusal) in files {
@@ -117,6 +119,11 @@ impl Line<'_> {
         (last, violations.try_into().expect("a byte"), blocked)
     }
 
+    /// Whether a path is marked.
+    fn unresponsive(&self) -> bool {
+        self.number_or_zero("unresponsive") == 1
+    }
+
     fn rate_bytes(&self) -> Vec<u8> {
         let (last, violations, blocked) = self.rate();
         [&last.to_be_bytes()[..], &[violations], &blocked.to_be_bytes()].concat()
@@ -135,7 +142,7 @@ impl Line<'_> {
                 let blobs: Vec<u8> = (from..self.0.len()).flat_map(|place| self.bytes_at(place)).collect();
                 let count = [(blobs.len() / 10) as u8];
                 let way = [&key, &self.byte("port")[..], &self.byte("hops"), &self.bytes_at(8), &self.expiry()].concat();
-                [&way, &self.rate_bytes()[..], &count, &blobs].concat()
+                [&way, &self.rate_bytes()[..], &[self.unresponsive().into()], &count, &blobs].concat()
             }
             "link" => {
                 let bytes = ["asking", "answering", "taken", "remaining", "proved"].map(|name| self.byte(name)[0]);
@@ -199,7 +206,7 @@ impl<'a> Written<'a> {
             self.announce_rate_bytes(),
             self.all("port").flat_map(Line::record).collect(),
             self.table("local", LOCAL_COUNT, 17),
-            self.table("path", PATH_COUNT, 221),
+            self.table("path", PATH_COUNT, 702),
             self.table("link", LINK_COUNT, 30),
             self.next_place("returns"),
             self.table("return", RETURN_COUNT, 27),
@@ -253,6 +260,7 @@ fn every_edition_answers() {
             let path = relay.path(line.place()).expect("a path");
             assert_eq!((path.destination.to_vec(), path.expiry), (line.bytes_at(2), line.number("expiry")));
             assert_eq!((path.last_announce, path.violations, path.blocked_until), line.rate());
+            assert_eq!(path.unresponsive, line.unresponsive());
         }
         for line in written.all("link") {
             let link = relay.link(line.place()).expect("a link");

@@ -10,7 +10,7 @@ use Rattle.rules.specs.Relay.{Path, Relay, fresh}
 use Rattle.rules.specs.Refusals.{tablesOk}
 use Rattle.rules.specs.Arrival.{Arrival}
 use Rattle.rules.specs.Calls.{newTally}
-use Rattle.rules.specs.Run.{Call, packet, Reply, EachCall, Outcome, perform, noneLoads}
+use Rattle.rules.specs.Run.{Call, packet, EachCall, Outcome, perform, noneLoads}
 use Rattle.rules.specs.Chatty.{NoTarget, RateOff, WhileBlocked, PathsStay, OnTime, LetBy, SpacedCall, Spaced, NotDropped, NotBlocked, NeverBlocked}
 use Rattle.rules.specs.declared.Tally.{Tally}
 use Rattle.rules.proofs.Valid.{step-ok, fresh-ok}
@@ -21,14 +21,13 @@ use Rattle.tables.specs.Places.{addressWidth, tableSize}
 use Rattle.tables.specs.Layout.{relayOf, bytesOf, wellFormed}
 use Rattle.tables.specs.Shape.{isBytes, shaped}
 use Rattle.tables.specs.Called.{Called}
-use Rattle.tables.proofs.Whole.{again, ok-relay, shaped-of, back}
+use Rattle.tables.proofs.Whole.{back}
 use Rattle.settings.specs.Calls.{freshOn}
 use Rattle.demands.specs.Given.{CallBytes, CallsBytes}
 use Rattle.demands.specs.Bytes.{OutcomeOn, performOn, repliesOn}
 use Rattle.demands.specs.Chatty.{SpacedOn, NeverBlockedOn}
 use Rattle.demands.proofs.Shape.{step-shaped, fresh-shaped}
-use Rattle.demands.proofs.Demand2.{outcomeOn, call-on, fresh-made, follows-the-rules-fresh}
-use Rattle.demands.proofs.Keepalives.{relay-bytes, reply-bytes}
+use Rattle.demands.proofs.Demand2.{outcomeOn, call-on, relay-bytes, reply-bytes, by-the-rules, fresh-made, follows-the-rules-fresh}
 
 -- ---- lists of calls on a relay's bytes
 spaced-by : (d : List ℕ) (cs : List Call) (r : Relay) (t : Tally) → CallsBytes cs → tablesOk r ≡ true → shaped r ≡ true → SpacedOn d cs (bytesOf r) t
@@ -92,24 +91,17 @@ module _ (buffer own : List ℕ) (size : length buffer ≡ tableSize) (cs : List
 -- ---- the theorems about one packet, from any tables that are well formed, and any tally
 module _ (tables : List ℕ) (tally : Tally) (b : Bytes tables) (h : wellFormed tables ≡ true) (p : Path) (a : Arrival) (output : List ℕ)
     (given : CallBytes (packet a output)) where
-  abbrev after : List ℕ → OutcomeOn
-  after x = performOn (packet a output) x tally
+  abbrev after : OutcomeOn
+  after = performOn (packet a output) tables tally
 
   -- (b) an announce for a live path at clock < blocked-until changes no record of a path
-  pub blocked-announce-stays-on : WhileBlocked p a (relayOf tables) → PathsStay (relayOf tables) (relayOf (after tables .tables))
+  pub blocked-announce-stays-on : WhileBlocked p a (relayOf tables) → PathsStay (relayOf tables) (relayOf (after .tables))
   blocked-announce-stays-on blocked =
-      let r : Relay = relayOf tables in
-      subst (λ (x : List ℕ). PathsStay r (relayOf (after x .tables))) (again tables b h)
-      (subst (PathsStay r) (sym (relay-bytes r (shaped-of tables b h) (ok-relay tables h) tally (packet a output) given))
-      (blocked-announce-stays p a output r tally blocked))
+      by-the-rules (λ _. PathsStay (relayOf tables)) (packet a output) tables tally given b h
+      (blocked-announce-stays p a output (relayOf tables) tally blocked)
 
   -- (c) at clock >= blocked-until and clock >= last + target, 15 doesn't drop, and one violation, if any, is forgiven
-  pub on-time-let-by-on : OnTime p a (relayOf tables) → LetBy p a output (relayOf tables) (after tables .reply) (relayOf (after tables .tables))
+  pub on-time-let-by-on : OnTime p a (relayOf tables) → LetBy p a output (relayOf tables) (after .reply) (relayOf (after .tables))
   on-time-let-by-on on-time =
-      let r : Relay = relayOf tables in
-      let s = shaped-of tables b h in
-      let ok = ok-relay tables h in
-      let c : Call = packet a output in
-      subst (λ (x : List ℕ). LetBy p a output r (after x .reply) (relayOf (after x .tables))) (again tables b h)
-      (subst (λ (y : Reply). LetBy p a output r y (relayOf (after (bytesOf r) .tables))) (sym (reply-bytes r s ok tally c given))
-      (subst (LetBy p a output r (perform c r tally .reply)) (sym (relay-bytes r s ok tally c given)) (on-time-let-by p a output r tally on-time)))
+      by-the-rules (LetBy p a output (relayOf tables)) (packet a output) tables tally given b h
+      (on-time-let-by p a output (relayOf tables) tally on-time)

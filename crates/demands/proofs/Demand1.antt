@@ -22,13 +22,14 @@ use Rattle.packet.specs.Hash.{packetHashAnswer, linkIdAnswer}
 use Rattle.packet.specs.declared.Parts.{Parts}
 use Rattle.numbers.specs.Numbers.{portCount, localCount, modeCount, clockLimit}
 use Rattle.rules.specs.Relay.{makeRateSettings, Port, Slot, empty, used, Relay}
-use Rattle.rules.specs.View.{portOn, isLocal}
+use Rattle.rules.specs.View.{portOn, isLocal, viewAt}
 use Rattle.rules.specs.Renumbering.{oneToOne}
 use Rattle.rules.specs.Arrival.{Arrival}
+use Rattle.rules.specs.Tests.{isThere}
 use Rattle.rules.specs.Refusals.{rateSettingsOk, tablesOk, emptyLocal, packetRows, refusalBy, packetRefusal}
 use Rattle.octets.specs.Listed.{firstOf}
 use Rattle.rules.specs.Calls.{Setting, packetCall, judge, judged, settled, ruleOf, tableRefusal, settle}
-use Rattle.rules.specs.Run.{Call, packet, on-tables, asks, saves, loads, port-setting, rate-setting, adding, removing, renumbering, answered, saveReply}
+use Rattle.rules.specs.Run.{Call, packet, on-tables, asks, saves, loads, port-setting, rate-setting, adding, removing, renumbering, marking, answered, saveReply}
 use Rattle.rules.specs.Questions.{Question, port-settings, rate-settings, local-at, path-at, link-at, live-path, live-returns, live-hashes, last-clock, word-matters, Told, none, a-port, an-address, a-path, a-link, cameWith, toldOf, rowSeven, questionRule, questionRefusal, tell}
 use Rattle.rules.specs.declared.Answer.the-variants.{Refused}
 use Rattle.rules.specs.declared.Tally.{Tally}
@@ -205,6 +206,15 @@ pub renumbering-rows : (images tables : List ℕ)
     → refusalOn (renumbering images) tables ≡ (not (wellFormed tables) then 7 otherwise not (oneToOne images) then 8 otherwise 0)
 unfolding refusalOn afterSeven refusal tableRefusal ruleOf firstOf
 renumbering-rows images tables = after-seven tables _
+
+-- marking a destination's live path unresponsive: 7, 5, 12
+pub marking-rows : (destination : List ℕ) (clock : ℕ) (tables : List ℕ)
+    → refusalOn (marking destination clock) tables
+    ≡ (not (wellFormed tables) then 7 otherwise
+    leb clockLimit clock or ltb clock (relayOf tables .clock) then 5 otherwise
+    not (isThere (viewAt clock (relayOf tables) .path destination)) then 12 otherwise 0)
+unfolding refusalOn afterSeven refusal tableRefusal ruleOf firstOf
+marking-rows destination clock tables = after-seven tables _
 
 -- saving: 7, 25
 pub save-rows : (room tables : List ℕ)

@@ -108,6 +108,29 @@ module _ (r : Relay) (s : shaped r ≡ true) (ok : tablesOk r ≡ true) (t : Tal
   call-on (saves format room) given = saved-bytes room ∙ ap (λ (f : Format). outcomeOn (perform (saves f room) r t)) (sym given)
   call-on (loads format file) given = loaded-bytes file (given .1) ∙ ap (λ (f : Format). outcomeOn (perform (loads f file) r t)) (sym (given .0))
 
+  module _ (c : Call) (b : CallBytes c) where
+    pub relay-bytes : relayOf (performOn c (bytesOf r) t .tables) ≡ perform c r t .relay
+    unfolding outcomeOn
+    relay-bytes =
+        ap (λ (o : OutcomeOn). relayOf (o .tables)) (call-on c b)
+        ∙ back (perform c r t .relay) (step-shaped c r t b ok s) (step-ok c r t ok)
+
+    pub reply-bytes : performOn c (bytesOf r) t .reply ≡ perform c r t .reply
+    unfolding outcomeOn
+    reply-bytes = ap (λ (o : OutcomeOn). o .reply) (call-on c b)
+
+-- what the rules make a call reply and leave, it replies and leaves on the bytes
+pub by-the-rules : (P : Reply → Relay → Type 0) (c : Call) (tables : List ℕ) (tally : Tally) → CallBytes c → Bytes tables → wellFormed tables ≡ true
+    → P (perform c (relayOf tables) tally .reply) (perform c (relayOf tables) tally .relay)
+    → P (performOn c tables tally .reply) (relayOf (performOn c tables tally .tables))
+by-the-rules P c tables tally given b h holds =
+    let r : Relay = relayOf tables in
+    let s = shaped-of tables b h in
+    let ok = ok-relay tables h in
+    subst (λ (x : List ℕ). P (performOn c x tally .reply) (relayOf (performOn c x tally .tables))) (again tables b h)
+    (subst (λ (y : Reply). P y (relayOf (performOn c (bytesOf r) tally .tables))) (sym (reply-bytes r s ok tally c given))
+    (subst (P (perform c r tally .reply)) (sym (relay-bytes r s ok tally c given)) holds))
+
 -- ---- lists of calls on a relay's bytes
 pub run-on : (cs : List Call) (r : Relay) (t : Tally) → CallsBytes cs → tablesOk r ≡ true → shaped r ≡ true → FollowsTheRules cs (bytesOf r) t r
 unfolding EachCall repliesOn tablesAfterOn tallyAfterOn replies relayAfter tallyAfter outcomeOn

@@ -1,6 +1,6 @@
 -- Demand 1's theorem on the tables that calls led to: every row refuses a call, 7 on tables of no bytes and 10 on those of a relay without an empty place;
 -- then a packet that no row refuses, and what the calls after a refusal reply.
-use Prim.Native.Nat.{ℕ}
+use Prim.Native.Nat.{ℕ, _-_, _^_}
 use mathlib.Core.Bool.{true, false}
 use mathlib.Core.List.{List, [], _∷_}
 use mathlib.Core.Path.{_≡_, refl, sym, ap, subst, _∙_}
@@ -12,15 +12,16 @@ use Rattle.octets.proofs.Bytes.{nil-bytes}
 use Rattle.rules.specs.Relay.{used, Relay, makeRelay}
 use Rattle.rules.specs.Calls.{newTally, ruleOf}
 use Rattle.rules.specs.Saved.{saveRefusal}
-use Rattle.rules.specs.Run.{Call, packet, asks, port-setting, rate-setting, adding, removing, renumbering, Reply, numbered}
+use Rattle.rules.specs.Run.{Call, packet, asks, port-setting, rate-setting, adding, removing, renumbering, marking, Reply, numbered}
 use Rattle.rules.specs.Questions.{last-clock, word-matters}
 use Rattle.rules.specs.declared.Tally.{Tally}
 use Rattle.rules.proofs.Unfolding.{rules}
-use Rattle.rules.proofs.Scene.{own, dataBytes, receiptBytes, arrival, arrives}
+use Rattle.rules.proofs.Scene.{own, destination, dataBytes, receiptBytes, arrival, arrives}
 use Rattle.rules.proofs.Outcomes.{preparedRelay}
 use Rattle.tables.specs.Layout.{bytesOf, wellFormed}
 use Rattle.tables.specs.Shape.{isByte, isBytes, shaped}
 use Rattle.tables.proofs.Whole.{bytes-bytes}
+use Rattle.saved.specs.File.{savedSize}
 use Rattle.saved.specs.Save.{saveRows, saveRefusal as saveRefusalOn}
 use Rattle.saved.specs.Format.{saidBy, savedFormat, saving, loading}
 use Rattle.saved.proofs.Example.{computing}
@@ -29,7 +30,7 @@ use Rattle.demands.specs.Bytes.{OutcomeOn, performOn, repliesOn, tablesA
 use Rattle.demands.specs.Refusals.{refusal, afterSeven, refusalOn, refusing, isRefusal}
 use Rattle.demands.proofs.Demand1.{refuses-exactly}
 use Rattle.demands.proofs.Demand2.{refusal-bytes, run-on}
-use Rattle.demands.proofs.InstanceCalls.{guest, before, later, given-before, given-later, saidBefore, saidLater, lastRelay, plainPorts, midwayRelay, midwayTally, before-run, later-run}
+use Rattle.demands.proofs.InstanceCalls.{guest, shortRoom, before, later, given-before, given-later, saidBefore, saidLater, lastRelay, plainPorts, midwayRelay, midwayTally, before-run, later-run}
 use Rattle.demands.proofs.Instance2.{start, Held, Goes, goes, held}
 
 -- ---- the tables and the tally after the calls before
@@ -95,10 +96,10 @@ pub ten : RefusedOn (bytesOf fullRelay) (adding own) 10
 unfolding CallBytes ruleOf isBytes isByte refusal rules
 ten = by-row (bytesOf fullRelay) (bytes-bytes fullRelay (full .shape) (full .ok)) (adding own) 10 (row-of full (adding own) refl refl) refl
 
-short-room : refusal (saving (replicate 72291 0xee)) midwayRelay ≡ 25
+short-room : refusal (saving shortRoom) midwayRelay ≡ 25
 unfolding refusal saveRefusal rules
 short-room =
-    ap (λ (n : ℕ). saveRefusal savedFormat n midwayRelay) (length-replicate {A = ℕ} 72291 0xee)
+    ap (λ (n : ℕ). saveRefusal savedFormat n midwayRelay) (length-replicate {A = ℕ} (savedSize - 1) 0xee)
 
 -- row 7 is a save's too
 pub seven-saved : RefusedOn [] (saving []) 7
@@ -123,7 +124,7 @@ pub rows : Refused (packet (arrival (receiptBytes 5) 2500 1) (replicate 499 0xee
     × Refused (asks (word-matters (receiptBytes 5) 1 2500 499)) 6
     × Refused (asks (word-matters (receiptBytes 5) 77 2500 500)) 4
     × Refused (asks (word-matters (take 34 dataBytes) 1 2500 500)) 1
-    × Refused (saving (replicate 72291 0xee)) 25
+    × Refused (saving shortRoom) 25
     × Refused (loading []) 20
 unfolding CallBytes ruleOf isBytes isByte refusal rules saidBy computing
 rows = (
@@ -147,6 +148,21 @@ rows = (
   refused _ 1 tt refl refl,
   refused _ 25 refl short-room refl,
   refused _ 20 (refl, nil-bytes) refl refl,
+)
+
+-- a mark: the guest has no path, and the destination's is live until 22,600
+pub mark-rows : Refused (marking destination 1999) 5
+    × Refused (marking destination (2 ^ 40)) 5
+    × Refused (marking guest 1999) 5
+    × Refused (marking guest 2500) 12
+    × Refused (marking destination 22600) 12
+unfolding CallBytes ruleOf isBytes isByte refusal rules
+mark-rows = (
+  refused (marking destination 1999) 5 refl refl refl,
+  refused (marking destination (2 ^ 40)) 5 refl refl refl,
+  refused (marking guest 1999) 5 refl refl refl,
+  refused (marking guest 2500) 12 refl refl refl,
+  refused (marking destination 22600) 12 refl refl refl,
 )
 
 -- ---- no row: no refusal

@@ -86,7 +86,7 @@ given = both-given before later given-before (given-later 1 5)
 pub plain : Goes (before ++ later) (saidBefore ++ saidLater 2 1 (lastRelay plainPorts 1)) (lastRelay plainPorts 1) lastTally
 plain = goes given plain-run
 
--- ---- counts-history-fresh: of the twenty-two replies five are verdicts
+-- ---- counts-history-fresh: five of the replies are verdicts
 abbrev last : Tally
 last = tallyAfterOn (before ++ later) start newTally
 

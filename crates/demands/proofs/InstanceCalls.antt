@@ -1,6 +1,6 @@
 -- One list of calls on which the demands' theorems are tried: calls of every kind, among them packets that are accepted, dropped and refused, before
 -- the place where a renumbering is put in and after it. What they give by the rules is computed here, call by call.
-use Prim.Native.Nat.{ℕ, _+_}
+use Prim.Native.Nat.{ℕ, _+_, _-_}
 use mathlib.Core.Bool.{true, false}
 use mathlib.Core.List.{List, [], _∷_, _++_}
 use mathlib.Core.Path.{_≡_, refl, ap, ap₂, _∙_}
@@ -11,14 +11,14 @@ use Rattle.octets.specs.Listed.{firstOf}
 use Rattle.octets.proofs.Choice.{eq-same}
 use Rattle.octets.proofs.Bytes.{nil-bytes}
 use Rattle.packet.specs.Hash.{packetHash}
-use Rattle.rules.specs.Relay.{freshPort, makeRateSettings, makePort, Port, makeRelay, empty, used, Relay, fresh, withPathPort}
+use Rattle.rules.specs.Relay.{freshPort, makeRateSettings, makePort, Port, makeRelay, empty, used, Path, Relay, fresh, withPathPort, withPathMark}
 use Rattle.rules.specs.View.{viewAt}
 use Rattle.rules.specs.Refusals.{all, tableOk, tablesOk}
 use Rattle.rules.specs.Saved.{saveRefusal}
 use Rattle.rules.specs.Judging.{Plan}
 use Rattle.rules.specs.Calls.{newTally, packetCall, ruleOf}
 use Rattle.rules.specs.Questions.{rate-settings, a-rate, path-at, link-at, word-matters, Told, none, a-path, yes-or-no, cameWith, tell}
-use Rattle.rules.specs.Run.{EachCall, Call, asks, port-setting, rate-setting, adding, removing, renumbering, Reply, answered, numbered, told, saved, unsaved, saveReply, Outcome, ofSetting, ofTold, perform, replies, relayAfter, tallyAfter, noCall, setsRelay, noneLoads}
+use Rattle.rules.specs.Run.{EachCall, Call, asks, port-setting, rate-setting, adding, removing, renumbering, marking, Reply, answered, numbered, told, saved, unsaved, saveReply, Outcome, ofSetting, ofTold, perform, replies, relayAfter, tallyAfter, noCall, setsRelay, noneLoads}
 use Rattle.rules.specs.declared.Reason.the-variants.{Duplicate}
 use Rattle.rules.specs.declared.Verdict.the-variants.{Drop}
 use Rattle.rules.specs.declared.Answer.the-variants.{Refused, Judged}
@@ -27,12 +27,13 @@ use Rattle.rules.specs.declared.Tally.{Tally}
 use Rattle.rules.proofs.Unfolding.{rules}
 use Rattle.rules.proofs.Shortcut.{passes, seen-quick, goodPlan, plan-good, goodJudge}
 use Rattle.rules.proofs.Passed.{ofTest}
-use Rattle.rules.proofs.Scene.{own, blank, announceBytes, dataBytes, dataKey, receiptBytes, arrives, prepared}
+use Rattle.rules.proofs.Scene.{own, blank, destination, announceBytes, dataBytes, dataKey, receiptBytes, arrives, prepared}
 use Rattle.rules.proofs.Outcomes.{spreads, forwards, spreadBytes, dataLastHop, relayOf, remembers, knownPath, preparedRelay, announcedRelay, carriedRelay, judged-at, announce-form, announce-new, data-new, data-key, prepared-is}
 use Rattle.rules.proofs.Sanity.{oneUp}
 use Rattle.rules.proofs.RunRenamed.{replies-append, relay-append, tally-append}
 use Rattle.rules.proofs.SignatureWord.{word-matters-exactly}
 use Rattle.tables.specs.Shape.{isByte, isBytes}
+use Rattle.saved.specs.File.{savedSize}
 use Rattle.saved.specs.Format.{saidBy, savedFormat, saving, loading}
 use Rattle.saved.proofs.Example.{computing}
 use Rattle.demands.specs.Given.{CallBytes, CallsBytes}
@@ -43,7 +44,11 @@ guest = replicate 16 0x0b
 
 -- eight bytes more than a file has
 abbrev pub room : List ℕ
-room = replicate 72364 0xee
+room = replicate (savedSize + 8) 0xee
+
+-- a byte too few
+abbrev pub shortRoom : List ℕ
+shortRoom = replicate (savedSize - 1) 0xee
 
 abbrev pub before : List Call
 before =
@@ -76,6 +81,9 @@ laterBy from port =
     -- no port: 9
     ∷ port-setting 77 true 1
     ∷ removing guest
+    -- the destination's path is marked; the guest has none: 12
+    ∷ marking destination 2500
+    ∷ marking guest 2500
     -- the announce rate; the path; whether the announce's signature would matter, now that it is remembered no more; and what is no place
     ∷ asks rate-settings
     ∷ asks (path-at 0)
@@ -85,7 +93,7 @@ laterBy from port =
     ∷ loading []
     -- all of it; and with a byte too little room: 25
     ∷ saving room
-    ∷ saving (replicate 72355 0xee)
+    ∷ saving shortRoom
     ∷ []
 
 abbrev pub later : List Call
@@ -99,7 +107,7 @@ given-before = (refl, (refl, (refl, (refl, (refl, (refl, (refl, (refl, (refl, tt
 pub given-later : (from port : ℕ) → CallsBytes (laterBy from port)
 unfolding EachCall CallBytes ruleOf isBytes isByte tableOk all _and_
 given-later from port =
-    (refl, (refl, (refl, (refl, (refl, (refl, (refl, (refl, (refl, (tt, (tt, (tt, (tt, ((refl, nil-bytes), (refl, (refl, tt))))))))))))))))
+    (refl, (refl, (refl, (refl, (refl, (refl, (refl, (refl, (refl, (refl, (refl, (tt, (tt, (tt, (tt, ((refl, nil-bytes), (refl, (refl, tt))))))))))))))))))
 
 -- none loads: the one that would is refused
 pub none-load : noneLoads (before ++ later) ≡ true
@@ -169,12 +177,16 @@ saidBefore =
 abbrev pub hourly : RateSettings
 hourly = makeRateSettings 3600 5 7200
 
+abbrev markedPath : Path
+markedPath = withPathMark knownPath
+
 -- the receipt leaves by this port, and the path by that one; the file is of this relay
 abbrev pub saidLater : (by path : ℕ) → Relay → List Reply
 saidLater by path end =
     unknownPort ∷ numbered 8 ∷ forwards (receiptBytes 6) by ∷ duplicate ∷ numbered 0 ∷ numbered 9 ∷ numbered 0 ∷ numbered 9 ∷ numbered 0
-    ∷ told (a-rate hourly) ∷ told (a-path (withPathPort path knownPath)) ∷ told (yes-or-no true) ∷ told none
-    ∷ numbered 20 ∷ saved end lastTally room ∷ unsaved 25 (replicate 72355 0xee) ∷ []
+    ∷ numbered 0 ∷ numbered 12
+    ∷ told (a-rate hourly) ∷ told (a-path (withPathPort path markedPath)) ∷ told (yes-or-no true) ∷ told none
+    ∷ numbered 20 ∷ saved end lastTally room ∷ unsaved 25 shortRoom ∷ []
 
 -- the guest in the lowest place
 abbrev pub hosting : Relay → Relay
@@ -191,15 +203,23 @@ ratedRelay =
     makeRelay own 2500 hourly (receivedRelay .ports) (receivedRelay .locals) (receivedRelay .paths) (receivedRelay .links) (receivedRelay .returns)
     (receivedRelay .hashes)
 
--- the end, with these settings of ports, and the path by this port
-abbrev pub lastRelay : List Port → ℕ → Relay
-lastRelay ports port =
+-- the end, with these settings of ports and this path
+abbrev endWith : List Port → Path → Relay
+endWith ports path =
     makeRelay own 2500 hourly ports (replicate 16 empty)
-    (used (withPathPort port knownPath) ∷ replicate 63 empty)
+    (used path ∷ replicate 63 empty)
     (receivedRelay .links) (receivedRelay .returns) (receivedRelay .hashes)
+
+-- the path is marked, and leaves by this port
+abbrev pub lastRelay : List Port → ℕ → Relay
+lastRelay ports port = endWith ports (withPathPort port markedPath)
 
 abbrev pub plainPorts : List Port
 plainPorts = freshPort ∷ makePort true 2 ∷ makePort true 0 ∷ freshPort ∷ freshPort ∷ makePort true 1 ∷ replicate 10 freshPort
+
+-- before the mark
+abbrev unmarkedRelay : Relay
+unmarkedRelay = endWith plainPorts knownPath
 
 -- ---- call by call
 fresh-moved : perform (renumbering oneUp) (fresh own) newTally ≡ record { reply = numbered 0; relay = fresh own; tally = newTally }
@@ -288,19 +308,28 @@ unfolding rules
 no-rate = refl
 
 port-set : perform (port-setting 5 true 1) (hosting ratedRelay) lastTally
-    ≡ record { reply = numbered 0; relay = hosting (lastRelay plainPorts 1); tally = lastTally }
+    ≡ record { reply = numbered 0; relay = hosting unmarkedRelay; tally = lastTally }
 unfolding rules
 port-set = refl
 
-no-port : perform (port-setting 77 true 1) (hosting (lastRelay plainPorts 1)) lastTally
-    ≡ record { reply = numbered 9; relay = hosting (lastRelay plainPorts 1); tally = lastTally }
+no-port : perform (port-setting 77 true 1) (hosting unmarkedRelay) lastTally
+    ≡ record { reply = numbered 9; relay = hosting unmarkedRelay; tally = lastTally }
 unfolding rules
 no-port = refl
 
-guest-removed : perform (removing guest) (hosting (lastRelay plainPorts 1)) lastTally
-    ≡ record { reply = numbered 0; relay = lastRelay plainPorts 1; tally = lastTally }
+guest-removed : perform (removing guest) (hosting unmarkedRelay) lastTally ≡ record { reply = numbered 0; relay = unmarkedRelay; tally = lastTally }
 unfolding rules
 guest-removed = refl
+
+path-marked : perform (marking destination 2500) unmarkedRelay lastTally
+    ≡ record { reply = numbered 0; relay = lastRelay plainPorts 1; tally = lastTally }
+unfolding rules
+path-marked = refl
+
+no-path : perform (marking guest 2500) (lastRelay plainPorts 1) lastTally
+    ≡ record { reply = numbered 12; relay = lastRelay plainPorts 1; tally = lastTally }
+unfolding rules
+no-path = refl
 
 rate-told : perform (asks rate-settings) (lastRelay plainPorts 1) lastTally
     ≡ record { reply = told (a-rate hourly); relay = lastRelay plainPorts 1; tally = lastTally }
@@ -308,7 +337,7 @@ unfolding rules
 rate-told = refl
 
 path-told : perform (asks (path-at 0)) (lastRelay plainPorts 1) lastTally
-    ≡ record { reply = told (a-path knownPath); relay = lastRelay plainPorts 1; tally = lastTally }
+    ≡ record { reply = told (a-path markedPath); relay = lastRelay plainPorts 1; tally = lastTally }
 unfolding rules
 path-told = refl
 
@@ -356,12 +385,12 @@ with-room r t n k e =
 
 pub all-saved : (r : Relay) (t : Tally) → tablesOk r ≡ true → perform (saving room) r t ≡ record { reply = saved r t room; relay = r; tally = t }
 unfolding saveRefusal saveReply firstOf _then_otherwise_
-all-saved r t ok = with-room r t 72364 0 (rw ok refl)
+all-saved r t ok = with-room r t (savedSize + 8) 0 (rw ok refl)
 
 pub room-short : (r : Relay) (t : Tally) → tablesOk r ≡ true
-    → perform (saving (replicate 72355 0xee)) r t ≡ record { reply = unsaved 25 (replicate 72355 0xee); relay = r; tally = t }
+    → perform (saving shortRoom) r t ≡ record { reply = unsaved 25 shortRoom; relay = r; tally = t }
 unfolding saveRefusal saveReply firstOf _then_otherwise_
-room-short r t ok = with-room r t 72355 25 (rw ok refl)
+room-short r t ok = with-room r t (savedSize - 1) 25 (rw ok refl)
 
 -- ---- all of them
 abbrev pub midwayRelay : Relay
@@ -373,7 +402,7 @@ midwayTally = counting 1 1 1
 pub later-run : Runs later midwayRelay midwayTally (saidLater 2 1 (lastRelay plainPorts 1)) (lastRelay plainPorts 1) lastTally
 later-run =
     receipt-refused first map-refused first receipt-home first receipt-dropped first rate-set first no-rate first port-set first no-port
-    first guest-removed first rate-told first path-told first word-told first nothing-told first none-loaded
+    first guest-removed first path-marked first no-path first rate-told first path-told first word-told first nothing-told first none-loaded
     first all-saved (lastRelay plainPorts 1) lastTally end-ok first room-short (lastRelay plainPorts 1) lastTally end-ok first no-call
 
 second-port : perform (port-setting 2 true 0) (perform (port-setting 1 true 2) (fresh own) newTally .relay) newTally

@@ -18,13 +18,13 @@ use Rattle.rules.proofs.Valid.{step-ok}
 use Rattle.rules.proofs.Lasting.{keepalive-carried, keepalives-keep}
 use Rattle.tables.specs.Layout.{relayOf, bytesOf, wellFormed}
 use Rattle.tables.specs.Shape.{shaped}
-use Rattle.tables.proofs.Whole.{again, ok-relay, shaped-of, back}
+use Rattle.tables.proofs.Whole.{again, ok-relay, shaped-of}
 use Rattle.demands.specs.Given.{CallBytes, CallsBytes}
 use Rattle.demands.specs.Bytes.{OutcomeOn, performOn}
 use Rattle.demands.specs.Refusals.{refusal, refusalOn}
 use Rattle.demands.specs.Keepalives.{LastsOn}
 use Rattle.demands.proofs.Shape.{step-shaped}
-use Rattle.demands.proofs.Demand2.{refusal-bytes, outcomeOn, call-on}
+use Rattle.demands.proofs.Demand2.{refusal-bytes, outcomeOn, call-on, relay-bytes, reply-bytes, by-the-rules}
 
 -- ---- one call on a relay's bytes
 by-rules : (c : Call) (r : Relay) → eqb (refusal c r) 0 ≡ accepted c r
@@ -38,17 +38,6 @@ by-rules (loads format file) r = refl
 module _ (r : Relay) (s : shaped r ≡ true) (ok : tablesOk r ≡ true) where
   pub accepted-bytes : (c : Call) → CallBytes c → eqb (refusalOn c (bytesOf r)) 0 ≡ accepted c r
   accepted-bytes c given = ap (λ (n : ℕ). eqb n 0) (refusal-bytes r s ok c given) ∙ by-rules c r
-
-  module _ (t : Tally) (c : Call) (b : CallBytes c) where
-    pub relay-bytes : relayOf (performOn c (bytesOf r) t .tables) ≡ perform c r t .relay
-    unfolding outcomeOn
-    relay-bytes =
-        ap (λ (o : OutcomeOn). relayOf (o .tables)) (call-on r s ok t c b)
-        ∙ back (perform c r t .relay) (step-shaped c r t b ok s) (step-ok c r t ok)
-
-    pub reply-bytes : performOn c (bytesOf r) t .reply ≡ perform c r t .reply
-    unfolding outcomeOn
-    reply-bytes = ap (λ (o : OutcomeOn). o .reply) (call-on r s ok t c b)
 
 -- ---- lists of calls on a relay's bytes
 lasts-on : (l : Link) (cs : List Call) (r : Relay) (t : Tally) → CallsBytes cs → tablesOk r ≡ true → shaped r ≡ true → Lasts l cs r t
@@ -82,10 +71,8 @@ module _ (tables : List ℕ) (tally : Tally) (b : Bytes tables) (h : wellFormed 
       let s = shaped-of tables b h in
       let ok = ok-relay tables h in
       let zero : eqb (refusalOn c (bytesOf r)) 0 ≡ true = eq-eqb _ 0 (ap (refusalOn c) (again tables b h) ∙ none) in
-      let carried = keepalive-carried l expiry r a output tally up k (sym (accepted-bytes r s ok c given) ∙ zero) in
-      subst (λ (x : List ℕ). Carried l a output (performOn c x tally .reply) (relayOf (performOn c x tally .tables))) (again tables b h)
-      (subst (λ y. Carried l a output y (relayOf (performOn c (bytesOf r) tally .tables))) (sym (reply-bytes r s ok tally c given))
-      (subst (λ (y : Relay). Carried l a output (perform c r tally .reply) y) (sym (relay-bytes r s ok tally c given)) carried))
+      by-the-rules (Carried l a output) c tables tally given b h
+      (keepalive-carried l expiry r a output tally up k (sym (accepted-bytes r s ok c given) ∙ zero))
 
   -- and where such keepalives come in time, the link lives through any list of calls
   pub keepalives-keep-on : (l : Link) (cs : List Call) (deadline : ℕ) → CallsBytes cs

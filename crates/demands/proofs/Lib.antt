@@ -1,5 +1,5 @@
--- Demands 1 to 3 and the theorems of wishes 2, 4, 5, 9 and 12, about the bytes. First what keeps a relay one that tables can hold; last the theorems on lists
--- of calls, with what they say computed, so that none can become empty unseen.
+-- Demands 1 to 3 and the theorems of wishes 2, 4, 5, 6, 7, 9 and 12, about the bytes. First what keeps a relay one that tables can hold; last the theorems
+-- on lists of calls, with what they say computed, so that none can become empty unseen.
 pub mod Announced
 pub mod Made
 pub mod Shape
@@ -10,6 +10,8 @@ pub mod Demand3
 pub mod SavedTables
 pub mod Keepalives
 pub mod Chatty
+pub mod DeadPaths
+pub mod OldAnnounces
 pub mod Replays
 pub mod Lengths
 pub mod OwnAnnounces
@@ -21,6 +23,8 @@ pub mod Instance3
 pub mod InstanceSaved
 pub mod InstanceKeepalives
 pub mod InstanceChatty
+pub mod InstanceDeadPaths
+pub mod InstanceOldAnnounces
 pub mod InstanceReplay
 pub mod InstanceAnnounce
 pub mod InstanceLengths

@@ -8,12 +8,12 @@ use lib.Dec.{eqb}
 use lib.ListN.{length}
 use Rattle.octets.proofs.Choice.{then-ap}
 use Rattle.rules.specs.Arrival.{Arrival}
-use Rattle.rules.specs.Run.{packet, asks, port-setting, rate-setting, adding, removing, renumbering, saved, unsaved, saveReply}
+use Rattle.rules.specs.Run.{packet, asks, port-setting, rate-setting, adding, removing, renumbering, marking, saved, unsaved, saveReply}
 use Rattle.rules.specs.Questions.{Question}
 use Rattle.rules.specs.declared.Tally.{Tally}
 use Rattle.tables.specs.Layout.{relayOf}
 use Rattle.tables.specs.Asked.{tellOn}
-use Rattle.settings.specs.Calls.{setPortOn, setRateOn, addLocalOn, removeLocalOn}
+use Rattle.settings.specs.Calls.{setPortOn, setRateOn, addLocalOn, removeLocalOn, markOn}
 use Rattle.renumbering.specs.Calls.{renumberOn}
 use Rattle.relay.specs.Promise.{packetOn}
 use Rattle.saved.specs.Save.{saveRefusal, saveOn}
@@ -47,6 +47,11 @@ module _ (tables : List ℕ) (tally : Tally) where
   pub renumbering-promised : (images : List ℕ) → performOn (renumbering images) tables tally ≡ ofCalled tally (renumberOn tables images)
   unfolding performOn
   renumbering-promised images = refl
+
+  pub marking-promised : (destination : List ℕ) (clock : ℕ)
+      → performOn (marking destination clock) tables tally ≡ ofCalled tally (markOn tables destination clock)
+  unfolding performOn
+  marking-promised destination clock = refl
 
   pub question-promised : (q : Question) → performOn (asks q) tables tally ≡ ofAsked tables tally (tellOn tables q)
   unfolding performOn

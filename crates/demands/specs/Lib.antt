@@ -4,5 +4,7 @@ pub mod Bytes
 pub mod Refusals
 pub mod Keepalives
 pub mod Chatty
+pub mod DeadPaths
+pub mod OldAnnounces
 pub mod Replays
 pub mod Lengths

@@ -15,7 +15,7 @@ ghost use Rattle.haskumye.specs.Tables.{interfaceVersion, tablesRefusal}
 pub extern "C" fn haskumye_version() -> u32
     ensures { λ r. ⌜ r ≡ interfaceVersion ⌝ }
 {
-    3
+    5
 }
 
 // How many bytes tables have.

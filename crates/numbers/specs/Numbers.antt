@@ -16,12 +16,13 @@ leastOutput = 500
 abbrev pub portCount : ℕ
 portCount = 16
 
--- 64 paths, 16 stored blobs each
+-- 64 paths
 abbrev pub pathCount : ℕ
 pathCount = 64
 
+-- "16 stored blobs each" in document 01; in document 02, wish 8: "Store 64 per path"
 abbrev pub blobLimit : ℕ
-blobLimit = 16
+blobLimit = 64
 
 -- 64 links
 abbrev pub linkCount : ℕ

@@ -13,7 +13,7 @@ pub const LOCAL_COUNT: usize = 16;
 
 pub const PATH_COUNT: usize = 64;
 
-pub const BLOB_LIMIT: usize = 16;
+pub const BLOB_LIMIT: usize = 64;
 
 pub const LINK_COUNT: usize = 64;
 

@@ -38,12 +38,8 @@ use Rattle.plan.specs.Decided.{usedHash, decided, decision, onward}
 use Rattle.plan.specs.declared.Early.{Early}
 use Rattle.plan.specs.declared.Early.the-variants.{Dropped, Delivered, Undecided}
 use Rattle.plan.specs.declared.Decision.the-variants.{Drop, Deliver}
+use Rattle.plan.proofs.KindLaws.{and-true}
 use Rattle.plan.proofs.ContextLaws.{used-own}
-
-and-true : (b : Bool) → (b and true) ≡ b
-unfolding _and_
-and-true true = refl
-and-true false = refl
 
 -- what the tests behind the first n say
 unfoldable pub earlyFrom : ℕ → View → Arrival → Early

@@ -81,6 +81,11 @@ unfolding _or_
 or-false true = refl
 or-false false = refl
 
+pub and-true : (b : Bool) → (b and true) ≡ b
+unfolding _and_
+and-true true = refl
+and-true false = refl
+
 pub decided-test : (r : Relay) (a : Arrival) (t : Bool) (reason : Reason) (x : Plan)
     → decided r a (t then dropped reason otherwise x) ≡ (t then Drop reason otherwise decided r a x)
 unfolding decided

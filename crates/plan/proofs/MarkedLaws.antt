@@ -1,9 +1,8 @@
 -- Announces for a marked path: whether a packet is one, by the place where the search for its path ended.
 use Prim.Native.Nat.{ℕ, _≤_, _<_}
-use mathlib.Core.Bool.{Bool, false, true}
+use mathlib.Core.Bool.{false, true}
 use mathlib.Core.List.{List}
 use mathlib.Core.Path.{_≡_, sym, ap, _∙_}
-use Rattle.octets.specs.Index.{_and_}
 use Rattle.octets.proofs.Index.{and-no, and-yes}
 use Rattle.packet.specs.Header.{ofKindSingle, isAnnounce}
 use Rattle.numbers.specs.Numbers.{pathCount}

@@ -1,19 +1,21 @@
--- The blobs of a path, for any limit: between one and the limit are held, and no two of them are equal.
+-- The blobs of a path, for any limit: between one and the limit are held, no two of them are equal, and none has an emission above the greatest.
 use Prim.Native.Nat.{ℕ, zero, suc, _≤_, _<_}
 use native.Mathlib.Nat.{le-refl, not-suc-le-zero, le-of-suc-le-suc}
 use native.Mathlib.Decide.{ℕ-discrete}
 use native.Mathlib.Numerals.{add-one}
 use native.Mathlib.Omega.{arith}
-use mathlib.Core.Bool.{false}
+use mathlib.Core.Bool.{Bool, true, false, false≢true}
 use mathlib.Core.List.{List, [], _∷_, _++_}
 use mathlib.Core.Path.{_≡_, refl, sym, ap, subst, _∙_}
 use lib.Dec.{ltb}
 use lib.ListN.{length, getD, take, drop, set, length-set, length-append, length-drop, length-replicate, List·getD-append}
 use lib.Seq.{take-suc-set, take-all, getD-at}
 use borrow.Author.Tests.{ltb-true, ltb-false}
-use Rattle.octets.proofs.Choice.{or-no-left, or-no-right, same-ne}
+use Rattle.octets.specs.Choice.{_then_otherwise_, same}
+use Rattle.octets.proofs.Choice.{or-else, or-no-left, or-no-right, same-eq, same-ne}
+use Rattle.packet.specs.Announce.{emissionOf}
 use Rattle.rules.specs.Relay.{Blobs}
-use Rattle.rules.specs.Blobs.{held, isAmong, oneBlob, addBlob, storeBlob}
+use Rattle.rules.specs.Blobs.{held, isAmong, greatest, greatestEmission, oneBlob, addBlob, storeBlob}
 use Rattle.rules.proofs.Choices.{either}
 
 -- no two are equal
@@ -48,6 +50,24 @@ not-in-tail : (x : List ℕ) (xs : List (List ℕ)) → isAmong x xs ≡ false �
 unfolding isAmong
 not-in-tail x [] h = h
 not-in-tail x (y ∷ ys) h = or-no-right _ _ h
+
+-- ---- the emission of one that is held is at most the greatest
+pub among-emission : (x : List ℕ) (xs : List (List ℕ)) → isAmong x xs ≡ true → emissionOf x ≤ greatestEmission xs
+unfolding isAmong greatestEmission greatest
+among-emission x [] h = absurd (false≢true h)
+among-emission x (y ∷ ys) h = go (same y x) refl (among-emission x ys)
+  where
+    below : Bool
+    below = ltb (emissionOf y) (greatestEmission ys)
+
+    go : (b : Bool) → same y x ≡ b → (isAmong x ys ≡ true → emissionOf x ≤ greatestEmission ys)
+        → emissionOf x ≤ (below then greatestEmission ys otherwise emissionOf y)
+    go true e others =
+        let here = ap emissionOf (same-eq y x e) in
+        either (λ (n : ℕ). emissionOf x ≤ n) below (λ l. omega (arith, ltb-true (emissionOf y) (greatestEmission ys) l, here)) (λ l. omega (arith, here))
+    go false e others =
+        let there = others (sym (or-else (isAmong x ys) e) ∙ h) in
+        either (λ (n : ℕ). emissionOf x ≤ n) below (λ l. there) (λ l. omega (arith, ltb-false (emissionOf y) (greatestEmission ys) l, there))
 
 distinct-more : (xs : List (List ℕ)) (x : List ℕ) → Distinct xs → isAmong x xs ≡ false → Distinct (xs ++ (x ∷ []))
 distinct-more xs x d h i j li lj e = go (ℕ-discrete i (length xs)) (ℕ-discrete j (length xs))

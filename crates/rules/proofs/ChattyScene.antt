@@ -1,7 +1,7 @@
 -- Wish 5's theorems on announces of one destination, with a target interval and without: what each call gives is what the rules make of it.
-use Prim.Native.Nat.{ℕ, _+_, _-_, _≤_}
+use Prim.Native.Nat.{ℕ, _+_, _≤_}
 use mathlib.Core.Bool.{true, false}
-use mathlib.Core.List.{List, [], _∷_, _++_, map}
+use mathlib.Core.List.{List, [], _∷_, _++_}
 use mathlib.Core.Path.{_≡_, refl, sym, subst, _∙_}
 use lib.Dec.{lit≤}
 use lib.ListN.{length, replicate}
@@ -11,7 +11,7 @@ use Rattle.octets.proofs.Index.{and-both}
 use Rattle.packet.specs.Hash.{packetHash}
 use Rattle.numbers.specs.Numbers.{blobLimit, hashCount, live}
 use Rattle.rules.specs.Relay.{makeRateSettings, makeRateEntry, Slot, empty, used, Blobs, Path, Remembered, Relay, fresh, withRate}
-use Rattle.rules.specs.Blobs.{noBlob}
+use Rattle.rules.specs.Blobs.{noBlob, addBlob}
 use Rattle.rules.specs.View.{View, viewAt}
 use Rattle.rules.specs.Refusals.{packetRefusal}
 use Rattle.rules.specs.Arrival.{Arrival}
@@ -46,13 +46,18 @@ hears k clock = arrives (sent k) clock 1
 abbrev pub spreadOf : ℕ → Reply
 spreadOf k = spreads (0x71 ∷ 1 ∷ (own ++ (destination ++ (0x00 ∷ announceBody (emitted k))))) 2
 
-form : (k : ℕ) → badForm (sent k) ≡ false
+pub form : (k : ℕ) → badForm (sent k) ≡ false
 unfolding rules hashing
 form k = refl
 
 -- ---- relays: the path of the announces that were accepted, and the hashes of those that were heard
+-- the blobs of announces that came one after the other
+abbrev stored : Blobs → List ℕ → Blobs
+stored blobs [] = blobs
+stored blobs (k ∷ ks) = stored (addBlob blobLimit (blobWith (emitted k)) blobs) ks
+
 abbrev blobsOf : List ℕ → Blobs
-blobsOf ks = record { count = length ks; places = map (λ k. blobWith (emitted k)) ks ++ replicate (blobLimit - length ks) noBlob }
+blobsOf ks = stored (record { count = 0; places = replicate blobLimit noBlob }) ks
 
 abbrev pub pathOf : ℕ → RateEntry → List ℕ → Path
 pathOf expiry rate ks =
@@ -65,7 +70,7 @@ abbrev pub heardRelay : RateSettings → ℕ → Path → List (Slot Remembered)
 heardRelay s clock p hashes = withRate s (relayOf clock (used p ∷ []) [] [] hashes)
 
 -- a packet that is new and isn't refused is judged
-hear : (k clock : ℕ) (r : Relay) (t : Tally) → length (r .hashes .slots) ≡ hashCount
+pub hear : (k clock : ℕ) (r : Relay) (t : Tally) → length (r .hashes .slots) ≡ hashCount
     → passes (λ m. live clock (m .expiry) and same (m .hash) (packetHash (sent k))) (r .hashes .slots) ≡ false
     → packetRefusal r (arrival (sent k) clock 1) (length blank) ≡ 0
     → perform (hears k clock) r t ≡ ofJudgement (goodJudge false (arrival (sent k) clock 1) r t blank)

@@ -16,15 +16,16 @@ use Rattle.rules.specs.Renumbering.{movedPorts, renamePath, renameLink, 
 use Rattle.rules.specs.Refusals.{packetRefusal, emptyLocal}
 use Rattle.rules.specs.Arrival.{Arrival, header, destination}
 use Rattle.rules.specs.Ways.{Way, everywhere, by-path, along-link, by-return, blocked}
-use Rattle.rules.specs.Judging.{Plan, dropped, delivered, follows, plan}
+use Rattle.rules.specs.Judging.{Plan, dropped, delivered, follows, plan, verdict, outputAfter}
 use Rattle.rules.specs.Writes.{remembers, remember, putPath, limitPath, markPath, putReturn, emptyReturn, putLink, renewLink, writeWay, isRateDrop, writeDrop, writePlan, stamp, enact}
 use Rattle.rules.specs.Calls.{Judgement, judged, judge, packetCall, settled, TableCall, sets-port, sets-rate, adds, removes, renumbers, marks, ruleOf, tableRefusal, settle}
 use Rattle.rules.specs.Questions.{Question}
 use Rattle.rules.specs.Saved.{Format, loadRefusal}
-use Rattle.rules.specs.Run.{Call, packet, on-tables, asks, saves, loads, EachCall, Outcome, ofJudgement, ofSetting, ofTold, ofSaid, perform, relayAfter, noCall}
+use Rattle.rules.specs.Run.{Call, packet, on-tables, asks, saves, loads, EachCall, answered, Outcome, ofJudgement, ofSetting, ofTold, ofSaid, perform, relayAfter, noCall}
 use Rattle.rules.specs.declared.Link.{Link}
 use Rattle.rules.specs.declared.RateSettings.{RateSettings}
 use Rattle.rules.specs.declared.Tally.{Tally}
+use Rattle.rules.specs.declared.Answer.the-variants.{Judged}
 use Rattle.octets.proofs.Listed.{NoneHolds}
 use Rattle.rules.proofs.Choices.{either}
 use Rattle.rules.proofs.Rows.{table-passed}
@@ -184,6 +185,13 @@ pub judged-relay : (a : Arrival) (r : Relay) (t : Tally) (output : List ℕ) →
     → perform (packet a output) r t .relay ≡ enact (viewAt (a .clock) r) a (plan (viewAt (a .clock) r) a) r
 unfolding perform ofJudgement packetCall judge judged
 judged-relay a r t output taken = ap (λ (j : Judgement). j .relay) (then-true _ _ taken)
+
+pub judged-reply : (a : Arrival) (r : Relay) (t : Tally) (output : List ℕ) → eqb (packetRefusal r a (length output)) 0 ≡ true
+    → perform (packet a output) r t .reply
+    ≡ answered (Judged (verdict (viewAt (a .clock) r) a (plan (viewAt (a .clock) r) a)))
+    (outputAfter (viewAt (a .clock) r) a (plan (viewAt (a .clock) r) a) output)
+unfolding perform ofJudgement packetCall judge judged
+judged-reply a r t output taken = ap (λ (j : Judgement). answered (j .answer) (j .output)) (then-true _ _ taken)
 
 module _ (Q : Relay → Type 0) {r : Relay} (q : Q r) where
   pub packet-kept : (a : Arrival) (t : Tally) (output : List ℕ)

@@ -1,5 +1,6 @@
 -- The tally counts history: after any list of calls each counter is what it was at the start plus the number of such accepted packet
--- calls, modulo 2^32. The numbers are counted over what the calls replied. An accepted load sets the tally: it is a start of its own.
+-- calls, modulo 2^32. The numbers are counted over what the calls replied. An accepted load sets the tally: it is a start of its own. The last
+-- clock has its history too: it is that of the last packet or mark that was accepted.
 use Prim.Native.Nat.{ℕ, _+_, _%_, _^_, _<_}
 use native.Mathlib.Omega.{arith}
 use mathlib.Core.Bool.{Bool, true, false, false≢true}
@@ -8,19 +9,24 @@ use mathlib.Core.Path.{_≡_, refl, sym, ap, _∙_}
 use lib.Dec.{eqb}
 use lib.ListN.{length}
 use Rattle.octets.specs.Choice.{_then_otherwise_}
-use Rattle.rules.specs.Relay.{Relay}
-use Rattle.rules.specs.View.{viewAt}
+use Rattle.octets.proofs.Choice.{then-ap}
+use Rattle.rules.specs.Relay.{Relay, withClock, withRate, withPorts, withLocals}
+use Rattle.rules.specs.View.{View, viewAt}
+use Rattle.rules.specs.Renumbering.{renumbered}
 use Rattle.rules.specs.Refusals.{packetRefusal}
 use Rattle.rules.specs.Judging.{plan, verdict}
-use Rattle.rules.specs.Calls.{newTally, up, counted, Judgement, judged, judge, packetCall}
+use Rattle.rules.specs.Calls.{newTally, up, counted, Judgement, judged, judge, packetCall, settled, TableCall, sets-port, sets-rate, adds, removes, renumbers, marks, ruleOf, tableRefusal, settle}
+use Rattle.rules.specs.Questions.{questionRefusal}
 use Rattle.rules.specs.Saved.{Said, saveRefusal, loadRefusal}
-use Rattle.rules.specs.Run.{Call, packet, on-tables, asks, saves, loads, Reply, answered, numbered, told, saved, unsaved, Outcome, ofJudgement, ofSetting, ofTold, saveReply, ofSaid, perform, replies, tallyAfter, setsRelay, noneLoads}
+use Rattle.rules.specs.Run.{Call, packet, on-tables, asks, saves, loads, Reply, answered, numbered, told, saved, unsaved, Outcome, ofJudgement, ofSetting, ofTold, saveReply, ofSaid, perform, replies, relayAfter, tallyAfter, setsRelay, noneLoads}
+use Rattle.rules.specs.Keepalives.{accepted}
 use Rattle.rules.specs.Answers.{verdictKind}
 use Rattle.rules.specs.declared.Verdict.{Verdict}
 use Rattle.rules.specs.declared.Verdict.the-variants.{Drop, Deliver, Forward, Spread, Kept}
 use Rattle.rules.specs.declared.Answer.the-variants.{Refused, Judged}
 use Rattle.rules.specs.declared.Tally.{Tally}
 use Rattle.rules.proofs.Choices.{either}
+use Rattle.rules.proofs.Stamped.{enact-clock}
 use Rattle.rules.proofs.Held.{first-none, others-none}
 
 -- ---- counting
@@ -162,3 +168,54 @@ history cs r t none small =
 pub history-since-fresh : (cs : List Call) (r : Relay) → noneLoads cs ≡ true → CountsHistory (replies cs r newTally) newTally (tallyAfter cs r newTally)
 unfolding newTally
 history-since-fresh cs r none = history cs r newTally none (omega arith)
+
+-- ---- the last clock
+-- after a call that is accepted: "every accepted packet, dropped or not, .. sets the last clock"; wish 6: "An accepted mark sets the last clock." The others
+-- leave it
+unfoldable pub clockAfter : Call → ℕ → ℕ
+clockAfter (packet a output) last = a .clock
+clockAfter (on-tables (sets-port port on mode)) last = last
+clockAfter (on-tables (sets-rate target grace penalty)) last = last
+clockAfter (on-tables (adds address)) last = last
+clockAfter (on-tables (removes address)) last = last
+clockAfter (on-tables (renumbers images)) last = last
+clockAfter (on-tables (marks destination clock)) last = clock
+clockAfter (asks q) last = last
+clockAfter (saves f room) last = last
+clockAfter (loads f file) last = last
+
+unfoldable pub lastClock : List Call → Relay → Tally → ℕ → ℕ
+lastClock [] r t last = last
+lastClock (c ∷ cs) r t last =
+    lastClock cs (perform c r t .relay) (perform c r t .tally) (accepted c r then clockAfter c last otherwise last)
+
+table-after : (c : TableCall) (r : Relay) → ruleOf c .after r .clock ≡ clockAfter (on-tables c) (r .clock)
+unfolding ruleOf clockAfter withClock withRate withPorts withLocals renumbered
+table-after (sets-port port on mode) r = refl
+table-after (sets-rate target grace penalty) r = refl
+table-after (adds address) r = refl
+table-after (removes address) r = refl
+table-after (renumbers images) r = refl
+table-after (marks destination clock) r = refl
+
+clock-after : (c : Call) (r : Relay) (t : Tally) → setsRelay c ≡ false
+    → perform c r t .relay .clock ≡ (accepted c r then clockAfter c (r .clock) otherwise r .clock)
+unfolding perform ofJudgement ofSetting ofTold ofSaid packetCall judge judged settle settled setsRelay accepted clockAfter _then_otherwise_
+clock-after (packet a output) r t none =
+    let v : View = viewAt (a .clock) r in
+    then-ap (λ (j : Judgement). j .relay .clock) (eqb (packetRefusal r a (length output)) 0) (judge a r t output) _
+    ∙ ap (λ (n : ℕ). eqb (packetRefusal r a (length output)) 0 then n otherwise r .clock) (enact-clock v a (plan v a) r)
+clock-after (on-tables c) r t none =
+    then-ap (λ (s : Relay). s .clock) (eqb (tableRefusal c r) 0) (ruleOf c .after r) r
+    ∙ ap (λ (n : ℕ). eqb (tableRefusal c r) 0 then n otherwise r .clock) (table-after c r)
+clock-after (asks q) r t none = either (λ (n : ℕ). r .clock ≡ n) (eqb (questionRefusal q r) 0) (λ _. refl) (λ _. refl)
+clock-after (saves f room) r t none = either (λ (n : ℕ). r .clock ≡ n) (eqb (saveRefusal f (length room) r) 0) (λ _. refl) (λ _. refl)
+clock-after (loads f file) r t none = rw none
+
+-- over calls among which no load is accepted
+pub clock-history : (cs : List Call) (r : Relay) (t : Tally) → noneLoads cs ≡ true → relayAfter cs r t .clock ≡ lastClock cs r t (r .clock)
+unfolding relayAfter lastClock
+clock-history [] r t none = refl
+clock-history (c ∷ cs) r t none =
+    clock-history cs (perform c r t .relay) (perform c r t .tally) (others-none setsRelay c cs none)
+    ∙ ap (lastClock cs (perform c r t .relay) (perform c r t .tally)) (clock-after c r t (first-none setsRelay c cs none))

@@ -52,5 +52,9 @@ pub mod ChattyOff
 pub mod ChattySpaced
 pub mod ChattyScene
 pub mod Reasons
+pub mod AnnounceTests
 pub mod Revived
 pub mod StaysMarked
+pub mod DeadPathScene
+pub mod OldAnnounces
+pub mod ReturnedProofs

@@ -12,7 +12,7 @@ use borrow.Author.Tests.{eq-eqb, ne-eqb, eqb-true, eqb-false, not-true, not-fals
 use Rattle.octets.specs.Index.{_and_}
 use Rattle.octets.specs.Choice.{_then_otherwise_, _or_}
 use Rattle.octets.specs.Listed.{Test, firstOf, anyHolds, valued}
-use Rattle.octets.proofs.Index.{and-no}
+use Rattle.octets.proofs.Index.{and-left, and-right, and-both, and-no, and-assoc}
 use Rattle.octets.proofs.Listed.{allGive, all-first}
 use Rattle.packet.specs.Header.{typeTwo, contextFlag, ofKindLink, packetKind, isData, isAnnounce, isLinkRequest, isProof}
 use Rattle.packet.specs.Read.{headerOf}
@@ -125,6 +125,23 @@ unfolding firstOf _then_otherwise_
 second-on p [] rest e g r = r
 second-on p (t ∷ ts) rest e g r = rw e (all-first p ts rest g r)
 
+-- where no value of the list passes, what is given passes where no test holds and the rest passes
+past-first : {A : Type 0} (p : A → Bool) (ts : List (Test A)) (rest : A) → allGive (λ x. not (p x)) ts ≡ true
+    → p (firstOf ts rest) ≡ (not (anyHolds ts) and p rest)
+unfolding firstOf anyHolds allGive _then_otherwise_ _or_ _and_
+past-first p [] rest g = refl
+past-first {A} p (t ∷ ts) rest g = go (t .holds) (past-first p ts rest (and-right (not (p (t .value))) _ g))
+  where
+    go : (b : Bool) → p (firstOf ts rest) ≡ (not (anyHolds ts) and p rest)
+        → p (b then t .value otherwise firstOf ts rest) ≡ (not (b or anyHolds ts) and p rest)
+    go true below = not-true _ (and-left (not (p (t .value))) _ g)
+    go false below = below
+
+not-or : (a b : Bool) → not (a or b) ≡ (not a and not b)
+unfolding _or_ _and_
+not-or true b = refl
+not-or false b = refl
+
 module _ (v : View) (a : Arrival) where
   abbrev way : Way
   way = wayOn v a
@@ -132,6 +149,19 @@ module _ (v : View) (a : Arrival) where
   -- a test of verdicts that holds of drops by test n alone
   abbrev OfTest : ℕ → (Verdict → Bool) → Type 0
   OfTest n g = (y : Verdict) → dropBy n y ≡ false → g y ≡ false
+
+  -- ---- tests 1 to 5
+  reaches-none : reachesWay v a ≡ not (anyHolds (earlyTests v a))
+  unfolding reachesWay reachesForm earlyTests anyHolds
+  reaches-none = simp (not-or, and-assoc, and-true)
+
+  -- of a test of verdicts that holds of nothing that they give: the packet gets past them, and what the others give decides
+  pub early-decides : (g : Verdict → Bool) → allGive (λ todo. not (g (verdict v a todo))) (earlyTests v a) ≡ true
+      → g (verdict v a (plan v a)) ≡ (reachesWay v a and g (verdict v a (onwardPlan v a way)))
+  unfolding plan
+  early-decides g none =
+      past-first (λ todo. g (verdict v a todo)) (earlyTests v a) (onwardPlan v a way) none
+      ∙ ap (λ (b : Bool). b and g (verdict v a (onwardPlan v a way))) (sym reaches-none)
 
   -- ---- number 3
   follows-not-3 : (w : Way) → dropBy 3 (verdict v a (follows w)) ≡ false
@@ -190,19 +220,12 @@ module _ (v : View) (a : Arrival) where
         go false e = only (verdict v a (onwardPlan v a way)) (onward-not-6 e) ∙ rw e refl
 
     plan-6 : g (verdict v a (plan v a)) ≡ (reachesWay v a and noWayOn way and here)
-    unfolding plan earlyTests reachesWay reachesForm verdict dropBy firstOf _then_otherwise_ _and_
-    plan-6 = go (notOurs v a) (duplicate v a) (badForm (a .bytes)) (ownAnnounce v a) (deliveredHere v a) (tooManyHops (hops a)) refl refl refl refl refl refl
-      where
-        go : (b₁ b₂ b₃ b₄ b₅ b₆ : Bool) → notOurs v a ≡ b₁ → duplicate v a ≡ b₂ → badForm (a .bytes) ≡ b₃ → ownAnnounce v a ≡ b₄
-            → deliveredHere v a ≡ b₅ → tooManyHops (hops a) ≡ b₆
-            → g (verdict v a (plan v a)) ≡ (reachesWay v a and noWayOn way and here)
-        go true b₂ b₃ b₄ b₅ b₆ e₁ e₂ e₃ e₄ e₅ e₆ = rw e₁ (only _ refl)
-        go false true b₃ b₄ b₅ b₆ e₁ e₂ e₃ e₄ e₅ e₆ = rw (e₁, e₂) (only _ refl)
-        go false false true b₄ b₅ b₆ e₁ e₂ e₃ e₄ e₅ e₆ = rw (e₁, e₂, e₃) (only _ refl)
-        go false false false true b₅ b₆ e₁ e₂ e₃ e₄ e₅ e₆ = rw (e₁, e₂, e₃, e₄) (only _ refl)
-        go false false false false true b₆ e₁ e₂ e₃ e₄ e₅ e₆ = rw (e₁, e₂, e₃, e₄, e₅) (only _ refl)
-        go false false false false false true e₁ e₂ e₃ e₄ e₅ e₆ = rw (e₁, e₂, e₃, e₄, e₅, e₆) (only _ refl)
-        go false false false false false false e₁ e₂ e₃ e₄ e₅ e₆ = rw (e₁, e₂, e₃, e₄, e₅, e₆) onward-6
+    unfolding earlyTests verdict dropBy allGive
+    plan-6 =
+        early-decides g
+        (and-both (ap not (only _ refl)) (and-both (ap not (only _ refl)) (and-both (ap not (only _ refl))
+        (and-both (ap not (only _ refl)) (and-both (ap not (only _ refl)) (and-both (ap not (only _ refl)) refl))))))
+        ∙ ap (reachesWay v a and_) onward-6
 
   -- ---- test 6's cases
   module _ (k x : ℕ) where

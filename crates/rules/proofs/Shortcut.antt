@@ -3,7 +3,7 @@
 use Prim.Native.Nat.{ℕ, zero, suc, _<_}
 use native.Mathlib.Decide.{decLt}
 use native.Mathlib.Omega.{arith}
-use mathlib.Core.Bool.{Bool, true, false, cond}
+use mathlib.Core.Bool.{Bool, true, false, not, cond}
 use mathlib.Core.List.{List, [], _∷_}
 use mathlib.Core.Path.{_≡_, refl, sym, ap, _∙_}
 use lib.Dec.{ltb}
@@ -18,10 +18,13 @@ use Rattle.rules.specs.Relay.{Slot, empty, used, Relay, holds, lowest}
 use Rattle.rules.specs.View.{View, viewAt, isLiveHash, hashPlace}
 use Rattle.rules.specs.Refusals.{packetRefusal}
 use Rattle.rules.specs.Arrival.{Arrival, hash}
+use Rattle.rules.specs.Exempt.{exempt}
 use Rattle.rules.specs.Ways.{wayOn}
-use Rattle.rules.specs.Tests.{testedAsDuplicate, duplicate, badForm}
-use Rattle.rules.specs.Judging.{Plan, earlyTests, plan, onwardPlan}
-use Rattle.rules.specs.Calls.{Judgement, judged, judge, packetCall}
+use Rattle.rules.specs.Tests.{forMarkedPath, testedAsDuplicate, duplicate, badForm}
+use Rattle.rules.specs.Judging.{Plan, earlyTests, plan, onwardPlan, verdict, outputAfter}
+use Rattle.rules.specs.Writes.{remembersPlan, alreadyLive, remembers, writePlan, stamp, enact}
+use Rattle.rules.specs.Calls.{counted, Judgement, judged, judge, packetCall}
+use Rattle.rules.specs.declared.Answer.the-variants.{Judged}
 use Rattle.rules.specs.declared.Tally.{Tally}
 use Rattle.rules.proofs.Passed.{ofTest}
 
@@ -100,9 +103,24 @@ pub plan-good : (v : View) (a : Arrival) {seen : Bool} → v .remembered (hash a
 unfolding plan goodPlan earlyTests told ofTest duplicate _then_otherwise_
 plan-good v a s g = rw (s, g)
 
--- judging an accepted packet, with both decided apart
+-- judging an accepted packet by a plan, with what test 2 asks given: an announce that skips it isn't remembered if it is there already
+abbrev pub goodJudged : Bool → Arrival → Plan → View → Relay → Tally → List ℕ → Judgement
+goodJudged seen a todo v r t output =
+    record {
+      answer = Judged (verdict v a todo);
+      relay = stamp a (not (exempt (a .bytes)) and not (forMarkedPath v a and seen) and remembersPlan todo) (writePlan v a todo r);
+      tally = counted (verdict v a todo) t;
+      output = outputAfter v a todo output;
+    }
+
+judged-good : (a : Arrival) (todo : Plan) (v : View) (r : Relay) (t : Tally) (output : List ℕ) {seen : Bool} → v .remembered (hash a) ≡ seen
+    → judged a todo v r t output ≡ goodJudged seen a todo v r t output
+unfolding judged enact remembers alreadyLive
+judged-good a todo v r t output s = rw s
+
+-- with both decided apart
 unfoldable pub goodJudge : Bool → Arrival → Relay → Tally → List ℕ → Judgement
-goodJudge seen a r t output = judged a (goodPlan seen (viewAt (a .clock) r) a) (viewAt (a .clock) r) r t output
+goodJudge seen a r t output = goodJudged seen a (goodPlan seen (viewAt (a .clock) r) a) (viewAt (a .clock) r) r t output
 
 pub quick : (a : Arrival) (r : Relay) (t : Tally) (output : List ℕ) {seen : Bool}
     → packetRefusal r a (length output) ≡ 0
@@ -112,4 +130,4 @@ pub quick : (a : Arrival) (r : Relay) (t : Tally) (output : List ℕ) {seen : Bo
 unfolding packetCall judge goodJudge _then_otherwise_
 quick a r t output accepted s g =
     let v : View = viewAt (a .clock) r in
-    rw accepted (ap (λ (todo : Plan). judged a todo v r t output) (plan-good v a s g))
+    rw accepted (ap (λ (todo : Plan). judged a todo v r t output) (plan-good v a s g) ∙ judged-good a (goodPlan _ v a) v r t output s)

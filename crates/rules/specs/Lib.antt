@@ -22,3 +22,4 @@ pub mod Chatty
 pub mod DeadPaths
 pub mod Lengths
 pub mod Reasons
+pub mod OldAnnounces

@@ -34,7 +34,8 @@ rateSettingsOk s = leb (s .target) targetLimit and leb (s .grace) graceLimit and
 unfoldable pub rateEntryOk : RateEntry → Bool
 rateEntryOk e = ltb (e .last) clockLimit and ltb (e .violations) 256 and leb (e .«blocked_until») blockedLimit
 
--- a stored port over 15; blob count outside 1..16 in a used record. Hops are a byte, which no bytes of tables can break
+-- a stored port over 15; blob count outside its limits in a used record: 1..16 in document 01, in wish 8 "Refusal 7 reads 1..64". Hops are a byte, which no
+-- bytes of tables can break
 unfoldable pub pathOk : Path → Bool
 pathOk p =
     ltb (p .port) portCount

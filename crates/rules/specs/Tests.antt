@@ -180,21 +180,21 @@ ofKnown a test (along-link l) = false
 ofKnown a test (by-return t) = false
 ofKnown a test (blocked why) = false
 
--- 10. Replay: the announce's blob is stored in its live path.
+-- 10. Replay: the announce's blob is stored in its live path. Wish 6: not made of one that `revives` it
 unfoldable pub isReplay : Arrival → Path → Bool
 isReplay a p = isAmong (blob a) (held (p .blobs))
 
 unfoldable pub replay : Arrival → Way → Bool
 replay a = ofKnown a (isReplay a)
 
--- 11. Not better: emission not above the greatest among stored blobs, and hops not below the stored hops.
+-- 11. Not better: emission not above the greatest among stored blobs, and hops not below the stored hops. Wish 6: not made of one that `revives` the path
 unfoldable pub isNotBetter : Arrival → Path → Bool
 isNotBetter a p = leb (emissionOf (blob a)) (greatestEmission (held (p .blobs))) and leb (p .hops) (hops a)
 
 unfoldable pub notBetter : Arrival → Way → Bool
 notBetter a = ofKnown a (isNotBetter a)
 
--- 15. Document 02, wish 5: "drop 15, tested after 11", by the rate rule. "A destination with no live path is let through"
+-- 15. Document 02, wish 5: "drop 15, tested after 11", by the rate rule. "A destination with no live path is let through". Wish 6: nor of one that `revives` it
 unfoldable pub isRateLimited : View → Arrival → Path → Bool
 isRateLimited v a p = rated (v .rate) (a .clock) (p .rate) .dropped
 

@@ -54,7 +54,8 @@ remember a r =
     r
 
 -- ---- paths
--- an accepted announce sets arrival port, hops, expiry, and next hop (relay address, or the destination if type 1), and adds its blob
+-- an accepted announce sets arrival port, hops, expiry, and next hop (relay address, or the destination if type 1), and adds its blob; wish 6: "a blob already
+-- stored isn't stored twice"
 unfoldable pub announcedBlobs : Arrival → Slot Path → Blobs
 announcedBlobs a empty = oneBlob blobLimit (blob a)
 announcedBlobs a (used p) = storeBlob blobLimit (blob a) (p .blobs)

@@ -2,32 +2,40 @@
 -- bytes keep the rules exactly if the other's do.
 use Prim.Native.Nat.{ℕ, _+_, _-_, _*_, _≤_, _<_, zero-le}
 use Prim.Native.String.{String}
-use native.Mathlib.Nat.{add-zero, zero-add, le-refl}
+use native.Mathlib.Nat.{add-zero, zero-add, mul-add, le-refl}
+use native.Mathlib.Decide.{decLt}
 use native.Mathlib.Omega.{arith}
-use mathlib.Core.Bool.{Bool}
+use mathlib.Core.Bool.{Bool, true, false}
 use mathlib.Core.List.{List, [], _++_, append-assoc, append-nil}
 use mathlib.Core.Path.{_≡_, refl, sym, ap, ap₂, subst, _∙_}
 use lib.Dec.{eqb}
-use lib.ListN.{length, getD, take, drop, replicate, length-append, length-replicate, replicate-append-replicate, List·getD-append}
+use lib.ListN.{length, getD, take, drop, replicate, length-append, length-replicate, replicate-append-replicate, List·getD-append, List·getD-eq-default}
 use lib.Seq.{getD-append-add}
+use borrow.Rule.Slice.PartMut.{putMid}
 use Rattle.octets.specs.Index.{_and_, allBelow, listOf, zeros}
 use Rattle.octets.specs.Choice.{_then_otherwise_}
 use Rattle.octets.specs.Part.{part, patch}
-use Rattle.octets.proofs.Index.{and-left, and-right, and-yes, all-plus, all-cong}
+use Rattle.octets.proofs.Index.{and-left, and-right, and-yes, all-plus, all-intro, all-cong}
 use Rattle.octets.proofs.Agree.{zeros-replicate}
-use Rattle.octets.proofs.ListOf.{listOf-cong}
-use Rattle.octets.proofs.Part.{part-length, part-part, part-mid, part-split, part-whole, part-range, patch-mid}
+use Rattle.octets.proofs.ListOf.{listOf-length, listOf-at, listOf-cong}
+use Rattle.octets.proofs.Part.{part-length, part-part, part-mid, part-split, part-whole, part-range, patch-mid, patch-range}
 use Rattle.recording.proofs.Sums.{part-last}
-use Rattle.codes.specs.Codes.{Slot, empty, used}
-use Rattle.codes.specs.Form.{Form, given, field, _&_, many, slot, that, asRecord, code}
+use Rattle.codes.specs.Codes.{Slot, empty, used, fill}
+use Rattle.codes.specs.Form.{Form, given, field, _&_, many, firstsOf, slot, that, asRecord, code}
 use Rattle.codes.proofs.Same.{Same, same-inside, same-byte}
 use Rattle.codes.proofs.Law.{back-at, passes-at}
+use Rattle.codes.proofs.Rows.{row-end}
 use Rattle.codes.proofs.Forms.{lawful}
 use Rattle.saved.specs.Steps.{opened}
 
 pub record Alike {A : Type 0} (f g : Form A) (t : List ℕ) (a : ℕ) (u : List ℕ) (b : ℕ) : Type 0 where
   pub reads : code f .read t a ≡ code g .read u b
   pub tests : code f .fine t a ≡ code g .fine u b
+
+pub and-last : (x : Bool) {y : Bool} → y ≡ true → (x and y) ≡ x
+unfolding _and_
+and-last true e = e
+and-last false e = refl
 
 -- ---- one form, of the same bytes; and a field that an edition lacks, of the bytes of its value
 pub same-alike : {A : Type 0} (f : Form A) {t u : List ℕ} {a b : ℕ} → Same (code f .width) t a u b → Alike f f t a u b
@@ -141,6 +149,34 @@ opened-written to from k l m e =
     ∙ append-assoc x gap (z ++ [])
     ∙ ap (λ (y : List ℕ). x ++ (gap ++ y)) (append-nil z)
 
+-- ---- zeros that stay around what is written
+part-zeros : (n k m : ℕ) → k + m ≤ n → part (replicate n 0) k m ≡ replicate m 0
+part-zeros n k m l =
+    let r : ℕ = n - (k + m) in
+    let zero : (i : ℕ) → length (replicate {A = ℕ} i 0) ≡ i = λ i. length-replicate {A = ℕ} i 0 in
+    let all : n ≡ k + (m + r) = omega arith in
+    ap (λ (x : List ℕ). part x k m)
+    (ap (λ (i : ℕ). replicate i 0) all
+    ∙ sym (replicate-append-replicate k (m + r) 0)
+    ∙ ap (λ (y : List ℕ). replicate k 0 ++ y) (sym (replicate-append-replicate m r 0)))
+    ∙ part-mid (replicate k 0) (replicate m 0) (replicate r 0) k m (zero k) (zero m)
+
+pub zeros-lent : (t : List ℕ) (n k : ℕ) → t ≡ replicate n 0 → k ≤ n → take (k - 0) (drop 0 t) ≡ replicate k 0
+unfolding part
+zeros-lent t n k e l =
+    let all : k - 0 ≡ k = omega arith in
+    ap (λ (i : ℕ). take i (drop 0 t)) all ∙ ap (λ (x : List ℕ). part x 0 k) e ∙ part-zeros n 0 k (omega arith)
+
+-- the first k bytes of n zeros are lent, and s stands there afterwards
+pub zeros-behind-put : (t s : List ℕ) (n k : ℕ) → t ≡ replicate n 0 → length s ≡ k → k ≤ n → putMid 0 (k - 0) t s ≡ s ++ replicate (n - k) 0
+zeros-behind-put t s n k e long l =
+    let all : k - 0 ≡ 0 + k - 0 = omega arith in
+    let whole : n ≡ k + (n - k) = omega arith in
+    ap (λ (i : ℕ). putMid 0 i t s) all
+    ∙ patch-range t 0 k s long
+    ∙ ap (λ (x : List ℕ). patch x 0 s) (e ∙ ap (λ (i : ℕ). replicate i 0) whole ∙ sym (replicate-append-replicate k (n - k) 0))
+    ∙ patch-mid [] (replicate k 0) (replicate (n - k) 0) s 0 refl (length-replicate {A = ℕ} k 0 ∙ sym long)
+
 -- what is lent of a longer run of bytes
 pub opened-lent : (f : List ℕ) (at : ℕ) {w k W K : ℕ} (N L : ℕ) → k ≡ K → w ≡ W → at + W ≤ length f → L ≡ W + N
     → opened k (L - length (take (at + w - at) (drop at f))) (take (at + w - at) (drop at f)) ≡ opened K N (part f at W)
@@ -175,6 +211,9 @@ zeros-opened k n b l =
     (sym (zeros-append (replicate n 0) z n (length b - k) (length-replicate {A = ℕ} n 0) ∙ and-yes _ (zeros-replicate n)))
     ∙ sym (zeros-append x (replicate n 0 ++ z) k (n + (length b - k)) (front k n b l))
     ∙ ap (λ (j : ℕ). zeros j (x ++ (replicate n 0 ++ z))) (omega arith)
+
+pub zeros-behind : (x : List ℕ) (k m : ℕ) → length x ≡ k → zeros (k + m) (x ++ replicate m 0) ≡ zeros k x
+zeros-behind x k m e = zeros-append x (replicate m 0) k m e ∙ and-last _ (zeros-replicate m)
 
 -- the L bytes of t from a on stand in u from b on, with n zeros put in at place k
 pub record Opening (t : List ℕ) (a : ℕ) (u : List ℕ) (b k n L : ℕ) : Type 0 where
@@ -261,3 +300,47 @@ two-alike {A} {B} {g} {f} {k} {h} (both-lacked v w good e) {t} {u} {a} {b} {n} p
       record { reads = ap (λ (y : A × B). y .0) (p .reads); tests = sym (and-left _ _ (sym (p .tests))) },
       record { reads = ap (λ (y : A × B). y .1) (p .reads); tests = sym (and-right _ _ (sym (p .tests))) },
     )
+
+-- ---- a list that has fewer places in an edition: today the others hold `spare`, which is zeros
+module _ {A : Type 0} (m n : ℕ) (l : m ≤ n) (spare : A) (f : Form A) (good : code f .Good spare)
+    (zero : code f .write spare ≡ replicate (code f .width) 0) (t u : List ℕ) (a b : ℕ) (same : Same (code f .width * m) t a u b)
+    (rest : part u (b + code f .width * m) (code f .width * (n - m)) ≡ replicate (code f .width * (n - m)) 0) where
+  abbrev w : ℕ
+  w = code f .width
+
+  abbrev read-of : List ℕ → A
+  read-of x = code f .read x 0
+
+  abbrev fine-of : List ℕ → Bool
+  fine-of x = code f .fine x 0
+
+  here : (i : ℕ) → i < m → part t (a + w * i) w ≡ part u (b + w * i) w
+  here i k = same-inside (w * m) t a u b same (w * i) w (row-end w m i k)
+
+  behind : (j : ℕ) → j < n - m → part u (b + w * (m + j)) w ≡ code f .write spare
+  behind j k =
+      let place : b + w * (m + j) ≡ b + w * m + w * j = omega (arith, mul-add w m j) in
+      ap (λ (c : ℕ). part u c w) place
+      ∙ sym (part-part u (b + w * m) (w * (n - m)) (w * j) w (row-end w (n - m) j k))
+      ∙ ap (λ (x : List ℕ). part x (w * j) w) rest
+      ∙ part-zeros (w * (n - m)) (w * j) w (row-end w (n - m) j k)
+      ∙ sym zero
+
+  pub first-alike : Alike (firstsOf m n l spare f) (many n spare f) t a u b
+  unfolding fill
+  first-alike = record { reads = listOf-cong _ _ n (λ i k. read-at i k (decLt i m)); tests = all-cong _ _ m (λ i k. ap fine-of (here i k)) ∙ sym tested }
+    where
+      read-at : (i : ℕ) → i < n → Dec (i < m) → getD (listOf (λ j. read-of (part t (a + w * j) w)) m) i spare ≡ read-of (part u (b + w * i) w)
+      read-at i k (yes q) = listOf-at (λ j. read-of (part t (a + w * j) w)) m i spare q ∙ ap read-of (here i q)
+      read-at i k (no q) =
+          let back : i ≡ m + (i - m) = omega arith in
+          List·getD-eq-default (listOf (λ j. read-of (part t (a + w * j) w)) m) spare {n = i}
+          (omega (arith, listOf-length (λ j. read-of (part t (a + w * j) w)) m))
+          ∙ sym (ap (λ (j : ℕ). read-of (part u (b + w * j) w)) back ∙ ap read-of (behind (i - m) (omega arith)) ∙ lawful f .back spare good)
+
+      tested : allBelow (λ i. fine-of (part u (b + w * i) w)) n ≡ allBelow (λ i. fine-of (part u (b + w * i) w)) m
+      tested =
+          let all : n ≡ m + (n - m) = omega arith in
+          ap (allBelow (λ i. fine-of (part u (b + w * i) w))) all
+          ∙ all-plus (λ i. fine-of (part u (b + w * i) w)) m (n - m)
+          ∙ and-last _ (all-intro (λ j. fine-of (part u (b + w * (m + j)) w)) (n - m) (λ j k. ap fine-of (behind j k) ∙ lawful f .passes spare good))

@@ -1,20 +1,20 @@
 -- A file of any edition, as the tables have it: what they then hold is what the file holds, and they pass refusal 7 exactly if its bodies do.
 use Prim.Native.Nat.{ℕ, zero, suc, _+_, _-_, _*_, _≤_, _<_}
-use native.Mathlib.Nat.{zero-add, add-zero, le-refl}
+use native.Mathlib.Nat.{zero-add, le-refl, not-suc-le-zero}
 use native.Mathlib.Numerals.{add-one}
 use native.Mathlib.Omega.{arith}
-use mathlib.Core.Bool.{Bool, true, false, false≢true}
+use mathlib.Core.Bool.{true, false}
 use mathlib.Core.List.{List, [], _++_}
 use mathlib.Core.Path.{_≡_, refl, sym, ap, ap₂, _∙_}
-use lib.Dec.{eqb, lit<}
-use borrow.Author.Tests.{eq-eqb, eqb-true, ltb-true, leb-true}
-use lib.ListN.{length, getD, take, drop, replicate, length-append, take-append-drop}
+use lib.Dec.{lit<}
+use borrow.Author.Tests.{eq-eqb, ltb-true, leb-true}
+use lib.ListN.{length, getD, take, drop, replicate, length-append, length-replicate, take-append-drop}
 use Rattle.octets.specs.Bytes.{Bytes}
 use Rattle.octets.specs.Index.{_and_, allBelow, listOf, zeros}
 use Rattle.octets.specs.Choice.{_then_otherwise_}
 use Rattle.octets.specs.Part.{part, patch, joined}
 use Rattle.octets.specs.BigEndian.{number, bigEndian}
-use Rattle.octets.proofs.Index.{and-left, and-right, and-yes, all-none, all-more, all-fails, all-cong}
+use Rattle.octets.proofs.Index.{and-left, and-right, and-both, all-none, all-more, all-fails, all-at, all-intro, all-cong}
 use Rattle.octets.proofs.Bytes.{append-bytes, replicate-bytes, part-bytes}
 use Rattle.octets.proofs.Part.{part-length, part-part, part-mid, part-whole, patch-join, patch-whole}
 use Rattle.codes.specs.Form.{mark, octetsIn, numberIn, many, slot, that, code}
@@ -24,19 +24,20 @@ use Rattle.codes.proofs.Forms.{lawful}
 use Rattle.codes.proofs.Same.{Same, same-first, same-inside, same-byte}
 use Rattle.recording.specs.Shape.{sumBelow}
 use Rattle.recording.proofs.Sums.{sum-cong, sum-const, joined-sum, joined-found, joined-each-bytes, joined-none, joined-more, patch-three, part-last, part-front, part-back}
-use Rattle.numbers.specs.Numbers.{portCount, localCount, pathCount}
+use Rattle.numbers.specs.Numbers.{portCount, localCount, pathCount, blobLimit}
 use Rattle.rules.specs.Relay.{noPort, noRateSettings, noRateEntry, empty}
 use Rattle.rules.specs.Refusals.{timeOk, rateSettingsOk}
-use Rattle.tables.specs.Forms.{Edition, today, addressWidth, timeWidth, rateSettingsForm, rateEntryForm, portForm, localForm, headForm, blobsForm, pathFormIn, pathForm, backForm, relayFormIn, relayForm}
+use Rattle.tables.specs.Forms.{BlobRoom, Edition, addressWidth, timeWidth, blobWidth, rateSettingsForm, rateEntryForm, portForm, localForm, headForm, pathFormIn, backForm, relayFormOf, relayFormIn}
 use Rattle.tables.specs.Places.{portWidth, localWidth, pathWidth, clockAt, rateAt, portsAt, localsAt, pathsAt, linksAt, backWidth, tableSize}
-use Rattle.tables.specs.Fields.{pathBlobsAt}
-use Rattle.tables.specs.Records.{portBytesOk, localBytesOk, pathBytesOk}
+use Rattle.tables.specs.Fields.{pathBlobsAt, blobsWidth}
+use Rattle.tables.specs.Records.{portBytesOk, localBytesOk}
 use Rattle.tables.specs.Layout.{rateSettingsIn, startOk, recordsOk, frontOk, backOk, relayOf, wellFormed}
 use Rattle.tables.proofs.Whole.{clauses}
-use Rattle.saved.specs.Editions.{edition1, edition2, editions, currentEdition, isKnown, numbered}
+use Rattle.saved.specs.Editions.{edition1, edition2, editions, currentEdition, isKnownBy, isKnown, numbered}
 use Rattle.saved.specs.File.{bodiesAt}
-use Rattle.saved.specs.Steps.{startWidth, beforeBlobs, pathWidthIn, pathsPlace, backPlace, tallyPlace, opened, frontNow, pathNow, pathsNow, pathsFine, tablesNow}
-use Rattle.saved.proofs.Alike.{Alike, same-alike, moved-alike, both-alike, field-alike, that-alike, record-alike, slot-alike, many-alike, opened-length, Opening, opening, Brought, kept, lacked, brought-within, brought-alike, BroughtTwo, first-kept, both-lacked, two-within, two-alike}
+use Rattle.saved.specs.Steps.{startWidth, beforeBlobs, mostBlobs, blobsWidthIn, pathWidthIn, pathsPlace, backPlace, tallyPlace, opened, frontNow, pathNow, pathsNow, pathFine, pathsFine, tablesNow}
+use Rattle.saved.proofs.Alike.{Alike, same-alike, moved-alike, both-alike, field-alike, that-alike, record-alike, slot-alike, many-alike, opened-length, zeros-behind, Opening, opening, Brought, kept, lacked, brought-within, brought-alike, BroughtTwo, first-kept, both-lacked, two-within, two-alike}
+use Rattle.saved.proofs.Rooms.{room-within, room-width, room-narrow, limitedPath, limited-width, limited-reads, limited-clauses, blobs-alike}
 
 -- ---- what each edition has of the fields that a later one brought
 pub record Brings (e : Edition) : Type 1 where
@@ -59,7 +60,8 @@ pub each-brings : (i : ℕ) → Brings (getD editions i edition1)
 each-brings zero = first-brings
 each-brings (suc zero) = second-brings
 each-brings (suc (suc zero)) = record { rateSettings = kept; pathFields = first-kept kept }
-each-brings (suc (suc (suc i))) = first-brings
+each-brings (suc (suc (suc zero))) = record { rateSettings = kept; pathFields = first-kept kept }
+each-brings (suc (suc (suc (suc i)))) = first-brings
 
 -- the sections before the paths, alone
 front-same : (t : List ℕ) → frontOk (part t 0 pathsAt) ≡ frontOk t
@@ -93,18 +95,37 @@ module _ (e : Edition) (h : Brings e) where
   pub before-within : beforeBlobs e ≤ pathBlobsAt
   before-within = omega (arith, entry-within)
 
+  blobs-within : blobsWidthIn e ≤ blobsWidth
+  blobs-within = room-narrow (e .blobRoom)
+
   module _ (f : List ℕ) (size : tallyPlace e ≤ length f) where
     -- ---- one path
     module _ (i : ℕ) (l : i < pathCount) where
       pub path-end : pathsPlace e + pathWidthIn e * i + pathWidthIn e ≤ length f
       path-end = omega (arith, size, row-end (pathWidthIn e) pathCount i l)
 
+      -- its bytes in the file, and these with zeros before the blobs
+      abbrev old : List ℕ
+      old = part f (pathsPlace e + pathWidthIn e * i) (pathWidthIn e)
+
+      abbrev front : List ℕ
+      front = opened (beforeBlobs e) (pathBlobsAt - beforeBlobs e) old
+
+      old-length : length old ≡ pathWidthIn e
+      old-length = part-length f (pathsPlace e + pathWidthIn e * i) (pathWidthIn e) path-end
+
+      pub path-front : length front ≡ pathBlobsAt + blobsWidthIn e
+      path-front =
+          opened-length (beforeBlobs e) (pathBlobsAt - beforeBlobs e) old (omega (arith, old-length))
+          ∙ omega (arith, old-length, entry-within)
+
+      behind-length : length (replicate {A = ℕ} (blobsWidth - blobsWidthIn e) 0) ≡ blobsWidth - blobsWidthIn e
+      behind-length = length-replicate {A = ℕ} (blobsWidth - blobsWidthIn e) 0
+
       pub path-length : length (pathNow e f i) ≡ pathWidth
       unfolding pathNow
       path-length =
-          let long = part-length f (pathsPlace e + pathWidthIn e * i) (pathWidthIn e) path-end in
-          opened-length (beforeBlobs e) (pathBlobsAt - beforeBlobs e) _ (omega (arith, long))
-          ∙ omega (arith, long, entry-within)
+          length-append front (replicate (blobsWidth - blobsWidthIn e) 0) ∙ omega (arith, path-front, behind-length, blobs-within)
 
     pub paths-length : (n : ℕ) → n ≤ pathCount → length (pathsNow e f n) ≡ pathWidth * n
     unfolding pathsNow
@@ -169,40 +190,61 @@ module _ (e : Edition) (h : Brings e) where
         ∙ front-opening .after (pathsAt - portsAt) (le-refl _)
         ∙ ap (λ (a : ℕ). part (tablesNow e f) a (pathsAt - portsAt)) (omega (arith, settings-within))
 
+    abbrev room : BlobRoom
+    room = e .blobRoom
+
     module _ (i : ℕ) (l : i < pathCount) where
-      abbrev old : List ℕ
-      old = part f (pathsPlace e + pathWidthIn e * i) (pathWidthIn e)
+      abbrev gap : ℕ
+      gap = pathBlobsAt - beforeBlobs e
 
-      old-length : length old ≡ pathWidthIn e
-      old-length = part-length f (pathsPlace e + pathWidthIn e * i) (pathWidthIn e) (path-end i l)
-
-      path-opening : Opening old 0 (pathNow e f i) 0 (beforeBlobs e) (pathBlobsAt - beforeBlobs e) (pathWidthIn e)
+      path-opening : Opening (old i l) 0 (pathNow e f i) 0 (beforeBlobs e) gap (pathWidthIn e)
       unfolding pathNow
       path-opening =
-          opening old 0 (pathNow e f i) 0 (beforeBlobs e) (pathBlobsAt - beforeBlobs e) (pathWidthIn e) (omega (arith, old-length)) (omega arith)
-          (part-whole (pathNow e f i) (pathWidthIn e + (pathBlobsAt - beforeBlobs e)) (path-length i l ∙ omega (arith, entry-within))
-          ∙ ap (opened (beforeBlobs e) (pathBlobsAt - beforeBlobs e)) (sym (part-whole old (pathWidthIn e) old-length)))
+          let long : length (front i l) ≡ pathWidthIn e + gap = path-front i l ∙ omega (arith, entry-within) in
+          opening (old i l) 0 (pathNow e f i) 0 (beforeBlobs e) gap (pathWidthIn e) (omega (arith, old-length i l)) (omega arith)
+          (part-front (front i l) (replicate (blobsWidth - blobsWidthIn e) 0) 0 (pathWidthIn e + gap) (omega (arith, long))
+          ∙ part-whole (front i l) (pathWidthIn e + gap) long
+          ∙ ap (opened (beforeBlobs e) gap) (sym (part-whole (old i l) (pathWidthIn e) (old-length i l))))
+
+      path-behind : part (pathNow e f i) (pathBlobsAt + blobsWidthIn e) (blobsWidth - blobsWidthIn e) ≡ replicate (blobsWidth - blobsWidthIn e) 0
+      unfolding pathNow
+      path-behind = part-last (front i l) (replicate (blobsWidth - blobsWidthIn e) 0) _ _ (path-front i l) (behind-length i l)
 
       wide : pathWidthIn e ≡ 1 + code (pathFormIn e) .width
       wide = omega arith
 
-      path-alike : Alike (slot (pathFormIn e)) (slot pathForm) old 0 (pathNow e f i) 0
+      path-empties : zeros (pathWidthIn e) (part (old i l) 0 (pathWidthIn e)) ≡ zeros pathWidth (part (pathNow e f i) 0 pathWidth)
+      unfolding pathNow
+      path-empties =
+          let z : ℕ = blobsWidth - blobsWidthIn e in
+          let all : pathBlobsAt + blobsWidthIn e + z ≡ pathWidth = omega (arith, blobs-within) in
+          let long : pathWidthIn e + gap ≡ pathBlobsAt + blobsWidthIn e = omega (arith, entry-within) in
+          path-opening .empties
+          ∙ ap (λ (k : ℕ). zeros k (part (pathNow e f i) 0 k)) long
+          ∙ ap (zeros (pathBlobsAt + blobsWidthIn e))
+          (part-front (front i l) (replicate z 0) 0 (pathBlobsAt + blobsWidthIn e) (omega (arith, path-front i l))
+          ∙ part-whole (front i l) (pathBlobsAt + blobsWidthIn e) (path-front i l))
+          ∙ sym (zeros-behind (front i l) (pathBlobsAt + blobsWidthIn e) z (path-front i l))
+          ∙ ap₂ (λ (k : ℕ) (b : List ℕ). zeros k b) all (sym (part-whole (pathNow e f i) pathWidth (path-length i l)))
+
+      path-alike : Alike (slot (pathFormIn e)) (slot (limitedPath room)) (old i l) 0 (pathNow e f i) 0
       path-alike =
           let brought = two-alike (h .pathFields) 43 (omega (arith, entry-within)) path-opening in
-          slot-alike (same-byte 1 old 0 (pathNow e f i) 0 (path-opening .before 0 1 (omega arith)) (omega arith))
-          (ap (λ (k : ℕ). zeros k (part old 0 k)) (sym wide)
-          ∙ path-opening .empties
-          ∙ ap (λ (k : ℕ). zeros k (part (pathNow e f i) 0 k)) (omega (arith, entry-within)))
+          slot-alike (same-byte 1 (old i l) 0 (pathNow e f i) 0 (path-opening .before 0 1 (omega arith)) (omega arith))
+          (ap (λ (k : ℕ). zeros k (part (old i l) 0 k)) (sym wide)
+          ∙ path-empties
+          ∙ ap (λ (k : ℕ). zeros k (part (pathNow e f i) 0 k)) (sym (limited-width room)))
           (that-alike (record-alike
           (both-alike (same-alike headForm (path-opening .before 1 42 (omega arith)))
           (both-alike (field-alike (brought .0))
           (both-alike (field-alike (brought .1))
-          (field-alike (same-alike blobsForm
-          (ap (λ (a : ℕ). part old a 161) (sym (zero-add (beforeBlobs e)))
-          ∙ path-opening .after 161 (le-refl _)
-          ∙ ap (λ (a : ℕ). part (pathNow e f i) a 161) (omega (arith, entry-within))))))))))
+          (field-alike (blobs-alike room
+          (ap (λ (a : ℕ). part (old i l) a (blobsWidthIn e)) (sym (zero-add (beforeBlobs e)))
+          ∙ path-opening .after (blobsWidthIn e) (le-refl _)
+          ∙ ap (λ (a : ℕ). part (pathNow e f i) a (blobsWidthIn e)) (omega (arith, entry-within)))
+          path-behind)))))))
 
-    pub now-alike : Alike (relayFormIn e) relayForm f bodiesAt (tablesNow e f) 0
+    pub now-alike : Alike (relayFormIn e) (relayFormOf rateSettingsForm (limitedPath room)) f bodiesAt (tablesNow e f) 0
     now-alike =
         record-alike
         (both-alike (field-alike (same-alike (octetsIn addressWidth) (front-opening .before 0 16 (omega arith))))
@@ -210,9 +252,16 @@ module _ (e : Edition) (h : Brings e) where
         (both-alike (field-alike (brought-alike (h .rateSettings) 24 (omega (arith, settings-within)) front-opening))
         (both-alike (field-alike (same-alike (many portCount noPort portForm) (same-first _ f _ (tablesNow e f) _ middle 32 (omega arith))))
         (both-alike (field-alike (same-alike (many localCount empty (slot localForm)) (same-inside _ f _ (tablesNow e f) _ middle 32 272 (omega arith))))
-        (both-alike (field-alike (many-alike pathCount empty (λ i l. moved-alike (place i l) (now-path i l) (path-alike i l))))
-        (same-alike backForm (ap (λ (a : ℕ). part f a backWidth) (omega arith) ∙ sym now-back))))))))
+        (both-alike (field-alike (many-alike pathCount empty (λ i l. moved-alike (place i l) (there i l) (path-alike i l))))
+        (same-alike backForm
+        (ap (λ (a : ℕ). part f a backWidth) (omega arith)
+        ∙ sym now-back
+        ∙ ap (λ (w : ℕ). part (tablesNow e f) (pathsAt + w * pathCount) backWidth) (sym (limited-width room))))))))))
       where
+        there : (i : ℕ) (l : i < pathCount)
+            → part (tablesNow e f) (pathsAt + code (slot (limitedPath room)) .width * i) (code (slot (limitedPath room)) .width) ≡ pathNow e f i
+        there i l = ap (λ (w : ℕ). part (tablesNow e f) (pathsAt + w * i) w) (limited-width room) ∙ now-path i l
+
         place : (i : ℕ) (l : i < pathCount)
             → part f (bodiesAt + rateAt + code (e .rateSettings) .width + 32 + 272 + (1 + code (pathFormIn e) .width) * i) (1 + code (pathFormIn e) .width)
             ≡ old i l
@@ -220,11 +269,22 @@ module _ (e : Edition) (h : Brings e) where
 
     pub now-relay : code (relayFormIn e) .read f bodiesAt ≡ relayOf (tablesNow e f)
     unfolding relayOf
-    now-relay = now-alike .reads
+    now-relay = now-alike .reads ∙ limited-reads room (tablesNow e f)
 
-    pub now-formed : code (relayFormIn e) .fine f bodiesAt ≡ wellFormed (tablesNow e f)
-    unfolding wellFormed
-    now-formed = now-alike .tests ∙ sym (and-yes _ (eq-eqb _ tableSize now-length))
+    now-tested : code (relayFormIn e) .fine f bodiesAt
+        ≡ (frontOk (tablesNow e f) and recordsOk (pathFine e) pathsAt pathWidth pathCount (tablesNow e f) and backOk (tablesNow e f) linksAt)
+    now-tested = now-alike .tests ∙ limited-clauses e (tablesNow e f)
+
+    -- what keeps an edition's limit keeps today's
+    pub now-formed : code (relayFormIn e) .fine f bodiesAt ≡ true → wellFormed (tablesNow e f) ≡ true
+    unfolding recordsOk pathFine
+    now-formed q =
+        let tested = sym now-tested ∙ q in
+        let paths = and-left _ _ (and-right _ _ tested) in
+        clauses (tablesNow e f)
+        ∙ and-both (eq-eqb _ tableSize now-length)
+        (and-both (and-left _ _ tested)
+        (and-both (all-intro _ pathCount (λ i l. and-left _ _ (all-at _ pathCount i paths l))) (and-right _ _ (and-right _ _ tested))))
 
     pub now-bytes : Bytes f → Bytes (tablesNow e f)
     unfolding tablesNow frontNow pathsNow pathNow
@@ -238,40 +298,39 @@ module _ (e : Edition) (h : Brings e) where
         paths-bytes : Bytes (pathsNow e f pathCount)
         paths-bytes =
             joined-each-bytes (pathNow e f) (λ i. i) pathCount
-            (λ i l. opened-bytes (beforeBlobs e) (pathBlobsAt - beforeBlobs e) _ (part-bytes f (pathsPlace e + pathWidthIn e * i) (pathWidthIn e) b))
+            (λ i l.
+            append-bytes (front i l) (replicate (blobsWidth - blobsWidthIn e) 0)
+            (opened-bytes (beforeBlobs e) (pathBlobsAt - beforeBlobs e) _ (part-bytes f (pathsPlace e + pathWidthIn e * i) (pathWidthIn e) b))
+            (replicate-bytes (blobsWidth - blobsWidthIn e) 0 (lit< tt)))
 
     -- ---- the three parts, as the code tests them
     front-seen : frontOk (tablesNow e f) ≡ frontOk (frontNow e f)
     front-seen = sym (front-same (tablesNow e f)) ∙ ap frontOk now-front
 
-    paths-seen : recordsOk pathBytesOk pathsAt pathWidth pathCount (tablesNow e f) ≡ pathsFine e f pathCount
+    paths-seen : recordsOk (pathFine e) pathsAt pathWidth pathCount (tablesNow e f) ≡ pathsFine e f pathCount
     unfolding recordsOk pathsFine
-    paths-seen = all-cong _ _ pathCount (λ i l. ap pathBytesOk (now-path i l))
+    paths-seen = all-cong _ _ pathCount (λ i l. ap (pathFine e) (now-path i l))
 
     back-seen : backOk (tablesNow e f) linksAt ≡ backOk f (backPlace e)
     unfolding backOk
     back-seen = lawful backForm .tests (tablesNow e f) linksAt f (backPlace e) now-back
 
     pub now-clauses : code (relayFormIn e) .fine f bodiesAt ≡ (frontOk (frontNow e f) and pathsFine e f pathCount and backOk f (backPlace e))
-    now-clauses =
-        now-formed
-        ∙ clauses (tablesNow e f)
-        ∙ and-yes _ (eq-eqb _ tableSize now-length)
-        ∙ (λ i. front-seen i and paths-seen i and back-seen i)
+    now-clauses = now-tested ∙ (λ i. front-seen i and paths-seen i and back-seen i)
 
 -- ---- record by record
 module _ (e : Edition) (f : List ℕ) where
   pub fine-none : pathsFine e f 0 ≡ true
   unfolding pathsFine
-  fine-none = all-none (λ i. pathBytesOk (pathNow e f i))
+  fine-none = all-none (λ i. pathFine e (pathNow e f i))
 
-  pub fine-more : (i : ℕ) → pathsFine e f i ≡ true → pathBytesOk (pathNow e f i) ≡ true → pathsFine e f (i + 1) ≡ true
+  pub fine-more : (i : ℕ) → pathsFine e f i ≡ true → pathFine e (pathNow e f i) ≡ true → pathsFine e f (i + 1) ≡ true
   unfolding pathsFine
-  fine-more i = all-more (λ k. pathBytesOk (pathNow e f k)) i
+  fine-more i = all-more (λ k. pathFine e (pathNow e f k)) i
 
-  pub fine-fails : (i : ℕ) → i < pathCount → pathBytesOk (pathNow e f i) ≡ false → pathsFine e f pathCount ≡ false
+  pub fine-fails : (i : ℕ) → i < pathCount → pathFine e (pathNow e f i) ≡ false → pathsFine e f pathCount ≡ false
   unfolding pathsFine
-  fine-fails i = all-fails (λ k. pathBytesOk (pathNow e f k)) i pathCount
+  fine-fails i = all-fails (λ k. pathFine e (pathNow e f k)) i pathCount
 
   pub paths-none : (t : List ℕ) → t ≡ patch t pathsAt (pathsNow e f 0)
   unfolding pathsNow patch
@@ -309,24 +368,37 @@ module _ (n : ℕ) where
   pub before-most : beforeBlobs (numbered n) ≤ pathBlobsAt
   before-most = before-within (numbered n) (each-brings (n - 1))
 
+  pub path-most : pathWidthIn (numbered n) ≤ pathWidth
+  path-most = omega (arith, before-most, room-narrow (numbered n .blobRoom))
+
+  pub path-ends : pathBlobsAt + blobsWidthIn (numbered n) ≤ pathWidth
+  path-ends = omega (arith, room-narrow (numbered n .blobRoom))
+
+  pub blobs-most : mostBlobs (numbered n .blobRoom) ≤ blobLimit
+  blobs-most = room-within (numbered n .blobRoom)
+
+  pub blobs-wide : blobsWidthIn (numbered n) ≡ 1 + blobWidth * mostBlobs (numbered n .blobRoom)
+  blobs-wide = room-width (numbered n .blobRoom)
+
   known-low : isKnown n ≡ true → 0 < n
-  unfolding isKnown
+  unfolding isKnown isKnownBy
   known-low h = ltb-true 0 n (and-left _ _ h)
 
   known-high : isKnown n ≡ true → n ≤ currentEdition
-  unfolding isKnown
+  unfolding isKnown isKnownBy
   known-high h = leb-true n currentEdition (and-right _ _ h)
 
-  pub last-known : isKnown n ≡ true → (n ≡ 1 → ⊥) → (n ≡ 2 → ⊥) → n ≡ currentEdition
-  last-known h one two = omega (arith, known-low h, known-high h, one, two)
-
-  -- from edition 2 on, settings stand in the first body
-  pub later-start : isKnown n ≡ true → (n ≡ 1 → ⊥) → startWidth (numbered n) ≡ portsAt
-  later-start h one = go (eqb n 2) refl
+  -- what holds of each edition that there is
+  pub each-known : (P : ℕ → Type 0) → isKnown n ≡ true → P 1 → P 2 → P 3 → P 4 → P n
+  each-known P h one two three four = go n (known-low h) (known-high h)
     where
-      go : (b : Bool) → eqb n 2 ≡ b → startWidth (numbered n) ≡ portsAt
-      go true q = ap (λ (m : ℕ). startWidth (numbered m)) (eqb-true n 2 q)
-      go false q = ap (λ (m : ℕ). startWidth (numbered m)) (last-known h one (λ (e : n ≡ 2). false≢true (sym q ∙ eq-eqb n 2 e)))
+      go : (k : ℕ) → 0 < k → k ≤ currentEdition → P k
+      go zero low high = absurd (not-suc-le-zero low)
+      go (suc zero) low high = one
+      go (suc (suc zero)) low high = two
+      go (suc (suc (suc zero))) low high = three
+      go (suc (suc (suc (suc zero)))) low high = four
+      go (suc (suc (suc (suc (suc k))))) low high = absurd (omega (arith, high))
 
   -- path i's record stands in the file
   pub path-room : (f : List ℕ) → tallyPlace (numbered n) ≤ length f → (i : ℕ) → i < pathCount

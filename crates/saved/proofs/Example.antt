@@ -1,45 +1,50 @@
 -- What is stated of all files, on one: a relay with two ports on, a path and a remembered hash; and on one of edition 1. The contents and the refusals are
 -- computed.
-use Prim.Native.Nat.{ℕ, zero, suc, _≤_}
+use Prim.Native.Nat.{ℕ, zero, suc, _+_, _-_, _*_, _≤_, _<_}
+use native.Mathlib.Decide.{decLt}
 use native.Mathlib.Omega.{arith}
 use mathlib.Core.Bool.{true, false}
 use mathlib.Core.List.{List, [], _∷_, _++_, append-assoc}
 use mathlib.Core.Path.{_≡_, refl, sym, ap, subst, _∙_}
-use lib.Dec.{lit<}
-use lib.ListN.{length, getD, take, set, replicate, length-replicate}
+use lib.Dec.{leb, lit<}
+use lib.ListN.{length, getD, take, set, replicate, length-replicate, List·getD-eq-default}
 use Rattle.octets.specs.Bytes.{Bytes}
 use Rattle.octets.specs.Index.{_and_, allBelow, listOf}
 use Rattle.octets.specs.Choice.{_then_otherwise_}
-use Rattle.octets.specs.Listed.{firstOf}
+use Rattle.octets.specs.Listed.{_gives_otherwise_, firstOf}
 use Rattle.octets.specs.Part.{part, patch, joined}
 use Rattle.octets.specs.BigEndian.{numberFrom, number, bigEndian}
-use Rattle.codes.specs.Form.{slot, code}
+use Rattle.octets.proofs.ListOf.{listOf-length, listOf-at, listOf-cong, listOf-getD}
+use Rattle.codes.specs.Codes.{fill}
+use Rattle.codes.specs.Form.{octetsIn, many, slot, code}
 use Rattle.recording.specs.Shape.{kindOf, editionOf, countOf, offsetOf, lengthOf, sumBelow, runningPlace, offsetsRight, endRight}
+use Rattle.numbers.specs.Numbers.{blobLimit}
 use Rattle.rules.specs.Relay.{noRateSettings, noRateEntry, Slot, empty, used, Path, makePath, Relay}
+use Rattle.rules.specs.Blobs.{noBlob}
 use Rattle.rules.specs.Refusals.{tablesOk}
 use Rattle.rules.specs.declared.Tally.{Tally}
 use Rattle.rules.proofs.History.{Fits}
 use Rattle.rules.proofs.Unfolding.{rules}
 use Rattle.rules.proofs.Outcomes.{relayOf, knownPath, linkOf, returnOf}
-use Rattle.tables.specs.Forms.{pathFormIn, pathForm, relayFormIn, relayForm}
+use Rattle.tables.specs.Forms.{blobWidth, pathFormIn, pathForm, relayFormIn, relayForm}
 use Rattle.tables.specs.Places.{tableSize}
 use Rattle.tables.specs.Layout.{relayOf as layoutRelay, bytesOf, wellFormed}
 use Rattle.tables.specs.Shape.{isByte, isBytes, pathShaped, linkShaped, returnShaped, hashShaped, shaped}
 use Rattle.tables.proofs.Whole.{relay-good, back, ok-bytes, bytes-bytes}
-use Rattle.saved.specs.Editions.{edition1, isKnown, held, current, widthAt}
+use Rattle.saved.specs.Editions.{olderBlobLimit, edition1, isKnownBy, isKnown, held, current, widthAt}
 use Rattle.saved.specs.File.{bodyCount, fileIn, savedSize}
 use Rattle.saved.specs.Save.{saveRows, saveRefusal, saveOn}
-use Rattle.saved.specs.Load.{lengthWrong, kindWrong, contentsWrong, sizesRight, bodiesWrong, loadRows, loadRefusal, LoadedOn, loadOn}
+use Rattle.saved.specs.Load.{lengthWrong, kindWrongBy, kindWrong, contentsWrong, sizesRight, bodiesWrong, loadRows, loadRefusal, LoadedOn, loadOn}
 use Rattle.saved.specs.Steps.{startBytes, entryBytes, contentsBytes}
 use Rattle.saved.proofs.SaveLaws.{refused-tables, refused-room, save-refused, file-made}
 use Rattle.saved.proofs.LoadLaws.{other-size, load-refused, load-number}
 use Rattle.saved.proofs.Made.{file-long}
-use Rattle.saved.proofs.RoundTrip.{written, written-file, written-edition, written-bytes, save-then-load, loaded-formed, load-then-save, older-loads}
+use Rattle.saved.proofs.RoundTrip.{written, written-file, written-edition, written-bytes, earlier-refuses, save-then-load, loaded-formed, load-then-save, older-loads}
 
 -- ---- what is computed with
 unfoldable pub computing : Unit {0}
 unfolding number numberFrom bigEndian part joined listOf allBelow sumBelow firstOf _and_ _then_otherwise_ widthAt entryBytes contentsBytes
-    loadRefusal loadRows lengthWrong kindWrong contentsWrong bodiesWrong sizesRight isKnown endRight offsetsRight runningPlace kindOf editionOf
+    loadRefusal loadRows lengthWrong kindWrong kindWrongBy contentsWrong bodiesWrong sizesRight isKnown isKnownBy endRight offsetsRight runningPlace kindOf editionOf
     countOf offsetOf lengthOf
 computing = tt
 
@@ -81,7 +86,7 @@ small = record { total = lit< tt; dropped = lit< tt; delivered = lit< tt; forwar
 
 -- eight bytes more than the file has; tables and a tally that hold something else
 abbrev pub room : List ℕ
-room = replicate 72364 9
+room = replicate (savedSize + 8) 9
 
 abbrev pub other : List ℕ
 other = replicate tableSize 255
@@ -90,7 +95,7 @@ abbrev pub old : Tally
 old = record { total = 5; dropped = 5; delivered = 0; forwarded = 0; spread = 0; kept = 0 }
 
 pub large : savedSize ≤ length room
-large = omega (arith, length-replicate {A = ℕ} 72364 9)
+large = omega (arith, length-replicate {A = ℕ} (savedSize + 8) 9)
 
 -- the file, as it stands in the room
 abbrev pub file : List ℕ
@@ -107,30 +112,40 @@ saved-again =
     (ap (λ (x : LoadedOn). x .refusal) loaded)
     (written-edition tables tally are-bytes well small room large) room large
 
+-- a program of edition 3 refuses it
+pub earlier : _≡_ {A = ℕ} (firstOf (lengthWrong file gives 20 otherwise kindWrongBy 3 file gives 21 otherwise []) 0) 21
+earlier = earlier-refuses tables tally are-bytes well small room large 3 (lit< tt) []
+
 -- loaded tables pass refusal 7
 pub loaded-well : wellFormed (loadOn file other old .tables) ≡ true
 loaded-well =
     loaded-formed file other old (written-bytes tables tally are-bytes well small room large) (ap (λ (x : LoadedOn). x .refusal) loaded)
 
--- ---- the contents, computed: kind, edition, count; then the offset and the length of each body
+-- ---- the contents, computed: kind, edition, count; then the offset and the length of each body. The paths' is 44,928 bytes long with 64 blobs a path
+abbrev row : ℕ → ℕ → List ℕ
+row offset long = bigEndian 4 offset ++ bigEndian 2 long
+
+abbrev pathsLong : ℕ
+pathsLong = 3968 + 640 * blobLimit
+
 abbrev pub contents : List ℕ
 contents =
-    2 ∷ 3 ∷ 0 ∷ 8 ∷
-    0 ∷ 0 ∷ 0 ∷ 52 ∷ 0 ∷ 36 ∷
-    0 ∷ 0 ∷ 0 ∷ 88 ∷ 0 ∷ 32 ∷
-    0 ∷ 0 ∷ 0 ∷ 120 ∷ 1 ∷ 16 ∷
-    0 ∷ 0 ∷ 1 ∷ 136 ∷ 55 ∷ 128 ∷
-    0 ∷ 0 ∷ 57 ∷ 8 ∷ 7 ∷ 128 ∷
-    0 ∷ 0 ∷ 64 ∷ 136 ∷ 54 ∷ 2 ∷
-    0 ∷ 0 ∷ 118 ∷ 138 ∷ 164 ∷ 2 ∷
-    0 ∷ 1 ∷ 26 ∷ 140 ∷ 0 ∷ 24 ∷
-    []
+    2 ∷ 4 ∷ 0 ∷ 8 ∷
+    (row 52 36
+    ++ (row 88 32
+    ++ (row 120 272
+    ++ (row 392 pathsLong
+    ++ (row (392 + pathsLong) 1920
+    ++ (row (2312 + pathsLong) 13826
+    ++ (row (16138 + pathsLong) 41986
+    ++ row (58124 + pathsLong) 24)))))))
 
 start : startBytes ++ contentsBytes bodyCount ≡ contents
 unfolding computing
 start = refl
 
 pub begins : take 52 file ≡ contents
+unfolding bigEndian
 begins =
     ap (take 52)
     (written-file tables tally are-bytes well small room large
@@ -144,14 +159,14 @@ abbrev pub empties : List ℕ
 empties = 2 ∷ 1 ∷ 0 ∷ 8 ∷ joined (λ i. 0 ∷ 0 ∷ 0 ∷ 52 ∷ 0 ∷ 0 ∷ []) (listOf (λ i. i) 8)
 
 -- where two faults meet, the earlier row's number: nothing; three bytes; a byte too many, of another kind; of another kind, with another count;
--- edition 0; edition 4; no entries; a wrong offset, and bodies of wrong length; bodies of wrong length, and tables of another size; cut by a byte
+-- edition 0; edition 5; no entries; a wrong offset, and bodies of wrong length; bodies of wrong length, and tables of another size; cut by a byte
 pub refusals : _≡_ {A = List ℕ}
     (loadRefusal [] 0 ∷
     loadRefusal (2 ∷ 1 ∷ 0 ∷ []) 0 ∷
     loadRefusal (1 ∷ 1 ∷ 0 ∷ 0 ∷ 0 ∷ []) 0 ∷
     loadRefusal (1 ∷ 1 ∷ 0 ∷ 0 ∷ []) 0 ∷
     loadRefusal (set empties 1 0) 0 ∷
-    loadRefusal (set empties 1 4) 0 ∷
+    loadRefusal (set empties 1 5) 0 ∷
     loadRefusal (2 ∷ 1 ∷ 0 ∷ 0 ∷ []) 0 ∷
     loadRefusal (set empties 49 51) 0 ∷
     loadRefusal empties 0 ∷
@@ -161,41 +176,87 @@ unfolding computing
 refusals = refl
 
 -- tables one byte short stay, and so does the tally
-pub short : loadOn file (replicate 72279 255) old ≡ record { refusal = 25; tables = replicate 72279 255; tally = old }
+abbrev shortTables : List ℕ
+shortTables = replicate (tableSize - 1) 255
+
+pub short : loadOn file shortTables old ≡ record { refusal = 25; tables = shortTables; tally = old }
 short =
     let fits : loadRefusal file tableSize ≡ 0 =
     ap (loadRefusal file) (sym (length-replicate {A = ℕ} tableSize 255)) ∙ sym (load-number file other old) ∙ ap (λ (x : LoadedOn). x .refusal) loaded in
-    let wrong : loadRefusal file (length (replicate {A = ℕ} 72279 255)) ≡ 25 =
-    ap (loadRefusal file) (length-replicate {A = ℕ} 72279 255) ∙ other-size file 72279 fits (λ (q : _≡_ {A = ℕ} 72279 tableSize). omega (arith, q)) in
-    load-refused file (replicate 72279 255) old (λ q. omega (arith, wrong, q))
-    ∙ ap (λ (n : ℕ). record { refusal = n; tables = replicate 72279 255; tally = old }) wrong
+    let wrong : loadRefusal file (length shortTables) ≡ 25 =
+    ap (loadRefusal file) (length-replicate {A = ℕ} (tableSize - 1) 255) ∙ other-size file (tableSize - 1) fits (λ (q : _≡_ {A = ℕ} (tableSize - 1) tableSize). omega (arith, q)) in
+    load-refused file shortTables old (λ q. omega (arith, wrong, q))
+    ∙ ap (λ (n : ℕ). record { refusal = n; tables = shortTables; tally = old }) wrong
 
 -- ---- the refusals of a save
 pub not-tables : saveOn [] tally [] ≡ record { answer = record { refusal = 7; length = 0 }; room = [] }
 unfolding wellFormed _and_
 not-tables = save-refused [] tally [] 7 (λ q. omega arith) (refused-tables [] 0 refl)
 
-pub small-room : saveOn tables tally (replicate 72355 9) ≡ record { answer = record { refusal = 25; length = 0 }; room = replicate 72355 9 }
+abbrev shortRoom : List ℕ
+shortRoom = replicate (savedSize - 1) 9
+
+pub small-room : saveOn tables tally shortRoom ≡ record { answer = record { refusal = 25; length = 0 }; room = shortRoom }
 small-room =
-    save-refused tables tally (replicate 72355 9) 25 (λ q. omega arith)
-    (refused-room tables (length (replicate {A = ℕ} 72355 9)) well (omega (arith, length-replicate {A = ℕ} 72355 9)))
+    save-refused tables tally shortRoom 25 (λ q. omega arith)
+    (refused-room tables (length shortRoom) well (omega (arith, length-replicate {A = ℕ} (savedSize - 1) 9)))
 
 -- ---- a file of edition 1, which has neither settings nor what a path's record has of the announce rate: "edition 1 .. have settings and new fields at 0",
--- and no mark: "older ones load unmarked"
-abbrev Unrated : Slot Path → Type 0
-Unrated empty = Unit
-Unrated (used p) = (p .rate ≡ noRateEntry) × (p .marked ≡ false)
+-- no mark: "older ones load unmarked", and 16 blobs a path at most: these places, and zeros behind them
+record OlderPath (p : Path) : Type 0 where
+  rate : p .rate ≡ noRateEntry
+  marked : p .marked ≡ false
+  few : leb (p .blobs .count) olderBlobLimit ≡ true
+  spare : fill blobLimit noBlob (fill olderBlobLimit noBlob (p .blobs .places)) ≡ p .blobs .places
 
--- what tables hold without these fields, edition 1 can hold
-unrated-good : (r : Relay) → code relayForm .Good r → r .rate ≡ noRateSettings → ((i : ℕ) → Unrated (getD (r .paths) i empty))
-    → code (relayFormIn edition1) .Good r
-unrated-good r g none each =
+abbrev Older : Slot Path → Type 0
+Older empty = Unit
+Older (used p) = OlderPath p
+
+-- what tables hold without these fields and places, edition 1 can hold
+older-good : (r : Relay) → code relayForm .Good r → r .rate ≡ noRateSettings → ((i : ℕ) → Older (getD (r .paths) i empty)) → code (relayFormIn edition1) .Good r
+unfolding fill
+older-good r g none each =
     let (own, (clock, (_, (ports, (locals, (paths, back)))))) = g in
     (own, (clock, (none, (ports, (locals, ((paths .0, λ i l. path (getD (r .paths) i empty) (paths .1 i l) (each i)), back))))))
   where
-    path : (s : Slot Path) → code (slot pathForm) .Good s → Unrated s → code (slot (pathFormIn edition1)) .Good s
+    blob : (xs : List (List ℕ)) → code (many blobLimit noBlob (octetsIn blobWidth)) .Good xs
+        → code (many olderBlobLimit noBlob (octetsIn blobWidth)) .Good (fill olderBlobLimit noBlob xs)
+    blob xs h = (
+      listOf-length _ olderBlobLimit,
+      λ i l. subst (code (octetsIn blobWidth) .Good) (sym (listOf-at (λ j. getD xs j noBlob) olderBlobLimit i noBlob l)) (h .1 i (omega arith)),
+    )
+
+    path : (s : Slot Path) → code (slot pathForm) .Good s → Older s → code (slot (pathFormIn edition1)) .Good s
     path empty h e = tt
-    path (used p) h e = ((h .0 .0, (e .0, (e .1, h .0 .1 .1 .1))), h .1)
+    path (used p) h e =
+        let (head, (_, (_, (count, places)))) = h .0 in
+        ((head, (e .rate, (e .marked, ((count, (blob (p .blobs .places) places, e .spare)), e .few)))), h .1)
+
+-- a path's one blob stands in the first place
+one-spare : (x : List ℕ) → fill blobLimit noBlob (fill olderBlobLimit noBlob (x ∷ replicate (blobLimit - 1) noBlob)) ≡ x ∷ replicate (blobLimit - 1) noBlob
+unfolding fill
+one-spare x =
+    listOf-cong _ (λ i. getD whole i noBlob) blobLimit (λ i l. at i (decLt i olderBlobLimit))
+    ∙ listOf-getD noBlob whole blobLimit (ap suc (length-replicate (blobLimit - 1) noBlob))
+  where
+    whole : List (List ℕ)
+    whole = x ∷ replicate (blobLimit - 1) noBlob
+
+    none : (n i : ℕ) → getD (replicate n noBlob) i noBlob ≡ noBlob
+    none zero i = refl
+    none (suc n) zero = refl
+    none (suc n) (suc i) = none n i
+
+    behind : (i : ℕ) → olderBlobLimit ≤ i → getD whole i noBlob ≡ noBlob
+    behind zero l = absurd (omega arith)
+    behind (suc i) l = none (blobLimit - 1) i
+
+    at : (i : ℕ) → Dec (i < olderBlobLimit) → getD (fill olderBlobLimit noBlob whole) i noBlob ≡ getD whole i noBlob
+    at i (yes l) = listOf-at (λ j. getD whole j noBlob) olderBlobLimit i noBlob l
+    at i (no l) =
+        List·getD-eq-default (fill olderBlobLimit noBlob whole) noBlob {n = i} (omega (arith, listOf-length (λ j. getD whole j noBlob) olderBlobLimit))
+        ∙ sym (behind i (omega arith))
 
 abbrev pub olderRelay : Relay
 olderRelay = relayWith (makePath (knownPath .destination) 1 0 (knownPath .nextHop) 22600 noRateEntry false (knownPath .blobs))
@@ -208,10 +269,10 @@ older-ok : tablesOk olderRelay ≡ true
 unfolding rules
 older-ok = refl
 
-older-good : code (held edition1) .Good (olderRelay, tally)
-older-good =
+held-good : code (held edition1) .Good (olderRelay, tally)
+held-good =
     let g = relay-good (bytesOf olderRelay) (bytes-bytes olderRelay older-shape older-ok) (ok-bytes olderRelay older-shape older-ok) in (
-      unrated-good olderRelay (subst (code relayForm .Good) (back olderRelay older-shape older-ok) g) refl unrated,
+      older-good olderRelay (subst (code relayForm .Good) (back olderRelay older-shape older-ok) g) refl older,
       (small .total, (small .dropped, (small .delivered, (small .forwarded, (small .spread, small .kept))))),
     )
   where
@@ -220,14 +281,14 @@ older-good =
     none (suc n) zero = refl
     none (suc n) (suc i) = none n i
 
-    unrated : (i : ℕ) → Unrated (getD (olderRelay .paths) i empty)
-    unrated zero = (refl, refl)
-    unrated (suc i) = subst Unrated (sym (none 63 i)) tt
+    older : (i : ℕ) → Older (getD (olderRelay .paths) i empty)
+    older zero = record { rate = refl; marked = refl; few = refl; spare = one-spare _ }
+    older (suc i) = subst Older (sym (none 63 i)) tt
 
 -- it is 71,192 bytes long, and loads: the relay is in the tables, the path with zeros
-pub older-long : length (fileIn 1 (olderRelay, tally)) ≡ 71192
+pub older-long : length (fileIn 1 (olderRelay, tally)) ≡ 60952 + 640 * olderBlobLimit
 older-long = file-long 1 (olderRelay, tally)
 
 pub older-loaded : loadOn (fileIn 1 (olderRelay, tally)) other old ≡ record { refusal = 0; tables = bytesOf olderRelay; tally = tally }
-unfolding isKnown _and_
-older-loaded = older-loads 1 refl (olderRelay, tally) older-good other old (length-replicate {A = ℕ} tableSize 255)
+unfolding isKnown isKnownBy _and_
+older-loaded = older-loads 1 refl (olderRelay, tally) held-good other old (length-replicate {A = ℕ} tableSize 255)

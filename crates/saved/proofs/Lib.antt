@@ -1,6 +1,7 @@
 -- Laws of the widths, of older editions, of loading and of saving; then the theorems over whole files, and a concrete one.
 pub mod Widths
 pub mod Alike
+pub mod Rooms
 pub mod EditionLaws
 pub mod LoadLaws
 pub mod CurrentLaws

@@ -15,7 +15,7 @@ use Rattle.octets.specs.Listed.{firstOf}
 use Rattle.octets.specs.Part.{part}
 use Rattle.octets.specs.BigEndian.{number}
 use Rattle.octets.proofs.Choice.{then-true, then-false, then-ap}
-use Rattle.octets.proofs.Index.{and-left, and-right, and-both, and-no, and-yes, all-none, all-more, all-fails, all-at, all-intro}
+use Rattle.octets.proofs.Index.{and-left, and-right, and-both, and-no, and-yes, and-false, all-none, all-more, all-fails, all-at, all-intro}
 use Rattle.octets.proofs.Listed.{here, past, allGive, refuses, rows-passed, none-first}
 use Rattle.octets.proofs.Part.{part-length}
 use Rattle.codes.specs.Form.{Form, code}
@@ -29,10 +29,11 @@ use Rattle.tables.specs.Forms.{Edition, relayFormIn}
 use Rattle.tables.specs.Places.{tableSize}
 use Rattle.tables.specs.Layout.{frontOk, backOk, relayOf, bytesOf, wellFormed}
 use Rattle.tables.proofs.Whole.{again}
-use Rattle.saved.specs.Editions.{Held, tallyForm, isKnown, numbered, held, widthAt}
+use Rattle.saved.specs.Editions.{Held, tallyForm, isKnownBy, isKnown, numbered, held, widthAt}
 use Rattle.saved.specs.File.{savedKind, bodyCount, headWidth, bodiesAt}
-use Rattle.saved.specs.Load.{lengthWrong, kindWrong, contentsWrong, sizesRight, bodiesWrong, loadRows, loadRefusal, heldIn, LoadedOn, loadOn}
+use Rattle.saved.specs.Load.{lengthWrong, kindWrongBy, kindWrong, contentsWrong, sizesRight, bodiesWrong, loadRows, loadRefusal, heldIn, LoadedOn, loadOn}
 use Rattle.saved.specs.Steps.{backPlace, tallyPlace, sizeIn, frontNow, pathsFine, tablesNow, bodiesFine, tallyAt}
+use Rattle.saved.proofs.Alike.{and-last}
 use Rattle.saved.proofs.Widths.{widths-in, size-in}
 use Rattle.saved.proofs.EditionLaws.{each-brings, now-relay, now-formed, now-bytes, now-clauses}
 
@@ -66,12 +67,19 @@ module _ (f : List ℕ) where
 -- ---- 21
 module _ (f : List ℕ) where
   pub other-kind : (kindOf f ≡ savedKind → ⊥) → kindWrong f ≡ true
-  unfolding kindWrong
+  unfolding kindWrong kindWrongBy
   other-kind ne = ap not (and-no _ (ne-eqb (kindOf f) savedKind ne))
 
   pub edition-decides : kindOf f ≡ savedKind → kindWrong f ≡ not (isKnown (editionOf f))
-  unfolding kindWrong
+  unfolding kindWrong kindWrongBy isKnown
   edition-decides k = ap not (and-yes _ (eq-eqb (kindOf f) savedKind k))
+
+  pub newer-edition : (own : ℕ) → own < editionOf f → kindWrongBy own f ≡ true
+  unfolding kindWrongBy isKnownBy
+  newer-edition own l =
+      ap not
+      (ap (λ (b : Bool). eqb (kindOf f) savedKind and b) (ap (λ (b : Bool). ltb 0 (editionOf f) and b) (lt-leb (editionOf f) own l) ∙ and-false _)
+      ∙ and-false _)
 
 -- ---- 22
 -- body i starts at the running place
@@ -186,11 +194,7 @@ bodies-decide f = refl
 -- the tally may be any bytes, so the bodies are fine where those of the tables' sections are
 pub relay-decides : (e : Edition) (f : List ℕ) → bodiesFine e f ≡ code (relayFormIn e) .fine f bodiesAt
 unfolding bodiesFine _and_
-relay-decides e f = and-true (code (relayFormIn e) .fine f bodiesAt)
-  where
-    and-true : (b : Bool) → (b and true) ≡ b
-    and-true true = refl
-    and-true false = refl
+relay-decides e f = and-last (code (relayFormIn e) .fine f bodiesAt) refl
 
 -- as the code tests them
 pub bodies-clauses : (n : ℕ) (f : List ℕ) → tallyPlace (numbered n) ≤ length f
@@ -246,7 +250,7 @@ module _ (f : List ℕ) (size : ℕ) where
   rows-refuse = refl
 
   pub taken : loadRefusal f size ≡ 0 → Taken f size
-  unfolding loadRefusal loadRows kindWrong bodiesFine
+  unfolding loadRefusal loadRows kindWrong kindWrongBy isKnown bodiesFine
   taken e =
       let (a, (k, (p, (w, (r, _))))) = rows-passed (loadRows f size) 0 rows-refuse (eq-eqb (loadRefusal f size) 0 e) in
       let kinds = not-false _ k in
@@ -263,13 +267,16 @@ module _ (f : List ℕ) (size : ℕ) where
         room = eqb-true size tableSize (not-false _ r);
       }
 
+  pub taken-whole : Taken f size → lengthWrong f ≡ false
+  unfolding lengthWrong endRight
+  taken-whole t = ap not (eq-eqb _ _ (t .shaped .ends))
+
   pub takes : Taken f size → loadRefusal f size ≡ 0
-  unfolding lengthWrong endRight bodiesFine sizesRight
+  unfolding bodiesFine sizesRight
   takes t =
-      let right : lengthWrong f ≡ false = ap not (eq-eqb _ _ (t .shaped .ends)) in
       let offsets = all-intro (stands f) bodyCount (λ i l. eq-eqb _ _ (t .shaped .offsets i (omega (arith, t .count, l)))) in
       let sizes = all-intro (sized f (held (editionIn f))) bodyCount (λ i l. eq-eqb _ _ (t .sizes i l)) in
-      not-refused f size right (edition-decides f (t .kind) ∙ ap not (t .known)) (contents-right f (t .count) offsets)
+      not-refused f size (taken-whole t) (edition-decides f (t .kind) ∙ ap not (t .known)) (contents-right f (t .count) offsets)
       (bodies-decide f ∙ ap not (and-both sizes (t .fine))) (t .room)
 
 -- the last row: a file that loads into tables of the right size is refused for any other
@@ -290,8 +297,7 @@ module _ (f : List ℕ) (size : ℕ) (t : Taken f size) where
 
   pub held-formed : wellFormed (tablesNow (editionIn f) f) ≡ true
   unfolding bodiesFine
-  held-formed =
-      sym (now-formed (editionIn f) (each-brings (editionOf f - 1)) f has-tables) ∙ sym (relay-decides (editionIn f) f) ∙ t .fine
+  held-formed = now-formed (editionIn f) (each-brings (editionOf f - 1)) f has-tables (sym (relay-decides (editionIn f) f) ∙ t .fine)
 
   pub held-bytes : Bytes f → Bytes (tablesNow (editionIn f) f)
   held-bytes b = now-bytes (editionIn f) (each-brings (editionOf f - 1)) f has-tables b

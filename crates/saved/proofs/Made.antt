@@ -2,7 +2,7 @@
 use Prim.Native.Nat.{ℕ, _+_, _^_, _≤_, _<_}
 use native.Mathlib.Nat.{le-refl}
 use native.Mathlib.Omega.{arith}
-use mathlib.Core.Bool.{true}
+use mathlib.Core.Bool.{true, false}
 use mathlib.Core.List.{List, _∷_, _++_, append-assoc}
 use mathlib.Core.Path.{_≡_, refl, sym, ap, ap₂, subst, _∙_}
 use lib.Dec.{lit<}
@@ -23,11 +23,11 @@ use Rattle.tables.specs.Forms.{today}
 use Rattle.tables.specs.Places.{tableSize}
 use Rattle.saved.specs.Editions.{Held, currentEdition, isKnown, numbered, editionAt, current, widthAt}
 use Rattle.saved.specs.File.{savedKind, bodyCount, headWidth, noHead, wholeBody, bodiesAt, bodyOf, fileIn, fileOf, savedSize}
-use Rattle.saved.specs.Load.{heldIn}
+use Rattle.saved.specs.Load.{lengthWrong, heldIn}
 use Rattle.saved.specs.Steps.{sizeIn}
 use Rattle.saved.proofs.Widths.{widths-in, width-within, size-in, width-small, size-small, now-known}
 use Rattle.saved.proofs.SaveLaws.{saved-length, body-length, body-place, bodies-joined}
-use Rattle.saved.proofs.LoadLaws.{Taken}
+use Rattle.saved.proofs.LoadLaws.{Taken, taken-whole}
 
 -- what a file of edition n holds
 held-by : (n : ℕ) (f : List ℕ) → editionOf f ≡ n → heldIn f ≡ code (editionAt n) .read f bodiesAt
@@ -122,6 +122,9 @@ module _ (held : Held) where
     pub made-taken : Taken (fileOf held) tableSize
     unfolding fileOf
     made-taken = taken-in currentEdition held g now-known
+
+    pub made-whole : lengthWrong (fileOf held) ≡ false
+    made-whole = taken-whole (fileOf held) tableSize made-taken
 
     pub made-held : heldIn (fileOf held) ≡ held
     unfolding fileOf

@@ -5,16 +5,19 @@
 --   load-then-save     a file of the current edition that loads is what saving writes, from the tables and the tally that were loaded;
 --   loaded-formed, loaded-bytes, loaded-fits
 --                      loaded tables pass refusal 7, and are bytes; each counter of the loaded tally fits its four bytes;
+--   earlier-refuses    a program of an earlier edition refuses what is saved with 21;
 --   older-loads        what an edition can hold, in a file of that edition, loads, and is then in the tables;
 --   load-unread        what stood in the tables, and the tally that was given, matter nothing to a load that is not refused.
-use Prim.Native.Nat.{ℕ, _≤_}
-use mathlib.Core.Bool.{true}
+use Prim.Native.Nat.{ℕ, _≤_, _<_}
+use mathlib.Core.Bool.{true, false}
 use mathlib.Core.List.{List}
 use mathlib.Core.Path.{_≡_, refl, sym, ap, ap₂, subst, _∙_}
 use lib.ListN.{length, take}
 use lib.Seq.{take-at}
 use Rattle.octets.specs.Bytes.{Bytes}
+use Rattle.octets.specs.Listed.{Test, _gives_otherwise_, firstOf}
 use Rattle.octets.specs.Part.{patch}
+use Rattle.octets.proofs.Listed.{here, past}
 use Rattle.codes.specs.Form.{code}
 use Rattle.recording.specs.Shape.{editionOf}
 use Rattle.rules.specs.Relay.{Relay}
@@ -26,11 +29,11 @@ use Rattle.tables.proofs.Whole.{again, relay-good}
 use Rattle.saved.specs.Editions.{Held, isKnown, editionAt, currentEdition, current}
 use Rattle.saved.specs.File.{fileIn, fileOf, savedSize}
 use Rattle.saved.specs.Save.{SavedOn, saveOn}
-use Rattle.saved.specs.Load.{loadRefusal, heldIn, LoadedOn, loadOn}
+use Rattle.saved.specs.Load.{lengthWrong, kindWrongBy, loadRefusal, heldIn, LoadedOn, loadOn}
 use Rattle.saved.specs.Steps.{tablesNow}
 use Rattle.saved.proofs.SaveLaws.{not-refused, save-done}
-use Rattle.saved.proofs.LoadLaws.{Taken, taken, takes, editionIn, held-relay, held-formed, held-bytes, tables-held, tally-good, load-done, load-number}
-use Rattle.saved.proofs.Made.{taken-in, held-in, file-length, made-edition, made-taken, made-held, made-bytes, long-now, file-again}
+use Rattle.saved.proofs.LoadLaws.{newer-edition, Taken, taken, takes, editionIn, held-relay, held-formed, held-bytes, tables-held, tally-good, load-done, load-number}
+use Rattle.saved.proofs.Made.{taken-in, held-in, file-length, made-edition, made-taken, made-whole, made-held, made-bytes, long-now, file-again}
 
 -- ---- saved, then loaded
 module _ (t : List ℕ) (tally : Tally) (b : Bytes t) (h : wellFormed t ≡ true) (s : Fits tally) where
@@ -62,6 +65,13 @@ module _ (t : List ℕ) (tally : Tally) (b : Bytes t) (h : wellFormed t ≡ true
 
     pub written-edition : editionOf written ≡ currentEdition
     written-edition = ap editionOf written-file ∙ made-edition (relayOf t, tally)
+
+    -- wish 8: "a program of the earlier edition refuses it with 21". Whatever rows such a program has behind the second
+    pub earlier-refuses : (own : ℕ) → own < currentEdition → (later : List (Test ℕ))
+        → firstOf (lengthWrong written gives 20 otherwise kindWrongBy own written gives 21 otherwise later) 0 ≡ 21
+    earlier-refuses own l later =
+        let whole : lengthWrong written ≡ false = ap lengthWrong written-file ∙ made-whole (relayOf t, tally) held-right in
+        past _ 20 _ 0 whole ∙ here _ 21 _ 0 (newer-edition written own (subst (λ (n : ℕ). own < n) (sym written-edition) l))
 
     pub save-then-load : (tables : List ℕ) (old : Tally) → length tables ≡ tableSize
         → loadOn written tables old ≡ record { refusal = 0; tables = t; tally = tally }

@@ -25,6 +25,7 @@ use Rattle.recording.specs.Shape.{entryPlace, sumBelow, rowOf}
 use Rattle.recording.proofs.Sums.{sum-cong, sum-const, joined-cong, joined-none, joined-more, joined-cut, joined-sum, patch-three}
 use Rattle.recording.proofs.ShapeLaws.{longOf, placeOf, shape-listOf}
 use Rattle.rules.specs.declared.Tally.{Tally}
+use Rattle.tables.specs.Places.{tableSize}
 use Rattle.tables.specs.Layout.{relayOf, bytesOf, wellFormed}
 use Rattle.tables.proofs.Whole.{again, formed}
 use Rattle.saved.specs.Editions.{Held, tallyForm, numbered, editionAt, currentEdition, current, widthAt}
@@ -169,7 +170,7 @@ tally-written tally room at l = rw (sym (fields-written tallyForm tally room at 
 
 -- start, contents, tables and tally
 pub file-written : (tables : List ℕ) (tally : Tally) (room : List ℕ) → Bytes tables → wellFormed tables ≡ true → savedSize ≤ length room
-    → patch (patch (patch (patch room 0 startBytes) 4 (contentsBytes bodyCount)) 52 tables) 72332 (tallyBytes tally)
+    → patch (patch (patch (patch room 0 startBytes) 4 (contentsBytes bodyCount)) 52 tables) (bodiesAt + tableSize) (tallyBytes tally)
     ≡ patch room 0 (fileOf (relayOf tables, tally))
 unfolding bytesOf tallyBytes
 file-written tables tally room b h l =
@@ -178,10 +179,10 @@ file-written tables tally room b h l =
     let contents = contents-length bodyCount in
     let start = bigEndian-length 2 bodyCount in
     let front : List ℕ = startBytes ++ (contentsBytes bodyCount ++ tables) in
-    let long : length front ≡ 72332 = simp length-append (omega arith) in
-    ap (λ (r : List ℕ). patch r 72332 (tallyBytes tally))
+    let long : length front ≡ (bodiesAt + tableSize) = simp length-append (omega arith) in
+    ap (λ (r : List ℕ). patch r (bodiesAt + tableSize) (tallyBytes tally))
     (patch-three room 0 4 52 startBytes (contentsBytes bodyCount) tables (omega arith) (omega arith) (omega arith))
-    ∙ patch-join room 0 72332 front (tallyBytes tally) (omega (arith, long)) (omega arith)
+    ∙ patch-join room 0 (bodiesAt + tableSize) front (tallyBytes tally) (omega (arith, long)) (omega arith)
     ∙ ap (patch room 0)
     (append-assoc startBytes (contentsBytes bodyCount ++ tables) (tallyBytes tally)
     ∙ ap (λ (r : List ℕ). startBytes ++ r) (append-assoc (contentsBytes bodyCount) tables (tallyBytes tally))

@@ -13,12 +13,12 @@ use Rattle.recording.specs.Shape.{sumBelow}
 use Rattle.recording.proofs.Sums.{sum-within}
 use Rattle.numbers.specs.Numbers.{pathCount}
 use Rattle.tables.specs.Forms.{Edition}
-use Rattle.saved.specs.Editions.{edition1, editions, isKnown, held, editionAt, currentEdition, widthAt}
+use Rattle.saved.specs.Editions.{edition1, editions, isKnownBy, isKnown, held, editionAt, currentEdition, widthAt}
 use Rattle.saved.specs.File.{bodyCount, bodiesAt}
 use Rattle.saved.specs.Steps.{startWidth, pathWidthIn, sizeIn}
 
 pub now-known : isKnown currentEdition ≡ true
-unfolding isKnown _and_
+unfolding isKnown isKnownBy _and_
 now-known = refl
 
 -- ---- of any edition
@@ -47,7 +47,8 @@ unfolding allBelow _and_ widthAt
 all-small zero = refl
 all-small (suc zero) = refl
 all-small (suc (suc zero)) = refl
-all-small (suc (suc (suc j))) = refl
+all-small (suc (suc (suc zero))) = refl
+all-small (suc (suc (suc (suc j)))) = refl
 
 pub width-small : (n i : ℕ) → i < bodyCount → widthAt (editionAt n) i < 65536
 width-small n i l = ltb-true (widthAt (editionAt n) i) 65536 (all-at (λ j. ltb (widthAt (editionAt n) j) 65536) bodyCount i (all-small (n - 1)) l)
@@ -59,4 +60,5 @@ size-small n = go (n - 1)
     go zero = lit< tt
     go (suc zero) = lit< tt
     go (suc (suc zero)) = lit< tt
-    go (suc (suc (suc j))) = lit< tt
+    go (suc (suc (suc zero))) = lit< tt
+    go (suc (suc (suc (suc j)))) = lit< tt

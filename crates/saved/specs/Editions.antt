@@ -6,14 +6,14 @@ use Prim.Native.String.{String}
 use mathlib.Core.Bool.{Bool, false}
 use mathlib.Core.List.{List, [], _∷_}
 use mathlib.Core.Path.{refl}
-use lib.Dec.{ltb, leb}
+use lib.Dec.{ltb, leb, lit≤}
 use lib.ListN.{length, getD}
 use lib.Text.{eqt}
 use Rattle.octets.specs.Index.{_and_}
 use Rattle.codes.specs.Form.{Form, byte, mark, numberIn, octetsIn, given, field, _&_, many, firstsOf, slot, that, asRecord, code, oneOf}
 use Rattle.rules.specs.Relay.{noRateSettings, noRateEntry, Relay}
 use Rattle.rules.specs.declared.Tally.{Tally}
-use Rattle.tables.specs.Forms.{Edition, rateSettingsForm, rateEntryForm, today, relayFormIn}
+use Rattle.tables.specs.Forms.{BlobRoom, fewer, Edition, rateSettingsForm, rateEntryForm, today, relayFormIn}
 
 -- what is saved, and what a load gives: the relay that the tables hold, and the tally
 abbrev pub Held : Type 0
@@ -76,27 +76,42 @@ widthsOf f (k ∷ ks) = widthOf f k + widthsOf f ks
 
 -- ---- the editions, the oldest first: an edition's number is its place in this list, counted from 1. For a field that an edition lacks it says the
 -- value (`given`), for one with less room the rest (`firstsOf`)
+-- wish 8: "Editions 1 to 3 of saved tables load with what they hold": document 01's 16 blobs a path
+abbrev pub olderBlobLimit : ℕ
+olderBlobLimit = 16
+
+abbrev pub olderRoom : BlobRoom
+olderRoom = fewer olderBlobLimit (lit≤ tt)
+
 -- wish 5: "edition 1 and a fresh relay have settings and new fields at 0"
 abbrev pub edition1 : Edition
-edition1 = record { rateSettings = given noRateSettings; rateEntry = given noRateEntry; pathMark = given false }
+edition1 = record { rateSettings = given noRateSettings; rateEntry = given noRateEntry; pathMark = given false; blobRoom = olderRoom }
 
 -- "Saved tables take edition 2"; wish 6: "older ones load unmarked"
 abbrev pub edition2 : Edition
-edition2 = record { rateSettings = rateSettingsForm; rateEntry = rateEntryForm; pathMark = given false }
+edition2 = record { rateSettings = rateSettingsForm; rateEntry = rateEntryForm; pathMark = given false; blobRoom = olderRoom }
 
--- wish 6: "saved tables take edition 3": as the tables are
+-- wish 6: "saved tables take edition 3"
 abbrev pub edition3 : Edition
-edition3 = today
+edition3 = record { rateSettings = rateSettingsForm; rateEntry = rateEntryForm; pathMark = mark; blobRoom = olderRoom }
+
+-- wish 8: "a new save is edition 4": as the tables are
+abbrev pub edition4 : Edition
+edition4 = today
 
 abbrev pub editions : List Edition
-editions = edition1 ∷ edition2 ∷ edition3 ∷ []
+editions = edition1 ∷ edition2 ∷ edition3 ∷ edition4 ∷ []
 
 -- the current one is the last
 abbrev pub currentEdition : ℕ
 currentEdition = length editions
 
+-- a program knows the editions up to its own
+unfoldable pub isKnownBy : ℕ → ℕ → Bool
+isKnownBy own n = ltb 0 n and leb n own
+
 unfoldable pub isKnown : ℕ → Bool
-isKnown n = ltb 0 n and leb n currentEdition
+isKnown n = isKnownBy currentEdition n
 
 abbrev pub numbered : ℕ → Edition
 numbered n = getD editions (n - 1) edition1

@@ -1,13 +1,14 @@
 -- Document 02, Wish 4: "Save and load in the recordings' shape with kind byte 2: eight entries (..), own address and last clock, ports, local addresses,
 -- paths, links, returns, hashes, tally, in that order, each with offset (4) and length (2), then the bodies."
 use mathlib.Core.Path.{_≡_, refl}
-use Prim.Native.Nat.{ℕ, _+_}
+use Prim.Native.Nat.{ℕ, _+_, _*_}
 use mathlib.Core.List.{List, []}
 use Rattle.octets.specs.Index.{listOf}
 use Rattle.octets.specs.Part.{part}
 use Rattle.recording.specs.Shape.{entryPlace, sumBelow, shapeOf}
 use Rattle.codes.specs.Form.{Form, code}
-use Rattle.saved.specs.Editions.{Held, edition1, edition2, held, editionAt, currentEdition, current, widthAt}
+use Rattle.numbers.specs.Numbers.{blobLimit}
+use Rattle.saved.specs.Editions.{Held, olderBlobLimit, edition1, edition2, edition3, held, editionAt, currentEdition, current, widthAt}
 
 abbrev pub savedKind : ℕ
 savedKind = 2
@@ -44,7 +45,8 @@ fileOf held = fileIn currentEdition held
 abbrev pub savedSize : ℕ
 savedSize = bodiesAt + code current .width
 
-saved-size : savedSize ≡ 72356
+-- 103,076 bytes with 64 blobs a path
+saved-size : savedSize ≡ 62116 + 640 * blobLimit
 saved-size = refl
 
 -- the eight bodies are all that is saved
@@ -52,17 +54,24 @@ pub widths-fill : sumBelow (widthAt current) bodyCount ≡ code current .width
 unfolding sumBelow widthAt
 widths-fill = refl
 
--- ---- older editions keep their shape: a file of each, and its eight bodies
-edition1-size : bodiesAt + code (held edition1) .width ≡ 71192
+-- ---- older editions keep their shape, whatever today's limit: a file of each, 71,192, 72,292 and 72,356 bytes long, and its eight bodies
+edition1-size : bodiesAt + code (held edition1) .width ≡ 60952 + 640 * olderBlobLimit
 edition1-size = refl
 
 edition1-fill : sumBelow (widthAt (held edition1)) bodyCount ≡ code (held edition1) .width
 unfolding sumBelow widthAt
 edition1-fill = refl
 
-edition2-size : bodiesAt + code (held edition2) .width ≡ 72292
+edition2-size : bodiesAt + code (held edition2) .width ≡ 62052 + 640 * olderBlobLimit
 edition2-size = refl
 
 edition2-fill : sumBelow (widthAt (held edition2)) bodyCount ≡ code (held edition2) .width
 unfolding sumBelow widthAt
 edition2-fill = refl
+
+edition3-size : bodiesAt + code (held edition3) .width ≡ 62116 + 640 * olderBlobLimit
+edition3-size = refl
+
+edition3-fill : sumBelow (widthAt (held edition3)) bodyCount ≡ code (held edition3) .width
+unfolding sumBelow widthAt
+edition3-fill = refl

@@ -13,7 +13,7 @@ use Rattle.recording.specs.Shape.{kindOf, editionOf, countOf, lengthOf, offsets
 use Rattle.rules.specs.declared.Tally.{Tally}
 use Rattle.tables.specs.Places.{tableSize}
 use Rattle.tables.specs.Layout.{bytesOf}
-use Rattle.saved.specs.Editions.{Held, isKnown, editionAt, widthAt}
+use Rattle.saved.specs.Editions.{Held, currentEdition, isKnownBy, editionAt, widthAt}
 use Rattle.saved.specs.File.{savedKind, bodyCount, headWidth, bodiesAt}
 
 -- ---- "20 is any length but what the contents, by the file's own count, add up to": 4 + 6 n + the sum of the n lengths. Under 4 bytes there is no
@@ -21,9 +21,13 @@ use Rattle.saved.specs.File.{savedKind, bodyCount, headWidth, bodiesAt}
 unfoldable pub lengthWrong : List ℕ → Bool
 lengthWrong f = not (endRight headWidth f)
 
--- 21 kind or edition: edition 0 and newer ones too
+-- 21 kind or edition: edition 0 and newer ones too. Wish 8: "a program of the earlier edition refuses it with 21", so this is said of any program, by its
+-- own edition
+unfoldable pub kindWrongBy : ℕ → List ℕ → Bool
+kindWrongBy own f = not (eqb (kindOf f) savedKind and isKnownBy own (editionOf f))
+
 unfoldable pub kindWrong : List ℕ → Bool
-kindWrong f = not (eqb (kindOf f) savedKind and isKnown (editionOf f))
+kindWrong f = kindWrongBy currentEdition f
 
 -- 22 "eight entries (another count is 22)", or an offset that breaks the rule
 unfoldable pub contentsWrong : List ℕ → Bool

@@ -3,15 +3,16 @@ use Prim.Native.Nat.{ℕ, _+_, _-_, _*_}
 use mathlib.Core.Bool.{Bool, false}
 use mathlib.Core.List.{List, _∷_, _++_}
 use mathlib.Core.Path.{_≡_}
-use lib.ListN.{length, replicate}
-use Rattle.octets.specs.Index.{allBelow, listOf}
+use lib.Dec.{leb}
+use lib.ListN.{length, getD, replicate}
+use Rattle.octets.specs.Index.{_and_, allBelow, listOf}
 use Rattle.octets.specs.Part.{part, joined}
 use Rattle.octets.specs.BigEndian.{bigEndian}
 use Rattle.codes.specs.Form.{code}
 use Rattle.recording.specs.Shape.{sumBelow}
-use Rattle.numbers.specs.Numbers.{pathCount}
+use Rattle.numbers.specs.Numbers.{pathCount, blobLimit}
 use Rattle.rules.specs.declared.Tally.{Tally}
-use Rattle.tables.specs.Forms.{Edition}
+use Rattle.tables.specs.Forms.{BlobRoom, as-today, fewer, Edition, blobsFormIn}
 use Rattle.tables.specs.Places.{rateAt, portsAt, pathsAt, backWidth}
 use Rattle.tables.specs.Fields.{pathRateAt, pathBlobsAt, blobsWidth}
 use Rattle.tables.specs.Records.{pathBytesOk}
@@ -39,9 +40,17 @@ startWidth e = rateAt + code (e .rateSettings) .width
 abbrev pub beforeBlobs : Edition → ℕ
 beforeBlobs e = pathRateAt + code (e .rateEntry) .width + code (e .pathMark) .width
 
+-- how many blobs a path can hold, and how wide they are with their count
+abbrev pub mostBlobs : BlobRoom → ℕ
+mostBlobs as-today = blobLimit
+mostBlobs (fewer most within) = most
+
+abbrev pub blobsWidthIn : Edition → ℕ
+blobsWidthIn e = code (blobsFormIn (e .blobRoom)) .width
+
 -- how wide a path's record is; where the paths stand in the file, what is behind them, and the tally
 abbrev pub pathWidthIn : Edition → ℕ
-pathWidthIn e = beforeBlobs e + blobsWidth
+pathWidthIn e = beforeBlobs e + blobsWidthIn e
 
 abbrev pub pathsPlace : Edition → ℕ
 pathsPlace e = bodiesAt + (startWidth e + (pathsAt - portsAt))
@@ -68,15 +77,21 @@ opened k n b = part b 0 k ++ (replicate n 0 ++ part b k (length b - k))
 unfoldable pub frontNow : Edition → List ℕ → List ℕ
 frontNow e f = opened (startWidth e) (portsAt - startWidth e) (part f bodiesAt (startWidth e + (pathsAt - portsAt)))
 
--- the record of path i; of the first n
+-- the record of path i, with zeros before and behind its blobs; of the first n
 unfoldable pub pathNow : Edition → List ℕ → ℕ → List ℕ
-pathNow e f i = opened (beforeBlobs e) (pathBlobsAt - beforeBlobs e) (part f (pathsPlace e + pathWidthIn e * i) (pathWidthIn e))
+pathNow e f i =
+    opened (beforeBlobs e) (pathBlobsAt - beforeBlobs e) (part f (pathsPlace e + pathWidthIn e * i) (pathWidthIn e))
+    ++ replicate (blobsWidth - blobsWidthIn e) 0
 
 unfoldable pub pathsNow : Edition → List ℕ → ℕ → List ℕ
 pathsNow e f n = joined (pathNow e f) (listOf (λ i. i) n)
 
+-- refusal 7 of a record, with the edition's limit
+unfoldable pub pathFine : Edition → List ℕ → Bool
+pathFine e b = pathBytesOk b and leb (getD b pathBlobsAt 0) (mostBlobs (e .blobRoom))
+
 unfoldable pub pathsFine : Edition → List ℕ → ℕ → Bool
-pathsFine e f n = allBelow (λ i. pathBytesOk (pathNow e f i)) n
+pathsFine e f n = allBelow (λ i. pathFine e (pathNow e f i)) n
 
 unfoldable pub tablesNow : Edition → List ℕ → List ℕ
 tablesNow e f = frontNow e f ++ (pathsNow e f pathCount ++ part f (backPlace e) backWidth)

@@ -1,5 +1,6 @@
 // What each edition has, in numbers: a line for each, the last one for today's. The next edition adds its line where
-// it changes a width. A path's new fields stand before its blobs, and the first body's at its end.
+// it changes one. A path's new fields stand before its blobs, new blob places behind them, and the first body's new
+// fields at its end.
 use super::format::BODIES_AT;
 use super::format::BODY_COUNT;
 use super::format::EDITION;
@@ -7,14 +8,16 @@ use super::format::HASHES_BODY;
 use super::format::LINKS_BODY;
 use super::format::LOCALS_BODY;
 use super::format::MIDDLE_SIZE;
+use super::format::OLDER_BLOB_LIMIT;
 use super::format::PORTS_BODY;
 use super::format::RETURNS_BODY;
 use super::format::TALLY_BODY;
+use numbers::BLOB_LIMIT;
 use numbers::PATH_COUNT;
 use tables::fields::PATH_BLOB_COUNT_AT;
 use tables::fields::PATH_LAST_AT;
 use tables::fields::PATH_MARK_AT;
-use tables::places::PATH_WIDTH;
+use tables::places::BLOB_WIDTH;
 use tables::places::PORTS_AT;
 use tables::places::TARGET_AT;
 ghost use mathlib.Core.Path.{_≡_};
@@ -22,7 +25,7 @@ ghost use mathlib.Core.Bool.{true};
 ghost use Prim.Native.Nat.{_<_};
 ghost use Rattle.saved.specs.Editions.{isKnown, numbered, editionAt, widthAt};
 ghost use Rattle.saved.specs.File.{bodyCount};
-ghost use Rattle.saved.specs.Steps.{startWidth, beforeBlobs, pathWidthIn, pathsPlace, backPlace};
+ghost use Rattle.saved.specs.Steps.{startWidth, beforeBlobs, mostBlobs, blobsWidthIn, pathWidthIn, pathsPlace, backPlace};
 
 pub fn is_known(edition: u8) -> bool
     ensures { λ r. ⌜ r ≡ isKnown edition ⌝ }
@@ -57,13 +60,32 @@ pub fn before_blobs(edition: u8) -> usize
     }
 }
 
+// How many blobs a path can hold. Edition 4 brought today's limit.
+pub fn most_blobs(edition: u8) -> u8
+    requires { ⌜ isKnown edition ≡ true ⌝ }
+    ensures { λ r. ⌜ r ≡ mostBlobs (numbered edition .blobRoom) ⌝ }
+{
+    if edition < 4 {
+        return OLDER_BLOB_LIMIT as u8;
+    }
+    BLOB_LIMIT as u8
+}
+
 // ---- what follows from these
+
+// How wide a path's blobs are, with their count.
+pub fn blobs_width(edition: u8) -> usize
+    requires { ⌜ isKnown edition ≡ true ⌝ }
+    ensures { λ r. ⌜ r ≡ blobsWidthIn (numbered edition) ⌝ }
+{
+    1 + BLOB_WIDTH * (most_blobs(edition) as usize)
+}
 
 pub fn path_width(edition: u8) -> usize
     requires { ⌜ isKnown edition ≡ true ⌝ }
     ensures { λ r. ⌜ r ≡ pathWidthIn (numbered edition) ⌝ }
 {
-    before_blobs(edition) + (PATH_WIDTH - PATH_BLOB_COUNT_AT)
+    before_blobs(edition) + blobs_width(edition)
 }
 
 // How long body i is.

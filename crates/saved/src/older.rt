@@ -1,6 +1,8 @@
 // The file's bodies as the tables have them, of any edition: with zeros for what the edition lacks.
 use super::editions::back_place;
 use super::editions::before_blobs;
+use super::editions::blobs_width;
+use super::editions::most_blobs;
 use super::editions::path_width;
 use super::editions::paths_place;
 use super::editions::start_width;
@@ -8,6 +10,7 @@ use super::format::BACK_SIZE;
 use super::format::BODIES_AT;
 use super::format::MIDDLE_SIZE;
 use numbers::PATH_COUNT;
+use tables::fields::PATH_BLOB_COUNT_AT;
 use tables::places::LINKS_AT;
 use tables::places::PATH_WIDTH;
 use tables::places::PATHS_AT;
@@ -17,9 +20,9 @@ ghost use Prim.Native.Nat.{_-_, _≤_, _<_};
 ghost use lib.ListN.{length, replicate};
 ghost use Rattle.octets.specs.Part.{patch};
 ghost use Rattle.numbers.specs.Numbers.{pathCount};
-ghost use Rattle.tables.specs.Places.{pathsAt, tableSize};
+ghost use Rattle.tables.specs.Places.{pathWidth, pathsAt, tableSize};
 ghost use Rattle.saved.specs.Editions.{isKnown, numbered};
-ghost use Rattle.saved.specs.Steps.{tallyPlace, opened, frontNow, pathNow, pathsNow, pathsFine, tablesNow, bodiesFine};
+ghost use Rattle.saved.specs.Steps.{tallyPlace, opened, frontNow, pathNow, pathsNow, pathFine, pathsFine, tablesNow, bodiesFine};
 
 // Writes bytes over zeros, with those of these that are more than the bytes put in at a place.
 fn open(from: &[u8], at: usize, to: &mut [u8])
@@ -48,16 +51,41 @@ fn front_now(file: &[u8], edition: u8) -> [u8; PATHS_AT]
     front
 }
 
-// The record of path i.
+// Writes the record of path i over zeros, which stay before its blobs for the fields that the edition lacks, and behind
+// them for the places.
+fn write_path(file: &[u8], edition: u8, i: usize, path: &mut [u8])
+    requires { ⌜ (isKnown edition ≡ true) × (tallyPlace (numbered edition) ≤ length (now file)) × (i < pathCount)
+        × (now path ≡ replicate pathWidth 0) ⌝ }
+    ensures { λ _. ⌜ now (path .exit) ≡ pathNow (numbered edition) (now (file .entry)) i ⌝ }
+{
+    let width = path_width(edition);
+    let at = paths_place(edition) + width * i;
+    let end = PATH_BLOB_COUNT_AT + blobs_width(edition);
+    open(
+        &file[at..at + width],
+        before_blobs(edition),
+        &mut path[0..end],
+    );
+}
+
 fn path_now(file: &[u8], edition: u8, i: usize) -> [u8; PATH_WIDTH]
     requires { ⌜ (isKnown edition ≡ true) × (tallyPlace (numbered edition) ≤ length (now file)) × (i < pathCount) ⌝ }
     ensures { λ r. ⌜ r ≡ pathNow (numbered edition) (now (file .entry)) i ⌝ }
 {
     let mut path = [0u8; PATH_WIDTH];
-    let width = path_width(edition);
-    let at = paths_place(edition) + width * i;
-    open(&file[at..at + width], before_blobs(edition), &mut path);
+    write_path(file, edition, i, &mut path);
     path
+}
+
+// Row 7 for one record, with the edition's own limit on its blobs.
+fn path_fine(path: &[u8], edition: u8) -> bool
+    requires { ⌜ (isKnown edition ≡ true) × (length (now path) ≡ pathWidth) ⌝ }
+    ensures { λ r. ⌜ r ≡ pathFine (numbered edition) (now (path .entry)) ⌝ }
+{
+    if !tables::paths_each(path, 0, 1) {
+        return false;
+    }
+    path[PATH_BLOB_COUNT_AT] <= most_blobs(edition)
 }
 
 fn paths_fine(file: &[u8], edition: u8) -> bool
@@ -67,7 +95,7 @@ fn paths_fine(file: &[u8], edition: u8) -> bool
     let mut i = 0;
     while i < PATH_COUNT {
         let path = path_now(file, edition, i);
-        if !tables::path_ok(&path) {
+        if !path_fine(&path, edition) {
             return false;
         }
         i += 1;

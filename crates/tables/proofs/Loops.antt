@@ -7,7 +7,7 @@ use mathlib.Core.List.{List}
 use mathlib.Core.Path.{_≡_, sym, ap, ap₂, _∙_}
 use lib.ListN.{length, take, drop}
 use borrow.Author.Tests.{not-true, not-false}
-use Rattle.octets.specs.Index.{zeros}
+use Rattle.octets.specs.Index.{allBelow, zeros}
 use Rattle.octets.specs.Part.{part}
 use Rattle.octets.proofs.Index.{and-yes, all-none, all-more, all-fails, all-intro, all-at, all-plus, all-short, all-cong}
 use Rattle.octets.proofs.Part.{part-range, part-part, range-length}

@@ -3,7 +3,7 @@ use Prim.Native.Nat.{ℕ, _+_, _*_, _^_, _≤_, _<_}
 use native.Mathlib.Omega.{arith}
 use mathlib.Core.Bool.{Bool, true, false}
 use mathlib.Core.List.{List}
-use mathlib.Core.Path.{_≡_, refl, sym, _∙_}
+use mathlib.Core.Path.{_≡_, refl, sym, ap, _∙_}
 use lib.Dec.{eqb, ltb}
 use lib.ListN.{length, getD}
 use borrow.Author.Tests.{eqb-true, eq-eqb, ltb-true, lt-ltb, leb-true}
@@ -27,7 +27,7 @@ use Rattle.rules.specs.declared.RateEntry.{RateEntry}
 use Rattle.rules.proofs.Ranges.{settings-within, entry-within}
 use Rattle.rules.proofs.Valid.{RingOk, valid-of, ok-of}
 use Rattle.rules.proofs.Tables.{all-listOf, table-of, table-length, table-all}
-use Rattle.tables.specs.Forms.{rateSettingsForm, rateEntryForm, portForm, localForm, pathForm, linkForm, returnForm, hashForm, ringForm, relayForm}
+use Rattle.tables.specs.Forms.{rateSettingsForm, rateEntryForm, portForm, localForm, pathForm, linkForm, returnForm, hashForm, ringForm, relayFormOf, relayForm}
 use Rattle.tables.specs.Places.{addressWidth, timeWidth, blobWidth, ringWidth, portWidth, localWidth, pathWidth, linkWidth, returnWidth, hashWidth, clockAt, portsAt, localsAt, pathsAt, linksAt, returnNextAt, returnsAt, hashNextAt, hashesAt, tableSize}
 use Rattle.tables.specs.Records.{portBytesOk, localBytesOk, pathBytesOk, linkBytesOk, returnBytesOk, hashBytesOk}
 use Rattle.tables.specs.Layout.{startOk, rateSettingsIn, recordsOk, frontOk, backOk, relayOf, bytesOf, wellFormed}
@@ -61,16 +61,24 @@ pub back-clauses : (t : List ℕ) (at : ℕ) → backOk t at
 unfolding backOk recordsOk linkBytesOk returnBytesOk hashBytesOk _and_
 back-clauses t at = rw (and-assoc (ltb (number (part t (at + linkWidth * linkCount) ringWidth)) returnCount))
 
+-- the records of paths being of any form: an older edition has its own limit on their blobs
+pub clauses-of : (path : Form Path) (t : List ℕ) → code (relayFormOf rateSettingsForm path) .fine t 0
+    ≡ (frontOk t
+    and recordsOk (λ b. code (slot path) .fine b 0) pathsAt (code (slot path) .width) pathCount t
+    and backOk t (pathsAt + code (slot path) .width * pathCount))
+unfolding frontOk startOk rateSettingsIn recordsOk backOk portBytesOk localBytesOk _and_
+clauses-of path t =
+    rw (
+      and-assoc (timeOk (number (part t clockAt timeWidth)) and rateSettingsOk (rateSettingsIn t)),
+      and-assoc (timeOk (number (part t clockAt timeWidth))),
+      and-assoc (recordsOk portBytesOk portsAt portWidth portCount t),
+    )
+
 module _ (t : List ℕ) where
   pub clauses : wellFormed t
       ≡ (eqb (length t) tableSize and frontOk t and recordsOk pathBytesOk pathsAt pathWidth pathCount t and backOk t linksAt)
-  unfolding wellFormed frontOk startOk rateSettingsIn recordsOk backOk portBytesOk localBytesOk pathBytesOk _and_
-  clauses =
-      rw (
-        and-assoc (timeOk (number (part t clockAt timeWidth)) and rateSettingsOk (rateSettingsIn t)),
-        and-assoc (timeOk (number (part t clockAt timeWidth))),
-        and-assoc (recordsOk portBytesOk portsAt portWidth portCount t),
-      )
+  unfolding wellFormed pathBytesOk
+  clauses = ap (λ (b : Bool). eqb (length t) tableSize and b) (clauses-of pathForm t)
 
   pub formed : wellFormed t ≡ true → Formed t
   unfolding wellFormed frontOk startOk

@@ -1,11 +1,11 @@
 -- The layout, said once: the fields of each record in order, and the sections of the tables in the order in which a saved file has them.
 -- Widths, places, reading, writing and refusal 7 follow. docs/LAYOUT.md draws it.
-use Prim.Native.Nat.{ℕ}
+use Prim.Native.Nat.{ℕ, _≤_}
 use mathlib.Core.Bool.{Bool}
 use mathlib.Core.List.{List}
 use mathlib.Core.Path.{refl}
-use lib.Dec.{ltb}
-use Rattle.codes.specs.Form.{Form, byte, mark, numberIn, octetsIn, field, _&_, many, slot, that, asRecord}
+use lib.Dec.{ltb, leb}
+use Rattle.codes.specs.Form.{Form, byte, mark, numberIn, octetsIn, field, _&_, many, firstsOf, slot, that, asRecord}
 use Rattle.numbers.specs.Numbers.{portCount, localCount, pathCount, blobLimit, linkCount, returnCount, hashCount}
 use Rattle.rules.specs.Relay.{Port, noPort, Slot, empty, Blobs, Path, Return, Remembered, Ring, Relay, makePort, makeRateSettings, makeRateEntry, makePath, makeLink, withLinkState, makeReturn, makeRemembered, makeRing, makeRelay}
 use Rattle.rules.specs.Blobs.{noBlob}
@@ -52,14 +52,20 @@ rateEntryForm =
     (field "last" (numberIn timeWidth) & field "violations" byte & field "blocked until" (numberIn timeWidth))
 
 -- ---- what older editions of saved tables have otherwise (crates/saved): the tables are of today's
+-- wish 8: how many blobs a path can hold, as many as today or fewer
+pub data BlobRoom : Type 0 where
+  as-today : BlobRoom
+  fewer : (most : ℕ) → most ≤ blobLimit → BlobRoom
+
 pub record Edition : Type 1 where
   pub rateSettings : Form RateSettings
   pub rateEntry : Form RateEntry
   pub pathMark : Form Bool
+  pub blobRoom : BlobRoom
 
 -- wish 6: "7 also for a mark neither yes nor no"
 abbrev pub today : Edition
-today = record { rateSettings = rateSettingsForm; rateEntry = rateEntryForm; pathMark = mark }
+today = record { rateSettings = rateSettingsForm; rateEntry = rateEntryForm; pathMark = mark; blobRoom = as-today }
 
 -- ---- a port's settings. No slot: a port that is off keeps its mode
 abbrev pub toPort : Bool × ℕ → Port
@@ -81,6 +87,17 @@ blobsForm =
     asRecord toBlobs (λ b. (b .count, b .places)) (λ x. refl) (λ y. refl)
     (field "count" byte & field "places" (many blobLimit noBlob (octetsIn blobWidth)))
 
+-- in an older file: "Refusal 7 reads 1..64, 1..16 in older files", and its places are the first of today's
+abbrev pub holdsAtMost : ℕ → Blobs → Bool
+holdsAtMost most b = leb (b .count) most
+
+abbrev pub blobsFormIn : BlobRoom → Form Blobs
+blobsFormIn as-today = blobsForm
+blobsFormIn (fewer most within) =
+    that (holdsAtMost most)
+    (asRecord toBlobs (λ b. (b .count, b .places)) (λ x. refl) (λ y. refl)
+    (field "count" byte & field "places" (firstsOf most blobLimit within noBlob (octetsIn blobWidth))))
+
 -- what an announce says of the way
 abbrev pub Head : Type 0
 Head = List ℕ × (ℕ × (ℕ × (List ℕ × ℕ)))
@@ -96,14 +113,17 @@ headForm =
 abbrev pub toPath : Head × (RateEntry × (Bool × Blobs)) → Path
 toPath ((destination, (port, (hops, (nextHop, expiry)))), (rate, (marked, blobs))) = makePath destination port hops nextHop expiry rate marked blobs
 
-abbrev pub pathFormIn : Edition → Form Path
-pathFormIn e =
+abbrev pub pathFormOf : Form RateEntry → Form Bool → Form Blobs → Form Path
+pathFormOf rate marked blobs =
     that pathOk
     (asRecord toPath
     (λ p. ((p .destination, (p .port, (p .hops, (p .nextHop, p .expiry)))), (p .rate, (p .marked, p .blobs))))
     (λ x. refl)
     (λ y. refl)
-    (headForm & field "rate" (e .rateEntry) & field "marked" (e .pathMark) & field "blobs" blobsForm))
+    (headForm & field "rate" rate & field "marked" marked & field "blobs" blobs))
+
+abbrev pub pathFormIn : Edition → Form Path
+pathFormIn e = pathFormOf (e .rateEntry) (e .pathMark) (blobsFormIn (e .blobRoom))
 
 abbrev pub pathForm : Form Path
 pathForm = pathFormIn today
@@ -175,19 +195,22 @@ backForm =
     & field "returns" (ringForm returnCount returnForm)
     & field "hashes" (ringForm hashCount hashForm)
 
-abbrev pub relayFormIn : Edition → Form Relay
-relayFormIn e =
+abbrev pub relayFormOf : Form RateSettings → Form Path → Form Relay
+relayFormOf rate path =
     asRecord toRelay
     (λ r. (r .own, (r .clock, (r .rate, (r .ports, (r .locals, (r .paths, (r .links, (r .returns, r .hashes)))))))))
     (λ x. refl)
     (λ y. refl)
     (field "own" (octetsIn addressWidth)
     & field "clock" (that timeOk (numberIn timeWidth))
-    & field "rate" (e .rateSettings)
+    & field "rate" rate
     & field "ports" (many portCount noPort portForm)
     & field "locals" (many localCount empty (slot localForm))
-    & field "paths" (many pathCount empty (slot (pathFormIn e)))
+    & field "paths" (many pathCount empty (slot path))
     & backForm)
+
+abbrev pub relayFormIn : Edition → Form Relay
+relayFormIn e = relayFormOf (e .rateSettings) (pathFormIn e)
 
 abbrev pub relayForm : Form Relay
 relayForm = relayFormIn today

@@ -16,6 +16,9 @@ use Rattle.tables.specs.Fields.{returnArrivalAt, hashExpiryAt}
 abbrev pub groupSize : ℕ
 groupSize = 128
 
+abbrev pub pathGroupSize : ℕ
+pathGroupSize = 16
+
 -- the OR of f 0, .., f (n - 1)
 unfoldable pub together : (ℕ → ℕ) → ℕ → ℕ
 together f zero = 0

@@ -1,8 +1,8 @@
 -- Where each section of the tables stands, and how wide its records are, as the layout has it.
 use mathlib.Core.Path.{_≡_, refl}
-use Prim.Native.Nat.{ℕ, _+_}
+use Prim.Native.Nat.{ℕ, _+_, _*_}
 use Rattle.codes.specs.Form.{slot, code, placeOf}
-use Rattle.numbers.specs.Numbers.{returnCount, hashCount}
+use Rattle.numbers.specs.Numbers.{blobLimit, returnCount, hashCount}
 use Rattle.tables.specs.Forms.{portForm, localForm, pathForm, linkForm, returnForm, hashForm, ringForm, backForm, relayForm}
 pub use Rattle.tables.specs.Forms.{addressWidth, digestWidth, timeWidth, blobWidth, ringWidth, settingWidth}
 
@@ -67,6 +67,6 @@ backWidth = code backForm .width
 abbrev pub tableSize : ℕ
 tableSize = code relayForm .width
 
--- 72,280 bytes: under 72 KiB
-table-size : tableSize ≡ 72280
+-- 103,000 bytes with 64 blobs a path: under 104 KiB. Each blob of the limit takes 640
+table-size : tableSize ≡ 62040 + 640 * blobLimit
 table-size = refl

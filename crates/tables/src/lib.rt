@@ -8,9 +8,9 @@ mod section_check;
 
 use places::LINKS_AT;
 use places::TABLE_SIZE;
-pub use record_check::path_ok;
 pub use section_check::back_ok;
 pub use section_check::front_ok;
+pub use section_check::paths_each;
 use section_check::paths_ok;
 ghost use mathlib.Core.Path.{_≡_};
 ghost use Rattle.tables.specs.Records.{markOf};

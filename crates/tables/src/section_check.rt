@@ -1,7 +1,8 @@
 // Row 7 for each section of the tables, record by record, and for those before and behind the paths, which a saved file
-// has at other places. What is all zeros is passed by one OR over its bytes: paths and links as a whole, for these fill
-// from their first place on; returns and hashes in groups, where the first and the last record of one are unused. Used
-// returns and hashes are passed four at once, where these are plain.
+// has at other places. What is all zeros is passed by one OR over its bytes: links as a whole, for these fill from their
+// first place on, and paths, whose records are wide, in groups, where the first record of one is unused; returns and
+// hashes in larger groups, where the first and the last one are. Used returns and hashes are passed four at once, where
+// these are plain.
 use super::places::CLOCK_AT;
 use super::places::GRACE_AT;
 use super::places::HASH_WIDTH;
@@ -42,10 +43,12 @@ ghost use Rattle.numbers.specs.Numbers.{portCount, localCount, pathCount, linkC
 ghost use Rattle.tables.specs.Places.{portWidth, localWidth, pathWidth, linkWidth, returnWidth, hashWidth, portsAt, localsAt, pathsAt, backWidth, tableSize};
 ghost use Rattle.tables.specs.Records.{portBytesOk, localBytesOk, pathBytesOk, linkBytesOk, returnBytesOk, hashBytesOk};
 ghost use Rattle.tables.specs.Layout.{startOk, recordsOk, frontOk, backOk};
-ghost use Rattle.tables.specs.Groups.{groupSize};
+ghost use Rattle.tables.specs.Groups.{groupSize, pathGroupSize};
 
-// Records of a group.
+// Records of a group, and of one of paths.
 const GROUP: usize = 128;
+
+const PATH_GROUP: usize = 16;
 
 // The last clock, and the announce rate's settings behind it.
 fn start_ok(t: &[u8]) -> bool
@@ -110,14 +113,16 @@ pub fn front_ok(t: &[u8]) -> bool
 
 // ---- paths
 
-fn paths_each(t: &[u8]) -> bool
-    requires { ⌜ length (now t) ≡ tableSize ⌝ }
-    ensures { λ r. ⌜ r ≡ recordsOk pathBytesOk pathsAt pathWidth pathCount (now (t .entry)) ⌝ }
+// The n records of paths that stand from this place on. A saved file's are tested one at a time: so `path_ok` has one
+// caller, in which the compiler knows a record's width.
+pub fn paths_each(t: &[u8], at: usize, n: usize) -> bool
+    requires { ⌜ at + pathWidth * n ≤ length (now t) ⌝ }
+    ensures { λ r. ⌜ r ≡ recordsOk pathBytesOk at pathWidth n (now (t .entry)) ⌝ }
 {
     let mut i = 0;
-    while i < PATH_COUNT {
-        let at = PATHS_AT + PATH_WIDTH * i;
-        if !path_ok(&t[at..at + PATH_WIDTH]) {
+    while i < n {
+        let start = at + PATH_WIDTH * i;
+        if !path_ok(&t[start..start + PATH_WIDTH]) {
             return false;
         }
         i += 1;
@@ -125,16 +130,30 @@ fn paths_each(t: &[u8]) -> bool
     true
 }
 
+fn path_group_ok(t: &[u8], at: usize) -> bool
+    requires { ⌜ at + pathWidth * pathGroupSize ≤ length (now t) ⌝ }
+    ensures { λ r. ⌜ r ≡ recordsOk pathBytesOk at pathWidth pathGroupSize (now (t .entry)) ⌝ }
+{
+    if t[at] == 0 {
+        if octets::is_zero(&t[at..at + PATH_WIDTH * PATH_GROUP]) {
+            return true;
+        }
+    }
+    paths_each(t, at, PATH_GROUP)
+}
+
 pub fn paths_ok(t: &[u8]) -> bool
     requires { ⌜ length (now t) ≡ tableSize ⌝ }
     ensures { λ r. ⌜ r ≡ recordsOk pathBytesOk pathsAt pathWidth pathCount (now (t .entry)) ⌝ }
 {
-    if t[PATHS_AT] == 0 {
-        if octets::is_zero(&t[PATHS_AT..PATHS_AT + PATH_WIDTH * PATH_COUNT]) {
-            return true;
+    let mut g = 0;
+    while g < PATH_COUNT / PATH_GROUP {
+        if !path_group_ok(t, PATHS_AT + PATH_WIDTH * PATH_GROUP * g) {
+            return false;
         }
+        g += 1;
     }
-    paths_each(t)
+    true
 }
 
 // ---- links

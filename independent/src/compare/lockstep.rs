@@ -29,7 +29,7 @@ pub fn step<A: Engine, B: Engine>(
     coverage: &mut Coverage,
     damage: Option<usize>,
 ) -> Vec<String> {
-    let before = coverage.before(call, &expected.tables);
+    let before = coverage.before(call, &expected.tables, &expected.file);
     let outcomes = (got.make(call), expected.make(call));
     if let Some(outcome) = &outcomes.1 {
         coverage.after(call, outcome, &before);

@@ -134,7 +134,7 @@ faults! {
     breaks "sets arrival port, hops, expiry, and next hop" {
         path_of = |rules, packet, mode| Path { hops: packet.parts.hops + 1, ..announces::path_of(rules, packet, mode) },
     }
-    BlobsStopAtLimit: "no blob is stored once there are 16, as in source 000"
+    BlobsStopAtLimit: "no blob is stored once there are 64, as in source 000"
     breaks "Ceasing to store blobs at the limit, as 000 does." {
         store_blob = |_, blob, path| {
             if !is_full(path) {

@@ -51,8 +51,8 @@ faults! {
     breaks "blob count outside 1..16 in a used record" {
         blob_count_allowed = |_, count| usize::from(count) <= BLOB_LIMIT,
     }
-    BlobCountLimitRefused: "a path with 16 blobs is refused"
-    breaks "blob count outside 1..16 in a used record" {
+    BlobCountLimitRefused: "a path with 64 blobs is refused"
+    breaks "Refusal 7 reads 1..64" {
         blob_count_allowed = |_, count| check::blob_count_allowed(count) && usize::from(count) != BLOB_LIMIT,
     }
     LastRingPlaceRefused: "the ring's last place is outside it"
@@ -75,7 +75,7 @@ faults! {
     breaks "If lent tables hold two live records of one key, the lower place counts." {
         tables_allowed = |rules, tables| check::tables_allowed(rules, tables) && !has_double_path(tables),
     }
-    AsLongTables: "tables longer than 71,116 bytes are allowed"
+    AsLongTables: "longer tables are allowed"
     breaks "tables of wrong size" {
         size_allowed = |_, size| size >= SIZE,
     }

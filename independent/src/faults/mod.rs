@@ -5,6 +5,7 @@ mod accepting;
 mod announces;
 mod announcing;
 mod asking;
+mod blobs;
 mod by_path;
 mod check;
 mod exempt;
@@ -26,6 +27,7 @@ pub use accepting::*;
 pub use announces::*;
 pub use announcing::*;
 pub use asking::*;
+pub use blobs::*;
 pub use by_path::*;
 pub use check::*;
 pub use exempt::*;
@@ -77,6 +79,7 @@ const OF_JUDGING: &[&[Fault]] = &[
     judging::FAULTS,
     exempt::FAULTS,
     announces::FAULTS,
+    blobs::FAULTS,
     rates::FAULTS,
     marks::FAULTS,
     by_path::FAULTS,

@@ -2,7 +2,7 @@
 
 use super::{faults, Changes, Fault};
 use crate::files::contents_of;
-use crate::limits::CLOCK_LIMIT;
+use crate::limits::{BLOB_LIMIT, CLOCK_LIMIT, OLDER_BLOB_LIMIT};
 use crate::recording::{count, number, LONGEST_FILE};
 use crate::rules::*;
 use crate::saved::editions::CURRENT;
@@ -22,6 +22,26 @@ fn put_but(file: &[u8], tables: &mut [u8], tally: &mut Tally, back: impl Fn(&[u8
     let before = tables.to_vec();
     loading::put_loaded(file, tables, tally);
     back(&before, tables);
+}
+
+/// Loads, and changes each path of an older file, with what the tables held in its place.
+fn older_paths(file: &[u8], tables: &mut [u8], tally: &mut Tally, change: impl Fn(&[u8], &mut [u8])) {
+    put_but(file, tables, tally, |before, tables| {
+        if file[1] < 4 {
+            PATHS.records.iter(before).zip(PATHS.records.iter_mut(tables)).for_each(|(before, path)| change(before, path));
+        }
+    });
+}
+
+/// An older file whose paths hold 16 blobs at most.
+fn with_counts_cut(file: &[u8]) -> Vec<u8> {
+    let mut file = file.to_vec();
+    let edition = file.get(1).copied().unwrap_or(CURRENT);
+    for record in (0..PATHS.records.count).filter(|_| (1..4).contains(&edition)) {
+        let count = file.get_mut(editions::place(edition, editions::PATH, record, path::BLOB_COUNT));
+        count.into_iter().filter(|count| usize::from(**count) <= BLOB_LIMIT).for_each(|count| *count = (*count).min(16));
+    }
+    file
 }
 
 fn clear_spare_blobs(tables: &mut [u8]) {
@@ -121,6 +141,58 @@ faults! {
         put_loaded = |_, file, tables, tally| put_but(file, tables, tally, |_, tables| {
             for path in PATHS.records.iter_mut(tables).filter(|path| file[1] < 3 && is_used(path)) {
                 marks::set_mark(path);
+            }
+        }),
+    }
+    OlderBlobsUpTo64: "a path of an older file may hold 64 blobs"
+    breaks "1..16 in older files." {
+        blob_limit = |_, _| BLOB_LIMIT,
+    }
+    ThirdEditionBlobsUpTo64: "a path of a file of edition 3 may hold 64 blobs"
+    breaks "Editions 1 to 3 of saved tables load with what they hold" {
+        blob_limit = |_, edition| editions::blob_limit(edition + 1),
+    }
+    CurrentBlobsUpTo16: "a path of any file holds 16 blobs at most"
+    breaks "Refusal 7 reads 1..64, 1..16 in older files." {
+        blob_limit = |_, _| OLDER_BLOB_LIMIT,
+    }
+    OlderCountCut: "more blobs than 16 of an older file's path are left out"
+    breaks "1..16 in older files." {
+        load = |rules, file, tables, tally| loading::load(rules, &with_counts_cut(file), tables, tally),
+    }
+    OlderBlobsLast: "the blobs of an older file come to the last places"
+    breaks "Editions 1 to 3 of saved tables load with what they hold" {
+        put_loaded = |_, file, tables, tally| older_paths(file, tables, tally, |_, path| {
+            path[path::BLOBS..].rotate_right(OLDER_BLOB_LIMIT * BLOB);
+        }),
+    }
+    OlderSpareBlobsLost: "spare blob places of an older file load as zeros"
+    breaks "Editions 1 to 3 of saved tables load with what they hold" {
+        put_loaded = |_, file, tables, tally| older_paths(file, tables, tally, |_, path| {
+            let held = blobs(path).count();
+            path[path::BLOBS + held * BLOB..].fill(0);
+        }),
+    }
+    OlderRestStays: "behind the sixteen blob places of an older file the tables keep what they held"
+    breaks "Editions 1 to 3 of saved tables load with what they hold" {
+        put_loaded = |_, file, tables, tally| older_paths(file, tables, tally, |before, path| {
+            let behind = path::BLOBS + OLDER_BLOB_LIMIT * BLOB;
+            path[behind..].copy_from_slice(&before[behind..]);
+        }),
+    }
+    SavedAsThird: "a save is still of edition 3"
+    breaks "a new save is edition 4" {
+        put_saved = |_, tables, tally, room| {
+            saving::put_saved(tables, tally, room);
+            room[1] = 3;
+        },
+    }
+    BehindSixteenNotSaved: "spare blob places behind the sixteenth are saved as zeros"
+    breaks "Saving and loading give equal tables byte for byte" {
+        put_saved = |_, tables, tally, room| put_others(tables, tally, room, |tables| {
+            for record in PATHS.records.iter_mut(tables) {
+                let held = blobs(record).count().max(OLDER_BLOB_LIMIT);
+                record[path::BLOBS + held * BLOB..].fill(0);
             }
         }),
     }

@@ -100,7 +100,7 @@ pub fn path_lifetime(mode: Mode) -> u64 {
     }
 }
 
-/// "with 16 held, the one stored longest ago goes."
+/// "with 16 held, the one stored longest ago goes": with 64, since Wish 8.
 pub fn store_blob(blob: &[u8], path: &mut [u8]) {
     let count = usize::from(path[path::BLOB_COUNT]);
     let places = &mut path[path::BLOBS..];

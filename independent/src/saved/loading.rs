@@ -4,7 +4,7 @@ use super::{contents, editions, entry, BODIES, CONTENTS, KIND, TALLY};
 use crate::answer::{Refusal, Tally, When};
 use crate::recording::{count, number, HEAD};
 use crate::rules::Rules;
-use crate::tables::SIZE;
+use crate::tables::{path, PATHS, SIZE};
 
 /// "Tables and room stay" where it refuses. What is loaded is all eight bodies; no clock is tested.
 pub fn load<R: Rules>(rules: &R, file: &[u8], tables: &mut [u8], tally: &mut Tally) -> Result<(), Refusal> {
@@ -55,9 +55,18 @@ pub fn offsets_run(file: &[u8]) -> bool {
     entries(file).try_fold(start, |place, (offset, length)| (offset == place).then_some(place + length)).is_some()
 }
 
-/// "24 body breaks refusal 7's rules, size too": each edition's by its own sizes.
+/// "24 body breaks refusal 7's rules, size too": each edition's by its own sizes, and with as many blobs as it had room for.
 pub fn bodies_refused<R: Rules>(rules: &R, file: &[u8]) -> bool {
-    !rules.body_lengths_allowed(file) || !rules.tables_allowed(&editions::tables_now(file[1], &file[CONTENTS..]))
+    if !rules.body_lengths_allowed(file) {
+        return true;
+    }
+    let tables = editions::tables_now(file[1], &file[CONTENTS..]);
+    !rules.tables_allowed(&tables) || has_more_blobs(rules.blob_limit(file[1]), &tables)
+}
+
+/// Does a path hold more blobs than this? One that isn't used holds none.
+fn has_more_blobs(limit: usize, tables: &[u8]) -> bool {
+    PATHS.records.iter(tables).any(|path| usize::from(path[path::BLOB_COUNT]) > limit)
 }
 
 pub fn body_lengths_allowed(file: &[u8]) -> bool {

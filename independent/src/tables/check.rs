@@ -1,6 +1,6 @@
 //! Refusal 7, clause by clause: "tables of wrong size, or a stored port over 15, ring place outside its ring, mode unknown, blob count
 //! outside 1..16 in a used record, another count over its table, a used, proved or port-on mark neither yes nor no, an unused record not
-//! all zeros, or time over 2^40 + 604,799". No other count is stored than blob counts.
+//! all zeros, or time over 2^40 + 604,799". No other count is stored than blob counts, which Wish 8 lets be 64.
 
 use super::{last_clock, link, path, port, ring_place, time, AnnounceRate, Mode, RateEntry, Section, Table};
 use super::{HASHES, HASH_PLACE, LINKS, LOCALS, PATHS, PORTS, RETURNS, RETURN_PLACE, SIZE};
@@ -75,7 +75,7 @@ pub fn path_allowed<R: Rules>(rules: &R, path: &[u8]) -> bool {
         && rules.unresponsive_mark(path[path::UNRESPONSIVE]).is_some()
 }
 
-/// "blob count outside 1..16 in a used record"
+/// "blob count outside 1..16 in a used record": "Refusal 7 reads 1..64".
 pub fn blob_count_allowed(count: u8) -> bool {
     (1..=BLOB_LIMIT).contains(&usize::from(count))
 }

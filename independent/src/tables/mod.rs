@@ -267,14 +267,14 @@ mod tests {
     /// Where docs/LAYOUT.md says that each section begins.
     #[test]
     fn the_layout_is_the_drawn_one() {
-        assert_eq!([RATE.start, PORTS.start, LOCALS.start, PATHS.records.start, LINKS.records.start], [24, 36, 68, 340, 14_548]);
-        assert_eq!([RETURN_PLACE, RETURNS.records.start, HASH_PLACE, HASHES.records.start], [16_468, 16_470, 30_294, 30_296]);
+        assert_eq!([RATE.start, PORTS.start, LOCALS.start, PATHS.records.start, LINKS.records.start], [24, 36, 68, 340, 45_268]);
+        assert_eq!([RETURN_PLACE, RETURNS.records.start, HASH_PLACE, HASHES.records.start], [47_188, 47_190, 61_014, 61_016]);
         assert_eq!(
             [PATHS, LINKS, RETURNS, HASHES].map(|table| (table.records.width, table.expiry)),
-            [(222, 35), (30, 22), (27, 19), (41, 33)]
+            [(702, 35), (30, 22), (27, 19), (41, 33)]
         );
         assert_eq!([path::LAST_ANNOUNCE, path::VIOLATIONS, path::BLOCKED_UNTIL], [43, 51, 52]);
         assert_eq!([path::UNRESPONSIVE, path::BLOB_COUNT, path::BLOBS], [60, 61, 62]);
-        assert_eq!(SIZE, 72_280);
+        assert_eq!(SIZE, 103_000);
     }
 }

@@ -16,7 +16,7 @@ struct Draft {
     app_data: usize,
 }
 
-fn blob(random: [u8; 5], emission: u64) -> Blob {
+pub(super) fn blob(random: [u8; 5], emission: u64) -> Blob {
     let time = emission.to_be_bytes();
     std::array::from_fn(|i| if i < 5 { random[i] } else { time[i - 2] })
 }
@@ -74,12 +74,20 @@ impl Traffic {
         self.send_draft(&draft, true);
     }
 
-    /// An announce that is too short, or of other keys, or unsigned, and the same once more.
+    /// A blob in some announce, with hops as stored or more, or with fewer.
+    pub(super) fn announce_blob(&mut self, station: usize, blob: Blob, fewer: bool) {
+        let mut draft = self.draft(station, 0);
+        let stored = self.world.stations[station].hops;
+        (draft.blob, draft.hops) = (blob, if fewer { stored.saturating_sub(1) } else { stored + self.random.pick(&[0, 0, 1]) });
+        self.send_draft(&draft, true);
+    }
+
+    /// An announce that is too short, or of other keys, or not of kind single, or from too far, or unsigned, and the same once more.
     pub(super) fn forged_twice(&mut self, station: usize) {
         let draft = self.newer(station);
         let mut bytes = self.announce_bytes(&draft);
         let start = if draft.type_2 { 35 } else { 19 };
-        let signature = match self.random.below(4) {
+        let signature = match self.random.below(5) {
             0 => {
                 bytes.truncate(start + self.random.below(148));
                 true
@@ -90,6 +98,10 @@ impl Traffic {
             }
             2 => {
                 bytes[0] |= self.random.pick(&[4, 8, 12]);
+                true
+            }
+            3 => {
+                bytes[1] = self.random.pick(&[128, 129, 255]);
                 true
             }
             _ => false,

@@ -160,7 +160,7 @@ impl Traffic {
         let random = &mut self.random;
         let (at, bytes) = match random.below(16) {
             0 => (start(random, &PATHS) + path::PORT, vec![small]),
-            1 => (start(random, &PATHS) + path::BLOB_COUNT, vec![small]),
+            1 => (start(random, &PATHS) + path::BLOB_COUNT, vec![random.pick(&[0, 1, 2, 16, 17, 63, 64, 65, 255])]),
             2 => (start(random, &PATHS) + path::HOPS, vec![small]),
             3 => (start(random, &PATHS) + path::EXPIRY, time.to_vec()),
             4 => (start(random, &LINKS) + link::ASKING, vec![small]),

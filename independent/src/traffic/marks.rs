@@ -43,19 +43,25 @@ impl Traffic {
     }
 
     fn announce_for_marked(&mut self, station: usize) {
-        match self.random.below(15) {
+        match self.random.below(18) {
             0 | 1 => self.same_announce(station),
             2 | 3 => self.replay_newest(station),
             4 => self.replay_of(station),
             5..=7 => self.stale_of(station),
-            8..=10 => self.forged_twice(station),
-            11 => {
+            8..=11 => self.forged_twice(station),
+            12 | 13 => {
+                let address = self.world.stations[station].address;
+                self.add_local(address);
+                self.same_announce(station);
+                self.remove_local(address);
+            }
+            14 => {
                 self.data_to(station);
                 let again = self.world.sent[0].clone();
                 let port = self.on_port();
                 self.send(again, port);
             }
-            12 => self.announce_long_of(station),
+            15 => self.announce_long_of(station),
             _ => self.announce_of(station),
         }
     }

@@ -3,6 +3,7 @@
 
 mod announces;
 mod asking;
+mod blobs;
 mod data;
 mod exempt;
 mod lent;
@@ -123,6 +124,7 @@ const EPISODES: &[(usize, Episode)] = &[
     (10, Traffic::refused_mark),
     (2, Traffic::mark_edge),
     (4, Traffic::lent_marks),
+    (9, Traffic::lent_blobs),
     (25, Traffic::data_by_path),
     (8, Traffic::data_lost),
     (6, Traffic::data_local),
@@ -141,11 +143,11 @@ const EPISODES: &[(usize, Episode)] = &[
     (1, Traffic::link_flood),
     (2, Traffic::keepalives),
     (2, Traffic::keepalives_astray),
-    (2, Traffic::keepalives_remembered),
+    (3, Traffic::keepalives_remembered),
     (10, Traffic::port_setting),
     (5, Traffic::port_off_and_on),
     (5, Traffic::local_calls),
-    (1, Traffic::locals_full),
+    (2, Traffic::locals_full),
     (12, Traffic::renumbering),
     (64, Traffic::refused_packet),
     (16, Traffic::lent_tables),
@@ -153,7 +155,7 @@ const EPISODES: &[(usize, Episode)] = &[
     (12, Traffic::lent_reasons),
     (4, Traffic::save_and_load),
     (2, Traffic::load_again),
-    (3, Traffic::load_older),
+    (6, Traffic::load_older),
     (24, Traffic::load_refused),
     (6, Traffic::load_changed),
 ];

@@ -9,6 +9,15 @@ use crate::saved::{contents, entry, BODIES, CONTENTS, LENGTH, TALLY};
 use crate::tables::{RateEntry, SIZE};
 
 impl Traffic {
+    /// Saves, and makes of the file what an older program would have saved.
+    pub(super) fn save_older(&mut self) -> u8 {
+        let edition = 1 + self.random.below(usize::from(CURRENT) - 1) as u8;
+        self.save();
+        self.queue.push_back(Call::AgeFile(edition));
+        self.saved = None;
+        edition
+    }
+
     fn save_into(&mut self, room: usize) {
         let fill = self.random.word() as u8;
         self.queue.push_back(Call::Save { room, fill });
@@ -82,11 +91,8 @@ impl Traffic {
             let rate = self.a_rate();
             self.set_rate(rate);
         }
-        self.save();
-        let edition = self.random.pick(&[1, CURRENT - 1]);
-        self.queue.push_back(Call::AgeFile(edition));
+        let edition = self.save_older();
         self.queue.push_back(Call::Load);
-        self.saved = None;
         if edition == 1 {
             self.world.rate = rates::OFF;
             self.world.stations.iter_mut().for_each(|station| station.rate = RateEntry::default());
@@ -123,7 +129,7 @@ impl Traffic {
         self.saved = None;
     }
 
-    fn write_file(&mut self, at: usize, bytes: impl Into<Vec<u8>>) {
+    pub(super) fn write_file(&mut self, at: usize, bytes: impl Into<Vec<u8>>) {
         self.queue.push_back(Call::WriteFile { at, bytes: bytes.into() });
     }
 

@@ -37,14 +37,14 @@ fn the_ratchet_goes_by_the_flag_bit_and_not_by_the_context_byte(host: &mut Host)
     assert_eq!(verdict(5, 0x21, 0, 180), Verdict::Spread(0b1110));
 }
 
-/// Of seventeen blobs the first goes and the last is stored.
+/// Of 65 blobs the first goes and the last is stored.
 fn blobs_are_stored_at_the_limit_too(host: &mut Host) {
-    for emission in 1..=17 {
+    for emission in 1..=65 {
         assert_eq!(host.verdict(&announce(1, 0x01, 3, emission, 200), 0, 10), Verdict::Spread(0b1110));
     }
-    assert_eq!(host.path(0)[path::BLOB_COUNT], 16);
-    assert_eq!(host.path(0)[path::BLOBS..], std::array::from_fn::<u8, 160, _>(|i| blob_byte(2 + i as u8 / 10, i % 10)));
-    for emission in 2..=17 {
+    assert_eq!(host.path(0)[path::BLOB_COUNT], 64);
+    assert_eq!(host.path(0)[path::BLOBS..], std::array::from_fn::<u8, 640, _>(|i| blob_byte(2 + (i / 10) as u8, i % 10)));
+    for emission in 2..=65 {
         assert_eq!(host.verdict(&announce(1, 0x01, 2, emission, 201), 0, 10), Verdict::Drop(Reason::Replay));
     }
     assert_eq!(host.verdict(&announce(1, 0x01, 3, 1, 201), 0, 10), Verdict::Drop(Reason::NotBetter));

@@ -3,6 +3,7 @@
 mod accepting;
 mod announces;
 mod asking;
+mod blobs;
 mod easy_to_get_wrong;
 mod edges;
 mod host;

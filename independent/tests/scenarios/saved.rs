@@ -32,6 +32,7 @@ crate::on_both_programs!(
     paths_of_edition_1(OlderPathsAnnouncedNow),
     other_lengths_of_edition_1(OlderEditionRefused),
     a_kept_file_of_edition_2(OlderLoadsMarked),
+    a_kept_file_of_edition_3(OlderBlobsLast),
 );
 
 /// Offset and length of the bodies, as docs/LAYOUT.md has them.
@@ -39,16 +40,18 @@ const BODIES: [(usize, usize); 8] = [
     (52, 36), // own address, last clock, announce rate
     (88, 32),
     (120, 272),
-    (392, 14_208),
-    (14_600, 1_920),
-    (16_520, 13_826),
-    (30_346, 41_986),
+    (392, 44_928),
+    (45_320, 1_920),
+    (47_240, 13_826),
+    (61_066, 41_986),
     (TALLY_AT, 24),
 ];
-const EDITION: u8 = 3;
+const EDITION: u8 = 4;
 const PORTS_AT: usize = 88;
-const TALLY_AT: usize = 72_332;
-const LENGTH: usize = 72_356;
+const TALLY_AT: usize = 103_052;
+const LENGTH: usize = 103_076;
+/// Where the 17th blob place of a path stands: older files end here.
+const BEHIND_16: usize = path::BLOBS + 160;
 const TALLY: Tally = [0x0102_0304, 1, 2, 3, 4, u32::MAX];
 
 fn save(host: &Host, room: usize) -> (u64, Vec<u8>) {
@@ -286,7 +289,7 @@ fn every_clause_of_refusal_7(host: &mut Host) {
         (PATHS.records.start, &[2]),
         (PATHS.records.start + path::PORT, &[16]),
         (PATHS.records.start + path::BLOB_COUNT, &[0]),
-        (PATHS.records.start + path::BLOB_COUNT, &[17]),
+        (PATHS.records.start + path::BLOB_COUNT, &[65]),
         (PATHS.records.start + path::EXPIRY, &late),
         (PATHS.records.start + path::UNRESPONSIVE, &[2]),
         (PATHS.records.range(1).end - 1, &[1]),
@@ -377,7 +380,8 @@ fn paths_of_edition_1(host: &mut Host) {
     for (path, older) in PATHS.records.iter(tables).zip(EDITION_1[380..13_436].chunks_exact(204)) {
         assert_eq!(path[..path::LAST_ANNOUNCE], older[..43]);
         assert_eq!(path[path::LAST_ANNOUNCE..path::BLOB_COUNT], [0; 18]);
-        assert_eq!(path[path::BLOB_COUNT..], older[43..]);
+        assert_eq!(path[path::BLOB_COUNT..BEHIND_16], older[43..]);
+        assert_eq!(path[BEHIND_16..], [0; 480]);
     }
 }
 
@@ -400,6 +404,21 @@ fn a_kept_file_of_edition_2(host: &mut Host) {
     for (path, older) in PATHS.records.iter(tables).zip(file[392..14_536].chunks_exact(221)) {
         assert_eq!(path[..path::UNRESPONSIVE], older[..60]);
         assert_eq!(path[path::UNRESPONSIVE], 0);
-        assert_eq!(path[path::BLOB_COUNT..], older[60..]);
+        assert_eq!(path[path::BLOB_COUNT..BEHIND_16], older[60..]);
+        assert_eq!(path[BEHIND_16..], [0; 480]);
     }
+}
+
+/// What the program of edition 3 saved: its records lack 48 blob places alone, and some paths are marked.
+fn a_kept_file_of_edition_3(host: &mut Host) {
+    let file = include_bytes!("../../../tests/saved/edition-3.saved");
+    assert_eq!(host.program.load(file, &mut host.tables, &mut host.tally), 0);
+    let tables = &host.tables;
+    assert!(tables[..PATHS.records.start] == file[52..392]);
+    assert!(tables[LINKS.records.start..] == file[14_600..72_332]);
+    for (path, older) in PATHS.records.iter(tables).zip(file[392..14_600].chunks_exact(222)) {
+        assert_eq!(path[..BEHIND_16], *older);
+        assert_eq!(path[BEHIND_16..], [0; 480]);
+    }
+    assert!(PATHS.records.iter(tables).any(|path| path[path::UNRESPONSIVE] == 1));
 }

@@ -86,7 +86,7 @@ fn marks_are_yes_or_no(host: &mut Host) {
 
 fn fields_of_used_records(host: &mut Host) {
     let at = PATHS.records.range(63).start;
-    for (port, count, allowed) in [(15, 16, true), (0, 1, true), (16, 1, false), (0, 0, false), (0, 17, false)] {
+    for (port, count, allowed) in [(15, 64, true), (0, 1, true), (0, 17, true), (16, 1, false), (0, 0, false), (0, 65, false)] {
         let path: &[(usize, &[u8])] = &[(at, &[1]), (at + path::PORT, &[port, 255]), (at + path::BLOB_COUNT, &[count, 1])];
         assert_eq!(passes(host, path), allowed);
     }

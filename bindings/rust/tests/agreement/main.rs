@@ -158,9 +158,9 @@ fn the_three_agree() {
 fn something_is_compared() {
     let texts = Texts::read();
     let header = header::read("the header", &texts.header);
-    assert_eq!((header.functions.len(), header.structs.len()), (41, 14));
+    assert_eq!((header.functions.len(), header.structs.len()), (42, 14));
     assert_eq!(header.functions["haskumye_packet"].arguments.len(), 10);
-    assert_eq!(header.constants.len(), 102);
+    assert_eq!(header.constants.len(), 103);
 }
 
 #[test]
@@ -199,6 +199,12 @@ fn swapped_and_missing_arguments_are_seen() {
             "port: u64, on: u8, mode: u64",
             "mode: u64, on: u8, port: u64",
             "haskumye_set_port: argument 3 is `port: u64` in the header, `mode: u64` in Rust",
+        ),
+        (
+            RUST,
+            "length: usize, destination: *const Address, clock: u64) -> u8;",
+            "length: usize, clock: u64, destination: *const Address) -> u8;",
+            "haskumye_mark_path_unresponsive: argument 3 is `destination: const 16 of u8` in the header, `clock: u64` in Rust",
         ),
         (
             RATTLE,
@@ -337,7 +343,7 @@ fn lengths_of_blocks_are_seen() {
             HEADER,
             "    uint8_t blob_count;\n",
             "",
-            "haskumye_live_path: argument 5 is `path: mut 59 of u8` in the header, `path: mut 60 of u8` in the crate",
+            "haskumye_live_path: argument 5 is `path: mut 60 of u8` in the header, `path: mut 61 of u8` in the crate",
         ),
     ]);
 }
@@ -345,7 +351,7 @@ fn lengths_of_blocks_are_seen() {
 #[test]
 fn fields_in_another_order_are_seen() {
     let texts = Texts::read();
-    let swaps: [Damage; 8] = [
+    let swaps: [Damage; 9] = [
         (HEADER, "uint64_t clock;\n    uint64_t port;", "uint64_t port;\n    uint64_t clock;", "Entry is"),
         (HEADER, "uint32_t total;\n    uint32_t dropped;", "uint32_t dropped;\n    uint32_t total;", "Tally is"),
         (RATTLE, "pub spread: u32,\n    pub kept: u32,", "pub kept: u32,\n    pub spread: u32,", "Tally is"),
@@ -357,6 +363,7 @@ fn fields_in_another_order_are_seen() {
         ),
         (HEADER, "uint8_t port;\n    uint8_t hops; ", "uint8_t hops;\n    uint8_t port; ", "PathRecord is"),
         (RUST, "pub last_announce: Time,", "pub blocked_until: Time,", "PathRecord is"),
+        (RUST, "pub unresponsive: u8,", "pub blob_count: u8,", "PathRecord is"),
         (RUST, "pub target: Setting,", "pub grace: Setting,", "RateSettings is"),
         (RUST, "pub asking: u8,", "pub answering: u8,", "LinkRecord is"),
     ];

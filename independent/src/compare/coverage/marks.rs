@@ -3,15 +3,17 @@
 use crate::answer::{Answer, Reason, Verdict};
 use crate::engine::{Call, Outcome};
 use crate::limits::LONGEST;
-use crate::packet::{self, announced, hash, DestinationKind};
+use crate::packet::{self, announced, hash, Address, DestinationKind};
 use crate::relay::marks::is_marked;
 use crate::rules::AsWritten;
 use crate::sha256::Sha256;
-use crate::tables::{self, blobs, RateEntry, HASHES, PATHS};
+use crate::tables::{self, blobs, has_key, RateEntry, HASHES, PATHS};
 use std::cmp::Ordering;
 
-/// What the tables held before an announce of kind single for a live marked path: its hash, its blob, greater emissions, a block.
+/// What the tables held before an announce of kind single for a live marked path: another live path of its destination, its hash, its blob, greater
+/// emissions, a block.
 pub struct Marked {
+    of_two: bool,
     remembered: bool,
     stored: bool,
     /// Its emission beside the greatest stored.
@@ -32,12 +34,18 @@ impl Marked {
         let greatest = blobs(path).map(announced::emission).max()?;
         let blob = payload.get(announced::BLOB);
         is_marked(path).then(|| Self {
+            of_two: PATHS.records.iter(tables).filter(|path| is_of(path, &parts.destination, call.clock)).nth(1).is_some(),
             remembered: tables::find(&HASHES, tables, &hash, call.clock).is_some(),
             stored: blob.is_some_and(|blob| blobs(path).any(|stored| stored == blob)),
             emission: blob.map(|blob| announced::emission(blob).cmp(&greatest)),
             blocked: call.clock < RateEntry::read(path).blocked_until,
         })
     }
+}
+
+/// Is a path live, and of this destination?
+fn is_of(path: &[u8], destination: &Address, clock: u64) -> bool {
+    has_key(path, destination) && PATHS.is_live(path, clock)
 }
 
 type Branch = (&'static str, fn(&Marked, Verdict) -> bool);
@@ -60,10 +68,14 @@ const BRANCHES: &[Branch] = &[
     ("revived while blocked", |found, verdict| accepted(verdict) && found.blocked),
     ("revived by an older emission", |found, verdict| accepted(verdict) && older(found)),
     ("kept", |_, verdict| verdict == Verdict::Kept),
+    ("the lower of two revived", |found, verdict| accepted(verdict) && found.of_two),
     ("older and dropped by 10", |found, verdict| older(found) && verdict == Verdict::Drop(Reason::Replay)),
     ("older and dropped by 11", |found, verdict| older(found) && verdict == Verdict::Drop(Reason::NotBetter)),
     ("older and dropped by 15", |found, verdict| older(found) && verdict == Verdict::Drop(Reason::TooOften)),
     ("a duplicate dropped by 3", |found, verdict| found.remembered && matches!(verdict, Verdict::Drop(Reason::BadForm { .. }))),
+    ("a duplicate dropped by 4", |found, verdict| found.remembered && verdict == Verdict::Drop(Reason::OwnAnnounce)),
+    ("a duplicate dropped by 5", |found, verdict| found.remembered && verdict == Verdict::Drop(Reason::TooManyHops)),
+    ("a new one dropped by 9, and remembered", |found, verdict| !found.remembered && verdict == Verdict::Drop(Reason::BadSignature)),
     ("a duplicate dropped by 9", |found, verdict| found.remembered && verdict == Verdict::Drop(Reason::BadSignature)),
 ];
 

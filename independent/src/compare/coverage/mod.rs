@@ -1,5 +1,7 @@
 //! What calls reach, and how often.
 
+mod blobs;
+mod files;
 mod marks;
 mod rates;
 mod reasons;
@@ -12,6 +14,8 @@ use crate::relay::asking::{ALWAYS_TOLD, KINDS};
 use crate::rules::AsWritten;
 use crate::sha256::Sha256;
 use crate::tables::{self, HASHES};
+use blobs::{has_spare_blobs, Blobs, Held};
+pub use files::{Files, OlderFile};
 use marks::{Marked, Marks};
 use rates::{Found, Rates};
 use reasons::Reasons;
@@ -33,18 +37,22 @@ pub struct Coverage {
     pub files: Files,
     rates: Rates,
     marks: Marks,
+    blobs: Blobs,
     split: Reasons,
     /// Settings of the announce rate: those set, then refusals by number.
     rate_settings: [usize; 10],
 }
 
-/// What a call finds: an exempt packet its hash in the ring, an announce its entry and a marked path, any packet the expiries of its destination's
-/// paths.
+/// What a call finds: an exempt packet its hash in the ring, an announce its entry, a marked path and blobs, any packet the expiries of its
+/// destination's paths; a save spare blobs, a load an older file.
 pub struct Before {
     remembered: bool,
     found: Option<Found>,
     marked: Option<Marked>,
+    held: Option<Held>,
     expiries: Vec<u64>,
+    spare: bool,
+    older: Option<OlderFile>,
 }
 
 /// Questions, by their answers.
@@ -55,22 +63,6 @@ struct Asked {
     /// Whether the signature word matters: refusals by number, then no and yes.
     refusals: [usize; 8],
     matters: [usize; 2],
-}
-
-/// Saves and loads by their refusals' numbers, 0 for none.
-#[derive(Default)]
-pub struct Files {
-    pub saves: [usize; 26],
-    pub loads: [usize; 26],
-}
-
-impl Files {
-    /// Each answer that can be given, in words, and how often it was.
-    pub fn reached(&self) -> Vec<(String, usize)> {
-        let saves = [0, 7, 25].map(|number| (format!("save: {}", answer(number)), self.saves[number]));
-        let loads = [0, 20, 21, 22, 24, 25].map(|number| (format!("load: {}", answer(number)), self.loads[number]));
-        saves.into_iter().chain(loads).collect()
-    }
 }
 
 /// A refusal's number in words.
@@ -137,11 +129,17 @@ impl Coverage {
         }
     }
 
-    /// What is looked up before a call.
-    pub fn before(&mut self, call: &Call, tables: &[u8]) -> Before {
-        let expiries = self.split.before(call, tables);
-        let marked = Marked::before(&self.exempt.sha, call, tables);
-        Before { remembered: self.is_remembered(call, tables), found: Found::before(call, tables), marked, expiries }
+    /// What is looked up before a call, in the tables and in the kept file.
+    pub fn before(&mut self, call: &Call, tables: &[u8], file: &[u8]) -> Before {
+        Before {
+            remembered: self.is_remembered(call, tables),
+            found: Found::before(call, tables),
+            marked: Marked::before(&self.exempt.sha, call, tables),
+            held: Held::before(call, tables),
+            expiries: self.split.before(call, tables),
+            spare: matches!(call, Call::Save { .. }) && has_spare_blobs(tables),
+            older: matches!(call, Call::Load).then(|| OlderFile::of(file)).flatten(),
+        }
     }
 
     /// Makes a call count, with what was looked up before it.
@@ -153,8 +151,15 @@ impl Coverage {
             (None, Some(found)) => self.rates.count(found, outcome),
             _ => {}
         }
+        if let Some(held) = &before.held {
+            self.blobs.count(held, outcome);
+        }
         if let Outcome::Judged(Answer { verdict, .. }) = outcome {
             self.split.count(call, &before.expiries, *verdict);
+        }
+        self.blobs.saves += usize::from(before.spare && matches!(outcome, Outcome::Saved(_)));
+        if let Some(older) = &before.older {
+            self.files.count_older(older, refusal(outcome));
         }
     }
 
@@ -225,6 +230,11 @@ impl Coverage {
     /// The calls that mark them.
     pub fn reached_mark_calls(&self) -> Vec<(String, usize)> {
         self.marks.reached_calls()
+    }
+
+    /// What announces find among blobs.
+    pub fn reached_blobs(&self) -> Vec<(String, usize)> {
+        self.blobs.reached()
     }
 
     /// The calls that set the announce rate.

@@ -35,7 +35,7 @@ pub const DAMAGES: &[Damage] = &[
     |random, file| set(file, random.below(LENGTH), random.word() as u8),
 ];
 
-fn set(file: &mut [u8], at: usize, byte: u8) {
+pub fn set(file: &mut [u8], at: usize, byte: u8) {
     if let Some(place) = file.get_mut(at) {
         *place = byte;
     }

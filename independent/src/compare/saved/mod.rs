@@ -3,7 +3,7 @@
 
 mod damages;
 
-use super::coverage::Files;
+use super::coverage::{Files, OlderFile};
 use super::{Called, Options, Tally};
 use crate::answer;
 use crate::engine::{Run, SavedCalls};
@@ -14,11 +14,11 @@ use crate::recording::HEAD;
 use crate::relay::Relay;
 use crate::rules::{AsWritten, Rules, Tuned};
 use crate::samples::{self, Fill};
-use crate::saved::editions::{lengths, CURRENT};
+use crate::saved::editions::{lengths, place, CURRENT, PATH};
 use crate::saved::{loading, BODIES, CONTENTS, KIND, LENGTH, TALLY};
-use crate::tables::SIZE;
+use crate::tables::{path, PATHS, SIZE};
 use crate::traffic::Traffic;
-use damages::{change_tables, recount, resize_body, swap_offsets, DAMAGES};
+use damages::{change_tables, recount, resize_body, set, swap_offsets, DAMAGES};
 
 /// Each refusal is given at least so often.
 const LEAST: usize = 100;
@@ -37,8 +37,11 @@ const CHANGES: usize = 400;
 const KEPT_DAMAGES: usize = 200;
 
 /// What programs of each edition saved.
-const KEPT: &[&[u8]] =
-    &[include_bytes!("../../../../tests/saved/edition-1.saved"), include_bytes!("../../../../tests/saved/edition-2.saved")];
+const KEPT: &[&[u8]] = &[
+    include_bytes!("../../../../tests/saved/edition-1.saved"),
+    include_bytes!("../../../../tests/saved/edition-2.saved"),
+    include_bytes!("../../../../tests/saved/edition-3.saved"),
+];
 
 struct Comparison<'a> {
     options: &'a Options,
@@ -47,8 +50,6 @@ struct Comparison<'a> {
     got: &'a dyn SavedCalls,
     expected: &'a dyn SavedCalls,
     reached: Files,
-    /// Files of each edition that were loaded, from the first on.
-    editions: [usize; CURRENT as usize],
     /// Is the first difference enough?
     first: bool,
 }
@@ -102,8 +103,8 @@ impl Comparison<'_> {
         let of = |program| loaded_by(program, file, size);
         let (got, expected) = (of(self.got), of(self.expected));
         self.reached.loads[(expected.number as usize).min(25)] += 1;
-        if expected.number == 0 {
-            self.editions[usize::from(file[1]) - 1] += 1;
+        if let Some(older) = OlderFile::of(file) {
+            self.reached.count_older(&older, expected.number as usize);
         }
         let head = &file[..file.len().min(HEAD)];
         self.expect(&format!("{what}: load of {} bytes beginning {head:02x?} into {size}", file.len()), got, expected);
@@ -238,11 +239,14 @@ impl Comparison<'_> {
         self.clauses(&file);
     }
 
-    /// A file as each older program would have saved it; and one of another edition's lengths.
+    /// A file as each older program would have saved it; with another blob count; and one of another edition's lengths.
     fn older(&mut self, what: &str, file: &[u8]) {
         for edition in 1..CURRENT {
             let aged = aged(file, edition);
             self.loading(&format!("{what}, edition {edition}"), &aged, SIZE);
+            let (record, count) = (self.random.below(PATHS.records.count), self.random.pick(&[0, 1, 15, 16, 17, 17, 63, 64, 65, 255]));
+            let at = place(edition, PATH, record, path::BLOB_COUNT);
+            self.damaged(&format!("{what}, edition {edition}, {count} blobs"), &aged, |file| set(file, at, count));
             for other in (1..=CURRENT).filter(|other| *other != edition) {
                 self.damaged(&format!("{what}, edition {edition} as {other}"), &aged, |file| file[1] = other);
             }
@@ -308,15 +312,12 @@ fn compare_until(
     tally: &mut Tally,
     first: bool,
 ) -> Vec<(String, usize)> {
-    let random = Random::new(options.seed);
-    let editions = [0; CURRENT as usize];
-    let mut c = Comparison { options, tally, random, got, expected, reached: Files::default(), editions, first };
+    let mut c = Comparison { options, tally, random: Random::new(options.seed), got, expected, reached: Files::default(), first };
     c.expect("size of a saved file", Called::new(got.saved_size() as u64, &[]), Called::new(expected.saved_size() as u64, &[]));
     c.edges();
     c.kept();
     c.random();
-    let editions = (1..).zip(c.editions).map(|(edition, times)| (format!("load: edition {edition}"), times));
-    c.reached.reached().into_iter().chain(editions).collect()
+    c.reached.reached()
 }
 
 /// Do two programs differ on saved tables?

@@ -1,7 +1,7 @@
 use Prim.Native.Nat.{ℕ}
 use mathlib.Core.Bool.{Bool, true, false, not}
 use mathlib.Core.List.{List}
-use mathlib.Core.Path.{_≡_, refl, sym, ap, _∙_}
+use mathlib.Core.Path.{_≡_, sym, ap, _∙_}
 use borrow.Author.Needs.{needs}
 use Rattle.octets.specs.Index.{_and_}
 use Rattle.octets.proofs.Index.{and-yes, and-no}
@@ -10,15 +10,11 @@ use Rattle.rules.specs.Writes.{alreadyLive}
 use Rattle.plan.specs.declared.Arrived.{Arrived}
 use Rattle.plan.specs.declared.Decision.{Decision}
 use Rattle.plan.specs.Decided.{arrivalOf, seen}
+use Rattle.plan.proofs.KindLaws.{and-true}
 use Rattle.act.specs.Stored.{decisionRemembers, remembersDecided}
 use Rattle.act.proofs.StampLaws.{forgotten}
 use Rattle.act.proofs.stamps.remembers.Statement.{statement}
 use Rattle.act.proofs.stamps.remembers.Tie as tie
-
-and-yes-too : (x : Bool) → (x and true) ≡ x
-unfolding _and_
-and-yes-too true = refl
-and-yes-too false = refl
 
 module _ (p : List ℕ) (m : Arrived) (t : List ℕ) (d : Decision) where
   abbrev live : Bool
@@ -30,7 +26,7 @@ module _ (p : List ℕ) (m : Arrived) (t : List ℕ) (d : Decision) where
 
   unless-live : exempt p ≡ false → decisionRemembers d ≡ true → remembersDecided p m t d ≡ not live
   unfolding remembersDecided
-  unless-live tested is = and-yes _ (ap not tested) ∙ ap (λ (x : Bool). not live and x) is ∙ and-yes-too (not live)
+  unless-live tested is = and-yes _ (ap not tested) ∙ ap (λ (x : Bool). not live and x) is ∙ and-true (not live)
 
 exempt-requires : tie.Need-exempt-requires
 exempt-requires c κs = search needs

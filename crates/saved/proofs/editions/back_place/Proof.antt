@@ -1,5 +1,5 @@
 use native.Mathlib.Omega.{arith}
-use Rattle.saved.proofs.EditionLaws.{start-most, before-most}
+use Rattle.saved.proofs.EditionLaws.{start-most, path-most}
 use borrow.Author.Needs.{needs}
 use Rattle.saved.proofs.editions.back_place.Statement.{statement}
 use Rattle.saved.proofs.editions.back_place.Tie as tie
@@ -12,14 +12,14 @@ path-width-requires c κs = search needs
 
 mul-result : tie.Need-mul-result
 mul-result c =
-    let most = before-most (c .before .before .args .edition) in
+    let most = path-most (c .before .before .args .edition) in
     record { fits = omega (arith, c .path-width .ensures, most) }
 
 add-result : tie.Need-add-result
 add-result c =
     let a = c .before .before .args in
     let start = start-most (a .edition) in
-    let most = before-most (a .edition) in
+    let most = path-most (a .edition) in
     record { fits = omega (arith, c .path-width .ensures, c .before .paths-place .ensures, most, start) }
 
 returns : tie.Need-returns

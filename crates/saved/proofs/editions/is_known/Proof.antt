@@ -4,16 +4,16 @@ use Rattle.octets.specs.Index.{_and_}
 use Rattle.octets.proofs.Index.{and-yes}
 use borrow.Author.Tests.{lt-ltb}
 use native.Mathlib.Omega.{arith}
-use Rattle.saved.specs.Editions.{isKnown}
+use Rattle.saved.specs.Editions.{isKnownBy, isKnown}
 use Rattle.saved.proofs.editions.is_known.Statement.{statement}
 use Rattle.saved.proofs.editions.is_known.Tie as tie
 
 returns : tie.Need-returns
-unfolding isKnown _and_
+unfolding isKnown isKnownBy _and_
 returns c = sym (ap isKnown (c .if1 .taken))
 
 returns-2 : tie.Need-returns-2
-unfolding isKnown
+unfolding isKnown isKnownBy
 returns-2 c =
     let n = c .before .args .edition in
     let some : 0 < n = omega (arith, c .if1 .left) in

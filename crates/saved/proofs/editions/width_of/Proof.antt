@@ -1,6 +1,6 @@
 -- the next one
 use native.Mathlib.Omega.{arith}
-use Rattle.saved.proofs.EditionLaws.{before-most}
+use Rattle.saved.proofs.EditionLaws.{path-most}
 use Prim.Native.Nat.{ℕ, suc, _*_, _≤_, zero-le}
 use mathlib.Core.Path.{_≡_, sym, ap, _∙_}
 use Rattle.saved.specs.Editions.{numbered, held, editionAt, widthAt}
@@ -20,7 +20,7 @@ path-width-requires c κs = search needs
 
 mul-result : tie.Need-mul-result
 mul-result c =
-    let most = before-most (c .before .before .args .edition) in
+    let most = path-most (c .before .before .args .edition) in
     record { fits = omega (arith, c .path-width .ensures, most) }
 
 returns : tie.Need-returns

@@ -5,9 +5,8 @@ use borrow.Author.Tests.{not-true, not-false}
 use borrow.Author.Needs.{needs}
 use Rattle.octets.proofs.Index.{ended}
 use Rattle.numbers.specs.Numbers.{pathCount}
-use Rattle.tables.specs.Records.{pathBytesOk}
 use Rattle.saved.specs.Editions.{numbered}
-use Rattle.saved.specs.Steps.{pathsFine}
+use Rattle.saved.specs.Steps.{pathFine, pathsFine}
 use Rattle.saved.proofs.EditionLaws.{fine-none, fine-more, fine-fails}
 use Rattle.saved.proofs.older.paths_fine.Statement.{statement}
 use Rattle.saved.proofs.older.paths_fine.Tie as tie
@@ -24,18 +23,18 @@ loop-holds c = (search needs, fine-none (numbered (c .before .args .edition)) (c
 path-now-requires : tie.Need-path-now-requires Inv-loop μ-loop
 path-now-requires c κs = search needs
 
-slice-aggregate-path-ok : tie.Need-slice-aggregate-path-ok Inv-loop μ-loop
-slice-aggregate-path-ok c = search needs
+slice-aggregate-path-fine : tie.Need-slice-aggregate-path-fine Inv-loop μ-loop
+slice-aggregate-path-fine c = search needs
 
-path-ok-requires : tie.Need-path-ok-requires Inv-loop μ-loop
-path-ok-requires c κs = search needs
+path-fine-requires : tie.Need-path-fine-requires Inv-loop μ-loop
+path-fine-requires c κs = search needs
 
 returns : tie.Need-returns Inv-loop μ-loop
 returns c =
     let c3 = c .before .before .before in
     let c5 = c3 .before .before in
     let a = c5 .before .before .args in
-    let seen = ap pathBytesOk (sym (c3 .path-now .ensures)) ∙ sym (c .before .path-ok .ensures) in
+    let seen = ap (pathFine (numbered (a .edition))) (sym (c3 .path-now .ensures)) ∙ sym (c .before .path-fine .ensures) in
     sym (fine-fails (numbered (a .edition)) (a .file .now) (c5 .loop .i) (c3 .before .loop-test .taken) (seen ∙ not-true _ (c .if1 .taken)))
 
 add-i : tie.Need-add-i Inv-loop μ-loop
@@ -49,7 +48,7 @@ loop-again c =
     let c3 = c .before .before .before in
     let c5 = c3 .before .before in
     let a = c5 .before .before .args in
-    let seen = ap pathBytesOk (sym (c3 .path-now .ensures)) ∙ sym (c .before .path-ok .ensures) in
+    let seen = ap (pathFine (numbered (a .edition))) (sym (c3 .path-now .ensures)) ∙ sym (c .before .path-fine .ensures) in
     (search needs, fine-more (numbered (a .edition)) (a .file .now) (c5 .loop .i) (c5 .loop .inv .1) (seen ∙ not-false _ (c .if1 .left)))
 
 returns-2 : tie.Need-returns-2 Inv-loop μ-loop
@@ -65,8 +64,8 @@ paths-fine-spec =
     μ-loop
     loop-holds
     path-now-requires
-    slice-aggregate-path-ok
-    path-ok-requires
+    slice-aggregate-path-fine
+    path-fine-requires
     returns
     add-i
     loop-less

@@ -1,11 +1,12 @@
 use mathlib.Core.Path.{ap, _∙_}
 use mathlib.Core.List.{List}
-use Prim.Native.Nat.{ℕ}
+use Prim.Native.Nat.{ℕ, _+_}
 use native.Mathlib.Omega.{arith}
 use Rattle.octets.specs.Part.{patch}
 use Rattle.octets.proofs.Bytes.{known-bytes}
 use Rattle.tables.proofs.Whole.{formed}
-use Rattle.saved.specs.File.{bodyCount}
+use Rattle.tables.specs.Places.{tableSize}
+use Rattle.saved.specs.File.{bodyCount, bodiesAt}
 use Rattle.saved.specs.Steps.{contentsBytes, tallyBytes}
 use Rattle.saved.proofs.SaveLaws.{file-written}
 use borrow.Author.Needs.{needs}
@@ -46,7 +47,7 @@ returns c =
     let contents = c10 .write-contents .ensures ∙ ap (λ (r : List ℕ). patch r 4 (contentsBytes bodyCount)) (c14 .write-start .ensures) in
     let copied = c6 .copy-at .ensures ∙ ap (λ (r : List ℕ). patch r 52 tables) contents in
     c2 .write-tally .ensures
-    ∙ ap (λ (r : List ℕ). patch r 72332 (tallyBytes (a .tally))) copied
+    ∙ ap (λ (r : List ℕ). patch r (bodiesAt + tableSize) (tallyBytes (a .tally))) copied
     ∙ file-written tables (a .tally) (a .room .now) (known-bytes tables (c17 .shared-slice-known .given)) (c18 .pre .0) (c18 .pre .1)
 
 pub write-file-spec : {M : Type 1} → statement M

@@ -2,8 +2,7 @@ use Prim.Native.Nat.{ℕ, _≤_, _-_}
 use mathlib.Core.Path.{_≡_}
 use mathlib.Core.Bool.{true}
 use Rattle.octets.proofs.Index.{ended}
-use Rattle.numbers.specs.Numbers.{pathCount}
-use Rattle.tables.specs.Places.{pathWidth, pathsAt}
+use Rattle.tables.specs.Places.{pathWidth}
 use Rattle.tables.specs.Records.{pathBytesOk}
 use Rattle.tables.specs.Layout.{recordsOk}
 use Rattle.tables.proofs.Loops.{none-yet, row-passes, row-fails}
@@ -12,19 +11,19 @@ use Rattle.tables.proofs.section_check.paths_each.Statement.{statement}
 use Rattle.tables.proofs.section_check.paths_each.Tie as tie
 
 abbrev Inv-loop : tie.InvT-loop
-Inv-loop t i₀ i = (i ≤ pathCount) × (recordsOk pathBytesOk pathsAt pathWidth i t ≡ true)
+Inv-loop t at n i₀ i = (i ≤ n) × (recordsOk pathBytesOk at pathWidth i t ≡ true)
 
 abbrev μ-loop : tie.MeasureT-loop
-μ-loop t i₀ i = pathCount - i
+μ-loop t at n i₀ i = n - i
 
 loop-holds : tie.Need-loop-holds Inv-loop μ-loop
-loop-holds c = (search needs, none-yet pathBytesOk pathsAt pathWidth _)
+loop-holds c = (search needs, none-yet pathBytesOk (c .before .args .at) pathWidth _)
 
-mul-at : tie.Need-mul-at Inv-loop μ-loop
-mul-at c = search needs
+mul-start : tie.Need-mul-start Inv-loop μ-loop
+mul-start c = search needs
 
-add-at : tie.Need-add-at Inv-loop μ-loop
-add-at c = search needs
+add-start : tie.Need-add-start Inv-loop μ-loop
+add-start c = search needs
 
 add-path-ok : tie.Need-add-path-ok Inv-loop μ-loop
 add-path-ok c = search needs
@@ -42,7 +41,7 @@ path-ok-requires : tie.Need-path-ok-requires Inv-loop μ-loop
 path-ok-requires c κs = search needs
 
 returns : tie.Need-returns Inv-loop μ-loop
-returns c = row-fails pathBytesOk pathsAt pathWidth _ _ (c .before .path-ok .ensures) pathCount (c .before .before .before .loop-test .taken) (c .if1 .taken)
+returns c = row-fails pathBytesOk _ pathWidth _ _ (c .before .path-ok .ensures) _ (c .before .before .before .loop-test .taken) (c .if1 .taken)
 
 add-i : tie.Need-add-i Inv-loop μ-loop
 add-i c = search needs
@@ -53,12 +52,12 @@ loop-less c = search needs
 loop-again : tie.Need-loop-again Inv-loop μ-loop
 loop-again c =
     let c4 = c .before .before .before .before in
-    (search needs, row-passes pathBytesOk pathsAt pathWidth _ _ (c .before .path-ok .ensures) (c .if1 .left) (c4 .loop .inv .1))
+    (search needs, row-passes pathBytesOk _ pathWidth _ _ (c .before .path-ok .ensures) (c .if1 .left) (c4 .loop .inv .1))
 
 returns-2 : tie.Need-returns-2 Inv-loop μ-loop
 returns-2 c =
     let c3 = c .before .before .before in
-    ended (λ (k : ℕ). recordsOk pathBytesOk pathsAt pathWidth k (c3 .args .t .now)) (c .before .loop .inv .0) (c .loop-test .left) (c .before .loop .inv .1)
+    ended (λ (k : ℕ). recordsOk pathBytesOk (c3 .args .at) pathWidth k (c3 .args .t .now)) (c .before .loop .inv .0) (c .loop-test .left) (c .before .loop .inv .1)
 
 pub paths-each-spec : {M : Type 1} → statement M
 paths-each-spec =
@@ -67,8 +66,8 @@ paths-each-spec =
     Inv-loop
     μ-loop
     loop-holds
-    mul-at
-    add-at
+    mul-start
+    add-start
     add-path-ok
     sub-path-ok
     part-path-ok-start

@@ -1,59 +1,74 @@
+use Prim.Native.Nat.{ℕ, _≤_, _-_, _*_, _/_}
+use mathlib.Core.Path.{_≡_}
+use mathlib.Core.Bool.{true}
+use Rattle.octets.proofs.Index.{ended}
 use Rattle.numbers.specs.Numbers.{pathCount}
 use Rattle.tables.specs.Places.{pathWidth, pathsAt}
-use Rattle.tables.specs.Forms.{pathForm}
 use Rattle.tables.specs.Records.{pathBytesOk}
-use Rattle.tables.proofs.Loops.{section-free}
-use Rattle.tables.proofs.Tests.{unused}
+use Rattle.tables.specs.Layout.{recordsOk}
+use Rattle.tables.specs.Groups.{pathGroupSize}
+use Rattle.tables.proofs.Loops.{none-yet, rows-pass, rows-fail}
 use native.Mathlib.Omega.{arith}
 use borrow.Author.Needs.{needs}
 use Rattle.tables.proofs.section_check.paths_ok.Statement.{statement}
 use Rattle.tables.proofs.section_check.paths_ok.Tie as tie
 
-shared-slice-read-if1 : tie.Need-shared-slice-read-if1
-shared-slice-read-if1 c = search needs
+abbrev Inv-loop : tie.InvT-loop
+Inv-loop t g₀ g = (g ≤ pathCount / pathGroupSize) × (recordsOk pathBytesOk pathsAt pathWidth (pathGroupSize * g) t ≡ true)
 
-mul-is-zero : tie.Need-mul-is-zero
-mul-is-zero c = search needs
+abbrev μ-loop : tie.MeasureT-loop
+μ-loop t g₀ g = pathCount / pathGroupSize - g
 
-add-is-zero : tie.Need-add-is-zero
-add-is-zero c = search needs
+loop-holds : tie.Need-loop-holds Inv-loop μ-loop
+loop-holds c = (search needs, none-yet pathBytesOk pathsAt pathWidth _)
 
-sub-is-zero : tie.Need-sub-is-zero
-sub-is-zero c = search needs
+mul-path-group-ok : tie.Need-mul-path-group-ok Inv-loop μ-loop
+mul-path-group-ok c = search needs
 
-part-is-zero-start : tie.Need-part-is-zero-start
-part-is-zero-start c = search needs
+mul-path-group-ok-2 : tie.Need-mul-path-group-ok-2 Inv-loop μ-loop
+mul-path-group-ok-2 c = search needs
 
-part-is-zero-end : tie.Need-part-is-zero-end
-part-is-zero-end c = search needs
+add-path-group-ok : tie.Need-add-path-group-ok Inv-loop μ-loop
+add-path-group-ok c = search needs
 
-is-zero-requires : tie.Need-is-zero-requires
-is-zero-requires c κs = search needs
+path-group-ok-requires : tie.Need-path-group-ok-requires Inv-loop μ-loop
+path-group-ok-requires c κs = search needs
 
-returns : tie.Need-returns
-unfolding pathBytesOk
+returns : tie.Need-returns Inv-loop μ-loop
 returns c =
-    let c6 = c .before .before .before .before .before .before in
-    section-free pathBytesOk pathsAt pathWidth pathCount (c6 .args .t .now) (unused pathForm) (omega (arith, c6 .pre))
-    (c .before .is-zero .ensures) (c .if2 .taken)
+    let c3 = c .before .before .before in
+    rows-fail pathBytesOk _ pathWidth pathGroupSize _ _ (c .before .path-group-ok .ensures) (c3 .loop .inv .1) pathCount (omega arith) (c .if1 .taken)
 
-paths-each-requires : tie.Need-paths-each-requires
-paths-each-requires c κs = search needs
+add-g : tie.Need-add-g Inv-loop μ-loop
+add-g c = search needs
 
-returns-2 : tie.Need-returns-2
-returns-2 c = search needs
+loop-less : tie.Need-loop-less Inv-loop μ-loop
+loop-less c = search needs
+
+loop-again : tie.Need-loop-again Inv-loop μ-loop
+loop-again c =
+    let c3 = c .before .before .before in
+    (search needs, rows-pass pathBytesOk _ pathWidth pathGroupSize _ _ (c .before .path-group-ok .ensures) (c3 .loop .inv .1) (c .if1 .left))
+
+returns-2 : tie.Need-returns-2 Inv-loop μ-loop
+returns-2 c =
+    let c3 = c .before .before .before in
+    ended (λ (k : ℕ). recordsOk pathBytesOk pathsAt pathWidth (pathGroupSize * k) (c3 .args .t .now)) (c .before .loop .inv .0) (c .loop-test .left)
+    (c .before .loop .inv .1)
 
 pub paths-ok-spec : {M : Type 1} → statement M
 paths-ok-spec =
     tie.close
     (tie.spec
-    shared-slice-read-if1
-    mul-is-zero
-    add-is-zero
-    sub-is-zero
-    part-is-zero-start
-    part-is-zero-end
-    is-zero-requires
+    Inv-loop
+    μ-loop
+    loop-holds
+    mul-path-group-ok
+    mul-path-group-ok-2
+    add-path-group-ok
+    path-group-ok-requires
     returns
-    paths-each-requires
+    add-g
+    loop-less
+    loop-again
     returns-2)
