@@ -21,7 +21,7 @@ def cold_store():
     """The relay, with its three wires on and an address of its own people."""
     relay = haskumye.Relay(COLD_STORE)
     for port in (CABLE, NORTH, SOUTH):
-        relay.set_port(port, True, haskumye.Mode.BOUNDARY)
+        relay.set_port(port, True, haskumye.Mode.BOUNDARY, haskumye.LONGEST_PACKET)
     relay.add_local(SHELF)
     return relay
 

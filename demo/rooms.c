@@ -24,7 +24,7 @@ void start(struct room *room)
     for (unsigned i = 0; i < room->wire_count; i++) {
         unsigned port = room->wires[i].port;
         expect_done(room->name, haskumye_set_port(room->tables, sizeof room->tables, port, HASKUMYE_ON,
-                                                  HASKUMYE_MODE_BOUNDARY));
+                                                  HASKUMYE_MODE_BOUNDARY, HASKUMYE_LONGEST_PACKET));
     }
 }
 

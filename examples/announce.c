@@ -168,7 +168,8 @@ int main(void)
 
     expect(haskumye_fresh(tables, sizeof tables, &own) == HASKUMYE_REFUSAL_NONE, "fresh tables");
     for (unsigned port = DESK; port <= ROOM; port++) {
-        expect(haskumye_set_port(tables, sizeof tables, port, HASKUMYE_ON, HASKUMYE_MODE_BOUNDARY) == 0, "a port");
+        expect(haskumye_set_port(tables, sizeof tables, port, HASKUMYE_ON, HASKUMYE_MODE_BOUNDARY,
+                                 HASKUMYE_LONGEST_PACKET) == 0, "a port");
     }
     take_in("signed by another key", &wrong, tables, &tally);
     take_in("signed by the desk", &announce, tables, &tally);

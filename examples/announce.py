@@ -118,7 +118,7 @@ def main():
 
     relay = haskumye.Relay(own=b"cold store".ljust(16, b"\0"))
     for port in (DESK, ROOM):
-        relay.set_port(port, True, haskumye.Mode.BOUNDARY)
+        relay.set_port(port, True, haskumye.Mode.BOUNDARY, haskumye.LONGEST_PACKET)
     take_in(relay, "signed by another key", wrong)
     take_in(relay, "signed by the desk", announce)
     take_in(relay, "the same again", announce)

@@ -35,7 +35,7 @@ def main():
     relay = haskumye.Relay(own=bytes([0x0A] * 16))
     relay.add_local(DESK)
     for port in (0, 1):
-        relay.set_port(port, True, haskumye.Mode.BOUNDARY)
+        relay.set_port(port, True, haskumye.Mode.BOUNDARY, haskumye.LONGEST_PACKET)
 
     count = haskumye.Parts(header=haskumye.PACKET_DATA, destination=DESK)
     first = haskumye.write(count, b"line 7: 42 plants")

@@ -72,7 +72,8 @@ static void live_on_old_shelf(struct state *state, haskumye_hash *count_hash)
     for (unsigned i = 0; i < WIRES; i++) {
         const struct wire *wire = &old_shelf[i];
         expect_done("a port",
-                    haskumye_set_port(state->tables, sizeof state->tables, wire->port, HASKUMYE_ON, wire->mode));
+                    haskumye_set_port(state->tables, sizeof state->tables, wire->port, HASKUMYE_ON, wire->mode,
+                                      HASKUMYE_LONGEST_PACKET));
         memcpy(state->wires[wire->port], wire->name, sizeof wire->name);
     }
     haskumye_announced_destination(payload, sizeof payload, &announce.destination);
@@ -143,7 +144,7 @@ static void renumber(struct state *state)
     }
 }
 
-/* The modes of wires that came along are in the tables. A new wire is set on, and a port without its wire off. */
+/* Modes and sizes of wires that came along are in the tables. A new wire is set on, a port without its wire off. */
 static void set_ports(struct state *state)
 {
     for (unsigned port = 0; port < HASKUMYE_PORT_COUNT; port++) {
@@ -151,14 +152,16 @@ static void set_ports(struct state *state)
             haskumye_port_settings was;
             expect_done("reading a port", haskumye_port(state->tables, sizeof state->tables, port, &was));
             expect_done("a port",
-                        haskumye_set_port(state->tables, sizeof state->tables, port, HASKUMYE_OFF, was.mode));
+                        haskumye_set_port(state->tables, sizeof state->tables, port, HASKUMYE_OFF, was.mode,
+                                          haskumye_size_number(was.size)));
             printf("%.16s (%u) is off\n", state->wires[port], port);
         }
     }
     for (unsigned i = 0; i < WIRES; i++) {
         const struct wire *wire = &new_shelf[i];
         expect_done("a port",
-                    haskumye_set_port(state->tables, sizeof state->tables, wire->port, HASKUMYE_ON, wire->mode));
+                    haskumye_set_port(state->tables, sizeof state->tables, wire->port, HASKUMYE_ON, wire->mode,
+                                      HASKUMYE_LONGEST_PACKET));
         memcpy(state->wires[wire->port], wire->name, sizeof wire->name);
         printf("%.16s (%u) is on\n", wire->name, wire->port);
     }

@@ -24,7 +24,8 @@ static void make_state(void)
     static const haskumye_address own = {"box 7"}, desk = {"the desk"};
     uint8_t *tables = state.tables;
     expect(haskumye_fresh(tables, HASKUMYE_TABLE_SIZE, &own) == HASKUMYE_REFUSAL_NONE, "fresh tables");
-    expect(haskumye_set_port(tables, HASKUMYE_TABLE_SIZE, 3, HASKUMYE_ON, HASKUMYE_MODE_ROAMING) == 0, "a port");
+    expect(haskumye_set_port(tables, HASKUMYE_TABLE_SIZE, 3, HASKUMYE_ON, HASKUMYE_MODE_ROAMING,
+                             HASKUMYE_LONGEST_PACKET) == 0, "a port");
     expect(haskumye_add_local(tables, HASKUMYE_TABLE_SIZE, &desk) == HASKUMYE_REFUSAL_NONE, "a local address");
     strcpy(state.wires[3], "radio 4711");
 }
@@ -60,8 +61,9 @@ int main(int count, char **words)
     make_state();
     show(words[1], "nothing lost", 0, 0);
     show(words[1], "zeros alone", 0, FILE_SIZE);
-    show(words[1], "cut before the local addresses, then zeros", 120, FILE_SIZE);
-    show(words[1], "one byte of a local address", 121, 122);
-    show(words[1], "the mark of a port, so that it is off", 94, 95);
+    show(words[1], "cut before the ports, then zeros", 88, FILE_SIZE);
+    show(words[1], "cut before the local addresses, then zeros", 152, FILE_SIZE);
+    show(words[1], "one byte of a local address", 153, 154);
+    show(words[1], "the mark of a port, so that it is off", 100, 101);
     return 0;
 }

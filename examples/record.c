@@ -28,7 +28,8 @@ static void expect(int holds, const char *what)
 static void set_up(uint8_t tables[HASKUMYE_TABLE_SIZE])
 {
     expect(haskumye_fresh(tables, HASKUMYE_TABLE_SIZE, &own) == HASKUMYE_REFUSAL_NONE, "fresh tables");
-    expect(haskumye_set_port(tables, HASKUMYE_TABLE_SIZE, 3, HASKUMYE_ON, HASKUMYE_MODE_ROAMING) == 0, "a port");
+    expect(haskumye_set_port(tables, HASKUMYE_TABLE_SIZE, 3, HASKUMYE_ON, HASKUMYE_MODE_ROAMING,
+                             HASKUMYE_LONGEST_PACKET) == 0, "a port");
     expect(haskumye_add_local(tables, HASKUMYE_TABLE_SIZE, &desk) == HASKUMYE_REFUSAL_NONE, "a local address");
 }
 

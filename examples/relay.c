@@ -4,7 +4,7 @@
  * Each line of standard input is an event, each line of standard output what the box does:
  *
  *     packet PORT CLOCK SIGNED HEX    a packet came in     send PORT HEX, deliver HEX, drop N: WORDS, kept
- *     port PORT ON MODE               sets a port          done
+ *     port PORT ON MODE SIZE          sets a port          done
  *     local HEX                       adds an address      done
  *     renumber P0 P1 .. P15           renumbers the ports  done
  *
@@ -27,7 +27,7 @@ static const haskumye_address own_address = {{0xb0, 0x0c, 0x5e}};
 
 enum { LINE_SIZE = 2048 };
 
-/* The next number of a line. Where there is none, one that no port, mode or clock can be. */
+/* The next number of a line. Where there is none, one that no port, mode, size or clock can be. */
 static uint64_t next_number(char **rest)
 {
     char *start = *rest;
@@ -136,11 +136,12 @@ static void on_port(char *rest)
     uint64_t port = next_number(&rest);
     uint8_t on = next_number(&rest) == 1 ? HASKUMYE_ON : HASKUMYE_OFF;
     uint64_t mode = next_number(&rest);
+    uint64_t size = next_number(&rest);
     if (!ends(rest)) {
         printf("not a port\n");
         return;
     }
-    print_done(haskumye_set_port(tables, sizeof tables, port, on, mode));
+    print_done(haskumye_set_port(tables, sizeof tables, port, on, mode, size));
 }
 
 static void on_local(char *rest)

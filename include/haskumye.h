@@ -47,18 +47,18 @@ extern "C" {
 #define HASKUMYE_CHECKED
 #endif
 
-#define HASKUMYE_VERSION 5 /* of this interface: it rises where a host has to be changed or compiled again */
+#define HASKUMYE_VERSION 6 /* of this interface: it rises where a host has to be changed or compiled again */
 
 /* Sizes, in bytes unless another unit is named. */
-#define HASKUMYE_TABLE_SIZE 103000 /* a relay's tables, exactly; haskumye_table_size() says the same */
+#define HASKUMYE_TABLE_SIZE 103032 /* a relay's tables, exactly; haskumye_table_size() says the same */
 #define HASKUMYE_OUTPUT_SIZE 500  /* the least output buffer, however short the packet */
-#define HASKUMYE_SHORTEST_PACKET 19 /* 35 in type 2 */
-#define HASKUMYE_LONGEST_PACKET 500
+#define HASKUMYE_SHORTEST_PACKET 19 /* 35 in type 2; a port's least size */
+#define HASKUMYE_LONGEST_PACKET 500 /* a port's greatest size, which a fresh relay's ports have */
 #define HASKUMYE_LONGEST_MESSAGE 65535 /* for haskumye_sha256 */
 #define HASKUMYE_TEXT_SIZE 160  /* a line of haskumye_line or haskumye_replay_entry, an answer's text or sentence */
 #define HASKUMYE_RECORDING_SIZE 60000 /* the longest recording */
 #define HASKUMYE_ENTRY_WIDTH 12 /* an entry as haskumye_write_recording takes it */
-#define HASKUMYE_SAVED_SIZE 103076 /* what haskumye_save writes, exactly; haskumye_saved_size() says the same */
+#define HASKUMYE_SAVED_SIZE 103108 /* what haskumye_save writes, exactly; haskumye_saved_size() says the same */
 #define HASKUMYE_LONGEST_SAVED 524332 /* no saved file of any edition is longer */
 
 /* Limits: how many of each a relay has room for. */
@@ -124,14 +124,16 @@ enum haskumye_mode {
 enum haskumye_refusal {
     HASKUMYE_REFUSAL_NONE = 0,
     HASKUMYE_REFUSAL_TOO_SHORT = 1,       /* a packet under 19 bytes, or type 2 under 35 */
-    HASKUMYE_REFUSAL_TOO_LONG = 2,        /* a packet over 500 bytes, or a message over 65,535 */
+    HASKUMYE_REFUSAL_TOO_LONG = 2,        /* a packet over the arrival port's size or the given one, or over 500 bytes
+                                             where there is none; a message over 65,535 */
     HASKUMYE_REFUSAL_ACCESS_CODE = 3,     /* the access code bit is set */
     HASKUMYE_REFUSAL_ARRIVAL_PORT = 4,    /* the arrival port is over 15, or off */
     HASKUMYE_REFUSAL_CLOCK = 5,           /* the clock is 2^40 or more, or below the last accepted one */
     HASKUMYE_REFUSAL_OUTPUT = 6,          /* the output buffer is under 500 bytes */
     HASKUMYE_REFUSAL_TABLES = 7,          /* the tables' length is wrong, or no relay has these bytes */
     HASKUMYE_REFUSAL_MAP = 8,             /* the renumbering map is not one-to-one on 0..15 */
-    HASKUMYE_REFUSAL_SETTING = 9,         /* setting a port over 15, an unknown mode, or a rate over its limit */
+    HASKUMYE_REFUSAL_SETTING = 9,         /* setting a port over 15, an unknown mode, or a rate over its limit; a size
+                                             outside 19 to 500 */
     HASKUMYE_REFUSAL_LOCAL_FULL = 10,     /* a 17th local address */
     HASKUMYE_REFUSAL_LOCAL_ADDRESS = 11,  /* adding a local address already there, or removing one not there */
     HASKUMYE_REFUSAL_NO_LIVE_PATH = 12,   /* marking a destination that has no live path */
@@ -172,7 +174,8 @@ enum haskumye_reason {
     HASKUMYE_REASON_NOT_BETTER = 11,    /* an announce neither emitted later nor of fewer hops than its path */
     HASKUMYE_REASON_PORT_OFF = 12,      /* the port to leave by */
     HASKUMYE_REASON_NO_ROOM = 13,       /* for a new path or link */
-    HASKUMYE_REASON_RATE_LIMITED = 15   /* an announce too soon after the last; tested after 11, before 12 */
+    HASKUMYE_REASON_RATE_LIMITED = 15,  /* an announce too soon after the last; tested after 11, before 12 */
+    HASKUMYE_REASON_TOO_LONG_FOR_PORT = 16 /* longer than the port to leave by carries; tested after 12, before 13 */
 };
 
 /* The clause of test 3 that a packet's form breaks, the first in document 01's order: HASKUMYE_ANSWER_CLAUSE. */
@@ -332,9 +335,20 @@ static inline uint64_t haskumye_seconds(haskumye_time time)
     return seconds;
 }
 
+/* A port's size in bytes, big-endian: haskumye_size_number says it. */
 typedef struct {
-    uint8_t on;   /* HASKUMYE_ON or HASKUMYE_OFF */
-    uint8_t mode; /* one of haskumye_mode */
+    uint8_t bytes[2];
+} haskumye_size;
+
+static inline unsigned haskumye_size_number(haskumye_size size)
+{
+    return size.bytes[0] * 256u + size.bytes[1];
+}
+
+typedef struct {
+    uint8_t on;         /* HASKUMYE_ON or HASKUMYE_OFF */
+    uint8_t mode;       /* one of haskumye_mode */
+    haskumye_size size; /* the longest packet that it carries */
 } haskumye_port_settings;
 
 /* A setting's number, big-endian: haskumye_setting_number says it. */
@@ -402,7 +416,8 @@ HASKUMYE_ASSERT_SIZE(haskumye_port_map, 16);
 HASKUMYE_ASSERT_SIZE(haskumye_text, HASKUMYE_TEXT_SIZE);
 HASKUMYE_ASSERT_SIZE(haskumye_tally, 24);
 HASKUMYE_ASSERT_SIZE(haskumye_time, 8);
-HASKUMYE_ASSERT_SIZE(haskumye_port_settings, 2);
+HASKUMYE_ASSERT_SIZE(haskumye_size, 2);
+HASKUMYE_ASSERT_SIZE(haskumye_port_settings, 4);
 HASKUMYE_ASSERT_SIZE(haskumye_setting, 4);
 HASKUMYE_ASSERT_SIZE(haskumye_rate_settings, 12);
 HASKUMYE_ASSERT_SIZE(haskumye_path_record, 61);
@@ -423,8 +438,9 @@ static inline int haskumye_matches_header(void)
 /* ---- A relay. A call that returns uint8_t returns a refusal, 0 for none. ---- */
 
 /*
- * Makes the tables of a fresh relay: its own address, every port off and boundary, clock 0, all else empty. What the
- * buffer held does not matter. Refusal: 7, for the length alone.
+ * Makes the tables of a fresh relay: its own address, every port off and boundary, with size 500, clock 0, all else
+ * empty. What the buffer held does not matter. Refusal: 7, for the length alone. A buffer of zeros is no relay: every
+ * other call refuses it by 7.
  * The tally is not lent here: the host sets it to zeros with this call, so that it counts since fresh. From other
  * numbers it would count on from there.
  */
@@ -434,10 +450,12 @@ HASKUMYE_CHECKED uint8_t haskumye_fresh(uint8_t *tables, size_t length, const ha
 HASKUMYE_CHECKED uint8_t haskumye_check_tables(const uint8_t *tables, size_t length);
 
 /*
- * Sets a port on or off, and its mode, one of haskumye_mode. Every value but HASKUMYE_ON, such as the 4 of `flags & 4`,
+ * Sets a port on or off, its mode, one of haskumye_mode, and its size: the longest packet that it carries, in bytes,
+ * from HASKUMYE_SHORTEST_PACKET to HASKUMYE_LONGEST_PACKET. Every value but HASKUMYE_ON, such as the 4 of `flags & 4`,
  * switches the port off and is not refused. Records that name the port stay. Refusals: 7, 9.
  */
-HASKUMYE_CHECKED uint8_t haskumye_set_port(uint8_t *tables, size_t length, uint64_t port, uint8_t on, uint64_t mode);
+HASKUMYE_CHECKED uint8_t haskumye_set_port(uint8_t *tables, size_t length, uint64_t port, uint8_t on, uint64_t mode,
+                                           uint64_t size);
 
 /*
  * Sets how often every destination may announce itself. An announce under `target` seconds after the last accepted one
@@ -475,7 +493,7 @@ HASKUMYE_CHECKED uint8_t haskumye_renumber(uint8_t *tables, size_t length, const
  * Judges a packet that came in by a port at a clock. signed_well is the host's word on its signature: 1 is yes,
  * anything else no; it is read only for announces and link proofs. What leaves stands at the output's start; the bytes
  * behind it, and all of them where nothing leaves, stay as they were. Refusals, in this order: 7, 6, 4, 5, 1 (under 19
- * bytes), 2, 3, 1 (type 2 under 35).
+ * bytes), 2 (over the port's size), 3, 1 (type 2 under 35).
  */
 HASKUMYE_CHECKED haskumye_answer haskumye_packet(const uint8_t *packet, size_t length, uint64_t port, uint64_t clock,
                                                  uint8_t signed_well, uint8_t *tables, size_t size, uint8_t *output,
@@ -559,8 +577,11 @@ HASKUMYE_CHECKED uint8_t haskumye_signature_matters(const uint8_t *packet, size_
 
 /* ---- Packets. ---- */
 
-/* Reads a packet's parts. Returns a refusal (1, 2, 3), or 0. */
-HASKUMYE_CHECKED uint8_t haskumye_read(const uint8_t *packet, size_t length, haskumye_parts *parts);
+/*
+ * Reads the parts of a packet that is no longer than a size, from HASKUMYE_SHORTEST_PACKET to HASKUMYE_LONGEST_PACKET:
+ * a port's, or the greatest. Returns a refusal (9, 1, 2, 3, in this order), or 0.
+ */
+HASKUMYE_CHECKED uint8_t haskumye_read(const uint8_t *packet, size_t length, uint64_t size, haskumye_parts *parts);
 
 /*
  * Where the payload starts: it is the packet from there on. Never over the length, whatever the bytes. Of a packet that
@@ -661,14 +682,15 @@ static inline const char *haskumye_refusal_words(unsigned refusal)
 {
     switch (refusal) {
     case HASKUMYE_REFUSAL_TOO_SHORT: return "length under 19, or type 2 under 35";
-    case HASKUMYE_REFUSAL_TOO_LONG: return "length over 500 (hashing: over 65,535)";
+    case HASKUMYE_REFUSAL_TOO_LONG: return "length over the port's size, or over 500 (hashing: over 65,535)";
     case HASKUMYE_REFUSAL_ACCESS_CODE: return "access code bit set";
     case HASKUMYE_REFUSAL_ARRIVAL_PORT: return "arrival port over 15, or off";
     case HASKUMYE_REFUSAL_CLOCK: return "clock 2^40 or more, or below the last accepted clock";
     case HASKUMYE_REFUSAL_OUTPUT: return "output buffer under 500 bytes";
     case HASKUMYE_REFUSAL_TABLES: return "tables of wrong size, or with bytes that no relay has";
     case HASKUMYE_REFUSAL_MAP: return "renumbering map not one-to-one on 0..15";
-    case HASKUMYE_REFUSAL_SETTING: return "setting a port over 15, an unknown mode or an announce rate over its limit";
+    case HASKUMYE_REFUSAL_SETTING:
+        return "setting a port over 15, an unknown mode, a size outside 19 to 500 or an announce rate over its limit";
     case HASKUMYE_REFUSAL_LOCAL_FULL: return "adding a 17th local address";
     case HASKUMYE_REFUSAL_LOCAL_ADDRESS: return "adding a local address already there, or removing one not there";
     case HASKUMYE_REFUSAL_NO_LIVE_PATH: return "marking a destination that has no live path";
@@ -702,6 +724,7 @@ static inline const char *haskumye_reason_words(unsigned reason)
     case HASKUMYE_REASON_PORT_OFF: return "port off";
     case HASKUMYE_REASON_NO_ROOM: return "no room";
     case HASKUMYE_REASON_RATE_LIMITED: return "announced too often";
+    case HASKUMYE_REASON_TOO_LONG_FOR_PORT: return "too long for the port";
     default: return "unknown";
     }
 }
@@ -780,6 +803,7 @@ static inline const char *haskumye_reason_sentence(unsigned reason, unsigned cla
     case HASKUMYE_REASON_PORT_OFF: return "the port to leave by is off";
     case HASKUMYE_REASON_NO_ROOM: return "no room for another path or link";
     case HASKUMYE_REASON_RATE_LIMITED: return "this destination announces itself too often";
+    case HASKUMYE_REASON_TOO_LONG_FOR_PORT: return "it is too long for the port to leave by";
     default: return "unknown";
     }
 }

@@ -44,8 +44,8 @@ static void check_accessors(void)
     CHECK(HASKUMYE_ANSWER_PORT(next++) == 15 && next == forward + 1);
     CHECK(HASKUMYE_ANSWER_LENGTH(deliver) == 0 && HASKUMYE_ANSWER_PAYLOAD(forward) == 0);
     CHECK(HASKUMYE_WRITTEN_REFUSAL(6) == HASKUMYE_REFUSAL_OUTPUT && HASKUMYE_WRITTEN_LENGTH(19u << 16) == 19);
-    const haskumye_saved saved = UINT64_C(103076) << 16, not_saved = HASKUMYE_REFUSAL_ROOM;
-    CHECK(HASKUMYE_SAVED_REFUSAL(saved) == HASKUMYE_REFUSAL_NONE && HASKUMYE_SAVED_LENGTH(saved) == 103076);
+    const haskumye_saved saved = UINT64_C(103108) << 16, not_saved = HASKUMYE_REFUSAL_ROOM;
+    CHECK(HASKUMYE_SAVED_REFUSAL(saved) == HASKUMYE_REFUSAL_NONE && HASKUMYE_SAVED_LENGTH(saved) == 103108);
     CHECK(HASKUMYE_SAVED_REFUSAL(not_saved) == HASKUMYE_REFUSAL_ROOM && HASKUMYE_SAVED_LENGTH(not_saved) == 0);
 }
 
@@ -109,7 +109,9 @@ static void check_packet_calls(void)
     static haskumye_blob blob;
     static haskumye_text text;
     static uint8_t output[HASKUMYE_OUTPUT_SIZE];
-    CHECK(haskumye_read(NULL, 0, &parts) == HASKUMYE_REFUSAL_TOO_SHORT);
+    CHECK(haskumye_read(NULL, 0, HASKUMYE_LONGEST_PACKET, &parts) == HASKUMYE_REFUSAL_TOO_SHORT);
+    CHECK(haskumye_read(NULL, 0, HASKUMYE_SHORTEST_PACKET - 1, &parts) == HASKUMYE_REFUSAL_SETTING);
+    CHECK(haskumye_read(output, 20, HASKUMYE_SHORTEST_PACKET, &parts) == HASKUMYE_REFUSAL_TOO_LONG);
     CHECK(haskumye_payload_start(NULL, 0) == 0);
     CHECK(haskumye_write(&parts, NULL, 0, NULL, 0) == HASKUMYE_REFUSAL_OUTPUT);
     CHECK(HASKUMYE_WRITTEN_LENGTH(haskumye_write(&parts, NULL, 0, output, sizeof output)) == HASKUMYE_SHORTEST_PACKET);
@@ -128,13 +130,13 @@ static void check_relay_calls(void)
     static haskumye_address address;
     static haskumye_port_map map;
     static haskumye_tally tally;
-    static uint8_t tables[HASKUMYE_TABLE_SIZE], output[HASKUMYE_OUTPUT_SIZE];
+    static uint8_t tables[HASKUMYE_TABLE_SIZE], output[HASKUMYE_OUTPUT_SIZE], packet[HASKUMYE_LONGEST_PACKET];
     CHECK(haskumye_table_size() == HASKUMYE_TABLE_SIZE);
     CHECK(haskumye_version() == HASKUMYE_VERSION);
     CHECK(haskumye_matches_header());
     CHECK(haskumye_fresh(NULL, 0, &address) == HASKUMYE_REFUSAL_TABLES);
     CHECK(haskumye_check_tables(NULL, 0) == HASKUMYE_REFUSAL_TABLES);
-    CHECK(haskumye_set_port(NULL, 0, 0, HASKUMYE_ON, HASKUMYE_MODE_BOUNDARY) == HASKUMYE_REFUSAL_TABLES);
+    CHECK(haskumye_set_port(NULL, 0, 0, HASKUMYE_ON, HASKUMYE_MODE_BOUNDARY, 500) == HASKUMYE_REFUSAL_TABLES);
     CHECK(haskumye_set_announce_rate(NULL, 0, 0, 0, 0) == HASKUMYE_REFUSAL_TABLES);
     CHECK(haskumye_add_local(NULL, 0, &address) == HASKUMYE_REFUSAL_TABLES);
     CHECK(haskumye_remove_local(NULL, 0, &address) == HASKUMYE_REFUSAL_TABLES);
@@ -142,9 +144,12 @@ static void check_relay_calls(void)
     CHECK(haskumye_renumber(NULL, 0, &map) == HASKUMYE_REFUSAL_TABLES);
     haskumye_answer answer = haskumye_packet(NULL, 0, 0, 0, 0, NULL, 0, NULL, 0, &tally);
     CHECK(HASKUMYE_ANSWER_REFUSAL(answer) == HASKUMYE_REFUSAL_TABLES);
+    CHECK(haskumye_check_tables(tables, sizeof tables) == HASKUMYE_REFUSAL_TABLES); /* zeros are no relay */
     CHECK(haskumye_fresh(tables, sizeof tables, &address) == 0);
     CHECK(haskumye_check_tables(tables, sizeof tables) == HASKUMYE_REFUSAL_NONE);
-    CHECK(haskumye_set_port(tables, sizeof tables, 0, HASKUMYE_ON, HASKUMYE_MODE_ROAMING) == 0);
+    CHECK(haskumye_set_port(tables, sizeof tables, 0, HASKUMYE_ON, HASKUMYE_MODE_ROAMING, 255) == 0);
+    CHECK(haskumye_set_port(tables, sizeof tables, 0, HASKUMYE_ON, 0, 18) == HASKUMYE_REFUSAL_SETTING);
+    CHECK(haskumye_set_port(tables, sizeof tables, 0, HASKUMYE_ON, 0, 65536 + 255) == HASKUMYE_REFUSAL_SETTING);
     CHECK(haskumye_mark_path_unresponsive(tables, sizeof tables, &address, 1) == HASKUMYE_REFUSAL_NO_LIVE_PATH);
     CHECK(haskumye_mark_path_unresponsive(tables, sizeof tables, &address, HASKUMYE_CLOCK_LIMIT) ==
           HASKUMYE_REFUSAL_CLOCK);
@@ -152,6 +157,10 @@ static void check_relay_calls(void)
     CHECK(HASKUMYE_ANSWER_REFUSAL(answer) == HASKUMYE_REFUSAL_OUTPUT);
     answer = haskumye_packet(NULL, 0, 0, 0, 0, tables, sizeof tables, output, sizeof output, &tally);
     CHECK(HASKUMYE_ANSWER_REFUSAL(answer) == HASKUMYE_REFUSAL_TOO_SHORT);
+    answer = haskumye_packet(packet, 256, 0, 0, 0, tables, sizeof tables, output, sizeof output, &tally);
+    CHECK(HASKUMYE_ANSWER_REFUSAL(answer) == HASKUMYE_REFUSAL_TOO_LONG);
+    answer = haskumye_packet(packet, 255, 0, 0, 0, tables, sizeof tables, output, sizeof output, &tally);
+    CHECK(HASKUMYE_ANSWER_KIND(answer) == HASKUMYE_DROP);
 }
 
 static void check_saving_calls(void)
@@ -177,6 +186,7 @@ static void check_questions(void)
     static const haskumye_time time = {{0, 0, 0, 1, 2, 3, 4, 5}};
     static haskumye_address local;
     static const haskumye_setting setting = {{1, 2, 3, 4}};
+    static const haskumye_size size = {{1, 255}};
     static haskumye_port_settings port;
     static haskumye_rate_settings rate;
     static haskumye_path_record path;
@@ -185,6 +195,7 @@ static void check_questions(void)
     static uint8_t tables[HASKUMYE_TABLE_SIZE];
     CHECK(haskumye_seconds(time) == UINT64_C(0x102030405));
     CHECK(haskumye_setting_number(setting) == UINT32_C(0x1020304));
+    CHECK(haskumye_size_number(size) == 511);
     CHECK(haskumye_port(NULL, 0, 0, &port) == HASKUMYE_REFUSAL_TABLES);
     CHECK(haskumye_announce_rate(NULL, 0, &rate) == HASKUMYE_REFUSAL_TABLES);
     CHECK(haskumye_local(NULL, 0, 0, &local) == HASKUMYE_REFUSAL_TABLES);
@@ -196,9 +207,11 @@ static void check_questions(void)
     CHECK(haskumye_last_clock(NULL, 0, &number) == HASKUMYE_REFUSAL_TABLES);
     CHECK(haskumye_signature_matters(NULL, 0, 0, 0, NULL, 0, 0) == HASKUMYE_REFUSAL_TABLES);
     CHECK(haskumye_fresh(tables, sizeof tables, &address) == 0);
-    CHECK(haskumye_set_port(tables, sizeof tables, 2, HASKUMYE_ON, HASKUMYE_MODE_ROAMING) == 0);
+    CHECK(haskumye_set_port(tables, sizeof tables, 2, HASKUMYE_ON, HASKUMYE_MODE_ROAMING, 258) == 0);
     CHECK(haskumye_port(tables, sizeof tables, 2, &port) == 0 && port.on == 1 && port.mode == HASKUMYE_MODE_ROAMING);
+    CHECK(haskumye_size_number(port.size) == 258);
     CHECK(haskumye_port(tables, sizeof tables, 16, &port) == HASKUMYE_NONE && port.on == 1);
+    CHECK(haskumye_port(tables, sizeof tables, 0, &port) == 0 && haskumye_size_number(port.size) == 500);
     CHECK(haskumye_set_announce_rate(tables, sizeof tables, 3600, 5, HASKUMYE_PENALTY_LIMIT) == 0);
     CHECK(haskumye_set_announce_rate(tables, sizeof tables, 3600, 256, 0) == HASKUMYE_REFUSAL_SETTING);
     CHECK(haskumye_announce_rate(tables, sizeof tables, &rate) == 0 && haskumye_setting_number(rate.target) == 3600);

@@ -5,13 +5,13 @@ Signatures, access codes, framing and timers are the host's; docs/HOST.md tells 
 
     import haskumye
     relay = haskumye.Relay(own=bytes(16))
-    relay.set_port(3, True, haskumye.Mode.BOUNDARY)
+    relay.set_port(3, True, haskumye.Mode.BOUNDARY, haskumye.LONGEST_PACKET)
     answer = relay.packet(packet, port=3, clock=1000)
     if isinstance(answer, haskumye.Forward):
         send(answer.port, answer.packet)
 
 Packets, addresses and payloads are bytes-like. A refused call raises Refused and has changed nothing. A call holds Python's lock, so those on one relay
-are made one at a time. The shared library, libhaskumye.so.5, is found in the repository's target/, below the prefix that this file is installed
+are made one at a time. The shared library, libhaskumye.so.6, is found in the repository's target/, below the prefix that this file is installed
 in, or by the system; HASKUMYE_LIBRARY names another file.
 """
 
@@ -23,10 +23,10 @@ import pathlib
 from ctypes import c_char_p, c_size_t, c_uint8, c_uint32, c_uint64, c_void_p
 from typing import NamedTuple, Optional, Union
 
-VERSION = 5  # of the interface, as the header has it
+VERSION = 6  # of the interface, as the header has it
 
 # Sizes in bytes, and limits.
-TABLE_SIZE = 103000
+TABLE_SIZE = 103032
 OUTPUT_SIZE = 500
 SHORTEST_PACKET = 19
 LONGEST_PACKET = 500
@@ -34,7 +34,7 @@ LONGEST_MESSAGE = 65535
 TEXT_SIZE = 160
 RECORDING_SIZE = 60000
 ENTRY_WIDTH = 12
-SAVED_SIZE = 103076
+SAVED_SIZE = 103108
 LONGEST_SAVED = 524332
 PORT_COUNT = 16
 LOCAL_COUNT = 16
@@ -87,14 +87,14 @@ class Refusal(Words):
     """Why a call was refused."""
 
     TOO_SHORT = 1, "length under 19, or type 2 under 35"
-    TOO_LONG = 2, "length over 500 (hashing: over 65,535)"
+    TOO_LONG = 2, "length over the port's size, or over 500 (hashing: over 65,535)"
     ACCESS_CODE = 3, "access code bit set"
     ARRIVAL_PORT = 4, "arrival port over 15, or off"
     CLOCK = 5, "clock 2^40 or more, or below the last accepted clock"
     OUTPUT = 6, "output buffer under 500 bytes"
     TABLES = 7, "tables of wrong size, or with bytes that no relay has"
     MAP = 8, "renumbering map not one-to-one on 0..15"
-    SETTING = 9, "setting a port over 15, an unknown mode or an announce rate over its limit"
+    SETTING = 9, "setting a port over 15, an unknown mode, a size outside 19 to 500 or an announce rate over its limit"
     LOCAL_FULL = 10, "adding a 17th local address"
     LOCAL_ADDRESS = 11, "adding a local address already there, or removing one not there"
     NO_LIVE_PATH = 12, "marking a destination that has no live path"
@@ -149,6 +149,7 @@ class Reason(Words):
     PORT_OFF = 12, "port off", "the port to leave by is off"
     NO_ROOM = 13, "no room", "no room for another path or link"
     RATE_LIMITED = 15, "announced too often", "this destination announces itself too often"
+    TOO_LONG_FOR_PORT = 16, "too long for the port", "it is too long for the port to leave by"
 
 
 class Kind(Words):
@@ -284,10 +285,11 @@ class Replayed(NamedTuple):
 
 
 class Port(NamedTuple):
-    """A port's settings."""
+    """A port's settings. Its size is the longest packet that it carries, in bytes."""
 
     on: bool
     mode: Mode
+    size: int
 
 
 class AnnounceRate(NamedTuple):
@@ -349,7 +351,7 @@ FUNCTIONS = {
     "haskumye_table_size": (c_size_t, []),
     "haskumye_fresh": (c_uint8, [*_BUFFER, _GIVEN]),
     "haskumye_check_tables": (c_uint8, [*_BYTES]),
-    "haskumye_set_port": (c_uint8, [*_BUFFER, c_uint64, c_uint8, c_uint64]),
+    "haskumye_set_port": (c_uint8, [*_BUFFER, c_uint64, c_uint8, c_uint64, c_uint64]),
     "haskumye_set_announce_rate": (c_uint8, [*_BUFFER, c_uint64, c_uint64, c_uint64]),
     "haskumye_add_local": (c_uint8, [*_BUFFER, _GIVEN]),
     "haskumye_remove_local": (c_uint8, [*_BUFFER, _GIVEN]),
@@ -370,7 +372,7 @@ FUNCTIONS = {
     "haskumye_live_hashes": (c_uint8, [*_BYTES, c_uint64, _TAKEN]),
     "haskumye_last_clock": (c_uint8, [*_BYTES, _TAKEN]),
     "haskumye_signature_matters": (c_uint8, [*_BYTES, c_uint64, c_uint64, *_BYTES, c_size_t]),
-    "haskumye_read": (c_uint8, [*_BYTES, _TAKEN]),
+    "haskumye_read": (c_uint8, [*_BYTES, c_uint64, _TAKEN]),
     "haskumye_payload_start": (c_size_t, [*_BYTES]),
     "haskumye_write": (c_uint32, [_GIVEN, *_BYTES, *_BUFFER]),
     "haskumye_packet_hash": (c_uint8, [*_BYTES, _TAKEN]),
@@ -451,16 +453,16 @@ def _written(number, output):
     return output.raw[: number >> 16]
 
 
-def _asked(function, data, size):
-    """What a call on bytes writes to a struct of so many bytes."""
+def _asked(function, data, size, *given):
+    """What a call on bytes, given these numbers, writes to a struct of so many bytes."""
     data, struct = _bytes(data), ctypes.create_string_buffer(size)
-    _done(function(data, len(data), struct))
+    _done(function(data, len(data), *given, struct))
     return struct.raw
 
 
-def read(packet):
-    """A packet's parts. Refusals 1, 2 and 3."""
-    parts = _asked(_library.haskumye_read, packet, 35)
+def read(packet, size):
+    """The parts of a packet no longer than a size, from SHORTEST_PACKET to LONGEST_PACKET. Refusals 9 for the size, 1, 2 and 3."""
+    parts = _asked(_library.haskumye_read, packet, 35, _number(size))
     return Parts(parts[0], parts[1], parts[2:18], parts[18:34], parts[34])
 
 
@@ -650,9 +652,10 @@ class Relay:
         check_recording(file)
         return (self.replay_entry(file, index) for index in range(recording_count(file)))
 
-    def set_port(self, port, on, mode):
-        """Sets a port on or off, and its mode. Records that name the port stay. Refusal 9."""
-        self._call(_library.haskumye_set_port, _number(port), ON if on else OFF, _number(mode))
+    def set_port(self, port, on, mode, size):
+        """Sets a port on or off, its mode, and its size, the longest packet that it carries: SHORTEST_PACKET to LONGEST_PACKET bytes. Records that name
+        the port stay. Refusal 9."""
+        self._call(_library.haskumye_set_port, _number(port), ON if on else OFF, _number(mode), _number(size))
 
     def set_announce_rate(self, target, grace, penalty):
         """Sets how often every destination may announce itself, as AnnounceRate says. Paths stay, blocked ones too. Refusal 9 for a number over its
@@ -704,8 +707,8 @@ class Relay:
 
     def port(self, port):
         """A port's settings; None for a number over 15."""
-        told = self._told(_library.haskumye_port, 2, _number(port))
-        return told and Port(told[0] == ON, Mode(told[1]))
+        told = self._told(_library.haskumye_port, 4, _number(port))
+        return told and Port(told[0] == ON, Mode(told[1]), int.from_bytes(told[2:], "big"))
 
     @property
     def announce_rate(self):

@@ -41,7 +41,7 @@ def relay(ports=2):
     """A relay whose first ports are on."""
     made = Relay(OWN)
     for port in range(ports):
-        made.set_port(port, True, Mode.BOUNDARY)
+        made.set_port(port, True, Mode.BOUNDARY, haskumye.LONGEST_PACKET)
     return made
 
 
@@ -79,7 +79,7 @@ class TestAnswers(unittest.TestCase):
     def test_spread_forward_and_receipt_after_renumbering(self):
         box, (packet, destination) = relay(3), announce()
         spread = box.packet(packet, 1, 1, signed=True)
-        self.assertEqual((spread.ports, haskumye.read(spread.packet).relay), ((0, 2), OWN))
+        self.assertEqual((spread.ports, haskumye.read(spread.packet, 500).relay), ((0, 2), OWN))
         count = data(destination, b"42 plants")
         answer = box.packet(count, 2, 2)
         self.assertEqual((answer.port, haskumye.payload(answer.packet)), (1, b"42 plants"))
@@ -121,7 +121,7 @@ class TestAnswers(unittest.TestCase):
             self.assertEqual(haskumye._drop(number), drop)
 
     def test_drops_that_the_library_never_answers(self):
-        for number in (0x0001, 0x0301, 0x90301, 0x0601, 0x70601, 1 << 61 | 0x30601, 0x10201, 1 << 20 | 0x0201, 0x0E01, 0x1001):
+        for number in (0x0001, 0x0301, 0x90301, 0x0601, 0x70601, 1 << 61 | 0x30601, 0x10201, 1 << 20 | 0x0201, 0x0E01, 0x1101):
             self.assertRaises(ValueError, haskumye._drop, number)
 
     def test_bytes_like_arguments(self):
@@ -131,8 +131,8 @@ class TestAnswers(unittest.TestCase):
             box.add_local(memoryview(DESK))
             self.assertEqual(box.packet(given, 0, 1), Deliver(b"42 plants"))
             self.assertEqual(haskumye.payload(given), b"42 plants")
-        self.assertRaises(TypeError, haskumye.read, "a text")
-        self.assertRaises(TypeError, haskumye.read, 19)
+        self.assertRaises(TypeError, haskumye.read, "a text", 500)
+        self.assertRaises(TypeError, haskumye.read, 19, 500)
 
 
 class TestRefusals(unittest.TestCase):
@@ -162,8 +162,11 @@ class TestRefusals(unittest.TestCase):
         self.refused(Refusal.LOCAL_FULL, box.add_local, DESK)
         self.refused(Refusal.LOCAL_ADDRESS, box.add_local, bytes(16))
         self.refused(Refusal.LOCAL_ADDRESS, box.remove_local, DESK)
-        self.refused(Refusal.SETTING, box.set_port, 16, True, Mode.BOUNDARY)
-        self.refused(Refusal.SETTING, box.set_port, 0, True, 3)
+        self.refused(Refusal.SETTING, box.set_port, 16, True, Mode.BOUNDARY, 500)
+        self.refused(Refusal.SETTING, box.set_port, 0, True, 3, 500)
+        for size in (0, haskumye.SHORTEST_PACKET - 1, haskumye.LONGEST_PACKET + 1, 65536 + 255, (1 << 64) - 1):
+            self.refused(Refusal.SETTING, box.set_port, 0, True, Mode.BOUNDARY, size)
+            self.refused(Refusal.SETTING, haskumye.read, b"", size)
         self.refused(Refusal.SETTING, box.set_announce_rate, haskumye.TARGET_LIMIT + 1, 0, 0)
         self.refused(Refusal.SETTING, box.set_announce_rate, 0, haskumye.GRACE_LIMIT + 1, 0)
         self.refused(Refusal.SETTING, box.set_announce_rate, 0, 0, (1 << 64) - 1)
@@ -180,13 +183,16 @@ class TestRefusals(unittest.TestCase):
         self.refused(Refusal.ACCESS_CODE, haskumye.write, Parts(header=haskumye.HEADER_ACCESS_CODE))
         self.refused(Refusal.TABLES, haskumye.check_tables, b"")
         self.refused(Refusal.TABLES, Relay.from_tables, bytes(haskumye.TABLE_SIZE - 1))
+        self.refused(Refusal.TABLES, Relay.from_tables, bytes(haskumye.TABLE_SIZE))  # zeros: no relay's ports carry nothing
 
     def test_numbers_that_do_not_cross(self):
         box, packet = relay(), haskumye.write(Parts())
         for wrong in (-1, 1 << 64):
             self.assertRaises(OverflowError, box.packet, packet, wrong, 1)
             self.assertRaises(OverflowError, box.packet, packet, 0, wrong)
-            self.assertRaises(OverflowError, box.set_port, wrong, True, Mode.ROAMING)
+            self.assertRaises(OverflowError, box.set_port, wrong, True, Mode.ROAMING, 500)
+            self.assertRaises(OverflowError, box.set_port, 0, True, Mode.ROAMING, wrong)
+            self.assertRaises(OverflowError, haskumye.read, packet, wrong)
             self.assertRaises(OverflowError, box.set_announce_rate, 0, wrong, 0)
             self.assertRaises(OverflowError, box.mark_path_unresponsive, DESK, wrong)
         self.assertRaises(OverflowError, haskumye.write, Parts(hops=256))
@@ -200,7 +206,7 @@ class TestPackets(unittest.TestCase):
     def test_parts_come_back(self):
         parts = Parts(0x52, 3, bytes([1] * 16), bytes([2] * 16), 4)
         packet = haskumye.write(parts, b"payload")
-        self.assertEqual((haskumye.read(packet), haskumye.payload(packet), haskumye.payload_start(packet)), (parts, b"payload", 35))
+        self.assertEqual((haskumye.read(packet, len(packet)), haskumye.payload(packet), haskumye.payload_start(packet)), (parts, b"payload", 35))
         self.assertEqual(haskumye.payload(b""), b"")
 
     def test_hashes_lines_and_announces(self):
@@ -239,7 +245,7 @@ class TestAnnounces(unittest.TestCase):
             destination = haskumye.announced_destination(front)
             self.assertEqual(haskumye.announce_signing_bytes(parts), destination + front + b"desk")
             packet = haskumye.build_announce(parts, bytearray(self.SIGNATURE))
-            self.assertEqual(haskumye.read(packet), Parts(header=header, destination=destination))
+            self.assertEqual(haskumye.read(packet, 500), Parts(header=header, destination=destination))
             self.assertEqual(haskumye.payload(packet), front + self.SIGNATURE + b"desk")
 
     def test_another_relay_spreads_it(self):
@@ -265,10 +271,11 @@ class TestAnnounces(unittest.TestCase):
 class TestQuestions(unittest.TestCase):
     def test_ports_and_local_addresses(self):
         box = relay(2)
-        box.set_port(3, True, Mode.ROAMING)
+        box.set_port(3, True, Mode.ROAMING, 258)
         box.add_local(DESK)
         before = box.tables
-        self.assertEqual([box.port(port) for port in (1, 2, 3)], [Port(True, Mode.BOUNDARY), Port(False, Mode.BOUNDARY), Port(True, Mode.ROAMING)])
+        ports = [Port(True, Mode.BOUNDARY, 500), Port(False, Mode.BOUNDARY, 500), Port(True, Mode.ROAMING, 258)]
+        self.assertEqual([box.port(port) for port in (1, 2, 3)], ports)
         self.assertEqual([box.local(place) for place in (0, 1, 16, (1 << 64) - 1)], [DESK, None, None, None])
         self.assertIsNone(box.port(16))
         self.assertEqual((box.last_clock, box.tables), (0, before))
@@ -313,6 +320,23 @@ class TestQuestions(unittest.TestCase):
         self.assertEqual(box.packet(packet, 1, 1500, signed=True).ports, (0, 2))
         self.assertEqual(box.path(0), path._replace(port=1, expiry=1500 + 604800, last_announce=1500))
         self.assertEqual(box.packet(packet, 1, 1501, signed=True), Drop(Reason.DUPLICATE))
+
+    def test_a_port_that_carries_less(self):
+        """A radio that takes 255 bytes: what comes in by it, what would leave by it, and what is spread."""
+        box, (packet, destination) = relay(3), announce()
+        box.packet(packet, 1, 1000, signed=True)
+        box.set_port(1, True, Mode.BOUNDARY, 255)
+        way = lambda payload: data(destination, bytes(payload))
+        self.assertEqual(len(box.packet(way(236), 0, 1001).packet), 255)  # the last hop takes sixteen bytes off
+        self.assertEqual(box.packet(way(237), 0, 1001), Drop(Reason.TOO_LONG_FOR_PORT))
+        self.assertEqual(str(box.packet(way(238), 0, 1001)), "drop 16: it is too long for the port to leave by")
+        with self.assertRaises(Refused) as caught:
+            box.packet(way(221), 1, 1001)
+        self.assertEqual(caught.exception.refusal, Refusal.TOO_LONG)
+        box.set_port(1, True, Mode.BOUNDARY, 182)
+        self.assertEqual(box.packet(announce(2)[0], 0, 1002, signed=True).ports, (2,))
+        box.renumber(list(reversed(range(16))))
+        self.assertEqual((box.port(14).size, box.port(1).size), (182, 500))
 
     def test_blobs(self):
         """The oldest of 65 announces is forgotten, so that it is no replay when it comes round again."""
@@ -412,7 +436,7 @@ class TestSaved(unittest.TestCase):
     def test_what_is_saved_loads(self):
         box = self.box()
         file = box.save()
-        self.assertEqual((len(file), file[:4]), (haskumye.SAVED_SIZE, bytes([2, 4, 0, 8])))
+        self.assertEqual((len(file), file[:4]), (haskumye.SAVED_SIZE, bytes([2, 5, 0, 8])))
         self.assertEqual(file[52:-24], box.tables)
         self.assertEqual(file[-24:], bytes(range(1, 21)) + bytes([0xFF] * 4))
         for given in (file, bytearray(file), memoryview(file)):
@@ -439,11 +463,12 @@ class TestSaved(unittest.TestCase):
             (21, spoiled(0, 1)),
             (21, spoiled(1, 0)),
             (21, spoiled(1, 255)),
-            (22, bytes([2, 4, 0, 0])),
+            (22, bytes([2, 5, 0, 0])),
             (22, spoiled(7, 53)),
             (24, spoiled(1, 1)),  # bodies longer than an older edition's
             (24, spoiled(1, 2)),
             (24, spoiled(1, 3)),
+            (24, spoiled(1, 4)),
             (24, spoiled(89, 3)),
         ]
         for refusal, wrong in files:
@@ -461,6 +486,8 @@ class TestSaved(unittest.TestCase):
             marked = [place for place in range(haskumye.PATH_COUNT) if box.path(place).unresponsive]
             self.assertEqual(marked, [15, 17, 18] if path.read_bytes()[1] >= 3 else [])
             self.assertEqual((box.path(5).blob_count, box.path(6).blob_count), (20, 64) if path.read_bytes()[1] >= 4 else (1, 16))
+            sizes = {port: box.port(port).size for port in range(16) if box.port(port).size != haskumye.LONGEST_PACKET}
+            self.assertEqual(sizes, {1: 19, 7: 400, 8: 255} if path.read_bytes()[1] >= 5 else {})
 
 
 class TestAgreement(unittest.TestCase):

@@ -238,7 +238,7 @@ static void take_saved_ports(void)
     }
 }
 
-/* A port with a wire is on. One whose wire is gone is off, and keeps mode and name until the wire comes back. */
+/* A port with a wire is on. One whose wire is gone is off, and keeps mode, size and name until the wire comes back. */
 static void set_ports(void)
 {
     unsigned set = 0;
@@ -246,14 +246,17 @@ static void set_ports(void)
         const struct wire *wire = wire_at(&wires, port);
         haskumye_port_settings settings;
         expect_done("reading a port", haskumye_port(state.tables, sizeof state.tables, port, &settings));
+        unsigned size = haskumye_size_number(settings.size);
         settings.on = HASKUMYE_OFF;
         if (wire != NULL) {
-            settings = (haskumye_port_settings){.on = HASKUMYE_ON, .mode = wire->mode};
+            settings.on = HASKUMYE_ON;
+            settings.mode = wire->mode;
+            size = wire->size;
             memcpy(state.wires[port], wire->name, NAME_SIZE);
             set++;
         }
         expect_done("setting a port",
-                    haskumye_set_port(state.tables, sizeof state.tables, port, settings.on, settings.mode));
+                    haskumye_set_port(state.tables, sizeof state.tables, port, settings.on, settings.mode, size));
     }
     if (set != wires.count) {
         give_up("a new wire has the port of another: give it a free one");

@@ -26,7 +26,11 @@ static void print_ports(FILE *page, const struct state *state)
     haskumye_port_settings port;
     for (unsigned i = 0; i < HASKUMYE_PORT_COUNT; i++) {
         if (haskumye_port(state->tables, sizeof state->tables, i, &port) == HASKUMYE_REFUSAL_NONE && port.on) {
-            fprintf(page, "port %u %s %.16s\n", i, haskumye_mode_words(port.mode), state->wires[i]);
+            fprintf(page, "port %u %s %.16s", i, haskumye_mode_words(port.mode), state->wires[i]);
+            if (haskumye_size_number(port.size) < HASKUMYE_LONGEST_PACKET) {
+                fprintf(page, " up to %u bytes", haskumye_size_number(port.size));
+            }
+            fprintf(page, "\n");
         }
     }
 }

@@ -132,7 +132,7 @@ static void wire_cold_store(unsigned cable, unsigned north, unsigned south)
     fprintf(file, "own cold-store\nannounce-rate 3600 5 7200\n");
     fprintf(file, "wire cable %u boundary %u %u\n", cable, udp[COLD_CABLE], udp[DESK_CABLE]);
     fprintf(file, "wire radio-north %u roaming %u %u\n", north, udp[COLD_NORTH], udp[GROWTH_RADIO]);
-    fprintf(file, "wire radio-south %u roaming %u %u\n", south, udp[COLD_SOUTH], udp[NOWHERE]);
+    fprintf(file, "wire radio-south %u roaming %u %u 255\n", south, udp[COLD_SOUTH], udp[NOWHERE]);
     fclose(file);
 }
 
@@ -248,7 +248,7 @@ static void expect_receipt(const haskumye_hash *hash)
     uint8_t packet[FRAME_SIZE];
     haskumye_parts parts;
     size_t length = hear(packet, HASKUMYE_PACKET_PROOF, "the receipt");
-    if (haskumye_read(packet, length, &parts) != HASKUMYE_REFUSAL_NONE ||
+    if (haskumye_read(packet, length, HASKUMYE_LONGEST_PACKET, &parts) != HASKUMYE_REFUSAL_NONE ||
         memcmp(parts.destination.bytes, hash->bytes, sizeof parts.destination.bytes) != 0) {
         fail("the receipt for this count");
     }
@@ -265,7 +265,7 @@ static haskumye_address desk_announces(void)
     wait_for(COLD, "fresh", 1);
     start_box(DESK);
     size_t length = hear(packet, HASKUMYE_PACKET_ANNOUNCE, "the desk's announce");
-    if (haskumye_read(packet, length, &parts) != HASKUMYE_REFUSAL_NONE) {
+    if (haskumye_read(packet, length, HASKUMYE_LONGEST_PACKET, &parts) != HASKUMYE_REFUSAL_NONE) {
         fail("the desk's address");
     }
     printf("terminal knows the way to the desk\n");

@@ -35,20 +35,22 @@ static const struct wire *wire_named(const struct wires *wires, const char *name
     return NULL;
 }
 
-/* wire NAME PORT MODE LISTENS SENDS-TO */
+/* wire NAME PORT MODE LISTENS SENDS-TO [SIZE] */
 static int read_wire(const char *line, struct wires *wires)
 {
     struct wire wire;
     char mode[LINE_SIZE];
-    unsigned port, listens, sends_to;
+    unsigned port, listens, sends_to, size = HASKUMYE_LONGEST_PACKET;
     memset(&wire, 0, sizeof wire);
-    if (sscanf(line, "wire %15s %u %127s %u %u", wire.name, &port, mode, &listens, &sends_to) != 5 ||
+    if (sscanf(line, "wire %15s %u %127s %u %u %u", wire.name, &port, mode, &listens, &sends_to, &size) < 5 ||
         mode_of(mode) < 0 || port >= HASKUMYE_PORT_COUNT || wire_at(wires, port) != NULL ||
-        wire_named(wires, wire.name) != NULL || listens > UINT16_MAX || sends_to > UINT16_MAX) {
+        wire_named(wires, wire.name) != NULL || listens > UINT16_MAX || sends_to > UINT16_MAX ||
+        size < HASKUMYE_SHORTEST_PACKET || size > HASKUMYE_LONGEST_PACKET) {
         return 0;
     }
     wire.port = (uint8_t)port;
     wire.mode = (uint8_t)mode_of(mode);
+    wire.size = (uint16_t)size;
     wire.listens = (uint16_t)listens;
     wire.sends_to = (uint16_t)sends_to;
     wires->wire[wires->count++] = wire; /* at most one for each port: there is room */

@@ -10,6 +10,7 @@ struct wire {
     char name[NAME_SIZE]; /* stays with the wire, whatever its port's number */
     uint8_t port;
     uint8_t mode;
+    uint16_t size;              /* the longest packet that it carries */
     uint16_t listens, sends_to; /* UDP on the loopback interface */
 };
 

@@ -188,8 +188,8 @@ mod tests {
     fn another_relay_takes_it() {
         let mut run = Run::new(Relay::as_written());
         run.make(&Call::Fresh([0xaa; 16]));
-        run.make(&Call::SetPort { port: 3, on: true, mode: 0 });
-        run.make(&Call::SetPort { port: 4, on: true, mode: 0 });
+        run.make(&Call::SetPort { port: 3, on: true, mode: 0, size: 500 });
+        run.make(&Call::SetPort { port: 4, on: true, mode: 0, size: 500 });
         for (ratchet, app_data) in [(&[][..], 0), (&[9; 32][..], 269)] {
             let packet = built(&own(ratchet, app_data)).expect("it is built");
             let call = PacketCall { packet: packet.clone(), port: 3, clock: 1_000, signature: false, output: 500, fill: 0 };

@@ -78,6 +78,7 @@ numbered! {
         PortOff = 12,
         NoRoom = 13,
         TooOften = 15,
+        TooLongForPort = 16,
     }
 }
 
@@ -126,7 +127,7 @@ impl NoWay {
 
 impl Reason {
     /// Those that say no more than their number.
-    pub const PLAIN: [Self; 12] = [
+    pub const PLAIN: [Self; 13] = [
         Self::NotOurs,
         Self::Duplicate,
         Self::OwnAnnounce,
@@ -139,6 +140,7 @@ impl Reason {
         Self::PortOff,
         Self::NoRoom,
         Self::TooOften,
+        Self::TooLongForPort,
     ];
 
     /// The number of its clause or case, and the number that it tells.
@@ -250,7 +252,7 @@ mod tests {
                     let given = match number {
                         3 => (1..=8).contains(&clause),
                         6 => clause == 3 || value == 0 && (1..=6).contains(&clause),
-                        _ => clause == 0 && value == 0 && matches!(number, 1..=13 | 15),
+                        _ => clause == 0 && value == 0 && matches!(number, 1..=13 | 15 | 16),
                     };
                     let reason = Reason::from_numbers(number, clause, value);
                     assert_eq!(reason.is_some(), given, "{number}.{clause} {value}");

@@ -35,8 +35,8 @@ pub fn sha256(message: &[u8], out: &mut [u8; 32]) -> u8 {
 }
 
 /// The refusal number; the parts go to the buffer.
-pub fn read(packet: &[u8], parts: &mut PartsBytes) -> u8 {
-    unsafe { haskumye_read(packet.as_ptr(), packet.len(), parts.as_mut_ptr().cast()) }
+pub fn read(packet: &[u8], size: u64, parts: &mut PartsBytes) -> u8 {
+    unsafe { haskumye_read(packet.as_ptr(), packet.len(), size, parts.as_mut_ptr().cast()) }
 }
 
 /// Where the payload starts, at most the packet's length.
@@ -95,8 +95,8 @@ pub fn fresh(tables: &mut [u8], own: &Address) -> u8 {
 }
 
 /// On by 1, off by any other number.
-pub fn set_port(tables: &mut [u8], port: u64, on: u8, mode: u64) -> u8 {
-    unsafe { haskumye_set_port(tables.as_mut_ptr(), tables.len(), port, on, mode) }
+pub fn set_port(tables: &mut [u8], port: u64, on: u8, mode: u64, size: u64) -> u8 {
+    unsafe { haskumye_set_port(tables.as_mut_ptr(), tables.len(), port, on, mode, size) }
 }
 
 pub fn set_announce_rate(tables: &mut [u8], rate: &AnnounceRate) -> u8 {

@@ -57,7 +57,7 @@ mod tests {
     use crate::rules::{AsWritten, Rules};
     use crate::samples::{filled, Fill};
     use crate::saved::LENGTH;
-    use crate::tables::{RateEntry, BLOB, RATE, SIZE};
+    use crate::tables::{Port, RateEntry, BLOB, PORTS, RATE, SIZE};
 
     /// An older file loads as the tables that it is of, without the fields that it lacks.
     #[test]
@@ -65,6 +65,9 @@ mod tests {
         let tables = filled(&mut Random::new(1), Fill::RandomHalf);
         for edition in 1..=CURRENT {
             let mut expected = tables.clone();
+            if edition < 5 {
+                PORTS.iter_mut(&mut expected).for_each(|settings| Port { size: 500, ..Port::read(settings) }.write(settings));
+            }
             if edition < 2 {
                 expected[RATE.bytes()].fill(0);
             }

@@ -22,6 +22,9 @@ pub const LATEST: u64 = CLOCK_LIMIT + 604_799;
 
 /// "length over 500", and "output buffer under 500 bytes"
 pub const LONGEST: usize = 500;
+/// Wish 11: "Each port gets a size from 19 to 500"
+pub const LEAST_SIZE: usize = 19;
+pub const GREATEST_SIZE: usize = LONGEST;
 /// "Hops 128 or more."
 pub const HOPS_LIMIT: u8 = 128;
 

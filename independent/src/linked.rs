@@ -49,8 +49,8 @@ impl Engine for Core {
         judged(core::packet(arrival.packet, arrival.port, arrival.clock, signature, tables, output, tally), arrival.packet)
     }
 
-    fn set_port(&mut self, tables: &mut [u8], port: u64, on: bool, mode: u64) -> Outcome {
-        done(core::set_port(tables, port, u8::from(on), mode))
+    fn set_port(&mut self, tables: &mut [u8], port: u64, on: bool, mode: u64, size: u64) -> Outcome {
+        done(core::set_port(tables, port, u8::from(on), mode, size))
     }
 
     fn set_announce_rate(&mut self, tables: &mut [u8], rate: &AnnounceRate) -> Outcome {
@@ -94,8 +94,8 @@ impl Engine for Core {
 }
 
 impl PacketCalls for Core {
-    fn read(&self, packet: &[u8], parts: &mut PartsBytes) -> u8 {
-        core::read(packet, parts)
+    fn read(&self, packet: &[u8], size: u64, parts: &mut PartsBytes) -> u8 {
+        core::read(packet, size, parts)
     }
 
     fn payload_start(&self, packet: &[u8]) -> usize {

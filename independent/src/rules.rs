@@ -20,6 +20,8 @@ pub use crate::tables::{self, check, tuned, AnnounceRate, Link, Mode, Path, Port
 macro_rules! every_rule {
     ($make:ident) => {
         $make! {
+            packet::read_at(&rules, packet: &[u8], size: u64) -> Result<Parts, Refusal>;
+            packet::size_refused(size: u64) -> bool;
             packet::read_refusal(packet: &[u8], longest: usize) -> Result<(), Refusal>;
             packet::parts(packet: &[u8]) -> Parts;
             packet::payload_place(packet: &[u8]) -> usize;
@@ -45,6 +47,8 @@ macro_rules! every_rule {
             check::used_mark(mark: u8) -> Option<bool>;
             check::proved_mark(mark: u8) -> Option<bool>;
             check::on_mark(mark: u8) -> Option<bool>;
+            check::port_allowed(&rules, settings: &[u8]) -> bool;
+            check::stored_size_allowed(size: usize) -> bool;
             check::unused_allowed(record: &[u8]) -> bool;
             check::path_allowed(&rules, path: &[u8]) -> bool;
             check::blob_count_allowed(count: u8) -> bool;
@@ -56,7 +60,7 @@ macro_rules! every_rule {
             tables::find(table: &Table, tables: &[u8], key: &[u8], clock: u64) -> Option<usize>;
 
             settings::fresh_port() -> Port;
-            settings::set_port(&rules, tables: &mut [u8], port: u64, on: bool, mode: u64) -> Result<(), Refusal>;
+            settings::set_port(&rules, tables: &mut [u8], port: u64, on: bool, mode: u64, size: u64) -> Result<(), Refusal>;
             settings::local_place(&rules, address: &Address, tables: &[u8]) -> Result<usize, Refusal>;
             settings::is_there(address: &Address, tables: &[u8]) -> bool;
             settings::empty_local(tables: &[u8]) -> Option<usize>;
@@ -76,6 +80,7 @@ macro_rules! every_rule {
             ) -> Result<Answer, Refusal>;
             accept::arrival_refusal(&rules, tables: &[u8], room: usize, arrival: &Arrival) -> Result<(), Refusal>;
             accept::output_too_small(room: usize) -> bool;
+            accept::arrival_size(port: u8, tables: &[u8]) -> usize;
             accept::port_refused(port: u64, tables: &[u8]) -> bool;
             accept::clock_refused(clock: u64, last: u64) -> bool;
             accept::settle(&rules, verdict: Verdict, clock: u64, tables: &mut [u8], tally: &mut Tally);
@@ -157,8 +162,10 @@ macro_rules! every_rule {
             returns::end_return(record: &mut [u8]);
 
             outgoing::spread(&rules, packet: &Packet, tables: &[u8], output: &mut [u8]) -> Answer;
-            outgoing::spread_ports(packet: &Packet, tables: &[u8]) -> u16;
-            outgoing::spread_fits(packet: &Packet) -> bool;
+            outgoing::leaving_tests(&rules, packet: &Packet, port: u8, length: usize, tables: &[u8]) -> Result<(), Reason>;
+            outgoing::fits(packet: &Packet, port: u8, length: usize, tables: &[u8]) -> bool;
+            outgoing::length_by_path(&rules, packet: &Packet, path: &Path) -> usize;
+            outgoing::spread_ports(&rules, packet: &Packet, tables: &[u8]) -> u16;
             outgoing::spread_header(header: Header) -> Header;
             outgoing::is_last_hop(stored: u8) -> bool;
             outgoing::last_hop_header(header: Header) -> Header;

@@ -1,6 +1,7 @@
 //! Tables made for a test: records with random fields that row 7 allows, and fields set to numbers on both sides of its clauses.
 
-use crate::limits::{BLOB_LIMIT, CLOCK_LIMIT, GRACE_LIMIT, LATEST, LATEST_ANNOUNCE, LATEST_BLOCK, PENALTY_LIMIT, PORT_COUNT, TARGET_LIMIT};
+use crate::limits::{BLOB_LIMIT, CLOCK_LIMIT, GRACE_LIMIT, GREATEST_SIZE, LATEST, LATEST_ANNOUNCE, LATEST_BLOCK, LEAST_SIZE};
+use crate::limits::{PENALTY_LIMIT, PORT_COUNT, TARGET_LIMIT};
 use crate::random::Random;
 use crate::tables::{link, path, port, rate, returned, set_ring_place, Section, HASHES, HASH_PLACE};
 use crate::tables::{LAST_CLOCK, LINKS, LOCALS, PATHS, PORTS, RATE, RETURNS, RETURN_PLACE, SIZE};
@@ -12,6 +13,7 @@ pub enum Clause {
     Mode,
     Port,
     BlobCount,
+    Size,
     /// At most so much.
     Time(u64),
     Setting(u64),
@@ -25,6 +27,7 @@ impl Clause {
             Clause::Mode => vec![random.below(3) as u8],
             Clause::Port => vec![random.below(PORT_COUNT) as u8],
             Clause::BlobCount => vec![1 + random.below(BLOB_LIMIT) as u8],
+            Clause::Size => ((LEAST_SIZE + random.below(GREATEST_SIZE - LEAST_SIZE + 1)) as u16).to_be_bytes().to_vec(),
             Clause::Time(latest) => (random.word() % (latest + 1)).to_be_bytes().to_vec(),
             Clause::Setting(limit) => ((random.word() % (limit + 1)) as u32).to_be_bytes().to_vec(),
         }
@@ -37,6 +40,9 @@ impl Clause {
             Clause::Mode => random.pick(&[0, 1, 2, 3, 4, 255]),
             Clause::Port => random.pick(&[0, 14, 15, 16, 17, 31, 255]),
             Clause::BlobCount => random.pick(&[0, 1, 2, 16, 17, BLOB_LIMIT as u8 - 1, BLOB_LIMIT as u8, BLOB_LIMIT as u8 + 1, 255]),
+            Clause::Size => {
+                return random.pick(&[0, 18, 19, 20, 254, 255, 256, 499, 500, 501, 511, 512, 1 << 15, u16::MAX]).to_be_bytes().to_vec()
+            }
             Clause::Time(latest) => {
                 let times = [0, CLOCK_LIMIT - 1, CLOCK_LIMIT, latest - 1, latest, latest + 1, latest + 2, 1 << 48, 1 << 63, u64::MAX];
                 return random.pick(&times).to_be_bytes().to_vec();
@@ -69,6 +75,7 @@ pub const FIELDS: &[Field] = &[
     field("announce rate's penalty", &RATE, rate::PENALTY, Clause::Setting(PENALTY_LIMIT)),
     field("port's on mark", &PORTS, port::ON, Clause::YesOrNo),
     field("port's mode", &PORTS, port::MODE, Clause::Mode),
+    field("port's size", &PORTS, port::SIZE, Clause::Size),
     field("local address's mark", &LOCALS, 0, Clause::YesOrNo),
     field("path's mark", &PATHS.records, 0, Clause::YesOrNo),
     field("path's port", &PATHS.records, path::PORT, Clause::Port),
@@ -103,11 +110,16 @@ pub const RECORDS: [(&str, &Section); 5] = [
 pub fn use_record(random: &mut Random, tables: &mut [u8], section: &Section, place: usize) {
     let record = section.get_mut(tables, place);
     record.copy_from_slice(&random.bytes(section.width));
+    allow_fields(random, section, record);
+    record[0] = 1;
+}
+
+/// Makes the fields that row 7 speaks of random ones that are allowed.
+fn allow_fields(random: &mut Random, section: &Section, record: &mut [u8]) {
     for field in FIELDS.iter().filter(|field| field.section.start == section.start) {
         let number = field.clause.allowed(random);
         record[field.at..field.at + number.len()].copy_from_slice(&number);
     }
-    record[0] = 1;
 }
 
 /// Which records are used.
@@ -126,6 +138,7 @@ impl Fill {
 /// Random tables that are allowed.
 pub fn filled(random: &mut Random, fill: Fill) -> Vec<u8> {
     let mut tables = vec![0; SIZE];
+    PORTS.iter_mut(&mut tables).for_each(|settings| allow_fields(random, &PORTS, settings));
     for (_, section) in RECORDS {
         for place in 0..section.count {
             let used = match fill {

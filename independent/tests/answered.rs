@@ -45,5 +45,5 @@ fn the_sum() {
     let list = vec![Call::Fresh([7; 16])];
     answered::write(&Options { list: Some(list), ..Options::default() }, &path).expect("it is written");
     let text = fs::read_to_string(&path).expect("it was written");
-    assert!(text.ends_with(" = 0 f3aea6b601e3af94\n"), "{text}");
+    assert!(text.ends_with(" = 0 370bc4293bf3cdbe\n"), "{text}");
 }

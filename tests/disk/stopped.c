@@ -219,7 +219,8 @@ static void make_state(struct state *state, const char *name, uint64_t emission)
     haskumye_address own = {{0}};
     memcpy(own.bytes, name, strlen(name));
     need(haskumye_fresh(state->tables, sizeof state->tables, &own) == HASKUMYE_REFUSAL_NONE, "fresh tables");
-    need(haskumye_set_port(state->tables, sizeof state->tables, 3, HASKUMYE_ON, HASKUMYE_MODE_ROAMING) == 0, "a port");
+    need(haskumye_set_port(state->tables, sizeof state->tables, 3, HASKUMYE_ON, HASKUMYE_MODE_ROAMING, 255) == 0,
+         "a port");
     need(haskumye_add_local(state->tables, sizeof state->tables, &own) == HASKUMYE_REFUSAL_NONE, "a local address");
     state->tally = (haskumye_tally){.total = 0x01020304, .dropped = 5, .kept = (uint32_t)emission};
     state->last_emission = emission;

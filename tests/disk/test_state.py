@@ -98,7 +98,7 @@ class System:
 
 def made(name, emission):
     relay = haskumye.Relay(name.ljust(16, b"\0"))
-    relay.set_port(3, True, haskumye.Mode.ROAMING)
+    relay.set_port(3, True, haskumye.Mode.ROAMING, 255)
     relay.add_local(name.ljust(16, b"\0"))
     relay = haskumye.Relay.from_tables(relay.tables, haskumye.Tally(total=0x01020304, dropped=5, kept=emission & 0xFFFFFFFF))
     wires = [b""] * haskumye.PORT_COUNT

@@ -81,7 +81,7 @@ static bool read_setting(const char **at, struct listed *call)
     if (word(at, "port")) {
         call->function = SET_PORT;
         return number(at, &call->port) && word(at, "on") && truth(at, &call->yes) && word(at, "mode") &&
-               number(at, &call->mode);
+               number(at, &call->mode) && word(at, "size") && number(at, &call->size);
     }
     call->function = SET_ANNOUNCE_RATE;
     return word(at, "announce") && word(at, "rate") && word(at, "target") && number(at, &call->target) &&

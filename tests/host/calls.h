@@ -12,7 +12,7 @@ struct listed {
     enum function function; /* NOTHING for an edit */
     enum edit edit;
     struct buffer bytes;    /* packet, address, map, or what is written */
-    uint64_t port, clock, mode;
+    uint64_t port, clock, mode, size;
     uint64_t target, grace, penalty; /* of the announce rate */
     bool yes;               /* the signature word, or on */
     uint64_t room;          /* of the output */

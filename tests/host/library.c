@@ -40,7 +40,7 @@ static uint64_t fresh(const struct use *use)
 
 static uint64_t set_port(const struct use *use)
 {
-    return haskumye_set_port(use->tables.bytes, use->tables.length, use->port, use->byte, use->mode);
+    return haskumye_set_port(use->tables.bytes, use->tables.length, use->port, use->byte, use->mode, use->size);
 }
 
 static uint64_t set_announce_rate(const struct use *use)
@@ -155,7 +155,7 @@ static uint64_t signature_matters(const struct use *use)
 
 static uint64_t read_parts(const struct use *use)
 {
-    return haskumye_read(use->input.bytes, use->input.length, (haskumye_parts *)use->output.bytes);
+    return haskumye_read(use->input.bytes, use->input.length, use->size, (haskumye_parts *)use->output.bytes);
 }
 
 static uint64_t payload_start(const struct use *use)

@@ -62,6 +62,7 @@ struct use {
     struct buffer tally;
     struct buffer keys, name_hash, random, ratchet, app_data, signature; /* of an announce to be built */
     uint64_t port, clock, mode, index; /* index: of an entry, a place in a table, or an answer */
+    uint64_t size;        /* of a port, or that a packet is read at */
     uint64_t target, grace, penalty;   /* of the announce rate */
     size_t room;          /* of the output that a packet call would be lent */
     uint8_t byte;         /* the signature word, on or off, or a header */

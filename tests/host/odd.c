@@ -46,11 +46,14 @@ static void odd_writing(size_t length, size_t room, uint8_t header)
     buffer_free(&use.output);
 }
 
-/* A packet call on a relay of zeros, whose ports are all off. */
+/* A packet call on a fresh relay, whose ports are all off, where the tables have the size of one. */
 static void odd_packet_call(size_t size, size_t length, size_t room)
 {
-    struct use use = {.input = buffer_new(length, 0), .tables = buffer_new(size, 0), .output = buffer_new(room, 3),
+    struct use use = {.input = buffer_new(16, 0), .tables = buffer_new(size, 0), .output = buffer_new(room, 3),
                       .tally = buffer_new(sizeof(haskumye_tally), 4)};
+    expect("fresh", library_call(FRESH, &use), size == HASKUMYE_TABLE_SIZE ? 0 : HASKUMYE_REFUSAL_TABLES);
+    buffer_free(&use.input);
+    use.input = buffer_new(length, 0);
     questions_try_signature(&use);
     uint64_t refusal = HASKUMYE_REFUSAL_ARRIVAL_PORT;
     if (size != HASKUMYE_TABLE_SIZE) {
@@ -80,17 +83,30 @@ static void odd_rates(struct use *use, uint64_t refusal)
     }
 }
 
+/* Sizes outside the range, and such that a port's two bytes, or four, would cut into it. */
+static void odd_sizes(struct use *use, uint64_t refusal)
+{
+    static const uint64_t sizes[] = {0, 18, 501, 65535, 65536 + 255, (UINT64_C(1) << 32) + 500, UINT64_MAX};
+    struct use odd = *use;
+    for (size_t i = 0; i < sizeof sizes / sizeof sizes[0]; i++) {
+        odd.size = sizes[i];
+        expect("a size that no port has", library_call(SET_PORT, &odd), refusal);
+    }
+}
+
 /* The other calls on tables, in an order in which none but removing twice is refused where the size is right. */
 static void odd_tables(size_t size)
 {
     struct use use = {.tables = buffer_new(size, 0), .input = buffer_new(16, 0), .port = 15, .mode = 2, .byte = 1,
-                      .target = HASKUMYE_TARGET_LIMIT, .grace = HASKUMYE_GRACE_LIMIT,
+                      .size = 19, .target = HASKUMYE_TARGET_LIMIT, .grace = HASKUMYE_GRACE_LIMIT,
                       .penalty = HASKUMYE_PENALTY_LIMIT};
     bool right = size == HASKUMYE_TABLE_SIZE;
     uint64_t refusal = right ? 0 : HASKUMYE_REFUSAL_TABLES;
+    expect("check of zeros", library_call(CHECK, &use), HASKUMYE_REFUSAL_TABLES); /* no relay's ports carry nothing */
     expect("fresh", library_call(FRESH, &use), refusal);
     expect("check", library_call(CHECK, &use), refusal);
     expect("set port", library_call(SET_PORT, &use), refusal);
+    odd_sizes(&use, right ? HASKUMYE_REFUSAL_SETTING : refusal);
     expect("set announce rate", library_call(SET_ANNOUNCE_RATE, &use), refusal);
     odd_rates(&use, right ? HASKUMYE_REFUSAL_SETTING : refusal);
     expect("add local", library_call(ADD_LOCAL, &use), refusal);

@@ -15,13 +15,13 @@ static bool is_type_2(struct buffer packet)
     return packet.length > 0 && packet.bytes[0] & HASKUMYE_HEADER_TYPE_2;
 }
 
-/* Document 01's rows 1, 2, 3 and 1. */
-static unsigned refusal_of(struct buffer packet)
+/* Document 01's rows 1, 2, 3 and 1, of a packet that is read at a size. */
+static unsigned refusal_at(struct buffer packet, uint64_t size)
 {
     if (packet.length < HASKUMYE_SHORTEST_PACKET) {
         return HASKUMYE_REFUSAL_TOO_SHORT;
     }
-    if (packet.length > HASKUMYE_LONGEST_PACKET) {
+    if (packet.length > size) {
         return HASKUMYE_REFUSAL_TOO_LONG;
     }
     if (packet.bytes[0] & HASKUMYE_HEADER_ACCESS_CODE) {
@@ -30,11 +30,12 @@ static unsigned refusal_of(struct buffer packet)
     return is_type_2(packet) && packet.length < sizeof(haskumye_parts) ? HASKUMYE_REFUSAL_TOO_SHORT : 0;
 }
 
-/* Calls a function that gives an answer of so many bytes, which the caller frees. */
+/* Calls a function that gives an answer of so many bytes, which the caller frees. A packet is read at the longest. */
 static struct buffer answer(const char *what, enum function function, struct buffer input, size_t size, uint64_t number)
 {
     struct buffer output = buffer_new(size, FILL);
-    expect(what, library_call(function, &(struct use){.input = input, .output = output}), number);
+    struct use use = {.input = input, .output = output, .size = HASKUMYE_LONGEST_PACKET};
+    expect(what, library_call(function, &use), number);
     return output;
 }
 
@@ -84,6 +85,23 @@ static void try_read_and_write(struct buffer packet, struct buffer payload, unsi
         buffer_free(&output);
     }
     buffer_free(&parts);
+}
+
+/* A packet is read at sizes about its length; 9 for a size that no port has comes first. */
+static void try_sizes(struct buffer packet)
+{
+    const uint64_t sizes[] = {0, 18, 19, 254, 255, 256, 499, 500, 501, 65536 + 255, UINT64_MAX, packet.length - 1,
+                              packet.length, packet.length + 1};
+    for (size_t i = 0; i < sizeof sizes / sizeof sizes[0]; i++) {
+        bool right = sizes[i] >= HASKUMYE_SHORTEST_PACKET && sizes[i] <= HASKUMYE_LONGEST_PACKET;
+        unsigned refusal = right ? refusal_at(packet, sizes[i]) : HASKUMYE_REFUSAL_SETTING;
+        struct use use = {.input = packet, .output = buffer_new(sizeof(haskumye_parts), FILL), .size = sizes[i]};
+        expect("reading at a size", library_call(READ, &use), refusal);
+        if (refusal != 0) {
+            expect_unchanged("parts refused at a size", use.output);
+        }
+        buffer_free(&use.output);
+    }
 }
 
 /* What is hashed of a packet that reads: header modulo 16, destination, context, payload. */
@@ -171,7 +189,8 @@ static void try_emission(struct buffer payload)
 
 void packets_try(struct buffer packet)
 {
-    unsigned refusal = refusal_of(packet);
+    unsigned refusal = refusal_at(packet, HASKUMYE_LONGEST_PACKET);
+    try_sizes(packet);
     uint8_t header = packet.length > 0 ? packet.bytes[0] : 0;
     size_t start = is_type_2(packet) ? 35 : 19;
     start = start < packet.length ? start : packet.length;

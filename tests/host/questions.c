@@ -13,10 +13,10 @@ struct table {
     size_t start, count, width, expiry;
 };
 
-static const struct table locals = {68, HASKUMYE_LOCAL_COUNT, 17, 0}, paths = {340, HASKUMYE_PATH_COUNT, 702, 35},
-                          links = {45268, HASKUMYE_LINK_COUNT, 30, 22},
-                          returns = {47190, HASKUMYE_RETURN_COUNT, 27, 19},
-                          hashes = {61016, HASKUMYE_HASH_COUNT, 41, 33};
+static const struct table locals = {100, HASKUMYE_LOCAL_COUNT, 17, 0}, paths = {372, HASKUMYE_PATH_COUNT, 702, 35},
+                          links = {45300, HASKUMYE_LINK_COUNT, 30, 22},
+                          returns = {47222, HASKUMYE_RETURN_COUNT, 27, 19},
+                          hashes = {61048, HASKUMYE_HASH_COUNT, 41, 33};
 enum { CLOCK_PLACE = 16, RATE_PLACE = 24, PORTS_PLACE = 36 };
 
 static uint64_t number_at(const uint8_t *bytes)
@@ -83,7 +83,7 @@ static void try_refused(const struct use *use)
     static const struct {
         enum function function;
         size_t size;
-    } questions[] = {{PORT, 2}, {ANNOUNCE_RATE, 12}, {LOCAL, 16}, {PATH, 61}, {LIVE_PATH, 61}, {LINK, 29},
+    } questions[] = {{PORT, 4}, {ANNOUNCE_RATE, 12}, {LOCAL, 16}, {PATH, 61}, {LIVE_PATH, 61}, {LINK, 29},
                      {LIVE_RETURNS, 8}, {LIVE_HASHES, 8}, {LAST_CLOCK, 8}};
     for (size_t i = 0; i < sizeof questions / sizeof questions[0]; i++) {
         ask(questions[i].function, *use, NULL, questions[i].size, HASKUMYE_REFUSAL_TABLES);
@@ -93,7 +93,8 @@ static void try_refused(const struct use *use)
 static void try_told(const struct use *use)
 {
     struct buffer tables = use->tables;
-    const uint8_t *port = use->port < HASKUMYE_PORT_COUNT ? tables.bytes + PORTS_PLACE + 2 * use->port : NULL;
+    const uint8_t *ports = tables.bytes + PORTS_PLACE;
+    const uint8_t *port = use->port < HASKUMYE_PORT_COUNT ? ports + sizeof(haskumye_port_settings) * use->port : NULL;
     ask(PORT, *use, port, sizeof(haskumye_port_settings), HASKUMYE_NONE);
     ask(ANNOUNCE_RATE, *use, tables.bytes + RATE_PLACE, sizeof(haskumye_rate_settings), 0);
     ask_record(LOCAL, use, record_at(tables, &locals, use->index), sizeof(haskumye_address));

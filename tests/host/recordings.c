@@ -59,6 +59,15 @@ static void try_writing(uint8_t file[LENGTH])
     expect("bodies too long", write_given(sizeof given, 70000, 0, NULL), HASKUMYE_REFUSAL_FILE_LENGTH);
 }
 
+/* The tables of a fresh relay, whose ports are all off. */
+static struct buffer fresh_tables(void)
+{
+    struct use use = {.input = buffer_new(16, 0), .tables = buffer_new(HASKUMYE_TABLE_SIZE, 0)};
+    expect("fresh", library_call(FRESH, &use), 0);
+    buffer_free(&use.input);
+    return use.tables;
+}
+
 /* Entry and replay of any bytes: where the entry isn't there, nothing changes; else its place lies within the file. */
 static void try_entry(struct buffer file, uint64_t index)
 {
@@ -74,7 +83,7 @@ static void try_entry(struct buffer file, uint64_t index)
     }
     buffer_free(&use.output);
     use.output = buffer_new(sizeof(haskumye_text), 0xee);
-    use.tables = buffer_new(HASKUMYE_TABLE_SIZE, 0);
+    use.tables = fresh_tables();
     use.tally = buffer_new(sizeof(haskumye_tally), 0);
     uint64_t expected = (uint64_t)(refusal == 0 ? HASKUMYE_REFUSAL_ARRIVAL_PORT : HASKUMYE_REFUSAL_FILE_PLACE) << 8;
     expect("a replayed entry", library_call(REPLAY_ENTRY, &use), expected);

@@ -95,8 +95,8 @@ void relay_make(struct relay *relay, const struct listed *call)
         return;
     }
     struct use use = {.input = call->bytes, .tables = relay->tables, .tally = relay->tally, .port = call->port,
-                      .clock = call->clock, .mode = call->mode, .byte = byte_of(call->yes), .target = call->target,
-                      .grace = call->grace, .penalty = call->penalty};
+                      .clock = call->clock, .mode = call->mode, .size = call->size, .byte = byte_of(call->yes),
+                      .target = call->target, .grace = call->grace, .penalty = call->penalty};
     if (call->function == PACKET) {
         use.output = buffer_new(call->room, call->fill);
         questions_try_signature(&use);

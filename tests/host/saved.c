@@ -15,21 +15,24 @@ enum {
     FILL = 0xee
 };
 
-static const size_t lengths[ENTRIES] = {36, 32, 272, 44928, 1920, 13826, 41986, 24};
+static const size_t lengths[ENTRIES] = {36, 64, 272, 44928, 1920, 13826, 41986, 24};
 
-/* What older editions lack: the announce rate behind the last clock, and in each path what is kept of its announces,
-   its mark, and all blob places but sixteen. */
+/* What older editions lack: the announce rate behind the last clock, each port's size, and in each path what is kept of
+   its announces, its mark, and all blob places but sixteen. */
 enum {
     RATE_AT = 24,
     RATE_WIDTH = 12,
-    PATHS_AT = 340,
+    PORTS_AT = RATE_AT + RATE_WIDTH,
+    PORT_WIDTH = 4,
+    SIZE_AT = 2,
+    PATHS_AT = 372,
     PATH_WIDTH = 702,
     EXPIRY_AT = 35,
     LAST_ANNOUNCE_AT = 43,
     UNRESPONSIVE_AT = 60,
     BLOB_COUNT_AT = 61,
     MORE_BLOBS_AT = 222,
-    EDITION = 4
+    EDITION = 5
 };
 
 /* How many bytes of a buffer are this one, from a place on. */
@@ -155,7 +158,7 @@ static void put_path(uint8_t *path)
 static struct buffer make_tables(struct buffer *tally)
 {
     struct use use = {.input = buffer_new(16, 0), .tables = buffer_new(HASKUMYE_TABLE_SIZE, 0), .port = 9, .byte = 1,
-                      .mode = 2, .target = 0x10203, .grace = 0xfd, .penalty = 0x90807};
+                      .mode = 2, .size = 255, .target = 0x10203, .grace = 0xfd, .penalty = 0x90807};
     for (uint8_t i = 0; i < 16; i++) {
         use.input.bytes[i] = (uint8_t)(0xa0 + i);
     }
@@ -269,24 +272,28 @@ static void try_bodies(struct buffer file)
         {CONTENTS + RATE_AT + 8, 4, HASKUMYE_PENALTY_LIMIT + 1, HASKUMYE_REFUSAL_FILE_BODY},
         {88, 1, 2, HASKUMYE_REFUSAL_FILE_BODY},                           /* port 0's mark */
         {89, 1, 3, HASKUMYE_REFUSAL_FILE_BODY},                           /* its mode */
-        {120 + 17, 1, 2, HASKUMYE_REFUSAL_FILE_BODY},                     /* the mark of local address 1 */
-        {120 + 18, 1, 1, HASKUMYE_REFUSAL_FILE_BODY},                     /* a byte of it, which is unused */
-        {392, 1, 2, HASKUMYE_REFUSAL_FILE_BODY},                          /* paths */
-        {392 + UNRESPONSIVE_AT, 1, 0, 0},                                 /* whether one is marked */
-        {392 + UNRESPONSIVE_AT, 1, 2, HASKUMYE_REFUSAL_FILE_BODY},
-        {392 + UNRESPONSIVE_AT, 1, 255, HASKUMYE_REFUSAL_FILE_BODY},
-        {392 + BLOB_COUNT_AT, 1, 0, HASKUMYE_REFUSAL_FILE_BODY},          /* how many blobs it holds */
-        {392 + BLOB_COUNT_AT, 1, 17, 0},
-        {392 + BLOB_COUNT_AT, 1, 64, 0},
-        {392 + BLOB_COUNT_AT, 1, 65, HASKUMYE_REFUSAL_FILE_BODY},
-        {45320 - 1, 1, 1, HASKUMYE_REFUSAL_FILE_BODY},
-        {45320, 1, 2, HASKUMYE_REFUSAL_FILE_BODY},                        /* links */
-        {47240 - 1, 1, 1, HASKUMYE_REFUSAL_FILE_BODY},
-        {47240, 2, HASKUMYE_RETURN_COUNT - 1, 0},                         /* the ring place of return records */
-        {47240, 2, HASKUMYE_RETURN_COUNT, HASKUMYE_REFUSAL_FILE_BODY},
-        {61066 - 1, 1, 1, HASKUMYE_REFUSAL_FILE_BODY},
-        {61066, 2, HASKUMYE_HASH_COUNT - 1, 0},                           /* that of hashes */
-        {61066, 2, HASKUMYE_HASH_COUNT, HASKUMYE_REFUSAL_FILE_BODY},
+        {90, 2, 19, 0},                                                   /* its size */
+        {90, 2, 18, HASKUMYE_REFUSAL_FILE_BODY},
+        {90, 2, 501, HASKUMYE_REFUSAL_FILE_BODY},
+        {152 - 2, 2, 0, HASKUMYE_REFUSAL_FILE_BODY},                      /* that of port 15, which is off */
+        {152 + 17, 1, 2, HASKUMYE_REFUSAL_FILE_BODY},                     /* the mark of local address 1 */
+        {152 + 18, 1, 1, HASKUMYE_REFUSAL_FILE_BODY},                     /* a byte of it, which is unused */
+        {424, 1, 2, HASKUMYE_REFUSAL_FILE_BODY},                          /* paths */
+        {424 + UNRESPONSIVE_AT, 1, 0, 0},                                 /* whether one is marked */
+        {424 + UNRESPONSIVE_AT, 1, 2, HASKUMYE_REFUSAL_FILE_BODY},
+        {424 + UNRESPONSIVE_AT, 1, 255, HASKUMYE_REFUSAL_FILE_BODY},
+        {424 + BLOB_COUNT_AT, 1, 0, HASKUMYE_REFUSAL_FILE_BODY},          /* how many blobs it holds */
+        {424 + BLOB_COUNT_AT, 1, 17, 0},
+        {424 + BLOB_COUNT_AT, 1, 64, 0},
+        {424 + BLOB_COUNT_AT, 1, 65, HASKUMYE_REFUSAL_FILE_BODY},
+        {45352 - 1, 1, 1, HASKUMYE_REFUSAL_FILE_BODY},
+        {45352, 1, 2, HASKUMYE_REFUSAL_FILE_BODY},                        /* links */
+        {47272 - 1, 1, 1, HASKUMYE_REFUSAL_FILE_BODY},
+        {47272, 2, HASKUMYE_RETURN_COUNT - 1, 0},                         /* the ring place of return records */
+        {47272, 2, HASKUMYE_RETURN_COUNT, HASKUMYE_REFUSAL_FILE_BODY},
+        {61098 - 1, 1, 1, HASKUMYE_REFUSAL_FILE_BODY},
+        {61098, 2, HASKUMYE_HASH_COUNT - 1, 0},                           /* that of hashes */
+        {61098, 2, HASKUMYE_HASH_COUNT, HASKUMYE_REFUSAL_FILE_BODY},
         {TALLY_AT - 1, 1, 1, HASKUMYE_REFUSAL_FILE_BODY},
         {TALLY_AT, 8, UINT64_MAX, 0},
     };
@@ -295,11 +302,21 @@ static void try_bodies(struct buffer file)
     }
 }
 
+/* Whether a byte of the tables is one of a port's size. */
+static bool is_size(size_t place)
+{
+    return place >= PORTS_AT && place < PORTS_AT + HASKUMYE_PORT_COUNT * PORT_WIDTH &&
+           (place - PORTS_AT) % PORT_WIDTH >= SIZE_AT;
+}
+
 /* The edition that brought a byte of the tables. */
 static uint8_t brought_by(size_t place)
 {
     if (place >= RATE_AT && place < RATE_AT + RATE_WIDTH) {
         return 2;
+    }
+    if (is_size(place)) {
+        return 5;
     }
     if (place < PATHS_AT || place >= PATHS_AT + HASKUMYE_PATH_COUNT * PATH_WIDTH) {
         return 1;
@@ -340,13 +357,20 @@ static size_t put_old_contents(const uint8_t *file, uint8_t *old, uint8_t editio
     return place;
 }
 
-/* The bodies, and the tables that a load makes of them: zeros where the edition has no field. */
+/* What a load makes of a byte that an edition lacks: of a port's size 500, else 0. */
+static uint8_t unsaved(size_t place)
+{
+    static const uint8_t longest[] = {HASKUMYE_LONGEST_PACKET / 256, HASKUMYE_LONGEST_PACKET % 256};
+    return is_size(place) ? longest[(place - PORTS_AT) % PORT_WIDTH - SIZE_AT] : 0;
+}
+
+/* The bodies, and the tables that a load makes of them. */
 static void put_old_bodies(const uint8_t *file, uint8_t *old, uint8_t *tables, uint8_t edition)
 {
     size_t end = CONTENTS;
     for (size_t i = 0; i < HASKUMYE_TABLE_SIZE; i++) {
         bool there = brought_by(i) <= edition;
-        tables[i] = there ? file[CONTENTS + i] : 0;
+        tables[i] = there ? file[CONTENTS + i] : unsaved(i);
         if (there) {
             old[end++] = tables[i];
         }
@@ -354,15 +378,16 @@ static void put_old_bodies(const uint8_t *file, uint8_t *old, uint8_t *tables, u
     memcpy(old + end, file + TALLY_AT, sizeof(haskumye_tally));
 }
 
-/* An older edition's path holds one to sixteen blobs. */
+/* A path of editions 1 to 3 holds one to sixteen blobs, later ones up to 64. */
 static void try_counts(struct use *use, uint8_t edition)
 {
     static const uint8_t counts[] = {0, 1, 16, 17, 64, 65, 255};
     uint8_t *count = use->input.bytes + place_in(edition, PATHS_AT + BLOB_COUNT_AT), was = *count;
+    uint8_t most = edition < 4 ? 16 : 64;
     for (size_t i = 0; i < sizeof counts; i++) {
         *count = counts[i];
         expect("its blobs", library_call(LOAD_TABLES, use),
-               counts[i] >= 1 && counts[i] <= 16 ? 0 : HASKUMYE_REFUSAL_FILE_BODY);
+               counts[i] >= 1 && counts[i] <= most ? 0 : HASKUMYE_REFUSAL_FILE_BODY);
     }
     *count = was;
 }

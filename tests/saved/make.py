@@ -26,8 +26,8 @@ class Box:
     def __init__(self):
         self.relay, self.ports = haskumye.Relay(OWN), list(range(16))
         for wire, mode in WIRES.items():
-            self.relay.set_port(wire, True, mode)
-        self.relay.set_port(12, False, Mode.ROAMING)
+            self.relay.set_port(wire, True, mode, 400 if mode == Mode.ROAMING else haskumye.LONGEST_PACKET)
+        self.relay.set_port(12, False, Mode.ROAMING, haskumye.SHORTEST_PACKET)
         for number in range(haskumye.LOCAL_COUNT):
             self.relay.add_local(bytes([number] * 16))
         self.relay.remove_local(bytes([5] * 16))
@@ -111,6 +111,19 @@ def mark(box):
     assert box.give(announce(18, 0, hops=4), 3, 2000, True).startswith("drop 11")
 
 
+def narrow(box):
+    """One wire carries less from now on: what is too long for it is not sent by it, and what comes in by it is refused."""
+    box.relay.set_port(3, True, WIRES[3], 255)
+    assert box.give(carried(haskumye.PACKET_DATA, 13, bytes(237)), 0, 2100).startswith("drop 16")
+    assert box.give(carried(haskumye.PACKET_DATA, 13, bytes(236)), 0, 2100).startswith("forward")
+    try:
+        box.give(carried(haskumye.PACKET_DATA, 0, bytes(221)), 3, 2100)
+    except haskumye.Refused as refused:
+        assert refused.refusal == haskumye.Refusal.TOO_LONG
+    else:
+        raise AssertionError("a packet of 256 bytes came in by a wire that carries 255")
+
+
 def live(number):
     """Whether a destination's path is not by the roaming wire."""
     return number % 5 != 2
@@ -155,6 +168,7 @@ def make():
     fill_paths(box)
     chatter(box)
     mark(box)
+    narrow(box)
     give_data(box, 600, 20300, 3)
     numbers = [number for number in range(haskumye.PATH_COUNT) if live(number)]
     proved = list(give_links(box, (numbers + numbers)[: haskumye.LINK_COUNT], 22600))
@@ -191,23 +205,24 @@ def lines(relay):
     if any(tables[24:36]):
         yield f"rate target {number_of(tables[24:28])} grace {number_of(tables[28:32])} penalty {number_of(tables[32:36])}"
     for port in range(16):
-        on, mode = tables[36 + 2 * port : 38 + 2 * port]
-        yield f"port {port} on {on} mode {mode}"
-    for place, data in records(tables, 68, 16, 17):
+        on, mode, *size = tables[36 + 4 * port : 40 + 4 * port]
+        later = "" if number_of(size) == haskumye.LONGEST_PACKET else f" size {number_of(size)}"
+        yield f"port {port} on {on} mode {mode}{later}"
+    for place, data in records(tables, 100, 16, 17):
         yield f"local {place} {data.hex()}"
-    for place, data in records(tables, 340, 64, 702):
+    for place, data in records(tables, 372, 64, 702):
         way = f"path {place} {data[:16].hex()} port {data[16]} hops {data[17]} next {data[18:34].hex()} expiry {number_of(data[34:42])}"
         later = {"last": number_of(data[42:50]), "violations": data[50], "blocked": number_of(data[51:59]), "unresponsive": data[59]}
         blobs = [data[61 + 10 * i : 71 + 10 * i].hex() for i in range(data[60])]
         yield " ".join([way, *(f"{name} {number}" for name, number in later.items() if number), "blobs", *blobs])
-    for place, data in records(tables, 45268, 64, 30):
+    for place, data in records(tables, 45300, 64, 30):
         sides = f"asking {data[16]} answering {data[17]} taken {data[18]} remaining {data[19]} proved {data[20]}"
         yield f"link {place} {data[:16].hex()} {sides} expiry {number_of(data[21:])}"
-    yield f"returns next {number_of(tables[47188:47190])}"
-    for place, data in records(tables, 47190, 512, 27):
+    yield f"returns next {number_of(tables[47220:47222])}"
+    for place, data in records(tables, 47222, 512, 27):
         yield f"return {place} {data[:16].hex()} arrival {data[16]} leaving {data[17]} expiry {number_of(data[18:])}"
-    yield f"hashes next {number_of(tables[61014:61016])}"
-    for place, data in records(tables, 61016, 1024, 41):
+    yield f"hashes next {number_of(tables[61046:61048])}"
+    for place, data in records(tables, 61048, 1024, 41):
         yield f"hash {place} {data[:32].hex()} expiry {number_of(data[32:])}"
     yield "tally " + " ".join(f"{name} {count}" for name, count in relay.tally._asdict().items())
 

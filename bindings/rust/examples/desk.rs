@@ -1,7 +1,7 @@
 //! The desk's relay: a count comes in twice, the ports are renumbered, and another comes in by its new port.
 //! `cargo run --example desk`, after `make`.
 
-use haskumye::{packet_hash, write, Address, Mode, Parts, Refusal, Relay, Verdict, OUTPUT_SIZE};
+use haskumye::{packet_hash, write, Address, Mode, Parts, Refusal, Relay, Verdict, LONGEST_PACKET, OUTPUT_SIZE};
 
 const DESK: Address = [0x2a; 16];
 
@@ -32,7 +32,7 @@ fn main() -> Result<(), Refusal> {
     let mut relay = Relay::fresh(&[0x0a; 16]);
     relay.add_local(&DESK)?;
     for port in 0..2 {
-        relay.set_port(port, true, Mode::Boundary)?;
+        relay.set_port(port, true, Mode::Boundary, LONGEST_PACKET)?;
     }
     let first = count("line 7: 42 plants")?;
     take_in(&mut relay, &first, 1, 1_000)?;

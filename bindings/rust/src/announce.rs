@@ -16,7 +16,7 @@ use crate::raw;
 /// let signature = [4; 64]; // the host's Ed25519 over signed[..length]
 /// # assert_eq!(length, 104);
 /// let length = announce.build(&signature, &mut packet)?;
-/// assert_eq!(haskumye::read(&packet[..length])?.destination, signed[..16]);
+/// assert_eq!(haskumye::read(&packet[..length], haskumye::LONGEST_PACKET)?.destination, signed[..16]);
 /// # Ok::<(), haskumye::Refusal>(())
 /// ```
 #[derive(Clone, Copy, Debug, Default, PartialEq, Eq)]

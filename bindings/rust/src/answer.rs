@@ -38,14 +38,14 @@ numbered! {
     /// Why a call was refused. It changed nothing.
     Refusal {
         TooShort = 1 "length under 19, or type 2 under 35",
-        TooLong = 2 "length over 500 (hashing: over 65,535)",
+        TooLong = 2 "length over the port's size, or over 500 (hashing: over 65,535)",
         AccessCode = 3 "access code bit set",
         ArrivalPort = 4 "arrival port over 15, or off",
         Clock = 5 "clock 2^40 or more, or below the last accepted clock",
         Output = 6 "output buffer under 500 bytes",
         Tables = 7 "tables of wrong size, or with bytes that no relay has",
         Map = 8 "renumbering map not one-to-one on 0..15",
-        Setting = 9 "setting a port over 15, an unknown mode or an announce rate over its limit",
+        Setting = 9 "setting a port over 15, an unknown mode, a size outside 19 to 500 or an announce rate over its limit",
         LocalFull = 10 "adding a 17th local address",
         LocalAddress = 11 "adding a local address already there, or removing one not there",
         NoLivePath = 12 "marking a destination that has no live path",
@@ -173,6 +173,7 @@ reasons! {
     PortOff = 12 "port off" "the port to leave by is off",
     NoRoom = 13 "no room" "no room for another path or link",
     RateLimited = 15 "announced too often" "this destination announces itself too often",
+    TooLongForPort = 16 "too long for the port" "it is too long for the port to leave by",
 }
 
 impl Reason {
@@ -406,7 +407,7 @@ mod tests {
             0x1_0201,
             0x10_0d01,
             0x0e01,
-            0x1001,
+            0x1101,
             0x0000,
             0x0d00,
             0x0010_0003,

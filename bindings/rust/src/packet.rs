@@ -6,11 +6,12 @@ use crate::{Address, Blob, Hash};
 
 // SAFETY of every call below: what crosses is a borrow, as `raw` asks, and borrows do not overlap.
 
-/// Reads a packet's parts. Refusals 1, 2 and 3.
+/// Reads the parts of a packet that is no longer than a size, from [`SHORTEST_PACKET`](crate::SHORTEST_PACKET) to
+/// [`LONGEST_PACKET`](crate::LONGEST_PACKET). Refusal 9 for another size, then 1, 2 and 3.
 ///
 /// ```
 /// let packet = [&[0x0c, 0x00][..], &[0x11; 16], &[0xfa]].concat();
-/// let parts = haskumye::read(&packet)?;
+/// let parts = haskumye::read(&packet, haskumye::LONGEST_PACKET)?;
 /// assert_eq!((parts.header, parts.destination, parts.context), (0x0c, [0x11; 16], 0xfa));
 ///
 /// let mut output = [0; haskumye::OUTPUT_SIZE];
@@ -18,9 +19,9 @@ use crate::{Address, Blob, Hash};
 /// assert_eq!(output[..length], packet);
 /// # Ok::<(), haskumye::Refusal>(())
 /// ```
-pub fn read(packet: &[u8]) -> Result<Parts, Refusal> {
+pub fn read(packet: &[u8], size: usize) -> Result<Parts, Refusal> {
     let mut parts = Parts::default();
-    done(unsafe { raw::haskumye_read(packet.as_ptr(), packet.len(), &mut parts) })?;
+    done(unsafe { raw::haskumye_read(packet.as_ptr(), packet.len(), size as u64, &mut parts) })?;
     Ok(parts)
 }
 

@@ -14,6 +14,8 @@ pub struct Port {
     pub on: bool,
     /// How long a path through it lives.
     pub mode: Mode,
+    /// The longest packet that it carries.
+    pub size: usize,
 }
 
 /// How often a destination may announce itself, as a relay's settings. With a target of 0, as a fresh relay has, there is no limit.
@@ -77,7 +79,7 @@ impl Relay {
     pub fn port(&self, port: u8) -> Option<Port> {
         let settings: PortSettings = self.told(|tables, length, told| unsafe { raw::haskumye_port(tables, length, port.into(), told) })?;
         let mode = Mode::from_number(settings.mode)?;
-        Some(Port { on: settings.on == raw::ON, mode })
+        Some(Port { on: settings.on == raw::ON, mode, size: u16::from_be_bytes(settings.size).into() })
     }
 
     /// The announce rate's settings.

@@ -7,10 +7,10 @@
 use crate::{Address, Blob, Hash, PortMap};
 
 /// The version of this interface.
-pub const VERSION: u32 = 5;
+pub const VERSION: u32 = 6;
 
 /// The bytes of a relay's tables, exactly.
-pub const TABLE_SIZE: usize = 103000;
+pub const TABLE_SIZE: usize = 103032;
 /// The least output buffer, however short the packet.
 pub const OUTPUT_SIZE: usize = 500;
 /// The shortest packet; type 2 has 35 bytes at least.
@@ -26,7 +26,7 @@ pub const RECORDING_SIZE: usize = 60000;
 /// The bytes of an entry as `haskumye_write_recording` takes it.
 pub const ENTRY_WIDTH: usize = 12;
 /// The bytes that `haskumye_save` writes, exactly.
-pub const SAVED_SIZE: usize = 103076;
+pub const SAVED_SIZE: usize = 103108;
 /// No saved file of any edition is longer.
 pub const LONGEST_SAVED: usize = 524332;
 
@@ -177,6 +177,9 @@ pub struct Entry {
 /// A time or clock in seconds, big-endian.
 pub type Time = [u8; 8];
 
+/// A port's size in bytes, big-endian.
+pub type Size = [u8; 2];
+
 /// A port's settings.
 #[repr(C)]
 #[derive(Clone, Copy, Debug, Default, PartialEq, Eq)]
@@ -185,6 +188,8 @@ pub struct PortSettings {
     pub on: u8,
     /// The mode's number.
     pub mode: u8,
+    /// The longest packet that it carries.
+    pub size: Size,
 }
 
 /// A setting's number, big-endian.
@@ -257,7 +262,7 @@ extern "C" {
     pub fn haskumye_table_size() -> usize;
     pub fn haskumye_fresh(tables: *mut u8, length: usize, own: *const Address) -> u8;
     pub fn haskumye_check_tables(tables: *const u8, length: usize) -> u8;
-    pub fn haskumye_set_port(tables: *mut u8, length: usize, port: u64, on: u8, mode: u64) -> u8;
+    pub fn haskumye_set_port(tables: *mut u8, length: usize, port: u64, on: u8, mode: u64, size: u64) -> u8;
     pub fn haskumye_set_announce_rate(tables: *mut u8, length: usize, target: u64, grace: u64, penalty: u64) -> u8;
     pub fn haskumye_add_local(tables: *mut u8, length: usize, address: *const Address) -> u8;
     pub fn haskumye_remove_local(tables: *mut u8, length: usize, address: *const Address) -> u8;
@@ -300,7 +305,7 @@ extern "C" {
         room: usize,
     ) -> u8;
 
-    pub fn haskumye_read(packet: *const u8, length: usize, parts: *mut Parts) -> u8;
+    pub fn haskumye_read(packet: *const u8, length: usize, size: u64, parts: *mut Parts) -> u8;
     pub fn haskumye_payload_start(packet: *const u8, length: usize) -> usize;
     pub fn haskumye_write(parts: *const Parts, payload: *const u8, length: usize, output: *mut u8, room: usize) -> u32;
     pub fn haskumye_packet_hash(packet: *const u8, length: usize, hash: *mut Hash) -> u8;

@@ -13,10 +13,10 @@ use crate::{Address, PortMap};
 /// Calls on one relay are made one at a time, which `&mut self` ensures. A refused call changes nothing.
 ///
 /// ```
-/// use haskumye::{Mode, Reason, Refusal, Relay, Verdict, OUTPUT_SIZE};
+/// use haskumye::{Mode, Reason, Refusal, Relay, Verdict, LONGEST_PACKET, OUTPUT_SIZE};
 ///
 /// let mut relay = Relay::fresh(&[0x0a; 16]);
-/// relay.set_port(3, true, Mode::Boundary)?;
+/// relay.set_port(3, true, Mode::Boundary, LONGEST_PACKET)?;
 /// relay.add_local(&[0x2a; 16])?;
 ///
 /// // Data of type 1 for a local address: header, hops, destination, context, payload.
@@ -38,7 +38,7 @@ pub struct Relay {
 }
 
 impl Relay {
-    /// A fresh relay: its own address, every port off and boundary, clock 0, all else empty.
+    /// A fresh relay: its own address, every port off and boundary, with size 500, clock 0, all else empty.
     pub fn fresh(own: &Address) -> Self {
         same_version();
         let mut tables = vec![0; TABLE_SIZE].into_boxed_slice();
@@ -105,10 +105,12 @@ impl Relay {
         }
     }
 
-    /// Sets a port on or off, and its mode. Records that name the port stay. Refusal 9 for a port over 15.
-    pub fn set_port(&mut self, port: u8, on: bool, mode: Mode) -> Result<(), Refusal> {
+    /// Sets a port on or off, its mode, and its size: the longest packet that it carries, in bytes, from
+    /// [`SHORTEST_PACKET`](crate::SHORTEST_PACKET) to [`LONGEST_PACKET`](crate::LONGEST_PACKET). Records that name the port stay. Refusal 9 for
+    /// a port over 15 or another size.
+    pub fn set_port(&mut self, port: u8, on: bool, mode: Mode, size: usize) -> Result<(), Refusal> {
         let (port, on, mode) = (port.into(), on.into(), mode.number().into());
-        done(unsafe { raw::haskumye_set_port(self.tables.as_mut_ptr(), self.tables.len(), port, on, mode) })
+        done(unsafe { raw::haskumye_set_port(self.tables.as_mut_ptr(), self.tables.len(), port, on, mode, size as u64) })
     }
 
     /// Sets how often every destination may announce itself. Paths stay, blocked ones too. Refusal 9 for a number over its limit.

@@ -34,7 +34,7 @@ fn parts_stand_where_they_should() {
         let destination = announced_destination(&front);
         assert_eq!(signed(&announce).unwrap(), [&destination[..], &front, b"desk"].concat());
         let packet = built(&announce).unwrap();
-        assert_eq!(read(&packet), Ok(Parts { header, destination, ..Parts::default() }));
+        assert_eq!(read(&packet, LONGEST_PACKET), Ok(Parts { header, destination, ..Parts::default() }));
         assert_eq!(payload(&packet), [&front[..], &SIGNATURE, b"desk"].concat());
     }
 }
@@ -43,7 +43,7 @@ fn parts_stand_where_they_should() {
 fn another_relay_spreads_it() {
     let mut relay = Relay::fresh(&[9; 16]);
     for port in 0..2 {
-        relay.set_port(port, true, Mode::Boundary).unwrap();
+        relay.set_port(port, true, Mode::Boundary, LONGEST_PACKET).unwrap();
     }
     let (packet, mut output) = (built(&PARTS).unwrap(), [0; OUTPUT_SIZE]);
     let wrong = built(&Announce { random: &[7; 5], ..PARTS }).unwrap();

@@ -16,7 +16,10 @@ fn parts_come_back() {
     let mut output = [0xee; OUTPUT_SIZE];
     let length = write(&parts, b"payload", &mut output).unwrap();
     assert_eq!(length, 42);
-    assert_eq!(read(&output[..length]), Ok(parts));
+    for size in length..=LONGEST_PACKET {
+        assert_eq!(read(&output[..length], size), Ok(parts));
+    }
+    assert_eq!(read(&output[..length], length - 1), Err(Refusal::TooLong));
     assert_eq!(payload(&output[..length]), b"payload");
     assert!(output[length..].iter().all(|byte| *byte == 0xee));
 }
@@ -48,7 +51,8 @@ fn a_packet_prints_as_its_line() {
 
 #[test]
 fn no_bytes_are_no_trouble() {
-    assert_eq!(read(&[]), Err(Refusal::TooShort));
+    assert_eq!(read(&[], LONGEST_PACKET), Err(Refusal::TooShort));
+    assert_eq!([SHORTEST_PACKET - 1, LONGEST_PACKET + 1].map(|size| read(&[], size)), [Err(Refusal::Setting); 2]);
     assert_eq!(packet_hash(&[]), Err(Refusal::TooShort));
     assert_eq!(link_id(&[]), Err(Refusal::TooShort));
     assert_eq!(payload(&[]), b"");

@@ -8,7 +8,7 @@ const OWN: Address = [0x0a; 16];
 fn relay() -> Relay {
     let mut relay = Relay::fresh(&OWN);
     for port in 0..3 {
-        relay.set_port(port, true, Mode::Boundary).unwrap();
+        relay.set_port(port, true, Mode::Boundary, LONGEST_PACKET).unwrap();
     }
     relay
 }

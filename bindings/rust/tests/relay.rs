@@ -13,7 +13,7 @@ const REVERSED: PortMap = [15, 14, 13, 12, 11, 10, 9, 8, 7, 6, 5, 4, 3, 2, 1, 0]
 fn relay(ports: u8) -> Relay {
     let mut relay = Relay::fresh(&OWN);
     for port in 0..ports {
-        relay.set_port(port, true, Mode::Boundary).unwrap();
+        relay.set_port(port, true, Mode::Boundary, LONGEST_PACKET).unwrap();
     }
     relay
 }
@@ -49,7 +49,7 @@ fn an_announce_spreads_or_is_kept() {
     let mut output = [0xee; OUTPUT_SIZE + 7];
     let ports = PortSet::from_bits(0b101);
     assert_eq!(relay(3).packet(&announce, 1, 0, true, &mut output), Ok(Verdict::Spread { ports, length: 183 }));
-    let parts = read(&output[..183]).unwrap();
+    let parts = read(&output[..183], LONGEST_PACKET).unwrap();
     assert_eq!((parts.hops, parts.relay, parts.destination), (1, OWN, destination));
     assert!(output[183..].iter().all(|byte| *byte == 0xee));
     assert_eq!(relay(1).packet(&announce, 0, 0, true, &mut output), Ok(Verdict::Kept));
@@ -158,7 +158,10 @@ fn settings_are_refused() {
     }
     let before = relay.clone();
     assert_eq!(relay.renumber(&[0; 16]), Err(Refusal::Map));
-    assert_eq!(relay.set_port(16, true, Mode::Roaming), Err(Refusal::Setting));
+    assert_eq!(relay.set_port(16, true, Mode::Roaming, LONGEST_PACKET), Err(Refusal::Setting));
+    for size in [0, SHORTEST_PACKET - 1, LONGEST_PACKET + 1, 65_536 + 255, usize::MAX] {
+        assert_eq!(relay.set_port(0, true, Mode::Roaming, size), Err(Refusal::Setting));
+    }
     let limits = AnnounceRate { target: TARGET_LIMIT, grace: GRACE_LIMIT, penalty: PENALTY_LIMIT };
     for over in [
         AnnounceRate { target: TARGET_LIMIT + 1, ..limits },
@@ -244,12 +247,12 @@ fn the_last_clock_is_read() {
 #[test]
 fn ports_and_local_addresses_are_told() {
     let mut relay = relay(1);
-    relay.set_port(3, true, Mode::Roaming).unwrap();
+    relay.set_port(3, true, Mode::Roaming, 258).unwrap();
     relay.add_local(&[0x2a; 16]).unwrap();
     let before = relay.clone();
-    assert_eq!(relay.port(0), Some(Port { on: true, mode: Mode::Boundary }));
-    assert_eq!(relay.port(1), Some(Port { on: false, mode: Mode::Boundary }));
-    assert_eq!(relay.port(3), Some(Port { on: true, mode: Mode::Roaming }));
+    assert_eq!(relay.port(0), Some(Port { on: true, mode: Mode::Boundary, size: 500 }));
+    assert_eq!(relay.port(1), Some(Port { on: false, mode: Mode::Boundary, size: 500 }));
+    assert_eq!(relay.port(3), Some(Port { on: true, mode: Mode::Roaming, size: 258 }));
     assert_eq!(relay.port(16), None);
     assert_eq!([0, 1, LOCAL_COUNT, usize::MAX].map(|place| relay.local(place)), [Some([0x2a; 16]), None, None, None]);
     assert!(relay == before);
@@ -286,6 +289,25 @@ fn a_path_a_receipt_and_a_link_are_told() {
     relay.renumber(&REVERSED).unwrap();
     assert_eq!(relay.path(0), Some(Path { port: 13, ..path }));
     assert_eq!(relay.link(0), Some(Link { asking: 10, answering: 13, ..link }));
+}
+
+/// A radio that takes 255 bytes: what comes in by it, what would leave by it, and what is spread.
+#[test]
+fn a_port_that_carries_less() {
+    let (mut relay, mut output, (announce, destination)) = (relay(3), [0; OUTPUT_SIZE], announce(1));
+    relay.packet(&announce, 1, 1_000, true, &mut output).unwrap();
+    relay.set_port(1, true, Mode::Boundary, 255).unwrap();
+    let way = |payload: usize| data(destination, &vec![7; payload]);
+    // the last hop takes sixteen bytes off
+    assert_eq!(relay.packet(&way(236), 0, 1_001, false, &mut output), Ok(Verdict::Forward { port: 1, length: 255 }));
+    assert_eq!(relay.packet(&way(237), 0, 1_001, false, &mut output), Ok(Verdict::Drop(Reason::TooLongForPort)));
+    assert_eq!(relay.packet(&way(220), 1, 1_001, false, &mut output), Ok(Verdict::Forward { port: 1, length: 239 }));
+    assert_eq!(relay.packet(&way(221), 1, 1_001, false, &mut output), Err(Refusal::TooLong));
+    relay.set_port(1, true, Mode::Boundary, 182).unwrap();
+    let spread = Verdict::Spread { ports: PortSet::from_bits(0b100), length: 183 };
+    assert_eq!(relay.packet(&self::announce(2).0, 0, 1_002, true, &mut output), Ok(spread));
+    relay.renumber(&REVERSED).unwrap();
+    assert_eq!((relay.port(14).unwrap().size, relay.port(1).unwrap().size), (182, 500));
 }
 
 /// The oldest of 65 announces is forgotten, so that it is no replay when it comes round again.
@@ -328,5 +350,6 @@ fn tables_go_out_and_come_in_again() {
     assert_eq!(Relay::from_tables(&tables[1..], Tally::default()), Err(Refusal::Tables));
     let mut bad = tables.to_vec();
     bad[36] = 2; // the mark of port 0: neither on nor off
+    assert_eq!(Relay::from_tables(&[0; TABLE_SIZE], Tally::default()), Err(Refusal::Tables));
     assert_eq!(Relay::from_tables(&bad, Tally::default()), Err(Refusal::Tables));
 }

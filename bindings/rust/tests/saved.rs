@@ -6,7 +6,7 @@ use haskumye::*;
 const OWN: Address = [0x0a; 16];
 
 /// A file of each edition, the oldest first: tests/saved/NAME.saved, and NAME.text with what it holds. A later edition is one more line.
-const EDITIONS: [&str; 4] = ["edition-1", "edition-2", "edition-3", "edition-4"];
+const EDITIONS: [&str; 5] = ["edition-1", "edition-2", "edition-3", "edition-4", "edition-5"];
 
 fn read(name: &str) -> Vec<u8> {
     let path = format!("{}/../../tests/saved/{name}", env!("CARGO_MANIFEST_DIR"));
@@ -20,7 +20,7 @@ fn pair(name: &str) -> (Vec<u8>, String) {
 
 fn relay() -> Relay {
     let mut relay = Relay::fresh(&OWN);
-    relay.set_port(3, true, Mode::Roaming).unwrap();
+    relay.set_port(3, true, Mode::Roaming, 255).unwrap();
     relay.set_announce_rate(AnnounceRate { target: 3_600, grace: 5, penalty: 7_200 }).unwrap();
     relay.add_local(&OWN).unwrap();
     Relay::from_tables(relay.tables(), Tally { total: 0x01020304, dropped: 5, kept: u32::MAX, ..Tally::default() }).unwrap()
@@ -30,7 +30,7 @@ fn relay() -> Relay {
 fn what_is_saved_loads() {
     let (relay, file) = (relay(), relay().save());
     assert_eq!((file.len(), unsafe { haskumye_saved_size() }), (SAVED_SIZE, SAVED_SIZE));
-    assert_eq!(file[..4], [2, 4, 0, 8]);
+    assert_eq!(file[..4], [2, 5, 0, 8]);
     assert_eq!((&file[52..52 + TABLE_SIZE], &file[52 + TABLE_SIZE..]), (relay.tables(), &relay.tally().to_bytes()[..]));
     assert_eq!(Relay::load(&file), Ok(relay));
 }
@@ -46,11 +46,12 @@ fn loading_is_refused() {
         (spoiled(0, 1), Refusal::FileKind),
         (spoiled(1, 0), Refusal::FileKind),
         (spoiled(1, 255), Refusal::FileKind),
-        (vec![2, 4, 0, 0], Refusal::FilePlace),
+        (vec![2, 5, 0, 0], Refusal::FilePlace),
         (spoiled(7, 53), Refusal::FilePlace),
         (spoiled(1, 1), Refusal::FileBody), // bodies longer than an older edition's
         (spoiled(1, 2), Refusal::FileBody),
         (spoiled(1, 3), Refusal::FileBody),
+        (spoiled(1, 4), Refusal::FileBody),
         (spoiled(89, 3), Refusal::FileBody),
     ];
     for (file, refusal) in files {
@@ -119,6 +120,11 @@ impl Line<'_> {
         (last, violations.try_into().expect("a byte"), blocked)
     }
 
+    /// A port's size, which editions 1 to 4 lack and load as the longest.
+    fn size(&self) -> u64 {
+        self.field("size").unwrap_or(LONGEST_PACKET as u64)
+    }
+
     /// Whether a path is marked.
     fn unresponsive(&self) -> bool {
         self.number_or_zero("unresponsive") == 1
@@ -132,7 +138,7 @@ impl Line<'_> {
     /// A used record behind its mark.
     fn record(&self) -> Vec<u8> {
         if self.0[0] == "port" {
-            return [self.byte("on"), self.byte("mode")].concat();
+            return [&self.byte("on"), &self.byte("mode"), &self.size().to_be_bytes()[6..]].concat();
         }
         let key = self.bytes_at(2);
         match self.0[0] {
@@ -256,6 +262,9 @@ fn every_edition_answers() {
         assert_eq!(clock, written.one("clock").number("clock"));
         assert_eq!(relay.announce_rate(), written.announce_rate());
         assert_eq!((relay.live_returns(clock), relay.live_hashes(clock)), (written.live("return", clock), written.live("hash", clock)));
+        for line in written.all("port") {
+            assert_eq!(relay.port(line.place() as u8).expect("a port").size as u64, line.size());
+        }
         for line in written.all("path") {
             let path = relay.path(line.place()).expect("a path");
             assert_eq!((path.destination.to_vec(), path.expiry), (line.bytes_at(2), line.number("expiry")));

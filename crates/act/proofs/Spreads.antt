@@ -18,7 +18,7 @@ use Rattle.packet.specs.Read.{longestPacket, payload, reads}
 use Rattle.packet.specs.Announce.{blobOf}
 use Rattle.numbers.specs.Numbers.{pathCount}
 use Rattle.rules.specs.Relay.{Slot, empty, used, Blobs, Path, Return, Relay}
-use Rattle.rules.specs.View.{View, viewAt, portOn}
+use Rattle.rules.specs.View.{View, viewAt, portOn, portSize}
 use Rattle.rules.specs.Arrival.{Arrival, header, destination}
 use Rattle.rules.specs.Ways.{Way, everywhere, by-path, along-link, by-return, blocked, pathWay, linkWay, returnWay, wayOn}
 use Rattle.rules.specs.Tests.{isThere, revives, noRoom}
@@ -47,7 +47,7 @@ use Rattle.plan.specs.Kinds.{revivedBy}
 use Rattle.plan.proofs.KindLaws.{announce-long}
 use Rattle.plan.proofs.AnnounceLaws.{can-know}
 use Rattle.act.specs.Stored.{blobsStored, rateKnown, rateStored, pathPut}
-use Rattle.act.specs.Acted.{AcceptedOn, planOn, verdictOn, writtenOn, outputOn, CarriesOut, spreadOn, spreadVerdictOn, announcedBy}
+use Rattle.act.specs.Acted.{AcceptedOn, planOn, verdictOn, writtenOn, outputOn, CarriesOut, spreadsTo, spreadOn, spreadVerdictOn, announcedBy}
 use Rattle.rules.proofs.Passed.{passed}
 use Rattle.act.proofs.Inverted.{inverted, at-place}
 use Rattle.act.proofs.Forwards.{can-leave}
@@ -102,30 +102,34 @@ module _ (packet : List ℕ) (m : Arrived) (t output : List ℕ) where
   Spreads x o =
       (x ≡ spreadVerdictOn packet m t) × (o ≡ (leaves x then patch output 0 sent otherwise output))
 
-  module _ (ports : ℕ) (all : ports ≡ portSet (λ port. portOn (relayOf t) port and not (eqb port (m .port)))) where
-    those : ports ≡ spreadPorts (seen m t) (arrivalOf packet m)
-    unfolding spreadPorts viewAt
-    those = all
+  module _ (h : reads longestPacket packet ≡ true) (size : length t ≡ tableSize) where
+    exceeding : (n : ℕ) → exceeds sent n ≡ ltb n (spreadLength packet)
+    unfolding relayOf
+    exceeding = spread-exceeds (relayOf t .own) packet h (part-length t ownAt addressWidth (omega (arith, size)))
 
-    pub spread-none : ports ≡ 0 → Spreads Kept output
+    pub spread-long : (long : ℕ) → long ≡ spreadLength packet → longestPacket < long → Spreads Kept output
     unfolding spreadVerdict leaves _then_otherwise_
-    spread-none e = (sym (then-true _ _ (or-left _ (eq-eqb _ 0 (sym those ∙ e)))), refl)
+    spread-long long e l = (sym (then-true _ _ (or-right _ (exceeding longestPacket ∙ lt-ltb longestPacket (spreadLength packet) (omega (arith, e, l))))), refl)
 
-    module _ (h : reads longestPacket packet ≡ true) (size : length t ≡ tableSize) where
-      too-long : exceeds sent ≡ ltb longestPacket (spreadLength packet)
-      unfolding relayOf
-      too-long = spread-exceeds (relayOf t .own) packet h (part-length t ownAt addressWidth (omega (arith, size)))
+    module _ (long ports : ℕ) (e : long ≡ spreadLength packet) (all : ports ≡ portSet (spreadsTo (relayOf t) (m .port) long)) where
+      those : ports ≡ spreadPorts (seen m t) (arrivalOf packet m)
+      unfolding spreadPorts viewAt
+      those =
+          let r : Relay = relayOf t in
+          all
+          ∙ ap (λ (n : ℕ). portSet (spreadsTo r (m .port) n)) e
+          ∙ sym (λ i. portSet (λ port. portOn r port and not (eqb port (m .port)) and not (exceeding (portSize r port) i)))
 
-      pub spread-long : longestPacket < spreadLength packet → Spreads Kept output
+      pub spread-none : ports ≡ 0 → Spreads Kept output
       unfolding spreadVerdict leaves _then_otherwise_
-      spread-long l = (sym (then-true _ _ (or-right _ (too-long ∙ lt-ltb _ _ l))), refl)
+      spread-none z = (sym (then-true _ _ (or-left _ (eq-eqb _ 0 (sym those ∙ z)))), refl)
 
-      pub spread-sent : (ports ≡ 0 → ⊥) → spreadLength packet ≤ longestPacket → (own : List ℕ) → own ≡ relayOf t .own
+      pub spread-sent : (ports ≡ 0 → ⊥) → long ≤ longestPacket → (own : List ℕ) → own ≡ relayOf t .own
           → (n : ℕ) (o : List ℕ) → n ≡ length (spreadPacket own packet) → o ≡ patch output 0 (spreadPacket own packet) → Spreads (Spread ports n) o
       unfolding spreadVerdict leaves _then_otherwise_ viewAt
       spread-sent some short own is n o q1 q2 =
           let same : spreadPacket own packet ≡ sent = ap (λ (x : List ℕ). spreadPacket x packet) is in
-          let goes = or-no (ne-eqb _ 0 (λ z. some (those ∙ z))) (too-long ∙ le-ltb _ _ short) in
+          let goes = or-no (ne-eqb _ 0 (λ z. some (those ∙ z))) (exceeding longestPacket ∙ le-ltb longestPacket (spreadLength packet) (omega (arith, e, short))) in
           (ap₂ Spread those (q1 ∙ ap length same) ∙ sym (then-false _ _ goes), q2 ∙ ap (patch output 0) same)
 
 -- ---- all of it

@@ -1,13 +1,16 @@
 -- What an accepted packet leaves: the rules' verdict, tables and output, on the bytes.
 -- For the contracts of helpers: not part of what a reader must believe.
 use Prim.Native.Nat.{ℕ, _≤_, _<_}
-use mathlib.Core.Bool.{Bool, true}
+use mathlib.Core.Bool.{Bool, true, not}
 use mathlib.Core.List.{List}
 use mathlib.Core.Path.{_≡_}
+use lib.Dec.{eqb, ltb}
 use lib.ListN.{length}
+use Rattle.octets.specs.Index.{_and_}
 use Rattle.packet.specs.Read.{longestPacket, reads}
 use Rattle.numbers.specs.Numbers.{portCount, clockLimit}
-use Rattle.rules.specs.View.{View}
+use Rattle.rules.specs.Relay.{Relay}
+use Rattle.rules.specs.View.{View, portOn, portSize}
 use Rattle.rules.specs.Arrival.{Arrival, hops, destination}
 use Rattle.rules.specs.Outgoing.{spreadPorts, spreadPacket, pathPacket}
 use Rattle.rules.specs.Judging.{Plan, plan, spreadVerdict, verdict, outputAfter}
@@ -75,6 +78,10 @@ droppedOn packet m reason t = bytesOf (writeDrop (seen m t) (arrivalOf packet m)
 -- by the path at a place
 abbrev pub forwardedOn : List ℕ → List ℕ → ℕ → List ℕ
 forwardedOn packet t path = pathPacket (pathAt t path .hops) (pathAt t path .nextHop) packet
+
+-- whether an announce that came in by a port, and is so long once spread, leaves by another
+abbrev pub spreadsTo : Relay → ℕ → ℕ → ℕ → Bool
+spreadsTo r arrival long port = portOn r port and not (eqb port arrival) and not (ltb (portSize r port) long)
 
 -- an announce that is spread
 abbrev pub spreadOn : List ℕ → List ℕ → List ℕ

@@ -9,16 +9,13 @@ use rules::RateEntry;
 use rules::Verdict;
 use update::Announced;
 ghost use mathlib.Core.Path.{_≡_};
-ghost use mathlib.Core.Bool.{true, not};
+ghost use mathlib.Core.Bool.{true};
 ghost use Prim.Native.Nat.{_≤_, _<_};
-ghost use lib.Dec.{eqb};
 ghost use lib.ListN.{length};
-ghost use Rattle.octets.specs.Index.{_and_};
 ghost use Rattle.octets.specs.Choice.{_then_otherwise_};
 ghost use Rattle.packet.specs.Read.{longestPacket, reads};
 ghost use Rattle.octets.specs.Part.{patch};
 ghost use Rattle.numbers.specs.Numbers.{portCount, pathCount, clockLimit, pathLifetime};
-ghost use Rattle.rules.specs.View.{portOn};
 ghost use Rattle.rules.specs.Answers.{portSet};
 ghost use Rattle.rules.specs.Judging.{leaves};
 ghost use Rattle.rules.specs.Writes.{nextHopOf};
@@ -28,7 +25,7 @@ ghost use Rattle.outgoing.specs.Leaving.{CanLeave};
 ghost use Rattle.plan.specs.declared.Decision.the-variants.{Announce};
 ghost use Rattle.plan.specs.Decided.{arrivalOf, CanRead, CanKnow, seen};
 ghost use Rattle.act.specs.Stored.{rateStored, pathPut};
-ghost use Rattle.act.specs.Acted.{CanCarryOut, CarriesOut, spreadOn, spreadVerdictOn, announcedBy};
+ghost use Rattle.act.specs.Acted.{CanCarryOut, CarriesOut, spreadsTo, spreadOn, spreadVerdictOn, announcedBy};
 
 // The number of ports as a byte.
 const PORTS: u8 = PORT_COUNT as u8;
@@ -124,22 +121,23 @@ fn put_path(tables: &mut [u8], place: usize, known: bool, path: Announced, blob:
     update::put_new_path(tables, place, path, blob);
 }
 
-// The ports that an announce is spread to: all that are on but the arrival port.
-fn spread_ports(tables: &[u8], arrival: u8) -> u16
+// The ports that an announce of this length is spread to: all that are on but the arrival port, and carry it.
+fn spread_ports(tables: &[u8], arrival: u8, long: usize) -> u16
     requires { ⌜ length (now tables) ≡ tableSize ⌝ }
-    ensures { λ r. ⌜ r ≡ portSet (λ port. portOn (relayOf (now (tables .entry))) port and not (eqb port arrival)) ⌝ }
+    ensures { λ r. ⌜ r ≡ portSet (spreadsTo (relayOf (now (tables .entry))) arrival long) ⌝ }
 {
     let mut ports: u16 = 0;
     let mut i: u8 = 0;
     while i < PORTS {
         let on = lookup::port_on(tables, octets::wide(i));
-        ports = outgoing::with_spread_port(ports, i, on, arrival);
+        let size = lookup::port_size(tables, octets::wide(i));
+        ports = outgoing::with_spread_port(ports, i, on, size, arrival, long);
         i += 1;
     }
     ports
 }
 
-// Spreads an announce, or keeps it: if no port is left, or the result exceeds 500, the output stays.
+// Spreads an announce, or keeps it: if the result exceeds 500, or no port is left, the output stays.
 fn spread(packet: &[u8], tables: &[u8], arrived: Arrived, output: &mut [u8]) -> Verdict
     requires { ⌜ CanLeave (now packet) × (length (now tables) ≡ tableSize) × (longestPacket ≤ length (now output)) ⌝ }
     ensures { λ r. ⌜ (r ≡ spreadVerdictOn (now (packet .entry)) arrived (now (tables .entry)))
@@ -147,11 +145,12 @@ fn spread(packet: &[u8], tables: &[u8], arrived: Arrived, output: &mut [u8]) -> 
         then patch (now (output .entry)) 0 (spreadOn (now (packet .entry)) (now (tables .entry)))
         otherwise now (output .entry))) ⌝ }
 {
-    let ports = spread_ports(tables, arrived.port);
-    if ports == 0 {
+    let long = outgoing::spread_length(packet);
+    if long > LONGEST_PACKET {
         return Verdict::Kept;
     }
-    if outgoing::spread_length(packet) > LONGEST_PACKET {
+    let ports = spread_ports(tables, arrived.port, long);
+    if ports == 0 {
         return Verdict::Kept;
     }
     let length = outgoing::spread(packet, lookup::own_address(tables), output);

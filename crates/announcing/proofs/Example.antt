@@ -108,7 +108,7 @@ own-size : length (builtIn (example oldRatchet) signature room ratchet-accepted)
 own-size = ap length (built-stands (example oldRatchet) signature room ratchet-accepted) ∙ announce-length (example oldRatchet) signature
 
 abbrev back : GivesBack 201 (builtIn (example oldRatchet) signature room ratchet-accepted) (example oldRatchet) signature
-back = built-read (example oldRatchet) signature room ratchet-accepted 201 (rw own-size (lit≤ tt))
+back = built-read (example oldRatchet) signature room ratchet-accepted 201 (rw own-size (lit≤ tt)) (lit≤ tt)
 
 pub clock-back : emissionOf (blobOf (payload (builtIn (example oldRatchet) signature room ratchet-accepted))) ≡ 1700000000
 clock-back = back .clock

@@ -1,5 +1,5 @@
 -- Wish 12: "reading it gives the parts back", and the signing bytes are those of the announce that is built. For all that is given, signatures, rooms
--- and sizes of the longest packet:
+-- and sizes:
 --   built-read      what stands in the room after a building that nothing refused reads, at every size no smaller than it, and gives the parts back;
 --   signed-exactly  what stands in the room after the signing bytes were laid out is what the announce's own parts say is signed;
 --   refused-alike   the signing bytes are refused as the announce is, whatever the signature's 64 bytes.
@@ -10,7 +10,7 @@ use lib.ListN.{length, take}
 use borrow.Author.Tests.{eq-eqb}
 use Rattle.octets.specs.Choice.{_then_otherwise_}
 use Rattle.octets.specs.Part.{part}
-use Rattle.packet.specs.Read.{headerOf, payload, reads, reading}
+use Rattle.packet.specs.Read.{longestPacket, headerOf, payload, reads, reading}
 use Rattle.packet.specs.Write.{packetOf}
 use Rattle.packet.specs.Announce.{keysOf, nameHashOf, blobOf, emissionOf, ratchetOf, signatureOf, appDataOf}
 use Rattle.packet.proofs.ListLaws.{patched-start}
@@ -21,8 +21,8 @@ use Rattle.announcing.proofs.Lengths.{parts-wide, refusal-by, Buildable
 use Rattle.announcing.proofs.Fields.{head-free, built-header, built-payload, built-parts, keys-found, name-found, blob-found, random-found, clock-found, ratchet-found, signature-found, app-data-found}
 
 -- what a packet gives back
-pub record GivesBack (longest : ℕ) (p : List ℕ) (a : Announce) (s : List ℕ) : Type 0 where
-  pub head : reading longest p ≡ record { refusal = 0; parts = partsFor a }
+pub record GivesBack (size : ℕ) (p : List ℕ) (a : Announce) (s : List ℕ) : Type 0 where
+  pub head : reading size p ≡ record { refusal = 0; parts = partsFor a }
   pub keys : keysOf (payload p) ≡ a .keys
   pub nameHash : nameHashOf (payload p) ≡ a .nameHash
   pub random : part (blobOf (payload p)) 0 5 ≡ a .random
@@ -32,19 +32,20 @@ pub record GivesBack (longest : ℕ) (p : List ℕ) (a : Announce) (s : List ℕ
   pub appData : appDataOf (headerOf p) (payload p) ≡ a .appData
 
 module _ (a : Announce) (signature : List ℕ) {room : ℕ} (b : Buildable a signature room) where
-  pub announce-reads : (longest : ℕ) → length (announceWith a signature) ≤ longest
-      → reading longest (announceWith a signature) ≡ record { refusal = 0; parts = partsFor a }
+  pub announce-reads : (size : ℕ) → length (announceWith a signature) ≤ size → size ≤ longestPacket
+      → reading size (announceWith a signature) ≡ record { refusal = 0; parts = partsFor a }
   unfolding announceWith
-  announce-reads longest l =
+  announce-reads size l m =
       let p = packetOf (partsFor a) (payloadWith a signature) in
-      let r : reads longest p ≡ _ =
-      write-reads (partsFor a) (payloadWith a signature) (parts-wide a) longest l (head-free (destination a) (length (a .ratchet))) in
-      sym (answer-read longest p (partsFor a) (accepted longest p (reads-readable longest p r)) (sym (built-parts a signature)))
+      let r : reads size p ≡ _ =
+      write-reads (partsFor a) (payloadWith a signature) (parts-wide a) size l m (head-free (destination a) (length (a .ratchet))) in
+      sym (answer-read size p (partsFor a) (accepted size p (reads-readable size p r)) (sym (built-parts a signature)))
 
-  pub announce-gives-back : (longest : ℕ) → length (announceWith a signature) ≤ longest → GivesBack longest (announceWith a signature) a signature
-  announce-gives-back longest l =
+  pub announce-gives-back : (size : ℕ) → length (announceWith a signature) ≤ size → size ≤ longestPacket
+      → GivesBack size (announceWith a signature) a signature
+  announce-gives-back size l m =
       record {
-        head = announce-reads longest l;
+        head = announce-reads size l m;
         keys = rw (built-payload a signature) (keys-found a signature b);
         nameHash = rw (built-payload a signature) (name-found a signature b);
         random = rw (built-payload a signature, blob-found a signature b) (random-found a signature b);
@@ -83,11 +84,11 @@ module _ (a : Announce) (signature room : List ℕ) (z : announceRefusal a signa
   unfolding building
   built-stands = laid-stands (announceRefusal a signature (length room)) (announceWith a signature) room z
 
-  pub built-read : (longest : ℕ) → length builtIn ≤ longest → GivesBack longest builtIn a signature
-  built-read longest l =
+  pub built-read : (size : ℕ) → length builtIn ≤ size → size ≤ longestPacket → GivesBack size builtIn a signature
+  built-read size l m =
       let b = buildable a signature (length room) z in
-      subst (λ (p : List ℕ). GivesBack longest p a signature) (sym built-stands)
-      (announce-gives-back a signature b longest (subst (λ (p : List ℕ). length p ≤ longest) built-stands l))
+      subst (λ (p : List ℕ). GivesBack size p a signature) (sym built-stands)
+      (announce-gives-back a signature b size (subst (λ (p : List ℕ). length p ≤ size) built-stands l) m)
 
   -- laid out in any room of 500 bytes or more
   pub signed-exactly : (other : List ℕ) → announceRefusal a anySignature (length other) ≡ 0

@@ -20,9 +20,9 @@ use Rattle.packet.specs.Read.{headerOf, longestPacket, readingRows, readingRefu
 use Rattle.packet.specs.Write.{leastOutput, packetOf, writingRows, writingRefusal, Writing, writing}
 use Rattle.packet.specs.Hash.{packetHashAnswer, linkIdAnswer}
 use Rattle.packet.specs.declared.Parts.{Parts}
-use Rattle.numbers.specs.Numbers.{portCount, localCount, modeCount, clockLimit}
+use Rattle.numbers.specs.Numbers.{portCount, localCount, modeCount, isSize, clockLimit}
 use Rattle.rules.specs.Relay.{makeRateSettings, Port, Slot, empty, used, Relay}
-use Rattle.rules.specs.View.{portOn, isLocal, viewAt}
+use Rattle.rules.specs.View.{portOn, portSize, isLocal, viewAt}
 use Rattle.rules.specs.Renumbering.{oneToOne}
 use Rattle.rules.specs.Arrival.{Arrival}
 use Rattle.rules.specs.Tests.{isThere}
@@ -33,6 +33,7 @@ use Rattle.rules.specs.Run.{Call, packet, on-tables, asks, saves, loads, port-s
 use Rattle.rules.specs.Questions.{Question, port-settings, rate-settings, local-at, path-at, link-at, live-path, live-returns, live-hashes, last-clock, word-matters, Told, none, a-port, an-address, a-path, a-link, cameWith, toldOf, rowSeven, questionRule, questionRefusal, tell}
 use Rattle.rules.specs.declared.Answer.the-variants.{Refused}
 use Rattle.rules.specs.declared.Tally.{Tally}
+use Rattle.rules.proofs.Accepted.{arrival-size}
 use Rattle.tables.specs.Places.{tableSize}
 use Rattle.tables.specs.Layout.{relayOf, wellFormed}
 use Rattle.tables.proofs.Whole.{again, ok-relay}
@@ -158,7 +159,7 @@ after-seven t below = go (wellFormed t) refl
     go true h = rw (h, ok-relay t h)
     go false h = rw h
 
--- a packet: 7, 6, 4, 5, 1, 2, 3, 1
+-- a packet: 7, 6, 4, 5, 1, 2, 3, 1. Well-formed tables hold no size outside the range, so that the reader's 9 isn't given
 pub packet-rows : (a : Arrival) (output tables : List ℕ)
     → refusalOn (packet a output) tables
     ≡ (not (wellFormed tables) then 7 otherwise
@@ -166,18 +167,38 @@ pub packet-rows : (a : Arrival) (output tables : List ℕ)
     not (portOn (relayOf tables) (a .port)) then 4 otherwise
     leb clockLimit (a .clock) or ltb (a .clock) (relayOf tables .clock) then 5 otherwise
     ltb (length (a .bytes)) 19 then 1 otherwise
-    ltb longestPacket (length (a .bytes)) then 2 otherwise
+    ltb (portSize (relayOf tables) (a .port)) (length (a .bytes)) then 2 otherwise
     accessCode (headerOf (a .bytes)) then 3 otherwise
     typeTwo (headerOf (a .bytes)) and ltb (length (a .bytes)) 35 then 1 otherwise 0)
-unfolding refusalOn afterSeven refusal refusalBy packetRows firstOf readingRefusal readingRows
-packet-rows a output tables = after-seven tables _
+unfolding refusalOn afterSeven refusal refusalBy packetRows firstOf readingRefusal readingRows _then_otherwise_
+packet-rows a output tables = after-seven tables (below (isSize size)) ∙ go (wellFormed tables) refl
+  where
+    size : ℕ
+    size = portSize (relayOf tables) (a .port)
+
+    below : Bool → ℕ
+    below sized =
+        ltb (length output) leastOutput then 6 otherwise
+        not (portOn (relayOf tables) (a .port)) then 4 otherwise
+        leb clockLimit (a .clock) or ltb (a .clock) (relayOf tables .clock) then 5 otherwise
+        not sized then 9 otherwise
+        ltb (length (a .bytes)) 19 then 1 otherwise
+        ltb size (length (a .bytes)) then 2 otherwise
+        accessCode (headerOf (a .bytes)) then 3 otherwise
+        typeTwo (headerOf (a .bytes)) and ltb (length (a .bytes)) 35 then 1 otherwise 0
+
+    go : (v : Bool) → wellFormed tables ≡ v
+        → (not (wellFormed tables) then 7 otherwise below (isSize size)) ≡ (not (wellFormed tables) then 7 otherwise below true)
+    go true h =
+        ap (λ (sized : Bool). not (wellFormed tables) then 7 otherwise below sized) (arrival-size (relayOf tables) (ok-relay tables h) (a .port))
+    go false h = rw h
 
 -- setting a port: 7, 9
-pub port-rows : (port : ℕ) (on : Bool) (mode : ℕ) (tables : List ℕ)
-    → refusalOn (port-setting port on mode) tables
-    ≡ (not (wellFormed tables) then 7 otherwise leb portCount port or leb modeCount mode then 9 otherwise 0)
+pub port-rows : (port : ℕ) (on : Bool) (mode size : ℕ) (tables : List ℕ)
+    → refusalOn (port-setting port on mode size) tables
+    ≡ (not (wellFormed tables) then 7 otherwise leb portCount port or leb modeCount mode or not (isSize size) then 9 otherwise 0)
 unfolding refusalOn afterSeven refusal tableRefusal ruleOf firstOf
-port-rows port on mode tables = after-seven tables _
+port-rows port on mode size tables = after-seven tables _
 
 -- setting the announce rate: 7, 9
 pub rate-rows : (target grace penalty : ℕ) (tables : List ℕ)
@@ -265,15 +286,16 @@ hashing-rows m = go (ltb 65535 (length m)) refl
     go true t = ap (λ (d : Digest). d .refusal) (answer-long m (ltb-true 65535 (length m) t)) ∙ sym (then-true 2 0 t)
     go false t = ap (λ (d : Digest). d .refusal) (answer-short m (ltb-false 65535 (length m) t)) ∙ sym (then-false 2 0 t)
 
--- reading, the packet hash and the link id: 1, 2, 3, 1
-pub reading-rows : (p : List ℕ)
-    → reading longestPacket p .refusal
-    ≡ (ltb (length p) 19 then 1 otherwise
-    ltb longestPacket (length p) then 2 otherwise
+-- reading against a size: 9, 1, 2, 3, 1. The packet hash and the link id read at 500
+pub reading-rows : (size : ℕ) (p : List ℕ)
+    → reading size p .refusal
+    ≡ (not (isSize size) then 9 otherwise
+    ltb (length p) 19 then 1 otherwise
+    ltb size (length p) then 2 otherwise
     accessCode (headerOf p) then 3 otherwise
     typeTwo (headerOf p) and ltb (length p) 35 then 1 otherwise 0)
 unfolding reading readingRefusal readingRows firstOf
-reading-rows p = refl
+reading-rows size p = refl
 
 pub hash-rows : (p : List ℕ)
     → (packetHashAnswer longestPacket p .refusal ≡ reading longestPacket p .refusal)

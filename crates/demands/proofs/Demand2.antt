@@ -15,9 +15,8 @@ use Rattle.packet.specs.Read.{payload, longestPacket, reads, reading}
 use Rattle.packet.specs.Write.{packetOf, leastOutput, writingRefusal, writing, readBack}
 use Rattle.packet.specs.declared.Parts.{Parts}
 use Rattle.packet.proofs.ListLaws.{patched-start}
-use Rattle.packet.proofs.ReadLaws.{reads-readable}
 use Rattle.packet.specs.Write.{Wide}
-use Rattle.packet.proofs.WriteLaws.{writable, writing-done}
+use Rattle.packet.proofs.WriteLaws.{writing-done}
 use Rattle.packet.proofs.RoundTrip.{reading-writing, writing-reading, write-payload}
 use Rattle.rules.specs.Relay.{Relay, fresh}
 use Rattle.rules.specs.Refusals.{tablesOk}
@@ -201,21 +200,20 @@ module _ (buffer own : List ℕ) (size : length buffer ≡ tableSize) where
       rw (follows .answers, follows .tally) (history-since-fresh cs (fresh own) none)
 
 -- ---- reading and writing a packet undo each other
--- the parts that a reading gives, written with the payload: the packet stands at the output's start, byte for byte
-pub read-then-written : (p output : List ℕ) → reads longestPacket p ≡ true → leastOutput ≤ length output
-    → writing (reading longestPacket p .parts) (payload p) output ≡ record { answer = record { refusal = 0; length = length p }; output = patch output 0 p }
-read-then-written p output h room = reading-writing longestPacket p h output (reads-readable longestPacket p h .fits) room
+-- the parts that a reading gives, against any size, written with the payload: the packet stands at the output's start, byte for byte
+pub read-then-written : (size : ℕ) (p output : List ℕ) → reads size p ≡ true → leastOutput ≤ length output
+    → writing (reading size p .parts) (payload p) output ≡ record { answer = record { refusal = 0; length = length p }; output = patch output 0 p }
+read-then-written size p output h room = reading-writing size p h output room
 
 -- what a writing that nothing refuses leaves at the output's start reads as the parts, in type 1 with zeros for the relay address, and as
--- the payload
+-- the payload. Wish 11: "Writing keeps to 500, and demand 2's reading back is at any size no smaller than the packet"
 module _ (q : Parts) (body output : List ℕ) (wide : Wide q) (z : writingRefusal (length output) q body ≡ 0) where
   start : take (writing q body output .answer .length) (writing q body output .output) ≡ packetOf q body
   start = rw (writing-done q body output z) (patched-start output (packetOf q body) (length (packetOf q body)) refl)
 
-  pub written-then-read : reading longestPacket (take (writing q body output .answer .length) (writing q body output .output))
-      ≡ record { refusal = 0; parts = readBack q }
-  written-then-read =
-      writing-reading q body wide longestPacket output z (rw (writing-done q body output z) (writable (length output) q body z .fits))
+  pub written-then-read : (size : ℕ) → writing q body output .answer .length ≤ size → size ≤ longestPacket
+      → reading size (take (writing q body output .answer .length) (writing q body output .output)) ≡ record { refusal = 0; parts = readBack q }
+  written-then-read size = writing-reading q body wide size output z
 
   pub written-payload : payload (take (writing q body output .answer .length) (writing q body output .output)) ≡ body
   written-payload = ap payload start ∙ write-payload q body wide

@@ -11,10 +11,11 @@ use Rattle.tables.specs.Layout.{relayOf}
 use Rattle.demands.specs.Bytes.{performOn}
 use Rattle.demands.specs.Refusals.{refusalOn}
 
--- each keepalive that isn't refused is forwarded and renews the link, and the link is live and proved after every call
+-- each keepalive that isn't refused, nor too long for the port of the other side, is forwarded and renews the link, and the link is live and proved after
+-- every call
 unfoldable pub LastsOn : Link → List Call → List ℕ → Tally → Type 0
 LastsOn l [] tables tally = Unit {0}
 LastsOn l (c ∷ cs) tables tally =
-    CarriedIf l c (eqb (refusalOn c tables) 0) (performOn c tables tally .reply) (relayOf (performOn c tables tally .tables))
+    CarriedIf l c (eqb (refusalOn c tables) 0) (relayOf tables) (performOn c tables tally .reply) (relayOf (performOn c tables tally .tables))
     × IsUp l (relayOf (performOn c tables tally .tables))
     × LastsOn l cs (performOn c tables tally .tables) (performOn c tables tally .tally)

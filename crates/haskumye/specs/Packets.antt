@@ -21,8 +21,8 @@ unfoldable pub partsBytes : Parts → List ℕ
 partsBytes q = q .header ∷ q .hops ∷ (q .relay ++ (q .destination ++ (q .context ∷ [])))
 
 -- the buffer for a packet's parts, for its hash and for its link id, after the call
-abbrev pub partsAfter : List ℕ → List ℕ → List ℕ
-partsAfter p old = bufferAfter (reading longestPacket p .refusal) (partsBytes (reading longestPacket p .parts)) old
+abbrev pub partsAfter : ℕ → List ℕ → List ℕ → List ℕ
+partsAfter size p old = bufferAfter (reading size p .refusal) (partsBytes (reading size p .parts)) old
 
 abbrev pub hashAfter : List ℕ → List ℕ → List ℕ
 hashAfter p old = bufferAfter (packetHashAnswer longestPacket p .refusal) (packetHashAnswer longestPacket p .bytes) old

@@ -8,6 +8,7 @@ use Rattle.octets.specs.Part.{part, joined}
 use Rattle.octets.specs.Choice.{_then_otherwise_}
 use Rattle.octets.specs.Listed.{firstOf}
 use Rattle.packet.specs.Header.{accessCode, typeTwo, transport, destinationKind, packetKind}
+use Rattle.numbers.specs.Numbers.{isSize}
 use Rattle.packet.specs.Read.{typeOneParts, typeTwoParts, partsOf, payloadStart, payload, readingRows, readingRefusal, reads}
 use Rattle.text.specs.Numerals.{digit, numeralWithin, numeral, hexadecimalByte, hexadecimal}
 use Rattle.text.specs.Words.{spaced, wordsLine}
@@ -37,5 +38,5 @@ exampleLine =
 pub example : lineText examplePacket ≡ exampleLine
 unfolding digit numeralWithin numeral hexadecimalByte hexadecimal typeName transportName kindWord relayWords partsWords lineWords spaced wordsLine
     lineText accessCode typeTwo transport destinationKind packetKind typeOneParts typeTwoParts partsOf payloadStart payload readingRows readingRefusal
-    reads firstOf part joined _and_ _then_otherwise_
+    reads isSize firstOf part joined _and_ _then_otherwise_
 example = refl

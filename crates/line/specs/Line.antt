@@ -54,7 +54,7 @@ partsWords q payloadLength =
     ++ (payloadWords (q .context) payloadLength
     ++ relayWords (q .header) (q .relay))))
 
--- a bad packet: `refused` and the number
+-- a bad packet: `refused` and the number. Wish 11: "Callers of the packet reader say which size they mean, the showing program and the edges 500"
 unfoldable pub lineWords : List ℕ → List (List ℕ)
 lineWords p =
     reads longestPacket p

@@ -1,25 +1,27 @@
 -- The searches of each table, and the ports, as the relay has them.
-use Prim.Native.Nat.{ℕ, _<_}
+use Prim.Native.Nat.{ℕ, _≤_, _<_}
+use native.Mathlib.Omega.{arith}
 use mathlib.Core.Bool.{Bool, true, false, not}
 use mathlib.Core.List.{List}
 use mathlib.Core.Path.{_≡_, refl, sym, ap, _∙_}
 use lib.Dec.{eqb}
-use lib.ListN.{length, getD}
+use lib.ListN.{length, getD, List·getD-eq-default}
 use borrow.Author.Tests.{lt-ltb}
 use Rattle.octets.specs.Index.{_and_}
 use Rattle.octets.specs.Choice.{same}
 use Rattle.octets.specs.Part.{part}
+use Rattle.octets.specs.BigEndian.{number}
 use Rattle.octets.proofs.Index.{and-yes}
 use Rattle.octets.proofs.Choice.{same-sym}
-use Rattle.numbers.specs.Numbers.{portCount, localCount, pathCount, linkCount, returnCount, hashCount, live}
-use Rattle.rules.specs.Relay.{Port}
-use Rattle.rules.specs.View.{portOn, portMode, localPlace, isLivePath, isLiveLink, isLiveReturn, isLiveHash, pathPlace, linkPlace, returnPlace, hashPlace, freePath, freeLink}
+use Rattle.numbers.specs.Numbers.{longestPacket, portCount, localCount, pathCount, linkCount, returnCount, hashCount, live}
+use Rattle.rules.specs.Relay.{Port, noPort}
+use Rattle.rules.specs.View.{portOn, portMode, portSize, localPlace, isLivePath, isLiveLink, isLiveReturn, isLiveHash, pathPlace, linkPlace, returnPlace, hashPlace, freePath, freeLink}
 use Rattle.rules.specs.Refusals.{emptyLocal}
-use Rattle.tables.specs.Places.{addressWidth, digestWidth, portsAt, portWidth, localsAt, localWidth, pathsAt, pathWidth, linksAt, linkWidth, returnsAt, returnWidth, hashesAt, hashWidth}
-use Rattle.tables.specs.Fields.{pathExpiryAt, linkExpiryAt, returnExpiryAt, hashExpiryAt}
+use Rattle.tables.specs.Places.{addressWidth, digestWidth, sizeWidth, portsAt, portWidth, localsAt, localWidth, pathsAt, pathWidth, linksAt, linkWidth, returnsAt, returnWidth, hashesAt, hashWidth}
+use Rattle.tables.specs.Fields.{portSizeAt, pathExpiryAt, linkExpiryAt, returnExpiryAt, hashExpiryAt}
 use Rattle.tables.specs.Records.{slotOf, portOf, localOf, pathOf, linkOf, returnOf, hashOf}
 use Rattle.tables.specs.Layout.{recordAt, relayOf}
-use Rattle.tables.proofs.Seen.{port-seen}
+use Rattle.tables.proofs.Seen.{port-seen, ports-length}
 use Rattle.lookup.specs.Search.{isUsed, hasKey, isLive, isLiveOf, lowestRow}
 use Rattle.lookup.proofs.Searches.{lowest-used, lowest-free, lowest-live, lowest-cong}
 
@@ -32,6 +34,15 @@ module _ (t : List ℕ) where
   pub mode-seen : (port : ℕ) → port < portCount → portMode (relayOf t) port ≡ getD (recordAt portsAt portWidth t port) 1 0
   unfolding portMode portOf
   mode-seen port l = ap (λ (p : Port). p .mode) (port-seen t port l)
+
+  pub size-seen : (port : ℕ) → port < portCount → portSize (relayOf t) port ≡ number (part (recordAt portsAt portWidth t port) portSizeAt sizeWidth)
+  unfolding portSize portOf
+  size-seen port l = ap (λ (p : Port). p .size) (port-seen t port l)
+
+  -- a number outside the sixteen
+  pub size-none : (port : ℕ) → portCount ≤ port → portSize (relayOf t) port ≡ longestPacket
+  unfolding portSize
+  size-none port l = ap (λ (p : Port). p .size) (List·getD-eq-default (relayOf t .ports) noPort {n = port} (omega (arith, ports-length t)))
 
   -- ---- local addresses
   pub local-lowest : (address : List ℕ) → length address ≡ addressWidth

@@ -30,6 +30,7 @@ pub use paths::path_port;
 pub use paths::path_rate;
 pub use ports::port_mode;
 pub use ports::port_on;
+pub use ports::port_size;
 pub use returns::return_arrival;
 pub use returns::return_leaving;
 pub use returns::return_place;

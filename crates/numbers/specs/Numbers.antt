@@ -1,12 +1,20 @@
 -- Document 01, "Numbers", and the lengths of "Packet layout" and of the list of refusals.
 use Prim.Native.Nat.{ℕ, _+_, _*_, _^_}
 use mathlib.Core.Bool.{Bool, true, false}
-use lib.Dec.{eqb, ltb}
+use lib.Dec.{eqb, ltb, leb}
+use Rattle.octets.specs.Index.{_and_}
 use Rattle.octets.specs.Choice.{_then_otherwise_}
 
 -- the longest packet
 abbrev pub longestPacket : ℕ
 longestPacket = 500
+
+-- document 02, wish 11: "Each port gets a size from 19 to 500", of the longest packet that it carries
+abbrev pub leastSize : ℕ
+leastSize = 19
+
+unfoldable pub isSize : ℕ → Bool
+isSize size = leb leastSize size and leb size longestPacket
 
 -- an output buffer must have room for the longest packet, however short this one is
 abbrev pub leastOutput : ℕ

@@ -7,6 +7,9 @@ pub const LONGEST_PACKET: usize = 500;
 
 pub const LEAST_OUTPUT: usize = 500;
 
+// The least size of a port; the greatest is the longest packet.
+pub const LEAST_SIZE: usize = 19;
+
 pub const PORT_COUNT: usize = 16;
 
 pub const LOCAL_COUNT: usize = 16;

@@ -2,26 +2,30 @@
 use Prim.Native.Nat.{ℕ, _+_, _%_, _≤_, _<_}
 use native.Mathlib.Nat.{not-suc-le-zero, le-of-suc-le-suc}
 use native.Mathlib.Omega.{arith}
-use mathlib.Core.Bool.{true, false}
+use mathlib.Core.Bool.{Bool, true, false}
 use mathlib.Core.List.{List, [], _∷_, _++_, append-assoc}
 use mathlib.Core.Path.{_≡_, refl, sym, ap, _∙_}
+use lib.Dec.{eqb}
 use lib.ListN.{length, getD, set}
+use borrow.Author.Tests.{eqb-true, eqb-false}
+use Rattle.octets.specs.Choice.{_then_otherwise_}
 use Rattle.octets.specs.Part.{patch}
 use Rattle.octets.proofs.Part.{patch-join}
+use Rattle.octets.proofs.Choice.{then-true, then-false}
 use Rattle.packet.specs.Header.{typeTwo}
-use Rattle.packet.specs.Read.{headerOf, payloadStart, payload, reads}
+use Rattle.packet.specs.Read.{headerOf, noAddress, payloadStart, payload, reads}
 use Rattle.packet.specs.Write.{addresses, packetOf}
 use Rattle.packet.specs.declared.Parts.{Parts}
 use Rattle.packet.proofs.ReadLaws.{start-one, start-least, reads-readable}
 use Rattle.packet.proofs.WriteLaws.{packet-length}
-use Rattle.rules.specs.Outgoing.{rewritten, spreadHeader, carriedPacket, spreadPacket}
-use Rattle.rules.proofs.Lengths.{last-hop-start, spread-start, body-length, rewritten-wide, rewritten-length, carried-is}
-use Rattle.outgoing.specs.Leaving.{rewrittenParts, spreadLength}
+use Rattle.rules.specs.Outgoing.{rewritten, spreadHeader, pathPacket, carriedPacket, spreadPacket}
+use Rattle.rules.proofs.Lengths.{last-hop-start, spread-start, body-length, rewritten-wide, rewritten-length, path-last, path-next-hop, carried-is}
+use Rattle.outgoing.specs.Leaving.{rewrittenParts, spreadLength, pathLength}
 
 -- ---- a packet that reads
-module _ (longest : ℕ) (p : List ℕ) (h : reads longest p ≡ true) where
+module _ (size : ℕ) (p : List ℕ) (h : reads size p ≡ true) where
   pub whole : payloadStart (headerOf p) ≤ length p
-  whole = reads-readable longest p h .whole
+  whole = reads-readable size p h .whole
 
   pub long : 19 ≤ length p
   long = omega (arith, start-least (headerOf p), whole)
@@ -30,7 +34,7 @@ module _ (longest : ℕ) (p : List ℕ) (h : reads longest p ≡ true) where
   pub spread-length : (own : List ℕ) → length own ≡ 16 → length (spreadPacket own p) ≡ spreadLength p
   unfolding spreadPacket spreadLength
   spread-length own wide =
-      rewritten-length longest p h (spreadHeader (headerOf p)) own wide
+      rewritten-length size p h (spreadHeader (headerOf p)) own wide
       ∙ ap (λ (k : ℕ). k + length (payload p)) (spread-start (headerOf p))
 
   pub spread-result : (own : List ℕ) → length own ≡ 16 → (body : List ℕ) → body ≡ payload p → 35 + length body ≡ length (spreadPacket own p)
@@ -40,13 +44,29 @@ module _ (longest : ℕ) (p : List ℕ) (h : reads longest p ≡ true) where
   -- type 1 grows by 16 bytes, so that 484 bytes are the most that spread
   pub spread-one : typeTwo (headerOf p) ≡ false → spreadLength p ≡ length p + 16
   unfolding spreadLength
-  spread-one e = omega (arith, body-length longest p h, start-one (headerOf p) e)
+  spread-one e = omega (arith, body-length size p h, start-one (headerOf p) e)
 
   -- by a path: on the last hop a packet of type 2 loses the relay address, and otherwise it stays as long
   pub path-room : (payloadStart (headerOf p % 16) + length (payload p) ≤ length p) × (payloadStart (headerOf p) + length (payload p) ≤ length p)
   path-room =
-      let body = body-length longest p h in
+      let body = body-length size p h in
       (omega (arith, body, start-least (headerOf p), last-hop-start (headerOf p)), omega (arith, body))
+
+  pub path-length : (hops : ℕ) (nextHop : List ℕ) → length nextHop ≡ 16 → length (pathPacket hops nextHop p) ≡ pathLength hops p
+  unfolding pathLength
+  path-length hops nextHop wide = go (eqb hops 0) refl
+    where
+      go : (b : Bool) → eqb hops 0 ≡ b → length (pathPacket hops nextHop p) ≡ (eqb hops 0 then 19 + length (payload p) otherwise length p)
+      go true e =
+          ap length (path-last hops nextHop p (eqb-true hops 0 e))
+          ∙ rewritten-length size p h (headerOf p % 16) noAddress refl
+          ∙ ap (λ (k : ℕ). k + length (payload p)) (last-hop-start (headerOf p))
+          ∙ sym (then-true _ _ e)
+      go false e =
+          ap length (path-next-hop hops nextHop p (eqb-false hops 0 e))
+          ∙ rewritten-length size p h (headerOf p) nextHop wide
+          ∙ body-length size p h
+          ∙ sym (then-false _ _ e)
 
 -- ---- what the code writes
 -- a head, which is a packet without payload, and the payload behind it
@@ -54,12 +74,12 @@ head-body : (q : Parts) (body : List ℕ) → packetOf q [] ++ body ≡ packetOf
 unfolding packetOf
 head-body q body = ap (λ (r : List ℕ). q .header ∷ q .hops ∷ r) (append-assoc (addresses q) (q .context ∷ []) body)
 
-module _ (longest : ℕ) (out own p : List ℕ) (h : reads longest p ≡ true) (wide : length own ≡ 16) (room : spreadLength p ≤ length out) where
+module _ (size : ℕ) (out own p : List ℕ) (h : reads size p ≡ true) (wide : length own ≡ 16) (room : spreadLength p ≤ length out) where
   pub spread-written : patch (patch out 0 (packetOf (rewrittenParts (spreadHeader (headerOf p)) own p) [])) 35 (payload p) ≡ patch out 0 (spreadPacket own p)
   unfolding spreadPacket rewritten spreadLength
   spread-written =
       let q : Parts = rewrittenParts (spreadHeader (headerOf p)) own p in
-      let q-wide = rewritten-wide longest p h (spreadHeader (headerOf p)) own wide in
+      let q-wide = rewritten-wide size p h (spreadHeader (headerOf p)) own wide in
       let head : length (packetOf q []) ≡ 35 = packet-length q [] q-wide ∙ ap (λ (k : ℕ). k + 0) (spread-start (headerOf p)) in
       patch-join out 0 35 (packetOf q []) (payload p) (omega (arith, head)) room ∙ ap (patch out 0) (head-body q (payload p))
 

@@ -3,16 +3,12 @@ use Prim.Native.Nat.{ℕ, suc, _+_, _*_, _%_, _^_, _≤_, _<_}
 use native.Mathlib.Nat.{one-mul, two-pow-succ, le-antisymm}
 use native.Mathlib.Numerals.{add-one}
 use native.Mathlib.Omega.{arith}
-use mathlib.Core.Bool.{Bool, not}
+use mathlib.Core.Bool.{Bool}
 use mathlib.Core.Path.{_≡_, refl, sym, ap, subst, _∙_}
-use lib.Dec.{eqb, lit<}
+use lib.Dec.{lit<}
 use lib.Pow.{pow-mono, shl-exact}
-use Rattle.octets.specs.Index.{_and_}
 use Rattle.octets.specs.Choice.{_then_otherwise_}
-use Rattle.rules.specs.View.{View}
-use Rattle.rules.specs.Arrival.{Arrival}
 use Rattle.rules.specs.Answers.{setBelow, portSet}
-use Rattle.rules.specs.Outgoing.{spreadPorts}
 use Rattle.rules.proofs.PortSets.{set-below}
 
 -- ---- the loop
@@ -36,11 +32,6 @@ module _ (test : ℕ → Bool) where
     pub set-end : i ≤ 16 → 16 ≤ i → ports ≡ portSet test
     unfolding portSet
     set-end l m = inv ∙ ap (setBelow test) (le-antisymm l m)
-
--- the test of the ports that an announce is spread to
-pub spread-ports : (v : View) (a : Arrival) → spreadPorts v a ≡ portSet (λ port. v .on port and not (eqb port (a .port)))
-unfolding spreadPorts
-spread-ports v a = refl
 
 -- ---- one port
 module _ (port : ℕ) (l : port < 16) where

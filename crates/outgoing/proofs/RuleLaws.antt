@@ -1,4 +1,4 @@
--- What decides whether a spread announce is kept: its length.
+-- What decides by which ports an announce is spread, and whether it is kept: its length.
 use Prim.Native.Nat.{ℕ}
 use mathlib.Core.Bool.{true}
 use mathlib.Core.List.{List}
@@ -10,6 +10,6 @@ use Rattle.rules.specs.Outgoing.{spreadPacket, exceeds}
 use Rattle.outgoing.specs.Leaving.{spreadLength}
 use Rattle.outgoing.proofs.LeavingLaws.{spread-length}
 
-pub spread-exceeds : (own p : List ℕ) → reads longestPacket p ≡ true → length own ≡ 16 → exceeds (spreadPacket own p) ≡ ltb longestPacket (spreadLength p)
+pub spread-exceeds : (own p : List ℕ) → reads longestPacket p ≡ true → length own ≡ 16 → (size : ℕ) → exceeds (spreadPacket own p) size ≡ ltb size (spreadLength p)
 unfolding exceeds
-spread-exceeds own p h wide = ap (ltb longestPacket) (spread-length longestPacket p h own wide)
+spread-exceeds own p h wide size = ap (ltb size) (spread-length longestPacket p h own wide)

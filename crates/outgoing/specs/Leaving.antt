@@ -1,10 +1,12 @@
--- What can leave, and how long an announce is once spread.
+-- What can leave, and how long it is then.
 -- For the contracts of helpers: not part of what a reader must believe.
 use Prim.Native.Nat.{ℕ, _+_, _<_}
 use mathlib.Core.Bool.{true}
 use mathlib.Core.List.{List}
 use mathlib.Core.Path.{_≡_}
+use lib.Dec.{eqb}
 use lib.ListN.{length}
+use Rattle.octets.specs.Choice.{_then_otherwise_}
 use Rattle.packet.specs.Read.{partsOf, payload, longestPacket, reads}
 use Rattle.packet.specs.declared.Parts.{Parts}
 
@@ -21,3 +23,7 @@ rewrittenParts newHeader relay p =
 -- how long an announce is once spread: 35 bytes and the payload
 unfoldable pub spreadLength : List ℕ → ℕ
 spreadLength p = 35 + length (payload p)
+
+-- how long a packet is that leaves by a path with these stored hops: on the last hop 19 bytes and the payload, otherwise as it came
+unfoldable pub pathLength : ℕ → List ℕ → ℕ
+pathLength hops p = eqb hops 0 then 19 + length (payload p) otherwise length p

@@ -6,7 +6,7 @@ ghost use lib.ListN.{length};
 ghost use Rattle.octets.specs.Part.{patch};
 ghost use Rattle.packet.specs.Read.{longestPacket, payloadStart, payload as payloadOf};
 ghost use Rattle.rules.specs.Outgoing.{spreadHeader, rewritten, spreadPacket, pathPacket, carriedPacket};
-ghost use Rattle.outgoing.specs.Leaving.{CanLeave, rewrittenParts, spreadLength};
+ghost use Rattle.outgoing.specs.Leaving.{CanLeave, rewrittenParts, spreadLength, pathLength};
 
 // The header of a spread announce: bits 6 and 4 set, bit 5 and the low four as received.
 pub fn spread_header(header: u8) -> u8
@@ -63,6 +63,16 @@ pub fn spread(packet: &[u8], own: [u8; 16], output: &mut [u8]) -> usize
     let end = 35 + body.len();
     octets::copy(&mut output[35..end], body);
     end
+}
+
+// How long a packet is that leaves by a path.
+pub fn path_length(packet: &[u8], stored_hops: u8) -> usize
+    ensures { λ r. ⌜ r ≡ pathLength «stored_hops» (now (packet .entry)) ⌝ }
+{
+    if stored_hops == 0 {
+        return 19 + packet::payload(packet).len();
+    }
+    packet.len()
 }
 
 // Forwards by a path. Stored hops 0: as type 1, header modulo 16. Otherwise type 2, header kept, relay address = next

@@ -1,7 +1,7 @@
 // Port sets: bit i says whether port i is in one. A loop over the ports in rising order adds them one by one.
 ghost use mathlib.Core.Path.{_≡_};
 ghost use mathlib.Core.Bool.{not};
-ghost use lib.Dec.{eqb};
+ghost use lib.Dec.{eqb, ltb};
 ghost use Prim.Native.Nat.{_+_, _^_, _<_};
 ghost use Rattle.octets.specs.Index.{_and_};
 ghost use Rattle.octets.specs.Choice.{_then_otherwise_};
@@ -17,13 +17,23 @@ pub fn with_port(ports: u16, port: u8, belongs: bool) -> u16
     ports
 }
 
-// Adds a port to the set of those that an announce is spread to: the ports on but the arrival port.
-pub fn with_spread_port(ports: u16, port: u8, on: bool, arrival: u8) -> u16
+// Adds a port to the set of those that an announce of this length is spread to: the ports on but the arrival port that
+// carry it.
+pub fn with_spread_port(
+    ports: u16,
+    port: u8,
+    on: bool,
+    size: usize,
+    arrival: u8,
+    length: usize,
+) -> u16
     requires { ⌜ (port < 16) × (ports < 2 ^ port) ⌝ }
-    ensures { λ r. ⌜ r ≡ ports + (on and not (eqb port arrival) then 2 ^ port otherwise 0) ⌝ }
+    ensures { λ r. ⌜ r ≡ ports + (on and not (eqb port arrival) and not (ltb size length) then 2 ^ port otherwise 0) ⌝ }
 {
     if on {
-        return with_port(ports, port, port != arrival);
+        if port != arrival {
+            return with_port(ports, port, !(size < length));
+        }
     }
     ports
 }

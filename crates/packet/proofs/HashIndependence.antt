@@ -96,9 +96,9 @@ module _ (p s : List ℕ) (wp : payloadStart (headerOf p) ≤ length p) (long : 
       ∙ ap (λ (h : ℕ). take 16 (sha256-of (h % 16 ∷ take 81 (drop (payloadStart h - 17) s)))) header
       ∙ sym (link-hashed s ws)
 
-module _ (longest : ℕ) (p : List ℕ) (h : reads longest p ≡ true) where
+module _ (size : ℕ) (p : List ℕ) (h : reads size p ≡ true) where
   whole : payloadStart (headerOf p) ≤ length p
-  whole = reads-readable longest p h .whole
+  whole = reads-readable size p h .whole
 
   -- another hops byte
   module _ (hops : ℕ) where

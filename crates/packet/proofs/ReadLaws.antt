@@ -2,18 +2,19 @@
 use Prim.Native.Nat.{ℕ, _≤_, _<_, zero-le}
 use native.Mathlib.Nat.{not-suc-le-zero}
 use native.Mathlib.Omega.{arith}
-use mathlib.Core.Bool.{Bool, true, false}
+use mathlib.Core.Bool.{Bool, true, false, not}
 use mathlib.Core.List.{List, [], _∷_}
 use mathlib.Core.Path.{_≡_, refl, sym, ap, ap₂, subst, _∙_}
 use lib.Dec.{ltb}
 use lib.ListN.{length, getD, length-drop}
-use borrow.Author.Tests.{lt-ltb, le-ltb, ltb-false, eq-eqb, ne-eqb, eqb-true}
+use borrow.Author.Tests.{lt-ltb, le-ltb, ltb-false, le-leb, leb-true, eq-eqb, ne-eqb, eqb-true, not-false}
 use Rattle.octets.specs.Index.{_and_}
-use Rattle.octets.proofs.Index.{and-no, and-yes}
+use Rattle.octets.proofs.Index.{and-left, and-right, and-both, and-no, and-yes}
 use Rattle.octets.proofs.Choice.{then-true, then-false}
-use Rattle.octets.proofs.Listed.{allGive, refuses, here, none-first, rows-passed}
+use Rattle.numbers.specs.Numbers.{leastSize, isSize}
+use Rattle.octets.proofs.Listed.{allGive, refuses, here, past, none-first, rows-passed}
 use Rattle.packet.specs.Header.{accessCode, typeTwo}
-use Rattle.packet.specs.Read.{headerOf, typeOneParts, typeTwoParts, partsOf, payloadStart, payload, readingRows, readingRefusal, reads, noParts, reading}
+use Rattle.packet.specs.Read.{longestPacket, headerOf, typeOneParts, typeTwoParts, partsOf, payloadStart, payload, readingRows, readingRefusal, reads, noParts, reading}
 use Rattle.packet.specs.declared.Parts.{Parts}
 
 -- ---- where the payload starts
@@ -40,60 +41,86 @@ module _ (header : ℕ) where
       go true e = omega (arith, start-two e)
       go false e = omega (arith, start-one e)
 
+-- ---- sizes
+module _ (size : ℕ) where
+  pub size-least : isSize size ≡ true → leastSize ≤ size
+  unfolding isSize
+  size-least h = leb-true leastSize size (and-left _ _ h)
+
+  pub size-most : isSize size ≡ true → size ≤ longestPacket
+  unfolding isSize
+  size-most h = leb-true size longestPacket (and-right _ _ h)
+
+  pub size-is : leastSize ≤ size → size ≤ longestPacket → isSize size ≡ true
+  unfolding isSize
+  size-is l m = and-both (le-leb leastSize size l) (le-leb size longestPacket m)
+
 -- ---- what a packet that reads is: short enough, without an access code, and with all its parts
-pub record Readable (longest : ℕ) (p : List ℕ) : Type 0 where
-  pub fits : length p ≤ longest
+pub record Readable (size : ℕ) (p : List ℕ) : Type 0 where
+  pub within : size ≤ longestPacket
+  pub fits : length p ≤ size
   pub free : accessCode (headerOf p) ≡ false
   pub whole : payloadStart (headerOf p) ≤ length p
 
-module _ (longest : ℕ) (p : List ℕ) where
-  pub refused-short : length p < 19 → readingRefusal longest p ≡ 1
+module _ (size : ℕ) (p : List ℕ) where
+  pub refused-short : isSize size ≡ true → length p < 19 → readingRefusal size p ≡ 1
   unfolding readingRefusal readingRows
-  refused-short s = here _ _ _ _ (lt-ltb (length p) 19 s)
+  refused-short h s = past _ _ _ _ (ap not h) ∙ here _ _ _ _ (lt-ltb (length p) 19 s)
 
-  pub readable : readingRefusal longest p ≡ 0 → Readable longest p
+  pub readable : readingRefusal size p ≡ 0 → Readable size p
   unfolding readingRefusal readingRows allGive refuses _and_
   readable e =
-      let (long, (fits, (free, (two, _)))) = rows-passed (readingRows longest p) 0 refl (eq-eqb _ 0 e) in
-      record { fits = ltb-false longest (length p) fits; free = free; whole = go (typeTwo (headerOf p)) refl (ltb-false (length p) 19 long) two }
+      let (sized, (long, (fits, (free, (two, _))))) = rows-passed (readingRows size p) 0 refl (eq-eqb _ 0 e) in
+      record {
+        within = size-most size (not-false _ sized);
+        fits = ltb-false size (length p) fits;
+        free = free;
+        whole = go (typeTwo (headerOf p)) refl (ltb-false (length p) 19 long) two;
+      }
     where
       go : (t : Bool) → typeTwo (headerOf p) ≡ t → 19 ≤ length p → (typeTwo (headerOf p) and ltb (length p) 35) ≡ false
           → payloadStart (headerOf p) ≤ length p
       go true et long two = omega (arith, start-two (headerOf p) et, ltb-false (length p) 35 (sym (and-yes _ et) ∙ two))
       go false et long two = omega (arith, start-one (headerOf p) et)
 
-  pub accepted : Readable longest p → readingRefusal longest p ≡ 0
+  pub accepted : Readable size p → readingRefusal size p ≡ 0
   unfolding readingRefusal readingRows
   accepted r =
-      none-first (readingRows longest p) 0 (
-        le-ltb (length p) 19 (omega (arith, start-least (headerOf p), r .whole)),
-        (le-ltb longest (length p) (r .fits), (r .free, (go (typeTwo (headerOf p)) refl, tt))),
+      none-first (readingRows size p) 0 (
+        ap not (size-is size (omega (arith, long, r .fits)) (r .within)),
+        (le-ltb (length p) 19 long, (le-ltb size (length p) (r .fits), (r .free, (go (typeTwo (headerOf p)) refl, tt)))),
       )
     where
+      long : 19 ≤ length p
+      long = omega (arith, start-least (headerOf p), r .whole)
+
       go : (t : Bool) → typeTwo (headerOf p) ≡ t → (typeTwo (headerOf p) and ltb (length p) 35) ≡ false
       go true e = and-yes _ e ∙ le-ltb (length p) 35 (omega (arith, start-two (headerOf p) e, r .whole))
       go false e = and-no _ e
 
-  pub accepted-reads : readingRefusal longest p ≡ 0 → reads longest p ≡ true
+  pub accepted-reads : readingRefusal size p ≡ 0 → reads size p ≡ true
   unfolding reads
-  accepted-reads e = eq-eqb (readingRefusal longest p) 0 e
+  accepted-reads e = eq-eqb (readingRefusal size p) 0 e
 
-  pub refused-reads : (readingRefusal longest p ≡ 0 → ⊥) → reads longest p ≡ false
+  pub refused-reads : (readingRefusal size p ≡ 0 → ⊥) → reads size p ≡ false
   unfolding reads
-  refused-reads ne = ne-eqb (readingRefusal longest p) 0 ne
+  refused-reads ne = ne-eqb (readingRefusal size p) 0 ne
 
-  pub reads-readable : reads longest p ≡ true → Readable longest p
+  pub reads-readable : reads size p ≡ true → Readable size p
   unfolding reads
-  reads-readable h = readable (eqb-true (readingRefusal longest p) 0 h)
+  reads-readable h = readable (eqb-true (readingRefusal size p) 0 h)
 
-  pub readable-reads : Readable longest p → reads longest p ≡ true
+  pub readable-reads : Readable size p → reads size p ≡ true
   readable-reads r = accepted-reads (accepted r)
 
--- what reads at one size reads at every greater one
-pub reads-more : (a b : ℕ) (p : List ℕ) → a ≤ b → reads a p ≡ true → reads b p ≡ true
-reads-more a b p l h =
+-- what reads at one size reads at every greater one, so that it reads at 500
+pub reads-more : (a b : ℕ) (p : List ℕ) → a ≤ b → b ≤ longestPacket → reads a p ≡ true → reads b p ≡ true
+reads-more a b p l m h =
     let r : Readable a p = reads-readable a p h in
-    readable-reads b p (record { fits = omega (arith, r .fits); free = r .free; whole = r .whole })
+    readable-reads b p (record { within = m; fits = omega (arith, r .fits); free = r .free; whole = r .whole })
+
+pub reads-longest : (size : ℕ) (p : List ℕ) → reads size p ≡ true → reads longestPacket p ≡ true
+reads-longest size p h = reads-more size longestPacket p (reads-readable size p h .within) (omega arith) h
 
 -- ---- the parts, by the header's type
 module _ (p : List ℕ) where
@@ -133,15 +160,15 @@ pub header-none : (p : List ℕ) → length p ≡ 0 → 0 ≡ headerOf p
 header-none [] e = refl
 header-none (x ∷ p) e = absurd (not-suc-le-zero (subst (λ (n : ℕ). n ≤ 0) (sym e) zero-le))
 
-module _ (longest : ℕ) (p : List ℕ) (q : Parts) where
-  pub answer-refused : (n : ℕ) → n ≡ readingRefusal longest p → (n ≡ 0 → ⊥) → q ≡ noParts → record { refusal = n; parts = q } ≡ reading longest p
+module _ (size : ℕ) (p : List ℕ) (q : Parts) where
+  pub answer-refused : (n : ℕ) → n ≡ readingRefusal size p → (n ≡ 0 → ⊥) → q ≡ noParts → record { refusal = n; parts = q } ≡ reading size p
   unfolding reading
   answer-refused n e ne z =
       ap₂ (λ (k : ℕ) (r : Parts). record { refusal = k; parts = r }) e
-      (z ∙ sym (then-false (partsOf p) noParts (refused-reads longest p (λ (h : readingRefusal longest p ≡ 0). ne (e ∙ h)))))
+      (z ∙ sym (then-false (partsOf p) noParts (refused-reads size p (λ (h : readingRefusal size p ≡ 0). ne (e ∙ h)))))
 
-  pub answer-read : readingRefusal longest p ≡ 0 → q ≡ partsOf p → record { refusal = 0; parts = q } ≡ reading longest p
+  pub answer-read : readingRefusal size p ≡ 0 → q ≡ partsOf p → record { refusal = 0; parts = q } ≡ reading size p
   unfolding reading
   answer-read e z =
       ap₂ (λ (n : ℕ) (r : Parts). record { refusal = n; parts = r }) (sym e)
-      (z ∙ sym (then-true (partsOf p) noParts (accepted-reads longest p e)))
+      (z ∙ sym (then-true (partsOf p) noParts (accepted-reads size p e)))

@@ -1,4 +1,4 @@
--- Reading and writing undo each other. For all bytes, parts, payloads and sizes of the longest packet:
+-- Reading and writing undo each other. For all bytes, parts, payloads and sizes:
 --   read-write      what is read and then written is the packet, byte for byte;
 --   write-reads, write-parts, write-payload
 --                   what is written reads again, at every size no smaller than it, and gives the parts and the payload back, a relay
@@ -56,23 +56,25 @@ module _ (p : List ℕ) (whole : payloadStart (headerOf p) ≤ length p) where
       go true e = again-two e
       go false e = again-one e
 
-module _ (longest : ℕ) (p : List ℕ) (h : reads longest p ≡ true) where
+module _ (size : ℕ) (p : List ℕ) (h : reads size p ≡ true) where
   pub read-write : packetOf (partsOf p) (payload p) ≡ p
-  read-write = again p (reads-readable longest p h .whole)
+  read-write = again p (reads-readable size p h .whole)
 
   -- the parts that a reading gives, written with the payload into a buffer of 500 bytes or more
-  pub reading-writing : (output : List ℕ) → length p ≤ longestPacket → leastOutput ≤ length output
-      → writing (reading longest p .parts) (payload p) output ≡ record { answer = record { refusal = 0; length = length p }; output = patch output 0 p }
-  reading-writing output short room =
+  pub reading-writing : (output : List ℕ) → leastOutput ≤ length output
+      → writing (reading size p .parts) (payload p) output ≡ record { answer = record { refusal = 0; length = length p }; output = patch output 0 p }
+  reading-writing output room =
       ap (λ (q : Parts). writing q (payload p) output) parts-read
       ∙ writing-done (partsOf p) (payload p) output (accepted-writing (length output) (partsOf p) (payload p) able)
       ∙ ap (λ (r : List ℕ). record { answer = record { refusal = 0; length = length r }; output = patch output 0 r }) read-write
     where
       able : Writable (length output) (partsOf p) (payload p)
-      able = record { roomy = room; fits = rw read-write short; free = rw (parts-header p) (reads-readable longest p h .free) }
+      able =
+          let r = reads-readable size p h in
+          record { roomy = room; fits = rw read-write (omega (arith, r .fits, r .within)); free = rw (parts-header p) (r .free) }
 
-      parts-read : reading longest p .parts ≡ partsOf p
-      parts-read = ap (λ (r : Reading). r .parts) (sym (answer-read longest p (partsOf p) (accepted longest p (reads-readable longest p h)) refl))
+      parts-read : reading size p .parts ≡ partsOf p
+      parts-read = ap (λ (r : Reading). r .parts) (sym (answer-read size p (partsOf p) (accepted size p (reads-readable size p h)) refl))
 
 -- ---- written, then read
 module _ (q : Parts) (body : List ℕ) (wide : Wide q) where
@@ -116,19 +118,21 @@ module _ (q : Parts) (body : List ℕ) (wide : Wide q) where
   pub write-payload : payload (packetOf q body) ≡ body
   write-payload = found .1
 
-  pub write-reads : (longest : ℕ) → length (packetOf q body) ≤ longest → accessCode (q .header) ≡ false → reads longest (packetOf q body) ≡ true
+  pub write-reads : (size : ℕ) → length (packetOf q body) ≤ size → size ≤ longestPacket → accessCode (q .header) ≡ false
+      → reads size (packetOf q body) ≡ true
   unfolding packetOf
-  write-reads longest l c =
-      readable-reads longest (packetOf q body)
-      (record { fits = l; free = c; whole = omega (arith, packet-length q body wide) })
+  write-reads size l m c =
+      readable-reads size (packetOf q body)
+      (record { within = m; fits = l; free = c; whole = omega (arith, packet-length q body wide) })
 
   -- what stands in the output after a writing that nothing refused, read at any size no smaller than it
-  pub writing-reading : (longest : ℕ) (output : List ℕ) → writingRefusal (length output) q body ≡ 0 → writing q body output .answer .length ≤ longest
-      → reading longest (take (writing q body output .answer .length) (writing q body output .output)) ≡ record { refusal = 0; parts = readBack q }
-  writing-reading longest output z l =
+  pub writing-reading : (size : ℕ) (output : List ℕ) → writingRefusal (length output) q body ≡ 0 → writing q body output .answer .length ≤ size
+      → size ≤ longestPacket
+      → reading size (take (writing q body output .answer .length) (writing q body output .output)) ≡ record { refusal = 0; parts = readBack q }
+  writing-reading size output z l m =
       let done = writing-done q body output z in
       let p = packetOf q body in
       let start : take (writing q body output .answer .length) (writing q body output .output) ≡ p = rw done (patched-start output p (length p) refl) in
-      let short : length p ≤ longest = rw done at l in
-      let again = write-reads longest short (writable (length output) q body z .free) in
-      rw start (sym (answer-read longest p (readBack q) (accepted longest p (reads-readable longest p again)) (sym write-parts)))
+      let short : length p ≤ size = rw done at l in
+      let again = write-reads size short m (writable (length output) q body z .free) in
+      rw start (sym (answer-read size p (readBack q) (accepted size p (reads-readable size p again)) (sym write-parts)))

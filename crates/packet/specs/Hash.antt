@@ -20,11 +20,11 @@ packetHash p = sha256-of (hashedPart (partsOf p) (payload p))
 unfoldable pub linkId : List ℕ → List ℕ
 linkId p = take 16 (sha256-of (hashedPart (partsOf p) (take 64 (payload p))))
 
--- both refuse like reading, with zeros beside the number
+-- both refuse like reading, with zeros beside the number; the calls read at 500
 unfoldable pub packetHashAnswer : ℕ → List ℕ → PacketHash
-packetHashAnswer longest p =
-    record { refusal = readingRefusal longest p; bytes = reads longest p then packetHash p otherwise replicate 32 0 }
+packetHashAnswer size p =
+    record { refusal = readingRefusal size p; bytes = reads size p then packetHash p otherwise replicate 32 0 }
 
 unfoldable pub linkIdAnswer : ℕ → List ℕ → LinkId
-linkIdAnswer longest p =
-    record { refusal = readingRefusal longest p; bytes = reads longest p then linkId p otherwise replicate 16 0 }
+linkIdAnswer size p =
+    record { refusal = readingRefusal size p; bytes = reads size p then linkId p otherwise replicate 16 0 }

@@ -1,6 +1,7 @@
--- Document 01, "Packet layout" and refusals 1, 2 and 3: reading a packet.
+-- Document 01, "Packet layout" and refusals 1, 2 and 3, as document 02's Wish 11 amends them: reading a packet. "Callers of the packet reader say which size
+-- they mean": the arrival port's, or 500.
 use Prim.Native.Nat.{ℕ}
-use mathlib.Core.Bool.{Bool}
+use mathlib.Core.Bool.{Bool, not}
 use mathlib.Core.List.{List, []}
 use lib.Dec.{eqb, ltb}
 use lib.ListN.{length, drop, getD, replicate}
@@ -9,6 +10,7 @@ use Rattle.octets.specs.Part.{part}
 use Rattle.octets.specs.Choice.{_then_otherwise_}
 use Rattle.octets.specs.Listed.{Test, _gives_otherwise_, firstOf}
 pub use Rattle.numbers.specs.Numbers.{longestPacket}
+use Rattle.numbers.specs.Numbers.{isSize}
 use Rattle.packet.specs.Header.{accessCode, typeTwo}
 use Rattle.packet.specs.declared.Parts.{Parts}
 use Rattle.packet.specs.declared.Reading.{Reading}
@@ -42,27 +44,29 @@ payloadStart header = typeTwo header then 35 otherwise 19
 unfoldable pub payload : List ℕ → List ℕ
 payload p = drop (payloadStart (headerOf p)) p
 
--- ---- the refusals of a packet where none may be longer than `longest`: 1, 2, 3, 1
+-- ---- the refusals of a packet that is read against a size. Wish 11: "9 also for a size outside the range, first in the reader"; then 1, 2, 3, 1, and
+-- "refusal 2 means longer than that"
 unfoldable pub readingRows : ℕ → List ℕ → List (Test ℕ)
-readingRows longest p =
+readingRows size p =
+    not (isSize size) gives 9 otherwise
     ltb (length p) 19 gives 1 otherwise
-    ltb longest (length p) gives 2 otherwise
+    ltb size (length p) gives 2 otherwise
     accessCode (headerOf p) gives 3 otherwise
     typeTwo (headerOf p) and ltb (length p) 35 gives 1 otherwise
     []
 
 -- the refusal's number, or 0
 unfoldable pub readingRefusal : ℕ → List ℕ → ℕ
-readingRefusal longest p = firstOf (readingRows longest p) 0
+readingRefusal size p = firstOf (readingRows size p) 0
 
 -- the packet reads
 unfoldable pub reads : ℕ → List ℕ → Bool
-reads longest p = eqb (readingRefusal longest p) 0
+reads size p = eqb (readingRefusal size p) 0
 
 -- a refused reading gives parts of zeros beside its number
 abbrev pub noParts : Parts
 noParts = record { header = 0; hops = 0; relay = noAddress; destination = noAddress; context = 0 }
 
 unfoldable pub reading : ℕ → List ℕ → Reading
-reading longest p =
-    record { refusal = readingRefusal longest p; parts = reads longest p then partsOf p otherwise noParts }
+reading size p =
+    record { refusal = readingRefusal size p; parts = reads size p then partsOf p otherwise noParts }

@@ -1,5 +1,5 @@
 // The packet layout of document 01: reading, writing, packet hash, link id and announce fields.
-// Entry points: read, read_within, reading_refusal, payload, payload_start, write, packet_hash, link_id,
+// Entry points: read, reading_refusal, is_size, payload, payload_start, write, packet_hash, link_id,
 // announced_destination, least_announce, emission, and the header's bits. parts_of, type_two_parts, hash_of,
 // link_id_of, blob and write_packet are helpers: the caller shows what they require.
 mod announce;
@@ -28,11 +28,11 @@ pub use header::transport;
 pub use header::type_two;
 pub use numbers::LEAST_OUTPUT;
 pub use numbers::LONGEST_PACKET;
+pub use reader::is_size;
 pub use reader::parts_of;
 pub use reader::payload;
 pub use reader::payload_start;
 pub use reader::read;
-pub use reader::read_within;
 pub use reader::reading_refusal;
 pub use reader::type_two_parts;
 pub use writer::write;

@@ -3,13 +3,15 @@ use super::Parts;
 use super::Reading;
 use super::header::access_code;
 use super::header::type_two;
+use numbers::LEAST_SIZE;
 use numbers::LONGEST_PACKET;
 use numbers::refusals;
 ghost use mathlib.Core.Path.{_≡_};
 ghost use Prim.Native.Nat.{_≤_};
 ghost use lib.ListN.{length, drop};
 ghost use Rattle.octets.specs.Part.{part};
-ghost use Rattle.packet.specs.Read.{headerOf, typeOneParts, typeTwoParts, partsOf, payloadStart, payload as payloadOf, longestPacket, readingRefusal, noParts, reading};
+ghost use Rattle.numbers.specs.Numbers.{isSize};
+ghost use Rattle.packet.specs.Read.{headerOf, typeOneParts, typeTwoParts, partsOf, payloadStart, payload as payloadOf, readingRefusal, noParts, reading};
 
 // The header of a packet, 0 where it has no byte.
 fn header_of(packet: &[u8]) -> u8
@@ -61,14 +63,27 @@ pub fn payload(packet: &[u8]) -> &[u8]
     from(packet, at)
 }
 
-// The refusal of a packet where none may be longer than longest, or 0.
-pub fn reading_refusal(packet: &[u8], longest: usize) -> u8
-    ensures { λ r. ⌜ r ≡ readingRefusal longest (now (packet .entry)) ⌝ }
+// Whether a port may have this size.
+pub fn is_size(size: usize) -> bool
+    ensures { λ r. ⌜ r ≡ isSize size ⌝ }
 {
+    if size < LEAST_SIZE {
+        return false;
+    }
+    size <= LONGEST_PACKET
+}
+
+// The refusal of a packet that is read against a size, or 0.
+pub fn reading_refusal(packet: &[u8], size: usize) -> u8
+    ensures { λ r. ⌜ r ≡ readingRefusal size (now (packet .entry)) ⌝ }
+{
+    if !is_size(size) {
+        return refusals::SETTING;
+    }
     if packet.len() < 19 {
         return refusals::TOO_SHORT;
     }
-    if longest < packet.len() {
+    if size < packet.len() {
         return refusals::TOO_LONG;
     }
     let header = packet[0];
@@ -136,11 +151,11 @@ fn no_parts() -> Parts
     }
 }
 
-// Reads a packet where none may be longer than longest.
-pub fn read_within(packet: &[u8], longest: usize) -> Reading
-    ensures { λ r. ⌜ r ≡ reading longest (now (packet .entry)) ⌝ }
+// Reads a packet against a size: the arrival port's, or 500.
+pub fn read(packet: &[u8], size: usize) -> Reading
+    ensures { λ r. ⌜ r ≡ reading size (now (packet .entry)) ⌝ }
 {
-    let refusal = reading_refusal(packet, longest);
+    let refusal = reading_refusal(packet, size);
     if refusal != refusals::NONE {
         let parts = no_parts();
         return Reading { refusal, parts };
@@ -150,11 +165,4 @@ pub fn read_within(packet: &[u8], longest: usize) -> Reading
         refusal: refusals::NONE,
         parts,
     }
-}
-
-// Reads a packet of at most 500 bytes.
-pub fn read(packet: &[u8]) -> Reading
-    ensures { λ r. ⌜ r ≡ reading longestPacket (now (packet .entry)) ⌝ }
-{
-    read_within(packet, LONGEST_PACKET)
 }

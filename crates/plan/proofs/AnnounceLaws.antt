@@ -16,7 +16,7 @@ use Rattle.rules.specs.View.{View, pathPlace, freePath, viewAt}
 use Rattle.rules.specs.Arrival.{Arrival, header, hops, destination, blob, isLinkProof}
 use Rattle.rules.specs.Ways.{Way, everywhere, wayOn}
 use Rattle.rules.specs.Rate.{rated}
-use Rattle.rules.specs.Tests.{isThere, noWayOn, alreadyKnown, wrongSide, notSigned, revives, ofKnown, isReplay, replay, isNotBetter, notBetter, isRateLimited, rateLimited, portOff, noRoom}
+use Rattle.rules.specs.Tests.{isThere, noWayOn, alreadyKnown, wrongSide, notSigned, revives, ofKnown, isReplay, replay, isNotBetter, notBetter, isRateLimited, rateLimited, portOff, tooLongForPort, noRoom}
 use Rattle.rules.specs.Judging.{dropped, follows, onwardPlan, onwardTests}
 use Rattle.rules.specs.Writes.{announcedPlace}
 use Rattle.rules.specs.declared.Reason.the-variants.{NotSigned, Replay, NotBetter, RateLimited, NoRoom}
@@ -51,7 +51,7 @@ module _ (a : Arrival) (is : isAnnounce (header a) ≡ true) where
       rateLimited v a (everywhere known) then dropped RateLimited otherwise
       noRoom v a (everywhere known) then dropped NoRoom otherwise
       follows (everywhere known))
-  unfolding onwardPlan onwardTests firstOf noWayOn alreadyKnown wrongSide notSigned portOff _then_otherwise_ _and_ _or_
+  unfolding onwardPlan onwardTests firstOf noWayOn alreadyKnown wrongSide notSigned portOff tooLongForPort _then_otherwise_ _and_ _or_
   announce-plan v known = rw (no-request, no-proof, is)
 
   announce-onward : (r : Relay) (known : Slot Path) → viewAt (a .clock) r .path (destination a) ≡ known

@@ -1,11 +1,11 @@
 -- What a packet's kind rules out, and a plan's tests as decisions.
-use Prim.Native.Nat.{ℕ, _≤_}
+use Prim.Native.Nat.{ℕ, _≤_, _<_}
 use native.Mathlib.Omega.{arith}
 use mathlib.Core.Bool.{Bool, true, false, not}
 use mathlib.Core.Path.{_≡_, refl, sym, ap, _∙_}
 use lib.Dec.{eqb, ltb}
 use lib.ListN.{length}
-use borrow.Author.Tests.{eq-eqb, eqb-true, eqb-false, ltb-false}
+use borrow.Author.Tests.{eq-eqb, eqb-true, eqb-false, ltb-false, lt-ltb, le-ltb}
 use Rattle.octets.specs.Index.{_and_}
 use Rattle.octets.specs.Choice.{_then_otherwise_, _or_}
 use Rattle.octets.proofs.Index.{and-no, and-yes}
@@ -18,8 +18,8 @@ use Rattle.rules.specs.Arrival.{Arrival, header, body, isLinkProof}
 use Rattle.rules.specs.Tests.{announceTooShort, requestOfKindLink, formTests, badForm}
 use Rattle.rules.specs.Judging.{Plan, dropped}
 use Rattle.rules.specs.declared.Reason.{Reason}
-use Rattle.rules.specs.View.{portOn}
-use Rattle.rules.specs.declared.Reason.the-variants.{PortOff}
+use Rattle.rules.specs.View.{portOn, portSize}
+use Rattle.rules.specs.declared.Reason.the-variants.{PortOff, TooLongForPort}
 use Rattle.plan.specs.Decided.{decided}
 use Rattle.plan.specs.declared.Decision.{Decision}
 use Rattle.plan.specs.declared.Decision.the-variants.{Drop}
@@ -91,15 +91,16 @@ pub decided-test : (r : Relay) (a : Arrival) (t : Bool) (reason : Reason) (x : P
 unfolding decided
 decided-test r a t reason x = then-ap (decided r a) t (dropped reason) x
 
--- ---- test 12
-pub seen-on : (r : Relay) (port : ℕ) {read wide : ℕ} {t : Bool} → read ≡ port → wide ≡ read → t ≡ portOn r wide → portOn r port ≡ t
-seen-on r port e w s = ap (portOn r) (sym (w ∙ e)) ∙ sym s
-
-module _ (r : Relay) (port : ℕ) (d : Decision) where
-  pub leaving-on : portOn r port ≡ true → d ≡ leaving r port d
-  unfolding leaving
-  leaving-on on = sym (then-false _ _ (ap not on))
-
-  pub leaving-off : portOn r port ≡ false → Drop PortOff ≡ leaving r port d
+-- ---- tests 12 and 16
+module _ (r : Relay) (port long : ℕ) (d : Decision) where
+  pub leaving-off : portOn r port ≡ false → Drop PortOff ≡ leaving r port long d
   unfolding leaving
   leaving-off off = sym (then-true _ _ (ap not off))
+
+  pub leaving-long : portOn r port ≡ true → portSize r port < long → Drop TooLongForPort ≡ leaving r port long d
+  unfolding leaving
+  leaving-long on l = sym (then-false _ _ (ap not on) ∙ then-true _ _ (lt-ltb (portSize r port) long l))
+
+  pub leaving-on : portOn r port ≡ true → long ≤ portSize r port → d ≡ leaving r port long d
+  unfolding leaving
+  leaving-on on l = sym (then-false _ _ (ap not on) ∙ then-false _ _ (le-ltb (portSize r port) long l))

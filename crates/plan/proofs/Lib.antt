@@ -7,3 +7,4 @@ pub mod MarkedLaws
 pub mod PathLaws
 pub mod LinkLaws
 pub mod ReturnLaws
+pub mod ReasonLaws

@@ -1,10 +1,10 @@
--- Packets of kind link: tests 6, 7, 8, 9 and 12 are all that can hold of them.
+-- Packets of kind link: tests 6, 7, 8, 9, 12 and 16 are all that can hold of them.
 use Prim.Native.Nat.{ℕ, _≤_, _<_}
 use mathlib.Core.Bool.{Bool, true, false, not}
 use mathlib.Core.Path.{_≡_, refl, sym, ap, _∙_}
 use mathlib.Core.List.{List}
-use lib.Dec.{eqb}
-use lib.ListN.{getD}
+use lib.Dec.{eqb, ltb}
+use lib.ListN.{length, getD}
 use borrow.Author.Tests.{eq-eqb, ne-eqb}
 use Rattle.octets.specs.Index.{_and_}
 use Rattle.octets.specs.Choice.{_or_, _then_otherwise_}
@@ -17,11 +17,13 @@ use Rattle.rules.specs.Relay.{empty, used, Relay}
 use Rattle.rules.specs.View.{View, linkPlace, viewAt}
 use Rattle.rules.specs.Arrival.{Arrival, header, destination, isLinkProof}
 use Rattle.rules.specs.Ways.{Way, along-link, blocked, linkWay, wayOn}
-use Rattle.rules.specs.Tests.{badForm, noWayOn, whyBlocked, followsProvedLink, alreadyKnown, fromAnsweringSide, fromAskingSide, wrongSide, notSigned, ofKnown, replay, notBetter, rateLimited, leavingPort, portOff, noRoom}
+use Rattle.rules.specs.Tests.{badForm, noWayOn, whyBlocked, followsProvedLink, alreadyKnown, fromAnsweringSide, fromAskingSide, wrongSide, notSigned, ofKnown, replay, notBetter, rateLimited, leavingPort, portOff, tooLongForPort, noRoom}
+use Rattle.rules.specs.Outgoing.{outgoing, exceeds}
 use Rattle.rules.specs.Judging.{dropped, follows, onwardPlan, onwardTests}
 use Rattle.rules.specs.declared.Link.{Link}
 use Rattle.rules.specs.declared.Blocked.the-variants.{NoLink, NotProved}
-use Rattle.rules.specs.declared.Reason.the-variants.{NoWayOn, AlreadyKnown, WrongSide, NotSigned, PortOff}
+use Rattle.rules.specs.declared.Reason.the-variants.{NoWayOn, AlreadyKnown, WrongSide, NotSigned, PortOff, TooLongForPort}
+use Rattle.rules.proofs.Lengths.{carried-length}
 use Rattle.numbers.specs.Numbers.{linkCount}
 use Rattle.tables.specs.Layout.{relayOf}
 use Rattle.lookup.proofs.Found.{link-found, link-missing}
@@ -40,10 +42,11 @@ module _ (a : Arrival) (good : badForm (a .bytes) ≡ false) (announce : isAnnou
       wrongSide a (along-link l) then dropped WrongSide otherwise
       isLinkProof (a .bytes) and not (a .signed) then dropped NotSigned otherwise
       not (v .on (leavingPort a (along-link l))) then dropped PortOff otherwise
+      ltb (v .size (leavingPort a (along-link l))) (length (a .bytes)) then dropped TooLongForPort otherwise
       follows (along-link l))
-  unfolding onwardPlan onwardTests firstOf noWayOn alreadyKnown followsProvedLink notSigned ofKnown replay notBetter rateLimited portOff noRoom
-      _then_otherwise_ _and_ _or_
-  link-plan v l = rw (link-no-request a good kind, announce)
+  unfolding onwardPlan onwardTests firstOf noWayOn alreadyKnown followsProvedLink notSigned ofKnown replay notBetter rateLimited portOff tooLongForPort noRoom
+      exceeds outgoing _then_otherwise_ _and_ _or_
+  link-plan v l = rw (link-no-request a good kind, announce, carried-length (a .bytes))
 
   module _ (r : Relay) where
     link-none : viewAt (a .clock) r .link (destination a) ≡ empty → Drop (NoWayOn NoLink) ≡ onward r a
@@ -56,7 +59,7 @@ module _ (a : Arrival) (good : badForm (a .bytes) ≡ false) (announce : isAnnou
         ≡ (isLinkProof (a .bytes) and l .proved then Drop AlreadyKnown otherwise
         wrongSide a (along-link l) then Drop WrongSide otherwise
         isLinkProof (a .bytes) and not (a .signed) then Drop NotSigned otherwise
-        leaving r (leavingPort a (along-link l)) (Carry (linkPlace (a .clock) r (destination a)) (leavingPort a (along-link l))))
+        leaving r (leavingPort a (along-link l)) (length (a .bytes)) (Carry (linkPlace (a .clock) r (destination a)) (leavingPort a (along-link l))))
     unfolding onward decided decidedWay leaving viewAt
     along l way =
         let v : View = viewAt (a .clock) r in
@@ -146,7 +149,7 @@ module _ (r : Relay) (a : Arrival) (l : Link) (place : ℕ) where
       unfolding proving
       prove-unsigned e = sym (then-false _ _ unproved ∙ then-false _ _ (ap not side) ∙ then-true _ _ (ap not e))
 
-      pub prove-carried : a .signed ≡ true → carried r (l .asking) place ≡ proving r a l place
+      pub prove-carried : a .signed ≡ true → carried r (a .bytes) (l .asking) place ≡ proving r a l place
       unfolding proving
       prove-carried e = sym (then-false _ _ unproved ∙ then-false _ _ (ap not side) ∙ then-false _ _ (ap not e))
 
@@ -155,12 +158,12 @@ module _ (r : Relay) (a : Arrival) (l : Link) (place : ℕ) where
   pass-unproved e = sym (then-true _ _ (ap not e))
 
   module _ (proved : l .proved ≡ true) where
-    pub pass-back : fromAnsweringSide l a ≡ true → carried r (l .asking) place ≡ carrying r a l place
+    pub pass-back : fromAnsweringSide l a ≡ true → carried r (a .bytes) (l .asking) place ≡ carrying r a l place
     unfolding carrying
     pass-back e = sym (then-false _ _ (ap not proved) ∙ then-true _ _ e)
 
     module _ (side : fromAnsweringSide l a ≡ false) where
-      pub pass-forth : fromAskingSide l a ≡ true → carried r (l .answering) place ≡ carrying r a l place
+      pub pass-forth : fromAskingSide l a ≡ true → carried r (a .bytes) (l .answering) place ≡ carrying r a l place
       unfolding carrying
       pass-forth e = sym (then-false _ _ (ap not proved) ∙ then-false _ _ side ∙ then-true _ _ e)
 

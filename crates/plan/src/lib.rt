@@ -6,6 +6,7 @@ mod announces;
 mod bad_form;
 mod contexts;
 mod first;
+mod leaving;
 mod links;
 mod marked;
 mod paths;

@@ -1,7 +1,8 @@
-// Packets of kind link: tests 6, 7, 8, 9 and 12.
+// Packets of kind link: tests 6, 7, 8, 9, 12 and 16.
 use super::Arrived;
 use super::Decision;
 use super::bad_form::is_link_proof;
+use super::leaving::leave;
 use numbers::LINK_COUNT;
 use rules::Blocked;
 use rules::Link;
@@ -41,18 +42,20 @@ fn from_asking_side(link: Link, packet: &[u8], arrived: Arrived) -> bool
     packet[1] == taken.0
 }
 
-// The link at a place, by a port: test 12.
-fn carry(tables: &[u8], place: usize, port: u8) -> Decision
+// The link at a place, by a port: tests 12 and 16.
+fn carry(tables: &[u8], packet: &[u8], place: usize, port: u8) -> Decision
     requires { ⌜ length (now tables) ≡ tableSize ⌝ }
-    ensures { λ r. ⌜ r ≡ carried (relayOf (now (tables .entry))) port place ⌝ }
+    ensures { λ r. ⌜ r ≡ carried (relayOf (now (tables .entry))) (now (packet .entry)) port place ⌝ }
 {
-    if lookup::port_on(tables, octets::wide(port)) {
-        return Decision::Carry { link: place, port };
-    }
-    Decision::Drop(Reason::PortOff)
+    leave(
+        tables,
+        port,
+        packet.len(),
+        Decision::Carry { link: place, port },
+    )
 }
 
-// A link proof, of the link at a place: tests 7, 8, 9 and 12.
+// A link proof, of the link at a place: tests 7, 8, 9, 12 and 16.
 fn prove(tables: &[u8], packet: &[u8], arrived: Arrived, link: Link, place: usize) -> Decision
     requires { ⌜ CanRead (now packet) (now tables) ⌝ }
     ensures { λ r. ⌜ r ≡ proving (relayOf (now (tables .entry))) (arrivalOf (now (packet .entry)) arrived)
@@ -67,10 +70,10 @@ fn prove(tables: &[u8], packet: &[u8], arrived: Arrived, link: Link, place: usiz
     if !arrived.signed {
         return Decision::Drop(Reason::NotSigned);
     }
-    carry(tables, place, link.asking)
+    carry(tables, packet, place, link.asking)
 }
 
-// Any other packet of the link at a place: tests 6, 8 and 12.
+// Any other packet of the link at a place: tests 6, 8, 12 and 16.
 fn pass(tables: &[u8], packet: &[u8], arrived: Arrived, link: Link, place: usize) -> Decision
     requires { ⌜ CanRead (now packet) (now tables) ⌝ }
     ensures { λ r. ⌜ r ≡ carrying (relayOf (now (tables .entry))) (arrivalOf (now (packet .entry)) arrived)
@@ -80,10 +83,10 @@ fn pass(tables: &[u8], packet: &[u8], arrived: Arrived, link: Link, place: usize
         return Decision::Drop(Reason::NoWayOn(Blocked::NotProved));
     }
     if from_answering_side(link, packet, arrived) {
-        return carry(tables, place, link.asking);
+        return carry(tables, packet, place, link.asking);
     }
     if from_asking_side(link, packet, arrived) {
-        return carry(tables, place, link.answering);
+        return carry(tables, packet, place, link.answering);
     }
     Decision::Drop(Reason::WrongSide)
 }

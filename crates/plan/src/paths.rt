@@ -1,6 +1,7 @@
-// Data and link requests by a path: tests 6, 7, 12 and 13.
+// Data and link requests by a path: tests 6, 7, 12, 16 and 13.
 use super::Arrived;
 use super::Decision;
+use super::leaving::leave;
 use numbers::LINK_COUNT;
 use numbers::PATH_COUNT;
 use rules::Blocked;
@@ -17,35 +18,25 @@ ghost use Rattle.rules.specs.Ways.{noPath};
 ghost use Rattle.tables.specs.Places.{tableSize};
 ghost use Rattle.tables.specs.Layout.{relayOf};
 ghost use Rattle.plan.specs.Decided.{arrivalOf, CanRead, CanJudge, pathAt, onwardOn};
-ghost use Rattle.plan.specs.Kinds.{sending, requesting};
+ghost use Rattle.plan.specs.Kinds.{leavingBy, linking, requesting};
 
-// Data by the path at a place: test 12.
-fn send(tables: &[u8], place: usize) -> Decision
+// What was decided, by the path at a place: tests 12 and 16.
+fn leave_by(tables: &[u8], packet: &[u8], place: usize, decision: Decision) -> Decision
     requires { ⌜ (length (now tables) ≡ tableSize) × (place < pathCount) ⌝ }
-    ensures { λ r. ⌜ r ≡ sending (relayOf (now (tables .entry))) (pathAt (now (tables .entry)) place) place ⌝ }
+    ensures { λ r. ⌜ r ≡ leavingBy (relayOf (now (tables .entry))) (pathAt (now (tables .entry)) place)
+        (now (packet .entry)) decision ⌝ }
 {
     let port = lookup::path_port(tables, place);
-    if lookup::port_on(tables, octets::wide(port)) {
-        return Decision::Data { path: place };
-    }
-    Decision::Drop(Reason::PortOff)
+    let hops = lookup::path_hops(tables, place);
+    leave(tables, port, outgoing::path_length(packet, hops), decision)
 }
 
-// A link request by the path at a place: tests 7, 12 and 13.
-fn request(tables: &[u8], packet: &[u8], arrived: Arrived, place: usize) -> Decision
-    requires { ⌜ CanRead (now packet) (now tables) × (place < pathCount) ⌝ }
-    ensures { λ r. ⌜ r ≡ requesting (relayOf (now (tables .entry))) (arrivalOf (now (packet .entry)) arrived)
-        (pathAt (now (tables .entry)) place) place ⌝ }
+// A new link, by the path at a place: test 13.
+fn new_link(tables: &[u8], clock: u64, id: [u8; 16], place: usize) -> Decision
+    requires { ⌜ length (now tables) ≡ tableSize ⌝ }
+    ensures { λ r. ⌜ r ≡ linking (relayOf (now (tables .entry))) clock id place ⌝ }
 {
-    let id = packet::link_id_of(packet);
-    if lookup::link_place(tables, id, arrived.clock) < LINK_COUNT {
-        return Decision::Drop(Reason::AlreadyKnown);
-    }
-    let port = lookup::path_port(tables, place);
-    if !lookup::port_on(tables, octets::wide(port)) {
-        return Decision::Drop(Reason::PortOff);
-    }
-    let free = lookup::free_link(tables, arrived.clock);
+    let free = lookup::free_link(tables, clock);
     if free < LINK_COUNT {
         return Decision::Request {
             path: place,
@@ -55,6 +46,24 @@ fn request(tables: &[u8], packet: &[u8], arrived: Arrived, place: usize) -> Deci
         };
     }
     Decision::Drop(Reason::NoRoom)
+}
+
+// A link request by the path at a place: tests 7, 12, 16 and 13.
+fn request(tables: &[u8], packet: &[u8], arrived: Arrived, place: usize) -> Decision
+    requires { ⌜ CanRead (now packet) (now tables) × (place < pathCount) ⌝ }
+    ensures { λ r. ⌜ r ≡ requesting (relayOf (now (tables .entry))) (arrivalOf (now (packet .entry)) arrived)
+        (pathAt (now (tables .entry)) place) place ⌝ }
+{
+    let id = packet::link_id_of(packet);
+    if lookup::link_place(tables, id, arrived.clock) < LINK_COUNT {
+        return Decision::Drop(Reason::AlreadyKnown);
+    }
+    leave_by(
+        tables,
+        packet,
+        place,
+        new_link(tables, arrived.clock, id, place),
+    )
 }
 
 // Why a destination has no live path: its expired ones are looked for only here.
@@ -85,7 +94,7 @@ pub fn decide_by_path(tables: &[u8], packet: &[u8], arrived: Arrived) -> Decisio
         return Decision::Drop(Reason::NoWayOn(no_path(tables, destination, arrived.clock)));
     }
     if packet::is_data(header) {
-        return send(tables, place);
+        return leave_by(tables, packet, place, Decision::Data { path: place });
     }
     request(tables, packet, arrived, place)
 }

@@ -24,6 +24,7 @@ pub fn reason_number(reason: Reason) -> u8
         Reason::NotBetter => 11,
         Reason::RateLimited => 15,
         Reason::PortOff => 12,
+        Reason::TooLongForPort => 16,
         Reason::NoRoom => 13,
     }
 }
@@ -90,20 +91,9 @@ pub fn reason_clause(reason: Reason) -> u8
     ensures { λ r. ⌜ r ≡ reasonNumbers reason .clause ⌝ }
 {
     match reason {
-        Reason::NotOurs => 0,
-        Reason::Duplicate => 0,
         Reason::BadForm(clause) => clause_number(clause),
-        Reason::OwnAnnounce => 0,
-        Reason::TooManyHops => 0,
         Reason::NoWayOn(why) => case_number(why),
-        Reason::AlreadyKnown => 0,
-        Reason::WrongSide => 0,
-        Reason::NotSigned => 0,
-        Reason::Replay => 0,
-        Reason::NotBetter => 0,
-        Reason::RateLimited => 0,
-        Reason::PortOff => 0,
-        Reason::NoRoom => 0,
+        _ => 0,
     }
 }
 
@@ -112,19 +102,8 @@ pub fn reason_value(reason: Reason) -> u64
     ensures { λ r. ⌜ r ≡ reasonNumbers reason .value ⌝ }
 {
     match reason {
-        Reason::NotOurs => 0,
-        Reason::Duplicate => 0,
         Reason::BadForm(clause) => least_length(clause),
-        Reason::OwnAnnounce => 0,
-        Reason::TooManyHops => 0,
         Reason::NoWayOn(why) => greatest_expiry(why),
-        Reason::AlreadyKnown => 0,
-        Reason::WrongSide => 0,
-        Reason::NotSigned => 0,
-        Reason::Replay => 0,
-        Reason::NotBetter => 0,
-        Reason::RateLimited => 0,
-        Reason::PortOff => 0,
-        Reason::NoRoom => 0,
+        _ => 0,
     }
 }

@@ -1,6 +1,7 @@
-// Ordinary proofs: tests 6, 8 and 12.
+// Ordinary proofs: tests 6, 8, 12 and 16.
 use super::Arrived;
 use super::Decision;
+use super::leaving::leave;
 use numbers::RETURN_COUNT;
 use rules::Blocked;
 use rules::Reason;
@@ -16,22 +17,25 @@ ghost use Rattle.tables.specs.Layout.{relayOf};
 ghost use Rattle.plan.specs.Decided.{CanJudge, returnAt, onwardOn};
 ghost use Rattle.plan.specs.Kinds.{returning};
 
-// A proof for the return record at a place, which came in by a port: tests 8 and 12.
-fn receipt(tables: &[u8], place: usize, port: u8) -> Decision
+// A proof for the return record at a place, which came in by a port: tests 8, 12 and 16.
+fn receipt(tables: &[u8], packet: &[u8], place: usize, port: u8) -> Decision
     requires { ⌜ (length (now tables) ≡ tableSize) × (place < returnCount) ⌝ }
-    ensures { λ r. ⌜ r ≡ returning (relayOf (now (tables .entry))) port (returnAt (now (tables .entry)) place) place ⌝ }
+    ensures { λ r. ⌜ r ≡ returning (relayOf (now (tables .entry))) (now (packet .entry)) port
+        (returnAt (now (tables .entry)) place) place ⌝ }
 {
     if port != lookup::return_leaving(tables, place) {
         return Decision::Drop(Reason::WrongSide);
     }
     let arrival = lookup::return_arrival(tables, place);
-    if lookup::port_on(tables, octets::wide(arrival)) {
-        return Decision::Receipt {
+    leave(
+        tables,
+        arrival,
+        packet.len(),
+        Decision::Receipt {
             place,
             port: arrival,
-        };
-    }
-    Decision::Drop(Reason::PortOff)
+        },
+    )
 }
 
 pub fn decide_proof(tables: &[u8], packet: &[u8], arrived: Arrived) -> Decision
@@ -43,7 +47,7 @@ pub fn decide_proof(tables: &[u8], packet: &[u8], arrived: Arrived) -> Decision
     let destination = parts.destination;
     let place = lookup::return_place(tables, destination, arrived.clock);
     if place < RETURN_COUNT {
-        return receipt(tables, place, arrived.port);
+        return receipt(tables, packet, place, arrived.port);
     }
     Decision::Drop(Reason::NoWayOn(Blocked::NoReturn))
 }

@@ -10,11 +10,13 @@ use Rattle.octets.specs.Index.{_and_}
 use Rattle.octets.specs.Choice.{_then_otherwise_, _or_}
 use Rattle.octets.proofs.Index.{and-left}
 use Rattle.octets.proofs.Choice.{then-true, or-no-left}
-use Rattle.octets.proofs.Listed.{allGive, NoneHolds, none-first, refuses, rows-passed}
-use Rattle.packet.specs.Read.{longestPacket, readingRefusal, reads}
+use Rattle.octets.proofs.Listed.{allGive, NoneHolds, refuses, rows-passed}
+use Rattle.packet.specs.Read.{longestPacket, readingRefusal}
 use Rattle.packet.specs.Write.{leastOutput}
 use Rattle.numbers.specs.Numbers.{portCount, clockLimit}
-use Rattle.rules.specs.View.{portOn}
+use Rattle.rules.specs.View.{portOn, portSize}
+use Rattle.rules.specs.Questions.{cameWith}
+use Rattle.rules.proofs.Accepted.{accepted-reads}
 use Rattle.octets.specs.Listed.{firstOf}
 use Rattle.rules.specs.Refusals.{packetRows, refusalBy}
 use Rattle.tables.specs.Layout.{relayOf, wellFormed}
@@ -48,7 +50,7 @@ module _ (packet : List ℕ) (port clock : ℕ) (t : List ℕ) (room : ℕ) wher
           refused-before l =
               rw (h, ok-relay t h, le-ltb room leastOutput roomy, on, lt-leb clockLimit clock early, lt-ltb clock (relayOf t .clock) l)
 
-          pub refused-reading : relayOf t .clock ≤ clock → readingRefusal longestPacket packet ≡ packetRefusalOn packet port clock t room
+          pub refused-reading : relayOf t .clock ≤ clock → readingRefusal (portSize (relayOf t) port) packet ≡ packetRefusalOn packet port clock t room
           unfolding packetRefusalOn refusalBy packetRows firstOf _then_otherwise_ _or_
           refused-reading l =
               rw (h, ok-relay t h, le-ltb room leastOutput roomy, on, lt-leb clockLimit clock early, le-ltb clock (relayOf t .clock) l)
@@ -72,10 +74,8 @@ module _ (packet : List ℕ) (port clock : ℕ) (t : List ℕ) (room : ℕ) (non
   passed-rows = rows-passed (packetRows (relayOf t) port clock room) _ refl accepted-by-rules
 
   pub accepted-judge : CanJudge packet t
-  unfolding refusalBy reads
   accepted-judge =
-      let below = none-first (packetRows (relayOf t) port clock room) (readingRefusal longestPacket packet) passed-rows in
-      record { readable = ap (λ (n : ℕ). eqb n 0) (sym below) ∙ accepted-by-rules; formed = accepted-formed }
+      record { readable = accepted-reads (relayOf t) (cameWith packet port clock true) room accepted-by-rules; formed = accepted-formed }
 
   pub accepted-roomy : longestPacket ≤ room
   unfolding packetRows

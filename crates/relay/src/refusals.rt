@@ -2,11 +2,10 @@
 use numbers::CLOCK_LIMIT;
 use numbers::refusals;
 use packet::LEAST_OUTPUT;
-use packet::LONGEST_PACKET;
 ghost use mathlib.Core.Path.{_≡_};
 ghost use Rattle.relay.specs.Refusal.{packetRefusalOn};
 
-// The refusal's number, or 0. Rows 7, 6, 4, 5, and then reading's 1, 2, 3 and 1.
+// The refusal's number, or 0. Rows 7, 6, 4, 5, and then reading's 1, 2, 3 and 1, at the arrival port's size.
 pub fn refusal(packet: &[u8], port: u64, clock: u64, tables: &[u8], room: usize) -> u8
     ensures { λ r. ⌜ r ≡ packetRefusalOn (now (packet .entry)) port clock (now (tables .entry)) room ⌝ }
 {
@@ -25,5 +24,5 @@ pub fn refusal(packet: &[u8], port: u64, clock: u64, tables: &[u8], room: usize)
     if clock < lookup::last_clock(tables) {
         return refusals::CLOCK;
     }
-    packet::reading_refusal(packet, LONGEST_PACKET)
+    packet::reading_refusal(packet, lookup::port_size(tables, port))
 }

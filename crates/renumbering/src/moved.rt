@@ -1,6 +1,7 @@
 // The ports' settings at their new numbers.
 use super::one_to_one::preimage_of;
 use numbers::PORT_COUNT;
+use tables::places::FRESH_PORT;
 use tables::places::PORT_WIDTH;
 use tables::places::PORTS_AT;
 ghost use mathlib.Core.Path.{_≡_};
@@ -14,16 +15,13 @@ ghost use Rattle.tables.specs.Places.{tableSize};
 ghost use Rattle.tables.specs.Records.{portBytes};
 ghost use Rattle.tables.specs.Layout.{relayOf, wellFormed};
 
-// What is read for a number that is no port: off and boundary.
-const NO_PORT: [u8; PORT_WIDTH] = [0, 0];
-
-// The settings of port i.
+// The settings of port i, as a fresh one's where that is no port.
 fn settings_of(tables: &[u8], i: usize) -> [u8; PORT_WIDTH]
     requires { ⌜ (wellFormed (now tables) ≡ true) × (length (now tables) ≡ tableSize) ⌝ }
     ensures { λ r. ⌜ r ≡ portBytes (getD (relayOf (now (tables .entry)) .ports) i noPort) ⌝ }
 {
     if i >= PORT_COUNT {
-        return NO_PORT;
+        return FRESH_PORT;
     }
     let mut settings = [0u8; PORT_WIDTH];
     let at = PORTS_AT + PORT_WIDTH * i;

@@ -10,6 +10,7 @@ use borrow.Author.Tests.{lt-ltb}
 use Rattle.octets.specs.Choice.{_or_}
 use Rattle.octets.proofs.Choice.{then-true}
 use Rattle.numbers.specs.Numbers.{pathCount, pathLifetime}
+use Rattle.packet.specs.Read.{longestPacket}
 use Rattle.rules.specs.Relay.{Slot, used, Path, Relay, withPaths}
 use Rattle.rules.specs.View.{View, viewAt, isLivePath, pathPlace}
 use Rattle.rules.specs.Refusals.{slotOk, pathOk, packetRefusal}
@@ -53,7 +54,7 @@ module _ (a : Arrival) (output : List ℕ) (r : Relay) (t : Tally) (taken : eqb 
   says-accepted known todo =
       ap (λ (j : Judgement). saysAccepted (answered (j .answer) (j .output))) (then-true _ _ taken)
       ∙ ap (λ (x : Plan). leb 4 (verdictKind (verdict seen a x))) todo
-      ∙ either (λ (x : Verdict). leb 4 (verdictKind x) ≡ true) (eqb (spreadPorts seen a) 0 or exceeds (outgoing seen a (everywhere known)))
+      ∙ either (λ (x : Verdict). leb 4 (verdictKind x) ≡ true) (eqb (spreadPorts seen a) 0 or exceeds (outgoing seen a (everywhere known)) longestPacket)
       (λ _. refl) (λ _. refl)
 
   module _ (p : Path) (known : seen .path (destination a) ≡ used p) (todo : plan seen a ≡ follows (everywhere (used p))) where

@@ -14,7 +14,7 @@ use Rattle.octets.proofs.Listed.{allGive, all-first}
 use Rattle.packet.specs.Read.{longestPacket, readingRows, readingRefusal}
 use Rattle.numbers.specs.Numbers.{portCount, timeLimit}
 use Rattle.rules.specs.Relay.{Relay}
-use Rattle.rules.specs.View.{View, viewAt, portOn}
+use Rattle.rules.specs.View.{View, viewAt, portOn, portSize}
 use Rattle.rules.specs.Arrival.{Arrival}
 use Rattle.rules.specs.Ways.{Way, everywhere, by-path, along-link, by-return, blocked}
 use Rattle.rules.specs.Tests.{noWayOn, leavingPort, portOff}
@@ -54,7 +54,7 @@ unfolding refusalBy packetRows readingRefusal readingRows allGive _and_
 refusal-fits r a room =
     ltb-true _ 256
     (all-first (λ n. ltb n 256) (packetRows r (a .port) (a .clock) room) _ refl
-    (all-first (λ n. ltb n 256) (readingRows longestPacket (a .bytes)) 0 refl refl))
+    (all-first (λ n. ltb n 256) (readingRows (portSize r (a .port)) (a .bytes)) 0 refl refl))
 
 -- ---- verdicts: a packet leaves by a port that is on, and is not too long
 on-of : (b c : Bool) → b ≡ false → (not b and not c) ≡ false → c ≡ true

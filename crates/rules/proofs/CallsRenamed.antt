@@ -9,7 +9,7 @@ use borrow.Author.Tests.{not-false}
 use Rattle.octets.specs.Choice.{_then_otherwise_}
 use Rattle.octets.proofs.Choice.{then-ap}
 use Rattle.octets.specs.Listed.{_gives_otherwise_, firstOf}
-use Rattle.rules.specs.Relay.{Port, Relay, withRate, withPorts, withLocals}
+use Rattle.rules.specs.Relay.{Port, makePort, Relay, withRate, withPorts, withLocals}
 use Rattle.rules.specs.View.{View, viewAt, isLocal, localPlace}
 use Rattle.rules.specs.Renumbering.{image, oneToOne, renamePath, renumbered}
 use Rattle.rules.specs.Refusals.{tablesOk, clockBad, packetRefusal, emptyLocal}
@@ -61,7 +61,7 @@ accepted m r t fine ok = rw (fine, ok)
 -- a renamed call is given the same addresses
 pub addresses-renamed : (m : List ℕ) (c : TableCall) → ruleOf (ruleOf c .renamed m) .addresses ≡ ruleOf c .addresses
 unfolding ruleOf
-addresses-renamed m (sets-port port on mode) = refl
+addresses-renamed m (sets-port port on mode size) = refl
 addresses-renamed m (sets-rate target grace penalty) = refl
 addresses-renamed m (adds address) = refl
 addresses-renamed m (removes address) = refl
@@ -114,7 +114,7 @@ module _ (m : List ℕ) (ok : oneToOne m ≡ true) (r : Relay) (fine : tablesOk 
 
   rows-renamed : (c : TableCall) → ruleOf (ruleOf c .renamed m) .rows (renumbered m r) ≡ ruleOf c .rows r
   unfolding ruleOf isLocal localPlace emptyLocal renumbered
-  rows-renamed (sets-port port on mode) = rw (image-leb m ok port)
+  rows-renamed (sets-port port on mode size) = rw (image-leb m ok port)
   rows-renamed (sets-rate target grace penalty) = refl
   rows-renamed (adds address) = refl
   rows-renamed (removes address) = refl
@@ -127,7 +127,7 @@ module _ (m : List ℕ) (ok : oneToOne m ≡ true) (r : Relay) (fine : tablesOk 
   after-renamed : (c : TableCall) → ruleOf c .movesPorts ≡ false → NoneHolds (ruleOf c .rows r)
       → ruleOf (ruleOf c .renamed m) .after (renumbered m r) ≡ renumbered m (ruleOf c .after r)
   unfolding ruleOf localPlace emptyLocal withRate withLocals renumbered
-  after-renamed (sets-port port on mode) no-map n = ports-renamed port (record { on = on; mode = mode })
+  after-renamed (sets-port port on mode size) no-map n = ports-renamed port (makePort on mode size)
   after-renamed (sets-rate target grace penalty) no-map n = refl
   after-renamed (adds address) no-map n = refl
   after-renamed (removes address) no-map n = refl

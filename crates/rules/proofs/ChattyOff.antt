@@ -171,7 +171,7 @@ table-calm c r before none n = table-held h c (go c none)
     h = calm-later r (table-clock c r n) before
 
     go : (c : TableCall) → targetOf (on-tables c) ≡ 0 → TableKeeps (calmAt now) r c
-    go (sets-port port on mode) none = tt
+    go (sets-port port on mode size) none = tt
     go (sets-rate target grace penalty) none = none
     go (adds address) none = tt
     go (removes address) none = tt

@@ -19,7 +19,7 @@ use Rattle.rules.specs.View.{View, viewAt}
 use Rattle.rules.specs.Refusals.{packetRefusal}
 use Rattle.rules.specs.Arrival.{Arrival, header, destination, isLinkProof}
 use Rattle.rules.specs.Ways.{Way, everywhere, by-path, along-link, by-return, blocked, pathWay, linkWay, returnWay, wayOn}
-use Rattle.rules.specs.Tests.{ofKnown, rateLimited, portOff, noRoom}
+use Rattle.rules.specs.Tests.{ofKnown, rateLimited, portOff, tooLongForPort, noRoom}
 use Rattle.rules.specs.Judging.{Plan, dropped, follows, earlyTests, onwardTests, onwardPlan, plan, verdict}
 use Rattle.rules.specs.Calls.{Judgement, judged, judge, packetCall}
 use Rattle.rules.specs.Questions.{ofTest}
@@ -142,13 +142,14 @@ module _ (v : View) (a : Arrival) where
   -- an announce of a known path that gets past test 15 is accepted
   pub past-rate : (p : Path) → isAnnounce (header a) ≡ true → v .path (destination a) ≡ used p → rateLimited v a (wayOn v a) ≡ false → Reaches
       → plan v a ≡ follows (everywhere (used p))
-  unfolding onwardTests firstOf _then_otherwise_ portOff noRoom
+  unfolding onwardTests firstOf _then_otherwise_ portOff tooLongForPort noRoom
   past-rate p announce known off h =
       plan-if
       ∙ ap (λ (b : Bool). planIf b v a) off
       ∙ from-rate h false
       ∙ ap (λ (w : Way). firstOf (drop 7 (onwardTests v a w)) (follows w)) (announce-way announce ∙ ap everywhere known)
-      ∙ none-first (drop 7 (onwardTests v a (everywhere (used p)))) _ (and-no _ (ap not announce), (refl, tt))
+      ∙ none-first (drop 7 (onwardTests v a (everywhere (used p)))) _
+      (and-no _ (ap not announce), (and-no _ (ap not announce), (refl, tt)))
 
 -- ---- a reply that names test 15 is of an accepted packet that it drops
 module _ (a : Arrival) (output : List ℕ) (r : Relay) (t : Tally) where

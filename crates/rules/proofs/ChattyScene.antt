@@ -78,13 +78,13 @@ hear k clock r t whole new accepted = judged-at (sent k) clock r t (seen-quick c
 
 -- ---- the ports on, and then these settings
 abbrev pub onePort : Relay
-onePort = perform (port-setting 1 true 2) (fresh own) newTally .relay
+onePort = perform (port-setting 1 true 2 500) (fresh own) newTally .relay
 
-pub port-one : perform (port-setting 1 true 2) (fresh own) newTally ≡ record { reply = numbered 0; relay = onePort; tally = newTally }
+pub port-one : perform (port-setting 1 true 2 500) (fresh own) newTally ≡ record { reply = numbered 0; relay = onePort; tally = newTally }
 unfolding rules
 port-one = refl
 
-pub port-two : perform (port-setting 2 true 0) onePort newTally ≡ record { reply = numbered 0; relay = preparedRelay; tally = newTally }
+pub port-two : perform (port-setting 2 true 0 500) onePort newTally ≡ record { reply = numbered 0; relay = preparedRelay; tally = newTally }
 unfolding rules
 port-two = refl
 
@@ -207,7 +207,7 @@ all-spaced =
 -- ---- with the target 300 they keep the interval
 abbrev pub calls : ℕ → List Call
 calls target =
-    port-setting 1 true 2 ∷ port-setting 2 true 0 ∷ rate-setting target 0 600 ∷ rate-setting 86401 0 0
+    port-setting 1 true 2 500 ∷ port-setting 2 true 0 500 ∷ rate-setting target 0 600 ∷ rate-setting 86401 0 0
     ∷ hears 1 1000 ∷ hears 2 1300 ∷ hears 3 1600 ∷ []
 
 record Spacing (cs : List Call) (r : Relay) (t : Tally) : Type 0 where

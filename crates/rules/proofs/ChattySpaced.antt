@@ -175,7 +175,7 @@ module _ (d : List ℕ) where
   table-free c r h = table-held h c (go c)
     where
       go : (c : TableCall) → TableKeeps free r c
-      go (sets-port port on mode) = tt
+      go (sets-port port on mode size) = tt
       go (sets-rate target grace penalty) = tt
       go (adds address) = tt
       go (removes address) = tt

@@ -160,7 +160,7 @@ module _ {P : Property} {r : Relay} (h : Holds P r) where
 
 -- ---- a call on the tables
 abbrev pub TableKeeps : Property → Relay → TableCall → Type 0
-TableKeeps P r (sets-port port on mode) = P .ports (set (r .ports) port (makePort on mode))
+TableKeeps P r (sets-port port on mode size) = P .ports (set (r .ports) port (makePort on mode size))
 TableKeeps P r (sets-rate target grace penalty) = P .rate (makeRateSettings target grace penalty)
 TableKeeps P r (adds address) = P .locals (set (r .locals) (emptyLocal r) (used address))
 TableKeeps P r (removes address) = P .locals (set (r .locals) (localPlace r address) empty)
@@ -173,7 +173,7 @@ TableKeeps P r (marks destination clock) = P .clock clock × P .paths (markPath 
 
 pub table-held : {P : Property} {r : Relay} → Holds P r → (c : TableCall) → TableKeeps P r c → Holds P (ruleOf c .after r)
 unfolding ruleOf renumbered markPath withPaths
-table-held h (sets-port port on mode) k = ports-held h k
+table-held h (sets-port port on mode size) k = ports-held h k
 table-held h (sets-rate target grace penalty) k = rate-held h k
 table-held h (adds address) k = locals-held h k
 table-held h (removes address) k = locals-held h k

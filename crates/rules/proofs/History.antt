@@ -174,7 +174,7 @@ history-since-fresh cs r none = history cs r newTally none (omega arith)
 -- leave it
 unfoldable pub clockAfter : Call → ℕ → ℕ
 clockAfter (packet a output) last = a .clock
-clockAfter (on-tables (sets-port port on mode)) last = last
+clockAfter (on-tables (sets-port port on mode size)) last = last
 clockAfter (on-tables (sets-rate target grace penalty)) last = last
 clockAfter (on-tables (adds address)) last = last
 clockAfter (on-tables (removes address)) last = last
@@ -191,7 +191,7 @@ lastClock (c ∷ cs) r t last =
 
 table-after : (c : TableCall) (r : Relay) → ruleOf c .after r .clock ≡ clockAfter (on-tables c) (r .clock)
 unfolding ruleOf clockAfter withClock withRate withPorts withLocals renumbered
-table-after (sets-port port on mode) r = refl
+table-after (sets-port port on mode size) r = refl
 table-after (sets-rate target grace penalty) r = refl
 table-after (adds address) r = refl
 table-after (removes address) r = refl

@@ -2,7 +2,7 @@
 use Prim.Native.Nat.{ℕ}
 use mathlib.Core.Bool.{Bool, true, false, not, false≢true}
 use mathlib.Core.Path.{_≡_, refl, ap, _∙_}
-use lib.Dec.{eqb}
+use lib.Dec.{eqb, ltb}
 use borrow.Author.Tests.{eqb-true, not-true}
 use Rattle.octets.specs.Index.{_and_}
 use Rattle.octets.specs.Choice.{_then_otherwise_, _or_}
@@ -12,16 +12,18 @@ use Rattle.octets.proofs.Choice.{or-no, same-eq}
 use Rattle.octets.proofs.Listed.{none-first}
 use Rattle.packet.specs.Header.{typeTwo, ofKindLink, packetKind, isData, isAnnounce, isLinkRequest, isProof}
 use Rattle.packet.specs.Read.{partsOf}
-use Rattle.rules.specs.Relay.{used}
-use Rattle.rules.specs.View.{View}
+use Rattle.rules.specs.Relay.{used, Relay}
+use Rattle.rules.specs.View.{View, portSize}
 use Rattle.rules.specs.Arrival.{Arrival, header, hops, destination, isLinkProof}
 use Rattle.rules.specs.Exempt.{exemptContext, exempt}
 use Rattle.rules.specs.Ways.{Way, along-link, linkWay, wayOn}
-use Rattle.rules.specs.Tests.{notOurs, testedAsDuplicate, duplicate, typeTwoProof, typeTwoOfKindLink, announceNotSingle, announceTooShort, announceOfAnother, requestOfKindLink, requestTooShort, linkProofLength, formTests, badForm, ownAnnounce, deliveredHere, tooManyHops, noWayOn, alreadyKnown, fromAnsweringSide, fromAskingSide, wrongSide, notSigned, ofKnown, replay, notBetter, rateLimited, leavingPort, portOff, noRoom}
+use Rattle.rules.specs.Tests.{notOurs, testedAsDuplicate, duplicate, typeTwoProof, typeTwoOfKindLink, announceNotSingle, announceTooShort, announceOfAnother, requestOfKindLink, requestTooShort, linkProofLength, formTests, badForm, ownAnnounce, deliveredHere, tooManyHops, noWayOn, alreadyKnown, fromAnsweringSide, fromAskingSide, wrongSide, notSigned, ofKnown, replay, notBetter, rateLimited, leavingPort, portOff, tooLongForPort, noRoom}
+use Rattle.rules.specs.Outgoing.{outgoing, exceeds}
 use Rattle.rules.specs.Judging.{follows, earlyTests, onwardTests, onwardPlan, plan}
 use Rattle.rules.specs.Keepalives.{isKeepalive, keepsAlive}
 use Rattle.rules.specs.declared.Link.{Link}
 use Rattle.rules.proofs.Choices.{either, and-false}
+use Rattle.rules.proofs.Lengths.{carried-length}
 
 -- a packet of a link that is no link proof, from one of its sides
 side-right : (x y z : Bool) → (x or y) ≡ true → z ≡ false → (x then false otherwise z or not y) ≡ false
@@ -30,7 +32,7 @@ side-right true y z h e = refl
 side-right false true z h e = rw e
 side-right false false z h e = absurd (false≢true h)
 
-module _ (l : Link) (a : Arrival) (k : keepsAlive l a ≡ true) where
+module _ (r : Relay) (l : Link) (a : Arrival) (k : keepsAlive r l a ≡ true) where
   shape : isKeepalive (a .bytes) ≡ true
   unfolding keepsAlive
   shape = and-left _ _ k
@@ -41,7 +43,11 @@ module _ (l : Link) (a : Arrival) (k : keepsAlive l a ≡ true) where
 
   sided : (fromAnsweringSide l a or fromAskingSide l a) ≡ true
   unfolding keepsAlive
-  sided = and-right _ _ (and-right _ _ k)
+  sided = and-left _ _ (and-right _ _ (and-right _ _ k))
+
+  pub short-enough : exceeds (a .bytes) (portSize r (leavingPort a (along-link l))) ≡ false
+  unfolding keepsAlive
+  short-enough = not-true _ (and-right _ _ (and-right _ _ (and-right _ _ k)))
 
   type-one : typeTwo (header a) ≡ false
   unfolding isKeepalive
@@ -128,10 +134,19 @@ module _ (l : Link) (a : Arrival) (k : keepsAlive l a ≡ true) where
     unfolding leavingPort
     port-on asking answering = either (λ (port : ℕ). v .on port ≡ true) (fromAnsweringSide l a) (λ _. asking) (λ _. answering)
 
-    late-none : v .on (l .asking) ≡ true → v .on (l .answering) ≡ true
+    -- it leaves as long as it came
+    sized : exceeds (a .bytes) (v .size (leavingPort a (along-link l))) ≡ false → tooLongForPort v a (along-link l) ≡ false
+    unfolding tooLongForPort outgoing exceeds
+    sized short =
+        let size : ℕ = v .size (leavingPort a (along-link l)) in
+        ap (λ (n : ℕ). not (isAnnounce (header a)) and ltb size n) (carried-length (a .bytes))
+        ∙ ap (λ (b : Bool). not (isAnnounce (header a)) and b) short
+        ∙ and-false _
+
+    late-none : v .on (l .asking) ≡ true → v .on (l .answering) ≡ true → exceeds (a .bytes) (v .size (leavingPort a (along-link l))) ≡ false
         → firstOf (onwardTests v a (along-link l)) (follows (along-link l)) ≡ follows (along-link l)
     unfolding onwardTests noWayOn alreadyKnown notSigned ofKnown replay notBetter rateLimited portOff noRoom
-    late-none asking answering =
+    late-none asking answering short =
         none-first (onwardTests v a (along-link l)) _ (
           refl,
           (
@@ -148,7 +163,7 @@ module _ (l : Link) (a : Arrival) (k : keepsAlive l a ≡ true) where
                       refl,
                       (
                         ap (λ (b : Bool). not (isAnnounce (header a)) and not b) (port-on asking answering) ∙ and-false _,
-                        (refl, tt),
+                        (sized short, (refl, tt)),
                       ),
                     ),
                   ),
@@ -160,7 +175,8 @@ module _ (l : Link) (a : Arrival) (k : keepsAlive l a ≡ true) where
 
     -- it follows its link
     pub keepalive-follows : v .link (destination a) ≡ used l → l .proved ≡ true
-        → v .on (l .asking) ≡ true → v .on (l .answering) ≡ true → plan v a ≡ follows (along-link l)
+        → v .on (l .asking) ≡ true → v .on (l .answering) ≡ true → exceeds (a .bytes) (v .size (leavingPort a (along-link l))) ≡ false
+        → plan v a ≡ follows (along-link l)
     unfolding plan onwardPlan
-    keepalive-follows found proved asking answering =
-        early-none ∙ ap (λ (w : Way). onwardPlan v a w) (way-found found proved) ∙ late-none asking answering
+    keepalive-follows found proved asking answering short =
+        early-none ∙ ap (λ (w : Way). onwardPlan v a w) (way-found found proved) ∙ late-none asking answering short

@@ -44,7 +44,7 @@ use Rattle.rules.proofs.Stamped.{drop-kept, enact-clock, enact-links}
 use Rattle.rules.proofs.Followed.{Followed, Planned, planned, is-request}
 use Rattle.rules.proofs.Held.{judged-relay, packet-kept, table-kept-by, ask-kept, save-kept, load-kept}
 use Rattle.rules.proofs.Valid.{valid-of, ok-of, accepted-valid}
-use Rattle.rules.proofs.Keepalive.{names-link, keepalive-follows}
+use Rattle.rules.proofs.Keepalive.{names-link, short-enough, keepalive-follows}
 
 -- ---- the link table through one packet
 abbrev LowestLink : ℕ → List (Slot Link) → ℕ → Link → Type 0
@@ -236,21 +236,21 @@ module _ (l : Link) (expiry : ℕ) (r : Relay) (a : Arrival) (output : List ℕ)
       starts-after deadline e (up-after e after (omega (arith, still, before))) still near
 
   -- a keepalive follows its link and renews it
-  module _ (k : keepsAlive l a ≡ true) where
+  module _ (k : keepsAlive r l a ≡ true) where
     abbrev was : Link
     was = until l expiry
 
-    was-kept : keepsAlive was a ≡ true
-    unfolding keepsAlive fromAnsweringSide fromAskingSide
+    was-kept : keepsAlive r was a ≡ true
+    unfolding keepsAlive fromAnsweringSide fromAskingSide leavingPort
     was-kept = k
 
     was-shown : seen .link (destination a) ≡ used was
-    was-shown = ap (seen .link) (sym (names-link l a k)) ∙ up .lives
+    was-shown = ap (seen .link) (sym (names-link r l a k)) ∙ up .lives
 
     was-followed : todo ≡ follows (along-link was)
     unfolding viewAt
     was-followed =
-        keepalive-follows was a was-kept seen was-shown refl (up .asking) (up .answering)
+        keepalive-follows r was a was-kept seen was-shown refl (up .asking) (up .answering) (short-enough r was a was-kept)
 
     its-links : writePlan seen a todo r .links ≡ renewLink a was r .links
     unfolding writePlan writeWay
@@ -261,7 +261,7 @@ module _ (l : Link) (expiry : ℕ) (r : Relay) (a : Arrival) (output : List ℕ)
         let (lives, low) = lives-lowest in
         up-after (a .clock + provedLifetime)
         (subst (λ (ls : List (Slot Link)). LowestLink (a .clock) ls place (until l (a .clock + provedLifetime))) (sym its-links)
-        (own-renewed l r size a place expiry low lives was was-shown (names-link l a k)))
+        (own-renewed l r size a place expiry low lives was was-shown (names-link r l a k)))
         (omega arith)
 
     keepalive-starts : Starts l (a .clock + provedLifetime) R
@@ -278,10 +278,10 @@ module _ (l : Link) (expiry : ℕ) (r : Relay) (a : Arrival) (output : List ℕ)
         ∙ ap (λ (n : ℕ). answered (Judged (Forward (leavingPort a (along-link l)) n)) (patch output 0 (carriedPacket (a .bytes))))
         (length-set (a .bytes) 1 (hops a + 1))
 
--- ---- the first theorem: where the view at its clock has the link live and proved and both its ports are on, a keepalive that isn't refused
--- is forwarded, and the link's expiry is its clock + 720. Whatever hashes are remembered: however often it came
+-- ---- the first theorem: where the view at its clock has the link live and proved and both its ports are on, a keepalive that isn't refused, nor too long
+-- for the port of the other side, is forwarded, and the link's expiry is its clock + 720. Whatever hashes are remembered: however often it came
 pub keepalive-carried : (l : Link) (expiry : ℕ) (r : Relay) (a : Arrival) (output : List ℕ) (t : Tally) → UpAt l expiry (a .clock) r
-    → keepsAlive l a ≡ true → accepted (packet a output) r ≡ true
+    → keepsAlive r l a ≡ true → accepted (packet a output) r ≡ true
     → Carried l a output (perform (packet a output) r t .reply) (perform (packet a output) r t .relay)
 unfolding accepted
 keepalive-carried l expiry r a output t up k taken =
@@ -305,18 +305,21 @@ rightly-right false false true h e = h
 rightly-right false false false h e = absurd (false≢true e)
 
 -- a port that is on stays so, unless it is set off
-still-on : (r : Relay) (port : ℕ) (on : Bool) (mode p : ℕ) → (port ≡ p → on ≡ true) → portOn r p ≡ true
-    → portOn (withPorts (set (r .ports) port (makePort on mode)) r) p ≡ true
+still-on : (r : Relay) (port : ℕ) (on : Bool) (mode size p : ℕ) → (port ≡ p → on ≡ true) → portOn r p ≡ true
+    → portOn (withPorts (set (r .ports) port (makePort on mode size)) r) p ≡ true
 unfolding portOn withPorts
-still-on r port on mode p rightly h = go (ℕ-discrete p port) (decLt port (length (r .ports)))
+still-on r port on mode size p rightly h = go (ℕ-discrete p port) (decLt port (length (r .ports)))
   where
-    go : Dec (p ≡ port) → Dec (port < length (r .ports)) → (ltb p portCount and getD (set (r .ports) port (makePort on mode)) p noPort .on) ≡ true
+    settings : Port
+    settings = makePort on mode size
+
+    go : Dec (p ≡ port) → Dec (port < length (r .ports)) → (ltb p portCount and getD (set (r .ports) port settings) p noPort .on) ≡ true
     go (yes q) (yes l) =
-        let there = getD-set-same (r .ports) port (makePort on mode) noPort l in
+        let there = getD-set-same (r .ports) port settings noPort l in
         and-both (and-left _ _ h)
-        (ap (λ (x : Port). x .on) (ap (λ (i : ℕ). getD (set (r .ports) port (makePort on mode)) i noPort) q ∙ there) ∙ rightly (sym q))
-    go (yes q) (no l) = ap (λ (xs : List Port). ltb p portCount and getD xs p noPort .on) (set-out (r .ports) port (makePort on mode) (omega arith)) ∙ h
-    go (no q) b = ap (λ (x : Port). ltb p portCount and x .on) (getD-set-other (r .ports) port p (makePort on mode) noPort q) ∙ h
+        (ap (λ (x : Port). x .on) (ap (λ (i : ℕ). getD (set (r .ports) port settings) i noPort) q ∙ there) ∙ rightly (sym q))
+    go (yes q) (no l) = ap (λ (xs : List Port). ltb p portCount and getD xs p noPort .on) (set-out (r .ports) port settings (omega arith)) ∙ h
+    go (no q) b = ap (λ (x : Port). ltb p portCount and x .on) (getD-set-other (r .ports) port p settings noPort q) ∙ h
 
 -- the link at a later clock that is before its deadline
 up-later : (l : Link) (deadline : ℕ) (r : Relay) (s : Starts l deadline r) (clock : ℕ) → tablesOk r ≡ true → r .clock ≤ clock → clock < deadline
@@ -337,14 +340,14 @@ up-later l deadline r s clock fine after before =
 table-up : (l : Link) (deadline : ℕ) (r : Relay) → Starts l deadline r → (c : TableCall) → fair l deadline (on-tables c) ≡ true
     → tablesOk r ≡ true → NoneHolds (ruleOf c .rows r) → Starts l deadline (ruleOf c .after r)
 unfolding ruleOf fair viewAt linkPlace withClock withRate withPorts withLocals markPath withPaths portOn
-table-up l deadline r s (sets-port port on mode) h fine n =
+table-up l deadline r s (sets-port port on mode size) h fine n =
     record {
       expiry = s .expiry;
       up =
           record {
             lives = s .up .lives;
-            asking = still-on r port on mode (l .asking) (λ q. rightly-left on _ _ h (eq-eqb port (l .asking) q)) (s .up .asking);
-            answering = still-on r port on mode (l .answering) (λ q. rightly-right on _ _ h (eq-eqb port (l .answering) q)) (s .up .answering);
+            asking = still-on r port on mode size (l .asking) (λ q. rightly-left on _ _ h (eq-eqb port (l .asking) q)) (s .up .asking);
+            answering = still-on r port on mode size (l .answering) (λ q. rightly-right on _ _ h (eq-eqb port (l .answering) q)) (s .up .answering);
           };
       lasts = s .lasts;
       near = s .near;
@@ -390,9 +393,9 @@ packet-up l deadline r s a room taken before =
 
 module _ (l : Link) (deadline : ℕ) where
   call-up : (c : Call) (r : Relay) (t : Tally) → Starts l deadline r → (accepted c r ≡ true → fair l deadline c ≡ true)
-      → Starts l (nextDeadline l deadline c (accepted c r)) (perform c r t .relay)
+      → Starts l (nextDeadline r l deadline c (accepted c r)) (perform c r t .relay)
   unfolding accepted fair nextDeadline
-  call-up (packet a output) r t s justly = go (eqb (packetRefusal r a (length output)) 0) refl (keepsAlive l a) refl
+  call-up (packet a output) r t s justly = go (eqb (packetRefusal r a (length output)) 0) refl (keepsAlive r l a) refl
     where
       R : Relay
       R = perform (packet a output) r t .relay
@@ -406,8 +409,8 @@ module _ (l : Link) (deadline : ℕ) where
       near : eqb (packetRefusal r a (length output)) 0 ≡ true → deadline ≤ a .clock + provedLifetime
       near e = let after = accepted-packet r a (length output) e .notBefore in omega (arith, after, s .near)
 
-      go : (x : Bool) → eqb (packetRefusal r a (length output)) 0 ≡ x → (y : Bool) → keepsAlive l a ≡ y
-          → Starts l (eqb (packetRefusal r a (length output)) 0 and keepsAlive l a then a .clock + provedLifetime otherwise deadline) R
+      go : (x : Bool) → eqb (packetRefusal r a (length output)) 0 ≡ x → (y : Bool) → keepsAlive r l a ≡ y
+          → Starts l (eqb (packetRefusal r a (length output)) 0 and keepsAlive r l a then a .clock + provedLifetime otherwise deadline) R
       go false h y k =
           subst (λ (n : ℕ). Starts l n R) (sym (then-false _ _ (and-no _ h)))
           (packet-kept (Starts l deadline) s a t output (λ e. absurd (false≢true (sym h ∙ e))))
@@ -423,7 +426,7 @@ module _ (l : Link) (deadline : ℕ) where
   call-up (loads f file) r t s justly = load-kept (Starts l deadline) s f file t (λ e. absurd (false≢true (justly e)))
 
   call-carried : (c : Call) (r : Relay) (t : Tally) → Starts l deadline r → (accepted c r ≡ true → fair l deadline c ≡ true)
-      → CarriedIf l c (accepted c r) (perform c r t .reply) (perform c r t .relay)
+      → CarriedIf l c (accepted c r) r (perform c r t .reply) (perform c r t .relay)
   unfolding accepted fair CarriedIf
   call-carried (packet a output) r t s justly = λ e k.
       let now = packet-up l deadline r s a (length output) e (ltb-true (a .clock) deadline (justly e)) in
@@ -438,8 +441,8 @@ pub keepalives-keep : (l : Link) (cs : List Call) (deadline : ℕ) (r : Relay) (
 unfolding InTime Lasts
 keepalives-keep l [] deadline r t s inTime = tt
 keepalives-keep l (c ∷ cs) deadline r t s inTime =
-    let next : Starts l (nextDeadline l deadline c (accepted c r)) (perform c r t .relay) = call-up l deadline c r t s (inTime .0) in (
+    let next : Starts l (nextDeadline r l deadline c (accepted c r)) (perform c r t .relay) = call-up l deadline c r t s (inTime .0) in (
       call-carried l deadline c r t s (inTime .0),
       (next .expiry, next .up .lives),
-      keepalives-keep l cs (nextDeadline l deadline c (accepted c r)) (perform c r t .relay) (perform c r t .tally) next (inTime .1),
+      keepalives-keep l cs (nextDeadline r l deadline c (accepted c r)) (perform c r t .relay) (perform c r t .tally) next (inTime .1),
     )

@@ -1,19 +1,21 @@
--- Document 02, wish 9: "Forwarded packets keep their length or lose sixteen bytes; announces alone grow, and past 500 they're Kept."
+-- Document 02, wish 9: "Forwarded packets keep their length or lose sixteen bytes; announces alone grow, and past 500 they're Kept." And wish 11.
 --   rewritten-length, carried-length    how long a packet is under another header, and with its hops raised;
 --   sent-way                            which packets go which way;
---   lengths-kept                        what a packet call answers has the lengths of the wish, for any relay whose addresses are addresses.
-use Prim.Native.Nat.{ℕ, _+_, _*_, _/_, _%_, _≤_}
+--   lengths-kept                        what a packet call answers has the lengths of the wish, for any relay whose addresses are addresses;
+--   sizes-kept                          what leaves by a port is never longer than that port carries, for any relay.
+use Prim.Native.Nat.{ℕ, _+_, _*_, _/_, _%_, _≤_, _<_}
 use native.Mathlib.Omega.{arith}
 use mathlib.Core.Bool.{Bool, true, false, not}
 use mathlib.Core.List.{List}
 use mathlib.Core.Path.{_≡_, refl, sym, ap, subst, _∙_}
-use lib.Dec.{eqb, leb}
+use lib.Dec.{eqb, ltb, leb}
 use lib.ListN.{length, getD, set, length-drop, length-set}
-use borrow.Author.Tests.{eq-eqb, eqb-true, eqb-false, ne-eqb, le-leb, ltb-false}
+use borrow.Author.Tests.{eq-eqb, eqb-true, eqb-false, ne-eqb, le-leb, ltb-false, not-true}
 use Rattle.octets.specs.Index.{_and_}
 use Rattle.octets.specs.Choice.{_or_}
-use Rattle.octets.proofs.Index.{and-left, and-right, and-both}
+use Rattle.octets.proofs.Index.{and-left, and-right, and-both, and-yes, all-intro}
 use Rattle.octets.proofs.Choice.{then-true, then-false, or-left, or-right, or-no-right}
+use Rattle.numbers.specs.Numbers.{portCount}
 use Rattle.packet.specs.Header.{typeTwo, isAnnounce}
 use Rattle.packet.specs.Read.{longestPacket, headerOf, noAddress, partsOf, payloadStart, payload, reads}
 use Rattle.packet.specs.Write.{Wide}
@@ -21,20 +23,23 @@ use Rattle.packet.proofs.ReadLaws.{start-two, start-one, reads-readable, parts-
 use Rattle.packet.proofs.WriteLaws.{packet-length}
 use Rattle.packet.proofs.Widths.{parts-wide}
 use Rattle.rules.specs.Relay.{Slot, empty, used, Path, Return, Relay}
-use Rattle.rules.specs.View.{View, viewAt}
+use Rattle.rules.specs.View.{View, viewAt, portSize}
 use Rattle.rules.specs.Refusals.{slotOk, packetRefusal}
 use Rattle.rules.specs.Arrival.{Arrival, header, destination, isLinkProof}
 use Rattle.rules.specs.Ways.{Way, everywhere, by-path, along-link, by-return, blocked, pathWay, linkWay, returnWay, wayOn}
-use Rattle.rules.specs.Outgoing.{rewritten, spreadHeader, spreadPacket, pathPacket, carriedPacket, outgoing, exceeds}
+use Rattle.rules.specs.Tests.{leavingPort, tooLongForPort}
+use Rattle.rules.specs.Answers.{portSet, inSet}
+use Rattle.rules.specs.Outgoing.{rewritten, spreadHeader, spreadPacket, spreadPorts, pathPacket, carriedPacket, outgoing, exceeds}
 use Rattle.rules.specs.Judging.{Plan, dropped, delivered, follows, plan, spreadVerdict, wayVerdict, verdict}
 use Rattle.rules.specs.Calls.{Judgement, judged, judge, packetCall}
-use Rattle.rules.specs.Lengths.{isAddress, byAddress, addressed, forwardedLength, grownLength, verdictLengthOk, answerLengthOk}
+use Rattle.rules.specs.Lengths.{isAddress, byAddress, addressed, forwardedLength, grownLength, verdictLengthOk, answerLengthOk, verdictSizeOk, answerSizeOk}
 use Rattle.rules.specs.declared.Link.{Link}
 use Rattle.rules.specs.declared.Verdict.{Verdict}
 use Rattle.rules.specs.declared.Tally.{Tally}
 use Rattle.rules.proofs.Choices.{either}
 use Rattle.rules.proofs.Tables.{all-getD}
 use Rattle.rules.proofs.Passed.{passed}
+use Rattle.rules.proofs.PortSets.{in-set}
 use Rattle.rules.proofs.Accepted.{accepted-reads}
 
 -- ---- headers: modulo 16 a packet is of type 1, and spread it is of type 2
@@ -65,16 +70,16 @@ start-is P header one two = go (typeTwo header) refl
     go false e = subst P (sym (start-one header e)) one
 
 -- ---- a packet that reads
-module _ (longest : ℕ) (p : List ℕ) (h : reads longest p ≡ true) where
+module _ (size : ℕ) (p : List ℕ) (h : reads size p ≡ true) where
   pub body-length : payloadStart (headerOf p) + length (payload p) ≡ length p
   unfolding payload
-  body-length = simp length-drop (omega (arith, reads-readable longest p h .whole))
+  body-length = simp length-drop (omega (arith, reads-readable size p h .whole))
 
   -- under another header and relay address
   module _ (header : ℕ) (relay : List ℕ) (wide : length relay ≡ 16) where
     pub rewritten-wide : Wide
         (record { header = header; hops = partsOf p .hops + 1; relay = relay; destination = partsOf p .destination; context = partsOf p .context })
-    rewritten-wide = record { relay = wide; destination = parts-wide p (reads-readable longest p h .whole) .destination }
+    rewritten-wide = record { relay = wide; destination = parts-wide p (reads-readable size p h .whole) .destination }
 
     pub rewritten-length : length (rewritten header relay p) ≡ payloadStart header + length (payload p)
     unfolding rewritten
@@ -230,3 +235,56 @@ module _ (r : Relay) (wide : addressed r ≡ true) where
   lengths-kept a t output =
       either (λ (j : Judgement). answerLengthOk (a .bytes) (j .answer) ≡ true) (eqb (packetRefusal r a (length output)) 0)
       (judged-length a (length output)) (λ _. refl)
+
+-- ---- wish 11
+module _ (r : Relay) (a : Arrival) where
+  abbrev shows : View
+  shows = viewAt (a .clock) r
+
+  short-for : (port n : ℕ) → ltb (portSize r port) n ≡ false → leb n (portSize r port) ≡ true
+  short-for port n e = le-leb n (portSize r port) (ltb-false (portSize r port) n e)
+
+  -- test 16, of a packet that is no announce
+  forwarded-size : (w : Way) → isAnnounce (header a) ≡ false → tooLongForPort shows a w ≡ false
+      → leb (length (outgoing shows a w)) (portSize r (leavingPort a w)) ≡ true
+  unfolding tooLongForPort exceeds viewAt
+  forwarded-size w none fits = short-for (leavingPort a w) _ (sym (and-yes _ (ap not none)) ∙ fits)
+
+  -- each port of the set is one that carries it
+  spread-size : (port : ℕ) → port < portCount
+      → (not (inSet (spreadPorts shows a) port) or leb (length (spreadPacket (r .own) (a .bytes))) (portSize r port)) ≡ true
+  unfolding spreadPorts portSet exceeds viewAt
+  spread-size port l = go (inSet (spreadPorts shows a) port) refl
+    where
+      n : ℕ
+      n = length (spreadPacket (r .own) (a .bytes))
+
+      go : (b : Bool) → inSet (spreadPorts shows a) port ≡ b → (not (inSet (spreadPorts shows a) port) or leb n (portSize r port)) ≡ true
+      go false e = or-left _ (ap not e)
+      go true e =
+          let chosen = sym (in-set _ portCount port l) ∙ e in
+          or-right _ (short-for port n (not-true _ (and-right _ _ (and-right _ _ chosen))))
+
+  way-size : (w : Way) → Sent shows a w → tooLongForPort shows a w ≡ false → verdictSizeOk r (wayVerdict shows a w) ≡ true
+  unfolding wayVerdict verdictSizeOk spreadVerdict outgoing viewAt
+  way-size (everywhere known) s fits = either (λ (x : Verdict). verdictSizeOk r x ≡ true) _ (λ _. refl) (λ _. all-intro _ portCount spread-size)
+  way-size (by-path p) s fits = forwarded-size (by-path p) (s .0) fits
+  way-size (along-link l) s fits = forwarded-size (along-link l) s fits
+  way-size (by-return t) s fits = forwarded-size (by-return t) s fits
+  way-size (blocked why) s fits = refl
+
+  plan-size : verdictSizeOk r (verdict shows a (plan shows a)) ≡ true
+  unfolding verdict verdictSizeOk
+  plan-size = go (plan shows a) refl
+    where
+      go : (todo : Plan) → plan shows a ≡ todo → verdictSizeOk r (verdict shows a todo) ≡ true
+      go (dropped reason) e = refl
+      go delivered e = refl
+      go (follows w) e =
+          let (way, p) = passed shows a w e in
+          way-size w (subst (Sent shows a) way (sent-way shows a)) (p .fits)
+
+  pub sizes-kept : (t : Tally) (output : List ℕ) → answerSizeOk r (packetCall a r t output .answer) ≡ true
+  unfolding packetCall judge judged answerSizeOk
+  sizes-kept t output =
+      either (λ (j : Judgement). answerSizeOk r (j .answer) ≡ true) (eqb (packetRefusal r a (length output)) 0) (λ _. plan-size) (λ _. refl)

@@ -16,13 +16,14 @@ use Rattle.octets.proofs.Choice.{then-true, then-false, or-left, or-right}
 use Rattle.octets.proofs.Listed.{allGive}
 use Rattle.packet.specs.Header.{ofKindSingle, isAnnounce}
 use Rattle.packet.specs.Announce.{emissionOf}
+use Rattle.packet.specs.Read.{longestPacket}
 use Rattle.rules.specs.Relay.{used, Path, Relay}
 use Rattle.rules.specs.View.{View, viewAt, pathPlace}
 use Rattle.rules.specs.Refusals.{packetRefusal}
 use Rattle.rules.specs.Arrival.{Arrival, header, hops, destination, blob}
 use Rattle.rules.specs.Blobs.{held, isAmong, greatestEmission, storeBlob}
 use Rattle.rules.specs.Ways.{everywhere, wayOn}
-use Rattle.rules.specs.Tests.{duplicate, announceNotSingle, formTests, badForm, ownAnnounce, tooManyHops, noWayOn, wrongSide, notSigned, revives, ofKnown, isReplay, replay, notBetter, rateLimited, portOff, noRoom}
+use Rattle.rules.specs.Tests.{duplicate, announceNotSingle, formTests, badForm, ownAnnounce, tooManyHops, noWayOn, wrongSide, notSigned, revives, ofKnown, isReplay, replay, notBetter, rateLimited, portOff, tooLongForPort, noRoom}
 use Rattle.rules.specs.Answers.{verdictKind, reasonNumber}
 use Rattle.rules.specs.Outgoing.{spreadPorts, outgoing, exceeds}
 use Rattle.rules.specs.Judging.{Plan, dropped, delivered, follows, earlyTests, onwardTests, onwardPlan, plan, spreadVerdict, wayVerdict, verdict}
@@ -174,7 +175,7 @@ module _ (a : Arrival) (output : List ℕ) (r : Relay) (t : Tally) (taken : eqb 
 
       -- tests 6 to 13: below the greatest, test 10 is made, and holds
       onward-is : isAccepted (verdict seen a (onwardPlan seen a (everywhere (used p)))) ≡ (isNewest p a and not (notSigned a))
-      unfolding onwardPlan onwardTests firstOf noWayOn wrongSide replay notBetter rateLimited ofKnown isReplay portOff noRoom verdict wayVerdict
+      unfolding onwardPlan onwardTests firstOf noWayOn wrongSide replay notBetter rateLimited ofKnown isReplay portOff tooLongForPort noRoom verdict wayVerdict
           spreadVerdict isAccepted _then_otherwise_ _and_
       onward-is = go (revives a p) (notSigned a) refl refl ∙ ap (λ (b : Bool). b and not (notSigned a)) revives-newest
         where
@@ -183,7 +184,7 @@ module _ (a : Arrival) (output : List ℕ) (r : Relay) (t : Tally) (taken : eqb 
           go false false e f = rw (announce-unknown seen a announce (everywhere (used p)), f, e, among) refl
           go true false e f =
               rw (announce-unknown seen a announce (everywhere (used p)), f, e, announce)
-              (either (λ (y : Verdict). isAccepted y ≡ true) (eqb (spreadPorts seen a) 0 or exceeds (outgoing seen a (everywhere (used p))))
+              (either (λ (y : Verdict). isAccepted y ≡ true) (eqb (spreadPorts seen a) 0 or exceeds (outgoing seen a (everywhere (used p))) longestPacket)
               (λ _. refl) (λ _. refl))
 
       -- all tests that are left

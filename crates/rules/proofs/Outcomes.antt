@@ -7,7 +7,7 @@ use lib.ListN.{length, take, replicate}
 use Rattle.octets.specs.Part.{patch}
 use Rattle.packet.specs.Hash.{packetHash, linkId}
 use Rattle.numbers.specs.Numbers.{localCount, pathCount, blobLimit, linkCount, returnCount, hashCount}
-use Rattle.rules.specs.Relay.{freshPort, noRateSettings, Slot, empty, used, Path, Return, Remembered, Relay}
+use Rattle.rules.specs.Relay.{makePort, freshPort, noRateSettings, Slot, empty, used, Path, Return, Remembered, Relay}
 use Rattle.rules.specs.Blobs.{noBlob}
 use Rattle.rules.specs.Rate.{startsAt}
 use Rattle.rules.specs.View.{viewAt}
@@ -58,7 +58,7 @@ relayOf clock paths links returns hashes =
       own = own;
       clock = clock;
       rate = noRateSettings;
-      ports = freshPort ∷ record { on = true; mode = 2 } ∷ record { on = true; mode = 0 } ∷ replicate 13 freshPort;
+      ports = freshPort ∷ makePort true 2 500 ∷ makePort true 0 500 ∷ replicate 13 freshPort;
       locals = replicate localCount empty;
       paths = filled pathCount paths;
       links = filled linkCount links;

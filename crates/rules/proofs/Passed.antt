@@ -7,10 +7,11 @@ use lib.ListN.{length}
 use Rattle.octets.specs.Index.{_and_}
 use Rattle.octets.specs.Choice.{_then_otherwise_, _or_}
 use Rattle.octets.proofs.Listed.{allGive}
+use Rattle.packet.specs.Read.{longestPacket}
 use Rattle.rules.specs.View.{View}
 use Rattle.rules.specs.Arrival.{Arrival, hops}
 use Rattle.rules.specs.Ways.{Way, everywhere, by-path, along-link, by-return, blocked, wayOn}
-use Rattle.rules.specs.Tests.{notOurs, duplicate, badForm, ownAnnounce, deliveredHere, tooManyHops, noWayOn, alreadyKnown, wrongSide, notSigned, replay, notBetter, rateLimited, portOff, noRoom}
+use Rattle.rules.specs.Tests.{notOurs, duplicate, badForm, ownAnnounce, deliveredHere, tooManyHops, noWayOn, alreadyKnown, wrongSide, notSigned, replay, notBetter, rateLimited, portOff, tooLongForPort, noRoom}
 use Rattle.rules.specs.Answers.{reasonNumber}
 use Rattle.rules.specs.Outgoing.{spreadPorts, outgoing, exceeds}
 use Rattle.rules.specs.Judging.{Plan, dropped, delivered, follows, earlyTests, onwardTests, onwardPlan, plan, spreadVerdict, wayVerdict, verdict}
@@ -40,6 +41,7 @@ pub record Passed (v : View) (a : Arrival) (w : Way) : Type 0 where
   pub better : notBetter a w ≡ false
   pub unlimited : rateLimited v a w ≡ false
   pub portOn : portOff v a w ≡ false
+  pub fits : tooLongForPort v a w ≡ false
   pub room : noRoom v a w ≡ false
 
 module _ (v : View) (a : Arrival) where
@@ -47,7 +49,7 @@ module _ (v : View) (a : Arrival) where
   unfolding earlyTests onwardTests
   passed-all w early late =
       let (ours, (new, (form, (notOwn, (elsewhere, (fewHops, _)))))) = early in
-      let (someWay, (unknown, (side, (signed, (newBlob, (better, (unlimited, (portOn, (room, _))))))))) = late in
+      let (someWay, (unknown, (side, (signed, (newBlob, (better, (unlimited, (portOn, (fits, (room, _)))))))))) = late in
       record {
         ours = ours;
         new = new;
@@ -63,6 +65,7 @@ module _ (v : View) (a : Arrival) where
         better = better;
         unlimited = unlimited;
         portOn = portOn;
+        fits = fits;
         room = room;
       }
 
@@ -90,7 +93,7 @@ pub names-test : (v : View) (a : Arrival) (n : ℕ) → eqb 6 n ≡ false → (t
 unfolding namesTest verdict wayVerdict spreadVerdict ofTest _then_otherwise_
 names-test v a n other (dropped reason) = refl
 names-test v a n other delivered = refl
-names-test v a n other (follows (everywhere known)) = go (eqb (spreadPorts v a) 0 or exceeds (outgoing v a (everywhere known)))
+names-test v a n other (follows (everywhere known)) = go (eqb (spreadPorts v a) 0 or exceeds (outgoing v a (everywhere known)) longestPacket)
   where
     go : (b : Bool) → namesTest n (b then Kept otherwise Spread (spreadPorts v a) (length (outgoing v a (everywhere known)))) ≡ false
     go true = refl

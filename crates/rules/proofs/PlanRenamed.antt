@@ -16,7 +16,7 @@ use Rattle.rules.specs.Renumbering.{image, oneToOne, preimage}
 use Rattle.rules.specs.Arrival.{Arrival}
 use Rattle.rules.specs.Ways.{Way, everywhere, by-path, along-link, by-return, blocked, wayOn}
 use Rattle.rules.specs.Answers.{portSet, imageSet, renameVerdict}
-use Rattle.rules.specs.Outgoing.{spreadPorts, outgoing}
+use Rattle.rules.specs.Outgoing.{spreadPacket, exceeds, spreadPorts, outgoing}
 use Rattle.rules.specs.Judging.{Plan, dropped, delivered, follows, earlyTests, onwardTests, onwardPlan, plan, spreadVerdict, wayVerdict, verdict, leaves, outputAfter}
 use Rattle.rules.specs.Run.{renameArrival}
 use Rattle.rules.specs.declared.Verdict.{Verdict}
@@ -25,7 +25,7 @@ use Rattle.octets.proofs.Listed.{first-ap}
 use Rattle.rules.proofs.Images.{image-port, image-eqb, preimage-holds, source, source-port}
 use Rattle.rules.proofs.PortSets.{image-set, image-set-empty}
 use Rattle.rules.proofs.ViewRenamed.{renameView}
-use Rattle.rules.proofs.TestsRenamed.{renameWay, wayOn-renamed, notOurs-renamed, duplicate-renamed, bytes-renamed, ownAnnounce-renamed, deliveredHere-renamed, noWayOn-renamed, whyBlocked-renamed, alreadyKnown-renamed, wrongSide-renamed, notSigned-renamed, replay-renamed, notBetter-renamed, rateLimited-renamed, leavingPort-renamed, portOff-renamed, noRoom-renamed, outgoing-renamed}
+use Rattle.rules.proofs.TestsRenamed.{renameWay, wayOn-renamed, notOurs-renamed, duplicate-renamed, bytes-renamed, ownAnnounce-renamed, deliveredHere-renamed, noWayOn-renamed, whyBlocked-renamed, alreadyKnown-renamed, wrongSide-renamed, notSigned-renamed, replay-renamed, notBetter-renamed, rateLimited-renamed, leavingPort-renamed, portOff-renamed, tooLongForPort-renamed, noRoom-renamed, outgoing-renamed}
 
 unfoldable pub renamePlan : List ℕ → Plan → Plan
 renamePlan m (dropped reason) = dropped reason
@@ -58,6 +58,7 @@ module _ (m : List ℕ) (ok : oneToOne m ≡ true) where
         notBetter-renamed m a w,
         rateLimited-renamed m v a w,
         portOff-renamed m ok v a w,
+        tooLongForPort-renamed m ok v a w,
         noRoom-renamed m v a w,
       )
 
@@ -67,13 +68,15 @@ module _ (m : List ℕ) (ok : oneToOne m ≡ true) where
       rw (wayOn-renamed m v a, onward-renamed v a (wayOn v a), early-renamed v a) (sym (simp (first-ap (renamePlan m))))
 
   -- ---- the answer
-  -- all ports on but the arrival port, by their new numbers
+  -- the ports on but the arrival port that carry the announce, by their new numbers
   spreadPorts-renamed : (v : View) (a : Arrival) → v .on 16 ≡ false → spreadPorts (renameView m v) (renameArrival m a) ≡ imageSet m (spreadPorts v a)
   unfolding spreadPorts renameView renameArrival
   spreadPorts-renamed v a none-on =
-      image-set m ok (λ port. v .on port and not (eqb port (a .port))) (λ n. v .on (source m n) and not (eqb n (image m (a .port))))
+      let carried : ℕ → Bool = λ port. not (exceeds (spreadPacket (v .own) (a .bytes)) (v .size port)) in
+      image-set m ok (λ port. v .on port and not (eqb port (a .port)) and carried port)
+      (λ n. v .on (source m n) and not (eqb n (image m (a .port))) and carried (source m n))
       (λ n l b.
-      ap₂ (λ (k : ℕ) (t : Bool). v .on k and not t) (source-port m n l)
+      ap₂ (λ (k : ℕ) (t : Bool). v .on k and not t and carried k) (source-port m n l)
       (ap (λ (k : ℕ). eqb k (image m (a .port))) (sym (image-port m (preimage m n) b ∙ preimage-holds m n b))
       ∙ image-eqb m ok (preimage m n) (a .port)))
       (λ n l b. and-no _ (ap (v .on) (source-port m n l ∙ b) ∙ none-on))
@@ -88,7 +91,7 @@ module _ (m : List ℕ) (ok : oneToOne m ≡ true) where
   unfolding wayVerdict renameVerdict renameWay spreadPorts
   wayVerdict-renamed v a (everywhere known) none-on =
       ap₂ spreadVerdict (spreadPorts-renamed v a none-on) (outgoing-renamed m v a (everywhere known))
-      ∙ spreadVerdict-renamed (λ port. v .on port and not (eqb port (a .port))) (outgoing v a (everywhere known))
+      ∙ spreadVerdict-renamed _ (outgoing v a (everywhere known))
   wayVerdict-renamed v a (by-path p) none-on =
       ap₂ Forward (leavingPort-renamed m ok a (by-path p)) (ap length (outgoing-renamed m v a (by-path p)))
   wayVerdict-renamed v a (along-link l) none-on =

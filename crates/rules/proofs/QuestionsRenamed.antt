@@ -23,7 +23,7 @@ use Rattle.rules.proofs.Images.{image-leb, source-image}
 use Rattle.rules.proofs.MovedPorts.{moved-at}
 use Rattle.rules.proofs.SlotsRenamed.{slot-renamed, holds-at}
 use Rattle.rules.proofs.Counting.{count-cong}
-use Rattle.rules.proofs.ViewRenamed.{on-image, path-renamed, view-renamed}
+use Rattle.rules.proofs.ViewRenamed.{on-image, size-image, path-renamed, view-renamed}
 use Rattle.rules.proofs.PlanRenamed.{renamePlan, plan-renamed}
 
 -- a relay that row 7 doesn't name has sixteen ports
@@ -53,7 +53,9 @@ same-test m n (follows w) = refl
 module _ (m : List ℕ) (ok : oneToOne m ≡ true) (r : Relay) (fine : tablesOk r ≡ true) (fine′ : tablesOk (renumbered m r) ≡ true) where
   pub packetRefusal-renamed : (a : Arrival) (room : ℕ) → packetRefusal (renumbered m r) (renameArrival m a) room ≡ packetRefusal r a room
   unfolding refusalBy packetRows renameArrival renumbered
-  packetRefusal-renamed a room = rw (fine, fine′, on-image m (a .clock) r (sixteen-ports r fine) ok (a .port))
+  packetRefusal-renamed a room =
+      let sixteen = sixteen-ports r fine in
+      rw (fine, fine′, on-image m (a .clock) r sixteen ok (a .port), size-image m (a .clock) r sixteen ok (a .port))
 
   wordMatters-renamed : (a : Arrival) → wordMatters (renumbered m r) (renameArrival m a) ≡ wordMatters r a
   unfolding wordMatters renameArrival

@@ -18,7 +18,7 @@ use Rattle.rules.specs.Relay.{Slot, empty, used, Return, Relay}
 use Rattle.rules.specs.View.{View, viewAt}
 use Rattle.rules.specs.Arrival.{Arrival, header, destination, isLinkProof}
 use Rattle.rules.specs.Ways.{Way, by-return, returnWay, wayOn}
-use Rattle.rules.specs.Tests.{deliveredHere, noWayOn, alreadyKnown, wrongSide, notSigned, ofKnown, replay, notBetter, rateLimited, leavingPort, portOff, noRoom}
+use Rattle.rules.specs.Tests.{deliveredHere, noWayOn, alreadyKnown, wrongSide, notSigned, ofKnown, replay, notBetter, rateLimited, leavingPort, portOff, tooLongForPort, noRoom}
 use Rattle.rules.specs.Answers.{verdictKind}
 use Rattle.rules.specs.Judging.{Plan, dropped, delivered, follows, earlyTests, onwardTests, onwardPlan, plan, wayVerdict, verdict}
 use Rattle.rules.specs.Reasons.{reachesWay, isOrdinaryProof}
@@ -75,23 +75,26 @@ module _ (v : View) (a : Arrival) (ordinary : isOrdinaryProof a ≡ true) where
 
   -- ---- tests 6 to 13
   onward-is : (t : Return)
-      → isForwarded (verdict v a (onwardPlan v a (by-return t))) ≡ (eqb (a .port) (t .leaving) and not (portOff v a (by-return t)))
+      → isForwarded (verdict v a (onwardPlan v a (by-return t)))
+      ≡ (eqb (a .port) (t .leaving) and not (portOff v a (by-return t)) and not (tooLongForPort v a (by-return t)))
   unfolding onwardPlan onwardTests firstOf noWayOn wrongSide replay notBetter rateLimited ofKnown noRoom verdict wayVerdict isForwarded
       _then_otherwise_ _and_
-  onward-is t = go (eqb (a .port) (t .leaving)) (portOff v a (by-return t)) refl refl
+  onward-is t = go (eqb (a .port) (t .leaving)) (portOff v a (by-return t)) (tooLongForPort v a (by-return t)) refl refl refl
     where
-      go : (b c : Bool) → eqb (a .port) (t .leaving) ≡ b → portOff v a (by-return t) ≡ c
-          → isForwarded (verdict v a (onwardPlan v a (by-return t))) ≡ (b and not c)
-      go false c e f = rw (unknown (by-return t), e) refl
-      go true true e f = rw (unknown (by-return t), e, is-signed, f) refl
-      go true false e f = rw (unknown (by-return t), e, is-signed, f) refl
+      go : (b c d : Bool) → eqb (a .port) (t .leaving) ≡ b → portOff v a (by-return t) ≡ c → tooLongForPort v a (by-return t) ≡ d
+          → isForwarded (verdict v a (onwardPlan v a (by-return t))) ≡ (b and not c and not d)
+      go false c d e f g = rw (unknown (by-return t), e) refl
+      go true true d e f g = rw (unknown (by-return t), e, is-signed, f) refl
+      go true false true e f g = rw (unknown (by-return t), e, is-signed, f, g) refl
+      go true false false e f g = rw (unknown (by-return t), e, is-signed, f, g) refl
 
   -- .. with those before: without a record test 6 holds
   decided : (s : Slot Return) → (reachesWay v a and isForwarded (verdict v a (onwardPlan v a (returnWay s)))) ≡ goesBack v a s
   unfolding returnWay goesBack onwardPlan onwardTests firstOf noWayOn verdict isForwarded _then_otherwise_
   decided empty = and-false (reachesWay v a)
   decided (used t) =
-      ap (reachesWay v a and_) (onward-is t) ∙ in-order (reachesWay v a) (eqb (a .port) (t .leaving)) (not (portOff v a (by-return t)))
+      ap (reachesWay v a and_) (onward-is t)
+      ∙ in-order (reachesWay v a) (eqb (a .port) (t .leaving)) (not (portOff v a (by-return t)) and not (tooLongForPort v a (by-return t)))
 
   forwarded-is : isForwarded (verdict v a (plan v a)) ≡ goesBack v a (v .return (destination a))
   unfolding earlyTests verdict allGive isForwarded _and_

@@ -13,7 +13,7 @@ use Rattle.rules.specs.Relay.{used, Path, Relay}
 use Rattle.rules.specs.View.{View, viewAt}
 use Rattle.rules.specs.Arrival.{Arrival, header, isLinkProof}
 use Rattle.rules.specs.Ways.{everywhere}
-use Rattle.rules.specs.Tests.{ownAnnounce, noWayOn, wrongSide, notSigned, revives, ofKnown, replay, notBetter, rateLimited, portOff, noRoom}
+use Rattle.rules.specs.Tests.{ownAnnounce, noWayOn, wrongSide, notSigned, revives, ofKnown, replay, notBetter, rateLimited, portOff, tooLongForPort, noRoom}
 use Rattle.rules.specs.Judging.{follows, earlyTests, onwardTests, onwardPlan, plan}
 use Rattle.rules.specs.Rate.{entryRevived}
 use Rattle.rules.specs.Writes.{announcedRate, announcedPath}
@@ -47,8 +47,12 @@ module _ (p : Path) (a : Arrival) (output : List ℕ) (r : Relay) (h : NewEnough
   unfolding notSigned
   is-signed = ap (λ (b : Bool). (isAnnounce (header a) or isLinkProof (a .bytes)) and not b) (h .signed) ∙ and-false _
 
+  -- announces skip tests 12 and 16
+  skipped : (b : Bool) → (not (isAnnounce (header a)) and b) ≡ false
+  skipped b = and-no b (ap not (h .announce))
+
   accepted-then : plan seen a ≡ follows (everywhere (used p))
-  unfolding plan onwardPlan earlyTests onwardTests noWayOn wrongSide replay notBetter rateLimited portOff noRoom
+  unfolding plan onwardPlan earlyTests onwardTests noWayOn wrongSide replay notBetter rateLimited portOff tooLongForPort noRoom
   accepted-then =
       none-first (earlyTests seen a) _ (
         announce-ours seen a (h .announce),
@@ -66,7 +70,7 @@ module _ (p : Path) (a : Arrival) (output : List ℕ) (r : Relay) (h : NewEnough
             refl,
             (
               is-signed,
-              (not-made _, (not-made _, (not-made _, (and-no _ (ap not (h .announce)), (refl, tt))))),
+              (not-made _, (not-made _, (not-made _, (skipped _, (skipped _, (refl, tt)))))),
             ),
           ),
         ),

@@ -15,7 +15,7 @@ use Rattle.octets.proofs.Listed.{NoneHolds, refuses, rows-passed}
 -- no row's number is 0
 rows-refuse : (c : TableCall) (r : Relay) → allGive refuses (ruleOf c .rows r) ≡ true
 unfolding ruleOf allGive refuses _and_
-rows-refuse (sets-port port on mode) r = refl
+rows-refuse (sets-port port on mode size) r = refl
 rows-refuse (sets-rate target grace penalty) r = refl
 rows-refuse (adds address) r = refl
 rows-refuse (removes address) r = refl

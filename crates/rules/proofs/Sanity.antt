@@ -135,7 +135,7 @@ data-to-answering-side = rw proved-is (leaves (linkBytes 3) 2400 provedRelay (ta
 
 -- demand 3's theorem speaks of such lists: packets, and a map that is refused, after the renumbering
 pub receipt-after-renumbering : ForgetsNothing oneUp
-    (port-setting 1 true 2 ∷ port-setting 2 true 0 ∷ arrives announceBytes 1000 1 ∷ arrives dataBytes 2000 2 ∷ [])
+    (port-setting 1 true 2 500 ∷ port-setting 2 true 0 500 ∷ arrives announceBytes 1000 1 ∷ arrives dataBytes 2000 2 ∷ [])
     (arrives (receiptBytes 5) 2500 1 ∷ renumbering [] ∷ [])
     (fresh own) newTally
 unfolding rules noCall movesPorts setsRelay

@@ -87,7 +87,7 @@ next c before = perform c (before .relay) (before .tally)
 
 -- a fresh relay with port 1 on, roaming, and port 2 on, boundary
 unfoldable pub prepared : Outcome
-prepared = next (port-setting 2 true 0) (perform (port-setting 1 true 2) (fresh own) newTally)
+prepared = next (port-setting 2 true 0 500) (perform (port-setting 1 true 2 500) (fresh own) newTally)
 
 -- the announce comes in by port 1 at 1,000
 unfoldable pub announced : Outcome

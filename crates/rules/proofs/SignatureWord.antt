@@ -13,6 +13,7 @@ use Rattle.octets.specs.Choice.{_then_otherwise_, _or_}
 use Rattle.packet.specs.Header.{isAnnounce}
 use Rattle.octets.specs.Listed.{Test, _gives_otherwise_, firstOf, anyHolds}
 use Rattle.octets.proofs.Listed.{told, allGive}
+use Rattle.packet.specs.Read.{longestPacket}
 use Rattle.rules.specs.Relay.{Relay, Slot, empty, used, Path}
 use Rattle.rules.specs.View.{View, viewAt}
 use Rattle.rules.specs.Refusals.{packetRows, packetRefusal, refusalBy}
@@ -99,7 +100,7 @@ module _ (v : View) (a : Arrival) where
 
   late-follows : (w : Way) → noWayOn w ≡ false → late (follows w) ≡ true
   unfolding late verdict wayVerdict spreadVerdict dropOf noWayOn _then_otherwise_
-  late-follows (everywhere known) n = go (eqb (spreadPorts v a) 0 or exceeds (outgoing v a (everywhere known)))
+  late-follows (everywhere known) n = go (eqb (spreadPorts v a) 0 or exceeds (outgoing v a (everywhere known)) longestPacket)
     where
       go : (b : Bool) → ltb 8 (dropOf (b then Kept otherwise Spread (spreadPorts v a) (length (outgoing v a (everywhere known))))) ≡ true
       go true = refl

@@ -193,7 +193,7 @@ module _ (d : List ℕ) (expiry : ℕ) where
 
     table-marked : (c : TableCall) → NoneHolds (ruleOf c .rows r) → Marked (ruleOf c .after r .clock) (ruleOf c .after r .paths)
     unfolding ruleOf withClock withRate withPorts withLocals renumbered markPath withPaths viewAt renamePath
-    table-marked (sets-port port on mode) n = m
+    table-marked (sets-port port on mode size) n = m
     table-marked (sets-rate target grace penalty) n = m
     table-marked (adds address) n = m
     table-marked (removes address) n = m

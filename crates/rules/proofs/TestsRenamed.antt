@@ -15,8 +15,8 @@ use Rattle.rules.specs.Renumbering.{image, oneToOne, renamePath, renameL
 use Rattle.rules.specs.Arrival.{Arrival, header, destination, hash, isLinkProof}
 use Rattle.rules.specs.Exempt.{exempt}
 use Rattle.rules.specs.Ways.{Way, everywhere, by-path, along-link, by-return, blocked, pathWay, linkWay, returnWay, wayOn}
-use Rattle.rules.specs.Tests.{notOurs, isMarked, forMarkedPath, duplicate, testedAsDuplicate, ownAnnounce, deliveredHere, noWayOn, whyBlocked, isThere, followsProvedLink, alreadyKnown, fromAnsweringSide, fromAskingSide, wrongSide, notSigned, revives, ofKnown, isReplay, replay, isNotBetter, notBetter, isRateLimited, rateLimited, leavingPort, portOff, noRoom}
-use Rattle.rules.specs.Outgoing.{outgoing}
+use Rattle.rules.specs.Tests.{notOurs, isMarked, forMarkedPath, duplicate, testedAsDuplicate, ownAnnounce, deliveredHere, noWayOn, whyBlocked, isThere, followsProvedLink, alreadyKnown, fromAnsweringSide, fromAskingSide, wrongSide, notSigned, revives, ofKnown, isReplay, replay, isNotBetter, notBetter, isRateLimited, rateLimited, leavingPort, portOff, tooLongForPort, noRoom}
+use Rattle.rules.specs.Outgoing.{outgoing, exceeds}
 use Rattle.rules.specs.Run.{renameArrival}
 use Rattle.rules.specs.declared.Link.{Link}
 use Rattle.rules.specs.declared.Blocked.the-variants.{NotProved}
@@ -193,8 +193,17 @@ module _ (m : List ℕ) (ok : oneToOne m ≡ true) where
   leavingPort-renamed a (by-return t) = refl
   leavingPort-renamed a (blocked why) = sym (image-other m 16 (le-refl 16))
 
+  -- where the leaving port was
+  leaving-source : (a : Arrival) (w : Way) → source m (leavingPort (renameArrival m a) (renameWay m w)) ≡ leavingPort a w
+  leaving-source a w = ap (source m) (leavingPort-renamed a w) ∙ source-image m ok (leavingPort a w)
+
   pub portOff-renamed : (v : View) (a : Arrival) (w : Way) → portOff (renameView m v) (renameArrival m a) (renameWay m w) ≡ portOff v a w
   unfolding portOff renameView renameArrival
-  portOff-renamed v a w =
-      ap (λ (n : ℕ). not (isAnnounce (header a)) and not (v .on n))
-      (ap (source m) (leavingPort-renamed a w) ∙ source-image m ok (leavingPort a w))
+  portOff-renamed v a w = ap (λ (n : ℕ). not (isAnnounce (header a)) and not (v .on n)) (leaving-source a w)
+
+  -- the same bytes, and its size has moved with the port
+  pub tooLongForPort-renamed : (v : View) (a : Arrival) (w : Way)
+      → tooLongForPort (renameView m v) (renameArrival m a) (renameWay m w) ≡ tooLongForPort v a w
+  unfolding tooLongForPort renameView renameArrival
+  tooLongForPort-renamed v a w =
+      ap₂ (λ (packet : List ℕ) (n : ℕ). not (isAnnounce (header a)) and exceeds packet (v .size n)) (outgoing-renamed m v a w) (leaving-source a w)

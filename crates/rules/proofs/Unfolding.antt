@@ -14,9 +14,9 @@ use Rattle.packet.specs.Hash.{hashedPart, packetHash, linkId}
 use Rattle.packet.specs.Announce.{keysOf, nameHashOf, blobOf, emissionOf, ratchetLength, leastAnnounce, identityHash, announcedDestination}
 use Rattle.octets.specs.Listed.{firstOf, anyHolds, valued}
 use Rattle.octets.proofs.Listed.{told}
-use Rattle.numbers.specs.Numbers.{pathLifetime}
+use Rattle.numbers.specs.Numbers.{isSize, pathLifetime}
 use Rattle.rules.specs.Relay.{fresh, withClock, withRate, withPorts, withLocals, withPaths, withLinks, withReturns, withHashes, holds, lowest, free, lowestFree}
-use Rattle.rules.specs.View.{portOn, portMode, localPlace, isLocal, isLivePath, isLiveLink, isLiveReturn, isLiveHash, pathPlace, linkPlace, returnPlace, hashPlace, freePath, freeLink, isExpiredPath, expiryIf, later, latest, expiredPath, viewAt}
+use Rattle.rules.specs.View.{portOn, portMode, portSize, localPlace, isLocal, isLivePath, isLiveLink, isLiveReturn, isLiveHash, pathPlace, linkPlace, returnPlace, hashPlace, freePath, freeLink, isExpiredPath, expiryIf, later, latest, expiredPath, viewAt}
 use Rattle.rules.specs.Blobs.{held, isAmong, greatest, greatestEmission, oneBlob, addBlob, storeBlob}
 use Rattle.rules.specs.Refusals.{timeOk, rateSettingsOk, rateEntryOk, portOk, pathOk, linkOk, returnOk, hashOk, slotOk, all, tableOk, tablesOk, packetRows, refusalBy, emptyLocal}
 use Rattle.rules.specs.Renumbering.{image, differsBefore, oneToOne, preimage, movedPorts, renamePath, renameLink, renameReturn, renameSlot, renumbered}
@@ -24,7 +24,7 @@ use Rattle.rules.specs.Arrival.{isLinkProof}
 use Rattle.rules.specs.Exempt.{exemptContext, exempt}
 use Rattle.rules.specs.Rate.{oneMore, violated, rated, entryAccepted, entryRevived, entryDropped}
 use Rattle.rules.specs.Ways.{noPath, pathWay, linkWay, returnWay, wayOn}
-use Rattle.rules.specs.Tests.{notOurs, isMarked, forMarkedPath, testedAsDuplicate, duplicate, typeTwoProof, typeTwoOfKindLink, announceNotSingle, announceTooShort, announceOfAnother, requestOfKindLink, requestTooShort, linkProofLength, formTests, badForm, failing, ownAnnounce, deliveredHere, tooManyHops, noWayOn, whyBlocked, isThere, followsProvedLink, alreadyKnown, fromAnsweringSide, fromAskingSide, wrongSide, notSigned, revives, ofKnown, isReplay, replay, isNotBetter, notBetter, isRateLimited, rateLimited, leavingPort, portOff, noRoom}
+use Rattle.rules.specs.Tests.{notOurs, isMarked, forMarkedPath, testedAsDuplicate, duplicate, typeTwoProof, typeTwoOfKindLink, announceNotSingle, announceTooShort, announceOfAnother, requestOfKindLink, requestTooShort, linkProofLength, formTests, badForm, failing, ownAnnounce, deliveredHere, tooManyHops, noWayOn, whyBlocked, isThere, followsProvedLink, alreadyKnown, fromAnsweringSide, fromAskingSide, wrongSide, notSigned, revives, ofKnown, isReplay, replay, isNotBetter, notBetter, isRateLimited, rateLimited, leavingPort, portOff, tooLongForPort, noRoom}
 use Rattle.rules.specs.Answers.{setBelow, portSet}
 use Rattle.rules.specs.Outgoing.{rewritten, spreadHeader, spreadPacket, spreadPorts, pathPacket, carriedPacket, outgoing, exceeds}
 use Rattle.rules.specs.Judging.{earlyTests, onwardTests, onwardPlan, plan, spreadVerdict, wayVerdict, verdict, leaves, outputAfter}
@@ -47,14 +47,14 @@ lists = tt
 -- packets
 unfoldable pub layout : Unit {0}
 unfolding accessCode typeTwo contextFlag destinationKind packetKind typeOneParts typeTwoParts partsOf payloadStart payload
-    readingRows readingRefusal reads reading addresses packetOf hashedPart packetHash linkId keysOf nameHashOf blobOf emissionOf ratchetLength
+    isSize readingRows readingRefusal reads reading addresses packetOf hashedPart packetHash linkId keysOf nameHashOf blobOf emissionOf ratchetLength
     leastAnnounce identityHash announcedDestination
 layout = tt
 
 -- the relay, and what is read of it
 unfoldable pub tables : Unit {0}
 unfolding pathLifetime fresh withClock withRate withPorts withLocals withPaths withLinks withReturns withHashes holds lowest free lowestFree
-    portOn portMode localPlace isLocal isLivePath isLiveLink isLiveReturn isLiveHash pathPlace linkPlace returnPlace hashPlace freePath freeLink
+    portOn portMode portSize localPlace isLocal isLivePath isLiveLink isLiveReturn isLiveHash pathPlace linkPlace returnPlace hashPlace freePath freeLink
     isExpiredPath expiryIf later latest expiredPath viewAt held isAmong greatest greatestEmission oneBlob addBlob storeBlob
 tables = tt
 
@@ -70,7 +70,7 @@ unfolding exemptContext exempt isLinkProof noPath pathWay linkWay returnWay wayO
     typeTwoProof typeTwoOfKindLink announceNotSingle announceTooShort announceOfAnother requestOfKindLink requestTooShort linkProofLength formTests badForm
     failing ownAnnounce
     deliveredHere tooManyHops noWayOn whyBlocked isThere followsProvedLink alreadyKnown fromAnsweringSide fromAskingSide wrongSide notSigned
-    revives ofKnown isReplay replay isNotBetter notBetter oneMore violated rated isRateLimited rateLimited leavingPort portOff noRoom
+    revives ofKnown isReplay replay isNotBetter notBetter oneMore violated rated isRateLimited rateLimited leavingPort portOff tooLongForPort noRoom
 tests = tt
 
 -- answers and the bytes that leave

@@ -68,7 +68,7 @@ packet-unique a r t output valid u =
 
 table-keeps : (c : TableCall) (r : Relay) (clock : ℕ) → Valid r → UniqueAt clock r → NoneHolds (ruleOf c .rows r) → TableKeeps (onceAt clock) r c
 unfolding ruleOf isLocal localPlace
-table-keeps (sets-port port on mode) r clock valid u n = tt
+table-keeps (sets-port port on mode size) r clock valid u n = tt
 table-keeps (sets-rate target grace penalty) r clock valid u n = tt
 -- an added local address is none of those there
 table-keeps (adds address) r clock valid u n =
@@ -84,7 +84,7 @@ table-keeps (marks destination now) r clock valid u n = (tt, mark-keeps clock r 
 -- a mark sets the last clock, which is not before it, and the other calls on the tables leave it
 pub table-clock : (c : TableCall) (r : Relay) → NoneHolds (ruleOf c .rows r) → r .clock ≤ ruleOf c .after r .clock
 unfolding ruleOf withClock withRate withPorts withLocals renumbered
-table-clock (sets-port port on mode) r n = le-refl (r .clock)
+table-clock (sets-port port on mode size) r n = le-refl (r .clock)
 table-clock (sets-rate target grace penalty) r n = le-refl (r .clock)
 table-clock (adds address) r n = le-refl (r .clock)
 table-clock (removes address) r n = le-refl (r .clock)

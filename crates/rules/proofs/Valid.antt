@@ -10,7 +10,7 @@ use borrow.Author.Tests.{lt-ltb, le-leb, leb-false, not-false}
 use Rattle.octets.specs.Index.{_and_}
 use Rattle.octets.proofs.Index.{and-left, and-right, and-both}
 use Rattle.octets.proofs.Choice.{or-no-left, or-no-right}
-use Rattle.numbers.specs.Numbers.{portCount, localCount, pathCount, linkCount, returnCount, hashCount, clockLimit, timeLimit, modeCount}
+use Rattle.numbers.specs.Numbers.{portCount, localCount, pathCount, linkCount, returnCount, hashCount, clockLimit, timeLimit, modeCount, isSize}
 use Rattle.rules.specs.Relay.{freshPort, noPort, Slot, empty, used, Path, Ring, Relay, fresh, withPaths, withLinks, withReturns, withHashes}
 use Rattle.rules.specs.View.{View, viewAt}
 use Rattle.rules.specs.Renumbering.{oneToOne, preimage, movedPorts, renamePath, renameLink, renameReturn}
@@ -29,7 +29,7 @@ use Rattle.rules.proofs.Held.{Property, Holds, WayKeeps, PlanKeeps, Tab
 use Rattle.rules.proofs.Rows.{loaded-ok}
 use Rattle.rules.proofs.Tables.{table-listOf, table-replicate, table-set, table-map, table-getD}
 use Rattle.rules.proofs.Followed.{Found, Planned, planned}
-use Rattle.rules.proofs.Accepted.{Accepted, accepted-packet}
+use Rattle.rules.proofs.Accepted.{no-port-ok, Accepted, accepted-packet}
 use Rattle.rules.proofs.Ranges.{put-next, place-next, emptied-ok, dropped-rate-ok, path-rate, limited-ok, marked-ok, time-small, announced-ok, return-ok, link-ok, renewed-ok, path-renamed, link-renamed, return-renamed, slot-renamed}
 
 -- ---- row 7, part by part
@@ -91,7 +91,7 @@ ok-of r v =
     (and-both (v .hashes .0) (v .hashes .1)))))))))
 
 fresh-valid : (own : List ℕ) → Valid (fresh own)
-unfolding fresh timeOk rateSettingsOk portOk slotOk
+unfolding fresh timeOk rateSettingsOk portOk slotOk isSize _and_
 fresh-valid own =
     record {
       own = tt;
@@ -195,9 +195,9 @@ accepted-valid r a room taken =
     valid-of r (not-false _ (rows-passed (packetRows r (a .port) (a .clock) room) _ refl taken .0))
 
 renumbering-keeps : (m : List ℕ) → oneToOne m ≡ true → (r : Relay) → Valid r → TableKeeps rowSeven r (renumbers m)
-unfolding movedPorts portOk
+unfolding movedPorts
 renumbering-keeps m ok r v = (
-  table-listOf portOk portCount _ (λ n. table-getD portOk portCount (r .ports) (v .ports) (preimage m n) noPort refl),
+  table-listOf portOk portCount _ (λ n. table-getD portOk portCount (r .ports) (v .ports) (preimage m n) noPort no-port-ok),
   table-map (slotOk pathOk) pathCount (r .paths) (v .paths) _ (slot-renamed pathOk (renamePath m) (path-renamed m ok)),
   table-map (slotOk linkOk) linkCount (r .links) (v .links) _ (slot-renamed linkOk (renameLink m) (link-renamed m ok)),
   (
@@ -208,8 +208,10 @@ renumbering-keeps m ok r v = (
 
 table-keeps : (c : TableCall) (r : Relay) → Valid r → NoneHolds (ruleOf c .rows r) → TableKeeps rowSeven r c
 unfolding ruleOf portOk timeOk markPath withPaths viewAt
-table-keeps (sets-port port on mode) r v n =
-    table-set portOk portCount (r .ports) (v .ports) _ _ (lt-ltb mode modeCount (leb-false _ _ (or-no-right _ _ (n .0))))
+table-keeps (sets-port port on mode size) r v n =
+    let rest = or-no-right _ _ (n .0) in
+    table-set portOk portCount (r .ports) (v .ports) _ _
+    (and-both (lt-ltb mode modeCount (leb-false _ _ (or-no-left _ _ rest))) (not-false _ (or-no-right _ _ rest)))
 table-keeps (sets-rate target grace penalty) r v n = not-false _ (n .0)
 table-keeps (adds address) r v n = rw length-set (v .locals)
 table-keeps (removes address) r v n = rw length-set (v .locals)

@@ -12,7 +12,7 @@ use Rattle.octets.specs.Index.{_and_}
 use Rattle.octets.proofs.Index.{and-no, and-yes}
 use Rattle.rules.specs.Relay.{Port, noPort, Slot, empty, used, Path, Relay}
 use Rattle.rules.specs.Renumbering.{image, oneToOne, renamePath, renameLink, renameReturn, renameSlot, renumbered}
-use Rattle.rules.specs.View.{portOn, portMode, localPlace, isLocal, isLivePath, isLiveLink, isLiveReturn, pathPlace, linkPlace, returnPlace, hashPlace, freePath, freeLink, isExpiredPath, expiryIf, expiredPath, View, viewAt}
+use Rattle.rules.specs.View.{portOn, portMode, portSize, localPlace, isLocal, isLivePath, isLiveLink, isLiveReturn, pathPlace, linkPlace, returnPlace, hashPlace, freePath, freeLink, isExpiredPath, expiryIf, expiredPath, View, viewAt}
 use Rattle.rules.proofs.Images.{source, source-other, source-image}
 use Rattle.rules.proofs.MovedPorts.{moved-at}
 use Rattle.rules.proofs.Latest.{latest-cong}
@@ -26,6 +26,7 @@ renameView m v =
       rate = v .rate;
       on = λ port. v .on (source m port);
       mode = λ port. v .mode (source m port);
+      size = λ port. v .size (source m port);
       local = v .local;
       remembered = v .remembered;
       path = λ destination. renameSlot (renamePath m) (v .path destination);
@@ -103,6 +104,10 @@ module _ (m : List ℕ) (clock : ℕ) (r : Relay) where
     unfolding portMode renumbered
     mode-renamed n = ap (λ (p : Port). p .mode) (moved-at m (r .ports) sixteen n)
 
+    size-renamed : (n : ℕ) → portSize (renumbered m r) n ≡ portSize r (source m n)
+    unfolding portSize renumbered
+    size-renamed n = ap (λ (p : Port). p .size) (moved-at m (r .ports) sixteen n)
+
     -- a number below 16 may come from nowhere; then it comes from 16, which is as noPort
     on-renamed : (n : ℕ) → portOn (renumbered m r) n ≡ portOn r (source m n)
     unfolding portOn renumbered
@@ -122,6 +127,9 @@ module _ (m : List ℕ) (clock : ℕ) (r : Relay) where
     pub on-image : oneToOne m ≡ true → (n : ℕ) → portOn (renumbered m r) (image m n) ≡ portOn r n
     on-image ok n = on-renamed (image m n) ∙ ap (portOn r) (source-image m ok n)
 
+    pub size-image : oneToOne m ≡ true → (n : ℕ) → portSize (renumbered m r) (image m n) ≡ portSize r n
+    size-image ok n = size-renamed (image m n) ∙ ap (portSize r) (source-image m ok n)
+
     pub view-renamed : viewAt clock (renumbered m r) ≡ renameView m (viewAt clock r)
     unfolding viewAt renameView renumbered isLocal localPlace hashPlace
     view-renamed = λ i.
@@ -130,6 +138,7 @@ module _ (m : List ℕ) (clock : ℕ) (r : Relay) where
           rate = r .rate;
           on = λ n. on-renamed n i;
           mode = λ n. mode-renamed n i;
+          size = λ n. size-renamed n i;
           local = isLocal r;
           remembered = λ hash. ltb (hashPlace clock r hash) 1024;
           path = λ destination. path-renamed destination i;

@@ -12,7 +12,7 @@ use Rattle.rules.specs.declared.Clause.the-variants.{TypeTwoProof, TypeT
 use Rattle.rules.specs.declared.Blocked.{Blocked}
 use Rattle.rules.specs.declared.Blocked.the-variants.{NotAsking, NoPath, OnlyExpired, NoLink, NotProved, NoReturn}
 use Rattle.rules.specs.declared.Reason.{Reason}
-use Rattle.rules.specs.declared.Reason.the-variants.{NotOurs, Duplicate, BadForm, OwnAnnounce, TooManyHops, NoWayOn, AlreadyKnown, WrongSide, NotSigned, Replay, NotBetter, RateLimited, PortOff, NoRoom}
+use Rattle.rules.specs.declared.Reason.the-variants.{NotOurs, Duplicate, BadForm, OwnAnnounce, TooManyHops, NoWayOn, AlreadyKnown, WrongSide, NotSigned, Replay, NotBetter, RateLimited, PortOff, TooLongForPort, NoRoom}
 use Rattle.rules.specs.declared.Verdict.{Verdict}
 use Rattle.rules.specs.declared.Verdict.the-variants.{Drop, Deliver, Forward, Spread, Kept}
 use Rattle.rules.specs.declared.Answer.{Answer}
@@ -81,6 +81,7 @@ reasonNumbers Replay = byTest 10
 reasonNumbers NotBetter = byTest 11
 reasonNumbers RateLimited = byTest 15
 reasonNumbers PortOff = byTest 12
+reasonNumbers TooLongForPort = byTest 16
 reasonNumbers NoRoom = byTest 13
 
 -- the test that dropped the packet, whichever its clause or case

@@ -6,7 +6,7 @@ use lib.Dec.{eqb, leb}
 use lib.ListN.{length, set}
 use Rattle.octets.specs.Choice.{_then_otherwise_, _or_}
 use Rattle.octets.specs.Listed.{Test, _gives_otherwise_, firstOf}
-use Rattle.numbers.specs.Numbers.{portCount, localCount, modeCount}
+use Rattle.numbers.specs.Numbers.{portCount, localCount, modeCount, isSize}
 use Rattle.rules.specs.Relay.{empty, used, makePort, makeRateSettings, Relay, withClock, withRate, withPorts, withLocals}
 use Rattle.rules.specs.View.{View, viewAt, isLocal, localPlace}
 use Rattle.rules.specs.Renumbering.{image, oneToOne, renumbered}
@@ -77,7 +77,7 @@ settled refusal before after = record { refusal = refusal; relay = eqb refusal 0
 
 -- ---- what each call on the tables is
 pub data TableCall : Type 0 where
-  sets-port : (port : ℕ) (on : Bool) (mode : ℕ) → TableCall
+  sets-port : (port : ℕ) (on : Bool) (mode size : ℕ) → TableCall
   sets-rate : (target grace penalty : ℕ) → TableCall
   adds : (address : List ℕ) → TableCall
   removes : (address : List ℕ) → TableCall
@@ -97,12 +97,12 @@ pub record TableRule : Type 0 where
   pub movesPorts : Bool
 
 unfoldable pub ruleOf : TableCall → TableRule
--- setting a port on or off, and its mode: 9
-ruleOf (sets-port port on mode) =
+-- setting a port on or off, its mode and its size: 9; wish 11: "9 also for a size outside the range"
+ruleOf (sets-port port on mode size) =
     record {
-      rows = λ r. leb portCount port or leb modeCount mode gives 9 otherwise [];
-      after = λ r. withPorts (set (r .ports) port (makePort on mode)) r;
-      renamed = λ m. sets-port (image m port) on mode;
+      rows = λ r. leb portCount port or leb modeCount mode or not (isSize size) gives 9 otherwise [];
+      after = λ r. withPorts (set (r .ports) port (makePort on mode size)) r;
+      renamed = λ m. sets-port (image m port) on mode size;
       addresses = [];
       movesPorts = false;
     }

@@ -67,7 +67,7 @@ NoneRateDrop (x ∷ xs) = NoRateDrop x × NoneRateDrop xs
 -- ---- (a) "over every list of calls from fresh with no load in which no accepted rate setting has a target above 0"
 unfoldable pub targetOf : Call → ℕ
 targetOf (packet a output) = 0
-targetOf (on-tables (sets-port port on mode)) = 0
+targetOf (on-tables (sets-port port on mode size)) = 0
 targetOf (on-tables (sets-rate target grace penalty)) = target
 targetOf (on-tables (adds address)) = 0
 targetOf (on-tables (removes address)) = 0

@@ -5,15 +5,16 @@ use mathlib.Core.List.{List, []}
 use lib.Dec.{eqb}
 use lib.ListN.{length}
 use Rattle.octets.specs.Part.{patch}
+use Rattle.packet.specs.Read.{longestPacket}
 use Rattle.octets.specs.Choice.{_then_otherwise_, _or_}
 use Rattle.octets.specs.Listed.{Test, _gives_otherwise_, firstOf}
 use Rattle.rules.specs.View.{View}
 use Rattle.rules.specs.Arrival.{Arrival, hops}
 use Rattle.rules.specs.Ways.{Way, everywhere, by-path, along-link, by-return, blocked, wayOn}
-use Rattle.rules.specs.Tests.{notOurs, duplicate, badForm, failing, ownAnnounce, deliveredHere, tooManyHops, noWayOn, whyBlocked, alreadyKnown, wrongSide, notSigned, replay, notBetter, rateLimited, leavingPort, portOff, noRoom}
+use Rattle.rules.specs.Tests.{notOurs, duplicate, badForm, failing, ownAnnounce, deliveredHere, tooManyHops, noWayOn, whyBlocked, alreadyKnown, wrongSide, notSigned, replay, notBetter, rateLimited, leavingPort, portOff, tooLongForPort, noRoom}
 use Rattle.rules.specs.Outgoing.{spreadPorts, outgoing, exceeds}
 use Rattle.rules.specs.declared.Reason.{Reason}
-use Rattle.rules.specs.declared.Reason.the-variants.{NotOurs, Duplicate, BadForm, OwnAnnounce, TooManyHops, NoWayOn, AlreadyKnown, WrongSide, NotSigned, Replay, NotBetter, RateLimited, PortOff, NoRoom}
+use Rattle.rules.specs.declared.Reason.the-variants.{NotOurs, Duplicate, BadForm, OwnAnnounce, TooManyHops, NoWayOn, AlreadyKnown, WrongSide, NotSigned, Replay, NotBetter, RateLimited, PortOff, TooLongForPort, NoRoom}
 use Rattle.rules.specs.declared.Verdict.{Verdict}
 use Rattle.rules.specs.declared.Verdict.the-variants.{Drop, Deliver, Forward, Spread, Kept}
 
@@ -34,7 +35,7 @@ earlyTests v a =
     tooManyHops (hops a) gives dropped TooManyHops otherwise
     []
 
--- tests 6 to 13, on the way that the packet would follow; wish 5: "drop 15, tested after 11"
+-- tests 6 to 13, on the way that the packet would follow; wish 5: "drop 15, tested after 11"; wish 11: "drop 16, after 12"
 unfoldable pub onwardTests : View → Arrival → Way → List (Test Plan)
 onwardTests v a w =
     noWayOn w gives dropped (NoWayOn (whyBlocked w)) otherwise
@@ -45,6 +46,7 @@ onwardTests v a w =
     notBetter a w gives dropped NotBetter otherwise
     rateLimited v a w gives dropped RateLimited otherwise
     portOff v a w gives dropped PortOff otherwise
+    tooLongForPort v a w gives dropped TooLongForPort otherwise
     noRoom v a w gives dropped NoRoom otherwise
     []
 
@@ -54,9 +56,10 @@ onwardPlan v a w = firstOf (onwardTests v a w) (follows w)
 unfoldable pub plan : View → Arrival → Plan
 plan v a = firstOf (earlyTests v a) (onwardPlan v a (wayOn v a))
 
--- if that set is empty or the result exceeds 500, the answer is Kept
+-- if that set is empty or the result exceeds 500, the answer is Kept. Wish 11: the set of the ports that carry it, "and is Kept if none remains". With sizes of
+-- at most 500, which row 7 sees to, no port carries a result that exceeds 500
 unfoldable pub spreadVerdict : ℕ → List ℕ → Verdict
-spreadVerdict ports packet = eqb ports 0 or exceeds packet then Kept otherwise Spread ports (length packet)
+spreadVerdict ports packet = eqb ports 0 or exceeds packet longestPacket then Kept otherwise Spread ports (length packet)
 
 -- the answer says drop, deliver, forward (one port), spread (a port set) or kept
 unfoldable pub wayVerdict : View → Arrival → Way → Verdict

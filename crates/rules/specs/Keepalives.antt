@@ -1,5 +1,6 @@
 -- Document 02, wish 2, what was wanted: a keepalive is forwarded and renews its link, however often it came, and a link whose keepalives come
--- in time lives through any list of calls. Proved in proofs/Keepalive.antt and proofs/Lasting.antt.
+-- in time lives through any list of calls. Wish 11: one that is too long for the port of the other side is dropped, and is none of these. Proved in
+-- proofs/Keepalive.antt and proofs/Lasting.antt.
 use Prim.Native.Nat.{ℕ, _+_, _≤_}
 use mathlib.Core.Bool.{Bool, true, false, not}
 use mathlib.Core.List.{List, [], _∷_}
@@ -13,12 +14,12 @@ use Rattle.packet.specs.Header.{typeTwo, ofKindLink, isData}
 use Rattle.packet.specs.Read.{headerOf, partsOf}
 use Rattle.numbers.specs.Numbers.{provedLifetime}
 use Rattle.rules.specs.Relay.{used, withLinkState, Relay}
-use Rattle.rules.specs.View.{viewAt, portOn}
+use Rattle.rules.specs.View.{viewAt, portOn, portSize}
 use Rattle.rules.specs.Refusals.{packetRefusal}
 use Rattle.rules.specs.Arrival.{Arrival, destination}
 use Rattle.rules.specs.Ways.{along-link}
 use Rattle.rules.specs.Tests.{tooManyHops, fromAnsweringSide, fromAskingSide, leavingPort}
-use Rattle.rules.specs.Outgoing.{carriedPacket}
+use Rattle.rules.specs.Outgoing.{exceeds, carriedPacket}
 use Rattle.rules.specs.Calls.{sets-port, sets-rate, adds, removes, renumbers, marks, tableRefusal}
 use Rattle.rules.specs.Questions.{questionRefusal}
 use Rattle.rules.specs.Saved.{saveRefusal, loadRefusal}
@@ -37,9 +38,13 @@ isKeepalive p =
     and eqb (partsOf p .context) 0xfa
     and not (tooManyHops (partsOf p .hops))
 
--- one for this link, from either side with that side's hops
-unfoldable pub keepsAlive : Link → Arrival → Bool
-keepsAlive l a = isKeepalive (a .bytes) and same (l .id) (destination a) and (fromAnsweringSide l a or fromAskingSide l a)
+-- one for this link, from either side with that side's hops, that is not too long for the port of the other side
+unfoldable pub keepsAlive : Relay → Link → Arrival → Bool
+keepsAlive r l a =
+    isKeepalive (a .bytes)
+    and same (l .id) (destination a)
+    and (fromAnsweringSide l a or fromAskingSide l a)
+    and not (exceeds (a .bytes) (portSize r (leavingPort a (along-link l))))
 
 -- ---- the link
 -- proved, with this expiry
@@ -76,7 +81,7 @@ accepted (loads f file) r = eqb (loadRefusal (f .says file)) 0
 -- keepalive; "no accepted renumbering, and no accepted setting that leaves either port off", and no accepted load
 unfoldable pub fair : Link → ℕ → Call → Bool
 fair l deadline (packet a output) = ltb (a .clock) deadline
-fair l deadline (on-tables (sets-port port on mode)) = on or not (eqb port (l .asking) or eqb port (l .answering))
+fair l deadline (on-tables (sets-port port on mode size)) = on or not (eqb port (l .asking) or eqb port (l .answering))
 fair l deadline (on-tables (sets-rate target grace penalty)) = true
 fair l deadline (on-tables (adds address)) = true
 fair l deadline (on-tables (removes address)) = true
@@ -89,12 +94,12 @@ fair l deadline (saves f room) = true
 fair l deadline (loads f file) = false
 
 -- a keepalive that is accepted sets it anew: "at most 719 s from each to the next"
-unfoldable pub nextDeadline : Link → ℕ → Call → Bool → ℕ
-nextDeadline l deadline (packet a output) taken = taken and keepsAlive l a then a .clock + provedLifetime otherwise deadline
-nextDeadline l deadline (on-tables c) taken = deadline
-nextDeadline l deadline (asks q) taken = deadline
-nextDeadline l deadline (saves f room) taken = deadline
-nextDeadline l deadline (loads f file) taken = deadline
+unfoldable pub nextDeadline : Relay → Link → ℕ → Call → Bool → ℕ
+nextDeadline r l deadline (packet a output) taken = taken and keepsAlive r l a then a .clock + provedLifetime otherwise deadline
+nextDeadline r l deadline (on-tables c) taken = deadline
+nextDeadline r l deadline (asks q) taken = deadline
+nextDeadline r l deadline (saves f room) taken = deadline
+nextDeadline r l deadline (loads f file) taken = deadline
 
 -- "from the start": the link is up, and is to be kept before the deadline. That is its expiry, or less, and is at most 720 s ahead: where the
 -- link was renewed at the start, "at most 719 s from the start"
@@ -108,15 +113,15 @@ unfoldable pub InTime : Link → ℕ → List Call → Relay → Tally → Type 
 InTime l deadline [] r t = Unit {0}
 InTime l deadline (c ∷ cs) r t =
     (accepted c r ≡ true → fair l deadline c ≡ true)
-    × InTime l (nextDeadline l deadline c (accepted c r)) cs (perform c r t .relay) (perform c r t .tally)
+    × InTime l (nextDeadline r l deadline c (accepted c r)) cs (perform c r t .relay) (perform c r t .tally)
 
--- "each keepalive was forwarded"
-unfoldable pub CarriedIf : Link → Call → Bool → Reply → Relay → Type 0
-CarriedIf l (packet a output) taken reply r′ = taken ≡ true → keepsAlive l a ≡ true → Carried l a output reply r′
-CarriedIf l (on-tables c) taken reply r′ = Unit {0}
-CarriedIf l (asks q) taken reply r′ = Unit {0}
-CarriedIf l (saves f room) taken reply r′ = Unit {0}
-CarriedIf l (loads f file) taken reply r′ = Unit {0}
+-- "each keepalive was forwarded": the relay was r and is r′
+unfoldable pub CarriedIf : Link → Call → Bool → Relay → Reply → Relay → Type 0
+CarriedIf l (packet a output) taken r reply r′ = taken ≡ true → keepsAlive r l a ≡ true → Carried l a output reply r′
+CarriedIf l (on-tables c) taken r reply r′ = Unit {0}
+CarriedIf l (asks q) taken r reply r′ = Unit {0}
+CarriedIf l (saves f room) taken r reply r′ = Unit {0}
+CarriedIf l (loads f file) taken r reply r′ = Unit {0}
 
 -- "the link is live and proved after every call": at the last clock that was accepted
 abbrev pub IsUp : Link → Relay → Type 0
@@ -125,6 +130,6 @@ IsUp l r = (expiry : ℕ) × LivesAt l expiry (r .clock) r
 unfoldable pub Lasts : Link → List Call → Relay → Tally → Type 0
 Lasts l [] r t = Unit {0}
 Lasts l (c ∷ cs) r t =
-    CarriedIf l c (accepted c r) (perform c r t .reply) (perform c r t .relay)
+    CarriedIf l c (accepted c r) r (perform c r t .reply) (perform c r t .relay)
     × IsUp l (perform c r t .relay)
     × Lasts l cs (perform c r t .relay) (perform c r t .tally)

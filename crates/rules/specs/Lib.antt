@@ -8,9 +8,9 @@ pub mod Blobs
 pub mod Exempt
 pub mod Rate
 pub mod Ways
-pub mod Tests
 pub mod Answers
 pub mod Outgoing
+pub mod Tests
 pub mod Judging
 pub mod Writes
 pub mod Calls

@@ -16,7 +16,7 @@ use Rattle.rules.specs.Refusals.{packetRefusal}
 use Rattle.rules.specs.Arrival.{Arrival, header, hops, destination, body, blob}
 use Rattle.rules.specs.Blobs.{held, isAmong, greatestEmission}
 use Rattle.rules.specs.Ways.{by-return}
-use Rattle.rules.specs.Tests.{badForm, ownAnnounce, tooManyHops, notSigned, portOff}
+use Rattle.rules.specs.Tests.{badForm, ownAnnounce, tooManyHops, notSigned, portOff, tooLongForPort}
 use Rattle.rules.specs.Answers.{verdictKind}
 use Rattle.rules.specs.Calls.{newTally}
 use Rattle.rules.specs.Run.{Call, packet, Reply, answered, numbered, told, saved, unsaved, perform, relayAfter, tallyAfter, noneLoads}
@@ -75,7 +75,7 @@ abbrev pub OldLeavesPath : Sentence
 OldLeavesPath a r reply r′ = (d : List ℕ) (p : Path) → LivePath d p a r → p .marked ≡ false → Leaves d p a reply r′
 
 -- ---- 2. "And an ordinary proof is forwarded only by the arrival port of the live return record, and exactly if that record's leaving port is where it came in
--- and tests 1 to 5 and 12 let it by."
+-- and tests 1 to 5 and 12 let it by." Wish 11: "Wish 7's condition for proofs now names drop 16 too."
 abbrev pub saysForwarded : Reply → Bool
 saysForwarded (answered (Refused number) output) = false
 saysForwarded (answered (Judged verdict) output) = eqb (verdictKind verdict) 3
@@ -85,10 +85,14 @@ saysForwarded (saved r t room) = false
 saysForwarded (unsaved refusal room) = false
 
 -- of the live return record whose key is its destination, if there is one. `reachesWay`: tests 1 to 5 let it by; it also says that the packet isn't delivered,
--- which no proof is (`proof-not-delivered`, proofs/ReturnedProofs.antt). Test 12 is of the port to leave by
+-- which no proof is (`proof-not-delivered`, proofs/ReturnedProofs.antt). Tests 12 and 16 are of the port to leave by
 unfoldable pub goesBack : View → Arrival → Slot Return → Bool
 goesBack v a empty = false
-goesBack v a (used t) = eqb (a .port) (t .leaving) and reachesWay v a and not (portOff v a (by-return t))
+goesBack v a (used t) =
+    eqb (a .port) (t .leaving)
+    and reachesWay v a
+    and not (portOff v a (by-return t))
+    and not (tooLongForPort v a (by-return t))
 
 pub record Returns (a : Arrival) (r : Relay) (reply : Reply) : Type 0 where
   pub only-by : (port n : ℕ) (output : List ℕ) → reply ≡ answered (Judged (Forward port n)) output

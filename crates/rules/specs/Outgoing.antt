@@ -6,7 +6,7 @@ use lib.Dec.{eqb, ltb}
 use lib.ListN.{length, set}
 use Rattle.octets.specs.Index.{_and_}
 use Rattle.octets.specs.Choice.{_then_otherwise_}
-use Rattle.packet.specs.Read.{longestPacket, noAddress, headerOf, partsOf, payload}
+use Rattle.packet.specs.Read.{noAddress, headerOf, partsOf, payload}
 use Rattle.packet.specs.Write.{packetOf}
 use Rattle.rules.specs.View.{View}
 use Rattle.rules.specs.Arrival.{Arrival}
@@ -28,9 +28,13 @@ spreadHeader h = 64 + h / 32 % 2 * 32 + 16 + h % 16
 unfoldable pub spreadPacket : List ℕ → List ℕ → List ℕ
 spreadPacket own p = rewritten (spreadHeader (headerOf p)) own p
 
--- to all ports on but the arrival port
+-- longer than a size. Wish 11: a port carries what doesn't exceed its own
+unfoldable pub exceeds : List ℕ → ℕ → Bool
+exceeds packet size = ltb size (length packet)
+
+-- to all ports on but the arrival port. Wish 11: "A packet, as rewritten, too long for the port it would leave by ..; a spread leaves such ports out"
 unfoldable pub spreadPorts : View → Arrival → ℕ
-spreadPorts v a = portSet (λ port. v .on port and not (eqb port (a .port)))
+spreadPorts v a = portSet (λ port. v .on port and not (eqb port (a .port)) and not (exceeds (spreadPacket (v .own) (a .bytes)) (v .size port)))
 
 -- stored hops 0: as type 1, header modulo 16. Otherwise type 2, header kept, relay address = next hop
 unfoldable pub pathPacket : ℕ → List ℕ → List ℕ → List ℕ
@@ -49,6 +53,3 @@ outgoing v a (by-path p) = pathPacket (p .hops) (p .nextHop) (a .bytes)
 outgoing v a (along-link l) = carriedPacket (a .bytes)
 outgoing v a (by-return t) = carriedPacket (a .bytes)
 outgoing v a (blocked why) = []
-
-unfoldable pub exceeds : List ℕ → Bool
-exceeds packet = ltb longestPacket (length packet)

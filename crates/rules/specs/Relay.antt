@@ -6,15 +6,16 @@ use lib.ListN.{getD, replicate}
 use Rattle.octets.specs.Index.{first}
 -- a place of a table: unused, or a record
 pub use Rattle.codes.specs.Codes.{Slot, empty, used}
-use Rattle.numbers.specs.Numbers.{portCount, localCount, pathCount, linkCount, returnCount, hashCount}
+use Rattle.numbers.specs.Numbers.{longestPacket, portCount, localCount, pathCount, linkCount, returnCount, hashCount}
 use Rattle.rules.specs.declared.Link.{Link}
 use Rattle.rules.specs.declared.RateSettings.{RateSettings}
 use Rattle.rules.specs.declared.RateEntry.{RateEntry}
 
--- each on or off and boundary, access point or roaming
+-- each on or off and boundary, access point or roaming. Wish 11: "Each port gets a size"
 pub record Port : Type 0 where
   pub on : Bool
   pub mode : ℕ
+  pub size : ℕ
 
 -- stored blobs, the one stored longest ago first: `count` of the places hold one, and what the spare ones hold counts for nothing
 pub record Blobs : Type 0 where
@@ -63,16 +64,16 @@ pub record Relay : Type 0 where
   pub hashes : Ring Remembered
 
 -- ---- records are built here and nowhere else: what is not given has its value of a new record
-abbrev pub makePort : Bool → ℕ → Port
-makePort on mode = record { on = on; mode = mode }
+abbrev pub makePort : Bool → ℕ → ℕ → Port
+makePort on mode size = record { on = on; mode = mode; size = size }
 
--- a fresh relay's port: off and boundary
+-- a fresh relay's port: off and boundary. Wish 11: "older ones load with 500, as fresh relays have"
 abbrev pub freshPort : Port
-freshPort = makePort false 0
+freshPort = makePort false 0 longestPacket
 
--- what is read for a number outside the sixteen: off
+-- what is read for a number outside the sixteen: off, so that nothing goes by its mode or its size, which keep row 7
 abbrev pub noPort : Port
-noPort = makePort false 0
+noPort = makePort false 0 longestPacket
 
 abbrev pub makeRateSettings : ℕ → ℕ → ℕ → RateSettings
 makeRateSettings target grace penalty = record { target = target; grace = grace; penalty = penalty }
@@ -185,7 +186,7 @@ makeRelay own clock rate ports locals paths links returns hashes =
       hashes = hashes;
     }
 
--- a fresh relay has its own address, all ports off and boundary, clock 0, tables empty; wish 5: settings at 0
+-- a fresh relay has its own address, all ports off and boundary, clock 0, tables empty; wish 5: settings at 0; wish 11: sizes 500
 unfoldable pub fresh : List ℕ → Relay
 fresh own =
     makeRelay own 0 noRateSettings

@@ -26,7 +26,7 @@ oneToOne m = eqb (length m) portCount and allBelow (λ i. ltb (getD m i 0) portC
 unfoldable pub preimage : List ℕ → ℕ → ℕ
 preimage m n = first (λ i. eqb (getD m i 0) n) portCount
 
--- each port's settings move with it
+-- each port's settings move with it; wish 11: "Each port gets a size .., moved by renumbering too"
 unfoldable pub movedPorts : List ℕ → List Port → List Port
 movedPorts m ports = listOf (λ n. getD ports (preimage m n) noPort) portCount
 

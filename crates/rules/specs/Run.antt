@@ -24,8 +24,8 @@ pub data Call : Type 0 where
   loads : Format → (file : List ℕ) → Call
 
 -- the calls on the tables by their names
-abbrev pub port-setting : ℕ → Bool → ℕ → Call
-port-setting port on mode = on-tables (sets-port port on mode)
+abbrev pub port-setting : ℕ → Bool → ℕ → ℕ → Call
+port-setting port on mode size = on-tables (sets-port port on mode size)
 
 abbrev pub rate-setting : ℕ → ℕ → ℕ → Call
 rate-setting target grace penalty = on-tables (sets-rate target grace penalty)

@@ -1,5 +1,5 @@
--- Document 01, "Judging a packet": tests 1 to 13, each under its own name, and document 02's 15. Test 6's cases are found in Ways.antt. Document 02, wish 9, on
--- test 14: "Show that no accepted packet reaches it and take it out. Its number isn't used again." What it tested is shown of what leaves: Lengths.antt.
+-- Document 01, "Judging a packet": tests 1 to 13, each under its own name, and document 02's 15 and 16. Test 6's cases are found in Ways.antt. Document 02,
+-- wish 9, on test 14: "Show that no accepted packet reaches it and take it out. Its number isn't used again." What it tested is shown of what leaves: Lengths.antt.
 use Prim.Native.Nat.{ℕ}
 use mathlib.Core.Bool.{Bool, true, false, not}
 use mathlib.Core.List.{List, []}
@@ -20,6 +20,7 @@ use Rattle.rules.specs.Exempt.{exempt}
 use Rattle.rules.specs.Blobs.{held, isAmong, greatestEmission}
 use Rattle.rules.specs.Rate.{rated}
 use Rattle.rules.specs.Ways.{Way, everywhere, by-path, along-link, by-return, blocked}
+use Rattle.rules.specs.Outgoing.{outgoing, exceeds}
 use Rattle.rules.specs.declared.Link.{Link}
 use Rattle.rules.specs.declared.Clause.{Clause}
 use Rattle.rules.specs.declared.Clause.the-variants.{TypeTwoProof, TypeTwoOfKindLink, AnnounceNotSingle, AnnounceTooShort, AnnounceOfAnother, RequestOfKindLink, RequestTooShort, LinkProofLength}
@@ -213,6 +214,11 @@ leavingPort a (blocked why) = portCount
 -- 12. Port off: the port to leave by. Announces skip this.
 unfoldable pub portOff : View → Arrival → Way → Bool
 portOff v a w = not (isAnnounce (header a)) and not (v .on (leavingPort a w))
+
+-- 16. Document 02, wish 11: "A packet, as rewritten, too long for the port it would leave by is dropped", "drop 16, after 12". As rewritten: on the last hop it
+-- is sixteen bytes shorter than it came in. Announces skip this too: "a spread leaves such ports out"
+unfoldable pub tooLongForPort : View → Arrival → Way → Bool
+tooLongForPort v a w = not (isAnnounce (header a)) and exceeds (outgoing v a w) (v .size (leavingPort a w))
 
 -- 13. No room: a new path or link, and no slot empty or expired. It isn't given otherwise.
 unfoldable pub noRoom : View → Arrival → Way → Bool

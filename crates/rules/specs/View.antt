@@ -21,6 +21,9 @@ portOn r port = ltb port portCount and (getD (r .ports) port noPort .on)
 unfoldable pub portMode : Relay → ℕ → ℕ
 portMode r port = getD (r .ports) port noPort .mode
 
+unfoldable pub portSize : Relay → ℕ → ℕ
+portSize r port = getD (r .ports) port noPort .size
+
 -- the lowest place of a local address, or 16
 unfoldable pub localPlace : Relay → List ℕ → ℕ
 localPlace r address = lowest (same address) localCount (r .locals)
@@ -92,6 +95,7 @@ pub record View : Type 0 where
   pub rate : RateSettings
   pub on : ℕ → Bool
   pub mode : ℕ → ℕ
+  pub size : ℕ → ℕ
   pub local : List ℕ → Bool
   pub remembered : List ℕ → Bool
   pub path : List ℕ → Slot Path
@@ -108,6 +112,7 @@ viewAt clock r =
       rate = r .rate;
       on = portOn r;
       mode = portMode r;
+      size = portSize r;
       local = isLocal r;
       remembered = λ hash. ltb (hashPlace clock r hash) hashCount;
       path = λ destination. getD (r .paths) (pathPlace clock r destination) empty;

@@ -30,8 +30,8 @@ pub enum Blocked {
     NoReturn,
 }
 
-// Why a packet was dropped: the tests in their order, document 02's 15 after 11. `reasonNumbers` of specs/Answers.antt
-// gives the numbers.
+// Why a packet was dropped: the tests in their order, document 02's 15 after 11 and 16 after 12. `reasonNumbers` of
+// specs/Answers.antt gives the numbers.
 pub enum Reason {
     NotOurs,
     Duplicate,
@@ -46,6 +46,7 @@ pub enum Reason {
     NotBetter,
     RateLimited,
     PortOff,
+    TooLongForPort,
     NoRoom,
 }
 

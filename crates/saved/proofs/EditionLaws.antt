@@ -1,48 +1,100 @@
 -- A file of any edition, as the tables have it: what they then hold is what the file holds, and they pass refusal 7 exactly if its bodies do.
-use Prim.Native.Nat.{ℕ, zero, suc, _+_, _-_, _*_, _≤_, _<_}
+use Prim.Native.Nat.{ℕ, zero, suc, _+_, _-_, _*_, _≤_, _<_, zero-le}
 use native.Mathlib.Nat.{zero-add, le-refl, not-suc-le-zero}
-use native.Mathlib.Numerals.{add-one}
 use native.Mathlib.Omega.{arith}
 use mathlib.Core.Bool.{true, false}
-use mathlib.Core.List.{List, [], _++_}
+use mathlib.Core.List.{List, [], _∷_, _++_, append-nil}
 use mathlib.Core.Path.{_≡_, refl, sym, ap, ap₂, _∙_}
 use lib.Dec.{lit<}
 use borrow.Author.Tests.{eq-eqb, ltb-true, leb-true}
-use lib.ListN.{length, getD, take, drop, replicate, length-append, length-replicate, take-append-drop}
+use borrow.Rule.Slice.PartMut.{putMid}
+use lib.ListN.{length, getD, take, drop, replicate, length-append, length-drop, length-replicate}
 use Rattle.octets.specs.Bytes.{Bytes}
 use Rattle.octets.specs.Index.{_and_, allBelow, listOf, zeros}
 use Rattle.octets.specs.Choice.{_then_otherwise_}
 use Rattle.octets.specs.Part.{part, patch, joined}
 use Rattle.octets.specs.BigEndian.{number, bigEndian}
 use Rattle.octets.proofs.Index.{and-left, and-right, and-both, all-none, all-more, all-fails, all-at, all-intro, all-cong}
-use Rattle.octets.proofs.Bytes.{append-bytes, replicate-bytes, part-bytes}
-use Rattle.octets.proofs.Part.{part-length, part-part, part-mid, part-whole, patch-join, patch-whole}
-use Rattle.codes.specs.Form.{mark, octetsIn, numberIn, many, slot, that, code}
+use Rattle.octets.proofs.Bytes.{append-bytes, drop-bytes, replicate-bytes, part-bytes}
+use Rattle.octets.proofs.BigEndian.{bigEndian-length}
+use Rattle.octets.proofs.Part.{part-length, part-part, part-mid, part-whole, part-range, patch-length, patch-join, patch-mid, patch-whole}
+use Rattle.codes.specs.Form.{Form, byte, mark, octetsIn, numberIn, given, many, slot, that, code}
 use Rattle.codes.specs.Codes.{markOf}
 use Rattle.codes.proofs.Rows.{row-end}
 use Rattle.codes.proofs.Forms.{lawful}
-use Rattle.codes.proofs.Same.{Same, same-first, same-inside, same-byte}
-use Rattle.recording.specs.Shape.{sumBelow}
-use Rattle.recording.proofs.Sums.{sum-cong, sum-const, joined-sum, joined-found, joined-each-bytes, joined-none, joined-more, patch-three, part-last, part-front, part-back}
-use Rattle.numbers.specs.Numbers.{portCount, localCount, pathCount, blobLimit}
-use Rattle.rules.specs.Relay.{noPort, noRateSettings, noRateEntry, empty}
-use Rattle.rules.specs.Refusals.{timeOk, rateSettingsOk}
-use Rattle.tables.specs.Forms.{BlobRoom, Edition, addressWidth, timeWidth, blobWidth, rateSettingsForm, rateEntryForm, portForm, localForm, headForm, pathFormIn, backForm, relayFormOf, relayFormIn}
+use Rattle.codes.proofs.Same.{Same, same-byte}
+use Rattle.recording.proofs.Sums.{joined-each-bytes, patch-three, part-last, part-front, part-back}
+use Rattle.numbers.specs.Numbers.{longestPacket, isSize, portCount, localCount, pathCount, blobLimit}
+use Rattle.rules.specs.Relay.{freshPort, noPort, noRateSettings, noRateEntry, empty}
+use Rattle.rules.specs.Refusals.{timeOk, rateSettingsOk, portOk}
+use Rattle.tables.specs.Forms.{BlobRoom, Edition, addressWidth, timeWidth, blobWidth, sizeWidth, rateSettingsForm, rateEntryForm, portFormOf, portFormIn, portForm, localForm, headForm, pathFormIn, backForm, relayFormOf, relayFormIn}
 use Rattle.tables.specs.Places.{portWidth, localWidth, pathWidth, clockAt, rateAt, portsAt, localsAt, pathsAt, linksAt, backWidth, tableSize}
-use Rattle.tables.specs.Fields.{pathBlobsAt, blobsWidth}
-use Rattle.tables.specs.Records.{portBytesOk, localBytesOk}
+use Rattle.tables.specs.Fields.{portSizeAt, pathBlobsAt, blobsWidth}
+use Rattle.tables.specs.Records.{portBytes, portBytesOk, localBytesOk}
 use Rattle.tables.specs.Layout.{rateSettingsIn, startOk, recordsOk, frontOk, backOk, relayOf, wellFormed}
 use Rattle.tables.proofs.Whole.{clauses}
 use Rattle.saved.specs.Editions.{edition1, edition2, editions, currentEdition, isKnownBy, isKnown, numbered}
 use Rattle.saved.specs.File.{bodiesAt}
-use Rattle.saved.specs.Steps.{startWidth, beforeBlobs, mostBlobs, blobsWidthIn, pathWidthIn, pathsPlace, backPlace, tallyPlace, opened, frontNow, pathNow, pathsNow, pathFine, pathsFine, tablesNow}
-use Rattle.saved.proofs.Alike.{Alike, same-alike, moved-alike, both-alike, field-alike, that-alike, record-alike, slot-alike, many-alike, opened-length, zeros-behind, Opening, opening, Brought, kept, lacked, brought-within, brought-alike, BroughtTwo, first-kept, both-lacked, two-within, two-alike}
+use Rattle.saved.specs.Steps.{startWidth, portWidthIn, beforeBlobs, mostBlobs, blobsWidthIn, pathWidthIn, portsPlace, localsPlace, localsWidth, pathsPlace, backPlace, tallyPlace, opened, startNow, portNow, portsNow, frontNow, pathNow, pathsNow, pathFine, pathsFine, tablesNow}
+use Rattle.saved.proofs.RowLaws.{rows-none, rows-length, row-found, rows-more}
+use Rattle.saved.proofs.Alike.{Alike, same-alike, given-alike, moved-alike, both-alike, field-alike, that-alike, record-alike, slot-alike, many-alike, opened-length, opened-lent, zeros-lent, zeros-behind, zeros-behind-put, Opening, opening, Brought, kept, lacked, brought-within, brought-alike, BroughtTwo, first-kept, both-lacked, two-within, two-alike}
 use Rattle.saved.proofs.Rooms.{room-within, room-width, room-narrow, limitedPath, limited-width, limited-reads, limited-clauses, blobs-alike}
+
+-- ---- a port's size, which an edition has as today, or lacks: then it is a fresh port's
+pub data SizeBrought : Form ℕ → Type 1 where
+  size-there : SizeBrought (numberIn sizeWidth)
+  size-fresh : SizeBrought (given longestPacket)
+
+size-within : {s : Form ℕ} → SizeBrought s → code s .width ≤ sizeWidth
+size-within size-there = le-refl sizeWidth
+size-within size-fresh = zero-le
+
+fresh-bytes : portBytes freshPort ≡ 0 ∷ 0 ∷ bigEndian sizeWidth longestPacket
+unfolding portBytes markOf _then_otherwise_
+fresh-bytes = refl
+
+fresh-good : code portForm .Good freshPort
+unfolding portOk isSize _and_
+fresh-good = ((tt, (lit< tt, lit< tt)), refl)
+
+-- what the file has of a port, and behind it what it lacks
+module _ (s : Form ℕ) (b : List ℕ) (long : length b ≡ code (portFormOf s) .width) where
+  abbrev filled : List ℕ
+  filled = b ++ drop (code (portFormOf s) .width) (portBytes freshPort)
+
+  fresh-length : length (portBytes freshPort) ≡ portWidth
+  unfolding portBytes
+  fresh-length = lawful portForm .wide freshPort
+
+  filled-length : SizeBrought s → length filled ≡ portWidth
+  filled-length h =
+      length-append b (drop (code (portFormOf s) .width) (portBytes freshPort))
+      ∙ ap (λ (k : ℕ). length b + k) (length-drop (code (portFormOf s) .width) (portBytes freshPort))
+      ∙ omega (arith, long, fresh-length, size-within h)
+
+  there : (k n : ℕ) → k + n ≤ code (portFormOf s) .width → Same n b k filled k
+  there k n l = sym (part-front b (drop (code (portFormOf s) .width) (portBytes freshPort)) k n (omega (arith, long, l)))
+
+filled-size : {s : Form ℕ} → SizeBrought s → (b : List ℕ) (long : length b ≡ code (portFormOf s) .width)
+    → Alike s (numberIn sizeWidth) b portSizeAt (filled s b long) portSizeAt
+filled-size size-there b long = same-alike (numberIn sizeWidth) (there (numberIn sizeWidth) b long portSizeAt sizeWidth (le-refl portWidth))
+filled-size size-fresh b long =
+    given-alike longestPacket (numberIn sizeWidth) (lit< tt)
+    (ap (λ (r : List ℕ). part (b ++ drop portSizeAt r) portSizeAt sizeWidth) fresh-bytes
+    ∙ part-last b (bigEndian sizeWidth longestPacket) portSizeAt sizeWidth long (bigEndian-length sizeWidth longestPacket))
+
+filled-alike : {s : Form ℕ} → SizeBrought s → (b : List ℕ) (long : length b ≡ code (portFormOf s) .width)
+    → Alike (portFormOf s) portForm b 0 (filled s b long) 0
+filled-alike {s} h b long =
+    that-alike (record-alike
+    (both-alike (field-alike (same-alike mark (there s b long 0 1 (omega arith))))
+    (both-alike (field-alike (same-alike byte (there s b long 1 1 (omega arith)))) (field-alike (filled-size h b long)))))
 
 -- ---- what each edition has of the fields that a later one brought
 pub record Brings (e : Edition) : Type 1 where
   pub rateSettings : Brought rateSettingsForm (e .rateSettings)
   pub pathFields : BroughtTwo rateEntryForm mark (e .rateEntry) (e .pathMark)
+  pub portSize : SizeBrought (e .portSize)
 
 first-brings : Brings edition1
 unfolding bigEndian rateSettingsOk markOf _and_ _then_otherwise_
@@ -50,18 +102,20 @@ first-brings =
     record {
       rateSettings = lacked noRateSettings ((lit< tt, (lit< tt, lit< tt)), refl) refl;
       pathFields = both-lacked noRateEntry false ((lit< tt, (lit< tt, lit< tt)), tt) refl;
+      portSize = size-fresh;
     }
 
 second-brings : Brings edition2
 unfolding markOf _then_otherwise_
-second-brings = record { rateSettings = kept; pathFields = first-kept (lacked false tt refl) }
+second-brings = record { rateSettings = kept; pathFields = first-kept (lacked false tt refl); portSize = size-fresh }
 
 pub each-brings : (i : ℕ) → Brings (getD editions i edition1)
 each-brings zero = first-brings
 each-brings (suc zero) = second-brings
-each-brings (suc (suc zero)) = record { rateSettings = kept; pathFields = first-kept kept }
-each-brings (suc (suc (suc zero))) = record { rateSettings = kept; pathFields = first-kept kept }
-each-brings (suc (suc (suc (suc i)))) = first-brings
+each-brings (suc (suc zero)) = record { rateSettings = kept; pathFields = first-kept kept; portSize = size-fresh }
+each-brings (suc (suc (suc zero))) = record { rateSettings = kept; pathFields = first-kept kept; portSize = size-fresh }
+each-brings (suc (suc (suc (suc zero)))) = record { rateSettings = kept; pathFields = first-kept kept; portSize = size-there }
+each-brings (suc (suc (suc (suc (suc i))))) = first-brings
 
 -- the sections before the paths, alone
 front-same : (t : List ℕ) → frontOk (part t 0 pathsAt) ≡ frontOk t
@@ -89,6 +143,9 @@ module _ (e : Edition) (h : Brings e) where
   entry-within : code (e .rateEntry) .width + code (e .pathMark) .width ≤ 18
   entry-within = two-within (h .pathFields)
 
+  pub port-within : portWidthIn e ≤ portWidth
+  port-within = omega (arith, size-within (h .portSize))
+
   pub start-within : startWidth e ≤ portsAt
   start-within = omega (arith, settings-within)
 
@@ -99,6 +156,25 @@ module _ (e : Edition) (h : Brings e) where
   blobs-within = room-narrow (e .blobRoom)
 
   module _ (f : List ℕ) (size : tallyPlace e ≤ length f) where
+    -- ---- one port
+    module _ (i : ℕ) (l : i < portCount) where
+      pub port-end : portsPlace e + portWidthIn e * i + portWidthIn e ≤ length f
+      port-end = omega (arith, size, row-end (portWidthIn e) portCount i l)
+
+      abbrev oldPort : List ℕ
+      oldPort = part f (portsPlace e + portWidthIn e * i) (portWidthIn e)
+
+      old-port-length : length oldPort ≡ portWidthIn e
+      old-port-length = part-length f (portsPlace e + portWidthIn e * i) (portWidthIn e) port-end
+
+      pub port-length : length (portNow e f i) ≡ portWidth
+      unfolding portNow
+      port-length = filled-length (e .portSize) oldPort old-port-length (h .portSize)
+
+      port-alike : Alike (portFormIn e) portForm oldPort 0 (portNow e f i) 0
+      unfolding portNow
+      port-alike = filled-alike (h .portSize) oldPort old-port-length
+
     -- ---- one path
     module _ (i : ℕ) (l : i < pathCount) where
       pub path-end : pathsPlace e + pathWidthIn e * i + pathWidthIn e ≤ length f
@@ -129,26 +205,34 @@ module _ (e : Edition) (h : Brings e) where
 
     pub paths-length : (n : ℕ) → n ≤ pathCount → length (pathsNow e f n) ≡ pathWidth * n
     unfolding pathsNow
-    paths-length n m =
-        joined-sum (pathNow e f) (λ i. i) n
-        ∙ sum-cong (λ i. length (pathNow e f i)) (λ i. pathWidth) n (λ i l. path-length i (omega arith))
-        ∙ sum-const pathWidth n
+    paths-length = rows-length (pathNow e f) pathWidth pathCount path-length
 
     path-found : (i : ℕ) → i < pathCount → part (pathsNow e f pathCount) (pathWidth * i) pathWidth ≡ pathNow e f i
     unfolding pathsNow
-    path-found i l =
-        let place : sumBelow (λ j. length (pathNow e f j)) i ≡ pathWidth * i =
-        sum-cong (λ j. length (pathNow e f j)) (λ j. pathWidth) i (λ j m. path-length j (omega arith)) ∙ sum-const pathWidth i in
-        ap₂ (part (joined (pathNow e f) (listOf (λ j. j) pathCount))) (sym place) (sym (path-length i l))
-        ∙ joined-found (pathNow e f) (λ j. j) pathCount i l
+    path-found = row-found (pathNow e f) pathWidth pathCount path-length
+
+    ports-length : length (portsNow e f portCount) ≡ portWidth * portCount
+    unfolding portsNow
+    ports-length = rows-length (portNow e f) portWidth portCount port-length portCount (le-refl portCount)
+
+    port-found : (i : ℕ) → i < portCount → part (portsNow e f portCount) (portWidth * i) portWidth ≡ portNow e f i
+    unfolding portsNow
+    port-found = row-found (portNow e f) portWidth portCount port-length
 
     -- ---- the whole
-    pub front-length : length (frontNow e f) ≡ pathsAt
-    unfolding frontNow
-    front-length =
-        let long = part-length f bodiesAt (startWidth e + (pathsAt - portsAt)) (omega (arith, size)) in
+    pub start-length : length (startNow e f) ≡ portsAt
+    unfolding startNow
+    start-length =
+        let long = part-length f bodiesAt (startWidth e) (omega (arith, size)) in
         opened-length (startWidth e) (portsAt - startWidth e) _ (omega (arith, long))
         ∙ omega (arith, long, settings-within)
+
+    locals-length : length (part f (localsPlace e) localsWidth) ≡ localsWidth
+    locals-length = part-length f (localsPlace e) localsWidth (omega (arith, size))
+
+    pub front-length : length (frontNow e f) ≡ pathsAt
+    unfolding frontNow
+    front-length = simp length-append (omega (arith, start-length, ports-length, locals-length))
 
     pub back-length : length (part f (backPlace e) backWidth) ≡ backWidth
     back-length = part-length f (backPlace e) backWidth size
@@ -177,18 +261,37 @@ module _ (e : Edition) (h : Brings e) where
         (paths-length pathCount (le-refl pathCount)) back-length
 
     -- ---- what the tables then hold
-    front-opening : Opening f bodiesAt (tablesNow e f) 0 (startWidth e) (portsAt - startWidth e) (startWidth e + (pathsAt - portsAt))
-    unfolding frontNow
-    front-opening =
-        opening f bodiesAt (tablesNow e f) 0 (startWidth e) (portsAt - startWidth e) (startWidth e + (pathsAt - portsAt)) (omega (arith, size)) (omega arith)
-        (ap (part (tablesNow e f) 0) (omega (arith, settings-within)) ∙ now-front)
+    in-front : (k n : ℕ) → k + n ≤ pathsAt → part (tablesNow e f) k n ≡ part (frontNow e f) k n
+    in-front k n l =
+        ap (λ (a : ℕ). part (tablesNow e f) a n) (sym (zero-add k))
+        ∙ sym (part-part (tablesNow e f) 0 pathsAt k n l)
+        ∙ ap (λ (r : List ℕ). part r k n) now-front
 
-    -- ports and local addresses
-    middle : Same (pathsAt - portsAt) f (bodiesAt + rateAt + code (e .rateSettings) .width) (tablesNow e f) portsAt
-    middle =
-        ap (λ (a : ℕ). part f a (pathsAt - portsAt)) (omega arith)
-        ∙ front-opening .after (pathsAt - portsAt) (le-refl _)
-        ∙ ap (λ (a : ℕ). part (tablesNow e f) a (pathsAt - portsAt)) (omega (arith, settings-within))
+    start-opening : Opening f bodiesAt (tablesNow e f) 0 (startWidth e) (portsAt - startWidth e) (startWidth e)
+    unfolding frontNow startNow
+    start-opening =
+        let rest : List ℕ = portsNow e f portCount ++ part f (localsPlace e) localsWidth in
+        opening f bodiesAt (tablesNow e f) 0 (startWidth e) (portsAt - startWidth e) (startWidth e) (omega (arith, size)) (omega arith)
+        (ap (part (tablesNow e f) 0) (omega (arith, settings-within))
+        ∙ in-front 0 portsAt (omega arith)
+        ∙ part-mid [] (startNow e f) rest 0 portsAt refl start-length)
+
+    now-port : (i : ℕ) → i < portCount → part (tablesNow e f) (portsAt + portWidth * i) portWidth ≡ portNow e f i
+    unfolding frontNow
+    now-port i l =
+        let locals : List ℕ = part f (localsPlace e) localsWidth in
+        in-front (portsAt + portWidth * i) portWidth (omega arith)
+        ∙ part-back (startNow e f) (portsNow e f portCount ++ locals) portsAt (portWidth * i) portWidth start-length
+        ∙ part-front (portsNow e f portCount) locals (portWidth * i) portWidth (omega (arith, ports-length, row-end portWidth portCount i l))
+        ∙ port-found i l
+
+    now-locals : part (tablesNow e f) localsAt localsWidth ≡ part f (localsPlace e) localsWidth
+    unfolding frontNow
+    now-locals =
+        let locals : List ℕ = part f (localsPlace e) localsWidth in
+        in-front localsAt localsWidth (omega arith)
+        ∙ part-back (startNow e f) (portsNow e f portCount ++ locals) portsAt (portWidth * portCount) localsWidth start-length
+        ∙ part-last (portsNow e f portCount) locals (portWidth * portCount) localsWidth ports-length locals-length
 
     abbrev room : BlobRoom
     room = e .blobRoom
@@ -244,26 +347,33 @@ module _ (e : Edition) (h : Brings e) where
           ∙ ap (λ (a : ℕ). part (pathNow e f i) a (blobsWidthIn e)) (omega (arith, entry-within)))
           path-behind)))))))
 
-    pub now-alike : Alike (relayFormIn e) (relayFormOf rateSettingsForm (limitedPath room)) f bodiesAt (tablesNow e f) 0
+    pub now-alike : Alike (relayFormIn e) (relayFormOf rateSettingsForm portForm (limitedPath room)) f bodiesAt (tablesNow e f) 0
     now-alike =
         record-alike
-        (both-alike (field-alike (same-alike (octetsIn addressWidth) (front-opening .before 0 16 (omega arith))))
-        (both-alike (field-alike (same-alike (that timeOk (numberIn timeWidth)) (front-opening .before 16 8 (omega arith))))
-        (both-alike (field-alike (brought-alike (h .rateSettings) 24 (omega (arith, settings-within)) front-opening))
-        (both-alike (field-alike (same-alike (many portCount noPort portForm) (same-first _ f _ (tablesNow e f) _ middle 32 (omega arith))))
-        (both-alike (field-alike (same-alike (many localCount empty (slot localForm)) (same-inside _ f _ (tablesNow e f) _ middle 32 272 (omega arith))))
-        (both-alike (field-alike (many-alike pathCount empty (λ i l. moved-alike (place i l) (there i l) (path-alike i l))))
+        (both-alike (field-alike (same-alike (octetsIn addressWidth) (start-opening .before 0 16 (omega arith))))
+        (both-alike (field-alike (same-alike (that timeOk (numberIn timeWidth)) (start-opening .before 16 8 (omega arith))))
+        (both-alike (field-alike (brought-alike (h .rateSettings) 24 (omega (arith, settings-within)) start-opening))
+        (both-alike (field-alike (many-alike portCount noPort (λ i l. moved-alike (port-place i l) (now-port i l) (port-alike i l))))
+        (both-alike (field-alike (same-alike (many localCount empty (slot localForm))
+        (ap (λ (a : ℕ). part f a localsWidth) (omega arith) ∙ sym now-locals)))
+        (both-alike (field-alike (many-alike pathCount empty (λ i l. moved-alike (place i l) (path-there i l) (path-alike i l))))
         (same-alike backForm
         (ap (λ (a : ℕ). part f a backWidth) (omega arith)
         ∙ sym now-back
         ∙ ap (λ (w : ℕ). part (tablesNow e f) (pathsAt + w * pathCount) backWidth) (sym (limited-width room))))))))))
       where
-        there : (i : ℕ) (l : i < pathCount)
+        port-place : (i : ℕ) (l : i < portCount)
+            → part f (bodiesAt + rateAt + code (e .rateSettings) .width + portWidthIn e * i) (portWidthIn e) ≡ oldPort i l
+        port-place i l = ap (λ (a : ℕ). part f (a + portWidthIn e * i) (portWidthIn e)) (omega arith)
+
+        path-there : (i : ℕ) (l : i < pathCount)
             → part (tablesNow e f) (pathsAt + code (slot (limitedPath room)) .width * i) (code (slot (limitedPath room)) .width) ≡ pathNow e f i
-        there i l = ap (λ (w : ℕ). part (tablesNow e f) (pathsAt + w * i) w) (limited-width room) ∙ now-path i l
+        path-there i l = ap (λ (w : ℕ). part (tablesNow e f) (pathsAt + w * i) w) (limited-width room) ∙ now-path i l
 
         place : (i : ℕ) (l : i < pathCount)
-            → part f (bodiesAt + rateAt + code (e .rateSettings) .width + 32 + 272 + (1 + code (pathFormIn e) .width) * i) (1 + code (pathFormIn e) .width)
+            → part f
+            (bodiesAt + rateAt + code (e .rateSettings) .width + portWidthIn e * portCount + localsWidth + (1 + code (pathFormIn e) .width) * i)
+            (1 + code (pathFormIn e) .width)
             ≡ old i l
         place i l = ap₂ (λ (a w : ℕ). part f (a + w * i) w) (omega arith) (sym (wide i l))
 
@@ -287,13 +397,22 @@ module _ (e : Edition) (h : Brings e) where
         (and-both (all-intro _ pathCount (λ i l. and-left _ _ (all-at _ pathCount i paths l))) (and-right _ _ (and-right _ _ tested))))
 
     pub now-bytes : Bytes f → Bytes (tablesNow e f)
-    unfolding tablesNow frontNow pathsNow pathNow
+    unfolding tablesNow frontNow startNow portsNow portNow pathsNow pathNow portBytes
     now-bytes b =
         append-bytes (frontNow e f) (pathsNow e f pathCount ++ part f (backPlace e) backWidth) front-bytes
         (append-bytes (pathsNow e f pathCount) (part f (backPlace e) backWidth) paths-bytes (part-bytes f (backPlace e) backWidth b))
       where
         front-bytes : Bytes (frontNow e f)
-        front-bytes = opened-bytes (startWidth e) (portsAt - startWidth e) _ (part-bytes f bodiesAt (startWidth e + (pathsAt - portsAt)) b)
+        front-bytes =
+            append-bytes (startNow e f) (portsNow e f portCount ++ part f (localsPlace e) localsWidth)
+            (opened-bytes (startWidth e) (portsAt - startWidth e) _ (part-bytes f bodiesAt (startWidth e) b))
+            (append-bytes (portsNow e f portCount) (part f (localsPlace e) localsWidth)
+            (joined-each-bytes (portNow e f) (λ i. i) portCount
+            (λ i l.
+            append-bytes (oldPort i l) (drop (portWidthIn e) (portBytes freshPort))
+            (part-bytes f (portsPlace e + portWidthIn e * i) (portWidthIn e) b)
+            (drop-bytes (portWidthIn e) (portBytes freshPort) (lawful portForm .bytes freshPort fresh-good))))
+            (part-bytes f (localsPlace e) localsWidth b))
 
         paths-bytes : Bytes (pathsNow e f pathCount)
         paths-bytes =
@@ -333,20 +452,49 @@ module _ (e : Edition) (f : List ℕ) where
   fine-fails i = all-fails (λ k. pathFine e (pathNow e f k)) i pathCount
 
   pub paths-none : (t : List ℕ) → t ≡ patch t pathsAt (pathsNow e f 0)
-  unfolding pathsNow patch
-  paths-none t =
-      sym (take-append-drop pathsAt t)
-      ∙ ap (λ (r : List ℕ). take pathsAt t ++ (r ++ drop (pathsAt + length r) t)) (sym (joined-none (pathNow e f) (λ i. i)))
+  unfolding pathsNow
+  paths-none t = rows-none (pathNow e f) t pathsAt
+
+  pub ports-none : (t : List ℕ) → t ≡ patch t portsAt (portsNow e f 0)
+  unfolding portsNow
+  ports-none t = rows-none (portNow e f) t portsAt
 
   module _ (h : Brings e) (size : tallyPlace e ≤ length f) where
     pub paths-more : (t : List ℕ) (i : ℕ) → i < pathCount → length t ≡ tableSize
         → patch (patch t pathsAt (pathsNow e f i)) (pathsAt + pathWidth * i) (pathNow e f i) ≡ patch t pathsAt (pathsNow e f (i + 1))
     unfolding pathsNow
-    paths-more t i l long =
-        patch-join t pathsAt (pathsAt + pathWidth * i) (pathsNow e f i) (pathNow e f i)
-        (ap (λ (k : ℕ). pathsAt + k) (paths-length e h f size i (omega arith)))
-        (omega (arith, long, path-length e h f size i l, row-end pathWidth pathCount i l))
-        ∙ ap (patch t pathsAt) (sym (joined-more (pathNow e f) (λ j. j) i) ∙ ap (pathsNow e f) (sym (add-one i)))
+    paths-more t i l long = rows-more (pathNow e f) pathWidth pathCount (path-length e h f size) t pathsAt i l (omega (arith, long))
+
+    pub ports-more : (t : List ℕ) (i : ℕ) → i < portCount → length t ≡ pathsAt
+        → patch (patch t portsAt (portsNow e f i)) (portsAt + portWidth * i) (portNow e f i) ≡ patch t portsAt (portsNow e f (i + 1))
+    unfolding portsNow
+    ports-more t i l long = rows-more (portNow e f) portWidth portCount (port-length e h f size) t portsAt i l (omega (arith, long))
+
+    -- the sections before the paths, written over zeros one after the other
+    module _ (t : List ℕ) (is : t ≡ startNow e f ++ replicate (pathsAt - portsAt) 0) where
+      pub zeros-length : length t ≡ pathsAt
+      zeros-length =
+          ap length is
+          ∙ length-append (startNow e f) (replicate (pathsAt - portsAt) 0)
+          ∙ omega (arith, start-length e h f size, length-replicate {A = ℕ} (pathsAt - portsAt) 0)
+
+      pub ports-written-length : length (patch t portsAt (portsNow e f portCount)) ≡ pathsAt
+      ports-written-length =
+          patch-length t portsAt (portsNow e f portCount) (omega (arith, zeros-length, ports-length e h f size)) ∙ zeros-length
+
+      pub front-written : patch (patch t portsAt (portsNow e f portCount)) localsAt (part f (localsPlace e) localsWidth) ≡ frontNow e f
+      unfolding frontNow
+      front-written =
+          let start = start-length e h f size in
+          let ports = ports-length e h f size in
+          let locals = locals-length e h f size in
+          patch-join t portsAt localsAt (portsNow e f portCount) (part f (localsPlace e) localsWidth)
+          (ap (λ (k : ℕ). portsAt + k) ports) (omega (arith, zeros-length, locals))
+          ∙ ap (λ (r : List ℕ). patch r portsAt (portsNow e f portCount ++ part f (localsPlace e) localsWidth))
+          (is ∙ ap (λ (r : List ℕ). startNow e f ++ r) (sym (append-nil (replicate (pathsAt - portsAt) 0))))
+          ∙ patch-mid (startNow e f) (replicate (pathsAt - portsAt) 0) [] (portsNow e f portCount ++ part f (localsPlace e) localsWidth) portsAt start
+          (length-replicate {A = ℕ} (pathsAt - portsAt) 0 ∙ sym (simp length-append (omega (arith, ports, locals))))
+          ∙ ap (λ (r : List ℕ). startNow e f ++ r) (append-nil (portsNow e f portCount ++ part f (localsPlace e) localsWidth))
 
     pub now-written : (t : List ℕ) → length t ≡ tableSize
         → patch (patch (patch t 0 (frontNow e f)) pathsAt (pathsNow e f pathCount)) linksAt (part f (backPlace e) backWidth) ≡ tablesNow e f
@@ -364,6 +512,9 @@ module _ (e : Edition) (f : List ℕ) where
 module _ (n : ℕ) where
   pub start-most : startWidth (numbered n) ≤ portsAt
   start-most = start-within (numbered n) (each-brings (n - 1))
+
+  pub port-most : portWidthIn (numbered n) ≤ portWidth
+  port-most = port-within (numbered n) (each-brings (n - 1))
 
   pub before-most : beforeBlobs (numbered n) ≤ pathBlobsAt
   before-most = before-within (numbered n) (each-brings (n - 1))
@@ -389,8 +540,8 @@ module _ (n : ℕ) where
   known-high h = leb-true n currentEdition (and-right _ _ h)
 
   -- what holds of each edition that there is
-  pub each-known : (P : ℕ → Type 0) → isKnown n ≡ true → P 1 → P 2 → P 3 → P 4 → P n
-  each-known P h one two three four = go n (known-low h) (known-high h)
+  pub each-known : (P : ℕ → Type 0) → isKnown n ≡ true → P 1 → P 2 → P 3 → P 4 → P 5 → P n
+  each-known P h one two three four five = go n (known-low h) (known-high h)
     where
       go : (k : ℕ) → 0 < k → k ≤ currentEdition → P k
       go zero low high = absurd (not-suc-le-zero low)
@@ -398,9 +549,39 @@ module _ (n : ℕ) where
       go (suc (suc zero)) low high = two
       go (suc (suc (suc zero))) low high = three
       go (suc (suc (suc (suc zero)))) low high = four
-      go (suc (suc (suc (suc (suc k))))) low high = absurd (omega (arith, high))
+      go (suc (suc (suc (suc (suc zero))))) low high = five
+      go (suc (suc (suc (suc (suc (suc k)))))) low high = absurd (omega (arith, high))
 
-  -- path i's record stands in the file
+  -- port i's settings, and path i's record, stand in the file
+  pub port-room : (f : List ℕ) → tallyPlace (numbered n) ≤ length f → (i : ℕ) → i < portCount
+      → {w p : ℕ} → w ≡ portWidthIn (numbered n) → p ≡ portsPlace (numbered n) → p + w * i + w ≤ length f
+  port-room f size i l {w} {p} e d =
+      let place : w * i ≡ portWidthIn (numbered n) * i = ap (λ (k : ℕ). k * i) e in
+      omega (arith, port-end (numbered n) (each-brings (n - 1)) f size i l, e, d, place)
+
+  -- what the file has of the first section, written over zeros
+  pub start-written : (f t x : List ℕ) → tallyPlace (numbered n) ≤ length f → t ≡ replicate pathsAt 0 → {w : ℕ} → w ≡ startWidth (numbered n)
+      → x ≡ opened w (length (take (portsAt - 0) (drop 0 t)) - length (take (bodiesAt + w - bodiesAt) (drop bodiesAt f))) (take (bodiesAt + w - bodiesAt) (drop bodiesAt f))
+      → putMid 0 (portsAt - 0) t x ≡ startNow (numbered n) f ++ replicate (pathsAt - portsAt) 0
+  unfolding startNow
+  start-written f t x size is e d =
+      let lent = ap length (zeros-lent t pathsAt portsAt is (omega arith)) ∙ length-replicate {A = ℕ} portsAt 0 in
+      ap (putMid 0 (portsAt - 0) t)
+      (d ∙ opened-lent f bodiesAt (portsAt - startWidth (numbered n)) _ e e (omega (arith, size)) (omega (arith, lent, start-most)))
+      ∙ zeros-behind-put t (startNow (numbered n) f) pathsAt portsAt is (start-length (numbered n) (each-brings (n - 1)) f size) (omega arith)
+
+  -- what the file has of port i, over a fresh port's settings
+  pub port-filled : (f : List ℕ) → tallyPlace (numbered n) ≤ length f → (i : ℕ) → i < portCount
+      → {w p : ℕ} → w ≡ portWidthIn (numbered n) → p ≡ portsPlace (numbered n) → (t : List ℕ) → t ≡ portBytes freshPort
+      → patch t 0 (take (p + w * i + w - (p + w * i)) (drop (p + w * i) f)) ≡ portNow (numbered n) f i
+  unfolding patch portNow
+  port-filled f size i l {w} {p} e d t is =
+      let x : List ℕ = oldPort (numbered n) (each-brings (n - 1)) f size i l in
+      let place : p + w * i ≡ portsPlace (numbered n) + portWidthIn (numbered n) * i = ap₂ (λ (q k : ℕ). q + k * i) d e in
+      let lent : take (p + w * i + w - (p + w * i)) (drop (p + w * i) f) ≡ x = part-range f (p + w * i) w ∙ ap₂ (part f) place e in
+      ap₂ (λ (y r : List ℕ). take 0 r ++ (y ++ drop (0 + length y) r)) lent is
+      ∙ ap (λ (k : ℕ). x ++ drop k (portBytes freshPort)) (zero-add (length x) ∙ old-port-length (numbered n) (each-brings (n - 1)) f size i l)
+
   pub path-room : (f : List ℕ) → tallyPlace (numbered n) ≤ length f → (i : ℕ) → i < pathCount
       → {w p : ℕ} → w ≡ pathWidthIn (numbered n) → p ≡ pathsPlace (numbered n) → p + w * i + w ≤ length f
   path-room f size i l {w} {p} e d =

@@ -18,15 +18,15 @@ use Rattle.octets.proofs.ListOf.{listOf-length, listOf-at, listOf-cong, listOf-
 use Rattle.codes.specs.Codes.{fill}
 use Rattle.codes.specs.Form.{octetsIn, many, slot, code}
 use Rattle.recording.specs.Shape.{kindOf, editionOf, countOf, offsetOf, lengthOf, sumBelow, runningPlace, offsetsRight, endRight}
-use Rattle.numbers.specs.Numbers.{blobLimit}
-use Rattle.rules.specs.Relay.{noRateSettings, noRateEntry, Slot, empty, used, Path, makePath, Relay}
+use Rattle.numbers.specs.Numbers.{longestPacket, portCount, blobLimit}
+use Rattle.rules.specs.Relay.{freshPort, noPort, noRateSettings, noRateEntry, Slot, empty, used, Path, makePath, Relay}
 use Rattle.rules.specs.Blobs.{noBlob}
 use Rattle.rules.specs.Refusals.{tablesOk}
 use Rattle.rules.specs.declared.Tally.{Tally}
 use Rattle.rules.proofs.History.{Fits}
 use Rattle.rules.proofs.Unfolding.{rules}
 use Rattle.rules.proofs.Outcomes.{relayOf, knownPath, linkOf, returnOf}
-use Rattle.tables.specs.Forms.{blobWidth, pathFormIn, pathForm, relayFormIn, relayForm}
+use Rattle.tables.specs.Forms.{blobWidth, portFormIn, pathFormIn, pathForm, relayFormIn, relayForm}
 use Rattle.tables.specs.Places.{tableSize}
 use Rattle.tables.specs.Layout.{relayOf as layoutRelay, bytesOf, wellFormed}
 use Rattle.tables.specs.Shape.{isByte, isBytes, pathShaped, linkShaped, returnShaped, hashShaped, shaped}
@@ -112,9 +112,9 @@ saved-again =
     (ap (λ (x : LoadedOn). x .refusal) loaded)
     (written-edition tables tally are-bytes well small room large) room large
 
--- a program of edition 3 refuses it
-pub earlier : _≡_ {A = ℕ} (firstOf (lengthWrong file gives 20 otherwise kindWrongBy 3 file gives 21 otherwise []) 0) 21
-earlier = earlier-refuses tables tally are-bytes well small room large 3 (lit< tt) []
+-- a program of edition 4 refuses it
+pub earlier : _≡_ {A = ℕ} (firstOf (lengthWrong file gives 20 otherwise kindWrongBy 4 file gives 21 otherwise []) 0) 21
+earlier = earlier-refuses tables tally are-bytes well small room large 4 (lit< tt) []
 
 -- loaded tables pass refusal 7
 pub loaded-well : wellFormed (loadOn file other old .tables) ≡ true
@@ -130,15 +130,15 @@ pathsLong = 3968 + 640 * blobLimit
 
 abbrev pub contents : List ℕ
 contents =
-    2 ∷ 4 ∷ 0 ∷ 8 ∷
+    2 ∷ 5 ∷ 0 ∷ 8 ∷
     (row 52 36
-    ++ (row 88 32
-    ++ (row 120 272
-    ++ (row 392 pathsLong
-    ++ (row (392 + pathsLong) 1920
-    ++ (row (2312 + pathsLong) 13826
-    ++ (row (16138 + pathsLong) 41986
-    ++ row (58124 + pathsLong) 24)))))))
+    ++ (row 88 64
+    ++ (row 152 272
+    ++ (row 424 pathsLong
+    ++ (row (424 + pathsLong) 1920
+    ++ (row (2344 + pathsLong) 13826
+    ++ (row (16170 + pathsLong) 41986
+    ++ row (58156 + pathsLong) 24)))))))
 
 start : startBytes ++ contentsBytes bodyCount ≡ contents
 unfolding computing
@@ -159,14 +159,14 @@ abbrev pub empties : List ℕ
 empties = 2 ∷ 1 ∷ 0 ∷ 8 ∷ joined (λ i. 0 ∷ 0 ∷ 0 ∷ 52 ∷ 0 ∷ 0 ∷ []) (listOf (λ i. i) 8)
 
 -- where two faults meet, the earlier row's number: nothing; three bytes; a byte too many, of another kind; of another kind, with another count;
--- edition 0; edition 5; no entries; a wrong offset, and bodies of wrong length; bodies of wrong length, and tables of another size; cut by a byte
+-- edition 0; edition 6; no entries; a wrong offset, and bodies of wrong length; bodies of wrong length, and tables of another size; cut by a byte
 pub refusals : _≡_ {A = List ℕ}
     (loadRefusal [] 0 ∷
     loadRefusal (2 ∷ 1 ∷ 0 ∷ []) 0 ∷
     loadRefusal (1 ∷ 1 ∷ 0 ∷ 0 ∷ 0 ∷ []) 0 ∷
     loadRefusal (1 ∷ 1 ∷ 0 ∷ 0 ∷ []) 0 ∷
     loadRefusal (set empties 1 0) 0 ∷
-    loadRefusal (set empties 1 5) 0 ∷
+    loadRefusal (set empties 1 6) 0 ∷
     loadRefusal (2 ∷ 1 ∷ 0 ∷ 0 ∷ []) 0 ∷
     loadRefusal (set empties 49 51) 0 ∷
     loadRefusal empties 0 ∷
@@ -202,7 +202,7 @@ small-room =
     (refused-room tables (length shortRoom) well (omega (arith, length-replicate {A = ℕ} (savedSize - 1) 9)))
 
 -- ---- a file of edition 1, which has neither settings nor what a path's record has of the announce rate: "edition 1 .. have settings and new fields at 0",
--- no mark: "older ones load unmarked", and 16 blobs a path at most: these places, and zeros behind them
+-- no mark: "older ones load unmarked", 16 blobs a path at most: these places, and zeros behind them; and no sizes of ports: "older ones load with 500"
 record OlderPath (p : Path) : Type 0 where
   rate : p .rate ≡ noRateEntry
   marked : p .marked ≡ false
@@ -214,11 +214,14 @@ Older empty = Unit
 Older (used p) = OlderPath p
 
 -- what tables hold without these fields and places, edition 1 can hold
-older-good : (r : Relay) → code relayForm .Good r → r .rate ≡ noRateSettings → ((i : ℕ) → Older (getD (r .paths) i empty)) → code (relayFormIn edition1) .Good r
+older-good : (r : Relay) → code relayForm .Good r → r .rate ≡ noRateSettings → ((i : ℕ) → getD (r .ports) i noPort .size ≡ longestPacket)
+    → ((i : ℕ) → Older (getD (r .paths) i empty)) → code (relayFormIn edition1) .Good r
 unfolding fill
-older-good r g none each =
+older-good r g none sized each =
     let (own, (clock, (_, (ports, (locals, (paths, back)))))) = g in
-    (own, (clock, (none, (ports, (locals, ((paths .0, λ i l. path (getD (r .paths) i empty) (paths .1 i l) (each i)), back))))))
+    let old-ports : code (many portCount noPort (portFormIn edition1)) .Good (r .ports) =
+    (ports .0, λ i l. let ((on, (mode, _)), rule) = ports .1 i l in ((on, (mode, sized i)), rule)) in
+    (own, (clock, (none, (old-ports, (locals, ((paths .0, λ i l. path (getD (r .paths) i empty) (paths .1 i l) (each i)), back))))))
   where
     blob : (xs : List (List ℕ)) → code (many blobLimit noBlob (octetsIn blobWidth)) .Good xs
         → code (many olderBlobLimit noBlob (octetsIn blobWidth)) .Good (fill olderBlobLimit noBlob xs)
@@ -272,7 +275,7 @@ older-ok = refl
 held-good : code (held edition1) .Good (olderRelay, tally)
 held-good =
     let g = relay-good (bytesOf olderRelay) (bytes-bytes olderRelay older-shape older-ok) (ok-bytes olderRelay older-shape older-ok) in (
-      older-good olderRelay (subst (code relayForm .Good) (back olderRelay older-shape older-ok) g) refl older,
+      older-good olderRelay (subst (code relayForm .Good) (back olderRelay older-shape older-ok) g) refl sized older,
       (small .total, (small .dropped, (small .delivered, (small .forwarded, (small .spread, small .kept))))),
     )
   where
@@ -280,6 +283,17 @@ held-good =
     none zero i = refl
     none (suc n) zero = refl
     none (suc n) (suc i) = none n i
+
+    fresh-sized : (n i : ℕ) → getD (replicate n freshPort) i noPort .size ≡ longestPacket
+    fresh-sized zero i = refl
+    fresh-sized (suc n) zero = refl
+    fresh-sized (suc n) (suc i) = fresh-sized n i
+
+    sized : (i : ℕ) → getD (olderRelay .ports) i noPort .size ≡ longestPacket
+    sized zero = refl
+    sized (suc zero) = refl
+    sized (suc (suc zero)) = refl
+    sized (suc (suc (suc i))) = fresh-sized 13 i
 
     older : (i : ℕ) → Older (getD (olderRelay .paths) i empty)
     older zero = record { rate = refl; marked = refl; few = refl; spare = one-spare _ }

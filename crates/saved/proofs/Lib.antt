@@ -1,5 +1,6 @@
 -- Laws of the widths, of older editions, of loading and of saving; then the theorems over whole files, and a concrete one.
 pub mod Widths
+pub mod RowLaws
 pub mod Alike
 pub mod Rooms
 pub mod EditionLaws

@@ -20,7 +20,7 @@ use Rattle.numbers.specs.Numbers.{pathCount, blobLimit}
 use Rattle.rules.specs.Relay.{Blobs, Path}
 use Rattle.rules.specs.Blobs.{noBlob}
 use Rattle.rules.proofs.Ranges.{path-counted}
-use Rattle.tables.specs.Forms.{BlobRoom, as-today, fewer, Edition, rateSettingsForm, rateEntryForm, blobWidth, blobsForm, holdsAtMost, blobsFormIn, pathFormOf, pathForm, relayFormOf, relayForm}
+use Rattle.tables.specs.Forms.{BlobRoom, as-today, fewer, Edition, rateSettingsForm, rateEntryForm, blobWidth, blobsForm, holdsAtMost, blobsFormIn, portForm, pathFormOf, pathForm, relayFormOf, relayForm}
 use Rattle.tables.specs.Places.{pathWidth, pathsAt, linksAt}
 use Rattle.tables.specs.Fields.{pathBlobsAt, blobsWidth}
 use Rattle.tables.specs.Records.{blobsOf, pathOf, pathBytesOk}
@@ -54,7 +54,7 @@ pub limited-width : (r : BlobRoom) → code (slot (limitedPath r)) .width ≡ pa
 limited-width as-today = refl
 limited-width (fewer most within) = refl
 
-pub limited-reads : (r : BlobRoom) (t : List ℕ) → code (relayFormOf rateSettingsForm (limitedPath r)) .read t 0 ≡ code relayForm .read t 0
+pub limited-reads : (r : BlobRoom) (t : List ℕ) → code (relayFormOf rateSettingsForm portForm (limitedPath r)) .read t 0 ≡ code relayForm .read t 0
 limited-reads as-today t = refl
 limited-reads (fewer most within) t = refl
 
@@ -123,7 +123,7 @@ limited-tests (fewer most within) b = go (eqb (getD b 0 0) 0) refl
     go false q = rw q (limited-here _ _ _ _ _ (leb (getD b pathBlobsAt 0) most) _)
 
 -- .. and of all tables
-pub limited-clauses : (e : Edition) (t : List ℕ) → code (relayFormOf rateSettingsForm (limitedPath (e .blobRoom))) .fine t 0
+pub limited-clauses : (e : Edition) (t : List ℕ) → code (relayFormOf rateSettingsForm portForm (limitedPath (e .blobRoom))) .fine t 0
     ≡ (frontOk t and recordsOk (pathFine e) pathsAt pathWidth pathCount t and backOk t linksAt)
 unfolding recordsOk pathFine
 limited-clauses e t =

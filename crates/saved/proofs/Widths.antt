@@ -11,11 +11,11 @@ use Rattle.octets.proofs.Index.{all-at}
 use Rattle.codes.specs.Form.{code}
 use Rattle.recording.specs.Shape.{sumBelow}
 use Rattle.recording.proofs.Sums.{sum-within}
-use Rattle.numbers.specs.Numbers.{pathCount}
+use Rattle.numbers.specs.Numbers.{portCount, pathCount}
 use Rattle.tables.specs.Forms.{Edition}
 use Rattle.saved.specs.Editions.{edition1, editions, isKnownBy, isKnown, held, editionAt, currentEdition, widthAt}
 use Rattle.saved.specs.File.{bodyCount, bodiesAt}
-use Rattle.saved.specs.Steps.{startWidth, pathWidthIn, sizeIn}
+use Rattle.saved.specs.Steps.{startWidth, portWidthIn, pathWidthIn, sizeIn}
 
 pub now-known : isKnown currentEdition ≡ true
 unfolding isKnown isKnownBy _and_
@@ -37,6 +37,10 @@ module _ (e : Edition) where
   unfolding widthAt
   width-start = omega arith
 
+  pub width-ports : widthAt (held e) 1 ≡ portWidthIn e * portCount
+  unfolding widthAt
+  width-ports = omega arith
+
   pub width-paths : widthAt (held e) 3 ≡ pathWidthIn e * pathCount
   unfolding widthAt
   width-paths = omega arith
@@ -48,7 +52,8 @@ all-small zero = refl
 all-small (suc zero) = refl
 all-small (suc (suc zero)) = refl
 all-small (suc (suc (suc zero))) = refl
-all-small (suc (suc (suc (suc j)))) = refl
+all-small (suc (suc (suc (suc zero)))) = refl
+all-small (suc (suc (suc (suc (suc j))))) = refl
 
 pub width-small : (n i : ℕ) → i < bodyCount → widthAt (editionAt n) i < 65536
 width-small n i l = ltb-true (widthAt (editionAt n) i) 65536 (all-at (λ j. ltb (widthAt (editionAt n) j) 65536) bodyCount i (all-small (n - 1)) l)
@@ -61,4 +66,5 @@ size-small n = go (n - 1)
     go (suc zero) = lit< tt
     go (suc (suc zero)) = lit< tt
     go (suc (suc (suc zero))) = lit< tt
-    go (suc (suc (suc (suc j)))) = lit< tt
+    go (suc (suc (suc (suc zero)))) = lit< tt
+    go (suc (suc (suc (suc (suc j))))) = lit< tt

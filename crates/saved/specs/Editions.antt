@@ -11,9 +11,10 @@ use lib.ListN.{length, getD}
 use lib.Text.{eqt}
 use Rattle.octets.specs.Index.{_and_}
 use Rattle.codes.specs.Form.{Form, byte, mark, numberIn, octetsIn, given, field, _&_, many, firstsOf, slot, that, asRecord, code, oneOf}
+use Rattle.numbers.specs.Numbers.{longestPacket}
 use Rattle.rules.specs.Relay.{noRateSettings, noRateEntry, Relay}
 use Rattle.rules.specs.declared.Tally.{Tally}
-use Rattle.tables.specs.Forms.{BlobRoom, fewer, Edition, rateSettingsForm, rateEntryForm, today, relayFormIn}
+use Rattle.tables.specs.Forms.{BlobRoom, as-today, fewer, Edition, rateSettingsForm, rateEntryForm, today, relayFormIn}
 
 -- what is saved, and what a load gives: the relay that the tables hold, and the tally
 abbrev pub Held : Type 0
@@ -83,24 +84,40 @@ olderBlobLimit = 16
 abbrev pub olderRoom : BlobRoom
 olderRoom = fewer olderBlobLimit (lit≤ tt)
 
+-- wish 11: "older ones load with 500, as fresh relays have"
+abbrev pub olderSize : Form ℕ
+olderSize = given longestPacket
+
 -- wish 5: "edition 1 and a fresh relay have settings and new fields at 0"
 abbrev pub edition1 : Edition
-edition1 = record { rateSettings = given noRateSettings; rateEntry = given noRateEntry; pathMark = given false; blobRoom = olderRoom }
+edition1 =
+    record {
+      rateSettings = given noRateSettings;
+      rateEntry = given noRateEntry;
+      pathMark = given false;
+      blobRoom = olderRoom;
+      portSize = olderSize;
+    }
 
 -- "Saved tables take edition 2"; wish 6: "older ones load unmarked"
 abbrev pub edition2 : Edition
-edition2 = record { rateSettings = rateSettingsForm; rateEntry = rateEntryForm; pathMark = given false; blobRoom = olderRoom }
+edition2 =
+    record { rateSettings = rateSettingsForm; rateEntry = rateEntryForm; pathMark = given false; blobRoom = olderRoom; portSize = olderSize }
 
 -- wish 6: "saved tables take edition 3"
 abbrev pub edition3 : Edition
-edition3 = record { rateSettings = rateSettingsForm; rateEntry = rateEntryForm; pathMark = mark; blobRoom = olderRoom }
+edition3 = record { rateSettings = rateSettingsForm; rateEntry = rateEntryForm; pathMark = mark; blobRoom = olderRoom; portSize = olderSize }
 
--- wish 8: "a new save is edition 4": as the tables are
+-- wish 8: "a new save is edition 4"
 abbrev pub edition4 : Edition
-edition4 = today
+edition4 = record { rateSettings = rateSettingsForm; rateEntry = rateEntryForm; pathMark = mark; blobRoom = as-today; portSize = olderSize }
+
+-- wish 11: "Saved tables take edition 5": as the tables are
+abbrev pub edition5 : Edition
+edition5 = today
 
 abbrev pub editions : List Edition
-editions = edition1 ∷ edition2 ∷ edition3 ∷ edition4 ∷ []
+editions = edition1 ∷ edition2 ∷ edition3 ∷ edition4 ∷ edition5 ∷ []
 
 -- the current one is the last
 abbrev pub currentEdition : ℕ

@@ -8,7 +8,7 @@ use Rattle.octets.specs.Part.{part}
 use Rattle.recording.specs.Shape.{entryPlace, sumBelow, shapeOf}
 use Rattle.codes.specs.Form.{Form, code}
 use Rattle.numbers.specs.Numbers.{blobLimit}
-use Rattle.saved.specs.Editions.{Held, olderBlobLimit, edition1, edition2, edition3, held, editionAt, currentEdition, current, widthAt}
+use Rattle.saved.specs.Editions.{Held, olderBlobLimit, edition1, edition2, edition3, edition4, held, editionAt, currentEdition, current, widthAt}
 
 abbrev pub savedKind : ℕ
 savedKind = 2
@@ -45,8 +45,8 @@ fileOf held = fileIn currentEdition held
 abbrev pub savedSize : ℕ
 savedSize = bodiesAt + code current .width
 
--- 103,076 bytes with 64 blobs a path
-saved-size : savedSize ≡ 62116 + 640 * blobLimit
+-- 103,108 bytes with 64 blobs a path
+saved-size : savedSize ≡ 62148 + 640 * blobLimit
 saved-size = refl
 
 -- the eight bodies are all that is saved
@@ -54,7 +54,8 @@ pub widths-fill : sumBelow (widthAt current) bodyCount ≡ code current .width
 unfolding sumBelow widthAt
 widths-fill = refl
 
--- ---- older editions keep their shape, whatever today's limit: a file of each, 71,192, 72,292 and 72,356 bytes long, and its eight bodies
+-- ---- older editions keep their shape, 1 to 3 whatever today's limit on blobs: a file of each, 71,192, 72,292, 72,356 and 103,076 bytes long, and its
+-- eight bodies
 edition1-size : bodiesAt + code (held edition1) .width ≡ 60952 + 640 * olderBlobLimit
 edition1-size = refl
 
@@ -75,3 +76,10 @@ edition3-size = refl
 edition3-fill : sumBelow (widthAt (held edition3)) bodyCount ≡ code (held edition3) .width
 unfolding sumBelow widthAt
 edition3-fill = refl
+
+edition4-size : bodiesAt + code (held edition4) .width ≡ 62116 + 640 * blobLimit
+edition4-size = refl
+
+edition4-fill : sumBelow (widthAt (held edition4)) bodyCount ≡ code (held edition4) .width
+unfolding sumBelow widthAt
+edition4-fill = refl

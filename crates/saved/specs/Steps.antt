@@ -4,18 +4,19 @@ use mathlib.Core.Bool.{Bool, false}
 use mathlib.Core.List.{List, _∷_, _++_}
 use mathlib.Core.Path.{_≡_}
 use lib.Dec.{leb}
-use lib.ListN.{length, getD, replicate}
+use lib.ListN.{length, getD, drop, replicate}
 use Rattle.octets.specs.Index.{_and_, allBelow, listOf}
 use Rattle.octets.specs.Part.{part, joined}
 use Rattle.octets.specs.BigEndian.{bigEndian}
 use Rattle.codes.specs.Form.{code}
 use Rattle.recording.specs.Shape.{sumBelow}
-use Rattle.numbers.specs.Numbers.{pathCount, blobLimit}
+use Rattle.numbers.specs.Numbers.{portCount, localCount, pathCount, blobLimit}
+use Rattle.rules.specs.Relay.{freshPort}
 use Rattle.rules.specs.declared.Tally.{Tally}
-use Rattle.tables.specs.Forms.{BlobRoom, as-today, fewer, Edition, blobsFormIn}
-use Rattle.tables.specs.Places.{rateAt, portsAt, pathsAt, backWidth}
+use Rattle.tables.specs.Forms.{BlobRoom, as-today, fewer, Edition, portFormIn, blobsFormIn}
+use Rattle.tables.specs.Places.{localWidth, rateAt, portsAt, backWidth}
 use Rattle.tables.specs.Fields.{pathRateAt, pathBlobsAt, blobsWidth}
-use Rattle.tables.specs.Records.{pathBytesOk}
+use Rattle.tables.specs.Records.{portBytes, pathBytesOk}
 use Rattle.saved.specs.Editions.{tallyForm, held, currentEdition, current, widthAt}
 use Rattle.saved.specs.File.{savedKind, bodyCount, bodiesAt}
 use Rattle.saved.specs.Load.{lengthWrong, contentsWrong}
@@ -33,9 +34,12 @@ contentsBytes n = joined (λ i. entryBytes (bodiesAt + sumBelow (widthAt current
 unfoldable pub tallyBytes : Tally → List ℕ
 tallyBytes tally = code tallyForm .write tally
 
--- ---- an edition in numbers: how many bytes of the first body, and of a path's record, stand before the place where a later one has more
+-- ---- an edition in numbers: how many bytes of the first body, of a port and of a path's record stand before the place where a later one has more
 abbrev pub startWidth : Edition → ℕ
 startWidth e = rateAt + code (e .rateSettings) .width
+
+abbrev pub portWidthIn : Edition → ℕ
+portWidthIn e = code (portFormIn e) .width
 
 abbrev pub beforeBlobs : Edition → ℕ
 beforeBlobs e = pathRateAt + code (e .rateEntry) .width + code (e .pathMark) .width
@@ -48,12 +52,21 @@ mostBlobs (fewer most within) = most
 abbrev pub blobsWidthIn : Edition → ℕ
 blobsWidthIn e = code (blobsFormIn (e .blobRoom)) .width
 
--- how wide a path's record is; where the paths stand in the file, what is behind them, and the tally
+-- how wide a path's record is; where ports, local addresses and paths stand in the file, what is behind them, and the tally
 abbrev pub pathWidthIn : Edition → ℕ
 pathWidthIn e = beforeBlobs e + blobsWidthIn e
 
+abbrev pub portsPlace : Edition → ℕ
+portsPlace e = bodiesAt + startWidth e
+
+abbrev pub localsPlace : Edition → ℕ
+localsPlace e = portsPlace e + portWidthIn e * portCount
+
+abbrev pub localsWidth : ℕ
+localsWidth = localWidth * localCount
+
 abbrev pub pathsPlace : Edition → ℕ
-pathsPlace e = bodiesAt + (startWidth e + (pathsAt - portsAt))
+pathsPlace e = localsPlace e + localsWidth
 
 abbrev pub backPlace : Edition → ℕ
 backPlace e = pathsPlace e + pathWidthIn e * pathCount
@@ -64,7 +77,7 @@ tallyPlace e = backPlace e + backWidth
 abbrev pub sizeIn : Edition → ℕ
 sizeIn e = tallyPlace e + code tallyForm .width
 
--- ---- what a load tests and reads, as the tables have it: with zeros for what the edition lacks
+-- ---- what a load tests and reads, as the tables have it: with zeros for what the edition lacks, and with a fresh port's bytes for what it lacks of a port
 -- refusals 20 and 22 are not given
 abbrev pub ContentsRight : List ℕ → Type 0
 ContentsRight f = (lengthWrong f ≡ false) × (contentsWrong f ≡ false)
@@ -73,9 +86,20 @@ ContentsRight f = (lengthWrong f ≡ false) × (contentsWrong f ≡ false)
 unfoldable pub opened : ℕ → ℕ → List ℕ → List ℕ
 opened k n b = part b 0 k ++ (replicate n 0 ++ part b k (length b - k))
 
--- own address, last clock, settings, ports and local addresses
+-- own address, last clock and settings
+unfoldable pub startNow : Edition → List ℕ → List ℕ
+startNow e f = opened (startWidth e) (portsAt - startWidth e) (part f bodiesAt (startWidth e))
+
+-- the settings of port i; of the first n
+unfoldable pub portNow : Edition → List ℕ → ℕ → List ℕ
+portNow e f i = part f (portsPlace e + portWidthIn e * i) (portWidthIn e) ++ drop (portWidthIn e) (portBytes freshPort)
+
+unfoldable pub portsNow : Edition → List ℕ → ℕ → List ℕ
+portsNow e f n = joined (portNow e f) (listOf (λ i. i) n)
+
+-- .. and local addresses: all before the paths
 unfoldable pub frontNow : Edition → List ℕ → List ℕ
-frontNow e f = opened (startWidth e) (portsAt - startWidth e) (part f bodiesAt (startWidth e + (pathsAt - portsAt)))
+frontNow e f = startNow e f ++ (portsNow e f portCount ++ part f (localsPlace e) localsWidth)
 
 -- the record of path i, with zeros before and behind its blobs; of the first n
 unfoldable pub pathNow : Edition → List ℕ → ℕ → List ℕ

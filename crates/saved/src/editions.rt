@@ -1,23 +1,24 @@
 // What each edition has, in numbers: a line for each, the last one for today's. The next edition adds its line where
-// it changes one. A path's new fields stand before its blobs, new blob places behind them, and the first body's new
-// fields at its end.
+// it changes one. A path's new fields stand before its blobs, new blob places behind them, and the first body's and a
+// port's new fields at their ends.
 use super::format::BODIES_AT;
 use super::format::BODY_COUNT;
 use super::format::EDITION;
 use super::format::HASHES_BODY;
 use super::format::LINKS_BODY;
 use super::format::LOCALS_BODY;
-use super::format::MIDDLE_SIZE;
 use super::format::OLDER_BLOB_LIMIT;
-use super::format::PORTS_BODY;
 use super::format::RETURNS_BODY;
 use super::format::TALLY_BODY;
 use numbers::BLOB_LIMIT;
 use numbers::PATH_COUNT;
+use numbers::PORT_COUNT;
 use tables::fields::PATH_BLOB_COUNT_AT;
 use tables::fields::PATH_LAST_AT;
 use tables::fields::PATH_MARK_AT;
+use tables::fields::PORT_SIZE_AT;
 use tables::places::BLOB_WIDTH;
+use tables::places::PORT_WIDTH;
 use tables::places::PORTS_AT;
 use tables::places::TARGET_AT;
 ghost use mathlib.Core.Path.{_≡_};
@@ -25,7 +26,7 @@ ghost use mathlib.Core.Bool.{true};
 ghost use Prim.Native.Nat.{_<_};
 ghost use Rattle.saved.specs.Editions.{isKnown, numbered, editionAt, widthAt};
 ghost use Rattle.saved.specs.File.{bodyCount};
-ghost use Rattle.saved.specs.Steps.{startWidth, beforeBlobs, mostBlobs, blobsWidthIn, pathWidthIn, pathsPlace, backPlace};
+ghost use Rattle.saved.specs.Steps.{startWidth, portWidthIn, beforeBlobs, mostBlobs, blobsWidthIn, pathWidthIn, portsPlace, localsPlace, pathsPlace, backPlace};
 
 pub fn is_known(edition: u8) -> bool
     ensures { λ r. ⌜ r ≡ isKnown edition ⌝ }
@@ -45,6 +46,17 @@ pub fn start_width(edition: u8) -> usize
         1 => TARGET_AT,
         _ => PORTS_AT,
     }
+}
+
+// How wide a port's settings are. Edition 5 brought the size.
+pub fn port_width(edition: u8) -> usize
+    requires { ⌜ isKnown edition ≡ true ⌝ }
+    ensures { λ r. ⌜ r ≡ portWidthIn (numbered edition) ⌝ }
+{
+    if edition < 5 {
+        return PORT_SIZE_AT;
+    }
+    PORT_WIDTH
 }
 
 // How much of a path's record stands before its blobs. Edition 2 brought what the announce rate has there, edition 3 the
@@ -95,7 +107,7 @@ pub fn width_of(edition: u8, i: usize) -> usize
 {
     match i {
         0 => start_width(edition),
-        1 => PORTS_BODY,
+        1 => port_width(edition) * PORT_COUNT,
         2 => LOCALS_BODY,
         3 => path_width(edition) * PATH_COUNT,
         4 => LINKS_BODY,
@@ -105,12 +117,26 @@ pub fn width_of(edition: u8, i: usize) -> usize
     }
 }
 
-// Where the paths stand in the file, and what is behind them.
+// Where ports, local addresses and paths stand in the file, and what is behind them.
+pub fn ports_place(edition: u8) -> usize
+    requires { ⌜ isKnown edition ≡ true ⌝ }
+    ensures { λ r. ⌜ r ≡ portsPlace (numbered edition) ⌝ }
+{
+    BODIES_AT + start_width(edition)
+}
+
+pub fn locals_place(edition: u8) -> usize
+    requires { ⌜ isKnown edition ≡ true ⌝ }
+    ensures { λ r. ⌜ r ≡ localsPlace (numbered edition) ⌝ }
+{
+    ports_place(edition) + port_width(edition) * PORT_COUNT
+}
+
 pub fn paths_place(edition: u8) -> usize
     requires { ⌜ isKnown edition ≡ true ⌝ }
     ensures { λ r. ⌜ r ≡ pathsPlace (numbered edition) ⌝ }
 {
-    BODIES_AT + (start_width(edition) + MIDDLE_SIZE)
+    locals_place(edition) + LOCALS_BODY
 }
 
 pub fn back_place(edition: u8) -> usize

@@ -2,15 +2,11 @@
 use numbers::HASH_COUNT;
 use numbers::LINK_COUNT;
 use numbers::LOCAL_COUNT;
-use numbers::PORT_COUNT;
 use numbers::RETURN_COUNT;
 use tables::places::HASH_WIDTH;
 use tables::places::LINK_WIDTH;
 use tables::places::LINKS_AT;
 use tables::places::LOCAL_WIDTH;
-use tables::places::PATHS_AT;
-use tables::places::PORT_WIDTH;
-use tables::places::PORTS_AT;
 use tables::places::RETURN_WIDTH;
 use tables::places::RING_WIDTH;
 use tables::places::TABLE_SIZE;
@@ -33,7 +29,7 @@ pub const ROOM_REFUSED: u8 = 25;
 pub const KIND: u8 = 2;
 
 // The current edition: the last of those in editions.rt.
-pub const EDITION: u8 = 4;
+pub const EDITION: u8 = 5;
 
 // Blobs of a path in editions 1 to 3.
 pub const OLDER_BLOB_LIMIT: usize = 16;
@@ -54,9 +50,7 @@ pub const ENTRY_WIDTH: usize = OFFSET_WIDTH + LENGTH_WIDTH;
 
 pub const BODY_COUNT: usize = 8;
 
-// The bodies' lengths, those that are one in every edition: ports, local addresses, links, returns, hashes, tally.
-pub const PORTS_BODY: usize = PORT_COUNT * PORT_WIDTH;
-
+// The bodies' lengths, those that are one in every edition: local addresses, links, returns, hashes, tally.
 pub const LOCALS_BODY: usize = LOCAL_COUNT * LOCAL_WIDTH;
 
 pub const LINKS_BODY: usize = LINK_COUNT * LINK_WIDTH;
@@ -76,7 +70,5 @@ pub const TALLY_AT: usize = BODIES_AT + TABLE_SIZE;
 
 pub const SAVED_SIZE: usize = TALLY_AT + TALLY_BODY;
 
-// The sections between the first and the paths, and all behind the paths: no edition has these otherwise.
-pub const MIDDLE_SIZE: usize = PATHS_AT - PORTS_AT;
-
+// All behind the paths: no edition has it otherwise.
 pub const BACK_SIZE: usize = TABLE_SIZE - LINKS_AT;

@@ -1,28 +1,37 @@
-// The file's bodies as the tables have them, of any edition: with zeros for what the edition lacks.
+// The file's bodies as the tables have them, of any edition: with zeros for what the edition lacks, and with a fresh
+// port's bytes for what it lacks of a port.
 use super::editions::back_place;
 use super::editions::before_blobs;
 use super::editions::blobs_width;
+use super::editions::locals_place;
 use super::editions::most_blobs;
 use super::editions::path_width;
 use super::editions::paths_place;
+use super::editions::port_width;
+use super::editions::ports_place;
 use super::editions::start_width;
 use super::format::BACK_SIZE;
 use super::format::BODIES_AT;
-use super::format::MIDDLE_SIZE;
+use super::format::LOCALS_BODY;
 use numbers::PATH_COUNT;
+use numbers::PORT_COUNT;
 use tables::fields::PATH_BLOB_COUNT_AT;
+use tables::places::FRESH_PORT;
 use tables::places::LINKS_AT;
+use tables::places::LOCALS_AT;
 use tables::places::PATH_WIDTH;
 use tables::places::PATHS_AT;
+use tables::places::PORT_WIDTH;
+use tables::places::PORTS_AT;
 ghost use mathlib.Core.Path.{_≡_};
 ghost use mathlib.Core.Bool.{true};
 ghost use Prim.Native.Nat.{_-_, _≤_, _<_};
 ghost use lib.ListN.{length, replicate};
 ghost use Rattle.octets.specs.Part.{patch};
-ghost use Rattle.numbers.specs.Numbers.{pathCount};
-ghost use Rattle.tables.specs.Places.{pathWidth, pathsAt, tableSize};
+ghost use Rattle.numbers.specs.Numbers.{portCount, pathCount};
+ghost use Rattle.tables.specs.Places.{pathWidth, portsAt, pathsAt, tableSize};
 ghost use Rattle.saved.specs.Editions.{isKnown, numbered};
-ghost use Rattle.saved.specs.Steps.{tallyPlace, opened, frontNow, pathNow, pathsNow, pathFine, pathsFine, tablesNow, bodiesFine};
+ghost use Rattle.saved.specs.Steps.{tallyPlace, opened, portNow, portsNow, frontNow, pathNow, pathsNow, pathFine, pathsFine, tablesNow, bodiesFine};
 
 // Writes bytes over zeros, with those of these that are more than the bytes put in at a place.
 fn open(from: &[u8], at: usize, to: &mut [u8])
@@ -36,18 +45,55 @@ fn open(from: &[u8], at: usize, to: &mut [u8])
     octets::copy_at(to, at + gap, &from[at..from.len()]);
 }
 
-// The sections before the paths.
+// The settings of port i: what the file has of them, over a fresh port's.
+fn port_now(file: &[u8], edition: u8, i: usize) -> [u8; PORT_WIDTH]
+    requires { ⌜ (isKnown edition ≡ true) × (tallyPlace (numbered edition) ≤ length (now file)) × (i < portCount) ⌝ }
+    ensures { λ r. ⌜ r ≡ portNow (numbered edition) (now (file .entry)) i ⌝ }
+{
+    let mut port = FRESH_PORT;
+    let width = port_width(edition);
+    let at = ports_place(edition) + width * i;
+    octets::copy_at(&mut port, 0, &file[at..at + width]);
+    port
+}
+
+fn write_ports(file: &[u8], edition: u8, front: &mut [u8])
+    requires { ⌜ (isKnown edition ≡ true) × (tallyPlace (numbered edition) ≤ length (now file))
+        × (length (now front) ≡ pathsAt) ⌝ }
+    ensures { λ _. ⌜ now (front .exit)
+        ≡ patch (now (front .entry)) portsAt (portsNow (numbered edition) (now (file .entry)) portCount) ⌝ }
+{
+    let mut i = 0;
+    while i < PORT_COUNT {
+        let port = port_now(file, edition, i);
+        octets::copy_at(front, PORTS_AT + PORT_WIDTH * i, &port);
+        i += 1;
+    }
+}
+
+// Writes the sections before the paths over zeros.
+fn write_front(file: &[u8], edition: u8, front: &mut [u8])
+    requires { ⌜ (isKnown edition ≡ true) × (tallyPlace (numbered edition) ≤ length (now file))
+        × (now front ≡ replicate pathsAt 0) ⌝ }
+    ensures { λ _. ⌜ now (front .exit) ≡ frontNow (numbered edition) (now (file .entry)) ⌝ }
+{
+    let start = start_width(edition);
+    open(
+        &file[BODIES_AT..BODIES_AT + start],
+        start,
+        &mut front[0..PORTS_AT],
+    );
+    write_ports(file, edition, front);
+    let locals = locals_place(edition);
+    octets::copy_at(front, LOCALS_AT, &file[locals..locals + LOCALS_BODY]);
+}
+
 fn front_now(file: &[u8], edition: u8) -> [u8; PATHS_AT]
     requires { ⌜ (isKnown edition ≡ true) × (tallyPlace (numbered edition) ≤ length (now file)) ⌝ }
     ensures { λ r. ⌜ r ≡ frontNow (numbered edition) (now (file .entry)) ⌝ }
 {
     let mut front = [0u8; PATHS_AT];
-    let start = start_width(edition);
-    open(
-        &file[BODIES_AT..BODIES_AT + (start + MIDDLE_SIZE)],
-        start,
-        &mut front,
-    );
+    write_front(file, edition, &mut front);
     front
 }
 

@@ -34,12 +34,12 @@ use Rattle.settings.specs.Calls.{freshOn, freshPorts}
 use Rattle.settings.proofs.Zeros.{fresh-writes}
 
 module _ (t : List ℕ) (h : wellFormed t ≡ true) (b : Bytes t) where
-  pub port-set : (port : ℕ) (on : Bool) (mode : ℕ) → port < portCount
-      → patch t (portsAt + portWidth * port) (portBytes (makePort on mode)) ≡ bytesOf (ruleOf (sets-port port on mode) .after (relayOf t))
+  pub port-set : (port : ℕ) (on : Bool) (mode size : ℕ) → port < portCount
+      → patch t (portsAt + portWidth * port) (portBytes (makePort on mode size)) ≡ bytesOf (ruleOf (sets-port port on mode size) .after (relayOf t))
   unfolding ruleOf
-  port-set port on mode l =
-      ap (λ (x : List ℕ). patch x (portsAt + portWidth * port) (portBytes (makePort on mode))) (sym (again t b h))
-      ∙ patch-port (relayOf t) port (makePort on mode) (ports-length t) l
+  port-set port on mode size l =
+      ap (λ (x : List ℕ). patch x (portsAt + portWidth * port) (portBytes (makePort on mode size))) (sym (again t b h))
+      ∙ patch-port (relayOf t) port (makePort on mode size) (ports-length t) l
 
   pub rate-set : (target grace penalty : ℕ)
       → patch t rateAt (code rateSettingsForm .write (makeRateSettings target grace penalty))

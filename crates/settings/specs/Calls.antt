@@ -15,8 +15,8 @@ use Rattle.tables.specs.Layout.{bytesOf}
 use Rattle.tables.specs.Called.{Called, refused, callOn}
 
 -- setting a port: 7, 9
-abbrev pub setPortOn : List ℕ → ℕ → Bool → ℕ → Called
-setPortOn t port on mode = callOn t (sets-port port on mode)
+abbrev pub setPortOn : List ℕ → ℕ → Bool → ℕ → ℕ → Called
+setPortOn t port on mode size = callOn t (sets-port port on mode size)
 
 -- setting the announce rate: 7, 9
 abbrev pub setRateOn : List ℕ → ℕ → ℕ → ℕ → Called

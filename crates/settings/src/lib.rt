@@ -41,7 +41,7 @@ ghost use Rattle.settings.specs.Calls.{freshOn, setPortOn, setRateOn, ad
 // Marking with no live path.
 const NO_LIVE_PATH: u8 = 12;
 
-// The tables of a relay with its own address, all ports off and boundary, clock 0, tables empty.
+// The tables of a relay with its own address, all ports off, boundary and of size 500, clock 0, tables empty.
 pub fn fresh(tables: &mut [u8], own: [u8; 16]) -> u8
     ensures { λ r. ⌜ Returns (freshOn (now (tables .entry)) own) r (now (tables .exit)) ⌝ }
 {
@@ -54,9 +54,9 @@ pub fn fresh(tables: &mut [u8], own: [u8; 16]) -> u8
     refusals::NONE
 }
 
-// Sets a port on or off, and its mode.
-pub fn set_port(tables: &mut [u8], port: u64, on: bool, mode: u64) -> u8
-    ensures { λ r. ⌜ Returns (setPortOn (now (tables .entry)) port on mode) r (now (tables .exit)) ⌝ }
+// Sets a port on or off, its mode and its size.
+pub fn set_port(tables: &mut [u8], port: u64, on: bool, mode: u64, size: u64) -> u8
+    ensures { λ r. ⌜ Returns (setPortOn (now (tables .entry)) port on mode size) r (now (tables .exit)) ⌝ }
 {
     if !check(tables) {
         return refusals::TABLES;
@@ -67,7 +67,10 @@ pub fn set_port(tables: &mut [u8], port: u64, on: bool, mode: u64) -> u8
     if mode >= MODE_COUNT as u64 {
         return refusals::SETTING;
     }
-    put_port(tables, port as usize, on, mode as u8);
+    if !packet::is_size(size as usize) {
+        return refusals::SETTING;
+    }
+    put_port(tables, port as usize, on, mode as u8, size);
     refusals::NONE
 }
 

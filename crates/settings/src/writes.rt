@@ -1,7 +1,9 @@
 // Writes of a port's settings, of the announce rate, of a local address, and of zeros.
+use numbers::LONGEST_PACKET;
 use numbers::PORT_COUNT;
 use tables::fields::PORT_MODE_AT;
 use tables::fields::PORT_ON_AT;
+use tables::fields::PORT_SIZE_AT;
 use tables::mark_of;
 use tables::places::GRACE_AT;
 use tables::places::LOCAL_WIDTH;
@@ -10,6 +12,7 @@ use tables::places::PENALTY_AT;
 use tables::places::PORT_WIDTH;
 use tables::places::PORTS_AT;
 use tables::places::SETTING_WIDTH;
+use tables::places::SIZE_WIDTH;
 use tables::places::TARGET_AT;
 ghost use mathlib.Core.Path.{_≡_};
 ghost use Prim.Native.Nat.{_+_, _*_, _<_};
@@ -23,14 +26,15 @@ ghost use Rattle.tables.specs.Places.{portWidth, localWidth, rateAt, portsAt, l
 ghost use Rattle.tables.specs.Records.{portBytes, slotBytes, localBytes};
 ghost use Rattle.settings.specs.Calls.{freshPorts};
 
-pub fn put_port(tables: &mut [u8], port: usize, on: bool, mode: u8)
+pub fn put_port(tables: &mut [u8], port: usize, on: bool, mode: u8, size: u64)
     requires { ⌜ (length (now tables) ≡ tableSize) × (port < portCount) ⌝ }
     ensures { λ _. ⌜ now (tables .exit) ≡ patch (now (tables .entry)) (portsAt + portWidth * port)
-        (portBytes (makePort on mode)) ⌝ }
+        (portBytes (makePort on mode size)) ⌝ }
 {
     let at = PORTS_AT + PORT_WIDTH * port;
     octets::set_at(tables, at + PORT_ON_AT, mark_of(on));
     octets::set_at(tables, at + PORT_MODE_AT, mode);
+    octets::write_number_at(tables, at + PORT_SIZE_AT, SIZE_WIDTH, size);
 }
 
 // The announce rate's settings.
@@ -51,7 +55,7 @@ pub fn put_fresh_ports(tables: &mut [u8])
 {
     let mut i = 0;
     while i < PORT_COUNT {
-        put_port(tables, i, false, 0);
+        put_port(tables, i, false, 0, LONGEST_PACKET as u64);
         i += 1;
     }
 }

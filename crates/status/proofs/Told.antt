@@ -13,8 +13,8 @@ use Rattle.octets.specs.Part.{part}
 use Rattle.octets.proofs.Part.{part-split, part-one, part-again, part-whole}
 use Rattle.rules.specs.Questions.{Told, a-port, a-rate, an-address, a-path, a-link, toldOf}
 use Rattle.tables.specs.Layout.{rateSettingsIn}
-use Rattle.tables.specs.Places.{timeWidth, settingWidth, rateAt, portsAt, portWidth, pathWidth, linkWidth}
-use Rattle.tables.specs.Fields.{pathMarkAt, linkProvedAt}
+use Rattle.tables.specs.Places.{timeWidth, settingWidth, sizeWidth, rateAt, portsAt, portWidth, pathWidth, linkWidth}
+use Rattle.tables.specs.Fields.{portSizeAt, pathMarkAt, linkProvedAt}
 use Rattle.tables.specs.Records.{markOf, slotOf, portOf, localOf, blobsOf, pathOf, linkOf}
 use Rattle.tables.specs.Asked.{rateBytes, toldNumber, toldBytes, Tells}
 use Rattle.lookup.specs.Search.{isUsed}
@@ -35,8 +35,8 @@ module _ (b : List ℕ) (bytes : Bytes b) where
   pub port-bytes : length b ≡ portWidth → ltb (getD b 0 0) 2 ≡ true → (old : List ℕ) → toldBytes (a-port (portOf b)) old ≡ b
   unfolding toldBytes portOf
   port-bytes wide m old =
-      rw (mark-again (getD b 0 0) m)
-      (sym (sym (part-whole b portWidth wide) ∙ part-cons b 0 1 (omega arith) ∙ ap (λ (x : List ℕ). getD b 0 0 ∷ x) (part-one b 1 (omega arith))))
+      rw (mark-again (getD b 0 0) m, part-again b portSizeAt sizeWidth bytes (omega arith))
+      (sym (sym (part-whole b portWidth wide) ∙ part-cons b 0 3 (omega arith) ∙ ap (λ (x : List ℕ). getD b 0 0 ∷ x) (part-cons b 1 2 (omega arith))))
 
   pub rate-bytes : portsAt ≤ length b → (old : List ℕ) → toldBytes (a-rate (rateSettingsIn b)) old ≡ part b rateAt 12
   unfolding toldBytes rateSettingsIn

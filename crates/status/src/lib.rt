@@ -39,8 +39,8 @@ ghost use Rattle.tables.specs.Asked.{tellOn, Tells, TellsNumber};
 // A place outside its table or an empty one, a number that is no port, or no live path.
 pub const NOTHING: u8 = 255;
 
-// A port's settings: on, 1 or 0, and its mode.
-pub fn port_settings(tables: &[u8], port: u64, settings: &mut [u8; 2]) -> u8
+// A port's settings: on, 1 or 0, its mode, and its size in two bytes.
+pub fn port_settings(tables: &[u8], port: u64, settings: &mut [u8; 4]) -> u8
     ensures { λ r. ⌜ Tells (tellOn (now (tables .entry)) (port-settings port))
         (now (settings .entry)) r (now (settings .exit)) ⌝ }
 {

@@ -18,6 +18,7 @@ use Rattle.codes.specs.Form.{Form, octetsIn, many, slot, that, code}
 use Rattle.codes.proofs.Law.{whole-again}
 use Rattle.codes.proofs.Forms.{lawful}
 use Rattle.numbers.specs.Numbers.{portCount, localCount, pathCount, linkCount, returnCount, hashCount, blobLimit, modeCount, timeLimit}
+use Rattle.packet.proofs.ReadLaws.{size-most}
 use Rattle.rules.specs.Relay.{Port, noPort, Slot, empty, used, Path, Return, Remembered, Ring, Relay}
 use Rattle.rules.specs.Blobs.{noBlob}
 use Rattle.rules.specs.Refusals.{timeOk, rateSettingsOk, rateEntryOk, portOk, pathOk, linkOk, returnOk, hashOk, slotOk, all, tableOk, tablesOk}
@@ -62,7 +63,7 @@ unfolding backOk recordsOk linkBytesOk returnBytesOk hashBytesOk _and_
 back-clauses t at = rw (and-assoc (ltb (number (part t (at + linkWidth * linkCount) ringWidth)) returnCount))
 
 -- the records of paths being of any form: an older edition has its own limit on their blobs
-pub clauses-of : (path : Form Path) (t : List ℕ) → code (relayFormOf rateSettingsForm path) .fine t 0
+pub clauses-of : (path : Form Path) (t : List ℕ) → code (relayFormOf rateSettingsForm portForm path) .fine t 0
     ≡ (frontOk t
     and recordsOk (λ b. code (slot path) .fine b 0) pathsAt (code (slot path) .width) pathCount t
     and backOk t (pathsAt + code (slot path) .width * pathCount))
@@ -136,7 +137,10 @@ port-small x h = let l = ltb-true x portCount h in omega (arith, l)
 
 port-good : (p : Port) → portOk p ≡ true → code portForm .Good p
 unfolding portOk
-port-good p h = let l = ltb-true (p .mode) modeCount h in ((tt, omega (arith, l)), h)
+port-good p h =
+    let mode = ltb-true (p .mode) modeCount (and-left _ _ h) in
+    let size = size-most (p .size) (and-right _ _ h) in
+    ((tt, (omega (arith, mode), omega (arith, size))), h)
 
 path-good : (p : Path) → pathOk p ≡ true → pathShaped p ≡ true → code pathForm .Good p
 unfolding pathOk pathShaped

@@ -7,7 +7,7 @@ use Rattle.octets.specs.Choice.{_then_otherwise_}
 use Rattle.octets.specs.BigEndian.{bigEndian}
 use Rattle.rules.specs.Questions.{Question, Told, refused, none, a-port, a-rate, an-address, a-path, a-link, a-number, yes-or-no, tell}
 use Rattle.rules.specs.declared.RateEntry.{RateEntry}
-use Rattle.tables.specs.Places.{timeWidth, settingWidth}
+use Rattle.tables.specs.Places.{timeWidth, settingWidth, sizeWidth}
 use Rattle.tables.specs.Records.{markOf}
 use Rattle.tables.specs.Layout.{relayOf, wellFormed}
 
@@ -32,11 +32,11 @@ unfoldable pub rateBytes : RateEntry → List ℕ
 rateBytes e = bigEndian timeWidth (e .last) ++ (e .violations ∷ bigEndian timeWidth (e .«blocked_until»))
 
 -- the caller's buffer after the call: a record's fields in order, where one is told; else what stood there. A time has eight bytes, a setting of the
--- announce rate four, the highest first; a path's blobs are counted, and not told
+-- announce rate four, a port's size two, the highest first; a path's blobs are counted, and not told
 unfoldable pub toldBytes : Told → List ℕ → List ℕ
 toldBytes (refused number) old = old
 toldBytes none old = old
-toldBytes (a-port port) old = markOf (port .on) ∷ port .mode ∷ []
+toldBytes (a-port port) old = markOf (port .on) ∷ port .mode ∷ bigEndian sizeWidth (port .size)
 toldBytes (a-rate rate) old = bigEndian settingWidth (rate .target) ++ (bigEndian settingWidth (rate .grace) ++ bigEndian settingWidth (rate .penalty))
 toldBytes (an-address address) old = address
 toldBytes (a-path p) old =

@@ -7,6 +7,9 @@ use Rattle.tables.specs.Forms.{portForm, blobsForm, pathForm, linkForm, 
 abbrev pub portModeAt : ℕ
 portModeAt = placeOf portForm "mode"
 
+abbrev pub portSizeAt : ℕ
+portSizeAt = placeOf portForm "size"
+
 abbrev pub pathPortAt : ℕ
 pathPortAt = 1 + placeOf pathForm "port"
 

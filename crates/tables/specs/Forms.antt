@@ -33,6 +33,9 @@ ringWidth = 2
 abbrev pub settingWidth : ℕ
 settingWidth = 4
 
+abbrev pub sizeWidth : ℕ
+sizeWidth = 2
+
 -- ---- the announce rate: its settings, and what a path's record has of it
 abbrev pub toRateSettings : ℕ × (ℕ × ℕ) → RateSettings
 toRateSettings (target, (grace, penalty)) = makeRateSettings target grace penalty
@@ -62,17 +65,34 @@ pub record Edition : Type 1 where
   pub rateEntry : Form RateEntry
   pub pathMark : Form Bool
   pub blobRoom : BlobRoom
+  pub portSize : Form ℕ
 
 -- wish 6: "7 also for a mark neither yes nor no"
 abbrev pub today : Edition
-today = record { rateSettings = rateSettingsForm; rateEntry = rateEntryForm; pathMark = mark; blobRoom = as-today }
+today =
+    record {
+      rateSettings = rateSettingsForm;
+      rateEntry = rateEntryForm;
+      pathMark = mark;
+      blobRoom = as-today;
+      portSize = numberIn sizeWidth;
+    }
 
--- ---- a port's settings. No slot: a port that is off keeps its mode
-abbrev pub toPort : Bool × ℕ → Port
-toPort (on, mode) = makePort on mode
+-- ---- a port's settings. No slot: a port that is off keeps its mode and its size, which stands here as itself
+abbrev pub toPort : Bool × (ℕ × ℕ) → Port
+toPort (on, (mode, size)) = makePort on mode size
+
+abbrev pub portFormOf : Form ℕ → Form Port
+portFormOf size =
+    that portOk
+    (asRecord toPort (λ p. (p .on, (p .mode, p .size))) (λ x. refl) (λ y. refl)
+    (field "on" mark & field "mode" byte & field "size" size))
+
+abbrev pub portFormIn : Edition → Form Port
+portFormIn e = portFormOf (e .portSize)
 
 abbrev pub portForm : Form Port
-portForm = that portOk (asRecord toPort (λ p. (p .on, p .mode)) (λ x. refl) (λ y. refl) (field "on" mark & field "mode" byte))
+portForm = portFormIn today
 
 -- ---- a local address
 abbrev pub localForm : Form (List ℕ)
@@ -195,8 +215,8 @@ backForm =
     & field "returns" (ringForm returnCount returnForm)
     & field "hashes" (ringForm hashCount hashForm)
 
-abbrev pub relayFormOf : Form RateSettings → Form Path → Form Relay
-relayFormOf rate path =
+abbrev pub relayFormOf : Form RateSettings → Form Port → Form Path → Form Relay
+relayFormOf rate port path =
     asRecord toRelay
     (λ r. (r .own, (r .clock, (r .rate, (r .ports, (r .locals, (r .paths, (r .links, (r .returns, r .hashes)))))))))
     (λ x. refl)
@@ -204,13 +224,13 @@ relayFormOf rate path =
     (field "own" (octetsIn addressWidth)
     & field "clock" (that timeOk (numberIn timeWidth))
     & field "rate" rate
-    & field "ports" (many portCount noPort portForm)
+    & field "ports" (many portCount noPort port)
     & field "locals" (many localCount empty (slot localForm))
     & field "paths" (many pathCount empty (slot path))
     & backForm)
 
 abbrev pub relayFormIn : Edition → Form Relay
-relayFormIn e = relayFormOf (e .rateSettings) (pathFormIn e)
+relayFormIn e = relayFormOf (e .rateSettings) (portFormIn e) (pathFormIn e)
 
 abbrev pub relayForm : Form Relay
 relayForm = relayFormIn today

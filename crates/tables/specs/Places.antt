@@ -4,7 +4,7 @@ use Prim.Native.Nat.{ℕ, _+_, _*_}
 use Rattle.codes.specs.Form.{slot, code, placeOf}
 use Rattle.numbers.specs.Numbers.{blobLimit, returnCount, hashCount}
 use Rattle.tables.specs.Forms.{portForm, localForm, pathForm, linkForm, returnForm, hashForm, ringForm, backForm, relayForm}
-pub use Rattle.tables.specs.Forms.{addressWidth, digestWidth, timeWidth, blobWidth, ringWidth, settingWidth}
+pub use Rattle.tables.specs.Forms.{addressWidth, digestWidth, timeWidth, blobWidth, ringWidth, settingWidth, sizeWidth}
 
 -- ---- widths, in bytes. A record's first byte is its mark
 abbrev pub portWidth : ℕ
@@ -67,6 +67,6 @@ backWidth = code backForm .width
 abbrev pub tableSize : ℕ
 tableSize = code relayForm .width
 
--- 103,000 bytes with 64 blobs a path: under 104 KiB. Each blob of the limit takes 640
-table-size : tableSize ≡ 62040 + 640 * blobLimit
+-- 103,032 bytes with 64 blobs a path: under 104 KiB. Each blob of the limit takes 640
+table-size : tableSize ≡ 62072 + 640 * blobLimit
 table-size = refl

@@ -14,7 +14,7 @@ use Rattle.tables.specs.Forms.{portForm, localForm, blobsForm, pathForm,
 use Rattle.tables.specs.Fields.{pathBlobsAt}
 unfoldable pub use Rattle.codes.specs.Codes.{exactly, markOf, slotBytes}
 
--- ---- a port's settings: on, mode
+-- ---- a port's settings: on, mode, size
 unfoldable pub portOf : List ℕ → Port
 portOf b = code portForm .read b 0
 

@@ -8,6 +8,8 @@ pub const PORT_ON_AT: usize = 0;
 
 pub const PORT_MODE_AT: usize = PORT_ON_AT + 1;
 
+pub const PORT_SIZE_AT: usize = PORT_MODE_AT + 1;
+
 pub const PATH_DESTINATION_AT: usize = 1;
 
 pub const PATH_PORT_AT: usize = PATH_DESTINATION_AT + ADDRESS_WIDTH;

@@ -2,12 +2,13 @@
 use super::fields::HASH_EXPIRY_AT;
 use super::fields::LINK_EXPIRY_AT;
 use super::fields::PATH_BLOBS_AT;
-use super::fields::PORT_MODE_AT;
+use super::fields::PORT_SIZE_AT;
 use super::fields::RETURN_EXPIRY_AT;
 use numbers::BLOB_LIMIT;
 use numbers::HASH_COUNT;
 use numbers::LINK_COUNT;
 use numbers::LOCAL_COUNT;
+use numbers::LONGEST_PACKET;
 use numbers::PATH_COUNT;
 use numbers::PORT_COUNT;
 use numbers::RETURN_COUNT;
@@ -24,7 +25,17 @@ pub const RING_WIDTH: usize = 2;
 
 pub const SETTING_WIDTH: usize = 4;
 
-pub const PORT_WIDTH: usize = PORT_MODE_AT + 1;
+pub const SIZE_WIDTH: usize = 2;
+
+pub const PORT_WIDTH: usize = PORT_SIZE_AT + SIZE_WIDTH;
+
+// A fresh port's settings: off, boundary, and the longest packet's length for its size.
+pub const FRESH_PORT: [u8; PORT_WIDTH] = [
+    0,
+    0,
+    (LONGEST_PACKET / 256) as u8,
+    (LONGEST_PACKET % 256) as u8,
+];
 
 pub const LOCAL_WIDTH: usize = 1 + ADDRESS_WIDTH;
 

@@ -12,9 +12,11 @@ use super::fields::PATH_LAST_AT;
 use super::fields::PATH_MARK_AT;
 use super::fields::PATH_PORT_AT;
 use super::fields::PORT_MODE_AT;
+use super::fields::PORT_SIZE_AT;
 use super::fields::RETURN_ARRIVAL_AT;
 use super::fields::RETURN_EXPIRY_AT;
 use super::fields::RETURN_LEAVING_AT;
+use super::places::SIZE_WIDTH;
 use numbers::BLOB_LIMIT;
 use numbers::BLOCKED_LIMIT;
 use numbers::CLOCK_LIMIT;
@@ -34,7 +36,10 @@ pub fn port_ok(b: &[u8]) -> bool
     if b[0] >= 2 {
         return false;
     }
-    b[PORT_MODE_AT] < MODE_COUNT
+    if b[PORT_MODE_AT] >= MODE_COUNT {
+        return false;
+    }
+    packet::is_size(octets::number_at(b, PORT_SIZE_AT, SIZE_WIDTH) as usize)
 }
 
 pub fn local_ok(b: &[u8]) -> bool

@@ -84,7 +84,11 @@ fn reads_back(built: &Called) -> bool {
     let packet = &built.buffer[..(built.number >> 16) as usize];
     let parts = packet::read(&AsWritten, packet, packet.len()).unwrap_or(Parts::default());
     let mut read = [0; 35];
-    Core.read(packet, &mut read) == 0 && read == crossing(&parts) && [0x01, 0x21].contains(&read[0]) && read[1] == 0 && read[34] == 0
+    Core.read(packet, packet.len() as u64, &mut read) == 0
+        && read == crossing(&parts)
+        && [0x01, 0x21].contains(&read[0])
+        && read[1] == 0
+        && read[34] == 0
 }
 
 pub fn run(options: &Options, tally: &mut Tally) {

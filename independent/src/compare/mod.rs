@@ -38,7 +38,7 @@ pub struct Options {
 impl Default for Options {
     /// What the gate runs.
     fn default() -> Self {
-        Self { seed: 1, count: 2_000, calls: 150_000, list: None, fault: None, damage: false }
+        Self { seed: 1, count: 2_000, calls: 200_000, list: None, fault: None, damage: false }
     }
 }
 

@@ -5,7 +5,7 @@ use crate::core::LINE;
 use crate::engine::PacketCalls;
 use crate::limits::LONGEST;
 use crate::linked::Core;
-use crate::packet::{self, Header, Parts};
+use crate::packet::{self, Header, Parts, START_1, START_2};
 use crate::random::Random;
 use crate::relay::Relay;
 use crate::rules::{AsWritten, Rules};
@@ -15,6 +15,8 @@ use crate::vectors::{bytes, Worked, WORKED};
 const EDGES: [usize; 18] = [0, 1, 2, 18, 19, 20, 34, 35, 36, 82, 83, 84, 98, 99, 100, 499, 500, 501];
 /// Lengths far past the longest.
 const LONG: [usize; 4] = [502, 1_000, 65_536, 1_000_000];
+/// Sizes that a reading can be given: the range's ends, a byte's, and those that other widths would cut to one within it.
+const SIZES: [u64; 18] = [0, 1, 18, 19, 20, 34, 35, 36, 254, 255, 256, 499, 500, 501, 65_535, 65_536 + 255, (1 << 32) + 500, u64::MAX];
 /// Payload lengths where a writing can change: the longest of both types; and rooms for the output.
 const PAYLOADS: [usize; 7] = [0, 1, 64, 465, 466, 481, 482];
 const ROOMS: [usize; 4] = [0, 499, 500, 501];
@@ -36,7 +38,7 @@ fn answers(program: &dyn PacketCalls, packet: &[u8]) -> Answers {
     let mut text = [BEFORE; LINE];
     let length = program.line(packet, &mut text) as u64;
     vec![
-        call(|parts| program.read(packet, parts)),
+        call(|parts| program.read(packet, LONGEST as u64, parts)),
         Called::new(program.payload_start(packet) as u64, &[]),
         call(|hash| program.packet_hash(packet, hash)),
         call(|id| program.link_id(packet, id)),
@@ -137,6 +139,31 @@ impl<R: Rules> Comparison<'_, R> {
         }
     }
 
+    /// A packet read at a size.
+    fn reading(&mut self, what: &str, packet: &[u8], size: u64) {
+        let (got, own) = (call(|parts| Core.read(packet, size, parts)), call(|parts| self.own.read(packet, size, parts)));
+        self.expect(&format!("{what}: reading {} bytes, header {:02x?}, at size {size}", packet.len(), packet.first()), got, own);
+    }
+
+    /// Packets about each size, of both types and with the access code bit; and what is written is read back at every size no smaller.
+    fn sizes(&mut self) {
+        for size in SIZES {
+            let about = [size.saturating_sub(1), size, size.saturating_add(1)].map(|length| (length as usize).min(LONGEST + 2));
+            for length in EDGES.into_iter().chain(about) {
+                for header in [0x00, 0x40, 0x80, 0xc0] {
+                    let packet = self.random_packet(length, header);
+                    self.reading("sizes", &packet, size);
+                }
+            }
+        }
+        for length in (START_2..=LONGEST).step_by(5).chain([START_1, 254, 255, 256, 499]) {
+            let packet = self.random_packet(length, if length < START_2 { 0x00 } else { 0x51 });
+            for size in length - 1..=LONGEST + 1 {
+                self.reading("reading back", &packet, size as u64);
+            }
+        }
+    }
+
     fn random(&mut self) {
         for _ in 0..self.options.count {
             let (length, header) = (self.random.below(LONGEST + 20), self.random.word() as u8);
@@ -205,6 +232,7 @@ pub fn compare_with<R: Rules>(rules: R, options: &Options, tally: &mut Tally) {
     c.worked();
     c.headers();
     c.lengths();
+    c.sizes();
     c.random();
     c.announces();
 }

@@ -19,7 +19,7 @@ pub fn run(options: &Options, tally: &mut Tally) {
     let coverage = compare_with("core", || Core, options, tally);
     let asked = [coverage.reached_replies(), coverage.reached_matters()].concat();
     let rates = [coverage.reached_rates(), coverage.reached_settings(), coverage.reached_reasons()].concat();
-    let marks = [coverage.reached_marks(), coverage.reached_mark_calls(), coverage.reached_blobs()].concat();
+    let marks = [coverage.reached_marks(), coverage.reached_mark_calls(), coverage.reached_blobs(), coverage.reached_sizes()].concat();
     for (what, times) in [coverage.reached(), rates, marks, asked, coverage.files.reached()].concat() {
         println!("{what}: {times}");
         if options.is_long() {

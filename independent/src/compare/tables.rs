@@ -67,9 +67,9 @@ fn set_any(random: &mut Random, tables: &mut [u8]) {
 fn core_call(random: &mut Random, tables: &mut [u8], call: &Call) -> Option<u8> {
     Some(match call {
         Call::Fresh(own) => core::fresh(tables, own),
-        Call::SetPort { port, on, mode } => {
+        Call::SetPort { port, on, mode, size } => {
             let on = if *on { 1 } else { random.pick(&[0, 2, 128, 255]) };
-            core::set_port(tables, *port, on, *mode)
+            core::set_port(tables, *port, on, *mode, *size)
         }
         Call::SetAnnounceRate(rate) => core::set_announce_rate(tables, rate),
         Call::Mark { destination, clock } => core::mark_path_unresponsive(tables, destination, *clock),
@@ -159,7 +159,8 @@ fn a_call(random: &mut Random, tables: &[u8]) -> Call {
         0 => Call::Fresh(random.array()),
         1 | 2 => {
             let port = random.pick(&[0, 1, 7, 14, 15, 16, 17, 256, u64::MAX]);
-            Call::SetPort { port, on: random.one_in(2), mode: random.pick(&[0, 1, 2, 2, 3, 256, u64::MAX]) }
+            let size = random.pick(&[0, 18, 19, 255, 256, 499, 500, 500, 500, 501, 1 << 16, (1 << 16) + 500, u64::MAX]);
+            Call::SetPort { port, on: random.one_in(2), mode: random.pick(&[0, 1, 2, 2, 3, 256, u64::MAX]), size }
         }
         3 | 4 => Call::AddLocal(an_address(random, tables)),
         5 | 6 => Call::RemoveLocal(an_address(random, tables)),
@@ -315,7 +316,7 @@ pub fn compare_with<R: Rules + Clone>(rules: R, options: &Options, tally: &mut T
         traffic: Run::new(Relay::new(rules.clone())),
         changed: Run::new(Relay::new(rules)),
         core: Run::new(Core),
-        allowed: vec![0; SIZE],
+        allowed: samples::filled(&mut Random::new(options.seed), Fill::Empty),
         packet: None,
         calls: Coverage::default(),
     };

@@ -28,6 +28,7 @@ pub enum Call {
         port: u64,
         on: bool,
         mode: u64,
+        size: u64,
     },
     SetAnnounceRate(AnnounceRate),
     /// Marks a destination's live path unresponsive.
@@ -139,7 +140,7 @@ impl fmt::Display for Call {
             Call::Packet(PacketCall { packet, port, clock, signature, output, fill }) => {
                 write!(f, "packet port {port} clock {clock} signature {signature} output {output} of {fill:02x} {}", Digits(packet))
             }
-            Call::SetPort { port, on, mode } => write!(f, "set port {port} on {on} mode {mode}"),
+            Call::SetPort { port, on, mode, size } => write!(f, "set port {port} on {on} mode {mode} size {size}"),
             Call::SetAnnounceRate(AnnounceRate { target, grace, penalty }) => {
                 write!(f, "set announce rate target {target} grace {grace} penalty {penalty}")
             }
@@ -189,8 +190,8 @@ fn call_of(words: &[&str]) -> Option<Call> {
                 fill: u8::from_be_bytes(array_of(fill)?),
             })
         }
-        ["set", "port", port, "on", on, "mode", mode] => {
-            Call::SetPort { port: port.parse().ok()?, on: on.parse().ok()?, mode: mode.parse().ok()? }
+        ["set", "port", port, "on", on, "mode", mode, "size", size] => {
+            Call::SetPort { port: port.parse().ok()?, on: on.parse().ok()?, mode: mode.parse().ok()?, size: size.parse().ok()? }
         }
         ["set", "announce", "rate", "target", target, "grace", grace, "penalty", penalty] => {
             Call::SetAnnounceRate(AnnounceRate { target: target.parse().ok()?, grace: grace.parse().ok()?, penalty: penalty.parse().ok()? })
@@ -280,9 +281,17 @@ mod tests {
     fn other_lines_are_no_calls() {
         let address = "00112233445566778899aabbccddeeff";
         assert!(format!(" add  local {address} ").parse() == Ok(Call::AddLocal(array_of(address).expect("sixteen bytes"))));
-        for line in
-            ["", "put aside me", "add local 00", "set port 1 on 1 mode 0", "write at 3 0", "write at 3 0g", "resize to -1", "tally 1 2 3"]
-        {
+        for line in [
+            "",
+            "put aside me",
+            "add local 00",
+            "set port 1 on 1 mode 0 size 500",
+            "set port 1 on true mode 0",
+            "write at 3 0",
+            "write at 3 0g",
+            "resize to -1",
+            "tally 1 2 3",
+        ] {
             assert!(line.parse::<Call>().is_err(), "{line}");
         }
         for line in [format!("fresh {address}0"), format!("fresh {address}00"), format!("renumber +1{}", &address[2..])] {

@@ -59,7 +59,7 @@ pub trait Engine: SavedCalls + AnswerCalls {
     /// A fresh relay and its tally of zeros.
     fn fresh(&mut self, tables: &mut [u8], tally: &mut Tally, own: &Address) -> Outcome;
     fn packet(&mut self, tables: &mut [u8], tally: &mut Tally, output: &mut [u8], arrival: &Arrival) -> Outcome;
-    fn set_port(&mut self, tables: &mut [u8], port: u64, on: bool, mode: u64) -> Outcome;
+    fn set_port(&mut self, tables: &mut [u8], port: u64, on: bool, mode: u64, size: u64) -> Outcome;
     fn set_announce_rate(&mut self, tables: &mut [u8], rate: &AnnounceRate) -> Outcome;
     fn mark_unresponsive(&mut self, tables: &mut [u8], destination: &Address, clock: u64) -> Outcome;
     fn add_local(&mut self, tables: &mut [u8], address: &Address) -> Outcome;
@@ -86,8 +86,8 @@ impl<R: Rules> Engine for Relay<R> {
         Relay::packet(self, tables, tally, output, arrival).into()
     }
 
-    fn set_port(&mut self, tables: &mut [u8], port: u64, on: bool, mode: u64) -> Outcome {
-        self.rules.set_port(tables, port, on, mode).into()
+    fn set_port(&mut self, tables: &mut [u8], port: u64, on: bool, mode: u64, size: u64) -> Outcome {
+        self.rules.set_port(tables, port, on, mode, size).into()
     }
 
     fn set_announce_rate(&mut self, tables: &mut [u8], rate: &AnnounceRate) -> Outcome {
@@ -157,7 +157,7 @@ impl<E: Engine> Run<E> {
                 let arrival = Arrival { packet: &call.packet, port: call.port, clock: call.clock, signature: call.signature };
                 self.engine.packet(tables, &mut self.tally, &mut self.output, &arrival)
             }
-            Call::SetPort { port, on, mode } => self.engine.set_port(tables, *port, *on, *mode),
+            Call::SetPort { port, on, mode, size } => self.engine.set_port(tables, *port, *on, *mode, *size),
             Call::SetAnnounceRate(rate) => self.engine.set_announce_rate(tables, rate),
             Call::Mark { destination, clock } => self.engine.mark_unresponsive(tables, destination, *clock),
             Call::AddLocal(address) => self.engine.add_local(tables, address),

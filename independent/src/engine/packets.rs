@@ -10,7 +10,7 @@ use crate::relay::Relay;
 use crate::rules::Rules;
 
 pub trait PacketCalls {
-    fn read(&self, packet: &[u8], parts: &mut PartsBytes) -> u8;
+    fn read(&self, packet: &[u8], size: u64, parts: &mut PartsBytes) -> u8;
     /// At most the packet's length.
     fn payload_start(&self, packet: &[u8]) -> usize;
     /// The refusal's number, or the length above 16 bits of zeros.
@@ -37,8 +37,8 @@ fn give<T>(result: Result<T, Refusal>, buffer: &mut T) -> u8 {
 }
 
 impl<R: Rules> PacketCalls for Relay<R> {
-    fn read(&self, packet: &[u8], parts: &mut PartsBytes) -> u8 {
-        give(packet::read(&self.rules, packet, LONGEST).map(|parts| crossing(&parts)), parts)
+    fn read(&self, packet: &[u8], size: u64, parts: &mut PartsBytes) -> u8 {
+        give(self.rules.read_at(packet, size).map(|parts| crossing(&parts)), parts)
     }
 
     fn payload_start(&self, packet: &[u8]) -> usize {

@@ -21,6 +21,7 @@ mod renumbering;
 mod returns;
 mod saved;
 mod settings;
+mod sizes;
 mod with;
 
 pub use accepting::*;
@@ -43,6 +44,7 @@ pub use renumbering::*;
 pub use returns::*;
 pub use saved::*;
 pub use settings::*;
+pub use sizes::*;
 pub use with::{Changes, With};
 
 use crate::relay::Relay;
@@ -86,6 +88,7 @@ const OF_JUDGING: &[&[Fault]] = &[
     links::FAULTS,
     returns::FAULTS,
     outgoing::FAULTS,
+    sizes::FAULTS,
     reasons::FAULTS,
     asking::FAULTS,
 ];

@@ -8,15 +8,22 @@ use crate::tables::port_on;
 faults! {
     SpreadToArrival: "an announce is spread to its arrival port too"
     breaks "to all ports on but the arrival port." {
-        spread_ports = |_, _, tables| outgoing::port_set(|port| port_on(tables, port)),
+        spread_ports = |rules, packet, tables| outgoing::port_set(|port| {
+            port_on(tables, port) && rules.fits(packet, port, outgoing::spread_length(packet), tables)
+        }),
     }
     SpreadToOffPorts: "an announce is spread to ports that are off"
     breaks "to all ports on but the arrival port." {
-        spread_ports = |_, packet, _| outgoing::port_set(|port| port != packet.port),
+        spread_ports = |rules, packet, tables| outgoing::port_set(|port| {
+            port != packet.port && rules.fits(packet, port, outgoing::spread_length(packet), tables)
+        }),
     }
     SpreadLimitLower: "an announce of 500 bytes is kept"
     breaks "If that set is empty or the result exceeds 500, the answer is Kept" {
-        spread_fits = |_, packet| outgoing::spread_length(packet) < LONGEST,
+        spread_ports = |rules, packet, tables| match outgoing::spread_length(packet) {
+            LONGEST => 0,
+            _ => outgoing::spread_ports(rules, packet, tables),
+        },
     }
     SpreadWithoutTransport: "a spread announce's transport bit stays as it was"
     breaks "bits 6 and 4 set" {
@@ -29,7 +36,7 @@ faults! {
     KeptWritten: "a kept announce that would fit is written to the output"
     breaks "the answer is Kept and the output stays." {
         spread = |rules, packet, tables, output| {
-            if rules.spread_fits(packet) {
+            if outgoing::spread_length(packet) <= LONGEST {
                 outgoing::put_spread(rules, packet, tables, output);
             }
             outgoing::spread(rules, packet, tables, output)

@@ -15,6 +15,28 @@ faults! {
     breaks "length over 500" {
         read_refusal = |_, packet, longest| packet::read_refusal(packet, longest - 1),
     }
+    ReaderSizeLast: "the reader tests 9 after 1 and 2"
+    breaks "9 also for a size outside the range, first in the reader" {
+        read_at = |rules, packet, size| match packet::read_at(rules, packet, size) {
+            Err(Refusal::Setting) => {
+                rules.read_refusal(packet, size as usize)?;
+                Err(Refusal::Setting)
+            }
+            parts => parts,
+        },
+    }
+    ReaderSizeOver500: "the reader takes a size over 500 for 500"
+    breaks "9 also for a size outside the range, first in the reader" {
+        read_at = |rules, packet, size| packet::read_at(rules, packet, size.min(500)),
+    }
+    ReaderSizeUnread: "the reader reads at 500 whatever size it is given"
+    breaks "Callers of the packet reader say which size they mean" {
+        read_at = |rules, packet, size| packet::read_at(rules, packet, if rules.size_refused(size) { size } else { 500 }),
+    }
+    ReaderSizeUnder35: "the reader refuses sizes under 35 by 9"
+    breaks "9 also for a size outside the range, first in the reader" {
+        read_at = |rules, packet, size| packet::read_at(rules, packet, if size < 35 { 0 } else { size }),
+    }
     TypeTwoLengthBeforeAccessCode: "type 2 under 35 is tested before refusal 3"
     breaks "Tests run in this row order" {
         read_refusal = |_, packet, longest| match packet::read_refusal(packet, longest) {

@@ -8,7 +8,7 @@ use crate::rules::*;
 use crate::saved::editions::CURRENT;
 use crate::saved::{contents, BODIES, CONTENTS, LENGTH, TALLY};
 use crate::tables::{blobs, is_used, last_clock, path, set_last_clock, set_ring_place, BLOB, OWN, SIZE};
-use crate::tables::{HASHES, HASH_PLACE, LINKS, PATHS, RATE, RETURNS, RETURN_PLACE};
+use crate::tables::{port, HASHES, HASH_PLACE, LINKS, PATHS, PORTS, RATE, RETURNS, RETURN_PLACE};
 
 /// Saves other tables than those that are given.
 fn put_others(tables: &[u8], tally: &Tally, room: &mut [u8], other: impl Fn(&mut [u8])) {
@@ -180,13 +180,6 @@ faults! {
             path[behind..].copy_from_slice(&before[behind..]);
         }),
     }
-    SavedAsThird: "a save is still of edition 3"
-    breaks "a new save is edition 4" {
-        put_saved = |_, tables, tally, room| {
-            saving::put_saved(tables, tally, room);
-            room[1] = 3;
-        },
-    }
     BehindSixteenNotSaved: "spare blob places behind the sixteenth are saved as zeros"
     breaks "Saving and loading give equal tables byte for byte" {
         put_saved = |_, tables, tally, room| put_others(tables, tally, room, |tables| {
@@ -195,6 +188,37 @@ faults! {
                 record[path::BLOBS + held * BLOB..].fill(0);
             }
         }),
+    }
+    OlderSizesShortest: "the ports of an older file load with size 19"
+    breaks "older ones load with 500" {
+        put_loaded = |_, file, tables, tally| put_but(file, tables, tally, |_, tables| {
+            if file[1] < 5 {
+                PORTS.iter_mut(tables).for_each(|settings| Port { size: 19, ..Port::read(settings) }.write(settings));
+            }
+        }),
+    }
+    OlderSizesStay: "an older file leaves the ports' sizes as they were"
+    breaks "older ones load with 500" {
+        put_loaded = |_, file, tables, tally| put_but(file, tables, tally, |before, tables| {
+            for (settings, was) in PORTS.iter_mut(tables).zip(PORTS.iter(before)).filter(|_| file[1] < 5) {
+                settings[port::SIZE..].copy_from_slice(&was[port::SIZE..]);
+            }
+        }),
+    }
+    OlderOffPortsZero: "the ports of an older file that are off load with size 0"
+    breaks "older ones load with 500" {
+        put_loaded = |_, file, tables, tally| put_but(file, tables, tally, |_, tables| {
+            for settings in PORTS.iter_mut(tables).filter(|settings| file[1] < 5 && settings[port::ON] == 0) {
+                settings[port::SIZE..].fill(0);
+            }
+        }),
+    }
+    SavedAsFourth: "a save is still of edition 4"
+    breaks "Saved tables take edition 5" {
+        put_saved = |_, tables, tally, room| {
+            saving::put_saved(tables, tally, room);
+            room[1] = 4;
+        },
     }
     RecordingLoaded: "a file of kind 1 is loaded"
     breaks "Save and load in the recordings' shape with kind byte 2" {

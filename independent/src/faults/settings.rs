@@ -18,19 +18,21 @@ faults! {
     }
     OffPortBoundary: "a port that is set off becomes boundary"
     breaks "16 ports, 0 to 15, each on or off and boundary, access point or roaming." {
-        set_port = |rules, tables, port, on, mode| {
-            settings::set_port(rules, tables, port, on, if on || mode > 2 { mode } else { 0 })
+        set_port = |rules, tables, port, on, mode, size| {
+            settings::set_port(rules, tables, port, on, if on || mode > 2 { mode } else { 0 }, size)
         },
     }
     ModeThreeAllowed: "mode 3 may be set, as roaming"
     breaks "setting a port over 15 or an unknown mode" {
-        set_port = |rules, tables, port, on, mode| settings::set_port(rules, tables, port, on, if mode == 3 { 2 } else { mode }),
+        set_port = |rules, tables, port, on, mode, size| {
+            settings::set_port(rules, tables, port, on, if mode == 3 { 2 } else { mode }, size)
+        },
     }
     OffModeUnread: "an unknown mode may be given with a port set off, and the mode stays"
     breaks "setting a port over 15 or an unknown mode" {
-        set_port = |rules, tables, port, on, mode| {
+        set_port = |rules, tables, port, on, mode, size| {
             let present = present_mode(tables, port).filter(|_| !on && mode > 2);
-            settings::set_port(rules, tables, port, on, present.unwrap_or(mode))
+            settings::set_port(rules, tables, port, on, present.unwrap_or(mode), size)
         },
     }
     LocalsAtTheEnd: "a new local address goes behind the last one while there is room"

@@ -4,7 +4,7 @@ pub mod announced;
 pub mod hash;
 
 use crate::answer::{Refusal, When};
-use crate::limits::{LINK_PROOF, LONGEST};
+use crate::limits::{GREATEST_SIZE, LEAST_SIZE, LINK_PROOF, LONGEST};
 use crate::rules::Rules;
 
 pub type Address = [u8; 16];
@@ -120,13 +120,24 @@ pub(crate) fn address(bytes: &[u8]) -> Address {
     bytes.try_into().expect("sixteen bytes")
 }
 
+/// "Callers of the packet reader say which size they mean": "9 also for a size outside the range, first in the reader".
+pub fn read_at<R: Rules>(rules: &R, packet: &[u8], size: u64) -> Result<Parts, Refusal> {
+    Refusal::Setting.when(rules.size_refused(size))?;
+    read(rules, packet, size as usize)
+}
+
+/// "a size from 19 to 500"
+pub fn size_refused(size: u64) -> bool {
+    !(LEAST_SIZE as u64..=GREATEST_SIZE as u64).contains(&size)
+}
+
 /// Reads a packet no longer than `longest`.
 pub fn read<R: Rules>(rules: &R, packet: &[u8], longest: usize) -> Result<Parts, Refusal> {
     rules.read_refusal(packet, longest)?;
     Ok(rules.parts(packet))
 }
 
-/// Rows "length under 19", "length over 500", "access code bit set" and "type 2 under 35".
+/// Rows "length under 19", "length over 500", "access code bit set" and "type 2 under 35": "refusal 2 means longer than that", which is the size.
 pub fn read_refusal(packet: &[u8], longest: usize) -> Result<(), Refusal> {
     Refusal::TooShort.when(packet.len() < START_1)?;
     Refusal::TooLong.when(packet.len() > longest)?;

@@ -8,7 +8,7 @@ use crate::packet;
 use crate::rules::Rules;
 use crate::sha256::Sha256;
 use crate::tables::check::checked;
-use crate::tables::{last_clock, port_on, set_last_clock};
+use crate::tables::{last_clock, port_on, port_size, set_last_clock};
 
 /// "Each returns its number alone and changes nothing."
 pub fn packet_call<R: Rules>(
@@ -30,7 +30,7 @@ fn accept<'a, R: Rules>(rules: &R, sha: &'a Sha256, tables: &[u8], output: &[u8]
     checked(rules, tables)?;
     rules.arrival_refusal(tables, output.len(), arrival)?;
     let bytes = arrival.packet;
-    let parts = packet::read(rules, bytes, LONGEST)?;
+    let parts = packet::read(rules, bytes, rules.arrival_size(arrival.port as u8, tables))?;
     let payload = &bytes[rules.payload_place(bytes)..];
     let Arrival { port, clock, signature, .. } = *arrival;
     Ok(Packet { bytes, parts, payload, port: port as u8, clock, signature, hash: [0; 32], sha })
@@ -41,6 +41,11 @@ pub fn arrival_refusal<R: Rules>(rules: &R, tables: &[u8], room: usize, arrival:
     Refusal::SmallOutput.when(rules.output_too_small(room))?;
     Refusal::ArrivalPort.when(rules.port_refused(arrival.port, tables))?;
     Refusal::Clock.when(rules.clock_refused(arrival.clock, last_clock(tables)))
+}
+
+/// Wish 11: "Reading a packet is now against the arrival port's size".
+pub fn arrival_size(port: u8, tables: &[u8]) -> usize {
+    port_size(tables, port)
 }
 
 /// "output buffer under 500 bytes"

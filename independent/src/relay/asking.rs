@@ -59,7 +59,7 @@ impl Question {
     /// The bytes of a reply. Numbers are big-endian.
     pub fn width(&self) -> usize {
         match self {
-            Question::Port(_) => 2,
+            Question::Port(_) => 4,
             Question::Local(_) => 16,
             Question::Path(_) | Question::LivePath { .. } => 61,
             Question::Link(_) => 29,
@@ -104,7 +104,7 @@ pub fn question_refusal<R: Rules>(rules: &R, tables: &[u8], _: &Question) -> Res
 /// Nothing changes.
 pub fn leave_asked(_: &Question, _: &mut [u8]) {}
 
-/// On and mode, which every port has.
+/// On, mode and size, which every port has.
 pub fn settings_of(port: u64, tables: &[u8]) -> Option<Vec<u8>> {
     (port < PORT_COUNT as u64).then(|| PORTS.get(tables, port as usize).to_vec())
 }

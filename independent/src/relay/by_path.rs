@@ -1,4 +1,4 @@
-//! Data and link requests not of kind link, which go by a path: tests 6, 7, 12 and 13.
+//! Data and link requests not of kind link, which go by a path: tests 6, 7, 12, 16 and 13.
 
 use super::{outgoing, Packet};
 use crate::answer::{no_way_on, Answer, NoWay, Reason, When};
@@ -9,7 +9,7 @@ use crate::tables::{has_key, path, time, Path, PATHS};
 /// "Data forwarded so makes a return record".
 pub fn data<R: Rules>(rules: &R, packet: &Packet, tables: &mut [u8], output: &mut [u8]) -> Result<Answer, Reason> {
     let path = rules.path_to(packet, tables)?;
-    outgoing::test_12(path.port, tables)?;
+    rules.leaving_tests(packet, path.port, rules.length_by_path(packet, &path), tables)?;
     rules.make_return(packet, &path, tables);
     Ok(outgoing::forward_by_path(rules, packet, &path, output))
 }
@@ -55,9 +55,9 @@ pub fn live_path<R: Rules>(rules: &R, packet: &Packet, tables: &[u8]) -> Option<
     rules.find(&PATHS, tables, &packet.parts.destination, packet.clock)
 }
 
-/// Tests 7, 12 and 13 of a link request: the slot that its link takes.
+/// Tests 7, 12, 16 and 13 of a link request: the slot that its link takes.
 pub fn request_tests<R: Rules>(rules: &R, packet: &Packet, id: &Address, path: &Path, tables: &[u8]) -> Result<usize, Reason> {
     Reason::AlreadyKnown.when(rules.is_known_link(id, packet.clock, tables))?;
-    outgoing::test_12(path.port, tables)?;
+    rules.leaving_tests(packet, path.port, rules.length_by_path(packet, path), tables)?;
     rules.link_slot(packet.clock, tables).ok_or(Reason::NoRoom)
 }

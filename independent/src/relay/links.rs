@@ -1,4 +1,4 @@
-//! Links: what a request leaves, and tests 6 to 9 and 12 of data and proofs of kind link.
+//! Links: what a request leaves, and tests 6 to 9, 12 and 16 of data and proofs of kind link.
 
 use super::{outgoing, Packet};
 use crate::answer::{no_way_on, Answer, NoWay, Reason, When};
@@ -40,7 +40,7 @@ pub fn link_packet<R: Rules>(rules: &R, packet: &Packet, tables: &mut [u8], outp
     let mut link = Link::read(LINKS.records.get(tables, place));
     let side = rules.link_tests(packet, &link)?;
     let leaving = opposite(side, &link);
-    outgoing::test_12(leaving, tables)?;
+    rules.leaving_tests(packet, leaving, packet.bytes.len(), tables)?;
     rules.carry(packet, &mut link);
     link.write(LINKS.records.get_mut(tables, place));
     Ok(outgoing::forward_unchanged(rules, packet, leaving, output))
@@ -97,7 +97,7 @@ pub fn link_proof_unsigned(packet: &Packet) -> bool {
     packet.parts.is_link_proof() && !packet.signature
 }
 
-fn opposite(side: Side, link: &Link) -> u8 {
+pub fn opposite(side: Side, link: &Link) -> u8 {
     match side {
         Side::Answering => link.asking,
         Side::Asking => link.answering,

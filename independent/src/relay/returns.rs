@@ -1,4 +1,4 @@
-//! Return records: what forwarded data leaves, and tests 6, 8 and 12 of the ordinary proofs that go back by them.
+//! Return records: what forwarded data leaves, and tests 6, 8, 12 and 16 of the ordinary proofs that go back by them.
 
 use super::{outgoing, Packet};
 use crate::answer::{no_way_on, Answer, NoWay, Reason, When};
@@ -39,7 +39,7 @@ pub fn ordinary_proof<R: Rules>(rules: &R, packet: &Packet, tables: &mut [u8], o
     let record = Return::read(RETURNS.records.get(tables, place));
     rules.proof_tests(packet, &record)?;
     let leaving = rules.way_back(&record);
-    outgoing::test_12(leaving, tables)?;
+    rules.leaving_tests(packet, leaving, packet.bytes.len(), tables)?;
     rules.end_return(RETURNS.records.get_mut(tables, place));
     Ok(outgoing::forward_unchanged(rules, packet, leaving, output))
 }

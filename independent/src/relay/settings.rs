@@ -1,7 +1,7 @@
 //! Fresh relays, port settings and local addresses.
 
 use crate::answer::{Refusal, When};
-use crate::limits::PORT_COUNT;
+use crate::limits::{GREATEST_SIZE, PORT_COUNT};
 use crate::packet::Address;
 use crate::rules::Rules;
 use crate::tables::check::checked;
@@ -16,17 +16,18 @@ pub fn fresh<R: Rules>(rules: &R, tables: &mut [u8], own: &Address) -> Result<()
     Ok(())
 }
 
-/// "A fresh relay has its own address, all ports off and boundary, clock 0, tables empty."
+/// "A fresh relay has its own address, all ports off and boundary, clock 0, tables empty." Wish 11: "older ones load with 500, as fresh relays have."
 pub fn fresh_port() -> Port {
-    Port { on: false, mode: Mode::Boundary }
+    Port { on: false, mode: Mode::Boundary, size: GREATEST_SIZE }
 }
 
-/// Refusals 7, 9: "setting a port over 15 or an unknown mode".
-pub fn set_port<R: Rules>(rules: &R, tables: &mut [u8], port: u64, on: bool, mode: u64) -> Result<(), Refusal> {
+/// Refusals 7, 9: "setting a port over 15 or an unknown mode", and "9 also for a size outside the range".
+pub fn set_port<R: Rules>(rules: &R, tables: &mut [u8], port: u64, on: bool, mode: u64, size: u64) -> Result<(), Refusal> {
     checked(rules, tables)?;
     Refusal::Setting.when(port >= PORT_COUNT as u64)?;
     let mode = Mode::from_number(mode).ok_or(Refusal::Setting)?;
-    Port { on, mode }.write(PORTS.get_mut(tables, port as usize));
+    Refusal::Setting.when(rules.size_refused(size))?;
+    Port { on, mode, size: size as usize }.write(PORTS.get_mut(tables, port as usize));
     Ok(())
 }
 

@@ -2,7 +2,7 @@
 //! fix, later fields too; write it down."
 
 use super::{BODIES, CONTENTS, TALLY};
-use crate::limits::{BLOB_LIMIT, OLDER_BLOB_LIMIT};
+use crate::limits::{BLOB_LIMIT, GREATEST_SIZE, OLDER_BLOB_LIMIT};
 use crate::tables::{Section, BLOB, HASHES, HASH_PLACE, LINKS, LOCALS, PATHS, PORTS, RETURNS, RETURN_PLACE, SIZE};
 use std::borrow::Cow;
 
@@ -23,11 +23,14 @@ pub const EDITIONS: &[&[Added]] = &[
     &[Added { body: PATH, at: 60, unsaved: &[0] }],
     // 4: "Editions 1 to 3 of saved tables load with what they hold": sixteen blob places, the first of 64.
     &[Added { body: PATH, at: 222, unsaved: &[0; (BLOB_LIMIT - OLDER_BLOB_LIMIT) * BLOB] }],
+    // 5: "older ones load with 500".
+    &[Added { body: PORT, at: 2, unsaved: &(GREATEST_SIZE as u16).to_be_bytes() }],
 ];
 /// The first edition with 64 blobs.
 const MORE_BLOBS: u8 = 4;
 /// The places of the bodies whose records grow.
 const OWN: usize = 0;
+const PORT: usize = 1;
 pub const PATH: usize = 3;
 /// The edition that is saved.
 pub const CURRENT: u8 = EDITIONS.len() as u8;
@@ -128,18 +131,19 @@ mod tests {
     /// What docs/LAYOUT.md says of each edition.
     #[test]
     fn the_bodies_are_the_drawn_ones() {
-        assert_eq!(CURRENT, 4);
+        assert_eq!(CURRENT, 5);
         assert_eq!(lengths(1), [24, 32, 272, 13_056, 1_920, 13_826, 41_986, 24]);
         assert_eq!(lengths(2), [36, 32, 272, 14_144, 1_920, 13_826, 41_986, 24]);
         assert_eq!(lengths(3), [36, 32, 272, 14_208, 1_920, 13_826, 41_986, 24]);
         assert_eq!(lengths(4), [36, 32, 272, 44_928, 1_920, 13_826, 41_986, 24]);
-        assert_eq!(super::super::LENGTH, 103_076);
+        assert_eq!(lengths(5), [36, 64, 272, 44_928, 1_920, 13_826, 41_986, 24]);
+        assert_eq!(super::super::LENGTH, 103_108);
     }
 
     /// The blob count of the second path, and the last hash's last byte.
     #[test]
     fn fields_stand_where_they_were() {
-        assert_eq!([1, 2, 3, 4].map(|edition| place(edition, PATH, 1, path::BLOB_COUNT)), [627, 673, 675, 1_155]);
-        assert_eq!([1, 2, 3, 4].map(|edition| place(edition, 6, 1_023, 40)), [71_167, 72_267, 72_331, 103_051]);
+        assert_eq!([1, 2, 3, 4, 5].map(|edition| place(edition, PATH, 1, path::BLOB_COUNT)), [627, 673, 675, 1_155, 1_187]);
+        assert_eq!([1, 2, 3, 4, 5].map(|edition| place(edition, 6, 1_023, 40)), [71_167, 72_267, 72_331, 103_051, 103_083]);
     }
 }

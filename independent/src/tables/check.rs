@@ -2,10 +2,11 @@
 //! outside 1..16 in a used record, another count over its table, a used, proved or port-on mark neither yes nor no, an unused record not
 //! all zeros, or time over 2^40 + 604,799". No other count is stored than blob counts, which Wish 8 lets be 64.
 
-use super::{last_clock, link, path, port, ring_place, time, AnnounceRate, Mode, RateEntry, Section, Table};
+use super::{last_clock, link, path, port, ring_place, size, time, AnnounceRate, Mode, RateEntry, Section, Table};
 use super::{HASHES, HASH_PLACE, LINKS, LOCALS, PATHS, PORTS, RETURNS, RETURN_PLACE, SIZE};
 use crate::answer::{Refusal, When};
-use crate::limits::{BLOB_LIMIT, GRACE_LIMIT, LATEST, LATEST_ANNOUNCE, LATEST_BLOCK, PENALTY_LIMIT, PORT_COUNT, TARGET_LIMIT};
+use crate::limits::{BLOB_LIMIT, GRACE_LIMIT, GREATEST_SIZE, LATEST, LATEST_ANNOUNCE, LATEST_BLOCK, LEAST_SIZE, PENALTY_LIMIT};
+use crate::limits::{PORT_COUNT, TARGET_LIMIT};
 use crate::rules::Rules;
 
 /// Refusal 7 where tables are not allowed.
@@ -19,7 +20,7 @@ pub fn tables_allowed<R: Rules>(rules: &R, tables: &[u8]) -> bool {
     rules.size_allowed(tables.len())
         && rules.last_clock_allowed(last_clock(tables))
         && rules.rate_allowed(&AnnounceRate::read(tables))
-        && PORTS.iter(tables).all(|settings| rules.on_mark(settings[port::ON]).is_some() && mode_known(settings[port::MODE]))
+        && PORTS.iter(tables).all(|settings| rules.port_allowed(settings))
         && records_allowed(rules, tables, &LOCALS, any)
         && table_allowed(rules, tables, &PATHS, |path| rules.path_allowed(path))
         && table_allowed(rules, tables, &LINKS, |link| rules.proved_mark(link[link::PROVED]).is_some())
@@ -59,6 +60,16 @@ pub fn is_port(byte: u8) -> bool {
 /// "ring place outside its ring"
 pub fn ring_place_allowed(place: usize, count: usize) -> bool {
     place < count
+}
+
+/// A port's settings, whether it is on or off.
+pub fn port_allowed<R: Rules>(rules: &R, settings: &[u8]) -> bool {
+    rules.on_mark(settings[port::ON]).is_some() && mode_known(settings[port::MODE]) && rules.stored_size_allowed(size(settings))
+}
+
+/// Wish 11: "7 for a stored one", a size outside 19 to 500.
+pub fn stored_size_allowed(size: usize) -> bool {
+    (LEAST_SIZE..=GREATEST_SIZE).contains(&size)
 }
 
 /// "mode unknown"

@@ -28,11 +28,12 @@ pub mod rate {
     pub const WIDTH: usize = PENALTY + SETTING;
 }
 
-/// The settings of a port, which are no record.
+/// The settings of a port, which are no record. A size has two bytes.
 pub mod port {
     pub const ON: usize = 0;
     pub const MODE: usize = ON + 1;
-    pub const WIDTH: usize = MODE + 1;
+    pub const SIZE: usize = MODE + 1;
+    pub const WIDTH: usize = SIZE + 2;
 }
 
 /// The fields of a path record.
@@ -255,6 +256,18 @@ pub fn port_on(tables: &[u8], port: u8) -> bool {
     PORTS.get(tables, usize::from(port))[port::ON] == 1
 }
 
+/// How long a packet a port carries.
+#[inline]
+pub fn port_size(tables: &[u8], port: u8) -> usize {
+    size(PORTS.get(tables, usize::from(port)))
+}
+
+/// The size among a port's settings.
+#[inline]
+pub fn size(settings: &[u8]) -> usize {
+    usize::from(u16::from_be_bytes([settings[port::SIZE], settings[port::SIZE + 1]]))
+}
+
 /// The place of a local address, of two equal ones the lower.
 pub fn find_local(tables: &[u8], address: &Address) -> Option<usize> {
     LOCALS.iter(tables).position(|record| has_key(record, address))
@@ -267,14 +280,15 @@ mod tests {
     /// Where docs/LAYOUT.md says that each section begins.
     #[test]
     fn the_layout_is_the_drawn_one() {
-        assert_eq!([RATE.start, PORTS.start, LOCALS.start, PATHS.records.start, LINKS.records.start], [24, 36, 68, 340, 45_268]);
-        assert_eq!([RETURN_PLACE, RETURNS.records.start, HASH_PLACE, HASHES.records.start], [47_188, 47_190, 61_014, 61_016]);
+        assert_eq!([RATE.start, PORTS.start, LOCALS.start, PATHS.records.start, LINKS.records.start], [24, 36, 100, 372, 45_300]);
+        assert_eq!([RETURN_PLACE, RETURNS.records.start, HASH_PLACE, HASHES.records.start], [47_220, 47_222, 61_046, 61_048]);
         assert_eq!(
             [PATHS, LINKS, RETURNS, HASHES].map(|table| (table.records.width, table.expiry)),
             [(702, 35), (30, 22), (27, 19), (41, 33)]
         );
         assert_eq!([path::LAST_ANNOUNCE, path::VIOLATIONS, path::BLOCKED_UNTIL], [43, 51, 52]);
         assert_eq!([path::UNRESPONSIVE, path::BLOB_COUNT, path::BLOBS], [60, 61, 62]);
-        assert_eq!(SIZE, 103_000);
+        assert_eq!([port::ON, port::MODE, port::SIZE, port::WIDTH], [0, 1, 2, 4]);
+        assert_eq!(SIZE, 103_032);
     }
 }

@@ -1,6 +1,6 @@
 //! What records hold, read from their bytes and written to them.
 
-use super::{link, path, port, rate, returned, set_key, set_setting, set_time, setting, time, KEY, RATE};
+use super::{link, path, port, rate, returned, set_key, set_setting, set_time, setting, size, time, KEY, RATE};
 use crate::packet::{address, Address};
 
 /// A blob's bytes.
@@ -30,17 +30,20 @@ impl Mode {
 pub struct Port {
     pub on: bool,
     pub mode: Mode,
+    /// The longest packet that it carries.
+    pub size: usize,
 }
 
 impl Port {
     pub fn read(settings: &[u8]) -> Self {
         let mode = Mode::from_number(u64::from(settings[port::MODE])).expect("checked tables hold known modes");
-        Self { on: settings[port::ON] == 1, mode }
+        Self { on: settings[port::ON] == 1, mode, size: size(settings) }
     }
 
     pub fn write(&self, settings: &mut [u8]) {
         settings[port::ON] = u8::from(self.on);
         settings[port::MODE] = self.mode as u8;
+        settings[port::SIZE..port::WIDTH].copy_from_slice(&(self.size as u16).to_be_bytes());
     }
 }
 

@@ -1,8 +1,8 @@
 //! Refusal 7's test once more, tuned: records as arrays of known width, whose zeros are tested by whole words, short ones sixteen at once; and what
 //! an announce looks for among a path's blobs, as arrays too.
 
-use super::check::{is_port, rate_allowed};
-use super::{link, path, port, remembered, returned, ring_place, time, AnnounceRate, BLOB, HASHES, HASH_PLACE, LAST_CLOCK, TIME};
+use super::check::{is_port, rate_allowed, stored_size_allowed};
+use super::{link, path, port, remembered, returned, ring_place, size, time, AnnounceRate, BLOB, HASHES, HASH_PLACE, LAST_CLOCK, TIME};
 use super::{LINKS, LOCALS, PATHS, PORTS, RETURNS, RETURN_PLACE, SIZE};
 use crate::limits::{BLOB_LIMIT, LATEST, LATEST_ANNOUNCE, LATEST_BLOCK};
 
@@ -19,7 +19,7 @@ pub fn tables_allowed(tables: &[u8]) -> bool {
             .as_chunks()
             .0
             .iter()
-            .all(|settings: &[u8; port::WIDTH]| settings[port::ON] <= 1 && settings[port::MODE] <= 2)
+            .all(|settings: &[u8; port::WIDTH]| settings[port::ON] <= 1 && settings[port::MODE] <= 2 && stored_size_allowed(size(settings)))
         && records_allowed(&tables[LOCALS.bytes()], |_: &[u8; LOCALS.width]| true)
         && records_allowed(&tables[PATHS.records.bytes()], |path: &[u8; path::WIDTH]| {
             is_port(path[path::PORT])

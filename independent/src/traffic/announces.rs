@@ -2,7 +2,7 @@
 
 use super::{parts, Traffic};
 use crate::limits::BLOB_LIMIT;
-use crate::packet::{encode, Blob};
+use crate::packet::{encode, Blob, START_2};
 
 /// An announce of a station, and where it comes in.
 struct Draft {
@@ -114,6 +114,22 @@ impl Traffic {
     /// A newer announce by a port.
     pub(super) fn announce_by(&mut self, station: usize, port: u8) {
         let mut draft = self.newer(station);
+        draft.port = port;
+        self.accept_draft(&draft);
+    }
+
+    /// A newer announce from the station itself.
+    pub(super) fn announce_near(&mut self, station: usize) {
+        let mut draft = self.newer(station);
+        draft.hops = 0;
+        self.accept_draft(&draft);
+    }
+
+    /// A newer announce by a port that has so many bytes once it is spread.
+    pub(super) fn announce_spread_as(&mut self, station: usize, port: u8, length: usize) {
+        let mut draft = self.newer(station);
+        draft.ratchet &= length >= START_2 + 180;
+        draft.app_data = length - START_2 - if draft.ratchet { 180 } else { 148 };
         draft.port = port;
         self.accept_draft(&draft);
     }

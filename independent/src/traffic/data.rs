@@ -20,7 +20,7 @@ impl Traffic {
     }
 
     /// Data that we are asked to carry.
-    fn data_for(&mut self, destination: Address) -> (Parts, Vec<u8>) {
+    pub(super) fn data_for(&mut self, destination: Address) -> (Parts, Vec<u8>) {
         let header = 0x40 | self.loose_bits();
         let hops = self.hops();
         let context = self.random.pick(&[0, 0, 1, 9, 0xff]);

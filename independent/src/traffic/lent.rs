@@ -87,7 +87,10 @@ impl Traffic {
     /// Not the episodes of these calls: what they change would be believed after the tables of before are back.
     fn setting_on_lent(&mut self) {
         let call = match self.random.below(8) {
-            0 => Call::SetPort { port: self.random.below(17) as u64, on: self.random.one_in(2), mode: self.random.below(4) as u64 },
+            0 => {
+                let (port, mode) = (self.random.below(17) as u64, self.random.below(4) as u64);
+                Call::SetPort { port, on: self.random.one_in(2), mode, size: self.random.pick(&[18, 19, 255, 500, 500, 501]) }
+            }
             1 => Call::AddLocal(self.stray_address()),
             2 => Call::RemoveLocal(self.stray_address()),
             3 | 4 => Call::SetAnnounceRate(self.a_rate()),
@@ -129,12 +132,19 @@ impl Traffic {
 
     fn change_ports(&mut self) {
         let at = PORTS.range(self.random.below(16)).start;
-        if self.random.one_in(2) {
-            let on = self.random.pick(&[0, 1, 2, 255]);
-            self.write(at + port::ON, [on]);
-        } else {
-            let mode = self.random.pick(&[2, 3, 4, 255]);
-            self.write(at + port::MODE, [mode]);
+        match self.random.below(4) {
+            0 => {
+                let on = self.random.pick(&[0, 1, 2, 255]);
+                self.write(at + port::ON, [on]);
+            }
+            1 => {
+                let mode = self.random.pick(&[2, 3, 4, 255]);
+                self.write(at + port::MODE, [mode]);
+            }
+            _ => {
+                let size: u16 = self.random.pick(&[0, 18, 19, 20, 255, 256, 499, 500, 501, u16::MAX]);
+                self.write(at + port::SIZE, size.to_be_bytes());
+            }
         }
     }
 

@@ -6,7 +6,7 @@ use crate::rules::AsWritten;
 
 impl Traffic {
     /// A link request to a station, of 64 or more bytes.
-    fn request_for(&mut self, station: usize) -> (Parts, Vec<u8>) {
+    pub(super) fn request_for(&mut self, station: usize) -> (Parts, Vec<u8>) {
         let destination = self.world.stations[station].address;
         let header = 0x42 | self.random.pick(&[0, 0, 0, 4, 8]) | self.random.pick(&[0, 0x10, 0x30]);
         let hops = self.hops();
@@ -29,7 +29,7 @@ impl Traffic {
     }
 
     /// A packet of kind link.
-    fn over_link(&mut self, link: &Link, kind: u8, hops: u8, port: u8, (context, length): (u8, usize), signature: bool) {
+    pub(super) fn over_link(&mut self, link: &Link, kind: u8, hops: u8, port: u8, (context, length): (u8, usize), signature: bool) {
         let header = 12 | kind | self.random.pick(&[0, 0, 0x10, 0x20]);
         let payload = self.random.bytes(length);
         self.send_signed(encode(&parts(header, hops, [0; 16], link.id, context), &payload), port, signature);

@@ -13,11 +13,12 @@ mod rates;
 mod reasons;
 mod saved;
 mod settings;
+mod sizes;
 
 pub use asking::Asking;
 
 use crate::engine::{Call, PacketCall};
-use crate::limits::CLOCK_LIMIT;
+use crate::limits::{CLOCK_LIMIT, GREATEST_SIZE};
 use crate::packet::{announced, hash, Address, Blob, Header, PacketHash, Parts};
 use crate::random::Random;
 use crate::rules::AsWritten;
@@ -63,10 +64,11 @@ struct Carried {
     leaving: u8,
 }
 
-#[derive(Clone)]
+#[derive(Clone, Copy)]
 struct Port {
     on: bool,
     mode: u8,
+    size: usize,
 }
 
 /// What is believed of the relay and its neighbours.
@@ -124,7 +126,7 @@ const EPISODES: &[(usize, Episode)] = &[
     (10, Traffic::refused_mark),
     (2, Traffic::mark_edge),
     (4, Traffic::lent_marks),
-    (9, Traffic::lent_blobs),
+    (10, Traffic::lent_blobs),
     (25, Traffic::data_by_path),
     (8, Traffic::data_lost),
     (6, Traffic::data_local),
@@ -144,18 +146,24 @@ const EPISODES: &[(usize, Episode)] = &[
     (2, Traffic::keepalives),
     (2, Traffic::keepalives_astray),
     (3, Traffic::keepalives_remembered),
-    (10, Traffic::port_setting),
+    (14, Traffic::port_setting),
     (5, Traffic::port_off_and_on),
     (5, Traffic::local_calls),
     (2, Traffic::locals_full),
     (12, Traffic::renumbering),
     (64, Traffic::refused_packet),
+    (4, Traffic::sizes_in),
+    (7, Traffic::sizes_by_path),
+    (6, Traffic::sizes_by_link),
+    (9, Traffic::sizes_by_return),
+    (6, Traffic::sizes_of_spread),
+    (6, Traffic::lent_full_links),
     (16, Traffic::lent_tables),
     (4, Traffic::bad_forms),
     (12, Traffic::lent_reasons),
     (4, Traffic::save_and_load),
     (2, Traffic::load_again),
-    (6, Traffic::load_older),
+    (8, Traffic::load_older),
     (24, Traffic::load_refused),
     (6, Traffic::load_changed),
 ];
@@ -195,6 +203,13 @@ impl Traffic {
         for port in self.random.permutation().into_iter().take(ports) {
             let mode = self.random.below(3) as u8;
             self.set_port(port, true, mode);
+        }
+        // some relays have ports that carry less
+        if self.random.one_in(6) {
+            for port in self.random.permutation().into_iter().take(4) {
+                let size = self.a_size();
+                self.set_size(port, size);
+            }
         }
     }
 
@@ -248,14 +263,27 @@ impl Traffic {
         }
     }
 
+    fn port(&self, port: u8) -> Port {
+        self.world.ports[usize::from(port)]
+    }
+
+    fn set(&mut self, port: u8, settings: Port) {
+        self.world.ports[usize::from(port)] = settings;
+        let Port { on, mode, size } = settings;
+        self.queue.push_back(Call::SetPort { port: u64::from(port), on, mode: u64::from(mode), size: size as u64 });
+    }
+
+    /// Sets a port, but for its size.
     fn set_port(&mut self, port: u8, on: bool, mode: u8) {
-        self.world.ports[usize::from(port)] = Port { on, mode };
-        self.queue.push_back(Call::SetPort { port: u64::from(port), on, mode: u64::from(mode) });
+        self.set(port, Port { on, mode, ..self.port(port) });
+    }
+
+    fn set_size(&mut self, port: u8, size: usize) {
+        self.set(port, Port { size, ..self.port(port) });
     }
 
     fn turn(&mut self, port: u8, on: bool) {
-        let mode = self.world.ports[usize::from(port)].mode;
-        self.set_port(port, on, mode);
+        self.set(port, Port { on, ..self.port(port) });
     }
 
     fn packet_call(&mut self, packet: Vec<u8>, port: u8, signature: bool) -> PacketCall {
@@ -326,7 +354,7 @@ impl World {
             clock: random.pick(&[0, 1, 1_000, 1_700_000_000, CLOCK_LIMIT - 2_000_000, CLOCK_LIMIT - 100_000]),
             pace: random.pick(&[0, 1, 1, 5, 5, 40, 300, 4_000]),
             rate: rates::OFF,
-            ports: std::array::from_fn(|_| Port { on: false, mode: 0 }),
+            ports: [Port { on: false, mode: 0, size: GREATEST_SIZE }; 16],
             stations: (0..stations).map(|_| Station::new(random, sha)).collect(),
             locals: Vec::new(),
             links: VecDeque::new(),

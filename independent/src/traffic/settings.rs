@@ -1,8 +1,8 @@
 //! The calls without a packet, and packet calls that are refused.
 
-use super::{parts, Traffic};
+use super::{parts, Port, Traffic};
 use crate::engine::Call;
-use crate::limits::CLOCK_LIMIT;
+use crate::limits::{CLOCK_LIMIT, GREATEST_SIZE};
 use crate::packet::{encode, Address};
 
 impl Traffic {
@@ -13,14 +13,19 @@ impl Traffic {
         let port = self.random.below(16) as u8;
         let on = !self.random.one_in(4);
         let mode = self.random.below(3) as u8;
-        self.set_port(port, on, mode);
+        let size = if self.random.one_in(6) { self.a_size() } else { GREATEST_SIZE };
+        self.set(port, Port { on, mode, size });
     }
 
     fn refused_setting(&mut self) {
         let wide = [16, 17, 255, 256, 1 << 32, u64::MAX];
-        let port = if self.random.one_in(2) { self.random.pick(&wide) } else { self.random.below(16) as u64 };
-        let mode = if port < 16 { self.random.pick(&[3, 4, 255, 256, 1 << 32, u64::MAX]) } else { self.random.below(4) as u64 };
-        self.queue.push_back(Call::SetPort { port, on: self.random.one_in(2), mode });
+        let (mut port, mut mode, mut size) = (self.random.below(16) as u64, self.random.below(3) as u64, self.a_size() as u64);
+        match self.random.below(4) {
+            0 => port = self.random.pick(&wide),
+            1 => mode = self.random.pick(&[3, 4, 255, 256, 1 << 32, u64::MAX]),
+            _ => size = self.refused_size(),
+        }
+        self.queue.push_back(Call::SetPort { port, on: self.random.one_in(2), mode, size });
     }
 
     /// What should leave by a port that is off: by a path, a link and a return record; then on again.
@@ -110,10 +115,8 @@ impl Traffic {
 
     fn rename(&mut self, map: &[u8; 16]) {
         let image = |port: &mut u8| *port = map[usize::from(*port)];
-        let before: Vec<(bool, u8)> = self.world.ports.iter().map(|port| (port.on, port.mode)).collect();
-        for (port, (on, mode)) in before.into_iter().enumerate() {
-            let settings = &mut self.world.ports[usize::from(map[port])];
-            (settings.on, settings.mode) = (on, mode);
+        for (port, settings) in self.world.ports.into_iter().enumerate() {
+            self.world.ports[usize::from(map[port])] = settings;
         }
         for station in &mut self.world.stations {
             image(&mut station.port);

@@ -52,8 +52,8 @@ fn number(number: u64) -> Result<Vec<u8>, Outcome> {
 
 fn a_ports_settings(host: &mut Host) {
     host.set_port(15, false, 2);
-    for (port, settings) in [(0, [1, 0]), (1, [1, 2]), (2, [1, 1]), (4, [0, 0]), (15, [0, 2])] {
-        assert_eq!(ask(host, Question::Port(port)), Ok(settings.to_vec()));
+    for (port, [on, mode]) in [(0, [1, 0]), (1, [1, 2]), (2, [1, 1]), (4, [0, 0]), (15, [0, 2])] {
+        assert_eq!(ask(host, Question::Port(port)), Ok(vec![on, mode, 1, 0xf4]));
     }
     for port in [16, 256, u64::MAX] {
         assert_eq!(ask(host, Question::Port(port)), Err(Outcome::Nothing));

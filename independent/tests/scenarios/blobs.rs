@@ -19,7 +19,6 @@ crate::on_both_programs!(
     no_count_of_65(CountOf65Allowed),
     a_saved_path_of_64_blobs(CurrentBlobsUpTo16),
     spare_places_are_saved(BehindSixteenNotSaved),
-    a_save_is_of_edition_4(SavedAsThird),
     older_files_hold_up_to_16(OlderBlobsUpTo64),
     of_edition_3_too(ThirdEditionBlobsUpTo64),
     more_are_not_left_out(OlderCountCut),
@@ -171,11 +170,6 @@ fn spare_places_are_saved(host: &mut Host) {
     host.tables.fill(0xee);
     assert_eq!(load(host, &file), 0);
     assert!(host.tables == before);
-}
-
-/// A program of the edition before refuses it: by its editions, 4 is newer.
-fn a_save_is_of_edition_4(host: &mut Host) {
-    assert_eq!(saved(host)[..2], [2, 4]);
 }
 
 /// An older file with another blob count in its first path, which is used.

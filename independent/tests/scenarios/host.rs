@@ -36,8 +36,9 @@ impl Host {
         host
     }
 
+    /// With the size that a fresh relay's ports have.
     pub fn set_port(&mut self, port: u64, on: bool, mode: u64) -> Outcome {
-        self.program.set_port(&mut self.tables, port, on, mode)
+        self.program.set_port(&mut self.tables, port, on, mode, 500)
     }
 
     pub fn add_local(&mut self, address: &Address) -> Outcome {

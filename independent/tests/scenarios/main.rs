@@ -18,6 +18,7 @@ mod renumbering;
 mod returns;
 mod saved;
 mod settings;
+mod sizes;
 mod tables;
 
 /// Makes a test of each scenario on the independent program, with either check of refusal 7, and on the core, so that the name of a failing

@@ -27,7 +27,7 @@ fn of_header(header: u8, length: usize) -> Vec<u8> {
 
 /// The refusal of a packet, 0 for none.
 fn refusal(host: &Host, packet: &[u8]) -> u8 {
-    host.program.read(packet, &mut [0; 35])
+    host.program.read(packet, 500, &mut [0; 35])
 }
 
 fn document_01s_edges_of_reading(host: &mut Host) {
@@ -110,7 +110,7 @@ fn reading_and_writing_undo_each_other(host: &mut Host) {
     for length in 0..=501 {
         for _ in 0..20 {
             let (packet, mut read) = (random.bytes(length), [0; 35]);
-            if host.program.read(&packet, &mut read) > 0 {
+            if host.program.read(&packet, 500, &mut read) > 0 {
                 continue;
             }
             let parts = parts_of(&read);
@@ -121,7 +121,7 @@ fn reading_and_writing_undo_each_other(host: &mut Host) {
             assert!(output[length..].iter().all(|byte| *byte == 0xa5));
             let other = Parts { relay: random.array(), ..parts };
             assert_eq!(host.program.write(&other, payload, &mut output), (length as u64) << 16);
-            assert_eq!(host.program.read(&output[..length], &mut read), 0);
+            assert_eq!(host.program.read(&output[..length], 500, &mut read), 0);
             let relay = if other.header.type_2() { other.relay } else { [0; 16] };
             assert_eq!(parts_of(&read), Parts { relay, ..other });
         }

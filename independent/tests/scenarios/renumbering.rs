@@ -26,8 +26,8 @@ fn renumbering(host: &mut Host) {
         (record + returned::ARRIVAL, &[13, 12]),
     ]);
     let expected = write(&[
-        (PORTS.start, &[0; 32]),
-        (PORTS.range(3).start, &[1, 0, 1, 2, 1, 1, 1, 0]),
+        (PORTS.start, &[0, 0, 1, 0xf4].repeat(16)),
+        (PORTS.range(3).start, &[1, 0, 1, 0xf4, 1, 2, 1, 0xf4, 1, 1, 1, 0xf4, 1, 0, 1, 0xf4]),
         (path + path::PORT, &[2]),
         (link + link::ASKING, &[4, 5]),
         (record + returned::ARRIVAL, &[0, 15]),

@@ -4,7 +4,7 @@ use crate::host::{announce, lost, to_station, type_1, Host, OWN};
 use haskumye_independent::answer::{NoWay, Tally};
 use haskumye_independent::engine::Outcome;
 use haskumye_independent::limits::LATEST;
-use haskumye_independent::tables::{link, path, AnnounceRate, HASHES, HASH_PLACE, LAST_CLOCK, LINKS, PATHS, PORTS};
+use haskumye_independent::tables::{link, path, AnnounceRate, HASHES, HASH_PLACE, LAST_CLOCK, LINKS, LOCALS, PATHS, PORTS};
 use haskumye_independent::tables::{RATE, RETURNS, RETURN_PLACE, SIZE};
 
 crate::on_both_programs!(
@@ -38,18 +38,18 @@ crate::on_both_programs!(
 /// Offset and length of the bodies, as docs/LAYOUT.md has them.
 const BODIES: [(usize, usize); 8] = [
     (52, 36), // own address, last clock, announce rate
-    (88, 32),
-    (120, 272),
-    (392, 44_928),
-    (45_320, 1_920),
-    (47_240, 13_826),
-    (61_066, 41_986),
+    (88, 64),
+    (152, 272),
+    (424, 44_928),
+    (45_352, 1_920),
+    (47_272, 13_826),
+    (61_098, 41_986),
     (TALLY_AT, 24),
 ];
-const EDITION: u8 = 4;
+const EDITION: u8 = 5;
 const PORTS_AT: usize = 88;
-const TALLY_AT: usize = 103_052;
-const LENGTH: usize = 103_076;
+const TALLY_AT: usize = 103_084;
+const LENGTH: usize = 103_108;
 /// Where the 17th blob place of a path stands: older files end here.
 const BEHIND_16: usize = path::BLOBS + 160;
 const TALLY: Tally = [0x0102_0304, 1, 2, 3, 4, u32::MAX];
@@ -282,10 +282,12 @@ fn every_clause_of_refusal_7(host: &mut Host) {
     host.verdict(&to_station(1, 0x40, 0, b"a"), 0, 11);
     let file = saved(host);
     let late = (LATEST + 1).to_be_bytes();
-    let broken: [(usize, &[u8]); 16] = [
+    let broken: [(usize, &[u8]); 18] = [
         (LAST_CLOCK, &late),
         (PORTS.start, &[2]),
         (PORTS.start + 1, &[3]),
+        (PORTS.start + 2, &[0, 18]),
+        (PORTS.range(15).start + 2, &[1, 0xf5]),
         (PATHS.records.start, &[2]),
         (PATHS.records.start + path::PORT, &[16]),
         (PATHS.records.start + path::BLOB_COUNT, &[0]),
@@ -363,12 +365,20 @@ fn loaded_1(host: &mut Host) -> &[u8] {
     &host.tables
 }
 
+/// On and mode are those of an older file, and each size is 500.
+fn expect_ports(tables: &[u8], older: &[u8]) {
+    for (settings, older) in PORTS.iter(tables).zip(older.chunks_exact(2)) {
+        assert_eq!(settings, [older[0], older[1], 1, 0xf4]);
+    }
+}
+
 /// All else is in the file, byte for byte.
 fn edition_1_has_no_announce_rate(host: &mut Host) {
     let tables = loaded_1(host);
     assert_eq!(tables[..24], EDITION_1[52..76]);
     assert_eq!(tables[RATE.bytes()], [0; 12]);
-    assert!(tables[PORTS.start..PATHS.records.start] == EDITION_1[76..380]);
+    expect_ports(tables, &EDITION_1[76..108]);
+    assert!(tables[LOCALS.start..PATHS.records.start] == EDITION_1[108..380]);
     assert!(tables[LINKS.records.start..] == EDITION_1[13_436..71_168]);
     let counters = EDITION_1[71_168..].chunks_exact(4).map(|bytes| u32::from_be_bytes(bytes.try_into().expect("four bytes")));
     assert_eq!(host.tally.to_vec(), counters.collect::<Vec<_>>());
@@ -399,7 +409,9 @@ fn a_kept_file_of_edition_2(host: &mut Host) {
     let file = include_bytes!("../../../tests/saved/edition-2.saved");
     assert_eq!(host.program.load(file, &mut host.tables, &mut host.tally), 0);
     let tables = &host.tables;
-    assert!(tables[..PATHS.records.start] == file[52..392]);
+    assert!(tables[..PORTS.start] == file[52..88]);
+    expect_ports(tables, &file[88..120]);
+    assert!(tables[LOCALS.start..PATHS.records.start] == file[120..392]);
     assert!(tables[LINKS.records.start..] == file[14_536..72_268]);
     for (path, older) in PATHS.records.iter(tables).zip(file[392..14_536].chunks_exact(221)) {
         assert_eq!(path[..path::UNRESPONSIVE], older[..60]);
@@ -414,7 +426,9 @@ fn a_kept_file_of_edition_3(host: &mut Host) {
     let file = include_bytes!("../../../tests/saved/edition-3.saved");
     assert_eq!(host.program.load(file, &mut host.tables, &mut host.tally), 0);
     let tables = &host.tables;
-    assert!(tables[..PATHS.records.start] == file[52..392]);
+    assert!(tables[..PORTS.start] == file[52..88]);
+    expect_ports(tables, &file[88..120]);
+    assert!(tables[LOCALS.start..PATHS.records.start] == file[120..392]);
     assert!(tables[LINKS.records.start..] == file[14_600..72_332]);
     for (path, older) in PATHS.records.iter(tables).zip(file[392..14_600].chunks_exact(222)) {
         assert_eq!(path[..BEHIND_16], *older);

@@ -12,14 +12,14 @@ crate::on_both_programs!(
 
 fn setting_a_port(host: &mut Host) {
     assert_eq!(host.set_port(15, true, 2), Outcome::Done);
-    assert_eq!(host.tables[PORTS.range(15)], [1, 2]);
+    assert_eq!(host.tables[PORTS.range(15)], [1, 2, 1, 0xf4]);
     assert_eq!(host.set_port(15, false, 1), Outcome::Done);
-    assert_eq!(host.tables[PORTS.range(15)], [0, 1]);
+    assert_eq!(host.tables[PORTS.range(15)], [0, 1, 1, 0xf4]);
     let before = host.tables.clone();
     for (port, mode) in [(16, 0), (u64::MAX, 0), (0, 3), (0, u64::MAX)] {
         assert_eq!(host.set_port(port, true, mode), Outcome::Refused(9));
     }
-    assert_eq!(host.program.set_port(&mut host.tables[1..], 16, true, 0), Outcome::Refused(7));
+    assert_eq!(host.program.set_port(&mut host.tables[1..], 16, true, 0, 500), Outcome::Refused(7));
     assert!(host.tables == before);
 }
 

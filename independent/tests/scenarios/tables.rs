@@ -36,7 +36,8 @@ fn fresh_tables(host: &mut Host) {
     let tables = fresh(host);
     assert!(host.program.check(&tables));
     assert_eq!(tables[..16], OWN);
-    assert!(tables[16..].iter().all(|byte| *byte == 0));
+    assert!(PORTS.iter(&tables).all(|settings| settings == [0, 0, 1, 0xf4]));
+    assert!(tables[16..PORTS.start].iter().chain(&tables[LOCALS.start..]).all(|byte| *byte == 0));
     let mut small = vec![3; SIZE - 1];
     assert_eq!(host.program.fresh(&mut small, &mut [0; 6], &OWN), Outcome::Refused(7));
     assert!(small.iter().all(|byte| *byte == 3));
@@ -44,7 +45,9 @@ fn fresh_tables(host: &mut Host) {
 
 fn the_size(host: &mut Host) {
     for (size, allowed) in [(0, false), (SIZE - 1, false), (SIZE, true), (SIZE + 1, false)] {
-        assert_eq!(host.program.check(&vec![0; size]), allowed);
+        let mut tables = fresh(host);
+        tables.resize(size, 0);
+        assert_eq!(host.program.check(&tables), allowed);
     }
 }
 

@@ -158,9 +158,9 @@ fn the_three_agree() {
 fn something_is_compared() {
     let texts = Texts::read();
     let header = header::read("the header", &texts.header);
-    assert_eq!((header.functions.len(), header.structs.len()), (42, 14));
+    assert_eq!((header.functions.len(), header.structs.len()), (42, 15));
     assert_eq!(header.functions["haskumye_packet"].arguments.len(), 10);
-    assert_eq!(header.constants.len(), 103);
+    assert_eq!(header.constants.len(), 104);
 }
 
 #[test]
@@ -214,9 +214,9 @@ fn swapped_and_missing_arguments_are_seen() {
         ),
         (
             RATTLE,
-            "tables: &mut [u8], port: u64, on: u8, mode: u64",
-            "tables: &mut [u8], port: u64, on: u8",
-            "haskumye_set_port: the number of arguments is `5` in the header, `4` in the crate",
+            "mode: u64,\n    size: u64,\n",
+            "mode: u64,\n",
+            "haskumye_set_port: the number of arguments is `6` in the header, `5` in the crate",
         ),
     ]);
 }
@@ -301,7 +301,7 @@ fn lengths_of_blocks_are_seen() {
             RATTLE,
             "parts: &mut [u8; 35]",
             "parts: &mut [u8; 36]",
-            "haskumye_read: argument 3 is `parts: mut 35 of u8` in Rust, `parts: mut 36 of u8` in the crate",
+            "haskumye_read: argument 4 is `parts: mut 35 of u8` in Rust, `parts: mut 36 of u8` in the crate",
         ),
         (
             HEADER,
@@ -351,7 +351,7 @@ fn lengths_of_blocks_are_seen() {
 #[test]
 fn fields_in_another_order_are_seen() {
     let texts = Texts::read();
-    let swaps: [Damage; 9] = [
+    let swaps: [Damage; 10] = [
         (HEADER, "uint64_t clock;\n    uint64_t port;", "uint64_t port;\n    uint64_t clock;", "Entry is"),
         (HEADER, "uint32_t total;\n    uint32_t dropped;", "uint32_t dropped;\n    uint32_t total;", "Tally is"),
         (RATTLE, "pub spread: u32,\n    pub kept: u32,", "pub kept: u32,\n    pub spread: u32,", "Tally is"),
@@ -365,6 +365,7 @@ fn fields_in_another_order_are_seen() {
         (RUST, "pub last_announce: Time,", "pub blocked_until: Time,", "PathRecord is"),
         (RUST, "pub unresponsive: u8,", "pub blob_count: u8,", "PathRecord is"),
         (RUST, "pub target: Setting,", "pub grace: Setting,", "RateSettings is"),
+        (RUST, "pub size: Size,", "pub mode: Size,", "PortSettings is"),
         (RUST, "pub asking: u8,", "pub answering: u8,", "LinkRecord is"),
     ];
     for (source, from, to, start) in swaps {

@@ -1,4 +1,7 @@
-use mathlib.Core.Path.{sym, _∙_}
+use mathlib.Core.Bool.{not}
+use mathlib.Core.Path.{sym, ap, _∙_}
+use native.Mathlib.Omega.{arith}
+use borrow.Author.Needs.{needs}
 use borrow.Author.Tests.{le-leb, lt-leb, not-true, not-false}
 use Rattle.octets.specs.Choice.{_then_otherwise_}
 use Rattle.octets.specs.Listed.{firstOf}
@@ -7,8 +10,6 @@ use Rattle.octets.proofs.Choice.{or-left, or-right, or-no}
 use Rattle.rules.specs.Calls.{sets-port, ruleOf}
 use Rattle.tables.proofs.Called.{size-of, call-bad, call-refused, call-done}
 use Rattle.settings.proofs.Answered.{port-set}
-use native.Mathlib.Omega.{arith}
-use borrow.Author.Needs.{needs}
 use Rattle.settings.proofs.set_port.Statement.{statement}
 use Rattle.settings.proofs.set_port.Tie as tie
 
@@ -21,7 +22,7 @@ same-length c = search needs
 returns : tie.Need-returns
 returns c =
     let a = c .before .before .before .before .args in
-    call-bad (sets-port (a .port) (a .on) (a .mode)) (a .tables .now) (sym (c .before .check .ensures) ∙ not-true _ (c .if1 .taken))
+    call-bad (sets-port (a .port) (a .on) (a .mode) (a .size)) (a .tables .now) (sym (c .before .check .ensures) ∙ not-true _ (c .if1 .taken))
 
 same-length-2 : tie.Need-same-length-2
 same-length-2 c = search needs
@@ -32,7 +33,7 @@ returns-2 c =
     let a = c .before .before .before .before .before .args in
     let t = a .tables .now in
     let ok = sym (c .before .before .check .ensures) ∙ not-false _ (c .before .if1 .left) in
-    call-refused (sets-port (a .port) (a .on) (a .mode)) t ok (known-bytes t (c .before .before .before .before .slice-known .given)) 9 (λ e. omega arith)
+    call-refused (sets-port (a .port) (a .on) (a .mode) (a .size)) t ok (known-bytes t (c .before .before .before .before .slice-known .given)) 9 (λ e. omega arith)
     (rw (or-left _ (le-leb _ _ (c .if2 .taken))))
 
 cast-if3 : tie.Need-cast-if3
@@ -44,24 +45,14 @@ same-length-3 c = search needs
 returns-3 : tie.Need-returns-3
 unfolding ruleOf firstOf _then_otherwise_
 returns-3 c =
-    let c3 = c .before .before .before in
-    let c5 = c3 .before .before in
-    let c6 = c5 .before in
-    let a = c6 .args in
+    let a = c .before .before .before .before .before .before .args in
     let t = a .tables .now in
-    let ok = sym (c3 .check .ensures) ∙ not-false _ (c .before .before .if1 .left) in
-    call-refused (sets-port (a .port) (a .on) (a .mode)) t ok (known-bytes t (c5 .slice-known .given)) 9 (λ e. omega arith)
-    (rw (or-right _ (le-leb _ _ (c .if3 .taken))))
+    let ok = sym (c .before .before .before .check .ensures) ∙ not-false _ (c .before .before .if1 .left) in
+    call-refused (sets-port (a .port) (a .on) (a .mode) (a .size)) t ok (known-bytes t (c .before .before .before .before .before .slice-known .given)) 9 (λ e. omega arith)
+    (rw (or-right _ (or-left _ (le-leb _ _ (c .if3 .taken)))))
 
-cast-put-port : tie.Need-cast-put-port
-cast-put-port c = search needs
-
-put-port-requires : tie.Need-put-port-requires
-put-port-requires c κs =
-    let c3 = c .before .before .before in
-    let c4 = c3 .before in
-    let c7 = c4 .before .before .before in
-    (size-of (c7 .args .tables .now) (sym (c4 .check .ensures) ∙ not-false _ (c3 .if1 .left)), c .before .before .if2 .left)
+is-size-requires : tie.Need-is-size-requires
+is-size-requires c κs = search needs
 
 same-length-4 : tie.Need-same-length-4
 same-length-4 c = search needs
@@ -69,17 +60,32 @@ same-length-4 c = search needs
 returns-4 : tie.Need-returns-4
 unfolding ruleOf firstOf _then_otherwise_
 returns-4 c =
-    let c4 = c .before .before .before .before in
-    let c5 = c4 .before in
-    let c6 = c5 .before in
-    let c7 = c6 .before in
-    let c9 = c7 .before .before in
-    let c10 = c9 .before in
-    let a = c10 .args in
+    let a = c .before .before .before .before .before .before .before .before .args in
     let t = a .tables .now in
-    let ok = sym (c7 .check .ensures) ∙ not-false _ (c6 .if1 .left) in
-    let after = c .before .before .put-port .ensures ∙ port-set t ok (known-bytes t (c9 .slice-known .given)) (a .port) (a .on) (a .mode) (c5 .if2 .left) in
-    call-done (sets-port (a .port) (a .on) (a .mode)) t ok (rw (or-no (lt-leb _ _ (c5 .if2 .left)) (lt-leb _ _ (c4 .if3 .left)))) after
+    let ok = sym (c .before .before .before .before .before .check .ensures) ∙ not-false _ (c .before .before .before .before .if1 .left) in
+    call-refused (sets-port (a .port) (a .on) (a .mode) (a .size)) t ok (known-bytes t (c .before .before .before .before .before .before .before .slice-known .given)) 9 (λ e. omega arith)
+    (rw (or-right _ (or-right _ (ap not (sym (c .before .is-size .ensures)) ∙ c .if4 .taken))))
+
+cast-put-port : tie.Need-cast-put-port
+cast-put-port c = search needs
+
+put-port-requires : tie.Need-put-port-requires
+put-port-requires c κs = (size-of (c .before .before .before .before .before .before .before .before .before .args .tables .now) (sym (c .before .before .before .before .before .before .check .ensures) ∙ not-false _ (c .before .before .before .before .before .if1 .left)), c .before .before .before .before .if2 .left)
+
+same-length-5 : tie.Need-same-length-5
+same-length-5 c = search needs
+
+returns-5 : tie.Need-returns-5
+unfolding ruleOf firstOf _then_otherwise_
+returns-5 c =
+    let a = c .before .before .before .before .before .before .before .before .before .before .before .before .args in
+    let t = a .tables .now in
+    let ok = sym (c .before .before .before .before .before .before .before .before .before .check .ensures) ∙ not-false _ (c .before .before .before .before .before .before .before .before .if1 .left) in
+    let sized = ap not (sym (c .before .before .before .before .before .is-size .ensures)) ∙ c .before .before .before .before .if4 .left in
+    let after =
+    c .before .before .put-port .ensures ∙ port-set t ok (known-bytes t (c .before .before .before .before .before .before .before .before .before .before .before .slice-known .given)) (a .port) (a .on) (a .mode) (a .size) (c .before .before .before .before .before .before .before .if2 .left) in
+    call-done (sets-port (a .port) (a .on) (a .mode) (a .size)) t ok
+    (rw (or-no (lt-leb _ _ (c .before .before .before .before .before .before .before .if2 .left)) (or-no (lt-leb _ _ (c .before .before .before .before .before .before .if3 .left)) sized))) after
 
 pub set-port-spec : {M : Type 1} → statement M
 set-port-spec =
@@ -93,7 +99,10 @@ set-port-spec =
     cast-if3
     same-length-3
     returns-3
+    is-size-requires
+    same-length-4
+    returns-4
     cast-put-port
     put-port-requires
-    same-length-4
-    returns-4)
+    same-length-5
+    returns-5)

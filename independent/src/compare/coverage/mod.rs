@@ -5,12 +5,14 @@ mod files;
 mod marks;
 mod rates;
 mod reasons;
+mod sizes;
 
 use crate::answer::{Answer, Verdict};
 use crate::engine::{Call, Outcome, PacketCall};
 use crate::limits::{EXEMPT_CONTEXTS, HASH_LIFETIME, LONGEST};
 use crate::packet::{self, hash, PacketHash};
 use crate::relay::asking::{ALWAYS_TOLD, KINDS};
+use crate::relay::Packet;
 use crate::rules::AsWritten;
 use crate::sha256::Sha256;
 use crate::tables::{self, HASHES};
@@ -19,15 +21,16 @@ pub use files::{Files, OlderFile};
 use marks::{Marked, Marks};
 use rates::{Found, Rates};
 use reasons::Reasons;
+use sizes::{Sized, Sizes};
 use std::collections::HashMap;
 
 /// How often each refusal, reason and verdict was reached, and packets that are exempt from test 2.
 #[derive(Default)]
 pub struct Coverage {
     pub calls: usize,
-    /// By number: refusals 1 to 11, reasons 1 to 15.
+    /// By number: refusals 1 to 11, reasons 1 to 16.
     pub refusals: [usize; 12],
-    pub reasons: [usize; 16],
+    pub reasons: [usize; 17],
     /// By `Verdict::index`.
     pub verdicts: [usize; 5],
     /// Calls without a packet that were done.
@@ -38,6 +41,7 @@ pub struct Coverage {
     rates: Rates,
     marks: Marks,
     blobs: Blobs,
+    sizes: Sizes,
     split: Reasons,
     /// Settings of the announce rate: those set, then refusals by number.
     rate_settings: [usize; 10],
@@ -50,6 +54,7 @@ pub struct Before {
     found: Option<Found>,
     marked: Option<Marked>,
     held: Option<Held>,
+    sized: Option<Sized>,
     expiries: Vec<u64>,
     spare: bool,
     older: Option<OlderFile>,
@@ -111,6 +116,7 @@ impl Coverage {
             (Call::Mark { .. }, _) => self.marks.marks[refusal(outcome).min(12)] += 1,
             _ => self.count(outcome),
         }
+        self.sizes.count_setting(call, outcome);
     }
 
     /// Makes the outcome of another call count.
@@ -136,6 +142,7 @@ impl Coverage {
             found: Found::before(call, tables),
             marked: Marked::before(&self.exempt.sha, call, tables),
             held: Held::before(call, tables),
+            sized: Sized::before(&self.exempt.sha, call, tables),
             expiries: self.split.before(call, tables),
             spare: matches!(call, Call::Save { .. }) && has_spare_blobs(tables),
             older: matches!(call, Call::Load).then(|| OlderFile::of(file)).flatten(),
@@ -153,6 +160,9 @@ impl Coverage {
         }
         if let Some(held) = &before.held {
             self.blobs.count(held, outcome);
+        }
+        if let Some(sized) = &before.sized {
+            self.sizes.count(sized, outcome);
         }
         if let Outcome::Judged(Answer { verdict, .. }) = outcome {
             self.split.count(call, &before.expiries, *verdict);
@@ -186,7 +196,7 @@ impl Coverage {
     /// Each thing that can be reached, in words, and how often it was.
     pub fn reached(&self) -> Vec<(String, usize)> {
         let refusals = (1..=11).map(|number| (format!("refusal {number}"), self.refusals[number]));
-        let reasons = (1..=13).chain([15]).map(|number| (format!("drop {number}"), self.reasons[number]));
+        let reasons = (1..=13).chain([15, 16]).map(|number| (format!("drop {number}"), self.reasons[number]));
         let words = ["drop", "deliver", "forward", "spread", "kept"];
         let verdicts = words.iter().zip(self.verdicts).map(|(word, times)| (word.to_string(), times));
         refusals.chain(reasons).chain(self.split.reached()).chain(verdicts).chain(self.reached_exempt()).collect()
@@ -232,6 +242,11 @@ impl Coverage {
         self.marks.reached_calls()
     }
 
+    /// What packets find of ports' sizes.
+    pub fn reached_sizes(&self) -> Vec<(String, usize)> {
+        self.sizes.reached()
+    }
+
     /// What announces find among blobs.
     pub fn reached_blobs(&self) -> Vec<(String, usize)> {
         self.blobs.reached()
@@ -250,6 +265,14 @@ impl Coverage {
         let again: Vec<_> = line("again within 300 s", &self.exempt.again);
         [again, line("with its hash in the ring", &self.exempt.remembered)].concat()
     }
+}
+
+/// The packet of a call, where it reads at 500.
+fn packet_of<'a>(sha: &'a Sha256, call: &'a Call) -> Option<Packet<'a>> {
+    let Call::Packet(PacketCall { packet: bytes, port, clock, signature, .. }) = call else { return None };
+    let parts = packet::read(&AsWritten, bytes, LONGEST).ok()?;
+    let payload = &bytes[packet::payload_place(bytes)..];
+    Some(Packet { bytes, parts, payload, port: *port as u8, clock: *clock, signature: *signature, hash: [0; 32], sha })
 }
 
 /// A refusal's number, 0 for none.

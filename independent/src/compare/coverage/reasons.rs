@@ -1,10 +1,10 @@
 //! Wish 10: the clauses of test 3 and the cases of test 6, and what they are told of.
 
+use super::packet_of;
 use crate::answer::{Clause, NoWay, Reason, Verdict};
-use crate::engine::{Call, PacketCall};
-use crate::limits::{CLOCK_LIMIT, LONGEST};
+use crate::engine::Call;
+use crate::limits::CLOCK_LIMIT;
 use crate::packet::announced::NAME_HASH;
-use crate::packet::{self, payload_place};
 use crate::relay::{by_path, form, Packet};
 use crate::rules::AsWritten;
 use crate::sha256::Sha256;
@@ -103,14 +103,6 @@ pub struct Reasons {
 }
 
 impl Reasons {
-    /// The packet of a call that is judged.
-    fn packet<'a>(&'a self, call: &'a Call) -> Option<Packet<'a>> {
-        let Call::Packet(PacketCall { packet: bytes, port, clock, signature, .. }) = call else { return None };
-        let parts = packet::read(&AsWritten, bytes, LONGEST).ok()?;
-        let payload = &bytes[payload_place(bytes)..];
-        Some(Packet { bytes, parts, payload, port: *port as u8, clock: *clock, signature: *signature, hash: [0; 32], sha: &self.sha })
-    }
-
     /// Whether the tables are lent from now on, and the expiries that a call finds.
     pub fn before(&mut self, call: &Call, tables: &[u8]) -> Vec<u64> {
         match call {
@@ -118,12 +110,12 @@ impl Reasons {
             Call::TakeBack | Call::Fresh(_) => self.lent = false,
             _ => {}
         }
-        let packet = self.packet(call).filter(|_| tables.len() == tables::SIZE);
+        let packet = packet_of(&self.sha, call).filter(|_| tables.len() == tables::SIZE);
         packet.map_or(Vec::new(), |packet| by_path::expiries(&packet, tables).collect())
     }
 
     pub fn count(&mut self, call: &Call, expiries: &[u64], verdict: Verdict) {
-        let Some(packet) = self.packet(call) else { return };
+        let Some(packet) = packet_of(&self.sha, call) else { return };
         let seen = Seen { packet: &packet, expiries, verdict };
         let reached: Vec<bool> = EDGES.iter().map(|(_, reaches)| reaches(&seen)).collect();
         for (times, reached) in self.edges.iter_mut().zip(reached) {

@@ -113,7 +113,7 @@ impl Scenes {
     /// Turns all ports off but one, so that announces by it are kept.
     fn leave_on(&mut self, tables: &mut [u8], port: u8) {
         for other in 0..PORT_COUNT as u64 {
-            self.run.engine.set_port(tables, other, other == u64::from(port), 0);
+            self.run.engine.set_port(tables, other, other == u64::from(port), 0, 500);
         }
     }
 }
@@ -209,7 +209,7 @@ pub fn small() -> Scene {
     let mut run = Run::new(relay);
     run.make(&Call::Fresh([0xaa; 16]));
     for port in 0..4 {
-        run.make(&Call::SetPort { port, on: true, mode: 0 });
+        run.make(&Call::SetPort { port, on: true, mode: 0, size: 500 });
     }
     run.make(&Call::AddLocal([9; 16]));
     let parts = |header: u8, destination| Parts { header: Header(header), hops: 1, relay: [0xaa; 16], destination, context: 0 };

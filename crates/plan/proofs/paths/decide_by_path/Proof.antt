@@ -77,13 +77,13 @@ returns-2 c =
     let (_, other, kind, proof) = s .pre in
     let why : Parts → Blocked = λ q. noPath (expiredPath (s .args .arrived .clock) (relayOf (t s)) (q .destination)) in
     ap (λ (b : Blocked). Drop (NoWayOn b)) (c .no-path .ensures ∙ ap why (c1 .before .before .parts-of .ensures))
-    ∙ path-nowhere (t s) (a s) other kind proof (two (c1 .before .before .before)) (found c1) (c .before .if2 .taken)
+    ∙ path-nowhere (t s) (a s) other kind proof (two (c1 .before .before .before)) (sized s) (found c1) (c .before .if2 .taken)
 
 is-data-requires : tie.Need-is-data-requires
 is-data-requires c κs = search needs
 
-send-requires : tie.Need-send-requires
-send-requires c κs = let c2 = c .before .before in (sized (s1 (c2 .before)) .size, c2 .if2 .left)
+leave-by-requires : tie.Need-leave-by-requires
+leave-by-requires c κs = let c2 = c .before .before in (sized (s1 (c2 .before)) .size, c2 .if2 .left)
 
 returns-3 : tie.Need-returns-3
 returns-3 c =
@@ -92,8 +92,8 @@ returns-3 c =
     let s = s1 c4 in
     let (_, other, kind, proof) = s .pre in
     let is = sym (c .before .before .is-data .ensures) ∙ c .before .if3 .taken in
-    c .send .ensures
-    ∙ data-at (t s) (a s) other kind proof (two (c4 .before .before .before)) (found c4) (c3 .if2 .left) is
+    c .leave-by .ensures
+    ∙ data-at (t s) (a s) other kind proof (two (c4 .before .before .before)) (sized s) (found c4) (c3 .if2 .left) is
 
 request-requires : tie.Need-request-requires
 request-requires c κs = let c2 = c .before .before in (sized (s1 (c2 .before)), c2 .if2 .left)
@@ -106,7 +106,7 @@ returns-4 c =
     let (_, other, kind, proof) = s .pre in
     let not-data = sym (c .before .before .is-data .ensures) ∙ c .before .if3 .left in
     c .request .ensures
-    ∙ request-at (t s) (a s) other kind proof (two (c4 .before .before .before)) (found c4) (c3 .if2 .left)
+    ∙ request-at (t s) (a s) other kind proof (two (c4 .before .before .before)) (sized s) (found c4) (c3 .if2 .left)
     not-data
 
 pub decide-by-path-spec : {M : Type 1} → statement M
@@ -121,7 +121,7 @@ decide-by-path-spec =
     no-path-requires
     returns-2
     is-data-requires
-    send-requires
+    leave-by-requires
     returns-3
     request-requires
     returns-4)

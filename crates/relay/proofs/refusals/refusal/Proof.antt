@@ -1,10 +1,12 @@
-use mathlib.Core.Path.{sym, _∙_}
+use Prim.Native.Nat.{ℕ}
+use mathlib.Core.Path.{sym, ap, _∙_}
 use borrow.Author.Tests.{not-true, not-false}
 use Rattle.tables.proofs.Whole.{formed}
 use Rattle.relay.proofs.RefusalLaws.{refused-7, refused-6, refused-4, refused-late, refused-before, refused-reading}
 use borrow.Author.Needs.{needs}
 use mathlib.Core.Bool.{true}
 use mathlib.Core.Path.{_≡_}
+use Rattle.packet.specs.Read.{readingRefusal}
 use Rattle.rules.specs.View.{portOn}
 use Rattle.tables.specs.Layout.{relayOf, wellFormed}
 use Rattle.relay.proofs.refusals.refusal.Statement.{statement}
@@ -52,16 +54,18 @@ returns-5 c =
     refused-before _ _ _ _ _ (well (c5 .before)) (c5 .if2 .left) (on c3) (c .before .before .if4 .left)
     (rw (← c .before .last-clock .ensures) (c .if5 .taken))
 
+port-size-requires : tie.Need-port-size-requires
+port-size-requires c κs = formed _ (sym (c .before .before .before .before .before .before .before .check .ensures) ∙ not-false _ (c .before .before .before .before .before .before .if1 .left)) .size
+
 reading-refusal-requires : tie.Need-reading-refusal-requires
 reading-refusal-requires c κs = search needs
 
 returns-6 : tie.Need-returns-6
 returns-6 c =
-    let c4 = c .before .before .before .before in
-    let c6 = c4 .before .before in
     c .reading-refusal .ensures
-    ∙ refused-reading _ _ _ _ _ (well (c6 .before)) (c6 .if2 .left) (on c4) (c .before .before .before .if4 .left)
-    (rw (← c .before .before .last-clock .ensures) (c .before .if5 .left))
+    ∙ ap (λ (size : ℕ). readingRefusal size (c .before .before .before .before .before .before .before .before .before .before .before .before .args .packet .now)) (c .before .port-size .ensures)
+    ∙ refused-reading _ _ _ _ _ (sym (c .before .before .before .before .before .before .before .before .before .check .ensures) ∙ not-false _ (c .before .before .before .before .before .before .before .before .if1 .left)) (c .before .before .before .before .before .before .before .if2 .left) (sym (c .before .before .before .before .before .before .port-on .ensures) ∙ not-false _ (c .before .before .before .before .before .if3 .left))
+    (c .before .before .before .before .if4 .left) (rw (← c .before .before .before .last-clock .ensures) (c .before .before .if5 .left))
 
 pub refusal-spec : {M : Type 1} → statement M
 refusal-spec =
@@ -75,5 +79,6 @@ refusal-spec =
     returns-4
     last-clock-requires
     returns-5
+    port-size-requires
     reading-refusal-requires
     returns-6)

@@ -1,5 +1,6 @@
 use Prim.Native.Nat.{_+_, _*_}
 use mathlib.Core.Path.{_∙_}
+use Rattle.octets.specs.BigEndian.{bigEndian}
 use Rattle.octets.specs.Choice.{_then_otherwise_}
 use Rattle.octets.proofs.Bytes.{known-bytes}
 use Rattle.octets.proofs.Part.{part-range}
@@ -11,7 +12,7 @@ use Rattle.renumbering.proofs.moved.settings_of.Statement.{statement}
 use Rattle.renumbering.proofs.moved.settings_of.Tie as tie
 
 returns : tie.Need-returns
-unfolding portBytes markOf _then_otherwise_
+unfolding portBytes markOf bigEndian _then_otherwise_
 returns c =
     settings-none (c .before .before .args .tables .now) (c .before .before .args .i) (c .if1 .taken)
 

@@ -1,5 +1,5 @@
 use native.Mathlib.Omega.{arith}
-use Rattle.saved.proofs.EditionLaws.{start-most, path-most}
+use Rattle.saved.proofs.EditionLaws.{start-most, port-most, path-most}
 use borrow.Author.Needs.{needs}
 use Rattle.saved.proofs.editions.back_place.Statement.{statement}
 use Rattle.saved.proofs.editions.back_place.Tie as tie
@@ -19,8 +19,9 @@ add-result : tie.Need-add-result
 add-result c =
     let a = c .before .before .args in
     let start = start-most (a .edition) in
+    let port = port-most (a .edition) in
     let most = path-most (a .edition) in
-    record { fits = omega (arith, c .path-width .ensures, c .before .paths-place .ensures, most, start) }
+    record { fits = omega (arith, c .path-width .ensures, c .before .paths-place .ensures, most, start, port) }
 
 returns : tie.Need-returns
 returns c = search needs

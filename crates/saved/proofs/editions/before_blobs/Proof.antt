@@ -1,3 +1,4 @@
+-- from edition 3 on, a path's record has all that stands there today
 use Prim.Native.Nat.{ℕ}
 use mathlib.Core.Path.{_≡_, refl, sym, ap}
 use Rattle.tables.specs.Fields.{pathBlobsAt}
@@ -7,7 +8,6 @@ use Rattle.saved.proofs.EditionLaws.{each-known}
 use Rattle.saved.proofs.editions.before_blobs.Statement.{statement}
 use Rattle.saved.proofs.editions.before_blobs.Tie as tie
 
--- from edition 3 on, a path's record has all that stands there today
 abbrev Later : ℕ → Type 0
 Later n = (n ≡ 1 → ⊥) → (n ≡ 2 → ⊥) → beforeBlobs (numbered n) ≡ pathBlobsAt
 
@@ -22,7 +22,7 @@ returns-3 c =
     let rest = c .match .rest in
     sym
     (each-known (c .before .args .edition) Later (c .before .pre)
-    (λ not _. absurd (not refl)) (λ _ not. absurd (not refl)) (λ _ _. refl) (λ _ _. refl) (rest .0 .1) (rest .1))
+    (λ not _. absurd (not refl)) (λ _ not. absurd (not refl)) (λ _ _. refl) (λ _ _. refl) (λ _ _. refl) (rest .0 .1) (rest .1))
 
 pub before-blobs-spec : {M : Type 1} → statement M
 before-blobs-spec = tie.close (tie.spec returns returns-2 returns-3)

@@ -21,7 +21,8 @@ cast-result c = search needs
 returns : tie.Need-returns
 returns c =
     let c1 = c .before in
-    sym (each-known (c1 .args .edition) Earlier (c1 .pre) (λ _. refl) (λ _. refl) (λ _. refl) (λ l. absurd (omega (arith, l))) (c .if1 .taken))
+    sym (each-known (c1 .args .edition) Earlier (c1 .pre) (λ _. refl) (λ _. refl) (λ _. refl) (λ l. absurd (omega (arith, l)))
+    (λ l. absurd (omega (arith, l))) (c .if1 .taken))
 
 cast-result-2 : tie.Need-cast-result-2
 cast-result-2 c = search needs
@@ -31,7 +32,7 @@ returns-2 c =
     let c1 = c .before in
     sym
     (each-known (c1 .args .edition) Later (c1 .pre)
-    (λ l. absurd (omega (arith, l))) (λ l. absurd (omega (arith, l))) (λ l. absurd (omega (arith, l))) (λ _. refl) (c .if1 .left))
+    (λ l. absurd (omega (arith, l))) (λ l. absurd (omega (arith, l))) (λ l. absurd (omega (arith, l))) (λ _. refl) (λ _. refl) (c .if1 .left))
 
 pub most-blobs-spec : {M : Type 1} → statement M
 most-blobs-spec = tie.close (tie.spec cast-result returns cast-result-2 returns-2)

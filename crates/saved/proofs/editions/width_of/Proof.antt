@@ -1,10 +1,9 @@
--- the next one
 use native.Mathlib.Omega.{arith}
-use Rattle.saved.proofs.EditionLaws.{path-most}
+use Rattle.saved.proofs.EditionLaws.{port-most, path-most}
 use Prim.Native.Nat.{ℕ, suc, _*_, _≤_, zero-le}
 use mathlib.Core.Path.{_≡_, sym, ap, _∙_}
 use Rattle.saved.specs.Editions.{numbered, held, editionAt, widthAt}
-use Rattle.saved.proofs.Widths.{width-start, width-paths}
+use Rattle.saved.proofs.Widths.{width-start, width-ports, width-paths}
 use borrow.Author.Needs.{needs}
 use Rattle.saved.proofs.editions.width_of.Statement.{statement}
 use Rattle.saved.proofs.editions.width_of.Tie as tie
@@ -15,11 +14,19 @@ above l ne = omega (arith, l, ne)
 start-width-requires : tie.Need-start-width-requires
 start-width-requires c κs = search needs
 
-path-width-requires : tie.Need-path-width-requires
-path-width-requires c κs = search needs
+port-width-requires : tie.Need-port-width-requires
+port-width-requires c κs = search needs
 
 mul-result : tie.Need-mul-result
 mul-result c =
+    let most = port-most (c .before .before .args .edition) in
+    record { fits = omega (arith, c .port-width .ensures, most) }
+
+path-width-requires : tie.Need-path-width-requires
+path-width-requires c κs = search needs
+
+mul-result-2 : tie.Need-mul-result-2
+mul-result-2 c =
     let most = path-most (c .before .before .args .edition) in
     record { fits = omega (arith, c .path-width .ensures, most) }
 
@@ -29,8 +36,9 @@ returns c =
     c .start-width .ensures ∙ sym (width-start e) ∙ ap (widthAt (held e)) (sym (c .before .match .keys1))
 
 returns-2 : tie.Need-returns-2
-unfolding widthAt
-returns-2 c = sym (ap (widthAt (editionAt (c .before .args .edition))) (c .match .keys2))
+returns-2 c =
+    let e = numbered (c .before .before .args .edition) in
+    ap (λ (w : ℕ). w * 16) (c .port-width .ensures) ∙ sym (width-ports e) ∙ ap (widthAt (held e)) (sym (c .before .match .keys2))
 
 returns-3 : tie.Need-returns-3
 unfolding widthAt
@@ -67,8 +75,10 @@ width-of-spec =
     tie.close
     (tie.spec
     start-width-requires
-    path-width-requires
+    port-width-requires
     mul-result
+    path-width-requires
+    mul-result-2
     returns
     returns-2
     returns-3

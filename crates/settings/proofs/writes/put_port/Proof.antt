@@ -1,11 +1,11 @@
 use Prim.Native.Nat.{ℕ, _+_, _*_}
+use native.Mathlib.Omega.{arith}
+use borrow.Author.Needs.{needs}
 use Rattle.codes.proofs.Pieces.{fields-written}
 use Rattle.tables.specs.Forms.{portForm}
 use Rattle.tables.specs.Places.{portWidth, portsAt}
 use Rattle.tables.specs.Records.{portBytes}
 use Rattle.rules.specs.Relay.{makePort}
-use native.Mathlib.Omega.{arith}
-use borrow.Author.Needs.{needs}
 use Rattle.settings.proofs.writes.put_port.Statement.{statement}
 use Rattle.settings.proofs.writes.put_port.Tie as tie
 
@@ -30,19 +30,22 @@ add-set-at-2 c = search needs
 set-at-requires-2 : tie.Need-set-at-requires-2
 set-at-requires-2 c κs = search needs
 
+add-write-number-at : tie.Need-add-write-number-at
+add-write-number-at c = search needs
+
+write-number-at-requires : tie.Need-write-number-at-requires
+write-number-at-requires c κs = search needs
+
 same-length : tie.Need-same-length
 same-length c = search needs
 
 returns : tie.Need-returns
 unfolding portBytes
 returns c =
-    let c6 = c .before .before .before .before .before .before in
-    let c7 = c6 .before in
-    let c10 = c7 .before .before .before in
-    let a = c10 .args in
+    let a = c .before .before .before .before .before .before .before .before .before .before .before .before .before .before .args in
     let at : ℕ = portsAt + portWidth * a .port in
-    rw (c .before .before .set-at2 .ensures, c6 .set-at .ensures, c7 .mark-of .ensures)
-    (fields-written portForm (makePort (a .on) (a .mode)) (a .tables .now) at (omega (arith, c10 .pre .0, c10 .pre .1)))
+    rw (c .before .before .write-number-at .ensures, c .before .before .before .before .before .before .set-at2 .ensures, c .before .before .before .before .before .before .before .before .before .before .set-at .ensures, c .before .before .before .before .before .before .before .before .before .before .before .mark-of .ensures)
+    (fields-written portForm (makePort (a .on) (a .mode) (a .size)) (a .tables .now) at (omega (arith, c .before .before .before .before .before .before .before .before .before .before .before .before .before .before .pre .0, c .before .before .before .before .before .before .before .before .before .before .before .before .before .before .pre .1)))
 
 pub put-port-spec : {M : Type 1} → statement M
 put-port-spec =
@@ -55,5 +58,7 @@ put-port-spec =
     set-at-requires
     add-set-at-2
     set-at-requires-2
+    add-write-number-at
+    write-number-at-requires
     same-length
     returns)
