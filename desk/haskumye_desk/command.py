@@ -3,7 +3,14 @@
 from __future__ import annotations
 
 import argparse
-from typing import Callable, NamedTuple, Tuple
+from typing import Any, Callable, Dict, NamedTuple, Tuple
+
+
+class Argument(NamedTuple):
+    """An argument, as a parser takes it."""
+
+    names: Tuple[str, ...]
+    settings: Dict[str, Any]
 
 
 class Example(NamedTuple):

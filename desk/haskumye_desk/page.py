@@ -5,6 +5,7 @@ from __future__ import annotations
 from typing import Iterator
 
 from .facts import Facts
+from .sentences import counted
 from .times import duration
 
 
@@ -42,7 +43,7 @@ def ports(facts: Facts) -> Iterator[str]:
 
 
 def hops(count: int) -> str:
-    return f"{count} hop" if count == 1 else f"{count} hops"
+    return counted(count, "hop")
 
 
 def expires(seconds: int) -> str:

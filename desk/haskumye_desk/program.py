@@ -7,50 +7,64 @@ import os
 import signal
 import sys
 import textwrap
-from typing import Optional, Sequence
+from typing import NoReturn, Optional, Sequence
 
 import haskumye
 
 from . import commands
-from .command import Command
-from .failure import Failure
+from .command import Argument, Command
+from .failure import WRONG_USE, Failure, wrong_use
+from .sentences import say
 
 NAME = "haskumye"
 ABOUT = "one command for a relay's files"
-STATUS = "Status: 0 done; 1 refused, by the library or for what a text says; 2 wrong use, or a file that can't be read or written."
+STATUS = "0 done; 1 refused, by the library or for what a text says; 2 wrong use, or a file that can't be read or written."
+WIDTH = 78  # of what is told on a terminal
 STOPPED = 128  # and the signal's number
 
 
-def usual_options(parser: argparse.ArgumentParser) -> None:
-    parser.add_argument("-h", "--help", action="help", help="tell this, and end")
+HELP = Argument(("-h", "--help"), {"action": "help", "help": "tell this, and end"})
+VERSION = Argument(
+    ("--version",),
+    {
+        "action": "version",
+        "version": f"interface {haskumye.VERSION}, tables of {haskumye.TABLE_SIZE} bytes",
+        "help": "tell the library's interface and its tables' size, and end",
+    },
+)
 
 
-def command_parser(parser: argparse.ArgumentParser, command: Command) -> argparse.ArgumentParser:
-    """The parser of a subcommand, filled in."""
-    usual_options(parser)
-    command.add_arguments(parser)
-    parser.set_defaults(run=command.run, command=command.name)
-    return parser
+class Parser(argparse.ArgumentParser):
+    """A parser that says in one line what is wrong."""
+
+    def error(self, message: str) -> NoReturn:
+        self.exit(WRONG_USE, f"{self.prog}: {message}; {self.prog} --help tells more\n")
 
 
 def make_parser() -> argparse.ArgumentParser:
-    parser = argparse.ArgumentParser(NAME, description=f"Haskumye's desk: {ABOUT}.", epilog=STATUS, add_help=False, allow_abbrev=False)
-    usual_options(parser)
-    version = f"interface {haskumye.VERSION}, tables of {haskumye.TABLE_SIZE} bytes"
-    parser.add_argument("--version", action="version", version=version, help="tell the library's interface and its tables' size, and end")
+    parser = Parser(NAME, description=f"Haskumye's desk: {ABOUT}.", epilog=f"status: {STATUS}", add_help=False, allow_abbrev=False)
+    for argument in (HELP, VERSION):
+        parser.add_argument(*argument.names, **argument.settings)
     places = parser.add_subparsers(title="commands", metavar="COMMAND", required=True)
     for command in commands.ALL:
         made = places.add_parser(
             command.name,
             help=command.summary,
-            description="\n\n".join(textwrap.fill(paragraph, 78) for paragraph in command.description),
-            epilog="\n".join(["examples:", *(f"  {example.line}\n      {example.purpose}" for example in command.examples), "", STATUS]),
+            description="\n\n".join(textwrap.fill(paragraph, WIDTH) for paragraph in command.description),
+            epilog=_epilog(command),
             formatter_class=argparse.RawDescriptionHelpFormatter,
             add_help=False,
             allow_abbrev=False,
         )
-        command_parser(made, command)
+        made.add_argument(*HELP.names, **HELP.settings)
+        command.add_arguments(made)
+        made.set_defaults(run=command.run, command=command.name)
     return parser
+
+
+def _epilog(command: Command) -> str:
+    examples = (f"  {example.line}\n      {example.purpose}" for example in command.examples)
+    return "\n".join(["examples:", *examples, "", textwrap.fill(f"status: {STATUS}", WIDTH)])
 
 
 def _stop(number: int, _frame: object) -> None:
@@ -63,20 +77,31 @@ def main(words: Optional[Sequence[str]] = None) -> int:
         signal.signal(number, _stop)
     options = make_parser().parse_args(words)
     try:
-        status = options.run(options)
-        sys.stdout.flush()
-        return status
-    except Failure as failure:
-        return _tell(options.command, failure)
+        return _run(options)
     except BrokenPipeError:  # whoever read the results has seen enough
-        os.dup2(os.open(os.devnull, os.O_WRONLY), sys.stdout.fileno())
+        _abandon_output()
         return STOPPED + signal.SIGPIPE
+    except OSError as error:
+        _abandon_output()
+        return _told(options, wrong_use(f"cannot write standard output: {error.strerror}"))
 
 
-def _tell(command: str, failure: Failure) -> int:
-    """The result on standard output, if there is one, and the sentence on standard error."""
-    if failure.result:
-        print(failure.result)
+def _run(options: argparse.Namespace) -> int:
+    try:
+        status = options.run(options)
+    except Failure as failure:
+        if failure.result:
+            print(failure.result)
+        status = _told(options, failure)
     sys.stdout.flush()
-    print(f"{NAME} {command}: {failure.sentence}", file=sys.stderr)
+    return status
+
+
+def _told(options: argparse.Namespace, failure: Failure) -> int:
+    say(f"{NAME} {options.command}: {failure.sentence}")
     return failure.status
+
+
+def _abandon_output() -> None:
+    """What could not be written is not tried again at the end."""
+    os.dup2(os.open(os.devnull, os.O_WRONLY), sys.stdout.fileno())

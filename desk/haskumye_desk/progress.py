@@ -6,6 +6,8 @@ import sys
 import time
 from typing import Callable, TextIO
 
+from .sentences import say
+
 PATIENCE = 2.0  # seconds without a word
 PAUSE = 0.2  # seconds between two
 
@@ -35,8 +37,7 @@ class Progress:
     def say(self, sentence: str) -> None:
         """A sentence that stays, with the line out of its way."""
         self._put("")
-        sys.stdout.flush()  # on one terminal the results before it come first
-        print(sentence, file=self._stream)
+        say(sentence)
 
     def _put(self, text: str) -> None:
         if text or self._width:

@@ -9,6 +9,7 @@ import haskumye
 from .. import files
 from ..command import Command, Example
 from ..failure import DONE, REFUSED, told_name
+from ..sentences import counted
 
 
 def add_arguments(parser: argparse.ArgumentParser) -> None:
@@ -22,7 +23,7 @@ def told(data: bytes) -> str:
         relay = haskumye.Relay.load(data)
         return f"saved tables, edition {heading.edition}, last clock {relay.last_clock}"
     haskumye.check_recording(data)
-    return f"recording, edition {heading.edition}, {haskumye.recording_count(data)} packets"
+    return f"recording, edition {heading.edition}, {counted(haskumye.recording_count(data), 'packet')}"
 
 
 def run(options: argparse.Namespace) -> int:

@@ -12,6 +12,7 @@ from .. import files
 from ..command import Command, Example
 from ..failure import DONE, REFUSED, Failure, refused_file, told_name, wrong_use
 from ..hexadecimal import packet_of
+from ..sentences import counted, say
 
 WORDS = {"0": False, "1": True}
 PORT_LIMIT = 256
@@ -31,11 +32,11 @@ def entry(line: str) -> haskumye.Recorded:
         raise ValueError("not as: clock port word hex")
     clock, port, word, text = words
     if not (clock.isascii() and clock.isdigit() and int(clock) < 1 << 64):
-        raise ValueError(f"{clock!r} is no clock")
+        raise ValueError(f"{clock!a} is no clock")
     if not (port.isascii() and port.isdigit() and int(port) < PORT_LIMIT):
-        raise ValueError(f"{port!r} is no port")
+        raise ValueError(f"{port!a} is no port")
     if word not in WORDS:
-        raise ValueError(f"{word!r} is no signature word: 0 or 1")
+        raise ValueError(f"{word!a} is no signature word: 0 or 1")
     return haskumye.Recorded(int(clock), int(port), WORDS[word], packet_of(text))
 
 
@@ -59,7 +60,7 @@ def run(options: argparse.Namespace) -> int:
         raise refused_file(options.lines, refused) from None
     files.write(options.output, data)
     if options.output != files.STANDARD:
-        print(f"wrote {options.output}: {len(recorded)} packets, {len(data)} bytes", file=sys.stderr)
+        say(f"wrote {options.output}: {counted(len(recorded), 'packet')}, {len(data)} bytes")
     return DONE
 
 

@@ -4,13 +4,13 @@ from __future__ import annotations
 
 import argparse
 import re
-import sys
 
 import haskumye
 
 from .. import files
 from ..command import Command, Example
 from ..failure import DONE, refused_file, wrong_use
+from ..sentences import say
 
 
 def port_map(text: str) -> dict[int, int]:
@@ -46,7 +46,7 @@ def run(options: argparse.Namespace) -> int:
     if output != files.STANDARD:
         print(output)
         changes = ", ".join(f"{old} is now {new}" for old, new in options.map.items())
-        print(f"wrote {output}: port {changes}", file=sys.stderr)
+        say(f"wrote {output}: port {changes}")
     return DONE
 
 

@@ -13,6 +13,7 @@ from ..command import Command, Example
 from ..failure import DONE
 from ..progress import Progress
 from ..replaying import Event, Recording, read_recordings, replay, sentence
+from ..sentences import counted
 
 
 def add_arguments(parser: argparse.ArgumentParser) -> None:
@@ -45,7 +46,7 @@ def _replayed(relay: haskumye.Relay, recordings: list[Recording]) -> Iterator[Ev
     with Progress("packets replayed", sum(recording.count for recording in recordings)) as progress:
         for recording in recordings:
             if len(recordings) > 1:
-                progress.say(f"{recording.name}: {recording.count} packets")
+                progress.say(f"{recording.name}: {counted(recording.count, 'packet')}")
             for event in replay(relay, recording):
                 yield event
                 done += 1

@@ -2,14 +2,14 @@
 
 from __future__ import annotations
 
-import importlib.util
 import io
 import sys
 from typing import TYPE_CHECKING, NamedTuple, Sequence
 
+from haskumye import Reason
+
 from ..failure import wrong_use
 from ..gathered import REFUSED, TAKEN, Fate, drop_fate
-from haskumye import Reason
 
 if TYPE_CHECKING:
     from matplotlib.axes import Axes
@@ -51,7 +51,7 @@ LOOKS: dict[Fate, Look] = {
     drop_fate(Reason.NOT_SIGNED): Look("#d55e00", "++++"),
     drop_fate(Reason.REPLAY): Look("#0072b2", "////"),
     drop_fate(Reason.NOT_BETTER): Look("#0072b2", "----"),
-    drop_fate(Reason.PORT_OFF): Look("#009e73", "----"),
+    drop_fate(Reason.PORT_OFF): Look("#009e73", "\\\\\\\\"),
     drop_fate(Reason.NO_ROOM): Look("#d55e00", "xxxx"),
     drop_fate(Reason.RATE_LIMITED): Look("#cc79a7", "\\\\\\\\"),
     drop_fate(Reason.TOO_LONG_FOR_PORT): Look("#009e73", "||||"),
@@ -60,11 +60,13 @@ LOOKS: dict[Fate, Look] = {
 
 def require() -> None:
     """Says what to install where matplotlib is missing."""
-    if importlib.util.find_spec("matplotlib") is None:
+    try:
+        import matplotlib  # noqa: F401
+    except ImportError:
         raise wrong_use(
             f"pictures need matplotlib, which {sys.executable} does not have: install python3-matplotlib (Debian) for the system's Python, "
             f"or run {sys.executable} -m pip install matplotlib"
-        )
+        ) from None
 
 
 def figure(height: float) -> Figure:

@@ -99,7 +99,7 @@ def put_key(picture: Figure, day: Day, height: float) -> None:
         loc="upper left",
         bbox_to_anchor=(LEFT - 0.01, 1 - 0.34 / height),
         borderaxespad=0,
-        ncols=COLUMNS,
+        ncol=COLUMNS,
         frameon=False,
         fontsize=8.5,
         handlelength=2.6,

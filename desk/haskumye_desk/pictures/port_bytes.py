@@ -34,5 +34,5 @@ def draw(told: PortBytes) -> Figure:
     plain(axes)
     put_title(picture, height, "Bytes by port" if ports else "No packet came in or went out")
     if ports:
-        picture.legend(loc="upper left", bbox_to_anchor=(0.08, 1 - 0.3 / height), ncols=2, frameon=False, handlelength=2.4)
+        picture.legend(loc="upper left", bbox_to_anchor=(0.08, 1 - 0.3 / height), ncol=2, frameon=False, handlelength=2.4)
     return picture
