@@ -40,6 +40,16 @@ def start(*words: object, replaced: str = "", **settings: object) -> subprocess.
     return subprocess.Popen([sys.executable, *program, *map(str, words)], cwd=FOLDER, **settings)
 
 
+def stopped(running: subprocess.Popen, number: int) -> int:
+    """Sends a signal until the program ends: one that comes just before Python waits in a read is seen only after it."""
+    while True:
+        running.send_signal(number)
+        try:
+            return running.wait(timeout=1)
+        except subprocess.TimeoutExpired:
+            pass
+
+
 def read_terminal(terminal: int) -> str:
     """All that comes out of a terminal until whoever writes to it has ended."""
     parts = []
@@ -95,8 +105,7 @@ class TestStopped(unittest.TestCase):
             with open(FOLDER / "pipe", "wb") as pipe:  # opens once the program reads it
                 pipe.write(b"\1")
                 pipe.flush()
-                running.send_signal(number)
-                self.assertEqual(running.wait(), 128 + number)
+                self.assertEqual(stopped(running, number), 128 + number)
             self.assertEqual(running.stderr.read(), b"")
             running.stderr.close()
         self.assertEqual(sorted(FOLDER.iterdir()), before)
