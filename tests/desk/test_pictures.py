@@ -80,8 +80,8 @@ class TestNumbers(unittest.TestCase):
         for first, last in ((0, 0), (59, 60), (1000, 87399), (0, (1 << 40) - 1), ((1 << 40) - 2, (1 << 40) - 1), (3599, 3600 * 48)):
             for least, most in ((1, gathered.DAY_BINS), (3600, gathered.HOUR_BINS)):
                 spans = bins([last, first], least, most)
-                self.assertTrue(spans.start % spans.width == 0 and spans.width >= least and 1 <= spans.count <= most)
-                self.assertEqual((spans.place(first), spans.place(last)), (0, spans.count - 1))
+                self.assertTrue(spans.start % spans.width == 0 and spans.width >= least and 1 <= spans.number <= most)
+                self.assertEqual((spans.place(first), spans.place(last)), (0, spans.number - 1))
                 self.assertLessEqual(len(clocks.ticks(spans)), clocks.MOST_TICKS + 1)
 
     def test_odd_days(self) -> None:

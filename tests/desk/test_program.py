@@ -50,6 +50,13 @@ def stopped(running: subprocess.Popen, number: int) -> int:
             pass
 
 
+def open_terminal() -> tuple[int, int]:
+    try:
+        return pty.openpty()
+    except OSError as error:
+        raise unittest.SkipTest(f"no terminal: {error}") from None
+
+
 def read_terminal(terminal: int) -> str:
     """All that comes out of a terminal until whoever writes to it has ended."""
     parts = []
@@ -85,7 +92,7 @@ class TestProgress(unittest.TestCase):
         self.assertEqual(self.shown(io.StringIO(), [PATIENCE + 0.1]), "")
 
     def test_in_the_program(self) -> None:
-        ours, theirs = pty.openpty()
+        ours, theirs = open_terminal()
         impatient = "import haskumye_desk.progress as progress; progress.PATIENCE = progress.PAUSE = 0.0"
         ended = start("replay", "desk.saved", "desk-1.recording", replaced=impatient, stdout=subprocess.DEVNULL, stderr=theirs)
         os.close(theirs)
@@ -141,7 +148,7 @@ class TestFiles(unittest.TestCase):
             self.assertEqual(len(list(folder.iterdir())), 3)
 
     def test_a_recording_is_not_for_a_terminal(self) -> None:
-        ours, theirs = pty.openpty()
+        ours, theirs = open_terminal()
         running = start("record", "/dev/null", stdout=theirs, stderr=subprocess.PIPE)
         os.close(theirs)
         self.assertIn(b"no text for a terminal", running.communicate()[1])
