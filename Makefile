@@ -31,7 +31,7 @@ show:
 replay:
 	@scripts/replay "$(TABLES)" "$(RECORDING)"
 
-## make install    header, library, pkg-config's file, Python module   a second; PREFIX=/usr/local, DESTDIR= for a package
+## make install    header, library, Python module, the desk            a second; PREFIX=/usr/local, DESTDIR= for a package
 install: lib
 	@scripts/install "$(DESTDIR)" "$(PREFIX)"
 
