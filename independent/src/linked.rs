@@ -3,8 +3,9 @@
 use crate::announcing::Own;
 use crate::answer::{Refusal, Tally};
 use crate::core::{self, crossing, PartsBytes, LINE};
-use crate::engine::{decoded, encoded, AnnounceCalls, AnswerCalls, Engine, Fields, Outcome, PacketCalls, RecordingCalls, SavedCalls};
+use crate::engine::{decoded, encoded, AnnounceCalls, AnswerCalls, Engine, Fields, Outcome, PacketCalls, RecordingCalls, SavedCalls, SurveyCalls};
 use crate::packet::{Address, Blob, PacketHash, Parts};
+use crate::programs::SurveyProgram;
 use crate::relay::asking::Question;
 use crate::relay::Arrival;
 use crate::tables::AnnounceRate;
@@ -183,5 +184,11 @@ impl AnnounceCalls for Core {
 
     fn build_announce(&self, own: &Own, signature: &[u8], room: &mut [u8]) -> u32 {
         core::build_announce(own, signature, room)
+    }
+}
+
+impl SurveyCalls for Core {
+    fn survey(&self, settings: &[u8], recordings: &[Vec<u8>]) -> String {
+        SurveyProgram::default().survey(settings, recordings)
     }
 }
