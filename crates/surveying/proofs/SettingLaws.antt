@@ -17,12 +17,13 @@ use Rattle.octets.proofs.Index.{and-left, and-right}
 use Rattle.octets.proofs.Choice.{then-true, then-false}
 use Rattle.octets.proofs.Part.{part-mid}
 use Rattle.octets.proofs.BigEndian.{bigEndian-length, number-bigEndian}
-use Rattle.numbers.specs.Numbers.{portCount, localCount}
+use Rattle.numbers.specs.Numbers.{portCount, isSize}
 use Rattle.rules.specs.Relay.{Port, noPort, Slot, empty, used, Relay}
-use Rattle.rules.specs.Refusals.{rateSettingsOk, tablesOk}
+use Rattle.rules.specs.Refusals.{portOk, rateSettingsOk, tableOk, tablesOk}
 use Rattle.rules.specs.Calls.{TableCall, sets-port, sets-rate, adds}
 use Rattle.rules.specs.Questions.{port-settings, rate-settings, local-at, Told, none, a-port, a-rate, an-address, toldOf, questionRule, questionRefusal}
 use Rattle.rules.specs.declared.RateSettings.{RateSettings}
+use Rattle.rules.proofs.Tables.{table-getD}
 use Rattle.tables.specs.Records.{markOf}
 use Rattle.tables.specs.Layout.{relayOf, wellFormed}
 use Rattle.tables.specs.Called.{callOn}
@@ -30,7 +31,7 @@ use Rattle.tables.specs.Asked.{tellOn, toldNumber, toldBytes, Tells}
 use Rattle.tables.proofs.Whole.{ok-relay}
 use Rattle.status.proofs.Asked.{asked}
 use Rattle.surveying.specs.Start.{portCall, rateCall, localCalls, settingCalls, tablesAfter}
-use Rattle.surveying.specs.Steps.{rateTold}
+use Rattle.surveying.specs.Steps.{sizeTold, rateTold}
 
 -- ---- calls one after another
 after-append : (cs ds : List TableCall) (t : List ℕ) → tablesAfter (cs ++ ds) t ≡ tablesAfter ds (tablesAfter cs t)
@@ -97,15 +98,32 @@ mark-told true = refl
 mark-told false = refl
 
 module _ (t : List ℕ) (h : wellFormed t ≡ true) where
+  abbrev port-there : ℕ → Port
+  port-there port = getD (relayOf t .ports) port noPort
+
+  size-small : (port : ℕ) → port-there port .size ≤ 500
+  unfolding tablesOk portOk isSize
+  size-small port =
+      let fine : tableOk portCount portOk (relayOf t .ports) ≡ true = and-left _ _ (and-right _ _ (and-right _ _ (ok-relay t h))) in
+      let sized : isSize (port-there port .size) ≡ true = and-right _ _ (table-getD portOk portCount (relayOf t .ports) fine port noPort refl) in
+      leb-true (port-there port .size) 500 (and-right _ _ sized)
+
   pub port-told-as : (port : ℕ) → port < portCount → (old told : List ℕ) → told ≡ toldBytes (tellOn t (port-settings port)) old
-      → sets-port port (eqb (getD told 0 0) 1) (getD told 1 0) ≡ portCall (relayOf t) port
-  unfolding portCall questionRefusal questionRule toldBytes
+      → sets-port port (eqb (getD told 0 0) 1) (getD told 1 0) (sizeTold told) ≡ portCall (relayOf t) port
+  unfolding portCall questionRefusal questionRule toldBytes sizeTold
   port-told-as port l old told q =
-      let p : Port = getD (relayOf t .ports) port noPort in
+      let p : Port = port-there port in
       let is : tellOn t (port-settings port) ≡ a-port p =
       asked t h (port-settings port) refl ∙ then-false none (a-port p) (lt-leb portCount port l) in
-      let bytes : told ≡ markOf (p .on) ∷ p .mode ∷ [] = q ∙ ap (λ (x : Told). toldBytes x old) is in
-      ap (λ (b : List ℕ). sets-port port (eqb (getD b 0 0) 1) (getD b 1 0)) bytes ∙ ap (λ (on : Bool). sets-port port on (p .mode)) (mark-told (p .on))
+      let z : List ℕ = bigEndian 2 (p .size) in
+      let bytes : told ≡ markOf (p .on) ∷ p .mode ∷ z = q ∙ ap (λ (x : Told). toldBytes x old) is in
+      let size : number (part (markOf (p .on) ∷ p .mode ∷ z) 2 2) ≡ p .size =
+      ap number
+      (ap (λ (b : List ℕ). part (markOf (p .on) ∷ p .mode ∷ b) 2 2) (sym (append-nil z))
+      ∙ part-mid (markOf (p .on) ∷ p .mode ∷ []) z [] 2 2 refl (bigEndian-length 2 (p .size)))
+      ∙ number-bigEndian 2 (p .size) (omega (arith, size-small port)) in
+      ap (λ (b : List ℕ). sets-port port (eqb (getD b 0 0) 1) (getD b 1 0) (number (part b 2 2))) bytes
+      ∙ λ i. sets-port port (mark-told (p .on) i) (p .mode) (size i)
 
   rate-fine : rateSettingsOk (relayOf t .rate) ≡ true
   unfolding tablesOk

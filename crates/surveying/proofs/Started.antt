@@ -13,7 +13,7 @@ use Rattle.octets.specs.Listed.{firstOf}
 use Rattle.octets.proofs.Choice.{or-left, or-else, same-eq}
 use Rattle.octets.proofs.Index.{and-left, and-right, and-both}
 use Rattle.octets.proofs.ListOf.{mixed, mixed-more, mixed-all}
-use Rattle.numbers.specs.Numbers.{portCount}
+use Rattle.numbers.specs.Numbers.{portCount, isSize}
 use Rattle.rules.specs.Relay.{Port, noPort, Slot, empty, used, Relay, fresh, withRate, withPorts, withLocals, holds}
 use Rattle.rules.specs.View.{isLocal}
 use Rattle.rules.specs.Refusals.{rateSettingsOk, portOk, slotOk, all, tableOk, tablesOk}
@@ -58,19 +58,21 @@ settled-ok : (cs : List TableCall) (s : Relay) → tablesOk s ≡ true → table
 settled-ok cs s ok = ap tablesOk (sym (as-calls cs s newTally)) ∙ stays-ok (map on-tables cs) s newTally ok
 
 -- ---- ports
-port-set : (s : Relay) → tablesOk s ≡ true → (i : ℕ) (p : Port) → i < 16 → p .mode < 3
-    → settle (sets-port i (p .on) (p .mode)) s .relay ≡ withPorts (set (s .ports) i p) s
+port-set : (s : Relay) → tablesOk s ≡ true → (i : ℕ) (p : Port) → i < 16 → p .mode < 3 → isSize (p .size) ≡ true
+    → settle (sets-port i (p .on) (p .mode) (p .size)) s .relay ≡ withPorts (set (s .ports) i p) s
 unfolding settle settled tableRefusal ruleOf firstOf _then_otherwise_ _or_
-port-set s ok i p l m = rw (ok, lt-leb 16 i l, lt-leb 3 (p .mode) m)
+port-set s ok i p l m z = rw (ok, lt-leb 16 i l, lt-leb 3 (p .mode) m, z)
 
 module _ (r : Relay) (ok : tablesOk r ≡ true) (own : List ℕ) where
   ports-fine : tableOk portCount portOk (r .ports) ≡ true
   unfolding tablesOk
   ports-fine = and-left _ _ (and-right _ _ (and-right _ _ ok))
 
-  mode-fine : (i : ℕ) → getD (r .ports) i noPort .mode < 3
-  unfolding portOk
-  mode-fine i = ltb-true _ 3 (table-getD portOk portCount (r .ports) ports-fine i noPort refl)
+  port-fine : (i : ℕ) → (getD (r .ports) i noPort .mode < 3) × (isSize (getD (r .ports) i noPort .size) ≡ true)
+  unfolding portOk isSize
+  port-fine i =
+      let fine = table-getD portOk portCount (r .ports) ports-fine i noPort refl in
+      (ltb-true _ 3 (and-left _ _ fine), and-right _ _ fine)
 
   old : List Port
   old = fresh own .ports
@@ -92,8 +94,8 @@ module _ (r : Relay) (ok : tablesOk r ≡ true) (own : List ℕ) where
       let fine : tablesOk (withPorts (mixed n (r .ports) old) (fresh own)) ≡ true =
       subst (λ (s : Relay). tablesOk s ≡ true) before (settled-ok (listOf (portCall r) n) (fresh own) (fresh-ok own)) in
       settled-append (listOf (portCall r) n) (portCall r n ∷ []) (fresh own)
-      ∙ ap (λ (s : Relay). settle (sets-port n (p .on) (p .mode)) s .relay) before
-      ∙ port-set (withPorts (mixed n (r .ports) old) (fresh own)) fine n p (omega arith) (mode-fine n)
+      ∙ ap (λ (s : Relay). settle (sets-port n (p .on) (p .mode) (p .size)) s .relay) before
+      ∙ port-set (withPorts (mixed n (r .ports) old) (fresh own)) fine n p (omega arith) (port-fine n .0) (port-fine n .1)
       ∙ ap (λ (ports : List Port). withPorts ports (fresh own))
       (mixed-more (r .ports) old alike n noPort (omega (arith, old-length)) ∙ ap (λ (k : ℕ). mixed k (r .ports) old) (add-one n))
 

@@ -13,11 +13,11 @@ use Rattle.tables.specs.Layout.{bytesOf}
 use Rattle.tables.specs.Called.{callOn}
 
 -- ---- the calls that set a fresh relay as another is set
--- a port: on or off, and its mode
+-- a port: on or off, its mode and its size
 unfoldable pub portCall : Relay → ℕ → TableCall
 portCall r i =
     let port : Port = getD (r .ports) i noPort in
-    sets-port i (port .on) (port .mode)
+    sets-port i (port .on) (port .mode) (port .size)
 
 -- the announce rate
 unfoldable pub rateCall : Relay → TableCall

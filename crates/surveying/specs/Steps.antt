@@ -5,7 +5,11 @@ use Rattle.octets.specs.Part.{part}
 use Rattle.octets.specs.BigEndian.{number}
 use Rattle.rules.specs.Relay.{makeRateSettings}
 use Rattle.rules.specs.declared.RateSettings.{RateSettings}
-use Rattle.tables.specs.Places.{settingWidth}
+use Rattle.tables.specs.Places.{settingWidth, sizeWidth}
+
+-- the size in the bytes that are told of a port, after on or off and the mode
+unfoldable pub sizeTold : List ℕ → ℕ
+sizeTold told = number (part told 2 sizeWidth)
 
 -- the settings of the announce rate in the bytes that are told
 unfoldable pub rateTold : List ℕ → RateSettings

@@ -18,10 +18,22 @@ ghost use Rattle.tables.specs.Layout.{relayOf, wellFormed};
 ghost use Rattle.tables.specs.Called.{callOn};
 ghost use Rattle.surveying.specs.Start.{portCall, rateCall, localCalls, settingCalls, tablesAfter};
 ghost use Rattle.surveying.specs.Promise.{startOn, Surveys};
-ghost use Rattle.surveying.specs.Steps.{rateTold};
+ghost use Rattle.surveying.specs.Steps.{sizeTold, rateTold};
 
 // The bytes of a number of the announce rate, as it is told.
 const SETTING_WIDTH: usize = 4;
+
+// A port's size as it is told: two bytes, after on or off and the mode.
+const SIZE_AT: usize = 2;
+
+const SIZE_WIDTH: usize = 2;
+
+// The size among a port's settings as they are told.
+fn size_in(told: [u8; 4]) -> u64
+    ensures { λ r. ⌜ r ≡ sizeTold told ⌝ }
+{
+    octets::number_at(&told, SIZE_AT, SIZE_WIDTH)
+}
 
 // Sets a port as another relay has it.
 fn set_port_as(from: &[u8], to: &mut [u8], port: usize)
@@ -29,9 +41,10 @@ fn set_port_as(from: &[u8], to: &mut [u8], port: usize)
     ensures { λ _. ⌜ now (to .exit)
         ≡ callOn (now (to .entry)) (portCall (relayOf (now (from .entry))) port) .tables ⌝ }
 {
-    let mut told = [0u8; 2];
+    let mut told = [0u8; 4];
     status::port_settings(from, port as u64, &mut told);
-    settings::set_port(to, port as u64, told[0] == 1, octets::wide(told[1]));
+    let size = size_in(told);
+    settings::set_port(to, port as u64, told[0] == 1, octets::wide(told[1]), size);
 }
 
 fn set_ports_as(from: &[u8], to: &mut [u8])
