@@ -22,13 +22,13 @@ use Rattle.rules.specs.declared.Answer.the-variants.{Refused, Judged}
 use Rattle.rules.specs.declared.Tally.{Tally}
 use Rattle.rules.proofs.Choices.{either}
 use Rattle.relay.specs.Promise.{JudgementOn}
+use Rattle.relay.proofs.LengthLaws.{lengths-on}
 use Rattle.recording.specs.Shape.{countOf}
 use Rattle.recording.specs.Format.{Entry}
 use Rattle.recording.specs.Reader.{fileRefusal, bodyOf, entryOf, entriesOf}
 use Rattle.recording.proofs.ReadLaws.{taken}
 use Rattle.replaying.specs.Promise.{entryCall, ReplayOn, goesOn, replayFrom}
 use Rattle.replaying.proofs.Replay.{replay-calls}
-use Rattle.demands.proofs.Lengths.{lengths-on}
 use Rattle.surveying.specs.Counts.{Answered, answeredAs, answered, sentBy, leavingBy, testOf, acceptedOn, packetsOn, bytesInOn, bytesOutBy, droppedOn, droppedBy, sumOver, testOrder}
 use Rattle.surveying.specs.Survey.{answersFrom}
 use Rattle.surveying.specs.Promise.{bytesInAt, bytesOutAt, droppedAt, testsAt, countedAt}
@@ -103,7 +103,7 @@ module _ (k : ℕ) (start f : List ℕ) where
       (replay-small k (entriesOf f) (entries-short f (t .short) (countOf f)) 1 start newTally) in
       omega (arith, all, listOf-length (entryOf f) (countOf f), t .short, t .shaped .whole)
 
-  pub refused-adds : (fileRefusal f ≡ 0 → ⊥) → sumOver (countedAt k) (answersFrom start f) ≡ 0
+  refused-adds : (fileRefusal f ≡ 0 → ⊥) → sumOver (countedAt k) (answersFrom start f) ≡ 0
   unfolding sumOver
   refused-adds some = ap (sumOver (countedAt k)) (refused-answers f start some)
 

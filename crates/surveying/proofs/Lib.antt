@@ -7,5 +7,6 @@ pub mod StartLaws
 pub mod BoundLaws
 pub mod ReadingLaws
 pub mod SurveyLaws
+pub mod RefusedLaws
 pub mod AddressLaws
 pub mod Started

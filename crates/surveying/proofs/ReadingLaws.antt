@@ -46,7 +46,7 @@ sum-answers q start (f ∷ files) =
     sum-append q (answersFrom start f) (answersOf start files) ∙ ap (λ (n : ℕ). sumOver q (answersFrom start f) + n) (sum-answers q start files)
 
 -- ---- what is read
-read-few : (files : List (List ℕ)) → length files ≤ 16 → readOf files ≡ files
+pub read-few : (files : List (List ℕ)) → length files ≤ 16 → readOf files ≡ files
 unfolding readOf
 read-few files l = take-all 16 files l
 

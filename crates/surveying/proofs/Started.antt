@@ -7,6 +7,7 @@ use mathlib.Core.List.{List, [], _∷_, _++_, map, map-append, append-assoc}
 use mathlib.Core.Path.{_≡_, refl, sym, ap, subst, _∙_}
 use lib.ListN.{length, getD, set, length-append, length-replicate}
 use borrow.Author.Tests.{ltb-true, lt-leb, eqb-true}
+use Rattle.octets.specs.Bytes.{Bytes}
 use Rattle.octets.specs.Index.{listOf}
 use Rattle.octets.specs.Choice.{_then_otherwise_, _or_, same}
 use Rattle.octets.specs.Listed.{firstOf}
@@ -18,19 +19,19 @@ use Rattle.rules.specs.Relay.{Port, noPort, Slot, empty, used, Relay, fresh, wi
 use Rattle.rules.specs.View.{isLocal}
 use Rattle.rules.specs.Refusals.{rateSettingsOk, portOk, slotOk, all, tableOk, tablesOk}
 use Rattle.rules.specs.Calls.{newTally, TableCall, sets-port, adds, ruleOf, tableRefusal, settled, settle}
-use Rattle.rules.specs.Run.{Call, on-tables, EachCall, ofSetting, perform, relayAfter}
-use Rattle.rules.specs.declared.Tally.{Tally}
-use Rattle.rules.proofs.Tables.{table-length, table-getD}
-use Rattle.rules.proofs.Valid.{stays-ok, fresh-ok}
-use Rattle.tables.specs.Places.{addressWidth}
+use Rattle.rules.specs.Run.{on-tables, ofSetting, perform}
+use Rattle.rules.proofs.Tables.{table-length, table-getD, all-set}
+use Rattle.rules.proofs.Held.{TableKeeps, table-held, table-kept}
+use Rattle.rules.proofs.Valid.{step-ok, fresh-ok}
+use Rattle.tables.specs.Places.{addressWidth, tableSize}
 use Rattle.tables.specs.Layout.{relayOf, bytesOf, wellFormed}
-use Rattle.tables.specs.Called.{callOn}
+use Rattle.tables.specs.Called.{written, called, callOn}
 use Rattle.tables.specs.Shape.{isBytes, shaped}
+use Rattle.tables.proofs.Shaped.{shape, Shaped, shaped-parts, shaped-from}
 use Rattle.tables.proofs.Whole.{back, ok-bytes}
-use Rattle.demands.specs.Given.{CallBytes, CallsBytes}
-use Rattle.demands.specs.Bytes.{ofCalled, performOn, tablesAfterOn}
-use Rattle.demands.proofs.Shape.{stays-shaped, fresh-shaped}
-use Rattle.demands.proofs.Demand2.{run-on}
+use Rattle.settings.proofs.Shaped.{fresh-shaped}
+use Rattle.saved.specs.Load.{loadRefusal, heldIn}
+use Rattle.saved.proofs.FormatLaws.{said-ok, said-shaped}
 use Rattle.surveying.specs.Start.{portCall, rateCall, localCalls, settingCalls, tablesAfter, startOf, StartsAs}
 use Rattle.surveying.proofs.AddressLaws.{any, any-append, or-assoc, or-false, local-any, packed, packed-length, packed-any, known-address, new-address}
 
@@ -44,18 +45,37 @@ unfolding settledBy
 settled-append [] ds s = refl
 settled-append (c ∷ cs) ds s = settled-append cs ds (settle c s .relay)
 
-as-calls : (cs : List TableCall) (s : Relay) (t : Tally) → relayAfter (map on-tables cs) s t ≡ settledBy cs s
-unfolding relayAfter perform ofSetting settledBy
-as-calls [] s t = refl
-as-calls (c ∷ cs) s t = as-calls cs (settle c s .relay) t
-
-on-bytes : (cs : List TableCall) (tables : List ℕ) (t : Tally) → tablesAfter cs tables ≡ tablesAfterOn (map on-tables cs) tables t
-unfolding tablesAfter tablesAfterOn performOn ofCalled
-on-bytes [] tables t = refl
-on-bytes (c ∷ cs) tables t = on-bytes cs (callOn tables c .tables) t
+step-fine : (c : TableCall) (s : Relay) → tablesOk s ≡ true → tablesOk (settle c s .relay) ≡ true
+unfolding perform ofSetting
+step-fine c s ok = step-ok (on-tables c) s newTally ok
 
 settled-ok : (cs : List TableCall) (s : Relay) → tablesOk s ≡ true → tablesOk (settledBy cs s) ≡ true
-settled-ok cs s ok = ap tablesOk (sym (as-calls cs s newTally)) ∙ stays-ok (map on-tables cs) s newTally ok
+unfolding settledBy
+settled-ok [] s ok = ok
+settled-ok (c ∷ cs) s ok = settled-ok cs (settle c s .relay) (step-fine c s ok)
+
+-- ---- the calls on the bytes, where each leaves what tables can hold
+abbrev Keep : List TableCall → Type 0
+Keep [] = Unit {0}
+Keep (c ∷ cs) = ((s : Relay) → Shaped s → TableKeeps shape s c) × Keep cs
+
+step-shaped : (c : TableCall) (s : Relay) → ((r : Relay) → Shaped r → TableKeeps shape r c) → shaped s ≡ true → shaped (settle c s .relay) ≡ true
+unfolding perform ofSetting
+step-shaped c s keeps h =
+    let parts : Shaped s = shaped-parts s h in
+    shaped-from (settle c s .relay) (table-kept Shaped parts c newTally (λ _. table-held parts c (keeps s parts)))
+
+call-bytes : (c : TableCall) (s : Relay) → shaped s ≡ true → tablesOk s ≡ true → callOn (bytesOf s) c .tables ≡ bytesOf (settle c s .relay)
+unfolding called written _then_otherwise_
+call-bytes c s h ok = rw (ok-bytes s h ok, back s h ok)
+
+on-bytes : (cs : List TableCall) → Keep cs → (s : Relay) → shaped s ≡ true → tablesOk s ≡ true
+    → (tablesAfter cs (bytesOf s) ≡ bytesOf (settledBy cs s)) × (shaped (settledBy cs s) ≡ true)
+unfolding tablesAfter settledBy
+on-bytes [] keep s h ok = (refl, h)
+on-bytes (c ∷ cs) keep s h ok =
+    let rest = on-bytes cs (keep .1) (settle c s .relay) (step-shaped c s (keep .0) h) (step-fine c s ok) in
+    (ap (tablesAfter cs) (call-bytes c s h ok) ∙ rest .0, rest .1)
 
 -- ---- ports
 port-set : (s : Relay) → tablesOk s ≡ true → (i : ℕ) (p : Port) → i < 16 → p .mode < 3 → isSize (p .size) ≡ true
@@ -188,37 +208,32 @@ adding (used x ∷ slots) s ok d is room =
     go true e known new = add-known s ok d is x slots (omega (arith, room)) e known
     go false e known new = add-new s ok d is x slots (omega (arith, room)) e (new e)
 
--- ---- the calls are given bytes
-each-append : (xs ys : List Call) → CallsBytes xs → CallsBytes ys → CallsBytes (xs ++ ys)
-unfolding EachCall
-each-append [] ys h k = k
-each-append (x ∷ xs) ys h k = (h .0, each-append xs ys (h .1) k)
+-- ---- the calls keep what tables can hold: the addresses that they add are some that tables held
+keep-append : (cs ds : List TableCall) → Keep cs → Keep ds → Keep (cs ++ ds)
+keep-append [] ds h k = k
+keep-append (c ∷ cs) ds h k = (h .0, keep-append cs ds (h .1) k)
 
-ports-given : (r : Relay) (n : ℕ) → CallsBytes (map on-tables (listOf (portCall r) n))
-unfolding EachCall CallBytes listOf portCall ruleOf all
-ports-given r zero = tt
-ports-given r (suc n) =
-    subst CallsBytes (sym (map-append on-tables (listOf (portCall r) n) (portCall r n ∷ [])))
-    (each-append (map on-tables (listOf (portCall r) n)) (on-tables (portCall r n) ∷ []) (ports-given r n) (refl, tt))
+ports-keep : (r : Relay) (n : ℕ) → Keep (listOf (portCall r) n)
+unfolding listOf portCall
+ports-keep r zero = tt
+ports-keep r (suc n) = keep-append (listOf (portCall r) n) (portCall r n ∷ []) (ports-keep r n) (λ s h. tt, tt)
 
-locals-given : (slots : List (Slot (List ℕ))) → all (slotOk (isBytes addressWidth)) slots ≡ true → CallsBytes (map on-tables (localCalls slots))
-unfolding EachCall CallBytes localCalls ruleOf all slotOk
-locals-given [] h = tt
-locals-given (empty ∷ slots) h = locals-given slots (and-right _ _ h)
-locals-given (used x ∷ slots) h = (and-both (and-left _ _ h) refl, locals-given slots (and-right _ _ h))
+locals-keep : (slots : List (Slot (List ℕ))) → all (slotOk (isBytes addressWidth)) slots ≡ true → Keep (localCalls slots)
+unfolding localCalls all slotOk
+locals-keep [] h = tt
+locals-keep (empty ∷ slots) h = locals-keep slots (and-right _ _ h)
+locals-keep (used x ∷ slots) h = (
+  λ s k. all-set (slotOk (isBytes addressWidth)) (s .locals) _ (used x) (k .locals) (and-left _ _ h),
+  locals-keep slots (and-right _ _ h),
+)
 
 -- ---- the start
 module _ (r : Relay) (s : shaped r ≡ true) (ok : tablesOk r ≡ true) where
-  own-given : isBytes addressWidth (r .own) ≡ true
-  unfolding shaped
-  own-given = and-left _ _ s
-
-  given : CallsBytes (map on-tables (settingCalls r))
-  unfolding settingCalls shaped EachCall CallBytes rateCall ruleOf all
-  given =
-      subst CallsBytes (sym (map-append on-tables (listOf (portCall r) portCount) (rateCall r ∷ localCalls (r .locals))))
-      (each-append (map on-tables (listOf (portCall r) portCount)) (map on-tables (rateCall r ∷ localCalls (r .locals)))
-      (ports-given r portCount) (refl, locals-given (r .locals) (and-left _ _ (and-right _ _ s))))
+  keep : Keep (settingCalls r)
+  unfolding settingCalls shaped rateCall
+  keep =
+      keep-append (listOf (portCall r) portCount) (rateCall r ∷ localCalls (r .locals)) (ports-keep r portCount)
+      (λ x h. tt, locals-keep (r .locals) (and-left _ _ (and-right _ _ s)))
 
   local-places : length (r .locals) ≡ 16
   unfolding tablesOk
@@ -259,19 +274,19 @@ module _ (r : Relay) (s : shaped r ≡ true) (ok : tablesOk r ≡ true) where
       ∙ ap (settledBy (localCalls (r .locals))) before-locals
       ∙ added .2
 
-  abbrev calls : List Call
-  calls = map on-tables (settingCalls r)
+  fresh-fits : shaped (fresh (r .own)) ≡ true
+  unfolding shaped
+  fresh-fits = fresh-shaped (r .own) (and-left _ _ s)
+
+  made : (startOf r ≡ bytesOf (settledBy (settingCalls r) (fresh (r .own)))) × (shaped (settledBy (settingCalls r) (fresh (r .own))) ≡ true)
+  unfolding startOf
+  made = on-bytes (settingCalls r) keep (fresh (r .own)) fresh-fits (fresh-ok (r .own))
+
+  made-ok : tablesOk (settledBy (settingCalls r) (fresh (r .own))) ≡ true
+  made-ok = settled-ok (settingCalls r) (fresh (r .own)) (fresh-ok (r .own))
 
   start-relay : relayOf (startOf r) ≡ withLocals (packed (added .0)) set-up
-  unfolding startOf
-  start-relay =
-      let f : Relay = fresh (r .own) in
-      let last : Relay = relayAfter calls f newTally in
-      ap relayOf
-      (on-bytes (settingCalls r) (bytesOf f) newTally ∙ run-on calls f newTally given (fresh-ok (r .own)) (fresh-shaped (r .own) own-given) .tables)
-      ∙ back last (stays-shaped calls f newTally given (fresh-ok (r .own)) (fresh-shaped (r .own) own-given)) (stays-ok calls f newTally (fresh-ok (r .own)))
-      ∙ as-calls (settingCalls r) f newTally
-      ∙ by-rules
+  start-relay = ap relayOf (made .0) ∙ back (settledBy (settingCalls r) (fresh (r .own))) (made .1) made-ok ∙ by-rules
 
   same-locals : (a : List ℕ) → isLocal (withLocals (packed (added .0)) set-up) a ≡ isLocal r a
   unfolding withLocals any _or_
@@ -299,10 +314,8 @@ module _ (r : Relay) (s : shaped r ≡ true) (ok : tablesOk r ≡ true) where
 
   -- refusal 7 never names them
   pub start-formed : wellFormed (startOf r) ≡ true
-  unfolding startOf
-  start-formed =
-      let f : Relay = fresh (r .own) in
-      ap wellFormed
-      (on-bytes (settingCalls r) (bytesOf f) newTally ∙ run-on calls f newTally given (fresh-ok (r .own)) (fresh-shaped (r .own) own-given) .tables)
-      ∙ ok-bytes (relayAfter calls f newTally) (stays-shaped calls f newTally given (fresh-ok (r .own)) (fresh-shaped (r .own) own-given))
-      (stays-ok calls f newTally (fresh-ok (r .own)))
+  start-formed = ap wellFormed (made .0) ∙ ok-bytes (settledBy (settingCalls r) (fresh (r .own))) (made .1) made-ok
+
+-- ---- the start by a settings file that isn't refused
+pub starts-as-saved : (file : List ℕ) → Bytes file → loadRefusal file tableSize ≡ 0 → StartsAs (heldIn file .0) (relayOf (startOf (heldIn file .0)))
+starts-as-saved file b none = starts-as (heldIn file .0) (said-shaped file b none) (said-ok file b none)

@@ -8,7 +8,7 @@ use Rattle.octets.specs.Choice.{_then_otherwise_}
 use Rattle.octets.specs.Index.{_and_}
 use Rattle.rules.specs.Answers.{inSet}
 use Rattle.rules.specs.declared.Blocked.the-variants.{OnlyExpired}
-use Rattle.rules.specs.declared.Reason.the-variants.{Duplicate, NoWayOn}
+use Rattle.rules.specs.declared.Reason.the-variants.{Duplicate, NoWayOn, TooLongForPort}
 use Rattle.rules.specs.declared.Verdict.the-variants.{Drop, Deliver, Forward, Spread, Kept}
 use Rattle.rules.specs.declared.Answer.{Answer}
 use Rattle.rules.specs.declared.Answer.the-variants.{Refused, Judged}
@@ -39,7 +39,8 @@ unfolding digit numeralWithin numeral spaced wordsLine joined fractionWord share
 lines = refl
 
 -- ---- answers: by port 3 come a packet of 100 bytes that leaves by 4, one of 50 that is dropped as a duplicate, one of 60 that is refused, and one of 70 that is
--- delivered; by port 4 an announce of 167 that is spread to 1 and 5 with 183, and one of 35 that finds only an expired path
+-- delivered; by port 4 an announce of 167 that is spread to 1 and 5 with 183, one of 35 that finds only an expired path, and one of 90 that is too long for the
+-- port to leave by
 abbrev came : ℕ → ℕ → Answer → Answered
 came port size answer = record { port = port; size = size; answer = answer }
 
@@ -50,14 +51,15 @@ day =
     came 3 60 (Refused 5) ∷
     came 3 70 (Judged Deliver) ∷
     came 4 167 (Judged (Spread 34 183)) ∷
-    came 4 35 (Judged (Drop (NoWayOn (OnlyExpired 22600)))) ∷ []
+    came 4 35 (Judged (Drop (NoWayOn (OnlyExpired 22600)))) ∷
+    came 4 90 (Judged (Drop TooLongForPort)) ∷ []
 
--- packets, bytes in and dropped of ports 3 and 4; bytes out by 1, 3, 4 and 5; drops by tests 2, 3 and 6
+-- packets, bytes in and dropped of ports 3 and 4; bytes out by 1, 3, 4 and 5; drops by tests 2, 3, 6 and 16
 pub counted : _≡_ {A = List ℕ}
     (sumOver (packetsOn 3) day ∷ sumOver (bytesInOn 3) day ∷ sumOver (droppedOn 3) day ∷
     sumOver (packetsOn 4) day ∷ sumOver (bytesInOn 4) day ∷ sumOver (droppedOn 4) day ∷
     sumOver (bytesOutBy 1) day ∷ sumOver (bytesOutBy 3) day ∷ sumOver (bytesOutBy 4) day ∷ sumOver (bytesOutBy 5) day ∷
-    sumOver (droppedBy 2) day ∷ sumOver (droppedBy 3) day ∷ sumOver (droppedBy 6) day ∷ [])
-    (3 ∷ 220 ∷ 1 ∷ 2 ∷ 202 ∷ 1 ∷ 183 ∷ 0 ∷ 100 ∷ 183 ∷ 1 ∷ 0 ∷ 1 ∷ [])
+    sumOver (droppedBy 2) day ∷ sumOver (droppedBy 3) day ∷ sumOver (droppedBy 6) day ∷ sumOver (droppedBy 16) day ∷ [])
+    (3 ∷ 220 ∷ 1 ∷ 3 ∷ 292 ∷ 2 ∷ 183 ∷ 0 ∷ 100 ∷ 183 ∷ 1 ∷ 0 ∷ 1 ∷ 1 ∷ [])
 unfolding isAccepted sentBy leavingBy verdictTest testOf acceptedOn packetsOn bytesInOn bytesOutBy droppedOn droppedBy sumOver inSet _then_otherwise_ _and_
 counted = refl

@@ -15,6 +15,9 @@ use Rattle.status.proofs.port_settings.Reads as port-settings-reads
 port-settings-requires : tie.Need-port-settings-requires
 port-settings-requires c κs = search needs
 
+size-in-requires : tie.Need-size-in-requires
+size-in-requires c κs = search needs
+
 array-read-set-port : tie.Need-array-read-set-port
 array-read-set-port c = search needs
 
@@ -41,6 +44,7 @@ set-port-as-spec =
     tie.close
     (tie.spec
     port-settings-requires
+    size-in-requires
     array-read-set-port
     array-read-wide
     wide-requires
