@@ -3,14 +3,19 @@ use Prim.Native.Nat.{ℕ, _+_, _≤_, _<_}
 use native.Mathlib.Nat.{zero-add}
 use native.Mathlib.Omega.{arith}
 use mathlib.Core.List.{List, [], _∷_, _++_}
-use mathlib.Core.Path.{_≡_, refl, sym, ap, _∙_}
+use mathlib.Core.Path.{_≡_, refl, sym, ap, fun-ext, _∙_}
+use lib.Dec.{eqb}
 use lib.ListN.{length, length-append}
 use lib.Seq.{take-all, take-append-le}
 use borrow.Author.Tests.{lt-ltb}
+use Rattle.octets.specs.Choice.{_then_otherwise_}
 use Rattle.octets.proofs.Choice.{then-true}
+use Rattle.tables.specs.Places.{tableSize}
 use Rattle.recording.specs.Reader.{fileRefusal}
-use Rattle.surveying.specs.Counts.{Answered, sumOver}
-use Rattle.surveying.specs.Lines.{recordingLine}
+use Rattle.saved.specs.Load.{loadRefusal, heldIn}
+use Rattle.surveying.specs.Counts.{Answered, packetsOn, bytesInOn, bytesOutBy, droppedOn, droppedBy, sumOver}
+use Rattle.surveying.specs.Start.{startOf}
+use Rattle.surveying.specs.Lines.{settingsLine, recordingLine, reasonLine}
 use Rattle.surveying.specs.Survey.{readOf, answersFrom, total, lastLine, portTotals, testTotal, surveyText, survey}
 use Rattle.surveying.proofs.ReplayLaws.{refused-answers}
 use Rattle.surveying.proofs.ReadingLaws.{read-few}
@@ -46,7 +51,28 @@ module _ (files : List (List ℕ)) (sixteen : length files ≡ 16) where
     unfolding lastLine
     late-line = then-true _ _ (lt-ltb 16 (length (files ++ (f ∷ more))) (omega (arith, length-append files (f ∷ more), sixteen)))
 
-  -- so neither what it holds nor what comes after it is in the text
-  pub late-unread : (settings f g : List ℕ) (more others : List (List ℕ)) → survey settings (files ++ (f ∷ more)) ≡ survey settings (files ++ (g ∷ others))
-  unfolding survey surveyText portTotals testTotal total
-  late-unread settings f g more others = simp (late-read f more, late-read g others, late-line f more, late-line g others)
+-- so neither what it holds nor what comes after it is in the text
+module _ (fs gs : List (List ℕ)) (read : readOf fs ≡ readOf gs) (last : lastLine fs ≡ lastLine gs) (start : List ℕ) where
+  same-total : (quantity : Answered → ℕ) → total quantity start fs ≡ total quantity start gs
+  unfolding total
+  same-total quantity = ap (sumOver (λ (f : List ℕ). sumOver quantity (answersFrom start f))) read
+
+  same-port : (port : ℕ) → portTotals start fs port ≡ portTotals start gs port
+  unfolding portTotals
+  same-port port = rw (same-total (packetsOn port), same-total (bytesInOn port), same-total (bytesOutBy port), same-total (droppedOn port))
+
+  same-test : (test : ℕ) → testTotal start fs test ≡ testTotal start gs test
+  unfolding testTotal
+  same-test test = ap (reasonLine test) (same-total (droppedBy test))
+
+  same-text : surveyText start fs ≡ surveyText start gs
+  unfolding surveyText
+  same-text = rw (read, last, fun-ext same-port, fun-ext same-test)
+
+pub late-unread : (settings f g : List ℕ) (files more others : List (List ℕ)) → length files ≡ 16
+    → survey settings (files ++ (f ∷ more)) ≡ survey settings (files ++ (g ∷ others))
+unfolding survey
+late-unread settings f g files more others sixteen =
+    ap (λ (text : List ℕ). eqb (loadRefusal settings tableSize) 0 then text otherwise settingsLine (loadRefusal settings tableSize))
+    (same-text (files ++ (f ∷ more)) (files ++ (g ∷ others)) (late-read files sixteen f more ∙ sym (late-read files sixteen g others))
+    (late-line files sixteen f more ∙ sym (late-line files sixteen g others)) (startOf (heldIn settings .0)))

@@ -19,10 +19,11 @@ use Rattle.octets.proofs.Part.{part-mid}
 use Rattle.octets.proofs.BigEndian.{bigEndian-length, number-bigEndian}
 use Rattle.numbers.specs.Numbers.{portCount, isSize}
 use Rattle.rules.specs.Relay.{Port, noPort, Slot, empty, used, Relay}
-use Rattle.rules.specs.Refusals.{portOk, rateSettingsOk, tableOk, tablesOk}
+use Rattle.rules.specs.Refusals.{portOk, rateSettingsOk, tablesOk}
 use Rattle.rules.specs.Calls.{TableCall, sets-port, sets-rate, adds}
 use Rattle.rules.specs.Questions.{port-settings, rate-settings, local-at, Told, none, a-port, a-rate, an-address, toldOf, questionRule, questionRefusal}
 use Rattle.rules.specs.declared.RateSettings.{RateSettings}
+use Rattle.rules.proofs.Accepted.{no-port-ok}
 use Rattle.rules.proofs.Tables.{table-getD}
 use Rattle.tables.specs.Records.{markOf}
 use Rattle.tables.specs.Layout.{relayOf, wellFormed}
@@ -97,16 +98,18 @@ unfolding markOf _then_otherwise_
 mark-told true = refl
 mark-told false = refl
 
+-- a port's mode and size are in range, whichever its number
+pub port-fine : (r : Relay) → tablesOk r ≡ true → (i : ℕ) → portOk (getD (r .ports) i noPort) ≡ true
+unfolding tablesOk
+port-fine r ok i = table-getD portOk portCount (r .ports) (and-left _ _ (and-right _ _ (and-right _ _ ok))) i noPort no-port-ok
+
 module _ (t : List ℕ) (h : wellFormed t ≡ true) where
   abbrev port-there : ℕ → Port
   port-there port = getD (relayOf t .ports) port noPort
 
   size-small : (port : ℕ) → port-there port .size ≤ 500
-  unfolding tablesOk portOk isSize
-  size-small port =
-      let fine : tableOk portCount portOk (relayOf t .ports) ≡ true = and-left _ _ (and-right _ _ (and-right _ _ (ok-relay t h))) in
-      let sized : isSize (port-there port .size) ≡ true = and-right _ _ (table-getD portOk portCount (relayOf t .ports) fine port noPort refl) in
-      leb-true (port-there port .size) 500 (and-right _ _ sized)
+  unfolding portOk isSize
+  size-small port = leb-true (port-there port .size) 500 (and-right _ _ (and-right _ _ (port-fine (relayOf t) (ok-relay t h) port)))
 
   pub port-told-as : (port : ℕ) → port < portCount → (old told : List ℕ) → told ≡ toldBytes (tellOn t (port-settings port)) old
       → sets-port port (eqb (getD told 0 0) 1) (getD told 1 0) (sizeTold told) ≡ portCall (relayOf t) port

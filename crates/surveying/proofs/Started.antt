@@ -15,12 +15,12 @@ use Rattle.octets.proofs.Choice.{or-left, or-else, same-eq}
 use Rattle.octets.proofs.Index.{and-left, and-right, and-both}
 use Rattle.octets.proofs.ListOf.{mixed, mixed-more, mixed-all}
 use Rattle.numbers.specs.Numbers.{portCount, isSize}
-use Rattle.rules.specs.Relay.{Port, noPort, Slot, empty, used, Relay, fresh, withRate, withPorts, withLocals, holds}
+use Rattle.rules.specs.Relay.{Port, freshPort, noPort, Slot, empty, used, Relay, fresh, withRate, withPorts, withLocals, holds}
 use Rattle.rules.specs.View.{isLocal}
 use Rattle.rules.specs.Refusals.{rateSettingsOk, portOk, slotOk, all, tableOk, tablesOk}
 use Rattle.rules.specs.Calls.{newTally, TableCall, sets-port, adds, ruleOf, tableRefusal, settled, settle}
 use Rattle.rules.specs.Run.{on-tables, ofSetting, perform}
-use Rattle.rules.proofs.Tables.{table-length, table-getD, all-set}
+use Rattle.rules.proofs.Tables.{table-length, all-set}
 use Rattle.rules.proofs.Held.{TableKeeps, table-held, table-kept}
 use Rattle.rules.proofs.Valid.{step-ok, fresh-ok}
 use Rattle.tables.specs.Places.{addressWidth, tableSize}
@@ -33,6 +33,7 @@ use Rattle.settings.proofs.Shaped.{fresh-shaped}
 use Rattle.saved.specs.Load.{loadRefusal, heldIn}
 use Rattle.saved.proofs.FormatLaws.{said-ok, said-shaped}
 use Rattle.surveying.specs.Start.{portCall, rateCall, localCalls, settingCalls, tablesAfter, startOf, StartsAs}
+use Rattle.surveying.proofs.SettingLaws.{port-fine}
 use Rattle.surveying.proofs.AddressLaws.{any, any-append, or-assoc, or-false, local-any, packed, packed-length, packed-any, known-address, new-address}
 
 -- ---- the calls by the rules, one after another
@@ -88,22 +89,20 @@ module _ (r : Relay) (ok : tablesOk r ≡ true) (own : List ℕ) where
   unfolding tablesOk
   ports-fine = and-left _ _ (and-right _ _ (and-right _ _ ok))
 
-  port-fine : (i : ℕ) → (getD (r .ports) i noPort .mode < 3) × (isSize (getD (r .ports) i noPort .size) ≡ true)
-  unfolding portOk isSize
-  port-fine i =
-      let fine = table-getD portOk portCount (r .ports) ports-fine i noPort refl in
-      (ltb-true _ 3 (and-left _ _ fine), and-right _ _ fine)
+  set-fine : (i : ℕ) → (getD (r .ports) i noPort .mode < 3) × (isSize (getD (r .ports) i noPort .size) ≡ true)
+  unfolding portOk
+  set-fine i = (ltb-true _ 3 (and-left _ _ (port-fine r ok i)), and-right _ _ (port-fine r ok i))
 
   old : List Port
   old = fresh own .ports
 
   alike : length (r .ports) ≡ length old
   unfolding old fresh
-  alike = table-length portOk portCount (r .ports) ports-fine ∙ sym (length-replicate {A = Port} 16 _)
+  alike = table-length portOk portCount (r .ports) ports-fine ∙ sym (length-replicate {A = Port} 16 freshPort)
 
   old-length : length old ≡ 16
   unfolding old fresh
-  old-length = length-replicate {A = Port} 16 _
+  old-length = length-replicate {A = Port} 16 freshPort
 
   ports-set : (n : ℕ) → n ≤ 16 → settledBy (listOf (portCall r) n) (fresh own) ≡ withPorts (mixed n (r .ports) old) (fresh own)
   unfolding settledBy listOf portCall withPorts old
@@ -115,7 +114,7 @@ module _ (r : Relay) (ok : tablesOk r ≡ true) (own : List ℕ) where
       subst (λ (s : Relay). tablesOk s ≡ true) before (settled-ok (listOf (portCall r) n) (fresh own) (fresh-ok own)) in
       settled-append (listOf (portCall r) n) (portCall r n ∷ []) (fresh own)
       ∙ ap (λ (s : Relay). settle (sets-port n (p .on) (p .mode) (p .size)) s .relay) before
-      ∙ port-set (withPorts (mixed n (r .ports) old) (fresh own)) fine n p (omega arith) (port-fine n .0) (port-fine n .1)
+      ∙ port-set (withPorts (mixed n (r .ports) old) (fresh own)) fine n p (omega arith) (set-fine n .0) (set-fine n .1)
       ∙ ap (λ (ports : List Port). withPorts ports (fresh own))
       (mixed-more (r .ports) old alike n noPort (omega (arith, old-length)) ∙ ap (λ (k : ℕ). mixed k (r .ports) old) (add-one n))
 

@@ -80,7 +80,7 @@ pub fn add_recording(
         r (now (start .entry)) (now (work .exit)) (now (counts .exit)) (now (refusals .exit)) ⌝ }
 {
     let read = refusals[0];
-    if read as usize >= RECORDING_LIMIT {
+    if read >= RECORDING_LIMIT as u8 {
         refusals[RECORDING_LIMIT + 1] = ONE_TOO_MANY;
         return ONE_TOO_MANY;
     }

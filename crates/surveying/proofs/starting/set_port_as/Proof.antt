@@ -35,9 +35,10 @@ same-length c = search needs
 
 returns : tie.Need-returns
 returns c =
-    let a = c .before .before .before .before .before .before .before .before .before .args in
-    (rw (c .before .before .before .wide .ensures) at (c .before .before .set-port .ensures .1))
-    ∙ ap (λ (k : TableCall). callOn (a .to .now) k .tables) (port-told-as (a .from .now) (c .before .before .before .before .before .before .before .before .before .pre .0) (a .port) (c .before .before .before .before .before .before .before .before .before .pre .1) _ _ (c .before .before .before .before .before .port-settings .ensures .1))
+    let a = c .before .before .before .before .before .before .before .before .before .before .args in
+    (rw (c .before .before .before .wide .ensures, c .before .before .before .before .before .size-in .ensures) at (c .before .before .set-port .ensures .1))
+    ∙ ap (λ (k : TableCall). callOn (a .to .now) k .tables)
+    (port-told-as (a .from .now) (c .before .before .before .before .before .before .before .before .before .before .pre .0) (a .port) (c .before .before .before .before .before .before .before .before .before .before .pre .1) _ _ (c .before .before .before .before .before .before .port-settings .ensures .1))
 
 pub set-port-as-spec : {M : Type 1} → statement M
 set-port-as-spec =
