@@ -1,0 +1,33 @@
+use mathlib.Core.Path.{_∙_}
+use Rattle.surveying.proofs.SettingLaws.{local-there, local-missing}
+use native.Mathlib.Omega.{arith}
+use borrow.Author.Needs.{needs}
+use Rattle.surveying.proofs.starting.add_local_of.Statement.{statement}
+use Rattle.surveying.proofs.starting.add_local_of.Tie as tie
+use Rattle.surveying.proofs.starting.add_local_of.Reads as reads
+use Rattle.surveying.proofs.starting.add_local_of.Lts as lts
+use Rattle.settings.proofs.add_local.Reads as add-local-reads
+use Rattle.status.proofs.local_at.Reads as local-at-reads
+
+local-at-requires : tie.Need-local-at-requires
+local-at-requires c κs = search needs
+
+add-local-requires : tie.Need-add-local-requires
+add-local-requires c κs = search needs
+
+same-length : tie.Need-same-length
+same-length c = search needs
+
+returns : tie.Need-returns
+returns c =
+    let a = c .before .before .before .before .before .before .before .before .before .args in
+    c .before .before .add-local .ensures .1 ∙ local-there (a .from .now) (c .before .before .before .before .before .before .before .before .before .pre .0) (a .place) _ _ _ (a .to .now) (c .before .before .before .before .before .local-at .ensures) (c .before .before .before .before .if1 .taken)
+
+returns-2 : tie.Need-returns-2
+returns-2 c =
+    let a = c .before .before .before .before .before .args in
+    local-missing (a .from .now) (c .before .before .before .before .before .pre .0) (a .place) _ _ _ (a .to .now) (c .before .local-at .ensures) (c .if1 .left)
+
+pub add-local-of-spec : {M : Type 1} → statement M
+add-local-of-spec =
+    tie.close (tie.spec local-at-requires add-local-requires same-length returns returns-2)

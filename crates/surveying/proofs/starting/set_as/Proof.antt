@@ -1,0 +1,38 @@
+use Rattle.tables.specs.Layout.{relayOf}
+use Rattle.surveying.proofs.SettingLaws.{all-set}
+use native.Mathlib.Omega.{arith}
+use borrow.Author.Needs.{needs}
+use Rattle.surveying.proofs.starting.set_as.Statement.{statement}
+use Rattle.surveying.proofs.starting.set_as.Tie as tie
+use Rattle.surveying.proofs.starting.set_as.Reads as reads
+use Rattle.surveying.proofs.starting.set_as.Lts as lts
+use Rattle.surveying.proofs.starting.add_locals_of.Reads as add-locals-of-reads
+use Rattle.surveying.proofs.starting.set_ports_as.Reads as set-ports-as-reads
+use Rattle.surveying.proofs.starting.set_rate_as.Reads as set-rate-as-reads
+
+set-ports-as-requires : tie.Need-set-ports-as-requires
+set-ports-as-requires c κs = search needs
+
+set-rate-as-requires : tie.Need-set-rate-as-requires
+set-rate-as-requires c κs = search needs
+
+add-locals-of-requires : tie.Need-add-locals-of-requires
+add-locals-of-requires c κs = search needs
+
+same-length : tie.Need-same-length
+same-length c = search needs
+
+returns : tie.Need-returns
+returns c =
+    let a = c .before .before .before .before .before .before .before .before .before .before .before .before .before .before .args in
+    all-set (relayOf (a .from .now)) (a .to .now) _ _ _ (c .before .before .before .before .before .before .before .before .before .before .set-ports-as .ensures) (c .before .before .before .before .before .before .set-rate-as .ensures) (c .before .before .add-locals-of .ensures)
+
+pub set-as-spec : {M : Type 1} → statement M
+set-as-spec =
+    tie.close
+    (tie.spec
+    set-ports-as-requires
+    set-rate-as-requires
+    add-locals-of-requires
+    same-length
+    returns)

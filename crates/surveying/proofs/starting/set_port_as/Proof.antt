@@ -1,0 +1,54 @@
+use mathlib.Core.Path.{ap, _∙_}
+use Rattle.rules.specs.Calls.{TableCall}
+use Rattle.tables.specs.Called.{callOn}
+use Rattle.surveying.proofs.SettingLaws.{port-told-as}
+use native.Mathlib.Omega.{arith}
+use borrow.Author.Needs.{needs}
+use Rattle.surveying.proofs.starting.set_port_as.Statement.{statement}
+use Rattle.surveying.proofs.starting.set_port_as.Tie as tie
+use Rattle.surveying.proofs.starting.set_port_as.Reads as reads
+use Rattle.surveying.proofs.starting.set_port_as.Lts as lts
+use Rattle.octets.proofs.wide.Reads as wide-reads
+use Rattle.settings.proofs.set_port.Reads as set-port-reads
+use Rattle.status.proofs.port_settings.Reads as port-settings-reads
+
+port-settings-requires : tie.Need-port-settings-requires
+port-settings-requires c κs = search needs
+
+size-in-requires : tie.Need-size-in-requires
+size-in-requires c κs = search needs
+
+array-read-set-port : tie.Need-array-read-set-port
+array-read-set-port c = search needs
+
+array-read-wide : tie.Need-array-read-wide
+array-read-wide c = search needs
+
+wide-requires : tie.Need-wide-requires
+wide-requires c κs = search needs
+
+set-port-requires : tie.Need-set-port-requires
+set-port-requires c κs = search needs
+
+same-length : tie.Need-same-length
+same-length c = search needs
+
+returns : tie.Need-returns
+returns c =
+    let a = c .before .before .before .before .before .before .before .before .before .before .args in
+    (rw (c .before .before .before .wide .ensures, c .before .before .before .before .before .size-in .ensures) at (c .before .before .set-port .ensures .1))
+    ∙ ap (λ (k : TableCall). callOn (a .to .now) k .tables)
+    (port-told-as (a .from .now) (c .before .before .before .before .before .before .before .before .before .before .pre .0) (a .port) (c .before .before .before .before .before .before .before .before .before .before .pre .1) _ _ (c .before .before .before .before .before .before .port-settings .ensures .1))
+
+pub set-port-as-spec : {M : Type 1} → statement M
+set-port-as-spec =
+    tie.close
+    (tie.spec
+    port-settings-requires
+    size-in-requires
+    array-read-set-port
+    array-read-wide
+    wide-requires
+    set-port-requires
+    same-length
+    returns)
