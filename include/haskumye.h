@@ -146,7 +146,8 @@ enum haskumye_refusal {
     HASKUMYE_REFUSAL_FILE_BODY = 24,      /* a saved body of wrong size, or with bytes that no relay has */
     HASKUMYE_REFUSAL_ROOM = 25,           /* too little room for what is to be written; loading: not the tables' size */
     HASKUMYE_REFUSAL_ANNOUNCE_PART = 26,  /* a key, name hash, random, ratchet or signature of wrong length */
-    HASKUMYE_REFUSAL_ANNOUNCE_TOO_LONG = 27 /* an announce over 500 bytes once built */
+    HASKUMYE_REFUSAL_ANNOUNCE_TOO_LONG = 27, /* an announce over 500 bytes once built */
+    HASKUMYE_REFUSAL_SURVEY_FULL = 29     /* a 17th recording of a survey */
 };
 
 /* What a packet call answers: HASKUMYE_ANSWER_KIND. */
@@ -702,6 +703,7 @@ static inline const char *haskumye_refusal_words(unsigned refusal)
     case HASKUMYE_REFUSAL_ROOM: return "too little room (loading: not the tables' size)";
     case HASKUMYE_REFUSAL_ANNOUNCE_PART: return "key, name, random, ratchet or signature of wrong length";
     case HASKUMYE_REFUSAL_ANNOUNCE_TOO_LONG: return "announce over 500 once built";
+    case HASKUMYE_REFUSAL_SURVEY_FULL: return "a 17th recording of a survey";
     default: return "unknown";
     }
 }

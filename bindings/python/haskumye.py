@@ -106,6 +106,7 @@ class Refusal(Words):
     ROOM = 25, "too little room (loading: not the tables' size)"
     ANNOUNCE_PART = 26, "key, name, random, ratchet or signature of wrong length"
     ANNOUNCE_TOO_LONG = 27, "announce over 500 once built"
+    SURVEY_FULL = 29, "a 17th recording of a survey"
 
 
 class BadForm(Words):
