@@ -3,7 +3,9 @@
 use crate::announcing::Own;
 use crate::answer::{Refusal, Tally};
 use crate::core::{self, crossing, PartsBytes, LINE};
-use crate::engine::{decoded, encoded, AnnounceCalls, AnswerCalls, Engine, Fields, Outcome, PacketCalls, RecordingCalls, SavedCalls, SurveyCalls};
+use crate::engine::{
+    decoded, encoded, AnnounceCalls, AnswerCalls, Engine, Fields, Outcome, PacketCalls, RecordingCalls, SavedCalls, SurveyCalls,
+};
 use crate::packet::{Address, Blob, PacketHash, Parts};
 use crate::programs::SurveyProgram;
 use crate::relay::asking::Question;

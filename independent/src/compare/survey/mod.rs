@@ -13,9 +13,8 @@ use samples::{aimed, Case, Cases};
 
 /// Each thing that a text can tell is told at least so often.
 const LEAST: usize = 100;
-/// In runs of at least so many random cases, that is; of which one in so many is a survey.
+/// In runs of at least so many random cases, that is.
 const ENOUGH: usize = 2_000;
-const ONE_IN: usize = 5;
 /// So many surveys where one difference is looked for.
 const FEW: usize = 60;
 
@@ -36,7 +35,7 @@ pub fn programs_differ(got: &dyn SurveyCalls, expected: &dyn SurveyCalls) -> boo
 pub fn run(options: &Options, tally: &mut Tally) {
     let (program, own) = (SurveyProgram::default(), Relay::new(Tuned));
     let mut reached = Reached::default();
-    for (number, case) in cases(options.seed, options.count / ONE_IN).enumerate() {
+    for (number, case) in cases(options.seed, options.count).enumerate() {
         let expected = surveyed(&own, &case);
         reached.count(case.recordings.len(), &String::from_utf8_lossy(&expected.buffer));
         let what = format!("survey {number}, of {} recordings", case.recordings.len());

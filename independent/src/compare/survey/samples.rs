@@ -59,7 +59,8 @@ impl Cases {
         let mut run = Run::new(Relay::new(Tuned));
         run.tables.clone_from(&self.run.tables);
         if self.random.one_in(3) {
-            let (target, grace, penalty) = (self.random.pick(&[1, 20, 3_600, 86_400]), self.random.pick(&[0, 0, 1, 3]), self.random.below(1_000));
+            let (target, grace, penalty) =
+                (self.random.pick(&[1, 20, 3_600, 86_400]), self.random.pick(&[0, 0, 1, 3]), self.random.below(1_000));
             run.make(&Call::SetAnnounceRate(AnnounceRate { target, grace, penalty: penalty as u64 }));
         }
         for port in 0..self.random.pick(&[0, 0, 4, 16]) {
@@ -80,7 +81,7 @@ fn saved(run: &Run<Relay<Tuned>>) -> Vec<u8> {
 impl Iterator for Cases {
     type Item = Case;
 
-    /// As many recordings as the case's number says, in any order; one in four is damaged, and of the settings one in three.
+    /// As many recordings as the case's number says, in any order; one in four is damaged, and of the settings one in two.
     fn next(&mut self) -> Option<Case> {
         let count = self.number % COUNTS;
         self.number += 1;
@@ -97,7 +98,7 @@ impl Iterator for Cases {
                 settings = self.settings();
             }
         }
-        if self.random.one_in(3) {
+        if self.random.one_in(2) {
             self.random.pick(damages::DAMAGES)(&mut self.random, &mut settings);
         }
         Some(Case { settings, recordings })
