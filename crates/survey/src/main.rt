@@ -52,7 +52,13 @@ fn main() {
     let mut counts = [0u64; COUNTER_COUNT];
     let mut refusals = [0u8; REFUSAL_COUNT];
     let held = read_file(1, &mut stored);
-    let refusal = surveying::begin(&stored[..held], &mut start, &mut work, &mut counts, &mut refusals);
+    let refusal = surveying::begin(
+        &stored[..held],
+        &mut start,
+        &mut work,
+        &mut counts,
+        &mut refusals,
+    );
     if refusal != 0 {
         print(surveying::settings_refused(refusal));
         return;

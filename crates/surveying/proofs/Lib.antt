@@ -10,3 +10,4 @@ pub mod SurveyLaws
 pub mod RefusedLaws
 pub mod AddressLaws
 pub mod Started
+pub mod Instance

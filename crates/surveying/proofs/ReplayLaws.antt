@@ -133,12 +133,12 @@ module _ (f start work counts refusals : List ℕ) where
 
   pub read-taken : fileRefusal f ≡ 0 → readOn f start work counts refusals
       ≡ record {
-      refusal = fileRefusal f;
-      start = start;
-      work = stepsOn f (countOf f) start newTally .tables;
-      counts = addAll counts (answered (entriesOf f) (stepsOn f (countOf f) start newTally .answers));
-      refusals = noted refusals (fileRefusal f);
-    }
+        refusal = fileRefusal f;
+        start = start;
+        work = stepsOn f (countOf f) start newTally .tables;
+        counts = addAll counts (answered (entriesOf f) (stepsOn f (countOf f) start newTally .answers));
+        refusals = noted refusals (fileRefusal f);
+      }
   unfolding readOn
   read-taken none =
       let tables : (eqb (fileRefusal f) 0 then replayOn f start newTally .tables otherwise work) ≡ stepsOn f (countOf f) start newTally .tables =

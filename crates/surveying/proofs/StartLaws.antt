@@ -27,12 +27,12 @@ module _ (file start work counts refusals : List ℕ) where
 
   pub begun : loadRefusal file tableSize ≡ 0 → startOn file start work counts refusals
       ≡ record {
-      refusal = 0;
-      start = startOf (heldIn file .0);
-      work = bytesOf (heldIn file .0);
-      counts = replicate counterCount 0;
-      refusals = replicate refusalCount 0;
-    }
+        refusal = 0;
+        start = startOf (heldIn file .0);
+        work = bytesOf (heldIn file .0);
+        counts = replicate counterCount 0;
+        refusals = replicate refusalCount 0;
+      }
   unfolding startOn
   begun none = then-true _ _ (eq-eqb (loadRefusal file tableSize) 0 none)
 

@@ -173,7 +173,12 @@ fn counted_at(counter: usize, came: u8, size: usize, answer: Answer) -> u64
 }
 
 // The counters with the entry added to each, modulo 2^64. A survey's counters never reach that.
-pub fn add_one(counts: [u64; COUNTER_COUNT], came: u8, size: usize, answer: Answer) -> [u64; COUNTER_COUNT]
+pub fn add_one(
+    counts: [u64; COUNTER_COUNT],
+    came: u8,
+    size: usize,
+    answer: Answer,
+) -> [u64; COUNTER_COUNT]
     ensures { λ r. ⌜ r ≡ addOne counts (record { port = came; size = size; answer = answer }) ⌝ }
 {
     let mut grown = counts;

@@ -1,13 +1,8 @@
 use Prim.Native.Nat.{_≤_, _-_}
 use Rattle.text.proofs.TextLaws.{text-within}
-use native.Mathlib.Omega.{arith}
 use borrow.Author.Needs.{needs}
 use Rattle.survey.proofs.print_lines.Statement.{statement}
 use Rattle.survey.proofs.print_lines.Tie as tie
-use Rattle.survey.proofs.print_lines.Reads as reads
-use Rattle.survey.proofs.print_lines.Lts as lts
-use Rattle.console.proofs.print.Reads as print-reads
-use Rattle.surveying.proofs.line.Reads as line-reads
 
 abbrev Inv-loop : tie.InvT-loop
 Inv-loop counts refusals i₀ i = i ≤ 49
@@ -15,31 +10,24 @@ Inv-loop counts refusals i₀ i = i ≤ 49
 abbrev μ-loop : tie.MeasureT-loop
 μ-loop counts refusals i₀ i = 49 - i
 
--- src/main.rt:42:5
 loop-holds : tie.Need-loop-holds Inv-loop μ-loop
 loop-holds c = search needs
 
--- src/main.rt:43:15
 line-requires : tie.Need-line-requires Inv-loop μ-loop
 line-requires c κs = search needs
 
--- src/main.rt:43:9
 print-requires : tie.Need-print-requires Inv-loop μ-loop
 print-requires c κs = text-within (c .line .result) _ (c .line .ensures)
 
--- src/main.rt:44:9
 add-i : tie.Need-add-i Inv-loop μ-loop
 add-i c = search needs
 
--- src/main.rt:42:5
 loop-less : tie.Need-loop-less Inv-loop μ-loop
 loop-less c = search needs
 
--- src/main.rt:42:5
 loop-again : tie.Need-loop-again Inv-loop μ-loop
 loop-again c = search needs
 
--- src/main.rt:40:1
 returns : tie.Need-returns Inv-loop μ-loop
 returns c = search needs
 

@@ -1,15 +1,9 @@
 use Prim.Native.Nat.{_≤_, _-_}
 use mathlib.Core.Path.{_≡_}
 use lib.ListN.{length}
-use native.Mathlib.Omega.{arith}
 use borrow.Author.Needs.{needs}
 use Rattle.survey.proofs.read_recordings.Statement.{statement}
 use Rattle.survey.proofs.read_recordings.Tie as tie
-use Rattle.survey.proofs.read_recordings.Reads as reads
-use Rattle.survey.proofs.read_recordings.Lts as lts
-use Rattle.console.proofs.read_file.Reads as read-file-reads
-use Rattle.os.proofs.arg_count.Reads as arg-count-reads
-use Rattle.surveying.proofs.add_recording.Reads as add-recording-reads
 
 abbrev Inv-loop : tie.InvT-loop
 Inv-loop start work₀ counts₀ refusals₀ file₀ n i₀ work counts refusals file i = (2 ≤ i) × (length file ≡ 60001)
@@ -17,67 +11,51 @@ Inv-loop start work₀ counts₀ refusals₀ file₀ n i₀ work counts refusals
 abbrev μ-loop : tie.MeasureT-loop
 μ-loop start work₀ counts₀ refusals₀ file₀ n i₀ work counts refusals file i = n - i
 
--- src/main.rt:27:9
 arg-count-requires : tie.Need-arg-count-requires Inv-loop μ-loop
 arg-count-requires c κs = search needs
 
--- src/main.rt:29:5
 loop-holds : tie.Need-loop-holds Inv-loop μ-loop
 loop-holds c = search needs
 
--- src/main.rt:30:17
 add-if1 : tie.Need-add-if1 Inv-loop μ-loop
 add-if1 c = search needs
 
--- src/main.rt:31:38
 array-share-prefix-file : tie.Need-array-share-prefix-file Inv-loop μ-loop
 array-share-prefix-file c = search needs
 
--- src/main.rt:31:38
 slice-aggregate-add-recording : tie.Need-slice-aggregate-add-recording Inv-loop μ-loop
 slice-aggregate-add-recording c = search needs
 
--- src/main.rt:31:13
 add-recording-requires : tie.Need-add-recording-requires Inv-loop μ-loop
 add-recording-requires c κs = search needs
 
--- src/main.rt:32:13
 returns : tie.Need-returns Inv-loop μ-loop
 returns c = search needs
 
--- src/main.rt:34:33
 slice-aggregate-read-file : tie.Need-slice-aggregate-read-file Inv-loop μ-loop
 slice-aggregate-read-file c = search needs
 
--- src/main.rt:34:13
 read-file-requires : tie.Need-read-file-requires Inv-loop μ-loop
 read-file-requires c κs = search needs
 
--- src/main.rt:35:34
 array-share-prefix-file-2 : tie.Need-array-share-prefix-file-2 Inv-loop μ-loop
 array-share-prefix-file-2 c = search needs
 
--- src/main.rt:35:34
 slice-aggregate-add-recording-2 : tie.Need-slice-aggregate-add-recording-2 Inv-loop μ-loop
 slice-aggregate-add-recording-2 c = search needs
 
--- src/main.rt:35:9
 add-recording-requires-2 : tie.Need-add-recording-requires-2 Inv-loop μ-loop
 add-recording-requires-2 c κs = search needs
 
--- src/main.rt:36:9
 add-i : tie.Need-add-i Inv-loop μ-loop
 add-i c = search needs
 
--- src/main.rt:29:5
 loop-less : tie.Need-loop-less Inv-loop μ-loop
 loop-less c = search needs
 
--- src/main.rt:29:5
 loop-again : tie.Need-loop-again Inv-loop μ-loop
 loop-again c = search needs
 
--- src/main.rt:20:1
 returns-2 : tie.Need-returns-2 Inv-loop μ-loop
 returns-2 c = search needs
 

@@ -10,10 +10,6 @@ use native.Mathlib.Omega.{arith}
 use borrow.Author.Needs.{needs}
 use Rattle.surveying.proofs.counting.add_one.Statement.{statement}
 use Rattle.surveying.proofs.counting.add_one.Tie as tie
-use Rattle.surveying.proofs.counting.add_one.Reads as reads
-use Rattle.surveying.proofs.counting.add_one.Lts as lts
-use Rattle.std.proofs.num.wrapping_add_u64.Reads as wrapping-add-u64-reads
-use Rattle.surveying.proofs.counting.counted_at.Reads as counted-at-reads
 
 abbrev entry : ℕ → ℕ → Answer → Answered
 entry came size answer = record { port = came; size = size; answer = answer }

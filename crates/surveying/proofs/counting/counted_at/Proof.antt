@@ -2,16 +2,9 @@ use borrow.Author.Tests.{lt-ltb, le-ltb}
 use Rattle.octets.specs.Choice.{_then_otherwise_}
 use Rattle.surveying.specs.Counts.{acceptedOn, packetsOn, bytesInOn, bytesOutBy, droppedOn, droppedBy}
 use Rattle.surveying.specs.Promise.{countedAt}
-use native.Mathlib.Omega.{arith}
 use borrow.Author.Needs.{needs}
 use Rattle.surveying.proofs.counting.counted_at.Statement.{statement}
 use Rattle.surveying.proofs.counting.counted_at.Tie as tie
-use Rattle.surveying.proofs.counting.counted_at.Reads as reads
-use Rattle.surveying.proofs.counting.counted_at.Lts as lts
-use Rattle.surveying.proofs.counting.amount_on.Reads as amount-on-reads
-use Rattle.surveying.proofs.counting.dropped_by.Reads as dropped-by-reads
-use Rattle.surveying.proofs.counting.dropped_on.Reads as dropped-on-reads
-use Rattle.surveying.proofs.counting.leaving_by.Reads as leaving-by-reads
 
 amount-on-requires : tie.Need-amount-on-requires
 amount-on-requires c κs = search needs

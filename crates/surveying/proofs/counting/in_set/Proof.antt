@@ -4,12 +4,9 @@ use mathlib.Core.Path.{_≡_, sym, ap, _∙_}
 use lib.Dec.{eqb}
 use Rattle.rules.specs.Answers.{inSet}
 use Rattle.replaying.proofs.LineLaws.{rest-more}
-use native.Mathlib.Omega.{arith}
 use borrow.Author.Needs.{needs}
 use Rattle.surveying.proofs.counting.in_set.Statement.{statement}
 use Rattle.surveying.proofs.counting.in_set.Tie as tie
-use Rattle.surveying.proofs.counting.in_set.Reads as reads
-use Rattle.surveying.proofs.counting.in_set.Lts as lts
 
 abbrev Inv-loop : tie.InvT-loop
 Inv-loop ports port rest₀ i₀ rest i = (i ≤ port) × (rest ≡ ports / 2 ^ i)
@@ -17,25 +14,20 @@ Inv-loop ports port rest₀ i₀ rest i = (i ≤ port) × (rest ≡ ports / 2 ^ 
 abbrev μ-loop : tie.MeasureT-loop
 μ-loop ports port rest₀ i₀ rest i = port - i
 
--- src/counting.rt:40:5
 loop-holds : tie.Need-loop-holds Inv-loop μ-loop
 loop-holds c = (search needs, sym (div-one (c .args .ports)))
 
--- src/counting.rt:42:9
 add-i : tie.Need-add-i Inv-loop μ-loop
 add-i c = search needs
 
--- src/counting.rt:40:5
 loop-less : tie.Need-loop-less Inv-loop μ-loop
 loop-less c = search needs
 
--- src/counting.rt:40:5
 loop-again : tie.Need-loop-again Inv-loop μ-loop
 loop-again c =
     let l = c .before .loop in
     (search needs, rest-more (c .before .before .args .ports) (l .i) (l .rest) (l .inv .1))
 
--- src/counting.rt:35:1
 returns : tie.Need-returns Inv-loop μ-loop
 unfolding inSet
 returns c =

@@ -1,11 +1,7 @@
 use Rattle.surveying.specs.Counts.{leavingBy}
-use native.Mathlib.Omega.{arith}
 use borrow.Author.Needs.{needs}
 use Rattle.surveying.proofs.counting.leaving_by.Statement.{statement}
 use Rattle.surveying.proofs.counting.leaving_by.Tie as tie
-use Rattle.surveying.proofs.counting.leaving_by.Reads as reads
-use Rattle.surveying.proofs.counting.leaving_by.Lts as lts
-use Rattle.surveying.proofs.counting.sent_by.Reads as sent-by-reads
 
 enum-told : tie.Need-enum-told
 enum-told c = search needs

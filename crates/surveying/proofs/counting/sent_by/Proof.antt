@@ -2,13 +2,9 @@ use mathlib.Core.Path.{sym, _∙_}
 use borrow.Author.Tests.{eq-eqb, ne-eqb}
 use Rattle.octets.specs.Choice.{_then_otherwise_}
 use Rattle.surveying.specs.Counts.{sentBy}
-use native.Mathlib.Omega.{arith}
 use borrow.Author.Needs.{needs}
 use Rattle.surveying.proofs.counting.sent_by.Statement.{statement}
 use Rattle.surveying.proofs.counting.sent_by.Tie as tie
-use Rattle.surveying.proofs.counting.sent_by.Reads as reads
-use Rattle.surveying.proofs.counting.sent_by.Lts as lts
-use Rattle.surveying.proofs.counting.in_set.Reads as in-set-reads
 
 enum-told : tie.Need-enum-told
 enum-told c = search needs

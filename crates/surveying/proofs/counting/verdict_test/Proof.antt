@@ -1,57 +1,42 @@
 use Rattle.surveying.specs.Counts.{verdictTest}
-use native.Mathlib.Omega.{arith}
 use borrow.Author.Needs.{needs}
 use Rattle.surveying.proofs.counting.verdict_test.Statement.{statement}
 use Rattle.surveying.proofs.counting.verdict_test.Tie as tie
-use Rattle.surveying.proofs.counting.verdict_test.Reads as reads
-use Rattle.surveying.proofs.counting.verdict_test.Lts as lts
-use Rattle.plan.proofs.reason_number.Reads as reason-number-reads
 
--- src/counting.rt:84:23
 enum-known-verdict : tie.Need-enum-known-verdict
 enum-known-verdict c = search needs
 
--- src/counting.rt:84:34
 reason-number-requires : tie.Need-reason-number-requires
 reason-number-requires c κs = search needs
 
--- src/counting.rt:85:29
 enum-told : tie.Need-enum-told
 enum-told c = search needs
 
--- src/counting.rt:86:52
 enum-told-2 : tie.Need-enum-told-2
 enum-told-2 c = search needs
 
--- src/counting.rt:90:14
 enum-told-3 : tie.Need-enum-told-3
 enum-told-3 c = search needs
 
--- src/counting.rt:91:26
 enum-told-4 : tie.Need-enum-told-4
 enum-told-4 c = search needs
 
--- src/counting.rt:80:1
 returns : tie.Need-returns
 unfolding verdictTest
 returns c = rw (c .before .before .verdict .given .1) (c .reason-number .ensures)
 
--- src/counting.rt:80:1
 returns-2 : tie.Need-returns-2
 unfolding verdictTest
 returns-2 c = rw (c .enum-told .given .1)
 
--- src/counting.rt:80:1
 returns-3 : tie.Need-returns-3
 unfolding verdictTest
 returns-3 c = rw (c .enum-told2 .given .1)
 
--- src/counting.rt:80:1
 returns-4 : tie.Need-returns-4
 unfolding verdictTest
 returns-4 c = rw (c .enum-told3 .given .1)
 
--- src/counting.rt:80:1
 returns-5 : tie.Need-returns-5
 unfolding verdictTest
 returns-5 c = rw (c .enum-told4 .given .1)

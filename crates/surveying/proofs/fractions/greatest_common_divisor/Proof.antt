@@ -6,8 +6,6 @@ use native.Mathlib.Omega.{arith}
 use borrow.Author.Needs.{needs}
 use Rattle.surveying.proofs.fractions.greatest_common_divisor.Statement.{statement}
 use Rattle.surveying.proofs.fractions.greatest_common_divisor.Tie as tie
-use Rattle.surveying.proofs.fractions.greatest_common_divisor.Reads as reads
-use Rattle.surveying.proofs.fractions.greatest_common_divisor.Lts as lts
 
 abbrev Inv-loop : tie.InvT-loop
 Inv-loop a b x₀ y₀ x y = greatestCommonDivisor x y ≡ greatestCommonDivisor a b
@@ -15,25 +13,20 @@ Inv-loop a b x₀ y₀ x y = greatestCommonDivisor x y ≡ greatestCommonDivisor
 abbrev μ-loop : tie.MeasureT-loop
 μ-loop a b x₀ y₀ x y = y
 
--- src/fractions.rt:12:5
 loop-holds : tie.Need-loop-holds Inv-loop μ-loop
 loop-holds c = refl
 
--- src/fractions.rt:13:20
 rem-rest : tie.Need-rem-rest Inv-loop μ-loop
 rem-rest c = search needs
 
--- src/fractions.rt:12:5
 loop-less : tie.Need-loop-less Inv-loop μ-loop
 loop-less c = mod-lt (c .before .loop .x) (omega (arith, c .loop-test .taken))
 
--- src/fractions.rt:12:5
 loop-again : tie.Need-loop-again Inv-loop μ-loop
 loop-again c =
     let l = c .before .loop in
     sym (divisor-step (l .x) (l .y) (omega (arith, c .loop-test .taken))) ∙ l .inv
 
--- src/fractions.rt:7:1
 returns : tie.Need-returns Inv-loop μ-loop
 returns c =
     let l = c .before .loop in

@@ -5,9 +5,6 @@ use native.Mathlib.Omega.{arith}
 use borrow.Author.Needs.{needs}
 use Rattle.surveying.proofs.fractions.share.Statement.{statement}
 use Rattle.surveying.proofs.fractions.share.Tie as tie
-use Rattle.surveying.proofs.fractions.share.Reads as reads
-use Rattle.surveying.proofs.fractions.share.Lts as lts
-use Rattle.surveying.proofs.fractions.greatest_common_divisor.Reads as greatest-common-divisor-reads
 
 returns : tie.Need-returns
 returns c =

@@ -1,13 +1,7 @@
 use Rattle.surveying.proofs.LineLaws.{heading-made}
-use native.Mathlib.Omega.{arith}
 use borrow.Author.Needs.{needs}
 use Rattle.surveying.proofs.lines.heading.Statement.{statement}
 use Rattle.surveying.proofs.lines.heading.Tie as tie
-use Rattle.surveying.proofs.lines.heading.Reads as reads
-use Rattle.surveying.proofs.lines.heading.Lts as lts
-use Rattle.text.proofs.empty.Reads as empty-reads
-use Rattle.text.proofs.with_character.Reads as with-character-reads
-use Rattle.text.proofs.with_text.Reads as with-text-reads
 
 empty-requires : tie.Need-empty-requires
 empty-requires c κs = search needs

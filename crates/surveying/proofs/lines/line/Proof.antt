@@ -1,17 +1,9 @@
 use borrow.Author.Tests.{eq-eqb, ne-eqb, lt-ltb, le-ltb}
 use Rattle.octets.specs.Choice.{_then_otherwise_}
 use Rattle.surveying.specs.Promise.{lineAt}
-use native.Mathlib.Omega.{arith}
 use borrow.Author.Needs.{needs}
 use Rattle.surveying.proofs.lines.line.Statement.{statement}
 use Rattle.surveying.proofs.lines.line.Tie as tie
-use Rattle.surveying.proofs.lines.line.Reads as reads
-use Rattle.surveying.proofs.lines.line.Lts as lts
-use Rattle.surveying.proofs.lines.heading.Reads as heading-reads
-use Rattle.surveying.proofs.lines.port_at.Reads as port-at-reads
-use Rattle.surveying.proofs.lines.recording_at.Reads as recording-at-reads
-use Rattle.surveying.proofs.lines.test_at.Reads as test-at-reads
-use Rattle.text.proofs.empty.Reads as empty-reads
 
 heading-requires : tie.Need-heading-requires
 heading-requires c κs = search needs

@@ -1,11 +1,7 @@
 use Rattle.surveying.specs.Promise.{portAt}
-use native.Mathlib.Omega.{arith}
 use borrow.Author.Needs.{needs}
 use Rattle.surveying.proofs.lines.port_at.Statement.{statement}
 use Rattle.surveying.proofs.lines.port_at.Tie as tie
-use Rattle.surveying.proofs.lines.port_at.Reads as reads
-use Rattle.surveying.proofs.lines.port_at.Lts as lts
-use Rattle.surveying.proofs.lines.port_line.Reads as port-line-reads
 
 mul-port-line : tie.Need-mul-port-line
 mul-port-line c = search needs

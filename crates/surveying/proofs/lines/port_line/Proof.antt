@@ -13,16 +13,6 @@ use native.Mathlib.Omega.{arith}
 use borrow.Author.Needs.{needs}
 use Rattle.surveying.proofs.lines.port_line.Statement.{statement}
 use Rattle.surveying.proofs.lines.port_line.Tie as tie
-use Rattle.surveying.proofs.lines.port_line.Reads as reads
-use Rattle.surveying.proofs.lines.port_line.Lts as lts
-use Rattle.surveying.proofs.fractions.share.Reads as share-reads
-use Rattle.surveying.proofs.lines.with_fraction.Reads as with-fraction-reads
-use Rattle.surveying.proofs.lines.with_named.Reads as with-named-reads
-use Rattle.text.proofs.empty.Reads as empty-reads
-use Rattle.text.proofs.with_character.Reads as with-character-reads
-use Rattle.text.proofs.with_number.Reads as with-number-reads
-use Rattle.text.proofs.with_text.Reads as with-text-reads
-use Rattle.text.proofs.with_word.Reads as with-word-reads
 
 empty-requires : tie.Need-empty-requires
 empty-requires c κs = search needs

@@ -7,12 +7,6 @@ use native.Mathlib.Omega.{arith}
 use borrow.Author.Needs.{needs}
 use Rattle.surveying.proofs.lines.reason_line.Statement.{statement}
 use Rattle.surveying.proofs.lines.reason_line.Tie as tie
-use Rattle.surveying.proofs.lines.reason_line.Reads as reads
-use Rattle.surveying.proofs.lines.reason_line.Lts as lts
-use Rattle.text.proofs.empty.Reads as empty-reads
-use Rattle.text.proofs.with_character.Reads as with-character-reads
-use Rattle.text.proofs.with_number.Reads as with-number-reads
-use Rattle.text.proofs.with_text.Reads as with-text-reads
 
 empty-requires : tie.Need-empty-requires
 empty-requires c κs = search needs

@@ -1,14 +1,9 @@
 use borrow.Author.Tests.{eq-eqb, ne-eqb}
 use Rattle.octets.specs.Choice.{_then_otherwise_}
 use Rattle.surveying.specs.Promise.{recordingAt}
-use native.Mathlib.Omega.{arith}
 use borrow.Author.Needs.{needs}
 use Rattle.surveying.proofs.lines.recording_at.Statement.{statement}
 use Rattle.surveying.proofs.lines.recording_at.Tie as tie
-use Rattle.surveying.proofs.lines.recording_at.Reads as reads
-use Rattle.surveying.proofs.lines.recording_at.Lts as lts
-use Rattle.surveying.proofs.lines.recording_refused.Reads as recording-refused-reads
-use Rattle.text.proofs.empty.Reads as empty-reads
 
 element-copy-out-refusal : tie.Need-element-copy-out-refusal
 element-copy-out-refusal c = search needs

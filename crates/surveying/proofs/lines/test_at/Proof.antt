@@ -1,12 +1,7 @@
 use Rattle.surveying.specs.Promise.{testAt}
-use native.Mathlib.Omega.{arith}
 use borrow.Author.Needs.{needs}
 use Rattle.surveying.proofs.lines.test_at.Statement.{statement}
 use Rattle.surveying.proofs.lines.test_at.Tie as tie
-use Rattle.surveying.proofs.lines.test_at.Reads as reads
-use Rattle.surveying.proofs.lines.test_at.Lts as lts
-use Rattle.octets.proofs.wide.Reads as wide-reads
-use Rattle.surveying.proofs.lines.reason_line.Reads as reason-line-reads
 
 array-read-wide : tie.Need-array-read-wide
 array-read-wide c = search needs

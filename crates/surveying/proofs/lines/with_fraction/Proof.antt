@@ -1,15 +1,9 @@
 use mathlib.Core.Path.{_∙_}
 use Rattle.replaying.proofs.LineLaws.{word-grown}
 use Rattle.surveying.specs.Lines.{fractionWord}
-use native.Mathlib.Omega.{arith}
 use borrow.Author.Needs.{needs}
 use Rattle.surveying.proofs.lines.with_fraction.Statement.{statement}
 use Rattle.surveying.proofs.lines.with_fraction.Tie as tie
-use Rattle.surveying.proofs.lines.with_fraction.Reads as reads
-use Rattle.surveying.proofs.lines.with_fraction.Lts as lts
-use Rattle.text.proofs.with_decimal.Reads as with-decimal-reads
-use Rattle.text.proofs.with_character.Reads as with-character-reads
-use Rattle.text.proofs.with_number.Reads as with-number-reads
 
 with-number-requires : tie.Need-with-number-requires
 with-number-requires c κs = search needs

@@ -1,13 +1,8 @@
 use mathlib.Core.Path.{_∙_}
 use Rattle.text.proofs.WordLaws.{words-appended}
-use native.Mathlib.Omega.{arith}
 use borrow.Author.Needs.{needs}
 use Rattle.surveying.proofs.lines.with_named.Statement.{statement}
 use Rattle.surveying.proofs.lines.with_named.Tie as tie
-use Rattle.surveying.proofs.lines.with_named.Reads as reads
-use Rattle.surveying.proofs.lines.with_named.Lts as lts
-use Rattle.text.proofs.with_number.Reads as with-number-reads
-use Rattle.text.proofs.with_word.Reads as with-word-reads
 
 with-word-requires : tie.Need-with-word-requires
 with-word-requires c κs = search needs

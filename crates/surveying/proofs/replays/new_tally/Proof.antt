@@ -1,11 +1,7 @@
 use mathlib.Core.Path.{refl}
 use Rattle.rules.specs.Calls.{newTally}
-use native.Mathlib.Omega.{arith}
-use borrow.Author.Needs.{needs}
 use Rattle.surveying.proofs.replays.new_tally.Statement.{statement}
 use Rattle.surveying.proofs.replays.new_tally.Tie as tie
-use Rattle.surveying.proofs.replays.new_tally.Reads as reads
-use Rattle.surveying.proofs.replays.new_tally.Lts as lts
 
 returns : tie.Need-returns
 unfolding newTally

@@ -1,11 +1,8 @@
 use mathlib.Core.Path.{refl}
 use Rattle.surveying.specs.Promise.{noted}
-use native.Mathlib.Omega.{arith}
 use borrow.Author.Needs.{needs}
 use Rattle.surveying.proofs.replays.note.Statement.{statement}
 use Rattle.surveying.proofs.replays.note.Tie as tie
-use Rattle.surveying.proofs.replays.note.Reads as reads
-use Rattle.surveying.proofs.replays.note.Lts as lts
 
 element-copy-out-number : tie.Need-element-copy-out-number
 element-copy-out-number c = search needs

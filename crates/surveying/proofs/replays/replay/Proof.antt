@@ -14,14 +14,6 @@ use native.Mathlib.Omega.{arith}
 use borrow.Author.Needs.{needs}
 use Rattle.surveying.proofs.replays.replay.Statement.{statement}
 use Rattle.surveying.proofs.replays.replay.Tie as tie
-use Rattle.surveying.proofs.replays.replay.Reads as reads
-use Rattle.surveying.proofs.replays.replay.Lts as lts
-use Rattle.recording.proofs.body.Reads as body-reads
-use Rattle.recording.proofs.count.Reads as count-reads
-use Rattle.recording.proofs.entry.Reads as entry-reads
-use Rattle.replaying.proofs.step.Reads as step-reads
-use Rattle.surveying.proofs.counting.add_one.Reads as add-one-reads
-use Rattle.surveying.proofs.replays.new_tally.Reads as new-tally-reads
 
 abbrev Inv-loop : tie.InvT-loop
 Inv-loop file work₀ n grown₀ tally₀ i₀ work grown tally i =

@@ -1,13 +1,8 @@
 use mathlib.Core.Path.{_∙_}
 use Rattle.surveying.proofs.SettingLaws.{local-there, local-missing}
-use native.Mathlib.Omega.{arith}
 use borrow.Author.Needs.{needs}
 use Rattle.surveying.proofs.starting.add_local_of.Statement.{statement}
 use Rattle.surveying.proofs.starting.add_local_of.Tie as tie
-use Rattle.surveying.proofs.starting.add_local_of.Reads as reads
-use Rattle.surveying.proofs.starting.add_local_of.Lts as lts
-use Rattle.settings.proofs.add_local.Reads as add-local-reads
-use Rattle.status.proofs.local_at.Reads as local-at-reads
 
 local-at-requires : tie.Need-local-at-requires
 local-at-requires c κs = search needs

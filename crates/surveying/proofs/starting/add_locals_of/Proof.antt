@@ -9,9 +9,6 @@ use native.Mathlib.Omega.{arith}
 use borrow.Author.Needs.{needs}
 use Rattle.surveying.proofs.starting.add_locals_of.Statement.{statement}
 use Rattle.surveying.proofs.starting.add_locals_of.Tie as tie
-use Rattle.surveying.proofs.starting.add_locals_of.Reads as reads
-use Rattle.surveying.proofs.starting.add_locals_of.Lts as lts
-use Rattle.surveying.proofs.starting.add_local_of.Reads as add-local-of-reads
 
 abbrev Inv-loop : tie.InvT-loop
 Inv-loop from to₀ place₀ to place =

@@ -7,17 +7,9 @@ use Rattle.saved.specs.Load.{loadRefusal, LoadedOn}
 use Rattle.saved.proofs.LoadLaws.{load-number, load-done, load-refused}
 use Rattle.surveying.specs.Promise.{SurveyOn}
 use Rattle.surveying.proofs.StartLaws.{not-begun, begun, held-formed, start-made}
-use native.Mathlib.Omega.{arith}
 use borrow.Author.Needs.{needs}
 use Rattle.surveying.proofs.starting.begin.Statement.{statement}
 use Rattle.surveying.proofs.starting.begin.Tie as tie
-use Rattle.surveying.proofs.starting.begin.Reads as reads
-use Rattle.surveying.proofs.starting.begin.Lts as lts
-use Rattle.saved.proofs.load.Reads as load-reads
-use Rattle.saved.proofs.own_address.Reads as own-address-reads
-use Rattle.settings.proofs.fresh.Reads as fresh-reads
-use Rattle.surveying.proofs.replays.new_tally.Reads as new-tally-reads
-use Rattle.surveying.proofs.starting.set_as.Reads as set-as-reads
 
 new-tally-requires : tie.Need-new-tally-requires
 new-tally-requires c κs = search needs

@@ -1,11 +1,7 @@
 use Rattle.surveying.specs.Steps.{rateTold}
-use native.Mathlib.Omega.{arith}
 use borrow.Author.Needs.{needs}
 use Rattle.surveying.proofs.starting.rate_in.Statement.{statement}
 use Rattle.surveying.proofs.starting.rate_in.Tie as tie
-use Rattle.surveying.proofs.starting.rate_in.Reads as reads
-use Rattle.surveying.proofs.starting.rate_in.Lts as lts
-use Rattle.octets.proofs.number_at.Reads as number-at-reads
 
 slice-aggregate-number-at : tie.Need-slice-aggregate-number-at
 slice-aggregate-number-at c = search needs

@@ -1,14 +1,8 @@
 use Rattle.tables.specs.Layout.{relayOf}
 use Rattle.surveying.proofs.SettingLaws.{all-set}
-use native.Mathlib.Omega.{arith}
 use borrow.Author.Needs.{needs}
 use Rattle.surveying.proofs.starting.set_as.Statement.{statement}
 use Rattle.surveying.proofs.starting.set_as.Tie as tie
-use Rattle.surveying.proofs.starting.set_as.Reads as reads
-use Rattle.surveying.proofs.starting.set_as.Lts as lts
-use Rattle.surveying.proofs.starting.add_locals_of.Reads as add-locals-of-reads
-use Rattle.surveying.proofs.starting.set_ports_as.Reads as set-ports-as-reads
-use Rattle.surveying.proofs.starting.set_rate_as.Reads as set-rate-as-reads
 
 set-ports-as-requires : tie.Need-set-ports-as-requires
 set-ports-as-requires c κs = search needs

@@ -2,15 +2,9 @@ use mathlib.Core.Path.{ap, _∙_}
 use Rattle.rules.specs.Calls.{TableCall}
 use Rattle.tables.specs.Called.{callOn}
 use Rattle.surveying.proofs.SettingLaws.{port-told-as}
-use native.Mathlib.Omega.{arith}
 use borrow.Author.Needs.{needs}
 use Rattle.surveying.proofs.starting.set_port_as.Statement.{statement}
 use Rattle.surveying.proofs.starting.set_port_as.Tie as tie
-use Rattle.surveying.proofs.starting.set_port_as.Reads as reads
-use Rattle.surveying.proofs.starting.set_port_as.Lts as lts
-use Rattle.octets.proofs.wide.Reads as wide-reads
-use Rattle.settings.proofs.set_port.Reads as set-port-reads
-use Rattle.status.proofs.port_settings.Reads as port-settings-reads
 
 port-settings-requires : tie.Need-port-settings-requires
 port-settings-requires c κs = search needs

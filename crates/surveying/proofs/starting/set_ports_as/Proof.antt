@@ -6,13 +6,9 @@ use Rattle.octets.specs.Index.{listOf}
 use Rattle.tables.specs.Layout.{relayOf}
 use Rattle.surveying.specs.Start.{portCall, tablesAfter}
 use Rattle.surveying.proofs.SettingLaws.{no-port-set, port-more}
-use native.Mathlib.Omega.{arith}
 use borrow.Author.Needs.{needs}
 use Rattle.surveying.proofs.starting.set_ports_as.Statement.{statement}
 use Rattle.surveying.proofs.starting.set_ports_as.Tie as tie
-use Rattle.surveying.proofs.starting.set_ports_as.Reads as reads
-use Rattle.surveying.proofs.starting.set_ports_as.Lts as lts
-use Rattle.surveying.proofs.starting.set_port_as.Reads as set-port-as-reads
 
 abbrev Inv-loop : tie.InvT-loop
 Inv-loop from to₀ port₀ to port =

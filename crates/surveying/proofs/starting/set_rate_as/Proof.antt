@@ -4,15 +4,9 @@ use Rattle.rules.specs.declared.RateSettings.{RateSettings}
 use Rattle.tables.specs.Called.{callOn}
 use Rattle.surveying.specs.Start.{rateCall}
 use Rattle.surveying.proofs.SettingLaws.{rate-told-as}
-use native.Mathlib.Omega.{arith}
 use borrow.Author.Needs.{needs}
 use Rattle.surveying.proofs.starting.set_rate_as.Statement.{statement}
 use Rattle.surveying.proofs.starting.set_rate_as.Tie as tie
-use Rattle.surveying.proofs.starting.set_rate_as.Reads as reads
-use Rattle.surveying.proofs.starting.set_rate_as.Lts as lts
-use Rattle.settings.proofs.set_rate.Reads as set-rate-reads
-use Rattle.status.proofs.rate_settings.Reads as rate-settings-reads
-use Rattle.surveying.proofs.starting.rate_in.Reads as rate-in-reads
 
 rate-settings-requires : tie.Need-rate-settings-requires
 rate-settings-requires c κs = search needs
