@@ -4,14 +4,11 @@
 // returns a refusal as its number, and leaves the caller's buffers as they were where it refuses. include/haskumye.h
 // declares them for C.
 mod announces;
-mod answer_numbers;
 mod answer_texts;
 mod hashing;
 mod packet_call;
 mod packets;
-mod parts;
 mod questions;
 mod recordings;
 mod saved_tables;
 mod table_calls;
-mod tallies;

@@ -414,10 +414,11 @@ fn a_save_is_of_edition_5(host: &mut Host) {
     assert!(host.tables == before);
 }
 
-const OLDER: [&[u8]; 3] = [
+const OLDER: [&[u8]; 4] = [
     include_bytes!("../../../tests/saved/edition-1.saved"),
     include_bytes!("../../../tests/saved/edition-2.saved"),
     include_bytes!("../../../tests/saved/edition-3.saved"),
+    include_bytes!("../../../tests/saved/edition-4.saved"),
 ];
 
 /// Loads each older file.

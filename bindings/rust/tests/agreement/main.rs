@@ -214,8 +214,8 @@ fn swapped_and_missing_arguments_are_seen() {
         ),
         (
             RATTLE,
-            "port: u64, on: u8, mode: u64, size: u64",
-            "port: u64, on: u8, mode: u64",
+            "mode: u64,\n    size: u64,\n",
+            "mode: u64,\n",
             "haskumye_set_port: the number of arguments is `6` in the header, `5` in the crate",
         ),
     ]);
