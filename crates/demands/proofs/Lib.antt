@@ -26,6 +26,7 @@ pub mod InstanceChatty
 pub mod InstanceDeadPaths
 pub mod InstanceOldAnnounces
 pub mod InstanceReplay
+pub mod InstanceSurvey
 pub mod InstanceAnnounce
 pub mod InstanceLengths
 pub mod InstanceSizes
