@@ -6,7 +6,7 @@ use mathlib.Core.Bool.{Bool, true, false, not, false≢true}
 use mathlib.Core.List.{List}
 use mathlib.Core.Path.{_≡_, refl, sym, ap, _∙_}
 use lib.Dec.{eqb, ltb, leb}
-use lib.ListN.{length}
+use lib.ListN.{length, getD}
 use borrow.Author.Tests.{ltb-true, ltb-false, eqb-true}
 use Rattle.octets.specs.Bytes.{Bytes}
 use Rattle.octets.specs.Index.{_and_}
@@ -20,9 +20,9 @@ use Rattle.packet.specs.Read.{headerOf, longestPacket, readingRows, readingRefu
 use Rattle.packet.specs.Write.{leastOutput, packetOf, writingRows, writingRefusal, Writing, writing}
 use Rattle.packet.specs.Hash.{packetHashAnswer, linkIdAnswer}
 use Rattle.packet.specs.declared.Parts.{Parts}
-use Rattle.numbers.specs.Numbers.{portCount, localCount, modeCount, clockLimit}
+use Rattle.numbers.specs.Numbers.{portCount, localCount, modeCount, isSize, clockLimit}
 use Rattle.rules.specs.Relay.{makeRateSettings, Port, Slot, empty, used, Relay}
-use Rattle.rules.specs.View.{portOn, isLocal, viewAt}
+use Rattle.rules.specs.View.{portOn, portSize, isLocal, viewAt}
 use Rattle.rules.specs.Renumbering.{oneToOne}
 use Rattle.rules.specs.Arrival.{Arrival}
 use Rattle.rules.specs.Tests.{isThere}
@@ -33,6 +33,7 @@ use Rattle.rules.specs.Run.{Call, packet, on-tables, asks, saves, loads, port-s
 use Rattle.rules.specs.Questions.{Question, port-settings, rate-settings, local-at, path-at, link-at, live-path, live-returns, live-hashes, last-clock, word-matters, Told, none, a-port, an-address, a-path, a-link, cameWith, toldOf, rowSeven, questionRule, questionRefusal, tell}
 use Rattle.rules.specs.declared.Answer.the-variants.{Refused}
 use Rattle.rules.specs.declared.Tally.{Tally}
+use Rattle.rules.proofs.Accepted.{arrival-size}
 use Rattle.tables.specs.Places.{tableSize}
 use Rattle.tables.specs.Layout.{relayOf, wellFormed}
 use Rattle.tables.proofs.Whole.{again, ok-relay}
@@ -44,6 +45,10 @@ use Rattle.saved.specs.File.{savedSize}
 use Rattle.saved.specs.Save.{saveRows, saveRefusal}
 use Rattle.saved.specs.Load.{lengthWrong, kindWrong, contentsWrong, bodiesWrong, loadRows, loadRefusal, loadOn}
 use Rattle.saved.specs.Format.{saving, loading}
+use Rattle.recording.specs.Reader.{lengthWrong as recordingLengthWrong, kindWrong as recordingKindWrong, placesWrong, wordsWrong, fileRows, fileRefusal}
+use Rattle.surveying.specs.Promise.{startOn, recordingOn}
+use Rattle.surveying.proofs.StartLaws.{not-begun, start-refusal}
+use Rattle.surveying.proofs.SurveyLaws.{recording-refusal, refused-leaves}
 use Rattle.announcing.specs.Announcing.{Announce, signedBytes, announceWith, wrongLengths, announceRows, announceRefusal, anySignature, signing, building}
 use Rattle.announcing.proofs.Lengths.{laid-refusal, laid-stays}
 use Rattle.announcing.proofs.RoundTrip.{refused-alike}
@@ -169,8 +174,28 @@ pub packet-rows : (a : Arrival) (output tables : List ℕ)
     ltb (portSize (relayOf tables) (a .port)) (length (a .bytes)) then 2 otherwise
     accessCode (headerOf (a .bytes)) then 3 otherwise
     typeTwo (headerOf (a .bytes)) and ltb (length (a .bytes)) 35 then 1 otherwise 0)
-unfolding refusalOn afterSeven refusal refusalBy packetRows firstOf readingRefusal readingRows
-packet-rows a output tables = after-seven tables _
+unfolding refusalOn afterSeven refusal refusalBy packetRows firstOf readingRefusal readingRows _then_otherwise_
+packet-rows a output tables = after-seven tables (below (isSize size)) ∙ go (wellFormed tables) refl
+  where
+    size : ℕ
+    size = portSize (relayOf tables) (a .port)
+
+    below : Bool → ℕ
+    below sized =
+        ltb (length output) leastOutput then 6 otherwise
+        not (portOn (relayOf tables) (a .port)) then 4 otherwise
+        leb clockLimit (a .clock) or ltb (a .clock) (relayOf tables .clock) then 5 otherwise
+        not sized then 9 otherwise
+        ltb (length (a .bytes)) 19 then 1 otherwise
+        ltb size (length (a .bytes)) then 2 otherwise
+        accessCode (headerOf (a .bytes)) then 3 otherwise
+        typeTwo (headerOf (a .bytes)) and ltb (length (a .bytes)) 35 then 1 otherwise 0
+
+    go : (v : Bool) → wellFormed tables ≡ v
+        → (not (wellFormed tables) then 7 otherwise below (isSize size)) ≡ (not (wellFormed tables) then 7 otherwise below true)
+    go true h =
+        ap (λ (sized : Bool). not (wellFormed tables) then 7 otherwise below sized) (arrival-size (relayOf tables) (ok-relay tables h) (a .port))
+    go false h = rw h
 
 -- setting a port: 7, 9
 pub port-rows : (port : ℕ) (on : Bool) (mode size : ℕ) (tables : List ℕ)
@@ -353,3 +378,28 @@ fresh-rows tables own = go (eqb (length tables) tableSize) refl
 pub fresh-stays : (tables own : List ℕ) → eqb (length tables) tableSize ≡ false → freshOn tables own .tables ≡ tables
 unfolding freshOn _then_otherwise_
 fresh-stays tables own z = rw z
+
+-- ---- the survey, wish 14: a settings file as a load gives it; a recording 29 where sixteen were read, else as the reader gives it. A refusal leaves tables
+-- and counters as they were
+module _ (file start work counts refusals : List ℕ) where
+  pub settings-rows : startOn file start work counts refusals .refusal ≡ loadRefusal file tableSize
+  settings-rows = start-refusal file start work counts refusals
+
+  pub settings-stay : (loadRefusal file tableSize ≡ 0 → ⊥) → startOn file start work counts refusals
+      ≡ record { refusal = loadRefusal file tableSize; start = start; work = work; counts = counts; refusals = refusals }
+  settings-stay = not-begun file start work counts refusals
+
+  pub recording-rows : recordingOn file start work counts refusals .refusal
+      ≡ (leb 16 (getD refusals 0 0) then 29 otherwise
+      recordingLengthWrong file then 20 otherwise
+      recordingKindWrong file then 21 otherwise
+      placesWrong file then 22 otherwise
+      wordsWrong file then 23 otherwise 0)
+  unfolding fileRefusal fileRows firstOf
+  recording-rows = recording-refusal file start work counts refusals
+
+  pub recording-stays : (recordingOn file start work counts refusals .refusal ≡ 0 → ⊥)
+      → (recordingOn file start work counts refusals .start ≡ start)
+      × (recordingOn file start work counts refusals .work ≡ work)
+      × (recordingOn file start work counts refusals .counts ≡ counts)
+  recording-stays = refused-leaves file start work counts refusals

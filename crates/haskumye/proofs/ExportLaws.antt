@@ -1,23 +1,21 @@
--- What the code of the exports leaves: the caller's buffer by the refusal, the parts written one after the other, the place and the number.
+-- What the code of the exports leaves: the caller's buffer by the refusal, the place and the number.
 use Prim.Native.Nat.{ℕ, _-_, _≤_, _<_}
 use native.Mathlib.Omega.{arith}
 use mathlib.Core.Bool.{Bool, true, false}
-use mathlib.Core.List.{List, [], _∷_, _++_, append-assoc}
+use mathlib.Core.List.{List}
 use mathlib.Core.Path.{_≡_, refl, sym, ap, _∙_}
 use lib.Dec.{ltb}
-use lib.ListN.{length, length-append, length-drop}
+use lib.ListN.{length, length-drop}
 use borrow.Author.Tests.{ltb-true, ltb-false, eq-eqb, ne-eqb}
-use Rattle.octets.specs.Part.{patch}
-use Rattle.octets.proofs.Part.{patch-join, patch-whole}
 use Rattle.octets.proofs.Choice.{then-true, then-false}
 use Rattle.packet.specs.Read.{headerOf, payloadStart, payload}
 use Rattle.packet.specs.Write.{Writing, writing, writingRefusal}
 use Rattle.packet.specs.declared.Parts.{Parts}
 use Rattle.packet.specs.declared.Written.{Written}
 use Rattle.packet.proofs.ReadLaws.{payload-least}
-use Rattle.packet.specs.Write.{Wide}
 use Rattle.packet.proofs.WriteLaws.{writable, writing-done, writing-refused}
-use Rattle.haskumye.specs.Packets.{bufferAfter, partsBytes, payloadPlace}
+use Rattle.crossing.specs.Packets.{payloadPlace}
+use Rattle.haskumye.specs.Packets.{bufferAfter}
 
 -- ---- the buffer after a call whose refusal is n, as promised m, and which has `new` to write, as promised
 module _ (n m : ℕ) (q : n ≡ m) (promised old : List ℕ) where
@@ -28,26 +26,6 @@ module _ (n m : ℕ) (q : n ≡ m) (promised old : List ℕ) where
   pub untouched : (n ≡ 0 → ⊥) → (n ≡ m) × (old ≡ bufferAfter m promised old)
   unfolding bufferAfter
   untouched ne = (q, sym (then-false promised old (ne-eqb m 0 (λ (e : m ≡ 0). ne (q ∙ e)))))
-
--- ---- the parts, written one after the other over 35 bytes
-module _ (old : List ℕ) (room : length old ≡ 35) (q : Parts) (wide : Wide q) where
-  pub parts-written : patch (patch (patch (patch (patch old 0 (q .header ∷ [])) 1 (q .hops ∷ [])) 2 (q .relay)) 18 (q .destination)) 34 (q .context ∷ [])
-      ≡ partsBytes q
-  unfolding partsBytes
-  parts-written =
-      let head : List ℕ = q .header ∷ q .hops ∷ [] in
-      let addresses : List ℕ = q .relay ++ q .destination in
-      let two : length addresses ≡ 32 = length-append (q .relay) (q .destination) ∙ omega (arith, wide .relay, wide .destination) in
-      let one : length (addresses ++ (q .context ∷ [])) ≡ 33 = length-append addresses (q .context ∷ []) ∙ omega arith in
-      let context : List ℕ → List ℕ = λ r. patch r 34 (q .context ∷ []) in
-      let destination : List ℕ → List ℕ = λ r. patch r 18 (q .destination) in
-      let relay : List ℕ → List ℕ = λ r. patch r 2 (q .relay) in
-      ap (λ (r : List ℕ). context (destination (relay r))) (patch-join old 0 1 (q .header ∷ []) (q .hops ∷ []) refl (omega arith))
-      ∙ ap (λ (r : List ℕ). context (destination r)) (patch-join old 0 2 head (q .relay) refl (omega (arith, wide .relay)))
-      ∙ ap context (patch-join old 0 18 (head ++ q .relay) (q .destination) (omega (arith, wide .relay)) (omega (arith, wide .destination)))
-      ∙ patch-join old 0 34 (head ++ addresses) (q .context ∷ []) (omega arith) (omega arith)
-      ∙ patch-whole old (head ++ (addresses ++ (q .context ∷ []))) (omega arith)
-      ∙ ap (λ (r : List ℕ). q .header ∷ q .hops ∷ r) (append-assoc (q .relay) (q .destination) (q .context ∷ []))
 
 -- ---- the payload's place, by the lengths
 pub place-found : (p body : List ℕ) → body ≡ payload p → length p - length body ≡ payloadPlace p

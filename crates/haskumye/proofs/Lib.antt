@@ -1,8 +1,3 @@
--- Laws that the proofs cite, and theorems: what crosses loses nothing, and a number is renamed by its port bits. Last what a host is promised on two
--- calls, computed.
+-- Laws that the proofs of the exported functions cite.
 pub mod ExportLaws
-pub mod LosesNothing
-pub mod AnswerBits
-pub mod AnswerTexts
-pub mod Instance
 pub mod RecordingLaws

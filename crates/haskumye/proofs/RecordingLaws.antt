@@ -18,7 +18,7 @@ use Rattle.replaying.specs.Promise.{StepOn}
 use Rattle.replaying.specs.declared.Stepped.{Stepped}
 use Rattle.replaying.proofs.StepLaws.{found}
 use Rattle.text.specs.Text.{textOf}
-use Rattle.haskumye.specs.Recordings.{entryNumbers, entryRefusal, entryAfter, lineAfter}
+use Rattle.crossing.specs.Recordings.{entryNumbers, entryRefusal, entryAfter, lineAfter}
 
 -- ---- entry i, and the caller's numbers after the call
 module _ (f : List ℕ) (i : ℕ) (old : List ℕ) (fields : Fields) (e : fields ≡ fieldsOf f i) where

@@ -1,8 +1,3 @@
--- How what crosses to C and Rust lies in numbers and buffers.
+-- What the library says of itself, and the buffers that hosts lend for packets.
 pub mod Packets
 pub mod Tables
-pub mod Answers
-pub mod Tallies
-pub mod Texts
-pub mod Recordings
-pub mod Saved

@@ -4,7 +4,7 @@ use packet::Written;
 ghost use mathlib.Core.Path.{_≡_};
 ghost use Prim.Native.Nat.{_≤_};
 ghost use Rattle.announcing.specs.Announcing.{makeAnnounce, signing, building};
-ghost use Rattle.haskumye.specs.Packets.{writtenNumber, Writes};
+ghost use Rattle.crossing.specs.Packets.{writtenNumber, Writes};
 
 // What was written as one number of 32 bits.
 fn written_number(written: Written) -> u32

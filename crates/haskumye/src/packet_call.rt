@@ -1,11 +1,11 @@
 // The packet call of a host.
-use super::answer_numbers::answer_number;
 use super::packets::haskumye_payload_start;
+use crossing::answer_number;
 use rules::Tally;
 ghost use lib.Dec.{eqb};
 ghost use Rattle.relay.specs.Promise.{packetOn};
-ghost use Rattle.haskumye.specs.Answers.{Answers};
-ghost use Rattle.haskumye.specs.Packets.{payloadPlace};
+ghost use Rattle.crossing.specs.Answers.{Answers};
+ghost use Rattle.crossing.specs.Packets.{payloadPlace};
 
 // What the call by value returns.
 pub struct Numbered {

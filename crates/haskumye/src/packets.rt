@@ -1,5 +1,5 @@
 // Reading and writing packets, their hashes, and what an announce holds.
-use super::parts::parts_bytes;
+use crossing::parts_bytes;
 ghost use mathlib.Core.Path.{_≡_};
 ghost use Rattle.packet.specs.Read.{longestPacket, reading};
 ghost use Rattle.packet.specs.Write.{writing};
@@ -7,7 +7,8 @@ ghost use Rattle.packet.specs.Hash.{packetHashAnswer, linkIdAnswer};
 ghost use Rattle.packet.specs.Announce.{announcedDestination, leastAnnounce, emissionOf};
 ghost use Rattle.line.specs.Line.{lineText};
 ghost use Rattle.text.specs.Text.{textOf};
-ghost use Rattle.haskumye.specs.Packets.{partsAfter, hashAfter, linkIdAfter, partsIn, payloadPlace, Writes};
+ghost use Rattle.crossing.specs.Packets.{partsIn, payloadPlace, Writes};
+ghost use Rattle.haskumye.specs.Packets.{partsAfter, hashAfter, linkIdAfter};
 
 // Reads a packet against a size: its refusal, 0 for none. Its parts go to the buffer, which a refusal leaves as it was.
 #[no_mangle]

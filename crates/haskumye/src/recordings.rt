@@ -1,17 +1,16 @@
 // Recordings: reading and writing them, and their replay entry by entry.
-use super::answer_numbers::answer_number;
 use super::packets::haskumye_payload_start;
-use super::tallies::tally_in;
-use super::tallies::tally_numbers;
-use recording::Fields;
+use crossing::answer_number;
+use crossing::tally_in;
+use crossing::tally_numbers;
 ghost use mathlib.Core.Path.{_≡_};
 ghost use Rattle.recording.specs.Shape.{countOf};
 ghost use Rattle.recording.specs.Reader.{fileRefusal, bodyOf};
 ghost use Rattle.recording.specs.Writer.{writing};
 ghost use Rattle.replaying.specs.Promise.{stepOn};
-ghost use Rattle.haskumye.specs.Recordings.{entryNumbers, entryRefusal, entryAfter, Records, Replays};
-ghost use Rattle.haskumye.specs.Tallies.{tallyIn};
-ghost use Rattle.haskumye.specs.Packets.{payloadPlace};
+ghost use Rattle.crossing.specs.Recordings.{entryRefusal, entryAfter, Records, Replays};
+ghost use Rattle.crossing.specs.Tallies.{tallyIn};
+ghost use Rattle.crossing.specs.Packets.{payloadPlace};
 
 // The refusal of a recording, 20, 21, 22 or 23, or 0.
 #[no_mangle]
@@ -29,19 +28,6 @@ pub extern "C" fn haskumye_recording_count(file: &[u8]) -> usize
     recording::count(file)
 }
 
-// An entry in five numbers.
-fn entry_numbers(fields: Fields) -> [u64; 5]
-    ensures { λ r. ⌜ r ≡ entryNumbers fields ⌝ }
-{
-    [
-        fields.clock,
-        octets::wide(fields.port),
-        octets::wide(fields.word),
-        fields.start as u64,
-        fields.length as u64,
-    ]
-}
-
 // Entry `index` of a recording: clock, port, signature word, and its body's start and length in the file. Refusal 22,
 // and the numbers as they were, where it isn't there.
 #[no_mangle]
@@ -51,7 +37,7 @@ pub extern "C" fn haskumye_recording_entry(file: &[u8], index: u64, entry: &mut 
 {
     let fields = recording::entry(file, index as usize);
     if fields.there {
-        let numbers = entry_numbers(fields);
+        let numbers = crossing::entry_numbers(fields);
         *entry = numbers;
         return 0;
     }

@@ -1,13 +1,13 @@
 // Saved tables: a relay's tables and tally as a file, and back.
-use super::tallies::tally_in;
-use super::tallies::tally_numbers;
+use crossing::tally_in;
+use crossing::tally_numbers;
 use saved::SAVED_SIZE;
 ghost use mathlib.Core.Path.{_≡_};
 ghost use Rattle.saved.specs.File.{savedSize};
 ghost use Rattle.saved.specs.Save.{saveOn};
 ghost use Rattle.saved.specs.Load.{loadOn};
-ghost use Rattle.haskumye.specs.Tallies.{tallyIn};
-ghost use Rattle.haskumye.specs.Saved.{SavesAs, LoadsAs};
+ghost use Rattle.crossing.specs.Tallies.{tallyIn};
+ghost use Rattle.crossing.specs.Saved.{SavesAs, LoadsAs};
 
 // How many bytes a saved file has.
 #[no_mangle]

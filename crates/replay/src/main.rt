@@ -3,6 +3,7 @@
 // loaded, `tables refused` and the load's number. The recording's refusal comes first.
 use console::print;
 use console::read_file;
+use replaying::new_tally;
 use rules::Tally;
 use tables::places::TABLE_SIZE;
 use text::Text;
@@ -11,7 +12,6 @@ use text::with_number;
 use text::with_text;
 use text::with_word;
 ghost use mathlib.Core.Path.{_≡_};
-ghost use Rattle.rules.specs.Calls.{newTally};
 ghost use Rattle.recording.specs.Shape.{countOf};
 ghost use Rattle.replaying.specs.Promise.{stepsOn};
 ghost use Rattle.text.specs.Text.{textOf};
@@ -25,19 +25,6 @@ fn tables_refused(refusal: u8) -> Text
 {
     let start = with_word(with_text(text::empty(), b"tables"), b"refused");
     with_character(with_number(start, octets::wide(refusal)), b'\n')
-}
-
-fn new_tally() -> Tally
-    ensures { λ r. ⌜ r ≡ newTally ⌝ }
-{
-    Tally {
-        total: 0,
-        dropped: 0,
-        delivered: 0,
-        forwarded: 0,
-        spread: 0,
-        kept: 0,
-    }
 }
 
 // Replays all entries, and prints the line of each. What the calls leave in the tables is what all steps leave.

@@ -51,7 +51,8 @@ pub exact : (xs : List Answered) (counts : List ℕ) → length counts ≡ count
     → addAll counts xs ≡ listOf (λ k. getD counts k 0 + sumOver (countedAt k) xs) counterCount
 unfolding addAll sumOver
 exact [] counts long small =
-    sym (listOf-cong (λ k. getD counts k 0 + 0) (λ k. getD counts k 0) counterCount (λ k _. add-zero (getD counts k 0)) ∙ listOf-getD 0 counts counterCount long)
+    sym
+    (listOf-cong (λ k. getD counts k 0 + 0) (λ k. getD counts k 0) counterCount (λ k _. add-zero (getD counts k 0)) ∙ listOf-getD 0 counts counterCount long)
 exact (x ∷ xs) counts long small =
     let grown : (k : ℕ) → k < counterCount → getD (addOne counts x) k 0 ≡ getD counts k 0 + countedAt k x =
     λ k l. added-at counts x k l ∙ mod-eq-of-lt (omega (arith, small k l)) in

@@ -54,6 +54,29 @@ port-fit port packets received sent f h1 h2 h3 h4 a b =
       arith,
       line-most portWord
           (decimal port ∷ packetsWord ∷ decimal packets ∷ inWord ∷ decimal received ∷ outWord ∷ decimal sent ∷ droppedWord ∷ fractionWord f ∷ [])
-          (4 ∷ 20 ∷ 7 ∷ 20 ∷ 2 ∷ 20 ∷ 3 ∷ 20 ∷ 7 ∷ 41 ∷ [])
-          (lit≤ tt, (digits port h1, (lit≤ tt, (digits packets h2, (lit≤ tt, (digits received h3, (lit≤ tt, (digits sent h4, (lit≤ tt, (fraction-most f a b, tt)))))))))),
+          (4 ∷ 20 ∷ 7 ∷ 20 ∷ 2 ∷ 20 ∷ 3 ∷ 20 ∷ 7 ∷ 41 ∷ []) (
+            lit≤ tt,
+            (
+              digits port h1,
+              (
+                lit≤ tt,
+                (
+                  digits packets h2,
+                  (
+                    lit≤ tt,
+                    (
+                      digits received h3,
+                      (
+                        lit≤ tt,
+                        (
+                          digits sent h4,
+                          (lit≤ tt, (fraction-most f a b, tt)),
+                        ),
+                      ),
+                    ),
+                  ),
+                ),
+              ),
+            ),
+          ),
     )

@@ -133,7 +133,8 @@ module _ (start : List ℕ) (files : List (List ℕ)) (s : SurveyOn) (f : List �
     unfolding readOn
     read-counts =
         ap (λ (x : SurveyOn). x .counts) as-read
-        ∙ ap₂ (λ (c b : List ℕ). addAll c (answersFrom b f)) (h .counts ∙ ap (λ (fs : List (List ℕ)). addAll (replicate counterCount 0) (answersOf start fs)) whole) (h .begins)
+        ∙ ap₂ (λ (c b : List ℕ). addAll c (answersFrom b f))
+        (h .counts ∙ ap (λ (fs : List (List ℕ)). addAll (replicate counterCount 0) (answersOf start fs)) whole) (h .begins)
         ∙ sym (add-append (answersOf start files) (answersFrom start f) (replicate counterCount 0))
         ∙ ap (addAll (replicate counterCount 0)) (sym (answers-last start files f) ∙ ap (answersOf start) (sym more))
 
@@ -251,4 +252,7 @@ module _ (start : List ℕ) (files : List (List ℕ)) where
       let zero-at : (k : ℕ) → k < counterCount → getD zeros k 0 ≡ 0 = λ k l. getD-replicate counterCount k 0 0 l in
       exact (answersOf start (readOf files)) zeros (length-replicate {A = ℕ} counterCount 0)
       (λ k l. omega (arith, zero-at k l, sum-small k))
-      ∙ listOf-cong _ _ counterCount (λ k l. ap (λ (n : ℕ). n + sumOver (countedAt k) (answersOf start (readOf files))) (zero-at k l) ∙ zero-add _ ∙ sum-answers (countedAt k) start (readOf files))
+      ∙ listOf-cong _ _ counterCount (λ k l.
+      ap (λ (n : ℕ). n + sumOver (countedAt k) (answersOf start (readOf files))) (zero-at k l)
+      ∙ zero-add _
+      ∙ sum-answers (countedAt k) start (readOf files))

@@ -1,10 +1,11 @@
 -- The start of a survey, by the saved relay that its settings come from.
 use Prim.Native.Nat.{ℕ}
-use mathlib.Core.Bool.{true}
+use mathlib.Core.Bool.{Bool, true, false}
 use mathlib.Core.List.{List}
-use mathlib.Core.Path.{_≡_, sym, ap, _∙_}
+use mathlib.Core.Path.{_≡_, refl, sym, ap, _∙_}
+use lib.Dec.{eqb}
 use lib.ListN.{length, replicate}
-use borrow.Author.Tests.{eq-eqb, ne-eqb}
+use borrow.Author.Tests.{eq-eqb, ne-eqb, eqb-true, eqb-false}
 use Rattle.octets.specs.Bytes.{Bytes}
 use Rattle.octets.proofs.Choice.{then-true, then-false}
 use Rattle.rules.specs.Relay.{Relay, fresh}
@@ -35,6 +36,15 @@ module _ (file start work counts refusals : List ℕ) where
       }
   unfolding startOn
   begun none = then-true _ _ (eq-eqb (loadRefusal file tableSize) 0 none)
+
+  pub start-refusal : startOn file start work counts refusals .refusal ≡ loadRefusal file tableSize
+  start-refusal = go (eqb (loadRefusal file tableSize) 0) refl
+    where
+      go : (b : Bool) → eqb (loadRefusal file tableSize) 0 ≡ b → startOn file start work counts refusals .refusal ≡ loadRefusal file tableSize
+      go true e =
+          let none : loadRefusal file tableSize ≡ 0 = eqb-true (loadRefusal file tableSize) 0 e in
+          ap (λ (s : SurveyOn). s .refusal) (begun none) ∙ sym none
+      go false e = ap (λ (s : SurveyOn). s .refusal) (not-begun (eqb-false (loadRefusal file tableSize) 0 e))
 
 -- ---- what the code makes of one that isn't
 module _ (file : List ℕ) (b : Bytes file) (none : loadRefusal file tableSize ≡ 0) where

@@ -7,7 +7,7 @@ use mathlib.Core.List.{List, [], _∷_, _++_, append-nil, append-assoc}
 use mathlib.Core.Path.{_≡_, refl, sym, ap, ap₂, subst, fun-ext, _∙_}
 use lib.Dec.{eqb, ltb, leb, lit≤}
 use lib.ListN.{length, getD, set, replicate}
-use borrow.Author.Tests.{eq-eqb, ne-eqb, lt-ltb, le-ltb}
+use borrow.Author.Tests.{eq-eqb, ne-eqb, ltb-true, ltb-false, lt-ltb, le-ltb, lt-leb}
 use Rattle.octets.specs.Index.{listOf}
 use Rattle.octets.specs.Choice.{_then_otherwise_}
 use Rattle.octets.specs.Part.{joined}
@@ -22,7 +22,7 @@ use Rattle.surveying.specs.Start.{startOf}
 use Rattle.surveying.specs.Lines.{surveyLine, settingsLine, recordingLine, portLine, reasonLine}
 use Rattle.surveying.specs.Survey.{readOf, answersFrom, total, refusedLines, lastLine, portTotals, testTotal, surveyText, survey}
 use Rattle.surveying.specs.Promise.{counterCount, countedAt, addAll, SurveyOn, startOn, readOn, recordingOn, recordingsOn, recordingAt, portAt, testAt, lineAt, textOn}
-use Rattle.surveying.proofs.ReplayLaws.{is-read, read-refused}
+use Rattle.surveying.proofs.ReplayLaws.{too-many, is-read, read-refused}
 use Rattle.surveying.proofs.StartLaws.{not-begun, begun}
 use Rattle.surveying.proofs.ReadingLaws.{read-length, Reading, none-read, reading-all, counts-exact}
 
@@ -291,8 +291,17 @@ module _ (f start work counts refusals : List ℕ) where
       go true e = ap (λ (s : SurveyOn). s .refusal) (then-true _ _ e) ∙ sym (then-true _ _ e)
       go false e = ap (λ (s : SurveyOn). s .refusal) (then-false _ _ e) ∙ sym (then-false _ _ e)
 
-  pub refused-leaves : getD refusals 0 0 < 16 → (fileRefusal f ≡ 0 → ⊥)
-      → (after .start ≡ start) × (after .work ≡ work) × (after .counts ≡ counts)
-  refused-leaves l some =
-      let is = is-read f start work counts refusals l ∙ read-refused f start work counts refusals some in
-      (ap (λ (s : SurveyOn). s .start) is, ap (λ (s : SurveyOn). s .work) is, ap (λ (s : SurveyOn). s .counts) is)
+  -- whichever it is, a refusal leaves all but the refusals
+  pub refused-leaves : (after .refusal ≡ 0 → ⊥) → (after .start ≡ start) × (after .work ≡ work) × (after .counts ≡ counts)
+  refused-leaves some = go (ltb (getD refusals 0 0) 16) refl
+    where
+      leaves : (s : SurveyOn) → after ≡ s → (s .start ≡ start) × (s .work ≡ work) × (s .counts ≡ counts)
+          → (after .start ≡ start) × (after .work ≡ work) × (after .counts ≡ counts)
+      leaves s is same = rw is same
+
+      go : (b : Bool) → ltb (getD refusals 0 0) 16 ≡ b → (after .start ≡ start) × (after .work ≡ work) × (after .counts ≡ counts)
+      go true e =
+          let l : getD refusals 0 0 < 16 = ltb-true (getD refusals 0 0) 16 e in
+          let refused : fileRefusal f ≡ 0 → ⊥ = λ q. some (recording-refusal ∙ then-false _ _ (lt-leb 16 (getD refusals 0 0) l) ∙ q) in
+          leaves _ (is-read f start work counts refusals l ∙ read-refused f start work counts refusals refused) (refl, refl, refl)
+      go false e = leaves _ (too-many f start work counts refusals (ltb-false (getD refusals 0 0) 16 e)) (refl, refl, refl)

@@ -35,12 +35,13 @@ pub lines : _≡_ {A = List (List ℕ)}
     (112 ∷ 111 ∷ 114 ∷ 116 ∷ 32 ∷ 48 ∷ 32 ∷ 112 ∷ 97 ∷ 99 ∷ 107 ∷ 101 ∷ 116 ∷ 115 ∷ 32 ∷ 48 ∷ 32 ∷ 105 ∷ 110 ∷ 32 ∷ 48 ∷ 32 ∷
     111 ∷ 117 ∷ 116 ∷ 32 ∷ 48 ∷ 32 ∷ 100 ∷ 114 ∷ 111 ∷ 112 ∷ 112 ∷ 101 ∷ 100 ∷ 32 ∷ 48 ∷ 47 ∷ 49 ∷ 10 ∷ []) ∷
     (114 ∷ 101 ∷ 97 ∷ 115 ∷ 111 ∷ 110 ∷ 32 ∷ 50 ∷ 32 ∷ 50 ∷ 10 ∷ []) ∷ [])
-unfolding digit numeralWithin numeral spaced wordsLine joined fractionWord share lowestTerms greatestCommonDivisor greatestUpTo dividesBoth _then_otherwise_ _and_
+unfolding digit numeralWithin numeral spaced wordsLine joined fractionWord share lowestTerms greatestCommonDivisor greatestUpTo dividesBoth
+    _then_otherwise_ _and_
 lines = refl
 
--- ---- answers: by port 3 come a packet of 100 bytes that leaves by 4, one of 50 that is dropped as a duplicate, one of 60 that is refused, and one of 70 that is
--- delivered; by port 4 an announce of 167 that is spread to 1 and 5 with 183, one of 35 that finds only an expired path, and one of 90 that is too long for the
--- port to leave by
+-- ---- answers: by port 3 come a packet of 100 bytes that leaves by 4, one of 50 that is dropped as a duplicate, one of 60 that is refused, and one
+-- of 70 that is delivered; by port 4 an announce of 167 that is spread to 1 and 5 with 183, one of 35 that finds only an expired path, and one of 90
+-- that is too long for the port to leave by
 abbrev came : ℕ → ℕ → Answer → Answered
 came port size answer = record { port = port; size = size; answer = answer }
 

@@ -1,8 +1,8 @@
 // Surveys of a site's recordings, as document 02's Wish 14 has them: each recording is replayed from the settings of a
 // saved relay and nothing else, and what the replays answer is counted by port and by test.
-// Entry points: begin, add_recording, line, settings_refused, over what the caller lends: the tables that each recording
-// starts from, tables to replay over, the counters, and the recordings' refusals. They have no `requires`, and end on
-// any bytes and any numbers.
+// Entry points: begin, add_recording, line, settings_refused, over what the caller lends: the tables that each
+// recording starts from, tables to replay over, the counters, and the recordings' refusals. They have no `requires`,
+// and end on any bytes and any numbers.
 mod counting;
 mod fractions;
 mod lines;

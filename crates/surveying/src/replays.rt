@@ -3,7 +3,7 @@ use super::COUNTER_COUNT;
 use super::RECORDING_LIMIT;
 use super::REFUSAL_COUNT;
 use super::counting::add_one;
-use rules::Tally;
+use replaying::new_tally;
 use tables::places::TABLE_SIZE;
 ghost use mathlib.Core.Path.{_≡_};
 ghost use Prim.Native.Nat.{_<_};
@@ -18,19 +18,6 @@ ghost use Rattle.surveying.specs.Promise.{addAll, noted, recordingOn, Su
 
 // A 17th recording.
 const ONE_TOO_MANY: u8 = 29;
-
-pub fn new_tally() -> Tally
-    ensures { λ r. ⌜ r ≡ newTally ⌝ }
-{
-    Tally {
-        total: 0,
-        dropped: 0,
-        delivered: 0,
-        forwarded: 0,
-        spread: 0,
-        kept: 0,
-    }
-}
 
 // Makes the calls of a recording's entries, with a new tally, and gives the counters with what they answer.
 fn replay(file: &[u8], work: &mut [u8], counts: [u64; COUNTER_COUNT]) -> [u64; COUNTER_COUNT]
@@ -76,7 +63,8 @@ pub fn add_recording(
     refusals: &mut [u8; REFUSAL_COUNT],
 ) -> u8
     ensures { λ r. ⌜ Surveys
-        (recordingOn (now (file .entry)) (now (start .entry)) (now (work .entry)) (now (counts .entry)) (now (refusals .entry)))
+        (recordingOn (now (file .entry)) (now (start .entry)) (now (work .entry)) (now (counts .entry))
+        (now (refusals .entry)))
         r (now (start .entry)) (now (work .exit)) (now (counts .exit)) (now (refusals .exit)) ⌝ }
 {
     let read = refusals[0];

@@ -1,9 +1,9 @@
 // The tables that every recording starts from: those of a fresh relay, set as a saved one is.
 use super::COUNTER_COUNT;
 use super::REFUSAL_COUNT;
-use super::replays::new_tally;
 use numbers::LOCAL_COUNT;
 use numbers::PORT_COUNT;
+use replaying::new_tally;
 use rules::RateSettings;
 use tables::places::TABLE_SIZE;
 ghost use mathlib.Core.Bool.{true};
@@ -125,7 +125,8 @@ pub fn begin(
     refusals: &mut [u8; REFUSAL_COUNT],
 ) -> u8
     ensures { λ r. ⌜ Surveys
-        (startOn (now (file .entry)) (now (start .entry)) (now (work .entry)) (now (counts .entry)) (now (refusals .entry)))
+        (startOn (now (file .entry)) (now (start .entry)) (now (work .entry)) (now (counts .entry))
+        (now (refusals .entry)))
         r (now (start .exit)) (now (work .exit)) (now (counts .exit)) (now (refusals .exit)) ⌝ }
 {
     let loaded = saved::load(file, work, new_tally());

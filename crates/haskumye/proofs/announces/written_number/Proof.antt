@@ -1,4 +1,4 @@
-use Rattle.haskumye.specs.Packets.{writtenNumber}
+use Rattle.crossing.specs.Packets.{writtenNumber}
 use borrow.Author.Needs.{needs}
 use Rattle.haskumye.proofs.announces.written_number.Statement.{statement}
 use Rattle.haskumye.proofs.announces.written_number.Tie as tie

@@ -50,8 +50,8 @@ use denote.Exit.{yes}
 use contract.Lifetimes.{Lfts, Shares}
 use lib.Dec.{eqb}
 use Rattle.relay.specs.Promise.{JudgementOn, packetOn}
-use Rattle.haskumye.specs.Answers.{answerNumber}
-use Rattle.haskumye.specs.Packets.{payloadPlace}
+use Rattle.crossing.specs.Answers.{answerNumber}
+use Rattle.crossing.specs.Packets.{payloadPlace}
 use Rattle.haskumye.specs.declared.packet_call.Numbered.{Numbered}
 use Rattle.rules.specs.declared.Tally.{Tally}
 use Rattle.haskumye.proofs.packet_call.Numbered as J

@@ -1,5 +1,5 @@
 use mathlib.Core.Path.{ap₂, _∙_}
-use Rattle.haskumye.specs.Answers.{answerNumber}
+use Rattle.crossing.specs.Answers.{answerNumber}
 use borrow.Author.Needs.{needs}
 use Rattle.haskumye.proofs.packet_call.judge_numbered.Statement.{statement}
 use Rattle.haskumye.proofs.packet_call.judge_numbered.Tie as tie

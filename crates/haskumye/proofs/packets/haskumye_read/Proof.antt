@@ -1,7 +1,7 @@
 use mathlib.Core.Path.{ap, _∙_}
 use denote.Ref.{now}
 use Rattle.packet.specs.declared.Reading.{Reading}
-use Rattle.haskumye.specs.Packets.{partsBytes}
+use Rattle.crossing.specs.Packets.{partsBytes}
 use Rattle.haskumye.proofs.ExportLaws.{written, untouched}
 use borrow.Author.Needs.{needs}
 use Rattle.haskumye.proofs.packets.haskumye_read.Statement.{statement}

@@ -1,7 +1,7 @@
 use mathlib.Core.Path.{ap, _∙_}
 use Rattle.packet.specs.Write.{Writing, writing}
 use Rattle.packet.specs.declared.Parts.{Parts}
-use Rattle.haskumye.specs.Packets.{writtenNumber}
+use Rattle.crossing.specs.Packets.{writtenNumber}
 use Rattle.haskumye.proofs.ExportLaws.{written-most}
 use native.Mathlib.Omega.{arith}
 use borrow.Author.Needs.{needs}

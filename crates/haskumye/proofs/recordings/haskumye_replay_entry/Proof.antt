@@ -5,9 +5,9 @@ use mathlib.Core.Path.{ap, ap₂, subst, _∙_}
 use Rattle.rules.specs.declared.Tally.{Tally}
 use Rattle.replaying.specs.Promise.{StepOn, stepOn, Steps}
 use Rattle.replaying.specs.declared.Stepped.{Stepped}
-use Rattle.haskumye.specs.Answers.{answerNumber}
-use Rattle.haskumye.specs.Packets.{payloadPlace}
-use Rattle.haskumye.specs.Tallies.{tallyNumbers, tallyIn}
+use Rattle.crossing.specs.Answers.{answerNumber}
+use Rattle.crossing.specs.Packets.{payloadPlace}
+use Rattle.crossing.specs.Tallies.{tallyNumbers, tallyIn}
 use Rattle.haskumye.proofs.RecordingLaws.{line-written, line-stays}
 use borrow.Author.Needs.{needs}
 use Rattle.haskumye.proofs.recordings.haskumye_replay_entry.Statement.{statement}

@@ -1,7 +1,7 @@
 use Prim.Native.Nat.{_≤_}
 use mathlib.Core.Path.{ap}
 use native.Mathlib.Omega.{arith}
-use Rattle.haskumye.specs.Recordings.{recordedNumber}
+use Rattle.crossing.specs.Recordings.{recordedNumber}
 use Rattle.haskumye.proofs.RecordingLaws.{recorded-most}
 use borrow.Author.Needs.{needs}
 use Rattle.haskumye.proofs.recordings.haskumye_write_recording.Statement.{statement}

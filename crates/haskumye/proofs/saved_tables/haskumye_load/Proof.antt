@@ -1,6 +1,6 @@
 use mathlib.Core.Path.{ap, _∙_}
 use Rattle.saved.specs.Load.{LoadedOn, loadOn}
-use Rattle.haskumye.specs.Tallies.{tallyNumbers}
+use Rattle.crossing.specs.Tallies.{tallyNumbers}
 use borrow.Author.Needs.{needs}
 use Rattle.haskumye.proofs.saved_tables.haskumye_load.Statement.{statement}
 use Rattle.haskumye.proofs.saved_tables.haskumye_load.Tie as tie

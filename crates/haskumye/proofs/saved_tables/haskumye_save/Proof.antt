@@ -6,7 +6,7 @@ use Rattle.saved.specs.Save.{SavedOn, saveOn}
 use Rattle.saved.specs.File.{savedSize}
 use Rattle.saved.specs.declared.Saved.{Saved}
 use Rattle.saved.proofs.SaveLaws.{save-most}
-use Rattle.haskumye.specs.Saved.{savedNumber}
+use Rattle.crossing.specs.Saved.{savedNumber}
 use native.Mathlib.Omega.{arith}
 use borrow.Author.Needs.{needs}
 use Rattle.haskumye.proofs.saved_tables.haskumye_save.Statement.{statement}

@@ -50,14 +50,18 @@ loop-less c = search needs
 
 loop-again : tie.Need-loop-again Inv-loop μ-loop
 loop-again c =
-    let a = c .before .before .before .before .args in
-    let good = c .before .before .before .before .good in
-    let l = c .before .before .before .loop in
+    let c2 = c .before .before in
+    let c3 = c2 .before in
+    let c4 = c3 .before in
+    let a = c4 .args in
+    let good = c4 .good in
+    let l = c3 .loop in
     let long : length (a .counts) ≡ 79 = search needs in
     let x : Answered = entry (a .came) (a .size) (a .answer) in (
       search needs,
       simp length-set (omega (arith, l .inv .1)),
-      one-more (a .counts) x long (l .grown) (l .counter) (l .inv .2) (c .before .before .loop-test .taken) _ _ (c .wrapping-add-u64 .ensures) (c .before .counted-at .ensures),
+      one-more (a .counts) x long (l .grown) (l .counter) (l .inv .2) (c2 .loop-test .taken) _ _ (c .wrapping-add-u64 .ensures)
+          (c .before .counted-at .ensures),
     )
 
 returns : tie.Need-returns Inv-loop μ-loop

@@ -25,7 +25,10 @@ leaving-by-requires c κs = search needs
 
 returns-3 : tie.Need-returns-3
 unfolding countedAt packetsOn bytesInOn bytesOutBy droppedOn droppedBy acceptedOn _then_otherwise_
-returns-3 c = rw (le-ltb _ _ (c .before .before .before .if1 .left), le-ltb _ _ (c .before .before .if2 .left), lt-ltb _ _ (c .before .if3 .taken)) (c .leaving-by .ensures)
+returns-3 c =
+    let c2 = c .before .before in
+    let c3 = c2 .before in
+    rw (le-ltb _ _ (c3 .if1 .left), le-ltb _ _ (c2 .if2 .left), lt-ltb _ _ (c .before .if3 .taken)) (c .leaving-by .ensures)
 
 dropped-on-requires : tie.Need-dropped-on-requires
 dropped-on-requires c κs = search needs
@@ -33,7 +36,10 @@ dropped-on-requires c κs = search needs
 returns-4 : tie.Need-returns-4
 unfolding countedAt packetsOn bytesInOn bytesOutBy droppedOn droppedBy acceptedOn _then_otherwise_
 returns-4 c =
-    rw (le-ltb _ _ (c .before .before .before .before .if1 .left), le-ltb _ _ (c .before .before .before .if2 .left), le-ltb _ _ (c .before .before .if3 .left), lt-ltb _ _ (c .before .if4 .taken))
+    let c2 = c .before .before in
+    let c3 = c2 .before in
+    let c4 = c3 .before in
+    rw (le-ltb _ _ (c4 .if1 .left), le-ltb _ _ (c3 .if2 .left), le-ltb _ _ (c2 .if3 .left), lt-ltb _ _ (c .before .if4 .taken))
     (c .dropped-on .ensures)
 
 dropped-by-requires : tie.Need-dropped-by-requires
@@ -42,7 +48,10 @@ dropped-by-requires c κs = search needs
 returns-5 : tie.Need-returns-5
 unfolding countedAt packetsOn bytesInOn bytesOutBy droppedOn droppedBy acceptedOn _then_otherwise_
 returns-5 c =
-    rw (le-ltb _ _ (c .before .before .before .before .if1 .left), le-ltb _ _ (c .before .before .before .if2 .left), le-ltb _ _ (c .before .before .if3 .left), le-ltb _ _ (c .before .if4 .left))
+    let c2 = c .before .before in
+    let c3 = c2 .before in
+    let c4 = c3 .before in
+    rw (le-ltb _ _ (c4 .if1 .left), le-ltb _ _ (c3 .if2 .left), le-ltb _ _ (c2 .if3 .left), le-ltb _ _ (c .before .if4 .left))
     (c .dropped-by .ensures)
 
 pub counted-at-spec : {M : Type 1} → statement M

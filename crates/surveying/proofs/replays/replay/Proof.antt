@@ -63,13 +63,15 @@ loop-again c =
     let w = a .work .now in
     let y = c .before .before .before .before .before .before .before .before .before .before .new-tally .result in
     let l = c .before .before .before .before .before .before .before .before .before .loop in
+    let fields = c .before .before .before .before .before .before .before .entry .ensures in
+    let body = c .before .before .before .before .before .before .body .ensures in
     let step = c .before .before .before .before .step .ensures in (
       search needs,
       search needs,
       next-tables f w y (l .i) (l .work) (l .tally) (l .inv .2) (l .inv .3) _ (step .1),
       next-tally f w y (l .i) (l .work) (l .tally) (l .inv .2) (l .inv .3) _ (ap (λ (x : Stepped). x .tally) (step .0)),
-      next-counts f w y (l .i) (l .work) (l .tally) (l .inv .2) (l .inv .3) (a .counts) (l .grown) _ (l .inv .4) (c .before .before .before .before .before .before .before .entry .result) (c .before .before .before .before .before .before .before .entry .ensures) _
-          (c .before .before .before .before .before .before .body .ensures) _ (ap (λ (x : Stepped). x .answer) (step .0)) (c .add-one .ensures),
+      next-counts f w y (l .i) (l .work) (l .tally) (l .inv .2) (l .inv .3) (a .counts) (l .grown) _ (l .inv .4) _ fields _ body _
+          (ap (λ (x : Stepped). x .answer) (step .0)) (c .add-one .ensures),
     )
 
 same-length : tie.Need-same-length Inv-loop μ-loop
@@ -78,16 +80,19 @@ same-length c = search needs
 returns : tie.Need-returns Inv-loop μ-loop
 unfolding answersUpTo entriesOf
 returns c =
-    let a = c .before .before .before .before .before .before .args in
+    let c2 = c .before .before in
+    let c3 = c2 .before in
+    let c6 = c3 .before .before .before in
+    let a = c6 .args in
     let f : List ℕ = a .file .now in
     let w : List ℕ = a .work .now in
-    let y : Tally = c .before .before .new-tally .result in
+    let y : Tally = c2 .new-tally .result in
     let l = c .before .loop in
-    let end : l .i ≡ countOf f = le-antisymm (omega (arith, c .before .before .before .count .ensures, l .inv .0)) (omega (arith, c .before .before .before .count .ensures, c .loop-test .left)) in (
+    let end : l .i ≡ countOf f = le-antisymm (omega (arith, c3 .count .ensures, l .inv .0)) (omega (arith, c3 .count .ensures, c .loop-test .left)) in (
       l .inv .4
           ∙ ap (λ (n : ℕ). addAll (a .counts) (answersUpTo f w y n)) end
-          ∙ ap (λ (z : Tally). addAll (a .counts) (answersUpTo f w z (countOf f))) (c .before .before .new-tally .ensures),
-      l .inv .2 ∙ ap (λ (n : ℕ). stepsOn f n w y .tables) end ∙ ap (λ (z : Tally). stepsOn f (countOf f) w z .tables) (c .before .before .new-tally .ensures),
+          ∙ ap (λ (z : Tally). addAll (a .counts) (answersUpTo f w z (countOf f))) (c2 .new-tally .ensures),
+      l .inv .2 ∙ ap (λ (n : ℕ). stepsOn f n w y .tables) end ∙ ap (λ (z : Tally). stepsOn f (countOf f) w z .tables) (c2 .new-tally .ensures),
     )
 
 pub replay-spec : {M : Type 1} → statement M

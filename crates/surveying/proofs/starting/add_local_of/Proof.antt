@@ -15,8 +15,12 @@ same-length c = search needs
 
 returns : tie.Need-returns
 returns c =
-    let a = c .before .before .before .before .before .before .before .before .before .args in
-    c .before .before .add-local .ensures .1 ∙ local-there (a .from .now) (c .before .before .before .before .before .before .before .before .before .pre .0) (a .place) _ _ _ (a .to .now) (c .before .before .before .before .before .local-at .ensures) (c .before .before .before .before .if1 .taken)
+    let c2 = c .before .before in
+    let c4 = c2 .before .before in
+    let c5 = c4 .before in
+    let c9 = c5 .before .before .before .before in
+    let a = c9 .args in
+    c2 .add-local .ensures .1 ∙ local-there (a .from .now) (c9 .pre .0) (a .place) _ _ _ (a .to .now) (c5 .local-at .ensures) (c4 .if1 .taken)
 
 returns-2 : tie.Need-returns-2
 returns-2 c =

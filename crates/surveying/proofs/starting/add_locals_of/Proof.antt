@@ -31,13 +31,17 @@ loop-less c = search needs
 
 loop-again : tie.Need-loop-again Inv-loop μ-loop
 loop-again c =
-    let a = c .before .before .before .before .before .before .before .before .args in
-    let l = c .before .before .before .before .before .loop in
+    let c2 = c .before .before in
+    let c4 = c2 .before .before in
+    let c5 = c4 .before in
+    let c8 = c5 .before .before .before in
+    let a = c8 .args in
+    let l = c5 .loop in
     let all = locals-length (a .from .now) in (
       search needs,
       search needs,
-      local-more (relayOf (a .from .now) .locals) (a .to .now) (l .to) (l .place) (omega (arith, all, c .before .before .before .before .loop-test .taken)) (l .inv .2) _
-          (c .before .before .add-local-of .ensures),
+      local-more (relayOf (a .from .now) .locals) (a .to .now) (l .to) (l .place) (omega (arith, all, c4 .loop-test .taken)) (l .inv .2) _
+          (c2 .add-local-of .ensures),
     )
 
 same-length : tie.Need-same-length Inv-loop μ-loop

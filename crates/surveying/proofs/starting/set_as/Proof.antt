@@ -18,8 +18,12 @@ same-length c = search needs
 
 returns : tie.Need-returns
 returns c =
-    let a = c .before .before .before .before .before .before .before .before .before .before .before .before .before .before .args in
-    all-set (relayOf (a .from .now)) (a .to .now) _ _ _ (c .before .before .before .before .before .before .before .before .before .before .set-ports-as .ensures) (c .before .before .before .before .before .before .set-rate-as .ensures) (c .before .before .add-locals-of .ensures)
+    let c2 = c .before .before in
+    let c6 = c2 .before .before .before .before in
+    let c10 = c6 .before .before .before .before in
+    let c14 = c10 .before .before .before .before in
+    let a = c14 .args in
+    all-set (relayOf (a .from .now)) (a .to .now) _ _ _ (c10 .set-ports-as .ensures) (c6 .set-rate-as .ensures) (c2 .add-locals-of .ensures)
 
 pub set-as-spec : {M : Type 1} → statement M
 set-as-spec =

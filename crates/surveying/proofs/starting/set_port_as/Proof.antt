@@ -29,10 +29,15 @@ same-length c = search needs
 
 returns : tie.Need-returns
 returns c =
-    let a = c .before .before .before .before .before .before .before .before .before .before .args in
-    (rw (c .before .before .before .wide .ensures, c .before .before .before .before .before .size-in .ensures) at (c .before .before .set-port .ensures .1))
+    let c2 = c .before .before in
+    let c3 = c2 .before in
+    let c5 = c3 .before .before in
+    let c6 = c5 .before in
+    let c10 = c6 .before .before .before .before in
+    let a = c10 .args in
+    (rw (c3 .wide .ensures, c5 .size-in .ensures) at (c2 .set-port .ensures .1))
     ∙ ap (λ (k : TableCall). callOn (a .to .now) k .tables)
-    (port-told-as (a .from .now) (c .before .before .before .before .before .before .before .before .before .before .pre .0) (a .port) (c .before .before .before .before .before .before .before .before .before .before .pre .1) _ _ (c .before .before .before .before .before .before .port-settings .ensures .1))
+    (port-told-as (a .from .now) (c10 .pre .0) (a .port) (c10 .pre .1) _ _ (c6 .port-settings .ensures .1))
 
 pub set-port-as-spec : {M : Type 1} → statement M
 set-port-as-spec =

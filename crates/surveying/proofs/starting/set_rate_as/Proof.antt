@@ -23,10 +23,14 @@ same-length c = search needs
 returns : tie.Need-returns
 unfolding rateCall
 returns c =
-    let a = c .before .before .before .before .before .before .before .before .before .args in
-    c .before .before .set-rate .ensures .1
+    let c2 = c .before .before in
+    let c4 = c2 .before .before in
+    let c5 = c4 .before in
+    let c9 = c5 .before .before .before .before in
+    let a = c9 .args in
+    c2 .set-rate .ensures .1
     ∙ ap (λ (s : RateSettings). callOn (a .to .now) (sets-rate (s .target) (s .grace) (s .penalty)) .tables)
-    (c .before .before .before .before .rate-in .ensures ∙ rate-told-as (a .from .now) (c .before .before .before .before .before .before .before .before .before .pre) _ _ (c .before .before .before .before .before .rate-settings .ensures .1))
+    (c4 .rate-in .ensures ∙ rate-told-as (a .from .now) (c9 .pre) _ _ (c5 .rate-settings .ensures .1))
 
 pub set-rate-as-spec : {M : Type 1} → statement M
 set-rate-as-spec =

@@ -1,0 +1,90 @@
+use Prim.Native.Nat.{ℕ}
+use mathlib.Core.List.{List, [], _∷_}
+use mathlib.Core.Path.{ap, _∙_}
+use lib.ListN.{replicate, length-replicate}
+use Rattle.octets.specs.Part.{patch}
+use Rattle.packet.specs.Write.{Wide}
+use Rattle.crossing.proofs.PartsLaws.{parts-written}
+use native.Mathlib.Omega.{arith}
+use borrow.Author.Needs.{needs}
+use Rattle.crossing.proofs.parts.parts_bytes.Statement.{statement}
+use Rattle.crossing.proofs.parts.parts_bytes.Tie as tie
+
+wide : (s : tie.Start) → Wide (s .args .parts)
+wide s = record { relay = search needs; destination = search needs }
+
+slice-aggregate-set-at : tie.Need-slice-aggregate-set-at
+slice-aggregate-set-at c = search needs
+
+set-at-requires : tie.Need-set-at-requires
+set-at-requires c κs = search needs
+
+slice-aggregate-set-at-2 : tie.Need-slice-aggregate-set-at-2
+slice-aggregate-set-at-2 c = search needs
+
+set-at-requires-2 : tie.Need-set-at-requires-2
+set-at-requires-2 c κs = search needs
+
+slice-aggregate-copy-at : tie.Need-slice-aggregate-copy-at
+slice-aggregate-copy-at c = search needs
+
+slice-aggregate-copy-at-2 : tie.Need-slice-aggregate-copy-at-2
+slice-aggregate-copy-at-2 c = search needs
+
+copy-at-requires : tie.Need-copy-at-requires
+copy-at-requires c κs =
+    let c3 = c .before .before .before in
+    let c6 = c3 .before .before .before in
+    omega (arith, wide (c6 .before .before .before .before) .relay, c6 .set-at .kept .0, c3 .set-at2 .kept .0)
+
+slice-aggregate-copy-at-3 : tie.Need-slice-aggregate-copy-at-3
+slice-aggregate-copy-at-3 c = search needs
+
+slice-aggregate-copy-at-4 : tie.Need-slice-aggregate-copy-at-4
+slice-aggregate-copy-at-4 c = search needs
+
+copy-at-requires-2 : tie.Need-copy-at-requires-2
+copy-at-requires-2 c κs =
+    let c3 = c .before .before .before in
+    let c7 = c3 .before .before .before .before in
+    let c10 = c7 .before .before .before in
+    omega (arith, wide (c10 .before .before .before .before) .destination, c10 .set-at .kept .0, c7 .set-at2 .kept .0, c3 .copy-at .kept .0)
+
+slice-aggregate-set-at-3 : tie.Need-slice-aggregate-set-at-3
+slice-aggregate-set-at-3 c = search needs
+
+set-at-requires-3 : tie.Need-set-at-requires-3
+set-at-requires-3 c κs = search needs
+
+returns : tie.Need-returns
+returns c =
+    let c4 = c .before .before .before .before in
+    let c8 = c4 .before .before .before .before in
+    let c12 = c8 .before .before .before .before in
+    let c15 = c12 .before .before .before in
+    let s = c15 .before .before .before .before in
+    let q = s .args .parts in
+    let hops = c12 .set-at2 .ensures ∙ ap (λ (r : List ℕ). patch r 1 (q .hops ∷ [])) (c15 .set-at .ensures) in
+    let relay = c8 .copy-at .ensures ∙ ap (λ (r : List ℕ). patch r 2 (q .relay)) hops in
+    let destination = c4 .copy-at2 .ensures ∙ ap (λ (r : List ℕ). patch r 18 (q .destination)) relay in
+    c .before .set-at3 .ensures
+    ∙ ap (λ (r : List ℕ). patch r 34 (q .context ∷ [])) destination
+    ∙ parts-written (replicate 35 0) (length-replicate {A = ℕ} 35 0) q (wide s)
+
+pub parts-bytes-spec : {M : Type 1} → statement M
+parts-bytes-spec =
+    tie.close
+    (tie.spec
+    slice-aggregate-set-at
+    set-at-requires
+    slice-aggregate-set-at-2
+    set-at-requires-2
+    slice-aggregate-copy-at
+    slice-aggregate-copy-at-2
+    copy-at-requires
+    slice-aggregate-copy-at-3
+    slice-aggregate-copy-at-4
+    copy-at-requires-2
+    slice-aggregate-set-at-3
+    set-at-requires-3
+    returns)

@@ -1,0 +1,39 @@
+use mathlib.Core.Path.{refl}
+use Rattle.crossing.specs.Tallies.{tallyIn}
+use borrow.Author.Needs.{needs}
+use Rattle.crossing.proofs.tallies.tally_in.Statement.{statement}
+use Rattle.crossing.proofs.tallies.tally_in.Tie as tie
+
+array-read-t5 : tie.Need-array-read-t5
+array-read-t5 c = search needs
+
+array-read-t8 : tie.Need-array-read-t8
+array-read-t8 c = search needs
+
+array-read-t11 : tie.Need-array-read-t11
+array-read-t11 c = search needs
+
+array-read-t14 : tie.Need-array-read-t14
+array-read-t14 c = search needs
+
+array-read-t17 : tie.Need-array-read-t17
+array-read-t17 c = search needs
+
+array-read-t20 : tie.Need-array-read-t20
+array-read-t20 c = search needs
+
+returns : tie.Need-returns
+unfolding tallyIn
+returns c = refl
+
+pub tally-in-spec : {M : Type 1} → statement M
+tally-in-spec =
+    tie.close
+    (tie.spec
+    array-read-t5
+    array-read-t8
+    array-read-t11
+    array-read-t14
+    array-read-t17
+    array-read-t20
+    returns)
