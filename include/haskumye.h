@@ -427,7 +427,7 @@ typedef struct {
     uint64_t counters[HASKUMYE_COUNTER_COUNT];
 } haskumye_survey_counts;
 
-/* The refusals of a survey's recordings: at 0 how many were read, at n the refusal of the nth or 0, at 17 that of a 17th. */
+/* Of a survey's recordings: at 0 how many were read, at n the refusal of the nth or 0, at 17 that of a 17th. */
 typedef struct {
     uint8_t refusals[HASKUMYE_REFUSAL_COUNT];
 } haskumye_survey_refusals;

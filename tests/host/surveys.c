@@ -20,8 +20,8 @@ static const uint8_t recording[LENGTH] = {1,  1, 0, 2, 0, 0, 0, 0, 9, 3,        
 static struct buffer settings(void)
 {
     struct use use = {.input = buffer_new(16, 0), .tables = buffer_new(HASKUMYE_TABLE_SIZE, 0), .port = 3,
-                      .byte = HASKUMYE_ON, .size = HASKUMYE_LONGEST_PACKET, .tally = buffer_new(sizeof(haskumye_tally), 7),
-                      .output = buffer_new(HASKUMYE_SAVED_SIZE, 0)};
+                      .byte = HASKUMYE_ON, .size = HASKUMYE_LONGEST_PACKET,
+                      .tally = buffer_new(sizeof(haskumye_tally), 7), .output = buffer_new(HASKUMYE_SAVED_SIZE, 0)};
     expect("fresh", library_call(FRESH, &use), 0);
     expect("a port", library_call(SET_PORT, &use), 0);
     expect("a local address", library_call(ADD_LOCAL, &use), 0);

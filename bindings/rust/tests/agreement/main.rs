@@ -49,7 +49,10 @@ impl Texts {
             header: text("include/haskumye.h"),
             rust: text("bindings/rust/src/lib.rs") + &text("bindings/rust/src/raw.rs"),
             rattle: LENGTHS.iter().map(|path| text(path)).collect::<String>() + &rattle_texts("crates/haskumye/src"),
-            numbers: rattle_texts("crates/numbers/src") + &text("crates/recording/src/numbers.rt") + &text("crates/saved/src/format.rt") + &rattle_texts("crates/surveying/src"),
+            numbers: rattle_texts("crates/numbers/src")
+                + &text("crates/recording/src/numbers.rt")
+                + &text("crates/saved/src/format.rt")
+                + &rattle_texts("crates/surveying/src"),
         }
     }
 
