@@ -3,12 +3,14 @@ MAKEFLAGS += --no-print-directory
 FILE ?= README.md
 TABLES ?= crates/replay/data/tables
 RECORDING ?= crates/replay/data/recording
+SETTINGS ?= crates/survey/data/settings
+RECORDINGS ?= $(RECORDING)
 SEED ?= 1
 CALLS ?= 1000000
 PREFIX ?= /usr/local
 DESTDIR ?=
 
-.PHONY: lib demo show replay install dist test bench soak memcheck clean help
+.PHONY: lib demo show replay survey install dist test bench soak memcheck clean help
 
 ## make            proves the core, writes the library to target/      six minutes of one processor once, then what changed
 lib: target/libhaskumye.a target/libhaskumye.so
@@ -30,6 +32,10 @@ show:
 ## make replay     the lines of a recording, by a proved program       six minutes once; TABLES= and RECORDING=, else the demo's
 replay:
 	@scripts/replay "$(TABLES)" "$(RECORDING)"
+
+## make survey     a site's recordings by port and by reason, the same    eight minutes once; SETTINGS= and RECORDINGS=, else the demo's
+survey:
+	@scripts/survey "$(SETTINGS)" $(RECORDINGS)
 
 ## make install    header, library, Python module, the desk            a second; PREFIX=/usr/local, DESTDIR= for a package
 install: lib

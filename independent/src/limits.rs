@@ -60,6 +60,9 @@ pub const LATEST_ANNOUNCE: u64 = CLOCK_LIMIT - 1;
 /// "Violations stop at 255."
 pub const VIOLATIONS_LIMIT: u8 = 255;
 
+/// Wish 14: "reads up to 16 recordings one after another"
+pub const RECORDING_LIMIT: usize = 16;
+
 /// Wish 2: "context 0x01, 0x03, 0x05, 0x08, 0x0E or 0xFA". Source 003 names them: a resource, its request and its proof, a cache request,
 /// channel data, a keepalive.
 pub const EXEMPT_CONTEXTS: [u8; 6] = [0x01, 0x03, 0x05, 0x08, 0x0e, 0xfa];

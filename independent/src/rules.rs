@@ -14,6 +14,7 @@ pub use crate::relay::{
 };
 pub use crate::saved::{editions, loading, saving};
 pub use crate::sha256::Sha256;
+pub use crate::survey::{self, PortTotals, Totals};
 pub use crate::tables::{self, check, tuned, AnnounceRate, Link, Mode, Path, Port, RateEntry, Return, Section, Table};
 
 /// Hands the list to a macro: the file of each rule, its name, and its types. A rule that goes by others is given the rules.
@@ -218,6 +219,19 @@ macro_rules! every_rule {
             loading::body_lengths_allowed(file: &[u8]) -> bool;
             loading::loading_room_refused(tables: &[u8]) -> bool;
             loading::put_loaded(file: &[u8], tables: &mut [u8], tally: &mut Tally);
+
+            survey::started(&rules, loaded: &[u8]) -> Vec<u8>;
+            survey::tables_before(start: &[u8], left: &[u8]) -> Vec<u8>;
+            survey::recording_refusal(&rules, number: usize, file: &[u8]) -> Result<(), Refusal>;
+            survey::ends_reading(refusal: Refusal) -> bool;
+            survey::count_refused_recording(file: &[u8], totals: &mut Totals);
+            survey::count_entry(&rules, entry: &Entry, judged: &Judged, totals: &mut Totals);
+            survey::sent_by(entry: &Entry, answer: &Answer, port: u8) -> u64;
+            survey::share(dropped: u64, packets: u64) -> (u64, u64);
+            survey::recording_line(number: usize, refusal: Refusal) -> String;
+            survey::port_line(&rules, port: usize, totals: &PortTotals) -> String;
+            survey::tests() -> [u8; 15];
+            survey::reason_line(test: u8, times: u64) -> String;
         }
     };
 }

@@ -2,10 +2,11 @@
 
 use haskumye_independent::compare::announcing::programs_differ;
 use haskumye_independent::compare::faults::packets_differ;
-use haskumye_independent::compare::saved;
+use haskumye_independent::compare::{saved, survey};
 use haskumye_independent::compare::{tables::compare_with, Options, Tally, SUBJECTS};
-use haskumye_independent::faults::{self, OF_ANNOUNCING, OF_PACKETS, OF_SAVED, OF_TABLES};
+use haskumye_independent::faults::{self, OF_ANNOUNCING, OF_PACKETS, OF_SAVED, OF_SURVEYS, OF_TABLES};
 use haskumye_independent::relay::Relay;
+use haskumye_independent::rules::Tuned;
 
 fn run(name: &str, options: &Options) -> Tally {
     let mut tally = Tally::default();
@@ -56,6 +57,14 @@ fn the_comparison_notices_faults_in_saved_files() {
     assert!(!saved::programs_differ(&Relay::as_written(), &Relay::as_written()));
     for fault in OF_SAVED.concat() {
         assert!(saved::programs_differ(&Relay::as_written(), &fault.relay()), "{}", fault.text);
+    }
+}
+
+#[test]
+fn the_comparison_notices_faults_in_surveys() {
+    assert!(!survey::programs_differ(&Relay::as_written(), &Relay::new(Tuned)));
+    for fault in OF_SURVEYS.concat() {
+        assert!(survey::programs_differ(&Relay::new(Tuned), &fault.relay()), "{}", fault.text);
     }
 }
 

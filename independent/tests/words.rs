@@ -46,7 +46,7 @@ fn faults_break_words_of_the_documents() {
 #[test]
 fn rules_quote_the_documents() {
     let documents = documents();
-    let files = ["announcing.rs", "answer.rs", "limits.rs", "packet", "tables", "relay", "recording", "saved"];
+    let files = ["announcing.rs", "answer.rs", "limits.rs", "packet", "tables", "relay", "recording", "saved", "survey.rs"];
     let texts: Vec<String> = files.iter().flat_map(|file| texts(&root().join("independent/src").join(file))).collect();
     let quotations: Vec<String> = texts.iter().flat_map(|text| quoted(text)).collect();
     assert!(quotations.len() > 80, "{} quotations", quotations.len());

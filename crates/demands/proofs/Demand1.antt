@@ -6,7 +6,7 @@ use mathlib.Core.Bool.{Bool, true, false, not, false≢true}
 use mathlib.Core.List.{List}
 use mathlib.Core.Path.{_≡_, refl, sym, ap, _∙_}
 use lib.Dec.{eqb, ltb, leb}
-use lib.ListN.{length}
+use lib.ListN.{length, getD}
 use borrow.Author.Tests.{ltb-true, ltb-false, eqb-true}
 use Rattle.octets.specs.Bytes.{Bytes}
 use Rattle.octets.specs.Index.{_and_}
@@ -45,6 +45,10 @@ use Rattle.saved.specs.File.{savedSize}
 use Rattle.saved.specs.Save.{saveRows, saveRefusal}
 use Rattle.saved.specs.Load.{lengthWrong, kindWrong, contentsWrong, bodiesWrong, loadRows, loadRefusal, loadOn}
 use Rattle.saved.specs.Format.{saving, loading}
+use Rattle.recording.specs.Reader.{lengthWrong as recordingLengthWrong, kindWrong as recordingKindWrong, placesWrong, wordsWrong, fileRows, fileRefusal}
+use Rattle.surveying.specs.Promise.{startOn, recordingOn}
+use Rattle.surveying.proofs.StartLaws.{not-begun, start-refusal}
+use Rattle.surveying.proofs.SurveyLaws.{recording-refusal, refused-leaves}
 use Rattle.announcing.specs.Announcing.{Announce, signedBytes, announceWith, wrongLengths, announceRows, announceRefusal, anySignature, signing, building}
 use Rattle.announcing.proofs.Lengths.{laid-refusal, laid-stays}
 use Rattle.announcing.proofs.RoundTrip.{refused-alike}
@@ -374,3 +378,28 @@ fresh-rows tables own = go (eqb (length tables) tableSize) refl
 pub fresh-stays : (tables own : List ℕ) → eqb (length tables) tableSize ≡ false → freshOn tables own .tables ≡ tables
 unfolding freshOn _then_otherwise_
 fresh-stays tables own z = rw z
+
+-- ---- the survey, wish 14: a settings file as a load gives it; a recording 29 where sixteen were read, else as the reader gives it. A refusal leaves tables
+-- and counters as they were
+module _ (file start work counts refusals : List ℕ) where
+  pub settings-rows : startOn file start work counts refusals .refusal ≡ loadRefusal file tableSize
+  settings-rows = start-refusal file start work counts refusals
+
+  pub settings-stay : (loadRefusal file tableSize ≡ 0 → ⊥) → startOn file start work counts refusals
+      ≡ record { refusal = loadRefusal file tableSize; start = start; work = work; counts = counts; refusals = refusals }
+  settings-stay = not-begun file start work counts refusals
+
+  pub recording-rows : recordingOn file start work counts refusals .refusal
+      ≡ (leb 16 (getD refusals 0 0) then 29 otherwise
+      recordingLengthWrong file then 20 otherwise
+      recordingKindWrong file then 21 otherwise
+      placesWrong file then 22 otherwise
+      wordsWrong file then 23 otherwise 0)
+  unfolding fileRefusal fileRows firstOf
+  recording-rows = recording-refusal file start work counts refusals
+
+  pub recording-stays : (recordingOn file start work counts refusals .refusal ≡ 0 → ⊥)
+      → (recordingOn file start work counts refusals .start ≡ start)
+      × (recordingOn file start work counts refusals .work ≡ work)
+      × (recordingOn file start work counts refusals .counts ≡ counts)
+  recording-stays = refused-leaves file start work counts refusals

@@ -74,7 +74,7 @@ abbrev recorded : List ℕ → ℕ → ℕ → Entry
 recorded bytes clock port = record { clock = clock; port = port; word = 1; body = bytes }
 
 -- by no port of the sixteen: 4; the announce; once more: drop 2; data for it
-abbrev entries : List Entry
+abbrev pub entries : List Entry
 entries = recorded dataBytes 900 77 ∷ recorded announceBytes 1000 1 ∷ recorded announceBytes 1000 1 ∷ recorded dataBytes 2000 2 ∷ []
 
 abbrev pub file : List ℕ
@@ -99,7 +99,7 @@ bodies : length (bodiesOf entries) ≡ 508
 unfolding bodiesOf joined
 bodies = refl
 
-recordable : Recordable entries
+pub recordable : Recordable entries
 recordable = record { each = each; short = omega (arith, file-size entries, bodies) }
 
 taken : fileRefusal file ≡ 0
@@ -176,7 +176,7 @@ unfolding rules
 early-refused = refl
 
 -- the spread leaves by port 2, the data by port 1, 16 bytes shorter
-abbrev answersBy : (spread forwarded : ℕ) → List Answer
+abbrev pub answersBy : (spread forwarded : ℕ) → List Answer
 answersBy spread forwarded = Refused 4 ∷ Judged (Spread spread 215) ∷ Judged (Drop Duplicate) ∷ Judged (Forward forwarded 39) ∷ []
 
 abbrev after : Relay

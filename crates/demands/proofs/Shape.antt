@@ -7,10 +7,10 @@ use lib.Dec.{eqb}
 use lib.ListN.{length}
 use borrow.Author.Tests.{eqb-true}
 use Rattle.octets.specs.Bytes.{Bytes}
-use Rattle.octets.proofs.Index.{and-left, and-both}
+use Rattle.octets.proofs.Index.{and-left}
 use Rattle.packet.specs.Read.{payloadStart}
-use Rattle.numbers.specs.Numbers.{localCount, pathCount, linkCount, returnCount, hashCount}
-use Rattle.rules.specs.Relay.{Slot, empty, used, Path, Relay, fresh, withPaths, withLinks, withReturns, withHashes}
+use Rattle.numbers.specs.Numbers.{pathCount}
+use Rattle.rules.specs.Relay.{Slot, empty, used, Path, Relay, withPaths, withLinks, withReturns, withHashes}
 use Rattle.rules.specs.View.{View, viewAt}
 use Rattle.rules.specs.Renumbering.{renamePath, renameLink, renameReturn}
 use Rattle.rules.specs.Refusals.{pathOk, slotOk, all, tablesOk}
@@ -24,7 +24,7 @@ use Rattle.rules.specs.Run.{Call, packet, on-tables, asks, saves, loads, ofTold
 use Rattle.rules.specs.declared.Link.{Link}
 use Rattle.rules.specs.declared.Tally.{Tally}
 use Rattle.rules.proofs.Held.{WayKeeps, PlanKeeps, TableKeeps, enact-held, table-held, packet-kept, table-kept, save-kept, load-kept, stays}
-use Rattle.rules.proofs.Tables.{all-set, all-map, all-getD, all-replicate, table-getD}
+use Rattle.rules.proofs.Tables.{all-set, all-map, all-getD, table-getD}
 use Rattle.rules.proofs.Followed.{Found, Planned, planned}
 use Rattle.rules.proofs.Ranges.{emptied-ok, slot-renamed}
 use Rattle.rules.proofs.Valid.{Valid, valid-of, step-ok}
@@ -34,6 +34,7 @@ use Rattle.tables.proofs.All.{is-each}
 use Rattle.tables.proofs.Shaped.{shape, Shaped, shaped-parts, shaped-from}
 use Rattle.saved.specs.Format.{saidBy}
 use Rattle.saved.proofs.FormatLaws.{said-shaped, load-refused-alike}
+pub use Rattle.settings.proofs.Shaped.{fresh-shaped}
 use Rattle.demands.specs.Given.{CallBytes, CallsBytes}
 use Rattle.demands.proofs.Announced.{WayBlob, PlanBlob, plan-blob}
 use Rattle.demands.proofs.Made.{remembered-shaped, return-shaped, link-made, link-renewed, path-made, accepted-whole, path-renumbered, link-renumbered, return-renumbered}
@@ -152,14 +153,3 @@ stays-shaped cs r t b ok s =
     stays (λ x. (tablesOk x ≡ true) × (shaped x ≡ true)) CallBytes
     (λ c x u g q. (step-ok c x u (q .0), step-shaped c x u g (q .0) (q .1)))
     cs r t b (ok, s) .1
-
--- a fresh relay, whose own address is sixteen bytes
-pub fresh-shaped : (own : List ℕ) → isBytes addressWidth own ≡ true → shaped (fresh own) ≡ true
-unfolding shaped fresh slotOk
-fresh-shaped own h =
-    and-both h
-    (and-both (all-replicate (slotOk (isBytes addressWidth)) localCount empty refl)
-    (and-both (all-replicate (slotOk pathShaped) pathCount empty refl)
-    (and-both (all-replicate (slotOk linkShaped) linkCount empty refl)
-    (and-both (all-replicate (slotOk returnShaped) returnCount empty refl)
-    (all-replicate (slotOk hashShaped) hashCount empty refl)))))

@@ -1,3 +1,4 @@
 pub mod RefusalLaws
 pub mod PromiseLaws
 pub mod SignatureLaws
+pub mod LengthLaws

@@ -1,7 +1,9 @@
 // Replays a recording over a saved relay, `replay TABLES RECORDING`: a line for each entry on standard output. A
 // recording that is refused gives one line, `refused` and the number, and so does a file of tables that can't be
 // loaded, `tables refused` and the load's number. The recording's refusal comes first.
-use libc::STDOUT_FILENO;
+use console::print;
+use console::read_file;
+use replaying::new_tally;
 use rules::Tally;
 use tables::places::TABLE_SIZE;
 use text::Text;
@@ -10,10 +12,6 @@ use text::with_number;
 use text::with_text;
 use text::with_word;
 ghost use mathlib.Core.Path.{_≡_};
-ghost use Prim.Native.Nat.{_≤_};
-ghost use lib.ListN.{length};
-ghost use Rattle.io.specs.Counts.{Counts};
-ghost use Rattle.rules.specs.Calls.{newTally};
 ghost use Rattle.recording.specs.Shape.{countOf};
 ghost use Rattle.replaying.specs.Promise.{stepsOn};
 ghost use Rattle.text.specs.Text.{textOf};
@@ -27,44 +25,6 @@ fn tables_refused(refusal: u8) -> Text
 {
     let start = with_word(with_text(text::empty(), b"tables"), b"refused");
     with_character(with_number(start, octets::wide(refusal)), b'\n')
-}
-
-fn new_tally() -> Tally
-    ensures { λ r. ⌜ r ≡ newTally ⌝ }
-{
-    Tally {
-        total: 0,
-        dropped: 0,
-        delivered: 0,
-        forwarded: 0,
-        spread: 0,
-        kept: 0,
-    }
-}
-
-// Writes a text to standard output.
-fn print(line: Text)
-    requires { ⌜ line .length ≤ length (line .bytes) ⌝ }
-{
-    let bytes = line.bytes;
-    let n = line.length;
-    io::write_all(STDOUT_FILENO, &bytes[..n]);
-}
-
-// Reads the file that an argument names, as far as it fits; no bytes where it can't, and standard error says why.
-fn read_file(argument: usize, buffer: &mut [u8]) -> usize
-    ensures { λ r. ⌜ Counts r (now (buffer .exit)) ⌝ }
-{
-    let mut path = io::buffer();
-    let n = os::arg(argument, &mut path);
-    let fd = os::open_read(&path[..n]);
-    if fd < 0 {
-        os::fail(&path[..n]);
-        return 0;
-    }
-    let got = io::read_full(fd, buffer);
-    libc::close(fd);
-    got
 }
 
 // Replays all entries, and prints the line of each. What the calls leave in the tables is what all steps leave.

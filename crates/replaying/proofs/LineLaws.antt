@@ -67,13 +67,15 @@ module _ (w : List ℕ) (l : length w ≤ 7) where
   number-short n few = omega (arith, spaced-most (w ∷ decimal n ∷ []) (7 ∷ 3 ∷ []) (l, (numeral-most 10 (lit≤ tt) 3 n (lit≤ tt) few, tt)))
 
 -- ---- a reason's words
-pub pointed : (t : Text) (w v : List ℕ) → appended (appended (appended t (spaced (w ∷ []))) (point ∷ [])) v ≡ appended t (spaced ((w ++ (point ∷ v)) ∷ []))
-pointed t w v =
+-- a word, a character and more of the word, as a point between test and clause
+pub word-grown : (t : Text) (w : List ℕ) (mark : ℕ) (v : List ℕ)
+    → appended (appended (appended t (spaced (w ∷ []))) (mark ∷ [])) v ≡ appended t (spaced ((w ++ (mark ∷ v)) ∷ []))
+word-grown t w mark v =
     let s : Text = appended t (space ∷ []) in
-    ap (λ (x : Text). appended (appended x (point ∷ [])) v) (sym (word-appended t w))
-    ∙ appended-append (appended s w) (point ∷ []) v
-    ∙ appended-append s w (point ∷ v)
-    ∙ word-appended t (w ++ (point ∷ v))
+    ap (λ (x : Text). appended (appended x (mark ∷ [])) v) (sym (word-appended t w))
+    ∙ appended-append (appended s w) (mark ∷ []) v
+    ∙ appended-append s w (mark ∷ v)
+    ∙ word-appended t (w ++ (mark ∷ v))
 
 module _ (test clause value : ℕ) (t : test < 1000) (k : clause < 1000) (x : value < 2 ^ 64) where
   test-most : length (testWord test clause) ≤ 7

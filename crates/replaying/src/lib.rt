@@ -1,5 +1,5 @@
 // The replay of a recording, as document 02's Wish 1 has it: one step for each entry, and the line that it prints.
-// Entry points: step, line_of, with_reason, with_ports. They have no `requires`, and end on any bytes.
+// Entry points: new_tally, step, line_of, with_reason, with_ports. They have no `requires`, and end on any bytes.
 mod lines;
 mod reasons;
 
@@ -11,6 +11,8 @@ use recording::PLACE_REFUSED;
 use rules::Answer;
 use rules::Tally;
 use text::Text;
+ghost use mathlib.Core.Path.{_≡_};
+ghost use Rattle.rules.specs.Calls.{newTally};
 ghost use Rattle.replaying.specs.Promise.{Steps, stepOn};
 
 // A step: whether the entry was there, what the packet call answered, the tally after it, and the entry's line.
@@ -19,6 +21,20 @@ pub struct Stepped {
     pub answer: Answer,
     pub tally: Tally,
     pub line: Text,
+}
+
+// A replay starts with this tally: none of each.
+pub fn new_tally() -> Tally
+    ensures { λ r. ⌜ r ≡ newTally ⌝ }
+{
+    Tally {
+        total: 0,
+        dropped: 0,
+        delivered: 0,
+        forwarded: 0,
+        spread: 0,
+        kept: 0,
+    }
 }
 
 // The packet call of entry i, over the tables and the tally as they are. Where the entry isn't there: refusal 22, no

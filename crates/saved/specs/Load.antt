@@ -4,14 +4,14 @@ use mathlib.Core.Bool.{Bool, not}
 use mathlib.Core.List.{List, []}
 use mathlib.Core.Path.{_≡_}
 use lib.Dec.{eqb}
-use lib.ListN.{length}
+use lib.ListN.{length, replicate}
 use Rattle.octets.specs.Index.{_and_, allBelow}
 use Rattle.octets.specs.Choice.{_then_otherwise_}
 use Rattle.octets.specs.Listed.{Test, _gives_otherwise_, firstOf}
 use Rattle.codes.specs.Form.{Form, code}
 use Rattle.recording.specs.Shape.{kindOf, editionOf, countOf, lengthOf, offsetsRight, endRight}
 use Rattle.rules.specs.declared.Tally.{Tally}
-use Rattle.tables.specs.Places.{tableSize}
+use Rattle.tables.specs.Places.{addressWidth, tableSize}
 use Rattle.tables.specs.Layout.{bytesOf}
 use Rattle.saved.specs.Editions.{Held, currentEdition, isKnownBy, editionAt, widthAt}
 use Rattle.saved.specs.File.{savedKind, bodyCount, headWidth, bodiesAt}
@@ -73,3 +73,7 @@ loadOn f tables tally =
 -- what a load returned and left is this
 abbrev pub Loads : LoadedOn → ℕ → List ℕ → Tally → Type 0
 Loads x refusal tables tally = (refusal ≡ x .refusal) × (tables ≡ x .tables) × (tally ≡ x .tally)
+
+-- ---- the own address in a file; zeros where a load would refuse it
+unfoldable pub ownIn : List ℕ → List ℕ
+ownIn f = eqb (loadRefusal f tableSize) 0 then heldIn f .0 .own otherwise replicate addressWidth 0

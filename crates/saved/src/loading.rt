@@ -34,7 +34,7 @@ ghost use Rattle.recording.specs.Shape.{entryPlace, countOf, editionOf, lengthO
 ghost use Rattle.tables.specs.Layout.{bytesOf};
 ghost use Rattle.saved.specs.Editions.{counterWidth, tallyForm, isKnown, editionAt};
 ghost use Rattle.saved.specs.File.{headWidth, bodiesAt};
-ghost use Rattle.saved.specs.Load.{lengthWrong, contentsWrong, sizesRight, bodiesWrong, loadRefusal, heldIn, Loads, loadOn};
+ghost use Rattle.saved.specs.Load.{lengthWrong, contentsWrong, sizesRight, bodiesWrong, loadRefusal, heldIn, Loads, loadOn, ownIn};
 ghost use Rattle.saved.specs.Steps.{ContentsRight, tallyAt};
 
 // The sum of the lengths of n entries.
@@ -189,4 +189,14 @@ pub fn load(file: &[u8], tables: &mut [u8], tally: Tally) -> Loaded
         refusal: refusals::NONE,
         tally: tally_at(file, file.len() - TALLY_BODY),
     }
+}
+
+// The own address of the relay in a file, which stands first in every edition. Zeros where a load would refuse the file.
+pub fn own_address(file: &[u8]) -> [u8; 16]
+    ensures { λ r. ⌜ r ≡ ownIn (now (file .entry)) ⌝ }
+{
+    if load_refusal(file, TABLE_SIZE) != refusals::NONE {
+        return [0; 16];
+    }
+    octets::address_at(file, BODIES_AT)
 }

@@ -104,7 +104,7 @@ module _ {A : Type 0} (read : List ℕ → A) (alive : A → Bool) (expiry clock
 -- ---- a record of a section, and what is read of it
 module _ (t : List ℕ) (h : wellFormed t ≡ true) where
   -- a question that row 7 alone could refuse
-  asked : (q : Question) → questionRefusal q (relayOf t) ≡ rowSeven (relayOf t) → tellOn t q ≡ questionRule q .answer (relayOf t)
+  pub asked : (q : Question) → questionRefusal q (relayOf t) ≡ rowSeven (relayOf t) → tellOn t q ≡ questionRule q .answer (relayOf t)
   unfolding tellOn tell rowSeven firstOf _then_otherwise_
   asked q e = rw (h, e, ok-relay t h)
 

@@ -1,10 +1,10 @@
 //! Every deliberate fault must be noticed: the core is compared with an independent program that has it, on traffic; and where no traffic
-//! can show it, on packets, on recordings, on saved files, or on announces of our own.
+//! can show it, on packets, on recordings, on saved files, on announces of our own, or on surveys.
 
 use super::lockstep::{compare, Difference};
-use super::{announcing, packet, recording, saved, shrink, Options, Tally};
+use super::{announcing, packet, recording, saved, shrink, survey, Options, Tally};
 use crate::engine::Call;
-use crate::faults::{self, Fault, With, OF_ANNOUNCING, OF_PACKETS, OF_RECORDINGS, OF_SAVED};
+use crate::faults::{self, Fault, With, OF_ANNOUNCING, OF_PACKETS, OF_RECORDINGS, OF_SAVED, OF_SURVEYS};
 use crate::linked::Core;
 use crate::relay::Relay;
 use crate::rules::{AsWritten, Rules};
@@ -21,6 +21,7 @@ const APART: &[Apart] = &[
     (OF_RECORDINGS, "recordings", |relay| recording::programs_differ(&Core, relay)),
     (OF_SAVED, "saved files", |relay| saved::programs_differ(&Core, relay)),
     (OF_ANNOUNCING, "announces of our own", |relay| announcing::programs_differ(&Core, relay)),
+    (OF_SURVEYS, "surveys", |relay| survey::programs_differ(&Core, relay)),
 ];
 
 pub fn run(options: &Options, tally: &mut Tally) {

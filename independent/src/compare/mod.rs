@@ -14,6 +14,7 @@ mod renumbering;
 pub mod saved;
 mod sha256;
 pub mod shrink;
+pub mod survey;
 pub mod tables;
 
 use crate::engine::Call;
@@ -70,6 +71,7 @@ pub const SUBJECTS: &[Subject] = &[
     ("renumbering", renumbering::run),
     ("recording", recording::run),
     ("saved", saved::run),
+    ("survey", survey::run),
     ("faults", faults::run),
 ];
 

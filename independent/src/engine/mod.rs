@@ -6,6 +6,7 @@ mod call;
 mod packets;
 mod recordings;
 mod saved;
+mod survey;
 
 pub use announcing::AnnounceCalls;
 pub use answers::{decoded, encoded, AnswerCalls};
@@ -13,6 +14,7 @@ pub use call::{Call, PacketCall};
 pub use packets::PacketCalls;
 pub use recordings::{Fields, RecordingCalls};
 pub use saved::SavedCalls;
+pub use survey::SurveyCalls;
 
 use crate::answer::{Answer, Refusal, Tally};
 use crate::files::aged;

@@ -22,6 +22,7 @@ mod returns;
 mod saved;
 mod settings;
 mod sizes;
+mod survey;
 mod with;
 
 pub use accepting::*;
@@ -45,6 +46,7 @@ pub use returns::*;
 pub use saved::*;
 pub use settings::*;
 pub use sizes::*;
+pub use survey::*;
 pub use with::{Changes, With};
 
 use crate::relay::Relay;
@@ -102,8 +104,11 @@ pub const OF_SAVED: &[&[Fault]] = &[saved::FAULTS];
 /// Those that show in announces of our own alone.
 pub const OF_ANNOUNCING: &[&[Fault]] = &[announcing::FAULTS];
 
+/// Those that show in surveys alone.
+pub const OF_SURVEYS: &[&[Fault]] = &[survey::FAULTS];
+
 pub fn all() -> Vec<Fault> {
-    [OF_PACKETS, OF_TABLES, OF_JUDGING, OF_RECORDINGS, OF_SAVED, OF_ANNOUNCING].concat().concat()
+    [OF_PACKETS, OF_TABLES, OF_JUDGING, OF_RECORDINGS, OF_SAVED, OF_ANNOUNCING, OF_SURVEYS].concat().concat()
 }
 
 pub fn named(name: &str) -> Option<Fault> {

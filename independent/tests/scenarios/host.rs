@@ -1,7 +1,7 @@
 //! A relay of either program, and the packets that scenarios send it.
 
 use haskumye_independent::answer::{no_way_on, Clause, NoWay, Reason, Tally, Verdict};
-use haskumye_independent::engine::{Engine, Outcome, PacketCalls, RecordingCalls};
+use haskumye_independent::engine::{Engine, Outcome, PacketCalls, RecordingCalls, SurveyCalls};
 use haskumye_independent::limits::LONGEST;
 use haskumye_independent::packet::{self, announced, encode, hash, Address, Header, PacketHash, Parts};
 use haskumye_independent::relay::Arrival;
@@ -15,8 +15,8 @@ pub const NEIGHBOUR: Address = [0xbb; 16];
 pub const BEFORE: [u8; 520] = [0xee; 520];
 
 /// All calls of a program.
-pub trait Program: Engine + PacketCalls + RecordingCalls {}
-impl<P: Engine + PacketCalls + RecordingCalls> Program for P {}
+pub trait Program: Engine + PacketCalls + RecordingCalls + SurveyCalls {}
+impl<P: Engine + PacketCalls + RecordingCalls + SurveyCalls> Program for P {}
 
 /// A relay with ports 0 to 3 on: port 1 roaming, port 2 an access point, the others boundary.
 pub struct Host {

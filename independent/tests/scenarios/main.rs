@@ -19,6 +19,7 @@ mod returns;
 mod saved;
 mod settings;
 mod sizes;
+mod survey;
 mod tables;
 
 /// Makes a test of each scenario on the independent program, with either check of refusal 7, and on the core, so that the name of a failing

@@ -1,7 +1,7 @@
 //! Saved tables: two programs' saving and loading of the same tables and files, whole and damaged. After every call the number and all
 //! bytes that it leaves are compared.
 
-mod damages;
+pub mod damages;
 
 use super::coverage::{Files, OlderFile};
 use super::{Called, Options, Tally};

@@ -3,7 +3,7 @@ use borrow.Author.Tests.{eq-eqb, ne-eqb}
 use borrow.Author.Needs.{needs}
 use Rattle.octets.specs.Choice.{_then_otherwise_}
 use Rattle.replaying.specs.Lines.{testWord}
-use Rattle.replaying.proofs.LineLaws.{pointed}
+use Rattle.replaying.proofs.LineLaws.{word-grown}
 use Rattle.replaying.proofs.reasons.with_test.Statement.{statement}
 use Rattle.replaying.proofs.reasons.with_test.Tie as tie
 
@@ -33,7 +33,7 @@ returns-2 c =
     let c4 = c2 .before .before in
     rw (ne-eqb _ _ (c2 .before .if1 .left))
     (c .with-decimal .ensures
-    ∙ rw (c .before .wide2 .ensures, c2 .with-character .ensures, c4 .with-number .ensures, c4 .before .wide .ensures) (pointed _ _ _))
+    ∙ rw (c .before .wide2 .ensures, c2 .with-character .ensures, c4 .with-number .ensures, c4 .before .wide .ensures) (word-grown _ _ _ _))
 
 pub with-test-spec : {M : Type 1} → statement M
 with-test-spec =

@@ -1,7 +1,7 @@
 use mathlib.Core.Path.{refl}
 use Rattle.rules.specs.Calls.{newTally}
-use Rattle.replay.proofs.new_tally.Statement.{statement}
-use Rattle.replay.proofs.new_tally.Tie as tie
+use Rattle.replaying.proofs.new_tally.Statement.{statement}
+use Rattle.replaying.proofs.new_tally.Tie as tie
 
 returns : tie.Need-returns
 unfolding newTally

@@ -1,8 +1,8 @@
 use mathlib.Core.Path.{sym}
 use lib.Seq.{length-take-le}
 use borrow.Author.Needs.{needs}
-use Rattle.replay.proofs.print.Statement.{statement}
-use Rattle.replay.proofs.print.Tie as tie
+use Rattle.console.proofs.print.Statement.{statement}
+use Rattle.console.proofs.print.Tie as tie
 
 array-share-prefix-bytes : tie.Need-array-share-prefix-bytes
 array-share-prefix-bytes c = search needs

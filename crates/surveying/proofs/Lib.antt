@@ -1,0 +1,13 @@
+pub mod FractionLaws
+pub mod CountLaws
+pub mod LineLaws
+pub mod ReplayLaws
+pub mod SettingLaws
+pub mod StartLaws
+pub mod BoundLaws
+pub mod ReadingLaws
+pub mod SurveyLaws
+pub mod RefusedLaws
+pub mod AddressLaws
+pub mod Started
+pub mod Instance

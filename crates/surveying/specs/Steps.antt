@@ -1,0 +1,20 @@
+-- For the contracts of private helpers: no reader has to believe these.
+use Prim.Native.Nat.{ℕ, _*_}
+use mathlib.Core.List.{List}
+use Rattle.octets.specs.Part.{part}
+use Rattle.octets.specs.BigEndian.{number}
+use Rattle.rules.specs.Relay.{makeRateSettings}
+use Rattle.rules.specs.declared.RateSettings.{RateSettings}
+use Rattle.tables.specs.Places.{settingWidth, sizeWidth}
+
+-- the size in the bytes that are told of a port, after on or off and the mode
+unfoldable pub sizeTold : List ℕ → ℕ
+sizeTold told = number (part told 2 sizeWidth)
+
+-- the settings of the announce rate in the bytes that are told
+unfoldable pub rateTold : List ℕ → RateSettings
+rateTold told =
+    makeRateSettings
+    (number (part told 0 settingWidth))
+    (number (part told settingWidth settingWidth))
+    (number (part told (2 * settingWidth) settingWidth))
