@@ -60,7 +60,7 @@ fn packet_hash(report: &mut Report, independent: &Sha256) {
 fn reading(report: &mut Report) {
     let core = |bytes: &[u8]| {
         let mut parts = [0; 35];
-        core::read(bytes, &mut parts);
+        core::read(bytes, LONGEST as u64, &mut parts);
         parts
     };
     let rust = |bytes: &[u8]| packet::read(&AsWritten, bytes, LONGEST).map_or([0; 35], |parts| core::crossing(&parts));

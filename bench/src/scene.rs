@@ -24,7 +24,7 @@ impl Scene {
         let mut scene = Self { tables: vec![0; SIZE], random: Random::new(1), fill };
         settings::fresh(&AsWritten, &mut scene.tables, &OWN).expect("the right size");
         for port in 0..PORT_COUNT as u64 {
-            settings::set_port(&AsWritten, &mut scene.tables, port, true, port % 3).expect("a port and a mode");
+            settings::set_port(&AsWritten, &mut scene.tables, port, true, port % 3, LONGEST as u64).expect("a port, a mode and a size");
         }
         tables::set_last_clock(&mut scene.tables, CLOCK);
         for place in 0..scene.used(&LOCALS) {

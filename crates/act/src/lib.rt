@@ -20,7 +20,7 @@ use rules::Verdict;
 use stamps::remembers;
 use stamps::stamp;
 ghost use mathlib.Core.Path.{_≡_};
-ghost use Rattle.plan.specs.Decided.{usedHash};
+ghost use Rattle.plan.specs.Decided.{arrivalOf, usedHash, hashLive, seen};
 ghost use Rattle.act.specs.Acted.{CanCarryOut, CarriesOut, Acts};
 
 // Carries out what was decided of an accepted packet: writes its record and what leaves, all but the stamp. The hash is
@@ -58,22 +58,24 @@ fn carry_out(
     }
 }
 
-// Does what was decided of an accepted packet, and stamps the tables.
+// Does what was decided of an accepted packet, whose hash is live or not, and stamps the tables.
 pub fn act(
     packet: &[u8],
     arrived: Arrived,
     hash: [u8; 32],
+    live: bool,
     decision: Decision,
     tables: &mut [u8],
     output: &mut [u8],
 ) -> Verdict
     requires { ⌜ CanCarryOut (now packet) arrived (now tables) (now output) decision
-        × (hash ≡ usedHash (now packet)) ⌝ }
+        × (hash ≡ usedHash (now packet))
+        × (live ≡ hashLive (seen arrived (now tables)) (arrivalOf (now packet) arrived)) ⌝ }
     ensures { λ r. ⌜ Acts (now (packet .entry)) arrived (now (tables .entry)) (now (output .entry))
         r (now (tables .exit)) (now (output .exit)) ⌝ }
 {
     let place = update::next_hash(tables);
-    let remembered = remembers(tables, packet, arrived, hash, decision);
+    let remembered = remembers(tables, packet, arrived, live, decision);
     let verdict = carry_out(packet, arrived, hash, decision, tables, output);
     stamp(tables, place, remembered, hash, arrived.clock);
     verdict

@@ -11,7 +11,7 @@ ghost use lib.ListN.{length};
 ghost use Rattle.numbers.specs.Numbers.{hashCount, clockLimit};
 ghost use Rattle.rules.specs.Writes.{remembersDrop};
 ghost use Rattle.tables.specs.Places.{tableSize};
-ghost use Rattle.plan.specs.Decided.{CanRead, usedHash};
+ghost use Rattle.plan.specs.Decided.{CanRead, arrivalOf, hashLive, seen};
 ghost use Rattle.act.specs.Stored.{decisionRemembers, remembersDecided, stamped};
 
 // Drops up to this one remember nothing.
@@ -40,17 +40,18 @@ pub fn remembers(
     tables: &[u8],
     packet: &[u8],
     arrived: Arrived,
-    hash: [u8; 32],
+    live: bool,
     decision: Decision,
 ) -> bool
-    requires { ⌜ CanRead (now packet) (now tables) × (hash ≡ usedHash (now packet)) ⌝ }
+    requires { ⌜ CanRead (now packet) (now tables)
+        × (live ≡ hashLive (seen arrived (now tables)) (arrivalOf (now packet) arrived)) ⌝ }
     ensures { λ r. ⌜ r ≡ remembersDecided (now (packet .entry)) arrived (now (tables .entry)) decision ⌝ }
 {
     if plan::exempt(packet) {
         return false;
     }
     if decision_remembers(decision) {
-        return !plan::already_live(tables, packet, arrived, hash);
+        return !plan::already_live(tables, packet, arrived, live);
     }
     false
 }

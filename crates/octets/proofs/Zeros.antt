@@ -56,6 +56,21 @@ module _ (t : List ℕ) (i m n : ℕ) (starts : m ≤ i) (ends : i ≤ m + n) wh
       go false h true q = absurd (false≢true (sym h ∙ zeros-part t (m + n) m n q (omega arith)))
       go false h false q = rw h q
 
+-- ---- a run within another
+module _ (t : List ℕ) (m n : ℕ) (within : m ≤ n) where
+  pub zeros-fewer : zeros n t ≡ true → zeros m t ≡ true
+  unfolding zeros
+  zeros-fewer h = all-intro (λ k. eqb (getD t k 0) 0) m (λ i l. all-at (λ j. eqb (getD t j 0) 0) n i h (omega arith))
+
+  -- adds nothing to it
+  pub zeros-within : (zeros n t and zeros m t) ≡ zeros n t
+  unfolding _and_
+  zeros-within = go (zeros n t) refl
+    where
+      go : (b : Bool) → zeros n t ≡ b → (zeros n t and zeros m t) ≡ zeros n t
+      go true h = rw h (zeros-fewer h)
+      go false h = rw h refl
+
 -- ---- words
 zeros-cons : (n x : ℕ) (xs : List ℕ) → zeros (suc n) (x ∷ xs) ≡ (eqb x 0 and zeros n xs)
 unfolding zeros allBelow _and_

@@ -34,7 +34,7 @@ use Rattle.octets.proofs.Listed.{NoneHolds}
 use Rattle.rules.proofs.Choices.{and-false}
 use Rattle.rules.proofs.Passed.{stops}
 use Rattle.plan.specs.First.{early, firstTests}
-use Rattle.plan.specs.Decided.{usedHash, decided, decision, onward}
+use Rattle.plan.specs.Decided.{usedHash, hashLive, decided, decision, onward}
 use Rattle.plan.specs.declared.Early.{Early}
 use Rattle.plan.specs.declared.Early.the-variants.{Dropped, Delivered, Undecided}
 use Rattle.plan.specs.declared.Decision.the-variants.{Drop, Deliver}
@@ -96,28 +96,33 @@ module _ (r : Relay) (a : Arrival) where
   unfolding notOurs viewAt
   ours-clauses = refl
 
-  pub not-tested : exempt (a .bytes) ≡ true → duplicate (viewAt (a .clock) r) a ≡ false
-  unfolding duplicate testedAsDuplicate
-  not-tested is = and-no _ (and-no _ (ap not is))
+  pub exempt-not-live : exempt (a .bytes) ≡ true → hashLive (viewAt (a .clock) r) a ≡ false
+  unfolding hashLive
+  exempt-not-live is = and-no _ (ap not is)
 
-  -- whether the hash is remembered, by the place that the search gave
-  pub remembered-place : exempt (a .bytes) ≡ false → {i : ℕ} → i ≡ hashPlace (a .clock) r (usedHash (a .bytes))
-      → viewAt (a .clock) r .remembered (hash a) ≡ ltb i hashCount
-  unfolding viewAt
-  remembered-place tested e =
-      ap (λ (k : ℕ). ltb k hashCount) (sym (e ∙ ap (hashPlace (a .clock) r) (used-own (a .bytes) tested)))
+  -- whether the hash is live, by the place that the search gave
+  pub live-place : exempt (a .bytes) ≡ false → {i : ℕ} → i ≡ hashPlace (a .clock) r (usedHash (a .bytes))
+      → hashLive (viewAt (a .clock) r) a ≡ ltb i hashCount
+  unfolding hashLive viewAt
+  live-place tested e =
+      and-yes _ (ap not tested)
+      ∙ ap (λ (k : ℕ). ltb k hashCount) (sym (e ∙ ap (hashPlace (a .clock) r) (used-own (a .bytes) tested)))
 
-  pub duplicate-not : viewAt (a .clock) r .remembered (hash a) ≡ false → duplicate (viewAt (a .clock) r) a ≡ false
-  unfolding duplicate
-  duplicate-not new = ap (λ (b : Bool). testedAsDuplicate (viewAt (a .clock) r) a and b) new ∙ and-false _
+  pub duplicate-new : hashLive (viewAt (a .clock) r) a ≡ false → duplicate (viewAt (a .clock) r) a ≡ false
+  unfolding duplicate testedAsDuplicate hashLive _and_
+  duplicate-new = go (not (exempt (a .bytes))) _ _
+    where
+      go : (tested other live : Bool) → (tested and live) ≡ false → ((tested and other) and live) ≡ false
+      go true other live new = ap (λ (b : Bool). other and b) new ∙ and-false other
+      go false other live new = refl
 
-  pub duplicate-there : exempt (a .bytes) ≡ false → viewAt (a .clock) r .remembered (hash a) ≡ true
+  pub duplicate-live : hashLive (viewAt (a .clock) r) a ≡ true
       → duplicate (viewAt (a .clock) r) a ≡ not (forMarkedPath (viewAt (a .clock) r) a)
-  unfolding duplicate testedAsDuplicate
-  duplicate-there tested old =
-      ap (λ (b : Bool). (not (exempt (a .bytes)) and not (forMarkedPath (viewAt (a .clock) r) a)) and b) old
+  unfolding duplicate testedAsDuplicate hashLive
+  duplicate-live old =
+      ap (λ (b : Bool). (not (exempt (a .bytes)) and not (forMarkedPath (viewAt (a .clock) r) a)) and b) (and-right _ _ old)
       ∙ and-true _
-      ∙ and-yes _ (ap not tested)
+      ∙ and-yes _ (and-left _ _ old)
 
   pub own-clauses : ownAnnounce (viewAt (a .clock) r) a ≡ (isAnnounce (header a) and isLocal r (destination a))
   unfolding ownAnnounce viewAt

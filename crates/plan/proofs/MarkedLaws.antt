@@ -1,19 +1,21 @@
 -- Announces for a marked path: whether a packet is one, by the place where the search for its path ended.
 use Prim.Native.Nat.{ℕ, _≤_, _<_}
-use mathlib.Core.Bool.{false, true}
+use mathlib.Core.Bool.{Bool, false, true, not}
 use mathlib.Core.List.{List}
 use mathlib.Core.Path.{_≡_, sym, ap, _∙_}
-use Rattle.octets.proofs.Index.{and-no, and-yes}
+use Rattle.octets.specs.Index.{_and_}
+use Rattle.octets.proofs.Index.{and-no, and-yes, and-right, and-true, and-false}
 use Rattle.packet.specs.Header.{ofKindSingle, isAnnounce}
 use Rattle.numbers.specs.Numbers.{pathCount}
 use Rattle.rules.specs.Relay.{Relay}
 use Rattle.rules.specs.View.{pathPlace, viewAt}
 use Rattle.rules.specs.Arrival.{Arrival, header, destination, hash}
+use Rattle.rules.specs.Exempt.{exempt}
 use Rattle.rules.specs.Tests.{isMarked, forMarkedPath}
 use Rattle.rules.specs.Writes.{alreadyLive}
 use Rattle.tables.specs.Layout.{relayOf}
 use Rattle.lookup.proofs.Found.{path-found, path-missing}
-use Rattle.plan.specs.Decided.{pathAt}
+use Rattle.plan.specs.Decided.{pathAt, hashLive}
 
 module _ (r : Relay) (a : Arrival) where
   pub not-announce : isAnnounce (header a) ≡ false → false ≡ forMarkedPath (viewAt (a .clock) r) a
@@ -29,13 +31,14 @@ module _ (r : Relay) (a : Arrival) where
     unfolding forMarkedPath
     by-path single = sym (and-yes _ is ∙ and-yes _ single)
 
-  pub live-if-marked : forMarkedPath (viewAt (a .clock) r) a ≡ true → viewAt (a .clock) r .remembered (hash a) ≡ alreadyLive (viewAt (a .clock) r) a
-  unfolding alreadyLive
-  live-if-marked is = sym (and-yes _ is)
+  pub live-if-marked : hashLive (viewAt (a .clock) r) a ≡ true → forMarkedPath (viewAt (a .clock) r) a ≡ alreadyLive (viewAt (a .clock) r) a
+  unfolding alreadyLive hashLive
+  live-if-marked old = sym (ap (λ (b : Bool). forMarkedPath (viewAt (a .clock) r) a and b) (and-right _ _ old) ∙ and-true _)
 
-  pub not-live : forMarkedPath (viewAt (a .clock) r) a ≡ false → false ≡ alreadyLive (viewAt (a .clock) r) a
-  unfolding alreadyLive
-  not-live other = sym (and-no _ other)
+  pub not-live : exempt (a .bytes) ≡ false → hashLive (viewAt (a .clock) r) a ≡ false → false ≡ alreadyLive (viewAt (a .clock) r) a
+  unfolding alreadyLive hashLive
+  not-live tested new =
+      sym (ap (λ (b : Bool). forMarkedPath (viewAt (a .clock) r) a and b) (sym (and-yes _ (ap not tested)) ∙ new) ∙ and-false _)
 
 module _ (t : List ℕ) (a : Arrival) {i : ℕ} (e : i ≡ pathPlace (a .clock) (relayOf t) (destination a)) where
   pub marked-at : i < pathCount → pathAt t i .marked ≡ isMarked (viewAt (a .clock) (relayOf t) .path (destination a))

@@ -1,11 +1,12 @@
 -- What the code decides of an accepted packet: the rules' plan, with the places of the records that it concerns. In t are the tables' bytes.
 -- For the contracts of helpers: not part of what a reader must believe.
 use Prim.Native.Nat.{ℕ, _<_}
-use mathlib.Core.Bool.{true}
+use mathlib.Core.Bool.{Bool, true, not}
 use mathlib.Core.List.{List}
 use mathlib.Core.Path.{_≡_}
 use lib.ListN.{length, replicate}
 use Rattle.octets.specs.Choice.{_then_otherwise_}
+use Rattle.octets.specs.Index.{_and_}
 use Rattle.octets.specs.Part.{part}
 use Rattle.octets.specs.BigEndian.{number}
 use Rattle.packet.specs.Header.{isData}
@@ -13,7 +14,7 @@ use Rattle.packet.specs.Read.{longestPacket, reads}
 use Rattle.packet.specs.Hash.{packetHash, linkId}
 use Rattle.rules.specs.Relay.{Path, Return, Relay}
 use Rattle.rules.specs.View.{View, viewAt, pathPlace, linkPlace, returnPlace, freeLink}
-use Rattle.rules.specs.Arrival.{Arrival, header, destination}
+use Rattle.rules.specs.Arrival.{Arrival, header, destination, hash}
 use Rattle.numbers.specs.Numbers.{pathCount}
 use Rattle.rules.specs.Exempt.{exempt}
 use Rattle.rules.specs.Rate.{rated}
@@ -73,6 +74,10 @@ pub record CanKnow (t : List ℕ) (place : ℕ) : Type 0 where
 -- ---- the hash that goes with a packet: nothing uses an exempt packet's, and zeros stand in its place
 unfoldable pub usedHash : List ℕ → List ℕ
 usedHash packet = exempt packet then replicate 32 0 otherwise packetHash packet
+
+-- .. and whether it is live: an exempt packet's is not looked for
+unfoldable pub hashLive : View → Arrival → Bool
+hashLive v a = not (exempt (a .bytes)) and v .remembered (hash a)
 
 -- ---- what the tables show
 -- at the packet's clock

@@ -14,7 +14,7 @@ ghost use Rattle.packet.specs.Read.{partsOf};
 ghost use Rattle.rules.specs.View.{isLocal};
 ghost use Rattle.rules.specs.Tests.{notOurs, duplicate as isDuplicate, ownAnnounce, deliveredHere};
 ghost use Rattle.tables.specs.Layout.{relayOf};
-ghost use Rattle.plan.specs.Decided.{arrivalOf, CanRead, usedHash, seen};
+ghost use Rattle.plan.specs.Decided.{arrivalOf, CanRead, usedHash, hashLive, seen};
 ghost use Rattle.plan.specs.First.{firstTests};
 
 // Test 1.
@@ -34,15 +34,24 @@ pub fn not_ours(tables: &[u8], packet: &[u8], arrived: Arrived) -> bool
     !octets::equal16(relay, lookup::own_address(tables))
 }
 
-// Test 2. An exempt packet's hash is not read, and an announce for a marked path is no duplicate.
-fn duplicate(tables: &[u8], packet: &[u8], arrived: Arrived, hash: [u8; 32]) -> bool
+// Whether the packet's hash is live: test 2 asks, and so does what remembers it. An exempt packet's is not looked for.
+pub fn hash_live(tables: &[u8], packet: &[u8], arrived: Arrived, hash: [u8; 32]) -> bool
     requires { ⌜ CanRead (now packet) (now tables) × (hash ≡ usedHash (now packet)) ⌝ }
-    ensures { λ r. ⌜ r ≡ isDuplicate (seen arrived (now (tables .entry))) (arrivalOf (now (packet .entry)) arrived) ⌝ }
+    ensures { λ r. ⌜ r ≡ hashLive (seen arrived (now (tables .entry))) (arrivalOf (now (packet .entry)) arrived) ⌝ }
 {
     if exempt(packet) {
         return false;
     }
-    if lookup::hash_place(tables, hash, arrived.clock) < HASH_COUNT {
+    lookup::hash_place(tables, hash, arrived.clock) < HASH_COUNT
+}
+
+// Test 2. An announce for a marked path is no duplicate.
+fn duplicate(tables: &[u8], packet: &[u8], arrived: Arrived, live: bool) -> bool
+    requires { ⌜ CanRead (now packet) (now tables)
+        × (live ≡ hashLive (seen arrived (now tables)) (arrivalOf (now packet) arrived)) ⌝ }
+    ensures { λ r. ⌜ r ≡ isDuplicate (seen arrived (now (tables .entry))) (arrivalOf (now (packet .entry)) arrived) ⌝ }
+{
+    if live {
         return !for_marked_path(tables, packet, arrived);
     }
     false
@@ -88,14 +97,15 @@ fn delivered_here(tables: &[u8], packet: &[u8], arrived: Arrived) -> bool
     false
 }
 
-pub fn first_tests(tables: &[u8], packet: &[u8], arrived: Arrived, hash: [u8; 32]) -> Early
-    requires { ⌜ CanRead (now packet) (now tables) × (hash ≡ usedHash (now packet)) ⌝ }
+pub fn first_tests(tables: &[u8], packet: &[u8], arrived: Arrived, live: bool) -> Early
+    requires { ⌜ CanRead (now packet) (now tables)
+        × (live ≡ hashLive (seen arrived (now tables)) (arrivalOf (now packet) arrived)) ⌝ }
     ensures { λ r. ⌜ r ≡ firstTests (seen arrived (now (tables .entry))) (arrivalOf (now (packet .entry)) arrived) ⌝ }
 {
     if not_ours(tables, packet, arrived) {
         return Early::Dropped(Reason::NotOurs);
     }
-    if duplicate(tables, packet, arrived, hash) {
+    if duplicate(tables, packet, arrived, live) {
         return Early::Dropped(Reason::Duplicate);
     }
     if let Form::Bad(clause) = form_of(packet) {

@@ -19,6 +19,7 @@ pub use bad_form::is_link_proof;
 pub use contexts::exempt;
 pub use contexts::used_hash;
 use first::first_tests;
+pub use first::hash_live;
 pub use first::not_ours;
 use links::decide_of_link;
 pub use marked::already_live;
@@ -33,7 +34,7 @@ use rules::Reason;
 ghost use mathlib.Core.Path.{_≡_};
 ghost use mathlib.Core.Bool.{false};
 ghost use Rattle.rules.specs.Tests.{badForm};
-ghost use Rattle.plan.specs.Decided.{CanJudge, usedHash, onwardOn, decisionOn};
+ghost use Rattle.plan.specs.Decided.{CanJudge, arrivalOf, hashLive, seen, onwardOn, decisionOn};
 
 // How a packet came: the arrival port, the clock, and the host's word on the signature.
 pub struct Arrived {
@@ -106,12 +107,13 @@ fn decide_onward(tables: &[u8], packet: &[u8], arrived: Arrived) -> Decision
     decide_by_path(tables, packet, arrived)
 }
 
-// What is to be done with an accepted packet, whose hash the caller has, where it is used.
-pub fn decide(tables: &[u8], packet: &[u8], arrived: Arrived, hash: [u8; 32]) -> Decision
-    requires { ⌜ CanJudge (now packet) (now tables) × (hash ≡ usedHash (now packet)) ⌝ }
+// What is to be done with an accepted packet, whose hash is live or not.
+pub fn decide(tables: &[u8], packet: &[u8], arrived: Arrived, live: bool) -> Decision
+    requires { ⌜ CanJudge (now packet) (now tables)
+        × (live ≡ hashLive (seen arrived (now tables)) (arrivalOf (now packet) arrived)) ⌝ }
     ensures { λ r. ⌜ r ≡ decisionOn (now (packet .entry)) arrived (now (tables .entry)) ⌝ }
 {
-    match first_tests(tables, packet, arrived, hash) {
+    match first_tests(tables, packet, arrived, live) {
         Early::Dropped(reason) => Decision::Drop(reason),
         Early::Delivered => Decision::Deliver,
         Early::Undecided => decide_onward(tables, packet, arrived),

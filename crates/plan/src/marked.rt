@@ -1,6 +1,5 @@
 // Announces for a path that the host has marked unresponsive.
 use super::Arrived;
-use numbers::HASH_COUNT;
 use numbers::PATH_COUNT;
 ghost use mathlib.Core.Path.{_≡_};
 ghost use mathlib.Core.Bool.{false};
@@ -10,7 +9,7 @@ ghost use Rattle.rules.specs.Exempt.{exempt};
 ghost use Rattle.rules.specs.Tests.{forMarkedPath};
 ghost use Rattle.rules.specs.Writes.{alreadyLive};
 ghost use Rattle.tables.specs.Places.{tableSize};
-ghost use Rattle.plan.specs.Decided.{arrivalOf, CanRead, CanKnow, usedHash, seen, pathAt};
+ghost use Rattle.plan.specs.Decided.{arrivalOf, CanRead, CanKnow, hashLive, seen, pathAt};
 ghost use Rattle.plan.specs.Kinds.{revivedBy};
 
 // Whether the packet is an announce of kind single whose destination has a live path, and that is marked.
@@ -35,13 +34,14 @@ pub fn for_marked_path(tables: &[u8], packet: &[u8], arrived: Arrived) -> bool
     false
 }
 
-// Whether the hash of such an announce is remembered already.
-pub fn already_live(tables: &[u8], packet: &[u8], arrived: Arrived, hash: [u8; 32]) -> bool
-    requires { ⌜ CanRead (now packet) (now tables) × (hash ≡ usedHash (now packet)) × (exempt (now packet) ≡ false) ⌝ }
+// Whether the packet is such an announce, and its hash is live.
+pub fn already_live(tables: &[u8], packet: &[u8], arrived: Arrived, live: bool) -> bool
+    requires { ⌜ CanRead (now packet) (now tables) × (exempt (now packet) ≡ false)
+        × (live ≡ hashLive (seen arrived (now tables)) (arrivalOf (now packet) arrived)) ⌝ }
     ensures { λ r. ⌜ r ≡ alreadyLive (seen arrived (now (tables .entry))) (arrivalOf (now (packet .entry)) arrived) ⌝ }
 {
-    if for_marked_path(tables, packet, arrived) {
-        return lookup::hash_place(tables, hash, arrived.clock) < HASH_COUNT;
+    if live {
+        return for_marked_path(tables, packet, arrived);
     }
     false
 }

@@ -62,8 +62,9 @@ pub fn judge(
         };
     }
     let hash = plan::used_hash(packet);
-    let decision = plan::decide(tables, packet, arrived, hash);
-    let verdict = act::act(packet, arrived, hash, decision, tables, output);
+    let live = plan::hash_live(tables, packet, arrived, hash);
+    let decision = plan::decide(tables, packet, arrived, live);
+    let verdict = act::act(packet, arrived, hash, live, decision, tables, output);
     Answered {
         answer: Answer::Judged(verdict),
         tally: counted(verdict, tally),

@@ -61,5 +61,6 @@ pub fn signature_matters(packet: &[u8], port: u64, clock: u64, tables: &[u8], ro
         return 0;
     }
     let hash = plan::used_hash(packet);
-    decision_tells(plan::decide(tables, packet, arrived, hash))
+    let live = plan::hash_live(tables, packet, arrived, hash);
+    decision_tells(plan::decide(tables, packet, arrived, live))
 }

@@ -5,6 +5,7 @@ pub mod Alike
 pub mod Rooms
 pub mod EditionLaws
 pub mod LoadLaws
+pub mod CurrentLaws
 pub mod SaveLaws
 pub mod Made
 pub mod RoundTrip

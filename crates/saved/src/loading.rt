@@ -10,11 +10,13 @@ use super::format::BODY_COUNT;
 use super::format::BODY_REFUSED;
 use super::format::CONTENTS_START;
 use super::format::COUNTER_WIDTH;
+use super::format::EDITION;
 use super::format::KIND;
 use super::format::KIND_REFUSED;
 use super::format::LENGTH_REFUSED;
 use super::format::PLACE_REFUSED;
 use super::format::ROOM_REFUSED;
+use super::format::TALLY_AT;
 use super::format::TALLY_BODY;
 use super::older::bodies_fine;
 use super::older::write_tables;
@@ -29,9 +31,10 @@ ghost use Rattle.octets.specs.Part.{part};
 ghost use Rattle.octets.specs.BigEndian.{number};
 ghost use Rattle.codes.specs.Form.{code};
 ghost use Rattle.recording.specs.Shape.{entryPlace, countOf, editionOf, lengthOf, sumBelow};
+ghost use Rattle.tables.specs.Layout.{bytesOf};
 ghost use Rattle.saved.specs.Editions.{counterWidth, tallyForm, isKnown, editionAt};
 ghost use Rattle.saved.specs.File.{headWidth, bodiesAt};
-ghost use Rattle.saved.specs.Load.{lengthWrong, contentsWrong, sizesRight, bodiesWrong, loadRefusal, Loads, loadOn, ownIn};
+ghost use Rattle.saved.specs.Load.{lengthWrong, contentsWrong, sizesRight, bodiesWrong, loadRefusal, heldIn, Loads, loadOn, ownIn};
 ghost use Rattle.saved.specs.Steps.{ContentsRight, tallyAt};
 
 // The sum of the lengths of n entries.
@@ -98,13 +101,17 @@ fn sizes_right(file: &[u8], edition: u8) -> bool
     true
 }
 
-// Refusal 24, of a file that breaks none of the refusals before it.
+// Refusal 24, of a file that breaks none of the refusals before it. In the current edition the bodies but the last are
+// the tables as they are.
 fn bodies_wrong(file: &[u8]) -> bool
     requires { ⌜ (isKnown (editionOf (now file)) ≡ true) × ContentsRight (now file) ⌝ }
     ensures { λ r. ⌜ r ≡ bodiesWrong (now (file .entry)) ⌝ }
 {
     if !sizes_right(file, file[1]) {
         return true;
+    }
+    if file[1] == EDITION {
+        return !tables::check(&file[BODIES_AT..TALLY_AT]);
     }
     !bodies_fine(file, file[1])
 }
@@ -156,6 +163,18 @@ fn tally_at(file: &[u8], at: usize) -> Tally
     }
 }
 
+// Writes the tables of a file that is not refused: those of the current edition by one copy.
+fn write_held(file: &[u8], tables: &mut [u8])
+    requires { ⌜ loadRefusal (now file) (length (now tables)) ≡ 0 ⌝ }
+    ensures { λ _. ⌜ now (tables .exit) ≡ bytesOf (heldIn (now (file .entry)) .0) ⌝ }
+{
+    if file[1] == EDITION {
+        octets::copy(tables, &file[BODIES_AT..TALLY_AT]);
+        return;
+    }
+    write_tables(file, file[1], tables);
+}
+
 // Loads tables and tally, the own address and the last clock too. No clock is tested.
 pub fn load(file: &[u8], tables: &mut [u8], tally: Tally) -> Loaded
     ensures { λ r. ⌜ Loads (loadOn (now (file .entry)) (now (tables .entry)) tally)
@@ -165,7 +184,7 @@ pub fn load(file: &[u8], tables: &mut [u8], tally: Tally) -> Loaded
     if refusal != refusals::NONE {
         return Loaded { refusal, tally };
     }
-    write_tables(file, file[1], tables);
+    write_held(file, tables);
     Loaded {
         refusal: refusals::NONE,
         tally: tally_at(file, file.len() - TALLY_BODY),

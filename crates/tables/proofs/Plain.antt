@@ -67,20 +67,20 @@ module _ (t : List ℕ) (at w : ℕ) where
   one-together k there read h = rw (add-one, read, there, h)
 
 -- ---- marks, one after the other: the one of index k stands at its place
-module _ (t : List ℕ) (at w : ℕ) where
+module _ (t : List ℕ) (at w mark : ℕ) where
   abbrev pub marked : ℕ → Bool
-  marked k = eqb (getD t (at + w * k) 0) 1
+  marked k = eqb (getD t (at + w * k) 0) mark
 
   module _ (k : ℕ) {place : ℕ} (there : place ≡ at + w * k) where
-    pub mark-last : allBelow marked k ≡ true → eqb (getD t place 0) 1 ≡ allBelow marked (k + 1)
+    pub mark-last : allBelow marked k ≡ true → eqb (getD t place 0) mark ≡ allBelow marked (k + 1)
     unfolding allBelow
     mark-last h = rw (add-one, there) (sym (and-yes _ h))
 
-    pub mark-more : allBelow marked k ≡ true → getD t place 0 ≡ 1 → allBelow marked (k + 1) ≡ true
+    pub mark-more : allBelow marked k ≡ true → getD t place 0 ≡ mark → allBelow marked (k + 1) ≡ true
     mark-more h e = sym (mark-last h) ∙ eq-eqb _ _ e
 
-    pub mark-fails : (n : ℕ) → k < n → (getD t place 0 ≡ 1 → ⊥) → false ≡ allBelow marked n
-    mark-fails n l ne = sym (all-fails marked k n l (ap (λ (i : ℕ). eqb (getD t i 0) 1) (sym there) ∙ ne-eqb _ _ ne))
+    pub mark-fails : (n : ℕ) → k < n → (getD t place 0 ≡ mark → ⊥) → false ≡ allBelow marked n
+    mark-fails n l ne = sym (all-fails marked k n l (ap (λ (i : ℕ). eqb (getD t i 0) mark) (sym there) ∙ ne-eqb _ _ ne))
 
 -- ---- the marks and the numbers of n records, where they stand in the tables
 module _ (p : ℕ → Bool) (at a w n : ℕ) (t : List ℕ) (fits : a + 8 ≤ w) where

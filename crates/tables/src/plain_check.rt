@@ -16,21 +16,21 @@ ghost use Rattle.tables.specs.Places.{returnWidth, hashWidth};
 ghost use Rattle.tables.specs.Layout.{recordsOk};
 ghost use Rattle.tables.specs.Groups.{together, waysPlain, returnPlain, hashPlain};
 
-// Whether the four records of this width that stand from a place on are marked as used.
-fn four_used(t: &[u8], at: usize, width: usize) -> bool
+// Whether four records have this mark: the first stands at a place, each so much behind the one before it.
+pub fn four_marked(t: &[u8], at: usize, width: usize, mark: u8) -> bool
     requires { ⌜ at + width * 3 < length (now t) ⌝ }
-    ensures { λ r. ⌜ r ≡ allBelow (λ k. eqb (getD (now (t .entry)) (at + width * k) 0) 1) 4 ⌝ }
+    ensures { λ r. ⌜ r ≡ allBelow (λ k. eqb (getD (now (t .entry)) (at + width * k) 0) mark) 4 ⌝ }
 {
-    if t[at] != 1 {
+    if t[at] != mark {
         return false;
     }
-    if t[at + width] != 1 {
+    if t[at + width] != mark {
         return false;
     }
-    if t[at + width * 2] != 1 {
+    if t[at + width * 2] != mark {
         return false;
     }
-    t[at + width * 3] == 1
+    t[at + width * 3] == mark
 }
 
 // The OR of four numbers of eight bytes: the first from a place on, each so much behind the one before it.
@@ -62,7 +62,7 @@ pub fn four_returns_plain(t: &[u8], at: usize) -> bool
     requires { ⌜ at + returnWidth * 4 ≤ length (now t) ⌝ }
     ensures { λ r. ⌜ r ≡ recordsOk returnPlain at returnWidth 4 (now (t .entry)) ⌝ }
 {
-    if !four_used(t, at, RETURN_WIDTH) {
+    if !four_marked(t, at, RETURN_WIDTH, 1) {
         return false;
     }
     ways_plain(four_together(t, at + RETURN_ARRIVAL_AT, RETURN_WIDTH))
@@ -72,7 +72,7 @@ pub fn four_hashes_plain(t: &[u8], at: usize) -> bool
     requires { ⌜ at + hashWidth * 4 ≤ length (now t) ⌝ }
     ensures { λ r. ⌜ r ≡ recordsOk hashPlain at hashWidth 4 (now (t .entry)) ⌝ }
 {
-    if !four_used(t, at, HASH_WIDTH) {
+    if !four_marked(t, at, HASH_WIDTH, 1) {
         return false;
     }
     four_together(t, at + HASH_EXPIRY_AT, HASH_WIDTH) < CLOCK_LIMIT

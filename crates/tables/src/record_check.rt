@@ -47,7 +47,7 @@ pub fn local_ok(b: &[u8]) -> bool
     ensures { λ r. ⌜ r ≡ localBytesOk (now (b .entry)) ⌝ }
 {
     if b[0] != 1 {
-        return octets::is_zero(b);
+        return octets::is_zero(b, 16);
     }
     true
 }
@@ -68,7 +68,7 @@ pub fn path_ok(b: &[u8]) -> bool
     ensures { λ r. ⌜ r ≡ pathBytesOk (now (b .entry)) ⌝ }
 {
     if b[0] != 1 {
-        return octets::is_zero(b);
+        return octets::is_zero(b, 16);
     }
     if b[PATH_MARK_AT] >= 2 {
         return false;
@@ -93,7 +93,7 @@ pub fn link_ok(b: &[u8]) -> bool
     ensures { λ r. ⌜ r ≡ linkBytesOk (now (b .entry)) ⌝ }
 {
     if b[0] != 1 {
-        return octets::is_zero(b);
+        return octets::is_zero(b, 16);
     }
     if b[LINK_PROVED_AT] >= 2 {
         return false;
@@ -110,7 +110,7 @@ pub fn return_ok(b: &[u8]) -> bool
     ensures { λ r. ⌜ r ≡ returnBytesOk (now (b .entry)) ⌝ }
 {
     if b[0] != 1 {
-        return octets::is_zero(b);
+        return octets::is_zero(b, 16);
     }
     let ports = b[RETURN_ARRIVAL_AT] | b[RETURN_LEAVING_AT];
     if ports >= PORT_COUNT as u8 {
@@ -124,7 +124,7 @@ pub fn hash_ok(b: &[u8]) -> bool
     ensures { λ r. ⌜ r ≡ hashBytesOk (now (b .entry)) ⌝ }
 {
     if b[0] != 1 {
-        return octets::is_zero(b);
+        return octets::is_zero(b, 16);
     }
     octets::number_of_8_at(b, HASH_EXPIRY_AT) <= TIME_LIMIT
 }

@@ -1,12 +1,13 @@
 // Row 7 for each section of the tables, record by record, and for those before and behind the paths, which a saved file
 // has at other places. What is all zeros is passed by one OR over its bytes: links as a whole, for these fill from their
-// first place on, and paths, whose records are wide, in groups, where the first record of one is unused; returns and
-// hashes in larger groups, where the first and the last one are. Used returns and hashes are passed four at once, where
-// these are plain.
+// first place on; paths, whose records are wide, in groups, and returns and hashes in larger ones, where four records
+// spread over the group are unused. Used returns and hashes are passed four at once, where these are plain.
 use super::places::CLOCK_AT;
 use super::places::GRACE_AT;
 use super::places::HASH_WIDTH;
+use super::places::HASHES_AT;
 use super::places::LINK_WIDTH;
+use super::places::LINKS_AT;
 use super::places::LOCAL_WIDTH;
 use super::places::LOCALS_AT;
 use super::places::PATH_WIDTH;
@@ -15,10 +16,12 @@ use super::places::PENALTY_AT;
 use super::places::PORT_WIDTH;
 use super::places::PORTS_AT;
 use super::places::RETURN_WIDTH;
+use super::places::RETURNS_AT;
 use super::places::RING_WIDTH;
 use super::places::SETTING_WIDTH;
 use super::places::TARGET_AT;
 use super::plain_check::four_hashes_plain;
+use super::plain_check::four_marked;
 use super::plain_check::four_returns_plain;
 use super::record_check::hash_ok;
 use super::record_check::link_ok;
@@ -45,10 +48,24 @@ ghost use Rattle.tables.specs.Records.{portBytesOk, localBytesOk, pathBy
 ghost use Rattle.tables.specs.Layout.{startOk, recordsOk, frontOk, backOk};
 ghost use Rattle.tables.specs.Groups.{groupSize, pathGroupSize};
 
-// Records of a group, and of one of paths.
+// Records of a group, and of one of paths. The bytes of a group are a multiple of 16.
 const GROUP: usize = 128;
 
-const PATH_GROUP: usize = 16;
+const PATH_GROUP: usize = 8;
+
+// How far from one to the next of four records that are spread over a group.
+const SPREAD: usize = GROUP / 3;
+
+const PATH_SPREAD: usize = PATH_GROUP / 4;
+
+// Where in a group the next bytes start that stand at a multiple of 16 in the tables, which hosts have at such a place.
+const PATHS_FROM: usize = 16 - PATHS_AT % 16;
+
+const LINKS_FROM: usize = 16 - LINKS_AT % 16;
+
+const RETURNS_FROM: usize = 16 - RETURNS_AT % 16;
+
+const HASHES_FROM: usize = 16 - HASHES_AT % 16;
 
 // The last clock, and the announce rate's settings behind it.
 fn start_ok(t: &[u8]) -> bool
@@ -134,8 +151,8 @@ fn path_group_ok(t: &[u8], at: usize) -> bool
     requires { ⌜ at + pathWidth * pathGroupSize ≤ length (now t) ⌝ }
     ensures { λ r. ⌜ r ≡ recordsOk pathBytesOk at pathWidth pathGroupSize (now (t .entry)) ⌝ }
 {
-    if t[at] == 0 {
-        if octets::is_zero(&t[at..at + PATH_WIDTH * PATH_GROUP]) {
+    if four_marked(t, at, PATH_WIDTH * PATH_SPREAD, 0) {
+        if octets::is_zero(&t[at..at + PATH_WIDTH * PATH_GROUP], PATHS_FROM) {
             return true;
         }
     }
@@ -178,7 +195,7 @@ fn links_ok(t: &[u8], at: usize) -> bool
     ensures { λ r. ⌜ r ≡ recordsOk linkBytesOk at linkWidth linkCount (now (t .entry)) ⌝ }
 {
     if t[at] == 0 {
-        if octets::is_zero(&t[at..at + LINK_WIDTH * LINK_COUNT]) {
+        if octets::is_zero(&t[at..at + LINK_WIDTH * LINK_COUNT], LINKS_FROM) {
             return true;
         }
     }
@@ -230,9 +247,8 @@ fn return_group_ok(t: &[u8], at: usize) -> bool
     requires { ⌜ at + returnWidth * groupSize ≤ length (now t) ⌝ }
     ensures { λ r. ⌜ r ≡ recordsOk returnBytesOk at returnWidth groupSize (now (t .entry)) ⌝ }
 {
-    let ends = t[at] | t[at + RETURN_WIDTH * (GROUP - 1)];
-    if ends == 0 {
-        if octets::is_zero(&t[at..at + RETURN_WIDTH * GROUP]) {
+    if four_marked(t, at, RETURN_WIDTH * SPREAD, 0) {
+        if octets::is_zero(&t[at..at + RETURN_WIDTH * GROUP], RETURNS_FROM) {
             return true;
         }
     }
@@ -298,9 +314,8 @@ fn hash_group_ok(t: &[u8], at: usize) -> bool
     requires { ⌜ at + hashWidth * groupSize ≤ length (now t) ⌝ }
     ensures { λ r. ⌜ r ≡ recordsOk hashBytesOk at hashWidth groupSize (now (t .entry)) ⌝ }
 {
-    let ends = t[at] | t[at + HASH_WIDTH * (GROUP - 1)];
-    if ends == 0 {
-        if octets::is_zero(&t[at..at + HASH_WIDTH * GROUP]) {
+    if four_marked(t, at, HASH_WIDTH * SPREAD, 0) {
+        if octets::is_zero(&t[at..at + HASH_WIDTH * GROUP], HASHES_FROM) {
             return true;
         }
     }

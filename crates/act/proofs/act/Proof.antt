@@ -16,7 +16,7 @@ remembers-requires : tie.Need-remembers-requires
 remembers-requires c κs =
     let s = c .before .before .before .before .before .before in
     let ok = s .pre .0 .accepted in
-    (record { readable = ok .readable; size = formed _ (ok .formed) .size }, s .pre .1)
+    (record { readable = ok .readable; size = formed _ (ok .formed) .size }, s .pre .2)
 
 carry-out-requires : tie.Need-carry-out-requires
 carry-out-requires c κs = search needs

@@ -1,3 +1,4 @@
+-- ---- past the refusals
 use mathlib.Core.Path.{refl, sym, _∙_}
 use Rattle.octets.proofs.Bytes.{known-bytes}
 use borrow.Author.Needs.{needs}
@@ -11,7 +12,6 @@ use Rattle.relay.proofs.PromiseLaws.{refused-promised, accepted, judged
 use Rattle.relay.proofs.judge.Statement.{statement}
 use Rattle.relay.proofs.judge.Tie as tie
 
--- ---- past the refusals
 abbrev s1 : tie.Else1 → tie.Start
 s1 c = c .before .before .before .before .before .before
 
@@ -74,18 +74,22 @@ returns-2 c =
 used-hash-requires : tie.Need-used-hash-requires
 used-hash-requires c κs = judges (c .before .before .before .before) .readable
 
+hash-live-requires : tie.Need-hash-live-requires
+hash-live-requires c κs = (reads (c .before .before .before .before .before .before), c .before .used-hash .ensures)
+
 decide-requires : tie.Need-decide-requires
-decide-requires c κs = (judges (c .before .before .before .before .before .before), c .before .used-hash .ensures)
+decide-requires c κs = (judges (c .before .before .before .before .before .before .before .before), c .before .hash-live .ensures)
 
 act-requires : tie.Need-act-requires
 act-requires c κs =
     let c4 = c .before .before .before .before in
-    let c8 = c4 .before .before .before .before in
-    let c9 = c8 .before in
-    let p = s1 c9 .args in
-    let ok = accepted (p .packet .now) (p .port) (p .clock) (p .signed) (p .tables .now) (p .tally) (p .output .now) (accepts c9) _ (same-port c8) refl refl in
-    let roomy = accepted-roomy _ _ _ _ _ (accepts c9) in
-    (record { accepted = ok; roomy = roomy; decided = sym (c .before .before .decide .ensures) }, c4 .used-hash .ensures)
+    let c6 = c4 .before .before in
+    let c10 = c6 .before .before .before .before in
+    let c11 = c10 .before in
+    let p = s1 c11 .args in
+    let ok = accepted (p .packet .now) (p .port) (p .clock) (p .signed) (p .tables .now) (p .tally) (p .output .now) (accepts c11) _ (same-port c10) refl refl in
+    let roomy = accepted-roomy _ _ _ _ _ (accepts c11) in
+    (record { accepted = ok; roomy = roomy; decided = sym (c .before .before .decide .ensures) }, c6 .used-hash .ensures, c4 .hash-live .ensures)
 
 counted-requires-2 : tie.Need-counted-requires-2
 counted-requires-2 c κs = search needs
@@ -99,11 +103,11 @@ same-length-4 c = search needs
 returns-3 : tie.Need-returns-3
 returns-3 c =
     let c5 = c .before .before .before .before .before in
-    let c14 = c5 .before .before .before .before .before .before .before .before .before in
-    let c15 = c14 .before in
-    let p = s1 c15 .args in
+    let c16 = c5 .before .before .before .before .before .before .before .before .before .before .before in
+    let c17 = c16 .before in
+    let p = s1 c17 .args in
     let left = c5 .act .ensures in
-    judged-promised (p .packet .now) (p .port) (p .clock) (p .signed) (p .tables .now) (p .tally) (p .output .now) (accepts c15) _ (same-port c14)
+    judged-promised (p .packet .now) (p .port) (p .clock) (p .signed) (p .tables .now) (p .tally) (p .output .now) (accepts c17) _ (same-port c16)
     refl refl _ _ _ _ (left .0) (left .1) (left .2) (c .counted2 .ensures)
 
 pub judge-spec : {M : Type 1} → statement M
@@ -120,6 +124,7 @@ judge-spec =
     same-length-2
     returns-2
     used-hash-requires
+    hash-live-requires
     decide-requires
     act-requires
     counted-requires-2

@@ -41,7 +41,7 @@ already-live-requires : tie.Need-already-live-requires
 already-live-requires c κs =
     let c2 = c .before .before in
     let s = c2 .before .before .before .before in
-    (s .pre .0, s .pre .1, sym (c2 .before .exempt .ensures) ∙ c2 .if1 .left)
+    (s .pre .0, sym (c2 .before .exempt .ensures) ∙ c2 .if1 .left, s .pre .1)
 
 returns-2 : tie.Need-returns-2
 returns-2 c =

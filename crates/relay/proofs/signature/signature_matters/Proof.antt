@@ -1,3 +1,4 @@
+-- ---- past the refusals
 use mathlib.Core.Path.{_≡_, refl, sym, _∙_}
 use borrow.Author.Needs.{needs}
 use Rattle.tables.proofs.Whole.{formed}
@@ -8,7 +9,6 @@ use Rattle.relay.proofs.SignatureLaws.{word-refused, word-not-ours, wor
 use Rattle.relay.proofs.signature.signature_matters.Statement.{statement}
 use Rattle.relay.proofs.signature.signature_matters.Tie as tie
 
--- ---- past the refusals
 abbrev s1 : tie.Else1 → tie.Start
 s1 c = c .before .before .before .before
 
@@ -48,15 +48,18 @@ returns-2 c =
 used-hash-requires : tie.Need-used-hash-requires
 used-hash-requires c κs = judges (c .before .before .before) .readable
 
+hash-live-requires : tie.Need-hash-live-requires
+hash-live-requires c κs = (reads (c .before .before .before .before), c .used-hash .ensures)
+
 decide-requires : tie.Need-decide-requires
-decide-requires c κs = (judges (c .before .before .before .before), c .used-hash .ensures)
+decide-requires c κs = (judges (c .before .before .before .before .before), c .hash-live .ensures)
 
 decision-tells-requires : tie.Need-decision-tells-requires
 decision-tells-requires c κs = search needs
 
 returns-3 : tie.Need-returns-3
 returns-3 c =
-    let c5 = c .before .before .before .before .before in
+    let c5 = c .before .before .before .before .before .before in
     let p = s1 (c5 .before) .args in
     word-decided (p .packet .now) (p .port) (p .clock) (p .tables .now) (p .room) (accepts (c5 .before)) _ (same-port c5) refl refl
     _ (c .before .decide .ensures) _ (c .decision-tells .ensures)
@@ -71,6 +74,7 @@ signature-matters-spec =
     not-ours-requires
     returns-2
     used-hash-requires
+    hash-live-requires
     decide-requires
     decision-tells-requires
     returns-3)

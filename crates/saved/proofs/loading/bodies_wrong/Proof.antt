@@ -1,10 +1,13 @@
-use native.Mathlib.Omega.{arith}
-use mathlib.Core.Bool.{not}
-use mathlib.Core.Path.{sym, ap, _∙_}
-use borrow.Author.Tests.{not-true, not-false}
-use Rattle.octets.proofs.Index.{and-no, and-yes}
-use Rattle.recording.specs.Shape.{editionOf}
+use Rattle.saved.proofs.CurrentLaws.{current-size, current-fine}
 use Rattle.saved.proofs.LoadLaws.{has-start, counts-eight, has-entries, size-known, editionIn, bodies-decide}
+use Rattle.recording.specs.Shape.{editionOf}
+use Rattle.octets.proofs.Index.{and-no, and-yes}
+use Rattle.octets.specs.Part.{part}
+use borrow.Author.Tests.{not-true, not-false}
+use mathlib.Core.Path.{sym, ap, _∙_}
+use mathlib.Core.Bool.{not}
+use native.Mathlib.Omega.{arith}
+use borrow.Author.Needs.{needs}
 use Rattle.saved.proofs.loading.bodies_wrong.Statement.{statement}
 use Rattle.saved.proofs.loading.bodies_wrong.Tie as tie
 
@@ -26,26 +29,59 @@ returns c =
     let f = c .before .before .before .before .args .file .now in
     sym (bodies-decide f ∙ ap not (and-no _ (sym (c .before .sizes-right .ensures) ∙ not-true _ (c .if1 .taken))))
 
-shared-slice-read-bodies-fine : tie.Need-shared-slice-read-bodies-fine
-shared-slice-read-bodies-fine c =
+shared-slice-read-if2 : tie.Need-shared-slice-read-if2
+shared-slice-read-if2 c =
     let c5 = c .before .before .before .before .before in
     omega (arith, has-start (c5 .args .file .now) (c5 .pre .1 .0))
+
+sub-check : tie.Need-sub-check
+sub-check c = search needs
+
+part-check-start : tie.Need-part-check-start
+part-check-start c = search needs
+
+part-check-end : tie.Need-part-check-end
+unfolding editionOf
+part-check-end c =
+    let s = c .before .before .before .before .before .before in
+    let f = s .args .file .now in
+    let right = sym (c .before .before .before .sizes-right .ensures) ∙ not-false _ (c .before .before .if1 .left) in
+    let long = size-known f (s .pre .1 .0) (counts-eight f (s .pre .1 .1)) (editionIn f) right in
+    omega (arith, long, current-size f (c .if2 .taken))
+
+check-requires : tie.Need-check-requires
+check-requires c κs = search needs
+
+returns-2 : tie.Need-returns-2
+unfolding editionOf part
+returns-2 c =
+    let s = c .before .before .before .before .before .before .before .before in
+    let f = s .args .file .now in
+    let right = sym (c .before .before .before .before .before .sizes-right .ensures) ∙ not-false _ (c .before .before .before .before .if1 .left) in
+    let long = size-known f (s .pre .1 .0) (counts-eight f (s .pre .1 .1)) (editionIn f) right in
+    let now = c .before .before .if2 .taken in
+    ap not (c .check .ensures)
+    ∙ sym (bodies-decide f ∙ ap not (and-yes _ right ∙ current-fine f now (omega (arith, long, current-size f now))))
+
+shared-slice-read-bodies-fine : tie.Need-shared-slice-read-bodies-fine
+shared-slice-read-bodies-fine c =
+    let c7 = c .before .before .before .before .before .before .before in
+    omega (arith, has-start (c7 .args .file .now) (c7 .pre .1 .0))
 
 bodies-fine-requires : tie.Need-bodies-fine-requires
 unfolding editionOf
 bodies-fine-requires c κs =
-    let c2 = c .before .before in
-    let c5 = c2 .before .before .before in
-    let f = c5 .args .file .now in
-    let right = sym (c2 .sizes-right .ensures) ∙ not-false _ (c .before .if1 .left) in
-    (c5 .pre .0, omega (arith, size-known f (c5 .pre .1 .0) (counts-eight f (c5 .pre .1 .1)) (editionIn f) right))
+    let s = c .before .before .before .before .before .before .before in
+    let f = s .args .file .now in
+    let right = sym (c .before .before .before .before .sizes-right .ensures) ∙ not-false _ (c .before .before .before .if1 .left) in
+    let long = size-known f (s .pre .1 .0) (counts-eight f (s .pre .1 .1)) (editionIn f) right in
+    (s .pre .0, omega (arith, long))
 
-returns-2 : tie.Need-returns-2
+returns-3 : tie.Need-returns-3
 unfolding editionOf
-returns-2 c =
-    let c3 = c .before .before .before in
-    let f = c3 .before .before .before .args .file .now in
-    let right = sym (c3 .sizes-right .ensures) ∙ not-false _ (c .before .before .if1 .left) in
+returns-3 c =
+    let f = c .before .before .before .before .before .before .before .before .args .file .now in
+    let right = sym (c .before .before .before .before .before .sizes-right .ensures) ∙ not-false _ (c .before .before .before .before .if1 .left) in
     ap not (c .bodies-fine .ensures) ∙ sym (bodies-decide f ∙ ap not (and-yes _ right))
 
 pub bodies-wrong-spec : {M : Type 1} → statement M
@@ -55,6 +91,12 @@ bodies-wrong-spec =
     shared-slice-read-sizes-right
     sizes-right-requires
     returns
+    shared-slice-read-if2
+    sub-check
+    part-check-start
+    part-check-end
+    check-requires
+    returns-2
     shared-slice-read-bodies-fine
     bodies-fine-requires
-    returns-2)
+    returns-3)

@@ -19,14 +19,14 @@ write-start-requires c κs = search needs
 write-contents-requires : tie.Need-write-contents-requires
 write-contents-requires c κs = search needs
 
-copy-at-requires : tie.Need-copy-at-requires
-copy-at-requires c κs =
+copy-tables-requires : tie.Need-copy-tables-requires
+copy-tables-requires c κs =
     let c3 = c .before .before .before in
     let c7 = c3 .before .before .before .before in
     let c11 = c7 .before .before .before .before in
     let tables = c11 .args .tables .now in
     let size = c3 .write-contents .kept .0 ∙ c7 .write-start .kept .0 in
-    omega (arith, formed tables (c11 .pre .0) .size, size, c11 .pre .1)
+    (formed tables (c11 .pre .0) .size, omega (arith, size, c11 .pre .1))
 
 write-tally-requires : tie.Need-write-tally-requires
 write-tally-requires c κs = search needs
@@ -45,7 +45,7 @@ returns c =
     let a = c18 .args in
     let tables = a .tables .now in
     let contents = c10 .write-contents .ensures ∙ ap (λ (r : List ℕ). patch r 4 (contentsBytes bodyCount)) (c14 .write-start .ensures) in
-    let copied = c6 .copy-at .ensures ∙ ap (λ (r : List ℕ). patch r 52 tables) contents in
+    let copied = c6 .copy-tables .ensures ∙ ap (λ (r : List ℕ). patch r 52 tables) contents in
     c2 .write-tally .ensures
     ∙ ap (λ (r : List ℕ). patch r (bodiesAt + tableSize) (tallyBytes (a .tally))) copied
     ∙ file-written tables (a .tally) (a .room .now) (known-bytes tables (c17 .shared-slice-known .given)) (c18 .pre .0) (c18 .pre .1)
@@ -56,7 +56,7 @@ write-file-spec =
     (tie.spec
     write-start-requires
     write-contents-requires
-    copy-at-requires
+    copy-tables-requires
     write-tally-requires
     same-length
     returns)

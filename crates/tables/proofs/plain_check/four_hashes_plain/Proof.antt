@@ -12,14 +12,14 @@ use borrow.Author.Needs.{needs}
 use Rattle.tables.proofs.plain_check.four_hashes_plain.Statement.{statement}
 use Rattle.tables.proofs.plain_check.four_hashes_plain.Tie as tie
 
-four-used-requires : tie.Need-four-used-requires
-four-used-requires c κs = search needs
+four-marked-requires : tie.Need-four-marked-requires
+four-marked-requires c κs = search needs
 
 returns : tie.Need-returns
 unfolding hashPlain
 returns c =
     let a = c .before .before .before .args in
-    sym (rows-apart (λ x. ltb x clockLimit) (a .at) hashExpiryAt hashWidth 4 (a .t .now) (omega arith) ∙ and-no _ (sym (c .before .four-used .ensures) ∙ not-true _ (c .if1 .taken)))
+    sym (rows-apart (λ x. ltb x clockLimit) (a .at) hashExpiryAt hashWidth 4 (a .t .now) (omega arith) ∙ and-no _ (sym (c .before .four-marked .ensures) ∙ not-true _ (c .if1 .taken)))
 
 add-four-together : tie.Need-add-four-together
 add-four-together c = search needs
@@ -34,9 +34,9 @@ returns-2 c =
     let a = c2 .before .before .args in
     ap (λ x. ltb x clockLimit) (c .four-together .ensures) ∙ together-ltb 40 _ 4
     ∙ sym (rows-apart (λ x. ltb x clockLimit) (a .at) hashExpiryAt hashWidth 4 (a .t .now) (omega arith)
-    ∙ and-yes _ (sym (c2 .four-used .ensures) ∙ not-false _ (c .before .if1 .left)))
+    ∙ and-yes _ (sym (c2 .four-marked .ensures) ∙ not-false _ (c .before .if1 .left)))
 
 pub four-hashes-plain-spec : {M : Type 1} → statement M
 four-hashes-plain-spec =
     tie.close
-    (tie.spec four-used-requires returns add-four-together four-together-requires returns-2)
+    (tie.spec four-marked-requires returns add-four-together four-together-requires returns-2)

@@ -10,14 +10,14 @@ use borrow.Author.Needs.{needs}
 use Rattle.tables.proofs.plain_check.four_returns_plain.Statement.{statement}
 use Rattle.tables.proofs.plain_check.four_returns_plain.Tie as tie
 
-four-used-requires : tie.Need-four-used-requires
-four-used-requires c κs = search needs
+four-marked-requires : tie.Need-four-marked-requires
+four-marked-requires c κs = search needs
 
 returns : tie.Need-returns
 unfolding returnPlain
 returns c =
     let a = c .before .before .before .args in
-    sym (rows-apart waysPlain (a .at) returnArrivalAt returnWidth 4 (a .t .now) (omega arith) ∙ and-no _ (sym (c .before .four-used .ensures) ∙ not-true _ (c .if1 .taken)))
+    sym (rows-apart waysPlain (a .at) returnArrivalAt returnWidth 4 (a .t .now) (omega arith) ∙ and-no _ (sym (c .before .four-marked .ensures) ∙ not-true _ (c .if1 .taken)))
 
 add-four-together : tie.Need-add-four-together
 add-four-together c = search needs
@@ -35,13 +35,13 @@ returns-2 c =
     let a = c2 .before .before .before .args in
     c .ways-plain .ensures ∙ ap waysPlain (c .before .four-together .ensures) ∙ together-plain _ 4
     ∙ sym (rows-apart waysPlain (a .at) returnArrivalAt returnWidth 4 (a .t .now) (omega arith)
-    ∙ and-yes _ (sym (c2 .before .four-used .ensures) ∙ not-false _ (c2 .if1 .left)))
+    ∙ and-yes _ (sym (c2 .before .four-marked .ensures) ∙ not-false _ (c2 .if1 .left)))
 
 pub four-returns-plain-spec : {M : Type 1} → statement M
 four-returns-plain-spec =
     tie.close
     (tie.spec
-    four-used-requires
+    four-marked-requires
     returns
     add-four-together
     four-together-requires

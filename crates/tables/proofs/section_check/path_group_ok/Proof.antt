@@ -9,8 +9,11 @@ use borrow.Author.Needs.{needs}
 use Rattle.tables.proofs.section_check.path_group_ok.Statement.{statement}
 use Rattle.tables.proofs.section_check.path_group_ok.Tie as tie
 
-shared-slice-read-if1 : tie.Need-shared-slice-read-if1
-shared-slice-read-if1 c = search needs
+mul-four-marked : tie.Need-mul-four-marked
+mul-four-marked c = search needs
+
+four-marked-requires : tie.Need-four-marked-requires
+four-marked-requires c κs = search needs
 
 mul-is-zero : tie.Need-mul-is-zero
 mul-is-zero c = search needs
@@ -47,7 +50,8 @@ pub path-group-ok-spec : {M : Type 1} → statement M
 path-group-ok-spec =
     tie.close
     (tie.spec
-    shared-slice-read-if1
+    mul-four-marked
+    four-marked-requires
     mul-is-zero
     add-is-zero
     sub-is-zero
