@@ -29,6 +29,8 @@ pub const ENTRY_WIDTH: usize = 12;
 pub const SAVED_SIZE: usize = 103108;
 /// No saved file of any edition is longer.
 pub const LONGEST_SAVED: usize = 524332;
+/// The bytes of a second opinion's log, exactly.
+pub const LOG_SIZE: usize = 32721;
 
 /// Ports 0 to 15.
 pub const PORT_COUNT: usize = 16;
@@ -44,6 +46,8 @@ pub const RETURN_COUNT: usize = 512;
 pub const HASH_COUNT: usize = 1024;
 /// Every clock, in seconds, is below 2^40.
 pub const CLOCK_LIMIT: u64 = 1099511627776;
+/// How many accepted calls a second opinion lists.
+pub const LIST_LIMIT: usize = 64;
 
 /// The announce rate's target, in seconds, is this at most.
 pub const TARGET_LIMIT: u64 = 86400;
@@ -256,6 +260,9 @@ pub struct LinkRecord {
 /// A line of text. Zeros fill what is left, one at least.
 pub type Text = [u8; TEXT_SIZE];
 
+/// What a second opinion keeps. Any bytes are a log.
+pub type Log = [u8; LOG_SIZE];
+
 #[allow(missing_docs)] // the header has the comments
 extern "C" {
     pub fn haskumye_version() -> u32;
@@ -281,6 +288,24 @@ extern "C" {
         tally: *mut Tally,
     ) -> u64;
     pub fn haskumye_answer_text(answer: u64, text: *mut Text) -> usize;
+
+    pub fn haskumye_opinion_fresh(log: *mut Log, own: *const Address);
+    pub fn haskumye_opinion_packet(
+        packet: *const u8,
+        length: usize,
+        port: u64,
+        clock: u64,
+        signed_well: u8,
+        log: *mut Log,
+        output: *mut u8,
+        room: usize,
+    ) -> u64;
+    pub fn haskumye_opinion_set_port(log: *mut Log, port: u64, on: u8, mode: u64, size: u64) -> u8;
+    pub fn haskumye_opinion_set_announce_rate(log: *mut Log, target: u64, grace: u64, penalty: u64) -> u8;
+    pub fn haskumye_opinion_add_local(log: *mut Log, address: *const Address) -> u8;
+    pub fn haskumye_opinion_remove_local(log: *mut Log, address: *const Address) -> u8;
+    pub fn haskumye_opinion_mark_path_unresponsive(log: *mut Log, destination: *const Address, clock: u64) -> u8;
+    pub fn haskumye_opinion_renumber(log: *mut Log, map: *const PortMap) -> u8;
 
     pub fn haskumye_saved_size() -> usize;
     pub fn haskumye_save(tables: *const u8, tables_length: usize, tally: *const Tally, room: *mut u8, room_length: usize) -> u64;
