@@ -111,14 +111,14 @@ void opinion_ask(struct opinion *opinion, const struct listed *call, const struc
     buffer_free(&use.output);
 }
 
-/* Calls that nothing else refuses would be refused by 28 too; these have every argument wrong. */
+/* Of the numbers that are passed each is wrong, so that 28 is seen to come before the others. */
 static void try_bytes(uint8_t fill, uint8_t count)
 {
     struct use use = {.log = buffer_new(HASKUMYE_LOG_SIZE, fill), .input = buffer_new(16, fill),
                       .output = buffer_new(HASKUMYE_OUTPUT_SIZE, fill), .port = 16, .mode = 3, .clock = UINT64_MAX,
                       .target = UINT64_MAX};
-    use.log.bytes[COUNT_AT] = count;
     for (size_t i = 0; i < CALLS; i++) {
+        use.log.bytes[COUNT_AT] = count;
         if (calls[i].ask != OPINION_FRESH) {
             uint64_t number = library_call(calls[i].ask, &use);
             uint64_t full = refused(calls[i].ask, HASKUMYE_REFUSAL_LIST_FULL);
