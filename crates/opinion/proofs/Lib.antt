@@ -1,0 +1,2 @@
+-- The laws that the walks through the log cite.
+pub mod Walk
