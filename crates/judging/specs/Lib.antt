@@ -1,0 +1,2 @@
+-- What is seen for one packet, and what it stands for.
+pub mod Seen
