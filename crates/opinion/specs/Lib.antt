@@ -1,3 +1,4 @@
--- The second opinion's log, in bytes, and what is known from it.
+-- The second opinion's log, in bytes, what is known from it, and its calls.
 pub mod Log
+pub mod Calls
 pub mod Steps

@@ -1,42 +1,62 @@
 // The local addresses.
 use super::log::ADDS;
-use super::log::BODY_AT;
-use super::log::KIND_AT;
 use super::log::REMOVES;
 use super::log::entry_at;
+use super::log::has_address;
+use super::log::kind_in;
 ghost use mathlib.Core.Path.{_≡_};
-ghost use Prim.Native.Nat.{_≤_};
+ghost use Prim.Native.Nat.{_≤_, _-_, _+_};
+ghost use lib.Dec.{eqb};
 ghost use lib.ListN.{length};
+ghost use Rattle.octets.specs.Choice.{_then_otherwise_};
 ghost use Rattle.history.specs.Opinion.{listLimit};
-ghost use Rattle.opinion.specs.Log.{addressWidth, entryWidth, logSize, knownIn};
-ghost use Rattle.opinion.specs.Steps.{localAfter};
+ghost use Rattle.opinion.specs.Log.{logSize, knownIn};
 
-// After one more entry.
-fn local_after(e: &[u8], address: &[u8], before: bool) -> bool
-    requires { ⌜ (length (now e) ≡ entryWidth) × (length (now address) ≡ addressWidth) ⌝ }
-    ensures { λ r. ⌜ r ≡ localAfter (now (e .entry)) (now (address .entry)) before ⌝ }
+// Whether an address is local after the first n entries: what the newest that adds or removes it says.
+pub fn is_local(log: &[u8], n: usize, address: [u8; 16]) -> bool
+    requires { ⌜ (length (now log) ≡ logSize) × (n ≤ listLimit) ⌝ }
+    ensures { λ r. ⌜ r ≡ knownIn (now (log .entry)) n .local address ⌝ }
 {
-    let kind = e[KIND_AT];
-    let same = octets::equal_at(e, BODY_AT, address);
+    let mut i = n;
+    while 0 < i {
+        i -= 1;
+        let e = entry_at(log, i);
+        let kind = kind_in(e);
+        if kind == ADDS || kind == REMOVES {
+            if has_address(e, address) {
+                return kind == ADDS;
+            }
+        }
+    }
+    false
+}
+
+// How many are local after one more entry of a kind.
+fn number_after(kind: u8, before: usize) -> usize
+    requires { ⌜ before ≤ listLimit ⌝ }
+    ensures { λ r. ⌜ r ≡ (eqb kind 4 then before + 1 otherwise eqb kind 5 then before - 1 otherwise before) ⌝ }
+{
     if kind == ADDS {
-        return same || before;
+        return before + 1;
     }
     if kind == REMOVES {
-        return !same && before;
+        if 0 < before {
+            return before - 1;
+        }
     }
     before
 }
 
-// After the first n entries.
-pub fn is_local(log: &[u8], n: usize, address: &[u8]) -> bool
-    requires { ⌜ (length (now log) ≡ logSize) × (n ≤ listLimit) × (length (now address) ≡ addressWidth) ⌝ }
-    ensures { λ r. ⌜ r ≡ knownIn (now (log .entry)) n .local (now (address .entry)) ⌝ }
+// How many addresses are local after the first n entries.
+pub fn local_number(log: &[u8], n: usize) -> usize
+    requires { ⌜ (length (now log) ≡ logSize) × (n ≤ listLimit) ⌝ }
+    ensures { λ r. ⌜ r ≡ knownIn (now (log .entry)) n .locals ⌝ }
 {
-    let mut known = false;
+    let mut number = 0;
     let mut i = 0;
     while i < n {
-        known = local_after(entry_at(log, i), address, known);
+        number = number_after(kind_in(entry_at(log, i)), number);
         i += 1;
     }
-    known
+    number
 }

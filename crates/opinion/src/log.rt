@@ -1,33 +1,65 @@
-// Where the parts of the log lie: specs/Log.antt in code. Each number once.
+// Where the parts of the log lie, and what the bytes of an entry say: specs/Log.antt in code. Each number once.
+use judging::Arrived;
+use judging::SeenPort;
+use numbers::GRACE_LIMIT;
 use numbers::LONGEST_PACKET;
+use numbers::PENALTY_LIMIT;
+use numbers::PORT_COUNT;
+use numbers::TARGET_LIMIT;
+use numbers::refusals;
+use rules::RateSettings;
 ghost use mathlib.Core.Path.{_≡_};
 ghost use Prim.Native.Nat.{_<_, _≤_};
 ghost use lib.ListN.{length};
+ghost use Rattle.octets.specs.Choice.{same};
+ghost use Rattle.numbers.specs.Numbers.{portCount, longestPacket, clockLimit};
+ghost use Rattle.rules.specs.Relay.{makePort};
+ghost use Rattle.rules.specs.Refusals.{rateSettingsOk};
+ghost use Rattle.judging.specs.Seen.{arrivalOf};
 ghost use Rattle.history.specs.Opinion.{listLimit};
-ghost use Rattle.opinion.specs.Log.{entryWidth, logSize, clockOf, entryBytes, listedIn};
+ghost use Rattle.opinion.specs.Log.{addressWidth, entryWidth, logSize, portIn, wordIn, modeIn, clockIn, lengthIn, packetIn, arrivalIn, rateIn, addressIn, kindIn, entryBytes, listedIn, ownIn};
+ghost use Rattle.opinion.specs.Steps.{portSeen};
 
 pub const LIST_LIMIT: usize = 64;
 
-const COUNT_AT: usize = 16;
+pub const ADDRESS_WIDTH: usize = 16;
 
-const ENTRIES_AT: usize = COUNT_AT + 1;
+pub const COUNT_AT: usize = ADDRESS_WIDTH;
 
-pub const KIND_AT: usize = 0;
+pub const ENTRIES_AT: usize = COUNT_AT + 1;
 
-const CLOCK_AT: usize = 4;
+const PORT_AT: usize = 1;
 
-const CLOCK_WIDTH: usize = 5;
+const WORD_AT: usize = 2;
 
-pub const BODY_AT: usize = CLOCK_AT + CLOCK_WIDTH + 2;
+const MODE_AT: usize = 3;
 
-const ENTRY_WIDTH: usize = BODY_AT + LONGEST_PACKET;
+pub const CLOCK_AT: usize = 4;
+
+pub const CLOCK_WIDTH: usize = 5;
+
+pub const LENGTH_AT: usize = CLOCK_AT + CLOCK_WIDTH;
+
+pub const LENGTH_WIDTH: usize = 2;
+
+pub const BODY_AT: usize = LENGTH_AT + LENGTH_WIDTH;
+
+pub const ENTRY_WIDTH: usize = BODY_AT + LONGEST_PACKET;
+
+pub const LOG_SIZE: usize = ENTRIES_AT + ENTRY_WIDTH * LIST_LIMIT;
 
 // Kinds of entries.
-pub const CAME: u8 = 0;
+pub const RENUMBERS: u8 = 0;
 
-pub const ADDS: u8 = 3;
+pub const CAME: u8 = 1;
 
-pub const REMOVES: u8 = 4;
+pub const SETS_PORT: u8 = 2;
+
+pub const SETS_RATE: u8 = 3;
+
+pub const ADDS: u8 = 4;
+
+pub const REMOVES: u8 = 5;
 
 pub const MARKS: u8 = 6;
 
@@ -49,10 +81,132 @@ pub fn entry_at(log: &[u8], i: usize) -> &[u8]
     &log[start..start + ENTRY_WIDTH]
 }
 
+// ---- what an entry says
+
 // An entry's clock.
-pub fn clock_of(e: &[u8]) -> u64
+pub fn clock_in(e: &[u8]) -> u64
     requires { ⌜ length (now e) ≡ entryWidth ⌝ }
-    ensures { λ r. ⌜ r ≡ clockOf (now (e .entry)) ⌝ }
+    ensures { λ r. ⌜ (r ≡ clockIn (now (e .entry))) × (r < clockLimit) ⌝ }
 {
     octets::number_at(e, CLOCK_AT, CLOCK_WIDTH)
+}
+
+// Its length or size.
+fn length_in(e: &[u8]) -> usize
+    requires { ⌜ length (now e) ≡ entryWidth ⌝ }
+    ensures { λ r. ⌜ r ≡ lengthIn (now (e .entry)) ⌝ }
+{
+    octets::number_at(e, LENGTH_AT, LENGTH_WIDTH) as usize
+}
+
+// Its port.
+fn port_in(e: &[u8]) -> u8
+    requires { ⌜ length (now e) ≡ entryWidth ⌝ }
+    ensures { λ r. ⌜ (r ≡ portIn (now (e .entry))) × (r < portCount) ⌝ }
+{
+    e[PORT_AT] % (PORT_COUNT as u8)
+}
+
+// The packet that came.
+pub fn packet_in(e: &[u8]) -> &[u8]
+    requires { ⌜ length (now e) ≡ entryWidth ⌝ }
+    ensures { λ r. ⌜ (now r ≡ packetIn (now (e .entry))) × (length (now r) ≤ longestPacket) ⌝ }
+{
+    let n = length_in(e);
+    if n < LONGEST_PACKET {
+        return &e[BODY_AT..BODY_AT + n];
+    }
+    &e[BODY_AT..BODY_AT + LONGEST_PACKET]
+}
+
+// How it came.
+pub fn arrived_in(e: &[u8]) -> Arrived
+    requires { ⌜ length (now e) ≡ entryWidth ⌝ }
+    ensures { λ r. ⌜ (arrivalOf (packetIn (now (e .entry))) r ≡ arrivalIn (now (e .entry)))
+        × (r .port < portCount) × (r .clock < clockLimit) ⌝ }
+{
+    let signed = e[WORD_AT] == 1;
+    Arrived {
+        port: port_in(e),
+        clock: clock_in(e),
+        signed,
+    }
+}
+
+// The port that is set, and its settings.
+pub fn port_set_in(e: &[u8]) -> u8
+    requires { ⌜ length (now e) ≡ entryWidth ⌝ }
+    ensures { λ r. ⌜ r ≡ portIn (now (e .entry)) ⌝ }
+{
+    port_in(e)
+}
+
+pub fn settings_in(e: &[u8]) -> SeenPort
+    requires { ⌜ length (now e) ≡ entryWidth ⌝ }
+    ensures { λ r. ⌜ portSeen r
+        ≡ makePort (wordIn (now (e .entry))) (modeIn (now (e .entry))) (lengthIn (now (e .entry))) ⌝ }
+{
+    let on = e[WORD_AT] == 1;
+    SeenPort {
+        on,
+        mode: e[MODE_AT],
+        size: length_in(e),
+    }
+}
+
+// The rate that is set.
+pub fn rate_in(e: &[u8]) -> RateSettings
+    requires { ⌜ length (now e) ≡ entryWidth ⌝ }
+    ensures { λ r. ⌜ r ≡ rateIn (now (e .entry)) ⌝ }
+{
+    RateSettings {
+        target: octets::number_at(e, BODY_AT, 3),
+        grace: octets::wide(e[BODY_AT + 3]),
+        penalty: octets::number_at(e, BODY_AT + 4, 3),
+    }
+}
+
+// Whether rate settings are within their limits.
+pub fn rate_within(rate: RateSettings) -> bool
+    ensures { λ r. ⌜ r ≡ rateSettingsOk rate ⌝ }
+{
+    if rate.target > TARGET_LIMIT {
+        return false;
+    }
+    if rate.grace > GRACE_LIMIT {
+        return false;
+    }
+    rate.penalty <= PENALTY_LIMIT
+}
+
+// An entry's kind. One that no call of its kind can have left is a renumbering.
+pub fn kind_in(e: &[u8]) -> u8
+    requires { ⌜ length (now e) ≡ entryWidth ⌝ }
+    ensures { λ r. ⌜ r ≡ kindIn (now (e .entry)) ⌝ }
+{
+    let kind = e[0];
+    if kind == CAME {
+        if packet::reading_refusal(packet_in(e), LONGEST_PACKET) == refusals::NONE {
+            return CAME;
+        }
+        return RENUMBERS;
+    }
+    if kind == SETS_RATE {
+        if rate_within(rate_in(e)) {
+            return SETS_RATE;
+        }
+        return RENUMBERS;
+    }
+    if kind > MARKS {
+        return RENUMBERS;
+    }
+    kind
+}
+
+// Whether its address is this one.
+pub fn has_address(e: &[u8], address: [u8; 16]) -> bool
+    requires { ⌜ length (now e) ≡ entryWidth ⌝ }
+    ensures { λ r. ⌜ r ≡ same (addressIn (now (e .entry))) address ⌝ }
+{
+    octets::equal_at(e, BODY_AT, &address)
 }

@@ -1,49 +1,54 @@
--- The clock after the first i entries, one entry after the other.
-use Prim.Native.Nat.{ℕ, _≤_, _-_}
-use mathlib.Core.Path.{_≡_, sym, ap, ap₂, _∙_}
 use native.Mathlib.Omega.{arith}
-use denote.Ref.{now}
 use borrow.Author.Needs.{needs}
-use Rattle.opinion.specs.Log.{knownIn}
-use Rattle.opinion.specs.Steps.{clockAfter}
-use Rattle.opinion.proofs.Walk.{none-yet, clock-more}
 use Rattle.opinion.proofs.clocks.last_clock.Statement.{statement}
 use Rattle.opinion.proofs.clocks.last_clock.Tie as tie
+use Rattle.opinion.proofs.clocks.last_clock.Reads as reads
+use Rattle.opinion.proofs.clocks.last_clock.Lts as lts
+use Rattle.opinion.proofs.log.clock_in.Reads as clock-in-reads
+use Rattle.opinion.proofs.log.entry_at.Reads as entry-at-reads
+use Rattle.opinion.proofs.log.kind_in.Reads as kind-in-reads
 
 abbrev Inv-loop : tie.InvT-loop
-Inv-loop log n clock₀ i₀ clock i = (i ≤ n) × (clock ≡ knownIn log i .clock)
+Inv-loop log n i₀ i = ?
 
 abbrev μ-loop : tie.MeasureT-loop
-μ-loop log n clock₀ i₀ clock i = n - i
+μ-loop log n i₀ i = ?
 
+-- src/clocks.rt:19:5
 loop-holds : tie.Need-loop-holds Inv-loop μ-loop
-loop-holds c = (omega arith, sym (none-yet _ .0))
+loop-holds c = search needs
 
+-- src/clocks.rt:20:9
+sub-i : tie.Need-sub-i Inv-loop μ-loop
+sub-i c = search needs
+
+-- src/clocks.rt:21:13
 entry-at-requires : tie.Need-entry-at-requires Inv-loop μ-loop
-entry-at-requires c κs = (c .before .before .before .pre .0, omega arith)
+entry-at-requires c κs = search needs
 
-clock-after-requires : tie.Need-clock-after-requires Inv-loop μ-loop
-clock-after-requires c κs = search needs
+-- src/clocks.rt:22:13
+kind-in-requires : tie.Need-kind-in-requires Inv-loop μ-loop
+kind-in-requires c κs = search needs
 
-add-i : tie.Need-add-i Inv-loop μ-loop
-add-i c = omega arith
+-- src/clocks.rt:24:13
+clock-in-requires : tie.Need-clock-in-requires Inv-loop μ-loop
+clock-in-requires c κs = search needs
 
-loop-less : tie.Need-loop-less Inv-loop μ-loop
-loop-less c = omega arith
-
-loop-again : tie.Need-loop-again Inv-loop μ-loop
-loop-again c =
-    let log = c .before .before .before .before .before .args .log .now in
-    let i : ℕ = c .before .before .before .loop .i in (
-      omega arith,
-      c .clock-after .ensures ∙ ap₂ clockAfter (c .before .entry-at .ensures .0) (c .before .before .before .loop .inv .1) ∙ sym (clock-more log i),
-    )
-
+-- src/clocks.rt:24:13
 returns : tie.Need-returns Inv-loop μ-loop
-returns c =
-    let s = c .before .before .before in
-    let e : c .before .loop .i ≡ s .args .n = omega arith in
-    c .before .loop .inv .1 ∙ ap (λ (k : ℕ). knownIn (now (s .args .log)) k .clock) e
+returns c = search needs
+
+-- src/clocks.rt:19:5
+loop-less : tie.Need-loop-less Inv-loop μ-loop
+loop-less c = search needs
+
+-- src/clocks.rt:19:5
+loop-again : tie.Need-loop-again Inv-loop μ-loop
+loop-again c = search needs
+
+-- src/clocks.rt:14:1
+returns-2 : tie.Need-returns-2 Inv-loop μ-loop
+returns-2 c = search needs
 
 pub last-clock-spec : {M : Type 1} → statement M
 last-clock-spec =
@@ -52,9 +57,11 @@ last-clock-spec =
     Inv-loop
     μ-loop
     loop-holds
+    sub-i
     entry-at-requires
-    clock-after-requires
-    add-i
+    kind-in-requires
+    clock-in-requires
+    returns
     loop-less
     loop-again
-    returns)
+    returns-2)

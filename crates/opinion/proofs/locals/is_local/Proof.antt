@@ -1,55 +1,62 @@
--- Whether it is local after the first i entries, one entry after the other.
-use Prim.Native.Nat.{ℕ, _≤_, _-_}
-use mathlib.Core.Bool.{Bool}
-use mathlib.Core.List.{List}
-use mathlib.Core.Path.{_≡_, sym, ap, ap₂, _∙_}
 use native.Mathlib.Omega.{arith}
-use denote.Ref.{now}
 use borrow.Author.Needs.{needs}
-use Rattle.opinion.specs.Log.{knownIn}
-use Rattle.opinion.specs.Steps.{localAfter}
-use Rattle.opinion.proofs.Walk.{none-yet, local-more}
 use Rattle.opinion.proofs.locals.is_local.Statement.{statement}
 use Rattle.opinion.proofs.locals.is_local.Tie as tie
+use Rattle.opinion.proofs.locals.is_local.Reads as reads
+use Rattle.opinion.proofs.locals.is_local.Lts as lts
+use Rattle.opinion.proofs.log.entry_at.Reads as entry-at-reads
+use Rattle.opinion.proofs.log.has_address.Reads as has-address-reads
+use Rattle.opinion.proofs.log.kind_in.Reads as kind-in-reads
 
 abbrev Inv-loop : tie.InvT-loop
-Inv-loop log n address known₀ i₀ known i = (i ≤ n) × (known ≡ knownIn log i .local address)
+Inv-loop log n address i₀ i = ?
 
 abbrev μ-loop : tie.MeasureT-loop
-μ-loop log n address known₀ i₀ known i = n - i
+μ-loop log n address i₀ i = ?
 
+-- src/locals.rt:21:5
 loop-holds : tie.Need-loop-holds Inv-loop μ-loop
-loop-holds c = (omega arith, sym (none-yet _ .1 _))
+loop-holds c = search needs
 
+-- src/locals.rt:22:9
+sub-i : tie.Need-sub-i Inv-loop μ-loop
+sub-i c = search needs
+
+-- src/locals.rt:23:13
 entry-at-requires : tie.Need-entry-at-requires Inv-loop μ-loop
-entry-at-requires c κs = (c .before .before .before .before .pre .0, omega arith)
+entry-at-requires c κs = search needs
 
-local-after-requires : tie.Need-local-after-requires Inv-loop μ-loop
-local-after-requires c κs = (c .entry-at .ensures .1, c .before .before .before .before .before .pre .2)
+-- src/locals.rt:24:13
+kind-in-requires : tie.Need-kind-in-requires Inv-loop μ-loop
+kind-in-requires c κs = search needs
 
-add-i : tie.Need-add-i Inv-loop μ-loop
-add-i c = omega arith
+-- src/locals.rt:26:16
+has-address-requires : tie.Need-has-address-requires Inv-loop μ-loop
+has-address-requires c κs = search needs
 
-loop-less : tie.Need-loop-less Inv-loop μ-loop
-loop-less c = omega arith
-
-loop-again : tie.Need-loop-again Inv-loop μ-loop
-loop-again c =
-    let s = c .before .before .before .before .before .before in
-    let log = s .args .log .now in
-    let address = s .args .address .now in
-    let i : ℕ = c .before .before .before .loop .i in (
-      omega arith,
-      c .local-after .ensures
-          ∙ ap₂ (λ (e : List ℕ) (b : Bool). localAfter e address b) (c .before .entry-at .ensures .0) (c .before .before .before .loop .inv .1)
-          ∙ sym (local-more log i address),
-    )
-
+-- src/locals.rt:27:17
 returns : tie.Need-returns Inv-loop μ-loop
-returns c =
-    let s = c .before .before .before .before in
-    let e : c .before .loop .i ≡ s .args .n = omega arith in
-    c .before .loop .inv .1 ∙ ap (λ (k : ℕ). knownIn (now (s .args .log)) k .local (now (s .args .address))) e
+returns c = search needs
+
+-- src/locals.rt:21:5
+loop-less : tie.Need-loop-less Inv-loop μ-loop
+loop-less c = search needs
+
+-- src/locals.rt:21:5
+loop-again : tie.Need-loop-again Inv-loop μ-loop
+loop-again c = search needs
+
+-- src/locals.rt:21:5
+loop-less-2 : tie.Need-loop-less-2 Inv-loop μ-loop
+loop-less-2 c = search needs
+
+-- src/locals.rt:21:5
+loop-again-2 : tie.Need-loop-again-2 Inv-loop μ-loop
+loop-again-2 c = search needs
+
+-- src/locals.rt:16:1
+returns-2 : tie.Need-returns-2 Inv-loop μ-loop
+returns-2 c = search needs
 
 pub is-local-spec : {M : Type 1} → statement M
 is-local-spec =
@@ -58,9 +65,13 @@ is-local-spec =
     Inv-loop
     μ-loop
     loop-holds
+    sub-i
     entry-at-requires
-    local-after-requires
-    add-i
+    kind-in-requires
+    has-address-requires
+    returns
     loop-less
     loop-again
-    returns)
+    loop-less-2
+    loop-again-2
+    returns-2)

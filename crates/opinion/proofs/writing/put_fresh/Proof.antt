@@ -1,0 +1,33 @@
+use native.Mathlib.Omega.{arith}
+use borrow.Author.Needs.{needs}
+use Rattle.opinion.proofs.writing.put_fresh.Statement.{statement}
+use Rattle.opinion.proofs.writing.put_fresh.Tie as tie
+use Rattle.opinion.proofs.writing.put_fresh.Reads as reads
+use Rattle.opinion.proofs.writing.put_fresh.Lts as lts
+use Rattle.octets.proofs.copy_at.Reads as copy-at-reads
+use Rattle.octets.proofs.set_at.Reads as set-at-reads
+
+-- src/writing.rt:136:29
+slice-aggregate-copy-at : tie.Need-slice-aggregate-copy-at
+slice-aggregate-copy-at c = search needs
+
+-- src/writing.rt:136:5
+copy-at-requires : tie.Need-copy-at-requires
+copy-at-requires c κs = search needs
+
+-- src/writing.rt:137:5
+set-at-requires : tie.Need-set-at-requires
+set-at-requires c κs = search needs
+
+-- src/writing.rt:132:1
+same-length : tie.Need-same-length
+same-length c = search needs
+
+-- src/writing.rt:132:1
+returns : tie.Need-returns
+returns c = ?
+
+pub put-fresh-spec : {M : Type 1} → statement M
+put-fresh-spec =
+    tie.close
+    (tie.spec slice-aggregate-copy-at copy-at-requires set-at-requires same-length returns)

@@ -1,0 +1,43 @@
+// The remembered hashes.
+use super::log::CAME;
+use super::log::clock_in;
+use super::log::entry_at;
+use super::log::kind_in;
+use super::log::packet_in;
+use numbers::HASH_LIFETIME;
+ghost use mathlib.Core.Path.{_≡_};
+ghost use Prim.Native.Nat.{_≤_, _<_};
+ghost use lib.ListN.{length};
+ghost use Rattle.octets.specs.Choice.{same};
+ghost use Rattle.packet.specs.Hash.{packetHash};
+ghost use Rattle.history.specs.Opinion.{listLimit};
+ghost use Rattle.opinion.specs.Log.{entryWidth, logSize, knownIn, packetIn, kindIn};
+ghost use Rattle.opinion.specs.Steps.{KeptOf};
+
+// Whether the packet that came has this hash.
+fn has_hash(e: &[u8], hash: [u8; 32]) -> bool
+    requires { ⌜ (length (now e) ≡ entryWidth) × (kindIn (now e) ≡ 1) ⌝ }
+    ensures { λ r. ⌜ r ≡ same (packetHash (packetIn (now (e .entry)))) hash ⌝ }
+{
+    let other = packet::hash_of(packet_in(e));
+    octets::equal_at(&other, 0, &hash)
+}
+
+// Until when a hash is remembered after the first n entries: 300 s from the newest that had it remembered, or 0.
+pub fn until(log: &[u8], kept: &[u8], n: usize, hash: [u8; 32]) -> u64
+    requires { ⌜ (length (now log) ≡ logSize) × (length (now kept) ≡ listLimit) × (n ≤ listLimit)
+        × KeptOf (now log) (now kept) n ⌝ }
+    ensures { λ r. ⌜ r ≡ knownIn (now (log .entry)) n .until hash ⌝ }
+{
+    let mut i = n;
+    while 0 < i {
+        i -= 1;
+        let e = entry_at(log, i);
+        if kept[i] == 1 && kind_in(e) == CAME {
+            if has_hash(e, hash) {
+                return clock_in(e) + HASH_LIFETIME;
+            }
+        }
+    }
+    0
+}
