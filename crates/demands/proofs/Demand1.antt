@@ -20,9 +20,9 @@ use Rattle.packet.specs.Read.{headerOf, longestPacket, readingRows, readingRefu
 use Rattle.packet.specs.Write.{leastOutput, packetOf, writingRows, writingRefusal, Writing, writing}
 use Rattle.packet.specs.Hash.{packetHashAnswer, linkIdAnswer}
 use Rattle.packet.specs.declared.Parts.{Parts}
-use Rattle.numbers.specs.Numbers.{portCount, localCount, modeCount, clockLimit}
+use Rattle.numbers.specs.Numbers.{portCount, localCount, modeCount, isSize, clockLimit}
 use Rattle.rules.specs.Relay.{makeRateSettings, Port, Slot, empty, used, Relay}
-use Rattle.rules.specs.View.{portOn, isLocal, viewAt}
+use Rattle.rules.specs.View.{portOn, portSize, isLocal, viewAt}
 use Rattle.rules.specs.Renumbering.{oneToOne}
 use Rattle.rules.specs.Arrival.{Arrival}
 use Rattle.rules.specs.Tests.{isThere}
@@ -33,6 +33,7 @@ use Rattle.rules.specs.Run.{Call, packet, on-tables, asks, saves, loads, port-s
 use Rattle.rules.specs.Questions.{Question, port-settings, rate-settings, local-at, path-at, link-at, live-path, live-returns, live-hashes, last-clock, word-matters, Told, none, a-port, an-address, a-path, a-link, cameWith, toldOf, rowSeven, questionRule, questionRefusal, tell}
 use Rattle.rules.specs.declared.Answer.the-variants.{Refused}
 use Rattle.rules.specs.declared.Tally.{Tally}
+use Rattle.rules.proofs.Accepted.{arrival-size}
 use Rattle.tables.specs.Places.{tableSize}
 use Rattle.tables.specs.Layout.{relayOf, wellFormed}
 use Rattle.tables.proofs.Whole.{again, ok-relay}
@@ -169,8 +170,28 @@ pub packet-rows : (a : Arrival) (output tables : List ℕ)
     ltb (portSize (relayOf tables) (a .port)) (length (a .bytes)) then 2 otherwise
     accessCode (headerOf (a .bytes)) then 3 otherwise
     typeTwo (headerOf (a .bytes)) and ltb (length (a .bytes)) 35 then 1 otherwise 0)
-unfolding refusalOn afterSeven refusal refusalBy packetRows firstOf readingRefusal readingRows
-packet-rows a output tables = after-seven tables _
+unfolding refusalOn afterSeven refusal refusalBy packetRows firstOf readingRefusal readingRows _then_otherwise_
+packet-rows a output tables = after-seven tables (below (isSize size)) ∙ go (wellFormed tables) refl
+  where
+    size : ℕ
+    size = portSize (relayOf tables) (a .port)
+
+    below : Bool → ℕ
+    below sized =
+        ltb (length output) leastOutput then 6 otherwise
+        not (portOn (relayOf tables) (a .port)) then 4 otherwise
+        leb clockLimit (a .clock) or ltb (a .clock) (relayOf tables .clock) then 5 otherwise
+        not sized then 9 otherwise
+        ltb (length (a .bytes)) 19 then 1 otherwise
+        ltb size (length (a .bytes)) then 2 otherwise
+        accessCode (headerOf (a .bytes)) then 3 otherwise
+        typeTwo (headerOf (a .bytes)) and ltb (length (a .bytes)) 35 then 1 otherwise 0
+
+    go : (v : Bool) → wellFormed tables ≡ v
+        → (not (wellFormed tables) then 7 otherwise below (isSize size)) ≡ (not (wellFormed tables) then 7 otherwise below true)
+    go true h =
+        ap (λ (sized : Bool). not (wellFormed tables) then 7 otherwise below sized) (arrival-size (relayOf tables) (ok-relay tables h) (a .port))
+    go false h = rw h
 
 -- setting a port: 7, 9
 pub port-rows : (port : ℕ) (on : Bool) (mode size : ℕ) (tables : List ℕ)

@@ -15,9 +15,8 @@ use Rattle.packet.specs.Read.{payload, longestPacket, reads, reading}
 use Rattle.packet.specs.Write.{packetOf, leastOutput, writingRefusal, writing, readBack}
 use Rattle.packet.specs.declared.Parts.{Parts}
 use Rattle.packet.proofs.ListLaws.{patched-start}
-use Rattle.packet.proofs.ReadLaws.{reads-readable}
 use Rattle.packet.specs.Write.{Wide}
-use Rattle.packet.proofs.WriteLaws.{writable, writing-done}
+use Rattle.packet.proofs.WriteLaws.{writing-done}
 use Rattle.packet.proofs.RoundTrip.{reading-writing, writing-reading, write-payload}
 use Rattle.rules.specs.Relay.{Relay, fresh}
 use Rattle.rules.specs.Refusals.{tablesOk}

@@ -113,8 +113,10 @@ pub rows : Refused (packet (arrival (receiptBytes 5) 2500 1) (replicate 499 0xee
     × Refused (arrives (replicate 501 0x00) 2500 1) 2
     × Refused (arrives (replicate 19 0x80) 2500 1) 3
     × Refused (arrives (take 34 dataBytes) 2500 1) 1
-    × Refused (port-setting 16 true 0) 9
-    × Refused (port-setting 0 true 3) 9
+    × Refused (port-setting 16 true 0 500) 9
+    × Refused (port-setting 0 true 3 500) 9
+    × Refused (port-setting 0 true 0 18) 9
+    × Refused (port-setting 0 true 0 501) 9
     × Refused (rate-setting 86401 0 0) 9
     × Refused (rate-setting 0 255 0) 9
     × Refused (rate-setting 0 0 604801) 9
@@ -135,6 +137,8 @@ rows = (
   refused _ 2 refl refl refl,
   refused _ 3 refl refl refl,
   refused _ 1 refl refl refl,
+  refused _ 9 refl refl refl,
+  refused _ 9 refl refl refl,
   refused _ 9 refl refl refl,
   refused _ 9 refl refl refl,
   refused _ 9 refl refl refl,

@@ -164,7 +164,7 @@ data-read = refl
 
 pub data-written : writing dataParts dataBody blank ≡ record { answer = record { refusal = 0; length = 55 }; output = dataBytes ++ replicate 445 0xee }
 unfolding lists layout
-data-written = ap (λ (q : Parts). writing q dataBody blank) (sym data-read) ∙ read-then-written dataBytes blank refl (lit≤ tt)
+data-written = ap (λ (q : Parts). writing q dataBody blank) (sym data-read) ∙ read-then-written longestPacket dataBytes blank refl (lit≤ tt)
 
 -- ---- written-then-read: a receipt of type 1, whose relay address is not written
 abbrev receiptParts : List ℕ → Parts
@@ -183,11 +183,17 @@ receipt-written : writing (receiptParts own) receiptBody blank ≡ record { answ
 unfolding lists layout writing writingRows writingRefusal
 receipt-written = refl
 
-pub receipt-read : reading longestPacket (take 83 writtenReceipt) ≡ record { refusal = 0; parts = receiptParts noAddress }
-unfolding lists layout writingRows writingRefusal readBack
+-- at the least size that takes it
+pub receipt-read : reading 83 (take 83 writtenReceipt) ≡ record { refusal = 0; parts = receiptParts noAddress }
+unfolding lists layout writing writingRows writingRefusal readBack
 receipt-read =
-    ap (λ (w : Writing). reading longestPacket (take (w .answer .length) (w .output))) (sym receipt-written)
-    ∙ written-then-read (receiptParts own) receiptBody blank wide refl
+    ap (λ (w : Writing). reading 83 (take (w .answer .length) (w .output))) (sym receipt-written)
+    ∙ written-then-read (receiptParts own) receiptBody blank wide refl 83 (lit≤ tt) (lit≤ tt)
+
+-- .. and at one byte less it is too long
+pub receipt-too-long : reading 82 (take 83 writtenReceipt) .refusal ≡ 2
+unfolding lists layout
+receipt-too-long = refl
 
 pub receipt-payload : payload (take 83 writtenReceipt) ≡ receiptBody
 unfolding lists layout writingRows writingRefusal

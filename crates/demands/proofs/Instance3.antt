@@ -76,7 +76,7 @@ unfolding rules
 one-up-ok = refl
 
 abbrev pub onePorts : List Port
-onePorts = freshPort ∷ freshPort ∷ makePort true 2 ∷ makePort true 0 ∷ freshPort ∷ freshPort ∷ makePort true 1 ∷ replicate 9 freshPort
+onePorts = freshPort ∷ freshPort ∷ makePort true 2 500 ∷ makePort true 0 500 ∷ freshPort ∷ freshPort ∷ makePort true 1 500 ∷ replicate 9 freshPort
 
 pub one-up : Goes (before ++ (renumbering oneUp ∷ laterBy 2 6)) (saidBefore ++ (numbered 0 ∷ saidLater 3 2 (lastRelay onePorts 2)))
     (lastRelay onePorts 2) lastTally
@@ -104,7 +104,7 @@ unfolding rules
 both-ok = refl
 
 abbrev bothPorts : List Port
-bothPorts = freshPort ∷ freshPort ∷ makePort true 0 ∷ makePort true 2 ∷ freshPort ∷ freshPort ∷ makePort true 1 ∷ replicate 9 freshPort
+bothPorts = freshPort ∷ freshPort ∷ makePort true 0 500 ∷ makePort true 2 500 ∷ freshPort ∷ freshPort ∷ makePort true 1 500 ∷ replicate 9 freshPort
 
 pub at-once : Goes (before ++ (renumbering both ∷ laterBy 3 6)) (saidBefore ++ (numbered 0 ∷ saidLater 2 3 (lastRelay bothPorts 3)))
     (lastRelay bothPorts 3) lastTally

@@ -53,8 +53,8 @@ shortRoom = replicate (savedSize - 1) 0xee
 abbrev pub before : List Call
 before =
     renumbering oneUp
-    ∷ port-setting 1 true 2
-    ∷ port-setting 2 true 0
+    ∷ port-setting 1 true 2 500
+    ∷ port-setting 2 true 0 500
     ∷ adding guest
     -- there already: 11
     ∷ adding guest
@@ -77,9 +77,9 @@ laterBy from port =
     ∷ rate-setting 3600 5 7200
     -- a target over a day: 9
     ∷ rate-setting 86401 5 7200
-    ∷ port-setting port true 1
+    ∷ port-setting port true 1 500
     -- no port: 9
-    ∷ port-setting 77 true 1
+    ∷ port-setting 77 true 1 500
     ∷ removing guest
     -- the destination's path is marked; the guest has none: 12
     ∷ marking destination 2500
@@ -215,7 +215,7 @@ abbrev pub lastRelay : List Port → ℕ → Relay
 lastRelay ports port = endWith ports (withPathPort port markedPath)
 
 abbrev pub plainPorts : List Port
-plainPorts = freshPort ∷ makePort true 2 ∷ makePort true 0 ∷ freshPort ∷ freshPort ∷ makePort true 1 ∷ replicate 10 freshPort
+plainPorts = freshPort ∷ makePort true 2 500 ∷ makePort true 0 500 ∷ freshPort ∷ freshPort ∷ makePort true 1 500 ∷ replicate 10 freshPort
 
 -- before the mark
 abbrev unmarkedRelay : Relay
@@ -226,8 +226,8 @@ fresh-moved : perform (renumbering oneUp) (fresh own) newTally ≡ record { repl
 unfolding rules
 fresh-moved = refl
 
-first-port : perform (port-setting 1 true 2) (fresh own) newTally
-    ≡ record { reply = numbered 0; relay = perform (port-setting 1 true 2) (fresh own) newTally .relay; tally = newTally }
+first-port : perform (port-setting 1 true 2 500) (fresh own) newTally
+    ≡ record { reply = numbered 0; relay = perform (port-setting 1 true 2 500) (fresh own) newTally .relay; tally = newTally }
 unfolding rules
 first-port = refl
 
@@ -307,12 +307,12 @@ no-rate : perform (rate-setting 86401 5 7200) (hosting ratedRelay) lastTally
 unfolding rules
 no-rate = refl
 
-port-set : perform (port-setting 5 true 1) (hosting ratedRelay) lastTally
+port-set : perform (port-setting 5 true 1 500) (hosting ratedRelay) lastTally
     ≡ record { reply = numbered 0; relay = hosting unmarkedRelay; tally = lastTally }
 unfolding rules
 port-set = refl
 
-no-port : perform (port-setting 77 true 1) (hosting unmarkedRelay) lastTally
+no-port : perform (port-setting 77 true 1 500) (hosting unmarkedRelay) lastTally
     ≡ record { reply = numbered 9; relay = hosting unmarkedRelay; tally = lastTally }
 unfolding rules
 no-port = refl
@@ -405,7 +405,7 @@ later-run =
     first guest-removed first path-marked first no-path first rate-told first path-told first word-told first nothing-told first none-loaded
     first all-saved (lastRelay plainPorts 1) lastTally end-ok first room-short (lastRelay plainPorts 1) lastTally end-ok first no-call
 
-second-port : perform (port-setting 2 true 0) (perform (port-setting 1 true 2) (fresh own) newTally .relay) newTally
+second-port : perform (port-setting 2 true 0 500) (perform (port-setting 1 true 2 500) (fresh own) newTally .relay) newTally
     ≡ record { reply = numbered 0; relay = preparedRelay; tally = newTally }
 unfolding prepared perform ofSetting
 second-port = prepared-is

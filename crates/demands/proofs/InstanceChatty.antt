@@ -78,10 +78,10 @@ spread-spaced = goes (given 300) (run 300 all-spaced) .answers
 
 -- ---- with a target of 1,000 s and no grace, 400 s apart
 abbrev chattering : List Call
-chattering = port-setting 1 true 2 ∷ port-setting 2 true 0 ∷ rate-setting 1000 0 600 ∷ hears 1 1000 ∷ hears 2 1400 ∷ []
+chattering = port-setting 1 true 2 500 ∷ port-setting 2 true 0 500 ∷ rate-setting 1000 0 600 ∷ hears 1 1000 ∷ hears 2 1400 ∷ []
 
 abbrev chatteringOn : List Call
-chatteringOn = port-setting 1 true 2 ∷ port-setting 2 true 0 ∷ rate-setting 1000 0 600 ∷ hears 1 1000 ∷ hears 2 1400 ∷ hears 3 1800 ∷ []
+chatteringOn = port-setting 1 true 2 500 ∷ port-setting 2 true 0 500 ∷ rate-setting 1000 0 600 ∷ hears 1 1000 ∷ hears 2 1400 ∷ hears 3 1800 ∷ []
 
 chattering-given : CallsBytes chattering
 unfolding EachCall CallBytes ruleOf isBytes isByte tableOk all _and_

@@ -38,8 +38,8 @@ use Rattle.demands.proofs.Instance2.{Goes, goes, Held, held}
 -- ---- the calls
 abbrev until-mark : List Call
 until-mark =
-    port-setting 1 true 2
-    ∷ port-setting 2 true 0
+    port-setting 1 true 2 500
+    ∷ port-setting 2 true 0 500
     ∷ rate-setting 1000 0 600
     ∷ hears 2 1000
     -- once more: drop 2

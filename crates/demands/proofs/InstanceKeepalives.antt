@@ -67,8 +67,8 @@ later =
     again-call ∷ refused-call
     -- no map of the sixteen: 8
     ∷ renumbering []
-    -- a port of the link, still on
-    ∷ port-setting 1 true 1
+    -- a port of the link, still on, and its size that of a keepalive
+    ∷ port-setting 1 true 1 20
     ∷ dropped-call ∷ last-call ∷ []
 
 abbrev pub calls : List Call
@@ -87,7 +87,7 @@ l = linkIs 2721
 
 abbrev setup : List Call
 setup =
-    port-setting 1 true 2 ∷ port-setting 2 true 0 ∷ arrives announceBytes 1000 1 ∷ arrives requestBytes 2000 2
+    port-setting 1 true 2 500 ∷ port-setting 2 true 0 500 ∷ arrives announceBytes 1000 1 ∷ arrives requestBytes 2000 2
     ∷ arrives (linkProofBytes 0) 2001 1 ∷ []
 
 setup-given : CallsBytes setup
@@ -123,40 +123,40 @@ upRelay ports clock expiry =
     makeRelay own clock noRateSettings ports (provedRelay .locals) (provedRelay .paths) (used (linkIs expiry) ∷ replicate 63 empty) (provedRelay .returns)
     (provedRelay .hashes)
 
-abbrev portsBy : ℕ → List Port
-portsBy mode = freshPort ∷ makePort true mode ∷ makePort true 0 ∷ replicate 13 freshPort
+abbrev portsBy : (mode size : ℕ) → List Port
+portsBy mode size = freshPort ∷ makePort true mode size ∷ makePort true 0 500 ∷ replicate 13 freshPort
 
 abbrev counting : (dropped forwarded : ℕ) → Tally
 counting dropped forwarded =
     record { total = dropped + forwarded; dropped = dropped; delivered = 0; forwarded = forwarded; spread = 0; kept = 0 }
 
 first-done : perform first-call provedRelay newTally
-    ≡ record { reply = forwards (keepaliveBytes 1) 2; relay = upRelay (portsBy 2) 2100 2820; tally = counting 0 1 }
+    ≡ record { reply = forwards (keepaliveBytes 1) 2; relay = upRelay (portsBy 2 500) 2100 2820; tally = counting 0 1 }
 unfolding rules
 first-done = refl
 
-again-done : perform again-call (upRelay (portsBy 2) 2100 2820) (counting 0 1)
-    ≡ record { reply = forwards (keepaliveBytes 1) 2; relay = upRelay (portsBy 2) 2200 2920; tally = counting 0 2 }
+again-done : perform again-call (upRelay (portsBy 2 500) 2100 2820) (counting 0 1)
+    ≡ record { reply = forwards (keepaliveBytes 1) 2; relay = upRelay (portsBy 2 500) 2200 2920; tally = counting 0 2 }
 unfolding rules
 again-done = refl
 
-refused-done : perform refused-call (upRelay (portsBy 2) 2200 2920) (counting 0 2)
-    ≡ record { reply = answered (Refused 4) blank; relay = upRelay (portsBy 2) 2200 2920; tally = counting 0 2 }
+refused-done : perform refused-call (upRelay (portsBy 2 500) 2200 2920) (counting 0 2)
+    ≡ record { reply = answered (Refused 4) blank; relay = upRelay (portsBy 2 500) 2200 2920; tally = counting 0 2 }
 unfolding rules
 refused-done = refl
 
-map-done : perform (renumbering []) (upRelay (portsBy 2) 2200 2920) (counting 0 2)
-    ≡ record { reply = numbered 8; relay = upRelay (portsBy 2) 2200 2920; tally = counting 0 2 }
+map-done : perform (renumbering []) (upRelay (portsBy 2 500) 2200 2920) (counting 0 2)
+    ≡ record { reply = numbered 8; relay = upRelay (portsBy 2 500) 2200 2920; tally = counting 0 2 }
 unfolding rules
 map-done = refl
 
-port-done : perform (port-setting 1 true 1) (upRelay (portsBy 2) 2200 2920) (counting 0 2)
-    ≡ record { reply = numbered 0; relay = upRelay (portsBy 1) 2200 2920; tally = counting 0 2 }
+port-done : perform (port-setting 1 true 1 20) (upRelay (portsBy 2 500) 2200 2920) (counting 0 2)
+    ≡ record { reply = numbered 0; relay = upRelay (portsBy 1 20) 2200 2920; tally = counting 0 2 }
 unfolding rules
 port-done = refl
 
-dropped-done : perform dropped-call (upRelay (portsBy 1) 2200 2920) (counting 0 2)
-    ≡ record { reply = answered (Judged (Drop WrongSide)) blank; relay = upRelay (portsBy 1) 2850 2920; tally = counting 1 2 }
+dropped-done : perform dropped-call (upRelay (portsBy 1 20) 2200 2920) (counting 0 2)
+    ≡ record { reply = answered (Judged (Drop WrongSide)) blank; relay = upRelay (portsBy 1 20) 2850 2920; tally = counting 1 2 }
 unfolding rules
 dropped-done = refl
 
@@ -168,7 +168,7 @@ record Timely (deadline : ℕ) (cs : List Call) (r : Relay) (t : Tally) : Type 0
 record Fits (c : Call) (r : Relay) (deadline : ℕ) (taken : Bool) (next : ℕ) : Type 0 where
   is : accepted c r ≡ taken
   justly : taken ≡ true → fair l deadline c ≡ true
-  then : nextDeadline l deadline c taken ≡ next
+  then : nextDeadline r l deadline c taken ≡ next
 
 -- a call, and those after it
 timely : {c : Call} {cs : List Call} {r between : Relay} {t counts : Tally} {reply : Reply} {deadline next : ℕ} {taken : Bool}
@@ -179,8 +179,8 @@ timely {c} {cs} {r} {between} {t} {counts} {deadline = deadline} done fits rest 
     record {
       in-time = (
         λ e. fits .justly (sym (fits .is) ∙ e),
-        subst (λ (o : Outcome). InTime l (nextDeadline l deadline c (accepted c r)) cs (o .relay) (o .tally)) (sym done)
-            (subst (λ (n : ℕ). InTime l n cs between counts) (sym (ap (nextDeadline l deadline c) (fits .is) ∙ fits .then)) (rest .in-time)),
+        subst (λ (o : Outcome). InTime l (nextDeadline r l deadline c (accepted c r)) cs (o .relay) (o .tally)) (sym done)
+            (subst (λ (n : ℕ). InTime l n cs between counts) (sym (ap (nextDeadline r l deadline c) (fits .is) ∙ fits .then)) (rest .in-time)),
       );
     }
 
@@ -188,27 +188,27 @@ first-fits : Fits first-call provedRelay 2721 true 2820
 unfolding rules accepted fair nextDeadline keepsAlive isKeepalive
 first-fits = record { is = refl; justly = λ _. refl; then = refl }
 
-again-fits : Fits again-call (upRelay (portsBy 2) 2100 2820) 2820 true 2920
+again-fits : Fits again-call (upRelay (portsBy 2 500) 2100 2820) 2820 true 2920
 unfolding rules accepted fair nextDeadline keepsAlive isKeepalive
 again-fits = record { is = refl; justly = λ _. refl; then = refl }
 
-refused-fits : Fits refused-call (upRelay (portsBy 2) 2200 2920) 2920 false 2920
+refused-fits : Fits refused-call (upRelay (portsBy 2 500) 2200 2920) 2920 false 2920
 unfolding rules accepted nextDeadline
 refused-fits = record { is = refl; justly = λ e. absurd (false≢true e); then = refl }
 
-map-fits : Fits (renumbering []) (upRelay (portsBy 2) 2200 2920) 2920 false 2920
+map-fits : Fits (renumbering []) (upRelay (portsBy 2 500) 2200 2920) 2920 false 2920
 unfolding rules accepted nextDeadline
 map-fits = record { is = refl; justly = λ e. absurd (false≢true e); then = refl }
 
-port-fits : Fits (port-setting 1 true 1) (upRelay (portsBy 2) 2200 2920) 2920 true 2920
+port-fits : Fits (port-setting 1 true 1 20) (upRelay (portsBy 2 500) 2200 2920) 2920 true 2920
 unfolding rules accepted fair nextDeadline
 port-fits = record { is = refl; justly = λ _. refl; then = refl }
 
-dropped-fits : Fits dropped-call (upRelay (portsBy 1) 2200 2920) 2920 true 2920
+dropped-fits : Fits dropped-call (upRelay (portsBy 1 20) 2200 2920) 2920 true 2920
 unfolding rules accepted fair nextDeadline keepsAlive isKeepalive
 dropped-fits = record { is = refl; justly = λ _. refl; then = refl }
 
-last-timely : Timely 2920 (last-call ∷ []) (upRelay (portsBy 1) 2850 2920) (counting 1 2)
+last-timely : Timely 2920 (last-call ∷ []) (upRelay (portsBy 1 20) 2850 2920) (counting 1 2)
 unfolding rules InTime fair
 last-timely = record { in-time = (λ _. refl, tt) }
 
@@ -253,28 +253,29 @@ past {c} {cs} {r} {between} {t} left done =
 
 -- of a keepalive
 said : {a : Arrival} {output : List ℕ} {cs : List Call} {r : Relay} {t : Tally} → Left (packet a output ∷ cs) r t
-    → accepted (packet a output) r ≡ true → keepsAlive l a ≡ true
+    → accepted (packet a output) r ≡ true → keepsAlive r l a ≡ true
     → Carried l a output (performOn (packet a output) (bytesOf r) t .reply) (relayOf (performOn (packet a output) (bytesOf r) t .tables))
 unfolding EachCall LastsOn CarriedIf
 said {a} {output} {cs} {r} left taken k =
-    left .lasts-on .0 (accepted-bytes r (left .held .shape) (left .held .ok) (packet a output) (left .given-rest .0) ∙ taken) k
+    left .lasts-on .0 (accepted-bytes r (left .held .shape) (left .held .ok) (packet a output) (left .given-rest .0) ∙ taken)
+    (ap (λ (r : Relay). keepsAlive r l a) (back r (left .held .shape) (left .held .ok)) ∙ k)
 
-behind-first : Left later (upRelay (portsBy 2) 2100 2820) (counting 0 1)
+behind-first : Left later (upRelay (portsBy 2 500) 2100 2820) (counting 0 1)
 behind-first = past begin first-done
 
-before-last : Left (last-call ∷ []) (upRelay (portsBy 1) 2850 2920) (counting 1 2)
+before-last : Left (last-call ∷ []) (upRelay (portsBy 1 20) 2850 2920) (counting 1 2)
 before-last = past (past (past (past (past behind-first again-done) refused-done) map-done) port-done) dropped-done
 
-pub again-forwarded : performOn again-call (bytesOf (upRelay (portsBy 2) 2100 2820)) (counting 0 1) .reply ≡ forwards (keepaliveBytes 1) 2
+pub again-forwarded : performOn again-call (bytesOf (upRelay (portsBy 2 500) 2100 2820)) (counting 0 1) .reply ≡ forwards (keepaliveBytes 1) 2
 unfolding rules accepted keepsAlive isKeepalive
 again-forwarded = said behind-first refl refl .forwarded
 
-pub last-forwarded : performOn last-call (bytesOf (upRelay (portsBy 1) 2850 2920)) (counting 1 2) .reply ≡ forwards (keepaliveBytes 4) 1
+pub last-forwarded : performOn last-call (bytesOf (upRelay (portsBy 1 20) 2850 2920)) (counting 1 2) .reply ≡ forwards (keepaliveBytes 4) 1
 unfolding rules accepted keepsAlive isKeepalive
 last-forwarded = said before-last refl refl .forwarded
 
 abbrev lastTables : List ℕ
-lastTables = performOn last-call (bytesOf (upRelay (portsBy 1) 2850 2920)) (counting 1 2) .tables
+lastTables = performOn last-call (bytesOf (upRelay (portsBy 1 20) 2850 2920)) (counting 1 2) .tables
 
 pub last-renewed : viewAt 2919 (relayOf lastTables) .link link ≡ used (linkIs 3639)
 unfolding rules accepted keepsAlive isKeepalive
@@ -289,4 +290,10 @@ one-forwarded =
     let up : UpAt l 2721 2100 provedRelay = record { lives = refl; asking = refl; answering = refl } in
     let none : refusalOn first-call (bytesOf provedRelay) ≡ 0 = eqb-true _ 0 (accepted-bytes provedRelay (h .shape) (h .ok) first-call (given .0)) in
     keepalive-carried-on (bytesOf provedRelay) newTally (bytes-bytes provedRelay (h .shape) (h .ok)) (ok-bytes provedRelay (h .shape) (h .ok)) l 2721
-    (arrival (keepaliveBytes 0) 2100 1) blank (given .0) (subst (UpAt l 2721 2100) there up) refl none .forwarded
+    (arrival (keepaliveBytes 0) 2100 1) blank (given .0) (subst (UpAt l 2721 2100) there up)
+    (ap (λ (r : Relay). keepsAlive r l (arrival (keepaliveBytes 0) 2100 1)) (sym there)) none .forwarded
+
+-- ---- wish 11: where the port of the other side carries a byte less, it is no keepalive that keeps the link
+pub too-long : keepsAlive (upRelay (portsBy 1 19) 2850 2920) l (arrival (keepaliveBytes 3) 2919 2) ≡ false
+unfolding rules keepsAlive isKeepalive
+too-long = refl

@@ -18,7 +18,7 @@ use Rattle.rules.specs.Rate.{startsAt}
 use Rattle.rules.specs.Refusals.{all, tableOk, packetRefusal}
 use Rattle.rules.specs.Arrival.{Arrival, hops, hash, destination as destinationOf}
 use Rattle.rules.specs.Ways.{by-return}
-use Rattle.rules.specs.Tests.{notOurs, testedAsDuplicate, duplicate, badForm, ownAnnounce, deliveredHere, tooManyHops, notSigned, portOff}
+use Rattle.rules.specs.Tests.{notOurs, testedAsDuplicate, duplicate, badForm, ownAnnounce, deliveredHere, tooManyHops, notSigned, portOff, tooLongForPort}
 use Rattle.rules.specs.Calls.{newTally, ruleOf}
 use Rattle.rules.specs.Questions.{cameWith}
 use Rattle.rules.specs.Run.{EachCall, Call, packet, port-setting, rate-setting, renumbering, marking, Reply, answered, numbered, Outcome, perform, noneLoads, noCall, setsRelay}
@@ -47,8 +47,9 @@ use Rattle.demands.specs.Bytes.{OutcomeOn, performOn, tablesAfterOn, tal
 use Rattle.demands.specs.Refusals.{refusal, refusalOn}
 use Rattle.demands.specs.OldAnnounces.{FromFreshOn}
 use Rattle.demands.proofs.Demand2.{refusal-bytes, reply-bytes}
+use Rattle.demands.proofs.Demand3.{both-given}
 use Rattle.demands.proofs.OldAnnounces.{old-leaves-path-fresh, proof-returns-fresh, marked-takes-again-fresh}
-use Rattle.demands.proofs.InstanceCalls.{before, given-before, before-run, midwayRelay, midwayTally, receipt-new, Runs, no-call, _first_}
+use Rattle.demands.proofs.InstanceCalls.{before, given-before, before-then, before-run, midwayRelay, midwayTally, receipt-new, Runs, no-call, _first_}
 use Rattle.demands.proofs.Instance2.{buffer, size, sixteen, start, Goes, goes, Held, held}
 
 -- ---- a packet behind a list of calls from fresh
@@ -83,7 +84,7 @@ abbrev farBytes : List ℕ
 farBytes = 0x21 ∷ 1 ∷ (destination ++ (0x00 ∷ announceBody emission))
 
 abbrev heard : List Call
-heard = renumbering oneUp ∷ port-setting 1 true 2 ∷ port-setting 2 true 0 ∷ arrives farBytes 1000 1 ∷ loading [] ∷ []
+heard = renumbering oneUp ∷ port-setting 1 true 2 500 ∷ port-setting 2 true 0 500 ∷ arrives farBytes 1000 1 ∷ loading [] ∷ []
 
 heard-given : CallsBytes heard
 unfolding EachCall CallBytes ruleOf isBytes isByte tableOk all _and_
@@ -216,12 +217,52 @@ port-two-on : portOff (viewAt 2500 midwayRelay) (receipt 1) (by-return (returnOf
 unfolding rules
 port-two-on = refl
 
+port-two-carries : tooLongForPort (viewAt 2500 midwayRelay) (receipt 1) (by-return (returnOf dataKey)) ≡ false
+unfolding rules
+port-two-carries = refl
+
 pub receipt-home : saysForwarded (behind before (receipt 1) .reply) ≡ true
 unfolding goesBack
 receipt-home =
     returned-by-one .exactly
     ∙ ap (goesBack (viewAt 2500 midwayRelay) (receipt 1)) (record-there 1)
-    ∙ and-both refl (and-both receipt-reaches (ap not port-two-on))
+    ∙ and-both refl (and-both receipt-reaches (and-both (ap not port-two-on) (ap not port-two-carries)))
+
+-- wish 11: where port 2 has come to carry a byte less than the receipt has, it is not forwarded
+abbrev narrowed : List Call
+narrowed = before ++ (port-setting 2 true 0 82 ∷ [])
+
+abbrev narrowRelay : Relay
+narrowRelay = perform (port-setting 2 true 0 82) midwayRelay midwayTally .relay
+
+narrow-set : perform (port-setting 2 true 0 82) midwayRelay midwayTally ≡ record { reply = numbered 0; relay = narrowRelay; tally = midwayTally }
+unfolding rules
+narrow-set = refl
+
+narrow-given : CallsBytes narrowed
+unfolding EachCall CallBytes ruleOf all
+narrow-given = both-given before (port-setting 2 true 0 82 ∷ []) given-before (refl, tt)
+
+returned-narrow : Returns (receipt 1) narrowRelay (behind narrowed (receipt 1) .reply)
+unfolding rules isOrdinaryProof noCall setsRelay
+returned-narrow =
+    holds-behind narrow-given (before-then (narrow-set first no-call)) (receipt 1) (receipt-given 1) ProofReturns proof-returns-fresh refl refl refl
+
+narrow-record : viewAt 2500 narrowRelay .return (destinationOf (receipt 1)) ≡ used (returnOf dataKey)
+unfolding rules
+narrow-record = refl
+
+-- all else lets it by
+still-reaches : reachesWay (viewAt 2500 narrowRelay) (receipt 1) ≡ true
+unfolding rules
+still-reaches = reaches-new (viewAt 2500 narrowRelay) (receipt 1) receipt-new refl refl refl refl refl
+
+pub receipt-too-long : saysForwarded (behind narrowed (receipt 1) .reply) ≡ false
+unfolding rules goesBack
+receipt-too-long =
+    returned-narrow .exactly
+    ∙ ap (goesBack (viewAt 2500 narrowRelay) (receipt 1)) narrow-record
+    ∙ ap (λ (b : Bool). true and b and false) still-reaches
 
 -- by the port where the data came in, and no other
 pub by-port-two : (port n : ℕ) (output : List ℕ) → behind before (receipt 1) .reply ≡ answered (Judged (Forward port n)) output → port ≡ 2
@@ -238,8 +279,8 @@ receipt-not-home = returned-by-two .exactly ∙ ap (goesBack (viewAt 2500 midway
 abbrev marked : List Call
 marked =
     renumbering oneUp
-    ∷ port-setting 1 true 2
-    ∷ port-setting 2 true 0
+    ∷ port-setting 1 true 2 500
+    ∷ port-setting 2 true 0 500
     ∷ rate-setting 0 0 600
     ∷ rate-setting 86401 0 0
     ∷ hears 1 1000

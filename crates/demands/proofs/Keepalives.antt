@@ -18,7 +18,7 @@ use Rattle.rules.proofs.Valid.{step-ok}
 use Rattle.rules.proofs.Lasting.{keepalive-carried, keepalives-keep}
 use Rattle.tables.specs.Layout.{relayOf, bytesOf, wellFormed}
 use Rattle.tables.specs.Shape.{shaped}
-use Rattle.tables.proofs.Whole.{again, ok-relay, shaped-of}
+use Rattle.tables.proofs.Whole.{again, ok-relay, shaped-of, back}
 use Rattle.demands.specs.Given.{CallBytes, CallsBytes}
 use Rattle.demands.specs.Bytes.{OutcomeOn, performOn}
 use Rattle.demands.specs.Refusals.{refusal, refusalOn}
@@ -48,9 +48,11 @@ lasts-on l (c ∷ cs) r t b ok s lasts =
     let o : Outcome = perform c r t in
     let x : OutcomeOn = performOn c (bytesOf r) t in
     let relay : o .relay ≡ relayOf (x .tables) = sym (relay-bytes r s ok t c (b .0)) in
-    let carried = subst (λ (y : Relay). CarriedIf l c (accepted c r) (o .reply) y) relay (lasts .0) in
-    let told = subst (λ y. CarriedIf l c (accepted c r) y (relayOf (x .tables))) (sym (reply-bytes r s ok t c (b .0))) carried in
-    let taken = subst (λ (y : Bool). CarriedIf l c y (x .reply) (relayOf (x .tables))) (sym (accepted-bytes r s ok c (b .0))) told in
+    let was : r ≡ relayOf (bytesOf r) = sym (back r s ok) in
+    let sized = subst (λ (y : Relay). CarriedIf l c (accepted c r) y (o .reply) (o .relay)) was (lasts .0) in
+    let carried = subst (λ (y : Relay). CarriedIf l c (accepted c r) (relayOf (bytesOf r)) (o .reply) y) relay sized in
+    let told = subst (λ y. CarriedIf l c (accepted c r) (relayOf (bytesOf r)) y (relayOf (x .tables))) (sym (reply-bytes r s ok t c (b .0))) carried in
+    let taken = subst (λ (y : Bool). CarriedIf l c y (relayOf (bytesOf r)) (x .reply) (relayOf (x .tables))) (sym (accepted-bytes r s ok c (b .0))) told in
     let rest : LastsOn l cs (bytesOf (o .relay)) (o .tally) =
     lasts-on l cs (o .relay) (o .tally) (b .1) (step-ok c r t ok) (step-shaped c r t (b .0) ok s) (lasts .2) in (
       taken,
@@ -59,11 +61,11 @@ lasts-on l (c ∷ cs) r t b ok s lasts =
     )
 
 -- ---- the theorems, from any tables that are well formed, and any tally
--- where the view at its clock has the link live and proved and both its ports are on, a keepalive that isn't refused is forwarded, and the link's
--- expiry is its clock + 720: whatever hashes the tables hold
+-- where the view at its clock has the link live and proved and both its ports are on, a keepalive that isn't refused, nor too long for the port of the other
+-- side, is forwarded, and the link's expiry is its clock + 720: whatever hashes the tables hold
 module _ (tables : List ℕ) (tally : Tally) (b : Bytes tables) (h : wellFormed tables ≡ true) where
   pub keepalive-carried-on : (l : Link) (expiry : ℕ) (a : Arrival) (output : List ℕ) → CallBytes (packet a output)
-      → UpAt l expiry (a .clock) (relayOf tables) → keepsAlive l a ≡ true → refusalOn (packet a output) tables ≡ 0
+      → UpAt l expiry (a .clock) (relayOf tables) → keepsAlive (relayOf tables) l a ≡ true → refusalOn (packet a output) tables ≡ 0
       → Carried l a output (performOn (packet a output) tables tally .reply) (relayOf (performOn (packet a output) tables tally .tables))
   keepalive-carried-on l expiry a output given up k none =
       let c : Call = packet a output in

@@ -1,4 +1,4 @@
--- Demands 1 to 3 and the theorems of wishes 2, 4, 5, 6, 7, 9 and 12, about the bytes. First what keeps a relay one that tables can hold; last the theorems
+-- Demands 1 to 3 and the theorems of wishes 2, 4, 5, 6, 7, 9, 11 and 12, about the bytes. First what keeps a relay one that tables can hold; last the theorems
 -- on lists of calls, with what they say computed, so that none can become empty unseen.
 pub mod Announced
 pub mod Made
@@ -28,4 +28,5 @@ pub mod InstanceOldAnnounces
 pub mod InstanceReplay
 pub mod InstanceAnnounce
 pub mod InstanceLengths
+pub mod InstanceSizes
 pub mod InstanceReasons

@@ -3,29 +3,27 @@ use Prim.Native.Nat.{ℕ, _-_, _≤_}
 use native.Mathlib.Omega.{arith}
 use mathlib.Core.Bool.{Bool, true}
 use mathlib.Core.List.{List, [], _∷_}
-use mathlib.Core.Path.{_≡_, refl, sym, ap, _∙_}
+use mathlib.Core.Path.{_≡_, refl, ap, _∙_}
 use lib.Dec.{eqb, ltb, lit≤, lit<}
 use lib.ListN.{length, drop, length-append, length-drop}
 use lib.Seq.{length-take-le}
-use borrow.Author.Tests.{lt-ltb, eqb-true}
+use borrow.Author.Tests.{lt-ltb}
 use Rattle.octets.specs.Bytes.{Bytes}
 use Rattle.octets.proofs.Index.{and-left, and-right, and-both}
 use Rattle.octets.proofs.Bytes.{part-bytes, take-bytes, drop-bytes, replicate-bytes}
 use Rattle.packet.specs.Header.{typeTwo}
-use Rattle.packet.specs.Read.{headerOf, typeOneParts, typeTwoParts, partsOf, payloadStart, payload, longestPacket, readingRefusal}
+use Rattle.packet.specs.Read.{headerOf, typeOneParts, typeTwoParts, partsOf, payloadStart, payload, longestPacket}
 use Rattle.packet.specs.Hash.{hashedPart, packetHash}
 use Rattle.packet.specs.Announce.{blobOf}
 use Rattle.packet.specs.declared.Parts.{Parts}
-use Rattle.packet.proofs.ReadLaws.{parts-hops, readable}
+use Rattle.packet.proofs.ReadLaws.{parts-hops, reads-readable}
 use Rattle.packet.proofs.Widths.{parts-wide, packet-hash-length, link-id-length, blob-length}
 use Rattle.sha256.proofs.Promise.{digest-byte}
 use Rattle.numbers.specs.Numbers.{blobLimit}
 use Rattle.rules.specs.Relay.{Slot, empty, used, Blobs, Path, Return, Relay}
 use Rattle.rules.specs.View.{View}
 use Rattle.rules.specs.Renumbering.{renamePath, renameLink, renameReturn}
-use Rattle.rules.specs.Refusals.{pathOk, slotOk, all, tableOk, packetRows, packetRefusal, refusalBy}
-use Rattle.octets.specs.Index.{_and_}
-use Rattle.octets.proofs.Listed.{allGive, none-first, refuses, rows-passed}
+use Rattle.rules.specs.Refusals.{pathOk, slotOk, all, tableOk, packetRefusal}
 use Rattle.rules.specs.Arrival.{Arrival, header, hops, destination, body, hash, blob}
 use Rattle.rules.specs.Blobs.{held, isAmong, noBlob, oneBlob, addBlob, storeBlob}
 use Rattle.rules.specs.Writes.{announcedBlobs, announcedPath, returnKey, returnRecord, linkRecord, renewedLink}
@@ -33,6 +31,7 @@ use Rattle.rules.specs.declared.Link.{Link}
 use Rattle.rules.proofs.Choices.{either}
 use Rattle.rules.proofs.Tables.{all-append, all-replicate, table-of, table-length, table-all, table-set, table-replicate}
 use Rattle.rules.proofs.BlobLaws.{one-placed}
+use Rattle.rules.proofs.Accepted.{accepted-reads}
 use Rattle.tables.specs.Places.{addressWidth, digestWidth, blobWidth}
 use Rattle.tables.specs.Shape.{isByte, isBytes, pathShaped, linkShaped, returnShaped, hashShaped}
 use Rattle.tables.proofs.All.{is-bytes}
@@ -148,11 +147,7 @@ module _ (a : Arrival) (b : Bytes (a .bytes)) where
 
 -- a packet that is accepted has all its parts
 pub accepted-whole : (r : Relay) (a : Arrival) (room : ℕ) → eqb (packetRefusal r a room) 0 ≡ true → payloadStart (header a) ≤ length (a .bytes)
-unfolding refusalBy packetRows allGive refuses _and_
-accepted-whole r a room accepted =
-    let rows = packetRows r (a .port) (a .clock) room in
-    let below = none-first rows (readingRefusal longestPacket (a .bytes)) (rows-passed rows _ refl accepted) in
-    readable longestPacket (a .bytes) (sym below ∙ eqb-true _ _ accepted) .whole
+accepted-whole r a room accepted = reads-readable longestPacket (a .bytes) (accepted-reads r a room accepted) .whole
 
 -- ---- what a renumbering makes of a record: ports are no part of its shape
 module _ (m : List ℕ) where

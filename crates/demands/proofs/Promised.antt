@@ -27,9 +27,10 @@ module _ (tables : List ℕ) (tally : Tally) where
   unfolding performOn
   packet-promised a output = refl
 
-  pub port-promised : (port : ℕ) (on : Bool) (mode : ℕ) → performOn (port-setting port on mode) tables tally ≡ ofCalled tally (setPortOn tables port on mode)
+  pub port-promised : (port : ℕ) (on : Bool) (mode size : ℕ)
+      → performOn (port-setting port on mode size) tables tally ≡ ofCalled tally (setPortOn tables port on mode size)
   unfolding performOn
-  port-promised port on mode = refl
+  port-promised port on mode size = refl
 
   pub rate-promised : (target grace penalty : ℕ)
       → performOn (rate-setting target grace penalty) tables tally ≡ ofCalled tally (setRateOn tables target grace penalty)

@@ -113,7 +113,7 @@ mark-keeps destination clock r s =
 
 table-keeps : (c : TableCall) (r : Relay) → all (isBytes addressWidth) (ruleOf c .addresses) ≡ true → Shaped r → TableKeeps shape r c
 unfolding ruleOf all slotOk
-table-keeps (sets-port port on mode) r b s = tt
+table-keeps (sets-port port on mode size) r b s = tt
 table-keeps (sets-rate target grace penalty) r b s = tt
 table-keeps (adds address) r b s = all-set (slotOk (isBytes addressWidth)) (r .locals) _ (used address) (s .locals) (and-left _ _ b)
 table-keeps (removes address) r b s = all-set (slotOk (isBytes addressWidth)) (r .locals) _ empty (s .locals) refl

@@ -6,7 +6,7 @@ use Rattle.tables.specs.Layout.{wellFormed}
 
 -- HASKUMYE_VERSION of the header that these functions are declared in
 abbrev pub interfaceVersion : ℕ
-interfaceVersion = 5
+interfaceVersion = 6
 
 -- 7 where no relay has these bytes as its tables, else 0
 unfoldable pub tablesRefusal : List ℕ → ℕ

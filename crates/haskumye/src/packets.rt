@@ -9,13 +9,13 @@ ghost use Rattle.line.specs.Line.{lineText};
 ghost use Rattle.text.specs.Text.{textOf};
 ghost use Rattle.haskumye.specs.Packets.{partsAfter, hashAfter, linkIdAfter, partsIn, payloadPlace, Writes};
 
-// Reads a packet: its refusal, 0 for none. Its parts go to the buffer, which a refusal leaves as it was.
+// Reads a packet against a size: its refusal, 0 for none. Its parts go to the buffer, which a refusal leaves as it was.
 #[no_mangle]
-pub extern "C" fn haskumye_read(packet: &[u8], parts: &mut [u8; 35]) -> u8
-    ensures { λ r. ⌜ (r ≡ reading longestPacket (now (packet .entry)) .refusal)
-        × (now (parts .exit) ≡ partsAfter (now (packet .entry)) (now (parts .entry))) ⌝ }
+pub extern "C" fn haskumye_read(packet: &[u8], size: u64, parts: &mut [u8; 35]) -> u8
+    ensures { λ r. ⌜ (r ≡ reading size (now (packet .entry)) .refusal)
+        × (now (parts .exit) ≡ partsAfter size (now (packet .entry)) (now (parts .entry))) ⌝ }
 {
-    let reading = packet::read(packet);
+    let reading = packet::read(packet, size as usize);
     let refusal = reading.refusal;
     if refusal == 0 {
         let q = reading.parts;

@@ -5,9 +5,9 @@ ghost use mathlib.Core.Path.{_≡_};
 ghost use Rattle.rules.specs.Questions.{port-settings, rate-settings, local-at, path-at, link-at, live-path, live-returns, live-hashes, last-clock, word-matters};
 ghost use Rattle.tables.specs.Asked.{tellOn, toldNumber, Tells, TellsNumber};
 
-// A port's settings: on, 1 or 0, and its mode.
+// A port's settings: on, 1 or 0, its mode, and its size in two bytes, the highest first.
 #[no_mangle]
-pub extern "C" fn haskumye_port(tables: &[u8], port: u64, settings: &mut [u8; 2]) -> u8
+pub extern "C" fn haskumye_port(tables: &[u8], port: u64, settings: &mut [u8; 4]) -> u8
     ensures { λ r. ⌜ Tells (tellOn (now (tables .entry)) (port-settings port))
         (now (settings .entry)) r (now (settings .exit)) ⌝ }
 {

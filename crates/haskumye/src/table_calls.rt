@@ -15,7 +15,7 @@ ghost use Rattle.haskumye.specs.Tables.{interfaceVersion, tablesRefusal}
 pub extern "C" fn haskumye_version() -> u32
     ensures { λ r. ⌜ r ≡ interfaceVersion ⌝ }
 {
-    5
+    6
 }
 
 // How many bytes tables have.
@@ -37,7 +37,7 @@ pub extern "C" fn haskumye_check_tables(tables: &[u8]) -> u8
     refusals::TABLES
 }
 
-// The tables of a relay with its own address, all ports off and boundary, clock 0, tables empty.
+// The tables of a relay with its own address, all ports off, boundary and of size 500, clock 0, tables empty.
 #[no_mangle]
 pub extern "C" fn haskumye_fresh(tables: &mut [u8], own: &[u8; 16]) -> u8
     ensures { λ r. ⌜ Returns (freshOn (now (tables .entry)) (now (own .entry))) r (now (tables .exit)) ⌝ }
@@ -46,12 +46,18 @@ pub extern "C" fn haskumye_fresh(tables: &mut [u8], own: &[u8; 16]) -> u8
     settings::fresh(tables, address)
 }
 
-// Sets a port on, by 1, or off, by any other number, and its mode.
+// Sets a port on, by 1, or off, by any other number, its mode and its size.
 #[no_mangle]
-pub extern "C" fn haskumye_set_port(tables: &mut [u8], port: u64, on: u8, mode: u64) -> u8
-    ensures { λ r. ⌜ Returns (setPortOn (now (tables .entry)) port (eqb on 1) mode) r (now (tables .exit)) ⌝ }
+pub extern "C" fn haskumye_set_port(
+    tables: &mut [u8],
+    port: u64,
+    on: u8,
+    mode: u64,
+    size: u64,
+) -> u8
+    ensures { λ r. ⌜ Returns (setPortOn (now (tables .entry)) port (eqb on 1) mode size) r (now (tables .exit)) ⌝ }
 {
-    settings::set_port(tables, port, on == 1, mode)
+    settings::set_port(tables, port, on == 1, mode, size)
 }
 
 // Sets the announce rate: target interval, grace and penalty.

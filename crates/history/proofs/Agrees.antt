@@ -16,7 +16,7 @@ use Rattle.octets.proofs.Index.{and-no, and-yes, first-cong}
 use Rattle.octets.proofs.Choice.{then-false, same-sym}
 use Rattle.numbers.specs.Numbers.{portCount, localCount, pathCount, linkCount, returnCount, hashCount, live}
 use Rattle.rules.specs.Relay.{Port, freshPort, noPort, fresh, Slot, empty, used, makeRemembered, Path, Return, Remembered, Ring, Relay, holds, lowest, withClock, withRate, withPorts, withLocals, withPaths, withLinks, withReturns, withHashes}
-use Rattle.rules.specs.View.{viewAt, portOn, portMode, isLocal, localPlace, isLivePath, isLiveLink, isLiveReturn, isLiveHash, pathPlace, linkPlace, returnPlace, hashPlace, freePath, freeLink}
+use Rattle.rules.specs.View.{viewAt, portOn, portMode, portSize, isLocal, localPlace, isLivePath, isLiveLink, isLiveReturn, isLiveHash, pathPlace, linkPlace, returnPlace, hashPlace, freePath, freeLink}
 use Rattle.rules.specs.Refusals.{portOk}
 use Rattle.rules.specs.Tests.{isThere}
 use Rattle.rules.specs.declared.Link.{Link}
@@ -172,13 +172,14 @@ module _ {now n : ℕ} {k : Known} {r : Relay} (h : Agrees now n k r) where
     link-room clock = lt-ltb _ _ (room _ linkCount (r .links) (h .links .tells .size) (omega (arith, h .links .few)))
 
     pub seen-agrees : (clock : ℕ) → now ≤ clock → unexpired (viewAt clock r) ≡ seenAt clock k
-    unfolding unexpired viewAt seenAt portMode pathPlace linkPlace returnPlace isLivePath isLiveLink isLiveReturn
+    unfolding unexpired viewAt seenAt portMode portSize pathPlace linkPlace returnPlace isLivePath isLiveLink isLiveReturn
     seen-agrees clock m = λ i.
         record {
           own = h .own i;
           rate = h .rate i;
           on = λ port. on-agrees valid port i;
           mode = λ port. h .ports port i .mode;
+          size = λ port. h .ports port i .size;
           local = λ address. local-agrees address i;
           remembered = λ hash. hash-agrees clock m hash i;
           path = λ destination. h .paths .tells .told clock m destination i;

@@ -50,7 +50,7 @@ module _ (r : Relay) (valid : Valid r) (n : ℕ) (under : n < listLimit) (k : Kn
 
   pub rows-agree : (c : TableCall) → firstOf (ruleOf c .rows r) 0 ≡ firstOf (callRows k c) 0
   unfolding ruleOf callRows emptyLocal
-  rows-agree (sets-port port on mode) = refl
+  rows-agree (sets-port port on mode size) = refl
   rows-agree (sets-rate target grace penalty) = refl
   rows-agree (adds address) =
       ap₂ (λ (there full : Bool). firstOf (there gives 11 otherwise full gives 10 otherwise []) 0) (local-agrees h address)
@@ -166,8 +166,8 @@ module _ (r : Relay) (valid : Valid r) (n : ℕ) (under : n < listLimit) (k : Kn
   pub call-agrees : UniqueAt (r .clock) r → (c : TableCall) → NoneHolds (ruleOf c .rows r)
       → Agrees (ruleOf c .after r .clock) (suc n) (afterCall c k) (ruleOf c .after r)
   unfolding ruleOf afterCall isLocal withClock withRate withPorts withLocals renumbered
-  call-agrees u (sets-port port on mode) p =
-      port-agrees (agrees-more h) port (makePort on mode) _ (port-set port (leb-false _ _ (or-no-left _ _ (p .0))) (makePort on mode))
+  call-agrees u (sets-port port on mode size) p =
+      port-agrees (agrees-more h) port (makePort on mode size) _ (port-set port (leb-false _ _ (or-no-left _ _ (p .0))) (makePort on mode size))
   call-agrees u (sets-rate target grace penalty) p = rate-agrees (agrees-more h) _
   call-agrees u (adds address) p = locals-agree (agrees-more h) address true (added address (p .0) (leb-false _ _ (p .1 .0)))
   call-agrees u (removes address) p = locals-agree (agrees-more h) address false (removed u address (not-false _ (p .0)))

@@ -18,15 +18,15 @@ use Rattle.octets.proofs.Index.{and-no, and-yes, first-before}
 use Rattle.octets.proofs.Choice.{then-true, then-false, ne-same, same-eq}
 use Rattle.octets.proofs.Listed.{none-first, past}
 use Rattle.packet.specs.Header.{isAnnounce}
-use Rattle.packet.specs.Read.{longestPacket, readingRefusal}
+use Rattle.packet.specs.Read.{readingRefusal}
 use Rattle.packet.specs.Write.{leastOutput}
 use Rattle.numbers.specs.Numbers.{pathCount, hashCount, live, clockLimit, pathLifetime}
 use Rattle.rules.specs.Relay.{Slot, empty, used, Path, Remembered, Ring, Relay, makeRelay, holds, lowest, free, lowestFree, withClock, withPaths, withHashes}
-use Rattle.rules.specs.View.{View, viewAt, portOn, portMode, isLocal, localPlace, isLivePath, isLiveHash, pathPlace, linkPlace, hashPlace, freePath}
+use Rattle.rules.specs.View.{View, viewAt, portOn, portMode, portSize, isLocal, localPlace, isLivePath, isLiveHash, pathPlace, linkPlace, hashPlace, freePath}
 use Rattle.rules.specs.Refusals.{slotOk, pathOk, tablesOk, packetRows, refusalBy, packetRefusal}
 use Rattle.rules.specs.Arrival.{Arrival, header, destination, hash}
 use Rattle.rules.specs.Ways.{everywhere, by-path, along-link, by-return, blocked}
-use Rattle.rules.specs.Tests.{notOurs, forMarkedPath, testedAsDuplicate, duplicate, ownAnnounce, deliveredHere, alreadyKnown, rateLimited, isRateLimited, ofKnown, portOff, noRoom}
+use Rattle.rules.specs.Tests.{notOurs, forMarkedPath, testedAsDuplicate, duplicate, ownAnnounce, deliveredHere, alreadyKnown, rateLimited, isRateLimited, ofKnown, portOff, tooLongForPort, noRoom}
 use Rattle.rules.specs.Answers.{verdictKind}
 use Rattle.rules.specs.Outgoing.{spreadPacket, spreadPorts, outgoing}
 use Rattle.rules.specs.Judging.{Plan, dropped, delivered, follows, earlyTests, onwardTests, onwardPlan, plan, wayVerdict, verdict, outputAfter}
@@ -277,25 +277,40 @@ module _ (r : Relay) (t : Tally) (a b : Arrival) (outA outB : List ℕ) (m : Mee
   announce-b = spread-announce v b (ap isSpread (passed v b _ planned-b .0))
 
   planned-second : plan v′ b ≡ follows (everywhere (v .path (destination b)))
-  unfolding plan onwardPlan earlyTests onwardTests notOurs ownAnnounce deliveredHere alreadyKnown rateLimited isRateLimited ofKnown portOff viewAt portOn
-      isLocal localPlace linkPlace changed
+  unfolding plan onwardPlan earlyTests onwardTests notOurs ownAnnounce deliveredHere alreadyKnown rateLimited isRateLimited ofKnown portOff
+      tooLongForPort outgoing spreadPacket viewAt portOn portSize isLocal localPlace linkPlace changed
   planned-second =
       none-first (earlyTests v′ b) _ (passes .ours, (not-duplicate, (passes .form, (passes .notOwn, (passes .elsewhere, (passes .fewHops, tt))))))
       ∙ ap (onwardPlan v′ b) (announce-way v′ b announce-b ∙ ap everywhere same-path)
       ∙ none-first (onwardTests v′ b (everywhere (v .path (destination b)))) _ (
         passes .someWay,
-        (passes .unknown, (passes .side, (passes .signed, (passes .newBlob, (passes .better, (passes .unlimited, (passes .portOn, (room-second _, tt)))))))),
+        (
+          passes .unknown,
+          (
+            passes .side,
+            (
+              passes .signed,
+              (
+                passes .newBlob,
+                (
+                  passes .better,
+                  (passes .unlimited, (passes .portOn, (passes .fits, (room-second _, tt)))),
+                ),
+              ),
+            ),
+          ),
+        ),
       )
 
   accepted-second : eqb (packetRefusal (one a r) b (length outB)) 0 ≡ true
-  unfolding refusalBy packetRows portOn changed
+  unfolding refusalBy packetRows portOn portSize changed
   accepted-second =
       ap (λ (n : ℕ). eqb n 0)
       (past _ 7 _ _ (ap not first-ok)
       ∙ ap (λ (late : Bool).
       firstOf
       (ltb (length outB) leastOutput gives 6 otherwise not (portOn r (b .port)) gives 4 otherwise leb clockLimit (b .clock) or late gives 5 otherwise [])
-      (readingRefusal longestPacket (b .bytes)))
+      (readingRefusal (portSize r (b .port)) (b .bytes)))
       (le-ltb (b .clock) (a .clock) (omega (arith, m .clock)) ∙ sym (le-ltb (b .clock) (r .clock) (accepted-packet r b (length outB) accepted-b .notBefore)))
       ∙ sym (past _ 7 _ _ (ap not (m .ok))))
       ∙ accepted-b
@@ -303,7 +318,7 @@ module _ (r : Relay) (t : Tally) (a b : Arrival) (outA outB : List ℕ) (m : Mee
   -- ---- and answered, output bytes too
   same-reply : (s : Slot Path) → answered (Judged (verdict v′ b (follows (everywhere s)))) (outputAfter v′ b (follows (everywhere s)) outB)
       ≡ answered (Judged (verdict v b (follows (everywhere s)))) (outputAfter v b (follows (everywhere s)) outB)
-  unfolding verdict outputAfter wayVerdict outgoing spreadPacket spreadPorts viewAt portOn changed
+  unfolding verdict outputAfter wayVerdict outgoing spreadPacket spreadPorts viewAt portOn portSize changed
   same-reply s = refl
 
   second-reply : (u : Tally) → perform (packet b outB) (one a r) u .reply ≡ perform (packet b outB) r t .reply

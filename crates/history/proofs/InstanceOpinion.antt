@@ -1,25 +1,25 @@
 -- The second opinion on one list of calls, with what it replies to each written out: packets that are spread, forwarded, dropped and refused, marks that are
 -- accepted and refused. The rules' replies are computed in rules' DeadPathScene, call by call; the last packet finds an ended path, which the rules tell as
 -- 6.3 and the second opinion as 6.2.
-use Prim.Native.Nat.{ℕ, suc, _+_, _≤_}
+use Prim.Native.Nat.{ℕ, suc, _+_, _-_, _≤_}
 use native.Mathlib.Nat.{le-refl}
 use native.Mathlib.Omega.{arith}
 use mathlib.Core.Bool.{true, false}
 use mathlib.Core.List.{List, [], _∷_, _++_}
 use mathlib.Core.Path.{_≡_, refl, sym, ap, subst, _∙_}
 use lib.Dec.{lit≤}
-use lib.ListN.{length, take}
+use lib.ListN.{length, take, replicate}
 use Rattle.octets.specs.Index.{_and_}
 use Rattle.octets.specs.Choice.{_then_otherwise_}
 use Rattle.packet.specs.Hash.{packetHash}
-use Rattle.numbers.specs.Numbers.{hashCount}
+use Rattle.numbers.specs.Numbers.{hashCount, isSize}
 use Rattle.rules.specs.Relay.{empty, used, makeRemembered, Relay, fresh, withClock, withHashes}
 use Rattle.rules.specs.Writes.{putNext}
 use Rattle.rules.specs.View.{viewAt}
 use Rattle.rules.specs.Calls.{newTally}
 use Rattle.rules.specs.Chatty.{RateDrop}
 use Rattle.rules.specs.Run.{Call, packet, on-tables, asks, saves, loads, port-setting, rate-setting, marking, Reply, answered, numbered, Outcome, perform, noCall, setsRelay}
-use Rattle.rules.specs.declared.Blocked.the-variants.{NoPath, OnlyExpired}
+use Rattle.rules.specs.declared.Blocked.the-variants.{NoPath, OnlyExpired, NoLink}
 use Rattle.rules.specs.declared.Reason.the-variants.{Duplicate, NotBetter, NoWayOn}
 use Rattle.rules.specs.declared.Verdict.the-variants.{Drop}
 use Rattle.rules.specs.declared.Answer.the-variants.{Refused, Judged}
@@ -52,8 +52,8 @@ data Run : List Call → Relay → Tally → List Reply → Type 0 where
 
 abbrev pub day : List Call
 day =
-    port-setting 1 true 2
-    ∷ port-setting 2 true 0
+    port-setting 1 true 2 500
+    ∷ port-setting 2 true 0 500
     ∷ rate-setting 1000 0 600
     ∷ hears 2 1000
     ∷ hears 2 1100
@@ -162,7 +162,7 @@ day-said = replies-so own [] run (lit≤ tt) (second-opinion own day newTally re
 
 -- ---- a receipt comes home, and a link is proved
 abbrev pub start : List Call
-start = port-setting 1 true 2 ∷ port-setting 2 true 0 ∷ arrives announceBytes 1000 1 ∷ []
+start = port-setting 1 true 2 500 ∷ port-setting 2 true 0 500 ∷ arrives announceBytes 1000 1 ∷ []
 
 pub announce-spread : perform (arrives announceBytes 1000 1) preparedRelay newTally
     ≡ record { reply = spreads spreadBytes 2; relay = announcedRelay; tally = tallyOf 1 0 }
@@ -211,4 +211,52 @@ pub link-said : Replies own [] (start ++ (arrives requestBytes 2000 2 ∷ arrive
 unfolding Replies RepliesAlike coarse coarseAnswer coarseVerdict noCall setsRelay _and_
 link-said =
     replies-so own [] (port-one and-then port-two and-then announce-spread and-then request-forwarded and-then proof-carried and-then done) (lit≤ tt)
+    (second-opinion own _ newTally refl)
+
+-- ---- wish 11: sizes 18 and 501 are refused, and what comes in by a port of 255 bytes is read against its size
+abbrev smallRelay : Relay
+smallRelay = perform (port-setting 1 true 2 255) (fresh own) newTally .relay
+
+small-set : perform (port-setting 1 true 2 255) (fresh own) newTally ≡ record { reply = numbered 0; relay = smallRelay; tally = newTally }
+unfolding rules
+small-set = refl
+
+no-size : (size : ℕ) → isSize size ≡ false
+    → perform (port-setting 1 true 2 size) smallRelay newTally ≡ record { reply = numbered 9; relay = smallRelay; tally = newTally }
+unfolding rules
+no-size size none = rw none refl
+
+-- a packet of a link that is not known, n bytes long
+abbrev strayBytes : ℕ → List ℕ
+strayBytes n = 0x0c ∷ 0 ∷ replicate (n - 2) 0x99
+
+stray-refused : perform (arrives (strayBytes 256) 1000 1) smallRelay newTally
+    ≡ record { reply = answered (Refused 2) blank; relay = smallRelay; tally = newTally }
+unfolding rules
+stray-refused = refl
+
+stray-new : viewAt 1000 smallRelay .remembered (packetHash (strayBytes 255)) ≡ false
+unfolding rules passes
+stray-new = seen-quick 1000 smallRelay (packetHash (strayBytes 255)) refl
+
+abbrev afterStray : Relay
+afterStray =
+    withHashes (putNext hashCount (used (makeRemembered (packetHash (strayBytes 255)) 1300)) (smallRelay .hashes)) (withClock 1000 smallRelay)
+
+stray-dropped : perform (arrives (strayBytes 255) 1000 1) smallRelay newTally
+    ≡ record { reply = answered (Judged (Drop (NoWayOn NoLink))) blank; relay = afterStray; tally = counting 1 0 0 }
+unfolding rules goodPlan goodJudge ofTest
+stray-dropped = judged-at (strayBytes 255) 1000 smallRelay newTally stray-new refl 1 refl
+
+pub sizes-said : Replies own []
+    (port-setting 1 true 2 255
+    ∷ port-setting 1 true 2 18
+    ∷ port-setting 1 true 2 501
+    ∷ arrives (strayBytes 256) 1000 1
+    ∷ arrives (strayBytes 255) 1000 1
+    ∷ [])
+    (numbered 0 ∷ numbered 9 ∷ numbered 9 ∷ answered (Refused 2) blank ∷ answered (Judged (Drop (NoWayOn NoLink))) blank ∷ [])
+unfolding Replies RepliesAlike coarse coarseAnswer coarseVerdict coarseReason noCall setsRelay isSize _and_ _then_otherwise_
+sizes-said =
+    replies-so own [] (small-set and-then no-size 18 refl and-then no-size 501 refl and-then stray-refused and-then stray-dropped and-then done) (lit≤ tt)
     (second-opinion own _ newTally refl)

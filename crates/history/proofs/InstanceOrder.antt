@@ -109,7 +109,8 @@ desk-second = judged-at announceBytes 1000 storeRelay (tallyOf 1 0) desk-differs
 -- ---- what the theorem asks, and what it says
 prepared-ok : tablesOk preparedRelay ≡ true
 unfolding relayAfter prepared
-prepared-ok = subst (λ (o : Outcome). tablesOk (o .relay) ≡ true) prepared-is (ok-after own (port-setting 1 true 2 ∷ port-setting 2 true 0 ∷ []) newTally)
+prepared-ok =
+    subst (λ (o : Outcome). tablesOk (o .relay) ≡ true) prepared-is (ok-after own (port-setting 1 true 2 500 ∷ port-setting 2 true 0 500 ∷ []) newTally)
 
 hashes-differ : same (packetHash announceBytes) (packetHash storeBytes) ≡ false
 unfolding rules hashing

@@ -12,11 +12,11 @@ use Rattle.octets.specs.Choice.{_then_otherwise_, _or_}
 use Rattle.octets.specs.Listed.{_gives_otherwise_, firstOf}
 use Rattle.octets.proofs.Choice.{then-false}
 use Rattle.octets.proofs.Listed.{past}
-use Rattle.packet.specs.Read.{longestPacket, readingRefusal}
+use Rattle.packet.specs.Read.{readingRefusal}
 use Rattle.packet.specs.Write.{leastOutput}
 use Rattle.numbers.specs.Numbers.{clockLimit}
-use Rattle.rules.specs.Relay.{Relay, fresh}
-use Rattle.rules.specs.View.{View, viewAt}
+use Rattle.rules.specs.Relay.{Port, Relay, fresh}
+use Rattle.rules.specs.View.{View, viewAt, portSize}
 use Rattle.rules.specs.Refusals.{tablesOk, packetRows, refusalBy, packetRefusal}
 use Rattle.rules.specs.Arrival.{Arrival}
 use Rattle.rules.specs.Judging.{plan}
@@ -56,13 +56,14 @@ module _ (own : List ℕ) (entries : List Entry) (r : Relay) (h : Follows own en
 
   -- ---- refusals
   packet-refused : (a : Arrival) (n : ℕ) → packetRefused own entries a n ≡ packetRefusal r a n
-  unfolding packetRefused refusalBy packetRows opinion.packetRows
+  unfolding packetRefused refusalBy packetRows opinion.packetRows portSize
   packet-refused a n =
       past _ 28 _ _ (lt-leb listLimit (length entries) under)
+      ∙ ap (λ (p : Port). firstOf (opinion.packetRows k (a .port) (a .clock) n) (readingRefusal (p .size) (a .bytes))) (sym (h .ports (a .port)))
       ∙ ap₂ (λ (on : Bool) (last : ℕ).
       firstOf
       (ltb n leastOutput gives 6 otherwise not on gives 4 otherwise leb clockLimit (a .clock) or ltb (a .clock) last gives 5 otherwise [])
-      (readingRefusal longestPacket (a .bytes))) (sym (on-agrees h valid (a .port))) (sym (h .clock))
+      (readingRefusal (portSize r (a .port)) (a .bytes))) (sym (on-agrees h valid (a .port))) (sym (h .clock))
       ∙ sym (past _ 7 _ _ (ap not ok))
 
   call-refused : (c : TableCall) → callRefused own entries c ≡ tableRefusal c r

@@ -67,7 +67,7 @@ renumberedKnown m k =
     (λ key. renameSlot (renameReturn m) (k .return key))
 
 unfoldable pub afterCall : TableCall → Known → Known
-afterCall (sets-port port on mode) k = nowPort port (makePort on mode) k
+afterCall (sets-port port on mode size) k = nowPort port (makePort on mode size) k
 afterCall (sets-rate target grace penalty) k = nowRate (makeRateSettings target grace penalty) k
 afterCall (adds address) k = nowLocal address true (k .locals + 1) k
 afterCall (removes address) k = nowLocal address false (k .locals - 1) k

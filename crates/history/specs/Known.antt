@@ -46,7 +46,7 @@ makeKnown own clock rate port local locals until path link return =
       return = return;
     }
 
--- a fresh relay has its own address, all ports off and boundary, clock 0, and knows nothing
+-- a fresh relay has its own address, all ports off and boundary, clock 0, and knows nothing; wish 11: sizes 500
 unfoldable pub freshKnown : List ℕ → Known
 freshKnown own =
     makeKnown own 0 noRateSettings (λ port. freshPort) (λ address. false) 0 (λ hash. 0) (λ destination. empty) (λ id. empty) (λ key. empty)
@@ -66,6 +66,7 @@ seenAt clock k =
       rate = k .rate;
       on = λ port. k .port port .on;
       mode = λ port. k .port port .mode;
+      size = λ port. k .port port .size;
       local = k .local;
       remembered = λ hash. live clock (k .until hash);
       path = λ destination. onlyIf (λ p. live clock (p .expiry)) (k .path destination);

@@ -6,9 +6,9 @@ use lib.Dec.{eqb, ltb, leb}
 use lib.ListN.{length}
 use Rattle.octets.specs.Choice.{_then_otherwise_, _or_}
 use Rattle.octets.specs.Listed.{Test, _gives_otherwise_, firstOf}
-use Rattle.packet.specs.Read.{longestPacket, readingRefusal}
+use Rattle.packet.specs.Read.{readingRefusal}
 use Rattle.packet.specs.Write.{leastOutput}
-use Rattle.numbers.specs.Numbers.{portCount, localCount, modeCount, clockLimit}
+use Rattle.numbers.specs.Numbers.{portCount, localCount, modeCount, isSize, clockLimit}
 use Rattle.rules.specs.Relay.{makeRateSettings}
 use Rattle.rules.specs.View.{View}
 use Rattle.rules.specs.Renumbering.{oneToOne}
@@ -31,7 +31,7 @@ listLimit = 64
 abbrev pub clockBad : Known → ℕ → Bool
 clockBad k clock = leb clockLimit clock or ltb clock (k .clock)
 
--- a packet, with an output buffer of `room` bytes: 6, 4, 5, and the reading's 1, 2, 3, 1
+-- a packet, with an output buffer of `room` bytes: 6, 4, 5, and the reading's 1, 2, 3, 1. Wish 11: "Reading a packet is now against the arrival port's size"
 unfoldable pub packetRows : Known → ℕ → ℕ → ℕ → List (Test ℕ)
 packetRows k port clock room =
     ltb room leastOutput gives 6 otherwise
@@ -40,7 +40,7 @@ packetRows k port clock room =
     []
 
 unfoldable pub callRows : Known → TableCall → List (Test ℕ)
-callRows k (sets-port port on mode) = leb portCount port or leb modeCount mode gives 9 otherwise []
+callRows k (sets-port port on mode size) = leb portCount port or leb modeCount mode or not (isSize size) gives 9 otherwise []
 callRows k (sets-rate target grace penalty) = not (rateSettingsOk (makeRateSettings target grace penalty)) gives 9 otherwise []
 callRows k (adds address) = k .local address gives 11 otherwise leb localCount (k .locals) gives 10 otherwise []
 callRows k (removes address) = not (k .local address) gives 11 otherwise []
@@ -54,7 +54,7 @@ callRows k (marks destination clock) =
 unfoldable pub packetRefused : List ℕ → List Entry → Arrival → ℕ → ℕ
 packetRefused own entries a room =
     firstOf (leb listLimit (length entries) gives 28 otherwise packetRows (knownOf own entries) (a .port) (a .clock) room)
-    (readingRefusal longestPacket (a .bytes))
+    (readingRefusal (knownOf own entries .port (a .port) .size) (a .bytes))
 
 unfoldable pub callRefused : List ℕ → List Entry → TableCall → ℕ
 callRefused own entries c = firstOf (leb listLimit (length entries) gives 28 otherwise callRows (knownOf own entries) c) 0

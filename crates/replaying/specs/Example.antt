@@ -8,7 +8,7 @@ use Rattle.octets.specs.Index.{_and_}
 use Rattle.rules.specs.Answers.{tellsValue, inSet}
 use Rattle.rules.specs.declared.Clause.the-variants.{TypeTwoProof, AnnounceTooShort}
 use Rattle.rules.specs.declared.Blocked.the-variants.{NotAsking, OnlyExpired}
-use Rattle.rules.specs.declared.Reason.the-variants.{Duplicate, BadForm, NoWayOn}
+use Rattle.rules.specs.declared.Reason.the-variants.{Duplicate, BadForm, NoWayOn, TooLongForPort}
 use Rattle.rules.specs.declared.Verdict.the-variants.{Drop, Deliver, Forward, Spread, Kept}
 use Rattle.rules.specs.declared.Answer.the-variants.{Refused, Judged}
 use Rattle.text.specs.Numerals.{digit, numeralWithin, numeral}
@@ -30,17 +30,19 @@ pub lines : _≡_ {A = List (List ℕ)}
 unfolding digit numeralWithin numeral spaced wordsLine joined inSet portsBelow verdictWords answerWords answerLine _then_otherwise_
 lines = refl
 
--- `2 drop 3.4 148`, `2 drop 3.1 0`, `2 drop 6.3 22600`, `2 drop 6.1`, and one of a test that is not split
+-- `2 drop 3.4 148`, `2 drop 3.1 0`, `2 drop 6.3 22600`, `2 drop 6.1`, and two of tests that are not split, Wish 11's among them
 pub drops : _≡_ {A = List (List ℕ)}
     (answerLine 2 (Judged (Drop (BadForm (AnnounceTooShort 148)))) ∷
     answerLine 2 (Judged (Drop (BadForm TypeTwoProof))) ∷
     answerLine 2 (Judged (Drop (NoWayOn (OnlyExpired 22600)))) ∷
     answerLine 2 (Judged (Drop (NoWayOn NotAsking))) ∷
-    answerLine 2 (Judged (Drop Duplicate)) ∷ [])
+    answerLine 2 (Judged (Drop Duplicate)) ∷
+    answerLine 2 (Judged (Drop TooLongForPort)) ∷ [])
     ((50 ∷ 32 ∷ 100 ∷ 114 ∷ 111 ∷ 112 ∷ 32 ∷ 51 ∷ 46 ∷ 52 ∷ 32 ∷ 49 ∷ 52 ∷ 56 ∷ 10 ∷ []) ∷
     (50 ∷ 32 ∷ 100 ∷ 114 ∷ 111 ∷ 112 ∷ 32 ∷ 51 ∷ 46 ∷ 49 ∷ 32 ∷ 48 ∷ 10 ∷ []) ∷
     (50 ∷ 32 ∷ 100 ∷ 114 ∷ 111 ∷ 112 ∷ 32 ∷ 54 ∷ 46 ∷ 51 ∷ 32 ∷ 50 ∷ 50 ∷ 54 ∷ 48 ∷ 48 ∷ 10 ∷ []) ∷
     (50 ∷ 32 ∷ 100 ∷ 114 ∷ 111 ∷ 112 ∷ 32 ∷ 54 ∷ 46 ∷ 49 ∷ 10 ∷ []) ∷
-    (50 ∷ 32 ∷ 100 ∷ 114 ∷ 111 ∷ 112 ∷ 32 ∷ 50 ∷ 10 ∷ []) ∷ [])
+    (50 ∷ 32 ∷ 100 ∷ 114 ∷ 111 ∷ 112 ∷ 32 ∷ 50 ∷ 10 ∷ []) ∷
+    (50 ∷ 32 ∷ 100 ∷ 114 ∷ 111 ∷ 112 ∷ 32 ∷ 49 ∷ 54 ∷ 10 ∷ []) ∷ [])
 unfolding digit numeralWithin numeral spaced wordsLine joined tellsValue testWord reasonWords verdictWords answerWords answerLine _then_otherwise_ _or_ _and_
 drops = refl
