@@ -44,7 +44,7 @@ use Rattle.plan.specs.declared.Arrived.{Arrived}
 use Rattle.plan.specs.declared.Decision.the-variants.{Announce}
 use Rattle.plan.specs.Decided.{CanKnow, seen, arrivalOf, pathAt, decision}
 use Rattle.plan.specs.Kinds.{revivedBy}
-use Rattle.plan.proofs.KindLaws.{announce-long}
+use Rattle.forms.proofs.KindLaws.{announce-long}
 use Rattle.plan.proofs.AnnounceLaws.{can-know}
 use Rattle.act.specs.Stored.{blobsStored, rateKnown, rateStored, pathPut}
 use Rattle.act.specs.Acted.{AcceptedOn, planOn, verdictOn, writtenOn, outputOn, CarriesOut, spreadsTo, spreadOn, spreadVerdictOn, announcedBy}

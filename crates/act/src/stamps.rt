@@ -46,7 +46,7 @@ pub fn remembers(
     requires { ⌜ CanRead (now packet) (now tables) × (hash ≡ usedHash (now packet)) ⌝ }
     ensures { λ r. ⌜ r ≡ remembersDecided (now (packet .entry)) arrived (now (tables .entry)) decision ⌝ }
 {
-    if plan::exempt(packet) {
+    if forms::exempt(packet) {
         return false;
     }
     if decision_remembers(decision) {

@@ -8,9 +8,9 @@ use Rattle.packet.specs.Announce.{announcedDestination}
 use Rattle.packet.specs.declared.Parts.{Parts}
 use Rattle.packet.specs.Read.{longestPacket}
 use Rattle.outgoing.proofs.LeavingLaws.{long, whole}
-use Rattle.plan.proofs.FormLaws.{another-clauses, destination-compared}
-use Rattle.plan.proofs.bad_form.announce_of_another.Statement.{statement}
-use Rattle.plan.proofs.bad_form.announce_of_another.Tie as tie
+use Rattle.forms.proofs.FormLaws.{another-clauses, destination-compared}
+use Rattle.forms.proofs.bad_form.announce_of_another.Statement.{statement}
+use Rattle.forms.proofs.bad_form.announce_of_another.Tie as tie
 
 shared-slice-read-is-announce : tie.Need-shared-slice-read-is-announce
 shared-slice-read-is-announce c = let s = c .before .before in omega (arith, long longestPacket (s .args .packet .now) (s .pre))

@@ -7,7 +7,7 @@ ghost use Rattle.octets.specs.Index.{_and_};
 ghost use Rattle.packet.specs.Read.{longestPacket, reads};
 ghost use Rattle.rules.specs.Arrival.{isLinkProof};
 ghost use Rattle.rules.specs.Tests.{announceOfAnother, linkProofLength};
-ghost use Rattle.plan.specs.First.{formOf};
+ghost use Rattle.forms.specs.Form.{formOf};
 
 // A proof of kind link, context 0xFF.
 pub fn is_link_proof(packet: &[u8]) -> bool

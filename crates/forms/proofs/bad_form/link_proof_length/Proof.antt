@@ -9,10 +9,10 @@ use lib.Dec.{eqb}
 use lib.ListN.{length}
 use borrow.Author.Tests.{eq-eqb, ne-eqb}
 use Rattle.packet.specs.Read.{payload}
-use Rattle.plan.proofs.FormLaws.{proof-length-clauses}
+use Rattle.forms.proofs.FormLaws.{proof-length-clauses}
 use borrow.Author.Needs.{needs}
-use Rattle.plan.proofs.bad_form.link_proof_length.Statement.{statement}
-use Rattle.plan.proofs.bad_form.link_proof_length.Tie as tie
+use Rattle.forms.proofs.bad_form.link_proof_length.Statement.{statement}
+use Rattle.forms.proofs.bad_form.link_proof_length.Tie as tie
 
 is-link-proof-requires : tie.Need-is-link-proof-requires
 is-link-proof-requires c κs = search needs

@@ -8,8 +8,8 @@ use borrow.Author.Tests.{ne-eqb}
 use Rattle.octets.specs.Choice.{_or_}
 use Rattle.octets.proofs.Choice.{or-no}
 use Rattle.rules.specs.Exempt.{exemptContext}
-use Rattle.plan.proofs.contexts.exempt_context.Statement.{statement}
-use Rattle.plan.proofs.contexts.exempt_context.Tie as tie
+use Rattle.forms.proofs.contexts.exempt_context.Statement.{statement}
+use Rattle.forms.proofs.contexts.exempt_context.Tie as tie
 
 abbrev contexts : List ℕ
 contexts = 0x01 ∷ 0x03 ∷ 0x05 ∷ 0x08 ∷ 0x0e ∷ 0xfa ∷ []

@@ -20,9 +20,9 @@ use Rattle.rules.specs.Tests.{announceOfAnother, linkProofLength, formTests, ba
 use Rattle.rules.specs.declared.Clause.{Clause}
 use Rattle.rules.specs.declared.Clause.the-variants.{TypeTwoProof}
 use Rattle.outgoing.proofs.LeavingLaws.{whole}
-use Rattle.plan.specs.First.{formOf}
-use Rattle.plan.specs.declared.Form.{Form}
-use Rattle.plan.specs.declared.Form.the-variants.{Good, Bad}
+use Rattle.forms.specs.Form.{formOf}
+use Rattle.forms.specs.declared.Form.{Form}
+use Rattle.forms.specs.declared.Form.the-variants.{Good, Bad}
 
 -- what the clauses behind the first n say
 unfoldable pub formFrom : ℕ → List ℕ → Form

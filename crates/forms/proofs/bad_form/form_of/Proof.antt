@@ -14,11 +14,11 @@ use Rattle.rules.specs.Tests.{typeTwoProof, typeTwoOfKindLink, announceNotSingl
 use Rattle.rules.specs.declared.Clause.the-variants.{AnnounceTooShort}
 use Rattle.packet.specs.Read.{longestPacket}
 use Rattle.outgoing.proofs.LeavingLaws.{long}
-use Rattle.plan.specs.First.{formOf}
-use Rattle.plan.specs.declared.Form.the-variants.{Bad}
-use Rattle.plan.proofs.FormLaws.{formFrom}
-use Rattle.plan.proofs.bad_form.form_of.Statement.{statement}
-use Rattle.plan.proofs.bad_form.form_of.Tie as tie
+use Rattle.forms.specs.Form.{formOf}
+use Rattle.forms.specs.declared.Form.the-variants.{Bad}
+use Rattle.forms.proofs.FormLaws.{formFrom}
+use Rattle.forms.proofs.bad_form.form_of.Statement.{statement}
+use Rattle.forms.proofs.bad_form.form_of.Tie as tie
 
 abbrev bytes : tie.After-payload → List ℕ
 bytes s = s .before .before .before .args .packet .now

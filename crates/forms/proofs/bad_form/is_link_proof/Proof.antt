@@ -4,11 +4,11 @@ use Rattle.packet.specs.Read.{longestPacket}
 use Rattle.outgoing.proofs.LeavingLaws.{long, whole}
 use lib.Dec.{eqb}
 use Rattle.packet.specs.declared.Parts.{Parts}
-use Rattle.plan.proofs.FormLaws.{link-proof-clauses}
+use Rattle.forms.proofs.FormLaws.{link-proof-clauses}
 use native.Mathlib.Omega.{arith}
 use borrow.Author.Needs.{needs}
-use Rattle.plan.proofs.bad_form.is_link_proof.Statement.{statement}
-use Rattle.plan.proofs.bad_form.is_link_proof.Tie as tie
+use Rattle.forms.proofs.bad_form.is_link_proof.Statement.{statement}
+use Rattle.forms.proofs.bad_form.is_link_proof.Tie as tie
 
 shared-slice-read-header : tie.Need-shared-slice-read-header
 shared-slice-read-header c = let s = c .before .before in omega (arith, long longestPacket (s .args .packet .now) (s .pre))

@@ -5,9 +5,9 @@ use Rattle.packet.specs.Read.{longestPacket}
 use Rattle.packet.specs.declared.Parts.{Parts}
 use Rattle.rules.specs.Exempt.{exemptContext}
 use Rattle.outgoing.proofs.LeavingLaws.{long, whole}
-use Rattle.plan.proofs.ContextLaws.{exempt-by-context, never-exempt}
-use Rattle.plan.proofs.contexts.exempt.Statement.{statement}
-use Rattle.plan.proofs.contexts.exempt.Tie as tie
+use Rattle.forms.proofs.ContextLaws.{exempt-by-context, never-exempt}
+use Rattle.forms.proofs.contexts.exempt.Statement.{statement}
+use Rattle.forms.proofs.contexts.exempt.Tie as tie
 
 shared-slice-read-of-kind-link : tie.Need-shared-slice-read-of-kind-link
 shared-slice-read-of-kind-link c = let s = c .before .before in omega (arith, long longestPacket (s .args .packet .now) (s .pre))
