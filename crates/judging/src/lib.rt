@@ -73,6 +73,12 @@ pub enum SeenWay {
     Blocked(Blocked),
 }
 
+// How many blobs a path holds, and their bytes.
+pub struct Stored {
+    pub count: usize,
+    pub bytes: [u8; 640],
+}
+
 // What is to be done with an accepted packet.
 pub enum Planned {
     Drop(Reason),

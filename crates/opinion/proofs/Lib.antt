@@ -1,5 +1,10 @@
 -- The laws that the walks through the log cite.
+pub mod Reading
 pub mod Entries
 pub mod Walk
-pub mod Effects
+pub mod Slots
+pub mod Changes
 pub mod Written
+pub mod Put
+pub mod Settled
+pub mod Steps

@@ -7,7 +7,9 @@ use mathlib.Core.Path.{_≡_, refl, sym, ap, _∙_}
 use lib.Dec.{eqb}
 use lib.ListN.{getD}
 use borrow.Author.Tests.{eq-eqb, ne-eqb}
+use Rattle.octets.specs.Index.{_and_}
 use Rattle.octets.specs.Choice.{_then_otherwise_, same}
+use Rattle.octets.proofs.Index.{and-yes}
 use Rattle.octets.proofs.Choice.{then-true, then-false}
 use Rattle.numbers.specs.Numbers.{hashLifetime}
 use Rattle.rules.specs.Relay.{Port, makePort, freshPort, noRateSettings, Slot, empty, Path, Return}
@@ -177,15 +179,22 @@ module _ (e : List ℕ) (k : Known) where
   unfolding after afterCall nowPort
   port-set port h = ap (λ (x : Entry). after x k .port port) (entry-port e h)
 
-  pub port-moved : (port : ℕ) → kindIn e ≡ 0 → after (entryOf e) k .port port ≡ k .port (preimage (imagesIn e) port)
-  unfolding after afterCall renumberedKnown
-  port-moved port h = ap (λ (x : Entry). after x k .port port) (entry-renumbered e h)
-
-  pub port-stays : (port : ℕ) → (kindIn e ≡ 2 → ⊥) → (kindIn e ≡ 0 → ⊥) → after (entryOf e) k .port port ≡ k .port port
-  unfolding after afterCall nowRate nowLocal nowClock changePath nowPath
-  port-stays port h l =
-      by-kind e (λ (x : Entry). after x k .port port ≡ k .port port)
-      (λ _. ap (λ (f : ℕ → Port). f port) (packet-port k _)) (λ q. absurd (h q)) (λ _. refl) (λ _. refl) (λ _. refl) (λ _. refl) (λ q. absurd (l q))
+  -- the port of another number, or none, is set
+  pub port-back : (port : ℕ) → (eqb (kindIn e) 2 and eqb port (portIn e)) ≡ false
+      → after (entryOf e) k .port port ≡ k .port (eqb (kindIn e) 0 then preimage (imagesIn e) port otherwise port)
+  unfolding after afterCall nowPort nowRate nowLocal renumberedKnown nowClock changePath nowPath
+  port-back port other =
+      by-kind e (λ (x : Entry). after x k .port port ≡ k .port (eqb (kindIn e) 0 then preimage (imagesIn e) port otherwise port))
+      (λ h. ap (λ (f : ℕ → Port). f port) (packet-port k _) ∙ same-name 1 h refl)
+      (λ h. then-false _ _ (sym (and-yes _ (eq-eqb (kindIn e) 2 h)) ∙ other) ∙ same-name 2 h refl)
+      (λ h. same-name 3 h refl)
+      (λ h. same-name 4 h refl)
+      (λ h. same-name 5 h refl)
+      (λ h. same-name 6 h refl)
+      (λ h. ap (k .port) (sym (then-true _ _ (eq-eqb (kindIn e) 0 h))))
+    where
+      same-name : (n : ℕ) → kindIn e ≡ n → eqb n 0 ≡ false → k .port port ≡ k .port (eqb (kindIn e) 0 then preimage (imagesIn e) port otherwise port)
+      same-name n h q = ap (k .port) (sym (then-false _ _ (ap (λ (m : ℕ). eqb m 0) h ∙ q)))
 
   -- ---- the remembered hashes
   pub until-kept : (h : List ℕ) → kindIn e ≡ 1 → keepsHash (entryOf e) k ≡ true → same (hash (arrivalIn e)) h ≡ true
@@ -216,3 +225,41 @@ module _ (e : List ℕ) (k : Known) where
   until-called h n =
       by-kind e (λ (x : Entry). after x k .until h ≡ k .until h)
       (λ q. absurd (n q)) (λ _. refl) (λ _. refl) (λ _. refl) (λ _. refl) (λ _. refl) (λ _. refl)
+
+-- ---- of an empty list
+module _ (log : List ℕ) where
+  pub fresh-clock : 0 ≡ knownIn log 0 .clock
+  unfolding knownIn entriesOf knownOf freshKnown
+  fresh-clock = refl
+
+  pub fresh-rate : noRateSettings ≡ knownIn log 0 .rate
+  unfolding knownIn entriesOf knownOf freshKnown
+  fresh-rate = refl
+
+  pub fresh-port : (port : ℕ) → freshPort ≡ knownIn log 0 .port port
+  unfolding knownIn entriesOf knownOf freshKnown
+  fresh-port port = refl
+
+  pub fresh-local : (address : List ℕ) → false ≡ knownIn log 0 .local address
+  unfolding knownIn entriesOf knownOf freshKnown
+  fresh-local address = refl
+
+  pub fresh-locals : 0 ≡ knownIn log 0 .locals
+  unfolding knownIn entriesOf knownOf freshKnown
+  fresh-locals = refl
+
+  pub fresh-until : (h : List ℕ) → 0 ≡ knownIn log 0 .until h
+  unfolding knownIn entriesOf knownOf freshKnown
+  fresh-until h = refl
+
+  pub fresh-path : (d : List ℕ) → empty ≡ knownIn log 0 .path d
+  unfolding knownIn entriesOf knownOf freshKnown
+  fresh-path d = refl
+
+  pub fresh-link : (id : List ℕ) → empty ≡ knownIn log 0 .link id
+  unfolding knownIn entriesOf knownOf freshKnown
+  fresh-link id = refl
+
+  pub fresh-return : (key : List ℕ) → empty ≡ knownIn log 0 .return key
+  unfolding knownIn entriesOf knownOf freshKnown
+  fresh-return key = refl

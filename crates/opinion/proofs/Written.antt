@@ -98,7 +98,7 @@ module _ (log : List ℕ) (n : ℕ) (bytes : List ℕ) (long : length log ≡ lo
   with-past i = part-past inner countAt ((n + 1) ∷ []) (entriesAt + entryWidth * i) entryWidth (omega arith) (omega (arith, inner-long))
 
   with-entries : (m : ℕ) → m ≤ n → entriesOf after m ≡ entriesOf log m
-  unfolding entriesOf
+  unfolding entriesOf inner
   with-entries zero h = refl
   with-entries (suc m) h =
       ap₂ (λ (b : List ℕ) (es : List Entry). entryOf b ∷ es)
@@ -127,6 +127,7 @@ module _ (kind port : ℕ) (word : Bool) (mode clock long : ℕ) (tail : List �
   head-port h = omega arith
 
   pub head-word : wordIn written ≡ word
+  unfolding _then_otherwise_
   head-word = go word
     where
       go : (b : Bool) → wordIn (headBytes kind port b mode clock long ++ tail) ≡ b

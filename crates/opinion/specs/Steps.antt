@@ -23,6 +23,10 @@ use Rattle.judging.specs.declared.SeenPort.{SeenPort}
 use Rattle.judging.specs.declared.SeenPath.{SeenPath}
 use Rattle.judging.specs.declared.SeenLink.{SeenLink}
 use Rattle.judging.specs.declared.SeenReturn.{SeenReturn}
+use Rattle.judging.specs.declared.SeenWay.{SeenWay}
+use Rattle.judging.specs.declared.SeenWay.the-variants.{Everywhere, ByPath, AlongLink, ByReturn, Blocked}
+use Rattle.judging.specs.declared.Planned.{Planned}
+use Rattle.judging.specs.declared.Planned.the-variants.{Drop, Deliver, Follow}
 use Rattle.judging.specs.Seen.{pathOf, linkOf, returnOf, PathFits}
 use Rattle.history.specs.Known.{Known, seenAt}
 use Rattle.history.specs.After.{Entry, came, called}
@@ -105,3 +109,20 @@ CanJudge log effects kept n packet m =
 -- what is known of it
 abbrev pub viewBy : List ℕ → ℕ → Arrived → View
 viewBy log n m = seenAt (m .clock) (knownIn log n)
+
+-- ---- the effect of what was planned, by what is seen; `data` says whether the packet is data
+abbrev pub wayEffectBy : SeenWay → Bool → ℕ
+wayEffectBy Everywhere data₀ = 1
+wayEffectBy ByPath data₀ = data₀ then 3 otherwise 4
+wayEffectBy AlongLink data₀ = 5
+wayEffectBy ByReturn data₀ = 6
+wayEffectBy (Blocked why) data₀ = 0
+
+abbrev pub plannedEffect : Planned → Bool → ℕ
+plannedEffect (Drop reason) data₀ = isRateDrop reason then 2 otherwise 0
+plannedEffect Deliver data₀ = 0
+plannedEffect (Follow w) data₀ = wayEffectBy w data₀
+
+-- a packet call's input
+abbrev pub arrivalBy : List ℕ → ℕ → ℕ → Bool → Arrival
+arrivalBy bytes port clock signed = record { bytes = bytes; port = port; clock = clock; signed = signed }

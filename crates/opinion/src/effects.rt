@@ -1,4 +1,6 @@
 // What a packet changed besides the clock and the remembered hashes: the numbers of specs/Steps.antt.
+pub const NOTHING: u8 = 0;
+
 pub const ANNOUNCED: u8 = 1;
 
 pub const LIMITED: u8 = 2;

@@ -8,9 +8,9 @@ use super::log::kind_in;
 use super::log::packet_in;
 use super::paths::path_of;
 use super::ports::image_in;
-use super::records::asked_link;
 use super::records::no_link;
-use super::records::renewed_link;
+use super::stubs::link_record;
+use super::stubs::renewed_link;
 use judging::SeenLink;
 ghost use mathlib.Core.Path.{_≡_};
 ghost use Prim.Native.Nat.{_+_, _<_, _≤_};
@@ -33,7 +33,8 @@ fn after_request(log: &[u8], effects: &[u8], i: usize, id: [u8; 16], before: See
         let parts = packet::parts_of(packet);
         let destination = parts.destination;
         let path = path_of(log, effects, i, destination);
-        return asked_link(packet, arrived_in(e), id, path.port, path.hops);
+        let link = link_record(path, packet, arrived_in(e));
+        return SeenLink { there: true, link };
     }
     before
 }
@@ -50,7 +51,9 @@ fn after_carry(log: &[u8], i: usize, id: [u8; 16], before: SeenLink) -> SeenLink
     let parts = packet::parts_of(packet);
     let destination = parts.destination;
     if octets::equal16(destination, id) {
-        return renewed_link(packet, arrived_in(e), before);
+        let old = before.link;
+        let link = renewed_link(old, packet, arrived_in(e));
+        return SeenLink { there: true, link };
     }
     before
 }

@@ -9,26 +9,42 @@ ghost use Prim.Native.Nat.{_≤_, _-_, _+_};
 ghost use lib.Dec.{eqb};
 ghost use lib.ListN.{length};
 ghost use Rattle.octets.specs.Choice.{_then_otherwise_};
+ghost use Rattle.history.specs.Known.{Known};
+ghost use Rattle.history.specs.After.{after};
 ghost use Rattle.history.specs.Opinion.{listLimit};
-ghost use Rattle.opinion.specs.Log.{logSize, knownIn};
+ghost use Rattle.opinion.specs.Log.{entryWidth, entryOf, logSize, knownIn};
 
-// Whether an address is local after the first n entries: what the newest that adds or removes it says.
+// Whether an address is local after one more entry.
+fn local_after(e: &[u8], address: [u8; 16], before: bool) -> bool
+    requires { ⌜ length (now e) ≡ entryWidth ⌝ }
+    ensures { λ r. ⌜ ((k : Known) → k .local address ≡ before
+        → after (entryOf (now (e .entry))) k .local address ≡ r) ⌝ }
+{
+    let kind = kind_in(e);
+    if !has_address(e, address) {
+        return before;
+    }
+    if kind == ADDS {
+        return true;
+    }
+    if kind == REMOVES {
+        return false;
+    }
+    before
+}
+
+// .. and after the first n entries.
 pub fn is_local(log: &[u8], n: usize, address: [u8; 16]) -> bool
     requires { ⌜ (length (now log) ≡ logSize) × (n ≤ listLimit) ⌝ }
     ensures { λ r. ⌜ r ≡ knownIn (now (log .entry)) n .local address ⌝ }
 {
-    let mut i = n;
-    while 0 < i {
-        i -= 1;
-        let e = entry_at(log, i);
-        let kind = kind_in(e);
-        if kind == ADDS || kind == REMOVES {
-            if has_address(e, address) {
-                return kind == ADDS;
-            }
-        }
+    let mut known = false;
+    let mut i = 0;
+    while i < n {
+        known = local_after(entry_at(log, i), address, known);
+        i += 1;
     }
-    false
+    known
 }
 
 // How many are local after one more entry of a kind.

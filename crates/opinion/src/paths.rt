@@ -11,10 +11,10 @@ use super::log::packet_in;
 use super::ports::image_in;
 use super::ports::port_at;
 use super::rates::rate_at;
-use super::announced::announced_path;
-use super::records::limited_path;
 use super::records::live_path;
 use super::records::no_path;
+use super::stubs::announced_path;
+use super::stubs::limited_path;
 use judging::SeenPath;
 ghost use mathlib.Core.Path.{_≡_};
 ghost use Prim.Native.Nat.{_+_, _<_, _≤_};
@@ -40,7 +40,7 @@ fn after_announce(log: &[u8], i: usize, destination: [u8; 16], before: SeenPath)
         let settings = port_at(log, i, arrived.port as usize);
         let rate = rate_at(log, i);
         let known = live_path(before, clock);
-        return announced_path(packet, arrived, settings.mode, rate, known);
+        return announced_path(rate, settings.mode, known, packet, arrived);
     }
     before
 }
@@ -58,7 +58,7 @@ fn after_limit(log: &[u8], i: usize, destination: [u8; 16], before: SeenPath) ->
     if octets::equal16(other, destination) {
         let arrived = arrived_in(e);
         let rate = rate_at(log, i);
-        return limited_path(before, rate, arrived.clock);
+        return limited_path(rate, before, arrived.clock);
     }
     before
 }
@@ -80,8 +80,9 @@ fn path_after(log: &[u8], i: usize, effect: u8, destination: [u8; 16], before: S
     if kind == MARKS {
         if has_address(e, destination) {
             path.marked = true;
+            return path;
         }
-        return path;
+        return before;
     }
     if effect == ANNOUNCED {
         return after_announce(log, i, destination, before);

@@ -13,11 +13,14 @@ use numbers::PORT_COUNT;
 ghost use mathlib.Core.Path.{_≡_};
 ghost use Prim.Native.Nat.{_≤_, _<_, ℕ};
 ghost use lib.ListN.{length, getD};
+ghost use lib.Dec.{eqb};
+ghost use Rattle.octets.specs.Index.{_and_};
+ghost use Rattle.octets.specs.Choice.{_then_otherwise_};
 ghost use Rattle.numbers.specs.Numbers.{portCount};
 ghost use Rattle.rules.specs.Renumbering.{preimage, image};
 ghost use Rattle.judging.specs.Seen.{noSeenPort};
 ghost use Rattle.history.specs.Opinion.{listLimit};
-ghost use Rattle.opinion.specs.Log.{entryWidth, logSize, knownIn, imagesIn};
+ghost use Rattle.opinion.specs.Log.{entryWidth, logSize, knownIn, kindIn, portIn, imagesIn};
 ghost use Rattle.opinion.specs.Steps.{portSeen};
 
 // The image of a port under an entry's map.
@@ -43,6 +46,28 @@ fn preimage_in(e: &[u8], n: usize) -> usize
     PORT_COUNT
 }
 
+// Whether an entry sets the port of this number.
+fn sets_port(e: &[u8], port: usize) -> bool
+    requires { ⌜ length (now e) ≡ entryWidth ⌝ }
+    ensures { λ r. ⌜ r ≡ (eqb (kindIn (now (e .entry))) 2 and eqb port (portIn (now (e .entry)))) ⌝ }
+{
+    if kind_in(e) == SETS_PORT {
+        return port == port_set_in(e) as usize;
+    }
+    false
+}
+
+// The number that a port had before an entry.
+fn name_before(e: &[u8], port: usize) -> usize
+    requires { ⌜ length (now e) ≡ entryWidth ⌝ }
+    ensures { λ r. ⌜ r ≡ (eqb (kindIn (now (e .entry))) 0 then preimage (imagesIn (now (e .entry))) port otherwise port) ⌝ }
+{
+    if kind_in(e) == RENUMBERS {
+        return preimage_in(e, port);
+    }
+    port
+}
+
 // A port's settings after the first n entries.
 pub fn port_at(log: &[u8], n: usize, port: usize) -> SeenPort
     requires { ⌜ (length (now log) ≡ logSize) × (n ≤ listLimit) ⌝ }
@@ -53,15 +78,10 @@ pub fn port_at(log: &[u8], n: usize, port: usize) -> SeenPort
     while 0 < i {
         i -= 1;
         let e = entry_at(log, i);
-        let kind = kind_in(e);
-        if kind == SETS_PORT {
-            if name == port_set_in(e) as usize {
-                return settings_in(e);
-            }
+        if sets_port(e, name) {
+            return settings_in(e);
         }
-        if kind == RENUMBERS {
-            name = preimage_in(e, name);
-        }
+        name = name_before(e, name);
     }
     SeenPort {
         on: false,

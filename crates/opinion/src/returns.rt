@@ -8,8 +8,9 @@ use super::log::kind_in;
 use super::log::packet_in;
 use super::paths::path_of;
 use super::ports::image_in;
-use super::records::made_return;
 use super::records::no_return;
+use super::stubs::return_key;
+use super::stubs::return_record;
 use judging::SeenReturn;
 ghost use mathlib.Core.Path.{_≡_};
 ghost use Prim.Native.Nat.{_+_, _<_, _≤_};
@@ -27,12 +28,12 @@ fn after_data(log: &[u8], effects: &[u8], i: usize, key: [u8; 16], before: SeenR
 {
     let e = entry_at(log, i);
     let packet = packet_in(e);
-    let hash = packet::hash_of(packet);
-    if octets::equal_at(&hash, 0, &key) {
+    let made = return_key(packet);
+    if octets::equal16(made, key) {
         let parts = packet::parts_of(packet);
         let destination = parts.destination;
         let path = path_of(log, effects, i, destination);
-        return made_return(arrived_in(e), path.port);
+        return return_record(path, arrived_in(e));
     }
     before
 }

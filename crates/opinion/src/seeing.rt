@@ -9,26 +9,13 @@ use super::records::live_link;
 use super::records::live_path;
 use super::records::live_return;
 use super::returns::return_of;
+use super::stubs::link_key;
 use judging::Arrived;
 use judging::Seen;
 ghost use mathlib.Core.Path.{_≡_};
-ghost use mathlib.Core.Bool.{true};
-ghost use Rattle.packet.specs.Read.{longestPacket, reads};
 ghost use Rattle.packet.specs.Hash.{packetHash};
-ghost use Rattle.judging.specs.Seen.{arrivalOf, linkKey, Sees, Fits};
+ghost use Rattle.judging.specs.Seen.{arrivalOf, Sees, Fits};
 ghost use Rattle.opinion.specs.Steps.{CanJudge, viewBy};
-
-// The id of the link that judging looks for: the destination, or the id that a link request would have.
-fn link_key(packet: &[u8], arrived: Arrived) -> [u8; 16]
-    requires { ⌜ reads longestPacket (now packet) ≡ true ⌝ }
-    ensures { λ r. ⌜ r ≡ linkKey (arrivalOf (now (packet .entry)) arrived) ⌝ }
-{
-    if packet::is_link_request(packet[0]) {
-        return packet::link_id_of(packet);
-    }
-    let parts = packet::parts_of(packet);
-    parts.destination
-}
 
 pub fn seen(
     log: &[u8],
@@ -51,7 +38,7 @@ pub fn seen(
     let local = is_local(log, n, destination);
     let remembered = clock < until(log, kept, n, hash);
     let path = live_path(path_of(log, effects, n, destination), clock);
-    let link = live_link(link_of(log, effects, n, link_key(packet, arrived)), clock);
+    let link = live_link(link_of(log, effects, n, link_key(packet)), clock);
     let back = live_return(return_of(log, effects, n, destination), clock);
     Seen {
         own,

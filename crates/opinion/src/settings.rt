@@ -18,6 +18,11 @@ use numbers::MODE_COUNT;
 use numbers::PORT_COUNT;
 use numbers::refusals;
 use rules::RateSettings;
+ghost use mathlib.Core.Path.{_≡_};
+ghost use mathlib.Core.Bool.{not};
+ghost use lib.Dec.{leb};
+ghost use Rattle.octets.specs.Choice.{_or_};
+ghost use Rattle.numbers.specs.Numbers.{portCount, modeCount, isSize};
 ghost use Rattle.rules.specs.Calls.{sets-port, sets-rate, adds, removes, renumbers};
 ghost use Rattle.opinion.specs.Calls.{IsFresh, Settles};
 
@@ -28,6 +33,19 @@ pub fn fresh(log: &mut [u8; LOG_SIZE], own: [u8; 16])
     put_fresh(log, own);
 }
 
+// A port over 15, an unknown mode, or a size outside the range.
+fn setting_bad(port: u8, mode: u8, size: usize) -> bool
+    ensures { λ r. ⌜ r ≡ (leb portCount port or leb modeCount mode or not (isSize size)) ⌝ }
+{
+    if port >= PORT_COUNT as u8 {
+        return true;
+    }
+    if mode >= MODE_COUNT {
+        return true;
+    }
+    !packet::is_size(size)
+}
+
 // Sets a port on or off, its mode and its size.
 pub fn set_port(log: &mut [u8; LOG_SIZE], port: u8, on: bool, mode: u8, size: usize) -> u8
     ensures { λ r. ⌜ Settles (now (log .entry)) (sets-port port on mode size) r (now (log .exit)) ⌝ }
@@ -36,7 +54,7 @@ pub fn set_port(log: &mut [u8; LOG_SIZE], port: u8, on: bool, mode: u8, size: us
     if n >= LIST_LIMIT {
         return LIST_FULL;
     }
-    if port >= PORT_COUNT as u8 || mode >= MODE_COUNT || !packet::is_size(size) {
+    if setting_bad(port, mode, size) {
         return refusals::SETTING;
     }
     put_port(log, n, port, on, mode, size);

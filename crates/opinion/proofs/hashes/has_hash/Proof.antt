@@ -1,3 +1,13 @@
+use Rattle.octets.specs.Choice.{same}
+use Rattle.opinion.proofs.Reading.{whole-same}
+use Rattle.opinion.proofs.Entries.{came-reads}
+use Rattle.packet.specs.Hash.{packetHash}
+use Rattle.packet.specs.Read.{longestPacket, reads}
+use lib.ListN.{length}
+use mathlib.Core.Path.{_≡_, sym, ap, subst, _∙_}
+use Prim.Native.Nat.{ℕ}
+use mathlib.Core.List.{List}
+use mathlib.Core.Bool.{true}
 use native.Mathlib.Omega.{arith}
 use borrow.Author.Needs.{needs}
 use Rattle.opinion.proofs.hashes.has_hash.Statement.{statement}
@@ -14,7 +24,7 @@ packet-in-requires c κs = search needs
 
 -- src/hashes.rt:22:17
 hash-of-requires : tie.Need-hash-of-requires
-hash-of-requires c κs = ?
+hash-of-requires c κs = subst (λ (p : List ℕ). reads longestPacket p ≡ true) (sym (c@packet-in .ensures .0)) (came-reads _ (c@pre .1))
 
 -- src/hashes.rt:23:22
 slice-aggregate-equal-at : tie.Need-slice-aggregate-equal-at
@@ -30,7 +40,12 @@ equal-at-requires c κs = search needs
 
 -- src/hashes.rt:18:1
 returns : tie.Need-returns
-returns c = ?
+returns c =
+    let a = c@args in
+    let wide : length (a .t2) ≡ 32 = search needs in
+    let long : length (c@hash-of .result) ≡ 32 = search needs in
+    whole-same 32 (c@hash-of .result) (a .t2) long wide _ (c@equal-at .ensures)
+    ∙ ap (λ (h : List ℕ). same h (a .t2)) (c@hash-of .ensures ∙ ap packetHash (c@packet-in .ensures .0))
 
 pub has-hash-spec : {M : Type 1} → statement M
 has-hash-spec =

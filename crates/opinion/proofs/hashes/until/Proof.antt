@@ -1,75 +1,51 @@
+use Rattle.opinion.proofs.Walk.{fresh-until}
+use Rattle.opinion.specs.Log.{knownIn}
+use Rattle.history.specs.Known.{Known}
+use Prim.Native.Nat.{ℕ, _≤_, _-_}
+use mathlib.Core.Path.{_≡_, sym, ap, _∙_}
 use native.Mathlib.Omega.{arith}
 use borrow.Author.Needs.{needs}
 use Rattle.opinion.proofs.hashes.until.Statement.{statement}
 use Rattle.opinion.proofs.hashes.until.Tie as tie
 use Rattle.opinion.proofs.hashes.until.Reads as reads
 use Rattle.opinion.proofs.hashes.until.Lts as lts
-use Rattle.opinion.proofs.hashes.has_hash.Reads as has-hash-reads
-use Rattle.opinion.proofs.log.clock_in.Reads as clock-in-reads
-use Rattle.opinion.proofs.log.entry_at.Reads as entry-at-reads
-use Rattle.opinion.proofs.log.kind_in.Reads as kind-in-reads
+use Rattle.opinion.proofs.hashes.until_after.Reads as until-after-reads
 
 abbrev Inv-loop : tie.InvT-loop
-Inv-loop log kept n hash i₀ i = ?
+Inv-loop log kept n hash time₀ i₀ time i = (i ≤ n) × (time ≡ knownIn log i .until hash)
 
 abbrev μ-loop : tie.MeasureT-loop
-μ-loop log kept n hash i₀ i = ?
+μ-loop log kept n hash time₀ i₀ time i = n - i
 
--- src/hashes.rt:33:5
+-- src/hashes.rt:55:5
 loop-holds : tie.Need-loop-holds Inv-loop μ-loop
-loop-holds c = search needs
+loop-holds c = (omega arith, fresh-until _ _)
 
--- src/hashes.rt:34:9
-sub-i : tie.Need-sub-i Inv-loop μ-loop
-sub-i c = search needs
+-- src/hashes.rt:56:36
+shared-slice-read-until-after : tie.Need-shared-slice-read-until-after Inv-loop μ-loop
+shared-slice-read-until-after c = omega arith
 
--- src/hashes.rt:35:13
-entry-at-requires : tie.Need-entry-at-requires Inv-loop μ-loop
-entry-at-requires c κs = search needs
+-- src/hashes.rt:56:9
+until-after-requires : tie.Need-until-after-requires Inv-loop μ-loop
+until-after-requires c κs = (c@pre .0, omega arith, c@pre .3 (c@loop .i) (omega arith), c@loop .inv .1)
 
--- src/hashes.rt:36:12
-shared-slice-read-if1 : tie.Need-shared-slice-read-if1 Inv-loop μ-loop
-shared-slice-read-if1 c = search needs
+-- src/hashes.rt:57:9
+add-i : tie.Need-add-i Inv-loop μ-loop
+add-i c = search needs
 
--- src/hashes.rt:36:28
-kind-in-requires : tie.Need-kind-in-requires Inv-loop μ-loop
-kind-in-requires c κs = search needs
-
--- src/hashes.rt:37:16
-has-hash-requires : tie.Need-has-hash-requires Inv-loop μ-loop
-has-hash-requires c κs = search needs
-
--- src/hashes.rt:38:24
-clock-in-requires : tie.Need-clock-in-requires Inv-loop μ-loop
-clock-in-requires c κs = search needs
-
--- src/hashes.rt:38:24
-add-result : tie.Need-add-result Inv-loop μ-loop
-add-result c = search needs
-
--- src/hashes.rt:38:17
-returns : tie.Need-returns Inv-loop μ-loop
-returns c = search needs
-
--- src/hashes.rt:33:5
+-- src/hashes.rt:55:5
 loop-less : tie.Need-loop-less Inv-loop μ-loop
 loop-less c = search needs
 
--- src/hashes.rt:33:5
+-- src/hashes.rt:55:5
 loop-again : tie.Need-loop-again Inv-loop μ-loop
-loop-again c = search needs
+loop-again c = (omega arith, c@until-after .ensures)
 
--- src/hashes.rt:33:5
-loop-less-2 : tie.Need-loop-less-2 Inv-loop μ-loop
-loop-less-2 c = search needs
-
--- src/hashes.rt:33:5
-loop-again-2 : tie.Need-loop-again-2 Inv-loop μ-loop
-loop-again-2 c = search needs
-
--- src/hashes.rt:27:1
-returns-2 : tie.Need-returns-2 Inv-loop μ-loop
-returns-2 c = search needs
+-- src/hashes.rt:48:1
+returns : tie.Need-returns Inv-loop μ-loop
+returns c =
+    let last : c@loop .i ≡ c@args .n = omega arith in
+    c@loop .inv .1 ∙ ap (λ (k : ℕ). knownIn (c@args .log .now) k .until (c@args .t4)) last
 
 pub until-spec : {M : Type 1} → statement M
 until-spec =
@@ -78,16 +54,9 @@ until-spec =
     Inv-loop
     μ-loop
     loop-holds
-    sub-i
-    entry-at-requires
-    shared-slice-read-if1
-    kind-in-requires
-    has-hash-requires
-    clock-in-requires
-    add-result
-    returns
+    shared-slice-read-until-after
+    until-after-requires
+    add-i
     loop-less
     loop-again
-    loop-less-2
-    loop-again-2
-    returns-2)
+    returns)

@@ -1,62 +1,57 @@
+use Rattle.opinion.proofs.Entries.{onward}
+use Rattle.opinion.proofs.Walk.{fresh-local}
+use Rattle.opinion.specs.Log.{knownIn}
+use Rattle.history.specs.Known.{Known}
+use Prim.Native.Nat.{ℕ, _≤_, _-_}
+use mathlib.Core.Path.{_≡_, sym, ap, _∙_}
 use native.Mathlib.Omega.{arith}
 use borrow.Author.Needs.{needs}
 use Rattle.opinion.proofs.locals.is_local.Statement.{statement}
 use Rattle.opinion.proofs.locals.is_local.Tie as tie
 use Rattle.opinion.proofs.locals.is_local.Reads as reads
 use Rattle.opinion.proofs.locals.is_local.Lts as lts
+use Rattle.opinion.proofs.locals.local_after.Reads as local-after-reads
 use Rattle.opinion.proofs.log.entry_at.Reads as entry-at-reads
-use Rattle.opinion.proofs.log.has_address.Reads as has-address-reads
-use Rattle.opinion.proofs.log.kind_in.Reads as kind-in-reads
 
 abbrev Inv-loop : tie.InvT-loop
-Inv-loop log n address i₀ i = ?
+Inv-loop log n address known₀ i₀ known i = (i ≤ n) × (known ≡ knownIn log i .local address)
 
 abbrev μ-loop : tie.MeasureT-loop
-μ-loop log n address i₀ i = ?
+μ-loop log n address known₀ i₀ known i = n - i
 
--- src/locals.rt:21:5
+-- src/locals.rt:43:5
 loop-holds : tie.Need-loop-holds Inv-loop μ-loop
-loop-holds c = search needs
+loop-holds c = (omega arith, fresh-local _ _)
 
--- src/locals.rt:22:9
-sub-i : tie.Need-sub-i Inv-loop μ-loop
-sub-i c = search needs
-
--- src/locals.rt:23:13
+-- src/locals.rt:44:29
 entry-at-requires : tie.Need-entry-at-requires Inv-loop μ-loop
-entry-at-requires c κs = search needs
+entry-at-requires c κs = (c@pre .0, omega arith)
 
--- src/locals.rt:24:13
-kind-in-requires : tie.Need-kind-in-requires Inv-loop μ-loop
-kind-in-requires c κs = search needs
+-- src/locals.rt:44:9
+local-after-requires : tie.Need-local-after-requires Inv-loop μ-loop
+local-after-requires c κs = c@entry-at .ensures .1
 
--- src/locals.rt:26:16
-has-address-requires : tie.Need-has-address-requires Inv-loop μ-loop
-has-address-requires c κs = search needs
+-- src/locals.rt:45:9
+add-i : tie.Need-add-i Inv-loop μ-loop
+add-i c = search needs
 
--- src/locals.rt:27:17
-returns : tie.Need-returns Inv-loop μ-loop
-returns c = search needs
-
--- src/locals.rt:21:5
+-- src/locals.rt:43:5
 loop-less : tie.Need-loop-less Inv-loop μ-loop
 loop-less c = search needs
 
--- src/locals.rt:21:5
+-- src/locals.rt:43:5
 loop-again : tie.Need-loop-again Inv-loop μ-loop
-loop-again c = search needs
+loop-again c =
+    let log = c@args .log .now in
+    let i : ℕ = c@loop .i in
+    let address = c@args .t3 in
+    (omega arith, sym (onward (λ (k : Known). k .local address) log _ i (c@entry-at .ensures .0) (c@local-after .ensures (knownIn log i) (sym (c@loop .inv .1)))))
 
--- src/locals.rt:21:5
-loop-less-2 : tie.Need-loop-less-2 Inv-loop μ-loop
-loop-less-2 c = search needs
-
--- src/locals.rt:21:5
-loop-again-2 : tie.Need-loop-again-2 Inv-loop μ-loop
-loop-again-2 c = search needs
-
--- src/locals.rt:16:1
-returns-2 : tie.Need-returns-2 Inv-loop μ-loop
-returns-2 c = search needs
+-- src/locals.rt:37:1
+returns : tie.Need-returns Inv-loop μ-loop
+returns c =
+    let last : c@loop .i ≡ c@args .n = omega arith in
+    c@loop .inv .1 ∙ ap (λ (k : ℕ). knownIn (c@args .log .now) k .local (c@args .t3)) last
 
 pub is-local-spec : {M : Type 1} → statement M
 is-local-spec =
@@ -65,13 +60,9 @@ is-local-spec =
     Inv-loop
     μ-loop
     loop-holds
-    sub-i
     entry-at-requires
-    kind-in-requires
-    has-address-requires
-    returns
+    local-after-requires
+    add-i
     loop-less
     loop-again
-    loop-less-2
-    loop-again-2
-    returns-2)
+    returns)

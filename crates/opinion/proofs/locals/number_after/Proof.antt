@@ -1,3 +1,7 @@
+use Rattle.octets.proofs.Choice.{then-true, then-false}
+use borrow.Author.Tests.{eq-eqb, ne-eqb}
+use mathlib.Core.Path.{_≡_, sym, ap, _∙_}
+use Prim.Native.Nat.{ℕ, _-_}
 use native.Mathlib.Omega.{arith}
 use borrow.Author.Needs.{needs}
 use Rattle.opinion.proofs.locals.number_after.Statement.{statement}
@@ -11,7 +15,7 @@ add-result c = search needs
 
 -- src/locals.rt:40:9
 returns : tie.Need-returns
-returns c = ?
+returns c = sym (then-true _ _ (eq-eqb _ 4 (c .if1 .taken)))
 
 -- src/locals.rt:44:20
 sub-result : tie.Need-sub-result
@@ -19,15 +23,17 @@ sub-result c = search needs
 
 -- src/locals.rt:44:13
 returns-2 : tie.Need-returns-2
-returns-2 c = ?
+returns-2 c = sym (then-false _ _ (ne-eqb _ 4 (c .before .before .if1 .left)) ∙ then-true _ _ (eq-eqb _ 5 (c .before .if2 .taken)))
 
 -- src/locals.rt:35:1
 returns-3 : tie.Need-returns-3
-returns-3 c = ?
+returns-3 c =
+    let none : c .before .before .before .args .before ≡ 0 = omega arith in
+    none ∙ sym (then-false _ _ (ne-eqb _ 4 (c .before .before .if1 .left)) ∙ then-true _ _ (eq-eqb _ 5 (c .before .if2 .taken)) ∙ ap (λ (n : ℕ). n - 1) none)
 
 -- src/locals.rt:35:1
 returns-4 : tie.Need-returns-4
-returns-4 c = ?
+returns-4 c = sym (then-false _ _ (ne-eqb _ 4 (c .before .if1 .left)) ∙ then-false _ _ (ne-eqb _ 5 (c .if2 .left)))
 
 pub number-after-spec : {M : Type 1} → statement M
 number-after-spec =

@@ -1,3 +1,4 @@
+use Rattle.opinion.specs.Log.{packetIn, wordIn}
 use native.Mathlib.Omega.{arith}
 use borrow.Author.Needs.{needs}
 use Rattle.opinion.proofs.log.arrived_in.Statement.{statement}
@@ -21,7 +22,12 @@ clock-in-requires c κs = search needs
 
 -- src/log.rt:123:1
 returns : tie.Need-returns
-returns c = ?
+returns c =
+    let e = c .before .before .before .before .args .e .now in (
+      λ i. record { bytes = packetIn e; port = c .before .port-in .ensures .0 i; clock = c .clock-in .ensures .0 i; signed = wordIn e },
+      c .before .port-in .ensures .1,
+      c .clock-in .ensures .1,
+    )
 
 pub arrived-in-spec : {M : Type 1} → statement M
 arrived-in-spec =

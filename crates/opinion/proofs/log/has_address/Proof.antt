@@ -1,3 +1,6 @@
+use Rattle.opinion.proofs.Reading.{bytes-same}
+use lib.ListN.{length}
+use mathlib.Core.Path.{_≡_}
 use native.Mathlib.Omega.{arith}
 use borrow.Author.Needs.{needs}
 use Rattle.opinion.proofs.log.has_address.Statement.{statement}
@@ -16,7 +19,10 @@ equal-at-requires c κs = search needs
 
 -- src/log.rt:207:1
 returns : tie.Need-returns
-returns c = ?
+returns c =
+    let a = c .before .before .before .args in
+    let wide : length (a .t2) ≡ 16 = search needs in
+    bytes-same 16 (a .e .now) 11 (a .t2) (omega arith) wide _ (c .equal-at .ensures)
 
 pub has-address-spec : {M : Type 1} → statement M
 has-address-spec = tie.close (tie.spec slice-aggregate-equal-at equal-at-requires returns)

@@ -1,3 +1,7 @@
+use Rattle.opinion.proofs.Reading.{part-all}
+use Rattle.octets.proofs.Part.{part-range, range-length}
+use Rattle.octets.specs.Part.{part}
+use mathlib.Core.Path.{ap, _∙_}
 use native.Mathlib.Omega.{arith}
 use borrow.Author.Needs.{needs}
 use Rattle.opinion.proofs.log.packet_in.Statement.{statement}
@@ -28,7 +32,10 @@ part-result-end c = search needs
 
 -- src/log.rt:117:9
 returns : tie.Need-returns
-returns c = ?
+returns c =
+    let e = c .before .before .before .before .args .e .now in
+    let n = c .before .before .length-in .result in
+    (part-range e 11 n ∙ ap (part e 11) (c .before .before .length-in .ensures), omega (arith, range-length e 11 n (omega arith)))
 
 -- src/log.rt:119:17
 add-result-2 : tie.Need-add-result-2
@@ -48,7 +55,10 @@ part-result-end-2 c = search needs
 
 -- src/log.rt:111:1
 returns-2 : tie.Need-returns-2
-returns-2 c = ?
+returns-2 c =
+    let e = c .before .before .before .before .args .e .now in
+    let n = c .before .before .length-in .result in
+    (part-range e 11 500 ∙ part-all e n (c .before .before .before .before .pre) (omega arith) ∙ ap (part e 11) (c .before .before .length-in .ensures), omega (arith, range-length e 11 500 (omega arith)))
 
 pub packet-in-spec : {M : Type 1} → statement M
 packet-in-spec =

@@ -33,7 +33,7 @@ number-at-requires-2 c κs = search needs
 
 -- src/log.rt:158:1
 returns : tie.Need-returns
-returns c = ?
+returns c = λ i. record { target = c .before .before .before .number-at .ensures i; grace = c .before .wide .ensures i; penalty = c .number-at2 .ensures i }
 
 pub rate-in-spec : {M : Type 1} → statement M
 rate-in-spec =

@@ -1,3 +1,4 @@
+use Rattle.opinion.specs.Log.{modeIn, wordIn}
 use native.Mathlib.Omega.{arith}
 use borrow.Author.Needs.{needs}
 use Rattle.opinion.proofs.log.settings_in.Statement.{statement}
@@ -20,7 +21,9 @@ length-in-requires c κs = search needs
 
 -- src/log.rt:144:1
 returns : tie.Need-returns
-returns c = ?
+returns c =
+    let e = c .before .before .before .before .args .e .now in
+    λ i. record { on = wordIn e; mode = modeIn e; size = c .length-in .ensures i }
 
 pub settings-in-spec : {M : Type 1} → statement M
 settings-in-spec =

@@ -1,3 +1,4 @@
+use Rattle.opinion.proofs.Reading.{image-at}
 use native.Mathlib.Omega.{arith}
 use borrow.Author.Needs.{needs}
 use Rattle.opinion.proofs.ports.image_in.Statement.{statement}
@@ -23,7 +24,7 @@ rem-result c = search needs
 
 -- src/ports.rt:24:1
 returns : tie.Need-returns
-returns c = ?
+returns c = (image-at (c .before .args .e .now) (c .before .args .port) (c .before .pre .1), omega arith)
 
 pub image-in-spec : {M : Type 1} → statement M
 image-in-spec =

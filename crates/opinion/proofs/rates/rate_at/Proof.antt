@@ -1,3 +1,12 @@
+use Rattle.opinion.proofs.Entries.{onward}
+use Rattle.opinion.proofs.Walk.{fresh-rate}
+use Rattle.rules.specs.Refusals.{rateSettingsOk}
+use Rattle.octets.specs.Index.{_and_}
+use Rattle.opinion.specs.Log.{knownIn}
+use Rattle.history.specs.Known.{Known}
+use mathlib.Core.Bool.{true}
+use Prim.Native.Nat.{ℕ, _≤_, _-_}
+use mathlib.Core.Path.{_≡_, refl, sym, ap, _∙_}
 use native.Mathlib.Omega.{arith}
 use borrow.Author.Needs.{needs}
 use Rattle.opinion.proofs.rates.rate_at.Statement.{statement}
@@ -5,50 +14,50 @@ use Rattle.opinion.proofs.rates.rate_at.Tie as tie
 use Rattle.opinion.proofs.rates.rate_at.Reads as reads
 use Rattle.opinion.proofs.rates.rate_at.Lts as lts
 use Rattle.opinion.proofs.log.entry_at.Reads as entry-at-reads
-use Rattle.opinion.proofs.log.kind_in.Reads as kind-in-reads
-use Rattle.opinion.proofs.log.rate_in.Reads as rate-in-reads
+use Rattle.opinion.proofs.rates.rate_after.Reads as rate-after-reads
 
 abbrev Inv-loop : tie.InvT-loop
-Inv-loop log n i₀ i = ?
+Inv-loop log n rate₀ i₀ rate i = (i ≤ n) × (rate ≡ knownIn log i .rate) × (rateSettingsOk rate ≡ true)
 
 abbrev μ-loop : tie.MeasureT-loop
-μ-loop log n i₀ i = ?
+μ-loop log n rate₀ i₀ rate i = n - i
 
--- src/rates.rt:21:5
+-- src/rates.rt:40:5
 loop-holds : tie.Need-loop-holds Inv-loop μ-loop
-loop-holds c = search needs
+unfolding rateSettingsOk _and_
+loop-holds c = (omega arith, fresh-rate _, refl)
 
--- src/rates.rt:22:9
-sub-i : tie.Need-sub-i Inv-loop μ-loop
-sub-i c = search needs
-
--- src/rates.rt:23:13
+-- src/rates.rt:41:27
 entry-at-requires : tie.Need-entry-at-requires Inv-loop μ-loop
-entry-at-requires c κs = search needs
+entry-at-requires c κs = (c@pre .0, omega arith)
 
--- src/rates.rt:24:12
-kind-in-requires : tie.Need-kind-in-requires Inv-loop μ-loop
-kind-in-requires c κs = search needs
+-- src/rates.rt:41:9
+rate-after-requires : tie.Need-rate-after-requires Inv-loop μ-loop
+rate-after-requires c κs = (c@entry-at .ensures .1, c@loop .inv .2)
 
--- src/rates.rt:25:13
-rate-in-requires : tie.Need-rate-in-requires Inv-loop μ-loop
-rate-in-requires c κs = search needs
+-- src/rates.rt:42:9
+add-i : tie.Need-add-i Inv-loop μ-loop
+add-i c = search needs
 
--- src/rates.rt:25:13
-returns : tie.Need-returns Inv-loop μ-loop
-returns c = search needs
-
--- src/rates.rt:21:5
+-- src/rates.rt:40:5
 loop-less : tie.Need-loop-less Inv-loop μ-loop
 loop-less c = search needs
 
--- src/rates.rt:21:5
+-- src/rates.rt:40:5
 loop-again : tie.Need-loop-again Inv-loop μ-loop
-loop-again c = search needs
+loop-again c =
+    let log = c@args .log .now in
+    let i : ℕ = c@loop .i in (
+      omega arith,
+      sym (onward (λ (k : Known). k .rate) log _ i (c@entry-at .ensures .0) (c@rate-after .ensures .0 (knownIn log i) (sym (c@loop .inv .1)))),
+      c@rate-after .ensures .1,
+    )
 
--- src/rates.rt:16:1
-returns-2 : tie.Need-returns-2 Inv-loop μ-loop
-returns-2 c = search needs
+-- src/rates.rt:30:1
+returns : tie.Need-returns Inv-loop μ-loop
+returns c =
+    let last : c@loop .i ≡ c@args .n = omega arith in
+    (c@loop .inv .1 ∙ ap (λ (k : ℕ). knownIn (c@args .log .now) k .rate) last, c@loop .inv .2)
 
 pub rate-at-spec : {M : Type 1} → statement M
 rate-at-spec =
@@ -57,11 +66,9 @@ rate-at-spec =
     Inv-loop
     μ-loop
     loop-holds
-    sub-i
     entry-at-requires
-    kind-in-requires
-    rate-in-requires
-    returns
+    rate-after-requires
+    add-i
     loop-less
     loop-again
-    returns-2)
+    returns)

@@ -1,3 +1,9 @@
+use Rattle.rules.specs.declared.Link.{Link}
+use Rattle.opinion.proofs.Slots.{live-slot, dead-slot}
+use Rattle.judging.specs.Seen.{linkOf}
+use Rattle.numbers.specs.Numbers.{live}
+use borrow.Author.Tests.{lt-ltb, le-ltb}
+use mathlib.Core.Path.{_≡_, refl, sym, ap, _∙_}
 use native.Mathlib.Omega.{arith}
 use borrow.Author.Needs.{needs}
 use Rattle.opinion.proofs.records.live_link.Statement.{statement}
@@ -8,7 +14,8 @@ use Rattle.opinion.proofs.records.no_link.Reads as no-link-reads
 
 -- src/records.rt:109:9
 returns : tie.Need-returns
-returns c = ?
+unfolding linkOf
+returns c = live-slot (λ (l : Link). live (c@args .clock) (l .expiry)) _ (c@args .t1 .link) (lt-ltb _ _ (c@if1 .taken))
 
 -- src/records.rt:111:5
 no-link-requires : tie.Need-no-link-requires
@@ -16,7 +23,9 @@ no-link-requires c κs = search needs
 
 -- src/records.rt:104:1
 returns-2 : tie.Need-returns-2
-returns-2 c = ?
+unfolding linkOf
+returns-2 c =
+    c@no-link .ensures .0 ∙ dead-slot (λ (l : Link). live (c@args .clock) (l .expiry)) _ (c@args .t1 .link) (le-ltb _ _ (c@if1 .left))
 
 pub live-link-spec : {M : Type 1} → statement M
 live-link-spec = tie.close (tie.spec returns no-link-requires returns-2)

@@ -1,3 +1,9 @@
+use Rattle.rules.specs.Relay.{Path}
+use Rattle.opinion.proofs.Slots.{live-slot, dead-slot}
+use Rattle.judging.specs.Seen.{pathOf, pathRecord}
+use Rattle.numbers.specs.Numbers.{live}
+use borrow.Author.Tests.{lt-ltb, le-ltb}
+use mathlib.Core.Path.{_≡_, refl, sym, ap, _∙_}
 use native.Mathlib.Omega.{arith}
 use borrow.Author.Needs.{needs}
 use Rattle.opinion.proofs.records.live_path.Statement.{statement}
@@ -8,7 +14,9 @@ use Rattle.opinion.proofs.records.no_path.Reads as no-path-reads
 
 -- src/records.rt:61:9
 returns : tie.Need-returns
-returns c = ?
+unfolding pathOf
+returns c =
+    (λ d. live-slot (λ (p : Path). live (c@args .clock) (p .expiry)) _ (pathRecord d (c@args .t1)) (lt-ltb _ _ (c@if1 .taken)), c@pre .0, c@pre .1)
 
 -- src/records.rt:63:5
 no-path-requires : tie.Need-no-path-requires
@@ -16,7 +24,9 @@ no-path-requires c κs = search needs
 
 -- src/records.rt:54:1
 returns-2 : tie.Need-returns-2
-returns-2 c = ?
+unfolding pathOf
+returns-2 c =
+    (λ d. c@no-path .ensures .0 d ∙ dead-slot (λ (p : Path). live (c@args .clock) (p .expiry)) _ (pathRecord d (c@args .t1)) (le-ltb _ _ (c@if1 .left)), c@no-path .ensures .1, c@no-path .ensures .2)
 
 pub live-path-spec : {M : Type 1} → statement M
 live-path-spec = tie.close (tie.spec returns no-path-requires returns-2)

@@ -1,3 +1,8 @@
+use Rattle.rules.specs.Refusals.{rateEntryOk}
+use Rattle.octets.specs.Choice.{_then_otherwise_}
+use Rattle.octets.specs.Index.{_and_}
+use Rattle.judging.specs.Seen.{pathOf}
+use mathlib.Core.Path.{_≡_, refl, sym, ap, _∙_}
 use native.Mathlib.Omega.{arith}
 use borrow.Author.Needs.{needs}
 use Rattle.opinion.proofs.records.no_path.Statement.{statement}
@@ -7,7 +12,8 @@ use Rattle.opinion.proofs.records.no_path.Lts as lts
 
 -- src/records.rt:33:1
 returns : tie.Need-returns
-returns c = ?
+unfolding pathOf rateEntryOk _and_ _then_otherwise_
+returns c = (λ d. refl, record { entry = refl; blobs = omega arith }, omega arith)
 
 pub no-path-spec : {M : Type 1} → statement M
 no-path-spec = tie.close (tie.spec returns)

@@ -1,3 +1,6 @@
+use Rattle.octets.specs.Choice.{_then_otherwise_}
+use Rattle.judging.specs.Seen.{returnOf}
+use mathlib.Core.Path.{_≡_, refl, sym, ap, _∙_}
 use native.Mathlib.Omega.{arith}
 use borrow.Author.Needs.{needs}
 use Rattle.opinion.proofs.records.no_return.Statement.{statement}
@@ -7,7 +10,8 @@ use Rattle.opinion.proofs.records.no_return.Lts as lts
 
 -- src/records.rt:169:1
 returns : tie.Need-returns
-returns c = ?
+unfolding returnOf _then_otherwise_
+returns c = (λ key. refl, omega arith, omega arith)
 
 pub no-return-spec : {M : Type 1} → statement M
 no-return-spec = tie.close (tie.spec returns)

@@ -1,3 +1,10 @@
+use Rattle.opinion.specs.Steps.{withEntry}
+use Rattle.octets.proofs.Part.{patch-join}
+use Rattle.octets.specs.Part.{patch}
+use lib.ListN.{length}
+use mathlib.Core.List.{List, [], _∷_}
+use Prim.Native.Nat.{ℕ, _+_, _*_}
+use mathlib.Core.Path.{_≡_, refl, sym, ap, _∙_}
 use native.Mathlib.Omega.{arith}
 use borrow.Author.Needs.{needs}
 use Rattle.opinion.proofs.writing.put_entry.Statement.{statement}
@@ -49,7 +56,18 @@ same-length c = search needs
 
 -- src/writing.rt:52:1
 returns : tie.Need-returns
-returns c = ?
+unfolding withEntry
+returns c =
+    let log = c@args .log .now in
+    let n : ℕ = c@args .n in
+    let head = c@args .t3 in
+    let body = c@args .body .now in
+    let wide : length head ≡ 11 = search needs in
+    c@set-at .ensures
+    ∙ ap (λ (t : List ℕ). patch t 16 ((n + 1) ∷ []))
+    (c@copy-at2 .ensures
+    ∙ ap (λ (t : List ℕ). patch t (17 + 511 * n + 11) body) (c@copy-at .ensures)
+    ∙ patch-join log (17 + 511 * n) (17 + 511 * n + 11) head body (omega arith) (omega arith))
 
 pub put-entry-spec : {M : Type 1} → statement M
 put-entry-spec =

@@ -1,0 +1,37 @@
+use Rattle.octets.proofs.Index.{and-yes, and-no}
+use borrow.Author.Tests.{eq-eqb, ne-eqb}
+use lib.Dec.{eqb}
+use mathlib.Core.Path.{_≡_, sym, ap, _∙_}
+use native.Mathlib.Omega.{arith}
+use borrow.Author.Needs.{needs}
+use Rattle.opinion.proofs.ports.sets_port.Statement.{statement}
+use Rattle.opinion.proofs.ports.sets_port.Tie as tie
+use Rattle.opinion.proofs.ports.sets_port.Reads as reads
+use Rattle.opinion.proofs.ports.sets_port.Lts as lts
+use Rattle.opinion.proofs.log.kind_in.Reads as kind-in-reads
+use Rattle.opinion.proofs.log.port_set_in.Reads as port-set-in-reads
+
+-- src/ports.rt:54:8
+kind-in-requires : tie.Need-kind-in-requires
+kind-in-requires c κs = search needs
+
+-- src/ports.rt:55:24
+port-set-in-requires : tie.Need-port-set-in-requires
+port-set-in-requires c κs = search needs
+
+-- src/ports.rt:55:24
+cast-result : tie.Need-cast-result
+cast-result c = search needs
+
+-- src/ports.rt:55:9
+returns : tie.Need-returns
+returns c =
+    sym (and-yes _ (eq-eqb _ 2 (sym (c@kind-in .ensures) ∙ c@if1 .taken)) ∙ ap (eqb (c@args .port)) (sym (c@port-set-in .ensures)))
+
+-- src/ports.rt:50:1
+returns-2 : tie.Need-returns-2
+returns-2 c = sym (and-no _ (ne-eqb _ 2 (λ q. c@if1 .left (c@kind-in .ensures ∙ q))))
+
+pub sets-port-spec : {M : Type 1} → statement M
+sets-port-spec =
+    tie.close (tie.spec kind-in-requires port-set-in-requires cast-result returns returns-2)
