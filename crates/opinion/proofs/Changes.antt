@@ -1,9 +1,10 @@
 -- What the effect of a packet says of its plan, and what one more entry changes of paths, links and return records.
-use Prim.Native.Nat.{ℕ}
+use Prim.Native.Nat.{ℕ, _≤_}
 use mathlib.Core.Bool.{Bool, true, false}
 use mathlib.Core.List.{List}
 use mathlib.Core.Path.{_≡_, refl, sym, ap, _∙_}
 use lib.Dec.{eqb}
+use lib.ListN.{length}
 use borrow.Author.Tests.{eqb-true, eqb-false}
 use Rattle.octets.specs.Choice.{_then_otherwise_, same}
 use Rattle.octets.proofs.Choice.{then-true, then-false}
@@ -12,7 +13,7 @@ use Rattle.packet.specs.Hash.{linkId}
 use Rattle.rules.specs.Relay.{Slot, empty, used, Path, Return, withPathMark}
 use Rattle.rules.specs.View.{View}
 use Rattle.rules.specs.Renumbering.{renamePath, renameLink, renameReturn, renameSlot}
-use Rattle.rules.specs.Arrival.{Arrival, header, destination}
+use Rattle.rules.specs.Arrival.{Arrival, header, destination, body}
 use Rattle.rules.specs.Ways.{Way, everywhere, by-path, along-link, by-return, blocked}
 use Rattle.rules.specs.Judging.{Plan, dropped, delivered, follows, plan}
 use Rattle.rules.specs.Writes.{announcedPath, returnKey, returnRecord, linkRecord, renewedLink, isRateDrop}
@@ -20,6 +21,9 @@ use Rattle.rules.specs.declared.Link.{Link}
 use Rattle.rules.specs.declared.Reason.{Reason}
 use Rattle.rules.proofs.Choices.{either}
 use Rattle.rules.proofs.Slots.{used-not-empty, used-same}
+use Rattle.rules.proofs.Passed.{passed}
+use Rattle.rules.proofs.ChattyPlan.{isSpread, spread-announce}
+use Rattle.forms.proofs.KindLaws.{announce-long}
 use Rattle.rules.proofs.Followed.{Followed, Planned, planned}
 use Rattle.history.specs.Known.{Known, onlyIf, seenAt, nowUnder, nowPath, nowLink, nowReturn, nowUntil, nowClock, nowRate, nowPort, nowLocal, changePath}
 use Rattle.history.specs.After.{Entry, came, called, afterWay, limitedPath, afterDrop, afterPlan, renumberedKnown, afterCall, after}
@@ -46,6 +50,23 @@ drop-effect reason n p q =
 
 path-effect : (a : Arrival) (n : ℕ) → eqb 3 n ≡ false → eqb 4 n ≡ false → (isData (header a) then 3 otherwise 4) ≡ n → ⊥
 path-effect a n p q = either (λ (m : ℕ). m ≡ n → ⊥) (isData (header a)) (λ _. eqb-false 3 n p) (λ _. eqb-false 4 n q)
+
+-- only announces have the effect 1
+dropped-not : (a : Arrival) (reason : Reason) → planEffect a (dropped reason) ≡ 1 → ⊥
+unfolding planEffect
+dropped-not a reason h = drop-effect reason 1 refl refl h
+
+delivered-not : (a : Arrival) → planEffect a delivered ≡ 1 → ⊥
+unfolding planEffect
+delivered-not a h = eqb-false 0 1 refl h
+
+spreads : (a : Arrival) (w : Way) → planEffect a (follows w) ≡ 1 → isSpread w ≡ true
+unfolding planEffect wayEffect isSpread
+spreads a (everywhere known) h = refl
+spreads a (by-path p) h = absurd (path-effect a 1 refl refl h)
+spreads a (along-link l) h = absurd (eqb-false 5 1 refl h)
+spreads a (by-return r) h = absurd (eqb-false 6 1 refl h)
+spreads a (blocked why) h = absurd (eqb-false 0 1 refl h)
 
 module _ (v : View) (a : Arrival) (k : Known) where
   -- 1: an announce
@@ -188,6 +209,15 @@ module _ (v : View) (a : Arrival) (k : Known) where
   return-left (follows (along-link l)) p q = refl
   return-left (follows (by-return r)) p q = absurd (q refl)
   return-left (follows (blocked why)) p q = refl
+
+-- an announce whose path is announced has a blob
+pub announce-body : (v : View) (a : Arrival) → planEffect a (plan v a) ≡ 1 → 84 ≤ length (body a)
+announce-body v a h = go (plan v a) refl h
+  where
+    go : (todo : Plan) → plan v a ≡ todo → planEffect a todo ≡ 1 → 84 ≤ length (body a)
+    go (dropped reason) e q = absurd (dropped-not a reason q)
+    go delivered e q = absurd (delivered-not a q)
+    go (follows w) e q = let (way, p) = passed v a w e in announce-long a (p .form) (spread-announce v a (ap isSpread way ∙ spreads a w q))
 
 -- ---- the entry
 abbrev seen : Known → List ℕ → View
@@ -334,3 +364,7 @@ module _ (e : List ℕ) (k : Known) where
       go false h =
           by-kind e (λ (x : Entry). after x k .return ≡ k .return)
           (λ c. absurd (eqb-false _ _ h c)) (λ _. refl) (λ _. refl) (λ _. refl) (λ _. refl) (λ _. refl) (λ c. absurd (r c))
+
+  -- the blob of an announced path
+  pub entry-body : effectOf (entryOf e) k ≡ 1 → 84 ≤ length (body (arrivalIn e))
+  entry-body h = announce-body (seen k e) (arrivalIn e) (plan-so 1 refl h)

@@ -6,5 +6,6 @@ pub mod Slots
 pub mod Changes
 pub mod Written
 pub mod Put
-pub mod Settled
 pub mod Steps
+pub mod Views
+pub mod Settled

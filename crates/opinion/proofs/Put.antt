@@ -1,6 +1,5 @@
 -- Each kind of entry, written and read again.
 use Prim.Native.Nat.{ℕ, zero, suc, _+_, _%_, _≤_, _<_}
-use native.Mathlib.Nat.{zero-lt-suc, suc-le-suc}
 use native.Mathlib.Omega.{arith}
 use mathlib.Core.Bool.{Bool, true, false}
 use mathlib.Core.List.{List, [], _∷_, _++_, append-assoc, map}
@@ -46,8 +45,8 @@ plain-kind kind rest p q l =
 pub small-map : (m : List ℕ) → ((i : ℕ) → i < length m → getD m i 0 < 16) → map (λ x. x % 16) m ≡ m
 small-map [] h = refl
 small-map (x ∷ xs) h =
-    let first : x < 16 = h 0 (zero-lt-suc (length xs)) in
-    ap₂ (λ (y : ℕ) (ys : List ℕ). y ∷ ys) (omega arith) (small-map xs (λ i l. h (suc i) (suc-le-suc l)))
+    let first : x < 16 = h 0 (omega arith) in
+    ap₂ (λ (y : ℕ) (ys : List ℕ). y ∷ ys) (omega arith) (small-map xs (λ i l. h (suc i) (omega arith)))
 
 module _ (log : List ℕ) (n : ℕ) (size : length log ≡ logSize) (few : n < listLimit) where
   put : (kind port : ℕ) (word : Bool) (mode clock long : ℕ) (body : List ℕ) → length body ≤ 500 → (x : Entry)
@@ -143,13 +142,13 @@ module _ (log : List ℕ) (n : ℕ) (size : length log ≡ logSize) (few : n < l
       whole : (rest : List ℕ) → rateIn (written 3 0 false 0 0 0 (body ++ rest)) ≡ s
       whole rest = λ i.
           record {
-            target = number-bigEndian 3 (s .target) (omega arith) i;
+            target = number-bigEndian 3 (s .target) (omega (arith, target)) i;
             grace = small i;
-            penalty = number-bigEndian 3 (s .penalty) (omega arith) i;
+            penalty = number-bigEndian 3 (s .penalty) (omega (arith, penalty)) i;
           }
         where
           small : s .grace % 256 ≡ s .grace
-          small = omega arith
+          small = omega (arith, grace)
 
       read : (rest : List ℕ) → entryOf (written 3 0 false 0 0 0 (body ++ rest)) ≡ called (sets-rate (s .target) (s .grace) (s .penalty))
       read rest =

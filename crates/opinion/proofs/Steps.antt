@@ -1,12 +1,16 @@
 -- One more entry in the walks for a path, a link and a return record: what the code makes of the record is what is known after the entry.
-use Prim.Native.Nat.{ℕ, _+_}
+use Prim.Native.Nat.{ℕ, _+_, _≤_}
 use mathlib.Core.Bool.{Bool, true, false}
 use mathlib.Core.List.{List}
-use mathlib.Core.Path.{_≡_, refl, sym, ap, ap₂, _∙_}
+use mathlib.Core.Path.{_≡_, refl, sym, ap, ap₂, subst, _∙_}
+use lib.Dec.{eqb}
+use lib.ListN.{length}
 use Rattle.octets.specs.Choice.{_then_otherwise_, same}
 use Rattle.octets.proofs.Choice.{then-true, then-false, same-eq}
 use Rattle.numbers.specs.Numbers.{live, pathLifetime}
+use Rattle.packet.specs.Read.{longestPacket, headerOf, payloadStart, payload, reads}
 use Rattle.packet.specs.Hash.{linkId}
+use Rattle.packet.proofs.ReadLaws.{reads-readable}
 use Rattle.rules.specs.Relay.{Slot, empty, used, Path, Return, makePath, withPathPort, withPathRate, withPathMark, withLinkPorts, withReturnPorts}
 use Rattle.rules.specs.View.{View}
 use Rattle.rules.specs.Renumbering.{image, renamePath, renameLink, renameReturn, renameSlot}
@@ -17,18 +21,19 @@ use Rattle.rules.specs.Writes.{announcedBlobs, nextHopOf, announcedRate, announ
 use Rattle.rules.specs.declared.Link.{Link}
 use Rattle.rules.specs.declared.RateSettings.{RateSettings}
 use Rattle.rules.specs.declared.RateEntry.{RateEntry}
+use Rattle.judging.specs.declared.Arrived.{Arrived}
 use Rattle.judging.specs.declared.SeenPath.{SeenPath}
 use Rattle.judging.specs.declared.SeenLink.{SeenLink}
 use Rattle.judging.specs.declared.SeenReturn.{SeenReturn}
-use Rattle.judging.specs.Seen.{pathRecord, pathOf, linkOf, returnRecordOf, returnOf}
+use Rattle.judging.specs.Seen.{arrivalOf, pathRecord, pathOf, linkOf, returnRecordOf, returnOf}
 use Rattle.judging.specs.Steps.{settingsView, LimitsPath}
 use Rattle.history.specs.Known.{Known, onlyIf, seenAt}
 use Rattle.history.specs.After.{limitedPath, after}
-use Rattle.opinion.specs.Log.{arrivalIn, addressIn, imagesIn, kindIn, entryOf, entryBytes, knownIn}
-use Rattle.opinion.specs.Steps.{effectOf}
+use Rattle.opinion.specs.Log.{packetIn, arrivalIn, addressIn, imagesIn, kindIn, entryOf, entryBytes, knownIn}
+use Rattle.opinion.specs.Steps.{effectOf, arrivalBy}
 use Rattle.opinion.proofs.Slots.{slot, renamed-slot, slot-is}
-use Rattle.opinion.proofs.Entries.{onward}
-use Rattle.opinion.proofs.Changes.{seen-used, path-announced, path-limited, path-marked, path-renumbered, path-stays, link-asked, link-carried, link-renumbered, link-stays, return-made, return-emptied, return-renumbered, return-stays}
+use Rattle.opinion.proofs.Entries.{came-reads, onward}
+use Rattle.opinion.proofs.Changes.{seen-used, effect-came, entry-body, path-announced, path-limited, path-marked, path-renumbered, path-stays, link-asked, link-carried, link-renumbered, link-stays, return-made, return-emptied, return-renumbered, return-stays}
 
 -- an accepted announce's path reads of a view the rate settings and the arrival port's mode alone
 announced-by : (v w : View) (a : Arrival) → v .mode (a .port) ≡ w .mode (a .port) → v .rate ≡ w .rate → (s : Slot Path)
@@ -43,12 +48,44 @@ announced-by v w a mode rate s =
     rates (used p) =
         ap (λ (r : RateSettings). revives a p then entryRevived (a .clock) (p .rate) otherwise entryAccepted r (a .clock) (p .rate)) rate
 
+-- .. and has the arrival port
+pub announced-port : (settings : RateSettings) (mode : ℕ) (a : Arrival) (s : Slot Path) (r : SeenPath)
+    → pathOf (destination a) r ≡ used (announcedPath (settingsView settings mode) a s) → r .port ≡ a .port
+unfolding pathOf announcedPath
+announced-port settings mode a s r made = ap (λ (p : Path). p .port) (slot-is (r .there) (pathRecord (destination a) r) _ made)
+
+pub made-ports : (a : Arrival) (p : Path) (r : SeenReturn) → returnOf (returnKey a) r ≡ used (returnRecord a p)
+    → (r .arrival ≡ a .port) × (r .leaving ≡ p .port)
+unfolding returnOf returnRecord
+made-ports a p r made =
+    let is : returnRecordOf (returnKey a) r ≡ returnRecord a p = slot-is (r .there) (returnRecordOf (returnKey a) r) _ made in
+    (ap (λ (t : Return). t .arrival) is, ap (λ (t : Return). t .leaving) is)
+
 module _ (log : List ℕ) (i : ℕ) where
   abbrev b : List ℕ
   b = entryBytes log i
 
   abbrev k : Known
   k = knownIn log i
+
+  -- the packet that came, as the code holds it
+  module _ (e packet : List ℕ) (is : e ≡ b) (in-it : packet ≡ packetIn e) where
+    pub entry-reads : (n : ℕ) → eqb 0 n ≡ false → effectOf (entryOf b) k ≡ n → reads longestPacket packet ≡ true
+    entry-reads n some h =
+        subst (λ (p : List ℕ). reads longestPacket p ≡ true) (sym (in-it ∙ ap packetIn is)) (came-reads b (effect-came b k n some h))
+
+    pub entry-whole : (n : ℕ) → eqb 0 n ≡ false → effectOf (entryOf b) k ≡ n → payloadStart (headerOf packet) ≤ length packet
+    entry-whole n some h = reads-readable longestPacket packet (entry-reads n some h) .whole
+
+    pub entry-arrival : (m : Arrived) → arrivalOf (packetIn e) m ≡ arrivalIn e → arrivalOf packet m ≡ arrivalIn b
+    entry-arrival m h = ap (λ (p : List ℕ). arrivalOf p m) in-it ∙ h ∙ ap (λ (x : List ℕ). arrivalIn x) is
+
+    -- .. whatever is known of how it came
+    pub packet-arrival : arrivalBy packet (arrivalIn b .port) (arrivalIn b .clock) (arrivalIn b .signed) ≡ arrivalIn b
+    packet-arrival = ap (λ (p : List ℕ). arrivalBy p (arrivalIn b .port) (arrivalIn b .clock) (arrivalIn b .signed)) (in-it ∙ ap packetIn is)
+
+    pub entry-payload : effectOf (entryOf b) k ≡ 1 → 84 ≤ length (payload packet)
+    entry-payload h = subst (λ (p : List ℕ). 84 ≤ length (payload p)) (sym (in-it ∙ ap packetIn is)) (entry-body b k h)
 
   -- ---- paths
   module _ (d : List ℕ) where

@@ -4,10 +4,10 @@ use native.Mathlib.Nat.{zero-add, add-zero}
 use native.Mathlib.Numerals.{add-one}
 use native.Mathlib.Omega.{arith}
 use mathlib.Core.Bool.{Bool, true, false}
-use mathlib.Core.List.{List, [], _∷_, _++_, append-assoc}
+use mathlib.Core.List.{List, [], _∷_, _++_, append-assoc, append-nil}
 use mathlib.Core.Path.{_≡_, refl, sym, ap, ap₂, subst, _∙_}
 use lib.Dec.{ltb}
-use lib.ListN.{length, getD, take, drop, length-append, take-append-drop}
+use lib.ListN.{length, getD, take, drop, length-append, take-append-drop, drop-of-length-le}
 use lib.Seq.{drop-drop, length-take-le}
 use borrow.Author.Tests.{ltb-false}
 use Rattle.octets.specs.Part.{part, patch}
@@ -21,6 +21,7 @@ use Rattle.numbers.specs.Numbers.{clockLimit}
 use Rattle.history.specs.After.{Entry}
 use Rattle.history.specs.Opinion.{listLimit}
 use Rattle.opinion.specs.Log.{addressWidth, countAt, entriesAt, entryWidth, logSize, portIn, wordIn, modeIn, clockIn, lengthIn, ownIn, entryOf, entryBytes, entriesOf, listedIn}
+use Rattle.opinion.specs.Calls.{IsFresh}
 use Rattle.opinion.specs.Steps.{headBytes, withEntry, Adds}
 
 -- ---- a part of t after a write over another
@@ -145,3 +146,28 @@ module _ (kind port : ℕ) (word : Bool) (mode clock long : ℕ) (tail : List �
   pub head-body : (n : ℕ) → part written 11 n ≡ take n tail
   unfolding part bigEndian
   head-body n = refl
+
+-- ---- a fresh log
+pub fresh-log : (log own : List ℕ) → length log ≡ logSize → length own ≡ addressWidth → IsFresh own (patch (patch log 0 own) countAt (0 ∷ []))
+unfolding listedIn entriesOf
+fresh-log log own long wide =
+    record {
+      own = part-before started countAt (0 ∷ []) 0 addressWidth (omega arith) (omega (arith, started-long))
+          ∙ ap (λ (n : ℕ). part started 0 n) (sym wide)
+          ∙ part-over log 0 own (length own) (omega arith) (omega arith)
+          ∙ ap (λ (r : List ℕ). own ++ r) (drop-of-length-le (part log 0 (length own)) {i = length own} (omega (arith, part-length log 0 (length own) (omega arith))))
+          ∙ append-nil own;
+      lists = ap (λ (m : ℕ). entriesOf (patch started countAt (0 ∷ [])) (ltb m listLimit then m otherwise listLimit)) none
+          ∙ ap (entriesOf (patch started countAt (0 ∷ []))) (then-true 0 listLimit refl);
+    }
+  where
+    started : List ℕ
+    started = patch log 0 own
+
+    started-long : length started ≡ logSize
+    started-long = patch-length log 0 own (omega arith) ∙ long
+
+    none : getD (patch started countAt (0 ∷ [])) countAt 0 ≡ 0
+    none =
+        sym (part-at (patch started countAt (0 ∷ [])) countAt 1 0 (omega arith))
+        ∙ ap (λ (s : List ℕ). getD s 0 0) (part-over started countAt (0 ∷ []) 1 (omega arith) (omega (arith, started-long)))

@@ -23,8 +23,8 @@ ghost use mathlib.Core.Bool.{true};
 ghost use Prim.Native.Nat.{_<_, _≤_, _+_};
 ghost use lib.Dec.{eqb};
 ghost use lib.ListN.{length, set};
-ghost use Rattle.packet.specs.Header.{isData};
-ghost use Rattle.packet.specs.Read.{headerOf, longestPacket, reads};
+ghost use Rattle.octets.specs.Choice.{_then_otherwise_};
+ghost use Rattle.rules.specs.Writes.{isRateDrop};
 ghost use Rattle.history.specs.Opinion.{listLimit};
 ghost use Rattle.opinion.specs.Log.{logSize, entryOf, entryBytes, knownIn};
 ghost use Rattle.opinion.specs.Steps.{effectOf, keepsHash, EffectsOf, KeptOf, CanAsk, wayEffectBy, plannedEffect};
@@ -35,39 +35,72 @@ pub struct Outcome {
     pub kept: u8,
 }
 
-fn way_effect(way: SeenWay, data: bool) -> u8
-    ensures { λ r. ⌜ r ≡ wayEffectBy way data ⌝ }
+// By a path, data makes a return record and a link request a link.
+fn path_effect(is_data: bool) -> u8
+    ensures { λ r. ⌜ r ≡ («is_data» then 3 otherwise 4) ⌝ }
+{
+    if is_data {
+        return RETURNS;
+    }
+    LINKED
+}
+
+fn way_effect(way: SeenWay, is_data: bool) -> u8
+    ensures { λ r. ⌜ r ≡ wayEffectBy way «is_data» ⌝ }
 {
     match way {
         SeenWay::Everywhere => ANNOUNCED,
-        SeenWay::ByPath => {
-            if data {
-                RETURNS
-            } else {
-                LINKED
-            }
-        }
+        SeenWay::ByPath => path_effect(is_data),
         SeenWay::AlongLink => RENEWED,
         SeenWay::ByReturn => EMPTIED,
         SeenWay::Blocked(_) => NOTHING,
     }
 }
 
-fn effect_of(planned: Planned, data: bool) -> u8
-    ensures { λ r. ⌜ r ≡ plannedEffect planned data ⌝ }
+// Whether a drop is by the rate rule.
+fn is_limited(reason: Reason) -> bool
+    ensures { λ r. ⌜ r ≡ isRateDrop reason ⌝ }
+{
+    match reason {
+        Reason::NotOurs => false,
+        Reason::Duplicate => false,
+        Reason::BadForm(_) => false,
+        Reason::OwnAnnounce => false,
+        Reason::TooManyHops => false,
+        Reason::NoWayOn(_) => false,
+        Reason::AlreadyKnown => false,
+        Reason::WrongSide => false,
+        Reason::NotSigned => false,
+        Reason::Replay => false,
+        Reason::NotBetter => false,
+        Reason::RateLimited => true,
+        Reason::PortOff => false,
+        Reason::TooLongForPort => false,
+        Reason::NoRoom => false,
+    }
+}
+
+fn drop_effect(reason: Reason) -> u8
+    ensures { λ r. ⌜ r ≡ (isRateDrop reason then 2 otherwise 0) ⌝ }
+{
+    if is_limited(reason) {
+        return LIMITED;
+    }
+    NOTHING
+}
+
+fn effect_of(planned: Planned, is_data: bool) -> u8
+    ensures { λ r. ⌜ r ≡ plannedEffect planned «is_data» ⌝ }
 {
     match planned {
-        Planned::Drop(reason) => match reason {
-            Reason::RateLimited => LIMITED,
-            _ => NOTHING,
-        },
+        Planned::Drop(reason) => drop_effect(reason),
         Planned::Deliver => NOTHING,
-        Planned::Follow(way) => way_effect(way, data),
+        Planned::Follow(way) => way_effect(way, is_data),
     }
 }
 
 // What entry i did, by those before it.
-fn outcome(log: &[u8], effects: &[u8], kept: &[u8], i: usize) -> Outcome
+fn outcome_at(log: &[u8], effects: &[u8], kept: &[u8], i: usize) -> Outcome
     requires { ⌜ CanAsk (now log) (now effects) i × (length (now kept) ≡ listLimit) × KeptOf (now log) (now kept) i
         × (i < listLimit) ⌝ }
     ensures { λ r. ⌜ (r .effect ≡ effectOf (entryOf (entryBytes (now (log .entry)) i)) (knownIn (now (log .entry)) i))
@@ -101,7 +134,7 @@ pub fn outcomes(log: &[u8], n: usize, effects: &mut [u8], kept: &mut [u8])
 {
     let mut i = 0;
     while i < n {
-        let done = outcome(log, effects, kept, i);
+        let done = outcome_at(log, effects, kept, i);
         effects[i] = done.effect;
         kept[i] = done.kept;
         i += 1;

@@ -19,7 +19,7 @@ clock-in-requires c κs = search needs
 
 -- src/clocks.rt:22:9
 returns : tie.Need-returns
-returns c = λ k h. clock-came _ k (sym (c@kind-in .ensures) ∙ c@if1 .taken) ∙ sym (c@clock-in .ensures .0)
+returns c = λ k h. clock-came _ k (sym (c .before .before .kind-in .ensures) ∙ c .before .if1 .taken) ∙ sym (c .clock-in .ensures .0)
 
 -- src/clocks.rt:25:9
 clock-in-requires-2 : tie.Need-clock-in-requires-2
@@ -27,12 +27,12 @@ clock-in-requires-2 c κs = search needs
 
 -- src/clocks.rt:25:9
 returns-2 : tie.Need-returns-2
-returns-2 c = λ k h. clock-marked _ k (sym (c@kind-in .ensures) ∙ c@if2 .taken) ∙ sym (c@clock-in2 .ensures .0)
+returns-2 c = λ k h. clock-marked _ k (sym (c .before .before .before .kind-in .ensures) ∙ c .before .if2 .taken) ∙ sym (c .clock-in2 .ensures .0)
 
 -- src/clocks.rt:16:1
 returns-3 : tie.Need-returns-3
 returns-3 c =
-    λ k h. clock-stays _ k (λ q. c@if1 .left (c@kind-in .ensures ∙ q)) (λ q. c@if2 .left (c@kind-in .ensures ∙ q)) ∙ h
+    λ k h. clock-stays _ k (λ q. c .before .if1 .left (c .before .before .kind-in .ensures ∙ q)) (λ q. c .if2 .left (c .before .before .kind-in .ensures ∙ q)) ∙ h
 
 pub clock-after-spec : {M : Type 1} → statement M
 clock-after-spec =

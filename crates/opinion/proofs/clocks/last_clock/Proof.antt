@@ -25,11 +25,11 @@ loop-holds c = (omega arith, fresh-clock _)
 
 -- src/clocks.rt:38:29
 entry-at-requires : tie.Need-entry-at-requires Inv-loop μ-loop
-entry-at-requires c κs = (c@pre .0, omega arith)
+entry-at-requires c κs = (c .before .before .before .pre .0, omega arith)
 
 -- src/clocks.rt:38:9
 clock-after-requires : tie.Need-clock-after-requires Inv-loop μ-loop
-clock-after-requires c κs = c@entry-at .ensures .1
+clock-after-requires c κs = c .entry-at .ensures .1
 
 -- src/clocks.rt:39:9
 add-i : tie.Need-add-i Inv-loop μ-loop
@@ -42,15 +42,15 @@ loop-less c = search needs
 -- src/clocks.rt:37:5
 loop-again : tie.Need-loop-again Inv-loop μ-loop
 loop-again c =
-    let log = c@args .log .now in
-    let i : ℕ = c@loop .i in
-    (omega arith, sym (onward (λ (k : Known). k .clock) log _ i (c@entry-at .ensures .0) (c@clock-after .ensures (knownIn log i) (sym (c@loop .inv .1)))))
+    let log = c .before .before .before .before .before .args .log .now in
+    let i : ℕ = c .before .before .before .loop .i in
+    (omega arith, sym (onward (λ (k : Known). k .clock) log _ i (c .before .entry-at .ensures .0) (c .clock-after .ensures (knownIn log i) (sym (c .before .before .before .loop .inv .1)))))
 
 -- src/clocks.rt:31:1
 returns : tie.Need-returns Inv-loop μ-loop
 returns c =
-    let last : c@loop .i ≡ c@args .n = omega arith in
-    c@loop .inv .1 ∙ ap (λ (k : ℕ). knownIn (c@args .log .now) k .clock) last
+    let last : c .before .loop .i ≡ c .before .before .before .args .n = omega arith in
+    c .before .loop .inv .1 ∙ ap (λ (k : ℕ). knownIn (c .before .before .before .args .log .now) k .clock) last
 
 pub last-clock-spec : {M : Type 1} → statement M
 last-clock-spec =

@@ -24,7 +24,7 @@ packet-in-requires c κs = search needs
 
 -- src/hashes.rt:22:17
 hash-of-requires : tie.Need-hash-of-requires
-hash-of-requires c κs = subst (λ (p : List ℕ). reads longestPacket p ≡ true) (sym (c@packet-in .ensures .0)) (came-reads _ (c@pre .1))
+hash-of-requires c κs = subst (λ (p : List ℕ). reads longestPacket p ≡ true) (sym (c .packet-in .ensures .0)) (came-reads _ (c .before .before .pre .1))
 
 -- src/hashes.rt:23:22
 slice-aggregate-equal-at : tie.Need-slice-aggregate-equal-at
@@ -41,11 +41,11 @@ equal-at-requires c κs = search needs
 -- src/hashes.rt:18:1
 returns : tie.Need-returns
 returns c =
-    let a = c@args in
+    let a = c .before .before .before .before .before .before .args in
     let wide : length (a .t2) ≡ 32 = search needs in
-    let long : length (c@hash-of .result) ≡ 32 = search needs in
-    whole-same 32 (c@hash-of .result) (a .t2) long wide _ (c@equal-at .ensures)
-    ∙ ap (λ (h : List ℕ). same h (a .t2)) (c@hash-of .ensures ∙ ap packetHash (c@packet-in .ensures .0))
+    let long : length (c .before .before .before .hash-of .result) ≡ 32 = search needs in
+    whole-same 32 (c .before .before .before .hash-of .result) (a .t2) long wide _ (c .equal-at .ensures)
+    ∙ ap (λ (h : List ℕ). same h (a .t2)) (c .before .before .before .hash-of .ensures ∙ ap packetHash (c .before .before .before .before .packet-in .ensures .0))
 
 pub has-hash-spec : {M : Type 1} → statement M
 has-hash-spec =

@@ -27,7 +27,7 @@ shared-slice-read-until-after c = omega arith
 
 -- src/hashes.rt:56:9
 until-after-requires : tie.Need-until-after-requires Inv-loop μ-loop
-until-after-requires c κs = (c@pre .0, omega arith, c@pre .3 (c@loop .i) (omega arith), c@loop .inv .1)
+until-after-requires c κs = (c .before .before .before .before .before .pre .0, omega arith, c .before .before .before .before .before .pre .3 (c .before .before .loop .i) (omega arith), c .before .before .loop .inv .1)
 
 -- src/hashes.rt:57:9
 add-i : tie.Need-add-i Inv-loop μ-loop
@@ -39,13 +39,13 @@ loop-less c = search needs
 
 -- src/hashes.rt:55:5
 loop-again : tie.Need-loop-again Inv-loop μ-loop
-loop-again c = (omega arith, c@until-after .ensures)
+loop-again c = (omega arith, c .until-after .ensures)
 
 -- src/hashes.rt:48:1
 returns : tie.Need-returns Inv-loop μ-loop
 returns c =
-    let last : c@loop .i ≡ c@args .n = omega arith in
-    c@loop .inv .1 ∙ ap (λ (k : ℕ). knownIn (c@args .log .now) k .until (c@args .t4)) last
+    let last : c .before .loop .i ≡ c .before .before .before .before .args .n = omega arith in
+    c .before .loop .inv .1 ∙ ap (λ (k : ℕ). knownIn (c .before .before .before .before .args .log .now) k .until (c .before .before .before .before .args .hash)) last
 
 pub until-spec : {M : Type 1} → statement M
 until-spec =

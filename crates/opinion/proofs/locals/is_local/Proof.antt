@@ -25,11 +25,11 @@ loop-holds c = (omega arith, fresh-local _ _)
 
 -- src/locals.rt:44:29
 entry-at-requires : tie.Need-entry-at-requires Inv-loop μ-loop
-entry-at-requires c κs = (c@pre .0, omega arith)
+entry-at-requires c κs = (c .before .before .before .pre .0, omega arith)
 
 -- src/locals.rt:44:9
 local-after-requires : tie.Need-local-after-requires Inv-loop μ-loop
-local-after-requires c κs = c@entry-at .ensures .1
+local-after-requires c κs = c .entry-at .ensures .1
 
 -- src/locals.rt:45:9
 add-i : tie.Need-add-i Inv-loop μ-loop
@@ -42,16 +42,16 @@ loop-less c = search needs
 -- src/locals.rt:43:5
 loop-again : tie.Need-loop-again Inv-loop μ-loop
 loop-again c =
-    let log = c@args .log .now in
-    let i : ℕ = c@loop .i in
-    let address = c@args .t3 in
-    (omega arith, sym (onward (λ (k : Known). k .local address) log _ i (c@entry-at .ensures .0) (c@local-after .ensures (knownIn log i) (sym (c@loop .inv .1)))))
+    let log = c .before .before .before .before .before .args .log .now in
+    let i : ℕ = c .before .before .before .loop .i in
+    let address = c .before .before .before .before .before .args .address in
+    (omega arith, sym (onward (λ (k : Known). k .local address) log _ i (c .before .entry-at .ensures .0) (c .local-after .ensures (knownIn log i) (sym (c .before .before .before .loop .inv .1)))))
 
 -- src/locals.rt:37:1
 returns : tie.Need-returns Inv-loop μ-loop
 returns c =
-    let last : c@loop .i ≡ c@args .n = omega arith in
-    c@loop .inv .1 ∙ ap (λ (k : ℕ). knownIn (c@args .log .now) k .local (c@args .t3)) last
+    let last : c .before .loop .i ≡ c .before .before .before .args .n = omega arith in
+    c .before .loop .inv .1 ∙ ap (λ (k : ℕ). knownIn (c .before .before .before .args .log .now) k .local (c .before .before .before .args .address)) last
 
 pub is-local-spec : {M : Type 1} → statement M
 is-local-spec =

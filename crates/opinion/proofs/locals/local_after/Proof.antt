@@ -20,22 +20,22 @@ has-address-requires c κs = search needs
 
 -- src/locals.rt:25:9
 returns : tie.Need-returns
-returns c = λ k h. local-another _ k _ (sym (c@has-address .ensures) ∙ not-true _ (c@if1 .taken)) ∙ h
+returns c = λ k h. local-another _ k _ (sym (c .before .has-address .ensures) ∙ not-true _ (c .if1 .taken)) ∙ h
 
 -- src/locals.rt:28:9
 returns-2 : tie.Need-returns-2
 returns-2 c =
-    λ k h. local-added _ k _ (sym (c@kind-in .ensures) ∙ c@if2 .taken) (sym (c@has-address .ensures) ∙ not-false _ (c@if1 .left))
+    λ k h. local-added _ k _ (sym (c .before .before .before .kind-in .ensures) ∙ c .if2 .taken) (sym (c .before .before .has-address .ensures) ∙ not-false _ (c .before .if1 .left))
 
 -- src/locals.rt:31:9
 returns-3 : tie.Need-returns-3
 returns-3 c =
-    λ k h. local-removed _ k _ (sym (c@kind-in .ensures) ∙ c@if3 .taken) (sym (c@has-address .ensures) ∙ not-false _ (c@if1 .left))
+    λ k h. local-removed _ k _ (sym (c .before .before .before .before .kind-in .ensures) ∙ c .if3 .taken) (sym (c .before .before .before .has-address .ensures) ∙ not-false _ (c .before .before .if1 .left))
 
 -- src/locals.rt:18:1
 returns-4 : tie.Need-returns-4
 returns-4 c =
-    λ k h. local-stays _ k _ (λ q. c@if2 .left (c@kind-in .ensures ∙ q)) (λ q. c@if3 .left (c@kind-in .ensures ∙ q)) ∙ h
+    λ k h. local-stays _ k _ (λ q. c .before .if2 .left (c .before .before .before .before .kind-in .ensures ∙ q)) (λ q. c .if3 .left (c .before .before .before .before .kind-in .ensures ∙ q)) ∙ h
 
 pub local-after-spec : {M : Type 1} → statement M
 local-after-spec =

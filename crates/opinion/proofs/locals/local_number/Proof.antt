@@ -29,15 +29,15 @@ loop-holds c = (omega arith, fresh-locals _, omega arith)
 
 -- src/locals.rt:58:39
 entry-at-requires : tie.Need-entry-at-requires Inv-loop μ-loop
-entry-at-requires c κs = (c@pre .0, omega arith)
+entry-at-requires c κs = (c .before .before .before .pre .0, omega arith)
 
 -- src/locals.rt:58:31
 kind-in-requires : tie.Need-kind-in-requires Inv-loop μ-loop
-kind-in-requires c κs = c@entry-at .ensures .1
+kind-in-requires c κs = c .entry-at .ensures .1
 
 -- src/locals.rt:58:9
 number-after-requires : tie.Need-number-after-requires Inv-loop μ-loop
-number-after-requires c κs = omega (arith, c@loop .inv .2)
+number-after-requires c κs = omega (arith, c .before .before .before .loop .inv .2)
 
 -- src/locals.rt:59:9
 add-i : tie.Need-add-i Inv-loop μ-loop
@@ -50,22 +50,22 @@ loop-less c = search needs
 -- src/locals.rt:57:5
 loop-again : tie.Need-loop-again Inv-loop μ-loop
 loop-again c =
-    let log = c@args .log .now in
-    let i : ℕ = c@loop .i in
-    let b : ℕ = c@loop .number in
-    let more : c@number-after .result ≡ (eqb (c@kind-in .result) 4 then b + 1 otherwise eqb (c@kind-in .result) 5 then b - 1 otherwise b) = c@number-after .ensures in (
+    let log = c .before .before .before .before .before .before .args .log .now in
+    let i : ℕ = c .before .before .before .before .loop .i in
+    let b : ℕ = c .before .before .before .before .loop .number in
+    let more : c .number-after .result ≡ (eqb (c .before .kind-in .result) 4 then b + 1 otherwise eqb (c .before .kind-in .result) 5 then b - 1 otherwise b) = c .number-after .ensures in (
       omega arith,
-      sym (onward (λ (k : Known). k .locals) log _ i (c@entry-at .ensures .0)
-          (number-more _ (knownIn log i) ∙ ap₂ (λ (kind n : ℕ). eqb kind 4 then n + 1 otherwise eqb kind 5 then n - 1 otherwise n) (sym (c@kind-in .ensures)) (sym (c@loop .inv .1))
+      sym (onward (λ (k : Known). k .locals) log _ i (c .before .before .entry-at .ensures .0)
+          (number-more _ (knownIn log i) ∙ ap₂ (λ (kind n : ℕ). eqb kind 4 then n + 1 otherwise eqb kind 5 then n - 1 otherwise n) (sym (c .before .kind-in .ensures)) (sym (c .before .before .before .before .loop .inv .1))
           ∙ sym more)),
-      number-most (c@kind-in .result) b i (c@loop .inv .2) _ more,
+      number-most (c .before .kind-in .result) b i (c .before .before .before .before .loop .inv .2) _ more,
     )
 
 -- src/locals.rt:51:1
 returns : tie.Need-returns Inv-loop μ-loop
 returns c =
-    let last : c@loop .i ≡ c@args .n = omega arith in
-    c@loop .inv .1 ∙ ap (λ (k : ℕ). knownIn (c@args .log .now) k .locals) last
+    let last : c .before .loop .i ≡ c .before .before .before .args .n = omega arith in
+    c .before .loop .inv .1 ∙ ap (λ (k : ℕ). knownIn (c .before .before .before .args .log .now) k .locals) last
 
 pub local-number-spec : {M : Type 1} → statement M
 local-number-spec =

@@ -11,17 +11,17 @@ use Rattle.opinion.proofs.log.rate_within.Lts as lts
 -- src/log.rt:174:9
 returns : tie.Need-returns
 unfolding rateSettingsOk _and_
-returns c = rw (lt-leb _ _ (c@if1 .taken))
+returns c = rw (lt-leb _ _ (c .if1 .taken))
 
 -- src/log.rt:177:9
 returns-2 : tie.Need-returns-2
 unfolding rateSettingsOk _and_
-returns-2 c = rw (le-leb _ _ (c@if1 .left), lt-leb _ _ (c@if2 .taken))
+returns-2 c = rw (le-leb _ _ (c .before .before .if1 .left), lt-leb _ _ (c .if2 .taken))
 
 -- src/log.rt:170:1
 returns-3 : tie.Need-returns-3
 unfolding rateSettingsOk _and_
-returns-3 c = rw (le-leb _ _ (c@if1 .left), le-leb _ _ (c@if2 .left))
+returns-3 c = rw (le-leb _ _ (c .before .before .before .if1 .left), le-leb _ _ (c .before .if2 .left))
 
 pub rate-within-spec : {M : Type 1} → statement M
 rate-within-spec = tie.close (tie.spec returns returns-2 returns-3)

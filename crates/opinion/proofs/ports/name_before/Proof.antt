@@ -20,11 +20,11 @@ preimage-in-requires c κs = search needs
 
 -- src/ports.rt:66:9
 returns : tie.Need-returns
-returns c = c@preimage-in .ensures ∙ sym (then-true _ _ (eq-eqb _ 0 (sym (c@kind-in .ensures) ∙ c@if1 .taken)))
+returns c = c .preimage-in .ensures ∙ sym (then-true _ _ (eq-eqb _ 0 (sym (c .before .before .kind-in .ensures) ∙ c .before .if1 .taken)))
 
 -- src/ports.rt:61:1
 returns-2 : tie.Need-returns-2
-returns-2 c = sym (then-false _ _ (ne-eqb _ 0 (λ q. c@if1 .left (c@kind-in .ensures ∙ q))))
+returns-2 c = sym (then-false _ _ (ne-eqb _ 0 (λ q. c .if1 .left (c .before .kind-in .ensures ∙ q))))
 
 pub name-before-spec : {M : Type 1} → statement M
 name-before-spec = tie.close (tie.spec kind-in-requires preimage-in-requires returns returns-2)

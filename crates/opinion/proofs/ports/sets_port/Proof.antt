@@ -26,11 +26,11 @@ cast-result c = search needs
 -- src/ports.rt:55:9
 returns : tie.Need-returns
 returns c =
-    sym (and-yes _ (eq-eqb _ 2 (sym (c@kind-in .ensures) ∙ c@if1 .taken)) ∙ ap (eqb (c@args .port)) (sym (c@port-set-in .ensures)))
+    sym (and-yes _ (eq-eqb _ 2 (sym (c .before .before .kind-in .ensures) ∙ c .before .if1 .taken)) ∙ ap (eqb (c .before .before .before .before .args .port)) (sym (c .port-set-in .ensures)))
 
 -- src/ports.rt:50:1
 returns-2 : tie.Need-returns-2
-returns-2 c = sym (and-no _ (ne-eqb _ 2 (λ q. c@if1 .left (c@kind-in .ensures ∙ q))))
+returns-2 c = sym (and-no _ (ne-eqb _ 2 (λ q. c .if1 .left (c .before .kind-in .ensures ∙ q))))
 
 pub sets-port-spec : {M : Type 1} → statement M
 sets-port-spec =

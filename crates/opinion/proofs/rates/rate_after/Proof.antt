@@ -22,11 +22,11 @@ rate-in-requires c κs = search needs
 -- src/rates.rt:24:9
 returns : tie.Need-returns
 returns c =
-    (λ k h. rate-set _ k (sym (c@kind-in .ensures) ∙ c@if1 .taken) ∙ sym (c@rate-in .ensures), ap rateSettingsOk (c@rate-in .ensures) ∙ rate-fits _ (sym (c@kind-in .ensures) ∙ c@if1 .taken))
+    (λ k h. rate-set _ k (sym (c .before .before .kind-in .ensures) ∙ c .before .if1 .taken) ∙ sym (c .rate-in .ensures), ap rateSettingsOk (c .rate-in .ensures) ∙ rate-fits _ (sym (c .before .before .kind-in .ensures) ∙ c .before .if1 .taken))
 
 -- src/rates.rt:18:1
 returns-2 : tie.Need-returns-2
-returns-2 c = (λ k h. rate-stays _ k (λ q. c@if1 .left (c@kind-in .ensures ∙ q)) ∙ h, c@pre .1)
+returns-2 c = (λ k h. rate-stays _ k (λ q. c .if1 .left (c .before .kind-in .ensures ∙ q)) ∙ h, c .before .before .before .pre .1)
 
 pub rate-after-spec : {M : Type 1} → statement M
 rate-after-spec = tie.close (tie.spec kind-in-requires rate-in-requires returns returns-2)

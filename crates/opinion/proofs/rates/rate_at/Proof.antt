@@ -29,11 +29,11 @@ loop-holds c = (omega arith, fresh-rate _, refl)
 
 -- src/rates.rt:41:27
 entry-at-requires : tie.Need-entry-at-requires Inv-loop μ-loop
-entry-at-requires c κs = (c@pre .0, omega arith)
+entry-at-requires c κs = (c .before .before .before .pre .0, omega arith)
 
 -- src/rates.rt:41:9
 rate-after-requires : tie.Need-rate-after-requires Inv-loop μ-loop
-rate-after-requires c κs = (c@entry-at .ensures .1, c@loop .inv .2)
+rate-after-requires c κs = (c .entry-at .ensures .1, c .before .before .loop .inv .2)
 
 -- src/rates.rt:42:9
 add-i : tie.Need-add-i Inv-loop μ-loop
@@ -46,18 +46,18 @@ loop-less c = search needs
 -- src/rates.rt:40:5
 loop-again : tie.Need-loop-again Inv-loop μ-loop
 loop-again c =
-    let log = c@args .log .now in
-    let i : ℕ = c@loop .i in (
+    let log = c .before .before .before .before .before .args .log .now in
+    let i : ℕ = c .before .before .before .loop .i in (
       omega arith,
-      sym (onward (λ (k : Known). k .rate) log _ i (c@entry-at .ensures .0) (c@rate-after .ensures .0 (knownIn log i) (sym (c@loop .inv .1)))),
-      c@rate-after .ensures .1,
+      sym (onward (λ (k : Known). k .rate) log _ i (c .before .entry-at .ensures .0) (c .rate-after .ensures .0 (knownIn log i) (sym (c .before .before .before .loop .inv .1)))),
+      c .rate-after .ensures .1,
     )
 
 -- src/rates.rt:30:1
 returns : tie.Need-returns Inv-loop μ-loop
 returns c =
-    let last : c@loop .i ≡ c@args .n = omega arith in
-    (c@loop .inv .1 ∙ ap (λ (k : ℕ). knownIn (c@args .log .now) k .rate) last, c@loop .inv .2)
+    let last : c .before .loop .i ≡ c .before .before .before .args .n = omega arith in
+    (c .before .loop .inv .1 ∙ ap (λ (k : ℕ). knownIn (c .before .before .before .args .log .now) k .rate) last, c .before .loop .inv .2)
 
 pub rate-at-spec : {M : Type 1} → statement M
 rate-at-spec =

@@ -15,7 +15,7 @@ use Rattle.opinion.proofs.records.no_link.Reads as no-link-reads
 -- src/records.rt:109:9
 returns : tie.Need-returns
 unfolding linkOf
-returns c = live-slot (λ (l : Link). live (c@args .clock) (l .expiry)) _ (c@args .t1 .link) (lt-ltb _ _ (c@if1 .taken))
+returns c = live-slot (λ (l : Link). live (c .before .args .clock) (l .expiry)) _ (c .before .args .link .link) (lt-ltb _ _ (c .if1 .taken))
 
 -- src/records.rt:111:5
 no-link-requires : tie.Need-no-link-requires
@@ -25,7 +25,7 @@ no-link-requires c κs = search needs
 returns-2 : tie.Need-returns-2
 unfolding linkOf
 returns-2 c =
-    c@no-link .ensures .0 ∙ dead-slot (λ (l : Link). live (c@args .clock) (l .expiry)) _ (c@args .t1 .link) (le-ltb _ _ (c@if1 .left))
+    c .no-link .ensures .0 ∙ dead-slot (λ (l : Link). live (c .before .before .args .clock) (l .expiry)) _ (c .before .before .args .link .link) (le-ltb _ _ (c .before .if1 .left))
 
 pub live-link-spec : {M : Type 1} → statement M
 live-link-spec = tie.close (tie.spec returns no-link-requires returns-2)

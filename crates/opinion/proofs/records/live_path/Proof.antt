@@ -16,7 +16,7 @@ use Rattle.opinion.proofs.records.no_path.Reads as no-path-reads
 returns : tie.Need-returns
 unfolding pathOf
 returns c =
-    (λ d. live-slot (λ (p : Path). live (c@args .clock) (p .expiry)) _ (pathRecord d (c@args .t1)) (lt-ltb _ _ (c@if1 .taken)), c@pre .0, c@pre .1)
+    (λ d. live-slot (λ (p : Path). live (c .before .before .args .clock) (p .expiry)) _ (pathRecord d (c .before .before .args .path)) (lt-ltb _ _ (c .if1 .taken)), c .before .before .pre .0, c .before .before .pre .1)
 
 -- src/records.rt:63:5
 no-path-requires : tie.Need-no-path-requires
@@ -26,7 +26,7 @@ no-path-requires c κs = search needs
 returns-2 : tie.Need-returns-2
 unfolding pathOf
 returns-2 c =
-    (λ d. c@no-path .ensures .0 d ∙ dead-slot (λ (p : Path). live (c@args .clock) (p .expiry)) _ (pathRecord d (c@args .t1)) (le-ltb _ _ (c@if1 .left)), c@no-path .ensures .1, c@no-path .ensures .2)
+    (λ d. c .no-path .ensures .0 d ∙ dead-slot (λ (p : Path). live (c .before .before .before .args .clock) (p .expiry)) _ (pathRecord d (c .before .before .before .args .path)) (le-ltb _ _ (c .before .if1 .left)), c .no-path .ensures .1, c .no-path .ensures .2)
 
 pub live-path-spec : {M : Type 1} → statement M
 live-path-spec = tie.close (tie.spec returns no-path-requires returns-2)

@@ -16,7 +16,7 @@ use Rattle.opinion.proofs.records.no_return.Reads as no-return-reads
 returns : tie.Need-returns
 unfolding returnOf
 returns c =
-    λ key. live-slot (λ (t : Return). live (c@args .clock) (t .expiry)) _ (returnRecordOf key (c@args .t1)) (lt-ltb _ _ (c@if1 .taken))
+    λ key. live-slot (λ (t : Return). live (c .before .before .args .clock) (t .expiry)) _ (returnRecordOf key (c .before .before .args .back)) (lt-ltb _ _ (c .if1 .taken))
 
 -- src/records.rt:187:5
 no-return-requires : tie.Need-no-return-requires
@@ -26,7 +26,7 @@ no-return-requires c κs = search needs
 returns-2 : tie.Need-returns-2
 unfolding returnOf
 returns-2 c =
-    λ key. c@no-return .ensures .0 key ∙ dead-slot (λ (t : Return). live (c@args .clock) (t .expiry)) _ (returnRecordOf key (c@args .t1)) (le-ltb _ _ (c@if1 .left))
+    λ key. c .no-return .ensures .0 key ∙ dead-slot (λ (t : Return). live (c .before .before .before .args .clock) (t .expiry)) _ (returnRecordOf key (c .before .before .before .args .back)) (le-ltb _ _ (c .before .if1 .left))
 
 pub live-return-spec : {M : Type 1} → statement M
 live-return-spec = tie.close (tie.spec returns no-return-requires returns-2)

@@ -1,3 +1,12 @@
+use Rattle.opinion.proofs.Settled.{full, refused, accepted, none-of-one}
+use mathlib.Core.Bool.{not}
+use Rattle.opinion.specs.Steps.{Adds}
+use Rattle.opinion.specs.Log.{knownIn, listedIn}
+use Rattle.history.specs.Opinion.{callRows, listLimit}
+use Rattle.octets.proofs.Listed.{here, past}
+use mathlib.Core.Path.{_≡_, refl, sym, ap, subst, _∙_}
+use borrow.Author.Tests.{eqb-false, le-leb, lt-leb, not-true, not-false}
+use Prim.Native.Nat.{ℕ, _<_}
 use native.Mathlib.Omega.{arith}
 use borrow.Author.Needs.{needs}
 use Rattle.opinion.proofs.settings.set_rate.Statement.{statement}
@@ -14,7 +23,7 @@ listed-requires c κs = search needs
 
 -- src/settings.rt:52:9
 returns : tie.Need-returns
-returns c = ?
+returns c = full _ _ (omega (arith, c .before .listed .ensures .0))
 
 -- src/settings.rt:59:9
 rate-within-requires : tie.Need-rate-within-requires
@@ -22,15 +31,19 @@ rate-within-requires c κs = search needs
 
 -- src/settings.rt:60:9
 returns-2 : tie.Need-returns-2
-returns-2 c = ?
+unfolding callRows
+returns-2 c =
+    refused _ _ (omega (arith, c .before .before .before .listed .ensures .0)) 9 (here _ _ _ _ (ap not (sym (c .before .rate-within .ensures)) ∙ c .if2 .taken)) (eqb-false 9 0 refl)
 
 -- src/settings.rt:62:5
 put-rate-requires : tie.Need-put-rate-requires
-put-rate-requires c κs = ?
+put-rate-requires c κs = (search needs, omega arith, sym (c .before .before .rate-within .ensures) ∙ not-false _ (c .before .if2 .left))
 
 -- src/settings.rt:47:1
 returns-3 : tie.Need-returns-3
-returns-3 c = ?
+unfolding callRows
+returns-3 c =
+    accepted _ _ (omega (arith, c .before .before .before .before .before .listed .ensures .0)) (none-of-one _ 9 (ap not (sym (c .before .before .before .rate-within .ensures)) ∙ c .before .before .if2 .left)) (c .before .before .before .before .before .listed .result) (c .before .before .before .before .before .listed .ensures .0) _ (c .put-rate .ensures)
 
 pub set-rate-spec : {M : Type 1} → statement M
 set-rate-spec =

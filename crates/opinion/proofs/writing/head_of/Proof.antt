@@ -33,7 +33,7 @@ write-number-at-requires-2 c κs = search needs
 -- src/writing.rt:48:1
 returns : tie.Need-returns
 unfolding patch bigEndian
-returns c = rw (c@write-number-at2 .ensures, c@write-number-at .ensures, c@mark-of .ensures)
+returns c = rw (c .before .write-number-at2 .ensures, c .before .before .before .before .write-number-at .ensures, c .before .before .before .before .before .before .mark-of .ensures)
 
 pub head-of-spec : {M : Type 1} → statement M
 head-of-spec =

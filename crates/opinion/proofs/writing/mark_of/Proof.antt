@@ -9,11 +9,11 @@ use Rattle.opinion.proofs.writing.mark_of.Lts as lts
 
 -- src/writing.rt:42:9
 returns : tie.Need-returns
-returns c = sym (then-true _ _ (c@if1 .taken))
+returns c = sym (then-true _ _ (c .if1 .taken))
 
 -- src/writing.rt:38:1
 returns-2 : tie.Need-returns-2
-returns-2 c = sym (then-false _ _ (c@if1 .left))
+returns-2 c = sym (then-false _ _ (c .if1 .left))
 
 pub mark-of-spec : {M : Type 1} → statement M
 mark-of-spec = tie.close (tie.spec returns returns-2)

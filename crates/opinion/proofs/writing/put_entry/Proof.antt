@@ -58,15 +58,15 @@ same-length c = search needs
 returns : tie.Need-returns
 unfolding withEntry
 returns c =
-    let log = c@args .log .now in
-    let n : ℕ = c@args .n in
-    let head = c@args .t3 in
-    let body = c@args .body .now in
+    let log = c .before .before .before .before .before .before .before .before .before .before .before .before .before .before .before .args .log .now in
+    let n : ℕ = c .before .before .before .before .before .before .before .before .before .before .before .before .before .before .before .args .n in
+    let head = c .before .before .before .before .before .before .before .before .before .before .before .before .before .before .before .args .t3 in
+    let body = c .before .before .before .before .before .before .before .before .before .before .before .before .before .before .before .args .body .now in
     let wide : length head ≡ 11 = search needs in
-    c@set-at .ensures
+    c .before .before .set-at .ensures
     ∙ ap (λ (t : List ℕ). patch t 16 ((n + 1) ∷ []))
-    (c@copy-at2 .ensures
-    ∙ ap (λ (t : List ℕ). patch t (17 + 511 * n + 11) body) (c@copy-at .ensures)
+    (c .before .before .before .before .before .before .copy-at2 .ensures
+    ∙ ap (λ (t : List ℕ). patch t (17 + 511 * n + 11) body) (c .before .before .before .before .before .before .before .before .before .before .copy-at .ensures)
     ∙ patch-join log (17 + 511 * n) (17 + 511 * n + 11) head body (omega arith) (omega arith))
 
 pub put-entry-spec : {M : Type 1} → statement M

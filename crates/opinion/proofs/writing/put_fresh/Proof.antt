@@ -1,3 +1,10 @@
+use Rattle.opinion.proofs.Written.{fresh-log}
+use Rattle.opinion.specs.Calls.{IsFresh}
+use Rattle.octets.specs.Part.{patch}
+use lib.ListN.{length}
+use mathlib.Core.Path.{_≡_, sym, ap, subst, _∙_}
+use mathlib.Core.List.{List, [], _∷_}
+use Prim.Native.Nat.{ℕ}
 use native.Mathlib.Omega.{arith}
 use borrow.Author.Needs.{needs}
 use Rattle.opinion.proofs.writing.put_fresh.Statement.{statement}
@@ -25,7 +32,9 @@ same-length c = search needs
 
 -- src/writing.rt:132:1
 returns : tie.Need-returns
-returns c = ?
+returns c =
+    let wide : length (c .before .before .before .before .before .before .before .before .before .before .args .t2) ≡ 16 = search needs in
+    subst (IsFresh (c .before .before .before .before .before .before .before .before .before .before .args .t2)) (sym (c .before .before .set-at .ensures ∙ ap (λ (t : List ℕ). patch t 16 (0 ∷ [])) (c .before .before .before .before .before .before .copy-at .ensures))) (fresh-log (c .before .before .before .before .before .before .before .before .before .before .args .log .now) (c .before .before .before .before .before .before .before .before .before .before .args .t2) (c .before .before .before .before .before .before .before .before .before .before .pre) wide)
 
 pub put-fresh-spec : {M : Type 1} → statement M
 put-fresh-spec =

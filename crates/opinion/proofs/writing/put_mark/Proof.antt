@@ -1,3 +1,11 @@
+use Rattle.rules.specs.Calls.{marks}
+use Rattle.history.specs.After.{called}
+use lib.ListN.{length}
+use Rattle.opinion.proofs.Put.{mark-put}
+use Rattle.opinion.specs.Steps.{Adds, withEntry, headBytes}
+use Prim.Native.Nat.{ℕ}
+use mathlib.Core.List.{List, _++_}
+use mathlib.Core.Path.{_≡_, sym, ap, subst, _∙_}
 use native.Mathlib.Omega.{arith}
 use borrow.Author.Needs.{needs}
 use Rattle.opinion.proofs.writing.put_mark.Statement.{statement}
@@ -25,7 +33,14 @@ same-length c = search needs
 
 -- src/writing.rt:123:1
 returns : tie.Need-returns
-returns c = ?
+returns c =
+    let log = c .before .before .before .before .before .before .before .args .log .now in
+    let n : ℕ = c .before .before .before .before .before .before .before .args .n in
+    let address = c .before .before .before .before .before .before .before .args .t3 in
+    let wide : length address ≡ 16 = search needs in
+    subst (Adds log n (called (marks address (c .before .before .before .before .before .before .before .args .clock))))
+    (sym (c .before .before .put-entry .ensures ∙ ap (λ (h : List ℕ). withEntry log n (h ++ address)) (c .before .before .before .before .before .head-of .ensures)))
+    (mark-put log n (c .before .before .before .before .before .before .before .pre .0) (c .before .before .before .before .before .before .before .pre .1) address wide (c .before .before .before .before .before .before .before .args .clock) (c .before .before .before .before .before .before .before .pre .2))
 
 pub put-mark-spec : {M : Type 1} → statement M
 put-mark-spec =

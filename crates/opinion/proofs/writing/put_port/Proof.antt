@@ -1,3 +1,10 @@
+use Rattle.rules.specs.Calls.{sets-port}
+use Rattle.history.specs.After.{called}
+use Rattle.opinion.proofs.Put.{port-put}
+use Rattle.opinion.specs.Steps.{Adds, withEntry, headBytes}
+use Prim.Native.Nat.{ℕ}
+use mathlib.Core.List.{List, _++_, []}
+use mathlib.Core.Path.{_≡_, sym, ap, subst, _∙_}
 use native.Mathlib.Omega.{arith}
 use borrow.Author.Needs.{needs}
 use Rattle.opinion.proofs.writing.put_port.Statement.{statement}
@@ -25,7 +32,13 @@ same-length c = search needs
 
 -- src/writing.rt:73:1
 returns : tie.Need-returns
-returns c = ?
+returns c =
+    let log = c .before .before .before .before .before .before .before .args .log .now in
+    let n : ℕ = c .before .before .before .before .before .before .before .args .n in
+    let a = c .before .before .before .before .before .before .before .args in
+    subst (Adds log n (called (sets-port (a .port) (a .on) (a .mode) (a .size))))
+    (sym (c .before .before .put-entry .ensures ∙ ap (λ (h : List ℕ). withEntry log n (h ++ [])) (c .before .before .before .before .before .head-of .ensures)))
+    (port-put log n (c .before .before .before .before .before .before .before .pre .0) (c .before .before .before .before .before .before .before .pre .1) (a .port) (a .on) (a .mode) (a .size) (c .before .before .before .before .before .before .before .pre .2) (c .before .before .before .before .before .before .before .pre .3))
 
 pub put-port-spec : {M : Type 1} → statement M
 put-port-spec =

@@ -1,3 +1,7 @@
+use Rattle.opinion.proofs.Put.{rate-put}
+use Rattle.octets.specs.BigEndian.{bigEndian}
+use Rattle.octets.specs.Part.{patch}
+use Prim.Native.Nat.{ℕ}
 use native.Mathlib.Omega.{arith}
 use borrow.Author.Needs.{needs}
 use Rattle.opinion.proofs.writing.put_rate.Statement.{statement}
@@ -50,7 +54,12 @@ same-length c = search needs
 
 -- src/writing.rt:82:1
 returns : tie.Need-returns
-returns c = ?
+unfolding patch bigEndian
+returns c =
+    let log = c .before .before .before .before .before .before .before .before .before .before .before .before .before .before .before .before .args .log .now in
+    let n : ℕ = c .before .before .before .before .before .before .before .before .before .before .before .before .before .before .before .before .args .n in
+    rw (c .before .before .put-entry .ensures, c .before .before .before .before .before .head-of .ensures, c .before .before .before .before .before .before .before .write-number-at3 .ensures, c .before .before .before .before .before .before .before .before .before .before .write-number-at2 .ensures, c .before .before .before .before .before .before .before .before .before .before .before .before .before .write-number-at .ensures)
+    (rate-put log n (c .before .before .before .before .before .before .before .before .before .before .before .before .before .before .before .before .pre .0) (c .before .before .before .before .before .before .before .before .before .before .before .before .before .before .before .before .pre .1) (c .before .before .before .before .before .before .before .before .before .before .before .before .before .before .before .before .args .rate) (c .before .before .before .before .before .before .before .before .before .before .before .before .before .before .before .before .pre .2))
 
 pub put-rate-spec : {M : Type 1} → statement M
 put-rate-spec =

@@ -1,3 +1,11 @@
+use Rattle.rules.specs.Calls.{removes}
+use Rattle.history.specs.After.{called}
+use lib.ListN.{length}
+use Rattle.opinion.proofs.Put.{removed-put}
+use Rattle.opinion.specs.Steps.{Adds, withEntry, headBytes}
+use Prim.Native.Nat.{ℕ}
+use mathlib.Core.List.{List, _++_}
+use mathlib.Core.Path.{_≡_, sym, ap, subst, _∙_}
 use native.Mathlib.Omega.{arith}
 use borrow.Author.Needs.{needs}
 use Rattle.opinion.proofs.writing.put_removed.Statement.{statement}
@@ -25,7 +33,14 @@ same-length c = search needs
 
 -- src/writing.rt:105:1
 returns : tie.Need-returns
-returns c = ?
+returns c =
+    let log = c .before .before .before .before .before .before .before .args .log .now in
+    let n : ℕ = c .before .before .before .before .before .before .before .args .n in
+    let address = c .before .before .before .before .before .before .before .args .t3 in
+    let wide : length address ≡ 16 = search needs in
+    subst (Adds log n (called (removes address)))
+    (sym (c .before .before .put-entry .ensures ∙ ap (λ (h : List ℕ). withEntry log n (h ++ address)) (c .before .before .before .before .before .head-of .ensures)))
+    (removed-put log n (c .before .before .before .before .before .before .before .pre .0) (c .before .before .before .before .before .before .before .pre .1) address wide)
 
 pub put-removed-spec : {M : Type 1} → statement M
 put-removed-spec =
