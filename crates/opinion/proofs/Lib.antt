@@ -8,4 +8,5 @@ pub mod Written
 pub mod Put
 pub mod Steps
 pub mod Views
+pub mod Judged
 pub mod Settled

@@ -112,11 +112,11 @@ module _ (log : List ℕ) (n : ℕ) (a : Arrival) (room : ℕ) (none : eqb (pack
   accepted-packet =
       let (under, (wide, (on, (inTime, _)))) = passed in
       record {
-        few = omega (arith, leb-false _ _ under, entries-length log n);
-        wide = ltb-false _ _ wide;
+        few = omega (arith, leb-false listLimit (length (entriesOf log n)) under, entries-length log n);
+        wide = ltb-false room leastOutput wide;
         port = on-port log n (a .port) (not-false _ on);
-        clock = leb-false _ _ (or-no-left _ _ inTime);
-        readable = reads-longest _ (a .bytes) (sym (ap (λ (x : ℕ). eqb x 0) (none-first rows read passed)) ∙ none);
+        clock = leb-false clockLimit (a .clock) (or-no-left _ _ inTime);
+        readable = reads-longest (knownOf (ownIn log) (entriesOf log n) .port (a .port) .size) (a .bytes) (sym (ap (λ (x : ℕ). eqb x 0) (none-first rows read passed)) ∙ none);
       }
 
 module _ (log : List ℕ) (a : Arrival) (output : List ℕ) where

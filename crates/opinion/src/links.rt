@@ -4,6 +4,7 @@ use super::effects::RENEWED;
 use super::log::RENUMBERS;
 use super::log::arrived_in;
 use super::log::entry_at;
+use super::log::is_same;
 use super::log::kind_in;
 use super::log::packet_in;
 use super::paths::path_of;
@@ -29,7 +30,7 @@ fn after_request(log: &[u8], effects: &[u8], i: usize, id: [u8; 16], before: See
     let e = entry_at(log, i);
     let packet = packet_in(e);
     let made = packet::link_id_of(packet);
-    if octets::equal16(made, id) {
+    if is_same(made, id) {
         let parts = packet::parts_of(packet);
         let destination = parts.destination;
         let path = path_of(log, effects, i, destination);
@@ -50,7 +51,7 @@ fn after_carry(log: &[u8], i: usize, id: [u8; 16], before: SeenLink) -> SeenLink
     let packet = packet_in(e);
     let parts = packet::parts_of(packet);
     let destination = parts.destination;
-    if octets::equal16(destination, id) {
+    if is_same(destination, id) {
         let old = before.link;
         let link = renewed_link(old, packet, arrived_in(e));
         return SeenLink { there: true, link };

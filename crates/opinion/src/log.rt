@@ -210,3 +210,10 @@ pub fn has_address(e: &[u8], address: [u8; 16]) -> bool
 {
     octets::equal_at(e, BODY_AT, &address)
 }
+
+// Whether two addresses are equal.
+pub fn is_same(a: [u8; 16], b: [u8; 16]) -> bool
+    ensures { λ r. ⌜ r ≡ same a b ⌝ }
+{
+    octets::equal16(a, b)
+}

@@ -6,6 +6,7 @@ use super::log::RENUMBERS;
 use super::log::arrived_in;
 use super::log::entry_at;
 use super::log::has_address;
+use super::log::is_same;
 use super::log::kind_in;
 use super::log::packet_in;
 use super::ports::image_in;
@@ -34,7 +35,7 @@ fn after_announce(log: &[u8], i: usize, destination: [u8; 16], before: SeenPath)
     let packet = packet_in(e);
     let parts = packet::parts_of(packet);
     let other = parts.destination;
-    if octets::equal16(other, destination) {
+    if is_same(other, destination) {
         let arrived = arrived_in(e);
         let clock = arrived.clock;
         let settings = port_at(log, i, arrived.port as usize);
@@ -55,7 +56,7 @@ fn after_limit(log: &[u8], i: usize, destination: [u8; 16], before: SeenPath) ->
     let e = entry_at(log, i);
     let parts = packet::parts_of(packet_in(e));
     let other = parts.destination;
-    if octets::equal16(other, destination) {
+    if is_same(other, destination) {
         let arrived = arrived_in(e);
         let rate = rate_at(log, i);
         return limited_path(rate, before, arrived.clock);

@@ -4,6 +4,7 @@ use super::effects::RETURNS;
 use super::log::RENUMBERS;
 use super::log::arrived_in;
 use super::log::entry_at;
+use super::log::is_same;
 use super::log::kind_in;
 use super::log::packet_in;
 use super::paths::path_of;
@@ -29,7 +30,7 @@ fn after_data(log: &[u8], effects: &[u8], i: usize, key: [u8; 16], before: SeenR
     let e = entry_at(log, i);
     let packet = packet_in(e);
     let made = return_key(packet);
-    if octets::equal16(made, key) {
+    if is_same(made, key) {
         let parts = packet::parts_of(packet);
         let destination = parts.destination;
         let path = path_of(log, effects, i, destination);
@@ -47,7 +48,7 @@ fn after_proof(log: &[u8], i: usize, key: [u8; 16], before: SeenReturn) -> SeenR
 {
     let parts = packet::parts_of(packet_in(entry_at(log, i)));
     let destination = parts.destination;
-    if octets::equal16(destination, key) {
+    if is_same(destination, key) {
         return no_return();
     }
     before

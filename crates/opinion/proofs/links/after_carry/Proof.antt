@@ -1,7 +1,7 @@
+use Rattle.rules.specs.Writes.{renewedLink}
 use Rattle.opinion.proofs.Steps.{entry-reads, entry-whole, entry-arrival, packet-arrival, carry-step, another-carry}
 use Rattle.judging.specs.Seen.{linkOf}
 use Rattle.rules.specs.declared.Link.{Link}
-use Rattle.opinion.proofs.Reading.{address-same}
 use Rattle.packet.specs.declared.Parts.{Parts}
 use Rattle.packet.specs.Read.{partsOf}
 use Rattle.octets.specs.Choice.{same, _then_otherwise_}
@@ -17,7 +17,6 @@ use Rattle.opinion.proofs.links.after_carry.Statement.{statement}
 use Rattle.opinion.proofs.links.after_carry.Tie as tie
 use Rattle.opinion.proofs.links.after_carry.Reads as reads
 use Rattle.opinion.proofs.links.after_carry.Lts as lts
-use Rattle.octets.proofs.equal16.Reads as equal16-reads
 use Rattle.opinion.proofs.log.arrived_in.Reads as arrived-in-reads
 use Rattle.opinion.proofs.log.entry_at.Reads as entry-at-reads
 use Rattle.opinion.proofs.log.packet_in.Reads as packet-in-reads
@@ -40,8 +39,8 @@ parts-of-requires c κs =
     entry-whole log i _ _ (c .before .entry-at .ensures .0) (c .packet-in .ensures .0) 5 refl (c .before .before .before .pre .2)
 
 -- src/links.rt:53:8
-equal16-requires : tie.Need-equal16-requires
-equal16-requires c κs = search needs
+is-same-requires : tie.Need-is-same-requires
+is-same-requires c κs = search needs
 
 -- src/links.rt:55:46
 arrived-in-requires : tie.Need-arrived-in-requires
@@ -56,14 +55,12 @@ renewed-link-requires c κs =
 
 -- src/links.rt:56:9
 returns : tie.Need-returns
-unfolding linkOf _then_otherwise_
+unfolding linkOf renewedLink _then_otherwise_
 returns c =
     let log = c .before .before .before .before .before .before .before .before .before .before .args .log .now in
     let i : ℕ = c .before .before .before .before .before .before .before .before .before .before .args .i in
     let there : c .before .before .before .before .before .before .parts-of .result .destination ≡ partsOf (c .before .before .before .before .before .before .before .packet-in .result .now) .destination = ap (λ (x : Parts). x .destination) (c .before .before .before .before .before .before .parts-of .ensures) in
-    let wide : length (c .before .before .before .before .before .before .parts-of .result .destination) ≡ 16 = ap length there ∙ parts-wide _ (entry-whole log i _ _ (c .before .before .before .before .before .before .before .before .entry-at .ensures .0) (c .before .before .before .before .before .before .before .packet-in .ensures .0) 5 refl (c .before .before .before .before .before .before .before .before .before .before .pre .2)) .destination in
-    let wide-key : length (c .before .before .before .before .before .before .before .before .before .before .args .id) ≡ 16 = search needs in
-    let found = ap (λ (x : List ℕ). same x (c .before .before .before .before .before .before .before .before .before .before .args .id)) (sym there) ∙ sym (address-same _ _ wide wide-key _ (c .before .before .before .before .equal16 .ensures)) in
+    let found = ap (λ (x : List ℕ). same x (c .before .before .before .before .before .before .before .before .before .before .args .id)) (sym there) ∙ sym (c .before .before .before .before .is-same .ensures) in
     let made = c .renewed-link .ensures in
     record {
       is = carry-step log i (c .before .before .before .before .before .before .before .before .before .before .args .id) (c .before .before .before .before .before .before .before .before .before .before .args .before) (c .before .before .before .before .before .before .before .before .before .before .pre .3 .is) _ (entry-arrival log i _ _ (c .before .before .before .before .before .before .before .before .entry-at .ensures .0) (c .before .before .before .before .before .before .before .packet-in .ensures .0) (c .before .arrived-in .result) (c .before .arrived-in .ensures .0)) (c .before .before .before .before .before .before .before .before .before .before .pre .2) (found ∙ c .before .before .before .if1 .taken) _ made;
@@ -77,9 +74,7 @@ returns-2 c =
     let log = c .before .before .before .before .before .before .before .args .log .now in
     let i : ℕ = c .before .before .before .before .before .before .before .args .i in
     let there : c .before .before .before .parts-of .result .destination ≡ partsOf (c .before .before .before .before .packet-in .result .now) .destination = ap (λ (x : Parts). x .destination) (c .before .before .before .parts-of .ensures) in
-    let wide : length (c .before .before .before .parts-of .result .destination) ≡ 16 = ap length there ∙ parts-wide _ (entry-whole log i _ _ (c .before .before .before .before .before .entry-at .ensures .0) (c .before .before .before .before .packet-in .ensures .0) 5 refl (c .before .before .before .before .before .before .before .pre .2)) .destination in
-    let wide-key : length (c .before .before .before .before .before .before .before .args .id) ≡ 16 = search needs in
-    let found = ap (λ (x : List ℕ). same x (c .before .before .before .before .before .before .before .args .id)) (sym there) ∙ sym (address-same _ _ wide wide-key _ (c .before .equal16 .ensures)) in
+    let found = ap (λ (x : List ℕ). same x (c .before .before .before .before .before .before .before .args .id)) (sym there) ∙ sym (c .before .is-same .ensures) in
     record {
       is = another-carry log i (c .before .before .before .before .before .before .before .args .id) (c .before .before .before .before .before .before .before .args .before) (c .before .before .before .before .before .before .before .pre .3 .is) _ (packet-arrival log i _ _ (c .before .before .before .before .before .entry-at .ensures .0) (c .before .before .before .before .packet-in .ensures .0)) (c .before .before .before .before .before .before .before .pre .2) (found ∙ c .if1 .left);
       asking = c .before .before .before .before .before .before .before .pre .3 .asking;
@@ -93,7 +88,7 @@ after-carry-spec =
     entry-at-requires
     packet-in-requires
     parts-of-requires
-    equal16-requires
+    is-same-requires
     arrived-in-requires
     renewed-link-requires
     returns

@@ -2,7 +2,6 @@ use Rattle.opinion.proofs.Steps.{entry-reads, entry-whole, entry-arriva
 use Rattle.judging.specs.Seen.{pathOf, linkOf}
 use Rattle.rules.specs.Writes.{linkRecord}
 use Rattle.rules.specs.declared.Link.{Link}
-use Rattle.opinion.proofs.Reading.{address-same}
 use Rattle.packet.specs.declared.Parts.{Parts}
 use Rattle.packet.specs.Read.{partsOf}
 use Rattle.octets.specs.Choice.{same, _then_otherwise_}
@@ -18,7 +17,6 @@ use Rattle.opinion.proofs.links.after_request.Statement.{statement}
 use Rattle.opinion.proofs.links.after_request.Tie as tie
 use Rattle.opinion.proofs.links.after_request.Reads as reads
 use Rattle.opinion.proofs.links.after_request.Lts as lts
-use Rattle.octets.proofs.equal16.Reads as equal16-reads
 use Rattle.opinion.proofs.log.arrived_in.Reads as arrived-in-reads
 use Rattle.opinion.proofs.log.entry_at.Reads as entry-at-reads
 use Rattle.opinion.proofs.log.packet_in.Reads as packet-in-reads
@@ -43,8 +41,8 @@ link-id-of-requires c κs =
     entry-reads log i _ _ (c .before .entry-at .ensures .0) (c .packet-in .ensures .0) 4 refl (c .before .before .before .before .pre .2)
 
 -- src/links.rt:32:8
-equal16-requires : tie.Need-equal16-requires
-equal16-requires c κs = search needs
+is-same-requires : tie.Need-is-same-requires
+is-same-requires c κs = search needs
 
 -- src/links.rt:33:13
 parts-of-requires : tie.Need-parts-of-requires
@@ -74,9 +72,7 @@ unfolding linkOf _then_otherwise_ linkRecord
 returns c =
     let log = c .before .before .before .before .before .before .before .before .before .before .before .before .args .log .now in
     let i : ℕ = c .before .before .before .before .before .before .before .before .before .before .before .before .args .i in
-    let wide : length (c .before .before .before .before .before .before .before .link-id-of .result) ≡ 16 = search needs in
-    let wide-key : length (c .before .before .before .before .before .before .before .before .before .before .before .before .args .id) ≡ 16 = search needs in
-    let found = ap (λ (x : List ℕ). same x (c .before .before .before .before .before .before .before .before .before .before .before .before .args .id)) (sym (c .before .before .before .before .before .before .before .link-id-of .ensures)) ∙ sym (address-same _ _ wide wide-key _ (c .before .before .before .before .before .before .equal16 .ensures)) in
+    let found = ap (λ (x : List ℕ). same x (c .before .before .before .before .before .before .before .before .before .before .before .before .args .id)) (sym (c .before .before .before .before .before .before .before .link-id-of .ensures)) ∙ sym (c .before .before .before .before .before .before .is-same .ensures) in
     let made = c .link-record .ensures in
     let there : c .before .before .before .before .parts-of .result .destination ≡ partsOf (c .before .before .before .before .before .before .before .before .packet-in .result .now) .destination = ap (λ (x : Parts). x .destination) (c .before .before .before .before .parts-of .ensures) in
     record {
@@ -91,9 +87,7 @@ returns-2 : tie.Need-returns-2
 returns-2 c =
     let log = c .before .before .before .before .before .before .before .args .log .now in
     let i : ℕ = c .before .before .before .before .before .before .before .args .i in
-    let wide : length (c .before .before .link-id-of .result) ≡ 16 = search needs in
-    let wide-key : length (c .before .before .before .before .before .before .before .args .id) ≡ 16 = search needs in
-    let found = ap (λ (x : List ℕ). same x (c .before .before .before .before .before .before .before .args .id)) (sym (c .before .before .link-id-of .ensures)) ∙ sym (address-same _ _ wide wide-key _ (c .before .equal16 .ensures)) in
+    let found = ap (λ (x : List ℕ). same x (c .before .before .before .before .before .before .before .args .id)) (sym (c .before .before .link-id-of .ensures)) ∙ sym (c .before .is-same .ensures) in
     record {
       is = another-ask log i (c .before .before .before .before .before .before .before .args .id) (c .before .before .before .before .before .before .before .args .before) (c .before .before .before .before .before .before .before .pre .3 .is) _ (packet-arrival log i _ _ (c .before .before .before .before .entry-at .ensures .0) (c .before .before .before .packet-in .ensures .0)) (c .before .before .before .before .before .before .before .pre .2) (found ∙ c .if1 .left);
       asking = c .before .before .before .before .before .before .before .pre .3 .asking;
@@ -107,7 +101,7 @@ after-request-spec =
     entry-at-requires
     packet-in-requires
     link-id-of-requires
-    equal16-requires
+    is-same-requires
     parts-of-requires
     path-of-requires
     arrived-in-requires

@@ -3,7 +3,6 @@ use Rattle.opinion.proofs.Steps.{entry-whole, entry-arrival, packet-arr
 use Rattle.judging.specs.Steps.{LimitsPath}
 use Rattle.rules.specs.declared.RateSettings.{RateSettings}
 use Rattle.rules.specs.Relay.{Path}
-use Rattle.opinion.proofs.Reading.{address-same}
 use Rattle.packet.specs.declared.Parts.{Parts}
 use Rattle.packet.specs.Read.{partsOf}
 use Rattle.octets.specs.Choice.{same}
@@ -18,7 +17,6 @@ use Rattle.opinion.proofs.paths.after_limit.Statement.{statement}
 use Rattle.opinion.proofs.paths.after_limit.Tie as tie
 use Rattle.opinion.proofs.paths.after_limit.Reads as reads
 use Rattle.opinion.proofs.paths.after_limit.Lts as lts
-use Rattle.octets.proofs.equal16.Reads as equal16-reads
 use Rattle.opinion.proofs.log.arrived_in.Reads as arrived-in-reads
 use Rattle.opinion.proofs.log.entry_at.Reads as entry-at-reads
 use Rattle.opinion.proofs.log.packet_in.Reads as packet-in-reads
@@ -42,8 +40,8 @@ parts-of-requires c κs =
     entry-whole log i _ _ (c .before .entry-at .ensures .0) (c .packet-in .ensures .0) 2 refl (c .before .before .before .pre .2)
 
 -- src/paths.rt:58:8
-equal16-requires : tie.Need-equal16-requires
-equal16-requires c κs = search needs
+is-same-requires : tie.Need-is-same-requires
+is-same-requires c κs = search needs
 
 -- src/paths.rt:59:13
 arrived-in-requires : tie.Need-arrived-in-requires
@@ -63,9 +61,7 @@ returns c =
     let log = c .before .before .before .before .before .before .before .before .before .before .args .log .now in
     let i : ℕ = c .before .before .before .before .before .before .before .before .before .before .args .i in
     let there : c .before .before .before .before .before .before .parts-of .result .destination ≡ partsOf (c .before .before .before .before .before .before .before .packet-in .result .now) .destination = ap (λ (x : Parts). x .destination) (c .before .before .before .before .before .before .parts-of .ensures) in
-    let wide : length (c .before .before .before .before .before .before .parts-of .result .destination) ≡ 16 = ap length there ∙ parts-wide _ (entry-whole log i _ _ (c .before .before .before .before .before .before .before .before .entry-at .ensures .0) (c .before .before .before .before .before .before .before .packet-in .ensures .0) 2 refl (c .before .before .before .before .before .before .before .before .before .before .pre .2)) .destination in
-    let wide-key : length (c .before .before .before .before .before .before .before .before .before .before .args .destination) ≡ 16 = search needs in
-    let found = ap (λ (x : List ℕ). same x (c .before .before .before .before .before .before .before .before .before .before .args .destination)) (sym there) ∙ sym (address-same _ _ wide wide-key _ (c .before .before .before .before .equal16 .ensures)) in
+    let found = ap (λ (x : List ℕ). same x (c .before .before .before .before .before .before .before .before .before .before .args .destination)) (sym there) ∙ sym (c .before .before .before .before .is-same .ensures) in
     let limits = c .limited-path .ensures .0 in
     record {
       is = limit-step log i (c .before .before .before .before .before .before .before .before .before .before .args .destination) (c .before .before .before .before .before .before .before .before .before .before .args .before) (c .before .before .before .before .before .before .before .before .before .before .pre .3 .is) _ (entry-arrival log i _ _ (c .before .before .before .before .before .before .before .before .entry-at .ensures .0) (c .before .before .before .before .before .before .before .packet-in .ensures .0) (c .before .before .arrived-in .result) (c .before .before .arrived-in .ensures .0)) (c .before .before .before .before .before .before .before .before .before .before .pre .2) (found ∙ c .before .before .before .if1 .taken) _
@@ -80,9 +76,7 @@ returns-2 c =
     let log = c .before .before .before .before .before .before .before .args .log .now in
     let i : ℕ = c .before .before .before .before .before .before .before .args .i in
     let there : c .before .before .before .parts-of .result .destination ≡ partsOf (c .before .before .before .before .packet-in .result .now) .destination = ap (λ (x : Parts). x .destination) (c .before .before .before .parts-of .ensures) in
-    let wide : length (c .before .before .before .parts-of .result .destination) ≡ 16 = ap length there ∙ parts-wide _ (entry-whole log i _ _ (c .before .before .before .before .before .entry-at .ensures .0) (c .before .before .before .before .packet-in .ensures .0) 2 refl (c .before .before .before .before .before .before .before .pre .2)) .destination in
-    let wide-key : length (c .before .before .before .before .before .before .before .args .destination) ≡ 16 = search needs in
-    let found = ap (λ (x : List ℕ). same x (c .before .before .before .before .before .before .before .args .destination)) (sym there) ∙ sym (address-same _ _ wide wide-key _ (c .before .equal16 .ensures)) in
+    let found = ap (λ (x : List ℕ). same x (c .before .before .before .before .before .before .before .args .destination)) (sym there) ∙ sym (c .before .is-same .ensures) in
     record {
       is = another-limit log i (c .before .before .before .before .before .before .before .args .destination) (c .before .before .before .before .before .before .before .args .before) (c .before .before .before .before .before .before .before .pre .3 .is) _ (packet-arrival log i _ _ (c .before .before .before .before .before .entry-at .ensures .0) (c .before .before .before .before .packet-in .ensures .0)) (c .before .before .before .before .before .before .before .pre .2) (found ∙ c .if1 .left);
       fits = c .before .before .before .before .before .before .before .pre .3 .fits;
@@ -96,7 +90,7 @@ after-limit-spec =
     entry-at-requires
     packet-in-requires
     parts-of-requires
-    equal16-requires
+    is-same-requires
     arrived-in-requires
     rate-at-requires
     limited-path-requires

@@ -1,7 +1,6 @@
 use Rattle.opinion.proofs.Steps.{entry-reads, entry-whole, entry-arrival, packet-arrival, data-step, another-data, made-ports}
 use Rattle.judging.specs.Seen.{pathOf}
 use Rattle.rules.specs.Writes.{returnKey}
-use Rattle.opinion.proofs.Reading.{address-same}
 use Rattle.packet.specs.declared.Parts.{Parts}
 use Rattle.packet.specs.Read.{partsOf}
 use Rattle.octets.specs.Choice.{same}
@@ -17,7 +16,6 @@ use Rattle.opinion.proofs.returns.after_data.Statement.{statement}
 use Rattle.opinion.proofs.returns.after_data.Tie as tie
 use Rattle.opinion.proofs.returns.after_data.Reads as reads
 use Rattle.opinion.proofs.returns.after_data.Lts as lts
-use Rattle.octets.proofs.equal16.Reads as equal16-reads
 use Rattle.opinion.proofs.log.arrived_in.Reads as arrived-in-reads
 use Rattle.opinion.proofs.log.entry_at.Reads as entry-at-reads
 use Rattle.opinion.proofs.log.packet_in.Reads as packet-in-reads
@@ -42,8 +40,8 @@ return-key-requires c κs =
     entry-reads log i _ _ (c .before .entry-at .ensures .0) (c .packet-in .ensures .0) 3 refl (c .before .before .before .before .pre .2)
 
 -- src/returns.rt:32:8
-equal16-requires : tie.Need-equal16-requires
-equal16-requires c κs = search needs
+is-same-requires : tie.Need-is-same-requires
+is-same-requires c κs = search needs
 
 -- src/returns.rt:33:13
 parts-of-requires : tie.Need-parts-of-requires
@@ -70,9 +68,7 @@ unfolding returnKey
 returns c =
     let log = c .before .before .before .before .before .before .before .before .before .before .before .before .args .log .now in
     let i : ℕ = c .before .before .before .before .before .before .before .before .before .before .before .before .args .i in
-    let wide : length (c .before .before .before .before .before .before .before .return-key .result) ≡ 16 = search needs in
-    let wide-key : length (c .before .before .before .before .before .before .before .before .before .before .before .before .args .key) ≡ 16 = search needs in
-    let found = ap (λ (x : List ℕ). same x (c .before .before .before .before .before .before .before .before .before .before .before .before .args .key)) (sym (c .before .before .before .before .before .before .before .return-key .ensures)) ∙ sym (address-same _ _ wide wide-key _ (c .before .before .before .before .before .before .equal16 .ensures)) in
+    let found = ap (λ (x : List ℕ). same x (c .before .before .before .before .before .before .before .before .before .before .before .before .args .key)) (sym (c .before .before .before .before .before .before .before .return-key .ensures)) ∙ sym (c .before .before .before .before .before .before .is-same .ensures) in
     let made = c .return-record .ensures (c .before .before .before .before .before .before .before .before .packet-in .result .now) in
     let there : c .before .before .before .before .parts-of .result .destination ≡ partsOf (c .before .before .before .before .before .before .before .before .packet-in .result .now) .destination = ap (λ (x : Parts). x .destination) (c .before .before .before .before .parts-of .ensures) in
     let ports = made-ports _ _ _ made in
@@ -89,9 +85,7 @@ unfolding returnKey
 returns-2 c =
     let log = c .before .before .before .before .before .before .before .args .log .now in
     let i : ℕ = c .before .before .before .before .before .before .before .args .i in
-    let wide : length (c .before .before .return-key .result) ≡ 16 = search needs in
-    let wide-key : length (c .before .before .before .before .before .before .before .args .key) ≡ 16 = search needs in
-    let found = ap (λ (x : List ℕ). same x (c .before .before .before .before .before .before .before .args .key)) (sym (c .before .before .return-key .ensures)) ∙ sym (address-same _ _ wide wide-key _ (c .before .equal16 .ensures)) in
+    let found = ap (λ (x : List ℕ). same x (c .before .before .before .before .before .before .before .args .key)) (sym (c .before .before .return-key .ensures)) ∙ sym (c .before .is-same .ensures) in
     record {
       is = another-data log i (c .before .before .before .before .before .before .before .args .key) (c .before .before .before .before .before .before .before .args .before) (c .before .before .before .before .before .before .before .pre .3 .is) _ (packet-arrival log i _ _ (c .before .before .before .before .entry-at .ensures .0) (c .before .before .before .packet-in .ensures .0)) (c .before .before .before .before .before .before .before .pre .2) (found ∙ c .if1 .left);
       arrival = c .before .before .before .before .before .before .before .pre .3 .arrival;
@@ -105,7 +99,7 @@ after-data-spec =
     entry-at-requires
     packet-in-requires
     return-key-requires
-    equal16-requires
+    is-same-requires
     parts-of-requires
     path-of-requires
     arrived-in-requires

@@ -1,5 +1,4 @@
 use Rattle.opinion.proofs.Steps.{entry-whole, packet-arrival, proof-step, another-proof}
-use Rattle.opinion.proofs.Reading.{address-same}
 use Rattle.packet.specs.declared.Parts.{Parts}
 use Rattle.packet.specs.Read.{partsOf}
 use Rattle.octets.specs.Choice.{same}
@@ -15,7 +14,6 @@ use Rattle.opinion.proofs.returns.after_proof.Statement.{statement}
 use Rattle.opinion.proofs.returns.after_proof.Tie as tie
 use Rattle.opinion.proofs.returns.after_proof.Reads as reads
 use Rattle.opinion.proofs.returns.after_proof.Lts as lts
-use Rattle.octets.proofs.equal16.Reads as equal16-reads
 use Rattle.opinion.proofs.log.entry_at.Reads as entry-at-reads
 use Rattle.opinion.proofs.log.packet_in.Reads as packet-in-reads
 use Rattle.opinion.proofs.records.no_return.Reads as no-return-reads
@@ -37,8 +35,8 @@ parts-of-requires c κs =
     entry-whole log i _ _ (c .before .entry-at .ensures .0) (c .packet-in .ensures .0) 6 refl (c .before .before .before .pre .2)
 
 -- src/returns.rt:50:8
-equal16-requires : tie.Need-equal16-requires
-equal16-requires c κs = search needs
+is-same-requires : tie.Need-is-same-requires
+is-same-requires c κs = search needs
 
 -- src/returns.rt:51:9
 no-return-requires : tie.Need-no-return-requires
@@ -50,9 +48,7 @@ returns c =
     let log = c .before .before .before .before .before .before .before .before .args .log .now in
     let i : ℕ = c .before .before .before .before .before .before .before .before .args .i in
     let there : c .before .before .before .before .parts-of .result .destination ≡ partsOf (c .before .before .before .before .before .packet-in .result .now) .destination = ap (λ (x : Parts). x .destination) (c .before .before .before .before .parts-of .ensures) in
-    let wide : length (c .before .before .before .before .parts-of .result .destination) ≡ 16 = ap length there ∙ parts-wide _ (entry-whole log i _ _ (c .before .before .before .before .before .before .entry-at .ensures .0) (c .before .before .before .before .before .packet-in .ensures .0) 6 refl (c .before .before .before .before .before .before .before .before .pre .2)) .destination in
-    let wide-key : length (c .before .before .before .before .before .before .before .before .args .key) ≡ 16 = search needs in
-    let found = ap (λ (x : List ℕ). same x (c .before .before .before .before .before .before .before .before .args .key)) (sym there) ∙ sym (address-same _ _ wide wide-key _ (c .before .before .equal16 .ensures)) in
+    let found = ap (λ (x : List ℕ). same x (c .before .before .before .before .before .before .before .before .args .key)) (sym there) ∙ sym (c .before .before .is-same .ensures) in
     record {
       is = c .no-return .ensures .0 (c .before .before .before .before .before .before .before .before .args .key) ∙ proof-step log i (c .before .before .before .before .before .before .before .before .args .key) (c .before .before .before .before .before .before .before .before .args .before) (c .before .before .before .before .before .before .before .before .pre .3 .is) _ (packet-arrival log i _ _ (c .before .before .before .before .before .before .entry-at .ensures .0) (c .before .before .before .before .before .packet-in .ensures .0)) (c .before .before .before .before .before .before .before .before .pre .2) (found ∙ c .before .if1 .taken);
       arrival = c .no-return .ensures .1;
@@ -65,9 +61,7 @@ returns-2 c =
     let log = c .before .before .before .before .before .before .before .args .log .now in
     let i : ℕ = c .before .before .before .before .before .before .before .args .i in
     let there : c .before .before .before .parts-of .result .destination ≡ partsOf (c .before .before .before .before .packet-in .result .now) .destination = ap (λ (x : Parts). x .destination) (c .before .before .before .parts-of .ensures) in
-    let wide : length (c .before .before .before .parts-of .result .destination) ≡ 16 = ap length there ∙ parts-wide _ (entry-whole log i _ _ (c .before .before .before .before .before .entry-at .ensures .0) (c .before .before .before .before .packet-in .ensures .0) 6 refl (c .before .before .before .before .before .before .before .pre .2)) .destination in
-    let wide-key : length (c .before .before .before .before .before .before .before .args .key) ≡ 16 = search needs in
-    let found = ap (λ (x : List ℕ). same x (c .before .before .before .before .before .before .before .args .key)) (sym there) ∙ sym (address-same _ _ wide wide-key _ (c .before .equal16 .ensures)) in
+    let found = ap (λ (x : List ℕ). same x (c .before .before .before .before .before .before .before .args .key)) (sym there) ∙ sym (c .before .is-same .ensures) in
     record {
       is = another-proof log i (c .before .before .before .before .before .before .before .args .key) (c .before .before .before .before .before .before .before .args .before) (c .before .before .before .before .before .before .before .pre .3 .is) _ (packet-arrival log i _ _ (c .before .before .before .before .before .entry-at .ensures .0) (c .before .before .before .before .packet-in .ensures .0)) (c .before .before .before .before .before .before .before .pre .2) (found ∙ c .if1 .left);
       arrival = c .before .before .before .before .before .before .before .pre .3 .arrival;
@@ -81,7 +75,7 @@ after-proof-spec =
     entry-at-requires
     packet-in-requires
     parts-of-requires
-    equal16-requires
+    is-same-requires
     no-return-requires
     returns
     returns-2)

@@ -20,7 +20,7 @@ use Rattle.opinion.proofs.writing.put_added.Reads as put-added-reads
 
 -- src/settings.rt:88:9
 listed-requires : tie.Need-listed-requires
-listed-requires c κs = ?
+listed-requires c κs = search needs
 
 -- src/settings.rt:90:9
 returns : tie.Need-returns
@@ -28,7 +28,7 @@ returns c = full _ _ (omega (arith, c .before .listed .ensures .0))
 
 -- src/settings.rt:92:8
 is-local-requires : tie.Need-is-local-requires
-is-local-requires c κs = ?
+is-local-requires c κs = (search needs, c .before .before .before .listed .ensures .1)
 
 -- src/settings.rt:93:9
 returns-2 : tie.Need-returns-2
@@ -38,7 +38,7 @@ returns-2 c =
 
 -- src/settings.rt:95:8
 local-number-requires : tie.Need-local-number-requires
-local-number-requires c κs = ?
+local-number-requires c κs = (search needs, c .before .before .before .before .before .before .before .listed .ensures .1)
 
 -- src/settings.rt:96:9
 returns-3 : tie.Need-returns-3
@@ -48,7 +48,7 @@ returns-3 c =
 
 -- src/settings.rt:98:5
 put-added-requires : tie.Need-put-added-requires
-put-added-requires c κs = ?
+put-added-requires c κs = (search needs, omega arith)
 
 -- src/settings.rt:85:1
 returns-4 : tie.Need-returns-4

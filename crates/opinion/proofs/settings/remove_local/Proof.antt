@@ -19,7 +19,7 @@ use Rattle.opinion.proofs.writing.put_removed.Reads as put-removed-read
 
 -- src/settings.rt:106:9
 listed-requires : tie.Need-listed-requires
-listed-requires c κs = ?
+listed-requires c κs = search needs
 
 -- src/settings.rt:108:9
 returns : tie.Need-returns
@@ -27,7 +27,7 @@ returns c = full _ _ (omega (arith, c .before .listed .ensures .0))
 
 -- src/settings.rt:110:9
 is-local-requires : tie.Need-is-local-requires
-is-local-requires c κs = ?
+is-local-requires c κs = (search needs, c .before .before .before .listed .ensures .1)
 
 -- src/settings.rt:111:9
 returns-2 : tie.Need-returns-2
@@ -37,7 +37,7 @@ returns-2 c =
 
 -- src/settings.rt:113:5
 put-removed-requires : tie.Need-put-removed-requires
-put-removed-requires c κs = ?
+put-removed-requires c κs = (search needs, omega arith)
 
 -- src/settings.rt:103:1
 returns-3 : tie.Need-returns-3

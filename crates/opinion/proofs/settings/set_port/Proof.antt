@@ -20,7 +20,7 @@ use Rattle.opinion.proofs.writing.put_port.Reads as put-port-reads
 
 -- src/settings.rt:53:9
 listed-requires : tie.Need-listed-requires
-listed-requires c κs = ?
+listed-requires c κs = search needs
 
 -- src/settings.rt:55:9
 returns : tie.Need-returns
@@ -28,7 +28,7 @@ returns c = full _ _ (omega (arith, c .before .listed .ensures .0))
 
 -- src/settings.rt:57:8
 setting-bad-requires : tie.Need-setting-bad-requires
-setting-bad-requires c κs = ?
+setting-bad-requires c κs = search needs
 
 -- src/settings.rt:58:9
 returns-2 : tie.Need-returns-2
