@@ -9,10 +9,11 @@ use Rattle.octets.specs.Part.{part}
 use Rattle.octets.specs.Choice.{_then_otherwise_}
 use Rattle.numbers.specs.Numbers.{longestPacket, blobLimit}
 use Rattle.packet.specs.Header.{isLinkRequest}
+use Rattle.packet.specs.Read.{headerOf, partsOf}
 use Rattle.packet.specs.Hash.{linkId}
 use Rattle.rules.specs.Relay.{Slot, empty, used, Path, Return, Blobs, makePath, makeReturn}
 use Rattle.rules.specs.View.{View}
-use Rattle.rules.specs.Arrival.{Arrival, header, destination, hash}
+use Rattle.rules.specs.Arrival.{Arrival, destination, hash}
 use Rattle.rules.specs.Refusals.{rateSettingsOk, rateEntryOk}
 use Rattle.rules.specs.Ways.{Way, everywhere, by-path, along-link, by-return, blocked}
 use Rattle.rules.specs.Judging.{Plan, dropped, delivered, follows}
@@ -33,8 +34,12 @@ abbrev pub arrivalOf : List ℕ → Arrived → Arrival
 arrivalOf bytes m = record { bytes = bytes; port = m .port; clock = m .clock; signed = m .signed }
 
 -- ---- the records, under the key that they were looked for by
+-- the 64 places of ten bytes
+unfoldable pub placesOf : List ℕ → List (List ℕ)
+placesOf bytes = listOf (λ i. part bytes (10 * i) 10) blobLimit
+
 abbrev pub blobsOf : SeenPath → Blobs
-blobsOf s = record { count = s .count; places = listOf (λ i. part (s .blobs) (10 * i) 10) blobLimit }
+blobsOf s = record { count = s .count; places = placesOf (s .blobs) }
 
 abbrev pub pathRecord : List ℕ → SeenPath → Path
 pathRecord destination s = makePath destination (s .port) (s .hops) (s .«next_hop») (s .expiry) (s .rate) (s .marked) (blobsOf s)
@@ -53,8 +58,11 @@ returnOf key s = s .there then used (returnRecordOf key s) otherwise empty
 
 -- ---- the view of one packet
 -- judging looks for one link: a link request's own, for test 7, and the destination's of any other packet
-unfoldable pub linkKey : Arrival → List ℕ
-linkKey a = isLinkRequest (header a) then linkId (a .bytes) otherwise destination a
+unfoldable pub linkKeyOf : List ℕ → List ℕ
+linkKeyOf p = isLinkRequest (headerOf p) then linkId p otherwise partsOf p .destination
+
+abbrev pub linkKey : Arrival → List ℕ
+linkKey a = linkKeyOf (a .bytes)
 
 -- a number that no port has: off
 abbrev pub noSeenPort : SeenPort
@@ -119,3 +127,11 @@ abbrev pub planOf : Seen → Arrival → Planned → Plan
 planOf s a (Drop reason) = dropped reason
 planOf s a Deliver = delivered
 planOf s a (Follow w) = follows (wayOf s a w)
+
+-- ---- a test, as the struct shows it to a packet that so came
+abbrev pub asSeen : {A : Type 0} → (View → Arrival → A) → Seen → List ℕ → Arrived → A
+asSeen test s bytes m = test (viewOf s (arrivalOf bytes m)) (arrivalOf bytes m)
+
+-- .. and one of the way that it would follow
+abbrev pub onSeenWay : {A : Type 0} → (View → Arrival → Way → A) → Seen → List ℕ → Arrived → SeenWay → A
+onSeenWay test s bytes m w = test (viewOf s (arrivalOf bytes m)) (arrivalOf bytes m) (wayOf s (arrivalOf bytes m) w)
