@@ -6,24 +6,20 @@ use forms::either;
 use numbers::BLOB_LIMIT;
 ghost use mathlib.Core.Path.{_≡_};
 ghost use Prim.Native.Nat.{_≤_};
-ghost use lib.Dec.{leb};
-ghost use Rattle.octets.specs.Index.{_and_};
-ghost use Rattle.packet.specs.Announce.{emissionOf};
 ghost use Rattle.numbers.specs.Numbers.{blobLimit};
 ghost use Rattle.rules.specs.Blobs.{held, isAmong, greatest, greatestEmission as greatestOf, oneBlob, addBlob, storeBlob};
-ghost use Rattle.judging.specs.Seen.{blobsOf};
-ghost use Rattle.judging.specs.Steps.{blobsStored};
+ghost use Rattle.judging.specs.Seen.{blobsIn, blobsOf};
+ghost use Rattle.judging.specs.Steps.{blobsStored, revivedBy};
 
 const BLOB_WIDTH: usize = 10;
 
-// Whether the path holds the blob.
-pub fn holds_blob(path: SeenPath, blob: [u8; 10]) -> bool
-    requires { ⌜ path .count ≤ blobLimit ⌝ }
-    ensures { λ r. ⌜ r ≡ isAmong blob (held (blobsOf path)) ⌝ }
+// Whether the blob is among the first of the bytes, so many.
+pub fn holds_blob(blobs: [u8; 640], count: usize, blob: [u8; 10]) -> bool
+    requires { ⌜ count ≤ blobLimit ⌝ }
+    ensures { λ r. ⌜ r ≡ isAmong blob (held (blobsIn count blobs)) ⌝ }
 {
-    let blobs = path.blobs;
     let mut found = false;
-    let mut i = path.count;
+    let mut i = count;
     while 0 < i {
         i -= 1;
         found = either(octets::equal_at(&blobs, BLOB_WIDTH * i, &blob), found);
@@ -40,14 +36,13 @@ fn greater(x: u64, y: u64) -> u64
     x
 }
 
-// The greatest emission, which the last five bytes of a blob say, among the path's blobs.
-pub fn greatest_emission(path: SeenPath) -> u64
-    requires { ⌜ path .count ≤ blobLimit ⌝ }
-    ensures { λ r. ⌜ r ≡ greatestOf (held (blobsOf path)) ⌝ }
+// The greatest emission, which the last five bytes of a blob say, among the first of the bytes, so many.
+pub fn greatest_emission(blobs: [u8; 640], count: usize) -> u64
+    requires { ⌜ count ≤ blobLimit ⌝ }
+    ensures { λ r. ⌜ r ≡ greatestOf (held (blobsIn count blobs)) ⌝ }
 {
-    let blobs = path.blobs;
     let mut most: u64 = 0;
-    let mut i = path.count;
+    let mut i = count;
     while 0 < i {
         i -= 1;
         most = greater(octets::number_at(&blobs, BLOB_WIDTH * i + 5, 5), most);
@@ -58,12 +53,11 @@ pub fn greatest_emission(path: SeenPath) -> u64
 // Whether an announce with this blob revives the path: it is marked, and holds none that was emitted later.
 pub fn revives(path: SeenPath, blob: [u8; 10]) -> bool
     requires { ⌜ path .count ≤ blobLimit ⌝ }
-    ensures { λ r. ⌜ r ≡ (path .marked and leb (greatestOf (held (blobsOf path))) (emissionOf blob)) ⌝ }
+    ensures { λ r. ⌜ r ≡ revivedBy path blob ⌝ }
 {
-    both(
-        path.marked,
-        greatest_emission(path) <= packet::emission(blob),
-    )
+    let blobs = path.blobs;
+    let most = greatest_emission(blobs, path.count);
+    both(path.marked, most <= packet::emission(blob))
 }
 
 // A new path's blobs: one, and zeros behind it.
@@ -75,14 +69,12 @@ pub fn one_blob(blob: [u8; 10]) -> Stored
     Stored { count: 1, bytes }
 }
 
-// The path's blobs with one more. With 64 held, the one stored longest ago goes.
-fn add_blob(path: SeenPath, blob: [u8; 10]) -> Stored
-    requires { ⌜ path .count ≤ blobLimit ⌝ }
-    ensures { λ r. ⌜ (blobsStored r ≡ addBlob blobLimit blob (blobsOf path)) × (r .count ≤ blobLimit) ⌝ }
+// The blobs with one more behind them. With 64 held, the one stored longest ago goes.
+fn add_blob(old: [u8; 640], count: usize, blob: [u8; 10]) -> Stored
+    requires { ⌜ count ≤ blobLimit ⌝ }
+    ensures { λ r. ⌜ (blobsStored r ≡ addBlob blobLimit blob (blobsIn count old)) × (r .count ≤ blobLimit) ⌝ }
 {
-    let old = path.blobs;
-    let count = path.count;
-    let mut bytes = path.blobs;
+    let mut bytes = old;
     if count < BLOB_LIMIT {
         octets::copy_at(&mut bytes, BLOB_WIDTH * count, &blob);
         return Stored {
@@ -100,12 +92,10 @@ pub fn store_blob(path: SeenPath, blob: [u8; 10]) -> Stored
     requires { ⌜ path .count ≤ blobLimit ⌝ }
     ensures { λ r. ⌜ (blobsStored r ≡ storeBlob blobLimit blob (blobsOf path)) × (r .count ≤ blobLimit) ⌝ }
 {
-    if holds_blob(path, blob) {
-        let bytes = path.blobs;
-        return Stored {
-            count: path.count,
-            bytes,
-        };
+    let bytes = path.blobs;
+    let count = path.count;
+    if holds_blob(bytes, count, blob) {
+        return Stored { count, bytes };
     }
-    add_blob(path, blob)
+    add_blob(bytes, count, blob)
 }

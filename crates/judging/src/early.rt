@@ -5,9 +5,16 @@ use forms::both;
 use forms::either;
 ghost use mathlib.Core.Path.{_≡_};
 ghost use mathlib.Core.Bool.{true};
+ghost use Rattle.octets.specs.Choice.{same};
 ghost use Rattle.packet.specs.Read.{longestPacket, reads};
 ghost use Rattle.rules.specs.Tests.{notOurs, forMarkedPath, duplicate as isDuplicate, ownAnnounce, deliveredHere};
 ghost use Rattle.judging.specs.Seen.{asSeen};
+
+fn same_address(one: [u8; 16], other: [u8; 16]) -> bool
+    ensures { λ r. ⌜ r ≡ same one other ⌝ }
+{
+    octets::equal16(one, other)
+}
 
 // Test 1: type 2, not an announce, relay address not our own.
 pub fn not_ours(seen: Seen, packet: &[u8], arrived: Arrived) -> bool
@@ -18,7 +25,7 @@ pub fn not_ours(seen: Seen, packet: &[u8], arrived: Arrived) -> bool
     let parts = packet::parts_of(packet);
     let relay = parts.relay;
     let own = seen.own;
-    let ours = octets::equal16(relay, own);
+    let ours = same_address(relay, own);
     both(
         packet::type_two(header),
         both(!packet::is_announce(header), !ours),

@@ -30,8 +30,11 @@ fn follows_proved_link(seen: Seen, way: SeenWay) -> bool
     ensures { λ r. ⌜ r ≡ provedBy way (seen .link .link .proved) ⌝ }
 {
     match way {
+        SeenWay::Everywhere => false,
+        SeenWay::ByPath => false,
         SeenWay::AlongLink => seen.link.link.proved,
-        _ => false,
+        SeenWay::ByReturn => false,
+        SeenWay::Blocked(_) => false,
     }
 }
 
@@ -53,6 +56,8 @@ fn wrong_side(seen: Seen, packet: &[u8], arrived: Arrived, way: SeenWay) -> bool
         (wayOf seen (arrivalOf (now (packet .entry)) arrived) way) ⌝ }
 {
     match way {
+        SeenWay::Everywhere => false,
+        SeenWay::ByPath => false,
         SeenWay::AlongLink => {
             let link = seen.link.link;
             if from_answering_side(link, arrived.port, packet[1]) {
@@ -62,7 +67,7 @@ fn wrong_side(seen: Seen, packet: &[u8], arrived: Arrived, way: SeenWay) -> bool
             either(forms::is_link_proof(packet), !asking)
         }
         SeenWay::ByReturn => arrived.port != seen.back.leaving,
-        _ => false,
+        SeenWay::Blocked(_) => false,
     }
 }
 
@@ -100,7 +105,12 @@ fn replay(seen: Seen, packet: &[u8], arrived: Arrived, way: SeenWay) -> bool
         return false;
     }
     let path = seen.path;
-    holds_blob(path, packet::blob(packet::payload(packet)))
+    let blobs = path.blobs;
+    holds_blob(
+        blobs,
+        path.count,
+        packet::blob(packet::payload(packet)),
+    )
 }
 
 // Test 11: emission not above the greatest among stored blobs, and hops not below the stored hops.
@@ -113,8 +123,10 @@ fn not_better(seen: Seen, packet: &[u8], arrived: Arrived, way: SeenWay) -> bool
         return false;
     }
     let path = seen.path;
+    let blobs = path.blobs;
+    let most = greatest_emission(blobs, path.count);
     let emission = packet::emission(packet::blob(packet::payload(packet)));
-    both(emission <= greatest_emission(path), path.hops <= packet[1])
+    both(emission <= most, path.hops <= packet[1])
 }
 
 // Test 15: the rate rule.
@@ -136,7 +148,8 @@ fn port_off(seen: Seen, packet: &[u8], arrived: Arrived, way: SeenWay) -> bool
     requires { ⌜ reads longestPacket (now packet) ≡ true ⌝ }
     ensures { λ r. ⌜ r ≡ onSeenWay portOff seen (now (packet .entry)) arrived way ⌝ }
 {
-    let port = port_at(seen, leaving_port(seen, packet, arrived, way));
+    let ports = seen.ports;
+    let port = port_at(ports, leaving_port(seen, packet, arrived, way));
     both(!packet::is_announce(packet[0]), !port.on)
 }
 
@@ -145,7 +158,8 @@ fn too_long_for_port(seen: Seen, packet: &[u8], arrived: Arrived, way: SeenWay) 
     requires { ⌜ reads longestPacket (now packet) ≡ true ⌝ }
     ensures { λ r. ⌜ r ≡ onSeenWay tooLongForPort seen (now (packet .entry)) arrived way ⌝ }
 {
-    let port = port_at(seen, leaving_port(seen, packet, arrived, way));
+    let ports = seen.ports;
+    let port = port_at(ports, leaving_port(seen, packet, arrived, way));
     let length = leaving_length(seen, packet, arrived, way);
     both(!packet::is_announce(packet[0]), port.size < length)
 }

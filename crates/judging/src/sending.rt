@@ -2,9 +2,11 @@
 use super::Arrived;
 use super::Seen;
 use super::SeenPath;
+use super::SeenPort;
 use super::SeenWay;
 use super::leaving::leaving_port;
 use super::leaving::port_at;
+use super::leaving::spread_length;
 use numbers::PORT_COUNT;
 use packet::LONGEST_PACKET;
 use rules::Reason;
@@ -13,9 +15,11 @@ ghost use mathlib.Core.Path.{_≡_};
 ghost use Prim.Native.Nat.{_≤_};
 ghost use lib.ListN.{length};
 ghost use Rattle.packet.specs.Read.{longestPacket};
+ghost use Rattle.octets.specs.Choice.{_then_otherwise_};
 ghost use Rattle.octets.specs.Part.{patch};
 ghost use Rattle.rules.specs.Answers.{portSet};
-ghost use Rattle.rules.specs.Outgoing.{pathPacket, carriedPacket};
+ghost use Rattle.rules.specs.Outgoing.{spreadPacket, pathPacket, carriedPacket};
+ghost use Rattle.rules.specs.Judging.{spreadVerdict, leaves};
 ghost use Rattle.rules.specs.declared.Verdict.the-variants.{Forward};
 ghost use Rattle.outgoing.specs.Leaving.{CanLeave};
 ghost use Rattle.judging.specs.Seen.{arrivalOf};
@@ -24,34 +28,32 @@ ghost use Rattle.judging.specs.Steps.{spreadsTo, Sends};
 const PORTS: u8 = PORT_COUNT as u8;
 
 // All ports on but the arrival port that carry an announce of this length.
-fn spread_ports(seen: Seen, arrival: u8, long: usize) -> u16
-    ensures { λ r. ⌜ r ≡ portSet (spreadsTo seen arrival long) ⌝ }
+fn spread_ports(ports: [SeenPort; 16], arrival: u8, long: usize) -> u16
+    ensures { λ r. ⌜ r ≡ portSet (spreadsTo ports arrival long) ⌝ }
 {
-    let mut ports: u16 = 0;
+    let mut set: u16 = 0;
     let mut i: u8 = 0;
     while i < PORTS {
-        let port = port_at(seen, i);
-        ports = outgoing::with_spread_port(ports, i, port.on, port.size, arrival, long);
+        let port = port_at(ports, i);
+        set = outgoing::with_spread_port(set, i, port.on, port.size, arrival, long);
         i += 1;
     }
-    ports
+    set
 }
 
-// Spreads an announce, or keeps it: if no port is left, or the result exceeds 500, the output stays.
-fn spread(seen: Seen, packet: &[u8], arrived: Arrived, output: &mut [u8]) -> Verdict
+// Spreads an announce to a set of ports, or keeps it: if the set is empty, or the result exceeds 500, the output stays.
+fn spread(own: [u8; 16], ports: u16, packet: &[u8], output: &mut [u8]) -> Verdict
     requires { ⌜ CanLeave (now packet) × (longestPacket ≤ length (now output)) ⌝ }
-    ensures { λ r. ⌜ Sends seen (arrivalOf (now (packet .entry)) arrived) SeenWay.Everywhere (now (output .entry))
-        r (now (output .exit)) ⌝ }
+    ensures { λ r. ⌜ (r ≡ spreadVerdict ports (spreadPacket own (now (packet .entry))))
+        × (now (output .exit) ≡ (leaves r then patch (now (output .entry)) 0 (spreadPacket own (now (packet .entry)))
+        otherwise now (output .entry))) ⌝ }
 {
-    let long = outgoing::spread_length(packet);
-    if long > LONGEST_PACKET {
-        return Verdict::Kept;
-    }
-    let ports = spread_ports(seen, arrived.port, long);
     if ports == 0 {
         return Verdict::Kept;
     }
-    let own = seen.own;
+    if outgoing::spread_length(packet) > LONGEST_PACKET {
+        return Verdict::Kept;
+    }
     let length = outgoing::spread(packet, own, output);
     Verdict::Spread { ports, length }
 }
@@ -88,7 +90,12 @@ pub fn send(seen: Seen, packet: &[u8], arrived: Arrived, way: SeenWay, output: &
 {
     let port = leaving_port(seen, packet, arrived, way);
     match way {
-        SeenWay::Everywhere => spread(seen, packet, arrived, output),
+        SeenWay::Everywhere => {
+            let own = seen.own;
+            let ports = seen.ports;
+            let set = spread_ports(ports, arrived.port, spread_length(packet, own));
+            spread(own, set, packet, output)
+        }
         SeenWay::ByPath => {
             let path = seen.path;
             forward(path, packet, output)

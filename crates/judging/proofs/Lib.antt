@@ -1,0 +1,3 @@
+pub mod SeenLaws
+pub mod BlobBytes
+pub mod Narrow
