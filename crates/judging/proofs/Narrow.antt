@@ -28,11 +28,12 @@ use Rattle.judging.specs.Steps.{settingsView}
 never-read : {A : Type 0} (ts : List (Test A)) (x y : A) → anyHolds ts ≡ true → firstOf ts x ≡ firstOf ts y
 unfolding firstOf anyHolds _then_otherwise_ _or_
 never-read [] x y e = absurd (false≢true e)
-never-read {A} (t ∷ ts) x y e = go (t .holds) e
+never-read {A} (t ∷ ts) x y e = go (t .holds) e (never-read ts x y)
   where
-    go : (b : Bool) → (b or anyHolds ts) ≡ true → (b then t .value otherwise firstOf ts x) ≡ (b then t .value otherwise firstOf ts y)
-    go true h = refl
-    go false h = never-read ts x y h
+    go : (b : Bool) → (b or anyHolds ts) ≡ true → (anyHolds ts ≡ true → firstOf ts x ≡ firstOf ts y)
+        → (b then t .value otherwise firstOf ts x) ≡ (b then t .value otherwise firstOf ts y)
+    go true h below = refl
+    go false h below = below h
 
 module _ (v : View) (a : Arrival) where
   -- the view with all keys but the packet's own forgotten
