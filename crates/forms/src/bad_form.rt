@@ -1,9 +1,9 @@
 // Test 3, bad form: its clauses in document 01's order. All of it needs the packet alone.
 use super::Form;
+use super::joined::both;
 use rules::Clause;
 ghost use mathlib.Core.Path.{_≡_};
 ghost use mathlib.Core.Bool.{true};
-ghost use Rattle.octets.specs.Index.{_and_};
 ghost use Rattle.packet.specs.Read.{longestPacket, reads};
 ghost use Rattle.rules.specs.Arrival.{isLinkProof};
 ghost use Rattle.rules.specs.Tests.{announceOfAnother, linkProofLength};
@@ -49,15 +49,6 @@ fn link_proof_length(packet: &[u8]) -> bool
             return false;
         }
         return n != 99;
-    }
-    false
-}
-
-fn both(one: bool, other: bool) -> bool
-    ensures { λ r. ⌜ r ≡ (one and other) ⌝ }
-{
-    if one {
-        return other;
     }
     false
 }

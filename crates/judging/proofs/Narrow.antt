@@ -28,7 +28,7 @@ use Rattle.judging.specs.Steps.{settingsView}
 never-read : {A : Type 0} (ts : List (Test A)) (x y : A) → anyHolds ts ≡ true → firstOf ts x ≡ firstOf ts y
 unfolding firstOf anyHolds _then_otherwise_ _or_
 never-read [] x y e = absurd (false≢true e)
-never-read (t ∷ ts) x y e = go (t .holds) e (never-read ts x y)
+never-read {A} (t ∷ ts) x y e = go (t .holds) e (never-read ts x y)
   where
     go : (b : Bool) → (b or anyHolds ts) ≡ true → (anyHolds ts ≡ true → firstOf ts x ≡ firstOf ts y)
         → (b then t .value otherwise firstOf ts x) ≡ (b then t .value otherwise firstOf ts y)
@@ -122,14 +122,15 @@ module _ (v : View) (a : Arrival) where
       ap (λ (ts : List (Test Plan)). firstOf ts (onwardPlan narrow a (wayOn narrow a))) early
       ∙ ap (firstOf (earlyTests v a)) (onward (wayOn narrow a) ∙ ap (onwardPlan v a) e)
 
+  stopped : badForm (a .bytes) ≡ true → anyHolds (earlyTests v a) ≡ true
+  unfolding earlyTests anyHolds
+  stopped e = or-right _ (or-right _ (or-left _ e))
+
   dropped-by-form : badForm (a .bytes) ≡ true → plan narrow a ≡ plan v a
-  unfolding plan earlyTests anyHolds
+  unfolding plan
   dropped-by-form e =
       ap (λ (ts : List (Test Plan)). firstOf ts (onwardPlan narrow a (wayOn narrow a))) early
-      ∙ never-read (earlyTests v a) _ _ stopped
-    where
-      stopped : anyHolds (earlyTests v a) ≡ true
-      stopped = or-right _ (or-right _ (or-left _ e))
+      ∙ never-read (earlyTests v a) _ _ (stopped e)
 
   own-link : isLinkRequest (header a) ≡ false → wayOn narrow a ≡ wayOn v a
   unfolding wayOn linkKeyOf

@@ -38,8 +38,11 @@ arrivalOf bytes m = record { bytes = bytes; port = m .port; clock = m .clock; si
 unfoldable pub placesOf : List ℕ → List (List ℕ)
 placesOf bytes = listOf (λ i. part bytes (10 * i) 10) blobLimit
 
+abbrev pub blobsIn : ℕ → List ℕ → Blobs
+blobsIn count bytes = record { count = count; places = placesOf bytes }
+
 abbrev pub blobsOf : SeenPath → Blobs
-blobsOf s = record { count = s .count; places = placesOf (s .blobs) }
+blobsOf s = blobsIn (s .count) (s .blobs)
 
 abbrev pub pathRecord : List ℕ → SeenPath → Path
 pathRecord destination s = makePath destination (s .port) (s .hops) (s .«next_hop») (s .expiry) (s .rate) (s .marked) (blobsOf s)

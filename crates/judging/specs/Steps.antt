@@ -4,7 +4,7 @@ use mathlib.Core.Bool.{Bool, true, false, not}
 use mathlib.Core.List.{List, []}
 use mathlib.Core.Path.{_≡_}
 use lib.Dec.{eqb, ltb, leb}
-use lib.ListN.{length, drop}
+use lib.ListN.{length, getD, drop}
 use Rattle.octets.specs.Index.{_and_}
 use Rattle.octets.specs.Choice.{_then_otherwise_, _or_}
 use Rattle.octets.specs.Listed.{firstOf}
@@ -27,6 +27,7 @@ use Rattle.rules.specs.declared.RateEntry.{RateEntry}
 use Rattle.rules.specs.declared.Verdict.{Verdict}
 use Rattle.rules.specs.declared.Blocked.the-variants.{NoPath, NoLink, NotProved, NoReturn}
 use Rattle.judging.specs.declared.Arrived.{Arrived}
+use Rattle.judging.specs.declared.SeenPort.{SeenPort}
 use Rattle.judging.specs.declared.SeenPath.{SeenPath}
 use Rattle.judging.specs.declared.SeenLink.{SeenLink}
 use Rattle.judging.specs.declared.SeenReturn.{SeenReturn}
@@ -36,7 +37,7 @@ use Rattle.judging.specs.declared.SeenWay.the-variants.{Everywhere, ByPa
 use Rattle.judging.specs.declared.Planned.{Planned}
 use Rattle.judging.specs.declared.Planned.the-variants.{Drop, Deliver, Follow}
 use Rattle.judging.specs.declared.Stored.{Stored}
-use Rattle.judging.specs.Seen.{arrivalOf, placesOf, blobsOf, pathRecord, returnOf, portOf, viewOf, Fits, wayOf}
+use Rattle.judging.specs.Seen.{arrivalOf, blobsIn, blobsOf, pathRecord, returnOf, noSeenPort, viewOf, Fits, wayOf}
 
 -- ---- the way on, by the record that is seen
 unfoldable pub linkWayBy : Bool → SeenLink → SeenWay
@@ -77,8 +78,8 @@ lastPlan v a w = firstOf (drop 4 (onwardTests v a w)) (follows w)
 
 -- ---- what leaves
 -- whether an announce that came in by a port, and is so long once spread, leaves by another
-abbrev pub spreadsTo : Seen → ℕ → ℕ → ℕ → Bool
-spreadsTo s arrival long port = portOf s port .on and not (eqb port arrival) and not (ltb (portOf s port .size) long)
+abbrev pub spreadsTo : List SeenPort → ℕ → ℕ → ℕ → Bool
+spreadsTo ports arrival long port = getD ports port noSeenPort .on and not (eqb port arrival) and not (ltb (getD ports port noSeenPort .size) long)
 
 -- the verdict r and the output o, by the way that the packet follows
 abbrev pub Sends : Seen → Arrival → SeenWay → List ℕ → Verdict → List ℕ → Type 0
@@ -108,7 +109,7 @@ settingsView settings mode =
     }
 
 abbrev pub blobsStored : Stored → Blobs
-blobsStored s = record { count = s .count; places = placesOf (s .bytes) }
+blobsStored s = blobsIn (s .count) (s .bytes)
 
 abbrev pub revivedBy : SeenPath → List ℕ → Bool
 revivedBy s blob = s .marked and leb (greatestEmission (held (blobsOf s))) (emissionOf blob)

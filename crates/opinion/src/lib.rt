@@ -17,7 +17,6 @@ mod refusing;
 mod returns;
 mod seeing;
 mod settings;
-mod stubs;
 mod writing;
 
 pub use log::LOG_SIZE;

@@ -9,7 +9,7 @@ use super::records::live_link;
 use super::records::live_path;
 use super::records::live_return;
 use super::returns::return_of;
-use super::stubs::link_key;
+use judging::link_key;
 use judging::Arrived;
 use judging::Seen;
 ghost use mathlib.Core.Path.{_≡_};

@@ -20,7 +20,6 @@ use Rattle.opinion.proofs.links.after_carry.Lts as lts
 use Rattle.opinion.proofs.log.arrived_in.Reads as arrived-in-reads
 use Rattle.opinion.proofs.log.entry_at.Reads as entry-at-reads
 use Rattle.opinion.proofs.log.packet_in.Reads as packet-in-reads
-use Rattle.opinion.proofs.stubs.renewed_link.Reads as renewed-link-reads
 use Rattle.packet.proofs.parts_of.Reads as parts-of-reads
 
 -- src/links.rt:49:9

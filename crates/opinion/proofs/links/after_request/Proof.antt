@@ -21,7 +21,6 @@ use Rattle.opinion.proofs.log.arrived_in.Reads as arrived-in-reads
 use Rattle.opinion.proofs.log.entry_at.Reads as entry-at-reads
 use Rattle.opinion.proofs.log.packet_in.Reads as packet-in-reads
 use Rattle.opinion.proofs.paths.path_of.Reads as path-of-reads
-use Rattle.opinion.proofs.stubs.link_record.Reads as link-record-reads
 use Rattle.packet.proofs.link_id_of.Reads as link-id-of-reads
 use Rattle.packet.proofs.parts_of.Reads as parts-of-reads
 

@@ -24,8 +24,6 @@ use Rattle.opinion.proofs.log.kind_in.Reads as kind-in-reads
 use Rattle.opinion.proofs.log.packet_in.Reads as packet-in-reads
 use Rattle.opinion.proofs.outcomes.effect_of.Reads as effect-of-reads
 use Rattle.opinion.proofs.seeing.seen.Reads as seen-reads
-use Rattle.opinion.proofs.stubs.plan_of.Reads as plan-of-reads
-use Rattle.opinion.proofs.stubs.remembers.Reads as remembers-reads
 use Rattle.opinion.proofs.writing.mark_of.Reads as mark-of-reads
 use Rattle.packet.proofs.hash_of.Reads as hash-of-reads
 use Rattle.packet.proofs.is_data.Reads as is-data-reads

@@ -8,8 +8,6 @@ use Rattle.opinion.proofs.packets.judged.Reads as reads
 use Rattle.opinion.proofs.packets.judged.Lts as lts
 use Rattle.opinion.proofs.outcomes.outcomes.Reads as outcomes-reads
 use Rattle.opinion.proofs.seeing.seen.Reads as seen-reads
-use Rattle.opinion.proofs.stubs.answer_of.Reads as answer-of-reads
-use Rattle.opinion.proofs.stubs.plan_of.Reads as plan-of-reads
 use Rattle.packet.proofs.hash_of.Reads as hash-of-reads
 
 -- src/packets.rt:52:22

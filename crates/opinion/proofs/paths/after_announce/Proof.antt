@@ -21,7 +21,6 @@ use Rattle.opinion.proofs.log.packet_in.Reads as packet-in-reads
 use Rattle.opinion.proofs.ports.port_at.Reads as port-at-reads
 use Rattle.opinion.proofs.rates.rate_at.Reads as rate-at-reads
 use Rattle.opinion.proofs.records.live_path.Reads as live-path-reads
-use Rattle.opinion.proofs.stubs.announced_path.Reads as announced-path-reads
 use Rattle.packet.proofs.parts_of.Reads as parts-of-reads
 
 -- src/paths.rt:33:9

@@ -21,7 +21,6 @@ use Rattle.opinion.proofs.log.arrived_in.Reads as arrived-in-reads
 use Rattle.opinion.proofs.log.entry_at.Reads as entry-at-reads
 use Rattle.opinion.proofs.log.packet_in.Reads as packet-in-reads
 use Rattle.opinion.proofs.rates.rate_at.Reads as rate-at-reads
-use Rattle.opinion.proofs.stubs.limited_path.Reads as limited-path-reads
 use Rattle.packet.proofs.parts_of.Reads as parts-of-reads
 
 -- src/paths.rt:55:9

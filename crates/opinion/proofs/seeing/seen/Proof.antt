@@ -29,7 +29,6 @@ use Rattle.opinion.proofs.records.live_link.Reads as live-link-reads
 use Rattle.opinion.proofs.records.live_path.Reads as live-path-reads
 use Rattle.opinion.proofs.records.live_return.Reads as live-return-reads
 use Rattle.opinion.proofs.returns.return_of.Reads as return-of-reads
-use Rattle.opinion.proofs.stubs.link_key.Reads as link-key-reads
 use Rattle.packet.proofs.parts_of.Reads as parts-of-reads
 
 -- src/seeing.rt:32:9

@@ -2,8 +2,8 @@ use borrow.Author.Tests.{eq-eqb, ne-eqb}
 use Rattle.octets.specs.Choice.{_then_otherwise_}
 use Rattle.numbers.specs.Numbers.{pathLifetime}
 use native.Mathlib.Omega.{arith}
-use Rattle.act.proofs.announces.path_lifetime.Statement.{statement}
-use Rattle.act.proofs.announces.path_lifetime.Tie as tie
+use Rattle.forms.proofs.announced.path_lifetime.Statement.{statement}
+use Rattle.forms.proofs.announced.path_lifetime.Tie as tie
 
 returns : tie.Need-returns
 unfolding pathLifetime _then_otherwise_

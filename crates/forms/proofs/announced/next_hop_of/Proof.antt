@@ -6,8 +6,8 @@ use Rattle.packet.proofs.ReadLaws.{reads-readable}
 use Rattle.outgoing.proofs.LeavingLaws.{long}
 use native.Mathlib.Omega.{arith}
 use borrow.Author.Needs.{needs}
-use Rattle.act.proofs.announces.next_hop_of.Statement.{statement}
-use Rattle.act.proofs.announces.next_hop_of.Tie as tie
+use Rattle.forms.proofs.announced.next_hop_of.Statement.{statement}
+use Rattle.forms.proofs.announced.next_hop_of.Tie as tie
 
 parts-of-requires : tie.Need-parts-of-requires
 parts-of-requires c κs = reads-readable longestPacket _ (c .before .pre) .whole

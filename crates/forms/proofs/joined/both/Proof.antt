@@ -1,7 +1,7 @@
 use mathlib.Core.Path.{sym}
 use Rattle.octets.proofs.Index.{and-yes, and-no}
-use Rattle.forms.proofs.bad_form.both.Statement.{statement}
-use Rattle.forms.proofs.bad_form.both.Tie as tie
+use Rattle.forms.proofs.joined.both.Statement.{statement}
+use Rattle.forms.proofs.joined.both.Tie as tie
 
 returns : tie.Need-returns
 returns c = sym (and-yes _ (c .if1 .taken))
