@@ -10,3 +10,4 @@ pub mod Steps
 pub mod Views
 pub mod Judged
 pub mod Settled
+pub mod Agreement

@@ -2,3 +2,4 @@
 pub mod Log
 pub mod Calls
 pub mod Steps
+pub mod Agreeing
