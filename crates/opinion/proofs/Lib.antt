@@ -11,3 +11,4 @@ pub mod Views
 pub mod Judged
 pub mod Settled
 pub mod Agreement
+pub mod Inhabited

@@ -99,8 +99,8 @@ fn length_in(e: &[u8]) -> usize
     octets::number_at(e, LENGTH_AT, LENGTH_WIDTH) as usize
 }
 
-// Its port.
-fn port_in(e: &[u8]) -> u8
+// Its port: where a packet came, or the one that is set.
+pub fn port_in(e: &[u8]) -> u8
     requires { ⌜ length (now e) ≡ entryWidth ⌝ }
     ensures { λ r. ⌜ (r ≡ portIn (now (e .entry))) × (r < portCount) ⌝ }
 {
@@ -133,14 +133,7 @@ pub fn arrived_in(e: &[u8]) -> Arrived
     }
 }
 
-// The port that is set, and its settings.
-pub fn port_set_in(e: &[u8]) -> u8
-    requires { ⌜ length (now e) ≡ entryWidth ⌝ }
-    ensures { λ r. ⌜ r ≡ portIn (now (e .entry)) ⌝ }
-{
-    port_in(e)
-}
-
+// The settings that a port is given.
 pub fn settings_in(e: &[u8]) -> SeenPort
     requires { ⌜ length (now e) ≡ entryWidth ⌝ }
     ensures { λ r. ⌜ portSeen r

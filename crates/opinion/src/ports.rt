@@ -5,7 +5,7 @@ use super::log::RENUMBERS;
 use super::log::SETS_PORT;
 use super::log::entry_at;
 use super::log::kind_in;
-use super::log::port_set_in;
+use super::log::port_in;
 use super::log::settings_in;
 use judging::SeenPort;
 use numbers::LONGEST_PACKET;
@@ -52,7 +52,7 @@ fn sets_port(e: &[u8], port: usize) -> bool
     ensures { λ r. ⌜ r ≡ (eqb (kindIn (now (e .entry))) 2 and eqb port (portIn (now (e .entry)))) ⌝ }
 {
     if kind_in(e) == SETS_PORT {
-        return port == port_set_in(e) as usize;
+        return port == port_in(e) as usize;
     }
     false
 }

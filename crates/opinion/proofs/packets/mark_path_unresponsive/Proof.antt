@@ -36,7 +36,7 @@ clock-bad-requires c κs = (search needs, c .before .before .before .listed .ens
 returns-2 : tie.Need-returns-2
 unfolding callRows
 returns-2 c =
-    refused _ _ (omega (arith, c .before .before .before .before .before .listed .ensures .0)) 5 (here _ _ _ _ (ap (λ (m : ℕ). clockBad (knownIn _ m) _) (sym (c .before .before .before .before .before .listed .ensures .0)) ∙ sym (c .before .clock-bad .ensures) ∙ c .if2 .taken)) (eqb-false 5 0 refl)
+    refused _ _ (omega (arith, c .before .before .before .before .before .listed .ensures .0)) 5 (here _ _ _ _ (ap (λ (m : ℕ). clockBad (knownIn (c .before .before .before .before .before .before .before .before .args .log .now) m) (c .before .before .before .before .before .before .before .before .args .clock)) (sym (c .before .before .before .before .before .listed .ensures .0)) ∙ sym (c .before .clock-bad .ensures) ∙ c .if2 .taken)) (eqb-false 5 0 refl)
 
 -- src/packets.rt:110:9
 has-path-requires : tie.Need-has-path-requires
@@ -46,7 +46,7 @@ has-path-requires c κs = (search needs, c .before .before .before .before .befo
 returns-3 : tie.Need-returns-3
 unfolding callRows
 returns-3 c =
-    refused _ _ (omega (arith, c .before .before .before .before .before .before .before .before .before .listed .ensures .0)) 12 (past _ _ _ _ (ap (λ (m : ℕ). clockBad (knownIn _ m) _) (sym (c .before .before .before .before .before .before .before .before .before .listed .ensures .0)) ∙ sym (c .before .before .before .before .before .clock-bad .ensures) ∙ c .before .before .before .before .if2 .left) ∙ here _ _ _ _ (ap (λ (m : ℕ). not (isThere (seenAt _ (knownIn _ m) .path _))) (sym (c .before .before .before .before .before .before .before .before .before .listed .ensures .0)) ∙ ap not (sym (c .before .has-path .ensures)) ∙ c .if3 .taken)) (eqb-false 12 0 refl)
+    refused _ _ (omega (arith, c .before .before .before .before .before .before .before .before .before .listed .ensures .0)) 12 (past _ _ _ _ (ap (λ (m : ℕ). clockBad (knownIn (c .before .before .before .before .before .before .before .before .before .before .before .before .args .log .now) m) (c .before .before .before .before .before .before .before .before .before .before .before .before .args .clock)) (sym (c .before .before .before .before .before .before .before .before .before .listed .ensures .0)) ∙ sym (c .before .before .before .before .before .clock-bad .ensures) ∙ c .before .before .before .before .if2 .left) ∙ here _ _ _ _ (ap (λ (m : ℕ). not (isThere (seenAt (c .before .before .before .before .before .before .before .before .before .before .before .before .args .clock) (knownIn (c .before .before .before .before .before .before .before .before .before .before .before .before .args .log .now) m) .path (c .before .before .before .before .before .before .before .before .before .before .before .before .args .destination)))) (sym (c .before .before .before .before .before .before .before .before .before .listed .ensures .0)) ∙ ap not (sym (c .before .has-path .ensures)) ∙ c .if3 .taken)) (eqb-false 12 0 refl)
 
 -- src/packets.rt:113:5
 put-mark-requires : tie.Need-put-mark-requires
@@ -56,7 +56,7 @@ put-mark-requires c κs = (search needs, omega arith, leb-false _ _ (or-no-left 
 returns-4 : tie.Need-returns-4
 unfolding callRows
 returns-4 c =
-    accepted _ _ (omega (arith, c .before .before .before .before .before .before .before .before .before .before .before .listed .ensures .0)) (none-of-two _ _ 5 12 (ap (λ (m : ℕ). clockBad (knownIn _ m) _) (sym (c .before .before .before .before .before .before .before .before .before .before .before .listed .ensures .0)) ∙ sym (c .before .before .before .before .before .before .before .clock-bad .ensures) ∙ c .before .before .before .before .before .before .if2 .left) (ap (λ (m : ℕ). not (isThere (seenAt _ (knownIn _ m) .path _))) (sym (c .before .before .before .before .before .before .before .before .before .before .before .listed .ensures .0)) ∙ ap not (sym (c .before .before .before .has-path .ensures)) ∙ c .before .before .if3 .left)) (c .before .before .before .before .before .before .before .before .before .before .before .listed .result) (c .before .before .before .before .before .before .before .before .before .before .before .listed .ensures .0) _ (c .put-mark .ensures)
+    accepted _ _ (omega (arith, c .before .before .before .before .before .before .before .before .before .before .before .listed .ensures .0)) (none-of-two _ _ 5 12 (ap (λ (m : ℕ). clockBad (knownIn (c .before .before .before .before .before .before .before .before .before .before .before .before .before .before .args .log .now) m) (c .before .before .before .before .before .before .before .before .before .before .before .before .before .before .args .clock)) (sym (c .before .before .before .before .before .before .before .before .before .before .before .listed .ensures .0)) ∙ sym (c .before .before .before .before .before .before .before .clock-bad .ensures) ∙ c .before .before .before .before .before .before .if2 .left) (ap (λ (m : ℕ). not (isThere (seenAt (c .before .before .before .before .before .before .before .before .before .before .before .before .before .before .args .clock) (knownIn (c .before .before .before .before .before .before .before .before .before .before .before .before .before .before .args .log .now) m) .path (c .before .before .before .before .before .before .before .before .before .before .before .before .before .before .args .destination)))) (sym (c .before .before .before .before .before .before .before .before .before .before .before .listed .ensures .0)) ∙ ap not (sym (c .before .before .before .has-path .ensures)) ∙ c .before .before .if3 .left)) (c .before .before .before .before .before .before .before .before .before .before .before .listed .result) (c .before .before .before .before .before .before .before .before .before .before .before .listed .ensures .0) _ (c .put-mark .ensures)
 
 pub mark-path-unresponsive-spec : {M : Type 1} → statement M
 mark-path-unresponsive-spec =

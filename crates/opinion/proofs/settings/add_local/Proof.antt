@@ -34,7 +34,7 @@ is-local-requires c κs = (search needs, c .before .before .before .listed .ensu
 returns-2 : tie.Need-returns-2
 unfolding callRows
 returns-2 c =
-    refused _ _ (omega (arith, c .before .before .before .before .before .listed .ensures .0)) 11 (here _ _ _ _ (ap (λ (m : ℕ). knownIn _ m .local _) (sym (c .before .before .before .before .before .listed .ensures .0)) ∙ sym (c .before .is-local .ensures) ∙ c .if2 .taken)) (eqb-false 11 0 refl)
+    refused _ _ (omega (arith, c .before .before .before .before .before .listed .ensures .0)) 11 (here _ _ _ _ (ap (λ (m : ℕ). knownIn (c .before .before .before .before .before .before .before .before .args .log .now) m .local (c .before .before .before .before .before .before .before .before .args .address)) (sym (c .before .before .before .before .before .listed .ensures .0)) ∙ sym (c .before .is-local .ensures) ∙ c .if2 .taken)) (eqb-false 11 0 refl)
 
 -- src/settings.rt:95:8
 local-number-requires : tie.Need-local-number-requires
@@ -44,7 +44,7 @@ local-number-requires c κs = (search needs, c .before .before .before .before .
 returns-3 : tie.Need-returns-3
 unfolding callRows
 returns-3 c =
-    refused _ _ (omega (arith, c .before .before .before .before .before .before .before .before .before .listed .ensures .0)) 10 (past _ _ _ _ (ap (λ (m : ℕ). knownIn _ m .local _) (sym (c .before .before .before .before .before .before .before .before .before .listed .ensures .0)) ∙ sym (c .before .before .before .before .before .is-local .ensures) ∙ c .before .before .before .before .if2 .left) ∙ here _ _ _ _ (ap (λ (m : ℕ). leb 16 (knownIn _ m .locals)) (sym (c .before .before .before .before .before .before .before .before .before .listed .ensures .0)) ∙ ap (leb 16) (sym (c .before .local-number .ensures)) ∙ le-leb _ _ (c .if3 .taken))) (eqb-false 10 0 refl)
+    refused _ _ (omega (arith, c .before .before .before .before .before .before .before .before .before .listed .ensures .0)) 10 (past _ _ _ _ (ap (λ (m : ℕ). knownIn (c .before .before .before .before .before .before .before .before .before .before .before .before .args .log .now) m .local (c .before .before .before .before .before .before .before .before .before .before .before .before .args .address)) (sym (c .before .before .before .before .before .before .before .before .before .listed .ensures .0)) ∙ sym (c .before .before .before .before .before .is-local .ensures) ∙ c .before .before .before .before .if2 .left) ∙ here _ _ _ _ (ap (λ (m : ℕ). leb 16 (knownIn (c .before .before .before .before .before .before .before .before .before .before .before .before .args .log .now) m .locals)) (sym (c .before .before .before .before .before .before .before .before .before .listed .ensures .0)) ∙ ap (leb 16) (sym (c .before .local-number .ensures)) ∙ le-leb _ _ (c .if3 .taken))) (eqb-false 10 0 refl)
 
 -- src/settings.rt:98:5
 put-added-requires : tie.Need-put-added-requires
@@ -54,7 +54,7 @@ put-added-requires c κs = (search needs, omega arith)
 returns-4 : tie.Need-returns-4
 unfolding callRows
 returns-4 c =
-    accepted _ _ (omega (arith, c .before .before .before .before .before .before .before .before .before .before .before .listed .ensures .0)) (none-of-two _ _ 11 10 (ap (λ (m : ℕ). knownIn _ m .local _) (sym (c .before .before .before .before .before .before .before .before .before .before .before .listed .ensures .0)) ∙ sym (c .before .before .before .before .before .before .before .is-local .ensures) ∙ c .before .before .before .before .before .before .if2 .left) (ap (λ (m : ℕ). leb 16 (knownIn _ m .locals)) (sym (c .before .before .before .before .before .before .before .before .before .before .before .listed .ensures .0)) ∙ ap (leb 16) (sym (c .before .before .before .local-number .ensures)) ∙ lt-leb _ _ (c .before .before .if3 .left))) (c .before .before .before .before .before .before .before .before .before .before .before .listed .result) (c .before .before .before .before .before .before .before .before .before .before .before .listed .ensures .0) _ (c .put-added .ensures)
+    accepted _ _ (omega (arith, c .before .before .before .before .before .before .before .before .before .before .before .listed .ensures .0)) (none-of-two _ _ 11 10 (ap (λ (m : ℕ). knownIn (c .before .before .before .before .before .before .before .before .before .before .before .before .before .before .args .log .now) m .local (c .before .before .before .before .before .before .before .before .before .before .before .before .before .before .args .address)) (sym (c .before .before .before .before .before .before .before .before .before .before .before .listed .ensures .0)) ∙ sym (c .before .before .before .before .before .before .before .is-local .ensures) ∙ c .before .before .before .before .before .before .if2 .left) (ap (λ (m : ℕ). leb 16 (knownIn (c .before .before .before .before .before .before .before .before .before .before .before .before .before .before .args .log .now) m .locals)) (sym (c .before .before .before .before .before .before .before .before .before .before .before .listed .ensures .0)) ∙ ap (leb 16) (sym (c .before .before .before .local-number .ensures)) ∙ lt-leb _ _ (c .before .before .if3 .left))) (c .before .before .before .before .before .before .before .before .before .before .before .listed .result) (c .before .before .before .before .before .before .before .before .before .before .before .listed .ensures .0) _ (c .put-added .ensures)
 
 pub add-local-spec : {M : Type 1} → statement M
 add-local-spec =

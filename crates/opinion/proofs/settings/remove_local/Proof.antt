@@ -33,7 +33,7 @@ is-local-requires c κs = (search needs, c .before .before .before .listed .ensu
 returns-2 : tie.Need-returns-2
 unfolding callRows
 returns-2 c =
-    refused _ _ (omega (arith, c .before .before .before .before .before .listed .ensures .0)) 11 (here _ _ _ _ (ap (λ (m : ℕ). not (knownIn _ m .local _)) (sym (c .before .before .before .before .before .listed .ensures .0)) ∙ ap not (sym (c .before .is-local .ensures)) ∙ c .if2 .taken)) (eqb-false 11 0 refl)
+    refused _ _ (omega (arith, c .before .before .before .before .before .listed .ensures .0)) 11 (here _ _ _ _ (ap (λ (m : ℕ). not (knownIn (c .before .before .before .before .before .before .before .before .args .log .now) m .local (c .before .before .before .before .before .before .before .before .args .address))) (sym (c .before .before .before .before .before .listed .ensures .0)) ∙ ap not (sym (c .before .is-local .ensures)) ∙ c .if2 .taken)) (eqb-false 11 0 refl)
 
 -- src/settings.rt:113:5
 put-removed-requires : tie.Need-put-removed-requires
@@ -43,7 +43,7 @@ put-removed-requires c κs = (search needs, omega arith)
 returns-3 : tie.Need-returns-3
 unfolding callRows
 returns-3 c =
-    accepted _ _ (omega (arith, c .before .before .before .before .before .before .before .listed .ensures .0)) (none-of-one _ 11 (ap (λ (m : ℕ). not (knownIn _ m .local _)) (sym (c .before .before .before .before .before .before .before .listed .ensures .0)) ∙ ap not (sym (c .before .before .before .is-local .ensures)) ∙ c .before .before .if2 .left)) (c .before .before .before .before .before .before .before .listed .result) (c .before .before .before .before .before .before .before .listed .ensures .0) _ (c .put-removed .ensures)
+    accepted _ _ (omega (arith, c .before .before .before .before .before .before .before .listed .ensures .0)) (none-of-one _ 11 (ap (λ (m : ℕ). not (knownIn (c .before .before .before .before .before .before .before .before .before .before .args .log .now) m .local (c .before .before .before .before .before .before .before .before .before .before .args .address))) (sym (c .before .before .before .before .before .before .before .listed .ensures .0)) ∙ ap not (sym (c .before .before .before .is-local .ensures)) ∙ c .before .before .if2 .left)) (c .before .before .before .before .before .before .before .listed .result) (c .before .before .before .before .before .before .before .listed .ensures .0) _ (c .put-removed .ensures)
 
 pub remove-local-spec : {M : Type 1} → statement M
 remove-local-spec =
