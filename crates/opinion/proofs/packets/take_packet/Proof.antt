@@ -30,7 +30,7 @@ packet-refusal-requires c κs = (search needs, c .before .before .listed .ensure
 returns : tie.Need-returns
 returns c =
     let log = c .before .before .before .before .before .before .before .before .before .args .log .now in
-    packet-refused log _ _ _ (c .before .packet-refusal .ensures ∙ ap (λ (m : ℕ). packetRefused (ownIn log) (entriesOf log m) (arrivalBy (c .before .before .before .before .before .before .before .before .before .args .packet .now) (c .before .before .before .before .before .before .before .before .before .args .port) (c .before .before .before .before .before .before .before .before .before .args .clock) (c .before .before .before .before .before .before .before .before .before .args .signed)) (length (c .before .before .before .before .before .before .before .before .before .args .output .now))) (c .before .before .before .before .listed .ensures .0)) (c .if1 .taken)
+    packet-refused log _ _ _ (c .before .packet-refusal .ensures (c .before .before .before .before .before .before .before .before .before .args .signed) ∙ ap (λ (m : ℕ). packetRefused (ownIn log) (entriesOf log m) (arrivalBy (c .before .before .before .before .before .before .before .before .before .args .packet .now) (c .before .before .before .before .before .before .before .before .before .args .port) (c .before .before .before .before .before .before .before .before .before .args .clock) (c .before .before .before .before .before .before .before .before .before .args .signed)) (length (c .before .before .before .before .before .before .before .before .before .args .output .now))) (c .before .before .before .before .listed .ensures .0)) (c .if1 .taken)
 
 -- src/packets.rt:94:9
 judged-requires : tie.Need-judged-requires
@@ -39,7 +39,7 @@ judged-requires c κs =
     let n : ℕ = c .before .before .before .before .before .before .before .listed .result in
     let a = arrivalBy (c .before .before .before .before .before .before .before .before .before .before .before .before .args .packet .now) (c .before .before .before .before .before .before .before .before .before .before .before .before .args .port) (c .before .before .before .before .before .before .before .before .before .before .before .before .args .clock) (c .before .before .before .before .before .before .before .before .before .before .before .before .args .signed) in
     let output = c .before .before .before .before .before .before .before .before .before .before .before .before .args .output .now in
-    let fine = accepted-packet log n a (length output) (eq-eqb _ 0 (sym (c .before .before .before .before .packet-refusal .ensures) ∙ c .before .before .before .if1 .left)) in
+    let fine = accepted-packet log n a (length output) (eq-eqb _ 0 (sym (c .before .before .before .before .packet-refusal .ensures (c .before .before .before .before .before .before .before .before .before .before .before .before .args .signed)) ∙ c .before .before .before .if1 .left)) in
     (search needs, c .before .before .before .before .before .before .before .listed .ensures .1, fine .readable, fine .port, fine .clock, fine .wide)
 
 -- src/packets.rt:95:5
@@ -49,7 +49,7 @@ put-came-requires c κs =
     let n : ℕ = c .before .before .before .before .before .before .before .before .before .before .before .listed .result in
     let a = arrivalBy (c .before .before .before .before .before .before .before .before .before .before .before .before .before .before .before .before .args .packet .now) (c .before .before .before .before .before .before .before .before .before .before .before .before .before .before .before .before .args .port) (c .before .before .before .before .before .before .before .before .before .before .before .before .before .before .before .before .args .clock) (c .before .before .before .before .before .before .before .before .before .before .before .before .before .before .before .before .args .signed) in
     let output = c .before .before .before .before .before .before .before .before .before .before .before .before .before .before .before .before .args .output .now in
-    let fine = accepted-packet log n a (length output) (eq-eqb _ 0 (sym (c .before .before .before .before .before .before .before .before .packet-refusal .ensures) ∙ c .before .before .before .before .before .before .before .if1 .left)) in
+    let fine = accepted-packet log n a (length output) (eq-eqb _ 0 (sym (c .before .before .before .before .before .before .before .before .packet-refusal .ensures (c .before .before .before .before .before .before .before .before .before .before .before .before .before .before .before .before .args .signed)) ∙ c .before .before .before .before .before .before .before .if1 .left)) in
     (search needs, fine .few, fine .readable, fine .port, fine .clock)
 
 -- src/packets.rt:73:1
@@ -63,9 +63,9 @@ returns-2 c =
     let n : ℕ = c .before .before .before .before .before .before .before .before .before .before .before .before .listed .result in
     let a = arrivalBy (c .before .before .before .before .before .before .before .before .before .before .before .before .before .before .before .before .before .args .packet .now) (c .before .before .before .before .before .before .before .before .before .before .before .before .before .before .before .before .before .args .port) (c .before .before .before .before .before .before .before .before .before .before .before .before .before .before .before .before .before .args .clock) (c .before .before .before .before .before .before .before .before .before .before .before .before .before .before .before .before .before .args .signed) in
     let output = c .before .before .before .before .before .before .before .before .before .before .before .before .before .before .before .before .before .args .output .now in
-    let fine = accepted-packet log n a (length output) (eq-eqb _ 0 (sym (c .before .before .before .before .before .before .before .before .before .packet-refusal .ensures) ∙ c .before .before .before .before .before .before .before .before .if1 .left)) in
+    let fine = accepted-packet log n a (length output) (eq-eqb _ 0 (sym (c .before .before .before .before .before .before .before .before .before .packet-refusal .ensures (c .before .before .before .before .before .before .before .before .before .before .before .before .before .before .before .before .before .args .signed)) ∙ c .before .before .before .before .before .before .before .before .if1 .left)) in
     packet-judged log a output
-    (ap (λ (m : ℕ). eqb (packetRefused (ownIn log) (entriesOf log m) a (length output)) 0) (sym (c .before .before .before .before .before .before .before .before .before .before .before .before .listed .ensures .0)) ∙ eq-eqb _ 0 (sym (c .before .before .before .before .before .before .before .before .before .packet-refusal .ensures) ∙ c .before .before .before .before .before .before .before .before .if1 .left))
+    (ap (λ (m : ℕ). eqb (packetRefused (ownIn log) (entriesOf log m) a (length output)) 0) (sym (c .before .before .before .before .before .before .before .before .before .before .before .before .listed .ensures .0)) ∙ eq-eqb _ 0 (sym (c .before .before .before .before .before .before .before .before .before .packet-refusal .ensures (c .before .before .before .before .before .before .before .before .before .before .before .before .before .before .before .before .before .args .signed)) ∙ c .before .before .before .before .before .before .before .before .if1 .left))
     n (c .before .before .before .before .before .before .before .before .before .before .before .before .listed .ensures .0) _ _ _ (c .before .before .before .before .judged .ensures .0) (c .before .before .before .before .judged .ensures .1) (c .put-came .ensures)
 
 pub take-packet-spec : {M : Type 1} → statement M

@@ -1,5 +1,5 @@
 use Rattle.opinion.proofs.Settled.{row-full, row-room, row-port, row-clock, row-read}
-use Rattle.judging.specs.Seen.{arrivalOf}
+use Rattle.opinion.specs.Steps.{arrivalBy}
 use Rattle.rules.specs.Relay.{Port}
 use Rattle.packet.specs.Read.{readingRefusal}
 use mathlib.Core.Bool.{not}
@@ -17,19 +17,19 @@ use Rattle.packet.proofs.reading_refusal.Reads as reading-refusal-reads
 
 -- src/refusing.rt:37:9
 returns : tie.Need-returns
-returns c =
+returns c signed =
     let log = c .before .before .before .args .log .now in
     let n : ℕ = c .before .before .before .args .n in
-    let a = arrivalOf (c .before .before .before .args .packet .now) (c .before .before .before .args .arrived) in
+    let a = arrivalBy (c .before .before .before .args .packet .now) (c .before .before .before .args .port) (c .before .before .before .args .clock) signed in
     let room : ℕ = c .before .before .before .args .room in
     row-full log n a room (omega arith)
 
 -- src/refusing.rt:40:9
 returns-2 : tie.Need-returns-2
-returns-2 c =
+returns-2 c signed =
     let log = c .before .before .before .before .args .log .now in
     let n : ℕ = c .before .before .before .before .args .n in
-    let a = arrivalOf (c .before .before .before .before .args .packet .now) (c .before .before .before .before .args .arrived) in
+    let a = arrivalBy (c .before .before .before .before .args .packet .now) (c .before .before .before .before .args .port) (c .before .before .before .before .args .clock) signed in
     let room : ℕ = c .before .before .before .before .args .room in
     row-room log n a room (omega arith) (omega arith)
 
@@ -43,10 +43,10 @@ port-at-requires c κs = c .before .before .before .before .before .pre
 
 -- src/refusing.rt:44:9
 returns-3 : tie.Need-returns-3
-returns-3 c =
+returns-3 c signed =
     let log = c .before .before .before .before .before .before .before .before .args .log .now in
     let n : ℕ = c .before .before .before .before .before .before .before .before .args .n in
-    let a = arrivalOf (c .before .before .before .before .before .before .before .before .args .packet .now) (c .before .before .before .before .before .before .before .before .args .arrived) in
+    let a = arrivalBy (c .before .before .before .before .before .before .before .before .args .packet .now) (c .before .before .before .before .before .before .before .before .args .port) (c .before .before .before .before .before .before .before .before .args .clock) signed in
     let room : ℕ = c .before .before .before .before .before .before .before .before .args .room in
     row-port log n a room (omega arith) (omega arith) (ap (λ (p : Port). not (p .on)) (sym (c .before .before .port-at .ensures)) ∙ c .if3 .taken)
 
@@ -56,10 +56,10 @@ clock-bad-requires c κs = c .before .before .before .before .before .before .be
 
 -- src/refusing.rt:47:9
 returns-4 : tie.Need-returns-4
-returns-4 c =
+returns-4 c signed =
     let log = c .before .before .before .before .before .before .before .before .before .before .args .log .now in
     let n : ℕ = c .before .before .before .before .before .before .before .before .before .before .args .n in
-    let a = arrivalOf (c .before .before .before .before .before .before .before .before .before .before .args .packet .now) (c .before .before .before .before .before .before .before .before .before .before .args .arrived) in
+    let a = arrivalBy (c .before .before .before .before .before .before .before .before .before .before .args .packet .now) (c .before .before .before .before .before .before .before .before .before .before .args .port) (c .before .before .before .before .before .before .before .before .before .before .args .clock) signed in
     let room : ℕ = c .before .before .before .before .before .before .before .before .before .before .args .room in
     row-clock log n a room (omega arith) (omega arith) (ap (λ (p : Port). not (p .on)) (sym (c .before .before .before .before .port-at .ensures)) ∙ c .before .before .if3 .left) (sym (c .before .clock-bad .ensures) ∙ c .if4 .taken)
 
@@ -69,10 +69,10 @@ reading-refusal-requires c κs = search needs
 
 -- src/refusing.rt:31:1
 returns-5 : tie.Need-returns-5
-returns-5 c =
+returns-5 c signed =
     let log = c .before .before .before .before .before .before .before .before .before .before .before .args .log .now in
     let n : ℕ = c .before .before .before .before .before .before .before .before .before .before .before .args .n in
-    let a = arrivalOf (c .before .before .before .before .before .before .before .before .before .before .before .args .packet .now) (c .before .before .before .before .before .before .before .before .before .before .before .args .arrived) in
+    let a = arrivalBy (c .before .before .before .before .before .before .before .before .before .before .before .args .packet .now) (c .before .before .before .before .before .before .before .before .before .before .before .args .port) (c .before .before .before .before .before .before .before .before .before .before .before .args .clock) signed in
     let room : ℕ = c .before .before .before .before .before .before .before .before .before .before .before .args .room in
     c .reading-refusal .ensures
     ∙ ap (λ (p : Port). readingRefusal (p .size) (a .bytes)) (c .before .before .before .before .before .port-at .ensures)
