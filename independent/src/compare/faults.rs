@@ -7,7 +7,6 @@ use crate::engine::Call;
 use crate::faults::{self, Fault, With, OF_ANNOUNCING, OF_OPINIONS, OF_PACKETS, OF_RECORDINGS, OF_SAVED, OF_SURVEYS};
 use crate::linked::{Core, SecondOpinion};
 use crate::opinion::Plain;
-use crate::programs::SurveyProgram;
 use crate::relay::Relay;
 use crate::rules::{AsWritten, Rules};
 
@@ -23,7 +22,7 @@ const APART: &[Apart] = &[
     (OF_RECORDINGS, "recordings", |relay| recording::programs_differ(&Core, relay)),
     (OF_SAVED, "saved files", |relay| saved::programs_differ(&Core, relay)),
     (OF_ANNOUNCING, "announces of our own", |relay| announcing::programs_differ(&Core, relay)),
-    (OF_SURVEYS, "surveys", |relay| survey::programs_differ(&SurveyProgram::default(), relay)),
+    (OF_SURVEYS, "surveys", |relay| survey::programs_differ(&Core, relay)),
     (OF_OPINIONS, "second opinions", |relay| {
         let faulty = Relay::new(relay.rules.clone());
         opinion::opinions_differ(&mut SecondOpinion::default(), &mut Plain::by(faulty, relay.rules.clone()))

@@ -9,6 +9,17 @@ use haskumye::{BadForm, Mode, NoWayOn, Reason, Refusal};
 use model::{constants_differ, functions_differ, structs_differ, Interface};
 use std::path::{Path, PathBuf};
 
+/// Where the lengths of what crosses are declared, each before its use: places and fields use one another's.
+const LENGTHS: [&str; 7] = [
+    "crates/rules/src/lib.rt",
+    "crates/numbers/src/lib.rt",
+    "crates/tables/src/places.rt",
+    "crates/tables/src/fields.rt",
+    "crates/tables/src/places.rt",
+    "crates/surveying/src/counting.rt",
+    "crates/surveying/src/lib.rt",
+];
+
 /// The texts of the three sources, and of the numbers of documents 01 and 02.
 #[derive(Clone)]
 struct Texts {
@@ -39,8 +50,11 @@ impl Texts {
         Self {
             header: text("include/haskumye.h"),
             rust: text("bindings/rust/src/lib.rs") + &text("bindings/rust/src/raw.rs"),
-            rattle: text("crates/rules/src/lib.rt") + &rattle_texts("crates/haskumye/src"),
-            numbers: rattle_texts("crates/numbers/src") + &text("crates/recording/src/numbers.rt") + &text("crates/saved/src/format.rt"),
+            rattle: LENGTHS.iter().map(|path| text(path)).collect::<String>() + &rattle_texts("crates/haskumye/src"),
+            numbers: rattle_texts("crates/numbers/src")
+                + &text("crates/recording/src/numbers.rt")
+                + &text("crates/saved/src/format.rt")
+                + &rattle_texts("crates/surveying/src"),
         }
     }
 
@@ -158,9 +172,9 @@ fn the_three_agree() {
 fn something_is_compared() {
     let texts = Texts::read();
     let header = header::read("the header", &texts.header);
-    assert_eq!((header.functions.len(), header.structs.len()), (50, 16));
+    assert_eq!((header.functions.len(), header.structs.len()), (53, 19));
     assert_eq!(header.functions["haskumye_packet"].arguments.len(), 10);
-    assert_eq!(header.constants.len(), 107);
+    assert_eq!(header.constants.len(), 112);
 }
 
 #[test]
