@@ -43,10 +43,10 @@ def run(options: argparse.Namespace) -> int:
 def _replayed(relay: haskumye.Relay, recordings: list[Recording]) -> Iterator[Event]:
     """All events; where there are several recordings, standard error says which one the lines are of."""
     done = 0
-    with Progress("packets replayed", sum(recording.count for recording in recordings)) as progress:
+    with Progress("packets replayed", sum(recording.packets for recording in recordings)) as progress:
         for recording in recordings:
             if len(recordings) > 1:
-                progress.say(f"{recording.name}: {counted(recording.count, 'packet')}")
+                progress.say(f"{recording.name}: {counted(recording.packets, 'packet')}")
             for event in replay(relay, recording):
                 yield event
                 done += 1
