@@ -21,7 +21,7 @@ class Heading(NamedTuple):
     edition: int
 
 
-RECORDING, SAVED = 1, 2  # kinds
+SAVED = 2  # the kind of saved tables; a recording's is 1
 
 
 def heading(data: bytes) -> Heading:
@@ -83,7 +83,7 @@ def write(name: str, data: bytes) -> None:
 def _replace(path: pathlib.Path, data: bytes) -> None:
     new = path.with_name(f".{path.name}.{os.getpid()}")
     try:
-        with open(new, "xb") as file:
+        with open(new, "wb") as file:
             file.write(data)
             file.flush()
             os.fsync(file.fileno())

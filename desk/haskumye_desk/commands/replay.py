@@ -34,9 +34,9 @@ def run(options: argparse.Namespace) -> int:
         print(f"{event.replayed.line}: {sentence(event.replayed)}" if options.why else event.replayed.line)
         events.append(event)
     sys.stdout.flush()
-    pictures.draw(drawings, events)
     if options.save is not None:
         files.write(options.save, relay.save())
+    pictures.draw(drawings, events)
     return DONE
 
 
