@@ -1,5 +1,5 @@
 // What the programs read and write: a file that an argument names, and a text on standard output.
-// Entry points: read_file, print.
+// Entry points: read_file, print. What is printed lies within its text, which the programs show of every line.
 use libc::STDOUT_FILENO;
 use text::Text;
 ghost use Prim.Native.Nat.{_≤_};
