@@ -55,7 +55,7 @@ extern "C" {
 #define HASKUMYE_SHORTEST_PACKET 19 /* 35 in type 2; a port's least size */
 #define HASKUMYE_LONGEST_PACKET 500 /* a port's greatest size, which a fresh relay's ports have */
 #define HASKUMYE_LONGEST_MESSAGE 65535 /* for haskumye_sha256 */
-#define HASKUMYE_TEXT_SIZE 160  /* a line of haskumye_line or haskumye_replay_entry, an answer's text or sentence */
+#define HASKUMYE_TEXT_SIZE 160  /* a line of haskumye_line, haskumye_replay_entry or a survey, an answer's text */
 #define HASKUMYE_RECORDING_SIZE 60000 /* the longest recording */
 #define HASKUMYE_ENTRY_WIDTH 12 /* an entry as haskumye_write_recording takes it */
 #define HASKUMYE_SAVED_SIZE 103108 /* what haskumye_save writes, exactly; haskumye_saved_size() says the same */
@@ -69,6 +69,12 @@ extern "C" {
 #define HASKUMYE_RETURN_COUNT 512 /* receipts under way */
 #define HASKUMYE_HASH_COUNT 1024  /* remembered packets */
 #define HASKUMYE_CLOCK_LIMIT UINT64_C(1099511627776) /* seconds: every clock is below 2^40 */
+
+/* Of a survey. */
+#define HASKUMYE_RECORDING_LIMIT 16 /* recordings that are read */
+#define HASKUMYE_SURVEY_LINES 49    /* places of lines, 0 to 48 */
+#define HASKUMYE_COUNTER_COUNT 79
+#define HASKUMYE_REFUSAL_COUNT 18
 
 /* The announce rate is set to these at most. */
 #define HASKUMYE_TARGET_LIMIT 86400 /* seconds: a day */
@@ -408,6 +414,24 @@ typedef struct {
     uint32_t kept;
 } haskumye_tally;
 
+/* Tables in a struct, of exactly their size. */
+typedef struct {
+    uint8_t bytes[HASKUMYE_TABLE_SIZE];
+} haskumye_tables;
+
+/*
+ * A survey's counters: packets, bytes in, bytes out and packets dropped of the sixteen ports, then the drops by each
+ * test, 1 to 11, 15, 12, 16, 13.
+ */
+typedef struct {
+    uint64_t counters[HASKUMYE_COUNTER_COUNT];
+} haskumye_survey_counts;
+
+/* Of a survey's recordings: at 0 how many were read, at n the refusal of the nth or 0, at 17 that of a 17th. */
+typedef struct {
+    uint8_t refusals[HASKUMYE_REFUSAL_COUNT];
+} haskumye_survey_refusals;
+
 HASKUMYE_ASSERT_SIZE(haskumye_address, 16);
 HASKUMYE_ASSERT_SIZE(haskumye_hash, 32);
 HASKUMYE_ASSERT_SIZE(haskumye_blob, 10);
@@ -423,6 +447,9 @@ HASKUMYE_ASSERT_SIZE(haskumye_setting, 4);
 HASKUMYE_ASSERT_SIZE(haskumye_rate_settings, 12);
 HASKUMYE_ASSERT_SIZE(haskumye_path_record, 61);
 HASKUMYE_ASSERT_SIZE(haskumye_link_record, 29);
+HASKUMYE_ASSERT_SIZE(haskumye_tables, HASKUMYE_TABLE_SIZE);
+HASKUMYE_ASSERT_SIZE(haskumye_survey_counts, 8 * HASKUMYE_COUNTER_COUNT);
+HASKUMYE_ASSERT_SIZE(haskumye_survey_refusals, HASKUMYE_REFUSAL_COUNT);
 
 /* ---- Which library this is. ---- */
 
@@ -675,6 +702,36 @@ HASKUMYE_CHECKED haskumye_written haskumye_write_recording(const uint8_t *entrie
 HASKUMYE_CHECKED haskumye_answer haskumye_replay_entry(const uint8_t *file, size_t length, uint64_t index,
                                                        uint8_t *tables, size_t size, haskumye_tally *tally,
                                                        haskumye_text *line);
+
+/*
+ * ---- Surveys: what up to 16 recordings come to, by port and by reason, in a text of lines. ----
+ * The host lends what lasts from call to call: the tables that each recording starts from, tables to replay over, the
+ * counters and the recordings' refusals. A survey is a begin, the recordings in order, then its lines.
+ */
+
+/*
+ * Begins a survey by a saved file, of which own address, ports, announce rate and local addresses count: each recording
+ * finds a fresh relay with these. Returns a refusal (20, 21, 22, 24), and then all stays, or 0.
+ */
+HASKUMYE_CHECKED uint8_t haskumye_survey_begin(const uint8_t *file, size_t length, haskumye_tables *start,
+                                               haskumye_tables *work, haskumye_survey_counts *counts,
+                                               haskumye_survey_refusals *refusals);
+
+/*
+ * Replays a recording from the start, and counts what it comes to. A refusal (29 for a 17th, which is not read; else
+ * 20, 21, 22, 23) is noted for the recording's line, and nothing is counted; or 0.
+ */
+HASKUMYE_CHECKED uint8_t haskumye_survey_recording(const uint8_t *file, size_t length, const haskumye_tables *start,
+                                                   haskumye_tables *work, haskumye_survey_counts *counts,
+                                                   haskumye_survey_refusals *refusals);
+
+/*
+ * The line at a place of the text, below HASKUMYE_SURVEY_LINES: `survey`, those of recordings, ports and tests, as
+ * `port 3 packets 10 in 900 out 450 dropped 1/5`; a line feed ends it. Returns its length: 0 at the place of a
+ * recording that was not refused, and past the last.
+ */
+size_t haskumye_survey_line(const haskumye_survey_counts *counts, const haskumye_survey_refusals *refusals,
+                            uint64_t place, haskumye_text *line);
 
 /* ---- Words for numbers: bindings/words has all of them, for every language. ---- */
 

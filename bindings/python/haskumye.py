@@ -43,6 +43,10 @@ LINK_COUNT = 64
 RETURN_COUNT = 512
 HASH_COUNT = 1024
 CLOCK_LIMIT = 1 << 40
+RECORDING_LIMIT = 16
+SURVEY_LINES = 49
+COUNTER_COUNT = 79
+REFUSAL_COUNT = 18
 TARGET_LIMIT = 86400
 GRACE_LIMIT = 254
 PENALTY_LIMIT = 604800
@@ -390,6 +394,9 @@ FUNCTIONS = {
     "haskumye_recording_entry": (c_uint8, [*_BYTES, c_uint64, _TAKEN]),
     "haskumye_write_recording": (c_uint32, [*_BYTES, *_BYTES, *_BUFFER]),
     "haskumye_replay_entry": (c_uint64, [*_BYTES, c_uint64, *_BUFFER, _TAKEN, _TAKEN]),
+    "haskumye_survey_begin": (c_uint8, [*_BYTES, _TAKEN, _TAKEN, _TAKEN, _TAKEN]),
+    "haskumye_survey_recording": (c_uint8, [*_BYTES, _GIVEN, _TAKEN, _TAKEN, _TAKEN]),
+    "haskumye_survey_line": (c_size_t, [_GIVEN, _GIVEN, c_uint64, _TAKEN]),
 }
 
 
@@ -758,6 +765,29 @@ class Relay:
             return True
         _done(told)
         return False
+
+
+class Survey:
+    """What up to RECORDING_LIMIT recordings come to, by port and by reason. Each is replayed by a fresh relay with the same settings."""
+
+    def __init__(self, settings):
+        """By a saved relay, of which own address, ports, announce rate and local addresses count. Refusals 20, 21, 22 and 24, in this order."""
+        self._start, self._work = ctypes.create_string_buffer(TABLE_SIZE), ctypes.create_string_buffer(TABLE_SIZE)
+        self._counts, self._refusals = (c_uint64 * COUNTER_COUNT)(), (c_uint8 * REFUSAL_COUNT)()
+        settings = _bytes(settings)
+        _done(_library.haskumye_survey_begin(settings, len(settings), self._start, self._work, self._counts, self._refusals))
+
+    def add(self, recording):
+        """Replays a recording, and counts what it comes to. Refusal 29 for a 17th, which is not read; else 20, 21, 22 and 23. A refused one has a line
+        in the text, and nothing is counted."""
+        recording = _bytes(recording)
+        _done(_library.haskumye_survey_recording(recording, len(recording), self._start, self._work, self._counts, self._refusals))
+
+    def text(self):
+        """The whole text: `survey`, then a line for each refused recording, for each port and for each test."""
+        line, counts, refusals = ctypes.create_string_buffer(TEXT_SIZE), bytes(self._counts), bytes(self._refusals)
+        lengths = (_library.haskumye_survey_line(counts, refusals, place, line) for place in range(SURVEY_LINES))
+        return "".join(line.raw[:length].decode("ascii") for length in lengths)
 
 
 def _path(told):

@@ -490,6 +490,32 @@ class TestSaved(unittest.TestCase):
             self.assertEqual(sizes, {1: 19, 7: 400, 8: 255} if path.read_bytes()[1] >= 5 else {})
 
 
+class TestSurveys(unittest.TestCase):
+    refused = TestRefusals.refused
+
+    def test_a_survey(self):
+        """Recordings, refused ones among them, each from a fresh relay with the settings of this one, which knows more."""
+        box, (packet, _) = relay(3), announce()
+        box.packet(packet, 1, 1 << 39, signed=True)
+        day = haskumye.write_recording([Recorded(1000, 1, True, packet), Recorded(1001, 1, True, packet), Recorded(1002, 9, True, packet)])
+        survey = haskumye.Survey(box.save())
+        self.assertEqual(len(survey.text().splitlines()), 32)
+        survey.add(day)
+        for file, refusal in (b"", Refusal.FILE_LENGTH), (b"\2" + day[1:], Refusal.FILE_KIND):
+            self.refused(refusal, survey.add, file)
+        for _ in range(13):
+            survey.add(bytearray(day))
+        for _ in range(2):
+            self.refused(Refusal.SURVEY_FULL, survey.add, day)
+        size = len(packet)
+        lines = survey.text().splitlines()
+        self.assertEqual(lines[:4], ["survey", "recording 2 refused 20", "recording 3 refused 21", "recording 17 refused 29"])
+        self.assertEqual(lines[4], f"port 0 packets 0 in 0 out {14 * (size + 16)} dropped 0/1")
+        self.assertEqual(lines[5], f"port 1 packets 28 in {28 * size} out 0 dropped 1/2")
+        self.assertEqual(lines[20:22], ["reason 1 0", "reason 2 14"])
+        self.refused(Refusal.FILE_LENGTH, haskumye.Survey, b"")
+
+
 class TestAgreement(unittest.TestCase):
     """What the header declares, without its comments and inline functions."""
 

@@ -215,3 +215,35 @@ pub fn replay_entry(file: &[u8], index: u64, tables: &mut [u8], tally: &mut Tall
     let size = tables.len();
     unsafe { haskumye_replay_entry(file.as_ptr(), file.len(), index, tables.as_mut_ptr(), size, tally.as_mut_ptr().cast(), line) }
 }
+
+/// What a host lends to a survey, from call to call.
+pub struct SurveyBuffers {
+    pub start: Box<Tables>,
+    pub work: Box<Tables>,
+    pub counts: SurveyCounts,
+    pub refusals: SurveyRefusals,
+}
+
+impl Default for SurveyBuffers {
+    fn default() -> Self {
+        let tables = || vec![0; TABLE_SIZE].into_boxed_slice().try_into().expect("bytes of that number");
+        Self { start: tables(), work: tables(), counts: [0; COUNTER_COUNT], refusals: [0; REFUSAL_COUNT] }
+    }
+}
+
+/// A settings file's refusal, 20, 21, 22 or 24, or 0.
+pub fn survey_begin(file: &[u8], survey: &mut SurveyBuffers) -> u8 {
+    let SurveyBuffers { start, work, counts, refusals } = survey;
+    unsafe { haskumye_survey_begin(file.as_ptr(), file.len(), &mut **start, &mut **work, counts, refusals) }
+}
+
+/// A recording's refusal, 20 to 23 or 29, or 0.
+pub fn survey_recording(file: &[u8], survey: &mut SurveyBuffers) -> u8 {
+    let SurveyBuffers { start, work, counts, refusals } = survey;
+    unsafe { haskumye_survey_recording(file.as_ptr(), file.len(), &**start, &mut **work, counts, refusals) }
+}
+
+/// The length of a survey's line; the text goes to the buffer, with zeros behind it.
+pub fn survey_line(survey: &SurveyBuffers, place: u64, line: &mut [u8; LINE]) -> usize {
+    unsafe { haskumye_survey_line(&survey.counts, &survey.refusals, place, line) }
+}

@@ -2,15 +2,15 @@
 
 use crate::announcing::Own;
 use crate::answer::{Refusal, Tally};
-use crate::core::{self, crossing, PartsBytes, LINE};
+use crate::core::{self, crossing, PartsBytes, SurveyBuffers, LINE};
 use crate::engine::{
     decoded, encoded, AnnounceCalls, AnswerCalls, Engine, Fields, Outcome, PacketCalls, RecordingCalls, SavedCalls, SurveyCalls,
 };
 use crate::packet::{Address, Blob, PacketHash, Parts};
-use crate::programs::SurveyProgram;
 use crate::relay::asking::Question;
 use crate::relay::Arrival;
 use crate::tables::AnnounceRate;
+use haskumye::raw::SURVEY_LINES;
 
 /// The core keeps nothing between calls: all is in the caller's bytes.
 pub struct Core;
@@ -189,8 +189,25 @@ impl AnnounceCalls for Core {
     }
 }
 
+/// A line, behind which zeros stand.
+fn survey_line(survey: &SurveyBuffers, place: u64) -> String {
+    let mut line = [1; LINE];
+    let length = core::survey_line(survey, place, &mut line);
+    assert!(line[length..].iter().all(|byte| *byte == 0), "zeros behind a survey's line");
+    String::from_utf8_lossy(&line[..length]).into()
+}
+
 impl SurveyCalls for Core {
     fn survey(&self, settings: &[u8], recordings: &[Vec<u8>]) -> String {
-        SurveyProgram::default().survey(settings, recordings)
+        let mut survey = SurveyBuffers::default();
+        let refusal = core::survey_begin(settings, &mut survey);
+        if refusal > 0 {
+            return format!("settings refused {refusal}\n");
+        }
+        for file in recordings {
+            core::survey_recording(file, &mut survey);
+        }
+        // one place more than there are
+        (0..=SURVEY_LINES as u64).map(|place| survey_line(&survey, place)).collect()
     }
 }

@@ -249,6 +249,29 @@ static uint64_t replay_entry(const struct use *use)
                                  (haskumye_tally *)(void *)use->tally.bytes, (haskumye_text *)use->output.bytes);
 }
 
+static uint64_t survey_begin(const struct use *use)
+{
+    return haskumye_survey_begin(use->input.bytes, use->input.length, (haskumye_tables *)use->start.bytes,
+                                 (haskumye_tables *)use->tables.bytes,
+                                 (haskumye_survey_counts *)(void *)use->counts.bytes,
+                                 (haskumye_survey_refusals *)use->refusals.bytes);
+}
+
+static uint64_t survey_recording(const struct use *use)
+{
+    return haskumye_survey_recording(use->input.bytes, use->input.length, (const haskumye_tables *)use->start.bytes,
+                                     (haskumye_tables *)use->tables.bytes,
+                                     (haskumye_survey_counts *)(void *)use->counts.bytes,
+                                     (haskumye_survey_refusals *)use->refusals.bytes);
+}
+
+static uint64_t survey_line(const struct use *use)
+{
+    return haskumye_survey_line((const haskumye_survey_counts *)(void *)use->counts.bytes,
+                                (const haskumye_survey_refusals *)use->refusals.bytes, use->index,
+                                (haskumye_text *)use->output.bytes);
+}
+
 static const struct {
     const char *name;
     uint64_t (*call)(const struct use *use);
@@ -296,6 +319,9 @@ static const struct {
     [RECORDING_ENTRY] = {"haskumye_recording_entry", recording_entry},
     [WRITE_RECORDING] = {"haskumye_write_recording", write_recording},
     [REPLAY_ENTRY] = {"haskumye_replay_entry", replay_entry},
+    [SURVEY_BEGIN] = {"haskumye_survey_begin", survey_begin},
+    [SURVEY_RECORDING] = {"haskumye_survey_recording", survey_recording},
+    [SURVEY_LINE] = {"haskumye_survey_line", survey_line},
 };
 
 static bool measuring;

@@ -50,6 +50,9 @@ enum function {
     RECORDING_ENTRY,
     WRITE_RECORDING,
     REPLAY_ENTRY,
+    SURVEY_BEGIN,
+    SURVEY_RECORDING,
+    SURVEY_LINE,
     FUNCTION_COUNT
 };
 
@@ -61,6 +64,7 @@ struct use {
     struct buffer tables;
     struct buffer tally;
     struct buffer keys, name_hash, random, ratchet, app_data, signature; /* of an announce to be built */
+    struct buffer start, counts, refusals; /* of a survey, which replays over the tables */
     uint64_t port, clock, mode, index; /* index: of an entry, a place in a table, or an answer */
     uint64_t size;        /* of a port, or that a packet is read at */
     uint64_t target, grace, penalty;   /* of the announce rate */

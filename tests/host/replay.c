@@ -18,6 +18,7 @@
 #include "calls.h"
 #include "relay.h"
 #include "saved.h"
+#include "surveys.h"
 
 #include <signal.h>
 #include <stdio.h>
@@ -135,6 +136,7 @@ int main(int count, char **words)
     announces_try();
     recordings_try();
     saved_try_odd();
+    surveys_try();
     library_end();
     return check_end() ? 0 : 1;
 }

@@ -16,6 +16,7 @@ mod question;
 pub mod raw;
 mod recording;
 mod relay;
+mod survey;
 
 pub use announce::Announce;
 pub use answer::{BadForm, Mode, NoWayOn, PortSet, Ports, Reason, Refusal, Verdict};
@@ -23,11 +24,12 @@ pub use packet::{announced_destination, emission, least_announce, line, link_id,
 pub use question::{AnnounceRate, Link, Path, Port};
 pub use raw::{
     Parts, Tally, CLOCK_LIMIT, GRACE_LIMIT, HASH_COUNT, LINK_COUNT, LOCAL_COUNT, LONGEST_MESSAGE, LONGEST_PACKET, LONGEST_SAVED,
-    OUTPUT_SIZE, PATH_COUNT, PENALTY_LIMIT, PORT_COUNT, RECORDING_SIZE, RETURN_COUNT, SAVED_SIZE, SHORTEST_PACKET, TABLE_SIZE,
-    TARGET_LIMIT,
+    OUTPUT_SIZE, PATH_COUNT, PENALTY_LIMIT, PORT_COUNT, RECORDING_LIMIT, RECORDING_SIZE, RETURN_COUNT, SAVED_SIZE, SHORTEST_PACKET,
+    TABLE_SIZE, TARGET_LIMIT,
 };
 pub use recording::{check_recording, entries, write_recording, Entries, Recorded, Replayed};
 pub use relay::Relay;
+pub use survey::Survey;
 
 /// The address of a relay or destination, or a link's id.
 pub type Address = [u8; 16];

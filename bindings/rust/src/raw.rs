@@ -45,6 +45,15 @@ pub const HASH_COUNT: usize = 1024;
 /// Every clock, in seconds, is below 2^40.
 pub const CLOCK_LIMIT: u64 = 1099511627776;
 
+/// How many recordings a survey reads.
+pub const RECORDING_LIMIT: usize = 16;
+/// How many places of lines a survey's text has.
+pub const SURVEY_LINES: usize = 49;
+/// How many counters a survey has.
+pub const COUNTER_COUNT: usize = 79;
+/// How many refusals of recordings it keeps, their number among them.
+pub const REFUSAL_COUNT: usize = 18;
+
 /// The announce rate's target, in seconds, is this at most.
 pub const TARGET_LIMIT: u64 = 86400;
 /// Its grace is this at most.
@@ -256,6 +265,13 @@ pub struct LinkRecord {
 /// A line of text. Zeros fill what is left, one at least.
 pub type Text = [u8; TEXT_SIZE];
 
+/// Tables, of exactly their size.
+pub type Tables = [u8; TABLE_SIZE];
+/// A survey's counters: packets, bytes in, bytes out and packets dropped of the sixteen ports, then the drops by each test.
+pub type SurveyCounts = [u64; COUNTER_COUNT];
+/// The refusals of a survey's recordings: how many were read, then of each its refusal or 0.
+pub type SurveyRefusals = [u8; REFUSAL_COUNT];
+
 #[allow(missing_docs)] // the header has the comments
 extern "C" {
     pub fn haskumye_version() -> u32;
@@ -369,4 +385,22 @@ extern "C" {
         tally: *mut Tally,
         line: *mut Text,
     ) -> u64;
+
+    pub fn haskumye_survey_begin(
+        file: *const u8,
+        length: usize,
+        start: *mut Tables,
+        work: *mut Tables,
+        counts: *mut SurveyCounts,
+        refusals: *mut SurveyRefusals,
+    ) -> u8;
+    pub fn haskumye_survey_recording(
+        file: *const u8,
+        length: usize,
+        start: *const Tables,
+        work: *mut Tables,
+        counts: *mut SurveyCounts,
+        refusals: *mut SurveyRefusals,
+    ) -> u8;
+    pub fn haskumye_survey_line(counts: *const SurveyCounts, refusals: *const SurveyRefusals, place: u64, line: *mut Text) -> usize;
 }

@@ -6,7 +6,6 @@ use super::{announcing, packet, recording, saved, shrink, survey, Options, Tally
 use crate::engine::Call;
 use crate::faults::{self, Fault, With, OF_ANNOUNCING, OF_PACKETS, OF_RECORDINGS, OF_SAVED, OF_SURVEYS};
 use crate::linked::Core;
-use crate::programs::SurveyProgram;
 use crate::relay::Relay;
 use crate::rules::{AsWritten, Rules};
 
@@ -22,7 +21,7 @@ const APART: &[Apart] = &[
     (OF_RECORDINGS, "recordings", |relay| recording::programs_differ(&Core, relay)),
     (OF_SAVED, "saved files", |relay| saved::programs_differ(&Core, relay)),
     (OF_ANNOUNCING, "announces of our own", |relay| announcing::programs_differ(&Core, relay)),
-    (OF_SURVEYS, "surveys", |relay| survey::programs_differ(&SurveyProgram::default(), relay)),
+    (OF_SURVEYS, "surveys", |relay| survey::programs_differ(&Core, relay)),
 ];
 
 pub fn run(options: &Options, tally: &mut Tally) {

@@ -9,6 +9,15 @@ use haskumye::{BadForm, Mode, NoWayOn, Reason, Refusal};
 use model::{constants_differ, functions_differ, structs_differ, Interface};
 use std::path::{Path, PathBuf};
 
+/// Where the lengths of what crosses are declared, each before its use.
+const LENGTHS: [&str; 5] = [
+    "crates/rules/src/lib.rt",
+    "crates/numbers/src/lib.rt",
+    "crates/tables/src/places.rt",
+    "crates/surveying/src/counting.rt",
+    "crates/surveying/src/lib.rt",
+];
+
 /// The texts of the three sources, and of the numbers of documents 01 and 02.
 #[derive(Clone)]
 struct Texts {
@@ -39,8 +48,11 @@ impl Texts {
         Self {
             header: text("include/haskumye.h"),
             rust: text("bindings/rust/src/lib.rs") + &text("bindings/rust/src/raw.rs"),
-            rattle: text("crates/rules/src/lib.rt") + &rattle_texts("crates/haskumye/src"),
-            numbers: rattle_texts("crates/numbers/src") + &text("crates/recording/src/numbers.rt") + &text("crates/saved/src/format.rt"),
+            rattle: LENGTHS.iter().map(|path| text(path)).collect::<String>() + &rattle_texts("crates/haskumye/src"),
+            numbers: rattle_texts("crates/numbers/src")
+                + &text("crates/recording/src/numbers.rt")
+                + &text("crates/saved/src/format.rt")
+                + &rattle_texts("crates/surveying/src"),
         }
     }
 

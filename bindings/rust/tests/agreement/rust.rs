@@ -1,7 +1,7 @@
 //! What Rust and Rattle declare: the two write functions, structs and types alike.
 
 use crate::model::{flat, Access, Argument, Fields, Function, Interface, Type};
-use crate::text::{without_comments, Tokens};
+use crate::text::{self, without_comments, Tokens};
 use std::collections::BTreeMap;
 
 /// How a function that crosses begins in Rust's extern block.
@@ -52,12 +52,25 @@ impl Source {
         self.aliases.insert(name, block);
     }
 
+    /// A constant that is a sum of products of numbers and constants before it; another is no length.
     fn constant(&mut self, tokens: &mut Tokens) {
         let name = tokens.next();
-        tokens.expect(":");
-        tokens.next();
-        tokens.expect("=");
-        self.interface.constants.insert(format!("HASKUMYE_{name}"), tokens.number());
+        while !tokens.take("=") {
+            tokens.next();
+        }
+        let mut words = vec![];
+        while !tokens.take(";") {
+            words.push(tokens.next());
+        }
+        let product = |words: &[String]| words.split(|word| word == "*").map(|factor| self.value(factor)).product::<Option<u64>>();
+        let sum: Option<u64> = words.split(|word| word == "+").map(product).sum();
+        self.interface.constants.extend(sum.map(|value| (format!("HASKUMYE_{name}"), value)));
+    }
+
+    /// A number, or a constant that is known.
+    fn value(&self, words: &[String]) -> Option<u64> {
+        let [word] = words else { return None };
+        text::number(word).or_else(|| self.interface.constants.get(&format!("HASKUMYE_{word}")).copied())
     }
 
     /// A struct with named fields; another is not of those that cross.

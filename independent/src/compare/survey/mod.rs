@@ -1,10 +1,12 @@
-//! Surveys: the text of two programs on the same settings and recordings, whole and damaged, byte for byte.
+//! Surveys: the text of the proved program, of the library and of the independent program on the same settings and recordings, whole and damaged, byte
+//! for byte.
 
 mod reached;
 mod samples;
 
 use super::{Called, Options, Tally};
 use crate::engine::SurveyCalls;
+use crate::linked::Core;
 use crate::programs::SurveyProgram;
 use crate::relay::Relay;
 use crate::rules::Tuned;
@@ -39,7 +41,8 @@ pub fn run(options: &Options, tally: &mut Tally) {
         let expected = surveyed(&own, &case);
         reached.count(case.recordings.len(), &String::from_utf8_lossy(&expected.buffer));
         let what = format!("survey {number}, of {} recordings", case.recordings.len());
-        tally.long_call(&what, surveyed(&program, &case), expected, options.damage);
+        tally.long_call(&format!("{what}, by the program"), surveyed(&program, &case), expected.clone(), options.damage);
+        tally.long_call(&format!("{what}, by the library"), surveyed(&Core, &case), expected, options.damage);
     }
     for (what, times) in reached.reached() {
         println!("{what}: {times}");
