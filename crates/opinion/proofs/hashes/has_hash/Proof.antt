@@ -1,0 +1,59 @@
+use Rattle.octets.specs.Choice.{same}
+use Rattle.opinion.proofs.Reading.{whole-same}
+use Rattle.opinion.proofs.Entries.{came-reads}
+use Rattle.packet.specs.Hash.{packetHash}
+use Rattle.packet.specs.Read.{longestPacket, reads}
+use lib.ListN.{length}
+use mathlib.Core.Path.{_≡_, sym, ap, subst, _∙_}
+use Prim.Native.Nat.{ℕ}
+use mathlib.Core.List.{List}
+use mathlib.Core.Bool.{true}
+use native.Mathlib.Omega.{arith}
+use borrow.Author.Needs.{needs}
+use Rattle.opinion.proofs.hashes.has_hash.Statement.{statement}
+use Rattle.opinion.proofs.hashes.has_hash.Tie as tie
+use Rattle.opinion.proofs.hashes.has_hash.Reads as reads
+use Rattle.opinion.proofs.hashes.has_hash.Lts as lts
+use Rattle.octets.proofs.equal_at.Reads as equal-at-reads
+use Rattle.opinion.proofs.log.packet_in.Reads as packet-in-reads
+use Rattle.packet.proofs.hash_of.Reads as hash-of-reads
+
+-- src/hashes.rt:22:33
+packet-in-requires : tie.Need-packet-in-requires
+packet-in-requires c κs = search needs
+
+-- src/hashes.rt:22:17
+hash-of-requires : tie.Need-hash-of-requires
+hash-of-requires c κs = subst (λ (p : List ℕ). reads longestPacket p ≡ true) (sym (c .packet-in .ensures .0)) (came-reads _ (c .before .before .pre .1))
+
+-- src/hashes.rt:23:22
+slice-aggregate-equal-at : tie.Need-slice-aggregate-equal-at
+slice-aggregate-equal-at c = search needs
+
+-- src/hashes.rt:23:33
+slice-aggregate-equal-at-2 : tie.Need-slice-aggregate-equal-at-2
+slice-aggregate-equal-at-2 c = search needs
+
+-- src/hashes.rt:23:5
+equal-at-requires : tie.Need-equal-at-requires
+equal-at-requires c κs = search needs
+
+-- src/hashes.rt:18:1
+returns : tie.Need-returns
+returns c =
+    let a = c .before .before .before .before .before .before .args in
+    let wide : length (a .t2) ≡ 32 = search needs in
+    let long : length (c .before .before .before .hash-of .result) ≡ 32 = search needs in
+    whole-same 32 (c .before .before .before .hash-of .result) (a .t2) long wide _ (c .equal-at .ensures)
+    ∙ ap (λ (h : List ℕ). same h (a .t2)) (c .before .before .before .hash-of .ensures ∙ ap packetHash (c .before .before .before .before .packet-in .ensures .0))
+
+pub has-hash-spec : {M : Type 1} → statement M
+has-hash-spec =
+    tie.close
+    (tie.spec
+    packet-in-requires
+    hash-of-requires
+    slice-aggregate-equal-at
+    slice-aggregate-equal-at-2
+    equal-at-requires
+    returns)
