@@ -1,4 +1,4 @@
-use mathlib.Core.Path.{_≡_, refl, sym, ap, ap₂, _∙_}
+use mathlib.Core.Path.{sym, ap, _∙_}
 use borrow.Author.Tests.{leb-false}
 use Rattle.octets.specs.Choice.{_then_otherwise_}
 use Rattle.octets.specs.Part.{patch}
@@ -8,27 +8,19 @@ use Rattle.rules.specs.Judging.{Plan, verdict, outputAfter, leaves}
 use Rattle.rules.specs.declared.Verdict.{Verdict}
 use Rattle.rules.proofs.Passed.{passed}
 use Rattle.judging.specs.Seen.{arrivalOf, viewOf, wayOf, planOf}
-use native.Mathlib.Omega.{arith}
 use borrow.Author.Needs.{needs}
 use Rattle.judging.proofs.answer_of.Statement.{statement}
 use Rattle.judging.proofs.answer_of.Tie as tie
-use Rattle.judging.proofs.answer_of.Reads as reads
-use Rattle.judging.proofs.answer_of.Lts as lts
-use Rattle.judging.proofs.sending.send.Reads as send-reads
 
--- src/lib.rt:167:23
 enum-known-planned : tie.Need-enum-known-planned
 enum-known-planned c = search needs
 
--- src/lib.rt:168:29
 enum-told : tie.Need-enum-told
 enum-told c = search needs
 
--- src/lib.rt:169:25
 enum-known-planned-2 : tie.Need-enum-known-planned-2
 enum-known-planned-2 c = search needs
 
--- src/lib.rt:169:33
 send-requires : tie.Need-send-requires
 unfolding tooManyHops
 send-requires c κs =
@@ -38,7 +30,6 @@ send-requires c κs =
     let way = passed v a _ (sym (c .before .before .before .before .before .before .pre .2) ∙ ap (planOf s a) (c .before .before .planned2 .given .1)) in
     (record { readable = c .before .before .before .before .before .before .pre .0; fewHops = leb-false _ _ (way .1 .fewHops) }, c .before .before .before .before .before .before .pre .1)
 
--- src/lib.rt:151:1
 returns : tie.Need-returns
 unfolding verdict outputAfter
 returns c =
@@ -48,7 +39,6 @@ returns c =
     let todo = sym (ap (planOf s a) (c .before .planned .given .1)) ∙ c .before .before .before .before .before .pre .2 in
     (ap (verdict v a) todo, ap (λ (t : Plan). outputAfter v a t (c .before .before .before .before .before .args .output .now)) todo)
 
--- src/lib.rt:151:1
 returns-2 : tie.Need-returns-2
 unfolding verdict outputAfter
 returns-2 c =
@@ -58,11 +48,9 @@ returns-2 c =
     let todo = sym (ap (planOf s a) (c .enum-told .given .1)) ∙ c .before .before .before .before .pre .2 in
     (ap (verdict v a) todo, ap (λ (t : Plan). outputAfter v a t (c .before .before .before .before .args .output .now)) todo)
 
--- src/lib.rt:151:1
 same-length : tie.Need-same-length
 same-length c = search needs
 
--- src/lib.rt:151:1
 returns-3 : tie.Need-returns-3
 unfolding verdict outputAfter
 returns-3 c =

@@ -1,6 +1,6 @@
-use mathlib.Core.Path.{_≡_, refl, sym, ap, ap₂, _∙_}
+use mathlib.Core.Path.{sym, ap, _∙_}
 use Rattle.packet.specs.Read.{longestPacket}
-use Rattle.outgoing.proofs.LeavingLaws.{long, whole}
+use Rattle.outgoing.proofs.LeavingLaws.{long}
 use Rattle.rules.specs.Judging.{dropped}
 use Rattle.rules.specs.declared.Clause.{Clause}
 use Rattle.rules.specs.declared.Reason.the-variants.{BadForm}
@@ -12,20 +12,10 @@ use native.Mathlib.Omega.{arith}
 use borrow.Author.Needs.{needs}
 use Rattle.judging.proofs.plan_of.Statement.{statement}
 use Rattle.judging.proofs.plan_of.Tie as tie
-use Rattle.judging.proofs.plan_of.Reads as reads
-use Rattle.judging.proofs.plan_of.Lts as lts
-use Rattle.forms.proofs.form_of.Reads as form-of-reads
-use Rattle.judging.proofs.early.delivered_here.Reads as delivered-here-reads
-use Rattle.judging.proofs.early.duplicate.Reads as duplicate-reads
-use Rattle.judging.proofs.early.not_ours.Reads as not-ours-reads
-use Rattle.judging.proofs.early.own_announce.Reads as own-announce-reads
-use Rattle.judging.proofs.onward.plan_onward.Reads as plan-onward-reads
 
--- src/lib.rt:129:8
 not-ours-requires : tie.Need-not-ours-requires
 not-ours-requires c κs = c .before .pre .0
 
--- src/lib.rt:130:9
 returns : tie.Need-returns
 returns c =
     let a = arrivalOf (c .before .before .before .args .packet .now) (c .before .before .before .args .arrived) in
@@ -33,11 +23,9 @@ returns c =
     let v = viewOf s a in
     sym (early-1 v a (sym (c .before .not-ours .ensures) ∙ c .if1 .taken))
 
--- src/lib.rt:132:8
 duplicate-requires : tie.Need-duplicate-requires
 duplicate-requires c κs = c .before .before .before .pre .0
 
--- src/lib.rt:133:9
 returns-2 : tie.Need-returns-2
 returns-2 c =
     let a = arrivalOf (c .before .before .before .before .before .args .packet .now) (c .before .before .before .before .before .args .arrived) in
@@ -46,15 +34,12 @@ returns-2 c =
     sym (past-1 v a (sym (c .before .before .before .not-ours .ensures) ∙ c .before .before .if1 .left)
     ∙ early-2 v a (sym (c .before .duplicate .ensures) ∙ c .if2 .taken))
 
--- src/lib.rt:135:32
 form-of-requires : tie.Need-form-of-requires
 form-of-requires c κs = c .before .before .before .before .before .pre .0
 
--- src/lib.rt:135:22
 enum-known-clause : tie.Need-enum-known-clause
 enum-known-clause c = search needs
 
--- src/lib.rt:136:9
 returns-3 : tie.Need-returns-3
 returns-3 c =
     let a = arrivalOf (c .before .before .before .before .before .before .before .before .before .args .packet .now) (c .before .before .before .before .before .before .before .before .before .args .arrived) in
@@ -69,11 +54,9 @@ returns-3 c =
 enum-told : tie.Need-enum-told
 enum-told c = search needs
 
--- src/lib.rt:138:8
 own-announce-requires : tie.Need-own-announce-requires
 own-announce-requires c κs = c .before .before .before .before .before .before .before .before .pre .0
 
--- src/lib.rt:139:9
 returns-4 : tie.Need-returns-4
 returns-4 c =
     let a = arrivalOf (c .before .before .before .before .before .before .before .before .before .before .args .packet .now) (c .before .before .before .before .before .before .before .before .before .before .args .arrived) in
@@ -84,11 +67,9 @@ returns-4 c =
     ∙ past-3 v a (form-good (a .bytes) (sym (c .before .before .enum-told .given .1) ∙ c .before .before .before .before .form-of .ensures))
     ∙ early-4 v a (sym (c .before .own-announce .ensures) ∙ c .if3 .taken))
 
--- src/lib.rt:141:8
 delivered-here-requires : tie.Need-delivered-here-requires
 delivered-here-requires c κs = c .before .before .before .before .before .before .before .before .before .before .pre .0
 
--- src/lib.rt:142:9
 returns-5 : tie.Need-returns-5
 returns-5 c =
     let a = arrivalOf (c .before .before .before .before .before .before .before .before .before .before .before .before .args .packet .now) (c .before .before .before .before .before .before .before .before .before .before .before .before .args .arrived) in
@@ -100,11 +81,9 @@ returns-5 c =
     ∙ past-4 v a (sym (c .before .before .before .own-announce .ensures) ∙ c .before .before .if3 .left)
     ∙ early-here v a (sym (c .before .delivered-here .ensures) ∙ c .if4 .taken))
 
--- src/lib.rt:144:8
 shared-slice-read-if5 : tie.Need-shared-slice-read-if5
 shared-slice-read-if5 c = omega (arith, long longestPacket (c .before .before .before .before .before .before .before .before .before .before .before .before .before .args .packet .now) (c .before .before .before .before .before .before .before .before .before .before .before .before .before .pre .0))
 
--- src/lib.rt:145:9
 returns-6 : tie.Need-returns-6
 returns-6 c =
     let a = arrivalOf (c .before .before .before .before .before .before .before .before .before .before .before .before .before .before .args .packet .now) (c .before .before .before .before .before .before .before .before .before .before .before .before .before .before .args .arrived) in
@@ -117,11 +96,9 @@ returns-6 c =
     ∙ past-here v a (sym (c .before .before .before .delivered-here .ensures) ∙ c .before .before .if4 .left)
     ∙ early-5 v a (hops-many a (c .if5 .taken)))
 
--- src/lib.rt:147:5
 plan-onward-requires : tie.Need-plan-onward-requires
 plan-onward-requires c κs = (c .before .before .before .before .before .before .before .before .before .before .before .before .before .before .pre .0, c .before .before .before .before .before .before .before .before .before .before .before .before .before .before .pre .1, form-good (c .before .before .before .before .before .before .before .before .before .before .before .before .before .before .args .packet .now) (sym (c .before .before .before .before .before .before .enum-told .given .1) ∙ c .before .before .before .before .before .before .before .before .form-of .ensures))
 
--- src/lib.rt:124:1
 returns-7 : tie.Need-returns-7
 returns-7 c =
     let a = arrivalOf (c .before .before .before .before .before .before .before .before .before .before .before .before .before .before .before .args .packet .now) (c .before .before .before .before .before .before .before .before .before .before .before .before .before .before .before .args .arrived) in

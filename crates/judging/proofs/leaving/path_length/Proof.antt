@@ -1,20 +1,14 @@
-use mathlib.Core.Path.{_≡_, refl, sym, ap, ap₂, _∙_}
+use mathlib.Core.Path.{_≡_, sym, _∙_}
 use lib.ListN.{length}
 use Rattle.packet.specs.Read.{longestPacket}
 use Rattle.outgoing.proofs.LeavingLaws.{path-length}
-use native.Mathlib.Omega.{arith}
 use borrow.Author.Needs.{needs}
 use Rattle.judging.proofs.leaving.path_length.Statement.{statement}
 use Rattle.judging.proofs.leaving.path_length.Tie as tie
-use Rattle.judging.proofs.leaving.path_length.Reads as reads
-use Rattle.judging.proofs.leaving.path_length.Lts as lts
-use Rattle.outgoing.proofs.path_length.Reads as path-length-reads
 
--- src/leaving.rt:48:5
 path-length-requires : tie.Need-path-length-requires
 path-length-requires c κs = search needs
 
--- src/leaving.rt:44:1
 returns : tie.Need-returns
 returns c =
     let wide : length (c .before .before .args .next-hop) ≡ 16 = search needs in

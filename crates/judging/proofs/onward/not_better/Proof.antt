@@ -1,10 +1,10 @@
-use mathlib.Core.Path.{_≡_, refl, sym, ap, ap₂, _∙_}
+use mathlib.Core.Path.{sym, ap, ap₂, _∙_}
 use Rattle.octets.specs.Index.{_and_}
 use Rattle.packet.specs.Read.{longestPacket}
-use Rattle.outgoing.proofs.LeavingLaws.{long, whole}
+use Rattle.outgoing.proofs.LeavingLaws.{long}
 use borrow.Author.Tests.{not-true, not-false}
 use Rattle.packet.specs.Announce.{blobOf, emissionOf}
-use Rattle.judging.specs.Seen.{arrivalOf, viewOf, blobsOf}
+use Rattle.judging.specs.Seen.{arrivalOf}
 use Rattle.judging.proofs.SeenLaws.{test-no, test-yes}
 use lib.Dec.{leb}
 use Rattle.packet.proofs.ReadLaws.{parts-hops}
@@ -13,20 +13,10 @@ use native.Mathlib.Omega.{arith}
 use borrow.Author.Needs.{needs}
 use Rattle.judging.proofs.onward.not_better.Statement.{statement}
 use Rattle.judging.proofs.onward.not_better.Tie as tie
-use Rattle.judging.proofs.onward.not_better.Reads as reads
-use Rattle.judging.proofs.onward.not_better.Lts as lts
-use Rattle.forms.proofs.both.Reads as both-reads
-use Rattle.judging.proofs.blobs.greatest_emission.Reads as greatest-emission-reads
-use Rattle.judging.proofs.onward.tested.Reads as tested-reads
-use Rattle.packet.proofs.blob.Reads as blob-reads
-use Rattle.packet.proofs.emission.Reads as emission-reads
-use Rattle.packet.proofs.payload.Reads as payload-reads
 
--- src/onward.rt:122:9
 tested-requires : tie.Need-tested-requires
 tested-requires c κs = c .before .pre
 
--- src/onward.rt:123:9
 returns : tie.Need-returns
 unfolding notBetter
 returns c =
@@ -34,31 +24,24 @@ returns c =
     let s = c .before .before .before .args .seen in
     sym (test-no s a (isNotBetter a) (c .before .before .before .args .way) (sym (c .before .tested .ensures .made) ∙ not-true _ (c .if1 .taken)))
 
--- src/onward.rt:127:9
 greatest-emission-requires : tie.Need-greatest-emission-requires
 greatest-emission-requires c κs = c .before .before .before .before .before .pre .fits .path .blobs
 
--- src/onward.rt:128:50
 payload-requires : tie.Need-payload-requires
 payload-requires c κs = search needs
 
--- src/onward.rt:128:37
 blob-requires : tie.Need-blob-requires
 blob-requires c κs = rw (c .payload .ensures) (c .before .before .before .before .before .tested .ensures .long (not-false _ (c .before .before .before .before .if1 .left)))
 
--- src/onward.rt:128:9
 emission-requires : tie.Need-emission-requires
 emission-requires c κs = search needs
 
--- src/onward.rt:129:41
 shared-slice-read-both : tie.Need-shared-slice-read-both
 shared-slice-read-both c = omega (arith, long longestPacket (c .before .before .before .before .before .before .before .before .before .before .args .packet .now) (c .before .before .before .before .before .before .before .before .before .before .pre .readable))
 
--- src/onward.rt:129:5
 both-requires : tie.Need-both-requires
 both-requires c κs = search needs
 
--- src/onward.rt:117:1
 returns-2 : tie.Need-returns-2
 unfolding notBetter isNotBetter
 returns-2 c =

@@ -1,5 +1,5 @@
-use mathlib.Core.Path.{_≡_, refl, sym, ap, ap₂, _∙_}
-use mathlib.Core.Bool.{Bool, true, false, not}
+use mathlib.Core.Path.{_≡_, refl, sym, ap, _∙_}
+use mathlib.Core.Bool.{false, not}
 use Prim.Native.Nat.{ℕ, _≤_}
 use mathlib.Core.List.{List, [], _∷_}
 use lib.ListN.{length}
@@ -19,17 +19,9 @@ use Rattle.judging.specs.declared.SeenWay.{SeenWay}
 use Rattle.judging.specs.declared.SeenWay.the-variants.{Everywhere, ByPath, AlongLink, ByReturn, Blocked}
 use Rattle.judging.specs.Seen.{arrivalOf, viewOf, wayOf}
 use Rattle.judging.proofs.PlanLaws.{onward-6, past-6, onward-7, past-7, onward-8, past-8, onward-9, past-9}
-use native.Mathlib.Omega.{arith}
 use borrow.Author.Needs.{needs}
 use Rattle.judging.proofs.onward.plan_onward.Statement.{statement}
 use Rattle.judging.proofs.onward.plan_onward.Tie as tie
-use Rattle.judging.proofs.onward.plan_onward.Reads as reads
-use Rattle.judging.proofs.onward.plan_onward.Lts as lts
-use Rattle.judging.proofs.onward.already_known.Reads as already-known-reads
-use Rattle.judging.proofs.onward.not_signed.Reads as not-signed-reads
-use Rattle.judging.proofs.onward.plan_last.Reads as plan-last-reads
-use Rattle.judging.proofs.onward.wrong_side.Reads as wrong-side-reads
-use Rattle.judging.proofs.ways.way_on.Reads as way-on-reads
 
 abbrev onward : List ℕ
 onward = 0 ∷ 1 ∷ 2 ∷ 3 ∷ []
@@ -48,15 +40,12 @@ announced : (s : Seen) (a : Arrival) {w : SeenWay} → wayOf s a w ≡ wayOn (vi
     → 84 ≤ length (payload (a .bytes))
 announced s a e good is = announce-long a good (announce-way (viewOf s a) a _ (sym e ∙ ap (wayOf s a) is))
 
--- src/onward.rt:199:9
 way-on-requires : tie.Need-way-on-requires
 way-on-requires c κs = c .before .pre .0
 
--- src/onward.rt:200:29
 enum-known-way : tie.Need-enum-known-way
 enum-known-way c = search needs
 
--- src/onward.rt:201:9
 returns : tie.Need-returns
 unfolding noWayOn whyBlocked
 returns c =
@@ -68,11 +57,9 @@ returns c =
     sym (onward-6 v a w (ap noWayOn why) ∙ ap (λ (x : Way). dropped (NoWayOn (whyBlocked x))) why)
     ∙ ap (onwardPlan v a) (c .before .before .before .way-on .ensures)
 
--- src/onward.rt:203:8
 already-known-requires : tie.Need-already-known-requires
 already-known-requires c κs = c .before .before .before .pre .0
 
--- src/onward.rt:204:9
 returns-2 : tie.Need-returns-2
 returns-2 c =
     let a = arrivalOf (c .before .before .before .before .before .args .packet .now) (c .before .before .before .before .before .args .arrived) in
@@ -83,11 +70,9 @@ returns-2 c =
     ∙ onward-7 v a w (sym (c .before .already-known .ensures) ∙ c .if1 .taken))
     ∙ ap (onwardPlan v a) (c .before .before .before .way-on .ensures)
 
--- src/onward.rt:206:8
 wrong-side-requires : tie.Need-wrong-side-requires
 wrong-side-requires c κs = c .before .before .before .before .before .pre .0
 
--- src/onward.rt:207:9
 returns-3 : tie.Need-returns-3
 returns-3 c =
     let a = arrivalOf (c .before .before .before .before .before .before .before .args .packet .now) (c .before .before .before .before .before .before .before .args .arrived) in
@@ -99,11 +84,9 @@ returns-3 c =
     ∙ onward-8 v a w (sym (c .before .wrong-side .ensures) ∙ c .if2 .taken))
     ∙ ap (onwardPlan v a) (c .before .before .before .before .before .way-on .ensures)
 
--- src/onward.rt:209:8
 not-signed-requires : tie.Need-not-signed-requires
 not-signed-requires c κs = c .before .before .before .before .before .before .before .pre .0
 
--- src/onward.rt:210:9
 returns-4 : tie.Need-returns-4
 returns-4 c =
     let a = arrivalOf (c .before .before .before .before .before .before .before .before .before .args .packet .now) (c .before .before .before .before .before .before .before .before .before .args .arrived) in
@@ -116,14 +99,12 @@ returns-4 c =
     ∙ onward-9 v a w (sym (c .before .not-signed .ensures) ∙ c .if3 .taken))
     ∙ ap (onwardPlan v a) (c .before .before .before .before .before .before .before .way-on .ensures)
 
--- src/onward.rt:212:5
 plan-last-requires : tie.Need-plan-last-requires
 plan-last-requires c κs =
     let a = arrivalOf (c .before .before .before .before .before .before .before .before .before .args .packet .now) (c .before .before .before .before .before .before .before .before .before .args .arrived) in
     let s = c .before .before .before .before .before .before .before .before .before .args .seen in
     record { readable = c .before .before .before .before .before .before .before .before .before .pre .0; fits = c .before .before .before .before .before .before .before .before .before .pre .1; long = announced s a (c .before .before .before .before .before .before .before .way-on .ensures) (c .before .before .before .before .before .before .before .before .before .pre .2) }
 
--- src/onward.rt:193:1
 returns-5 : tie.Need-returns-5
 returns-5 c =
     let a = arrivalOf (c .before .before .before .before .before .before .before .before .before .before .args .packet .now) (c .before .before .before .before .before .before .before .before .before .before .args .arrived) in

@@ -1,19 +1,13 @@
-use mathlib.Core.Path.{_≡_, refl, sym, ap, ap₂, _∙_}
+use mathlib.Core.Path.{refl}
 use Rattle.rules.specs.Rate.{entryDropped}
 use Rattle.rules.proofs.Ranges.{dropped-rate-ok}
-use native.Mathlib.Omega.{arith}
 use borrow.Author.Needs.{needs}
 use Rattle.judging.proofs.records.limited_path.Statement.{statement}
 use Rattle.judging.proofs.records.limited_path.Tie as tie
-use Rattle.judging.proofs.records.limited_path.Reads as reads
-use Rattle.judging.proofs.records.limited_path.Lts as lts
-use Rattle.rate.proofs.rule.Reads as rule-reads
 
--- src/records.rt:120:9
 rule-requires : tie.Need-rule-requires
 rule-requires c κs = search needs
 
--- src/records.rt:115:1
 returns : tie.Need-returns
 unfolding entryDropped
 returns c =
