@@ -70,7 +70,8 @@ module _ (s : Seen) (a : Arrival) where
   unfolding returnWayBy returnWay returnOf _then_otherwise_
   return-way = go (s .back .there)
     where
-      go : (b : Bool) → wayOf s a (b then ByReturn otherwise Blocked NoReturn) ≡ returnWay (b then used (returnRecordOf (destination a) (s .back)) otherwise empty)
+      go : (b : Bool)
+          → wayOf s a (b then ByReturn otherwise Blocked NoReturn) ≡ returnWay (b then used (returnRecordOf (destination a) (s .back)) otherwise empty)
       go true = refl
       go false = refl
 

@@ -31,9 +31,12 @@ add-t12 c = search needs
 
 returns : tie.Need-returns
 returns c =
-    let old : length (c .before .before .before .before .before .args .t1) ≡ 640 = search needs in
-    let new : length (c .before .before .before .before .before .args .t3) ≡ 10 = search needs in
-    (ap (blobsIn (c .before .before .before .before .before .args .count + 1)) (c .before .copy-at .ensures) ∙ added (c .before .before .before .before .before .args .t1) (c .before .before .before .before .before .args .t3) old new (c .before .before .before .before .before .args .count) (c .before .before .before .before .if1 .taken), omega (arith, c .before .before .before .before .if1 .taken))
+    let c4 = c .before .before .before .before in
+    let c5 = c4 .before in
+    let old : length (c5 .args .t1) ≡ 640 = search needs in
+    let new : length (c5 .args .t3) ≡ 10 = search needs in
+    (ap (blobsIn (c5 .args .count + 1)) (c .before .copy-at .ensures)
+    ∙ added (c5 .args .t1) (c5 .args .t3) old new (c5 .args .count) (c4 .if1 .taken), omega (arith, c4 .if1 .taken))
 
 slice-aggregate-copy-at-3 : tie.Need-slice-aggregate-copy-at-3
 slice-aggregate-copy-at-3 c = search needs
@@ -49,9 +52,10 @@ part-copy-at-end c = search needs
 
 copy-at-requires-2 : tie.Need-copy-at-requires-2
 copy-at-requires-2 c κs =
-    let old : length (c .before .before .before .before .args .t1) ≡ 640 = search needs in
-    let new : length (c .before .before .before .before .args .t3) ≡ 10 = search needs in
-    omega (arith, old, length-take-le 630 (drop 10 (c .before .before .before .before .args .t1)) (omega (arith, old, length-drop 10 (c .before .before .before .before .args .t1))))
+    let c4 = c .before .before .before .before in
+    let old : length (c4 .args .t1) ≡ 640 = search needs in
+    let new : length (c4 .args .t3) ≡ 10 = search needs in
+    omega (arith, old, length-take-le 630 (drop 10 (c4 .args .t1)) (omega (arith, old, length-drop 10 (c4 .args .t1))))
 
 slice-aggregate-copy-at-4 : tie.Need-slice-aggregate-copy-at-4
 slice-aggregate-copy-at-4 c = search needs
@@ -65,12 +69,15 @@ copy-at-requires-3 c κs = search needs
 returns-2 : tie.Need-returns-2
 unfolding part
 returns-2 c =
-    let old : length (c .before .before .before .before .before .before .before .before .before .before .args .t1) ≡ 640 = search needs in
-    let new : length (c .before .before .before .before .before .before .before .before .before .before .args .t3) ≡ 10 = search needs in (
-      ap (blobsIn (c .before .before .before .before .before .before .before .before .before .before .args .count))
-          (c .before .copy-at3 .ensures ∙ ap (λ (y : List ℕ). patch y 630 (c .before .before .before .before .before .before .before .before .before .before .args .t3)) (c .before .before .before .before .before .copy-at2 .ensures))
-          ∙ pushed (c .before .before .before .before .before .before .before .before .before .before .args .t1) (c .before .before .before .before .before .before .before .before .before .before .args .t3) old new (c .before .before .before .before .before .before .before .before .before .before .args .count) (c .before .before .before .before .before .before .before .before .before .if1 .left),
-      c .before .before .before .before .before .before .before .before .before .before .pre,
+    let c5 = c .before .before .before .before .before in
+    let c9 = c5 .before .before .before .before in
+    let c10 = c9 .before in
+    let old : length (c10 .args .t1) ≡ 640 = search needs in
+    let new : length (c10 .args .t3) ≡ 10 = search needs in (
+      ap (blobsIn (c10 .args .count))
+          (c .before .copy-at3 .ensures ∙ ap (λ (y : List ℕ). patch y 630 (c10 .args .t3)) (c5 .copy-at2 .ensures))
+          ∙ pushed (c10 .args .t1) (c10 .args .t3) old new (c10 .args .count) (c9 .if1 .left),
+      c10 .pre,
     )
 
 pub add-blob-spec : {M : Type 1} → statement M

@@ -16,7 +16,10 @@ both-requires : tie.Need-both-requires
 both-requires c κs = search needs
 
 returns : tie.Need-returns
-returns c = c .both .ensures ∙ ap₂ (λ (m n : ℕ). c .before .before .before .before .args .path .marked and leb m n) (c .before .before .greatest-emission .ensures) (c .before .emission .ensures)
+returns c =
+    let c2 = c .before .before in
+    let c4 = c2 .before .before in
+    c .both .ensures ∙ ap₂ (λ (m n : ℕ). c4 .args .path .marked and leb m n) (c2 .greatest-emission .ensures) (c .before .emission .ensures)
 
 pub revives-spec : {M : Type 1} → statement M
 revives-spec =

@@ -16,7 +16,9 @@ add-blob-requires c κs = c .before .before .before .pre
 
 returns-2 : tie.Need-returns-2
 unfolding storeBlob
-returns-2 c = (c .add-blob .ensures .0 ∙ sym (then-false _ _ (sym (c .before .before .holds-blob .ensures) ∙ c .before .if1 .left)), c .add-blob .ensures .1)
+returns-2 c =
+    let c2 = c .before .before in
+    (c .add-blob .ensures .0 ∙ sym (then-false _ _ (sym (c2 .holds-blob .ensures) ∙ c .before .if1 .left)), c .add-blob .ensures .1)
 
 pub store-blob-spec : {M : Type 1} → statement M
 store-blob-spec = tie.close (tie.spec holds-blob-requires returns add-blob-requires returns-2)

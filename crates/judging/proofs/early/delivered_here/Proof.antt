@@ -35,9 +35,14 @@ both-requires-2 c κs = search needs
 returns : tie.Need-returns
 unfolding deliveredHere viewOf
 returns c =
+    let c2 = c .before .before in
+    let c3 = c2 .before in
+    let c4 = c3 .before in
+    let c5 = c4 .before in
+    let c8 = c5 .before .before .before in
     c .both2 .ensures
-    ∙ ap₂ _and_ (c .before .before .before .either .ensures ∙ ap₂ _or_ (c .before .before .before .before .before .is-data .ensures) (c .before .before .before .before .is-link-request .ensures))
-    (c .before .both .ensures ∙ ap (λ (t : Bool). t and c .before .before .before .before .before .before .before .before .args .seen .local) (ap not (c .before .before .of-kind-link .ensures)))
+    ∙ ap₂ _and_ (c3 .either .ensures ∙ ap₂ _or_ (c5 .is-data .ensures) (c4 .is-link-request .ensures))
+    (c .before .both .ensures ∙ ap (λ (t : Bool). t and c8 .args .seen .local) (ap not (c2 .of-kind-link .ensures)))
 
 pub delivered-here-spec : {M : Type 1} → statement M
 delivered-here-spec =

@@ -22,8 +22,11 @@ both-requires-2 c κs = search needs
 returns : tie.Need-returns
 unfolding duplicate testedAsDuplicate viewOf
 returns c =
-    let tested = c .before .both .ensures ∙ ap₂ _and_ (ap not (c .before .before .exempt .ensures)) (ap not (c .before .before .before .for-marked-path .ensures)) in
-    c .both2 .ensures ∙ ap (λ (t : Bool). t and c .before .before .before .before .before .args .seen .remembered) tested
+    let c2 = c .before .before in
+    let c3 = c2 .before in
+    let c5 = c3 .before .before in
+    let tested = c .before .both .ensures ∙ ap₂ _and_ (ap not (c2 .exempt .ensures)) (ap not (c3 .for-marked-path .ensures)) in
+    c .both2 .ensures ∙ ap (λ (t : Bool). t and c5 .args .seen .remembered) tested
 
 pub duplicate-spec : {M : Type 1} → statement M
 duplicate-spec =

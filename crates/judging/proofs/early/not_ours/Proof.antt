@@ -36,10 +36,15 @@ both-requires-2 c κs = search needs
 returns : tie.Need-returns
 unfolding notOurs viewOf
 returns c =
-    let relay = ap (λ (q : Parts). same (q .relay) (c .before .before .before .before .before .before .before .before .before .before .args .seen .own)) (c .before .before .before .before .before .before .before .parts-of .ensures) in
+    let c2 = c .before .before in
+    let c3 = c2 .before in
+    let c4 = c3 .before in
+    let c7 = c4 .before .before .before in
+    let c10 = c7 .before .before .before in
+    let relay = ap (λ (q : Parts). same (q .relay) (c10 .args .seen .own)) (c7 .parts-of .ensures) in
     c .both2 .ensures
-    ∙ ap₂ _and_ (c .before .before .before .type-two .ensures)
-    (c .before .both .ensures ∙ ap₂ _and_ (ap not (c .before .before .is-announce .ensures)) (ap not (c .before .before .before .before .same-address .ensures ∙ relay)))
+    ∙ ap₂ _and_ (c3 .type-two .ensures)
+    (c .before .both .ensures ∙ ap₂ _and_ (ap not (c2 .is-announce .ensures)) (ap not (c4 .same-address .ensures ∙ relay)))
 
 pub not-ours-spec : {M : Type 1} → statement M
 not-ours-spec =

@@ -11,8 +11,9 @@ path-length-requires c κs = search needs
 
 returns : tie.Need-returns
 returns c =
-    let wide : length (c .before .before .args .next-hop) ≡ 16 = search needs in
-    c .path-length .ensures ∙ sym (path-length longestPacket (c .before .before .args .packet .now) (c .before .before .pre) (c .before .before .args .hops) (c .before .before .args .next-hop) wide)
+    let c2 = c .before .before in
+    let wide : length (c2 .args .next-hop) ≡ 16 = search needs in
+    c .path-length .ensures ∙ sym (path-length longestPacket (c2 .args .packet .now) (c2 .pre) (c2 .args .hops) (c2 .args .next-hop) wide)
 
 pub path-length-spec : {M : Type 1} → statement M
 path-length-spec = tie.close (tie.spec path-length-requires returns)

@@ -35,9 +35,15 @@ either-requires c κs = search needs
 returns : tie.Need-returns
 unfolding alreadyKnown viewOf
 returns c =
+    let c2 = c .before .before in
+    let c3 = c2 .before in
+    let c4 = c3 .before in
+    let c5 = c4 .before in
+    let c8 = c5 .before .before .before in
     c .either .ensures
-    ∙ ap₂ _or_ (c .before .before .before .before .both .ensures ∙ ap₂ _and_ (c .before .before .before .before .before .is-link-request .ensures) (sym (there-seen (c .before .before .before .before .before .before .before .before .args .seen .link))))
-    (c .before .both2 .ensures ∙ ap₂ _and_ (c .before .before .is-link-proof .ensures) (c .before .before .before .follows-proved-link .ensures ∙ proved-seen (c .before .before .before .before .before .before .before .before .args .seen) _ (c .before .before .before .before .before .before .before .before .args .way)))
+    ∙ ap₂ _or_ (c4 .both .ensures ∙ ap₂ _and_ (c5 .is-link-request .ensures) (sym (there-seen (c8 .args .seen .link))))
+    (c .before .both2 .ensures ∙ ap₂ _and_ (c2 .is-link-proof .ensures) (c3 .follows-proved-link .ensures
+    ∙ proved-seen (c8 .args .seen) _ (c8 .args .way)))
 
 pub already-known-spec : {M : Type 1} → statement M
 already-known-spec =

@@ -20,7 +20,9 @@ port-at-requires : tie.Need-port-at-requires
 port-at-requires c κs = search needs
 
 shared-slice-read-is-announce : tie.Need-shared-slice-read-is-announce
-shared-slice-read-is-announce c = omega (arith, long longestPacket (c .before .before .before .before .before .args .packet .now) (c .before .before .before .before .before .pre))
+shared-slice-read-is-announce c =
+    let c5 = c .before .before .before .before .before in
+    omega (arith, long longestPacket (c5 .args .packet .now) (c5 .pre))
 
 is-announce-requires : tie.Need-is-announce-requires
 is-announce-requires c κs = search needs
@@ -31,7 +33,12 @@ both-requires c κs = search needs
 returns : tie.Need-returns
 unfolding portOff viewOf
 returns c =
-    c .both .ensures ∙ ap₂ _and_ (ap not (c .before .before .is-announce .ensures)) (ap not (ap (λ (p : SeenPort). p .on) (c .before .before .before .before .port-at .ensures ∙ ap (λ (n : ℕ). getD (c .before .before .before .before .before .before .before .before .args .seen .ports) n noSeenPort) (c .before .before .before .before .before .leaving-port .ensures))))
+    let c2 = c .before .before in
+    let c4 = c2 .before .before in
+    let c5 = c4 .before in
+    let c8 = c5 .before .before .before in
+    c .both .ensures ∙ ap₂ _and_ (ap not (c2 .is-announce .ensures)) (ap not (ap (λ (p : SeenPort). p .on) (c4 .port-at .ensures
+    ∙ ap (λ (n : ℕ). getD (c8 .args .seen .ports) n noSeenPort) (c5 .leaving-port .ensures))))
 
 pub port-off-spec : {M : Type 1} → statement M
 port-off-spec =

@@ -25,7 +25,9 @@ leaving-length-requires : tie.Need-leaving-length-requires
 leaving-length-requires c κs = search needs
 
 shared-slice-read-is-announce : tie.Need-shared-slice-read-is-announce
-shared-slice-read-is-announce c = omega (arith, long longestPacket (c .before .before .before .before .before .before .args .packet .now) (c .before .before .before .before .before .before .pre))
+shared-slice-read-is-announce c =
+    let c6 = c .before .before .before .before .before .before in
+    omega (arith, long longestPacket (c6 .args .packet .now) (c6 .pre))
 
 is-announce-requires : tie.Need-is-announce-requires
 is-announce-requires c κs = search needs
@@ -36,7 +38,13 @@ both-requires c κs = search needs
 returns : tie.Need-returns
 unfolding tooLongForPort exceeds viewOf
 returns c =
-    c .both .ensures ∙ ap₂ _and_ (ap not (c .before .before .is-announce .ensures)) (ap₂ ltb (ap (λ (p : SeenPort). p .size) (c .before .before .before .before .before .port-at .ensures ∙ ap (λ (n : ℕ). getD (c .before .before .before .before .before .before .before .before .before .args .seen .ports) n noSeenPort) (c .before .before .before .before .before .before .leaving-port .ensures))) (c .before .before .before .before .leaving-length .ensures))
+    let c2 = c .before .before in
+    let c4 = c2 .before .before in
+    let c5 = c4 .before in
+    let c6 = c5 .before in
+    let c9 = c6 .before .before .before in
+    c .both .ensures ∙ ap₂ _and_ (ap not (c2 .is-announce .ensures)) (ap₂ ltb (ap (λ (p : SeenPort). p .size) (c5 .port-at .ensures
+    ∙ ap (λ (n : ℕ). getD (c9 .args .seen .ports) n noSeenPort) (c6 .leaving-port .ensures))) (c4 .leaving-length .ensures))
 
 pub too-long-for-port-spec : {M : Type 1} → statement M
 too-long-for-port-spec =

@@ -33,7 +33,9 @@ blob-requires : tie.Need-blob-requires
 blob-requires c κs = rw (c .payload .ensures) (c .before .before .before .before .before .pre .1)
 
 announced-rate-requires : tie.Need-announced-rate-requires
-announced-rate-requires c κs = (c .before .before .before .before .before .before .pre .2, c .before .before .before .before .before .before .pre .3, c .before .before .before .before .before .before .pre .4)
+announced-rate-requires c κs =
+    let c6 = c .before .before .before .before .before .before in
+    (c6 .pre .2, c6 .pre .3, c6 .pre .4)
 
 announced-blobs-requires : tie.Need-announced-blobs-requires
 announced-blobs-requires c κs = c .before .before .before .before .before .before .before .pre .3 .blobs
@@ -44,17 +46,25 @@ add-t14 c = search needs
 returns : tie.Need-returns
 unfolding pathOf announcedPath _then_otherwise_
 returns c =
-    let a = arrivalOf (c .before .before .before .before .before .before .before .before .before .before .args .packet .now) (c .before .before .before .before .before .before .before .before .before .before .args .arrived) in
-    let s = c .before .before .before .before .before .before .before .before .before .before .args in
-    let own : c .before .before .before .before .blob .result ≡ blob a = c .before .before .before .before .blob .ensures ∙ ap blobOf (c .before .before .before .before .before .payload .ensures) in
-    let hop = ap (λ (q : Parts). q .hops) (c .before .before .before .before .before .before .before .before .parts-of .ensures) in
-    let next = c .before .before .before .before .before .before .before .next-hop-of .ensures in
-    let lifetime = c .before .before .before .before .before .before .path-lifetime .ensures .0 in
-    let rate = c .before .before .before .announced-rate .ensures .0
+    let c2 = c .before .before in
+    let c3 = c2 .before in
+    let c4 = c3 .before in
+    let c5 = c4 .before in
+    let c6 = c5 .before in
+    let c7 = c6 .before in
+    let c8 = c7 .before in
+    let c10 = c8 .before .before in
+    let a = arrivalOf (c10 .args .packet .now) (c10 .args .arrived) in
+    let s = c10 .args in
+    let own : c4 .blob .result ≡ blob a = c4 .blob .ensures ∙ ap blobOf (c5 .payload .ensures) in
+    let hop = ap (λ (q : Parts). q .hops) (c8 .parts-of .ensures) in
+    let next = c7 .next-hop-of .ensures in
+    let lifetime = c6 .path-lifetime .ensures .0 in
+    let rate = c3 .announced-rate .ensures .0
     ∙ ap (λ (x : List ℕ). rateAnnounced (s .settings) (s .known) x (s .arrived .clock)) own ∙ rate-announced a (s .known) (s .settings) (s .mode) in
-    let blobs = c .before .before .announced-blobs .ensures .0 ∙ ap (blobsAnnounced (s .known)) own ∙ blobs-announced a (s .known) in (
+    let blobs = c2 .announced-blobs .ensures .0 ∙ ap (blobsAnnounced (s .known)) own ∙ blobs-announced a (s .known) in (
       (λ i. used (makePath (destination a) (a .port) (hop i) (next i) (a .clock + lifetime i) (rate i) false (blobs i))),
-      record { entry = c .before .before .before .announced-rate .ensures .1; blobs = c .before .before .announced-blobs .ensures .1 },
+      record { entry = c3 .announced-rate .ensures .1; blobs = c2 .announced-blobs .ensures .1 },
     )
 
 pub announced-path-spec : {M : Type 1} → statement M

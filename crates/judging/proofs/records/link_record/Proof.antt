@@ -20,7 +20,9 @@ mul-lifetime : tie.Need-mul-lifetime
 mul-lifetime c = search needs
 
 shared-slice-read-t9 : tie.Need-shared-slice-read-t9
-shared-slice-read-t9 c = omega (arith, long longestPacket (c .before .before .before .before .args .packet .now) (c .before .before .before .before .pre .0))
+shared-slice-read-t9 c =
+    let c4 = c .before .before .before .before in
+    omega (arith, long longestPacket (c4 .args .packet .now) (c4 .pre .0))
 
 add-t6 : tie.Need-add-t6
 add-t6 c = search needs

@@ -29,9 +29,15 @@ both-requires-3 c κs = search needs
 returns : tie.Need-returns
 unfolding remembers alreadyLive remembersPlan viewOf
 returns c =
-    let live = c .before .before .before .before .both .ensures ∙ ap (λ (t : Bool). t and c .before .before .before .before .before .before .before .args .seen .remembered) (c .before .before .before .before .before .for-marked-path .ensures) in
+    let c2 = c .before .before in
+    let c3 = c2 .before in
+    let c4 = c3 .before in
+    let c5 = c4 .before in
+    let c7 = c5 .before .before in
+    let live = c4 .both .ensures ∙ ap (λ (t : Bool). t and c7 .args .seen .remembered) (c5 .for-marked-path .ensures) in
     c .both3 .ensures
-    ∙ ap₂ _and_ (ap not (c .before .before .exempt .ensures)) (c .before .both2 .ensures ∙ ap₂ _and_ (ap not live) (c .before .before .before .plan-remembers .ensures ∙ plan-remembered (c .before .before .before .before .before .before .before .args .seen) _ (c .before .before .before .before .before .before .before .args .planned)))
+    ∙ ap₂ _and_ (ap not (c2 .exempt .ensures)) (c .before .both2 .ensures ∙ ap₂ _and_ (ap not live) (c3 .plan-remembers .ensures
+    ∙ plan-remembered (c7 .args .seen) _ (c7 .args .planned)))
 
 pub remembers-spec : {M : Type 1} → statement M
 remembers-spec =

@@ -65,11 +65,17 @@ same-length c = search needs
 returns : tie.Need-returns
 unfolding wayVerdict outgoing leavingPort leaves viewOf spreadPorts exceeds
 returns c =
-    let a = arrivalOf (c .before .before .before .before .before .before .before .before .before .before .before .before .before .args .packet .now) (c .before .before .before .before .before .before .before .before .before .before .before .before .before .args .arrived) in
-    let s = c .before .before .before .before .before .before .before .before .before .before .before .before .before .args .seen in
-    let p = c .before .before .before .before .before .before .before .before .before .before .before .before .before .args .packet .now in
-    let those = c .before .before .before .before .spread-ports .ensures ∙ ap (λ (n : ℕ). portSet (spreadsTo (s .ports) (a .port) n)) (c .before .before .before .before .before .spread-length .ensures) in
-    same-way s a (c .before .before .before .before .before .before .before .before .enum-told .given .1) _ _ _ (c .before .before .spread .ensures .0 ∙ ap (λ (n : ℕ). spreadVerdict n (spreadPacket (s .own) p)) those, c .before .before .spread .ensures .1)
+    let c2 = c .before .before in
+    let c4 = c2 .before .before in
+    let c5 = c4 .before in
+    let c8 = c5 .before .before .before in
+    let c13 = c8 .before .before .before .before .before in
+    let a = arrivalOf (c13 .args .packet .now) (c13 .args .arrived) in
+    let s = c13 .args .seen in
+    let p = c13 .args .packet .now in
+    let those = c4 .spread-ports .ensures ∙ ap (λ (n : ℕ). portSet (spreadsTo (s .ports) (a .port) n)) (c5 .spread-length .ensures) in
+    same-way s a (c8 .enum-told .given .1) _ _ _ (c2 .spread .ensures .0
+    ∙ ap (λ (n : ℕ). spreadVerdict n (spreadPacket (s .own) p)) those, c2 .spread .ensures .1)
 
 same-length-2 : tie.Need-same-length-2
 same-length-2 c = search needs
@@ -77,9 +83,13 @@ same-length-2 c = search needs
 returns-2 : tie.Need-returns-2
 unfolding wayVerdict outgoing leavingPort leaves viewOf
 returns-2 c =
-    let a = arrivalOf (c .before .before .before .before .before .before .before .before .before .before .args .packet .now) (c .before .before .before .before .before .before .before .before .before .before .args .arrived) in
-    let s = c .before .before .before .before .before .before .before .before .before .before .args .seen in
-    same-way s a (c .before .before .before .before .before .enum-told2 .given .1) _ _ _ (c .before .before .forward .ensures .0, c .before .before .forward .ensures .1 ∙ sym (then-true _ _ (ap leaves (c .before .before .forward .ensures .0))))
+    let c2 = c .before .before in
+    let c5 = c2 .before .before .before in
+    let c10 = c5 .before .before .before .before .before in
+    let a = arrivalOf (c10 .args .packet .now) (c10 .args .arrived) in
+    let s = c10 .args .seen in
+    same-way s a (c5 .enum-told2 .given .1) _ _ _ (c2 .forward .ensures .0, c2 .forward .ensures .1
+    ∙ sym (then-true _ _ (ap leaves (c2 .forward .ensures .0))))
 
 same-length-3 : tie.Need-same-length-3
 same-length-3 c = search needs
@@ -87,11 +97,15 @@ same-length-3 c = search needs
 returns-3 : tie.Need-returns-3
 unfolding wayVerdict outgoing leavingPort leaves viewOf
 returns-3 c =
-    let a = arrivalOf (c .before .before .before .before .before .before .before .before .before .args .packet .now) (c .before .before .before .before .before .before .before .before .before .args .arrived) in
-    let s = c .before .before .before .before .before .before .before .before .before .args .seen in
-    let port = c .before .before .before .before .before .before .leaving-port .ensures ∙ ap (λ (w : SeenWay). leavingPort a (wayOf s a w)) (c .before .before .before .before .enum-told3 .given .1) in
-    let sent = c .before .before .carry .ensures .0 ∙ ap (λ (n : ℕ). Forward n (length (carriedPacket (a .bytes)))) port in
-    same-way s a (c .before .before .before .before .enum-told3 .given .1) _ _ _ (sent, c .before .before .carry .ensures .1 ∙ sym (then-true _ _ (ap leaves sent)))
+    let c2 = c .before .before in
+    let c4 = c2 .before .before in
+    let c6 = c4 .before .before in
+    let c9 = c6 .before .before .before in
+    let a = arrivalOf (c9 .args .packet .now) (c9 .args .arrived) in
+    let s = c9 .args .seen in
+    let port = c6 .leaving-port .ensures ∙ ap (λ (w : SeenWay). leavingPort a (wayOf s a w)) (c4 .enum-told3 .given .1) in
+    let sent = c2 .carry .ensures .0 ∙ ap (λ (n : ℕ). Forward n (length (carriedPacket (a .bytes)))) port in
+    same-way s a (c4 .enum-told3 .given .1) _ _ _ (sent, c2 .carry .ensures .1 ∙ sym (then-true _ _ (ap leaves sent)))
 
 same-length-4 : tie.Need-same-length-4
 same-length-4 c = search needs
@@ -99,17 +113,22 @@ same-length-4 c = search needs
 returns-4 : tie.Need-returns-4
 unfolding wayVerdict outgoing leavingPort leaves viewOf
 returns-4 c =
-    let a = arrivalOf (c .before .before .before .before .before .before .before .before .before .args .packet .now) (c .before .before .before .before .before .before .before .before .before .args .arrived) in
-    let s = c .before .before .before .before .before .before .before .before .before .args .seen in
-    let port = c .before .before .before .before .before .before .leaving-port .ensures ∙ ap (λ (w : SeenWay). leavingPort a (wayOf s a w)) (c .before .before .before .before .enum-told4 .given .1) in
-    let sent = c .before .before .carry2 .ensures .0 ∙ ap (λ (n : ℕ). Forward n (length (carriedPacket (a .bytes)))) port in
-    same-way s a (c .before .before .before .before .enum-told4 .given .1) _ _ _ (sent, c .before .before .carry2 .ensures .1 ∙ sym (then-true _ _ (ap leaves sent)))
+    let c2 = c .before .before in
+    let c4 = c2 .before .before in
+    let c6 = c4 .before .before in
+    let c9 = c6 .before .before .before in
+    let a = arrivalOf (c9 .args .packet .now) (c9 .args .arrived) in
+    let s = c9 .args .seen in
+    let port = c6 .leaving-port .ensures ∙ ap (λ (w : SeenWay). leavingPort a (wayOf s a w)) (c4 .enum-told4 .given .1) in
+    let sent = c2 .carry2 .ensures .0 ∙ ap (λ (n : ℕ). Forward n (length (carriedPacket (a .bytes)))) port in
+    same-way s a (c4 .enum-told4 .given .1) _ _ _ (sent, c2 .carry2 .ensures .1 ∙ sym (then-true _ _ (ap leaves sent)))
 
 returns-5 : tie.Need-returns-5
 unfolding wayVerdict outgoing leavingPort leaves viewOf _then_otherwise_
 returns-5 c =
-    let a = arrivalOf (c .before .before .before .before .before .before .args .packet .now) (c .before .before .before .before .before .before .args .arrived) in
-    let s = c .before .before .before .before .before .before .args .seen in
+    let c6 = c .before .before .before .before .before .before in
+    let a = arrivalOf (c6 .args .packet .now) (c6 .args .arrived) in
+    let s = c6 .args .seen in
     same-way s a (c .before .way .given .1) _ _ _ (refl, refl)
 
 pub send-spec : {M : Type 1} → statement M

@@ -17,7 +17,9 @@ is-announce-requires : tie.Need-is-announce-requires
 is-announce-requires c κs = search needs
 
 returns : tie.Need-returns
-returns c = way-announce (c .before .before .before .before .args .seen) (arrivalOf (c .before .before .before .before .args .packet .now) (c .before .before .before .before .args .arrived)) (sym (c .before .is-announce .ensures) ∙ c .if1 .taken)
+returns c =
+    let c4 = c .before .before .before .before in
+    way-announce (c4 .args .seen) (arrivalOf (c4 .args .packet .now) (c4 .args .arrived)) (sym (c .before .is-announce .ensures) ∙ c .if1 .taken)
 
 of-kind-link-requires : tie.Need-of-kind-link-requires
 of-kind-link-requires c κs = search needs
@@ -30,8 +32,15 @@ link-way-requires c κs = search needs
 
 returns-2 : tie.Need-returns-2
 returns-2 c =
-    way-link (c .before .before .before .before .before .before .before .before .before .args .seen) (arrivalOf (c .before .before .before .before .before .before .before .before .before .args .packet .now) (c .before .before .before .before .before .before .before .before .before .args .arrived)) (sym (c .before .before .before .before .before .before .is-announce .ensures) ∙ c .before .before .before .before .before .if1 .left) (sym (c .before .before .before .before .of-kind-link .ensures) ∙ c .before .before .before .if2 .taken)
-    (c .link-way .ensures ∙ ap (λ (p : Bool). linkWayBy p (c .before .before .before .before .before .before .before .before .before .args .seen .link)) (c .before .is-link-proof .ensures))
+    let c3 = c .before .before .before in
+    let c4 = c3 .before in
+    let c5 = c4 .before in
+    let c6 = c5 .before in
+    let c9 = c6 .before .before .before in
+    let a = arrivalOf (c9 .args .packet .now) (c9 .args .arrived) in
+    let s = c9 .args .seen in
+    way-link s a (sym (c6 .is-announce .ensures) ∙ c5 .if1 .left) (sym (c4 .of-kind-link .ensures) ∙ c3 .if2 .taken)
+    (c .link-way .ensures ∙ ap (λ (p : Bool). linkWayBy p (s .link)) (c .before .is-link-proof .ensures))
 
 is-proof-requires : tie.Need-is-proof-requires
 is-proof-requires c κs = search needs
@@ -41,24 +50,53 @@ return-way-requires c κs = search needs
 
 returns-3 : tie.Need-returns-3
 returns-3 c =
-    way-proof (c .before .before .before .before .before .before .before .before .before .before .args .seen) (arrivalOf (c .before .before .before .before .before .before .before .before .before .before .args .packet .now) (c .before .before .before .before .before .before .before .before .before .before .args .arrived)) (sym (c .before .before .before .before .before .before .before .is-announce .ensures) ∙ c .before .before .before .before .before .before .if1 .left) (sym (c .before .before .before .before .before .of-kind-link .ensures) ∙ c .before .before .before .before .if2 .left)
-    (sym (c .before .before .before .is-proof .ensures) ∙ c .before .before .if3 .taken) (c .return-way .ensures)
+    let c2 = c .before .before in
+    let c3 = c2 .before in
+    let c4 = c3 .before in
+    let c5 = c4 .before in
+    let c6 = c5 .before in
+    let c7 = c6 .before in
+    let c10 = c7 .before .before .before in
+    let a = arrivalOf (c10 .args .packet .now) (c10 .args .arrived) in
+    let s = c10 .args .seen in
+    way-proof s a (sym (c7 .is-announce .ensures) ∙ c6 .if1 .left) (sym (c5 .of-kind-link .ensures) ∙ c4 .if2 .left)
+    (sym (c3 .is-proof .ensures) ∙ c2 .if3 .taken) (c .return-way .ensures)
 
 type-two-requires : tie.Need-type-two-requires
 type-two-requires c κs = search needs
 
 returns-4 : tie.Need-returns-4
 returns-4 c =
-    way-unasked (c .before .before .before .before .before .before .before .before .before .before .args .seen) (arrivalOf (c .before .before .before .before .before .before .before .before .before .before .args .packet .now) (c .before .before .before .before .before .before .before .before .before .before .args .arrived)) (sym (c .before .before .before .before .before .before .before .is-announce .ensures) ∙ c .before .before .before .before .before .before .if1 .left) (sym (c .before .before .before .before .before .of-kind-link .ensures) ∙ c .before .before .before .before .if2 .left)
-    (sym (c .before .before .before .is-proof .ensures) ∙ c .before .before .if3 .left) (ap not (sym (c .before .type-two .ensures)) ∙ c .if4 .taken)
+    let c2 = c .before .before in
+    let c3 = c2 .before in
+    let c4 = c3 .before in
+    let c5 = c4 .before in
+    let c6 = c5 .before in
+    let c7 = c6 .before in
+    let c10 = c7 .before .before .before in
+    let a = arrivalOf (c10 .args .packet .now) (c10 .args .arrived) in
+    let s = c10 .args .seen in
+    way-unasked s a (sym (c7 .is-announce .ensures) ∙ c6 .if1 .left) (sym (c5 .of-kind-link .ensures) ∙ c4 .if2 .left)
+    (sym (c3 .is-proof .ensures) ∙ c2 .if3 .left) (ap not (sym (c .before .type-two .ensures)) ∙ c .if4 .taken)
 
 path-way-requires : tie.Need-path-way-requires
 path-way-requires c κs = search needs
 
 returns-5 : tie.Need-returns-5
 returns-5 c =
-    way-path (c .before .before .before .before .before .before .before .before .before .before .before .before .args .seen) (arrivalOf (c .before .before .before .before .before .before .before .before .before .before .before .before .args .packet .now) (c .before .before .before .before .before .before .before .before .before .before .before .before .args .arrived)) (sym (c .before .before .before .before .before .before .before .before .before .is-announce .ensures) ∙ c .before .before .before .before .before .before .before .before .if1 .left) (sym (c .before .before .before .before .before .before .before .of-kind-link .ensures) ∙ c .before .before .before .before .before .before .if2 .left)
-    (sym (c .before .before .before .before .before .is-proof .ensures) ∙ c .before .before .before .before .if3 .left) (ap not (sym (c .before .before .before .type-two .ensures)) ∙ c .before .before .if4 .left) (c .path-way .ensures)
+    let c2 = c .before .before in
+    let c3 = c2 .before in
+    let c4 = c3 .before in
+    let c5 = c4 .before in
+    let c6 = c5 .before in
+    let c7 = c6 .before in
+    let c8 = c7 .before in
+    let c9 = c8 .before in
+    let c12 = c9 .before .before .before in
+    let a = arrivalOf (c12 .args .packet .now) (c12 .args .arrived) in
+    let s = c12 .args .seen in
+    way-path s a (sym (c9 .is-announce .ensures) ∙ c8 .if1 .left) (sym (c7 .of-kind-link .ensures) ∙ c6 .if2 .left)
+    (sym (c5 .is-proof .ensures) ∙ c4 .if3 .left) (ap not (sym (c3 .type-two .ensures)) ∙ c2 .if4 .left) (c .path-way .ensures)
 
 pub way-on-spec : {M : Type 1} → statement M
 way-on-spec =
