@@ -67,7 +67,7 @@ returns-3 c =
     let sent = outgoing v a (wayOf s a (c5 .planned2 .given .0 .0)) in (
       c2 .send .ensures .0 ∙ ap (verdict v a) todo,
       c2 .send .ensures .1 ∙ ap (λ (y : Verdict). leaves y then patch out 0 sent otherwise out) (c2 .send .ensures .0)
-      ∙ ap (λ (t : Plan). outputAfter v a t out) todo,
+          ∙ ap (λ (t : Plan). outputAfter v a t out) todo,
     )
 
 pub answer-of-spec : {M : Type 1} → statement M

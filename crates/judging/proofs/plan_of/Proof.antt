@@ -6,7 +6,7 @@ use Rattle.rules.specs.declared.Clause.{Clause}
 use Rattle.rules.specs.declared.Reason.the-variants.{BadForm}
 use Rattle.forms.proofs.FormLaws.{form-bad, form-good}
 use Rattle.judging.specs.Seen.{arrivalOf, viewOf}
-use Rattle.judging.proofs.SeenLaws.{hops-many, hops-few}
+use Rattle.forms.proofs.KindLaws.{hops-many, hops-few}
 use Rattle.judging.proofs.PlanLaws.{early-1, past-1, early-2, past-2, early-3, past-3, early-4, past-4, early-here, past-here, early-5, past-5}
 use native.Mathlib.Omega.{arith}
 use borrow.Author.Needs.{needs}

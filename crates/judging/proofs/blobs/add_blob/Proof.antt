@@ -34,9 +34,11 @@ returns c =
     let c4 = c .before .before .before .before in
     let c5 = c4 .before in
     let old : length (c5 .args .t1) ≡ 640 = search needs in
-    let new : length (c5 .args .t3) ≡ 10 = search needs in
-    (ap (blobsIn (c5 .args .count + 1)) (c .before .copy-at .ensures)
-    ∙ added (c5 .args .t1) (c5 .args .t3) old new (c5 .args .count) (c4 .if1 .taken), omega (arith, c4 .if1 .taken))
+    let new : length (c5 .args .t3) ≡ 10 = search needs in (
+      ap (blobsIn (c5 .args .count + 1)) (c .before .copy-at .ensures)
+          ∙ added (c5 .args .t1) (c5 .args .t3) old new (c5 .args .count) (c4 .if1 .taken),
+      omega (arith, c4 .if1 .taken),
+    )
 
 slice-aggregate-copy-at-3 : tie.Need-slice-aggregate-copy-at-3
 slice-aggregate-copy-at-3 c = search needs

@@ -18,9 +18,11 @@ returns-2 : tie.Need-returns-2
 unfolding rateAnnounced entryRevived
 returns-2 c =
     let c3 = c .before .before .before in
-    let c5 = c3 .before .before in
-    (sym (then-false _ _ (c3 .if1 .left) ∙ then-true _ _ (sym (c .before .revives .ensures)
-    ∙ c .if2 .taken)), revived-ok (c5 .args .clock) (c5 .pre .2) (c5 .args .known .rate) (c5 .pre .1 .entry))
+    let c5 = c3 .before .before in (
+      sym (then-false _ _ (c3 .if1 .left) ∙ then-true _ _ (sym (c .before .revives .ensures)
+          ∙ c .if2 .taken)),
+      revived-ok (c5 .args .clock) (c5 .pre .2) (c5 .args .known .rate) (c5 .pre .1 .entry),
+    )
 
 rule-requires : tie.Need-rule-requires
 rule-requires c κs = (c .before .before .before .before .before .pre .0, c .before .before .before .before .before .pre .1 .entry)

@@ -74,8 +74,11 @@ returns c =
     let s = c13 .args .seen in
     let p = c13 .args .packet .now in
     let those = c4 .spread-ports .ensures ∙ ap (λ (n : ℕ). portSet (spreadsTo (s .ports) (a .port) n)) (c5 .spread-length .ensures) in
-    same-way s a (c8 .enum-told .given .1) _ _ _ (c2 .spread .ensures .0
-    ∙ ap (λ (n : ℕ). spreadVerdict n (spreadPacket (s .own) p)) those, c2 .spread .ensures .1)
+    same-way s a (c8 .enum-told .given .1) _ _ _ (
+      c2 .spread .ensures .0
+          ∙ ap (λ (n : ℕ). spreadVerdict n (spreadPacket (s .own) p)) those,
+      c2 .spread .ensures .1,
+    )
 
 same-length-2 : tie.Need-same-length-2
 same-length-2 c = search needs
@@ -88,8 +91,11 @@ returns-2 c =
     let c10 = c5 .before .before .before .before .before in
     let a = arrivalOf (c10 .args .packet .now) (c10 .args .arrived) in
     let s = c10 .args .seen in
-    same-way s a (c5 .enum-told2 .given .1) _ _ _ (c2 .forward .ensures .0, c2 .forward .ensures .1
-    ∙ sym (then-true _ _ (ap leaves (c2 .forward .ensures .0))))
+    same-way s a (c5 .enum-told2 .given .1) _ _ _ (
+      c2 .forward .ensures .0,
+      c2 .forward .ensures .1
+          ∙ sym (then-true _ _ (ap leaves (c2 .forward .ensures .0))),
+    )
 
 same-length-3 : tie.Need-same-length-3
 same-length-3 c = search needs

@@ -25,9 +25,11 @@ returns-2 : tie.Need-returns-2
 unfolding spreadVerdict leaves _then_otherwise_
 returns-2 c =
     let c5 = c .before .before .before .before .before in
-    let own : length (c5 .args .own) ≡ 16 = search needs in
-    (sym (then-true _ _ (or-right _ (spread-exceeds (c5 .args .own) (c5 .args .packet .now) (c5 .pre .0 .readable) own longestPacket
-    ∙ lt-ltb longestPacket (spreadLength (c5 .args .packet .now)) (omega (arith, c .before .spread-length .ensures, c .if2 .taken))))), refl)
+    let own : length (c5 .args .own) ≡ 16 = search needs in (
+      sym (then-true _ _ (or-right _ (spread-exceeds (c5 .args .own) (c5 .args .packet .now) (c5 .pre .0 .readable) own longestPacket
+          ∙ lt-ltb longestPacket (spreadLength (c5 .args .packet .now)) (omega (arith, c .before .spread-length .ensures, c .if2 .taken))))),
+      refl,
+    )
 
 spread-requires : tie.Need-spread-requires
 spread-requires c κs = search needs
