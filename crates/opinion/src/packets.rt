@@ -73,7 +73,7 @@ fn has_path(log: &[u8], n: usize, destination: [u8; 16], clock: u64) -> bool
 pub fn take_packet(
     log: &mut [u8; LOG_SIZE],
     packet: &[u8],
-    port: u8,
+    port: u64,
     clock: u64,
     signed: bool,
     output: &mut [u8],
@@ -81,16 +81,16 @@ pub fn take_packet(
     ensures { λ r. ⌜ Opines (now (log .entry)) (arrivalBy (now (packet .entry)) port clock signed)
         (now (output .entry)) r (now (log .exit)) (now (output .exit)) ⌝ }
 {
-    let arrived = Arrived {
-        port,
-        clock,
-        signed,
-    };
     let n = listed(log);
-    let refusal = packet_refusal(log, n, packet, arrived, output.len());
+    let refusal = packet_refusal(log, n, packet, port, clock, output.len());
     if refusal != refusals::NONE {
         return Answer::Refused(refusal);
     }
+    let arrived = Arrived {
+        port: port as u8,
+        clock,
+        signed,
+    };
     let verdict = judged(log, n, packet, arrived, output);
     put_came(log, n, packet, arrived);
     Answer::Judged(verdict)

@@ -2,16 +2,16 @@
 use super::clocks::last_clock;
 use super::log::LIST_LIMIT;
 use super::ports::port_at;
-use judging::Arrived;
 use numbers::CLOCK_LIMIT;
 use numbers::LEAST_OUTPUT;
 use numbers::refusals;
 ghost use mathlib.Core.Path.{_≡_};
+ghost use mathlib.Core.Bool.{Bool};
 ghost use Prim.Native.Nat.{_≤_};
 ghost use lib.ListN.{length};
-ghost use Rattle.judging.specs.Seen.{arrivalOf};
 ghost use Rattle.history.specs.Opinion.{listLimit, clockBad, packetRefused};
 ghost use Rattle.opinion.specs.Log.{logSize, ownIn, entriesOf, knownIn};
+ghost use Rattle.opinion.specs.Steps.{arrivalBy};
 
 // A call when 64 are listed.
 pub const LIST_FULL: u8 = 28;
@@ -28,10 +28,10 @@ pub fn clock_bad(log: &[u8], n: usize, clock: u64) -> bool
 }
 
 // The refusal of a packet when n calls are listed, with an output buffer of this length, or 0.
-pub fn packet_refusal(log: &[u8], n: usize, packet: &[u8], arrived: Arrived, room: usize) -> u8
+pub fn packet_refusal(log: &[u8], n: usize, packet: &[u8], port: u64, clock: u64, room: usize) -> u8
     requires { ⌜ (length (now log) ≡ logSize) × (n ≤ listLimit) ⌝ }
-    ensures { λ r. ⌜ r ≡ packetRefused (ownIn (now (log .entry))) (entriesOf (now (log .entry)) n)
-        (arrivalOf (now (packet .entry)) arrived) room ⌝ }
+    ensures { λ r. ⌜ (signed : Bool) → r ≡ packetRefused (ownIn (now (log .entry))) (entriesOf (now (log .entry)) n)
+        (arrivalBy (now (packet .entry)) port clock signed) room ⌝ }
 {
     if n >= LIST_LIMIT {
         return LIST_FULL;
@@ -39,11 +39,11 @@ pub fn packet_refusal(log: &[u8], n: usize, packet: &[u8], arrived: Arrived, roo
     if room < LEAST_OUTPUT {
         return refusals::OUTPUT;
     }
-    let settings = port_at(log, n, arrived.port as usize);
+    let settings = port_at(log, n, port as usize);
     if !settings.on {
         return refusals::ARRIVAL_PORT;
     }
-    if clock_bad(log, n, arrived.clock) {
+    if clock_bad(log, n, clock) {
         return refusals::CLOCK;
     }
     packet::reading_refusal(packet, settings.size)

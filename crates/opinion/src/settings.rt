@@ -34,20 +34,20 @@ pub fn fresh(log: &mut [u8; LOG_SIZE], own: [u8; 16])
 }
 
 // A port over 15, an unknown mode, or a size outside the range.
-fn setting_bad(port: u8, mode: u8, size: usize) -> bool
+fn setting_bad(port: u64, mode: u64, size: u64) -> bool
     ensures { λ r. ⌜ r ≡ (leb portCount port or leb modeCount mode or not (isSize size)) ⌝ }
 {
-    if port >= PORT_COUNT as u8 {
+    if port >= PORT_COUNT as u64 {
         return true;
     }
-    if mode >= MODE_COUNT {
+    if mode >= MODE_COUNT as u64 {
         return true;
     }
-    !packet::is_size(size)
+    !packet::is_size(size as usize)
 }
 
 // Sets a port on or off, its mode and its size.
-pub fn set_port(log: &mut [u8; LOG_SIZE], port: u8, on: bool, mode: u8, size: usize) -> u8
+pub fn set_port(log: &mut [u8; LOG_SIZE], port: u64, on: bool, mode: u64, size: u64) -> u8
     ensures { λ r. ⌜ Settles (now (log .entry)) (sets-port port on mode size) r (now (log .exit)) ⌝ }
 {
     let n = listed(log);
@@ -57,7 +57,7 @@ pub fn set_port(log: &mut [u8; LOG_SIZE], port: u8, on: bool, mode: u8, size: us
     if setting_bad(port, mode, size) {
         return refusals::SETTING;
     }
-    put_port(log, n, port, on, mode, size);
+    put_port(log, n, port as u8, on, mode as u8, size as usize);
     refusals::NONE
 }
 

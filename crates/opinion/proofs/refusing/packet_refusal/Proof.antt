@@ -1,78 +1,82 @@
 use Rattle.opinion.proofs.Settled.{row-full, row-room, row-port, row-clock, row-read}
-use Rattle.judging.specs.Seen.{arrivalOf}
+use Rattle.opinion.specs.Steps.{arrivalBy}
 use Rattle.rules.specs.Relay.{Port}
 use Rattle.packet.specs.Read.{readingRefusal}
 use mathlib.Core.Bool.{not}
 use Prim.Native.Nat.{ℕ}
-use mathlib.Core.Path.{sym, ap, _∙_}
+use mathlib.Core.Path.{_≡_, refl, sym, ap, subst, _∙_}
 use native.Mathlib.Omega.{arith}
 use borrow.Author.Needs.{needs}
 use Rattle.opinion.proofs.refusing.packet_refusal.Statement.{statement}
 use Rattle.opinion.proofs.refusing.packet_refusal.Tie as tie
+use Rattle.opinion.proofs.refusing.packet_refusal.Reads as reads
+use Rattle.opinion.proofs.refusing.packet_refusal.Lts as lts
+use Rattle.opinion.proofs.ports.port_at.Reads as port-at-reads
+use Rattle.opinion.proofs.refusing.clock_bad.Reads as clock-bad-reads
+use Rattle.packet.proofs.reading_refusal.Reads as reading-refusal-reads
 
+-- src/refusing.rt:37:9
 returns : tie.Need-returns
-returns c =
-    let c3 = c .before .before .before in
-    let log = c3 .args .log .now in
-    let n : ℕ = c3 .args .n in
-    let a = arrivalOf (c3 .args .packet .now) (c3 .args .arrived) in
-    let room : ℕ = c3 .args .room in
+returns c signed =
+    let log = c .before .before .before .args .log .now in
+    let n : ℕ = c .before .before .before .args .n in
+    let a = arrivalBy (c .before .before .before .args .packet .now) (c .before .before .before .args .port) (c .before .before .before .args .clock) signed in
+    let room : ℕ = c .before .before .before .args .room in
     row-full log n a room (omega arith)
 
+-- src/refusing.rt:40:9
 returns-2 : tie.Need-returns-2
-returns-2 c =
-    let c4 = c .before .before .before .before in
-    let log = c4 .args .log .now in
-    let n : ℕ = c4 .args .n in
-    let a = arrivalOf (c4 .args .packet .now) (c4 .args .arrived) in
-    let room : ℕ = c4 .args .room in
+returns-2 c signed =
+    let log = c .before .before .before .before .args .log .now in
+    let n : ℕ = c .before .before .before .before .args .n in
+    let a = arrivalBy (c .before .before .before .before .args .packet .now) (c .before .before .before .before .args .port) (c .before .before .before .before .args .clock) signed in
+    let room : ℕ = c .before .before .before .before .args .room in
     row-room log n a room (omega arith) (omega arith)
 
+-- src/refusing.rt:42:36
 cast-port-at : tie.Need-cast-port-at
 cast-port-at c = search needs
 
+-- src/refusing.rt:42:9
 port-at-requires : tie.Need-port-at-requires
 port-at-requires c κs = c .before .before .before .before .before .pre
 
+-- src/refusing.rt:44:9
 returns-3 : tie.Need-returns-3
-returns-3 c =
-    let c8 = c .before .before .before .before .before .before .before .before in
-    let log = c8 .args .log .now in
-    let n : ℕ = c8 .args .n in
-    let a = arrivalOf (c8 .args .packet .now) (c8 .args .arrived) in
-    let room : ℕ = c8 .args .room in
+returns-3 c signed =
+    let log = c .before .before .before .before .before .before .before .before .args .log .now in
+    let n : ℕ = c .before .before .before .before .before .before .before .before .args .n in
+    let a = arrivalBy (c .before .before .before .before .before .before .before .before .args .packet .now) (c .before .before .before .before .before .before .before .before .args .port) (c .before .before .before .before .before .before .before .before .args .clock) signed in
+    let room : ℕ = c .before .before .before .before .before .before .before .before .args .room in
     row-port log n a room (omega arith) (omega arith) (ap (λ (p : Port). not (p .on)) (sym (c .before .before .port-at .ensures)) ∙ c .if3 .taken)
 
+-- src/refusing.rt:46:8
 clock-bad-requires : tie.Need-clock-bad-requires
 clock-bad-requires c κs = c .before .before .before .before .before .before .before .before .pre
 
+-- src/refusing.rt:47:9
 returns-4 : tie.Need-returns-4
-returns-4 c =
-    let c4 = c .before .before .before .before in
-    let c10 = c4 .before .before .before .before .before .before in
-    let log = c10 .args .log .now in
-    let n : ℕ = c10 .args .n in
-    let a = arrivalOf (c10 .args .packet .now) (c10 .args .arrived) in
-    let room : ℕ = c10 .args .room in
-    row-clock log n a room (omega arith) (omega arith) (ap (λ (p : Port). not (p .on)) (sym (c4 .port-at .ensures))
-    ∙ c .before .before .if3 .left) (sym (c .before .clock-bad .ensures) ∙ c .if4 .taken)
+returns-4 c signed =
+    let log = c .before .before .before .before .before .before .before .before .before .before .args .log .now in
+    let n : ℕ = c .before .before .before .before .before .before .before .before .before .before .args .n in
+    let a = arrivalBy (c .before .before .before .before .before .before .before .before .before .before .args .packet .now) (c .before .before .before .before .before .before .before .before .before .before .args .port) (c .before .before .before .before .before .before .before .before .before .before .args .clock) signed in
+    let room : ℕ = c .before .before .before .before .before .before .before .before .before .before .args .room in
+    row-clock log n a room (omega arith) (omega arith) (ap (λ (p : Port). not (p .on)) (sym (c .before .before .before .before .port-at .ensures)) ∙ c .before .before .if3 .left) (sym (c .before .clock-bad .ensures) ∙ c .if4 .taken)
 
+-- src/refusing.rt:49:5
 reading-refusal-requires : tie.Need-reading-refusal-requires
 reading-refusal-requires c κs = search needs
 
+-- src/refusing.rt:31:1
 returns-5 : tie.Need-returns-5
-returns-5 c =
-    let c3 = c .before .before .before in
-    let c5 = c3 .before .before in
-    let c11 = c5 .before .before .before .before .before .before in
-    let log = c11 .args .log .now in
-    let n : ℕ = c11 .args .n in
-    let a = arrivalOf (c11 .args .packet .now) (c11 .args .arrived) in
-    let room : ℕ = c11 .args .room in
+returns-5 c signed =
+    let log = c .before .before .before .before .before .before .before .before .before .before .before .args .log .now in
+    let n : ℕ = c .before .before .before .before .before .before .before .before .before .before .before .args .n in
+    let a = arrivalBy (c .before .before .before .before .before .before .before .before .before .before .before .args .packet .now) (c .before .before .before .before .before .before .before .before .before .before .before .args .port) (c .before .before .before .before .before .before .before .before .before .before .before .args .clock) signed in
+    let room : ℕ = c .before .before .before .before .before .before .before .before .before .before .before .args .room in
     c .reading-refusal .ensures
-    ∙ ap (λ (p : Port). readingRefusal (p .size) (a .bytes)) (c5 .port-at .ensures)
-    ∙ row-read log n a room (omega arith) (omega arith) (ap (λ (p : Port). not (p .on)) (sym (c5 .port-at .ensures))
-    ∙ c3 .if3 .left) (sym (c .before .before .clock-bad .ensures) ∙ c .before .if4 .left)
+    ∙ ap (λ (p : Port). readingRefusal (p .size) (a .bytes)) (c .before .before .before .before .before .port-at .ensures)
+    ∙ row-read log n a room (omega arith) (omega arith) (ap (λ (p : Port). not (p .on)) (sym (c .before .before .before .before .before .port-at .ensures)) ∙ c .before .before .before .if3 .left) (sym (c .before .before .clock-bad .ensures) ∙ c .before .if4 .left)
 
 pub packet-refusal-spec : {M : Type 1} → statement M
 packet-refusal-spec =
