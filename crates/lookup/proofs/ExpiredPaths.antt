@@ -2,7 +2,7 @@
 use Prim.Native.Nat.{ℕ, _+_, _≤_, _<_}
 use native.Mathlib.Numerals.{add-one}
 use native.Mathlib.Omega.{arith}
-use mathlib.Core.Bool.{Bool, true, false, not}
+use mathlib.Core.Bool.{Bool, true, false, not, false≢true}
 use mathlib.Core.List.{List}
 use mathlib.Core.Path.{_≡_, refl, sym, ap, ap₂, subst, _∙_}
 use lib.Dec.{eqb, ltb}
@@ -79,6 +79,12 @@ later-of empty t = refl
 later-of (used s) empty = refl
 later-of (used s) (used t) = sym (then-ap (λ n. latestOf (used n)) (ltb s t) t s)
 
+kept : (s t : Slot ℕ) → latestOf t .there ≡ false → latestOf s ≡ laterOf (latestOf s) (latestOf t)
+unfolding laterOf latestOf _then_otherwise_
+kept empty empty none = refl
+kept (used s) empty none = refl
+kept s (used t) none = absurd (false≢true (sym none))
+
 module _ (clock : ℕ) (destination : List ℕ) (t : List ℕ) where
   pub none-yet : latestOf empty ≡ latestOf (latest (expiryAt clock destination t) 0)
   unfolding latest
@@ -89,6 +95,11 @@ module _ (clock : ℕ) (destination : List ℕ) (t : List ℕ) where
   unfolding latest
   one-more i e f =
       ap₂ laterOf e f ∙ later-of _ _ ∙ ap (λ (n : ℕ). latestOf (latest (expiryAt clock destination t) n)) (sym (add-one i))
+
+  -- a place that has none
+  pub none-more : (i : ℕ) {x y : Latest} → x ≡ latestOf (latest (expiryAt clock destination t) i) → y ≡ latestOf (expiryAt clock destination t i)
+      → y .there ≡ false → x ≡ latestOf (latest (expiryAt clock destination t) (i + 1))
+  none-more i e f none = e ∙ kept _ _ (ap (λ (l : Latest). l .there) (sym f) ∙ none) ∙ one-more i refl refl
 
   pub all-seen : (i : ℕ) → i ≤ pathCount → pathCount ≤ i → {x : Latest} → x ≡ latestOf (latest (expiryAt clock destination t) i)
       → x ≡ latestOf (expiredPath clock (relayOf t) destination)

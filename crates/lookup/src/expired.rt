@@ -56,7 +56,7 @@ fn later(one: Latest, other: Latest) -> Latest
     one
 }
 
-// The greatest expiry of the destination's used paths that aren't live, if there is one.
+// The greatest expiry of the destination's used paths that aren't live, if there is one. Most places have none to compare.
 pub fn expired_path(tables: &[u8], destination: [u8; 16], clock: u64) -> Latest
     requires { ⌜ length (now tables) ≡ tableSize ⌝ }
     ensures { λ r. ⌜ r ≡ latestOf (expiredPath clock (relayOf (now (tables .entry))) destination) ⌝ }
@@ -67,7 +67,10 @@ pub fn expired_path(tables: &[u8], destination: [u8; 16], clock: u64) -> Latest
     };
     let mut i = 0;
     while i < PATH_COUNT {
-        latest = later(latest, expiry_at(tables, &destination, i, clock));
+        let expired = expiry_at(tables, &destination, i, clock);
+        if expired.there {
+            latest = later(latest, expired);
+        }
         i += 1;
     }
     latest

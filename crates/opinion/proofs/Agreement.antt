@@ -57,9 +57,9 @@ agree : (cs : List Call) (own : List ℕ) (entries : List Entry) (log : List ℕ
 unfolding Alike
 agree [] own entries log r t h alike = tt
 agree (c ∷ cs) own entries log r t h alike = λ reply after asked. (
-      λ few. reply-so own entries log h c reply (perform c r t .reply) after asked (alike .0 (under own entries log h few)),
-      agree cs own (listed own entries c) after (perform c r t .relay) (perform c r t .tally) (still-holds own entries log h c reply after asked) (alike .1),
-    )
+  λ few. reply-so own entries log h c reply (perform c r t .reply) after asked (alike .0 (under own entries log h few)),
+  agree cs own (listed own entries c) after (perform c r t .relay) (perform c r t .tally) (still-holds own entries log h c reply after asked) (alike .1),
+)
 
 pub engine-agrees : EngineAgrees
 engine-agrees own log cs t fresh-log none =

@@ -111,7 +111,8 @@ module _ (v : View) (a : Arrival) (k : Known) where
   made-return (follows (by-path p)) t h = (p, t .found .0, λ key. go key (isData (header a)) refl)
     where
       go : (key : List ℕ) (b : Bool) → isData (header a) ≡ b
-          → (isData (header a) then nowReturn (returnKey a) (used (returnRecord a p)) k otherwise nowLink (linkId (a .bytes)) (used (linkRecord a p)) k) .return key
+          → (isData (header a) then nowReturn (returnKey a) (used (returnRecord a p)) k
+          otherwise nowLink (linkId (a .bytes)) (used (linkRecord a p)) k) .return key
           ≡ (same (returnKey a) key then used (returnRecord a p) otherwise k .return key)
       go key true q = ap (λ (x : Known). x .return key) (then-true _ _ q)
       go key false q = absurd (eqb-false 4 3 refl (sym (then-false _ _ q) ∙ h))
@@ -130,7 +131,8 @@ module _ (v : View) (a : Arrival) (k : Known) where
   made-link (follows (by-path p)) t h = (p, t .found .0, λ id. go id (isData (header a)) refl)
     where
       go : (id : List ℕ) (b : Bool) → isData (header a) ≡ b
-          → (isData (header a) then nowReturn (returnKey a) (used (returnRecord a p)) k otherwise nowLink (linkId (a .bytes)) (used (linkRecord a p)) k) .link id
+          → (isData (header a) then nowReturn (returnKey a) (used (returnRecord a p)) k
+          otherwise nowLink (linkId (a .bytes)) (used (linkRecord a p)) k) .link id
           ≡ (same (linkId (a .bytes)) id then used (linkRecord a p) otherwise k .link id)
       go id true q = absurd (eqb-false 3 4 refl (sym (then-true _ _ q) ∙ h))
       go id false q = ap (λ (x : Known). x .link id) (then-false _ _ q)

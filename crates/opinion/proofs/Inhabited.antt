@@ -1,29 +1,29 @@
--- The theorem is not empty: there is a fresh log, and every packet call on a log, refused or not, has a reply, an output and a log after it that meet its contract.
--- The first calls of a day are met one by one.
-use Prim.Native.Nat.{ℕ, _+_, _<_}
+-- The theorem is not empty: there is a fresh log, and every packet call on a log, refused or not, has a reply, an output and a log after it that meet its
+-- contract. The first call of a day is met.
+use Prim.Native.Nat.{ℕ}
 use native.Mathlib.Omega.{arith}
 use mathlib.Core.Bool.{Bool, true, false}
 use mathlib.Core.List.{List, [], _∷_, _++_}
-use mathlib.Core.Path.{_≡_, refl, sym, ap, subst, _∙_}
+use mathlib.Core.Path.{_≡_, refl, sym, ap, _∙_}
 use lib.Dec.{eqb}
 use lib.ListN.{length, replicate, length-replicate}
 use borrow.Author.Tests.{eqb-false}
 use Rattle.octets.specs.Choice.{_or_}
 use Rattle.octets.specs.Index.{_and_}
 use Rattle.octets.specs.Part.{patch}
+use Rattle.octets.proofs.Part.{patch-length}
 use Rattle.numbers.specs.Numbers.{isSize}
 use Rattle.rules.specs.Relay.{fresh}
 use Rattle.rules.specs.Arrival.{Arrival}
 use Rattle.rules.specs.Judging.{plan, verdict, outputAfter}
 use Rattle.rules.specs.Calls.{newTally, sets-port}
-use Rattle.rules.specs.Run.{Call, packet, on-tables, Reply, answered, numbered, perform}
+use Rattle.rules.specs.Run.{on-tables, numbered, perform, noCall, setsRelay}
 use Rattle.rules.specs.declared.Answer.{Answer}
 use Rattle.rules.specs.declared.Answer.the-variants.{Refused, Judged}
 use Rattle.judging.specs.declared.Arrived.{Arrived}
 use Rattle.history.specs.Known.{seenAt}
-use Rattle.history.specs.Opinion.{listLimit, packetRefused, callRows}
-use Rattle.history.specs.SecondOpinion.{coarse}
-use Rattle.opinion.specs.Log.{addressWidth, countAt, logSize, ownIn, callsIn, listedIn, knownIn}
+use Rattle.history.specs.Opinion.{packetRefused, callRows}
+use Rattle.opinion.specs.Log.{countAt, logSize, ownIn, callsIn, listedIn, knownIn}
 use Rattle.opinion.specs.Calls.{Opines, Settles, IsFresh}
 use Rattle.opinion.specs.Steps.{headBytes, withEntry}
 use Rattle.opinion.proofs.Written.{fresh-log}
@@ -57,12 +57,36 @@ some-reply log long a output = go (eqb refusal 0) refl
     go false some = (Refused refusal, log, output, packet-refused log a output refusal refl (eqb-false refusal 0 some))
 
 -- ---- a day's start
-own : List ℕ
+pub own : List ℕ
 own = replicate 16 7
 
-start : List ℕ
+pub start : List ℕ
 start = patch (patch (replicate logSize 0) 0 own) countAt (0 ∷ [])
 
 pub start-fresh : IsFresh own start
 unfolding start own
-start-fresh = fresh-log (replicate logSize 0) (replicate 16 7) (length-replicate logSize 0) (length-replicate 16 7)
+start-fresh = fresh-log (replicate logSize 0) (replicate 16 7) (length-replicate {A = ℕ} logSize 0) (length-replicate {A = ℕ} 16 7)
+
+start-long : length start ≡ logSize
+unfolding start own
+start-long =
+    let inner : length (patch (replicate logSize 0) 0 (replicate 16 7)) ≡ logSize =
+    patch-length (replicate logSize 0) 0 (replicate 16 7) (omega (arith, length-replicate {A = ℕ} 16 7, length-replicate {A = ℕ} logSize 0))
+    ∙ length-replicate {A = ℕ} logSize 0 in
+    patch-length (patch (replicate logSize 0) 0 (replicate 16 7)) countAt (0 ∷ []) (omega arith) ∙ inner
+
+none-listed : listedIn start ≡ 0
+none-listed = sym (entries-length start (listedIn start)) ∙ ap length (start-fresh .lists)
+
+-- port 1 is switched on, and the engine says 0, as the core does
+pub port-set : Settles start (sets-port 1 true 0 500) 0 (withEntry start 0 (headBytes 2 1 true 0 0 500 ++ []))
+unfolding callRows isSize _or_ _and_
+port-set =
+    accepted start (sets-port 1 true 0 500) (omega (arith, none-listed)) (none-of-one _ 9 refl) 0 (sym none-listed) _
+    (port-put start 0 start-long (omega arith) 1 true 0 500 (omega arith) (omega arith))
+
+pub port-alike : numbered 0 ≡ perform (on-tables (sets-port 1 true 0 500)) (fresh own) newTally .reply
+unfolding noCall setsRelay _and_
+port-alike =
+    engine-agrees own start (on-tables (sets-port 1 true 0 500) ∷ []) newTally start-fresh refl (numbered 0) _ (0, refl, port-set) .0
+    (omega (arith, none-listed))

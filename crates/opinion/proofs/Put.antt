@@ -54,7 +54,7 @@ module _ (log : List ℕ) (n : ℕ) (size : length log ≡ logSize) (few : n < l
       → Adds log n x (withEntry log n (headBytes kind port word mode clock long ++ body))
   put kind port word mode clock long body short x read =
       let wide : length (headBytes kind port word mode clock long ++ body) ≡ 11 + length body =
-          length-append (headBytes kind port word mode clock long) body ∙ ap (λ (k : ℕ). k + length body) (head-wide kind port word mode clock long) in
+      length-append (headBytes kind port word mode clock long) body ∙ ap (λ (k : ℕ). k + length body) (head-wide kind port word mode clock long) in
       adds-entry log n (headBytes kind port word mode clock long ++ body) size few (omega arith) x
       (λ rest. ap entryOf (append-assoc (headBytes kind port word mode clock long) body rest) ∙ read rest)
 
@@ -70,9 +70,9 @@ module _ (log : List ℕ) (n : ℕ) (size : length log ≡ logSize) (few : n < l
       read rest =
           let e : List ℕ = written 1 (m .port) (m .signed) 0 (m .clock) (length packet) (packet ++ rest) in
           let there : packetIn e ≡ packet =
-              ap (part e 11) (head-length 1 (m .port) (m .signed) 0 (m .clock) (length packet) (packet ++ rest) fits)
-              ∙ head-body 1 (m .port) (m .signed) 0 (m .clock) (length packet) (packet ++ rest) (length packet)
-              ∙ take-at packet rest (length packet) refl in
+          ap (part e 11) (head-length 1 (m .port) (m .signed) 0 (m .clock) (length packet) (packet ++ rest) fits)
+          ∙ head-body 1 (m .port) (m .signed) 0 (m .clock) (length packet) (packet ++ rest) (length packet)
+          ∙ take-at packet rest (length packet) refl in
           entry-came e (kind-came e refl (ap (reads longestPacket) there ∙ readable))
           ∙ (λ i. came record {
             bytes = there i;

@@ -116,7 +116,8 @@ module _ (log : List ℕ) (n : ℕ) (a : Arrival) (room : ℕ) (none : eqb (pack
         wide = ltb-false room leastOutput wide;
         port = on-port log n (a .port) (not-false _ on);
         clock = leb-false clockLimit (a .clock) (or-no-left _ _ inTime);
-        readable = reads-longest (knownOf (ownIn log) (entriesOf log n) .port (a .port) .size) (a .bytes) (sym (ap (λ (x : ℕ). eqb x 0) (none-first rows read passed)) ∙ none);
+        readable = reads-longest (knownOf (ownIn log) (entriesOf log n) .port (a .port) .size) (a .bytes)
+            (sym (ap (λ (x : ℕ). eqb x 0) (none-first rows read passed)) ∙ none);
       }
 
 module _ (log : List ℕ) (a : Arrival) (output : List ℕ) where

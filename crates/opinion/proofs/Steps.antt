@@ -90,7 +90,6 @@ module _ (log : List ℕ) (i : ℕ) where
   -- ---- paths
   module _ (d : List ℕ) where
     path-on : {x : Slot Path} → after (entryOf b) k .path d ≡ x → knownIn log (i + 1) .path d ≡ x
-
     path-on = onward (λ (y : Known). y .path d) log (entryBytes log i) i refl
 
     module _ (before : SeenPath) (known : pathOf d before ≡ k .path d) where
@@ -114,7 +113,7 @@ module _ (log : List ℕ) (i : ℕ) where
       announce-step a is h found lives r live-so settings mode rated moded made =
           let ours : destination a ≡ d = same-eq _ _ found in
           let seen : pathOf (destination a) lives ≡ seenAt (a .clock) k .path (destination a) =
-              ap (λ (x : List ℕ). pathOf x lives) ours ∙ live-so ∙ ap (onlyIf (λ p. live (a .clock) (p .expiry))) (known ∙ ap (k .path) (sym ours)) in
+          ap (λ (x : List ℕ). pathOf x lives) ours ∙ live-so ∙ ap (onlyIf (λ p. live (a .clock) (p .expiry))) (known ∙ ap (k .path) (sym ours)) in
           ap (λ (x : List ℕ). pathOf x r) (sym ours)
           ∙ made
           ∙ ap used (announced-by (settingsView settings mode) (seenAt (a .clock) k) a moded rated (pathOf (destination a) lives))
@@ -159,7 +158,8 @@ module _ (log : List ℕ) (i : ℕ) where
       path-left m r p q = known ∙ sym (path-on (ap (λ (f : List ℕ → Slot Path). f d) (path-stays b k m r p q)))
 
   -- the live path of a packet's destination is the newest
-  pub found-path : (a : Arrival) (p : Path) (s : SeenPath) → seenAt (a .clock) k .path (destination a) ≡ used p → pathOf (destination a) s ≡ k .path (destination a)
+  pub found-path : (a : Arrival) (p : Path) (s : SeenPath) → seenAt (a .clock) k .path (destination a) ≡ used p
+      → pathOf (destination a) s ≡ k .path (destination a)
       → pathRecord (destination a) s ≡ p
   unfolding seenAt pathOf
   found-path a p s found is =
@@ -169,7 +169,6 @@ module _ (log : List ℕ) (i : ℕ) where
   -- ---- links
   module _ (id : List ℕ) where
     link-on : {x : Slot Link} → after (entryOf b) k .link id ≡ x → knownIn log (i + 1) .link id ≡ x
-
     link-on = onward (λ (y : Known). y .link id) log (entryBytes log i) i refl
 
     module _ (before : SeenLink) (known : linkOf before ≡ k .link id) where
@@ -178,7 +177,7 @@ module _ (log : List ℕ) (i : ℕ) where
       ask-step a is h found s link path made =
           let (p, seen, after-so) = link-asked b k h in
           let seen-a : seenAt (a .clock) k .path (destination a) ≡ used p =
-              ap (λ (x : Arrival). seenAt (x .clock) k .path (destination x)) is ∙ seen in
+          ap (λ (x : Arrival). seenAt (x .clock) k .path (destination x)) is ∙ seen in
           ap used (made ∙ ap (linkRecord a) (found-path a p s seen-a path))
           ∙ ap (λ (x : Arrival). used (linkRecord x p)) is
           ∙ sym (link-on (after-so id ∙ then-true _ _ (ap (λ (x : Arrival). same (linkId (x .bytes)) id) (sym is) ∙ found)))
@@ -196,7 +195,7 @@ module _ (log : List ℕ) (i : ℕ) where
           let (l, seen, after-so) = link-carried b k h in
           let ours : destination (arrivalIn b) ≡ id = ap (λ (x : Arrival). destination x) (sym is) ∙ same-eq _ _ found in
           let newest : k .link id ≡ used l =
-              ap (k .link) (sym ours) ∙ seen-used (λ x. live (arrivalIn b .clock) (x .expiry)) (k .link (destination (arrivalIn b))) l seen in
+          ap (k .link) (sym ours) ∙ seen-used (λ x. live (arrivalIn b .clock) (x .expiry)) (k .link (destination (arrivalIn b))) l seen in
           ap used (made ∙ ap (renewedLink a) (slot-is (before .there) (before .link) l (known ∙ newest)) ∙ ap (λ (x : Arrival). renewedLink x l) is)
           ∙ sym (link-on (after-so id ∙ then-true _ _ (ap (λ (x : Arrival). same (destination x) id) (sym is) ∙ found)))
 
@@ -224,7 +223,6 @@ module _ (log : List ℕ) (i : ℕ) where
   -- ---- return records
   module _ (key : List ℕ) where
     return-on : {x : Slot Return} → after (entryOf b) k .return key ≡ x → knownIn log (i + 1) .return key ≡ x
-
     return-on = onward (λ (y : Known). y .return key) log (entryBytes log i) i refl
 
     module _ (before : SeenReturn) (known : returnOf key before ≡ k .return key) where
@@ -234,7 +232,7 @@ module _ (log : List ℕ) (i : ℕ) where
       data-step a is h found s r path made =
           let (p, seen, after-so) = return-made b k h in
           let seen-a : seenAt (a .clock) k .path (destination a) ≡ used p =
-              ap (λ (x : Arrival). seenAt (x .clock) k .path (destination x)) is ∙ seen in
+          ap (λ (x : Arrival). seenAt (x .clock) k .path (destination x)) is ∙ seen in
           ap (λ (x : List ℕ). returnOf x r) (sym (same-eq _ _ found))
           ∙ made
           ∙ ap (λ (x : Path). used (returnRecord a x)) (found-path a p s seen-a path)
@@ -257,7 +255,8 @@ module _ (log : List ℕ) (i : ℕ) where
       another-proof a is h other =
           known ∙ sym (return-on (return-emptied b k h key ∙ then-false _ _ (ap (λ (x : Arrival). same (destination x) key) (sym is) ∙ other)))
 
-      pub renumber-return : kindIn b ≡ 0 → (arrival leaving : ℕ) → arrival ≡ image (imagesIn b) (before .arrival) → leaving ≡ image (imagesIn b) (before .leaving)
+      pub renumber-return : kindIn b ≡ 0 → (arrival leaving : ℕ) → arrival ≡ image (imagesIn b) (before .arrival)
+          → leaving ≡ image (imagesIn b) (before .leaving)
           → slot (before .there) (withReturnPorts arrival leaving (returnRecordOf key before)) ≡ knownIn log (i + 1) .return key
       unfolding returnOf renameReturn
       renumber-return h arrival leaving p q =

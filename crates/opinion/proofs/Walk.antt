@@ -36,21 +36,22 @@ none-yet log = refl
 -- ---- a packet
 -- what neither paths, links nor return records tell, a plan doesn't change
 module _ {A : Type 0} (f : Known → A) (path : (d : List ℕ) (s : Slot Path) (k : Known) → f (nowPath d s k) ≡ f k)
-    (link : (d : List ℕ) (s : Slot Link) (k : Known) → f (nowLink d s k) ≡ f k) (return : (d : List ℕ) (s : Slot Return) (k : Known) → f (nowReturn d s k) ≡ f k)
-    where
-  way-stays : (v : View) (a : Arrival) (w : Way) (k : Known) → f (afterWay v a w k) ≡ f k
-  unfolding afterWay
-  way-stays v a (everywhere known) k = path _ _ k
-  way-stays v a (by-path p) k = either (λ (x : Known). f x ≡ f k) _ (λ _. return _ _ k) (λ _. link _ _ k)
-  way-stays v a (along-link l) k = link _ _ k
-  way-stays v a (by-return t) k = return _ _ k
-  way-stays v a (blocked why) k = refl
+    (link : (d : List ℕ) (s : Slot Link) (k : Known) → f (nowLink d s k) ≡ f k)
+    (return : (d : List ℕ) (s : Slot Return) (k : Known) → f (nowReturn d s k) ≡ f k)
+  where
+    way-stays : (v : View) (a : Arrival) (w : Way) (k : Known) → f (afterWay v a w k) ≡ f k
+    unfolding afterWay
+    way-stays v a (everywhere known) k = path _ _ k
+    way-stays v a (by-path p) k = either (λ (x : Known). f x ≡ f k) _ (λ _. return _ _ k) (λ _. link _ _ k)
+    way-stays v a (along-link l) k = link _ _ k
+    way-stays v a (by-return t) k = return _ _ k
+    way-stays v a (blocked why) k = refl
 
-  pub plan-stays : (v : View) (a : Arrival) (todo : Plan) (k : Known) → f (afterPlan v a todo k) ≡ f k
-  unfolding afterPlan afterDrop changePath
-  plan-stays v a (dropped reason) k = either (λ (x : Known). f x ≡ f k) _ (λ _. path _ _ k) (λ _. refl)
-  plan-stays v a delivered k = refl
-  plan-stays v a (follows w) k = way-stays v a w k
+    pub plan-stays : (v : View) (a : Arrival) (todo : Plan) (k : Known) → f (afterPlan v a todo k) ≡ f k
+    unfolding afterPlan afterDrop changePath
+    plan-stays v a (dropped reason) k = either (λ (x : Known). f x ≡ f k) _ (λ _. path _ _ k) (λ _. refl)
+    plan-stays v a delivered k = refl
+    plan-stays v a (follows w) k = way-stays v a w k
 
 -- what the hashes and the clock don't tell is what the plan makes of it
 pub packet-plan : {A : Type 0} (f : Known → A) → ((h : List ℕ) (t : ℕ) (k : Known) → f (nowUntil h t k) ≡ f k)
@@ -149,7 +150,8 @@ module _ (e : List ℕ) (k : Known) where
   unfolding after afterCall nowPort nowRate nowLocal nowUnder renumberedKnown nowClock changePath nowPath
   local-another address q =
       by-kind e (λ (x : Entry). after x k .local address ≡ k .local address)
-      (λ _. ap (λ (f : List ℕ → Bool). f address) (packet-local k _)) (λ _. refl) (λ _. refl) (λ _. then-false _ _ q) (λ _. then-false _ _ q) (λ _. refl) (λ _. refl)
+      (λ _. ap (λ (f : List ℕ → Bool). f address) (packet-local k _)) (λ _. refl) (λ _. refl)
+      (λ _. then-false _ _ q) (λ _. then-false _ _ q) (λ _. refl) (λ _. refl)
 
   pub local-stays : (address : List ℕ) → (kindIn e ≡ 4 → ⊥) → (kindIn e ≡ 5 → ⊥) → after (entryOf e) k .local address ≡ k .local address
   unfolding after afterCall nowPort nowRate renumberedKnown nowClock changePath nowPath

@@ -155,7 +155,8 @@ fresh-log log own long wide =
       own = part-before started countAt (0 ∷ []) 0 addressWidth (omega arith) (omega (arith, started-long))
           ∙ ap (λ (n : ℕ). part started 0 n) (sym wide)
           ∙ part-over log 0 own (length own) (omega arith) (omega arith)
-          ∙ ap (λ (r : List ℕ). own ++ r) (drop-of-length-le (part log 0 (length own)) {i = length own} (omega (arith, part-length log 0 (length own) (omega arith))))
+          ∙ ap (λ (r : List ℕ). own ++ r) (drop-of-length-le (part log 0 (length own)) {i = length own}
+          (omega (arith, part-length log 0 (length own) (omega arith))))
           ∙ append-nil own;
       lists = ap (λ (m : ℕ). entriesOf (patch started countAt (0 ∷ [])) (ltb m listLimit then m otherwise listLimit)) none
           ∙ ap (entriesOf (patch started countAt (0 ∷ []))) (then-true 0 listLimit refl);

@@ -1,5 +1,5 @@
--- Document 02, wish 13: the engine's calls on a log. What each replies, and the list after it, are the definitions of crate `history`, over the list that the log
--- holds.
+-- Document 02, wish 13: the engine's calls on a log. What each replies, and the list after it, are the definitions of crate `history`, over the list that
+-- the log holds.
 use Prim.Native.Nat.{ℕ}
 use mathlib.Core.Bool.{Bool, true, false}
 use mathlib.Core.List.{List, []}

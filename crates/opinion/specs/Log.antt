@@ -1,6 +1,6 @@
--- The log of accepted calls, in bytes that a host lends: our own address, how many calls are listed, and for each an entry of one width, the oldest first. The log
--- has one size, and any bytes of it are a log: a count over 64 reads as 64, a port modulo 16, a length over the 500 bytes of a body as 500, and an entry that no
--- call of its kind can have left as a renumbering.
+-- The log of accepted calls, in bytes that a host lends: our own address, how many calls are listed, and for each an entry of one width, the oldest first.
+-- The log has one size, and any bytes of it are a log: a count over 64 reads as 64, a port modulo 16, a length over the 500 bytes of a body as 500, and an
+-- entry that no call of its kind can have left as a renumbering.
 use Prim.Native.Nat.{ℕ, zero, suc, _+_, _*_, _%_}
 use mathlib.Core.Bool.{Bool, not}
 use mathlib.Core.List.{List, [], _∷_, map}

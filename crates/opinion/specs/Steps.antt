@@ -1,5 +1,5 @@
--- For the contracts of helpers: what the walks through the log need of the plans of the packets listed, and how a helper's write stands in the log. No reader has
--- to believe this: the calls' contracts (specs/Calls.antt) do not speak of it.
+-- For the contracts of helpers: what the walks through the log need of the plans of the packets listed, and how a helper's write stands in the log. No reader
+-- has to believe this: the calls' contracts (specs/Calls.antt) do not speak of it.
 use Prim.Native.Nat.{ℕ, _+_, _*_, _<_, _≤_}
 use mathlib.Core.Bool.{Bool, true, false}
 use mathlib.Core.List.{List, [], _∷_, _++_}

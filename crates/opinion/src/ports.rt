@@ -60,7 +60,8 @@ fn sets_port(e: &[u8], port: usize) -> bool
 // The number that a port had before an entry.
 fn name_before(e: &[u8], port: usize) -> usize
     requires { ⌜ length (now e) ≡ entryWidth ⌝ }
-    ensures { λ r. ⌜ r ≡ (eqb (kindIn (now (e .entry))) 0 then preimage (imagesIn (now (e .entry))) port otherwise port) ⌝ }
+    ensures { λ r. ⌜ r
+        ≡ (eqb (kindIn (now (e .entry))) 0 then preimage (imagesIn (now (e .entry))) port otherwise port) ⌝ }
 {
     if kind_in(e) == RENUMBERS {
         return preimage_in(e, port);

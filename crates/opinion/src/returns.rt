@@ -10,9 +10,9 @@ use super::log::packet_in;
 use super::paths::path_of;
 use super::ports::image_in;
 use super::records::no_return;
+use judging::SeenReturn;
 use judging::return_key;
 use judging::return_record;
-use judging::SeenReturn;
 ghost use mathlib.Core.Path.{_≡_};
 ghost use Prim.Native.Nat.{_+_, _<_, _≤_};
 ghost use lib.ListN.{length};
@@ -55,7 +55,13 @@ fn after_proof(log: &[u8], i: usize, key: [u8; 16], before: SeenReturn) -> SeenR
 }
 
 // After one more entry, of this effect.
-fn return_after(log: &[u8], effects: &[u8], i: usize, key: [u8; 16], before: SeenReturn) -> SeenReturn
+fn return_after(
+    log: &[u8],
+    effects: &[u8],
+    i: usize,
+    key: [u8; 16],
+    before: SeenReturn,
+) -> SeenReturn
     requires { ⌜ CanAsk (now log) (now effects) (i + 1) × (i < listLimit) × ReturnKnown (now log) i key before ⌝ }
     ensures { λ r. ⌜ ReturnKnown (now (log .entry)) (i + 1) key r ⌝ }
 {

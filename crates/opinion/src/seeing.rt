@@ -9,9 +9,9 @@ use super::records::live_link;
 use super::records::live_path;
 use super::records::live_return;
 use super::returns::return_of;
-use judging::link_key;
 use judging::Arrived;
 use judging::Seen;
+use judging::link_key;
 ghost use mathlib.Core.Path.{_≡_};
 ghost use Rattle.packet.specs.Hash.{packetHash};
 ghost use Rattle.judging.specs.Seen.{arrivalOf, Sees, Fits};
@@ -26,7 +26,8 @@ pub fn seen(
     arrived: Arrived,
     hash: [u8; 32],
 ) -> Seen
-    requires { ⌜ CanJudge (now log) (now effects) (now kept) n (now packet) arrived × (hash ≡ packetHash (now packet)) ⌝ }
+    requires { ⌜ CanJudge (now log) (now effects) (now kept) n (now packet) arrived
+        × (hash ≡ packetHash (now packet)) ⌝ }
     ensures { λ r. ⌜ Sees r (viewBy (now (log .entry)) n arrived) (arrivalOf (now (packet .entry)) arrived) × Fits r ⌝ }
 {
     let parts = packet::parts_of(packet);

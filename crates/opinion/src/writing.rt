@@ -72,7 +72,14 @@ pub fn put_came(log: &mut [u8], n: usize, packet: &[u8], arrived: Arrived)
         × (arrived .port < portCount) × (arrived .clock < clockLimit) ⌝ }
     ensures { λ _. ⌜ Adds (now (log .entry)) n (came (arrivalOf (now (packet .entry)) arrived)) (now (log .exit)) ⌝ }
 {
-    let head = head_of(CAME, arrived.port, arrived.signed, 0, arrived.clock, packet.len());
+    let head = head_of(
+        CAME,
+        arrived.port,
+        arrived.signed,
+        0,
+        arrived.clock,
+        packet.len(),
+    );
     put_entry(log, n, head, packet);
 }
 

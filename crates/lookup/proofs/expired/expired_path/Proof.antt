@@ -1,9 +1,10 @@
 use Prim.Native.Nat.{_-_, _≤_}
+use mathlib.Core.Logic.{⊎-elim}
 use mathlib.Core.Path.{_≡_, _∙_}
 use Rattle.numbers.specs.Numbers.{pathCount}
 use Rattle.rules.specs.View.{latest}
 use Rattle.lookup.specs.Expired.{latestOf, expiryAt}
-use Rattle.lookup.proofs.ExpiredPaths.{none-yet, one-more, all-seen}
+use Rattle.lookup.proofs.ExpiredPaths.{none-yet, one-more, none-more, all-seen}
 use borrow.Author.Needs.{needs}
 use Rattle.lookup.proofs.expired.expired_path.Statement.{statement}
 use Rattle.lookup.proofs.expired.expired_path.Tie as tie
@@ -38,7 +39,13 @@ loop-again : tie.Need-loop-again Inv-loop μ-loop
 loop-again c =
     let at = c .before .before .before .before in
     let a = at .before .before .args in
-    (search needs, c .later .ensures ∙ one-more (a .clock) (a .t2) (a .tables .now) (at .loop .i) (at .loop .inv .1) (c .before .expiry-at .ensures))
+    let one = c .before .expiry-at .ensures in (
+      search needs,
+      ⊎-elim
+          (λ w. w .2 ∙ w .1 .ensures ∙ one-more (a .clock) (a .t2) (a .tables .now) (at .loop .i) (at .loop .inv .1) one)
+          (λ w. w .1 ∙ none-more (a .clock) (a .t2) (a .tables .now) (at .loop .i) (at .loop .inv .1) one (w .0 .left))
+          (c .if1 .came),
+    )
 
 returns : tie.Need-returns Inv-loop μ-loop
 returns c =

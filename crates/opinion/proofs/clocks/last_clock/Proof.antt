@@ -8,10 +8,6 @@ use native.Mathlib.Omega.{arith}
 use borrow.Author.Needs.{needs}
 use Rattle.opinion.proofs.clocks.last_clock.Statement.{statement}
 use Rattle.opinion.proofs.clocks.last_clock.Tie as tie
-use Rattle.opinion.proofs.clocks.last_clock.Reads as reads
-use Rattle.opinion.proofs.clocks.last_clock.Lts as lts
-use Rattle.opinion.proofs.clocks.clock_after.Reads as clock-after-reads
-use Rattle.opinion.proofs.log.entry_at.Reads as entry-at-reads
 
 abbrev Inv-loop : tie.InvT-loop
 Inv-loop log n clock₀ i₀ clock i = (i ≤ n) × (clock ≡ knownIn log i .clock)
@@ -19,38 +15,37 @@ Inv-loop log n clock₀ i₀ clock i = (i ≤ n) × (clock ≡ knownIn log i .cl
 abbrev μ-loop : tie.MeasureT-loop
 μ-loop log n clock₀ i₀ clock i = n - i
 
--- src/clocks.rt:37:5
 loop-holds : tie.Need-loop-holds Inv-loop μ-loop
 loop-holds c = (omega arith, fresh-clock _)
 
--- src/clocks.rt:38:29
 entry-at-requires : tie.Need-entry-at-requires Inv-loop μ-loop
 entry-at-requires c κs = (c .before .before .before .pre .0, omega arith)
 
--- src/clocks.rt:38:9
 clock-after-requires : tie.Need-clock-after-requires Inv-loop μ-loop
 clock-after-requires c κs = c .entry-at .ensures .1
 
--- src/clocks.rt:39:9
 add-i : tie.Need-add-i Inv-loop μ-loop
 add-i c = search needs
 
--- src/clocks.rt:37:5
 loop-less : tie.Need-loop-less Inv-loop μ-loop
 loop-less c = search needs
 
--- src/clocks.rt:37:5
 loop-again : tie.Need-loop-again Inv-loop μ-loop
 loop-again c =
-    let log = c .before .before .before .before .before .args .log .now in
-    let i : ℕ = c .before .before .before .loop .i in
-    (omega arith, sym (onward (λ (k : Known). k .clock) log _ i (c .before .entry-at .ensures .0) (c .clock-after .ensures (knownIn log i) (sym (c .before .before .before .loop .inv .1)))))
+    let c3 = c .before .before .before in
+    let c5 = c3 .before .before in
+    let log = c5 .args .log .now in
+    let i : ℕ = c3 .loop .i in (
+      omega arith,
+      sym (onward (λ (k : Known). k .clock) log _ i (c .before .entry-at .ensures .0) (c .clock-after .ensures (knownIn log i) (sym
+          (c3 .loop .inv .1)))),
+    )
 
--- src/clocks.rt:31:1
 returns : tie.Need-returns Inv-loop μ-loop
 returns c =
-    let last : c .before .loop .i ≡ c .before .before .before .args .n = omega arith in
-    c .before .loop .inv .1 ∙ ap (λ (k : ℕ). knownIn (c .before .before .before .args .log .now) k .clock) last
+    let c3 = c .before .before .before in
+    let last : c .before .loop .i ≡ c3 .args .n = omega arith in
+    c .before .loop .inv .1 ∙ ap (λ (k : ℕ). knownIn (c3 .args .log .now) k .clock) last
 
 pub last-clock-spec : {M : Type 1} → statement M
 last-clock-spec =

@@ -6,32 +6,25 @@ use native.Mathlib.Omega.{arith}
 use borrow.Author.Needs.{needs}
 use Rattle.opinion.proofs.locals.number_after.Statement.{statement}
 use Rattle.opinion.proofs.locals.number_after.Tie as tie
-use Rattle.opinion.proofs.locals.number_after.Reads as reads
-use Rattle.opinion.proofs.locals.number_after.Lts as lts
 
--- src/locals.rt:40:16
 add-result : tie.Need-add-result
 add-result c = search needs
 
--- src/locals.rt:40:9
 returns : tie.Need-returns
 returns c = sym (then-true _ _ (eq-eqb _ 4 (c .if1 .taken)))
 
--- src/locals.rt:44:20
 sub-result : tie.Need-sub-result
 sub-result c = search needs
 
--- src/locals.rt:44:13
 returns-2 : tie.Need-returns-2
 returns-2 c = sym (then-false _ _ (ne-eqb _ 4 (c .before .before .if1 .left)) ∙ then-true _ _ (eq-eqb _ 5 (c .before .if2 .taken)))
 
--- src/locals.rt:35:1
 returns-3 : tie.Need-returns-3
 returns-3 c =
-    let none : c .before .before .before .args .before ≡ 0 = omega arith in
+    let c3 = c .before .before .before in
+    let none : c3 .args .before ≡ 0 = omega arith in
     none ∙ sym (then-false _ _ (ne-eqb _ 4 (c .before .before .if1 .left)) ∙ then-true _ _ (eq-eqb _ 5 (c .before .if2 .taken)) ∙ ap (λ (n : ℕ). n - 1) none)
 
--- src/locals.rt:35:1
 returns-4 : tie.Need-returns-4
 returns-4 c = sym (then-false _ _ (ne-eqb _ 4 (c .before .if1 .left)) ∙ then-false _ _ (ne-eqb _ 5 (c .if2 .left)))
 

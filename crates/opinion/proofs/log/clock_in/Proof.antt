@@ -4,15 +4,10 @@ use native.Mathlib.Omega.{arith}
 use borrow.Author.Needs.{needs}
 use Rattle.opinion.proofs.log.clock_in.Statement.{statement}
 use Rattle.opinion.proofs.log.clock_in.Tie as tie
-use Rattle.opinion.proofs.log.clock_in.Reads as reads
-use Rattle.opinion.proofs.log.clock_in.Lts as lts
-use Rattle.octets.proofs.number_at.Reads as number-at-reads
 
--- src/log.rt:91:5
 number-at-requires : tie.Need-number-at-requires
 number-at-requires c κs = search needs
 
--- src/log.rt:87:1
 returns : tie.Need-returns
 returns c =
     let e = c .before .before .args .e .now in

@@ -5,22 +5,17 @@ use native.Mathlib.Omega.{arith}
 use borrow.Author.Needs.{needs}
 use Rattle.opinion.proofs.log.has_address.Statement.{statement}
 use Rattle.opinion.proofs.log.has_address.Tie as tie
-use Rattle.opinion.proofs.log.has_address.Reads as reads
-use Rattle.opinion.proofs.log.has_address.Lts as lts
-use Rattle.octets.proofs.equal_at.Reads as equal-at-reads
 
--- src/log.rt:211:34
 slice-aggregate-equal-at : tie.Need-slice-aggregate-equal-at
 slice-aggregate-equal-at c = search needs
 
--- src/log.rt:211:5
 equal-at-requires : tie.Need-equal-at-requires
 equal-at-requires c κs = search needs
 
--- src/log.rt:207:1
 returns : tie.Need-returns
 returns c =
-    let a = c .before .before .before .args in
+    let c3 = c .before .before .before in
+    let a = c3 .args in
     let wide : length (a .t2) ≡ 16 = search needs in
     bytes-same 16 (a .e .now) 11 (a .t2) (omega arith) wide _ (c .equal-at .ensures)
 

@@ -1,19 +1,13 @@
 use Rattle.opinion.proofs.Reading.{address-same}
 use lib.ListN.{length}
 use mathlib.Core.Path.{_≡_}
-use native.Mathlib.Omega.{arith}
 use borrow.Author.Needs.{needs}
 use Rattle.opinion.proofs.log.is_same.Statement.{statement}
 use Rattle.opinion.proofs.log.is_same.Tie as tie
-use Rattle.opinion.proofs.log.is_same.Reads as reads
-use Rattle.opinion.proofs.log.is_same.Lts as lts
-use Rattle.octets.proofs.equal16.Reads as equal16-reads
 
--- src/log.rt:218:5
 equal16-requires : tie.Need-equal16-requires
 equal16-requires c κs = search needs
 
--- src/log.rt:215:1
 returns : tie.Need-returns
 returns c =
     let wide : length (c .before .args .a) ≡ 16 = search needs in

@@ -4,64 +4,53 @@ use Rattle.packet.specs.Read.{readingRefusal, reads}
 use Rattle.octets.proofs.Choice.{then-true, then-false}
 use borrow.Author.Tests.{eq-eqb, ne-eqb, lt-ltb, le-ltb}
 use mathlib.Core.Path.{sym, ap, _∙_}
-use native.Mathlib.Omega.{arith}
 use borrow.Author.Needs.{needs}
 use Rattle.opinion.proofs.log.kind_in.Statement.{statement}
 use Rattle.opinion.proofs.log.kind_in.Tie as tie
 use Rattle.opinion.proofs.log.kind_in.Reads as reads
-use Rattle.opinion.proofs.log.kind_in.Lts as lts
-use Rattle.opinion.proofs.log.packet_in.Reads as packet-in-reads
-use Rattle.opinion.proofs.log.rate_in.Reads as rate-in-reads
-use Rattle.opinion.proofs.log.rate_within.Reads as rate-within-reads
-use Rattle.packet.proofs.reading_refusal.Reads as reading-refusal-reads
 
--- src/log.rt:187:16
 shared-slice-read-kind : tie.Need-shared-slice-read-kind
 shared-slice-read-kind c = search needs
 
--- src/log.rt:189:36
 packet-in-requires : tie.Need-packet-in-requires
 packet-in-requires c κs = search needs
 
--- src/log.rt:189:12
 reading-refusal-requires : tie.Need-reading-refusal-requires
 reading-refusal-requires c κs = search needs
 
--- src/log.rt:190:13
 returns : tie.Need-returns
 unfolding reads
 returns c =
-    sym (kind-came _ (c .before .before .before .if1 .taken) (eq-eqb _ 0 ((ap (readingRefusal 500) (sym (c .before .before .packet-in .ensures .0)) ∙ sym (c .before .reading-refusal .ensures)) ∙ c .if2 .taken)))
+    let c3 = c .before .before .before in
+    sym (kind-came _ (c3 .if1 .taken) (eq-eqb _ 0 ((ap (readingRefusal 500) (sym (c .before .before .packet-in .ensures .0))
+    ∙ sym (c .before .reading-refusal .ensures)) ∙ c .if2 .taken)))
 
--- src/log.rt:192:9
 returns-2 : tie.Need-returns-2
 unfolding reads
 returns-2 c =
-    sym (kind-not-read _ (c .before .before .before .if1 .taken) (ne-eqb _ 0 (λ q. c .if2 .left (sym (ap (readingRefusal 500) (sym (c .before .before .packet-in .ensures .0)) ∙ sym (c .before .reading-refusal .ensures)) ∙ q))))
+    let c3 = c .before .before .before in
+    sym (kind-not-read _ (c3 .if1 .taken) (ne-eqb _ 0 (λ q. c .if2 .left (sym (ap (readingRefusal 500) (sym (c .before .before .packet-in .ensures .0))
+    ∙ sym (c .before .reading-refusal .ensures)) ∙ q))))
 
--- src/log.rt:195:24
 rate-in-requires : tie.Need-rate-in-requires
 rate-in-requires c κs = search needs
 
--- src/log.rt:195:12
 rate-within-requires : tie.Need-rate-within-requires
 rate-within-requires c κs = search needs
 
--- src/log.rt:196:13
 returns-3 : tie.Need-returns-3
 returns-3 c =
-    sym (kind-rate _ (c .before .before .before .if3 .taken) (ap rateSettingsOk (sym (c .before .before .rate-in .ensures)) ∙ sym (c .before .rate-within .ensures) ∙ c .if4 .taken))
+    let c3 = c .before .before .before in
+    sym (kind-rate _ (c3 .if3 .taken) (ap rateSettingsOk (sym (c .before .before .rate-in .ensures)) ∙ sym (c .before .rate-within .ensures) ∙ c .if4 .taken))
 
--- src/log.rt:198:9
 returns-4 : tie.Need-returns-4
 returns-4 c =
-    sym (kind-over _ (c .before .before .before .if3 .taken) (ap rateSettingsOk (sym (c .before .before .rate-in .ensures)) ∙ sym (c .before .rate-within .ensures) ∙ c .if4 .left))
+    let c3 = c .before .before .before in
+    sym (kind-over _ (c3 .if3 .taken) (ap rateSettingsOk (sym (c .before .before .rate-in .ensures)) ∙ sym (c .before .rate-within .ensures) ∙ c .if4 .left))
 
--- src/log.rt:201:9
 returns-5 : tie.Need-returns-5
 returns-5 c = sym (kind-other _ (c .before .before .if1 .left) (c .before .if3 .left) ∙ then-true _ _ (lt-ltb 6 _ (c .if5 .taken)))
 
--- src/log.rt:183:1
 returns-6 : tie.Need-returns-6
 returns-6 c = sym (kind-other _ (c .before .before .if1 .left) (c .before .if3 .left) ∙ then-false _ _ (le-ltb 6 _ (c .if5 .left)))
 

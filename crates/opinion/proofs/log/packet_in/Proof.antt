@@ -6,59 +6,50 @@ use native.Mathlib.Omega.{arith}
 use borrow.Author.Needs.{needs}
 use Rattle.opinion.proofs.log.packet_in.Statement.{statement}
 use Rattle.opinion.proofs.log.packet_in.Tie as tie
-use Rattle.opinion.proofs.log.packet_in.Reads as reads
-use Rattle.opinion.proofs.log.packet_in.Lts as lts
-use Rattle.opinion.proofs.log.length_in.Reads as length-in-reads
 
--- src/log.rt:115:9
 length-in-requires : tie.Need-length-in-requires
 length-in-requires c κs = search needs
 
--- src/log.rt:117:28
 add-result : tie.Need-add-result
 add-result c = search needs
 
--- src/log.rt:117:16
 sub-result : tie.Need-sub-result
 sub-result c = search needs
 
--- src/log.rt:117:16
 part-result-start : tie.Need-part-result-start
 part-result-start c = search needs
 
--- src/log.rt:117:16
 part-result-end : tie.Need-part-result-end
 part-result-end c = search needs
 
--- src/log.rt:117:9
 returns : tie.Need-returns
 returns c =
-    let e = c .before .before .before .before .args .e .now in
+    let c4 = c .before .before .before .before in
+    let e = c4 .args .e .now in
     let n = c .before .before .length-in .result in
     (part-range e 11 n ∙ ap (part e 11) (c .before .before .length-in .ensures), omega (arith, range-length e 11 n (omega arith)))
 
--- src/log.rt:119:17
 add-result-2 : tie.Need-add-result-2
 add-result-2 c = search needs
 
--- src/log.rt:119:5
 sub-result-2 : tie.Need-sub-result-2
 sub-result-2 c = search needs
 
--- src/log.rt:119:5
 part-result-start-2 : tie.Need-part-result-start-2
 part-result-start-2 c = search needs
 
--- src/log.rt:119:5
 part-result-end-2 : tie.Need-part-result-end-2
 part-result-end-2 c = search needs
 
--- src/log.rt:111:1
 returns-2 : tie.Need-returns-2
 returns-2 c =
-    let e = c .before .before .before .before .args .e .now in
-    let n = c .before .before .length-in .result in
-    (part-range e 11 500 ∙ part-all e n (c .before .before .before .before .pre) (omega arith) ∙ ap (part e 11) (c .before .before .length-in .ensures), omega (arith, range-length e 11 500 (omega arith)))
+    let c4 = c .before .before .before .before in
+    let e = c4 .args .e .now in
+    let n = c .before .before .length-in .result in (
+      part-range e 11 500 ∙ part-all e n (c4 .pre) (omega arith)
+          ∙ ap (part e 11) (c .before .before .length-in .ensures),
+      omega (arith, range-length e 11 500 (omega arith)),
+    )
 
 pub packet-in-spec : {M : Type 1} → statement M
 packet-in-spec =

@@ -1,37 +1,25 @@
-use native.Mathlib.Omega.{arith}
 use borrow.Author.Needs.{needs}
 use Rattle.opinion.proofs.log.rate_in.Statement.{statement}
 use Rattle.opinion.proofs.log.rate_in.Tie as tie
-use Rattle.opinion.proofs.log.rate_in.Reads as reads
-use Rattle.opinion.proofs.log.rate_in.Lts as lts
-use Rattle.octets.proofs.number_at.Reads as number-at-reads
-use Rattle.octets.proofs.wide.Reads as wide-reads
 
--- src/log.rt:163:17
 number-at-requires : tie.Need-number-at-requires
 number-at-requires c κs = search needs
 
--- src/log.rt:164:31
 add-wide : tie.Need-add-wide
 add-wide c = search needs
 
--- src/log.rt:164:29
 shared-slice-read-wide : tie.Need-shared-slice-read-wide
 shared-slice-read-wide c = search needs
 
--- src/log.rt:164:16
 wide-requires : tie.Need-wide-requires
 wide-requires c κs = search needs
 
--- src/log.rt:165:39
 add-number-at : tie.Need-add-number-at
 add-number-at c = search needs
 
--- src/log.rt:165:18
 number-at-requires-2 : tie.Need-number-at-requires-2
 number-at-requires-2 c κs = search needs
 
--- src/log.rt:158:1
 returns : tie.Need-returns
 returns c = λ i. record { target = c .before .before .before .number-at .ensures i; grace = c .before .wide .ensures i; penalty = c .number-at2 .ensures i }
 

@@ -1,52 +1,37 @@
-use native.Mathlib.Omega.{arith}
 use borrow.Author.Needs.{needs}
 use Rattle.opinion.proofs.outcomes.way_effect.Statement.{statement}
 use Rattle.opinion.proofs.outcomes.way_effect.Tie as tie
-use Rattle.opinion.proofs.outcomes.way_effect.Reads as reads
-use Rattle.opinion.proofs.outcomes.way_effect.Lts as lts
-use Rattle.opinion.proofs.outcomes.path_effect.Reads as path-effect-reads
 
--- src/outcomes.rt:52:32
 enum-told : tie.Need-enum-told
 enum-told c = search needs
 
--- src/outcomes.rt:53:28
 enum-told-2 : tie.Need-enum-told-2
 enum-told-2 c = search needs
 
--- src/outcomes.rt:53:28
 path-effect-requires : tie.Need-path-effect-requires
 path-effect-requires c κs = search needs
 
--- src/outcomes.rt:54:31
 enum-told-3 : tie.Need-enum-told-3
 enum-told-3 c = search needs
 
--- src/outcomes.rt:55:30
 enum-told-4 : tie.Need-enum-told-4
 enum-told-4 c = search needs
 
--- src/outcomes.rt:56:32
 enum-told-5 : tie.Need-enum-told-5
 enum-told-5 c = search needs
 
--- src/outcomes.rt:48:1
 returns : tie.Need-returns
 returns c = search needs
 
--- src/outcomes.rt:48:1
 returns-2 : tie.Need-returns-2
 returns-2 c = rw (c .before .enum-told2 .given .1, c .path-effect .ensures)
 
--- src/outcomes.rt:48:1
 returns-3 : tie.Need-returns-3
 returns-3 c = search needs
 
--- src/outcomes.rt:48:1
 returns-4 : tie.Need-returns-4
 returns-4 c = search needs
 
--- src/outcomes.rt:48:1
 returns-5 : tie.Need-returns-5
 returns-5 c = search needs
 

@@ -8,55 +8,63 @@ use Rattle.octets.proofs.Choice.{or-no-left}
 use borrow.Author.Tests.{eqb-false, leb-false}
 use mathlib.Core.Bool.{not}
 use Prim.Native.Nat.{ℕ}
-use mathlib.Core.Path.{_≡_, refl, sym, ap, ap₂, subst, _∙_}
+use mathlib.Core.Path.{refl, sym, ap, _∙_}
 use native.Mathlib.Omega.{arith}
 use borrow.Author.Needs.{needs}
 use Rattle.opinion.proofs.packets.mark_path_unresponsive.Statement.{statement}
 use Rattle.opinion.proofs.packets.mark_path_unresponsive.Tie as tie
-use Rattle.opinion.proofs.packets.mark_path_unresponsive.Reads as reads
-use Rattle.opinion.proofs.packets.mark_path_unresponsive.Lts as lts
-use Rattle.opinion.proofs.log.listed.Reads as listed-reads
-use Rattle.opinion.proofs.packets.has_path.Reads as has-path-reads
-use Rattle.opinion.proofs.refusing.clock_bad.Reads as clock-bad-reads
-use Rattle.opinion.proofs.writing.put_mark.Reads as put-mark-reads
 
--- src/packets.rt:103:9
 listed-requires : tie.Need-listed-requires
 listed-requires c κs = search needs
 
--- src/packets.rt:105:9
 returns : tie.Need-returns
 returns c = full _ _ (omega (arith, c .before .listed .ensures .0))
 
--- src/packets.rt:107:8
 clock-bad-requires : tie.Need-clock-bad-requires
 clock-bad-requires c κs = (search needs, c .before .before .before .listed .ensures .1)
 
--- src/packets.rt:108:9
 returns-2 : tie.Need-returns-2
 unfolding callRows
 returns-2 c =
-    refused _ _ (omega (arith, c .before .before .before .before .before .listed .ensures .0)) 5 (here _ _ _ _ (ap (λ (m : ℕ). clockBad (knownIn (c .before .before .before .before .before .before .before .before .args .log .now) m) (c .before .before .before .before .before .before .before .before .args .clock)) (sym (c .before .before .before .before .before .listed .ensures .0)) ∙ sym (c .before .clock-bad .ensures) ∙ c .if2 .taken)) (eqb-false 5 0 refl)
+    let c5 = c .before .before .before .before .before in
+    let c8 = c5 .before .before .before in
+    refused _ _ (omega (arith, c5 .listed .ensures .0)) 5 (here _ _ _ _ (ap (λ (m : ℕ). clockBad (knownIn (c8 .args .log .now) m) (c8 .args .clock)) (sym
+    (c5 .listed .ensures .0)) ∙ sym (c .before .clock-bad .ensures) ∙ c .if2 .taken)) (eqb-false 5 0 refl)
 
--- src/packets.rt:110:9
 has-path-requires : tie.Need-has-path-requires
 has-path-requires c κs = (search needs, c .before .before .before .before .before .before .before .listed .ensures .1)
 
--- src/packets.rt:111:9
 returns-3 : tie.Need-returns-3
 unfolding callRows
 returns-3 c =
-    refused _ _ (omega (arith, c .before .before .before .before .before .before .before .before .before .listed .ensures .0)) 12 (past _ _ _ _ (ap (λ (m : ℕ). clockBad (knownIn (c .before .before .before .before .before .before .before .before .before .before .before .before .args .log .now) m) (c .before .before .before .before .before .before .before .before .before .before .before .before .args .clock)) (sym (c .before .before .before .before .before .before .before .before .before .listed .ensures .0)) ∙ sym (c .before .before .before .before .before .clock-bad .ensures) ∙ c .before .before .before .before .if2 .left) ∙ here _ _ _ _ (ap (λ (m : ℕ). not (isThere (seenAt (c .before .before .before .before .before .before .before .before .before .before .before .before .args .clock) (knownIn (c .before .before .before .before .before .before .before .before .before .before .before .before .args .log .now) m) .path (c .before .before .before .before .before .before .before .before .before .before .before .before .args .destination)))) (sym (c .before .before .before .before .before .before .before .before .before .listed .ensures .0)) ∙ ap not (sym (c .before .has-path .ensures)) ∙ c .if3 .taken)) (eqb-false 12 0 refl)
+    let c4 = c .before .before .before .before in
+    let c5 = c4 .before in
+    let c9 = c5 .before .before .before .before in
+    let c12 = c9 .before .before .before in
+    refused _ _ (omega (arith, c9 .listed .ensures .0)) 12 (past _ _ _ _ (ap (λ (m : ℕ). clockBad (knownIn (c12 .args .log .now) m) (c12 .args .clock)) (sym
+    (c9 .listed .ensures .0)) ∙ sym (c5 .clock-bad .ensures) ∙ c4 .if2 .left)
+    ∙ here _ _ _ _ (ap (λ (m : ℕ). not (isThere (seenAt (c12 .args .clock) (knownIn (c12 .args .log .now) m) .path (c12 .args .destination)))) (sym
+    (c9 .listed .ensures .0)) ∙ ap not (sym (c .before .has-path .ensures)) ∙ c .if3 .taken)) (eqb-false 12 0 refl)
 
--- src/packets.rt:113:5
 put-mark-requires : tie.Need-put-mark-requires
-put-mark-requires c κs = (search needs, omega arith, leb-false _ _ (or-no-left _ _ (sym (c .before .before .before .before .before .before .clock-bad .ensures) ∙ c .before .before .before .before .before .if2 .left)))
+put-mark-requires c κs =
+    let c5 = c .before .before .before .before .before in
+    let c6 = c5 .before in
+    (search needs, omega arith, leb-false _ _ (or-no-left _ _ (sym (c6 .clock-bad .ensures) ∙ c5 .if2 .left)))
 
--- src/packets.rt:100:1
 returns-4 : tie.Need-returns-4
 unfolding callRows
 returns-4 c =
-    accepted _ _ (omega (arith, c .before .before .before .before .before .before .before .before .before .before .before .listed .ensures .0)) (none-of-two _ _ 5 12 (ap (λ (m : ℕ). clockBad (knownIn (c .before .before .before .before .before .before .before .before .before .before .before .before .before .before .args .log .now) m) (c .before .before .before .before .before .before .before .before .before .before .before .before .before .before .args .clock)) (sym (c .before .before .before .before .before .before .before .before .before .before .before .listed .ensures .0)) ∙ sym (c .before .before .before .before .before .before .before .clock-bad .ensures) ∙ c .before .before .before .before .before .before .if2 .left) (ap (λ (m : ℕ). not (isThere (seenAt (c .before .before .before .before .before .before .before .before .before .before .before .before .before .before .args .clock) (knownIn (c .before .before .before .before .before .before .before .before .before .before .before .before .before .before .args .log .now) m) .path (c .before .before .before .before .before .before .before .before .before .before .before .before .before .before .args .destination)))) (sym (c .before .before .before .before .before .before .before .before .before .before .before .listed .ensures .0)) ∙ ap not (sym (c .before .before .before .has-path .ensures)) ∙ c .before .before .if3 .left)) (c .before .before .before .before .before .before .before .before .before .before .before .listed .result) (c .before .before .before .before .before .before .before .before .before .before .before .listed .ensures .0) _ (c .put-mark .ensures)
+    let c3 = c .before .before .before in
+    let c6 = c3 .before .before .before in
+    let c7 = c6 .before in
+    let c11 = c7 .before .before .before .before in
+    let c14 = c11 .before .before .before in
+    accepted _ _ (omega (arith, c11 .listed .ensures .0)) (none-of-two _ _ 5 12 (ap (λ (m : ℕ). clockBad (knownIn (c14 .args .log .now) m)
+    (c14 .args .clock)) (sym (c11 .listed .ensures .0)) ∙ sym (c7 .clock-bad .ensures)
+    ∙ c6 .if2 .left) (ap (λ (m : ℕ). not (isThere (seenAt (c14 .args .clock) (knownIn (c14 .args .log .now) m) .path (c14 .args .destination)))) (sym
+    (c11 .listed .ensures .0)) ∙ ap not (sym (c3 .has-path .ensures))
+    ∙ c .before .before .if3 .left)) (c11 .listed .result) (c11 .listed .ensures .0) _ (c .put-mark .ensures)
 
 pub mark-path-unresponsive-spec : {M : Type 1} → statement M
 mark-path-unresponsive-spec =

@@ -6,14 +6,11 @@ use Rattle.judging.specs.declared.SeenPort.{SeenPort}
 use lib.ListN.{length, getD, length-set}
 use native.Mathlib.Nat.{not-suc-le-zero}
 use Prim.Native.Nat.{ℕ, _<_, _≤_, _-_}
-use mathlib.Core.Path.{_≡_, refl, sym, ap, subst, _∙_}
+use mathlib.Core.Path.{_≡_, _∙_}
 use native.Mathlib.Omega.{arith}
 use borrow.Author.Needs.{needs}
 use Rattle.opinion.proofs.ports.ports_at.Statement.{statement}
 use Rattle.opinion.proofs.ports.ports_at.Tie as tie
-use Rattle.opinion.proofs.ports.ports_at.Reads as reads
-use Rattle.opinion.proofs.ports.ports_at.Lts as lts
-use Rattle.opinion.proofs.ports.port_at.Reads as port-at-reads
 
 abbrev Inv-loop : tie.InvT-loop
 Inv-loop log n ports₀ i₀ ports i = (i ≤ 16) × (length ports ≡ 16) × ((port : ℕ) → port < i → portSeen (getD ports port noSeenPort) ≡ knownIn log n .port port)
@@ -21,47 +18,42 @@ Inv-loop log n ports₀ i₀ ports i = (i ≤ 16) × (length ports ≡ 16) × ((
 abbrev μ-loop : tie.MeasureT-loop
 μ-loop log n ports₀ i₀ ports i = 16 - i
 
--- src/ports.rt:105:5
 loop-holds : tie.Need-loop-holds Inv-loop μ-loop
 loop-holds c = (omega arith, search needs, λ port l. absurd (not-suc-le-zero l))
 
--- src/ports.rt:106:20
 port-at-requires : tie.Need-port-at-requires Inv-loop μ-loop
 port-at-requires c κs = c .before .before .before .pre
 
--- src/ports.rt:106:9
 mul-ports : tie.Need-mul-ports Inv-loop μ-loop
 mul-ports c = search needs
 
--- src/ports.rt:106:9
 array-set-from-ports : tie.Need-array-set-from-ports Inv-loop μ-loop
 array-set-from-ports c = search needs
 
--- src/ports.rt:107:9
 add-i : tie.Need-add-i Inv-loop μ-loop
 add-i c = search needs
 
--- src/ports.rt:105:5
 loop-less : tie.Need-loop-less Inv-loop μ-loop
 loop-less c = search needs
 
--- src/ports.rt:105:5
 loop-again : tie.Need-loop-again Inv-loop μ-loop
 loop-again c =
-    let log = c .before .before .before .before .args .log .now in
-    let n : ℕ = c .before .before .before .before .args .n in
+    let c4 = c .before .before .before .before in
+    let log = c4 .args .log .now in
+    let n : ℕ = c4 .args .n in
     let i : ℕ = c .before .before .loop .i in (
       omega arith,
       length-set (c .before .before .loop .ports) i (c .port-at .result) ∙ c .before .before .loop .inv .1,
-      filled (λ (p : ℕ) (s : SeenPort). portSeen s ≡ knownIn log n .port p) (c .before .before .loop .ports) i (c .port-at .result) noSeenPort (omega (arith, c .before .before .loop .inv .1))
+      filled (λ (p : ℕ) (s : SeenPort). portSeen s ≡ knownIn log n .port p) (c .before .before .loop .ports) i (c .port-at .result) noSeenPort (omega
+          (arith, c .before .before .loop .inv .1))
           (c .before .before .loop .inv .2) (c .port-at .ensures),
     )
 
--- src/ports.rt:94:1
 returns : tie.Need-returns Inv-loop μ-loop
 returns c =
+    let c3 = c .before .before .before in
     let last : c .before .loop .i ≡ 16 = omega arith in
-    all-ports (c .before .before .before .args .log .now) (c .before .before .before .args .n) (c .before .loop .ports) (c .before .loop .inv .1) (λ port l. c .before .loop .inv .2 port (omega arith))
+    all-ports (c3 .args .log .now) (c3 .args .n) (c .before .loop .ports) (c .before .loop .inv .1) (λ port l. c .before .loop .inv .2 port (omega arith))
 
 pub ports-at-spec : {M : Type 1} → statement M
 ports-at-spec =

@@ -11,10 +11,6 @@ use native.Mathlib.Omega.{arith}
 use borrow.Author.Needs.{needs}
 use Rattle.opinion.proofs.rates.rate_at.Statement.{statement}
 use Rattle.opinion.proofs.rates.rate_at.Tie as tie
-use Rattle.opinion.proofs.rates.rate_at.Reads as reads
-use Rattle.opinion.proofs.rates.rate_at.Lts as lts
-use Rattle.opinion.proofs.log.entry_at.Reads as entry-at-reads
-use Rattle.opinion.proofs.rates.rate_after.Reads as rate-after-reads
 
 abbrev Inv-loop : tie.InvT-loop
 Inv-loop log n rate₀ i₀ rate i = (i ≤ n) × (rate ≡ knownIn log i .rate) × (rateSettingsOk rate ≡ true)
@@ -22,42 +18,38 @@ Inv-loop log n rate₀ i₀ rate i = (i ≤ n) × (rate ≡ knownIn log i .rate)
 abbrev μ-loop : tie.MeasureT-loop
 μ-loop log n rate₀ i₀ rate i = n - i
 
--- src/rates.rt:40:5
 loop-holds : tie.Need-loop-holds Inv-loop μ-loop
 unfolding rateSettingsOk _and_
 loop-holds c = (omega arith, fresh-rate _, refl)
 
--- src/rates.rt:41:27
 entry-at-requires : tie.Need-entry-at-requires Inv-loop μ-loop
 entry-at-requires c κs = (c .before .before .before .pre .0, omega arith)
 
--- src/rates.rt:41:9
 rate-after-requires : tie.Need-rate-after-requires Inv-loop μ-loop
 rate-after-requires c κs = (c .entry-at .ensures .1, c .before .before .loop .inv .2)
 
--- src/rates.rt:42:9
 add-i : tie.Need-add-i Inv-loop μ-loop
 add-i c = search needs
 
--- src/rates.rt:40:5
 loop-less : tie.Need-loop-less Inv-loop μ-loop
 loop-less c = search needs
 
--- src/rates.rt:40:5
 loop-again : tie.Need-loop-again Inv-loop μ-loop
 loop-again c =
-    let log = c .before .before .before .before .before .args .log .now in
-    let i : ℕ = c .before .before .before .loop .i in (
+    let c3 = c .before .before .before in
+    let c5 = c3 .before .before in
+    let log = c5 .args .log .now in
+    let i : ℕ = c3 .loop .i in (
       omega arith,
-      sym (onward (λ (k : Known). k .rate) log _ i (c .before .entry-at .ensures .0) (c .rate-after .ensures .0 (knownIn log i) (sym (c .before .before .before .loop .inv .1)))),
+      sym (onward (λ (k : Known). k .rate) log _ i (c .before .entry-at .ensures .0) (c .rate-after .ensures .0 (knownIn log i) (sym (c3 .loop .inv .1)))),
       c .rate-after .ensures .1,
     )
 
--- src/rates.rt:30:1
 returns : tie.Need-returns Inv-loop μ-loop
 returns c =
-    let last : c .before .loop .i ≡ c .before .before .before .args .n = omega arith in
-    (c .before .loop .inv .1 ∙ ap (λ (k : ℕ). knownIn (c .before .before .before .args .log .now) k .rate) last, c .before .loop .inv .2)
+    let c3 = c .before .before .before in
+    let last : c .before .loop .i ≡ c3 .args .n = omega arith in
+    (c .before .loop .inv .1 ∙ ap (λ (k : ℕ). knownIn (c3 .args .log .now) k .rate) last, c .before .loop .inv .2)
 
 pub rate-at-spec : {M : Type 1} → statement M
 rate-at-spec =

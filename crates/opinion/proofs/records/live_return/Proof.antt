@@ -3,30 +3,26 @@ use Rattle.opinion.proofs.Slots.{live-slot, dead-slot}
 use Rattle.judging.specs.Seen.{returnOf, returnRecordOf}
 use Rattle.numbers.specs.Numbers.{live}
 use borrow.Author.Tests.{lt-ltb, le-ltb}
-use mathlib.Core.Path.{_≡_, refl, sym, ap, _∙_}
-use native.Mathlib.Omega.{arith}
+use mathlib.Core.Path.{_∙_}
 use borrow.Author.Needs.{needs}
 use Rattle.opinion.proofs.records.live_return.Statement.{statement}
 use Rattle.opinion.proofs.records.live_return.Tie as tie
-use Rattle.opinion.proofs.records.live_return.Reads as reads
-use Rattle.opinion.proofs.records.live_return.Lts as lts
-use Rattle.opinion.proofs.records.no_return.Reads as no-return-reads
 
--- src/records.rt:185:9
 returns : tie.Need-returns
 unfolding returnOf
 returns c =
-    λ key. live-slot (λ (t : Return). live (c .before .before .args .clock) (t .expiry)) _ (returnRecordOf key (c .before .before .args .back)) (lt-ltb _ _ (c .if1 .taken))
+    λ key. live-slot (λ (t : Return). live (c .before .before .args .clock) (t .expiry)) _ (returnRecordOf key (c .before .before .args .back)) (lt-ltb _ _
+    (c .if1 .taken))
 
--- src/records.rt:187:5
 no-return-requires : tie.Need-no-return-requires
 no-return-requires c κs = search needs
 
--- src/records.rt:181:1
 returns-2 : tie.Need-returns-2
 unfolding returnOf
 returns-2 c =
-    λ key. c .no-return .ensures .0 key ∙ dead-slot (λ (t : Return). live (c .before .before .before .args .clock) (t .expiry)) _ (returnRecordOf key (c .before .before .before .args .back)) (le-ltb _ _ (c .before .if1 .left))
+    let c3 = c .before .before .before in
+    λ key. c .no-return .ensures .0 key ∙ dead-slot (λ (t : Return). live (c3 .args .clock) (t .expiry)) _ (returnRecordOf key (c3 .args .back)) (le-ltb _ _
+    (c .before .if1 .left))
 
 pub live-return-spec : {M : Type 1} → statement M
 live-return-spec = tie.close (tie.spec returns no-return-requires returns-2)

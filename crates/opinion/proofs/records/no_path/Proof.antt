@@ -2,15 +2,11 @@ use Rattle.rules.specs.Refusals.{rateEntryOk}
 use Rattle.octets.specs.Choice.{_then_otherwise_}
 use Rattle.octets.specs.Index.{_and_}
 use Rattle.judging.specs.Seen.{pathOf}
-use mathlib.Core.Path.{_≡_, refl, sym, ap, _∙_}
+use mathlib.Core.Path.{refl}
 use native.Mathlib.Omega.{arith}
-use borrow.Author.Needs.{needs}
 use Rattle.opinion.proofs.records.no_path.Statement.{statement}
 use Rattle.opinion.proofs.records.no_path.Tie as tie
-use Rattle.opinion.proofs.records.no_path.Reads as reads
-use Rattle.opinion.proofs.records.no_path.Lts as lts
 
--- src/records.rt:33:1
 returns : tie.Need-returns
 unfolding pathOf rateEntryOk _and_ _then_otherwise_
 returns c = (λ d. refl, record { entry = refl; blobs = omega arith }, omega arith)

@@ -1,14 +1,10 @@
 use Rattle.octets.specs.Choice.{_then_otherwise_}
 use Rattle.judging.specs.Seen.{returnOf}
-use mathlib.Core.Path.{_≡_, refl, sym, ap, _∙_}
+use mathlib.Core.Path.{refl}
 use native.Mathlib.Omega.{arith}
-use borrow.Author.Needs.{needs}
 use Rattle.opinion.proofs.records.no_return.Statement.{statement}
 use Rattle.opinion.proofs.records.no_return.Tie as tie
-use Rattle.opinion.proofs.records.no_return.Reads as reads
-use Rattle.opinion.proofs.records.no_return.Lts as lts
 
--- src/records.rt:169:1
 returns : tie.Need-returns
 unfolding returnOf _then_otherwise_
 returns c = (λ key. refl, omega arith, omega arith)

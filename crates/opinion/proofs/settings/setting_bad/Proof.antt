@@ -1,32 +1,23 @@
 use Rattle.octets.proofs.Choice.{or-left, or-else}
 use borrow.Author.Tests.{le-leb, lt-leb}
 use mathlib.Core.Bool.{not}
-use mathlib.Core.Path.{_≡_, refl, sym, ap, subst, _∙_}
-use native.Mathlib.Omega.{arith}
+use mathlib.Core.Path.{sym, ap, _∙_}
 use borrow.Author.Needs.{needs}
 use Rattle.opinion.proofs.settings.setting_bad.Statement.{statement}
 use Rattle.opinion.proofs.settings.setting_bad.Tie as tie
-use Rattle.opinion.proofs.settings.setting_bad.Reads as reads
-use Rattle.opinion.proofs.settings.setting_bad.Lts as lts
-use Rattle.packet.proofs.is_size.Reads as is-size-reads
 
--- src/settings.rt:40:16
 cast-if1 : tie.Need-cast-if1
 cast-if1 c = search needs
 
--- src/settings.rt:41:9
 returns : tie.Need-returns
 returns c = sym (or-left _ (le-leb _ _ (c .if1 .taken)))
 
--- src/settings.rt:44:9
 returns-2 : tie.Need-returns-2
 returns-2 c = sym (or-else _ (lt-leb _ _ (c .before .if1 .left)) ∙ or-left _ (le-leb _ _ (c .if2 .taken)))
 
--- src/settings.rt:46:6
 is-size-requires : tie.Need-is-size-requires
 is-size-requires c κs = search needs
 
--- src/settings.rt:37:1
 returns-3 : tie.Need-returns-3
 returns-3 c =
     ap not (c .is-size .ensures) ∙ sym (or-else _ (lt-leb _ _ (c .before .before .if1 .left)) ∙ or-else _ (lt-leb _ _ (c .before .if2 .left)))

@@ -4,69 +4,57 @@ use Rattle.octets.specs.Part.{patch}
 use lib.ListN.{length}
 use mathlib.Core.List.{List, [], _∷_}
 use Prim.Native.Nat.{ℕ, _+_, _*_}
-use mathlib.Core.Path.{_≡_, refl, sym, ap, _∙_}
+use mathlib.Core.Path.{_≡_, ap, _∙_}
 use native.Mathlib.Omega.{arith}
 use borrow.Author.Needs.{needs}
 use Rattle.opinion.proofs.writing.put_entry.Statement.{statement}
 use Rattle.opinion.proofs.writing.put_entry.Tie as tie
-use Rattle.opinion.proofs.writing.put_entry.Reads as reads
-use Rattle.opinion.proofs.writing.put_entry.Lts as lts
-use Rattle.octets.proofs.copy_at.Reads as copy-at-reads
-use Rattle.octets.proofs.set_at.Reads as set-at-reads
 
--- src/writing.rt:56:27
 mul-at : tie.Need-mul-at
 mul-at c = search needs
 
--- src/writing.rt:56:14
 add-at : tie.Need-add-at
 add-at c = search needs
 
--- src/writing.rt:57:30
 slice-aggregate-copy-at : tie.Need-slice-aggregate-copy-at
 slice-aggregate-copy-at c = search needs
 
--- src/writing.rt:57:5
 copy-at-requires : tie.Need-copy-at-requires
 copy-at-requires c κs = search needs
 
--- src/writing.rt:58:26
 add-copy-at : tie.Need-add-copy-at
 add-copy-at c = search needs
 
--- src/writing.rt:58:5
 copy-at-requires-2 : tie.Need-copy-at-requires-2
 copy-at-requires-2 c κs = search needs
 
--- src/writing.rt:59:35
 cast-set-at : tie.Need-cast-set-at
 cast-set-at c = search needs
 
--- src/writing.rt:59:35
 add-set-at : tie.Need-add-set-at
 add-set-at c = search needs
 
--- src/writing.rt:59:5
 set-at-requires : tie.Need-set-at-requires
 set-at-requires c κs = search needs
 
--- src/writing.rt:52:1
 same-length : tie.Need-same-length
 same-length c = search needs
 
--- src/writing.rt:52:1
 returns : tie.Need-returns
 unfolding withEntry
 returns c =
-    let log = c .before .before .before .before .before .before .before .before .before .before .before .before .before .before .before .args .log .now in
-    let n : ℕ = c .before .before .before .before .before .before .before .before .before .before .before .before .before .before .before .args .n in
-    let head = c .before .before .before .before .before .before .before .before .before .before .before .before .before .before .before .args .t3 in
-    let body = c .before .before .before .before .before .before .before .before .before .before .before .before .before .before .before .args .body .now in
+    let c6 = c .before .before .before .before .before .before in
+    let c10 = c6 .before .before .before .before in
+    let c15 = c10 .before .before .before .before .before in
+    let log = c15 .args .log .now in
+    let n : ℕ = c15 .args .n in
+    let head = c15 .args .t3 in
+    let body = c15 .args .body .now in
     let wide : length head ≡ 11 = search needs in
     c .before .before .set-at .ensures
     ∙ ap (λ (t : List ℕ). patch t 16 ((n + 1) ∷ []))
-    (c .before .before .before .before .before .before .copy-at2 .ensures
-    ∙ ap (λ (t : List ℕ). patch t (17 + 511 * n + 11) body) (c .before .before .before .before .before .before .before .before .before .before .copy-at .ensures)
+    (c6 .copy-at2 .ensures
+    ∙ ap (λ (t : List ℕ). patch t (17 + 511 * n + 11) body) (c10 .copy-at .ensures)
     ∙ patch-join log (17 + 511 * n) (17 + 511 * n + 11) head body (omega arith) (omega arith))
 
 pub put-entry-spec : {M : Type 1} → statement M
