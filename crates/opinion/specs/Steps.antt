@@ -30,7 +30,7 @@ use Rattle.judging.specs.declared.Planned.the-variants.{Drop, Deliver, Follow}
 use Rattle.judging.specs.Seen.{pathOf, linkOf, returnOf, PathFits}
 use Rattle.history.specs.Known.{Known, seenAt}
 use Rattle.history.specs.After.{Entry, came, called}
-use Rattle.history.specs.Opinion.{listLimit}
+use Rattle.history.specs.Opinion.{listLimit, packetRefused}
 use Rattle.opinion.specs.Log.{clockWidth, lengthWidth, countAt, entriesAt, entryWidth, logSize, ownIn, entryOf, entryBytes, entriesOf, callsIn, knownIn}
 
 -- ---- what a packet changed besides the clock and the remembered hashes: 1 its destination's path is announced, 2 that path is limited, 3 a return record is
@@ -126,3 +126,8 @@ plannedEffect (Follow w) data₀ = wayEffectBy w data₀
 -- a packet call's input
 abbrev pub arrivalBy : List ℕ → ℕ → ℕ → Bool → Arrival
 arrivalBy bytes port clock signed = record { bytes = bytes; port = port; clock = clock; signed = signed }
+
+-- the refusal of a packet, whatever the host's word on its signature, when n calls are listed and the output has this room
+abbrev pub RefusesAs : List ℕ → ℕ → List ℕ → ℕ → ℕ → ℕ → ℕ → Type 0
+RefusesAs log n bytes port clock room refusal =
+    (signed : Bool) → refusal ≡ packetRefused (ownIn log) (entriesOf log n) (arrivalBy bytes port clock signed) room

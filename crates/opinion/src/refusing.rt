@@ -6,12 +6,11 @@ use numbers::CLOCK_LIMIT;
 use numbers::LEAST_OUTPUT;
 use numbers::refusals;
 ghost use mathlib.Core.Path.{_≡_};
-ghost use mathlib.Core.Bool.{Bool};
 ghost use Prim.Native.Nat.{_≤_};
 ghost use lib.ListN.{length};
-ghost use Rattle.history.specs.Opinion.{listLimit, clockBad, packetRefused};
-ghost use Rattle.opinion.specs.Log.{logSize, ownIn, entriesOf, knownIn};
-ghost use Rattle.opinion.specs.Steps.{arrivalBy};
+ghost use Rattle.history.specs.Opinion.{listLimit, clockBad};
+ghost use Rattle.opinion.specs.Log.{logSize, knownIn};
+ghost use Rattle.opinion.specs.Steps.{RefusesAs};
 
 // A call when 64 are listed.
 pub const LIST_FULL: u8 = 28;
@@ -30,8 +29,7 @@ pub fn clock_bad(log: &[u8], n: usize, clock: u64) -> bool
 // The refusal of a packet when n calls are listed, with an output buffer of this length, or 0.
 pub fn packet_refusal(log: &[u8], n: usize, packet: &[u8], port: u64, clock: u64, room: usize) -> u8
     requires { ⌜ (length (now log) ≡ logSize) × (n ≤ listLimit) ⌝ }
-    ensures { λ r. ⌜ (signed : Bool) → r ≡ packetRefused (ownIn (now (log .entry))) (entriesOf (now (log .entry)) n)
-        (arrivalBy (now (packet .entry)) port clock signed) room ⌝ }
+    ensures { λ r. ⌜ RefusesAs (now (log .entry)) n (now (packet .entry)) port clock room r ⌝ }
 {
     if n >= LIST_LIMIT {
         return LIST_FULL;

@@ -5,7 +5,7 @@ use Rattle.history.specs.Opinion.{packetRefused}
 use borrow.Author.Tests.{eq-eqb}
 use lib.ListN.{length}
 use lib.Dec.{eqb}
-use Prim.Native.Nat.{ℕ}
+use Prim.Native.Nat.{ℕ, _<_}
 use mathlib.Core.Path.{_≡_, refl, sym, ap, ap₂, subst, _∙_}
 use native.Mathlib.Omega.{arith}
 use borrow.Author.Needs.{needs}
@@ -33,6 +33,15 @@ returns c =
     packet-refused log _ _ _ (c .before .packet-refusal .ensures (c .before .before .before .before .before .before .before .before .before .args .signed) ∙ ap (λ (m : ℕ). packetRefused (ownIn log) (entriesOf log m) (arrivalBy (c .before .before .before .before .before .before .before .before .before .args .packet .now) (c .before .before .before .before .before .before .before .before .before .args .port) (c .before .before .before .before .before .before .before .before .before .args .clock) (c .before .before .before .before .before .before .before .before .before .args .signed)) (length (c .before .before .before .before .before .before .before .before .before .args .output .now))) (c .before .before .before .before .listed .ensures .0)) (c .if1 .taken)
 
 -- src/packets.rt:94:9
+cast-t17 : tie.Need-cast-t17
+cast-t17 c =
+    let log = c .before .before .before .before .before .before .before .before .before .args .log .now in
+    let a = arrivalBy (c .before .before .before .before .before .before .before .before .before .args .packet .now) (c .before .before .before .before .before .before .before .before .before .args .port) (c .before .before .before .before .before .before .before .before .before .args .clock) (c .before .before .before .before .before .before .before .before .before .args .signed) in
+    let output = c .before .before .before .before .before .before .before .before .before .args .output .now in
+    let fine = accepted-packet log _ a (length output) (eq-eqb _ 0 (sym (c .before .packet-refusal .ensures (c .before .before .before .before .before .before .before .before .before .args .signed)) ∙ c .if1 .left)) in
+    let small : c .before .before .before .before .before .before .before .before .before .args .port < 16 = fine .port in
+    record { fits = omega arith }
+
 judged-requires : tie.Need-judged-requires
 judged-requires c κs =
     let log = c .before .before .before .before .before .before .before .before .before .before .before .before .args .log .now in
@@ -75,6 +84,7 @@ take-packet-spec =
     listed-requires
     packet-refusal-requires
     returns
+    cast-t17
     judged-requires
     put-came-requires
     same-length

@@ -33,34 +33,30 @@ returns-2 c signed =
     let room : ℕ = c .before .before .before .before .args .room in
     row-room log n a room (omega arith) (omega arith)
 
--- src/refusing.rt:42:36
-cast-port-at : tie.Need-cast-port-at
-cast-port-at c = search needs
-
 -- src/refusing.rt:42:9
 port-at-requires : tie.Need-port-at-requires
-port-at-requires c κs = c .before .before .before .before .before .pre
+port-at-requires c κs = c .before .before .before .before .pre
 
 -- src/refusing.rt:44:9
 returns-3 : tie.Need-returns-3
 returns-3 c signed =
-    let log = c .before .before .before .before .before .before .before .before .args .log .now in
-    let n : ℕ = c .before .before .before .before .before .before .before .before .args .n in
-    let a = arrivalBy (c .before .before .before .before .before .before .before .before .args .packet .now) (c .before .before .before .before .before .before .before .before .args .port) (c .before .before .before .before .before .before .before .before .args .clock) signed in
-    let room : ℕ = c .before .before .before .before .before .before .before .before .args .room in
+    let log = c .before .before .before .before .before .before .before .args .log .now in
+    let n : ℕ = c .before .before .before .before .before .before .before .args .n in
+    let a = arrivalBy (c .before .before .before .before .before .before .before .args .packet .now) (c .before .before .before .before .before .before .before .args .port) (c .before .before .before .before .before .before .before .args .clock) signed in
+    let room : ℕ = c .before .before .before .before .before .before .before .args .room in
     row-port log n a room (omega arith) (omega arith) (ap (λ (p : Port). not (p .on)) (sym (c .before .before .port-at .ensures)) ∙ c .if3 .taken)
 
 -- src/refusing.rt:46:8
 clock-bad-requires : tie.Need-clock-bad-requires
-clock-bad-requires c κs = c .before .before .before .before .before .before .before .before .pre
+clock-bad-requires c κs = c .before .before .before .before .before .before .before .pre
 
 -- src/refusing.rt:47:9
 returns-4 : tie.Need-returns-4
 returns-4 c signed =
-    let log = c .before .before .before .before .before .before .before .before .before .before .args .log .now in
-    let n : ℕ = c .before .before .before .before .before .before .before .before .before .before .args .n in
-    let a = arrivalBy (c .before .before .before .before .before .before .before .before .before .before .args .packet .now) (c .before .before .before .before .before .before .before .before .before .before .args .port) (c .before .before .before .before .before .before .before .before .before .before .args .clock) signed in
-    let room : ℕ = c .before .before .before .before .before .before .before .before .before .before .args .room in
+    let log = c .before .before .before .before .before .before .before .before .before .args .log .now in
+    let n : ℕ = c .before .before .before .before .before .before .before .before .before .args .n in
+    let a = arrivalBy (c .before .before .before .before .before .before .before .before .before .args .packet .now) (c .before .before .before .before .before .before .before .before .before .args .port) (c .before .before .before .before .before .before .before .before .before .args .clock) signed in
+    let room : ℕ = c .before .before .before .before .before .before .before .before .before .args .room in
     row-clock log n a room (omega arith) (omega arith) (ap (λ (p : Port). not (p .on)) (sym (c .before .before .before .before .port-at .ensures)) ∙ c .before .before .if3 .left) (sym (c .before .clock-bad .ensures) ∙ c .if4 .taken)
 
 -- src/refusing.rt:49:5
@@ -70,10 +66,10 @@ reading-refusal-requires c κs = search needs
 -- src/refusing.rt:31:1
 returns-5 : tie.Need-returns-5
 returns-5 c signed =
-    let log = c .before .before .before .before .before .before .before .before .before .before .before .args .log .now in
-    let n : ℕ = c .before .before .before .before .before .before .before .before .before .before .before .args .n in
-    let a = arrivalBy (c .before .before .before .before .before .before .before .before .before .before .before .args .packet .now) (c .before .before .before .before .before .before .before .before .before .before .before .args .port) (c .before .before .before .before .before .before .before .before .before .before .before .args .clock) signed in
-    let room : ℕ = c .before .before .before .before .before .before .before .before .before .before .before .args .room in
+    let log = c .before .before .before .before .before .before .before .before .before .before .args .log .now in
+    let n : ℕ = c .before .before .before .before .before .before .before .before .before .before .args .n in
+    let a = arrivalBy (c .before .before .before .before .before .before .before .before .before .before .args .packet .now) (c .before .before .before .before .before .before .before .before .before .before .args .port) (c .before .before .before .before .before .before .before .before .before .before .args .clock) signed in
+    let room : ℕ = c .before .before .before .before .before .before .before .before .before .before .args .room in
     c .reading-refusal .ensures
     ∙ ap (λ (p : Port). readingRefusal (p .size) (a .bytes)) (c .before .before .before .before .before .port-at .ensures)
     ∙ row-read log n a room (omega arith) (omega arith) (ap (λ (p : Port). not (p .on)) (sym (c .before .before .before .before .before .port-at .ensures)) ∙ c .before .before .before .if3 .left) (sym (c .before .before .clock-bad .ensures) ∙ c .before .if4 .left)
@@ -84,7 +80,6 @@ packet-refusal-spec =
     (tie.spec
     returns
     returns-2
-    cast-port-at
     port-at-requires
     returns-3
     clock-bad-requires

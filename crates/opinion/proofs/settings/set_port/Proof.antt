@@ -6,6 +6,7 @@ use Rattle.octets.proofs.Listed.{here}
 use mathlib.Core.Path.{refl, sym, _∙_}
 use borrow.Author.Tests.{eqb-false, not-false, leb-false}
 use native.Mathlib.Omega.{arith}
+use Prim.Native.Nat.{_<_}
 use borrow.Author.Needs.{needs}
 use Rattle.opinion.proofs.settings.set_port.Statement.{statement}
 use Rattle.opinion.proofs.settings.set_port.Tie as tie
@@ -25,6 +26,18 @@ returns-2 c =
     let c3 = c .before .before .before in
     refused _ _ (omega (arith, c3 .listed .ensures .0)) 9 (here _ _ _ _ (sym (c .before .setting-bad .ensures) ∙ c .if2 .taken)) (eqb-false 9 0 refl)
 
+cast-put-port : tie.Need-cast-put-port
+cast-put-port c =
+    let fine = (sym (c .before .before .setting-bad .ensures) ∙ c .before .if2 .left) in
+    let small : c .before .before .before .before .before .before .before .args .port < 16 = leb-false _ _ (or-no-left _ _ fine) in
+    record { fits = omega arith }
+
+cast-put-port-2 : tie.Need-cast-put-port-2
+cast-put-port-2 c =
+    let fine = (sym (c .before .before .setting-bad .ensures) ∙ c .before .if2 .left) in
+    let small : c .before .before .before .before .before .before .before .args .mode < 3 = leb-false _ _ (or-no-left _ _ (or-no-right _ _ fine)) in
+    record { fits = omega arith }
+
 put-port-requires : tie.Need-put-port-requires
 put-port-requires c κs =
     let fine = (sym (c .before .before .setting-bad .ensures) ∙ c .before .if2 .left) in
@@ -41,4 +54,4 @@ returns-3 c =
 pub set-port-spec : {M : Type 1} → statement M
 set-port-spec =
     tie.close
-    (tie.spec listed-requires returns setting-bad-requires returns-2 put-port-requires returns-3)
+    (tie.spec listed-requires returns setting-bad-requires returns-2 cast-put-port cast-put-port-2 put-port-requires returns-3)
