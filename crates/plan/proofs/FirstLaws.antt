@@ -38,7 +38,7 @@ use Rattle.plan.specs.Decided.{usedHash, hashLive, decided, decision, on
 use Rattle.plan.specs.declared.Early.{Early}
 use Rattle.plan.specs.declared.Early.the-variants.{Dropped, Delivered, Undecided}
 use Rattle.plan.specs.declared.Decision.the-variants.{Drop, Deliver}
-use Rattle.plan.proofs.KindLaws.{and-true}
+use Rattle.forms.proofs.KindLaws.{and-true}
 use Rattle.plan.proofs.ContextLaws.{used-own}
 
 -- what the tests behind the first n say

@@ -10,7 +10,7 @@ use Rattle.rules.specs.Writes.{alreadyLive}
 use Rattle.plan.specs.declared.Arrived.{Arrived}
 use Rattle.plan.specs.declared.Decision.{Decision}
 use Rattle.plan.specs.Decided.{arrivalOf, seen}
-use Rattle.plan.proofs.KindLaws.{and-true}
+use Rattle.forms.proofs.KindLaws.{and-true}
 use Rattle.act.specs.Stored.{decisionRemembers, remembersDecided}
 use Rattle.act.proofs.StampLaws.{forgotten}
 use Rattle.act.proofs.stamps.remembers.Statement.{statement}
