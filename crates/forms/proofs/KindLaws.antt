@@ -1,19 +1,20 @@
 -- What a packet's kind and a good form rule out.
-use Prim.Native.Nat.{ℕ, _≤_}
+use Prim.Native.Nat.{ℕ, _≤_, _<_}
 use native.Mathlib.Omega.{arith}
 use mathlib.Core.Bool.{Bool, true, false}
 use mathlib.Core.Path.{_≡_, refl, sym, ap, _∙_}
 use lib.Dec.{eqb, ltb}
-use lib.ListN.{length}
-use borrow.Author.Tests.{eq-eqb, eqb-true, eqb-false, ltb-false}
+use lib.ListN.{length, getD}
+use borrow.Author.Tests.{eq-eqb, eqb-true, eqb-false, ltb-false, le-leb, lt-leb}
 use Rattle.octets.specs.Index.{_and_}
 use Rattle.octets.specs.Choice.{_then_otherwise_, _or_}
 use Rattle.octets.proofs.Index.{and-no, and-yes}
 use Rattle.octets.proofs.Listed.{none-any}
 use Rattle.packet.specs.Header.{contextFlag, packetKind, ofKindLink, isData, isAnnounce, isLinkRequest, isProof}
 use Rattle.packet.specs.Announce.{ratchetLength, leastAnnounce}
-use Rattle.rules.specs.Arrival.{Arrival, header, body, isLinkProof}
-use Rattle.rules.specs.Tests.{announceTooShort, requestOfKindLink, formTests, badForm}
+use Rattle.packet.proofs.ReadLaws.{parts-hops}
+use Rattle.rules.specs.Arrival.{Arrival, header, hops, body, isLinkProof}
+use Rattle.rules.specs.Tests.{announceTooShort, requestOfKindLink, formTests, badForm, tooManyHops}
 
 -- ---- kinds: a packet is of one of four
 pub other-kind : (n k m : ℕ) → eqb n k ≡ true → eqb k m ≡ false → eqb n m ≡ false
@@ -71,7 +72,12 @@ unfolding _or_
 or-false true = refl
 or-false false = refl
 
-pub and-true : (b : Bool) → (b and true) ≡ b
-unfolding _and_
-and-true true = refl
-and-true false = refl
+-- ---- hops are byte 1
+module _ (a : Arrival) where
+  pub hops-many : 128 ≤ getD (a .bytes) 1 0 → tooManyHops (hops a) ≡ true
+  unfolding tooManyHops
+  hops-many l = le-leb 128 (hops a) (omega (arith, l, parts-hops (a .bytes)))
+
+  pub hops-few : getD (a .bytes) 1 0 < 128 → tooManyHops (hops a) ≡ false
+  unfolding tooManyHops
+  hops-few l = lt-leb 128 (hops a) (omega (arith, l, parts-hops (a .bytes)))

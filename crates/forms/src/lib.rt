@@ -1,5 +1,5 @@
-// What needs no tables: a packet's form, whether it is a link proof or exempt from test 2, and what an announce sets of its
-// path by itself.
+// What needs no tables: a packet's form, whether it is a link proof or exempt from test 2, and what an announce sets of
+// its path by itself.
 // Entry points: none. Where a function has a `requires`, the caller shows that the packet reads.
 mod announced;
 mod bad_form;

@@ -11,12 +11,11 @@ use borrow.Author.Tests.{lt-ltb, le-ltb, ltb-true, ltb-false, eqb-true, eqb-fals
 use Rattle.octets.specs.Index.{listOf}
 use Rattle.octets.specs.Part.{part, patch}
 use Rattle.octets.specs.Index.{agree}
-use Rattle.octets.specs.Choice.{_then_otherwise_, same}
+use Rattle.octets.specs.Choice.{same}
 use Rattle.octets.proofs.Choice.{then-true, then-false, same-agree}
 use Rattle.octets.proofs.ListOf.{listOf-length, listOf-at, listOf-cong}
 use Rattle.octets.proofs.Part.{part-length, part-part, part-mid, patch-join, patch-whole}
 use Rattle.numbers.specs.Numbers.{blobLimit}
-use Rattle.rules.specs.Relay.{Blobs}
 use Rattle.rules.specs.Blobs.{held, noBlob, oneBlob, addBlob}
 use Rattle.judging.specs.Seen.{placesOf, blobsIn}
 

@@ -1,12 +1,10 @@
 -- What the structs say of the rules' tests: each law by the cases of one record that is there or not.
-use Prim.Native.Nat.{ℕ, zero, suc, _≤_, _<_}
-use native.Mathlib.Omega.{arith}
+use Prim.Native.Nat.{ℕ, zero, suc, _<_}
 use native.Mathlib.Nat.{not-suc-le-zero, le-of-suc-le-suc}
 use mathlib.Core.Bool.{Bool, true, false, not, false≢true}
 use mathlib.Core.List.{List, [], _∷_}
 use mathlib.Core.Path.{_≡_, refl, sym, ap, _∙_}
 use lib.Dec.{eqb}
-use borrow.Author.Tests.{le-leb, lt-leb}
 use lib.ListN.{length, getD}
 use Rattle.octets.specs.Index.{_and_}
 use Rattle.octets.specs.Choice.{_then_otherwise_, _or_}
@@ -15,8 +13,8 @@ use Rattle.octets.proofs.Choice.{then-true, then-false, then-ap}
 use Rattle.packet.specs.Header.{typeTwo, ofKindLink, isAnnounce, isProof}
 use Rattle.packet.proofs.ReadLaws.{parts-hops}
 use Rattle.rules.specs.Relay.{empty, used, Path}
-use Rattle.rules.specs.Arrival.{Arrival, header, hops, destination, isLinkProof}
-use Rattle.rules.specs.Tests.{isMarked, isThere, followsProvedLink, fromAnsweringSide, fromAskingSide, revives, ofKnown, noRoom, tooManyHops}
+use Rattle.rules.specs.Arrival.{Arrival, header, destination, isLinkProof}
+use Rattle.rules.specs.Tests.{isMarked, isThere, followsProvedLink, fromAnsweringSide, fromAskingSide, revives, ofKnown, noRoom}
 use Rattle.rules.specs.Ways.{Way, everywhere, by-path, along-link, by-return, blocked, noPath, pathWay, linkWay, returnWay, wayOn}
 use Rattle.rules.specs.Writes.{remembersPlan}
 use Rattle.rules.specs.declared.Link.{Link}
@@ -70,7 +68,8 @@ module _ (s : Seen) (a : Arrival) where
   unfolding returnWayBy returnWay returnOf _then_otherwise_
   return-way = go (s .back .there)
     where
-      go : (b : Bool) → wayOf s a (b then ByReturn otherwise Blocked NoReturn) ≡ returnWay (b then used (returnRecordOf (destination a) (s .back)) otherwise empty)
+      go : (b : Bool)
+          → wayOf s a (b then ByReturn otherwise Blocked NoReturn) ≡ returnWay (b then used (returnRecordOf (destination a) (s .back)) otherwise empty)
       go true = refl
       go false = refl
 
@@ -189,13 +188,3 @@ module _ (s : Seen) (a : Arrival) where
   plan-remembered (Drop reason) = refl
   plan-remembered Deliver = refl
   plan-remembered (Follow w) = refl
-
--- hops are byte 1
-module _ (a : Arrival) where
-  pub hops-many : 128 ≤ getD (a .bytes) 1 0 → tooManyHops (hops a) ≡ true
-  unfolding tooManyHops
-  hops-many l = le-leb 128 (hops a) (omega (arith, l, parts-hops (a .bytes)))
-
-  pub hops-few : getD (a .bytes) 1 0 < 128 → tooManyHops (hops a) ≡ false
-  unfolding tooManyHops
-  hops-few l = lt-leb 128 (hops a) (omega (arith, l, parts-hops (a .bytes)))

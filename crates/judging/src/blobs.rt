@@ -7,7 +7,8 @@ use numbers::BLOB_LIMIT;
 ghost use mathlib.Core.Path.{_≡_};
 ghost use Prim.Native.Nat.{_≤_};
 ghost use Rattle.numbers.specs.Numbers.{blobLimit};
-ghost use Rattle.rules.specs.Blobs.{held, isAmong, greatest, greatestEmission as greatestOf, oneBlob, addBlob, storeBlob};
+ghost use Rattle.rules.specs.Blobs.{held, isAmong, greatest, greatestEmission as greatestOf};
+ghost use Rattle.rules.specs.Blobs.{oneBlob, addBlob, storeBlob};
 ghost use Rattle.judging.specs.Seen.{blobsIn, blobsOf};
 ghost use Rattle.judging.specs.Steps.{blobsStored, revivedBy};
 

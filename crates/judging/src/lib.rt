@@ -1,6 +1,6 @@
-// Document 02, wish 13, "for checking by eye": a packet judged by what is seen for it, with no tables, slots or rings. The
-// code goes as document 01's tests do, in their order, and each test is a function of its own. What is seen comes as a
-// struct by value: who makes it shows that it is what there is to see (specs/Seen.antt).
+// Document 02, wish 13, "for checking by eye": a packet judged by what is seen for it, with no tables, slots or rings.
+// The code goes as document 01's tests do, in their order, and each test is a function of its own. What is seen comes
+// as a struct by value: who makes it shows that it is what there is to see (specs/Seen.antt).
 // Entry points: none. The caller shows that the packet reads, and that what is seen keeps refusal 7's bounds.
 mod blobs;
 mod early;
@@ -85,8 +85,8 @@ pub struct SeenReturn {
 }
 
 // What is seen for one packet at its clock: our own address, the rate settings and the ports; whether the packet's
-// destination is local, and whether its hash is remembered; the live path and the live return record of its destination,
-// and the live link of its destination or, for a link request, of the id that it would have.
+// destination is local, and whether its hash is remembered; the live path and the live return record of its
+// destination, and the live link of its destination or, for a link request, of the id that it would have.
 pub struct Seen {
     pub own: [u8; 16],
     pub rate: RateSettings,

@@ -106,11 +106,7 @@ fn replay(seen: Seen, packet: &[u8], arrived: Arrived, way: SeenWay) -> bool
     }
     let path = seen.path;
     let blobs = path.blobs;
-    holds_blob(
-        blobs,
-        path.count,
-        packet::blob(packet::payload(packet)),
-    )
+    holds_blob(blobs, path.count, packet::blob(packet::payload(packet)))
 }
 
 // Test 11: emission not above the greatest among stored blobs, and hops not below the stored hops.

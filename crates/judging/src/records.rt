@@ -1,5 +1,5 @@
-// What an accepted packet leaves: its destination's path, a return record, a link, its hash. Each is given by what was seen
-// when it came.
+// What an accepted packet leaves: its destination's path, a return record, a link, its hash. Each is given by what was
+// seen when it came.
 use super::Arrived;
 use super::Planned;
 use super::Seen;
@@ -111,7 +111,8 @@ pub fn announced_path(
     }
 }
 
-// The path once the rate rule has dropped an announce at a clock: violations and blocked-until change, and nothing else.
+// The path once the rate rule has dropped an announce at a clock: violations and blocked-until change, and nothing
+// else.
 pub fn limited_path(settings: RateSettings, known: SeenPath, clock: u64) -> SeenPath
     requires { ⌜ (rateSettingsOk settings ≡ true) × PathFits known ⌝ }
     ensures { λ r. ⌜ LimitsPath settings clock known r × PathFits r ⌝ }
@@ -142,8 +143,8 @@ pub fn return_record(path: SeenPath, arrived: Arrived) -> SeenReturn
     }
 }
 
-// The link that a link request forwarded by a path leaves, under its id. It lives 6 × (remaining hops + 1) seconds until
-// it is proved.
+// The link that a link request forwarded by a path leaves, under its id. It lives 6 × (remaining hops + 1) seconds
+// until it is proved.
 pub fn link_record(path: SeenPath, packet: &[u8], arrived: Arrived) -> Link
     requires { ⌜ (reads longestPacket (now packet) ≡ true) × (arrived .clock < clockLimit) ⌝ }
     ensures { λ r. ⌜ r ≡ linkRecord (arrivalOf (now (packet .entry)) arrived)

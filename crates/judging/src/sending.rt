@@ -61,7 +61,8 @@ fn spread(own: [u8; 16], ports: u16, packet: &[u8], output: &mut [u8]) -> Verdic
 // Forwards by a path: rewritten for its next hop.
 fn forward(path: SeenPath, packet: &[u8], output: &mut [u8]) -> Verdict
     requires { ⌜ CanLeave (now packet) × (longestPacket ≤ length (now output)) ⌝ }
-    ensures { λ r. ⌜ (r ≡ Forward (path .port) (length (pathPacket (path .hops) (path .«next_hop») (now (packet .entry)))))
+    ensures { λ r. ⌜ (r
+        ≡ Forward (path .port) (length (pathPacket (path .hops) (path .«next_hop») (now (packet .entry)))))
         × (now (output .exit)
         ≡ patch (now (output .entry)) 0 (pathPacket (path .hops) (path .«next_hop») (now (packet .entry)))) ⌝ }
 {

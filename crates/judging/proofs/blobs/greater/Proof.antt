@@ -1,19 +1,13 @@
 use borrow.Author.Tests.{lt-ltb, le-ltb}
 use Rattle.octets.specs.Choice.{_then_otherwise_}
 use Rattle.rules.specs.Blobs.{greatest}
-use native.Mathlib.Omega.{arith}
-use borrow.Author.Needs.{needs}
 use Rattle.judging.proofs.blobs.greater.Statement.{statement}
 use Rattle.judging.proofs.blobs.greater.Tie as tie
-use Rattle.judging.proofs.blobs.greater.Reads as reads
-use Rattle.judging.proofs.blobs.greater.Lts as lts
 
--- src/blobs.rt:34:9
 returns : tie.Need-returns
 unfolding greatest _then_otherwise_
 returns c = rw (lt-ltb _ _ (c .if1 .taken))
 
--- src/blobs.rt:30:1
 returns-2 : tie.Need-returns-2
 unfolding greatest _then_otherwise_
 returns-2 c = rw (le-ltb _ _ (c .if1 .left))

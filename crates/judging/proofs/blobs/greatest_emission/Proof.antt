@@ -1,6 +1,5 @@
-use mathlib.Core.Path.{_≡_, refl, sym, ap, ap₂, _∙_}
-use Prim.Native.Nat.{ℕ, _+_, _*_, _-_, _≤_, _<_}
-use mathlib.Core.List.{List}
+use mathlib.Core.Path.{_≡_, sym, ap, ap₂, _∙_}
+use Prim.Native.Nat.{ℕ, _*_, _-_, _≤_, _<_}
 use lib.ListN.{length, drop}
 use Rattle.judging.specs.Seen.{blobsIn}
 use Rattle.octets.specs.BigEndian.{number}
@@ -12,10 +11,6 @@ use native.Mathlib.Omega.{arith}
 use borrow.Author.Needs.{needs}
 use Rattle.judging.proofs.blobs.greatest_emission.Statement.{statement}
 use Rattle.judging.proofs.blobs.greatest_emission.Tie as tie
-use Rattle.judging.proofs.blobs.greatest_emission.Reads as reads
-use Rattle.judging.proofs.blobs.greatest_emission.Lts as lts
-use Rattle.judging.proofs.blobs.greater.Reads as greater-reads
-use Rattle.octets.proofs.number_at.Reads as number-at-reads
 
 abbrev Inv-loop : tie.InvT-loop
 Inv-loop count blobs most₀ i₀ most i = (i ≤ count) × (most ≡ greatestEmission (drop i (held (blobsIn count blobs))))
@@ -23,40 +18,31 @@ Inv-loop count blobs most₀ i₀ most i = (i ≤ count) × (most ≡ greatestEm
 abbrev μ-loop : tie.MeasureT-loop
 μ-loop count blobs most₀ i₀ most i = i
 
--- src/blobs.rt:46:5
 loop-holds : tie.Need-loop-holds Inv-loop μ-loop
 unfolding greatestEmission
 loop-holds c = (omega arith, sym (ap greatestEmission (held-end (c .args .t1) (c .args .count) (c .pre))))
 
--- src/blobs.rt:47:9
 sub-i : tie.Need-sub-i Inv-loop μ-loop
 sub-i c = search needs
 
--- src/blobs.rt:48:42
 slice-aggregate-number-at : tie.Need-slice-aggregate-number-at Inv-loop μ-loop
 slice-aggregate-number-at c = search needs
 
--- src/blobs.rt:48:50
 mul-number-at : tie.Need-mul-number-at Inv-loop μ-loop
 mul-number-at c = search needs
 
--- src/blobs.rt:48:50
 add-number-at : tie.Need-add-number-at Inv-loop μ-loop
 add-number-at c = search needs
 
--- src/blobs.rt:48:24
 number-at-requires : tie.Need-number-at-requires Inv-loop μ-loop
 number-at-requires c κs = search needs
 
--- src/blobs.rt:48:9
 greater-requires : tie.Need-greater-requires Inv-loop μ-loop
 greater-requires c κs = search needs
 
--- src/blobs.rt:46:5
 loop-less : tie.Need-loop-less Inv-loop μ-loop
 loop-less c = search needs
 
--- src/blobs.rt:46:5
 loop-again : tie.Need-loop-again Inv-loop μ-loop
 unfolding greatestEmission emissionOf
 loop-again c =
@@ -71,11 +57,11 @@ loop-again c =
           ∙ sym (ap greatestEmission (held-front (a .t1) (a .count) (c .before .before .before .before .before .pre) (at .i) some (at .inv .0))),
     )
 
--- src/blobs.rt:40:1
 returns : tie.Need-returns Inv-loop μ-loop
 returns c =
+    let c2 = c .before .before in
     let z : c .before .loop .i ≡ 0 = omega arith in
-    c .before .loop .inv .1 ∙ ap (λ (k : ℕ). greatestEmission (drop k (held (blobsIn (c .before .before .args .count) (c .before .before .args .t1))))) z
+    c .before .loop .inv .1 ∙ ap (λ (k : ℕ). greatestEmission (drop k (held (blobsIn (c2 .args .count) (c2 .args .t1))))) z
 
 pub greatest-emission-spec : {M : Type 1} → statement M
 greatest-emission-spec =

@@ -1,7 +1,6 @@
-use mathlib.Core.Path.{_≡_, refl, sym, ap, ap₂, _∙_}
+use mathlib.Core.Path.{_≡_, sym, ap, ap₂, _∙_}
 use Rattle.octets.specs.Choice.{_or_}
-use Prim.Native.Nat.{ℕ, _+_, _*_, _-_, _≤_, _<_}
-use mathlib.Core.List.{List}
+use Prim.Native.Nat.{ℕ, _-_, _≤_, _<_}
 use lib.ListN.{length, drop}
 use Rattle.judging.specs.Seen.{blobsIn}
 use Rattle.rules.specs.Blobs.{held, isAmong}
@@ -10,10 +9,6 @@ use native.Mathlib.Omega.{arith}
 use borrow.Author.Needs.{needs}
 use Rattle.judging.proofs.blobs.holds_blob.Statement.{statement}
 use Rattle.judging.proofs.blobs.holds_blob.Tie as tie
-use Rattle.judging.proofs.blobs.holds_blob.Reads as reads
-use Rattle.judging.proofs.blobs.holds_blob.Lts as lts
-use Rattle.forms.proofs.either.Reads as either-reads
-use Rattle.octets.proofs.equal_at.Reads as equal-at-reads
 
 abbrev Inv-loop : tie.InvT-loop
 Inv-loop count blobs blob found₀ i₀ found i = (i ≤ count) × (found ≡ isAmong blob (drop i (held (blobsIn count blobs))))
@@ -21,60 +16,54 @@ Inv-loop count blobs blob found₀ i₀ found i = (i ≤ count) × (found ≡ is
 abbrev μ-loop : tie.MeasureT-loop
 μ-loop count blobs blob found₀ i₀ found i = i
 
--- src/blobs.rt:23:5
 loop-holds : tie.Need-loop-holds Inv-loop μ-loop
 unfolding isAmong
 loop-holds c = (omega arith, sym (ap (isAmong (c .args .t3)) (held-end (c .args .t1) (c .args .count) (c .pre))))
 
--- src/blobs.rt:24:9
 sub-i : tie.Need-sub-i Inv-loop μ-loop
 sub-i c = search needs
 
--- src/blobs.rt:25:41
 slice-aggregate-equal-at : tie.Need-slice-aggregate-equal-at Inv-loop μ-loop
 slice-aggregate-equal-at c = search needs
 
--- src/blobs.rt:25:49
 mul-equal-at : tie.Need-mul-equal-at Inv-loop μ-loop
 mul-equal-at c = search needs
 
--- src/blobs.rt:25:65
 slice-aggregate-equal-at-2 : tie.Need-slice-aggregate-equal-at-2 Inv-loop μ-loop
 slice-aggregate-equal-at-2 c = search needs
 
--- src/blobs.rt:25:24
 equal-at-requires : tie.Need-equal-at-requires Inv-loop μ-loop
 equal-at-requires c κs = search needs
 
--- src/blobs.rt:25:9
 either-requires : tie.Need-either-requires Inv-loop μ-loop
 either-requires c κs = search needs
 
--- src/blobs.rt:23:5
 loop-less : tie.Need-loop-less Inv-loop μ-loop
 loop-less c = search needs
 
--- src/blobs.rt:23:5
 loop-again : tie.Need-loop-again Inv-loop μ-loop
 unfolding isAmong
 loop-again c =
-    let a = c .before .before .before .before .before .before .args in
-    let at = c .before .before .before .before .before .loop in
+    let c4 = c .before .before .before .before in
+    let c5 = c4 .before in
+    let c6 = c5 .before in
+    let a = c6 .args in
+    let at = c5 .loop in
     let old : length (a .t1) ≡ 640 = search needs in
     let new : length (a .t3) ≡ 10 = search needs in
-    let some : 0 < at .i = c .before .before .before .before .loop-test .taken in
-    let below : at .i - 1 < 64 = omega (arith, some, at .inv .0, c .before .before .before .before .before .before .pre) in (
+    let some : 0 < at .i = c4 .loop-test .taken in
+    let below : at .i - 1 < 64 = omega (arith, some, at .inv .0, c6 .pre) in (
       omega (arith, at .inv .0),
       c .either .ensures
-          ∙ ap₂ _or_ (c .before .equal-at .ensures ∙ compared (a .t1) (a .count) (c .before .before .before .before .before .before .pre) (a .t3) old new (at .i - 1) below) (at .inv .1)
-          ∙ sym (ap (isAmong (a .t3)) (held-front (a .t1) (a .count) (c .before .before .before .before .before .before .pre) (at .i) some (at .inv .0))),
+          ∙ ap₂ _or_ (c .before .equal-at .ensures ∙ compared (a .t1) (a .count) (c6 .pre) (a .t3) old new (at .i - 1) below) (at .inv .1)
+          ∙ sym (ap (isAmong (a .t3)) (held-front (a .t1) (a .count) (c6 .pre) (at .i) some (at .inv .0))),
     )
 
--- src/blobs.rt:17:1
 returns : tie.Need-returns Inv-loop μ-loop
 returns c =
+    let c2 = c .before .before in
     let z : c .before .loop .i ≡ 0 = omega arith in
-    c .before .loop .inv .1 ∙ ap (λ (k : ℕ). isAmong (c .before .before .args .t3) (drop k (held (blobsIn (c .before .before .args .count) (c .before .before .args .t1))))) z
+    c .before .loop .inv .1 ∙ ap (λ (k : ℕ). isAmong (c2 .args .t3) (drop k (held (blobsIn (c2 .args .count) (c2 .args .t1))))) z
 
 pub holds-blob-spec : {M : Type 1} → statement M
 holds-blob-spec =

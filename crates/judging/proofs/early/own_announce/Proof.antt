@@ -1,32 +1,24 @@
-use mathlib.Core.Path.{_≡_, refl, sym, ap, ap₂, _∙_}
-use mathlib.Core.Bool.{Bool, true, false, not}
+use mathlib.Core.Path.{ap, _∙_}
+use mathlib.Core.Bool.{Bool}
 use Rattle.octets.specs.Index.{_and_}
 use Rattle.packet.specs.Read.{longestPacket}
-use Rattle.outgoing.proofs.LeavingLaws.{long, whole}
-use Rattle.judging.specs.Seen.{arrivalOf, viewOf, wayOf}
+use Rattle.outgoing.proofs.LeavingLaws.{long}
+use Rattle.judging.specs.Seen.{viewOf}
 use Rattle.rules.specs.Tests.{ownAnnounce}
 use native.Mathlib.Omega.{arith}
 use borrow.Author.Needs.{needs}
 use Rattle.judging.proofs.early.own_announce.Statement.{statement}
 use Rattle.judging.proofs.early.own_announce.Tie as tie
-use Rattle.judging.proofs.early.own_announce.Reads as reads
-use Rattle.judging.proofs.early.own_announce.Lts as lts
-use Rattle.forms.proofs.both.Reads as both-reads
-use Rattle.packet.proofs.is_announce.Reads as is-announce-reads
 
--- src/early.rt:57:30
 shared-slice-read-is-announce : tie.Need-shared-slice-read-is-announce
 shared-slice-read-is-announce c = omega (arith, long longestPacket (c .before .before .args .packet .now) (c .before .before .pre))
 
--- src/early.rt:57:10
 is-announce-requires : tie.Need-is-announce-requires
 is-announce-requires c κs = search needs
 
--- src/early.rt:57:5
 both-requires : tie.Need-both-requires
 both-requires c κs = search needs
 
--- src/early.rt:53:1
 returns : tie.Need-returns
 unfolding ownAnnounce viewOf
 returns c = c .both .ensures ∙ ap (λ (t : Bool). t and c .before .before .before .before .args .seen .local) (c .before .is-announce .ensures)

@@ -1,19 +1,13 @@
-use mathlib.Core.Path.{_≡_, refl, sym, ap, ap₂, _∙_}
+use mathlib.Core.Path.{_≡_, sym, _∙_}
 use lib.ListN.{length}
 use Rattle.octets.proofs.Choice.{same-agree}
-use native.Mathlib.Omega.{arith}
 use borrow.Author.Needs.{needs}
 use Rattle.judging.proofs.early.same_address.Statement.{statement}
 use Rattle.judging.proofs.early.same_address.Tie as tie
-use Rattle.judging.proofs.early.same_address.Reads as reads
-use Rattle.judging.proofs.early.same_address.Lts as lts
-use Rattle.octets.proofs.equal16.Reads as equal16-reads
 
--- src/early.rt:16:5
 equal16-requires : tie.Need-equal16-requires
 equal16-requires c κs = search needs
 
--- src/early.rt:13:1
 returns : tie.Need-returns
 returns c =
     let one : length (c .before .args .one) ≡ 16 = search needs in

@@ -1,4 +1,4 @@
-use mathlib.Core.Path.{_≡_, refl, sym, ap, ap₂, _∙_}
+use mathlib.Core.Path.{sym, ap, _∙_}
 use Rattle.octets.proofs.Choice.{then-true, then-false}
 use Rattle.packet.specs.Read.{longestPacket}
 use Rattle.outgoing.proofs.LeavingLaws.{long, whole}
@@ -8,37 +8,29 @@ use native.Mathlib.Omega.{arith}
 use borrow.Author.Needs.{needs}
 use Rattle.judging.proofs.keys.link_key.Statement.{statement}
 use Rattle.judging.proofs.keys.link_key.Tie as tie
-use Rattle.judging.proofs.keys.link_key.Reads as reads
-use Rattle.judging.proofs.keys.link_key.Lts as lts
-use Rattle.packet.proofs.link_id_of.Reads as link-id-of-reads
-use Rattle.packet.proofs.is_link_request.Reads as is-link-request-reads
-use Rattle.packet.proofs.parts_of.Reads as parts-of-reads
 
--- src/keys.rt:14:32
 shared-slice-read-is-link-request : tie.Need-shared-slice-read-is-link-request
 shared-slice-read-is-link-request c = omega (arith, long longestPacket (c .before .before .args .packet .now) (c .before .before .pre))
 
--- src/keys.rt:14:8
 is-link-request-requires : tie.Need-is-link-request-requires
 is-link-request-requires c κs = search needs
 
--- src/keys.rt:15:9
 link-id-of-requires : tie.Need-link-id-of-requires
 link-id-of-requires c κs = search needs
 
--- src/keys.rt:15:9
 returns : tie.Need-returns
 unfolding linkKeyOf
 returns c = c .link-id-of .ensures ∙ sym (then-true _ _ (sym (c .before .before .is-link-request .ensures) ∙ c .before .if1 .taken))
 
--- src/keys.rt:17:9
 parts-of-requires : tie.Need-parts-of-requires
 parts-of-requires c κs = whole longestPacket (c .before .before .before .before .args .packet .now) (c .before .before .before .before .pre)
 
--- src/keys.rt:10:1
 returns-2 : tie.Need-returns-2
 unfolding linkKeyOf
-returns-2 c = ap (λ (q : Parts). q .destination) (c .before .parts-of .ensures) ∙ sym (then-false _ _ (sym (c .before .before .before .is-link-request .ensures) ∙ c .before .before .if1 .left))
+returns-2 c =
+    let c2 = c .before .before in
+    let c3 = c2 .before in
+    ap (λ (q : Parts). q .destination) (c .before .parts-of .ensures) ∙ sym (then-false _ _ (sym (c3 .is-link-request .ensures) ∙ c2 .if1 .left))
 
 pub link-key-spec : {M : Type 1} → statement M
 link-key-spec =

@@ -1,4 +1,4 @@
-use mathlib.Core.Path.{_≡_, refl, sym, ap, ap₂, _∙_}
+use mathlib.Core.Path.{_≡_, sym}
 use lib.ListN.{length, List·getD-eq-default}
 use Rattle.judging.specs.Seen.{noSeenPort}
 use Rattle.judging.proofs.SeenLaws.{any-default}
@@ -6,24 +6,18 @@ use native.Mathlib.Omega.{arith}
 use borrow.Author.Needs.{needs}
 use Rattle.judging.proofs.leaving.port_at.Statement.{statement}
 use Rattle.judging.proofs.leaving.port_at.Tie as tie
-use Rattle.judging.proofs.leaving.port_at.Reads as reads
-use Rattle.judging.proofs.leaving.port_at.Lts as lts
 
--- src/leaving.rt:26:16
 mul-result : tie.Need-mul-result
 mul-result c = search needs
 
--- src/leaving.rt:26:16
 array-copy-out-result : tie.Need-array-copy-out-result
 array-copy-out-result c = search needs
 
--- src/leaving.rt:26:9
 returns : tie.Need-returns
 returns c =
     let wide : length (c .before .before .args .t1) ≡ 16 = search needs in
     any-default (c .before .before .args .t1) (c .before .before .args .port) _ _ (omega (arith, wide, c .before .if1 .taken))
 
--- src/leaving.rt:21:1
 returns-2 : tie.Need-returns-2
 returns-2 c =
     let wide : length (c .before .args .t1) ≡ 16 = search needs in

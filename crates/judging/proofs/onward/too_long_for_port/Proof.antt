@@ -1,8 +1,8 @@
-use mathlib.Core.Path.{_≡_, refl, sym, ap, ap₂, _∙_}
-use mathlib.Core.Bool.{Bool, true, false, not}
+use mathlib.Core.Path.{ap, ap₂, _∙_}
+use mathlib.Core.Bool.{not}
 use Rattle.octets.specs.Index.{_and_}
 use Rattle.packet.specs.Read.{longestPacket}
-use Rattle.outgoing.proofs.LeavingLaws.{long, whole}
+use Rattle.outgoing.proofs.LeavingLaws.{long}
 use Prim.Native.Nat.{ℕ}
 use lib.ListN.{getD}
 use Rattle.judging.specs.declared.SeenPort.{SeenPort}
@@ -14,43 +14,37 @@ use native.Mathlib.Omega.{arith}
 use borrow.Author.Needs.{needs}
 use Rattle.judging.proofs.onward.too_long_for_port.Statement.{statement}
 use Rattle.judging.proofs.onward.too_long_for_port.Tie as tie
-use Rattle.judging.proofs.onward.too_long_for_port.Reads as reads
-use Rattle.judging.proofs.onward.too_long_for_port.Lts as lts
-use Rattle.forms.proofs.both.Reads as both-reads
-use Rattle.judging.proofs.leaving.leaving_length.Reads as leaving-length-reads
-use Rattle.judging.proofs.leaving.leaving_port.Reads as leaving-port-reads
-use Rattle.judging.proofs.leaving.port_at.Reads as port-at-reads
-use Rattle.packet.proofs.is_announce.Reads as is-announce-reads
 
--- src/onward.rt:162:31
 leaving-port-requires : tie.Need-leaving-port-requires
 leaving-port-requires c κs = search needs
 
--- src/onward.rt:162:9
 port-at-requires : tie.Need-port-at-requires
 port-at-requires c κs = search needs
 
--- src/onward.rt:163:9
 leaving-length-requires : tie.Need-leaving-length-requires
 leaving-length-requires c κs = search needs
 
--- src/onward.rt:164:31
 shared-slice-read-is-announce : tie.Need-shared-slice-read-is-announce
-shared-slice-read-is-announce c = omega (arith, long longestPacket (c .before .before .before .before .before .before .args .packet .now) (c .before .before .before .before .before .before .pre))
+shared-slice-read-is-announce c =
+    let c6 = c .before .before .before .before .before .before in
+    omega (arith, long longestPacket (c6 .args .packet .now) (c6 .pre))
 
--- src/onward.rt:164:11
 is-announce-requires : tie.Need-is-announce-requires
 is-announce-requires c κs = search needs
 
--- src/onward.rt:164:5
 both-requires : tie.Need-both-requires
 both-requires c κs = search needs
 
--- src/onward.rt:157:1
 returns : tie.Need-returns
 unfolding tooLongForPort exceeds viewOf
 returns c =
-    c .both .ensures ∙ ap₂ _and_ (ap not (c .before .before .is-announce .ensures)) (ap₂ ltb (ap (λ (p : SeenPort). p .size) (c .before .before .before .before .before .port-at .ensures ∙ ap (λ (n : ℕ). getD (c .before .before .before .before .before .before .before .before .before .args .seen .ports) n noSeenPort) (c .before .before .before .before .before .before .leaving-port .ensures))) (c .before .before .before .before .leaving-length .ensures))
+    let c2 = c .before .before in
+    let c4 = c2 .before .before in
+    let c5 = c4 .before in
+    let c6 = c5 .before in
+    let c9 = c6 .before .before .before in
+    c .both .ensures ∙ ap₂ _and_ (ap not (c2 .is-announce .ensures)) (ap₂ ltb (ap (λ (p : SeenPort). p .size) (c5 .port-at .ensures
+    ∙ ap (λ (n : ℕ). getD (c9 .args .seen .ports) n noSeenPort) (c6 .leaving-port .ensures))) (c4 .leaving-length .ensures))
 
 pub too-long-for-port-spec : {M : Type 1} → statement M
 too-long-for-port-spec =

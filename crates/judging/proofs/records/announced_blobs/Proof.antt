@@ -1,29 +1,20 @@
-use mathlib.Core.Path.{_≡_, refl, sym, ap, ap₂, _∙_}
+use mathlib.Core.Path.{sym, _∙_}
 use Rattle.octets.proofs.Choice.{then-true, then-false}
 use Rattle.judging.specs.Steps.{blobsAnnounced}
-use native.Mathlib.Omega.{arith}
 use borrow.Author.Needs.{needs}
 use Rattle.judging.proofs.records.announced_blobs.Statement.{statement}
 use Rattle.judging.proofs.records.announced_blobs.Tie as tie
-use Rattle.judging.proofs.records.announced_blobs.Reads as reads
-use Rattle.judging.proofs.records.announced_blobs.Lts as lts
-use Rattle.judging.proofs.blobs.one_blob.Reads as one-blob-reads
-use Rattle.judging.proofs.blobs.store_blob.Reads as store-blob-reads
 
--- src/records.rt:74:9
 store-blob-requires : tie.Need-store-blob-requires
 store-blob-requires c κs = c .before .pre
 
--- src/records.rt:74:9
 returns : tie.Need-returns
 unfolding blobsAnnounced
 returns c = (c .store-blob .ensures .0 ∙ sym (then-true _ _ (c .before .if1 .taken)), c .store-blob .ensures .1)
 
--- src/records.rt:76:5
 one-blob-requires : tie.Need-one-blob-requires
 one-blob-requires c κs = search needs
 
--- src/records.rt:69:1
 returns-2 : tie.Need-returns-2
 unfolding blobsAnnounced
 returns-2 c = (c .one-blob .ensures .0 ∙ sym (then-false _ _ (c .before .if1 .left)), c .one-blob .ensures .1)

@@ -1,5 +1,5 @@
-use mathlib.Core.Path.{_≡_, refl, sym, ap, ap₂, _∙_}
-use mathlib.Core.Bool.{Bool, true, false, not}
+use mathlib.Core.Path.{_≡_, refl, sym, ap, _∙_}
+use mathlib.Core.Bool.{true}
 use Prim.Native.Nat.{ℕ}
 use mathlib.Core.List.{List, [], _∷_}
 use types.Run.{OneOf, miss}
@@ -12,12 +12,9 @@ use Rattle.rules.specs.Writes.{remembersDrop}
 use Rattle.judging.specs.declared.Planned.{Planned}
 use Rattle.judging.specs.declared.Planned.the-variants.{Drop, Deliver, Follow}
 use Rattle.judging.specs.Steps.{planRemembers}
-use native.Mathlib.Omega.{arith}
 use borrow.Author.Needs.{needs}
 use Rattle.judging.proofs.records.plan_remembers.Statement.{statement}
 use Rattle.judging.proofs.records.plan_remembers.Tie as tie
-use Rattle.judging.proofs.records.plan_remembers.Reads as reads
-use Rattle.judging.proofs.records.plan_remembers.Lts as lts
 
 abbrev others : List ℕ
 others = 1 ∷ 2 ∷ []
@@ -49,31 +46,24 @@ behind PortOff is = refl
 behind TooLongForPort is = refl
 behind NoRoom is = refl
 
--- src/records.rt:189:23
 enum-known-planned : tie.Need-enum-known-planned
 enum-known-planned c = search needs
 
--- src/records.rt:190:9
 returns : tie.Need-returns
 returns c = remembered (c .before .args .planned) (c .match .keys2)
 
--- src/records.rt:193:28
 enum-told : tie.Need-enum-told
 enum-told c = search needs
 
--- src/records.rt:194:30
 enum-told-2 : tie.Need-enum-told-2
 enum-told-2 c = search needs
 
--- src/records.rt:186:1
 returns-2 : tie.Need-returns-2
 returns-2 c = search needs
 
--- src/records.rt:186:1
 returns-3 : tie.Need-returns-3
 returns-3 c = search needs
 
--- src/records.rt:186:1
 returns-4 : tie.Need-returns-4
 returns-4 c = behind (c .before .before .planned .given .0 .0) (c .match2 .keys3) ∙ sym (ap planRemembers (c .before .before .planned .given .1))
 

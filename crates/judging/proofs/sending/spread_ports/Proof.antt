@@ -1,4 +1,4 @@
-use mathlib.Core.Path.{_≡_, refl, sym, ap, ap₂, _∙_}
+use mathlib.Core.Path.{_≡_, _∙_}
 use Prim.Native.Nat.{_-_, _≤_}
 use Rattle.rules.specs.Answers.{setBelow}
 use Rattle.outgoing.proofs.PortLaws.{set-begin, set-room, set-more, set-end}
@@ -7,10 +7,6 @@ use native.Mathlib.Omega.{arith}
 use borrow.Author.Needs.{needs}
 use Rattle.judging.proofs.sending.spread_ports.Statement.{statement}
 use Rattle.judging.proofs.sending.spread_ports.Tie as tie
-use Rattle.judging.proofs.sending.spread_ports.Reads as reads
-use Rattle.judging.proofs.sending.spread_ports.Lts as lts
-use Rattle.judging.proofs.leaving.port_at.Reads as port-at-reads
-use Rattle.outgoing.proofs.with_spread_port.Reads as with-spread-port-reads
 
 abbrev Inv-loop : tie.InvT-loop
 Inv-loop ports arrival long set₀ i₀ set i = (i ≤ 16) × (set ≡ setBelow (spreadsTo ports arrival long) i)
@@ -18,33 +14,28 @@ Inv-loop ports arrival long set₀ i₀ set i = (i ≤ 16) × (set ≡ setBelow 
 abbrev μ-loop : tie.MeasureT-loop
 μ-loop ports arrival long set₀ i₀ set i = 16 - i
 
--- src/sending.rt:36:5
 loop-holds : tie.Need-loop-holds Inv-loop μ-loop
 loop-holds c = (omega arith, set-begin _)
 
--- src/sending.rt:37:13
 port-at-requires : tie.Need-port-at-requires Inv-loop μ-loop
 port-at-requires c κs = search needs
 
--- src/sending.rt:38:9
 with-spread-port-requires : tie.Need-with-spread-port-requires Inv-loop μ-loop
 with-spread-port-requires c κs = (c .before .loop-test .taken, set-room _ _ (c .before .before .loop .inv .1))
 
--- src/sending.rt:39:9
 add-i : tie.Need-add-i Inv-loop μ-loop
 add-i c = search needs
 
--- src/sending.rt:36:5
 loop-less : tie.Need-loop-less Inv-loop μ-loop
 loop-less c = search needs
 
--- src/sending.rt:36:5
 loop-again : tie.Need-loop-again Inv-loop μ-loop
 loop-again c =
-    let more = set-more (spreadsTo (c .before .before .before .before .args .ports) (c .before .before .before .before .args .arrival) (c .before .before .before .before .args .long)) _ (c .before .before .before .loop .inv .1) in
+    let c3 = c .before .before .before in
+    let c4 = c3 .before in
+    let more = set-more (spreadsTo (c4 .args .ports) (c4 .args .arrival) (c4 .args .long)) _ (c3 .loop .inv .1) in
     (omega arith, c .with-spread-port .ensures ∙ rw (c .before .port-at .ensures) more)
 
--- src/sending.rt:31:1
 returns : tie.Need-returns Inv-loop μ-loop
 returns c = set-end _ _ (c .before .loop .inv .1) (c .before .loop .inv .0) (c .loop-test .left)
 

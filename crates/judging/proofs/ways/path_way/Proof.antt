@@ -1,19 +1,13 @@
-use mathlib.Core.Path.{_≡_, refl, sym, ap, ap₂, _∙_}
+use mathlib.Core.Path.{sym}
 use Rattle.octets.proofs.Choice.{then-true, then-false}
-use Rattle.judging.specs.Steps.{linkWayBy, returnWayBy, pathWayBy}
-use native.Mathlib.Omega.{arith}
-use borrow.Author.Needs.{needs}
+use Rattle.judging.specs.Steps.{pathWayBy}
 use Rattle.judging.proofs.ways.path_way.Statement.{statement}
 use Rattle.judging.proofs.ways.path_way.Tie as tie
-use Rattle.judging.proofs.ways.path_way.Reads as reads
-use Rattle.judging.proofs.ways.path_way.Lts as lts
 
--- src/ways.rt:46:9
 returns : tie.Need-returns
 unfolding pathWayBy
 returns c = sym (then-true _ _ (c .if1 .taken))
 
--- src/ways.rt:42:1
 returns-2 : tie.Need-returns-2
 unfolding pathWayBy
 returns-2 c = sym (then-false _ _ (c .if1 .left))
