@@ -37,7 +37,7 @@ replay:
 survey:
 	@scripts/survey "$(SETTINGS)" $(RECORDINGS)
 
-## make install    header, library, pkg-config's file, Python module   a second; PREFIX=/usr/local, DESTDIR= for a package
+## make install    header, library, Python module, the desk            a second; PREFIX=/usr/local, DESTDIR= for a package
 install: lib
 	@scripts/install "$(DESTDIR)" "$(PREFIX)"
 

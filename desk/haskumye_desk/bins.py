@@ -19,14 +19,14 @@ class Bins(NamedTuple):
 
     start: int
     width: int
-    count: int
+    number: int
 
     def place(self, clock: int) -> int:
         return (clock - self.start) // self.width
 
     @property
     def edges(self) -> list[int]:
-        return [self.start + place * self.width for place in range(self.count + 1)]
+        return [self.start + place * self.width for place in range(self.number + 1)]
 
 
 def bins(clocks: Iterable[int], least: int, most: int) -> Bins:

@@ -21,17 +21,16 @@ class Heading(NamedTuple):
     edition: int
 
 
-RECORDING, SAVED = 1, 2  # kinds
+SAVED = 2  # the kind of saved tables; a recording's is 1
 
 
-def heading(data: bytes) -> Heading | None:
-    """What a file says that it is; None where it is too short to say."""
-    return Heading(data[0], data[1]) if len(data) >= 2 else None
+def heading(data: bytes) -> Heading:
+    """What a file says that it is; zeros where it is too short to say."""
+    return Heading(*data[:2].ljust(2, b"\0"))
 
 
-def read(name: str) -> bytes:
-    """A file's bytes. No more than the longest file's are read: whatever is longer is refused by 20, however long."""
-    most = haskumye.LONGEST_SAVED + 1
+def read(name: str, most: int = haskumye.LONGEST_SAVED + 1) -> bytes:
+    """A file's bytes, at most so many: whatever is longer than the longest file is refused by 20, however long."""
     try:
         if name == STANDARD:
             return sys.stdin.buffer.read(most)
@@ -42,8 +41,8 @@ def read(name: str) -> bytes:
 
 
 def read_text(name: str) -> str:
-    """The text of a file, of which every byte is a character: what is no digit is told as such later."""
-    return read(name).decode("latin-1")
+    """All text of a file, of which every byte is a character: what is no digit is told as such later."""
+    return read(name, most=-1).decode("latin-1")
 
 
 def at_most_one_standard(names: Sequence[str]) -> None:
@@ -54,8 +53,13 @@ def at_most_one_standard(names: Sequence[str]) -> None:
 
 def load(name: str, result: str = "") -> haskumye.Relay:
     """The relay of a saved file. Where it is refused, the result has the refusal's number in it."""
+    return relay_of(name, read(name), result)
+
+
+def relay_of(name: str, data: bytes, result: str) -> haskumye.Relay:
+    """The relay of a saved file's bytes."""
     try:
-        return haskumye.Relay.load(read(name))
+        return haskumye.Relay.load(data)
     except haskumye.Refused as refused:
         raise refused_file(name, refused, result.format(refused.refusal.value)) from None
 
@@ -79,7 +83,7 @@ def write(name: str, data: bytes) -> None:
 def _replace(path: pathlib.Path, data: bytes) -> None:
     new = path.with_name(f".{path.name}.{os.getpid()}")
     try:
-        with open(new, "xb") as file:
+        with open(new, "wb") as file:
             file.write(data)
             file.flush()
             os.fsync(file.fileno())

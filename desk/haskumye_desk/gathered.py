@@ -23,7 +23,9 @@ def drop_fate(reason: Reason) -> Fate:
     return f"drop {reason.value}"
 
 
-FATES = (TAKEN, *map(drop_fate, Reason), REFUSED)  # in the order that they are drawn
+# Each with its words, in the order that they are drawn.
+WORDS = {TAKEN: "taken in", **{drop_fate(reason): f"{drop_fate(reason)}: {reason.words}" for reason in Reason}, REFUSED: "refused"}
+FATES = tuple(WORDS)
 
 
 def fate(replayed: haskumye.Replayed) -> Fate:
@@ -88,7 +90,7 @@ def day(events: Sequence[Event]) -> Day:
     spans = bins((recorded.clock for recorded, _ in events), least=1, most=DAY_BINS)
     came = Counter((recorded.port, fate(replayed), spans.place(recorded.clock)) for recorded, replayed in events)
     left = Counter((port, spans.place(recorded.clock)) for recorded, replayed in events for port in replayed.ports)
-    ports, places = ports_of(events), range(spans.count)
+    ports, places = ports_of(events), range(spans.number)
     seen = {(port, told) for port, told, _ in came}
     return Day(
         spans,
@@ -102,7 +104,7 @@ def drops(events: Sequence[Event]) -> Drops:
     spans = bins((recorded.clock for recorded, _ in events), least=HOUR, most=HOUR_BINS)
     counts = Counter((replayed.reason, spans.place(recorded.clock)) for recorded, replayed in events if replayed.kind == Kind.DROP)
     seen = {reason for reason, _ in counts}
-    return Drops(spans, {reason: [counts[reason, place] for place in range(spans.count)] for reason in Reason if reason in seen})
+    return Drops(spans, {reason: [counts[reason, place] for place in range(spans.number)] for reason in Reason if reason in seen})
 
 
 def port_bytes(events: Sequence[Event]) -> PortBytes:

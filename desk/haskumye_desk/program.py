@@ -22,7 +22,6 @@ STATUS = "0 done; 1 refused, by the library or for what a text says; 2 wrong use
 WIDTH = 78  # of what is told on a terminal
 STOPPED = 128  # and the signal's number
 
-
 HELP = Argument(("-h", "--help"), {"action": "help", "help": "tell this, and end"})
 VERSION = Argument(
     ("--version",),
@@ -83,7 +82,7 @@ def main(words: Optional[Sequence[str]] = None) -> int:
         return STOPPED + signal.SIGPIPE
     except OSError as error:
         _abandon_output()
-        return _told(options, wrong_use(f"cannot write standard output: {error.strerror}"))
+        return _told(options, wrong_use(str(error) if error.filename else f"cannot write standard output: {error.strerror}"))
 
 
 def _run(options: argparse.Namespace) -> int:

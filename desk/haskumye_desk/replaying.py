@@ -18,7 +18,7 @@ class Recording(NamedTuple):
     data: bytes
 
     @property
-    def count(self) -> int:
+    def packets(self) -> int:
         return haskumye.recording_count(self.data)
 
 

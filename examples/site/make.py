@@ -42,12 +42,13 @@ desk = Box("desk", {0: Port(), 1: Port(Mode.ACCESS_POINT, terminals=(OFFICE,))},
 BOXES = (growth_room, cold_store, desk)
 site = Site({(growth_room, 0): (cold_store, 0), (cold_store, 1): (desk, 0)})
 
-# Where each is heard; of a host's own, where its packets come in next.
+# Where each is heard; of a host's own, where the packets that it sends come in.
 HEARD = {
-    **{terminal: (growth_room, 1) for terminal in (*BENCHES, CLIMATE)},
-    **{SHELF: (growth_room, 0), COUNTS: (cold_store, 1)},
-    **{GREENHOUSE: (cold_store, 2), HANDHELD: (cold_store, 3), GONE: (cold_store, 3), SENSOR: (cold_store, 3), OFFICE: (desk, 1)},
+    **{terminal: [(growth_room, 1)] for terminal in (*BENCHES, CLIMATE)},
+    **{SHELF: [(growth_room, 0), (desk, 0)], COUNTS: [(cold_store, 1)]},
+    **{GREENHOUSE: [(cold_store, 2)], HANDHELD: [(cold_store, 3)], GONE: [(cold_store, 3)], OFFICE: [(desk, 1)]},
 }
+GONE_AT = 6  # o'clock
 chance = random.Random(30)
 
 
@@ -60,17 +61,14 @@ def times(start: float, end: float, every: float, spread: float = 0.0) -> Iterat
 
 def announces() -> None:
     """Every terminal announces itself every three hours; the handheld that goes away twice, and not again."""
-    for place, terminal in enumerate(HEARD):
-        end = 6 if terminal == GONE else 24
-        for clock in times(0, end if terminal != SENSOR else 0, 180, 170):
-            site.send(clock, *HEARD[terminal], terminal.announce(clock), signed=True)
-        if terminal == SHELF:  # its host is between two cables
-            for clock in times(0, 24, 180, 170):
-                site.send(clock, desk, 0, terminal.announce(clock), signed=True)
+    for terminal, places in HEARD.items():
+        for box, port in places:
+            for clock in times(0, GONE_AT if terminal == GONE else 24, 180, 170):
+                site.send(clock, box, port, terminal.announce(clock), signed=True)
 
 
 def messages(sender: Terminal, to: Terminal, clocks: Iterator[int], text: str) -> None:
-    box, port = HEARD[sender]
+    box, port = HEARD[sender][0]
     for number, clock in enumerate(clocks, 1):
         site.send(clock, box, port, data(box.address, to, f"{sender.name}: {text} {number}".encode()))
 

@@ -1,7 +1,7 @@
 """Sessions: command lines at the example site, as a person types them, with what each prints and its status.
 
 A file of sessions/ is a story in a folder of its own, which has the site's files. `$` begins a command line; below it `|` begins a line of standard output,
-`!` one of standard error, `=` the status where it is not 0. All else is comment.
+`!` one of standard error, `=` the status where it is not 0. All else is comment. The blocks of docs/DESK.md are a story too, of standard output alone.
 """
 
 from __future__ import annotations
@@ -13,9 +13,10 @@ import subprocess
 import tempfile
 from typing import NamedTuple
 
-from example_site import make_site, surroundings
+from example_site import ROOT, make_site, surroundings
 
 SESSIONS = pathlib.Path(__file__).resolve().parent / "sessions"
+PAGE = ROOT / "docs/DESK.md"
 COMMAND, MARKS = "$ ", ("|", "!", "=")
 DAMAGED = ["= damaged"]
 
@@ -45,6 +46,19 @@ def read(path: pathlib.Path) -> list[Line]:
     return lines
 
 
+def read_page(path: pathlib.Path) -> list[Line]:
+    """The command lines in the page's blocks of text, behind the one that the page begins with."""
+    lines, inside = [Line("$ haskumye replay cold-store.saved cold-store-*.recording --save evening.saved >day.lines", [])], False
+    for text in path.read_text().splitlines():
+        if text.startswith("```"):
+            inside = text.startswith("```text ")
+        elif inside and text.startswith(COMMAND):
+            lines.append(Line(text, []))
+        elif inside:
+            lines[-1].expected.append(f"| {text}".rstrip())
+    return lines
+
+
 def printed(command: str, folder: pathlib.Path, environment: dict[str, str]) -> list[str]:
     """What a command line prints, marked, and its status."""
     ended = subprocess.run(["sh", "-c", command], cwd=folder, env=environment, stdin=subprocess.DEVNULL, capture_output=True, text=True)
@@ -61,9 +75,11 @@ def told(name: str, line: Line, found: list[str]) -> str:
 def run_session(path: pathlib.Path, folder: pathlib.Path, environment: dict[str, str], damage: bool) -> Outcome:
     """Runs a story to its end, whatever differs."""
     passed, differences, lines = 0, [], []
-    for line in read(path):
+    for line in read_page(path) if path == PAGE else read(path):
         if line.text.startswith(COMMAND):
             found = printed(line.text[len(COMMAND) :], folder, environment)
+            if path == PAGE:
+                found = [text for text in found if not text.startswith("!")]
             if found == (DAMAGED if damage else line.expected):
                 passed += 1
             else:
@@ -75,7 +91,7 @@ def run_session(path: pathlib.Path, folder: pathlib.Path, environment: dict[str,
 
 def run_all(damage: bool = False, accept: bool = False) -> tuple[int, int]:
     """Runs all stories, side by side, and gives how many command lines agreed, and how many did not."""
-    paths = sorted(SESSIONS.glob("*.session"))
+    paths = [*sorted(SESSIONS.glob("*.session")), PAGE]
     with tempfile.TemporaryDirectory() as name, concurrent.futures.ThreadPoolExecutor() as pool:
         top = pathlib.Path(name)
         make_site(top / "site")
@@ -84,7 +100,7 @@ def run_all(damage: bool = False, accept: bool = False) -> tuple[int, int]:
         environment = surroundings(top)
         outcomes = list(pool.map(lambda path: run_session(path, top / path.stem, environment, damage), paths))
     for path, outcome in zip(paths, outcomes):
-        if accept:
+        if accept and path != PAGE:
             path.write_text(outcome.printed)
         elif not damage:
             print(*outcome.differences, sep="\n", end="\n" if outcome.differences else "")

@@ -5,6 +5,10 @@ from __future__ import annotations
 import collections
 import importlib.util
 import math
+import pathlib
+import subprocess
+import sys
+import tempfile
 import unittest
 import xml.etree.ElementTree
 
@@ -76,16 +80,17 @@ class TestNumbers(unittest.TestCase):
         for first, last in ((0, 0), (59, 60), (1000, 87399), (0, (1 << 40) - 1), ((1 << 40) - 2, (1 << 40) - 1), (3599, 3600 * 48)):
             for least, most in ((1, gathered.DAY_BINS), (3600, gathered.HOUR_BINS)):
                 spans = bins([last, first], least, most)
-                self.assertTrue(spans.start % spans.width == 0 and spans.width >= least and 1 <= spans.count <= most)
-                self.assertEqual((spans.place(first), spans.place(last)), (0, spans.count - 1))
+                self.assertTrue(spans.start % spans.width == 0 and spans.width >= least and 1 <= spans.number <= most)
+                self.assertEqual((spans.place(first), spans.place(last)), (0, spans.number - 1))
                 self.assertLessEqual(len(clocks.ticks(spans)), clocks.MOST_TICKS + 1)
 
     def test_odd_days(self) -> None:
         for name, events in ODD_DAYS.items():
             self.assertEqual(sum(map(sum, gathered.day(events).packets_in.values())), len(events), name)
 
-    def test_the_pages_picture(self) -> None:
-        self.assertEqual(description((ROOT / "docs/pictures/day.svg").read_bytes()), expected.numbers("day"))
+    def test_the_pages_pictures(self) -> None:
+        for name in expected.COUNTED:
+            self.assertEqual(description((ROOT / f"docs/pictures/{name}.svg").read_bytes()), expected.numbers(name), name)
 
 
 class TestLooks(unittest.TestCase):
@@ -142,6 +147,14 @@ class TestDrawings(unittest.TestCase):
             self.assertEqual(description(svg), data.lines())
             self.assertEqual(svg, canvas.svg(figure, data.lines()))
             self.assertLess(len(svg), 150_000)
+
+    def test_the_readme_s_commands(self) -> None:
+        lines = [line.strip() for line in (ROOT / "README.md").read_text().splitlines() if line.startswith(("    examples/site", "    desk/haskumye"))]
+        with tempfile.TemporaryDirectory() as name:
+            for line in lines:
+                command = f"{sys.executable} {line}".replace("target/", f"{name}/")
+                subprocess.run(["sh", "-c", command], cwd=ROOT, check=True, stdout=subprocess.DEVNULL, stderr=subprocess.DEVNULL)
+            self.assertEqual(description(pathlib.Path(name, "day.svg").read_bytes()), expected.numbers("day"))
 
     def test_odd_days(self) -> None:
         for name, events in ODD_DAYS.items():

@@ -40,6 +40,23 @@ def start(*words: object, replaced: str = "", **settings: object) -> subprocess.
     return subprocess.Popen([sys.executable, *program, *map(str, words)], cwd=FOLDER, **settings)
 
 
+def stopped(running: subprocess.Popen, number: int) -> int:
+    """Sends a signal until the program ends: one that comes just before Python waits in a read is seen only after it."""
+    while True:
+        running.send_signal(number)
+        try:
+            return running.wait(timeout=1)
+        except subprocess.TimeoutExpired:
+            pass
+
+
+def open_terminal() -> tuple[int, int]:
+    try:
+        return pty.openpty()
+    except OSError as error:
+        raise unittest.SkipTest(f"no terminal: {error}") from None
+
+
 def read_terminal(terminal: int) -> str:
     """All that comes out of a terminal until whoever writes to it has ended."""
     parts = []
@@ -75,7 +92,7 @@ class TestProgress(unittest.TestCase):
         self.assertEqual(self.shown(io.StringIO(), [PATIENCE + 0.1]), "")
 
     def test_in_the_program(self) -> None:
-        ours, theirs = pty.openpty()
+        ours, theirs = open_terminal()
         impatient = "import haskumye_desk.progress as progress; progress.PATIENCE = progress.PAUSE = 0.0"
         ended = start("replay", "desk.saved", "desk-1.recording", replaced=impatient, stdout=subprocess.DEVNULL, stderr=theirs)
         os.close(theirs)
@@ -95,8 +112,7 @@ class TestStopped(unittest.TestCase):
             with open(FOLDER / "pipe", "wb") as pipe:  # opens once the program reads it
                 pipe.write(b"\1")
                 pipe.flush()
-                running.send_signal(number)
-                self.assertEqual(running.wait(), 128 + number)
+                self.assertEqual(stopped(running, number), 128 + number)
             self.assertEqual(running.stderr.read(), b"")
             running.stderr.close()
         self.assertEqual(sorted(FOLDER.iterdir()), before)
@@ -132,7 +148,7 @@ class TestFiles(unittest.TestCase):
             self.assertEqual(len(list(folder.iterdir())), 3)
 
     def test_a_recording_is_not_for_a_terminal(self) -> None:
-        ours, theirs = pty.openpty()
+        ours, theirs = open_terminal()
         running = start("record", "/dev/null", stdout=theirs, stderr=subprocess.PIPE)
         os.close(theirs)
         self.assertIn(b"no text for a terminal", running.communicate()[1])

@@ -19,7 +19,7 @@ def add_arguments(parser: argparse.ArgumentParser) -> None:
 def told(data: bytes) -> str:
     """What a file is, asked of the library as the kind that the file says. Refused by it where it is not that, and where it says none."""
     heading = files.heading(data)
-    if heading is not None and heading.kind == files.SAVED:
+    if heading.kind == files.SAVED:
         relay = haskumye.Relay.load(data)
         return f"saved tables, edition {heading.edition}, last clock {relay.last_clock}"
     haskumye.check_recording(data)

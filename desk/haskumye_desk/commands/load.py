@@ -4,11 +4,9 @@ from __future__ import annotations
 
 import argparse
 
-import haskumye
-
 from .. import files
 from ..command import Command, Example
-from ..failure import DONE, refused_file
+from ..failure import DONE
 
 
 def add_arguments(parser: argparse.ArgumentParser) -> None:
@@ -18,10 +16,7 @@ def add_arguments(parser: argparse.ArgumentParser) -> None:
 
 def run(options: argparse.Namespace) -> int:
     data = files.read(options.file)
-    try:
-        relay = haskumye.Relay.load(data)
-    except haskumye.Refused as refused:
-        raise refused_file(options.file, refused, f"refused {refused.refusal.value}") from None
+    relay = files.relay_of(options.file, data, "refused {}")
     saved = relay.save()
     if options.save is not None:
         files.write(options.save, saved)

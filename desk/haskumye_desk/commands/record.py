@@ -9,13 +9,14 @@ from typing import Iterator
 import haskumye
 
 from .. import files
+from ..arguments import CLOCKS, is_number
 from ..command import Command, Example
 from ..failure import DONE, REFUSED, Failure, refused_file, told_name, wrong_use
 from ..hexadecimal import packet_of
 from ..sentences import counted, say
 
 WORDS = {"0": False, "1": True}
-PORT_LIMIT = 256
+PORTS = 256  # what an entry has room for; the core refuses those over 15
 
 
 def add_arguments(parser: argparse.ArgumentParser) -> None:
@@ -31,9 +32,9 @@ def entry(line: str) -> haskumye.Recorded:
     if len(words) != 4:
         raise ValueError("not as: clock port word hex")
     clock, port, word, text = words
-    if not (clock.isascii() and clock.isdigit() and int(clock) < 1 << 64):
+    if not is_number(clock, CLOCKS):
         raise ValueError(f"{clock!a} is no clock")
-    if not (port.isascii() and port.isdigit() and int(port) < PORT_LIMIT):
+    if not is_number(port, PORTS):
         raise ValueError(f"{port!a} is no port")
     if word not in WORDS:
         raise ValueError(f"{word!a} is no signature word: 0 or 1")

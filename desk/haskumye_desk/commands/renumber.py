@@ -18,7 +18,7 @@ def port_map(text: str) -> dict[int, int]:
     pairs = re.fullmatch(r"\d{1,2}:\d{1,2}(,\d{1,2}:\d{1,2})*", text, re.ASCII)
     if pairs is None:
         raise argparse.ArgumentTypeError(f"{text!r} is no map: OLD:NEW for each port that changes, with commas between")
-    changes = [tuple(map(int, pair.split(":"))) for pair in text.split(",")]
+    changes = [(int(old), int(new)) for old, new in (pair.split(":") for pair in text.split(","))]
     numbers = dict(changes)
     if len(numbers) < len(changes) or max(numbers) >= haskumye.PORT_COUNT:
         raise argparse.ArgumentTypeError(f"{text!r} is no map: each OLD is another port, from 0 to {haskumye.PORT_COUNT - 1}")

@@ -34,19 +34,19 @@ def run(options: argparse.Namespace) -> int:
         print(f"{event.replayed.line}: {sentence(event.replayed)}" if options.why else event.replayed.line)
         events.append(event)
     sys.stdout.flush()
-    pictures.draw(drawings, events)
     if options.save is not None:
         files.write(options.save, relay.save())
+    pictures.draw(drawings, events)
     return DONE
 
 
 def _replayed(relay: haskumye.Relay, recordings: list[Recording]) -> Iterator[Event]:
     """All events; where there are several recordings, standard error says which one the lines are of."""
     done = 0
-    with Progress("packets replayed", sum(recording.count for recording in recordings)) as progress:
+    with Progress("packets replayed", sum(recording.packets for recording in recordings)) as progress:
         for recording in recordings:
             if len(recordings) > 1:
-                progress.say(f"{recording.name}: {counted(recording.count, 'packet')}")
+                progress.say(f"{recording.name}: {counted(recording.packets, 'packet')}")
             for event in replay(relay, recording):
                 yield event
                 done += 1

@@ -36,7 +36,7 @@ class Look(NamedTuple):
     hatch: str = ""
 
 
-# Hatches of lines alone: dots make a file ten times as long.
+# Hatches of lines alone: with dots a day's file was eight times as long.
 LOOKS: dict[Fate, Look] = {
     TAKEN: Look("#8c8c8c"),
     REFUSED: Look("#ffffff", "xxxx"),

@@ -12,11 +12,14 @@ if TYPE_CHECKING:
     from matplotlib.axes import Axes
 
 MOST_TICKS = 13
+MOST_DAYS = 9999  # whose numbers have room
 
 
 def ticks(spans: Bins) -> list[int]:
     """Round clocks within the spans, no more than there is room for."""
     first, last = spans.edges[0], spans.edges[-1]
+    if last - first > MOST_DAYS * DAY:
+        return [first, last]
     step = next((width for width in WIDTHS if (last - first) / width < MOST_TICKS), DAY)
     while (last - first) / step >= MOST_TICKS:
         step *= 2

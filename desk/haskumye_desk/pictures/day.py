@@ -4,9 +4,7 @@ from __future__ import annotations
 
 from typing import TYPE_CHECKING
 
-from haskumye import Reason
-
-from ..gathered import REFUSED, TAKEN, Day, Fate, drop_fate
+from ..gathered import WORDS, Day, Fate
 from ..times import duration
 from .canvas import INK, LOOKS, PALE, figure, plain, put_title
 from .clocks import label, put_times
@@ -17,10 +15,9 @@ if TYPE_CHECKING:
     from matplotlib.patches import StepPatch
 
 ROW, FOOT = 1.0, 0.3  # inches
-LEFT, RIGHT = 0.1, 0.975  # of the width
+LEFT, RIGHT = 0.1, 0.965  # of the width
 COLUMNS, KEY, TITLE = 3, 0.2, 0.42  # of the key to the picture, and the inches of its lines and of what is above
 NONE = float("nan")  # no shape is drawn there
-WORDS = {TAKEN: "taken in", REFUSED: "refused", **{drop_fate(reason): f"{drop_fate(reason)}: {reason.words}" for reason in Reason}}
 
 
 def draw(day: Day) -> Figure:
@@ -52,7 +49,7 @@ def reach(day: Day) -> tuple[float, float]:
 
 def draw_port(axes: Axes, day: Day, port: int) -> None:
     """A port's row. Each shape is called what it shows."""
-    below = [0] * day.spans.count
+    below = [0] * day.spans.number
     for fate in day.fates:
         counts = day.packets_in.get((port, fate))
         if counts is not None:
@@ -71,9 +68,7 @@ def draw_fate(axes: Axes, day: Day, counts: list[int], below: list[int], fate: F
     """Packets of one fate, on top of those below."""
     look = LOOKS[fate]
     above = [low + count if count else NONE for low, count in zip(below, counts)]
-    return axes.stairs(
-        above, day.spans.edges, baseline=below, fill=True, facecolor=look.colour, hatch=look.hatch, edgecolor=INK, linewidth=0.4
-    )
+    return axes.stairs(above, day.spans.edges, baseline=below, fill=True, facecolor=look.colour, hatch=look.hatch, edgecolor=INK, linewidth=0.4)
 
 
 def put_counts(axes: Axes) -> None:
