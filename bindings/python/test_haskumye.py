@@ -497,7 +497,7 @@ class TestSurveys(unittest.TestCase):
         """Recordings, refused ones among them, each from a fresh relay with the settings of this one, which knows more."""
         box, (packet, _) = relay(3), announce()
         box.packet(packet, 1, 1 << 39, signed=True)
-        day = haskumye.write_recording([Recorded(1000, 1, True, packet), Recorded(1001, 1, True, packet), Recorded(1002, 9, True, packet)])
+        day = haskumye.write_recording([(1000, 1, True, packet), (1001, 1, True, packet), (1002, 9, True, packet)])
         survey = haskumye.Survey(box.save())
         self.assertEqual(len(survey.text().splitlines()), 32)
         survey.add(day)

@@ -9,10 +9,12 @@ use haskumye::{BadForm, Mode, NoWayOn, Reason, Refusal};
 use model::{constants_differ, functions_differ, structs_differ, Interface};
 use std::path::{Path, PathBuf};
 
-/// Where the lengths of what crosses are declared, each before its use.
-const LENGTHS: [&str; 5] = [
+/// Where the lengths of what crosses are declared, each before its use: places and fields use one another's.
+const LENGTHS: [&str; 7] = [
     "crates/rules/src/lib.rt",
     "crates/numbers/src/lib.rt",
+    "crates/tables/src/places.rt",
+    "crates/tables/src/fields.rt",
     "crates/tables/src/places.rt",
     "crates/surveying/src/counting.rt",
     "crates/surveying/src/lib.rt",
@@ -170,9 +172,9 @@ fn the_three_agree() {
 fn something_is_compared() {
     let texts = Texts::read();
     let header = header::read("the header", &texts.header);
-    assert_eq!((header.functions.len(), header.structs.len()), (42, 15));
+    assert_eq!((header.functions.len(), header.structs.len()), (45, 18));
     assert_eq!(header.functions["haskumye_packet"].arguments.len(), 10);
-    assert_eq!(header.constants.len(), 104);
+    assert_eq!(header.constants.len(), 109);
 }
 
 #[test]
