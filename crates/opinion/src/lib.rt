@@ -7,7 +7,6 @@ mod hashes;
 mod links;
 mod locals;
 mod log;
-mod maps;
 mod outcomes;
 mod packets;
 mod paths;

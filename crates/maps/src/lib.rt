@@ -1,4 +1,5 @@
-// Whether a map is one-to-one on 0..15, and the port that goes to a number.
+// Maps of the ports: whether one is one-to-one on 0..15, and the port that goes to a number.
+// Helpers: the caller shows that a map has sixteen images.
 use numbers::PORT_COUNT;
 ghost use mathlib.Core.Path.{_≡_};
 ghost use Prim.Native.Nat.{_<_};

@@ -9,8 +9,8 @@ use Rattle.numbers.specs.Numbers.{portCount}
 use Rattle.rules.specs.Renumbering.{preimage}
 use native.Mathlib.Omega.{arith}
 use borrow.Author.Needs.{needs}
-use Rattle.renumbering.proofs.one_to_one.preimage_of.Statement.{statement}
-use Rattle.renumbering.proofs.one_to_one.preimage_of.Tie as tie
+use Rattle.maps.proofs.preimage_of.Statement.{statement}
+use Rattle.maps.proofs.preimage_of.Tie as tie
 
 abbrev Inv-loop : tie.InvT-loop
 Inv-loop map n i₀ i = (i ≤ portCount) × (first (λ k. eqb (getD map k 0) n) i ≡ i)

@@ -8,8 +8,8 @@ use Rattle.octets.specs.Index.{allBelow}
 use Rattle.octets.proofs.Index.{all-none, all-more, all-fails, ended}
 use Rattle.rules.specs.Renumbering.{differsBefore}
 use borrow.Author.Needs.{needs}
-use Rattle.renumbering.proofs.one_to_one.differs_before.Statement.{statement}
-use Rattle.renumbering.proofs.one_to_one.differs_before.Tie as tie
+use Rattle.maps.proofs.differs_before.Statement.{statement}
+use Rattle.maps.proofs.differs_before.Tie as tie
 
 abbrev Inv-loop : tie.InvT-loop
 Inv-loop map i j₀ j = (j ≤ i) × (allBelow (λ k. not (eqb (getD map k 0) (getD map i 0))) j ≡ true)

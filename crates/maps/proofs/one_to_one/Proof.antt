@@ -9,8 +9,8 @@ use Rattle.octets.proofs.Index.{and-yes, and-no, all-none, all-more, all-fails,
 use Rattle.numbers.specs.Numbers.{portCount}
 use Rattle.rules.specs.Renumbering.{differsBefore, oneToOne}
 use borrow.Author.Needs.{needs}
-use Rattle.renumbering.proofs.one_to_one.one_to_one.Statement.{statement}
-use Rattle.renumbering.proofs.one_to_one.one_to_one.Tie as tie
+use Rattle.maps.proofs.one_to_one.Statement.{statement}
+use Rattle.maps.proofs.one_to_one.Tie as tie
 
 abbrev Inv-loop : tie.InvT-loop
 Inv-loop map i₀ i = (i ≤ portCount) × (allBelow (λ k. ltb (getD map k 0) portCount and differsBefore map k) i ≡ true)
