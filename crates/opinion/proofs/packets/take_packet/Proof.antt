@@ -6,33 +6,23 @@ use borrow.Author.Tests.{eq-eqb}
 use lib.ListN.{length}
 use lib.Dec.{eqb}
 use Prim.Native.Nat.{ℕ, _<_}
-use mathlib.Core.Path.{_≡_, refl, sym, ap, ap₂, subst, _∙_}
+use mathlib.Core.Path.{sym, ap, _∙_}
 use native.Mathlib.Omega.{arith}
 use borrow.Author.Needs.{needs}
 use Rattle.opinion.proofs.packets.take_packet.Statement.{statement}
 use Rattle.opinion.proofs.packets.take_packet.Tie as tie
-use Rattle.opinion.proofs.packets.take_packet.Reads as reads
-use Rattle.opinion.proofs.packets.take_packet.Lts as lts
-use Rattle.opinion.proofs.log.listed.Reads as listed-reads
-use Rattle.opinion.proofs.packets.judged.Reads as judged-reads
-use Rattle.opinion.proofs.refusing.packet_refusal.Reads as packet-refusal-reads
-use Rattle.opinion.proofs.writing.put_came.Reads as put-came-reads
 
--- src/packets.rt:89:9
 listed-requires : tie.Need-listed-requires
 listed-requires c κs = search needs
 
--- src/packets.rt:90:9
 packet-refusal-requires : tie.Need-packet-refusal-requires
 packet-refusal-requires c κs = (search needs, c .before .before .listed .ensures .1)
 
--- src/packets.rt:92:9
 returns : tie.Need-returns
 returns c =
     let log = c .before .before .before .before .before .before .before .before .before .args .log .now in
     packet-refused log _ _ _ (c .before .packet-refusal .ensures (c .before .before .before .before .before .before .before .before .before .args .signed) ∙ ap (λ (m : ℕ). packetRefused (ownIn log) (entriesOf log m) (arrivalBy (c .before .before .before .before .before .before .before .before .before .args .packet .now) (c .before .before .before .before .before .before .before .before .before .args .port) (c .before .before .before .before .before .before .before .before .before .args .clock) (c .before .before .before .before .before .before .before .before .before .args .signed)) (length (c .before .before .before .before .before .before .before .before .before .args .output .now))) (c .before .before .before .before .listed .ensures .0)) (c .if1 .taken)
 
--- src/packets.rt:94:9
 cast-t17 : tie.Need-cast-t17
 cast-t17 c =
     let log = c .before .before .before .before .before .before .before .before .before .args .log .now in
@@ -51,7 +41,6 @@ judged-requires c κs =
     let fine = accepted-packet log n a (length output) (eq-eqb _ 0 (sym (c .before .before .before .before .packet-refusal .ensures (c .before .before .before .before .before .before .before .before .before .before .before .before .args .signed)) ∙ c .before .before .before .if1 .left)) in
     (search needs, c .before .before .before .before .before .before .before .listed .ensures .1, fine .readable, fine .port, fine .clock, fine .wide)
 
--- src/packets.rt:95:5
 put-came-requires : tie.Need-put-came-requires
 put-came-requires c κs =
     let log = c .before .before .before .before .before .before .before .before .before .before .before .before .before .before .before .before .args .log .now in
@@ -61,11 +50,9 @@ put-came-requires c κs =
     let fine = accepted-packet log n a (length output) (eq-eqb _ 0 (sym (c .before .before .before .before .before .before .before .before .packet-refusal .ensures (c .before .before .before .before .before .before .before .before .before .before .before .before .before .before .before .before .args .signed)) ∙ c .before .before .before .before .before .before .before .if1 .left)) in
     (search needs, fine .few, fine .readable, fine .port, fine .clock)
 
--- src/packets.rt:73:1
 same-length : tie.Need-same-length
 same-length c = search needs
 
--- src/packets.rt:73:1
 returns-2 : tie.Need-returns-2
 returns-2 c =
     let log = c .before .before .before .before .before .before .before .before .before .before .before .before .before .before .before .before .before .args .log .now in

@@ -4,18 +4,12 @@ use Rattle.rules.specs.Relay.{Port}
 use Rattle.packet.specs.Read.{readingRefusal}
 use mathlib.Core.Bool.{not}
 use Prim.Native.Nat.{ℕ}
-use mathlib.Core.Path.{_≡_, refl, sym, ap, subst, _∙_}
+use mathlib.Core.Path.{sym, ap, _∙_}
 use native.Mathlib.Omega.{arith}
 use borrow.Author.Needs.{needs}
 use Rattle.opinion.proofs.refusing.packet_refusal.Statement.{statement}
 use Rattle.opinion.proofs.refusing.packet_refusal.Tie as tie
-use Rattle.opinion.proofs.refusing.packet_refusal.Reads as reads
-use Rattle.opinion.proofs.refusing.packet_refusal.Lts as lts
-use Rattle.opinion.proofs.ports.port_at.Reads as port-at-reads
-use Rattle.opinion.proofs.refusing.clock_bad.Reads as clock-bad-reads
-use Rattle.packet.proofs.reading_refusal.Reads as reading-refusal-reads
 
--- src/refusing.rt:37:9
 returns : tie.Need-returns
 returns c signed =
     let log = c .before .before .before .args .log .now in
@@ -24,7 +18,6 @@ returns c signed =
     let room : ℕ = c .before .before .before .args .room in
     row-full log n a room (omega arith)
 
--- src/refusing.rt:40:9
 returns-2 : tie.Need-returns-2
 returns-2 c signed =
     let log = c .before .before .before .before .args .log .now in
@@ -33,11 +26,9 @@ returns-2 c signed =
     let room : ℕ = c .before .before .before .before .args .room in
     row-room log n a room (omega arith) (omega arith)
 
--- src/refusing.rt:42:9
 port-at-requires : tie.Need-port-at-requires
 port-at-requires c κs = c .before .before .before .before .pre
 
--- src/refusing.rt:44:9
 returns-3 : tie.Need-returns-3
 returns-3 c signed =
     let log = c .before .before .before .before .before .before .before .args .log .now in
@@ -46,11 +37,9 @@ returns-3 c signed =
     let room : ℕ = c .before .before .before .before .before .before .before .args .room in
     row-port log n a room (omega arith) (omega arith) (ap (λ (p : Port). not (p .on)) (sym (c .before .before .port-at .ensures)) ∙ c .if3 .taken)
 
--- src/refusing.rt:46:8
 clock-bad-requires : tie.Need-clock-bad-requires
 clock-bad-requires c κs = c .before .before .before .before .before .before .before .pre
 
--- src/refusing.rt:47:9
 returns-4 : tie.Need-returns-4
 returns-4 c signed =
     let log = c .before .before .before .before .before .before .before .before .before .args .log .now in
@@ -59,11 +48,9 @@ returns-4 c signed =
     let room : ℕ = c .before .before .before .before .before .before .before .before .before .args .room in
     row-clock log n a room (omega arith) (omega arith) (ap (λ (p : Port). not (p .on)) (sym (c .before .before .before .before .port-at .ensures)) ∙ c .before .before .if3 .left) (sym (c .before .clock-bad .ensures) ∙ c .if4 .taken)
 
--- src/refusing.rt:49:5
 reading-refusal-requires : tie.Need-reading-refusal-requires
 reading-refusal-requires c κs = search needs
 
--- src/refusing.rt:31:1
 returns-5 : tie.Need-returns-5
 returns-5 c signed =
     let log = c .before .before .before .before .before .before .before .before .before .before .args .log .now in
