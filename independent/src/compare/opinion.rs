@@ -10,14 +10,14 @@ use crate::rules::Tuned;
 use crate::traffic::Traffic;
 use std::collections::BTreeMap;
 
-/// A list for so many random cases: a call walks through all that is listed, and takes milliseconds.
-const CASES: usize = 20;
+/// A list for so many random cases: a call walks through all that is listed.
+const CASES: usize = 2;
 /// So many lists where one difference is looked for.
 const FEW: usize = 40;
 /// So many calls find 64 listed, and then some after another fresh.
 const AFTER: usize = 12;
 /// Each thing that can be answered is answered at least so often, in runs of at least so many cases.
-const LEAST: usize = 10;
+const LEAST: usize = 100;
 const ENOUGH: usize = 2_000;
 
 /// The calls of random traffic from fresh on: until 64 are accepted, then more; then a fresh one, and the first calls again.
