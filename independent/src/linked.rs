@@ -4,8 +4,8 @@ use crate::announcing::Own;
 use crate::answer::{Refusal, Tally};
 use crate::core::{self, crossing, PartsBytes, SurveyBuffers, LINE};
 use crate::engine::{
-    decoded, encoded, fill, AnnounceCalls, AnswerCalls, Call, Engine, Fields, Outcome, PacketCall, PacketCalls,
-    RecordingCalls, SavedCalls, SurveyCalls,
+    decoded, encoded, fill, AnnounceCalls, AnswerCalls, Call, Engine, Fields, Outcome, PacketCall, PacketCalls, RecordingCalls, SavedCalls,
+    SurveyCalls,
 };
 use crate::opinion::{Opined, Opinion};
 use crate::packet::{Address, Blob, PacketHash, Parts};

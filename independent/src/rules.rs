@@ -2,9 +2,9 @@
 //! put in the place of one of them.
 
 pub use crate::announcing::{self, Own};
+pub use crate::answer::{self, no_way_on, Answer, Clause, NoWay, Reason, Refusal, Tally, Verdict, When};
 pub use crate::engine::Outcome;
 pub use crate::opinion;
-pub use crate::answer::{self, no_way_on, Answer, Clause, NoWay, Reason, Refusal, Tally, Verdict, When};
 pub use crate::packet::{self, announced, hash, Address, Blob, Header, PacketHash, Parts};
 pub use crate::recording::replaying::Judged;
 pub use crate::recording::{self, reading, replaying, writing, Entry};

@@ -71,7 +71,26 @@ fn the_comparison_notices_faults_in_surveys() {
 }
 
 /// One of each subject that 64 calls can show.
-const IN_FEW_CALLS: &[Fault] = &[];
+const IN_FEW_CALLS: &[Fault] = &[
+    faults::LocalsFullFirst,
+    faults::RenumberingBackwards,
+    faults::EqualClockRefused,
+    faults::DuplicateRenews,
+    faults::KeepaliveNotExempt,
+    faults::LastBlobEmission,
+    faults::ExpiryNeverShrinks,
+    faults::GraceBlocks,
+    faults::EqualDoesNotRevive,
+    faults::MarkStaysOnSpread,
+    faults::PathLivesAtExpiry,
+    faults::LinkProofTwice,
+    faults::HopsSwapped,
+    faults::ReceiptKeepsRecord,
+    faults::SpreadToOffPorts,
+    faults::RestZeroed,
+    faults::LengthAsItCameIn,
+    faults::LastClauseNamed,
+];
 
 #[test]
 #[cfg_attr(debug_assertions, ignore = "takes minutes without --release")]

@@ -6,8 +6,8 @@
 
 #include <string.h>
 
-/* A call walks through all that is listed, and takes milliseconds: so many fresh relays are enough. */
-enum { RELAYS = 6 };
+/* A call walks through all that is listed, under valgrind too: so many fresh relays are enough. */
+enum { RELAYS = 40 };
 
 /* Where a log has the number of calls listed. */
 enum { COUNT_AT = 16 };
@@ -33,6 +33,7 @@ struct opinion opinion_new(void)
 
 void opinion_free(struct opinion *opinion)
 {
+    expect("some calls found 64 listed", opinion->full > 0, 1);
     buffer_free(&opinion->log);
 }
 
@@ -104,6 +105,7 @@ void opinion_ask(struct opinion *opinion, const struct listed *call, const struc
     if (ask == OPINION_FRESH) {
         opinion->listed = 0;
     } else if (is_refused(ask, number)) {
+        opinion->full += number == refused(ask, HASKUMYE_REFUSAL_LIST_FULL);
         expect("a refusal leaves the log", sum_of(0, use.log.bytes, use.log.length), before);
     } else {
         opinion->listed++;

@@ -9,10 +9,13 @@ struct opinion {
     struct buffer log;
     unsigned listed;   /* calls that it did not refuse */
     unsigned relays;   /* fresh relays that it was asked along with */
+    unsigned full;     /* calls that found 64 listed */
     bool goes_along;   /* whether it was asked all that the relay was since fresh */
 };
 
 struct opinion opinion_new(void);
+
+/* Expects, too, that some calls found 64 listed. */
 void opinion_free(struct opinion *opinion);
 
 /* The relay's tables are written by someone else: until the next fresh one nothing is asked. */

@@ -75,9 +75,8 @@ fn both_answer_alike() {
     let receipt_for = packet_hash(&count).unwrap()[..16].try_into().unwrap();
     let receipt = packet(Parts { header: PACKET_PROOF, destination: receipt_for, ..Parts::default() }, &[0; 64]);
     assert_eq!(both.packet(&receipt, 14, 13), Ok(Verdict::Forward { port: 13, length: 83 }));
-    let mark = |clock| (move |relay: &mut Relay| relay.mark_path_unresponsive(&destination, clock), clock);
-    let (marked, clock) = mark(14);
-    both.settled(marked, |opinion| opinion.mark_path_unresponsive(&destination, clock)).unwrap();
+    let mark = |relay: &mut Relay| relay.mark_path_unresponsive(&destination, 14);
+    both.settled(mark, |opinion| opinion.mark_path_unresponsive(&destination, 14)).unwrap();
     let local = packet(Parts { destination: LOCAL, ..Parts::default() }, b"7");
     assert_eq!(both.packet(&local, 15, 15), Ok(Verdict::Deliver { payload: 19 }));
     both.settled(|relay| relay.remove_local(&LOCAL), |opinion| opinion.remove_local(&LOCAL)).unwrap();

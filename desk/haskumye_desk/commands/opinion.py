@@ -14,7 +14,7 @@ from ..replaying import read_recordings
 from ..second import Answers, Both, text
 from ..sentences import counted, say
 
-WIDTH = 28  # of the core's answers; a spread by many ports is wider
+WIDTH = 31  # of a replay's line; one of a spread by many ports is wider
 
 
 def add_arguments(parser: argparse.ArgumentParser) -> None:
@@ -31,7 +31,7 @@ def run(options: argparse.Namespace) -> int:
     with Progress("packets asked", recording.packets) as progress:
         for number, recorded in enumerate(haskumye.entries(recording.data), 1):
             answers = both.packet(recorded)
-            print(f"{number} {text(answers.core):{WIDTH}} {text(answers.opinion)}")
+            print(f"{f'{number} {text(answers.core)}':{WIDTH}} {text(answers.opinion)}")
             asked.append(answers)
             progress.at(number)
     return _sum_up(asked)

@@ -241,7 +241,12 @@ fn swapped_and_missing_arguments_are_seen() {
 #[test]
 fn widths_are_seen() {
     assert_seen(&[
-        (HEADER, "size_t length, uint64_t port, uint8_t on,", "size_t length, uint64_t port, uint16_t on,", "haskumye_set_port: argument 4 is `on: u16` in the header, `on: u8` in Rust"),
+        (
+            HEADER,
+            "size_t length, uint64_t port, uint8_t on,",
+            "size_t length, uint64_t port, uint16_t on,",
+            "haskumye_set_port: argument 4 is `on: u16` in the header, `on: u8` in Rust",
+        ),
         (
             HEADER,
             "uint8_t haskumye_check_tables",
