@@ -60,6 +60,7 @@ extern "C" {
 #define HASKUMYE_ENTRY_WIDTH 12 /* an entry as haskumye_write_recording takes it */
 #define HASKUMYE_SAVED_SIZE 103108 /* what haskumye_save writes, exactly; haskumye_saved_size() says the same */
 #define HASKUMYE_LONGEST_SAVED 524332 /* no saved file of any edition is longer */
+#define HASKUMYE_LOG_SIZE 32721 /* a second opinion's log, exactly */
 
 /* Limits: how many of each a relay has room for. */
 #define HASKUMYE_PORT_COUNT 16    /* ports 0 to 15 */
@@ -69,6 +70,7 @@ extern "C" {
 #define HASKUMYE_RETURN_COUNT 512 /* receipts under way */
 #define HASKUMYE_HASH_COUNT 1024  /* remembered packets */
 #define HASKUMYE_CLOCK_LIMIT UINT64_C(1099511627776) /* seconds: every clock is below 2^40 */
+#define HASKUMYE_LIST_LIMIT 64    /* accepted calls that a second opinion lists */
 
 /* Of a survey. */
 #define HASKUMYE_RECORDING_LIMIT 16 /* recordings that are read */
@@ -153,6 +155,7 @@ enum haskumye_refusal {
     HASKUMYE_REFUSAL_ROOM = 25,           /* too little room for what is to be written; loading: not the tables' size */
     HASKUMYE_REFUSAL_ANNOUNCE_PART = 26,  /* a key, name hash, random, ratchet or signature of wrong length */
     HASKUMYE_REFUSAL_ANNOUNCE_TOO_LONG = 27, /* an announce over 500 bytes once built */
+    HASKUMYE_REFUSAL_LIST_FULL = 28,      /* a call of a second opinion that has listed 64 */
     HASKUMYE_REFUSAL_SURVEY_FULL = 29     /* a 17th recording of a survey */
 };
 
@@ -328,6 +331,11 @@ typedef struct {
     char bytes[HASKUMYE_TEXT_SIZE];
 } haskumye_text;
 
+/* What a second opinion keeps. Its bytes are its own; any bytes are a log. */
+typedef struct {
+    uint8_t bytes[HASKUMYE_LOG_SIZE];
+} haskumye_log;
+
 /* A time or clock in seconds, big-endian, so that the structs below have no padding: haskumye_seconds says it. */
 typedef struct {
     uint8_t bytes[8];
@@ -439,6 +447,7 @@ HASKUMYE_ASSERT_SIZE(haskumye_parts, 35);
 HASKUMYE_ASSERT_SIZE(haskumye_entry, 40);
 HASKUMYE_ASSERT_SIZE(haskumye_port_map, 16);
 HASKUMYE_ASSERT_SIZE(haskumye_text, HASKUMYE_TEXT_SIZE);
+HASKUMYE_ASSERT_SIZE(haskumye_log, HASKUMYE_LOG_SIZE);
 HASKUMYE_ASSERT_SIZE(haskumye_tally, 24);
 HASKUMYE_ASSERT_SIZE(haskumye_time, 8);
 HASKUMYE_ASSERT_SIZE(haskumye_size, 2);
@@ -532,6 +541,42 @@ HASKUMYE_CHECKED haskumye_answer haskumye_packet(const uint8_t *packet, size_t l
  * a replay's line, without a line feed. Returns their length, 0 for a number whose kind is none of haskumye_kind.
  */
 size_t haskumye_answer_text(haskumye_answer answer, haskumye_text *text);
+
+/*
+ * ---- The second opinion: the calls of a relay, answered from the list of accepted ones alone. ----
+ * For checking: an engine without tables, slow and short, that is proved to answer as the relay does from fresh on,
+ * output bytes too, while fewer than HASKUMYE_LIST_LIMIT calls are listed. One thing it need not know: where a relay
+ * drops by 6.3 it says 6.2. It lists each call that it does not refuse, drops and settings too, and forgets none: with
+ * 64 listed every call is refused by 28, before all other refusals, until the next fresh. It has no load, save or
+ * replay, no questions and no tally.
+ * Each call takes what the relay's call of that name takes, but for the log in the place of the tables, and refuses as
+ * that one does, but for 28 in the place of 7.
+ */
+
+/* Makes a log in which nothing is listed. What it held does not matter. */
+void haskumye_opinion_fresh(haskumye_log *log, const haskumye_address *own);
+
+/* The answer to a packet, as haskumye_packet gives it. Refusals, in this order: 28, 6, 4, 5, 1, 2, 3, 1. */
+HASKUMYE_CHECKED haskumye_answer haskumye_opinion_packet(const uint8_t *packet, size_t length, uint64_t port,
+                                                         uint64_t clock, uint8_t signed_well, haskumye_log *log,
+                                                         uint8_t *output, size_t room);
+
+/* Refusals: 28, 9. */
+HASKUMYE_CHECKED uint8_t haskumye_opinion_set_port(haskumye_log *log, uint64_t port, uint8_t on, uint64_t mode,
+                                                   uint64_t size);
+HASKUMYE_CHECKED uint8_t haskumye_opinion_set_announce_rate(haskumye_log *log, uint64_t target, uint64_t grace,
+                                                            uint64_t penalty);
+
+/* Refusals: 28, 11, 10 of adding; 28, 11 of removing. */
+HASKUMYE_CHECKED uint8_t haskumye_opinion_add_local(haskumye_log *log, const haskumye_address *address);
+HASKUMYE_CHECKED uint8_t haskumye_opinion_remove_local(haskumye_log *log, const haskumye_address *address);
+
+/* Refusals: 28, 5, 12. */
+HASKUMYE_CHECKED uint8_t haskumye_opinion_mark_path_unresponsive(haskumye_log *log, const haskumye_address *destination,
+                                                                 uint64_t clock);
+
+/* Refusals: 28, 8. */
+HASKUMYE_CHECKED uint8_t haskumye_opinion_renumber(haskumye_log *log, const haskumye_port_map *map);
 
 /*
  * ---- Saved files: a relay's tables and tally in one file, which this library and later ones load. ----
@@ -760,6 +805,7 @@ static inline const char *haskumye_refusal_words(unsigned refusal)
     case HASKUMYE_REFUSAL_ROOM: return "too little room (loading: not the tables' size)";
     case HASKUMYE_REFUSAL_ANNOUNCE_PART: return "key, name, random, ratchet or signature of wrong length";
     case HASKUMYE_REFUSAL_ANNOUNCE_TOO_LONG: return "announce over 500 once built";
+    case HASKUMYE_REFUSAL_LIST_FULL: return "the second opinion lists 64 calls already";
     case HASKUMYE_REFUSAL_SURVEY_FULL: return "a 17th recording of a survey";
     default: return "unknown";
     }

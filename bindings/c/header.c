@@ -163,6 +163,33 @@ static void check_relay_calls(void)
     CHECK(HASKUMYE_ANSWER_KIND(answer) == HASKUMYE_DROP);
 }
 
+static void check_opinion_calls(void)
+{
+    static haskumye_log log;
+    static const haskumye_address address = {{1}};
+    static haskumye_port_map map;
+    static uint8_t output[HASKUMYE_OUTPUT_SIZE], packet[HASKUMYE_SHORTEST_PACKET];
+    haskumye_opinion_fresh(&log, &address);
+    CHECK(haskumye_opinion_set_port(&log, 0, HASKUMYE_ON, HASKUMYE_MODE_ROAMING, 18) == HASKUMYE_REFUSAL_SETTING);
+    CHECK(haskumye_opinion_set_port(&log, 256, HASKUMYE_ON, HASKUMYE_MODE_ROAMING, 255) == HASKUMYE_REFUSAL_SETTING);
+    CHECK(haskumye_opinion_set_port(&log, 0, HASKUMYE_ON, HASKUMYE_MODE_ROAMING, 255) == HASKUMYE_REFUSAL_NONE);
+    CHECK(haskumye_opinion_set_announce_rate(&log, 0, 255, 0) == HASKUMYE_REFUSAL_SETTING);
+    CHECK(haskumye_opinion_remove_local(&log, &address) == HASKUMYE_REFUSAL_LOCAL_ADDRESS);
+    CHECK(haskumye_opinion_add_local(&log, &address) == HASKUMYE_REFUSAL_NONE);
+    CHECK(haskumye_opinion_mark_path_unresponsive(&log, &address, 1) == HASKUMYE_REFUSAL_NO_LIVE_PATH);
+    CHECK(haskumye_opinion_renumber(&log, &map) == HASKUMYE_REFUSAL_MAP);
+    haskumye_answer answer = haskumye_opinion_packet(NULL, 0, 0, 0, 0, &log, NULL, 0);
+    CHECK(HASKUMYE_ANSWER_REFUSAL(answer) == HASKUMYE_REFUSAL_OUTPUT);
+    answer = haskumye_opinion_packet(packet, sizeof packet, 0, 0, 0, &log, output, sizeof output);
+    CHECK(HASKUMYE_ANSWER_KIND(answer) == HASKUMYE_DROP);
+    for (int listed = 3; listed < HASKUMYE_LIST_LIMIT; listed++) {
+        CHECK(haskumye_opinion_set_announce_rate(&log, 0, 0, 0) == HASKUMYE_REFUSAL_NONE);
+    }
+    CHECK(haskumye_opinion_set_announce_rate(&log, 0, 255, 0) == HASKUMYE_REFUSAL_LIST_FULL);
+    answer = haskumye_opinion_packet(NULL, 0, 0, 0, 0, &log, NULL, 0);
+    CHECK(HASKUMYE_ANSWER_REFUSAL(answer) == HASKUMYE_REFUSAL_LIST_FULL);
+}
+
 static void check_saving_calls(void)
 {
     static const haskumye_address address = {{1}};
@@ -314,6 +341,7 @@ int main(int count, char **words)
     check_reasons();
     check_packet_calls();
     check_relay_calls();
+    check_opinion_calls();
     check_saving_calls();
     check_questions();
     check_announce_calls();

@@ -36,6 +36,7 @@ RECORDING_SIZE = 60000
 ENTRY_WIDTH = 12
 SAVED_SIZE = 103108
 LONGEST_SAVED = 524332
+LOG_SIZE = 32721
 PORT_COUNT = 16
 LOCAL_COUNT = 16
 PATH_COUNT = 64
@@ -47,6 +48,7 @@ RECORDING_LIMIT = 16
 SURVEY_LINES = 49
 COUNTER_COUNT = 79
 REFUSAL_COUNT = 18
+LIST_LIMIT = 64
 TARGET_LIMIT = 86400
 GRACE_LIMIT = 254
 PENALTY_LIMIT = 604800
@@ -110,6 +112,7 @@ class Refusal(Words):
     ROOM = 25, "too little room (loading: not the tables' size)"
     ANNOUNCE_PART = 26, "key, name, random, ratchet or signature of wrong length"
     ANNOUNCE_TOO_LONG = 27, "announce over 500 once built"
+    LIST_FULL = 28, "the second opinion lists 64 calls already"
     SURVEY_FULL = 29, "a 17th recording of a survey"
 
 
@@ -364,6 +367,14 @@ FUNCTIONS = {
     "haskumye_renumber": (c_uint8, [*_BUFFER, _GIVEN]),
     "haskumye_packet": (c_uint64, [*_BYTES, c_uint64, c_uint64, c_uint8, *_BUFFER, *_BUFFER, _TAKEN]),
     "haskumye_answer_text": (c_size_t, [c_uint64, _TAKEN]),
+    "haskumye_opinion_fresh": (None, [_TAKEN, _GIVEN]),
+    "haskumye_opinion_packet": (c_uint64, [*_BYTES, c_uint64, c_uint64, c_uint8, _TAKEN, *_BUFFER]),
+    "haskumye_opinion_set_port": (c_uint8, [_TAKEN, c_uint64, c_uint8, c_uint64, c_uint64]),
+    "haskumye_opinion_set_announce_rate": (c_uint8, [_TAKEN, c_uint64, c_uint64, c_uint64]),
+    "haskumye_opinion_add_local": (c_uint8, [_TAKEN, _GIVEN]),
+    "haskumye_opinion_remove_local": (c_uint8, [_TAKEN, _GIVEN]),
+    "haskumye_opinion_mark_path_unresponsive": (c_uint8, [_TAKEN, _GIVEN, c_uint64]),
+    "haskumye_opinion_renumber": (c_uint8, [_TAKEN, _GIVEN]),
     "haskumye_saved_size": (c_size_t, []),
     "haskumye_save": (c_uint64, [*_BYTES, _GIVEN, *_BUFFER]),
     "haskumye_load": (c_uint8, [*_BYTES, *_BUFFER, _TAKEN]),
@@ -788,6 +799,48 @@ class Survey:
         line, counts, refusals = ctypes.create_string_buffer(TEXT_SIZE), bytes(self._counts), bytes(self._refusals)
         lengths = (_library.haskumye_survey_line(counts, refusals, place, line) for place in range(SURVEY_LINES))
         return "".join(line.raw[:length].decode("ascii") for length in lengths)
+
+
+class SecondOpinion:
+    """A plain engine for checking, which lists the accepted calls since fresh, up to LIST_LIMIT, and has no tables. It is proved to answer as a Relay
+    does from fresh on, what leaves too; where a relay drops by 6.3 it says 6.2. With 64 calls listed it refuses every call by 28, before all other
+    refusals. It has no load, save or replay, no questions and no tally. Its calls are those of Relay, and refused as those are but for 28."""
+
+    def __init__(self, own):
+        """One that has listed nothing, of a relay with this address of its own."""
+        self._log, self._output = ctypes.create_string_buffer(LOG_SIZE), ctypes.create_string_buffer(OUTPUT_SIZE)
+        _library.haskumye_opinion_fresh(self._log, _exactly(own, 16, "an address"))
+
+    def packet(self, packet, port, clock, signed=False):
+        """What becomes of a packet, as Relay.packet tells it."""
+        packet = _bytes(packet)
+        log, output, word = self._log, self._output, 1 if signed else 0
+        number = _library.haskumye_opinion_packet(packet, len(packet), _number(port), _number(clock), word, log, output, OUTPUT_SIZE)
+        return _answer(number, packet, output)
+
+    def set_port(self, port, on, mode, size):
+        """Sets a port on or off, its mode and its size. Refusals 28 and 9."""
+        _done(_library.haskumye_opinion_set_port(self._log, _number(port), ON if on else OFF, _number(mode), _number(size)))
+
+    def set_announce_rate(self, target, grace, penalty):
+        """Sets how often every destination may announce itself. Refusals 28 and 9."""
+        _done(_library.haskumye_opinion_set_announce_rate(self._log, _number(target), _number(grace), _number(penalty)))
+
+    def add_local(self, address):
+        """Adds a local address. Refusals 28, 11 and 10."""
+        _done(_library.haskumye_opinion_add_local(self._log, _exactly(address, 16, "an address")))
+
+    def remove_local(self, address):
+        """Removes one. Refusals 28 and 11."""
+        _done(_library.haskumye_opinion_remove_local(self._log, _exactly(address, 16, "an address")))
+
+    def mark_path_unresponsive(self, destination, clock):
+        """Marks a destination's live path unresponsive. Refusals 28, 5 and 12."""
+        _done(_library.haskumye_opinion_mark_path_unresponsive(self._log, _exactly(destination, 16, "an address"), _number(clock)))
+
+    def renumber(self, ports):
+        """Renumbers the ports: port i becomes ports[i]. Refusals 28 and 8."""
+        _done(_library.haskumye_opinion_renumber(self._log, _exactly(bytes(ports), 16, "a map")))
 
 
 def _path(told):

@@ -28,6 +28,7 @@ from haskumye import (
     Refusal,
     Refused,
     Relay,
+    SecondOpinion,
     Spread,
     Tally,
 )
@@ -368,6 +369,68 @@ class TestQuestions(unittest.TestCase):
             with self.assertRaises(Refused) as caught:
                 box.signature_matters(*arguments)
             self.assertEqual(caught.exception.refusal, refusal)
+
+
+class TestSecondOpinion(unittest.TestCase):
+    """A relay and a second opinion, which are asked the same."""
+
+    def setUp(self):
+        self.engines = [Relay(OWN), SecondOpinion(OWN)]
+        self.accepted = 0
+
+    def asked(self, call, *arguments, **named):
+        """What both answer, or the refusal by which both refuse."""
+        answers = []
+        for engine in self.engines:
+            try:
+                answers.append(getattr(engine, call)(*arguments, **named))
+            except Refused as refused:
+                answers.append(refused.refusal)
+        self.accepted += not isinstance(answers[0], Refusal)
+        if isinstance(answers[0], Drop) and answers[0].clause == NoWayOn.ONLY_EXPIRED:
+            answers[0] = Drop(Reason.NO_WAY_ON, NoWayOn.NO_PATH)
+        self.assertEqual(answers[0], answers[1])
+        return answers[0]
+
+    def test_answers_are_those_of_a_relay(self):
+        packet, destination = announce()
+        count = data(destination, b"42 plants")
+        receipt = haskumye.write(Parts(header=haskumye.PACKET_PROOF, destination=haskumye.packet_hash(count)[:16]), bytes(64))
+        for port in range(3):
+            self.assertIsNone(self.asked("set_port", port, True, Mode.ROAMING, 300))
+        self.assertEqual(self.asked("set_port", 16, True, Mode.BOUNDARY, 500), Refusal.SETTING)
+        self.assertIsNone(self.asked("set_announce_rate", 60, 0, 100))
+        self.assertIsNone(self.asked("add_local", DESK))
+        self.assertEqual(self.asked("add_local", DESK), Refusal.LOCAL_ADDRESS)
+        self.assertEqual(self.asked("packet", packet, 1, 10, signed=True).ports, (0, 2))
+        self.assertEqual(self.asked("packet", announce(2)[0], 1, 20, signed=True), Drop(Reason.RATE_LIMITED))
+        self.assertEqual(self.asked("packet", count, 2, 21).port, 1)
+        self.assertIsNone(self.asked("renumber", [5, 6, 7, 0, 1, 2, 3, 4, *range(8, 16)]))
+        self.assertEqual(self.asked("packet", receipt, 6, 22).port, 7)
+        self.assertIsNone(self.asked("mark_path_unresponsive", destination, 23))
+        self.assertEqual(self.asked("mark_path_unresponsive", DESK, 23), Refusal.NO_LIVE_PATH)
+        self.assertEqual(self.asked("packet", haskumye.write(Parts(destination=DESK), b"7"), 5, 24), Deliver(b"7"))
+        self.assertIsNone(self.asked("remove_local", DESK))
+        self.assertEqual(self.asked("packet", count, 5, 30_000), Drop(Reason.NO_WAY_ON, NoWayOn.NO_PATH))
+        self.assertEqual(self.asked("packet", bytes(18), 5, 30_000), Refusal.TOO_SHORT)
+
+    def test_64_calls_are_listed(self):
+        opinion = self.engines[1]
+        for number in range(haskumye.LIST_LIMIT):
+            self.assertIsNone(self.asked("set_port", number % 16, True, Mode.BOUNDARY, 500))
+        self.assertEqual(self.accepted, haskumye.LIST_LIMIT)
+        for call in (
+            lambda: opinion.packet(bytes(18), 99, 0),
+            lambda: opinion.set_port(99, True, Mode.BOUNDARY, 500),
+            lambda: opinion.set_announce_rate(0, 0, 0),
+            lambda: opinion.add_local(DESK),
+            lambda: opinion.remove_local(DESK),
+            lambda: opinion.mark_path_unresponsive(DESK, 0),
+            lambda: opinion.renumber([0] * 16),
+        ):
+            with self.assertRaises(Refused) as raised:
+                call()
+            self.assertEqual(raised.exception.refusal, Refusal.LIST_FULL)
 
 
 class TestRecordings(unittest.TestCase):

@@ -17,9 +17,9 @@ def facts(relay: haskumye.Relay, clock: int) -> Facts:
         "last_clock": relay.last_clock,
         "ports": [port_facts(relay, number) for number in range(haskumye.PORT_COUNT)],
         "announce_rate": relay.announce_rate._asdict(),
-        "local_addresses": [address.hex() for address in _filled(relay.local, haskumye.LOCAL_COUNT)],
-        "paths": [path_facts(path, clock) for path in _filled(relay.path, haskumye.PATH_COUNT)],
-        "links": [link_facts(link, clock) for link in _filled(relay.link, haskumye.LINK_COUNT)],
+        "local_addresses": [address.hex() for address in filled(relay.local, haskumye.LOCAL_COUNT)],
+        "paths": [path_facts(path, clock) for path in filled(relay.path, haskumye.PATH_COUNT)],
+        "links": [link_facts(link, clock) for link in filled(relay.link, haskumye.LINK_COUNT)],
         "receipts_under_way": relay.live_returns(clock),
         "packets_remembered": relay.live_hashes(clock),
         "tally": relay.tally._asdict(),
@@ -31,7 +31,7 @@ def own_address(relay: haskumye.Relay) -> bytes:
     return relay.tables[:16]
 
 
-def _filled(question: Callable[[int], Any], count: int) -> Iterator[Any]:
+def filled(question: Callable[[int], Any], count: int) -> Iterator[Any]:
     """What stands in a table, without its empty places."""
     return (told for told in map(question, range(count)) if told is not None)
 

@@ -58,6 +58,7 @@ listed! {
         Room = 25,
         PartLength = 26,
         AnnounceLength = 27,
+        ListFull = 28,
         TooManyRecordings = 29,
     }
 }
@@ -239,7 +240,7 @@ mod tests {
     #[test]
     fn refusals_have_the_documents_numbers() {
         for number in 0..=255 {
-            let refusal = matches!(number, 1..=12 | 20..=27 | 29);
+            let refusal = matches!(number, 1..=12 | 20..=29);
             assert_eq!(Refusal::from_number(number).map(Refusal::number), refusal.then_some(number));
         }
     }

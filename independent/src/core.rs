@@ -175,6 +175,40 @@ pub fn answer_text(answer: u64, text: &mut [u8; LINE]) -> usize {
     unsafe { haskumye_answer_text(answer, text) }
 }
 
+/// The refusal number of each call on a log, 0 for none; a packet call's answer as one number.
+pub fn opinion_fresh(log: &mut Log, own: &Address) {
+    unsafe { haskumye_opinion_fresh(log, own) }
+}
+
+pub fn opinion_packet(packet: &[u8], port: u64, clock: u64, signed: u8, log: &mut Log, output: &mut [u8]) -> u64 {
+    let (output, room) = (output.as_mut_ptr(), output.len());
+    unsafe { haskumye_opinion_packet(packet.as_ptr(), packet.len(), port, clock, signed, log, output, room) }
+}
+
+pub fn opinion_set_port(log: &mut Log, port: u64, on: u8, mode: u64, size: u64) -> u8 {
+    unsafe { haskumye_opinion_set_port(log, port, on, mode, size) }
+}
+
+pub fn opinion_set_announce_rate(log: &mut Log, rate: &AnnounceRate) -> u8 {
+    unsafe { haskumye_opinion_set_announce_rate(log, rate.target, rate.grace, rate.penalty) }
+}
+
+pub fn opinion_add_local(log: &mut Log, address: &Address) -> u8 {
+    unsafe { haskumye_opinion_add_local(log, address) }
+}
+
+pub fn opinion_remove_local(log: &mut Log, address: &Address) -> u8 {
+    unsafe { haskumye_opinion_remove_local(log, address) }
+}
+
+pub fn opinion_mark_path_unresponsive(log: &mut Log, destination: &Address, clock: u64) -> u8 {
+    unsafe { haskumye_opinion_mark_path_unresponsive(log, destination, clock) }
+}
+
+pub fn opinion_renumber(log: &mut Log, map: &[u8; 16]) -> u8 {
+    unsafe { haskumye_opinion_renumber(log, map) }
+}
+
 /// A file's refusal, 20 to 23, or 0.
 pub fn check_recording(file: &[u8]) -> u8 {
     unsafe { haskumye_check_recording(file.as_ptr(), file.len()) }

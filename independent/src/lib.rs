@@ -11,6 +11,7 @@ pub mod files;
 pub mod limits;
 pub mod line;
 pub mod linked;
+pub mod opinion;
 pub mod packet;
 pub mod programs;
 pub mod random;

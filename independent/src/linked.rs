@@ -4,13 +4,15 @@ use crate::announcing::Own;
 use crate::answer::{Refusal, Tally};
 use crate::core::{self, crossing, PartsBytes, SurveyBuffers, LINE};
 use crate::engine::{
-    decoded, encoded, AnnounceCalls, AnswerCalls, Engine, Fields, Outcome, PacketCalls, RecordingCalls, SavedCalls, SurveyCalls,
+    decoded, encoded, fill, AnnounceCalls, AnswerCalls, Call, Engine, Fields, Outcome, PacketCall, PacketCalls, RecordingCalls, SavedCalls,
+    SurveyCalls,
 };
+use crate::opinion::{Opined, Opinion};
 use crate::packet::{Address, Blob, PacketHash, Parts};
 use crate::relay::asking::Question;
 use crate::relay::Arrival;
 use crate::tables::AnnounceRate;
-use haskumye::raw::SURVEY_LINES;
+use haskumye::raw::{Log, LOG_SIZE, SURVEY_LINES};
 
 /// The core keeps nothing between calls: all is in the caller's bytes.
 pub struct Core;
@@ -93,6 +95,48 @@ impl Engine for Core {
             VERIFY => Outcome::Matters(true),
             number => refused(number),
         }
+    }
+}
+
+/// The proved second opinion, with the log and the output that its calls are lent.
+pub struct SecondOpinion {
+    log: Box<Log>,
+    output: Vec<u8>,
+}
+
+impl Default for SecondOpinion {
+    fn default() -> Self {
+        let log = vec![0xee; LOG_SIZE].into_boxed_slice().try_into().expect("bytes of that number");
+        Self { log, output: Vec::new() }
+    }
+}
+
+impl Opinion for SecondOpinion {
+    fn make(&mut self, call: &Call) -> Opined {
+        let before = self.log.to_vec();
+        let log = &mut *self.log;
+        self.output.clear();
+        let outcome = match call {
+            Call::Fresh(own) => {
+                core::opinion_fresh(log, own);
+                Outcome::Done
+            }
+            Call::Packet(PacketCall { packet, port, clock, signature, output, fill: byte }) => {
+                fill(&mut self.output, *output, *byte);
+                judged(core::opinion_packet(packet, *port, *clock, u8::from(*signature), log, &mut self.output), packet)
+            }
+            Call::SetPort { port, on, mode, size } => done(core::opinion_set_port(log, *port, u8::from(*on), *mode, *size)),
+            Call::SetAnnounceRate(rate) => done(core::opinion_set_announce_rate(log, rate)),
+            Call::Mark { destination, clock } => done(core::opinion_mark_path_unresponsive(log, destination, *clock)),
+            Call::AddLocal(address) => done(core::opinion_add_local(log, address)),
+            Call::RemoveLocal(address) => done(core::opinion_remove_local(log, address)),
+            Call::Renumber(map) => done(core::opinion_renumber(log, map)),
+            _ => panic!("{call} is no call of a second opinion"),
+        };
+        if matches!(outcome, Outcome::Refused(_)) {
+            assert!(before == self.log[..], "a refusal leaves the log: {call}");
+        }
+        Opined { outcome, output: self.output.clone() }
     }
 }
 

@@ -3,6 +3,8 @@
 
 pub use crate::announcing::{self, Own};
 pub use crate::answer::{self, no_way_on, Answer, Clause, NoWay, Reason, Refusal, Tally, Verdict, When};
+pub use crate::engine::Outcome;
+pub use crate::opinion;
 pub use crate::packet::{self, announced, hash, Address, Blob, Header, PacketHash, Parts};
 pub use crate::recording::replaying::Judged;
 pub use crate::recording::{self, reading, replaying, writing, Entry};
@@ -219,6 +221,10 @@ macro_rules! every_rule {
             loading::body_lengths_allowed(file: &[u8]) -> bool;
             loading::loading_room_refused(tables: &[u8]) -> bool;
             loading::put_loaded(file: &[u8], tables: &mut [u8], tally: &mut Tally);
+
+            opinion::opined(listed: usize, outcome: Outcome) -> Outcome;
+            opinion::is_listed(outcome: &Outcome) -> bool;
+            opinion::listed_when_fresh(listed: usize) -> usize;
 
             survey::started(&rules, loaded: &[u8]) -> Vec<u8>;
             survey::tables_before(start: &[u8], left: &[u8]) -> Vec<u8>;

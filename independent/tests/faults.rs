@@ -2,9 +2,11 @@
 
 use haskumye_independent::compare::announcing::programs_differ;
 use haskumye_independent::compare::faults::packets_differ;
-use haskumye_independent::compare::{saved, survey};
+use haskumye_independent::compare::{opinion, saved, survey};
 use haskumye_independent::compare::{tables::compare_with, Options, Tally, SUBJECTS};
-use haskumye_independent::faults::{self, OF_ANNOUNCING, OF_PACKETS, OF_SAVED, OF_SURVEYS, OF_TABLES};
+use haskumye_independent::faults::{self, Fault, OF_ANNOUNCING, OF_OPINIONS, OF_PACKETS, OF_SAVED, OF_SURVEYS, OF_TABLES};
+use haskumye_independent::linked::SecondOpinion;
+use haskumye_independent::opinion::Plain;
 use haskumye_independent::relay::Relay;
 use haskumye_independent::rules::Tuned;
 
@@ -65,6 +67,38 @@ fn the_comparison_notices_faults_in_surveys() {
     assert!(!survey::programs_differ(&Relay::as_written(), &Relay::new(Tuned)));
     for fault in OF_SURVEYS.concat() {
         assert!(survey::programs_differ(&Relay::new(Tuned), &fault.relay()), "{}", fault.text);
+    }
+}
+
+/// One of each subject that 64 calls can show.
+const IN_FEW_CALLS: &[Fault] = &[
+    faults::LocalsFullFirst,
+    faults::RenumberingBackwards,
+    faults::EqualClockRefused,
+    faults::DuplicateRenews,
+    faults::KeepaliveNotExempt,
+    faults::LastBlobEmission,
+    faults::ExpiryNeverShrinks,
+    faults::GraceBlocks,
+    faults::EqualDoesNotRevive,
+    faults::MarkStaysOnSpread,
+    faults::PathLivesAtExpiry,
+    faults::LinkProofTwice,
+    faults::HopsSwapped,
+    faults::ReceiptKeepsRecord,
+    faults::SpreadToOffPorts,
+    faults::RestZeroed,
+    faults::LengthAsItCameIn,
+    faults::LastClauseNamed,
+];
+
+#[test]
+#[cfg_attr(debug_assertions, ignore = "takes minutes without --release")]
+fn the_second_opinion_is_not_that_of_a_faulty_relay() {
+    assert!(!opinion::opinions_differ(&mut SecondOpinion::default(), &mut Plain::new(Relay::new(Tuned))));
+    for fault in OF_OPINIONS.concat().iter().chain(IN_FEW_CALLS) {
+        let mut faulty = Plain::by(fault.relay(), fault.rules());
+        assert!(opinion::opinions_differ(&mut SecondOpinion::default(), &mut faulty), "{}", fault.text);
     }
 }
 

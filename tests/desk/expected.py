@@ -7,6 +7,7 @@ import tempfile
 
 from example_site import make_site
 
+import haskumye
 from haskumye_desk import files, gathered
 from haskumye_desk.replaying import Event, read_recordings, replay
 
@@ -16,11 +17,25 @@ COUNTED = {"day": gathered.day, "drops": gathered.drops, "bytes": gathered.port_
 
 def cold_store_day() -> list[Event]:
     with tempfile.TemporaryDirectory() as name:
-        folder = pathlib.Path(name) / "site"
-        make_site(folder)
-        relay = files.load(str(folder / "cold-store.saved"))
-        recordings = read_recordings(sorted(map(str, folder.glob("cold-store-*.recording"))))
-        return [event for recording in recordings for event in replay(relay, recording)]
+        saved, names = cold_store(pathlib.Path(name) / "site")
+        relay = files.load(saved)
+        return [event for recording in read_recordings(names) for event in replay(relay, recording)]
+
+
+def cold_store_survey() -> str:
+    """The survey's text of the same recordings."""
+    with tempfile.TemporaryDirectory() as name:
+        saved, names = cold_store(pathlib.Path(name) / "site")
+        survey = haskumye.Survey(files.read(saved))
+        for recording in names:
+            survey.add(files.read(recording))
+        return survey.text()
+
+
+def cold_store(folder: pathlib.Path) -> tuple[str, list[str]]:
+    """The names of its saved file and its recordings, in a new folder."""
+    make_site(folder)
+    return str(folder / "cold-store.saved"), sorted(map(str, folder.glob("cold-store-*.recording")))
 
 
 def numbers(name: str) -> list[str]:
@@ -29,5 +44,6 @@ def numbers(name: str) -> list[str]:
 
 def accept() -> None:
     events = cold_store_day()
-    for name, gather in COUNTED.items():
-        (FOLDER / f"{name}.numbers").write_text("".join(f"{line}\n" for line in gather(events).lines()))
+    shown = {name: gather(events).lines() for name, gather in COUNTED.items()}
+    for name, lines in {**shown, "survey": cold_store_survey().splitlines()}.items():
+        (FOLDER / f"{name}.numbers").write_text("".join(f"{line}\n" for line in lines))

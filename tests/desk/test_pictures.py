@@ -3,6 +3,7 @@
 from __future__ import annotations
 
 import collections
+import fractions
 import importlib.util
 import math
 import pathlib
@@ -13,13 +14,13 @@ import unittest
 import xml.etree.ElementTree
 
 import expected
-from example_site import ROOT
+from example_site import PROGRAM, ROOT
 
 import haskumye
 from haskumye import Kind, Reason, Recorded, Replayed
-from haskumye_desk import gathered, pictures
+from haskumye_desk import gathered, pictures, surveyed
 from haskumye_desk.bins import bins
-from haskumye_desk.pictures import canvas, clocks
+from haskumye_desk.pictures import canvas, clocks, survey
 from haskumye_desk.replaying import Event
 
 DRAWN = importlib.util.find_spec("matplotlib") is not None
@@ -49,6 +50,24 @@ ODD_DAYS = {
     "no port": [event(7, 255, Kind.REFUSED, refusal=haskumye.Refusal.ARRIVAL_PORT)],
     "every port": [event(1000 + port, port, Kind.SPREAD, ports=tuple(range(16)), length=500) for port in range(16)],
     "every reason": [drop(1000, 0, reason) for reason in Reason] + [event(1000, 0, Kind.REFUSED, refusal=haskumye.Refusal.CLOCK)],
+}
+
+
+TESTS = (1, 2, 3, 4, 5, 6, 7, 8, 9, 10, 11, 15, 12, 16, 13)  # in the order that a survey's text has them
+
+
+def survey_text(refused: str = "", port: str = "packets 0 in 0 out 0 dropped 0/1", count: int = 0) -> str:
+    """A survey's text whose ports are alike, and its reasons."""
+    return f"survey\n{refused}" + "".join(f"port {number} {port}\n" for number in range(16)) + "".join(f"reason {test} {count}\n" for test in TESTS)
+
+
+ODD_SURVEYS = {
+    "no packet": survey_text(),
+    "all refused": survey_text("".join(f"recording {number} refused 20\n" for number in range(1, 17)) + "recording 17 refused 29\n"),
+    "no drop": survey_text(port="packets 3 in 90 out 60 dropped 0/1"),
+    "all dropped": survey_text("recording 2 refused 21\n", "packets 15 in 900 out 0 dropped 1/1", 16),
+    "only out": survey_text(port="packets 0 in 0 out 14400000 dropped 0/1"),
+    "one of many": survey_text(port="packets 30960 in 960000 out 0 dropped 1/30960", count=1),
 }
 
 
@@ -88,8 +107,21 @@ class TestNumbers(unittest.TestCase):
         for name, events in ODD_DAYS.items():
             self.assertEqual(sum(map(sum, gathered.day(events).packets_in.values())), len(events), name)
 
+    def test_the_site_s_survey(self) -> None:
+        text = expected.cold_store_survey()
+        self.assertEqual(text.splitlines(), expected.numbers("survey"))
+        told = surveyed.read(text)
+        self.assertEqual(told.ports[1], surveyed.PortCounts(416, 38927, 29541, fractions.Fraction(107, 416)))
+        self.assertEqual({port: counts.dropped for port, counts in told.used.items()}, {0: 61, 1: 107, 2: 231, 3: 80})
+        self.assertEqual(sum(counts.dropped for counts in told.ports.values()), sum(told.drops.values()))
+        self.assertEqual([reason.value for reason in told.dropped], [1, 2, 3, 6, 9, 15, 16])
+
+    def test_a_survey_s_text_is_read_whole(self) -> None:
+        for name, text in {**ODD_SURVEYS, "site": expected.cold_store_survey()}.items():
+            self.assertEqual(surveyed.read(text).lines(), text.splitlines(), name)
+
     def test_the_pages_pictures(self) -> None:
-        for name in expected.COUNTED:
+        for name in (*expected.COUNTED, "survey"):
             self.assertEqual(description((ROOT / f"docs/pictures/{name}.svg").read_bytes()), expected.numbers(name), name)
 
 
@@ -110,7 +142,7 @@ class TestDrawings(unittest.TestCase):
     @classmethod
     def setUpClass(cls) -> None:
         cls.events = expected.cold_store_day()
-        cls.drawn = [(picture.gather(cls.events), picture.draw(picture.gather(cls.events))) for picture in pictures.ALL]
+        cls.drawn = [(picture.gather(cls.events), picture.draw(picture.gather(cls.events))) for picture in pictures.OF_A_REPLAY]
 
     def named(self, figure) -> dict:
         """The shapes that are called something."""
@@ -141,6 +173,28 @@ class TestDrawings(unittest.TestCase):
         for port in told.bytes_in:
             self.assertEqual((bars[f"port {port} in"].get_width(), bars[f"port {port} out"].get_width()), (told.bytes_in[port], told.bytes_out[port]))
 
+    def test_the_survey(self) -> None:
+        told = surveyed.read(expected.cold_store_survey())
+        bars = {name: bar.get_width() for name, bar in self.named(survey.draw(told)).items()}
+        for port, counts in told.used.items():
+            shown = (bars.pop(f"port {port} {words}") for words in ("taken in", "dropped", "in", "out"))
+            self.assertEqual((*shown,), (counts.packets - counts.dropped, counts.dropped, counts.bytes_in, counts.bytes_out))
+        self.assertEqual(bars, {f"reason {reason.value}": count for reason, count in told.dropped.items()})
+
+    def test_the_survey_s_file(self) -> None:
+        with tempfile.TemporaryDirectory() as name:
+            folder = pathlib.Path(name)
+            saved, recordings = expected.cold_store(folder / "site")
+            words = [str(PROGRAM), "survey", saved, *recordings, "--picture", str(folder / "survey.svg")]
+            text = subprocess.run([sys.executable, *words], check=True, capture_output=True, text=True).stdout
+            self.assertEqual(description((folder / "survey.svg").read_bytes()), text.splitlines())
+
+    def test_odd_surveys(self) -> None:
+        for name, text in ODD_SURVEYS.items():
+            (picture,) = pictures.OF_A_SURVEY
+            data = picture.gather(text)
+            self.assertEqual(description(canvas.svg(picture.draw(data), data.lines())), text.splitlines(), name)
+
     def test_the_files(self) -> None:
         for data, figure in self.drawn:
             svg = canvas.svg(figure, data.lines())
@@ -158,7 +212,7 @@ class TestDrawings(unittest.TestCase):
 
     def test_odd_days(self) -> None:
         for name, events in ODD_DAYS.items():
-            for picture in pictures.ALL:
+            for picture in pictures.OF_A_REPLAY:
                 data = picture.gather(events)
                 self.assertEqual(description(canvas.svg(picture.draw(data), data.lines())), data.lines(), name)
 

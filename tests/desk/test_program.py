@@ -156,6 +156,24 @@ class TestFiles(unittest.TestCase):
         os.close(ours)
 
 
+class TestOpinion(unittest.TestCase):
+    """Differences, which can't come: another engine stands in for the second opinion."""
+
+    def told(self, replaced: str) -> tuple[int, str]:
+        running = start("opinion", "desk.saved", "desk-1.recording", replaced=replaced, stdout=subprocess.DEVNULL, stderr=subprocess.PIPE, text=True)
+        errors = running.communicate()[1]
+        return running.returncode, errors.splitlines()[-1]
+
+    def test_another_answer_is_told(self) -> None:
+        ended = self.told("import haskumye; haskumye.SecondOpinion.packet = lambda *words: haskumye.Kept()")
+        self.assertEqual(ended, (1, "haskumye opinion: packet 1 is answered otherwise by the second opinion"))
+
+    def test_other_bytes_that_leave_are_told(self) -> None:
+        wrong = "lambda *words: (lambda told: told._replace(packet=told.packet[:-1]) if isinstance(told, haskumye.Spread) else told)(real(*words))"
+        ended = self.told(f"import haskumye; real = haskumye.SecondOpinion.packet; haskumye.SecondOpinion.packet = {wrong}")
+        self.assertEqual(ended, (1, "haskumye opinion: packet 1 is answered otherwise by the second opinion"))
+
+
 class TestTimes(unittest.TestCase):
     def test_durations(self) -> None:
         told = {0: "0 s", 59: "59 s", 60: "1 min", 61: "1 min 1 s", 3600: "1 h", 3661: "1 h 1 min", 86399: "23 h 59 min", 90000: "1 d 1 h", 86460: "1 d"}

@@ -81,6 +81,49 @@ static uint64_t answer_text(const struct use *use)
     return haskumye_answer_text(use->index, (haskumye_text *)use->output.bytes);
 }
 
+static uint64_t opinion_fresh(const struct use *use)
+{
+    haskumye_opinion_fresh((haskumye_log *)use->log.bytes, (const haskumye_address *)use->input.bytes);
+    return 0;
+}
+
+static uint64_t opinion_packet(const struct use *use)
+{
+    return haskumye_opinion_packet(use->input.bytes, use->input.length, use->port, use->clock, use->byte,
+                                   (haskumye_log *)use->log.bytes, use->output.bytes, use->output.length);
+}
+
+static uint64_t opinion_set_port(const struct use *use)
+{
+    return haskumye_opinion_set_port((haskumye_log *)use->log.bytes, use->port, use->byte, use->mode, use->size);
+}
+
+static uint64_t opinion_set_announce_rate(const struct use *use)
+{
+    return haskumye_opinion_set_announce_rate((haskumye_log *)use->log.bytes, use->target, use->grace, use->penalty);
+}
+
+static uint64_t opinion_add_local(const struct use *use)
+{
+    return haskumye_opinion_add_local((haskumye_log *)use->log.bytes, (const haskumye_address *)use->input.bytes);
+}
+
+static uint64_t opinion_remove_local(const struct use *use)
+{
+    return haskumye_opinion_remove_local((haskumye_log *)use->log.bytes, (const haskumye_address *)use->input.bytes);
+}
+
+static uint64_t opinion_mark_path_unresponsive(const struct use *use)
+{
+    return haskumye_opinion_mark_path_unresponsive((haskumye_log *)use->log.bytes,
+                                                   (const haskumye_address *)use->input.bytes, use->clock);
+}
+
+static uint64_t opinion_renumber(const struct use *use)
+{
+    return haskumye_opinion_renumber((haskumye_log *)use->log.bytes, (const haskumye_port_map *)use->input.bytes);
+}
+
 static uint64_t saved_size(const struct use *use)
 {
     (void)use;
@@ -289,6 +332,14 @@ static const struct {
     [RENUMBER] = {"haskumye_renumber", renumber},
     [PACKET] = {"haskumye_packet", packet},
     [ANSWER_TEXT] = {"haskumye_answer_text", answer_text},
+    [OPINION_FRESH] = {"haskumye_opinion_fresh", opinion_fresh},
+    [OPINION_PACKET] = {"haskumye_opinion_packet", opinion_packet},
+    [OPINION_SET_PORT] = {"haskumye_opinion_set_port", opinion_set_port},
+    [OPINION_SET_ANNOUNCE_RATE] = {"haskumye_opinion_set_announce_rate", opinion_set_announce_rate},
+    [OPINION_ADD_LOCAL] = {"haskumye_opinion_add_local", opinion_add_local},
+    [OPINION_REMOVE_LOCAL] = {"haskumye_opinion_remove_local", opinion_remove_local},
+    [OPINION_MARK_PATH_UNRESPONSIVE] = {"haskumye_opinion_mark_path_unresponsive", opinion_mark_path_unresponsive},
+    [OPINION_RENUMBER] = {"haskumye_opinion_renumber", opinion_renumber},
     [SAVED_SIZE] = {"haskumye_saved_size", saved_size},
     [SAVE_TABLES] = {"haskumye_save", save_tables},
     [LOAD_TABLES] = {"haskumye_load", load_tables},
@@ -367,7 +418,7 @@ void library_end(void)
     for (int i = 0; i < FUNCTION_COUNT; i++) {
         expect(functions[i].name, calls[i] > 0, 1);
         if (measuring) {
-            printf("%-31s %6zu bytes of stack\n", functions[i].name, deepest[i]);
+            printf("%-39s %6zu bytes of stack\n", functions[i].name, deepest[i]);
             expect("a call within the stack allowed", deepest[i] <= STACK_LIMIT, 1);
         }
     }

@@ -20,6 +20,14 @@ enum function {
     RENUMBER,
     PACKET,
     ANSWER_TEXT,
+    OPINION_FRESH,
+    OPINION_PACKET,
+    OPINION_SET_PORT,
+    OPINION_SET_ANNOUNCE_RATE,
+    OPINION_ADD_LOCAL,
+    OPINION_REMOVE_LOCAL,
+    OPINION_MARK_PATH_UNRESPONSIVE,
+    OPINION_RENUMBER,
     SAVED_SIZE,
     SAVE_TABLES,
     LOAD_TABLES,
@@ -63,6 +71,7 @@ struct use {
     struct buffer output; /* or where an answer of a fixed size goes */
     struct buffer tables;
     struct buffer tally;
+    struct buffer log;    /* of a second opinion */
     struct buffer keys, name_hash, random, ratchet, app_data, signature; /* of an announce to be built */
     struct buffer start, counts, refusals; /* of a survey, which replays over the tables */
     uint64_t port, clock, mode, index; /* index: of an entry, a place in a table, or an answer */

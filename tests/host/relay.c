@@ -13,6 +13,7 @@ struct relay relay_new(void)
     relay.tables = buffer_new(HASKUMYE_TABLE_SIZE, 0);
     relay.aside = buffer_new(HASKUMYE_TABLE_SIZE, 0);
     relay.tally = buffer_new(sizeof(haskumye_tally), 0);
+    relay.opinion = opinion_new();
     return relay;
 }
 
@@ -21,6 +22,7 @@ void relay_free(struct relay *relay)
     buffer_free(&relay->tables);
     buffer_free(&relay->aside);
     buffer_free(&relay->tally);
+    opinion_free(&relay->opinion);
 }
 
 static void replace(struct buffer *old, struct buffer new)
@@ -92,6 +94,7 @@ void relay_make(struct relay *relay, const struct listed *call)
 {
     if (call->edit != NO_EDIT) {
         edit(relay, call);
+        opinion_leave(&relay->opinion);
         return;
     }
     struct use use = {.input = call->bytes, .tables = relay->tables, .tally = relay->tally, .port = call->port,
@@ -115,5 +118,6 @@ void relay_make(struct relay *relay, const struct listed *call)
     uint64_t sum = sum_of(0, use.tables.bytes, use.tables.length);
     sum = sum_of(sum, use.tally.bytes, use.tally.length);
     expect("the bytes left", sum_of(sum, use.output.bytes, use.output.length), call->sum);
+    opinion_ask(&relay->opinion, call, &use);
     buffer_free(&use.output);
 }

@@ -13,6 +13,7 @@
 #include "check.h"
 #include "library.h"
 #include "odd.h"
+#include "opinions.h"
 #include "packets.h"
 #include "recordings.h"
 #include "calls.h"
@@ -133,6 +134,7 @@ int main(int count, char **words)
     fclose(file);
     odd_lengths();
     answers_try_odd();
+    opinions_try_odd();
     announces_try();
     recordings_try();
     saved_try_odd();

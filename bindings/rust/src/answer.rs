@@ -57,6 +57,7 @@ numbered! {
         Room = 25 "too little room (loading: not the tables' size)",
         AnnouncePart = 26 "key, name, random, ratchet or signature of wrong length",
         AnnounceTooLong = 27 "announce over 500 once built",
+        ListFull = 28 "the second opinion lists 64 calls already",
         SurveyFull = 29 "a 17th recording of a survey",
     }
 }

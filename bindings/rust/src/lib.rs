@@ -11,6 +11,7 @@
 
 mod announce;
 mod answer;
+mod opinion;
 mod packet;
 mod question;
 pub mod raw;
@@ -20,12 +21,13 @@ mod survey;
 
 pub use announce::Announce;
 pub use answer::{BadForm, Mode, NoWayOn, PortSet, Ports, Reason, Refusal, Verdict};
+pub use opinion::SecondOpinion;
 pub use packet::{announced_destination, emission, least_announce, line, link_id, packet_hash, payload, read, sha256, write};
 pub use question::{AnnounceRate, Link, Path, Port};
 pub use raw::{
-    Parts, Tally, CLOCK_LIMIT, GRACE_LIMIT, HASH_COUNT, LINK_COUNT, LOCAL_COUNT, LONGEST_MESSAGE, LONGEST_PACKET, LONGEST_SAVED,
-    OUTPUT_SIZE, PATH_COUNT, PENALTY_LIMIT, PORT_COUNT, RECORDING_LIMIT, RECORDING_SIZE, RETURN_COUNT, SAVED_SIZE, SHORTEST_PACKET,
-    TABLE_SIZE, TARGET_LIMIT,
+    Parts, Tally, CLOCK_LIMIT, GRACE_LIMIT, HASH_COUNT, LINK_COUNT, LIST_LIMIT, LOCAL_COUNT, LONGEST_MESSAGE, LONGEST_PACKET,
+    LONGEST_SAVED, OUTPUT_SIZE, PATH_COUNT, PENALTY_LIMIT, PORT_COUNT, RECORDING_LIMIT, RECORDING_SIZE, RETURN_COUNT, SAVED_SIZE,
+    SHORTEST_PACKET, TABLE_SIZE, TARGET_LIMIT,
 };
 pub use recording::{check_recording, entries, write_recording, Entries, Recorded, Replayed};
 pub use relay::Relay;

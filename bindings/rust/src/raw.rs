@@ -29,6 +29,8 @@ pub const ENTRY_WIDTH: usize = 12;
 pub const SAVED_SIZE: usize = 103108;
 /// No saved file of any edition is longer.
 pub const LONGEST_SAVED: usize = 524332;
+/// The bytes of a second opinion's log, exactly.
+pub const LOG_SIZE: usize = 32721;
 
 /// Ports 0 to 15.
 pub const PORT_COUNT: usize = 16;
@@ -44,6 +46,8 @@ pub const RETURN_COUNT: usize = 512;
 pub const HASH_COUNT: usize = 1024;
 /// Every clock, in seconds, is below 2^40.
 pub const CLOCK_LIMIT: u64 = 1099511627776;
+/// How many accepted calls a second opinion lists.
+pub const LIST_LIMIT: usize = 64;
 
 /// How many recordings a survey reads.
 pub const RECORDING_LIMIT: usize = 16;
@@ -271,6 +275,8 @@ pub type Tables = [u8; TABLE_SIZE];
 pub type SurveyCounts = [u64; COUNTER_COUNT];
 /// The refusals of a survey's recordings: how many were read, then of each its refusal or 0.
 pub type SurveyRefusals = [u8; REFUSAL_COUNT];
+/// What a second opinion keeps. Any bytes are a log.
+pub type Log = [u8; LOG_SIZE];
 
 #[allow(missing_docs)] // the header has the comments
 extern "C" {
@@ -297,6 +303,24 @@ extern "C" {
         tally: *mut Tally,
     ) -> u64;
     pub fn haskumye_answer_text(answer: u64, text: *mut Text) -> usize;
+
+    pub fn haskumye_opinion_fresh(log: *mut Log, own: *const Address);
+    pub fn haskumye_opinion_packet(
+        packet: *const u8,
+        length: usize,
+        port: u64,
+        clock: u64,
+        signed_well: u8,
+        log: *mut Log,
+        output: *mut u8,
+        room: usize,
+    ) -> u64;
+    pub fn haskumye_opinion_set_port(log: *mut Log, port: u64, on: u8, mode: u64, size: u64) -> u8;
+    pub fn haskumye_opinion_set_announce_rate(log: *mut Log, target: u64, grace: u64, penalty: u64) -> u8;
+    pub fn haskumye_opinion_add_local(log: *mut Log, address: *const Address) -> u8;
+    pub fn haskumye_opinion_remove_local(log: *mut Log, address: *const Address) -> u8;
+    pub fn haskumye_opinion_mark_path_unresponsive(log: *mut Log, destination: *const Address, clock: u64) -> u8;
+    pub fn haskumye_opinion_renumber(log: *mut Log, map: *const PortMap) -> u8;
 
     pub fn haskumye_saved_size() -> usize;
     pub fn haskumye_save(tables: *const u8, tables_length: usize, tally: *const Tally, room: *mut u8, room_length: usize) -> u64;

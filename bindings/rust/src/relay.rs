@@ -155,7 +155,7 @@ impl Relay {
 }
 
 /// Panics where the archive is of another version than this crate.
-fn same_version() {
+pub(crate) fn same_version() {
     let (version, size) = unsafe { (raw::haskumye_version(), raw::haskumye_table_size()) };
     assert!((version, size) == (raw::VERSION, TABLE_SIZE), "libhaskumye.a is of interface {version}, this crate of {}", raw::VERSION);
 }

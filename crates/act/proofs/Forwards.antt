@@ -39,8 +39,9 @@ use Rattle.outgoing.specs.Leaving.{CanLeave}
 use Rattle.plan.specs.declared.Arrived.{Arrived}
 use Rattle.plan.specs.declared.Decision.the-variants.{Data, Request, Carry, Receipt}
 use Rattle.plan.specs.Decided.{usedHash, linkAt, returnAt, seen, pathAt, arrivalOf, decision}
-use Rattle.plan.proofs.KindLaws.{request-left}
-use Rattle.plan.proofs.ContextLaws.{never-exempt, used-own}
+use Rattle.forms.proofs.KindLaws.{request-left}
+use Rattle.forms.proofs.ContextLaws.{never-exempt}
+use Rattle.plan.proofs.ContextLaws.{used-own}
 use Rattle.act.specs.Stored.{addressBy, returnPut}
 use Rattle.act.specs.Acted.{AcceptedOn, planOn, verdictOn, writtenOn, outputOn, CarriesOut, forwardedOn}
 use Rattle.rules.proofs.Passed.{passed}

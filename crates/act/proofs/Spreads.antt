@@ -1,7 +1,7 @@
 -- What is left by an accepted announce, from what the code wrote: spread or kept, and its path set.
 use Prim.Native.Nat.{ℕ, _≤_, _<_}
 use native.Mathlib.Omega.{arith}
-use mathlib.Core.Bool.{Bool, true, false, not, false≢true}
+use mathlib.Core.Bool.{Bool, true, not, false≢true}
 use mathlib.Core.List.{List}
 use mathlib.Core.Path.{_≡_, refl, sym, ap, ap₂, subst, _∙_}
 use lib.Dec.{eqb, ltb}
@@ -13,24 +13,21 @@ use Rattle.octets.specs.Choice.{_then_otherwise_}
 use Rattle.octets.specs.Part.{patch}
 use Rattle.octets.proofs.Choice.{then-true, then-false, or-left, or-right, or-no}
 use Rattle.octets.proofs.Part.{part-length}
-use Rattle.packet.specs.Header.{isAnnounce}
 use Rattle.packet.specs.Read.{longestPacket, payload, reads}
 use Rattle.packet.specs.Announce.{blobOf}
 use Rattle.numbers.specs.Numbers.{pathCount}
-use Rattle.rules.specs.Relay.{Slot, empty, used, Blobs, Path, Return, Relay}
+use Rattle.rules.specs.Relay.{Slot, empty, used, Blobs, Path, Relay}
 use Rattle.rules.specs.View.{View, viewAt, portOn, portSize}
-use Rattle.rules.specs.Arrival.{Arrival, header, destination}
-use Rattle.rules.specs.Ways.{Way, everywhere, by-path, along-link, by-return, blocked, pathWay, linkWay, returnWay, wayOn}
+use Rattle.rules.specs.Arrival.{Arrival, destination}
+use Rattle.rules.specs.Ways.{everywhere}
 use Rattle.rules.specs.Tests.{isThere, revives, noRoom}
 use Rattle.rules.specs.Answers.{portSet}
 use Rattle.rules.specs.Outgoing.{spreadPorts, spreadPacket, outgoing, exceeds}
 use Rattle.rules.specs.Judging.{Plan, follows, spreadVerdict, wayVerdict, verdict, leaves, outputAfter}
 use Rattle.rules.specs.Writes.{announcedRate, announcedPlace, writePlan}
-use Rattle.rules.specs.declared.Link.{Link}
 use Rattle.rules.specs.declared.RateEntry.{RateEntry}
 use Rattle.rules.specs.declared.Verdict.{Verdict}
 use Rattle.rules.specs.declared.Verdict.the-variants.{Spread, Kept}
-use Rattle.rules.proofs.Choices.{either}
 use Rattle.rules.proofs.Followed.{Planned, planned}
 use Rattle.tables.specs.Places.{addressWidth, ownAt, tableSize}
 use Rattle.tables.specs.Layout.{relayOf, bytesOf}
@@ -44,53 +41,14 @@ use Rattle.plan.specs.declared.Arrived.{Arrived}
 use Rattle.plan.specs.declared.Decision.the-variants.{Announce}
 use Rattle.plan.specs.Decided.{CanKnow, seen, arrivalOf, pathAt, decision}
 use Rattle.plan.specs.Kinds.{revivedBy}
-use Rattle.plan.proofs.KindLaws.{announce-long}
+use Rattle.forms.proofs.KindLaws.{announce-long}
+use Rattle.forms.proofs.WayLaws.{announce-way}
 use Rattle.plan.proofs.AnnounceLaws.{can-know}
 use Rattle.act.specs.Stored.{blobsStored, rateKnown, rateStored, pathPut}
 use Rattle.act.specs.Acted.{AcceptedOn, planOn, verdictOn, writtenOn, outputOn, CarriesOut, spreadsTo, spreadOn, spreadVerdictOn, announcedBy}
 use Rattle.rules.proofs.Passed.{passed}
 use Rattle.act.proofs.Inverted.{inverted, at-place}
 use Rattle.act.proofs.Forwards.{can-leave}
-
--- ---- only an announce goes everywhere
-abbrev isEverywhere : Way → Bool
-isEverywhere (everywhere known) = true
-isEverywhere (by-path p) = false
-isEverywhere (along-link l) = false
-isEverywhere (by-return t) = false
-isEverywhere (blocked why) = false
-
-abbrev Elsewhere : Way → Type 0
-Elsewhere w = isEverywhere w ≡ false
-
-path-elsewhere : (s : Slot Path) (expired : Slot ℕ) → Elsewhere (pathWay s expired)
-unfolding pathWay
-path-elsewhere empty expired = refl
-path-elsewhere (used p) expired = refl
-
-link-elsewhere : (linkProof : Bool) (s : Slot Link) → Elsewhere (linkWay linkProof s)
-unfolding linkWay
-link-elsewhere linkProof empty = refl
-link-elsewhere linkProof (used l) = either Elsewhere _ (λ _. refl) (λ _. refl)
-
-return-elsewhere : (s : Slot Return) → Elsewhere (returnWay s)
-unfolding returnWay
-return-elsewhere empty = refl
-return-elsewhere (used t) = refl
-
-announce-way : (v : View) (a : Arrival) (known : Slot Path) → wayOn v a ≡ everywhere known → isAnnounce (header a) ≡ true
-unfolding wayOn
-announce-way v a known =
-    let P : Way → Type 0 = λ w. w ≡ everywhere known → isAnnounce (header a) ≡ true in
-    either P _ (λ yes _. yes)
-    (λ no e.
-    absurd
-    (false≢true
-    (sym
-    (either Elsewhere _ (λ _. link-elsewhere _ _)
-    (λ _. either Elsewhere _ (λ _. return-elsewhere _)
-    (λ _. either Elsewhere _ (λ _. refl) (λ _. path-elsewhere _ _))))
-    ∙ ap isEverywhere e)))
 
 -- ---- spread or kept
 module _ (packet : List ℕ) (m : Arrived) (t output : List ℕ) where

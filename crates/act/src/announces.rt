@@ -1,8 +1,5 @@
 // Accepted announces: spread or kept, and their path is set.
-use numbers::ACCESS_POINT_LIFETIME;
-use numbers::BOUNDARY_LIFETIME;
 use numbers::PORT_COUNT;
-use numbers::ROAMING_LIFETIME;
 use packet::LONGEST_PACKET;
 use plan::Arrived;
 use rules::RateEntry;
@@ -29,31 +26,6 @@ ghost use Rattle.act.specs.Acted.{CanCarryOut, CarriesOut, spreadsTo, sp
 
 // The number of ports as a byte.
 const PORTS: u8 = PORT_COUNT as u8;
-
-// How long a path lives, by the mode of the arrival port: boundary, access point, roaming.
-fn path_lifetime(mode: u8) -> u64
-    ensures { λ r. ⌜ (r ≡ pathLifetime mode) × (r ≤ 604800) ⌝ }
-{
-    if mode == 0 {
-        return BOUNDARY_LIFETIME;
-    }
-    if mode == 1 {
-        return ACCESS_POINT_LIFETIME;
-    }
-    ROAMING_LIFETIME
-}
-
-// The next hop: the relay address, or the destination if type 1.
-fn next_hop_of(packet: &[u8]) -> [u8; 16]
-    requires { ⌜ reads longestPacket (now packet) ≡ true ⌝ }
-    ensures { λ r. ⌜ r ≡ nextHopOf (now (packet .entry)) ⌝ }
-{
-    let parts = packet::parts_of(packet);
-    if packet::type_two(packet[0]) {
-        return parts.relay;
-    }
-    parts.destination
-}
 
 // Last accepted announce, violations and blocked-until of its path: a new one starts with none, and where test 15 isn't
 // made, the other two stay.
@@ -92,8 +64,8 @@ fn announced_path(tables: &[u8], packet: &[u8], arrived: Arrived, rate: RateEntr
 {
     let parts = packet::parts_of(packet);
     let destination = parts.destination;
-    let next_hop = next_hop_of(packet);
-    let lifetime = path_lifetime(lookup::port_mode(tables, octets::wide(arrived.port)));
+    let next_hop = forms::next_hop_of(packet);
+    let lifetime = forms::path_lifetime(lookup::port_mode(tables, octets::wide(arrived.port)));
     Announced {
         destination,
         port: arrived.port,

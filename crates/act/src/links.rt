@@ -59,7 +59,7 @@ fn proved_by(proved: bool, packet: &[u8]) -> bool
     if proved {
         return true;
     }
-    plan::is_link_proof(packet)
+    forms::is_link_proof(packet)
 }
 
 // The link once the packet is carried.

@@ -47,7 +47,7 @@ pub fn remembers(
         × (live ≡ hashLive (seen arrived (now tables)) (arrivalOf (now packet) arrived)) ⌝ }
     ensures { λ r. ⌜ r ≡ remembersDecided (now (packet .entry)) arrived (now (tables .entry)) decision ⌝ }
 {
-    if plan::exempt(packet) {
+    if forms::exempt(packet) {
         return false;
     }
     if decision_remembers(decision) {

@@ -13,7 +13,7 @@ use Rattle.rules.specs.Judging.{Plan, dropped, delivered, follows, plan}
 use Rattle.rules.specs.declared.Link.{Link}
 use Rattle.rules.proofs.Choices.{either}
 use Rattle.rules.proofs.Passed.{passed}
-use Rattle.plan.proofs.KindLaws.{announce-long}
+use Rattle.forms.proofs.KindLaws.{announce-long}
 
 -- what goes everywhere holds a whole blob
 abbrev pub WayBlob : Arrival → Way → Type 0

@@ -30,7 +30,8 @@ use Rattle.plan.specs.Decided.{CanKnow, pathAt, decidedWay, decided, onw
 use Rattle.plan.specs.Kinds.{newPath, revivedBy, worseThan, knownPath}
 use Rattle.plan.specs.declared.Decision.{Decision}
 use Rattle.plan.specs.declared.Decision.the-variants.{Drop, Announce}
-use Rattle.plan.proofs.KindLaws.{other-kind, no-link-proof, decided-test}
+use Rattle.forms.proofs.KindLaws.{other-kind, no-link-proof}
+use Rattle.plan.proofs.KindLaws.{decided-test}
 
 -- a live path that a search found in well-formed tables
 pub can-know : (t : List ℕ) (clock : ℕ) (to : List ℕ) (i : ℕ) → i ≡ pathPlace clock (relayOf t) to → wellFormed t ≡ true → i < pathCount → CanKnow t i

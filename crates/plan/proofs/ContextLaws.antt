@@ -1,26 +1,15 @@
--- Exempt packets: their contexts, and the hash that goes with a packet.
+-- The hash that goes with a packet.
 use Prim.Native.Nat.{ℕ}
 use mathlib.Core.Bool.{true, false}
 use mathlib.Core.List.{List}
 use mathlib.Core.Path.{_≡_}
 use lib.ListN.{replicate}
-use Rattle.octets.proofs.Index.{and-yes, and-no}
 use Rattle.octets.proofs.Choice.{then-true, then-false}
-use Rattle.packet.specs.Header.{ofKindLink}
-use Rattle.packet.specs.Read.{headerOf, partsOf}
 use Rattle.packet.specs.Hash.{packetHash}
-use Rattle.rules.specs.Exempt.{exemptContext, exempt}
+use Rattle.rules.specs.Exempt.{exempt}
 use Rattle.plan.specs.Decided.{usedHash}
 
 module _ (p : List ℕ) where
-  pub exempt-by-context : ofKindLink (headerOf p) ≡ true → exempt p ≡ exemptContext (partsOf p .context)
-  unfolding exempt
-  exempt-by-context link = and-yes _ link
-
-  pub never-exempt : ofKindLink (headerOf p) ≡ false → exempt p ≡ false
-  unfolding exempt
-  never-exempt other = and-no _ other
-
   pub used-none : exempt p ≡ true → usedHash p ≡ replicate 32 0
   unfolding usedHash
   used-none is = then-true _ _ is

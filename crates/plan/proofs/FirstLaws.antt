@@ -1,29 +1,27 @@
 -- Tests 1 to 5: each of their answers, and what they leave to decide.
-use Prim.Native.Nat.{ℕ, _≤_, _<_}
+use Prim.Native.Nat.{ℕ}
 use native.Mathlib.Omega.{arith}
 use mathlib.Core.Bool.{Bool, true, false, not, false≢true}
 use mathlib.Core.List.{List, [], _∷_}
 use mathlib.Core.Path.{_≡_, refl, sym, ap, subst, _∙_}
 use lib.Dec.{ltb}
-use lib.ListN.{length, getD, drop}
-use borrow.Author.Tests.{le-leb, lt-leb}
+use lib.ListN.{length, drop}
 use Rattle.octets.specs.Index.{_and_, agree}
 use Rattle.octets.specs.Choice.{_then_otherwise_, _or_, same}
 use Rattle.octets.proofs.Choice.{same-agree, or-no}
-use Rattle.octets.proofs.Index.{and-yes, and-no, and-left, and-right}
+use Rattle.octets.proofs.Index.{and-yes, and-no, and-left, and-right, and-true}
 use Rattle.octets.proofs.Part.{part-length}
 use Rattle.packet.specs.Header.{typeTwo, ofKindLink, isData, isAnnounce, isLinkRequest}
 use Rattle.packet.specs.Read.{longestPacket, reads}
 use Rattle.packet.proofs.Widths.{parts-wide}
-use Rattle.packet.proofs.ReadLaws.{parts-hops}
 use Rattle.octets.specs.Listed.{Test, firstOf, valued}
 use Rattle.octets.proofs.Listed.{allGive}
 use Rattle.numbers.specs.Numbers.{hashCount}
 use Rattle.rules.specs.Relay.{Relay}
 use Rattle.rules.specs.View.{View, hashPlace, isLocal, viewAt}
-use Rattle.rules.specs.Arrival.{Arrival, header, hops, relayAddress, destination, hash}
+use Rattle.rules.specs.Arrival.{Arrival, header, relayAddress, destination, hash}
 use Rattle.rules.specs.Exempt.{exempt}
-use Rattle.rules.specs.Tests.{notOurs, forMarkedPath, testedAsDuplicate, duplicate, badForm, ownAnnounce, deliveredHere, tooManyHops}
+use Rattle.rules.specs.Tests.{notOurs, forMarkedPath, testedAsDuplicate, duplicate, badForm, ownAnnounce, deliveredHere}
 use Rattle.rules.specs.Ways.{wayOn}
 use Rattle.rules.specs.Judging.{Plan, dropped, delivered, follows, earlyTests, onwardPlan, plan}
 use Rattle.rules.specs.declared.Reason.{Reason}
@@ -38,7 +36,6 @@ use Rattle.plan.specs.Decided.{usedHash, hashLive, decided, decision, on
 use Rattle.plan.specs.declared.Early.{Early}
 use Rattle.plan.specs.declared.Early.the-variants.{Dropped, Delivered, Undecided}
 use Rattle.plan.specs.declared.Decision.the-variants.{Drop, Deliver}
-use Rattle.plan.proofs.KindLaws.{and-true}
 use Rattle.plan.proofs.ContextLaws.{used-own}
 
 -- what the tests behind the first n say
@@ -154,13 +151,3 @@ own-compared t a size readable e =
     let own-wide = part-length t ownAt addressWidth (omega (arith, size)) in
     ap (λ (x : List ℕ). not (agree 16 (relayAddress a) x)) e
     ∙ ap not (sym (same-agree 16 (relayAddress a) (relayOf t .own) (wide .relay) own-wide))
-
--- hops are byte 1
-module _ (a : Arrival) where
-  pub hops-many : 128 ≤ getD (a .bytes) 1 0 → tooManyHops (hops a) ≡ true
-  unfolding tooManyHops
-  hops-many l = le-leb 128 (hops a) (omega (arith, l, parts-hops (a .bytes)))
-
-  pub hops-few : getD (a .bytes) 1 0 < 128 → tooManyHops (hops a) ≡ false
-  unfolding tooManyHops
-  hops-few l = lt-leb 128 (hops a) (omega (arith, l, parts-hops (a .bytes)))

@@ -30,7 +30,8 @@ use Rattle.lookup.proofs.Found.{link-found, link-missing}
 use Rattle.plan.specs.Decided.{linkAt, decidedWay, decided, onward}
 use Rattle.plan.specs.Kinds.{leaving, carried, proving, carrying}
 use Rattle.plan.specs.declared.Decision.the-variants.{Drop, Carry}
-use Rattle.plan.proofs.KindLaws.{link-no-request, decided-test}
+use Rattle.forms.proofs.KindLaws.{link-no-request}
+use Rattle.plan.proofs.KindLaws.{decided-test}
 
 module _ (a : Arrival) (good : badForm (a .bytes) ≡ false) (announce : isAnnounce (header a) ≡ false) (kind : ofKindLink (header a) ≡ true) where
   link-way : (v : View) → wayOn v a ≡ linkWay (isLinkProof (a .bytes)) (v .link (destination a))

@@ -37,7 +37,8 @@ use Rattle.lookup.proofs.Found.{path-found, path-missing, link-found, link-miss
 use Rattle.plan.specs.Decided.{CanRead, pathAt, highOf, lowOf, decidedWay, decided, onward}
 use Rattle.plan.specs.Kinds.{leaving, leavingBy, linking, requesting}
 use Rattle.plan.specs.declared.Decision.the-variants.{Drop, Data, Request}
-use Rattle.plan.proofs.KindLaws.{other-kind, request-left, no-link-proof, or-false, decided-test}
+use Rattle.forms.proofs.KindLaws.{other-kind, request-left, no-link-proof, or-false}
+use Rattle.plan.proofs.KindLaws.{decided-test}
 
 module _ (a : Arrival) (announce : isAnnounce (header a) ≡ false) (link : ofKindLink (header a) ≡ false) (proof : isProof (header a) ≡ false) where
   no-proof : isLinkProof (a .bytes) ≡ false

@@ -27,7 +27,8 @@ use Rattle.lookup.proofs.Found.{return-found, return-missing}
 use Rattle.plan.specs.Decided.{returnAt, decidedWay, decided, onward}
 use Rattle.plan.specs.Kinds.{leaving, returning}
 use Rattle.plan.specs.declared.Decision.the-variants.{Drop, Receipt}
-use Rattle.plan.proofs.KindLaws.{other-kind, no-link-proof-kind, decided-test}
+use Rattle.forms.proofs.KindLaws.{other-kind, no-link-proof-kind}
+use Rattle.plan.proofs.KindLaws.{decided-test}
 
 module _ (a : Arrival) (kind : ofKindLink (header a) ≡ false) (proof : isProof (header a) ≡ true) where
   no-announce : isAnnounce (header a) ≡ false

@@ -1,20 +1,11 @@
 -- Document 01's tests 1 to 5, as the code decides them before it looks for a way on.
 -- For the contracts of helpers: not part of what a reader must believe.
-use Prim.Native.Nat.{ℕ}
-use mathlib.Core.List.{List}
 use Rattle.octets.specs.Listed.{firstOf, valued}
 use Rattle.rules.specs.View.{View}
 use Rattle.rules.specs.Arrival.{Arrival}
-use Rattle.rules.specs.Tests.{formTests}
 use Rattle.rules.specs.Judging.{Plan, dropped, delivered, follows, earlyTests}
-use Rattle.plan.specs.declared.Form.{Form}
-use Rattle.plan.specs.declared.Form.the-variants.{Good, Bad}
 use Rattle.plan.specs.declared.Early.{Early}
 use Rattle.plan.specs.declared.Early.the-variants.{Dropped, Delivered, Undecided}
-
--- test 3, of a packet's bytes
-unfoldable pub formOf : List ℕ → Form
-formOf p = firstOf (valued Bad (formTests p)) Good
 
 unfoldable pub early : Plan → Early
 early (dropped reason) = Dropped reason

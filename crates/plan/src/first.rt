@@ -1,10 +1,10 @@
 // Tests 1 to 5, with delivery at test 4's place.
 use super::Arrived;
 use super::Early;
-use super::Form;
-use super::bad_form::form_of;
-use super::contexts::exempt;
 use super::marked::for_marked_path;
+use forms::Form;
+use forms::exempt;
+use forms::form_of;
 use numbers::HASH_COUNT;
 use numbers::HOPS_LIMIT;
 use numbers::LOCAL_COUNT;

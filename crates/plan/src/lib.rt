@@ -3,7 +3,6 @@
 // packet reads. Entry points: none. The packet call decides by `not_ours`, before it hashes, and by `decide`;
 // `reason_number` stands here for all above.
 mod announces;
-mod bad_form;
 mod contexts;
 mod first;
 mod leaving;
@@ -15,8 +14,6 @@ mod returns;
 
 use announces::decide_announce;
 pub use announces::rate_at;
-pub use bad_form::is_link_proof;
-pub use contexts::exempt;
 pub use contexts::used_hash;
 use first::first_tests;
 pub use first::hash_live;
@@ -29,7 +26,6 @@ pub use reasons::reason_clause;
 pub use reasons::reason_number;
 pub use reasons::reason_value;
 use returns::decide_proof;
-use rules::Clause;
 use rules::Reason;
 ghost use mathlib.Core.Path.{_≡_};
 ghost use mathlib.Core.Bool.{false};
@@ -41,12 +37,6 @@ pub struct Arrived {
     pub port: u8,
     pub clock: u64,
     pub signed: bool,
-}
-
-// What test 3 finds: a good form, or the first clause that fails.
-pub enum Form {
-    Good,
-    Bad(Clause),
 }
 
 // What tests 1 to 5 say, with delivery at test 4's place.

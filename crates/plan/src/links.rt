@@ -1,8 +1,8 @@
 // Packets of kind link: tests 6, 7, 8, 9, 12 and 16.
 use super::Arrived;
 use super::Decision;
-use super::bad_form::is_link_proof;
 use super::leaving::leave;
+use forms::is_link_proof;
 use numbers::LINK_COUNT;
 use rules::Blocked;
 use rules::Link;

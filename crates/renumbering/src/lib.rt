@@ -1,12 +1,11 @@
 // Renumbering: the ports get other numbers, by a one-to-one map of 0..15.
 // Entry point: renumber. It returns a refusal's number, or 0; a refusal changes no byte.
 mod moved;
-mod one_to_one;
 mod renamed;
 
+use maps::one_to_one;
 use moved::moved_ports;
 use numbers::refusals;
-use one_to_one::one_to_one;
 use renamed::rename_links;
 use renamed::rename_paths;
 use renamed::rename_returns;

@@ -1,5 +1,5 @@
 // The ports' settings at their new numbers.
-use super::one_to_one::preimage_of;
+use maps::preimage_of;
 use numbers::PORT_COUNT;
 use tables::places::FRESH_PORT;
 use tables::places::PORT_WIDTH;

@@ -1,10 +1,12 @@
 """The subcommands. One more is a module with its COMMAND, and its line in ALL."""
 
-from . import check, load, record, renumber, replay, show, tables
+from . import check, load, opinion, record, renumber, replay, show, survey, tables
 
 ALL = (
     tables.COMMAND,
     replay.COMMAND,
+    survey.COMMAND,
+    opinion.COMMAND,
     renumber.COMMAND,
     load.COMMAND,
     check.COMMAND,

@@ -21,12 +21,12 @@ def add_arguments(parser: argparse.ArgumentParser) -> None:
     parser.add_argument("recordings", metavar="RECORDING", nargs="+", help="recordings, replayed one after another")
     parser.add_argument("--why", action="store_true", help="put a sentence for people behind each line")
     parser.add_argument("--save", metavar="FILE", help="write the tables after it to this saved file")
-    pictures.add_arguments(parser)
+    pictures.add_arguments(parser, pictures.OF_A_REPLAY)
 
 
 def run(options: argparse.Namespace) -> int:
     files.at_most_one_standard([options.tables, *options.recordings])
-    drawings = pictures.asked_for(options)
+    drawings = pictures.asked_for(options, pictures.OF_A_REPLAY)
     recordings = read_recordings(options.recordings)
     relay = files.load(options.tables, "tables refused {}")
     events = []

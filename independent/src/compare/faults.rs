@@ -1,11 +1,12 @@
 //! Every deliberate fault must be noticed: the core is compared with an independent program that has it, on traffic; and where no traffic
-//! can show it, on packets, on recordings, on saved files, on announces of our own, or on surveys.
+//! can show it, on packets, on recordings, on saved files, on announces of our own, on surveys, or on second opinions.
 
 use super::lockstep::{compare, Difference};
-use super::{announcing, packet, recording, saved, shrink, survey, Options, Tally};
+use super::{announcing, opinion, packet, recording, saved, shrink, survey, Options, Tally};
 use crate::engine::Call;
-use crate::faults::{self, Fault, With, OF_ANNOUNCING, OF_PACKETS, OF_RECORDINGS, OF_SAVED, OF_SURVEYS};
-use crate::linked::Core;
+use crate::faults::{self, Fault, With, OF_ANNOUNCING, OF_OPINIONS, OF_PACKETS, OF_RECORDINGS, OF_SAVED, OF_SURVEYS};
+use crate::linked::{Core, SecondOpinion};
+use crate::opinion::Plain;
 use crate::relay::Relay;
 use crate::rules::{AsWritten, Rules};
 
@@ -22,6 +23,10 @@ const APART: &[Apart] = &[
     (OF_SAVED, "saved files", |relay| saved::programs_differ(&Core, relay)),
     (OF_ANNOUNCING, "announces of our own", |relay| announcing::programs_differ(&Core, relay)),
     (OF_SURVEYS, "surveys", |relay| survey::programs_differ(&Core, relay)),
+    (OF_OPINIONS, "second opinions", |relay| {
+        let faulty = Relay::new(relay.rules.clone());
+        opinion::opinions_differ(&mut SecondOpinion::default(), &mut Plain::by(faulty, relay.rules.clone()))
+    }),
 ];
 
 pub fn run(options: &Options, tally: &mut Tally) {

@@ -7,6 +7,7 @@ pub mod coverage;
 pub mod faults;
 pub mod listed;
 pub mod lockstep;
+pub mod opinion;
 pub mod packet;
 pub mod recording;
 mod relay;
@@ -72,6 +73,7 @@ pub const SUBJECTS: &[Subject] = &[
     ("recording", recording::run),
     ("saved", saved::run),
     ("survey", survey::run),
+    ("opinion", opinion::run),
     ("faults", faults::run),
 ];
 

@@ -78,7 +78,7 @@ mod tests {
         assert_eq!(decoded(0x0023_0000_0000_0002), Some(Ok(Answer::silent(Verdict::Deliver))));
         assert_eq!(decoded(0x0013_000f_0003), Some(Ok(Answer { verdict: Verdict::Forward(15), length: 19 })));
         assert_eq!(decoded(0x01f4_8001_0004), Some(Ok(Answer { verdict: Verdict::Spread(0x8001), length: 500 })));
-        assert_eq!([0x1c00, 0x0e01, 0x1101, 0x0301, 0x7_0601, 0x9_0301, 0x1_0d01, 6, 255].map(decoded), [None; 9]);
+        assert_eq!([0x1e00, 0x0e01, 0x1101, 0x0301, 0x7_0601, 0x9_0301, 0x1_0d01, 6, 255].map(decoded), [None; 9]);
     }
 
     /// 3.4 with 148 and 6.3 with 22,600, and with the greatest number of 41 bits.

@@ -230,7 +230,7 @@ impl<E: Engine> Run<E> {
 }
 
 /// Makes a buffer one of so many equal bytes.
-fn fill(buffer: &mut Vec<u8>, length: usize, byte: u8) {
+pub(crate) fn fill(buffer: &mut Vec<u8>, length: usize, byte: u8) {
     buffer.clear();
     buffer.resize(length, byte);
 }

@@ -12,6 +12,7 @@ mod exempt;
 mod judging;
 mod links;
 mod marks;
+mod opinion;
 mod outgoing;
 mod packets;
 mod rates;
@@ -36,6 +37,7 @@ pub use exempt::*;
 pub use judging::*;
 pub use links::*;
 pub use marks::*;
+pub use opinion::*;
 pub use outgoing::*;
 pub use packets::*;
 pub use rates::*;
@@ -107,8 +109,11 @@ pub const OF_ANNOUNCING: &[&[Fault]] = &[announcing::FAULTS];
 /// Those that show in surveys alone.
 pub const OF_SURVEYS: &[&[Fault]] = &[survey::FAULTS];
 
+/// Those that show in second opinions alone.
+pub const OF_OPINIONS: &[&[Fault]] = &[opinion::FAULTS];
+
 pub fn all() -> Vec<Fault> {
-    [OF_PACKETS, OF_TABLES, OF_JUDGING, OF_RECORDINGS, OF_SAVED, OF_ANNOUNCING, OF_SURVEYS].concat().concat()
+    [OF_PACKETS, OF_TABLES, OF_JUDGING, OF_RECORDINGS, OF_SAVED, OF_ANNOUNCING, OF_SURVEYS, OF_OPINIONS].concat().concat()
 }
 
 pub fn named(name: &str) -> Option<Fault> {

@@ -178,6 +178,11 @@ impl Traffic {
         Self::start(seed, false, true)
     }
 
+    /// Only calls that a second opinion takes, but for tallies.
+    pub fn plain(seed: u64) -> Self {
+        Self::start(seed, false, false)
+    }
+
     /// Only calls that are listed for hosts in other languages, but for tallies.
     pub fn for_hosts(seed: u64) -> Self {
         Self::start(seed, true, false)

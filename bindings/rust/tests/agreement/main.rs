@@ -10,7 +10,7 @@ use model::{constants_differ, functions_differ, structs_differ, Interface};
 use std::path::{Path, PathBuf};
 
 /// Where the lengths of what crosses are declared, each before its use: places and fields use one another's.
-const LENGTHS: [&str; 7] = [
+const LENGTHS: [&str; 8] = [
     "crates/rules/src/lib.rt",
     "crates/numbers/src/lib.rt",
     "crates/tables/src/places.rt",
@@ -18,6 +18,7 @@ const LENGTHS: [&str; 7] = [
     "crates/tables/src/places.rt",
     "crates/surveying/src/counting.rt",
     "crates/surveying/src/lib.rt",
+    "crates/opinion/src/log.rt",
 ];
 
 /// The texts of the three sources, and of the numbers of documents 01 and 02.
@@ -54,7 +55,9 @@ impl Texts {
             numbers: rattle_texts("crates/numbers/src")
                 + &text("crates/recording/src/numbers.rt")
                 + &text("crates/saved/src/format.rt")
-                + &rattle_texts("crates/surveying/src"),
+                + &rattle_texts("crates/surveying/src")
+                + &text("crates/opinion/src/log.rt")
+                + &text("crates/opinion/src/refusing.rt"),
         }
     }
 
@@ -172,9 +175,9 @@ fn the_three_agree() {
 fn something_is_compared() {
     let texts = Texts::read();
     let header = header::read("the header", &texts.header);
-    assert_eq!((header.functions.len(), header.structs.len()), (45, 18));
+    assert_eq!((header.functions.len(), header.structs.len()), (53, 19));
     assert_eq!(header.functions["haskumye_packet"].arguments.len(), 10);
-    assert_eq!(header.constants.len(), 109);
+    assert_eq!(header.constants.len(), 112);
 }
 
 #[test]
@@ -204,14 +207,14 @@ fn swapped_and_missing_arguments_are_seen() {
         ),
         (
             RUST,
-            "target: u64, grace: u64, penalty: u64",
-            "grace: u64, target: u64, penalty: u64",
+            "length: usize, target: u64, grace: u64, penalty: u64",
+            "length: usize, grace: u64, target: u64, penalty: u64",
             "haskumye_set_announce_rate: argument 3 is `target: u64` in the header, `grace: u64` in Rust",
         ),
         (
             RUST,
-            "port: u64, on: u8, mode: u64",
-            "mode: u64, on: u8, port: u64",
+            "length: usize, port: u64, on: u8, mode: u64",
+            "length: usize, mode: u64, on: u8, port: u64",
             "haskumye_set_port: argument 3 is `port: u64` in the header, `mode: u64` in Rust",
         ),
         (
@@ -228,8 +231,8 @@ fn swapped_and_missing_arguments_are_seen() {
         ),
         (
             RATTLE,
-            "mode: u64,\n    size: u64,\n",
-            "mode: u64,\n",
+            "tables: &mut [u8],\n    port: u64,\n    on: u8,\n    mode: u64,\n    size: u64,\n",
+            "tables: &mut [u8],\n    port: u64,\n    on: u8,\n    mode: u64,\n",
             "haskumye_set_port: the number of arguments is `6` in the header, `5` in the crate",
         ),
     ]);
@@ -238,7 +241,12 @@ fn swapped_and_missing_arguments_are_seen() {
 #[test]
 fn widths_are_seen() {
     assert_seen(&[
-        (HEADER, "uint8_t on,", "uint16_t on,", "haskumye_set_port: argument 4 is `on: u16` in the header, `on: u8` in Rust"),
+        (
+            HEADER,
+            "size_t length, uint64_t port, uint8_t on,",
+            "size_t length, uint64_t port, uint16_t on,",
+            "haskumye_set_port: argument 4 is `on: u16` in the header, `on: u8` in Rust",
+        ),
         (
             HEADER,
             "uint8_t haskumye_check_tables",
@@ -265,8 +273,8 @@ fn const_and_mut_are_told_apart() {
     assert_seen(&[
         (
             HEADER,
-            "const haskumye_port_map *map",
-            "haskumye_port_map *map",
+            "size_t length, const haskumye_port_map *map",
+            "size_t length, haskumye_port_map *map",
             "haskumye_renumber: argument 3 is `map: mut 16 of u8` in the header, `map: const 16 of u8` in the crate",
         ),
         (
@@ -310,6 +318,12 @@ fn lengths_of_blocks_are_seen() {
             "pub type Text = [u8; TEXT_SIZE];",
             "pub type Text = [u8; OUTPUT_SIZE];",
             "haskumye_line: argument 3 is `text: mut 160 of u8` in the header, `text: mut 500 of u8` in Rust",
+        ),
+        (
+            HEADER,
+            "HASKUMYE_LOG_SIZE 32721",
+            "HASKUMYE_LOG_SIZE 32720",
+            "haskumye_opinion_renumber: argument 1 is `log: mut 32720 of u8` in the header, `log: mut 32721 of u8` in the crate",
         ),
         (
             RATTLE,
@@ -450,6 +464,8 @@ fn limits_are_those_of_the_crate_of_numbers() {
             "PENALTY_LIMIT: u64 = 604_801",
             "HASKUMYE_PENALTY_LIMIT is 604800 in the header, 604801 in the numbers",
         ),
+        (NUMBERS, "LIST_FULL: u8 = 28", "LIST_FULL: u8 = 27", "HASKUMYE_REFUSAL_LIST_FULL is 28 in the header, 27 in the numbers"),
+        (NUMBERS, "LIST_LIMIT: usize = 64", "LIST_LIMIT: usize = 65", "HASKUMYE_LIST_LIMIT is 64 in the header, 65 in the numbers"),
         (NUMBERS, "MAP: u8 = 8", "MAP: u8 = 9", "HASKUMYE_REFUSAL_MAP is 8 in the header, 9 in the numbers"),
     ]);
 }

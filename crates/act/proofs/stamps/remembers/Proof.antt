@@ -4,13 +4,12 @@ use mathlib.Core.List.{List}
 use mathlib.Core.Path.{_≡_, sym, ap, _∙_}
 use borrow.Author.Needs.{needs}
 use Rattle.octets.specs.Index.{_and_}
-use Rattle.octets.proofs.Index.{and-yes, and-no}
+use Rattle.octets.proofs.Index.{and-yes, and-no, and-true}
 use Rattle.rules.specs.Exempt.{exempt}
 use Rattle.rules.specs.Writes.{alreadyLive}
 use Rattle.plan.specs.declared.Arrived.{Arrived}
 use Rattle.plan.specs.declared.Decision.{Decision}
 use Rattle.plan.specs.Decided.{arrivalOf, seen}
-use Rattle.plan.proofs.KindLaws.{and-true}
 use Rattle.act.specs.Stored.{decisionRemembers, remembersDecided}
 use Rattle.act.proofs.StampLaws.{forgotten}
 use Rattle.act.proofs.stamps.remembers.Statement.{statement}

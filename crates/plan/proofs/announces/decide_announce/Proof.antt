@@ -6,7 +6,7 @@ use Rattle.tables.proofs.Whole.{formed}
 use Rattle.tables.specs.Layout.{relayOf}
 use Rattle.outgoing.proofs.LeavingLaws.{whole}
 use Rattle.plan.specs.Decided.{arrivalOf}
-use Rattle.plan.proofs.KindLaws.{announce-long}
+use Rattle.forms.proofs.KindLaws.{announce-long}
 use Rattle.plan.proofs.AnnounceLaws.{can-know, announce-unsigned, announce-at, announce-nowhere}
 use Rattle.packet.specs.Read.{longestPacket}
 use Rattle.rules.specs.Arrival.{Arrival}

@@ -15,8 +15,9 @@ use Rattle.outgoing.proofs.LeavingLaws.{long}
 use Rattle.plan.specs.Decided.{arrivalOf, seen}
 use Rattle.plan.specs.First.{early, firstTests}
 use Rattle.plan.specs.declared.Early.the-variants.{Dropped}
-use Rattle.plan.proofs.FormLaws.{form-bad, form-good}
-use Rattle.plan.proofs.FirstLaws.{earlyFrom, hops-many, hops-few}
+use Rattle.forms.proofs.FormLaws.{form-bad, form-good}
+use Rattle.forms.proofs.KindLaws.{hops-many, hops-few}
+use Rattle.plan.proofs.FirstLaws.{earlyFrom}
 use Rattle.plan.proofs.first.first_tests.Statement.{statement}
 use Rattle.plan.proofs.first.first_tests.Tie as tie
 

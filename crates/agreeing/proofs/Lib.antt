@@ -1,0 +1,2 @@
+-- Engine and core answer alike.
+pub mod Agreement

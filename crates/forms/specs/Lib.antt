@@ -1,0 +1,2 @@
+-- What a packet's bytes alone say.
+pub mod Form

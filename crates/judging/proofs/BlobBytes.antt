@@ -1,0 +1,161 @@
+-- The 64 places of ten bytes in which a path's blobs stand.
+use Prim.Native.Nat.{ℕ, zero, suc, _+_, _*_, _-_, _≤_, _<_}
+use native.Mathlib.Omega.{arith}
+use mathlib.Core.Bool.{Bool, true, false}
+use mathlib.Core.List.{List, [], _∷_, _++_, append-assoc, append-nil}
+use mathlib.Core.Path.{_≡_, refl, sym, ap, ap₂, subst, _∙_}
+use lib.Dec.{eqb, ltb}
+use lib.ListN.{length, getD, set, take, drop, replicate, length-append, length-drop, length-set, drop-of-length-le, take-append-drop}
+use lib.Seq.{drop-cons, drop-drop, drop-at, drop-append-le, take-append-le, length-take-le, getD-take, ext-getD, getD-set-same, getD-set-other}
+use borrow.Author.Tests.{lt-ltb, le-ltb, ltb-true, ltb-false, eqb-true, eqb-false}
+use Rattle.octets.specs.Index.{listOf}
+use Rattle.octets.specs.Part.{part, patch}
+use Rattle.octets.specs.Index.{agree}
+use Rattle.octets.specs.Choice.{same}
+use Rattle.octets.proofs.Choice.{then-true, then-false, same-agree}
+use Rattle.octets.proofs.ListOf.{listOf-length, listOf-at, listOf-cong}
+use Rattle.octets.proofs.Part.{part-length, part-part, part-mid, patch-join, patch-whole}
+use Rattle.numbers.specs.Numbers.{blobLimit}
+use Rattle.rules.specs.Blobs.{held, noBlob, oneBlob, addBlob}
+use Rattle.judging.specs.Seen.{placesOf, blobsIn}
+
+module _ (b : List ℕ) where
+  pub places-length : length (placesOf b) ≡ blobLimit
+  unfolding placesOf
+  places-length = listOf-length _ blobLimit
+
+  pub place-at : (i : ℕ) → i < blobLimit → getD (placesOf b) i [] ≡ part b (10 * i) 10
+  unfolding placesOf
+  place-at i l = listOf-at (λ k. part b (10 * k) 10) blobLimit i [] l
+
+  -- ---- a loop over the blobs that are held, from the last one down
+  module _ (n : ℕ) (most : n ≤ blobLimit) where
+    held-length : length (held (blobsIn n b)) ≡ n
+    unfolding held
+    held-length = length-take-le n (placesOf b) (omega (arith, places-length))
+
+    pub held-end : drop n (held (blobsIn n b)) ≡ []
+    held-end = drop-of-length-le (held (blobsIn n b)) {i = n} (omega (arith, held-length))
+
+    -- what the comparison with the blob at place k says
+    pub compared : (x : List ℕ) → length b ≡ 640 → length x ≡ 10 → (k : ℕ) → k < blobLimit
+        → agree (length x) (part b (10 * k) (length x)) x ≡ same (part b (10 * k) 10) x
+    compared x lb lx k l =
+        ap (λ (m : ℕ). agree m (part b (10 * k) m) x) lx
+        ∙ sym (same-agree 10 (part b (10 * k) 10) x (part-length b (10 * k) 10 (omega (arith, lb, l))) lx)
+
+    pub held-front : (i : ℕ) → 0 < i → i ≤ n → drop (i - 1) (held (blobsIn n b)) ≡ part b (10 * (i - 1)) 10 ∷ drop i (held (blobsIn n b))
+    unfolding held
+    held-front i some l =
+        let here : i - 1 < n = omega arith in
+        let next : suc (i - 1) ≡ i = omega arith in
+        drop-cons (held (blobsIn n b)) (i - 1) [] (omega (arith, held-length))
+        ∙ ap₂ (λ (y : List ℕ) (r : List (List ℕ)). y ∷ r)
+        (getD-take n (placesOf b) (i - 1) [] here ∙ place-at (i - 1) (omega arith))
+        (ap (λ (k : ℕ). drop k (held (blobsIn n b))) next)
+
+-- ---- parts beside what is written
+part-front : (x r : List ℕ) (p n : ℕ) → p + n ≤ length x → part (x ++ r) p n ≡ part x p n
+unfolding part
+part-front x r p n h =
+    ap (take n) (drop-append-le p x r (omega arith)) ∙ take-append-le n (drop p x) r (omega (arith, length-drop p x))
+
+part-before : (t bs : List ℕ) (a p n : ℕ) → p + n ≤ a → a ≤ length t → part (patch t a bs) p n ≡ part t p n
+unfolding patch
+part-before t bs a p n h l =
+    let wide : length (take a t) ≡ a = length-take-le a t l in
+    part-front (take a t) (bs ++ drop (a + length bs) t) p n (omega (arith, wide))
+    ∙ sym (part-front (take a t) (drop a t) p n (omega (arith, wide)))
+    ∙ ap (λ (r : List ℕ). part r p n) (take-append-drop a t)
+
+part-after : (t bs : List ℕ) (a q n : ℕ) → a ≤ length t → part (patch t a bs) (a + length bs + q) n ≡ part t (a + length bs + q) n
+unfolding part patch
+part-after t bs a q n l =
+    let head : length (take a t ++ bs) ≡ a + length bs = length-append (take a t) bs ∙ ap (λ (k : ℕ). k + length bs) (length-take-le a t l) in
+    ap (λ (r : List ℕ). take n (drop (a + length bs + q) r)) (sym (append-assoc (take a t) bs (drop (a + length bs) t)))
+    ∙ ap (take n)
+    (sym (drop-drop q (a + length bs) (take a t ++ bs ++ drop (a + length bs) t))
+    ∙ ap (drop q) (drop-at (take a t ++ bs) (drop (a + length bs) t) (a + length bs) head)
+    ∙ drop-drop q (a + length bs) t)
+
+part-here : (t bs : List ℕ) (a n : ℕ) → a ≤ length t → length bs ≡ n → part (patch t a bs) a n ≡ bs
+unfolding patch
+part-here t bs a n l e = part-mid (take a t) bs (drop (a + length bs) t) a n (length-take-le a t l) e
+
+listOf-first : {A : Type 0} (f : ℕ → A) (n : ℕ) → listOf f (suc n) ≡ f 0 ∷ listOf (λ i. f (suc i)) n
+unfolding listOf
+listOf-first f zero = refl
+listOf-first {A} f (suc n) = ap (λ (xs : List A). xs ++ (f (suc n) ∷ [])) (listOf-first f n)
+
+-- ---- what is written
+module _ (b x : List ℕ) (lb : length b ≡ 640) (lx : length x ≡ 10) where
+  -- at a place
+  other-place : (i j : ℕ) → i < blobLimit → (j ≡ i → ⊥) → part (patch b (10 * i) x) (10 * j) 10 ≡ part b (10 * j) 10
+  other-place i j l ne = go (ltb j i) refl
+    where
+      go : (t : Bool) → ltb j i ≡ t → part (patch b (10 * i) x) (10 * j) 10 ≡ part b (10 * j) 10
+      go true q = part-before b x (10 * i) (10 * j) 10 (let m = ltb-true j i q in omega arith) (omega (arith, lb, l))
+      go false q =
+          let m : i < j = let n = ltb-false j i q in omega (arith, ne) in
+          let at : 10 * i + length x + (10 * j - 10 * i - 10) ≡ 10 * j = omega (arith, lx, m) in
+          subst (λ (k : ℕ). part (patch b (10 * i) x) k 10 ≡ part b k 10) at (part-after b x (10 * i) (10 * j - 10 * i - 10) 10 (omega (arith, lb, l)))
+
+  places-set : (i : ℕ) → i < blobLimit → placesOf (patch b (10 * i) x) ≡ set (placesOf b) i x
+  places-set i l =
+      ext-getD [] (placesOf (patch b (10 * i) x)) (set (placesOf b) i x)
+      (places-length (patch b (10 * i) x) ∙ sym (length-set (placesOf b) i x ∙ places-length b)) each
+    where
+      each : (j : ℕ) → j < length (placesOf (patch b (10 * i) x)) → getD (placesOf (patch b (10 * i) x)) j [] ≡ getD (set (placesOf b) i x) j []
+      each j m =
+          let k : j < blobLimit = omega (arith, m, places-length (patch b (10 * i) x)) in
+          place-at (patch b (10 * i) x) j k ∙ go (eqb j i) refl k
+        where
+          go : (t : Bool) → eqb j i ≡ t → j < blobLimit → part (patch b (10 * i) x) (10 * j) 10 ≡ getD (set (placesOf b) i x) j []
+          go true q k =
+              subst (λ (n : ℕ). part (patch b (10 * i) x) (10 * n) 10 ≡ getD (set (placesOf b) i x) n []) (sym (eqb-true j i q))
+              (part-here b x (10 * i) 10 (omega (arith, lb, l)) lx ∙ sym (getD-set-same (placesOf b) i x [] (omega (arith, l, places-length b))))
+          go false q k =
+              other-place i j l (eqb-false j i q)
+              ∙ sym (getD-set-other (placesOf b) i j x [] (eqb-false j i q) ∙ place-at b j k)
+
+  pub added : (n : ℕ) → n < blobLimit → blobsIn (n + 1) (patch b (10 * n) x) ≡ addBlob blobLimit x (blobsIn n b)
+  unfolding addBlob
+  added n l = ap (λ (ps : List (List ℕ)). record { count = n + 1; places = ps }) (places-set n l) ∙ sym (then-true _ _ (lt-ltb n blobLimit l))
+
+  -- the oldest goes
+  moved : placesOf (part b 10 630 ++ x) ≡ drop 1 (placesOf b) ++ (x ∷ [])
+  unfolding placesOf listOf
+  moved =
+      ap₂ (λ (r : List (List ℕ)) (y : List ℕ). r ++ (y ∷ []))
+      (listOf-cong _ (λ i. part b (10 * suc i) 10) 63 each)
+      (ap (λ (r : List ℕ). part (part b 10 630 ++ r) 630 10) (sym (append-nil x)) ∙ part-mid (part b 10 630) x [] 630 10 wide lx)
+      ∙ ap (λ (r : List (List ℕ)). drop 1 r ++ (x ∷ [])) (sym (listOf-first (λ i. part b (10 * i) 10) 63))
+    where
+      wide : length (part b 10 630) ≡ 630
+      wide = part-length b 10 630 (omega (arith, lb))
+
+      each : (i : ℕ) → i < 63 → part (part b 10 630 ++ x) (10 * i) 10 ≡ part b (10 * suc i) 10
+      each i l =
+          part-front (part b 10 630) x (10 * i) 10 (omega (arith, wide, l))
+          ∙ part-part b 10 630 (10 * i) 10 (omega arith)
+          ∙ ap (λ (k : ℕ). part b k 10) (let e : 10 + 10 * i ≡ 10 * suc i = omega arith in e)
+
+  pub pushed : (n : ℕ) → blobLimit ≤ n → blobsIn n (patch (patch b 0 (part b 10 630)) 630 x) ≡ addBlob blobLimit x (blobsIn n b)
+  unfolding addBlob
+  pushed n l =
+      let wide : length (part b 10 630) ≡ 630 = part-length b 10 630 (omega (arith, lb)) in
+      let all : length (part b 10 630 ++ x) ≡ length b = length-append (part b 10 630) x ∙ omega (arith, wide, lx, lb) in
+      ap (blobsIn n) (patch-join b 0 630 (part b 10 630) x (omega (arith, wide)) (omega (arith, lx, lb)) ∙ patch-whole b (part b 10 630 ++ x) all)
+      ∙ ap (λ (ps : List (List ℕ)). record { count = n; places = ps }) moved
+      ∙ sym (then-false _ _ (le-ltb n blobLimit l))
+
+-- a new path's
+no-blobs : placesOf (replicate 640 0) ≡ replicate blobLimit noBlob
+unfolding placesOf listOf part
+no-blobs = refl
+
+pub one-written : (x : List ℕ) → length x ≡ 10 → blobsIn 1 (patch (replicate 640 0) 0 x) ≡ oneBlob blobLimit x
+unfolding oneBlob
+one-written x lx =
+    ap (λ (ps : List (List ℕ)). record { count = 1; places = ps })
+    (places-set (replicate 640 0) x refl lx 0 (omega arith) ∙ ap (λ (ps : List (List ℕ)). set ps 0 x) no-blobs)

@@ -1,0 +1,34 @@
+use mathlib.Core.Path.{ap, ap₂, _∙_}
+use mathlib.Core.Bool.{Bool, not}
+use Rattle.octets.specs.Index.{_and_}
+use Rattle.judging.specs.Seen.{viewOf}
+use Rattle.rules.specs.Tests.{testedAsDuplicate, duplicate}
+use borrow.Author.Needs.{needs}
+use Rattle.judging.proofs.early.duplicate.Statement.{statement}
+use Rattle.judging.proofs.early.duplicate.Tie as tie
+
+for-marked-path-requires : tie.Need-for-marked-path-requires
+for-marked-path-requires c κs = search needs
+
+exempt-requires : tie.Need-exempt-requires
+exempt-requires c κs = search needs
+
+both-requires : tie.Need-both-requires
+both-requires c κs = search needs
+
+both-requires-2 : tie.Need-both-requires-2
+both-requires-2 c κs = search needs
+
+returns : tie.Need-returns
+unfolding duplicate testedAsDuplicate viewOf
+returns c =
+    let c2 = c .before .before in
+    let c3 = c2 .before in
+    let c5 = c3 .before .before in
+    let tested = c .before .both .ensures ∙ ap₂ _and_ (ap not (c2 .exempt .ensures)) (ap not (c3 .for-marked-path .ensures)) in
+    c .both2 .ensures ∙ ap (λ (t : Bool). t and c5 .args .seen .remembered) tested
+
+pub duplicate-spec : {M : Type 1} → statement M
+duplicate-spec =
+    tie.close
+    (tie.spec for-marked-path-requires exempt-requires both-requires both-requires-2 returns)

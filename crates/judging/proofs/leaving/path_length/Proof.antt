@@ -1,0 +1,19 @@
+use mathlib.Core.Path.{_≡_, sym, _∙_}
+use lib.ListN.{length}
+use Rattle.packet.specs.Read.{longestPacket}
+use Rattle.outgoing.proofs.LeavingLaws.{path-length}
+use borrow.Author.Needs.{needs}
+use Rattle.judging.proofs.leaving.path_length.Statement.{statement}
+use Rattle.judging.proofs.leaving.path_length.Tie as tie
+
+path-length-requires : tie.Need-path-length-requires
+path-length-requires c κs = search needs
+
+returns : tie.Need-returns
+returns c =
+    let c2 = c .before .before in
+    let wide : length (c2 .args .next-hop) ≡ 16 = search needs in
+    c .path-length .ensures ∙ sym (path-length longestPacket (c2 .args .packet .now) (c2 .pre) (c2 .args .hops) (c2 .args .next-hop) wide)
+
+pub path-length-spec : {M : Type 1} → statement M
+path-length-spec = tie.close (tie.spec path-length-requires returns)

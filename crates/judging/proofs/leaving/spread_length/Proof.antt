@@ -1,0 +1,19 @@
+use mathlib.Core.Path.{_≡_, sym, _∙_}
+use lib.ListN.{length}
+use Rattle.packet.specs.Read.{longestPacket}
+use Rattle.outgoing.proofs.LeavingLaws.{spread-length}
+use borrow.Author.Needs.{needs}
+use Rattle.judging.proofs.leaving.spread_length.Statement.{statement}
+use Rattle.judging.proofs.leaving.spread_length.Tie as tie
+
+spread-length-requires : tie.Need-spread-length-requires
+spread-length-requires c κs = search needs
+
+returns : tie.Need-returns
+returns c =
+    let c2 = c .before .before in
+    let wide : length (c2 .args .own) ≡ 16 = search needs in
+    c .spread-length .ensures ∙ sym (spread-length longestPacket (c2 .args .packet .now) (c2 .pre) (c2 .args .own) wide)
+
+pub spread-length-spec : {M : Type 1} → statement M
+spread-length-spec = tie.close (tie.spec spread-length-requires returns)

@@ -1,0 +1,59 @@
+use mathlib.Core.Path.{sym, ap₂, _∙_}
+use Rattle.octets.specs.Index.{_and_}
+use Rattle.octets.specs.Choice.{_or_}
+use Rattle.packet.specs.Read.{longestPacket}
+use Rattle.outgoing.proofs.LeavingLaws.{long}
+use Rattle.judging.specs.Seen.{viewOf}
+use Rattle.rules.specs.Tests.{alreadyKnown}
+use Rattle.judging.proofs.SeenLaws.{there-seen, proved-seen}
+use native.Mathlib.Omega.{arith}
+use borrow.Author.Needs.{needs}
+use Rattle.judging.proofs.onward.already_known.Statement.{statement}
+use Rattle.judging.proofs.onward.already_known.Tie as tie
+
+shared-slice-read-is-link-request : tie.Need-shared-slice-read-is-link-request
+shared-slice-read-is-link-request c = omega (arith, long longestPacket (c .before .before .args .packet .now) (c .before .before .pre))
+
+is-link-request-requires : tie.Need-is-link-request-requires
+is-link-request-requires c κs = search needs
+
+both-requires : tie.Need-both-requires
+both-requires c κs = search needs
+
+follows-proved-link-requires : tie.Need-follows-proved-link-requires
+follows-proved-link-requires c κs = search needs
+
+is-link-proof-requires : tie.Need-is-link-proof-requires
+is-link-proof-requires c κs = search needs
+
+both-requires-2 : tie.Need-both-requires-2
+both-requires-2 c κs = search needs
+
+either-requires : tie.Need-either-requires
+either-requires c κs = search needs
+
+returns : tie.Need-returns
+unfolding alreadyKnown viewOf
+returns c =
+    let c2 = c .before .before in
+    let c3 = c2 .before in
+    let c4 = c3 .before in
+    let c5 = c4 .before in
+    let c8 = c5 .before .before .before in
+    c .either .ensures
+    ∙ ap₂ _or_ (c4 .both .ensures ∙ ap₂ _and_ (c5 .is-link-request .ensures) (sym (there-seen (c8 .args .seen .link))))
+    (c .before .both2 .ensures ∙ ap₂ _and_ (c2 .is-link-proof .ensures) (c3 .follows-proved-link .ensures
+    ∙ proved-seen (c8 .args .seen) _ (c8 .args .way)))
+
+pub already-known-spec : {M : Type 1} → statement M
+already-known-spec =
+    tie.close
+    (tie.spec
+    shared-slice-read-is-link-request
+    is-link-request-requires
+    both-requires
+    follows-proved-link-requires
+    is-link-proof-requires
+    both-requires-2
+    either-requires
+    returns)

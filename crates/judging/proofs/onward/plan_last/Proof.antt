@@ -1,0 +1,130 @@
+use mathlib.Core.Path.{sym, _∙_}
+use Rattle.judging.specs.Seen.{arrivalOf, viewOf, wayOf}
+use Rattle.judging.proofs.SeenLaws.{room-seen}
+use Rattle.judging.proofs.PlanLaws.{onward-10, past-10, onward-11, past-11, onward-15, past-15, onward-12, past-12, onward-16, past-16, past-13}
+use Rattle.judging.proofs.onward.plan_last.Statement.{statement}
+use Rattle.judging.proofs.onward.plan_last.Tie as tie
+
+replay-requires : tie.Need-replay-requires
+replay-requires c κs = c .before .pre
+
+returns : tie.Need-returns
+returns c =
+    let a = arrivalOf (c .before .before .before .args .packet .now) (c .before .before .before .args .arrived) in
+    let s = c .before .before .before .args .seen in
+    let v = viewOf s a in
+    let w = wayOf s a (c .before .before .before .args .way) in
+    sym (onward-10 v a w (sym (c .before .replay .ensures) ∙ c .if1 .taken))
+
+not-better-requires : tie.Need-not-better-requires
+not-better-requires c κs = c .before .before .before .pre
+
+returns-2 : tie.Need-returns-2
+returns-2 c =
+    let a = arrivalOf (c .before .before .before .before .before .args .packet .now) (c .before .before .before .before .before .args .arrived) in
+    let s = c .before .before .before .before .before .args .seen in
+    let v = viewOf s a in
+    let w = wayOf s a (c .before .before .before .before .before .args .way) in
+    sym (past-10 v a w (sym (c .before .before .before .replay .ensures) ∙ c .before .before .if1 .left)
+    ∙ onward-11 v a w (sym (c .before .not-better .ensures) ∙ c .if2 .taken))
+
+rate-limited-requires : tie.Need-rate-limited-requires
+rate-limited-requires c κs = c .before .before .before .before .before .pre
+
+returns-3 : tie.Need-returns-3
+returns-3 c =
+    let c2 = c .before .before in
+    let c3 = c2 .before in
+    let c4 = c3 .before in
+    let c5 = c4 .before in
+    let c7 = c5 .before .before in
+    let a = arrivalOf (c7 .args .packet .now) (c7 .args .arrived) in
+    let s = c7 .args .seen in
+    let v = viewOf s a in
+    let w = wayOf s a (c7 .args .way) in
+    sym (past-10 v a w (sym (c5 .replay .ensures) ∙ c4 .if1 .left)
+    ∙ past-11 v a w (sym (c3 .not-better .ensures) ∙ c2 .if2 .left)
+    ∙ onward-15 v a w (sym (c .before .rate-limited .ensures) ∙ c .if3 .taken))
+
+port-off-requires : tie.Need-port-off-requires
+port-off-requires c κs = c .before .before .before .before .before .before .before .pre .readable
+
+returns-4 : tie.Need-returns-4
+returns-4 c =
+    let c2 = c .before .before in
+    let c3 = c2 .before in
+    let c4 = c3 .before in
+    let c5 = c4 .before in
+    let c6 = c5 .before in
+    let c7 = c6 .before in
+    let c9 = c7 .before .before in
+    let a = arrivalOf (c9 .args .packet .now) (c9 .args .arrived) in
+    let s = c9 .args .seen in
+    let v = viewOf s a in
+    let w = wayOf s a (c9 .args .way) in
+    sym (past-10 v a w (sym (c7 .replay .ensures) ∙ c6 .if1 .left)
+    ∙ past-11 v a w (sym (c5 .not-better .ensures) ∙ c4 .if2 .left)
+    ∙ past-15 v a w (sym (c3 .rate-limited .ensures) ∙ c2 .if3 .left)
+    ∙ onward-12 v a w (sym (c .before .port-off .ensures) ∙ c .if4 .taken))
+
+too-long-for-port-requires : tie.Need-too-long-for-port-requires
+too-long-for-port-requires c κs = c .before .before .before .before .before .before .before .before .before .pre .readable
+
+returns-5 : tie.Need-returns-5
+returns-5 c =
+    let c2 = c .before .before in
+    let c3 = c2 .before in
+    let c4 = c3 .before in
+    let c5 = c4 .before in
+    let c6 = c5 .before in
+    let c7 = c6 .before in
+    let c8 = c7 .before in
+    let c9 = c8 .before in
+    let c11 = c9 .before .before in
+    let a = arrivalOf (c11 .args .packet .now) (c11 .args .arrived) in
+    let s = c11 .args .seen in
+    let v = viewOf s a in
+    let w = wayOf s a (c11 .args .way) in
+    sym (past-10 v a w (sym (c9 .replay .ensures) ∙ c8 .if1 .left)
+    ∙ past-11 v a w (sym (c7 .not-better .ensures) ∙ c6 .if2 .left)
+    ∙ past-15 v a w (sym (c5 .rate-limited .ensures) ∙ c4 .if3 .left)
+    ∙ past-12 v a w (sym (c3 .port-off .ensures) ∙ c2 .if4 .left)
+    ∙ onward-16 v a w (sym (c .before .too-long-for-port .ensures) ∙ c .if5 .taken))
+
+returns-6 : tie.Need-returns-6
+returns-6 c =
+    let c2 = c .before .before in
+    let c3 = c2 .before in
+    let c4 = c3 .before in
+    let c5 = c4 .before in
+    let c6 = c5 .before in
+    let c7 = c6 .before in
+    let c8 = c7 .before in
+    let c9 = c8 .before in
+    let c11 = c9 .before .before in
+    let a = arrivalOf (c11 .args .packet .now) (c11 .args .arrived) in
+    let s = c11 .args .seen in
+    let v = viewOf s a in
+    let w = wayOf s a (c11 .args .way) in
+    sym (past-10 v a w (sym (c9 .replay .ensures) ∙ c8 .if1 .left)
+    ∙ past-11 v a w (sym (c7 .not-better .ensures) ∙ c6 .if2 .left)
+    ∙ past-15 v a w (sym (c5 .rate-limited .ensures) ∙ c4 .if3 .left)
+    ∙ past-12 v a w (sym (c3 .port-off .ensures) ∙ c2 .if4 .left)
+    ∙ past-16 v a w (sym (c .before .too-long-for-port .ensures) ∙ c .if5 .left)
+    ∙ past-13 v a w (room-seen s a w))
+
+pub plan-last-spec : {M : Type 1} → statement M
+plan-last-spec =
+    tie.close
+    (tie.spec
+    replay-requires
+    returns
+    not-better-requires
+    returns-2
+    rate-limited-requires
+    returns-3
+    port-off-requires
+    returns-4
+    too-long-for-port-requires
+    returns-5
+    returns-6)

@@ -1,0 +1,55 @@
+use Rattle.opinion.proofs.Walk.{fresh-link}
+use Rattle.opinion.specs.Steps.{LinkKnown}
+use Prim.Native.Nat.{ℕ, _≤_, _-_}
+use mathlib.Core.Path.{_≡_, subst, _∙_}
+use native.Mathlib.Omega.{arith}
+use borrow.Author.Needs.{needs}
+use Rattle.opinion.proofs.links.link_of.Statement.{statement}
+use Rattle.opinion.proofs.links.link_of.Tie as tie
+
+abbrev Inv-loop : tie.InvT-loop
+Inv-loop log effects n id link₀ i₀ link i = (i ≤ n) × LinkKnown log i id link
+
+abbrev μ-loop : tie.MeasureT-loop
+μ-loop log effects n id link₀ i₀ link i = n - i
+
+no-link-requires : tie.Need-no-link-requires Inv-loop μ-loop
+no-link-requires c κs = search needs
+
+loop-holds : tie.Need-loop-holds Inv-loop μ-loop
+loop-holds c =
+    (omega arith, record { is = c .no-link .ensures .0 ∙ fresh-link _ _; asking = c .no-link .ensures .1; answering = c .no-link .ensures .2 })
+
+link-after-requires : tie.Need-link-after-requires Inv-loop μ-loop
+link-after-requires c κs =
+    let c5 = c .before .before .before .before .before in
+    ((c5 .pre .0, c5 .pre .1, omega (arith, c5 .pre .2), λ j l. c5 .pre .3 j (omega arith)), omega (arith, c5 .pre .2), c .before .loop .inv .1)
+
+add-i : tie.Need-add-i Inv-loop μ-loop
+add-i c = search needs
+
+loop-less : tie.Need-loop-less Inv-loop μ-loop
+loop-less c = search needs
+
+loop-again : tie.Need-loop-again Inv-loop μ-loop
+loop-again c = (omega arith, c .link-after .ensures)
+
+returns : tie.Need-returns Inv-loop μ-loop
+returns c =
+    let c5 = c .before .before .before .before .before in
+    let last : c .before .loop .i ≡ c5 .args .n = omega arith in
+    subst (λ (m : ℕ). LinkKnown (c5 .args .log .now) m (c5 .args .id) (c .before .loop .link)) last (c .before .loop .inv .1)
+
+pub link-of-spec : {M : Type 1} → statement M
+link-of-spec =
+    tie.close
+    (tie.spec
+    Inv-loop
+    μ-loop
+    no-link-requires
+    loop-holds
+    link-after-requires
+    add-i
+    loop-less
+    loop-again
+    returns)

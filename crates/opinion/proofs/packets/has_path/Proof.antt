@@ -1,0 +1,49 @@
+use Rattle.opinion.proofs.Judged.{there-is}
+use Rattle.history.specs.Known.{onlyIf, seenAt}
+use Rattle.judging.specs.Seen.{pathOf}
+use Rattle.rules.specs.Tests.{isThere}
+use Rattle.rules.specs.Relay.{Path}
+use Rattle.numbers.specs.Numbers.{live}
+use mathlib.Core.Path.{ap, _∙_}
+use borrow.Author.Needs.{needs}
+use Rattle.opinion.proofs.packets.has_path.Statement.{statement}
+use Rattle.opinion.proofs.packets.has_path.Tie as tie
+
+slice-aggregate-outcomes : tie.Need-slice-aggregate-outcomes
+slice-aggregate-outcomes c = search needs
+
+slice-aggregate-outcomes-2 : tie.Need-slice-aggregate-outcomes-2
+slice-aggregate-outcomes-2 c = search needs
+
+outcomes-requires : tie.Need-outcomes-requires
+outcomes-requires c κs =
+    let c3 = c .before .before .before in
+    (c3 .pre .0, c3 .pre .1, search needs, search needs)
+
+slice-aggregate-path-of : tie.Need-slice-aggregate-path-of
+slice-aggregate-path-of c = search needs
+
+path-of-requires : tie.Need-path-of-requires
+path-of-requires c κs = c .before .before .before .outcomes .ensures .0
+
+live-path-requires : tie.Need-live-path-requires
+live-path-requires c κs = (c .path-of .ensures .fits, c .path-of .ensures .port)
+
+returns : tie.Need-returns
+unfolding seenAt pathOf
+returns c =
+    let c9 = c .before .before .before .before .before .before .before .before .before in
+    there-is _ _ ∙ ap isThere (c .live-path .ensures .0 (c9 .args .destination)
+    ∙ ap (onlyIf (λ (p : Path). live (c9 .args .clock) (p .expiry))) (c .before .path-of .ensures .is))
+
+pub has-path-spec : {M : Type 1} → statement M
+has-path-spec =
+    tie.close
+    (tie.spec
+    slice-aggregate-outcomes
+    slice-aggregate-outcomes-2
+    outcomes-requires
+    slice-aggregate-path-of
+    path-of-requires
+    live-path-requires
+    returns)

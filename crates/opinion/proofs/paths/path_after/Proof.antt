@@ -1,0 +1,117 @@
+use Rattle.opinion.proofs.Steps.{renumber-path, mark-step, another-mark, path-left}
+use Rattle.judging.specs.Seen.{pathOf}
+use Rattle.rules.specs.Renumbering.{image}
+use Rattle.octets.specs.Choice.{same}
+use Rattle.opinion.specs.Log.{addressIn, imagesIn, kindIn}
+use mathlib.Core.List.{List}
+use Prim.Native.Nat.{ℕ}
+use mathlib.Core.Path.{sym, ap, _∙_}
+use Rattle.opinion.proofs.paths.path_after.Statement.{statement}
+use Rattle.opinion.proofs.paths.path_after.Tie as tie
+
+entry-at-requires : tie.Need-entry-at-requires
+entry-at-requires c κs = (c .before .pre .0, c .before .pre .1)
+
+kind-in-requires : tie.Need-kind-in-requires
+kind-in-requires c κs = c .entry-at .ensures .1
+
+image-in-requires : tie.Need-image-in-requires
+image-in-requires c κs = (c .before .before .entry-at .ensures .1, c .before .before .before .before .pre .3 .port)
+
+returns : tie.Need-returns
+unfolding pathOf
+returns c =
+    let c3 = c .before .before .before in
+    let c5 = c3 .before .before in
+    let log = c5 .args .log .now in
+    let i : ℕ = c5 .args .i in
+    record {
+      is = renumber-path log i (c5 .args .destination) (c5 .args .before) (c5 .pre .3 .is) (sym (ap kindIn (c3 .entry-at .ensures .0))
+          ∙ sym (c .before .before .kind-in .ensures) ∙ c .before .if1 .taken) _ (c .image-in .ensures .0
+          ∙ ap (λ (b : List ℕ). image (imagesIn b) (c5 .args .before .port)) (c3 .entry-at .ensures .0));
+      fits = record { entry = c5 .pre .3 .fits .entry; blobs = c5 .pre .3 .fits .blobs };
+      port = c .image-in .ensures .1;
+    }
+
+has-address-requires : tie.Need-has-address-requires
+has-address-requires c κs = c .before .before .before .entry-at .ensures .1
+
+returns-2 : tie.Need-returns-2
+unfolding pathOf
+returns-2 c =
+    let c4 = c .before .before .before .before in
+    let c5 = c4 .before in
+    let c7 = c5 .before .before in
+    let log = c7 .args .log .now in
+    let i : ℕ = c7 .args .i in
+    record {
+      is = mark-step log i (c7 .args .destination) (c7 .args .before) (c7 .pre .3 .is) (sym (ap kindIn (c5 .entry-at .ensures .0))
+          ∙ sym (c4 .kind-in .ensures) ∙ c .before .before .if2 .taken) (sym (c .before .has-address .ensures
+          ∙ ap (λ (b : List ℕ). same (addressIn b) (c7 .args .destination)) (c5 .entry-at .ensures .0)) ∙ c .if3 .taken);
+      fits = record { entry = c7 .pre .3 .fits .entry; blobs = c7 .pre .3 .fits .blobs };
+      port = c7 .pre .3 .port;
+    }
+
+returns-3 : tie.Need-returns-3
+returns-3 c =
+    let c4 = c .before .before .before .before in
+    let c5 = c4 .before in
+    let c7 = c5 .before .before in
+    let log = c7 .args .log .now in
+    let i : ℕ = c7 .args .i in
+    record {
+      is = another-mark log i (c7 .args .destination) (c7 .args .before) (c7 .pre .3 .is) (sym (ap kindIn (c5 .entry-at .ensures .0))
+          ∙ sym (c4 .kind-in .ensures) ∙ c .before .before .if2 .taken) (sym (c .before .has-address .ensures
+          ∙ ap (λ (b : List ℕ). same (addressIn b) (c7 .args .destination)) (c5 .entry-at .ensures .0)) ∙ c .if3 .left);
+      fits = c7 .pre .3 .fits;
+      port = c7 .pre .3 .port;
+    }
+
+after-announce-requires : tie.Need-after-announce-requires
+after-announce-requires c κs =
+    let c6 = c .before .before .before .before .before .before in
+    (c6 .pre .0, c6 .pre .1, sym (c6 .pre .2) ∙ c .if4 .taken, c6 .pre .3)
+
+returns-4 : tie.Need-returns-4
+returns-4 c = c .after-announce .ensures
+
+after-limit-requires : tie.Need-after-limit-requires
+after-limit-requires c κs =
+    let c7 = c .before .before .before .before .before .before .before in
+    (c7 .pre .0, c7 .pre .1, sym (c7 .pre .2) ∙ c .if5 .taken, c7 .pre .3)
+
+returns-5 : tie.Need-returns-5
+returns-5 c = c .after-limit .ensures
+
+returns-6 : tie.Need-returns-6
+returns-6 c =
+    let c3 = c .before .before .before in
+    let c4 = c3 .before in
+    let c5 = c4 .before in
+    let c7 = c5 .before .before in
+    let log = c7 .args .log .now in
+    let i : ℕ = c7 .args .i in
+    record {
+      is = path-left log i (c7 .args .destination) (c7 .args .before) (c7 .pre .3 .is) (λ q. c .before .before .if2 .left (c4 .kind-in .ensures
+          ∙ ap kindIn (c5 .entry-at .ensures .0) ∙ q)) (λ q. c3 .if1 .left (c4 .kind-in .ensures ∙ ap kindIn (c5 .entry-at .ensures .0)
+          ∙ q)) (λ q. c .before .if4 .left (c7 .pre .2 ∙ q)) (λ q. c .if5 .left (c7 .pre .2 ∙ q));
+      fits = c7 .pre .3 .fits;
+      port = c7 .pre .3 .port;
+    }
+
+pub path-after-spec : {M : Type 1} → statement M
+path-after-spec =
+    tie.close
+    (tie.spec
+    entry-at-requires
+    kind-in-requires
+    image-in-requires
+    returns
+    has-address-requires
+    returns-2
+    returns-3
+    after-announce-requires
+    returns-4
+    after-limit-requires
+    returns-5
+    returns-6)

@@ -1,0 +1,38 @@
+use Rattle.octets.specs.BigEndian.{bigEndian}
+use Rattle.octets.specs.Part.{patch}
+use borrow.Author.Needs.{needs}
+use Rattle.opinion.proofs.writing.head_of.Statement.{statement}
+use Rattle.opinion.proofs.writing.head_of.Tie as tie
+
+mark-of-requires : tie.Need-mark-of-requires
+mark-of-requires c κs = search needs
+
+slice-aggregate-write-number-at : tie.Need-slice-aggregate-write-number-at
+slice-aggregate-write-number-at c = search needs
+
+write-number-at-requires : tie.Need-write-number-at-requires
+write-number-at-requires c κs = search needs
+
+slice-aggregate-write-number-at-2 : tie.Need-slice-aggregate-write-number-at-2
+slice-aggregate-write-number-at-2 c = search needs
+
+write-number-at-requires-2 : tie.Need-write-number-at-requires-2
+write-number-at-requires-2 c κs = search needs
+
+returns : tie.Need-returns
+unfolding patch bigEndian
+returns c =
+    let c4 = c .before .before .before .before in
+    let c6 = c4 .before .before in
+    rw (c .before .write-number-at2 .ensures, c4 .write-number-at .ensures, c6 .mark-of .ensures)
+
+pub head-of-spec : {M : Type 1} → statement M
+head-of-spec =
+    tie.close
+    (tie.spec
+    mark-of-requires
+    slice-aggregate-write-number-at
+    write-number-at-requires
+    slice-aggregate-write-number-at-2
+    write-number-at-requires-2
+    returns)

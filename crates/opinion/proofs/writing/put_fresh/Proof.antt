@@ -1,0 +1,35 @@
+use Rattle.opinion.proofs.Written.{fresh-log}
+use Rattle.opinion.specs.Calls.{IsFresh}
+use Rattle.octets.specs.Part.{patch}
+use lib.ListN.{length}
+use mathlib.Core.Path.{_≡_, sym, ap, subst, _∙_}
+use mathlib.Core.List.{List, [], _∷_}
+use Prim.Native.Nat.{ℕ}
+use borrow.Author.Needs.{needs}
+use Rattle.opinion.proofs.writing.put_fresh.Statement.{statement}
+use Rattle.opinion.proofs.writing.put_fresh.Tie as tie
+
+slice-aggregate-copy-at : tie.Need-slice-aggregate-copy-at
+slice-aggregate-copy-at c = search needs
+
+copy-at-requires : tie.Need-copy-at-requires
+copy-at-requires c κs = search needs
+
+set-at-requires : tie.Need-set-at-requires
+set-at-requires c κs = search needs
+
+same-length : tie.Need-same-length
+same-length c = search needs
+
+returns : tie.Need-returns
+returns c =
+    let c6 = c .before .before .before .before .before .before in
+    let c10 = c6 .before .before .before .before in
+    let wide : length (c10 .args .t2) ≡ 16 = search needs in
+    subst (IsFresh (c10 .args .t2)) (sym (c .before .before .set-at .ensures
+    ∙ ap (λ (t : List ℕ). patch t 16 (0 ∷ [])) (c6 .copy-at .ensures))) (fresh-log (c10 .args .log .now) (c10 .args .t2) (c10 .pre) wide)
+
+pub put-fresh-spec : {M : Type 1} → statement M
+put-fresh-spec =
+    tie.close
+    (tie.spec slice-aggregate-copy-at copy-at-requires set-at-requires same-length returns)

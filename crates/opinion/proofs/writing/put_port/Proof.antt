@@ -1,0 +1,38 @@
+use Rattle.rules.specs.Calls.{sets-port}
+use Rattle.history.specs.After.{called}
+use Rattle.opinion.proofs.Put.{port-put}
+use Rattle.opinion.specs.Steps.{Adds, withEntry}
+use Prim.Native.Nat.{ℕ}
+use mathlib.Core.List.{List, _++_, []}
+use mathlib.Core.Path.{sym, ap, subst, _∙_}
+use borrow.Author.Needs.{needs}
+use Rattle.opinion.proofs.writing.put_port.Statement.{statement}
+use Rattle.opinion.proofs.writing.put_port.Tie as tie
+
+head-of-requires : tie.Need-head-of-requires
+head-of-requires c κs = search needs
+
+slice-aggregate-put-entry : tie.Need-slice-aggregate-put-entry
+slice-aggregate-put-entry c = search needs
+
+put-entry-requires : tie.Need-put-entry-requires
+put-entry-requires c κs = search needs
+
+same-length : tie.Need-same-length
+same-length c = search needs
+
+returns : tie.Need-returns
+returns c =
+    let c5 = c .before .before .before .before .before in
+    let c7 = c5 .before .before in
+    let log = c7 .args .log .now in
+    let n : ℕ = c7 .args .n in
+    let a = c7 .args in
+    subst (Adds log n (called (sets-port (a .port) (a .on) (a .mode) (a .size))))
+    (sym (c .before .before .put-entry .ensures ∙ ap (λ (h : List ℕ). withEntry log n (h ++ [])) (c5 .head-of .ensures)))
+    (port-put log n (c7 .pre .0) (c7 .pre .1) (a .port) (a .on) (a .mode) (a .size) (c7 .pre .2) (c7 .pre .3))
+
+pub put-port-spec : {M : Type 1} → statement M
+put-port-spec =
+    tie.close
+    (tie.spec head-of-requires slice-aggregate-put-entry put-entry-requires same-length returns)

@@ -1,0 +1,40 @@
+use Rattle.rules.specs.Calls.{removes}
+use Rattle.history.specs.After.{called}
+use lib.ListN.{length}
+use Rattle.opinion.proofs.Put.{removed-put}
+use Rattle.opinion.specs.Steps.{Adds, withEntry}
+use Prim.Native.Nat.{ℕ}
+use mathlib.Core.List.{List, _++_}
+use mathlib.Core.Path.{_≡_, sym, ap, subst, _∙_}
+use borrow.Author.Needs.{needs}
+use Rattle.opinion.proofs.writing.put_removed.Statement.{statement}
+use Rattle.opinion.proofs.writing.put_removed.Tie as tie
+
+head-of-requires : tie.Need-head-of-requires
+head-of-requires c κs = search needs
+
+slice-aggregate-put-entry : tie.Need-slice-aggregate-put-entry
+slice-aggregate-put-entry c = search needs
+
+put-entry-requires : tie.Need-put-entry-requires
+put-entry-requires c κs = search needs
+
+same-length : tie.Need-same-length
+same-length c = search needs
+
+returns : tie.Need-returns
+returns c =
+    let c5 = c .before .before .before .before .before in
+    let c7 = c5 .before .before in
+    let log = c7 .args .log .now in
+    let n : ℕ = c7 .args .n in
+    let address = c7 .args .t3 in
+    let wide : length address ≡ 16 = search needs in
+    subst (Adds log n (called (removes address)))
+    (sym (c .before .before .put-entry .ensures ∙ ap (λ (h : List ℕ). withEntry log n (h ++ address)) (c5 .head-of .ensures)))
+    (removed-put log n (c7 .pre .0) (c7 .pre .1) address wide)
+
+pub put-removed-spec : {M : Type 1} → statement M
+put-removed-spec =
+    tie.close
+    (tie.spec head-of-requires slice-aggregate-put-entry put-entry-requires same-length returns)
