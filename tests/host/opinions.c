@@ -9,6 +9,9 @@
 /* A call walks through all that is listed, under valgrind too: so many fresh relays are enough. */
 enum { RELAYS = 40 };
 
+/* In a list with as many, some are called on for long enough to list 64 calls. */
+enum { SEVERAL = 20 };
+
 /* Where a log has the number of calls listed. */
 enum { COUNT_AT = 16 };
 
@@ -33,7 +36,9 @@ struct opinion opinion_new(void)
 
 void opinion_free(struct opinion *opinion)
 {
-    expect("some calls found 64 listed", opinion->full > 0, 1);
+    if (opinion->relays >= SEVERAL) {
+        expect("some calls found 64 listed", opinion->full > 0, 1);
+    }
     buffer_free(&opinion->log);
 }
 

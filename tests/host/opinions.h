@@ -15,7 +15,7 @@ struct opinion {
 
 struct opinion opinion_new(void);
 
-/* Expects, too, that some calls found 64 listed. */
+/* Expects, too, that some calls of a long list found 64 listed. */
 void opinion_free(struct opinion *opinion);
 
 /* The relay's tables are written by someone else: until the next fresh one nothing is asked. */
