@@ -15,7 +15,7 @@ use std::time::{Duration, Instant};
 /// So many calls are listed before the one that is timed: the ports' settings, and data that has no way on.
 const LISTED: usize = 63;
 
-const TITLE: &str = "A packet call after 63 others since fresh, data that has no way on; under opinion, the second opinion's,
+const TITLE: &str = "A packet call after 63 others since fresh, data that has no way on; under list, the second opinion's,
 which has no tables and works out each answer from the list.";
 
 /// A relay and a second opinion that took the same calls.
@@ -64,7 +64,7 @@ impl Both {
 }
 
 pub fn run(report: &mut Report) {
-    report.table(TITLE, "kind", &["opinion"]);
+    report.table(TITLE, "kind", &["list"]);
     let mut scene = Scene::new(Fill::Empty);
     let both = Both::new(&mut scene);
     let call = data_without_path(&mut scene);
