@@ -12,7 +12,7 @@ DESTDIR ?=
 
 .PHONY: lib demo show replay survey install dist test bench soak memcheck clean help
 
-## make            proves the core, writes the library to target/      six minutes of one processor once, then what changed
+## make            proves the core, writes the library to target/      twelve minutes of one processor once, then what changed
 lib: target/libhaskumye.a target/libhaskumye.so
 
 target/libhaskumye.a: crates.txt scripts/library $(shell find crates -name '*.rt' -o -name '*.antt')
@@ -29,11 +29,11 @@ demo:
 show:
 	@scripts/show "$(FILE)"
 
-## make replay     the lines of a recording, by a proved program       six minutes once; TABLES= and RECORDING=, else the demo's
+## make replay     the lines of a recording, by a proved program       eight minutes once; TABLES= and RECORDING=, else the demo's
 replay:
 	@scripts/replay "$(TABLES)" "$(RECORDING)"
 
-## make survey     a site's recordings by port and by reason, the same    eight minutes once; SETTINGS= and RECORDINGS=, else the demo's
+## make survey     a site's recordings by port and by reason, the same    nine minutes once; SETTINGS= and RECORDINGS=, else the demo's
 survey:
 	@scripts/survey "$(SETTINGS)" $(RECORDINGS)
 

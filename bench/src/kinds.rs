@@ -80,7 +80,7 @@ fn data_delivered(scene: &mut Scene) -> Call {
     arriving(scene.packet(0x00, destination, DATA), Verdict::Deliver)
 }
 
-fn data_without_path(scene: &mut Scene) -> Call {
+pub fn data_without_path(scene: &mut Scene) -> Call {
     let destination = scene.random.array();
     arriving(scene.packet(0x50, destination, DATA), Verdict::Drop(no_way_on(NoWay::NoPath)))
 }

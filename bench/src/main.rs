@@ -9,14 +9,18 @@ mod hashing;
 mod kinds;
 mod marking;
 mod measure;
+mod opinions;
 mod replays;
 mod saved;
 mod scene;
 mod search;
 mod state;
+mod surveys;
 
 fn main() {
     let only = std::env::args().nth(1).unwrap_or_default();
+    let parts = [hashing::run, check::run, search::run, blobs::run];
     let packets = [calls::run, calls::run_keepalives, asking::run, marking::run, replays::run];
-    measure::run(only, &[&[hashing::run, check::run, search::run, blobs::run][..], &packets, &[saved::run]].concat());
+    let files = [saved::run, surveys::run, opinions::run];
+    measure::run(only, &[&parts[..], &packets, &files].concat());
 }

@@ -23,14 +23,14 @@ const LEAVING: u8 = 2;
 const DATA: usize = 100;
 
 /// A relay's tables and a file of data that they forward, as much as fits.
-struct Recorded {
-    tables: Vec<u8>,
-    packets: Vec<Vec<u8>>,
-    file: Vec<u8>,
+pub struct Recorded {
+    pub tables: Vec<u8>,
+    pub packets: Vec<Vec<u8>>,
+    pub file: Vec<u8>,
 }
 
 impl Recorded {
-    fn new(fill: Fill) -> Self {
+    pub fn new(fill: Fill) -> Self {
         let mut scene = Scene::new(fill);
         let destination = scene.random.array();
         scene.put(&PATHS, &destination, &[(path::PORT, LEAVING), (path::HOPS, 3)]);
