@@ -189,6 +189,15 @@ class TestDrawings(unittest.TestCase):
             text = subprocess.run([sys.executable, *words], check=True, capture_output=True, text=True).stdout
             self.assertEqual(description((folder / "survey.svg").read_bytes()), text.splitlines())
 
+    def test_no_picture_of_refused_settings(self) -> None:
+        with tempfile.TemporaryDirectory() as name:
+            folder = pathlib.Path(name)
+            _, recordings = expected.cold_store(folder / "site")
+            words = [str(PROGRAM), "survey", recordings[0], "nothing.recording", "--picture", str(folder / "never.svg")]
+            told = subprocess.run([sys.executable, *words], check=False, capture_output=True, text=True)
+            self.assertEqual((told.returncode, told.stdout), (1, "settings refused 20\n"))
+            self.assertFalse((folder / "never.svg").exists())
+
     def test_odd_surveys(self) -> None:
         for name, text in ODD_SURVEYS.items():
             (picture,) = pictures.OF_A_SURVEY
