@@ -32,17 +32,17 @@ payload-requires c κs = search needs
 
 blob-requires : tie.Need-blob-requires
 blob-requires c κs =
-    let c4 = c .before .before .before .before in
-    let c5 = c4 .before in
-    rw (c .payload .ensures) (c5 .tested .ensures .long (not-false _ (c4 .if1 .left)))
+    let else1 = c .before .before .before .before in
+    let after-tested = else1 .before in
+    rw (c .payload .ensures) (after-tested .tested .ensures .long (not-false _ (else1 .if1 .left)))
 
 emission-requires : tie.Need-emission-requires
 emission-requires c κs = search needs
 
 shared-slice-read-both : tie.Need-shared-slice-read-both
 shared-slice-read-both c =
-    let c10 = c .before .before .before .before .before .before .before .before .before .before in
-    omega (arith, long longestPacket (c10 .args .packet .now) (c10 .pre .readable))
+    let start = c .before .before .before .before .before .before .before .before .before .before in
+    omega (arith, long longestPacket (start .args .packet .now) (start .pre .readable))
 
 both-requires : tie.Need-both-requires
 both-requires c κs = search needs
@@ -50,19 +50,19 @@ both-requires c κs = search needs
 returns-2 : tie.Need-returns-2
 unfolding notBetter isNotBetter
 returns-2 c =
-    let c3 = c .before .before .before in
-    let c4 = c3 .before in
-    let c5 = c4 .before in
-    let c6 = c5 .before in
-    let c9 = c6 .before .before .before in
-    let c10 = c9 .before in
-    let c12 = c10 .before .before in
-    let a = arrivalOf (c12 .args .packet .now) (c12 .args .arrived) in
-    let s = c12 .args .seen in
-    let emitted = c3 .emission .ensures ∙ ap emissionOf (c4 .blob .ensures ∙ ap blobOf (c5 .payload .ensures)) in
+    let after-emission = c .before .before .before in
+    let after-blob = after-emission .before in
+    let after-payload = after-blob .before in
+    let after-greatest-emission = after-payload .before in
+    let else1 = after-greatest-emission .before .before .before in
+    let after-tested = else1 .before in
+    let start = after-tested .before .before in
+    let a = arrivalOf (start .args .packet .now) (start .args .arrived) in
+    let s = start .args .seen in
+    let emitted = after-emission .emission .ensures ∙ ap emissionOf (after-blob .blob .ensures ∙ ap blobOf (after-payload .payload .ensures)) in
     c .both .ensures
-    ∙ ap₂ _and_ (ap₂ leb emitted (c6 .greatest-emission .ensures)) (ap (leb (s .path .hops)) (sym (parts-hops (a .bytes))))
-    ∙ sym (test-yes s a (isNotBetter a) (c12 .args .way) (sym (c10 .tested .ensures .made) ∙ not-false _ (c9 .if1 .left)))
+    ∙ ap₂ _and_ (ap₂ leb emitted (after-greatest-emission .greatest-emission .ensures)) (ap (leb (s .path .hops)) (sym (parts-hops (a .bytes))))
+    ∙ sym (test-yes s a (isNotBetter a) (start .args .way) (sym (after-tested .tested .ensures .made) ∙ not-false _ (else1 .if1 .left)))
 
 pub not-better-spec : {M : Type 1} → statement M
 not-better-spec =

@@ -33,17 +33,17 @@ rate-limited-requires c κs = c .before .before .before .before .before .pre
 
 returns-3 : tie.Need-returns-3
 returns-3 c =
-    let c2 = c .before .before in
-    let c3 = c2 .before in
-    let c4 = c3 .before in
-    let c5 = c4 .before in
-    let c7 = c5 .before .before in
-    let a = arrivalOf (c7 .args .packet .now) (c7 .args .arrived) in
-    let s = c7 .args .seen in
+    let else2 = c .before .before in
+    let after-not-better = else2 .before in
+    let else1 = after-not-better .before in
+    let after-replay = else1 .before in
+    let start = after-replay .before .before in
+    let a = arrivalOf (start .args .packet .now) (start .args .arrived) in
+    let s = start .args .seen in
     let v = viewOf s a in
-    let w = wayOf s a (c7 .args .way) in
-    sym (past-10 v a w (sym (c5 .replay .ensures) ∙ c4 .if1 .left)
-    ∙ past-11 v a w (sym (c3 .not-better .ensures) ∙ c2 .if2 .left)
+    let w = wayOf s a (start .args .way) in
+    sym (past-10 v a w (sym (after-replay .replay .ensures) ∙ else1 .if1 .left)
+    ∙ past-11 v a w (sym (after-not-better .not-better .ensures) ∙ else2 .if2 .left)
     ∙ onward-15 v a w (sym (c .before .rate-limited .ensures) ∙ c .if3 .taken))
 
 port-off-requires : tie.Need-port-off-requires
@@ -51,20 +51,20 @@ port-off-requires c κs = c .before .before .before .before .before .before .bef
 
 returns-4 : tie.Need-returns-4
 returns-4 c =
-    let c2 = c .before .before in
-    let c3 = c2 .before in
-    let c4 = c3 .before in
-    let c5 = c4 .before in
-    let c6 = c5 .before in
-    let c7 = c6 .before in
-    let c9 = c7 .before .before in
-    let a = arrivalOf (c9 .args .packet .now) (c9 .args .arrived) in
-    let s = c9 .args .seen in
+    let else3 = c .before .before in
+    let after-rate-limited = else3 .before in
+    let else2 = after-rate-limited .before in
+    let after-not-better = else2 .before in
+    let else1 = after-not-better .before in
+    let after-replay = else1 .before in
+    let start = after-replay .before .before in
+    let a = arrivalOf (start .args .packet .now) (start .args .arrived) in
+    let s = start .args .seen in
     let v = viewOf s a in
-    let w = wayOf s a (c9 .args .way) in
-    sym (past-10 v a w (sym (c7 .replay .ensures) ∙ c6 .if1 .left)
-    ∙ past-11 v a w (sym (c5 .not-better .ensures) ∙ c4 .if2 .left)
-    ∙ past-15 v a w (sym (c3 .rate-limited .ensures) ∙ c2 .if3 .left)
+    let w = wayOf s a (start .args .way) in
+    sym (past-10 v a w (sym (after-replay .replay .ensures) ∙ else1 .if1 .left)
+    ∙ past-11 v a w (sym (after-not-better .not-better .ensures) ∙ else2 .if2 .left)
+    ∙ past-15 v a w (sym (after-rate-limited .rate-limited .ensures) ∙ else3 .if3 .left)
     ∙ onward-12 v a w (sym (c .before .port-off .ensures) ∙ c .if4 .taken))
 
 too-long-for-port-requires : tie.Need-too-long-for-port-requires
@@ -72,44 +72,44 @@ too-long-for-port-requires c κs = c .before .before .before .before .before .be
 
 returns-5 : tie.Need-returns-5
 returns-5 c =
-    let c2 = c .before .before in
-    let c3 = c2 .before in
-    let c4 = c3 .before in
-    let c5 = c4 .before in
-    let c6 = c5 .before in
-    let c7 = c6 .before in
-    let c8 = c7 .before in
-    let c9 = c8 .before in
-    let c11 = c9 .before .before in
-    let a = arrivalOf (c11 .args .packet .now) (c11 .args .arrived) in
-    let s = c11 .args .seen in
+    let else4 = c .before .before in
+    let after-port-off = else4 .before in
+    let else3 = after-port-off .before in
+    let after-rate-limited = else3 .before in
+    let else2 = after-rate-limited .before in
+    let after-not-better = else2 .before in
+    let else1 = after-not-better .before in
+    let after-replay = else1 .before in
+    let start = after-replay .before .before in
+    let a = arrivalOf (start .args .packet .now) (start .args .arrived) in
+    let s = start .args .seen in
     let v = viewOf s a in
-    let w = wayOf s a (c11 .args .way) in
-    sym (past-10 v a w (sym (c9 .replay .ensures) ∙ c8 .if1 .left)
-    ∙ past-11 v a w (sym (c7 .not-better .ensures) ∙ c6 .if2 .left)
-    ∙ past-15 v a w (sym (c5 .rate-limited .ensures) ∙ c4 .if3 .left)
-    ∙ past-12 v a w (sym (c3 .port-off .ensures) ∙ c2 .if4 .left)
+    let w = wayOf s a (start .args .way) in
+    sym (past-10 v a w (sym (after-replay .replay .ensures) ∙ else1 .if1 .left)
+    ∙ past-11 v a w (sym (after-not-better .not-better .ensures) ∙ else2 .if2 .left)
+    ∙ past-15 v a w (sym (after-rate-limited .rate-limited .ensures) ∙ else3 .if3 .left)
+    ∙ past-12 v a w (sym (after-port-off .port-off .ensures) ∙ else4 .if4 .left)
     ∙ onward-16 v a w (sym (c .before .too-long-for-port .ensures) ∙ c .if5 .taken))
 
 returns-6 : tie.Need-returns-6
 returns-6 c =
-    let c2 = c .before .before in
-    let c3 = c2 .before in
-    let c4 = c3 .before in
-    let c5 = c4 .before in
-    let c6 = c5 .before in
-    let c7 = c6 .before in
-    let c8 = c7 .before in
-    let c9 = c8 .before in
-    let c11 = c9 .before .before in
-    let a = arrivalOf (c11 .args .packet .now) (c11 .args .arrived) in
-    let s = c11 .args .seen in
+    let else4 = c .before .before in
+    let after-port-off = else4 .before in
+    let else3 = after-port-off .before in
+    let after-rate-limited = else3 .before in
+    let else2 = after-rate-limited .before in
+    let after-not-better = else2 .before in
+    let else1 = after-not-better .before in
+    let after-replay = else1 .before in
+    let start = after-replay .before .before in
+    let a = arrivalOf (start .args .packet .now) (start .args .arrived) in
+    let s = start .args .seen in
     let v = viewOf s a in
-    let w = wayOf s a (c11 .args .way) in
-    sym (past-10 v a w (sym (c9 .replay .ensures) ∙ c8 .if1 .left)
-    ∙ past-11 v a w (sym (c7 .not-better .ensures) ∙ c6 .if2 .left)
-    ∙ past-15 v a w (sym (c5 .rate-limited .ensures) ∙ c4 .if3 .left)
-    ∙ past-12 v a w (sym (c3 .port-off .ensures) ∙ c2 .if4 .left)
+    let w = wayOf s a (start .args .way) in
+    sym (past-10 v a w (sym (after-replay .replay .ensures) ∙ else1 .if1 .left)
+    ∙ past-11 v a w (sym (after-not-better .not-better .ensures) ∙ else2 .if2 .left)
+    ∙ past-15 v a w (sym (after-rate-limited .rate-limited .ensures) ∙ else3 .if3 .left)
+    ∙ past-12 v a w (sym (after-port-off .port-off .ensures) ∙ else4 .if4 .left)
     ∙ past-16 v a w (sym (c .before .too-long-for-port .ensures) ∙ c .if5 .left)
     ∙ past-13 v a w (room-seen s a w))
 

@@ -20,20 +20,20 @@ returns c =
 
 rule-requires : tie.Need-rule-requires
 rule-requires c κs =
-    let c5 = c .before .before .before .before .before in
-    (c5 .pre .fits .settings, c5 .pre .fits .path .entry)
+    let start = c .before .before .before .before .before in
+    (start .pre .fits .settings, start .pre .fits .path .entry)
 
 returns-2 : tie.Need-returns-2
 unfolding rateLimited isRateLimited viewOf
 returns-2 c =
-    let c3 = c .before .before .before in
-    let c4 = c3 .before in
-    let c6 = c4 .before .before in
-    let a = arrivalOf (c6 .args .packet .now) (c6 .args .arrived) in
-    let s = c6 .args .seen in
+    let else1 = c .before .before .before in
+    let after-tested = else1 .before in
+    let start = after-tested .before .before in
+    let a = arrivalOf (start .args .packet .now) (start .args .arrived) in
+    let s = start .args .seen in
     let v = viewOf s a in
-    ap (λ (r : Rated). r .dropped) (c .rule .ensures) ∙ sym (test-yes s a (isRateLimited v a) (c6 .args .way) (sym (c4 .tested .ensures .made)
-    ∙ not-false _ (c3 .if1 .left)))
+    ap (λ (r : Rated). r .dropped) (c .rule .ensures) ∙ sym (test-yes s a (isRateLimited v a) (start .args .way) (sym (after-tested .tested .ensures .made)
+    ∙ not-false _ (else1 .if1 .left)))
 
 pub rate-limited-spec : {M : Type 1} → statement M
 rate-limited-spec = tie.close (tie.spec tested-requires returns rule-requires returns-2)

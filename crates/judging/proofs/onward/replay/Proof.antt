@@ -26,9 +26,9 @@ payload-requires c κs = search needs
 
 blob-requires : tie.Need-blob-requires
 blob-requires c κs =
-    let c3 = c .before .before .before in
-    let c4 = c3 .before in
-    rw (c .payload .ensures) (c4 .tested .ensures .long (not-false _ (c3 .if1 .left)))
+    let else1 = c .before .before .before in
+    let after-tested = else1 .before in
+    rw (c .payload .ensures) (after-tested .tested .ensures .long (not-false _ (else1 .if1 .left)))
 
 holds-blob-requires : tie.Need-holds-blob-requires
 holds-blob-requires c κs = c .before .before .before .before .before .before .before .pre .fits .path .blobs
@@ -36,14 +36,14 @@ holds-blob-requires c κs = c .before .before .before .before .before .before .b
 returns-2 : tie.Need-returns-2
 unfolding replay isReplay
 returns-2 c =
-    let c2 = c .before .before in
-    let c5 = c2 .before .before .before in
-    let c6 = c5 .before in
-    let c8 = c6 .before .before in
-    let a = arrivalOf (c8 .args .packet .now) (c8 .args .arrived) in
-    let s = c8 .args .seen in
-    c .holds-blob .ensures ∙ ap (λ (x : List ℕ). isAmong x (held (blobsOf (s .path)))) (c .before .blob .ensures ∙ ap blobOf (c2 .payload .ensures))
-    ∙ sym (test-yes s a (isReplay a) (c8 .args .way) (sym (c6 .tested .ensures .made) ∙ not-false _ (c5 .if1 .left)))
+    let after-payload = c .before .before in
+    let else1 = after-payload .before .before .before in
+    let after-tested = else1 .before in
+    let start = after-tested .before .before in
+    let a = arrivalOf (start .args .packet .now) (start .args .arrived) in
+    let s = start .args .seen in
+    c .holds-blob .ensures ∙ ap (λ (x : List ℕ). isAmong x (held (blobsOf (s .path)))) (c .before .blob .ensures ∙ ap blobOf (after-payload .payload .ensures))
+    ∙ sym (test-yes s a (isReplay a) (start .args .way) (sym (after-tested .tested .ensures .made) ∙ not-false _ (else1 .if1 .left)))
 
 pub replay-spec : {M : Type 1} → statement M
 replay-spec =
