@@ -23,7 +23,7 @@ pub use paths::free_path;
 pub use paths::greatest_emission;
 pub use paths::holds_blob;
 pub use paths::path_hops;
-pub use paths::path_marked;
+pub use paths::path_notes;
 pub use paths::path_next_hop;
 pub use paths::path_place;
 pub use paths::path_port;

@@ -38,7 +38,7 @@ worseThan emission hops p = leb emission (greatestEmission (held (p .blobs))) an
 
 -- whether an announce revives the path, by its emission
 unfoldable pub revivedBy : ℕ → Path → Bool
-revivedBy emission p = p .marked and leb (greatestEmission (held (p .blobs))) emission
+revivedBy emission p = p .notes .marked and leb (greatestEmission (held (p .blobs))) emission
 
 -- of the known path at a place: 10, 11, 15, unless it is revived
 unfoldable pub knownPath : RateSettings → Arrival → Path → ℕ → Decision

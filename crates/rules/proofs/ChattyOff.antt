@@ -22,7 +22,7 @@ use Rattle.rules.specs.Ways.{Way, everywhere, by-path, along-link, by-re
 use Rattle.rules.specs.Tests.{revives, ofKnown, isRateLimited, rateLimited}
 use Rattle.rules.specs.Judging.{Plan, dropped, delivered, follows, plan}
 use Rattle.rules.specs.Writes.{announcedRate, announcedPath, putPath, limitPath, enact}
-use Rattle.rules.specs.Calls.{newTally, judged, judge, packetCall, TableCall, sets-port, sets-rate, adds, removes, renumbers, marks, ruleOf, tableRefusal, settle, settled}
+use Rattle.rules.specs.Calls.{newTally, judged, judge, packetCall, TableCall, sets-port, sets-rate, adds, removes, renumbers, notes-path, ruleOf, tableRefusal, settle, settled}
 use Rattle.rules.specs.Saved.{saveRefusal, loadRefusal}
 use Rattle.rules.specs.Run.{Call, packet, on-tables, asks, saves, loads, Reply, answered, numbered, told, saved, unsaved, Outcome, ofJudgement, ofSetting, ofTold, saveReply, ofSaid, perform, replies, setsRelay, noneLoads}
 use Rattle.rules.specs.Chatty.{planIf, packetCallWithout, performWithout, repliesWithout, NoRateDrop, NoneRateDrop, targetOf, NoTarget, RateOff, OffWithoutTarget}
@@ -36,7 +36,7 @@ use Rattle.rules.proofs.Accepted.{accepted-packet}
 use Rattle.rules.proofs.Followed.{Found, Planned, planned, found-way}
 use Rattle.rules.proofs.Stamped.{enact-clock}
 use Rattle.rules.proofs.Held.{Property, Holds, WayKeeps, PlanKeeps, TableKeeps, enact-held, table-held, packet-kept, table-kept-by, ask-kept, save-kept, load-kept, first-none, others-none}
-use Rattle.rules.proofs.Marks.{mark-every}
+use Rattle.rules.proofs.Noted.{noted-every}
 use Rattle.rules.proofs.Unique.{table-clock}
 use Rattle.rules.proofs.RateLaws.{rated-on-time}
 use Rattle.rules.proofs.ChattyPlan.{plan-if, dropped-reached, rate-dropped}
@@ -179,7 +179,7 @@ table-calm c r before none n = table-held h c (go c none)
       where
         renamed : (m : List ℕ) (p : Path) → Calm now p → Calm now (renamePath m p)
         renamed m p k = k
-    go (marks destination clock) none = (tt, mark-every destination clock r _ (λ _. refl) _ (λ _ k. k) (h .paths))
+    go (notes-path note destination clock) none = (tt, noted-every note destination clock r _ (λ _. refl) _ (λ _ k. k) (h .paths))
 
 -- only a packet is answered
 isAnswer : Reply → Bool

@@ -38,7 +38,7 @@ pub mod CallsRenamed
 pub mod RunRenamed
 pub mod RenumberedTwice
 pub mod Renumbering
-pub mod Marks
+pub mod Noted
 pub mod UniqueAt
 pub mod UniqueWrites
 pub mod Unique

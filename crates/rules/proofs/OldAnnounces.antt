@@ -118,7 +118,7 @@ module _ (a : Arrival) (output : List ℕ) (r : Relay) (t : Tally) (taken : eqb 
     way-is = announce-way seen a announce ∙ ap everywhere live
 
     -- .. and is unmarked: test 10 holds
-    module _ (unmarked : p .marked ≡ false) where
+    module _ (unmarked : p .notes .marked ≡ false) where
       holds-then : replay a (wayOn seen a) ≡ true
       unfolding replay ofKnown isReplay revives
       holds-then = ap (replay a) way-is ∙ and-both (ap not (and-no _ unmarked)) among
@@ -143,7 +143,7 @@ module _ (a : Arrival) (output : List ℕ) (r : Relay) (t : Tally) (taken : eqb 
           absurd (false≢true (sym (passes .newBlob) ∙ sym (ap (replay a) way) ∙ holds-then))
 
     -- .. and is marked
-    module _ (marked : p .marked ≡ true) where
+    module _ (marked : p .notes .marked ≡ true) where
       abbrev newest : ℕ
       newest = greatestEmission (held (p .blobs))
 

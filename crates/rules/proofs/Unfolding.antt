@@ -28,7 +28,7 @@ use Rattle.rules.specs.Tests.{notOurs, isMarked, forMarkedPath, testedAs
 use Rattle.rules.specs.Answers.{setBelow, portSet}
 use Rattle.rules.specs.Outgoing.{rewritten, spreadHeader, spreadPacket, spreadPorts, pathPacket, carriedPacket, outgoing, exceeds}
 use Rattle.rules.specs.Judging.{earlyTests, onwardTests, onwardPlan, plan, spreadVerdict, wayVerdict, verdict, leaves, outputAfter}
-use Rattle.rules.specs.Writes.{putNext, remembersPlan, alreadyLive, remembers, remember, announcedBlobs, announcedRate, announcedPath, announcedPlace, putPath, limitPath, markedSlot, markPath, returnKey, returnRecord, emptiedIf, emptiedWhere, putReturn, emptyReturn, linkRecord, putLink, renewedLink, renewLink, writeWay, writeDrop, writePlan, stamp, enact}
+use Rattle.rules.specs.Writes.{putNext, remembersPlan, alreadyLive, remembers, remember, announcedBlobs, announcedRate, announcedPath, announcedPlace, putPath, limitPath, notedSlot, notePath, returnKey, returnRecord, emptiedIf, emptiedWhere, putReturn, emptyReturn, linkRecord, putLink, renewedLink, renewLink, writeWay, writeDrop, writePlan, stamp, enact}
 use Rattle.rules.specs.Calls.{newTally, up, counted, judged, judge, packetCall, settled, ruleOf, tableRefusal, settle}
 use Rattle.rules.specs.Questions.{toldOf, countBelow, countOf, ofTest, wordMatters, rowSeven, questionRule, questionRefusal, tell}
 use Rattle.rules.specs.Saved.{saveRefusal, loadRefusal}
@@ -82,7 +82,7 @@ answers = tt
 -- what is written
 unfoldable pub writes : Unit {0}
 unfolding putNext remembersPlan alreadyLive remembers remember announcedBlobs entryAccepted entryRevived entryDropped announcedRate announcedPath
-    announcedPlace putPath limitPath markedSlot markPath returnKey returnRecord emptiedIf emptiedWhere putReturn emptyReturn linkRecord
+    announcedPlace putPath limitPath notedSlot notePath returnKey returnRecord emptiedIf emptiedWhere putReturn emptyReturn linkRecord
     putLink renewedLink renewLink writeWay writeDrop writePlan stamp enact
 writes = tt
 

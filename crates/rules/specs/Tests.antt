@@ -34,7 +34,7 @@ notOurs v a = typeTwo (header a) and not (isAnnounce (header a)) and not (same (
 -- wish 6: "For a marked path an announce of kind single": its destination has a live path, and that is marked
 unfoldable pub isMarked : Slot Path → Bool
 isMarked empty = false
-isMarked (used p) = p .marked
+isMarked (used p) = p .notes .marked
 
 unfoldable pub forMarkedPath : View → Arrival → Bool
 forMarkedPath v a = isAnnounce (header a) and ofKindSingle (header a) and isMarked (v .path (destination a))
@@ -170,7 +170,7 @@ notSigned a = (isAnnounce (header a) or isLinkProof (a .bytes)) and not (a .sign
 -- wish 6, for a marked path: "tests 10, 11 and 15 aren't made if its emission is at least the greatest stored". Below it all three are made. By test 3
 -- the announce is of kind single
 unfoldable pub revives : Arrival → Path → Bool
-revives a p = p .marked and leb (greatestEmission (held (p .blobs))) (emissionOf (blob a))
+revives a p = p .notes .marked and leb (greatestEmission (held (p .blobs))) (emissionOf (blob a))
 
 -- tests 10, 11 and 15 are of an announce and the live path of its destination; where there is none, they don't hold
 unfoldable pub ofKnown : Arrival → (Path → Bool) → Way → Bool

@@ -40,7 +40,7 @@ toldBytes (a-port port) old = markOf (port .on) ∷ port .mode ∷ bigEndian siz
 toldBytes (a-rate rate) old = bigEndian settingWidth (rate .target) ++ (bigEndian settingWidth (rate .grace) ++ bigEndian settingWidth (rate .penalty))
 toldBytes (an-address address) old = address
 toldBytes (a-path p) old =
-    p .destination ++ (p .port ∷ p .hops ∷ (p .nextHop ++ (bigEndian timeWidth (p .expiry) ++ (rateBytes (p .rate) ++ (markOf (p .marked) ∷ p .blobs .count ∷ [])))))
+    p .destination ++ (p .port ∷ p .hops ∷ (p .nextHop ++ (bigEndian timeWidth (p .expiry) ++ (rateBytes (p .rate) ++ (markOf (p .notes .marked) ∷ p .blobs .count ∷ [])))))
 toldBytes (a-link l) old =
     l .id ++ (l .asking ∷ l .answering ∷ l .taken .0 ∷ l .remaining .0 ∷ markOf (l .proved) ∷ bigEndian timeWidth (l .expiry))
 toldBytes (a-number n) old = old

@@ -12,7 +12,7 @@ pub use hashes::remember;
 pub use links::put_link;
 pub use paths::put_kept_path;
 pub use paths::put_known_path;
-pub use paths::put_mark;
+pub use paths::put_notes;
 pub use paths::put_new_path;
 pub use paths::put_rate;
 pub use returns::empty_return;
