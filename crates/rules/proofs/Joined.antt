@@ -26,6 +26,11 @@ module _ {A B : Type 0} (f : A → B) where
   none-joined [] rest none behind = behind
   none-joined (t ∷ ts) rest none behind = (none .0, none-joined ts rest (none .1) behind)
 
+  pub none-valued : (ts : List (Test A)) → NoneHolds ts → NoneHolds (valued f ts)
+  unfolding valued
+  none-valued [] none = tt
+  none-valued (t ∷ ts) none = (none .0, none-valued ts (none .1))
+
   pub joined-none : (ts : List (Test A)) (rest : List (Test B)) → NoneHolds (ts each-give f otherwise rest) → NoneHolds ts × NoneHolds rest
   joined-none [] rest all = (tt, all)
   joined-none (t ∷ ts) rest all = let (none, behind) = joined-none ts rest (all .1) in ((all .0, none), behind)
