@@ -19,7 +19,7 @@ use Rattle.rules.specs.Refusals.{packetRefusal}
 use Rattle.rules.specs.Arrival.{Arrival, destination}
 use Rattle.rules.specs.Rate.{letsBy, rated, entryAccepted, entryRevived, entryDropped}
 use Rattle.rules.specs.Ways.{Way, everywhere, by-path, along-link, by-return, blocked, wayOn}
-use Rattle.rules.specs.Tests.{revives, ofKnown, isRateLimited, rateLimited}
+use Rattle.rules.specs.Tests.{revives, ofKnown}
 use Rattle.rules.specs.Judging.{Plan, dropped, delivered, follows, plan}
 use Rattle.rules.specs.Writes.{announcedRate, announcedPath, putPath, limitPath, enact}
 use Rattle.rules.specs.Calls.{newTally, judged, judge, packetCall, TableCall, sets-port, sets-rate, adds, removes, renumbers, notes-path, ruleOf, tableRefusal, settle, settled}
@@ -39,7 +39,7 @@ use Rattle.rules.proofs.Held.{Property, Holds, WayKeeps, PlanKeeps, Tab
 use Rattle.rules.proofs.Noted.{noted-every}
 use Rattle.rules.proofs.Unique.{table-clock}
 use Rattle.rules.proofs.RateLaws.{rated-on-time}
-use Rattle.rules.proofs.ChattyPlan.{plan-if, dropped-reached, rate-dropped}
+use Rattle.rules.proofs.ChattyPlan.{rateLimited, plan-if, dropped-reached, rate-dropped}
 
 -- ---- what holds all along: the target is 0, no path is blocked, and none was announced after the last clock
 abbrev Calm : ℕ → Path → Type 0
@@ -113,7 +113,7 @@ module _ (a : Arrival) (r : Relay) (h : Holds (calmAt (a .clock)) r) where
     unblocked = ap (λ (x : Rated). x .«blocked_until») on-time ∙ calm .0
 
   way-off : (w : Way) → Found seen a w → rateLimited seen a w ≡ false
-  unfolding rateLimited ofKnown isRateLimited
+  unfolding ofKnown
   way-off (everywhere empty) f = refl
   way-off (everywhere (used p)) f = ap (λ (x : Rated). not (revives a p) and x .dropped) (on-time p f) ∙ and-false _
   way-off (by-path p) f = refl

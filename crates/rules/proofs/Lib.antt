@@ -2,6 +2,7 @@
 pub mod Unfolding
 pub mod Choices
 pub mod Rows
+pub mod Joined
 pub mod Passed
 pub mod Shortcut
 pub mod Scene
