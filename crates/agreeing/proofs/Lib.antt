@@ -1,2 +1,4 @@
 -- Engine and core answer alike.
 pub mod Agreement
+pub mod Replied
+pub mod InstanceAgreement

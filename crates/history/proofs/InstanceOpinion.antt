@@ -18,7 +18,7 @@ use Rattle.rules.specs.Writes.{putNext}
 use Rattle.rules.specs.View.{viewAt}
 use Rattle.rules.specs.Calls.{newTally}
 use Rattle.rules.specs.Chatty.{RateDrop}
-use Rattle.rules.specs.Run.{Call, packet, on-tables, asks, saves, loads, port-setting, rate-setting, marking, Reply, answered, numbered, Outcome, perform, noCall, setsRelay}
+use Rattle.rules.specs.Run.{Call, packet, on-tables, asks, saves, loads, port-setting, rate-setting, marking, Reply, answered, numbered, Outcome, perform, replies, noCall, setsRelay}
 use Rattle.rules.specs.declared.Blocked.the-variants.{NoPath, OnlyExpired, NoLink}
 use Rattle.rules.specs.declared.Reason.the-variants.{Duplicate, NotBetter, NoWayOn}
 use Rattle.rules.specs.declared.Verdict.the-variants.{Drop}
@@ -39,7 +39,8 @@ use Rattle.history.proofs.SecondOpinion.{second-opinion}
 
 -- the second opinion replies so to each call of a list
 unfoldable pub Replies : List ℕ → List Entry → List Call → List Reply → Type 0
-Replies own entries [] xs = Unit {0}
+Replies own entries [] [] = Unit {0}
+Replies own entries [] (x ∷ xs) = ⊥
 Replies own entries (c ∷ cs) [] = ⊥
 Replies own entries (c ∷ cs) (x ∷ xs) = RepliesAlike own entries c x × Replies own (listed own entries c) cs xs
 
@@ -89,13 +90,22 @@ unfolding rules goodPlan goodJudge ofTest
 late-dropped = judged-at dataBytes 30000 lastRelay (counting 4 1 3) late-new refl 2 refl
 
 -- ---- a call lists at most itself, so up to 64 calls each find under 64 listed
-listed-one : (own : List ℕ) (entries : List Entry) (c : Call) → length (listed own entries c) ≤ suc (length entries)
+pub listed-one : (own : List ℕ) (entries : List Entry) (c : Call) → length (listed own entries c) ≤ suc (length entries)
 unfolding listed
 listed-one own entries (packet a output) = either (λ (es : List Entry). length es ≤ suc (length entries)) _ (λ _. le-refl _) (λ _. omega arith)
 listed-one own entries (on-tables c) = either (λ (es : List Entry). length es ≤ suc (length entries)) _ (λ _. le-refl _) (λ _. omega arith)
 listed-one own entries (asks q) = omega arith
 listed-one own entries (saves f room) = omega arith
 listed-one own entries (loads f file) = omega arith
+
+pub replies-alike : (own : List ℕ) (entries : List Entry) (cs : List Call) (r : Relay) (t : Tally)
+    → length entries + length cs ≤ listLimit → Alike own entries cs r t → Replies own entries cs (replies cs r t)
+unfolding Replies Alike replies
+replies-alike own entries [] r t few h = tt
+replies-alike own entries (c ∷ cs) r t few h = (
+  h .0 (omega arith),
+  replies-alike own (listed own entries c) cs (perform c r t .relay) (perform c r t .tally) (omega (arith, listed-one own entries c)) (h .1),
+)
 
 replies-so : (own : List ℕ) (entries : List Entry) {cs : List Call} {r : Relay} {t : Tally} {xs : List Reply} → Run cs r t xs
     → length entries + length cs ≤ listLimit → Alike own entries cs r t → Replies own entries cs xs

@@ -1,12 +1,9 @@
 -- The engine and the rules reply alike, over every list of calls from fresh.
 use Prim.Native.Nat.{ℕ, _<_}
-use mathlib.Core.Bool.{true}
 use mathlib.Core.List.{List, [], _∷_}
 use mathlib.Core.Path.{_≡_, sym, ap, ap₂, subst, _∙_}
 use lib.ListN.{length}
 use Rattle.rules.specs.Relay.{Relay}
-use Rattle.rules.specs.Arrival.{Arrival}
-use Rattle.rules.specs.Calls.{TableCall}
 use Rattle.rules.specs.Run.{Call, packet, on-tables, asks, saves, loads, Reply, perform}
 use Rattle.rules.specs.declared.Tally.{Tally}
 use Rattle.history.specs.After.{Entry}
@@ -36,7 +33,7 @@ module _ (own : List ℕ) (entries : List Entry) (log : List ℕ) (h : Holds own
   reply-so (saves f room) reply core after asked alike = tt
   reply-so (loads f file) reply core after asked alike = tt
 
-  still-holds : (c : Call) (reply : Reply) (after : List ℕ) → Asked log c reply after → Holds own (listed own entries c) after
+  pub still-holds : (c : Call) (reply : Reply) (after : List ℕ) → Asked log c reply after → Holds own (listed own entries c) after
   unfolding listed
   still-holds (packet a output) reply after (answer, out, is, o) =
       record {

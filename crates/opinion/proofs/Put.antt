@@ -1,24 +1,21 @@
 -- Each kind of entry, written and read again.
-use Prim.Native.Nat.{ℕ, zero, suc, _+_, _%_, _≤_, _<_}
+use Prim.Native.Nat.{ℕ, suc, _%_, _≤_, _<_}
 use native.Mathlib.Omega.{arith}
 use mathlib.Core.Bool.{Bool, true, false}
 use mathlib.Core.List.{List, [], _∷_, _++_, append-assoc, map}
-use mathlib.Core.Path.{_≡_, refl, sym, ap, ap₂, subst, _∙_}
+use mathlib.Core.Path.{_≡_, refl, ap, ap₂, subst, _∙_}
 use lib.Dec.{eqb}
-use lib.ListN.{length, getD, take, length-append}
+use lib.ListN.{length, getD, length-append}
 use lib.Seq.{take-at}
 use borrow.Author.Tests.{eqb-false, le-ltb, leb-true}
-use Rattle.octets.specs.Index.{_and_}
 use Rattle.octets.specs.Part.{part}
-use Rattle.octets.specs.BigEndian.{number, bigEndian}
-use Rattle.octets.specs.Choice.{_then_otherwise_}
+use Rattle.octets.specs.BigEndian.{bigEndian}
 use Rattle.octets.proofs.Index.{and-left, and-right}
 use Rattle.octets.proofs.Choice.{then-false}
 use Rattle.octets.proofs.BigEndian.{number-bigEndian}
 use Rattle.numbers.specs.Numbers.{longestPacket, clockLimit}
 use Rattle.packet.specs.Read.{reads}
 use Rattle.packet.proofs.ReadLaws.{reads-readable}
-use Rattle.rules.specs.Arrival.{Arrival}
 use Rattle.rules.specs.Refusals.{rateSettingsOk}
 use Rattle.rules.specs.Renumbering.{oneToOne}
 use Rattle.rules.specs.Calls.{sets-port, sets-rate, adds, removes, renumbers, marks}
@@ -28,10 +25,10 @@ use Rattle.judging.specs.declared.Arrived.{Arrived}
 use Rattle.judging.specs.Seen.{arrivalOf}
 use Rattle.history.specs.After.{Entry, came, called}
 use Rattle.history.specs.Opinion.{listLimit}
-use Rattle.opinion.specs.Log.{entryWidth, logSize, packetIn, arrivalIn, rateIn, addressIn, imagesIn, kindIn, entryOf}
+use Rattle.opinion.specs.Log.{entryWidth, logSize, packetIn, rateIn, addressIn, kindIn, entryOf}
 use Rattle.opinion.specs.Steps.{headBytes, withEntry, Adds}
 use Rattle.opinion.proofs.Entries.{kind-came, kind-rate, kind-other, entry-came, entry-port, entry-rate, entry-added, entry-removed, entry-marked, entry-renumbered}
-use Rattle.opinion.proofs.Written.{adds-entry, written, head-port, head-word, head-clock, head-length, head-body}
+use Rattle.opinion.proofs.Written.{entry-long, adds-entry, written, head-port, head-word, head-clock, head-length, head-body}
 
 head-wide : (kind port : ℕ) (word : Bool) (mode clock long : ℕ) → length (headBytes kind port word mode clock long) ≡ 11
 unfolding bigEndian
@@ -49,14 +46,20 @@ small-map (x ∷ xs) h =
     ap₂ (λ (y : ℕ) (ys : List ℕ). y ∷ ys) (omega arith) (small-map xs (λ i l. h (suc i) (omega arith)))
 
 module _ (log : List ℕ) (n : ℕ) (size : length log ≡ logSize) (few : n < listLimit) where
-  put : (kind port : ℕ) (word : Bool) (mode clock long : ℕ) (body : List ℕ) → length body ≤ 500 → (x : Entry)
-      → ((rest : List ℕ) → entryOf (written kind port word mode clock long (body ++ rest)) ≡ x)
-      → Adds log n x (withEntry log n (headBytes kind port word mode clock long ++ body))
-  put kind port word mode clock long body short x read =
-      let wide : length (headBytes kind port word mode clock long ++ body) ≡ 11 + length body =
-      length-append (headBytes kind port word mode clock long) body ∙ ap (λ (k : ℕ). k + length body) (head-wide kind port word mode clock long) in
-      adds-entry log n (headBytes kind port word mode clock long ++ body) size few (omega arith) x
-      (λ rest. ap entryOf (append-assoc (headBytes kind port word mode clock long) body rest) ∙ read rest)
+  module _ (kind port : ℕ) (word : Bool) (mode clock long : ℕ) (body : List ℕ) (short : length body ≤ 500) where
+    fits-entry : length (headBytes kind port word mode clock long ++ body) ≤ entryWidth
+    fits-entry =
+        omega (arith, length-append (headBytes kind port word mode clock long) body, head-wide kind port word mode clock long)
+
+    -- the log keeps its size
+    pub put-long : length (withEntry log n (headBytes kind port word mode clock long ++ body)) ≡ logSize
+    put-long = entry-long log n (headBytes kind port word mode clock long ++ body) size few fits-entry
+
+    put : (x : Entry) → ((rest : List ℕ) → entryOf (written kind port word mode clock long (body ++ rest)) ≡ x)
+        → Adds log n x (withEntry log n (headBytes kind port word mode clock long ++ body))
+    put x read =
+        adds-entry log n (headBytes kind port word mode clock long ++ body) size few fits-entry x
+        (λ rest. ap entryOf (append-assoc (headBytes kind port word mode clock long) body rest) ∙ read rest)
 
   pub came-put : (packet : List ℕ) (m : Arrived) → reads longestPacket packet ≡ true → m .port < 16 → m .clock < clockLimit
       → Adds log n (came (arrivalOf packet m)) (withEntry log n (headBytes 1 (m .port) (m .signed) 0 (m .clock) (length packet) ++ packet))

@@ -1,17 +1,17 @@
 -- An entry that is written is read again, and those before it stay.
-use Prim.Native.Nat.{ℕ, zero, suc, _+_, _-_, _*_, _%_, _^_, _≤_, _<_}
+use Prim.Native.Nat.{ℕ, zero, suc, _+_, _-_, _*_, _≤_, _<_}
 use native.Mathlib.Nat.{zero-add, add-zero}
 use native.Mathlib.Numerals.{add-one}
 use native.Mathlib.Omega.{arith}
 use mathlib.Core.Bool.{Bool, true, false}
 use mathlib.Core.List.{List, [], _∷_, _++_, append-assoc, append-nil}
-use mathlib.Core.Path.{_≡_, refl, sym, ap, ap₂, subst, _∙_}
+use mathlib.Core.Path.{_≡_, refl, sym, ap, ap₂, _∙_}
 use lib.Dec.{ltb}
 use lib.ListN.{length, getD, take, drop, length-append, take-append-drop, drop-of-length-le}
 use lib.Seq.{drop-drop, length-take-le}
 use borrow.Author.Tests.{ltb-false}
 use Rattle.octets.specs.Part.{part, patch}
-use Rattle.octets.specs.BigEndian.{number, bigEndian}
+use Rattle.octets.specs.BigEndian.{bigEndian}
 use Rattle.octets.specs.Choice.{_then_otherwise_}
 use Rattle.octets.proofs.Choice.{then-true, then-false}
 use Rattle.octets.proofs.Part.{part-at, part-length, part-mid, patch-length, patch-part}
@@ -20,7 +20,7 @@ use Rattle.codes.proofs.Places.{part-ahead, part-skip}
 use Rattle.numbers.specs.Numbers.{clockLimit}
 use Rattle.history.specs.After.{Entry}
 use Rattle.history.specs.Opinion.{listLimit}
-use Rattle.opinion.specs.Log.{addressWidth, countAt, entriesAt, entryWidth, logSize, portIn, wordIn, modeIn, clockIn, lengthIn, ownIn, entryOf, entryBytes, entriesOf, listedIn}
+use Rattle.opinion.specs.Log.{addressWidth, countAt, entriesAt, entryWidth, logSize, portIn, wordIn, clockIn, lengthIn, ownIn, entryOf, entryBytes, entriesOf, listedIn}
 use Rattle.opinion.specs.Calls.{IsFresh}
 use Rattle.opinion.specs.Steps.{headBytes, withEntry, Adds}
 
@@ -109,6 +109,10 @@ module _ (log : List ℕ) (n : ℕ) (bytes : List ℕ) (long : length log ≡ lo
   with-new : entryBytes after n ≡ bytes ++ drop (length bytes) (entryBytes log n)
   unfolding inner
   with-new = with-past n ∙ part-over log (entriesAt + entryWidth * n) bytes entryWidth short (omega arith)
+
+  pub entry-long : length (withEntry log n bytes) ≡ logSize
+  unfolding withEntry inner
+  entry-long = patch-length inner countAt ((n + 1) ∷ []) (omega (arith, inner-long)) ∙ inner-long
 
   pub adds-entry : (x : Entry) → ((rest : List ℕ) → entryOf (bytes ++ rest) ≡ x) → Adds log n x (withEntry log n bytes)
   unfolding after entriesOf

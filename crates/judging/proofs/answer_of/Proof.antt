@@ -24,13 +24,13 @@ enum-known-planned-2 c = search needs
 send-requires : tie.Need-send-requires
 unfolding tooManyHops
 send-requires c κs =
-    let c2 = c .before .before in
-    let c6 = c2 .before .before .before .before in
-    let a = arrivalOf (c6 .args .packet .now) (c6 .args .arrived) in
-    let s = c6 .args .seen in
+    let after-planned2 = c .before .before in
+    let start = after-planned2 .before .before .before .before in
+    let a = arrivalOf (start .args .packet .now) (start .args .arrived) in
+    let s = start .args .seen in
     let v = viewOf s a in
-    let way = passed v a _ (sym (c6 .pre .2) ∙ ap (planOf s a) (c2 .planned2 .given .1)) in
-    (record { readable = c6 .pre .0; fewHops = leb-false _ _ (way .1 .fewHops) }, c6 .pre .1)
+    let way = passed v a _ (sym (start .pre .2) ∙ ap (planOf s a) (after-planned2 .planned2 .given .1)) in
+    (record { readable = start .pre .0; fewHops = leb-false _ _ (way .1 .fewHops) }, start .pre .1)
 
 returns : tie.Need-returns
 unfolding verdict outputAfter
@@ -56,17 +56,17 @@ same-length c = search needs
 returns-3 : tie.Need-returns-3
 unfolding verdict outputAfter
 returns-3 c =
-    let c2 = c .before .before in
-    let c5 = c2 .before .before .before in
-    let c9 = c5 .before .before .before .before in
-    let a = arrivalOf (c9 .args .packet .now) (c9 .args .arrived) in
-    let s = c9 .args .seen in
+    let after-send = c .before .before in
+    let after-planned2 = after-send .before .before .before in
+    let start = after-planned2 .before .before .before .before in
+    let a = arrivalOf (start .args .packet .now) (start .args .arrived) in
+    let s = start .args .seen in
     let v = viewOf s a in
-    let todo = sym (ap (planOf s a) (c5 .planned2 .given .1)) ∙ c9 .pre .2 in
-    let out = c9 .args .output .now in
-    let sent = outgoing v a (wayOf s a (c5 .planned2 .given .0 .0)) in (
-      c2 .send .ensures .0 ∙ ap (verdict v a) todo,
-      c2 .send .ensures .1 ∙ ap (λ (y : Verdict). leaves y then patch out 0 sent otherwise out) (c2 .send .ensures .0)
+    let todo = sym (ap (planOf s a) (after-planned2 .planned2 .given .1)) ∙ start .pre .2 in
+    let out = start .args .output .now in
+    let sent = outgoing v a (wayOf s a (after-planned2 .planned2 .given .0 .0)) in (
+      after-send .send .ensures .0 ∙ ap (verdict v a) todo,
+      after-send .send .ensures .1 ∙ ap (λ (y : Verdict). leaves y then patch out 0 sent otherwise out) (after-send .send .ensures .0)
           ∙ ap (λ (t : Plan). outputAfter v a t out) todo,
     )
 

@@ -31,13 +31,13 @@ add-t12 c = search needs
 
 returns : tie.Need-returns
 returns c =
-    let c4 = c .before .before .before .before in
-    let c5 = c4 .before in
-    let old : length (c5 .args .t1) ≡ 640 = search needs in
-    let new : length (c5 .args .t3) ≡ 10 = search needs in (
-      ap (blobsIn (c5 .args .count + 1)) (c .before .copy-at .ensures)
-          ∙ added (c5 .args .t1) (c5 .args .t3) old new (c5 .args .count) (c4 .if1 .taken),
-      omega (arith, c4 .if1 .taken),
+    let then1 = c .before .before .before .before in
+    let start = then1 .before in
+    let old : length (start .args .t1) ≡ 640 = search needs in
+    let new : length (start .args .t3) ≡ 10 = search needs in (
+      ap (blobsIn (start .args .count + 1)) (c .before .copy-at .ensures)
+          ∙ added (start .args .t1) (start .args .t3) old new (start .args .count) (then1 .if1 .taken),
+      omega (arith, then1 .if1 .taken),
     )
 
 slice-aggregate-copy-at-3 : tie.Need-slice-aggregate-copy-at-3
@@ -54,10 +54,10 @@ part-copy-at-end c = search needs
 
 copy-at-requires-2 : tie.Need-copy-at-requires-2
 copy-at-requires-2 c κs =
-    let c4 = c .before .before .before .before in
-    let old : length (c4 .args .t1) ≡ 640 = search needs in
-    let new : length (c4 .args .t3) ≡ 10 = search needs in
-    omega (arith, old, length-take-le 630 (drop 10 (c4 .args .t1)) (omega (arith, old, length-drop 10 (c4 .args .t1))))
+    let start = c .before .before .before .before in
+    let old : length (start .args .t1) ≡ 640 = search needs in
+    let new : length (start .args .t3) ≡ 10 = search needs in
+    omega (arith, old, length-take-le 630 (drop 10 (start .args .t1)) (omega (arith, old, length-drop 10 (start .args .t1))))
 
 slice-aggregate-copy-at-4 : tie.Need-slice-aggregate-copy-at-4
 slice-aggregate-copy-at-4 c = search needs
@@ -71,15 +71,15 @@ copy-at-requires-3 c κs = search needs
 returns-2 : tie.Need-returns-2
 unfolding part
 returns-2 c =
-    let c5 = c .before .before .before .before .before in
-    let c9 = c5 .before .before .before .before in
-    let c10 = c9 .before in
-    let old : length (c10 .args .t1) ≡ 640 = search needs in
-    let new : length (c10 .args .t3) ≡ 10 = search needs in (
-      ap (blobsIn (c10 .args .count))
-          (c .before .copy-at3 .ensures ∙ ap (λ (y : List ℕ). patch y 630 (c10 .args .t3)) (c5 .copy-at2 .ensures))
-          ∙ pushed (c10 .args .t1) (c10 .args .t3) old new (c10 .args .count) (c9 .if1 .left),
-      c10 .pre,
+    let after-copy-at2 = c .before .before .before .before .before in
+    let else1 = after-copy-at2 .before .before .before .before in
+    let start = else1 .before in
+    let old : length (start .args .t1) ≡ 640 = search needs in
+    let new : length (start .args .t3) ≡ 10 = search needs in (
+      ap (blobsIn (start .args .count))
+          (c .before .copy-at3 .ensures ∙ ap (λ (y : List ℕ). patch y 630 (start .args .t3)) (after-copy-at2 .copy-at2 .ensures))
+          ∙ pushed (start .args .t1) (start .args .t3) old new (start .args .count) (else1 .if1 .left),
+      start .pre,
     )
 
 pub add-blob-spec : {M : Type 1} → statement M

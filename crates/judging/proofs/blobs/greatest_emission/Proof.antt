@@ -59,9 +59,9 @@ loop-again c =
 
 returns : tie.Need-returns Inv-loop μ-loop
 returns c =
-    let c2 = c .before .before in
+    let start = c .before .before in
     let z : c .before .loop .i ≡ 0 = omega arith in
-    c .before .loop .inv .1 ∙ ap (λ (k : ℕ). greatestEmission (drop k (held (blobsIn (c2 .args .count) (c2 .args .t1))))) z
+    c .before .loop .inv .1 ∙ ap (λ (k : ℕ). greatestEmission (drop k (held (blobsIn (start .args .count) (start .args .t1))))) z
 
 pub greatest-emission-spec : {M : Type 1} → statement M
 greatest-emission-spec =

@@ -44,26 +44,26 @@ loop-less c = search needs
 loop-again : tie.Need-loop-again Inv-loop μ-loop
 unfolding isAmong
 loop-again c =
-    let c4 = c .before .before .before .before in
-    let c5 = c4 .before in
-    let c6 = c5 .before in
-    let a = c6 .args in
-    let at = c5 .loop in
+    let in-loop = c .before .before .before .before in
+    let at-loop = in-loop .before in
+    let start = at-loop .before in
+    let a = start .args in
+    let at = at-loop .loop in
     let old : length (a .t1) ≡ 640 = search needs in
     let new : length (a .t3) ≡ 10 = search needs in
-    let some : 0 < at .i = c4 .loop-test .taken in
-    let below : at .i - 1 < 64 = omega (arith, some, at .inv .0, c6 .pre) in (
+    let some : 0 < at .i = in-loop .loop-test .taken in
+    let below : at .i - 1 < 64 = omega (arith, some, at .inv .0, start .pre) in (
       omega (arith, at .inv .0),
       c .either .ensures
-          ∙ ap₂ _or_ (c .before .equal-at .ensures ∙ compared (a .t1) (a .count) (c6 .pre) (a .t3) old new (at .i - 1) below) (at .inv .1)
-          ∙ sym (ap (isAmong (a .t3)) (held-front (a .t1) (a .count) (c6 .pre) (at .i) some (at .inv .0))),
+          ∙ ap₂ _or_ (c .before .equal-at .ensures ∙ compared (a .t1) (a .count) (start .pre) (a .t3) old new (at .i - 1) below) (at .inv .1)
+          ∙ sym (ap (isAmong (a .t3)) (held-front (a .t1) (a .count) (start .pre) (at .i) some (at .inv .0))),
     )
 
 returns : tie.Need-returns Inv-loop μ-loop
 returns c =
-    let c2 = c .before .before in
+    let start = c .before .before in
     let z : c .before .loop .i ≡ 0 = omega arith in
-    c .before .loop .inv .1 ∙ ap (λ (k : ℕ). isAmong (c2 .args .t3) (drop k (held (blobsIn (c2 .args .count) (c2 .args .t1))))) z
+    c .before .loop .inv .1 ∙ ap (λ (k : ℕ). isAmong (start .args .t3) (drop k (held (blobsIn (start .args .count) (start .args .t1))))) z
 
 pub holds-blob-spec : {M : Type 1} → statement M
 holds-blob-spec =

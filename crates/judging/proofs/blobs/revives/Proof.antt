@@ -17,9 +17,10 @@ both-requires c κs = search needs
 
 returns : tie.Need-returns
 returns c =
-    let c2 = c .before .before in
-    let c4 = c2 .before .before in
-    c .both .ensures ∙ ap₂ (λ (m n : ℕ). c4 .args .path .marked and leb m n) (c2 .greatest-emission .ensures) (c .before .emission .ensures)
+    let after-greatest-emission = c .before .before in
+    let start = after-greatest-emission .before .before in
+    c .both .ensures ∙ ap₂ (λ (m n : ℕ). start .args .path .marked and leb m n) (after-greatest-emission .greatest-emission .ensures)
+    (c .before .emission .ensures)
 
 pub revives-spec : {M : Type 1} → statement M
 revives-spec =

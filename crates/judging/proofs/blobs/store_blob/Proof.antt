@@ -17,8 +17,8 @@ add-blob-requires c κs = c .before .before .before .pre
 returns-2 : tie.Need-returns-2
 unfolding storeBlob
 returns-2 c =
-    let c2 = c .before .before in
-    (c .add-blob .ensures .0 ∙ sym (then-false _ _ (sym (c2 .holds-blob .ensures) ∙ c .before .if1 .left)), c .add-blob .ensures .1)
+    let after-holds-blob = c .before .before in
+    (c .add-blob .ensures .0 ∙ sym (then-false _ _ (sym (after-holds-blob .holds-blob .ensures) ∙ c .before .if1 .left)), c .add-blob .ensures .1)
 
 pub store-blob-spec : {M : Type 1} → statement M
 store-blob-spec = tie.close (tie.spec holds-blob-requires returns add-blob-requires returns-2)

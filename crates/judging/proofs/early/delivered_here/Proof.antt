@@ -35,14 +35,14 @@ both-requires-2 c κs = search needs
 returns : tie.Need-returns
 unfolding deliveredHere viewOf
 returns c =
-    let c2 = c .before .before in
-    let c3 = c2 .before in
-    let c4 = c3 .before in
-    let c5 = c4 .before in
-    let c8 = c5 .before .before .before in
+    let after-of-kind-link = c .before .before in
+    let after-either = after-of-kind-link .before in
+    let after-is-link-request = after-either .before in
+    let after-is-data = after-is-link-request .before in
+    let start = after-is-data .before .before .before in
     c .both2 .ensures
-    ∙ ap₂ _and_ (c3 .either .ensures ∙ ap₂ _or_ (c5 .is-data .ensures) (c4 .is-link-request .ensures))
-    (c .before .both .ensures ∙ ap (λ (t : Bool). t and c8 .args .seen .local) (ap not (c2 .of-kind-link .ensures)))
+    ∙ ap₂ _and_ (after-either .either .ensures ∙ ap₂ _or_ (after-is-data .is-data .ensures) (after-is-link-request .is-link-request .ensures))
+    (c .before .both .ensures ∙ ap (λ (t : Bool). t and start .args .seen .local) (ap not (after-of-kind-link .of-kind-link .ensures)))
 
 pub delivered-here-spec : {M : Type 1} → statement M
 delivered-here-spec =

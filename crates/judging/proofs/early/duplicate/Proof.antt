@@ -22,11 +22,11 @@ both-requires-2 c κs = search needs
 returns : tie.Need-returns
 unfolding duplicate testedAsDuplicate viewOf
 returns c =
-    let c2 = c .before .before in
-    let c3 = c2 .before in
-    let c5 = c3 .before .before in
-    let tested = c .before .both .ensures ∙ ap₂ _and_ (ap not (c2 .exempt .ensures)) (ap not (c3 .for-marked-path .ensures)) in
-    c .both2 .ensures ∙ ap (λ (t : Bool). t and c5 .args .seen .remembered) tested
+    let after-exempt = c .before .before in
+    let after-for-marked-path = after-exempt .before in
+    let start = after-for-marked-path .before .before in
+    let tested = c .before .both .ensures ∙ ap₂ _and_ (ap not (after-exempt .exempt .ensures)) (ap not (after-for-marked-path .for-marked-path .ensures)) in
+    c .both2 .ensures ∙ ap (λ (t : Bool). t and start .args .seen .remembered) tested
 
 pub duplicate-spec : {M : Type 1} → statement M
 duplicate-spec =

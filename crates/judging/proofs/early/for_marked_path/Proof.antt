@@ -31,11 +31,12 @@ both-requires-3 c κs = search needs
 returns : tie.Need-returns
 unfolding forMarkedPath viewOf
 returns c =
-    let c2 = c .before .before in
-    let c3 = c2 .before in
-    let c4 = c3 .before in
+    let after-of-kind-single = c .before .before in
+    let after-is-announce = after-of-kind-single .before in
+    let after-both = after-is-announce .before in
     c .both3 .ensures
-    ∙ ap₂ _and_ (c3 .is-announce .ensures) (c .before .both2 .ensures ∙ ap₂ _and_ (c2 .of-kind-single .ensures) (c4 .both .ensures
+    ∙ ap₂ _and_ (after-is-announce .is-announce .ensures)
+    (c .before .both2 .ensures ∙ ap₂ _and_ (after-of-kind-single .of-kind-single .ensures) (after-both .both .ensures
     ∙ sym (marked-seen _ _)))
 
 pub for-marked-path-spec : {M : Type 1} → statement M

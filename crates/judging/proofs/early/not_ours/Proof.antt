@@ -36,15 +36,15 @@ both-requires-2 c κs = search needs
 returns : tie.Need-returns
 unfolding notOurs viewOf
 returns c =
-    let c2 = c .before .before in
-    let c3 = c2 .before in
-    let c4 = c3 .before in
-    let c7 = c4 .before .before .before in
-    let c10 = c7 .before .before .before in
-    let relay = ap (λ (q : Parts). same (q .relay) (c10 .args .seen .own)) (c7 .parts-of .ensures) in
+    let after-is-announce = c .before .before in
+    let after-type-two = after-is-announce .before in
+    let after-same-address = after-type-two .before in
+    let after-parts-of = after-same-address .before .before .before in
+    let start = after-parts-of .before .before .before in
+    let relay = ap (λ (q : Parts). same (q .relay) (start .args .seen .own)) (after-parts-of .parts-of .ensures) in
     c .both2 .ensures
-    ∙ ap₂ _and_ (c3 .type-two .ensures)
-    (c .before .both .ensures ∙ ap₂ _and_ (ap not (c2 .is-announce .ensures)) (ap not (c4 .same-address .ensures ∙ relay)))
+    ∙ ap₂ _and_ (after-type-two .type-two .ensures)
+    (c .before .both .ensures ∙ ap₂ _and_ (ap not (after-is-announce .is-announce .ensures)) (ap not (after-same-address .same-address .ensures ∙ relay)))
 
 pub not-ours-spec : {M : Type 1} → statement M
 not-ours-spec =

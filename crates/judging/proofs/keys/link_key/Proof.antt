@@ -28,9 +28,10 @@ parts-of-requires c κs = whole longestPacket (c .before .before .before .before
 returns-2 : tie.Need-returns-2
 unfolding linkKeyOf
 returns-2 c =
-    let c2 = c .before .before in
-    let c3 = c2 .before in
-    ap (λ (q : Parts). q .destination) (c .before .parts-of .ensures) ∙ sym (then-false _ _ (sym (c3 .is-link-request .ensures) ∙ c2 .if1 .left))
+    let else1 = c .before .before in
+    let after-is-link-request = else1 .before in
+    ap (λ (q : Parts). q .destination) (c .before .parts-of .ensures)
+    ∙ sym (then-false _ _ (sym (after-is-link-request .is-link-request .ensures) ∙ else1 .if1 .left))
 
 pub link-key-spec : {M : Type 1} → statement M
 link-key-spec =

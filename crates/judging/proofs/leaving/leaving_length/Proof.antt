@@ -32,43 +32,43 @@ enum-told-5 c = search needs
 returns : tie.Need-returns
 unfolding outgoing viewOf
 returns c =
-    let c2 = c .before .before in
-    let c5 = c2 .before .before .before in
-    let a = arrivalOf (c5 .args .packet .now) (c5 .args .arrived) in
-    let s = c5 .args .seen in
-    c .spread-length .ensures ∙ sym (ap (λ (w : SeenWay). length (outgoing (viewOf s a) a (wayOf s a w))) (c2 .enum-told .given .1))
+    let after-enum-told = c .before .before in
+    let start = after-enum-told .before .before .before in
+    let a = arrivalOf (start .args .packet .now) (start .args .arrived) in
+    let s = start .args .seen in
+    c .spread-length .ensures ∙ sym (ap (λ (w : SeenWay). length (outgoing (viewOf s a) a (wayOf s a w))) (after-enum-told .enum-told .given .1))
 
 returns-2 : tie.Need-returns-2
 unfolding outgoing viewOf
 returns-2 c =
-    let c3 = c .before .before .before in
-    let c6 = c3 .before .before .before in
-    let a = arrivalOf (c6 .args .packet .now) (c6 .args .arrived) in
-    let s = c6 .args .seen in
-    c .path-length .ensures ∙ sym (ap (λ (w : SeenWay). length (outgoing (viewOf s a) a (wayOf s a w))) (c3 .enum-told2 .given .1))
+    let after-enum-told2 = c .before .before .before in
+    let start = after-enum-told2 .before .before .before in
+    let a = arrivalOf (start .args .packet .now) (start .args .arrived) in
+    let s = start .args .seen in
+    c .path-length .ensures ∙ sym (ap (λ (w : SeenWay). length (outgoing (viewOf s a) a (wayOf s a w))) (after-enum-told2 .enum-told2 .given .1))
 
 returns-3 : tie.Need-returns-3
 unfolding outgoing
 returns-3 c =
-    let c3 = c .before .before .before in
-    let a = arrivalOf (c3 .args .packet .now) (c3 .args .arrived) in
-    let s = c3 .args .seen in
-    sym (ap (λ (w : SeenWay). length (outgoing (viewOf s a) a (wayOf s a w))) (c .enum-told3 .given .1) ∙ carried-length (c3 .args .packet .now))
+    let start = c .before .before .before in
+    let a = arrivalOf (start .args .packet .now) (start .args .arrived) in
+    let s = start .args .seen in
+    sym (ap (λ (w : SeenWay). length (outgoing (viewOf s a) a (wayOf s a w))) (c .enum-told3 .given .1) ∙ carried-length (start .args .packet .now))
 
 returns-4 : tie.Need-returns-4
 unfolding outgoing
 returns-4 c =
-    let c3 = c .before .before .before in
-    let a = arrivalOf (c3 .args .packet .now) (c3 .args .arrived) in
-    let s = c3 .args .seen in
-    sym (ap (λ (w : SeenWay). length (outgoing (viewOf s a) a (wayOf s a w))) (c .enum-told4 .given .1) ∙ carried-length (c3 .args .packet .now))
+    let start = c .before .before .before in
+    let a = arrivalOf (start .args .packet .now) (start .args .arrived) in
+    let s = start .args .seen in
+    sym (ap (λ (w : SeenWay). length (outgoing (viewOf s a) a (wayOf s a w))) (c .enum-told4 .given .1) ∙ carried-length (start .args .packet .now))
 
 returns-5 : tie.Need-returns-5
 unfolding outgoing
 returns-5 c =
-    let c3 = c .before .before .before in
-    let a = arrivalOf (c3 .args .packet .now) (c3 .args .arrived) in
-    let s = c3 .args .seen in
+    let start = c .before .before .before in
+    let a = arrivalOf (start .args .packet .now) (start .args .arrived) in
+    let s = start .args .seen in
     sym (ap (λ (w : SeenWay). length (outgoing (viewOf s a) a (wayOf s a w))) (c .enum-told5 .given .1))
 
 pub leaving-length-spec : {M : Type 1} → statement M

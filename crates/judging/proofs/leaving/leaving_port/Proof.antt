@@ -22,8 +22,8 @@ enum-told-3 c = search needs
 
 shared-slice-read-from-answering-side : tie.Need-shared-slice-read-from-answering-side
 shared-slice-read-from-answering-side c =
-    let c5 = c .before .before .before .before .before in
-    omega (arith, long longestPacket (c5 .args .packet .now) (c5 .pre))
+    let start = c .before .before .before .before .before in
+    omega (arith, long longestPacket (start .args .packet .now) (start .pre))
 
 from-answering-side-requires : tie.Need-from-answering-side-requires
 from-answering-side-requires c κs = search needs
@@ -31,11 +31,11 @@ from-answering-side-requires c κs = search needs
 returns : tie.Need-returns
 unfolding leavingPort
 returns c =
-    let c4 = c .before .before .before .before in
-    let c7 = c4 .before .before .before in
-    let a = arrivalOf (c7 .args .packet .now) (c7 .args .arrived) in
-    let s = c7 .args .seen in
-    sym (ap (λ (w : SeenWay). leavingPort a (wayOf s a w)) (c4 .enum-told3 .given .1)
+    let after-enum-told3 = c .before .before .before .before in
+    let start = after-enum-told3 .before .before .before in
+    let a = arrivalOf (start .args .packet .now) (start .args .arrived) in
+    let s = start .args .seen in
+    sym (ap (λ (w : SeenWay). leavingPort a (wayOf s a w)) (after-enum-told3 .enum-told3 .given .1)
     ∙ then-true _ _ (answering-side s a (s .link .link) ∙ sym (c .before .from-answering-side .ensures) ∙ c .if1 .taken))
 
 enum-told-4 : tie.Need-enum-told-4
@@ -47,43 +47,43 @@ enum-told-5 c = search needs
 returns-2 : tie.Need-returns-2
 unfolding leavingPort
 returns-2 c =
-    let c3 = c .before .before .before in
-    let a = arrivalOf (c3 .args .packet .now) (c3 .args .arrived) in
-    let s = c3 .args .seen in
+    let start = c .before .before .before in
+    let a = arrivalOf (start .args .packet .now) (start .args .arrived) in
+    let s = start .args .seen in
     sym (ap (λ (w : SeenWay). leavingPort a (wayOf s a w)) (c .enum-told .given .1))
 
 returns-3 : tie.Need-returns-3
 unfolding leavingPort
 returns-3 c =
-    let c3 = c .before .before .before in
-    let a = arrivalOf (c3 .args .packet .now) (c3 .args .arrived) in
-    let s = c3 .args .seen in
+    let start = c .before .before .before in
+    let a = arrivalOf (start .args .packet .now) (start .args .arrived) in
+    let s = start .args .seen in
     sym (ap (λ (w : SeenWay). leavingPort a (wayOf s a w)) (c .enum-told2 .given .1))
 
 returns-4 : tie.Need-returns-4
 unfolding leavingPort
 returns-4 c =
-    let c4 = c .before .before .before .before in
-    let c7 = c4 .before .before .before in
-    let a = arrivalOf (c7 .args .packet .now) (c7 .args .arrived) in
-    let s = c7 .args .seen in
-    sym (ap (λ (w : SeenWay). leavingPort a (wayOf s a w)) (c4 .enum-told3 .given .1)
+    let after-enum-told3 = c .before .before .before .before in
+    let start = after-enum-told3 .before .before .before in
+    let a = arrivalOf (start .args .packet .now) (start .args .arrived) in
+    let s = start .args .seen in
+    sym (ap (λ (w : SeenWay). leavingPort a (wayOf s a w)) (after-enum-told3 .enum-told3 .given .1)
     ∙ then-false _ _ (answering-side s a (s .link .link) ∙ sym (c .before .from-answering-side .ensures) ∙ c .if1 .left))
 
 returns-5 : tie.Need-returns-5
 unfolding leavingPort
 returns-5 c =
-    let c3 = c .before .before .before in
-    let a = arrivalOf (c3 .args .packet .now) (c3 .args .arrived) in
-    let s = c3 .args .seen in
+    let start = c .before .before .before in
+    let a = arrivalOf (start .args .packet .now) (start .args .arrived) in
+    let s = start .args .seen in
     sym (ap (λ (w : SeenWay). leavingPort a (wayOf s a w)) (c .enum-told4 .given .1))
 
 returns-6 : tie.Need-returns-6
 unfolding leavingPort
 returns-6 c =
-    let c3 = c .before .before .before in
-    let a = arrivalOf (c3 .args .packet .now) (c3 .args .arrived) in
-    let s = c3 .args .seen in
+    let start = c .before .before .before in
+    let a = arrivalOf (start .args .packet .now) (start .args .arrived) in
+    let s = start .args .seen in
     sym (ap (λ (w : SeenWay). leavingPort a (wayOf s a w)) (c .enum-told5 .given .1))
 
 pub leaving-port-spec : {M : Type 1} → statement M

@@ -11,9 +11,9 @@ path-length-requires c κs = search needs
 
 returns : tie.Need-returns
 returns c =
-    let c2 = c .before .before in
-    let wide : length (c2 .args .next-hop) ≡ 16 = search needs in
-    c .path-length .ensures ∙ sym (path-length longestPacket (c2 .args .packet .now) (c2 .pre) (c2 .args .hops) (c2 .args .next-hop) wide)
+    let start = c .before .before in
+    let wide : length (start .args .next-hop) ≡ 16 = search needs in
+    c .path-length .ensures ∙ sym (path-length longestPacket (start .args .packet .now) (start .pre) (start .args .hops) (start .args .next-hop) wide)
 
 pub path-length-spec : {M : Type 1} → statement M
 path-length-spec = tie.close (tie.spec path-length-requires returns)

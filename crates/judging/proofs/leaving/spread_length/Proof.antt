@@ -11,9 +11,9 @@ spread-length-requires c κs = search needs
 
 returns : tie.Need-returns
 returns c =
-    let c2 = c .before .before in
-    let wide : length (c2 .args .own) ≡ 16 = search needs in
-    c .spread-length .ensures ∙ sym (spread-length longestPacket (c2 .args .packet .now) (c2 .pre) (c2 .args .own) wide)
+    let start = c .before .before in
+    let wide : length (start .args .own) ≡ 16 = search needs in
+    c .spread-length .ensures ∙ sym (spread-length longestPacket (start .args .packet .now) (start .pre) (start .args .own) wide)
 
 pub spread-length-spec : {M : Type 1} → statement M
 spread-length-spec = tie.close (tie.spec spread-length-requires returns)

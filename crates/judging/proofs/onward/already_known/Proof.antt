@@ -35,15 +35,15 @@ either-requires c κs = search needs
 returns : tie.Need-returns
 unfolding alreadyKnown viewOf
 returns c =
-    let c2 = c .before .before in
-    let c3 = c2 .before in
-    let c4 = c3 .before in
-    let c5 = c4 .before in
-    let c8 = c5 .before .before .before in
+    let after-is-link-proof = c .before .before in
+    let after-follows-proved-link = after-is-link-proof .before in
+    let after-both = after-follows-proved-link .before in
+    let after-is-link-request = after-both .before in
+    let start = after-is-link-request .before .before .before in
     c .either .ensures
-    ∙ ap₂ _or_ (c4 .both .ensures ∙ ap₂ _and_ (c5 .is-link-request .ensures) (sym (there-seen (c8 .args .seen .link))))
-    (c .before .both2 .ensures ∙ ap₂ _and_ (c2 .is-link-proof .ensures) (c3 .follows-proved-link .ensures
-    ∙ proved-seen (c8 .args .seen) _ (c8 .args .way)))
+    ∙ ap₂ _or_ (after-both .both .ensures ∙ ap₂ _and_ (after-is-link-request .is-link-request .ensures) (sym (there-seen (start .args .seen .link))))
+    (c .before .both2 .ensures ∙ ap₂ _and_ (after-is-link-proof .is-link-proof .ensures) (after-follows-proved-link .follows-proved-link .ensures
+    ∙ proved-seen (start .args .seen) _ (start .args .way)))
 
 pub already-known-spec : {M : Type 1} → statement M
 already-known-spec =

@@ -28,12 +28,13 @@ both-requires c κs = search needs
 returns : tie.Need-returns
 unfolding notSigned
 returns c =
-    let c2 = c .before .before in
-    let c3 = c2 .before in
-    let c4 = c3 .before in
-    let c7 = c4 .before .before .before in
+    let after-either = c .before .before in
+    let after-is-link-proof = after-either .before in
+    let after-is-announce = after-is-link-proof .before in
+    let start = after-is-announce .before .before .before in
     c .both .ensures
-    ∙ ap (λ (t : Bool). t and not (c7 .args .arrived .signed)) (c2 .either .ensures ∙ ap₂ _or_ (c4 .is-announce .ensures) (c3 .is-link-proof .ensures))
+    ∙ ap (λ (t : Bool). t and not (start .args .arrived .signed))
+    (after-either .either .ensures ∙ ap₂ _or_ (after-is-announce .is-announce .ensures) (after-is-link-proof .is-link-proof .ensures))
 
 pub not-signed-spec : {M : Type 1} → statement M
 not-signed-spec =

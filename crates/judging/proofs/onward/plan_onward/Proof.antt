@@ -75,69 +75,69 @@ wrong-side-requires c κs = c .before .before .before .before .before .pre .0
 
 returns-3 : tie.Need-returns-3
 returns-3 c =
-    let c2 = c .before .before in
-    let c3 = c2 .before in
-    let c4 = c3 .before in
-    let c5 = c4 .before in
-    let c7 = c5 .before .before in
-    let a = arrivalOf (c7 .args .packet .now) (c7 .args .arrived) in
-    let s = c7 .args .seen in
+    let else1 = c .before .before in
+    let after-already-known = else1 .before in
+    let at-match-keys2 = after-already-known .before in
+    let after-way-on = at-match-keys2 .before in
+    let start = after-way-on .before .before in
+    let a = arrivalOf (start .args .packet .now) (start .args .arrived) in
+    let s = start .args .seen in
     let v = viewOf s a in
-    let w = wayOf s a (c5 .way-on .result) in
-    sym (past-6 v a w (goes-on s a (c5 .way-on .result) (c4 .match .keys2))
-    ∙ past-7 v a w (sym (c3 .already-known .ensures) ∙ c2 .if1 .left)
+    let w = wayOf s a (after-way-on .way-on .result) in
+    sym (past-6 v a w (goes-on s a (after-way-on .way-on .result) (at-match-keys2 .match .keys2))
+    ∙ past-7 v a w (sym (after-already-known .already-known .ensures) ∙ else1 .if1 .left)
     ∙ onward-8 v a w (sym (c .before .wrong-side .ensures) ∙ c .if2 .taken))
-    ∙ ap (onwardPlan v a) (c5 .way-on .ensures)
+    ∙ ap (onwardPlan v a) (after-way-on .way-on .ensures)
 
 not-signed-requires : tie.Need-not-signed-requires
 not-signed-requires c κs = c .before .before .before .before .before .before .before .pre .0
 
 returns-4 : tie.Need-returns-4
 returns-4 c =
-    let c2 = c .before .before in
-    let c3 = c2 .before in
-    let c4 = c3 .before in
-    let c5 = c4 .before in
-    let c6 = c5 .before in
-    let c7 = c6 .before in
-    let c9 = c7 .before .before in
-    let a = arrivalOf (c9 .args .packet .now) (c9 .args .arrived) in
-    let s = c9 .args .seen in
+    let else2 = c .before .before in
+    let after-wrong-side = else2 .before in
+    let else1 = after-wrong-side .before in
+    let after-already-known = else1 .before in
+    let at-match-keys2 = after-already-known .before in
+    let after-way-on = at-match-keys2 .before in
+    let start = after-way-on .before .before in
+    let a = arrivalOf (start .args .packet .now) (start .args .arrived) in
+    let s = start .args .seen in
     let v = viewOf s a in
-    let w = wayOf s a (c7 .way-on .result) in
-    sym (past-6 v a w (goes-on s a (c7 .way-on .result) (c6 .match .keys2))
-    ∙ past-7 v a w (sym (c5 .already-known .ensures) ∙ c4 .if1 .left)
-    ∙ past-8 v a w (sym (c3 .wrong-side .ensures) ∙ c2 .if2 .left)
+    let w = wayOf s a (after-way-on .way-on .result) in
+    sym (past-6 v a w (goes-on s a (after-way-on .way-on .result) (at-match-keys2 .match .keys2))
+    ∙ past-7 v a w (sym (after-already-known .already-known .ensures) ∙ else1 .if1 .left)
+    ∙ past-8 v a w (sym (after-wrong-side .wrong-side .ensures) ∙ else2 .if2 .left)
     ∙ onward-9 v a w (sym (c .before .not-signed .ensures) ∙ c .if3 .taken))
-    ∙ ap (onwardPlan v a) (c7 .way-on .ensures)
+    ∙ ap (onwardPlan v a) (after-way-on .way-on .ensures)
 
 plan-last-requires : tie.Need-plan-last-requires
 plan-last-requires c κs =
-    let c7 = c .before .before .before .before .before .before .before in
-    let c9 = c7 .before .before in
-    let a = arrivalOf (c9 .args .packet .now) (c9 .args .arrived) in
-    let s = c9 .args .seen in
-    record { readable = c9 .pre .0; fits = c9 .pre .1; long = announced s a (c7 .way-on .ensures) (c9 .pre .2) }
+    let after-way-on = c .before .before .before .before .before .before .before in
+    let start = after-way-on .before .before in
+    let a = arrivalOf (start .args .packet .now) (start .args .arrived) in
+    let s = start .args .seen in
+    record { readable = start .pre .0; fits = start .pre .1; long = announced s a (after-way-on .way-on .ensures) (start .pre .2) }
 
 returns-5 : tie.Need-returns-5
 returns-5 c =
-    let c2 = c .before .before in
-    let c3 = c2 .before in
-    let c4 = c3 .before in
-    let c5 = c4 .before in
-    let c6 = c5 .before in
-    let c7 = c6 .before in
-    let c8 = c7 .before in
-    let c10 = c8 .before .before in
-    let a = arrivalOf (c10 .args .packet .now) (c10 .args .arrived) in
-    let s = c10 .args .seen in
+    let after-not-signed = c .before .before in
+    let else2 = after-not-signed .before in
+    let after-wrong-side = else2 .before in
+    let else1 = after-wrong-side .before in
+    let after-already-known = else1 .before in
+    let at-match-keys2 = after-already-known .before in
+    let after-way-on = at-match-keys2 .before in
+    let start = after-way-on .before .before in
+    let a = arrivalOf (start .args .packet .now) (start .args .arrived) in
+    let s = start .args .seen in
     let v = viewOf s a in
-    let w = wayOf s a (c8 .way-on .result) in
-    c .plan-last .ensures ∙ sym (past-6 v a w (goes-on s a (c8 .way-on .result) (c7 .match .keys2))
-    ∙ past-7 v a w (sym (c6 .already-known .ensures) ∙ c5 .if1 .left)
-    ∙ past-8 v a w (sym (c4 .wrong-side .ensures) ∙ c3 .if2 .left)
-    ∙ past-9 v a w (sym (c2 .not-signed .ensures) ∙ c .before .if3 .left))
-    ∙ ap (onwardPlan v a) (c8 .way-on .ensures)
+    let w = wayOf s a (after-way-on .way-on .result) in
+    c .plan-last .ensures ∙ sym (past-6 v a w (goes-on s a (after-way-on .way-on .result) (at-match-keys2 .match .keys2))
+    ∙ past-7 v a w (sym (after-already-known .already-known .ensures) ∙ else1 .if1 .left)
+    ∙ past-8 v a w (sym (after-wrong-side .wrong-side .ensures) ∙ else2 .if2 .left)
+    ∙ past-9 v a w (sym (after-not-signed .not-signed .ensures) ∙ c .before .if3 .left))
+    ∙ ap (onwardPlan v a) (after-way-on .way-on .ensures)
 
 pub plan-onward-spec : {M : Type 1} → statement M
 plan-onward-spec =

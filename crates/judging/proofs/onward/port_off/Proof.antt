@@ -21,8 +21,8 @@ port-at-requires c κs = search needs
 
 shared-slice-read-is-announce : tie.Need-shared-slice-read-is-announce
 shared-slice-read-is-announce c =
-    let c5 = c .before .before .before .before .before in
-    omega (arith, long longestPacket (c5 .args .packet .now) (c5 .pre))
+    let start = c .before .before .before .before .before in
+    omega (arith, long longestPacket (start .args .packet .now) (start .pre))
 
 is-announce-requires : tie.Need-is-announce-requires
 is-announce-requires c κs = search needs
@@ -33,12 +33,12 @@ both-requires c κs = search needs
 returns : tie.Need-returns
 unfolding portOff viewOf
 returns c =
-    let c2 = c .before .before in
-    let c4 = c2 .before .before in
-    let c5 = c4 .before in
-    let c8 = c5 .before .before .before in
-    c .both .ensures ∙ ap₂ _and_ (ap not (c2 .is-announce .ensures)) (ap not (ap (λ (p : SeenPort). p .on) (c4 .port-at .ensures
-    ∙ ap (λ (n : ℕ). getD (c8 .args .seen .ports) n noSeenPort) (c5 .leaving-port .ensures))))
+    let after-is-announce = c .before .before in
+    let after-port-at = after-is-announce .before .before in
+    let after-leaving-port = after-port-at .before in
+    let start = after-leaving-port .before .before .before in
+    c .both .ensures ∙ ap₂ _and_ (ap not (after-is-announce .is-announce .ensures)) (ap not (ap (λ (p : SeenPort). p .on) (after-port-at .port-at .ensures
+    ∙ ap (λ (n : ℕ). getD (start .args .seen .ports) n noSeenPort) (after-leaving-port .leaving-port .ensures))))
 
 pub port-off-spec : {M : Type 1} → statement M
 port-off-spec =

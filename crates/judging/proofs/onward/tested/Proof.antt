@@ -42,11 +42,12 @@ returns c =
 
 returns-2 : tie.Need-returns-2
 returns-2 c =
-    let c3 = c .before .before .before in
-    let c6 = c3 .before .before .before in
-    let a = arrivalOf (c6 .args .packet .now) (c6 .args .arrived) in
-    let s = c6 .args .seen in
-    let made = made-not s a (not-true _ (c .if1 .taken)) ∙ sym (ap (λ (w : SeenWay). ofKnown a (λ q. true) (wayOf s a w)) (c3 .enum-told .given .1)) in
+    let after-enum-told = c .before .before .before in
+    let start = after-enum-told .before .before .before in
+    let a = arrivalOf (start .args .packet .now) (start .args .arrived) in
+    let s = start .args .seen in
+    let made = made-not s a (not-true _ (c .if1 .taken))
+    ∙ sym (ap (λ (w : SeenWay). ofKnown a (λ q. true) (wayOf s a w)) (after-enum-told .enum-told .given .1)) in
     record { made = made; long = λ e. absurd (false≢true e) }
 
 payload-requires : tie.Need-payload-requires
@@ -54,9 +55,9 @@ payload-requires c κs = search needs
 
 blob-requires : tie.Need-blob-requires
 blob-requires c κs =
-    let c4 = c .before .before .before .before in
-    let c7 = c4 .before .before .before in
-    rw (c .payload .ensures) (c7 .pre .long (c4 .enum-told .given .1))
+    let after-enum-told = c .before .before .before .before in
+    let start = after-enum-told .before .before .before in
+    rw (c .payload .ensures) (start .pre .long (after-enum-told .enum-told .given .1))
 
 revives-requires : tie.Need-revives-requires
 revives-requires c κs = c .before .before .before .before .before .before .before .before .pre .fits .path .blobs
@@ -64,17 +65,17 @@ revives-requires c κs = c .before .before .before .before .before .before .befo
 returns-3 : tie.Need-returns-3
 unfolding revives
 returns-3 c =
-    let c2 = c .before .before in
-    let c3 = c2 .before in
-    let c6 = c3 .before .before .before in
-    let c9 = c6 .before .before .before in
-    let a = arrivalOf (c9 .args .packet .now) (c9 .args .arrived) in
-    let s = c9 .args .seen in
-    let own = c .before .blob .ensures ∙ ap blobOf (c2 .payload .ensures) in
+    let after-payload = c .before .before in
+    let else1 = after-payload .before in
+    let after-enum-told = else1 .before .before .before in
+    let start = after-enum-told .before .before .before in
+    let a = arrivalOf (start .args .packet .now) (start .args .arrived) in
+    let s = start .args .seen in
+    let own = c .before .blob .ensures ∙ ap blobOf (after-payload .payload .ensures) in
     let revived = c .revives .ensures ∙ ap (revivedBy (s .path)) own in
-    let made = ap not revived ∙ made s a (not-false _ (c3 .if1 .left))
-    ∙ sym (ap (λ (w : SeenWay). ofKnown a (λ q. true) (wayOf s a w)) (c6 .enum-told .given .1)) in
-    record { made = made; long = λ e. c9 .pre .long (c6 .enum-told .given .1) }
+    let made = ap not revived ∙ made s a (not-false _ (else1 .if1 .left))
+    ∙ sym (ap (λ (w : SeenWay). ofKnown a (λ q. true) (wayOf s a w)) (after-enum-told .enum-told .given .1)) in
+    record { made = made; long = λ e. start .pre .long (after-enum-told .enum-told .given .1) }
 
 pub tested-spec : {M : Type 1} → statement M
 tested-spec =

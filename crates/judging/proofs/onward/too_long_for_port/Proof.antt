@@ -26,8 +26,8 @@ leaving-length-requires c κs = search needs
 
 shared-slice-read-is-announce : tie.Need-shared-slice-read-is-announce
 shared-slice-read-is-announce c =
-    let c6 = c .before .before .before .before .before .before in
-    omega (arith, long longestPacket (c6 .args .packet .now) (c6 .pre))
+    let start = c .before .before .before .before .before .before in
+    omega (arith, long longestPacket (start .args .packet .now) (start .pre))
 
 is-announce-requires : tie.Need-is-announce-requires
 is-announce-requires c κs = search needs
@@ -38,13 +38,14 @@ both-requires c κs = search needs
 returns : tie.Need-returns
 unfolding tooLongForPort exceeds viewOf
 returns c =
-    let c2 = c .before .before in
-    let c4 = c2 .before .before in
-    let c5 = c4 .before in
-    let c6 = c5 .before in
-    let c9 = c6 .before .before .before in
-    c .both .ensures ∙ ap₂ _and_ (ap not (c2 .is-announce .ensures)) (ap₂ ltb (ap (λ (p : SeenPort). p .size) (c5 .port-at .ensures
-    ∙ ap (λ (n : ℕ). getD (c9 .args .seen .ports) n noSeenPort) (c6 .leaving-port .ensures))) (c4 .leaving-length .ensures))
+    let after-is-announce = c .before .before in
+    let after-leaving-length = after-is-announce .before .before in
+    let after-port-at = after-leaving-length .before in
+    let after-leaving-port = after-port-at .before in
+    let start = after-leaving-port .before .before .before in
+    c .both .ensures ∙ ap₂ _and_ (ap not (after-is-announce .is-announce .ensures)) (ap₂ ltb (ap (λ (p : SeenPort). p .size) (after-port-at .port-at .ensures
+    ∙ ap (λ (n : ℕ). getD (start .args .seen .ports) n noSeenPort) (after-leaving-port .leaving-port .ensures)))
+    (after-leaving-length .leaving-length .ensures))
 
 pub too-long-for-port-spec : {M : Type 1} → statement M
 too-long-for-port-spec =

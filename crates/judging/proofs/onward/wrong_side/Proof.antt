@@ -24,8 +24,8 @@ enum-told-3 c = search needs
 
 shared-slice-read-from-answering-side : tie.Need-shared-slice-read-from-answering-side
 shared-slice-read-from-answering-side c =
-    let c5 = c .before .before .before .before .before in
-    omega (arith, long longestPacket (c5 .args .packet .now) (c5 .pre))
+    let start = c .before .before .before .before .before in
+    omega (arith, long longestPacket (start .args .packet .now) (start .pre))
 
 from-answering-side-requires : tie.Need-from-answering-side-requires
 from-answering-side-requires c κs = search needs
@@ -33,17 +33,17 @@ from-answering-side-requires c κs = search needs
 returns : tie.Need-returns
 unfolding wrongSide
 returns c =
-    let c4 = c .before .before .before .before in
-    let c7 = c4 .before .before .before in
-    let a = arrivalOf (c7 .args .packet .now) (c7 .args .arrived) in
-    let s = c7 .args .seen in
-    sym (ap (λ (w : SeenWay). wrongSide a (wayOf s a w)) (c4 .enum-told3 .given .1)
+    let after-enum-told3 = c .before .before .before .before in
+    let start = after-enum-told3 .before .before .before in
+    let a = arrivalOf (start .args .packet .now) (start .args .arrived) in
+    let s = start .args .seen in
+    sym (ap (λ (w : SeenWay). wrongSide a (wayOf s a w)) (after-enum-told3 .enum-told3 .given .1)
     ∙ then-true _ _ (answering-side s a (s .link .link) ∙ sym (c .before .from-answering-side .ensures) ∙ c .if1 .taken))
 
 shared-slice-read-from-asking-side : tie.Need-shared-slice-read-from-asking-side
 shared-slice-read-from-asking-side c =
-    let c8 = c .before .before .before .before .before .before .before .before in
-    omega (arith, long longestPacket (c8 .args .packet .now) (c8 .pre))
+    let start = c .before .before .before .before .before .before .before .before in
+    omega (arith, long longestPacket (start .args .packet .now) (start .pre))
 
 from-asking-side-requires : tie.Need-from-asking-side-requires
 from-asking-side-requires c κs = search needs
@@ -63,49 +63,49 @@ enum-told-5 c = search needs
 returns-2 : tie.Need-returns-2
 unfolding wrongSide
 returns-2 c =
-    let c3 = c .before .before .before in
-    let a = arrivalOf (c3 .args .packet .now) (c3 .args .arrived) in
-    let s = c3 .args .seen in
+    let start = c .before .before .before in
+    let a = arrivalOf (start .args .packet .now) (start .args .arrived) in
+    let s = start .args .seen in
     sym (ap (λ (w : SeenWay). wrongSide a (wayOf s a w)) (c .enum-told .given .1))
 
 returns-3 : tie.Need-returns-3
 unfolding wrongSide
 returns-3 c =
-    let c3 = c .before .before .before in
-    let a = arrivalOf (c3 .args .packet .now) (c3 .args .arrived) in
-    let s = c3 .args .seen in
+    let start = c .before .before .before in
+    let a = arrivalOf (start .args .packet .now) (start .args .arrived) in
+    let s = start .args .seen in
     sym (ap (λ (w : SeenWay). wrongSide a (wayOf s a w)) (c .enum-told2 .given .1))
 
 returns-4 : tie.Need-returns-4
 unfolding wrongSide
 returns-4 c =
-    let c2 = c .before .before in
-    let c4 = c2 .before .before in
-    let c5 = c4 .before in
-    let c8 = c5 .before .before .before in
-    let c11 = c8 .before .before .before in
-    let a = arrivalOf (c11 .args .packet .now) (c11 .args .arrived) in
-    let s = c11 .args .seen in
+    let after-from-asking-side = c .before .before in
+    let else1 = after-from-asking-side .before .before in
+    let after-from-answering-side = else1 .before in
+    let after-enum-told3 = after-from-answering-side .before .before .before in
+    let start = after-enum-told3 .before .before .before in
+    let a = arrivalOf (start .args .packet .now) (start .args .arrived) in
+    let s = start .args .seen in
     c .either .ensures
-    ∙ ap₂ _or_ (c .before .is-link-proof .ensures) (ap not (c2 .from-asking-side .ensures ∙ sym (asking-side s a (s .link .link))))
-    ∙ sym (ap (λ (w : SeenWay). wrongSide a (wayOf s a w)) (c8 .enum-told3 .given .1)
-    ∙ then-false _ _ (answering-side s a (s .link .link) ∙ sym (c5 .from-answering-side .ensures) ∙ c4 .if1 .left))
+    ∙ ap₂ _or_ (c .before .is-link-proof .ensures) (ap not (after-from-asking-side .from-asking-side .ensures ∙ sym (asking-side s a (s .link .link))))
+    ∙ sym (ap (λ (w : SeenWay). wrongSide a (wayOf s a w)) (after-enum-told3 .enum-told3 .given .1)
+    ∙ then-false _ _ (answering-side s a (s .link .link) ∙ sym (after-from-answering-side .from-answering-side .ensures) ∙ else1 .if1 .left))
 
 returns-5 : tie.Need-returns-5
 unfolding wrongSide
 returns-5 c =
-    let c2 = c .before .before in
-    let c5 = c2 .before .before .before in
-    let a = arrivalOf (c5 .args .packet .now) (c5 .args .arrived) in
-    let s = c5 .args .seen in
-    sym (ap (λ (w : SeenWay). wrongSide a (wayOf s a w)) (c2 .enum-told4 .given .1))
+    let after-enum-told4 = c .before .before in
+    let start = after-enum-told4 .before .before .before in
+    let a = arrivalOf (start .args .packet .now) (start .args .arrived) in
+    let s = start .args .seen in
+    sym (ap (λ (w : SeenWay). wrongSide a (wayOf s a w)) (after-enum-told4 .enum-told4 .given .1))
 
 returns-6 : tie.Need-returns-6
 unfolding wrongSide
 returns-6 c =
-    let c3 = c .before .before .before in
-    let a = arrivalOf (c3 .args .packet .now) (c3 .args .arrived) in
-    let s = c3 .args .seen in
+    let start = c .before .before .before in
+    let a = arrivalOf (start .args .packet .now) (start .args .arrived) in
+    let s = start .args .seen in
     sym (ap (λ (w : SeenWay). wrongSide a (wayOf s a w)) (c .enum-told5 .given .1))
 
 pub wrong-side-spec : {M : Type 1} → statement M

@@ -34,8 +34,8 @@ blob-requires c κs = rw (c .payload .ensures) (c .before .before .before .befor
 
 announced-rate-requires : tie.Need-announced-rate-requires
 announced-rate-requires c κs =
-    let c6 = c .before .before .before .before .before .before in
-    (c6 .pre .2, c6 .pre .3, c6 .pre .4)
+    let start = c .before .before .before .before .before .before in
+    (start .pre .2, start .pre .3, start .pre .4)
 
 announced-blobs-requires : tie.Need-announced-blobs-requires
 announced-blobs-requires c κs = c .before .before .before .before .before .before .before .pre .3 .blobs
@@ -46,25 +46,25 @@ add-t14 c = search needs
 returns : tie.Need-returns
 unfolding pathOf announcedPath _then_otherwise_
 returns c =
-    let c2 = c .before .before in
-    let c3 = c2 .before in
-    let c4 = c3 .before in
-    let c5 = c4 .before in
-    let c6 = c5 .before in
-    let c7 = c6 .before in
-    let c8 = c7 .before in
-    let c10 = c8 .before .before in
-    let a = arrivalOf (c10 .args .packet .now) (c10 .args .arrived) in
-    let s = c10 .args in
-    let own : c4 .blob .result ≡ blob a = c4 .blob .ensures ∙ ap blobOf (c5 .payload .ensures) in
-    let hop = ap (λ (q : Parts). q .hops) (c8 .parts-of .ensures) in
-    let next = c7 .next-hop-of .ensures in
-    let lifetime = c6 .path-lifetime .ensures .0 in
-    let rate = c3 .announced-rate .ensures .0
+    let after-announced-blobs = c .before .before in
+    let after-announced-rate = after-announced-blobs .before in
+    let after-blob = after-announced-rate .before in
+    let after-payload = after-blob .before in
+    let after-path-lifetime = after-payload .before in
+    let after-next-hop-of = after-path-lifetime .before in
+    let after-parts-of = after-next-hop-of .before in
+    let start = after-parts-of .before .before in
+    let a = arrivalOf (start .args .packet .now) (start .args .arrived) in
+    let s = start .args in
+    let own : after-blob .blob .result ≡ blob a = after-blob .blob .ensures ∙ ap blobOf (after-payload .payload .ensures) in
+    let hop = ap (λ (q : Parts). q .hops) (after-parts-of .parts-of .ensures) in
+    let next = after-next-hop-of .next-hop-of .ensures in
+    let lifetime = after-path-lifetime .path-lifetime .ensures .0 in
+    let rate = after-announced-rate .announced-rate .ensures .0
     ∙ ap (λ (x : List ℕ). rateAnnounced (s .settings) (s .known) x (s .arrived .clock)) own ∙ rate-announced a (s .known) (s .settings) (s .mode) in
-    let blobs = c2 .announced-blobs .ensures .0 ∙ ap (blobsAnnounced (s .known)) own ∙ blobs-announced a (s .known) in (
+    let blobs = after-announced-blobs .announced-blobs .ensures .0 ∙ ap (blobsAnnounced (s .known)) own ∙ blobs-announced a (s .known) in (
       (λ i. used (makePath (destination a) (a .port) (hop i) (next i) (a .clock + lifetime i) (rate i) noNotes (blobs i))),
-      record { entry = c3 .announced-rate .ensures .1; blobs = c2 .announced-blobs .ensures .1 },
+      record { entry = after-announced-rate .announced-rate .ensures .1; blobs = after-announced-blobs .announced-blobs .ensures .1 },
     )
 
 pub announced-path-spec : {M : Type 1} → statement M

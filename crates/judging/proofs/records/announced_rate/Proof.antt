@@ -17,11 +17,11 @@ revives-requires c κs = c .before .before .before .pre .1 .blobs
 returns-2 : tie.Need-returns-2
 unfolding rateAnnounced entryRevived
 returns-2 c =
-    let c3 = c .before .before .before in
-    let c5 = c3 .before .before in (
-      sym (then-false _ _ (c3 .if1 .left) ∙ then-true _ _ (sym (c .before .revives .ensures)
+    let else1 = c .before .before .before in
+    let start = else1 .before .before in (
+      sym (then-false _ _ (else1 .if1 .left) ∙ then-true _ _ (sym (c .before .revives .ensures)
           ∙ c .if2 .taken)),
-      revived-ok (c5 .args .clock) (c5 .pre .2) (c5 .args .known .rate) (c5 .pre .1 .entry),
+      revived-ok (start .args .clock) (start .pre .2) (start .args .known .rate) (start .pre .1 .entry),
     )
 
 rule-requires : tie.Need-rule-requires
@@ -30,12 +30,12 @@ rule-requires c κs = (c .before .before .before .before .before .pre .0, c .bef
 returns-3 : tie.Need-returns-3
 unfolding rateAnnounced entryAccepted
 returns-3 c =
-    let c2 = c .before .before in
-    let c4 = c2 .before .before in
-    let c6 = c4 .before .before in
-    let s = c6 .args in (
-      rw (c .rule .ensures) (sym (then-false _ _ (c4 .if1 .left) ∙ then-false _ _ (sym (c2 .revives .ensures) ∙ c .before .if2 .left))),
-      rw (c .rule .ensures) (accepted-rate-ok (s .settings) (s .known .rate) (s .clock) (c6 .pre .0) (c6 .pre .1 .entry) (c6 .pre .2)),
+    let after-revives = c .before .before in
+    let else1 = after-revives .before .before in
+    let start = else1 .before .before in
+    let s = start .args in (
+      rw (c .rule .ensures) (sym (then-false _ _ (else1 .if1 .left) ∙ then-false _ _ (sym (after-revives .revives .ensures) ∙ c .before .if2 .left))),
+      rw (c .rule .ensures) (accepted-rate-ok (s .settings) (s .known .rate) (s .clock) (start .pre .0) (start .pre .1 .entry) (start .pre .2)),
     )
 
 pub announced-rate-spec : {M : Type 1} → statement M

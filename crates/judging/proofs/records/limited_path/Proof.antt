@@ -11,10 +11,10 @@ rule-requires c κs = search needs
 returns : tie.Need-returns
 unfolding entryDropped
 returns c =
-    let c2 = c .before .before in
-    let s = c2 .args in
-    let entry = dropped-rate-ok (s .settings) (s .known .rate) (s .clock) (c2 .pre .0) (c2 .pre .1 .entry) in
-    (record { there = refl; limited = λ d. rw (c .rule .ensures) }, record { entry = rw (c .rule .ensures) entry; blobs = c2 .pre .1 .blobs })
+    let start = c .before .before in
+    let s = start .args in
+    let entry = dropped-rate-ok (s .settings) (s .known .rate) (s .clock) (start .pre .0) (start .pre .1 .entry) in
+    (record { there = refl; limited = λ d. rw (c .rule .ensures) }, record { entry = rw (c .rule .ensures) entry; blobs = start .pre .1 .blobs })
 
 pub limited-path-spec : {M : Type 1} → statement M
 limited-path-spec = tie.close (tie.spec rule-requires returns)

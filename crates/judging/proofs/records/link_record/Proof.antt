@@ -21,8 +21,8 @@ mul-lifetime c = search needs
 
 shared-slice-read-t9 : tie.Need-shared-slice-read-t9
 shared-slice-read-t9 c =
-    let c4 = c .before .before .before .before in
-    omega (arith, long longestPacket (c4 .args .packet .now) (c4 .pre .0))
+    let start = c .before .before .before .before in
+    omega (arith, long longestPacket (start .args .packet .now) (start .pre .0))
 
 add-t6 : tie.Need-add-t6
 add-t6 c = search needs

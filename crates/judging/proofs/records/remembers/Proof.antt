@@ -29,15 +29,15 @@ both-requires-3 c κs = search needs
 returns : tie.Need-returns
 unfolding remembers alreadyLive remembersPlan viewOf
 returns c =
-    let c2 = c .before .before in
-    let c3 = c2 .before in
-    let c4 = c3 .before in
-    let c5 = c4 .before in
-    let c7 = c5 .before .before in
-    let live = c4 .both .ensures ∙ ap (λ (t : Bool). t and c7 .args .seen .remembered) (c5 .for-marked-path .ensures) in
+    let after-exempt = c .before .before in
+    let after-plan-remembers = after-exempt .before in
+    let after-both = after-plan-remembers .before in
+    let after-for-marked-path = after-both .before in
+    let start = after-for-marked-path .before .before in
+    let live = after-both .both .ensures ∙ ap (λ (t : Bool). t and start .args .seen .remembered) (after-for-marked-path .for-marked-path .ensures) in
     c .both3 .ensures
-    ∙ ap₂ _and_ (ap not (c2 .exempt .ensures)) (c .before .both2 .ensures ∙ ap₂ _and_ (ap not live) (c3 .plan-remembers .ensures
-    ∙ plan-remembered (c7 .args .seen) _ (c7 .args .planned)))
+    ∙ ap₂ _and_ (ap not (after-exempt .exempt .ensures)) (c .before .both2 .ensures ∙ ap₂ _and_ (ap not live) (after-plan-remembers .plan-remembers .ensures
+    ∙ plan-remembered (start .args .seen) _ (start .args .planned)))
 
 pub remembers-spec : {M : Type 1} → statement M
 remembers-spec =

@@ -65,19 +65,20 @@ same-length c = search needs
 returns : tie.Need-returns
 unfolding wayVerdict outgoing leavingPort leaves viewOf spreadPorts exceeds
 returns c =
-    let c2 = c .before .before in
-    let c4 = c2 .before .before in
-    let c5 = c4 .before in
-    let c8 = c5 .before .before .before in
-    let c13 = c8 .before .before .before .before .before in
-    let a = arrivalOf (c13 .args .packet .now) (c13 .args .arrived) in
-    let s = c13 .args .seen in
-    let p = c13 .args .packet .now in
-    let those = c4 .spread-ports .ensures ∙ ap (λ (n : ℕ). portSet (spreadsTo (s .ports) (a .port) n)) (c5 .spread-length .ensures) in
-    same-way s a (c8 .enum-told .given .1) _ _ _ (
-      c2 .spread .ensures .0
+    let after-spread = c .before .before in
+    let after-spread-ports = after-spread .before .before in
+    let after-spread-length = after-spread-ports .before in
+    let after-enum-told = after-spread-length .before .before .before in
+    let start = after-enum-told .before .before .before .before .before in
+    let a = arrivalOf (start .args .packet .now) (start .args .arrived) in
+    let s = start .args .seen in
+    let p = start .args .packet .now in
+    let those = after-spread-ports .spread-ports .ensures
+    ∙ ap (λ (n : ℕ). portSet (spreadsTo (s .ports) (a .port) n)) (after-spread-length .spread-length .ensures) in
+    same-way s a (after-enum-told .enum-told .given .1) _ _ _ (
+      after-spread .spread .ensures .0
           ∙ ap (λ (n : ℕ). spreadVerdict n (spreadPacket (s .own) p)) those,
-      c2 .spread .ensures .1,
+      after-spread .spread .ensures .1,
     )
 
 same-length-2 : tie.Need-same-length-2
@@ -86,15 +87,15 @@ same-length-2 c = search needs
 returns-2 : tie.Need-returns-2
 unfolding wayVerdict outgoing leavingPort leaves viewOf
 returns-2 c =
-    let c2 = c .before .before in
-    let c5 = c2 .before .before .before in
-    let c10 = c5 .before .before .before .before .before in
-    let a = arrivalOf (c10 .args .packet .now) (c10 .args .arrived) in
-    let s = c10 .args .seen in
-    same-way s a (c5 .enum-told2 .given .1) _ _ _ (
-      c2 .forward .ensures .0,
-      c2 .forward .ensures .1
-          ∙ sym (then-true _ _ (ap leaves (c2 .forward .ensures .0))),
+    let after-forward = c .before .before in
+    let after-enum-told2 = after-forward .before .before .before in
+    let start = after-enum-told2 .before .before .before .before .before in
+    let a = arrivalOf (start .args .packet .now) (start .args .arrived) in
+    let s = start .args .seen in
+    same-way s a (after-enum-told2 .enum-told2 .given .1) _ _ _ (
+      after-forward .forward .ensures .0,
+      after-forward .forward .ensures .1
+          ∙ sym (then-true _ _ (ap leaves (after-forward .forward .ensures .0))),
     )
 
 same-length-3 : tie.Need-same-length-3
@@ -103,15 +104,15 @@ same-length-3 c = search needs
 returns-3 : tie.Need-returns-3
 unfolding wayVerdict outgoing leavingPort leaves viewOf
 returns-3 c =
-    let c2 = c .before .before in
-    let c4 = c2 .before .before in
-    let c6 = c4 .before .before in
-    let c9 = c6 .before .before .before in
-    let a = arrivalOf (c9 .args .packet .now) (c9 .args .arrived) in
-    let s = c9 .args .seen in
-    let port = c6 .leaving-port .ensures ∙ ap (λ (w : SeenWay). leavingPort a (wayOf s a w)) (c4 .enum-told3 .given .1) in
-    let sent = c2 .carry .ensures .0 ∙ ap (λ (n : ℕ). Forward n (length (carriedPacket (a .bytes)))) port in
-    same-way s a (c4 .enum-told3 .given .1) _ _ _ (sent, c2 .carry .ensures .1 ∙ sym (then-true _ _ (ap leaves sent)))
+    let after-carry = c .before .before in
+    let after-enum-told3 = after-carry .before .before in
+    let after-leaving-port = after-enum-told3 .before .before in
+    let start = after-leaving-port .before .before .before in
+    let a = arrivalOf (start .args .packet .now) (start .args .arrived) in
+    let s = start .args .seen in
+    let port = after-leaving-port .leaving-port .ensures ∙ ap (λ (w : SeenWay). leavingPort a (wayOf s a w)) (after-enum-told3 .enum-told3 .given .1) in
+    let sent = after-carry .carry .ensures .0 ∙ ap (λ (n : ℕ). Forward n (length (carriedPacket (a .bytes)))) port in
+    same-way s a (after-enum-told3 .enum-told3 .given .1) _ _ _ (sent, after-carry .carry .ensures .1 ∙ sym (then-true _ _ (ap leaves sent)))
 
 same-length-4 : tie.Need-same-length-4
 same-length-4 c = search needs
@@ -119,22 +120,22 @@ same-length-4 c = search needs
 returns-4 : tie.Need-returns-4
 unfolding wayVerdict outgoing leavingPort leaves viewOf
 returns-4 c =
-    let c2 = c .before .before in
-    let c4 = c2 .before .before in
-    let c6 = c4 .before .before in
-    let c9 = c6 .before .before .before in
-    let a = arrivalOf (c9 .args .packet .now) (c9 .args .arrived) in
-    let s = c9 .args .seen in
-    let port = c6 .leaving-port .ensures ∙ ap (λ (w : SeenWay). leavingPort a (wayOf s a w)) (c4 .enum-told4 .given .1) in
-    let sent = c2 .carry2 .ensures .0 ∙ ap (λ (n : ℕ). Forward n (length (carriedPacket (a .bytes)))) port in
-    same-way s a (c4 .enum-told4 .given .1) _ _ _ (sent, c2 .carry2 .ensures .1 ∙ sym (then-true _ _ (ap leaves sent)))
+    let after-carry2 = c .before .before in
+    let after-enum-told4 = after-carry2 .before .before in
+    let after-leaving-port = after-enum-told4 .before .before in
+    let start = after-leaving-port .before .before .before in
+    let a = arrivalOf (start .args .packet .now) (start .args .arrived) in
+    let s = start .args .seen in
+    let port = after-leaving-port .leaving-port .ensures ∙ ap (λ (w : SeenWay). leavingPort a (wayOf s a w)) (after-enum-told4 .enum-told4 .given .1) in
+    let sent = after-carry2 .carry2 .ensures .0 ∙ ap (λ (n : ℕ). Forward n (length (carriedPacket (a .bytes)))) port in
+    same-way s a (after-enum-told4 .enum-told4 .given .1) _ _ _ (sent, after-carry2 .carry2 .ensures .1 ∙ sym (then-true _ _ (ap leaves sent)))
 
 returns-5 : tie.Need-returns-5
 unfolding wayVerdict outgoing leavingPort leaves viewOf _then_otherwise_
 returns-5 c =
-    let c6 = c .before .before .before .before .before .before in
-    let a = arrivalOf (c6 .args .packet .now) (c6 .args .arrived) in
-    let s = c6 .args .seen in
+    let start = c .before .before .before .before .before .before in
+    let a = arrivalOf (start .args .packet .now) (start .args .arrived) in
+    let s = start .args .seen in
     same-way s a (c .before .way .given .1) _ _ _ (refl, refl)
 
 pub send-spec : {M : Type 1} → statement M

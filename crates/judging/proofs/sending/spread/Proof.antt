@@ -24,10 +24,10 @@ spread-length-requires c κs = search needs
 returns-2 : tie.Need-returns-2
 unfolding spreadVerdict leaves _then_otherwise_
 returns-2 c =
-    let c5 = c .before .before .before .before .before in
-    let own : length (c5 .args .own) ≡ 16 = search needs in (
-      sym (then-true _ _ (or-right _ (spread-exceeds (c5 .args .own) (c5 .args .packet .now) (c5 .pre .0 .readable) own longestPacket
-          ∙ lt-ltb longestPacket (spreadLength (c5 .args .packet .now)) (omega (arith, c .before .spread-length .ensures, c .if2 .taken))))),
+    let start = c .before .before .before .before .before in
+    let own : length (start .args .own) ≡ 16 = search needs in (
+      sym (then-true _ _ (or-right _ (spread-exceeds (start .args .own) (start .args .packet .now) (start .pre .0 .readable) own longestPacket
+          ∙ lt-ltb longestPacket (spreadLength (start .args .packet .now)) (omega (arith, c .before .spread-length .ensures, c .if2 .taken))))),
       refl,
     )
 
@@ -40,15 +40,15 @@ same-length c = search needs
 returns-3 : tie.Need-returns-3
 unfolding spreadVerdict leaves _then_otherwise_
 returns-3 c =
-    let c2 = c .before .before in
-    let c4 = c2 .before .before in
-    let c5 = c4 .before in
-    let c6 = c5 .before in
-    let c9 = c6 .before .before .before in
-    let own : length (c9 .args .own) ≡ 16 = search needs in
-    let goes = or-no (ne-eqb _ 0 (c6 .if1 .left)) (spread-exceeds (c9 .args .own) (c9 .args .packet .now) (c9 .pre .0 .readable) own longestPacket
-    ∙ le-ltb longestPacket (spreadLength (c9 .args .packet .now)) (omega (arith, c5 .spread-length .ensures, c4 .if2 .left))) in
-    (ap (Spread (c9 .args .ports)) (c2 .spread .ensures .0) ∙ sym (then-false _ _ goes), c2 .spread .ensures .1)
+    let after-spread = c .before .before in
+    let else2 = after-spread .before .before in
+    let after-spread-length = else2 .before in
+    let else1 = after-spread-length .before in
+    let start = else1 .before .before .before in
+    let own : length (start .args .own) ≡ 16 = search needs in
+    let goes = or-no (ne-eqb _ 0 (else1 .if1 .left)) (spread-exceeds (start .args .own) (start .args .packet .now) (start .pre .0 .readable) own longestPacket
+    ∙ le-ltb longestPacket (spreadLength (start .args .packet .now)) (omega (arith, after-spread-length .spread-length .ensures, else2 .if2 .left))) in
+    (ap (Spread (start .args .ports)) (after-spread .spread .ensures .0) ∙ sym (then-false _ _ goes), after-spread .spread .ensures .1)
 
 pub spread-spec : {M : Type 1} → statement M
 spread-spec =

@@ -31,9 +31,9 @@ loop-less c = search needs
 
 loop-again : tie.Need-loop-again Inv-loop μ-loop
 loop-again c =
-    let c3 = c .before .before .before in
-    let c4 = c3 .before in
-    let more = set-more (spreadsTo (c4 .args .ports) (c4 .args .arrival) (c4 .args .long)) _ (c3 .loop .inv .1) in
+    let at-loop = c .before .before .before in
+    let start = at-loop .before in
+    let more = set-more (spreadsTo (start .args .ports) (start .args .arrival) (start .args .long)) _ (at-loop .loop .inv .1) in
     (omega arith, c .with-spread-port .ensures ∙ rw (c .before .port-at .ensures) more)
 
 returns : tie.Need-returns Inv-loop μ-loop

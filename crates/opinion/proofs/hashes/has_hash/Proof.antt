@@ -30,14 +30,14 @@ equal-at-requires c κs = search needs
 
 returns : tie.Need-returns
 returns c =
-    let c3 = c .before .before .before in
-    let c4 = c3 .before in
-    let c6 = c4 .before .before in
-    let a = c6 .args in
+    let after-hash-of = c .before .before .before in
+    let after-packet-in = after-hash-of .before in
+    let start = after-packet-in .before .before in
+    let a = start .args in
     let wide : length (a .t2) ≡ 32 = search needs in
-    let long : length (c3 .hash-of .result) ≡ 32 = search needs in
-    whole-same 32 (c3 .hash-of .result) (a .t2) long wide _ (c .equal-at .ensures)
-    ∙ ap (λ (h : List ℕ). same h (a .t2)) (c3 .hash-of .ensures ∙ ap packetHash (c4 .packet-in .ensures .0))
+    let long : length (after-hash-of .hash-of .result) ≡ 32 = search needs in
+    whole-same 32 (after-hash-of .hash-of .result) (a .t2) long wide _ (c .equal-at .ensures)
+    ∙ ap (λ (h : List ℕ). same h (a .t2)) (after-hash-of .hash-of .ensures ∙ ap packetHash (after-packet-in .packet-in .ensures .0))
 
 pub has-hash-spec : {M : Type 1} → statement M
 has-hash-spec =

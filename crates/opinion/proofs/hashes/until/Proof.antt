@@ -21,8 +21,8 @@ shared-slice-read-until-after c = omega arith
 
 until-after-requires : tie.Need-until-after-requires Inv-loop μ-loop
 until-after-requires c κs =
-    let c5 = c .before .before .before .before .before in
-    (c5 .pre .0, omega arith, c5 .pre .3 (c .before .before .loop .i) (omega arith), c .before .before .loop .inv .1)
+    let start = c .before .before .before .before .before in
+    (start .pre .0, omega arith, start .pre .3 (c .before .before .loop .i) (omega arith), c .before .before .loop .inv .1)
 
 add-i : tie.Need-add-i Inv-loop μ-loop
 add-i c = search needs
@@ -35,9 +35,9 @@ loop-again c = (omega arith, c .until-after .ensures)
 
 returns : tie.Need-returns Inv-loop μ-loop
 returns c =
-    let c4 = c .before .before .before .before in
-    let last : c .before .loop .i ≡ c4 .args .n = omega arith in
-    c .before .loop .inv .1 ∙ ap (λ (k : ℕ). knownIn (c4 .args .log .now) k .until (c4 .args .hash)) last
+    let start = c .before .before .before .before in
+    let last : c .before .loop .i ≡ start .args .n = omega arith in
+    c .before .loop .inv .1 ∙ ap (λ (k : ℕ). knownIn (start .args .log .now) k .until (start .args .hash)) last
 
 pub until-spec : {M : Type 1} → statement M
 until-spec =

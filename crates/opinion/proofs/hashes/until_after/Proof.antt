@@ -16,19 +16,20 @@ entry-at-requires c κs = (c .before .pre .0, c .before .pre .1)
 
 returns : tie.Need-returns
 returns c =
-    let c3 = c .before .before .before in
-    c3 .pre .3 ∙ sym (onward (λ (k : Known). k .until (c3 .args .hash)) (c3 .args .log .now) _ (c3 .args .i) (c .before .entry-at .ensures .0)
-    (until-stays _ _ _ (ap (λ (b : List ℕ). keepsHash (entryOf b) (knownIn (c3 .args .log .now) (c3 .args .i))) (c .before .entry-at .ensures .0)
-    ∙ sym (c3 .pre .2) ∙ ne-eqb _ 1 (c .if1 .taken))))
+    let start = c .before .before .before in
+    start .pre .3 ∙ sym (onward (λ (k : Known). k .until (start .args .hash)) (start .args .log .now) _ (start .args .i) (c .before .entry-at .ensures .0)
+    (until-stays _ _ _ (ap (λ (b : List ℕ). keepsHash (entryOf b) (knownIn (start .args .log .now) (start .args .i))) (c .before .entry-at .ensures .0)
+    ∙ sym (start .pre .2) ∙ ne-eqb _ 1 (c .if1 .taken))))
 
 kind-in-requires : tie.Need-kind-in-requires
 kind-in-requires c κs = c .before .entry-at .ensures .1
 
 returns-2 : tie.Need-returns-2
 returns-2 c =
-    let c3 = c .before .before .before in
-    let c5 = c3 .before .before in
-    c5 .pre .3 ∙ sym (onward (λ (k : Known). k .until (c5 .args .hash)) (c5 .args .log .now) _ (c5 .args .i) (c3 .entry-at .ensures .0) (until-called _ _ _
+    let after-entry-at = c .before .before .before in
+    let start = after-entry-at .before .before in
+    start .pre .3 ∙ sym (onward (λ (k : Known). k .until (start .args .hash)) (start .args .log .now) _ (start .args .i)
+    (after-entry-at .entry-at .ensures .0) (until-called _ _ _
     (λ q. c .if2 .taken (c .before .kind-in .ensures ∙ q))))
 
 has-hash-requires : tie.Need-has-hash-requires
@@ -42,23 +43,26 @@ add-result c = omega (arith, c .clock-in .ensures .1)
 
 returns-3 : tie.Need-returns-3
 returns-3 c =
-    let c3 = c .before .before .before in
-    let c4 = c3 .before in
-    let c5 = c4 .before in
-    let c6 = c5 .before in
-    let c8 = c6 .before .before in
+    let else2 = c .before .before .before in
+    let after-kind-in = else2 .before in
+    let else1 = after-kind-in .before in
+    let after-entry-at = else1 .before in
+    let start = after-entry-at .before .before in
     ap (λ (t : ℕ). t + 300) (c .clock-in .ensures .0)
-    ∙ sym (onward (λ (k : Known). k .until (c8 .args .hash)) (c8 .args .log .now) _ (c8 .args .i) (c6 .entry-at .ensures .0) (until-kept _ _ _ (sym
-    (c4 .kind-in .ensures) ∙ c3 .if2 .left) (ap (λ (b : List ℕ). keepsHash (entryOf b) (knownIn (c8 .args .log .now) (c8 .args .i)))
-    (c6 .entry-at .ensures .0) ∙ sym (c8 .pre .2) ∙ eq-eqb _ 1 (c5 .if1 .left)) (sym (c .before .before .has-hash .ensures) ∙ c .before .if3 .taken)))
+    ∙ sym (onward (λ (k : Known). k .until (start .args .hash)) (start .args .log .now) _ (start .args .i) (after-entry-at .entry-at .ensures .0)
+    (until-kept _ _ _ (sym
+    (after-kind-in .kind-in .ensures) ∙ else2 .if2 .left) (ap (λ (b : List ℕ). keepsHash (entryOf b) (knownIn (start .args .log .now) (start .args .i)))
+    (after-entry-at .entry-at .ensures .0) ∙ sym (start .pre .2) ∙ eq-eqb _ 1 (else1 .if1 .left))
+    (sym (c .before .before .has-hash .ensures) ∙ c .before .if3 .taken)))
 
 returns-4 : tie.Need-returns-4
 returns-4 c =
-    let c3 = c .before .before .before in
-    let c5 = c3 .before .before in
-    let c7 = c5 .before .before in
-    c7 .pre .3 ∙ sym (onward (λ (k : Known). k .until (c7 .args .hash)) (c7 .args .log .now) _ (c7 .args .i) (c5 .entry-at .ensures .0) (until-another _ _ _
-    (sym (c3 .kind-in .ensures) ∙ c .before .before .if2 .left) (sym (c .before .has-hash .ensures) ∙ c .if3 .left)))
+    let after-kind-in = c .before .before .before in
+    let after-entry-at = after-kind-in .before .before in
+    let start = after-entry-at .before .before in
+    start .pre .3 ∙ sym (onward (λ (k : Known). k .until (start .args .hash)) (start .args .log .now) _ (start .args .i)
+    (after-entry-at .entry-at .ensures .0) (until-another _ _ _
+    (sym (after-kind-in .kind-in .ensures) ∙ c .before .before .if2 .left) (sym (c .before .has-hash .ensures) ∙ c .if3 .left)))
 
 pub until-after-spec : {M : Type 1} → statement M
 until-after-spec =

@@ -20,10 +20,10 @@ packet-in-requires c κs = c .entry-at .ensures .1
 
 parts-of-requires : tie.Need-parts-of-requires
 parts-of-requires c κs =
-    let c3 = c .before .before .before in
-    let log = c3 .args .log .now in
-    let i : ℕ = c3 .args .i in
-    entry-whole log i _ _ (c .before .entry-at .ensures .0) (c .packet-in .ensures .0) 5 refl (c3 .pre .2)
+    let start = c .before .before .before in
+    let log = start .args .log .now in
+    let i : ℕ = start .args .i in
+    entry-whole log i _ _ (c .before .entry-at .ensures .0) (c .packet-in .ensures .0) 5 refl (start .pre .2)
 
 is-same-requires : tie.Need-is-same-requires
 is-same-requires c κs = search needs
@@ -33,51 +33,54 @@ arrived-in-requires c κs = c .before .before .before .before .before .before .e
 
 renewed-link-requires : tie.Need-renewed-link-requires
 renewed-link-requires c κs =
-    let c6 = c .before .before .before .before .before .before in
-    let c7 = c6 .before in
-    let c9 = c7 .before .before in
-    let log = c9 .args .log .now in
-    let i : ℕ = c9 .args .i in
-    (entry-reads log i _ _ (c7 .entry-at .ensures .0) (c6 .packet-in .ensures .0) 5 refl (c9 .pre .2), c .arrived-in .ensures .2)
+    let after-packet-in = c .before .before .before .before .before .before in
+    let after-entry-at = after-packet-in .before in
+    let start = after-entry-at .before .before in
+    let log = start .args .log .now in
+    let i : ℕ = start .args .i in
+    (entry-reads log i _ _ (after-entry-at .entry-at .ensures .0) (after-packet-in .packet-in .ensures .0) 5 refl (start .pre .2), c .arrived-in .ensures .2)
 
 returns : tie.Need-returns
 unfolding linkOf renewedLink _then_otherwise_
 returns c =
-    let c3 = c .before .before .before in
-    let c4 = c3 .before in
-    let c6 = c4 .before .before in
-    let c7 = c6 .before in
-    let c8 = c7 .before in
-    let c10 = c8 .before .before in
-    let log = c10 .args .log .now in
-    let i : ℕ = c10 .args .i in
-    let there : c6 .parts-of .result .destination ≡ partsOf (c7 .packet-in .result .now) .destination = ap (λ (x : Parts). x .destination)
-    (c6 .parts-of .ensures) in
-    let found = ap (λ (x : List ℕ). same x (c10 .args .id)) (sym there) ∙ sym (c4 .is-same .ensures) in
+    let then1 = c .before .before .before in
+    let after-is-same = then1 .before in
+    let after-parts-of = after-is-same .before .before in
+    let after-packet-in = after-parts-of .before in
+    let after-entry-at = after-packet-in .before in
+    let start = after-entry-at .before .before in
+    let log = start .args .log .now in
+    let i : ℕ = start .args .i in
+    let there : after-parts-of .parts-of .result .destination ≡ partsOf (after-packet-in .packet-in .result .now) .destination = ap
+    (λ (x : Parts). x .destination)
+    (after-parts-of .parts-of .ensures) in
+    let found = ap (λ (x : List ℕ). same x (start .args .id)) (sym there) ∙ sym (after-is-same .is-same .ensures) in
     let made = c .renewed-link .ensures in
     record {
-      is = carry-step log i (c10 .args .id) (c10 .args .before) (c10 .pre .3 .is) _ (entry-arrival log i _ _ (c8 .entry-at .ensures .0)
-          (c7 .packet-in .ensures .0) (c .before .arrived-in .result) (c .before .arrived-in .ensures .0)) (c10 .pre .2) (found ∙ c3 .if1 .taken) _ made;
-      asking = subst (λ (l : Link). l .asking < 16) (sym made) (c10 .pre .3 .asking);
-      answering = subst (λ (l : Link). l .answering < 16) (sym made) (c10 .pre .3 .answering);
+      is = carry-step log i (start .args .id) (start .args .before) (start .pre .3 .is) _ (entry-arrival log i _ _ (after-entry-at .entry-at .ensures .0)
+          (after-packet-in .packet-in .ensures .0) (c .before .arrived-in .result) (c .before .arrived-in .ensures .0)) (start .pre .2)
+          (found ∙ then1 .if1 .taken) _ made;
+      asking = subst (λ (l : Link). l .asking < 16) (sym made) (start .pre .3 .asking);
+      answering = subst (λ (l : Link). l .answering < 16) (sym made) (start .pre .3 .answering);
     }
 
 returns-2 : tie.Need-returns-2
 returns-2 c =
-    let c3 = c .before .before .before in
-    let c4 = c3 .before in
-    let c5 = c4 .before in
-    let c7 = c5 .before .before in
-    let log = c7 .args .log .now in
-    let i : ℕ = c7 .args .i in
-    let there : c3 .parts-of .result .destination ≡ partsOf (c4 .packet-in .result .now) .destination = ap (λ (x : Parts). x .destination)
-    (c3 .parts-of .ensures) in
-    let found = ap (λ (x : List ℕ). same x (c7 .args .id)) (sym there) ∙ sym (c .before .is-same .ensures) in
+    let after-parts-of = c .before .before .before in
+    let after-packet-in = after-parts-of .before in
+    let after-entry-at = after-packet-in .before in
+    let start = after-entry-at .before .before in
+    let log = start .args .log .now in
+    let i : ℕ = start .args .i in
+    let there : after-parts-of .parts-of .result .destination ≡ partsOf (after-packet-in .packet-in .result .now) .destination = ap
+    (λ (x : Parts). x .destination)
+    (after-parts-of .parts-of .ensures) in
+    let found = ap (λ (x : List ℕ). same x (start .args .id)) (sym there) ∙ sym (c .before .is-same .ensures) in
     record {
-      is = another-carry log i (c7 .args .id) (c7 .args .before) (c7 .pre .3 .is) _ (packet-arrival log i _ _ (c5 .entry-at .ensures .0)
-          (c4 .packet-in .ensures .0)) (c7 .pre .2) (found ∙ c .if1 .left);
-      asking = c7 .pre .3 .asking;
-      answering = c7 .pre .3 .answering;
+      is = another-carry log i (start .args .id) (start .args .before) (start .pre .3 .is) _ (packet-arrival log i _ _ (after-entry-at .entry-at .ensures .0)
+          (after-packet-in .packet-in .ensures .0)) (start .pre .2) (found ∙ c .if1 .left);
+      asking = start .pre .3 .asking;
+      answering = start .pre .3 .answering;
     }
 
 pub after-carry-spec : {M : Type 1} → statement M

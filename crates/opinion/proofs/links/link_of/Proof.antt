@@ -22,8 +22,8 @@ loop-holds c =
 
 link-after-requires : tie.Need-link-after-requires Inv-loop μ-loop
 link-after-requires c κs =
-    let c5 = c .before .before .before .before .before in
-    ((c5 .pre .0, c5 .pre .1, omega (arith, c5 .pre .2), λ j l. c5 .pre .3 j (omega arith)), omega (arith, c5 .pre .2), c .before .loop .inv .1)
+    let start = c .before .before .before .before .before in
+    ((start .pre .0, start .pre .1, omega (arith, start .pre .2), λ j l. start .pre .3 j (omega arith)), omega (arith, start .pre .2), c .before .loop .inv .1)
 
 add-i : tie.Need-add-i Inv-loop μ-loop
 add-i c = search needs
@@ -36,9 +36,9 @@ loop-again c = (omega arith, c .link-after .ensures)
 
 returns : tie.Need-returns Inv-loop μ-loop
 returns c =
-    let c5 = c .before .before .before .before .before in
-    let last : c .before .loop .i ≡ c5 .args .n = omega arith in
-    subst (λ (m : ℕ). LinkKnown (c5 .args .log .now) m (c5 .args .id) (c .before .loop .link)) last (c .before .loop .inv .1)
+    let start = c .before .before .before .before .before in
+    let last : c .before .loop .i ≡ start .args .n = omega arith in
+    subst (λ (m : ℕ). LinkKnown (start .args .log .now) m (start .args .id) (c .before .loop .link)) last (c .before .loop .inv .1)
 
 pub link-of-spec : {M : Type 1} → statement M
 link-of-spec =

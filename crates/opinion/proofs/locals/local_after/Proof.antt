@@ -16,19 +16,21 @@ returns c = λ k h. local-another _ k _ (sym (c .before .has-address .ensures) �
 
 returns-2 : tie.Need-returns-2
 returns-2 c =
-    let c3 = c .before .before .before in
-    λ k h. local-added _ k _ (sym (c3 .kind-in .ensures) ∙ c .if2 .taken) (sym (c .before .before .has-address .ensures) ∙ not-false _ (c .before .if1 .left))
+    let after-kind-in = c .before .before .before in
+    λ k h. local-added _ k _ (sym (after-kind-in .kind-in .ensures) ∙ c .if2 .taken)
+    (sym (c .before .before .has-address .ensures) ∙ not-false _ (c .before .if1 .left))
 
 returns-3 : tie.Need-returns-3
 returns-3 c =
-    let c3 = c .before .before .before in
-    let c4 = c3 .before in
-    λ k h. local-removed _ k _ (sym (c4 .kind-in .ensures) ∙ c .if3 .taken) (sym (c3 .has-address .ensures) ∙ not-false _ (c .before .before .if1 .left))
+    let after-has-address = c .before .before .before in
+    let after-kind-in = after-has-address .before in
+    λ k h. local-removed _ k _ (sym (after-kind-in .kind-in .ensures) ∙ c .if3 .taken)
+    (sym (after-has-address .has-address .ensures) ∙ not-false _ (c .before .before .if1 .left))
 
 returns-4 : tie.Need-returns-4
 returns-4 c =
-    let c4 = c .before .before .before .before in
-    λ k h. local-stays _ k _ (λ q. c .before .if2 .left (c4 .kind-in .ensures ∙ q)) (λ q. c .if3 .left (c4 .kind-in .ensures ∙ q)) ∙ h
+    let after-kind-in = c .before .before .before .before in
+    λ k h. local-stays _ k _ (λ q. c .before .if2 .left (after-kind-in .kind-in .ensures ∙ q)) (λ q. c .if3 .left (after-kind-in .kind-in .ensures ∙ q)) ∙ h
 
 pub local-after-spec : {M : Type 1} → statement M
 local-after-spec =

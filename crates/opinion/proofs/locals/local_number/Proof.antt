@@ -38,26 +38,26 @@ loop-less c = search needs
 
 loop-again : tie.Need-loop-again Inv-loop μ-loop
 loop-again c =
-    let c4 = c .before .before .before .before in
-    let c6 = c4 .before .before in
-    let log = c6 .args .log .now in
-    let i : ℕ = c4 .loop .i in
-    let b : ℕ = c4 .loop .number in
+    let at-loop = c .before .before .before .before in
+    let start = at-loop .before .before in
+    let log = start .args .log .now in
+    let i : ℕ = at-loop .loop .i in
+    let b : ℕ = at-loop .loop .number in
     let more : c .number-after .result ≡ (eqb (c .before .kind-in .result) 4 then b + 1 otherwise eqb
     (c .before .kind-in .result) 5 then b - 1 otherwise b) = c .number-after .ensures in (
       omega arith,
       sym (onward (λ (k : Known). k .locals) log _ i (c .before .before .entry-at .ensures .0)
           (number-more _ (knownIn log i) ∙ ap₂ (λ (kind n : ℕ). eqb kind 4 then n + 1 otherwise eqb kind 5 then n - 1 otherwise n) (sym
-          (c .before .kind-in .ensures)) (sym (c4 .loop .inv .1))
+          (c .before .kind-in .ensures)) (sym (at-loop .loop .inv .1))
           ∙ sym more)),
-      number-most (c .before .kind-in .result) b i (c4 .loop .inv .2) _ more,
+      number-most (c .before .kind-in .result) b i (at-loop .loop .inv .2) _ more,
     )
 
 returns : tie.Need-returns Inv-loop μ-loop
 returns c =
-    let c3 = c .before .before .before in
-    let last : c .before .loop .i ≡ c3 .args .n = omega arith in
-    c .before .loop .inv .1 ∙ ap (λ (k : ℕ). knownIn (c3 .args .log .now) k .locals) last
+    let start = c .before .before .before in
+    let last : c .before .loop .i ≡ start .args .n = omega arith in
+    c .before .loop .inv .1 ∙ ap (λ (k : ℕ). knownIn (start .args .log .now) k .locals) last
 
 pub local-number-spec : {M : Type 1} → statement M
 local-number-spec =

@@ -21,8 +21,8 @@ returns-2 c = sym (then-false _ _ (ne-eqb _ 4 (c .before .before .if1 .left)) �
 
 returns-3 : tie.Need-returns-3
 returns-3 c =
-    let c3 = c .before .before .before in
-    let none : c3 .args .before ≡ 0 = omega arith in
+    let start = c .before .before .before in
+    let none : start .args .before ≡ 0 = omega arith in
     none ∙ sym (then-false _ _ (ne-eqb _ 4 (c .before .before .if1 .left)) ∙ then-true _ _ (eq-eqb _ 5 (c .before .if2 .taken)) ∙ ap (λ (n : ℕ). n - 1) none)
 
 returns-4 : tie.Need-returns-4

@@ -14,8 +14,8 @@ clock-in-requires c κs = search needs
 
 returns : tie.Need-returns
 returns c =
-    let c4 = c .before .before .before .before in
-    let e = c4 .args .e .now in (
+    let start = c .before .before .before .before in
+    let e = start .args .e .now in (
       λ i. record { bytes = packetIn e; port = c .before .port-in .ensures .0 i; clock = c .clock-in .ensures .0 i; signed = wordIn e },
       c .before .port-in .ensures .1,
       c .clock-in .ensures .1,

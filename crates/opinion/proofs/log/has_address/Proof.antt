@@ -14,8 +14,8 @@ equal-at-requires c κs = search needs
 
 returns : tie.Need-returns
 returns c =
-    let c3 = c .before .before .before in
-    let a = c3 .args in
+    let start = c .before .before .before in
+    let a = start .args in
     let wide : length (a .t2) ≡ 16 = search needs in
     bytes-same 16 (a .e .now) 11 (a .t2) (omega arith) wide _ (c .equal-at .ensures)
 

@@ -21,15 +21,15 @@ reading-refusal-requires c κs = search needs
 returns : tie.Need-returns
 unfolding reads
 returns c =
-    let c3 = c .before .before .before in
-    sym (kind-came _ (c3 .if1 .taken) (eq-eqb _ 0 ((ap (readingRefusal 500) (sym (c .before .before .packet-in .ensures .0))
+    let then1 = c .before .before .before in
+    sym (kind-came _ (then1 .if1 .taken) (eq-eqb _ 0 ((ap (readingRefusal 500) (sym (c .before .before .packet-in .ensures .0))
     ∙ sym (c .before .reading-refusal .ensures)) ∙ c .if2 .taken)))
 
 returns-2 : tie.Need-returns-2
 unfolding reads
 returns-2 c =
-    let c3 = c .before .before .before in
-    sym (kind-not-read _ (c3 .if1 .taken) (ne-eqb _ 0 (λ q. c .if2 .left (sym (ap (readingRefusal 500) (sym (c .before .before .packet-in .ensures .0))
+    let then1 = c .before .before .before in
+    sym (kind-not-read _ (then1 .if1 .taken) (ne-eqb _ 0 (λ q. c .if2 .left (sym (ap (readingRefusal 500) (sym (c .before .before .packet-in .ensures .0))
     ∙ sym (c .before .reading-refusal .ensures)) ∙ q))))
 
 rate-in-requires : tie.Need-rate-in-requires
@@ -40,13 +40,14 @@ rate-within-requires c κs = search needs
 
 returns-3 : tie.Need-returns-3
 returns-3 c =
-    let c3 = c .before .before .before in
-    sym (kind-rate _ (c3 .if3 .taken) (ap rateSettingsOk (sym (c .before .before .rate-in .ensures)) ∙ sym (c .before .rate-within .ensures) ∙ c .if4 .taken))
+    let then3 = c .before .before .before in
+    sym (kind-rate _ (then3 .if3 .taken) (ap rateSettingsOk (sym (c .before .before .rate-in .ensures)) ∙ sym (c .before .rate-within .ensures)
+    ∙ c .if4 .taken))
 
 returns-4 : tie.Need-returns-4
 returns-4 c =
-    let c3 = c .before .before .before in
-    sym (kind-over _ (c3 .if3 .taken) (ap rateSettingsOk (sym (c .before .before .rate-in .ensures)) ∙ sym (c .before .rate-within .ensures) ∙ c .if4 .left))
+    let then3 = c .before .before .before in
+    sym (kind-over _ (then3 .if3 .taken) (ap rateSettingsOk (sym (c .before .before .rate-in .ensures)) ∙ sym (c .before .rate-within .ensures) ∙ c .if4 .left))
 
 returns-5 : tie.Need-returns-5
 returns-5 c = sym (kind-other _ (c .before .before .if1 .left) (c .before .if3 .left) ∙ then-true _ _ (lt-ltb 6 _ (c .if5 .taken)))

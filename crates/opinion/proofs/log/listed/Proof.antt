@@ -18,16 +18,16 @@ wide-requires c κs = search needs
 returns : tie.Need-returns
 unfolding listedIn
 returns c =
-    let c4 = c .before .before .before .before in
-    let n : ℕ = getD (c4 .args .log .now) countAt 0 in
+    let start = c .before .before .before .before in
+    let n : ℕ = getD (start .args .log .now) countAt 0 in
     let l : n < 64 = omega (arith, c .before .wide .ensures) in
     (c .before .wide .ensures ∙ sym (then-true _ _ (lt-ltb n 64 l)), omega arith)
 
 returns-2 : tie.Need-returns-2
 unfolding listedIn
 returns-2 c =
-    let c4 = c .before .before .before .before in
-    let n : ℕ = getD (c4 .args .log .now) countAt 0 in
+    let start = c .before .before .before .before in
+    let n : ℕ = getD (start .args .log .now) countAt 0 in
     let l : 64 ≤ n = omega (arith, c .before .wide .ensures) in
     (sym (then-false _ _ (le-ltb n 64 l)), omega arith)
 

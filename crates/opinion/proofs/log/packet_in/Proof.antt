@@ -24,8 +24,8 @@ part-result-end c = search needs
 
 returns : tie.Need-returns
 returns c =
-    let c4 = c .before .before .before .before in
-    let e = c4 .args .e .now in
+    let start = c .before .before .before .before in
+    let e = start .args .e .now in
     let n = c .before .before .length-in .result in
     (part-range e 11 n ∙ ap (part e 11) (c .before .before .length-in .ensures), omega (arith, range-length e 11 n (omega arith)))
 
@@ -43,10 +43,10 @@ part-result-end-2 c = search needs
 
 returns-2 : tie.Need-returns-2
 returns-2 c =
-    let c4 = c .before .before .before .before in
-    let e = c4 .args .e .now in
+    let start = c .before .before .before .before in
+    let e = start .args .e .now in
     let n = c .before .before .length-in .result in (
-      part-range e 11 500 ∙ part-all e n (c4 .pre) (omega arith)
+      part-range e 11 500 ∙ part-all e n (start .pre) (omega arith)
           ∙ ap (part e 11) (c .before .before .length-in .ensures),
       omega (arith, range-length e 11 500 (omega arith)),
     )

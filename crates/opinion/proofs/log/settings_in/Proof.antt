@@ -14,8 +14,8 @@ length-in-requires c κs = search needs
 
 returns : tie.Need-returns
 returns c =
-    let c4 = c .before .before .before .before in
-    let e = c4 .args .e .now in
+    let start = c .before .before .before .before in
+    let e = start .args .e .now in
     λ i. record { on = wordIn e; mode = modeIn e; size = c .length-in .ensures i }
 
 pub settings-in-spec : {M : Type 1} → statement M

@@ -22,14 +22,19 @@ abbrev μ-loop : tie.MeasureT-loop
 
 loop-holds : tie.Need-loop-holds Inv-loop μ-loop
 loop-holds c =
-    let c3 = c .before .before .before in
-    (omega arith, c3 .pre .2, c3 .pre .3, λ j l. absurd (not-suc-le-zero l), λ j l. absurd (not-suc-le-zero l))
+    let start = c .before .before .before in
+    (omega arith, start .pre .2, start .pre .3, λ j l. absurd (not-suc-le-zero l), λ j l. absurd (not-suc-le-zero l))
 
 outcome-at-requires : tie.Need-outcome-at-requires Inv-loop μ-loop
 outcome-at-requires c κs =
-    let c3 = c .before .before .before in
-    let c7 = c3 .before .before .before .before in
-    ((c7 .pre .0, c3 .loop .inv .1, omega (arith, c7 .pre .1), c3 .loop .inv .3), c3 .loop .inv .2, c3 .loop .inv .4, omega (arith, c7 .pre .1))
+    let at-loop = c .before .before .before in
+    let start = at-loop .before .before .before .before in (
+      (start .pre .0, at-loop .loop .inv .1, omega (arith, start .pre .1), at-loop .loop .inv .3),
+      at-loop .loop .inv .2,
+      at-loop .loop .inv .4,
+      omega
+          (arith, start .pre .1),
+    )
 
 slice-write-effects : tie.Need-slice-write-effects Inv-loop μ-loop
 slice-write-effects c = search needs
@@ -45,19 +50,19 @@ loop-less c = search needs
 
 loop-again : tie.Need-loop-again Inv-loop μ-loop
 loop-again c =
-    let c4 = c .before .before .before .before in
-    let c8 = c4 .before .before .before .before in
-    let log = c8 .args .log .now in
-    let i : ℕ = c4 .loop .i in
-    let effects = c4 .loop .effects in
-    let kept = c4 .loop .kept in (
+    let at-loop = c .before .before .before .before in
+    let start = at-loop .before .before .before .before in
+    let log = start .args .log .now in
+    let i : ℕ = at-loop .loop .i in
+    let effects = at-loop .loop .effects in
+    let kept = at-loop .loop .kept in (
       omega arith,
-      length-set effects i _ ∙ c4 .loop .inv .1,
-      length-set kept i _ ∙ c4 .loop .inv .2,
-      filled (λ (j x : ℕ). x ≡ effectOf (entryOf (entryBytes log j)) (knownIn log j)) effects i _ 0 (omega (arith, c4 .loop .inv .1, c8 .pre .1))
-          (c4 .loop .inv .3) (c .outcome-at .ensures .0),
-      filled (λ (j x : ℕ). eqb x 1 ≡ keepsHash (entryOf (entryBytes log j)) (knownIn log j)) kept i _ 0 (omega (arith, c4 .loop .inv .2, c8 .pre .1))
-          (c4 .loop .inv .4) (c .outcome-at .ensures .1),
+      length-set effects i _ ∙ at-loop .loop .inv .1,
+      length-set kept i _ ∙ at-loop .loop .inv .2,
+      filled (λ (j x : ℕ). x ≡ effectOf (entryOf (entryBytes log j)) (knownIn log j)) effects i _ 0 (omega (arith, at-loop .loop .inv .1, start .pre .1))
+          (at-loop .loop .inv .3) (c .outcome-at .ensures .0),
+      filled (λ (j x : ℕ). eqb x 1 ≡ keepsHash (entryOf (entryBytes log j)) (knownIn log j)) kept i _ 0 (omega (arith, at-loop .loop .inv .2, start .pre .1))
+          (at-loop .loop .inv .4) (c .outcome-at .ensures .1),
     )
 
 same-length : tie.Need-same-length Inv-loop μ-loop
@@ -68,9 +73,9 @@ same-length-2 c = search needs
 
 returns : tie.Need-returns Inv-loop μ-loop
 returns c =
-    let c5 = c .before .before .before .before .before in
-    let last : c .before .loop .i ≡ c5 .args .n = omega arith in (
-      (c5 .pre .0, c .before .loop .inv .1, c5 .pre .1, λ j l. c .before .loop .inv .3 j (omega arith)),
+    let start = c .before .before .before .before .before in
+    let last : c .before .loop .i ≡ start .args .n = omega arith in (
+      (start .pre .0, c .before .loop .inv .1, start .pre .1, λ j l. c .before .loop .inv .3 j (omega arith)),
       c .before .loop .inv .2,
       λ j l. c .before .loop .inv .4 j (omega arith),
     )

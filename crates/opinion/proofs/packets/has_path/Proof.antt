@@ -17,8 +17,8 @@ slice-aggregate-outcomes-2 c = search needs
 
 outcomes-requires : tie.Need-outcomes-requires
 outcomes-requires c κs =
-    let c3 = c .before .before .before in
-    (c3 .pre .0, c3 .pre .1, search needs, search needs)
+    let start = c .before .before .before in
+    (start .pre .0, start .pre .1, search needs, search needs)
 
 slice-aggregate-path-of : tie.Need-slice-aggregate-path-of
 slice-aggregate-path-of c = search needs
@@ -32,9 +32,9 @@ live-path-requires c κs = (c .path-of .ensures .fits, c .path-of .ensures .port
 returns : tie.Need-returns
 unfolding seenAt pathOf
 returns c =
-    let c9 = c .before .before .before .before .before .before .before .before .before in
-    there-is _ _ ∙ ap isThere (c .live-path .ensures .0 (c9 .args .destination)
-    ∙ ap (onlyIf (λ (p : Path). live (c9 .args .clock) (p .expiry))) (c .before .path-of .ensures .is))
+    let start = c .before .before .before .before .before .before .before .before .before in
+    there-is _ _ ∙ ap isThere (c .live-path .ensures .0 (start .args .destination)
+    ∙ ap (onlyIf (λ (p : Path). live (start .args .clock) (p .expiry))) (c .before .path-of .ensures .is))
 
 pub has-path-spec : {M : Type 1} → statement M
 has-path-spec =

@@ -12,8 +12,8 @@ slice-aggregate-outcomes-2 c = search needs
 
 outcomes-requires : tie.Need-outcomes-requires
 outcomes-requires c κs =
-    let c5 = c .before .before .before .before .before in
-    (c5 .pre .0, c5 .pre .1, search needs, search needs)
+    let start = c .before .before .before .before .before in
+    (start .pre .0, start .pre .1, search needs, search needs)
 
 hash-of-requires : tie.Need-hash-of-requires
 hash-of-requires c κs = c .before .before .before .before .before .before .before .before .pre .2
@@ -26,27 +26,28 @@ slice-aggregate-seen-2 c = search needs
 
 seen-requires : tie.Need-seen-requires
 seen-requires c κs =
-    let c5 = c .before .before .before .before .before in
-    let c11 = c5 .before .before .before .before .before .before in
-    ((c5 .outcomes .ensures .0, c5 .outcomes .ensures .1, c5 .outcomes .ensures .2, c11 .pre .2, c11 .pre .3, c11 .pre .4), c .before .before .hash-of .ensures)
+    let after-outcomes = c .before .before .before .before .before in
+    let start = after-outcomes .before .before .before .before .before .before in
+    let (can-ask, long, kept) = after-outcomes .outcomes .ensures in
+    ((can-ask, long, kept, start .pre .2, start .pre .3, start .pre .4), c .before .before .hash-of .ensures)
 
 plan-of-requires : tie.Need-plan-of-requires
 plan-of-requires c κs = (c .before .before .before .before .before .before .before .before .before .before .before .before .pre .2, c .seen .ensures .1)
 
 answer-of-requires : tie.Need-answer-of-requires
 answer-of-requires c κs =
-    let c14 = c .before .before .before .before .before .before .before .before .before .before .before .before .before .before in
-    (c14 .pre .2, c14 .pre .5, c .before .plan-of .ensures)
+    let start = c .before .before .before .before .before .before .before .before .before .before .before .before .before .before in
+    (start .pre .2, start .pre .5, c .before .plan-of .ensures)
 
 same-length : tie.Need-same-length
 same-length c = search needs
 
 returns : tie.Need-returns
 returns c =
-    let c5 = c .before .before .before .before .before in (
-      c .before .before .answer-of .ensures .0 ∙ verdict-so _ _ _ (c5 .seen .ensures .0),
+    let after-seen = c .before .before .before .before .before in (
+      c .before .before .answer-of .ensures .0 ∙ verdict-so _ _ _ (after-seen .seen .ensures .0),
       c .before .before .answer-of .ensures .1
-          ∙ output-so _ _ _ (c5 .seen .ensures .0) _,
+          ∙ output-so _ _ _ (after-seen .seen .ensures .0) _,
     )
 
 pub judged-spec : {M : Type 1} → statement M

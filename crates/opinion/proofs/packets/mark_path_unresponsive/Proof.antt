@@ -26,10 +26,11 @@ clock-bad-requires c κs = (search needs, c .before .before .before .listed .ens
 returns-2 : tie.Need-returns-2
 unfolding callRows
 returns-2 c =
-    let c5 = c .before .before .before .before .before in
-    let c8 = c5 .before .before .before in
-    refused _ _ (omega (arith, c5 .listed .ensures .0)) 5 (here _ _ _ _ (ap (λ (m : ℕ). clockBad (knownIn (c8 .args .log .now) m) (c8 .args .clock)) (sym
-    (c5 .listed .ensures .0)) ∙ sym (c .before .clock-bad .ensures) ∙ c .if2 .taken)) (eqb-false 5 0 refl)
+    let after-listed = c .before .before .before .before .before in
+    let start = after-listed .before .before .before in
+    refused _ _ (omega (arith, after-listed .listed .ensures .0)) 5
+    (here _ _ _ _ (ap (λ (m : ℕ). clockBad (knownIn (start .args .log .now) m) (start .args .clock)) (sym
+    (after-listed .listed .ensures .0)) ∙ sym (c .before .clock-bad .ensures) ∙ c .if2 .taken)) (eqb-false 5 0 refl)
 
 has-path-requires : tie.Need-has-path-requires
 has-path-requires c κs = (search needs, c .before .before .before .before .before .before .before .listed .ensures .1)
@@ -37,34 +38,35 @@ has-path-requires c κs = (search needs, c .before .before .before .before .befo
 returns-3 : tie.Need-returns-3
 unfolding callRows
 returns-3 c =
-    let c4 = c .before .before .before .before in
-    let c5 = c4 .before in
-    let c9 = c5 .before .before .before .before in
-    let c12 = c9 .before .before .before in
-    refused _ _ (omega (arith, c9 .listed .ensures .0)) 12 (past _ _ _ _ (ap (λ (m : ℕ). clockBad (knownIn (c12 .args .log .now) m) (c12 .args .clock)) (sym
-    (c9 .listed .ensures .0)) ∙ sym (c5 .clock-bad .ensures) ∙ c4 .if2 .left)
-    ∙ here _ _ _ _ (ap (λ (m : ℕ). not (isThere (seenAt (c12 .args .clock) (knownIn (c12 .args .log .now) m) .path (c12 .args .destination)))) (sym
-    (c9 .listed .ensures .0)) ∙ ap not (sym (c .before .has-path .ensures)) ∙ c .if3 .taken)) (eqb-false 12 0 refl)
+    let else2 = c .before .before .before .before in
+    let after-clock-bad = else2 .before in
+    let after-listed = after-clock-bad .before .before .before .before in
+    let start = after-listed .before .before .before in
+    refused _ _ (omega (arith, after-listed .listed .ensures .0)) 12
+    (past _ _ _ _ (ap (λ (m : ℕ). clockBad (knownIn (start .args .log .now) m) (start .args .clock)) (sym
+    (after-listed .listed .ensures .0)) ∙ sym (after-clock-bad .clock-bad .ensures) ∙ else2 .if2 .left)
+    ∙ here _ _ _ _ (ap (λ (m : ℕ). not (isThere (seenAt (start .args .clock) (knownIn (start .args .log .now) m) .path (start .args .destination)))) (sym
+    (after-listed .listed .ensures .0)) ∙ ap not (sym (c .before .has-path .ensures)) ∙ c .if3 .taken)) (eqb-false 12 0 refl)
 
 put-mark-requires : tie.Need-put-mark-requires
 put-mark-requires c κs =
-    let c5 = c .before .before .before .before .before in
-    let c6 = c5 .before in
-    (search needs, omega arith, leb-false _ _ (or-no-left _ _ (sym (c6 .clock-bad .ensures) ∙ c5 .if2 .left)))
+    let else2 = c .before .before .before .before .before in
+    let after-clock-bad = else2 .before in
+    (search needs, omega arith, leb-false _ _ (or-no-left _ _ (sym (after-clock-bad .clock-bad .ensures) ∙ else2 .if2 .left)))
 
 returns-4 : tie.Need-returns-4
 unfolding callRows
 returns-4 c =
-    let c3 = c .before .before .before in
-    let c6 = c3 .before .before .before in
-    let c7 = c6 .before in
-    let c11 = c7 .before .before .before .before in
-    let c14 = c11 .before .before .before in
-    accepted _ _ (omega (arith, c11 .listed .ensures .0)) (none-of-two _ _ 5 12 (ap (λ (m : ℕ). clockBad (knownIn (c14 .args .log .now) m)
-    (c14 .args .clock)) (sym (c11 .listed .ensures .0)) ∙ sym (c7 .clock-bad .ensures)
-    ∙ c6 .if2 .left) (ap (λ (m : ℕ). not (isThere (seenAt (c14 .args .clock) (knownIn (c14 .args .log .now) m) .path (c14 .args .destination)))) (sym
-    (c11 .listed .ensures .0)) ∙ ap not (sym (c3 .has-path .ensures))
-    ∙ c .before .before .if3 .left)) (c11 .listed .result) (c11 .listed .ensures .0) _ (c .put-mark .ensures)
+    let after-has-path = c .before .before .before in
+    let else2 = after-has-path .before .before .before in
+    let after-clock-bad = else2 .before in
+    let after-listed = after-clock-bad .before .before .before .before in
+    let start = after-listed .before .before .before in
+    accepted _ _ (omega (arith, after-listed .listed .ensures .0)) (none-of-two _ _ 5 12 (ap (λ (m : ℕ). clockBad (knownIn (start .args .log .now) m)
+    (start .args .clock)) (sym (after-listed .listed .ensures .0)) ∙ sym (after-clock-bad .clock-bad .ensures)
+    ∙ else2 .if2 .left) (ap (λ (m : ℕ). not (isThere (seenAt (start .args .clock) (knownIn (start .args .log .now) m) .path (start .args .destination)))) (sym
+    (after-listed .listed .ensures .0)) ∙ ap not (sym (after-has-path .has-path .ensures))
+    ∙ c .before .before .if3 .left)) (after-listed .listed .result) (after-listed .listed .ensures .0) _ (c .put-mark .ensures)
 
 pub mark-path-unresponsive-spec : {M : Type 1} → statement M
 mark-path-unresponsive-spec =

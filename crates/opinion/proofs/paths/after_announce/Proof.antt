@@ -19,10 +19,10 @@ packet-in-requires c κs = c .entry-at .ensures .1
 
 parts-of-requires : tie.Need-parts-of-requires
 parts-of-requires c κs =
-    let c3 = c .before .before .before in
-    let log = c3 .args .log .now in
-    let i : ℕ = c3 .args .i in
-    entry-whole log i _ _ (c .before .entry-at .ensures .0) (c .packet-in .ensures .0) 1 refl (c3 .pre .2)
+    let start = c .before .before .before in
+    let log = start .args .log .now in
+    let i : ℕ = start .args .i in
+    entry-whole log i _ _ (c .before .entry-at .ensures .0) (c .packet-in .ensures .0) 1 refl (start .pre .2)
 
 is-same-requires : tie.Need-is-same-requires
 is-same-requires c κs = search needs
@@ -41,68 +41,73 @@ rate-at-requires c κs = (c .before .before .before .before .before .before .bef
 
 live-path-requires : tie.Need-live-path-requires
 live-path-requires c κs =
-    let c11 = c .before .before .before .before .before .before .before .before .before .before .before in
-    (c11 .pre .3 .fits, c11 .pre .3 .port)
+    let start = c .before .before .before .before .before .before .before .before .before .before .before in
+    (start .pre .3 .fits, start .pre .3 .port)
 
 announced-path-requires : tie.Need-announced-path-requires
 announced-path-requires c κs =
-    let c4 = c .before .before .before .before in
-    let c9 = c4 .before .before .before .before .before in
-    let c10 = c9 .before in
-    let c12 = c10 .before .before in
-    let log = c12 .args .log .now in
-    let i : ℕ = c12 .args .i in (
-      entry-reads log i _ _ (c10 .entry-at .ensures .0) (c9 .packet-in .ensures .0) 1 refl (c12 .pre .2),
-      entry-payload log i _ _ (c10 .entry-at .ensures .0)
-          (c9 .packet-in .ensures .0) (c12 .pre .2),
+    let after-arrived-in = c .before .before .before .before in
+    let after-packet-in = after-arrived-in .before .before .before .before .before in
+    let after-entry-at = after-packet-in .before in
+    let start = after-entry-at .before .before in
+    let log = start .args .log .now in
+    let i : ℕ = start .args .i in (
+      entry-reads log i _ _ (after-entry-at .entry-at .ensures .0) (after-packet-in .packet-in .ensures .0) 1 refl (start .pre .2),
+      entry-payload log i _ _ (after-entry-at .entry-at .ensures .0)
+          (after-packet-in .packet-in .ensures .0) (start .pre .2),
       c .before .rate-at .ensures .1,
       c .live-path .ensures .1,
-      c4 .arrived-in .ensures .2,
+      after-arrived-in .arrived-in .ensures .2,
     )
 
 returns : tie.Need-returns
 returns c =
-    let c3 = c .before .before .before in
-    let c5 = c3 .before .before in
-    let c6 = c5 .before in
-    let c7 = c6 .before in
-    let c9 = c7 .before .before in
-    let c10 = c9 .before in
-    let c11 = c10 .before in
-    let c13 = c11 .before .before in
-    let log = c13 .args .log .now in
-    let i : ℕ = c13 .args .i in
-    let m = c5 .arrived-in .result in
-    let there : c9 .parts-of .result .destination ≡ partsOf (c10 .packet-in .result .now) .destination = ap (λ (x : Parts). x .destination)
-    (c9 .parts-of .ensures) in
-    let found = ap (λ (x : List ℕ). same x (c13 .args .destination)) (sym there) ∙ sym (c7 .is-same .ensures) in
+    let after-port-at = c .before .before .before in
+    let after-arrived-in = after-port-at .before .before in
+    let then1 = after-arrived-in .before in
+    let after-is-same = then1 .before in
+    let after-parts-of = after-is-same .before .before in
+    let after-packet-in = after-parts-of .before in
+    let after-entry-at = after-packet-in .before in
+    let start = after-entry-at .before .before in
+    let log = start .args .log .now in
+    let i : ℕ = start .args .i in
+    let m = after-arrived-in .arrived-in .result in
+    let there : after-parts-of .parts-of .result .destination ≡ partsOf (after-packet-in .packet-in .result .now) .destination = ap
+    (λ (x : Parts). x .destination)
+    (after-parts-of .parts-of .ensures) in
+    let found = ap (λ (x : List ℕ). same x (start .args .destination)) (sym there) ∙ sym (after-is-same .is-same .ensures) in
     let made = c .announced-path .ensures .0 in
     let known = c .before .live-path .result in
     record {
-      is = announce-step log i (c13 .args .destination) (c13 .args .before) (c13 .pre .3 .is) _ (entry-arrival log i _ _ (c11 .entry-at .ensures .0)
-          (c10 .packet-in .ensures .0) (c5 .arrived-in .result) (c5 .arrived-in .ensures .0)) (c13 .pre .2) (found ∙ c6 .if1 .taken) known _
-          (c .before .live-path .ensures .0 (c13 .args .destination)) _ _ (c .before .before .rate-at .ensures .0) (ap (λ (p : Port). p .mode)
-          (c3 .port-at .ensures)) made;
+      is = announce-step log i (start .args .destination) (start .args .before) (start .pre .3 .is) _
+          (entry-arrival log i _ _ (after-entry-at .entry-at .ensures .0)
+          (after-packet-in .packet-in .ensures .0) (after-arrived-in .arrived-in .result) (after-arrived-in .arrived-in .ensures .0)) (start .pre .2)
+          (found ∙ then1 .if1 .taken) known _
+          (c .before .live-path .ensures .0 (start .args .destination)) _ _ (c .before .before .rate-at .ensures .0) (ap (λ (p : Port). p .mode)
+          (after-port-at .port-at .ensures)) made;
       fits = c .announced-path .ensures .1;
-      port = omega (arith, announced-port _ _ _ _ _ made, c5 .arrived-in .ensures .1);
+      port = omega (arith, announced-port _ _ _ _ _ made, after-arrived-in .arrived-in .ensures .1);
     }
 
 returns-2 : tie.Need-returns-2
 returns-2 c =
-    let c3 = c .before .before .before in
-    let c4 = c3 .before in
-    let c5 = c4 .before in
-    let c7 = c5 .before .before in
-    let log = c7 .args .log .now in
-    let i : ℕ = c7 .args .i in
-    let there : c3 .parts-of .result .destination ≡ partsOf (c4 .packet-in .result .now) .destination = ap (λ (x : Parts). x .destination)
-    (c3 .parts-of .ensures) in
-    let found = ap (λ (x : List ℕ). same x (c7 .args .destination)) (sym there) ∙ sym (c .before .is-same .ensures) in
+    let after-parts-of = c .before .before .before in
+    let after-packet-in = after-parts-of .before in
+    let after-entry-at = after-packet-in .before in
+    let start = after-entry-at .before .before in
+    let log = start .args .log .now in
+    let i : ℕ = start .args .i in
+    let there : after-parts-of .parts-of .result .destination ≡ partsOf (after-packet-in .packet-in .result .now) .destination = ap
+    (λ (x : Parts). x .destination)
+    (after-parts-of .parts-of .ensures) in
+    let found = ap (λ (x : List ℕ). same x (start .args .destination)) (sym there) ∙ sym (c .before .is-same .ensures) in
     record {
-      is = another-announce log i (c7 .args .destination) (c7 .args .before) (c7 .pre .3 .is) _ (packet-arrival log i _ _ (c5 .entry-at .ensures .0)
-          (c4 .packet-in .ensures .0)) (c7 .pre .2) (found ∙ c .if1 .left);
-      fits = c7 .pre .3 .fits;
-      port = c7 .pre .3 .port;
+      is = another-announce log i (start .args .destination) (start .args .before) (start .pre .3 .is) _
+          (packet-arrival log i _ _ (after-entry-at .entry-at .ensures .0)
+          (after-packet-in .packet-in .ensures .0)) (start .pre .2) (found ∙ c .if1 .left);
+      fits = start .pre .3 .fits;
+      port = start .pre .3 .port;
     }
 
 pub after-announce-spec : {M : Type 1} → statement M

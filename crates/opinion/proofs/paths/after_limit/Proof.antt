@@ -21,10 +21,10 @@ packet-in-requires c κs = c .entry-at .ensures .1
 
 parts-of-requires : tie.Need-parts-of-requires
 parts-of-requires c κs =
-    let c3 = c .before .before .before in
-    let log = c3 .args .log .now in
-    let i : ℕ = c3 .args .i in
-    entry-whole log i _ _ (c .before .entry-at .ensures .0) (c .packet-in .ensures .0) 2 refl (c3 .pre .2)
+    let start = c .before .before .before in
+    let log = start .args .log .now in
+    let i : ℕ = start .args .i in
+    entry-whole log i _ _ (c .before .entry-at .ensures .0) (c .packet-in .ensures .0) 2 refl (start .pre .2)
 
 is-same-requires : tie.Need-is-same-requires
 is-same-requires c κs = search needs
@@ -40,44 +40,48 @@ limited-path-requires c κs = (c .rate-at .ensures .1, c .before .before .before
 
 returns : tie.Need-returns
 returns c =
-    let c3 = c .before .before .before in
-    let c4 = c3 .before in
-    let c6 = c4 .before .before in
-    let c7 = c6 .before in
-    let c8 = c7 .before in
-    let c10 = c8 .before .before in
-    let log = c10 .args .log .now in
-    let i : ℕ = c10 .args .i in
-    let there : c6 .parts-of .result .destination ≡ partsOf (c7 .packet-in .result .now) .destination = ap (λ (x : Parts). x .destination)
-    (c6 .parts-of .ensures) in
-    let found = ap (λ (x : List ℕ). same x (c10 .args .destination)) (sym there) ∙ sym (c4 .is-same .ensures) in
+    let then1 = c .before .before .before in
+    let after-is-same = then1 .before in
+    let after-parts-of = after-is-same .before .before in
+    let after-packet-in = after-parts-of .before in
+    let after-entry-at = after-packet-in .before in
+    let start = after-entry-at .before .before in
+    let log = start .args .log .now in
+    let i : ℕ = start .args .i in
+    let there : after-parts-of .parts-of .result .destination ≡ partsOf (after-packet-in .packet-in .result .now) .destination = ap
+    (λ (x : Parts). x .destination)
+    (after-parts-of .parts-of .ensures) in
+    let found = ap (λ (x : List ℕ). same x (start .args .destination)) (sym there) ∙ sym (after-is-same .is-same .ensures) in
     let limits = c .limited-path .ensures .0 in
     record {
-      is = limit-step log i (c10 .args .destination) (c10 .args .before) (c10 .pre .3 .is) _ (entry-arrival log i _ _ (c8 .entry-at .ensures .0)
-          (c7 .packet-in .ensures .0) (c .before .before .arrived-in .result) (c .before .before .arrived-in .ensures .0)) (c10 .pre .2) (found
-          ∙ c3 .if1 .taken) _
-          (subst (λ (s : RateSettings). LimitsPath s (c .before .before .arrived-in .result .clock) (c10 .args .before) (c .limited-path .result))
+      is = limit-step log i (start .args .destination) (start .args .before) (start .pre .3 .is) _
+          (entry-arrival log i _ _ (after-entry-at .entry-at .ensures .0)
+          (after-packet-in .packet-in .ensures .0) (c .before .before .arrived-in .result) (c .before .before .arrived-in .ensures .0)) (start .pre .2) (found
+          ∙ then1 .if1 .taken) _
+          (subst (λ (s : RateSettings). LimitsPath s (c .before .before .arrived-in .result .clock) (start .args .before) (c .limited-path .result))
           (c .before .rate-at .ensures .0) limits);
       fits = c .limited-path .ensures .1;
-      port = subst (λ (p : ℕ). p < 16) (sym (ap (λ (p : Path). p .port) (limits .limited (c10 .args .destination)))) (c10 .pre .3 .port);
+      port = subst (λ (p : ℕ). p < 16) (sym (ap (λ (p : Path). p .port) (limits .limited (start .args .destination)))) (start .pre .3 .port);
     }
 
 returns-2 : tie.Need-returns-2
 returns-2 c =
-    let c3 = c .before .before .before in
-    let c4 = c3 .before in
-    let c5 = c4 .before in
-    let c7 = c5 .before .before in
-    let log = c7 .args .log .now in
-    let i : ℕ = c7 .args .i in
-    let there : c3 .parts-of .result .destination ≡ partsOf (c4 .packet-in .result .now) .destination = ap (λ (x : Parts). x .destination)
-    (c3 .parts-of .ensures) in
-    let found = ap (λ (x : List ℕ). same x (c7 .args .destination)) (sym there) ∙ sym (c .before .is-same .ensures) in
+    let after-parts-of = c .before .before .before in
+    let after-packet-in = after-parts-of .before in
+    let after-entry-at = after-packet-in .before in
+    let start = after-entry-at .before .before in
+    let log = start .args .log .now in
+    let i : ℕ = start .args .i in
+    let there : after-parts-of .parts-of .result .destination ≡ partsOf (after-packet-in .packet-in .result .now) .destination = ap
+    (λ (x : Parts). x .destination)
+    (after-parts-of .parts-of .ensures) in
+    let found = ap (λ (x : List ℕ). same x (start .args .destination)) (sym there) ∙ sym (c .before .is-same .ensures) in
     record {
-      is = another-limit log i (c7 .args .destination) (c7 .args .before) (c7 .pre .3 .is) _ (packet-arrival log i _ _ (c5 .entry-at .ensures .0)
-          (c4 .packet-in .ensures .0)) (c7 .pre .2) (found ∙ c .if1 .left);
-      fits = c7 .pre .3 .fits;
-      port = c7 .pre .3 .port;
+      is = another-limit log i (start .args .destination) (start .args .before) (start .pre .3 .is) _
+          (packet-arrival log i _ _ (after-entry-at .entry-at .ensures .0)
+          (after-packet-in .packet-in .ensures .0)) (start .pre .2) (found ∙ c .if1 .left);
+      fits = start .pre .3 .fits;
+      port = start .pre .3 .port;
     }
 
 pub after-limit-spec : {M : Type 1} → statement M

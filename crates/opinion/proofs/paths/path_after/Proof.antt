@@ -21,15 +21,15 @@ image-in-requires c κs = (c .before .before .entry-at .ensures .1, c .before .b
 returns : tie.Need-returns
 unfolding pathOf
 returns c =
-    let c3 = c .before .before .before in
-    let c5 = c3 .before .before in
-    let log = c5 .args .log .now in
-    let i : ℕ = c5 .args .i in
+    let after-entry-at = c .before .before .before in
+    let start = after-entry-at .before .before in
+    let log = start .args .log .now in
+    let i : ℕ = start .args .i in
     record {
-      is = renumber-path log i (c5 .args .destination) (c5 .args .before) (c5 .pre .3 .is) (sym (ap kindIn (c3 .entry-at .ensures .0))
+      is = renumber-path log i (start .args .destination) (start .args .before) (start .pre .3 .is) (sym (ap kindIn (after-entry-at .entry-at .ensures .0))
           ∙ sym (c .before .before .kind-in .ensures) ∙ c .before .if1 .taken) _ (c .image-in .ensures .0
-          ∙ ap (λ (b : List ℕ). image (imagesIn b) (c5 .args .before .port)) (c3 .entry-at .ensures .0));
-      fits = record { entry = c5 .pre .3 .fits .entry; blobs = c5 .pre .3 .fits .blobs };
+          ∙ ap (λ (b : List ℕ). image (imagesIn b) (start .args .before .port)) (after-entry-at .entry-at .ensures .0));
+      fits = record { entry = start .pre .3 .fits .entry; blobs = start .pre .3 .fits .blobs };
       port = c .image-in .ensures .1;
     }
 
@@ -39,64 +39,66 @@ has-address-requires c κs = c .before .before .before .entry-at .ensures .1
 returns-2 : tie.Need-returns-2
 unfolding pathOf
 returns-2 c =
-    let c4 = c .before .before .before .before in
-    let c5 = c4 .before in
-    let c7 = c5 .before .before in
-    let log = c7 .args .log .now in
-    let i : ℕ = c7 .args .i in
+    let after-kind-in = c .before .before .before .before in
+    let after-entry-at = after-kind-in .before in
+    let start = after-entry-at .before .before in
+    let log = start .args .log .now in
+    let i : ℕ = start .args .i in
     record {
-      is = mark-step log i (c7 .args .destination) (c7 .args .before) (c7 .pre .3 .is) (sym (ap kindIn (c5 .entry-at .ensures .0))
-          ∙ sym (c4 .kind-in .ensures) ∙ c .before .before .if2 .taken) (sym (c .before .has-address .ensures
-          ∙ ap (λ (b : List ℕ). same (addressIn b) (c7 .args .destination)) (c5 .entry-at .ensures .0)) ∙ c .if3 .taken);
-      fits = record { entry = c7 .pre .3 .fits .entry; blobs = c7 .pre .3 .fits .blobs };
-      port = c7 .pre .3 .port;
+      is = mark-step log i (start .args .destination) (start .args .before) (start .pre .3 .is) (sym (ap kindIn (after-entry-at .entry-at .ensures .0))
+          ∙ sym (after-kind-in .kind-in .ensures) ∙ c .before .before .if2 .taken) (sym (c .before .has-address .ensures
+          ∙ ap (λ (b : List ℕ). same (addressIn b) (start .args .destination)) (after-entry-at .entry-at .ensures .0)) ∙ c .if3 .taken);
+      fits = record { entry = start .pre .3 .fits .entry; blobs = start .pre .3 .fits .blobs };
+      port = start .pre .3 .port;
     }
 
 returns-3 : tie.Need-returns-3
 returns-3 c =
-    let c4 = c .before .before .before .before in
-    let c5 = c4 .before in
-    let c7 = c5 .before .before in
-    let log = c7 .args .log .now in
-    let i : ℕ = c7 .args .i in
+    let after-kind-in = c .before .before .before .before in
+    let after-entry-at = after-kind-in .before in
+    let start = after-entry-at .before .before in
+    let log = start .args .log .now in
+    let i : ℕ = start .args .i in
     record {
-      is = another-mark log i (c7 .args .destination) (c7 .args .before) (c7 .pre .3 .is) (sym (ap kindIn (c5 .entry-at .ensures .0))
-          ∙ sym (c4 .kind-in .ensures) ∙ c .before .before .if2 .taken) (sym (c .before .has-address .ensures
-          ∙ ap (λ (b : List ℕ). same (addressIn b) (c7 .args .destination)) (c5 .entry-at .ensures .0)) ∙ c .if3 .left);
-      fits = c7 .pre .3 .fits;
-      port = c7 .pre .3 .port;
+      is = another-mark log i (start .args .destination) (start .args .before) (start .pre .3 .is) (sym (ap kindIn (after-entry-at .entry-at .ensures .0))
+          ∙ sym (after-kind-in .kind-in .ensures) ∙ c .before .before .if2 .taken) (sym (c .before .has-address .ensures
+          ∙ ap (λ (b : List ℕ). same (addressIn b) (start .args .destination)) (after-entry-at .entry-at .ensures .0)) ∙ c .if3 .left);
+      fits = start .pre .3 .fits;
+      port = start .pre .3 .port;
     }
 
 after-announce-requires : tie.Need-after-announce-requires
 after-announce-requires c κs =
-    let c6 = c .before .before .before .before .before .before in
-    (c6 .pre .0, c6 .pre .1, sym (c6 .pre .2) ∙ c .if4 .taken, c6 .pre .3)
+    let start = c .before .before .before .before .before .before in
+    (start .pre .0, start .pre .1, sym (start .pre .2) ∙ c .if4 .taken, start .pre .3)
 
 returns-4 : tie.Need-returns-4
 returns-4 c = c .after-announce .ensures
 
 after-limit-requires : tie.Need-after-limit-requires
 after-limit-requires c κs =
-    let c7 = c .before .before .before .before .before .before .before in
-    (c7 .pre .0, c7 .pre .1, sym (c7 .pre .2) ∙ c .if5 .taken, c7 .pre .3)
+    let start = c .before .before .before .before .before .before .before in
+    (start .pre .0, start .pre .1, sym (start .pre .2) ∙ c .if5 .taken, start .pre .3)
 
 returns-5 : tie.Need-returns-5
 returns-5 c = c .after-limit .ensures
 
 returns-6 : tie.Need-returns-6
 returns-6 c =
-    let c3 = c .before .before .before in
-    let c4 = c3 .before in
-    let c5 = c4 .before in
-    let c7 = c5 .before .before in
-    let log = c7 .args .log .now in
-    let i : ℕ = c7 .args .i in
+    let else1 = c .before .before .before in
+    let after-kind-in = else1 .before in
+    let after-entry-at = after-kind-in .before in
+    let start = after-entry-at .before .before in
+    let log = start .args .log .now in
+    let i : ℕ = start .args .i in
     record {
-      is = path-left log i (c7 .args .destination) (c7 .args .before) (c7 .pre .3 .is) (λ q. c .before .before .if2 .left (c4 .kind-in .ensures
-          ∙ ap kindIn (c5 .entry-at .ensures .0) ∙ q)) (λ q. c3 .if1 .left (c4 .kind-in .ensures ∙ ap kindIn (c5 .entry-at .ensures .0)
-          ∙ q)) (λ q. c .before .if4 .left (c7 .pre .2 ∙ q)) (λ q. c .if5 .left (c7 .pre .2 ∙ q));
-      fits = c7 .pre .3 .fits;
-      port = c7 .pre .3 .port;
+      is = path-left log i (start .args .destination) (start .args .before) (start .pre .3 .is)
+          (λ q. c .before .before .if2 .left (after-kind-in .kind-in .ensures
+          ∙ ap kindIn (after-entry-at .entry-at .ensures .0) ∙ q))
+          (λ q. else1 .if1 .left (after-kind-in .kind-in .ensures ∙ ap kindIn (after-entry-at .entry-at .ensures .0)
+          ∙ q)) (λ q. c .before .if4 .left (start .pre .2 ∙ q)) (λ q. c .if5 .left (start .pre .2 ∙ q));
+      fits = start .pre .3 .fits;
+      port = start .pre .3 .port;
     }
 
 pub path-after-spec : {M : Type 1} → statement M

@@ -25,8 +25,8 @@ shared-slice-read-path-after c = omega (arith, c .before .before .before .before
 
 path-after-requires : tie.Need-path-after-requires Inv-loop μ-loop
 path-after-requires c κs =
-    let c6 = c .before .before .before .before .before .before in
-    (c6 .pre .0, omega (arith, c6 .pre .2), c6 .pre .3 (c .before .before .loop .i) (omega arith), c .before .before .loop .inv .1)
+    let start = c .before .before .before .before .before .before in
+    (start .pre .0, omega (arith, start .pre .2), start .pre .3 (c .before .before .loop .i) (omega arith), c .before .before .loop .inv .1)
 
 add-i : tie.Need-add-i Inv-loop μ-loop
 add-i c = search needs
@@ -39,9 +39,9 @@ loop-again c = (omega arith, c .path-after .ensures)
 
 returns : tie.Need-returns Inv-loop μ-loop
 returns c =
-    let c5 = c .before .before .before .before .before in
-    let last : c .before .loop .i ≡ c5 .args .n = omega arith in
-    subst (λ (m : ℕ). PathKnown (c5 .args .log .now) m (c5 .args .destination) (c .before .loop .path)) last (c .before .loop .inv .1)
+    let start = c .before .before .before .before .before in
+    let last : c .before .loop .i ≡ start .args .n = omega arith in
+    subst (λ (m : ℕ). PathKnown (start .args .log .now) m (start .args .destination) (c .before .loop .path)) last (c .before .loop .inv .1)
 
 pub path-of-spec : {M : Type 1} → statement M
 path-of-spec =

@@ -35,17 +35,17 @@ settings-in-requires c κs = c .before .before .entry-at .ensures .1
 
 returns : tie.Need-returns Inv-loop μ-loop
 returns c =
-    let c3 = c .before .before .before in
-    let c5 = c3 .before .before in
-    let c7 = c5 .before .before in
-    let log = c7 .args .log .now in
-    let name : ℕ = c5 .loop .name in
-    let i : ℕ = c5 .loop .i in
+    let after-entry-at = c .before .before .before in
+    let at-loop = after-entry-at .before .before in
+    let start = at-loop .before .before in
+    let log = start .args .log .now in
+    let name : ℕ = at-loop .loop .name in
+    let i : ℕ = at-loop .loop .i in
     let last : i ≡ i - 1 + 1 = omega arith in
     let test = sym (c .before .before .sets-port .ensures) ∙ c .before .if1 .taken in
     c .settings-in .ensures
-    ∙ sym (c5 .loop .inv .1
-    ∙ back (λ (k : Known). k .port name) log _ (i - 1) i last (c3 .entry-at .ensures .0)
+    ∙ sym (at-loop .loop .inv .1
+    ∙ back (λ (k : Known). k .port name) log _ (i - 1) i last (after-entry-at .entry-at .ensures .0)
     (port-set _ _ name (eqb-true _ _ (and-left _ _ test)) ∙ then-true _ _ (and-right _ _ test)))
 
 name-before-requires : tie.Need-name-before-requires Inv-loop μ-loop
@@ -56,24 +56,24 @@ loop-less c = search needs
 
 loop-again : tie.Need-loop-again Inv-loop μ-loop
 loop-again c =
-    let c3 = c .before .before .before in
-    let c5 = c3 .before .before in
-    let c7 = c5 .before .before in
-    let log = c7 .args .log .now in
-    let name : ℕ = c5 .loop .name in
-    let i : ℕ = c5 .loop .i in
+    let after-entry-at = c .before .before .before in
+    let at-loop = after-entry-at .before .before in
+    let start = at-loop .before .before in
+    let log = start .args .log .now in
+    let name : ℕ = at-loop .loop .name in
+    let i : ℕ = at-loop .loop .i in
     let last : i ≡ i - 1 + 1 = omega arith in (
       omega arith,
-      c5 .loop .inv .1
-          ∙ back (λ (k : Known). k .port name) log _ (i - 1) i last (c3 .entry-at .ensures .0) (port-back _ _ name (sym
+      at-loop .loop .inv .1
+          ∙ back (λ (k : Known). k .port name) log _ (i - 1) i last (after-entry-at .entry-at .ensures .0) (port-back _ _ name (sym
           (c .before .before .sets-port .ensures) ∙ c .before .if1 .left))
           ∙ ap (knownIn log (i - 1) .port) (sym (c .name-before .ensures)),
     )
 
 returns-2 : tie.Need-returns-2 Inv-loop μ-loop
 returns-2 c =
-    let c3 = c .before .before .before in
-    let log = c3 .args .log .now in
+    let start = c .before .before .before in
+    let log = start .args .log .now in
     let none : c .before .loop .i ≡ 0 = omega arith in
     sym (c .before .loop .inv .1 ∙ ap (λ (m : ℕ). knownIn log m .port (c .before .loop .name)) none ∙ sym (fresh-port log (c .before .loop .name)))
 

@@ -38,9 +38,9 @@ loop-less c = search needs
 
 loop-again : tie.Need-loop-again Inv-loop μ-loop
 loop-again c =
-    let c4 = c .before .before .before .before in
-    let log = c4 .args .log .now in
-    let n : ℕ = c4 .args .n in
+    let start = c .before .before .before .before in
+    let log = start .args .log .now in
+    let n : ℕ = start .args .n in
     let i : ℕ = c .before .before .loop .i in (
       omega arith,
       length-set (c .before .before .loop .ports) i (c .port-at .result) ∙ c .before .before .loop .inv .1,
@@ -51,9 +51,9 @@ loop-again c =
 
 returns : tie.Need-returns Inv-loop μ-loop
 returns c =
-    let c3 = c .before .before .before in
+    let start = c .before .before .before in
     let last : c .before .loop .i ≡ 16 = omega arith in
-    all-ports (c3 .args .log .now) (c3 .args .n) (c .before .loop .ports) (c .before .loop .inv .1) (λ port l. c .before .loop .inv .2 port (omega arith))
+    all-ports (start .args .log .now) (start .args .n) (c .before .loop .ports) (c .before .loop .inv .1) (λ port l. c .before .loop .inv .2 port (omega arith))
 
 pub ports-at-spec : {M : Type 1} → statement M
 ports-at-spec =

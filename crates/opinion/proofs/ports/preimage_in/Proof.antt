@@ -39,11 +39,11 @@ cast-result c = search needs
 returns : tie.Need-returns Inv-loop μ-loop
 unfolding preimage
 returns c =
-    let c3 = c .before .before .before in
-    let c5 = c3 .before .before in
-    let images : List ℕ = imagesIn (c5 .args .e .now) in
-    let i : ℕ = c3 .loop .i in
-    sym (first-hit (λ k. eqb (getD images k 0) (c5 .args .n)) i portCount (c3 .loop .inv .1)
+    let at-loop = c .before .before .before in
+    let start = at-loop .before .before in
+    let images : List ℕ = imagesIn (start .args .e .now) in
+    let i : ℕ = at-loop .loop .i in
+    sym (first-hit (λ k. eqb (getD images k 0) (start .args .n)) i portCount (at-loop .loop .inv .1)
     (eq-eqb _ _ (sym (c .before .image-in .ensures .0 ∙ image-port images i (omega arith)) ∙ c .if1 .taken)) (omega arith))
 
 add-i : tie.Need-add-i Inv-loop μ-loop
@@ -54,20 +54,20 @@ loop-less c = search needs
 
 loop-again : tie.Need-loop-again Inv-loop μ-loop
 loop-again c =
-    let c3 = c .before .before .before in
-    let c5 = c3 .before .before in
-    let images : List ℕ = imagesIn (c5 .args .e .now) in
-    let i : ℕ = c3 .loop .i in (
+    let at-loop = c .before .before .before in
+    let start = at-loop .before .before in
+    let images : List ℕ = imagesIn (start .args .e .now) in
+    let i : ℕ = at-loop .loop .i in (
       omega arith,
-      first-more (λ k. eqb (getD images k 0) (c5 .args .n)) i (c3 .loop .inv .1)
+      first-more (λ k. eqb (getD images k 0) (start .args .n)) i (at-loop .loop .inv .1)
           (ne-eqb _ _ (λ q. c .if1 .left (c .before .image-in .ensures .0 ∙ image-port images i (omega arith) ∙ q))),
     )
 
 returns-2 : tie.Need-returns-2 Inv-loop μ-loop
 unfolding preimage
 returns-2 c =
-    let c3 = c .before .before .before in
-    sym (first-ended (λ k. eqb (getD (imagesIn (c3 .args .e .now)) k 0) (c3 .args .n)) (c .before .loop .inv .0) (c .loop-test .left)
+    let start = c .before .before .before in
+    sym (first-ended (λ k. eqb (getD (imagesIn (start .args .e .now)) k 0) (start .args .n)) (c .before .loop .inv .0) (c .loop-test .left)
     (c .before .loop .inv .1))
 
 pub preimage-in-spec : {M : Type 1} → statement M

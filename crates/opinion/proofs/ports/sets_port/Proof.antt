@@ -17,9 +17,9 @@ cast-result c = search needs
 
 returns : tie.Need-returns
 returns c =
-    let c4 = c .before .before .before .before in
+    let start = c .before .before .before .before in
     sym (and-yes _ (eq-eqb _ 2 (sym (c .before .before .kind-in .ensures) ∙ c .before .if1 .taken))
-    ∙ ap (eqb (c4 .args .port)) (sym (c .port-in .ensures .0)))
+    ∙ ap (eqb (start .args .port)) (sym (c .port-in .ensures .0)))
 
 returns-2 : tie.Need-returns-2
 returns-2 c = sym (and-no _ (ne-eqb _ 2 (λ q. c .if1 .left (c .before .kind-in .ensures ∙ q))))

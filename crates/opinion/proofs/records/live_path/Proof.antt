@@ -23,8 +23,8 @@ no-path-requires c κs = search needs
 returns-2 : tie.Need-returns-2
 unfolding pathOf
 returns-2 c =
-    let c3 = c .before .before .before in (
-      λ d. c .no-path .ensures .0 d ∙ dead-slot (λ (p : Path). live (c3 .args .clock) (p .expiry)) _ (pathRecord d (c3 .args .path)) (le-ltb _ _
+    let start = c .before .before .before in (
+      λ d. c .no-path .ensures .0 d ∙ dead-slot (λ (p : Path). live (start .args .clock) (p .expiry)) _ (pathRecord d (start .args .path)) (le-ltb _ _
           (c .before .if1 .left)),
       c .no-path .ensures .1,
       c .no-path .ensures .2,

@@ -20,8 +20,9 @@ no-return-requires c κs = search needs
 returns-2 : tie.Need-returns-2
 unfolding returnOf
 returns-2 c =
-    let c3 = c .before .before .before in
-    λ key. c .no-return .ensures .0 key ∙ dead-slot (λ (t : Return). live (c3 .args .clock) (t .expiry)) _ (returnRecordOf key (c3 .args .back)) (le-ltb _ _
+    let start = c .before .before .before in
+    λ key. c .no-return .ensures .0 key ∙ dead-slot (λ (t : Return). live (start .args .clock) (t .expiry)) _ (returnRecordOf key (start .args .back))
+    (le-ltb _ _
     (c .before .if1 .left))
 
 pub live-return-spec : {M : Type 1} → statement M

@@ -17,10 +17,10 @@ packet-in-requires c κs = c .entry-at .ensures .1
 
 parts-of-requires : tie.Need-parts-of-requires
 parts-of-requires c κs =
-    let c3 = c .before .before .before in
-    let log = c3 .args .log .now in
-    let i : ℕ = c3 .args .i in
-    entry-whole log i _ _ (c .before .entry-at .ensures .0) (c .packet-in .ensures .0) 6 refl (c3 .pre .2)
+    let start = c .before .before .before in
+    let log = start .args .log .now in
+    let i : ℕ = start .args .i in
+    entry-whole log i _ _ (c .before .entry-at .ensures .0) (c .packet-in .ensures .0) 6 refl (start .pre .2)
 
 is-same-requires : tie.Need-is-same-requires
 is-same-requires c κs = search needs
@@ -30,39 +30,41 @@ no-return-requires c κs = search needs
 
 returns : tie.Need-returns
 returns c =
-    let c4 = c .before .before .before .before in
-    let c5 = c4 .before in
-    let c6 = c5 .before in
-    let c8 = c6 .before .before in
-    let log = c8 .args .log .now in
-    let i : ℕ = c8 .args .i in
-    let there : c4 .parts-of .result .destination ≡ partsOf (c5 .packet-in .result .now) .destination = ap (λ (x : Parts). x .destination)
-    (c4 .parts-of .ensures) in
-    let found = ap (λ (x : List ℕ). same x (c8 .args .key)) (sym there) ∙ sym (c .before .before .is-same .ensures) in
+    let after-parts-of = c .before .before .before .before in
+    let after-packet-in = after-parts-of .before in
+    let after-entry-at = after-packet-in .before in
+    let start = after-entry-at .before .before in
+    let log = start .args .log .now in
+    let i : ℕ = start .args .i in
+    let there : after-parts-of .parts-of .result .destination ≡ partsOf (after-packet-in .packet-in .result .now) .destination = ap
+    (λ (x : Parts). x .destination)
+    (after-parts-of .parts-of .ensures) in
+    let found = ap (λ (x : List ℕ). same x (start .args .key)) (sym there) ∙ sym (c .before .before .is-same .ensures) in
     record {
-      is = c .no-return .ensures .0 (c8 .args .key)
-          ∙ proof-step log i (c8 .args .key) (c8 .args .before) (c8 .pre .3 .is) _ (packet-arrival log i _ _ (c6 .entry-at .ensures .0)
-          (c5 .packet-in .ensures .0)) (c8 .pre .2) (found ∙ c .before .if1 .taken);
+      is = c .no-return .ensures .0 (start .args .key)
+          ∙ proof-step log i (start .args .key) (start .args .before) (start .pre .3 .is) _ (packet-arrival log i _ _ (after-entry-at .entry-at .ensures .0)
+          (after-packet-in .packet-in .ensures .0)) (start .pre .2) (found ∙ c .before .if1 .taken);
       arrival = c .no-return .ensures .1;
       leaving = c .no-return .ensures .2;
     }
 
 returns-2 : tie.Need-returns-2
 returns-2 c =
-    let c3 = c .before .before .before in
-    let c4 = c3 .before in
-    let c5 = c4 .before in
-    let c7 = c5 .before .before in
-    let log = c7 .args .log .now in
-    let i : ℕ = c7 .args .i in
-    let there : c3 .parts-of .result .destination ≡ partsOf (c4 .packet-in .result .now) .destination = ap (λ (x : Parts). x .destination)
-    (c3 .parts-of .ensures) in
-    let found = ap (λ (x : List ℕ). same x (c7 .args .key)) (sym there) ∙ sym (c .before .is-same .ensures) in
+    let after-parts-of = c .before .before .before in
+    let after-packet-in = after-parts-of .before in
+    let after-entry-at = after-packet-in .before in
+    let start = after-entry-at .before .before in
+    let log = start .args .log .now in
+    let i : ℕ = start .args .i in
+    let there : after-parts-of .parts-of .result .destination ≡ partsOf (after-packet-in .packet-in .result .now) .destination = ap
+    (λ (x : Parts). x .destination)
+    (after-parts-of .parts-of .ensures) in
+    let found = ap (λ (x : List ℕ). same x (start .args .key)) (sym there) ∙ sym (c .before .is-same .ensures) in
     record {
-      is = another-proof log i (c7 .args .key) (c7 .args .before) (c7 .pre .3 .is) _ (packet-arrival log i _ _ (c5 .entry-at .ensures .0)
-          (c4 .packet-in .ensures .0)) (c7 .pre .2) (found ∙ c .if1 .left);
-      arrival = c7 .pre .3 .arrival;
-      leaving = c7 .pre .3 .leaving;
+      is = another-proof log i (start .args .key) (start .args .before) (start .pre .3 .is) _ (packet-arrival log i _ _ (after-entry-at .entry-at .ensures .0)
+          (after-packet-in .packet-in .ensures .0)) (start .pre .2) (found ∙ c .if1 .left);
+      arrival = start .pre .3 .arrival;
+      leaving = start .pre .3 .leaving;
     }
 
 pub after-proof-spec : {M : Type 1} → statement M

@@ -20,23 +20,23 @@ image-in-requires c κs = (c .before .before .entry-at .ensures .1, c .before .b
 
 image-in-requires-2 : tie.Need-image-in-requires-2
 image-in-requires-2 c κs =
-    let c3 = c .before .before .before in
-    let c6 = c3 .before .before .before in
-    (c3 .entry-at .ensures .1, c6 .pre .2 .leaving)
+    let after-entry-at = c .before .before .before in
+    let start = after-entry-at .before .before .before in
+    (after-entry-at .entry-at .ensures .1, start .pre .2 .leaving)
 
 returns : tie.Need-returns
 unfolding returnOf
 returns c =
-    let c3 = c .before .before .before in
-    let c4 = c3 .before in
-    let c7 = c4 .before .before .before in
-    let log = c7 .args .log .now in
-    let i : ℕ = c7 .args .i in
+    let after-kind-in = c .before .before .before in
+    let after-entry-at = after-kind-in .before in
+    let start = after-entry-at .before .before .before in
+    let log = start .args .log .now in
+    let i : ℕ = start .args .i in
     record {
-      is = renumber-return log i (c7 .args .key) (c7 .args .before) (c7 .pre .2 .is) (sym (ap kindIn (c4 .entry-at .ensures .0))
-          ∙ sym (c3 .kind-in .ensures) ∙ c .before .before .if1 .taken) _ _ (c .before .image-in .ensures .0
-          ∙ ap (λ (b : List ℕ). image (imagesIn b) (c7 .args .before .arrival)) (c4 .entry-at .ensures .0)) (c .image-in2 .ensures .0
-          ∙ ap (λ (b : List ℕ). image (imagesIn b) (c7 .args .before .leaving)) (c4 .entry-at .ensures .0));
+      is = renumber-return log i (start .args .key) (start .args .before) (start .pre .2 .is) (sym (ap kindIn (after-entry-at .entry-at .ensures .0))
+          ∙ sym (after-kind-in .kind-in .ensures) ∙ c .before .before .if1 .taken) _ _ (c .before .image-in .ensures .0
+          ∙ ap (λ (b : List ℕ). image (imagesIn b) (start .args .before .arrival)) (after-entry-at .entry-at .ensures .0)) (c .image-in2 .ensures .0
+          ∙ ap (λ (b : List ℕ). image (imagesIn b) (start .args .before .leaving)) (after-entry-at .entry-at .ensures .0));
       arrival = c .before .image-in .ensures .1;
       leaving = c .image-in2 .ensures .1;
     }
@@ -46,14 +46,14 @@ shared-slice-read-effect c = omega (arith, c .before .before .before .before .be
 
 after-data-requires : tie.Need-after-data-requires
 after-data-requires c κs =
-    let c7 = c .before .before .before .before .before .before .before in
-    let log = c7 .args .log .now in
-    let i : ℕ = c7 .args .i in (
-      (c7 .pre .0 .0, c7 .pre .0 .1, omega (arith, c7 .pre .1), λ j l. c7 .pre .0 .3 j (omega arith)),
-      c7 .pre .1,
-      sym (c7 .pre .0 .3 i (omega arith))
+    let start = c .before .before .before .before .before .before .before in
+    let log = start .args .log .now in
+    let i : ℕ = start .args .i in (
+      (start .pre .0 .0, start .pre .0 .1, omega (arith, start .pre .1), λ j l. start .pre .0 .3 j (omega arith)),
+      start .pre .1,
+      sym (start .pre .0 .3 i (omega arith))
           ∙ c .if2 .taken,
-      c7 .pre .2,
+      start .pre .2,
     )
 
 returns-2 : tie.Need-returns-2
@@ -61,28 +61,28 @@ returns-2 c = c .after-data .ensures
 
 after-proof-requires : tie.Need-after-proof-requires
 after-proof-requires c κs =
-    let c8 = c .before .before .before .before .before .before .before .before in
-    let log = c8 .args .log .now in
-    let i : ℕ = c8 .args .i in
-    (c8 .pre .0 .0, c8 .pre .1, sym (c8 .pre .0 .3 i (omega arith)) ∙ c .if3 .taken, c8 .pre .2)
+    let start = c .before .before .before .before .before .before .before .before in
+    let log = start .args .log .now in
+    let i : ℕ = start .args .i in
+    (start .pre .0 .0, start .pre .1, sym (start .pre .0 .3 i (omega arith)) ∙ c .if3 .taken, start .pre .2)
 
 returns-3 : tie.Need-returns-3
 returns-3 c = c .after-proof .ensures
 
 returns-4 : tie.Need-returns-4
 returns-4 c =
-    let c3 = c .before .before .before in
-    let c4 = c3 .before in
-    let c5 = c4 .before in
-    let c8 = c5 .before .before .before in
-    let log = c8 .args .log .now in
-    let i : ℕ = c8 .args .i in
+    let else1 = c .before .before .before in
+    let after-kind-in = else1 .before in
+    let after-entry-at = after-kind-in .before in
+    let start = after-entry-at .before .before .before in
+    let log = start .args .log .now in
+    let i : ℕ = start .args .i in
     record {
-      is = return-left log i (c8 .args .key) (c8 .args .before) (c8 .pre .2 .is) (λ q. c3 .if1 .left (c4 .kind-in .ensures
-          ∙ ap kindIn (c5 .entry-at .ensures .0) ∙ q)) (λ q. c .before .if2 .left ((c8 .pre .0 .3 i (omega arith))
-          ∙ q)) (λ q. c .if3 .left ((c8 .pre .0 .3 i (omega arith)) ∙ q));
-      arrival = c8 .pre .2 .arrival;
-      leaving = c8 .pre .2 .leaving;
+      is = return-left log i (start .args .key) (start .args .before) (start .pre .2 .is) (λ q. else1 .if1 .left (after-kind-in .kind-in .ensures
+          ∙ ap kindIn (after-entry-at .entry-at .ensures .0) ∙ q)) (λ q. c .before .if2 .left ((start .pre .0 .3 i (omega arith))
+          ∙ q)) (λ q. c .if3 .left ((start .pre .0 .3 i (omega arith)) ∙ q));
+      arrival = start .pre .2 .arrival;
+      leaving = start .pre .2 .leaving;
     }
 
 pub return-after-spec : {M : Type 1} → statement M

@@ -22,8 +22,8 @@ loop-holds c =
 
 return-after-requires : tie.Need-return-after-requires Inv-loop μ-loop
 return-after-requires c κs =
-    let c5 = c .before .before .before .before .before in
-    ((c5 .pre .0, c5 .pre .1, omega (arith, c5 .pre .2), λ j l. c5 .pre .3 j (omega arith)), omega (arith, c5 .pre .2), c .before .loop .inv .1)
+    let start = c .before .before .before .before .before in
+    ((start .pre .0, start .pre .1, omega (arith, start .pre .2), λ j l. start .pre .3 j (omega arith)), omega (arith, start .pre .2), c .before .loop .inv .1)
 
 add-i : tie.Need-add-i Inv-loop μ-loop
 add-i c = search needs
@@ -36,9 +36,9 @@ loop-again c = (omega arith, c .return-after .ensures)
 
 returns : tie.Need-returns Inv-loop μ-loop
 returns c =
-    let c5 = c .before .before .before .before .before in
-    let last : c .before .loop .i ≡ c5 .args .n = omega arith in
-    subst (λ (m : ℕ). ReturnKnown (c5 .args .log .now) m (c5 .args .key) (c .before .loop .back)) last (c .before .loop .inv .1)
+    let start = c .before .before .before .before .before in
+    let last : c .before .loop .i ≡ start .args .n = omega arith in
+    subst (λ (m : ℕ). ReturnKnown (start .args .log .now) m (start .args .key) (c .before .loop .back)) last (c .before .loop .inv .1)
 
 pub return-of-spec : {M : Type 1} → statement M
 return-of-spec =

@@ -19,31 +19,31 @@ use Rattle.opinion.proofs.seeing.seen.Tie as tie
 
 parts-of-requires : tie.Need-parts-of-requires
 parts-of-requires c κs =
-    let c4 = c .before .before .before .before in
-    reads-readable longestPacket (c4 .args .packet .now) (c4 .pre .0 .3) .whole
+    let start = c .before .before .before .before in
+    reads-readable longestPacket (start .args .packet .now) (start .pre .0 .3) .whole
 
 address-at-requires : tie.Need-address-at-requires
 address-at-requires c κs = omega (arith, c .before .before .before .before .before .before .pre .0 .0 .0)
 
 rate-at-requires : tie.Need-rate-at-requires
 rate-at-requires c κs =
-    let c7 = c .before .before .before .before .before .before .before in
-    (c7 .pre .0 .0 .0, c7 .pre .0 .0 .2)
+    let start = c .before .before .before .before .before .before .before in
+    (start .pre .0 .0 .0, start .pre .0 .0 .2)
 
 ports-at-requires : tie.Need-ports-at-requires
 ports-at-requires c κs =
-    let c8 = c .before .before .before .before .before .before .before .before in
-    (c8 .pre .0 .0 .0, c8 .pre .0 .0 .2)
+    let start = c .before .before .before .before .before .before .before .before in
+    (start .pre .0 .0 .0, start .pre .0 .0 .2)
 
 is-local-requires : tie.Need-is-local-requires
 is-local-requires c κs =
-    let c9 = c .before .before .before .before .before .before .before .before .before in
-    (c9 .pre .0 .0 .0, c9 .pre .0 .0 .2)
+    let start = c .before .before .before .before .before .before .before .before .before in
+    (start .pre .0 .0 .0, start .pre .0 .0 .2)
 
 until-requires : tie.Need-until-requires
 until-requires c κs =
-    let c10 = c .before .before .before .before .before .before .before .before .before .before in
-    (c10 .pre .0 .0 .0, c10 .pre .0 .1, c10 .pre .0 .0 .2, c10 .pre .0 .2)
+    let start = c .before .before .before .before .before .before .before .before .before .before in
+    (start .pre .0 .0 .0, start .pre .0 .1, start .pre .0 .0 .2, start .pre .0 .2)
 
 path-of-requires : tie.Need-path-of-requires
 path-of-requires c κs = c .before .before .before .before .before .before .before .before .before .before .before .pre .0 .0
@@ -62,8 +62,8 @@ live-link-requires c κs = search needs
 
 return-of-requires : tie.Need-return-of-requires
 return-of-requires c κs =
-    let c16 = c .before .before .before .before .before .before .before .before .before .before .before .before .before .before .before .before in
-    c16 .pre .0 .0
+    let start = c .before .before .before .before .before .before .before .before .before .before .before .before .before .before .before .before in
+    start .pre .0 .0
 
 live-return-requires : tie.Need-live-return-requires
 live-return-requires c κs = search needs
@@ -71,42 +71,42 @@ live-return-requires c κs = search needs
 returns : tie.Need-returns
 unfolding seenAt
 returns c =
-    let c3 = c .before .before .before in
-    let c4 = c3 .before in
-    let c5 = c4 .before in
-    let c6 = c5 .before in
-    let c7 = c6 .before in
-    let c8 = c7 .before in
-    let c9 = c8 .before in
-    let c10 = c9 .before in
-    let c11 = c10 .before in
-    let c13 = c11 .before .before in
-    let c18 = c13 .before .before .before .before .before in
-    let there : c13 .parts-of .result .destination ≡ partsOf (c18 .args .packet .now) .destination = ap (λ (x : Parts). x .destination)
-    (c13 .parts-of .ensures) in
-    let log = c18 .args .log .now in
-    let n : ℕ = c18 .args .n in
+    let after-link-of = c .before .before .before in
+    let after-link-key = after-link-of .before in
+    let after-live-path = after-link-key .before in
+    let after-path-of = after-live-path .before in
+    let after-until = after-path-of .before in
+    let after-is-local = after-until .before in
+    let after-ports-at = after-is-local .before in
+    let after-rate-at = after-ports-at .before in
+    let after-address-at = after-rate-at .before in
+    let after-parts-of = after-address-at .before .before in
+    let start = after-parts-of .before .before .before .before .before in
+    let there : after-parts-of .parts-of .result .destination ≡ partsOf (start .args .packet .now) .destination = ap (λ (x : Parts). x .destination)
+    (after-parts-of .parts-of .ensures) in
+    let log = start .args .log .now in
+    let n : ℕ = start .args .n in
     let k = knownIn log n in
-    let clock : ℕ = c18 .args .arrived .clock in (
+    let clock : ℕ = start .args .arrived .clock in (
       record {
-        own = c11 .address-at .ensures ∙ sym (known-own log n);
-        rate = c10 .rate-at .ensures .0;
-        on = λ port. ap (λ (p : Port). p .on) (c9 .ports-at .ensures port);
-        mode = λ port. ap (λ (p : Port). p .mode) (c9 .ports-at .ensures port);
-        size = λ port. ap (λ (p : Port). p .size) (c9 .ports-at .ensures port);
-        local = c8 .is-local .ensures ∙ ap (k .local) there;
-        remembered = ap (ltb clock) (c7 .until .ensures ∙ ap (k .until) (c18 .pre .1));
-        path = c5 .live-path .ensures .0 _ ∙ ap (onlyIf (λ (p : Path). live clock (p .expiry))) (subst (λ (d : List ℕ). pathOf d
-            (c6 .path-of .result) ≡ k .path d) there (c6 .path-of .ensures .is));
-        link = c .before .before .live-link .ensures ∙ ap (onlyIf (λ (l : Link). live clock (l .expiry))) (c3 .link-of .ensures .is
-            ∙ ap (k .link) (c4 .link-key .ensures));
+        own = after-address-at .address-at .ensures ∙ sym (known-own log n);
+        rate = after-rate-at .rate-at .ensures .0;
+        on = λ port. ap (λ (p : Port). p .on) (after-ports-at .ports-at .ensures port);
+        mode = λ port. ap (λ (p : Port). p .mode) (after-ports-at .ports-at .ensures port);
+        size = λ port. ap (λ (p : Port). p .size) (after-ports-at .ports-at .ensures port);
+        local = after-is-local .is-local .ensures ∙ ap (k .local) there;
+        remembered = ap (ltb clock) (after-until .until .ensures ∙ ap (k .until) (start .pre .1));
+        path = after-live-path .live-path .ensures .0 _ ∙ ap (onlyIf (λ (p : Path). live clock (p .expiry))) (subst (λ (d : List ℕ). pathOf d
+            (after-path-of .path-of .result) ≡ k .path d) there (after-path-of .path-of .ensures .is));
+        link = c .before .before .live-link .ensures ∙ ap (onlyIf (λ (l : Link). live clock (l .expiry))) (after-link-of .link-of .ensures .is
+            ∙ ap (k .link) (after-link-key .link-key .ensures));
         return = c .live-return .ensures _ ∙ ap (onlyIf (λ (t : Return). live clock (t .expiry))) (subst (λ (d : List ℕ). returnOf d
             (c .before .return-of .result) ≡ k .return d) there (c .before .return-of .ensures .is));
         expired = refl;
         roomForPath = refl;
         roomForLink = refl;
       },
-      record { settings = c10 .rate-at .ensures .1; path = c5 .live-path .ensures .1 },
+      record { settings = after-rate-at .rate-at .ensures .1; path = after-live-path .live-path .ensures .1 },
     )
 
 pub seen-spec : {M : Type 1} → statement M

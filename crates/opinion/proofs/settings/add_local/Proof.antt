@@ -23,10 +23,11 @@ is-local-requires c κs = (search needs, c .before .before .before .listed .ensu
 returns-2 : tie.Need-returns-2
 unfolding callRows
 returns-2 c =
-    let c5 = c .before .before .before .before .before in
-    let c8 = c5 .before .before .before in
-    refused _ _ (omega (arith, c5 .listed .ensures .0)) 11 (here _ _ _ _ (ap (λ (m : ℕ). knownIn (c8 .args .log .now) m .local (c8 .args .address)) (sym
-    (c5 .listed .ensures .0)) ∙ sym (c .before .is-local .ensures) ∙ c .if2 .taken)) (eqb-false 11 0 refl)
+    let after-listed = c .before .before .before .before .before in
+    let start = after-listed .before .before .before in
+    refused _ _ (omega (arith, after-listed .listed .ensures .0)) 11
+    (here _ _ _ _ (ap (λ (m : ℕ). knownIn (start .args .log .now) m .local (start .args .address)) (sym
+    (after-listed .listed .ensures .0)) ∙ sym (c .before .is-local .ensures) ∙ c .if2 .taken)) (eqb-false 11 0 refl)
 
 local-number-requires : tie.Need-local-number-requires
 local-number-requires c κs = (search needs, c .before .before .before .before .before .before .before .listed .ensures .1)
@@ -34,13 +35,14 @@ local-number-requires c κs = (search needs, c .before .before .before .before .
 returns-3 : tie.Need-returns-3
 unfolding callRows
 returns-3 c =
-    let c4 = c .before .before .before .before in
-    let c5 = c4 .before in
-    let c9 = c5 .before .before .before .before in
-    let c12 = c9 .before .before .before in
-    refused _ _ (omega (arith, c9 .listed .ensures .0)) 10 (past _ _ _ _ (ap (λ (m : ℕ). knownIn (c12 .args .log .now) m .local (c12 .args .address)) (sym
-    (c9 .listed .ensures .0)) ∙ sym (c5 .is-local .ensures) ∙ c4 .if2 .left)
-    ∙ here _ _ _ _ (ap (λ (m : ℕ). leb 16 (knownIn (c12 .args .log .now) m .locals)) (sym (c9 .listed .ensures .0))
+    let else2 = c .before .before .before .before in
+    let after-is-local = else2 .before in
+    let after-listed = after-is-local .before .before .before .before in
+    let start = after-listed .before .before .before in
+    refused _ _ (omega (arith, after-listed .listed .ensures .0)) 10
+    (past _ _ _ _ (ap (λ (m : ℕ). knownIn (start .args .log .now) m .local (start .args .address)) (sym
+    (after-listed .listed .ensures .0)) ∙ sym (after-is-local .is-local .ensures) ∙ else2 .if2 .left)
+    ∙ here _ _ _ _ (ap (λ (m : ℕ). leb 16 (knownIn (start .args .log .now) m .locals)) (sym (after-listed .listed .ensures .0))
     ∙ ap (leb 16) (sym (c .before .local-number .ensures)) ∙ le-leb _ _ (c .if3 .taken))) (eqb-false 10 0 refl)
 
 put-added-requires : tie.Need-put-added-requires
@@ -49,16 +51,16 @@ put-added-requires c κs = (search needs, omega arith)
 returns-4 : tie.Need-returns-4
 unfolding callRows
 returns-4 c =
-    let c3 = c .before .before .before in
-    let c6 = c3 .before .before .before in
-    let c7 = c6 .before in
-    let c11 = c7 .before .before .before .before in
-    let c14 = c11 .before .before .before in
-    accepted _ _ (omega (arith, c11 .listed .ensures .0)) (none-of-two _ _ 11 10 (ap (λ (m : ℕ). knownIn (c14 .args .log .now) m .local
-    (c14 .args .address)) (sym (c11 .listed .ensures .0)) ∙ sym (c7 .is-local .ensures)
-    ∙ c6 .if2 .left) (ap (λ (m : ℕ). leb 16 (knownIn (c14 .args .log .now) m .locals)) (sym (c11 .listed .ensures .0))
-    ∙ ap (leb 16) (sym (c3 .local-number .ensures))
-    ∙ lt-leb _ _ (c .before .before .if3 .left))) (c11 .listed .result) (c11 .listed .ensures .0) _ (c .put-added .ensures)
+    let after-local-number = c .before .before .before in
+    let else2 = after-local-number .before .before .before in
+    let after-is-local = else2 .before in
+    let after-listed = after-is-local .before .before .before .before in
+    let start = after-listed .before .before .before in
+    accepted _ _ (omega (arith, after-listed .listed .ensures .0)) (none-of-two _ _ 11 10 (ap (λ (m : ℕ). knownIn (start .args .log .now) m .local
+    (start .args .address)) (sym (after-listed .listed .ensures .0)) ∙ sym (after-is-local .is-local .ensures)
+    ∙ else2 .if2 .left) (ap (λ (m : ℕ). leb 16 (knownIn (start .args .log .now) m .locals)) (sym (after-listed .listed .ensures .0))
+    ∙ ap (leb 16) (sym (after-local-number .local-number .ensures))
+    ∙ lt-leb _ _ (c .before .before .if3 .left))) (after-listed .listed .result) (after-listed .listed .ensures .0) _ (c .put-added .ensures)
 
 pub add-local-spec : {M : Type 1} → statement M
 add-local-spec =

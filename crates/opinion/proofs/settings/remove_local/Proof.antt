@@ -23,10 +23,11 @@ is-local-requires c κs = (search needs, c .before .before .before .listed .ensu
 returns-2 : tie.Need-returns-2
 unfolding callRows
 returns-2 c =
-    let c5 = c .before .before .before .before .before in
-    let c8 = c5 .before .before .before in
-    refused _ _ (omega (arith, c5 .listed .ensures .0)) 11 (here _ _ _ _ (ap (λ (m : ℕ). not (knownIn (c8 .args .log .now) m .local (c8 .args .address)))
-    (sym (c5 .listed .ensures .0)) ∙ ap not (sym (c .before .is-local .ensures)) ∙ c .if2 .taken)) (eqb-false 11 0 refl)
+    let after-listed = c .before .before .before .before .before in
+    let start = after-listed .before .before .before in
+    refused _ _ (omega (arith, after-listed .listed .ensures .0)) 11
+    (here _ _ _ _ (ap (λ (m : ℕ). not (knownIn (start .args .log .now) m .local (start .args .address)))
+    (sym (after-listed .listed .ensures .0)) ∙ ap not (sym (c .before .is-local .ensures)) ∙ c .if2 .taken)) (eqb-false 11 0 refl)
 
 put-removed-requires : tie.Need-put-removed-requires
 put-removed-requires c κs = (search needs, omega arith)
@@ -34,12 +35,12 @@ put-removed-requires c κs = (search needs, omega arith)
 returns-3 : tie.Need-returns-3
 unfolding callRows
 returns-3 c =
-    let c3 = c .before .before .before in
-    let c7 = c3 .before .before .before .before in
-    let c10 = c7 .before .before .before in
-    accepted _ _ (omega (arith, c7 .listed .ensures .0)) (none-of-one _ 11 (ap (λ (m : ℕ). not (knownIn (c10 .args .log .now) m .local
-    (c10 .args .address))) (sym (c7 .listed .ensures .0)) ∙ ap not (sym (c3 .is-local .ensures))
-    ∙ c .before .before .if2 .left)) (c7 .listed .result) (c7 .listed .ensures .0) _ (c .put-removed .ensures)
+    let after-is-local = c .before .before .before in
+    let after-listed = after-is-local .before .before .before .before in
+    let start = after-listed .before .before .before in
+    accepted _ _ (omega (arith, after-listed .listed .ensures .0)) (none-of-one _ 11 (ap (λ (m : ℕ). not (knownIn (start .args .log .now) m .local
+    (start .args .address))) (sym (after-listed .listed .ensures .0)) ∙ ap not (sym (after-is-local .is-local .ensures))
+    ∙ c .before .before .if2 .left)) (after-listed .listed .result) (after-listed .listed .ensures .0) _ (c .put-removed .ensures)
 
 pub remove-local-spec : {M : Type 1} → statement M
 remove-local-spec =

@@ -24,8 +24,9 @@ one-to-one-requires c κs = search needs
 returns-2 : tie.Need-returns-2
 unfolding callRows
 returns-2 c =
-    let c4 = c .before .before .before .before in
-    refused _ _ (omega (arith, c4 .listed .ensures .0)) 8 (here _ _ _ _ (ap not (sym (c .before .one-to-one .ensures)) ∙ c .if2 .taken)) (eqb-false 8 0 refl)
+    let after-listed = c .before .before .before .before in
+    refused _ _ (omega (arith, after-listed .listed .ensures .0)) 8 (here _ _ _ _ (ap not (sym (c .before .one-to-one .ensures)) ∙ c .if2 .taken))
+    (eqb-false 8 0 refl)
 
 put-map-requires : tie.Need-put-map-requires
 put-map-requires c κs = (search needs, omega arith, sym (c .before .before .one-to-one .ensures) ∙ not-false _ (c .before .if2 .left))
@@ -33,10 +34,10 @@ put-map-requires c κs = (search needs, omega arith, sym (c .before .before .one
 returns-3 : tie.Need-returns-3
 unfolding callRows
 returns-3 c =
-    let c3 = c .before .before .before in
-    let c6 = c3 .before .before .before in
-    accepted _ _ (omega (arith, c6 .listed .ensures .0)) (none-of-one _ 8 (ap not (sym (c3 .one-to-one .ensures))
-    ∙ c .before .before .if2 .left)) (c6 .listed .result) (c6 .listed .ensures .0) _ (c .put-map .ensures)
+    let after-one-to-one = c .before .before .before in
+    let after-listed = after-one-to-one .before .before .before in
+    accepted _ _ (omega (arith, after-listed .listed .ensures .0)) (none-of-one _ 8 (ap not (sym (after-one-to-one .one-to-one .ensures))
+    ∙ c .before .before .if2 .left)) (after-listed .listed .result) (after-listed .listed .ensures .0) _ (c .put-map .ensures)
 
 pub renumber-spec : {M : Type 1} → statement M
 renumber-spec =

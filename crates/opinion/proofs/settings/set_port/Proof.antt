@@ -23,8 +23,8 @@ setting-bad-requires c κs = search needs
 returns-2 : tie.Need-returns-2
 unfolding callRows
 returns-2 c =
-    let c3 = c .before .before .before in
-    refused _ _ (omega (arith, c3 .listed .ensures .0)) 9 (here _ _ _ _ (sym (c .before .setting-bad .ensures) ∙ c .if2 .taken)) (eqb-false 9 0 refl)
+    let after-listed = c .before .before .before in
+    refused _ _ (omega (arith, after-listed .listed .ensures .0)) 9 (here _ _ _ _ (sym (c .before .setting-bad .ensures) ∙ c .if2 .taken)) (eqb-false 9 0 refl)
 
 cast-put-port : tie.Need-cast-put-port
 cast-put-port c =
@@ -46,10 +46,10 @@ put-port-requires c κs =
 returns-3 : tie.Need-returns-3
 unfolding callRows
 returns-3 c =
-    let c3 = c .before .before .before in
-    let c5 = c3 .before .before in
-    accepted _ _ (omega (arith, c5 .listed .ensures .0)) (none-of-one _ 9 (sym (c3 .setting-bad .ensures)
-    ∙ c .before .before .if2 .left)) (c5 .listed .result) (c5 .listed .ensures .0) _ (c .put-port .ensures)
+    let after-setting-bad = c .before .before .before in
+    let after-listed = after-setting-bad .before .before in
+    accepted _ _ (omega (arith, after-listed .listed .ensures .0)) (none-of-one _ 9 (sym (after-setting-bad .setting-bad .ensures)
+    ∙ c .before .before .if2 .left)) (after-listed .listed .result) (after-listed .listed .ensures .0) _ (c .put-port .ensures)
 
 pub set-port-spec : {M : Type 1} → statement M
 set-port-spec =

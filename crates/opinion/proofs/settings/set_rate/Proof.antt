@@ -21,8 +21,9 @@ rate-within-requires c κs = search needs
 returns-2 : tie.Need-returns-2
 unfolding callRows
 returns-2 c =
-    let c3 = c .before .before .before in
-    refused _ _ (omega (arith, c3 .listed .ensures .0)) 9 (here _ _ _ _ (ap not (sym (c .before .rate-within .ensures)) ∙ c .if2 .taken)) (eqb-false 9 0 refl)
+    let after-listed = c .before .before .before in
+    refused _ _ (omega (arith, after-listed .listed .ensures .0)) 9 (here _ _ _ _ (ap not (sym (c .before .rate-within .ensures)) ∙ c .if2 .taken))
+    (eqb-false 9 0 refl)
 
 put-rate-requires : tie.Need-put-rate-requires
 put-rate-requires c κs = (search needs, omega arith, sym (c .before .before .rate-within .ensures) ∙ not-false _ (c .before .if2 .left))
@@ -30,10 +31,10 @@ put-rate-requires c κs = (search needs, omega arith, sym (c .before .before .ra
 returns-3 : tie.Need-returns-3
 unfolding callRows
 returns-3 c =
-    let c3 = c .before .before .before in
-    let c5 = c3 .before .before in
-    accepted _ _ (omega (arith, c5 .listed .ensures .0)) (none-of-one _ 9 (ap not (sym (c3 .rate-within .ensures))
-    ∙ c .before .before .if2 .left)) (c5 .listed .result) (c5 .listed .ensures .0) _ (c .put-rate .ensures)
+    let after-rate-within = c .before .before .before in
+    let after-listed = after-rate-within .before .before in
+    accepted _ _ (omega (arith, after-listed .listed .ensures .0)) (none-of-one _ 9 (ap not (sym (after-rate-within .rate-within .ensures))
+    ∙ c .before .before .if2 .left)) (after-listed .listed .result) (after-listed .listed .ensures .0) _ (c .put-rate .ensures)
 
 pub set-rate-spec : {M : Type 1} → statement M
 set-rate-spec =

@@ -22,9 +22,9 @@ write-number-at-requires-2 c κs = search needs
 returns : tie.Need-returns
 unfolding patch bigEndian
 returns c =
-    let c4 = c .before .before .before .before in
-    let c6 = c4 .before .before in
-    rw (c .before .write-number-at2 .ensures, c4 .write-number-at .ensures, c6 .mark-of .ensures)
+    let after-write-number-at = c .before .before .before .before in
+    let after-mark-of = after-write-number-at .before .before in
+    rw (c .before .write-number-at2 .ensures, after-write-number-at .write-number-at .ensures, after-mark-of .mark-of .ensures)
 
 pub head-of-spec : {M : Type 1} → statement M
 head-of-spec =

@@ -16,23 +16,23 @@ head-of-requires c κs = search needs
 
 put-entry-requires : tie.Need-put-entry-requires
 put-entry-requires c κs =
-    let c4 = c .before .before .before .before in
-    (c4 .pre .0, c4 .pre .1, reads-readable longestPacket (c4 .args .packet .now) (c4 .pre .2) .fits)
+    let start = c .before .before .before .before in
+    (start .pre .0, start .pre .1, reads-readable longestPacket (start .args .packet .now) (start .pre .2) .fits)
 
 same-length : tie.Need-same-length
 same-length c = search needs
 
 returns : tie.Need-returns
 returns c =
-    let c4 = c .before .before .before .before in
-    let c7 = c4 .before .before .before in
-    let log = c7 .args .log .now in
-    let n : ℕ = c7 .args .n in
-    let packet = c7 .args .packet .now in
-    let m = c7 .args .arrived in
+    let after-head-of = c .before .before .before .before in
+    let start = after-head-of .before .before .before in
+    let log = start .args .log .now in
+    let n : ℕ = start .args .n in
+    let packet = start .args .packet .now in
+    let m = start .args .arrived in
     subst (Adds log n (came (arrivalOf packet m)))
-    (sym (c .before .before .put-entry .ensures ∙ ap (λ (h : List ℕ). withEntry log n (h ++ packet)) (c4 .head-of .ensures)))
-    (came-put log n (c7 .pre .0) (c7 .pre .1) packet m (c7 .pre .2) (c7 .pre .3) (c7 .pre .4))
+    (sym (c .before .before .put-entry .ensures ∙ ap (λ (h : List ℕ). withEntry log n (h ++ packet)) (after-head-of .head-of .ensures)))
+    (came-put log n (start .pre .0) (start .pre .1) packet m (start .pre .2) (start .pre .3) (start .pre .4))
 
 pub put-came-spec : {M : Type 1} → statement M
 put-came-spec = tie.close (tie.spec head-of-requires put-entry-requires same-length returns)

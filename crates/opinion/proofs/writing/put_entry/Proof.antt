@@ -43,18 +43,18 @@ same-length c = search needs
 returns : tie.Need-returns
 unfolding withEntry
 returns c =
-    let c6 = c .before .before .before .before .before .before in
-    let c10 = c6 .before .before .before .before in
-    let c15 = c10 .before .before .before .before .before in
-    let log = c15 .args .log .now in
-    let n : ℕ = c15 .args .n in
-    let head = c15 .args .t3 in
-    let body = c15 .args .body .now in
+    let after-copy-at2 = c .before .before .before .before .before .before in
+    let after-copy-at = after-copy-at2 .before .before .before .before in
+    let start = after-copy-at .before .before .before .before .before in
+    let log = start .args .log .now in
+    let n : ℕ = start .args .n in
+    let head = start .args .t3 in
+    let body = start .args .body .now in
     let wide : length head ≡ 11 = search needs in
     c .before .before .set-at .ensures
     ∙ ap (λ (t : List ℕ). patch t 16 ((n + 1) ∷ []))
-    (c6 .copy-at2 .ensures
-    ∙ ap (λ (t : List ℕ). patch t (17 + 511 * n + 11) body) (c10 .copy-at .ensures)
+    (after-copy-at2 .copy-at2 .ensures
+    ∙ ap (λ (t : List ℕ). patch t (17 + 511 * n + 11) body) (after-copy-at .copy-at .ensures)
     ∙ patch-join log (17 + 511 * n) (17 + 511 * n + 11) head body (omega arith) (omega arith))
 
 pub put-entry-spec : {M : Type 1} → statement M

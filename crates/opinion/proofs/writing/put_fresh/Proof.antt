@@ -23,11 +23,11 @@ same-length c = search needs
 
 returns : tie.Need-returns
 returns c =
-    let c6 = c .before .before .before .before .before .before in
-    let c10 = c6 .before .before .before .before in
-    let wide : length (c10 .args .t2) ≡ 16 = search needs in
-    subst (IsFresh (c10 .args .t2)) (sym (c .before .before .set-at .ensures
-    ∙ ap (λ (t : List ℕ). patch t 16 (0 ∷ [])) (c6 .copy-at .ensures))) (fresh-log (c10 .args .log .now) (c10 .args .t2) (c10 .pre) wide)
+    let after-copy-at = c .before .before .before .before .before .before in
+    let start = after-copy-at .before .before .before .before in
+    let wide : length (start .args .t2) ≡ 16 = search needs in
+    subst (IsFresh (start .args .t2)) (sym (c .before .before .set-at .ensures
+    ∙ ap (λ (t : List ℕ). patch t 16 (0 ∷ [])) (after-copy-at .copy-at .ensures))) (fresh-log (start .args .log .now) (start .args .t2) (start .pre) wide)
 
 pub put-fresh-spec : {M : Type 1} → statement M
 put-fresh-spec =

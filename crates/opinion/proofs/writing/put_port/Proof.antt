@@ -23,14 +23,14 @@ same-length c = search needs
 
 returns : tie.Need-returns
 returns c =
-    let c5 = c .before .before .before .before .before in
-    let c7 = c5 .before .before in
-    let log = c7 .args .log .now in
-    let n : ℕ = c7 .args .n in
-    let a = c7 .args in
+    let after-head-of = c .before .before .before .before .before in
+    let start = after-head-of .before .before in
+    let log = start .args .log .now in
+    let n : ℕ = start .args .n in
+    let a = start .args in
     subst (Adds log n (called (sets-port (a .port) (a .on) (a .mode) (a .size))))
-    (sym (c .before .before .put-entry .ensures ∙ ap (λ (h : List ℕ). withEntry log n (h ++ [])) (c5 .head-of .ensures)))
-    (port-put log n (c7 .pre .0) (c7 .pre .1) (a .port) (a .on) (a .mode) (a .size) (c7 .pre .2) (c7 .pre .3))
+    (sym (c .before .before .put-entry .ensures ∙ ap (λ (h : List ℕ). withEntry log n (h ++ [])) (after-head-of .head-of .ensures)))
+    (port-put log n (start .pre .0) (start .pre .1) (a .port) (a .on) (a .mode) (a .size) (start .pre .2) (start .pre .3))
 
 pub put-port-spec : {M : Type 1} → statement M
 put-port-spec =

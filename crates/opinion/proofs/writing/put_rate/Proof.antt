@@ -39,21 +39,21 @@ same-length c = search needs
 returns : tie.Need-returns
 unfolding patch bigEndian
 returns c =
-    let c5 = c .before .before .before .before .before in
-    let c7 = c5 .before .before in
-    let c10 = c7 .before .before .before in
-    let c13 = c10 .before .before .before in
-    let c16 = c13 .before .before .before in
-    let log = c16 .args .log .now in
-    let n : ℕ = c16 .args .n in
+    let after-head-of = c .before .before .before .before .before in
+    let after-write-number-at3 = after-head-of .before .before in
+    let after-write-number-at2 = after-write-number-at3 .before .before .before in
+    let after-write-number-at = after-write-number-at2 .before .before .before in
+    let start = after-write-number-at .before .before .before in
+    let log = start .args .log .now in
+    let n : ℕ = start .args .n in
     rw (
       c .before .before .put-entry .ensures,
-      c5 .head-of .ensures,
-      c7 .write-number-at3 .ensures,
-      c10 .write-number-at2 .ensures,
-      c13 .write-number-at .ensures,
+      after-head-of .head-of .ensures,
+      after-write-number-at3 .write-number-at3 .ensures,
+      after-write-number-at2 .write-number-at2 .ensures,
+      after-write-number-at .write-number-at .ensures,
     )
-    (rate-put log n (c16 .pre .0) (c16 .pre .1) (c16 .args .rate) (c16 .pre .2))
+    (rate-put log n (start .pre .0) (start .pre .1) (start .args .rate) (start .pre .2))
 
 pub put-rate-spec : {M : Type 1} → statement M
 put-rate-spec =
