@@ -84,3 +84,11 @@ module _ (ok : List ℕ → Bool) (base w m : ℕ) (t : List ℕ) (g : ℕ) {r :
   pub rows-fail : (count : ℕ) → m * g + m ≤ count → not r ≡ true → false ≡ recordsOk ok base w count t
   unfolding recordsOk
   rows-fail count l n = sym (all-short (λ i. ok (recordAt base w t i)) (m * g + m) count l (seen-rows ∙ not-true r n))
+
+-- the tests p and r of two times m records, of which the first is record m * (g * 2)
+pub rows-pass-twice : (ok : List ℕ → Bool) (base w m : ℕ) (t : List ℕ) (g : ℕ) {p r : Bool} → p ≡ recordsOk ok (base + w * m * (g * 2)) w m t
+    → r ≡ recordsOk ok (base + w * m * (g * 2 + 1)) w m t → recordsOk ok base w (m * (g * 2)) t ≡ true
+    → not p ≡ false → not r ≡ false → recordsOk ok base w (m * ((g + 1) * 2)) t ≡ true
+rows-pass-twice ok base w m t g e f h n o =
+    let q : (g + 1) * 2 ≡ g * 2 + 1 + 1 = omega arith in
+    ap (λ (k : ℕ). recordsOk ok base w (m * k) t) q ∙ rows-pass ok base w m t (g * 2 + 1) f (rows-pass ok base w m t (g * 2) e h n) o

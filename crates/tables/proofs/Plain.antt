@@ -1,4 +1,4 @@
--- Four records at once: the laws of `together`, and plain records keep row 7.
+-- Four records at once: the laws of `together`, plain records keep row 7, and what is left to test where only ports and times are plain.
 use Prim.Native.Nat.{ℕ, zero, suc, _+_, _*_, _%_, _^_, _≤_, _<_}
 use native.Mathlib.Nat.{zero-mod, add-zero}
 use native.Mathlib.Numerals.{add-one}
@@ -10,24 +10,25 @@ use lib.Bits.{bitOr, or-mod}
 use lib.Dec.{eqb, ltb}
 use lib.ListN.{length, getD}
 use lib.Pow.{pow-pos}
-use borrow.Author.Tests.{lt-ltb, ltb-true, le-leb, eq-eqb, ne-eqb, eqb-true}
+use borrow.Author.Tests.{lt-ltb, ltb-true, le-leb, eq-eqb, ne-eqb, eqb-true, eqb-false}
 use Rattle.octets.specs.Bytes.{Bytes}
 use Rattle.octets.specs.Index.{_and_, allBelow}
+use Rattle.octets.specs.Choice.{_or_}
 use Rattle.octets.specs.Part.{part}
 use Rattle.octets.specs.BigEndian.{number}
 use Rattle.octets.proofs.Agree.{or-ltb}
 use Rattle.octets.proofs.BigEndian.{number-lt}
 use Rattle.octets.proofs.Bytes.{part-bytes}
-use Rattle.octets.proofs.Index.{and-left, and-right, and-both, and-yes, all-both, all-cong, all-fails}
+use Rattle.octets.proofs.Index.{and-left, and-right, and-both, and-yes, all-at, all-both, all-cong, all-fails}
 use Rattle.octets.proofs.Part.{part-at, part-part, part-length, number-part, number-one}
-use Rattle.numbers.specs.Numbers.{portCount}
+use Rattle.numbers.specs.Numbers.{portCount, clockLimit}
 use Rattle.rules.specs.Refusals.{timeOk, returnOk, hashOk}
-use Rattle.tables.specs.Places.{returnWidth, hashWidth}
-use Rattle.tables.specs.Fields.{returnArrivalAt, returnLeavingAt, returnExpiryAt}
+use Rattle.tables.specs.Places.{timeWidth, returnWidth, hashWidth}
+use Rattle.tables.specs.Fields.{returnArrivalAt, returnLeavingAt, returnExpiryAt, hashExpiryAt}
 use Rattle.tables.specs.Records.{returnOf, returnBytesOk, hashOf, hashBytesOk}
 use Rattle.tables.specs.Layout.{recordAt, recordsOk}
-use Rattle.tables.specs.Groups.{together, waysPlain, returnPlain, hashPlain}
-use Rattle.tables.proofs.Tests.{slot-used, return-test, hash-test}
+use Rattle.tables.specs.Groups.{together, waysPlain, returnPlain, hashPlain, usedOrZero}
+use Rattle.tables.proofs.Tests.{slotBytesOk, slot-unused, slot-used, return-test, hash-test}
 
 -- ---- `together`: an OR is tested in place of its numbers
 pub together-ltb : (k : ℕ) (f : ℕ → ℕ) (n : ℕ) → ltb (together f n) (2 ^ k) ≡ allBelow (λ i. ltb (f i) (2 ^ k)) n
@@ -87,20 +88,46 @@ module _ (p : ℕ → Bool) (at a w n : ℕ) (t : List ℕ) (fits : a + 8 ≤ w)
   abbrev tested : List ℕ → Bool
   tested b = eqb (getD b 0 0) 1 and p (number (part b a 8))
 
+  field : (k : ℕ) → number (part (recordAt at w t k) a 8) ≡ number (part t (at + a + w * k) 8)
+  field k = ap number (part-part t (at + w * k) w a 8 fits ∙ ap (λ (i : ℕ). part t i 8) (omega arith))
+
   pub rows-apart : recordsOk tested at w n t
       ≡ (allBelow (λ k. eqb (getD t (at + w * k) 0) 1) n and allBelow (λ k. p (number (part t (at + a + w * k) 8))) n)
   unfolding recordsOk
   rows-apart =
       all-cong (λ k. tested (recordAt at w t k)) (λ k. eqb (getD t (at + w * k) 0) 1 and p (number (part t (at + a + w * k) 8))) n
       (λ k l. ap₂ (λ (x y : ℕ). eqb x 1 and p y)
-      (part-at t (at + w * k) w 0 (omega arith) ∙ ap (λ (i : ℕ). getD t i 0) (add-zero (at + w * k)))
-      (ap number (part-part t (at + w * k) w a 8 fits ∙ ap (λ (i : ℕ). part t i 8) (omega arith))))
+      (part-at t (at + w * k) w 0 (omega arith) ∙ ap (λ (i : ℕ). getD t i 0) (add-zero (at + w * k))) (field k))
       ∙ all-both (λ k. eqb (getD t (at + w * k) 0) 1) (λ k. p (number (part t (at + a + w * k) 8))) n
+
+  -- where the numbers of n records pass, a test that is equal to `ok` on such a record takes its place
+  pub rows-left : (ok left : List ℕ → Bool)
+      → ((k : ℕ) → k < n → p (number (part (recordAt at w t k) a 8)) ≡ true → ok (recordAt at w t k) ≡ left (recordAt at w t k))
+      → allBelow (λ k. p (number (part t (at + a + w * k) 8))) n ≡ true → recordsOk left at w n t ≡ recordsOk ok at w n t
+  unfolding recordsOk
+  rows-left ok left same h =
+      all-cong (λ k. left (recordAt at w t k)) (λ k. ok (recordAt at w t k)) n
+      (λ k l. sym (same k l (ap p (field k) ∙ all-at (λ j. p (number (part t (at + a + w * j) 8))) n k h l)))
 
 -- ---- plain records keep row 7
 time-plain : (x : ℕ) → x < 2 ^ 40 → timeOk x ≡ true
 unfolding timeOk
 time-plain x h = le-leb x _ (omega arith)
+
+-- where its clauses hold, used or not, a record's mark and zeros are left to test
+used-left : (ok : List ℕ → Bool) (b : List ℕ) → 0 < length b → ok b ≡ true → slotBytesOk (length b) ok b ≡ usedOrZero b
+unfolding usedOrZero _or_
+used-left ok b l fine = go (eqb (getD b 0 0) 1) refl
+  where
+    go : (m : Bool) → eqb (getD b 0 0) 1 ≡ m → slotBytesOk (length b) ok b ≡ usedOrZero b
+    go true q = rw q (slot-used (length b) ok b (eqb-true _ _ q) ∙ fine)
+    go false q = rw q (slot-unused (length b) ok b l (eqb-false _ _ q))
+
+pub hash-left : (b : List ℕ) → length b ≡ hashWidth → ltb (number (part b hashExpiryAt timeWidth)) clockLimit ≡ true → hashBytesOk b ≡ usedOrZero b
+unfolding hashOk hashOf
+hash-left b size h =
+    hash-test b ∙ ap (λ (w : ℕ). slotBytesOk w (λ s. hashOk (hashOf s)) b) (sym size)
+    ∙ used-left (λ s. hashOk (hashOf s)) b (omega arith) (time-plain _ (ltb-true _ _ h))
 
 pub hash-plain : (b : List ℕ) → hashPlain b ≡ true → hashBytesOk b ≡ true
 unfolding hashPlain hashOk hashOf
@@ -136,3 +163,8 @@ module _ (b : List ℕ) (bytes : Bytes b) (size : length b ≡ returnWidth) wher
   unfolding returnPlain
   return-plain h =
       return-test b ∙ slot-used returnWidth _ b (eqb-true _ _ (and-left _ _ h)) ∙ ways (and-right _ _ h)
+
+  pub return-left : waysPlain (number (part b returnArrivalAt 8)) ≡ true → returnBytesOk b ≡ usedOrZero b
+  return-left h =
+      return-test b ∙ ap (λ (w : ℕ). slotBytesOk w (λ s. returnOk (returnOf s)) b) (sym size)
+      ∙ used-left (λ s. returnOk (returnOf s)) b (omega arith) (ways h)

@@ -5,8 +5,9 @@ use mathlib.Core.Bool.{Bool}
 use mathlib.Core.List.{List}
 use lib.Dec.{eqb, ltb}
 use lib.Bits.{bitOr}
-use lib.ListN.{getD}
-use Rattle.octets.specs.Index.{_and_}
+use lib.ListN.{length, getD}
+use Rattle.octets.specs.Index.{_and_, zeros}
+use Rattle.octets.specs.Choice.{_or_}
 use Rattle.octets.specs.Part.{part}
 use Rattle.octets.specs.BigEndian.{number}
 use Rattle.numbers.specs.Numbers.{clockLimit}
@@ -34,3 +35,7 @@ returnPlain b = eqb (getD b 0 0) 1 and waysPlain (number (part b returnArrivalAt
 
 unfoldable pub hashPlain : List ℕ → Bool
 hashPlain b = eqb (getD b 0 0) 1 and ltb (number (part b hashExpiryAt timeWidth)) clockLimit
+
+-- what is left to test of a record whose ports and times are plain, as those of a record of zeros are
+unfoldable pub usedOrZero : List ℕ → Bool
+usedOrZero b = eqb (getD b 0 0) 1 or zeros (length b) b

@@ -4,6 +4,7 @@ use super::fields::HASH_EXPIRY_AT;
 use super::fields::RETURN_ARRIVAL_AT;
 use super::places::HASH_WIDTH;
 use super::places::RETURN_WIDTH;
+use super::record_check::used_or_zero;
 use numbers::CLOCK_LIMIT;
 ghost use mathlib.Core.Path.{_≡_};
 ghost use Prim.Native.Nat.{_+_, _*_, _≤_, _<_};
@@ -14,7 +15,7 @@ ghost use Rattle.octets.specs.Part.{part};
 ghost use Rattle.octets.specs.BigEndian.{number};
 ghost use Rattle.tables.specs.Places.{returnWidth, hashWidth};
 ghost use Rattle.tables.specs.Layout.{recordsOk};
-ghost use Rattle.tables.specs.Groups.{together, waysPlain, returnPlain, hashPlain};
+ghost use Rattle.tables.specs.Groups.{together, waysPlain, returnPlain, hashPlain, usedOrZero};
 
 // Whether four records have this mark: the first stands at a place, each so much behind the one before it.
 pub fn four_marked(t: &[u8], at: usize, width: usize, mark: u8) -> bool
@@ -34,7 +35,7 @@ pub fn four_marked(t: &[u8], at: usize, width: usize, mark: u8) -> bool
 }
 
 // The OR of four numbers of eight bytes: the first from a place on, each so much behind the one before it.
-fn four_together(t: &[u8], at: usize, width: usize) -> u64
+pub fn four_together(t: &[u8], at: usize, width: usize) -> u64
     requires { ⌜ at + width * 3 + 8 ≤ length (now t) ⌝ }
     ensures { λ r. ⌜ r ≡ together (λ k. number (part (now (t .entry)) (at + width * k) 8)) 4 ⌝ }
 {
@@ -46,7 +47,7 @@ fn four_together(t: &[u8], at: usize, width: usize) -> u64
 
 // Of two ports and the first six bytes of a time, as one number: whether the ports are below 16 and the time below 2^40.
 // The numbers are 16 * 256^7, 256^7, 16 * 256^6, 256^6 and 256^3; the compiler makes one test of the three.
-fn ways_plain(x: u64) -> bool
+pub fn ways_plain(x: u64) -> bool
     ensures { λ r. ⌜ r ≡ waysPlain x ⌝ }
 {
     if x >= 1152921504606846976 {
@@ -76,4 +77,21 @@ pub fn four_hashes_plain(t: &[u8], at: usize) -> bool
         return false;
     }
     four_together(t, at + HASH_EXPIRY_AT, HASH_WIDTH) < CLOCK_LIMIT
+}
+
+// What is left to test of four records whose ports and times are plain, as those of unused ones are. A mark is looked
+// at once, and of a used record no more than it.
+pub fn four_used_or_zero(t: &[u8], at: usize, width: usize) -> bool
+    requires { ⌜ (16 ≤ width) × (at + width * 4 ≤ length (now t)) ⌝ }
+    ensures { λ r. ⌜ r ≡ recordsOk usedOrZero at width 4 (now (t .entry)) ⌝ }
+{
+    let mut i = 0;
+    while i < 4 {
+        let start = at + width * i;
+        if !used_or_zero(&t[start..start + width]) {
+            return false;
+        }
+        i += 1;
+    }
+    true
 }

@@ -24,9 +24,11 @@ use numbers::MODE_COUNT;
 use numbers::PORT_COUNT;
 use numbers::TIME_LIMIT;
 ghost use mathlib.Core.Path.{_≡_};
+ghost use Prim.Native.Nat.{_≤_};
 ghost use lib.ListN.{length};
 ghost use Rattle.rules.specs.Refusals.{rateEntryOk};
 ghost use Rattle.tables.specs.Records.{portBytesOk, localBytesOk, pathOf, pathBytesOk, linkBytesOk, returnBytesOk, hashBytesOk};
+ghost use Rattle.tables.specs.Groups.{usedOrZero};
 ghost use Rattle.tables.specs.Places.{portWidth, localWidth, pathWidth, linkWidth, returnWidth, hashWidth};
 
 pub fn port_ok(b: &[u8]) -> bool
@@ -127,4 +129,17 @@ pub fn hash_ok(b: &[u8]) -> bool
         return octets::is_zero(b, 16);
     }
     octets::number_of_8_at(b, HASH_EXPIRY_AT) <= TIME_LIMIT
+}
+
+// Of a record of any kind, whether it is marked as used, or all zeros. The test for zeros stands first, so that the
+// compiler loads the mark with the word that it stands in.
+pub fn used_or_zero(b: &[u8]) -> bool
+    requires { ⌜ 16 ≤ length (now b) ⌝ }
+    ensures { λ r. ⌜ r ≡ usedOrZero (now (b .entry)) ⌝ }
+{
+    let zero = octets::is_zero(b, 16);
+    if b[0] != 1 {
+        return zero;
+    }
+    true
 }

@@ -1,7 +1,10 @@
 // Row 7 for each section of the tables, record by record, and for those before and behind the paths, which a saved file
 // has at other places. What is all zeros is passed by one OR over its bytes: links as a whole, for these fill from their
 // first place on; paths, whose records are wide, in groups, and returns and hashes in larger ones, where four records
-// spread over the group are unused. Used returns and hashes are passed four at once, where these are plain.
+// spread over the group are unused. A group whose returns or hashes are all plain is passed by fours; in any other four
+// records are tested for plain ports and times at once, and then each for its mark and zeros.
+use super::fields::HASH_EXPIRY_AT;
+use super::fields::RETURN_ARRIVAL_AT;
 use super::places::CLOCK_AT;
 use super::places::GRACE_AT;
 use super::places::HASH_WIDTH;
@@ -23,12 +26,16 @@ use super::places::TARGET_AT;
 use super::plain_check::four_hashes_plain;
 use super::plain_check::four_marked;
 use super::plain_check::four_returns_plain;
+use super::plain_check::four_together;
+use super::plain_check::four_used_or_zero;
+use super::plain_check::ways_plain;
 use super::record_check::hash_ok;
 use super::record_check::link_ok;
 use super::record_check::local_ok;
 use super::record_check::path_ok;
 use super::record_check::port_ok;
 use super::record_check::return_ok;
+use numbers::CLOCK_LIMIT;
 use numbers::GRACE_LIMIT;
 use numbers::HASH_COUNT;
 use numbers::LINK_COUNT;
@@ -46,7 +53,7 @@ ghost use Rattle.numbers.specs.Numbers.{portCount, localCount, pathCount, linkC
 ghost use Rattle.tables.specs.Places.{portWidth, localWidth, pathWidth, linkWidth, returnWidth, hashWidth, portsAt, localsAt, pathsAt, backWidth, tableSize};
 ghost use Rattle.tables.specs.Records.{portBytesOk, localBytesOk, pathBytesOk, linkBytesOk, returnBytesOk, hashBytesOk};
 ghost use Rattle.tables.specs.Layout.{startOk, recordsOk, frontOk, backOk};
-ghost use Rattle.tables.specs.Groups.{groupSize, pathGroupSize};
+ghost use Rattle.tables.specs.Groups.{groupSize, pathGroupSize, returnPlain, hashPlain};
 
 // Records of a group, and of one of paths. The bytes of a group are a multiple of 16.
 const GROUP: usize = 128;
@@ -223,8 +230,8 @@ fn four_returns_ok(t: &[u8], at: usize) -> bool
     requires { ⌜ at + returnWidth * 4 ≤ length (now t) ⌝ }
     ensures { λ r. ⌜ r ≡ recordsOk returnBytesOk at returnWidth 4 (now (t .entry)) ⌝ }
 {
-    if four_returns_plain(t, at) {
-        return true;
+    if ways_plain(four_together(t, at + RETURN_ARRIVAL_AT, RETURN_WIDTH)) {
+        return four_used_or_zero(t, at, RETURN_WIDTH);
     }
     four_returns_each(t, at)
 }
@@ -243,6 +250,24 @@ fn return_group_each(t: &[u8], at: usize) -> bool
     true
 }
 
+// Two fours a step: with one, a check of full tables takes a thirtieth longer.
+fn return_group_plain(t: &[u8], at: usize) -> bool
+    requires { ⌜ at + returnWidth * groupSize ≤ length (now t) ⌝ }
+    ensures { λ r. ⌜ r ≡ recordsOk returnPlain at returnWidth groupSize (now (t .entry)) ⌝ }
+{
+    let mut i = 0;
+    while i < GROUP / 8 {
+        if !four_returns_plain(t, at + RETURN_WIDTH * 4 * (i * 2)) {
+            return false;
+        }
+        if !four_returns_plain(t, at + RETURN_WIDTH * 4 * (i * 2 + 1)) {
+            return false;
+        }
+        i += 1;
+    }
+    true
+}
+
 fn return_group_ok(t: &[u8], at: usize) -> bool
     requires { ⌜ at + returnWidth * groupSize ≤ length (now t) ⌝ }
     ensures { λ r. ⌜ r ≡ recordsOk returnBytesOk at returnWidth groupSize (now (t .entry)) ⌝ }
@@ -251,6 +276,9 @@ fn return_group_ok(t: &[u8], at: usize) -> bool
         if octets::is_zero(&t[at..at + RETURN_WIDTH * GROUP], RETURNS_FROM) {
             return true;
         }
+    }
+    if return_group_plain(t, at) {
+        return true;
     }
     return_group_each(t, at)
 }
@@ -290,8 +318,8 @@ fn four_hashes_ok(t: &[u8], at: usize) -> bool
     requires { ⌜ at + hashWidth * 4 ≤ length (now t) ⌝ }
     ensures { λ r. ⌜ r ≡ recordsOk hashBytesOk at hashWidth 4 (now (t .entry)) ⌝ }
 {
-    if four_hashes_plain(t, at) {
-        return true;
+    if four_together(t, at + HASH_EXPIRY_AT, HASH_WIDTH) < CLOCK_LIMIT {
+        return four_used_or_zero(t, at, HASH_WIDTH);
     }
     four_hashes_each(t, at)
 }
@@ -310,6 +338,23 @@ fn hash_group_each(t: &[u8], at: usize) -> bool
     true
 }
 
+fn hash_group_plain(t: &[u8], at: usize) -> bool
+    requires { ⌜ at + hashWidth * groupSize ≤ length (now t) ⌝ }
+    ensures { λ r. ⌜ r ≡ recordsOk hashPlain at hashWidth groupSize (now (t .entry)) ⌝ }
+{
+    let mut i = 0;
+    while i < GROUP / 8 {
+        if !four_hashes_plain(t, at + HASH_WIDTH * 4 * (i * 2)) {
+            return false;
+        }
+        if !four_hashes_plain(t, at + HASH_WIDTH * 4 * (i * 2 + 1)) {
+            return false;
+        }
+        i += 1;
+    }
+    true
+}
+
 fn hash_group_ok(t: &[u8], at: usize) -> bool
     requires { ⌜ at + hashWidth * groupSize ≤ length (now t) ⌝ }
     ensures { λ r. ⌜ r ≡ recordsOk hashBytesOk at hashWidth groupSize (now (t .entry)) ⌝ }
@@ -318,6 +363,9 @@ fn hash_group_ok(t: &[u8], at: usize) -> bool
         if octets::is_zero(&t[at..at + HASH_WIDTH * GROUP], HASHES_FROM) {
             return true;
         }
+    }
+    if hash_group_plain(t, at) {
+        return true;
     }
     hash_group_each(t, at)
 }

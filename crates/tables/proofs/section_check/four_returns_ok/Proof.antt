@@ -1,31 +1,42 @@
 use Prim.Native.Nat.{_+_, _*_}
-use mathlib.Core.Path.{sym, _∙_}
+use mathlib.Core.Path.{sym, ap, _∙_}
 use Rattle.octets.proofs.Bytes.{known-bytes, part-bytes}
 use Rattle.octets.proofs.Part.{part-length}
 use Rattle.codes.proofs.Rows.{row-end}
+use Rattle.tables.specs.Fields.{returnArrivalAt}
 use Rattle.tables.specs.Places.{returnWidth}
 use Rattle.tables.specs.Records.{returnBytesOk}
-use Rattle.tables.specs.Groups.{returnPlain}
-use Rattle.tables.proofs.Loops.{records-kept}
-use Rattle.tables.proofs.Plain.{return-plain}
+use Rattle.tables.specs.Groups.{waysPlain, usedOrZero}
+use Rattle.tables.proofs.Plain.{together-plain, rows-left, return-left}
 use native.Mathlib.Omega.{arith}
 use borrow.Author.Needs.{needs}
 use Rattle.tables.proofs.section_check.four_returns_ok.Statement.{statement}
 use Rattle.tables.proofs.section_check.four_returns_ok.Tie as tie
 
-four-returns-plain-requires : tie.Need-four-returns-plain-requires
-four-returns-plain-requires c κs = search needs
+add-four-together : tie.Need-add-four-together
+add-four-together c = search needs
+
+four-together-requires : tie.Need-four-together-requires
+four-together-requires c κs = search needs
+
+ways-plain-requires : tie.Need-ways-plain-requires
+ways-plain-requires c κs = search needs
+
+four-used-or-zero-requires : tie.Need-four-used-or-zero-requires
+four-used-or-zero-requires c κs = search needs
 
 returns : tie.Need-returns
 returns c =
     let c3 = c .before .before .before in
-    let t = c3 .args .t .now in
-    let at = c3 .args .at in
-    let bytes = known-bytes t (c .before .before .shared-slice-known .given) in
-    records-kept returnPlain returnBytesOk at returnWidth 4 t
-    (λ i l. return-plain _ (part-bytes t (at + returnWidth * i) returnWidth bytes)
-    (part-length t (at + returnWidth * i) returnWidth (omega (arith, c3 .pre, row-end returnWidth 4 i l))))
-    (sym (c .before .four-returns-plain .ensures) ∙ c .if1 .taken)
+    let c5 = c3 .before .before in
+    let t = c5 .args .t .now in
+    let at = c5 .args .at in
+    let bytes = known-bytes t (c3 .before .shared-slice-known .given) in
+    c .four-used-or-zero .ensures
+    ∙ rows-left waysPlain at returnArrivalAt returnWidth 4 t (omega arith) returnBytesOk usedOrZero
+    (λ k l. return-left _ (part-bytes t (at + returnWidth * k) returnWidth bytes)
+    (part-length t (at + returnWidth * k) returnWidth (omega (arith, c5 .pre, row-end returnWidth 4 k l))))
+    (sym (together-plain _ 4) ∙ ap waysPlain (sym (c3 .four-together .ensures)) ∙ sym (c .before .before .ways-plain .ensures) ∙ c .before .if1 .taken)
 
 four-returns-each-requires : tie.Need-four-returns-each-requires
 four-returns-each-requires c κs = search needs
@@ -35,4 +46,12 @@ returns-2 c = search needs
 
 pub four-returns-ok-spec : {M : Type 1} → statement M
 four-returns-ok-spec =
-    tie.close (tie.spec four-returns-plain-requires returns four-returns-each-requires returns-2)
+    tie.close
+    (tie.spec
+    add-four-together
+    four-together-requires
+    ways-plain-requires
+    four-used-or-zero-requires
+    returns
+    four-returns-each-requires
+    returns-2)

@@ -1,8 +1,10 @@
+use mathlib.Core.Path.{sym, _∙_}
 use Rattle.tables.specs.Places.{hashWidth}
 use Rattle.tables.specs.Forms.{hashForm}
 use Rattle.tables.specs.Records.{hashBytesOk}
-use Rattle.tables.specs.Groups.{groupSize}
-use Rattle.tables.proofs.Loops.{section-free}
+use Rattle.tables.specs.Groups.{groupSize, hashPlain}
+use Rattle.tables.proofs.Loops.{section-free, records-kept}
+use Rattle.tables.proofs.Plain.{hash-plain}
 use Rattle.tables.proofs.Tests.{unused}
 use native.Mathlib.Omega.{arith}
 use borrow.Author.Needs.{needs}
@@ -40,11 +42,20 @@ returns c =
     section-free hashBytesOk (c6 .args .at) hashWidth groupSize (c6 .args .t .now) (unused hashForm) (omega (arith, c6 .pre))
     (c .before .is-zero .ensures) (c .if2 .taken)
 
+hash-group-plain-requires : tie.Need-hash-group-plain-requires
+hash-group-plain-requires c κs = search needs
+
+returns-2 : tie.Need-returns-2
+returns-2 c =
+    let a = c .before .before .before .before .before .args in
+    records-kept hashPlain hashBytesOk (a .at) hashWidth groupSize (a .t .now) (λ i l. hash-plain _)
+    (sym (c .before .hash-group-plain .ensures) ∙ c .if3 .taken)
+
 hash-group-each-requires : tie.Need-hash-group-each-requires
 hash-group-each-requires c κs = search needs
 
-returns-2 : tie.Need-returns-2
-returns-2 c = search needs
+returns-3 : tie.Need-returns-3
+returns-3 c = search needs
 
 pub hash-group-ok-spec : {M : Type 1} → statement M
 hash-group-ok-spec =
@@ -59,5 +70,7 @@ hash-group-ok-spec =
     part-is-zero-end
     is-zero-requires
     returns
+    hash-group-plain-requires
+    returns-2
     hash-group-each-requires
-    returns-2)
+    returns-3)

@@ -1,8 +1,14 @@
+use Prim.Native.Nat.{_+_, _*_}
+use mathlib.Core.Path.{sym, _∙_}
+use Rattle.octets.proofs.Bytes.{known-bytes, part-bytes}
+use Rattle.octets.proofs.Part.{part-length}
+use Rattle.codes.proofs.Rows.{row-end}
 use Rattle.tables.specs.Places.{returnWidth}
 use Rattle.tables.specs.Forms.{returnForm}
 use Rattle.tables.specs.Records.{returnBytesOk}
-use Rattle.tables.specs.Groups.{groupSize}
-use Rattle.tables.proofs.Loops.{section-free}
+use Rattle.tables.specs.Groups.{groupSize, returnPlain}
+use Rattle.tables.proofs.Loops.{section-free, records-kept}
+use Rattle.tables.proofs.Plain.{return-plain}
 use Rattle.tables.proofs.Tests.{unused}
 use native.Mathlib.Omega.{arith}
 use borrow.Author.Needs.{needs}
@@ -40,11 +46,25 @@ returns c =
     section-free returnBytesOk (c6 .args .at) returnWidth groupSize (c6 .args .t .now) (unused returnForm) (omega (arith, c6 .pre))
     (c .before .is-zero .ensures) (c .if2 .taken)
 
+return-group-plain-requires : tie.Need-return-group-plain-requires
+return-group-plain-requires c κs = search needs
+
+returns-2 : tie.Need-returns-2
+returns-2 c =
+    let c5 = c .before .before .before .before .before in
+    let t = c5 .args .t .now in
+    let at = c5 .args .at in
+    let bytes = known-bytes t (c .before .before .before .before .shared-slice-known .given) in
+    records-kept returnPlain returnBytesOk at returnWidth groupSize t
+    (λ i l. return-plain _ (part-bytes t (at + returnWidth * i) returnWidth bytes)
+    (part-length t (at + returnWidth * i) returnWidth (omega (arith, c5 .pre, row-end returnWidth groupSize i l))))
+    (sym (c .before .return-group-plain .ensures) ∙ c .if3 .taken)
+
 return-group-each-requires : tie.Need-return-group-each-requires
 return-group-each-requires c κs = search needs
 
-returns-2 : tie.Need-returns-2
-returns-2 c = search needs
+returns-3 : tie.Need-returns-3
+returns-3 c = search needs
 
 pub return-group-ok-spec : {M : Type 1} → statement M
 return-group-ok-spec =
@@ -59,5 +79,7 @@ return-group-ok-spec =
     part-is-zero-end
     is-zero-requires
     returns
+    return-group-plain-requires
+    returns-2
     return-group-each-requires
-    returns-2)
+    returns-3)
