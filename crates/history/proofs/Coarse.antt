@@ -115,8 +115,8 @@ module _ (v : View) (a : Arrival) where
       (choice _ _ _ asking-coarse (path-coarse (v .path (destination a)) (v .expired (destination a))))))
 
   onward-coarse : (w : Way) → coarsePlan (onwardPlan v a w) ≡ onwardPlan (unexpired v) a (coarseWay w)
-  unfolding onwardPlan onwardTests firstOf valued coarsePlan coarseWay coarseReason noWayOn whyBlocked followsProvedLink alreadyKnown wrongSide ofKnown knownTests
-      leavingPort portOff tooLongForPort outgoing noRoom unexpired _then_otherwise_ _and_
+  unfolding onwardPlan onwardTests firstOf valued coarsePlan coarseWay coarseReason noWayOn whyBlocked followsProvedLink alreadyKnown wrongSide
+      knownTests ofKnown leavingPort portOff tooLongForPort outgoing noRoom unexpired _then_otherwise_ _and_
   onward-coarse (everywhere empty) = first-ap coarsePlan (onwardTests v a (everywhere empty)) (follows (everywhere empty))
   onward-coarse (everywhere (used p)) = first-ap coarsePlan (onwardTests v a (everywhere (used p))) (follows (everywhere (used p)))
   onward-coarse (by-path p) = first-ap coarsePlan (onwardTests v a (by-path p)) (follows (by-path p))

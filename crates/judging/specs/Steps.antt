@@ -38,7 +38,7 @@ use Rattle.judging.specs.declared.SeenWay.the-variants.{Everywhere, ByPa
 use Rattle.judging.specs.declared.Planned.{Planned}
 use Rattle.judging.specs.declared.Planned.the-variants.{Drop, Deliver, Follow}
 use Rattle.judging.specs.declared.Stored.{Stored}
-use Rattle.judging.specs.Seen.{arrivalOf, blobsIn, blobsOf, pathRecord, returnOf, noSeenPort, viewOf, Fits, wayOf}
+use Rattle.judging.specs.Seen.{arrivalOf, blobsIn, blobsOf, pathRecord, returnOf, noSeenPort, viewOf, Fits, wayOf, asSeen}
 
 -- ---- the way on, by the record that is seen
 unfoldable pub linkWayBy : Bool → SeenLink → SeenWay
@@ -75,7 +75,7 @@ pub record Tested (s : Seen) (packet : List ℕ) (m : Arrived) (w : SeenWay) (r 
 
 -- one of them, of the path that is seen, and what a caller shows
 abbrev pub ofSeenPath : (View → Arrival → Path → Bool) → Seen → List ℕ → Arrived → Bool
-ofSeenPath test s packet m = test (viewOf s (arrivalOf packet m)) (arrivalOf packet m) (pathRecord (destination (arrivalOf packet m)) (s .path))
+ofSeenPath test s packet m = asSeen test s packet m (pathRecord (destination (arrivalOf packet m)) (s .path))
 
 pub record CanKnow (s : Seen) (packet : List ℕ) : Type 0 where
   pub readable : reads longestPacket packet ≡ true
