@@ -41,7 +41,8 @@ revivedBy emission p = p .notes .marked and leb (greatestEmission (held (p .blob
 
 -- of the known path at a place: the tests of one
 unfoldable pub knownPath : Relay → Arrival → Path → ℕ → Decision
-knownPath r a p place = firstOf (valued Drop (knownTests (viewAt (a .clock) r) a (everywhere (used p)))) (Announce place true)
+knownPath r a p place =
+    firstOf (valued Drop (knownTests (viewAt (a .clock) r) a (everywhere (used p)))) (Announce place true)
 
 -- ---- 12 and 16, by a port and the length of what would leave by it
 unfoldable pub leaving : Relay → ℕ → ℕ → Decision → Decision

@@ -8,6 +8,7 @@ use mathlib.Core.Path.{_≡_, refl, sym, ap, subst, _∙_}
 use lib.Dec.{eqb}
 use lib.ListN.{length}
 use borrow.Author.Tests.{eqb-true}
+use Rattle.octets.proofs.Index.{and-false}
 use Rattle.octets.specs.Index.{_and_}
 use Rattle.octets.proofs.Choice.{then-true, then-false}
 use Rattle.octets.proofs.Listed.{NoneHolds}
@@ -29,7 +30,7 @@ use Rattle.rules.specs.Chatty.{planIf, packetCallWithout, performWithout
 use Rattle.rules.specs.declared.RateEntry.{RateEntry}
 use Rattle.rules.specs.declared.Rated.{Rated}
 use Rattle.rules.specs.declared.Tally.{Tally}
-use Rattle.rules.proofs.Choices.{either, and-false}
+use Rattle.rules.proofs.Choices.{either}
 use Rattle.rules.proofs.Rows.{table-passed}
 use Rattle.rules.proofs.Slots.{Every, every-set, every-fresh, every-renamed}
 use Rattle.rules.proofs.Accepted.{accepted-packet}

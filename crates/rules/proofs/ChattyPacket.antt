@@ -8,7 +8,7 @@ use lib.Seq.{set-getD}
 use borrow.Author.Tests.{not-true}
 use Rattle.octets.specs.Index.{_and_}
 use Rattle.octets.specs.Choice.{_then_otherwise_}
-use Rattle.octets.proofs.Index.{and-left, and-right, and-both, and-no}
+use Rattle.octets.proofs.Index.{and-left, and-right, and-both, and-no, and-false}
 use Rattle.octets.proofs.Choice.{then-false}
 use Rattle.packet.specs.Header.{isAnnounce}
 use Rattle.numbers.specs.Numbers.{live}
@@ -25,7 +25,7 @@ use Rattle.rules.specs.Chatty.{NoRateDrop, WhileBlocked, PathsStay, Bloc
 use Rattle.rules.specs.declared.RateEntry.{RateEntry}
 use Rattle.rules.specs.declared.Rated.{Rated}
 use Rattle.rules.specs.declared.Tally.{Tally}
-use Rattle.rules.proofs.Choices.{either, and-false}
+use Rattle.rules.proofs.Choices.{either}
 use Rattle.rules.proofs.Passed.{passed}
 use Rattle.rules.proofs.Stamped.{enact-paths}
 use Rattle.rules.proofs.Held.{packet-kept}

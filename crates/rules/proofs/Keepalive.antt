@@ -7,7 +7,7 @@ use borrow.Author.Tests.{eqb-true, not-true}
 use Rattle.octets.specs.Index.{_and_}
 use Rattle.octets.specs.Choice.{_then_otherwise_, _or_}
 use Rattle.octets.specs.Listed.{firstOf, anyHolds}
-use Rattle.octets.proofs.Index.{and-left, and-right, and-both, and-no}
+use Rattle.octets.proofs.Index.{and-left, and-right, and-both, and-no, and-false}
 use Rattle.octets.proofs.Choice.{or-no, same-eq}
 use Rattle.octets.proofs.Listed.{none-first}
 use Rattle.rules.proofs.Joined.{none-joined}
@@ -24,7 +24,7 @@ use Rattle.rules.specs.Outgoing.{outgoing, exceeds}
 use Rattle.rules.specs.Judging.{dropped, follows, earlyTests, onwardTests, onwardPlan, plan}
 use Rattle.rules.specs.Keepalives.{isKeepalive, keepsAlive}
 use Rattle.rules.specs.declared.Link.{Link}
-use Rattle.rules.proofs.Choices.{either, and-false}
+use Rattle.rules.proofs.Choices.{either}
 use Rattle.rules.proofs.Lengths.{carried-length}
 
 -- a packet of a link that is no link proof, from one of its sides

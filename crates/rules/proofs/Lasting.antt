@@ -12,7 +12,7 @@ use borrow.Author.Tests.{ltb-true, ltb-false, lt-ltb, eq-eqb, not-true}
 use Rattle.octets.specs.Index.{_and_}
 use Rattle.octets.specs.Choice.{_then_otherwise_, _or_, same}
 use Rattle.octets.specs.Part.{patch}
-use Rattle.octets.proofs.Index.{and-left, and-both, and-no, and-yes, first-holds}
+use Rattle.octets.proofs.Index.{and-left, and-both, and-no, and-yes, first-holds, and-false}
 use Rattle.octets.proofs.Choice.{then-true, then-false, or-no-left, or-no-right, same-eq, eq-same}
 use Rattle.octets.proofs.Listed.{NoneHolds}
 use Rattle.packet.specs.Header.{isData}
@@ -34,7 +34,7 @@ use Rattle.rules.specs.declared.Link.{Link}
 use Rattle.rules.specs.declared.Tally.{Tally}
 use Rattle.rules.specs.declared.Verdict.the-variants.{Forward}
 use Rattle.rules.specs.declared.Answer.the-variants.{Judged}
-use Rattle.rules.proofs.Choices.{either, and-false}
+use Rattle.rules.proofs.Choices.{either}
 use Rattle.rules.proofs.Tables.{table-length}
 use Rattle.rules.proofs.Slots.{used-same}
 use Rattle.rules.proofs.Rows.{table-passed, table-ok}

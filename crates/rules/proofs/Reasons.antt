@@ -12,7 +12,7 @@ use borrow.Author.Tests.{eq-eqb, ne-eqb, eqb-true, eqb-false, not-true, not-fals
 use Rattle.octets.specs.Index.{_and_}
 use Rattle.octets.specs.Choice.{_then_otherwise_, _or_}
 use Rattle.octets.specs.Listed.{Test, firstOf, anyHolds, valued}
-use Rattle.octets.proofs.Index.{and-left, and-right, and-both, and-no, and-assoc}
+use Rattle.octets.proofs.Index.{and-left, and-right, and-both, and-no, and-assoc, and-true}
 use Rattle.octets.proofs.Listed.{allGive, all-first}
 use Rattle.packet.specs.Header.{typeTwo, contextFlag, ofKindLink, packetKind, isData, isAnnounce, isLinkRequest, isProof}
 use Rattle.packet.specs.Read.{headerOf}
@@ -39,11 +39,6 @@ use Rattle.rules.specs.declared.Answer.the-variants.{Refused, Judged}
 use Rattle.rules.specs.declared.Tally.{Tally}
 use Rattle.rules.proofs.Choices.{either}
 use Rattle.rules.proofs.Followed.{is-request}
-
-and-true : (b : Bool) → (b and true) ≡ b
-unfolding _and_
-and-true true = refl
-and-true false = refl
 
 -- ---- lists of sentences: the first that holds, counted from n, has number k and the value x
 unfoldable tellsFrom : (n k x : ℕ) → List (Test ℕ) → Bool

@@ -6,7 +6,7 @@ use mathlib.Core.Path.{_≡_, refl, ap, _∙_}
 use borrow.Author.Tests.{le-leb}
 use Rattle.octets.specs.Index.{_and_}
 use Rattle.octets.specs.Choice.{_or_}
-use Rattle.octets.proofs.Index.{and-both, and-no}
+use Rattle.octets.proofs.Index.{and-both, and-no, and-false}
 use Rattle.octets.proofs.Listed.{none-first}
 use Rattle.rules.proofs.Joined.{none-joined}
 use Rattle.rules.proofs.Passed.{none-known}
@@ -22,7 +22,6 @@ use Rattle.rules.specs.Writes.{announcedRate, announcedPath}
 use Rattle.rules.specs.DeadPaths.{NewEnough, NewEnoughRevives}
 use Rattle.rules.specs.declared.RateEntry.{RateEntry}
 use Rattle.octets.proofs.Choice.{then-true}
-use Rattle.rules.proofs.Choices.{and-false}
 use Rattle.rules.proofs.ChattyPlan.{announce-way}
 use Rattle.rules.proofs.AnnounceTests.{announce-ours, announce-not-here, announce-unknown, announce-untested}
 use Rattle.rules.proofs.Announced.{says-accepted, shown-after}

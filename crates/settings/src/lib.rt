@@ -1,7 +1,7 @@
 // The calls that need no packet, apart from renumbering: a fresh relay, a port's settings, the announce rate, local
 // addresses, and marking a path.
-// Entry points: fresh, set_port, set_rate, add_local, remove_local, note_path, mark_path_unresponsive. Each returns a refusal's
-// number, or 0, and a refusal changes no byte.
+// Entry points: fresh, set_port, set_rate, add_local, remove_local, note_path, mark_path_unresponsive. Each returns
+// a refusal's number, or 0, and a refusal changes no byte.
 mod writes;
 
 use lookup::empty_local;
