@@ -12,7 +12,7 @@ use Rattle.octets.specs.Index.{_and_}
 use Rattle.octets.proofs.Index.{and-left, and-right}
 use Rattle.rules.specs.Relay.{fresh}
 use Rattle.rules.specs.Refusals.{all}
-use Rattle.rules.specs.Calls.{TableCall, sets-port, sets-rate, adds, removes, renumbers, marks, ruleOf}
+use Rattle.rules.specs.Calls.{TableCall, sets-port, sets-rate, adds, removes, renumbers, notes-path, ruleOf}
 use Rattle.rules.specs.Answers.{reasonNumbers}
 use Rattle.rules.specs.Run.{Call, packet, on-tables, asks, saves, loads, EachCall, Reply, answered, numbered, told, saved, unsaved, noneLoads}
 use Rattle.rules.specs.declared.Reason.{Reason}
@@ -50,7 +50,7 @@ table-wide (sets-rate target grace penalty) h = tt
 table-wide (adds address) h = is-length addressWidth address (and-left _ _ h)
 table-wide (removes address) h = is-length addressWidth address (and-left _ _ h)
 table-wide (renumbers images) h = tt
-table-wide (marks destination clock) h = is-length addressWidth destination (and-left _ _ h)
+table-wide (notes-path note destination clock) h = is-length addressWidth destination (and-left _ _ h)
 
 call-wide : (c : Call) → CallBytes c → Wide c
 unfolding CallBytes

@@ -12,7 +12,7 @@ use Rattle.octets.proofs.Index.{and-both, and-no, and-false}
 use Rattle.octets.proofs.Choice.{eq-same}
 use Rattle.octets.proofs.Bytes.{nil-bytes}
 use Rattle.packet.specs.Hash.{packetHash}
-use Rattle.rules.specs.Relay.{makePath, makeRateEntry, used, Path, withPathMark, Return, Relay, fresh}
+use Rattle.rules.specs.Relay.{noNotes, makePath, makeRateEntry, used, Path, withPathMark, Return, Relay, fresh}
 use Rattle.rules.specs.View.{View, viewAt}
 use Rattle.rules.specs.Rate.{startsAt}
 use Rattle.rules.specs.Refusals.{all, tableOk, packetRefusal}
@@ -95,7 +95,7 @@ unfolding rules noCall setsRelay saidBy computing
 none-heard = refl
 
 abbrev farPath : Path
-farPath = makePath destination 1 1 destination 22600 (startsAt 1000) false (knownPath .blobs)
+farPath = makePath destination 1 1 destination 22600 (startsAt 1000) noNotes (knownPath .blobs)
 
 abbrev farRelay : Relay
 farRelay = relayWith 1000 (used farPath ∷ []) [] [] (remembers farBytes 1300 ∷ [])

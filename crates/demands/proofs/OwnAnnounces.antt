@@ -23,7 +23,7 @@ use Rattle.packet.specs.declared.Parts.{Parts}
 use Rattle.rules.specs.View.{View, viewAt}
 use Rattle.rules.specs.Arrival.{Arrival, hops, isLinkProof}
 use Rattle.rules.specs.Ways.{Way, everywhere, by-path, along-link, by-return, blocked, wayOn}
-use Rattle.rules.specs.Tests.{notOurs, duplicate, typeTwoProof, typeTwoOfKindLink, announceNotSingle, announceTooShort, announceOfAnother, requestOfKindLink, requestTooShort, linkProofLength, formTests, badForm, ownAnnounce, deliveredHere, tooManyHops}
+use Rattle.rules.specs.Tests.{notOurs, duplicate, typeTwoProof, typeTwoOfKindLink, announceNotSingle, announceTooShort, announceOfAnother, requestOfKindLink, requestTooShort, linkProofLength, formTests, badForm, ownAnnounce, deliveredHere, tooManyHops, knownTests}
 use Rattle.rules.specs.Judging.{Plan, dropped, follows, earlyTests, onwardTests, onwardPlan, plan, spreadVerdict, wayVerdict, verdict}
 use Rattle.rules.specs.Calls.{Judgement, judged, judge, packetCall}
 use Rattle.rules.specs.Reasons.{dropBy, droppedBy}
@@ -122,7 +122,7 @@ module _ (a : Announce) (signature : List ℕ) {room : ℕ} (b : Buildable a sig
     way-apart (blocked why) = refl
 
     onward-apart : (w : Way) → apart (onwardPlan v arrival w) ≡ true
-    unfolding onwardPlan onwardTests allGive apart verdict dropBy droppedBy _and_
+    unfolding onwardPlan onwardTests knownTests allGive apart verdict dropBy droppedBy _and_
     onward-apart w = all-first apart (onwardTests v arrival w) (follows w) refl (way-apart w)
 
     plan-apart : apart (plan v arrival) ≡ true

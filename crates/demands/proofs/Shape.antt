@@ -17,10 +17,11 @@ use Rattle.rules.specs.Refusals.{pathOk, slotOk, all, tablesOk}
 use Rattle.rules.specs.Arrival.{Arrival, header}
 use Rattle.rules.specs.Ways.{Way, everywhere, by-path, along-link, by-return, blocked}
 use Rattle.rules.specs.Judging.{Plan, dropped, delivered, follows, plan}
-use Rattle.rules.specs.Writes.{putNext, remember, putPath, limitPath, markedSlot, markPath, emptiedWhere, putReturn, emptyReturn, putLink, renewLink, enact}
+use Rattle.rules.specs.Writes.{putNext, remember, putPath, limitPath, notedSlot, notePath, emptiedWhere, putReturn, emptyReturn, putLink, renewLink, enact}
 use Rattle.rules.specs.Saved.{Format, loadRefusal}
-use Rattle.rules.specs.Calls.{TableCall, sets-port, sets-rate, adds, removes, renumbers, marks, ruleOf}
+use Rattle.rules.specs.Calls.{TableCall, sets-port, sets-rate, adds, removes, renumbers, notes-path, ruleOf}
 use Rattle.rules.specs.Run.{Call, packet, on-tables, asks, saves, loads, ofTold, perform, relayAfter}
+use Rattle.rules.specs.declared.Note.{Note}
 use Rattle.rules.specs.declared.Link.{Link}
 use Rattle.rules.specs.declared.Tally.{Tally}
 use Rattle.rules.proofs.Held.{WayKeeps, PlanKeeps, TableKeeps, enact-held, table-held, packet-kept, table-kept, save-kept, load-kept, stays}
@@ -101,16 +102,16 @@ module _ (r : Relay) (v : Valid r) (s : Shaped r) where
         (record { writes = plan-keeps (plan view a) (planned view a) (plan-blob view a); clock = tt; hash = λ _. hash-put })
 
 -- ---- the calls
--- a mark is no part of a path's shape
-marked-shaped : (x : Slot Path) → slotOk pathShaped x ≡ true → slotOk pathShaped (markedSlot x) ≡ true
-unfolding markedSlot slotOk pathShaped
-marked-shaped empty h = h
-marked-shaped (used p) h = h
+-- notes are no part of a path's shape
+noted-shaped : (note : Note) (x : Slot Path) → slotOk pathShaped x ≡ true → slotOk pathShaped (notedSlot note x) ≡ true
+unfolding notedSlot slotOk pathShaped
+noted-shaped note empty h = h
+noted-shaped note (used p) h = h
 
-mark-keeps : (destination : List ℕ) (clock : ℕ) (r : Relay) → Shaped r → shape .paths (markPath destination clock r .paths)
-unfolding markPath withPaths viewAt slotOk
-mark-keeps destination clock r s =
-    all-set (slotOk pathShaped) (r .paths) _ _ (s .paths) (marked-shaped _ (all-getD (slotOk pathShaped) (r .paths) _ empty (s .paths) refl))
+note-keeps : (note : Note) (destination : List ℕ) (clock : ℕ) (r : Relay) → Shaped r → shape .paths (notePath note destination clock r .paths)
+unfolding notePath withPaths viewAt slotOk
+note-keeps note destination clock r s =
+    all-set (slotOk pathShaped) (r .paths) _ _ (s .paths) (noted-shaped note _ (all-getD (slotOk pathShaped) (r .paths) _ empty (s .paths) refl))
 
 table-keeps : (c : TableCall) (r : Relay) → all (isBytes addressWidth) (ruleOf c .addresses) ≡ true → Shaped r → TableKeeps shape r c
 unfolding ruleOf all slotOk
@@ -124,7 +125,7 @@ table-keeps (renumbers images) r b s = (
   all-map (slotOk linkShaped) _ (slot-renamed linkShaped (renameLink images) (link-renumbered images)) (r .links) (s .links),
   all-map (slotOk returnShaped) _ (slot-renamed returnShaped (renameReturn images) (return-renumbered images)) (r .returns .slots) (s .returns),
 )
-table-keeps (marks destination clock) r b s = (tt, mark-keeps destination clock r s)
+table-keeps (notes-path note destination clock) r b s = (tt, note-keeps note destination clock r s)
 
 -- a load that isn't refused sets what tables can hold
 load-shaped : (format : Format) (file : List ℕ) → CallBytes (loads format file) → eqb (loadRefusal (format .says file)) 0 ≡ true

@@ -16,13 +16,14 @@ use Rattle.octets.proofs.Index.{first-cong}
 use Rattle.octets.proofs.Choice.{same-eq, then-true, then-false, or-no-left, or-no-right}
 use Rattle.octets.proofs.Listed.{NoneHolds}
 use Rattle.numbers.specs.Numbers.{portCount, localCount, clockLimit}
-use Rattle.rules.specs.Relay.{Port, noPort, makePort, Slot, empty, used, Path, withPathMark, Relay, lowest, withClock, withRate, withPorts, withLocals, withPaths}
+use Rattle.rules.specs.Relay.{Port, noPort, makePort, Slot, empty, used, Path, withNote, Relay, lowest, withClock, withRate, withPorts, withLocals, withPaths}
 use Rattle.rules.specs.View.{View, viewAt, isLocal, localPlace, isLivePath, pathPlace}
 use Rattle.rules.specs.Renumbering.{oneToOne, preimage, movedPorts, renamePath, renameLink, renameReturn, renumbered}
 use Rattle.rules.specs.Refusals.{emptyLocal}
 use Rattle.rules.specs.Tests.{isThere}
-use Rattle.rules.specs.Writes.{markedSlot, markPath}
-use Rattle.rules.specs.Calls.{TableCall, sets-port, sets-rate, adds, removes, renumbers, marks, ruleOf}
+use Rattle.rules.specs.Writes.{notedSlot, notePath}
+use Rattle.rules.specs.declared.Note.{Note}
+use Rattle.rules.specs.Calls.{TableCall, sets-port, sets-rate, adds, removes, renumbers, notes-path, ruleOf}
 use Rattle.rules.proofs.Slots.{used-not-empty}
 use Rattle.rules.proofs.Images.{image-below, preimage-holds, source, source-port, source-other}
 use Rattle.rules.proofs.MovedPorts.{moved-at}
@@ -57,7 +58,7 @@ module _ (r : Relay) (valid : Valid r) (n : ℕ) (under : n < listLimit) (k : Kn
       (full-same localCount (r .locals) (h .locals .tells .size) ∙ ap (leb localCount) (h .locals .counted))
   rows-agree (removes address) = ap (λ (there : Bool). firstOf (not there gives 11 otherwise []) 0) (local-agrees h address)
   rows-agree (renumbers images) = refl
-  rows-agree (marks destination clock) =
+  rows-agree (notes-path note destination clock) =
       mark-agrees destination clock _ refl
       ∙ ap (λ (last : ℕ).
       firstOf (leb clockLimit clock or ltb clock last gives 5 otherwise not (isThere (seenAt clock k .path destination)) gives 12 otherwise []) 0) (h .clock)
@@ -150,17 +151,17 @@ module _ (r : Relay) (valid : Valid r) (n : ℕ) (under : n < listLimit) (k : Kn
       (ring-renamed (h .returns) (renameReturn images) (λ _. refl) (λ _ _. refl)) (h .hashes)
 
   -- ---- a mark
-  marked : UniqueAt (r .clock) r → (destination : List ℕ) (clock : ℕ) → r .clock ≤ clock → isThere (viewAt clock r .path destination) ≡ true
-      → Agrees clock (suc n) (changePath destination withPathMark k) (markPath destination clock r)
-  unfolding changePath markPath markedSlot viewAt pathPlace isLivePath isThere
-  marked u destination clock l there = go (viewAt clock r .path destination) refl there
+  noted : UniqueAt (r .clock) r → (note : Note) (destination : List ℕ) (clock : ℕ) → r .clock ≤ clock → isThere (viewAt clock r .path destination) ≡ true
+      → Agrees clock (suc n) (changePath destination (withNote note) k) (notePath note destination clock r)
+  unfolding changePath notePath notedSlot viewAt pathPlace isLivePath isThere
+  noted u note destination clock l there = go (viewAt clock r .path destination) refl there
     where
       go : (s : Slot Path) → viewAt clock r .path destination ≡ s → isThere s ≡ true
-          → Agrees clock (suc n) (changePath destination withPathMark k) (withPaths (set (r .paths) (pathPlace clock r destination) (markedSlot s)) r)
+          → Agrees clock (suc n) (changePath destination (withNote note) k) (withPaths (set (r .paths) (pathPlace clock r destination) (notedSlot note s)) r)
       go empty f t = absurd (false≢true t)
       go (used p) f t =
           let now : Agrees clock n k r = agrees-later h l in
-          paths-agree (agrees-more now) destination _ (table-changed (now .paths) (later r l u .paths .0) destination p f withPathMark (λ _. refl))
+          paths-agree (agrees-more now) destination _ (table-changed (now .paths) (later r l u .paths .0) destination p f (withNote note) (λ _. refl))
 
   -- ---- each call, where no row refuses it
   pub call-agrees : UniqueAt (r .clock) r → (c : TableCall) → NoneHolds (ruleOf c .rows r)
@@ -172,5 +173,5 @@ module _ (r : Relay) (valid : Valid r) (n : ℕ) (under : n < listLimit) (k : Kn
   call-agrees u (adds address) p = locals-agree (agrees-more h) address true (added address (p .0) (leb-false _ _ (p .1 .0)))
   call-agrees u (removes address) p = locals-agree (agrees-more h) address false (removed u address (not-false _ (p .0)))
   call-agrees u (renumbers images) p = agrees-more (renumbering-agrees images (not-false _ (p .0)))
-  call-agrees u (marks destination clock) p =
-      clock-agrees (marked u destination clock (ltb-false _ _ (or-no-right _ _ (p .0))) (not-false _ (p .1 .0))) clock
+  call-agrees u (notes-path note destination clock) p =
+      clock-agrees (noted u note destination clock (ltb-false _ _ (or-no-right _ _ (p .0))) (not-false _ (p .1 .0))) clock

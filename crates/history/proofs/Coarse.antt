@@ -17,7 +17,7 @@ use Rattle.rules.specs.View.{View}
 use Rattle.rules.specs.Arrival.{Arrival, destination, hash, isLinkProof}
 use Rattle.rules.specs.Exempt.{exempt}
 use Rattle.rules.specs.Ways.{Way, everywhere, by-path, along-link, by-return, blocked, noPath, pathWay, linkWay, returnWay, wayOn}
-use Rattle.rules.specs.Tests.{notOurs, forMarkedPath, testedAsDuplicate, duplicate, ownAnnounce, deliveredHere, noWayOn, whyBlocked, followsProvedLink, alreadyKnown, wrongSide, ofKnown, replay, notBetter, rateLimited, isRateLimited, leavingPort, portOff, tooLongForPort, noRoom}
+use Rattle.rules.specs.Tests.{notOurs, forMarkedPath, testedAsDuplicate, duplicate, ownAnnounce, deliveredHere, noWayOn, whyBlocked, followsProvedLink, alreadyKnown, wrongSide, ofKnown, knownTests, leavingPort, portOff, tooLongForPort, noRoom}
 use Rattle.rules.specs.Answers.{caseNumber, reasonNumber}
 use Rattle.rules.specs.Outgoing.{spreadPorts, outgoing}
 use Rattle.rules.specs.Judging.{Plan, dropped, delivered, follows, earlyTests, onwardTests, onwardPlan, plan, spreadVerdict, wayVerdict, verdict, leaves, outputAfter}
@@ -115,8 +115,8 @@ module _ (v : View) (a : Arrival) where
       (choice _ _ _ asking-coarse (path-coarse (v .path (destination a)) (v .expired (destination a))))))
 
   onward-coarse : (w : Way) → coarsePlan (onwardPlan v a w) ≡ onwardPlan (unexpired v) a (coarseWay w)
-  unfolding onwardPlan onwardTests firstOf valued coarsePlan coarseWay coarseReason noWayOn whyBlocked followsProvedLink alreadyKnown wrongSide ofKnown replay
-      notBetter rateLimited isRateLimited leavingPort portOff tooLongForPort outgoing noRoom unexpired _then_otherwise_ _and_
+  unfolding onwardPlan onwardTests firstOf valued coarsePlan coarseWay coarseReason noWayOn whyBlocked followsProvedLink alreadyKnown wrongSide
+      knownTests ofKnown leavingPort portOff tooLongForPort outgoing noRoom unexpired _then_otherwise_ _and_
   onward-coarse (everywhere empty) = first-ap coarsePlan (onwardTests v a (everywhere empty)) (follows (everywhere empty))
   onward-coarse (everywhere (used p)) = first-ap coarsePlan (onwardTests v a (everywhere (used p))) (follows (everywhere (used p)))
   onward-coarse (by-path p) = first-ap coarsePlan (onwardTests v a (by-path p)) (follows (by-path p))

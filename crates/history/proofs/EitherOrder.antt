@@ -16,7 +16,7 @@ use Rattle.octets.specs.Choice.{_then_otherwise_, _or_, same}
 use Rattle.octets.specs.Listed.{_gives_otherwise_, firstOf}
 use Rattle.octets.proofs.Index.{and-no, and-yes, first-before}
 use Rattle.octets.proofs.Choice.{then-true, then-false, ne-same, same-eq}
-use Rattle.octets.proofs.Listed.{none-first, past}
+use Rattle.octets.proofs.Listed.{NoneHolds, none-first, past}
 use Rattle.packet.specs.Header.{isAnnounce}
 use Rattle.packet.specs.Read.{readingRefusal}
 use Rattle.packet.specs.Write.{leastOutput}
@@ -26,7 +26,7 @@ use Rattle.rules.specs.View.{View, viewAt, portOn, portMode, portSize, isLocal,
 use Rattle.rules.specs.Refusals.{slotOk, pathOk, tablesOk, packetRows, refusalBy, packetRefusal}
 use Rattle.rules.specs.Arrival.{Arrival, header, destination, hash}
 use Rattle.rules.specs.Ways.{everywhere, by-path, along-link, by-return, blocked}
-use Rattle.rules.specs.Tests.{notOurs, forMarkedPath, testedAsDuplicate, duplicate, ownAnnounce, deliveredHere, alreadyKnown, rateLimited, isRateLimited, ofKnown, portOff, tooLongForPort, noRoom}
+use Rattle.rules.specs.Tests.{notOurs, forMarkedPath, testedAsDuplicate, duplicate, ownAnnounce, deliveredHere, alreadyKnown, knownTests, portOff, tooLongForPort, noRoom}
 use Rattle.rules.specs.Answers.{verdictKind}
 use Rattle.rules.specs.Outgoing.{spreadPacket, spreadPorts, outgoing}
 use Rattle.rules.specs.Judging.{Plan, dropped, delivered, follows, earlyTests, onwardTests, onwardPlan, plan, wayVerdict, verdict, outputAfter}
@@ -39,6 +39,7 @@ use Rattle.rules.specs.declared.Tally.{Tally}
 use Rattle.rules.proofs.Choices.{either}
 use Rattle.rules.proofs.Tables.{table-length}
 use Rattle.rules.proofs.Slots.{used-same, found-key, none-live}
+use Rattle.rules.proofs.Joined.{none-joined}
 use Rattle.rules.proofs.Passed.{Passed, passed}
 use Rattle.rules.proofs.Followed.{Planned, planned}
 use Rattle.rules.proofs.Accepted.{accepted-packet}
@@ -276,8 +277,13 @@ module _ (r : Relay) (t : Tally) (a b : Arrival) (outA outB : List ℕ) (m : Mee
   unfolding isSpread
   announce-b = spread-announce v b (ap isSpread (passed v b _ planned-b .0))
 
+  -- the tests of its path read of the view what didn't change
+  known-second : NoneHolds (knownTests v′ b (everywhere (v .path (destination b))))
+  unfolding knownTests viewAt changed
+  known-second = passes .known
+
   planned-second : plan v′ b ≡ follows (everywhere (v .path (destination b)))
-  unfolding plan onwardPlan earlyTests onwardTests notOurs ownAnnounce deliveredHere alreadyKnown rateLimited isRateLimited ofKnown portOff
+  unfolding plan onwardPlan earlyTests onwardTests notOurs ownAnnounce deliveredHere alreadyKnown portOff
       tooLongForPort outgoing spreadPacket viewAt portOn portSize isLocal localPlace linkPlace changed
   planned-second =
       none-first (earlyTests v′ b) _ (passes .ours, (not-duplicate, (passes .form, (passes .notOwn, (passes .elsewhere, (passes .fewHops, tt))))))
@@ -290,13 +296,8 @@ module _ (r : Relay) (t : Tally) (a b : Arrival) (outA outB : List ℕ) (m : Mee
             passes .side,
             (
               passes .signed,
-              (
-                passes .newBlob,
-                (
-                  passes .better,
-                  (passes .unlimited, (passes .portOn, (passes .fits, (room-second _, tt)))),
-                ),
-              ),
+              none-joined dropped (knownTests v′ b (everywhere (v .path (destination b)))) _ known-second
+                  (passes .portOn, (passes .fits, (room-second _, tt))),
             ),
           ),
         ),

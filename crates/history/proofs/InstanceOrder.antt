@@ -11,7 +11,7 @@ use Rattle.octets.specs.Choice.{same}
 use Rattle.octets.proofs.Choice.{same-ne}
 use Rattle.packet.specs.Hash.{packetHash}
 use Rattle.numbers.specs.Numbers.{blobLimit}
-use Rattle.rules.specs.Relay.{used, Path, Relay}
+use Rattle.rules.specs.Relay.{noNotes, used, Path, Relay}
 use Rattle.rules.specs.Blobs.{noBlob}
 use Rattle.rules.specs.Rate.{startsAt}
 use Rattle.rules.specs.View.{viewAt}
@@ -54,7 +54,7 @@ storePath =
       nextHop = store;
       expiry = 605800;
       rate = startsAt 1000;
-      marked = false;
+      notes = noNotes;
       blobs = record { count = 1; places = blobWith emission ∷ replicate (blobLimit - 1) noBlob };
     }
 

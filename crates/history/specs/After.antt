@@ -8,7 +8,7 @@ use Rattle.octets.specs.Choice.{_then_otherwise_}
 use Rattle.packet.specs.Header.{isData}
 use Rattle.packet.specs.Hash.{linkId}
 use Rattle.numbers.specs.Numbers.{hashLifetime}
-use Rattle.rules.specs.Relay.{makePort, makeRateSettings, empty, used, Path, withPathRate, withPathMark}
+use Rattle.rules.specs.Relay.{makePort, makeRateSettings, empty, used, Path, withPathRate, withNote}
 use Rattle.rules.specs.View.{View}
 use Rattle.rules.specs.Renumbering.{preimage, renamePath, renameLink, renameReturn, renameSlot}
 use Rattle.rules.specs.Arrival.{Arrival, header, destination, hash}
@@ -16,7 +16,7 @@ use Rattle.rules.specs.Rate.{entryDropped}
 use Rattle.rules.specs.Ways.{Way, everywhere, by-path, along-link, by-return, blocked}
 use Rattle.rules.specs.Judging.{Plan, dropped, delivered, follows, plan}
 use Rattle.rules.specs.Writes.{remembers, announcedPath, returnKey, returnRecord, linkRecord, renewedLink, isRateDrop}
-use Rattle.rules.specs.Calls.{TableCall, sets-port, sets-rate, adds, removes, renumbers, marks}
+use Rattle.rules.specs.Calls.{TableCall, sets-port, sets-rate, adds, removes, renumbers, notes-path}
 use Rattle.rules.specs.declared.Reason.{Reason}
 use Rattle.history.specs.Known.{Known, makeKnown, freshKnown, seenAt, nowPath, nowLink, nowReturn, nowUntil, nowClock, nowRate, nowPort, nowLocal, changePath}
 
@@ -73,7 +73,7 @@ afterCall (adds address) k = nowLocal address true (k .locals + 1) k
 afterCall (removes address) k = nowLocal address false (k .locals - 1) k
 afterCall (renumbers images) k = renumberedKnown images k
 -- wish 6: the destination's path is marked, and "An accepted mark sets the last clock."
-afterCall (marks destination clock) k = nowClock clock (changePath destination withPathMark k)
+afterCall (notes-path note destination clock) k = nowClock clock (changePath destination (withNote note) k)
 
 -- ---- the list, the newest call first
 -- An accepted call is a packet that came, dropped or not, or a call on the tables; "none a load, save or replay". A replay is the packets that it brings, one by

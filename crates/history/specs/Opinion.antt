@@ -16,7 +16,7 @@ use Rattle.rules.specs.Refusals.{rateSettingsOk}
 use Rattle.rules.specs.Arrival.{Arrival}
 use Rattle.rules.specs.Tests.{isThere}
 use Rattle.rules.specs.Judging.{plan, verdict, outputAfter}
-use Rattle.rules.specs.Calls.{TableCall, sets-port, sets-rate, adds, removes, renumbers, marks}
+use Rattle.rules.specs.Calls.{TableCall, sets-port, sets-rate, adds, removes, renumbers, notes-path}
 use Rattle.rules.specs.Run.{Call, packet, on-tables, asks, saves, loads, Reply, answered, numbered}
 use Rattle.rules.specs.declared.Answer.the-variants.{Refused, Judged}
 use Rattle.history.specs.Known.{Known, seenAt}
@@ -45,7 +45,7 @@ callRows k (sets-rate target grace penalty) = not (rateSettingsOk (makeRateSetti
 callRows k (adds address) = k .local address gives 11 otherwise leb localCount (k .locals) gives 10 otherwise []
 callRows k (removes address) = not (k .local address) gives 11 otherwise []
 callRows k (renumbers images) = not (oneToOne images) gives 8 otherwise []
-callRows k (marks destination clock) =
+callRows k (notes-path note destination clock) =
     clockBad k clock gives 5 otherwise
     not (isThere (seenAt clock k .path destination)) gives 12 otherwise
     []

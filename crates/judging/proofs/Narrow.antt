@@ -14,12 +14,12 @@ use Rattle.rules.specs.Relay.{Slot, empty, used, Path}
 use Rattle.rules.specs.View.{View}
 use Rattle.rules.specs.Arrival.{Arrival, header, destination, hash, isLinkProof}
 use Rattle.rules.specs.Ways.{Way, everywhere, by-path, along-link, by-return, blocked, pathWay, linkWay, returnWay, wayOn}
-use Rattle.rules.specs.Tests.{notOurs, forMarkedPath, testedAsDuplicate, duplicate, requestOfKindLink, formTests, badForm, ownAnnounce, deliveredHere, noWayOn, whyBlocked, isThere, followsProvedLink, alreadyKnown, wrongSide, notSigned, replay, notBetter, isRateLimited, rateLimited, leavingPort, portOff, tooLongForPort, noRoom}
+use Rattle.rules.specs.Tests.{notOurs, forMarkedPath, testedAsDuplicate, duplicate, requestOfKindLink, formTests, badForm, ownAnnounce, deliveredHere, noWayOn, whyBlocked, isThere, followsProvedLink, alreadyKnown, wrongSide, notSigned, knownTests, leavingPort, portOff, tooLongForPort, noRoom}
 use Rattle.rules.specs.Outgoing.{spreadPorts, outgoing, exceeds}
-use Rattle.rules.specs.Judging.{Plan, dropped, delivered, follows, earlyTests, onwardTests, onwardPlan, plan, wayVerdict, verdict, outputAfter}
+use Rattle.rules.specs.Judging.{Plan, dropped, delivered, follows, earlyTests, _each-give_otherwise_, onwardTests, onwardPlan, plan, wayVerdict, verdict, outputAfter}
 use Rattle.rules.specs.Writes.{alreadyLive, remembers, announcedRate, announcedPath}
 use Rattle.rules.specs.declared.Blocked.the-variants.{NotAsking}
-use Rattle.rules.specs.declared.Reason.the-variants.{NoWayOn, AlreadyKnown, WrongSide, NotSigned, Replay, NotBetter, RateLimited, PortOff, TooLongForPort, NoRoom}
+use Rattle.rules.specs.declared.Reason.the-variants.{NoWayOn, AlreadyKnown, WrongSide, NotSigned, PortOff, TooLongForPort, NoRoom}
 use Rattle.judging.specs.declared.Seen.{Seen}
 use Rattle.judging.specs.Seen.{linkKeyOf, linkKey, viewOf, Sees}
 use Rattle.judging.specs.Steps.{settingsView}
@@ -91,16 +91,14 @@ module _ (v : View) (a : Arrival) where
   room (blocked why) = refl
 
   onward : (w : Way) → onwardPlan narrow a w ≡ onwardPlan v a w
-  unfolding onwardPlan onwardTests rateLimited isRateLimited portOff
+  unfolding onwardPlan onwardTests knownTests portOff
   onward w = λ i.
       firstOf
       (noWayOn w gives dropped (NoWayOn (whyBlocked w)) otherwise
       known w i gives dropped AlreadyKnown otherwise
       wrongSide a w gives dropped WrongSide otherwise
       notSigned a gives dropped NotSigned otherwise
-      replay a w gives dropped Replay otherwise
-      notBetter a w gives dropped NotBetter otherwise
-      rateLimited v a w gives dropped RateLimited otherwise
+      knownTests v a w each-give dropped otherwise
       portOff v a w gives dropped PortOff otherwise
       too-long w i gives dropped TooLongForPort otherwise
       room w i gives dropped NoRoom otherwise

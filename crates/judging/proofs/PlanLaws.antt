@@ -2,17 +2,19 @@
 use Prim.Native.Nat.{ℕ}
 use mathlib.Core.Bool.{true, false}
 use mathlib.Core.List.{[]}
-use mathlib.Core.Path.{_≡_}
+use mathlib.Core.Path.{_≡_, _∙_}
 use lib.ListN.{drop}
-use Rattle.octets.specs.Listed.{firstOf}
-use Rattle.octets.proofs.Listed.{here, past}
+use Rattle.octets.specs.Listed.{firstOf, valued}
+use Rattle.octets.proofs.Listed.{here, past, none-first}
+use Rattle.rules.proofs.Joined.{joined-first, none-valued}
+use Rattle.rules.proofs.Passed.{none-known}
 use Rattle.rules.specs.View.{View}
 use Rattle.rules.specs.Arrival.{Arrival, hops}
 use Rattle.rules.specs.Ways.{Way, wayOn}
-use Rattle.rules.specs.Tests.{notOurs, duplicate, badForm, failing, ownAnnounce, deliveredHere, tooManyHops, noWayOn, whyBlocked, alreadyKnown, wrongSide, notSigned, replay, notBetter, rateLimited, portOff, tooLongForPort, noRoom}
+use Rattle.rules.specs.Tests.{notOurs, duplicate, badForm, failing, ownAnnounce, deliveredHere, tooManyHops, noWayOn, whyBlocked, alreadyKnown, wrongSide, notSigned, ofKnown, knownTests}
 use Rattle.rules.specs.Judging.{Plan, dropped, delivered, follows, earlyTests, onwardTests, onwardPlan, plan}
-use Rattle.rules.specs.declared.Reason.the-variants.{NotOurs, Duplicate, BadForm, OwnAnnounce, TooManyHops, NoWayOn, AlreadyKnown, WrongSide, NotSigned, Replay, NotBetter, RateLimited, PortOff, TooLongForPort, NoRoom}
-use Rattle.judging.specs.Steps.{lastPlan}
+use Rattle.rules.specs.declared.Reason.the-variants.{NotOurs, Duplicate, BadForm, OwnAnnounce, TooManyHops, NoWayOn, AlreadyKnown, WrongSide, NotSigned}
+use Rattle.judging.specs.Steps.{leavingTests, leavingPlan, lastPlan}
 
 -- what the tests behind the first n say
 unfoldable pub earlyFrom : ℕ → View → Arrival → Plan
@@ -74,77 +76,38 @@ module _ (v : View) (a : Arrival) where
   module _ (w : Way) where
     -- ---- tests 6 to 9, and those behind them
     pub onward-6 : noWayOn w ≡ true → onwardPlan v a w ≡ dropped (NoWayOn (whyBlocked w))
-    unfolding onwardPlan onwardFrom lastPlan onwardTests
+    unfolding onwardPlan onwardFrom onwardTests
     onward-6 e = here _ _ _ _ e
 
     pub past-6 : noWayOn w ≡ false → onwardPlan v a w ≡ onwardFrom 1 v a w
-    unfolding onwardPlan onwardFrom lastPlan onwardTests
+    unfolding onwardPlan onwardFrom onwardTests
     past-6 e = past _ _ _ _ e
 
     pub onward-7 : alreadyKnown v a w ≡ true → onwardFrom 1 v a w ≡ dropped AlreadyKnown
-    unfolding onwardPlan onwardFrom lastPlan onwardTests
+    unfolding onwardPlan onwardFrom onwardTests
     onward-7 e = here _ _ _ _ e
 
     pub past-7 : alreadyKnown v a w ≡ false → onwardFrom 1 v a w ≡ onwardFrom 2 v a w
-    unfolding onwardPlan onwardFrom lastPlan onwardTests
+    unfolding onwardPlan onwardFrom onwardTests
     past-7 e = past _ _ _ _ e
 
     pub onward-8 : wrongSide a w ≡ true → onwardFrom 2 v a w ≡ dropped WrongSide
-    unfolding onwardPlan onwardFrom lastPlan onwardTests
+    unfolding onwardPlan onwardFrom onwardTests
     onward-8 e = here _ _ _ _ e
 
     pub past-8 : wrongSide a w ≡ false → onwardFrom 2 v a w ≡ onwardFrom 3 v a w
-    unfolding onwardPlan onwardFrom lastPlan onwardTests
+    unfolding onwardPlan onwardFrom onwardTests
     past-8 e = past _ _ _ _ e
 
     pub onward-9 : notSigned a ≡ true → onwardFrom 3 v a w ≡ dropped NotSigned
-    unfolding onwardPlan onwardFrom lastPlan onwardTests
+    unfolding onwardPlan onwardFrom onwardTests
     onward-9 e = here _ _ _ _ e
 
     pub past-9 : notSigned a ≡ false → onwardFrom 3 v a w ≡ lastPlan v a w
-    unfolding onwardPlan onwardFrom lastPlan onwardTests
-    past-9 e = past _ _ _ _ e
+    unfolding onwardFrom lastPlan leavingPlan leavingTests onwardTests
+    past-9 e = past _ _ _ _ e ∙ joined-first dropped (knownTests v a w) (leavingTests v a w) (follows w)
 
-    pub onward-10 : replay a w ≡ true → lastPlan v a w ≡ dropped Replay
-    unfolding onwardPlan onwardFrom lastPlan onwardTests
-    onward-10 e = here _ _ _ _ e
-
-    pub past-10 : replay a w ≡ false → lastPlan v a w ≡ onwardFrom 5 v a w
-    unfolding onwardPlan onwardFrom lastPlan onwardTests
-    past-10 e = past _ _ _ _ e
-
-    pub onward-11 : notBetter a w ≡ true → onwardFrom 5 v a w ≡ dropped NotBetter
-    unfolding onwardPlan onwardFrom lastPlan onwardTests
-    onward-11 e = here _ _ _ _ e
-
-    pub past-11 : notBetter a w ≡ false → onwardFrom 5 v a w ≡ onwardFrom 6 v a w
-    unfolding onwardPlan onwardFrom lastPlan onwardTests
-    past-11 e = past _ _ _ _ e
-
-    pub onward-15 : rateLimited v a w ≡ true → onwardFrom 6 v a w ≡ dropped RateLimited
-    unfolding onwardPlan onwardFrom lastPlan onwardTests
-    onward-15 e = here _ _ _ _ e
-
-    pub past-15 : rateLimited v a w ≡ false → onwardFrom 6 v a w ≡ onwardFrom 7 v a w
-    unfolding onwardPlan onwardFrom lastPlan onwardTests
-    past-15 e = past _ _ _ _ e
-
-    pub onward-12 : portOff v a w ≡ true → onwardFrom 7 v a w ≡ dropped PortOff
-    unfolding onwardPlan onwardFrom lastPlan onwardTests
-    onward-12 e = here _ _ _ _ e
-
-    pub past-12 : portOff v a w ≡ false → onwardFrom 7 v a w ≡ onwardFrom 8 v a w
-    unfolding onwardPlan onwardFrom lastPlan onwardTests
-    past-12 e = past _ _ _ _ e
-
-    pub onward-16 : tooLongForPort v a w ≡ true → onwardFrom 8 v a w ≡ dropped TooLongForPort
-    unfolding onwardPlan onwardFrom lastPlan onwardTests
-    onward-16 e = here _ _ _ _ e
-
-    pub past-16 : tooLongForPort v a w ≡ false → onwardFrom 8 v a w ≡ onwardFrom 9 v a w
-    unfolding onwardPlan onwardFrom lastPlan onwardTests
-    past-16 e = past _ _ _ _ e
-
-    pub past-13 : noRoom v a w ≡ false → onwardFrom 9 v a w ≡ follows w
-    unfolding onwardFrom onwardTests firstOf
-    past-13 e = past (noRoom v a w) (dropped NoRoom) [] (follows w) e
+    -- ---- the tests of a known path, where they aren't made
+    pub past-known : ofKnown a (λ p. true) w ≡ false → lastPlan v a w ≡ leavingPlan v a w
+    unfolding lastPlan
+    past-known e = none-first (valued dropped (knownTests v a w)) _ (none-valued dropped _ (none-known v a w e))

@@ -138,28 +138,10 @@ module _ (s : Seen) (a : Arrival) where
     abbrev p : Path
     p = pathRecord (destination a) (s .path)
 
-    known-no : (n t : Bool) → (n and true) ≡ false → (n and t) ≡ false
-    unfolding _and_
-    known-no true t e = absurd (false≢true (sym e))
-    known-no false t e = refl
-
     known-yes : (n t : Bool) → (n and true) ≡ true → (n and t) ≡ t
     unfolding _and_
     known-yes true t e = refl
     known-yes false t e = absurd (false≢true e)
-
-    pub test-no : (w : SeenWay) → ofKnown a (λ q. true) (wayOf s a w) ≡ false → ofKnown a test (wayOf s a w) ≡ false
-    unfolding ofKnown pathOf _then_otherwise_
-    test-no Everywhere e = go (s .path .there) e
-      where
-        go : (b : Bool) → ofKnown a (λ q. true) (everywhere (b then used p otherwise empty)) ≡ false
-            → ofKnown a test (everywhere (b then used p otherwise empty)) ≡ false
-        go true h = known-no _ _ h
-        go false h = refl
-    test-no ByPath e = refl
-    test-no AlongLink e = refl
-    test-no ByReturn e = refl
-    test-no (Blocked why) e = refl
 
     pub test-yes : (w : SeenWay) → ofKnown a (λ q. true) (wayOf s a w) ≡ true → ofKnown a test (wayOf s a w) ≡ test p
     unfolding ofKnown pathOf _then_otherwise_

@@ -4,26 +4,27 @@ use mathlib.Core.Bool.{Bool, true, false, not}
 use mathlib.Core.List.{List, []}
 use mathlib.Core.Path.{_≡_}
 use lib.Dec.{eqb, ltb, leb}
-use lib.ListN.{length, getD, drop}
+use lib.ListN.{length, getD}
 use Rattle.octets.specs.Index.{_and_}
 use Rattle.octets.specs.Choice.{_then_otherwise_, _or_}
-use Rattle.octets.specs.Listed.{firstOf}
+use Rattle.octets.specs.Listed.{Test, _gives_otherwise_, firstOf, valued}
 use Rattle.octets.specs.Part.{patch}
 use Rattle.packet.specs.Read.{longestPacket, reads, payload}
 use Rattle.packet.specs.Announce.{emissionOf}
 use Rattle.numbers.specs.Numbers.{blobLimit}
-use Rattle.rules.specs.Relay.{empty, used, Blobs, withPathRate}
+use Rattle.rules.specs.Relay.{empty, used, Blobs, Path, withPathRate}
 use Rattle.rules.specs.View.{View}
 use Rattle.rules.specs.Arrival.{Arrival, destination}
 use Rattle.rules.specs.Blobs.{held, greatestEmission, oneBlob, storeBlob}
 use Rattle.rules.specs.Rate.{startsAt, entryAccepted, entryRevived, entryDropped}
-use Rattle.rules.specs.Tests.{ofKnown}
+use Rattle.rules.specs.Tests.{ofKnown, knownTests, portOff, tooLongForPort, noRoom}
 use Rattle.rules.specs.Ways.{Way}
 use Rattle.rules.specs.Outgoing.{outgoing}
-use Rattle.rules.specs.Judging.{Plan, follows, onwardTests, wayVerdict, leaves}
+use Rattle.rules.specs.Judging.{Plan, dropped, follows, wayVerdict, leaves}
 use Rattle.rules.specs.Writes.{returnKey, returnRecord, remembersDrop}
 use Rattle.rules.specs.declared.RateSettings.{RateSettings}
 use Rattle.rules.specs.declared.RateEntry.{RateEntry}
+use Rattle.rules.specs.declared.Reason.the-variants.{PortOff, TooLongForPort, NoRoom}
 use Rattle.rules.specs.declared.Verdict.{Verdict}
 use Rattle.rules.specs.declared.Blocked.the-variants.{NoPath, NoLink, NotProved, NoReturn}
 use Rattle.judging.specs.declared.Arrived.{Arrived}
@@ -37,7 +38,7 @@ use Rattle.judging.specs.declared.SeenWay.the-variants.{Everywhere, ByPa
 use Rattle.judging.specs.declared.Planned.{Planned}
 use Rattle.judging.specs.declared.Planned.the-variants.{Drop, Deliver, Follow}
 use Rattle.judging.specs.declared.Stored.{Stored}
-use Rattle.judging.specs.Seen.{arrivalOf, blobsIn, blobsOf, pathRecord, returnOf, noSeenPort, viewOf, Fits, wayOf}
+use Rattle.judging.specs.Seen.{arrivalOf, blobsIn, blobsOf, pathRecord, returnOf, noSeenPort, viewOf, Fits, wayOf, asSeen}
 
 -- ---- the way on, by the record that is seen
 unfoldable pub linkWayBy : Bool → SeenLink → SeenWay
@@ -60,7 +61,7 @@ provedBy AlongLink proved = proved
 provedBy ByReturn proved = false
 provedBy (Blocked why) proved = false
 
--- ---- tests 10, 11 and 15
+-- ---- the tests of a known path
 -- what a caller shows: only an announce goes everywhere, and its form is good
 pub record CanTest (s : Seen) (packet : List ℕ) (w : SeenWay) : Type 0 where
   pub readable : reads longestPacket packet ≡ true
@@ -72,9 +73,28 @@ pub record Tested (s : Seen) (packet : List ℕ) (m : Arrived) (w : SeenWay) (r 
   pub made : r ≡ ofKnown (arrivalOf packet m) (λ p. true) (wayOf s (arrivalOf packet m) w)
   pub long : r ≡ true → 84 ≤ length (payload packet)
 
--- the plan of tests 10 to 13, 15 and 16
+-- one of them, of the path that is seen, and what a caller shows
+abbrev pub ofSeenPath : (View → Arrival → Path → Bool) → Seen → List ℕ → Arrived → Bool
+ofSeenPath test s packet m = asSeen test s packet m (pathRecord (destination (arrivalOf packet m)) (s .path))
+
+pub record CanKnow (s : Seen) (packet : List ℕ) : Type 0 where
+  pub readable : reads longestPacket packet ≡ true
+  pub fits : Fits s
+  pub long : 84 ≤ length (payload packet)
+
+-- the plan of tests 12, 16 and 13, and of all behind 9
+unfoldable pub leavingTests : View → Arrival → Way → List (Test Plan)
+leavingTests v a w =
+    portOff v a w gives dropped PortOff otherwise
+    tooLongForPort v a w gives dropped TooLongForPort otherwise
+    noRoom v a w gives dropped NoRoom otherwise
+    []
+
+unfoldable pub leavingPlan : View → Arrival → Way → Plan
+leavingPlan v a w = firstOf (leavingTests v a w) (follows w)
+
 unfoldable pub lastPlan : View → Arrival → Way → Plan
-lastPlan v a w = firstOf (drop 4 (onwardTests v a w)) (follows w)
+lastPlan v a w = firstOf (valued dropped (knownTests v a w)) (leavingPlan v a w)
 
 -- ---- what leaves
 -- whether an announce that came in by a port, and is so long once spread, leaves by another

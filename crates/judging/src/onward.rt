@@ -19,11 +19,11 @@ ghost use mathlib.Core.Path.{_≡_};
 ghost use mathlib.Core.Bool.{true, false};
 ghost use Rattle.packet.specs.Read.{longestPacket, reads};
 ghost use Rattle.rules.specs.Tests.{badForm, alreadyKnown, wrongSide, notSigned};
-ghost use Rattle.rules.specs.Tests.{replay as isReplay, notBetter, rateLimited, portOff, tooLongForPort};
+ghost use Rattle.rules.specs.Tests.{isReplay, isNotBetter, isRateLimited, portOff, tooLongForPort};
 ghost use Rattle.rules.specs.Ways.{wayOn};
 ghost use Rattle.rules.specs.Judging.{onwardPlan};
 ghost use Rattle.judging.specs.Seen.{arrivalOf, Fits, wayOf, planOf, asSeen, onSeenWay};
-ghost use Rattle.judging.specs.Steps.{provedBy, CanTest, Tested, lastPlan};
+ghost use Rattle.judging.specs.Steps.{provedBy, CanTest, Tested, CanKnow, ofSeenPath, lastPlan, leavingPlan};
 
 // Whether the way is a link, and that is proved.
 fn follows_proved_link(seen: Seen, way: SeenWay) -> bool
@@ -80,7 +80,7 @@ fn not_signed(packet: &[u8], arrived: Arrived) -> bool
     both(asked, !arrived.signed)
 }
 
-// Whether tests 10, 11 and 15 are made: of an announce whose destination has a live path, unless it revives that.
+// Whether the tests of a known path are made: of an announce whose destination has one, unless it revives that.
 fn tested(seen: Seen, packet: &[u8], arrived: Arrived, way: SeenWay) -> bool
     requires { ⌜ CanTest seen (now packet) way ⌝ }
     ensures { λ r. ⌜ Tested seen (now (packet .entry)) arrived way r ⌝ }
@@ -96,28 +96,20 @@ fn tested(seen: Seen, packet: &[u8], arrived: Arrived, way: SeenWay) -> bool
 }
 
 // Test 10: the blob is stored.
-fn replay(seen: Seen, packet: &[u8], arrived: Arrived, way: SeenWay) -> bool
-    requires { ⌜ CanTest seen (now packet) way ⌝ }
-    ensures { λ r. ⌜ r ≡ isReplay (arrivalOf (now (packet .entry)) arrived)
-        (wayOf seen (arrivalOf (now (packet .entry)) arrived) way) ⌝ }
+fn replay(seen: Seen, packet: &[u8], arrived: Arrived) -> bool
+    requires { ⌜ CanKnow seen (now packet) ⌝ }
+    ensures { λ r. ⌜ r ≡ ofSeenPath (λ v. isReplay) seen (now (packet .entry)) arrived ⌝ }
 {
-    if !tested(seen, packet, arrived, way) {
-        return false;
-    }
     let path = seen.path;
     let blobs = path.blobs;
     holds_blob(blobs, path.count, packet::blob(packet::payload(packet)))
 }
 
 // Test 11: emission not above the greatest among stored blobs, and hops not below the stored hops.
-fn not_better(seen: Seen, packet: &[u8], arrived: Arrived, way: SeenWay) -> bool
-    requires { ⌜ CanTest seen (now packet) way ⌝ }
-    ensures { λ r. ⌜ r ≡ notBetter (arrivalOf (now (packet .entry)) arrived)
-        (wayOf seen (arrivalOf (now (packet .entry)) arrived) way) ⌝ }
+fn not_better(seen: Seen, packet: &[u8], arrived: Arrived) -> bool
+    requires { ⌜ CanKnow seen (now packet) ⌝ }
+    ensures { λ r. ⌜ r ≡ ofSeenPath (λ v. isNotBetter) seen (now (packet .entry)) arrived ⌝ }
 {
-    if !tested(seen, packet, arrived, way) {
-        return false;
-    }
     let path = seen.path;
     let blobs = path.blobs;
     let most = greatest_emission(blobs, path.count);
@@ -126,13 +118,10 @@ fn not_better(seen: Seen, packet: &[u8], arrived: Arrived, way: SeenWay) -> bool
 }
 
 // Test 15: the rate rule.
-fn rate_limited(seen: Seen, packet: &[u8], arrived: Arrived, way: SeenWay) -> bool
-    requires { ⌜ CanTest seen (now packet) way ⌝ }
-    ensures { λ r. ⌜ r ≡ onSeenWay rateLimited seen (now (packet .entry)) arrived way ⌝ }
+fn rate_limited(seen: Seen, packet: &[u8], arrived: Arrived) -> bool
+    requires { ⌜ CanKnow seen (now packet) ⌝ }
+    ensures { λ r. ⌜ r ≡ ofSeenPath isRateLimited seen (now (packet .entry)) arrived ⌝ }
 {
-    if !tested(seen, packet, arrived, way) {
-        return false;
-    }
     let settings = seen.rate;
     let entry = seen.path.rate;
     let rated = rate::rule(settings, arrived.clock, entry);
@@ -160,22 +149,12 @@ fn too_long_for_port(seen: Seen, packet: &[u8], arrived: Arrived, way: SeenWay) 
     both(!packet::is_announce(packet[0]), port.size < length)
 }
 
-// Tests 10, 11 and 15 of an announce, and then 12 and 16 of what leaves by one port. Test 13 has nothing to find: what
-// is seen has room.
-fn plan_last(seen: Seen, packet: &[u8], arrived: Arrived, way: SeenWay) -> Planned
-    requires { ⌜ CanTest seen (now packet) way ⌝ }
+// Tests 12 and 16 of what leaves by one port. Test 13 has nothing to find: what is seen has room.
+fn plan_leaving(seen: Seen, packet: &[u8], arrived: Arrived, way: SeenWay) -> Planned
+    requires { ⌜ reads longestPacket (now packet) ≡ true ⌝ }
     ensures { λ r. ⌜ planOf seen (arrivalOf (now (packet .entry)) arrived) r
-        ≡ onSeenWay lastPlan seen (now (packet .entry)) arrived way ⌝ }
+        ≡ onSeenWay leavingPlan seen (now (packet .entry)) arrived way ⌝ }
 {
-    if replay(seen, packet, arrived, way) {
-        return Planned::Drop(Reason::Replay);
-    }
-    if not_better(seen, packet, arrived, way) {
-        return Planned::Drop(Reason::NotBetter);
-    }
-    if rate_limited(seen, packet, arrived, way) {
-        return Planned::Drop(Reason::RateLimited);
-    }
     if port_off(seen, packet, arrived, way) {
         return Planned::Drop(Reason::PortOff);
     }
@@ -183,6 +162,27 @@ fn plan_last(seen: Seen, packet: &[u8], arrived: Arrived, way: SeenWay) -> Plann
         return Planned::Drop(Reason::TooLongForPort);
     }
     Planned::Follow(way)
+}
+
+// The tests of a known path, and those behind them.
+fn plan_last(seen: Seen, packet: &[u8], arrived: Arrived, way: SeenWay) -> Planned
+    requires { ⌜ CanTest seen (now packet) way ⌝ }
+    ensures { λ r. ⌜ planOf seen (arrivalOf (now (packet .entry)) arrived) r
+        ≡ onSeenWay lastPlan seen (now (packet .entry)) arrived way ⌝ }
+{
+    if !tested(seen, packet, arrived, way) {
+        return plan_leaving(seen, packet, arrived, way);
+    }
+    if replay(seen, packet, arrived) {
+        return Planned::Drop(Reason::Replay);
+    }
+    if not_better(seen, packet, arrived) {
+        return Planned::Drop(Reason::NotBetter);
+    }
+    if rate_limited(seen, packet, arrived) {
+        return Planned::Drop(Reason::RateLimited);
+    }
+    plan_leaving(seen, packet, arrived, way)
 }
 
 // Tests 6 to 9, and those behind them.

@@ -56,7 +56,8 @@ fn later(one: Latest, other: Latest) -> Latest
     one
 }
 
-// The greatest expiry of the destination's used paths that aren't live, if there is one. Most places have none to compare.
+// The greatest expiry of the destination's used paths that aren't live, if there is one. Most places have none to
+// compare.
 pub fn expired_path(tables: &[u8], destination: [u8; 16], clock: u64) -> Latest
     requires { ⌜ length (now tables) ≡ tableSize ⌝ }
     ensures { λ r. ⌜ r ≡ latestOf (expiredPath clock (relayOf (now (tables .entry))) destination) ⌝ }

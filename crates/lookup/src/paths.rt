@@ -5,6 +5,7 @@ use super::search::free_place;
 use super::search::live_place;
 use super::search::record_at;
 use numbers::PATH_COUNT;
+use rules::Notes;
 use rules::RateEntry;
 use tables::fields::PATH_BLOCKED_UNTIL_AT;
 use tables::fields::PATH_EXPIRY_AT;
@@ -106,13 +107,21 @@ pub fn path_rate(tables: &[u8], place: usize) -> RateEntry
     rate_of(record_at(tables, PATHS_AT, PATH_WIDTH, place))
 }
 
-// Whether it is marked unresponsive.
-pub fn path_marked(tables: &[u8], place: usize) -> bool
-    requires { ⌜ (length (now tables) ≡ tableSize) × (place < pathCount) ⌝ }
-    ensures { λ r. ⌜ r ≡ pathOf (recordAt pathsAt pathWidth (now (tables .entry)) place) .marked ⌝ }
+fn notes_of(b: &[u8]) -> Notes
+    requires { ⌜ length (now b) ≡ pathWidth ⌝ }
+    ensures { λ r. ⌜ r ≡ pathOf (now (b .entry)) .notes ⌝ }
 {
-    let b = record_at(tables, PATHS_AT, PATH_WIDTH, place);
-    b[PATH_MARK_AT] == 1
+    Notes {
+        marked: b[PATH_MARK_AT] == 1,
+    }
+}
+
+// What the host has noted of it.
+pub fn path_notes(tables: &[u8], place: usize) -> Notes
+    requires { ⌜ (length (now tables) ≡ tableSize) × (place < pathCount) ⌝ }
+    ensures { λ r. ⌜ r ≡ pathOf (recordAt pathsAt pathWidth (now (tables .entry)) place) .notes ⌝ }
+{
+    notes_of(record_at(tables, PATHS_AT, PATH_WIDTH, place))
 }
 
 // Whether the path holds the blob.

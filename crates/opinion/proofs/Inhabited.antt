@@ -23,8 +23,9 @@ use Rattle.rules.specs.Relay.{makeRateSettings, fresh}
 use Rattle.rules.specs.Arrival.{Arrival}
 use Rattle.rules.specs.Judging.{plan, verdict, outputAfter}
 use Rattle.rules.specs.Renumbering.{oneToOne}
-use Rattle.rules.specs.Calls.{TableCall, newTally, sets-port, sets-rate, adds, removes, renumbers, marks}
+use Rattle.rules.specs.Calls.{TableCall, newTally, sets-port, sets-rate, adds, removes, renumbers, notes-path}
 use Rattle.rules.specs.Run.{Call, packet, on-tables, asks, saves, loads, EachCall, Reply, answered, numbered, perform, noCall, setsRelay}
+use Rattle.rules.specs.declared.Note.the-variants.{Unresponsive}
 use Rattle.rules.specs.declared.Answer.{Answer}
 use Rattle.rules.specs.declared.Answer.the-variants.{Refused, Judged}
 use Rattle.judging.specs.declared.Arrived.{Arrived}
@@ -76,7 +77,7 @@ Sixteen (sets-rate target grace penalty) = Unit {0}
 Sixteen (adds address) = length address ≡ addressWidth
 Sixteen (removes address) = length address ≡ addressWidth
 Sixteen (renumbers images) = Unit {0}
-Sixteen (marks destination clock) = length destination ≡ addressWidth
+Sixteen (notes-path note destination clock) = length destination ≡ addressWidth
 
 -- one that no row refuses can be listed
 module _ (log : List ℕ) (n : ℕ) (long : length log ≡ logSize) (few : n < listLimit) where
@@ -101,7 +102,7 @@ module _ (log : List ℕ) (n : ℕ) (long : length log ≡ logSize) (few : n < l
       let one = not-false _ fine in
       let sixteen = eqb-true (length images) 16 (and-left _ _ one) in
       (_, map-put log n long few images sixteen one, put-long log n long few 0 0 false 0 0 0 images (omega arith))
-  can-list k (marks destination clock) wide (fine, _) =
+  can-list k (notes-path Unresponsive destination clock) wide (fine, _) =
       let small = leb-false _ clock (or-no-left _ _ fine) in
       (_, mark-put log n long few destination wide clock small, put-long log n long few 6 0 false 0 clock 0 destination (omega arith))
 
@@ -112,7 +113,7 @@ rows-refuse k (sets-rate target grace penalty) = refl
 rows-refuse k (adds address) = refl
 rows-refuse k (removes address) = refl
 rows-refuse k (renumbers images) = refl
-rows-refuse k (marks destination clock) = refl
+rows-refuse k (notes-path note destination clock) = refl
 
 pub some-number : (log : List ℕ) → length log ≡ logSize → (c : TableCall) → Sixteen c
     → (number : ℕ) × (after : List ℕ) × Settles log c number after × (length after ≡ logSize)

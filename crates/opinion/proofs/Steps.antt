@@ -11,7 +11,7 @@ use Rattle.numbers.specs.Numbers.{live, pathLifetime}
 use Rattle.packet.specs.Read.{longestPacket, headerOf, payloadStart, payload, reads}
 use Rattle.packet.specs.Hash.{linkId}
 use Rattle.packet.proofs.ReadLaws.{reads-readable}
-use Rattle.rules.specs.Relay.{Slot, empty, used, Path, Return, makePath, withPathPort, withPathRate, withPathMark, withLinkPorts, withReturnPorts}
+use Rattle.rules.specs.Relay.{Slot, empty, used, Path, Return, noNotes, makePath, withPathPort, withPathRate, withPathMark, withLinkPorts, withReturnPorts}
 use Rattle.rules.specs.View.{View}
 use Rattle.rules.specs.Renumbering.{image, renamePath, renameLink, renameReturn, renameSlot}
 use Rattle.rules.specs.Arrival.{Arrival, hops, destination}
@@ -40,7 +40,7 @@ announced-by : (v w : View) (a : Arrival) → v .mode (a .port) ≡ w .mode (a .
     → announcedPath v a s ≡ announcedPath w a s
 unfolding announcedPath announcedRate
 announced-by v w a mode rate s =
-    ap₂ (λ (m : ℕ) (r : RateEntry). makePath (destination a) (a .port) (hops a) (nextHopOf (a .bytes)) (a .clock + pathLifetime m) r false (announcedBlobs a s))
+    ap₂ (λ (m : ℕ) (r : RateEntry). makePath (destination a) (a .port) (hops a) (nextHopOf (a .bytes)) (a .clock + pathLifetime m) r noNotes (announcedBlobs a s))
     mode (rates s)
   where
     rates : (t : Slot Path) → announcedRate v a t ≡ announcedRate w a t

@@ -1,5 +1,5 @@
-// The second opinion: a log of accepted calls, in bytes that a host lends, and what is answered from it. Each question is
-// one walk through the log: no tables, slots or rings.
+// The second opinion: a log of accepted calls, in bytes that a host lends, and what is answered from it. Each
+// question is one walk through the log: no tables, slots or rings.
 // Entry points: fresh, take_packet, set_port, set_rate, add_local, remove_local, renumber, mark_path_unresponsive.
 mod clocks;
 mod effects;

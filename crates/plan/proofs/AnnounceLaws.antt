@@ -10,28 +10,28 @@ use Rattle.octets.specs.Choice.{_or_, _then_otherwise_}
 use Rattle.octets.proofs.Choice.{then-true, then-false}
 use Rattle.packet.specs.Header.{packetKind, isAnnounce, isLinkRequest}
 use Rattle.packet.specs.Announce.{emissionOf}
-use Rattle.octets.specs.Listed.{firstOf}
+use Rattle.octets.specs.Listed.{firstOf, valued}
+use Rattle.octets.proofs.Index.{and-no, and-yes}
+use Rattle.octets.proofs.Listed.{none-first}
 use Rattle.rules.specs.Relay.{Slot, empty, used, Path, Relay}
 use Rattle.rules.specs.View.{View, pathPlace, freePath, viewAt}
-use Rattle.rules.specs.Arrival.{Arrival, header, hops, destination, blob, isLinkProof}
+use Rattle.rules.specs.Arrival.{Arrival, header, destination, blob, isLinkProof}
 use Rattle.rules.specs.Ways.{Way, everywhere, wayOn}
-use Rattle.rules.specs.Rate.{rated}
-use Rattle.rules.specs.Tests.{isThere, noWayOn, alreadyKnown, wrongSide, notSigned, revives, ofKnown, isReplay, replay, isNotBetter, notBetter, isRateLimited, rateLimited, portOff, tooLongForPort, noRoom}
-use Rattle.rules.specs.Judging.{dropped, follows, onwardPlan, onwardTests}
+use Rattle.rules.specs.Tests.{isThere, noWayOn, alreadyKnown, wrongSide, notSigned, revives, ofKnown, knownTests, portOff, tooLongForPort, noRoom}
+use Rattle.rules.specs.Judging.{Plan, dropped, follows, onwardPlan, onwardTests}
 use Rattle.rules.specs.Writes.{announcedPlace}
-use Rattle.rules.specs.declared.Reason.the-variants.{NotSigned, Replay, NotBetter, RateLimited, NoRoom}
+use Rattle.rules.specs.declared.Reason.the-variants.{NotSigned, NoRoom}
 use Rattle.numbers.specs.Numbers.{pathCount}
-use Rattle.rules.specs.Blobs.{held, isAmong}
-use Rattle.rules.specs.declared.RateSettings.{RateSettings}
+use Rattle.rules.proofs.Joined.{joined-first, none-valued}
+use Rattle.rules.proofs.Passed.{none-known}
 use Rattle.tables.specs.Layout.{rateSettingsIn, relayOf, wellFormed}
 use Rattle.tables.proofs.Whole.{formed}
 use Rattle.lookup.proofs.Found.{path-found, path-missing, path-ok}
 use Rattle.plan.specs.Decided.{CanKnow, pathAt, decidedWay, decided, onward}
-use Rattle.plan.specs.Kinds.{newPath, revivedBy, worseThan, knownPath}
-use Rattle.plan.specs.declared.Decision.{Decision}
+use Rattle.plan.specs.Kinds.{newPath, revivedBy, knownPath}
 use Rattle.plan.specs.declared.Decision.the-variants.{Drop, Announce}
 use Rattle.forms.proofs.KindLaws.{other-kind, no-link-proof}
-use Rattle.plan.proofs.KindLaws.{decided-test}
+use Rattle.plan.proofs.KindLaws.{decided-test, decided-first}
 
 -- a live path that a search found in well-formed tables
 pub can-know : (t : List ℕ) (clock : ℕ) (to : List ℕ) (i : ℕ) → i ≡ pathPlace clock (relayOf t) to → wellFormed t ≡ true → i < pathCount → CanKnow t i
@@ -47,28 +47,25 @@ module _ (a : Arrival) (is : isAnnounce (header a) ≡ true) where
 
   announce-plan : (v : View) (known : Slot Path) → onwardPlan v a (everywhere known)
       ≡ (not (a .signed) then dropped NotSigned otherwise
-      replay a (everywhere known) then dropped Replay otherwise
-      notBetter a (everywhere known) then dropped NotBetter otherwise
-      rateLimited v a (everywhere known) then dropped RateLimited otherwise
-      noRoom v a (everywhere known) then dropped NoRoom otherwise
-      follows (everywhere known))
+      firstOf (valued dropped (knownTests v a (everywhere known)))
+      (noRoom v a (everywhere known) then dropped NoRoom otherwise follows (everywhere known)))
   unfolding onwardPlan onwardTests firstOf noWayOn alreadyKnown wrongSide notSigned portOff tooLongForPort _then_otherwise_ _and_ _or_
-  announce-plan v known = rw (no-request, no-proof, is)
+  announce-plan v known =
+      rw (no-request, no-proof, is)
+      (ap (λ (x : Plan). not (a .signed) then dropped NotSigned otherwise x)
+      (joined-first dropped (knownTests v a (everywhere known)) _ (follows (everywhere known))))
 
   announce-onward : (r : Relay) (known : Slot Path) → viewAt (a .clock) r .path (destination a) ≡ known
       → onward r a
       ≡ (not (a .signed) then Drop NotSigned otherwise
-      replay a (everywhere known) then Drop Replay otherwise
-      notBetter a (everywhere known) then Drop NotBetter otherwise
-      rateLimited (viewAt (a .clock) r) a (everywhere known) then Drop RateLimited otherwise
-      noRoom (viewAt (a .clock) r) a (everywhere known) then Drop NoRoom otherwise
-      Announce (announcedPlace a known r) (isThere known))
+      firstOf (valued Drop (knownTests (viewAt (a .clock) r) a (everywhere known)))
+      (noRoom (viewAt (a .clock) r) a (everywhere known) then Drop NoRoom otherwise Announce (announcedPlace a known r) (isThere known)))
   unfolding onward wayOn decided decidedWay
   announce-onward r known e =
       let v : View = viewAt (a .clock) r in
       ap (λ (w : Way). decided r a (onwardPlan v a w)) (then-true _ _ is ∙ ap everywhere e)
       ∙ ap (decided r a) (announce-plan v known)
-      ∙ simp decided-test
+      ∙ simp (decided-test, decided-first)
 
   module _ (r : Relay) where
     pub announce-unsigned : a .signed ≡ false → Drop NotSigned ≡ onward r a
@@ -76,28 +73,20 @@ module _ (a : Arrival) (is : isAnnounce (header a) ≡ true) where
     announce-unsigned e = sym (announce-onward r _ refl ∙ rw e)
 
     announce-new : a .signed ≡ true → viewAt (a .clock) r .path (destination a) ≡ empty → newPath (a .clock) r ≡ onward r a
-    unfolding newPath ofKnown replay notBetter rateLimited noRoom viewAt isThere announcedPlace _then_otherwise_
+    unfolding newPath knownTests ofKnown noRoom viewAt isThere announcedPlace firstOf valued _then_otherwise_
     announce-new e none = sym (announce-onward r empty none ∙ rw e)
 
     announce-known : a .signed ≡ true → (p : Path) → viewAt (a .clock) r .path (destination a) ≡ used p
-        → knownPath (r .rate) a p (pathPlace (a .clock) r (destination a)) ≡ onward r a
-    unfolding knownPath worseThan ofKnown replay isReplay notBetter isNotBetter rateLimited isRateLimited noRoom viewAt isThere announcedPlace
-        _then_otherwise_ _and_
-    announce-known e p there = go (revives a p) refl
-      where
-        revived-is : revivedBy (emissionOf (blob a)) p ≡ revives a p
-        revived-is = unfold revivedBy in unfold revives in refl
-
-        go : (b : Bool) → revives a p ≡ b → knownPath (r .rate) a p (pathPlace (a .clock) r (destination a)) ≡ onward r a
-        go true q = sym (announce-onward r (used p) there ∙ rw (revived-is, q, e))
-        go false q = sym (announce-onward r (used p) there ∙ rw (revived-is, q, e))
+        → knownPath r a p (pathPlace (a .clock) r (destination a)) ≡ onward r a
+    unfolding knownPath noRoom isThere announcedPlace _then_otherwise_
+    announce-known e p there = sym (announce-onward r (used p) there ∙ rw e)
 
 -- ---- on tables, where the search for the path gave place i
 module _ (t : List ℕ) (a : Arrival) (is : isAnnounce (header a) ≡ true) (signed : a .signed ≡ true)
     {i : ℕ} (e : i ≡ pathPlace (a .clock) (relayOf t) (destination a)) where
-  pub announce-at : i < pathCount → knownPath (relayOf t .rate) a (pathAt t i) i ≡ onward (relayOf t) a
+  pub announce-at : i < pathCount → knownPath (relayOf t) a (pathAt t i) i ≡ onward (relayOf t) a
   announce-at l =
-      ap (knownPath (relayOf t .rate) a (pathAt t i)) e
+      ap (knownPath (relayOf t) a (pathAt t i)) e
       ∙ announce-known a is (relayOf t) signed (pathAt t i) (path-found t (a .clock) (destination a) i e l)
 
   pub announce-nowhere : pathCount ≤ i → newPath (a .clock) (relayOf t) ≡ onward (relayOf t) a
@@ -115,43 +104,21 @@ module _ (clock : ℕ) (r : Relay) {place : ℕ} (e : place ≡ freePath clock r
   unfolding newPath
   new-full l = sym (then-true _ _ (ap not (le-ltb (freePath clock r) pathCount (omega (arith, e, l)))))
 
--- ---- a known path, by what was read of the announce and of the path
-module _ (s : RateSettings) (a : Arrival) (p : Path) (place : ℕ) {b : List ℕ} (read : b ≡ blob a) where
-  pub known-revived : revivedBy (emissionOf b) p ≡ true → Announce place true ≡ knownPath s a p place
-  unfolding knownPath
-  known-revived q = sym (then-true _ _ (ap (λ (x : List ℕ). revivedBy (emissionOf x) p) (sym read) ∙ q))
+-- ---- a known path, by what was read of the announce
+module _ (a : Arrival) (p : Path) {b : List ℕ} (read : b ≡ blob a) where
+  revived-is : revives a p ≡ revivedBy (emissionOf b) p
+  unfolding revives revivedBy
+  revived-is = ap (λ (x : List ℕ). revivedBy (emissionOf x) p) (sym read)
 
-  made : revivedBy (emissionOf b) p ≡ false → revivedBy (emissionOf (blob a)) p ≡ false
-  made q = ap (λ (x : List ℕ). revivedBy (emissionOf x) p) (sym read) ∙ q
+  -- it is revived: no test is made
+  pub known-revived : (r : Relay) (place : ℕ) → revivedBy (emissionOf b) p ≡ true → Announce place true ≡ knownPath r a p place
+  unfolding knownPath ofKnown
+  known-revived r place q =
+      sym
+      (none-first (valued Drop (knownTests (viewAt (a .clock) r) a (everywhere (used p)))) _
+      (none-valued Drop _ (none-known (viewAt (a .clock) r) a (everywhere (used p)) (and-no _ (ap not (revived-is ∙ q))))))
 
-  pub known-replay : revivedBy (emissionOf b) p ≡ false → isAmong b (held (p .blobs)) ≡ true → Drop Replay ≡ knownPath s a p place
-  unfolding knownPath
-  known-replay q old =
-      sym (then-false _ _ (made q) ∙ then-true _ _ (ap (λ (x : List ℕ). isAmong x (held (p .blobs))) (sym read) ∙ old))
-
-  module _ (unrevived : revivedBy (emissionOf b) p ≡ false) (new : isAmong b (held (p .blobs)) ≡ false) where
-    knownBy : Bool → Decision
-    knownBy worse =
-        worse then Drop NotBetter otherwise
-        rated s (a .clock) (p .rate) .dropped then Drop RateLimited otherwise
-        Announce place true
-
-    known-by : (worse : Bool) → worse ≡ worseThan (emissionOf b) (hops a) p → knownPath s a p place ≡ knownBy worse
-    unfolding knownPath knownBy
-    known-by worse q =
-        then-false _ _ (made unrevived)
-        ∙ then-false _ _ (ap (λ (x : List ℕ). isAmong x (held (p .blobs))) (sym read) ∙ new)
-        ∙ ap knownBy (ap (λ (x : List ℕ). worseThan (emissionOf x) (hops a) p) (sym read) ∙ sym q)
-
-    pub known-worse : worseThan (emissionOf b) (hops a) p ≡ true → Drop NotBetter ≡ knownPath s a p place
-    unfolding knownBy _then_otherwise_
-    known-worse q = sym (known-by true (sym q))
-
-    module _ (better : worseThan (emissionOf b) (hops a) p ≡ false) where
-      pub known-limited : rated s (a .clock) (p .rate) .dropped ≡ true → Drop RateLimited ≡ knownPath s a p place
-      unfolding knownBy _then_otherwise_
-      known-limited q = sym (known-by false (sym better) ∙ rw q)
-
-      pub known-accepted : rated s (a .clock) (p .rate) .dropped ≡ false → Announce place true ≡ knownPath s a p place
-      unfolding knownBy _then_otherwise_
-      known-accepted q = sym (known-by false (sym better) ∙ rw q)
+  -- it isn't: a test says what it says of the path
+  pub known-made : revivedBy (emissionOf b) p ≡ false → (test : Path → Bool) → ofKnown a test (everywhere (used p)) ≡ test p
+  unfolding ofKnown
+  known-made q test = and-yes _ (ap not (revived-is ∙ q))

@@ -9,7 +9,7 @@ use lib.ListN.{length, drop}
 use Rattle.octets.specs.Index.{_and_, agree}
 use Rattle.octets.specs.Choice.{_then_otherwise_, _or_, same}
 use Rattle.octets.proofs.Choice.{same-agree, or-no}
-use Rattle.octets.proofs.Index.{and-yes, and-no, and-left, and-right, and-true}
+use Rattle.octets.proofs.Index.{and-yes, and-no, and-left, and-right, and-true, and-false}
 use Rattle.octets.proofs.Part.{part-length}
 use Rattle.packet.specs.Header.{typeTwo, ofKindLink, isData, isAnnounce, isLinkRequest}
 use Rattle.packet.specs.Read.{longestPacket, reads}
@@ -29,7 +29,6 @@ use Rattle.tables.specs.Places.{addressWidth, ownAt, tableSize}
 use Rattle.tables.specs.Layout.{relayOf}
 use Rattle.outgoing.proofs.LeavingLaws.{whole}
 use Rattle.octets.proofs.Listed.{NoneHolds}
-use Rattle.rules.proofs.Choices.{and-false}
 use Rattle.rules.proofs.Passed.{stops}
 use Rattle.plan.specs.First.{early, firstTests}
 use Rattle.plan.specs.Decided.{usedHash, hashLive, decided, decision, onward}

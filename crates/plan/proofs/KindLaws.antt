@@ -1,9 +1,11 @@
 -- A plan's tests as decisions.
 use Prim.Native.Nat.{ℕ, _≤_, _<_}
 use mathlib.Core.Bool.{Bool, true, false, not}
-use mathlib.Core.Path.{_≡_, sym, ap, _∙_}
+use mathlib.Core.List.{List, [], _∷_}
+use mathlib.Core.Path.{_≡_, refl, sym, ap, _∙_}
 use borrow.Author.Tests.{lt-ltb, le-ltb}
 use Rattle.octets.specs.Choice.{_then_otherwise_}
+use Rattle.octets.specs.Listed.{Test, firstOf, valued}
 use Rattle.octets.proofs.Choice.{then-true, then-false, then-ap}
 use Rattle.rules.specs.Relay.{Relay}
 use Rattle.rules.specs.Arrival.{Arrival}
@@ -21,6 +23,14 @@ pub decided-test : (r : Relay) (a : Arrival) (t : Bool) (reason : Reason) (x : P
     → decided r a (t then dropped reason otherwise x) ≡ (t then Drop reason otherwise decided r a x)
 unfolding decided
 decided-test r a t reason x = then-ap (decided r a) t (dropped reason) x
+
+-- a list of tests as decisions
+pub decided-first : (r : Relay) (a : Arrival) (ts : List (Test Reason)) (rest : Plan)
+    → decided r a (firstOf (valued dropped ts) rest) ≡ firstOf (valued Drop ts) (decided r a rest)
+unfolding firstOf valued
+decided-first r a [] rest = refl
+decided-first r a (t ∷ ts) rest =
+    decided-test r a (t .holds) (t .value) _ ∙ ap (λ (d : Decision). t .holds then Drop (t .value) otherwise d) (decided-first r a ts rest)
 
 -- ---- tests 12 and 16
 module _ (r : Relay) (port long : ℕ) (d : Decision) where

@@ -17,7 +17,7 @@ use Rattle.rules.specs.Relay.{empty, used, Relay}
 use Rattle.rules.specs.View.{View, linkPlace, viewAt}
 use Rattle.rules.specs.Arrival.{Arrival, header, destination, isLinkProof}
 use Rattle.rules.specs.Ways.{Way, along-link, blocked, linkWay, wayOn}
-use Rattle.rules.specs.Tests.{badForm, noWayOn, whyBlocked, followsProvedLink, alreadyKnown, fromAnsweringSide, fromAskingSide, wrongSide, notSigned, ofKnown, replay, notBetter, rateLimited, leavingPort, portOff, tooLongForPort, noRoom}
+use Rattle.rules.specs.Tests.{badForm, noWayOn, whyBlocked, followsProvedLink, alreadyKnown, fromAnsweringSide, fromAskingSide, wrongSide, notSigned, ofKnown, knownTests, leavingPort, portOff, tooLongForPort, noRoom}
 use Rattle.rules.specs.Outgoing.{outgoing, exceeds}
 use Rattle.rules.specs.Judging.{dropped, follows, onwardPlan, onwardTests}
 use Rattle.rules.specs.declared.Link.{Link}
@@ -45,7 +45,7 @@ module _ (a : Arrival) (good : badForm (a .bytes) ≡ false) (announce : isAnnou
       not (v .on (leavingPort a (along-link l))) then dropped PortOff otherwise
       ltb (v .size (leavingPort a (along-link l))) (length (a .bytes)) then dropped TooLongForPort otherwise
       follows (along-link l))
-  unfolding onwardPlan onwardTests firstOf noWayOn alreadyKnown followsProvedLink notSigned ofKnown replay notBetter rateLimited portOff tooLongForPort noRoom
+  unfolding onwardPlan onwardTests firstOf noWayOn alreadyKnown followsProvedLink notSigned knownTests ofKnown portOff tooLongForPort noRoom
       exceeds outgoing _then_otherwise_ _and_ _or_
   link-plan v l = rw (link-no-request a good kind, announce, carried-length (a .bytes))
 

@@ -41,7 +41,7 @@ module _ (r : Relay) (a : Arrival) where
       sym (ap (λ (b : Bool). forMarkedPath (viewAt (a .clock) r) a and b) (sym (and-yes _ (ap not tested)) ∙ new) ∙ and-false _)
 
 module _ (t : List ℕ) (a : Arrival) {i : ℕ} (e : i ≡ pathPlace (a .clock) (relayOf t) (destination a)) where
-  pub marked-at : i < pathCount → pathAt t i .marked ≡ isMarked (viewAt (a .clock) (relayOf t) .path (destination a))
+  pub marked-at : i < pathCount → pathAt t i .notes .marked ≡ isMarked (viewAt (a .clock) (relayOf t) .path (destination a))
   unfolding isMarked
   marked-at l = sym (ap isMarked (path-found t (a .clock) (destination a) i e l))
 

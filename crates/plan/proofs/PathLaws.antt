@@ -20,7 +20,7 @@ use Rattle.rules.specs.Relay.{Slot, empty, used, Path, Relay}
 use Rattle.rules.specs.View.{View, pathPlace, linkPlace, freeLink, expiredPath, viewAt, portOn, portSize}
 use Rattle.rules.specs.Arrival.{Arrival, header, destination, isLinkProof}
 use Rattle.rules.specs.Ways.{Way, by-path, blocked, noPath, pathWay, wayOn}
-use Rattle.rules.specs.Tests.{isThere, noWayOn, whyBlocked, alreadyKnown, wrongSide, notSigned, ofKnown, replay, notBetter, rateLimited, leavingPort, portOff, tooLongForPort, noRoom}
+use Rattle.rules.specs.Tests.{isThere, noWayOn, whyBlocked, alreadyKnown, wrongSide, notSigned, ofKnown, knownTests, leavingPort, portOff, tooLongForPort, noRoom}
 use Rattle.rules.specs.Outgoing.{pathPacket, outgoing, exceeds}
 use Rattle.rules.specs.Judging.{dropped, follows, onwardPlan, onwardTests}
 use Rattle.rules.specs.declared.Blocked.the-variants.{NotAsking, NoPath, OnlyExpired}
@@ -54,7 +54,7 @@ module _ (a : Arrival) (announce : isAnnounce (header a) ≡ false) (link : ofKi
       exceeds (outgoing v a (by-path p)) (v .size (p .port)) then dropped TooLongForPort otherwise
       isLinkRequest (header a) and not (v .roomForLink) then dropped NoRoom otherwise
       follows (by-path p))
-  unfolding onwardPlan onwardTests firstOf noWayOn alreadyKnown wrongSide notSigned ofKnown replay notBetter rateLimited leavingPort portOff
+  unfolding onwardPlan onwardTests firstOf noWayOn alreadyKnown wrongSide notSigned knownTests ofKnown leavingPort portOff
       tooLongForPort noRoom _then_otherwise_ _and_ _or_
   path-plan v p = rw (no-proof, or-false (isLinkRequest (header a) and isThere (v .link (linkId (a .bytes)))), announce)
 

@@ -15,7 +15,7 @@ use Rattle.rules.specs.Relay.{empty, used, Return, Relay}
 use Rattle.rules.specs.View.{View, returnPlace, viewAt}
 use Rattle.rules.specs.Arrival.{Arrival, header, destination, isLinkProof}
 use Rattle.rules.specs.Ways.{Way, by-return, returnWay, wayOn}
-use Rattle.rules.specs.Tests.{noWayOn, whyBlocked, alreadyKnown, wrongSide, notSigned, ofKnown, replay, notBetter, rateLimited, leavingPort, portOff, tooLongForPort, noRoom}
+use Rattle.rules.specs.Tests.{noWayOn, whyBlocked, alreadyKnown, wrongSide, notSigned, ofKnown, knownTests, leavingPort, portOff, tooLongForPort, noRoom}
 use Rattle.rules.specs.Outgoing.{outgoing, exceeds}
 use Rattle.rules.specs.Judging.{dropped, follows, onwardPlan, onwardTests}
 use Rattle.rules.specs.declared.Blocked.the-variants.{NoReturn}
@@ -49,7 +49,7 @@ module _ (a : Arrival) (kind : ofKindLink (header a) ≡ false) (proof : isProof
       not (v .on (leavingPort a (by-return t))) then dropped PortOff otherwise
       ltb (v .size (leavingPort a (by-return t))) (length (a .bytes)) then dropped TooLongForPort otherwise
       follows (by-return t))
-  unfolding onwardPlan onwardTests firstOf noWayOn alreadyKnown notSigned ofKnown replay notBetter rateLimited portOff tooLongForPort noRoom
+  unfolding onwardPlan onwardTests firstOf noWayOn alreadyKnown notSigned knownTests ofKnown portOff tooLongForPort noRoom
       exceeds outgoing _then_otherwise_ _and_ _or_
   return-plan v t = rw (no-request, no-link-proof, no-announce, carried-length (a .bytes))
 

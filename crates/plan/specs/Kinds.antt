@@ -7,19 +7,18 @@ use lib.Dec.{eqb, ltb, leb}
 use lib.ListN.{length}
 use Rattle.octets.specs.Index.{_and_}
 use Rattle.octets.specs.Choice.{_then_otherwise_}
+use Rattle.octets.specs.Listed.{firstOf, valued}
 use Rattle.packet.specs.Hash.{linkId}
-use Rattle.packet.specs.Announce.{emissionOf}
 use Rattle.numbers.specs.Numbers.{pathCount, linkCount}
-use Rattle.rules.specs.Relay.{Path, Return, Relay}
+use Rattle.rules.specs.Relay.{used, Path, Return, Relay}
 use Rattle.rules.specs.View.{portOn, portSize, freePath, freeLink, viewAt}
-use Rattle.rules.specs.Arrival.{Arrival, hops, blob}
-use Rattle.rules.specs.Blobs.{held, isAmong, greatestEmission}
-use Rattle.rules.specs.Rate.{rated}
-use Rattle.rules.specs.Tests.{isThere, fromAnsweringSide, fromAskingSide}
-use Rattle.rules.specs.declared.RateSettings.{RateSettings}
+use Rattle.rules.specs.Arrival.{Arrival}
+use Rattle.rules.specs.Blobs.{held, greatestEmission}
+use Rattle.rules.specs.Ways.{everywhere}
+use Rattle.rules.specs.Tests.{isThere, fromAnsweringSide, fromAskingSide, knownTests}
 use Rattle.rules.specs.declared.Link.{Link}
 use Rattle.rules.specs.declared.Blocked.the-variants.{NotProved}
-use Rattle.rules.specs.declared.Reason.the-variants.{NoWayOn, AlreadyKnown, WrongSide, NotSigned, Replay, NotBetter, RateLimited, PortOff, TooLongForPort, NoRoom}
+use Rattle.rules.specs.declared.Reason.the-variants.{NoWayOn, AlreadyKnown, WrongSide, NotSigned, PortOff, TooLongForPort, NoRoom}
 use Rattle.outgoing.specs.Leaving.{pathLength}
 use Rattle.plan.specs.declared.Decision.{Decision}
 use Rattle.plan.specs.Decided.{highOf, lowOf}
@@ -38,16 +37,12 @@ worseThan emission hops p = leb emission (greatestEmission (held (p .blobs))) an
 
 -- whether an announce revives the path, by its emission
 unfoldable pub revivedBy : ℕ → Path → Bool
-revivedBy emission p = p .marked and leb (greatestEmission (held (p .blobs))) emission
+revivedBy emission p = p .notes .marked and leb (greatestEmission (held (p .blobs))) emission
 
--- of the known path at a place: 10, 11, 15, unless it is revived
-unfoldable pub knownPath : RateSettings → Arrival → Path → ℕ → Decision
-knownPath s a p place =
-    revivedBy (emissionOf (blob a)) p then Announce place true otherwise
-    isAmong (blob a) (held (p .blobs)) then Drop Replay otherwise
-    worseThan (emissionOf (blob a)) (hops a) p then Drop NotBetter otherwise
-    rated s (a .clock) (p .rate) .dropped then Drop RateLimited otherwise
-    Announce place true
+-- of the known path at a place: the tests of one
+unfoldable pub knownPath : Relay → Arrival → Path → ℕ → Decision
+knownPath r a p place =
+    firstOf (valued Drop (knownTests (viewAt (a .clock) r) a (everywhere (used p)))) (Announce place true)
 
 -- ---- 12 and 16, by a port and the length of what would leave by it
 unfoldable pub leaving : Relay → ℕ → ℕ → Decision → Decision

@@ -61,7 +61,7 @@ pub fn rate_at(tables: &[u8], place: usize, clock: u64) -> Rated
 fn known_path(tables: &[u8], packet: &[u8], arrived: Arrived, place: usize) -> Decision
     requires { ⌜ CanRead (now packet) (now tables) × CanKnow (now tables) place
         × (84 ≤ length (payload (now packet))) ⌝ }
-    ensures { λ r. ⌜ r ≡ knownPath (relayOf (now (tables .entry)) .rate) (arrivalOf (now (packet .entry)) arrived)
+    ensures { λ r. ⌜ r ≡ knownPath (relayOf (now (tables .entry))) (arrivalOf (now (packet .entry)) arrived)
         (pathAt (now (tables .entry)) place) place ⌝ }
 {
     let blob = packet::blob(packet::payload(packet));

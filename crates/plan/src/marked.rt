@@ -29,7 +29,8 @@ pub fn for_marked_path(tables: &[u8], packet: &[u8], arrived: Arrived) -> bool
     let destination = parts.destination;
     let place = lookup::path_place(tables, destination, arrived.clock);
     if place < PATH_COUNT {
-        return lookup::path_marked(tables, place);
+        let notes = lookup::path_notes(tables, place);
+        return notes.marked;
     }
     false
 }
@@ -51,7 +52,8 @@ pub fn revives(tables: &[u8], place: usize, blob: [u8; 10]) -> bool
     requires { ⌜ (length (now tables) ≡ tableSize) × CanKnow (now tables) place ⌝ }
     ensures { λ r. ⌜ r ≡ revivedBy (emissionOf blob) (pathAt (now (tables .entry)) place) ⌝ }
 {
-    if lookup::path_marked(tables, place) {
+    let notes = lookup::path_notes(tables, place);
+    if notes.marked {
         return lookup::greatest_emission(tables, place) <= packet::emission(blob);
     }
     false

@@ -43,7 +43,7 @@ module _ (v : View) (a : Arrival) (announce : isAnnounce (header a) ≡ true) wh
   announce-unknown w = or-no (and-no _ no-request) (and-no _ no-link-proof)
 
   -- its path is marked
-  pub announce-untested : (p : Path) → ofKindSingle (header a) ≡ true → v .path (destination a) ≡ used p → p .marked ≡ true → duplicate v a ≡ false
+  pub announce-untested : (p : Path) → ofKindSingle (header a) ≡ true → v .path (destination a) ≡ used p → p .notes .marked ≡ true → duplicate v a ≡ false
   unfolding duplicate testedAsDuplicate forMarkedPath isMarked
   announce-untested p single live marked =
       let skips = and-both announce (and-both single (ap isMarked live ∙ marked)) in

@@ -17,7 +17,7 @@ use Rattle.rules.specs.Arrival.{Arrival}
 use Rattle.rules.specs.Tests.{isThere}
 use Rattle.rules.specs.Answers.{renameVerdict, renameAnswer}
 use Rattle.rules.specs.Judging.{Plan, plan, verdict}
-use Rattle.rules.specs.Calls.{counted, Judgement, judged, judge, packetCall, Setting, settled, TableCall, sets-port, sets-rate, adds, removes, renumbers, marks, ruleOf, tableRefusal, settle}
+use Rattle.rules.specs.Calls.{counted, Judgement, judged, judge, packetCall, Setting, settled, TableCall, sets-port, sets-rate, adds, removes, renumbers, notes-path, ruleOf, tableRefusal, settle}
 use Rattle.rules.specs.Saved.{Said, Format, saveRefusal, loadRefusal}
 use Rattle.rules.specs.Run.{Call, packet, on-tables, asks, saves, loads, renumbering, Reply, numbered, saved, unsaved, movesPorts, setsRelay, Outcome, ofJudgement, ofSetting, ofTold, saveReply, ofSaid, perform, renameArrival, renameCall, renameReply}
 use Rattle.rules.specs.declared.Verdict.{Verdict}
@@ -31,7 +31,7 @@ use Rattle.rules.proofs.MovedPorts.{moved-set}
 use Rattle.rules.proofs.ViewRenamed.{renameView, no-port-on, path-renamed, view-renamed}
 use Rattle.rules.proofs.TestsRenamed.{isThere-renamed}
 use Rattle.rules.proofs.PlanRenamed.{renamePlan, plan-renamed, verdict-renamed, output-renamed}
-use Rattle.rules.proofs.WritesRenamed.{mark-renamed, enact-renamed}
+use Rattle.rules.proofs.WritesRenamed.{note-renamed, enact-renamed}
 use Rattle.rules.proofs.QuestionsRenamed.{sixteen-ports, packetRefusal-renamed, tell-renamed}
 
 -- ---- a refusal's number and a relay, renamed
@@ -66,7 +66,7 @@ addresses-renamed m (sets-rate target grace penalty) = refl
 addresses-renamed m (adds address) = refl
 addresses-renamed m (removes address) = refl
 addresses-renamed m (renumbers images) = refl
-addresses-renamed m (marks destination clock) = refl
+addresses-renamed m (notes-path note destination clock) = refl
 
 -- ---- one call
 module _ (m : List ℕ) (ok : oneToOne m ≡ true) (r : Relay) (fine : tablesOk r ≡ true) (fine′ : tablesOk (renumbered m r) ≡ true) where
@@ -119,7 +119,7 @@ module _ (m : List ℕ) (ok : oneToOne m ≡ true) (r : Relay) (fine : tablesOk 
   rows-renamed (adds address) = refl
   rows-renamed (removes address) = refl
   rows-renamed (renumbers images) = refl
-  rows-renamed (marks destination clock) =
+  rows-renamed (notes-path note destination clock) =
       let there : isThere (viewAt clock (renumbered m r) .path destination) ≡ isThere (viewAt clock r .path destination) =
       ap isThere (path-renamed m clock r destination) ∙ isThere-renamed m (renamePath m) (viewAt clock r .path destination) in
       ap (λ (b : Bool). clockBad r clock gives 5 otherwise not b gives 12 otherwise []) there
@@ -132,7 +132,7 @@ module _ (m : List ℕ) (ok : oneToOne m ≡ true) (r : Relay) (fine : tablesOk 
   after-renamed (adds address) no-map n = refl
   after-renamed (removes address) no-map n = refl
   after-renamed (renumbers images) no-map n = absurd (false≢true (sym no-map ∙ not-false _ (n .0)))
-  after-renamed (marks destination clock) no-map n = mark-renamed m ok destination clock r
+  after-renamed (notes-path note destination clock) no-map n = note-renamed m ok note destination clock r
 
   settle-renamed : (c : TableCall) → ruleOf c .movesPorts ≡ false → settle (ruleOf c .renamed m) (renumbered m r) ≡ renameSetting m (settle c r)
   unfolding settle settled renameSetting _then_otherwise_

@@ -8,6 +8,7 @@ use mathlib.Core.Path.{_≡_, refl, sym, ap, subst, _∙_}
 use lib.Dec.{eqb}
 use lib.ListN.{length}
 use borrow.Author.Tests.{eqb-true}
+use Rattle.octets.proofs.Index.{and-false}
 use Rattle.octets.specs.Index.{_and_}
 use Rattle.octets.proofs.Choice.{then-true, then-false}
 use Rattle.octets.proofs.Listed.{NoneHolds}
@@ -19,27 +20,27 @@ use Rattle.rules.specs.Refusals.{packetRefusal}
 use Rattle.rules.specs.Arrival.{Arrival, destination}
 use Rattle.rules.specs.Rate.{letsBy, rated, entryAccepted, entryRevived, entryDropped}
 use Rattle.rules.specs.Ways.{Way, everywhere, by-path, along-link, by-return, blocked, wayOn}
-use Rattle.rules.specs.Tests.{revives, ofKnown, isRateLimited, rateLimited}
+use Rattle.rules.specs.Tests.{revives, ofKnown}
 use Rattle.rules.specs.Judging.{Plan, dropped, delivered, follows, plan}
 use Rattle.rules.specs.Writes.{announcedRate, announcedPath, putPath, limitPath, enact}
-use Rattle.rules.specs.Calls.{newTally, judged, judge, packetCall, TableCall, sets-port, sets-rate, adds, removes, renumbers, marks, ruleOf, tableRefusal, settle, settled}
+use Rattle.rules.specs.Calls.{newTally, judged, judge, packetCall, TableCall, sets-port, sets-rate, adds, removes, renumbers, notes-path, ruleOf, tableRefusal, settle, settled}
 use Rattle.rules.specs.Saved.{saveRefusal, loadRefusal}
 use Rattle.rules.specs.Run.{Call, packet, on-tables, asks, saves, loads, Reply, answered, numbered, told, saved, unsaved, Outcome, ofJudgement, ofSetting, ofTold, saveReply, ofSaid, perform, replies, setsRelay, noneLoads}
 use Rattle.rules.specs.Chatty.{planIf, packetCallWithout, performWithout, repliesWithout, NoRateDrop, NoneRateDrop, targetOf, NoTarget, RateOff, OffWithoutTarget}
 use Rattle.rules.specs.declared.RateEntry.{RateEntry}
 use Rattle.rules.specs.declared.Rated.{Rated}
 use Rattle.rules.specs.declared.Tally.{Tally}
-use Rattle.rules.proofs.Choices.{either, and-false}
+use Rattle.rules.proofs.Choices.{either}
 use Rattle.rules.proofs.Rows.{table-passed}
 use Rattle.rules.proofs.Slots.{Every, every-set, every-fresh, every-renamed}
 use Rattle.rules.proofs.Accepted.{accepted-packet}
 use Rattle.rules.proofs.Followed.{Found, Planned, planned, found-way}
 use Rattle.rules.proofs.Stamped.{enact-clock}
 use Rattle.rules.proofs.Held.{Property, Holds, WayKeeps, PlanKeeps, TableKeeps, enact-held, table-held, packet-kept, table-kept-by, ask-kept, save-kept, load-kept, first-none, others-none}
-use Rattle.rules.proofs.Marks.{mark-every}
+use Rattle.rules.proofs.Noted.{noted-every}
 use Rattle.rules.proofs.Unique.{table-clock}
 use Rattle.rules.proofs.RateLaws.{rated-on-time}
-use Rattle.rules.proofs.ChattyPlan.{plan-if, dropped-reached, rate-dropped}
+use Rattle.rules.proofs.ChattyPlan.{rateLimited, plan-if, dropped-reached, rate-dropped}
 
 -- ---- what holds all along: the target is 0, no path is blocked, and none was announced after the last clock
 abbrev Calm : ℕ → Path → Type 0
@@ -113,7 +114,7 @@ module _ (a : Arrival) (r : Relay) (h : Holds (calmAt (a .clock)) r) where
     unblocked = ap (λ (x : Rated). x .«blocked_until») on-time ∙ calm .0
 
   way-off : (w : Way) → Found seen a w → rateLimited seen a w ≡ false
-  unfolding rateLimited ofKnown isRateLimited
+  unfolding ofKnown
   way-off (everywhere empty) f = refl
   way-off (everywhere (used p)) f = ap (λ (x : Rated). not (revives a p) and x .dropped) (on-time p f) ∙ and-false _
   way-off (by-path p) f = refl
@@ -179,7 +180,7 @@ table-calm c r before none n = table-held h c (go c none)
       where
         renamed : (m : List ℕ) (p : Path) → Calm now p → Calm now (renamePath m p)
         renamed m p k = k
-    go (marks destination clock) none = (tt, mark-every destination clock r _ (λ _. refl) _ (λ _ k. k) (h .paths))
+    go (notes-path note destination clock) none = (tt, noted-every note destination clock r _ (λ _. refl) _ (λ _ k. k) (h .paths))
 
 -- only a packet is answered
 isAnswer : Reply → Bool

@@ -7,7 +7,8 @@ use lib.ListN.{length, set}
 use lib.Seq.{set-getD}
 use borrow.Author.Tests.{not-true}
 use Rattle.octets.specs.Index.{_and_}
-use Rattle.octets.proofs.Index.{and-left, and-right, and-both, and-no}
+use Rattle.octets.specs.Choice.{_then_otherwise_}
+use Rattle.octets.proofs.Index.{and-left, and-right, and-both, and-no, and-false}
 use Rattle.octets.proofs.Choice.{then-false}
 use Rattle.packet.specs.Header.{isAnnounce}
 use Rattle.numbers.specs.Numbers.{live}
@@ -16,7 +17,7 @@ use Rattle.rules.specs.View.{View, viewAt, pathPlace}
 use Rattle.rules.specs.Arrival.{Arrival, header, destination}
 use Rattle.rules.specs.Rate.{rated, entryAccepted}
 use Rattle.rules.specs.Ways.{everywhere, wayOn}
-use Rattle.rules.specs.Tests.{revives, ofKnown, isRateLimited, rateLimited}
+use Rattle.rules.specs.Tests.{revives, ofKnown, knownTests}
 use Rattle.rules.specs.Judging.{Plan, dropped, delivered, follows, plan}
 use Rattle.rules.specs.Writes.{announcedRate, announcedPath, limitPath, isRateDrop, writeDrop, writePlan}
 use Rattle.rules.specs.Run.{packet, perform}
@@ -24,18 +25,19 @@ use Rattle.rules.specs.Chatty.{NoRateDrop, WhileBlocked, PathsStay, Bloc
 use Rattle.rules.specs.declared.RateEntry.{RateEntry}
 use Rattle.rules.specs.declared.Rated.{Rated}
 use Rattle.rules.specs.declared.Tally.{Tally}
-use Rattle.rules.proofs.Choices.{either, and-false}
+use Rattle.rules.proofs.Choices.{either}
 use Rattle.rules.proofs.Passed.{passed}
 use Rattle.rules.proofs.Stamped.{enact-paths}
 use Rattle.rules.proofs.Held.{packet-kept}
 use Rattle.rules.proofs.Announced.{shown-after}
 use Rattle.rules.proofs.RateLaws.{rated-blocked, blocked-stays, rated-on-time}
-use Rattle.rules.proofs.ChattyPlan.{announce-way, dropped-reached, reaches, past-rate, rate-dropped}
+use Rattle.rules.proofs.Joined.{holdsFor, none-for}
+use Rattle.rules.proofs.ChattyPlan.{rateLimited, announce-way, dropped-reached, reaches, past-rate, rate-dropped}
 
 -- what test 15 says of an announce of a known path
 pub known-limited : (v : View) (a : Arrival) (p : Path) → isAnnounce (header a) ≡ true → v .path (destination a) ≡ used p
     → rateLimited v a (wayOn v a) ≡ (not (revives a p) and rated (v .rate) (a .clock) (p .rate) .dropped)
-unfolding rateLimited ofKnown isRateLimited
+unfolding ofKnown
 known-limited v a p announce known = ap (rateLimited v a) (announce-way v a announce ∙ ap everywhere known)
 
 -- it is made, unless the announce revives a marked one
@@ -66,12 +68,13 @@ module _ (p : Path) (a : Arrival) (r : Relay) (h : WhileBlocked p a r) where
       ∙ set-getD (r .paths) place empty
 
   plan-stays : (todo : Plan) → plan seen a ≡ todo → writePlan seen a todo r .paths ≡ r .paths
-  unfolding writePlan writeDrop
+  unfolding writePlan writeDrop knownTests holdsFor _then_otherwise_
   plan-stays (dropped reason) e = either (λ (s : Relay). s .paths ≡ r .paths) (isRateDrop reason) (λ _. limit-stays) (λ _. refl)
   plan-stays delivered e = refl
   plan-stays (follows w) e =
       let (way, p) = passed seen a w e in
-      absurd (false≢true (sym (p .unlimited) ∙ sym (ap (rateLimited seen a) way) ∙ holds-then))
+      let past : rateLimited seen a w ≡ false = none-for isRateDrop (knownTests seen a w) (p .known) in
+      absurd (false≢true (sym past ∙ sym (ap (rateLimited seen a) way) ∙ holds-then))
 
 pub blocked-announce-stays : BlockedStays
 blocked-announce-stays p a output r t h =

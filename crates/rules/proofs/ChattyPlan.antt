@@ -5,7 +5,7 @@ use mathlib.Core.Bool.{Bool, true, false, not, false≢true}
 use mathlib.Core.List.{List}
 use mathlib.Core.Path.{_≡_, refl, sym, ap, subst, _∙_}
 use lib.Dec.{eqb}
-use lib.ListN.{length, take, drop}
+use lib.ListN.{length}
 use borrow.Author.Tests.{not-true}
 use Rattle.octets.specs.Index.{_and_}
 use Rattle.octets.specs.Choice.{_then_otherwise_, _or_}
@@ -19,7 +19,7 @@ use Rattle.rules.specs.View.{View, viewAt}
 use Rattle.rules.specs.Refusals.{packetRefusal}
 use Rattle.rules.specs.Arrival.{Arrival, header, destination, isLinkProof}
 use Rattle.rules.specs.Ways.{Way, everywhere, by-path, along-link, by-return, blocked, pathWay, linkWay, returnWay, wayOn}
-use Rattle.rules.specs.Tests.{ofKnown, rateLimited, portOff, tooLongForPort, noRoom}
+use Rattle.rules.specs.Tests.{ofKnown, isRateLimited, knownTests, portOff, tooLongForPort, noRoom}
 use Rattle.rules.specs.Judging.{Plan, dropped, follows, earlyTests, onwardTests, onwardPlan, plan, verdict}
 use Rattle.rules.specs.Calls.{Judgement, judged, judge, packetCall}
 use Rattle.rules.specs.Questions.{ofTest}
@@ -30,7 +30,8 @@ use Rattle.rules.specs.declared.Reason.the-variants.{RateLimited}
 use Rattle.rules.specs.declared.Verdict.the-variants.{Drop}
 use Rattle.rules.specs.declared.Tally.{Tally}
 use Rattle.rules.proofs.Choices.{either}
-use Rattle.rules.proofs.Passed.{passed, namesTest, names-test}
+use Rattle.rules.proofs.Joined.{before, behind, none-before}
+use Rattle.rules.proofs.Passed.{none-held, namesTest, names-test}
 use Rattle.rules.proofs.SignatureWord.{told-never}
 
 -- the way is an announce's
@@ -41,30 +42,34 @@ isSpread (along-link l) = false
 isSpread (by-return t) = false
 isSpread (blocked why) = false
 
+-- what test 15 says of a way
+abbrev pub rateLimited : View → Arrival → Way → Bool
+rateLimited v a w = ofKnown a (isRateLimited v a) w
+
 module _ (v : View) (a : Arrival) where
   -- ---- the plan is the one with what test 15 does say
   pub plan-if : plan v a ≡ planIf (rateLimited v a (wayOn v a)) v a
-  unfolding plan onwardPlan planIf rateSays onwardTests ofTest _then_otherwise_
+  unfolding plan onwardPlan planIf rateSays onwardTests knownTests ofTest _then_otherwise_
   plan-if = refl
 
-  -- tests 1 to 11 let the packet by
+  -- the tests before it let the packet by
   pub record Reaches : Type 0 where
     pub early : NoneHolds (earlyTests v a)
-    pub onward : NoneHolds (take 6 (onwardTests v a (wayOn v a)))
+    pub onward : NoneHolds (before (ofTest 15) (onwardTests v a (wayOn v a)))
 
-  -- what is left is test 15 and those after it
+  -- what is left is test 15 and those behind it
   pub from-rate : Reaches → (b : Bool)
-      → planIf b v a ≡ firstOf (b gives dropped RateLimited otherwise drop 7 (onwardTests v a (wayOn v a))) (follows (wayOn v a))
-  unfolding planIf rateSays onwardTests firstOf ofTest _then_otherwise_
-  from-rate h b = none-first (earlyTests v a) _ (h .early) ∙ none-first (take 6 (onwardTests v a (wayOn v a))) _ (h .onward)
+      → planIf b v a ≡ firstOf (b gives dropped RateLimited otherwise behind (ofTest 15) (onwardTests v a (wayOn v a))) (follows (wayOn v a))
+  unfolding planIf rateSays onwardTests knownTests before behind firstOf ofTest _then_otherwise_
+  from-rate h b = none-first (earlyTests v a) _ (h .early) ∙ none-first (before (ofTest 15) (onwardTests v a (wayOn v a))) _ (h .onward)
 
   pub reaches : ofTest 15 (planIf true v a) ≡ true → Reaches
-  unfolding planIf rateSays earlyTests onwardTests firstOf allGive ofTest _and_ _then_otherwise_
+  unfolding planIf rateSays earlyTests onwardTests knownTests before firstOf allGive ofTest _and_ _then_otherwise_
   reaches h =
       let other : Plan → Bool = λ todo. not (ofTest 15 todo) in
       let early : NoneHolds (earlyTests v a) = none-holds other (earlyTests v a) _ refl (ap not h) in
       let on = sym (ap (ofTest 15) (none-first (earlyTests v a) _ early)) ∙ h in
-      record { early = early; onward = none-holds other (take 6 (onwardTests v a (wayOn v a))) (dropped RateLimited) refl (ap not on) }
+      record { early = early; onward = none-holds other (before (ofTest 15) (onwardTests v a (wayOn v a))) (dropped RateLimited) refl (ap not on) }
 
   reached : Reaches → ofTest 15 (planIf true v a) ≡ true
   unfolding firstOf ofTest _then_otherwise_
@@ -72,20 +77,14 @@ module _ (v : View) (a : Arrival) where
 
   -- what follows a way has reached it
   pub follows-reached : (w : Way) → plan v a ≡ follows w → ofTest 15 (planIf true v a) ≡ true
-  unfolding earlyTests onwardTests
   follows-reached w e =
-      let (way, p) = passed v a w e in
-      reached
-      (record {
-        early = (p .ours, (p .new, (p .form, (p .notOwn, (p .elsewhere, (p .fewHops, tt))))));
-        onward =
-            subst (λ (x : Way). NoneHolds (take 6 (onwardTests v a x))) (sym way)
-            (p .someWay, (p .unknown, (p .side, (p .signed, (p .newBlob, (p .better, tt))))));
-      })
+      let (way, early, late) = none-held v a w e in
+      let onward = none-before (ofTest 15) (onwardTests v a w) late in
+      reached (record { early = early; onward = subst (λ (x : Way). NoneHolds (before (ofTest 15) (onwardTests v a x))) (sym way) onward })
 
   -- where it doesn't hold, it drops nothing
   never-dropped : ofTest 15 (planIf false v a) ≡ false
-  unfolding planIf rateSays told earlyTests onwardTests allGive ofTest _and_ _then_otherwise_
+  unfolding planIf rateSays told earlyTests onwardTests knownTests allGive ofTest _and_ _then_otherwise_
   never-dropped =
       not-true _
       (all-first (λ x. not (ofTest 15 x)) (earlyTests v a) _ refl
@@ -100,7 +99,7 @@ module _ (v : View) (a : Arrival) where
       go false e =
           absurd (false≢true (sym never-dropped ∙ sym (ap (λ (b : Bool). ofTest 15 (planIf b v a)) e) ∙ sym (ap (ofTest 15) plan-if) ∙ h))
 
-  -- ---- only announces go everywhere, and only of a known path can test 15 hold
+  -- ---- only announces go everywhere, and only of their ways can a test of a known path hold
   path-not : (s : Slot Path) (expired : Slot ℕ) → isSpread (pathWay s expired) ≡ false
   unfolding isSpread pathWay
   path-not empty expired = refl
@@ -131,24 +130,24 @@ module _ (v : View) (a : Arrival) where
   unfolding wayOn
   announce-way e = then-true _ _ e
 
-  pub limited-spread : (w : Way) → rateLimited v a w ≡ true → isSpread w ≡ true
-  unfolding rateLimited ofKnown isSpread
-  limited-spread (everywhere known) h = refl
-  limited-spread (by-path p) h = h
-  limited-spread (along-link l) h = h
-  limited-spread (by-return t) h = h
-  limited-spread (blocked why) h = h
+  pub known-spread : (test : Path → Bool) (w : Way) → ofKnown a test w ≡ true → isSpread w ≡ true
+  unfolding ofKnown isSpread
+  known-spread test (everywhere known) h = refl
+  known-spread test (by-path p) h = h
+  known-spread test (along-link l) h = h
+  known-spread test (by-return t) h = h
+  known-spread test (blocked why) h = h
 
   -- an announce of a known path that gets past test 15 is accepted
   pub past-rate : (p : Path) → isAnnounce (header a) ≡ true → v .path (destination a) ≡ used p → rateLimited v a (wayOn v a) ≡ false → Reaches
       → plan v a ≡ follows (everywhere (used p))
-  unfolding onwardTests firstOf _then_otherwise_ portOff tooLongForPort noRoom
+  unfolding onwardTests knownTests behind ofTest firstOf _then_otherwise_ portOff tooLongForPort noRoom
   past-rate p announce known off h =
       plan-if
       ∙ ap (λ (b : Bool). planIf b v a) off
       ∙ from-rate h false
-      ∙ ap (λ (w : Way). firstOf (drop 7 (onwardTests v a w)) (follows w)) (announce-way announce ∙ ap everywhere known)
-      ∙ none-first (drop 7 (onwardTests v a (everywhere (used p)))) _
+      ∙ ap (λ (w : Way). firstOf (behind (ofTest 15) (onwardTests v a w)) (follows w)) (announce-way announce ∙ ap everywhere known)
+      ∙ none-first (behind (ofTest 15) (onwardTests v a (everywhere (used p)))) _
       (and-no _ (ap not announce), (and-no _ (ap not announce), (refl, tt)))
 
 -- ---- a reply that names test 15 is of an accepted packet that it drops

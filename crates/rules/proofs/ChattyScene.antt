@@ -10,7 +10,7 @@ use Rattle.octets.specs.Choice.{same}
 use Rattle.octets.proofs.Index.{and-both}
 use Rattle.packet.specs.Hash.{packetHash}
 use Rattle.numbers.specs.Numbers.{blobLimit, hashCount, live}
-use Rattle.rules.specs.Relay.{makeRateSettings, makeRateEntry, Slot, empty, used, Blobs, Path, Remembered, Relay, fresh, withRate}
+use Rattle.rules.specs.Relay.{noNotes, makeRateSettings, makeRateEntry, Slot, empty, used, Blobs, Path, Remembered, Relay, fresh, withRate}
 use Rattle.rules.specs.Blobs.{noBlob, addBlob}
 use Rattle.rules.specs.View.{View, viewAt}
 use Rattle.rules.specs.Refusals.{packetRefusal}
@@ -61,7 +61,7 @@ blobsOf ks = stored (record { count = 0; places = replicate blobLimit noBlob }) 
 
 abbrev pub pathOf : ℕ → RateEntry → List ℕ → Path
 pathOf expiry rate ks =
-    record { destination = destination; port = 1; hops = 0; nextHop = destination; expiry = expiry; rate = rate; marked = false; blobs = blobsOf ks }
+    record { destination = destination; port = 1; hops = 0; nextHop = destination; expiry = expiry; rate = rate; notes = noNotes; blobs = blobsOf ks }
 
 abbrev pub counting : (dropped spread : ℕ) → Tally
 counting dropped spread = record { total = dropped + spread; dropped = dropped; delivered = 0; forwarded = 0; spread = spread; kept = 0 }

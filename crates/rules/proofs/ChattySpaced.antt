@@ -17,10 +17,10 @@ use Rattle.rules.specs.Refusals.{slotOk, pathOk, packetRefusal}
 use Rattle.rules.specs.Arrival.{Arrival, header, destination}
 use Rattle.rules.specs.Rate.{letsBy, rated, entryAccepted, entryRevived, entryDropped}
 use Rattle.rules.specs.Ways.{Way, everywhere, by-path, along-link, by-return, blocked, wayOn}
-use Rattle.rules.specs.Tests.{revives, ofKnown, rateLimited}
+use Rattle.rules.specs.Tests.{revives, ofKnown}
 use Rattle.rules.specs.Judging.{Plan, dropped, delivered, follows, plan}
 use Rattle.rules.specs.Writes.{announcedRate, announcedPath, putPath, limitPath, enact}
-use Rattle.rules.specs.Calls.{newTally, TableCall, sets-port, sets-rate, adds, removes, renumbers, marks, ruleOf}
+use Rattle.rules.specs.Calls.{newTally, TableCall, sets-port, sets-rate, adds, removes, renumbers, notes-path, ruleOf}
 use Rattle.rules.specs.Questions.{ofTest}
 use Rattle.rules.specs.Run.{Call, packet, on-tables, asks, saves, loads, perform, setsRelay, noneLoads}
 use Rattle.rules.specs.Chatty.{planIf, reachesRate, SpacedCall, Spaced, NotDropped, NeverBlocked, SpacedNeverBlocked}
@@ -34,9 +34,9 @@ use Rattle.rules.proofs.Passed.{passed}
 use Rattle.rules.proofs.Followed.{Planned, planned}
 use Rattle.rules.proofs.Held.{Property, Holds, WayKeeps, PlanKeeps, TableKeeps, enact-held, table-held, packet-kept, table-kept-by, ask-kept, save-kept, load-kept, first-none, others-none}
 use Rattle.rules.proofs.Valid.{accepted-valid}
-use Rattle.rules.proofs.Marks.{mark-every}
+use Rattle.rules.proofs.Noted.{noted-every}
 use Rattle.rules.proofs.RateLaws.{rated-on-time}
-use Rattle.rules.proofs.ChattyPlan.{isSpread, spread-announce, limited-spread, announce-way, follows-reached, dropped-reached, rate-dropped}
+use Rattle.rules.proofs.ChattyPlan.{rateLimited, isSpread, spread-announce, known-spread, announce-way, follows-reached, dropped-reached, rate-dropped}
 use Rattle.rules.proofs.ChattyPacket.{known-limited, known-made}
 
 module _ (d : List ℕ) where
@@ -120,7 +120,7 @@ module _ (d : List ℕ) where
 
     -- test 15 drops no announce of it
     unlimited : isAnnounce (header a) ≡ true → destination a ≡ d → ofTest 15 (plan seen a) ≡ true → ⊥
-    unfolding rateLimited ofKnown
+    unfolding ofKnown
     unlimited announce is by15 =
         let (holds-then, reach) = dropped-reached seen a by15 in
         go reach holds-then (seen .path (destination a)) refl
@@ -137,7 +137,7 @@ module _ (d : List ℕ) where
     limit-free by15 empty e = h .paths
     limit-free by15 (used p) e =
         let (holds-then, reach) = dropped-reached seen a by15 in
-        let announce = spread-announce seen a (limited-spread seen a (wayOn seen a) holds-then) in
+        let announce = spread-announce seen a (known-spread seen a _ (wayOn seen a) holds-then) in
         let made = holds-made announce p e holds-then .0 in
         every-set _ _ (r .paths) _ _ (h .paths) (λ is. still-free announce (sym (its-key p e) ∙ is) reach p e made)
 
@@ -180,7 +180,7 @@ module _ (d : List ℕ) where
       go (adds address) = tt
       go (removes address) = tt
       go (renumbers images) = (tt, every-renamed _ _ (renamePath images) (λ _. refl) (λ p k. k) (r .paths) (h .paths), tt, tt)
-      go (marks destination clock) = (tt, mark-every destination clock r _ (λ _. refl) _ (λ p k. k) (h .paths))
+      go (notes-path note destination clock) = (tt, noted-every note destination clock r _ (λ _. refl) _ (λ p k. k) (h .paths))
 
   module _ (r : Relay) (h : FreeRelay r) (t : Tally) where
     call-free : (c : Call) → setsRelay c ≡ false → SpacedCall d c r → FreeRelay (perform c r t .relay)

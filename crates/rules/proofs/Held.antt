@@ -17,8 +17,8 @@ use Rattle.rules.specs.Refusals.{packetRefusal, emptyLocal}
 use Rattle.rules.specs.Arrival.{Arrival, header, destination}
 use Rattle.rules.specs.Ways.{Way, everywhere, by-path, along-link, by-return, blocked}
 use Rattle.rules.specs.Judging.{Plan, dropped, delivered, follows, plan, verdict, outputAfter}
-use Rattle.rules.specs.Writes.{remembers, remember, putPath, limitPath, markPath, putReturn, emptyReturn, putLink, renewLink, writeWay, isRateDrop, writeDrop, writePlan, stamp, enact}
-use Rattle.rules.specs.Calls.{Judgement, judged, judge, packetCall, settled, TableCall, sets-port, sets-rate, adds, removes, renumbers, marks, ruleOf, tableRefusal, settle}
+use Rattle.rules.specs.Writes.{remembers, remember, putPath, limitPath, notePath, putReturn, emptyReturn, putLink, renewLink, writeWay, isRateDrop, writeDrop, writePlan, stamp, enact}
+use Rattle.rules.specs.Calls.{Judgement, judged, judge, packetCall, settled, TableCall, sets-port, sets-rate, adds, removes, renumbers, notes-path, ruleOf, tableRefusal, settle}
 use Rattle.rules.specs.Questions.{Question}
 use Rattle.rules.specs.Saved.{Format, loadRefusal}
 use Rattle.rules.specs.Run.{Call, packet, on-tables, asks, saves, loads, EachCall, answered, Outcome, ofJudgement, ofSetting, ofTold, ofSaid, perform, relayAfter, noCall}
@@ -169,16 +169,16 @@ TableKeeps P r (renumbers images) =
     × P .paths (map (renameSlot (renamePath images)) (r .paths))
     × P .links (map (renameSlot (renameLink images)) (r .links))
     × P .returns (withSlots (map (renameSlot (renameReturn images)) (r .returns .slots)) (r .returns))
-TableKeeps P r (marks destination clock) = P .clock clock × P .paths (markPath destination clock r .paths)
+TableKeeps P r (notes-path note destination clock) = P .clock clock × P .paths (notePath note destination clock r .paths)
 
 pub table-held : {P : Property} {r : Relay} → Holds P r → (c : TableCall) → TableKeeps P r c → Holds P (ruleOf c .after r)
-unfolding ruleOf renumbered markPath withPaths
+unfolding ruleOf renumbered notePath withPaths
 table-held h (sets-port port on mode size) k = ports-held h k
 table-held h (sets-rate target grace penalty) k = rate-held h k
 table-held h (adds address) k = locals-held h k
 table-held h (removes address) k = locals-held h k
 table-held h (renumbers images) k = ports-held (paths-held (links-held (returns-held h (k .3)) (k .2)) (k .1)) (k .0)
-table-held h (marks destination clock) k = clock-held (paths-held h (k .1)) (k .0)
+table-held h (notes-path note destination clock) k = clock-held (paths-held h (k .1)) (k .0)
 
 -- ---- any call: a refused one leaves the relay as it was
 pub judged-relay : (a : Arrival) (r : Relay) (t : Tally) (output : List ℕ) → eqb (packetRefusal r a (length output)) 0 ≡ true

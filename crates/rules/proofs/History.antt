@@ -15,7 +15,7 @@ use Rattle.rules.specs.View.{View, viewAt}
 use Rattle.rules.specs.Renumbering.{renumbered}
 use Rattle.rules.specs.Refusals.{packetRefusal}
 use Rattle.rules.specs.Judging.{plan, verdict}
-use Rattle.rules.specs.Calls.{newTally, up, counted, Judgement, judged, judge, packetCall, settled, TableCall, sets-port, sets-rate, adds, removes, renumbers, marks, ruleOf, tableRefusal, settle}
+use Rattle.rules.specs.Calls.{newTally, up, counted, Judgement, judged, judge, packetCall, settled, TableCall, sets-port, sets-rate, adds, removes, renumbers, notes-path, ruleOf, tableRefusal, settle}
 use Rattle.rules.specs.Questions.{questionRefusal}
 use Rattle.rules.specs.Saved.{Said, saveRefusal, loadRefusal}
 use Rattle.rules.specs.Run.{Call, packet, on-tables, asks, saves, loads, Reply, answered, numbered, told, saved, unsaved, Outcome, ofJudgement, ofSetting, ofTold, saveReply, ofSaid, perform, replies, relayAfter, tallyAfter, setsRelay, noneLoads}
@@ -179,7 +179,7 @@ clockAfter (on-tables (sets-rate target grace penalty)) last = last
 clockAfter (on-tables (adds address)) last = last
 clockAfter (on-tables (removes address)) last = last
 clockAfter (on-tables (renumbers images)) last = last
-clockAfter (on-tables (marks destination clock)) last = clock
+clockAfter (on-tables (notes-path note destination clock)) last = clock
 clockAfter (asks q) last = last
 clockAfter (saves f room) last = last
 clockAfter (loads f file) last = last
@@ -196,7 +196,7 @@ table-after (sets-rate target grace penalty) r = refl
 table-after (adds address) r = refl
 table-after (removes address) r = refl
 table-after (renumbers images) r = refl
-table-after (marks destination clock) r = refl
+table-after (notes-path note destination clock) r = refl
 
 clock-after : (c : Call) (r : Relay) (t : Tally) → setsRelay c ≡ false
     → perform c r t .relay .clock ≡ (accepted c r then clockAfter c (r .clock) otherwise r .clock)

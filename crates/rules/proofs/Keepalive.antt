@@ -7,9 +7,11 @@ use borrow.Author.Tests.{eqb-true, not-true}
 use Rattle.octets.specs.Index.{_and_}
 use Rattle.octets.specs.Choice.{_then_otherwise_, _or_}
 use Rattle.octets.specs.Listed.{firstOf, anyHolds}
-use Rattle.octets.proofs.Index.{and-left, and-right, and-both, and-no}
+use Rattle.octets.proofs.Index.{and-left, and-right, and-both, and-no, and-false}
 use Rattle.octets.proofs.Choice.{or-no, same-eq}
 use Rattle.octets.proofs.Listed.{none-first}
+use Rattle.rules.proofs.Joined.{none-joined}
+use Rattle.rules.proofs.Passed.{none-known}
 use Rattle.packet.specs.Header.{typeTwo, ofKindLink, packetKind, isData, isAnnounce, isLinkRequest, isProof}
 use Rattle.packet.specs.Read.{partsOf}
 use Rattle.rules.specs.Relay.{used, Relay}
@@ -17,12 +19,12 @@ use Rattle.rules.specs.View.{View, portSize}
 use Rattle.rules.specs.Arrival.{Arrival, header, hops, destination, isLinkProof}
 use Rattle.rules.specs.Exempt.{exemptContext, exempt}
 use Rattle.rules.specs.Ways.{Way, along-link, linkWay, wayOn}
-use Rattle.rules.specs.Tests.{notOurs, testedAsDuplicate, duplicate, typeTwoProof, typeTwoOfKindLink, announceNotSingle, announceTooShort, announceOfAnother, requestOfKindLink, requestTooShort, linkProofLength, formTests, badForm, ownAnnounce, deliveredHere, tooManyHops, noWayOn, alreadyKnown, fromAnsweringSide, fromAskingSide, wrongSide, notSigned, ofKnown, replay, notBetter, rateLimited, leavingPort, portOff, tooLongForPort, noRoom}
+use Rattle.rules.specs.Tests.{notOurs, testedAsDuplicate, duplicate, typeTwoProof, typeTwoOfKindLink, announceNotSingle, announceTooShort, announceOfAnother, requestOfKindLink, requestTooShort, linkProofLength, formTests, badForm, ownAnnounce, deliveredHere, tooManyHops, noWayOn, alreadyKnown, fromAnsweringSide, fromAskingSide, wrongSide, notSigned, ofKnown, knownTests, leavingPort, portOff, tooLongForPort, noRoom}
 use Rattle.rules.specs.Outgoing.{outgoing, exceeds}
-use Rattle.rules.specs.Judging.{follows, earlyTests, onwardTests, onwardPlan, plan}
+use Rattle.rules.specs.Judging.{dropped, follows, earlyTests, onwardTests, onwardPlan, plan}
 use Rattle.rules.specs.Keepalives.{isKeepalive, keepsAlive}
 use Rattle.rules.specs.declared.Link.{Link}
-use Rattle.rules.proofs.Choices.{either, and-false}
+use Rattle.rules.proofs.Choices.{either}
 use Rattle.rules.proofs.Lengths.{carried-length}
 
 -- a packet of a link that is no link proof, from one of its sides
@@ -145,7 +147,7 @@ module _ (r : Relay) (l : Link) (a : Arrival) (k : keepsAlive r l a ≡ true) wh
 
     late-none : v .on (l .asking) ≡ true → v .on (l .answering) ≡ true → exceeds (a .bytes) (v .size (leavingPort a (along-link l))) ≡ false
         → firstOf (onwardTests v a (along-link l)) (follows (along-link l)) ≡ follows (along-link l)
-    unfolding onwardTests noWayOn alreadyKnown notSigned ofKnown replay notBetter rateLimited portOff noRoom
+    unfolding onwardTests noWayOn alreadyKnown notSigned ofKnown portOff noRoom
     late-none asking answering short =
         none-first (onwardTests v a (along-link l)) _ (
           refl,
@@ -155,18 +157,9 @@ module _ (r : Relay) (l : Link) (a : Arrival) (k : keepsAlive r l a ≡ true) wh
               right-side,
               (
                 and-no _ (or-no no-announce no-link-proof),
-                (
-                  refl,
-                  (
-                    refl,
-                    (
-                      refl,
-                      (
-                        ap (λ (b : Bool). not (isAnnounce (header a)) and not b) (port-on asking answering) ∙ and-false _,
-                        (sized short, (refl, tt)),
-                      ),
-                    ),
-                  ),
+                none-joined dropped (knownTests v a (along-link l)) _ (none-known v a (along-link l) refl) (
+                  ap (λ (b : Bool). not (isAnnounce (header a)) and not b) (port-on asking answering) ∙ and-false _,
+                  (sized short, (refl, tt)),
                 ),
               ),
             ),

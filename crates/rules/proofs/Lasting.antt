@@ -12,7 +12,7 @@ use borrow.Author.Tests.{ltb-true, ltb-false, lt-ltb, eq-eqb, not-true}
 use Rattle.octets.specs.Index.{_and_}
 use Rattle.octets.specs.Choice.{_then_otherwise_, _or_, same}
 use Rattle.octets.specs.Part.{patch}
-use Rattle.octets.proofs.Index.{and-left, and-both, and-no, and-yes, first-holds}
+use Rattle.octets.proofs.Index.{and-left, and-both, and-no, and-yes, first-holds, and-false}
 use Rattle.octets.proofs.Choice.{then-true, then-false, or-no-left, or-no-right, same-eq, eq-same}
 use Rattle.octets.proofs.Listed.{NoneHolds}
 use Rattle.packet.specs.Header.{isData}
@@ -26,15 +26,15 @@ use Rattle.rules.specs.Ways.{Way, everywhere, by-path, along-link, by-re
 use Rattle.rules.specs.Tests.{isThere, alreadyKnown, fromAnsweringSide, fromAskingSide, leavingPort}
 use Rattle.rules.specs.Outgoing.{outgoing, carriedPacket}
 use Rattle.rules.specs.Judging.{Plan, dropped, delivered, follows, plan, verdict, wayVerdict, leaves, outputAfter}
-use Rattle.rules.specs.Writes.{putPath, markPath, putReturn, emptyReturn, linkRecord, putLink, renewedLink, renewLink, writeWay, writePlan, remember, remembers, stamp, enact}
-use Rattle.rules.specs.Calls.{Judgement, judged, judge, packetCall, TableCall, sets-port, sets-rate, adds, removes, renumbers, marks, ruleOf}
+use Rattle.rules.specs.Writes.{putPath, notePath, putReturn, emptyReturn, linkRecord, putLink, renewedLink, renewLink, writeWay, writePlan, remember, remembers, stamp, enact}
+use Rattle.rules.specs.Calls.{Judgement, judged, judge, packetCall, TableCall, sets-port, sets-rate, adds, removes, renumbers, notes-path, ruleOf}
 use Rattle.rules.specs.Run.{Call, packet, on-tables, asks, saves, loads, answered, ofJudgement, perform}
 use Rattle.rules.specs.Keepalives.{keepsAlive, until, UpAt, Carried, accepted, fair, nextDeadline, Starts, InTime, CarriedIf, Lasts}
 use Rattle.rules.specs.declared.Link.{Link}
 use Rattle.rules.specs.declared.Tally.{Tally}
 use Rattle.rules.specs.declared.Verdict.the-variants.{Forward}
 use Rattle.rules.specs.declared.Answer.the-variants.{Judged}
-use Rattle.rules.proofs.Choices.{either, and-false}
+use Rattle.rules.proofs.Choices.{either}
 use Rattle.rules.proofs.Tables.{table-length}
 use Rattle.rules.proofs.Slots.{used-same}
 use Rattle.rules.proofs.Rows.{table-passed, table-ok}
@@ -339,7 +339,7 @@ up-later l deadline r s clock fine after before =
 -- a call on the tables leaves links, and both ports on
 table-up : (l : Link) (deadline : ℕ) (r : Relay) → Starts l deadline r → (c : TableCall) → fair l deadline (on-tables c) ≡ true
     → tablesOk r ≡ true → NoneHolds (ruleOf c .rows r) → Starts l deadline (ruleOf c .after r)
-unfolding ruleOf fair viewAt linkPlace withClock withRate withPorts withLocals markPath withPaths portOn
+unfolding ruleOf fair viewAt linkPlace withClock withRate withPorts withLocals notePath withPaths portOn
 table-up l deadline r s (sets-port port on mode size) h fine n =
     record {
       expiry = s .expiry;
@@ -375,7 +375,7 @@ table-up l deadline r s (removes address) h fine n =
     }
 table-up l deadline r s (renumbers images) h fine n = absurd (false≢true h)
 -- a mark sets the clock too
-table-up l deadline r s (marks destination clock) h fine n =
+table-up l deadline r s (notes-path note destination clock) h fine n =
     let after : r .clock ≤ clock = ltb-false _ _ (or-no-right _ _ (n .0)) in
     let up = up-later l deadline r s clock fine after (ltb-true clock deadline h) in
     record {

@@ -2,6 +2,7 @@
 pub mod Unfolding
 pub mod Choices
 pub mod Rows
+pub mod Joined
 pub mod Passed
 pub mod Shortcut
 pub mod Scene
@@ -38,7 +39,7 @@ pub mod CallsRenamed
 pub mod RunRenamed
 pub mod RenumberedTwice
 pub mod Renumbering
-pub mod Marks
+pub mod Noted
 pub mod UniqueAt
 pub mod UniqueWrites
 pub mod Unique

@@ -23,7 +23,7 @@ use Rattle.rules.specs.Refusals.{packetRefusal}
 use Rattle.rules.specs.Arrival.{Arrival, header, hops, destination, blob}
 use Rattle.rules.specs.Blobs.{held, isAmong, greatestEmission, storeBlob}
 use Rattle.rules.specs.Ways.{everywhere, wayOn}
-use Rattle.rules.specs.Tests.{duplicate, announceNotSingle, formTests, badForm, ownAnnounce, tooManyHops, noWayOn, wrongSide, notSigned, revives, ofKnown, isReplay, replay, notBetter, rateLimited, portOff, tooLongForPort, noRoom}
+use Rattle.rules.specs.Tests.{duplicate, announceNotSingle, formTests, badForm, ownAnnounce, tooManyHops, noWayOn, wrongSide, notSigned, revives, ofKnown, isReplay, knownTests, portOff, tooLongForPort, noRoom}
 use Rattle.rules.specs.Answers.{verdictKind, reasonNumber}
 use Rattle.rules.specs.Outgoing.{spreadPorts, outgoing, exceeds}
 use Rattle.rules.specs.Judging.{Plan, dropped, delivered, follows, earlyTests, onwardTests, onwardPlan, plan, spreadVerdict, wayVerdict, verdict}
@@ -42,6 +42,7 @@ use Rattle.rules.specs.declared.Answer.the-variants.{Judged}
 use Rattle.rules.specs.declared.Tally.{Tally}
 use Rattle.rules.proofs.Choices.{either}
 use Rattle.rules.proofs.BlobLaws.{among-emission}
+use Rattle.rules.proofs.Joined.{holdsFor, before, none-for}
 use Rattle.rules.proofs.Passed.{passed, namesTest, names-test}
 use Rattle.rules.proofs.Stamped.{enact-paths}
 use Rattle.rules.proofs.Held.{judged-relay, judged-reply}
@@ -118,32 +119,32 @@ module _ (a : Arrival) (output : List ℕ) (r : Relay) (t : Tally) (taken : eqb 
     way-is = announce-way seen a announce ∙ ap everywhere live
 
     -- .. and is unmarked: test 10 holds
-    module _ (unmarked : p .marked ≡ false) where
-      holds-then : replay a (wayOn seen a) ≡ true
-      unfolding replay ofKnown isReplay revives
-      holds-then = ap (replay a) way-is ∙ and-both (ap not (and-no _ unmarked)) among
+    module _ (unmarked : p .notes .marked ≡ false) where
+      holds-then : ofKnown a (isReplay a) (wayOn seen a) ≡ true
+      unfolding ofKnown revives
+      holds-then = ap (ofKnown a (isReplay a)) way-is ∙ and-both (ap not (and-no _ unmarked)) among
 
       -- it stands before test 15
       not-rated : ofTest 15 (plan seen a) ≡ false
-      unfolding onwardTests
+      unfolding onwardTests knownTests before holdsFor ofTest _then_otherwise_
       not-rated = go (ofTest 15 (plan seen a)) refl
         where
           go : (b : Bool) → ofTest 15 (plan seen a) ≡ b → b ≡ false
           go true e =
               let reached = reaches seen a (dropped-reached seen a e .1) in
-              sym holds-then ∙ reached .onward .1 .1 .1 .1 .0
+              sym holds-then ∙ none-for (ofTest 10) (before (ofTest 15) (onwardTests seen a (wayOn seen a))) (reached .onward)
           go false e = refl
 
       held-stays : (todo : Plan) → plan seen a ≡ todo → writePlan seen a todo r .paths ≡ r .paths
-      unfolding writePlan
+      unfolding writePlan knownTests
       held-stays (dropped reason) e = drop-stays reason (sym (ap (ofTest 15) e) ∙ not-rated)
       held-stays delivered e = refl
       held-stays (follows w) e =
           let (way, passes) = passed seen a w e in
-          absurd (false≢true (sym (passes .newBlob) ∙ sym (ap (replay a) way) ∙ holds-then))
+          absurd (false≢true (sym (passes .known .0) ∙ sym (ap (ofKnown a (isReplay a)) way) ∙ holds-then))
 
     -- .. and is marked
-    module _ (marked : p .marked ≡ true) where
+    module _ (marked : p .notes .marked ≡ true) where
       abbrev newest : ℕ
       newest = greatestEmission (held (p .blobs))
 
@@ -175,7 +176,7 @@ module _ (a : Arrival) (output : List ℕ) (r : Relay) (t : Tally) (taken : eqb 
 
       -- tests 6 to 13: below the greatest, test 10 is made, and holds
       onward-is : isAccepted (verdict seen a (onwardPlan seen a (everywhere (used p)))) ≡ (isNewest p a and not (notSigned a))
-      unfolding onwardPlan onwardTests firstOf noWayOn wrongSide replay notBetter rateLimited ofKnown isReplay portOff tooLongForPort noRoom verdict wayVerdict
+      unfolding onwardPlan onwardTests firstOf noWayOn wrongSide knownTests ofKnown portOff tooLongForPort noRoom verdict wayVerdict
           spreadVerdict isAccepted _then_otherwise_ _and_
       onward-is = go (revives a p) (notSigned a) refl refl ∙ ap (λ (b : Bool). b and not (notSigned a)) revives-newest
         where

@@ -7,7 +7,7 @@ use lib.ListN.{length, take, replicate}
 use Rattle.octets.specs.Part.{patch}
 use Rattle.packet.specs.Hash.{packetHash, linkId}
 use Rattle.numbers.specs.Numbers.{localCount, pathCount, blobLimit, linkCount, returnCount, hashCount}
-use Rattle.rules.specs.Relay.{makePort, freshPort, noRateSettings, Slot, empty, used, Path, Return, Remembered, Relay}
+use Rattle.rules.specs.Relay.{noNotes, makePort, freshPort, noRateSettings, Slot, empty, used, Path, Return, Remembered, Relay}
 use Rattle.rules.specs.Blobs.{noBlob}
 use Rattle.rules.specs.Rate.{startsAt}
 use Rattle.rules.specs.View.{viewAt}
@@ -79,7 +79,7 @@ knownPath =
       nextHop = destination;
       expiry = 22600;
       rate = startsAt 1000;
-      marked = false;
+      notes = noNotes;
       blobs = record { count = 1; places = blobWith emission ∷ replicate (blobLimit - 1) noBlob };
     }
 

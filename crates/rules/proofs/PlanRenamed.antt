@@ -22,10 +22,11 @@ use Rattle.rules.specs.Run.{renameArrival}
 use Rattle.rules.specs.declared.Verdict.{Verdict}
 use Rattle.rules.specs.declared.Verdict.the-variants.{Drop, Deliver, Forward, Spread, Kept}
 use Rattle.octets.proofs.Listed.{first-ap}
+use Rattle.rules.proofs.Joined.{joined-valued}
 use Rattle.rules.proofs.Images.{image-port, image-eqb, preimage-holds, source, source-port}
 use Rattle.rules.proofs.PortSets.{image-set, image-set-empty}
 use Rattle.rules.proofs.ViewRenamed.{renameView}
-use Rattle.rules.proofs.TestsRenamed.{renameWay, wayOn-renamed, notOurs-renamed, duplicate-renamed, bytes-renamed, ownAnnounce-renamed, deliveredHere-renamed, noWayOn-renamed, whyBlocked-renamed, alreadyKnown-renamed, wrongSide-renamed, notSigned-renamed, replay-renamed, notBetter-renamed, rateLimited-renamed, leavingPort-renamed, portOff-renamed, tooLongForPort-renamed, noRoom-renamed, outgoing-renamed}
+use Rattle.rules.proofs.TestsRenamed.{renameWay, wayOn-renamed, notOurs-renamed, duplicate-renamed, bytes-renamed, ownAnnounce-renamed, deliveredHere-renamed, noWayOn-renamed, whyBlocked-renamed, alreadyKnown-renamed, wrongSide-renamed, notSigned-renamed, knownTests-renamed, leavingPort-renamed, portOff-renamed, tooLongForPort-renamed, noRoom-renamed, outgoing-renamed}
 
 unfoldable pub renamePlan : List ℕ → Plan → Plan
 renamePlan m (dropped reason) = dropped reason
@@ -54,9 +55,8 @@ module _ (m : List ℕ) (ok : oneToOne m ≡ true) where
         alreadyKnown-renamed m v a w,
         wrongSide-renamed m ok a w,
         notSigned-renamed m a,
-        replay-renamed m a w,
-        notBetter-renamed m a w,
-        rateLimited-renamed m v a w,
+        knownTests-renamed m v a w,
+        joined-valued dropped (renamePlan m),
         portOff-renamed m ok v a w,
         tooLongForPort-renamed m ok v a w,
         noRoom-renamed m v a w,

@@ -17,11 +17,12 @@ use Rattle.rules.specs.Refusals.{timeOk, rateSettingsOk, rateEntryOk, pa
 use Rattle.rules.specs.Arrival.{Arrival, hops}
 use Rattle.rules.specs.Rate.{oneMore, violated, rated, entryAccepted, entryRevived, entryDropped}
 use Rattle.rules.specs.Tests.{tooManyHops, revives}
-use Rattle.rules.specs.Writes.{putNext, markedSlot, announcedBlobs, announcedRate, announcedPath, returnRecord, emptiedIf, linkRecord, renewedLink}
+use Rattle.rules.specs.Writes.{putNext, notedSlot, announcedBlobs, announcedRate, announcedPath, returnRecord, emptiedIf, linkRecord, renewedLink}
 use Rattle.rules.specs.declared.Link.{Link}
 use Rattle.rules.specs.declared.RateSettings.{RateSettings}
 use Rattle.rules.specs.declared.RateEntry.{RateEntry}
 use Rattle.rules.specs.declared.Rated.{Rated}
+use Rattle.rules.specs.declared.Note.{Note}
 use Rattle.rules.proofs.Choices.{either}
 use Rattle.rules.proofs.Tables.{table-set}
 use Rattle.rules.proofs.BlobLaws.{Counted, one-counted, store-counted}
@@ -145,10 +146,10 @@ module _ (p : Path) (h : pathOk p ≡ true) where
       and-both (and-left _ _ h) (and-both (and-left _ _ h1) (and-both (and-left _ _ h2) (and-both (and-left _ _ h3) (and-both (and-left _ _ h4) k))))
 
 -- a mark leaves all of them
-pub marked-ok : (s : Slot Path) → slotOk pathOk s ≡ true → slotOk pathOk (markedSlot s) ≡ true
-unfolding slotOk pathOk markedSlot
-marked-ok empty h = refl
-marked-ok (used p) h = h
+pub noted-ok : (note : Note) (s : Slot Path) → slotOk pathOk s ≡ true → slotOk pathOk (notedSlot note s) ≡ true
+unfolding slotOk pathOk notedSlot
+noted-ok note empty h = refl
+noted-ok note (used p) h = h
 
 announced-counted : (a : Arrival) (known : Slot Path) → slotOk pathOk known ≡ true → Counted blobLimit (announcedBlobs a known .count)
 unfolding announcedBlobs slotOk

@@ -20,7 +20,7 @@ use Rattle.rules.specs.View.{isExpiredPath, expiryIf, expiredPath, View,
 use Rattle.rules.specs.Arrival.{Arrival, header, isLinkProof}
 use Rattle.rules.specs.Refusals.{slotOk, pathOk, packetRows, refusalBy, packetRefusal}
 use Rattle.rules.specs.Ways.{Way, everywhere, by-path, along-link, by-return, blocked, noPath, pathWay, linkWay, returnWay, wayOn}
-use Rattle.rules.specs.Tests.{formTests, failing, whyBlocked}
+use Rattle.rules.specs.Tests.{formTests, failing, whyBlocked, knownTests}
 use Rattle.rules.specs.Answers.{reasonNumbers}
 use Rattle.rules.specs.Judging.{Plan, dropped, delivered, follows, earlyTests, onwardTests, onwardPlan, plan}
 use Rattle.rules.specs.declared.Link.{Link}
@@ -93,7 +93,7 @@ module _ (v : View) (a : Arrival) (past : (d : List ℕ) → AtMost timeLimit (v
   planFits (follows w) = true
 
   plan-fits : planFits (plan v a) ≡ true
-  unfolding plan onwardPlan earlyTests onwardTests allGive _and_
+  unfolding plan onwardPlan earlyTests onwardTests knownTests allGive _and_
   plan-fits =
       all-first planFits (earlyTests v a) _ (rw (clause-fits (a .bytes)))
       (all-first planFits (onwardTests v a (wayOn v a)) _ (rw case-fits) refl)

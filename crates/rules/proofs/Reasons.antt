@@ -12,7 +12,7 @@ use borrow.Author.Tests.{eq-eqb, ne-eqb, eqb-true, eqb-false, not-true, not-fals
 use Rattle.octets.specs.Index.{_and_}
 use Rattle.octets.specs.Choice.{_then_otherwise_, _or_}
 use Rattle.octets.specs.Listed.{Test, firstOf, anyHolds, valued}
-use Rattle.octets.proofs.Index.{and-left, and-right, and-both, and-no, and-assoc}
+use Rattle.octets.proofs.Index.{and-left, and-right, and-both, and-no, and-assoc, and-true}
 use Rattle.octets.proofs.Listed.{allGive, all-first}
 use Rattle.packet.specs.Header.{typeTwo, contextFlag, ofKindLink, packetKind, isData, isAnnounce, isLinkRequest, isProof}
 use Rattle.packet.specs.Read.{headerOf}
@@ -22,7 +22,7 @@ use Rattle.rules.specs.View.{View, viewAt}
 use Rattle.rules.specs.Arrival.{Arrival, header, hops, destination, isLinkProof}
 use Rattle.rules.specs.Refusals.{packetRefusal}
 use Rattle.rules.specs.Ways.{Way, everywhere, by-path, along-link, by-return, blocked, noPath, pathWay, linkWay, returnWay, wayOn}
-use Rattle.rules.specs.Tests.{notOurs, duplicate, formTests, badForm, failing, ownAnnounce, deliveredHere, tooManyHops, noWayOn, whyBlocked, isThere}
+use Rattle.rules.specs.Tests.{notOurs, duplicate, formTests, badForm, failing, ownAnnounce, deliveredHere, tooManyHops, noWayOn, whyBlocked, isThere, knownTests}
 use Rattle.rules.specs.Answers.{clauseNumber, leastLength, caseNumber, greatestExpiry, reasonNumbers}
 use Rattle.rules.specs.Judging.{Plan, dropped, delivered, follows, earlyTests, onwardTests, onwardPlan, plan, spreadVerdict, wayVerdict, verdict}
 use Rattle.rules.specs.Calls.{Judgement, judged, judge, packetCall}
@@ -39,11 +39,6 @@ use Rattle.rules.specs.declared.Answer.the-variants.{Refused, Judged}
 use Rattle.rules.specs.declared.Tally.{Tally}
 use Rattle.rules.proofs.Choices.{either}
 use Rattle.rules.proofs.Followed.{is-request}
-
-and-true : (b : Bool) → (b and true) ≡ b
-unfolding _and_
-and-true true = refl
-and-true false = refl
 
 -- ---- lists of sentences: the first that holds, counted from n, has number k and the value x
 unfoldable tellsFrom : (n k x : ℕ) → List (Test ℕ) → Bool
@@ -173,7 +168,7 @@ module _ (v : View) (a : Arrival) where
   follows-not-3 (blocked why) = refl
 
   onward-not-3 : dropBy 3 (verdict v a (onwardPlan v a way)) ≡ false
-  unfolding onwardPlan onwardTests verdict dropBy allGive _and_
+  unfolding onwardPlan onwardTests knownTests verdict dropBy allGive _and_
   onward-not-3 =
       not-true _ (all-first (λ todo. not (dropBy 3 (verdict v a todo))) (onwardTests v a way) (follows way) refl (ap not (follows-not-3 way)))
 
@@ -204,7 +199,7 @@ module _ (v : View) (a : Arrival) where
   follows-not-6 (blocked why) e = absurd (false≢true (sym e))
 
   onward-not-6 : noWayOn way ≡ false → dropBy 6 (verdict v a (onwardPlan v a way)) ≡ false
-  unfolding onwardPlan onwardTests verdict dropBy allGive _and_
+  unfolding onwardPlan onwardTests knownTests verdict dropBy allGive _and_
   onward-not-6 e = not-true _ (second-on (λ todo. not (dropBy 6 (verdict v a todo))) (onwardTests v a way) (follows way) e refl (ap not (follows-not-6 way e)))
 
   module _ (g : Verdict → Bool) (only : OfTest 6 g) where
@@ -212,7 +207,7 @@ module _ (v : View) (a : Arrival) where
     here = g (Drop (NoWayOn (whyBlocked way)))
 
     onward-6 : g (verdict v a (onwardPlan v a way)) ≡ (noWayOn way and here)
-    unfolding onwardPlan onwardTests verdict dropBy allGive firstOf _then_otherwise_ _and_
+    unfolding onwardPlan onwardTests knownTests verdict dropBy allGive firstOf _then_otherwise_ _and_
     onward-6 = go (noWayOn way) refl
       where
         go : (b : Bool) → noWayOn way ≡ b → g (verdict v a (onwardPlan v a way)) ≡ (noWayOn way and here)

@@ -22,7 +22,7 @@ module _ (one two : List ℕ) (ok-one : oneToOne one ≡ true) (ok-two : oneToOn
         nextHop = p .nextHop;
         expiry = p .expiry;
         rate = p .rate;
-        marked = p .marked;
+        notes = p .notes;
         blobs = p .blobs;
       }
 

@@ -18,7 +18,7 @@ use Rattle.rules.specs.Relay.{Slot, empty, used, Return, Relay}
 use Rattle.rules.specs.View.{View, viewAt}
 use Rattle.rules.specs.Arrival.{Arrival, header, destination, isLinkProof}
 use Rattle.rules.specs.Ways.{Way, by-return, returnWay, wayOn}
-use Rattle.rules.specs.Tests.{deliveredHere, noWayOn, alreadyKnown, wrongSide, notSigned, ofKnown, replay, notBetter, rateLimited, leavingPort, portOff, tooLongForPort, noRoom}
+use Rattle.rules.specs.Tests.{deliveredHere, noWayOn, alreadyKnown, wrongSide, notSigned, ofKnown, knownTests, leavingPort, portOff, tooLongForPort, noRoom}
 use Rattle.rules.specs.Answers.{verdictKind}
 use Rattle.rules.specs.Judging.{Plan, dropped, delivered, follows, earlyTests, onwardTests, onwardPlan, plan, wayVerdict, verdict}
 use Rattle.rules.specs.Reasons.{reachesWay, isOrdinaryProof}
@@ -77,7 +77,7 @@ module _ (v : View) (a : Arrival) (ordinary : isOrdinaryProof a ≡ true) where
   onward-is : (t : Return)
       → isForwarded (verdict v a (onwardPlan v a (by-return t)))
       ≡ (eqb (a .port) (t .leaving) and not (portOff v a (by-return t)) and not (tooLongForPort v a (by-return t)))
-  unfolding onwardPlan onwardTests firstOf noWayOn wrongSide replay notBetter rateLimited ofKnown noRoom verdict wayVerdict isForwarded
+  unfolding onwardPlan onwardTests firstOf noWayOn wrongSide knownTests ofKnown noRoom verdict wayVerdict isForwarded
       _then_otherwise_ _and_
   onward-is t = go (eqb (a .port) (t .leaving)) (portOff v a (by-return t)) (tooLongForPort v a (by-return t)) refl refl refl
     where

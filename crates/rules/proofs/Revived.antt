@@ -6,21 +6,22 @@ use mathlib.Core.Path.{_≡_, refl, ap, _∙_}
 use borrow.Author.Tests.{le-leb}
 use Rattle.octets.specs.Index.{_and_}
 use Rattle.octets.specs.Choice.{_or_}
-use Rattle.octets.proofs.Index.{and-both, and-no}
+use Rattle.octets.proofs.Index.{and-both, and-no, and-false}
 use Rattle.octets.proofs.Listed.{none-first}
+use Rattle.rules.proofs.Joined.{none-joined}
+use Rattle.rules.proofs.Passed.{none-known}
 use Rattle.packet.specs.Header.{isAnnounce}
 use Rattle.rules.specs.Relay.{used, Path, Relay}
 use Rattle.rules.specs.View.{View, viewAt}
 use Rattle.rules.specs.Arrival.{Arrival, header, isLinkProof}
 use Rattle.rules.specs.Ways.{everywhere}
-use Rattle.rules.specs.Tests.{ownAnnounce, noWayOn, wrongSide, notSigned, revives, ofKnown, replay, notBetter, rateLimited, portOff, tooLongForPort, noRoom}
-use Rattle.rules.specs.Judging.{follows, earlyTests, onwardTests, onwardPlan, plan}
+use Rattle.rules.specs.Tests.{ownAnnounce, noWayOn, wrongSide, notSigned, revives, ofKnown, knownTests, portOff, tooLongForPort, noRoom}
+use Rattle.rules.specs.Judging.{dropped, follows, earlyTests, onwardTests, onwardPlan, plan}
 use Rattle.rules.specs.Rate.{entryRevived}
 use Rattle.rules.specs.Writes.{announcedRate, announcedPath}
 use Rattle.rules.specs.DeadPaths.{NewEnough, NewEnoughRevives}
 use Rattle.rules.specs.declared.RateEntry.{RateEntry}
 use Rattle.octets.proofs.Choice.{then-true}
-use Rattle.rules.proofs.Choices.{and-false}
 use Rattle.rules.proofs.ChattyPlan.{announce-way}
 use Rattle.rules.proofs.AnnounceTests.{announce-ours, announce-not-here, announce-unknown, announce-untested}
 use Rattle.rules.proofs.Announced.{says-accepted, shown-after}
@@ -39,9 +40,9 @@ module _ (p : Path) (a : Arrival) (output : List ℕ) (r : Relay) (h : NewEnough
   unfolding revives
   new-enough = and-both (h .is-marked) (le-leb _ _ (h .as-new))
 
-  not-made : (test : Path → Bool) → ofKnown a test (everywhere (used p)) ≡ false
+  not-made : ofKnown a (λ q. true) (everywhere (used p)) ≡ false
   unfolding ofKnown
-  not-made test = and-no _ (ap not new-enough)
+  not-made = and-no _ (ap not new-enough)
 
   is-signed : notSigned a ≡ false
   unfolding notSigned
@@ -52,7 +53,7 @@ module _ (p : Path) (a : Arrival) (output : List ℕ) (r : Relay) (h : NewEnough
   skipped b = and-no b (ap not (h .announce))
 
   accepted-then : plan seen a ≡ follows (everywhere (used p))
-  unfolding plan onwardPlan earlyTests onwardTests noWayOn wrongSide replay notBetter rateLimited portOff tooLongForPort noRoom
+  unfolding plan onwardPlan earlyTests onwardTests noWayOn wrongSide portOff tooLongForPort noRoom
   accepted-then =
       none-first (earlyTests seen a) _ (
         announce-ours seen a (h .announce),
@@ -70,7 +71,8 @@ module _ (p : Path) (a : Arrival) (output : List ℕ) (r : Relay) (h : NewEnough
             refl,
             (
               is-signed,
-              (not-made _, (not-made _, (not-made _, (skipped _, (skipped _, (refl, tt)))))),
+              none-joined dropped (knownTests seen a (everywhere (used p))) _ (none-known seen a (everywhere (used p)) not-made)
+                  (skipped _, (skipped _, (refl, tt))),
             ),
           ),
         ),

@@ -8,7 +8,7 @@ use Rattle.octets.specs.Choice.{_then_otherwise_}
 use Rattle.octets.proofs.Listed.{allGive}
 use Rattle.rules.specs.Relay.{Relay}
 use Rattle.rules.specs.Refusals.{tablesOk}
-use Rattle.rules.specs.Calls.{TableCall, sets-port, sets-rate, adds, removes, renumbers, marks, ruleOf, tableRefusal}
+use Rattle.rules.specs.Calls.{TableCall, sets-port, sets-rate, adds, removes, renumbers, notes-path, ruleOf, tableRefusal}
 use Rattle.rules.specs.Saved.{Said, loadRefusal}
 use Rattle.octets.proofs.Listed.{NoneHolds, refuses, rows-passed}
 
@@ -20,7 +20,7 @@ rows-refuse (sets-rate target grace penalty) r = refl
 rows-refuse (adds address) r = refl
 rows-refuse (removes address) r = refl
 rows-refuse (renumbers images) r = refl
-rows-refuse (marks destination clock) r = refl
+rows-refuse (notes-path note destination clock) r = refl
 
 pub table-passed : (c : TableCall) (r : Relay) → eqb (tableRefusal c r) 0 ≡ true → NoneHolds (ruleOf c .rows r)
 unfolding tableRefusal allGive refuses _and_

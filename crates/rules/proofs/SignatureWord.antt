@@ -19,7 +19,7 @@ use Rattle.rules.specs.View.{View, viewAt}
 use Rattle.rules.specs.Refusals.{packetRows, packetRefusal, refusalBy}
 use Rattle.rules.specs.Arrival.{Arrival, header, destination, isLinkProof}
 use Rattle.rules.specs.Ways.{Way, everywhere, by-path, along-link, by-return, blocked, wayOn}
-use Rattle.rules.specs.Tests.{noWayOn, notSigned}
+use Rattle.rules.specs.Tests.{noWayOn, notSigned, knownTests}
 use Rattle.rules.specs.Answers.{reasonNumber}
 use Rattle.rules.specs.Outgoing.{spreadPorts, outgoing, exceeds}
 use Rattle.rules.specs.Judging.{Plan, dropped, delivered, follows, earlyTests, onwardTests, plan, onwardPlan, verdict, wayVerdict, spreadVerdict}
@@ -111,7 +111,7 @@ module _ (v : View) (a : Arrival) where
   late-follows (blocked why) n = absurd (false≢true (sym n))
 
   onward-alike : (b c : Bool) (w : Way) → late (onwardBy b v a w) ≡ false → onwardBy c v a w ≡ onwardBy b v a w
-  unfolding onwardBy onwardTests told ofTest firstOf lateFrom allGive late verdict dropOf _and_ _then_otherwise_
+  unfolding onwardBy onwardTests knownTests told ofTest firstOf lateFrom allGive late verdict dropOf _and_ _then_otherwise_
   onward-alike b c w = go (noWayOn w) refl
     where
       go : (n : Bool) → noWayOn w ≡ n → late (onwardBy b v a w) ≡ false → onwardBy c v a w ≡ onwardBy b v a w
@@ -348,12 +348,12 @@ no-unsigned a = go (isAnnounce (header a) or isLinkProof (a .bytes))
 
 module _ (v : View) (a : Arrival) (w : Way) where
   after-nine : (b : Bool) → ofTest 9 (firstOf (b gives dropped NotSigned otherwise drop 4 (onwardTests v a w)) (follows w)) ≡ b
-  unfolding firstOf ofTest onwardTests allGive _and_ _then_otherwise_
+  unfolding firstOf ofTest onwardTests knownTests allGive _and_ _then_otherwise_
   after-nine true = refl
   after-nine false = not-true _ (all-first (λ x. not (ofTest 9 x)) (drop 4 (onwardTests v a w)) (follows w) refl refl)
 
   onward-nine : (b : Bool) → ofTest 9 (onwardBy b v a w) ≡ (not (anyHolds (take 3 (onwardTests v a w))) and b)
-  unfolding onwardBy told firstOf ofTest onwardTests allGive _and_ _then_otherwise_
+  unfolding onwardBy told firstOf ofTest onwardTests knownTests allGive _and_ _then_otherwise_
   onward-nine b =
       kind-past (ofTest 9) (take 3 (onwardTests v a w)) (firstOf (b gives dropped NotSigned otherwise drop 4 (onwardTests v a w)) (follows w)) refl
       ∙ ap (λ (x : Bool). not (anyHolds (take 3 (onwardTests v a w))) and x) (after-nine b)

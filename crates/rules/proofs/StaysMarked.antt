@@ -14,7 +14,7 @@ use Rattle.octets.proofs.Choice.{then-true}
 use Rattle.octets.proofs.Listed.{NoneHolds}
 use Rattle.packet.specs.Header.{isData}
 use Rattle.numbers.specs.Numbers.{pathCount, live}
-use Rattle.rules.specs.Relay.{Slot, empty, used, Path, withPathRate, withPathMark, Relay, holds, free, lowestFree, withClock, withRate, withPorts, withLocals, withPaths, withLinks, withReturns}
+use Rattle.rules.specs.Relay.{Slot, empty, used, Path, withPathRate, withNote, withPathMark, Relay, holds, free, lowestFree, withClock, withRate, withPorts, withLocals, withPaths, withLinks, withReturns}
 use Rattle.rules.specs.View.{View, viewAt, isLivePath, pathPlace, freePath}
 use Rattle.rules.specs.Renumbering.{renamePath, renameSlot, renumbered}
 use Rattle.rules.specs.Refusals.{slotOk, pathOk, tablesOk}
@@ -22,11 +22,12 @@ use Rattle.rules.specs.Arrival.{Arrival, header, destination}
 use Rattle.rules.specs.Rate.{entryDropped}
 use Rattle.rules.specs.Ways.{Way, everywhere, by-path, along-link, by-return, blocked}
 use Rattle.rules.specs.Judging.{Plan, dropped, delivered, follows, plan}
-use Rattle.rules.specs.Writes.{announcedPath, announcedPlace, putPath, limitPath, markedSlot, markPath, putReturn, emptyReturn, putLink, renewLink, writeWay, isRateDrop, writeDrop, writePlan, enact}
-use Rattle.rules.specs.Calls.{TableCall, sets-port, sets-rate, adds, removes, renumbers, marks, ruleOf, tableRefusal, settle, settled}
+use Rattle.rules.specs.Writes.{announcedPath, announcedPlace, putPath, limitPath, notedSlot, notePath, putReturn, emptyReturn, putLink, renewLink, writeWay, isRateDrop, writeDrop, writePlan, enact}
+use Rattle.rules.specs.Calls.{TableCall, sets-port, sets-rate, adds, removes, renumbers, notes-path, marks, ruleOf, tableRefusal, settle, settled}
 use Rattle.rules.specs.Run.{Call, packet, on-tables, asks, saves, loads, marking, ofSetting, perform, replies, relayAfter, setsRelay, noneLoads}
 use Rattle.rules.specs.DeadPaths.{saysAccepted, IsFor, NoneAccepted, MarkedAt, MarkStays}
 use Rattle.rules.specs.declared.Tally.{Tally}
+use Rattle.rules.specs.declared.Note.the-variants.{Unresponsive}
 use Rattle.rules.proofs.Choices.{either}
 use Rattle.rules.proofs.Rows.{table-ok}
 use Rattle.rules.proofs.Tables.{table-length}
@@ -37,7 +38,7 @@ use Rattle.rules.proofs.Followed.{Planned, planned}
 use Rattle.rules.proofs.Stamped.{enact-clock, enact-paths}
 use Rattle.rules.proofs.Held.{packet-kept, table-kept, ask-kept, save-kept, load-kept, first-none, others-none}
 use Rattle.rules.proofs.Valid.{valid-of, step-ok}
-use Rattle.rules.proofs.Marks.{marked-is}
+use Rattle.rules.proofs.Noted.{keeps-mark, noted-is}
 use Rattle.rules.proofs.Unique.{table-clock}
 use Rattle.rules.proofs.Announced.{LowestPath, says-accepted}
 
@@ -68,7 +69,7 @@ module _ (d : List ℕ) (expiry : ℕ) where
     path : Path
     low : LowestPath now slots place path
     is-for : path .destination ≡ d
-    is-marked : path .marked ≡ true
+    is-marked : path .notes .marked ≡ true
     expires : path .expiry ≡ expiry
 
   marked-later : {now clock : ℕ} (slots : List (Slot Path)) → now ≤ clock → Marked now slots → Marked clock slots
@@ -84,11 +85,11 @@ module _ (d : List ℕ) (expiry : ℕ) where
 
   -- a record is changed where it stands, and keeps destination, expiry and mark
   changed : (change : Path → Path) → ((p : Path) → change p .destination ≡ p .destination) → ((p : Path) → change p .expiry ≡ p .expiry)
-      → ((p : Path) → p .marked ≡ true → change p .marked ≡ true) → (now : ℕ) (slots : List (Slot Path)) → length slots ≡ pathCount → Marked now slots
+      → ((p : Path) → p .notes .marked ≡ true → change p .notes .marked ≡ true) → (now : ℕ) (slots : List (Slot Path)) → length slots ≡ pathCount → Marked now slots
       → (j : ℕ) → Marked now (set slots j (renameSlot change (getD slots j empty)))
   changed change keyed kept stays now slots size m j =
       let (y, low, q, e, so) =
-      lowest-changed _ _ pathCount change keyed kept (λ p. p .marked ≡ true) stays now slots size (m .place) (m .path) (m .low) (m .is-marked) j in
+      lowest-changed _ _ pathCount change keyed kept (λ p. p .notes .marked ≡ true) stays now slots size (m .place) (m .path) (m .low) (m .is-marked) j in
       record { place = m .place; path = y; low = low; is-for = q ∙ m .is-for; is-marked = so; expires = e ∙ m .expires }
 
   shown-at : (now : ℕ) (r : Relay) → Marked now (r .paths) → now < expiry → MarkedAt d expiry now r
@@ -192,7 +193,7 @@ module _ (d : List ℕ) (expiry : ℕ) where
         (subst (Marked (a .clock)) (sym (enact-paths v a (plan v a) r)) after))
 
     table-marked : (c : TableCall) → NoneHolds (ruleOf c .rows r) → Marked (ruleOf c .after r .clock) (ruleOf c .after r .paths)
-    unfolding ruleOf withClock withRate withPorts withLocals renumbered markPath withPaths viewAt renamePath
+    unfolding ruleOf withClock withRate withPorts withLocals renumbered notePath withPaths viewAt renamePath
     table-marked (sets-port port on mode size) n = m
     table-marked (sets-rate target grace penalty) n = m
     table-marked (adds address) n = m
@@ -206,11 +207,11 @@ module _ (d : List ℕ) (expiry : ℕ) where
           is-marked = m .is-marked;
           expires = m .expires;
         }
-    table-marked (marks destination clock) n =
+    table-marked (notes-path note destination clock) n =
         let place : ℕ = pathPlace clock r destination in
-        subst (λ (s : Slot Path). Marked clock (set (r .paths) place s)) (sym (marked-is (getD (r .paths) place empty)))
-        (changed withPathMark (λ _. refl) (λ _. refl) (λ _ _. refl) clock (r .paths) size
-        (marked-later (r .paths) (table-clock (marks destination clock) r n) m) place)
+        subst (λ (s : Slot Path). Marked clock (set (r .paths) place s)) (sym (noted-is note (getD (r .paths) place empty)))
+        (changed (withNote note) (λ _. refl) (λ _. refl) (λ p h. keeps-mark note (p .notes) h) clock (r .paths) size
+        (marked-later (r .paths) (table-clock (notes-path note destination clock) r n) m) place)
 
     call-marked : (c : Call) (t : Tally) → setsRelay c ≡ false → (IsFor d c → saysAccepted (perform c r t .reply) ≡ false)
         → Still (perform c r t .relay)
@@ -237,18 +238,18 @@ module _ (d : List ℕ) (clock : ℕ) (r : Relay) (t : Tally) (p : Path) (taken 
   abbrev marked : Relay
   marked = perform (marking d clock) r t .relay
 
-  is-after : marked ≡ withClock clock (markPath d clock r)
+  is-after : marked ≡ withClock clock (notePath Unresponsive d clock r)
   unfolding perform ofSetting settle settled ruleOf
   is-after = then-true _ _ taken
 
-  just-marked : Marked d (p .expiry) clock (markPath d clock r .paths)
-  unfolding markPath withPaths viewAt pathPlace isLivePath markedSlot
+  just-marked : Marked d (p .expiry) clock (notePath Unresponsive d clock r .paths)
+  unfolding notePath withPaths viewAt pathPlace isLivePath notedSlot
   just-marked =
       let place : ℕ = pathPlace clock r d in
       let size : length (r .paths) ≡ pathCount =
       table-length (slotOk pathOk) pathCount (r .paths) (valid-of r (table-ok (marks d clock) r taken) .paths) in
       let (is-for, _, low) = found-lowest _ _ pathCount clock (r .paths) size d p known in
-      subst (λ (s : Slot Path). Marked d (p .expiry) clock (set (r .paths) place (markedSlot s))) (sym known)
+      subst (λ (s : Slot Path). Marked d (p .expiry) clock (set (r .paths) place (notedSlot Unresponsive s))) (sym known)
       (record {
         place = place;
         path = withPathMark p;

@@ -15,7 +15,7 @@ use Rattle.rules.specs.Renumbering.{image, oneToOne, renamePath, renameL
 use Rattle.rules.specs.Arrival.{Arrival, header, destination, hash, isLinkProof}
 use Rattle.rules.specs.Exempt.{exempt}
 use Rattle.rules.specs.Ways.{Way, everywhere, by-path, along-link, by-return, blocked, pathWay, linkWay, returnWay, wayOn}
-use Rattle.rules.specs.Tests.{notOurs, isMarked, forMarkedPath, duplicate, testedAsDuplicate, ownAnnounce, deliveredHere, noWayOn, whyBlocked, isThere, followsProvedLink, alreadyKnown, fromAnsweringSide, fromAskingSide, wrongSide, notSigned, revives, ofKnown, isReplay, replay, isNotBetter, notBetter, isRateLimited, rateLimited, leavingPort, portOff, tooLongForPort, noRoom}
+use Rattle.rules.specs.Tests.{notOurs, isMarked, forMarkedPath, duplicate, testedAsDuplicate, ownAnnounce, deliveredHere, noWayOn, whyBlocked, isThere, followsProvedLink, alreadyKnown, fromAnsweringSide, fromAskingSide, wrongSide, notSigned, revives, ofKnown, knownTests, leavingPort, portOff, tooLongForPort, noRoom}
 use Rattle.rules.specs.Outgoing.{outgoing, exceeds}
 use Rattle.rules.specs.Run.{renameArrival}
 use Rattle.rules.specs.declared.Link.{Link}
@@ -124,28 +124,15 @@ module _ (m : List ℕ) where
   unfolding notSigned renameArrival
   notSigned-renamed a = refl
 
-  -- a test of an announce and the live path of its destination that looks at no port
-  ofKnown-renamed : (a : Arrival) (one two : Path → Bool) → ((p : Path) → one (renamePath m p) ≡ two p)
-      → (w : Way) → ofKnown (renameArrival m a) one (renameWay m w) ≡ ofKnown a two w
-  unfolding ofKnown revives renameWay renameSlot renamePath renameArrival
-  ofKnown-renamed a one two blind (everywhere empty) = refl
-  ofKnown-renamed a one two blind (everywhere (used p)) = ap (λ (b : Bool). not (revives a p) and b) (blind p)
-  ofKnown-renamed a one two blind (by-path p) = refl
-  ofKnown-renamed a one two blind (along-link l) = refl
-  ofKnown-renamed a one two blind (by-return t) = refl
-  ofKnown-renamed a one two blind (blocked why) = refl
-
-  pub replay-renamed : (a : Arrival) (w : Way) → replay (renameArrival m a) (renameWay m w) ≡ replay a w
-  unfolding replay isReplay renameArrival renamePath
-  replay-renamed a w = ofKnown-renamed a (isReplay (renameArrival m a)) (isReplay a) (λ p. refl) w
-
-  pub notBetter-renamed : (a : Arrival) (w : Way) → notBetter (renameArrival m a) (renameWay m w) ≡ notBetter a w
-  unfolding notBetter isNotBetter renameArrival renamePath
-  notBetter-renamed a w = ofKnown-renamed a (isNotBetter (renameArrival m a)) (isNotBetter a) (λ p. refl) w
-
-  pub rateLimited-renamed : (v : View) (a : Arrival) (w : Way) → rateLimited (renameView m v) (renameArrival m a) (renameWay m w) ≡ rateLimited v a w
-  unfolding rateLimited isRateLimited renameView renameArrival renamePath
-  rateLimited-renamed v a w = ofKnown-renamed a (isRateLimited (renameView m v) (renameArrival m a)) (isRateLimited v a) (λ p. refl) w
+  -- none of them looks at a port
+  pub knownTests-renamed : (v : View) (a : Arrival) (w : Way) → knownTests (renameView m v) (renameArrival m a) (renameWay m w) ≡ knownTests v a w
+  unfolding knownTests ofKnown revives renameView renameWay renameSlot renamePath renameArrival
+  knownTests-renamed v a (everywhere empty) = refl
+  knownTests-renamed v a (everywhere (used p)) = refl
+  knownTests-renamed v a (by-path p) = refl
+  knownTests-renamed v a (along-link l) = refl
+  knownTests-renamed v a (by-return t) = refl
+  knownTests-renamed v a (blocked why) = refl
 
   pub noRoom-renamed : (v : View) (a : Arrival) (w : Way) → noRoom (renameView m v) (renameArrival m a) (renameWay m w) ≡ noRoom v a w
   unfolding noRoom renameView renameArrival renameWay renameSlot

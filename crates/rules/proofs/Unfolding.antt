@@ -24,11 +24,11 @@ use Rattle.rules.specs.Arrival.{isLinkProof}
 use Rattle.rules.specs.Exempt.{exemptContext, exempt}
 use Rattle.rules.specs.Rate.{oneMore, violated, rated, entryAccepted, entryRevived, entryDropped}
 use Rattle.rules.specs.Ways.{noPath, pathWay, linkWay, returnWay, wayOn}
-use Rattle.rules.specs.Tests.{notOurs, isMarked, forMarkedPath, testedAsDuplicate, duplicate, typeTwoProof, typeTwoOfKindLink, announceNotSingle, announceTooShort, announceOfAnother, requestOfKindLink, requestTooShort, linkProofLength, formTests, badForm, failing, ownAnnounce, deliveredHere, tooManyHops, noWayOn, whyBlocked, isThere, followsProvedLink, alreadyKnown, fromAnsweringSide, fromAskingSide, wrongSide, notSigned, revives, ofKnown, isReplay, replay, isNotBetter, notBetter, isRateLimited, rateLimited, leavingPort, portOff, tooLongForPort, noRoom}
+use Rattle.rules.specs.Tests.{notOurs, isMarked, forMarkedPath, testedAsDuplicate, duplicate, typeTwoProof, typeTwoOfKindLink, announceNotSingle, announceTooShort, announceOfAnother, requestOfKindLink, requestTooShort, linkProofLength, formTests, badForm, failing, ownAnnounce, deliveredHere, tooManyHops, noWayOn, whyBlocked, isThere, followsProvedLink, alreadyKnown, fromAnsweringSide, fromAskingSide, wrongSide, notSigned, revives, ofKnown, knownTests, leavingPort, portOff, tooLongForPort, noRoom}
 use Rattle.rules.specs.Answers.{setBelow, portSet}
 use Rattle.rules.specs.Outgoing.{rewritten, spreadHeader, spreadPacket, spreadPorts, pathPacket, carriedPacket, outgoing, exceeds}
 use Rattle.rules.specs.Judging.{earlyTests, onwardTests, onwardPlan, plan, spreadVerdict, wayVerdict, verdict, leaves, outputAfter}
-use Rattle.rules.specs.Writes.{putNext, remembersPlan, alreadyLive, remembers, remember, announcedBlobs, announcedRate, announcedPath, announcedPlace, putPath, limitPath, markedSlot, markPath, returnKey, returnRecord, emptiedIf, emptiedWhere, putReturn, emptyReturn, linkRecord, putLink, renewedLink, renewLink, writeWay, writeDrop, writePlan, stamp, enact}
+use Rattle.rules.specs.Writes.{putNext, remembersPlan, alreadyLive, remembers, remember, announcedBlobs, announcedRate, announcedPath, announcedPlace, putPath, limitPath, notedSlot, notePath, returnKey, returnRecord, emptiedIf, emptiedWhere, putReturn, emptyReturn, linkRecord, putLink, renewedLink, renewLink, writeWay, writeDrop, writePlan, stamp, enact}
 use Rattle.rules.specs.Calls.{newTally, up, counted, judged, judge, packetCall, settled, ruleOf, tableRefusal, settle}
 use Rattle.rules.specs.Questions.{toldOf, countBelow, countOf, ofTest, wordMatters, rowSeven, questionRule, questionRefusal, tell}
 use Rattle.rules.specs.Saved.{saveRefusal, loadRefusal}
@@ -70,7 +70,7 @@ unfolding exemptContext exempt isLinkProof noPath pathWay linkWay returnWay wayO
     typeTwoProof typeTwoOfKindLink announceNotSingle announceTooShort announceOfAnother requestOfKindLink requestTooShort linkProofLength formTests badForm
     failing ownAnnounce
     deliveredHere tooManyHops noWayOn whyBlocked isThere followsProvedLink alreadyKnown fromAnsweringSide fromAskingSide wrongSide notSigned
-    revives ofKnown isReplay replay isNotBetter notBetter oneMore violated rated isRateLimited rateLimited leavingPort portOff tooLongForPort noRoom
+    revives ofKnown oneMore violated rated knownTests leavingPort portOff tooLongForPort noRoom
 tests = tt
 
 -- answers and the bytes that leave
@@ -82,7 +82,7 @@ answers = tt
 -- what is written
 unfoldable pub writes : Unit {0}
 unfolding putNext remembersPlan alreadyLive remembers remember announcedBlobs entryAccepted entryRevived entryDropped announcedRate announcedPath
-    announcedPlace putPath limitPath markedSlot markPath returnKey returnRecord emptiedIf emptiedWhere putReturn emptyReturn linkRecord
+    announcedPlace putPath limitPath notedSlot notePath returnKey returnRecord emptiedIf emptiedWhere putReturn emptyReturn linkRecord
     putLink renewedLink renewLink writeWay writeDrop writePlan stamp enact
 writes = tt
 

@@ -17,7 +17,7 @@ use Rattle.rules.specs.Refusals.{tablesOk}
 use Rattle.rules.specs.Arrival.{Arrival}
 use Rattle.rules.specs.Judging.{plan}
 use Rattle.rules.specs.Writes.{enact}
-use Rattle.rules.specs.Calls.{TableCall, sets-port, sets-rate, adds, removes, renumbers, marks, ruleOf}
+use Rattle.rules.specs.Calls.{TableCall, sets-port, sets-rate, adds, removes, renumbers, notes-path, ruleOf}
 use Rattle.rules.specs.Run.{Call, packet, on-tables, asks, saves, loads, ofTold, perform, relayAfter, setsRelay, noneLoads}
 use Rattle.rules.specs.declared.Tally.{Tally}
 use Rattle.octets.proofs.Listed.{NoneHolds}
@@ -27,7 +27,7 @@ use Rattle.rules.proofs.Followed.{planned, remembered-new}
 use Rattle.rules.proofs.Stamped.{enact-clock}
 use Rattle.rules.proofs.Accepted.{Accepted, accepted-packet}
 use Rattle.rules.proofs.Valid.{Valid, valid-of, step-ok, fresh-ok}
-use Rattle.rules.proofs.UniqueAt.{onceAt, UniqueAt, later, mark-keeps, renumbering-keeps}
+use Rattle.rules.proofs.UniqueAt.{onceAt, UniqueAt, later, note-keeps, renumbering-keeps}
 use Rattle.rules.proofs.UniqueWrites.{plan-keeps, hash-put}
 
 -- at any clock not below the last
@@ -79,9 +79,9 @@ table-keeps (adds address) r clock valid u n =
     (λ j x _ o _ q. none-passes (same address) localCount (r .locals) size found j x o (eq-same address x (sym q)))
 table-keeps (removes address) r clock valid u n = single-emptied _ _ (r .locals) _ (u .locals)
 table-keeps (renumbers images) r clock valid u n = renumbering-keeps clock r u images
-table-keeps (marks destination now) r clock valid u n = (tt, mark-keeps clock r u destination now)
+table-keeps (notes-path note destination now) r clock valid u n = (tt, note-keeps clock r u note destination now)
 
--- a mark sets the last clock, which is not before it, and the other calls on the tables leave it
+-- a note sets the last clock, which is not before it, and the other calls on the tables leave it
 pub table-clock : (c : TableCall) (r : Relay) → NoneHolds (ruleOf c .rows r) → r .clock ≤ ruleOf c .after r .clock
 unfolding ruleOf withClock withRate withPorts withLocals renumbered
 table-clock (sets-port port on mode size) r n = le-refl (r .clock)
@@ -89,7 +89,7 @@ table-clock (sets-rate target grace penalty) r n = le-refl (r .clock)
 table-clock (adds address) r n = le-refl (r .clock)
 table-clock (removes address) r n = le-refl (r .clock)
 table-clock (renumbers images) r n = le-refl (r .clock)
-table-clock (marks destination clock) r n = ltb-false _ _ (or-no-right _ _ (n .0))
+table-clock (notes-path note destination clock) r n = ltb-false _ _ (or-no-right _ _ (n .0))
 
 table-unique : (c : TableCall) (r : Relay) → Valid r → Unique r → NoneHolds (ruleOf c .rows r) → Unique (ruleOf c .after r)
 table-unique c r valid u n clock l =

@@ -7,12 +7,13 @@ use Rattle.numbers.specs.Numbers.{blobLimit, live}
 use Rattle.rules.specs.Relay.{Path, Return, Remembered, Relay}
 use Rattle.rules.specs.Renumbering.{renamePath, renameLink, renameReturn}
 use Rattle.rules.specs.Blobs.{held}
-use Rattle.rules.specs.Writes.{markPath}
+use Rattle.rules.specs.Writes.{notePath}
 use Rattle.rules.specs.Calls.{renumbers}
 use Rattle.rules.specs.declared.Link.{Link}
+use Rattle.rules.specs.declared.Note.{Note}
 use Rattle.rules.proofs.Held.{Property, Holds, TableKeeps}
 use Rattle.rules.proofs.Slots.{Single, Every, every-renamed, single-renamed, single-later, every-later}
-use Rattle.rules.proofs.Marks.{mark-every, mark-single}
+use Rattle.rules.proofs.Noted.{noted-every, noted-single}
 use Rattle.rules.proofs.BlobLaws.{Distinct, Placed}
 
 -- what each part says at a clock
@@ -58,12 +59,13 @@ later r l u =
       hashes = single-later (λ p. p .expiry) l (r .hashes .slots) (λ p. p .hash) (u .hashes);
     }
 
--- a mark leaves key, expiry and blobs
-pub mark-keeps : (clock : ℕ) (r : Relay) → UniqueAt clock r → (destination : List ℕ) (now : ℕ) → onceAt clock .paths (markPath destination now r .paths)
-mark-keeps clock r u destination now = (
-  mark-single destination now r _ (λ _. refl) _ (λ _. refl) (u .paths .0),
-  mark-every destination now r _ (λ _. refl) _ (λ _ d. d) (u .paths .1),
-  mark-every destination now r _ (λ _. refl) _ (λ _ d. d) (u .paths .2),
+-- a note leaves key, expiry and blobs
+pub note-keeps : (clock : ℕ) (r : Relay) → UniqueAt clock r → (note : Note) (destination : List ℕ) (now : ℕ)
+    → onceAt clock .paths (notePath note destination now r .paths)
+note-keeps clock r u note destination now = (
+  noted-single note destination now r _ (λ _. refl) _ (λ _. refl) (u .paths .0),
+  noted-every note destination now r _ (λ _. refl) _ (λ _ d. d) (u .paths .1),
+  noted-every note destination now r _ (λ _. refl) _ (λ _ d. d) (u .paths .2),
 )
 
 pub renumbering-keeps : (clock : ℕ) (r : Relay) → UniqueAt clock r → (m : List ℕ) → TableKeeps (onceAt clock) r (renumbers m)

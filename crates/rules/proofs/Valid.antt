@@ -19,8 +19,8 @@ use Rattle.rules.specs.Arrival.{Arrival, hops}
 use Rattle.rules.specs.Ways.{Way, everywhere, by-path, along-link, by-return, blocked}
 use Rattle.rules.specs.Tests.{tooManyHops}
 use Rattle.rules.specs.Judging.{Plan, dropped, delivered, follows, plan}
-use Rattle.rules.specs.Writes.{remember, putPath, limitPath, markPath, emptiedWhere, putReturn, emptyReturn, putLink, renewLink, enact}
-use Rattle.rules.specs.Calls.{TableCall, sets-port, sets-rate, adds, removes, renumbers, marks, ruleOf}
+use Rattle.rules.specs.Writes.{remember, putPath, limitPath, notePath, emptiedWhere, putReturn, emptyReturn, putLink, renewLink, enact}
+use Rattle.rules.specs.Calls.{TableCall, sets-port, sets-rate, adds, removes, renumbers, notes-path, ruleOf}
 use Rattle.rules.specs.Run.{Call, packet, on-tables, asks, saves, loads, ofTold, perform, relayAfter}
 use Rattle.rules.specs.declared.Link.{Link}
 use Rattle.rules.specs.declared.Tally.{Tally}
@@ -30,7 +30,7 @@ use Rattle.rules.proofs.Rows.{loaded-ok}
 use Rattle.rules.proofs.Tables.{table-listOf, table-replicate, table-set, table-map, table-getD}
 use Rattle.rules.proofs.Followed.{Found, Planned, planned}
 use Rattle.rules.proofs.Accepted.{no-port-ok, Accepted, accepted-packet}
-use Rattle.rules.proofs.Ranges.{put-next, place-next, emptied-ok, dropped-rate-ok, path-rate, limited-ok, marked-ok, time-small, announced-ok, return-ok, link-ok, renewed-ok, path-renamed, link-renamed, return-renamed, slot-renamed}
+use Rattle.rules.proofs.Ranges.{put-next, place-next, emptied-ok, dropped-rate-ok, path-rate, limited-ok, noted-ok, time-small, announced-ok, return-ok, link-ok, renewed-ok, path-renamed, link-renamed, return-renamed, slot-renamed}
 
 -- ---- row 7, part by part
 -- a ring whose records keep a rule and whose place is one of its own
@@ -207,7 +207,7 @@ renumbering-keeps m ok r v = (
 )
 
 table-keeps : (c : TableCall) (r : Relay) → Valid r → NoneHolds (ruleOf c .rows r) → TableKeeps rowSeven r c
-unfolding ruleOf portOk timeOk markPath withPaths viewAt
+unfolding ruleOf portOk timeOk notePath withPaths viewAt
 table-keeps (sets-port port on mode size) r v n =
     let rest = or-no-right _ _ (n .0) in
     table-set portOk portCount (r .ports) (v .ports) _ _
@@ -216,10 +216,10 @@ table-keeps (sets-rate target grace penalty) r v n = not-false _ (n .0)
 table-keeps (adds address) r v n = rw length-set (v .locals)
 table-keeps (removes address) r v n = rw length-set (v .locals)
 table-keeps (renumbers images) r v n = renumbering-keeps images (not-false _ (n .0)) r v
-table-keeps (marks destination clock) r v n =
+table-keeps (notes-path note destination clock) r v n =
     let l : clock < clockLimit = leb-false _ _ (or-no-left _ _ (n .0)) in (
       le-leb clock timeLimit (omega arith),
-      table-set (slotOk pathOk) pathCount (r .paths) (v .paths) _ _ (marked-ok _ (path-ok r v _)),
+      table-set (slotOk pathOk) pathCount (r .paths) (v .paths) _ _ (noted-ok note _ (path-ok r v _)),
     )
 
 call-valid : (c : Call) (r : Relay) (t : Tally) → Valid r → Valid (perform c r t .relay)

@@ -9,7 +9,7 @@ use Rattle.octets.specs.Choice.{_then_otherwise_}
 use Rattle.octets.proofs.Choice.{then-ap}
 use Rattle.packet.specs.Header.{typeTwo, isData}
 use Rattle.numbers.specs.Numbers.{pathLifetime}
-use Rattle.rules.specs.Relay.{Slot, empty, used, Path, Return, withPathRate, Relay, withClock, withPaths, withLinks, withReturns, withHashes}
+use Rattle.rules.specs.Relay.{noNotes, Slot, empty, used, Path, Return, withPathRate, Relay, withClock, withPaths, withLinks, withReturns, withHashes}
 use Rattle.rules.specs.View.{View, viewAt, isLiveReturn, pathPlace, linkPlace, returnPlace, freeLink}
 use Rattle.rules.specs.Renumbering.{image, oneToOne, renamePath, renameLink, renameReturn, renameSlot, renumbered}
 use Rattle.rules.specs.Arrival.{Arrival, header, hops, relayAddress, destination, hash}
@@ -18,10 +18,11 @@ use Rattle.rules.specs.Rate.{entryDropped}
 use Rattle.rules.specs.Ways.{Way, everywhere, by-path, along-link, by-return, blocked}
 use Rattle.rules.specs.Tests.{revives}
 use Rattle.rules.specs.Judging.{Plan, dropped, delivered, follows}
-use Rattle.rules.specs.Writes.{putNext, remembersPlan, alreadyLive, remembers, remember, announcedBlobs, announcedRate, announcedPath, announcedPlace, putPath, limitPath, markedSlot, markPath, returnKey, returnRecord, emptiedIf, emptiedWhere, putReturn, emptyReturn, linkRecord, putLink, renewedLink, renewLink, writeWay, isRateDrop, writeDrop, writePlan, stamp, enact}
+use Rattle.rules.specs.Writes.{putNext, remembersPlan, alreadyLive, remembers, remember, announcedBlobs, announcedRate, announcedPath, announcedPlace, putPath, limitPath, notedSlot, notePath, returnKey, returnRecord, emptiedIf, emptiedWhere, putReturn, emptyReturn, linkRecord, putLink, renewedLink, renewLink, writeWay, isRateDrop, writeDrop, writePlan, stamp, enact}
 use Rattle.rules.specs.Run.{renameArrival}
 use Rattle.rules.specs.declared.Link.{Link}
 use Rattle.rules.specs.declared.Reason.{Reason}
+use Rattle.rules.specs.declared.Note.{Note}
 use Rattle.rules.proofs.Images.{source-image}
 use Rattle.rules.proofs.SlotsRenamed.{set-renamed, emptied-renamed}
 use Rattle.rules.proofs.ViewRenamed.{renameView, path-renamed, pathPlace-renamed, linkPlace-renamed, returnPlace-renamed, freePath-renamed, freeLink-renamed}
@@ -143,7 +144,7 @@ module _ (m : List ℕ) (ok : oneToOne m ≡ true) where
         nextHop = typeTwo (header a) then relayAddress a otherwise destination a;
         expiry = a .clock + pathLifetime (v .mode (source-image m ok (a .port) i));
         rate = announcedRate-renamed v a known i;
-        marked = false;
+        notes = noNotes;
         blobs = announcedBlobs-renamed a known i;
       }
 
@@ -162,26 +163,26 @@ module _ (m : List ℕ) (ok : oneToOne m ≡ true) where
       (ap used (announcedPath-renamed v a known)))
       ∙ paths-renamed m (set (r .paths) (announcedPlace a known r) (used (announcedPath v a known))) r
 
-  -- ---- a mark
-  marked-renamed : (slot : Slot Path) → markedSlot (renameSlot (renamePath m) slot) ≡ renameSlot (renamePath m) (markedSlot slot)
-  unfolding markedSlot renameSlot renamePath
-  marked-renamed empty = refl
-  marked-renamed (used p) = refl
+  -- ---- a note
+  noted-renamed : (note : Note) (slot : Slot Path) → notedSlot note (renameSlot (renamePath m) slot) ≡ renameSlot (renamePath m) (notedSlot note slot)
+  unfolding notedSlot renameSlot renamePath
+  noted-renamed note empty = refl
+  noted-renamed note (used p) = refl
 
-  pub mark-renamed : (destination : List ℕ) (clock : ℕ) (r : Relay)
-      → withClock clock (markPath destination clock (renumbered m r)) ≡ renumbered m (withClock clock (markPath destination clock r))
-  unfolding markPath
-  mark-renamed destination clock r =
+  pub note-renamed : (note : Note) (destination : List ℕ) (clock : ℕ) (r : Relay)
+      → withClock clock (notePath note destination clock (renumbered m r)) ≡ renumbered m (withClock clock (notePath note destination clock r))
+  unfolding notePath
+  note-renamed note destination clock r =
       let slot : Slot Path = viewAt clock r .path destination in
       ap (λ (paths : List (Slot Path)). withClock clock (withPaths paths (renumbered m r)))
       (ap
       (λ (paths : List (Slot Path)).
-      set paths (pathPlace clock (renumbered m r) destination) (markedSlot (viewAt clock (renumbered m r) .path destination)))
+      set paths (pathPlace clock (renumbered m r) destination) (notedSlot note (viewAt clock (renumbered m r) .path destination)))
       (paths-of r)
-      ∙ set-renamed (renamePath m) (r .paths) _ _ _ (markedSlot slot) (pathPlace-renamed m clock r destination)
-      (ap markedSlot (path-renamed m clock r destination) ∙ marked-renamed slot))
-      ∙ ap (withClock clock) (paths-renamed m (set (r .paths) (pathPlace clock r destination) (markedSlot slot)) r)
-      ∙ withClock-renamed m clock (markPath destination clock r)
+      ∙ set-renamed (renamePath m) (r .paths) _ _ _ (notedSlot note slot) (pathPlace-renamed m clock r destination)
+      (ap (notedSlot note) (path-renamed m clock r destination) ∙ noted-renamed note slot))
+      ∙ ap (withClock clock) (paths-renamed m (set (r .paths) (pathPlace clock r destination) (notedSlot note slot)) r)
+      ∙ withClock-renamed m clock (notePath note destination clock r)
     where
       paths-of : (r : Relay) → renumbered m r .paths ≡ map (renameSlot (renamePath m)) (r .paths)
       paths-of r = unfold renumbered in refl

@@ -14,12 +14,14 @@ use Rattle.rules.specs.Refusals.{rateSettingsOk, tablesOk, clockBad, pac
 use Rattle.rules.specs.Arrival.{Arrival}
 use Rattle.rules.specs.Tests.{isThere}
 use Rattle.rules.specs.Judging.{Plan, plan, verdict, outputAfter}
-use Rattle.rules.specs.Writes.{markPath, enact}
+use Rattle.rules.specs.Writes.{notePath, enact}
 use Rattle.rules.specs.declared.Verdict.{Verdict}
 use Rattle.rules.specs.declared.Verdict.the-variants.{Drop, Deliver, Forward, Spread, Kept}
 use Rattle.rules.specs.declared.Answer.{Answer}
 use Rattle.rules.specs.declared.Answer.the-variants.{Refused, Judged}
 use Rattle.rules.specs.declared.Tally.{Tally}
+use Rattle.rules.specs.declared.Note.{Note}
+use Rattle.rules.specs.declared.Note.the-variants.{Unresponsive}
 
 -- ---- the tally: total and the five answers, each modulo 2^32
 unfoldable pub newTally : Tally
@@ -82,7 +84,11 @@ pub data TableCall : Type 0 where
   adds : (address : List ℕ) → TableCall
   removes : (address : List ℕ) → TableCall
   renumbers : (images : List ℕ) → TableCall
-  marks : (destination : List ℕ) (clock : ℕ) → TableCall
+  notes-path : (note : Note) (destination : List ℕ) (clock : ℕ) → TableCall
+
+-- wish 6: "Let the host mark a destination's live path unresponsive."
+abbrev pub marks : List ℕ → ℕ → TableCall
+marks destination clock = notes-path Unresponsive destination clock
 
 pub record TableRule : Type 0 where
   -- the rows below row 7
@@ -143,11 +149,11 @@ ruleOf (renumbers images) =
       movesPorts = oneToOne images;
     }
 -- wish 6, marking a destination's live path unresponsive: 5, and "12, marking with no live path, after 5". "An accepted mark sets the last clock."
-ruleOf (marks destination clock) =
+ruleOf (notes-path note destination clock) =
     record {
       rows = λ r. clockBad r clock gives 5 otherwise not (isThere (viewAt clock r .path destination)) gives 12 otherwise [];
-      after = λ r. withClock clock (markPath destination clock r);
-      renamed = λ m. marks destination clock;
+      after = λ r. withClock clock (notePath note destination clock r);
+      renamed = λ m. notes-path note destination clock;
       addresses = destination ∷ [];
       movesPorts = false;
     }

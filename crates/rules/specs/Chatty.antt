@@ -18,7 +18,7 @@ use Rattle.rules.specs.Arrival.{Arrival, header, destination}
 use Rattle.rules.specs.Ways.{wayOn}
 use Rattle.rules.specs.Tests.{ofKnown}
 use Rattle.rules.specs.Judging.{Plan, follows, earlyTests, onwardTests}
-use Rattle.rules.specs.Calls.{newTally, Judgement, judged, packetCall, sets-port, sets-rate, adds, removes, renumbers, marks}
+use Rattle.rules.specs.Calls.{newTally, Judgement, judged, packetCall, sets-port, sets-rate, adds, removes, renumbers, notes-path}
 use Rattle.rules.specs.Questions.{ofTest}
 use Rattle.rules.specs.Run.{Call, packet, on-tables, asks, saves, loads, Reply, answered, numbered, Outcome, ofJudgement, perform, replies, noneLoads}
 use Rattle.rules.specs.declared.Tally.{Tally}
@@ -72,7 +72,7 @@ targetOf (on-tables (sets-rate target grace penalty)) = target
 targetOf (on-tables (adds address)) = 0
 targetOf (on-tables (removes address)) = 0
 targetOf (on-tables (renumbers images)) = 0
-targetOf (on-tables (marks destination clock)) = 0
+targetOf (on-tables (notes-path note destination clock)) = 0
 targetOf (asks q) = 0
 targetOf (saves f room) = 0
 targetOf (loads f file) = 0
@@ -97,7 +97,7 @@ OffWithoutTarget =
 pub record WhileBlocked (p : Path) (a : Arrival) (r : Relay) : Type 0 where
   pub announce : isAnnounce (header a) ≡ true
   pub live : viewAt (a .clock) r .path (destination a) ≡ used p
-  pub unmarked : p .marked ≡ false
+  pub unmarked : p .notes .marked ≡ false
   pub blocked : a .clock < p .rate .«blocked_until»
 
 -- nor in any other path's

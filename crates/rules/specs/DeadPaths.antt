@@ -41,7 +41,7 @@ pub record NewEnough (p : Path) (a : Arrival) (output : List ℕ) (r : Relay) : 
   pub signed : a .signed ≡ true
   pub elsewhere : viewAt (a .clock) r .local (destination a) ≡ false
   pub live : viewAt (a .clock) r .path (destination a) ≡ used p
-  pub is-marked : p .marked ≡ true
+  pub is-marked : p .notes .marked ≡ true
   pub as-new : greatestEmission (held (p .blobs)) ≤ emissionOf (blob a)
 
 -- "is answered Spread or Kept; the live path then is unmarked, with its arrival port, hops and next hop, last = clock"
@@ -49,7 +49,7 @@ pub record Revived (a : Arrival) (reply : Reply) (r′ : Relay) : Type 0 where
   pub accepted : saysAccepted reply ≡ true
   pub path : Path
   pub live : viewAt (a .clock) r′ .path (destination a) ≡ used path
-  pub unmarked : path .marked ≡ false
+  pub unmarked : path .notes .marked ≡ false
   pub by-port : path .port ≡ a .port
   pub with-hops : path .hops ≡ hops a
   pub next-hop : path .nextHop ≡ nextHopOf (a .bytes)
@@ -79,7 +79,7 @@ NoneAccepted d (c ∷ cs) (x ∷ said) = (IsFor d c → saysAccepted x ≡ false
 pub record MarkedAt (d : List ℕ) (expiry now : ℕ) (r : Relay) : Type 0 where
   pub path : Path
   pub live : viewAt now r .path d ≡ used path
-  pub is-marked : path .marked ≡ true
+  pub is-marked : path .notes .marked ≡ true
   pub expires : path .expiry ≡ expiry
 
 -- p is the live path that is marked, cs are the calls after the mark, and `now` is at the last accepted clock or later

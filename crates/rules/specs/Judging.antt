@@ -1,7 +1,7 @@
 -- Document 01, "Judging a packet": tests in order; the first that holds gives the drop. No table is written here.
 use Prim.Native.Nat.{ℕ}
 use mathlib.Core.Bool.{Bool, true, false}
-use mathlib.Core.List.{List, []}
+use mathlib.Core.List.{List, [], _∷_}
 use lib.Dec.{eqb}
 use lib.ListN.{length}
 use Rattle.octets.specs.Part.{patch}
@@ -11,10 +11,10 @@ use Rattle.octets.specs.Listed.{Test, _gives_otherwise_, firstOf}
 use Rattle.rules.specs.View.{View}
 use Rattle.rules.specs.Arrival.{Arrival, hops}
 use Rattle.rules.specs.Ways.{Way, everywhere, by-path, along-link, by-return, blocked, wayOn}
-use Rattle.rules.specs.Tests.{notOurs, duplicate, badForm, failing, ownAnnounce, deliveredHere, tooManyHops, noWayOn, whyBlocked, alreadyKnown, wrongSide, notSigned, replay, notBetter, rateLimited, leavingPort, portOff, tooLongForPort, noRoom}
+use Rattle.rules.specs.Tests.{notOurs, duplicate, badForm, failing, ownAnnounce, deliveredHere, tooManyHops, noWayOn, whyBlocked, alreadyKnown, wrongSide, notSigned, knownTests, leavingPort, portOff, tooLongForPort, noRoom}
 use Rattle.rules.specs.Outgoing.{spreadPorts, outgoing, exceeds}
 use Rattle.rules.specs.declared.Reason.{Reason}
-use Rattle.rules.specs.declared.Reason.the-variants.{NotOurs, Duplicate, BadForm, OwnAnnounce, TooManyHops, NoWayOn, AlreadyKnown, WrongSide, NotSigned, Replay, NotBetter, RateLimited, PortOff, TooLongForPort, NoRoom}
+use Rattle.rules.specs.declared.Reason.the-variants.{NotOurs, Duplicate, BadForm, OwnAnnounce, TooManyHops, NoWayOn, AlreadyKnown, WrongSide, NotSigned, PortOff, TooLongForPort, NoRoom}
 use Rattle.rules.specs.declared.Verdict.{Verdict}
 use Rattle.rules.specs.declared.Verdict.the-variants.{Drop, Deliver, Forward, Spread, Kept}
 
@@ -35,16 +35,20 @@ earlyTests v a =
     tooManyHops (hops a) gives dropped TooManyHops otherwise
     []
 
--- tests 6 to 13, on the way that the packet would follow; wish 5: "drop 15, tested after 11"; wish 11: "drop 16, after 12"
+-- a list of tests before others, with its values by f
+infixr 20 _each-give_otherwise_
+abbrev pub _each-give_otherwise_ : {A B : Type 0} → List (Test A) → (A → B) → List (Test B) → List (Test B)
+[] each-give f otherwise rest = rest
+(t ∷ ts) each-give f otherwise rest = t .holds gives f (t .value) otherwise ts each-give f otherwise rest
+
+-- tests 6 to 13, on the way that the packet would follow; `knownTests` are 10, 11 and 15; wish 11: "drop 16, after 12"
 unfoldable pub onwardTests : View → Arrival → Way → List (Test Plan)
 onwardTests v a w =
     noWayOn w gives dropped (NoWayOn (whyBlocked w)) otherwise
     alreadyKnown v a w gives dropped AlreadyKnown otherwise
     wrongSide a w gives dropped WrongSide otherwise
     notSigned a gives dropped NotSigned otherwise
-    replay a w gives dropped Replay otherwise
-    notBetter a w gives dropped NotBetter otherwise
-    rateLimited v a w gives dropped RateLimited otherwise
+    knownTests v a w each-give dropped otherwise
     portOff v a w gives dropped PortOff otherwise
     tooLongForPort v a w gives dropped TooLongForPort otherwise
     noRoom v a w gives dropped NoRoom otherwise

@@ -20,7 +20,7 @@ use Rattle.rules.specs.Arrival.{Arrival, destination}
 use Rattle.rules.specs.Ways.{along-link}
 use Rattle.rules.specs.Tests.{tooManyHops, fromAnsweringSide, fromAskingSide, leavingPort}
 use Rattle.rules.specs.Outgoing.{exceeds, carriedPacket}
-use Rattle.rules.specs.Calls.{sets-port, sets-rate, adds, removes, renumbers, marks, tableRefusal}
+use Rattle.rules.specs.Calls.{sets-port, sets-rate, adds, removes, renumbers, notes-path, tableRefusal}
 use Rattle.rules.specs.Questions.{questionRefusal}
 use Rattle.rules.specs.Saved.{saveRefusal, loadRefusal}
 use Rattle.rules.specs.Run.{Call, packet, on-tables, asks, saves, loads, Reply, answered, perform}
@@ -86,7 +86,7 @@ fair l deadline (on-tables (sets-rate target grace penalty)) = true
 fair l deadline (on-tables (adds address)) = true
 fair l deadline (on-tables (removes address)) = true
 fair l deadline (on-tables (renumbers images)) = false
-fair l deadline (on-tables (marks destination clock)) = ltb clock deadline
+fair l deadline (on-tables (notes-path note destination clock)) = ltb clock deadline
 -- a question changes nothing, whatever its clock
 fair l deadline (asks q) = true
 -- nor does a save; a load sets everything

@@ -72,7 +72,7 @@ pub record Leaves (d : List ℕ) (p : Path) (a : Arrival) (reply : Reply) (r′ 
 
 -- live and unmarked before the packet, at its clock
 abbrev pub OldLeavesPath : Sentence
-OldLeavesPath a r reply r′ = (d : List ℕ) (p : Path) → LivePath d p a r → p .marked ≡ false → Leaves d p a reply r′
+OldLeavesPath a r reply r′ = (d : List ℕ) (p : Path) → LivePath d p a r → p .notes .marked ≡ false → Leaves d p a reply r′
 
 -- ---- 2. "And an ordinary proof is forwarded only by the arrival port of the live return record, and exactly if that record's leaving port is where it came in
 -- and tests 1 to 5 and 12 let it by." Wish 11: "Wish 7's condition for proofs now names drop 16 too."
@@ -118,4 +118,4 @@ pub record TakenAgain (d : List ℕ) (p : Path) (a : Arrival) (r : Relay) (reply
 
 abbrev pub MarkedTakesAgain : Sentence
 MarkedTakesAgain a r reply r′ =
-    (d : List ℕ) (p : Path) → LivePath d p a r → p .marked ≡ true → HeldAnnounce d p a → TakenAgain d p a r reply r′
+    (d : List ℕ) (p : Path) → LivePath d p a r → p .notes .marked ≡ true → HeldAnnounce d p a → TakenAgain d p a r reply r′

@@ -10,6 +10,9 @@ use Rattle.numbers.specs.Numbers.{longestPacket, portCount, localCount, pathCou
 use Rattle.rules.specs.declared.Link.{Link}
 use Rattle.rules.specs.declared.RateSettings.{RateSettings}
 use Rattle.rules.specs.declared.RateEntry.{RateEntry}
+use Rattle.rules.specs.declared.Notes.{Notes}
+use Rattle.rules.specs.declared.Note.{Note}
+use Rattle.rules.specs.declared.Note.the-variants.{Unresponsive}
 
 -- each on or off and boundary, access point or roaming. Wish 11: "Each port gets a size"
 pub record Port : Type 0 where
@@ -31,8 +34,8 @@ pub record Path : Type 0 where
   pub nextHop : List ℕ
   pub expiry : ℕ
   pub rate : RateEntry
-  -- the host has marked it unresponsive
-  pub marked : Bool
+  -- what the host has noted of it
+  pub notes : Notes
   pub blobs : Blobs
 
 -- of data forwarded by a path: first 16 of packet hash, arrival port, leaving port
@@ -88,8 +91,15 @@ noRateSettings = makeRateSettings 0 0 0
 abbrev pub noRateEntry : RateEntry
 noRateEntry = makeRateEntry 0 0 0
 
-abbrev pub makePath : List ℕ → ℕ → ℕ → List ℕ → ℕ → RateEntry → Bool → Blobs → Path
-makePath destination port hops nextHop expiry rate marked blobs =
+abbrev pub makeNotes : Bool → Notes
+makeNotes marked = record { marked = marked }
+
+-- what is noted of a path that an accepted announce made. Wish 6: "Acceptance clears the mark"
+abbrev pub noNotes : Notes
+noNotes = makeNotes false
+
+abbrev pub makePath : List ℕ → ℕ → ℕ → List ℕ → ℕ → RateEntry → Notes → Blobs → Path
+makePath destination port hops nextHop expiry rate notes blobs =
     record {
       destination = destination;
       port = port;
@@ -97,7 +107,7 @@ makePath destination port hops nextHop expiry rate marked blobs =
       nextHop = nextHop;
       expiry = expiry;
       rate = rate;
-      marked = marked;
+      notes = notes;
       blobs = blobs;
     }
 
@@ -126,15 +136,27 @@ makeRing slots next = record { slots = slots; next = next }
 -- ---- a record with some fields changed
 -- a path by another port
 abbrev pub withPathPort : ℕ → Path → Path
-withPathPort port p = makePath (p .destination) port (p .hops) (p .nextHop) (p .expiry) (p .rate) (p .marked) (p .blobs)
+withPathPort port p = makePath (p .destination) port (p .hops) (p .nextHop) (p .expiry) (p .rate) (p .notes) (p .blobs)
 
 -- a path with another rate entry
 abbrev pub withPathRate : RateEntry → Path → Path
-withPathRate rate p = makePath (p .destination) (p .port) (p .hops) (p .nextHop) (p .expiry) rate (p .marked) (p .blobs)
+withPathRate rate p = makePath (p .destination) (p .port) (p .hops) (p .nextHop) (p .expiry) rate (p .notes) (p .blobs)
 
--- a path that is marked
+-- a path with other notes
+abbrev pub withPathNotes : Notes → Path → Path
+withPathNotes notes p = makePath (p .destination) (p .port) (p .hops) (p .nextHop) (p .expiry) (p .rate) notes (p .blobs)
+
+-- what is noted after a note of the host's
+abbrev pub noted : Note → Notes → Notes
+noted Unresponsive n = makeNotes true
+
+-- a path of which the host has noted this
+abbrev pub withNote : Note → Path → Path
+withNote note p = withPathNotes (noted note (p .notes)) p
+
+-- a path that is marked unresponsive
 abbrev pub withPathMark : Path → Path
-withPathMark p = makePath (p .destination) (p .port) (p .hops) (p .nextHop) (p .expiry) (p .rate) true (p .blobs)
+withPathMark = withNote Unresponsive
 
 -- a link between other ports
 abbrev pub withLinkPorts : ℕ → ℕ → Link → Link

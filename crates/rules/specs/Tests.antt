@@ -26,6 +26,8 @@ use Rattle.rules.specs.declared.Clause.{Clause}
 use Rattle.rules.specs.declared.Clause.the-variants.{TypeTwoProof, TypeTwoOfKindLink, AnnounceNotSingle, AnnounceTooShort, AnnounceOfAnother, RequestOfKindLink, RequestTooShort, LinkProofLength}
 use Rattle.rules.specs.declared.Blocked.{Blocked}
 use Rattle.rules.specs.declared.Blocked.the-variants.{NoPath, NoLink, NoReturn}
+use Rattle.rules.specs.declared.Reason.{Reason}
+use Rattle.rules.specs.declared.Reason.the-variants.{Replay, NotBetter, RateLimited}
 
 -- 1. Not ours: type 2, not an announce, relay address not our own.
 unfoldable pub notOurs : View → Arrival → Bool
@@ -34,7 +36,7 @@ notOurs v a = typeTwo (header a) and not (isAnnounce (header a)) and not (same (
 -- wish 6: "For a marked path an announce of kind single": its destination has a live path, and that is marked
 unfoldable pub isMarked : Slot Path → Bool
 isMarked empty = false
-isMarked (used p) = p .marked
+isMarked (used p) = p .notes .marked
 
 unfoldable pub forMarkedPath : View → Arrival → Bool
 forMarkedPath v a = isAnnounce (header a) and ofKindSingle (header a) and isMarked (v .path (destination a))
@@ -170,9 +172,9 @@ notSigned a = (isAnnounce (header a) or isLinkProof (a .bytes)) and not (a .sign
 -- wish 6, for a marked path: "tests 10, 11 and 15 aren't made if its emission is at least the greatest stored". Below it all three are made. By test 3
 -- the announce is of kind single
 unfoldable pub revives : Arrival → Path → Bool
-revives a p = p .marked and leb (greatestEmission (held (p .blobs))) (emissionOf (blob a))
+revives a p = p .notes .marked and leb (greatestEmission (held (p .blobs))) (emissionOf (blob a))
 
--- tests 10, 11 and 15 are of an announce and the live path of its destination; where there is none, they don't hold
+-- a test of an announce and the live path of its destination. It isn't made where there is none, nor by wish 6 where the announce `revives` it
 unfoldable pub ofKnown : Arrival → (Path → Bool) → Way → Bool
 ofKnown a test (everywhere empty) = false
 ofKnown a test (everywhere (used p)) = not (revives a p) and test p
@@ -181,26 +183,25 @@ ofKnown a test (along-link l) = false
 ofKnown a test (by-return t) = false
 ofKnown a test (blocked why) = false
 
--- 10. Replay: the announce's blob is stored in its live path. Wish 6: not made of one that `revives` it
-unfoldable pub isReplay : Arrival → Path → Bool
+-- 10. Replay: the announce's blob is stored in its live path.
+abbrev pub isReplay : Arrival → Path → Bool
 isReplay a p = isAmong (blob a) (held (p .blobs))
 
-unfoldable pub replay : Arrival → Way → Bool
-replay a = ofKnown a (isReplay a)
-
--- 11. Not better: emission not above the greatest among stored blobs, and hops not below the stored hops. Wish 6: not made of one that `revives` the path
-unfoldable pub isNotBetter : Arrival → Path → Bool
+-- 11. Not better: emission not above the greatest among stored blobs, and hops not below the stored hops.
+abbrev pub isNotBetter : Arrival → Path → Bool
 isNotBetter a p = leb (emissionOf (blob a)) (greatestEmission (held (p .blobs))) and leb (p .hops) (hops a)
 
-unfoldable pub notBetter : Arrival → Way → Bool
-notBetter a = ofKnown a (isNotBetter a)
-
--- 15. Document 02, wish 5: "drop 15, tested after 11", by the rate rule. "A destination with no live path is let through". Wish 6: nor of one that `revives` it
-unfoldable pub isRateLimited : View → Arrival → Path → Bool
+-- 15. Document 02, wish 5, by the rate rule. "A destination with no live path is let through"
+abbrev pub isRateLimited : View → Arrival → Path → Bool
 isRateLimited v a p = rated (v .rate) (a .clock) (p .rate) .dropped
 
-unfoldable pub rateLimited : View → Arrival → Way → Bool
-rateLimited v a = ofKnown a (isRateLimited v a)
+-- these tests in order; wish 5: "drop 15, tested after 11"
+unfoldable pub knownTests : View → Arrival → Way → List (Test Reason)
+knownTests v a w =
+    ofKnown a (isReplay a) w gives Replay otherwise
+    ofKnown a (isNotBetter a) w gives NotBetter otherwise
+    ofKnown a (isRateLimited v a) w gives RateLimited otherwise
+    []
 
 -- the port to leave by: the path's, which may be the arrival port; from the answering side the asking port, else the answering port; the
 -- return record's arrival port. An announce leaves by many, and what is blocked by none: 16 is no port

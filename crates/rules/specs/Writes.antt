@@ -1,4 +1,4 @@
--- What an accepted packet writes into the tables, by what was planned, and what a mark writes. Nothing is dropped here.
+-- What an accepted packet writes into the tables, by what was planned, and what a note of the host's writes. Nothing is dropped here.
 use Prim.Native.Nat.{ℕ, _+_, _%_}
 use mathlib.Core.Bool.{Bool, true, false, not}
 use mathlib.Core.List.{List, map}
@@ -10,7 +10,7 @@ use Rattle.packet.specs.Header.{typeTwo, isData}
 use Rattle.packet.specs.Read.{headerOf, partsOf}
 use Rattle.packet.specs.Hash.{linkId}
 use Rattle.numbers.specs.Numbers.{blobLimit, returnCount, hashCount, pathLifetime, hashLifetime, returnLifetime, unprovedLifetime, provedLifetime}
-use Rattle.rules.specs.Relay.{Slot, empty, used, Ring, makeRing, withSlots, makePath, withPathRate, withPathMark, makeLink, withLinkState, makeReturn, makeRemembered, Blobs, Path, Return, Relay, holds, withClock, withPaths, withLinks, withReturns, withHashes}
+use Rattle.rules.specs.Relay.{Slot, empty, used, Ring, makeRing, withSlots, makePath, withPathRate, noNotes, withNote, makeLink, withLinkState, makeReturn, makeRemembered, Blobs, Path, Return, Relay, holds, withClock, withPaths, withLinks, withReturns, withHashes}
 use Rattle.rules.specs.View.{View, viewAt, isLiveReturn, pathPlace, linkPlace, returnPlace, freePath, freeLink}
 use Rattle.rules.specs.Arrival.{Arrival, header, hops, destination, hash, blob, isLinkProof}
 use Rattle.rules.specs.Exempt.{exempt}
@@ -23,6 +23,7 @@ use Rattle.rules.specs.Judging.{Plan, dropped, delivered, follows}
 use Rattle.rules.specs.declared.Link.{Link}
 use Rattle.rules.specs.declared.Reason.{Reason}
 use Rattle.rules.specs.declared.RateEntry.{RateEntry}
+use Rattle.rules.specs.declared.Note.{Note}
 
 -- a ring of n places: the next one is written, and the one after it is next
 unfoldable pub putNext : {A : Type 0} → ℕ → Slot A → Ring A → Ring A
@@ -76,7 +77,7 @@ announcedRate v a (used p) = revives a p then entryRevived (a .clock) (p .rate) 
 -- wish 6: "Acceptance clears the mark", and a new path has none
 unfoldable pub announcedPath : View → Arrival → Slot Path → Path
 announcedPath v a known =
-    makePath (destination a) (a .port) (hops a) (nextHopOf (a .bytes)) (pathExpiry v a) (announcedRate v a known) false (announcedBlobs a known)
+    makePath (destination a) (a .port) (hops a) (nextHopOf (a .bytes)) (pathExpiry v a) (announcedRate v a known) noNotes (announcedBlobs a known)
 
 -- a known path keeps its slot; a new one overwrites the lowest slot empty or expired
 unfoldable pub announcedPlace : Arrival → Slot Path → Relay → ℕ
@@ -95,13 +96,13 @@ limitPath v a (used p) r =
     r
 
 -- wish 6: "Let the host mark a destination's live path unresponsive."
-unfoldable pub markedSlot : Slot Path → Slot Path
-markedSlot empty = empty
-markedSlot (used p) = used (withPathMark p)
+unfoldable pub notedSlot : Note → Slot Path → Slot Path
+notedSlot note empty = empty
+notedSlot note (used p) = used (withNote note p)
 
-unfoldable pub markPath : List ℕ → ℕ → Relay → Relay
-markPath destination clock r =
-    withPaths (set (r .paths) (pathPlace clock r destination) (markedSlot (viewAt clock r .path destination))) r
+unfoldable pub notePath : Note → List ℕ → ℕ → Relay → Relay
+notePath note destination clock r =
+    withPaths (set (r .paths) (pathPlace clock r destination) (notedSlot note (viewAt clock r .path destination))) r
 
 -- ---- return records
 -- first 16 of packet hash, arrival port, leaving port

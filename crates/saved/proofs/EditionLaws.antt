@@ -25,9 +25,9 @@ use Rattle.codes.proofs.Forms.{lawful}
 use Rattle.codes.proofs.Same.{Same, same-byte}
 use Rattle.recording.proofs.Sums.{joined-each-bytes, patch-three, part-last, part-front, part-back}
 use Rattle.numbers.specs.Numbers.{longestPacket, isSize, portCount, localCount, pathCount, blobLimit}
-use Rattle.rules.specs.Relay.{freshPort, noPort, noRateSettings, noRateEntry, empty}
+use Rattle.rules.specs.Relay.{freshPort, noPort, noRateSettings, noRateEntry, noNotes, empty}
 use Rattle.rules.specs.Refusals.{timeOk, rateSettingsOk, portOk}
-use Rattle.tables.specs.Forms.{BlobRoom, Edition, addressWidth, timeWidth, blobWidth, sizeWidth, rateSettingsForm, rateEntryForm, portFormOf, portFormIn, portForm, localForm, headForm, pathFormIn, backForm, relayFormOf, relayFormIn}
+use Rattle.tables.specs.Forms.{BlobRoom, Edition, addressWidth, timeWidth, blobWidth, sizeWidth, rateSettingsForm, rateEntryForm, notesForm, portFormOf, portFormIn, portForm, localForm, headForm, pathFormIn, backForm, relayFormOf, relayFormIn}
 use Rattle.tables.specs.Places.{portWidth, localWidth, pathWidth, clockAt, rateAt, portsAt, localsAt, pathsAt, linksAt, backWidth, tableSize}
 use Rattle.tables.specs.Fields.{portSizeAt, pathBlobsAt, blobsWidth}
 use Rattle.tables.specs.Records.{portBytes, portBytesOk, localBytesOk}
@@ -93,7 +93,7 @@ filled-alike {s} h b long =
 -- ---- what each edition has of the fields that a later one brought
 pub record Brings (e : Edition) : Type 1 where
   pub rateSettings : Brought rateSettingsForm (e .rateSettings)
-  pub pathFields : BroughtTwo rateEntryForm mark (e .rateEntry) (e .pathMark)
+  pub pathFields : BroughtTwo rateEntryForm notesForm (e .rateEntry) (e .notes)
   pub portSize : SizeBrought (e .portSize)
 
 first-brings : Brings edition1
@@ -101,13 +101,13 @@ unfolding bigEndian rateSettingsOk markOf _and_ _then_otherwise_
 first-brings =
     record {
       rateSettings = lacked noRateSettings ((lit< tt, (lit< tt, lit< tt)), refl) refl;
-      pathFields = both-lacked noRateEntry false ((lit< tt, (lit< tt, lit< tt)), tt) refl;
+      pathFields = both-lacked noRateEntry noNotes ((lit< tt, (lit< tt, lit< tt)), tt) refl;
       portSize = size-fresh;
     }
 
 second-brings : Brings edition2
 unfolding markOf _then_otherwise_
-second-brings = record { rateSettings = kept; pathFields = first-kept (lacked false tt refl); portSize = size-fresh }
+second-brings = record { rateSettings = kept; pathFields = first-kept (lacked noNotes tt refl); portSize = size-fresh }
 
 pub each-brings : (i : ℕ) → Brings (getD editions i edition1)
 each-brings zero = first-brings
@@ -140,7 +140,7 @@ module _ (e : Edition) (h : Brings e) where
   settings-within : code (e .rateSettings) .width ≤ 12
   settings-within = brought-within (h .rateSettings)
 
-  entry-within : code (e .rateEntry) .width + code (e .pathMark) .width ≤ 18
+  entry-within : code (e .rateEntry) .width + code (e .notes) .width ≤ 18
   entry-within = two-within (h .pathFields)
 
   pub port-within : portWidthIn e ≤ portWidth

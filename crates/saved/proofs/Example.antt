@@ -19,7 +19,7 @@ use Rattle.codes.specs.Codes.{fill}
 use Rattle.codes.specs.Form.{octetsIn, many, slot, code}
 use Rattle.recording.specs.Shape.{kindOf, editionOf, countOf, offsetOf, lengthOf, sumBelow, runningPlace, offsetsRight, endRight}
 use Rattle.numbers.specs.Numbers.{longestPacket, portCount, blobLimit}
-use Rattle.rules.specs.Relay.{freshPort, noPort, noRateSettings, noRateEntry, Slot, empty, used, Path, makePath, Relay}
+use Rattle.rules.specs.Relay.{freshPort, noPort, noRateSettings, noRateEntry, noNotes, Slot, empty, used, Path, makePath, Relay}
 use Rattle.rules.specs.Blobs.{noBlob}
 use Rattle.rules.specs.Refusals.{tablesOk}
 use Rattle.rules.specs.declared.Tally.{Tally}
@@ -205,7 +205,7 @@ small-room =
 -- no mark: "older ones load unmarked", 16 blobs a path at most: these places, and zeros behind them; and no sizes of ports: "older ones load with 500"
 record OlderPath (p : Path) : Type 0 where
   rate : p .rate ≡ noRateEntry
-  marked : p .marked ≡ false
+  notes : p .notes ≡ noNotes
   few : leb (p .blobs .count) olderBlobLimit ≡ true
   spare : fill blobLimit noBlob (fill olderBlobLimit noBlob (p .blobs .places)) ≡ p .blobs .places
 
@@ -234,7 +234,7 @@ older-good r g none sized each =
     path empty h e = tt
     path (used p) h e =
         let (head, (_, (_, (count, places)))) = h .0 in
-        ((head, (e .rate, (e .marked, ((count, (blob (p .blobs .places) places, e .spare)), e .few)))), h .1)
+        ((head, (e .rate, (e .notes, ((count, (blob (p .blobs .places) places, e .spare)), e .few)))), h .1)
 
 -- a path's one blob stands in the first place
 one-spare : (x : List ℕ) → fill blobLimit noBlob (fill olderBlobLimit noBlob (x ∷ replicate (blobLimit - 1) noBlob)) ≡ x ∷ replicate (blobLimit - 1) noBlob
@@ -262,7 +262,7 @@ one-spare x =
         ∙ sym (behind i (omega arith))
 
 abbrev pub olderRelay : Relay
-olderRelay = relayWith (makePath (knownPath .destination) 1 0 (knownPath .nextHop) 22600 noRateEntry false (knownPath .blobs))
+olderRelay = relayWith (makePath (knownPath .destination) 1 0 (knownPath .nextHop) 22600 noRateEntry noNotes (knownPath .blobs))
 
 older-shape : shaped olderRelay ≡ true
 unfolding rules shaped pathShaped linkShaped returnShaped hashShaped isBytes isByte
@@ -296,7 +296,7 @@ held-good =
     sized (suc (suc (suc i))) = fresh-sized 13 i
 
     older : (i : ℕ) → Older (getD (olderRelay .paths) i empty)
-    older zero = record { rate = refl; marked = refl; few = refl; spare = one-spare _ }
+    older zero = record { rate = refl; notes = refl; few = refl; spare = one-spare _ }
     older (suc i) = subst Older (sym (none 63 i)) tt
 
 -- it is 71,192 bytes long, and loads: the relay is in the tables, the path with zeros

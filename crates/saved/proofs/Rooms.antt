@@ -14,13 +14,13 @@ use Rattle.octets.specs.Part.{part}
 use Rattle.octets.proofs.Bytes.{replicate-bytes}
 use Rattle.octets.proofs.Index.{all-at, all-cong}
 use Rattle.octets.proofs.Part.{part-at, part-whole}
-use Rattle.codes.specs.Form.{Form, byte, mark, octetsIn, slot, that, code}
+use Rattle.codes.specs.Form.{Form, byte, octetsIn, slot, that, code}
 use Rattle.codes.proofs.Same.{Same, same-first, same-inside}
 use Rattle.numbers.specs.Numbers.{pathCount, blobLimit}
 use Rattle.rules.specs.Relay.{Blobs, Path}
 use Rattle.rules.specs.Blobs.{noBlob}
 use Rattle.rules.proofs.Ranges.{path-counted}
-use Rattle.tables.specs.Forms.{BlobRoom, as-today, fewer, Edition, rateSettingsForm, rateEntryForm, blobWidth, blobsForm, holdsAtMost, blobsFormIn, portForm, pathFormOf, pathForm, relayFormOf, relayForm}
+use Rattle.tables.specs.Forms.{BlobRoom, as-today, fewer, Edition, rateSettingsForm, rateEntryForm, notesForm, blobWidth, blobsForm, holdsAtMost, blobsFormIn, portForm, pathFormOf, pathForm, relayFormOf, relayForm}
 use Rattle.tables.specs.Places.{pathWidth, pathsAt, linksAt}
 use Rattle.tables.specs.Fields.{pathBlobsAt, blobsWidth}
 use Rattle.tables.specs.Records.{blobsOf, pathOf, pathBytesOk}
@@ -48,7 +48,7 @@ limitedBlobs as-today = blobsForm
 limitedBlobs (fewer most within) = that (holdsAtMost most) blobsForm
 
 abbrev pub limitedPath : BlobRoom → Form Path
-limitedPath r = pathFormOf rateEntryForm mark (limitedBlobs r)
+limitedPath r = pathFormOf rateEntryForm notesForm (limitedBlobs r)
 
 pub limited-width : (r : BlobRoom) → code (slot (limitedPath r)) .width ≡ pathWidth
 limited-width as-today = refl

@@ -12,9 +12,9 @@ use lib.Text.{eqt}
 use Rattle.octets.specs.Index.{_and_}
 use Rattle.codes.specs.Form.{Form, byte, mark, numberIn, octetsIn, given, field, _&_, many, firstsOf, slot, that, asRecord, code, oneOf}
 use Rattle.numbers.specs.Numbers.{longestPacket}
-use Rattle.rules.specs.Relay.{noRateSettings, noRateEntry, Relay}
+use Rattle.rules.specs.Relay.{noRateSettings, noRateEntry, noNotes, Relay}
 use Rattle.rules.specs.declared.Tally.{Tally}
-use Rattle.tables.specs.Forms.{BlobRoom, as-today, fewer, Edition, rateSettingsForm, rateEntryForm, today, relayFormIn}
+use Rattle.tables.specs.Forms.{BlobRoom, as-today, fewer, Edition, rateSettingsForm, rateEntryForm, notesForm, today, relayFormIn}
 
 -- what is saved, and what a load gives: the relay that the tables hold, and the tally
 abbrev pub Held : Type 0
@@ -94,7 +94,7 @@ edition1 =
     record {
       rateSettings = given noRateSettings;
       rateEntry = given noRateEntry;
-      pathMark = given false;
+      notes = given noNotes;
       blobRoom = olderRoom;
       portSize = olderSize;
     }
@@ -102,15 +102,15 @@ edition1 =
 -- "Saved tables take edition 2"; wish 6: "older ones load unmarked"
 abbrev pub edition2 : Edition
 edition2 =
-    record { rateSettings = rateSettingsForm; rateEntry = rateEntryForm; pathMark = given false; blobRoom = olderRoom; portSize = olderSize }
+    record { rateSettings = rateSettingsForm; rateEntry = rateEntryForm; notes = given noNotes; blobRoom = olderRoom; portSize = olderSize }
 
 -- wish 6: "saved tables take edition 3"
 abbrev pub edition3 : Edition
-edition3 = record { rateSettings = rateSettingsForm; rateEntry = rateEntryForm; pathMark = mark; blobRoom = olderRoom; portSize = olderSize }
+edition3 = record { rateSettings = rateSettingsForm; rateEntry = rateEntryForm; notes = notesForm; blobRoom = olderRoom; portSize = olderSize }
 
 -- wish 8: "a new save is edition 4"
 abbrev pub edition4 : Edition
-edition4 = record { rateSettings = rateSettingsForm; rateEntry = rateEntryForm; pathMark = mark; blobRoom = as-today; portSize = olderSize }
+edition4 = record { rateSettings = rateSettingsForm; rateEntry = rateEntryForm; notes = notesForm; blobRoom = as-today; portSize = olderSize }
 
 -- wish 11: "Saved tables take edition 5": as the tables are
 abbrev pub edition5 : Edition

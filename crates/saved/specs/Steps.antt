@@ -42,7 +42,7 @@ abbrev pub portWidthIn : Edition → ℕ
 portWidthIn e = code (portFormIn e) .width
 
 abbrev pub beforeBlobs : Edition → ℕ
-beforeBlobs e = pathRateAt + code (e .rateEntry) .width + code (e .pathMark) .width
+beforeBlobs e = pathRateAt + code (e .rateEntry) .width + code (e .notes) .width
 
 -- how many blobs a path can hold, and how wide they are with their count
 abbrev pub mostBlobs : BlobRoom → ℕ

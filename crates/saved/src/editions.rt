@@ -59,8 +59,8 @@ pub fn port_width(edition: u8) -> usize
     PORT_WIDTH
 }
 
-// How much of a path's record stands before its blobs. Edition 2 brought what the announce rate has there, edition 3 the
-// mark.
+// How much of a path's record stands before its blobs. Edition 2 brought what the announce rate has there, edition
+// 3 the mark.
 pub fn before_blobs(edition: u8) -> usize
     requires { ⌜ isKnown edition ≡ true ⌝ }
     ensures { λ r. ⌜ r ≡ beforeBlobs (numbered edition) ⌝ }

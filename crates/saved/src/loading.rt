@@ -191,7 +191,8 @@ pub fn load(file: &[u8], tables: &mut [u8], tally: Tally) -> Loaded
     }
 }
 
-// The own address of the relay in a file, which stands first in every edition. Zeros where a load would refuse the file.
+// The own address of the relay in a file, which stands first in every edition. Zeros where a load would refuse the
+// file.
 pub fn own_address(file: &[u8]) -> [u8; 16]
     ensures { λ r. ⌜ r ≡ ownIn (now (file .entry)) ⌝ }
 {

@@ -12,24 +12,25 @@ use Rattle.octets.specs.Part.{patch}
 use Rattle.octets.proofs.Choice.{then-true, then-false}
 use Rattle.numbers.specs.Numbers.{portCount, localCount, pathCount}
 use Rattle.codes.specs.Form.{code}
-use Rattle.rules.specs.Relay.{Slot, empty, Path, makePort, makeRateSettings, withLocals}
+use Rattle.rules.specs.Relay.{Slot, empty, Path, makePort, makeRateSettings, noted, withLocals}
 use Rattle.rules.specs.View.{viewAt, pathPlace}
 use Rattle.rules.specs.Refusals.{clockBad}
 use Rattle.rules.specs.Tests.{isThere}
-use Rattle.rules.specs.Writes.{markPath}
-use Rattle.rules.specs.Calls.{sets-port, sets-rate, marks, ruleOf}
+use Rattle.rules.specs.Writes.{notePath}
+use Rattle.rules.specs.Calls.{sets-port, sets-rate, notes-path, ruleOf}
+use Rattle.rules.specs.declared.Note.{Note}
 use Rattle.tables.specs.Forms.{rateSettingsForm}
-use Rattle.tables.specs.Places.{portWidth, localWidth, ownAt, rateAt, portsAt, localsAt, tableSize, addressWidth}
-use Rattle.tables.specs.Records.{portBytes, slotBytes, localBytes}
-use Rattle.tables.specs.Layout.{relayOf, bytesOf, wellFormed}
+use Rattle.tables.specs.Places.{portWidth, localWidth, pathWidth, pathsAt, ownAt, rateAt, portsAt, localsAt, tableSize, addressWidth}
+use Rattle.tables.specs.Records.{portBytes, pathOf, slotBytes, localBytes}
+use Rattle.tables.specs.Layout.{recordAt, relayOf, bytesOf, wellFormed}
 use Rattle.tables.specs.Called.{refused}
 use Rattle.tables.proofs.Whole.{again}
 use Rattle.tables.proofs.Patches.{patch-rate, patch-port, patch-local}
 use Rattle.tables.proofs.Seen.{ports-length, locals-length}
 use Rattle.lookup.proofs.Found.{path-found, path-missing}
-use Rattle.update.specs.Written.{clockWritten, markWritten}
+use Rattle.update.specs.Written.{clockWritten, notesWritten}
 use Rattle.update.proofs.Steps.{clock-step}
-use Rattle.update.proofs.Enacted.{path-marked}
+use Rattle.update.proofs.Enacted.{path-noted}
 use Rattle.settings.specs.Calls.{freshOn, freshPorts}
 use Rattle.settings.proofs.Zeros.{fresh-writes}
 
@@ -57,32 +58,34 @@ module _ (t : List ℕ) (h : wellFormed t ≡ true) (b : Bytes t) where
       ∙ patch-local (relayOf t) place new (locals-length t) l
       ∙ ap (λ (k : ℕ). bytesOf (withLocals (set (relayOf t .locals) k new) (relayOf t))) e
 
--- ---- a mark: 5, 12
-module _ (t to : List ℕ) (clock : ℕ) where
-  abbrev markRefusal : ℕ
-  markRefusal = firstOf (ruleOf (marks to clock) .rows (relayOf t)) 0
+-- ---- a note: 5, 12
+module _ (t : List ℕ) (note : Note) (to : List ℕ) (clock : ℕ) where
+  abbrev noteRefusal : ℕ
+  noteRefusal = firstOf (ruleOf (notes-path note to clock) .rows (relayOf t)) 0
 
-  pub mark-early : clockBad (relayOf t) clock ≡ true → markRefusal ≡ 5
+  pub note-early : clockBad (relayOf t) clock ≡ true → noteRefusal ≡ 5
   unfolding ruleOf firstOf
-  mark-early bad = then-true _ _ bad
+  note-early bad = then-true _ _ bad
 
   -- at the place where the search for the path ended
   module _ (place : ℕ) (e : place ≡ pathPlace clock (relayOf t) to) where
-    pub mark-nowhere : clockBad (relayOf t) clock ≡ false → pathCount ≤ place → markRefusal ≡ 12
+    pub note-nowhere : clockBad (relayOf t) clock ≡ false → pathCount ≤ place → noteRefusal ≡ 12
     unfolding ruleOf firstOf isThere
-    mark-nowhere fine l = then-false _ _ fine ∙ then-true _ _ (ap (λ (s : Slot Path). not (isThere s)) (path-missing t clock to place e l))
+    note-nowhere fine l = then-false _ _ fine ∙ then-true _ _ (ap (λ (s : Slot Path). not (isThere s)) (path-missing t clock to place e l))
 
     module _ (l : place < pathCount) where
-      pub mark-accepted : clockBad (relayOf t) clock ≡ false → markRefusal ≡ 0
+      pub note-accepted : clockBad (relayOf t) clock ≡ false → noteRefusal ≡ 0
       unfolding ruleOf firstOf isThere
-      mark-accepted fine = then-false _ _ fine ∙ then-false _ _ (ap (λ (s : Slot Path). not (isThere s)) (path-found t clock to place e l))
+      note-accepted fine = then-false _ _ fine ∙ then-false _ _ (ap (λ (s : Slot Path). not (isThere s)) (path-found t clock to place e l))
 
-      pub mark-set : wellFormed t ≡ true → Bytes t → (u w : List ℕ) → u ≡ markWritten t place → w ≡ clockWritten u clock
-          → w ≡ bytesOf (ruleOf (marks to clock) .after (relayOf t))
+      -- by the notes that were read there
+      pub note-set : wellFormed t ≡ true → Bytes t → (u w : List ℕ)
+          → u ≡ notesWritten t place (noted note (pathOf (recordAt pathsAt pathWidth t place) .notes)) → w ≡ clockWritten u clock
+          → w ≡ bytesOf (ruleOf (notes-path note to clock) .after (relayOf t))
       unfolding ruleOf viewAt
-      mark-set h b u w q1 q2 =
+      note-set h b u w q1 q2 =
           let there = ap (λ (k : ℕ). getD (relayOf t .paths) k empty) e ∙ path-found t clock to place e l in
-          clock-step (markPath to clock (relayOf t)) (path-marked t b h _ to clock place u l e there q1) clock q2
+          clock-step (notePath note to clock (relayOf t)) (path-noted t b h note _ to clock place u l e there q1) clock q2
 
 -- ---- a fresh relay
 module _ (t own : List ℕ) where

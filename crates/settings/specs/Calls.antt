@@ -8,7 +8,8 @@ use Rattle.octets.specs.Choice.{_then_otherwise_}
 use Rattle.octets.specs.Part.{joined}
 use Rattle.numbers.specs.Numbers.{portCount}
 use Rattle.rules.specs.Relay.{freshPort, fresh}
-use Rattle.rules.specs.Calls.{sets-port, sets-rate, adds, removes, marks}
+use Rattle.rules.specs.Calls.{sets-port, sets-rate, adds, removes, notes-path, marks}
+use Rattle.rules.specs.declared.Note.{Note}
 use Rattle.tables.specs.Places.{tableSize}
 use Rattle.tables.specs.Records.{portBytes}
 use Rattle.tables.specs.Layout.{bytesOf}
@@ -30,7 +31,11 @@ addLocalOn t address = callOn t (adds address)
 abbrev pub removeLocalOn : List ℕ → List ℕ → Called
 removeLocalOn t address = callOn t (removes address)
 
--- marking a destination's live path unresponsive: 7, 5, 12
+-- noting something of a destination's live path: 7, 5, 12
+abbrev pub noteOn : List ℕ → Note → List ℕ → ℕ → Called
+noteOn t note destination clock = callOn t (notes-path note destination clock)
+
+-- marking it unresponsive
 abbrev pub markOn : List ℕ → List ℕ → ℕ → Called
 markOn t destination clock = callOn t (marks destination clock)
 

@@ -1,13 +1,14 @@
 // The calls that need no packet, apart from renumbering: a fresh relay, a port's settings, the announce rate, local
 // addresses, and marking a path.
-// Entry points: fresh, set_port, set_rate, add_local, remove_local, mark_path_unresponsive. Each returns a refusal's
-// number, or 0, and a refusal changes no byte.
+// Entry points: fresh, set_port, set_rate, add_local, remove_local, note_path, mark_path_unresponsive. Each returns
+// a refusal's number, or 0, and a refusal changes no byte.
 mod writes;
 
 use lookup::empty_local;
 use lookup::is_local;
 use lookup::last_clock;
 use lookup::local_place;
+use lookup::path_notes;
 use lookup::path_place;
 use numbers::CLOCK_LIMIT;
 use numbers::GRACE_LIMIT;
@@ -18,10 +19,12 @@ use numbers::PENALTY_LIMIT;
 use numbers::PORT_COUNT;
 use numbers::TARGET_LIMIT;
 use numbers::refusals;
+use rules::Note;
+use rules::Notes;
 use tables::check;
 use tables::places::OWN_AT;
 use tables::places::TABLE_SIZE;
-use update::put_mark;
+use update::put_notes;
 use update::set_clock;
 use writes::clear;
 use writes::empty_place;
@@ -31,12 +34,12 @@ use writes::put_port;
 use writes::put_rate;
 ghost use mathlib.Core.Path.{_≡_};
 ghost use lib.ListN.{length};
-ghost use Rattle.rules.specs.Relay.{makeRateSettings};
+ghost use Rattle.rules.specs.Relay.{makeRateSettings, noted as notedAfter};
 ghost use Rattle.rules.specs.Refusals.{rateSettingsOk, clockBad};
 ghost use Rattle.tables.specs.Places.{tableSize};
 ghost use Rattle.tables.specs.Layout.{relayOf};
 ghost use Rattle.tables.specs.Called.{Returns};
-ghost use Rattle.settings.specs.Calls.{freshOn, setPortOn, setRateOn, addLocalOn, removeLocalOn, markOn};
+ghost use Rattle.settings.specs.Calls.{freshOn, setPortOn, setRateOn, addLocalOn, removeLocalOn, noteOn, markOn};
 
 // Marking with no live path.
 const NO_LIVE_PATH: u8 = 12;
@@ -145,9 +148,18 @@ fn clock_bad(tables: &[u8], clock: u64) -> bool
     clock < last_clock(tables)
 }
 
-// Marks a destination's live path unresponsive, and sets the last clock.
-pub fn mark_path_unresponsive(tables: &mut [u8], destination: [u8; 16], clock: u64) -> u8
-    ensures { λ r. ⌜ Returns (markOn (now (tables .entry)) destination clock) r (now (tables .exit)) ⌝ }
+// What is noted of a path after a note of the host's.
+fn noted(notes: Notes, note: Note) -> Notes
+    ensures { λ r. ⌜ r ≡ notedAfter note notes ⌝ }
+{
+    match note {
+        Note::Unresponsive => Notes { marked: true },
+    }
+}
+
+// Notes something of a destination's live path, and sets the last clock.
+pub fn note_path(tables: &mut [u8], note: Note, destination: [u8; 16], clock: u64) -> u8
+    ensures { λ r. ⌜ Returns (noteOn (now (tables .entry)) note destination clock) r (now (tables .exit)) ⌝ }
 {
     if !check(tables) {
         return refusals::TABLES;
@@ -159,7 +171,15 @@ pub fn mark_path_unresponsive(tables: &mut [u8], destination: [u8; 16], clock: u
     if place >= PATH_COUNT {
         return NO_LIVE_PATH;
     }
-    put_mark(tables, place);
+    let notes = noted(path_notes(tables, place), note);
+    put_notes(tables, place, notes);
     set_clock(tables, clock);
     refusals::NONE
+}
+
+// Marks a destination's live path unresponsive.
+pub fn mark_path_unresponsive(tables: &mut [u8], destination: [u8; 16], clock: u64) -> u8
+    ensures { λ r. ⌜ Returns (markOn (now (tables .entry)) destination clock) r (now (tables .exit)) ⌝ }
+{
+    note_path(tables, Note::Unresponsive, destination, clock)
 }

@@ -24,13 +24,14 @@ use Rattle.rules.specs.View.{pathPlace, viewAt}
 use Rattle.rules.specs.Questions.{Question, port-settings, rate-settings, local-at, path-at, link-at, live-path, live-returns, live-hashes, last-clock, Told, an-address, a-path, a-link, toldOf, countBelow, countOf, rowSeven, questionRule, questionRefusal, tell}
 use Rattle.rules.proofs.Counting.{count-cong, count-le}
 use Rattle.tables.specs.Places.{timeWidth, rateAt, portsAt, portWidth, localsAt, localWidth, pathsAt, pathWidth, linksAt, linkWidth, returnsAt, returnWidth, hashesAt, hashWidth, tableSize}
-use Rattle.tables.specs.Fields.{pathMarkAt, linkProvedAt, returnExpiryAt, hashExpiryAt}
+use Rattle.codes.specs.Form.{code}
+use Rattle.tables.specs.Forms.{rateSettingsForm, linkForm}
+use Rattle.tables.specs.Fields.{returnExpiryAt, hashExpiryAt}
 use Rattle.tables.specs.Records.{markOf, slotOf, localOf, pathOf, linkOf, returnOf, hashOf, portBytesOk, pathBytesOk, linkBytesOk}
 use Rattle.tables.specs.Layout.{rateSettingsIn, recordAt, recordsOk, relayOf, wellFormed}
-use Rattle.tables.specs.Asked.{tellOn, toldNumber, toldBytes, toldCount, Tells, TellsNumber}
+use Rattle.tables.specs.Asked.{tellOn, toldPathWidth, toldNumber, toldBytes, toldCount, Tells, TellsNumber}
 use Rattle.tables.proofs.Lent.{row-end}
 use Rattle.tables.proofs.Seen.{port-seen, local-seen, locals-length, path-seen, paths-length, link-seen, links-length, return-seen, hash-seen}
-use Rattle.tables.proofs.Tests.{slotBytesOk, port-test, path-test, link-test}
 use Rattle.tables.proofs.Whole.{formed, ok-relay}
 use Rattle.lookup.specs.Search.{isUsed, isLive}
 use Rattle.status.specs.Put.{putNumber, putBytes, liveRows}
@@ -44,15 +45,6 @@ refused-7 t q old e = rw e (refl, refl)
 pub number-refused-7 : (t : List ℕ) (q : Question) (old : ℕ) → wellFormed t ≡ false → TellsNumber (tellOn t q) old 7 old
 unfolding tellOn toldNumber toldCount _then_otherwise_
 number-refused-7 t q old e = rw e (refl, refl)
-
--- the mark of a used path, and of a used link, that keeps row 7
-path-mark : (b : List ℕ) → eqb (getD b 0 0) 0 ≡ false → pathBytesOk b ≡ true → ltb (getD b pathMarkAt 0) 2 ≡ true
-unfolding slotBytesOk _then_otherwise_
-path-mark b u fine = and-left _ _ (and-right _ _ (rw (path-test b, u) at fine))
-
-proved-mark : (b : List ℕ) → eqb (getD b 0 0) 0 ≡ false → linkBytesOk b ≡ true → ltb (getD b linkProvedAt 0) 2 ≡ true
-unfolding slotBytesOk _then_otherwise_
-proved-mark b u fine = and-left _ _ (and-right _ _ (rw (link-test b, u) at fine))
 
 pub mark-le : (answer : Bool) → markOf answer ≤ 1
 unfolding markOf _then_otherwise_
@@ -123,16 +115,15 @@ module _ (t : List ℕ) (h : wellFormed t ≡ true) where
   port-told bytes port old l =
       let b = recordAt portsAt portWidth t port in
       let fine : portBytesOk b ≡ true = all-at (λ k. portBytesOk (recordAt portsAt portWidth t k)) portCount port (formed t h .ports) l in
-      let mark : ltb (getD b 0 0) 2 ≡ true = and-left _ _ (sym (port-test b) ∙ fine) in
       let wide : length b ≡ portWidth = record-length portsAt portWidth portCount port (lit≤ tt) l in
       rw (asked (port-settings port) refl, lt-leb portCount port l, port-seen t port l)
-      (refl, sym (port-bytes b (part-bytes t _ _ bytes) wide mark old))
+      (refl, sym (port-bytes b (part-bytes t _ _ bytes) wide fine old))
 
-  pub rate-told : Bytes t → (old : List ℕ) → Tells (tellOn t rate-settings) old 0 (part t rateAt 12)
+  pub rate-told : Bytes t → (old : List ℕ) → Tells (tellOn t rate-settings) old 0 (part t rateAt (code rateSettingsForm .width))
   unfolding questionRefusal questionRule toldNumber relayOf rateSettingsIn
   rate-told bytes old =
       let size = formed t h .size in
-      rw (asked rate-settings refl) (refl, sym (rate-bytes t bytes (omega (arith, size)) old))
+      rw (asked rate-settings refl) (refl, sym (rate-bytes t bytes (omega (arith, size)) (formed t h .rate) old))
 
   -- ---- the record at a place
   outside : {A : Type 0} (q : Question) (tells : A → Told) (slots : List (Slot A)) (place : ℕ) (old : List ℕ)
@@ -177,22 +168,22 @@ module _ (t : List ℕ) (h : wellFormed t ≡ true) where
       (rw (paths-length t) l)
 
   module _ (bytes : Bytes t) where
-    path-part : (place : ℕ) (old : List ℕ) → place < pathCount → length old ≡ 61
+    path-part : (place : ℕ) (old : List ℕ) → place < pathCount → length old ≡ toldPathWidth
         → (let b = recordAt pathsAt pathWidth t place in eqb (getD b 0 0) 0 ≡ false → toldBytes (a-path (pathOf b)) old ≡ part b 1 (length old))
     unfolding recordsOk
     path-part place old l n u =
         let b = recordAt pathsAt pathWidth t place in
         let fine : pathBytesOk b ≡ true = all-at (λ k. pathBytesOk (recordAt pathsAt pathWidth t k)) pathCount place (formed t h .paths) l in
-        path-bytes b (part-bytes t _ _ bytes) (record-length pathsAt pathWidth pathCount place (lit≤ tt) l) (path-mark b u fine) old ∙ ap (part b 1) (sym n)
+        path-bytes b (part-bytes t _ _ bytes) u (record-length pathsAt pathWidth pathCount place (lit≤ tt) l) fine old ∙ ap (part b 1) (sym n)
 
-    pub path-told : (place : ℕ) (old : List ℕ) → place < pathCount → length old ≡ 61
+    pub path-told : (place : ℕ) (old : List ℕ) → place < pathCount → length old ≡ toldPathWidth
         → (let b = recordAt pathsAt pathWidth t place in Tells (tellOn t (path-at place)) old (putNumber b) (putBytes b old))
     unfolding questionRefusal questionRule toldNumber
     path-told place old l n =
         inside (path-at place) a-path pathOf _ _ old (asked (path-at place) refl) (path-seen t place l) refl (path-part place old l n)
 
     pub live-path-told : (destination : List ℕ) (clock place : ℕ) (old : List ℕ) → place ≡ pathPlace clock (relayOf t) destination
-        → place < pathCount → length old ≡ 61
+        → place < pathCount → length old ≡ toldPathWidth
         → (let b = recordAt pathsAt pathWidth t place in Tells (tellOn t (live-path destination clock)) old (putNumber b) (putBytes b old))
     unfolding questionRefusal questionRule toldNumber viewAt
     live-path-told destination clock place old e l n =
@@ -200,7 +191,7 @@ module _ (t : List ℕ) (h : wellFormed t ≡ true) where
         (asked (live-path destination clock) refl ∙ ap (λ (k : ℕ). toldOf a-path (getD (relayOf t .paths) k empty)) (sym e))
         (path-seen t place l) refl (path-part place old l n)
 
-    pub link-told : (place : ℕ) (old : List ℕ) → place < linkCount → length old ≡ 29
+    pub link-told : (place : ℕ) (old : List ℕ) → place < linkCount → length old ≡ code linkForm .width
         → (let b = recordAt linksAt linkWidth t place in Tells (tellOn t (link-at place)) old (putNumber b) (putBytes b old))
     unfolding questionRefusal questionRule toldNumber recordsOk
     link-told place old l n =
@@ -208,7 +199,7 @@ module _ (t : List ℕ) (h : wellFormed t ≡ true) where
         let fine : linkBytesOk b ≡ true = all-at (λ k. linkBytesOk (recordAt linksAt linkWidth t k)) linkCount place (formed t h .links) l in
         inside (link-at place) a-link linkOf _ _ old (asked (link-at place) refl) (link-seen t place l) refl
         (λ u.
-        link-bytes b (part-bytes t _ _ bytes) (record-length linksAt linkWidth linkCount place (lit≤ tt) l) (proved-mark b u fine) old
+        link-bytes b (part-bytes t _ _ bytes) u (record-length linksAt linkWidth linkCount place (lit≤ tt) l) fine old
         ∙ ap (part b 1) (sym n))
 
   -- ---- numbers

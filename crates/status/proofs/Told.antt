@@ -9,79 +9,42 @@ use lib.ListN.{length, getD}
 use borrow.Author.Tests.{ltb-true, ne-eqb}
 use Rattle.octets.specs.Bytes.{Bytes}
 use Rattle.octets.specs.Choice.{_then_otherwise_}
+use Rattle.octets.specs.Index.{_and_}
 use Rattle.octets.specs.Part.{part}
-use Rattle.octets.proofs.Part.{part-split, part-one, part-again, part-whole}
+use Rattle.octets.proofs.Part.{part-part, part-whole}
+use Rattle.codes.specs.Form.{code}
+use Rattle.codes.proofs.Forms.{lawful}
 use Rattle.rules.specs.Questions.{Told, a-port, a-rate, an-address, a-path, a-link, toldOf}
+use Rattle.rules.specs.Refusals.{rateSettingsOk}
+use Rattle.tables.specs.Forms.{rateSettingsForm, portForm, pathForm, linkForm}
 use Rattle.tables.specs.Layout.{rateSettingsIn}
-use Rattle.tables.specs.Places.{timeWidth, settingWidth, sizeWidth, rateAt, portsAt, portWidth, pathWidth, linkWidth}
-use Rattle.tables.specs.Fields.{portSizeAt, pathMarkAt, linkProvedAt}
-use Rattle.tables.specs.Records.{markOf, slotOf, portOf, localOf, blobsOf, pathOf, linkOf}
-use Rattle.tables.specs.Asked.{rateBytes, toldNumber, toldBytes, Tells}
+use Rattle.tables.specs.Places.{rateAt, portsAt, portWidth, pathWidth, linkWidth}
+use Rattle.tables.specs.Records.{slotOf, portOf, localOf, pathOf, linkOf, portBytesOk, pathBytesOk, linkBytesOk}
+use Rattle.tables.specs.Asked.{toldPathWidth, toldNumber, toldBytes, Tells}
+use Rattle.tables.proofs.Tests.{used-fine}
 use Rattle.lookup.specs.Search.{isUsed}
 use Rattle.status.specs.Put.{putNumber, putBytes}
 
--- a byte, and those behind it
-part-cons : (b : List ℕ) (a n : ℕ) → a < length b → part b a (1 + n) ≡ getD b a 0 ∷ part b (a + 1) n
-part-cons b a n l = part-split b a 1 n ∙ ap (λ (x : List ℕ). x ++ part b (a + 1) n) (part-one b a l)
-
--- a mark's byte
-mark-again : (x : ℕ) → ltb x 2 ≡ true → markOf (eqb x 1) ≡ x
-unfolding markOf _then_otherwise_
-mark-again zero h = refl
-mark-again (suc zero) h = refl
-mark-again (suc (suc x)) h = absurd (omega (arith, ltb-true (suc (suc x)) 2 h))
-
 module _ (b : List ℕ) (bytes : Bytes b) where
-  pub port-bytes : length b ≡ portWidth → ltb (getD b 0 0) 2 ≡ true → (old : List ℕ) → toldBytes (a-port (portOf b)) old ≡ b
-  unfolding toldBytes portOf
-  port-bytes wide m old =
-      rw (mark-again (getD b 0 0) m, part-again b portSizeAt sizeWidth bytes (omega arith))
-      (sym (sym (part-whole b portWidth wide) ∙ part-cons b 0 3 (omega arith) ∙ ap (λ (x : List ℕ). getD b 0 0 ∷ x) (part-cons b 1 2 (omega arith))))
+  pub port-bytes : length b ≡ portWidth → portBytesOk b ≡ true → (old : List ℕ) → toldBytes (a-port (portOf b)) old ≡ b
+  unfolding toldBytes portOf portBytesOk
+  port-bytes wide fine old = lawful portForm .again b 0 bytes (omega (arith, wide)) fine ∙ part-whole b portWidth wide
 
-  pub rate-bytes : portsAt ≤ length b → (old : List ℕ) → toldBytes (a-rate (rateSettingsIn b)) old ≡ part b rateAt 12
-  unfolding toldBytes rateSettingsIn
-  rate-bytes long old =
-      rw (
-        part-again b 24 settingWidth bytes (omega arith),
-        part-again b 28 settingWidth bytes (omega arith),
-        part-again b 32 settingWidth bytes (omega arith),
-        part-split b 24 4 8,
-        part-split b 28 4 4,
-      )
+  pub rate-bytes : portsAt ≤ length b → rateSettingsOk (rateSettingsIn b) ≡ true → (old : List ℕ)
+      → toldBytes (a-rate (rateSettingsIn b)) old ≡ part b rateAt (code rateSettingsForm .width)
+  unfolding toldBytes rateSettingsIn _and_
+  rate-bytes long fine old = lawful rateSettingsForm .again b rateAt bytes (omega arith) fine
 
-  pub path-bytes : length b ≡ pathWidth → ltb (getD b pathMarkAt 0) 2 ≡ true → (old : List ℕ) → toldBytes (a-path (pathOf b)) old ≡ part b 1 61
-  unfolding toldBytes rateBytes pathOf blobsOf
-  path-bytes wide m old =
-      rw (
-        part-again b 35 timeWidth bytes (omega arith),
-        part-again b 43 timeWidth bytes (omega arith),
-        part-again b 52 timeWidth bytes (omega arith),
-        mark-again (getD b pathMarkAt 0) m,
-        part-split b 1 16 45,
-        part-cons b 17 44 (omega arith),
-        part-cons b 18 43 (omega arith),
-        part-split b 19 16 27,
-        part-split b 35 8 19,
-        part-split b 43 17 2,
-        part-split b 43 8 9,
-        part-cons b 51 8 (omega arith),
-        part-cons b 60 1 (omega arith),
-        part-one b 61 (omega arith),
-      )
+  module _ (q : eqb (getD b 0 0) 0 ≡ false) where
+    pub path-bytes : length b ≡ pathWidth → pathBytesOk b ≡ true → (old : List ℕ) → toldBytes (a-path (pathOf b)) old ≡ part b 1 toldPathWidth
+    unfolding toldBytes pathOf pathBytesOk
+    path-bytes wide fine old =
+        ap (λ (x : List ℕ). part x 0 toldPathWidth) (lawful pathForm .again b 1 bytes (omega (arith, wide)) (used-fine pathForm b q fine))
+        ∙ part-part b 1 (code pathForm .width) 0 toldPathWidth (omega arith)
 
-  pub link-bytes : length b ≡ linkWidth → ltb (getD b linkProvedAt 0) 2 ≡ true → (old : List ℕ) → toldBytes (a-link (linkOf b)) old ≡ part b 1 29
-  unfolding toldBytes linkOf
-  link-bytes wide m old =
-      rw (
-        part-again b 22 timeWidth bytes (omega arith),
-        mark-again (getD b linkProvedAt 0) m,
-        part-split b 1 16 13,
-        part-cons b 17 12 (omega arith),
-        part-cons b 18 11 (omega arith),
-        part-cons b 19 10 (omega arith),
-        part-cons b 20 9 (omega arith),
-        part-cons b 21 8 (omega arith),
-      )
+    pub link-bytes : length b ≡ linkWidth → linkBytesOk b ≡ true → (old : List ℕ) → toldBytes (a-link (linkOf b)) old ≡ part b 1 (code linkForm .width)
+    unfolding toldBytes linkOf linkBytesOk
+    link-bytes wide fine old = lawful linkForm .again b 1 bytes (omega (arith, wide)) (used-fine linkForm b q fine)
 
 pub local-bytes : (b old : List ℕ) → toldBytes (an-address (localOf b)) old ≡ part b 1 16
 unfolding toldBytes localOf

@@ -19,6 +19,8 @@ use numbers::refusals;
 use records::put_record;
 use tables::check;
 use tables::fields::HASH_EXPIRY_AT;
+use tables::fields::PATH_BLOBS_AT;
+use tables::fields::PATH_DESTINATION_AT;
 use tables::fields::RETURN_EXPIRY_AT;
 use tables::places::HASH_WIDTH;
 use tables::places::HASHES_AT;
@@ -38,6 +40,9 @@ ghost use Rattle.tables.specs.Asked.{tellOn, Tells, TellsNumber};
 
 // A place outside its table or an empty one, a number that is no port, or no live path.
 pub const NOTHING: u8 = 255;
+
+// How many bytes are told of a path: its record behind the mark, up to its blobs' places.
+const PATH_TOLD: usize = PATH_BLOBS_AT - PATH_DESTINATION_AT;
 
 // A port's settings: on, 1 or 0, its mode, and its size in two bytes.
 pub fn port_settings(tables: &[u8], port: u64, settings: &mut [u8; 4]) -> u8
@@ -85,7 +90,7 @@ pub fn local_at(tables: &[u8], place: u64, address: &mut [u8; 16]) -> u8
 
 // The path at a place, live or not: destination, port, hops, next hop, expiry, last accepted announce, violations,
 // blocked-until, marked unresponsive or not, number of blobs.
-pub fn path_at(tables: &[u8], place: u64, path: &mut [u8; 61]) -> u8
+pub fn path_at(tables: &[u8], place: u64, path: &mut [u8; PATH_TOLD]) -> u8
     ensures { λ r. ⌜ Tells (tellOn (now (tables .entry)) (path-at place))
         (now (path .entry)) r (now (path .exit)) ⌝ }
 {
@@ -113,7 +118,7 @@ pub fn link_at(tables: &[u8], place: u64, link: &mut [u8; 29]) -> u8
 }
 
 // A destination's live path at a clock.
-pub fn live_path(tables: &[u8], destination: [u8; 16], clock: u64, path: &mut [u8; 61]) -> u8
+pub fn live_path(tables: &[u8], destination: [u8; 16], clock: u64, path: &mut [u8; PATH_TOLD]) -> u8
     ensures { λ r. ⌜ Tells (tellOn (now (tables .entry)) (live-path destination clock))
         (now (path .entry)) r (now (path .exit)) ⌝ }
 {

@@ -1,14 +1,13 @@
 -- What a question to the tables is told: the rules' answer through the layout. Tables that are not well formed are refused. And how what is told
 -- reaches the caller: the number returned, and the buffer that it lends.
-use Prim.Native.Nat.{ℕ}
-use mathlib.Core.List.{List, [], _∷_, _++_}
+use Prim.Native.Nat.{ℕ, _+_}
+use mathlib.Core.List.{List}
 use mathlib.Core.Path.{_≡_}
 use Rattle.octets.specs.Choice.{_then_otherwise_}
-use Rattle.octets.specs.BigEndian.{bigEndian}
+use Rattle.octets.specs.Part.{part}
+use Rattle.codes.specs.Form.{code, placeOf}
 use Rattle.rules.specs.Questions.{Question, Told, refused, none, a-port, a-rate, an-address, a-path, a-link, a-number, yes-or-no, tell}
-use Rattle.rules.specs.declared.RateEntry.{RateEntry}
-use Rattle.tables.specs.Places.{timeWidth, settingWidth, sizeWidth}
-use Rattle.tables.specs.Records.{markOf}
+use Rattle.tables.specs.Forms.{rateSettingsForm, portForm, blobsForm, pathForm, linkForm}
 use Rattle.tables.specs.Layout.{relayOf, wellFormed}
 
 -- a question to the tables t, which stay
@@ -27,22 +26,19 @@ toldNumber (a-link l) = 0
 toldNumber (a-number n) = 0
 toldNumber (yes-or-no answer) = answer then 255 otherwise 0
 
--- last accepted announce, violations, blocked-until
-unfoldable pub rateBytes : RateEntry → List ℕ
-rateBytes e = bigEndian timeWidth (e .last) ++ (e .violations ∷ bigEndian timeWidth (e .«blocked_until»))
+-- of a path's record what stands before its blobs' places: they are counted, and not told
+abbrev pub toldPathWidth : ℕ
+toldPathWidth = placeOf pathForm "blobs" + placeOf blobsForm "places"
 
--- the caller's buffer after the call: a record's fields in order, where one is told; else what stood there. A time has eight bytes, a setting of the
--- announce rate four, a port's size two, the highest first; a path's blobs are counted, and not told
+-- the caller's buffer after the call: a record's fields in order, as the layout has them, where one is told; else what stood there
 unfoldable pub toldBytes : Told → List ℕ → List ℕ
 toldBytes (refused number) old = old
 toldBytes none old = old
-toldBytes (a-port port) old = markOf (port .on) ∷ port .mode ∷ bigEndian sizeWidth (port .size)
-toldBytes (a-rate rate) old = bigEndian settingWidth (rate .target) ++ (bigEndian settingWidth (rate .grace) ++ bigEndian settingWidth (rate .penalty))
+toldBytes (a-port port) old = code portForm .write port
+toldBytes (a-rate rate) old = code rateSettingsForm .write rate
 toldBytes (an-address address) old = address
-toldBytes (a-path p) old =
-    p .destination ++ (p .port ∷ p .hops ∷ (p .nextHop ++ (bigEndian timeWidth (p .expiry) ++ (rateBytes (p .rate) ++ (markOf (p .marked) ∷ p .blobs .count ∷ [])))))
-toldBytes (a-link l) old =
-    l .id ++ (l .asking ∷ l .answering ∷ l .taken .0 ∷ l .remaining .0 ∷ markOf (l .proved) ∷ bigEndian timeWidth (l .expiry))
+toldBytes (a-path p) old = part (code pathForm .write p) 0 toldPathWidth
+toldBytes (a-link l) old = code linkForm .write l
 toldBytes (a-number n) old = old
 toldBytes (yes-or-no answer) old = old
 

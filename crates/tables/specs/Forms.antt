@@ -7,12 +7,13 @@ use mathlib.Core.Path.{refl}
 use lib.Dec.{ltb, leb}
 use Rattle.codes.specs.Form.{Form, byte, mark, numberIn, octetsIn, field, _&_, many, firstsOf, slot, that, asRecord}
 use Rattle.numbers.specs.Numbers.{portCount, localCount, pathCount, blobLimit, linkCount, returnCount, hashCount}
-use Rattle.rules.specs.Relay.{Port, noPort, Slot, empty, Blobs, Path, Return, Remembered, Ring, Relay, makePort, makeRateSettings, makeRateEntry, makePath, makeLink, withLinkState, makeReturn, makeRemembered, makeRing, makeRelay}
+use Rattle.rules.specs.Relay.{Port, noPort, Slot, empty, Blobs, Path, Return, Remembered, Ring, Relay, makePort, makeRateSettings, makeRateEntry, makeNotes, makePath, makeLink, withLinkState, makeReturn, makeRemembered, makeRing, makeRelay}
 use Rattle.rules.specs.Blobs.{noBlob}
 use Rattle.rules.specs.Refusals.{timeOk, rateSettingsOk, portOk, pathOk, linkOk, returnOk, hashOk}
 use Rattle.rules.specs.declared.Link.{Link}
 use Rattle.rules.specs.declared.RateSettings.{RateSettings}
 use Rattle.rules.specs.declared.RateEntry.{RateEntry}
+use Rattle.rules.specs.declared.Notes.{Notes}
 
 -- ---- widths of fields, in bytes
 abbrev pub addressWidth : ℕ
@@ -54,6 +55,10 @@ rateEntryForm =
     asRecord toRateEntry (λ e. (e .last, (e .violations, e .«blocked_until»))) (λ x. refl) (λ y. refl)
     (field "last" (numberIn timeWidth) & field "violations" byte & field "blocked until" (numberIn timeWidth))
 
+-- ---- what the host has noted of a path. Wish 6: "7 also for a mark neither yes nor no"
+abbrev pub notesForm : Form Notes
+notesForm = asRecord makeNotes (λ n. n .marked) (λ x. refl) (λ y. refl) (field "marked" mark)
+
 -- ---- what older editions of saved tables have otherwise (crates/saved): the tables are of today's
 -- wish 8: how many blobs a path can hold, as many as today or fewer
 pub data BlobRoom : Type 0 where
@@ -63,17 +68,16 @@ pub data BlobRoom : Type 0 where
 pub record Edition : Type 1 where
   pub rateSettings : Form RateSettings
   pub rateEntry : Form RateEntry
-  pub pathMark : Form Bool
+  pub notes : Form Notes
   pub blobRoom : BlobRoom
   pub portSize : Form ℕ
 
--- wish 6: "7 also for a mark neither yes nor no"
 abbrev pub today : Edition
 today =
     record {
       rateSettings = rateSettingsForm;
       rateEntry = rateEntryForm;
-      pathMark = mark;
+      notes = notesForm;
       blobRoom = as-today;
       portSize = numberIn sizeWidth;
     }
@@ -130,20 +134,20 @@ headForm =
     & field "next hop" (octetsIn addressWidth)
     & field "expiry" (numberIn timeWidth)
 
-abbrev pub toPath : Head × (RateEntry × (Bool × Blobs)) → Path
-toPath ((destination, (port, (hops, (nextHop, expiry)))), (rate, (marked, blobs))) = makePath destination port hops nextHop expiry rate marked blobs
+abbrev pub toPath : Head × (RateEntry × (Notes × Blobs)) → Path
+toPath ((destination, (port, (hops, (nextHop, expiry)))), (rate, (notes, blobs))) = makePath destination port hops nextHop expiry rate notes blobs
 
-abbrev pub pathFormOf : Form RateEntry → Form Bool → Form Blobs → Form Path
-pathFormOf rate marked blobs =
+abbrev pub pathFormOf : Form RateEntry → Form Notes → Form Blobs → Form Path
+pathFormOf rate notes blobs =
     that pathOk
     (asRecord toPath
-    (λ p. ((p .destination, (p .port, (p .hops, (p .nextHop, p .expiry)))), (p .rate, (p .marked, p .blobs))))
+    (λ p. ((p .destination, (p .port, (p .hops, (p .nextHop, p .expiry)))), (p .rate, (p .notes, p .blobs))))
     (λ x. refl)
     (λ y. refl)
-    (headForm & field "rate" rate & field "marked" marked & field "blobs" blobs))
+    (headForm & field "rate" rate & field "notes" notes & field "blobs" blobs))
 
 abbrev pub pathFormIn : Edition → Form Path
-pathFormIn e = pathFormOf (e .rateEntry) (e .pathMark) (blobsFormIn (e .blobRoom))
+pathFormIn e = pathFormOf (e .rateEntry) (e .notes) (blobsFormIn (e .blobRoom))
 
 abbrev pub pathForm : Form Path
 pathForm = pathFormIn today

@@ -1,5 +1,6 @@
-// Four records at once. Plain ones, used, with ports below 16 and times below 2^40, keep row 7, and most used records are.
-// A number of each of the four is tested by one comparison: an OR is below a power of two where all of them are.
+// Four records at once. Plain ones, used, with ports below 16 and times below 2^40, keep row 7, and most used
+// records are. A number of each of the four is tested by one comparison: an OR is below a power of two where all of
+// them are.
 use super::fields::HASH_EXPIRY_AT;
 use super::fields::RETURN_ARRIVAL_AT;
 use super::places::HASH_WIDTH;
@@ -45,8 +46,8 @@ pub fn four_together(t: &[u8], at: usize, width: usize) -> u64
         | octets::number_of_8_at(t, at + width * 3)
 }
 
-// Of two ports and the first six bytes of a time, as one number: whether the ports are below 16 and the time below 2^40.
-// The numbers are 16 * 256^7, 256^7, 16 * 256^6, 256^6 and 256^3; the compiler makes one test of the three.
+// Of two ports and the first six bytes of a time, as one number: whether the ports are below 16 and the time below
+// 2^40. The numbers are 16 * 256^7, 256^7, 16 * 256^6, 256^6 and 256^3; the compiler makes one test of the three.
 pub fn ways_plain(x: u64) -> bool
     ensures { λ r. ⌜ r ≡ waysPlain x ⌝ }
 {

@@ -11,14 +11,15 @@ use Rattle.octets.specs.Choice.{_then_otherwise_}
 use Rattle.octets.proofs.Choice.{then-false}
 use Rattle.packet.specs.Header.{typeTwo, isData}
 use Rattle.numbers.specs.Numbers.{blobLimit, pathCount, linkCount, returnCount, hashCount, pathLifetime, hashLifetime, returnLifetime}
-use Rattle.rules.specs.Relay.{Slot, empty, used, Ring, Blobs, Path, Return, Remembered, withPathRate, makeReturn, makeRemembered, withSlots, Relay, withClock, withPaths, withLinks, withReturns}
+use Rattle.rules.specs.Relay.{Slot, empty, used, Ring, Blobs, Path, Return, Remembered, noted, withPathRate, makeReturn, makeRemembered, withSlots, Relay, withClock, withPaths, withLinks, withReturns}
 use Rattle.rules.specs.View.{View, viewAt, pathPlace, linkPlace, returnPlace, freePath, freeLink, isLiveReturn}
 use Rattle.rules.specs.Arrival.{Arrival, header, hops, relayAddress, destination, hash, blob}
 use Rattle.rules.specs.Blobs.{oneBlob, storeBlob}
 use Rattle.rules.specs.Rate.{entryDropped}
 use Rattle.rules.specs.declared.RateEntry.{RateEntry}
+use Rattle.rules.specs.declared.Note.{Note}
 use Rattle.rules.specs.Ways.{everywhere, by-path, along-link, by-return}
-use Rattle.rules.specs.Writes.{remember, announcedBlobs, announcedRate, limitPath, markedSlot, markPath, announcedPath, announcedPlace, putPath, returnKey, returnRecord, emptiedIf, emptiedWhere, putReturn, emptyReturn, linkRecord, putLink, renewedLink, renewLink, writeWay}
+use Rattle.rules.specs.Writes.{remember, announcedBlobs, announcedRate, limitPath, notedSlot, notePath, announcedPath, announcedPlace, putPath, returnKey, returnRecord, emptiedIf, emptiedWhere, putReturn, emptyReturn, linkRecord, putLink, renewedLink, renewLink, writeWay}
 use Rattle.rules.specs.declared.Link.{Link}
 use Rattle.tables.specs.Places.{pathWidth, pathsAt}
 use Rattle.tables.specs.Records.{slotOf, pathOf, blobsOf}
@@ -26,8 +27,8 @@ use Rattle.tables.specs.Layout.{recordAt, relayOf, bytesOf, wellFormed}
 use Rattle.tables.proofs.Seen.{path-seen, paths-length, links-length, returns-length, hashes-length}
 use Rattle.tables.proofs.Whole.{again}
 use Rattle.update.specs.declared.Announced.{Announced}
-use Rattle.update.specs.Written.{clockWritten, hashWritten, announced, pathWritten, rateWritten, markWritten, linkWritten, returnWritten, returnEmptied, returnsEmptied}
-use Rattle.update.proofs.Steps.{clock-step, path-step, rate-step, mark-step, link-step, emptied-step, return-step, hash-step, return-next-within, hash-next-within}
+use Rattle.update.specs.Written.{clockWritten, hashWritten, announced, pathWritten, rateWritten, notesWritten, linkWritten, returnWritten, returnEmptied, returnsEmptied}
+use Rattle.update.proofs.Steps.{clock-step, path-step, rate-step, notes-step, link-step, emptied-step, return-step, hash-step, return-next-within, hash-next-within}
 
 -- the blobs of a used record
 held-blobs : (row : List ℕ) (p : Path) → slotOf pathOf row ≡ used p → blobsOf row ≡ p .blobs
@@ -148,12 +149,12 @@ module _ (v : View) (a : Arrival) (t : List ℕ) (b : Bytes t) (h : wellFormed t
       emptied-step before held slot (returns-length t) within e
       ∙ ap (λ (k : ℕ). bytesOf (withReturns (withSlots (set (before .returns .slots) k empty) (before .returns)) before)) live
 
--- ---- a mark, at a clock
+-- ---- a note, at a clock
 module _ (t : List ℕ) (b : Bytes t) (h : wellFormed t ≡ true) where
-  pub path-marked : (p : Path) (to : List ℕ) (clock slot : ℕ) (u : List ℕ) → slot < pathCount → slot ≡ pathPlace clock (relayOf t) to
-      → getD (relayOf t .paths) slot empty ≡ used p → u ≡ markWritten t slot → u ≡ bytesOf (markPath to clock (relayOf t))
-  unfolding markPath markedSlot viewAt
-  path-marked p to clock slot u within live there e =
-      mark-step (relayOf t) (sym (again t b h)) slot p (paths-length t) within there e
-      ∙ ap₂ (λ (k : ℕ) (x : Slot Path). bytesOf (withPaths (set (relayOf t .paths) k (markedSlot x)) (relayOf t))) live
+  pub path-noted : (note : Note) (p : Path) (to : List ℕ) (clock slot : ℕ) (u : List ℕ) → slot < pathCount → slot ≡ pathPlace clock (relayOf t) to
+      → getD (relayOf t .paths) slot empty ≡ used p → u ≡ notesWritten t slot (noted note (p .notes)) → u ≡ bytesOf (notePath note to clock (relayOf t))
+  unfolding notePath notedSlot viewAt
+  path-noted note p to clock slot u within live there e =
+      notes-step (relayOf t) (sym (again t b h)) slot p (noted note (p .notes)) (paths-length t) within there e
+      ∙ ap₂ (λ (k : ℕ) (x : Slot Path). bytesOf (withPaths (set (relayOf t .paths) k (notedSlot note x)) (relayOf t))) live
       (sym there ∙ ap (λ (k : ℕ). getD (relayOf t .paths) k empty) live)

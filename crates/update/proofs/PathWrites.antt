@@ -19,16 +19,16 @@ use Rattle.codes.proofs.Forms.{lawful}
 use Rattle.codes.proofs.Pieces.{written, fields-written, marked-written}
 use Rattle.codes.proofs.Inside.{Inside, item, _within_, named}
 use Rattle.numbers.specs.Numbers.{blobLimit}
-use Rattle.rules.specs.Relay.{used, Blobs}
+use Rattle.rules.specs.Relay.{noNotes, used, Blobs}
 use Rattle.rules.specs.Blobs.{noBlob, oneBlob, addBlob}
-use Rattle.tables.specs.Forms.{rateEntryForm, blobsForm, headForm}
+use Rattle.tables.specs.Forms.{rateEntryForm, notesForm, blobsForm, headForm}
 use Rattle.tables.specs.Places.{blobWidth, pathWidth}
-use Rattle.tables.specs.Fields.{blobsWidth, blobPlacesAt, pathMarkAt, pathBlobsAt}
+use Rattle.tables.specs.Fields.{blobsWidth, blobPlacesAt, pathNotesAt, pathBlobsAt}
 use Rattle.tables.specs.Records.{exactly, markOf, slotBytes, blobsOf, blobsBytes, pathBytes}
 use Rattle.tables.proofs.All.{exactly-same}
 use Rattle.tables.proofs.Section.{part-behind}
 use Rattle.update.specs.declared.Announced.{Announced}
-use Rattle.update.specs.Written.{rateBytes, headOf, announced, headWidth, headBytes, startWidth, startBytes, newerWidth, blobsIn}
+use Rattle.update.specs.Written.{rateBytes, notesBytes, headOf, announced, headWidth, headBytes, startWidth, startBytes, newerWidth, blobsIn}
 
 blobs-length : (s : Blobs) → length (blobsBytes s) ≡ blobsWidth
 unfolding blobsBytes
@@ -161,27 +161,30 @@ pub head-written : (t : List ℕ) (a : ℕ) (x : Announced) → a + headWidth �
 unfolding headBytes
 head-written t a x fits = marked-written headForm (headOf x) t a fits
 
--- .. and then the rate, and no mark
+-- .. and then the rate, and no notes
 start-length : (x : Announced) → length (startBytes x) ≡ startWidth
-unfolding startBytes rateBytes
+unfolding startBytes rateBytes notesBytes
 start-length x =
     let l = head-length x in
     let w = lawful rateEntryForm .wide (x .rate) in
-    length-append (headBytes x) (rateBytes (x .rate) ++ (0 ∷ []))
-    ∙ ap (λ (k : ℕ). length (headBytes x) + k) (length-append (rateBytes (x .rate)) (0 ∷ []))
-    ∙ omega (arith, l, w)
+    let n = lawful notesForm .wide noNotes in
+    length-append (headBytes x) (rateBytes (x .rate) ++ notesBytes noNotes)
+    ∙ ap (λ (k : ℕ). length (headBytes x) + k) (length-append (rateBytes (x .rate)) (notesBytes noNotes))
+    ∙ omega (arith, l, w, n)
 
 pub start-written : (t : List ℕ) (a : ℕ) (x : Announced) → a + startWidth ≤ length t
-    → patch (patch (patch t a (headBytes x)) (a + headWidth) (rateBytes (x .rate))) (a + pathMarkAt) (0 ∷ []) ≡ patch t a (startBytes x)
-unfolding startBytes rateBytes
+    → patch (patch (patch t a (headBytes x)) (a + headWidth) (rateBytes (x .rate))) (a + pathNotesAt) (notesBytes noNotes)
+    ≡ patch t a (startBytes x)
+unfolding startBytes rateBytes notesBytes
 start-written t a x fits =
     let l = head-length x in
     let w = lawful rateEntryForm .wide (x .rate) in
+    let n = lawful notesForm .wide noNotes in
     let both = length-append (headBytes x) (rateBytes (x .rate)) in
-    ap (λ (u : List ℕ). patch u (a + pathMarkAt) (0 ∷ []))
+    ap (λ (u : List ℕ). patch u (a + pathNotesAt) (notesBytes noNotes))
     (patch-join t a (a + headWidth) (headBytes x) (rateBytes (x .rate)) (omega (arith, l)) (omega (arith, l, w)))
-    ∙ patch-join t a (a + pathMarkAt) (headBytes x ++ rateBytes (x .rate)) (0 ∷ []) (omega (arith, l, w, both)) (omega arith)
-    ∙ ap (patch t a) (append-assoc (headBytes x) (rateBytes (x .rate)) (0 ∷ []))
+    ∙ patch-join t a (a + pathNotesAt) (headBytes x ++ rateBytes (x .rate)) (notesBytes noNotes) (omega (arith, l, w, both)) (omega (arith, n))
+    ∙ ap (patch t a) (append-assoc (headBytes x) (rateBytes (x .rate)) (notesBytes noNotes))
 
 -- what is written over itself stays
 patch-own : (t : List ℕ) (a n : ℕ) → a + n ≤ length t → patch t a (part t a n) ≡ t
@@ -213,7 +216,7 @@ module _ (t t1 : List ℕ) (a : ℕ) (x : Announced) (fits : a + pathWidth ≤ l
 
   pub path-put : (s : List ℕ) (blobs : Blobs) → s ≡ blobsBytes blobs
       → putMid from (from + blobsWidth - from) t1 s ≡ patch t a (slotBytes pathWidth pathBytes (used (announced x blobs)))
-  unfolding _then_otherwise_ markOf slotBytes pathBytes blobsBytes announced startBytes rateBytes headBytes
+  unfolding _then_otherwise_ markOf slotBytes pathBytes blobsBytes announced startBytes rateBytes notesBytes headBytes
   path-put s blobs e =
       let long = start-length x in
       let wide = blobs-length blobs in
@@ -222,8 +225,8 @@ module _ (t t1 : List ℕ) (a : ℕ) (x : Announced) (fits : a + pathWidth ≤ l
       ∙ ap (λ (u : List ℕ). patch u from (blobsBytes blobs)) e1
       ∙ patch-join t a from (startBytes x) (blobsBytes blobs) (omega arith) (omega arith)
       ∙ ap (patch t a)
-      (append-assoc (headBytes x) (rateBytes (x .rate) ++ (0 ∷ [])) (blobsBytes blobs)
-      ∙ ap (λ (y : List ℕ). headBytes x ++ y) (append-assoc (rateBytes (x .rate)) (0 ∷ []) (blobsBytes blobs)))
+      (append-assoc (headBytes x) (rateBytes (x .rate) ++ notesBytes noNotes) (blobsBytes blobs)
+      ∙ ap (λ (y : List ℕ). headBytes x ++ y) (append-assoc (rateBytes (x .rate)) (notesBytes noNotes) (blobsBytes blobs)))
 
   pub blobs-kept : blobsIn (take (from + blobsWidth - from) (drop from t1)) ≡ blobsOf (part t a pathWidth)
   blobs-kept =

@@ -9,19 +9,20 @@ use Rattle.octets.specs.Choice.{_then_otherwise_}
 use Rattle.octets.specs.Part.{patch}
 use Rattle.octets.specs.BigEndian.{bigEndian}
 use Rattle.numbers.specs.Numbers.{pathCount, linkCount, returnCount, hashCount}
-use Rattle.rules.specs.Relay.{empty, used, Path, Return, Remembered, makeRing, withSlots, withPathRate, withPathMark, Relay, withClock, withPaths, withLinks, withReturns, withHashes}
+use Rattle.rules.specs.Relay.{empty, used, Path, Return, Remembered, makeRing, withSlots, withPathRate, withPathNotes, Relay, withClock, withPaths, withLinks, withReturns, withHashes}
 use Rattle.rules.specs.Writes.{putNext}
 use Rattle.rules.specs.declared.Link.{Link}
 use Rattle.rules.specs.declared.RateEntry.{RateEntry}
+use Rattle.rules.specs.declared.Notes.{Notes}
 use Rattle.codes.proofs.Inside.{named}
 use Rattle.tables.specs.Forms.{pathForm}
-use Rattle.tables.specs.Fields.{pathRateAt, pathMarkAt}
+use Rattle.tables.specs.Fields.{pathRateAt, pathNotesAt}
 use Rattle.tables.specs.Places.{timeWidth, ringWidth, pathWidth, linkWidth, returnWidth, hashWidth, clockAt, pathsAt, linksAt, returnNextAt, returnsAt, hashNextAt, hashesAt}
-use Rattle.tables.specs.Records.{markOf, slotBytes, pathBytes, linkBytes, returnBytes, hashBytes}
+use Rattle.tables.specs.Records.{slotBytes, pathBytes, linkBytes, returnBytes, hashBytes}
 use Rattle.tables.specs.Layout.{relayOf, bytesOf, wellFormed}
 use Rattle.tables.proofs.Patches.{patch-clock, patch-path, patch-in-path, patch-link, patch-return, patch-return-next, patch-hash, patch-hash-next}
 use Rattle.tables.proofs.Whole.{formed}
-use Rattle.update.specs.Written.{clockWritten, hashWritten, pathWritten, rateBytes, rateWritten, markWritten, linkWritten, returnWritten, returnEmptied}
+use Rattle.update.specs.Written.{clockWritten, hashWritten, pathWritten, rateBytes, rateWritten, notesBytes, notesWritten, linkWritten, returnWritten, returnEmptied}
 
 module _ (r : Relay) {t u : List ℕ} (e : t ≡ bytesOf r) where
   pub clock-step : (clock : ℕ) → u ≡ clockWritten t clock → u ≡ bytesOf (withClock clock r)
@@ -43,13 +44,13 @@ module _ (r : Relay) {t u : List ℕ} (e : t ≡ bytesOf r) where
         ∙ ap (λ (x : List ℕ). patch x (pathsAt + pathWidth * place + pathRateAt) (rateBytes rate)) e
         ∙ patch-in-path r (named pathForm "rate" .inside) place p rate n l there tt
 
-    pub mark-step : (p : Path) → length (r .paths) ≡ pathCount → place < pathCount → getD (r .paths) place empty ≡ used p
-        → u ≡ markWritten t place → u ≡ bytesOf (withPaths (set (r .paths) place (used (withPathMark p))) r)
-    unfolding markWritten markOf _then_otherwise_
-    mark-step p n l there w =
+    pub notes-step : (p : Path) (notes : Notes) → length (r .paths) ≡ pathCount → place < pathCount → getD (r .paths) place empty ≡ used p
+        → u ≡ notesWritten t place notes → u ≡ bytesOf (withPaths (set (r .paths) place (used (withPathNotes notes p))) r)
+    unfolding notesWritten notesBytes
+    notes-step p notes n l there w =
         w
-        ∙ ap (λ (x : List ℕ). patch x (pathsAt + pathWidth * place + pathMarkAt) (1 ∷ [])) e
-        ∙ patch-in-path r (named pathForm "marked" .inside) place p true n l there tt
+        ∙ ap (λ (x : List ℕ). patch x (pathsAt + pathWidth * place + pathNotesAt) (notesBytes notes)) e
+        ∙ patch-in-path r (named pathForm "notes" .inside) place p notes n l there tt
 
     pub link-step : (x : Link) → length (r .links) ≡ linkCount → place < linkCount → u ≡ linkWritten t place x
         → u ≡ bytesOf (withLinks (set (r .links) place (used x)) r)

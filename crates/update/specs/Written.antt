@@ -1,21 +1,21 @@
 -- What each write leaves in the tables' bytes t: a record over the one at its place, and what goes with it.
 -- For the contracts of helpers: not part of what a reader must believe.
 use Prim.Native.Nat.{ℕ, _+_, _-_, _*_, _%_}
-use mathlib.Core.Bool.{false}
 use mathlib.Core.List.{List, [], _∷_, _++_}
 use Rattle.octets.specs.Choice.{_then_otherwise_}
 use Rattle.octets.specs.Part.{patch}
 use Rattle.octets.specs.BigEndian.{bigEndian}
 use Rattle.numbers.specs.Numbers.{blobLimit, returnCount, hashCount}
-use Rattle.rules.specs.Relay.{empty, used, Blobs, Path, Return, Remembered, holds, withReturns}
+use Rattle.rules.specs.Relay.{noNotes, empty, used, Blobs, Path, Return, Remembered, holds, withReturns}
 use Rattle.rules.specs.View.{isLiveReturn}
 use Rattle.rules.specs.Writes.{emptiedWhere}
 use Rattle.rules.specs.declared.Link.{Link}
 use Rattle.rules.specs.declared.RateEntry.{RateEntry}
+use Rattle.rules.specs.declared.Notes.{Notes}
 use Rattle.codes.specs.Form.{code}
-use Rattle.tables.specs.Forms.{rateEntryForm, blobsForm, Head, headForm, toPath}
+use Rattle.tables.specs.Forms.{rateEntryForm, notesForm, blobsForm, Head, headForm, toPath}
 use Rattle.tables.specs.Places.{timeWidth, ringWidth, blobWidth, pathWidth, linkWidth, returnWidth, hashWidth, clockAt, pathsAt, linksAt, returnNextAt, returnsAt, hashNextAt, hashesAt}
-use Rattle.tables.specs.Fields.{pathRateAt, pathMarkAt, pathBlobsAt}
+use Rattle.tables.specs.Fields.{pathRateAt, pathNotesAt, pathBlobsAt}
 use Rattle.tables.specs.Records.{slotOf, slotBytes, pathBytes, linkBytes, returnOf, returnBytes, hashBytes}
 use Rattle.tables.specs.Layout.{recordAt, relayOf, bytesOf}
 use Rattle.update.specs.declared.Announced.{Announced}
@@ -43,16 +43,22 @@ rateBytes = code rateEntryForm .write
 unfoldable pub rateWritten : List ℕ → ℕ → RateEntry → List ℕ
 rateWritten t place rate = patch t (pathsAt + pathWidth * place + pathRateAt) (rateBytes rate)
 
--- the mark alone
-unfoldable pub markWritten : List ℕ → ℕ → List ℕ
-markWritten t place = patch t (pathsAt + pathWidth * place + pathMarkAt) (1 ∷ [])
+-- what the host has noted alone
+abbrev pub notesWidth : ℕ
+notesWidth = code notesForm .width
 
--- what an announce sets of a path, and the path with these blobs, unmarked
+unfoldable pub notesBytes : Notes → List ℕ
+notesBytes = code notesForm .write
+
+unfoldable pub notesWritten : List ℕ → ℕ → Notes → List ℕ
+notesWritten t place notes = patch t (pathsAt + pathWidth * place + pathNotesAt) (notesBytes notes)
+
+-- what an announce sets of a path, and the path with these blobs, of which nothing is noted
 abbrev pub headOf : Announced → Head
 headOf x = (x .destination, (x .port, (x .hops, (x .«next_hop», x .expiry))))
 
 unfoldable pub announced : Announced → Blobs → Path
-announced x blobs = toPath (headOf x, (x .rate, (false, blobs)))
+announced x blobs = toPath (headOf x, (x .rate, (noNotes, blobs)))
 
 -- a record's bytes before its rate, and before its blobs
 abbrev pub headWidth : ℕ
@@ -65,7 +71,7 @@ abbrev pub startWidth : ℕ
 startWidth = pathBlobsAt
 
 unfoldable pub startBytes : Announced → List ℕ
-startBytes x = headBytes x ++ (rateBytes (x .rate) ++ (0 ∷ []))
+startBytes x = headBytes x ++ (rateBytes (x .rate) ++ notesBytes noNotes)
 
 -- the bytes of the blob places behind the oldest
 abbrev pub newerWidth : ℕ

@@ -7,7 +7,7 @@ use mathlib.Core.List.{List}
 use Rattle.octets.specs.Choice.{_then_otherwise_}
 use Rattle.packet.specs.Announce.{blobOf}
 use Rattle.packet.specs.declared.Parts.{Parts}
-use Rattle.rules.specs.Relay.{used, makePath}
+use Rattle.rules.specs.Relay.{used, noNotes, makePath}
 use Rattle.rules.specs.Arrival.{destination, blob}
 use Rattle.rules.specs.Writes.{announcedPath}
 use Rattle.judging.specs.Seen.{arrivalOf, pathOf}
@@ -63,7 +63,7 @@ returns c =
     let rate = after-announced-rate .announced-rate .ensures .0
     ∙ ap (λ (x : List ℕ). rateAnnounced (s .settings) (s .known) x (s .arrived .clock)) own ∙ rate-announced a (s .known) (s .settings) (s .mode) in
     let blobs = after-announced-blobs .announced-blobs .ensures .0 ∙ ap (blobsAnnounced (s .known)) own ∙ blobs-announced a (s .known) in (
-      (λ i. used (makePath (destination a) (a .port) (hop i) (next i) (a .clock + lifetime i) (rate i) false (blobs i))),
+      (λ i. used (makePath (destination a) (a .port) (hop i) (next i) (a .clock + lifetime i) (rate i) noNotes (blobs i))),
       record { entry = after-announced-rate .announced-rate .ensures .1; blobs = after-announced-blobs .announced-blobs .ensures .1 },
     )
 

@@ -1,17 +1,24 @@
-use mathlib.Core.Bool.{false}
+use Prim.Native.Nat.{ℕ}
+use mathlib.Core.Bool.{Bool, false}
+use mathlib.Core.List.{List}
 use mathlib.Core.Path.{_≡_, sym, ap, _∙_}
 use lib.ListN.{length}
-use Rattle.rules.specs.Relay.{Path}
-use Rattle.rules.specs.Arrival.{Arrival, blob}
+use Rattle.octets.specs.Listed.{valued}
+use Rattle.octets.proofs.Listed.{here, past, none-first}
+use Rattle.rules.specs.Relay.{used, Path, Relay}
+use Rattle.rules.specs.View.{View, viewAt}
+use Rattle.rules.specs.Arrival.{Arrival, hops, blob}
+use Rattle.rules.specs.Ways.{everywhere}
+use Rattle.rules.specs.Tests.{ofKnown, isReplay, isNotBetter, isRateLimited, knownTests}
 use Rattle.rules.specs.Blobs.{held, isAmong}
 use Rattle.rules.specs.declared.Rated.{Rated}
-use Rattle.rules.specs.declared.RateSettings.{RateSettings}
 use Rattle.rules.proofs.Ranges.{path-counted}
 use Rattle.tables.specs.Layout.{relayOf}
 use Rattle.packet.specs.Announce.{blobOf, emissionOf}
 use Rattle.plan.specs.Decided.{arrivalOf, pathAt}
-use Rattle.plan.specs.Kinds.{revivedBy}
-use Rattle.plan.proofs.AnnounceLaws.{known-revived, known-replay, known-worse, known-limited, known-accepted}
+use Rattle.plan.specs.Kinds.{revivedBy, worseThan, knownPath}
+use Rattle.plan.specs.declared.Decision.the-variants.{Drop}
+use Rattle.plan.proofs.AnnounceLaws.{known-revived, known-made}
 use native.Mathlib.Omega.{arith}
 use borrow.Author.Needs.{needs}
 use Rattle.plan.proofs.announces.known_path.Statement.{statement}
@@ -23,10 +30,16 @@ a s = arrivalOf (s .args .packet .now) (s .args .arrived)
 abbrev p : tie.Start → Path
 p s = pathAt (s .args .tables .now) (s .args .place)
 
-abbrev rate : tie.Start → RateSettings
-rate s = relayOf (s .args .tables .now) .rate
+abbrev r : tie.Start → Relay
+r s = relayOf (s .args .tables .now)
 
--- ---- what is read: the blob, that it doesn't revive the path, and that it is not held
+abbrev v : tie.Start → View
+v s = viewAt (s .args .arrived .clock) (r s)
+
+abbrev said : tie.Start → (Path → Bool) → Bool
+said s test = ofKnown (a s) test (everywhere (used (p s)))
+
+-- ---- what is read: the blob, and that it doesn't revive the path
 abbrev s1 : tie.After-revives → tie.Start
 s1 c = c .before .before .before .before .before
 
@@ -36,8 +49,33 @@ read-blob c = c .before .blob .ensures ∙ ap blobOf (c .before .before .payload
 unrevived : (c : tie.Else1) → revivedBy (emissionOf (c .before .before .blob .result)) (p (s1 (c .before))) ≡ false
 unrevived c = sym (c .before .revives .ensures) ∙ c .if1 .left
 
-new-blob : (c : tie.Else2) → isAmong (c .before .before .before .before .blob .result) (held (p (s1 (c .before .before .before)) .blobs)) ≡ false
-new-blob c = sym (c .before .holds-blob .ensures) ∙ c .if2 .left
+made : (c : tie.Else1) (test : Path → Bool) → said (s1 (c .before)) test ≡ test (p (s1 (c .before)))
+made c = known-made (a (s1 (c .before))) (p (s1 (c .before))) (read-blob (c .before)) (unrevived c)
+
+-- ---- what each test says
+said-replay : (c : tie.After-holds-blob) → let s = s1 (c .before .before) in said s (isReplay (a s)) ≡ c .holds-blob .result
+said-replay c =
+    let s = s1 (c .before .before) in
+    made (c .before) (isReplay (a s))
+    ∙ ap (λ (x : List ℕ). isAmong x (held (p s .blobs))) (sym (read-blob (c .before .before)))
+    ∙ sym (c .holds-blob .ensures)
+
+said-not-better : (c : tie.After-not-better) → let s = s1 (c .before .before .before .before) in said s (isNotBetter (a s)) ≡ c .not-better .result
+unfolding worseThan
+said-not-better c =
+    let e1 = c .before .before .before in
+    let s = s1 (e1 .before) in
+    made e1 (isNotBetter (a s))
+    ∙ ap (λ (x : List ℕ). worseThan (emissionOf x) (hops (a s)) (p s)) (sym (read-blob (e1 .before)))
+    ∙ sym (c .not-better .ensures)
+
+said-rate-limited : (c : tie.After-rate-at)
+    → let s = s1 (c .before .before .before .before .before .before) in said s (isRateLimited (v s) (a s)) ≡ c .rate-at .result .dropped
+unfolding viewAt
+said-rate-limited c =
+    let e1 = c .before .before .before .before .before in
+    let s = s1 (e1 .before) in
+    made e1 (isRateLimited (v s) (a s)) ∙ ap (λ (y : Rated). y .dropped) (sym (c .rate-at .ensures))
 
 payload-requires : tie.Need-payload-requires
 payload-requires c κs = search needs
@@ -52,7 +90,7 @@ returns : tie.Need-returns
 returns c =
     let c1 = c .before in
     let x = s1 c1 in
-    known-revived (rate x) (a x) (p x) (x .args .place) (read-blob c1) (sym (c1 .revives .ensures) ∙ c .if1 .taken)
+    known-revived (a x) (p x) (read-blob c1) (r x) (x .args .place) (sym (c1 .revives .ensures) ∙ c .if1 .taken)
 
 holds-blob-requires : tie.Need-holds-blob-requires
 holds-blob-requires c κs =
@@ -60,46 +98,42 @@ holds-blob-requires c κs =
     (s .pre .0 .size, s .pre .1 .within, path-counted _ (s .pre .1 .fine) .most)
 
 returns-2 : tie.Need-returns-2
-returns-2 c =
-    let e1 = c .before .before in
-    let c1 = e1 .before in
-    let x = s1 c1 in
-    known-replay (rate x) (a x) (p x) (x .args .place) (read-blob c1) (unrevived e1) (sym (c .before .holds-blob .ensures) ∙ c .if2 .taken)
+unfolding knownPath knownTests valued
+returns-2 c = sym (here _ _ _ _ (said-replay (c .before) ∙ c .if2 .taken))
 
 not-better-requires : tie.Need-not-better-requires
 not-better-requires c κs = search needs
 
 returns-3 : tie.Need-returns-3
+unfolding knownPath knownTests valued
 returns-3 c =
     let e2 = c .before .before in
-    let e1 = e2 .before .before in
-    let c1 = e1 .before in
-    let x = s1 c1 in
-    known-worse (rate x) (a x) (p x) (x .args .place) (read-blob c1) (unrevived e1) (new-blob e2)
-    (sym (c .before .not-better .ensures) ∙ c .if3 .taken)
+    sym (past _ _ _ _ (said-replay (e2 .before) ∙ e2 .if2 .left) ∙ here _ _ _ _ (said-not-better (c .before) ∙ c .if3 .taken))
 
 rate-at-requires : tie.Need-rate-at-requires
 rate-at-requires c κs = search needs
 
 returns-4 : tie.Need-returns-4
+unfolding knownPath knownTests valued
 returns-4 c =
     let e3 = c .before .before in
     let e2 = e3 .before .before in
-    let e1 = e2 .before .before in
-    let c1 = e1 .before in
-    let x = s1 c1 in
-    known-limited (rate x) (a x) (p x) (x .args .place) (read-blob c1) (unrevived e1) (new-blob e2)
-    (sym (e3 .before .not-better .ensures) ∙ e3 .if3 .left) (ap (λ (y : Rated). y .dropped) (sym (c .before .rate-at .ensures)) ∙ c .if4 .taken)
+    sym
+    (past _ _ _ _ (said-replay (e2 .before) ∙ e2 .if2 .left)
+    ∙ past _ _ _ _ (said-not-better (e3 .before) ∙ e3 .if3 .left)
+    ∙ here _ _ _ _ (said-rate-limited (c .before) ∙ c .if4 .taken))
 
 returns-5 : tie.Need-returns-5
+unfolding knownPath knownTests valued
 returns-5 c =
     let e3 = c .before .before in
     let e2 = e3 .before .before in
-    let e1 = e2 .before .before in
-    let c1 = e1 .before in
-    let x = s1 c1 in
-    known-accepted (rate x) (a x) (p x) (x .args .place) (read-blob c1) (unrevived e1) (new-blob e2)
-    (sym (e3 .before .not-better .ensures) ∙ e3 .if3 .left) (ap (λ (y : Rated). y .dropped) (sym (c .before .rate-at .ensures)) ∙ c .if4 .left)
+    let s = s1 (e2 .before .before .before) in
+    sym
+    (none-first (valued Drop (knownTests (v s) (a s) (everywhere (used (p s))))) _ (
+      said-replay (e2 .before) ∙ e2 .if2 .left,
+      (said-not-better (e3 .before) ∙ e3 .if3 .left, (said-rate-limited (c .before) ∙ c .if4 .left, tt)),
+    ))
 
 pub known-path-spec : {M : Type 1} → statement M
 known-path-spec =

@@ -13,6 +13,7 @@ use Rattle.rules.specs.Arrival.{Arrival, header, destination}
 use Rattle.tables.specs.Layout.{relayOf}
 use Rattle.outgoing.proofs.LeavingLaws.{whole, long}
 use Rattle.plan.specs.Decided.{arrivalOf}
+use Rattle.rules.specs.declared.Notes.{Notes}
 use Rattle.plan.proofs.MarkedLaws.{not-announce, not-single, by-path, marked-at, marked-nowhere}
 use Rattle.plan.proofs.marked.for_marked_path.Statement.{statement}
 use Rattle.plan.proofs.marked.for_marked_path.Tie as tie
@@ -67,15 +68,15 @@ parts-of-requires c κs =
 path-place-requires : tie.Need-path-place-requires
 path-place-requires c κs = search needs
 
-path-marked-requires : tie.Need-path-marked-requires
-path-marked-requires c κs = search needs
+path-notes-requires : tie.Need-path-notes-requires
+path-notes-requires c κs = search needs
 
 returns-3 : tie.Need-returns-3
 returns-3 c =
     let c2 = c .before .before in
     let s = s1 c2 in
     let e2 = c2 .before .before .before in
-    c .path-marked .ensures
+    ap (λ (n : Notes). n .marked) (c .path-notes .ensures)
     ∙ marked-at (t s) (a s) (found c2) (c .before .if3 .taken)
     ∙ by-path (relayOf (t s)) (a s) (is (e2 .before .before)) (single e2)
 
@@ -98,6 +99,6 @@ for-marked-path-spec =
     returns-2
     parts-of-requires
     path-place-requires
-    path-marked-requires
+    path-notes-requires
     returns-3
     returns-4)

@@ -1,14 +1,15 @@
-use mathlib.Core.Path.{sym, ap₂, _∙_}
+use mathlib.Core.Path.{sym, ap, ap₂, _∙_}
 use lib.Dec.{leb}
 use Rattle.octets.proofs.Index.{and-no, and-yes}
+use Rattle.rules.specs.declared.Notes.{Notes}
 use borrow.Author.Needs.{needs}
 use Rattle.rules.proofs.Ranges.{path-counted}
 use Rattle.plan.specs.Kinds.{revivedBy}
 use Rattle.plan.proofs.marked.revives.Statement.{statement}
 use Rattle.plan.proofs.marked.revives.Tie as tie
 
-path-marked-requires : tie.Need-path-marked-requires
-path-marked-requires c κs = search needs
+path-notes-requires : tie.Need-path-notes-requires
+path-notes-requires c κs = search needs
 
 greatest-emission-requires : tie.Need-greatest-emission-requires
 greatest-emission-requires c κs =
@@ -23,12 +24,12 @@ unfolding revivedBy
 returns c =
     let c2 = c .before .before in
     ap₂ leb (c .before .greatest-emission .ensures) (c .emission .ensures)
-    ∙ sym (and-yes _ (sym (c2 .before .path-marked .ensures) ∙ c2 .if1 .taken))
+    ∙ sym (and-yes _ (sym (ap (λ (n : Notes). n .marked) (c2 .before .path-notes .ensures)) ∙ c2 .if1 .taken))
 
 returns-2 : tie.Need-returns-2
 unfolding revivedBy
-returns-2 c = sym (and-no _ (sym (c .before .path-marked .ensures) ∙ c .if1 .left))
+returns-2 c = sym (and-no _ (sym (ap (λ (n : Notes). n .marked) (c .before .path-notes .ensures)) ∙ c .if1 .left))
 
 pub revives-spec : {M : Type 1} → statement M
 revives-spec =
-    tie.close (tie.spec path-marked-requires greatest-emission-requires emission-requires returns returns-2)
+    tie.close (tie.spec path-notes-requires greatest-emission-requires emission-requires returns returns-2)

@@ -13,11 +13,11 @@ add-write-rate c = search needs
 write-rate-requires : tie.Need-write-rate-requires
 write-rate-requires c κs = search needs
 
-add-set-at : tie.Need-add-set-at
-add-set-at c = search needs
+add-write-notes : tie.Need-add-write-notes
+add-write-notes c = search needs
 
-set-at-requires : tie.Need-set-at-requires
-set-at-requires c κs = search needs
+write-notes-requires : tie.Need-write-notes-requires
+write-notes-requires c κs = search needs
 
 same-length : tie.Need-same-length
 same-length c = search needs
@@ -29,9 +29,9 @@ returns c =
     let c11 = c6 .before .before .before .before .before in
     let c14 = c11 .before .before .before in
     let a = c14 .args in
-    rw (c2 .set-at .ensures, c6 .write-rate .ensures, c11 .put-head .ensures)
+    rw (c2 .write-notes .ensures, c6 .write-rate .ensures, c11 .put-head .ensures)
     (start-written (a .tables .now) (a .at) (a .path) (omega (arith, c14 .pre)))
 
 pub put-start-spec : {M : Type 1} → statement M
 put-start-spec =
-    tie.close (tie.spec put-head-requires add-write-rate write-rate-requires add-set-at set-at-requires same-length returns)
+    tie.close (tie.spec put-head-requires add-write-rate write-rate-requires add-write-notes write-notes-requires same-length returns)

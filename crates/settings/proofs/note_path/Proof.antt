@@ -1,16 +1,18 @@
 use mathlib.Core.Bool.{true, false}
-use mathlib.Core.Path.{_≡_, sym, _∙_}
+use mathlib.Core.Path.{_≡_, sym, ap, _∙_}
 use borrow.Author.Tests.{not-true, not-false}
 use Rattle.octets.proofs.Bytes.{known-bytes}
+use Rattle.rules.specs.Relay.{noted}
 use Rattle.rules.specs.Refusals.{clockBad}
-use Rattle.rules.specs.Calls.{marks}
+use Rattle.rules.specs.Calls.{notes-path}
 use Rattle.tables.specs.Layout.{relayOf, wellFormed}
 use Rattle.tables.proofs.Called.{size-of, call-bad, call-refused, call-done}
-use Rattle.settings.proofs.Answered.{mark-early, mark-nowhere, mark-accepted, mark-set}
+use Rattle.update.specs.Written.{notesWritten}
+use Rattle.settings.proofs.Answered.{note-early, note-nowhere, note-accepted, note-set}
 use native.Mathlib.Omega.{arith}
 use borrow.Author.Needs.{needs}
-use Rattle.settings.proofs.mark_path_unresponsive.Statement.{statement}
-use Rattle.settings.proofs.mark_path_unresponsive.Tie as tie
+use Rattle.settings.proofs.note_path.Statement.{statement}
+use Rattle.settings.proofs.note_path.Tie as tie
 
 -- past row 7, and past row 5
 abbrev s1 : tie.Else1 → tie.Start
@@ -37,7 +39,7 @@ same-length c = search needs
 returns : tie.Need-returns
 returns c =
     let a = c .before .before .before .before .args in
-    call-bad (marks (a .destination) (a .clock)) (a .tables .now) (sym (c .before .check .ensures) ∙ not-true _ (c .if1 .taken))
+    call-bad (notes-path (a .note) (a .destination) (a .clock)) (a .tables .now) (sym (c .before .check .ensures) ∙ not-true _ (c .if1 .taken))
 
 clock-bad-requires : tie.Need-clock-bad-requires
 clock-bad-requires c κs = size-of (s1 (c .before) .args .tables .now) (well (c .before))
@@ -50,8 +52,8 @@ returns-2 c =
     let c3 = c .before .before .before in
     let a = s1 c3 .args in
     let t = a .tables .now in
-    call-refused (marks (a .destination) (a .clock)) t (well c3) (known-bytes t (c3 .before .before .before .slice-known .given)) 5 (λ e. omega arith)
-    (mark-early t (a .destination) (a .clock) (sym (c .before .clock-bad .ensures) ∙ c .if2 .taken))
+    call-refused (notes-path (a .note) (a .destination) (a .clock)) t (well c3) (known-bytes t (c3 .before .before .before .slice-known .given)) 5 (λ e. omega arith)
+    (note-early t (a .note) (a .destination) (a .clock) (sym (c .before .clock-bad .ensures) ∙ c .if2 .taken))
 
 path-place-requires : tie.Need-path-place-requires
 path-place-requires c κs = size-of (s1 (e1 (c .before)) .args .tables .now) (well (e1 (c .before)))
@@ -65,18 +67,26 @@ returns-3 c =
     let c6 = e1 c3 in
     let a = s1 c6 .args in
     let t = a .tables .now in
-    call-refused (marks (a .destination) (a .clock)) t (well c6) (known-bytes t (c6 .before .before .before .slice-known .given)) 12 (λ e. omega arith)
-    (mark-nowhere t (a .destination) (a .clock) _ (c .before .path-place .ensures) (fine c3) (c .if3 .taken))
+    call-refused (notes-path (a .note) (a .destination) (a .clock)) t (well c6) (known-bytes t (c6 .before .before .before .slice-known .given)) 12 (λ e. omega arith)
+    (note-nowhere t (a .note) (a .destination) (a .clock) _ (c .before .path-place .ensures) (fine c3) (c .if3 .taken))
 
-put-mark-requires : tie.Need-put-mark-requires
-put-mark-requires c κs =
+path-notes-requires : tie.Need-path-notes-requires
+path-notes-requires c κs =
     let c1 = c .before in
     (size-of (s1 (e1 (e2 c1)) .args .tables .now) (well (e1 (e2 c1))), c1 .if3 .left)
 
+noted-requires : tie.Need-noted-requires
+noted-requires c κs = search needs
+
+put-notes-requires : tie.Need-put-notes-requires
+put-notes-requires c κs =
+    let c4 = c .before .before .before .before in
+    (size-of (s1 (e1 (e2 c4)) .args .tables .now) (well (e1 (e2 c4))), c4 .if3 .left)
+
 set-clock-requires : tie.Need-set-clock-requires
 set-clock-requires c κs =
-    let c5 = c .before .before .before .before .before in
-    let size = size-of (s1 (e1 (e2 c5)) .args .tables .now) (well (e1 (e2 c5))) in
+    let c8 = c .before .before .before .before .before .before .before .before in
+    let size = size-of (s1 (e1 (e2 c8)) .args .tables .now) (well (e1 (e2 c8))) in
     search needs
 
 same-length-4 : tie.Need-same-length-4
@@ -86,19 +96,22 @@ returns-4 : tie.Need-returns-4
 returns-4 c =
     let c2 = c .before .before in
     let c6 = c2 .before .before .before .before in
-    let c8 = c6 .before .before in
-    let c11 = e2 c8 in
-    let c14 = e1 c11 in
-    let a = s1 c14 .args in
+    let c9 = c6 .before .before .before in
+    let c11 = c9 .before .before in
+    let c14 = e2 c11 in
+    let c17 = e1 c14 in
+    let a = s1 c17 .args in
     let t = a .tables .now in
-    let place = c8 .before .path-place .ensures in
-    let known = known-bytes t (c14 .before .before .before .slice-known .given) in
-    let after = mark-set t (a .destination) (a .clock) _ place (c8 .if3 .left) (well c14) known _ _ (c6 .put-mark .ensures) (c2 .set-clock .ensures) in
-    call-done (marks (a .destination) (a .clock)) t (well c14)
-    (mark-accepted t (a .destination) (a .clock) _ place (c8 .if3 .left) (fine c11)) after
+    let place = c11 .before .path-place .ensures in
+    let known = known-bytes t (c17 .before .before .before .slice-known .given) in
+    let now = c6 .before .before .noted .ensures ∙ ap (noted (a .note)) (c9 .path-notes .ensures) in
+    let put = c6 .put-notes .ensures ∙ ap (notesWritten t _) now in
+    let after = note-set t (a .note) (a .destination) (a .clock) _ place (c11 .if3 .left) (well c17) known _ _ put (c2 .set-clock .ensures) in
+    call-done (notes-path (a .note) (a .destination) (a .clock)) t (well c17)
+    (note-accepted t (a .note) (a .destination) (a .clock) _ place (c11 .if3 .left) (fine c14)) after
 
-pub mark-path-unresponsive-spec : {M : Type 1} → statement M
-mark-path-unresponsive-spec =
+pub note-path-spec : {M : Type 1} → statement M
+note-path-spec =
     tie.close
     (tie.spec
     check-requires
@@ -110,7 +123,9 @@ mark-path-unresponsive-spec =
     path-place-requires
     same-length-3
     returns-3
-    put-mark-requires
+    path-notes-requires
+    noted-requires
+    put-notes-requires
     set-clock-requires
     same-length-4
     returns-4)
