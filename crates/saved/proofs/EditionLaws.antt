@@ -2,9 +2,9 @@
 use Prim.Native.Nat.{ℕ, zero, suc, _+_, _-_, _*_, _≤_, _<_, zero-le}
 use native.Mathlib.Nat.{zero-add, le-refl, not-suc-le-zero}
 use native.Mathlib.Omega.{arith}
-use mathlib.Core.Bool.{true, false}
+use mathlib.Core.Bool.{Bool, true, false}
 use mathlib.Core.List.{List, [], _∷_, _++_, append-nil}
-use mathlib.Core.Path.{_≡_, refl, sym, ap, ap₂, _∙_}
+use mathlib.Core.Path.{_≡_, refl, sym, ap, ap₂, subst, _∙_}
 use lib.Dec.{lit<}
 use borrow.Author.Tests.{eq-eqb, ltb-true, leb-true}
 use borrow.Rule.Slice.PartMut.{putMid}
@@ -539,18 +539,13 @@ module _ (n : ℕ) where
   unfolding isKnown isKnownBy
   known-high h = leb-true n currentEdition (and-right _ _ h)
 
-  -- what holds of each edition that there is
-  pub each-known : (P : ℕ → Type 0) → isKnown n ≡ true → P 1 → P 2 → P 3 → P 4 → P 5 → P n
-  each-known P h one two three four five = go n (known-low h) (known-high h)
-    where
-      go : (k : ℕ) → 0 < k → k ≤ currentEdition → P k
-      go zero low high = absurd (not-suc-le-zero low)
-      go (suc zero) low high = one
-      go (suc (suc zero)) low high = two
-      go (suc (suc (suc zero))) low high = three
-      go (suc (suc (suc (suc zero)))) low high = four
-      go (suc (suc (suc (suc (suc zero))))) low high = five
-      go (suc (suc (suc (suc (suc (suc k)))))) low high = absurd (omega (arith, high))
+  -- what a test says of each edition that there is, it says of this one
+  pub each-known : (test : ℕ → Bool) → allBelow (λ i. test (i + 1)) currentEdition ≡ true → isKnown n ≡ true → test n ≡ true
+  each-known test all h =
+      let low = known-low h in
+      let high = known-high h in
+      let there : n - 1 + 1 ≡ n = omega (arith, low) in
+      subst (λ (k : ℕ). test k ≡ true) there (all-at (λ i. test (i + 1)) currentEdition (n - 1) all (omega (arith, low, high)))
 
   -- port i's settings, and path i's record, stand in the file
   pub port-room : (f : List ℕ) → tallyPlace (numbered n) ≤ length f → (i : ℕ) → i < portCount

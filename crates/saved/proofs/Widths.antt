@@ -1,10 +1,11 @@
 -- The bodies' widths: in every edition each stands in two bytes, and together they are all that is saved.
 use Prim.Native.Nat.{ℕ, zero, suc, _+_, _-_, _*_, _^_, _≤_, _<_}
+use native.Mathlib.Decide.{decLt}
 use native.Mathlib.Omega.{arith}
-use mathlib.Core.Bool.{true}
+use mathlib.Core.Bool.{Bool, true}
 use mathlib.Core.Path.{_≡_, refl}
 use lib.Dec.{lit<, ltb}
-use lib.ListN.{getD}
+use lib.ListN.{getD, List·getD-eq-default}
 use borrow.Author.Tests.{ltb-true}
 use Rattle.octets.specs.Index.{_and_, allBelow}
 use Rattle.octets.proofs.Index.{all-at}
@@ -13,7 +14,7 @@ use Rattle.recording.specs.Shape.{sumBelow}
 use Rattle.recording.proofs.Sums.{sum-within}
 use Rattle.numbers.specs.Numbers.{portCount, pathCount}
 use Rattle.tables.specs.Forms.{Edition}
-use Rattle.saved.specs.Editions.{edition1, editions, isKnownBy, isKnown, held, editionAt, currentEdition, widthAt}
+use Rattle.saved.specs.Editions.{edition1, editions, isKnownBy, isKnown, numbered, held, editionAt, currentEdition, widthAt}
 use Rattle.saved.specs.File.{bodyCount, bodiesAt}
 use Rattle.saved.specs.Steps.{startWidth, portWidthIn, pathWidthIn, sizeIn}
 
@@ -46,25 +47,23 @@ module _ (e : Edition) where
   width-paths = omega arith
 
 -- ---- of those that there are
-all-small : (j : ℕ) → allBelow (λ i. ltb (widthAt (held (getD editions j edition1)) i) 65536) bodyCount ≡ true
-unfolding allBelow _and_ widthAt
-all-small zero = refl
-all-small (suc zero) = refl
-all-small (suc (suc zero)) = refl
-all-small (suc (suc (suc zero))) = refl
-all-small (suc (suc (suc (suc zero)))) = refl
-all-small (suc (suc (suc (suc (suc j))))) = refl
+-- what a test says of each of them, it says of the edition of any number: behind the last stands the first
+edition-says : (test : Edition → Bool) → allBelow (λ j. test (getD editions j edition1)) currentEdition ≡ true → (n : ℕ) → test (numbered n) ≡ true
+unfolding allBelow
+edition-says test all n = go (n - 1) (decLt (n - 1) currentEdition)
+  where
+    go : (j : ℕ) → Dec (j < currentEdition) → test (getD editions j edition1) ≡ true
+    go j (yes l) = all-at (λ k. test (getD editions k edition1)) currentEdition j all l
+    go j (no k) =
+        rw (List·getD-eq-default editions edition1 {n = j} (omega arith))
+        (all-at (λ k. test (getD editions k edition1)) currentEdition 0 all (lit< tt))
 
 pub width-small : (n i : ℕ) → i < bodyCount → widthAt (editionAt n) i < 65536
-width-small n i l = ltb-true (widthAt (editionAt n) i) 65536 (all-at (λ j. ltb (widthAt (editionAt n) j) 65536) bodyCount i (all-small (n - 1)) l)
+unfolding allBelow _and_ widthAt
+width-small n i l =
+    let all = edition-says (λ e. allBelow (λ j. ltb (widthAt (held e) j) 65536) bodyCount) refl n in
+    ltb-true (widthAt (editionAt n) i) 65536 (all-at (λ j. ltb (widthAt (editionAt n) j) 65536) bodyCount i all l)
 
 pub size-small : (n : ℕ) → bodiesAt + code (editionAt n) .width < 2 ^ 32
-size-small n = go (n - 1)
-  where
-    go : (j : ℕ) → bodiesAt + code (held (getD editions j edition1)) .width < 2 ^ 32
-    go zero = lit< tt
-    go (suc zero) = lit< tt
-    go (suc (suc zero)) = lit< tt
-    go (suc (suc (suc zero))) = lit< tt
-    go (suc (suc (suc (suc zero)))) = lit< tt
-    go (suc (suc (suc (suc (suc j))))) = lit< tt
+unfolding allBelow _and_
+size-small n = ltb-true _ _ (edition-says (λ e. ltb (bodiesAt + code (held e) .width) (2 ^ 32)) refl n)

@@ -1,5 +1,5 @@
 use native.Mathlib.Omega.{arith}
-use Rattle.saved.proofs.EditionLaws.{blobs-most, blobs-wide}
+use Rattle.saved.proofs.EditionLaws.{blobs-wide}
 use borrow.Author.Needs.{needs}
 use Rattle.saved.proofs.editions.blobs_width.Statement.{statement}
 use Rattle.saved.proofs.editions.blobs_width.Tie as tie

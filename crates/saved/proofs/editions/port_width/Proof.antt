@@ -1,6 +1,11 @@
-use Prim.Native.Nat.{ℕ, _≤_, _<_}
-use native.Mathlib.Omega.{arith}
-use mathlib.Core.Path.{_≡_, refl, sym}
+-- before edition 5, and from it on
+use Prim.Native.Nat.{ℕ}
+use mathlib.Core.Bool.{Bool}
+use mathlib.Core.Path.{refl, sym}
+use lib.Dec.{eqb, ltb}
+use borrow.Author.Tests.{eqb-true, lt-ltb, le-ltb}
+use Rattle.octets.specs.Index.{_and_, allBelow}
+use Rattle.octets.specs.Choice.{_then_otherwise_}
 use Rattle.tables.specs.Places.{portWidth}
 use Rattle.tables.specs.Fields.{portSizeAt}
 use Rattle.saved.specs.Editions.{numbered}
@@ -9,26 +14,22 @@ use Rattle.saved.proofs.EditionLaws.{each-known}
 use Rattle.saved.proofs.editions.port_width.Statement.{statement}
 use Rattle.saved.proofs.editions.port_width.Tie as tie
 
-abbrev Earlier : ℕ → Type 0
-Earlier n = n < 5 → portWidthIn (numbered n) ≡ portSizeAt
-
-abbrev Later : ℕ → Type 0
-Later n = 5 ≤ n → portWidthIn (numbered n) ≡ portWidth
+abbrev dated : ℕ → Bool
+dated n = eqb (portWidthIn (numbered n)) (ltb n 5 then portSizeAt otherwise portWidth)
 
 returns : tie.Need-returns
+unfolding allBelow _and_ _then_otherwise_
 returns c =
     let c1 = c .before in
-    sym
-    (each-known (c1 .args .edition) Earlier (c1 .pre)
-    (λ _. refl) (λ _. refl) (λ _. refl) (λ _. refl) (λ l. absurd (omega (arith, l))) (c .if1 .taken))
+    let said = each-known (c1 .args .edition) dated refl (c1 .pre) in
+    sym (eqb-true _ _ (rw (lt-ltb _ _ (c .if1 .taken)) at said))
 
 returns-2 : tie.Need-returns-2
+unfolding allBelow _and_ _then_otherwise_
 returns-2 c =
     let c1 = c .before in
-    sym
-    (each-known (c1 .args .edition) Later (c1 .pre)
-    (λ l. absurd (omega (arith, l))) (λ l. absurd (omega (arith, l))) (λ l. absurd (omega (arith, l))) (λ l. absurd (omega (arith, l)))
-    (λ _. refl) (c .if1 .left))
+    let said = each-known (c1 .args .edition) dated refl (c1 .pre) in
+    sym (eqb-true _ _ (rw (le-ltb _ _ (c .if1 .left)) at said))
 
 pub port-width-spec : {M : Type 1} → statement M
 port-width-spec = tie.close (tie.spec returns returns-2)
