@@ -87,7 +87,8 @@ module _ (packet : List ℕ) (m : Arrived) (t output : List ℕ) where
       unfolding spreadVerdict leaves _then_otherwise_ viewAt
       spread-sent some short own is n o q1 q2 =
           let same : spreadPacket own packet ≡ sent = ap (λ (x : List ℕ). spreadPacket x packet) is in
-          let goes = or-no (ne-eqb _ 0 (λ z. some (those ∙ z))) (exceeding longestPacket ∙ le-ltb longestPacket (spreadLength packet) (omega (arith, e, short))) in
+          let goes =
+          or-no (ne-eqb _ 0 (λ z. some (those ∙ z))) (exceeding longestPacket ∙ le-ltb longestPacket (spreadLength packet) (omega (arith, e, short))) in
           (ap₂ Spread those (q1 ∙ ap length same) ∙ sym (then-false _ _ goes), q2 ∙ ap (patch output 0) same)
 
 -- ---- all of it

@@ -1,5 +1,5 @@
--- Wish 6's theorems on one destination's announces, on the bytes. The announce that made the path comes again and is a duplicate; a mark is refused by 12 and by
--- 5, and accepted; then the same announce is spread. The path is marked again while it is blocked, and stays so through calls among which packets are
+-- Wish 6's theorems on one destination's announces, on the bytes. The announce that made the path comes again and is a duplicate; a mark is refused by 12 and
+-- by 5, and accepted; then the same announce is spread. The path is marked again while it is blocked, and stays so through calls among which packets are
 -- forwarded, dropped and refused, an older announce with them.
 use Prim.Native.Nat.{ℕ, _≤_}
 use mathlib.Core.Bool.{true}

@@ -1,5 +1,5 @@
--- Demands 1 to 3 and the theorems of wishes 2, 4, 5, 6, 7, 9, 11, 12 and 14, about the bytes. First what keeps a relay one that tables can hold; last the theorems
--- on lists of calls, with what they say computed, so that none can become empty unseen.
+-- Demands 1 to 3 and the theorems of wishes 2, 4, 5, 6, 7, 9, 11, 12 and 14, about the bytes. First what keeps a relay one that tables can hold; last the
+-- theorems on lists of calls, with what they say computed, so that none can become empty unseen.
 pub mod Announced
 pub mod Made
 pub mod Shape

@@ -1,6 +1,6 @@
--- Document 02, wish 13: what each accepted call makes known, and so what is known after a list of them. This is all that documents 01 and 02 say of what a relay
--- keeps, told without a table. How a packet is judged (`plan`) and which records it leaves (`announcedPath`, `returnRecord`, `linkRecord`, `renewedLink`) are the
--- rules' own: they read no table either.
+-- Document 02, wish 13: what each accepted call makes known, and so what is known after a list of them. This is all that documents 01 and 02 say of what a
+-- relay keeps, told without a table. How a packet is judged (`plan`) and which records it leaves (`announcedPath`, `returnRecord`, `linkRecord`,
+-- `renewedLink`) are the rules' own: they read no table either.
 use Prim.Native.Nat.{ℕ, _+_, _-_}
 use mathlib.Core.Bool.{true, false}
 use mathlib.Core.List.{List, [], _∷_}
@@ -76,8 +76,8 @@ afterCall (renumbers images) k = renumberedKnown images k
 afterCall (notes-path note destination clock) k = nowClock clock (changePath destination (withNote note) k)
 
 -- ---- the list, the newest call first
--- An accepted call is a packet that came, dropped or not, or a call on the tables; "none a load, save or replay". A replay is the packets that it brings, one by
--- one. A question changes nothing, and is no entry either.
+-- An accepted call is a packet that came, dropped or not, or a call on the tables; "none a load, save or replay". A replay is the packets that it brings, one
+-- by one. A question changes nothing, and is no entry either.
 pub data Entry : Type 0 where
   came : Arrival → Entry
   called : TableCall → Entry

@@ -40,7 +40,8 @@ announced-by : (v w : View) (a : Arrival) → v .mode (a .port) ≡ w .mode (a .
     → announcedPath v a s ≡ announcedPath w a s
 unfolding announcedPath announcedRate
 announced-by v w a mode rate s =
-    ap₂ (λ (m : ℕ) (r : RateEntry). makePath (destination a) (a .port) (hops a) (nextHopOf (a .bytes)) (a .clock + pathLifetime m) r noNotes (announcedBlobs a s))
+    ap₂
+    (λ (m : ℕ) (r : RateEntry). makePath (destination a) (a .port) (hops a) (nextHopOf (a .bytes)) (a .clock + pathLifetime m) r noNotes (announcedBlobs a s))
     mode (rates s)
   where
     rates : (t : Slot Path) → announcedRate v a t ≡ announcedRate w a t

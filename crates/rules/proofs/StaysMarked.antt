@@ -85,8 +85,8 @@ module _ (d : List ℕ) (expiry : ℕ) where
 
   -- a record is changed where it stands, and keeps destination, expiry and mark
   changed : (change : Path → Path) → ((p : Path) → change p .destination ≡ p .destination) → ((p : Path) → change p .expiry ≡ p .expiry)
-      → ((p : Path) → p .notes .marked ≡ true → change p .notes .marked ≡ true) → (now : ℕ) (slots : List (Slot Path)) → length slots ≡ pathCount → Marked now slots
-      → (j : ℕ) → Marked now (set slots j (renameSlot change (getD slots j empty)))
+      → ((p : Path) → p .notes .marked ≡ true → change p .notes .marked ≡ true) → (now : ℕ) (slots : List (Slot Path))
+      → length slots ≡ pathCount → Marked now slots → (j : ℕ) → Marked now (set slots j (renameSlot change (getD slots j empty)))
   changed change keyed kept stays now slots size m j =
       let (y, low, q, e, so) =
       lowest-changed _ _ pathCount change keyed kept (λ p. p .notes .marked ≡ true) stays now slots size (m .place) (m .path) (m .low) (m .is-marked) j in

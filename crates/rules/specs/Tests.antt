@@ -1,5 +1,6 @@
 -- Document 01, "Judging a packet": tests 1 to 13, each under its own name, and document 02's 15 and 16. Test 6's cases are found in Ways.antt. Document 02,
--- wish 9, on test 14: "Show that no accepted packet reaches it and take it out. Its number isn't used again." What it tested is shown of what leaves: Lengths.antt.
+-- wish 9, on test 14: "Show that no accepted packet reaches it and take it out. Its number isn't used again." What it tested is shown of what leaves:
+-- Lengths.antt.
 use Prim.Native.Nat.{ℕ}
 use mathlib.Core.Bool.{Bool, true, false, not}
 use mathlib.Core.List.{List, []}

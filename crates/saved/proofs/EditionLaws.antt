@@ -556,7 +556,8 @@ module _ (n : ℕ) where
 
   -- what the file has of the first section, written over zeros
   pub start-written : (f t x : List ℕ) → tallyPlace (numbered n) ≤ length f → t ≡ replicate pathsAt 0 → {w : ℕ} → w ≡ startWidth (numbered n)
-      → x ≡ opened w (length (take (portsAt - 0) (drop 0 t)) - length (take (bodiesAt + w - bodiesAt) (drop bodiesAt f))) (take (bodiesAt + w - bodiesAt) (drop bodiesAt f))
+      → x ≡ opened w (length (take (portsAt - 0) (drop 0 t)) - length (take (bodiesAt + w - bodiesAt) (drop bodiesAt f)))
+      (take (bodiesAt + w - bodiesAt) (drop bodiesAt f))
       → putMid 0 (portsAt - 0) t x ≡ startNow (numbered n) f ++ replicate (pathsAt - portsAt) 0
   unfolding startNow
   start-written f t x size is e d =

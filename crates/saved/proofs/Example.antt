@@ -44,8 +44,8 @@ use Rattle.saved.proofs.RoundTrip.{written, written-file, written-editi
 -- ---- what is computed with
 unfoldable pub computing : Unit {0}
 unfolding number numberFrom bigEndian part joined listOf allBelow sumBelow firstOf _and_ _then_otherwise_ widthAt entryBytes contentsBytes
-    loadRefusal loadRows lengthWrong kindWrong kindWrongBy contentsWrong bodiesWrong sizesRight isKnown isKnownBy endRight offsetsRight runningPlace kindOf editionOf
-    countOf offsetOf lengthOf
+    loadRefusal loadRows lengthWrong kindWrong kindWrongBy contentsWrong bodiesWrong sizesRight isKnown isKnownBy endRight offsetsRight
+    runningPlace kindOf editionOf countOf offsetOf lengthOf
 computing = tt
 
 -- ---- a relay's tables and a tally
@@ -184,7 +184,8 @@ short =
     let fits : loadRefusal file tableSize ≡ 0 =
     ap (loadRefusal file) (sym (length-replicate {A = ℕ} tableSize 255)) ∙ sym (load-number file other old) ∙ ap (λ (x : LoadedOn). x .refusal) loaded in
     let wrong : loadRefusal file (length shortTables) ≡ 25 =
-    ap (loadRefusal file) (length-replicate {A = ℕ} (tableSize - 1) 255) ∙ other-size file (tableSize - 1) fits (λ (q : _≡_ {A = ℕ} (tableSize - 1) tableSize). omega (arith, q)) in
+    ap (loadRefusal file) (length-replicate {A = ℕ} (tableSize - 1) 255)
+    ∙ other-size file (tableSize - 1) fits (λ (q : _≡_ {A = ℕ} (tableSize - 1) tableSize). omega (arith, q)) in
     load-refused file shortTables old (λ q. omega (arith, wrong, q))
     ∙ ap (λ (n : ℕ). record { refusal = n; tables = shortTables; tally = old }) wrong
 

@@ -143,9 +143,11 @@ module _ (b : List ℕ) (bytes : Bytes b) (size : length b ≡ returnWidth) wher
   ways h =
       let x : ℕ = number (part b returnArrivalAt 8) in
       let first : number (part b returnArrivalAt 8) ≡ getD b returnArrivalAt 0 * 256 ^ 7 + number (part b returnLeavingAt 7) =
-      number-part b returnArrivalAt 1 7 (omega arith) ∙ ap (λ (k : ℕ). k * 256 ^ 7 + number (part b returnLeavingAt 7)) (number-one b returnArrivalAt (omega arith)) in
+      number-part b returnArrivalAt 1 7 (omega arith)
+      ∙ ap (λ (k : ℕ). k * 256 ^ 7 + number (part b returnLeavingAt 7)) (number-one b returnArrivalAt (omega arith)) in
       let second : number (part b returnLeavingAt 7) ≡ getD b returnLeavingAt 0 * 256 ^ 6 + number (part b returnExpiryAt 6) =
-      number-part b returnLeavingAt 1 6 (omega arith) ∙ ap (λ (k : ℕ). k * 256 ^ 6 + number (part b returnExpiryAt 6)) (number-one b returnLeavingAt (omega arith)) in
+      number-part b returnLeavingAt 1 6 (omega arith)
+      ∙ ap (λ (k : ℕ). k * 256 ^ 6 + number (part b returnExpiryAt 6)) (number-one b returnLeavingAt (omega arith)) in
       let third : number (part b returnExpiryAt 8) ≡ number (part b returnExpiryAt 6) * 256 ^ 2 + number (part b (returnExpiryAt + 6) 2) =
       number-part b returnExpiryAt 6 2 (omega arith) in
       let l1 : x < 2 ^ 60 = ltb-true _ _ (and-left _ _ h) in

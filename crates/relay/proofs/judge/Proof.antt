@@ -87,7 +87,8 @@ act-requires c κs =
     let c10 = c6 .before .before .before .before in
     let c11 = c10 .before in
     let p = s1 c11 .args in
-    let ok = accepted (p .packet .now) (p .port) (p .clock) (p .signed) (p .tables .now) (p .tally) (p .output .now) (accepts c11) _ (same-port c10) refl refl in
+    let ok =
+    accepted (p .packet .now) (p .port) (p .clock) (p .signed) (p .tables .now) (p .tally) (p .output .now) (accepts c11) _ (same-port c10) refl refl in
     let roomy = accepted-roomy _ _ _ _ _ (accepts c11) in
     (record { accepted = ok; roomy = roomy; decided = sym (c .before .before .decide .ensures) }, c6 .used-hash .ensures, c4 .hash-live .ensures)
 

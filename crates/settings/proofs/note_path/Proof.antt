@@ -52,8 +52,8 @@ returns-2 c =
     let c3 = c .before .before .before in
     let a = s1 c3 .args in
     let t = a .tables .now in
-    call-refused (notes-path (a .note) (a .destination) (a .clock)) t (well c3) (known-bytes t (c3 .before .before .before .slice-known .given)) 5 (λ e. omega arith)
-    (note-early t (a .note) (a .destination) (a .clock) (sym (c .before .clock-bad .ensures) ∙ c .if2 .taken))
+    call-refused (notes-path (a .note) (a .destination) (a .clock)) t (well c3) (known-bytes t (c3 .before .before .before .slice-known .given))
+    5 (λ e. omega arith) (note-early t (a .note) (a .destination) (a .clock) (sym (c .before .clock-bad .ensures) ∙ c .if2 .taken))
 
 path-place-requires : tie.Need-path-place-requires
 path-place-requires c κs = size-of (s1 (e1 (c .before)) .args .tables .now) (well (e1 (c .before)))
@@ -67,8 +67,8 @@ returns-3 c =
     let c6 = e1 c3 in
     let a = s1 c6 .args in
     let t = a .tables .now in
-    call-refused (notes-path (a .note) (a .destination) (a .clock)) t (well c6) (known-bytes t (c6 .before .before .before .slice-known .given)) 12 (λ e. omega arith)
-    (note-nowhere t (a .note) (a .destination) (a .clock) _ (c .before .path-place .ensures) (fine c3) (c .if3 .taken))
+    call-refused (notes-path (a .note) (a .destination) (a .clock)) t (well c6) (known-bytes t (c6 .before .before .before .slice-known .given))
+    12 (λ e. omega arith) (note-nowhere t (a .note) (a .destination) (a .clock) _ (c .before .path-place .ensures) (fine c3) (c .if3 .taken))
 
 path-notes-requires : tie.Need-path-notes-requires
 path-notes-requires c κs =

@@ -33,8 +33,8 @@ returns-2 c =
     let a = c .before .before .before .before .before .args in
     let t = a .tables .now in
     let ok = sym (c .before .before .check .ensures) ∙ not-false _ (c .before .if1 .left) in
-    call-refused (sets-port (a .port) (a .on) (a .mode) (a .size)) t ok (known-bytes t (c .before .before .before .before .slice-known .given)) 9 (λ e. omega arith)
-    (rw (or-left _ (le-leb _ _ (c .if2 .taken))))
+    call-refused (sets-port (a .port) (a .on) (a .mode) (a .size)) t ok (known-bytes t (c .before .before .before .before .slice-known .given))
+    9 (λ e. omega arith) (rw (or-left _ (le-leb _ _ (c .if2 .taken))))
 
 cast-if3 : tie.Need-cast-if3
 cast-if3 c = search needs
@@ -48,8 +48,8 @@ returns-3 c =
     let a = c .before .before .before .before .before .before .args in
     let t = a .tables .now in
     let ok = sym (c .before .before .before .check .ensures) ∙ not-false _ (c .before .before .if1 .left) in
-    call-refused (sets-port (a .port) (a .on) (a .mode) (a .size)) t ok (known-bytes t (c .before .before .before .before .before .slice-known .given)) 9 (λ e. omega arith)
-    (rw (or-right _ (or-left _ (le-leb _ _ (c .if3 .taken)))))
+    call-refused (sets-port (a .port) (a .on) (a .mode) (a .size)) t ok (known-bytes t (c .before .before .before .before .before .slice-known .given))
+    9 (λ e. omega arith) (rw (or-right _ (or-left _ (le-leb _ _ (c .if3 .taken)))))
 
 is-size-requires : tie.Need-is-size-requires
 is-size-requires c κs = search needs
@@ -60,17 +60,21 @@ same-length-4 c = search needs
 returns-4 : tie.Need-returns-4
 unfolding ruleOf firstOf _then_otherwise_
 returns-4 c =
-    let a = c .before .before .before .before .before .before .before .before .args in
+    let after-check = c .before .before .before .before .before in
+    let a = after-check .before .before .before .args in
     let t = a .tables .now in
-    let ok = sym (c .before .before .before .before .before .check .ensures) ∙ not-false _ (c .before .before .before .before .if1 .left) in
-    call-refused (sets-port (a .port) (a .on) (a .mode) (a .size)) t ok (known-bytes t (c .before .before .before .before .before .before .before .slice-known .given)) 9 (λ e. omega arith)
-    (rw (or-right _ (or-right _ (ap not (sym (c .before .is-size .ensures)) ∙ c .if4 .taken))))
+    let ok = sym (after-check .check .ensures) ∙ not-false _ (c .before .before .before .before .if1 .left) in
+    call-refused (sets-port (a .port) (a .on) (a .mode) (a .size)) t ok (known-bytes t (after-check .before .before .slice-known .given))
+    9 (λ e. omega arith) (rw (or-right _ (or-right _ (ap not (sym (c .before .is-size .ensures)) ∙ c .if4 .taken))))
 
 cast-put-port : tie.Need-cast-put-port
 cast-put-port c = search needs
 
 put-port-requires : tie.Need-put-port-requires
-put-port-requires c κs = (size-of (c .before .before .before .before .before .before .before .before .before .args .tables .now) (sym (c .before .before .before .before .before .before .check .ensures) ∙ not-false _ (c .before .before .before .before .before .if1 .left)), c .before .before .before .before .if2 .left)
+put-port-requires c κs =
+    let after-check = c .before .before .before .before .before .before in
+    let ok = sym (after-check .check .ensures) ∙ not-false _ (c .before .before .before .before .before .if1 .left) in
+    (size-of (after-check .before .before .before .args .tables .now) ok, c .before .before .before .before .if2 .left)
 
 same-length-5 : tie.Need-same-length-5
 same-length-5 c = search needs
@@ -78,14 +82,17 @@ same-length-5 c = search needs
 returns-5 : tie.Need-returns-5
 unfolding ruleOf firstOf _then_otherwise_
 returns-5 c =
-    let a = c .before .before .before .before .before .before .before .before .before .before .before .before .args in
+    let else2 = c .before .before .before .before .before .before .before in
+    let after-check = else2 .before .before in
+    let a = after-check .before .before .before .args in
     let t = a .tables .now in
-    let ok = sym (c .before .before .before .before .before .before .before .before .before .check .ensures) ∙ not-false _ (c .before .before .before .before .before .before .before .before .if1 .left) in
+    let ok = sym (after-check .check .ensures) ∙ not-false _ (c .before .before .before .before .before .before .before .before .if1 .left) in
     let sized = ap not (sym (c .before .before .before .before .before .is-size .ensures)) ∙ c .before .before .before .before .if4 .left in
     let after =
-    c .before .before .put-port .ensures ∙ port-set t ok (known-bytes t (c .before .before .before .before .before .before .before .before .before .before .before .slice-known .given)) (a .port) (a .on) (a .mode) (a .size) (c .before .before .before .before .before .before .before .if2 .left) in
+    c .before .before .put-port .ensures
+    ∙ port-set t ok (known-bytes t (after-check .before .before .slice-known .given)) (a .port) (a .on) (a .mode) (a .size) (else2 .if2 .left) in
     call-done (sets-port (a .port) (a .on) (a .mode) (a .size)) t ok
-    (rw (or-no (lt-leb _ _ (c .before .before .before .before .before .before .before .if2 .left)) (or-no (lt-leb _ _ (c .before .before .before .before .before .before .if3 .left)) sized))) after
+    (rw (or-no (lt-leb _ _ (else2 .if2 .left)) (or-no (lt-leb _ _ (c .before .before .before .before .before .before .if3 .left)) sized))) after
 
 pub set-port-spec : {M : Type 1} → statement M
 set-port-spec =

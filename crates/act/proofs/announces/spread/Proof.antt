@@ -7,13 +7,18 @@ spread-length-requires : tie.Need-spread-length-requires
 spread-length-requires c κs = search needs
 
 returns : tie.Need-returns
-returns c = spread-long _ _ _ _ (c .before .before .before .before .before .pre .0 .readable) (c .before .before .before .before .before .pre .1) _ (c .before .spread-length .ensures) (c .if1 .taken)
+returns c =
+    let start = c .before .before .before .before .before in
+    spread-long _ _ _ _ (start .pre .0 .readable) (start .pre .1) _ (c .before .spread-length .ensures) (c .if1 .taken)
 
 spread-ports-requires : tie.Need-spread-ports-requires
 spread-ports-requires c κs = search needs
 
 returns-2 : tie.Need-returns-2
-returns-2 c = spread-none _ _ _ _ (c .before .before .before .before .before .before .before .pre .0 .readable) (c .before .before .before .before .before .before .before .pre .1) _ _ (c .before .before .before .spread-length .ensures) (c .before .spread-ports .ensures) (c .if2 .taken)
+returns-2 c =
+    let start = c .before .before .before .before .before .before .before in
+    spread-none _ _ _ _ (start .pre .0 .readable) (start .pre .1) _ _ (c .before .before .before .spread-length .ensures)
+    (c .before .spread-ports .ensures) (c .if2 .taken)
 
 own-address-requires : tie.Need-own-address-requires
 own-address-requires c κs = search needs
@@ -26,7 +31,11 @@ same-length c = search needs
 
 returns-3 : tie.Need-returns-3
 returns-3 c =
-    spread-sent _ _ _ _ (c .before .before .before .before .before .before .before .before .before .before .before .before .pre .0 .readable) (c .before .before .before .before .before .before .before .before .before .before .before .before .pre .1) _ _ (c .before .before .before .before .before .before .before .before .spread-length .ensures) (c .before .before .before .before .before .before .spread-ports .ensures) (c .before .before .before .before .before .if2 .left) (c .before .before .before .before .before .before .before .if1 .left)
+    let else2 = c .before .before .before .before .before in
+    let else1 = else2 .before .before in
+    let start = else1 .before .before .before .before .before in
+    spread-sent _ _ _ _ (start .pre .0 .readable) (start .pre .1) _ _ (else1 .before .spread-length .ensures)
+    (else2 .before .spread-ports .ensures) (else2 .if2 .left) (else1 .if1 .left)
     _ (c .before .before .before .before .own-address .ensures) _ _ (c .before .before .spread .ensures .0) (c .before .before .spread .ensures .1)
 
 pub spread-spec : {M : Type 1} → statement M

@@ -41,8 +41,13 @@ loop-less c = search needs
 
 loop-again : tie.Need-loop-again Inv-loop μ-loop
 loop-again c =
-    let more = set-more (spreadsTo (relayOf (c .before .before .before .before .before .before .before .before .args .tables .now)) (c .before .before .before .before .before .before .before .before .args .arrival) (c .before .before .before .before .before .before .before .before .args .long)) _ (c .before .before .before .before .before .before .loop .inv .1) in
-    (omega arith, c .with-spread-port .ensures ∙ rw (c .before .before .before .port-on .ensures, c .before .before .before .before .wide .ensures, c .before .port-size .ensures, c .before .before .wide2 .ensures) more)
+    let after-port-on = c .before .before .before in
+    let a = after-port-on .before .before .before .before .before .args in
+    let more = set-more (spreadsTo (relayOf (a .tables .now)) (a .arrival) (a .long)) _ (after-port-on .before .before .before .loop .inv .1) in (
+      omega arith,
+      c .with-spread-port .ensures
+          ∙ rw (after-port-on .port-on .ensures, after-port-on .before .wide .ensures, c .before .port-size .ensures, c .before .before .wide2 .ensures) more,
+    )
 
 returns : tie.Need-returns Inv-loop μ-loop
 returns c = set-end _ _ (c .before .loop .inv .1) (c .before .loop .inv .0) (c .loop-test .left)

@@ -38,9 +38,10 @@ returns-2 c = sym (refused-short _ _ (sym (c .before .before .is-size .ensures) 
 returns-3 : tie.Need-returns-3
 unfolding readingRefusal readingRows firstOf _then_otherwise_
 returns-3 c =
-    let n = length (c .before .before .before .before .before .args .packet .now) in
-    let sized : isSize (c .before .before .before .before .before .args .size) ≡ true = sym (c .before .before .before .is-size .ensures) ∙ not-false _ (c .before .before .if1 .left) in
-    rw (sized, le-ltb n 19 (c .before .if2 .left), lt-ltb (c .before .before .before .before .before .args .size) n (c .if3 .taken))
+    let start = c .before .before .before .before .before in
+    let n = length (start .args .packet .now) in
+    let sized : isSize (start .args .size) ≡ true = sym (c .before .before .before .is-size .ensures) ∙ not-false _ (c .before .before .if1 .left) in
+    rw (sized, le-ltb n 19 (c .before .if2 .left), lt-ltb (start .args .size) n (c .if3 .taken))
 
 shared-slice-read-header : tie.Need-shared-slice-read-header
 shared-slice-read-header c = search needs
@@ -51,32 +52,43 @@ access-code-requires c κs = search needs
 returns-4 : tie.Need-returns-4
 unfolding readingRefusal readingRows firstOf _then_otherwise_
 returns-4 c =
-    let n = length (c .before .before .before .before .before .before .before .before .args .packet .now) in
-    let sized : isSize (c .before .before .before .before .before .before .before .before .args .size) ≡ true = sym (c .before .before .before .before .before .before .is-size .ensures) ∙ not-false _ (c .before .before .before .before .before .if1 .left) in
-    let code : accessCode (headerOf (c .before .before .before .before .before .before .before .before .args .packet .now)) ≡ true = sym (c .before .access-code .ensures) ∙ c .if4 .taken in
-    rw (sized, le-ltb n 19 (c .before .before .before .before .if2 .left), le-ltb (c .before .before .before .before .before .before .before .before .args .size) n (c .before .before .before .if3 .left), code)
+    let else1 = c .before .before .before .before .before in
+    let start = else1 .before .before .before in
+    let n = length (start .args .packet .now) in
+    let sized : isSize (start .args .size) ≡ true = sym (else1 .before .is-size .ensures) ∙ not-false _ (else1 .if1 .left) in
+    let code : accessCode (headerOf (start .args .packet .now)) ≡ true = sym (c .before .access-code .ensures) ∙ c .if4 .taken in
+    rw (sized, le-ltb n 19 (c .before .before .before .before .if2 .left), le-ltb (start .args .size) n (c .before .before .before .if3 .left), code)
 
 type-two-requires : tie.Need-type-two-requires
 type-two-requires c κs = search needs
 
 returns-5 : tie.Need-returns-5
 returns-5 c =
-    let sized = sym (c .before .before .before .before .before .before .before .before .before .is-size .ensures) ∙ not-false _ (c .before .before .before .before .before .before .before .before .if1 .left) in
-    let last = last-row _ _ sized (c .before .before .before .before .before .before .before .if2 .left) (c .before .before .before .before .before .before .if3 .left) (sym (c .before .before .before .before .access-code .ensures) ∙ c .before .before .before .if4 .left) in
+    let else4 = c .before .before .before in
+    let else3 = else4 .before .before .before in
+    let else1 = else3 .before .before in
+    let sized = sym (else1 .before .is-size .ensures) ∙ not-false _ (else1 .if1 .left) in
+    let last = last-row _ _ sized (else3 .before .if2 .left) (else3 .if3 .left) (sym (else4 .before .access-code .ensures) ∙ else4 .if4 .left) in
     let two = sym (c .before .before .type-two .ensures) ∙ c .before .if5 .taken in
     sym (last ∙ then-true 1 0 (and-yes _ two ∙ lt-ltb _ 35 (c .if6 .taken)))
 
 returns-6 : tie.Need-returns-6
 returns-6 c =
-    let sized = sym (c .before .before .before .before .before .before .before .before .before .is-size .ensures) ∙ not-false _ (c .before .before .before .before .before .before .before .before .if1 .left) in
-    let last = last-row _ _ sized (c .before .before .before .before .before .before .before .if2 .left) (c .before .before .before .before .before .before .if3 .left) (sym (c .before .before .before .before .access-code .ensures) ∙ c .before .before .before .if4 .left) in
+    let else4 = c .before .before .before in
+    let else3 = else4 .before .before .before in
+    let else1 = else3 .before .before in
+    let sized = sym (else1 .before .is-size .ensures) ∙ not-false _ (else1 .if1 .left) in
+    let last = last-row _ _ sized (else3 .before .if2 .left) (else3 .if3 .left) (sym (else4 .before .access-code .ensures) ∙ else4 .if4 .left) in
     let two = sym (c .before .before .type-two .ensures) ∙ c .before .if5 .taken in
     sym (last ∙ then-false 1 0 (and-yes _ two ∙ le-ltb _ 35 (c .if6 .left)))
 
 returns-7 : tie.Need-returns-7
 returns-7 c =
-    let sized = sym (c .before .before .before .before .before .before .before .before .is-size .ensures) ∙ not-false _ (c .before .before .before .before .before .before .before .if1 .left) in
-    let last = last-row _ _ sized (c .before .before .before .before .before .before .if2 .left) (c .before .before .before .before .before .if3 .left) (sym (c .before .before .before .access-code .ensures) ∙ c .before .before .if4 .left) in
+    let else4 = c .before .before in
+    let else3 = else4 .before .before .before in
+    let else1 = else3 .before .before in
+    let sized = sym (else1 .before .is-size .ensures) ∙ not-false _ (else1 .if1 .left) in
+    let last = last-row _ _ sized (else3 .before .if2 .left) (else3 .if3 .left) (sym (else4 .before .access-code .ensures) ∙ else4 .if4 .left) in
     sym (last ∙ then-false 1 0 (and-no _ (sym (c .before .type-two .ensures) ∙ c .if5 .left)))
 
 pub reading-refusal-spec : {M : Type 1} → statement M

@@ -13,7 +13,8 @@ exempt-requires c κs = search needs
 returns : tie.Need-returns
 returns c =
     let s = c .before .before .before .before in
-    sym (exempt-not-live (relayOf (s .args .tables .now)) (arrivalOf (s .args .packet .now) (s .args .arrived)) (sym (c .before .exempt .ensures) ∙ c .if1 .taken))
+    sym (exempt-not-live (relayOf (s .args .tables .now)) (arrivalOf (s .args .packet .now) (s .args .arrived))
+    (sym (c .before .exempt .ensures) ∙ c .if1 .taken))
 
 hash-place-requires : tie.Need-hash-place-requires
 hash-place-requires c κs = search needs

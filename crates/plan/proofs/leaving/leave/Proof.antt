@@ -30,14 +30,18 @@ port-size-requires c κs = search needs
 
 returns-2 : tie.Need-returns-2
 returns-2 c =
-    let on = c .before .before .before .before .port-on .ensures ∙ ap (portOn (relayOf (c .before .before .before .before .before .before .before .args .tables .now))) (c .before .before .before .before .before .wide .ensures) in
-    let size = c .before .port-size .ensures ∙ ap (portSize (relayOf (c .before .before .before .before .before .before .before .args .tables .now))) (c .before .before .wide2 .ensures) in
+    let after-port-on = c .before .before .before .before in
+    let start = after-port-on .before .before .before in
+    let on = after-port-on .port-on .ensures ∙ ap (portOn (relayOf (start .args .tables .now))) (after-port-on .before .wide .ensures) in
+    let size = c .before .port-size .ensures ∙ ap (portSize (relayOf (start .args .tables .now))) (c .before .before .wide2 .ensures) in
     leaving-long _ _ _ _ (sym on ∙ not-false _ (c .before .before .before .if1 .left)) (omega (arith, size, c .if2 .taken))
 
 returns-3 : tie.Need-returns-3
 returns-3 c =
-    let on = c .before .before .before .before .port-on .ensures ∙ ap (portOn (relayOf (c .before .before .before .before .before .before .before .args .tables .now))) (c .before .before .before .before .before .wide .ensures) in
-    let size = c .before .port-size .ensures ∙ ap (portSize (relayOf (c .before .before .before .before .before .before .before .args .tables .now))) (c .before .before .wide2 .ensures) in
+    let after-port-on = c .before .before .before .before in
+    let start = after-port-on .before .before .before in
+    let on = after-port-on .port-on .ensures ∙ ap (portOn (relayOf (start .args .tables .now))) (after-port-on .before .wide .ensures) in
+    let size = c .before .port-size .ensures ∙ ap (portSize (relayOf (start .args .tables .now))) (c .before .before .wide2 .ensures) in
     leaving-on _ _ _ _ (sym on ∙ not-false _ (c .before .before .before .if1 .left)) (omega (arith, size, c .if2 .left))
 
 pub leave-spec : {M : Type 1} → statement M

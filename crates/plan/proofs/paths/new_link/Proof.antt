@@ -19,7 +19,9 @@ number-of-8-at-requires-2 : tie.Need-number-of-8-at-requires-2
 number-of-8-at-requires-2 c κs = search needs
 
 returns : tie.Need-returns
-returns c = link-room _ _ _ _ (c .before .before .before .before .before .free-link .ensures) (c .before .before .number-of-8-at .ensures) (c .number-of-8-at2 .ensures) (c .before .before .before .before .if1 .taken)
+returns c =
+    let then1 = c .before .before .before .before in
+    link-room _ _ _ _ (then1 .before .free-link .ensures) (c .before .before .number-of-8-at .ensures) (c .number-of-8-at2 .ensures) (then1 .if1 .taken)
 
 returns-2 : tie.Need-returns-2
 returns-2 c = link-full _ _ _ _ (c .before .free-link .ensures) (c .if1 .left)

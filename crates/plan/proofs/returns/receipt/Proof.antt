@@ -17,7 +17,9 @@ leave-requires : tie.Need-leave-requires
 leave-requires c κs = search needs
 
 returns-2 : tie.Need-returns-2
-returns-2 c = c .leave .ensures ∙ receipt-right-side _ _ _ _ _ (c .before .before .before .return-leaving .ensures) (c .before .before .if1 .left) (c .before .return-arrival .ensures)
+returns-2 c =
+    c .leave .ensures
+    ∙ receipt-right-side _ _ _ _ _ (c .before .before .before .return-leaving .ensures) (c .before .before .if1 .left) (c .before .return-arrival .ensures)
 
 pub receipt-spec : {M : Type 1} → statement M
 receipt-spec =

@@ -55,16 +55,17 @@ returns-5 c =
     (rw (← c .before .last-clock .ensures) (c .if5 .taken))
 
 port-size-requires : tie.Need-port-size-requires
-port-size-requires c κs = formed _ (sym (c .before .before .before .before .before .before .before .check .ensures) ∙ not-false _ (c .before .before .before .before .before .before .if1 .left)) .size
+port-size-requires c κs = formed _ (well (c .before .before .before .before .before .before)) .size
 
 reading-refusal-requires : tie.Need-reading-refusal-requires
 reading-refusal-requires c κs = search needs
 
 returns-6 : tie.Need-returns-6
 returns-6 c =
+    let c5 = c .before .before .before .before .before in
     c .reading-refusal .ensures
-    ∙ ap (λ (size : ℕ). readingRefusal size (c .before .before .before .before .before .before .before .before .before .before .before .before .args .packet .now)) (c .before .port-size .ensures)
-    ∙ refused-reading _ _ _ _ _ (sym (c .before .before .before .before .before .before .before .before .before .check .ensures) ∙ not-false _ (c .before .before .before .before .before .before .before .before .if1 .left)) (c .before .before .before .before .before .before .before .if2 .left) (sym (c .before .before .before .before .before .before .port-on .ensures) ∙ not-false _ (c .before .before .before .before .before .if3 .left))
+    ∙ ap (λ (size : ℕ). readingRefusal size (s3 c5 .args .packet .now)) (c .before .port-size .ensures)
+    ∙ refused-reading _ _ _ _ _ (well (c5 .before .before .before)) (c5 .before .before .if2 .left) (on c5)
     (c .before .before .before .before .if4 .left) (rw (← c .before .before .before .last-clock .ensures) (c .before .before .if5 .left))
 
 pub refusal-spec : {M : Type 1} → statement M

@@ -52,7 +52,8 @@ returns c =
     let f = a .file .now in
     let t = taken f (length (a .tables .now)) (c .before .before .before .before .before .before .before .before .before .pre) in
     c .before .before .copy .ensures
-    ∙ current-held f (c .before .before .before .before .before .if1 .taken) _ t (known-bytes f (c .before .before .before .before .before .before .before .before .shared-slice-known .given))
+    ∙ current-held f (c .before .before .before .before .before .if1 .taken) _ t
+    (known-bytes f (c .before .before .before .before .before .before .before .before .shared-slice-known .given))
 
 shared-slice-read-write-tables : tie.Need-shared-slice-read-write-tables
 shared-slice-read-write-tables c =
@@ -78,7 +79,8 @@ returns-2 c =
     let a = c .before .before .before .before .before .before .before .before .before .args in
     let f = a .file .now in
     let t = taken f (length (a .tables .now)) (c .before .before .before .before .before .before .before .before .before .pre) in
-    c .before .before .write-tables .ensures ∙ tables-held f _ t (known-bytes f (c .before .before .before .before .before .before .before .before .shared-slice-known .given))
+    c .before .before .write-tables .ensures
+    ∙ tables-held f _ t (known-bytes f (c .before .before .before .before .before .before .before .before .shared-slice-known .given))
 
 pub write-held-spec : {M : Type 1} → statement M
 write-held-spec =

@@ -17,12 +17,18 @@ ports-place-requires c κs = search needs
 
 mul-at : tie.Need-mul-at
 mul-at c =
-    let room = port-room (c .before .before .before .args .edition) (c .before .before .before .args .file .now) (c .before .before .before .pre .1) (c .before .before .before .args .i) (c .before .before .before .pre .2) (c .before .port-width .ensures) (c .ports-place .ensures) in
+    let start = c .before .before .before in
+    let a = start .args in
+    let room = port-room (a .edition) (a .file .now) (start .pre .1) (a .i) (start .pre .2)
+    (c .before .port-width .ensures) (c .ports-place .ensures) in
     search needs
 
 add-at : tie.Need-add-at
 add-at c =
-    let room = port-room (c .before .before .before .args .edition) (c .before .before .before .args .file .now) (c .before .before .before .pre .1) (c .before .before .before .args .i) (c .before .before .before .pre .2) (c .before .port-width .ensures) (c .ports-place .ensures) in
+    let start = c .before .before .before in
+    let a = start .args in
+    let room = port-room (a .edition) (a .file .now) (start .pre .1) (a .i) (start .pre .2)
+    (c .before .port-width .ensures) (c .ports-place .ensures) in
     search needs
 
 slice-aggregate-copy-at : tie.Need-slice-aggregate-copy-at
@@ -30,7 +36,10 @@ slice-aggregate-copy-at c = search needs
 
 add-copy-at : tie.Need-add-copy-at
 add-copy-at c =
-    let room = port-room (c .before .before .before .before .args .edition) (c .before .before .before .before .args .file .now) (c .before .before .before .before .pre .1) (c .before .before .before .before .args .i) (c .before .before .before .before .pre .2) (c .before .before .port-width .ensures) (c .before .ports-place .ensures) in
+    let start = c .before .before .before .before in
+    let a = start .args in
+    let room = port-room (a .edition) (a .file .now) (start .pre .1) (a .i) (start .pre .2)
+    (c .before .before .port-width .ensures) (c .before .ports-place .ensures) in
     search needs
 
 sub-copy-at : tie.Need-sub-copy-at
@@ -41,21 +50,30 @@ part-copy-at-start c = search needs
 
 part-copy-at-end : tie.Need-part-copy-at-end
 part-copy-at-end c =
-    let room = port-room (c .before .before .before .before .args .edition) (c .before .before .before .before .args .file .now) (c .before .before .before .before .pre .1) (c .before .before .before .before .args .i) (c .before .before .before .before .pre .2) (c .before .before .port-width .ensures) (c .before .ports-place .ensures) in
+    let start = c .before .before .before .before in
+    let a = start .args in
+    let room = port-room (a .edition) (a .file .now) (start .pre .1) (a .i) (start .pre .2)
+    (c .before .before .port-width .ensures) (c .before .ports-place .ensures) in
     search needs
 
 copy-at-requires : tie.Need-copy-at-requires
 copy-at-requires c κs =
-    let room = port-room (c .before .before .before .before .before .args .edition) (c .before .before .before .before .before .args .file .now) (c .before .before .before .before .before .pre .1) (c .before .before .before .before .before .args .i) (c .before .before .before .before .before .pre .2) (c .before .before .before .port-width .ensures) (c .before .before .ports-place .ensures) in
-    let long = range-length (c .before .before .before .before .before .args .file .now) _ (c .before .before .before .port-width .result) room in
-    let most = port-most (c .before .before .before .before .before .args .edition) in
+    let start = c .before .before .before .before .before in
+    let a = start .args in
+    let room = port-room (a .edition) (a .file .now) (start .pre .1) (a .i) (start .pre .2)
+    (c .before .before .before .port-width .ensures) (c .before .before .ports-place .ensures) in
+    let long = range-length (a .file .now) _ (c .before .before .before .port-width .result) room in
+    let most = port-most (a .edition) in
     omega (arith, long, most, c .before .before .before .port-width .ensures)
 
 returns : tie.Need-returns
 unfolding portBytes markOf bigEndian _then_otherwise_
 returns c =
+    let start = c .before .before .before .before .before .before .before in
+    let a = start .args in
     c .before .copy-at .ensures
-    ∙ port-filled (c .before .before .before .before .before .before .before .args .edition) (c .before .before .before .before .before .before .before .args .file .now) (c .before .before .before .before .before .before .before .pre .1) (c .before .before .before .before .before .before .before .args .i) (c .before .before .before .before .before .before .before .pre .2) (c .before .before .before .before .before .port-width .ensures) (c .before .before .before .before .ports-place .ensures) _ refl
+    ∙ port-filled (a .edition) (a .file .now) (start .pre .1) (a .i) (start .pre .2)
+    (c .before .before .before .before .before .port-width .ensures) (c .before .before .before .before .ports-place .ensures) _ refl
 
 pub port-now-spec : {M : Type 1} → statement M
 port-now-spec =

@@ -46,7 +46,8 @@ add-open : tie.Need-add-open
 add-open c =
     let c5 = c .before .before .before .before .before in
     let a = c5 .args in
-    let room = path-room (a .edition) (a .file .now) (c5 .pre .1) (a .i) (c5 .pre .2) (c .before .before .path-width .ensures) (c .before .paths-place .ensures) in
+    let room =
+    path-room (a .edition) (a .file .now) (c5 .pre .1) (a .i) (c5 .pre .2) (c .before .before .path-width .ensures) (c .before .paths-place .ensures) in
     search needs
 
 sub-open : tie.Need-sub-open
@@ -59,7 +60,8 @@ part-open-end : tie.Need-part-open-end
 part-open-end c =
     let c5 = c .before .before .before .before .before in
     let a = c5 .args in
-    let room = path-room (a .edition) (a .file .now) (c5 .pre .1) (a .i) (c5 .pre .2) (c .before .before .path-width .ensures) (c .before .paths-place .ensures) in
+    let room =
+    path-room (a .edition) (a .file .now) (c5 .pre .1) (a .i) (c5 .pre .2) (c .before .before .path-width .ensures) (c .before .paths-place .ensures) in
     search needs
 
 before-blobs-requires : tie.Need-before-blobs-requires

@@ -56,12 +56,13 @@ same-length c = search needs
 returns : tie.Need-returns
 unfolding part
 returns c =
-    let a = c .before .before .before .before .before .before .before .before .before .before .before .before .args in
+    let start = c .before .before .before .before .before .before .before .before .before .before .before .before in
+    let a = start .args in
     let room = a .room .now in
     let tables = a .tables .now in
     c .before .before .copy-at2 .ensures
     ∙ ap (λ (r : List ℕ). patch r 64 (part tables 12 (tableSize - 12))) (c .before .before .before .before .before .before .before .copy-at .ensures)
-    ∙ in-two room tables 12 (c .before .before .before .before .before .before .before .before .before .before .before .before .pre .0) (omega arith) (c .before .before .before .before .before .before .before .before .before .before .before .before .pre .1)
+    ∙ in-two room tables 12 (start .pre .0) (omega arith) (start .pre .1)
 
 pub copy-tables-spec : {M : Type 1} → statement M
 copy-tables-spec =

@@ -42,10 +42,13 @@ same-length c = search needs
 returns : tie.Need-returns
 unfolding portBytes
 returns c =
-    let a = c .before .before .before .before .before .before .before .before .before .before .before .before .before .before .args in
+    let after-set-at2 = c .before .before .before .before .before .before in
+    let after-set-at = after-set-at2 .before .before .before .before in
+    let start = after-set-at .before .before .before .before in
+    let a = start .args in
     let at : ℕ = portsAt + portWidth * a .port in
-    rw (c .before .before .write-number-at .ensures, c .before .before .before .before .before .before .set-at2 .ensures, c .before .before .before .before .before .before .before .before .before .before .set-at .ensures, c .before .before .before .before .before .before .before .before .before .before .before .mark-of .ensures)
-    (fields-written portForm (makePort (a .on) (a .mode) (a .size)) (a .tables .now) at (omega (arith, c .before .before .before .before .before .before .before .before .before .before .before .before .before .before .pre .0, c .before .before .before .before .before .before .before .before .before .before .before .before .before .before .pre .1)))
+    rw (c .before .before .write-number-at .ensures, after-set-at2 .set-at2 .ensures, after-set-at .set-at .ensures, after-set-at .before .mark-of .ensures)
+    (fields-written portForm (makePort (a .on) (a .mode) (a .size)) (a .tables .now) at (omega (arith, start .pre .0, start .pre .1)))
 
 pub put-port-spec : {M : Type 1} → statement M
 put-port-spec =

@@ -32,7 +32,8 @@ returns-3 : tie.Need-returns-3
 unfolding portOk portOf
 returns-3 c =
     sym
-    (port-test _ ∙ and-yes _ (lt-ltb _ _ (c .before .before .before .before .if1 .left)) ∙ and-yes _ (lt-ltb _ _ (c .before .before .if2 .left)) ∙ sym (c .is-size .ensures ∙ ap isSize (c .before .number-at .ensures)))
+    (port-test _ ∙ and-yes _ (lt-ltb _ _ (c .before .before .before .before .if1 .left))
+    ∙ and-yes _ (lt-ltb _ _ (c .before .before .if2 .left)) ∙ sym (c .is-size .ensures ∙ ap isSize (c .before .number-at .ensures)))
 
 pub port-ok-spec : {M : Type 1} → statement M
 port-ok-spec =

@@ -57,7 +57,8 @@ loop-again c =
 returns-2 : tie.Need-returns-2 Inv-loop μ-loop
 returns-2 c =
     let c3 = c .before .before .before in
-    ended (λ (k : ℕ). recordsOk pathBytesOk (c3 .args .at) pathWidth k (c3 .args .t .now)) (c .before .loop .inv .0) (c .loop-test .left) (c .before .loop .inv .1)
+    ended (λ (k : ℕ). recordsOk pathBytesOk (c3 .args .at) pathWidth k (c3 .args .t .now))
+    (c .before .loop .inv .0) (c .loop-test .left) (c .before .loop .inv .1)
 
 pub paths-each-spec : {M : Type 1} → statement M
 paths-each-spec =

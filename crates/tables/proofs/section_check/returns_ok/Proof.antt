@@ -37,7 +37,8 @@ return-group-ok-requires c κs = search needs
 returns : tie.Need-returns Inv-loop μ-loop
 returns c =
     let c3 = c .before .before .before in
-    rows-fail returnBytesOk _ returnWidth groupSize _ (c3 .loop .g) (c .before .return-group-ok .ensures) (c3 .loop .inv .1) returnCount (omega arith) (c .if1 .taken)
+    rows-fail returnBytesOk _ returnWidth groupSize _ (c3 .loop .g) (c .before .return-group-ok .ensures) (c3 .loop .inv .1)
+    returnCount (omega arith) (c .if1 .taken)
 
 add-g : tie.Need-add-g Inv-loop μ-loop
 add-g c = search needs
