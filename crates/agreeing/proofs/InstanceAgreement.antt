@@ -1,5 +1,6 @@
--- `engine-and-core` on two lists of calls, from a fresh log and fresh tables, with each reply of both written out: to settings, and to packets that are spread,
--- forwarded, delivered, dropped and refused. The replies are computed by the rules, call by call, and are the engine's by `second-opinion`.
+-- `engine-and-core` on two lists of calls, from a fresh log and fresh tables. Of the first each reply of both is written out: to settings, and to packets that are
+-- spread, forwarded, delivered, dropped and refused; of the second the engine's, and the core's with 6.3 told as 6.2. The replies are computed by the rules,
+-- call by call, and are the engine's by `second-opinion`.
 use Prim.Native.Nat.{ℕ, _+_, _^_}
 use mathlib.Core.Bool.{true, false}
 use mathlib.Core.List.{List, [], _∷_, _++_, map}
@@ -161,7 +162,7 @@ core-answers =
     let alike = core-said own sixteen calls newTally given none-load refl (lit≤ tt) answers engine-answers in
     sym (replies-fine (repliesOn calls (bytesOf (fresh own)) newTally) (ap noneSaysNoPath alike)) ∙ alike
 
--- ---- the second list: history's day, whose last packet finds an ended path. The core says 6.3, and the engine 6.2
+-- ---- the second list: history's day, whose last packet finds an ended path: 6.3 by the rules, which the engine tells as 6.2
 given-day : CallsBytes day
 unfolding EachCall CallBytes ruleOf isBytes isByte tableOk all _and_
 given-day = (

@@ -104,7 +104,7 @@ abbrev pub edition2 : Edition
 edition2 =
     record { rateSettings = rateSettingsForm; rateEntry = rateEntryForm; notes = given noNotes; blobRoom = olderRoom; portSize = olderSize }
 
--- wish 6: "saved tables take edition 3"
+-- wish 6: "saved tables take edition 3". Its notes are the mark alone: this form stays where `Notes` grows
 abbrev pub edition3 : Edition
 edition3 = record { rateSettings = rateSettingsForm; rateEntry = rateEntryForm; notes = notesForm; blobRoom = olderRoom; portSize = olderSize }
 

@@ -81,7 +81,7 @@ pub fn four_hashes_plain(t: &[u8], at: usize) -> bool
 }
 
 // What is left to test of four records whose ports and times are plain, as those of unused ones are. A mark is looked
-// at once, and of a used record no more than it.
+// at once, and of a used record, as the compiler has it, no more.
 pub fn four_used_or_zero(t: &[u8], at: usize, width: usize) -> bool
     requires { ⌜ (16 ≤ width) × (at + width * 4 ≤ length (now t)) ⌝ }
     ensures { λ r. ⌜ r ≡ recordsOk usedOrZero at width 4 (now (t .entry)) ⌝ }

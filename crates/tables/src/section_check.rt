@@ -2,7 +2,7 @@
 // has at other places. What is all zeros is passed by one OR over its bytes: links as a whole, for these fill from
 // their first place on; paths, whose records are wide, in groups, and returns and hashes in larger ones, where four
 // records spread over the group are unused. A group whose returns or hashes are all plain is passed by fours; in
-// any other four records are tested for plain ports and times at once, and then each for its mark and zeros.
+// any other, four records are tested for plain ports and times at once, and then each for its mark and zeros.
 use super::fields::HASH_EXPIRY_AT;
 use super::fields::RETURN_ARRIVAL_AT;
 use super::places::CLOCK_AT;
