@@ -45,7 +45,7 @@ install: lib
 dist: lib
 	@scripts/dist
 
-## make test       the gate: proves all from nothing, then tests       half an hour on two processors
+## make test       the gate: proves all from nothing, then tests       forty minutes on two processors
 test:
 	@scripts/test
 
