@@ -1,6 +1,6 @@
--- `engine-and-core` on two lists of calls, from a fresh log and fresh tables. Of the first each reply of both is written out: to settings, and to packets that are
--- spread, forwarded, delivered, dropped and refused; of the second the engine's, and the core's with 6.3 told as 6.2. The replies are computed by the rules,
--- call by call, and are the engine's by `second-opinion`.
+-- `engine-and-core` on two lists of calls, from a fresh log and fresh tables. Of the first each reply of both is written out: to settings, and to packets
+-- that are spread, forwarded, delivered, dropped and refused; of the second the engine's, and the core's with 6.3 told as 6.2. The replies are computed by
+-- the rules, call by call, and are the engine's by `second-opinion`.
 use Prim.Native.Nat.{ℕ, _+_, _^_}
 use mathlib.Core.Bool.{true, false}
 use mathlib.Core.List.{List, [], _∷_, _++_, map}
