@@ -12,7 +12,8 @@ use Rattle.octets.proofs.Index.{and-both, and-no, and-false}
 use Rattle.octets.proofs.Choice.{eq-same}
 use Rattle.octets.proofs.Bytes.{nil-bytes}
 use Rattle.packet.specs.Hash.{packetHash}
-use Rattle.rules.specs.Relay.{noNotes, makePath, makeRateEntry, used, Path, withPathMark, Return, Relay, fresh}
+use Rattle.notes.specs.Notes.{noNotes}
+use Rattle.rules.specs.Relay.{makePath, makeRateEntry, used, Path, withPathMark, Return, Relay, fresh}
 use Rattle.rules.specs.View.{View, viewAt}
 use Rattle.rules.specs.Rate.{startsAt}
 use Rattle.rules.specs.Refusals.{all, tableOk, packetRefusal}

@@ -11,7 +11,8 @@ use Rattle.numbers.specs.Numbers.{longestPacket, blobLimit}
 use Rattle.packet.specs.Header.{isLinkRequest}
 use Rattle.packet.specs.Read.{headerOf, partsOf}
 use Rattle.packet.specs.Hash.{linkId}
-use Rattle.rules.specs.Relay.{Slot, empty, used, Path, Return, Blobs, makeNotes, makePath, makeReturn}
+use Rattle.notes.specs.Notes.{makeNotes}
+use Rattle.rules.specs.Relay.{Slot, empty, used, Path, Return, Blobs, makePath, makeReturn}
 use Rattle.rules.specs.View.{View}
 use Rattle.rules.specs.Arrival.{Arrival, destination, hash}
 use Rattle.rules.specs.Refusals.{rateSettingsOk, rateEntryOk}

@@ -11,7 +11,8 @@ use Rattle.numbers.specs.Numbers.{live, pathLifetime}
 use Rattle.packet.specs.Read.{longestPacket, headerOf, payloadStart, payload, reads}
 use Rattle.packet.specs.Hash.{linkId}
 use Rattle.packet.proofs.ReadLaws.{reads-readable}
-use Rattle.rules.specs.Relay.{Slot, empty, used, Path, Return, noNotes, makePath, withPathPort, withPathRate, withPathMark, withLinkPorts, withReturnPorts}
+use Rattle.notes.specs.Notes.{noNotes}
+use Rattle.rules.specs.Relay.{Slot, empty, used, Path, Return, makePath, withPathPort, withPathRate, withPathMark, withLinkPorts, withReturnPorts}
 use Rattle.rules.specs.View.{View}
 use Rattle.rules.specs.Renumbering.{image, renamePath, renameLink, renameReturn, renameSlot}
 use Rattle.rules.specs.Arrival.{Arrival, hops, destination}

@@ -12,7 +12,7 @@ use super::log::entry_at;
 use super::log::kind_in;
 use super::log::packet_in;
 use super::seeing::seen;
-use super::writing::mark_of;
+use codes::mark_of;
 use judging::Planned;
 use judging::SeenWay;
 use judging::plan_of;

@@ -25,9 +25,10 @@ use Rattle.codes.proofs.Forms.{lawful}
 use Rattle.codes.proofs.Same.{Same, same-byte}
 use Rattle.recording.proofs.Sums.{joined-each-bytes, patch-three, part-last, part-front, part-back}
 use Rattle.numbers.specs.Numbers.{longestPacket, isSize, portCount, localCount, pathCount, blobLimit}
-use Rattle.rules.specs.Relay.{freshPort, noPort, noRateSettings, noRateEntry, noNotes, empty}
+use Rattle.notes.specs.Notes.{noNotes, notesForm}
+use Rattle.rules.specs.Relay.{freshPort, noPort, noRateSettings, noRateEntry, empty}
 use Rattle.rules.specs.Refusals.{timeOk, rateSettingsOk, portOk}
-use Rattle.tables.specs.Forms.{BlobRoom, Edition, addressWidth, timeWidth, blobWidth, sizeWidth, rateSettingsForm, rateEntryForm, notesForm, portFormOf, portFormIn, portForm, localForm, headForm, pathFormIn, backForm, relayFormOf, relayFormIn}
+use Rattle.tables.specs.Forms.{BlobRoom, Edition, addressWidth, timeWidth, blobWidth, sizeWidth, rateSettingsForm, rateEntryForm, portFormOf, portFormIn, portForm, localForm, headForm, pathFormIn, backForm, relayFormOf, relayFormIn}
 use Rattle.tables.specs.Places.{portWidth, localWidth, pathWidth, clockAt, rateAt, portsAt, localsAt, pathsAt, linksAt, backWidth, tableSize}
 use Rattle.tables.specs.Fields.{portSizeAt, pathBlobsAt, blobsWidth}
 use Rattle.tables.specs.Records.{portBytes, portBytesOk, localBytesOk}

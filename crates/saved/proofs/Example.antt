@@ -19,7 +19,8 @@ use Rattle.codes.specs.Codes.{fill}
 use Rattle.codes.specs.Form.{octetsIn, many, slot, code}
 use Rattle.recording.specs.Shape.{kindOf, editionOf, countOf, offsetOf, lengthOf, sumBelow, runningPlace, offsetsRight, endRight}
 use Rattle.numbers.specs.Numbers.{longestPacket, portCount, blobLimit}
-use Rattle.rules.specs.Relay.{freshPort, noPort, noRateSettings, noRateEntry, noNotes, Slot, empty, used, Path, makePath, Relay}
+use Rattle.notes.specs.Notes.{noNotes}
+use Rattle.rules.specs.Relay.{freshPort, noPort, noRateSettings, noRateEntry, Slot, empty, used, Path, makePath, Relay}
 use Rattle.rules.specs.Blobs.{noBlob}
 use Rattle.rules.specs.Refusals.{tablesOk}
 use Rattle.rules.specs.declared.Tally.{Tally}
@@ -29,7 +30,7 @@ use Rattle.rules.proofs.Outcomes.{relayOf, knownPath, linkOf, returnOf}
 use Rattle.tables.specs.Forms.{blobWidth, portFormIn, pathFormIn, pathForm, relayFormIn, relayForm}
 use Rattle.tables.specs.Places.{tableSize}
 use Rattle.tables.specs.Layout.{relayOf as layoutRelay, bytesOf, wellFormed}
-use Rattle.tables.specs.Shape.{isByte, isBytes, pathShaped, linkShaped, returnShaped, hashShaped, shaped}
+use Rattle.tables.specs.Shape.{isByte, isBytes, notesShaped, pathShaped, linkShaped, returnShaped, hashShaped, shaped}
 use Rattle.tables.proofs.Whole.{relay-good, back, ok-bytes, bytes-bytes}
 use Rattle.saved.specs.Editions.{olderBlobLimit, edition1, isKnownBy, isKnown, held, current, widthAt}
 use Rattle.saved.specs.File.{bodyCount, fileIn, savedSize}
@@ -65,7 +66,7 @@ abbrev pub tables : List ℕ
 tables = bytesOf relay
 
 shape : shaped relay ≡ true
-unfolding rules shaped pathShaped linkShaped returnShaped hashShaped isBytes isByte
+unfolding rules shaped pathShaped notesShaped linkShaped returnShaped hashShaped isBytes isByte
 shape = refl
 
 ok : tablesOk relay ≡ true
@@ -266,7 +267,7 @@ abbrev pub olderRelay : Relay
 olderRelay = relayWith (makePath (knownPath .destination) 1 0 (knownPath .nextHop) 22600 noRateEntry noNotes (knownPath .blobs))
 
 older-shape : shaped olderRelay ≡ true
-unfolding rules shaped pathShaped linkShaped returnShaped hashShaped isBytes isByte
+unfolding rules shaped pathShaped notesShaped linkShaped returnShaped hashShaped isBytes isByte
 older-shape = refl
 
 older-ok : tablesOk olderRelay ≡ true

@@ -20,10 +20,11 @@ use Rattle.numbers.specs.Numbers.{pathCount, blobLimit}
 use Rattle.rules.specs.Relay.{Blobs, Path}
 use Rattle.rules.specs.Blobs.{noBlob}
 use Rattle.rules.proofs.Ranges.{path-counted}
-use Rattle.tables.specs.Forms.{BlobRoom, as-today, fewer, Edition, rateSettingsForm, rateEntryForm, notesForm, blobWidth, blobsForm, holdsAtMost, blobsFormIn, portForm, pathFormOf, pathForm, relayFormOf, relayForm}
+use Rattle.notes.specs.Notes.{notesForm}
+use Rattle.tables.specs.Forms.{BlobRoom, as-today, fewer, Edition, rateSettingsForm, rateEntryForm, blobWidth, blobsForm, holdsAtMost, blobsFormIn, portForm, pathFormOf, relayFormOf, relayForm}
 use Rattle.tables.specs.Places.{pathWidth, pathsAt, linksAt}
 use Rattle.tables.specs.Fields.{pathBlobsAt, blobsWidth}
-use Rattle.tables.specs.Records.{blobsOf, pathOf, pathBytesOk}
+use Rattle.tables.specs.Records.{pathOf, pathBytesOk}
 use Rattle.tables.specs.Layout.{recordsOk, frontOk, backOk}
 use Rattle.tables.proofs.All.{exactly-same}
 use Rattle.tables.proofs.Tests.{path-kept}

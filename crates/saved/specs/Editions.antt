@@ -12,9 +12,10 @@ use lib.Text.{eqt}
 use Rattle.octets.specs.Index.{_and_}
 use Rattle.codes.specs.Form.{Form, byte, mark, numberIn, octetsIn, given, field, _&_, many, firstsOf, slot, that, asRecord, code, oneOf}
 use Rattle.numbers.specs.Numbers.{longestPacket}
-use Rattle.rules.specs.Relay.{noRateSettings, noRateEntry, noNotes, Relay}
+use Rattle.notes.specs.Notes.{noNotes, notesForm}
+use Rattle.rules.specs.Relay.{noRateSettings, noRateEntry, Relay}
 use Rattle.rules.specs.declared.Tally.{Tally}
-use Rattle.tables.specs.Forms.{BlobRoom, as-today, fewer, Edition, rateSettingsForm, rateEntryForm, notesForm, today, relayFormIn}
+use Rattle.tables.specs.Forms.{BlobRoom, as-today, fewer, Edition, rateSettingsForm, rateEntryForm, today, relayFormIn}
 
 -- what is saved, and what a load gives: the relay that the tables hold, and the tally
 abbrev pub Held : Type 0

@@ -15,7 +15,7 @@ use numbers::PATH_COUNT;
 use numbers::PORT_COUNT;
 use tables::fields::PATH_BLOB_COUNT_AT;
 use tables::fields::PATH_LAST_AT;
-use tables::fields::PATH_MARK_AT;
+use tables::fields::PATH_NOTES_AT;
 use tables::fields::PORT_SIZE_AT;
 use tables::places::BLOB_WIDTH;
 use tables::places::PORT_WIDTH;
@@ -67,7 +67,7 @@ pub fn before_blobs(edition: u8) -> usize
 {
     match edition {
         1 => PATH_LAST_AT,
-        2 => PATH_MARK_AT,
+        2 => PATH_NOTES_AT,
         _ => PATH_BLOB_COUNT_AT,
     }
 }

@@ -1,7 +1,7 @@
 // How many records of a table are live.
+use codes::mark_of;
 use lookup::is_live;
 use lookup::record_at;
-use tables::mark_of;
 ghost use mathlib.Core.Path.{_≡_};
 ghost use Prim.Native.Nat.{_+_, _*_, _≤_};
 ghost use lib.ListN.{length};

@@ -19,7 +19,7 @@ use Rattle.rules.specs.Refusals.{tablesOk}
 use Rattle.rules.proofs.Unfolding.{rules}
 use Rattle.rules.proofs.Outcomes.{relayOf as relayAt, knownPath}
 use Rattle.tables.specs.Layout.{relayOf}
-use Rattle.tables.specs.Shape.{isByte, isBytes, pathShaped, shaped}
+use Rattle.tables.specs.Shape.{isByte, isBytes, notesShaped, pathShaped, shaped}
 use Rattle.recording.specs.Shape.{kindOf, editionOf, countOf, sumBelow, runningPlace, offsetsRight, endRight}
 use Rattle.recording.specs.Reader.{lengthWrong, kindWrong, placesWrong, wordsWrong, fileRows, fileRefusal}
 use Rattle.surveying.specs.Counts.{Answered}
@@ -85,7 +85,7 @@ abbrev site : Relay
 site = withLocals (set (replicate 16 empty) 3 (used guest)) (relayAt 2000 (used knownPath ∷ []) [] [] [])
 
 site-shaped : shaped site ≡ true
-unfolding rules shaped isBytes isByte pathShaped
+unfolding rules shaped isBytes isByte pathShaped notesShaped
 site-shaped = refl
 
 site-ok : tablesOk site ≡ true

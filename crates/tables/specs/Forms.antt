@@ -7,13 +7,14 @@ use mathlib.Core.Path.{refl}
 use lib.Dec.{ltb, leb}
 use Rattle.codes.specs.Form.{Form, byte, mark, numberIn, octetsIn, field, _&_, many, firstsOf, slot, that, asRecord}
 use Rattle.numbers.specs.Numbers.{portCount, localCount, pathCount, blobLimit, linkCount, returnCount, hashCount}
-use Rattle.rules.specs.Relay.{Port, noPort, Slot, empty, Blobs, Path, Return, Remembered, Ring, Relay, makePort, makeRateSettings, makeRateEntry, makeNotes, makePath, makeLink, withLinkState, makeReturn, makeRemembered, makeRing, makeRelay}
+use Rattle.notes.specs.Notes.{notesForm}
+use Rattle.rules.specs.Relay.{Port, noPort, Slot, empty, Blobs, Path, Return, Remembered, Ring, Relay, makePort, makeRateSettings, makeRateEntry, makePath, makeLink, withLinkState, makeReturn, makeRemembered, makeRing, makeRelay}
 use Rattle.rules.specs.Blobs.{noBlob}
 use Rattle.rules.specs.Refusals.{timeOk, rateSettingsOk, portOk, pathOk, linkOk, returnOk, hashOk}
 use Rattle.rules.specs.declared.Link.{Link}
 use Rattle.rules.specs.declared.RateSettings.{RateSettings}
 use Rattle.rules.specs.declared.RateEntry.{RateEntry}
-use Rattle.rules.specs.declared.Notes.{Notes}
+use Rattle.notes.specs.declared.Notes.{Notes}
 
 -- ---- widths of fields, in bytes
 abbrev pub addressWidth : ℕ
@@ -54,10 +55,6 @@ abbrev pub rateEntryForm : Form RateEntry
 rateEntryForm =
     asRecord toRateEntry (λ e. (e .last, (e .violations, e .«blocked_until»))) (λ x. refl) (λ y. refl)
     (field "last" (numberIn timeWidth) & field "violations" byte & field "blocked until" (numberIn timeWidth))
-
--- ---- what the host has noted of a path. Wish 6: "7 also for a mark neither yes nor no"
-abbrev pub notesForm : Form Notes
-notesForm = asRecord makeNotes (λ n. n .marked) (λ x. refl) (λ y. refl) (field "marked" mark)
 
 -- ---- what older editions of saved tables have otherwise (crates/saved): the tables are of today's
 -- wish 8: how many blobs a path can hold, as many as today or fewer

@@ -6,6 +6,7 @@ use mathlib.Core.List.{List}
 use lib.Dec.{ltb}
 use Rattle.octets.specs.Index.{_and_}
 use Rattle.numbers.specs.Numbers.{blobLimit}
+unfoldable pub use Rattle.notes.specs.Notes.{notesShaped}
 use Rattle.rules.specs.Relay.{Path, Return, Remembered, Relay}
 use Rattle.rules.specs.Refusals.{slotOk, all, tableOk}
 use Rattle.rules.specs.declared.Link.{Link}
@@ -24,6 +25,7 @@ pathShaped p =
     isBytes addressWidth (p .destination)
     and isBytes addressWidth (p .nextHop)
     and tableOk blobLimit (isBytes blobWidth) (p .blobs .places)
+    and notesShaped (p .notes)
 
 unfoldable pub linkShaped : Link → Bool
 linkShaped l = isBytes addressWidth (l .id) and isByte (l .taken .0) and isByte (l .remaining .0)

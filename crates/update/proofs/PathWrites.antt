@@ -5,7 +5,6 @@ use native.Mathlib.Omega.{arith}
 use mathlib.Core.List.{List, [], _∷_, _++_, append-assoc}
 use mathlib.Core.Path.{_≡_, refl, sym, ap, ap₂, _∙_}
 use lib.ListN.{length, getD, take, drop, replicate, length-append, length-drop, length-replicate, replicate-append-replicate}
-use lib.Seq.{drop-at, length-take-le}
 use borrow.Author.Tests.{lt-ltb, le-ltb}
 use borrow.Rule.Slice.PartMut.{putMid}
 use Rattle.octets.specs.Index.{listOf}
@@ -19,16 +18,17 @@ use Rattle.codes.proofs.Forms.{lawful}
 use Rattle.codes.proofs.Pieces.{written, fields-written, marked-written}
 use Rattle.codes.proofs.Inside.{Inside, item, _within_, named}
 use Rattle.numbers.specs.Numbers.{blobLimit}
-use Rattle.rules.specs.Relay.{noNotes, used, Blobs}
+use Rattle.notes.specs.Notes.{notesBytes, noNotes, notesForm}
+use Rattle.rules.specs.Relay.{used, Blobs}
 use Rattle.rules.specs.Blobs.{noBlob, oneBlob, addBlob}
-use Rattle.tables.specs.Forms.{rateEntryForm, notesForm, blobsForm, headForm}
+use Rattle.tables.specs.Forms.{rateEntryForm, blobsForm, headForm}
 use Rattle.tables.specs.Places.{blobWidth, pathWidth}
 use Rattle.tables.specs.Fields.{blobsWidth, blobPlacesAt, pathNotesAt, pathBlobsAt}
 use Rattle.tables.specs.Records.{exactly, markOf, slotBytes, blobsOf, blobsBytes, pathBytes}
 use Rattle.tables.proofs.All.{exactly-same}
 use Rattle.tables.proofs.Section.{part-behind}
 use Rattle.update.specs.declared.Announced.{Announced}
-use Rattle.update.specs.Written.{rateBytes, notesBytes, headOf, announced, headWidth, headBytes, startWidth, startBytes, newerWidth, blobsIn}
+use Rattle.update.specs.Written.{rateBytes, headOf, announced, headWidth, headBytes, startWidth, startBytes, newerWidth, blobsIn}
 
 blobs-length : (s : Blobs) → length (blobsBytes s) ≡ blobsWidth
 unfolding blobsBytes

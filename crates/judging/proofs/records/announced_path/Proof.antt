@@ -1,5 +1,4 @@
 use mathlib.Core.Path.{_≡_, ap, _∙_}
-use mathlib.Core.Bool.{false}
 use Rattle.packet.specs.Read.{longestPacket}
 use Rattle.outgoing.proofs.LeavingLaws.{whole}
 use Prim.Native.Nat.{ℕ, _+_}
@@ -7,7 +6,8 @@ use mathlib.Core.List.{List}
 use Rattle.octets.specs.Choice.{_then_otherwise_}
 use Rattle.packet.specs.Announce.{blobOf}
 use Rattle.packet.specs.declared.Parts.{Parts}
-use Rattle.rules.specs.Relay.{used, noNotes, makePath}
+use Rattle.notes.specs.Notes.{noNotes}
+use Rattle.rules.specs.Relay.{used, makePath}
 use Rattle.rules.specs.Arrival.{destination, blob}
 use Rattle.rules.specs.Writes.{announcedPath}
 use Rattle.judging.specs.Seen.{arrivalOf, pathOf}

@@ -1,7 +1,7 @@
 use Rattle.octets.specs.Choice.{_then_otherwise_}
-use Rattle.tables.specs.Records.{markOf}
-use Rattle.tables.proofs.mark_of.Statement.{statement}
-use Rattle.tables.proofs.mark_of.Tie as tie
+use Rattle.codes.specs.Codes.{markOf}
+use Rattle.codes.proofs.mark_of.Statement.{statement}
+use Rattle.codes.proofs.mark_of.Tie as tie
 
 returns : tie.Need-returns
 unfolding markOf _then_otherwise_
