@@ -29,7 +29,7 @@ use Rattle.rules.specs.Relay.{freshPort, noPort, noRateSettings, noRateEntry, n
 use Rattle.rules.specs.Refusals.{timeOk, rateSettingsOk, portOk}
 use Rattle.tables.specs.Forms.{BlobRoom, Edition, addressWidth, timeWidth, blobWidth, sizeWidth, rateSettingsForm, rateEntryForm, notesForm, portFormOf, portFormIn, portForm, localForm, headForm, pathFormIn, backForm, relayFormOf, relayFormIn}
 use Rattle.tables.specs.Places.{portWidth, localWidth, pathWidth, clockAt, rateAt, portsAt, localsAt, pathsAt, linksAt, backWidth, tableSize}
-use Rattle.tables.specs.Fields.{portSizeAt, pathBlobsAt, blobsWidth}
+use Rattle.tables.specs.Fields.{portSizeAt, pathRateAt, pathBlobsAt, blobsWidth}
 use Rattle.tables.specs.Records.{portBytes, portBytesOk, localBytesOk}
 use Rattle.tables.specs.Layout.{rateSettingsIn, startOk, recordsOk, frontOk, backOk, relayOf, wellFormed}
 use Rattle.tables.proofs.Whole.{clauses}
@@ -37,7 +37,7 @@ use Rattle.saved.specs.Editions.{edition1, edition2, editions, currentEd
 use Rattle.saved.specs.File.{bodiesAt}
 use Rattle.saved.specs.Steps.{startWidth, portWidthIn, beforeBlobs, mostBlobs, blobsWidthIn, pathWidthIn, portsPlace, localsPlace, localsWidth, pathsPlace, backPlace, tallyPlace, opened, startNow, portNow, portsNow, frontNow, pathNow, pathsNow, pathFine, pathsFine, tablesNow}
 use Rattle.saved.proofs.RowLaws.{rows-none, rows-length, row-found, rows-more}
-use Rattle.saved.proofs.Alike.{Alike, same-alike, given-alike, moved-alike, both-alike, field-alike, that-alike, record-alike, slot-alike, many-alike, opened-length, opened-lent, zeros-lent, zeros-behind, zeros-behind-put, Opening, opening, Brought, kept, lacked, brought-within, brought-alike, BroughtTwo, first-kept, both-lacked, two-within, two-alike}
+use Rattle.saved.proofs.Alike.{Alike, same-alike, given-alike, moved-alike, both-alike, field-alike, that-alike, record-alike, slot-alike, many-alike, opened-length, opened-lent, zeros-lent, zeros-behind, zeros-behind-put, Opening, opening, Brought, kept, lacked, BroughtTwo, first-kept, both-lacked}
 use Rattle.saved.proofs.Rooms.{room-within, room-width, room-narrow, limitedPath, limited-width, limited-reads, limited-clauses, blobs-alike}
 
 -- ---- a port's size, which an edition has as today, or lacks: then it is a fresh port's
@@ -138,10 +138,10 @@ opened-bytes k n b h =
 
 module _ (e : Edition) (h : Brings e) where
   settings-within : code (e .rateSettings) .width ≤ 12
-  settings-within = brought-within (h .rateSettings)
+  settings-within = h .rateSettings .within
 
   entry-within : code (e .rateEntry) .width + code (e .notes) .width ≤ 18
-  entry-within = two-within (h .pathFields)
+  entry-within = h .pathFields .within
 
   pub port-within : portWidthIn e ≤ portWidth
   port-within = omega (arith, size-within (h .portSize))
@@ -332,7 +332,7 @@ module _ (e : Edition) (h : Brings e) where
 
       path-alike : Alike (slot (pathFormIn e)) (slot (limitedPath room)) (old i l) 0 (pathNow e f i) 0
       path-alike =
-          let brought = two-alike (h .pathFields) 43 (omega (arith, entry-within)) path-opening in
+          let brought = h .pathFields .alike (old i l) (pathNow e f i) 0 0 gap (pathWidthIn e) pathRateAt (omega (arith, entry-within)) path-opening in
           slot-alike (same-byte 1 (old i l) 0 (pathNow e f i) 0 (path-opening .before 0 1 (omega arith)) (omega arith))
           (ap (λ (k : ℕ). zeros k (part (old i l) 0 k)) (sym wide)
           ∙ path-empties
@@ -352,7 +352,7 @@ module _ (e : Edition) (h : Brings e) where
         record-alike
         (both-alike (field-alike (same-alike (octetsIn addressWidth) (start-opening .before 0 16 (omega arith))))
         (both-alike (field-alike (same-alike (that timeOk (numberIn timeWidth)) (start-opening .before 16 8 (omega arith))))
-        (both-alike (field-alike (brought-alike (h .rateSettings) 24 (omega (arith, settings-within)) start-opening))
+        (both-alike (field-alike settings-alike)
         (both-alike (field-alike (many-alike portCount noPort (λ i l. moved-alike (port-place i l) (now-port i l) (port-alike i l))))
         (both-alike (field-alike (same-alike (many localCount empty (slot localForm))
         (ap (λ (a : ℕ). part f a localsWidth) (omega arith) ∙ sym now-locals)))
@@ -362,6 +362,10 @@ module _ (e : Edition) (h : Brings e) where
         ∙ sym now-back
         ∙ ap (λ (w : ℕ). part (tablesNow e f) (pathsAt + w * pathCount) backWidth) (sym (limited-width room))))))))))
       where
+        settings-alike : Alike (e .rateSettings) rateSettingsForm f (bodiesAt + rateAt) (tablesNow e f) rateAt
+        settings-alike =
+            h .rateSettings .alike f (tablesNow e f) bodiesAt 0 (portsAt - startWidth e) (startWidth e) rateAt (omega (arith, settings-within)) start-opening
+
         port-place : (i : ℕ) (l : i < portCount)
             → part f (bodiesAt + rateAt + code (e .rateSettings) .width + portWidthIn e * i) (portWidthIn e) ≡ oldPort i l
         port-place i l = ap (λ (a : ℕ). part f (a + portWidthIn e * i) (portWidthIn e)) (omega arith)

@@ -4,6 +4,7 @@ pub mod RowLaws
 pub mod Alike
 pub mod Rooms
 pub mod EditionLaws
+pub mod Grown
 pub mod LoadLaws
 pub mod CurrentLaws
 pub mod SaveLaws
