@@ -22,7 +22,7 @@ use Rattle.octets.proofs.Part.{part-length, part-part, part-mid, part-split, pa
 use Rattle.recording.proofs.Sums.{part-last}
 use Rattle.codes.specs.Codes.{Slot, empty, used, fill}
 use Rattle.codes.specs.Form.{Form, given, field, _&_, many, firstsOf, slot, that, asRecord, code}
-use Rattle.codes.proofs.Same.{Same, same-inside, same-byte}
+use Rattle.codes.proofs.Same.{Same, same-inside}
 use Rattle.codes.proofs.Law.{back-at, passes-at}
 use Rattle.codes.proofs.Rows.{row-end}
 use Rattle.codes.proofs.Forms.{lawful}

@@ -14,7 +14,9 @@ use Rattle.tables.specs.Layout.{relayOf}
 use Rattle.saved.specs.File.{bodiesAt}
 use Rattle.saved.specs.Steps.{tallyPlace, tablesNow}
 use Rattle.saved.proofs.Alike.{Brought, kept, lacked, first-kept, behind, in-field, in-rule, in-record}
-use Rattle.saved.proofs.EditionLaws.{size-there, Brings, now-relay}
+use Rattle.saved.proofs.PortSizes.{size-there}
+use Rattle.saved.proofs.EachBrings.{Brings}
+use Rattle.saved.proofs.EditionLaws.{now-relay}
 
 abbrev withoutPenalty : Form RateSettings
 withoutPenalty =

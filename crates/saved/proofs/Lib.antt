@@ -3,6 +3,8 @@ pub mod Widths
 pub mod RowLaws
 pub mod Alike
 pub mod Rooms
+pub mod PortSizes
+pub mod EachBrings
 pub mod EditionLaws
 pub mod Grown
 pub mod LoadLaws
