@@ -2,15 +2,15 @@
 use Prim.Native.Nat.{ℕ, _+_, _-_, _*_, _≤_, _<_}
 use native.Mathlib.Nat.{zero-add, le-refl}
 use native.Mathlib.Omega.{arith}
-use mathlib.Core.Bool.{Bool, true, false}
+use mathlib.Core.Bool.{true, false}
 use mathlib.Core.List.{List, [], _++_, append-nil}
-use mathlib.Core.Path.{_≡_, refl, sym, ap, ap₂, subst, _∙_}
+use mathlib.Core.Path.{_≡_, refl, sym, ap, ap₂, _∙_}
 use lib.Dec.{lit<}
-use borrow.Author.Tests.{eq-eqb, ltb-true, leb-true}
+use borrow.Author.Tests.{eq-eqb}
 use borrow.Rule.Slice.PartMut.{putMid}
 use lib.ListN.{length, take, drop, replicate, length-append, length-replicate}
 use Rattle.octets.specs.Bytes.{Bytes}
-use Rattle.octets.specs.Index.{_and_, allBelow, zeros}
+use Rattle.octets.specs.Index.{_and_, zeros}
 use Rattle.octets.specs.Part.{part, patch}
 use Rattle.octets.specs.BigEndian.{number}
 use Rattle.octets.proofs.Index.{and-left, and-right, and-both, all-none, all-more, all-fails, all-at, all-intro, all-cong}
@@ -30,7 +30,7 @@ use Rattle.tables.specs.Fields.{pathRateAt, pathBlobsAt, blobsWidth}
 use Rattle.tables.specs.Records.{portBytes, portBytesOk, localBytesOk}
 use Rattle.tables.specs.Layout.{rateSettingsIn, startOk, recordsOk, frontOk, backOk, relayOf, wellFormed}
 use Rattle.tables.proofs.Whole.{clauses}
-use Rattle.saved.specs.Editions.{currentEdition, isKnownBy, isKnown, numbered}
+use Rattle.saved.specs.Editions.{numbered}
 use Rattle.saved.specs.File.{bodiesAt}
 use Rattle.saved.specs.Steps.{startWidth, portWidthIn, beforeBlobs, mostBlobs, blobsWidthIn, pathWidthIn, portsPlace, localsPlace, localsWidth, pathsPlace, backPlace, tallyPlace, opened, startNow, portNow, portsNow, frontNow, pathNow, pathsNow, pathFine, pathsFine, tablesNow}
 use Rattle.saved.proofs.RowLaws.{rows-none, rows-length, row-found, rows-more}
@@ -456,22 +456,6 @@ module _ (n : ℕ) where
 
   pub blobs-wide : blobsWidthIn (numbered n) ≡ 1 + blobWidth * mostBlobs (numbered n .blobRoom)
   blobs-wide = room-width (numbered n .blobRoom)
-
-  known-low : isKnown n ≡ true → 0 < n
-  unfolding isKnown isKnownBy
-  known-low h = ltb-true 0 n (and-left _ _ h)
-
-  known-high : isKnown n ≡ true → n ≤ currentEdition
-  unfolding isKnown isKnownBy
-  known-high h = leb-true n currentEdition (and-right _ _ h)
-
-  -- what a test says of each edition that there is, it says of this one
-  pub each-known : (test : ℕ → Bool) → allBelow (λ i. test (i + 1)) currentEdition ≡ true → isKnown n ≡ true → test n ≡ true
-  each-known test all h =
-      let low = known-low h in
-      let high = known-high h in
-      let there : n - 1 + 1 ≡ n = omega (arith, low) in
-      subst (λ (k : ℕ). test k ≡ true) there (all-at (λ i. test (i + 1)) currentEdition (n - 1) all (omega (arith, low, high)))
 
   -- port i's settings, and path i's record, stand in the file
   pub port-room : (f : List ℕ) → tallyPlace (numbered n) ≤ length f → (i : ℕ) → i < portCount
