@@ -24,8 +24,8 @@ use Rattle.recording.proofs.Sums.{joined-each-bytes, patch-three, part-last, pa
 use Rattle.numbers.specs.Numbers.{portCount, localCount, pathCount, blobLimit}
 use Rattle.rules.specs.Relay.{freshPort, noPort, empty}
 use Rattle.rules.specs.Refusals.{timeOk, rateSettingsOk}
-use Rattle.tables.specs.Forms.{BlobRoom, Edition, addressWidth, timeWidth, blobWidth, rateSettingsForm, portFormIn, portForm, localForm, headForm, pathFormIn, backForm, relayFormOf, relayFormIn}
-use Rattle.tables.specs.Places.{portWidth, localWidth, pathWidth, clockAt, rateAt, portsAt, localsAt, pathsAt, linksAt, backWidth, tableSize}
+use Rattle.tables.specs.Forms.{BlobRoom, Edition, addressWidth, timeWidth, blobWidth, rateSettingsForm, rateEntryForm, notesForm, portFormIn, portForm, localForm, headForm, pathFormIn, backForm, relayFormOf, relayFormIn}
+use Rattle.tables.specs.Places.{portWidth, localWidth, pathWidth, ownAt, clockAt, rateAt, portsAt, localsAt, pathsAt, linksAt, backWidth, tableSize}
 use Rattle.tables.specs.Fields.{pathRateAt, pathBlobsAt, blobsWidth}
 use Rattle.tables.specs.Records.{portBytes, portBytesOk, localBytesOk}
 use Rattle.tables.specs.Layout.{rateSettingsIn, startOk, recordsOk, frontOk, backOk, relayOf, wellFormed}
@@ -46,7 +46,8 @@ front-same t =
     let inside : (k n : ℕ) → k + n ≤ pathsAt → part (part t 0 pathsAt) k n ≡ part t k n =
     λ k n l. part-part t 0 pathsAt k n l ∙ ap (λ (a : ℕ). part t a n) (zero-add k) in
     let clock = ap (λ (b : List ℕ). timeOk (number b)) (inside clockAt timeWidth (omega arith)) in
-    let rate = ap rateSettingsOk (lawful rateSettingsForm .sees (part t 0 pathsAt) rateAt t rateAt (inside rateAt 12 (omega arith))) in
+    let settings = inside rateAt (code rateSettingsForm .width) (omega arith) in
+    let rate = ap rateSettingsOk (lawful rateSettingsForm .sees (part t 0 pathsAt) rateAt t rateAt settings) in
     let ports = all-cong _ _ portCount (λ i l. ap portBytesOk (inside (portsAt + portWidth * i) portWidth (omega arith))) in
     let locals = all-cong _ _ localCount (λ i l. ap localBytesOk (inside (localsAt + localWidth * i) localWidth (omega arith))) in
     λ i. (clock i and rate i) and (ports i and locals i)
@@ -59,10 +60,10 @@ opened-bytes k n b h =
     (append-bytes (replicate n 0) rest (replicate-bytes n 0 (lit< tt)) (part-bytes b k (length b - k) h))
 
 module _ (e : Edition) (h : Brings e) where
-  settings-within : code (e .rateSettings) .width ≤ 12
+  settings-within : code (e .rateSettings) .width ≤ code rateSettingsForm .width
   settings-within = h .rateSettings .within
 
-  entry-within : code (e .rateEntry) .width + code (e .notes) .width ≤ 18
+  entry-within : code (e .rateEntry) .width + code (e .notes) .width ≤ code rateEntryForm .width + code notesForm .width
   entry-within = h .pathFields .within
 
   pub port-within : portWidthIn e ≤ portWidth
@@ -260,7 +261,7 @@ module _ (e : Edition) (h : Brings e) where
           ∙ path-empties
           ∙ ap (λ (k : ℕ). zeros k (part (pathNow e f i) 0 k)) (sym (limited-width room)))
           (that-alike (record-alike
-          (both-alike (same-alike headForm (path-opening .before 1 42 (omega arith)))
+          (both-alike (same-alike headForm (path-opening .before 1 (code headForm .width) (omega arith)))
           (both-alike (field-alike (brought .0))
           (both-alike (field-alike (brought .1))
           (field-alike (blobs-alike room
@@ -272,8 +273,8 @@ module _ (e : Edition) (h : Brings e) where
     pub now-alike : Alike (relayFormIn e) (relayFormOf rateSettingsForm portForm (limitedPath room)) f bodiesAt (tablesNow e f) 0
     now-alike =
         record-alike
-        (both-alike (field-alike (same-alike (octetsIn addressWidth) (start-opening .before 0 16 (omega arith))))
-        (both-alike (field-alike (same-alike (that timeOk (numberIn timeWidth)) (start-opening .before 16 8 (omega arith))))
+        (both-alike (field-alike (same-alike (octetsIn addressWidth) (start-opening .before ownAt addressWidth (omega arith))))
+        (both-alike (field-alike (same-alike (that timeOk (numberIn timeWidth)) (start-opening .before clockAt timeWidth (omega arith))))
         (both-alike (field-alike settings-alike)
         (both-alike (field-alike (many-alike portCount noPort (λ i l. moved-alike (port-place i l) (now-port i l) (port-alike i l))))
         (both-alike (field-alike (same-alike (many localCount empty (slot localForm))
