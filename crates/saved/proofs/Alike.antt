@@ -22,7 +22,7 @@ use Rattle.octets.proofs.Part.{part-length, part-part, part-mid, part-split, pa
 use Rattle.recording.proofs.Sums.{part-last}
 use Rattle.codes.specs.Codes.{Slot, empty, used, fill}
 use Rattle.codes.specs.Form.{Form, given, field, _&_, many, firstsOf, slot, that, asRecord, code}
-use Rattle.codes.proofs.Same.{Same, same-inside, same-byte}
+use Rattle.codes.proofs.Same.{Same, same-inside}
 use Rattle.codes.proofs.Law.{back-at, passes-at}
 use Rattle.codes.proofs.Rows.{row-end}
 use Rattle.codes.proofs.Forms.{lawful}
@@ -252,54 +252,83 @@ module _ (t : List ℕ) (a : ℕ) (u : List ℕ) (b k n L : ℕ) (fits : a + L �
             ∙ ap₂ (λ (j : ℕ) (y : List ℕ). zeros j y) (ap (λ (j : ℕ). j + n) long) (sym e);
       }
 
--- ---- a field that an edition has as today, or lacks: its value is zeros today
-pub data Brought {A : Type 0} (g : Form A) : Form A → Type 1 where
-  kept : Brought g g
-  lacked : (v : A) → code g .Good v → code g .write v ≡ replicate (code g .width) 0 → Brought g (given v)
+-- ---- a form that an edition has otherwise, with n bytes fewer: today zeros are put in for them behind its own, which stand behind `place` others
+pub record Brought {A : Type 0} (g f : Form A) : Type 0 where
+  pub within : code f .width ≤ code g .width
+  pub alike : (t u : List ℕ) (a b n L place : ℕ) → n + code f .width ≡ code g .width
+      → Opening t a u b (place + code f .width) n L → Alike f g t (a + place) u (b + place)
 
-pub brought-within : {A : Type 0} {g f : Form A} → Brought g f → code f .width ≤ code g .width
-brought-within {A} {g} kept = le-refl (code g .width)
-brought-within (lacked v good e) = zero-le
+-- it has it as today; or lacks it, and its value is zeros today
+pub kept : {A : Type 0} {g : Form A} → Brought g g
+kept {A} {g} = record { within = le-refl (code g .width); alike = λ t u a b n L place wide o. same-alike g (o .before place (code g .width) (le-refl _)) }
 
--- where n zeros are put in for it, behind `place` bytes that stay
-pub brought-alike : {A : Type 0} {g f : Form A} (h : Brought g f) {t u : List ℕ} {a b n L : ℕ} (place : ℕ) → n + code f .width ≡ code g .width
-    → Opening t a u b (place + code f .width) n L → Alike f g t (a + place) u (b + place)
-brought-alike {A} {g} kept place wide o = same-alike g (o .before place (code g .width) (le-refl _))
-brought-alike {A} {g} (lacked v good e) {t} {u} {a} {b} {n} place wide o =
-    let long : n ≡ code g .width = sym (add-zero n) ∙ wide in
-    given-alike v g good
-    (ap₂ (λ (i m : ℕ). part u (b + i) m) (sym (add-zero place)) (sym long) ∙ o .gap ∙ ap (λ (m : ℕ). replicate m 0) long ∙ sym e)
+pub lacked : {A : Type 0} {g : Form A} (v : A) → code g .Good v → code g .write v ≡ replicate (code g .width) 0 → Brought g (given v)
+lacked {A} {g} v good e =
+    record {
+      within = zero-le;
+      alike = λ t u a b n L place wide o.
+          let long : n ≡ code g .width = sym (add-zero n) ∙ wide in
+          given-alike v g good
+          (ap₂ (λ (i m : ℕ). part u (b + i) m) (sym (add-zero place)) (sym long) ∙ o .gap ∙ ap (λ (m : ℕ). replicate m 0) long ∙ sym e);
+    }
 
--- ---- two such fields, one behind the other: an edition that lacks the first lacks the second
-pub data BroughtTwo {A B : Type 0} (g : Form A) (k : Form B) : Form A → Form B → Type 1 where
-  first-kept : {h : Form B} → Brought k h → BroughtTwo g k g h
-  both-lacked : (v : A) (w : B) → code (g & k) .Good (v, w) → code (g & k) .write (v, w) ≡ replicate (code (g & k) .width) 0
-      → BroughtTwo g k (given v) (given w)
-
-pub two-within : {A B : Type 0} {g f : Form A} {k h : Form B} → BroughtTwo g k f h → code f .width + code h .width ≤ code g .width + code k .width
-two-within (first-kept b) = let l = brought-within b in omega (arith, l)
-two-within (both-lacked v w good e) = zero-le
+-- ---- two of them, one behind the other: what is put in stands behind both
+pub record BroughtTwo {A B : Type 0} (g : Form A) (k : Form B) (f : Form A) (h : Form B) : Type 0 where
+  pub within : code f .width + code h .width ≤ code g .width + code k .width
+  pub alike : (t u : List ℕ) (a b n L place : ℕ) → n + (code f .width + code h .width) ≡ code g .width + code k .width
+      → Opening t a u b (place + code f .width + code h .width) n L
+      → Alike f g t (a + place) u (b + place) × Alike h k t (a + place + code f .width) u (b + place + code g .width)
 
 shifted : {A : Type 0} {f g : Form A} {t u : List ℕ} {a a′ b b′ : ℕ} → a ≡ a′ → b ≡ b′ → Alike f g t a u b → Alike f g t a′ u b′
 shifted {A} {f} {g} {t} {u} {a} {a′} {b} {b′} p q r = subst (λ (x : ℕ). Alike f g t x u b′) p (subst (λ (y : ℕ). Alike f g t a u y) q r)
 
-pub two-alike : {A B : Type 0} {g f : Form A} {k h : Form B} (x : BroughtTwo g k f h) {t u : List ℕ} {a b n L : ℕ} (place : ℕ)
-    → n + (code f .width + code h .width) ≡ code g .width + code k .width
-    → Opening t a u b (place + code f .width + code h .width) n L
-    → Alike f g t (a + place) u (b + place) × Alike h k t (a + place + code f .width) u (b + place + code g .width)
-two-alike {A} {B} {g} {f} {k} {h} (first-kept y) {t} {u} {a} {b} {n} place wide o = (
-  same-alike g (o .before place (code g .width) (omega arith)),
-  shifted (omega arith) (omega arith) (brought-alike y (place + code g .width) (omega (arith, wide)) o),
-)
-two-alike {A} {B} {g} {f} {k} {h} (both-lacked v w good e) {t} {u} {a} {b} {n} place wide o =
-    let long : n ≡ code g .width + code k .width = sym (add-zero n) ∙ wide in
-    let here : place ≡ place + 0 + 0 = omega arith in
-    let zeroed : part u (b + place) (code g .width + code k .width) ≡ code (g & k) .write (v, w) =
-    ap₂ (λ (i m : ℕ). part u (b + i) m) here (sym long) ∙ o .gap ∙ ap (λ (m : ℕ). replicate m 0) long ∙ sym e in
-    let p : Alike (given (v, w)) (g & k) t (a + place) u (b + place) = given-alike (v, w) (g & k) good zeroed in (
-      record { reads = ap (λ (y : A × B). y .0) (p .reads); tests = sym (and-left _ _ (sym (p .tests))) },
-      record { reads = ap (λ (y : A × B). y .1) (p .reads); tests = sym (and-right _ _ (sym (p .tests))) },
-    )
+-- an edition has the first as today, or lacks both
+pub first-kept : {A B : Type 0} {g : Form A} {k h : Form B} → Brought k h → BroughtTwo g k g h
+first-kept {A} {B} {g} {k} {h} y =
+    record {
+      within = let l = y .within in omega (arith, l);
+      alike = λ t u a b n L place wide o. (
+        same-alike g (o .before place (code g .width) (omega arith)),
+        shifted (omega arith) (omega arith) (y .alike t u a b n L (place + code g .width) (omega (arith, wide)) o),
+      );
+    }
+
+pub both-lacked : {A B : Type 0} {g : Form A} {k : Form B} (v : A) (w : B) → code (g & k) .Good (v, w)
+    → code (g & k) .write (v, w) ≡ replicate (code (g & k) .width) 0 → BroughtTwo g k (given v) (given w)
+both-lacked {A} {B} {g} {k} v w good e =
+    record {
+      within = zero-le;
+      alike = λ t u a b n L place wide o.
+          let here : place + 0 + 0 ≡ place + 0 = omega arith in
+          let p = lacked {g = g & k} (v, w) good e .alike t u a b n L place wide (subst (λ (i : ℕ). Opening t a u b i n L) here o) in (
+            record { reads = ap (λ (y : A × B). y .0) (p .reads); tests = sym (and-left _ _ (sym (p .tests))) },
+            record { reads = ap (λ (y : A × B). y .1) (p .reads); tests = sym (and-right _ _ (sym (p .tests))) },
+          );
+    }
+
+-- ---- what holds others: a form behind another, a field, a record, a rule. The last of a record's fields that an edition lacks is
+-- `in-record (behind (in-field (lacked ..)))`
+pub behind : {A B : Type 0} {g : Form A} {k h : Form B} → Brought k h → Brought (g & k) (g & h)
+behind {A} {B} {g} {k} {h} y =
+    let two = first-kept {g = g} y in
+    record {
+      within = two .within;
+      alike = λ t u a b n L place wide o.
+          let there : place + (code g .width + code h .width) ≡ place + code g .width + code h .width = omega arith in
+          let p = two .alike t u a b n L place wide (subst (λ (i : ℕ). Opening t a u b i n L) there o) in
+          both-alike (p .0) (p .1);
+    }
+
+module _ {A : Type 0} {g f : Form A} (y : Brought g f) where
+  pub in-field : {name : String} → Brought (field name g) (field name f)
+  in-field = record { within = y .within; alike = λ t u a b n L place wide o. field-alike (y .alike t u a b n L place wide o) }
+
+  pub in-rule : {rule : A → Bool} → Brought (that rule g) (that rule f)
+  in-rule = record { within = y .within; alike = λ t u a b n L place wide o. that-alike (y .alike t u a b n L place wide o) }
+
+  pub in-record : {B : Type 0} {to : A → B} {from : B → A} {same : (x : A) → from (to x) ≡ x} {there : (y : B) → to (from y) ≡ y}
+      → Brought (asRecord to from same there g) (asRecord to from same there f)
+  in-record = record { within = y .within; alike = λ t u a b n L place wide o. record-alike (y .alike t u a b n L place wide o) }
 
 -- ---- a list that has fewer places in an edition: today the others hold `spare`, which is zeros
 module _ {A : Type 0} (m n : ℕ) (l : m ≤ n) (spare : A) (f : Form A) (good : code f .Good spare)
@@ -317,8 +346,8 @@ module _ {A : Type 0} (m n : ℕ) (l : m ≤ n) (spare : A) (f : Form A) (good :
   here : (i : ℕ) → i < m → part t (a + w * i) w ≡ part u (b + w * i) w
   here i k = same-inside (w * m) t a u b same (w * i) w (row-end w m i k)
 
-  behind : (j : ℕ) → j < n - m → part u (b + w * (m + j)) w ≡ code f .write spare
-  behind j k =
+  spare-behind : (j : ℕ) → j < n - m → part u (b + w * (m + j)) w ≡ code f .write spare
+  spare-behind j k =
       let place : b + w * (m + j) ≡ b + w * m + w * j = omega (arith, mul-add w m j) in
       ap (λ (c : ℕ). part u c w) place
       ∙ sym (part-part u (b + w * m) (w * (n - m)) (w * j) w (row-end w (n - m) j k))
@@ -336,11 +365,11 @@ module _ {A : Type 0} (m n : ℕ) (l : m ≤ n) (spare : A) (f : Form A) (good :
           let back : i ≡ m + (i - m) = omega arith in
           List·getD-eq-default (listOf (λ j. read-of (part t (a + w * j) w)) m) spare {n = i}
           (omega (arith, listOf-length (λ j. read-of (part t (a + w * j) w)) m))
-          ∙ sym (ap (λ (j : ℕ). read-of (part u (b + w * j) w)) back ∙ ap read-of (behind (i - m) (omega arith)) ∙ lawful f .back spare good)
+          ∙ sym (ap (λ (j : ℕ). read-of (part u (b + w * j) w)) back ∙ ap read-of (spare-behind (i - m) (omega arith)) ∙ lawful f .back spare good)
 
       tested : allBelow (λ i. fine-of (part u (b + w * i) w)) n ≡ allBelow (λ i. fine-of (part u (b + w * i) w)) m
       tested =
           let all : n ≡ m + (n - m) = omega arith in
           ap (allBelow (λ i. fine-of (part u (b + w * i) w))) all
           ∙ all-plus (λ i. fine-of (part u (b + w * i) w)) m (n - m)
-          ∙ and-last _ (all-intro (λ j. fine-of (part u (b + w * (m + j)) w)) (n - m) (λ j k. ap fine-of (behind j k) ∙ lawful f .passes spare good))
+          ∙ and-last _ (all-intro (λ j. fine-of (part u (b + w * (m + j)) w)) (n - m) (λ j k. ap fine-of (spare-behind j k) ∙ lawful f .passes spare good))

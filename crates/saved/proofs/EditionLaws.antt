@@ -1,122 +1,44 @@
 -- A file of any edition, as the tables have it: what they then hold is what the file holds, and they pass refusal 7 exactly if its bodies do.
-use Prim.Native.Nat.{ℕ, zero, suc, _+_, _-_, _*_, _≤_, _<_, zero-le}
-use native.Mathlib.Nat.{zero-add, le-refl, not-suc-le-zero}
+use Prim.Native.Nat.{ℕ, _+_, _-_, _*_, _≤_, _<_}
+use native.Mathlib.Nat.{zero-add, le-refl}
 use native.Mathlib.Omega.{arith}
-use mathlib.Core.Bool.{Bool, true, false}
-use mathlib.Core.List.{List, [], _∷_, _++_, append-nil}
-use mathlib.Core.Path.{_≡_, refl, sym, ap, ap₂, subst, _∙_}
+use mathlib.Core.Bool.{true, false}
+use mathlib.Core.List.{List, [], _++_, append-nil}
+use mathlib.Core.Path.{_≡_, refl, sym, ap, ap₂, _∙_}
 use lib.Dec.{lit<}
-use borrow.Author.Tests.{eq-eqb, ltb-true, leb-true}
+use borrow.Author.Tests.{eq-eqb}
 use borrow.Rule.Slice.PartMut.{putMid}
-use lib.ListN.{length, getD, take, drop, replicate, length-append, length-drop, length-replicate}
+use lib.ListN.{length, take, drop, replicate, length-append, length-replicate}
 use Rattle.octets.specs.Bytes.{Bytes}
-use Rattle.octets.specs.Index.{_and_, allBelow, listOf, zeros}
-use Rattle.octets.specs.Choice.{_then_otherwise_}
-use Rattle.octets.specs.Part.{part, patch, joined}
-use Rattle.octets.specs.BigEndian.{number, bigEndian}
+use Rattle.octets.specs.Index.{_and_, zeros}
+use Rattle.octets.specs.Part.{part, patch}
+use Rattle.octets.specs.BigEndian.{number}
 use Rattle.octets.proofs.Index.{and-left, and-right, and-both, all-none, all-more, all-fails, all-at, all-intro, all-cong}
 use Rattle.octets.proofs.Bytes.{append-bytes, drop-bytes, replicate-bytes, part-bytes}
-use Rattle.octets.proofs.BigEndian.{bigEndian-length}
 use Rattle.octets.proofs.Part.{part-length, part-part, part-mid, part-whole, part-range, patch-length, patch-join, patch-mid, patch-whole}
-use Rattle.codes.specs.Form.{Form, byte, mark, octetsIn, numberIn, given, many, slot, that, code}
-use Rattle.codes.specs.Codes.{markOf}
+use Rattle.codes.specs.Form.{octetsIn, numberIn, many, slot, that, code}
 use Rattle.codes.proofs.Rows.{row-end}
 use Rattle.codes.proofs.Forms.{lawful}
-use Rattle.codes.proofs.Same.{Same, same-byte}
+use Rattle.codes.proofs.Same.{same-byte}
 use Rattle.recording.proofs.Sums.{joined-each-bytes, patch-three, part-last, part-front, part-back}
-use Rattle.numbers.specs.Numbers.{longestPacket, isSize, portCount, localCount, pathCount, blobLimit}
-use Rattle.notes.specs.Notes.{noNotes, notesForm}
-use Rattle.rules.specs.Relay.{freshPort, noPort, noRateSettings, noRateEntry, empty}
-use Rattle.rules.specs.Refusals.{timeOk, rateSettingsOk, portOk}
-use Rattle.tables.specs.Forms.{BlobRoom, Edition, addressWidth, timeWidth, blobWidth, sizeWidth, rateSettingsForm, rateEntryForm, portFormOf, portFormIn, portForm, localForm, headForm, pathFormIn, backForm, relayFormOf, relayFormIn}
-use Rattle.tables.specs.Places.{portWidth, localWidth, pathWidth, clockAt, rateAt, portsAt, localsAt, pathsAt, linksAt, backWidth, tableSize}
-use Rattle.tables.specs.Fields.{portSizeAt, pathBlobsAt, blobsWidth}
+use Rattle.numbers.specs.Numbers.{portCount, localCount, pathCount, blobLimit}
+use Rattle.rules.specs.Relay.{freshPort, noPort, empty}
+use Rattle.rules.specs.Refusals.{timeOk, rateSettingsOk}
+use Rattle.notes.specs.Notes.{notesForm}
+use Rattle.tables.specs.Forms.{BlobRoom, Edition, addressWidth, timeWidth, blobWidth, rateSettingsForm, rateEntryForm, portFormIn, portForm, localForm, headForm, pathFormIn, backForm, relayFormOf, relayFormIn}
+use Rattle.tables.specs.Places.{portWidth, localWidth, pathWidth, ownAt, clockAt, rateAt, portsAt, localsAt, pathsAt, linksAt, backWidth, tableSize}
+use Rattle.tables.specs.Fields.{pathRateAt, pathBlobsAt, blobsWidth}
 use Rattle.tables.specs.Records.{portBytes, portBytesOk, localBytesOk}
 use Rattle.tables.specs.Layout.{rateSettingsIn, startOk, recordsOk, frontOk, backOk, relayOf, wellFormed}
 use Rattle.tables.proofs.Whole.{clauses}
-use Rattle.saved.specs.Editions.{edition1, edition2, editions, currentEdition, isKnownBy, isKnown, numbered}
+use Rattle.saved.specs.Editions.{numbered}
 use Rattle.saved.specs.File.{bodiesAt}
 use Rattle.saved.specs.Steps.{startWidth, portWidthIn, beforeBlobs, mostBlobs, blobsWidthIn, pathWidthIn, portsPlace, localsPlace, localsWidth, pathsPlace, backPlace, tallyPlace, opened, startNow, portNow, portsNow, frontNow, pathNow, pathsNow, pathFine, pathsFine, tablesNow}
 use Rattle.saved.proofs.RowLaws.{rows-none, rows-length, row-found, rows-more}
-use Rattle.saved.proofs.Alike.{Alike, same-alike, given-alike, moved-alike, both-alike, field-alike, that-alike, record-alike, slot-alike, many-alike, opened-length, opened-lent, zeros-lent, zeros-behind, zeros-behind-put, Opening, opening, Brought, kept, lacked, brought-within, brought-alike, BroughtTwo, first-kept, both-lacked, two-within, two-alike}
+use Rattle.saved.proofs.Alike.{Alike, same-alike, moved-alike, both-alike, field-alike, that-alike, record-alike, slot-alike, many-alike, opened-length, opened-lent, zeros-lent, zeros-behind, zeros-behind-put, Opening, opening}
+use Rattle.saved.proofs.PortSizes.{size-within, fresh-good, filled-length, filled-alike}
+use Rattle.saved.proofs.EachBrings.{Brings, each-brings}
 use Rattle.saved.proofs.Rooms.{room-within, room-width, room-narrow, limitedPath, limited-width, limited-reads, limited-clauses, blobs-alike}
-
--- ---- a port's size, which an edition has as today, or lacks: then it is a fresh port's
-pub data SizeBrought : Form ℕ → Type 1 where
-  size-there : SizeBrought (numberIn sizeWidth)
-  size-fresh : SizeBrought (given longestPacket)
-
-size-within : {s : Form ℕ} → SizeBrought s → code s .width ≤ sizeWidth
-size-within size-there = le-refl sizeWidth
-size-within size-fresh = zero-le
-
-fresh-bytes : portBytes freshPort ≡ 0 ∷ 0 ∷ bigEndian sizeWidth longestPacket
-unfolding portBytes markOf _then_otherwise_
-fresh-bytes = refl
-
-fresh-good : code portForm .Good freshPort
-unfolding portOk isSize _and_
-fresh-good = ((tt, (lit< tt, lit< tt)), refl)
-
--- what the file has of a port, and behind it what it lacks
-module _ (s : Form ℕ) (b : List ℕ) (long : length b ≡ code (portFormOf s) .width) where
-  abbrev filled : List ℕ
-  filled = b ++ drop (code (portFormOf s) .width) (portBytes freshPort)
-
-  fresh-length : length (portBytes freshPort) ≡ portWidth
-  unfolding portBytes
-  fresh-length = lawful portForm .wide freshPort
-
-  filled-length : SizeBrought s → length filled ≡ portWidth
-  filled-length h =
-      length-append b (drop (code (portFormOf s) .width) (portBytes freshPort))
-      ∙ ap (λ (k : ℕ). length b + k) (length-drop (code (portFormOf s) .width) (portBytes freshPort))
-      ∙ omega (arith, long, fresh-length, size-within h)
-
-  there : (k n : ℕ) → k + n ≤ code (portFormOf s) .width → Same n b k filled k
-  there k n l = sym (part-front b (drop (code (portFormOf s) .width) (portBytes freshPort)) k n (omega (arith, long, l)))
-
-filled-size : {s : Form ℕ} → SizeBrought s → (b : List ℕ) (long : length b ≡ code (portFormOf s) .width)
-    → Alike s (numberIn sizeWidth) b portSizeAt (filled s b long) portSizeAt
-filled-size size-there b long = same-alike (numberIn sizeWidth) (there (numberIn sizeWidth) b long portSizeAt sizeWidth (le-refl portWidth))
-filled-size size-fresh b long =
-    given-alike longestPacket (numberIn sizeWidth) (lit< tt)
-    (ap (λ (r : List ℕ). part (b ++ drop portSizeAt r) portSizeAt sizeWidth) fresh-bytes
-    ∙ part-last b (bigEndian sizeWidth longestPacket) portSizeAt sizeWidth long (bigEndian-length sizeWidth longestPacket))
-
-filled-alike : {s : Form ℕ} → SizeBrought s → (b : List ℕ) (long : length b ≡ code (portFormOf s) .width)
-    → Alike (portFormOf s) portForm b 0 (filled s b long) 0
-filled-alike {s} h b long =
-    that-alike (record-alike
-    (both-alike (field-alike (same-alike mark (there s b long 0 1 (omega arith))))
-    (both-alike (field-alike (same-alike byte (there s b long 1 1 (omega arith)))) (field-alike (filled-size h b long)))))
-
--- ---- what each edition has of the fields that a later one brought
-pub record Brings (e : Edition) : Type 1 where
-  pub rateSettings : Brought rateSettingsForm (e .rateSettings)
-  pub pathFields : BroughtTwo rateEntryForm notesForm (e .rateEntry) (e .notes)
-  pub portSize : SizeBrought (e .portSize)
-
-first-brings : Brings edition1
-unfolding bigEndian rateSettingsOk markOf _and_ _then_otherwise_
-first-brings =
-    record {
-      rateSettings = lacked noRateSettings ((lit< tt, (lit< tt, lit< tt)), refl) refl;
-      pathFields = both-lacked noRateEntry noNotes ((lit< tt, (lit< tt, lit< tt)), tt) refl;
-      portSize = size-fresh;
-    }
-
-second-brings : Brings edition2
-unfolding markOf _then_otherwise_
-second-brings = record { rateSettings = kept; pathFields = first-kept (lacked noNotes tt refl); portSize = size-fresh }
-
-pub each-brings : (i : ℕ) → Brings (getD editions i edition1)
-each-brings zero = first-brings
-each-brings (suc zero) = second-brings
-each-brings (suc (suc zero)) = record { rateSettings = kept; pathFields = first-kept kept; portSize = size-fresh }
-each-brings (suc (suc (suc zero))) = record { rateSettings = kept; pathFields = first-kept kept; portSize = size-fresh }
-each-brings (suc (suc (suc (suc zero)))) = record { rateSettings = kept; pathFields = first-kept kept; portSize = size-there }
-each-brings (suc (suc (suc (suc (suc i))))) = first-brings
 
 -- the sections before the paths, alone
 front-same : (t : List ℕ) → frontOk (part t 0 pathsAt) ≡ frontOk t
@@ -125,7 +47,8 @@ front-same t =
     let inside : (k n : ℕ) → k + n ≤ pathsAt → part (part t 0 pathsAt) k n ≡ part t k n =
     λ k n l. part-part t 0 pathsAt k n l ∙ ap (λ (a : ℕ). part t a n) (zero-add k) in
     let clock = ap (λ (b : List ℕ). timeOk (number b)) (inside clockAt timeWidth (omega arith)) in
-    let rate = ap rateSettingsOk (lawful rateSettingsForm .sees (part t 0 pathsAt) rateAt t rateAt (inside rateAt 12 (omega arith))) in
+    let settings = inside rateAt (code rateSettingsForm .width) (omega arith) in
+    let rate = ap rateSettingsOk (lawful rateSettingsForm .sees (part t 0 pathsAt) rateAt t rateAt settings) in
     let ports = all-cong _ _ portCount (λ i l. ap portBytesOk (inside (portsAt + portWidth * i) portWidth (omega arith))) in
     let locals = all-cong _ _ localCount (λ i l. ap localBytesOk (inside (localsAt + localWidth * i) localWidth (omega arith))) in
     λ i. (clock i and rate i) and (ports i and locals i)
@@ -138,11 +61,11 @@ opened-bytes k n b h =
     (append-bytes (replicate n 0) rest (replicate-bytes n 0 (lit< tt)) (part-bytes b k (length b - k) h))
 
 module _ (e : Edition) (h : Brings e) where
-  settings-within : code (e .rateSettings) .width ≤ 12
-  settings-within = brought-within (h .rateSettings)
+  settings-within : code (e .rateSettings) .width ≤ code rateSettingsForm .width
+  settings-within = h .rateSettings .within
 
-  entry-within : code (e .rateEntry) .width + code (e .notes) .width ≤ 18
-  entry-within = two-within (h .pathFields)
+  entry-within : code (e .rateEntry) .width + code (e .notes) .width ≤ code rateEntryForm .width + code notesForm .width
+  entry-within = h .pathFields .within
 
   pub port-within : portWidthIn e ≤ portWidth
   port-within = omega (arith, size-within (h .portSize))
@@ -333,13 +256,13 @@ module _ (e : Edition) (h : Brings e) where
 
       path-alike : Alike (slot (pathFormIn e)) (slot (limitedPath room)) (old i l) 0 (pathNow e f i) 0
       path-alike =
-          let brought = two-alike (h .pathFields) 43 (omega (arith, entry-within)) path-opening in
+          let brought = h .pathFields .alike (old i l) (pathNow e f i) 0 0 gap (pathWidthIn e) pathRateAt (omega (arith, entry-within)) path-opening in
           slot-alike (same-byte 1 (old i l) 0 (pathNow e f i) 0 (path-opening .before 0 1 (omega arith)) (omega arith))
           (ap (λ (k : ℕ). zeros k (part (old i l) 0 k)) (sym wide)
           ∙ path-empties
           ∙ ap (λ (k : ℕ). zeros k (part (pathNow e f i) 0 k)) (sym (limited-width room)))
           (that-alike (record-alike
-          (both-alike (same-alike headForm (path-opening .before 1 42 (omega arith)))
+          (both-alike (same-alike headForm (path-opening .before 1 (code headForm .width) (omega arith)))
           (both-alike (field-alike (brought .0))
           (both-alike (field-alike (brought .1))
           (field-alike (blobs-alike room
@@ -351,9 +274,9 @@ module _ (e : Edition) (h : Brings e) where
     pub now-alike : Alike (relayFormIn e) (relayFormOf rateSettingsForm portForm (limitedPath room)) f bodiesAt (tablesNow e f) 0
     now-alike =
         record-alike
-        (both-alike (field-alike (same-alike (octetsIn addressWidth) (start-opening .before 0 16 (omega arith))))
-        (both-alike (field-alike (same-alike (that timeOk (numberIn timeWidth)) (start-opening .before 16 8 (omega arith))))
-        (both-alike (field-alike (brought-alike (h .rateSettings) 24 (omega (arith, settings-within)) start-opening))
+        (both-alike (field-alike (same-alike (octetsIn addressWidth) (start-opening .before ownAt addressWidth (omega arith))))
+        (both-alike (field-alike (same-alike (that timeOk (numberIn timeWidth)) (start-opening .before clockAt timeWidth (omega arith))))
+        (both-alike (field-alike settings-alike)
         (both-alike (field-alike (many-alike portCount noPort (λ i l. moved-alike (port-place i l) (now-port i l) (port-alike i l))))
         (both-alike (field-alike (same-alike (many localCount empty (slot localForm))
         (ap (λ (a : ℕ). part f a localsWidth) (omega arith) ∙ sym now-locals)))
@@ -363,6 +286,10 @@ module _ (e : Edition) (h : Brings e) where
         ∙ sym now-back
         ∙ ap (λ (w : ℕ). part (tablesNow e f) (pathsAt + w * pathCount) backWidth) (sym (limited-width room))))))))))
       where
+        settings-alike : Alike (e .rateSettings) rateSettingsForm f (bodiesAt + rateAt) (tablesNow e f) rateAt
+        settings-alike =
+            h .rateSettings .alike f (tablesNow e f) bodiesAt 0 (portsAt - startWidth e) (startWidth e) rateAt (omega (arith, settings-within)) start-opening
+
         port-place : (i : ℕ) (l : i < portCount)
             → part f (bodiesAt + rateAt + code (e .rateSettings) .width + portWidthIn e * i) (portWidthIn e) ≡ oldPort i l
         port-place i l = ap (λ (a : ℕ). part f (a + portWidthIn e * i) (portWidthIn e)) (omega arith)
@@ -531,22 +458,6 @@ module _ (n : ℕ) where
 
   pub blobs-wide : blobsWidthIn (numbered n) ≡ 1 + blobWidth * mostBlobs (numbered n .blobRoom)
   blobs-wide = room-width (numbered n .blobRoom)
-
-  known-low : isKnown n ≡ true → 0 < n
-  unfolding isKnown isKnownBy
-  known-low h = ltb-true 0 n (and-left _ _ h)
-
-  known-high : isKnown n ≡ true → n ≤ currentEdition
-  unfolding isKnown isKnownBy
-  known-high h = leb-true n currentEdition (and-right _ _ h)
-
-  -- what a test says of each edition that there is, it says of this one
-  pub each-known : (test : ℕ → Bool) → allBelow (λ i. test (i + 1)) currentEdition ≡ true → isKnown n ≡ true → test n ≡ true
-  each-known test all h =
-      let low = known-low h in
-      let high = known-high h in
-      let there : n - 1 + 1 ≡ n = omega (arith, low) in
-      subst (λ (k : ℕ). test k ≡ true) there (all-at (λ i. test (i + 1)) currentEdition (n - 1) all (omega (arith, low, high)))
 
   -- port i's settings, and path i's record, stand in the file
   pub port-room : (f : List ℕ) → tallyPlace (numbered n) ≤ length f → (i : ℕ) → i < portCount

@@ -3,7 +3,10 @@ pub mod Widths
 pub mod RowLaws
 pub mod Alike
 pub mod Rooms
+pub mod PortSizes
+pub mod EachBrings
 pub mod EditionLaws
+pub mod Grown
 pub mod LoadLaws
 pub mod CurrentLaws
 pub mod SaveLaws

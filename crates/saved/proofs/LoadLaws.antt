@@ -35,7 +35,8 @@ use Rattle.saved.specs.Load.{lengthWrong, kindWrongBy, kindWrong, conten
 use Rattle.saved.specs.Steps.{backPlace, tallyPlace, sizeIn, frontNow, pathsFine, tablesNow, bodiesFine, tallyAt}
 use Rattle.saved.proofs.Alike.{and-last}
 use Rattle.saved.proofs.Widths.{widths-in, size-in}
-use Rattle.saved.proofs.EditionLaws.{each-brings, now-relay, now-formed, now-bytes, now-clauses}
+use Rattle.saved.proofs.EachBrings.{each-brings}
+use Rattle.saved.proofs.EditionLaws.{now-relay, now-formed, now-bytes, now-clauses}
 
 -- ---- 20
 module _ (f : List ℕ) where

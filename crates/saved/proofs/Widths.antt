@@ -3,12 +3,13 @@ use Prim.Native.Nat.{ℕ, zero, suc, _+_, _-_, _*_, _^_, _≤_, _<_}
 use native.Mathlib.Decide.{decLt}
 use native.Mathlib.Omega.{arith}
 use mathlib.Core.Bool.{Bool, true}
-use mathlib.Core.Path.{_≡_, refl}
+use mathlib.Core.List.{List, [], _∷_}
+use mathlib.Core.Path.{_≡_, refl, ap, _∙_}
 use lib.Dec.{lit<, ltb}
-use lib.ListN.{getD, List·getD-eq-default}
-use borrow.Author.Tests.{ltb-true}
+use lib.ListN.{length, getD, List·getD-eq-default}
+use borrow.Author.Tests.{ltb-true, leb-true}
 use Rattle.octets.specs.Index.{_and_, allBelow}
-use Rattle.octets.proofs.Index.{all-at}
+use Rattle.octets.proofs.Index.{and-left, and-right, all-at}
 use Rattle.codes.specs.Form.{code}
 use Rattle.recording.specs.Shape.{sumBelow}
 use Rattle.recording.proofs.Sums.{sum-within}
@@ -57,6 +58,31 @@ edition-says test all n = go (n - 1) (decLt (n - 1) currentEdition)
     go j (no k) =
         rw (List·getD-eq-default editions edition1 {n = j} (omega arith))
         (all-at (λ k. test (getD editions k edition1)) currentEdition 0 all (lit< tt))
+
+-- .. and of a number that is known: it is one of theirs, and what a row of the code has for each of them, it has for this one
+module _ (n : ℕ) (h : isKnown n ≡ true) where
+  pub known-low : 0 < n
+  unfolding isKnown isKnownBy
+  known-low = ltb-true 0 n (and-left _ _ h)
+
+  pub known-high : n ≤ currentEdition
+  unfolding isKnown isKnownBy
+  known-high = leb-true n currentEdition (and-right _ _ h)
+
+abbrev pub rowsOf : {B : Type 0} → (Edition → B) → List Edition → List B
+rowsOf value [] = []
+rowsOf value (e ∷ es) = value e ∷ rowsOf value es
+
+row-at : {B : Type 0} (value : Edition → B) (es : List Edition) (d : Edition) (v : B) (i : ℕ) → i < length es
+    → getD (rowsOf value es) i v ≡ value (getD es i d)
+row-at value [] d v i l = absurd (omega arith)
+row-at value (e ∷ es) d v zero l = refl
+row-at value (e ∷ es) d v (suc i) l = row-at value es d v i (omega arith)
+
+pub known-row : {B : Type 0} (value : Edition → B) (n : ℕ) → isKnown n ≡ true → {rows : List B} → rows ≡ rowsOf value editions
+    → (v : B) → getD rows (n - 1) v ≡ value (numbered n)
+known-row value n h {rows} e v =
+    ap (λ (r : List _). getD r (n - 1) v) e ∙ row-at value editions edition1 v (n - 1) (omega (arith, known-low n h, known-high n h))
 
 pub width-small : (n i : ℕ) → i < bodyCount → widthAt (editionAt n) i < 65536
 unfolding allBelow _and_ widthAt

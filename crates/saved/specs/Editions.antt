@@ -1,18 +1,19 @@
 -- Document 02, Wish 4: what a file of saved tables holds, edition by edition. "Each body's layout is yours to fix, later fields too; write it down."
 -- A body is a section of the tables as the layout has it, the last one the tally (docs/LAYOUT.md). A later edition is one more line in `editions`,
 -- and a field of `Edition` (tables/specs/Forms.antt) for each part of the layout that older ones have otherwise.
-use Prim.Native.Nat.{ℕ, _+_, _-_}
+use Prim.Native.Nat.{ℕ, _+_, _-_, _*_}
 use Prim.Native.String.{String}
 use mathlib.Core.Bool.{Bool, false}
 use mathlib.Core.List.{List, [], _∷_}
-use mathlib.Core.Path.{refl}
+use mathlib.Core.Path.{_≡_, refl}
 use lib.Dec.{ltb, leb, lit≤}
 use lib.ListN.{length, getD}
 use lib.Text.{eqt}
 use Rattle.octets.specs.Index.{_and_}
 use Rattle.codes.specs.Form.{Form, byte, mark, numberIn, octetsIn, given, field, _&_, many, firstsOf, slot, that, asRecord, code, oneOf}
-use Rattle.numbers.specs.Numbers.{longestPacket}
-use Rattle.notes.specs.Notes.{noNotes, notesForm}
+use Rattle.recording.specs.Shape.{entryPlace, sumBelow}
+use Rattle.numbers.specs.Numbers.{longestPacket, blobLimit}
+use Rattle.notes.specs.Notes.{noNotes}
 use Rattle.rules.specs.Relay.{noRateSettings, noRateEntry, Relay}
 use Rattle.rules.specs.declared.Tally.{Tally}
 use Rattle.tables.specs.Forms.{BlobRoom, as-today, fewer, Edition, rateSettingsForm, rateEntryForm, today, relayFormIn}
@@ -55,6 +56,16 @@ bodies =
     ("hashes" ∷ []) ∷
     ("tally" ∷ []) ∷
     []
+
+abbrev pub bodyCount : ℕ
+bodyCount = 8
+
+-- before them an entry for each, which has no head before its offset and length; where the first body starts: 52
+abbrev pub headWidth : ℕ
+headWidth = 0
+
+abbrev pub bodiesAt : ℕ
+bodiesAt = entryPlace headWidth bodyCount
 
 -- the width of the field of that name, 0 where there is none
 abbrev pub widthOf : {A : Type 0} → Form A → String → ℕ
@@ -147,3 +158,40 @@ current = editionAt currentEdition
 -- how long body i of an edition is
 unfoldable pub widthAt : Form Held → ℕ → ℕ
 widthAt e i = widthsOf e (getD bodies i [])
+
+-- ---- each edition keeps its shape, 1 to 3 whatever today's limit on blobs: a file of each, 71,192, 72,292, 72,356, 103,076 and 103,108 bytes long, and
+-- its eight bodies
+edition1-size : bodiesAt + code (held edition1) .width ≡ 60952 + 640 * olderBlobLimit
+edition1-size = refl
+
+edition1-fill : sumBelow (widthAt (held edition1)) bodyCount ≡ code (held edition1) .width
+unfolding sumBelow widthAt
+edition1-fill = refl
+
+edition2-size : bodiesAt + code (held edition2) .width ≡ 62052 + 640 * olderBlobLimit
+edition2-size = refl
+
+edition2-fill : sumBelow (widthAt (held edition2)) bodyCount ≡ code (held edition2) .width
+unfolding sumBelow widthAt
+edition2-fill = refl
+
+edition3-size : bodiesAt + code (held edition3) .width ≡ 62116 + 640 * olderBlobLimit
+edition3-size = refl
+
+edition3-fill : sumBelow (widthAt (held edition3)) bodyCount ≡ code (held edition3) .width
+unfolding sumBelow widthAt
+edition3-fill = refl
+
+edition4-size : bodiesAt + code (held edition4) .width ≡ 62116 + 640 * blobLimit
+edition4-size = refl
+
+edition4-fill : sumBelow (widthAt (held edition4)) bodyCount ≡ code (held edition4) .width
+unfolding sumBelow widthAt
+edition4-fill = refl
+
+edition5-size : bodiesAt + code (held edition5) .width ≡ 62148 + 640 * blobLimit
+edition5-size = refl
+
+edition5-fill : sumBelow (widthAt (held edition5)) bodyCount ≡ code (held edition5) .width
+unfolding sumBelow widthAt
+edition5-fill = refl

@@ -19,6 +19,7 @@ use Rattle.tables.specs.Fields.{pathRateAt, pathBlobsAt, blobsWidth}
 use Rattle.tables.specs.Records.{portBytes, pathBytesOk}
 use Rattle.saved.specs.Editions.{tallyForm, held, currentEdition, current, widthAt}
 use Rattle.saved.specs.File.{savedKind, bodyCount, bodiesAt}
+use Rattle.saved.specs.declared.editions.Widths.{Widths}
 use Rattle.saved.specs.Load.{lengthWrong, contentsWrong}
 
 -- ---- what a save writes: kind, edition and count; the entry of body i; the first n entries; the tally
@@ -51,6 +52,10 @@ mostBlobs (fewer most within) = most
 
 abbrev pub blobsWidthIn : Edition → ℕ
 blobsWidthIn e = code (blobsFormIn (e .blobRoom)) .width
+
+-- these numbers, in the code's row of an edition
+abbrev pub widthsIn : Edition → Widths
+widthsIn e = record { start = startWidth e; port = portWidthIn e; before = beforeBlobs e; blobs = mostBlobs (e .blobRoom) }
 
 -- how wide a path's record is; where ports, local addresses and paths stand in the file, what is behind them, and the tally
 abbrev pub pathWidthIn : Edition → ℕ

@@ -1,13 +1,11 @@
-// What each edition has, in numbers: a line for each, the last one for today's. The next edition adds its line where
-// it changes one. A path's new fields stand before its blobs, new blob places behind them, and the first body's and a
-// port's new fields at their ends.
+// What each edition has, in numbers: a row for each, the last one for today's. The next edition adds its row, and older
+// rows keep their numbers where a width of today's grows. A path's new fields stand before its blobs, new blob places
+// behind them, and the first body's and a port's new fields at their ends.
 use super::format::BODIES_AT;
 use super::format::BODY_COUNT;
-use super::format::EDITION;
 use super::format::HASHES_BODY;
 use super::format::LINKS_BODY;
 use super::format::LOCALS_BODY;
-use super::format::OLDER_BLOB_LIMIT;
 use super::format::RETURNS_BODY;
 use super::format::TALLY_BODY;
 use numbers::BLOB_LIMIT;
@@ -26,7 +24,59 @@ ghost use mathlib.Core.Bool.{true};
 ghost use Prim.Native.Nat.{_<_};
 ghost use Rattle.saved.specs.Editions.{isKnown, numbered, editionAt, widthAt};
 ghost use Rattle.saved.specs.File.{bodyCount};
-ghost use Rattle.saved.specs.Steps.{startWidth, portWidthIn, beforeBlobs, mostBlobs, blobsWidthIn, pathWidthIn, portsPlace, localsPlace, pathsPlace, backPlace};
+ghost use Rattle.saved.specs.Steps.{startWidth, portWidthIn, beforeBlobs, mostBlobs, widthsIn, blobsWidthIn, pathWidthIn, portsPlace, localsPlace, pathsPlace, backPlace};
+
+// The current edition: the last of the rows.
+pub const EDITION: u8 = 5;
+
+// Blobs of a path in editions 1 to 3.
+const OLDER_BLOB_LIMIT: usize = 16;
+
+// How long the first body is, how wide a port's settings are, how much of a path's record stands before its blobs, and
+// how many of these it can hold.
+pub struct Widths {
+    pub start: usize,
+    pub port: usize,
+    pub before: usize,
+    pub blobs: u8,
+}
+
+const WIDTHS: [Widths; EDITION as usize] = [
+    Widths {
+        start: TARGET_AT,
+        port: PORT_SIZE_AT,
+        before: PATH_LAST_AT,
+        blobs: OLDER_BLOB_LIMIT as u8,
+    },
+    // the announce rate: settings, and what a path's record has of it
+    Widths {
+        start: PORTS_AT,
+        port: PORT_SIZE_AT,
+        before: PATH_NOTES_AT,
+        blobs: OLDER_BLOB_LIMIT as u8,
+    },
+    // a path's mark
+    Widths {
+        start: PORTS_AT,
+        port: PORT_SIZE_AT,
+        before: PATH_BLOB_COUNT_AT,
+        blobs: OLDER_BLOB_LIMIT as u8,
+    },
+    // today's limit on blobs
+    Widths {
+        start: PORTS_AT,
+        port: PORT_SIZE_AT,
+        before: PATH_BLOB_COUNT_AT,
+        blobs: BLOB_LIMIT as u8,
+    },
+    // a port's size
+    Widths {
+        start: PORTS_AT,
+        port: PORT_WIDTH,
+        before: PATH_BLOB_COUNT_AT,
+        blobs: BLOB_LIMIT as u8,
+    },
+];
 
 pub fn is_known(edition: u8) -> bool
     ensures { λ r. ⌜ r ≡ isKnown edition ⌝ }
@@ -37,50 +87,40 @@ pub fn is_known(edition: u8) -> bool
     edition <= EDITION
 }
 
-// How long the first body is. Edition 2 brought the announce rate's settings.
+// An edition's row.
+fn row_of(edition: u8) -> Widths
+    requires { ⌜ isKnown edition ≡ true ⌝ }
+    ensures { λ r. ⌜ r ≡ widthsIn (numbered edition) ⌝ }
+{
+    WIDTHS[edition as usize - 1]
+}
+
 pub fn start_width(edition: u8) -> usize
     requires { ⌜ isKnown edition ≡ true ⌝ }
     ensures { λ r. ⌜ r ≡ startWidth (numbered edition) ⌝ }
 {
-    match edition {
-        1 => TARGET_AT,
-        _ => PORTS_AT,
-    }
+    row_of(edition).start
 }
 
-// How wide a port's settings are. Edition 5 brought the size.
 pub fn port_width(edition: u8) -> usize
     requires { ⌜ isKnown edition ≡ true ⌝ }
     ensures { λ r. ⌜ r ≡ portWidthIn (numbered edition) ⌝ }
 {
-    if edition < 5 {
-        return PORT_SIZE_AT;
-    }
-    PORT_WIDTH
+    row_of(edition).port
 }
 
-// How much of a path's record stands before its blobs. Edition 2 brought what the announce rate has there, edition
-// 3 the mark.
 pub fn before_blobs(edition: u8) -> usize
     requires { ⌜ isKnown edition ≡ true ⌝ }
     ensures { λ r. ⌜ r ≡ beforeBlobs (numbered edition) ⌝ }
 {
-    match edition {
-        1 => PATH_LAST_AT,
-        2 => PATH_NOTES_AT,
-        _ => PATH_BLOB_COUNT_AT,
-    }
+    row_of(edition).before
 }
 
-// How many blobs a path can hold. Edition 4 brought today's limit.
 pub fn most_blobs(edition: u8) -> u8
     requires { ⌜ isKnown edition ≡ true ⌝ }
     ensures { λ r. ⌜ r ≡ mostBlobs (numbered edition .blobRoom) ⌝ }
 {
-    if edition < 4 {
-        return OLDER_BLOB_LIMIT as u8;
-    }
-    BLOB_LIMIT as u8
+    row_of(edition).blobs
 }
 
 // ---- what follows from these

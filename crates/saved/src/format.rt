@@ -28,12 +28,6 @@ pub const ROOM_REFUSED: u8 = 25;
 
 pub const KIND: u8 = 2;
 
-// The current edition: the last of those in editions.rt.
-pub const EDITION: u8 = 5;
-
-// Blobs of a path in editions 1 to 3.
-pub const OLDER_BLOB_LIMIT: usize = 16;
-
 // The file's head: kind, edition, count.
 pub const COUNT_AT: usize = 2;
 

@@ -1,13 +1,13 @@
 // Saving a relay.
 use super::Saved;
 use super::contents::entry_place;
+use super::editions::EDITION;
 use super::editions::width_of;
 use super::format::BODIES_AT;
 use super::format::BODY_COUNT;
 use super::format::COUNT_AT;
 use super::format::COUNT_WIDTH;
 use super::format::COUNTER_WIDTH;
-use super::format::EDITION;
 use super::format::KIND;
 use super::format::LENGTH_WIDTH;
 use super::format::OFFSET_WIDTH;

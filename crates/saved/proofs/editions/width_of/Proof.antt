@@ -2,6 +2,7 @@ use native.Mathlib.Omega.{arith}
 use Rattle.saved.proofs.EditionLaws.{port-most, path-most}
 use Prim.Native.Nat.{ℕ, suc, _*_, _≤_, zero-le}
 use mathlib.Core.Path.{_≡_, sym, ap, _∙_}
+use Rattle.numbers.specs.Numbers.{portCount, pathCount}
 use Rattle.saved.specs.Editions.{numbered, held, editionAt, widthAt}
 use Rattle.saved.proofs.Widths.{width-start, width-ports, width-paths}
 use borrow.Author.Needs.{needs}
@@ -38,7 +39,7 @@ returns c =
 returns-2 : tie.Need-returns-2
 returns-2 c =
     let e = numbered (c .before .before .args .edition) in
-    ap (λ (w : ℕ). w * 16) (c .port-width .ensures) ∙ sym (width-ports e) ∙ ap (widthAt (held e)) (sym (c .before .match .keys2))
+    ap (λ (w : ℕ). w * portCount) (c .port-width .ensures) ∙ sym (width-ports e) ∙ ap (widthAt (held e)) (sym (c .before .match .keys2))
 
 returns-3 : tie.Need-returns-3
 unfolding widthAt
@@ -47,7 +48,7 @@ returns-3 c = sym (ap (widthAt (editionAt (c .before .args .edition))) (c .match
 returns-4 : tie.Need-returns-4
 returns-4 c =
     let e = numbered (c .before .before .args .edition) in
-    ap (λ (w : ℕ). w * 64) (c .path-width .ensures) ∙ sym (width-paths e) ∙ ap (widthAt (held e)) (sym (c .before .match .keys4))
+    ap (λ (w : ℕ). w * pathCount) (c .path-width .ensures) ∙ sym (width-paths e) ∙ ap (widthAt (held e)) (sym (c .before .match .keys4))
 
 returns-5 : tie.Need-returns-5
 unfolding widthAt

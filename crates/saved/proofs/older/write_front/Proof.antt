@@ -10,7 +10,8 @@ use Rattle.saved.specs.Editions.{numbered}
 use Rattle.saved.specs.File.{bodiesAt}
 use Rattle.saved.specs.Steps.{localsWidth}
 use Rattle.saved.proofs.Alike.{zeros-lent}
-use Rattle.saved.proofs.EditionLaws.{each-brings, start-most, start-written, zeros-length, ports-written-length, front-written}
+use Rattle.saved.proofs.EachBrings.{each-brings}
+use Rattle.saved.proofs.EditionLaws.{start-most, start-written, zeros-length, ports-written-length, front-written}
 use borrow.Author.Needs.{needs}
 use Rattle.saved.proofs.older.write_front.Statement.{statement}
 use Rattle.saved.proofs.older.write_front.Tie as tie

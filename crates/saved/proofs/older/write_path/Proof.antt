@@ -11,7 +11,8 @@ use Rattle.tables.specs.Fields.{pathBlobsAt, blobsWidth}
 use Rattle.saved.specs.Editions.{numbered}
 use Rattle.saved.specs.Steps.{beforeBlobs, blobsWidthIn, pathWidthIn, pathsPlace, opened, pathNow}
 use Rattle.saved.proofs.Alike.{opened-lent, zeros-lent, zeros-behind-put}
-use Rattle.saved.proofs.EditionLaws.{each-brings, before-most, path-ends, path-room, path-front}
+use Rattle.saved.proofs.EachBrings.{each-brings}
+use Rattle.saved.proofs.EditionLaws.{before-most, path-ends, path-room, path-front}
 use borrow.Author.Needs.{needs}
 use Rattle.saved.proofs.older.write_path.Statement.{statement}
 use Rattle.saved.proofs.older.write_path.Tie as tie

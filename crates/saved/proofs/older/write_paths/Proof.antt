@@ -11,7 +11,8 @@ use Rattle.numbers.specs.Numbers.{pathCount}
 use Rattle.tables.specs.Places.{pathWidth, pathsAt}
 use Rattle.saved.specs.Editions.{numbered}
 use Rattle.saved.specs.Steps.{pathsNow}
-use Rattle.saved.proofs.EditionLaws.{each-brings, path-length, paths-none, paths-more}
+use Rattle.saved.proofs.EachBrings.{each-brings}
+use Rattle.saved.proofs.EditionLaws.{path-length, paths-none, paths-more}
 use Rattle.saved.proofs.older.write_paths.Statement.{statement}
 use Rattle.saved.proofs.older.write_paths.Tie as tie
 

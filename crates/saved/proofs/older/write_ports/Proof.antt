@@ -11,7 +11,8 @@ use Rattle.numbers.specs.Numbers.{portCount}
 use Rattle.tables.specs.Places.{portWidth, portsAt}
 use Rattle.saved.specs.Editions.{numbered}
 use Rattle.saved.specs.Steps.{portsNow}
-use Rattle.saved.proofs.EditionLaws.{each-brings, port-length, ports-none, ports-more}
+use Rattle.saved.proofs.EachBrings.{each-brings}
+use Rattle.saved.proofs.EditionLaws.{port-length, ports-none, ports-more}
 use Rattle.saved.proofs.older.write_ports.Statement.{statement}
 use Rattle.saved.proofs.older.write_ports.Tie as tie
 

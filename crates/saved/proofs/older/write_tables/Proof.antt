@@ -7,7 +7,8 @@ use Rattle.numbers.specs.Numbers.{pathCount}
 use Rattle.tables.specs.Places.{pathsAt, linksAt, backWidth}
 use Rattle.saved.specs.Editions.{numbered}
 use Rattle.saved.specs.Steps.{pathsNow}
-use Rattle.saved.proofs.EditionLaws.{each-brings, now-written}
+use Rattle.saved.proofs.EachBrings.{each-brings}
+use Rattle.saved.proofs.EditionLaws.{now-written}
 use borrow.Author.Needs.{needs}
 use Rattle.saved.proofs.older.write_tables.Statement.{statement}
 use Rattle.saved.proofs.older.write_tables.Tie as tie
