@@ -13,7 +13,7 @@ use Rattle.octets.specs.Index.{_and_}
 use Rattle.codes.specs.Form.{Form, byte, mark, numberIn, octetsIn, given, field, _&_, many, firstsOf, slot, that, asRecord, code, oneOf}
 use Rattle.recording.specs.Shape.{entryPlace, sumBelow}
 use Rattle.numbers.specs.Numbers.{longestPacket, blobLimit}
-use Rattle.notes.specs.Notes.{noNotes}
+use Rattle.notes.specs.Notes.{noNotes, notesForm}
 use Rattle.rules.specs.Relay.{noRateSettings, noRateEntry, Relay}
 use Rattle.rules.specs.declared.Tally.{Tally}
 use Rattle.tables.specs.Forms.{BlobRoom, as-today, fewer, Edition, rateSettingsForm, rateEntryForm, today, relayFormIn}
