@@ -1,8 +1,10 @@
 -- What holds of what is noted, whichever the note.
 use Prim.Native.Nat.{ℕ}
 use mathlib.Core.Bool.{true}
-use mathlib.Core.List.{[], _∷_}
+use mathlib.Core.List.{List, [], _∷_}
 use mathlib.Core.Path.{_≡_, refl, ap}
+use lib.Dec.{ltb}
+use lib.ListN.{getD}
 use Rattle.codes.specs.Codes.{markOf}
 use Rattle.codes.specs.Form.{code}
 use Rattle.notes.specs.Notes.{noNotes, noted, notesForm, notesBytes, notesShaped}
@@ -31,7 +33,10 @@ pub notes-shaped : (n : Notes) → code notesForm .Good n → notesShaped n ≡ 
 unfolding notesShaped
 notes-shaped n g = refl
 
--- ---- as the code writes them
+-- ---- as the code tests and writes them
+pub fine-is : (t : List ℕ) (at : ℕ) → ltb (getD t at 0) 2 ≡ code notesForm .fine t at
+fine-is t at = refl
+
 pub bytes-are : (n : Notes) {mark : ℕ} → mark ≡ markOf (n .marked) → mark ∷ [] ≡ notesBytes n
 unfolding notesBytes
 bytes-are n e = ap (λ (x : ℕ). x ∷ []) e
