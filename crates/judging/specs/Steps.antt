@@ -132,7 +132,7 @@ abbrev pub blobsStored : Stored → Blobs
 blobsStored s = blobsIn (s .count) (s .bytes)
 
 abbrev pub revivedBy : SeenPath → List ℕ → Bool
-revivedBy s blob = s .marked and leb (greatestEmission (held (blobsOf s))) (emissionOf blob)
+revivedBy s blob = s .notes .marked and leb (greatestEmission (held (blobsOf s))) (emissionOf blob)
 
 unfoldable pub rateAnnounced : RateSettings → SeenPath → List ℕ → ℕ → RateEntry
 rateAnnounced settings s blob clock =
