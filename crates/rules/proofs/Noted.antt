@@ -13,6 +13,10 @@ use Rattle.rules.specs.declared.Note.{Note}
 use Rattle.rules.specs.declared.Note.the-variants.{Unresponsive}
 use Rattle.rules.proofs.Slots.{Single, Every, every-changed, single-changed}
 
+-- a path that is marked unresponsive
+abbrev pub withPathMark : Path → Path
+withPathMark = withNote Unresponsive
+
 -- no note takes a mark away
 pub keeps-mark : (note : Note) (n : Notes) → n .marked ≡ true → noted note n .marked ≡ true
 keeps-mark Unresponsive n h = refl

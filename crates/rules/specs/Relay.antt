@@ -154,10 +154,6 @@ noted Unresponsive n = makeNotes true
 abbrev pub withNote : Note → Path → Path
 withNote note p = withPathNotes (noted note (p .notes)) p
 
--- a path that is marked unresponsive
-abbrev pub withPathMark : Path → Path
-withPathMark = withNote Unresponsive
-
 -- a link between other ports
 abbrev pub withLinkPorts : ℕ → ℕ → Link → Link
 withLinkPorts asking answering l =
