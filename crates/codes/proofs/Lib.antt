@@ -7,8 +7,6 @@ pub mod Rows
 pub mod First
 pub mod Slots
 pub mod Forms
-pub mod Editions
 pub mod Places
 pub mod Inside
 pub mod Pieces
-pub mod Grown

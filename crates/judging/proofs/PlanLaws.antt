@@ -6,7 +6,7 @@ use mathlib.Core.Path.{_≡_, _∙_}
 use lib.ListN.{drop}
 use Rattle.octets.specs.Listed.{firstOf, valued}
 use Rattle.octets.proofs.Listed.{here, past, none-first}
-use Rattle.rules.proofs.Joined.{joined-first, none-valued}
+use Rattle.octets.proofs.JoinedTests.{joined-first, none-valued}
 use Rattle.rules.proofs.Passed.{none-known}
 use Rattle.rules.specs.View.{View}
 use Rattle.rules.specs.Arrival.{Arrival, hops}

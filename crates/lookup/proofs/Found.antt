@@ -14,8 +14,8 @@ use Rattle.rules.specs.View.{isLivePath, isLiveLink, isLiveReturn, isLocal, loc
 use Rattle.rules.specs.Refusals.{pathOk, linkOk, returnOk}
 use Rattle.tables.specs.Places.{pathsAt, pathWidth, linksAt, linkWidth, returnsAt, returnWidth}
 use Rattle.tables.specs.Records.{slotOf, pathOf, linkOf, returnOf, pathBytesOk, linkBytesOk, returnBytesOk}
-use Rattle.tables.specs.Layout.{recordAt, rows, recordsOk, relayOf, wellFormed}
-use Rattle.tables.proofs.Seen.{row-seen, rows-length}
+use Rattle.tables.specs.Layout.{recordAt, records, recordsOk, relayOf, wellFormed}
+use Rattle.tables.proofs.Seen.{record-seen, records-length}
 use Rattle.tables.proofs.Tests.{path-kept, link-kept, return-kept}
 use Rattle.tables.proofs.Whole.{formed}
 
@@ -30,21 +30,23 @@ module _ {A : Type 0} (test : A → Bool) (read : List ℕ → A) where
       go true q = absurd (false≢true (rw q at h))
       go false q = q
 
-  module _ (at width n : ℕ) (t : List ℕ) (i : ℕ) (e : i ≡ lowest test n (rows (slotOf read) at width n t)) where
+  module _ (at width n : ℕ) (t : List ℕ) (i : ℕ) (e : i ≡ lowest test n (records (slotOf read) at width n t)) where
     found-marked : i < n → eqb (getD (recordAt at width t i) 0 0) 0 ≡ false
     unfolding lowest
     found-marked l =
-        let there : holds test (getD (rows (slotOf read) at width n t) i empty) ≡ true =
-        subst (λ (k : ℕ). holds test (getD (rows (slotOf read) at width n t) k empty) ≡ true) (sym e)
-        (first-holds (λ k. holds test (getD (rows (slotOf read) at width n t) k empty)) n (subst (λ (k : ℕ). k < n) e l)) in
-        marked (recordAt at width t i) (ap (holds test) (sym (row-seen (slotOf read) at width n t i empty l)) ∙ there)
+        let there : holds test (getD (records (slotOf read) at width n t) i empty) ≡ true =
+        subst (λ (k : ℕ). holds test (getD (records (slotOf read) at width n t) k empty) ≡ true) (sym e)
+        (first-holds (λ k. holds test (getD (records (slotOf read) at width n t) k empty)) n (subst (λ (k : ℕ). k < n) e l)) in
+        marked (recordAt at width t i) (ap (holds test) (sym (record-seen (slotOf read) at width n t i empty l)) ∙ there)
 
-    found : i < n → getD (rows (slotOf read) at width n t) i empty ≡ used (read (recordAt at width t i))
+    found : i < n → getD (records (slotOf read) at width n t) i empty ≡ used (read (recordAt at width t i))
     unfolding slotOf _then_otherwise_
-    found l = row-seen (slotOf read) at width n t i empty l ∙ rw (found-marked l)
+    found l = record-seen (slotOf read) at width n t i empty l ∙ rw (found-marked l)
 
-    missing : n ≤ i → getD (rows (slotOf read) at width n t) i empty ≡ empty
-    missing l = List·getD-eq-default (rows (slotOf read) at width n t) empty {n = i} (subst (λ (k : ℕ). k ≤ i) (sym (rows-length (slotOf read) at width n t)) l)
+    missing : n ≤ i → getD (records (slotOf read) at width n t) i empty ≡ empty
+    missing l =
+        List·getD-eq-default (records (slotOf read) at width n t) empty {n = i}
+        (subst (λ (k : ℕ). k ≤ i) (sym (records-length (slotOf read) at width n t)) l)
 
     -- row 7's clauses on a used record
     found-ok : (ok : List ℕ → Bool) (rule : A → Bool) → ((b : List ℕ) → eqb (getD b 0 0) 0 ≡ false → ok b ≡ true → rule (read b) ≡ true)

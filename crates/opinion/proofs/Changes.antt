@@ -10,7 +10,7 @@ use Rattle.octets.specs.Choice.{_then_otherwise_, same}
 use Rattle.octets.proofs.Choice.{then-true, then-false}
 use Rattle.packet.specs.Header.{isData}
 use Rattle.packet.specs.Hash.{linkId}
-use Rattle.rules.specs.Relay.{Slot, empty, used, Path, Return, withPathMark}
+use Rattle.rules.specs.Relay.{Slot, empty, used, Path, Return}
 use Rattle.rules.specs.View.{View}
 use Rattle.rules.specs.Renumbering.{renamePath, renameLink, renameReturn, renameSlot}
 use Rattle.rules.specs.Arrival.{Arrival, header, destination, body}
@@ -19,6 +19,7 @@ use Rattle.rules.specs.Judging.{Plan, dropped, delivered, follows, plan}
 use Rattle.rules.specs.Writes.{announcedPath, returnKey, returnRecord, linkRecord, renewedLink, isRateDrop}
 use Rattle.rules.specs.declared.Link.{Link}
 use Rattle.rules.specs.declared.Reason.{Reason}
+use Rattle.rules.proofs.Noted.{withPathMark}
 use Rattle.rules.proofs.Choices.{either}
 use Rattle.rules.proofs.Slots.{used-not-empty, used-same}
 use Rattle.rules.proofs.Passed.{passed}

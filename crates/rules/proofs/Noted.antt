@@ -9,7 +9,12 @@ use Rattle.rules.specs.View.{viewAt, pathPlace}
 use Rattle.rules.specs.Renumbering.{renameSlot}
 use Rattle.rules.specs.Writes.{notedSlot, notePath}
 use Rattle.notes.specs.declared.Note.{Note}
+use Rattle.notes.specs.declared.Note.the-variants.{Unresponsive}
 use Rattle.rules.proofs.Slots.{Single, Every, every-changed, single-changed}
+
+-- a path that is marked unresponsive
+abbrev pub withPathMark : Path → Path
+withPathMark = withNote Unresponsive
 
 module _ (note : Note) where
   pub noted-is : (s : Slot Path) → notedSlot note s ≡ renameSlot (withNote note) s

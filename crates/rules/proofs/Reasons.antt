@@ -12,8 +12,8 @@ use borrow.Author.Tests.{eq-eqb, ne-eqb, eqb-true, eqb-false, not-true, not-fals
 use Rattle.octets.specs.Index.{_and_}
 use Rattle.octets.specs.Choice.{_then_otherwise_, _or_}
 use Rattle.octets.specs.Listed.{Test, firstOf, anyHolds, valued}
-use Rattle.octets.proofs.Index.{and-left, and-right, and-both, and-no, and-assoc, and-true}
-use Rattle.octets.proofs.Listed.{allGive, all-first}
+use Rattle.octets.proofs.Index.{and-both, and-no, and-assoc, and-true}
+use Rattle.octets.proofs.Listed.{allGive, all-first, past-first}
 use Rattle.packet.specs.Header.{typeTwo, contextFlag, ofKindLink, packetKind, isData, isAnnounce, isLinkRequest, isProof}
 use Rattle.packet.specs.Read.{headerOf}
 use Rattle.packet.specs.Announce.{ratchetLength, leastAnnounce}
@@ -119,18 +119,6 @@ second-on : {A : Type 0} (p : A → Bool) (ts : List (Test A)) (rest : A) → Fi
 unfolding firstOf _then_otherwise_
 second-on p [] rest e g r = r
 second-on p (t ∷ ts) rest e g r = rw e (all-first p ts rest g r)
-
--- where no value of the list passes, what is given passes where no test holds and the rest passes
-past-first : {A : Type 0} (p : A → Bool) (ts : List (Test A)) (rest : A) → allGive (λ x. not (p x)) ts ≡ true
-    → p (firstOf ts rest) ≡ (not (anyHolds ts) and p rest)
-unfolding firstOf anyHolds allGive _then_otherwise_ _or_ _and_
-past-first p [] rest g = refl
-past-first {A} p (t ∷ ts) rest g = go (t .holds) (past-first p ts rest (and-right (not (p (t .value))) _ g))
-  where
-    go : (b : Bool) → p (firstOf ts rest) ≡ (not (anyHolds ts) and p rest)
-        → p (b then t .value otherwise firstOf ts rest) ≡ (not (b or anyHolds ts) and p rest)
-    go true below = not-true _ (and-left (not (p (t .value))) _ g)
-    go false below = below
 
 not-or : (a b : Bool) → not (a or b) ≡ (not a and not b)
 unfolding _or_ _and_

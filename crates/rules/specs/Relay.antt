@@ -13,7 +13,6 @@ use Rattle.rules.specs.declared.RateEntry.{RateEntry}
 use Rattle.notes.specs.Notes.{noted}
 use Rattle.notes.specs.declared.Notes.{Notes}
 use Rattle.notes.specs.declared.Note.{Note}
-use Rattle.notes.specs.declared.Note.the-variants.{Unresponsive}
 
 -- each on or off and boundary, access point or roaming. Wish 11: "Each port gets a size"
 pub record Port : Type 0 where
@@ -143,10 +142,6 @@ withPathNotes notes p = makePath (p .destination) (p .port) (p .hops) (p .nextHo
 -- a path of which the host has noted this
 abbrev pub withNote : Note → Path → Path
 withNote note p = withPathNotes (noted note (p .notes)) p
-
--- a path that is marked unresponsive
-abbrev pub withPathMark : Path → Path
-withPathMark = withNote Unresponsive
 
 -- a link between other ports
 abbrev pub withLinkPorts : ℕ → ℕ → Link → Link

@@ -11,7 +11,7 @@ use borrow.Author.Tests.{ltb-false, le-ltb, lt-leb}
 use Rattle.octets.specs.Index.{first}
 use Rattle.octets.specs.Choice.{_then_otherwise_, _or_, same}
 use Rattle.octets.specs.Listed.{firstOf}
-use Rattle.octets.proofs.Choice.{or-else, or-no-left, or-no-right}
+use Rattle.octets.proofs.Choice.{or-else, or-false, or-no-left, or-no-right}
 use Rattle.octets.proofs.Index.{first-hit, first-before, first-absent}
 use Rattle.rules.specs.Relay.{Slot, empty, used, Relay, withLocals, holds, lowest, free, lowestFree}
 use Rattle.rules.specs.View.{isLocal, localPlace}
@@ -72,11 +72,6 @@ pub or-assoc : (a b c : Bool) → ((a or b) or c) ≡ (a or (b or c))
 unfolding _or_
 or-assoc true b c = refl
 or-assoc false b c = refl
-
-pub or-false : (a : Bool) → (a or false) ≡ a
-unfolding _or_
-or-false true = refl
-or-false false = refl
 
 pub any-append : (p : Slot (List ℕ) → Bool) (xs ys : List (Slot (List ℕ))) → any p (xs ++ ys) ≡ (any p xs or any p ys)
 unfolding any _or_

@@ -11,7 +11,7 @@ use Rattle.octets.specs.Bytes.{Bytes}
 use Rattle.octets.specs.Index.{listOf}
 use Rattle.octets.specs.Choice.{_then_otherwise_, _or_, same}
 use Rattle.octets.specs.Listed.{firstOf}
-use Rattle.octets.proofs.Choice.{or-left, or-else, same-eq}
+use Rattle.octets.proofs.Choice.{or-left, or-else, or-false, same-eq}
 use Rattle.octets.proofs.Index.{and-left, and-right, and-both}
 use Rattle.octets.proofs.ListOf.{mixed, mixed-more, mixed-all}
 use Rattle.numbers.specs.Numbers.{portCount, isSize}
@@ -34,7 +34,7 @@ use Rattle.saved.specs.Load.{loadRefusal, heldIn}
 use Rattle.saved.proofs.FormatLaws.{said-ok, said-shaped}
 use Rattle.surveying.specs.Start.{portCall, rateCall, localCalls, settingCalls, tablesAfter, startOf, StartsAs}
 use Rattle.surveying.proofs.SettingLaws.{port-fine}
-use Rattle.surveying.proofs.AddressLaws.{any, any-append, or-assoc, or-false, local-any, packed, packed-length, packed-any, known-address, new-address}
+use Rattle.surveying.proofs.AddressLaws.{any, any-append, or-assoc, local-any, packed, packed-length, packed-any, known-address, new-address}
 
 -- ---- the calls by the rules, one after another
 unfoldable pub settledBy : List TableCall → Relay → Relay

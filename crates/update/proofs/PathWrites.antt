@@ -10,7 +10,7 @@ use borrow.Rule.Slice.PartMut.{putMid}
 use Rattle.octets.specs.Index.{listOf}
 use Rattle.octets.specs.Choice.{_then_otherwise_}
 use Rattle.octets.specs.Part.{part, patch, joined, fields}
-use Rattle.octets.proofs.ListOf.{listOf-length, listOf-cong}
+use Rattle.octets.proofs.ListOf.{listOf-length, listOf-cong, listOf-first}
 use Rattle.octets.proofs.Part.{part-length, part-one, part-part, part-split, part-whole, patch-length, patch-join, patch-whole, patch-mid, part-range, patch-range}
 use Rattle.octets.proofs.Joined.{joined-append, joined-one, joined-parts, fields-all}
 use Rattle.codes.specs.Form.{byte, octetsIn, many}
@@ -67,11 +67,6 @@ one-written s blob ls lb =
     ∙ patch-whole s (blobsBytes (oneBlob blobLimit blob)) (blobs-length (oneBlob blobLimit blob) ∙ sym ls)
 
 -- ---- a known path's
-listOf-first : {A : Type 0} (f : ℕ → A) (n : ℕ) → listOf f (suc n) ≡ f 0 ∷ listOf (λ i. f (suc i)) n
-unfolding listOf
-listOf-first f zero = refl
-listOf-first {A} f (suc n) = ap (λ (xs : List A). xs ++ (f (suc n) ∷ [])) (listOf-first f n)
-
 module _ (s : List ℕ) (ls : length s ≡ blobsWidth) where
   -- the blob at a, as it is read
   abbrev blobAt : ℕ → List ℕ

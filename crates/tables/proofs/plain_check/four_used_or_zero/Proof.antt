@@ -5,7 +5,7 @@ use Rattle.octets.proofs.Index.{ended}
 use Rattle.codes.proofs.Rows.{row-end}
 use Rattle.tables.specs.Layout.{recordsOk}
 use Rattle.tables.specs.Groups.{usedOrZero}
-use Rattle.tables.proofs.Loops.{none-yet, row-passes, row-fails}
+use Rattle.tables.proofs.Loops.{none-yet, record-passes, record-fails}
 use native.Mathlib.Omega.{arith}
 use borrow.Author.Needs.{needs}
 use Rattle.tables.proofs.plain_check.four_used_or_zero.Statement.{statement}
@@ -42,7 +42,7 @@ used-or-zero-requires : tie.Need-used-or-zero-requires Inv-loop μ-loop
 used-or-zero-requires c κs = search needs
 
 returns : tie.Need-returns Inv-loop μ-loop
-returns c = row-fails usedOrZero _ _ _ _ (c .before .used-or-zero .ensures) 4 (c .before .before .before .loop-test .taken) (c .if1 .taken)
+returns c = record-fails usedOrZero _ _ _ _ (c .before .used-or-zero .ensures) 4 (c .before .before .before .loop-test .taken) (c .if1 .taken)
 
 add-i : tie.Need-add-i Inv-loop μ-loop
 add-i c = search needs
@@ -53,7 +53,7 @@ loop-less c = search needs
 loop-again : tie.Need-loop-again Inv-loop μ-loop
 loop-again c =
     let c4 = c .before .before .before .before in
-    (search needs, row-passes usedOrZero _ _ _ _ (c .before .used-or-zero .ensures) (c .if1 .left) (c4 .loop .inv .1))
+    (search needs, record-passes usedOrZero _ _ _ _ (c .before .used-or-zero .ensures) (c .if1 .left) (c4 .loop .inv .1))
 
 returns-2 : tie.Need-returns-2 Inv-loop μ-loop
 returns-2 c =

@@ -9,7 +9,7 @@ use Rattle.tables.specs.Fields.{hashExpiryAt}
 use Rattle.tables.specs.Places.{hashWidth}
 use Rattle.tables.specs.Records.{hashBytesOk}
 use Rattle.tables.specs.Groups.{usedOrZero}
-use Rattle.tables.proofs.Plain.{together-ltb, rows-left, hash-left}
+use Rattle.tables.proofs.Plain.{together-ltb, records-left, hash-left}
 use native.Mathlib.Omega.{arith}
 use borrow.Author.Needs.{needs}
 use Rattle.tables.proofs.section_check.four_hashes_ok.Statement.{statement}
@@ -31,7 +31,7 @@ returns c =
     let t = c4 .args .t .now in
     let at = c4 .args .at in
     c .four-used-or-zero .ensures
-    ∙ rows-left (λ x. ltb x clockLimit) at hashExpiryAt hashWidth 4 t (omega arith) hashBytesOk usedOrZero
+    ∙ records-left (λ x. ltb x clockLimit) at hashExpiryAt hashWidth 4 t (omega arith) hashBytesOk usedOrZero
     (λ k l. hash-left _ (part-length t (at + hashWidth * k) hashWidth (omega (arith, c4 .pre, row-end hashWidth 4 k l))))
     (sym (together-ltb 40 _ 4) ∙ ap (λ x. ltb x clockLimit) (sym (c2 .four-together .ensures)) ∙ lt-ltb _ _ (c .before .if1 .taken))
 

@@ -2,10 +2,9 @@
 use mathlib.Core.Bool.{Bool, true, false}
 use mathlib.Core.List.{List, [], _∷_}
 use mathlib.Core.Path.{_≡_, refl, ap}
 use Rattle.octets.specs.Choice.{_then_otherwise_}
-use Rattle.octets.specs.Listed.{Test, _gives_otherwise_, firstOf, valued}
+use Rattle.octets.specs.Listed.{Test, _gives_otherwise_, firstOf, valued, _each-give_otherwise_}
 use Rattle.octets.proofs.Listed.{NoneHolds}
-use Rattle.rules.specs.Judging.{_each-give_otherwise_}
 
 module _ {A B : Type 0} (f : A → B) where
   -- what it gives is what the list gives, or else those behind it
