@@ -5,18 +5,17 @@ use mathlib.Core.List.{List}
 use mathlib.Core.Path.{_≡_, refl, sym, ap, subst, _∙_}
 use lib.Dec.{eqb, ltb}
 use lib.ListN.{getD, List·getD-eq-default}
-use borrow.Author.Tests.{ltb-true, leb-true}
 use Rattle.octets.specs.Choice.{_then_otherwise_}
-use Rattle.octets.proofs.Index.{and-left, and-right, all-at, first-holds}
-use Rattle.numbers.specs.Numbers.{portCount, localCount, pathCount, linkCount, returnCount, hashCount, blobLimit}
+use Rattle.octets.proofs.Index.{all-at, first-holds}
+use Rattle.numbers.specs.Numbers.{pathCount, linkCount, returnCount}
 use Rattle.rules.specs.Relay.{empty, used, Relay, holds, lowest}
-use Rattle.rules.specs.View.{isLivePath, isLiveLink, isLiveReturn, isLocal, localPlace, pathPlace, linkPlace, returnPlace, hashPlace, freePath, freeLink, viewAt}
-use Rattle.rules.specs.Refusals.{pathOk, linkOk, returnOk}
+use Rattle.rules.specs.View.{isLivePath, isLiveLink, isLiveReturn, pathPlace, linkPlace, returnPlace, freePath, freeLink, viewAt}
+use Rattle.rules.specs.Refusals.{pathOk}
 use Rattle.tables.specs.Places.{pathsAt, pathWidth, linksAt, linkWidth, returnsAt, returnWidth}
-use Rattle.tables.specs.Records.{slotOf, pathOf, linkOf, returnOf, pathBytesOk, linkBytesOk, returnBytesOk}
+use Rattle.tables.specs.Records.{slotOf, pathOf, linkOf, returnOf, pathBytesOk}
 use Rattle.tables.specs.Layout.{recordAt, records, recordsOk, relayOf, wellFormed}
 use Rattle.tables.proofs.Seen.{record-seen, records-length}
-use Rattle.tables.proofs.Tests.{path-kept, link-kept, return-kept}
+use Rattle.tables.proofs.Tests.{path-kept}
 use Rattle.tables.proofs.Whole.{formed}
 
 -- ---- any table
@@ -75,10 +74,6 @@ module _ (t : List ℕ) (clock : ℕ) where
       path-ok =
           found-ok (isLivePath clock destination) pathOf pathsAt pathWidth pathCount t i e pathBytesOk pathOk path-kept (formed t h .paths) l
 
-      pub path-port-ok : pathOf (recordAt pathsAt pathWidth t i) .port < portCount
-      unfolding pathOk
-      path-port-ok = ltb-true _ _ (and-left _ _ path-ok)
-
   module _ (id : List ℕ) (i : ℕ) (e : i ≡ linkPlace clock (relayOf t) id) where
     pub link-found : i < linkCount → viewAt clock (relayOf t) .link id ≡ used (linkOf (recordAt linksAt linkWidth t i))
     unfolding viewAt linkPlace relayOf slotOf linkOf
@@ -91,20 +86,6 @@ module _ (t : List ℕ) (clock : ℕ) where
     link-missing l =
         ap (λ (k : ℕ). getD (relayOf t .links) k empty) (sym e)
         ∙ missing (isLiveLink clock id) linkOf linksAt linkWidth linkCount t i e l
-
-    module _ (h : wellFormed t ≡ true) (l : i < linkCount) where
-      link-ok : linkOk (linkOf (recordAt linksAt linkWidth t i)) ≡ true
-      unfolding linkPlace relayOf slotOf linkOf
-      link-ok =
-          found-ok (isLiveLink clock id) linkOf linksAt linkWidth linkCount t i e linkBytesOk linkOk link-kept (formed t h .links) l
-
-      pub link-asking-ok : linkOf (recordAt linksAt linkWidth t i) .asking < portCount
-      unfolding linkOk
-      link-asking-ok = ltb-true _ _ (and-left _ _ link-ok)
-
-      pub link-answering-ok : linkOf (recordAt linksAt linkWidth t i) .answering < portCount
-      unfolding linkOk
-      link-answering-ok = ltb-true _ _ (and-left _ _ (and-right _ _ link-ok))
 
   module _ (key : List ℕ) (i : ℕ) (e : i ≡ returnPlace clock (relayOf t) key) where
     pub return-found : i < returnCount → viewAt clock (relayOf t) .return key ≡ used (returnOf (recordAt returnsAt returnWidth t i))
@@ -119,30 +100,8 @@ module _ (t : List ℕ) (clock : ℕ) where
         ap (λ (k : ℕ). getD (relayOf t .returns .slots) k empty) (sym e)
         ∙ missing (isLiveReturn clock key) returnOf returnsAt returnWidth returnCount t i e l
 
-    module _ (h : wellFormed t ≡ true) (l : i < returnCount) where
-      return-ok : returnOk (returnOf (recordAt returnsAt returnWidth t i)) ≡ true
-      unfolding returnPlace relayOf slotOf returnOf
-      return-ok =
-          found-ok (isLiveReturn clock key) returnOf returnsAt returnWidth returnCount t i e returnBytesOk returnOk return-kept (formed t h .returns) l
-
-      pub return-arrival-ok : returnOf (recordAt returnsAt returnWidth t i) .arrival < portCount
-      unfolding returnOk
-      return-arrival-ok = ltb-true _ _ (and-left _ _ return-ok)
-
-      pub return-leaving-ok : returnOf (recordAt returnsAt returnWidth t i) .leaving < portCount
-      unfolding returnOk
-      return-leaving-ok = ltb-true _ _ (and-left _ _ (and-right _ _ return-ok))
-
 -- ---- what is only there or not
 module _ (clock : ℕ) (r : Relay) (i : ℕ) where
-  pub local-found : (address : List ℕ) → i ≡ localPlace r address → viewAt clock r .local address ≡ ltb i localCount
-  unfolding viewAt isLocal
-  local-found address e = ap (λ (k : ℕ). ltb k localCount) (sym e)
-
-  pub hash-found : (hash : List ℕ) → i ≡ hashPlace clock r hash → viewAt clock r .remembered hash ≡ ltb i hashCount
-  unfolding viewAt
-  hash-found hash e = ap (λ (k : ℕ). ltb k hashCount) (sym e)
-
   pub path-room : i ≡ freePath clock r → viewAt clock r .roomForPath ≡ ltb i pathCount
   unfolding viewAt
   path-room e = ap (λ (k : ℕ). ltb k pathCount) (sym e)

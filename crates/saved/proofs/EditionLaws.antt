@@ -21,7 +21,7 @@ use Rattle.codes.proofs.Rows.{row-end}
 use Rattle.codes.proofs.Forms.{lawful}
 use Rattle.codes.proofs.Same.{same-byte}
 use Rattle.recording.proofs.Sums.{joined-each-bytes, patch-three, part-last, part-front, part-back}
-use Rattle.numbers.specs.Numbers.{portCount, localCount, pathCount, blobLimit}
+use Rattle.numbers.specs.Numbers.{portCount, localCount, pathCount}
 use Rattle.rules.specs.Relay.{freshPort, noPort, empty}
 use Rattle.rules.specs.Refusals.{timeOk, rateSettingsOk}
 use Rattle.notes.specs.Notes.{notesForm}
@@ -38,7 +38,7 @@ use Rattle.saved.proofs.RowLaws.{rows-none, rows-length, row-found, row
 use Rattle.saved.proofs.Alike.{Alike, same-alike, moved-alike, both-alike, field-alike, that-alike, record-alike, slot-alike, many-alike, opened-length, opened-lent, zeros-lent, zeros-behind, zeros-behind-put, Opening, opening}
 use Rattle.saved.proofs.PortSizes.{size-within, fresh-good, filled-length, filled-alike}
 use Rattle.saved.proofs.EachBrings.{Brings, each-brings}
-use Rattle.saved.proofs.Rooms.{room-within, room-width, room-narrow, limitedPath, limited-width, limited-reads, limited-clauses, blobs-alike}
+use Rattle.saved.proofs.Rooms.{room-width, room-narrow, limitedPath, limited-width, limited-reads, limited-clauses, blobs-alike}
 
 -- the sections before the paths, alone
 front-same : (t : List ℕ) → frontOk (part t 0 pathsAt) ≡ frontOk t
@@ -452,9 +452,6 @@ module _ (n : ℕ) where
 
   pub path-ends : pathBlobsAt + blobsWidthIn (numbered n) ≤ pathWidth
   path-ends = omega (arith, room-narrow (numbered n .blobRoom))
-
-  pub blobs-most : mostBlobs (numbered n .blobRoom) ≤ blobLimit
-  blobs-most = room-within (numbered n .blobRoom)
 
   pub blobs-wide : blobsWidthIn (numbered n) ≡ 1 + blobWidth * mostBlobs (numbered n .blobRoom)
   blobs-wide = room-width (numbered n .blobRoom)

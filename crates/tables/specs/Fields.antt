@@ -4,9 +4,6 @@ use Prim.Native.Nat.{ℕ, _+_}
 use Rattle.codes.specs.Form.{code, placeOf}
 use Rattle.tables.specs.Forms.{portForm, blobsForm, pathForm, linkForm, returnForm, hashForm}
 
-abbrev pub portModeAt : ℕ
-portModeAt = placeOf portForm "mode"
-
 abbrev pub portSizeAt : ℕ
 portSizeAt = placeOf portForm "size"
 
