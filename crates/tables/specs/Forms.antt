@@ -59,7 +59,7 @@ rateEntryForm =
 abbrev pub notesForm : Form Notes
 notesForm = asRecord makeNotes (λ n. n .marked) (λ x. refl) (λ y. refl) (field "marked" mark)
 
--- ---- what older editions of saved tables have otherwise (crates/saved): the tables are of today's
+-- ---- what older editions of saved tables have otherwise (crates/editions): the tables are of today's
 -- wish 8: how many blobs a path can hold, as many as today or fewer
 pub data BlobRoom : Type 0 where
   as-today : BlobRoom
