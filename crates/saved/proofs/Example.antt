@@ -32,7 +32,7 @@ use Rattle.tables.specs.Places.{portWidth, pathWidth, portsAt, tableSize}
 use Rattle.tables.specs.Layout.{relayOf as layoutRelay, bytesOf, wellFormed}
 use Rattle.tables.specs.Shape.{isByte, isBytes, notesShaped, pathShaped, linkShaped, returnShaped, hashShaped, shaped}
 use Rattle.tables.proofs.Whole.{relay-good, back, ok-bytes, bytes-bytes}
-use Rattle.saved.specs.Editions.{olderBlobLimit, edition1, currentEdition, isKnownBy, isKnown, held, current, widthAt}
+use Rattle.editions.specs.Editions.{olderBlobLimit, edition1, currentEdition, isKnownBy, isKnown, held, current, widthAt}
 use Rattle.saved.specs.File.{bodyCount, fileIn, savedSize}
 use Rattle.saved.specs.Save.{saveRows, saveRefusal, saveOn}
 use Rattle.saved.specs.Load.{lengthWrong, kindWrongBy, kindWrong, contentsWrong, sizesRight, bodiesWrong, loadRows, loadRefusal, LoadedOn, loadOn}

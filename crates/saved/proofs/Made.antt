@@ -21,11 +21,11 @@ use Rattle.recording.proofs.Sums.{sum-cong, part-last}
 use Rattle.recording.proofs.ShapeLaws.{longOf, placeOf, shape-listOf, shape-again, shape-length, shape-long, shape-kind, shape-edition, shape-count, shape-shaped, shape-bytes}
 use Rattle.tables.specs.Forms.{today}
 use Rattle.tables.specs.Places.{tableSize}
-use Rattle.saved.specs.Editions.{Held, currentEdition, isKnown, numbered, editionAt, current, widthAt}
+use Rattle.editions.specs.Editions.{Held, currentEdition, isKnown, numbered, editionAt, current, widthAt}
 use Rattle.saved.specs.File.{savedKind, bodyCount, headWidth, noHead, wholeBody, bodiesAt, bodyOf, fileIn, fileOf, savedSize}
 use Rattle.saved.specs.Load.{lengthWrong, heldIn}
-use Rattle.saved.specs.Steps.{sizeIn}
-use Rattle.saved.proofs.Widths.{widths-in, width-within, size-in, width-small, size-small, now-known}
+use Rattle.editions.specs.Steps.{sizeIn}
+use Rattle.editions.proofs.Widths.{widths-in, width-within, size-in, width-small, size-small, now-known}
 use Rattle.saved.proofs.SaveLaws.{saved-length, body-length, body-place, bodies-joined}
 use Rattle.saved.proofs.LoadLaws.{Taken, taken-whole}
 

@@ -28,11 +28,11 @@ use Rattle.rules.specs.declared.Tally.{Tally}
 use Rattle.tables.specs.Places.{tableSize}
 use Rattle.tables.specs.Layout.{relayOf, bytesOf, wellFormed}
 use Rattle.tables.proofs.Whole.{again, formed}
-use Rattle.saved.specs.Editions.{Held, tallyForm, numbered, editionAt, currentEdition, current, widthAt}
+use Rattle.editions.specs.Editions.{Held, tallyForm, numbered, editionAt, currentEdition, current, widthAt}
 use Rattle.saved.specs.File.{savedKind, bodyCount, headWidth, noHead, wholeBody, bodiesAt, bodyOf, fileIn, fileOf, savedSize}
 use Rattle.saved.specs.Save.{saveRows, saveRefusal, SavedOn, saveOn}
 use Rattle.saved.specs.Steps.{startBytes, entryBytes, contentsBytes, tallyBytes}
-use Rattle.saved.proofs.Widths.{widths-in, width-within}
+use Rattle.editions.proofs.Widths.{widths-in, width-within}
 
 -- ---- the rows, in their order
 module _ (tables : List ℕ) (room : ℕ) where

@@ -9,8 +9,8 @@ use Rattle.octets.specs.Part.{part}
 use Rattle.recording.specs.Shape.{sumBelow, shapeOf}
 use Rattle.codes.specs.Form.{Form, code}
 use Rattle.tables.specs.Places.{tableSize}
-use Rattle.saved.specs.Editions.{Held, tallyForm, editionAt, currentEdition, current, widthAt}
-pub use Rattle.saved.specs.Editions.{bodyCount, headWidth, bodiesAt}
+use Rattle.editions.specs.Editions.{Held, tallyForm, editionAt, currentEdition, current, widthAt}
+pub use Rattle.editions.specs.Editions.{bodyCount, headWidth, bodiesAt}
 
 abbrev pub savedKind : ℕ
 savedKind = 2

@@ -56,7 +56,7 @@ rateEntryForm =
     asRecord toRateEntry (λ e. (e .last, (e .violations, e .«blocked_until»))) (λ x. refl) (λ y. refl)
     (field "last" (numberIn timeWidth) & field "violations" byte & field "blocked until" (numberIn timeWidth))
 
--- ---- what older editions of saved tables have otherwise (crates/saved): the tables are of today's
+-- ---- what older editions of saved tables have otherwise (crates/editions): the tables are of today's
 -- wish 8: how many blobs a path can hold, as many as today or fewer
 pub data BlobRoom : Type 0 where
   as-today : BlobRoom
