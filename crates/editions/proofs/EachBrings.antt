@@ -12,7 +12,6 @@ use Rattle.codes.specs.Codes.{markOf}
 use Rattle.notes.specs.Notes.{noNotes, notesForm}
 use Rattle.rules.specs.Relay.{noRateSettings, noRateEntry}
 use Rattle.rules.specs.Refusals.{rateSettingsOk}
-use Rattle.notes.specs.Notes.{notesForm}
 use Rattle.tables.specs.Forms.{Edition, rateSettingsForm, rateEntryForm}
 use Rattle.editions.specs.Editions.{edition1, edition2, edition3, edition4, edition5, editions}
 use Rattle.editions.proofs.Alike.{Brought, kept, lacked, BroughtTwo, first-kept, both-lacked}

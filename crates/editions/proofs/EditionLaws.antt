@@ -37,7 +37,7 @@ use Rattle.editions.proofs.RowLaws.{rows-none, rows-length, row-found, 
 use Rattle.editions.proofs.Alike.{and-last, Alike, same-alike, moved-alike, both-alike, field-alike, that-alike, record-alike, slot-alike, many-alike, opened-length, opened-lent, zeros-lent, zeros-behind, zeros-behind-put, Opening, opening}
 use Rattle.editions.proofs.PortSizes.{size-within, fresh-good, filled-length, filled-alike}
 use Rattle.editions.proofs.EachBrings.{Brings, each-brings}
-use Rattle.editions.proofs.Rooms.{room-within, room-width, room-narrow, limitedPath, limited-width, limited-reads, limited-clauses, blobs-alike}
+use Rattle.editions.proofs.Rooms.{room-width, room-narrow, limitedPath, limited-width, limited-reads, limited-clauses, blobs-alike}
 
 -- the sections before the paths, alone
 front-same : (t : List ℕ) → frontOk (part t 0 pathsAt) ≡ frontOk t

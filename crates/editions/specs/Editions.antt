@@ -3,7 +3,7 @@
 -- and a field of `Edition` (tables/specs/Forms.antt) for each part of the layout that older ones have otherwise.
 use Prim.Native.Nat.{ℕ, _+_, _-_, _*_}
 use Prim.Native.String.{String}
-use mathlib.Core.Bool.{Bool, false}
+use mathlib.Core.Bool.{Bool}
 use mathlib.Core.List.{List, [], _∷_}
 use mathlib.Core.Path.{_≡_, refl}
 use lib.Dec.{ltb, leb, lit≤}

@@ -3,7 +3,7 @@
 use Prim.Native.Nat.{ℕ, zero, suc, _+_, _-_, _*_, _≤_, _<_}
 use native.Mathlib.Decide.{decLt}
 use native.Mathlib.Omega.{arith}
-use mathlib.Core.Bool.{true, false}
+use mathlib.Core.Bool.{true}
 use mathlib.Core.List.{List, [], _∷_, _++_, append-assoc}
 use mathlib.Core.Path.{_≡_, refl, sym, ap, subst, _∙_}
 use lib.Dec.{leb, lit<}
@@ -34,7 +34,7 @@ use Rattle.tables.specs.Shape.{isByte, isBytes, notesShaped, pathShaped, linkSh
 use Rattle.tables.proofs.Whole.{relay-good, back, ok-bytes, bytes-bytes}
 use Rattle.editions.specs.Editions.{olderBlobLimit, edition1, currentEdition, isKnownBy, isKnown, held, current, widthAt}
 use Rattle.saved.specs.File.{bodyCount, fileIn, savedSize}
-use Rattle.saved.specs.Save.{saveRows, saveRefusal, saveOn}
+use Rattle.saved.specs.Save.{saveOn}
 use Rattle.saved.specs.Load.{lengthWrong, kindWrongBy, kindWrong, contentsWrong, sizesRight, bodiesWrong, loadRows, loadRefusal, LoadedOn, loadOn}
 use Rattle.saved.specs.Steps.{startBytes, entryBytes, contentsBytes}
 use Rattle.saved.proofs.SaveLaws.{refused-tables, refused-room, save-refused, file-made}

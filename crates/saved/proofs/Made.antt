@@ -1,5 +1,5 @@
 -- The file that an edition makes loads, and holds what was saved; a file of the current one that loads is the one that is made of what it holds.
-use Prim.Native.Nat.{ℕ, _+_, _^_, _≤_, _<_}
+use Prim.Native.Nat.{ℕ, _+_, _^_, _<_}
 use native.Mathlib.Nat.{le-refl}
 use native.Mathlib.Omega.{arith}
 use mathlib.Core.Bool.{true, false}
@@ -16,7 +16,7 @@ use Rattle.octets.proofs.Part.{part-nil, part-part}
 use Rattle.codes.specs.Form.{code}
 use Rattle.codes.proofs.Law.{passes-at, back-at}
 use Rattle.codes.proofs.Forms.{lawful}
-use Rattle.recording.specs.Shape.{entryPlace, kindOf, editionOf, countOf, offsetOf, lengthOf, sumBelow, runningPlace, rowOf, shapeOf}
+use Rattle.recording.specs.Shape.{entryPlace, editionOf, countOf, offsetOf, lengthOf, sumBelow, runningPlace, rowOf, shapeOf}
 use Rattle.recording.proofs.Sums.{sum-cong, part-last}
 use Rattle.recording.proofs.ShapeLaws.{longOf, placeOf, shape-listOf, shape-again, shape-length, shape-long, shape-kind, shape-edition, shape-count, shape-shaped, shape-bytes}
 use Rattle.tables.specs.Forms.{today}

@@ -11,7 +11,7 @@
 use Prim.Native.Nat.{ℕ, _≤_, _<_}
 use mathlib.Core.Bool.{true, false}
 use mathlib.Core.List.{List}
-use mathlib.Core.Path.{_≡_, refl, sym, ap, ap₂, subst, _∙_}
+use mathlib.Core.Path.{_≡_, sym, ap, ap₂, subst, _∙_}
 use lib.ListN.{length, take}
 use lib.Seq.{take-at}
 use Rattle.octets.specs.Bytes.{Bytes}
@@ -28,7 +28,7 @@ use Rattle.tables.specs.Layout.{relayOf, bytesOf, wellFormed}
 use Rattle.tables.proofs.Whole.{again, relay-good}
 use Rattle.editions.specs.Editions.{Held, isKnown, editionAt, currentEdition, current}
 use Rattle.saved.specs.File.{fileIn, fileOf, savedSize}
-use Rattle.saved.specs.Save.{SavedOn, saveOn}
+use Rattle.saved.specs.Save.{saveOn}
 use Rattle.saved.specs.Load.{lengthWrong, kindWrongBy, loadRefusal, heldIn, LoadedOn, loadOn}
 use Rattle.editions.specs.Steps.{tablesNow}
 use Rattle.saved.proofs.SaveLaws.{not-refused, save-done}
