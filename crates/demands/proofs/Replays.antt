@@ -42,8 +42,9 @@ use Rattle.recording.specs.Shape.{entryPlace, countOf}
 use Rattle.recording.specs.Format.{Entry, longestFile, headWidth, fileOf, RecordableEntry, noEntry, Recordable}
 use Rattle.recording.specs.Reader.{lengthWrong, kindWrong, placesWrong, wordsWrong, fileRows, fileRefusal, isThere, entryOf, entriesOf}
 use Rattle.recording.specs.Writer.{givenWordsWrong, givenClocksWrong, addUp, fileLength, writingRows, writingRefusal, Writing, writing, bodiesOf}
-use Rattle.recording.proofs.ReadLaws.{entries-length}
-use Rattle.recording.proofs.RoundTrip.{file-size, file-taken, file-entries, entries-file, entries-recordable, entry-recordable}
+use Rattle.recording.proofs.ReadLaws.{entries-length, taken}
+use Rattle.recording.proofs.RoundTrip.{file-size, file-taken, file-entries, entries-file, entries-recordable}
+use Rattle.recording.proofs.Made.{read-entry}
 use Rattle.replaying.specs.Promise.{entryCall, StepOn, stepOf, stepOn, ReplayOn, goesOn, replayFrom, replayOn, stepsOn}
 use Rattle.replaying.proofs.StepLaws.{step-none, step-there}
 use Rattle.replaying.proofs.Replay.{steps-calls, replay-calls}
@@ -159,7 +160,7 @@ module _ (f : List ℕ) (b : Bytes f) (e : fileRefusal f ≡ 0) where
       each-given (listOf (entryOf f) n)
       (λ i h.
       let within : i < n = omega (arith, h, listOf-length (entryOf f) n) in
-      subst RecordableEntry (sym (listOf-at (entryOf f) n i noEntry within)) (entry-recordable f b e i (omega arith)))
+      subst RecordableEntry (sym (listOf-at (entryOf f) n i noEntry within)) (read-entry f b (taken f e) i (omega arith)))
 
 -- ---- tables that row 7 names: each call is refused, and nothing changes
 module _ (t : List ℕ) (tally : Tally) (h : wellFormed t ≡ false) where

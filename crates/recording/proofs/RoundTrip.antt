@@ -1,5 +1,5 @@
 -- Reader and writer undo each other, over whole files. For all bytes, entries, bodies and rooms:
---   entries-file, entries-recordable, entry-recordable
+--   entries-file, entries-recordable
 --                    the file of the entries read is the file, byte for byte, for every file that the reader takes;
 --   file-taken, file-entries
 --                    the reader takes the file of all entries that can be recorded, and reads them back;
@@ -19,13 +19,13 @@ use Rattle.octets.specs.Part.{patch, joined}
 use Rattle.octets.proofs.ListOf.{listOf-getD}
 use Rattle.recording.specs.Shape.{entryPlace, countOf}
 use Rattle.recording.specs.Format.{Entry, headWidth, entryBody, fileOf, RecordableEntry, noEntry, Recordable}
-use Rattle.recording.specs.Reader.{fileRefusal, fieldsOf, entryOf, entriesOf}
+use Rattle.recording.specs.Reader.{fileRefusal, fieldsOf, entriesOf}
 use Rattle.recording.specs.Writer.{givenEntries, givenOf, bodiesOf, fileLength, writingRefusal, writing}
 use Rattle.recording.specs.declared.Fields.{Fields}
 use Rattle.recording.proofs.Sums.{joined-sum}
 use Rattle.recording.proofs.ReadLaws.{taken, takes, fields-there, fields-within, taken-there}
 use Rattle.recording.proofs.WriteLaws.{Writable, writable, writes, writing-done, bodies-given}
-use Rattle.recording.proofs.Made.{made-length, made-taken, made-entries, made-bytes, again, read-entry, read-recordable}
+use Rattle.recording.proofs.Made.{made-length, made-taken, made-entries, made-bytes, again, read-recordable}
 use Rattle.recording.proofs.Given.{given-fileLength, given-writable, entries-back, file-length, given-recordable, given-again}
 
 -- ---- the file of entries, read
@@ -65,9 +65,6 @@ module _ (f : List ℕ) (b : Bytes f) (e : fileRefusal f ≡ 0) where
 
   pub entries-recordable : Recordable (entriesOf f)
   entries-recordable = read-recordable f b (taken f e)
-
-  pub entry-recordable : (i : ℕ) → i < countOf f → RecordableEntry (entryOf f i)
-  entry-recordable = read-entry f b (taken f e)
 
 -- ---- the calls: entries that can be recorded, given to the writer
 made-written : (x : ℕ → Entry) (n : ℕ) → ((i : ℕ) → i < n → RecordableEntry (x i)) → length (fileOf (listOf x n)) ≤ 60000
