@@ -3,7 +3,7 @@ pub mod Same
 pub mod Law
 pub mod Single
 pub mod Joint
-pub mod Rows
+pub mod Many
 pub mod First
 pub mod Slots
 pub mod Forms

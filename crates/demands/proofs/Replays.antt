@@ -12,7 +12,7 @@
 use Prim.Native.Nat.{ℕ, zero, suc, _+_, _≤_, _<_}
 use native.Mathlib.Omega.{arith}
 use mathlib.Core.Bool.{Bool, true, false, not}
-use mathlib.Core.List.{List, [], _∷_, _++_, map, map-append}
+use mathlib.Core.List.{List, [], _∷_, _++_, map}
 use mathlib.Core.Path.{_≡_, refl, sym, ap, subst, _∙_}
 use lib.Dec.{eqb, ltb}
 use lib.ListN.{length, getD, drop, replicate, length-map}
@@ -24,7 +24,6 @@ use Rattle.octets.specs.Listed.{firstOf}
 use Rattle.octets.specs.Part.{joined}
 use Rattle.octets.proofs.Choice.{then-true, then-false}
 use Rattle.octets.proofs.ListOf.{listOf-length, listOf-at}
-use Rattle.rules.specs.Relay.{Relay}
 use Rattle.rules.specs.Renumbering.{image, oneToOne}
 use Rattle.rules.specs.Answers.{renameAnswer}
 use Rattle.rules.specs.Run.{EachCall, Call, renumbering, Reply, answered, numbered, told, saved, unsaved, replies, relayAfter, tallyAfter, renameArrival, renameCall, renameReply, noCall, movesPorts, noneRenumbers, setsRelay, noneLoads}
@@ -35,7 +34,6 @@ use Rattle.rules.proofs.History.{Fits, CountsHistory}
 use Rattle.rules.proofs.Images.{image-port, image-other, image-below}
 use Rattle.tables.specs.Layout.{relayOf, bytesOf, wellFormed}
 use Rattle.tables.specs.Called.{Called}
-use Rattle.tables.specs.Shape.{isBytes}
 use Rattle.tables.proofs.All.{is-bytes}
 use Rattle.relay.specs.Promise.{JudgementOn}
 use Rattle.recording.specs.Shape.{entryPlace, countOf}
@@ -53,8 +51,8 @@ use Rattle.demands.specs.Given.{CallBytes, CallsBytes}
 use Rattle.demands.specs.Bytes.{OutcomeOn, ofPacket, ofCalled, performOn, repliesOn, tablesAfterOn, tallyAfterOn}
 use Rattle.demands.specs.Replays.{callOf, callsOf, answerIn, IsPerformed, renameEntry, renamedFile}
 use Rattle.demands.proofs.Demand1.{RefusesExactly, seven, refuses-exactly}
-use Rattle.demands.proofs.Demand2.{FollowsTheRules, follows-the-rules, counts-history, stays-bytes}
-use Rattle.demands.proofs.Demand3.{renamedTables, ForgetsNothingOn, forgets-nothing-on, renamed-by-the-call}
+use Rattle.demands.proofs.Demand2.{follows-the-rules, counts-history, stays-bytes}
+use Rattle.demands.proofs.Demand3.{renamedTables, forgets-nothing-on, renamed-by-the-call}
 
 -- ---- demand 1, of files
 -- reading a recording: 20, 21, 22, 23

@@ -24,7 +24,7 @@ use Rattle.codes.specs.Codes.{Slot, empty, used, fill}
 use Rattle.codes.specs.Form.{Form, given, field, _&_, many, firstsOf, slot, that, asRecord, code}
 use Rattle.codes.proofs.Same.{Same, same-inside}
 use Rattle.codes.proofs.Law.{back-at, passes-at}
-use Rattle.codes.proofs.Rows.{row-end}
+use Rattle.codes.proofs.Many.{many-end}
 use Rattle.codes.proofs.Forms.{lawful}
 use Rattle.editions.specs.Steps.{opened}
 
@@ -344,15 +344,15 @@ module _ {A : Type 0} (m n : ℕ) (l : m ≤ n) (spare : A) (f : Form A) (good :
   fine-of x = code f .fine x 0
 
   here : (i : ℕ) → i < m → part t (a + w * i) w ≡ part u (b + w * i) w
-  here i k = same-inside (w * m) t a u b same (w * i) w (row-end w m i k)
+  here i k = same-inside (w * m) t a u b same (w * i) w (many-end w m i k)
 
   spare-behind : (j : ℕ) → j < n - m → part u (b + w * (m + j)) w ≡ code f .write spare
   spare-behind j k =
       let place : b + w * (m + j) ≡ b + w * m + w * j = omega (arith, mul-add w m j) in
       ap (λ (c : ℕ). part u c w) place
-      ∙ sym (part-part u (b + w * m) (w * (n - m)) (w * j) w (row-end w (n - m) j k))
+      ∙ sym (part-part u (b + w * m) (w * (n - m)) (w * j) w (many-end w (n - m) j k))
       ∙ ap (λ (x : List ℕ). part x (w * j) w) rest
-      ∙ part-zeros (w * (n - m)) (w * j) w (row-end w (n - m) j k)
+      ∙ part-zeros (w * (n - m)) (w * j) w (many-end w (n - m) j k)
       ∙ sym zero
 
   pub first-alike : Alike (firstsOf m n l spare f) (many n spare f) t a u b

@@ -15,12 +15,12 @@ use Rattle.octets.specs.Part.{part, patch}
 use Rattle.octets.specs.BigEndian.{number}
 use Rattle.octets.proofs.Index.{and-left, and-right, and-both, all-none, all-more, all-fails, all-at, all-intro, all-cong}
 use Rattle.octets.proofs.Bytes.{append-bytes, drop-bytes, replicate-bytes, part-bytes}
-use Rattle.octets.proofs.Part.{part-length, part-part, part-mid, part-whole, part-range, patch-length, patch-join, patch-mid, patch-whole}
+use Rattle.octets.proofs.Part.{part-length, part-part, part-mid, part-front, part-whole, part-range, patch-length, patch-join, patch-mid, patch-whole}
 use Rattle.codes.specs.Form.{octetsIn, numberIn, many, slot, that, code}
-use Rattle.codes.proofs.Rows.{row-end}
+use Rattle.codes.proofs.Many.{many-end}
 use Rattle.codes.proofs.Forms.{lawful}
 use Rattle.codes.proofs.Same.{same-byte}
-use Rattle.recording.proofs.Sums.{joined-each-bytes, patch-three, part-last, part-front, part-back}
+use Rattle.recording.proofs.Sums.{joined-each-bytes, patch-three, part-last, part-back}
 use Rattle.numbers.specs.Numbers.{portCount, localCount, pathCount}
 use Rattle.rules.specs.Relay.{freshPort, noPort, empty}
 use Rattle.rules.specs.Refusals.{timeOk, rateSettingsOk}
@@ -33,7 +33,7 @@ use Rattle.tables.specs.Layout.{rateSettingsIn, startOk, recordsOk, frontOk, ba
 use Rattle.tables.proofs.Whole.{clauses}
 use Rattle.editions.specs.Editions.{numbered, bodiesAt}
 use Rattle.editions.specs.Steps.{startWidth, portWidthIn, beforeBlobs, mostBlobs, blobsWidthIn, pathWidthIn, portsPlace, localsPlace, localsWidth, pathsPlace, backPlace, tallyPlace, opened, startNow, portNow, portsNow, frontNow, pathNow, pathsNow, pathFine, pathsFine, tablesNow, bodiesFine}
-use Rattle.editions.proofs.RowLaws.{rows-none, rows-length, row-found, rows-more}
+use Rattle.editions.proofs.RecordLaws.{records-none, records-length, record-found, records-more}
 use Rattle.editions.proofs.Alike.{and-last, Alike, same-alike, moved-alike, both-alike, field-alike, that-alike, record-alike, slot-alike, many-alike, opened-length, opened-lent, zeros-lent, zeros-behind, zeros-behind-put, Opening, opening}
 use Rattle.editions.proofs.PortSizes.{size-within, fresh-good, filled-length, filled-alike}
 use Rattle.editions.proofs.EachBrings.{Brings, each-brings}
@@ -82,7 +82,7 @@ module _ (e : Edition) (h : Brings e) where
     -- ---- one port
     module _ (i : ℕ) (l : i < portCount) where
       pub port-end : portsPlace e + portWidthIn e * i + portWidthIn e ≤ length f
-      port-end = omega (arith, size, row-end (portWidthIn e) portCount i l)
+      port-end = omega (arith, size, many-end (portWidthIn e) portCount i l)
 
       abbrev oldPort : List ℕ
       oldPort = part f (portsPlace e + portWidthIn e * i) (portWidthIn e)
@@ -101,7 +101,7 @@ module _ (e : Edition) (h : Brings e) where
     -- ---- one path
     module _ (i : ℕ) (l : i < pathCount) where
       pub path-end : pathsPlace e + pathWidthIn e * i + pathWidthIn e ≤ length f
-      path-end = omega (arith, size, row-end (pathWidthIn e) pathCount i l)
+      path-end = omega (arith, size, many-end (pathWidthIn e) pathCount i l)
 
       -- its bytes in the file, and these with zeros before the blobs
       abbrev old : List ℕ
@@ -128,19 +128,19 @@ module _ (e : Edition) (h : Brings e) where
 
     pub paths-length : (n : ℕ) → n ≤ pathCount → length (pathsNow e f n) ≡ pathWidth * n
     unfolding pathsNow
-    paths-length = rows-length (pathNow e f) pathWidth pathCount path-length
+    paths-length = records-length (pathNow e f) pathWidth pathCount path-length
 
     path-found : (i : ℕ) → i < pathCount → part (pathsNow e f pathCount) (pathWidth * i) pathWidth ≡ pathNow e f i
     unfolding pathsNow
-    path-found = row-found (pathNow e f) pathWidth pathCount path-length
+    path-found = record-found (pathNow e f) pathWidth pathCount path-length
 
     ports-length : length (portsNow e f portCount) ≡ portWidth * portCount
     unfolding portsNow
-    ports-length = rows-length (portNow e f) portWidth portCount port-length portCount (le-refl portCount)
+    ports-length = records-length (portNow e f) portWidth portCount port-length portCount (le-refl portCount)
 
     port-found : (i : ℕ) → i < portCount → part (portsNow e f portCount) (portWidth * i) portWidth ≡ portNow e f i
     unfolding portsNow
-    port-found = row-found (portNow e f) portWidth portCount port-length
+    port-found = record-found (portNow e f) portWidth portCount port-length
 
     -- ---- the whole
     pub start-length : length (startNow e f) ≡ portsAt
@@ -173,7 +173,7 @@ module _ (e : Edition) (h : Brings e) where
     now-path i l =
         part-back (frontNow e f) (pathsNow e f pathCount ++ part f (backPlace e) backWidth) pathsAt (pathWidth * i) pathWidth front-length
         ∙ part-front (pathsNow e f pathCount) (part f (backPlace e) backWidth) (pathWidth * i) pathWidth
-        (omega (arith, paths-length pathCount (le-refl pathCount), row-end pathWidth pathCount i l))
+        (omega (arith, paths-length pathCount (le-refl pathCount), many-end pathWidth pathCount i l))
         ∙ path-found i l
 
     pub now-back : part (tablesNow e f) linksAt backWidth ≡ part f (backPlace e) backWidth
@@ -205,7 +205,7 @@ module _ (e : Edition) (h : Brings e) where
         let locals : List ℕ = part f (localsPlace e) localsWidth in
         in-front (portsAt + portWidth * i) portWidth (omega arith)
         ∙ part-back (startNow e f) (portsNow e f portCount ++ locals) portsAt (portWidth * i) portWidth start-length
-        ∙ part-front (portsNow e f portCount) locals (portWidth * i) portWidth (omega (arith, ports-length, row-end portWidth portCount i l))
+        ∙ part-front (portsNow e f portCount) locals (portWidth * i) portWidth (omega (arith, ports-length, many-end portWidth portCount i l))
         ∙ port-found i l
 
     now-locals : part (tablesNow e f) localsAt localsWidth ≡ part f (localsPlace e) localsWidth
@@ -380,22 +380,22 @@ module _ (e : Edition) (f : List ℕ) where
 
   pub paths-none : (t : List ℕ) → t ≡ patch t pathsAt (pathsNow e f 0)
   unfolding pathsNow
-  paths-none t = rows-none (pathNow e f) t pathsAt
+  paths-none t = records-none (pathNow e f) t pathsAt
 
   pub ports-none : (t : List ℕ) → t ≡ patch t portsAt (portsNow e f 0)
   unfolding portsNow
-  ports-none t = rows-none (portNow e f) t portsAt
+  ports-none t = records-none (portNow e f) t portsAt
 
   module _ (h : Brings e) (size : tallyPlace e ≤ length f) where
     pub paths-more : (t : List ℕ) (i : ℕ) → i < pathCount → length t ≡ tableSize
         → patch (patch t pathsAt (pathsNow e f i)) (pathsAt + pathWidth * i) (pathNow e f i) ≡ patch t pathsAt (pathsNow e f (i + 1))
     unfolding pathsNow
-    paths-more t i l long = rows-more (pathNow e f) pathWidth pathCount (path-length e h f size) t pathsAt i l (omega (arith, long))
+    paths-more t i l long = records-more (pathNow e f) pathWidth pathCount (path-length e h f size) t pathsAt i l (omega (arith, long))
 
     pub ports-more : (t : List ℕ) (i : ℕ) → i < portCount → length t ≡ pathsAt
         → patch (patch t portsAt (portsNow e f i)) (portsAt + portWidth * i) (portNow e f i) ≡ patch t portsAt (portsNow e f (i + 1))
     unfolding portsNow
-    ports-more t i l long = rows-more (portNow e f) portWidth portCount (port-length e h f size) t portsAt i l (omega (arith, long))
+    ports-more t i l long = records-more (portNow e f) portWidth portCount (port-length e h f size) t portsAt i l (omega (arith, long))
 
     -- the sections before the paths, written over zeros one after the other
     module _ (t : List ℕ) (is : t ≡ startNow e f ++ replicate (pathsAt - portsAt) 0) where

@@ -15,7 +15,8 @@ use Rattle.codes.specs.Form.{Form, byte, mark, numberIn, given, code}
 use Rattle.codes.specs.Codes.{markOf}
 use Rattle.codes.proofs.Forms.{lawful}
 use Rattle.codes.proofs.Same.{Same}
-use Rattle.recording.proofs.Sums.{part-last, part-front}
+use Rattle.octets.proofs.Part.{part-front}
+use Rattle.recording.proofs.Sums.{part-last}
 use Rattle.numbers.specs.Numbers.{longestPacket, isSize}
 use Rattle.rules.specs.Relay.{freshPort}
 use Rattle.rules.specs.Refusals.{portOk}

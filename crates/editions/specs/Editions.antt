@@ -9,7 +9,7 @@ use mathlib.Core.Path.{_≡_, refl}
 use lib.Dec.{ltb, leb, lit≤}
 use lib.ListN.{length, getD}
 use lib.Text.{eqt}
-use Rattle.octets.specs.Index.{_and_}
+use Rattle.octets.specs.Index.{_and_, listOf}
 use Rattle.codes.specs.Form.{Form, byte, mark, numberIn, octetsIn, given, field, _&_, many, firstsOf, slot, that, asRecord, code, oneOf}
 use Rattle.recording.specs.Shape.{entryPlace, sumBelow}
 use Rattle.numbers.specs.Numbers.{longestPacket, blobLimit}
@@ -116,7 +116,7 @@ abbrev pub edition2 : Edition
 edition2 =
     record { rateSettings = rateSettingsForm; rateEntry = rateEntryForm; notes = given noNotes; blobRoom = olderRoom; portSize = olderSize }
 
--- wish 6: "saved tables take edition 3". Its notes are the mark alone: this form stays where `Notes` grows
+-- wish 6: "saved tables take edition 3". Its notes, and those of 4 and 5, are the mark alone: this form stays where `Notes` grows
 abbrev pub edition3 : Edition
 edition3 = record { rateSettings = rateSettingsForm; rateEntry = rateEntryForm; notes = notesForm; blobRoom = olderRoom; portSize = olderSize }
 
@@ -195,3 +195,12 @@ edition5-size = refl
 edition5-fill : sumBelow (widthAt (held edition5)) bodyCount ≡ code (held edition5) .width
 unfolding sumBelow widthAt
 edition5-fill = refl
+
+-- .. and of edition 5 the tables alone, 103,032 bytes, and the lengths of its bodies in their order
+edition5-tables : code (relayFormIn edition5) .width ≡ 62072 + 640 * blobLimit
+edition5-tables = refl
+
+edition5-bodies : listOf (widthAt (held edition5)) bodyCount
+    ≡ 36 ∷ 64 ∷ 272 ∷ (3968 + 640 * blobLimit) ∷ 1920 ∷ 13826 ∷ 41986 ∷ 24 ∷ []
+unfolding listOf widthAt
+edition5-bodies = refl

@@ -1,6 +1,6 @@
 // What the host notes of a path: the record, what each note changes in it, and how it lies in the path's bytes. The
-// rules and the tables take it whole, so that a new note is said here.
-// Entry points: none. The tables' check, reads and writes call these.
+// tables take it whole, and the rules but for the mark, so that a new note is said here.
+// Entry points: none. The tables' check, reads and writes, the host's call and the second opinion rest on these.
 ghost use mathlib.Core.Path.{_≡_};
 ghost use Prim.Native.Nat.{_+_, _≤_};
 ghost use lib.ListN.{length};

@@ -21,13 +21,13 @@ use Rattle.rules.specs.declared.Link.{Link}
 use Rattle.rules.specs.declared.Reason.{Reason}
 use Rattle.rules.proofs.Noted.{withPathMark}
 use Rattle.rules.proofs.Choices.{either}
-use Rattle.rules.proofs.Slots.{used-not-empty, used-same}
+use Rattle.rules.proofs.Slots.{used-not-empty}
 use Rattle.rules.proofs.Passed.{passed}
 use Rattle.rules.proofs.ChattyPlan.{isSpread, spread-announce}
 use Rattle.forms.proofs.KindLaws.{announce-long}
-use Rattle.rules.proofs.Followed.{Followed, Planned, planned}
+use Rattle.rules.proofs.Followed.{Planned, planned}
 use Rattle.history.specs.Known.{Known, onlyIf, seenAt, nowUnder, nowPath, nowLink, nowReturn, nowUntil, nowClock, nowRate, nowPort, nowLocal, changePath}
-use Rattle.history.specs.After.{Entry, came, called, afterWay, limitedPath, afterDrop, afterPlan, renumberedKnown, afterCall, after}
+use Rattle.history.specs.After.{Entry, afterWay, limitedPath, afterDrop, afterPlan, renumberedKnown, afterCall, after}
 use Rattle.opinion.specs.Log.{arrivalIn, addressIn, imagesIn, kindIn, entryOf}
 use Rattle.opinion.specs.Steps.{wayEffect, planEffect, effectOf}
 use Rattle.opinion.proofs.Entries.{entry-came, entry-marked, entry-renumbered, by-kind}

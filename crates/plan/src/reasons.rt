@@ -81,7 +81,7 @@ fn by_test(test: u8) -> Numbers
     }
 }
 
-// Of test 3.
+// Of test 3. `reason` is for the contract.
 fn by_clause(reason: Reason, clause: Clause) -> Numbers
     requires { ⌜ reason ≡ Reason.BadForm clause ⌝ }
     ensures { λ r. ⌜ (r .test ≡ reasonNumber reason) × (r .clause ≡ reasonNumbers reason .clause)
@@ -94,7 +94,7 @@ fn by_clause(reason: Reason, clause: Clause) -> Numbers
     }
 }
 
-// Of test 6.
+// Of test 6. `reason` is for the contract.
 fn by_case(reason: Reason, why: Blocked) -> Numbers
     requires { ⌜ reason ≡ Reason.NoWayOn why ⌝ }
     ensures { λ r. ⌜ (r .test ≡ reasonNumber reason) × (r .clause ≡ reasonNumbers reason .clause)

@@ -12,8 +12,7 @@ use Rattle.octets.specs.Bytes.{Bytes}
 use Rattle.octets.specs.Index.{listOf}
 use Rattle.octets.specs.Part.{part, patch, joined}
 use Rattle.octets.proofs.Bytes.{nil-bytes, append-bytes}
-use Rattle.octets.proofs.Part.{part-split, part-mid, part-nil, patch-join}
-pub use Rattle.octets.proofs.Part.{part-front}
+use Rattle.octets.proofs.Part.{part-split, part-mid, part-nil, part-front, patch-join}
 use Rattle.octets.proofs.Joined.{joined-append, joined-one}
 use Rattle.recording.specs.Shape.{sumBelow}
 

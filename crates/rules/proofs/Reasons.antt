@@ -1,14 +1,13 @@
 -- Document 02, Wish 10: an answer's number is 3, and 6, exactly where those tests' conditions say so; and each clause and case is told exactly where its
 -- own sentence holds and none before it, with its value.
-use Prim.Native.Nat.{ℕ, zero, suc, _+_, _%_, _≤_, _<_}
-use native.Mathlib.Nat.{mod-lt}
+use Prim.Native.Nat.{ℕ, zero, suc, _+_, _<_}
 use native.Mathlib.Omega.{arith}
 use mathlib.Core.Bool.{Bool, true, false, not, false≢true}
 use mathlib.Core.List.{List, [], _∷_}
-use mathlib.Core.Path.{_≡_, refl, sym, ap, ap₂, subst, _∙_}
+use mathlib.Core.Path.{_≡_, refl, sym, ap, _∙_}
 use lib.Dec.{eqb}
 use lib.ListN.{length}
-use borrow.Author.Tests.{eq-eqb, ne-eqb, eqb-true, eqb-false, not-true, not-false}
+use borrow.Author.Tests.{eq-eqb, ne-eqb, eqb-true, not-true, not-false}
 use Rattle.octets.specs.Index.{_and_}
 use Rattle.octets.specs.Choice.{_then_otherwise_, _or_}
 use Rattle.octets.specs.Listed.{Test, firstOf, anyHolds, valued}
@@ -23,9 +22,9 @@ use Rattle.rules.specs.Arrival.{Arrival, header, hops, destination, isLi
 use Rattle.rules.specs.Refusals.{packetRefusal}
 use Rattle.rules.specs.Ways.{Way, everywhere, by-path, along-link, by-return, blocked, noPath, pathWay, linkWay, returnWay, wayOn}
 use Rattle.rules.specs.Tests.{notOurs, duplicate, formTests, badForm, failing, ownAnnounce, deliveredHere, tooManyHops, noWayOn, whyBlocked, isThere, knownTests}
-use Rattle.rules.specs.Answers.{clauseNumber, leastLength, caseNumber, greatestExpiry, reasonNumbers}
-use Rattle.rules.specs.Judging.{Plan, dropped, delivered, follows, earlyTests, onwardTests, onwardPlan, plan, spreadVerdict, wayVerdict, verdict}
-use Rattle.rules.specs.Calls.{Judgement, judged, judge, packetCall}
+use Rattle.rules.specs.Answers.{clauseNumber, leastLength, caseNumber, greatestExpiry}
+use Rattle.rules.specs.Judging.{follows, earlyTests, onwardTests, onwardPlan, plan, spreadVerdict, wayVerdict, verdict}
+use Rattle.rules.specs.Calls.{judged, judge, packetCall}
 use Rattle.rules.specs.Reasons.{dropBy, droppedBy, dropAs, droppedAs, reachesForm, reachesWay, clauses, wantsPath, ofLink, isOrdinaryProof, isUnproved, expiryOr0, cases, holdsFirst, tellsClause, tellsCase}
 use Rattle.rules.specs.declared.Link.{Link}
 use Rattle.rules.specs.declared.Clause.{Clause}

@@ -1,6 +1,6 @@
 -- What an accepted packet writes into the tables, by what was planned, and what a note of the host's writes. Nothing is dropped here.
 use Prim.Native.Nat.{ℕ, _+_, _%_}
-use mathlib.Core.Bool.{Bool, true, false, not}
+use mathlib.Core.Bool.{Bool, true, not}
 use mathlib.Core.List.{List, map}
 use lib.Dec.{eqb, ltb}
 use lib.ListN.{take, set}

@@ -36,12 +36,9 @@ fileOf held = fileIn currentEdition held
 abbrev pub savedSize : ℕ
 savedSize = bodiesAt + code current .width
 
--- contents, tables and tally: no more than 104 KiB
+-- contents, tables and tally
 saved-size : savedSize ≡ bodiesAt + tableSize + code tallyForm .width
 saved-size = refl
-
-saved-bound : savedSize ≤ 104 * 1024
-saved-bound = lit≤ tt
 
 -- the eight bodies are all that is saved
 pub widths-fill : sumBelow (widthAt current) bodyCount ≡ code current .width

@@ -1,4 +1,4 @@
--- Saved tables, as document 02's Wish 4 has them: the file and its editions, saving and loading.
+-- Saved tables, as document 02's Wish 4 has them: the file, saving and loading. The editions are crates/editions.
 pub mod File
 pub mod Save
 pub mod Load

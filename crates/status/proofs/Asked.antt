@@ -6,7 +6,7 @@ use native.Mathlib.Omega.{arith}
 use mathlib.Core.Bool.{Bool, true, false}
 use mathlib.Core.List.{List}
 use mathlib.Core.Path.{_≡_, refl, sym, ap, _∙_}
-use lib.Dec.{eqb, ltb, lit≤}
+use lib.Dec.{eqb, lit≤}
 use lib.ListN.{length, getD, List·getD-eq-default}
 use borrow.Author.Tests.{le-leb, lt-leb}
 use Rattle.octets.specs.Bytes.{Bytes}
@@ -16,7 +16,7 @@ use Rattle.octets.specs.Listed.{firstOf}
 use Rattle.octets.specs.Part.{part}
 use Rattle.octets.specs.BigEndian.{number}
 use Rattle.octets.proofs.Bytes.{part-bytes}
-use Rattle.octets.proofs.Index.{and-left, and-right, all-at}
+use Rattle.octets.proofs.Index.{all-at}
 use Rattle.octets.proofs.Part.{part-length}
 use Rattle.numbers.specs.Numbers.{portCount, localCount, pathCount, linkCount, returnCount, hashCount, live}
 use Rattle.rules.specs.Relay.{Slot, empty, holds}

@@ -12,7 +12,7 @@ use Rattle.octets.specs.Index.{listOf}
 use Rattle.octets.specs.Choice.{_then_otherwise_, _or_, same}
 use Rattle.octets.specs.Listed.{firstOf}
 use Rattle.octets.proofs.Choice.{or-left, or-else, or-false, same-eq}
-use Rattle.octets.proofs.Index.{and-left, and-right, and-both}
+use Rattle.octets.proofs.Index.{and-left, and-right}
 use Rattle.octets.proofs.ListOf.{mixed, mixed-more, mixed-all}
 use Rattle.numbers.specs.Numbers.{portCount, isSize}
 use Rattle.rules.specs.Relay.{Port, freshPort, noPort, Slot, empty, used, Relay, fresh, withRate, withPorts, withLocals, holds}

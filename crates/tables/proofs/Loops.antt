@@ -7,12 +7,12 @@ use mathlib.Core.List.{List}
 use mathlib.Core.Path.{_≡_, sym, ap, ap₂, _∙_}
 use lib.ListN.{length, take, drop}
 use borrow.Author.Tests.{not-true, not-false}
-use Rattle.octets.specs.Index.{allBelow, zeros}
+use Rattle.octets.specs.Index.{zeros}
 use Rattle.octets.specs.Part.{part}
 use Rattle.octets.proofs.Index.{and-yes, all-none, all-more, all-fails, all-intro, all-at, all-plus, all-short, all-cong}
 use Rattle.octets.proofs.Part.{part-range, part-part, range-length}
 use Rattle.octets.proofs.Zeros.{zeros-part}
-use Rattle.codes.proofs.Rows.{row-end}
+use Rattle.codes.proofs.Many.{many-end}
 use Rattle.tables.specs.Layout.{recordAt, recordsOk}
 
 -- what `&t[a..a + w]` holds
@@ -49,7 +49,7 @@ section-free ok base w n t free fits e q =
     sym
     (all-intro (λ i. ok (recordAt base w t i)) n
     (λ i l.
-    let within = row-end w n i l in
+    let within = many-end w n i l in
     free (recordAt base w t i) (ap (zeros w) (sym (part-part t base (w * n) (w * i) w within)) ∙ zeros-part s (w * n) (w * i) w zero within)))
 
 -- records that keep a stronger rule

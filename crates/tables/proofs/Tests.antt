@@ -16,7 +16,7 @@ use Rattle.octets.proofs.Index.{and-right, and-assoc, all-at, all-fails, all-co
 use Rattle.octets.proofs.Agree.{or-ltb}
 use Rattle.octets.proofs.Part.{part-at}
 use Rattle.codes.specs.Form.{Form, slot, code}
-use Rattle.codes.proofs.Rows.{all-true}
+use Rattle.codes.proofs.Many.{all-true}
 use Rattle.numbers.specs.Numbers.{portCount, blobLimit}
 use Rattle.notes.specs.Notes.{notesForm}
 use Rattle.rules.specs.Refusals.{portOk, pathOk, linkOk, returnOk, hashOk}

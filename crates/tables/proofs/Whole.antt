@@ -14,7 +14,7 @@ use Rattle.octets.specs.Part.{part}
 use Rattle.octets.specs.BigEndian.{number}
 use Rattle.octets.proofs.Index.{and-left, and-right, and-both, and-assoc, all-at}
 use Rattle.octets.proofs.ListOf.{listOf-length}
-use Rattle.codes.specs.Form.{Form, octetsIn, many, slot, that, code}
+use Rattle.codes.specs.Form.{Form, octetsIn, many, slot, code}
 use Rattle.codes.proofs.Law.{whole-again}
 use Rattle.codes.proofs.Forms.{lawful}
 use Rattle.numbers.specs.Numbers.{portCount, localCount, pathCount, linkCount, returnCount, hashCount, blobLimit, modeCount, timeLimit}

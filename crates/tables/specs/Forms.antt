@@ -1,4 +1,5 @@
--- The layout, said once: the fields of each record in order, and the sections of the tables in the order in which a saved file has them.
+-- The layout, said once: the fields of each record in order (what the host notes of a path: crates/notes), and the sections of the tables in the order in
+-- which a saved file has them.
 -- Widths, places, reading, writing and refusal 7 follow. docs/LAYOUT.md draws it.
 use Prim.Native.Nat.{ℕ, _≤_}
 use mathlib.Core.Bool.{Bool}

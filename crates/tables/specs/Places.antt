@@ -69,9 +69,6 @@ backWidth = code backForm .width
 abbrev pub tableSize : ℕ
 tableSize = code relayForm .width
 
--- by the limit on blobs; and no more than 104 KiB
+-- by the limit on blobs. What this is in bytes stands with the editions: `edition5-tables`, crates/editions/specs/Editions.antt
 table-size : tableSize ≡ pathsAt + (pathPlacesAt + blobWidth * blobLimit) * pathCount + backWidth
 table-size = refl
-
-table-bound : tableSize ≤ 104 * 1024
-table-bound = lit≤ tt

@@ -6,7 +6,7 @@ use borrow.Author.Needs.{needs}
 use Rattle.octets.specs.Part.{patch}
 use native.Mathlib.Nat.{le-antisymm}
 use native.Mathlib.Omega.{arith}
-use Rattle.codes.proofs.Rows.{row-end}
+use Rattle.codes.proofs.Many.{many-end}
 use Rattle.numbers.specs.Numbers.{pathCount}
 use Rattle.tables.specs.Places.{pathWidth, pathsAt}
 use Rattle.editions.specs.Editions.{numbered}
@@ -50,7 +50,7 @@ copy-at-requires c κs =
     let i = c4 .loop .i in
     let l = c2 .before .loop-test .taken in
     let wide = ap length (c2 .path-now .ensures) ∙ path-length e (each-brings (a .edition - 1)) (a .file .now) (c6 .pre .1) i l in
-    omega (arith, wide, c4 .loop .inv .1 .0, c6 .pre .2, row-end pathWidth pathCount i l)
+    omega (arith, wide, c4 .loop .inv .1 .0, c6 .pre .2, many-end pathWidth pathCount i l)
 
 add-i : tie.Need-add-i Inv-loop μ-loop
 add-i c = search needs

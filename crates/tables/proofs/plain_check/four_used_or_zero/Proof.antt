@@ -2,7 +2,7 @@ use Prim.Native.Nat.{ℕ, _≤_, _-_}
 use mathlib.Core.Path.{_≡_}
 use mathlib.Core.Bool.{true}
 use Rattle.octets.proofs.Index.{ended}
-use Rattle.codes.proofs.Rows.{row-end}
+use Rattle.codes.proofs.Many.{many-end}
 use Rattle.tables.specs.Layout.{recordsOk}
 use Rattle.tables.specs.Groups.{usedOrZero}
 use Rattle.tables.proofs.Loops.{none-yet, record-passes, record-fails}
@@ -21,13 +21,13 @@ loop-holds : tie.Need-loop-holds Inv-loop μ-loop
 loop-holds c = (search needs, none-yet usedOrZero (c .before .args .at) (c .before .args .width) _)
 
 mul-start : tie.Need-mul-start Inv-loop μ-loop
-mul-start c = omega (arith, row-end (c .before .before .before .args .width) 4 (c .before .loop .i) (c .loop-test .taken))
+mul-start c = omega (arith, many-end (c .before .before .before .args .width) 4 (c .before .loop .i) (c .loop-test .taken))
 
 add-start : tie.Need-add-start Inv-loop μ-loop
-add-start c = omega (arith, row-end (c .before .before .before .args .width) 4 (c .before .loop .i) (c .loop-test .taken))
+add-start c = omega (arith, many-end (c .before .before .before .args .width) 4 (c .before .loop .i) (c .loop-test .taken))
 
 add-used-or-zero : tie.Need-add-used-or-zero Inv-loop μ-loop
-add-used-or-zero c = omega (arith, row-end (c .before .before .before .args .width) 4 (c .before .loop .i) (c .loop-test .taken))
+add-used-or-zero c = omega (arith, many-end (c .before .before .before .args .width) 4 (c .before .loop .i) (c .loop-test .taken))
 
 sub-used-or-zero : tie.Need-sub-used-or-zero Inv-loop μ-loop
 sub-used-or-zero c = search needs
@@ -36,7 +36,7 @@ part-used-or-zero-start : tie.Need-part-used-or-zero-start Inv-loop μ-loop
 part-used-or-zero-start c = search needs
 
 part-used-or-zero-end : tie.Need-part-used-or-zero-end Inv-loop μ-loop
-part-used-or-zero-end c = omega (arith, row-end (c .before .before .before .args .width) 4 (c .before .loop .i) (c .loop-test .taken))
+part-used-or-zero-end c = omega (arith, many-end (c .before .before .before .args .width) 4 (c .before .loop .i) (c .loop-test .taken))
 
 used-or-zero-requires : tie.Need-used-or-zero-requires Inv-loop μ-loop
 used-or-zero-requires c κs = search needs

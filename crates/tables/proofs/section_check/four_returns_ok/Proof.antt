@@ -2,7 +2,7 @@ use Prim.Native.Nat.{_+_, _*_}
 use mathlib.Core.Path.{sym, ap, _∙_}
 use Rattle.octets.proofs.Bytes.{known-bytes, part-bytes}
 use Rattle.octets.proofs.Part.{part-length}
-use Rattle.codes.proofs.Rows.{row-end}
+use Rattle.codes.proofs.Many.{many-end}
 use Rattle.tables.specs.Fields.{returnArrivalAt}
 use Rattle.tables.specs.Places.{returnWidth}
 use Rattle.tables.specs.Records.{returnBytesOk}
@@ -35,7 +35,7 @@ returns c =
     c .four-used-or-zero .ensures
     ∙ records-left waysPlain at returnArrivalAt returnWidth 4 t (omega arith) returnBytesOk usedOrZero
     (λ k l. return-left _ (part-bytes t (at + returnWidth * k) returnWidth bytes)
-    (part-length t (at + returnWidth * k) returnWidth (omega (arith, c5 .pre, row-end returnWidth 4 k l))))
+    (part-length t (at + returnWidth * k) returnWidth (omega (arith, c5 .pre, many-end returnWidth 4 k l))))
     (sym (together-plain _ 4) ∙ ap waysPlain (sym (c3 .four-together .ensures)) ∙ sym (c .before .before .ways-plain .ensures) ∙ c .before .if1 .taken)
 
 four-returns-each-requires : tie.Need-four-returns-each-requires

@@ -19,8 +19,8 @@ use Rattle.codes.specs.Codes.{manyCode}
 use Rattle.codes.proofs.Same.{same-inside}
 use Rattle.codes.proofs.Law.{Lawful}
 
-pub row-end : (w n i : ℕ) → i < n → w * i + w ≤ w * n
-row-end w n i l = omega (arith, mul-suc w i, mul-le-mul-left w l)
+pub many-end : (w n i : ℕ) → i < n → w * i + w ≤ w * n
+many-end w n i l = omega (arith, mul-suc w i, mul-le-mul-left w l)
 
 -- records that each stand in their place are the whole
 joined-places : {A : Type 0} (code : A → List ℕ) (t : List ℕ) (a w : ℕ) (f : ℕ → A) (n : ℕ)
@@ -57,7 +57,7 @@ module _ {A : Type 0} (n : ℕ) (spare : A) {c : Code A} (p : Lawful c) where
 
     module _ (l : a + c .width * n ≤ length t) (i : ℕ) (k : i < n) where
       row-length : length (row i) ≡ c .width
-      row-length = part-length t (a + c .width * i) (c .width) (omega (arith, row-end (c .width) n i k))
+      row-length = part-length t (a + c .width * i) (c .width) (omega (arith, many-end (c .width) n i k))
 
       row-fits : 0 + c .width ≤ length (row i)
       row-fits = omega (arith, row-length)
@@ -68,10 +68,10 @@ module _ {A : Type 0} (n : ℕ) (spare : A) {c : Code A} (p : Lawful c) where
         wide = fields-length (c .write) n spare (c .width) (p .wide);
         sees = λ t a u b e.
             listOf-cong _ _ n
-            (λ i l. ap (λ (r : List ℕ). c .read r 0) (same-inside _ t a u b e (c .width * i) (c .width) (row-end (c .width) n i l)));
+            (λ i l. ap (λ (r : List ℕ). c .read r 0) (same-inside _ t a u b e (c .width * i) (c .width) (many-end (c .width) n i l)));
         tests = λ t a u b e.
             all-cong _ _ n
-            (λ i l. ap (λ (r : List ℕ). c .fine r 0) (same-inside _ t a u b e (c .width * i) (c .width) (row-end (c .width) n i l)));
+            (λ i l. ap (λ (r : List ℕ). c .fine r 0) (same-inside _ t a u b e (c .width * i) (c .width) (many-end (c .width) n i l)));
         back = λ xs g.
             listOf-cong _ (λ i. getD xs i spare) n (λ i l. ap (λ (r : List ℕ). c .read r 0) (row-there xs (g .0) i l) ∙ p .back (getD xs i spare) (g .1 i l))
             ∙ listOf-getD spare xs n (g .0);
