@@ -1,5 +1,5 @@
--- What each edition has of the fields that a later one brought: all that the proofs say of single editions. The next one's record takes its place in
--- the list, and older ones say what they lack of it: `lacked`, or `in-record (behind (in-field (lacked ..)))` for the last field of a record.
+-- What each edition has of the fields that a later one brought: the laws speak of single editions here alone. The next one takes its place in the list,
+-- and older ones say what they lack of it: `lacked`, or `in-record (behind (in-field (lacked ..)))` for the last field of a record.
 use Prim.Native.Nat.{ℕ, zero, suc}
 use mathlib.Core.List.{List, [], _∷_}
 use mathlib.Core.Path.{refl}
