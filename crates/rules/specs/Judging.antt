@@ -35,7 +35,15 @@ earlyTests v a =
     tooManyHops (hops a) gives dropped TooManyHops otherwise
     []
 
--- tests 6 to 13, on the way that the packet would follow; `knownTests` are 10, 11 and 15; wish 11: "drop 16, after 12"
+-- tests 12, 16 and 13, on the way that the packet would follow; wish 11: "drop 16, after 12"
+abbrev pub leavingTests : View → Arrival → Way → List (Test Plan)
+leavingTests v a w =
+    portOff v a w gives dropped PortOff otherwise
+    tooLongForPort v a w gives dropped TooLongForPort otherwise
+    noRoom v a w gives dropped NoRoom otherwise
+    []
+
+-- tests 6 to 13 on it; `knownTests` are 10, 11 and 15
 unfoldable pub onwardTests : View → Arrival → Way → List (Test Plan)
 onwardTests v a w =
     noWayOn w gives dropped (NoWayOn (whyBlocked w)) otherwise
@@ -43,10 +51,7 @@ onwardTests v a w =
     wrongSide a w gives dropped WrongSide otherwise
     notSigned a gives dropped NotSigned otherwise
     knownTests v a w each-give dropped otherwise
-    portOff v a w gives dropped PortOff otherwise
-    tooLongForPort v a w gives dropped TooLongForPort otherwise
-    noRoom v a w gives dropped NoRoom otherwise
-    []
+    leavingTests v a w
 
 unfoldable pub onwardPlan : View → Arrival → Way → Plan
 onwardPlan v a w = firstOf (onwardTests v a w) (follows w)
