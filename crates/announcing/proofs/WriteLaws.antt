@@ -1,16 +1,15 @@
 -- What the code writes one after the other is what is to stand there.
 use Prim.Native.Nat.{ℕ, _+_, _≤_}
 use native.Mathlib.Omega.{arith}
-use mathlib.Core.List.{List, [], _∷_, _++_, append-assoc}
+use mathlib.Core.List.{List, [], _++_, append-assoc}
 use mathlib.Core.Path.{_≡_, ap, _∙_}
 use lib.ListN.{length, length-append}
 use Rattle.octets.specs.Part.{patch}
 use Rattle.octets.specs.BigEndian.{bigEndian}
 use Rattle.octets.proofs.Part.{patch-join, patch-whole}
 use Rattle.octets.proofs.BigEndian.{bigEndian-length}
-use Rattle.packet.specs.Write.{addresses, packetOf}
-use Rattle.packet.specs.declared.Parts.{Parts}
-use Rattle.packet.proofs.WriteLaws.{packet-length}
+use Rattle.packet.specs.Write.{packetOf}
+use Rattle.packet.proofs.WriteLaws.{packet-length, packet-behind}
 use Rattle.announcing.specs.Announcing.{Announce, blob, destination, signedBytes, payloadWith, partsFor, announceWith}
 use Rattle.announcing.specs.Steps.{fields}
 use Rattle.announcing.proofs.Lengths.{destination-length, parts-wide, parts-start, Buildable}
@@ -44,11 +43,6 @@ module _ (out keys name random : List ℕ) (clock : ℕ) (ratchet : List ℕ) (a
   pub fields-length : length (fields keys name random clock ratchet) ≡ 84 + length ratchet
   unfolding fields
   fields-length = simp (length-append, bigEndian-length) (omega arith)
-
--- a packet is its head, and the payload behind it
-pub packet-behind : (q : Parts) (body : List ℕ) → packetOf q [] ++ body ≡ packetOf q body
-unfolding packetOf
-packet-behind q body = ap (λ (r : List ℕ). q .header ∷ q .hops ∷ r) (append-assoc (addresses q) (q .context ∷ []) body)
 
 module _ (a : Announce) (signature out : List ℕ) (b : Buildable a signature (length out)) where
   abbrev all : List ℕ

@@ -3,7 +3,7 @@ use Rattle.codes.specs.Form.{Form, byte, mark, numberIn, octetsIn, given
 use Rattle.codes.proofs.Law.{Lawful}
 use Rattle.codes.proofs.Single.{byte-lawful, mark-lawful, number-lawful, octets-lawful, given-lawful}
 use Rattle.codes.proofs.Joint.{both-lawful, that-lawful, as-lawful}
-use Rattle.codes.proofs.Rows.{many-lawful}
+use Rattle.codes.proofs.Many.{many-lawful}
 use Rattle.codes.proofs.First.{first-lawful}
 use Rattle.codes.proofs.Slots.{slot-lawful}
 

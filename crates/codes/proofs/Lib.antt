@@ -3,12 +3,10 @@ pub mod Same
 pub mod Law
 pub mod Single
 pub mod Joint
-pub mod Rows
+pub mod Many
 pub mod First
 pub mod Slots
 pub mod Forms
-pub mod Editions
 pub mod Places
 pub mod Inside
 pub mod Pieces
-pub mod Grown

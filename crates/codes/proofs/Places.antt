@@ -18,7 +18,7 @@ use Rattle.codes.specs.Code.{Code}
 use Rattle.codes.specs.Codes.{bothCode, manyCode, Slot, empty, used, slotBytes, slotCode, InUse, recordOf, thatCode, asCode}
 use Rattle.codes.proofs.Same.{same-tail}
 use Rattle.codes.proofs.Law.{Lawful, sees-part, tests-part}
-use Rattle.codes.proofs.Rows.{row-end, row-there}
+use Rattle.codes.proofs.Many.{many-end, row-there}
 
 -- `Has` is what a value must be to have the part: a list its length, a slot in use
 pub record Place {A B : Type 0} (whole : Code A) (inner : Code B) : Type 1 where
@@ -129,7 +129,7 @@ module _ {A : Type 0} (n : ℕ) (spare : A) {c : Code A} (p : Lawful c) (i : ℕ
         get = λ xs. getD xs i spare;
         put = λ y xs. set xs i y;
         Has = λ xs. length xs ≡ n;
-        inside = row-end (c .width) n i l;
+        inside = many-end (c .width) n i l;
         seen = λ t a h.
             sym (listOf-at (λ k. c .read (part t (a + c .width * k) (c .width)) 0) n i spare l ∙ sees-part p t (a + c .width * i));
         tested = λ t a h f. sym (tests-part p t (a + c .width * i)) ∙ all-at _ n i f l;

@@ -42,7 +42,7 @@ mark-again (suc (suc m)) h =
     let l : suc (suc m) < 2 = ltb-true (suc (suc m)) 2 h in
     absurd (omega arith)
 
-mark-back : (x : Bool) → eqb (markOf x) 1 ≡ x
+pub mark-back : (x : Bool) → eqb (markOf x) 1 ≡ x
 unfolding markOf _then_otherwise_
 mark-back true = refl
 mark-back false = refl

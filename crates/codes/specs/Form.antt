@@ -4,7 +4,6 @@ use Prim.Native.String.{String}
 use mathlib.Core.Bool.{Bool, true, false}
 use mathlib.Core.List.{List}
 use mathlib.Core.Path.{_≡_}
-use lib.Dec.{leb}
 use lib.Text.{eqt}
 use Rattle.codes.specs.Code.{Code}
 use Rattle.codes.specs.Codes.{byteCode, markCode, numberCode, octetsCode, givenCode, bothCode, manyCode, Slot, slotCode, thatCode, asCode, firstCode}
@@ -78,12 +77,3 @@ placeOf (firstsOf m n l spare f) k = 0
 placeOf (slot f) k = 0
 placeOf (that rule f) k = placeOf f k
 placeOf (asRecord to from same there f) k = placeOf f k
-
--- ---- editions
-abbrev pub oneForm : {A : Type 0} → Bool → Form A → Form A → Form A
-oneForm true f g = f
-oneForm false f g = g
-
--- a field that edition k brought, and that is v in older ones
-abbrev pub since : {A : Type 0} → ℕ → A → Form A → ℕ → Form A
-since k v f edition = oneForm (leb k edition) f (given v)

@@ -33,7 +33,7 @@ use Rattle.tables.proofs.Whole.{again, ok-relay, shaped-of, bytes-length, back,
 use Rattle.tables.specs.Called.{Called, written, called}
 use Rattle.tables.specs.Asked.{tellOn}
 use Rattle.settings.specs.Calls.{freshOn}
-use Rattle.saved.specs.Editions.{Held}
+use Rattle.editions.specs.Editions.{Held}
 use Rattle.saved.specs.Load.{loadRefusal, heldIn, loadOn}
 use Rattle.saved.specs.Format.{saidBy, saving}
 use Rattle.saved.proofs.FormatLaws.{save-refused-alike, load-refused-alike}

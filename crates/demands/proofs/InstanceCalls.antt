@@ -11,7 +11,7 @@ use Rattle.octets.specs.Listed.{firstOf}
 use Rattle.octets.proofs.Choice.{eq-same}
 use Rattle.octets.proofs.Bytes.{nil-bytes}
 use Rattle.packet.specs.Hash.{packetHash}
-use Rattle.rules.specs.Relay.{freshPort, makeRateSettings, makePort, Port, makeRelay, empty, used, Path, Relay, fresh, withPathPort, withPathMark}
+use Rattle.rules.specs.Relay.{freshPort, makeRateSettings, makePort, Port, makeRelay, empty, used, Path, Relay, fresh, withPathPort}
 use Rattle.rules.specs.View.{viewAt}
 use Rattle.rules.specs.Refusals.{all, tableOk, tablesOk}
 use Rattle.rules.specs.Saved.{saveRefusal}
@@ -24,6 +24,7 @@ use Rattle.rules.specs.declared.Verdict.the-variants.{Drop}
 use Rattle.rules.specs.declared.Answer.the-variants.{Refused, Judged}
 use Rattle.rules.specs.declared.RateSettings.{RateSettings}
 use Rattle.rules.specs.declared.Tally.{Tally}
+use Rattle.rules.proofs.Noted.{withPathMark}
 use Rattle.rules.proofs.Unfolding.{rules}
 use Rattle.rules.proofs.Shortcut.{passes, seen-quick, goodPlan, plan-good, goodJudge}
 use Rattle.rules.proofs.Passed.{ofTest}

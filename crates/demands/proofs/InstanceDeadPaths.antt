@@ -7,7 +7,7 @@ use mathlib.Core.List.{List, [], _∷_, _++_}
 use mathlib.Core.Path.{_≡_, refl, sym, ap, subst, _∙_}
 use lib.Dec.{lit≤}
 use Rattle.octets.specs.Index.{_and_}
-use Rattle.rules.specs.Relay.{used, Relay, fresh, withPathMark, withRate}
+use Rattle.rules.specs.Relay.{used, Relay, fresh, withRate}
 use Rattle.rules.specs.View.{viewAt}
 use Rattle.rules.specs.Refusals.{all, tableOk}
 use Rattle.rules.specs.Calls.{newTally, ruleOf}
@@ -17,6 +17,7 @@ use Rattle.rules.specs.DeadPaths.{NewEnough, Revived, NoneAccepted, MarkedAt}
 use Rattle.rules.specs.declared.Answer.the-variants.{Refused, Judged}
 use Rattle.rules.specs.declared.Reason.the-variants.{Duplicate, NotBetter}
 use Rattle.rules.specs.declared.Verdict.the-variants.{Drop}
+use Rattle.rules.proofs.Noted.{withPathMark}
 use Rattle.rules.proofs.Unfolding.{rules}
 use Rattle.rules.proofs.History.{lastClock, clock-history}
 use Rattle.rules.proofs.Scene.{own, blank, destination, dataBytes, arrival, arrives}

@@ -12,7 +12,8 @@ use Rattle.octets.proofs.Index.{and-both, and-no, and-false}
 use Rattle.octets.proofs.Choice.{eq-same}
 use Rattle.octets.proofs.Bytes.{nil-bytes}
 use Rattle.packet.specs.Hash.{packetHash}
-use Rattle.rules.specs.Relay.{noNotes, makePath, makeRateEntry, used, Path, withPathMark, Return, Relay, fresh}
+use Rattle.notes.specs.Notes.{noNotes}
+use Rattle.rules.specs.Relay.{makePath, makeRateEntry, used, Path, Return, Relay, fresh}
 use Rattle.rules.specs.View.{View, viewAt}
 use Rattle.rules.specs.Rate.{startsAt}
 use Rattle.rules.specs.Refusals.{all, tableOk, packetRefusal}
@@ -29,6 +30,7 @@ use Rattle.rules.specs.declared.Reason.the-variants.{Duplicate}
 use Rattle.rules.specs.declared.Verdict.the-variants.{Drop, Forward}
 use Rattle.rules.specs.declared.Answer.the-variants.{Judged}
 use Rattle.rules.specs.declared.Tally.{Tally}
+use Rattle.rules.proofs.Noted.{withPathMark}
 use Rattle.rules.proofs.Unfolding.{lists, layout, rules}
 use Rattle.rules.proofs.Shortcut.{passes, seen-quick, goodPlan, goodJudge}
 use Rattle.rules.proofs.Passed.{ofTest}

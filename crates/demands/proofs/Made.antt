@@ -33,6 +33,7 @@ use Rattle.rules.proofs.Tables.{all-append, all-replicate, table-of, table-leng
 use Rattle.rules.proofs.BlobLaws.{one-placed}
 use Rattle.rules.proofs.Accepted.{accepted-reads}
 use Rattle.tables.specs.Places.{addressWidth, digestWidth, blobWidth}
+use Rattle.notes.proofs.NoteLaws.{none-shaped}
 use Rattle.tables.specs.Shape.{isByte, isBytes, pathShaped, linkShaped, returnShaped, hashShaped}
 use Rattle.tables.proofs.All.{is-bytes}
 use Rattle.act.proofs.Forwards.{link-id-bytes}
@@ -134,7 +135,7 @@ module _ (a : Arrival) (b : Bytes (a .bytes)) where
         → tableOk blobLimit (isBytes blobWidth) (announcedBlobs a known .places) ≡ true
     unfolding announcedBlobs slotOk pathShaped
     places-shaped empty h = one-shaped (blob a) (blob-shaped (a .bytes) b long)
-    places-shaped (used p) h = store-shaped (blob a) (p .blobs) (blob-shaped (a .bytes) b long) (and-right _ _ (and-right _ _ h))
+    places-shaped (used p) h = store-shaped (blob a) (p .blobs) (blob-shaped (a .bytes) b long) (and-left _ _ (and-right _ _ (and-right _ _ h)))
 
     pub path-made : (v : View) (known : Slot Path) → slotOk pathShaped known ≡ true → pathShaped (announcedPath v a known) ≡ true
     unfolding pathShaped announcedPath
@@ -143,7 +144,7 @@ module _ (a : Arrival) (b : Bytes (a .bytes)) where
         (and-both
         (either (λ (x : List ℕ). isBytes addressWidth x ≡ true) (typeTwo (header a)) (λ _. relay-shaped (a .bytes) b whole)
         (λ _. destination-shaped (a .bytes) b whole))
-        (places-shaped known h))
+        (and-both (places-shaped known h) none-shaped))
 
 -- a packet that is accepted has all its parts
 pub accepted-whole : (r : Relay) (a : Arrival) (room : ℕ) → eqb (packetRefusal r a room) 0 ≡ true → payloadStart (header a) ≤ length (a .bytes)

@@ -12,7 +12,7 @@
 use Prim.Native.Nat.{ℕ, zero, suc, _+_, _≤_, _<_}
 use native.Mathlib.Omega.{arith}
 use mathlib.Core.Bool.{Bool, true, false, not}
-use mathlib.Core.List.{List, [], _∷_, _++_, map, map-append}
+use mathlib.Core.List.{List, [], _∷_, _++_, map}
 use mathlib.Core.Path.{_≡_, refl, sym, ap, subst, _∙_}
 use lib.Dec.{eqb, ltb}
 use lib.ListN.{length, getD, drop, replicate, length-map}
@@ -24,7 +24,6 @@ use Rattle.octets.specs.Listed.{firstOf}
 use Rattle.octets.specs.Part.{joined}
 use Rattle.octets.proofs.Choice.{then-true, then-false}
 use Rattle.octets.proofs.ListOf.{listOf-length, listOf-at}
-use Rattle.rules.specs.Relay.{Relay}
 use Rattle.rules.specs.Renumbering.{image, oneToOne}
 use Rattle.rules.specs.Answers.{renameAnswer}
 use Rattle.rules.specs.Run.{EachCall, Call, renumbering, Reply, answered, numbered, told, saved, unsaved, replies, relayAfter, tallyAfter, renameArrival, renameCall, renameReply, noCall, movesPorts, noneRenumbers, setsRelay, noneLoads}
@@ -35,15 +34,15 @@ use Rattle.rules.proofs.History.{Fits, CountsHistory}
 use Rattle.rules.proofs.Images.{image-port, image-other, image-below}
 use Rattle.tables.specs.Layout.{relayOf, bytesOf, wellFormed}
 use Rattle.tables.specs.Called.{Called}
-use Rattle.tables.specs.Shape.{isBytes}
 use Rattle.tables.proofs.All.{is-bytes}
 use Rattle.relay.specs.Promise.{JudgementOn}
 use Rattle.recording.specs.Shape.{entryPlace, countOf}
 use Rattle.recording.specs.Format.{Entry, longestFile, headWidth, fileOf, RecordableEntry, noEntry, Recordable}
 use Rattle.recording.specs.Reader.{lengthWrong, kindWrong, placesWrong, wordsWrong, fileRows, fileRefusal, isThere, entryOf, entriesOf}
 use Rattle.recording.specs.Writer.{givenWordsWrong, givenClocksWrong, addUp, fileLength, writingRows, writingRefusal, Writing, writing, bodiesOf}
-use Rattle.recording.proofs.ReadLaws.{entries-length, entries-at}
+use Rattle.recording.proofs.ReadLaws.{entries-length, taken}
 use Rattle.recording.proofs.RoundTrip.{file-size, file-taken, file-entries, entries-file, entries-recordable}
+use Rattle.recording.proofs.Made.{read-entry}
 use Rattle.replaying.specs.Promise.{entryCall, StepOn, stepOf, stepOn, ReplayOn, goesOn, replayFrom, replayOn, stepsOn}
 use Rattle.replaying.proofs.StepLaws.{step-none, step-there}
 use Rattle.replaying.proofs.Replay.{steps-calls, replay-calls}
@@ -52,8 +51,8 @@ use Rattle.demands.specs.Given.{CallBytes, CallsBytes}
 use Rattle.demands.specs.Bytes.{OutcomeOn, ofPacket, ofCalled, performOn, repliesOn, tablesAfterOn, tallyAfterOn}
 use Rattle.demands.specs.Replays.{callOf, callsOf, answerIn, IsPerformed, renameEntry, renamedFile}
 use Rattle.demands.proofs.Demand1.{RefusesExactly, seven, refuses-exactly}
-use Rattle.demands.proofs.Demand2.{FollowsTheRules, follows-the-rules, counts-history, stays-bytes}
-use Rattle.demands.proofs.Demand3.{renamedTables, ForgetsNothingOn, forgets-nothing-on, renamed-by-the-call}
+use Rattle.demands.proofs.Demand2.{follows-the-rules, counts-history, stays-bytes}
+use Rattle.demands.proofs.Demand3.{renamedTables, forgets-nothing-on, renamed-by-the-call}
 
 -- ---- demand 1, of files
 -- reading a recording: 20, 21, 22, 23
@@ -150,9 +149,6 @@ module _ (f : List ℕ) (b : Bytes f) (e : fileRefusal f ≡ 0) where
   recordable : Recordable (entriesOf f)
   recordable = entries-recordable f b e
 
-  entry-recordable : (i : ℕ) → i < countOf f → RecordableEntry (entryOf f i)
-  entry-recordable i l = subst RecordableEntry (entries-at f i l) (recordable .each i (omega (arith, entries-length f)))
-
   pub calls-given : CallsBytes (callsOf f)
   unfolding callsOf
   calls-given = each-given (entriesOf f) (recordable .each)
@@ -162,7 +158,7 @@ module _ (f : List ℕ) (b : Bytes f) (e : fileRefusal f ≡ 0) where
       each-given (listOf (entryOf f) n)
       (λ i h.
       let within : i < n = omega (arith, h, listOf-length (entryOf f) n) in
-      subst RecordableEntry (sym (listOf-at (entryOf f) n i noEntry within)) (entry-recordable i (omega arith)))
+      subst RecordableEntry (sym (listOf-at (entryOf f) n i noEntry within)) (read-entry f b (taken f e) i (omega arith)))
 
 -- ---- tables that row 7 names: each call is refused, and nothing changes
 module _ (t : List ℕ) (tally : Tally) (h : wellFormed t ≡ false) where

@@ -7,7 +7,7 @@ use lib.Dec.{eqb}
 use lib.ListN.{length}
 use borrow.Author.Tests.{eqb-true}
 use Rattle.octets.specs.Bytes.{Bytes}
-use Rattle.octets.proofs.Index.{and-left}
+use Rattle.octets.proofs.Index.{and-left, and-right, and-both}
 use Rattle.packet.specs.Read.{payloadStart}
 use Rattle.numbers.specs.Numbers.{pathCount}
 use Rattle.rules.specs.Relay.{Slot, empty, used, Path, Relay, withPaths, withLinks, withReturns, withHashes}
@@ -21,9 +21,10 @@ use Rattle.rules.specs.Writes.{putNext, remember, putPath, limitPath, notedSlot
 use Rattle.rules.specs.Saved.{Format, loadRefusal}
 use Rattle.rules.specs.Calls.{TableCall, sets-port, sets-rate, adds, removes, renumbers, notes-path, ruleOf}
 use Rattle.rules.specs.Run.{Call, packet, on-tables, asks, saves, loads, ofTold, perform, relayAfter}
-use Rattle.rules.specs.declared.Note.{Note}
+use Rattle.notes.specs.declared.Note.{Note}
 use Rattle.rules.specs.declared.Link.{Link}
 use Rattle.rules.specs.declared.Tally.{Tally}
+use Rattle.notes.proofs.NoteLaws.{noted-shaped}
 use Rattle.rules.proofs.Held.{WayKeeps, PlanKeeps, TableKeeps, enact-held, table-held, packet-kept, table-kept, save-kept, load-kept, stays}
 use Rattle.rules.proofs.Tables.{all-set, all-map, all-getD, table-getD}
 use Rattle.rules.proofs.Followed.{Found, Planned, planned}
@@ -102,16 +103,19 @@ module _ (r : Relay) (v : Valid r) (s : Shaped r) where
         (record { writes = plan-keeps (plan view a) (planned view a) (plan-blob view a); clock = tt; hash = λ _. hash-put })
 
 -- ---- the calls
--- notes are no part of a path's shape
-noted-shaped : (note : Note) (x : Slot Path) → slotOk pathShaped x ≡ true → slotOk pathShaped (notedSlot note x) ≡ true
+-- a note leaves all of a path's shape but the notes
+slot-noted : (note : Note) (x : Slot Path) → slotOk pathShaped x ≡ true → slotOk pathShaped (notedSlot note x) ≡ true
 unfolding notedSlot slotOk pathShaped
-noted-shaped note empty h = h
-noted-shaped note (used p) h = h
+slot-noted note empty h = h
+slot-noted note (used p) h =
+    let h1 = and-right _ _ h in
+    let h2 = and-right _ _ h1 in
+    and-both (and-left _ _ h) (and-both (and-left _ _ h1) (and-both (and-left _ _ h2) (noted-shaped note (p .notes) (and-right _ _ h2))))
 
 note-keeps : (note : Note) (destination : List ℕ) (clock : ℕ) (r : Relay) → Shaped r → shape .paths (notePath note destination clock r .paths)
 unfolding notePath withPaths viewAt slotOk
 note-keeps note destination clock r s =
-    all-set (slotOk pathShaped) (r .paths) _ _ (s .paths) (noted-shaped note _ (all-getD (slotOk pathShaped) (r .paths) _ empty (s .paths) refl))
+    all-set (slotOk pathShaped) (r .paths) _ _ (s .paths) (slot-noted note _ (all-getD (slotOk pathShaped) (r .paths) _ empty (s .paths) refl))
 
 table-keeps : (c : TableCall) (r : Relay) → all (isBytes addressWidth) (ruleOf c .addresses) ≡ true → Shaped r → TableKeeps shape r c
 unfolding ruleOf all slotOk

@@ -7,7 +7,7 @@ use lib.Dec.{eqb, ltb}
 use lib.ListN.{length, getD}
 use borrow.Author.Tests.{eq-eqb, eqb-true, eqb-false, ltb-false, le-leb, lt-leb}
 use Rattle.octets.specs.Index.{_and_}
-use Rattle.octets.specs.Choice.{_then_otherwise_, _or_}
+use Rattle.octets.specs.Choice.{_then_otherwise_}
 use Rattle.octets.proofs.Index.{and-no, and-yes}
 use Rattle.octets.proofs.Listed.{none-any}
 use Rattle.packet.specs.Header.{contextFlag, packetKind, ofKindLink, isData, isAnnounce, isLinkRequest, isProof}
@@ -65,12 +65,6 @@ module _ (a : Arrival) (good : badForm (a .bytes) ≡ false) where
       go : (t : Bool) → isLinkRequest (header a) ≡ t → isLinkRequest (header a) ≡ false
       go true q = let z : true ≡ false = sym (rw (q, is)) ∙ none in q ∙ z
       go false q = q
-
--- ---- tests joined
-pub or-false : (b : Bool) → (b or false) ≡ b
-unfolding _or_
-or-false true = refl
-or-false false = refl
 
 -- ---- hops are byte 1
 module _ (a : Arrival) where

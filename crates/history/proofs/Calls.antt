@@ -22,7 +22,7 @@ use Rattle.rules.specs.Renumbering.{oneToOne, preimage, movedPorts, renamePath,
 use Rattle.rules.specs.Refusals.{emptyLocal}
 use Rattle.rules.specs.Tests.{isThere}
 use Rattle.rules.specs.Writes.{notedSlot, notePath}
-use Rattle.rules.specs.declared.Note.{Note}
+use Rattle.notes.specs.declared.Note.{Note}
 use Rattle.rules.specs.Calls.{TableCall, sets-port, sets-rate, adds, removes, renumbers, notes-path, ruleOf}
 use Rattle.rules.proofs.Slots.{used-not-empty}
 use Rattle.rules.proofs.Images.{image-below, preimage-holds, source, source-port, source-other}

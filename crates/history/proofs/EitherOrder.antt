@@ -39,7 +39,7 @@ use Rattle.rules.specs.declared.Tally.{Tally}
 use Rattle.rules.proofs.Choices.{either}
 use Rattle.rules.proofs.Tables.{table-length}
 use Rattle.rules.proofs.Slots.{used-same, found-key, none-live}
-use Rattle.rules.proofs.Joined.{none-joined}
+use Rattle.octets.proofs.JoinedTests.{none-joined}
 use Rattle.rules.proofs.Passed.{Passed, passed}
 use Rattle.rules.proofs.Followed.{Planned, planned}
 use Rattle.rules.proofs.Accepted.{accepted-packet}

@@ -11,7 +11,8 @@ use Rattle.octets.specs.Choice.{same}
 use Rattle.octets.proofs.Choice.{same-ne}
 use Rattle.packet.specs.Hash.{packetHash}
 use Rattle.numbers.specs.Numbers.{blobLimit}
-use Rattle.rules.specs.Relay.{noNotes, used, Path, Relay}
+use Rattle.notes.specs.Notes.{noNotes}
+use Rattle.rules.specs.Relay.{used, Path, Relay}
 use Rattle.rules.specs.Blobs.{noBlob}
 use Rattle.rules.specs.Rate.{startsAt}
 use Rattle.rules.specs.View.{viewAt}

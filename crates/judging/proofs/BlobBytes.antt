@@ -1,20 +1,20 @@
 -- The 64 places of ten bytes in which a path's blobs stand.
-use Prim.Native.Nat.{ℕ, zero, suc, _+_, _*_, _-_, _≤_, _<_}
+use Prim.Native.Nat.{ℕ, suc, _+_, _*_, _-_, _≤_, _<_}
 use native.Mathlib.Omega.{arith}
 use mathlib.Core.Bool.{Bool, true, false}
 use mathlib.Core.List.{List, [], _∷_, _++_, append-assoc, append-nil}
 use mathlib.Core.Path.{_≡_, refl, sym, ap, ap₂, subst, _∙_}
 use lib.Dec.{eqb, ltb}
-use lib.ListN.{length, getD, set, take, drop, replicate, length-append, length-drop, length-set, drop-of-length-le, take-append-drop}
-use lib.Seq.{drop-cons, drop-drop, drop-at, drop-append-le, take-append-le, length-take-le, getD-take, ext-getD, getD-set-same, getD-set-other}
+use lib.ListN.{length, getD, set, take, drop, replicate, length-append, length-set, drop-of-length-le, take-append-drop}
+use lib.Seq.{drop-cons, drop-drop, drop-at, length-take-le, getD-take, ext-getD, getD-set-same, getD-set-other}
 use borrow.Author.Tests.{lt-ltb, le-ltb, ltb-true, ltb-false, eqb-true, eqb-false}
 use Rattle.octets.specs.Index.{listOf}
 use Rattle.octets.specs.Part.{part, patch}
 use Rattle.octets.specs.Index.{agree}
 use Rattle.octets.specs.Choice.{same}
 use Rattle.octets.proofs.Choice.{then-true, then-false, same-agree}
-use Rattle.octets.proofs.ListOf.{listOf-length, listOf-at, listOf-cong}
-use Rattle.octets.proofs.Part.{part-length, part-part, part-mid, patch-join, patch-whole}
+use Rattle.octets.proofs.ListOf.{listOf-length, listOf-at, listOf-cong, listOf-first}
+use Rattle.octets.proofs.Part.{part-length, part-part, part-mid, part-front, patch-join, patch-whole}
 use Rattle.numbers.specs.Numbers.{blobLimit}
 use Rattle.rules.specs.Blobs.{held, noBlob, oneBlob, addBlob}
 use Rattle.judging.specs.Seen.{placesOf, blobsIn}
@@ -55,11 +55,6 @@ module _ (b : List ℕ) where
         (ap (λ (k : ℕ). drop k (held (blobsIn n b))) next)
 
 -- ---- parts beside what is written
-part-front : (x r : List ℕ) (p n : ℕ) → p + n ≤ length x → part (x ++ r) p n ≡ part x p n
-unfolding part
-part-front x r p n h =
-    ap (take n) (drop-append-le p x r (omega arith)) ∙ take-append-le n (drop p x) r (omega (arith, length-drop p x))
-
 part-before : (t bs : List ℕ) (a p n : ℕ) → p + n ≤ a → a ≤ length t → part (patch t a bs) p n ≡ part t p n
 unfolding patch
 part-before t bs a p n h l =
@@ -81,11 +76,6 @@ part-after t bs a q n l =
 part-here : (t bs : List ℕ) (a n : ℕ) → a ≤ length t → length bs ≡ n → part (patch t a bs) a n ≡ bs
 unfolding patch
 part-here t bs a n l e = part-mid (take a t) bs (drop (a + length bs) t) a n (length-take-le a t l) e
-
-listOf-first : {A : Type 0} (f : ℕ → A) (n : ℕ) → listOf f (suc n) ≡ f 0 ∷ listOf (λ i. f (suc i)) n
-unfolding listOf
-listOf-first f zero = refl
-listOf-first {A} f (suc n) = ap (λ (xs : List A). xs ++ (f (suc n) ∷ [])) (listOf-first f n)
 
 -- ---- what is written
 module _ (b x : List ℕ) (lb : length b ≡ 640) (lx : length x ≡ 10) where

@@ -5,7 +5,7 @@ use mathlib.Core.List.{List, [], _∷_}
 use mathlib.Core.Path.{_≡_, refl, sym, ap, _∙_}
 use Rattle.octets.specs.Index.{_and_}
 use Rattle.octets.specs.Choice.{_then_otherwise_, _or_}
-use Rattle.octets.specs.Listed.{Test, _gives_otherwise_, firstOf, anyHolds}
+use Rattle.octets.specs.Listed.{Test, _gives_otherwise_, firstOf, anyHolds, _each-give_otherwise_}
 use Rattle.octets.proofs.Index.{and-no, and-both}
 use Rattle.octets.proofs.Choice.{then-true, then-false, or-left, or-right}
 use Rattle.packet.specs.Header.{typeTwo, ofKindLink, isAnnounce, isLinkRequest, isProof}
@@ -16,7 +16,7 @@ use Rattle.rules.specs.Arrival.{Arrival, header, destination, hash, isLinkProof
 use Rattle.rules.specs.Ways.{Way, everywhere, by-path, along-link, by-return, blocked, pathWay, linkWay, returnWay, wayOn}
 use Rattle.rules.specs.Tests.{notOurs, forMarkedPath, testedAsDuplicate, duplicate, requestOfKindLink, formTests, badForm, ownAnnounce, deliveredHere, noWayOn, whyBlocked, isThere, followsProvedLink, alreadyKnown, wrongSide, notSigned, knownTests, leavingPort, portOff, tooLongForPort, noRoom}
 use Rattle.rules.specs.Outgoing.{spreadPorts, outgoing, exceeds}
-use Rattle.rules.specs.Judging.{Plan, dropped, delivered, follows, earlyTests, _each-give_otherwise_, onwardTests, onwardPlan, plan, wayVerdict, verdict, outputAfter}
+use Rattle.rules.specs.Judging.{Plan, dropped, delivered, follows, earlyTests, onwardTests, onwardPlan, plan, wayVerdict, verdict, outputAfter}
 use Rattle.rules.specs.Writes.{alreadyLive, remembers, announcedRate, announcedPath}
 use Rattle.rules.specs.declared.Blocked.the-variants.{NotAsking}
 use Rattle.rules.specs.declared.Reason.the-variants.{NoWayOn, AlreadyKnown, WrongSide, NotSigned, PortOff, TooLongForPort, NoRoom}

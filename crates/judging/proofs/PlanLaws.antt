@@ -6,15 +6,15 @@ use mathlib.Core.Path.{_≡_, _∙_}
 use lib.ListN.{drop}
 use Rattle.octets.specs.Listed.{firstOf, valued}
 use Rattle.octets.proofs.Listed.{here, past, none-first}
-use Rattle.rules.proofs.Joined.{joined-first, none-valued}
+use Rattle.octets.proofs.JoinedTests.{joined-first, none-valued}
 use Rattle.rules.proofs.Passed.{none-known}
 use Rattle.rules.specs.View.{View}
 use Rattle.rules.specs.Arrival.{Arrival, hops}
 use Rattle.rules.specs.Ways.{Way, wayOn}
 use Rattle.rules.specs.Tests.{notOurs, duplicate, badForm, failing, ownAnnounce, deliveredHere, tooManyHops, noWayOn, whyBlocked, alreadyKnown, wrongSide, notSigned, ofKnown, knownTests}
-use Rattle.rules.specs.Judging.{Plan, dropped, delivered, follows, earlyTests, onwardTests, onwardPlan, plan}
+use Rattle.rules.specs.Judging.{Plan, dropped, delivered, follows, earlyTests, leavingTests, onwardTests, onwardPlan, plan}
 use Rattle.rules.specs.declared.Reason.the-variants.{NotOurs, Duplicate, BadForm, OwnAnnounce, TooManyHops, NoWayOn, AlreadyKnown, WrongSide, NotSigned}
-use Rattle.judging.specs.Steps.{leavingTests, leavingPlan, lastPlan}
+use Rattle.judging.specs.Steps.{leavingPlan, lastPlan}
 
 -- what the tests behind the first n say
 unfoldable pub earlyFrom : ℕ → View → Arrival → Plan
@@ -104,7 +104,7 @@ module _ (v : View) (a : Arrival) where
     onward-9 e = here _ _ _ _ e
 
     pub past-9 : notSigned a ≡ false → onwardFrom 3 v a w ≡ lastPlan v a w
-    unfolding onwardFrom lastPlan leavingPlan leavingTests onwardTests
+    unfolding onwardFrom lastPlan leavingPlan onwardTests
     past-9 e = past _ _ _ _ e ∙ joined-first dropped (knownTests v a w) (leavingTests v a w) (follows w)
 
     -- ---- the tests of a known path, where they aren't made

@@ -36,11 +36,11 @@ any-default (x ∷ xs) zero d e l = refl
 any-default (x ∷ xs) (suc i) d e l = any-default xs i d e (le-of-suc-le-suc l)
 
 -- ---- records that are there or not
-pub marked-seen : (d : List ℕ) (s : SeenPath) → isMarked (pathOf d s) ≡ (s .there and s .marked)
+pub marked-seen : (d : List ℕ) (s : SeenPath) → isMarked (pathOf d s) ≡ (s .there and s .notes .marked)
 unfolding isMarked pathOf _then_otherwise_ _and_
 marked-seen d s = go (s .there)
   where
-    go : (b : Bool) → isMarked (b then used (pathRecord d s) otherwise empty) ≡ (b and s .marked)
+    go : (b : Bool) → isMarked (b then used (pathRecord d s) otherwise empty) ≡ (b and s .notes .marked)
     go true = refl
     go false = refl
 

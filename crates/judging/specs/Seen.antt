@@ -11,7 +11,7 @@ use Rattle.numbers.specs.Numbers.{longestPacket, blobLimit}
 use Rattle.packet.specs.Header.{isLinkRequest}
 use Rattle.packet.specs.Read.{headerOf, partsOf}
 use Rattle.packet.specs.Hash.{linkId}
-use Rattle.rules.specs.Relay.{Slot, empty, used, Path, Return, Blobs, makeNotes, makePath, makeReturn}
+use Rattle.rules.specs.Relay.{Slot, empty, used, Path, Return, Blobs, makePath, makeReturn}
 use Rattle.rules.specs.View.{View}
 use Rattle.rules.specs.Arrival.{Arrival, destination, hash}
 use Rattle.rules.specs.Refusals.{rateSettingsOk, rateEntryOk}
@@ -45,7 +45,7 @@ abbrev pub blobsOf : SeenPath → Blobs
 blobsOf s = blobsIn (s .count) (s .blobs)
 
 abbrev pub pathRecord : List ℕ → SeenPath → Path
-pathRecord destination s = makePath destination (s .port) (s .hops) (s .«next_hop») (s .expiry) (s .rate) (makeNotes (s .marked)) (blobsOf s)
+pathRecord destination s = makePath destination (s .port) (s .hops) (s .«next_hop») (s .expiry) (s .rate) (s .notes) (blobsOf s)
 
 unfoldable pub pathOf : List ℕ → SeenPath → Slot Path
 pathOf destination s = s .there then used (pathRecord destination s) otherwise empty

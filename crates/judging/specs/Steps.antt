@@ -7,7 +7,7 @@ use lib.Dec.{eqb, ltb, leb}
 use lib.ListN.{length, getD}
 use Rattle.octets.specs.Index.{_and_}
 use Rattle.octets.specs.Choice.{_then_otherwise_, _or_}
-use Rattle.octets.specs.Listed.{Test, _gives_otherwise_, firstOf, valued}
+use Rattle.octets.specs.Listed.{firstOf, valued}
 use Rattle.octets.specs.Part.{patch}
 use Rattle.packet.specs.Read.{longestPacket, reads, payload}
 use Rattle.packet.specs.Announce.{emissionOf}
@@ -17,14 +17,13 @@ use Rattle.rules.specs.View.{View}
 use Rattle.rules.specs.Arrival.{Arrival, destination}
 use Rattle.rules.specs.Blobs.{held, greatestEmission, oneBlob, storeBlob}
 use Rattle.rules.specs.Rate.{startsAt, entryAccepted, entryRevived, entryDropped}
-use Rattle.rules.specs.Tests.{ofKnown, knownTests, portOff, tooLongForPort, noRoom}
+use Rattle.rules.specs.Tests.{ofKnown, knownTests}
 use Rattle.rules.specs.Ways.{Way}
 use Rattle.rules.specs.Outgoing.{outgoing}
-use Rattle.rules.specs.Judging.{Plan, dropped, follows, wayVerdict, leaves}
+use Rattle.rules.specs.Judging.{Plan, dropped, follows, leavingTests, wayVerdict, leaves}
 use Rattle.rules.specs.Writes.{returnKey, returnRecord, remembersDrop}
 use Rattle.rules.specs.declared.RateSettings.{RateSettings}
 use Rattle.rules.specs.declared.RateEntry.{RateEntry}
-use Rattle.rules.specs.declared.Reason.the-variants.{PortOff, TooLongForPort, NoRoom}
 use Rattle.rules.specs.declared.Verdict.{Verdict}
 use Rattle.rules.specs.declared.Blocked.the-variants.{NoPath, NoLink, NotProved, NoReturn}
 use Rattle.judging.specs.declared.Arrived.{Arrived}
@@ -83,13 +82,6 @@ pub record CanKnow (s : Seen) (packet : List ℕ) : Type 0 where
   pub long : 84 ≤ length (payload packet)
 
 -- the plan of tests 12, 16 and 13, and of all behind 9
-unfoldable pub leavingTests : View → Arrival → Way → List (Test Plan)
-leavingTests v a w =
-    portOff v a w gives dropped PortOff otherwise
-    tooLongForPort v a w gives dropped TooLongForPort otherwise
-    noRoom v a w gives dropped NoRoom otherwise
-    []
-
 unfoldable pub leavingPlan : View → Arrival → Way → Plan
 leavingPlan v a w = firstOf (leavingTests v a w) (follows w)
 
@@ -132,7 +124,7 @@ abbrev pub blobsStored : Stored → Blobs
 blobsStored s = blobsIn (s .count) (s .bytes)
 
 abbrev pub revivedBy : SeenPath → List ℕ → Bool
-revivedBy s blob = s .marked and leb (greatestEmission (held (blobsOf s))) (emissionOf blob)
+revivedBy s blob = s .notes .marked and leb (greatestEmission (held (blobsOf s))) (emissionOf blob)
 
 unfoldable pub rateAnnounced : RateSettings → SeenPath → List ℕ → ℕ → RateEntry
 rateAnnounced settings s blob clock =

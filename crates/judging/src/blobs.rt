@@ -58,7 +58,7 @@ pub fn revives(path: SeenPath, blob: [u8; 10]) -> bool
 {
     let blobs = path.blobs;
     let most = greatest_emission(blobs, path.count);
-    both(path.marked, most <= packet::emission(blob))
+    both(path.notes.marked, most <= packet::emission(blob))
 }
 
 // A new path's blobs: one, and zeros behind it.

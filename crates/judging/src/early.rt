@@ -39,7 +39,7 @@ pub fn for_marked_path(seen: Seen, packet: &[u8], arrived: Arrived) -> bool
 {
     let header = packet[0];
     let path = seen.path;
-    let marked = both(path.there, path.marked);
+    let marked = both(path.there, path.notes.marked);
     both(
         packet::is_announce(header),
         both(packet::of_kind_single(header), marked),

@@ -19,6 +19,7 @@ use early::own_announce;
 use forms::Form;
 pub use keys::link_key;
 pub use keys::return_key;
+use notes::Notes;
 use numbers::HOPS_LIMIT;
 use onward::plan_onward;
 pub use records::announced_path;
@@ -65,7 +66,7 @@ pub struct SeenPath {
     pub next_hop: [u8; 16],
     pub expiry: u64,
     pub rate: RateEntry,
-    pub marked: bool,
+    pub notes: Notes,
     pub count: usize,
     pub blobs: [u8; 640],
 }

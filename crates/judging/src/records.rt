@@ -105,7 +105,7 @@ pub fn announced_path(
         next_hop,
         expiry: arrived.clock + lifetime,
         rate,
-        marked: false,
+        notes: notes::none(),
         count: stored.count,
         blobs,
     }

@@ -5,18 +5,17 @@ use mathlib.Core.List.{List}
 use mathlib.Core.Path.{_≡_, refl, sym, ap, subst, _∙_}
 use lib.Dec.{eqb, ltb}
 use lib.ListN.{getD, List·getD-eq-default}
-use borrow.Author.Tests.{ltb-true, leb-true}
 use Rattle.octets.specs.Choice.{_then_otherwise_}
-use Rattle.octets.proofs.Index.{and-left, and-right, all-at, first-holds}
-use Rattle.numbers.specs.Numbers.{portCount, localCount, pathCount, linkCount, returnCount, hashCount, blobLimit}
+use Rattle.octets.proofs.Index.{all-at, first-holds}
+use Rattle.numbers.specs.Numbers.{pathCount, linkCount, returnCount}
 use Rattle.rules.specs.Relay.{empty, used, Relay, holds, lowest}
-use Rattle.rules.specs.View.{isLivePath, isLiveLink, isLiveReturn, isLocal, localPlace, pathPlace, linkPlace, returnPlace, hashPlace, freePath, freeLink, viewAt}
-use Rattle.rules.specs.Refusals.{pathOk, linkOk, returnOk}
+use Rattle.rules.specs.View.{isLivePath, isLiveLink, isLiveReturn, pathPlace, linkPlace, returnPlace, freePath, freeLink, viewAt}
+use Rattle.rules.specs.Refusals.{pathOk}
 use Rattle.tables.specs.Places.{pathsAt, pathWidth, linksAt, linkWidth, returnsAt, returnWidth}
-use Rattle.tables.specs.Records.{slotOf, pathOf, linkOf, returnOf, pathBytesOk, linkBytesOk, returnBytesOk}
-use Rattle.tables.specs.Layout.{recordAt, rows, recordsOk, relayOf, wellFormed}
-use Rattle.tables.proofs.Seen.{row-seen, rows-length}
-use Rattle.tables.proofs.Tests.{path-kept, link-kept, return-kept}
+use Rattle.tables.specs.Records.{slotOf, pathOf, linkOf, returnOf, pathBytesOk}
+use Rattle.tables.specs.Layout.{recordAt, records, recordsOk, relayOf, wellFormed}
+use Rattle.tables.proofs.Seen.{record-seen, records-length}
+use Rattle.tables.proofs.Tests.{path-kept}
 use Rattle.tables.proofs.Whole.{formed}
 
 -- ---- any table
@@ -30,21 +29,23 @@ module _ {A : Type 0} (test : A → Bool) (read : List ℕ → A) where
       go true q = absurd (false≢true (rw q at h))
       go false q = q
 
-  module _ (at width n : ℕ) (t : List ℕ) (i : ℕ) (e : i ≡ lowest test n (rows (slotOf read) at width n t)) where
+  module _ (at width n : ℕ) (t : List ℕ) (i : ℕ) (e : i ≡ lowest test n (records (slotOf read) at width n t)) where
     found-marked : i < n → eqb (getD (recordAt at width t i) 0 0) 0 ≡ false
     unfolding lowest
     found-marked l =
-        let there : holds test (getD (rows (slotOf read) at width n t) i empty) ≡ true =
-        subst (λ (k : ℕ). holds test (getD (rows (slotOf read) at width n t) k empty) ≡ true) (sym e)
-        (first-holds (λ k. holds test (getD (rows (slotOf read) at width n t) k empty)) n (subst (λ (k : ℕ). k < n) e l)) in
-        marked (recordAt at width t i) (ap (holds test) (sym (row-seen (slotOf read) at width n t i empty l)) ∙ there)
+        let there : holds test (getD (records (slotOf read) at width n t) i empty) ≡ true =
+        subst (λ (k : ℕ). holds test (getD (records (slotOf read) at width n t) k empty) ≡ true) (sym e)
+        (first-holds (λ k. holds test (getD (records (slotOf read) at width n t) k empty)) n (subst (λ (k : ℕ). k < n) e l)) in
+        marked (recordAt at width t i) (ap (holds test) (sym (record-seen (slotOf read) at width n t i empty l)) ∙ there)
 
-    found : i < n → getD (rows (slotOf read) at width n t) i empty ≡ used (read (recordAt at width t i))
+    found : i < n → getD (records (slotOf read) at width n t) i empty ≡ used (read (recordAt at width t i))
     unfolding slotOf _then_otherwise_
-    found l = row-seen (slotOf read) at width n t i empty l ∙ rw (found-marked l)
+    found l = record-seen (slotOf read) at width n t i empty l ∙ rw (found-marked l)
 
-    missing : n ≤ i → getD (rows (slotOf read) at width n t) i empty ≡ empty
-    missing l = List·getD-eq-default (rows (slotOf read) at width n t) empty {n = i} (subst (λ (k : ℕ). k ≤ i) (sym (rows-length (slotOf read) at width n t)) l)
+    missing : n ≤ i → getD (records (slotOf read) at width n t) i empty ≡ empty
+    missing l =
+        List·getD-eq-default (records (slotOf read) at width n t) empty {n = i}
+        (subst (λ (k : ℕ). k ≤ i) (sym (records-length (slotOf read) at width n t)) l)
 
     -- row 7's clauses on a used record
     found-ok : (ok : List ℕ → Bool) (rule : A → Bool) → ((b : List ℕ) → eqb (getD b 0 0) 0 ≡ false → ok b ≡ true → rule (read b) ≡ true)
@@ -73,10 +74,6 @@ module _ (t : List ℕ) (clock : ℕ) where
       path-ok =
           found-ok (isLivePath clock destination) pathOf pathsAt pathWidth pathCount t i e pathBytesOk pathOk path-kept (formed t h .paths) l
 
-      pub path-port-ok : pathOf (recordAt pathsAt pathWidth t i) .port < portCount
-      unfolding pathOk
-      path-port-ok = ltb-true _ _ (and-left _ _ path-ok)
-
   module _ (id : List ℕ) (i : ℕ) (e : i ≡ linkPlace clock (relayOf t) id) where
     pub link-found : i < linkCount → viewAt clock (relayOf t) .link id ≡ used (linkOf (recordAt linksAt linkWidth t i))
     unfolding viewAt linkPlace relayOf slotOf linkOf
@@ -89,20 +86,6 @@ module _ (t : List ℕ) (clock : ℕ) where
     link-missing l =
         ap (λ (k : ℕ). getD (relayOf t .links) k empty) (sym e)
         ∙ missing (isLiveLink clock id) linkOf linksAt linkWidth linkCount t i e l
-
-    module _ (h : wellFormed t ≡ true) (l : i < linkCount) where
-      link-ok : linkOk (linkOf (recordAt linksAt linkWidth t i)) ≡ true
-      unfolding linkPlace relayOf slotOf linkOf
-      link-ok =
-          found-ok (isLiveLink clock id) linkOf linksAt linkWidth linkCount t i e linkBytesOk linkOk link-kept (formed t h .links) l
-
-      pub link-asking-ok : linkOf (recordAt linksAt linkWidth t i) .asking < portCount
-      unfolding linkOk
-      link-asking-ok = ltb-true _ _ (and-left _ _ link-ok)
-
-      pub link-answering-ok : linkOf (recordAt linksAt linkWidth t i) .answering < portCount
-      unfolding linkOk
-      link-answering-ok = ltb-true _ _ (and-left _ _ (and-right _ _ link-ok))
 
   module _ (key : List ℕ) (i : ℕ) (e : i ≡ returnPlace clock (relayOf t) key) where
     pub return-found : i < returnCount → viewAt clock (relayOf t) .return key ≡ used (returnOf (recordAt returnsAt returnWidth t i))
@@ -117,30 +100,8 @@ module _ (t : List ℕ) (clock : ℕ) where
         ap (λ (k : ℕ). getD (relayOf t .returns .slots) k empty) (sym e)
         ∙ missing (isLiveReturn clock key) returnOf returnsAt returnWidth returnCount t i e l
 
-    module _ (h : wellFormed t ≡ true) (l : i < returnCount) where
-      return-ok : returnOk (returnOf (recordAt returnsAt returnWidth t i)) ≡ true
-      unfolding returnPlace relayOf slotOf returnOf
-      return-ok =
-          found-ok (isLiveReturn clock key) returnOf returnsAt returnWidth returnCount t i e returnBytesOk returnOk return-kept (formed t h .returns) l
-
-      pub return-arrival-ok : returnOf (recordAt returnsAt returnWidth t i) .arrival < portCount
-      unfolding returnOk
-      return-arrival-ok = ltb-true _ _ (and-left _ _ return-ok)
-
-      pub return-leaving-ok : returnOf (recordAt returnsAt returnWidth t i) .leaving < portCount
-      unfolding returnOk
-      return-leaving-ok = ltb-true _ _ (and-left _ _ (and-right _ _ return-ok))
-
 -- ---- what is only there or not
 module _ (clock : ℕ) (r : Relay) (i : ℕ) where
-  pub local-found : (address : List ℕ) → i ≡ localPlace r address → viewAt clock r .local address ≡ ltb i localCount
-  unfolding viewAt isLocal
-  local-found address e = ap (λ (k : ℕ). ltb k localCount) (sym e)
-
-  pub hash-found : (hash : List ℕ) → i ≡ hashPlace clock r hash → viewAt clock r .remembered hash ≡ ltb i hashCount
-  unfolding viewAt
-  hash-found hash e = ap (λ (k : ℕ). ltb k hashCount) (sym e)
-
   pub path-room : i ≡ freePath clock r → viewAt clock r .roomForPath ≡ ltb i pathCount
   unfolding viewAt
   path-room e = ap (λ (k : ℕ). ltb k pathCount) (sym e)

@@ -20,14 +20,14 @@ use Rattle.numbers.specs.Numbers.{live}
 use Rattle.rules.specs.Relay.{holds, free, lowest, lowestFree}
 use Rattle.tables.specs.Places.{timeWidth}
 use Rattle.tables.specs.Records.{slotOf}
-use Rattle.tables.specs.Layout.{recordAt, rows}
+use Rattle.tables.specs.Layout.{recordAt, records}
 use Rattle.tables.proofs.Seen.{lowest-seen, free-seen}
-use Rattle.lookup.specs.Search.{lastWord, noneIs, isUsed, hasKey, isLiveOf, lowestRow}
+use Rattle.lookup.specs.Search.{lastWord, noneIs, isUsed, hasKey, isLiveOf, lowestRecord}
 
 -- ---- the loop
 module _ (test : List ℕ → Bool) (at width : ℕ) (t : List ℕ) where
-  pub none-yet : lowestRow test at width 0 t ≡ 0
-  unfolding lowestRow
+  pub none-yet : lowestRecord test at width 0 t ≡ 0
+  unfolding lowestRecord
   none-yet = first-none (λ k. test (recordAt at width t k))
 
   -- the bytes b of record i, and what the test says of them
@@ -35,16 +35,16 @@ module _ (test : List ℕ → Bool) (at width : ℕ) (t : List ℕ) where
     seen : test (recordAt at width t i) ≡ r
     seen = sym (e ∙ ap test row)
 
-    pub not-here : r ≡ false → lowestRow test at width i t ≡ i → lowestRow test at width (i + 1) t ≡ i + 1
-    unfolding lowestRow
+    pub not-here : r ≡ false → lowestRecord test at width i t ≡ i → lowestRecord test at width (i + 1) t ≡ i + 1
+    unfolding lowestRecord
     not-here q h = first-more (λ k. test (recordAt at width t k)) i h (seen ∙ q)
 
-    pub found-here : (n : ℕ) → i < n → r ≡ true → lowestRow test at width i t ≡ i → i ≡ lowestRow test at width n t
-    unfolding lowestRow
+    pub found-here : (n : ℕ) → i < n → r ≡ true → lowestRecord test at width i t ≡ i → i ≡ lowestRecord test at width n t
+    unfolding lowestRecord
     found-here n l q h = sym (first-hit (λ k. test (recordAt at width t k)) i n h (seen ∙ q) l)
 
-  pub nowhere : {i n : ℕ} → i ≤ n → n ≤ i → lowestRow test at width i t ≡ i → n ≡ lowestRow test at width n t
-  unfolding lowestRow
+  pub nowhere : {i n : ℕ} → i ≤ n → n ≤ i → lowestRecord test at width i t ≡ i → n ≡ lowestRecord test at width n t
+  unfolding lowestRecord
   nowhere l m h = sym (first-ended (λ k. test (recordAt at width t k)) l m h)
 
 -- ---- the loop in runs: i records that don't pass the test, and n behind them, of which the lowest that does is k
@@ -63,30 +63,30 @@ first-plus p m (suc n) h = go (first-plus p m n h) (ltb rest n) refl (p (m + n))
     go ih false ea false eb = rw (add-suc, ih, ea, eb, le-ltb (m + rest) (m + n) (omega (arith, ltb-false rest n ea)), add-suc)
 
 module _ (test : List ℕ → Bool) (at width : ℕ) (t : List ℕ) (i n : ℕ) {from : ℕ} (stands : from ≡ at + width * i)
-    (none : lowestRow test at width i t ≡ i) {k : ℕ} (e : k ≡ lowestRow test from width n t) where
+    (none : lowestRecord test at width i t ≡ i) {k : ℕ} (e : k ≡ lowestRecord test from width n t) where
   pub within-run : k ≤ n
-  unfolding lowestRow
+  unfolding lowestRecord
   within-run = subst (λ (x : ℕ). x ≤ n) (sym e) (first-le (λ j. test (recordAt from width t j)) n)
 
-  pub runs : lowestRow test at width (i + n) t ≡ i + k
-  unfolding lowestRow
+  pub runs : lowestRecord test at width (i + n) t ≡ i + k
+  unfolding lowestRecord
   runs =
       first-plus (λ x. test (recordAt at width t x)) i n none
       ∙ ap (λ (x : ℕ). i + x) (first-cong _ _ n (λ j l. ap (λ (x : ℕ). test (part t x width)) (omega (arith, mul-add width i j))) ∙ sym e)
 
-  pub run-passed : n ≤ k → lowestRow test at width (i + n) t ≡ i + n
+  pub run-passed : n ≤ k → lowestRecord test at width (i + n) t ≡ i + n
   run-passed l = runs ∙ omega (arith, within-run)
 
-  pub run-found : (count : ℕ) → i + n ≤ count → k < n → i + k ≡ lowestRow test at width count t
-  unfolding lowestRow
+  pub run-found : (count : ℕ) → i + n ≤ count → k < n → i + k ≡ lowestRecord test at width count t
+  unfolding lowestRecord
   run-found count l m =
       let p : ℕ → Bool = λ x. test (recordAt at width t x) in
       sym (first-hit p (i + k) count (first-absent p (i + k) (λ j b. first-before p (i + n) j (subst (λ (x : ℕ). j < x) (sym runs) b)))
       (ap p (sym runs) ∙ first-holds p (i + n) (subst (λ (x : ℕ). x < i + n) (sym runs) (omega arith))) (omega arith))
 
 pub lowest-cong : (p q : List ℕ → Bool) (at width n : ℕ) (t : List ℕ) → ((b : List ℕ) → p b ≡ q b)
-    → lowestRow p at width n t ≡ lowestRow q at width n t
-unfolding lowestRow
+    → lowestRecord p at width n t ≡ lowestRecord q at width n t
+unfolding lowestRecord
 lowest-cong p q at width n t each = first-cong _ _ n (λ i l. each (recordAt at width t i))
 
 -- ---- the last eight bytes first, for keys of any width: where those of a record are not the key's, it is not of the key
@@ -120,7 +120,7 @@ module _ (x at width : ℕ) (t : List ℕ) where
 -- n records, of which none has the key's last eight bytes, are not of the key
 module _ (key : List ℕ) (expiry clock at width : ℕ) (t : List ℕ) (wide : 1 + length key ≤ width) where
   pub others : (n tail : ℕ) → tail + 8 ≡ length key → noneIs (lastWord key) (at + 1 + tail) width n t ≡ true
-      → lowestRow (isLiveOf key expiry clock) at width n t ≡ n
+      → lowestRecord (isLiveOf key expiry clock) at width n t ≡ n
   unfolding noneIs allBelow
   others zero tail e h = none-yet (isLiveOf key expiry clock) at width t
   others (suc n) tail e h =
@@ -144,18 +144,18 @@ module _ {A : Type 0} (test : A → Bool) (read : List ℕ → A) where
       go false q = rw q
 
   module _ (at width n : ℕ) (t : List ℕ) where
-    pub lowest-used : lowest test n (rows (slotOf read) at width n t) ≡ lowestRow (λ b. isUsed b and test (read b)) at width n t
-    unfolding lowestRow
+    pub lowest-used : lowest test n (records (slotOf read) at width n t) ≡ lowestRecord (λ b. isUsed b and test (read b)) at width n t
+    unfolding lowestRecord
     lowest-used = lowest-seen (slotOf read) at width n t test ∙ first-cong _ _ n (λ i l. slot-holds (recordAt at width t i))
 
-    pub lowest-free : lowestFree test n (rows (slotOf read) at width n t) ≡ lowestRow (λ b. not (isUsed b and test (read b))) at width n t
-    unfolding lowestRow free
+    pub lowest-free : lowestFree test n (records (slotOf read) at width n t) ≡ lowestRecord (λ b. not (isUsed b and test (read b))) at width n t
+    unfolding lowestRecord free
     lowest-free = free-seen (slotOf read) at width n t test ∙ first-cong _ _ n (λ i l. ap not (slot-holds (recordAt at width t i)))
 
     -- a record whose key of k bytes stands behind its mark, and whose expiry stands at e
     pub lowest-live : (k : ℕ) (key : List ℕ) (e clock : ℕ) → length key ≡ k
         → ((b : List ℕ) → (same (part b 1 k) key and live clock (number (part b e timeWidth))) ≡ test (read b))
-        → lowestRow (isLiveOf key e clock) at width n t ≡ lowest test n (rows (slotOf read) at width n t)
+        → lowestRecord (isLiveOf key e clock) at width n t ≡ lowest test n (records (slotOf read) at width n t)
     unfolding isLiveOf hasKey
     lowest-live k key e clock wide fields =
         lowest-cong _ _ at width n t

@@ -22,7 +22,7 @@ use Rattle.tables.specs.Fields.{portSizeAt, pathExpiryAt, linkExpiryAt, returnE
 use Rattle.tables.specs.Records.{slotOf, portOf, localOf, pathOf, linkOf, returnOf, hashOf}
 use Rattle.tables.specs.Layout.{recordAt, relayOf}
 use Rattle.tables.proofs.Seen.{port-seen, ports-length}
-use Rattle.lookup.specs.Search.{isUsed, hasKey, isLive, isLiveOf, lowestRow}
+use Rattle.lookup.specs.Search.{isUsed, hasKey, isLive, isLiveOf, lowestRecord}
 use Rattle.lookup.proofs.Searches.{lowest-used, lowest-free, lowest-live, lowest-cong}
 
 module _ (t : List ℕ) where
@@ -46,7 +46,7 @@ module _ (t : List ℕ) where
 
   -- ---- local addresses
   pub local-lowest : (address : List ℕ) → length address ≡ addressWidth
-      → lowestRow (hasKey address) localsAt localWidth localCount t ≡ localPlace (relayOf t) address
+      → lowestRecord (hasKey address) localsAt localWidth localCount t ≡ localPlace (relayOf t) address
   unfolding hasKey localPlace relayOf slotOf localOf
   local-lowest address wide =
       lowest-cong _ _ localsAt localWidth localCount t
@@ -61,7 +61,7 @@ module _ (t : List ℕ) where
       go true q = rw q
       go false q = rw q
 
-  pub empty-lowest : lowestRow (λ b. eqb (getD b 0 0) 0) localsAt localWidth localCount t ≡ emptyLocal (relayOf t)
+  pub empty-lowest : lowestRecord (λ b. eqb (getD b 0 0) 0) localsAt localWidth localCount t ≡ emptyLocal (relayOf t)
   unfolding emptyLocal relayOf slotOf localOf
   empty-lowest =
       lowest-cong _ _ localsAt localWidth localCount t unused ∙ sym (lowest-free (λ address. true) localOf localsAt localWidth localCount t)
@@ -69,34 +69,34 @@ module _ (t : List ℕ) where
   -- ---- the live record of a key
   module _ (clock : ℕ) where
     pub path-lowest : (destination : List ℕ) → length destination ≡ addressWidth → {i : ℕ}
-        → i ≡ lowestRow (isLiveOf destination pathExpiryAt clock) pathsAt pathWidth pathCount t → i ≡ pathPlace clock (relayOf t) destination
+        → i ≡ lowestRecord (isLiveOf destination pathExpiryAt clock) pathsAt pathWidth pathCount t → i ≡ pathPlace clock (relayOf t) destination
     unfolding pathPlace relayOf isLivePath slotOf pathOf
     path-lowest destination wide e =
         e ∙ lowest-live (isLivePath clock destination) pathOf pathsAt pathWidth pathCount t addressWidth destination pathExpiryAt clock wide (λ b. refl)
 
     pub link-lowest : (id : List ℕ) → length id ≡ addressWidth → {i : ℕ}
-        → i ≡ lowestRow (isLiveOf id linkExpiryAt clock) linksAt linkWidth linkCount t → i ≡ linkPlace clock (relayOf t) id
+        → i ≡ lowestRecord (isLiveOf id linkExpiryAt clock) linksAt linkWidth linkCount t → i ≡ linkPlace clock (relayOf t) id
     unfolding linkPlace relayOf isLiveLink slotOf linkOf
     link-lowest id wide e =
         e ∙ lowest-live (isLiveLink clock id) linkOf linksAt linkWidth linkCount t addressWidth id linkExpiryAt clock wide (λ b. refl)
 
     pub return-lowest : (key : List ℕ) → length key ≡ addressWidth → {i : ℕ}
-        → i ≡ lowestRow (isLiveOf key returnExpiryAt clock) returnsAt returnWidth returnCount t → i ≡ returnPlace clock (relayOf t) key
+        → i ≡ lowestRecord (isLiveOf key returnExpiryAt clock) returnsAt returnWidth returnCount t → i ≡ returnPlace clock (relayOf t) key
     unfolding returnPlace relayOf isLiveReturn slotOf returnOf
     return-lowest key wide e =
         e ∙ lowest-live (isLiveReturn clock key) returnOf returnsAt returnWidth returnCount t addressWidth key returnExpiryAt clock wide (λ b. refl)
 
     pub hash-lowest : (hash : List ℕ) → length hash ≡ digestWidth → {i : ℕ}
-        → i ≡ lowestRow (isLiveOf hash hashExpiryAt clock) hashesAt hashWidth hashCount t → i ≡ hashPlace clock (relayOf t) hash
+        → i ≡ lowestRecord (isLiveOf hash hashExpiryAt clock) hashesAt hashWidth hashCount t → i ≡ hashPlace clock (relayOf t) hash
     unfolding hashPlace relayOf isLiveHash slotOf hashOf
     hash-lowest hash wide e =
         e ∙ lowest-live (isLiveHash clock hash) hashOf hashesAt hashWidth hashCount t digestWidth hash hashExpiryAt clock wide (λ b. refl)
 
     -- ---- the lowest place empty or expired
-    pub path-free : lowestRow (λ b. not (isLive pathExpiryAt clock b)) pathsAt pathWidth pathCount t ≡ freePath clock (relayOf t)
+    pub path-free : lowestRecord (λ b. not (isLive pathExpiryAt clock b)) pathsAt pathWidth pathCount t ≡ freePath clock (relayOf t)
     unfolding freePath relayOf isLive slotOf pathOf
     path-free = sym (lowest-free (λ p. live clock (p .expiry)) pathOf pathsAt pathWidth pathCount t)
 
-    pub link-free : lowestRow (λ b. not (isLive linkExpiryAt clock b)) linksAt linkWidth linkCount t ≡ freeLink clock (relayOf t)
+    pub link-free : lowestRecord (λ b. not (isLive linkExpiryAt clock b)) linksAt linkWidth linkCount t ≡ freeLink clock (relayOf t)
     unfolding freeLink relayOf isLive slotOf linkOf
     link-free = sym (lowest-free (λ l. live clock (l .expiry)) linkOf linksAt linkWidth linkCount t)

@@ -38,5 +38,5 @@ unfoldable pub isLiveOf : List ℕ → ℕ → ℕ → List ℕ → Bool
 isLiveOf key expiryAt clock b = hasKey key b and live clock (number (part b expiryAt timeWidth))
 
 -- the lowest of n records, each `width` wide, from `at` on, that passes the test, or n
-unfoldable pub lowestRow : (List ℕ → Bool) → ℕ → ℕ → ℕ → List ℕ → ℕ
-lowestRow test at width n t = first (λ i. test (recordAt at width t i)) n
+unfoldable pub lowestRecord : (List ℕ → Bool) → ℕ → ℕ → ℕ → List ℕ → ℕ
+lowestRecord test at width n t = first (λ i. test (recordAt at width t i)) n

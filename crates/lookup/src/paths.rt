@@ -4,15 +4,15 @@ use super::blobs::has_blob;
 use super::search::free_place;
 use super::search::live_place;
 use super::search::record_at;
+use notes::Notes;
 use numbers::PATH_COUNT;
-use rules::Notes;
 use rules::RateEntry;
 use tables::fields::PATH_BLOCKED_UNTIL_AT;
 use tables::fields::PATH_EXPIRY_AT;
 use tables::fields::PATH_HOPS_AT;
 use tables::fields::PATH_LAST_AT;
-use tables::fields::PATH_MARK_AT;
 use tables::fields::PATH_NEXT_HOP_AT;
+use tables::fields::PATH_NOTES_AT;
 use tables::fields::PATH_PORT_AT;
 use tables::fields::PATH_VIOLATIONS_AT;
 use tables::places::PATH_WIDTH;
@@ -107,21 +107,15 @@ pub fn path_rate(tables: &[u8], place: usize) -> RateEntry
     rate_of(record_at(tables, PATHS_AT, PATH_WIDTH, place))
 }
 
-fn notes_of(b: &[u8]) -> Notes
-    requires { ⌜ length (now b) ≡ pathWidth ⌝ }
-    ensures { λ r. ⌜ r ≡ pathOf (now (b .entry)) .notes ⌝ }
-{
-    Notes {
-        marked: b[PATH_MARK_AT] == 1,
-    }
-}
-
 // What the host has noted of it.
 pub fn path_notes(tables: &[u8], place: usize) -> Notes
     requires { ⌜ (length (now tables) ≡ tableSize) × (place < pathCount) ⌝ }
     ensures { λ r. ⌜ r ≡ pathOf (recordAt pathsAt pathWidth (now (tables .entry)) place) .notes ⌝ }
 {
-    notes_of(record_at(tables, PATHS_AT, PATH_WIDTH, place))
+    notes::read(
+        record_at(tables, PATHS_AT, PATH_WIDTH, place),
+        PATH_NOTES_AT,
+    )
 }
 
 // Whether the path holds the blob.

@@ -6,7 +6,7 @@ ghost use Prim.Native.Nat.{_+_, _*_, _≤_};
 ghost use lib.ListN.{length};
 ghost use Rattle.tables.specs.Places.{timeWidth};
 ghost use Rattle.tables.specs.Layout.{recordAt};
-ghost use Rattle.lookup.specs.Search.{lastWord, noneIs, hasKey, isLive, isLiveOf, lowestRow};
+ghost use Rattle.lookup.specs.Search.{lastWord, noneIs, hasKey, isLive, isLiveOf, lowestRecord};
 
 // The bytes of the record at a place.
 pub fn record_at(tables: &[u8], at: usize, width: usize, place: usize) -> &[u8]
@@ -69,7 +69,8 @@ fn live_each(
 ) -> usize
     requires { ⌜ (at + width * count ≤ length (now tables)) × (1 + length (now key) ≤ width)
         × (expiry + timeWidth ≤ width) × (8 ≤ length (now key)) × (last ≡ lastWord (now key)) ⌝ }
-    ensures { λ r. ⌜ r ≡ lowestRow (isLiveOf (now (key .entry)) expiry clock) at width count (now (tables .entry)) ⌝ }
+    ensures { λ r. ⌜ r ≡ lowestRecord (isLiveOf (now (key .entry)) expiry clock) at width count
+        (now (tables .entry)) ⌝ }
 {
     let mut i = 0;
     let mut from = at;
@@ -114,7 +115,7 @@ fn live_of_four(
 ) -> usize
     requires { ⌜ (at + width * 4 ≤ length (now tables)) × (1 + length (now key) ≤ width) × (expiry + timeWidth ≤ width)
         × (tail + 8 ≡ length (now key)) × (last ≡ lastWord (now key)) ⌝ }
-    ensures { λ r. ⌜ r ≡ lowestRow (isLiveOf (now (key .entry)) expiry clock) at width 4 (now (tables .entry)) ⌝ }
+    ensures { λ r. ⌜ r ≡ lowestRecord (isLiveOf (now (key .entry)) expiry clock) at width 4 (now (tables .entry)) ⌝ }
 {
     if none_of_four(tables, at + 1 + tail, width, last) {
         return 4;
@@ -135,7 +136,8 @@ pub fn live_place(
 ) -> usize
     requires { ⌜ (at + width * count ≤ length (now tables)) × (1 + length (now key) ≤ width)
         × (expiry + timeWidth ≤ width) × (8 ≤ length (now key)) ⌝ }
-    ensures { λ r. ⌜ r ≡ lowestRow (isLiveOf (now (key .entry)) expiry clock) at width count (now (tables .entry)) ⌝ }
+    ensures { λ r. ⌜ r ≡ lowestRecord (isLiveOf (now (key .entry)) expiry clock) at width count
+        (now (tables .entry)) ⌝ }
 {
     let tail = key.len() - 8;
     let last = octets::word_at(key, tail);
@@ -162,7 +164,7 @@ pub fn free_place(
     clock: u64,
 ) -> usize
     requires { ⌜ (at + width * count ≤ length (now tables)) × (expiry + timeWidth ≤ width) ⌝ }
-    ensures { λ r. ⌜ r ≡ lowestRow (λ b. not (isLive expiry clock b)) at width count (now (tables .entry)) ⌝ }
+    ensures { λ r. ⌜ r ≡ lowestRecord (λ b. not (isLive expiry clock b)) at width count (now (tables .entry)) ⌝ }
 {
     let mut i = 0;
     while i < count {

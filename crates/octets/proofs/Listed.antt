@@ -4,6 +4,7 @@ use mathlib.Core.List.{List, [], _∷_}
 use mathlib.Core.Path.{_≡_, refl, sym, ap, _∙_}
 use Prim.Native.Nat.{ℕ}
 use lib.Dec.{eqb}
+use borrow.Author.Tests.{not-true}
 use Rattle.octets.specs.Index.{_and_}
 use Rattle.octets.specs.Choice.{_then_otherwise_, _or_}
 use Rattle.octets.proofs.Index.{and-left, and-right, and-both}
@@ -83,6 +84,18 @@ all-first {A} p (t ∷ ts) rest g r = go (t .holds) (all-first p ts rest (and-ri
   where
     go : (b : Bool) → p (firstOf ts rest) ≡ true → p (b then t .value otherwise firstOf ts rest) ≡ true
     go true below = and-left _ _ g
+    go false below = below
+
+-- where no value of the list passes, what is given passes where no test holds and the rest passes
+pub past-first : {A : Type 0} (p : A → Bool) (ts : List (Test A)) (rest : A) → allGive (λ x. not (p x)) ts ≡ true
+    → p (firstOf ts rest) ≡ (not (anyHolds ts) and p rest)
+unfolding firstOf allGive anyHolds _then_otherwise_ _or_ _and_
+past-first p [] rest g = refl
+past-first {A} p (t ∷ ts) rest g = go (t .holds) (past-first p ts rest (and-right (not (p (t .value))) _ g))
+  where
+    go : (b : Bool) → p (firstOf ts rest) ≡ (not (anyHolds ts) and p rest)
+        → p (b then t .value otherwise firstOf ts rest) ≡ (not (b or anyHolds ts) and p rest)
+    go true below = not-true _ (and-left (not (p (t .value))) _ g)
     go false below = below
 
 -- ---- what the tests for a value say matters only from there on

@@ -24,3 +24,9 @@ anyHolds (t ∷ ts) = t .holds or anyHolds ts
 unfoldable pub valued : {A B : Type 0} → (A → B) → List (Test A) → List (Test B)
 valued f [] = []
 valued f (t ∷ ts) = t .holds gives f (t .value) otherwise valued f ts
+
+-- a list before others, with its values by f
+infixr 20 _each-give_otherwise_
+abbrev pub _each-give_otherwise_ : {A B : Type 0} → List (Test A) → (A → B) → List (Test B) → List (Test B)
+[] each-give f otherwise rest = rest
+(t ∷ ts) each-give f otherwise rest = t .holds gives f (t .value) otherwise ts each-give f otherwise rest

@@ -25,7 +25,7 @@ use Rattle.rules.specs.Judging.{plan, verdict, outputAfter}
 use Rattle.rules.specs.Renumbering.{oneToOne}
 use Rattle.rules.specs.Calls.{TableCall, newTally, sets-port, sets-rate, adds, removes, renumbers, notes-path}
 use Rattle.rules.specs.Run.{Call, packet, on-tables, asks, saves, loads, EachCall, Reply, answered, numbered, perform, noCall, setsRelay}
-use Rattle.rules.specs.declared.Note.the-variants.{Unresponsive}
+use Rattle.notes.specs.declared.Note.the-variants.{Unresponsive}
 use Rattle.rules.specs.declared.Answer.{Answer}
 use Rattle.rules.specs.declared.Answer.the-variants.{Refused, Judged}
 use Rattle.judging.specs.declared.Arrived.{Arrived}

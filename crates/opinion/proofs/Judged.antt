@@ -3,7 +3,6 @@ use Prim.Native.Nat.{ℕ}
 use mathlib.Core.Bool.{Bool, true, false}
 use mathlib.Core.List.{List}
 use mathlib.Core.Path.{_≡_, refl, sym, ap, _∙_}
-use lib.Dec.{eqb}
 use Rattle.octets.specs.Choice.{_then_otherwise_}
 use Rattle.packet.specs.Header.{isData}
 use Rattle.rules.specs.View.{View}
@@ -22,11 +21,6 @@ use Rattle.opinion.specs.Steps.{planEffect, effectOf, keepsHash, planned
 use Rattle.opinion.proofs.Slots.{slot}
 use Rattle.opinion.proofs.Entries.{entry-came}
 use Rattle.opinion.proofs.Views.{effect-planned}
-
-pub mark-is : (b : Bool) → eqb (b then 1 otherwise 0) 1 ≡ b
-unfolding _then_otherwise_
-mark-is true = refl
-mark-is false = refl
 
 pub there-is : {A : Type 0} (there : Bool) (x : A) → there ≡ isThere (slot there x)
 unfolding _then_otherwise_ isThere

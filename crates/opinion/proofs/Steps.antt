@@ -1,6 +1,6 @@
 -- One more entry in the walks for a path, a link and a return record: what the code makes of the record is what is known after the entry.
 use Prim.Native.Nat.{ℕ, _+_, _≤_}
-use mathlib.Core.Bool.{Bool, true, false}
+use mathlib.Core.Bool.{true, false}
 use mathlib.Core.List.{List}
 use mathlib.Core.Path.{_≡_, refl, sym, ap, ap₂, subst, _∙_}
 use lib.Dec.{eqb}
@@ -11,7 +11,8 @@ use Rattle.numbers.specs.Numbers.{live, pathLifetime}
 use Rattle.packet.specs.Read.{longestPacket, headerOf, payloadStart, payload, reads}
 use Rattle.packet.specs.Hash.{linkId}
 use Rattle.packet.proofs.ReadLaws.{reads-readable}
-use Rattle.rules.specs.Relay.{Slot, empty, used, Path, Return, noNotes, makePath, withPathPort, withPathRate, withPathMark, withLinkPorts, withReturnPorts}
+use Rattle.notes.specs.Notes.{noNotes}
+use Rattle.rules.specs.Relay.{Slot, empty, used, Path, Return, makePath, withPathPort, withPathRate, withLinkPorts, withReturnPorts}
 use Rattle.rules.specs.View.{View}
 use Rattle.rules.specs.Renumbering.{image, renamePath, renameLink, renameReturn, renameSlot}
 use Rattle.rules.specs.Arrival.{Arrival, hops, destination}
@@ -33,6 +34,7 @@ use Rattle.opinion.specs.Log.{packetIn, arrivalIn, addressIn, imagesIn, 
 use Rattle.opinion.specs.Steps.{effectOf, arrivalBy}
 use Rattle.opinion.proofs.Slots.{slot, renamed-slot, slot-is}
 use Rattle.opinion.proofs.Entries.{came-reads, onward}
+use Rattle.rules.proofs.Noted.{withPathMark}
 use Rattle.opinion.proofs.Changes.{seen-used, effect-came, entry-body, path-announced, path-limited, path-marked, path-renumbered, path-stays, link-asked, link-carried, link-renumbered, link-stays, return-made, return-emptied, return-renumbered, return-stays}
 
 -- an accepted announce's path reads of a view the rate settings and the arrival port's mode alone

@@ -12,7 +12,7 @@ use super::log::entry_at;
 use super::log::kind_in;
 use super::log::packet_in;
 use super::seeing::seen;
-use super::writing::mark_of;
+use codes::mark_of;
 use judging::Planned;
 use judging::SeenWay;
 use judging::plan_of;
@@ -22,12 +22,12 @@ ghost use mathlib.Core.Path.{_≡_};
 ghost use mathlib.Core.Bool.{true};
 ghost use Prim.Native.Nat.{_<_, _≤_, _+_};
 ghost use lib.Dec.{eqb};
-ghost use lib.ListN.{length, set};
+ghost use lib.ListN.{length};
 ghost use Rattle.octets.specs.Choice.{_then_otherwise_};
 ghost use Rattle.rules.specs.Writes.{isRateDrop};
 ghost use Rattle.history.specs.Opinion.{listLimit};
 ghost use Rattle.opinion.specs.Log.{logSize, entryOf, entryBytes, knownIn};
-ghost use Rattle.opinion.specs.Steps.{effectOf, keepsHash, EffectsOf, KeptOf, CanAsk, wayEffectBy, plannedEffect};
+ghost use Rattle.opinion.specs.Steps.{effectOf, keepsHash, KeptOf, CanAsk, wayEffectBy, plannedEffect};
 
 // The effect and whether the hash is kept: 1 or 0.
 pub struct Outcome {

@@ -17,8 +17,9 @@ use super::records::no_path;
 use judging::SeenPath;
 use judging::announced_path;
 use judging::limited_path;
+use notes::Note;
 ghost use mathlib.Core.Path.{_≡_};
-ghost use Prim.Native.Nat.{_+_, _<_, _≤_};
+ghost use Prim.Native.Nat.{_+_, _<_};
 ghost use lib.ListN.{length};
 ghost use Rattle.history.specs.Opinion.{listLimit};
 ghost use Rattle.opinion.specs.Log.{logSize, entryOf, entryBytes, knownIn};
@@ -80,7 +81,7 @@ fn path_after(log: &[u8], i: usize, effect: u8, destination: [u8; 16], before: S
     }
     if kind == MARKS {
         if has_address(e, destination) {
-            path.marked = true;
+            path.notes = notes::noted(before.notes, Note::Unresponsive);
             return path;
         }
         return before;

@@ -30,7 +30,7 @@ pub fn no_path() -> SeenPath
             violations: 0,
             blocked_until: 0,
         },
-        marked: false,
+        notes: notes::none(),
         count: 0,
         blobs: [0; 640],
     }

@@ -15,6 +15,7 @@ use super::log::REMOVES;
 use super::log::RENUMBERS;
 use super::log::SETS_PORT;
 use super::log::SETS_RATE;
+use codes::mark_of;
 use judging::Arrived;
 use rules::RateSettings;
 ghost use mathlib.Core.Path.{_≡_};
@@ -22,7 +23,6 @@ ghost use mathlib.Core.Bool.{true};
 ghost use mathlib.Core.List.{_++_};
 ghost use Prim.Native.Nat.{_<_, _≤_};
 ghost use lib.ListN.{length};
-ghost use Rattle.octets.specs.Choice.{_then_otherwise_};
 ghost use Rattle.numbers.specs.Numbers.{portCount, longestPacket, clockLimit};
 ghost use Rattle.packet.specs.Read.{reads};
 ghost use Rattle.rules.specs.Refusals.{rateSettingsOk};
@@ -34,15 +34,6 @@ ghost use Rattle.history.specs.Opinion.{listLimit};
 ghost use Rattle.opinion.specs.Log.{logSize};
 ghost use Rattle.opinion.specs.Calls.{IsFresh};
 ghost use Rattle.opinion.specs.Steps.{headBytes, withEntry, Adds};
-
-pub fn mark_of(word: bool) -> u8
-    ensures { λ r. ⌜ r ≡ (word then 1 otherwise 0) ⌝ }
-{
-    if word {
-        return 1;
-    }
-    0
-}
 
 // The bytes before the body.
 fn head_of(kind: u8, port: u8, word: bool, mode: u8, clock: u64, long: usize) -> [u8; BODY_AT]

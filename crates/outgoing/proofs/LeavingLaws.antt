@@ -3,7 +3,7 @@ use Prim.Native.Nat.{ℕ, _+_, _%_, _≤_, _<_}
 use native.Mathlib.Nat.{not-suc-le-zero, le-of-suc-le-suc}
 use native.Mathlib.Omega.{arith}
 use mathlib.Core.Bool.{Bool, true, false}
-use mathlib.Core.List.{List, [], _∷_, _++_, append-assoc}
+use mathlib.Core.List.{List, [], _∷_}
 use mathlib.Core.Path.{_≡_, refl, sym, ap, _∙_}
 use lib.Dec.{eqb}
 use lib.ListN.{length, getD, set}
@@ -14,10 +14,10 @@ use Rattle.octets.proofs.Part.{patch-join}
 use Rattle.octets.proofs.Choice.{then-true, then-false}
 use Rattle.packet.specs.Header.{typeTwo}
 use Rattle.packet.specs.Read.{headerOf, noAddress, payloadStart, payload, reads}
-use Rattle.packet.specs.Write.{addresses, packetOf}
+use Rattle.packet.specs.Write.{packetOf}
 use Rattle.packet.specs.declared.Parts.{Parts}
 use Rattle.packet.proofs.ReadLaws.{start-one, start-least, reads-readable}
-use Rattle.packet.proofs.WriteLaws.{packet-length}
+use Rattle.packet.proofs.WriteLaws.{packet-length, packet-behind}
 use Rattle.rules.specs.Outgoing.{rewritten, spreadHeader, pathPacket, carriedPacket, spreadPacket}
 use Rattle.rules.proofs.Lengths.{last-hop-start, spread-start, body-length, rewritten-wide, rewritten-length, path-last, path-next-hop, carried-is}
 use Rattle.outgoing.specs.Leaving.{rewrittenParts, spreadLength, pathLength}
@@ -69,11 +69,6 @@ module _ (size : ℕ) (p : List ℕ) (h : reads size p ≡ true) where
           ∙ sym (then-false _ _ e)
 
 -- ---- what the code writes
--- a head, which is a packet without payload, and the payload behind it
-head-body : (q : Parts) (body : List ℕ) → packetOf q [] ++ body ≡ packetOf q body
-unfolding packetOf
-head-body q body = ap (λ (r : List ℕ). q .header ∷ q .hops ∷ r) (append-assoc (addresses q) (q .context ∷ []) body)
-
 module _ (size : ℕ) (out own p : List ℕ) (h : reads size p ≡ true) (wide : length own ≡ 16) (room : spreadLength p ≤ length out) where
   pub spread-written : patch (patch out 0 (packetOf (rewrittenParts (spreadHeader (headerOf p)) own p) [])) 35 (payload p) ≡ patch out 0 (spreadPacket own p)
   unfolding spreadPacket rewritten spreadLength
@@ -81,7 +76,7 @@ module _ (size : ℕ) (out own p : List ℕ) (h : reads size p ≡ true) (wide :
       let q : Parts = rewrittenParts (spreadHeader (headerOf p)) own p in
       let q-wide = rewritten-wide size p h (spreadHeader (headerOf p)) own wide in
       let head : length (packetOf q []) ≡ 35 = packet-length q [] q-wide ∙ ap (λ (k : ℕ). k + 0) (spread-start (headerOf p)) in
-      patch-join out 0 35 (packetOf q []) (payload p) (omega (arith, head)) room ∙ ap (patch out 0) (head-body q (payload p))
+      patch-join out 0 35 (packetOf q []) (payload p) (omega (arith, head)) room ∙ ap (patch out 0) (packet-behind q (payload p))
 
 -- a packet whose byte 1 is written over
 carry-over : (out p : List ℕ) (v : ℕ) → 1 < length p → patch (patch out 0 p) 1 (v ∷ []) ≡ patch out 0 (set p 1 v)

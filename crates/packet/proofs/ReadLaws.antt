@@ -9,7 +9,7 @@ use lib.Dec.{ltb}
 use lib.ListN.{length, getD, length-drop}
 use borrow.Author.Tests.{lt-ltb, le-ltb, ltb-false, le-leb, leb-true, eq-eqb, ne-eqb, eqb-true, not-false}
 use Rattle.octets.specs.Index.{_and_}
-use Rattle.octets.proofs.Index.{and-left, and-right, and-both, and-no, and-yes}
+use Rattle.octets.proofs.Index.{and-right, and-both, and-no, and-yes}
 use Rattle.octets.proofs.Choice.{then-true, then-false}
 use Rattle.numbers.specs.Numbers.{leastSize, isSize}
 use Rattle.octets.proofs.Listed.{allGive, refuses, here, past, none-first, rows-passed}
@@ -43,10 +43,6 @@ module _ (header : ℕ) where
 
 -- ---- sizes
 module _ (size : ℕ) where
-  pub size-least : isSize size ≡ true → leastSize ≤ size
-  unfolding isSize
-  size-least h = leb-true leastSize size (and-left _ _ h)
-
   pub size-most : isSize size ≡ true → size ≤ longestPacket
   unfolding isSize
   size-most h = leb-true size longestPacket (and-right _ _ h)

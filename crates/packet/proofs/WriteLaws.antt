@@ -17,6 +17,11 @@ use Rattle.packet.specs.Write.{Wide, addresses, packetOf, leastOutput, w
 use Rattle.packet.specs.declared.Parts.{Parts}
 use Rattle.packet.proofs.ReadLaws.{start-two, start-one}
 
+-- a packet is its head, and the payload behind it
+pub packet-behind : (q : Parts) (body : List ℕ) → packetOf q [] ++ body ≡ packetOf q body
+unfolding packetOf
+packet-behind q body = ap (λ (r : List ℕ). q .header ∷ q .hops ∷ r) (append-assoc (addresses q) (q .context ∷ []) body)
+
 -- ---- the packet, by the header's type
 module _ (q : Parts) (body : List ℕ) where
   pub packet-two : typeTwo (q .header) ≡ true → packetOf q body ≡ q .header ∷ q .hops ∷ (q .relay ++ (q .destination ++ (q .context ∷ body)))

@@ -22,7 +22,7 @@ use Rattle.rules.specs.Judging.{Plan, dropped, follows, onwardPlan, onwardTests
 use Rattle.rules.specs.Writes.{announcedPlace}
 use Rattle.rules.specs.declared.Reason.the-variants.{NotSigned, NoRoom}
 use Rattle.numbers.specs.Numbers.{pathCount}
-use Rattle.rules.proofs.Joined.{joined-first, none-valued}
+use Rattle.octets.proofs.JoinedTests.{joined-first, none-valued}
 use Rattle.rules.proofs.Passed.{none-known}
 use Rattle.tables.specs.Layout.{rateSettingsIn, relayOf, wellFormed}
 use Rattle.tables.proofs.Whole.{formed}

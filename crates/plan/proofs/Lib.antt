@@ -6,4 +6,3 @@ pub mod MarkedLaws
 pub mod PathLaws
 pub mod LinkLaws
 pub mod ReturnLaws
-pub mod ReasonLaws

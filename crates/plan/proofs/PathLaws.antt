@@ -9,7 +9,7 @@ use lib.ListN.{length}
 use borrow.Author.Tests.{lt-ltb, le-ltb}
 use Rattle.octets.specs.Index.{_and_}
 use Rattle.octets.specs.Choice.{_or_, _then_otherwise_}
-use Rattle.octets.proofs.Choice.{then-true, then-false}
+use Rattle.octets.proofs.Choice.{then-true, then-false, or-false}
 use Rattle.octets.proofs.Part.{part-length}
 use Rattle.packet.specs.Header.{packetKind, typeTwo, ofKindLink, isData, isAnnounce, isLinkRequest, isProof}
 use Rattle.packet.specs.Read.{longestPacket}
@@ -37,7 +37,7 @@ use Rattle.lookup.proofs.Found.{path-found, path-missing, link-found, link-miss
 use Rattle.plan.specs.Decided.{CanRead, pathAt, highOf, lowOf, decidedWay, decided, onward}
 use Rattle.plan.specs.Kinds.{leaving, leavingBy, linking, requesting}
 use Rattle.plan.specs.declared.Decision.the-variants.{Drop, Data, Request}
-use Rattle.forms.proofs.KindLaws.{other-kind, request-left, no-link-proof, or-false}
+use Rattle.forms.proofs.KindLaws.{other-kind, request-left, no-link-proof}
 use Rattle.plan.proofs.KindLaws.{decided-test}
 
 module _ (a : Arrival) (announce : isAnnounce (header a) ≡ false) (link : ofKindLink (header a) ≡ false) (proof : isProof (header a) ≡ false) where

@@ -6,27 +6,11 @@ ghost use mathlib.Core.Path.{_≡_};
 ghost use Rattle.rules.specs.Answers.{clauseNumber, leastLength, caseNumber, greatestExpiry};
 ghost use Rattle.rules.specs.Answers.{reasonNumber, reasonNumbers};
 
-// The number of the test that dropped a packet, whichever its clause or case.
-pub fn reason_number(reason: Reason) -> u8
-    ensures { λ r. ⌜ r ≡ reasonNumber reason ⌝ }
-{
-    match reason {
-        Reason::NotOurs => 1,
-        Reason::Duplicate => 2,
-        Reason::BadForm(_) => 3,
-        Reason::OwnAnnounce => 4,
-        Reason::TooManyHops => 5,
-        Reason::NoWayOn(_) => 6,
-        Reason::AlreadyKnown => 7,
-        Reason::WrongSide => 8,
-        Reason::NotSigned => 9,
-        Reason::Replay => 10,
-        Reason::NotBetter => 11,
-        Reason::RateLimited => 15,
-        Reason::PortOff => 12,
-        Reason::TooLongForPort => 16,
-        Reason::NoRoom => 13,
-    }
+// 0 where there is no clause or case, and where no value goes with it.
+struct Numbers {
+    test: u8,
+    clause: u8,
+    value: u64,
 }
 
 fn clause_number(clause: Clause) -> u8
@@ -86,24 +70,88 @@ fn greatest_expiry(why: Blocked) -> u64
     }
 }
 
+// Of a test that has neither clauses nor cases.
+fn by_test(test: u8) -> Numbers
+    ensures { λ r. ⌜ (r .test ≡ test) × (r .clause ≡ 0) × (r .value ≡ 0) ⌝ }
+{
+    Numbers {
+        test,
+        clause: 0,
+        value: 0,
+    }
+}
+
+// Of test 3. `reason` is for the contract.
+fn by_clause(reason: Reason, clause: Clause) -> Numbers
+    requires { ⌜ reason ≡ Reason.BadForm clause ⌝ }
+    ensures { λ r. ⌜ (r .test ≡ reasonNumber reason) × (r .clause ≡ reasonNumbers reason .clause)
+        × (r .value ≡ reasonNumbers reason .value) ⌝ }
+{
+    Numbers {
+        test: 3,
+        clause: clause_number(clause),
+        value: least_length(clause),
+    }
+}
+
+// Of test 6. `reason` is for the contract.
+fn by_case(reason: Reason, why: Blocked) -> Numbers
+    requires { ⌜ reason ≡ Reason.NoWayOn why ⌝ }
+    ensures { λ r. ⌜ (r .test ≡ reasonNumber reason) × (r .clause ≡ reasonNumbers reason .clause)
+        × (r .value ≡ reasonNumbers reason .value) ⌝ }
+{
+    Numbers {
+        test: 6,
+        clause: case_number(why),
+        value: greatest_expiry(why),
+    }
+}
+
+// Every reason once. The match takes `reason` apart; the contract speaks of the whole.
+fn numbers_of(reason: Reason) -> Numbers
+    ensures { λ r. ⌜ (r .test ≡ reasonNumber reason) × (r .clause ≡ reasonNumbers reason .clause)
+        × (r .value ≡ reasonNumbers reason .value) ⌝ }
+{
+    let whole = reason;
+    match reason {
+        Reason::NotOurs => by_test(1),
+        Reason::Duplicate => by_test(2),
+        Reason::BadForm(clause) => by_clause(whole, clause),
+        Reason::OwnAnnounce => by_test(4),
+        Reason::TooManyHops => by_test(5),
+        Reason::NoWayOn(why) => by_case(whole, why),
+        Reason::AlreadyKnown => by_test(7),
+        Reason::WrongSide => by_test(8),
+        Reason::NotSigned => by_test(9),
+        Reason::Replay => by_test(10),
+        Reason::NotBetter => by_test(11),
+        Reason::RateLimited => by_test(15),
+        Reason::PortOff => by_test(12),
+        Reason::TooLongForPort => by_test(16),
+        Reason::NoRoom => by_test(13),
+    }
+}
+
+// The number of the test that dropped a packet, whichever its clause or case.
+pub fn reason_number(reason: Reason) -> u8
+    ensures { λ r. ⌜ r ≡ reasonNumber reason ⌝ }
+{
+    let numbers = numbers_of(reason);
+    numbers.test
+}
+
 // The clause of test 3 or the case of test 6, or 0.
 pub fn reason_clause(reason: Reason) -> u8
     ensures { λ r. ⌜ r ≡ reasonNumbers reason .clause ⌝ }
 {
-    match reason {
-        Reason::BadForm(clause) => clause_number(clause),
-        Reason::NoWayOn(why) => case_number(why),
-        _ => 0,
-    }
+    let numbers = numbers_of(reason);
+    numbers.clause
 }
 
 // The value that goes with it, or 0.
 pub fn reason_value(reason: Reason) -> u64
     ensures { λ r. ⌜ r ≡ reasonNumbers reason .value ⌝ }
 {
-    match reason {
-        Reason::BadForm(clause) => least_length(clause),
-        Reason::NoWayOn(why) => greatest_expiry(why),
-        _ => 0,
-    }
+    let numbers = numbers_of(reason);
+    numbers.value
 }

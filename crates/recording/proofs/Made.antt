@@ -125,7 +125,7 @@ module _ (f : List ℕ) (b : Bytes f) (t : Taken f) where
       ap₂ (λ (k d : ℕ). shapeOf k d headWidth headOf entryBody (listOf (entryOf f) (countOf f))) (sym (t .kind)) (sym (t .edition))
       ∙ shape-again headWidth headOf entryBody (entryOf f) f b (t .shaped) read-head read-body
 
-  read-entry : (i : ℕ) → i < countOf f → RecordableEntry (entryOf f i)
+  pub read-entry : (i : ℕ) → i < countOf f → RecordableEntry (entryOf f i)
   unfolding clockOf portOf
   read-entry i l =
       let there = taken-there f t i l in

@@ -6,13 +6,13 @@ use native.Mathlib.Omega.{arith}
 use mathlib.Core.List.{List, [], _∷_, _++_, append-nil, append-assoc}
 use mathlib.Core.Logic.{⊎-elim}
 use mathlib.Core.Path.{_≡_, refl, sym, ap, ap₂, subst, _∙_}
-use lib.ListN.{length, length-append, length-drop, take, drop}
-use lib.Seq.{take-append-le, drop-append-le, drop-append-add}
+use lib.ListN.{length, length-append, take, drop}
+use lib.Seq.{drop-append-add}
 use Rattle.octets.specs.Bytes.{Bytes}
 use Rattle.octets.specs.Index.{listOf}
 use Rattle.octets.specs.Part.{part, patch, joined}
 use Rattle.octets.proofs.Bytes.{nil-bytes, append-bytes}
-use Rattle.octets.proofs.Part.{part-split, part-mid, part-nil, patch-join}
+use Rattle.octets.proofs.Part.{part-split, part-mid, part-nil, part-front, patch-join}
 use Rattle.octets.proofs.Joined.{joined-append, joined-one}
 use Rattle.recording.specs.Shape.{sumBelow}
 
@@ -28,13 +28,6 @@ patch-three t a b c x y z e d l =
 pub part-last : (p q : List ℕ) (a n : ℕ) → length p ≡ a → length q ≡ n → part (p ++ q) a n ≡ q
 part-last p q a n ep eq =
     ap (λ (r : List ℕ). part (p ++ r) a n) (sym (append-nil q)) ∙ part-mid p q [] a n ep eq
-
--- a part that lies in the first of two
-pub part-front : (p q : List ℕ) (a m : ℕ) → a + m ≤ length p → part (p ++ q) a m ≡ part p a m
-unfolding part
-part-front p q a m h =
-    ap (λ (r : List ℕ). take m r) (drop-append-le a p q (omega arith))
-    ∙ take-append-le m (drop a p) q (simp length-drop (omega arith))
 
 -- a part that lies in the second, behind a first of a bytes
 pub part-back : (p q : List ℕ) (a s m : ℕ) → length p ≡ a → part (p ++ q) (a + s) m ≡ part q s m

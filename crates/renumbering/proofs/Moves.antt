@@ -2,7 +2,7 @@
 use Prim.Native.Nat.{ℕ, _+_, _*_, _≤_, _<_}
 use native.Mathlib.Nat.{zero-add}
 use native.Mathlib.Omega.{arith}
-use mathlib.Core.Bool.{Bool, true, false}
+use mathlib.Core.Bool.{Bool, true}
 use mathlib.Core.List.{List, [], _∷_, map}
 use mathlib.Core.Path.{_≡_, refl, sym, ap, ap₂, _∙_}
 use lib.ListN.{length, getD, List·getD-eq-default}
@@ -28,7 +28,7 @@ use Rattle.tables.specs.Forms.{pathForm, linkForm, returnForm, relayForm}
 use Rattle.tables.specs.Places.{portWidth, pathWidth, linkWidth, returnWidth, portsAt, pathsAt, linksAt, returnsAt}
 use Rattle.tables.specs.Fields.{pathPortAt, linkAskingAt, linkAnsweringAt, returnArrivalAt, returnLeavingAt}
 use Rattle.tables.specs.Records.{portBytes, slotOf, slotBytes, pathOf, pathBytes, pathBytesOk, linkOf, linkBytes, linkBytesOk, returnOf, returnBytes, returnBytesOk}
-use Rattle.tables.specs.Layout.{recordAt, rows, recordsOk, relayOf, bytesOf, wellFormed}
+use Rattle.tables.specs.Layout.{recordAt, records, recordsOk, relayOf, bytesOf, wellFormed}
 use Rattle.tables.proofs.Tests.{path-kept, link-kept, return-kept}
 use Rattle.tables.proofs.Lent.{Lent, port-lent, path-lent, link-lent, return-lent}
 use Rattle.tables.proofs.Whole.{again, relay-good}
@@ -202,7 +202,7 @@ module _ (t m : List ℕ) (bt : Bytes t) (h : wellFormed t ≡ true) where
     unfolding pathsOnly withPaths bytesOf linkBytes
     links-stand = ap (λ (x : List ℕ). part x linksAt (linkWidth * linkCount)) paths-written ∙ links-in .place .there pathsOnly tt
 
-    links-there : rows (slotOf linkOf) linksAt linkWidth linkCount t1 ≡ relayOf t .links
+    links-there : records (slotOf linkOf) linksAt linkWidth linkCount t1 ≡ relayOf t .links
     unfolding slotOf linkOf linkBytes
     links-there = back-at (lawful (many linkCount empty (slot linkForm))) t1 linksAt (relayOf t .links) links-stand (links-in .place .good (relayOf t) tt good)
 
@@ -229,7 +229,7 @@ module _ (t m : List ℕ) (bt : Bytes t) (h : wellFormed t ≡ true) where
       returns-stand =
           ap (λ (x : List ℕ). part x returnsAt (returnWidth * returnCount)) links-written ∙ returns-in .place .there pathsAndLinks (tt, tt)
 
-      returns-there : rows (slotOf returnOf) returnsAt returnWidth returnCount t2 ≡ relayOf t .returns .slots
+      returns-there : records (slotOf returnOf) returnsAt returnWidth returnCount t2 ≡ relayOf t .returns .slots
       unfolding slotOf returnOf returnBytes
       returns-there =
           back-at (lawful (many returnCount empty (slot returnForm))) t2 returnsAt (relayOf t .returns .slots) returns-stand

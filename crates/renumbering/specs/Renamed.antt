@@ -9,22 +9,22 @@ use Rattle.rules.specs.declared.Link.{Link}
 use Rattle.rules.specs.Renumbering.{renamePath, renameLink, renameReturn, renameSlot}
 use Rattle.tables.specs.Places.{pathWidth, linkWidth, returnWidth, pathsAt, linksAt, returnsAt}
 use Rattle.tables.specs.Records.{slotOf, slotBytes, pathOf, pathBytes, linkOf, linkBytes, returnOf, returnBytes}
-use Rattle.tables.specs.Layout.{rows}
+use Rattle.tables.specs.Layout.{records}
 
 abbrev pub newPaths : List ℕ → List ℕ → List (Slot Path)
-newPaths m t = map (renameSlot (renamePath m)) (rows (slotOf pathOf) pathsAt pathWidth pathCount t)
+newPaths m t = map (renameSlot (renamePath m)) (records (slotOf pathOf) pathsAt pathWidth pathCount t)
 
 unfoldable pub renamedPaths : List ℕ → List ℕ → List ℕ
 renamedPaths m t = fields (slotBytes pathWidth pathBytes) pathCount empty (newPaths m t)
 
 abbrev pub newLinks : List ℕ → List ℕ → List (Slot Link)
-newLinks m t = map (renameSlot (renameLink m)) (rows (slotOf linkOf) linksAt linkWidth linkCount t)
+newLinks m t = map (renameSlot (renameLink m)) (records (slotOf linkOf) linksAt linkWidth linkCount t)
 
 unfoldable pub renamedLinks : List ℕ → List ℕ → List ℕ
 renamedLinks m t = fields (slotBytes linkWidth linkBytes) linkCount empty (newLinks m t)
 
 abbrev pub newReturns : List ℕ → List ℕ → List (Slot Return)
-newReturns m t = map (renameSlot (renameReturn m)) (rows (slotOf returnOf) returnsAt returnWidth returnCount t)
+newReturns m t = map (renameSlot (renameReturn m)) (records (slotOf returnOf) returnsAt returnWidth returnCount t)
 
 unfoldable pub renamedReturns : List ℕ → List ℕ → List ℕ
 renamedReturns m t = fields (slotBytes returnWidth returnBytes) returnCount empty (newReturns m t)

@@ -31,7 +31,7 @@ use Rattle.rules.proofs.Stamped.{enact-paths}
 use Rattle.rules.proofs.Held.{packet-kept}
 use Rattle.rules.proofs.Announced.{shown-after}
 use Rattle.rules.proofs.RateLaws.{rated-blocked, blocked-stays, rated-on-time}
-use Rattle.rules.proofs.Joined.{holdsFor, none-for}
+use Rattle.octets.proofs.JoinedTests.{holdsFor, none-for}
 use Rattle.rules.proofs.ChattyPlan.{rateLimited, announce-way, dropped-reached, reaches, past-rate, rate-dropped}
 
 -- what test 15 says of an announce of a known path

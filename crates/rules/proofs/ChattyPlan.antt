@@ -30,7 +30,7 @@ use Rattle.rules.specs.declared.Reason.the-variants.{RateLimited}
 use Rattle.rules.specs.declared.Verdict.the-variants.{Drop}
 use Rattle.rules.specs.declared.Tally.{Tally}
 use Rattle.rules.proofs.Choices.{either}
-use Rattle.rules.proofs.Joined.{before, behind, none-before}
+use Rattle.octets.proofs.JoinedTests.{before, behind, none-before}
 use Rattle.rules.proofs.Passed.{none-held, namesTest, names-test}
 use Rattle.rules.proofs.SignatureWord.{told-never}
 

@@ -10,7 +10,8 @@ use Rattle.octets.specs.Choice.{same}
 use Rattle.octets.proofs.Index.{and-both}
 use Rattle.packet.specs.Hash.{packetHash}
 use Rattle.numbers.specs.Numbers.{blobLimit, hashCount, live}
-use Rattle.rules.specs.Relay.{noNotes, makeRateSettings, makeRateEntry, Slot, empty, used, Blobs, Path, Remembered, Relay, fresh, withRate}
+use Rattle.notes.specs.Notes.{noNotes}
+use Rattle.rules.specs.Relay.{makeRateSettings, makeRateEntry, Slot, empty, used, Blobs, Path, Remembered, Relay, fresh, withRate}
 use Rattle.rules.specs.Blobs.{noBlob, addBlob}
 use Rattle.rules.specs.View.{View, viewAt}
 use Rattle.rules.specs.Refusals.{packetRefusal}

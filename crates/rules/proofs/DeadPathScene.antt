@@ -8,7 +8,7 @@ use lib.Dec.{lit≤}
 use lib.ListN.{replicate}
 use Rattle.octets.proofs.Choice.{eq-same}
 use Rattle.packet.specs.Hash.{packetHash}
-use Rattle.rules.specs.Relay.{makeRateEntry, makeReturn, Slot, used, Path, withPathMark, Return, Remembered, Relay, withRate}
+use Rattle.rules.specs.Relay.{makeRateEntry, makeReturn, Slot, used, Path, Return, Remembered, Relay, withRate}
 use Rattle.rules.specs.View.{viewAt}
 use Rattle.rules.specs.Calls.{newTally}
 use Rattle.rules.specs.Chatty.{RateDrop}
@@ -18,6 +18,7 @@ use Rattle.rules.specs.declared.Tally.{Tally}
 use Rattle.rules.specs.declared.Answer.the-variants.{Refused, Judged}
 use Rattle.rules.specs.declared.Reason.the-variants.{Duplicate, NotBetter}
 use Rattle.rules.specs.declared.Verdict.the-variants.{Drop}
+use Rattle.rules.proofs.Noted.{withPathMark}
 use Rattle.rules.proofs.Unfolding.{rules}
 use Rattle.rules.proofs.Shortcut.{passes, seen-quick, goodPlan, goodJudge}
 use Rattle.rules.proofs.Passed.{ofTest}

@@ -10,7 +10,7 @@ use Rattle.octets.specs.Listed.{firstOf, anyHolds}
 use Rattle.octets.proofs.Index.{and-left, and-right, and-both, and-no, and-false}
 use Rattle.octets.proofs.Choice.{or-no, same-eq}
 use Rattle.octets.proofs.Listed.{none-first}
-use Rattle.rules.proofs.Joined.{none-joined}
+use Rattle.octets.proofs.JoinedTests.{none-joined}
 use Rattle.rules.proofs.Passed.{none-known}
 use Rattle.packet.specs.Header.{typeTwo, ofKindLink, packetKind, isData, isAnnounce, isLinkRequest, isProof}
 use Rattle.packet.specs.Read.{partsOf}

@@ -2,7 +2,6 @@
 pub mod Unfolding
 pub mod Choices
 pub mod Rows
-pub mod Joined
 pub mod Passed
 pub mod Shortcut
 pub mod Scene

@@ -1,21 +1,20 @@
 -- A note changes one record of a path where it stands: what holds of every path and doesn't look at notes still holds.
 use Prim.Native.Nat.{ℕ}
-use mathlib.Core.Bool.{Bool, true}
+use mathlib.Core.Bool.{Bool}
 use mathlib.Core.List.{List}
 use mathlib.Core.Path.{_≡_, refl, sym, subst}
 use lib.ListN.{getD, set}
-use Rattle.rules.specs.Relay.{Slot, empty, used, Path, noted, withNote, Relay, withPaths}
+use Rattle.rules.specs.Relay.{Slot, empty, used, Path, withNote, Relay, withPaths}
 use Rattle.rules.specs.View.{viewAt, pathPlace}
 use Rattle.rules.specs.Renumbering.{renameSlot}
 use Rattle.rules.specs.Writes.{notedSlot, notePath}
-use Rattle.rules.specs.declared.Notes.{Notes}
-use Rattle.rules.specs.declared.Note.{Note}
-use Rattle.rules.specs.declared.Note.the-variants.{Unresponsive}
+use Rattle.notes.specs.declared.Note.{Note}
+use Rattle.notes.specs.declared.Note.the-variants.{Unresponsive}
 use Rattle.rules.proofs.Slots.{Single, Every, every-changed, single-changed}
 
--- no note takes a mark away
-pub keeps-mark : (note : Note) (n : Notes) → n .marked ≡ true → noted note n .marked ≡ true
-keeps-mark Unresponsive n h = refl
+-- a path that is marked unresponsive
+abbrev pub withPathMark : Path → Path
+withPathMark = withNote Unresponsive
 
 module _ (note : Note) where
   pub noted-is : (s : Slot Path) → notedSlot note s ≡ renameSlot (withNote note) s

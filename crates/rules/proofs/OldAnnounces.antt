@@ -42,7 +42,7 @@ use Rattle.rules.specs.declared.Answer.the-variants.{Judged}
 use Rattle.rules.specs.declared.Tally.{Tally}
 use Rattle.rules.proofs.Choices.{either}
 use Rattle.rules.proofs.BlobLaws.{among-emission}
-use Rattle.rules.proofs.Joined.{holdsFor, before, none-for}
+use Rattle.octets.proofs.JoinedTests.{holdsFor, before, none-for}
 use Rattle.rules.proofs.Passed.{passed, namesTest, names-test}
 use Rattle.rules.proofs.Stamped.{enact-paths}
 use Rattle.rules.proofs.Held.{judged-relay, judged-reply}

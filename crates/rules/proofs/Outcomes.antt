@@ -7,7 +7,8 @@ use lib.ListN.{length, take, replicate}
 use Rattle.octets.specs.Part.{patch}
 use Rattle.packet.specs.Hash.{packetHash, linkId}
 use Rattle.numbers.specs.Numbers.{localCount, pathCount, blobLimit, linkCount, returnCount, hashCount}
-use Rattle.rules.specs.Relay.{noNotes, makePort, freshPort, noRateSettings, Slot, empty, used, Path, Return, Remembered, Relay}
+use Rattle.notes.specs.Notes.{noNotes}
+use Rattle.rules.specs.Relay.{makePort, freshPort, noRateSettings, Slot, empty, used, Path, Return, Remembered, Relay}
 use Rattle.rules.specs.Blobs.{noBlob}
 use Rattle.rules.specs.Rate.{startsAt}
 use Rattle.rules.specs.View.{viewAt}

@@ -22,7 +22,7 @@ unfoldable pub use Rattle.rules.specs.Questions.{ofTest}
 use Rattle.rules.specs.declared.Verdict.{Verdict}
 use Rattle.rules.specs.declared.Verdict.the-variants.{Drop, Deliver, Forward, Spread, Kept}
 use Rattle.octets.proofs.Listed.{NoneHolds, none-first, none-any, none-holds}
-use Rattle.rules.proofs.Joined.{joined-none}
+use Rattle.octets.proofs.JoinedTests.{joined-none}
 
 -- the packet goes no further
 unfoldable pub stops : Plan → Bool

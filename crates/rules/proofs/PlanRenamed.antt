@@ -22,7 +22,7 @@ use Rattle.rules.specs.Run.{renameArrival}
 use Rattle.rules.specs.declared.Verdict.{Verdict}
 use Rattle.rules.specs.declared.Verdict.the-variants.{Drop, Deliver, Forward, Spread, Kept}
 use Rattle.octets.proofs.Listed.{first-ap}
-use Rattle.rules.proofs.Joined.{joined-valued}
+use Rattle.octets.proofs.JoinedTests.{joined-valued}
 use Rattle.rules.proofs.Images.{image-port, image-eqb, preimage-holds, source, source-port}
 use Rattle.rules.proofs.PortSets.{image-set, image-set-empty}
 use Rattle.rules.proofs.ViewRenamed.{renameView}

@@ -22,7 +22,7 @@ use Rattle.rules.specs.declared.Link.{Link}
 use Rattle.rules.specs.declared.RateSettings.{RateSettings}
 use Rattle.rules.specs.declared.RateEntry.{RateEntry}
 use Rattle.rules.specs.declared.Rated.{Rated}
-use Rattle.rules.specs.declared.Note.{Note}
+use Rattle.notes.specs.declared.Note.{Note}
 use Rattle.rules.proofs.Choices.{either}
 use Rattle.rules.proofs.Tables.{table-set}
 use Rattle.rules.proofs.BlobLaws.{Counted, one-counted, store-counted}

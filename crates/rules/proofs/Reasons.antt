@@ -1,19 +1,18 @@
 -- Document 02, Wish 10: an answer's number is 3, and 6, exactly where those tests' conditions say so; and each clause and case is told exactly where its
 -- own sentence holds and none before it, with its value.
-use Prim.Native.Nat.{ℕ, zero, suc, _+_, _%_, _≤_, _<_}
-use native.Mathlib.Nat.{mod-lt}
+use Prim.Native.Nat.{ℕ, zero, suc, _+_, _<_}
 use native.Mathlib.Omega.{arith}
 use mathlib.Core.Bool.{Bool, true, false, not, false≢true}
 use mathlib.Core.List.{List, [], _∷_}
-use mathlib.Core.Path.{_≡_, refl, sym, ap, ap₂, subst, _∙_}
+use mathlib.Core.Path.{_≡_, refl, sym, ap, _∙_}
 use lib.Dec.{eqb}
 use lib.ListN.{length}
-use borrow.Author.Tests.{eq-eqb, ne-eqb, eqb-true, eqb-false, not-true, not-false}
+use borrow.Author.Tests.{eq-eqb, ne-eqb, eqb-true, not-true, not-false}
 use Rattle.octets.specs.Index.{_and_}
 use Rattle.octets.specs.Choice.{_then_otherwise_, _or_}
 use Rattle.octets.specs.Listed.{Test, firstOf, anyHolds, valued}
-use Rattle.octets.proofs.Index.{and-left, and-right, and-both, and-no, and-assoc, and-true}
-use Rattle.octets.proofs.Listed.{allGive, all-first}
+use Rattle.octets.proofs.Index.{and-both, and-no, and-assoc, and-true}
+use Rattle.octets.proofs.Listed.{allGive, all-first, past-first}
 use Rattle.packet.specs.Header.{typeTwo, contextFlag, ofKindLink, packetKind, isData, isAnnounce, isLinkRequest, isProof}
 use Rattle.packet.specs.Read.{headerOf}
 use Rattle.packet.specs.Announce.{ratchetLength, leastAnnounce}
@@ -23,9 +22,9 @@ use Rattle.rules.specs.Arrival.{Arrival, header, hops, destination, isLi
 use Rattle.rules.specs.Refusals.{packetRefusal}
 use Rattle.rules.specs.Ways.{Way, everywhere, by-path, along-link, by-return, blocked, noPath, pathWay, linkWay, returnWay, wayOn}
 use Rattle.rules.specs.Tests.{notOurs, duplicate, formTests, badForm, failing, ownAnnounce, deliveredHere, tooManyHops, noWayOn, whyBlocked, isThere, knownTests}
-use Rattle.rules.specs.Answers.{clauseNumber, leastLength, caseNumber, greatestExpiry, reasonNumbers}
-use Rattle.rules.specs.Judging.{Plan, dropped, delivered, follows, earlyTests, onwardTests, onwardPlan, plan, spreadVerdict, wayVerdict, verdict}
-use Rattle.rules.specs.Calls.{Judgement, judged, judge, packetCall}
+use Rattle.rules.specs.Answers.{clauseNumber, leastLength, caseNumber, greatestExpiry}
+use Rattle.rules.specs.Judging.{follows, earlyTests, onwardTests, onwardPlan, plan, spreadVerdict, wayVerdict, verdict}
+use Rattle.rules.specs.Calls.{judged, judge, packetCall}
 use Rattle.rules.specs.Reasons.{dropBy, droppedBy, dropAs, droppedAs, reachesForm, reachesWay, clauses, wantsPath, ofLink, isOrdinaryProof, isUnproved, expiryOr0, cases, holdsFirst, tellsClause, tellsCase}
 use Rattle.rules.specs.declared.Link.{Link}
 use Rattle.rules.specs.declared.Clause.{Clause}
@@ -119,18 +118,6 @@ second-on : {A : Type 0} (p : A → Bool) (ts : List (Test A)) (rest : A) → Fi
 unfolding firstOf _then_otherwise_
 second-on p [] rest e g r = r
 second-on p (t ∷ ts) rest e g r = rw e (all-first p ts rest g r)
-
--- where no value of the list passes, what is given passes where no test holds and the rest passes
-past-first : {A : Type 0} (p : A → Bool) (ts : List (Test A)) (rest : A) → allGive (λ x. not (p x)) ts ≡ true
-    → p (firstOf ts rest) ≡ (not (anyHolds ts) and p rest)
-unfolding firstOf anyHolds allGive _then_otherwise_ _or_ _and_
-past-first p [] rest g = refl
-past-first {A} p (t ∷ ts) rest g = go (t .holds) (past-first p ts rest (and-right (not (p (t .value))) _ g))
-  where
-    go : (b : Bool) → p (firstOf ts rest) ≡ (not (anyHolds ts) and p rest)
-        → p (b then t .value otherwise firstOf ts rest) ≡ (not (b or anyHolds ts) and p rest)
-    go true below = not-true _ (and-left (not (p (t .value))) _ g)
-    go false below = below
 
 not-or : (a b : Bool) → not (a or b) ≡ (not a and not b)
 unfolding _or_ _and_

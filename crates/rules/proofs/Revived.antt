@@ -8,7 +8,7 @@ use Rattle.octets.specs.Index.{_and_}
 use Rattle.octets.specs.Choice.{_or_}
 use Rattle.octets.proofs.Index.{and-both, and-no, and-false}
 use Rattle.octets.proofs.Listed.{none-first}
-use Rattle.rules.proofs.Joined.{none-joined}
+use Rattle.octets.proofs.JoinedTests.{none-joined}
 use Rattle.rules.proofs.Passed.{none-known}
 use Rattle.packet.specs.Header.{isAnnounce}
 use Rattle.rules.specs.Relay.{used, Path, Relay}

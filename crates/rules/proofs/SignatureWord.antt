@@ -32,10 +32,9 @@ use Rattle.rules.specs.declared.Verdict.{Verdict}
 use Rattle.rules.specs.declared.Verdict.the-variants.{Drop, Deliver, Forward, Spread, Kept}
 use Rattle.rules.specs.declared.Answer.the-variants.{Refused, Judged}
 use Rattle.rules.specs.declared.Tally.{Tally}
-use Rattle.octets.proofs.Index.{and-left, and-right}
 use Rattle.rules.proofs.Unfolding.{tests, answers, writes, calls, rules}
 use Rattle.rules.proofs.Passed.{namesTest, names-test}
-use Rattle.octets.proofs.Listed.{lateFrom, all-first, rest-alike, told-alike}
+use Rattle.octets.proofs.Listed.{lateFrom, all-first, past-first, rest-alike, told-alike}
 
 -- the packet with the host's word on its signature
 abbrev pub withWord : Bool → Arrival → Arrival
@@ -203,18 +202,6 @@ told-never p (t ∷ ts) rest e = go (p (t .value)) refl (t .holds) (told-never p
     go false q true below = q
     go false q false below = below
 
--- tests that give nothing of the kind: it is given where none of them holds and what stands below them is of it
-kind-past : {A : Type 0} (p : A → Bool) (ts : List (Test A)) (rest : A) → allGive (λ x. not (p x)) ts ≡ true
-    → p (firstOf ts rest) ≡ (not (anyHolds ts) and p rest)
-unfolding firstOf allGive anyHolds _then_otherwise_ _or_ _and_
-kind-past p [] rest g = refl
-kind-past p (t ∷ ts) rest g = go (t .holds) (kind-past p ts rest (and-right (not (p (t .value))) _ g))
-  where
-    go : (b : Bool) → p (firstOf ts rest) ≡ (not (anyHolds ts) and p rest)
-        → p (b then t .value otherwise firstOf ts rest) ≡ (not (b or anyHolds ts) and p rest)
-    go true below = not-true _ (and-left (not (p (t .value))) _ g)
-    go false below = below
-
 module _ (v : View) (a : Arrival) where
   -- a packet that test 9 doesn't drop is planned as with the word yes
   plan-signed : (b : Bool) → ofTest 9 (planBy b v a) ≡ false → planBy false v a ≡ planBy b v a
@@ -355,7 +342,7 @@ module _ (v : View) (a : Arrival) (w : Way) where
   onward-nine : (b : Bool) → ofTest 9 (onwardBy b v a w) ≡ (not (anyHolds (take 3 (onwardTests v a w))) and b)
   unfolding onwardBy told firstOf ofTest onwardTests knownTests allGive _and_ _then_otherwise_
   onward-nine b =
-      kind-past (ofTest 9) (take 3 (onwardTests v a w)) (firstOf (b gives dropped NotSigned otherwise drop 4 (onwardTests v a w)) (follows w)) refl
+      past-first (ofTest 9) (take 3 (onwardTests v a w)) (firstOf (b gives dropped NotSigned otherwise drop 4 (onwardTests v a w)) (follows w)) refl
       ∙ ap (λ (x : Bool). not (anyHolds (take 3 (onwardTests v a w))) and x) (after-nine b)
 
 -- exactly if tests 1 to 5, and the first three of those on the way, 6 to 8, let the packet by, and it is an announce or a link proof
@@ -370,7 +357,7 @@ module _ (a : Arrival) (r : Relay) where
   unfolding wordMatters planBy earlyTests allGive ofTest _and_
   word-matters-when =
       ap (ofTest 9) (plan-by view a false)
-      ∙ kind-past (ofTest 9) (earlyTests view a) (onwardBy (notSigned (withWord false a)) view a (wayOn view a)) refl
+      ∙ past-first (ofTest 9) (earlyTests view a) (onwardBy (notSigned (withWord false a)) view a (wayOn view a)) refl
       ∙ ap (λ (x : Bool). not (anyHolds (earlyTests view a)) and x)
       (onward-nine view a (wayOn view a) (notSigned (withWord false a))
       ∙ ap (λ (x : Bool). not (anyHolds (take 3 (onwardTests view a (wayOn view a)))) and x) (no-unsigned a))

@@ -14,7 +14,7 @@ use Rattle.octets.proofs.Choice.{then-true}
 use Rattle.octets.proofs.Listed.{NoneHolds}
 use Rattle.packet.specs.Header.{isData}
 use Rattle.numbers.specs.Numbers.{pathCount, live}
-use Rattle.rules.specs.Relay.{Slot, empty, used, Path, withPathRate, withNote, withPathMark, Relay, holds, free, lowestFree, withClock, withRate, withPorts, withLocals, withPaths, withLinks, withReturns}
+use Rattle.rules.specs.Relay.{Slot, empty, used, Path, withPathRate, withNote, Relay, holds, free, lowestFree, withClock, withRate, withPorts, withLocals, withPaths, withLinks, withReturns}
 use Rattle.rules.specs.View.{View, viewAt, isLivePath, pathPlace, freePath}
 use Rattle.rules.specs.Renumbering.{renamePath, renameSlot, renumbered}
 use Rattle.rules.specs.Refusals.{slotOk, pathOk, tablesOk}
@@ -27,7 +27,7 @@ use Rattle.rules.specs.Calls.{TableCall, sets-port, sets-rate, adds, rem
 use Rattle.rules.specs.Run.{Call, packet, on-tables, asks, saves, loads, marking, ofSetting, perform, replies, relayAfter, setsRelay, noneLoads}
 use Rattle.rules.specs.DeadPaths.{saysAccepted, IsFor, NoneAccepted, MarkedAt, MarkStays}
 use Rattle.rules.specs.declared.Tally.{Tally}
-use Rattle.rules.specs.declared.Note.the-variants.{Unresponsive}
+use Rattle.notes.specs.declared.Note.the-variants.{Unresponsive}
 use Rattle.rules.proofs.Choices.{either}
 use Rattle.rules.proofs.Rows.{table-ok}
 use Rattle.rules.proofs.Tables.{table-length}
@@ -38,7 +38,8 @@ use Rattle.rules.proofs.Followed.{Planned, planned}
 use Rattle.rules.proofs.Stamped.{enact-clock, enact-paths}
 use Rattle.rules.proofs.Held.{packet-kept, table-kept, ask-kept, save-kept, load-kept, first-none, others-none}
 use Rattle.rules.proofs.Valid.{valid-of, step-ok}
-use Rattle.rules.proofs.Noted.{keeps-mark, noted-is}
+use Rattle.notes.proofs.NoteLaws.{keeps-mark}
+use Rattle.rules.proofs.Noted.{withPathMark, noted-is}
 use Rattle.rules.proofs.Unique.{table-clock}
 use Rattle.rules.proofs.Announced.{LowestPath, says-accepted}
 

@@ -10,7 +10,7 @@ use Rattle.rules.specs.Blobs.{held}
 use Rattle.rules.specs.Writes.{notePath}
 use Rattle.rules.specs.Calls.{renumbers}
 use Rattle.rules.specs.declared.Link.{Link}
-use Rattle.rules.specs.declared.Note.{Note}
+use Rattle.notes.specs.declared.Note.{Note}
 use Rattle.rules.proofs.Held.{Property, Holds, TableKeeps}
 use Rattle.rules.proofs.Slots.{Single, Every, every-renamed, single-renamed, single-later, every-later}
 use Rattle.rules.proofs.Noted.{noted-every, noted-single}

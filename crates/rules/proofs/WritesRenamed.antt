@@ -9,7 +9,8 @@ use Rattle.octets.specs.Choice.{_then_otherwise_}
 use Rattle.octets.proofs.Choice.{then-ap}
 use Rattle.packet.specs.Header.{typeTwo, isData}
 use Rattle.numbers.specs.Numbers.{pathLifetime}
-use Rattle.rules.specs.Relay.{noNotes, Slot, empty, used, Path, Return, withPathRate, Relay, withClock, withPaths, withLinks, withReturns, withHashes}
+use Rattle.notes.specs.Notes.{noNotes}
+use Rattle.rules.specs.Relay.{Slot, empty, used, Path, Return, withPathRate, Relay, withClock, withPaths, withLinks, withReturns, withHashes}
 use Rattle.rules.specs.View.{View, viewAt, isLiveReturn, pathPlace, linkPlace, returnPlace, freeLink}
 use Rattle.rules.specs.Renumbering.{image, oneToOne, renamePath, renameLink, renameReturn, renameSlot, renumbered}
 use Rattle.rules.specs.Arrival.{Arrival, header, hops, relayAddress, destination, hash}
@@ -22,7 +23,7 @@ use Rattle.rules.specs.Writes.{putNext, remembersPlan, alreadyLive, reme
 use Rattle.rules.specs.Run.{renameArrival}
 use Rattle.rules.specs.declared.Link.{Link}
 use Rattle.rules.specs.declared.Reason.{Reason}
-use Rattle.rules.specs.declared.Note.{Note}
+use Rattle.notes.specs.declared.Note.{Note}
 use Rattle.rules.proofs.Images.{source-image}
 use Rattle.rules.proofs.SlotsRenamed.{set-renamed, emptied-renamed}
 use Rattle.rules.proofs.ViewRenamed.{renameView, path-renamed, pathPlace-renamed, linkPlace-renamed, returnPlace-renamed, freePath-renamed, freeLink-renamed}

@@ -1,6 +1,6 @@
 -- The calls: what each answers, and the relay, tally and output after it. A refusal changes nothing.
 use Prim.Native.Nat.{ℕ, _+_, _%_, _^_}
-use mathlib.Core.Bool.{Bool, true, false, not}
+use mathlib.Core.Bool.{Bool, false, not}
 use mathlib.Core.List.{List, [], _∷_}
 use lib.Dec.{eqb, leb}
 use lib.ListN.{length, set}
@@ -20,8 +20,8 @@ use Rattle.rules.specs.declared.Verdict.the-variants.{Drop, Deliver, For
 use Rattle.rules.specs.declared.Answer.{Answer}
 use Rattle.rules.specs.declared.Answer.the-variants.{Refused, Judged}
 use Rattle.rules.specs.declared.Tally.{Tally}
-use Rattle.rules.specs.declared.Note.{Note}
-use Rattle.rules.specs.declared.Note.the-variants.{Unresponsive}
+use Rattle.notes.specs.declared.Note.{Note}
+use Rattle.notes.specs.declared.Note.the-variants.{Unresponsive}
 
 -- ---- the tally: total and the five answers, each modulo 2^32
 unfoldable pub newTally : Tally

@@ -1,13 +1,13 @@
 -- Document 01, "Judging a packet": tests in order; the first that holds gives the drop. No table is written here.
 use Prim.Native.Nat.{ℕ}
 use mathlib.Core.Bool.{Bool, true, false}
-use mathlib.Core.List.{List, [], _∷_}
+use mathlib.Core.List.{List, []}
 use lib.Dec.{eqb}
 use lib.ListN.{length}
 use Rattle.octets.specs.Part.{patch}
 use Rattle.packet.specs.Read.{longestPacket}
 use Rattle.octets.specs.Choice.{_then_otherwise_, _or_}
-use Rattle.octets.specs.Listed.{Test, _gives_otherwise_, firstOf}
+use Rattle.octets.specs.Listed.{Test, _gives_otherwise_, firstOf, _each-give_otherwise_}
 use Rattle.rules.specs.View.{View}
 use Rattle.rules.specs.Arrival.{Arrival, hops}
 use Rattle.rules.specs.Ways.{Way, everywhere, by-path, along-link, by-return, blocked, wayOn}
@@ -35,13 +35,15 @@ earlyTests v a =
     tooManyHops (hops a) gives dropped TooManyHops otherwise
     []
 
--- a list of tests before others, with its values by f
-infixr 20 _each-give_otherwise_
-abbrev pub _each-give_otherwise_ : {A B : Type 0} → List (Test A) → (A → B) → List (Test B) → List (Test B)
-[] each-give f otherwise rest = rest
-(t ∷ ts) each-give f otherwise rest = t .holds gives f (t .value) otherwise ts each-give f otherwise rest
+-- tests 12, 16 and 13, on the way that the packet would follow; wish 11: "drop 16, after 12"
+abbrev pub leavingTests : View → Arrival → Way → List (Test Plan)
+leavingTests v a w =
+    portOff v a w gives dropped PortOff otherwise
+    tooLongForPort v a w gives dropped TooLongForPort otherwise
+    noRoom v a w gives dropped NoRoom otherwise
+    []
 
--- tests 6 to 13, on the way that the packet would follow; `knownTests` are 10, 11 and 15; wish 11: "drop 16, after 12"
+-- tests 6 to 13 on it; `knownTests` are 10, 11 and 15
 unfoldable pub onwardTests : View → Arrival → Way → List (Test Plan)
 onwardTests v a w =
     noWayOn w gives dropped (NoWayOn (whyBlocked w)) otherwise
@@ -49,10 +51,7 @@ onwardTests v a w =
     wrongSide a w gives dropped WrongSide otherwise
     notSigned a gives dropped NotSigned otherwise
     knownTests v a w each-give dropped otherwise
-    portOff v a w gives dropped PortOff otherwise
-    tooLongForPort v a w gives dropped TooLongForPort otherwise
-    noRoom v a w gives dropped NoRoom otherwise
-    []
+    leavingTests v a w
 
 unfoldable pub onwardPlan : View → Arrival → Way → Plan
 onwardPlan v a w = firstOf (onwardTests v a w) (follows w)

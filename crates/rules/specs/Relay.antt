@@ -1,6 +1,6 @@
 -- What a relay knows, apart from how its tables hold it.
 use Prim.Native.Nat.{ℕ}
-use mathlib.Core.Bool.{Bool, true, false, not}
+use mathlib.Core.Bool.{Bool, false, not}
 use mathlib.Core.List.{List}
 use lib.ListN.{getD, replicate}
 use Rattle.octets.specs.Index.{first}
@@ -10,9 +10,9 @@ use Rattle.numbers.specs.Numbers.{longestPacket, portCount, localCount, pathCou
 use Rattle.rules.specs.declared.Link.{Link}
 use Rattle.rules.specs.declared.RateSettings.{RateSettings}
 use Rattle.rules.specs.declared.RateEntry.{RateEntry}
-use Rattle.rules.specs.declared.Notes.{Notes}
-use Rattle.rules.specs.declared.Note.{Note}
-use Rattle.rules.specs.declared.Note.the-variants.{Unresponsive}
+use Rattle.notes.specs.Notes.{noted}
+use Rattle.notes.specs.declared.Notes.{Notes}
+use Rattle.notes.specs.declared.Note.{Note}
 
 -- each on or off and boundary, access point or roaming. Wish 11: "Each port gets a size"
 pub record Port : Type 0 where
@@ -91,13 +91,6 @@ noRateSettings = makeRateSettings 0 0 0
 abbrev pub noRateEntry : RateEntry
 noRateEntry = makeRateEntry 0 0 0
 
-abbrev pub makeNotes : Bool → Notes
-makeNotes marked = record { marked = marked }
-
--- what is noted of a path that an accepted announce made. Wish 6: "Acceptance clears the mark"
-abbrev pub noNotes : Notes
-noNotes = makeNotes false
-
 abbrev pub makePath : List ℕ → ℕ → ℕ → List ℕ → ℕ → RateEntry → Notes → Blobs → Path
 makePath destination port hops nextHop expiry rate notes blobs =
     record {
@@ -146,17 +139,9 @@ withPathRate rate p = makePath (p .destination) (p .port) (p .hops) (p .nextHop)
 abbrev pub withPathNotes : Notes → Path → Path
 withPathNotes notes p = makePath (p .destination) (p .port) (p .hops) (p .nextHop) (p .expiry) (p .rate) notes (p .blobs)
 
--- what is noted after a note of the host's
-abbrev pub noted : Note → Notes → Notes
-noted Unresponsive n = makeNotes true
-
 -- a path of which the host has noted this
 abbrev pub withNote : Note → Path → Path
 withNote note p = withPathNotes (noted note (p .notes)) p
-
--- a path that is marked unresponsive
-abbrev pub withPathMark : Path → Path
-withPathMark = withNote Unresponsive
 
 -- a link between other ports
 abbrev pub withLinkPorts : ℕ → ℕ → Link → Link

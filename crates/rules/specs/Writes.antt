@@ -1,6 +1,6 @@
 -- What an accepted packet writes into the tables, by what was planned, and what a note of the host's writes. Nothing is dropped here.
 use Prim.Native.Nat.{ℕ, _+_, _%_}
-use mathlib.Core.Bool.{Bool, true, false, not}
+use mathlib.Core.Bool.{Bool, true, not}
 use mathlib.Core.List.{List, map}
 use lib.Dec.{eqb, ltb}
 use lib.ListN.{take, set}
@@ -10,7 +10,8 @@ use Rattle.packet.specs.Header.{typeTwo, isData}
 use Rattle.packet.specs.Read.{headerOf, partsOf}
 use Rattle.packet.specs.Hash.{linkId}
 use Rattle.numbers.specs.Numbers.{blobLimit, returnCount, hashCount, pathLifetime, hashLifetime, returnLifetime, unprovedLifetime, provedLifetime}
-use Rattle.rules.specs.Relay.{Slot, empty, used, Ring, makeRing, withSlots, makePath, withPathRate, noNotes, withNote, makeLink, withLinkState, makeReturn, makeRemembered, Blobs, Path, Return, Relay, holds, withClock, withPaths, withLinks, withReturns, withHashes}
+use Rattle.notes.specs.Notes.{noNotes}
+use Rattle.rules.specs.Relay.{Slot, empty, used, Ring, makeRing, withSlots, makePath, withPathRate, withNote, makeLink, withLinkState, makeReturn, makeRemembered, Blobs, Path, Return, Relay, holds, withClock, withPaths, withLinks, withReturns, withHashes}
 use Rattle.rules.specs.View.{View, viewAt, isLiveReturn, pathPlace, linkPlace, returnPlace, freePath, freeLink}
 use Rattle.rules.specs.Arrival.{Arrival, header, hops, destination, hash, blob, isLinkProof}
 use Rattle.rules.specs.Exempt.{exempt}
@@ -23,7 +24,7 @@ use Rattle.rules.specs.Judging.{Plan, dropped, delivered, follows}
 use Rattle.rules.specs.declared.Link.{Link}
 use Rattle.rules.specs.declared.Reason.{Reason}
 use Rattle.rules.specs.declared.RateEntry.{RateEntry}
-use Rattle.rules.specs.declared.Note.{Note}
+use Rattle.notes.specs.declared.Note.{Note}
 
 -- a ring of n places: the next one is written, and the one after it is next
 unfoldable pub putNext : {A : Type 0} → ℕ → Slot A → Ring A → Ring A

@@ -98,16 +98,6 @@ pub struct RateEntry {
     pub blocked_until: u64,
 }
 
-// What the host has noted of a path, in its record: whether it is marked unresponsive.
-pub struct Notes {
-    pub marked: bool,
-}
-
-// What the host may note of a destination's live path.
-pub enum Note {
-    Unresponsive,
-}
-
 // What the rate rule says of an announce: whether it is dropped, and the two fields after it.
 pub struct Rated {
     pub dropped: bool,

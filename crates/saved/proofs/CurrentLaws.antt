@@ -17,11 +17,12 @@ use Rattle.recording.specs.Shape.{editionOf}
 use Rattle.tables.specs.Forms.{today, relayForm}
 use Rattle.tables.specs.Places.{tableSize}
 use Rattle.tables.specs.Layout.{bytesOf, wellFormed}
-use Rattle.saved.specs.Editions.{currentEdition, numbered, editionAt, current}
+use Rattle.editions.specs.Editions.{currentEdition, numbered, editionAt, current}
 use Rattle.saved.specs.File.{bodiesAt}
 use Rattle.saved.specs.Load.{heldIn}
-use Rattle.saved.specs.Steps.{sizeIn, bodiesFine}
-use Rattle.saved.proofs.LoadLaws.{editionIn, relay-decides, Taken}
+use Rattle.editions.specs.Steps.{sizeIn, bodiesFine}
+use Rattle.editions.proofs.EditionLaws.{relay-decides}
+use Rattle.saved.proofs.LoadLaws.{editionIn, Taken}
 
 module _ (f : List ℕ) (now : editionOf f ≡ currentEdition) where
   -- their test is refusal 7's

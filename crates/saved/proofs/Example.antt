@@ -3,7 +3,7 @@
 use Prim.Native.Nat.{ℕ, zero, suc, _+_, _-_, _*_, _≤_, _<_}
 use native.Mathlib.Decide.{decLt}
 use native.Mathlib.Omega.{arith}
-use mathlib.Core.Bool.{true, false}
+use mathlib.Core.Bool.{true}
 use mathlib.Core.List.{List, [], _∷_, _++_, append-assoc}
 use mathlib.Core.Path.{_≡_, refl, sym, ap, subst, _∙_}
 use lib.Dec.{leb, lit<}
@@ -18,8 +18,9 @@ use Rattle.octets.proofs.ListOf.{listOf-length, listOf-at, listOf-cong, listOf-
 use Rattle.codes.specs.Codes.{fill}
 use Rattle.codes.specs.Form.{octetsIn, many, slot, code}
 use Rattle.recording.specs.Shape.{kindOf, editionOf, countOf, offsetOf, lengthOf, sumBelow, runningPlace, offsetsRight, endRight}
-use Rattle.numbers.specs.Numbers.{longestPacket, portCount, blobLimit}
-use Rattle.rules.specs.Relay.{freshPort, noPort, noRateSettings, noRateEntry, noNotes, Slot, empty, used, Path, makePath, Relay}
+use Rattle.numbers.specs.Numbers.{longestPacket, portCount, pathCount, blobLimit}
+use Rattle.notes.specs.Notes.{noNotes}
+use Rattle.rules.specs.Relay.{freshPort, noPort, noRateSettings, noRateEntry, Slot, empty, used, Path, makePath, Relay}
 use Rattle.rules.specs.Blobs.{noBlob}
 use Rattle.rules.specs.Refusals.{tablesOk}
 use Rattle.rules.specs.declared.Tally.{Tally}
@@ -27,13 +28,13 @@ use Rattle.rules.proofs.History.{Fits}
 use Rattle.rules.proofs.Unfolding.{rules}
 use Rattle.rules.proofs.Outcomes.{relayOf, knownPath, linkOf, returnOf}
 use Rattle.tables.specs.Forms.{blobWidth, portFormIn, pathFormIn, pathForm, relayFormIn, relayForm}
-use Rattle.tables.specs.Places.{tableSize}
+use Rattle.tables.specs.Places.{portWidth, pathWidth, portsAt, tableSize}
 use Rattle.tables.specs.Layout.{relayOf as layoutRelay, bytesOf, wellFormed}
-use Rattle.tables.specs.Shape.{isByte, isBytes, pathShaped, linkShaped, returnShaped, hashShaped, shaped}
+use Rattle.tables.specs.Shape.{isByte, isBytes, notesShaped, pathShaped, linkShaped, returnShaped, hashShaped, shaped}
 use Rattle.tables.proofs.Whole.{relay-good, back, ok-bytes, bytes-bytes}
-use Rattle.saved.specs.Editions.{olderBlobLimit, edition1, isKnownBy, isKnown, held, current, widthAt}
+use Rattle.editions.specs.Editions.{olderBlobLimit, edition1, currentEdition, isKnownBy, isKnown, held, current, widthAt}
 use Rattle.saved.specs.File.{bodyCount, fileIn, savedSize}
-use Rattle.saved.specs.Save.{saveRows, saveRefusal, saveOn}
+use Rattle.saved.specs.Save.{saveOn}
 use Rattle.saved.specs.Load.{lengthWrong, kindWrongBy, kindWrong, contentsWrong, sizesRight, bodiesWrong, loadRows, loadRefusal, LoadedOn, loadOn}
 use Rattle.saved.specs.Steps.{startBytes, entryBytes, contentsBytes}
 use Rattle.saved.proofs.SaveLaws.{refused-tables, refused-room, save-refused, file-made}
@@ -65,7 +66,7 @@ abbrev pub tables : List ℕ
 tables = bytesOf relay
 
 shape : shaped relay ≡ true
-unfolding rules shaped pathShaped linkShaped returnShaped hashShaped isBytes isByte
+unfolding rules shaped pathShaped notesShaped linkShaped returnShaped hashShaped isBytes isByte
 shape = refl
 
 ok : tablesOk relay ≡ true
@@ -112,33 +113,42 @@ saved-again =
     (ap (λ (x : LoadedOn). x .refusal) loaded)
     (written-edition tables tally are-bytes well small room large) room large
 
--- a program of edition 4 refuses it
-pub earlier : _≡_ {A = ℕ} (firstOf (lengthWrong file gives 20 otherwise kindWrongBy 4 file gives 21 otherwise []) 0) 21
-earlier = earlier-refuses tables tally are-bytes well small room large 4 (lit< tt) []
+-- a program of the edition before refuses it
+pub earlier : _≡_ {A = ℕ} (firstOf (lengthWrong file gives 20 otherwise kindWrongBy (currentEdition - 1) file gives 21 otherwise []) 0) 21
+earlier = earlier-refuses tables tally are-bytes well small room large (currentEdition - 1) (lit< tt) []
 
 -- loaded tables pass refusal 7
 pub loaded-well : wellFormed (loadOn file other old .tables) ≡ true
 loaded-well =
     loaded-formed file other old (written-bytes tables tally are-bytes well small room large) (ap (λ (x : LoadedOn). x .refusal) loaded)
 
--- ---- the contents, computed: kind, edition, count; then the offset and the length of each body. The paths' is 44,928 bytes long with 64 blobs a path
+-- ---- the contents, computed: kind, edition, count; then the offset and the length of each body. Where editions differ, the
+-- layout tells the length: in edition 5 the first body is 36 bytes long, the ports' 64, and the paths' 44,928
 abbrev row : ℕ → ℕ → List ℕ
 row offset long = bigEndian 4 offset ++ bigEndian 2 long
 
+abbrev firstLong : ℕ
+firstLong = portsAt
+
+abbrev portsLong : ℕ
+portsLong = portWidth * portCount
+
 abbrev pathsLong : ℕ
-pathsLong = 3968 + 640 * blobLimit
+pathsLong = pathWidth * pathCount
 
 abbrev pub contents : List ℕ
 contents =
-    2 ∷ 5 ∷ 0 ∷ 8 ∷
-    (row 52 36
-    ++ (row 88 64
-    ++ (row 152 272
-    ++ (row 424 pathsLong
-    ++ (row (424 + pathsLong) 1920
-    ++ (row (2344 + pathsLong) 13826
-    ++ (row (16170 + pathsLong) 41986
-    ++ row (58156 + pathsLong) 24)))))))
+    let locals = 52 + firstLong + portsLong in
+    let links = locals + 272 + pathsLong in
+    2 ∷ currentEdition ∷ 0 ∷ 8 ∷
+    (row 52 firstLong
+    ++ (row (52 + firstLong) portsLong
+    ++ (row locals 272
+    ++ (row (locals + 272) pathsLong
+    ++ (row links 1920
+    ++ (row (links + 1920) 13826
+    ++ (row (links + 1920 + 13826) 41986
+    ++ row (links + 1920 + 13826 + 41986) 24)))))))
 
 start : startBytes ++ contentsBytes bodyCount ≡ contents
 unfolding computing
@@ -159,14 +169,15 @@ abbrev pub empties : List ℕ
 empties = 2 ∷ 1 ∷ 0 ∷ 8 ∷ joined (λ i. 0 ∷ 0 ∷ 0 ∷ 52 ∷ 0 ∷ 0 ∷ []) (listOf (λ i. i) 8)
 
 -- where two faults meet, the earlier row's number: nothing; three bytes; a byte too many, of another kind; of another kind, with another count;
--- edition 0; edition 6; no entries; a wrong offset, and bodies of wrong length; bodies of wrong length, and tables of another size; cut by a byte
+-- edition 0; the one after the current edition; no entries; a wrong offset, and bodies of wrong length; bodies of wrong length, and tables of another
+-- size; cut by a byte
 pub refusals : _≡_ {A = List ℕ}
     (loadRefusal [] 0 ∷
     loadRefusal (2 ∷ 1 ∷ 0 ∷ []) 0 ∷
     loadRefusal (1 ∷ 1 ∷ 0 ∷ 0 ∷ 0 ∷ []) 0 ∷
     loadRefusal (1 ∷ 1 ∷ 0 ∷ 0 ∷ []) 0 ∷
     loadRefusal (set empties 1 0) 0 ∷
-    loadRefusal (set empties 1 6) 0 ∷
+    loadRefusal (set empties 1 (currentEdition + 1)) 0 ∷
     loadRefusal (2 ∷ 1 ∷ 0 ∷ 0 ∷ []) 0 ∷
     loadRefusal (set empties 49 51) 0 ∷
     loadRefusal empties 0 ∷
@@ -266,7 +277,7 @@ abbrev pub olderRelay : Relay
 olderRelay = relayWith (makePath (knownPath .destination) 1 0 (knownPath .nextHop) 22600 noRateEntry noNotes (knownPath .blobs))
 
 older-shape : shaped olderRelay ≡ true
-unfolding rules shaped pathShaped linkShaped returnShaped hashShaped isBytes isByte
+unfolding rules shaped pathShaped notesShaped linkShaped returnShaped hashShaped isBytes isByte
 older-shape = refl
 
 older-ok : tablesOk olderRelay ≡ true

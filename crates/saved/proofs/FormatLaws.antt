@@ -21,7 +21,7 @@ use Rattle.tables.specs.Layout.{relayOf, bytesOf}
 use Rattle.tables.specs.Shape.{shaped}
 use Rattle.tables.proofs.Whole.{ok-relay, shaped-of, back, ok-bytes, bytes-bytes}
 use Rattle.codes.specs.Form.{code}
-use Rattle.saved.specs.Editions.{current}
+use Rattle.editions.specs.Editions.{current}
 use Rattle.saved.specs.File.{fileOf}
 use Rattle.saved.specs.Save.{saveRefusal, saveRows}
 use Rattle.saved.specs.Load.{loadRefusal, heldIn, LoadedOn, loadOn}

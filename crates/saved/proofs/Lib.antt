@@ -1,9 +1,4 @@
--- Laws of the widths, of older editions, of loading and of saving; then the theorems over whole files, and a concrete one.
-pub mod Widths
-pub mod RowLaws
-pub mod Alike
-pub mod Rooms
-pub mod EditionLaws
+-- Laws of loading and of saving; then the theorems over whole files, and a concrete one.
 pub mod LoadLaws
 pub mod CurrentLaws
 pub mod SaveLaws

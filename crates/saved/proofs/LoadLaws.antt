@@ -5,37 +5,35 @@ use native.Mathlib.Omega.{arith}
 use mathlib.Core.Bool.{Bool, true, false, not}
 use mathlib.Core.List.{List}
 use mathlib.Core.Path.{_≡_, refl, sym, ap, ap₂, _∙_}
-use lib.Dec.{eqb, leb, ltb}
+use lib.Dec.{eqb, ltb}
 use lib.ListN.{length}
-use borrow.Author.Tests.{lt-ltb, ltb-true, lt-leb, leb-true, eq-eqb, ne-eqb, eqb-true, not-false}
+use borrow.Author.Tests.{lt-leb, eq-eqb, ne-eqb, eqb-true, not-false}
 use Rattle.octets.specs.Bytes.{Bytes}
 use Rattle.octets.specs.Index.{_and_, allBelow}
 use Rattle.octets.specs.Choice.{_then_otherwise_}
-use Rattle.octets.specs.Listed.{firstOf}
 use Rattle.octets.specs.Part.{part}
 use Rattle.octets.specs.BigEndian.{number}
 use Rattle.octets.proofs.Choice.{then-true, then-false, then-ap}
 use Rattle.octets.proofs.Index.{and-left, and-right, and-both, and-no, and-yes, and-false, all-none, all-more, all-fails, all-at, all-intro}
 use Rattle.octets.proofs.Listed.{here, past, allGive, refuses, rows-passed, none-first}
-use Rattle.octets.proofs.Part.{part-length}
 use Rattle.codes.specs.Form.{Form, code}
 use Rattle.codes.proofs.Forms.{lawful}
 use Rattle.recording.specs.Shape.{entryPlace, kindOf, editionOf, countOf, offsetOf, lengthOf, sumBelow, runningPlace, offsetsRight, endRight}
 use Rattle.recording.proofs.Sums.{sum-none, sum-more, sum-bound, sum-cong}
 use Rattle.recording.proofs.ShapeLaws.{length-lt, Shaped}
-use Rattle.numbers.specs.Numbers.{pathCount}
 use Rattle.rules.specs.declared.Tally.{Tally}
 use Rattle.tables.specs.Forms.{Edition, relayFormIn}
 use Rattle.tables.specs.Places.{tableSize}
-use Rattle.tables.specs.Layout.{frontOk, backOk, relayOf, bytesOf, wellFormed}
+use Rattle.tables.specs.Layout.{relayOf, bytesOf, wellFormed}
 use Rattle.tables.proofs.Whole.{again}
-use Rattle.saved.specs.Editions.{Held, tallyForm, isKnownBy, isKnown, numbered, held, widthAt}
+use Rattle.editions.specs.Editions.{Held, tallyForm, isKnownBy, isKnown, numbered, held, widthAt}
 use Rattle.saved.specs.File.{savedKind, bodyCount, headWidth, bodiesAt}
 use Rattle.saved.specs.Load.{lengthWrong, kindWrongBy, kindWrong, contentsWrong, sizesRight, bodiesWrong, loadRows, loadRefusal, heldIn, LoadedOn, loadOn}
-use Rattle.saved.specs.Steps.{backPlace, tallyPlace, sizeIn, frontNow, pathsFine, tablesNow, bodiesFine, tallyAt}
-use Rattle.saved.proofs.Alike.{and-last}
-use Rattle.saved.proofs.Widths.{widths-in, size-in}
-use Rattle.saved.proofs.EditionLaws.{each-brings, now-relay, now-formed, now-bytes, now-clauses}
+use Rattle.editions.specs.Steps.{tallyPlace, sizeIn, tablesNow, bodiesFine}
+use Rattle.saved.specs.Steps.{tallyAt}
+use Rattle.editions.proofs.Widths.{widths-in, size-in}
+use Rattle.editions.proofs.EachBrings.{each-brings}
+use Rattle.editions.proofs.EditionLaws.{now-relay, now-formed, now-bytes, relay-decides}
 
 -- ---- 20
 module _ (f : List ℕ) where
@@ -190,17 +188,6 @@ module _ (f : List ℕ) (h : lengthWrong f ≡ false) (n : countOf f ≡ bodyCou
 pub bodies-decide : (f : List ℕ) → bodiesWrong f ≡ not (sizesRight (held (editionIn f)) f and bodiesFine (editionIn f) f)
 unfolding bodiesWrong bodiesFine
 bodies-decide f = refl
-
--- the tally may be any bytes, so the bodies are fine where those of the tables' sections are
-pub relay-decides : (e : Edition) (f : List ℕ) → bodiesFine e f ≡ code (relayFormIn e) .fine f bodiesAt
-unfolding bodiesFine _and_
-relay-decides e f = and-last (code (relayFormIn e) .fine f bodiesAt) refl
-
--- as the code tests them
-pub bodies-clauses : (n : ℕ) (f : List ℕ) → tallyPlace (numbered n) ≤ length f
-    → bodiesFine (numbered n) f
-    ≡ (frontOk (frontNow (numbered n) f) and pathsFine (numbered n) f pathCount and backOk f (backPlace (numbered n)))
-bodies-clauses n f size = relay-decides (numbered n) f ∙ now-clauses (numbered n) (each-brings (n - 1)) f size
 
 -- ---- the rows, in their order
 module _ (f : List ℕ) (size : ℕ) where

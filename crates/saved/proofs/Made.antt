@@ -1,5 +1,5 @@
 -- The file that an edition makes loads, and holds what was saved; a file of the current one that loads is the one that is made of what it holds.
-use Prim.Native.Nat.{ℕ, _+_, _^_, _≤_, _<_}
+use Prim.Native.Nat.{ℕ, _+_, _^_, _<_}
 use native.Mathlib.Nat.{le-refl}
 use native.Mathlib.Omega.{arith}
 use mathlib.Core.Bool.{true, false}
@@ -16,16 +16,16 @@ use Rattle.octets.proofs.Part.{part-nil, part-part}
 use Rattle.codes.specs.Form.{code}
 use Rattle.codes.proofs.Law.{passes-at, back-at}
 use Rattle.codes.proofs.Forms.{lawful}
-use Rattle.recording.specs.Shape.{entryPlace, kindOf, editionOf, countOf, offsetOf, lengthOf, sumBelow, runningPlace, rowOf, shapeOf}
+use Rattle.recording.specs.Shape.{entryPlace, editionOf, countOf, offsetOf, lengthOf, sumBelow, runningPlace, rowOf, shapeOf}
 use Rattle.recording.proofs.Sums.{sum-cong, part-last}
 use Rattle.recording.proofs.ShapeLaws.{longOf, placeOf, shape-listOf, shape-again, shape-length, shape-long, shape-kind, shape-edition, shape-count, shape-shaped, shape-bytes}
 use Rattle.tables.specs.Forms.{today}
 use Rattle.tables.specs.Places.{tableSize}
-use Rattle.saved.specs.Editions.{Held, currentEdition, isKnown, numbered, editionAt, current, widthAt}
+use Rattle.editions.specs.Editions.{Held, currentEdition, isKnown, numbered, editionAt, current, widthAt}
 use Rattle.saved.specs.File.{savedKind, bodyCount, headWidth, noHead, wholeBody, bodiesAt, bodyOf, fileIn, fileOf, savedSize}
 use Rattle.saved.specs.Load.{lengthWrong, heldIn}
-use Rattle.saved.specs.Steps.{sizeIn}
-use Rattle.saved.proofs.Widths.{widths-in, width-within, size-in, width-small, size-small, now-known}
+use Rattle.editions.specs.Steps.{sizeIn}
+use Rattle.editions.proofs.Widths.{widths-in, width-within, size-in, width-small, size-small, now-known}
 use Rattle.saved.proofs.SaveLaws.{saved-length, body-length, body-place, bodies-joined}
 use Rattle.saved.proofs.LoadLaws.{Taken, taken-whole}
 

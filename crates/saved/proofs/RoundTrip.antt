@@ -11,7 +11,7 @@
 use Prim.Native.Nat.{ℕ, _≤_, _<_}
 use mathlib.Core.Bool.{true, false}
 use mathlib.Core.List.{List}
-use mathlib.Core.Path.{_≡_, refl, sym, ap, ap₂, subst, _∙_}
+use mathlib.Core.Path.{_≡_, sym, ap, ap₂, subst, _∙_}
 use lib.ListN.{length, take}
 use lib.Seq.{take-at}
 use Rattle.octets.specs.Bytes.{Bytes}
@@ -26,11 +26,11 @@ use Rattle.rules.proofs.History.{Fits}
 use Rattle.tables.specs.Places.{tableSize}
 use Rattle.tables.specs.Layout.{relayOf, bytesOf, wellFormed}
 use Rattle.tables.proofs.Whole.{again, relay-good}
-use Rattle.saved.specs.Editions.{Held, isKnown, editionAt, currentEdition, current}
+use Rattle.editions.specs.Editions.{Held, isKnown, editionAt, currentEdition, current}
 use Rattle.saved.specs.File.{fileIn, fileOf, savedSize}
-use Rattle.saved.specs.Save.{SavedOn, saveOn}
+use Rattle.saved.specs.Save.{saveOn}
 use Rattle.saved.specs.Load.{lengthWrong, kindWrongBy, loadRefusal, heldIn, LoadedOn, loadOn}
-use Rattle.saved.specs.Steps.{tablesNow}
+use Rattle.editions.specs.Steps.{tablesNow}
 use Rattle.saved.proofs.SaveLaws.{not-refused, save-done}
 use Rattle.saved.proofs.LoadLaws.{newer-edition, Taken, taken, takes, editionIn, held-relay, held-formed, held-bytes, tables-held, tally-good, load-done, load-number}
 use Rattle.saved.proofs.Made.{taken-in, held-in, file-length, made-edition, made-taken, made-whole, made-held, made-bytes, long-now, file-again}

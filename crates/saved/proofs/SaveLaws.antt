@@ -8,16 +8,15 @@ use mathlib.Core.List.{List, [], _∷_, _++_, append-assoc}
 use mathlib.Core.Path.{_≡_, refl, sym, ap, ap₂, _∙_}
 use lib.Dec.{eqb}
 use lib.ListN.{length, take, drop, length-append, take-append-drop}
-use borrow.Author.Tests.{lt-ltb, le-ltb, ltb-false, eq-eqb, ne-eqb, not-false}
+use borrow.Author.Tests.{lt-ltb, le-ltb, eq-eqb, ne-eqb}
 use Rattle.octets.specs.Bytes.{Bytes}
-use Rattle.octets.specs.Index.{_and_, listOf}
-use Rattle.octets.specs.Listed.{firstOf}
+use Rattle.octets.specs.Index.{listOf}
 use Rattle.octets.specs.Part.{part, patch, joined}
 use Rattle.octets.specs.BigEndian.{bigEndian}
 use Rattle.octets.proofs.BigEndian.{bigEndian-length}
 use Rattle.octets.proofs.Choice.{then-true, then-false}
-use Rattle.octets.proofs.Listed.{here, past, allGive, refuses, rows-passed, none-first}
-use Rattle.octets.proofs.Part.{part-length, part-whole, patch-join, patch-length}
+use Rattle.octets.proofs.Listed.{here, past, none-first}
+use Rattle.octets.proofs.Part.{part-length, part-whole, patch-join}
 use Rattle.codes.specs.Form.{code}
 use Rattle.codes.proofs.Forms.{lawful}
 use Rattle.codes.proofs.Pieces.{fields-written}
@@ -28,11 +27,11 @@ use Rattle.rules.specs.declared.Tally.{Tally}
 use Rattle.tables.specs.Places.{tableSize}
 use Rattle.tables.specs.Layout.{relayOf, bytesOf, wellFormed}
 use Rattle.tables.proofs.Whole.{again, formed}
-use Rattle.saved.specs.Editions.{Held, tallyForm, numbered, editionAt, currentEdition, current, widthAt}
+use Rattle.editions.specs.Editions.{Held, tallyForm, numbered, editionAt, currentEdition, current, widthAt}
 use Rattle.saved.specs.File.{savedKind, bodyCount, headWidth, noHead, wholeBody, bodiesAt, bodyOf, fileIn, fileOf, savedSize}
 use Rattle.saved.specs.Save.{saveRows, saveRefusal, SavedOn, saveOn}
 use Rattle.saved.specs.Steps.{startBytes, entryBytes, contentsBytes, tallyBytes}
-use Rattle.saved.proofs.Widths.{widths-in, width-within}
+use Rattle.editions.proofs.Widths.{widths-in, width-within}
 
 -- ---- the rows, in their order
 module _ (tables : List ℕ) (room : ℕ) where

@@ -1,5 +1,4 @@
--- Saved tables, as document 02's Wish 4 has them: the file and its editions, saving and loading.
-pub mod Editions
+-- Saved tables, as document 02's Wish 4 has them: the file, saving and loading. The editions are crates/editions.
 pub mod File
 pub mod Save
 pub mod Load

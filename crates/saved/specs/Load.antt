@@ -13,7 +13,7 @@ use Rattle.recording.specs.Shape.{kindOf, editionOf, countOf, lengthOf, offsets
 use Rattle.rules.specs.declared.Tally.{Tally}
 use Rattle.tables.specs.Places.{addressWidth, tableSize}
 use Rattle.tables.specs.Layout.{bytesOf}
-use Rattle.saved.specs.Editions.{Held, currentEdition, isKnownBy, editionAt, widthAt}
+use Rattle.editions.specs.Editions.{Held, currentEdition, isKnownBy, editionAt, widthAt}
 use Rattle.saved.specs.File.{savedKind, bodyCount, headWidth, bodiesAt}
 
 -- ---- "20 is any length but what the contents, by the file's own count, add up to": 4 + 6 n + the sum of the n lengths. Under 4 bytes there is no

@@ -1,8 +1,8 @@
 // The file's contents: where an entry stands, and what it says.
-use super::format::CONTENTS_START;
-use super::format::ENTRY_WIDTH;
-use super::format::LENGTH_WIDTH;
-use super::format::OFFSET_WIDTH;
+use editions::shape::CONTENTS_START;
+use editions::shape::ENTRY_WIDTH;
+use editions::shape::LENGTH_WIDTH;
+use editions::shape::OFFSET_WIDTH;
 ghost use mathlib.Core.Path.{_≡_};
 ghost use Prim.Native.Nat.{_+_, _≤_, _<_};
 ghost use lib.ListN.{length};

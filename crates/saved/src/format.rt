@@ -1,14 +1,6 @@
 // The refusals' numbers, and the file's: specs/ in code. Each number once.
-use numbers::HASH_COUNT;
-use numbers::LINK_COUNT;
-use numbers::LOCAL_COUNT;
-use numbers::RETURN_COUNT;
-use tables::places::HASH_WIDTH;
-use tables::places::LINK_WIDTH;
-use tables::places::LINKS_AT;
-use tables::places::LOCAL_WIDTH;
-use tables::places::RETURN_WIDTH;
-use tables::places::RING_WIDTH;
+use editions::shape::BODIES_AT;
+use editions::shape::TALLY_BODY;
 use tables::places::TABLE_SIZE;
 
 // A file whose length isn't what its contents add up to.
@@ -28,47 +20,7 @@ pub const ROOM_REFUSED: u8 = 25;
 
 pub const KIND: u8 = 2;
 
-// The current edition: the last of those in editions.rt.
-pub const EDITION: u8 = 5;
-
-// Blobs of a path in editions 1 to 3.
-pub const OLDER_BLOB_LIMIT: usize = 16;
-
-// The file's head: kind, edition, count.
-pub const COUNT_AT: usize = 2;
-
-pub const COUNT_WIDTH: usize = 2;
-
-pub const CONTENTS_START: usize = COUNT_AT + COUNT_WIDTH;
-
-// An entry in the contents: offset, length.
-pub const OFFSET_WIDTH: usize = 4;
-
-pub const LENGTH_WIDTH: usize = 2;
-
-pub const ENTRY_WIDTH: usize = OFFSET_WIDTH + LENGTH_WIDTH;
-
-pub const BODY_COUNT: usize = 8;
-
-// The bodies' lengths, those that are one in every edition: local addresses, links, returns, hashes, tally.
-pub const LOCALS_BODY: usize = LOCAL_COUNT * LOCAL_WIDTH;
-
-pub const LINKS_BODY: usize = LINK_COUNT * LINK_WIDTH;
-
-pub const RETURNS_BODY: usize = RING_WIDTH + RETURN_COUNT * RETURN_WIDTH;
-
-pub const HASHES_BODY: usize = RING_WIDTH + HASH_COUNT * HASH_WIDTH;
-
-pub const COUNTER_WIDTH: usize = 4;
-
-pub const TALLY_BODY: usize = 6 * COUNTER_WIDTH;
-
-// Where the bodies stand: those of the tables' sections together are the tables, in the current edition.
-pub const BODIES_AT: usize = CONTENTS_START + BODY_COUNT * ENTRY_WIDTH;
-
+// Where the tally stands, and the file's length: in the current edition the bodies before it are the tables.
 pub const TALLY_AT: usize = BODIES_AT + TABLE_SIZE;
 
 pub const SAVED_SIZE: usize = TALLY_AT + TALLY_BODY;
-
-// All behind the paths: no edition has it otherwise.
-pub const BACK_SIZE: usize = TABLE_SIZE - LINKS_AT;

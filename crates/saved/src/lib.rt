@@ -1,14 +1,9 @@
 // Saved tables, as document 02's Wish 4 has them: a relay's tables and tally as a file, and back.
 // Entry points: save, load, own_address. Each ends on any bytes of any length; a refusal changes nothing.
-// Editions: specs/Editions.antt lists them, editions.rt has their numbers, and older.rt puts zeros where one lacks
-// bytes. The next edition opens: its line in `editions`, a field of `Edition` and of `Brings` (EditionLaws.antt) for
-// each form that it changes, EDITION, and its number in editions.rt. What isn't zeros in older files, or lies in a
-// port, is a conversion of its own in older.rt.
+// What a file holds in each edition, and how older ones are read: the crate `editions`.
 mod contents;
-mod editions;
 mod format;
 mod loading;
-mod older;
 mod saving;
 
 pub use format::SAVED_SIZE;

@@ -12,13 +12,14 @@ use Rattle.octets.specs.Part.{patch}
 use Rattle.octets.proofs.Choice.{then-true, then-false}
 use Rattle.numbers.specs.Numbers.{portCount, localCount, pathCount}
 use Rattle.codes.specs.Form.{code}
-use Rattle.rules.specs.Relay.{Slot, empty, Path, makePort, makeRateSettings, noted, withLocals}
+use Rattle.notes.specs.Notes.{noted}
+use Rattle.rules.specs.Relay.{Slot, empty, Path, makePort, makeRateSettings, withLocals}
 use Rattle.rules.specs.View.{viewAt, pathPlace}
 use Rattle.rules.specs.Refusals.{clockBad}
 use Rattle.rules.specs.Tests.{isThere}
 use Rattle.rules.specs.Writes.{notePath}
 use Rattle.rules.specs.Calls.{sets-port, sets-rate, notes-path, ruleOf}
-use Rattle.rules.specs.declared.Note.{Note}
+use Rattle.notes.specs.declared.Note.{Note}
 use Rattle.tables.specs.Forms.{rateSettingsForm}
 use Rattle.tables.specs.Places.{portWidth, localWidth, pathWidth, pathsAt, ownAt, rateAt, portsAt, localsAt, tableSize, addressWidth}
 use Rattle.tables.specs.Records.{portBytes, pathOf, slotBytes, localBytes}

@@ -9,7 +9,7 @@ use Rattle.octets.specs.Part.{joined}
 use Rattle.numbers.specs.Numbers.{portCount}
 use Rattle.rules.specs.Relay.{freshPort, fresh}
 use Rattle.rules.specs.Calls.{sets-port, sets-rate, adds, removes, notes-path, marks}
-use Rattle.rules.specs.declared.Note.{Note}
+use Rattle.notes.specs.declared.Note.{Note}
 use Rattle.tables.specs.Places.{tableSize}
 use Rattle.tables.specs.Records.{portBytes}
 use Rattle.tables.specs.Layout.{bytesOf}

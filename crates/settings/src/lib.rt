@@ -10,6 +10,7 @@ use lookup::last_clock;
 use lookup::local_place;
 use lookup::path_notes;
 use lookup::path_place;
+use notes::Note;
 use numbers::CLOCK_LIMIT;
 use numbers::GRACE_LIMIT;
 use numbers::LOCAL_COUNT;
@@ -19,8 +20,6 @@ use numbers::PENALTY_LIMIT;
 use numbers::PORT_COUNT;
 use numbers::TARGET_LIMIT;
 use numbers::refusals;
-use rules::Note;
-use rules::Notes;
 use tables::check;
 use tables::places::OWN_AT;
 use tables::places::TABLE_SIZE;
@@ -34,7 +33,7 @@ use writes::put_port;
 use writes::put_rate;
 ghost use mathlib.Core.Path.{_≡_};
 ghost use lib.ListN.{length};
-ghost use Rattle.rules.specs.Relay.{makeRateSettings, noted as notedAfter};
+ghost use Rattle.rules.specs.Relay.{makeRateSettings};
 ghost use Rattle.rules.specs.Refusals.{rateSettingsOk, clockBad};
 ghost use Rattle.tables.specs.Places.{tableSize};
 ghost use Rattle.tables.specs.Layout.{relayOf};
@@ -148,15 +147,6 @@ fn clock_bad(tables: &[u8], clock: u64) -> bool
     clock < last_clock(tables)
 }
 
-// What is noted of a path after a note of the host's.
-fn noted(notes: Notes, note: Note) -> Notes
-    ensures { λ r. ⌜ r ≡ notedAfter note notes ⌝ }
-{
-    match note {
-        Note::Unresponsive => Notes { marked: true },
-    }
-}
-
 // Notes something of a destination's live path, and sets the last clock.
 pub fn note_path(tables: &mut [u8], note: Note, destination: [u8; 16], clock: u64) -> u8
     ensures { λ r. ⌜ Returns (noteOn (now (tables .entry)) note destination clock) r (now (tables .exit)) ⌝ }
@@ -171,7 +161,7 @@ pub fn note_path(tables: &mut [u8], note: Note, destination: [u8; 16], clock: u6
     if place >= PATH_COUNT {
         return NO_LIVE_PATH;
     }
-    let notes = noted(path_notes(tables, place), note);
+    let notes = notes::noted(path_notes(tables, place), note);
     put_notes(tables, place, notes);
     set_clock(tables, clock);
     refusals::NONE

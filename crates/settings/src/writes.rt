@@ -1,10 +1,10 @@
 // Writes of a port's settings, of the announce rate, of a local address, and of zeros.
+use codes::mark_of;
 use numbers::LONGEST_PACKET;
 use numbers::PORT_COUNT;
 use tables::fields::PORT_MODE_AT;
 use tables::fields::PORT_ON_AT;
 use tables::fields::PORT_SIZE_AT;
-use tables::mark_of;
 use tables::places::GRACE_AT;
 use tables::places::LOCAL_WIDTH;
 use tables::places::LOCALS_AT;

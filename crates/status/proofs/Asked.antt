@@ -6,7 +6,7 @@ use native.Mathlib.Omega.{arith}
 use mathlib.Core.Bool.{Bool, true, false}
 use mathlib.Core.List.{List}
 use mathlib.Core.Path.{_≡_, refl, sym, ap, _∙_}
-use lib.Dec.{eqb, ltb, lit≤}
+use lib.Dec.{eqb, lit≤}
 use lib.ListN.{length, getD, List·getD-eq-default}
 use borrow.Author.Tests.{le-leb, lt-leb}
 use Rattle.octets.specs.Bytes.{Bytes}
@@ -16,7 +16,7 @@ use Rattle.octets.specs.Listed.{firstOf}
 use Rattle.octets.specs.Part.{part}
 use Rattle.octets.specs.BigEndian.{number}
 use Rattle.octets.proofs.Bytes.{part-bytes}
-use Rattle.octets.proofs.Index.{and-left, and-right, all-at}
+use Rattle.octets.proofs.Index.{all-at}
 use Rattle.octets.proofs.Part.{part-length}
 use Rattle.numbers.specs.Numbers.{portCount, localCount, pathCount, linkCount, returnCount, hashCount, live}
 use Rattle.rules.specs.Relay.{Slot, empty, holds}
@@ -30,11 +30,11 @@ use Rattle.tables.specs.Fields.{returnExpiryAt, hashExpiryAt}
 use Rattle.tables.specs.Records.{markOf, slotOf, localOf, pathOf, linkOf, returnOf, hashOf, portBytesOk, pathBytesOk, linkBytesOk}
 use Rattle.tables.specs.Layout.{rateSettingsIn, recordAt, recordsOk, relayOf, wellFormed}
 use Rattle.tables.specs.Asked.{tellOn, toldPathWidth, toldNumber, toldBytes, toldCount, Tells, TellsNumber}
-use Rattle.tables.proofs.Lent.{row-end}
+use Rattle.tables.proofs.Lent.{record-end}
 use Rattle.tables.proofs.Seen.{port-seen, local-seen, locals-length, path-seen, paths-length, link-seen, links-length, return-seen, hash-seen}
 use Rattle.tables.proofs.Whole.{formed, ok-relay}
 use Rattle.lookup.specs.Search.{isUsed, isLive}
-use Rattle.status.specs.Put.{putNumber, putBytes, liveRows}
+use Rattle.status.specs.Put.{putNumber, putBytes, liveRecords}
 use Rattle.status.proofs.Told.{port-bytes, rate-bytes, local-bytes, path-bytes, link-bytes, slot-told}
 
 -- ---- tables that row 7 names
@@ -53,27 +53,27 @@ mark-le false = lit≤ tt
 
 -- ---- how many records of a section are live: as its loop counts, and as the rules do
 module _ (at width expiry clock : ℕ) (t : List ℕ) where
-  pub none-counted : liveRows at width 0 expiry clock t ≡ 0
-  unfolding liveRows countBelow
+  pub none-counted : liveRecords at width 0 expiry clock t ≡ 0
+  unfolding liveRecords countBelow
   none-counted = refl
 
-  one-counted : (i : ℕ) → liveRows at width (i + 1) expiry clock t
-      ≡ liveRows at width i expiry clock t + (isLive expiry clock (recordAt at width t i) then 1 otherwise 0)
-  unfolding liveRows countBelow
+  one-counted : (i : ℕ) → liveRecords at width (i + 1) expiry clock t
+      ≡ liveRecords at width i expiry clock t + (isLive expiry clock (recordAt at width t i) then 1 otherwise 0)
+  unfolding liveRecords countBelow
   one-counted i = rw (add-one i)
 
   -- record i, by what the loop reads of it
-  pub counted-more : (i : ℕ) {b : List ℕ} {alive : Bool} {before mark more : ℕ} → before ≡ liveRows at width i expiry clock t
+  pub counted-more : (i : ℕ) {b : List ℕ} {alive : Bool} {before mark more : ℕ} → before ≡ liveRecords at width i expiry clock t
       → b ≡ recordAt at width t i → alive ≡ isLive expiry clock b → mark ≡ markOf alive → more ≡ mark
-      → before + more ≡ liveRows at width (i + 1) expiry clock t
+      → before + more ≡ liveRecords at width (i + 1) expiry clock t
   unfolding markOf
   counted-more i counted row e marked wide = rw (one-counted i, ← row, ← e, ← counted, wide, marked)
 
-  pub counted-all : {i n before : ℕ} → i ≤ n → n ≤ i → before ≡ liveRows at width i expiry clock t → before ≡ liveRows at width n expiry clock t
-  counted-all l m e = e ∙ ap (λ (k : ℕ). liveRows at width k expiry clock t) (le-antisymm l m)
+  pub counted-all : {i n before : ℕ} → i ≤ n → n ≤ i → before ≡ liveRecords at width i expiry clock t → before ≡ liveRecords at width n expiry clock t
+  counted-all l m e = e ∙ ap (λ (k : ℕ). liveRecords at width k expiry clock t) (le-antisymm l m)
 
-  pub counted-le : (i : ℕ) → liveRows at width i expiry clock t ≤ i
-  unfolding liveRows
+  pub counted-le : (i : ℕ) → liveRecords at width i expiry clock t ≤ i
+  unfolding liveRecords
   counted-le i = count-le (λ k. isLive expiry clock (recordAt at width t k)) i
 
 -- the slot of a record's bytes, of which the rule reads the expiry
@@ -88,8 +88,8 @@ module _ {A : Type 0} (read : List ℕ → A) (alive : A → Bool) (expiry clock
       go false e = rw e (law b)
 
   counted : (at width n : ℕ) (t : List ℕ) (slots : List (Slot A))
-      → ((i : ℕ) → i < n → getD slots i empty ≡ slotOf read (recordAt at width t i)) → liveRows at width n expiry clock t ≡ countOf alive n slots
-  unfolding liveRows countOf
+      → ((i : ℕ) → i < n → getD slots i empty ≡ slotOf read (recordAt at width t i)) → liveRecords at width n expiry clock t ≡ countOf alive n slots
+  unfolding liveRecords countOf
   counted at width n t slots seen =
       count-cong _ _ n (λ i l. slot-live (recordAt at width t i) ∙ ap (holds alive) (sym (seen i l)))
 
@@ -102,7 +102,7 @@ module _ (t : List ℕ) (h : wellFormed t ≡ true) where
 
   record-length : (at width n i : ℕ) → at + width * n ≤ tableSize → i < n → length (recordAt at width t i) ≡ width
   record-length at width n i fits l =
-      part-length t (at + width * i) width (omega (arith, row-end at width n i l, formed t h .size))
+      part-length t (at + width * i) width (omega (arith, record-end at width n i l, formed t h .size))
 
   -- ---- a port
   pub no-port : (port : ℕ) (old : List ℕ) → portCount ≤ port → Tells (tellOn t (port-settings port)) old 255 old
@@ -207,7 +207,7 @@ module _ (t : List ℕ) (h : wellFormed t ≡ true) where
   unfolding questionRefusal questionRule toldNumber toldCount
   clock-told n old e = rw (asked last-clock refl) (refl, e)
 
-  pub returns-told : (clock n old : ℕ) → n ≡ liveRows returnsAt returnWidth returnCount returnExpiryAt clock t
+  pub returns-told : (clock n old : ℕ) → n ≡ liveRecords returnsAt returnWidth returnCount returnExpiryAt clock t
       → TellsNumber (tellOn t (live-returns clock)) old 0 n
   unfolding questionRefusal questionRule toldNumber toldCount returnOf
   returns-told clock n old e =
@@ -218,7 +218,7 @@ module _ (t : List ℕ) (h : wellFormed t ≡ true) where
             (return-seen t),
       )
 
-  pub hashes-told : (clock n old : ℕ) → n ≡ liveRows hashesAt hashWidth hashCount hashExpiryAt clock t
+  pub hashes-told : (clock n old : ℕ) → n ≡ liveRecords hashesAt hashWidth hashCount hashExpiryAt clock t
       → TellsNumber (tellOn t (live-hashes clock)) old 0 n
   unfolding questionRefusal questionRule toldNumber toldCount hashOf
   hashes-told clock n old e =

@@ -17,5 +17,5 @@ putNumber b = isUsed b then 0 otherwise 255
 unfoldable pub putBytes : List ℕ → List ℕ → List ℕ
 putBytes b old = isUsed b then part b 1 (length old) otherwise old
 
-unfoldable pub liveRows : ℕ → ℕ → ℕ → ℕ → ℕ → List ℕ → ℕ
-liveRows at width n expiry clock t = countBelow (λ i. isLive expiry clock (recordAt at width t i)) n
+unfoldable pub liveRecords : ℕ → ℕ → ℕ → ℕ → ℕ → List ℕ → ℕ
+liveRecords at width n expiry clock t = countBelow (λ i. isLive expiry clock (recordAt at width t i)) n

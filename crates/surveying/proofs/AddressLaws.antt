@@ -11,8 +11,9 @@ use borrow.Author.Tests.{ltb-false, le-ltb, lt-leb}
 use Rattle.octets.specs.Index.{first}
 use Rattle.octets.specs.Choice.{_then_otherwise_, _or_, same}
 use Rattle.octets.specs.Listed.{firstOf}
-use Rattle.octets.proofs.Choice.{or-else, or-no-left, or-no-right}
+use Rattle.octets.proofs.Choice.{or-else, or-false, or-no-left, or-no-right}
 use Rattle.octets.proofs.Index.{first-hit, first-before, first-absent}
+use Rattle.numbers.specs.Numbers.{localCount}
 use Rattle.rules.specs.Relay.{Slot, empty, used, Relay, withLocals, holds, lowest, free, lowestFree}
 use Rattle.rules.specs.View.{isLocal, localPlace}
 use Rattle.rules.specs.Refusals.{tablesOk, emptyLocal}
@@ -63,20 +64,15 @@ first-any p none slots n long = go (any p slots) refl
         let absent : first q n ≡ n = first-absent q n (λ j _. any-absent p none slots e j) in
         le-ltb (first q n) n (omega (arith, absent)) ∙ sym e
 
-pub local-any : (r : Relay) → length (r .locals) ≡ 16 → (a : List ℕ) → isLocal r a ≡ any (holds (same a)) (r .locals)
+pub local-any : (r : Relay) → length (r .locals) ≡ localCount → (a : List ℕ) → isLocal r a ≡ any (holds (same a)) (r .locals)
 unfolding isLocal localPlace lowest holds
-local-any r long a = first-any (holds (same a)) refl (r .locals) 16 long
+local-any r long a = first-any (holds (same a)) refl (r .locals) localCount long
 
 -- ---- or
 pub or-assoc : (a b c : Bool) → ((a or b) or c) ≡ (a or (b or c))
 unfolding _or_
 or-assoc true b c = refl
 or-assoc false b c = refl
-
-pub or-false : (a : Bool) → (a or false) ≡ a
-unfolding _or_
-or-false true = refl
-or-false false = refl
 
 pub any-append : (p : Slot (List ℕ) → Bool) (xs ys : List (Slot (List ℕ))) → any p (xs ++ ys) ≡ (any p xs or any p ys)
 unfolding any _or_
@@ -90,23 +86,23 @@ any-empty p none (suc n) = or-else (any p (replicate n empty)) none ∙ any-empt
 
 -- ---- a table whose first places are used
 unfoldable pub packed : List (List ℕ) → List (Slot (List ℕ))
-packed d = map used d ++ replicate (16 - length d) empty
+packed d = map used d ++ replicate (localCount - length d) empty
 
 map-length : (d : List (List ℕ)) → length (map {B = Slot (List ℕ)} used d) ≡ length d
 map-length [] = refl
 map-length (x ∷ d) = ap suc (map-length d)
 
-pub packed-length : (d : List (List ℕ)) → length d ≤ 16 → length (packed d) ≡ 16
+pub packed-length : (d : List (List ℕ)) → length d ≤ localCount → length (packed d) ≡ localCount
 unfolding packed
 packed-length d l =
-    omega
-    (arith, length-append (map used d) (replicate (16 - length d) empty), map-length d, length-replicate {A = Slot (List ℕ)} (16 - length d) empty)
+    let rest : ℕ = localCount - length d in
+    omega (arith, length-append (map used d) (replicate rest empty), map-length d, length-replicate {A = Slot (List ℕ)} rest empty)
 
 pub packed-any : (a : List ℕ) (d : List (List ℕ)) → any (holds (same a)) (packed d) ≡ any (holds (same a)) (map used d)
 unfolding packed holds
 packed-any a d =
-    any-append (holds (same a)) (map used d) (replicate (16 - length d) empty)
-    ∙ ap (λ (b : Bool). any (holds (same a)) (map used d) or b) (any-empty (holds (same a)) refl (16 - length d))
+    any-append (holds (same a)) (map used d) (replicate (localCount - length d) empty)
+    ∙ ap (λ (b : Bool). any (holds (same a)) (map used d) or b) (any-empty (holds (same a)) refl (localCount - length d))
     ∙ or-false _
 
 packed-used : (d : List (List ℕ)) (ys : List (Slot (List ℕ))) (j : ℕ) → j < length d → getD (map used d ++ ys) j empty ≡ used (getD d j [])
@@ -122,16 +118,15 @@ no-slot : (n : ℕ) → getD (replicate {A = Slot (List ℕ)} n empty) 0 empty �
 no-slot zero = refl
 no-slot (suc n) = refl
 
-packed-set : (d : List (List ℕ)) (x : List ℕ) → length d < 16 → set (packed d) (length d) (used x) ≡ packed (d ++ (x ∷ []))
+packed-set : (d : List (List ℕ)) (x : List ℕ) → length d < localCount → set (packed d) (length d) (used x) ≡ packed (d ++ (x ∷ []))
 unfolding packed
 packed-set d x l =
-    let rest : ℕ = 15 - length d in
-    let one : 16 - length d ≡ suc rest = omega arith in
-    let left : rest ≡ 16 - length (d ++ (x ∷ [])) = omega (arith, length-append d (x ∷ [])) in
+    let rest : ℕ = localCount - length (d ++ (x ∷ [])) in
+    let one : localCount - length d ≡ suc rest = omega (arith, length-append d (x ∷ [])) in
     ap (λ (n : ℕ). set (map used d ++ replicate n empty) (length d) (used x)) one
     ∙ set-at (map used d) empty (replicate rest empty) (used x) (length d) (map-length d)
     ∙ sym (append-assoc (map used d) (used x ∷ []) (replicate rest empty))
-    ∙ ap₂ (λ (s : List (Slot (List ℕ))) (n : ℕ). s ++ replicate n empty) (sym (map-append used d (x ∷ []))) left
+    ∙ ap (λ (s : List (Slot (List ℕ))). s ++ replicate rest empty) (sym (map-append used d (x ∷ [])))
 
 -- ---- adding an address
 module _ (s : Relay) (ok : tablesOk s ≡ true) (x : List ℕ) where
@@ -139,23 +134,23 @@ module _ (s : Relay) (ok : tablesOk s ≡ true) (x : List ℕ) where
   unfolding settle settled tableRefusal ruleOf firstOf _then_otherwise_
   known-address e = rw (ok, e)
 
-  module _ (d : List (List ℕ)) (is : s .locals ≡ packed d) (l : length d < 16) where
+  module _ (d : List (List ℕ)) (is : s .locals ≡ packed d) (l : length d < localCount) where
     next-place : emptyLocal s ≡ length d
     unfolding emptyLocal lowestFree free holds packed
     next-place =
         let q : ℕ → Bool = λ i. not (holds (λ a. true) (getD (s .locals) i empty)) in
-        let at : (i : ℕ) → getD (s .locals) i empty ≡ getD (map used d ++ replicate (16 - length d) empty) i empty =
+        let at : (i : ℕ) → getD (s .locals) i empty ≡ getD (map used d ++ replicate (localCount - length d) empty) i empty =
         λ i. ap (λ (slots : List (Slot (List ℕ))). getD slots i empty) is in
         let before : (j : ℕ) → j < length d → q j ≡ false =
         λ j m. ap (λ (v : Slot (List ℕ)). not (holds (λ a. true) v)) (at j ∙ packed-used d _ j m) in
         let here : q (length d) ≡ true =
-        ap (λ (v : Slot (List ℕ)). not (holds (λ a. true) v)) (at (length d) ∙ packed-next d _ ∙ no-slot (16 - length d)) in
-        first-hit q (length d) 16 (first-absent q (length d) before) here l
+        ap (λ (v : Slot (List ℕ)). not (holds (λ a. true) v)) (at (length d) ∙ packed-next d _ ∙ no-slot (localCount - length d)) in
+        first-hit q (length d) localCount (first-absent q (length d) before) here l
 
     pub new-address : isLocal s x ≡ false → settle (adds x) s .relay ≡ withLocals (packed (d ++ (x ∷ []))) s
     unfolding settle settled tableRefusal ruleOf firstOf _then_otherwise_
     new-address e =
-        let room = lt-leb 16 (emptyLocal s) (omega (arith, next-place)) in
+        let room = lt-leb localCount (emptyLocal s) (omega (arith, next-place)) in
         rw (ok, e, room)
         (ap (λ (slots : List (Slot (List ℕ))). withLocals slots s)
         (ap₂ (λ (v : List (Slot (List ℕ))) (k : ℕ). set v k (used x)) is next-place ∙ packed-set d x l))

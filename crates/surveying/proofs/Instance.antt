@@ -1,11 +1,11 @@
 -- The theorems on numbers, recordings and a relay: a fraction; seventeen recordings of which one is refused; a start by a relay that knows a path.
-use Prim.Native.Nat.{ℕ, _≤_, _∣_}
+use Prim.Native.Nat.{ℕ, _-_, _≤_, _∣_}
 use mathlib.Core.Bool.{true}
 use mathlib.Core.List.{List, [], _∷_, _++_}
 use mathlib.Core.Path.{_≡_, refl, _∙_}
 use native.Mathlib.Omega.{arith}
 use lib.Dec.{lit≤}
-use lib.ListN.{length, getD, set, replicate}
+use lib.ListN.{getD, set, replicate}
 use Rattle.octets.specs.Index.{_and_, allBelow}
 use Rattle.octets.specs.Choice.{_then_otherwise_, _or_}
 use Rattle.octets.specs.Listed.{firstOf}
@@ -13,20 +13,22 @@ use Rattle.octets.specs.Part.{part, joined}
 use Rattle.octets.specs.BigEndian.{numberFrom, number}
 use Rattle.text.specs.Numerals.{numeralWithin, numeral}
 use Rattle.text.specs.Words.{spaced, wordsLine}
+use Rattle.numbers.specs.Numbers.{pathCount, localCount}
 use Rattle.rules.specs.Relay.{noPort, empty, used, Relay, withLocals}
 use Rattle.rules.specs.View.{isLocal}
 use Rattle.rules.specs.Refusals.{tablesOk}
 use Rattle.rules.proofs.Unfolding.{rules}
 use Rattle.rules.proofs.Outcomes.{relayOf as relayAt, knownPath}
+use Rattle.tables.specs.Places.{addressWidth}
 use Rattle.tables.specs.Layout.{relayOf}
-use Rattle.tables.specs.Shape.{isByte, isBytes, pathShaped, shaped}
+use Rattle.tables.specs.Shape.{isByte, isBytes, notesShaped, pathShaped, shaped}
 use Rattle.recording.specs.Shape.{kindOf, editionOf, countOf, sumBelow, runningPlace, offsetsRight, endRight}
 use Rattle.recording.specs.Reader.{lengthWrong, kindWrong, placesWrong, wordsWrong, fileRows, fileRefusal}
 use Rattle.surveying.specs.Counts.{Answered}
 use Rattle.surveying.specs.Fraction.{greatestUpTo, dividesBoth, greatestCommonDivisor, lowestTerms, share}
 use Rattle.surveying.specs.Start.{startOf, StartsAs}
 use Rattle.surveying.specs.Lines.{recordingLine}
-use Rattle.surveying.specs.Survey.{readOf, total, refusedLines, lastLine, survey}
+use Rattle.surveying.specs.Survey.{recordingLimit, readOf, total, refusedLines, lastLine, survey}
 use Rattle.surveying.proofs.FractionLaws.{lowest-terms}
 use Rattle.surveying.proofs.RefusedLaws.{refused-adds-nothing, late-unread}
 use Rattle.surveying.proofs.Started.{starts-as}
@@ -62,7 +64,7 @@ unfolding fileRefusal fileRows lengthWrong kindWrong placesWrong wordsWrong kind
 other-refused = refl
 
 abbrev sixteen : List (List ℕ)
-sixteen = quiet ∷ other ∷ replicate 14 quiet
+sixteen = quiet ∷ other ∷ replicate (recordingLimit - 2) quiet
 
 -- `recording 2 refused 21`, `recording 17 refused 29`: the 17th, of kind 2 too, is not read
 pub told : refusedLines 1 (readOf (sixteen ++ (other ∷ []))) ++ lastLine (sixteen ++ (other ∷ [])) ≡ recordingLine 2 21 ++ recordingLine 17 29
@@ -79,13 +81,13 @@ nothing-added quantity start =
 
 -- ---- a relay of two ports that holds a path at clock 2,000, and a local address in its fourth place
 abbrev guest : List ℕ
-guest = replicate 16 0x0b
+guest = replicate addressWidth 0x0b
 
 abbrev site : Relay
-site = withLocals (set (replicate 16 empty) 3 (used guest)) (relayAt 2000 (used knownPath ∷ []) [] [] [])
+site = withLocals (set (replicate localCount empty) 3 (used guest)) (relayAt 2000 (used knownPath ∷ []) [] [] [])
 
 site-shaped : shaped site ≡ true
-unfolding rules shaped isBytes isByte pathShaped
+unfolding rules shaped isBytes isByte pathShaped notesShaped
 site-shaped = refl
 
 site-ok : tablesOk site ≡ true
@@ -106,7 +108,7 @@ site-clock = refl
 pub start-clock : start .clock ≡ 0
 start-clock = starts .clock
 
-pub start-paths : start .paths ≡ replicate 64 empty
+pub start-paths : start .paths ≡ replicate pathCount empty
 unfolding rules
 start-paths = starts .paths
 

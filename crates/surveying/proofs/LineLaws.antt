@@ -15,30 +15,48 @@ use Rattle.surveying.specs.Words.{surveyWord, settingsWord, recordingWor
 use Rattle.surveying.specs.Lines.{fractionWord}
 use Rattle.surveying.specs.declared.Fraction.{Fraction}
 
--- a number of 64 bits has at most twenty digits
-digits : (n : ℕ) → n < 2 ^ 64 → length (decimal n) ≤ 20
-digits n few = numeral-most 10 (lit≤ tt) 20 n (lit≤ tt) (omega (arith, few))
+-- a number of 64 bits has at most so many digits
+abbrev mostDigits : ℕ
+mostDigits = 20
+
+digits : (n : ℕ) → n < 2 ^ 64 → length (decimal n) ≤ mostDigits
+digits n few = numeral-most 10 (lit≤ tt) mostDigits n (lit≤ tt) (omega (arith, few))
 
 -- a line of one word
 pub heading-made : appended (appended (textOf []) surveyWord) (newline ∷ []) ≡ textOf (wordsLine (surveyWord ∷ []))
 heading-made =
     ap (λ (words : _). appended words (newline ∷ [])) (sym (appended-none _) ∙ ap (appended (appended (textOf []) surveyWord)) (sym spaced-nil))
-    ∙ line-appended surveyWord [] (omega (arith, line-most surveyWord [] (6 ∷ []) (lit≤ tt, tt)))
+    ∙ line-appended surveyWord [] (omega (arith, line-most surveyWord [] (length surveyWord ∷ []) (lit≤ tt, tt)))
 
 pub settings-fit : (n : ℕ) → n < 2 ^ 64 → length (wordsLine (settingsWord ∷ refusedWord ∷ decimal n ∷ [])) ≤ textSize
 settings-fit n few =
-    omega (arith, line-most settingsWord (refusedWord ∷ decimal n ∷ []) (8 ∷ 7 ∷ 20 ∷ []) (lit≤ tt, (lit≤ tt, (digits n few, tt))))
+    omega (
+      arith,
+      line-most settingsWord (refusedWord ∷ decimal n ∷ []) (length settingsWord ∷ length refusedWord ∷ mostDigits ∷ [])
+          (lit≤ tt, (lit≤ tt, (digits n few, tt))),
+    )
 
 pub recording-fit : (n k : ℕ) → n < 2 ^ 64 → k < 2 ^ 64 → length (wordsLine (recordingWord ∷ decimal n ∷ refusedWord ∷ decimal k ∷ [])) ≤ textSize
 recording-fit n k few less =
-    omega
-    (arith, line-most recordingWord (decimal n ∷ refusedWord ∷ decimal k ∷ []) (9 ∷ 20 ∷ 7 ∷ 20 ∷ []) (lit≤ tt, (digits n few, (lit≤ tt, (digits k less, tt)))))
+    omega (
+      arith,
+      line-most recordingWord (decimal n ∷ refusedWord ∷ decimal k ∷ [])
+          (length recordingWord ∷ mostDigits ∷ length refusedWord ∷ mostDigits ∷ []) (lit≤ tt, (digits n few, (lit≤ tt, (digits k less, tt)))),
+    )
 
 pub reason-fit : (test drops : ℕ) → test < 2 ^ 64 → drops < 2 ^ 64 → length (wordsLine (reasonWord ∷ decimal test ∷ decimal drops ∷ [])) ≤ textSize
 reason-fit test drops few less =
-    omega (arith, line-most reasonWord (decimal test ∷ decimal drops ∷ []) (6 ∷ 20 ∷ 20 ∷ []) (lit≤ tt, (digits test few, (digits drops less, tt))))
+    omega (
+      arith,
+      line-most reasonWord (decimal test ∷ decimal drops ∷ []) (length reasonWord ∷ mostDigits ∷ mostDigits ∷ [])
+          (lit≤ tt, (digits test few, (digits drops less, tt))),
+    )
 
-fraction-most : (f : Fraction) → f .above < 2 ^ 64 → f .below < 2 ^ 64 → length (fractionWord f) ≤ 41
+-- and a fraction of two, with its stroke, at most so many characters
+abbrev mostFraction : ℕ
+mostFraction = mostDigits + 1 + mostDigits
+
+fraction-most : (f : Fraction) → f .above < 2 ^ 64 → f .below < 2 ^ 64 → length (fractionWord f) ≤ mostFraction
 unfolding fractionWord
 fraction-most f a b =
     omega (arith, length-append (decimal (f .above)) (stroke ∷ decimal (f .below)), digits (f .above) a, digits (f .below) b)
@@ -54,7 +72,8 @@ port-fit port packets received sent f h1 h2 h3 h4 a b =
       arith,
       line-most portWord
           (decimal port ∷ packetsWord ∷ decimal packets ∷ inWord ∷ decimal received ∷ outWord ∷ decimal sent ∷ droppedWord ∷ fractionWord f ∷ [])
-          (4 ∷ 20 ∷ 7 ∷ 20 ∷ 2 ∷ 20 ∷ 3 ∷ 20 ∷ 7 ∷ 41 ∷ []) (
+          (length portWord ∷ mostDigits ∷ length packetsWord ∷ mostDigits ∷ length inWord ∷ mostDigits ∷ length outWord ∷ mostDigits ∷ length droppedWord ∷
+          mostFraction ∷ []) (
             lit≤ tt,
             (
               digits port h1,

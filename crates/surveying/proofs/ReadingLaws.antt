@@ -15,8 +15,8 @@ use Rattle.octets.proofs.Choice.{then-true, then-false}
 use Rattle.octets.proofs.ListOf.{listOf-cong}
 use Rattle.recording.specs.Reader.{fileRefusal}
 use Rattle.surveying.specs.Counts.{Answered, sumOver}
-use Rattle.surveying.specs.Survey.{readOf, answersFrom, total}
-use Rattle.surveying.specs.Promise.{counterCount, countedAt, addAll, noted, SurveyOn, readOn, recordingOn, recordingsOn}
+use Rattle.surveying.specs.Survey.{recordingLimit, lateNumber, oneTooMany, readOf, answersFrom, total}
+use Rattle.surveying.specs.Promise.{counterCount, countedAt, addAll, refusalCount, noted, SurveyOn, readOn, recordingOn, recordingsOn}
 use Rattle.surveying.proofs.CountLaws.{add-append, exact}
 use Rattle.surveying.proofs.ReplayLaws.{too-many, is-read}
 use Rattle.surveying.proofs.BoundLaws.{files-small}
@@ -46,19 +46,19 @@ sum-answers q start (f ∷ files) =
     sum-append q (answersFrom start f) (answersOf start files) ∙ ap (λ (n : ℕ). sumOver q (answersFrom start f) + n) (sum-answers q start files)
 
 -- ---- what is read
-pub read-few : (files : List (List ℕ)) → length files ≤ 16 → readOf files ≡ files
+pub read-few : (files : List (List ℕ)) → length files ≤ recordingLimit → readOf files ≡ files
 unfolding readOf
-read-few files l = take-all 16 files l
+read-few files l = take-all recordingLimit files l
 
-read-many : (files : List (List ℕ)) (f : List ℕ) → 16 ≤ length files → readOf (files ++ (f ∷ [])) ≡ readOf files
+read-many : (files : List (List ℕ)) (f : List ℕ) → recordingLimit ≤ length files → readOf (files ++ (f ∷ [])) ≡ readOf files
 unfolding readOf
-read-many files f l = take-append-le 16 files (f ∷ []) l
+read-many files f l = take-append-le recordingLimit files (f ∷ []) l
 
-pub read-length : (files : List (List ℕ)) → length (readOf files) ≤ 16
+pub read-length : (files : List (List ℕ)) → length (readOf files) ≤ recordingLimit
 unfolding readOf
 read-length files = simp length-take (omega arith)
 
-read-full : (files : List (List ℕ)) → 16 ≤ length files → length (readOf files) ≡ 16
+read-full : (files : List (List ℕ)) → recordingLimit ≤ length files → length (readOf files) ≡ recordingLimit
 unfolding readOf
 read-full files l = simp length-take (omega arith)
 
@@ -66,15 +66,15 @@ read-full files l = simp length-take (omega arith)
 pub record Reading (start : List ℕ) (files : List (List ℕ)) (s : SurveyOn) : Type 0 where
   pub begins : s .start ≡ start
   pub counts : s .counts ≡ addAll (replicate counterCount 0) (answersOf start (readOf files))
-  pub long : length (s .refusals) ≡ 18
+  pub long : length (s .refusals) ≡ refusalCount
   pub read : getD (s .refusals) 0 0 ≡ length (readOf files)
   pub each : (i : ℕ) → i < length (readOf files) → getD (s .refusals) (i + 1) 0 ≡ fileRefusal (getD (readOf files) i [])
-  pub none : (i : ℕ) → length (readOf files) < i → i < 17 → getD (s .refusals) i 0 ≡ 0
-  pub last : getD (s .refusals) 17 0 ≡ (ltb 16 (length files) then 29 otherwise 0)
+  pub none : (i : ℕ) → length (readOf files) < i → i < lateNumber → getD (s .refusals) i 0 ≡ 0
+  pub last : getD (s .refusals) lateNumber 0 ≡ (ltb recordingLimit (length files) then oneTooMany otherwise 0)
 
 -- at the start none was read
 pub none-read : (start work : List ℕ) → Reading start []
-    (record { refusal = 0; start = start; work = work; counts = replicate counterCount 0; refusals = replicate 18 0 })
+    (record { refusal = 0; start = start; work = work; counts = replicate counterCount 0; refusals = replicate refusalCount 0 })
 unfolding readOf answersOf addAll _then_otherwise_
 none-read start work =
     record {
@@ -83,18 +83,18 @@ none-read start work =
       long = refl;
       read = refl;
       each = λ i l. absurd (omega (arith, l));
-      none = λ i _ l. getD-replicate 18 i 0 0 (omega (arith, l));
+      none = λ i _ l. getD-replicate refusalCount i 0 0 (omega (arith, l));
       last = refl;
     }
 
 -- ---- one recording more
 -- the refusals with one more noted, place by place
-module _ (r : List ℕ) (n k : ℕ) (is : getD r 0 0 ≡ n) (long : length r ≡ 18) (l : n < 16) where
+module _ (r : List ℕ) (n k : ℕ) (is : getD r 0 0 ≡ n) (long : length r ≡ refusalCount) (l : n < recordingLimit) where
   noted-is : noted r k ≡ set (set r (n + 1) k) 0 (n + 1)
   unfolding noted
   noted-is = ap (λ (m : ℕ). set (set r (m + 1) k) 0 (m + 1)) is
 
-  noted-long : length (noted r k) ≡ 18
+  noted-long : length (noted r k) ≡ refusalCount
   noted-long = ap length noted-is ∙ length-set (set r (n + 1) k) 0 (n + 1) ∙ length-set r (n + 1) k ∙ long
 
   noted-read : getD (noted r k) 0 0 ≡ n + 1
@@ -116,7 +116,7 @@ module _ (start : List ℕ) (files : List (List ℕ)) (s : SurveyOn) (f : List �
   next = recordingOn f (s .start) (s .work) (s .counts) (s .refusals)
 
   -- while fewer than sixteen were read
-  module _ (l : length files < 16) where
+  module _ (l : length files < recordingLimit) where
     whole : readOf files ≡ files
     whole = read-few files (omega arith)
 
@@ -184,24 +184,24 @@ module _ (start : List ℕ) (files : List (List ℕ)) (s : SurveyOn) (f : List �
               ∙ noted-other (s .refusals) (length files) (fileRefusal f) n-read (h .long) l i (omega (arith, m)) (λ q. omega (arith, q, m, grown))
               ∙ h .none i (omega (arith, m, grown, ap length whole)) k;
           last =
-              at 17
-              ∙ noted-other (s .refusals) (length files) (fileRefusal f) n-read (h .long) l 17 (lit≤ tt) (λ q. omega (arith, q))
+              at lateNumber
+              ∙ noted-other (s .refusals) (length files) (fileRefusal f) n-read (h .long) l lateNumber (lit≤ tt) (λ q. omega (arith, q))
               ∙ h .last
-              ∙ then-false _ _ (le-ltb 16 (length files) (omega arith))
-              ∙ sym (then-false _ _ (le-ltb 16 (length (files ++ (f ∷ []))) (omega (arith, length-append files (f ∷ [])))));
+              ∙ then-false _ _ (le-ltb recordingLimit (length files) (omega arith))
+              ∙ sym (then-false _ _ (le-ltb recordingLimit (length (files ++ (f ∷ []))) (omega (arith, length-append files (f ∷ [])))));
         }
 
   -- and once sixteen were: 29
-  module _ (l : 16 ≤ length files) where
+  module _ (l : recordingLimit ≤ length files) where
     is-late : next
-        ≡ record { refusal = 29; start = s .start; work = s .work; counts = s .counts; refusals = set (s .refusals) 17 29 }
+        ≡ record { refusal = oneTooMany; start = s .start; work = s .work; counts = s .counts; refusals = set (s .refusals) lateNumber oneTooMany }
     is-late = too-many f (s .start) (s .work) (s .counts) (s .refusals) (omega (arith, h .read, read-full files l))
 
     same-read : readOf (files ++ (f ∷ [])) ≡ readOf files
     same-read = read-many files f l
 
-    late-at : (i : ℕ) → (i ≡ 17 → ⊥) → getD (next .refusals) i 0 ≡ getD (s .refusals) i 0
-    late-at i other = ap (λ (x : SurveyOn). getD (x .refusals) i 0) is-late ∙ getD-set-other (s .refusals) 17 i 29 0 other
+    late-at : (i : ℕ) → (i ≡ lateNumber → ⊥) → getD (next .refusals) i 0 ≡ getD (s .refusals) i 0
+    late-at i other = ap (λ (x : SurveyOn). getD (x .refusals) i 0) is-late ∙ getD-set-other (s .refusals) lateNumber i oneTooMany 0 other
 
     pub reading-many : Reading start (files ++ (f ∷ [])) next
     reading-many =
@@ -211,7 +211,7 @@ module _ (start : List ℕ) (files : List (List ℕ)) (s : SurveyOn) (f : List �
               ap (λ (x : SurveyOn). x .counts) is-late
               ∙ h .counts
               ∙ ap (λ (fs : List (List ℕ)). addAll (replicate counterCount 0) (answersOf start fs)) (sym same-read);
-          long = ap (λ (x : SurveyOn). length (x .refusals)) is-late ∙ length-set (s .refusals) 17 29 ∙ h .long;
+          long = ap (λ (x : SurveyOn). length (x .refusals)) is-late ∙ length-set (s .refusals) lateNumber oneTooMany ∙ h .long;
           read = late-at 0 (λ q. omega (arith, q)) ∙ h .read ∙ ap length (sym same-read);
           each = λ i m.
               late-at (i + 1) (λ q. omega (arith, q, m, ap length same-read, read-length files))
@@ -219,17 +219,17 @@ module _ (start : List ℕ) (files : List (List ℕ)) (s : SurveyOn) (f : List �
               ∙ ap (λ (fs : List (List ℕ)). fileRefusal (getD fs i [])) (sym same-read);
           none = λ i m k. late-at i (λ q. omega (arith, q, k)) ∙ h .none i (omega (arith, m, ap length same-read)) k;
           last =
-              ap (λ (x : SurveyOn). getD (x .refusals) 17 0) is-late
-              ∙ getD-set-same (s .refusals) 17 29 0 (omega (arith, h .long))
-              ∙ sym (then-true _ _ (lt-ltb 16 (length (files ++ (f ∷ []))) (omega (arith, length-append files (f ∷ [])))));
+              ap (λ (x : SurveyOn). getD (x .refusals) lateNumber 0) is-late
+              ∙ getD-set-same (s .refusals) lateNumber oneTooMany 0 (omega (arith, h .long))
+              ∙ sym (then-true _ _ (lt-ltb recordingLimit (length (files ++ (f ∷ []))) (omega (arith, length-append files (f ∷ [])))));
         }
 
   pub reading-more : Reading start (files ++ (f ∷ [])) next
-  reading-more = go (ltb (length files) 16) refl
+  reading-more = go (ltb (length files) recordingLimit) refl
     where
-      go : (b : Bool) → ltb (length files) 16 ≡ b → Reading start (files ++ (f ∷ [])) next
-      go true e = reading-few (ltb-true (length files) 16 e)
-      go false e = reading-many (ltb-false (length files) 16 e)
+      go : (b : Bool) → ltb (length files) recordingLimit ≡ b → Reading start (files ++ (f ∷ [])) next
+      go true e = reading-few (ltb-true (length files) recordingLimit e)
+      go false e = reading-many (ltb-false (length files) recordingLimit e)
 
 -- ---- any recordings
 pub reading-all : (start : List ℕ) (more files : List (List ℕ)) (s : SurveyOn) → Reading start files s → Reading start (files ++ more) (recordingsOn more s)

@@ -16,7 +16,7 @@ use Rattle.saved.specs.Load.{loadRefusal, heldIn}
 use Rattle.surveying.specs.Counts.{Answered, packetsOn, bytesInOn, bytesOutBy, droppedOn, droppedBy, sumOver}
 use Rattle.surveying.specs.Start.{startOf}
 use Rattle.surveying.specs.Lines.{settingsLine, recordingLine, reasonLine}
-use Rattle.surveying.specs.Survey.{readOf, answersFrom, total, lastLine, portTotals, testTotal, surveyText, survey}
+use Rattle.surveying.specs.Survey.{recordingLimit, lateNumber, oneTooMany, readOf, answersFrom, total, lastLine, portTotals, testTotal, surveyText, survey}
 use Rattle.surveying.proofs.ReplayLaws.{refused-answers}
 use Rattle.surveying.proofs.ReadingLaws.{read-few}
 
@@ -31,7 +31,7 @@ module _ (quantity : Answered → ℕ) (start : List ℕ) where
   unfolding sumOver
   refused-none f some = ap (sumOver quantity) (refused-answers f start some)
 
-  pub refused-adds-nothing : (xs ys : List (List ℕ)) (f : List ℕ) → (fileRefusal f ≡ 0 → ⊥) → length xs + length ys < 16
+  pub refused-adds-nothing : (xs ys : List (List ℕ)) (f : List ℕ) → (fileRefusal f ≡ 0 → ⊥) → length xs + length ys < recordingLimit
       → total quantity start (xs ++ (f ∷ ys)) ≡ total quantity start (xs ++ ys)
   unfolding total
   refused-adds-nothing xs ys f some few =
@@ -41,15 +41,15 @@ module _ (quantity : Answered → ℕ) (start : List ℕ) where
       ∙ ap (sumOver each) (sym (read-few (xs ++ ys) (omega (arith, length-append xs ys))))
 
 -- ---- "a 17th recording, told as `recording 17 refused 29`, which ends the reading with the first sixteen reported"
-module _ (files : List (List ℕ)) (sixteen : length files ≡ 16) where
+module _ (files : List (List ℕ)) (full : length files ≡ recordingLimit) where
   module _ (f : List ℕ) (more : List (List ℕ)) where
     pub late-read : readOf (files ++ (f ∷ more)) ≡ files
     unfolding readOf
-    late-read = take-append-le 16 files (f ∷ more) (omega (arith, sixteen)) ∙ take-all 16 files (omega (arith, sixteen))
+    late-read = take-append-le recordingLimit files (f ∷ more) (omega (arith, full)) ∙ take-all recordingLimit files (omega (arith, full))
 
-    pub late-line : lastLine (files ++ (f ∷ more)) ≡ recordingLine 17 29
+    pub late-line : lastLine (files ++ (f ∷ more)) ≡ recordingLine lateNumber oneTooMany
     unfolding lastLine
-    late-line = then-true _ _ (lt-ltb 16 (length (files ++ (f ∷ more))) (omega (arith, length-append files (f ∷ more), sixteen)))
+    late-line = then-true _ _ (lt-ltb recordingLimit (length (files ++ (f ∷ more))) (omega (arith, length-append files (f ∷ more), full)))
 
 -- so neither what it holds nor what comes after it is in the text
 module _ (fs gs : List (List ℕ)) (read : readOf fs ≡ readOf gs) (last : lastLine fs ≡ lastLine gs) (start : List ℕ) where
@@ -69,10 +69,10 @@ module _ (fs gs : List (List ℕ)) (read : readOf fs ≡ readOf gs) (last : last
   unfolding surveyText
   same-text = rw (read, last, fun-ext same-port, fun-ext same-test)
 
-pub late-unread : (settings f g : List ℕ) (files more others : List (List ℕ)) → length files ≡ 16
+pub late-unread : (settings f g : List ℕ) (files more others : List (List ℕ)) → length files ≡ recordingLimit
     → survey settings (files ++ (f ∷ more)) ≡ survey settings (files ++ (g ∷ others))
 unfolding survey
-late-unread settings f g files more others sixteen =
+late-unread settings f g files more others full =
     ap (λ (text : List ℕ). eqb (loadRefusal settings tableSize) 0 then text otherwise settingsLine (loadRefusal settings tableSize))
-    (same-text (files ++ (f ∷ more)) (files ++ (g ∷ others)) (late-read files sixteen f more ∙ sym (late-read files sixteen g others))
-    (late-line files sixteen f more ∙ sym (late-line files sixteen g others)) (startOf (heldIn settings .0)))
+    (same-text (files ++ (f ∷ more)) (files ++ (g ∷ others)) (late-read files full f more ∙ sym (late-read files full g others))
+    (late-line files full f more ∙ sym (late-line files full g others)) (startOf (heldIn settings .0)))

@@ -21,7 +21,7 @@ use Rattle.recording.specs.declared.Fields.{Fields}
 use Rattle.replaying.specs.Promise.{StepOn, stepOn, ReplayOn, replayOn, oneMore, stepsOn}
 use Rattle.replaying.proofs.Replay.{steps-replay, replay-refused}
 use Rattle.surveying.specs.Counts.{Answered, answeredAs, answered}
-use Rattle.surveying.specs.Survey.{answersFrom}
+use Rattle.surveying.specs.Survey.{recordingLimit, lateNumber, oneTooMany, answersFrom}
 use Rattle.surveying.specs.Promise.{addOne, addAll, noted, readOn, recordingOn}
 use Rattle.surveying.proofs.CountLaws.{add-last}
 
@@ -110,14 +110,14 @@ module _ (f start : List ℕ) where
 
 -- ---- the cases of a recording: one too many, refused, read
 module _ (f start work counts refusals : List ℕ) where
-  pub too-many : 16 ≤ getD refusals 0 0 → recordingOn f start work counts refusals
-      ≡ record { refusal = 29; start = start; work = work; counts = counts; refusals = set refusals 17 29 }
+  pub too-many : recordingLimit ≤ getD refusals 0 0 → recordingOn f start work counts refusals
+      ≡ record { refusal = oneTooMany; start = start; work = work; counts = counts; refusals = set refusals lateNumber oneTooMany }
   unfolding recordingOn
-  too-many l = then-true _ _ (le-leb 16 (getD refusals 0 0) l)
+  too-many l = then-true _ _ (le-leb recordingLimit (getD refusals 0 0) l)
 
-  pub is-read : getD refusals 0 0 < 16 → recordingOn f start work counts refusals ≡ readOn f start work counts refusals
+  pub is-read : getD refusals 0 0 < recordingLimit → recordingOn f start work counts refusals ≡ readOn f start work counts refusals
   unfolding recordingOn
-  is-read l = then-false _ _ (lt-leb 16 (getD refusals 0 0) l)
+  is-read l = then-false _ _ (lt-leb recordingLimit (getD refusals 0 0) l)
 
   pub read-refused : (fileRefusal f ≡ 0 → ⊥) → readOn f start work counts refusals
       ≡ record { refusal = fileRefusal f; start = start; work = work; counts = counts; refusals = noted refusals (fileRefusal f) }

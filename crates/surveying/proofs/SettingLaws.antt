@@ -1,5 +1,5 @@
 -- Setting a relay as another is set: the calls one after another, and what each is told.
-use Prim.Native.Nat.{ℕ, _+_, _^_, _≤_, _<_}
+use Prim.Native.Nat.{ℕ, _+_, _*_, _^_, _≤_, _<_}
 use native.Mathlib.Numerals.{add-one}
 use native.Mathlib.Omega.{arith}
 use mathlib.Core.Bool.{Bool, true, false}
@@ -17,7 +17,7 @@ use Rattle.octets.proofs.Index.{and-left, and-right}
 use Rattle.octets.proofs.Choice.{then-true, then-false}
 use Rattle.octets.proofs.Part.{part-mid}
 use Rattle.octets.proofs.BigEndian.{bigEndian-length, number-bigEndian}
-use Rattle.numbers.specs.Numbers.{portCount, isSize}
+use Rattle.numbers.specs.Numbers.{longestPacket, isSize, portCount, targetLimit, graceLimit, penaltyLimit}
 use Rattle.rules.specs.Relay.{Port, noPort, Slot, empty, used, Relay}
 use Rattle.rules.specs.Refusals.{portOk, rateSettingsOk, tablesOk}
 use Rattle.rules.specs.Calls.{TableCall, sets-port, sets-rate, adds}
@@ -25,6 +25,7 @@ use Rattle.rules.specs.Questions.{port-settings, rate-settings, local-at, Told,
 use Rattle.rules.specs.declared.RateSettings.{RateSettings}
 use Rattle.rules.proofs.Accepted.{no-port-ok}
 use Rattle.rules.proofs.Tables.{table-getD}
+use Rattle.tables.specs.Places.{settingWidth, sizeWidth}
 use Rattle.tables.specs.Records.{markOf}
 use Rattle.tables.specs.Layout.{relayOf, wellFormed}
 use Rattle.tables.specs.Called.{callOn}
@@ -32,7 +33,7 @@ use Rattle.tables.specs.Asked.{tellOn, toldNumber, toldBytes, Tells}
 use Rattle.tables.proofs.Whole.{ok-relay}
 use Rattle.status.proofs.Asked.{asked}
 use Rattle.surveying.specs.Start.{portCall, rateCall, localCalls, settingCalls, tablesAfter}
-use Rattle.surveying.specs.Steps.{sizeTold, rateTold}
+use Rattle.surveying.specs.Steps.{sizeAt, sizeTold, rateTold}
 
 -- ---- calls one after another
 after-append : (cs ds : List TableCall) (t : List ℕ) → tablesAfter (cs ++ ds) t ≡ tablesAfter ds (tablesAfter cs t)
@@ -107,9 +108,9 @@ module _ (t : List ℕ) (h : wellFormed t ≡ true) where
   abbrev port-there : ℕ → Port
   port-there port = getD (relayOf t .ports) port noPort
 
-  size-small : (port : ℕ) → port-there port .size ≤ 500
+  size-small : (port : ℕ) → port-there port .size ≤ longestPacket
   unfolding portOk isSize
-  size-small port = leb-true (port-there port .size) 500 (and-right _ _ (and-right _ _ (port-fine (relayOf t) (ok-relay t h) port)))
+  size-small port = leb-true (port-there port .size) longestPacket (and-right _ _ (and-right _ _ (port-fine (relayOf t) (ok-relay t h) port)))
 
   pub port-told-as : (port : ℕ) → port < portCount → (old told : List ℕ) → told ≡ toldBytes (tellOn t (port-settings port)) old
       → sets-port port (eqb (getD told 0 0) 1) (getD told 1 0) (sizeTold told) ≡ portCall (relayOf t) port
@@ -118,14 +119,14 @@ module _ (t : List ℕ) (h : wellFormed t ≡ true) where
       let p : Port = port-there port in
       let is : tellOn t (port-settings port) ≡ a-port p =
       asked t h (port-settings port) refl ∙ then-false none (a-port p) (lt-leb portCount port l) in
-      let z : List ℕ = bigEndian 2 (p .size) in
+      let z : List ℕ = bigEndian sizeWidth (p .size) in
       let bytes : told ≡ markOf (p .on) ∷ p .mode ∷ z = q ∙ ap (λ (x : Told). toldBytes x old) is in
-      let size : number (part (markOf (p .on) ∷ p .mode ∷ z) 2 2) ≡ p .size =
+      let size : number (part (markOf (p .on) ∷ p .mode ∷ z) sizeAt sizeWidth) ≡ p .size =
       ap number
-      (ap (λ (b : List ℕ). part (markOf (p .on) ∷ p .mode ∷ b) 2 2) (sym (append-nil z))
-      ∙ part-mid (markOf (p .on) ∷ p .mode ∷ []) z [] 2 2 refl (bigEndian-length 2 (p .size)))
-      ∙ number-bigEndian 2 (p .size) (omega (arith, size-small port)) in
-      ap (λ (b : List ℕ). sets-port port (eqb (getD b 0 0) 1) (getD b 1 0) (number (part b 2 2))) bytes
+      (ap (λ (b : List ℕ). part (markOf (p .on) ∷ p .mode ∷ b) sizeAt sizeWidth) (sym (append-nil z))
+      ∙ part-mid (markOf (p .on) ∷ p .mode ∷ []) z [] sizeAt sizeWidth refl (bigEndian-length sizeWidth (p .size)))
+      ∙ number-bigEndian sizeWidth (p .size) (omega (arith, size-small port)) in
+      ap (λ (b : List ℕ). sets-port port (eqb (getD b 0 0) 1) (getD b 1 0) (number (part b sizeAt sizeWidth))) bytes
       ∙ λ i. sets-port port (mark-told (p .on) i) (p .mode) (size i)
 
   rate-fine : rateSettingsOk (relayOf t .rate) ≡ true
@@ -136,26 +137,30 @@ module _ (t : List ℕ) (h : wellFormed t ≡ true) where
   unfolding rateTold rateSettingsOk questionRefusal questionRule toldBytes
   rate-told-as old told q =
       let s : RateSettings = relayOf t .rate in
-      let fine : (leb (s .target) 86400 and leb (s .grace) 254 and leb (s .penalty) 604800) ≡ true = rate-fine in
-      let one : s .target ≤ 86400 = leb-true (s .target) 86400 (and-left _ _ fine) in
-      let two : s .grace ≤ 254 = leb-true (s .grace) 254 (and-left _ _ (and-right _ _ fine)) in
-      let three : s .penalty ≤ 604800 = leb-true (s .penalty) 604800 (and-right _ _ (and-right _ _ fine)) in
-      let x : List ℕ = bigEndian 4 (s .target) in
-      let y : List ℕ = bigEndian 4 (s .grace) in
-      let z : List ℕ = bigEndian 4 (s .penalty) in
+      let fine : (leb (s .target) targetLimit and leb (s .grace) graceLimit and leb (s .penalty) penaltyLimit) ≡ true = rate-fine in
+      let one : s .target ≤ targetLimit = leb-true (s .target) targetLimit (and-left _ _ fine) in
+      let two : s .grace ≤ graceLimit = leb-true (s .grace) graceLimit (and-left _ _ (and-right _ _ fine)) in
+      let three : s .penalty ≤ penaltyLimit = leb-true (s .penalty) penaltyLimit (and-right _ _ (and-right _ _ fine)) in
+      let x : List ℕ = bigEndian settingWidth (s .target) in
+      let y : List ℕ = bigEndian settingWidth (s .grace) in
+      let z : List ℕ = bigEndian settingWidth (s .penalty) in
       let bytes : told ≡ x ++ (y ++ z) = q ∙ ap (λ (v : Told). toldBytes v old) (asked t h rate-settings refl) in
-      let first : part told 0 4 ≡ x = ap (λ (b : List ℕ). part b 0 4) bytes ∙ part-mid [] x (y ++ z) 0 4 refl (bigEndian-length 4 (s .target)) in
-      let second : part told 4 4 ≡ y =
-      ap (λ (b : List ℕ). part b 4 4) bytes ∙ part-mid x y z 4 4 (bigEndian-length 4 (s .target)) (bigEndian-length 4 (s .grace)) in
-      let wide : length (x ++ y) ≡ 8 = omega (arith, length-append x y, bigEndian-length 4 (s .target), bigEndian-length 4 (s .grace)) in
-      let third : part told 8 4 ≡ z =
-      ap (λ (b : List ℕ). part b 8 4) (bytes ∙ sym (append-assoc x y z) ∙ ap (λ (b : List ℕ). (x ++ y) ++ b) (sym (append-nil z)))
-      ∙ part-mid (x ++ y) z [] 8 4 wide (bigEndian-length 4 (s .penalty)) in
+      let long-x : length x ≡ settingWidth = bigEndian-length settingWidth (s .target) in
+      let long-y : length y ≡ settingWidth = bigEndian-length settingWidth (s .grace) in
+      let long-z : length z ≡ settingWidth = bigEndian-length settingWidth (s .penalty) in
+      let first : part told 0 settingWidth ≡ x =
+      ap (λ (b : List ℕ). part b 0 settingWidth) bytes ∙ part-mid [] x (y ++ z) 0 settingWidth refl long-x in
+      let second : part told settingWidth settingWidth ≡ y =
+      ap (λ (b : List ℕ). part b settingWidth settingWidth) bytes ∙ part-mid x y z settingWidth settingWidth long-x long-y in
+      let wide : length (x ++ y) ≡ 2 * settingWidth = omega (arith, length-append x y, long-x, long-y) in
+      let third : part told (2 * settingWidth) settingWidth ≡ z =
+      ap (λ (b : List ℕ). part b (2 * settingWidth) settingWidth) (bytes ∙ sym (append-assoc x y z) ∙ ap (λ (b : List ℕ). (x ++ y) ++ b) (sym (append-nil z)))
+      ∙ part-mid (x ++ y) z [] (2 * settingWidth) settingWidth wide long-z in
       λ i.
       record {
-        target = (ap number first ∙ number-bigEndian 4 (s .target) (omega (arith, one))) i;
-        grace = (ap number second ∙ number-bigEndian 4 (s .grace) (omega (arith, two))) i;
-        penalty = (ap number third ∙ number-bigEndian 4 (s .penalty) (omega (arith, three))) i;
+        target = (ap number first ∙ number-bigEndian settingWidth (s .target) (omega (arith, one))) i;
+        grace = (ap number second ∙ number-bigEndian settingWidth (s .grace) (omega (arith, two))) i;
+        penalty = (ap number third ∙ number-bigEndian settingWidth (s .penalty) (omega (arith, three))) i;
       }
 
 -- a place that holds an address, and one that doesn't

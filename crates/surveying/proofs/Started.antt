@@ -11,10 +11,10 @@ use Rattle.octets.specs.Bytes.{Bytes}
 use Rattle.octets.specs.Index.{listOf}
 use Rattle.octets.specs.Choice.{_then_otherwise_, _or_, same}
 use Rattle.octets.specs.Listed.{firstOf}
-use Rattle.octets.proofs.Choice.{or-left, or-else, same-eq}
-use Rattle.octets.proofs.Index.{and-left, and-right, and-both}
+use Rattle.octets.proofs.Choice.{or-left, or-else, or-false, same-eq}
+use Rattle.octets.proofs.Index.{and-left, and-right}
 use Rattle.octets.proofs.ListOf.{mixed, mixed-more, mixed-all}
-use Rattle.numbers.specs.Numbers.{portCount, isSize}
+use Rattle.numbers.specs.Numbers.{isSize, portCount, localCount, modeCount}
 use Rattle.rules.specs.Relay.{Port, freshPort, noPort, Slot, empty, used, Relay, fresh, withRate, withPorts, withLocals, holds}
 use Rattle.rules.specs.View.{isLocal}
 use Rattle.rules.specs.Refusals.{rateSettingsOk, portOk, slotOk, all, tableOk, tablesOk}
@@ -34,7 +34,7 @@ use Rattle.saved.specs.Load.{loadRefusal, heldIn}
 use Rattle.saved.proofs.FormatLaws.{said-ok, said-shaped}
 use Rattle.surveying.specs.Start.{portCall, rateCall, localCalls, settingCalls, tablesAfter, startOf, StartsAs}
 use Rattle.surveying.proofs.SettingLaws.{port-fine}
-use Rattle.surveying.proofs.AddressLaws.{any, any-append, or-assoc, or-false, local-any, packed, packed-length, packed-any, known-address, new-address}
+use Rattle.surveying.proofs.AddressLaws.{any, any-append, or-assoc, local-any, packed, packed-length, packed-any, known-address, new-address}
 
 -- ---- the calls by the rules, one after another
 unfoldable pub settledBy : List TableCall → Relay → Relay
@@ -79,32 +79,32 @@ on-bytes (c ∷ cs) keep s h ok =
     (ap (tablesAfter cs) (call-bytes c s h ok) ∙ rest .0, rest .1)
 
 -- ---- ports
-port-set : (s : Relay) → tablesOk s ≡ true → (i : ℕ) (p : Port) → i < 16 → p .mode < 3 → isSize (p .size) ≡ true
+port-set : (s : Relay) → tablesOk s ≡ true → (i : ℕ) (p : Port) → i < portCount → p .mode < modeCount → isSize (p .size) ≡ true
     → settle (sets-port i (p .on) (p .mode) (p .size)) s .relay ≡ withPorts (set (s .ports) i p) s
 unfolding settle settled tableRefusal ruleOf firstOf _then_otherwise_ _or_
-port-set s ok i p l m z = rw (ok, lt-leb 16 i l, lt-leb 3 (p .mode) m, z)
+port-set s ok i p l m z = rw (ok, lt-leb portCount i l, lt-leb modeCount (p .mode) m, z)
 
 module _ (r : Relay) (ok : tablesOk r ≡ true) (own : List ℕ) where
   ports-fine : tableOk portCount portOk (r .ports) ≡ true
   unfolding tablesOk
   ports-fine = and-left _ _ (and-right _ _ (and-right _ _ ok))
 
-  set-fine : (i : ℕ) → (getD (r .ports) i noPort .mode < 3) × (isSize (getD (r .ports) i noPort .size) ≡ true)
+  set-fine : (i : ℕ) → (getD (r .ports) i noPort .mode < modeCount) × (isSize (getD (r .ports) i noPort .size) ≡ true)
   unfolding portOk
-  set-fine i = (ltb-true _ 3 (and-left _ _ (port-fine r ok i)), and-right _ _ (port-fine r ok i))
+  set-fine i = (ltb-true _ modeCount (and-left _ _ (port-fine r ok i)), and-right _ _ (port-fine r ok i))
 
   old : List Port
   old = fresh own .ports
 
   alike : length (r .ports) ≡ length old
   unfolding old fresh
-  alike = table-length portOk portCount (r .ports) ports-fine ∙ sym (length-replicate {A = Port} 16 freshPort)
+  alike = table-length portOk portCount (r .ports) ports-fine ∙ sym (length-replicate {A = Port} portCount freshPort)
 
-  old-length : length old ≡ 16
+  old-length : length old ≡ portCount
   unfolding old fresh
-  old-length = length-replicate {A = Port} 16 freshPort
+  old-length = length-replicate {A = Port} portCount freshPort
 
-  ports-set : (n : ℕ) → n ≤ 16 → settledBy (listOf (portCall r) n) (fresh own) ≡ withPorts (mixed n (r .ports) old) (fresh own)
+  ports-set : (n : ℕ) → n ≤ portCount → settledBy (listOf (portCall r) n) (fresh own) ≡ withPorts (mixed n (r .ports) old) (fresh own)
   unfolding settledBy listOf portCall withPorts old
   ports-set zero l = refl
   ports-set (suc n) l =
@@ -118,9 +118,10 @@ module _ (r : Relay) (ok : tablesOk r ≡ true) (own : List ℕ) where
       ∙ ap (λ (ports : List Port). withPorts ports (fresh own))
       (mixed-more (r .ports) old alike n noPort (omega (arith, old-length)) ∙ ap (λ (k : ℕ). mixed k (r .ports) old) (add-one n))
 
-  all-ports : settledBy (listOf (portCall r) 16) (fresh own) ≡ withPorts (r .ports) (fresh own)
+  all-ports : settledBy (listOf (portCall r) portCount) (fresh own) ≡ withPorts (r .ports) (fresh own)
   all-ports =
-      ports-set 16 (omega arith) ∙ ap (λ (ports : List Port). withPorts ports (fresh own)) (mixed-all (r .ports) old alike 16 (omega (arith, old-length)))
+      ports-set portCount (omega arith)
+      ∙ ap (λ (ports : List Port). withPorts ports (fresh own)) (mixed-all (r .ports) old alike portCount (omega (arith, old-length)))
 
   -- ---- the announce rate
   rate-fine : rateSettingsOk (r .rate) ≡ true
@@ -162,10 +163,10 @@ one-more a x d rest =
     ap (λ (b : Bool). b or rest) there ∙ or-assoc (any (holds (same a)) (map used d)) (same a x) rest
 
 module _ (s : Relay) (ok : tablesOk s ≡ true) (d : List (List ℕ)) (is : s .locals ≡ packed d) (x : List ℕ) (slots : List (Slot (List ℕ))) where
-  is-there : length d ≤ 16 → isLocal s x ≡ any (holds (same x)) (map used d)
+  is-there : length d ≤ localCount → isLocal s x ≡ any (holds (same x)) (map used d)
   is-there l = local-any s (ap length is ∙ packed-length d l) x ∙ ap (any (holds (same x))) is ∙ packed-any x d
 
-  add-known : length d ≤ 16 → isLocal s x ≡ true → Added slots s d → Added (used x ∷ slots) s d
+  add-known : length d ≤ localCount → isLocal s x ≡ true → Added slots s d → Added (used x ∷ slots) s d
   unfolding settledBy localCalls any holds
   add-known l e rest = (
     rest .0,
@@ -177,7 +178,7 @@ module _ (s : Relay) (ok : tablesOk s ≡ true) (d : List (List ℕ)) (is : s .l
   abbrev grown : Relay
   grown = withLocals (packed (d ++ (x ∷ []))) s
 
-  add-new : length d < 16 → isLocal s x ≡ false → Added slots grown (d ++ (x ∷ [])) → Added (used x ∷ slots) s d
+  add-new : length d < localCount → isLocal s x ≡ false → Added slots grown (d ++ (x ∷ [])) → Added (used x ∷ slots) s d
   unfolding settledBy localCalls any holds withLocals
   add-new l e rest = (
     rest .0,
@@ -186,11 +187,11 @@ module _ (s : Relay) (ok : tablesOk s ≡ true) (d : List (List ℕ)) (is : s .l
     λ a. rest .3 a ∙ one-more a x d (any (holds (same a)) slots),
   )
 
-  grown-ok : length d < 16 → isLocal s x ≡ false → tablesOk grown ≡ true
+  grown-ok : length d < localCount → isLocal s x ≡ false → tablesOk grown ≡ true
   unfolding settledBy
   grown-ok l e = subst (λ (y : Relay). tablesOk y ≡ true) (new-address s ok x d is l e) (settled-ok (adds x ∷ []) s ok)
 
-adding : (slots : List (Slot (List ℕ))) (s : Relay) → tablesOk s ≡ true → (d : List (List ℕ)) → s .locals ≡ packed d → length d + length slots ≤ 16
+adding : (slots : List (Slot (List ℕ))) (s : Relay) → tablesOk s ≡ true → (d : List (List ℕ)) → s .locals ≡ packed d → length d + length slots ≤ localCount
     → Added slots s d
 unfolding settledBy localCalls any holds _or_ withLocals
 adding [] s ok d is room = (d, omega arith, ap (λ (v : List (Slot (List ℕ))). withLocals v s) is, λ a. sym (or-false _))
@@ -234,9 +235,9 @@ module _ (r : Relay) (s : shaped r ≡ true) (ok : tablesOk r ≡ true) where
       keep-append (listOf (portCall r) portCount) (rateCall r ∷ localCalls (r .locals)) (ports-keep r portCount)
       (λ x h. tt, locals-keep (r .locals) (and-left _ _ (and-right _ _ s)))
 
-  local-places : length (r .locals) ≡ 16
+  local-places : length (r .locals) ≡ localCount
   unfolding tablesOk
-  local-places = eqb-true (length (r .locals)) 16 (and-left _ _ (and-right _ _ (and-right _ _ (and-right _ _ ok))))
+  local-places = eqb-true (length (r .locals)) localCount (and-left _ _ (and-right _ _ (and-right _ _ (and-right _ _ ok))))
 
   abbrev set-up : Relay
   set-up = withRate (r .rate) (withPorts (r .ports) (fresh (r .own)))
@@ -249,7 +250,7 @@ module _ (r : Relay) (s : shaped r ≡ true) (ok : tablesOk r ≡ true) where
   before-locals =
       let fine : tablesOk (withPorts (r .ports) (fresh (r .own))) ≡ true =
       subst (λ (x : Relay). tablesOk x ≡ true) (all-ports r ok (r .own))
-      (settled-ok (listOf (portCall r) 16) (fresh (r .own)) (fresh-ok (r .own))) in
+      (settled-ok (listOf (portCall r) portCount) (fresh (r .own)) (fresh-ok (r .own))) in
       settled-append (listOf (portCall r) portCount) (rateCall r ∷ []) (fresh (r .own))
       ∙ ap (λ (x : Relay). settle (rateCall r) x .relay) (all-ports r ok (r .own))
       ∙ rate-set r ok (r .own) (withPorts (r .ports) (fresh (r .own))) fine

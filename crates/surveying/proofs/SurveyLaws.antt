@@ -14,14 +14,15 @@ use Rattle.octets.specs.Part.{joined}
 use Rattle.octets.proofs.Choice.{then-true, then-false}
 use Rattle.octets.proofs.Joined.{joined-append, joined-one}
 use Rattle.octets.proofs.ListOf.{listOf-at, listOf-getD}
+use Rattle.numbers.specs.Numbers.{portCount}
 use Rattle.tables.specs.Places.{tableSize}
 use Rattle.recording.specs.Reader.{fileRefusal}
 use Rattle.saved.specs.Load.{loadRefusal, heldIn}
-use Rattle.surveying.specs.Counts.{Answered, packetsOn, bytesInOn, bytesOutBy, droppedOn, droppedBy, testOrder}
+use Rattle.surveying.specs.Counts.{Answered, packetsOn, bytesInOn, bytesOutBy, droppedOn, droppedBy, testOrder, testCount}
 use Rattle.surveying.specs.Start.{startOf}
 use Rattle.surveying.specs.Lines.{surveyLine, settingsLine, recordingLine, portLine, reasonLine}
-use Rattle.surveying.specs.Survey.{readOf, answersFrom, total, refusedLines, lastLine, portTotals, testTotal, surveyText, survey}
-use Rattle.surveying.specs.Promise.{counterCount, countedAt, addAll, SurveyOn, startOn, readOn, recordingOn, recordingsOn, recordingAt, portAt, testAt, lineAt, textOn}
+use Rattle.surveying.specs.Survey.{recordingLimit, lateNumber, oneTooMany, readOf, answersFrom, total, refusedLines, lastLine, portTotals, testTotal, surveyText, survey}
+use Rattle.surveying.specs.Promise.{bytesInAt, bytesOutAt, droppedAt, testsAt, counterCount, countedAt, addAll, SurveyOn, startOn, readOn, recordingOn, recordingsOn, portsFrom, testsFrom, lineCount, recordingAt, portAt, testAt, lineAt, textOn}
 use Rattle.surveying.proofs.ReplayLaws.{too-many, is-read, read-refused}
 use Rattle.surveying.proofs.StartLaws.{not-begun, begun}
 use Rattle.surveying.proofs.ReadingLaws.{read-length, Reading, none-read, reading-all, counts-exact}
@@ -93,51 +94,51 @@ refused-lines (f ∷ files) number =
     ∙ sym (lines-front (λ i. lineOf (number + i) (fileRefusal (getD (f ∷ files) i []))) (length files))
 
 -- ---- what the counters count
-module _ (port : ℕ) (l : port < 16) (x : Answered) where
+module _ (port : ℕ) (l : port < portCount) (x : Answered) where
   at-packets : countedAt port x ≡ packetsOn port x
   unfolding countedAt
-  at-packets = then-true _ _ (lt-ltb port 16 l)
+  at-packets = then-true _ _ (lt-ltb port bytesInAt l)
 
-  at-in : countedAt (16 + port) x ≡ bytesInOn port x
+  at-in : countedAt (bytesInAt + port) x ≡ bytesInOn port x
   unfolding countedAt
   at-in =
-      let same : 16 + port - 16 ≡ port = omega arith in
-      then-false _ _ (le-ltb (16 + port) 16 (omega arith))
-      ∙ then-true _ _ (lt-ltb (16 + port) 32 (omega arith))
+      let same : bytesInAt + port - bytesInAt ≡ port = omega arith in
+      then-false _ _ (le-ltb (bytesInAt + port) bytesInAt (omega arith))
+      ∙ then-true _ _ (lt-ltb (bytesInAt + port) bytesOutAt (omega arith))
       ∙ ap (λ (p : ℕ). bytesInOn p x) same
 
-  at-out : countedAt (32 + port) x ≡ bytesOutBy port x
+  at-out : countedAt (bytesOutAt + port) x ≡ bytesOutBy port x
   unfolding countedAt
   at-out =
-      let same : 32 + port - 32 ≡ port = omega arith in
-      then-false _ _ (le-ltb (32 + port) 16 (omega arith))
-      ∙ then-false _ _ (le-ltb (32 + port) 32 (omega arith))
-      ∙ then-true _ _ (lt-ltb (32 + port) 48 (omega arith))
+      let same : bytesOutAt + port - bytesOutAt ≡ port = omega arith in
+      then-false _ _ (le-ltb (bytesOutAt + port) bytesInAt (omega arith))
+      ∙ then-false _ _ (le-ltb (bytesOutAt + port) bytesOutAt (omega arith))
+      ∙ then-true _ _ (lt-ltb (bytesOutAt + port) droppedAt (omega arith))
       ∙ ap (λ (p : ℕ). bytesOutBy p x) same
 
-  at-dropped : countedAt (48 + port) x ≡ droppedOn port x
+  at-dropped : countedAt (droppedAt + port) x ≡ droppedOn port x
   unfolding countedAt
   at-dropped =
-      let same : 48 + port - 48 ≡ port = omega arith in
-      then-false _ _ (le-ltb (48 + port) 16 (omega arith))
-      ∙ then-false _ _ (le-ltb (48 + port) 32 (omega arith))
-      ∙ then-false _ _ (le-ltb (48 + port) 48 (omega arith))
-      ∙ then-true _ _ (lt-ltb (48 + port) 64 (omega arith))
+      let same : droppedAt + port - droppedAt ≡ port = omega arith in
+      then-false _ _ (le-ltb (droppedAt + port) bytesInAt (omega arith))
+      ∙ then-false _ _ (le-ltb (droppedAt + port) bytesOutAt (omega arith))
+      ∙ then-false _ _ (le-ltb (droppedAt + port) droppedAt (omega arith))
+      ∙ then-true _ _ (lt-ltb (droppedAt + port) testsAt (omega arith))
       ∙ ap (λ (p : ℕ). droppedOn p x) same
 
-at-test : (place : ℕ) (x : Answered) → countedAt (64 + place) x ≡ droppedBy (getD testOrder place 0) x
+at-test : (place : ℕ) (x : Answered) → countedAt (testsAt + place) x ≡ droppedBy (getD testOrder place 0) x
 unfolding countedAt
 at-test place x =
-    let same : 64 + place - 64 ≡ place = omega arith in
-    then-false _ _ (le-ltb (64 + place) 16 (omega arith))
-    ∙ then-false _ _ (le-ltb (64 + place) 32 (omega arith))
-    ∙ then-false _ _ (le-ltb (64 + place) 48 (omega arith))
-    ∙ then-false _ _ (le-ltb (64 + place) 64 (omega arith))
+    let same : testsAt + place - testsAt ≡ place = omega arith in
+    then-false _ _ (le-ltb (testsAt + place) bytesInAt (omega arith))
+    ∙ then-false _ _ (le-ltb (testsAt + place) bytesOutAt (omega arith))
+    ∙ then-false _ _ (le-ltb (testsAt + place) droppedAt (omega arith))
+    ∙ then-false _ _ (le-ltb (testsAt + place) testsAt (omega arith))
     ∙ ap (λ (p : ℕ). droppedBy (getD testOrder p 0) x) same
 
 -- ---- the lines of a survey after recordings
 module _ (start : List ℕ) (files : List (List ℕ)) (s : SurveyOn) (h : Reading start files s) where
-  counter : (k : ℕ) → k < 79 → (q : Answered → ℕ) → ((x : Answered) → countedAt k x ≡ q x) → getD (s .counts) k 0 ≡ total q start files
+  counter : (k : ℕ) → k < counterCount → (q : Answered → ℕ) → ((x : Answered) → countedAt k x ≡ q x) → getD (s .counts) k 0 ≡ total q start files
   counter k l q same =
       ap (λ (c : List ℕ). getD c k 0) (h .counts ∙ counts-exact start files)
       ∙ listOf-at (λ i. total (countedAt i) start files) counterCount k 0 l
@@ -147,19 +148,19 @@ module _ (start : List ℕ) (files : List (List ℕ)) (s : SurveyOn) (h : Readin
   place = lineAt (s .counts) (s .refusals)
 
   -- the recordings
-  at-recording : (n : ℕ) → 0 < n → n < 18 → place n ≡ lineOf n (getD (s .refusals) n 0)
+  at-recording : (n : ℕ) → 0 < n → n < portsFrom → place n ≡ lineOf n (getD (s .refusals) n 0)
   unfolding lineAt recordingAt lineOf
-  at-recording n some l = then-false _ _ (ne-eqb n 0 (λ e. omega (arith, e))) ∙ then-true _ _ (lt-ltb n 18 l)
+  at-recording n some l = then-false _ _ (ne-eqb n 0 (λ e. omega (arith, e))) ∙ then-true _ _ (lt-ltb n portsFrom l)
 
   no-line : (n : ℕ) → lineOf n 0 ≡ []
   unfolding lineOf _then_otherwise_
   no-line n = refl
 
-  recordings : lines (λ i. place (1 + i)) 16 ≡ refusedLines 1 (readOf files)
+  recordings : lines (λ i. place (1 + i)) recordingLimit ≡ refusedLines 1 (readOf files)
   recordings =
       let n : ℕ = length (readOf files) in
-      let few : n ≤ 16 = read-length files in
-      let parts : 16 ≡ n + (16 - n) = omega arith in
+      let few : n ≤ recordingLimit = read-length files in
+      let parts : recordingLimit ≡ n + (recordingLimit - n) = omega arith in
       let first : lines (λ i. place (1 + i)) n ≡ refusedLines 1 (readOf files) =
       lines-cong (λ i. place (1 + i)) (λ i. lineOf (1 + i) (fileRefusal (getD (readOf files) i []))) n
       (λ i l.
@@ -167,94 +168,98 @@ module _ (start : List ℕ) (files : List (List ℕ)) (s : SurveyOn) (h : Readin
       at-recording (1 + i) (omega arith) (omega arith)
       ∙ ap (lineOf (1 + i)) (ap (λ (k : ℕ). getD (s .refusals) k 0) next ∙ h .each i l))
       ∙ sym (refused-lines (readOf files) 1) in
-      let rest : lines (λ i. place (1 + (n + i))) (16 - n) ≡ [] =
-      lines-empty (λ i. place (1 + (n + i))) (16 - n)
+      let rest : lines (λ i. place (1 + (n + i))) (recordingLimit - n) ≡ [] =
+      lines-empty (λ i. place (1 + (n + i))) (recordingLimit - n)
       (λ i l.
       at-recording (1 + (n + i)) (omega arith) (omega arith)
       ∙ ap (lineOf (1 + (n + i))) (h .none (1 + (n + i)) (omega arith) (omega arith))
       ∙ no-line (1 + (n + i))) in
       ap (lines (λ i. place (1 + i))) parts
-      ∙ lines-plus (λ i. place (1 + i)) n (16 - n)
+      ∙ lines-plus (λ i. place (1 + i)) n (recordingLimit - n)
       ∙ ap₂ (λ (x y : List ℕ). x ++ y) first rest
       ∙ append-nil _
 
-  late : ltb 16 (length files) ≡ true → lineOf 17 (ltb 16 (length files) then 29 otherwise 0) ≡ lastLine files
+  late : ltb recordingLimit (length files) ≡ true → lineOf lateNumber (ltb recordingLimit (length files) then oneTooMany otherwise 0) ≡ lastLine files
   unfolding lineOf lastLine _then_otherwise_
   late e = rw e
 
-  early : ltb 16 (length files) ≡ false → lineOf 17 (ltb 16 (length files) then 29 otherwise 0) ≡ lastLine files
+  early : ltb recordingLimit (length files) ≡ false → lineOf lateNumber (ltb recordingLimit (length files) then oneTooMany otherwise 0) ≡ lastLine files
   unfolding lineOf lastLine _then_otherwise_
   early e = rw e
 
-  last-line : place 17 ≡ lastLine files
-  last-line = at-recording 17 (lit≤ tt) (lit≤ tt) ∙ ap (lineOf 17) (h .last) ∙ go (ltb 16 (length files)) refl
+  last-line : place lateNumber ≡ lastLine files
+  last-line = at-recording lateNumber (lit≤ tt) (lit≤ tt) ∙ ap (lineOf lateNumber) (h .last) ∙ go (ltb recordingLimit (length files)) refl
     where
-      go : (b : Bool) → ltb 16 (length files) ≡ b → lineOf 17 (ltb 16 (length files) then 29 otherwise 0) ≡ lastLine files
+      go : (b : Bool) → ltb recordingLimit (length files) ≡ b
+          → lineOf lateNumber (ltb recordingLimit (length files) then oneTooMany otherwise 0) ≡ lastLine files
       go true e = late e
       go false e = early e
 
   -- the ports
-  port-line : (port : ℕ) → port < 16 → portAt (s .counts) port ≡ portTotals start files port
+  port-line : (port : ℕ) → port < portCount → portAt (s .counts) port ≡ portTotals start files port
   unfolding portAt portTotals
   port-line port l =
       let packets = counter port (omega arith) (packetsOn port) (at-packets port l) in
-      let bytes-in = counter (16 + port) (omega arith) (bytesInOn port) (at-in port l) in
-      let bytes-out = counter (32 + port) (omega arith) (bytesOutBy port) (at-out port l) in
-      let dropped = counter (48 + port) (omega arith) (droppedOn port) (at-dropped port l) in
+      let bytes-in = counter (bytesInAt + port) (omega arith) (bytesInOn port) (at-in port l) in
+      let bytes-out = counter (bytesOutAt + port) (omega arith) (bytesOutBy port) (at-out port l) in
+      let dropped = counter (droppedAt + port) (omega arith) (droppedOn port) (at-dropped port l) in
       λ i. portLine port (packets i) (bytes-in i) (bytes-out i) (dropped i)
 
-  at-port : (port : ℕ) → port < 16 → place (18 + port) ≡ portAt (s .counts) port
+  at-port : (port : ℕ) → port < portCount → place (portsFrom + port) ≡ portAt (s .counts) port
   unfolding lineAt
   at-port port l =
-      let same : 18 + port - 18 ≡ port = omega arith in
-      then-false _ _ (ne-eqb (18 + port) 0 (λ e. omega (arith, e)))
-      ∙ then-false _ _ (le-ltb (18 + port) 18 (omega arith))
-      ∙ then-true _ _ (lt-ltb (18 + port) 34 (omega arith))
+      let same : portsFrom + port - portsFrom ≡ port = omega arith in
+      then-false _ _ (ne-eqb (portsFrom + port) 0 (λ e. omega (arith, e)))
+      ∙ then-false _ _ (le-ltb (portsFrom + port) portsFrom (omega arith))
+      ∙ then-true _ _ (lt-ltb (portsFrom + port) testsFrom (omega arith))
       ∙ ap (portAt (s .counts)) same
 
-  ports : lines (λ i. place (18 + i)) 16 ≡ joined (portTotals start files) (listOf (λ port. port) 16)
-  ports = lines-cong (λ i. place (18 + i)) (portTotals start files) 16 (λ i l. at-port i l ∙ port-line i l)
+  ports : lines (λ i. place (portsFrom + i)) portCount ≡ joined (portTotals start files) (listOf (λ port. port) portCount)
+  ports = lines-cong (λ i. place (portsFrom + i)) (portTotals start files) portCount (λ i l. at-port i l ∙ port-line i l)
 
   -- the tests
-  test-line : (n : ℕ) → n < 15 → testAt (s .counts) n ≡ testTotal start files (getD testOrder n 0)
+  test-line : (n : ℕ) → n < testCount → testAt (s .counts) n ≡ testTotal start files (getD testOrder n 0)
   unfolding testAt testTotal
   test-line n l =
-      ap (reasonLine (getD testOrder n 0)) (counter (64 + n) (omega arith) (droppedBy (getD testOrder n 0)) (at-test n))
+      ap (reasonLine (getD testOrder n 0)) (counter (testsAt + n) (omega arith) (droppedBy (getD testOrder n 0)) (at-test n))
 
-  at-test-line : (n : ℕ) → n < 15 → place (34 + n) ≡ testAt (s .counts) n
+  at-test-line : (n : ℕ) → n < testCount → place (testsFrom + n) ≡ testAt (s .counts) n
   unfolding lineAt
   at-test-line n l =
-      let same : 34 + n - 34 ≡ n = omega arith in
-      then-false _ _ (ne-eqb (34 + n) 0 (λ e. omega (arith, e)))
-      ∙ then-false _ _ (le-ltb (34 + n) 18 (omega arith))
-      ∙ then-false _ _ (le-ltb (34 + n) 34 (omega arith))
-      ∙ then-true _ _ (lt-ltb (34 + n) 49 (omega arith))
+      let same : testsFrom + n - testsFrom ≡ n = omega arith in
+      then-false _ _ (ne-eqb (testsFrom + n) 0 (λ e. omega (arith, e)))
+      ∙ then-false _ _ (le-ltb (testsFrom + n) portsFrom (omega arith))
+      ∙ then-false _ _ (le-ltb (testsFrom + n) testsFrom (omega arith))
+      ∙ then-true _ _ (lt-ltb (testsFrom + n) lineCount (omega arith))
       ∙ ap (testAt (s .counts)) same
 
-  tests : lines (λ i. place (34 + i)) 15 ≡ joined (testTotal start files) testOrder
+  tests : lines (λ i. place (testsFrom + i)) testCount ≡ joined (testTotal start files) testOrder
   tests =
-      lines-cong (λ i. place (34 + i)) (λ i. testTotal start files (getD testOrder i 0)) 15 (λ i l. at-test-line i l ∙ test-line i l)
-      ∙ sym (lines-of (testTotal start files) (λ i. getD testOrder i 0) 15)
-      ∙ ap (joined (testTotal start files)) (listOf-getD 0 testOrder 15 refl)
+      lines-cong (λ i. place (testsFrom + i)) (λ i. testTotal start files (getD testOrder i 0)) testCount (λ i l. at-test-line i l ∙ test-line i l)
+      ∙ sym (lines-of (testTotal start files) (λ i. getD testOrder i 0) testCount)
+      ∙ ap (joined (testTotal start files)) (listOf-getD 0 testOrder testCount refl)
 
   heading-line : place 0 ≡ surveyLine
   unfolding lineAt _then_otherwise_
   heading-line = refl
 
-  -- all of them
+  -- all of them: the heading, the recordings that are read, the late one, ports and tests
   pub printed : textOn s ≡ surveyText start files
   unfolding textOn surveyText
   printed =
-      lines-plus place 1 48
+      let totals : ℕ = portCount + testCount in
+      lines-plus place 1 (recordingLimit + (1 + totals))
       ∙ ap₂ (λ (x y : List ℕ). x ++ y) (lines-one place ∙ heading-line)
-      (lines-plus (λ i. place (1 + i)) 16 32
+      (lines-plus (λ i. place (1 + i)) recordingLimit (1 + totals)
       ∙ ap₂ (λ (x y : List ℕ). x ++ y) recordings
-      (lines-plus (λ i. place (1 + (16 + i))) 1 31
-      ∙ ap₂ (λ (x y : List ℕ). x ++ y) (lines-one (λ i. place (1 + (16 + i))) ∙ last-line)
-      (lines-cong (λ i. place (1 + (16 + (1 + i)))) (λ i. place (18 + i)) 31 (λ i _. let at : 1 + (16 + (1 + i)) ≡ 18 + i = omega arith in ap place at)
-      ∙ lines-plus (λ i. place (18 + i)) 16 15
+      (lines-plus (λ i. place (1 + (recordingLimit + i))) 1 totals
+      ∙ ap₂ (λ (x y : List ℕ). x ++ y) (lines-one (λ i. place (1 + (recordingLimit + i))) ∙ last-line)
+      (lines-cong (λ i. place (1 + (recordingLimit + (1 + i)))) (λ i. place (portsFrom + i)) totals
+      (λ i _. let at : 1 + (recordingLimit + (1 + i)) ≡ portsFrom + i = omega arith in ap place at)
+      ∙ lines-plus (λ i. place (portsFrom + i)) portCount testCount
       ∙ ap₂ (λ (x y : List ℕ). x ++ y) ports
-      (lines-cong (λ i. place (18 + (16 + i))) (λ i. place (34 + i)) 15 (λ i _. let at : 18 + (16 + i) ≡ 34 + i = omega arith in ap place at)
+      (lines-cong (λ i. place (portsFrom + (portCount + i))) (λ i. place (testsFrom + i)) testCount
+      (λ i _. let at : portsFrom + (portCount + i) ≡ testsFrom + i = omega arith in ap place at)
       ∙ tests))))
 
 -- ---- a survey by a settings file that isn't refused, of any recordings
@@ -283,25 +288,26 @@ module _ (f start work counts refusals : List ℕ) where
   abbrev after : SurveyOn
   after = recordingOn f start work counts refusals
 
-  pub recording-refusal : after .refusal ≡ (leb 16 (getD refusals 0 0) then 29 otherwise fileRefusal f)
+  pub recording-refusal : after .refusal ≡ (leb recordingLimit (getD refusals 0 0) then oneTooMany otherwise fileRefusal f)
   unfolding recordingOn readOn
-  recording-refusal = go (leb 16 (getD refusals 0 0)) refl
+  recording-refusal = go (leb recordingLimit (getD refusals 0 0)) refl
     where
-      go : (b : Bool) → leb 16 (getD refusals 0 0) ≡ b → after .refusal ≡ (leb 16 (getD refusals 0 0) then 29 otherwise fileRefusal f)
+      go : (b : Bool) → leb recordingLimit (getD refusals 0 0) ≡ b
+          → after .refusal ≡ (leb recordingLimit (getD refusals 0 0) then oneTooMany otherwise fileRefusal f)
       go true e = ap (λ (s : SurveyOn). s .refusal) (then-true _ _ e) ∙ sym (then-true _ _ e)
       go false e = ap (λ (s : SurveyOn). s .refusal) (then-false _ _ e) ∙ sym (then-false _ _ e)
 
   -- whichever it is, a refusal leaves all but the refusals
   pub refused-leaves : (after .refusal ≡ 0 → ⊥) → (after .start ≡ start) × (after .work ≡ work) × (after .counts ≡ counts)
-  refused-leaves some = go (ltb (getD refusals 0 0) 16) refl
+  refused-leaves some = go (ltb (getD refusals 0 0) recordingLimit) refl
     where
       leaves : (s : SurveyOn) → after ≡ s → (s .start ≡ start) × (s .work ≡ work) × (s .counts ≡ counts)
           → (after .start ≡ start) × (after .work ≡ work) × (after .counts ≡ counts)
       leaves s is same = rw is same
 
-      go : (b : Bool) → ltb (getD refusals 0 0) 16 ≡ b → (after .start ≡ start) × (after .work ≡ work) × (after .counts ≡ counts)
+      go : (b : Bool) → ltb (getD refusals 0 0) recordingLimit ≡ b → (after .start ≡ start) × (after .work ≡ work) × (after .counts ≡ counts)
       go true e =
-          let l : getD refusals 0 0 < 16 = ltb-true (getD refusals 0 0) 16 e in
-          let refused : fileRefusal f ≡ 0 → ⊥ = λ q. some (recording-refusal ∙ then-false _ _ (lt-leb 16 (getD refusals 0 0) l) ∙ q) in
+          let l : getD refusals 0 0 < recordingLimit = ltb-true (getD refusals 0 0) recordingLimit e in
+          let refused : fileRefusal f ≡ 0 → ⊥ = λ q. some (recording-refusal ∙ then-false _ _ (lt-leb recordingLimit (getD refusals 0 0) l) ∙ q) in
           leaves _ (is-read f start work counts refusals l ∙ read-refused f start work counts refusals refused) (refl, refl, refl)
-      go false e = leaves _ (too-many f start work counts refusals (ltb-false (getD refusals 0 0) 16 e)) (refl, refl, refl)
+      go false e = leaves _ (too-many f start work counts refusals (ltb-false (getD refusals 0 0) recordingLimit e)) (refl, refl, refl)

@@ -18,7 +18,7 @@ use Rattle.saved.specs.Load.{loadRefusal, heldIn}
 use Rattle.surveying.specs.Counts.{Answered, packetsOn, bytesInOn, bytesOutBy, droppedOn, droppedBy, testOrder, testCount}
 use Rattle.surveying.specs.Start.{startOf}
 use Rattle.surveying.specs.Lines.{surveyLine, recordingLine, portLine, reasonLine}
-use Rattle.surveying.specs.Survey.{recordingLimit, oneTooMany, answersFrom}
+use Rattle.surveying.specs.Survey.{recordingLimit, lateNumber, oneTooMany, answersFrom}
 
 -- ---- the counters: packets, bytes in, bytes out and packets dropped, of sixteen ports each; then the drops by each test
 abbrev pub bytesInAt : ℕ
@@ -55,7 +55,7 @@ addAll counts (x ∷ xs) = addAll (addOne counts x) xs
 
 -- ---- the recordings' refusals: place 0 has the number of recordings read, place n the refusal of recording n, or 0. Place 17 is for one too many
 abbrev pub refusalCount : ℕ
-refusalCount = 2 + recordingLimit
+refusalCount = 1 + lateNumber
 
 unfoldable pub noted : List ℕ → ℕ → List ℕ
 noted refusals refusal =
@@ -105,7 +105,7 @@ recordingOn file start work counts refusals =
       start = start;
       work = work;
       counts = counts;
-      refusals = set refusals (recordingLimit + 1) oneTooMany;
+      refusals = set refusals lateNumber oneTooMany;
     }
     otherwise readOn file start work counts refusals
 
@@ -121,7 +121,7 @@ recordingsOn (file ∷ files) s = recordingsOn files (recordingOn file (s .start
 
 -- ---- the lines by their places: `survey`, the seventeen recordings, of which one that wasn't refused has no line, the ports, the tests
 abbrev pub portsFrom : ℕ
-portsFrom = 2 + recordingLimit
+portsFrom = 1 + lateNumber
 
 abbrev pub testsFrom : ℕ
 testsFrom = portsFrom + portCount

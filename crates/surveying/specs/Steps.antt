@@ -7,9 +7,13 @@ use Rattle.rules.specs.Relay.{makeRateSettings}
 use Rattle.rules.specs.declared.RateSettings.{RateSettings}
 use Rattle.tables.specs.Places.{settingWidth, sizeWidth}
 
--- the size in the bytes that are told of a port, after on or off and the mode
+-- where the size is in the bytes that are told of a port: after on or off and the mode
+abbrev pub sizeAt : ℕ
+sizeAt = 2
+
+-- the size there
 unfoldable pub sizeTold : List ℕ → ℕ
-sizeTold told = number (part told 2 sizeWidth)
+sizeTold told = number (part told sizeAt sizeWidth)
 
 -- the settings of the announce rate in the bytes that are told
 unfoldable pub rateTold : List ℕ → RateSettings

@@ -20,6 +20,10 @@ use Rattle.surveying.specs.Lines.{surveyLine, settingsLine, recordingLin
 abbrev pub recordingLimit : ℕ
 recordingLimit = 16
 
+-- the number of the first that isn't read: 17
+abbrev pub lateNumber : ℕ
+lateNumber = recordingLimit + 1
+
 -- "Refusals: 29, a 17th recording, told as `recording 17 refused 29`"
 abbrev pub oneTooMany : ℕ
 oneTooMany = 29
@@ -45,7 +49,7 @@ refusedLines number (file ∷ files) =
 
 -- of a 17th, "which ends the reading with the first sixteen reported"
 unfoldable pub lastLine : List (List ℕ) → List ℕ
-lastLine files = ltb recordingLimit (length files) then recordingLine (recordingLimit + 1) oneTooMany otherwise []
+lastLine files = ltb recordingLimit (length files) then recordingLine lateNumber oneTooMany otherwise []
 
 unfoldable pub portTotals : List ℕ → List (List ℕ) → ℕ → List ℕ
 portTotals start files port =

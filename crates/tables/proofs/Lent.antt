@@ -8,7 +8,7 @@ use lib.ListN.{length}
 use Rattle.octets.specs.Bytes.{Bytes}
 use Rattle.codes.specs.Form.{Form, slot, code}
 use Rattle.codes.proofs.Law.{whole-again}
-use Rattle.codes.proofs.Rows.{row-end as end-of-row}
+use Rattle.codes.proofs.Many.{many-end}
 use Rattle.codes.proofs.Forms.{lawful}
 use Rattle.tables.specs.Forms.{portForm, pathForm, linkForm, returnForm}
 use Rattle.tables.specs.Places.{portWidth, pathWidth, linkWidth, returnWidth}
@@ -38,5 +38,5 @@ unfolding slotOf returnBytes returnOf returnBytesOk
 return-lent = lent (slot returnForm)
 
 -- ---- a section of n elements from base on
-pub row-end : (base w n i : ℕ) → i < n → base + w * i + w ≤ base + w * n
-row-end base w n i l = omega (arith, end-of-row w n i l)
+pub record-end : (base w n i : ℕ) → i < n → base + w * i + w ≤ base + w * n
+record-end base w n i l = omega (arith, many-end w n i l)

@@ -7,12 +7,12 @@ use mathlib.Core.List.{List}
 use mathlib.Core.Path.{_≡_, sym, ap, ap₂, _∙_}
 use lib.ListN.{length, take, drop}
 use borrow.Author.Tests.{not-true, not-false}
-use Rattle.octets.specs.Index.{allBelow, zeros}
+use Rattle.octets.specs.Index.{zeros}
 use Rattle.octets.specs.Part.{part}
 use Rattle.octets.proofs.Index.{and-yes, all-none, all-more, all-fails, all-intro, all-at, all-plus, all-short, all-cong}
 use Rattle.octets.proofs.Part.{part-range, part-part, range-length}
 use Rattle.octets.proofs.Zeros.{zeros-part}
-use Rattle.codes.proofs.Rows.{row-end}
+use Rattle.codes.proofs.Many.{many-end}
 use Rattle.tables.specs.Layout.{recordAt, recordsOk}
 
 -- what `&t[a..a + w]` holds
@@ -29,13 +29,13 @@ module _ (ok : List ℕ → Bool) (base w : ℕ) (t : List ℕ) where
     seen : ok (recordAt base w t i) ≡ r
     seen = sym (e ∙ ap ok (part-range t (base + w * i) w))
 
-    pub row-passes : not r ≡ false → recordsOk ok base w i t ≡ true → recordsOk ok base w (i + 1) t ≡ true
+    pub record-passes : not r ≡ false → recordsOk ok base w i t ≡ true → recordsOk ok base w (i + 1) t ≡ true
     unfolding recordsOk
-    row-passes n h = all-more (λ k. ok (recordAt base w t k)) i h (seen ∙ not-false r n)
+    record-passes n h = all-more (λ k. ok (recordAt base w t k)) i h (seen ∙ not-false r n)
 
-    pub row-fails : (count : ℕ) → i < count → not r ≡ true → false ≡ recordsOk ok base w count t
+    pub record-fails : (count : ℕ) → i < count → not r ≡ true → false ≡ recordsOk ok base w count t
     unfolding recordsOk
-    row-fails count l n = sym (all-fails (λ k. ok (recordAt base w t k)) i count l (seen ∙ not-true r n))
+    record-fails count l n = sym (all-fails (λ k. ok (recordAt base w t k)) i count l (seen ∙ not-true r n))
 
 -- ---- several records at once
 -- a section of zeros
@@ -49,7 +49,7 @@ section-free ok base w n t free fits e q =
     sym
     (all-intro (λ i. ok (recordAt base w t i)) n
     (λ i l.
-    let within = row-end w n i l in
+    let within = many-end w n i l in
     free (recordAt base w t i) (ap (zeros w) (sym (part-part t base (w * n) (w * i) w within)) ∙ zeros-part s (w * n) (w * i) w zero within)))
 
 -- records that keep a stronger rule
@@ -69,26 +69,26 @@ module _ (ok : List ℕ → Bool) (base w m : ℕ) (t : List ℕ) (g : ℕ) {r :
       add-assoc base (w * m * g) (w * j)
       ∙ ap (λ (a : ℕ). base + a) (ap (λ (a : ℕ). a + w * j) (mul-assoc w m g) ∙ sym (mul-add w (m * g) j))
 
-  seen-rows : recordsOk ok base w (m * g + m) t ≡ r
+  seen-records : recordsOk ok base w (m * g + m) t ≡ r
   unfolding recordsOk
-  seen-rows =
+  seen-records =
       all-plus (λ i. ok (recordAt base w t i)) (m * g) m ∙ and-yes _ h
       ∙ sym (e ∙ all-cong (λ j. ok (recordAt (base + w * m * g) w t j)) (λ j. ok (recordAt base w t (m * g + j))) m
       (λ j l. ap (λ (a : ℕ). ok (part t a w)) (place j)))
 
-  pub rows-pass : not r ≡ false → recordsOk ok base w (m * (g + 1)) t ≡ true
-  rows-pass n =
+  pub records-pass : not r ≡ false → recordsOk ok base w (m * (g + 1)) t ≡ true
+  records-pass n =
       let q : m * (g + 1) ≡ m * g + m = mul-add m g 1 ∙ omega arith in
-      ap (λ (k : ℕ). recordsOk ok base w k t) q ∙ seen-rows ∙ not-false r n
+      ap (λ (k : ℕ). recordsOk ok base w k t) q ∙ seen-records ∙ not-false r n
 
-  pub rows-fail : (count : ℕ) → m * g + m ≤ count → not r ≡ true → false ≡ recordsOk ok base w count t
+  pub records-fail : (count : ℕ) → m * g + m ≤ count → not r ≡ true → false ≡ recordsOk ok base w count t
   unfolding recordsOk
-  rows-fail count l n = sym (all-short (λ i. ok (recordAt base w t i)) (m * g + m) count l (seen-rows ∙ not-true r n))
+  records-fail count l n = sym (all-short (λ i. ok (recordAt base w t i)) (m * g + m) count l (seen-records ∙ not-true r n))
 
 -- the tests p and r of two times m records, of which the first is record m * (g * 2)
-pub rows-pass-twice : (ok : List ℕ → Bool) (base w m : ℕ) (t : List ℕ) (g : ℕ) {p r : Bool} → p ≡ recordsOk ok (base + w * m * (g * 2)) w m t
+pub records-pass-twice : (ok : List ℕ → Bool) (base w m : ℕ) (t : List ℕ) (g : ℕ) {p r : Bool} → p ≡ recordsOk ok (base + w * m * (g * 2)) w m t
     → r ≡ recordsOk ok (base + w * m * (g * 2 + 1)) w m t → recordsOk ok base w (m * (g * 2)) t ≡ true
     → not p ≡ false → not r ≡ false → recordsOk ok base w (m * ((g + 1) * 2)) t ≡ true
-rows-pass-twice ok base w m t g e f h n o =
+records-pass-twice ok base w m t g e f h n o =
     let q : (g + 1) * 2 ≡ g * 2 + 1 + 1 = omega arith in
-    ap (λ (k : ℕ). recordsOk ok base w (m * k) t) q ∙ rows-pass ok base w m t (g * 2 + 1) f (rows-pass ok base w m t (g * 2) e h n) o
+    ap (λ (k : ℕ). recordsOk ok base w (m * k) t) q ∙ records-pass ok base w m t (g * 2 + 1) f (records-pass ok base w m t (g * 2) e h n) o

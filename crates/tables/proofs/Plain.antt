@@ -91,21 +91,21 @@ module _ (p : ℕ → Bool) (at a w n : ℕ) (t : List ℕ) (fits : a + 8 ≤ w)
   field : (k : ℕ) → number (part (recordAt at w t k) a 8) ≡ number (part t (at + a + w * k) 8)
   field k = ap number (part-part t (at + w * k) w a 8 fits ∙ ap (λ (i : ℕ). part t i 8) (omega arith))
 
-  pub rows-apart : recordsOk tested at w n t
+  pub records-apart : recordsOk tested at w n t
       ≡ (allBelow (λ k. eqb (getD t (at + w * k) 0) 1) n and allBelow (λ k. p (number (part t (at + a + w * k) 8))) n)
   unfolding recordsOk
-  rows-apart =
+  records-apart =
       all-cong (λ k. tested (recordAt at w t k)) (λ k. eqb (getD t (at + w * k) 0) 1 and p (number (part t (at + a + w * k) 8))) n
       (λ k l. ap₂ (λ (x y : ℕ). eqb x 1 and p y)
       (part-at t (at + w * k) w 0 (omega arith) ∙ ap (λ (i : ℕ). getD t i 0) (add-zero (at + w * k))) (field k))
       ∙ all-both (λ k. eqb (getD t (at + w * k) 0) 1) (λ k. p (number (part t (at + a + w * k) 8))) n
 
   -- where the numbers of n records pass, a test that is equal to `ok` on such a record takes its place
-  pub rows-left : (ok left : List ℕ → Bool)
+  pub records-left : (ok left : List ℕ → Bool)
       → ((k : ℕ) → k < n → p (number (part (recordAt at w t k) a 8)) ≡ true → ok (recordAt at w t k) ≡ left (recordAt at w t k))
       → allBelow (λ k. p (number (part t (at + a + w * k) 8))) n ≡ true → recordsOk left at w n t ≡ recordsOk ok at w n t
   unfolding recordsOk
-  rows-left ok left same h =
+  records-left ok left same h =
       all-cong (λ k. left (recordAt at w t k)) (λ k. ok (recordAt at w t k)) n
       (λ k l. sym (same k l (ap p (field k) ∙ all-at (λ j. p (number (part t (at + a + w * j) 8))) n k h l)))
 

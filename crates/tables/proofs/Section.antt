@@ -13,10 +13,10 @@ use Rattle.octets.specs.Part.{part, patch, joined, fields}
 use Rattle.octets.proofs.Index.{all-at}
 use Rattle.octets.proofs.Part.{patch-length, patch-join, part-range, patch-range}
 use Rattle.octets.proofs.Joined.{joined-append, joined-one, joined-length, fields-all}
-use Rattle.tables.specs.Layout.{recordAt, rows, recordsOk}
-use Rattle.tables.proofs.Lent.{Lent, row-end}
+use Rattle.tables.specs.Layout.{recordAt, records, recordsOk}
+use Rattle.tables.proofs.Lent.{Lent, record-end}
 use Rattle.tables.proofs.Loops.{range}
-use Rattle.tables.proofs.Seen.{row-seen, rows-length}
+use Rattle.tables.proofs.Seen.{record-seen, records-length}
 
 -- what is written leaves what stands behind it
 pub part-behind : (t x : List ℕ) (a k n : ℕ) → a + length x ≡ k → k ≤ length t → part (patch t a x) k n ≡ part t k n
@@ -58,7 +58,7 @@ module _ {A : Type 0} {w : ℕ} {write : A → List ℕ} {read : List ℕ → A}
       long = first-length (omega arith)
 
       within : base + w * i + w ≤ length t
-      within = omega (arith, row-end base w (length xs) i l)
+      within = omega (arith, record-end base w (length xs) i l)
 
       -- record i is still as it was
       pub up-kept : recordAt base w (upTo write base xs t i) i ≡ recordAt base w t i
@@ -78,10 +78,10 @@ module _ {A : Type 0} {w : ℕ} {write : A → List ℕ} {read : List ℕ → A}
     (c : Lent w write read ok) (base n : ℕ) (d : A) (f : A → A)
     (t : List ℕ) (fits : base + w * n ≤ length t) where
   abbrev new : List A
-  new = map f (rows read base w n t)
+  new = map f (records read base w n t)
 
   new-length : length new ≡ n
-  new-length = length-map (rows read base w n t) f ∙ rows-length read base w n t
+  new-length = length-map (records read base w n t) f ∙ records-length read base w n t
 
   room : base + w * length new ≤ length t
   room = rw new-length fits
@@ -114,8 +114,8 @@ module _ {A : Type 0} {w : ℕ} {write : A → List ℕ} {read : List ℕ → A}
           value : f (read (range t′ at w)) ≡ getD new i (f d)
           value =
               ap (λ (y : List ℕ). f (read y)) kept
-              ∙ ap f (sym (row-seen read base w n t i d l))
-              ∙ sym (List·getD-map f (rows read base w n t) i d)
+              ∙ ap f (sym (record-seen read base w n t i d l))
+              ∙ sym (List·getD-map f (records read base w n t) i d)
 
       pub changed-length : length (putMid at (at + w - at) t′ x) ≡ length t
       changed-length = ap length changed-more ∙ up-length c base new t room (i + 1) (omega (arith, new-length))

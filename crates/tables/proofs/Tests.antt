@@ -16,12 +16,13 @@ use Rattle.octets.proofs.Index.{and-right, and-assoc, all-at, all-fails, all-co
 use Rattle.octets.proofs.Agree.{or-ltb}
 use Rattle.octets.proofs.Part.{part-at}
 use Rattle.codes.specs.Form.{Form, slot, code}
-use Rattle.codes.proofs.Rows.{all-true}
+use Rattle.codes.proofs.Many.{all-true}
 use Rattle.numbers.specs.Numbers.{portCount, blobLimit}
+use Rattle.notes.specs.Notes.{notesForm}
 use Rattle.rules.specs.Refusals.{portOk, pathOk, linkOk, returnOk, hashOk}
 use Rattle.tables.specs.Forms.{localForm, pathForm, linkForm, returnForm, hashForm}
 use Rattle.tables.specs.Places.{localWidth, pathWidth, linkWidth, returnWidth, hashWidth}
-use Rattle.tables.specs.Fields.{pathMarkAt, linkProvedAt}
+use Rattle.tables.specs.Fields.{pathNotesAt, linkProvedAt}
 use Rattle.tables.specs.Records.{portOf, portBytesOk, localBytesOk, pathOf, pathBytesOk, linkOf, linkBytesOk, returnOf, returnBytesOk, hashOf, hashBytesOk}
 
 -- an unused record is zeros; `ok` are row 7's clauses on a used record's bytes
@@ -81,10 +82,10 @@ module _ (b : List ℕ) where
   unfolding localBytesOk
   local-test = slot-test localForm b (λ s. true) refl
 
-  pub path-test : pathBytesOk b ≡ slotBytesOk pathWidth (λ s. ltb (getD s pathMarkAt 0) 2 and pathOk (pathOf s)) b
+  pub path-test : pathBytesOk b ≡ slotBytesOk pathWidth (λ s. code notesForm .fine s pathNotesAt and pathOk (pathOf s)) b
   unfolding pathBytesOk pathOf _and_
-  path-test = slot-test pathForm b (λ s. ltb (getD s pathMarkAt 0) 2 and pathOk (pathOf s))
-      (rw (all-true blobLimit) (and-assoc (ltb (getD b pathMarkAt 0) 2) true _))
+  path-test = slot-test pathForm b (λ s. code notesForm .fine s pathNotesAt and pathOk (pathOf s))
+      (rw (all-true blobLimit) (and-assoc (code notesForm .fine b pathNotesAt) true _))
 
   pub link-test : linkBytesOk b ≡ slotBytesOk linkWidth (λ s. ltb (getD s linkProvedAt 0) 2 and linkOk (linkOf s)) b
   unfolding linkBytesOk linkOf _and_

@@ -14,10 +14,11 @@ use Rattle.octets.specs.Part.{part}
 use Rattle.octets.specs.BigEndian.{number}
 use Rattle.octets.proofs.Index.{and-left, and-right, and-both, and-assoc, all-at}
 use Rattle.octets.proofs.ListOf.{listOf-length}
-use Rattle.codes.specs.Form.{Form, octetsIn, many, slot, that, code}
+use Rattle.codes.specs.Form.{Form, octetsIn, many, slot, code}
 use Rattle.codes.proofs.Law.{whole-again}
 use Rattle.codes.proofs.Forms.{lawful}
 use Rattle.numbers.specs.Numbers.{portCount, localCount, pathCount, linkCount, returnCount, hashCount, blobLimit, modeCount, timeLimit}
+use Rattle.notes.proofs.NoteLaws.{notes-good, notes-shaped}
 use Rattle.packet.proofs.ReadLaws.{size-most}
 use Rattle.rules.specs.Relay.{Port, noPort, Slot, empty, used, Path, Return, Remembered, Ring, Relay}
 use Rattle.rules.specs.Blobs.{noBlob}
@@ -149,7 +150,8 @@ path-good p h k =
     let h2 = and-right _ _ (and-right _ _ h1) in
     let most = leb-true (p .blobs .count) blobLimit (and-left _ _ h2) in
     let count : p .blobs .count < 256 = omega (arith, most) in
-    let places = and-right _ _ (and-right _ _ k) in
+    let k2 = and-right _ _ (and-right _ _ k) in
+    let places = and-left _ _ k2 in
     let long = table-length (isBytes blobWidth) blobLimit (p .blobs .places) places in
     let shapes = table-all (isBytes blobWidth) blobLimit (p .blobs .places) places in
     ((octets-good addressWidth (p .destination) (and-left _ _ k)
@@ -158,7 +160,7 @@ path-good p h k =
     also octets-good addressWidth (p .nextHop) (and-left _ _ (and-right _ _ k))
     also time-good (p .expiry) (and-left _ _ (and-right _ _ h2)))
     also rate-entry-good (p .rate) (and-right _ _ (and-right _ _ h2))
-    also tt
+    also notes-good (p .notes) (and-right _ _ k2)
     also count
     also long
     also (λ i l. octets-good blobWidth _ (all-nth (isBytes blobWidth) (p .blobs .places) i noBlob shapes (omega (arith, long, l)))))
@@ -166,12 +168,13 @@ path-good p h k =
 
 path-shaped : (p : Path) → code pathForm .Good p → pathShaped p ≡ true
 unfolding pathShaped
-path-shaped p (((destination, (_, (_, (nextHop, _)))), (_, (_, (_, (long, each))))), _) =
+path-shaped p (((destination, (_, (_, (nextHop, _)))), (_, (notes, (_, (long, each))))), _) =
     and-both (octets-shaped addressWidth (p .destination) destination)
     (and-both (octets-shaped addressWidth (p .nextHop) nextHop)
-    (table-of (isBytes blobWidth) blobLimit (p .blobs .places) long
+    (and-both (table-of (isBytes blobWidth) blobLimit (p .blobs .places) long
     (all-from (isBytes blobWidth) (p .blobs .places) noBlob
-    (λ i l. octets-shaped blobWidth (getD (p .blobs .places) i noBlob) (each i (omega (arith, long, l)))))))
+    (λ i l. octets-shaped blobWidth (getD (p .blobs .places) i noBlob) (each i (omega (arith, long, l))))))
+    (notes-shaped (p .notes) notes)))
 
 link-good : (x : Link) → linkOk x ≡ true → linkShaped x ≡ true → code linkForm .Good x
 unfolding linkOk linkShaped isByte

@@ -2,10 +2,7 @@
 -- For the contracts of helpers: not part of what a reader must believe.
 use Prim.Native.Nat.{ℕ, _+_}
 use Rattle.codes.specs.Form.{code, placeOf}
-use Rattle.tables.specs.Forms.{notesForm, portForm, blobsForm, pathForm, linkForm, returnForm, hashForm}
-
-abbrev pub portModeAt : ℕ
-portModeAt = placeOf portForm "mode"
+use Rattle.tables.specs.Forms.{portForm, blobsForm, pathForm, linkForm, returnForm, hashForm}
 
 abbrev pub portSizeAt : ℕ
 portSizeAt = placeOf portForm "size"
@@ -27,9 +24,6 @@ pathRateAt = 1 + placeOf pathForm "rate"
 
 abbrev pub pathNotesAt : ℕ
 pathNotesAt = 1 + placeOf pathForm "notes"
-
-abbrev pub pathMarkAt : ℕ
-pathMarkAt = pathNotesAt + placeOf notesForm "marked"
 
 abbrev pub pathBlobsAt : ℕ
 pathBlobsAt = 1 + placeOf pathForm "blobs"

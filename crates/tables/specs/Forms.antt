@@ -1,4 +1,5 @@
--- The layout, said once: the fields of each record in order, and the sections of the tables in the order in which a saved file has them.
+-- The layout, said once: the fields of each record in order (what the host notes of a path: crates/notes), and the sections of the tables in the order in
+-- which a saved file has them.
 -- Widths, places, reading, writing and refusal 7 follow. docs/LAYOUT.md draws it.
 use Prim.Native.Nat.{ℕ, _≤_}
 use mathlib.Core.Bool.{Bool}
@@ -7,13 +8,14 @@ use mathlib.Core.Path.{refl}
 use lib.Dec.{ltb, leb}
 use Rattle.codes.specs.Form.{Form, byte, mark, numberIn, octetsIn, field, _&_, many, firstsOf, slot, that, asRecord}
 use Rattle.numbers.specs.Numbers.{portCount, localCount, pathCount, blobLimit, linkCount, returnCount, hashCount}
-use Rattle.rules.specs.Relay.{Port, noPort, Slot, empty, Blobs, Path, Return, Remembered, Ring, Relay, makePort, makeRateSettings, makeRateEntry, makeNotes, makePath, makeLink, withLinkState, makeReturn, makeRemembered, makeRing, makeRelay}
+use Rattle.notes.specs.Notes.{notesForm}
+use Rattle.rules.specs.Relay.{Port, noPort, Slot, empty, Blobs, Path, Return, Remembered, Ring, Relay, makePort, makeRateSettings, makeRateEntry, makePath, makeLink, withLinkState, makeReturn, makeRemembered, makeRing, makeRelay}
 use Rattle.rules.specs.Blobs.{noBlob}
 use Rattle.rules.specs.Refusals.{timeOk, rateSettingsOk, portOk, pathOk, linkOk, returnOk, hashOk}
 use Rattle.rules.specs.declared.Link.{Link}
 use Rattle.rules.specs.declared.RateSettings.{RateSettings}
 use Rattle.rules.specs.declared.RateEntry.{RateEntry}
-use Rattle.rules.specs.declared.Notes.{Notes}
+use Rattle.notes.specs.declared.Notes.{Notes}
 
 -- ---- widths of fields, in bytes
 abbrev pub addressWidth : ℕ
@@ -55,11 +57,7 @@ rateEntryForm =
     asRecord toRateEntry (λ e. (e .last, (e .violations, e .«blocked_until»))) (λ x. refl) (λ y. refl)
     (field "last" (numberIn timeWidth) & field "violations" byte & field "blocked until" (numberIn timeWidth))
 
--- ---- what the host has noted of a path. Wish 6: "7 also for a mark neither yes nor no"
-abbrev pub notesForm : Form Notes
-notesForm = asRecord makeNotes (λ n. n .marked) (λ x. refl) (λ y. refl) (field "marked" mark)
-
--- ---- what older editions of saved tables have otherwise (crates/saved): the tables are of today's
+-- ---- what older editions of saved tables have otherwise (crates/editions): the tables are of today's
 -- wish 8: how many blobs a path can hold, as many as today or fewer
 pub data BlobRoom : Type 0 where
   as-today : BlobRoom

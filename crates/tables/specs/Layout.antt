@@ -39,8 +39,8 @@ abbrev pub recordAt : ℕ → ℕ → List ℕ → ℕ → List ℕ
 recordAt at width t i = part t (at + width * i) width
 
 -- a section's n records
-abbrev pub rows : {A : Type 0} → (List ℕ → A) → ℕ → ℕ → ℕ → List ℕ → List A
-rows recordOf at width n t = listOf (λ i. recordOf (recordAt at width t i)) n
+abbrev pub records : {A : Type 0} → (List ℕ → A) → ℕ → ℕ → ℕ → List ℕ → List A
+records recordOf at width n t = listOf (λ i. recordOf (recordAt at width t i)) n
 
 -- each of a section's n records keeps row 7
 unfoldable pub recordsOk : (List ℕ → Bool) → ℕ → ℕ → ℕ → List ℕ → Bool

@@ -1,4 +1,4 @@
--- How the tables hold a relay: one buffer of 103,032 bytes. docs/LAYOUT.md draws it.
+-- How the tables hold a relay: in one buffer. docs/LAYOUT.md draws it.
 pub mod Forms
 pub mod Places
 pub mod Fields

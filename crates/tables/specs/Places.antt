@@ -1,9 +1,11 @@
 -- Where each section of the tables stands, and how wide its records are, as the layout has it.
 use mathlib.Core.Path.{_≡_, refl}
-use Prim.Native.Nat.{ℕ, _+_, _*_}
+use Prim.Native.Nat.{ℕ, _+_, _*_, _≤_}
+use lib.Dec.{lit≤}
 use Rattle.codes.specs.Form.{slot, code, placeOf}
-use Rattle.numbers.specs.Numbers.{blobLimit, returnCount, hashCount}
+use Rattle.numbers.specs.Numbers.{pathCount, blobLimit, returnCount, hashCount}
 use Rattle.tables.specs.Forms.{portForm, localForm, pathForm, linkForm, returnForm, hashForm, ringForm, backForm, relayForm}
+use Rattle.tables.specs.Fields.{pathPlacesAt}
 pub use Rattle.tables.specs.Forms.{addressWidth, digestWidth, timeWidth, blobWidth, ringWidth, settingWidth, sizeWidth}
 
 -- ---- widths, in bytes. A record's first byte is its mark
@@ -67,6 +69,6 @@ backWidth = code backForm .width
 abbrev pub tableSize : ℕ
 tableSize = code relayForm .width
 
--- 103,032 bytes with 64 blobs a path: under 104 KiB. Each blob of the limit takes 640
-table-size : tableSize ≡ 62072 + 640 * blobLimit
+-- by the limit on blobs. What this is in bytes stands with the editions: `edition5-tables`, crates/editions/specs/Editions.antt
+table-size : tableSize ≡ pathsAt + (pathPlacesAt + blobWidth * blobLimit) * pathCount + backWidth
 table-size = refl

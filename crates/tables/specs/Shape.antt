@@ -1,4 +1,4 @@
--- What any bytes of the tables' size hold, beside refusal 7: addresses, hashes and blobs of their widths, each element a byte.
+-- What any bytes of the tables' size hold, beside refusal 7: addresses, hashes and blobs of their widths, each element a byte, and notes that fit theirs.
 -- A relay of this shape that breaks no clause of row 7 is exactly what the tables can hold.
 use Prim.Native.Nat.{ℕ}
 use mathlib.Core.Bool.{Bool}
@@ -6,6 +6,8 @@ use mathlib.Core.List.{List}
 use lib.Dec.{ltb}
 use Rattle.octets.specs.Index.{_and_}
 use Rattle.numbers.specs.Numbers.{blobLimit}
+-- from here too, for crates that may not name `notes`
+unfoldable pub use Rattle.notes.specs.Notes.{notesShaped}
 use Rattle.rules.specs.Relay.{Path, Return, Remembered, Relay}
 use Rattle.rules.specs.Refusals.{slotOk, all, tableOk}
 use Rattle.rules.specs.declared.Link.{Link}
@@ -24,6 +26,7 @@ pathShaped p =
     isBytes addressWidth (p .destination)
     and isBytes addressWidth (p .nextHop)
     and tableOk blobLimit (isBytes blobWidth) (p .blobs .places)
+    and notesShaped (p .notes)
 
 unfoldable pub linkShaped : Link → Bool
 linkShaped l = isBytes addressWidth (l .id) and isByte (l .taken .0) and isByte (l .remaining .0)

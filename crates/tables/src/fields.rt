@@ -3,6 +3,7 @@
 use super::places::ADDRESS_WIDTH;
 use super::places::DIGEST_WIDTH;
 use super::places::TIME_WIDTH;
+use notes::NOTES_WIDTH;
 
 pub const PORT_ON_AT: usize = 0;
 
@@ -26,9 +27,9 @@ pub const PATH_VIOLATIONS_AT: usize = PATH_LAST_AT + TIME_WIDTH;
 
 pub const PATH_BLOCKED_UNTIL_AT: usize = PATH_VIOLATIONS_AT + 1;
 
-pub const PATH_MARK_AT: usize = PATH_BLOCKED_UNTIL_AT + TIME_WIDTH;
+pub const PATH_NOTES_AT: usize = PATH_BLOCKED_UNTIL_AT + TIME_WIDTH;
 
-pub const PATH_BLOB_COUNT_AT: usize = PATH_MARK_AT + 1;
+pub const PATH_BLOB_COUNT_AT: usize = PATH_NOTES_AT + NOTES_WIDTH;
 
 pub const PATH_BLOBS_AT: usize = PATH_BLOB_COUNT_AT + 1;
 

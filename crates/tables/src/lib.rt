@@ -13,7 +13,6 @@ pub use section_check::front_ok;
 pub use section_check::paths_each;
 use section_check::paths_ok;
 ghost use mathlib.Core.Path.{_≡_};
-ghost use Rattle.tables.specs.Records.{markOf};
 ghost use Rattle.tables.specs.Layout.{wellFormed};
 
 // Whether the tables are well formed: refusal 7 is given exactly when they are not. Ends on any bytes of any length.
@@ -30,14 +29,4 @@ pub fn check(tables: &[u8]) -> bool
         return false;
     }
     back_ok(tables, LINKS_AT)
-}
-
-// A mark: 1 yes, 0 no.
-pub fn mark_of(answer: bool) -> u8
-    ensures { λ r. ⌜ r ≡ markOf answer ⌝ }
-{
-    if answer {
-        return 1;
-    }
-    0
 }

@@ -9,7 +9,7 @@ use super::fields::PATH_BLOB_COUNT_AT;
 use super::fields::PATH_BLOCKED_UNTIL_AT;
 use super::fields::PATH_EXPIRY_AT;
 use super::fields::PATH_LAST_AT;
-use super::fields::PATH_MARK_AT;
+use super::fields::PATH_NOTES_AT;
 use super::fields::PATH_PORT_AT;
 use super::fields::PORT_MODE_AT;
 use super::fields::PORT_SIZE_AT;
@@ -72,7 +72,7 @@ pub fn path_ok(b: &[u8]) -> bool
     if b[0] != 1 {
         return octets::is_zero(b, 16);
     }
-    if b[PATH_MARK_AT] >= 2 {
+    if !notes::are_fine(b, PATH_NOTES_AT) {
         return false;
     }
     if b[PATH_PORT_AT] >= PORT_COUNT as u8 {

@@ -11,13 +11,14 @@ use Rattle.octets.specs.Choice.{_then_otherwise_}
 use Rattle.octets.proofs.Choice.{then-false}
 use Rattle.packet.specs.Header.{typeTwo, isData}
 use Rattle.numbers.specs.Numbers.{blobLimit, pathCount, linkCount, returnCount, hashCount, pathLifetime, hashLifetime, returnLifetime}
-use Rattle.rules.specs.Relay.{Slot, empty, used, Ring, Blobs, Path, Return, Remembered, noted, withPathRate, makeReturn, makeRemembered, withSlots, Relay, withClock, withPaths, withLinks, withReturns}
+use Rattle.notes.specs.Notes.{noted}
+use Rattle.rules.specs.Relay.{Slot, empty, used, Ring, Blobs, Path, Return, Remembered, withPathRate, makeReturn, makeRemembered, withSlots, Relay, withClock, withPaths, withLinks, withReturns}
 use Rattle.rules.specs.View.{View, viewAt, pathPlace, linkPlace, returnPlace, freePath, freeLink, isLiveReturn}
 use Rattle.rules.specs.Arrival.{Arrival, header, hops, relayAddress, destination, hash, blob}
 use Rattle.rules.specs.Blobs.{oneBlob, storeBlob}
 use Rattle.rules.specs.Rate.{entryDropped}
 use Rattle.rules.specs.declared.RateEntry.{RateEntry}
-use Rattle.rules.specs.declared.Note.{Note}
+use Rattle.notes.specs.declared.Note.{Note}
 use Rattle.rules.specs.Ways.{everywhere, by-path, along-link, by-return}
 use Rattle.rules.specs.Writes.{remember, announcedBlobs, announcedRate, limitPath, notedSlot, notePath, announcedPath, announcedPlace, putPath, returnKey, returnRecord, emptiedIf, emptiedWhere, putReturn, emptyReturn, linkRecord, putLink, renewedLink, renewLink, writeWay}
 use Rattle.rules.specs.declared.Link.{Link}

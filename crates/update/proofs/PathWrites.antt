@@ -5,13 +5,12 @@ use native.Mathlib.Omega.{arith}
 use mathlib.Core.List.{List, [], _∷_, _++_, append-assoc}
 use mathlib.Core.Path.{_≡_, refl, sym, ap, ap₂, _∙_}
 use lib.ListN.{length, getD, take, drop, replicate, length-append, length-drop, length-replicate, replicate-append-replicate}
-use lib.Seq.{drop-at, length-take-le}
 use borrow.Author.Tests.{lt-ltb, le-ltb}
 use borrow.Rule.Slice.PartMut.{putMid}
 use Rattle.octets.specs.Index.{listOf}
 use Rattle.octets.specs.Choice.{_then_otherwise_}
 use Rattle.octets.specs.Part.{part, patch, joined, fields}
-use Rattle.octets.proofs.ListOf.{listOf-length, listOf-cong}
+use Rattle.octets.proofs.ListOf.{listOf-length, listOf-cong, listOf-first}
 use Rattle.octets.proofs.Part.{part-length, part-one, part-part, part-split, part-whole, patch-length, patch-join, patch-whole, patch-mid, part-range, patch-range}
 use Rattle.octets.proofs.Joined.{joined-append, joined-one, joined-parts, fields-all}
 use Rattle.codes.specs.Form.{byte, octetsIn, many}
@@ -19,16 +18,17 @@ use Rattle.codes.proofs.Forms.{lawful}
 use Rattle.codes.proofs.Pieces.{written, fields-written, marked-written}
 use Rattle.codes.proofs.Inside.{Inside, item, _within_, named}
 use Rattle.numbers.specs.Numbers.{blobLimit}
-use Rattle.rules.specs.Relay.{noNotes, used, Blobs}
+use Rattle.notes.specs.Notes.{notesBytes, noNotes, notesForm}
+use Rattle.rules.specs.Relay.{used, Blobs}
 use Rattle.rules.specs.Blobs.{noBlob, oneBlob, addBlob}
-use Rattle.tables.specs.Forms.{rateEntryForm, notesForm, blobsForm, headForm}
+use Rattle.tables.specs.Forms.{rateEntryForm, blobsForm, headForm}
 use Rattle.tables.specs.Places.{blobWidth, pathWidth}
 use Rattle.tables.specs.Fields.{blobsWidth, blobPlacesAt, pathNotesAt, pathBlobsAt}
 use Rattle.tables.specs.Records.{exactly, markOf, slotBytes, blobsOf, blobsBytes, pathBytes}
 use Rattle.tables.proofs.All.{exactly-same}
 use Rattle.tables.proofs.Section.{part-behind}
 use Rattle.update.specs.declared.Announced.{Announced}
-use Rattle.update.specs.Written.{rateBytes, notesBytes, headOf, announced, headWidth, headBytes, startWidth, startBytes, newerWidth, blobsIn}
+use Rattle.update.specs.Written.{rateBytes, headOf, announced, headWidth, headBytes, startWidth, startBytes, newerWidth, blobsIn}
 
 blobs-length : (s : Blobs) → length (blobsBytes s) ≡ blobsWidth
 unfolding blobsBytes
@@ -67,11 +67,6 @@ one-written s blob ls lb =
     ∙ patch-whole s (blobsBytes (oneBlob blobLimit blob)) (blobs-length (oneBlob blobLimit blob) ∙ sym ls)
 
 -- ---- a known path's
-listOf-first : {A : Type 0} (f : ℕ → A) (n : ℕ) → listOf f (suc n) ≡ f 0 ∷ listOf (λ i. f (suc i)) n
-unfolding listOf
-listOf-first f zero = refl
-listOf-first {A} f (suc n) = ap (λ (xs : List A). xs ++ (f (suc n) ∷ [])) (listOf-first f n)
-
 module _ (s : List ℕ) (ls : length s ≡ blobsWidth) where
   -- the blob at a, as it is read
   abbrev blobAt : ℕ → List ℕ

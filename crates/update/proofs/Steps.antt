@@ -1,7 +1,7 @@
 -- What each write does to the relay that the tables hold.
 use Prim.Native.Nat.{ℕ, _+_, _*_, _%_, _<_}
 use mathlib.Core.Bool.{true}
-use mathlib.Core.List.{List, [], _∷_}
+use mathlib.Core.List.{List}
 use mathlib.Core.Path.{_≡_, ap, _∙_}
 use lib.ListN.{length, getD, set}
 use borrow.Author.Tests.{ltb-true}
@@ -13,7 +13,7 @@ use Rattle.rules.specs.Relay.{empty, used, Path, Return, Remembered, makeRing, 
 use Rattle.rules.specs.Writes.{putNext}
 use Rattle.rules.specs.declared.Link.{Link}
 use Rattle.rules.specs.declared.RateEntry.{RateEntry}
-use Rattle.rules.specs.declared.Notes.{Notes}
+use Rattle.notes.specs.declared.Notes.{Notes}
 use Rattle.codes.proofs.Inside.{named}
 use Rattle.tables.specs.Forms.{pathForm}
 use Rattle.tables.specs.Fields.{pathRateAt, pathNotesAt}
@@ -22,7 +22,8 @@ use Rattle.tables.specs.Records.{slotBytes, pathBytes, linkBytes, returnBytes, 
 use Rattle.tables.specs.Layout.{relayOf, bytesOf, wellFormed}
 use Rattle.tables.proofs.Patches.{patch-clock, patch-path, patch-in-path, patch-link, patch-return, patch-return-next, patch-hash, patch-hash-next}
 use Rattle.tables.proofs.Whole.{formed}
-use Rattle.update.specs.Written.{clockWritten, hashWritten, pathWritten, rateBytes, rateWritten, notesBytes, notesWritten, linkWritten, returnWritten, returnEmptied}
+use Rattle.notes.specs.Notes.{notesBytes}
+use Rattle.update.specs.Written.{clockWritten, hashWritten, pathWritten, rateBytes, rateWritten, notesWritten, linkWritten, returnWritten, returnEmptied}
 
 module _ (r : Relay) {t u : List ℕ} (e : t ≡ bytesOf r) where
   pub clock-step : (clock : ℕ) → u ≡ clockWritten t clock → u ≡ bytesOf (withClock clock r)

@@ -1,19 +1,20 @@
 -- What each write leaves in the tables' bytes t: a record over the one at its place, and what goes with it.
 -- For the contracts of helpers: not part of what a reader must believe.
 use Prim.Native.Nat.{ℕ, _+_, _-_, _*_, _%_}
-use mathlib.Core.List.{List, [], _∷_, _++_}
+use mathlib.Core.List.{List, _∷_, _++_}
 use Rattle.octets.specs.Choice.{_then_otherwise_}
 use Rattle.octets.specs.Part.{patch}
 use Rattle.octets.specs.BigEndian.{bigEndian}
 use Rattle.numbers.specs.Numbers.{blobLimit, returnCount, hashCount}
-use Rattle.rules.specs.Relay.{noNotes, empty, used, Blobs, Path, Return, Remembered, holds, withReturns}
+use Rattle.notes.specs.Notes.{noNotes, notesBytes}
+use Rattle.rules.specs.Relay.{empty, used, Blobs, Path, Return, Remembered, holds, withReturns}
 use Rattle.rules.specs.View.{isLiveReturn}
 use Rattle.rules.specs.Writes.{emptiedWhere}
 use Rattle.rules.specs.declared.Link.{Link}
 use Rattle.rules.specs.declared.RateEntry.{RateEntry}
-use Rattle.rules.specs.declared.Notes.{Notes}
+use Rattle.notes.specs.declared.Notes.{Notes}
 use Rattle.codes.specs.Form.{code}
-use Rattle.tables.specs.Forms.{rateEntryForm, notesForm, blobsForm, Head, headForm, toPath}
+use Rattle.tables.specs.Forms.{rateEntryForm, blobsForm, Head, headForm, toPath}
 use Rattle.tables.specs.Places.{timeWidth, ringWidth, blobWidth, pathWidth, linkWidth, returnWidth, hashWidth, clockAt, pathsAt, linksAt, returnNextAt, returnsAt, hashNextAt, hashesAt}
 use Rattle.tables.specs.Fields.{pathRateAt, pathNotesAt, pathBlobsAt}
 use Rattle.tables.specs.Records.{slotOf, slotBytes, pathBytes, linkBytes, returnOf, returnBytes, hashBytes}
@@ -44,12 +45,6 @@ unfoldable pub rateWritten : List ℕ → ℕ → RateEntry → List ℕ
 rateWritten t place rate = patch t (pathsAt + pathWidth * place + pathRateAt) (rateBytes rate)
 
 -- what the host has noted alone
-abbrev pub notesWidth : ℕ
-notesWidth = code notesForm .width
-
-unfoldable pub notesBytes : Notes → List ℕ
-notesBytes = code notesForm .write
-
 unfoldable pub notesWritten : List ℕ → ℕ → Notes → List ℕ
 notesWritten t place notes = patch t (pathsAt + pathWidth * place + pathNotesAt) (notesBytes notes)
 

@@ -1,4 +1,5 @@
 // The links.
+use codes::mark_of;
 use rules::Link;
 use tables::fields::LINK_ANSWERING_AT;
 use tables::fields::LINK_ASKING_AT;
@@ -7,7 +8,6 @@ use tables::fields::LINK_ID_AT;
 use tables::fields::LINK_PROVED_AT;
 use tables::fields::LINK_REMAINING_AT;
 use tables::fields::LINK_TAKEN_AT;
-use tables::mark_of;
 use tables::places::LINK_WIDTH;
 use tables::places::LINKS_AT;
 use tables::places::TIME_WIDTH;

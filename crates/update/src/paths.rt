@@ -2,7 +2,7 @@
 use super::Announced;
 use super::blobs::add_blob;
 use super::blobs::one_blob;
-use rules::Notes;
+use notes::Notes;
 use rules::RateEntry;
 use tables::fields::PATH_BLOB_COUNT_AT;
 use tables::fields::PATH_BLOCKED_UNTIL_AT;
@@ -10,11 +10,10 @@ use tables::fields::PATH_DESTINATION_AT;
 use tables::fields::PATH_EXPIRY_AT;
 use tables::fields::PATH_HOPS_AT;
 use tables::fields::PATH_LAST_AT;
-use tables::fields::PATH_MARK_AT;
 use tables::fields::PATH_NEXT_HOP_AT;
+use tables::fields::PATH_NOTES_AT;
 use tables::fields::PATH_PORT_AT;
 use tables::fields::PATH_VIOLATIONS_AT;
-use tables::mark_of;
 use tables::places::PATH_WIDTH;
 use tables::places::PATHS_AT;
 use tables::places::TIME_WIDTH;
@@ -27,7 +26,7 @@ ghost use Rattle.rules.specs.Blobs.{oneBlob, addBlob};
 ghost use Rattle.tables.specs.Places.{tableSize, pathsAt, pathWidth};
 ghost use Rattle.tables.specs.Records.{blobsOf};
 ghost use Rattle.tables.specs.Layout.{recordAt};
-ghost use Rattle.update.specs.Written.{rateWidth, rateBytes, rateWritten, notesWidth, notesBytes, notesWritten, headWidth, headBytes, startWidth, startBytes, announced, pathWritten};
+ghost use Rattle.update.specs.Written.{rateWidth, rateBytes, rateWritten, notesWritten, headWidth, headBytes, startWidth, startBytes, announced, pathWritten};
 
 // How wide a path's blobs are, with their count.
 const BLOBS_WIDTH: usize = PATH_WIDTH - PATH_BLOB_COUNT_AT;
@@ -60,20 +59,12 @@ pub fn put_rate(tables: &mut [u8], place: usize, rate: RateEntry)
     write_rate(tables, PATHS_AT + PATH_WIDTH * place + PATH_LAST_AT, rate);
 }
 
-// Writes what the host has noted.
-fn write_notes(tables: &mut [u8], at: usize, notes: Notes)
-    requires { ⌜ at + notesWidth ≤ length (now tables) ⌝ }
-    ensures { λ _. ⌜ now (tables .exit) ≡ patch (now (tables .entry)) at (notesBytes notes) ⌝ }
-{
-    octets::set_at(tables, at, mark_of(notes.marked));
-}
-
 // Puts other notes into the path at a place.
 pub fn put_notes(tables: &mut [u8], place: usize, notes: Notes)
     requires { ⌜ (length (now tables) ≡ tableSize) × (place < pathCount) ⌝ }
     ensures { λ _. ⌜ now (tables .exit) ≡ notesWritten (now (tables .entry)) place notes ⌝ }
 {
-    write_notes(tables, PATHS_AT + PATH_WIDTH * place + PATH_MARK_AT, notes);
+    notes::write(tables, PATHS_AT + PATH_WIDTH * place + PATH_NOTES_AT, notes);
 }
 
 // Writes what stands before a record's rate.
@@ -99,7 +90,7 @@ fn put_start(tables: &mut [u8], at: usize, path: Announced)
     put_head(tables, at, path);
     let rate = path.rate;
     write_rate(tables, at + PATH_LAST_AT, rate);
-    write_notes(tables, at + PATH_MARK_AT, Notes { marked: false });
+    notes::write(tables, at + PATH_NOTES_AT, notes::none());
 }
 
 // Puts a new path at a place, spare blob places zero.

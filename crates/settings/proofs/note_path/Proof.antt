@@ -1,8 +1,9 @@
+-- past row 7, and past row 5
 use mathlib.Core.Bool.{true, false}
 use mathlib.Core.Path.{_≡_, sym, ap, _∙_}
 use borrow.Author.Tests.{not-true, not-false}
 use Rattle.octets.proofs.Bytes.{known-bytes}
-use Rattle.rules.specs.Relay.{noted}
+use Rattle.notes.specs.Notes.{noted}
 use Rattle.rules.specs.Refusals.{clockBad}
 use Rattle.rules.specs.Calls.{notes-path}
 use Rattle.tables.specs.Layout.{relayOf, wellFormed}
@@ -14,7 +15,6 @@ use borrow.Author.Needs.{needs}
 use Rattle.settings.proofs.note_path.Statement.{statement}
 use Rattle.settings.proofs.note_path.Tie as tie
 
--- past row 7, and past row 5
 abbrev s1 : tie.Else1 → tie.Start
 s1 c = c .before .before .before .before
 

@@ -19,7 +19,7 @@ returns : tie.Need-returns
 returns c =
     let after-greatest-emission = c .before .before in
     let start = after-greatest-emission .before .before in
-    c .both .ensures ∙ ap₂ (λ (m n : ℕ). start .args .path .marked and leb m n) (after-greatest-emission .greatest-emission .ensures)
+    c .both .ensures ∙ ap₂ (λ (m n : ℕ). start .args .path .notes .marked and leb m n) (after-greatest-emission .greatest-emission .ensures)
     (c .before .emission .ensures)
 
 pub revives-spec : {M : Type 1} → statement M

@@ -3,8 +3,9 @@ use Rattle.octets.proofs.Listed.{here, past, none-first}
 use Rattle.rules.specs.View.{View}
 use Rattle.rules.specs.Arrival.{Arrival}
 use Rattle.rules.specs.Ways.{Way}
+use Rattle.rules.specs.Judging.{leavingTests}
 use Rattle.judging.specs.Seen.{arrivalOf, viewOf, wayOf}
-use Rattle.judging.specs.Steps.{leavingTests, leavingPlan}
+use Rattle.judging.specs.Steps.{leavingPlan}
 use Rattle.judging.proofs.SeenLaws.{room-seen}
 use borrow.Author.Needs.{needs}
 use Rattle.judging.proofs.onward.plan_leaving.Statement.{statement}
@@ -23,14 +24,14 @@ port-off-requires : tie.Need-port-off-requires
 port-off-requires c κs = search needs
 
 returns : tie.Need-returns
-unfolding leavingPlan leavingTests
+unfolding leavingPlan
 returns c = sym (here _ _ _ _ (sym (c .before .port-off .ensures) ∙ c .if1 .taken))
 
 too-long-for-port-requires : tie.Need-too-long-for-port-requires
 too-long-for-port-requires c κs = search needs
 
 returns-2 : tie.Need-returns-2
-unfolding leavingPlan leavingTests
+unfolding leavingPlan
 returns-2 c =
     let e1 = c .before .before in
     sym
@@ -38,7 +39,7 @@ returns-2 c =
     ∙ here _ _ _ _ (sym (c .before .too-long-for-port .ensures) ∙ c .if2 .taken))
 
 returns-3 : tie.Need-returns-3
-unfolding leavingPlan leavingTests
+unfolding leavingPlan
 returns-3 c =
     let e1 = c .before .before in
     let s = e1 .before .before .before in

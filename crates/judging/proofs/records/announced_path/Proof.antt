@@ -1,5 +1,4 @@
 use mathlib.Core.Path.{_≡_, ap, _∙_}
-use mathlib.Core.Bool.{false}
 use Rattle.packet.specs.Read.{longestPacket}
 use Rattle.outgoing.proofs.LeavingLaws.{whole}
 use Prim.Native.Nat.{ℕ, _+_}
@@ -7,7 +6,7 @@ use mathlib.Core.List.{List}
 use Rattle.octets.specs.Choice.{_then_otherwise_}
 use Rattle.packet.specs.Announce.{blobOf}
 use Rattle.packet.specs.declared.Parts.{Parts}
-use Rattle.rules.specs.Relay.{used, noNotes, makePath}
+use Rattle.rules.specs.Relay.{used, makePath}
 use Rattle.rules.specs.Arrival.{destination, blob}
 use Rattle.rules.specs.Writes.{announcedPath}
 use Rattle.judging.specs.Seen.{arrivalOf, pathOf}
@@ -43,10 +42,13 @@ announced-blobs-requires c κs = c .before .before .before .before .before .befo
 add-t14 : tie.Need-add-t14
 add-t14 c = search needs
 
+none-requires : tie.Need-none-requires
+none-requires c κs = search needs
+
 returns : tie.Need-returns
 unfolding pathOf announcedPath _then_otherwise_
 returns c =
-    let after-announced-blobs = c .before .before in
+    let after-announced-blobs = c .before .before .before in
     let after-announced-rate = after-announced-blobs .before in
     let after-blob = after-announced-rate .before in
     let after-payload = after-blob .before in
@@ -63,7 +65,7 @@ returns c =
     let rate = after-announced-rate .announced-rate .ensures .0
     ∙ ap (λ (x : List ℕ). rateAnnounced (s .settings) (s .known) x (s .arrived .clock)) own ∙ rate-announced a (s .known) (s .settings) (s .mode) in
     let blobs = after-announced-blobs .announced-blobs .ensures .0 ∙ ap (blobsAnnounced (s .known)) own ∙ blobs-announced a (s .known) in (
-      (λ i. used (makePath (destination a) (a .port) (hop i) (next i) (a .clock + lifetime i) (rate i) noNotes (blobs i))),
+      (λ i. used (makePath (destination a) (a .port) (hop i) (next i) (a .clock + lifetime i) (rate i) (c .none .ensures i) (blobs i))),
       record { entry = after-announced-rate .announced-rate .ensures .1; blobs = after-announced-blobs .announced-blobs .ensures .1 },
     )
 
@@ -79,4 +81,5 @@ announced-path-spec =
     announced-rate-requires
     announced-blobs-requires
     add-t14
+    none-requires
     returns)

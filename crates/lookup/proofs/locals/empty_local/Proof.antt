@@ -5,7 +5,7 @@ use lib.ListN.{getD}
 use borrow.Author.Tests.{eq-eqb, ne-eqb}
 use Rattle.numbers.specs.Numbers.{localCount}
 use Rattle.tables.specs.Places.{localsAt, localWidth}
-use Rattle.lookup.specs.Search.{lowestRow}
+use Rattle.lookup.specs.Search.{lowestRecord}
 use Rattle.lookup.proofs.Searches.{none-yet, not-here, found-here, nowhere}
 use Rattle.lookup.proofs.Tables.{empty-lowest}
 use borrow.Author.Needs.{needs}
@@ -13,7 +13,7 @@ use Rattle.lookup.proofs.locals.empty_local.Statement.{statement}
 use Rattle.lookup.proofs.locals.empty_local.Tie as tie
 
 abbrev Inv-loop : tie.InvT-loop
-Inv-loop tables i₀ i = (i ≤ localCount) × (lowestRow (λ b. eqb (getD b 0 0) 0) localsAt localWidth i tables ≡ i)
+Inv-loop tables i₀ i = (i ≤ localCount) × (lowestRecord (λ b. eqb (getD b 0 0) 0) localsAt localWidth i tables ≡ i)
 
 abbrev μ-loop : tie.MeasureT-loop
 μ-loop tables i₀ i = localCount - i

@@ -2,7 +2,7 @@ use Prim.Native.Nat.{_-_, _≤_}
 use mathlib.Core.Path.{_≡_, _∙_}
 use Rattle.numbers.specs.Numbers.{localCount}
 use Rattle.tables.specs.Places.{localsAt, localWidth}
-use Rattle.lookup.specs.Search.{hasKey, lowestRow}
+use Rattle.lookup.specs.Search.{hasKey, lowestRecord}
 use Rattle.lookup.proofs.Searches.{none-yet, not-here, found-here, nowhere}
 use Rattle.lookup.proofs.Tables.{local-lowest}
 use borrow.Author.Needs.{needs}
@@ -10,7 +10,7 @@ use Rattle.lookup.proofs.locals.place_of.Statement.{statement}
 use Rattle.lookup.proofs.locals.place_of.Tie as tie
 
 abbrev Inv-loop : tie.InvT-loop
-Inv-loop tables address i₀ i = (i ≤ localCount) × (lowestRow (hasKey address) localsAt localWidth i tables ≡ i)
+Inv-loop tables address i₀ i = (i ≤ localCount) × (lowestRecord (hasKey address) localsAt localWidth i tables ≡ i)
 
 abbrev μ-loop : tie.MeasureT-loop
 μ-loop tables address i₀ i = localCount - i

@@ -1,16 +1,16 @@
 use Prim.Native.Nat.{_-_, _≤_}
 use mathlib.Core.Path.{_≡_, ap}
 use mathlib.Core.Bool.{not}
-use Rattle.lookup.specs.Search.{isLive, lowestRow}
+use Rattle.lookup.specs.Search.{isLive, lowestRecord}
 use Rattle.lookup.proofs.Searches.{none-yet, not-here, found-here, nowhere}
-use Rattle.tables.proofs.Lent.{row-end}
+use Rattle.tables.proofs.Lent.{record-end}
 use native.Mathlib.Omega.{arith}
 use borrow.Author.Needs.{needs}
 use Rattle.lookup.proofs.search.free_place.Statement.{statement}
 use Rattle.lookup.proofs.search.free_place.Tie as tie
 
 abbrev Inv-loop : tie.InvT-loop
-Inv-loop tables at width count expiry clock i₀ i = (i ≤ count) × (lowestRow (λ b. not (isLive expiry clock b)) at width i tables ≡ i)
+Inv-loop tables at width count expiry clock i₀ i = (i ≤ count) × (lowestRecord (λ b. not (isLive expiry clock b)) at width i tables ≡ i)
 
 abbrev μ-loop : tie.MeasureT-loop
 μ-loop tables at width count expiry clock i₀ i = count - i
@@ -21,7 +21,7 @@ loop-holds c = (search needs, none-yet _ _ _ _)
 record-at-requires : tie.Need-record-at-requires Inv-loop μ-loop
 record-at-requires c κs =
     let a = c .before .before .before .args in
-    omega (arith, row-end (a .at) (a .width) (a .count) (c .before .loop .i) (c .loop-test .taken))
+    omega (arith, record-end (a .at) (a .width) (a .count) (c .before .loop .i) (c .loop-test .taken))
 
 is-live-requires : tie.Need-is-live-requires Inv-loop μ-loop
 is-live-requires c κs = search needs

@@ -5,10 +5,10 @@ use mathlib.Core.List.{List}
 use lib.ListN.{length, take, drop}
 use Rattle.octets.specs.Part.{part}
 use Rattle.octets.proofs.Part.{part-range, range-length}
-use Rattle.lookup.specs.Search.{isLiveOf, lowestRow}
+use Rattle.lookup.specs.Search.{isLiveOf, lowestRecord}
 use Rattle.lookup.proofs.Searches.{none-yet, not-here, found-here, nowhere}
 use Rattle.tables.specs.Layout.{recordAt}
-use Rattle.tables.proofs.Lent.{row-end}
+use Rattle.tables.proofs.Lent.{record-end}
 use native.Mathlib.Omega.{arith}
 use borrow.Author.Needs.{needs}
 use Rattle.lookup.proofs.search.live_each.Statement.{statement}
@@ -16,18 +16,18 @@ use Rattle.lookup.proofs.search.live_each.Tie as tie
 
 abbrev Inv-loop : tie.InvT-loop
 Inv-loop tables at width count expiry key last clock i₀ from₀ i from =
-    (i ≤ count) × (lowestRow (isLiveOf key expiry clock) at width i tables ≡ i) × (from ≡ at + width * i)
+    (i ≤ count) × (lowestRecord (isLiveOf key expiry clock) at width i tables ≡ i) × (from ≡ at + width * i)
 
 abbrev μ-loop : tie.MeasureT-loop
 μ-loop tables at width count expiry key last clock i₀ from₀ i from = count - i
 
 -- the record at place i ends within the tables
 within : (tables : List ℕ) (at width count i from : ℕ) → at + width * count ≤ length tables → i < count → from ≡ at + width * i → from + width ≤ length tables
-within tables at width count i from fits l e = omega (arith, row-end at width count i l)
+within tables at width count i from fits l e = omega (arith, record-end at width count i l)
 
--- and its bytes are the row's
-row : (tables : List ℕ) (at width i from : ℕ) → from ≡ at + width * i → take (from + width - from) (drop from tables) ≡ recordAt at width tables i
-row tables at width i from e = part-range tables from width ∙ ap (λ (n : ℕ). part tables n width) e
+-- and its bytes are the record's
+lent-record : (tables : List ℕ) (at width i from : ℕ) → from ≡ at + width * i → take (from + width - from) (drop from tables) ≡ recordAt at width tables i
+lent-record tables at width i from e = part-range tables from width ∙ ap (λ (n : ℕ). part tables n width) e
 
 loop-holds : tie.Need-loop-holds Inv-loop μ-loop
 loop-holds c = (search needs, none-yet _ _ _ _, omega arith)
@@ -69,7 +69,7 @@ returns c =
     let c4 = c3 .before in
     let c7 = c4 .before .before .before in
     let a = c7 .args in
-    found-here _ _ _ _ _ (row (a .tables .now) (a .at) (a .width) (c4 .loop .i) (c4 .loop .from) (c4 .loop .inv .2)) (c .before .is-live-of .ensures)
+    found-here _ _ _ _ _ (lent-record (a .tables .now) (a .at) (a .width) (c4 .loop .i) (c4 .loop .from) (c4 .loop .inv .2)) (c .before .is-live-of .ensures)
     _ (c3 .loop-test .taken) (c .if1 .taken) (c4 .loop .inv .1)
 
 add-from : tie.Need-add-from Inv-loop μ-loop
@@ -93,7 +93,7 @@ loop-again c =
     let c7 = c4 .before .before .before in
     let a = c7 .args in (
       search needs,
-      not-here _ _ _ _ _ (row (a .tables .now) (a .at) (a .width) (c4 .loop .i) (c4 .loop .from) (c4 .loop .inv .2)) (c .before .is-live-of .ensures)
+      not-here _ _ _ _ _ (lent-record (a .tables .now) (a .at) (a .width) (c4 .loop .i) (c4 .loop .from) (c4 .loop .inv .2)) (c .before .is-live-of .ensures)
           (c .if1 .left) (c4 .loop .inv .1),
       omega (arith, c4 .loop .inv .2, mul-suc (a .width) (c4 .loop .i)),
     )

@@ -4,7 +4,7 @@ use native.Mathlib.Omega.{arith}
 use mathlib.Core.List.{List}
 use mathlib.Core.Path.{_≡_, sym, ap, _∙_}
 use lib.ListN.{length}
-use Rattle.lookup.specs.Search.{lastWord, isLiveOf, lowestRow}
+use Rattle.lookup.specs.Search.{lastWord, isLiveOf, lowestRecord}
 use Rattle.lookup.proofs.Searches.{none-yet, within-run, runs, run-passed, run-found}
 use borrow.Author.Needs.{needs}
 use Rattle.lookup.proofs.search.live_place.Statement.{statement}
@@ -12,7 +12,7 @@ use Rattle.lookup.proofs.search.live_place.Tie as tie
 
 abbrev Inv-loop : tie.InvT-loop
 Inv-loop tables at width count expiry key clock tail last i₀ from₀ i from =
-    (i ≤ count) × (lowestRow (isLiveOf key expiry clock) at width i tables ≡ i) × (from ≡ at + width * i)
+    (i ≤ count) × (lowestRecord (isLiveOf key expiry clock) at width i tables ≡ i) × (from ≡ at + width * i)
 
 abbrev μ-loop : tie.MeasureT-loop
 μ-loop tables at width count expiry key clock tail last i₀ from₀ i from = count - i
@@ -111,7 +111,7 @@ returns-2 c =
     let a = at .before .before .before .before .args in
     let all : at .loop .i + (a .count - at .loop .i) ≡ a .count = omega (arith, at .loop .inv .0) in
     sym (runs _ _ _ _ (at .loop .i) (a .count - at .loop .i) (at .loop .inv .2) (at .loop .inv .1) (c .live-each .ensures))
-    ∙ ap (λ (n : ℕ). lowestRow (isLiveOf (a .key .now) (a .expiry) (a .clock)) (a .at) (a .width) n (a .tables .now)) all
+    ∙ ap (λ (n : ℕ). lowestRecord (isLiveOf (a .key .now) (a .expiry) (a .clock)) (a .at) (a .width) n (a .tables .now)) all
 
 pub live-place-spec : {M : Type 1} → statement M
 live-place-spec =

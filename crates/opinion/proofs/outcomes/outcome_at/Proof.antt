@@ -1,4 +1,5 @@
-use Rattle.opinion.proofs.Judged.{mark-is, effect-so, kept-so}
+use Rattle.codes.proofs.Single.{mark-back}
+use Rattle.opinion.proofs.Judged.{effect-so, kept-so}
 use Rattle.opinion.proofs.Views.{idle}
 use Rattle.opinion.proofs.Steps.{entry-arrival}
 use Rattle.opinion.proofs.Entries.{came-reads}
@@ -125,7 +126,7 @@ returns-2 c =
     let r = after-plan-of .plan-of .result in (
       c .before .effect-of .ensures ∙ ap (plannedEffect r) (c .before .before .is-data .ensures)
           ∙ effect-so b (knownIn log i) came a is s sees r (after-plan-of .plan-of .ensures),
-      ap (λ (m : ℕ). eqb m 1) (c .mark-of .ensures) ∙ mark-is _
+      ap (λ (m : ℕ). eqb m 1) (c .mark-of .ensures) ∙ mark-back _
           ∙ kept-so b (knownIn log i) came a is s sees r (after-plan-of .plan-of .ensures) _ (after-remembers .remembers .ensures),
     )
 

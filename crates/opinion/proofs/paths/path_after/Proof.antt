@@ -1,11 +1,15 @@
 use Rattle.opinion.proofs.Steps.{renumber-path, mark-step, another-mark, path-left}
-use Rattle.judging.specs.Seen.{pathOf}
+use Rattle.judging.specs.Seen.{pathOf, pathRecord}
+use Rattle.opinion.proofs.Slots.{slot}
+use Rattle.rules.specs.Relay.{withPathNotes}
+use Rattle.notes.specs.declared.Notes.{Notes}
 use Rattle.rules.specs.Renumbering.{image}
 use Rattle.octets.specs.Choice.{same}
 use Rattle.opinion.specs.Log.{addressIn, imagesIn, kindIn}
 use mathlib.Core.List.{List}
 use Prim.Native.Nat.{ℕ}
 use mathlib.Core.Path.{sym, ap, _∙_}
+use borrow.Author.Needs.{needs}
 use Rattle.opinion.proofs.paths.path_after.Statement.{statement}
 use Rattle.opinion.proofs.paths.path_after.Tie as tie
 
@@ -36,18 +40,24 @@ returns c =
 has-address-requires : tie.Need-has-address-requires
 has-address-requires c κs = c .before .before .before .entry-at .ensures .1
 
+noted-requires : tie.Need-noted-requires
+noted-requires c κs = search needs
+
 returns-2 : tie.Need-returns-2
 unfolding pathOf
 returns-2 c =
-    let after-kind-in = c .before .before .before .before in
+    let then3 = c .before in
+    let after-kind-in = then3 .before .before .before .before in
     let after-entry-at = after-kind-in .before in
     let start = after-entry-at .before .before in
     let log = start .args .log .now in
     let i : ℕ = start .args .i in
     record {
-      is = mark-step log i (start .args .destination) (start .args .before) (start .pre .3 .is) (sym (ap kindIn (after-entry-at .entry-at .ensures .0))
-          ∙ sym (after-kind-in .kind-in .ensures) ∙ c .before .before .if2 .taken) (sym (c .before .has-address .ensures
-          ∙ ap (λ (b : List ℕ). same (addressIn b) (start .args .destination)) (after-entry-at .entry-at .ensures .0)) ∙ c .if3 .taken);
+      is = ap (λ (n : Notes). slot (start .args .before .there) (withPathNotes n (pathRecord (start .args .destination) (start .args .before))))
+          (c .noted .ensures)
+          ∙ mark-step log i (start .args .destination) (start .args .before) (start .pre .3 .is) (sym (ap kindIn (after-entry-at .entry-at .ensures .0))
+          ∙ sym (after-kind-in .kind-in .ensures) ∙ then3 .before .before .if2 .taken) (sym (then3 .before .has-address .ensures
+          ∙ ap (λ (b : List ℕ). same (addressIn b) (start .args .destination)) (after-entry-at .entry-at .ensures .0)) ∙ then3 .if3 .taken);
       fits = record { entry = start .pre .3 .fits .entry; blobs = start .pre .3 .fits .blobs };
       port = start .pre .3 .port;
     }
@@ -110,6 +120,7 @@ path-after-spec =
     image-in-requires
     returns
     has-address-requires
+    noted-requires
     returns-2
     returns-3
     after-announce-requires

@@ -4,12 +4,16 @@ use Rattle.octets.specs.Index.{_and_}
 use Rattle.judging.specs.Seen.{pathOf}
 use mathlib.Core.Path.{refl}
 use native.Mathlib.Omega.{arith}
+use borrow.Author.Needs.{needs}
 use Rattle.opinion.proofs.records.no_path.Statement.{statement}
 use Rattle.opinion.proofs.records.no_path.Tie as tie
+
+none-requires : tie.Need-none-requires
+none-requires c κs = search needs
 
 returns : tie.Need-returns
 unfolding pathOf rateEntryOk _and_ _then_otherwise_
 returns c = (λ d. refl, record { entry = refl; blobs = omega arith }, omega arith)
 
 pub no-path-spec : {M : Type 1} → statement M
-no-path-spec = tie.close (tie.spec returns)
+no-path-spec = tie.close (tie.spec none-requires returns)

@@ -1,5 +1,6 @@
 use Rattle.octets.specs.BigEndian.{bigEndian}
 use Rattle.octets.specs.Part.{patch}
+use Rattle.codes.specs.Codes.{markOf}
 use borrow.Author.Needs.{needs}
 use Rattle.opinion.proofs.writing.head_of.Statement.{statement}
 use Rattle.opinion.proofs.writing.head_of.Tie as tie
@@ -20,7 +21,7 @@ write-number-at-requires-2 : tie.Need-write-number-at-requires-2
 write-number-at-requires-2 c κs = search needs
 
 returns : tie.Need-returns
-unfolding patch bigEndian
+unfolding patch bigEndian markOf
 returns c =
     let after-write-number-at = c .before .before .before .before in
     let after-mark-of = after-write-number-at .before .before in

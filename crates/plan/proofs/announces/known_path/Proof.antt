@@ -1,10 +1,10 @@
 use Prim.Native.Nat.{ℕ}
-use mathlib.Core.Bool.{Bool, false}
+use mathlib.Core.Bool.{Bool, true, false}
 use mathlib.Core.List.{List}
 use mathlib.Core.Path.{_≡_, sym, ap, _∙_}
-use lib.ListN.{length}
-use Rattle.octets.specs.Listed.{valued}
-use Rattle.octets.proofs.Listed.{here, past, none-first}
+use lib.ListN.{length, drop}
+use Rattle.octets.specs.Listed.{firstOf, valued}
+use Rattle.octets.proofs.Listed.{here, past}
 use Rattle.rules.specs.Relay.{used, Path, Relay}
 use Rattle.rules.specs.View.{View, viewAt}
 use Rattle.rules.specs.Arrival.{Arrival, hops, blob}
@@ -17,7 +17,8 @@ use Rattle.tables.specs.Layout.{relayOf}
 use Rattle.packet.specs.Announce.{blobOf, emissionOf}
 use Rattle.plan.specs.Decided.{arrivalOf, pathAt}
 use Rattle.plan.specs.Kinds.{revivedBy, worseThan, knownPath}
-use Rattle.plan.specs.declared.Decision.the-variants.{Drop}
+use Rattle.plan.specs.declared.Decision.{Decision}
+use Rattle.plan.specs.declared.Decision.the-variants.{Drop, Announce}
 use Rattle.plan.proofs.AnnounceLaws.{known-revived, known-made}
 use native.Mathlib.Omega.{arith}
 use borrow.Author.Needs.{needs}
@@ -52,7 +53,12 @@ unrevived c = sym (c .before .revives .ensures) ∙ c .if1 .left
 made : (c : tie.Else1) (test : Path → Bool) → said (s1 (c .before)) test ≡ test (p (s1 (c .before)))
 made c = known-made (a (s1 (c .before))) (p (s1 (c .before))) (read-blob (c .before)) (unrevived c)
 
--- ---- what each test says
+-- ---- each test in order: what it says, and what is left to decide once it is passed
+abbrev left : tie.Else1 → ℕ → Decision
+left c n =
+    let s = s1 (c .before) in
+    firstOf (drop n (valued Drop (knownTests (v s) (a s) (everywhere (used (p s)))))) (Announce (s .args .place) true)
+
 said-replay : (c : tie.After-holds-blob) → let s = s1 (c .before .before) in said s (isReplay (a s)) ≡ c .holds-blob .result
 said-replay c =
     let s = s1 (c .before .before) in
@@ -60,22 +66,39 @@ said-replay c =
     ∙ ap (λ (x : List ℕ). isAmong x (held (p s .blobs))) (sym (read-blob (c .before .before)))
     ∙ sym (c .holds-blob .ensures)
 
-said-not-better : (c : tie.After-not-better) → let s = s1 (c .before .before .before .before) in said s (isNotBetter (a s)) ≡ c .not-better .result
+abbrev e2 : tie.Else2 → tie.Else1
+e2 c = c .before .before
+
+no-replay : (c : tie.Else2) → left (e2 c) 0 ≡ left (e2 c) 1
+unfolding knownTests valued
+no-replay c = past _ _ _ _ (said-replay (c .before) ∙ c .if2 .left)
+
+said-not-better : (c : tie.After-not-better) → let s = s1 (e2 (c .before) .before) in said s (isNotBetter (a s)) ≡ c .not-better .result
 unfolding worseThan
 said-not-better c =
-    let e1 = c .before .before .before in
+    let e1 = e2 (c .before) in
     let s = s1 (e1 .before) in
     made e1 (isNotBetter (a s))
     ∙ ap (λ (x : List ℕ). worseThan (emissionOf x) (hops (a s)) (p s)) (sym (read-blob (e1 .before)))
     ∙ sym (c .not-better .ensures)
 
-said-rate-limited : (c : tie.After-rate-at)
-    → let s = s1 (c .before .before .before .before .before .before) in said s (isRateLimited (v s) (a s)) ≡ c .rate-at .result .dropped
+abbrev e3 : tie.Else3 → tie.Else1
+e3 c = e2 (c .before .before)
+
+no-not-better : (c : tie.Else3) → left (e3 c) 0 ≡ left (e3 c) 2
+unfolding knownTests valued
+no-not-better c = no-replay (c .before .before) ∙ past _ _ _ _ (said-not-better (c .before) ∙ c .if3 .left)
+
+said-rate-limited : (c : tie.After-rate-at) → let s = s1 (e3 (c .before) .before) in said s (isRateLimited (v s) (a s)) ≡ c .rate-at .result .dropped
 unfolding viewAt
 said-rate-limited c =
-    let e1 = c .before .before .before .before .before in
+    let e1 = e3 (c .before) in
     let s = s1 (e1 .before) in
     made e1 (isRateLimited (v s) (a s)) ∙ ap (λ (y : Rated). y .dropped) (sym (c .rate-at .ensures))
+
+no-rate-limited : (c : tie.Else4) → let e1 = e3 (c .before .before) in left e1 0 ≡ left e1 3
+unfolding knownTests valued
+no-rate-limited c = no-not-better (c .before .before) ∙ past _ _ _ _ (said-rate-limited (c .before) ∙ c .if4 .left)
 
 payload-requires : tie.Need-payload-requires
 payload-requires c κs = search needs
@@ -106,34 +129,18 @@ not-better-requires c κs = search needs
 
 returns-3 : tie.Need-returns-3
 unfolding knownPath knownTests valued
-returns-3 c =
-    let e2 = c .before .before in
-    sym (past _ _ _ _ (said-replay (e2 .before) ∙ e2 .if2 .left) ∙ here _ _ _ _ (said-not-better (c .before) ∙ c .if3 .taken))
+returns-3 c = sym (no-replay (c .before .before) ∙ here _ _ _ _ (said-not-better (c .before) ∙ c .if3 .taken))
 
 rate-at-requires : tie.Need-rate-at-requires
 rate-at-requires c κs = search needs
 
 returns-4 : tie.Need-returns-4
 unfolding knownPath knownTests valued
-returns-4 c =
-    let e3 = c .before .before in
-    let e2 = e3 .before .before in
-    sym
-    (past _ _ _ _ (said-replay (e2 .before) ∙ e2 .if2 .left)
-    ∙ past _ _ _ _ (said-not-better (e3 .before) ∙ e3 .if3 .left)
-    ∙ here _ _ _ _ (said-rate-limited (c .before) ∙ c .if4 .taken))
+returns-4 c = sym (no-not-better (c .before .before) ∙ here _ _ _ _ (said-rate-limited (c .before) ∙ c .if4 .taken))
 
 returns-5 : tie.Need-returns-5
-unfolding knownPath knownTests valued
-returns-5 c =
-    let e3 = c .before .before in
-    let e2 = e3 .before .before in
-    let s = s1 (e2 .before .before .before) in
-    sym
-    (none-first (valued Drop (knownTests (v s) (a s) (everywhere (used (p s))))) _ (
-      said-replay (e2 .before) ∙ e2 .if2 .left,
-      (said-not-better (e3 .before) ∙ e3 .if3 .left, (said-rate-limited (c .before) ∙ c .if4 .left, tt)),
-    ))
+unfolding knownPath knownTests valued firstOf
+returns-5 c = sym (no-rate-limited c)
 
 pub known-path-spec : {M : Type 1} → statement M
 known-path-spec =

@@ -13,7 +13,7 @@ use Rattle.rules.specs.Arrival.{Arrival, header, destination}
 use Rattle.tables.specs.Layout.{relayOf}
 use Rattle.outgoing.proofs.LeavingLaws.{whole, long}
 use Rattle.plan.specs.Decided.{arrivalOf}
-use Rattle.rules.specs.declared.Notes.{Notes}
+use Rattle.notes.specs.declared.Notes.{Notes}
 use Rattle.plan.proofs.MarkedLaws.{not-announce, not-single, by-path, marked-at, marked-nowhere}
 use Rattle.plan.proofs.marked.for_marked_path.Statement.{statement}
 use Rattle.plan.proofs.marked.for_marked_path.Tie as tie

@@ -1,7 +1,7 @@
 use mathlib.Core.Path.{sym, ap, ap₂, _∙_}
 use lib.Dec.{leb}
 use Rattle.octets.proofs.Index.{and-no, and-yes}
-use Rattle.rules.specs.declared.Notes.{Notes}
+use Rattle.notes.specs.declared.Notes.{Notes}
 use borrow.Author.Needs.{needs}
 use Rattle.rules.proofs.Ranges.{path-counted}
 use Rattle.plan.specs.Kinds.{revivedBy}

@@ -6,7 +6,7 @@ use native.Mathlib.Nat.{le-antisymm}
 use borrow.Author.Tests.{eq-eqb}
 use Rattle.octets.specs.Index.{allBelow}
 use Rattle.octets.proofs.Index.{all-none, all-more}
-use Rattle.saved.specs.Editions.{editionAt}
+use Rattle.editions.specs.Editions.{editionAt}
 use Rattle.saved.specs.File.{bodyCount}
 use Rattle.saved.proofs.LoadLaws.{sized, size-wrong, sizes-right}
 use borrow.Author.Needs.{needs}

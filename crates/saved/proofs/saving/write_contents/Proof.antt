@@ -6,11 +6,11 @@ use lib.ListN.{length}
 use Rattle.octets.specs.Part.{patch}
 use Rattle.recording.specs.Shape.{entryPlace, sumBelow}
 use Rattle.recording.proofs.Sums.{sum-none, sum-more}
-use Rattle.saved.specs.Editions.{current, widthAt}
+use Rattle.editions.specs.Editions.{current, widthAt}
 use Rattle.saved.specs.File.{bodyCount, headWidth, bodiesAt}
 use Rattle.saved.specs.Steps.{entryBytes, contentsBytes}
 use Rattle.tables.specs.Forms.{today}
-use Rattle.saved.proofs.Widths.{width-within, now-known}
+use Rattle.editions.proofs.Widths.{width-within, now-known}
 use Rattle.saved.proofs.SaveLaws.{contents-none, contents-more}
 use native.Mathlib.Omega.{arith}
 use borrow.Author.Needs.{needs}

@@ -5,7 +5,7 @@ use Rattle.octets.specs.Part.{patch}
 use Rattle.octets.specs.BigEndian.{bigEndian}
 use Rattle.saved.specs.Steps.{entryBytes}
 use Rattle.saved.proofs.SaveLaws.{entry-written}
-use Rattle.saved.proofs.Widths.{now-known}
+use Rattle.editions.proofs.Widths.{now-known}
 use native.Mathlib.Omega.{arith}
 use borrow.Author.Needs.{needs}
 use Rattle.saved.proofs.saving.write_entry.Statement.{statement}

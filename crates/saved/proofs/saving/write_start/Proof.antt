@@ -3,7 +3,7 @@ use mathlib.Core.List.{List, [], _∷_}
 use Prim.Native.Nat.{ℕ}
 use Rattle.octets.specs.Part.{patch}
 use Rattle.octets.specs.BigEndian.{bigEndian}
-use Rattle.saved.specs.Editions.{currentEdition}
+use Rattle.editions.specs.Editions.{currentEdition}
 use Rattle.saved.specs.File.{bodyCount}
 use Rattle.saved.proofs.SaveLaws.{start-written}
 use borrow.Author.Needs.{needs}

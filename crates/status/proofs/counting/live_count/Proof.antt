@@ -1,7 +1,7 @@
 use Prim.Native.Nat.{_-_, _≤_}
 use mathlib.Core.Path.{_≡_, sym}
-use Rattle.tables.proofs.Lent.{row-end}
-use Rattle.status.specs.Put.{liveRows}
+use Rattle.tables.proofs.Lent.{record-end}
+use Rattle.status.specs.Put.{liveRecords}
 use Rattle.status.proofs.Asked.{mark-le, none-counted, counted-more, counted-all, counted-le}
 use native.Mathlib.Omega.{arith}
 use borrow.Author.Needs.{needs}
@@ -9,7 +9,7 @@ use Rattle.status.proofs.counting.live_count.Statement.{statement}
 use Rattle.status.proofs.counting.live_count.Tie as tie
 
 abbrev Inv-loop : tie.InvT-loop
-Inv-loop tables at width count expiry clock live₀ i₀ live i = (i ≤ count) × (live ≡ liveRows at width i expiry clock tables)
+Inv-loop tables at width count expiry clock live₀ i₀ live i = (i ≤ count) × (live ≡ liveRecords at width i expiry clock tables)
 
 abbrev μ-loop : tie.MeasureT-loop
 μ-loop tables at width count expiry clock live₀ i₀ live i = count - i
@@ -20,7 +20,7 @@ loop-holds c = (search needs, sym (none-counted _ _ _ _ _))
 record-at-requires : tie.Need-record-at-requires Inv-loop μ-loop
 record-at-requires c κs =
     let a = c .before .before .before .args in
-    omega (arith, row-end (a .at) (a .width) (a .count) (c .before .loop .i) (c .loop-test .taken))
+    omega (arith, record-end (a .at) (a .width) (a .count) (c .before .loop .i) (c .loop-test .taken))
 
 is-live-requires : tie.Need-is-live-requires Inv-loop μ-loop
 is-live-requires c κs = search needs

@@ -4,7 +4,7 @@ use lib.ListN.{length, length-set}
 use Rattle.octets.proofs.ListOf.{mixed}
 use Rattle.rules.specs.declared.Answer.{Answer}
 use Rattle.surveying.specs.Counts.{Answered}
-use Rattle.surveying.specs.Promise.{addOne}
+use Rattle.surveying.specs.Promise.{counterCount, addOne}
 use Rattle.surveying.proofs.CountLaws.{one-more, all-grown}
 use native.Mathlib.Omega.{arith}
 use borrow.Author.Needs.{needs}
@@ -16,10 +16,10 @@ entry came size answer = record { port = came; size = size; answer = answer }
 
 abbrev Inv-loop : tie.InvT-loop
 Inv-loop came size answer grown₀ counter₀ grown counter =
-    (counter ≤ 79) × (length grown ≡ length grown₀) × (grown ≡ mixed counter (addOne grown₀ (entry came size answer)) grown₀)
+    (counter ≤ counterCount) × (length grown ≡ length grown₀) × (grown ≡ mixed counter (addOne grown₀ (entry came size answer)) grown₀)
 
 abbrev μ-loop : tie.MeasureT-loop
-μ-loop came size answer grown₀ counter₀ grown counter = 79 - counter
+μ-loop came size answer grown₀ counter₀ grown counter = counterCount - counter
 
 loop-holds : tie.Need-loop-holds Inv-loop μ-loop
 loop-holds c = (search needs, refl, refl)
@@ -56,7 +56,7 @@ loop-again c =
     let a = c4 .args in
     let good = c4 .good in
     let l = c3 .loop in
-    let long : length (a .counts) ≡ 79 = search needs in
+    let long : length (a .counts) ≡ counterCount = search needs in
     let x : Answered = entry (a .came) (a .size) (a .answer) in (
       search needs,
       simp length-set (omega (arith, l .inv .1)),
@@ -69,7 +69,7 @@ returns c =
     let a = c .before .before .args in
     let good = c .before .before .good in
     let l = c .before .loop in
-    let long : length (a .counts) ≡ 79 = search needs in
+    let long : length (a .counts) ≡ counterCount = search needs in
     all-grown (a .counts) (entry (a .came) (a .size) (a .answer)) long (l .grown) (l .counter) (l .inv .2) (c .loop-test .left)
 
 pub add-one-spec : {M : Type 1} → statement M

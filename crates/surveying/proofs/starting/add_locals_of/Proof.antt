@@ -1,6 +1,7 @@
 use Prim.Native.Nat.{_-_, _≤_}
 use mathlib.Core.Path.{_≡_, refl}
 use lib.ListN.{length, take}
+use Rattle.numbers.specs.Numbers.{localCount}
 use Rattle.tables.specs.Layout.{relayOf}
 use Rattle.tables.proofs.Seen.{locals-length}
 use Rattle.surveying.specs.Start.{localCalls, tablesAfter}
@@ -12,10 +13,10 @@ use Rattle.surveying.proofs.starting.add_locals_of.Tie as tie
 
 abbrev Inv-loop : tie.InvT-loop
 Inv-loop from to₀ place₀ to place =
-    (place ≤ 16) × (length to ≡ length to₀) × (to ≡ tablesAfter (localCalls (take place (relayOf from .locals))) to₀)
+    (place ≤ localCount) × (length to ≡ length to₀) × (to ≡ tablesAfter (localCalls (take place (relayOf from .locals))) to₀)
 
 abbrev μ-loop : tie.MeasureT-loop
-μ-loop from to₀ place₀ to place = 16 - place
+μ-loop from to₀ place₀ to place = localCount - place
 
 loop-holds : tie.Need-loop-holds Inv-loop μ-loop
 loop-holds c = (search needs, refl, no-local-added (relayOf (c .before .before .args .from .now) .locals) (c .before .before .args .to .now))

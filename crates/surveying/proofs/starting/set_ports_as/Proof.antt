@@ -3,6 +3,7 @@ use native.Mathlib.Nat.{le-antisymm}
 use mathlib.Core.Path.{_≡_, refl, ap, _∙_}
 use lib.ListN.{length}
 use Rattle.octets.specs.Index.{listOf}
+use Rattle.numbers.specs.Numbers.{portCount}
 use Rattle.tables.specs.Layout.{relayOf}
 use Rattle.surveying.specs.Start.{portCall, tablesAfter}
 use Rattle.surveying.proofs.SettingLaws.{no-port-set, port-more}
@@ -12,10 +13,10 @@ use Rattle.surveying.proofs.starting.set_ports_as.Tie as tie
 
 abbrev Inv-loop : tie.InvT-loop
 Inv-loop from to₀ port₀ to port =
-    (port ≤ 16) × (length to ≡ length to₀) × (to ≡ tablesAfter (listOf (portCall (relayOf from)) port) to₀)
+    (port ≤ portCount) × (length to ≡ length to₀) × (to ≡ tablesAfter (listOf (portCall (relayOf from)) port) to₀)
 
 abbrev μ-loop : tie.MeasureT-loop
-μ-loop from to₀ port₀ to port = 16 - port
+μ-loop from to₀ port₀ to port = portCount - port
 
 loop-holds : tie.Need-loop-holds Inv-loop μ-loop
 loop-holds c = (search needs, refl, no-port-set (relayOf (c .before .before .args .from .now)) (c .before .before .args .to .now))
@@ -42,7 +43,7 @@ returns : tie.Need-returns Inv-loop μ-loop
 returns c =
     let a = c .before .before .before .before .args in
     let l = c .before .loop in
-    let end : l .port ≡ 16 = le-antisymm (l .inv .0) (c .loop-test .left) in
+    let end : l .port ≡ portCount = le-antisymm (l .inv .0) (c .loop-test .left) in
     l .inv .2 ∙ ap (λ (n : ℕ). tablesAfter (listOf (portCall (relayOf (a .from .now))) n) (a .to .now)) end
 
 pub set-ports-as-spec : {M : Type 1} → statement M

@@ -1,6 +1,6 @@
 use Rattle.numbers.specs.Numbers.{clockLimit}
 use lib.Dec.{ltb}
-use Rattle.tables.proofs.Plain.{together-ltb, rows-apart}
+use Rattle.tables.proofs.Plain.{together-ltb, records-apart}
 use Rattle.tables.specs.Groups.{hashPlain}
 use Rattle.tables.specs.Fields.{hashExpiryAt}
 use Rattle.tables.specs.Places.{hashWidth}
@@ -19,7 +19,7 @@ returns : tie.Need-returns
 unfolding hashPlain
 returns c =
     let a = c .before .before .before .args in
-    sym (rows-apart (λ x. ltb x clockLimit) (a .at) hashExpiryAt hashWidth 4 (a .t .now) (omega arith)
+    sym (records-apart (λ x. ltb x clockLimit) (a .at) hashExpiryAt hashWidth 4 (a .t .now) (omega arith)
     ∙ and-no _ (sym (c .before .four-marked .ensures) ∙ not-true _ (c .if1 .taken)))
 
 add-four-together : tie.Need-add-four-together
@@ -34,7 +34,7 @@ returns-2 c =
     let c2 = c .before .before in
     let a = c2 .before .before .args in
     ap (λ x. ltb x clockLimit) (c .four-together .ensures) ∙ together-ltb 40 _ 4
-    ∙ sym (rows-apart (λ x. ltb x clockLimit) (a .at) hashExpiryAt hashWidth 4 (a .t .now) (omega arith)
+    ∙ sym (records-apart (λ x. ltb x clockLimit) (a .at) hashExpiryAt hashWidth 4 (a .t .now) (omega arith)
     ∙ and-yes _ (sym (c2 .four-marked .ensures) ∙ not-false _ (c .before .if1 .left)))
 
 pub four-hashes-plain-spec : {M : Type 1} → statement M

@@ -1,4 +1,4 @@
-use Rattle.tables.proofs.Plain.{together-plain, rows-apart}
+use Rattle.tables.proofs.Plain.{together-plain, records-apart}
 use Rattle.tables.specs.Groups.{waysPlain, returnPlain}
 use Rattle.tables.specs.Fields.{returnArrivalAt}
 use Rattle.tables.specs.Places.{returnWidth}
@@ -17,7 +17,7 @@ returns : tie.Need-returns
 unfolding returnPlain
 returns c =
     let a = c .before .before .before .args in
-    sym (rows-apart waysPlain (a .at) returnArrivalAt returnWidth 4 (a .t .now) (omega arith)
+    sym (records-apart waysPlain (a .at) returnArrivalAt returnWidth 4 (a .t .now) (omega arith)
     ∙ and-no _ (sym (c .before .four-marked .ensures) ∙ not-true _ (c .if1 .taken)))
 
 add-four-together : tie.Need-add-four-together
@@ -35,7 +35,7 @@ returns-2 c =
     let c2 = c .before .before in
     let a = c2 .before .before .before .args in
     c .ways-plain .ensures ∙ ap waysPlain (c .before .four-together .ensures) ∙ together-plain _ 4
-    ∙ sym (rows-apart waysPlain (a .at) returnArrivalAt returnWidth 4 (a .t .now) (omega arith)
+    ∙ sym (records-apart waysPlain (a .at) returnArrivalAt returnWidth 4 (a .t .now) (omega arith)
     ∙ and-yes _ (sym (c2 .before .four-marked .ensures) ∙ not-false _ (c2 .if1 .left)))
 
 pub four-returns-plain-spec : {M : Type 1} → statement M

@@ -2,10 +2,10 @@ use Prim.Native.Nat.{ℕ, _≤_, _-_}
 use mathlib.Core.Path.{_≡_}
 use mathlib.Core.Bool.{true}
 use Rattle.octets.proofs.Index.{ended}
-use Rattle.codes.proofs.Rows.{row-end}
+use Rattle.codes.proofs.Many.{many-end}
 use Rattle.tables.specs.Layout.{recordsOk}
 use Rattle.tables.specs.Groups.{usedOrZero}
-use Rattle.tables.proofs.Loops.{none-yet, row-passes, row-fails}
+use Rattle.tables.proofs.Loops.{none-yet, record-passes, record-fails}
 use native.Mathlib.Omega.{arith}
 use borrow.Author.Needs.{needs}
 use Rattle.tables.proofs.plain_check.four_used_or_zero.Statement.{statement}
@@ -21,13 +21,13 @@ loop-holds : tie.Need-loop-holds Inv-loop μ-loop
 loop-holds c = (search needs, none-yet usedOrZero (c .before .args .at) (c .before .args .width) _)
 
 mul-start : tie.Need-mul-start Inv-loop μ-loop
-mul-start c = omega (arith, row-end (c .before .before .before .args .width) 4 (c .before .loop .i) (c .loop-test .taken))
+mul-start c = omega (arith, many-end (c .before .before .before .args .width) 4 (c .before .loop .i) (c .loop-test .taken))
 
 add-start : tie.Need-add-start Inv-loop μ-loop
-add-start c = omega (arith, row-end (c .before .before .before .args .width) 4 (c .before .loop .i) (c .loop-test .taken))
+add-start c = omega (arith, many-end (c .before .before .before .args .width) 4 (c .before .loop .i) (c .loop-test .taken))
 
 add-used-or-zero : tie.Need-add-used-or-zero Inv-loop μ-loop
-add-used-or-zero c = omega (arith, row-end (c .before .before .before .args .width) 4 (c .before .loop .i) (c .loop-test .taken))
+add-used-or-zero c = omega (arith, many-end (c .before .before .before .args .width) 4 (c .before .loop .i) (c .loop-test .taken))
 
 sub-used-or-zero : tie.Need-sub-used-or-zero Inv-loop μ-loop
 sub-used-or-zero c = search needs
@@ -36,13 +36,13 @@ part-used-or-zero-start : tie.Need-part-used-or-zero-start Inv-loop μ-loop
 part-used-or-zero-start c = search needs
 
 part-used-or-zero-end : tie.Need-part-used-or-zero-end Inv-loop μ-loop
-part-used-or-zero-end c = omega (arith, row-end (c .before .before .before .args .width) 4 (c .before .loop .i) (c .loop-test .taken))
+part-used-or-zero-end c = omega (arith, many-end (c .before .before .before .args .width) 4 (c .before .loop .i) (c .loop-test .taken))
 
 used-or-zero-requires : tie.Need-used-or-zero-requires Inv-loop μ-loop
 used-or-zero-requires c κs = search needs
 
 returns : tie.Need-returns Inv-loop μ-loop
-returns c = row-fails usedOrZero _ _ _ _ (c .before .used-or-zero .ensures) 4 (c .before .before .before .loop-test .taken) (c .if1 .taken)
+returns c = record-fails usedOrZero _ _ _ _ (c .before .used-or-zero .ensures) 4 (c .before .before .before .loop-test .taken) (c .if1 .taken)
 
 add-i : tie.Need-add-i Inv-loop μ-loop
 add-i c = search needs
@@ -53,7 +53,7 @@ loop-less c = search needs
 loop-again : tie.Need-loop-again Inv-loop μ-loop
 loop-again c =
     let c4 = c .before .before .before .before in
-    (search needs, row-passes usedOrZero _ _ _ _ (c .before .used-or-zero .ensures) (c .if1 .left) (c4 .loop .inv .1))
+    (search needs, record-passes usedOrZero _ _ _ _ (c .before .used-or-zero .ensures) (c .if1 .left) (c4 .loop .inv .1))
 
 returns-2 : tie.Need-returns-2 Inv-loop μ-loop
 returns-2 c =

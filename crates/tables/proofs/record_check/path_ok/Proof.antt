@@ -1,11 +1,14 @@
 use Prim.Native.Nat.{ℕ}
-use mathlib.Core.Path.{sym, ap, _∙_}
-use borrow.Author.Tests.{lt-ltb, le-ltb, le-leb, lt-leb}
+use mathlib.Core.Path.{_≡_, sym, ap, _∙_}
+use mathlib.Core.Bool.{true}
+use borrow.Author.Tests.{lt-ltb, le-ltb, le-leb, lt-leb, not-true, not-false}
 use Rattle.octets.specs.Index.{zeros, _and_}
+use Rattle.codes.specs.Form.{code}
+use Rattle.notes.specs.Notes.{notesForm}
 use Rattle.rules.specs.Refusals.{timeOk, pathOk}
 use Rattle.tables.specs.Places.{pathWidth}
 use Rattle.tables.specs.Records.{blobsOf, pathOf}
-use Rattle.tables.specs.Fields.{pathHopsAt}
+use Rattle.tables.specs.Fields.{pathHopsAt, pathNotesAt}
 use Rattle.tables.proofs.Tests.{slot-unused, slot-used, path-test}
 use native.Mathlib.Omega.{arith}
 use borrow.Author.Needs.{needs}
@@ -24,12 +27,15 @@ returns c =
     let b = c4 .args .b .now in
     c .is-zero .ensures ∙ ap (λ (k : ℕ). zeros k b) (c4 .pre) ∙ sym (path-test b ∙ slot-unused pathWidth _ b (omega arith) (c .before .if1 .taken))
 
-shared-slice-read-if2 : tie.Need-shared-slice-read-if2
-shared-slice-read-if2 c = search needs
+are-fine-requires : tie.Need-are-fine-requires
+are-fine-requires c κs = search needs
 
 returns-2 : tie.Need-returns-2
 unfolding _and_
-returns-2 c = rw (path-test _, slot-used pathWidth _ _ (c .before .before .if1 .left), le-ltb _ _ (c .if2 .taken))
+returns-2 c = rw (path-test _, slot-used pathWidth _ _ (c .before .before .if1 .left), sym (c .before .are-fine .ensures) ∙ not-true _ (c .if2 .taken))
+
+noted-fine : (c : tie.Else2) → code notesForm .fine (c .before .before .before .before .before .args .b .now) pathNotesAt ≡ true
+noted-fine c = sym (c .before .are-fine .ensures) ∙ not-false _ (c .if2 .left)
 
 shared-slice-read-if3 : tie.Need-shared-slice-read-if3
 shared-slice-read-if3 c = search needs
@@ -42,7 +48,7 @@ unfolding pathOk pathOf blobsOf timeOk _and_
 returns-3 c =
     let c2 = c .before .before in
     let c4 = c2 .before .before in
-    rw (path-test _, slot-used pathWidth _ _ (c4 .if1 .left), lt-ltb _ _ (c2 .if2 .left), le-ltb _ _ (c .if3 .taken))
+    rw (path-test _, slot-used pathWidth _ _ (c4 .if1 .left), noted-fine c2, le-ltb _ _ (c .if3 .taken))
 
 shared-slice-read-if4 : tie.Need-shared-slice-read-if4
 shared-slice-read-if4 c = search needs
@@ -57,7 +63,7 @@ returns-4 c =
     rw (
       path-test _,
       slot-used pathWidth _ _ (c6 .if1 .left),
-      lt-ltb _ _ (c4 .if2 .left),
+      noted-fine c4,
       lt-ltb _ _ (c2 .if3 .left),
       lt-ltb _ 256 (c8 .shared-slice-known .given pathHopsAt .fits),
       lt-leb _ _ (c .if4 .taken),
@@ -80,7 +86,7 @@ returns-5 c =
     rw (
       path-test _,
       slot-used pathWidth _ _ (c8 .if1 .left),
-      lt-ltb _ _ (c6 .if2 .left),
+      noted-fine c6,
       lt-ltb _ _ (c4 .if3 .left),
       lt-ltb _ 256 (c10 .shared-slice-known .given pathHopsAt .fits),
       le-leb _ _ (c2 .if4 .left),
@@ -102,7 +108,7 @@ returns-6 c =
     rw (
       path-test _,
       slot-used pathWidth _ _ (c10 .if1 .left),
-      lt-ltb _ _ (c8 .if2 .left),
+      noted-fine c8,
       lt-ltb _ _ (c6 .if3 .left),
       lt-ltb _ 256 (c12 .shared-slice-known .given pathHopsAt .fits),
       le-leb _ _ (c4 .if4 .left),
@@ -126,7 +132,7 @@ returns-7 c =
     rw (
       path-test _,
       slot-used pathWidth _ _ (c11 .if1 .left),
-      lt-ltb _ _ (c9 .if2 .left),
+      noted-fine c9,
       lt-ltb _ _ (c7 .if3 .left),
       lt-ltb _ 256 (c13 .shared-slice-known .given pathHopsAt .fits),
       le-leb _ _ (c5 .if4 .left),
@@ -143,7 +149,7 @@ path-ok-spec =
     shared-slice-read-if1
     is-zero-requires
     returns
-    shared-slice-read-if2
+    are-fine-requires
     returns-2
     shared-slice-read-if3
     cast-if3

@@ -5,7 +5,7 @@ use Rattle.octets.proofs.Index.{ended}
 use Rattle.tables.specs.Places.{hashWidth}
 use Rattle.tables.specs.Records.{hashBytesOk}
 use Rattle.tables.specs.Layout.{recordsOk}
-use Rattle.tables.proofs.Loops.{none-yet, row-passes, row-fails}
+use Rattle.tables.proofs.Loops.{none-yet, record-passes, record-fails}
 use borrow.Author.Needs.{needs}
 use Rattle.tables.proofs.section_check.four_hashes_each.Statement.{statement}
 use Rattle.tables.proofs.section_check.four_hashes_each.Tie as tie
@@ -41,7 +41,7 @@ hash-ok-requires : tie.Need-hash-ok-requires Inv-loop μ-loop
 hash-ok-requires c κs = search needs
 
 returns : tie.Need-returns Inv-loop μ-loop
-returns c = row-fails hashBytesOk _ hashWidth _ _ (c .before .hash-ok .ensures) 4 (c .before .before .before .loop-test .taken) (c .if1 .taken)
+returns c = record-fails hashBytesOk _ hashWidth _ _ (c .before .hash-ok .ensures) 4 (c .before .before .before .loop-test .taken) (c .if1 .taken)
 
 add-i : tie.Need-add-i Inv-loop μ-loop
 add-i c = search needs
@@ -52,7 +52,7 @@ loop-less c = search needs
 loop-again : tie.Need-loop-again Inv-loop μ-loop
 loop-again c =
     let c4 = c .before .before .before .before in
-    (search needs, row-passes hashBytesOk _ hashWidth _ _ (c .before .hash-ok .ensures) (c .if1 .left) (c4 .loop .inv .1))
+    (search needs, record-passes hashBytesOk _ hashWidth _ _ (c .before .hash-ok .ensures) (c .if1 .left) (c4 .loop .inv .1))
 
 returns-2 : tie.Need-returns-2 Inv-loop μ-loop
 returns-2 c =

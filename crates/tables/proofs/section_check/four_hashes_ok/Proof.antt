@@ -3,13 +3,13 @@ use mathlib.Core.Path.{sym, ap, _∙_}
 use lib.Dec.{ltb}
 use borrow.Author.Tests.{lt-ltb}
 use Rattle.octets.proofs.Part.{part-length}
-use Rattle.codes.proofs.Rows.{row-end}
+use Rattle.codes.proofs.Many.{many-end}
 use Rattle.numbers.specs.Numbers.{clockLimit}
 use Rattle.tables.specs.Fields.{hashExpiryAt}
 use Rattle.tables.specs.Places.{hashWidth}
 use Rattle.tables.specs.Records.{hashBytesOk}
 use Rattle.tables.specs.Groups.{usedOrZero}
-use Rattle.tables.proofs.Plain.{together-ltb, rows-left, hash-left}
+use Rattle.tables.proofs.Plain.{together-ltb, records-left, hash-left}
 use native.Mathlib.Omega.{arith}
 use borrow.Author.Needs.{needs}
 use Rattle.tables.proofs.section_check.four_hashes_ok.Statement.{statement}
@@ -31,8 +31,8 @@ returns c =
     let t = c4 .args .t .now in
     let at = c4 .args .at in
     c .four-used-or-zero .ensures
-    ∙ rows-left (λ x. ltb x clockLimit) at hashExpiryAt hashWidth 4 t (omega arith) hashBytesOk usedOrZero
-    (λ k l. hash-left _ (part-length t (at + hashWidth * k) hashWidth (omega (arith, c4 .pre, row-end hashWidth 4 k l))))
+    ∙ records-left (λ x. ltb x clockLimit) at hashExpiryAt hashWidth 4 t (omega arith) hashBytesOk usedOrZero
+    (λ k l. hash-left _ (part-length t (at + hashWidth * k) hashWidth (omega (arith, c4 .pre, many-end hashWidth 4 k l))))
     (sym (together-ltb 40 _ 4) ∙ ap (λ x. ltb x clockLimit) (sym (c2 .four-together .ensures)) ∙ lt-ltb _ _ (c .before .if1 .taken))
 
 four-hashes-each-requires : tie.Need-four-hashes-each-requires

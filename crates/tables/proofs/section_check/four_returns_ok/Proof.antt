@@ -2,12 +2,12 @@ use Prim.Native.Nat.{_+_, _*_}
 use mathlib.Core.Path.{sym, ap, _∙_}
 use Rattle.octets.proofs.Bytes.{known-bytes, part-bytes}
 use Rattle.octets.proofs.Part.{part-length}
-use Rattle.codes.proofs.Rows.{row-end}
+use Rattle.codes.proofs.Many.{many-end}
 use Rattle.tables.specs.Fields.{returnArrivalAt}
 use Rattle.tables.specs.Places.{returnWidth}
 use Rattle.tables.specs.Records.{returnBytesOk}
 use Rattle.tables.specs.Groups.{waysPlain, usedOrZero}
-use Rattle.tables.proofs.Plain.{together-plain, rows-left, return-left}
+use Rattle.tables.proofs.Plain.{together-plain, records-left, return-left}
 use native.Mathlib.Omega.{arith}
 use borrow.Author.Needs.{needs}
 use Rattle.tables.proofs.section_check.four_returns_ok.Statement.{statement}
@@ -33,9 +33,9 @@ returns c =
     let at = c5 .args .at in
     let bytes = known-bytes t (c3 .before .shared-slice-known .given) in
     c .four-used-or-zero .ensures
-    ∙ rows-left waysPlain at returnArrivalAt returnWidth 4 t (omega arith) returnBytesOk usedOrZero
+    ∙ records-left waysPlain at returnArrivalAt returnWidth 4 t (omega arith) returnBytesOk usedOrZero
     (λ k l. return-left _ (part-bytes t (at + returnWidth * k) returnWidth bytes)
-    (part-length t (at + returnWidth * k) returnWidth (omega (arith, c5 .pre, row-end returnWidth 4 k l))))
+    (part-length t (at + returnWidth * k) returnWidth (omega (arith, c5 .pre, many-end returnWidth 4 k l))))
     (sym (together-plain _ 4) ∙ ap waysPlain (sym (c3 .four-together .ensures)) ∙ sym (c .before .before .ways-plain .ensures) ∙ c .before .if1 .taken)
 
 four-returns-each-requires : tie.Need-four-returns-each-requires

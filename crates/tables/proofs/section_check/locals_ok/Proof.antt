@@ -6,7 +6,7 @@ use Rattle.numbers.specs.Numbers.{localCount}
 use Rattle.tables.specs.Places.{localWidth, localsAt}
 use Rattle.tables.specs.Records.{localBytesOk}
 use Rattle.tables.specs.Layout.{recordsOk}
-use Rattle.tables.proofs.Loops.{none-yet, row-passes, row-fails}
+use Rattle.tables.proofs.Loops.{none-yet, record-passes, record-fails}
 use borrow.Author.Needs.{needs}
 use Rattle.tables.proofs.section_check.locals_ok.Statement.{statement}
 use Rattle.tables.proofs.section_check.locals_ok.Tie as tie
@@ -44,7 +44,7 @@ local-ok-requires c κs = search needs
 returns : tie.Need-returns Inv-loop μ-loop
 returns c =
     let c3 = c .before .before .before in
-    row-fails localBytesOk localsAt localWidth _ _ (c .before .local-ok .ensures) localCount (c3 .loop-test .taken) (c .if1 .taken)
+    record-fails localBytesOk localsAt localWidth _ _ (c .before .local-ok .ensures) localCount (c3 .loop-test .taken) (c .if1 .taken)
 
 add-i : tie.Need-add-i Inv-loop μ-loop
 add-i c = search needs
@@ -55,7 +55,7 @@ loop-less c = search needs
 loop-again : tie.Need-loop-again Inv-loop μ-loop
 loop-again c =
     let c4 = c .before .before .before .before in
-    (search needs, row-passes localBytesOk localsAt localWidth _ _ (c .before .local-ok .ensures) (c .if1 .left) (c4 .loop .inv .1))
+    (search needs, record-passes localBytesOk localsAt localWidth _ _ (c .before .local-ok .ensures) (c .if1 .left) (c4 .loop .inv .1))
 
 returns-2 : tie.Need-returns-2 Inv-loop μ-loop
 returns-2 c =

@@ -2,7 +2,7 @@ use Prim.Native.Nat.{_+_, _*_}
 use mathlib.Core.Path.{sym, _∙_}
 use Rattle.octets.proofs.Bytes.{known-bytes, part-bytes}
 use Rattle.octets.proofs.Part.{part-length}
-use Rattle.codes.proofs.Rows.{row-end}
+use Rattle.codes.proofs.Many.{many-end}
 use Rattle.tables.specs.Places.{returnWidth}
 use Rattle.tables.specs.Forms.{returnForm}
 use Rattle.tables.specs.Records.{returnBytesOk}
@@ -57,7 +57,7 @@ returns-2 c =
     let bytes = known-bytes t (c .before .before .before .before .shared-slice-known .given) in
     records-kept returnPlain returnBytesOk at returnWidth groupSize t
     (λ i l. return-plain _ (part-bytes t (at + returnWidth * i) returnWidth bytes)
-    (part-length t (at + returnWidth * i) returnWidth (omega (arith, c5 .pre, row-end returnWidth groupSize i l))))
+    (part-length t (at + returnWidth * i) returnWidth (omega (arith, c5 .pre, many-end returnWidth groupSize i l))))
     (sym (c .before .return-group-plain .ensures) ∙ c .if3 .taken)
 
 return-group-each-requires : tie.Need-return-group-each-requires

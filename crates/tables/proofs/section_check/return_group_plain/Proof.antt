@@ -5,7 +5,7 @@ use Rattle.octets.proofs.Index.{ended}
 use Rattle.tables.specs.Places.{returnWidth}
 use Rattle.tables.specs.Layout.{recordsOk}
 use Rattle.tables.specs.Groups.{groupSize, returnPlain}
-use Rattle.tables.proofs.Loops.{none-yet, rows-pass, rows-pass-twice, rows-fail}
+use Rattle.tables.proofs.Loops.{none-yet, records-pass, records-pass-twice, records-fail}
 use native.Mathlib.Omega.{arith}
 use borrow.Author.Needs.{needs}
 use Rattle.tables.proofs.section_check.return_group_plain.Statement.{statement}
@@ -38,7 +38,7 @@ four-returns-plain-requires c κs = search needs
 returns : tie.Need-returns Inv-loop μ-loop
 returns c =
     let c3 = c .before .before .before in
-    rows-fail returnPlain _ returnWidth 4 _ (c3 .loop .i * 2)
+    records-fail returnPlain _ returnWidth 4 _ (c3 .loop .i * 2)
     (c .before .four-returns-plain .ensures) (c3 .loop .inv .1) groupSize (omega arith) (c .if1 .taken)
 
 mul-four-returns-plain-4 : tie.Need-mul-four-returns-plain-4 Inv-loop μ-loop
@@ -63,9 +63,9 @@ returns-2 : tie.Need-returns-2 Inv-loop μ-loop
 returns-2 c =
     let c3 = c .before .before .before in
     let i = c3 .before .before .loop .i in
-    let first = rows-pass returnPlain _ returnWidth 4 _ (i * 2)
+    let first = records-pass returnPlain _ returnWidth 4 _ (i * 2)
     (c3 .four-returns-plain .ensures) (c3 .before .before .loop .inv .1) (c .before .before .if1 .left) in
-    rows-fail returnPlain _ returnWidth 4 _ (i * 2 + 1) (c .before .four-returns-plain2 .ensures) first groupSize (omega arith) (c .if2 .taken)
+    records-fail returnPlain _ returnWidth 4 _ (i * 2 + 1) (c .before .four-returns-plain2 .ensures) first groupSize (omega arith) (c .if2 .taken)
 
 add-i : tie.Need-add-i Inv-loop μ-loop
 add-i c = search needs
@@ -78,7 +78,7 @@ loop-again c =
     let c3 = c .before .before .before in
     let loop = c3 .before .before .loop in (
       search needs,
-      rows-pass-twice returnPlain _ returnWidth 4 _ (loop .i) (c3 .four-returns-plain .ensures) (c .before .four-returns-plain2 .ensures) (loop .inv .1)
+      records-pass-twice returnPlain _ returnWidth 4 _ (loop .i) (c3 .four-returns-plain .ensures) (c .before .four-returns-plain2 .ensures) (loop .inv .1)
           (c .before .before .if1 .left) (c .if2 .left),
     )
 

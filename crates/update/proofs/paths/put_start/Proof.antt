@@ -13,25 +13,29 @@ add-write-rate c = search needs
 write-rate-requires : tie.Need-write-rate-requires
 write-rate-requires c κs = search needs
 
-add-write-notes : tie.Need-add-write-notes
-add-write-notes c = search needs
+add-write : tie.Need-add-write
+add-write c = search needs
 
-write-notes-requires : tie.Need-write-notes-requires
-write-notes-requires c κs = search needs
+none-requires : tie.Need-none-requires
+none-requires c κs = search needs
+
+write-requires : tie.Need-write-requires
+write-requires c κs = search needs
 
 same-length : tie.Need-same-length
 same-length c = search needs
 
 returns : tie.Need-returns
 returns c =
-    let c2 = c .before .before in
-    let c6 = c2 .before .before .before .before in
-    let c11 = c6 .before .before .before .before .before in
-    let c14 = c11 .before .before .before in
-    let a = c14 .args in
-    rw (c2 .write-notes .ensures, c6 .write-rate .ensures, c11 .put-head .ensures)
-    (start-written (a .tables .now) (a .at) (a .path) (omega (arith, c14 .pre)))
+    let after-write = c .before .before in
+    let after-rate = after-write .before .before .before .before .before in
+    let after-head = after-rate .before .before .before .before .before in
+    let start = after-head .before .before .before in
+    let a = start .args in
+    rw (after-write .write .ensures, after-write .before .none .ensures, after-rate .write-rate .ensures, after-head .put-head .ensures)
+    (start-written (a .tables .now) (a .at) (a .path) (omega (arith, start .pre)))
 
 pub put-start-spec : {M : Type 1} → statement M
 put-start-spec =
-    tie.close (tie.spec put-head-requires add-write-rate write-rate-requires add-write-notes write-notes-requires same-length returns)
+    tie.close
+    (tie.spec put-head-requires add-write-rate write-rate-requires add-write none-requires write-requires same-length returns)

@@ -1,0 +1,2 @@
+-- What holds of the notes, whichever they are.
+pub mod NoteLaws
