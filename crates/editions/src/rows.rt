@@ -1,6 +1,6 @@
 // What each edition has, in numbers: a row for each, the last one for today's. The next edition adds its row, and where
-// a width of today's grows, older rows are rewritten so that they keep their numbers. A path's new fields stand before its blobs, new blob places
-// behind them, and the first body's and a port's new fields at their ends.
+// a width of today's grows, older rows are rewritten so that they keep their numbers. A path's new fields stand before
+// its blobs, new blob places behind them, and the first body's and a port's new fields at their ends.
 use super::shape::BODIES_AT;
 use super::shape::HASHES_BODY;
 use super::shape::LINKS_BODY;
