@@ -10,9 +10,10 @@ use model::{constants_differ, functions_differ, structs_differ, Interface};
 use std::path::{Path, PathBuf};
 
 /// Where the lengths of what crosses are declared, each before its use: places and fields use one another's.
-const LENGTHS: [&str; 8] = [
+const LENGTHS: [&str; 9] = [
     "crates/rules/src/lib.rt",
     "crates/numbers/src/lib.rt",
+    "crates/notes/src/lib.rt",
     "crates/tables/src/places.rt",
     "crates/tables/src/fields.rt",
     "crates/tables/src/places.rt",
