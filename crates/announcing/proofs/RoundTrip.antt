@@ -13,6 +13,7 @@ use Rattle.octets.specs.Part.{part}
 use Rattle.packet.specs.Read.{longestPacket, headerOf, payload, reads, reading}
 use Rattle.packet.specs.Write.{packetOf}
 use Rattle.packet.specs.Announce.{keysOf, nameHashOf, blobOf, emissionOf, ratchetOf, signatureOf, appDataOf}
+use Rattle.packet.specs.Places.{randomWidth}
 use Rattle.packet.proofs.ListLaws.{patched-start}
 use Rattle.packet.proofs.ReadLaws.{accepted, reads-readable, answer-read}
 use Rattle.packet.proofs.RoundTrip.{write-reads}
@@ -25,7 +26,7 @@ pub record GivesBack (size : ℕ) (p : List ℕ) (a : Announce) (s : List ℕ) :
   pub head : reading size p ≡ record { refusal = 0; parts = partsFor a }
   pub keys : keysOf (payload p) ≡ a .keys
   pub nameHash : nameHashOf (payload p) ≡ a .nameHash
-  pub random : part (blobOf (payload p)) 0 5 ≡ a .random
+  pub random : part (blobOf (payload p)) 0 randomWidth ≡ a .random
   pub clock : emissionOf (blobOf (payload p)) ≡ a .clock
   pub ratchet : ratchetOf (headerOf p) (payload p) ≡ a .ratchet
   pub signature : signatureOf (headerOf p) (payload p) ≡ s

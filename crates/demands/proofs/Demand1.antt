@@ -12,7 +12,7 @@ use Rattle.octets.specs.Bytes.{Bytes}
 use Rattle.octets.specs.Index.{_and_}
 use Rattle.octets.specs.Choice.{_then_otherwise_, _or_}
 use Rattle.octets.proofs.Choice.{then-true, then-false}
-use Rattle.sha256.specs.Sha256.{answer}
+use Rattle.sha256.specs.Sha256.{longestMessage, answer}
 use Rattle.sha256.specs.declared.Digest.{Digest}
 use Rattle.sha256.proofs.Promise.{answer-short, answer-long}
 use Rattle.packet.specs.Header.{accessCode, typeTwo}
@@ -283,12 +283,12 @@ word-rows bytes port clock word output tables = refl
 
 -- ---- the calls that take no relay's tables
 -- hashing: 2
-pub hashing-rows : (m : List ℕ) → answer m .refusal ≡ (ltb 65535 (length m) then 2 otherwise 0)
-hashing-rows m = go (ltb 65535 (length m)) refl
+pub hashing-rows : (m : List ℕ) → answer m .refusal ≡ (ltb longestMessage (length m) then 2 otherwise 0)
+hashing-rows m = go (ltb longestMessage (length m)) refl
   where
-    go : (v : Bool) → ltb 65535 (length m) ≡ v → answer m .refusal ≡ (ltb 65535 (length m) then 2 otherwise 0)
-    go true t = ap (λ (d : Digest). d .refusal) (answer-long m (ltb-true 65535 (length m) t)) ∙ sym (then-true 2 0 t)
-    go false t = ap (λ (d : Digest). d .refusal) (answer-short m (ltb-false 65535 (length m) t)) ∙ sym (then-false 2 0 t)
+    go : (v : Bool) → ltb longestMessage (length m) ≡ v → answer m .refusal ≡ (ltb longestMessage (length m) then 2 otherwise 0)
+    go true t = ap (λ (d : Digest). d .refusal) (answer-long m (ltb-true longestMessage (length m) t)) ∙ sym (then-true 2 0 t)
+    go false t = ap (λ (d : Digest). d .refusal) (answer-short m (ltb-false longestMessage (length m) t)) ∙ sym (then-false 2 0 t)
 
 -- reading against a size: 9, 1, 2, 3, 1. The packet hash and the link id read at 500
 pub reading-rows : (size : ℕ) (p : List ℕ)

@@ -16,6 +16,7 @@ use Rattle.packet.specs.Read.{headerOf, typeOneParts, typeTwoParts, partsOf, pa
 use Rattle.packet.specs.Hash.{hashedPart, packetHash}
 use Rattle.packet.specs.Announce.{blobOf}
 use Rattle.packet.specs.declared.Parts.{Parts}
+use Rattle.packet.specs.Places.{blobEnd}
 use Rattle.packet.proofs.ReadLaws.{parts-hops, reads-readable}
 use Rattle.packet.proofs.Widths.{parts-wide, packet-hash-length, link-id-length, blob-length}
 use Rattle.sha256.proofs.Promise.{digest-byte}
@@ -55,7 +56,7 @@ module _ (p : List ℕ) (b : Bytes p) where
   relay-bytes =
       either (λ (q : Parts). Bytes (q .relay)) (typeTwo (headerOf p)) (λ _. part-bytes p 2 16 b) (λ _. replicate-bytes 16 0 (lit< tt))
 
-  pub blob-shaped : 84 ≤ length (payload p) → isBytes blobWidth (blobOf (payload p)) ≡ true
+  pub blob-shaped : blobEnd ≤ length (payload p) → isBytes blobWidth (blobOf (payload p)) ≡ true
   unfolding blobOf payload
   blob-shaped l = is-bytes blobWidth _ (blob-length (payload p) l) (part-bytes (payload p) 74 10 (drop-bytes (payloadStart (headerOf p)) p b))
 
@@ -130,7 +131,7 @@ module _ (a : Arrival) (b : Bytes (a .bytes)) where
   unfolding linkShaped renewedLink
   link-renewed l h = h
 
-  module _ (whole : payloadStart (header a) ≤ length (a .bytes)) (long : 84 ≤ length (body a)) where
+  module _ (whole : payloadStart (header a) ≤ length (a .bytes)) (long : blobEnd ≤ length (body a)) where
     places-shaped : (known : Slot Path) → slotOk pathShaped known ≡ true
         → tableOk blobLimit (isBytes blobWidth) (announcedBlobs a known .places) ≡ true
     unfolding announcedBlobs slotOk pathShaped

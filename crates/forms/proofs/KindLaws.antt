@@ -12,6 +12,7 @@ use Rattle.octets.proofs.Index.{and-no, and-yes}
 use Rattle.octets.proofs.Listed.{none-any}
 use Rattle.packet.specs.Header.{contextFlag, packetKind, ofKindLink, isData, isAnnounce, isLinkRequest, isProof}
 use Rattle.packet.specs.Announce.{ratchetLength, leastAnnounce}
+use Rattle.packet.specs.Places.{blobEnd}
 use Rattle.packet.proofs.ReadLaws.{parts-hops}
 use Rattle.rules.specs.Arrival.{Arrival, header, hops, body, isLinkProof}
 use Rattle.rules.specs.Tests.{announceTooShort, requestOfKindLink, formTests, badForm, tooManyHops}
@@ -43,14 +44,14 @@ module _ (a : Arrival) where
 -- ---- what a good form says
 module _ (a : Arrival) (good : badForm (a .bytes) ≡ false) where
   -- an announce has room for its blob
-  pub announce-long : isAnnounce (header a) ≡ true → 84 ≤ length (body a)
+  pub announce-long : isAnnounce (header a) ≡ true → blobEnd ≤ length (body a)
   unfolding badForm formTests announceTooShort ratchetLength leastAnnounce _then_otherwise_
   announce-long is = go (contextFlag (header a)) refl
     where
       short : ltb (length (body a)) (leastAnnounce (header a)) ≡ false
       short = let (_, (_, (_, (long, _)))) = none-any (formTests (a .bytes)) good in sym (and-yes _ is) ∙ long
 
-      go : (t : Bool) → contextFlag (header a) ≡ t → 84 ≤ length (body a)
+      go : (t : Bool) → contextFlag (header a) ≡ t → blobEnd ≤ length (body a)
       go true q = let l : 180 ≤ length (body a) = ltb-false _ _ (rw q at short) in omega arith
       go false q = let l : 148 ≤ length (body a) = ltb-false _ _ (rw q at short) in omega arith
 

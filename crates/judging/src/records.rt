@@ -25,6 +25,7 @@ ghost use mathlib.Core.Path.{_≡_};
 ghost use mathlib.Core.Bool.{true};
 ghost use Prim.Native.Nat.{_≤_, _<_};
 ghost use lib.ListN.{length};
+ghost use Rattle.packet.specs.Places.{blobEnd};
 ghost use Rattle.packet.specs.Read.{longestPacket, reads, payload};
 ghost use Rattle.numbers.specs.Numbers.{blobLimit, clockLimit};
 ghost use Rattle.rules.specs.Relay.{used};
@@ -85,7 +86,7 @@ pub fn announced_path(
     packet: &[u8],
     arrived: Arrived,
 ) -> SeenPath
-    requires { ⌜ (reads longestPacket (now packet) ≡ true) × (84 ≤ length (payload (now packet)))
+    requires { ⌜ (reads longestPacket (now packet) ≡ true) × (blobEnd ≤ length (payload (now packet)))
         × (rateSettingsOk settings ≡ true) × PathFits known × (arrived .clock < clockLimit) ⌝ }
     ensures { λ r. ⌜ (pathOf (destinationOf (arrivalOf (now (packet .entry)) arrived)) r
         ≡ used (announcedPath (settingsView settings mode) (arrivalOf (now (packet .entry)) arrived)

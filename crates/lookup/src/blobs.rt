@@ -1,7 +1,7 @@
 // The blobs of a path, in the bytes of its record.
+use numbers::BLOB_WIDTH;
 use tables::fields::PATH_BLOB_COUNT_AT;
 use tables::fields::PATH_BLOBS_AT;
-use tables::places::BLOB_WIDTH;
 ghost use mathlib.Core.Path.{_≡_};
 ghost use Prim.Native.Nat.{_+_, _*_, _≤_, _<_};
 ghost use lib.ListN.{length};

@@ -9,6 +9,17 @@ use Rattle.octets.specs.Choice.{_then_otherwise_}
 abbrev pub longestPacket : ℕ
 longestPacket = 500
 
+-- "An address travels as sixteen bytes by value, a packet hash as thirty-two"
+abbrev pub addressWidth : ℕ
+addressWidth = 16
+
+abbrev pub digestWidth : ℕ
+digestWidth = 32
+
+-- a blob: ten bytes of an announce
+abbrev pub blobWidth : ℕ
+blobWidth = 10
+
 -- document 02, wish 11: "Each port gets a size from 19 to 500", of the longest packet that it carries
 abbrev pub leastSize : ℕ
 leastSize = 19

@@ -7,6 +7,13 @@ pub const LONGEST_PACKET: usize = 500;
 
 pub const LEAST_OUTPUT: usize = 500;
 
+// How many bytes an address has, a packet hash, and a blob of an announce.
+pub const ADDRESS_WIDTH: usize = 16;
+
+pub const DIGEST_WIDTH: usize = 32;
+
+pub const BLOB_WIDTH: usize = 10;
+
 // The least size of a port; the greatest is the longest packet.
 pub const LEAST_SIZE: usize = 19;
 

@@ -10,6 +10,7 @@ use Rattle.octets.specs.Choice.{_then_otherwise_, same}
 use Rattle.octets.proofs.Choice.{then-true, then-false}
 use Rattle.packet.specs.Header.{isData}
 use Rattle.packet.specs.Hash.{linkId}
+use Rattle.packet.specs.Places.{blobEnd}
 use Rattle.rules.specs.Relay.{Slot, empty, used, Path, Return}
 use Rattle.rules.specs.View.{View}
 use Rattle.rules.specs.Renumbering.{renamePath, renameLink, renameReturn, renameSlot}
@@ -214,10 +215,10 @@ module _ (v : View) (a : Arrival) (k : Known) where
   return-left (follows (blocked why)) p q = refl
 
 -- an announce whose path is announced has a blob
-pub announce-body : (v : View) (a : Arrival) → planEffect a (plan v a) ≡ 1 → 84 ≤ length (body a)
+pub announce-body : (v : View) (a : Arrival) → planEffect a (plan v a) ≡ 1 → blobEnd ≤ length (body a)
 announce-body v a h = go (plan v a) refl h
   where
-    go : (todo : Plan) → plan v a ≡ todo → planEffect a todo ≡ 1 → 84 ≤ length (body a)
+    go : (todo : Plan) → plan v a ≡ todo → planEffect a todo ≡ 1 → blobEnd ≤ length (body a)
     go (dropped reason) e q = absurd (dropped-not a reason q)
     go delivered e q = absurd (delivered-not a q)
     go (follows w) e q = let (way, p) = passed v a w e in announce-long a (p .form) (spread-announce v a (ap isSpread way ∙ spreads a w q))
@@ -369,5 +370,5 @@ module _ (e : List ℕ) (k : Known) where
           (λ c. absurd (eqb-false _ _ h c)) (λ _. refl) (λ _. refl) (λ _. refl) (λ _. refl) (λ _. refl) (λ c. absurd (r c))
 
   -- the blob of an announced path
-  pub entry-body : effectOf (entryOf e) k ≡ 1 → 84 ≤ length (body (arrivalIn e))
+  pub entry-body : effectOf (entryOf e) k ≡ 1 → blobEnd ≤ length (body (arrivalIn e))
   entry-body h = announce-body (seen k e) (arrivalIn e) (plan-so 1 refl h)

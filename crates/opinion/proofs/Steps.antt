@@ -10,6 +10,7 @@ use Rattle.octets.proofs.Choice.{then-true, then-false, same-eq}
 use Rattle.numbers.specs.Numbers.{live, pathLifetime}
 use Rattle.packet.specs.Read.{longestPacket, headerOf, payloadStart, payload, reads}
 use Rattle.packet.specs.Hash.{linkId}
+use Rattle.packet.specs.Places.{blobEnd}
 use Rattle.packet.proofs.ReadLaws.{reads-readable}
 use Rattle.notes.specs.Notes.{noNotes}
 use Rattle.rules.specs.Relay.{Slot, empty, used, Path, Return, makePath, withPathPort, withPathRate, withLinkPorts, withReturnPorts}
@@ -87,8 +88,8 @@ module _ (log : List ℕ) (i : ℕ) where
     pub packet-arrival : arrivalBy packet (arrivalIn b .port) (arrivalIn b .clock) (arrivalIn b .signed) ≡ arrivalIn b
     packet-arrival = ap (λ (p : List ℕ). arrivalBy p (arrivalIn b .port) (arrivalIn b .clock) (arrivalIn b .signed)) (in-it ∙ ap packetIn is)
 
-    pub entry-payload : effectOf (entryOf b) k ≡ 1 → 84 ≤ length (payload packet)
-    entry-payload h = subst (λ (p : List ℕ). 84 ≤ length (payload p)) (sym (in-it ∙ ap packetIn is)) (entry-body b k h)
+    pub entry-payload : effectOf (entryOf b) k ≡ 1 → blobEnd ≤ length (payload packet)
+    entry-payload h = subst (λ (p : List ℕ). blobEnd ≤ length (payload p)) (sym (in-it ∙ ap packetIn is)) (entry-body b k h)
 
   -- ---- paths
   module _ (d : List ℕ) where

@@ -10,6 +10,7 @@ use Rattle.octets.specs.Index.{_and_}
 use Rattle.octets.specs.Part.{part}
 use Rattle.octets.specs.BigEndian.{number}
 use Rattle.octets.specs.Choice.{_then_otherwise_}
+pub use Rattle.numbers.specs.Numbers.{addressWidth}
 use Rattle.numbers.specs.Numbers.{longestPacket, portCount}
 use Rattle.packet.specs.Read.{reads}
 use Rattle.rules.specs.Relay.{makeRateSettings}
@@ -22,9 +23,6 @@ use Rattle.history.specs.After.{Entry, came, called, knownOf}
 use Rattle.history.specs.Opinion.{listLimit}
 
 -- ---- places: own address 16, count 1, then the entries
-abbrev pub addressWidth : ℕ
-addressWidth = 16
-
 abbrev pub countAt : ℕ
 countAt = addressWidth
 

@@ -1,6 +1,7 @@
 // Where the parts of the log lie, and what the bytes of an entry say: specs/Log.antt in code. Each number once.
 use judging::Arrived;
 use judging::SeenPort;
+use numbers::ADDRESS_WIDTH;
 use numbers::GRACE_LIMIT;
 use numbers::LONGEST_PACKET;
 use numbers::PENALTY_LIMIT;
@@ -21,8 +22,6 @@ ghost use Rattle.opinion.specs.Log.{addressWidth, entryWidth, logSize, p
 ghost use Rattle.opinion.specs.Steps.{portSeen};
 
 pub const LIST_LIMIT: usize = 64;
-
-pub const ADDRESS_WIDTH: usize = 16;
 
 pub const COUNT_AT: usize = ADDRESS_WIDTH;
 

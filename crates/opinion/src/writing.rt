@@ -1,5 +1,4 @@
 // Writing the log: one more entry, and a fresh log.
-use super::log::ADDRESS_WIDTH;
 use super::log::ADDS;
 use super::log::BODY_AT;
 use super::log::CAME;
@@ -17,6 +16,7 @@ use super::log::SETS_PORT;
 use super::log::SETS_RATE;
 use codes::mark_of;
 use judging::Arrived;
+use numbers::ADDRESS_WIDTH;
 use rules::RateSettings;
 ghost use mathlib.Core.Path.{_≡_};
 ghost use mathlib.Core.Bool.{true};

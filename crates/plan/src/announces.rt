@@ -11,6 +11,7 @@ ghost use Prim.Native.Nat.{_≤_};
 ghost use lib.ListN.{length};
 ghost use Rattle.packet.specs.Header.{isAnnounce};
 ghost use Rattle.packet.specs.Read.{headerOf, partsOf, payload};
+ghost use Rattle.packet.specs.Places.{blobEnd};
 ghost use Rattle.packet.specs.Announce.{emissionOf};
 ghost use Rattle.rules.specs.Tests.{badForm};
 ghost use Rattle.tables.specs.Places.{tableSize};
@@ -60,7 +61,7 @@ pub fn rate_at(tables: &[u8], place: usize, clock: u64) -> Rated
 // The known path at a place: tests 10, 11 and 15, unless the announce revives it.
 fn known_path(tables: &[u8], packet: &[u8], arrived: Arrived, place: usize) -> Decision
     requires { ⌜ CanRead (now packet) (now tables) × CanKnow (now tables) place
-        × (84 ≤ length (payload (now packet))) ⌝ }
+        × (blobEnd ≤ length (payload (now packet))) ⌝ }
     ensures { λ r. ⌜ r ≡ knownPath (relayOf (now (tables .entry))) (arrivalOf (now (packet .entry)) arrived)
         (pathAt (now (tables .entry)) place) place ⌝ }
 {

@@ -4,6 +4,7 @@ use mathlib.Core.Path.{sym, ap, subst, _∙_}
 use lib.ListN.{length}
 use Rattle.octets.proofs.Bytes.{known-bytes}
 use Rattle.packet.specs.Announce.{blobOf}
+use Rattle.packet.specs.Places.{blobEnd}
 use Rattle.tables.proofs.Whole.{formed}
 use Rattle.act.proofs.Spreads.{announce-can-leave, announce-body, announce-room, announce-known, announce-left}
 use borrow.Author.Needs.{needs}
@@ -22,7 +23,7 @@ blob-requires : tie.Need-blob-requires
 blob-requires c κs =
     let c3 = c .before .before .before in
     let c9 = c3 .before .before .before .before .before .before in
-    subst (λ (s : List ℕ). 84 ≤ length s) (sym (c .payload .ensures)) (announce-body _ _ _ (c9 .pre .accepted) _ _ (c9 .pre .decided))
+    subst (λ (s : List ℕ). blobEnd ≤ length s) (sym (c .payload .ensures)) (announce-body _ _ _ (c9 .pre .accepted) _ _ (c9 .pre .decided))
 
 announced-rate-requires : tie.Need-announced-rate-requires
 announced-rate-requires c κs =

@@ -7,6 +7,7 @@ use native.Mathlib.Omega.{arith}
 use borrow.Author.Needs.{needs}
 use Rattle.announcing.proofs.builder.write_signed.Statement.{statement}
 use Rattle.announcing.proofs.builder.write_signed.Tie as tie
+use Rattle.packet.specs.Places.{addressWidth}
 
 abbrev given : tie.Start → Announce
 given s =
@@ -23,7 +24,7 @@ slice-aggregate-copy-at c = search needs
 
 copy-at-requires : tie.Need-copy-at-requires
 copy-at-requires c κs =
-    let wide : length (c .before .before .destination-of .result) ≡ 16 = search needs in
+    let wide : length (c .before .before .destination-of .result) ≡ addressWidth = search needs in
     omega (arith, able (c .before .before .before .before .before .before .before .before .before) .roomy)
 
 write-fields-requires : tie.Need-write-fields-requires

@@ -1,6 +1,7 @@
 use lib.ListN.{length}
 use Rattle.packet.proofs.ReadLaws.{start-two, start-one, start-least}
 use Rattle.packet.specs.Write.{Wide}
+use Rattle.packet.specs.Places.{addressWidth}
 use Rattle.packet.proofs.WriteLaws.{one-written, two-written}
 use mathlib.Core.Path.{_≡_, sym, _∙_}
 use native.Mathlib.Omega.{arith}
@@ -23,7 +24,7 @@ slice-aggregate-copy-at c = search needs
 copy-at-requires : tie.Need-copy-at-requires
 copy-at-requires c κs =
     let q = c .before .before .before .before .before .before .before .before .before .before .before .before .before .before .before .before .args .parts in
-    let wide : length (q .relay) ≡ 16 = search needs in
+    let wide : length (q .relay) ≡ addressWidth = search needs in
     let c3 = c .before .before .before in
     let start = c3 .before .before .before .before .before .before .before .before .before .before .before .before .before in
     omega (arith, start-two (q .header) (sym (c3 .before .type-two .ensures) ∙ c3 .if1 .taken), start .pre)
