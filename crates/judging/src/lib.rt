@@ -20,6 +20,8 @@ use forms::Form;
 pub use keys::link_key;
 pub use keys::return_key;
 use notes::Notes;
+use numbers::BLOB_LIMIT;
+use numbers::BLOB_WIDTH;
 use numbers::HOPS_LIMIT;
 use onward::plan_onward;
 pub use records::announced_path;
@@ -57,8 +59,11 @@ pub struct SeenPort {
     pub size: usize,
 }
 
-// A destination's path, if there is one. Of the blobs, ten bytes each, the one stored longest ago comes first, and what
-// lies behind the last one counts for nothing.
+// The bytes of a path's blobs: a place for each that it may hold.
+pub const BLOB_BYTES: usize = BLOB_WIDTH * BLOB_LIMIT;
+
+// A destination's path, if there is one. Of the blobs the one stored longest ago comes first, and what lies behind the
+// last one counts for nothing.
 pub struct SeenPath {
     pub there: bool,
     pub port: u8,
@@ -68,7 +73,7 @@ pub struct SeenPath {
     pub rate: RateEntry,
     pub notes: Notes,
     pub count: usize,
-    pub blobs: [u8; 640],
+    pub blobs: [u8; BLOB_BYTES],
 }
 
 // A link, if there is one.
@@ -111,7 +116,7 @@ pub enum SeenWay {
 // How many blobs a path holds, and their bytes.
 pub struct Stored {
     pub count: usize,
-    pub bytes: [u8; 640],
+    pub bytes: [u8; BLOB_BYTES],
 }
 
 // What is to be done with an accepted packet.

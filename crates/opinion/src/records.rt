@@ -1,4 +1,5 @@
 // Records as structs: none, and the live one.
+use judging::BLOB_BYTES;
 use judging::SeenLink;
 use judging::SeenPath;
 use judging::SeenReturn;
@@ -32,7 +33,7 @@ pub fn no_path() -> SeenPath
         },
         notes: notes::none(),
         count: 0,
-        blobs: [0; 640],
+        blobs: [0; BLOB_BYTES],
     }
 }
 
