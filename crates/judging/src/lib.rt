@@ -24,6 +24,7 @@ use numbers::BLOB_LIMIT;
 use numbers::BLOB_WIDTH;
 use numbers::HOPS_LIMIT;
 use onward::plan_onward;
+use packet::places::HOPS_AT;
 pub use records::announced_path;
 pub use records::limited_path;
 pub use records::link_record;
@@ -147,7 +148,7 @@ pub fn plan_of(seen: Seen, packet: &[u8], arrived: Arrived) -> Planned
     if delivered_here(seen, packet, arrived) {
         return Planned::Deliver;
     }
-    if packet[1] >= HOPS_LIMIT {
+    if packet[HOPS_AT] >= HOPS_LIMIT {
         return Planned::Drop(Reason::TooManyHops);
     }
     plan_onward(seen, packet, arrived)

@@ -15,6 +15,7 @@ use forms::either;
 use numbers::HOP_LIFETIME;
 use numbers::PROVED_LIFETIME;
 use numbers::RETURN_LIFETIME;
+use packet::places::HOPS_AT;
 use rules::Link;
 use rules::RateEntry;
 use rules::RateSettings;
@@ -157,7 +158,7 @@ pub fn link_record(path: SeenPath, packet: &[u8], arrived: Arrived) -> Link
         id,
         asking: arrived.port,
         answering: path.port,
-        taken: TakenHops(packet[1]),
+        taken: TakenHops(packet[HOPS_AT]),
         remaining: RemainingHops(path.hops),
         proved: false,
         expiry: arrived.clock + lifetime,

@@ -59,6 +59,20 @@ hashCount = 1024
 abbrev pub localCount : ℕ
 localCount = 16
 
+-- test 3: a link request with a "payload under 64"; a link proof "whose payload isn't 96 or 99"
+abbrev pub leastRequestLength : ℕ
+leastRequestLength = 64
+
+abbrev pub leastProofLength : ℕ
+leastProofLength = 96
+
+abbrev pub longerProofLength : ℕ
+longerProofLength = 99
+
+-- test 5: "Hops 128 or more"
+abbrev pub hopsLimit : ℕ
+hopsLimit = 128
+
 -- clock in seconds, below 2^40
 abbrev pub clockLimit : ℕ
 clockLimit = 2 ^ 40
@@ -72,10 +86,19 @@ abbrev pub modeCount : ℕ
 modeCount = 3
 
 -- path lifetime by the arrival port: boundary 604,800 s, access point 86,400, roaming 21,600
+abbrev pub boundaryLifetime : ℕ
+boundaryLifetime = 604800
+
+abbrev pub accessPointLifetime : ℕ
+accessPointLifetime = 86400
+
+abbrev pub roamingLifetime : ℕ
+roamingLifetime = 21600
+
 unfoldable pub pathLifetime : ℕ → ℕ
 pathLifetime mode =
-    eqb mode 0 then 604800 otherwise
-    eqb mode 1 then 86400 otherwise 21600
+    eqb mode 0 then boundaryLifetime otherwise
+    eqb mode 1 then accessPointLifetime otherwise roamingLifetime
 
 -- remembered hash 300 s
 abbrev pub hashLifetime : ℕ

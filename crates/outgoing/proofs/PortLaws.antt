@@ -10,6 +10,7 @@ use lib.Pow.{pow-mono, shl-exact}
 use Rattle.octets.specs.Choice.{_then_otherwise_}
 use Rattle.rules.specs.Answers.{setBelow, portSet}
 use Rattle.rules.proofs.PortSets.{set-below}
+use Rattle.numbers.specs.Numbers.{portCount}
 
 -- ---- the loop
 module _ (test : ℕ → Bool) where
@@ -29,16 +30,16 @@ module _ (test : ℕ → Bool) where
     set-more = rw (add-one, inv)
 
     -- after the sixteenth it is the whole set
-    pub set-end : i ≤ 16 → 16 ≤ i → ports ≡ portSet test
+    pub set-end : i ≤ portCount → portCount ≤ i → ports ≡ portSet test
     unfolding portSet
     set-end l m = inv ∙ ap (setBelow test) (le-antisymm l m)
 
 -- ---- one port
-module _ (port : ℕ) (l : port < 16) where
-  pub one-shifted : (1 * 2 ^ port) % 2 ^ 16 ≡ 2 ^ port
-  one-shifted = shl-exact {a = 1} 1 port 16 (lit< tt) (omega arith) ∙ one-mul (2 ^ port)
+module _ (port : ℕ) (l : port < portCount) where
+  pub one-shifted : (1 * 2 ^ port) % 2 ^ portCount ≡ 2 ^ port
+  one-shifted = shl-exact {a = 1} 1 port portCount (lit< tt) (omega arith) ∙ one-mul (2 ^ port)
 
-  pub port-fits : (ports : ℕ) → ports < 2 ^ port → ports + 2 ^ port < 2 ^ 16
+  pub port-fits : (ports : ℕ) → ports < 2 ^ port → ports + 2 ^ port < 2 ^ portCount
   port-fits ports b =
-      let most : 2 ^ suc port ≤ 2 ^ 16 = pow-mono {i = suc port} {j = 16} (omega arith) in
+      let most : 2 ^ suc port ≤ 2 ^ portCount = pow-mono {i = suc port} {j = portCount} (omega arith) in
       omega (arith, b, most, two-pow-succ port)

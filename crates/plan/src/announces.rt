@@ -3,6 +3,7 @@ use super::Arrived;
 use super::Decision;
 use super::marked::revives;
 use numbers::PATH_COUNT;
+use packet::places::HOPS_AT;
 use rules::Rated;
 use rules::Reason;
 ghost use mathlib.Core.Path.{_≡_};
@@ -44,7 +45,7 @@ fn not_better(tables: &[u8], packet: &[u8], place: usize, blob: [u8; 10]) -> boo
         return false;
     }
     let stored = lookup::path_hops(tables, place);
-    let hops = packet[1];
+    let hops = packet[HOPS_AT];
     stored <= hops
 }
 

@@ -16,6 +16,7 @@ use Rattle.octets.proofs.Listed.{allGive, all-first, past-first}
 use Rattle.packet.specs.Header.{typeTwo, contextFlag, ofKindLink, packetKind, isData, isAnnounce, isLinkRequest, isProof}
 use Rattle.packet.specs.Read.{headerOf}
 use Rattle.packet.specs.Announce.{ratchetLength, leastAnnounce}
+use Rattle.packet.specs.Places.{blobEnd, signatureWidth, ratchetWidth}
 use Rattle.rules.specs.Relay.{Slot, empty, used, Path, Return, Relay}
 use Rattle.rules.specs.View.{View, viewAt}
 use Rattle.rules.specs.Arrival.{Arrival, header, hops, destination, isLinkProof}
@@ -93,7 +94,7 @@ least-is : (h : ℕ) → leastAnnounce h ≡ (contextFlag h then 180 otherwise 1
 unfolding leastAnnounce ratchetLength _then_otherwise_
 least-is h = go (contextFlag h)
   where
-    go : (b : Bool) → 64 + 10 + 10 + (b then 32 otherwise 0) + 64 ≡ (b then 180 otherwise 148)
+    go : (b : Bool) → blobEnd + (b then ratchetWidth otherwise 0) + signatureWidth ≡ (b then 180 otherwise 148)
     go true = refl
     go false = refl
 

@@ -19,6 +19,7 @@ use Rattle.rules.specs.declared.Verdict.{Verdict}
 use Rattle.rules.specs.declared.Verdict.the-variants.{Drop, Deliver, Forward, Spread, Kept}
 use Rattle.rules.specs.declared.Answer.{Answer}
 use Rattle.rules.specs.declared.Answer.the-variants.{Refused, Judged}
+use Rattle.numbers.specs.Numbers.{leastRequestLength, leastProofLength}
 
 -- ---- what an answer tells. A refusal is no drop
 -- it is a drop by test n
@@ -69,8 +70,8 @@ clauses p =
     announceTooShort p gives (contextFlag (headerOf p) then 180 otherwise 148) otherwise
     announceOfAnother p gives 0 otherwise
     requestOfKindLink p gives 0 otherwise
-    requestTooShort p gives 64 otherwise
-    linkProofLength p gives 96 otherwise
+    requestTooShort p gives leastRequestLength otherwise
+    linkProofLength p gives leastProofLength otherwise
     []
 
 -- ---- test 6's sentences, 6.1 to 6.6. No two hold together

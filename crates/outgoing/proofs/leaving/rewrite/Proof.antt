@@ -13,6 +13,7 @@ use borrow.Author.Needs.{needs}
 use Rattle.packet.specs.Read.{longestPacket}
 use Rattle.outgoing.proofs.leaving.rewrite.Statement.{statement}
 use Rattle.outgoing.proofs.leaving.rewrite.Tie as tie
+use Rattle.numbers.specs.Numbers.{addressWidth}
 
 rewritten-parts-requires : tie.Need-rewritten-parts-requires
 rewritten-parts-requires c κs = search needs
@@ -42,7 +43,7 @@ returns c =
     let c5 = c3 .before .before in
     let s = c5 .before .before .before .before in
     let a = s .args in
-    let wide : length (a .relay) ≡ 16 = search needs in
+    let wide : length (a .relay) ≡ addressWidth = search needs in
     let long = rewritten-length longestPacket (a .packet .now) (s .pre .0 .readable) (a .header) (a .relay) wide in
     let packet : Parts → List ℕ → List ℕ = λ q b. patch (a .output .now) 0 (packetOf q b) in (
       ap₂ (λ (k : ℕ) (b : List ℕ). k + length b) (c .payload-start .ensures) (c5 .payload .ensures) ∙ sym long,

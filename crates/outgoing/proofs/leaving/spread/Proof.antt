@@ -14,8 +14,10 @@ use Rattle.outgoing.proofs.LeavingLaws.{long, spread-result, spread-wri
 use native.Mathlib.Omega.{arith}
 use borrow.Author.Needs.{needs}
 use Rattle.packet.specs.Read.{longestPacket}
+use Rattle.packet.specs.Places.{typeTwoStart}
 use Rattle.outgoing.proofs.leaving.spread.Statement.{statement}
 use Rattle.outgoing.proofs.leaving.spread.Tie as tie
+use Rattle.numbers.specs.Numbers.{addressWidth}
 
 shared-slice-read-spread-header : tie.Need-shared-slice-read-spread-header
 shared-slice-read-spread-header c = let s = c .before .before .before in omega (arith, long longestPacket (s .args .packet .now) (s .pre .0 .readable))
@@ -77,15 +79,15 @@ returns c =
     let p = s .args .packet .now in
     let out = s .args .output .now in
     let own = s .args .own in
-    let wide : length own ≡ 16 = search needs in
+    let wide : length own ≡ addressWidth = search needs in
     let written : List ℕ = c7 .write-packet .last .1 .1 .0 in
     let body : List ℕ = c4 .payload .result .now in
     let head = c10 .rewritten-parts .ensures ∙ ap (λ (h : ℕ). rewrittenParts h own p) (c10 .before .spread-header .ensures) in
     let before = c7 .write-packet .ensures ∙ ap (λ (q : Parts). patch out 0 (packetOf q [])) head in (
       spread-result longestPacket p (s .pre .0 .readable) own wide body (c4 .payload .ensures),
-      ap (putMid 35 (35 + length body - 35) written) (c .before .before .copy .ensures)
-          ∙ patch-range written 35 (length body) body refl
-          ∙ ap₂ (λ (o b : List ℕ). patch o 35 b) before (c4 .payload .ensures)
+      ap (putMid typeTwoStart (typeTwoStart + length body - typeTwoStart) written) (c .before .before .copy .ensures)
+          ∙ patch-range written typeTwoStart (length body) body refl
+          ∙ ap₂ (λ (o b : List ℕ). patch o typeTwoStart b) before (c4 .payload .ensures)
           ∙ spread-written longestPacket out own p (s .pre .0 .readable) wide (s .pre .1),
     )
 

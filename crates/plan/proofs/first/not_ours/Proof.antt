@@ -16,6 +16,7 @@ use Rattle.rules.specs.Arrival.{Arrival, header}
 use Rattle.rules.specs.Relay.{Relay}
 use Rattle.plan.proofs.first.not_ours.Statement.{statement}
 use Rattle.plan.proofs.first.not_ours.Tie as tie
+use Rattle.numbers.specs.Numbers.{addressWidth}
 
 abbrev r : tie.Start → Relay
 r s = relayOf (s .args .tables .now)
@@ -65,7 +66,7 @@ returns-3 : tie.Need-returns-3
 returns-3 c =
     let c4 = c .before .before .before .before in
     let s = c4 .before .before .before .before .before .before .before in
-    let relay = ap (λ (q : Parts). agree 16 (q .relay) (c .before .own-address .result)) (c .before .before .before .parts-of .ensures) in
+    let relay = ap (λ (q : Parts). agree addressWidth (q .relay) (c .before .own-address .result)) (c .before .before .before .parts-of .ensures) in
     ap not (c .equal16 .ensures ∙ relay)
     ∙ own-compared (s .args .tables .now) (a s) (s .pre .size) (s .pre .readable) (c .before .own-address .ensures)
     ∙ sym (ours-clauses (r s) (a s) ∙ and-yes _ (two (c4 .before .before)) ∙ and-yes _ (other c4))

@@ -3,6 +3,7 @@ use Rattle.octets.specs.Index.{_and_}
 use Rattle.rules.specs.Refusals.{rateEntryOk}
 use Rattle.tables.specs.Records.{pathOf}
 use Rattle.tables.specs.Fields.{pathRateAt}
+use Rattle.tables.specs.Forms.{timeWidth}
 use Prim.Native.Nat.{_+_}
 use borrow.Author.Needs.{needs}
 use Rattle.tables.proofs.record_check.rate_ok.Statement.{statement}
@@ -26,7 +27,7 @@ returns-2 c =
     rw (
       ← c2 .number-of-8-at .ensures,
       lt-ltb _ _ (c .before .if1 .left),
-      lt-ltb _ 256 (c3 .shared-slice-known .given (pathRateAt + 8) .fits),
+      lt-ltb _ 256 (c3 .shared-slice-known .given (pathRateAt + timeWidth) .fits),
       ← c .number-of-8-at2 .ensures,
     )
 
