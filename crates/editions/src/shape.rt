@@ -25,7 +25,7 @@ pub const LENGTH_WIDTH: usize = 2;
 
 pub const ENTRY_WIDTH: usize = OFFSET_WIDTH + LENGTH_WIDTH;
 
-pub const BODY_COUNT: usize = 8;
+pub const BODY_COUNT: usize = recording::SAVED_BODIES;
 
 // The bodies' lengths, those that are one in every edition: local addresses, links, returns, hashes, tally.
 pub const LOCALS_BODY: usize = LOCAL_COUNT * LOCAL_WIDTH;

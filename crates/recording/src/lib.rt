@@ -5,7 +5,9 @@ mod reader;
 mod writer;
 
 pub use numbers::LONGEST_FILE;
+pub use numbers::LONGEST_SAVED;
 pub use numbers::PLACE_REFUSED;
+pub use numbers::SAVED_BODIES;
 pub use reader::body;
 pub use reader::check;
 pub use reader::count;

@@ -48,10 +48,20 @@ pub const LENGTH_AT: usize = OFFSET_AT + OFFSET_WIDTH;
 
 pub const LENGTH_WIDTH: usize = 2;
 
+// What a length's two bytes hold.
+pub const LONGEST_BODY: usize = 65_535;
+
 pub const ENTRY_WIDTH: usize = LENGTH_AT + LENGTH_WIDTH;
 
 // The most entries that a file has room for.
 pub const MOST_ENTRIES: usize = (LONGEST_FILE - CONTENTS_START) / ENTRY_WIDTH;
+
+// A saved relay has the same shape: entries without a head, as many in every edition.
+pub const SAVED_BODIES: usize = 8;
+
+// The longest file of so many entries: in any edition a saved relay has at most so many bytes.
+pub const LONGEST_SAVED: usize = CONTENTS_START
+    + SAVED_BODIES * (OFFSET_WIDTH + LENGTH_WIDTH + LONGEST_BODY);
 
 // An entry as the writer is given it: a clock of 8 bytes, port, signature word, length.
 pub const GIVEN_CLOCK_WIDTH: usize = 8;

@@ -22,7 +22,7 @@ ghost use mathlib.Core.Path.{_≡_};
 ghost use Prim.Native.Nat.{_+_, _≤_, _<_};
 ghost use lib.ListN.{length};
 ghost use Rattle.octets.specs.Listed.{firstOf};
-ghost use Rattle.recording.specs.Shape.{entryPlace, countOf, offsetOf, lengthOf};
+ghost use Rattle.recording.specs.Shape.{countLimit, entryPlace, countOf, offsetOf, lengthOf};
 ghost use Rattle.recording.specs.Format.{headWidth};
 ghost use Rattle.recording.specs.Reader.{wordOf, fileRefusal, noFields, fieldsOf, bodyOf};
 ghost use Rattle.recording.specs.Steps.{contentsRows};
@@ -39,7 +39,7 @@ pub fn count(file: &[u8]) -> usize
 
 // Where entry i stands in the contents; at the count, where the contents end.
 pub fn entry_place(i: usize) -> usize
-    requires { ⌜ i < 65536 ⌝ }
+    requires { ⌜ i < countLimit ⌝ }
     ensures { λ r. ⌜ r ≡ entryPlace headWidth i ⌝ }
 {
     CONTENTS_START + ENTRY_WIDTH * i
@@ -76,7 +76,7 @@ fn word_of(file: &[u8], i: usize) -> u8
 
 // Refusals 22 and 23 of a file that has the contents of its n entries. An OR over the words is under 2 where each is.
 fn contents_refusal(file: &[u8], n: usize) -> u8
-    requires { ⌜ (n ≡ countOf (now file)) × (entryPlace headWidth n ≤ length (now file)) × (n < 65536) ⌝ }
+    requires { ⌜ (n ≡ countOf (now file)) × (entryPlace headWidth n ≤ length (now file)) × (n < countLimit) ⌝ }
     ensures { λ r. ⌜ r ≡ firstOf (contentsRows (now (file .entry))) 0 ⌝ }
 {
     let mut words: u8 = 0;

@@ -25,7 +25,7 @@ ghost use Prim.Native.Nat.{_+_, _≤_, _<_};
 ghost use lib.ListN.{length};
 ghost use Rattle.octets.specs.Listed.{firstOf};
 ghost use Rattle.octets.specs.Part.{patch};
-ghost use Rattle.recording.specs.Shape.{contentsStart, entryPlace};
+ghost use Rattle.recording.specs.Shape.{contentsStart, countLimit, entryPlace};
 ghost use Rattle.recording.specs.Format.{longestFile, headWidth, fileOf};
 ghost use Rattle.recording.specs.Writer.{givenCount, givenLength, givenStart, givenEntries, writingRefusal, writing};
 ghost use Rattle.recording.specs.Steps.{headRows, lengthRows, startBytes, copiedRow, copiedRows};
@@ -68,7 +68,7 @@ fn heads_refusal(entries: &[u8]) -> u8
 
 // The sum of the lengths of n entries.
 fn given_end(entries: &[u8], n: usize) -> usize
-    requires { ⌜ (n ≤ givenCount (now entries)) × (n < 65536) ⌝ }
+    requires { ⌜ (n ≤ givenCount (now entries)) × (n < countLimit) ⌝ }
     ensures { λ r. ⌜ r ≡ givenStart (now (entries .entry)) n ⌝ }
 {
     let mut end = 0;
@@ -127,7 +127,7 @@ fn write_start(n: usize, room: &mut [u8])
 
 // Writes entry i into the contents. What stands there is given in the same bytes, but for the offset.
 fn write_entry(entries: &[u8], i: usize, offset: usize, room: &mut [u8])
-    requires { ⌜ (i < givenCount (now entries)) × (i < 65536) × (entryPlace headWidth (i + 1) ≤ length (now room)) ⌝ }
+    requires { ⌜ (i < givenCount (now entries)) × (i < countLimit) × (entryPlace headWidth (i + 1) ≤ length (now room)) ⌝ }
     ensures { λ _. ⌜ now (room .exit)
         ≡ patch (now (room .entry)) (entryPlace headWidth i) (copiedRow (now (entries .entry)) offset i) ⌝ }
 {
@@ -148,7 +148,7 @@ fn write_entry(entries: &[u8], i: usize, offset: usize, room: &mut [u8])
 
 // Writes the contents of n entries, the first body at place at.
 fn write_contents(entries: &[u8], n: usize, at: usize, room: &mut [u8])
-    requires { ⌜ (n ≤ givenCount (now entries)) × (n < 65536) × (at ≤ longestFile)
+    requires { ⌜ (n ≤ givenCount (now entries)) × (n < countLimit) × (at ≤ longestFile)
         × (entryPlace headWidth n ≤ length (now room)) ⌝ }
     ensures { λ _. ⌜ now (room .exit)
         ≡ patch (now (room .entry)) contentsStart (copiedRows (now (entries .entry)) at n) ⌝ }

@@ -1,7 +1,7 @@
 use mathlib.Core.Path.{sym, _∙_}
 use borrow.Author.Tests.{lt-ltb}
 use Rattle.octets.proofs.Choice.{then-true}
-use Rattle.recording.specs.Shape.{countOf}
+use Rattle.recording.specs.Shape.{countOf, contentsStart}
 use Rattle.recording.proofs.ShapeLaws.{count-read}
 use borrow.Author.Needs.{needs}
 use Rattle.recording.proofs.reader.count.Statement.{statement}
@@ -9,7 +9,7 @@ use Rattle.recording.proofs.reader.count.Tie as tie
 
 returns : tie.Need-returns
 unfolding countOf
-returns c = sym (then-true 0 _ (lt-ltb _ 4 (c .if1 .taken)))
+returns c = sym (then-true 0 _ (lt-ltb _ contentsStart (c .if1 .taken)))
 
 number-at-requires : tie.Need-number-at-requires
 number-at-requires c κs = search needs

@@ -6,7 +6,7 @@ use Rattle.octets.specs.Part.{part}
 use Rattle.octets.specs.BigEndian.{number}
 use Rattle.octets.proofs.Bytes.{known-bytes}
 use Rattle.recording.specs.Shape.{entryPlace, countOf}
-use Rattle.recording.specs.Format.{headWidth}
+use Rattle.recording.specs.Format.{headWidth, clockWidth, portAt, entryWidth}
 use Rattle.recording.specs.Reader.{clockOf, portOf}
 use Rattle.recording.proofs.ShapeLaws.{count-lt, offset-lt, length-lt}
 use Rattle.recording.proofs.ReadLaws.{not-counted, row-outside, body-outside, stands-there, fields-none, fields-there}
@@ -73,7 +73,7 @@ add-if3 c =
     let f = c7 .args .file .now in
     let i = c7 .args .i in
     let b = known-bytes f (c6 .shared-slice-known .given) in
-    let row : entryPlace headWidth i + 13 ≤ length f = omega (arith, c3 .entry-place .ensures, c2 .if2 .left) in
+    let row : entryPlace headWidth i + entryWidth ≤ length f = omega (arith, c3 .entry-place .ensures, c2 .if2 .left) in
     let start = offset-lt headWidth f i b row in
     let long = length-lt headWidth f i b row in
     record { fits = omega (arith, c .before .offset-of .ensures, c .length-of .ensures) }
@@ -127,8 +127,8 @@ returns-4 c =
     let row : entryPlace headWidth (i + 1) ≤ length f = omega (arith, c7 .entry-place .ensures, c6 .if2 .left) in
     let there = stands-there f i counted row (omega (arith, c5 .offset-of .ensures, c4 .length-of .ensures, c3 .if3 .left)) in
     let at = c7 .entry-place .ensures in
-    let clock : c2 .number-at .result ≡ clockOf f i = c2 .number-at .ensures ∙ ap (λ (k : ℕ). number (part f k 5)) at in
-    let port : getD f (c7 .entry-place .result + 5) 0 ≡ portOf f i = ap (λ (k : ℕ). getD f (k + 5) 0) at in
+    let clock : c2 .number-at .result ≡ clockOf f i = c2 .number-at .ensures ∙ ap (λ (k : ℕ). number (part f k clockWidth)) at in
+    let port : getD f (c7 .entry-place .result + portAt) 0 ≡ portOf f i = ap (λ (k : ℕ). getD f (k + portAt) 0) at in
     rw (clock, port, c .word-of .ensures, c5 .offset-of .ensures, c4 .length-of .ensures) (sym (fields-there f i there))
 
 pub entry-spec : {M : Type 1} → statement M

@@ -3,7 +3,8 @@ use Prim.Native.Nat.{ℕ, _+_, _*_}
 use native.Mathlib.Nat.{add-assoc}
 use Rattle.octets.specs.Part.{part}
 use Rattle.octets.specs.BigEndian.{number}
-use Rattle.recording.specs.Shape.{lengthOf}
+use Rattle.recording.specs.Shape.{entryPlace, lengthOf, offsetWidth, lengthWidth}
+use Rattle.recording.specs.Format.{headWidth}
 use borrow.Author.Needs.{needs}
 use Rattle.recording.proofs.reader.length_of.Statement.{statement}
 use Rattle.recording.proofs.reader.length_of.Tie as tie
@@ -24,7 +25,8 @@ returns : tie.Need-returns
 unfolding lengthOf
 returns c =
     let c2 = c .before .before in
-    c .number-at .ensures ∙ ap (λ (k : ℕ). number (part (c2 .args .file .now) k 2)) (sym (add-assoc (4 + 13 * c2 .args .i) 7 4))
+    c .number-at .ensures ∙ ap (λ (k : ℕ). number (part (c2 .args .file .now) k lengthWidth))
+    (sym (add-assoc (entryPlace headWidth (c2 .args .i)) headWidth offsetWidth))
 
 pub length-of-spec : {M : Type 1} → statement M
 length-of-spec =

@@ -2,6 +2,7 @@ use mathlib.Core.Path.{sym, ap, _∙_}
 use Prim.Native.Nat.{_≤_}
 use native.Mathlib.Omega.{arith}
 use Rattle.recording.specs.Writer.{givenStart, fileLength}
+use Rattle.recording.specs.Format.{longestFile}
 use Rattle.recording.proofs.WriteLaws.{entry-cut, bodies-differ, add-up, refused-apart, refused-long, refused-many, refused-room, lengths-taken}
 use borrow.Author.Needs.{needs}
 use Rattle.recording.proofs.writer.lengths_refusal.Statement.{statement}
@@ -72,7 +73,7 @@ returns-5 c =
     let at = c2 .entry-place .ensures in
     let end = c4 .given-end .ensures ∙ ap (givenStart g) n in
     let up = add-up g bodies (c7 .if1 .left) (sym end ∙ c3 .if3 .left) in
-    let short : fileLength g bodies ≤ 60000 = omega (arith, c .before .if4 .left) in
+    let short : fileLength g bodies ≤ longestFile = omega (arith, c .before .if4 .left) in
     sym (refused-room g bodies room up short (omega (arith, c .if5 .taken)))
 
 returns-6 : tie.Need-returns-6
@@ -91,7 +92,7 @@ returns-6 c =
     let at = c2 .entry-place .ensures in
     let end = c4 .given-end .ensures ∙ ap (givenStart g) n in
     let up = add-up g bodies (c7 .if1 .left) (sym end ∙ c3 .if3 .left) in
-    let short : fileLength g bodies ≤ 60000 = omega (arith, c .before .if4 .left) in
+    let short : fileLength g bodies ≤ longestFile = omega (arith, c .before .if4 .left) in
     sym (lengths-taken g bodies room up short (omega (arith, c .if5 .left)))
 
 pub lengths-refusal-spec : {M : Type 1} → statement M

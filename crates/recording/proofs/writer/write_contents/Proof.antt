@@ -6,7 +6,7 @@ use native.Mathlib.Omega.{arith}
 use native.Mathlib.Nat.{le-antisymm, add-zero, add-assoc}
 use Rattle.octets.specs.Part.{patch}
 use Rattle.octets.proofs.Bytes.{known-bytes}
-use Rattle.recording.specs.Shape.{entryPlace}
+use Rattle.recording.specs.Shape.{entryPlace, contentsStart}
 use Rattle.recording.specs.Format.{headWidth}
 use Rattle.recording.specs.Writer.{givenCount, givenStart}
 use Rattle.recording.specs.Steps.{copiedRow, copiedRows}
@@ -17,7 +17,7 @@ use Rattle.recording.proofs.writer.write_contents.Tie as tie
 
 abbrev Inv-loop : tie.InvT-loop
 Inv-loop entries n at room₀ offset₀ i₀ room offset i =
-    (i ≤ n) × ((length room ≡ length room₀) × ((offset ≡ at + givenStart entries i) × (room ≡ patch room₀ 4 (copiedRows entries at i))))
+    (i ≤ n) × ((length room ≡ length room₀) × ((offset ≡ at + givenStart entries i) × (room ≡ patch room₀ contentsStart (copiedRows entries at i))))
 
 abbrev μ-loop : tie.MeasureT-loop
 μ-loop entries n at room₀ offset₀ i₀ room offset i = n - i
@@ -88,7 +88,7 @@ returns c =
     let c4 = c .before .before .before .before in
     let a = c4 .args in
     let all = le-antisymm (c .before .loop .inv .0) (c .loop-test .left) in
-    c .before .loop .inv .1 .1 .1 ∙ ap (λ (k : ℕ). patch (a .room .now) 4 (copiedRows (a .entries .now) (a .at) k)) all
+    c .before .loop .inv .1 .1 .1 ∙ ap (λ (k : ℕ). patch (a .room .now) contentsStart (copiedRows (a .entries .now) (a .at) k)) all
 
 pub write-contents-spec : {M : Type 1} → statement M
 write-contents-spec =

@@ -4,8 +4,10 @@ use mathlib.Core.List.{List}
 use native.Mathlib.Omega.{arith}
 use Rattle.octets.specs.Part.{patch}
 use Rattle.octets.specs.BigEndian.{bigEndian}
-use Rattle.recording.specs.Writer.{givenWidth}
+use Rattle.recording.specs.Writer.{givenWidth, givenLengthAt, givenHeadAt}
 use Rattle.recording.specs.Steps.{copiedRow}
+use Rattle.recording.specs.Shape.{offsetWidth, lengthWidth}
+use Rattle.recording.specs.Format.{headWidth, lengthAt}
 use Rattle.recording.proofs.WriteLaws.{given-within, given-range, entry-written}
 use borrow.Author.Needs.{needs}
 use Rattle.recording.proofs.writer.write_entry.Statement.{statement}
@@ -83,10 +85,10 @@ returns c =
     let room = a .room .now in
     let at = c14 .entry-place .result in
     let from : ℕ = givenWidth * a .i in
-    let head = c11 .copy-at .ensures ∙ ap (patch room at) (given-range g from 3 7) in
-    let offset = c7 .write-number-at .ensures ∙ ap (λ (r : List ℕ). patch r (at + 7) (bigEndian 4 (a .offset))) head in
+    let head = c11 .copy-at .ensures ∙ ap (patch room at) (given-range g from givenHeadAt headWidth) in
+    let offset = c7 .write-number-at .ensures ∙ ap (λ (r : List ℕ). patch r (at + headWidth) (bigEndian offsetWidth (a .offset))) head in
     c2 .copy-at2 .ensures
-    ∙ ap₂ (λ (r s : List ℕ). patch r (at + 11) s) offset (given-range g from 10 2)
+    ∙ ap₂ (λ (r s : List ℕ). patch r (at + lengthAt) s) offset (given-range g from givenLengthAt lengthWidth)
     ∙ entry-written g room at (a .offset) (a .i) (c17 .pre .0) (omega (arith, c14 .entry-place .ensures, c17 .pre .2))
     ∙ ap (λ (k : ℕ). patch room k (copiedRow g (a .offset) (a .i))) (c14 .entry-place .ensures)
 

@@ -7,6 +7,7 @@ use Rattle.octets.specs.Part.{patch}
 use Rattle.octets.proofs.Bytes.{known-bytes}
 use Rattle.recording.specs.Writer.{fileLength}
 use Rattle.recording.specs.Steps.{copiedRows}
+use Rattle.recording.specs.Shape.{contentsStart}
 use Rattle.recording.proofs.WriteLaws.{writable, written-few, file-written}
 use borrow.Author.Needs.{needs}
 use Rattle.recording.proofs.writer.write_file.Statement.{statement}
@@ -70,7 +71,8 @@ returns c =
     let room = a .room .now in
     let n = c13 .given-count .ensures in
     let start = c10 .write-start .ensures in
-    let contents = c6 .write-contents .ensures ∙ ap (λ (r : List ℕ). patch r 4 (copiedRows g (c12 .entry-place .result) (c13 .given-count .result))) start in
+    let rows = copiedRows g (c12 .entry-place .result) (c13 .given-count .result) in
+    let contents = c6 .write-contents .ensures ∙ ap (λ (r : List ℕ). patch r contentsStart rows) start in
     c2 .copy-at .ensures
     ∙ ap (λ (r : List ℕ). patch r (c12 .entry-place .result) (a .bodies .now)) contents
     ∙ file-written g (a .bodies .now) room (known-bytes g (c16 .shared-slice-known .given)) w _ _ n (c12 .entry-place .ensures)

@@ -4,6 +4,7 @@ use mathlib.Core.List.{List, [], _∷_}
 use Rattle.octets.specs.Part.{patch}
 use Rattle.octets.specs.BigEndian.{bigEndian}
 use Rattle.recording.specs.Format.{recordingEdition}
+use Rattle.recording.specs.Shape.{countAt, countWidth}
 use Rattle.recording.proofs.WriteLaws.{start-written}
 use borrow.Author.Needs.{needs}
 use Rattle.recording.proofs.writer.write_start.Statement.{statement}
@@ -29,7 +30,7 @@ returns c =
     let c13 = c10 .before .before .before in
     let a = c13 .args in
     let edition = c6 .set-at2 .ensures ∙ ap (λ (r : List ℕ). patch r 1 (recordingEdition ∷ [])) (c10 .set-at .ensures) in
-    c2 .write-number-at .ensures ∙ ap (λ (r : List ℕ). patch r 2 (bigEndian 2 (a .n))) edition ∙ start-written (a .room .now) (a .n) (c13 .pre)
+    c2 .write-number-at .ensures ∙ ap (λ (r : List ℕ). patch r countAt (bigEndian countWidth (a .n))) edition ∙ start-written (a .room .now) (a .n) (c13 .pre)
 
 pub write-start-spec : {M : Type 1} → statement M
 write-start-spec =
