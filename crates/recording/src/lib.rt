@@ -4,8 +4,13 @@ mod numbers;
 mod reader;
 mod writer;
 
+pub use numbers::CONTENTS_START;
+pub use numbers::COUNT_AT;
+pub use numbers::COUNT_WIDTH;
+pub use numbers::LENGTH_WIDTH;
 pub use numbers::LONGEST_FILE;
 pub use numbers::LONGEST_SAVED;
+pub use numbers::OFFSET_WIDTH;
 pub use numbers::PLACE_REFUSED;
 pub use numbers::SAVED_BODIES;
 pub use reader::body;

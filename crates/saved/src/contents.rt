@@ -1,8 +1,8 @@
 // The file's contents: where an entry stands, and what it says.
-use editions::shape::CONTENTS_START;
 use editions::shape::ENTRY_WIDTH;
-use editions::shape::LENGTH_WIDTH;
-use editions::shape::OFFSET_WIDTH;
+use recording::CONTENTS_START;
+use recording::LENGTH_WIDTH;
+use recording::OFFSET_WIDTH;
 ghost use mathlib.Core.Path.{_≡_};
 ghost use Prim.Native.Nat.{_+_, _≤_, _<_};
 ghost use lib.ListN.{length};

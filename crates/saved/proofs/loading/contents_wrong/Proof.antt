@@ -4,7 +4,7 @@ use native.Mathlib.Nat.{le-antisymm}
 use lib.ListN.{length}
 use Rattle.octets.specs.Index.{allBelow}
 use Rattle.octets.proofs.Bytes.{known-bytes}
-use Rattle.recording.specs.Shape.{entryPlace}
+use Rattle.recording.specs.Shape.{entryPlace, rowWidth}
 use Rattle.recording.proofs.ShapeLaws.{length-lt}
 use Rattle.saved.specs.File.{headWidth, bodyCount}
 use Rattle.saved.proofs.LoadLaws.{stands, other-count, contents-right, Passed, passed-none, passed-more, passed-lt, passed-wrong}
@@ -59,7 +59,7 @@ add-place c =
     let f = c8 .args .file .now in
     let b = known-bytes f (c7 .shared-slice-known .given) in
     let i = c4 .loop .i in
-    let inside : entryPlace headWidth i + 6 ≤ length f = omega (arith, c8 .pre, c4 .loop .inv .count, c3 .loop-test .taken) in
+    let inside : entryPlace headWidth i + rowWidth headWidth ≤ length f = omega (arith, c8 .pre, c4 .loop .inv .count, c3 .loop-test .taken) in
     let long = length-lt headWidth f i b inside in
     record { fits = omega (arith, passed-lt (c4 .loop .inv) b inside, c .length-of .ensures, c3 .loop-test .taken) }
 

@@ -3,7 +3,7 @@ use Prim.Native.Nat.{ℕ, _+_, _-_, _≤_}
 use native.Mathlib.Nat.{le-antisymm}
 use lib.ListN.{length}
 use Rattle.octets.proofs.Bytes.{known-bytes}
-use Rattle.recording.specs.Shape.{entryPlace, lengthOf, sumBelow}
+use Rattle.recording.specs.Shape.{entryPlace, lengthOf, sumBelow, rowWidth}
 use Rattle.recording.proofs.Sums.{sum-none, sum-more}
 use Rattle.recording.proofs.ShapeLaws.{length-lt}
 use Rattle.saved.specs.File.{headWidth}
@@ -33,7 +33,7 @@ add-sum c =
     let f = c4 .args .file .now in
     let b = known-bytes f (c3 .shared-slice-known .given) in
     let i = c2 .loop .i in
-    let inside : entryPlace headWidth i + 6 ≤ length f = omega (arith, c4 .pre .0, c .before .loop-test .taken) in
+    let inside : entryPlace headWidth i + rowWidth headWidth ≤ length f = omega (arith, c4 .pre .0, c .before .loop-test .taken) in
     let most = lengths-most f i b (omega arith) in
     let long = length-lt headWidth f i b inside in
     record { fits = omega (arith, c2 .loop .inv .1, c .length-of .ensures, c4 .pre .1, c .before .loop-test .taken) }

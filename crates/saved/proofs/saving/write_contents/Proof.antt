@@ -4,7 +4,7 @@ use Prim.Native.Nat.{ℕ, _+_, _-_, _≤_}
 use native.Mathlib.Nat.{le-antisymm}
 use lib.ListN.{length}
 use Rattle.octets.specs.Part.{patch}
-use Rattle.recording.specs.Shape.{entryPlace, sumBelow}
+use Rattle.recording.specs.Shape.{entryPlace, sumBelow, contentsStart}
 use Rattle.recording.proofs.Sums.{sum-none, sum-more}
 use Rattle.editions.specs.Editions.{current, widthAt}
 use Rattle.saved.specs.File.{bodyCount, headWidth, bodiesAt}
@@ -19,7 +19,7 @@ use Rattle.saved.proofs.saving.write_contents.Tie as tie
 
 abbrev Inv-loop : tie.InvT-loop
 Inv-loop room₀ offset₀ i₀ room offset i =
-    (i ≤ bodyCount) × ((length room ≡ length room₀) × ((offset ≡ bodiesAt + sumBelow (widthAt current) i) × (room ≡ patch room₀ 4 (contentsBytes i))))
+    (i ≤ bodyCount) × ((length room ≡ length room₀) × ((offset ≡ bodiesAt + sumBelow (widthAt current) i) × (room ≡ patch room₀ contentsStart (contentsBytes i))))
 
 abbrev μ-loop : tie.MeasureT-loop
 μ-loop room₀ offset₀ i₀ room offset i = bodyCount - i
@@ -68,7 +68,7 @@ returns : tie.Need-returns Inv-loop μ-loop
 returns c =
     let c3 = c .before .before .before in
     c .before .loop .inv .1 .1 .1
-    ∙ ap (λ (k : ℕ). patch (c3 .args .room .now) 4 (contentsBytes k)) (le-antisymm (c .before .loop .inv .0) (c .loop-test .left))
+    ∙ ap (λ (k : ℕ). patch (c3 .args .room .now) contentsStart (contentsBytes k)) (le-antisymm (c .before .loop .inv .0) (c .loop-test .left))
 
 pub write-contents-spec : {M : Type 1} → statement M
 write-contents-spec =

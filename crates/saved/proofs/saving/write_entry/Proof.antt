@@ -10,6 +10,7 @@ use native.Mathlib.Omega.{arith}
 use borrow.Author.Needs.{needs}
 use Rattle.saved.proofs.saving.write_entry.Statement.{statement}
 use Rattle.saved.proofs.saving.write_entry.Tie as tie
+use Rattle.recording.specs.Shape.{offsetWidth, lengthWidth}
 
 entry-place-requires : tie.Need-entry-place-requires
 entry-place-requires c κs = search needs
@@ -39,7 +40,7 @@ returns c =
     let a = c11 .args in
     let at = c9 .entry-place .result in
     c2 .write-number-at2 .ensures
-    ∙ ap₂ (λ (r : List ℕ) (k : ℕ). patch r (at + 4) (bigEndian 2 k)) (c7 .write-number-at .ensures) (c3 .width-of .ensures)
+    ∙ ap₂ (λ (r : List ℕ) (k : ℕ). patch r (at + offsetWidth) (bigEndian lengthWidth k)) (c7 .write-number-at .ensures) (c3 .width-of .ensures)
     ∙ entry-written (a .room .now) at (a .offset) (a .i) (omega (arith, c9 .entry-place .ensures, c11 .pre .0, c11 .pre .1))
     ∙ ap (λ (k : ℕ). patch (a .room .now) k (entryBytes (a .offset) (a .i))) (c9 .entry-place .ensures)
 

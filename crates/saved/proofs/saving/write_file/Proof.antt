@@ -12,6 +12,7 @@ use Rattle.saved.proofs.SaveLaws.{file-written}
 use borrow.Author.Needs.{needs}
 use Rattle.saved.proofs.saving.write_file.Statement.{statement}
 use Rattle.saved.proofs.saving.write_file.Tie as tie
+use Rattle.recording.specs.Shape.{contentsStart}
 
 write-start-requires : tie.Need-write-start-requires
 write-start-requires c κs = search needs
@@ -44,8 +45,8 @@ returns c =
     let c18 = c17 .before in
     let a = c18 .args in
     let tables = a .tables .now in
-    let contents = c10 .write-contents .ensures ∙ ap (λ (r : List ℕ). patch r 4 (contentsBytes bodyCount)) (c14 .write-start .ensures) in
-    let copied = c6 .copy-tables .ensures ∙ ap (λ (r : List ℕ). patch r 52 tables) contents in
+    let contents = c10 .write-contents .ensures ∙ ap (λ (r : List ℕ). patch r contentsStart (contentsBytes bodyCount)) (c14 .write-start .ensures) in
+    let copied = c6 .copy-tables .ensures ∙ ap (λ (r : List ℕ). patch r bodiesAt tables) contents in
     c2 .write-tally .ensures
     ∙ ap (λ (r : List ℕ). patch r (bodiesAt + tableSize) (tallyBytes (a .tally))) copied
     ∙ file-written tables (a .tally) (a .room .now) (known-bytes tables (c17 .shared-slice-known .given)) (c18 .pre .0) (c18 .pre .1)

@@ -9,6 +9,7 @@ use Rattle.saved.proofs.SaveLaws.{start-written}
 use borrow.Author.Needs.{needs}
 use Rattle.saved.proofs.saving.write_start.Statement.{statement}
 use Rattle.saved.proofs.saving.write_start.Tie as tie
+use Rattle.recording.specs.Shape.{countAt, countWidth}
 
 set-at-requires : tie.Need-set-at-requires
 set-at-requires c κs = search needs
@@ -29,7 +30,7 @@ returns c =
     let c10 = c6 .before .before .before .before in
     let c13 = c10 .before .before .before in
     let edition = c6 .set-at2 .ensures ∙ ap (λ (r : List ℕ). patch r 1 (currentEdition ∷ [])) (c10 .set-at .ensures) in
-    c2 .write-number-at .ensures ∙ ap (λ (r : List ℕ). patch r 2 (bigEndian 2 bodyCount)) edition ∙ start-written (c13 .args .room .now) (c13 .pre)
+    c2 .write-number-at .ensures ∙ ap (λ (r : List ℕ). patch r countAt (bigEndian countWidth bodyCount)) edition ∙ start-written (c13 .args .room .now) (c13 .pre)
 
 pub write-start-spec : {M : Type 1} → statement M
 write-start-spec =

@@ -8,6 +8,8 @@ use native.Mathlib.Omega.{arith}
 use borrow.Author.Needs.{needs}
 use Rattle.saved.proofs.saving.write_tally.Statement.{statement}
 use Rattle.saved.proofs.saving.write_tally.Tie as tie
+use Rattle.editions.specs.Editions.{counterWidth}
+use Rattle.saved.specs.Steps.{counterAt}
 
 cast-write-number-at : tie.Need-cast-write-number-at
 cast-write-number-at c = search needs
@@ -112,12 +114,12 @@ returns c =
     let c31 = c27 .before .before .before .before in
     let a = c31 .args in
     let at = a .at in
-    let put : ℕ → ℕ → List ℕ → List ℕ = λ k x r. patch r (at + k) (bigEndian 4 x) in
-    let two = c22 .write-number-at2 .ensures ∙ ap (put 4 (a .tally .dropped)) (c27 .write-number-at .ensures) in
-    let three = c17 .write-number-at3 .ensures ∙ ap (put 8 (a .tally .delivered)) two in
-    let four = c12 .write-number-at4 .ensures ∙ ap (put 12 (a .tally .forwarded)) three in
-    let five = c7 .write-number-at5 .ensures ∙ ap (put 16 (a .tally .spread)) four in
-    c2 .write-number-at6 .ensures ∙ ap (put 20 (a .tally .kept)) five ∙ tally-written (a .tally) (a .room .now) at (c31 .pre)
+    let put : ℕ → ℕ → List ℕ → List ℕ = λ k x r. patch r (at + k) (bigEndian counterWidth x) in
+    let two = c22 .write-number-at2 .ensures ∙ ap (put (counterAt "dropped") (a .tally .dropped)) (c27 .write-number-at .ensures) in
+    let three = c17 .write-number-at3 .ensures ∙ ap (put (counterAt "delivered") (a .tally .delivered)) two in
+    let four = c12 .write-number-at4 .ensures ∙ ap (put (counterAt "forwarded") (a .tally .forwarded)) three in
+    let five = c7 .write-number-at5 .ensures ∙ ap (put (counterAt "spread") (a .tally .spread)) four in
+    c2 .write-number-at6 .ensures ∙ ap (put (counterAt "kept") (a .tally .kept)) five ∙ tally-written (a .tally) (a .room .now) at (c31 .pre)
 
 pub write-tally-spec : {M : Type 1} → statement M
 write-tally-spec =
