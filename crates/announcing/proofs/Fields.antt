@@ -68,7 +68,7 @@ module _ (a : Announce) (signature : List ℕ) where
     flagged =
         ratchet-right (length (a .ratchet)) (λ n. (contextFlag (headOf (destination a) n .header) then ratchetWidth otherwise 0) ≡ n) (b .lengths .ratchet) refl refl
 
-    blob-length : length (blob a) ≡ 10
+    blob-length : length (blob a) ≡ blobWidth
     unfolding blob
     blob-length = simp (length-append, bigEndian-length) (omega (arith, b .lengths .random))
 

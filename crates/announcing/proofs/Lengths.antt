@@ -55,7 +55,7 @@ parts-start a = start-one (partsFor a .header) (head-one (destination a) (length
 
 -- ---- lengths
 module _ (a : Announce) (signature : List ℕ) where
-  blob-length : length (blob a) ≡ length (a .random) + 5
+  blob-length : length (blob a) ≡ length (a .random) + emissionWidth
   unfolding blob
   blob-length = simp (length-append, bigEndian-length) (omega arith)
 
@@ -77,11 +77,11 @@ module _ (a : Announce) (signature : List ℕ) where
 
 -- ---- 26: what is known where no length is wrong
 pub record Right (k n r t s : ℕ) : Type 0 where
-  pub keys : k ≡ 64
-  pub nameHash : n ≡ 10
-  pub random : r ≡ 5
+  pub keys : k ≡ keysWidth
+  pub nameHash : n ≡ nameHashWidth
+  pub random : r ≡ randomWidth
   pub ratchet : (eqb t 0 or eqb t ratchetWidth) ≡ true
-  pub signature : s ≡ 64
+  pub signature : s ≡ signatureWidth
 
 not-no : (t : Bool) → not t ≡ false → t ≡ true
 not-no true e = refl

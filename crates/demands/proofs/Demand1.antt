@@ -20,6 +20,7 @@ use Rattle.packet.specs.Read.{headerOf, longestPacket, readingRows, readingRefu
 use Rattle.packet.specs.Write.{leastOutput, packetOf, writingRows, writingRefusal, Writing, writing}
 use Rattle.packet.specs.Hash.{packetHashAnswer, linkIdAnswer}
 use Rattle.packet.specs.declared.Parts.{Parts}
+use Rattle.packet.specs.Places.{typeOneStart, typeTwoStart}
 use Rattle.numbers.specs.Numbers.{portCount, localCount, modeCount, isSize, clockLimit}
 use Rattle.rules.specs.Relay.{makeRateSettings, Port, Slot, empty, used, Relay}
 use Rattle.rules.specs.View.{portOn, portSize, isLocal, viewAt}
@@ -170,10 +171,10 @@ pub packet-rows : (a : Arrival) (output tables : List ℕ)
     ltb (length output) leastOutput then 6 otherwise
     not (portOn (relayOf tables) (a .port)) then 4 otherwise
     leb clockLimit (a .clock) or ltb (a .clock) (relayOf tables .clock) then 5 otherwise
-    ltb (length (a .bytes)) 19 then 1 otherwise
+    ltb (length (a .bytes)) typeOneStart then 1 otherwise
     ltb (portSize (relayOf tables) (a .port)) (length (a .bytes)) then 2 otherwise
     accessCode (headerOf (a .bytes)) then 3 otherwise
-    typeTwo (headerOf (a .bytes)) and ltb (length (a .bytes)) 35 then 1 otherwise 0)
+    typeTwo (headerOf (a .bytes)) and ltb (length (a .bytes)) typeTwoStart then 1 otherwise 0)
 unfolding refusalOn afterSeven refusal refusalBy packetRows firstOf readingRefusal readingRows _then_otherwise_
 packet-rows a output tables = after-seven tables (below (isSize size)) ∙ go (wellFormed tables) refl
   where
@@ -186,10 +187,10 @@ packet-rows a output tables = after-seven tables (below (isSize size)) ∙ go (w
         not (portOn (relayOf tables) (a .port)) then 4 otherwise
         leb clockLimit (a .clock) or ltb (a .clock) (relayOf tables .clock) then 5 otherwise
         not sized then 9 otherwise
-        ltb (length (a .bytes)) 19 then 1 otherwise
+        ltb (length (a .bytes)) typeOneStart then 1 otherwise
         ltb size (length (a .bytes)) then 2 otherwise
         accessCode (headerOf (a .bytes)) then 3 otherwise
-        typeTwo (headerOf (a .bytes)) and ltb (length (a .bytes)) 35 then 1 otherwise 0
+        typeTwo (headerOf (a .bytes)) and ltb (length (a .bytes)) typeTwoStart then 1 otherwise 0
 
     go : (v : Bool) → wellFormed tables ≡ v
         → (not (wellFormed tables) then 7 otherwise below (isSize size)) ≡ (not (wellFormed tables) then 7 otherwise below true)

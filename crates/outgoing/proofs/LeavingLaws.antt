@@ -44,7 +44,7 @@ module _ (size : ℕ) (p : List ℕ) (h : reads size p ≡ true) where
   spread-result own wide body e = ap (λ (b : List ℕ). typeTwoStart + length b) e ∙ sym (spread-length own wide)
 
   -- type 1 grows by 16 bytes, so that 484 bytes are the most that spread
-  pub spread-one : typeTwo (headerOf p) ≡ false → spreadLength p ≡ length p + 16
+  pub spread-one : typeTwo (headerOf p) ≡ false → spreadLength p ≡ length p + addressWidth
   unfolding spreadLength
   spread-one e = omega (arith, body-length size p h, start-one (headerOf p) e)
 

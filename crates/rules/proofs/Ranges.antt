@@ -9,7 +9,7 @@ use lib.Dec.{ltb, lit≤}
 use borrow.Author.Tests.{lt-ltb, ltb-true, le-leb, leb-true, leb-false}
 use Rattle.octets.proofs.Index.{and-left, and-right, and-both, all-at}
 use Rattle.octets.proofs.Choice.{then-true}
-use Rattle.numbers.specs.Numbers.{portCount, blobLimit, clockLimit, timeLimit, targetLimit, graceLimit, penaltyLimit, violationLimit, blockedLimit, pathLifetime, hopsLimit, boundaryLifetime}
+use Rattle.numbers.specs.Numbers.{portCount, blobLimit, clockLimit, timeLimit, targetLimit, graceLimit, penaltyLimit, violationLimit, blockedLimit, pathLifetime, hopsLimit, boundaryLifetime, unprovedLifetime}
 use Rattle.rules.specs.Relay.{Slot, empty, used, Path, Return, Ring, withPathRate, holds}
 use Rattle.rules.specs.View.{View}
 use Rattle.rules.specs.Renumbering.{image, oneToOne, renamePath, renameLink, renameReturn, renameSlot}
@@ -192,7 +192,7 @@ module _ (a : Arrival) (port : a .port < portCount) (clock : a .clock < clockLim
   unfolding linkOk linkRecord
   link-ok p h =
       let l : p .hops < 256 = path-hops p h in
-      and-both arrival-port (and-both (path-port p h) (time-small (6 * (p .hops + 1)) (omega arith)))
+      and-both arrival-port (and-both (path-port p h) (time-small (unprovedLifetime (p .hops)) (omega arith)))
 
   pub renewed-ok : (l : Link) → linkOk l ≡ true → linkOk (renewedLink a l) ≡ true
   unfolding linkOk renewedLink

@@ -7,8 +7,9 @@ use lib.Dec.{eqb}
 use Rattle.octets.specs.Index.{_and_}
 use Rattle.octets.specs.Choice.{_then_otherwise_, _or_}
 use Rattle.octets.specs.Listed.{Test, _gives_otherwise_}
-use Rattle.packet.specs.Header.{typeTwo, contextFlag, ofKindLink, isData, isAnnounce, isLinkRequest, isProof}
+use Rattle.packet.specs.Header.{typeTwo, ofKindLink, isData, isAnnounce, isLinkRequest, isProof}
 use Rattle.packet.specs.Read.{headerOf}
+use Rattle.packet.specs.Announce.{leastAnnounce}
 use Rattle.rules.specs.Relay.{Slot, empty, used}
 use Rattle.rules.specs.View.{View}
 use Rattle.rules.specs.Arrival.{Arrival, header, hops, destination, isLinkProof}
@@ -67,7 +68,7 @@ clauses p =
     typeTwoProof p gives 0 otherwise
     typeTwoOfKindLink p gives 0 otherwise
     announceNotSingle p gives 0 otherwise
-    announceTooShort p gives (contextFlag (headerOf p) then 180 otherwise 148) otherwise
+    announceTooShort p gives leastAnnounce (headerOf p) otherwise
     announceOfAnother p gives 0 otherwise
     requestOfKindLink p gives 0 otherwise
     requestTooShort p gives leastRequestLength otherwise

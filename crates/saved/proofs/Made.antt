@@ -16,7 +16,7 @@ use Rattle.octets.proofs.Part.{part-nil, part-part}
 use Rattle.codes.specs.Form.{code}
 use Rattle.codes.proofs.Law.{passes-at, back-at}
 use Rattle.codes.proofs.Forms.{lawful}
-use Rattle.recording.specs.Shape.{entryPlace, editionOf, countOf, offsetOf, lengthOf, sumBelow, runningPlace, rowOf, shapeOf, countWidth, lengthLimit, offsetLimit}
+use Rattle.recording.specs.Shape.{entryPlace, editionOf, countOf, offsetOf, lengthOf, sumBelow, runningPlace, rowOf, shapeOf, countWidth, lengthLimit, offsetLimit, countLimit}
 use Rattle.recording.proofs.Sums.{sum-cong, part-last}
 use Rattle.recording.proofs.ShapeLaws.{longOf, placeOf, shape-listOf, shape-again, shape-length, shape-long, shape-kind, shape-edition, shape-count, shape-shaped, shape-bytes}
 use Rattle.tables.specs.Forms.{today}
@@ -42,13 +42,13 @@ module _ (n : ℕ) (held : Held) where
   no-head : (b : List ℕ) → length (noHead b) ≡ headWidth
   no-head b = refl
 
-  small : (i : ℕ) → i < bodyCount → longOf wholeBody body i < 65536
+  small : (i : ℕ) → i < bodyCount → longOf wholeBody body i < lengthLimit
   small i l = subst (λ (k : ℕ). k < lengthLimit) (sym (body-length n held i l)) (width-small n i l)
 
   whole-sum : sumBelow (longOf wholeBody body) bodyCount ≡ code (editionAt n) .width
   whole-sum = body-place n held bodyCount (le-refl bodyCount) ∙ widths-in (numbered n)
 
-  few : bodyCount < 65536
+  few : bodyCount < countLimit
   few = lit< tt
 
   fits : entryPlace headWidth bodyCount + sumBelow (longOf wholeBody body) bodyCount < offsetLimit

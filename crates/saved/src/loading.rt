@@ -30,7 +30,7 @@ ghost use lib.ListN.{length};
 ghost use Rattle.octets.specs.Part.{part};
 ghost use Rattle.octets.specs.BigEndian.{number};
 ghost use Rattle.codes.specs.Form.{code};
-ghost use Rattle.recording.specs.Shape.{entryPlace, countOf, editionOf, lengthOf, sumBelow};
+ghost use Rattle.recording.specs.Shape.{entryPlace, countOf, editionOf, lengthOf, sumBelow, countLimit};
 ghost use Rattle.tables.specs.Layout.{bytesOf};
 ghost use Rattle.editions.specs.Editions.{counterWidth, tallyForm, isKnown, editionAt};
 ghost use Rattle.saved.specs.File.{headWidth, bodiesAt};
@@ -39,7 +39,7 @@ ghost use Rattle.saved.specs.Steps.{ContentsRight, tallyAt};
 
 // The sum of the lengths of n entries.
 fn lengths_sum(file: &[u8], n: usize) -> usize
-    requires { ⌜ (entryPlace headWidth n ≤ length (now file)) × (n < 65536) ⌝ }
+    requires { ⌜ (entryPlace headWidth n ≤ length (now file)) × (n < countLimit) ⌝ }
     ensures { λ r. ⌜ r ≡ sumBelow (lengthOf headWidth (now (file .entry))) n ⌝ }
 {
     let mut sum = 0;

@@ -1,5 +1,5 @@
 -- Four records at once: the laws of `together`, plain records keep row 7, and what is left to test where only ports and times are plain.
-use Prim.Native.Nat.{ℕ, zero, suc, _+_, _*_, _%_, _^_, _≤_, _<_}
+use Prim.Native.Nat.{ℕ, zero, suc, _+_, _*_, _-_, _%_, _^_, _≤_, _<_}
 use native.Mathlib.Nat.{zero-mod, add-zero}
 use native.Mathlib.Numerals.{add-one}
 use native.Mathlib.Omega.{arith}
@@ -110,7 +110,7 @@ module _ (p : ℕ → Bool) (at a w n : ℕ) (t : List ℕ) (fits : a + wordWidt
       (λ k l. sym (same k l (ap p (field k) ∙ all-at (λ j. p (number (part t (at + a + w * j) wordWidth))) n k h l)))
 
 -- ---- plain records keep row 7
-time-plain : (x : ℕ) → x < 2 ^ 40 → timeOk x ≡ true
+time-plain : (x : ℕ) → x < clockLimit → timeOk x ≡ true
 unfolding timeOk
 time-plain x h = le-leb x _ (omega arith)
 
@@ -138,27 +138,38 @@ module _ (b : List ℕ) (bytes : Bytes b) (size : length b ≡ returnWidth) wher
   below : (a n : ℕ) → a + n ≤ length b → number (part b a n) < 256 ^ n
   below a n l = number-lt (part b a n) n (part-bytes b a n bytes) (part-length b a n l)
 
+  -- of the word that starts with the arrival port: what is behind it, and behind the leaving port, which is the expiry but for its last bytes
+  abbrev behindArrival : ℕ
+  behindArrival = wordWidth - 1
+
+  abbrev expirySeen : ℕ
+  expirySeen = behindArrival - 1
+
+  abbrev expiryRest : ℕ
+  expiryRest = timeWidth - expirySeen
+
   ways : waysPlain (number (part b returnArrivalAt wordWidth)) ≡ true → returnOk (returnOf b) ≡ true
   unfolding waysPlain returnOk returnOf
   ways h =
       let x : ℕ = number (part b returnArrivalAt wordWidth) in
-      let first : number (part b returnArrivalAt wordWidth) ≡ getD b returnArrivalAt 0 * 256 ^ 7 + number (part b returnLeavingAt 7) =
-      number-part b returnArrivalAt 1 7 (omega arith)
-      ∙ ap (λ (k : ℕ). k * 256 ^ 7 + number (part b returnLeavingAt 7)) (number-one b returnArrivalAt (omega arith)) in
-      let second : number (part b returnLeavingAt 7) ≡ getD b returnLeavingAt 0 * 256 ^ 6 + number (part b returnExpiryAt 6) =
-      number-part b returnLeavingAt 1 6 (omega arith)
-      ∙ ap (λ (k : ℕ). k * 256 ^ 6 + number (part b returnExpiryAt 6)) (number-one b returnLeavingAt (omega arith)) in
-      let third : number (part b returnExpiryAt wordWidth) ≡ number (part b returnExpiryAt 6) * 256 ^ 2 + number (part b (returnExpiryAt + 6) 2) =
-      number-part b returnExpiryAt 6 2 (omega arith) in
+      let first : number (part b returnArrivalAt wordWidth) ≡ getD b returnArrivalAt 0 * 256 ^ behindArrival + number (part b returnLeavingAt behindArrival) =
+      number-part b returnArrivalAt 1 behindArrival (omega arith)
+      ∙ ap (λ (k : ℕ). k * 256 ^ behindArrival + number (part b returnLeavingAt behindArrival)) (number-one b returnArrivalAt (omega arith)) in
+      let second : number (part b returnLeavingAt behindArrival) ≡ getD b returnLeavingAt 0 * 256 ^ expirySeen + number (part b returnExpiryAt expirySeen) =
+      number-part b returnLeavingAt 1 expirySeen (omega arith)
+      ∙ ap (λ (k : ℕ). k * 256 ^ expirySeen + number (part b returnExpiryAt expirySeen)) (number-one b returnLeavingAt (omega arith)) in
+      let third : number (part b returnExpiryAt timeWidth)
+      ≡ number (part b returnExpiryAt expirySeen) * 256 ^ expiryRest + number (part b (returnExpiryAt + expirySeen) expiryRest) =
+      number-part b returnExpiryAt expirySeen expiryRest (omega arith) in
       let l1 : x < 2 ^ 60 = ltb-true _ _ (and-left _ _ h) in
       let l2 : x % 2 ^ 56 < 2 ^ 52 = ltb-true _ _ (and-left _ _ (and-right _ _ h)) in
       let l3 : x % 2 ^ 48 < 2 ^ 24 = ltb-true _ _ (and-right _ _ (and-right _ _ h)) in
-      let s1 = below returnLeavingAt 7 (omega arith) in
-      let s2 = below returnExpiryAt 6 (omega arith) in
-      let s3 = below (returnExpiryAt + 6) 2 (omega arith) in
+      let s1 = below returnLeavingAt behindArrival (omega arith) in
+      let s2 = below returnExpiryAt expirySeen (omega arith) in
+      let s3 = below (returnExpiryAt + expirySeen) expiryRest (omega arith) in
       let arrival : getD b returnArrivalAt 0 < portCount = omega arith in
       let leaving : getD b returnLeavingAt 0 < portCount = omega arith in
-      let expiry : number (part b returnExpiryAt wordWidth) < 2 ^ 40 = omega arith in
+      let expiry : number (part b returnExpiryAt timeWidth) < clockLimit = omega arith in
       and-both (lt-ltb _ _ arrival) (and-both (lt-ltb _ _ leaving) (time-plain _ expiry))
 
   pub return-plain : returnPlain b ≡ true → returnBytesOk b ≡ true

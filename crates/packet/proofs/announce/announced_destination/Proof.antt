@@ -13,7 +13,7 @@ use borrow.Author.Needs.{needs}
 use Rattle.packet.proofs.announce.announced_destination.Statement.{statement}
 use Rattle.packet.proofs.announce.announced_destination.Tie as tie
 
-name-short : (body name : List ℕ) → name ≡ nameHashOf body → length name ≤ 10
+name-short : (body name : List ℕ) → name ≡ nameHashOf body → length name ≤ nameHashWidth
 unfolding nameHashOf
 name-short body name e = rw e (part-most body nameHashAt nameHashWidth nameHashWidth (lit≤ tt))
 
