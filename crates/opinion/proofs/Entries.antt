@@ -19,7 +19,7 @@ use Rattle.rules.specs.Calls.{sets-port, sets-rate, adds, removes, renumbers, m
 use Rattle.rules.proofs.Choices.{either}
 use Rattle.history.specs.Known.{Known}
 use Rattle.history.specs.After.{Entry, came, called, after, knownOf}
-use Rattle.opinion.specs.Log.{portIn, wordIn, modeIn, clockIn, lengthIn, packetIn, arrivalIn, rateIn, addressIn, imagesIn, kindIn, entryOf, entryBytes, entriesOf, knownIn}
+use Rattle.opinion.specs.Log.{portIn, wordIn, modeIn, clockIn, lengthIn, packetIn, arrivalIn, rateIn, addressIn, imagesIn, kindIn, entryOf, entryBytes, entriesOf, knownIn, kindAt}
 
 module _ (e : List ℕ) where
   -- ---- the kinds
@@ -28,7 +28,7 @@ module _ (e : List ℕ) where
   kind-most =
       either (λ (n : ℕ). n ≤ 6) _ (λ _. omega arith)
       (λ _. either (λ (n : ℕ). n ≤ 6) _ (λ _. omega arith)
-      (λ _. either (λ (n : ℕ). n ≤ 6) _ (λ _. omega arith) (λ h. ltb-false 6 (getD e 0 0) h)))
+      (λ _. either (λ (n : ℕ). n ≤ 6) _ (λ _. omega arith) (λ h. ltb-false 6 (getD e kindAt 0) h)))
 
   -- a packet that came reads, and a rate set is within its limits
   pub came-reads : kindIn e ≡ 1 → reads longestPacket (packetIn e) ≡ true
@@ -37,7 +37,7 @@ module _ (e : List ℕ) where
       either (λ (n : ℕ). n ≡ 1 → reads longestPacket (packetIn e) ≡ true) _ (λ _ q. absurd (eqb-false 0 1 refl q))
       (λ h. either (λ (n : ℕ). n ≡ 1 → reads longestPacket (packetIn e) ≡ true) _ (λ _ q. absurd (eqb-false 0 1 refl q))
       (λ _. either (λ (n : ℕ). n ≡ 1 → reads longestPacket (packetIn e) ≡ true) _ (λ _ q. absurd (eqb-false 0 1 refl q))
-      (λ _ q. not-false _ (sym (and-yes _ (eq-eqb (getD e 0 0) 1 q)) ∙ h))))
+      (λ _ q. not-false _ (sym (and-yes _ (eq-eqb (getD e kindAt 0) 1 q)) ∙ h))))
 
   pub rate-fits : kindIn e ≡ 3 → rateSettingsOk (rateIn e) ≡ true
   unfolding kindIn
@@ -45,38 +45,38 @@ module _ (e : List ℕ) where
       either (λ (n : ℕ). n ≡ 3 → rateSettingsOk (rateIn e) ≡ true) _ (λ _ q. absurd (eqb-false 0 3 refl q))
       (λ _. either (λ (n : ℕ). n ≡ 3 → rateSettingsOk (rateIn e) ≡ true) _ (λ _ q. absurd (eqb-false 0 3 refl q))
       (λ h. either (λ (n : ℕ). n ≡ 3 → rateSettingsOk (rateIn e) ≡ true) _ (λ _ q. absurd (eqb-false 0 3 refl q))
-      (λ _ q. not-false _ (sym (and-yes _ (eq-eqb (getD e 0 0) 3 q)) ∙ h))))
+      (λ _ q. not-false _ (sym (and-yes _ (eq-eqb (getD e kindAt 0) 3 q)) ∙ h))))
 
   -- from the first byte
-  pub kind-came : getD e 0 0 ≡ 1 → reads longestPacket (packetIn e) ≡ true → kindIn e ≡ 1
+  pub kind-came : getD e kindAt 0 ≡ 1 → reads longestPacket (packetIn e) ≡ true → kindIn e ≡ 1
   unfolding kindIn
   kind-came h r =
-      then-false _ _ (and-yes _ (eq-eqb (getD e 0 0) 1 h) ∙ ap not r)
-      ∙ then-false _ _ (and-no _ (ne-eqb (getD e 0 0) 3 (λ q. eqb-false 1 3 refl (sym h ∙ q))))
+      then-false _ _ (and-yes _ (eq-eqb (getD e kindAt 0) 1 h) ∙ ap not r)
+      ∙ then-false _ _ (and-no _ (ne-eqb (getD e kindAt 0) 3 (λ q. eqb-false 1 3 refl (sym h ∙ q))))
       ∙ then-false _ _ (ap (ltb 6) h)
       ∙ h
 
-  pub kind-not-read : getD e 0 0 ≡ 1 → reads longestPacket (packetIn e) ≡ false → kindIn e ≡ 0
+  pub kind-not-read : getD e kindAt 0 ≡ 1 → reads longestPacket (packetIn e) ≡ false → kindIn e ≡ 0
   unfolding kindIn
-  kind-not-read h r = then-true _ _ (and-yes _ (eq-eqb (getD e 0 0) 1 h) ∙ ap not r)
+  kind-not-read h r = then-true _ _ (and-yes _ (eq-eqb (getD e kindAt 0) 1 h) ∙ ap not r)
 
-  pub kind-rate : getD e 0 0 ≡ 3 → rateSettingsOk (rateIn e) ≡ true → kindIn e ≡ 3
+  pub kind-rate : getD e kindAt 0 ≡ 3 → rateSettingsOk (rateIn e) ≡ true → kindIn e ≡ 3
   unfolding kindIn
   kind-rate h r =
-      then-false _ _ (and-no _ (ne-eqb (getD e 0 0) 1 (λ q. eqb-false 3 1 refl (sym h ∙ q))))
-      ∙ then-false _ _ (and-yes _ (eq-eqb (getD e 0 0) 3 h) ∙ ap not r)
+      then-false _ _ (and-no _ (ne-eqb (getD e kindAt 0) 1 (λ q. eqb-false 3 1 refl (sym h ∙ q))))
+      ∙ then-false _ _ (and-yes _ (eq-eqb (getD e kindAt 0) 3 h) ∙ ap not r)
       ∙ then-false _ _ (ap (ltb 6) h)
       ∙ h
 
-  pub kind-over : getD e 0 0 ≡ 3 → rateSettingsOk (rateIn e) ≡ false → kindIn e ≡ 0
+  pub kind-over : getD e kindAt 0 ≡ 3 → rateSettingsOk (rateIn e) ≡ false → kindIn e ≡ 0
   unfolding kindIn
   kind-over h r =
-      then-false _ _ (and-no _ (ne-eqb (getD e 0 0) 1 (λ q. eqb-false 3 1 refl (sym h ∙ q))))
-      ∙ then-true _ _ (and-yes _ (eq-eqb (getD e 0 0) 3 h) ∙ ap not r)
+      then-false _ _ (and-no _ (ne-eqb (getD e kindAt 0) 1 (λ q. eqb-false 3 1 refl (sym h ∙ q))))
+      ∙ then-true _ _ (and-yes _ (eq-eqb (getD e kindAt 0) 3 h) ∙ ap not r)
 
-  pub kind-other : (getD e 0 0 ≡ 1 → ⊥) → (getD e 0 0 ≡ 3 → ⊥) → kindIn e ≡ (ltb 6 (getD e 0 0) then 0 otherwise getD e 0 0)
+  pub kind-other : (getD e kindAt 0 ≡ 1 → ⊥) → (getD e kindAt 0 ≡ 3 → ⊥) → kindIn e ≡ (ltb 6 (getD e kindAt 0) then 0 otherwise getD e kindAt 0)
   unfolding kindIn
-  kind-other h r = then-false _ _ (and-no _ (ne-eqb (getD e 0 0) 1 h)) ∙ then-false _ _ (and-no _ (ne-eqb (getD e 0 0) 3 r))
+  kind-other h r = then-false _ _ (and-no _ (ne-eqb (getD e kindAt 0) 1 h)) ∙ then-false _ _ (and-no _ (ne-eqb (getD e kindAt 0) 3 r))
 
   -- ---- the entry
   other : (n m : ℕ) → kindIn e ≡ n → eqb n m ≡ false → eqb (kindIn e) m ≡ false

@@ -15,21 +15,21 @@ use Rattle.octets.proofs.Part.{part-length, part-at, part-whole}
 use Rattle.octets.proofs.Bytes.{part-bytes}
 use Rattle.octets.proofs.BigEndian.{number-lt}
 use Rattle.octets.proofs.Choice.{same-agree}
-use Rattle.numbers.specs.Numbers.{clockLimit}
+use Rattle.numbers.specs.Numbers.{clockLimit, portCount, longestPacket}
 use Rattle.rules.specs.Renumbering.{image}
 use Rattle.rules.proofs.Images.{image-port}
 use Rattle.rules.proofs.Choices.{either}
-use Rattle.opinion.specs.Log.{bodyAt, addressWidth, entryWidth, clockIn, addressIn, imagesIn}
+use Rattle.opinion.specs.Log.{bodyAt, addressWidth, entryWidth, clockIn, addressIn, imagesIn, clockAt, clockWidth}
 
 pub clock-small : (e : List ℕ) → Bytes e → length e ≡ entryWidth → clockIn e < clockLimit
-clock-small e b h = number-lt (part e 4 5) 5 (part-bytes e 4 5 b) (part-length e 4 5 (omega arith))
+clock-small e b h = number-lt (part e clockAt clockWidth) clockWidth (part-bytes e clockAt clockWidth b) (part-length e clockAt clockWidth (omega arith))
 
--- a body has no more than 500 bytes
-pub part-all : (e : List ℕ) (n : ℕ) → length e ≡ entryWidth → 500 ≤ n → part e 11 500 ≡ part e 11 n
+-- a body has no more bytes than the longest packet
+pub part-all : (e : List ℕ) (n : ℕ) → length e ≡ entryWidth → longestPacket ≤ n → part e bodyAt longestPacket ≡ part e bodyAt n
 unfolding part
 part-all e n h l =
-    let few : length (drop 11 e) ≡ 500 = length-drop 11 e ∙ omega arith in
-    take-all 500 (drop 11 e) (omega arith) ∙ sym (take-all n (drop 11 e) (omega arith))
+    let few : length (drop bodyAt e) ≡ longestPacket = length-drop bodyAt e ∙ omega arith in
+    take-all longestPacket (drop bodyAt e) (omega arith) ∙ sym (take-all n (drop bodyAt e) (omega arith))
 
 -- bytes compared with those at a place of a longer run
 pub bytes-same : (w : ℕ) (t : List ℕ) (at : ℕ) (b : List ℕ) → at + w ≤ length t → length b ≡ w → (r : Bool)
@@ -44,13 +44,13 @@ pub whole-same : (w : ℕ) (t : List ℕ) (b : List ℕ) → length t ≡ w → 
 whole-same w t b long wide r compared =
     bytes-same w t 0 b (omega arith) wide r compared ∙ ap (λ (s : List ℕ). same s b) (part-whole t w long)
 
-pub address-same : (a b : List ℕ) → length a ≡ 16 → length b ≡ 16 → (r : Bool) → r ≡ agree 16 a b → r ≡ same a b
-address-same a b long wide r compared = compared ∙ sym (same-agree 16 a b long wide)
+pub address-same : (a b : List ℕ) → length a ≡ addressWidth → length b ≡ addressWidth → (r : Bool) → r ≡ agree addressWidth a b → r ≡ same a b
+address-same a b long wide r compared = compared ∙ sym (same-agree addressWidth a b long wide)
 
-pub image-at : (e : List ℕ) (port : ℕ) → port < 16 → getD e (11 + port) 0 % 16 ≡ image (imagesIn e) port
+pub image-at : (e : List ℕ) (port : ℕ) → port < portCount → getD e (bodyAt + port) 0 % portCount ≡ image (imagesIn e) port
 image-at e port l =
-    ap (λ (x : ℕ). x % 16) (sym (part-at e 11 16 port l))
-    ∙ sym (List·getD-map (λ (x : ℕ). x % 16) (part e 11 16) port 0)
+    ap (λ (x : ℕ). x % portCount) (sym (part-at e bodyAt portCount port l))
+    ∙ sym (List·getD-map (λ (x : ℕ). x % portCount) (part e bodyAt portCount) port 0)
     ∙ sym (image-port (imagesIn e) port l)
 
 -- how many addresses are local, at most

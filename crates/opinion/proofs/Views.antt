@@ -26,23 +26,24 @@ use Rattle.judging.specs.declared.SeenPort.{SeenPort}
 use Rattle.judging.specs.Seen.{noSeenPort, planOf}
 use Rattle.history.specs.Known.{Known, freshKnown, nowPath, nowLink, nowReturn, nowUntil, nowClock, nowRate, nowPort, nowLocal, changePath}
 use Rattle.history.specs.After.{Entry, came, after, afterCall, renumberedKnown, knownOf}
-use Rattle.opinion.specs.Log.{portIn, imagesIn, kindIn, ownIn, entryOf, entryBytes, entriesOf, knownIn}
+use Rattle.opinion.specs.Log.{portIn, imagesIn, kindIn, ownIn, entryOf, entryBytes, entriesOf, knownIn, bodyAt}
 use Rattle.opinion.specs.Steps.{wayEffect, planEffect, effectOf, keepsHash, plannedEffect, portSeen}
 use Rattle.opinion.proofs.Reading.{image-at}
 use Rattle.opinion.proofs.Entries.{by-kind}
 use Rattle.opinion.proofs.Walk.{packet-plan, plan-stays, port-back}
+use Rattle.numbers.specs.Numbers.{portCount}
 
 -- ---- ports of no number
-no-preimage : (e : List ℕ) (port : ℕ) → 16 ≤ port → preimage (imagesIn e) port ≡ 16
+no-preimage : (e : List ℕ) (port : ℕ) → portCount ≤ port → preimage (imagesIn e) port ≡ portCount
 unfolding preimage
-no-preimage e port l = first-absent (λ i. eqb (getD (imagesIn e) i 0) port) 16 (λ j h. ne-eqb _ _ (differs j h))
+no-preimage e port l = first-absent (λ i. eqb (getD (imagesIn e) i 0) port) portCount (λ j h. ne-eqb _ _ (differs j h))
   where
-    differs : (j : ℕ) → j < 16 → getD (imagesIn e) j 0 ≡ port → ⊥
+    differs : (j : ℕ) → j < portCount → getD (imagesIn e) j 0 ≡ port → ⊥
     differs j h q =
-        let is : getD e (11 + j) 0 % 16 ≡ getD (imagesIn e) j 0 = image-at e j h ∙ image-port (imagesIn e) j h in
+        let is : getD e (bodyAt + j) 0 % portCount ≡ getD (imagesIn e) j 0 = image-at e j h ∙ image-port (imagesIn e) j h in
         omega arith
 
-beyond-step : (e : List ℕ) (k : Known) → ((port : ℕ) → 16 ≤ port → k .port port ≡ freshPort) → (port : ℕ) → 16 ≤ port
+beyond-step : (e : List ℕ) (k : Known) → ((port : ℕ) → portCount ≤ port → k .port port ≡ freshPort) → (port : ℕ) → portCount ≤ port
     → after (entryOf e) k .port port ≡ freshPort
 beyond-step e k known port l =
     port-back e k port (ap (λ (b : Bool). eqb (kindIn e) 2 and b) (ne-eqb port (portIn e) other) ∙ and-false (eqb (kindIn e) 2))
@@ -53,7 +54,7 @@ beyond-step e k known port l =
     other : port ≡ portIn e → ⊥
     other q = omega arith
 
-pub port-beyond : (log : List ℕ) (n port : ℕ) → 16 ≤ port → knownIn log n .port port ≡ freshPort
+pub port-beyond : (log : List ℕ) (n port : ℕ) → portCount ≤ port → knownIn log n .port port ≡ freshPort
 unfolding knownIn entriesOf knownOf freshKnown
 port-beyond log zero port l = refl
 port-beyond log (suc n) port l = beyond-step (entryBytes log n) (knownIn log n) (port-beyond log n) port l
@@ -101,15 +102,15 @@ effect-planned s a (Follow ByReturn) = refl
 effect-planned s a (Follow (Blocked why)) = refl
 
 -- ---- all ports
-pub all-ports : (log : List ℕ) (n : ℕ) (ports : List SeenPort) → length ports ≡ 16
-    → ((port : ℕ) → port < 16 → portSeen (getD ports port noSeenPort) ≡ knownIn log n .port port)
+pub all-ports : (log : List ℕ) (n : ℕ) (ports : List SeenPort) → length ports ≡ portCount
+    → ((port : ℕ) → port < portCount → portSeen (getD ports port noSeenPort) ≡ knownIn log n .port port)
     → (port : ℕ) → portSeen (getD ports port noSeenPort) ≡ knownIn log n .port port
-all-ports log n ports wide each port = go (ltb port 16) refl
+all-ports log n ports wide each port = go (ltb port portCount) refl
   where
-    go : (b : Bool) → ltb port 16 ≡ b → portSeen (getD ports port noSeenPort) ≡ knownIn log n .port port
-    go true q = each port (ltb-true port 16 q)
+    go : (b : Bool) → ltb port portCount ≡ b → portSeen (getD ports port noSeenPort) ≡ knownIn log n .port port
+    go true q = each port (ltb-true port portCount q)
     go false q =
-        let over : 16 ≤ port = ltb-false port 16 q in
+        let over : portCount ≤ port = ltb-false port portCount q in
         ap portSeen (List·getD-eq-default ports noSeenPort (omega arith)) ∙ sym (port-beyond log n port over)
 
 -- ---- an entry that is no packet

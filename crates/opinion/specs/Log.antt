@@ -30,17 +30,20 @@ abbrev pub entriesAt : ℕ
 entriesAt = countAt + 1
 
 -- in an entry: kind 1, port 1, the host's word or on 1, mode 1, clock 5, length or size 2, body 500
+abbrev pub kindAt : ℕ
+kindAt = 0
+
 abbrev pub portAt : ℕ
-portAt = 1
+portAt = kindAt + 1
 
 abbrev pub wordAt : ℕ
-wordAt = 2
+wordAt = portAt + 1
 
 abbrev pub modeAt : ℕ
-modeAt = 3
+modeAt = wordAt + 1
 
 abbrev pub clockAt : ℕ
-clockAt = 4
+clockAt = modeAt + 1
 
 abbrev pub clockWidth : ℕ
 clockWidth = 5
@@ -59,6 +62,22 @@ entryWidth = bodyAt + longestPacket
 
 abbrev pub logSize : ℕ
 logSize = entriesAt + entryWidth * listLimit
+
+-- in the body of an entry that sets the rate: target interval 3, grace 1, penalty 3
+abbrev pub targetWidth : ℕ
+targetWidth = 3
+
+abbrev pub graceWidth : ℕ
+graceWidth = 1
+
+abbrev pub penaltyWidth : ℕ
+penaltyWidth = 3
+
+abbrev pub graceAt : ℕ
+graceAt = targetWidth
+
+abbrev pub penaltyAt : ℕ
+penaltyAt = graceAt + graceWidth
 
 -- ---- what the bytes e of an entry say
 abbrev pub portIn : List ℕ → ℕ
@@ -84,9 +103,8 @@ packetIn e = part e bodyAt (lengthIn e)
 abbrev pub arrivalIn : List ℕ → Arrival
 arrivalIn e = record { bytes = packetIn e; port = portIn e; clock = clockIn e; signed = wordIn e }
 
--- target interval in three bytes, grace in one, penalty in three
 abbrev pub rateIn : List ℕ → RateSettings
-rateIn e = makeRateSettings (number (part e bodyAt 3)) (getD e (bodyAt + 3) 0) (number (part e (bodyAt + 4) 3))
+rateIn e = makeRateSettings (number (part e bodyAt targetWidth)) (getD e (bodyAt + graceAt) 0) (number (part e (bodyAt + penaltyAt) penaltyWidth))
 
 -- a local address, a marked destination
 abbrev pub addressIn : List ℕ → List ℕ
@@ -98,10 +116,10 @@ imagesIn e = map (λ image. image % portCount) (part e bodyAt portCount)
 -- 1 for a packet that came, 2 for a port set, 3 for the rate set, 4 and 5 for a local address added and removed, 6 for a mark, and 0 for a renumbering
 unfoldable pub kindIn : List ℕ → ℕ
 kindIn e =
-    eqb (getD e 0 0) 1 and not (reads longestPacket (packetIn e)) then 0 otherwise
-    eqb (getD e 0 0) 3 and not (rateSettingsOk (rateIn e)) then 0 otherwise
-    ltb 6 (getD e 0 0) then 0 otherwise
-    getD e 0 0
+    eqb (getD e kindAt 0) 1 and not (reads longestPacket (packetIn e)) then 0 otherwise
+    eqb (getD e kindAt 0) 3 and not (rateSettingsOk (rateIn e)) then 0 otherwise
+    ltb 6 (getD e kindAt 0) then 0 otherwise
+    getD e kindAt 0
 
 unfoldable pub entryOf : List ℕ → Entry
 entryOf e =

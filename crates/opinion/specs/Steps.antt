@@ -31,7 +31,7 @@ use Rattle.judging.specs.Seen.{pathOf, linkOf, returnOf, PathFits}
 use Rattle.history.specs.Known.{Known, seenAt}
 use Rattle.history.specs.After.{Entry, came, called}
 use Rattle.history.specs.Opinion.{listLimit, packetRefused}
-use Rattle.opinion.specs.Log.{clockWidth, lengthWidth, countAt, entriesAt, entryWidth, logSize, ownIn, entryOf, entryBytes, entriesOf, callsIn, knownIn}
+use Rattle.opinion.specs.Log.{clockWidth, lengthWidth, targetWidth, graceWidth, penaltyWidth, countAt, entriesAt, entryWidth, logSize, ownIn, entryOf, entryBytes, entriesOf, callsIn, knownIn}
 
 -- ---- what a packet changed besides the clock and the remembered hashes: 1 its destination's path is announced, 2 that path is limited, 3 a return record is
 -- made, 4 a link is made, 5 a link is renewed, 6 a return record is emptied, 0 nothing
@@ -76,6 +76,10 @@ portSeen s = makePort (s .on) (s .mode) (s .size)
 abbrev pub headBytes : ℕ → ℕ → Bool → ℕ → ℕ → ℕ → List ℕ
 headBytes kind port word mode clock length =
     kind ∷ port ∷ (word then 1 otherwise 0) ∷ mode ∷ (bigEndian clockWidth clock ++ bigEndian lengthWidth length)
+
+-- the body of an entry that sets the rate
+abbrev pub rateBytes : ℕ → ℕ → ℕ → List ℕ
+rateBytes target grace penalty = bigEndian targetWidth target ++ (bigEndian graceWidth grace ++ bigEndian penaltyWidth penalty)
 
 unfoldable pub withEntry : List ℕ → ℕ → List ℕ → List ℕ
 withEntry log n bytes = patch (patch log (entriesAt + entryWidth * n) bytes) countAt ((n + 1) ∷ [])

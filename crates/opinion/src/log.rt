@@ -27,13 +27,15 @@ pub const COUNT_AT: usize = ADDRESS_WIDTH;
 
 pub const ENTRIES_AT: usize = COUNT_AT + 1;
 
-const PORT_AT: usize = 1;
+pub const KIND_AT: usize = 0;
 
-const WORD_AT: usize = 2;
+pub const PORT_AT: usize = KIND_AT + 1;
 
-const MODE_AT: usize = 3;
+pub const WORD_AT: usize = PORT_AT + 1;
 
-pub const CLOCK_AT: usize = 4;
+pub const MODE_AT: usize = WORD_AT + 1;
+
+pub const CLOCK_AT: usize = MODE_AT + 1;
 
 pub const CLOCK_WIDTH: usize = 5;
 
@@ -46,6 +48,19 @@ pub const BODY_AT: usize = LENGTH_AT + LENGTH_WIDTH;
 pub const ENTRY_WIDTH: usize = BODY_AT + LONGEST_PACKET;
 
 pub const LOG_SIZE: usize = ENTRIES_AT + ENTRY_WIDTH * LIST_LIMIT;
+
+// In the body of an entry that sets the rate.
+pub const TARGET_WIDTH: usize = 3;
+
+pub const GRACE_WIDTH: usize = 1;
+
+pub const PENALTY_WIDTH: usize = 3;
+
+pub const GRACE_AT: usize = TARGET_WIDTH;
+
+pub const PENALTY_AT: usize = GRACE_AT + GRACE_WIDTH;
+
+pub const RATE_WIDTH: usize = PENALTY_AT + PENALTY_WIDTH;
 
 // Kinds of entries.
 pub const RENUMBERS: u8 = 0;
@@ -152,9 +167,9 @@ pub fn rate_in(e: &[u8]) -> RateSettings
     ensures { λ r. ⌜ r ≡ rateIn (now (e .entry)) ⌝ }
 {
     RateSettings {
-        target: octets::number_at(e, BODY_AT, 3),
-        grace: octets::wide(e[BODY_AT + 3]),
-        penalty: octets::number_at(e, BODY_AT + 4, 3),
+        target: octets::number_at(e, BODY_AT, TARGET_WIDTH),
+        grace: octets::wide(e[BODY_AT + GRACE_AT]),
+        penalty: octets::number_at(e, BODY_AT + PENALTY_AT, PENALTY_WIDTH),
     }
 }
 
@@ -176,7 +191,7 @@ pub fn kind_in(e: &[u8]) -> u8
     requires { ⌜ length (now e) ≡ entryWidth ⌝ }
     ensures { λ r. ⌜ r ≡ kindIn (now (e .entry)) ⌝ }
 {
-    let kind = e[0];
+    let kind = e[KIND_AT];
     if kind == CAME {
         if packet::reading_refusal(packet_in(e), LONGEST_PACKET) == refusals::NONE {
             return CAME;

@@ -7,13 +7,19 @@ use super::log::CLOCK_WIDTH;
 use super::log::COUNT_AT;
 use super::log::ENTRIES_AT;
 use super::log::ENTRY_WIDTH;
+use super::log::GRACE_AT;
+use super::log::GRACE_WIDTH;
 use super::log::LENGTH_AT;
 use super::log::LENGTH_WIDTH;
 use super::log::MARKS;
+use super::log::PENALTY_AT;
+use super::log::PENALTY_WIDTH;
+use super::log::RATE_WIDTH;
 use super::log::REMOVES;
 use super::log::RENUMBERS;
 use super::log::SETS_PORT;
 use super::log::SETS_RATE;
+use super::log::TARGET_WIDTH;
 use codes::mark_of;
 use judging::Arrived;
 use numbers::ADDRESS_WIDTH;
@@ -89,10 +95,10 @@ pub fn put_rate(log: &mut [u8], n: usize, rate: RateSettings)
     ensures { λ _. ⌜ Adds (now (log .entry)) n (called (sets-rate (rate .target) (rate .grace) (rate .penalty)))
         (now (log .exit)) ⌝ }
 {
-    let mut body = [0u8; 7];
-    octets::write_number_at(&mut body, 0, 3, rate.target);
-    octets::write_number_at(&mut body, 3, 1, rate.grace);
-    octets::write_number_at(&mut body, 4, 3, rate.penalty);
+    let mut body = [0u8; RATE_WIDTH];
+    octets::write_number_at(&mut body, 0, TARGET_WIDTH, rate.target);
+    octets::write_number_at(&mut body, GRACE_AT, GRACE_WIDTH, rate.grace);
+    octets::write_number_at(&mut body, PENALTY_AT, PENALTY_WIDTH, rate.penalty);
     let head = head_of(SETS_RATE, 0, false, 0, 0, 0);
     put_entry(log, n, head, &body);
 }

@@ -12,6 +12,7 @@ use borrow.Author.Needs.{needs}
 use Rattle.opinion.proofs.hashes.has_hash.Statement.{statement}
 use Rattle.opinion.proofs.hashes.has_hash.Tie as tie
 use Rattle.opinion.proofs.hashes.has_hash.Reads as reads
+use Rattle.numbers.specs.Numbers.{digestWidth}
 
 packet-in-requires : tie.Need-packet-in-requires
 packet-in-requires c κs = search needs
@@ -34,9 +35,9 @@ returns c =
     let after-packet-in = after-hash-of .before in
     let start = after-packet-in .before .before in
     let a = start .args in
-    let wide : length (a .t2) ≡ 32 = search needs in
-    let long : length (after-hash-of .hash-of .result) ≡ 32 = search needs in
-    whole-same 32 (after-hash-of .hash-of .result) (a .t2) long wide _ (c .equal-at .ensures)
+    let wide : length (a .t2) ≡ digestWidth = search needs in
+    let long : length (after-hash-of .hash-of .result) ≡ digestWidth = search needs in
+    whole-same digestWidth (after-hash-of .hash-of .result) (a .t2) long wide _ (c .equal-at .ensures)
     ∙ ap (λ (h : List ℕ). same h (a .t2)) (after-hash-of .hash-of .ensures ∙ ap packetHash (after-packet-in .packet-in .ensures .0))
 
 pub has-hash-spec : {M : Type 1} → statement M

@@ -10,6 +10,7 @@ use mathlib.Core.Path.{sym, ap, _∙_}
 use native.Mathlib.Omega.{arith}
 use Rattle.opinion.proofs.hashes.until_after.Statement.{statement}
 use Rattle.opinion.proofs.hashes.until_after.Tie as tie
+use Rattle.numbers.specs.Numbers.{hashLifetime}
 
 entry-at-requires : tie.Need-entry-at-requires
 entry-at-requires c κs = (c .before .pre .0, c .before .pre .1)
@@ -48,7 +49,7 @@ returns-3 c =
     let else1 = after-kind-in .before in
     let after-entry-at = else1 .before in
     let start = after-entry-at .before .before in
-    ap (λ (t : ℕ). t + 300) (c .clock-in .ensures .0)
+    ap (λ (t : ℕ). t + hashLifetime) (c .clock-in .ensures .0)
     ∙ sym (onward (λ (k : Known). k .until (start .args .hash)) (start .args .log .now) _ (start .args .i) (after-entry-at .entry-at .ensures .0)
     (until-kept _ _ _ (sym
     (after-kind-in .kind-in .ensures) ∙ else2 .if2 .left) (ap (λ (b : List ℕ). keepsHash (entryOf b) (knownIn (start .args .log .now) (start .args .i)))

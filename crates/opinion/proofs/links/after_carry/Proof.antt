@@ -11,6 +11,7 @@ use mathlib.Core.Path.{_≡_, refl, sym, ap, subst, _∙_}
 use borrow.Author.Needs.{needs}
 use Rattle.opinion.proofs.links.after_carry.Statement.{statement}
 use Rattle.opinion.proofs.links.after_carry.Tie as tie
+use Rattle.numbers.specs.Numbers.{portCount}
 
 entry-at-requires : tie.Need-entry-at-requires
 entry-at-requires c κs = (c .before .pre .0, c .before .pre .1)
@@ -60,8 +61,8 @@ returns c =
       is = carry-step log i (start .args .id) (start .args .before) (start .pre .3 .is) _ (entry-arrival log i _ _ (after-entry-at .entry-at .ensures .0)
           (after-packet-in .packet-in .ensures .0) (c .before .arrived-in .result) (c .before .arrived-in .ensures .0)) (start .pre .2)
           (found ∙ then1 .if1 .taken) _ made;
-      asking = subst (λ (l : Link). l .asking < 16) (sym made) (start .pre .3 .asking);
-      answering = subst (λ (l : Link). l .answering < 16) (sym made) (start .pre .3 .answering);
+      asking = subst (λ (l : Link). l .asking < portCount) (sym made) (start .pre .3 .asking);
+      answering = subst (λ (l : Link). l .answering < portCount) (sym made) (start .pre .3 .answering);
     }
 
 returns-2 : tie.Need-returns-2

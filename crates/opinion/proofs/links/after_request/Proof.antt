@@ -12,6 +12,7 @@ use mathlib.Core.Path.{_≡_, refl, sym, ap, subst, _∙_}
 use borrow.Author.Needs.{needs}
 use Rattle.opinion.proofs.links.after_request.Statement.{statement}
 use Rattle.opinion.proofs.links.after_request.Tie as tie
+use Rattle.numbers.specs.Numbers.{portCount}
 
 entry-at-requires : tie.Need-entry-at-requires
 entry-at-requires c κs = (c .before .before .pre .0 .0, c .before .before .pre .1)
@@ -76,8 +77,8 @@ returns c =
           ∙ then1 .if1 .taken) (c .before .before .path-of .result) _
           (subst (λ (d : List ℕ). pathOf d (c .before .before .path-of .result) ≡ knownIn log i .path d) there
           (c .before .before .path-of .ensures .is)) made;
-      asking = subst (λ (l : Link). l .asking < 16) (sym made) (c .before .arrived-in .ensures .1);
-      answering = subst (λ (l : Link). l .answering < 16) (sym made) (c .before .before .path-of .ensures .port);
+      asking = subst (λ (l : Link). l .asking < portCount) (sym made) (c .before .arrived-in .ensures .1);
+      answering = subst (λ (l : Link). l .answering < portCount) (sym made) (c .before .before .path-of .ensures .port);
     }
 
 returns-2 : tie.Need-returns-2

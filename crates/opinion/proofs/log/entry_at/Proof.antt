@@ -3,6 +3,7 @@ use native.Mathlib.Omega.{arith}
 use Rattle.octets.proofs.Part.{part-range, range-length}
 use Rattle.opinion.proofs.log.entry_at.Statement.{statement}
 use Rattle.opinion.proofs.log.entry_at.Tie as tie
+use Rattle.opinion.specs.Log.{entriesAt, entryWidth}
 
 mul-start : tie.Need-mul-start
 mul-start c = omega arith
@@ -25,7 +26,7 @@ part-result-end c = omega arith
 returns : tie.Need-returns
 returns c =
     let a = c .before .args in
-    (part-range (a .log .now) (17 + 511 * a .i) 511, range-length (a .log .now) (17 + 511 * a .i) 511 (omega arith))
+    (part-range (a .log .now) (entriesAt + entryWidth * a .i) entryWidth, range-length (a .log .now) (entriesAt + entryWidth * a .i) entryWidth (omega arith))
 
 pub entry-at-spec : {M : Type 1} → statement M
 entry-at-spec =

@@ -5,6 +5,8 @@ use native.Mathlib.Omega.{arith}
 use borrow.Author.Needs.{needs}
 use Rattle.opinion.proofs.log.has_address.Statement.{statement}
 use Rattle.opinion.proofs.log.has_address.Tie as tie
+use Rattle.numbers.specs.Numbers.{addressWidth}
+use Rattle.opinion.specs.Log.{bodyAt}
 
 slice-aggregate-equal-at : tie.Need-slice-aggregate-equal-at
 slice-aggregate-equal-at c = search needs
@@ -16,8 +18,8 @@ returns : tie.Need-returns
 returns c =
     let start = c .before .before .before in
     let a = start .args in
-    let wide : length (a .t2) ≡ 16 = search needs in
-    bytes-same 16 (a .e .now) 11 (a .t2) (omega arith) wide _ (c .equal-at .ensures)
+    let wide : length (a .t2) ≡ addressWidth = search needs in
+    bytes-same addressWidth (a .e .now) bodyAt (a .t2) (omega arith) wide _ (c .equal-at .ensures)
 
 pub has-address-spec : {M : Type 1} → statement M
 has-address-spec = tie.close (tie.spec slice-aggregate-equal-at equal-at-requires returns)

@@ -8,6 +8,7 @@ use borrow.Author.Needs.{needs}
 use Rattle.opinion.proofs.log.kind_in.Statement.{statement}
 use Rattle.opinion.proofs.log.kind_in.Tie as tie
 use Rattle.opinion.proofs.log.kind_in.Reads as reads
+use Rattle.numbers.specs.Numbers.{longestPacket}
 
 shared-slice-read-kind : tie.Need-shared-slice-read-kind
 shared-slice-read-kind c = search needs
@@ -22,15 +23,15 @@ returns : tie.Need-returns
 unfolding reads
 returns c =
     let then1 = c .before .before .before in
-    sym (kind-came _ (then1 .if1 .taken) (eq-eqb _ 0 ((ap (readingRefusal 500) (sym (c .before .before .packet-in .ensures .0))
+    sym (kind-came _ (then1 .if1 .taken) (eq-eqb _ 0 ((ap (readingRefusal longestPacket) (sym (c .before .before .packet-in .ensures .0))
     ∙ sym (c .before .reading-refusal .ensures)) ∙ c .if2 .taken)))
 
 returns-2 : tie.Need-returns-2
 unfolding reads
 returns-2 c =
     let then1 = c .before .before .before in
-    sym (kind-not-read _ (then1 .if1 .taken) (ne-eqb _ 0 (λ q. c .if2 .left (sym (ap (readingRefusal 500) (sym (c .before .before .packet-in .ensures .0))
-    ∙ sym (c .before .reading-refusal .ensures)) ∙ q))))
+    sym (kind-not-read _ (then1 .if1 .taken) (ne-eqb _ 0 (λ q. c .if2 .left
+    (sym (ap (readingRefusal longestPacket) (sym (c .before .before .packet-in .ensures .0)) ∙ sym (c .before .reading-refusal .ensures)) ∙ q))))
 
 rate-in-requires : tie.Need-rate-in-requires
 rate-in-requires c κs = search needs

@@ -8,6 +8,7 @@ use Rattle.octets.proofs.Choice.{then-true, then-false}
 use Rattle.opinion.specs.Log.{countAt, listedIn}
 use Rattle.opinion.proofs.log.listed.Statement.{statement}
 use Rattle.opinion.proofs.log.listed.Tie as tie
+use Rattle.history.specs.Opinion.{listLimit}
 
 shared-slice-read-wide : tie.Need-shared-slice-read-wide
 shared-slice-read-wide c = search needs
@@ -20,16 +21,16 @@ unfolding listedIn
 returns c =
     let start = c .before .before .before .before in
     let n : ℕ = getD (start .args .log .now) countAt 0 in
-    let l : n < 64 = omega (arith, c .before .wide .ensures) in
-    (c .before .wide .ensures ∙ sym (then-true _ _ (lt-ltb n 64 l)), omega arith)
+    let l : n < listLimit = omega (arith, c .before .wide .ensures) in
+    (c .before .wide .ensures ∙ sym (then-true _ _ (lt-ltb n listLimit l)), omega arith)
 
 returns-2 : tie.Need-returns-2
 unfolding listedIn
 returns-2 c =
     let start = c .before .before .before .before in
     let n : ℕ = getD (start .args .log .now) countAt 0 in
-    let l : 64 ≤ n = omega (arith, c .before .wide .ensures) in
-    (sym (then-false _ _ (le-ltb n 64 l)), omega arith)
+    let l : listLimit ≤ n = omega (arith, c .before .wide .ensures) in
+    (sym (then-false _ _ (le-ltb n listLimit l)), omega arith)
 
 pub listed-spec : {M : Type 1} → statement M
 listed-spec = tie.close (tie.spec shared-slice-read-wide wide-requires returns returns-2)

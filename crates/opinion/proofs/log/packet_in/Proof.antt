@@ -6,6 +6,8 @@ use native.Mathlib.Omega.{arith}
 use borrow.Author.Needs.{needs}
 use Rattle.opinion.proofs.log.packet_in.Statement.{statement}
 use Rattle.opinion.proofs.log.packet_in.Tie as tie
+use Rattle.numbers.specs.Numbers.{longestPacket}
+use Rattle.opinion.specs.Log.{bodyAt}
 
 length-in-requires : tie.Need-length-in-requires
 length-in-requires c κs = search needs
@@ -27,7 +29,7 @@ returns c =
     let start = c .before .before .before .before in
     let e = start .args .e .now in
     let n = c .before .before .length-in .result in
-    (part-range e 11 n ∙ ap (part e 11) (c .before .before .length-in .ensures), omega (arith, range-length e 11 n (omega arith)))
+    (part-range e bodyAt n ∙ ap (part e bodyAt) (c .before .before .length-in .ensures), omega (arith, range-length e bodyAt n (omega arith)))
 
 add-result-2 : tie.Need-add-result-2
 add-result-2 c = search needs
@@ -46,9 +48,9 @@ returns-2 c =
     let start = c .before .before .before .before in
     let e = start .args .e .now in
     let n = c .before .before .length-in .result in (
-      part-range e 11 500 ∙ part-all e n (start .pre) (omega arith)
-          ∙ ap (part e 11) (c .before .before .length-in .ensures),
-      omega (arith, range-length e 11 500 (omega arith)),
+      part-range e bodyAt longestPacket ∙ part-all e n (start .pre) (omega arith)
+          ∙ ap (part e bodyAt) (c .before .before .length-in .ensures),
+      omega (arith, range-length e bodyAt longestPacket (omega arith)),
     )
 
 pub packet-in-spec : {M : Type 1} → statement M

@@ -12,6 +12,7 @@ use native.Mathlib.Omega.{arith}
 use borrow.Author.Needs.{needs}
 use Rattle.opinion.proofs.paths.after_limit.Statement.{statement}
 use Rattle.opinion.proofs.paths.after_limit.Tie as tie
+use Rattle.numbers.specs.Numbers.{portCount}
 
 entry-at-requires : tie.Need-entry-at-requires
 entry-at-requires c κs = (c .before .pre .0, c .before .pre .1)
@@ -61,7 +62,7 @@ returns c =
           (subst (λ (s : RateSettings). LimitsPath s (c .before .before .arrived-in .result .clock) (start .args .before) (c .limited-path .result))
           (c .before .rate-at .ensures .0) limits);
       fits = c .limited-path .ensures .1;
-      port = subst (λ (p : ℕ). p < 16) (sym (ap (λ (p : Path). p .port) (limits .limited (start .args .destination)))) (start .pre .3 .port);
+      port = subst (λ (p : ℕ). p < portCount) (sym (ap (λ (p : Path). p .port) (limits .limited (start .args .destination)))) (start .pre .3 .port);
     }
 
 returns-2 : tie.Need-returns-2

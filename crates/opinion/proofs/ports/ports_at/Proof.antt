@@ -11,12 +11,14 @@ use native.Mathlib.Omega.{arith}
 use borrow.Author.Needs.{needs}
 use Rattle.opinion.proofs.ports.ports_at.Statement.{statement}
 use Rattle.opinion.proofs.ports.ports_at.Tie as tie
+use Rattle.numbers.specs.Numbers.{portCount}
 
 abbrev Inv-loop : tie.InvT-loop
-Inv-loop log n ports₀ i₀ ports i = (i ≤ 16) × (length ports ≡ 16) × ((port : ℕ) → port < i → portSeen (getD ports port noSeenPort) ≡ knownIn log n .port port)
+Inv-loop log n ports₀ i₀ ports i =
+    (i ≤ portCount) × (length ports ≡ portCount) × ((port : ℕ) → port < i → portSeen (getD ports port noSeenPort) ≡ knownIn log n .port port)
 
 abbrev μ-loop : tie.MeasureT-loop
-μ-loop log n ports₀ i₀ ports i = 16 - i
+μ-loop log n ports₀ i₀ ports i = portCount - i
 
 loop-holds : tie.Need-loop-holds Inv-loop μ-loop
 loop-holds c = (omega arith, search needs, λ port l. absurd (not-suc-le-zero l))
@@ -52,7 +54,7 @@ loop-again c =
 returns : tie.Need-returns Inv-loop μ-loop
 returns c =
     let start = c .before .before .before in
-    let last : c .before .loop .i ≡ 16 = omega arith in
+    let last : c .before .loop .i ≡ portCount = omega arith in
     all-ports (start .args .log .now) (start .args .n) (c .before .loop .ports) (c .before .loop .inv .1) (λ port l. c .before .loop .inv .2 port (omega arith))
 
 pub ports-at-spec : {M : Type 1} → statement M
