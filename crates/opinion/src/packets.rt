@@ -1,14 +1,7 @@
 // The calls that are judged by what the packets listed did.
-use super::log::LIST_LIMIT;
-use super::log::LOG_SIZE;
-use super::log::listed;
-use super::outcomes::outcomes;
-use super::paths::path_of;
-use super::records::live_path;
 use super::refusing::LIST_FULL;
 use super::refusing::clock_bad;
 use super::refusing::packet_refusal;
-use super::seeing::seen;
 use super::writing::put_came;
 use super::writing::put_mark;
 use judging::Arrived;
@@ -17,6 +10,13 @@ use judging::plan_of;
 use numbers::refusals;
 use rules::Answer;
 use rules::Verdict;
+use walks::listed;
+use walks::live_path;
+use walks::path_of;
+use walks::places::LIST_LIMIT;
+use walks::places::LOG_SIZE;
+use walks::seen;
+use walks::write_outcomes;
 ghost use mathlib.Core.Path.{_≡_};
 ghost use mathlib.Core.Bool.{true};
 ghost use Prim.Native.Nat.{_<_, _≤_};
@@ -29,9 +29,10 @@ ghost use Rattle.rules.specs.Calls.{marks};
 ghost use Rattle.judging.specs.Seen.{arrivalOf};
 ghost use Rattle.history.specs.Known.{seenAt};
 ghost use Rattle.history.specs.Opinion.{listLimit};
-ghost use Rattle.opinion.specs.Log.{logSize, knownIn};
+ghost use Rattle.walks.specs.Log.{logSize, knownIn};
 ghost use Rattle.opinion.specs.Calls.{Opines, Settles};
-ghost use Rattle.opinion.specs.Steps.{viewBy, arrivalBy};
+ghost use Rattle.walks.specs.Steps.{viewBy};
+ghost use Rattle.opinion.specs.Steps.{arrivalBy};
 
 // Marking with no live path.
 const NO_LIVE_PATH: u8 = 12;
@@ -49,7 +50,7 @@ fn judged(log: &[u8], n: usize, packet: &[u8], arrived: Arrived, output: &mut [u
 {
     let mut effects = [0u8; LIST_LIMIT];
     let mut kept = [0u8; LIST_LIMIT];
-    outcomes(log, n, &mut effects, &mut kept);
+    write_outcomes(log, n, &mut effects, &mut kept);
     let hash = packet::hash_of(packet);
     let view = seen(log, &effects, &kept, n, packet, arrived, hash);
     let planned = plan_of(view, packet, arrived);
@@ -63,7 +64,7 @@ fn has_path(log: &[u8], n: usize, destination: [u8; 16], clock: u64) -> bool
 {
     let mut effects = [0u8; LIST_LIMIT];
     let mut kept = [0u8; LIST_LIMIT];
-    outcomes(log, n, &mut effects, &mut kept);
+    write_outcomes(log, n, &mut effects, &mut kept);
     let path = live_path(path_of(log, &effects, n, destination), clock);
     path.there
 }

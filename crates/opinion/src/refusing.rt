@@ -1,15 +1,15 @@
 // The rows of the refusal table that more than one call has.
-use super::clocks::last_clock;
-use super::log::LIST_LIMIT;
-use super::ports::port_at;
 use numbers::CLOCK_LIMIT;
 use numbers::LEAST_OUTPUT;
 use numbers::refusals;
+use walks::last_clock;
+use walks::places::LIST_LIMIT;
+use walks::port_at;
 ghost use mathlib.Core.Path.{_≡_};
 ghost use Prim.Native.Nat.{_≤_};
 ghost use lib.ListN.{length};
 ghost use Rattle.history.specs.Opinion.{listLimit, clockBad};
-ghost use Rattle.opinion.specs.Log.{logSize, knownIn};
+ghost use Rattle.walks.specs.Log.{logSize, knownIn};
 ghost use Rattle.opinion.specs.Steps.{RefusesAs};
 
 // A call when 64 are listed.

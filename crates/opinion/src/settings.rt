@@ -1,10 +1,4 @@
 // The calls that need no packet. Each returns a refusal's number, or 0; a refusal changes no byte of the log.
-use super::locals::is_local;
-use super::locals::local_number;
-use super::log::LIST_LIMIT;
-use super::log::LOG_SIZE;
-use super::log::listed;
-use super::log::rate_within;
 use super::refusing::LIST_FULL;
 use super::writing::put_added;
 use super::writing::put_fresh;
@@ -18,6 +12,12 @@ use numbers::MODE_COUNT;
 use numbers::PORT_COUNT;
 use numbers::refusals;
 use rules::RateSettings;
+use walks::is_local;
+use walks::listed;
+use walks::local_number;
+use walks::places::LIST_LIMIT;
+use walks::places::LOG_SIZE;
+use walks::rate_within;
 ghost use mathlib.Core.Path.{_≡_};
 ghost use mathlib.Core.Bool.{not};
 ghost use lib.Dec.{leb};
