@@ -31,7 +31,7 @@ use Rattle.history.specs.After.{Entry}
 use Rattle.history.specs.Opinion.{listLimit, onPacket, onCall, listed}
 use Rattle.history.specs.SecondOpinion.{coarseReason, coarseVerdict, coarseAnswer, coarse, RepliesAlike}
 use Rattle.history.proofs.InstanceOpinion.{Replies, listed-one}
-use Rattle.walks.specs.Log.{logSize, listedIn}
+use Rattle.log.specs.Log.{logSize, listedIn}
 use Rattle.opinion.specs.Calls.{IsFresh}
 use Rattle.opinion.specs.Agreeing.{Asked, Same}
 use Rattle.opinion.proofs.Settled.{entries-length}

@@ -10,7 +10,7 @@ use Rattle.history.specs.After.{Entry}
 use Rattle.history.specs.Opinion.{listLimit, onPacket, onCall, listed}
 use Rattle.history.specs.SecondOpinion.{RepliesAlike, Alike}
 use Rattle.history.proofs.SecondOpinion.{second-opinion}
-use Rattle.walks.specs.Log.{ownIn, callsIn, listedIn}
+use Rattle.log.specs.Log.{ownIn, callsIn, listedIn}
 use Rattle.opinion.specs.Agreeing.{Asked, Same, Agree, EngineAgrees}
 use Rattle.opinion.proofs.Settled.{entries-length}
 

@@ -32,7 +32,7 @@ use Rattle.judging.specs.declared.Arrived.{Arrived}
 use Rattle.history.specs.Known.{Known, seenAt}
 use Rattle.history.specs.After.{called}
 use Rattle.history.specs.Opinion.{listLimit, packetRefused, callRows}
-use Rattle.walks.specs.Log.{addressWidth, countAt, logSize, ownIn, callsIn, listedIn, knownIn}
+use Rattle.log.specs.Log.{addressWidth, countAt, logSize, ownIn, callsIn, listedIn, knownIn}
 use Rattle.opinion.specs.Calls.{Opines, Settles, IsFresh}
 use Rattle.opinion.specs.Steps.{headBytes, rateBytes, withEntry, Adds}
 use Rattle.opinion.specs.Agreeing.{Asked}

@@ -25,9 +25,9 @@ use Rattle.judging.specs.declared.Arrived.{Arrived}
 use Rattle.judging.specs.Seen.{arrivalOf}
 use Rattle.history.specs.After.{Entry, came, called}
 use Rattle.history.specs.Opinion.{listLimit}
-use Rattle.walks.specs.Log.{entryWidth, logSize, packetIn, rateIn, addressIn, kindIn, entryOf, bodyAt, targetWidth, penaltyWidth}
+use Rattle.log.specs.Log.{entryWidth, logSize, packetIn, rateIn, addressIn, kindIn, entryOf, bodyAt, targetWidth, penaltyWidth}
 use Rattle.opinion.specs.Steps.{headBytes, rateBytes, withEntry, Adds}
-use Rattle.walks.proofs.Entries.{kind-came, kind-rate, kind-other, entry-came, entry-port, entry-rate, entry-added, entry-removed, entry-marked, entry-renumbered}
+use Rattle.log.proofs.Entries.{kind-came, kind-rate, kind-other, entry-came, entry-port, entry-rate, entry-added, entry-removed, entry-marked, entry-renumbered}
 use Rattle.opinion.proofs.Written.{entry-long, adds-entry, written, head-port, head-word, head-clock, head-length, head-body}
 
 head-wide : (kind port : ℕ) (word : Bool) (mode clock long : ℕ) → length (headBytes kind port word mode clock long) ≡ bodyAt

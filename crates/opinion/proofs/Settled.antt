@@ -26,10 +26,10 @@ use Rattle.rules.specs.declared.Verdict.{Verdict}
 use Rattle.history.specs.Known.{Known, seenAt}
 use Rattle.history.specs.After.{Entry, came, called, knownOf}
 use Rattle.history.specs.Opinion.{listLimit, clockBad, packetRows, packetRefused, callRows, callRefused, judgedBy, onPacket, onCall, listed}
-use Rattle.walks.specs.Log.{ownIn, entriesOf, listedIn, callsIn, knownIn}
+use Rattle.log.specs.Log.{ownIn, entriesOf, listedIn, callsIn, knownIn}
 use Rattle.opinion.specs.Calls.{Opines, Settles}
 use Rattle.opinion.specs.Steps.{Adds}
-use Rattle.walks.proofs.Views.{port-beyond}
+use Rattle.log.proofs.Views.{port-beyond}
 
 pub entries-length : (log : List ℕ) (n : ℕ) → length (entriesOf log n) ≡ n
 unfolding entriesOf

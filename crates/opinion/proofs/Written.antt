@@ -20,7 +20,7 @@ use Rattle.codes.proofs.Places.{part-ahead, part-skip}
 use Rattle.numbers.specs.Numbers.{clockLimit, portCount, longestPacket}
 use Rattle.history.specs.After.{Entry}
 use Rattle.history.specs.Opinion.{listLimit}
-use Rattle.walks.specs.Log.{addressWidth, countAt, entriesAt, entryWidth, logSize, portIn, wordIn, clockIn, lengthIn, ownIn, entryOf, entryBytes, entriesOf, listedIn, bodyAt, clockWidth, lengthWidth}
+use Rattle.log.specs.Log.{addressWidth, countAt, entriesAt, entryWidth, logSize, portIn, wordIn, clockIn, lengthIn, ownIn, entryOf, entryBytes, entriesOf, listedIn, bodyAt, clockWidth, lengthWidth}
 use Rattle.opinion.specs.Calls.{IsFresh}
 use Rattle.opinion.specs.Steps.{headBytes, withEntry, Adds}
 

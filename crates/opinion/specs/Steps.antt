@@ -11,7 +11,7 @@ use Rattle.octets.specs.Choice.{_then_otherwise_}
 use Rattle.rules.specs.Arrival.{Arrival}
 use Rattle.history.specs.After.{Entry}
 use Rattle.history.specs.Opinion.{packetRefused}
-use Rattle.walks.specs.Log.{clockWidth, lengthWidth, targetWidth, graceWidth, penaltyWidth, countAt, entriesAt, entryWidth, ownIn, entriesOf, callsIn}
+use Rattle.log.specs.Log.{clockWidth, lengthWidth, targetWidth, graceWidth, penaltyWidth, countAt, entriesAt, entryWidth, ownIn, entriesOf, callsIn}
 
 -- ---- an entry written: the bytes before the body, and the log with one more entry
 abbrev pub headBytes : ℕ → ℕ → Bool → ℕ → ℕ → ℕ → List ℕ

@@ -13,4 +13,4 @@ pub use settings::remove_local;
 pub use settings::renumber;
 pub use settings::set_port;
 pub use settings::set_rate;
-pub use walks::places::LOG_SIZE;
+pub use log::places::LOG_SIZE;

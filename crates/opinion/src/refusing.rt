@@ -2,14 +2,14 @@
 use numbers::CLOCK_LIMIT;
 use numbers::LEAST_OUTPUT;
 use numbers::refusals;
-use walks::last_clock;
-use walks::places::LIST_LIMIT;
-use walks::port_at;
+use log::last_clock;
+use log::places::LIST_LIMIT;
+use log::port_at;
 ghost use mathlib.Core.Path.{_≡_};
 ghost use Prim.Native.Nat.{_≤_};
 ghost use lib.ListN.{length};
 ghost use Rattle.history.specs.Opinion.{listLimit, clockBad};
-ghost use Rattle.walks.specs.Log.{logSize, knownIn};
+ghost use Rattle.log.specs.Log.{logSize, knownIn};
 ghost use Rattle.opinion.specs.Steps.{RefusesAs};
 
 // A call when 64 are listed.

@@ -19,7 +19,7 @@ const LENGTHS: [&str; 9] = [
     "crates/tables/src/places.rt",
     "crates/surveying/src/counting.rt",
     "crates/surveying/src/lib.rt",
-    "crates/walks/src/places.rt",
+    "crates/log/src/places.rt",
 ];
 
 /// The texts of the three sources, and of the numbers of documents 01 and 02.
@@ -57,7 +57,7 @@ impl Texts {
                 + &text("crates/recording/src/numbers.rt")
                 + &text("crates/saved/src/format.rt")
                 + &rattle_texts("crates/surveying/src")
-                + &text("crates/walks/src/places.rt")
+                + &text("crates/log/src/places.rt")
                 + &text("crates/opinion/src/refusing.rt"),
         }
     }

@@ -1,4 +1,4 @@
-use Rattle.walks.proofs.Judged.{there-is}
+use Rattle.log.proofs.Judged.{there-is}
 use Rattle.history.specs.Known.{onlyIf, seenAt}
 use Rattle.judging.specs.Seen.{pathOf}
 use Rattle.rules.specs.Tests.{isThere}

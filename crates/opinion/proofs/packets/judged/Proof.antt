@@ -1,4 +1,4 @@
-use Rattle.walks.proofs.Judged.{verdict-so, output-so}
+use Rattle.log.proofs.Judged.{verdict-so, output-so}
 use mathlib.Core.Path.{_∙_}
 use borrow.Author.Needs.{needs}
 use Rattle.opinion.proofs.packets.judged.Statement.{statement}

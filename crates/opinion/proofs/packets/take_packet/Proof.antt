@@ -1,6 +1,6 @@
 use Rattle.opinion.proofs.Settled.{Accepted, accepted-packet, packet-refused, packet-judged}
 use Rattle.opinion.specs.Steps.{arrivalBy}
-use Rattle.walks.specs.Log.{ownIn, entriesOf}
+use Rattle.log.specs.Log.{ownIn, entriesOf}
 use Rattle.rules.specs.Arrival.{Arrival}
 use Rattle.history.specs.Opinion.{packetRefused}
 use borrow.Author.Tests.{eq-eqb}

@@ -1,5 +1,5 @@
 use Rattle.opinion.specs.Steps.{withEntry}
-use Rattle.walks.specs.Log.{bodyAt, countAt, entriesAt, entryWidth}
+use Rattle.log.specs.Log.{bodyAt, countAt, entriesAt, entryWidth}
 use Rattle.octets.proofs.Part.{patch-join}
 use Rattle.octets.specs.Part.{patch}
 use lib.ListN.{length}

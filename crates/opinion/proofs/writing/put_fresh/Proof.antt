@@ -1,6 +1,6 @@
 use Rattle.opinion.proofs.Written.{fresh-log}
 use Rattle.opinion.specs.Calls.{IsFresh}
-use Rattle.walks.specs.Log.{countAt}
+use Rattle.log.specs.Log.{countAt}
 use Rattle.octets.specs.Part.{patch}
 use lib.ListN.{length}
 use mathlib.Core.Path.{_≡_, sym, ap, subst, _∙_}
