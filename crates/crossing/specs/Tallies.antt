@@ -4,6 +4,9 @@ use mathlib.Core.List.{List, [], _∷_}
 use lib.ListN.{getD}
 use Rattle.rules.specs.declared.Tally.{Tally}
 
+abbrev pub tallyCount : ℕ
+tallyCount = 6
+
 unfoldable pub tallyNumbers : Tally → List ℕ
 tallyNumbers t = t .total ∷ t .dropped ∷ t .delivered ∷ t .forwarded ∷ t .spread ∷ t .kept ∷ []
 
