@@ -3,6 +3,11 @@ use numbers::HASH_COUNT;
 use numbers::LINK_COUNT;
 use numbers::LOCAL_COUNT;
 use numbers::RETURN_COUNT;
+pub use recording::numbers::CONTENTS_START;
+pub use recording::numbers::COUNT_AT;
+pub use recording::numbers::COUNT_WIDTH;
+pub use recording::numbers::LENGTH_WIDTH;
+pub use recording::numbers::OFFSET_WIDTH;
 use tables::places::HASH_WIDTH;
 use tables::places::LINK_WIDTH;
 use tables::places::LINKS_AT;
@@ -11,18 +16,7 @@ use tables::places::RETURN_WIDTH;
 use tables::places::RING_WIDTH;
 use tables::places::TABLE_SIZE;
 
-// The file's head: kind, edition, count.
-pub const COUNT_AT: usize = 2;
-
-pub const COUNT_WIDTH: usize = 2;
-
-pub const CONTENTS_START: usize = COUNT_AT + COUNT_WIDTH;
-
-// An entry in the contents: offset, length.
-pub const OFFSET_WIDTH: usize = 4;
-
-pub const LENGTH_WIDTH: usize = 2;
-
+// The file's head is a recording's. An entry in the contents: offset, length.
 pub const ENTRY_WIDTH: usize = OFFSET_WIDTH + LENGTH_WIDTH;
 
 pub const BODY_COUNT: usize = recording::SAVED_BODIES;

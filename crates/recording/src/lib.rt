@@ -1,6 +1,6 @@
 // Recordings, as document 02's Wish 1 has them: the file's reader and its writer.
 // Entry points: check, count, entry, body, write. Each ends on any bytes of any length.
-mod numbers;
+pub mod numbers;
 mod reader;
 mod writer;
 

@@ -65,7 +65,9 @@ module _ (w : List ℕ) (l : length w ≤ longestWord) where
   word-short = omega (arith, spaced-most (w ∷ []) (longestWord ∷ []) (l, tt))
 
   pub number-short : (n : ℕ) → n < shortLimit → length (spaced (w ∷ decimal n ∷ [])) ≤ longestAnswer
-  number-short n few = omega (arith, spaced-most (w ∷ decimal n ∷ []) (longestWord ∷ shortDigits ∷ []) (l, (numeral-most 10 (lit≤ tt) shortDigits n (lit≤ tt) few, tt)))
+  number-short n few =
+      let digits : length (decimal n) ≤ shortDigits = numeral-most 10 (lit≤ tt) shortDigits n (lit≤ tt) few in
+      omega (arith, spaced-most (w ∷ decimal n ∷ []) (longestWord ∷ shortDigits ∷ []) (l, (digits, tt)))
 
 -- ---- a reason's words
 -- a word, a character and more of the word, as a point between test and clause
@@ -98,7 +100,11 @@ module _ (test clause value : ℕ) (t : test < shortLimit) (k : clause < shortLi
       (test-most, either (λ (ws : List (List ℕ)). Most ws (mostDigits ∷ [])) (tellsValue (numbersOf test clause value)) (λ _. (digits, tt)) (λ _. tt))
 
   pub reason-short : length (spaced (dropWord ∷ reasonWords (numbersOf test clause value))) ≤ longestAnswer
-  reason-short = omega (arith, spaced-most (dropWord ∷ reasonWords (numbersOf test clause value)) (longestWord ∷ testDigits ∷ mostDigits ∷ []) (lit≤ tt, reason-most))
+  reason-short =
+      omega (
+        arith,
+        spaced-most (dropWord ∷ reasonWords (numbersOf test clause value)) (longestWord ∷ testDigits ∷ mostDigits ∷ []) (lit≤ tt, reason-most),
+      )
 
   -- a reason's numbers, which code has one by one
   pub drop-words : (r : ReasonNumbers) → test ≡ r .test → clause ≡ r .clause → value ≡ r .value → (line y : Text)

@@ -22,7 +22,9 @@ abbrev μ-loop : tie.MeasureT-loop
 μ-loop digits₀ x rest₀ at₀ digits rest at = rest
 
 loop-holds : tie.Need-loop-holds Inv-loop μ-loop
-loop-holds c = (search needs, search needs, search needs, sym (rw (drop-of-length-le (c .before .args .digits .now) {i = mostDigits} (omega arith)) (append-nil _)))
+loop-holds c =
+    let none = drop-of-length-le (c .before .args .digits .now) {i = mostDigits} (omega arith) in
+    (search needs, search needs, search needs, sym (rw none (append-nil _)))
 
 digit-requires : tie.Need-digit-requires Inv-loop μ-loop
 digit-requires c κs = search needs
