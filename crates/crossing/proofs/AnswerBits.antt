@@ -1,5 +1,5 @@
 -- The number of every packet call's answer: each field is found at its bits, and where the answer is renamed, the port bits are, and no other.
-use Prim.Native.Nat.{ℕ, _/_, _%_, _^_, _<_}
+use Prim.Native.Nat.{ℕ, _/_, _<_}
 use native.Mathlib.Omega.{arith}
 use mathlib.Core.Bool.{Bool, true, false}
 use mathlib.Core.List.{List}

@@ -1,5 +1,5 @@
 -- An answer's text, from its number: the words of a replay's line behind its count.
-use Prim.Native.Nat.{ℕ, _/_, _%_}
+use Prim.Native.Nat.{ℕ}
 use mathlib.Core.List.{List, [], _∷_, _++_}
 use lib.Dec.{eqb}
 use Rattle.octets.specs.Choice.{_then_otherwise_}
