@@ -1,5 +1,5 @@
 -- The bodies' widths: in every edition each stands in two bytes, and together they are all that is saved.
-use Prim.Native.Nat.{ℕ, zero, suc, _+_, _-_, _*_, _^_, _≤_, _<_}
+use Prim.Native.Nat.{ℕ, zero, suc, _+_, _-_, _*_, _≤_, _<_}
 use native.Mathlib.Decide.{decLt}
 use native.Mathlib.Omega.{arith}
 use mathlib.Core.Bool.{Bool, true}
@@ -91,4 +91,4 @@ width-small n i l =
 
 pub size-small : (n : ℕ) → bodiesAt + code (editionAt n) .width < offsetLimit
 unfolding allBelow _and_
-size-small n = ltb-true _ _ (edition-says (λ e. ltb (bodiesAt + code (held e) .width) (offsetLimit)) refl n)
+size-small n = ltb-true _ _ (edition-says (λ e. ltb (bodiesAt + code (held e) .width) offsetLimit) refl n)

@@ -1,5 +1,6 @@
 // Recordings: reading and writing them, and their replay entry by entry.
 use super::packets::haskumye_payload_start;
+use crossing::REFUSAL_SPAN;
 use crossing::answer_number;
 use crossing::tally_in;
 use crossing::tally_numbers;
@@ -52,7 +53,7 @@ pub extern "C" fn haskumye_write_recording(entries: &[u8], bodies: &[u8], room: 
         r (now (room .exit)) ⌝ }
 {
     let written = recording::write(entries, bodies, room);
-    (written.length as u32) * 65536 + (written.refusal as u32)
+    (written.length as u32) * REFUSAL_SPAN + (written.refusal as u32)
 }
 
 // The packet call of entry `index` of a recording, with an output of its own: its answer's number, as

@@ -127,7 +127,8 @@ fn write_start(n: usize, room: &mut [u8])
 
 // Writes entry i into the contents. What stands there is given in the same bytes, but for the offset.
 fn write_entry(entries: &[u8], i: usize, offset: usize, room: &mut [u8])
-    requires { ⌜ (i < givenCount (now entries)) × (i < countLimit) × (entryPlace headWidth (i + 1) ≤ length (now room)) ⌝ }
+    requires { ⌜ (i < givenCount (now entries)) × (i < countLimit)
+        × (entryPlace headWidth (i + 1) ≤ length (now room)) ⌝ }
     ensures { λ _. ⌜ now (room .exit)
         ≡ patch (now (room .entry)) (entryPlace headWidth i) (copiedRow (now (entries .entry)) offset i) ⌝ }
 {

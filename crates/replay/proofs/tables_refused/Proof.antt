@@ -3,8 +3,9 @@ use mathlib.Core.List.{[], _∷_}
 use native.Mathlib.Omega.{arith}
 use lib.Dec.{lit≤}
 use lib.ListN.{length}
-use Rattle.text.specs.Numerals.{decimal}
+use Rattle.text.specs.Numerals.{decimal, shortDigits, shortLimit}
 use Rattle.text.specs.Words.{refusedWord}
+use Rattle.text.specs.Text.{textSize}
 use Rattle.text.proofs.NumeralLaws.{numeral-most}
 use Rattle.text.proofs.WordLaws.{line-most, words-appended, line-appended}
 use Rattle.replay.specs.Line.{tablesWord, tablesRefused}
@@ -12,12 +13,12 @@ use borrow.Author.Needs.{needs}
 use Rattle.replay.proofs.tables_refused.Statement.{statement}
 use Rattle.replay.proofs.tables_refused.Tie as tie
 
-fits : (n : ℕ) → n < 1000 → length (tablesRefused n) ≤ 160
+fits : (n : ℕ) → n < shortLimit → length (tablesRefused n) ≤ textSize
 fits n small =
     omega (
       arith,
-      line-most tablesWord (refusedWord ∷ decimal n ∷ []) (6 ∷ 7 ∷ 3 ∷ [])
-          (lit≤ tt, (lit≤ tt, (numeral-most 10 (lit≤ tt) 3 n (lit≤ tt) small, tt))),
+      line-most tablesWord (refusedWord ∷ decimal n ∷ []) (length tablesWord ∷ length refusedWord ∷ shortDigits ∷ [])
+          (lit≤ tt, (lit≤ tt, (numeral-most 10 (lit≤ tt) shortDigits n (lit≤ tt) small, tt))),
     )
 
 empty-requires : tie.Need-empty-requires

@@ -4,6 +4,7 @@ use mathlib.Core.Path.{ap, _∙_}
 use lib.ListN.{replicate, length-replicate}
 use Rattle.octets.specs.Part.{patch}
 use Rattle.packet.specs.Write.{Wide}
+use Rattle.packet.specs.Places.{hopsAt, addressAt, secondAddressAt, typeTwoContextAt, typeTwoStart}
 use Rattle.crossing.proofs.PartsLaws.{parts-written}
 use native.Mathlib.Omega.{arith}
 use borrow.Author.Needs.{needs}
@@ -64,12 +65,12 @@ returns c =
     let c15 = c12 .before .before .before in
     let s = c15 .before .before .before .before in
     let q = s .args .parts in
-    let hops = c12 .set-at2 .ensures ∙ ap (λ (r : List ℕ). patch r 1 (q .hops ∷ [])) (c15 .set-at .ensures) in
-    let relay = c8 .copy-at .ensures ∙ ap (λ (r : List ℕ). patch r 2 (q .relay)) hops in
-    let destination = c4 .copy-at2 .ensures ∙ ap (λ (r : List ℕ). patch r 18 (q .destination)) relay in
+    let hops = c12 .set-at2 .ensures ∙ ap (λ (r : List ℕ). patch r hopsAt (q .hops ∷ [])) (c15 .set-at .ensures) in
+    let relay = c8 .copy-at .ensures ∙ ap (λ (r : List ℕ). patch r addressAt (q .relay)) hops in
+    let destination = c4 .copy-at2 .ensures ∙ ap (λ (r : List ℕ). patch r secondAddressAt (q .destination)) relay in
     c .before .set-at3 .ensures
-    ∙ ap (λ (r : List ℕ). patch r 34 (q .context ∷ [])) destination
-    ∙ parts-written (replicate 35 0) (length-replicate {A = ℕ} 35 0) q (wide s)
+    ∙ ap (λ (r : List ℕ). patch r typeTwoContextAt (q .context ∷ [])) destination
+    ∙ parts-written (replicate typeTwoStart 0) (length-replicate {A = ℕ} typeTwoStart 0) q (wide s)
 
 pub parts-bytes-spec : {M : Type 1} → statement M
 parts-bytes-spec =

@@ -7,6 +7,7 @@ use Rattle.saved.specs.File.{savedSize}
 use Rattle.saved.specs.declared.Saved.{Saved}
 use Rattle.saved.proofs.SaveLaws.{save-most}
 use Rattle.crossing.specs.Saved.{savedNumber}
+use Rattle.crossing.specs.Bits.{refusalSpan}
 use native.Mathlib.Omega.{arith}
 use borrow.Author.Needs.{needs}
 use Rattle.haskumye.proofs.saved_tables.haskumye_save.Statement.{statement}
@@ -51,7 +52,7 @@ returns c =
     let a = c9 .args in
     let s = c3 .save in
     let same = ap (λ (t : Tally). saveOn (a .tables .now) t (a .room .now)) (c5 .tally-in .ensures) in
-    let number = ap (λ (n : ℕ). s .result .length * 65536 + n) (c .wide .ensures) in
+    let number = ap (λ (n : ℕ). s .result .length * refusalSpan + n) (c .wide .ensures) in
     (number ∙ ap savedNumber (s .ensures .0 ∙ ap (λ (x : SavedOn). x .answer) same), s .ensures .1 ∙ ap (λ (x : SavedOn). x .room) same)
 
 pub haskumye-save-spec : {M : Type 1} → statement M
