@@ -115,7 +115,8 @@ module _ (packet : List ℕ) (m : Arrived) (t : List ℕ) (ok : AcceptedOn packe
     unfolding outgoing leavingPort returnKey returnPut
     data-left b port n output u o q1 q2 q3 hash is q4 =
         forwarded (by-path (pathAt t i)) (data-record .1) (by-path-forwards (pathAt t i)) port n _ output u o q1 refl q2 q3
-        (return-written v a t b (ok .formed) (pathAt t i) (take addressWidth hash) port (r .returns .next) u (data-record .2) (ap (take addressWidth) is) q1 refl q4)
+        (return-written v a t b (ok .formed) (pathAt t i) (take addressWidth hash) port (r .returns .next) u (data-record .2)
+        (ap (take addressWidth) is) q1 refl q4)
 
   -- ---- a link request by the path at a place
   module _ (i place high low : ℕ) (d : decision r a ≡ Request i place high low) where
@@ -141,7 +142,8 @@ module _ (packet : List ℕ) (m : Arrived) (t : List ℕ) (ok : AcceptedOn packe
         let id : List ℕ = linkId packet in
         let size = link-id-length packet in
         ap₂ addressBy (k .5) (k .6)
-        ∙ ap₂ _++_ (part-again id 0 wordWidth (link-id-bytes packet) (omega (arith, size))) (part-again id wordWidth wordWidth (link-id-bytes packet) (omega (arith, size)))
+        ∙ ap₂ _++_ (part-again id 0 wordWidth (link-id-bytes packet) (omega (arith, size)))
+        (part-again id wordWidth wordWidth (link-id-bytes packet) (omega (arith, size)))
         ∙ sym (part-split id 0 wordWidth wordWidth)
         ∙ part-whole id addressWidth size
 

@@ -66,7 +66,8 @@ module _ (a : Announce) (signature : List ℕ) where
     pub flagged : ratchetLength (partsFor a .header) ≡ length (a .ratchet)
     unfolding ratchetLength headOf contextFlag _then_otherwise_
     flagged =
-        ratchet-right (length (a .ratchet)) (λ n. (contextFlag (headOf (destination a) n .header) then ratchetWidth otherwise 0) ≡ n) (b .lengths .ratchet) refl refl
+        ratchet-right (length (a .ratchet)) (λ n. (contextFlag (headOf (destination a) n .header) then ratchetWidth otherwise 0) ≡ n)
+        (b .lengths .ratchet) refl refl
 
     blob-length : length (blob a) ≡ blobWidth
     unfolding blob

@@ -65,7 +65,8 @@ module _ (a : Announce) (signature : List ℕ) where
   payload-length = simp length-append (omega (arith, blob-length))
 
   pub announce-length : length (announceWith a signature)
-      ≡ typeOneStart + (length (a .keys) + (length (a .nameHash) + (length (a .random) + emissionWidth + (length (a .ratchet) + (length signature + length (a .appData))))))
+      ≡ typeOneStart + (length (a .keys) +
+      (length (a .nameHash) + (length (a .random) + emissionWidth + (length (a .ratchet) + (length signature + length (a .appData))))))
   unfolding announceWith
   announce-length =
       packet-length (partsFor a) (payloadWith a signature) (parts-wide a) ∙ omega (arith, parts-start a, payload-length)

@@ -23,7 +23,8 @@ filled t x y n e h =
 -- keys, name hash, random bytes, clock and ratchet
 module _ (out keys name random : List ℕ) (clock : ℕ) (ratchet : List ℕ) (at : ℕ)
     (k : length keys ≡ keysWidth) (n : length name ≡ nameHashWidth) (r : length random ≡ randomWidth) (room : at + blobEnd + length ratchet ≤ length out) where
-  pub fields-written : patch (patch (patch (patch (patch out at keys) (at + nameHashAt) name) (at + blobAt) random) (at + blobAt + randomWidth) (bigEndian emissionWidth clock))
+  pub fields-written : patch
+      (patch (patch (patch (patch out at keys) (at + nameHashAt) name) (at + blobAt) random) (at + blobAt + randomWidth) (bigEndian emissionWidth clock))
       (at + blobEnd) ratchet
       ≡ patch out at (fields keys name random clock ratchet)
   unfolding fields
@@ -37,7 +38,8 @@ module _ (out keys name random : List ℕ) (clock : ℕ) (ratchet : List ℕ) (a
       (patch-join out at (at + nameHashAt) keys name (omega arith) (omega arith))
       ∙ ap (λ (x : List ℕ). patch (patch x (at + blobAt + randomWidth) time) (at + blobEnd) ratchet)
       (patch-join out at (at + blobAt) (keys ++ name) random (omega arith) (omega arith))
-      ∙ ap (λ (x : List ℕ). patch x (at + blobEnd) ratchet) (patch-join out at (at + blobAt + randomWidth) ((keys ++ name) ++ random) time (omega arith) (omega arith))
+      ∙ ap (λ (x : List ℕ). patch x (at + blobEnd) ratchet)
+      (patch-join out at (at + blobAt + randomWidth) ((keys ++ name) ++ random) time (omega arith) (omega arith))
       ∙ patch-join out at (at + blobEnd) (((keys ++ name) ++ random) ++ time) ratchet (omega arith) (omega arith)
       ∙ ap (patch out at) (simp append-assoc)
 
@@ -54,7 +56,8 @@ module _ (a : Announce) (signature out : List ℕ) (b : Buildable a signature (l
       fields-length out (a .keys) (a .nameHash) (a .random) (a .clock) (a .ratchet) 0 (b .lengths .keys) (b .lengths .nameHash) (b .lengths .random)
       (omega (arith, b .short, b .roomy))
 
-  pub signed-written : patch (patch (patch out 0 (destination a)) addressWidth all) (addressWidth + blobEnd + length (a .ratchet)) (a .appData) ≡ patch out 0 (signedBytes a)
+  pub signed-written : patch (patch (patch out 0 (destination a)) addressWidth all) (addressWidth + blobEnd + length (a .ratchet)) (a .appData)
+      ≡ patch out 0 (signedBytes a)
   unfolding signedBytes blob fields
   signed-written =
       let one = destination-length a in
@@ -64,7 +67,8 @@ module _ (a : Announce) (signature out : List ℕ) (b : Buildable a signature (l
       ∙ patch-join out 0 (addressWidth + blobEnd + length (a .ratchet)) (destination a ++ all) (a .appData) (omega arith) (omega (arith, b .short, b .roomy))
       ∙ ap (patch out 0) (simp append-assoc)
 
-  pub announce-written : patch (patch (patch (patch out 0 (packetOf (partsFor a) [])) typeOneStart all) (typeOneStart + blobEnd + length (a .ratchet)) signature)
+  pub announce-written : patch
+      (patch (patch (patch out 0 (packetOf (partsFor a) [])) typeOneStart all) (typeOneStart + blobEnd + length (a .ratchet)) signature)
       (typeOneStart + blobEnd + length (a .ratchet) + signatureWidth) (a .appData)
       ≡ patch out 0 (announceWith a signature)
   unfolding announceWith payloadWith blob fields
@@ -73,12 +77,14 @@ module _ (a : Announce) (signature out : List ℕ) (b : Buildable a signature (l
       let one : length head ≡ typeOneStart = packet-length (partsFor a) [] (parts-wide a) ∙ omega (arith, parts-start a) in
       let two : length (head ++ all) ≡ typeOneStart + blobEnd + length (a .ratchet) = length-append head all ∙ omega (arith, all-length) in
       let sixty-four = b .lengths .signature in
-      let three : length ((head ++ all) ++ signature) ≡ typeOneStart + blobEnd + signatureWidth + length (a .ratchet) = length-append (head ++ all) signature ∙ omega arith in
+      let three : length ((head ++ all) ++ signature) ≡ typeOneStart + blobEnd + signatureWidth + length (a .ratchet) = length-append (head ++ all) signature
+      ∙ omega arith in
       let t = length (a .ratchet) in
       ap (λ (x : List ℕ). patch (patch x (typeOneStart + blobEnd + t) signature) (typeOneStart + blobEnd + t + signatureWidth) (a .appData))
       (patch-join out 0 typeOneStart head all (omega arith) (omega (arith, all-length, b .short, b .roomy)))
       ∙ ap (λ (x : List ℕ). patch x (typeOneStart + blobEnd + t + signatureWidth) (a .appData))
       (patch-join out 0 (typeOneStart + blobEnd + t) (head ++ all) signature (omega arith) (omega (arith, b .short, b .roomy)))
-      ∙ patch-join out 0 (typeOneStart + blobEnd + t + signatureWidth) ((head ++ all) ++ signature) (a .appData) (omega arith) (omega (arith, b .short, b .roomy))
+      ∙ patch-join out 0 (typeOneStart + blobEnd + t + signatureWidth) ((head ++ all) ++ signature) (a .appData) (omega arith)
+      (omega (arith, b .short, b .roomy))
       ∙ ap (patch out 0) (append-assoc (head ++ all) signature (a .appData) ∙ append-assoc head all (signature ++ a .appData)
       ∙ packet-behind (partsFor a) (all ++ (signature ++ a .appData)) ∙ ap (packetOf (partsFor a)) (simp append-assoc))

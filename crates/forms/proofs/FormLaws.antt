@@ -56,7 +56,8 @@ module _ (p : List ℕ) where
   unfolding isLinkProof
   link-proof-clauses = refl
 
-  pub proof-length-clauses : linkProofLength p ≡ (isLinkProof p and not (eqb (length (payload p)) leastProofLength or eqb (length (payload p)) longerProofLength))
+  pub proof-length-clauses : linkProofLength p
+      ≡ (isLinkProof p and not (eqb (length (payload p)) leastProofLength or eqb (length (payload p)) longerProofLength))
   unfolding linkProofLength
   proof-length-clauses = refl
 

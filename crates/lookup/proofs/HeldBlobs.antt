@@ -87,11 +87,13 @@ unfolding greatestEmission
 greatest-more h i l = sym (ap greatestEmission (drop-cons h i [] l))
 
 -- ---- a blob's emission is the low five of its last eight bytes
-pub low-five : (t : List ℕ) (a : ℕ) → Bytes t → a + wordWidth ≤ length t → number (part t a wordWidth) % clockLimit ≡ number (part t (a + emissionAt) emissionWidth)
+pub low-five : (t : List ℕ) (a : ℕ) → Bytes t → a + wordWidth ≤ length t
+    → number (part t a wordWidth) % clockLimit ≡ number (part t (a + emissionAt) emissionWidth)
 unfolding number numberFrom part
 low-five t a h l =
     let eight = part-eight t a l in
-    let five : number (part t (a + emissionAt) emissionWidth) ≡ number (getD t (a + 3) 0 ∷ getD t (a + 4) 0 ∷ getD t (a + 5) 0 ∷ getD t (a + 6) 0 ∷ getD t (a + 7) 0 ∷ []) =
+    let five : number (part t (a + emissionAt) emissionWidth) ≡ number
+    (getD t (a + 3) 0 ∷ getD t (a + 4) 0 ∷ getD t (a + 5) 0 ∷ getD t (a + 6) 0 ∷ getD t (a + 7) 0 ∷ []) =
     ap number (sym (part-part t a wordWidth emissionAt emissionWidth (omega arith)) ∙ ap (λ (x : List ℕ). part x emissionAt emissionWidth) eight) in
     ap (λ (x : List ℕ). number x % clockLimit) eight ∙ omega (arith, h (a + 3), h (a + 4), h (a + 5), h (a + 6), h (a + 7)) ∙ sym five
 

@@ -72,7 +72,8 @@ module _ (size : ℕ) (p : List ℕ) (h : reads size p ≡ true) where
 
 -- ---- what the code writes
 module _ (size : ℕ) (out own p : List ℕ) (h : reads size p ≡ true) (wide : length own ≡ addressWidth) (room : spreadLength p ≤ length out) where
-  pub spread-written : patch (patch out 0 (packetOf (rewrittenParts (spreadHeader (headerOf p)) own p) [])) typeTwoStart (payload p) ≡ patch out 0 (spreadPacket own p)
+  pub spread-written : patch (patch out 0 (packetOf (rewrittenParts (spreadHeader (headerOf p)) own p) [])) typeTwoStart (payload p)
+      ≡ patch out 0 (spreadPacket own p)
   unfolding spreadPacket rewritten spreadLength
   spread-written =
       let q : Parts = rewrittenParts (spreadHeader (headerOf p)) own p in

@@ -43,7 +43,8 @@ module _ (p s : List ℕ) (parts : HashedAlike (partsOf p) (partsOf s)) (body : 
   unfolding linkId
   alike-link-id =
       ap (λ (m : List ℕ). take addressWidth (sha256-of m))
-      (hashed-alike (partsOf p) (partsOf s) (take linkPayloadWidth (payload p)) parts ∙ ap (λ (b : List ℕ). hashedPart (partsOf s) (take linkPayloadWidth b)) body)
+      (hashed-alike (partsOf p) (partsOf s) (take linkPayloadWidth (payload p)) parts
+      ∙ ap (λ (b : List ℕ). hashedPart (partsOf s) (take linkPayloadWidth b)) body)
 
 -- ---- over parts that are written
 back-hashed : (q : Parts) → HashedAlike (readBack q) q
@@ -133,9 +134,16 @@ module _ (size : ℕ) (p : List ℕ) (h : reads size p ≡ true) where
     relay-behind : drop (payloadStart (headerOf p) - endWidth) p ≡ drop (payloadStart (headerOf p) - endWidth) (patch p addressAt relay)
     unfolding patch
     relay-behind =
-        let head : length (take addressAt p ++ relay) ≡ secondAddressAt = length-append (take addressAt p) relay ∙ omega (arith, wide, length-take-le addressAt p (omega (arith, long))) in
+        let head : length (take addressAt p ++ relay) ≡ secondAddressAt = length-append (take addressAt p) relay
+        ∙ omega (arith, wide, length-take-le addressAt p (omega (arith, long))) in
         let start : payloadStart (headerOf p) - endWidth ≡ secondAddressAt = omega (arith, start-two (headerOf p) two) in
-        rw (start, ← append-assoc (take addressAt p) relay (drop (addressAt + length relay) p), drop-at (take addressAt p ++ relay) (drop (addressAt + length relay) p) secondAddressAt head, wide)
+        rw (
+          start,
+          ← append-assoc (take addressAt p) relay (drop (addressAt + length relay) p),
+          drop-at (take addressAt p ++ relay)
+              (drop (addressAt + length relay) p) secondAddressAt head,
+          wide,
+        )
 
     pub relay-packet-hash : packetHash p ≡ packetHash (patch p addressAt relay)
     relay-packet-hash = bytes-packet-hash p (patch p addressAt relay) whole relay-length relay-header relay-behind

@@ -42,7 +42,8 @@ module _ (p : List ℕ) (whole : payloadStart (headerOf p) ≤ length p) where
   hashed-whole =
       ap (hashedPart (partsOf p)) (sym (take-all (length p) (payload p) (payload-least p)))
       ∙ hashed-cut (length p)
-      ∙ ap (λ (r : List ℕ). headerOf p % 16 ∷ r) (take-all (endWidth + length p) (drop (payloadStart (headerOf p) - endWidth) p) (simp length-drop (omega arith)))
+      ∙ ap (λ (r : List ℕ). headerOf p % 16 ∷ r)
+      (take-all (endWidth + length p) (drop (payloadStart (headerOf p) - endWidth) p) (simp length-drop (omega arith)))
 
   -- packet hash and link id, as the code takes them
   pub packet-hashed : packetHash p ≡ sha256-of (headerOf p % 16 ∷ drop (payloadStart (headerOf p) - endWidth) p)

@@ -26,7 +26,8 @@ module _ (p : List ℕ) (a : ℕ) (long : a + endWidth ≤ length p) where
 
   pub behind : part p a addressWidth ++ (getD p (a + addressWidth) 0 ∷ drop (a + endWidth) p) ≡ drop a p
   behind =
-      ap (λ (r : List ℕ). part p a addressWidth ++ (getD p (a + addressWidth) 0 ∷ r)) (sym (take-all (length p) (drop (a + endWidth) p) (simp length-drop (omega arith))))
+      ap (λ (r : List ℕ). part p a addressWidth ++ (getD p (a + addressWidth) 0 ∷ r))
+      (sym (take-all (length p) (drop (a + endWidth) p) (simp length-drop (omega arith))))
       ∙ behind-cut (length p)
       ∙ take-all (endWidth + length p) (drop a p) (simp length-drop (omega arith))
 

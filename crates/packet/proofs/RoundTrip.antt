@@ -87,7 +87,8 @@ module _ (q : Parts) (body : List ℕ) (wide : Wide q) where
       let p : List ℕ = head ++ (q .destination ++ (q .context ∷ body)) in
       let eh : length head ≡ secondAddressAt = omega (arith, wide .relay) in
       let relay : part p addressAt addressWidth ≡ q .relay = take-at (q .relay) (q .destination ++ (q .context ∷ body)) addressWidth (wide .relay) in
-      let destination : part p secondAddressAt addressWidth ≡ q .destination = found-part head (q .destination) (q .context) body secondAddressAt eh (wide .destination) in
+      let destination : part p secondAddressAt addressWidth ≡ q .destination =
+      found-part head (q .destination) (q .context) body secondAddressAt eh (wide .destination) in
       let context : getD p typeTwoContextAt 0 ≡ q .context = found-byte head (q .destination) (q .context) body secondAddressAt eh (wide .destination) in
       let rest : drop typeTwoStart p ≡ body = found-rest head (q .destination) (q .context) body secondAddressAt eh (wide .destination) in (
         ap partsOf (packet-two q body t) ∙ parts-two p t ∙ rw (relay, destination, context) (sym (then-true _ _ t)),
@@ -99,7 +100,8 @@ module _ (q : Parts) (body : List ℕ) (wide : Wide q) where
   found-one t =
       let head : List ℕ = q .header ∷ q .hops ∷ [] in
       let p : List ℕ = head ++ (q .destination ++ (q .context ∷ body)) in
-      let destination : part p addressAt addressWidth ≡ q .destination = found-part head (q .destination) (q .context) body addressAt refl (wide .destination) in
+      let destination : part p addressAt addressWidth ≡ q .destination =
+      found-part head (q .destination) (q .context) body addressAt refl (wide .destination) in
       let context : getD p typeOneContextAt 0 ≡ q .context = found-byte head (q .destination) (q .context) body addressAt refl (wide .destination) in
       let rest : drop typeOneStart p ≡ body = found-rest head (q .destination) (q .context) body addressAt refl (wide .destination) in (
         ap partsOf (packet-one q body t) ∙ parts-one p t ∙ rw (destination, context) (sym (then-false _ _ t)),

@@ -44,7 +44,11 @@ parts-wide p h = go (typeTwo (headerOf p)) refl
     go : (t : Bool) → typeTwo (headerOf p) ≡ t → Wide (partsOf p)
     go true e =
         let start : payloadStart (headerOf p) ≡ typeTwoStart = start-two (headerOf p) e in
-        rw (parts-two p e) (record { relay = part-length p addressAt addressWidth (omega arith); destination = part-length p secondAddressAt addressWidth (omega arith) })
+        rw (parts-two p e) (record {
+          relay = part-length p addressAt addressWidth (omega arith);
+          destination =
+              part-length p secondAddressAt addressWidth (omega arith);
+        })
     go false e =
         let start : payloadStart (headerOf p) ≡ typeOneStart = start-one (headerOf p) e in
         rw (parts-one p e) (record { relay = refl; destination = part-length p addressAt addressWidth (omega arith) })

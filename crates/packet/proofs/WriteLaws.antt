@@ -82,7 +82,8 @@ module _ (q : Parts) (body output : List ℕ) where
 -- ---- what the code of writing leaves: bytes written one after the other are one write
 module _ (out : List ℕ) (at : ℕ) (destination : List ℕ) (context : ℕ) (body : List ℕ) (wide : length destination ≡ addressWidth)
     (room : at + endWidth + length body ≤ length out) where
-  pub end-written : patch (patch (patch out at destination) (at + addressWidth) (context ∷ [])) (at + endWidth) body ≡ patch out at (destination ++ (context ∷ body))
+  pub end-written : patch (patch (patch out at destination) (at + addressWidth) (context ∷ [])) (at + endWidth) body
+      ≡ patch out at (destination ++ (context ∷ body))
   end-written =
       ap (λ (r : List ℕ). patch r (at + endWidth) body) (patch-join out at (at + addressWidth) destination (context ∷ []) (omega arith) (omega arith))
       ∙ patch-join out at (at + endWidth) (destination ++ (context ∷ [])) body (omega (arith, length-append destination (context ∷ []))) (omega arith)

@@ -224,7 +224,8 @@ module _ (r : Relay) (wide : addressed r ≡ true) where
   hop-wide : (clock : ℕ) (destination : List ℕ) (p : Path) → viewAt clock r .path destination ≡ used p → length (p .nextHop) ≡ addressWidth
   unfolding viewAt addressed byAddress isAddress slotOk
   hop-wide clock destination p e =
-      eqb-true _ addressWidth (subst (λ (s : Slot Path). slotOk byAddress s ≡ true) e (all-getD (slotOk byAddress) (r .paths) _ empty (and-right _ _ wide) refl))
+      eqb-true _ addressWidth
+      (subst (λ (s : Slot Path). slotOk byAddress s ≡ true) e (all-getD (slotOk byAddress) (r .paths) _ empty (and-right _ _ wide) refl))
 
   pub judged-length : (a : Arrival) (room : ℕ) → eqb (packetRefusal r a room) 0 ≡ true
       → verdictLengthOk (a .bytes) (verdict (viewAt (a .clock) r) a (plan (viewAt (a .clock) r) a)) ≡ true

@@ -160,7 +160,8 @@ pub tally-written : (tally : Tally) (room : List ℕ) (at : ℕ) → at + code t
     → patch
     (patch
     (patch
-    (patch (patch (patch room at (bigEndian counterWidth (tally .total))) (at + counterAt "dropped") (bigEndian counterWidth (tally .dropped))) (at + counterAt "delivered") (bigEndian counterWidth (tally .delivered)))
+    (patch (patch (patch room at (bigEndian counterWidth (tally .total))) (at + counterAt "dropped") (bigEndian counterWidth (tally .dropped)))
+    (at + counterAt "delivered") (bigEndian counterWidth (tally .delivered)))
     (at + counterAt "forwarded") (bigEndian counterWidth (tally .forwarded)))
     (at + counterAt "spread") (bigEndian counterWidth (tally .spread)))
     (at + counterAt "kept") (bigEndian counterWidth (tally .kept))

@@ -60,8 +60,10 @@ returns c =
     let after-spread = after-payload .before .before .before in
     let after-slice-known = after-spread .before .before .before .before in
     let start = after-slice-known .before .before in
-    announce-left _ _ _ (start .pre .accepted) _ _ (start .pre .decided) _ _ _ (after-announced-path .announced-path .ensures) (after-announced-rate .announced-rate .ensures)
-    (after-blob .blob .ensures ∙ ap blobOf (after-payload .payload .ensures)) (known-bytes (start .args .tables .now) (after-slice-known .slice-known .given)) _ _ _ _
+    announce-left _ _ _ (start .pre .accepted) _ _ (start .pre .decided) _ _ _ (after-announced-path .announced-path .ensures)
+    (after-announced-rate .announced-rate .ensures)
+    (after-blob .blob .ensures
+    ∙ ap blobOf (after-payload .payload .ensures)) (known-bytes (start .args .tables .now) (after-slice-known .slice-known .given)) _ _ _ _
     (after-spread .spread .ensures) (c .before .before .put-path .ensures)
 
 pub announce-spec : {M : Type 1} → statement M

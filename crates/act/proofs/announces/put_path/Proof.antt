@@ -53,7 +53,8 @@ returns c =
     let after-put-kept-path = c .before .before in
     let then2 = after-put-kept-path .before .before in
     let after-holds-blob = then2 .before in
-    after-put-kept-path .put-kept-path .ensures ∙ kept _ _ _ _ _ (after-holds-blob .before .before .if1 .taken) (sym (after-holds-blob .holds-blob .ensures) ∙ then2 .if2 .taken)
+    after-put-kept-path .put-kept-path .ensures
+    ∙ kept _ _ _ _ _ (after-holds-blob .before .before .if1 .taken) (sym (after-holds-blob .holds-blob .ensures) ∙ then2 .if2 .taken)
 
 put-known-path-requires : tie.Need-put-known-path-requires
 put-known-path-requires c κs = search needs
@@ -66,7 +67,8 @@ returns-2 c =
     let after-put-known-path = c .before .before in
     let else2 = after-put-known-path .before .before in
     let after-holds-blob = else2 .before in
-    after-put-known-path .put-known-path .ensures ∙ stored _ _ _ _ _ (after-holds-blob .before .before .if1 .taken) (sym (after-holds-blob .holds-blob .ensures) ∙ else2 .if2 .left)
+    after-put-known-path .put-known-path .ensures
+    ∙ stored _ _ _ _ _ (after-holds-blob .before .before .if1 .taken) (sym (after-holds-blob .holds-blob .ensures) ∙ else2 .if2 .left)
 
 put-new-path-requires : tie.Need-put-new-path-requires
 put-new-path-requires c κs = search needs

@@ -19,8 +19,12 @@ returns c =
     let after-limit = c .before .before in
     let after-reason-number = after-limit .before .before .before in
     let s = after-reason-number .before .before .before in
-    let b = known-bytes (s .args .tables .now) (after-reason-number .before .slice-known .given) in
-    (refl, after-limit .limit .ensures ∙ drop-limited _ (s .args .arrived) _ (s .pre .formed) b _ (sym (after-reason-number .reason-number .ensures) ∙ after-limit .before .before .if1 .taken))
+    let b = known-bytes (s .args .tables .now) (after-reason-number .before .slice-known .given) in (
+      refl,
+      after-limit .limit .ensures
+          ∙ drop-limited _ (s .args .arrived) _ (s .pre .formed) b _ (sym (after-reason-number .reason-number .ensures)
+          ∙ after-limit .before .before .if1 .taken),
+    )
 
 returns-2 : tie.Need-returns-2
 returns-2 c =

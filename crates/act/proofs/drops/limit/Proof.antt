@@ -53,7 +53,8 @@ returns c =
     let s = s1 after-path-place in
     limit-left _ (s .args .arrived) _ (s .pre .formed)
     (known-bytes (s .args .tables .now) (after-path-place .before .before .before .before .slice-known .given)) _ (found after-path-place)
-    (after-put-rate .before .before .before .before .if1 .taken) _ _ (after-put-rate .before .before .dropped-entry .ensures) (after-put-rate .put-rate .ensures)
+    (after-put-rate .before .before .before .before .if1 .taken) _ _ (after-put-rate .before .before .dropped-entry .ensures)
+    (after-put-rate .put-rate .ensures)
 
 same-length-2 : tie.Need-same-length-2
 same-length-2 c = search needs

@@ -47,7 +47,8 @@ returns c =
     let after-path-port = after-asked-link .before .before .before in
     let after-slice-known = after-path-port .before .before .before in
     let start = after-slice-known .before .before in
-    asked-left _ _ _ (start .pre .accepted) _ _ _ _ (start .pre .decided) (known-bytes (start .args .tables .now) (after-slice-known .slice-known .given)) _ _ _ _ _ _
+    asked-left _ _ _ (start .pre .accepted) _ _ _ _ (start .pre .decided)
+    (known-bytes (start .args .tables .now) (after-slice-known .slice-known .given)) _ _ _ _ _ _
     (after-path-port .path-port .ensures) (after-asked-link .asked-link .ensures) (after-forward .forward .ensures .0) (after-forward .forward .ensures .1)
     (c .before .before .put-link .ensures)
 

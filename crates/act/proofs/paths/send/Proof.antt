@@ -31,8 +31,10 @@ returns c =
     let after-path-port = after-forward .before .before .before in
     let after-slice-known = after-path-port .before .before .before in
     let start = after-slice-known .before .before in
-    data-left _ _ _ (start .pre .0 .accepted) _ (start .pre .0 .decided) (known-bytes (start .args .tables .now) (after-slice-known .slice-known .given)) _ _ _ _ _
-    (after-path-port .path-port .ensures) (after-forward .forward .ensures .0) (after-forward .forward .ensures .1) _ (start .pre .1) (c .before .before .put-return .ensures)
+    data-left _ _ _ (start .pre .0 .accepted) _ (start .pre .0 .decided)
+    (known-bytes (start .args .tables .now) (after-slice-known .slice-known .given)) _ _ _ _ _
+    (after-path-port .path-port .ensures) (after-forward .forward .ensures .0) (after-forward .forward .ensures .1) _ (start .pre .1)
+    (c .before .before .put-return .ensures)
 
 pub send-spec : {M : Type 1} → statement M
 send-spec =

@@ -39,7 +39,8 @@ unfolding returnPut part
 returns c =
     let after-empty-returns = c .before .before .before .before .before .before in
     let after-next-return = after-empty-returns .before .before in
-    c .before .before .put-return .ensures ∙ rw (after-empty-returns .empty-returns .ensures, after-next-return .before .before .address-at .ensures, after-next-return .next-return .ensures)
+    c .before .before .put-return .ensures
+    ∙ rw (after-empty-returns .empty-returns .ensures, after-next-return .before .before .address-at .ensures, after-next-return .next-return .ensures)
 
 pub put-return-spec : {M : Type 1} → statement M
 put-return-spec =

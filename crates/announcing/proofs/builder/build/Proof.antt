@@ -52,7 +52,8 @@ returns-2 c =
     let s = start (c .before .before .before .before .before) in
     let zero = sym (number (c .before .before .before .before .before)) ∙ c .before .before .before .before .if1 .left in
     let w = buildable (given s) (s .args .signature .now) (length (s .args .room .now)) zero .lengths in
-    let long : length (announceWith (given s) (s .args .signature .now)) ≡ typeOneStart + blobEnd + signatureWidth + length (s .args .ratchet .now) + length (s .args .app-data .now) =
+    let long : length (announceWith (given s) (s .args .signature .now)) ≡ typeOneStart + blobEnd + signatureWidth + length (s .args .ratchet .now) + length
+    (s .args .app-data .now) =
     announce-length (given s) (s .args .signature .now) ∙ omega (arith, w .keys, w .nameHash, w .random, w .signature) in
     laid-done (announceWith (given s) (s .args .signature .now)) (s .args .room .now) zero (sym long) (c .before .before .write-announce .ensures)
 

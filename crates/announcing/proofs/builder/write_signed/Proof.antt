@@ -49,12 +49,18 @@ same-length c = search needs
 returns : tie.Need-returns
 unfolding destination
 returns c =
-    let c2 = c .before .before in
-    let c6 = c2 .before .before .before .before in
-    let c10 = c6 .before .before .before .before in
-    let c13 = c10 .before .before .before in
-    let s = c13 .before .before .before .before .before .before .before in
-    rw (c2 .copy-at2 .ensures, c6 .write-fields .ensures, c10 .copy-at .ensures, c13 .destination-of .ensures)
+    let after-copy-at2 = c .before .before in
+    let after-write-fields = after-copy-at2 .before .before .before .before in
+    let after-copy-at = after-write-fields .before .before .before .before in
+    let after-destination-of = after-copy-at .before .before .before in
+    let s = after-destination-of .before .before .before .before .before .before .before in
+    rw (
+      after-copy-at2 .copy-at2 .ensures,
+      after-write-fields .write-fields .ensures,
+      after-copy-at .copy-at .ensures,
+      after-destination-of .destination-of
+          .ensures,
+    )
     (signed-written (given s) anySignature (s .args .room .now) (able s))
 
 pub write-signed-spec : {M : Type 1} → statement M

@@ -35,9 +35,9 @@ sub-if3-2 c =
 returns-3 : tie.Need-returns-3
 unfolding announceRows firstOf _then_otherwise_
 returns-3 c =
-    let c2 = c .before .before in
-    let a = c2 .before .before .args in
-    let wrong = sym (c2 .before .wrong-lengths .ensures) ∙ c2 .if1 .left in
+    let else1 = c .before .before in
+    let a = else1 .before .before .args in
+    let wrong = sym (else1 .before .wrong-lengths .ensures) ∙ else1 .if1 .left in
     let most = ratchet-most (a .ratchet) (right _ _ _ _ _ wrong .ratchet) in
     rw (
       wrong,
@@ -48,9 +48,9 @@ returns-3 c =
 returns-4 : tie.Need-returns-4
 unfolding announceRows firstOf _then_otherwise_
 returns-4 c =
-    let c3 = c .before .before .before in
-    let a = c3 .before .before .args in
-    let wrong = sym (c3 .before .wrong-lengths .ensures) ∙ c3 .if1 .left in
+    let else1 = c .before .before .before in
+    let a = else1 .before .before .args in
+    let wrong = sym (else1 .before .wrong-lengths .ensures) ∙ else1 .if1 .left in
     let most = ratchet-most (a .ratchet) (right _ _ _ _ _ wrong .ratchet) in
     rw (
       wrong,
@@ -62,9 +62,9 @@ returns-4 c =
 returns-5 : tie.Need-returns-5
 unfolding announceRows firstOf _then_otherwise_
 returns-5 c =
-    let c3 = c .before .before .before in
-    let a = c3 .before .before .args in
-    let wrong = sym (c3 .before .wrong-lengths .ensures) ∙ c3 .if1 .left in
+    let else1 = c .before .before .before in
+    let a = else1 .before .before .args in
+    let wrong = sym (else1 .before .wrong-lengths .ensures) ∙ else1 .if1 .left in
     let most = ratchet-most (a .ratchet) (right _ _ _ _ _ wrong .ratchet) in
     rw (
       wrong,

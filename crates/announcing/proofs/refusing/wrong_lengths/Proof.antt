@@ -29,13 +29,13 @@ returns-3 c =
 returns-4 : tie.Need-returns-4
 unfolding wrongLengths _or_
 returns-4 c =
-    let c1 = c .before in
-    let c3 = c1 .before .before in
-    let a = c3 .before .args in
+    let else3 = c .before in
+    let else1 = else3 .before .before in
+    let a = else1 .before .args in
     rw (
-      eq-eqb (a .keys) keysWidth (c3 .if1 .left),
-      eq-eqb (a .name-hash) nameHashWidth (c1 .before .if2 .left),
-      eq-eqb (a .random) randomWidth (c1 .if3 .left),
+      eq-eqb (a .keys) keysWidth (else1 .if1 .left),
+      eq-eqb (a .name-hash) nameHashWidth (else3 .before .if2 .left),
+      eq-eqb (a .random) randomWidth (else3 .if3 .left),
       ne-eqb (a .ratchet) 0 (omega (arith, c .if4 .taken)),
       eq-eqb (a .ratchet) ratchetWidth (c .if4 .taken),
     )
@@ -43,13 +43,13 @@ returns-4 c =
 returns-5 : tie.Need-returns-5
 unfolding wrongLengths _or_
 returns-5 c =
-    let c2 = c .before .before in
-    let c4 = c2 .before .before in
-    let a = c4 .before .args in
+    let else3 = c .before .before in
+    let else1 = else3 .before .before in
+    let a = else1 .before .args in
     rw (
-      eq-eqb (a .keys) keysWidth (c4 .if1 .left),
-      eq-eqb (a .name-hash) nameHashWidth (c2 .before .if2 .left),
-      eq-eqb (a .random) randomWidth (c2 .if3 .left),
+      eq-eqb (a .keys) keysWidth (else1 .if1 .left),
+      eq-eqb (a .name-hash) nameHashWidth (else3 .before .if2 .left),
+      eq-eqb (a .random) randomWidth (else3 .if3 .left),
       ne-eqb (a .ratchet) 0 (c .if5 .taken),
       ne-eqb (a .ratchet) ratchetWidth (c .before .if4 .left),
     )
@@ -57,13 +57,13 @@ returns-5 c =
 returns-6 : tie.Need-returns-6
 unfolding wrongLengths _or_
 returns-6 c =
-    let c2 = c .before .before in
-    let c4 = c2 .before .before in
-    let a = c4 .before .args in
+    let else3 = c .before .before in
+    let else1 = else3 .before .before in
+    let a = else1 .before .args in
     rw (
-      eq-eqb (a .keys) keysWidth (c4 .if1 .left),
-      eq-eqb (a .name-hash) nameHashWidth (c2 .before .if2 .left),
-      eq-eqb (a .random) randomWidth (c2 .if3 .left),
+      eq-eqb (a .keys) keysWidth (else1 .if1 .left),
+      eq-eqb (a .name-hash) nameHashWidth (else3 .before .if2 .left),
+      eq-eqb (a .random) randomWidth (else3 .if3 .left),
       eq-eqb (a .ratchet) 0 (c .if5 .left),
     )
 

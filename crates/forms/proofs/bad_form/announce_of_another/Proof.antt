@@ -33,13 +33,13 @@ equal16-requires c κs = search needs
 
 returns : tie.Need-returns
 returns c =
-    let c4 = c .before .before .before .before in
-    let c6 = c4 .before .before in
-    let s = c6 .before .before .before in
-    let destination = ap (λ (q : Parts). q .destination) (c4 .parts-of .ensures) in
+    let after-parts-of = c .before .before .before .before in
+    let after-is-announce = after-parts-of .before .before in
+    let s = after-is-announce .before .before .before in
+    let destination = ap (λ (q : Parts). q .destination) (after-parts-of .parts-of .ensures) in
     let announced = c .before .announced-destination .ensures ∙ ap announcedDestination (c .before .before .payload .ensures) in
     ap not (c .equal16 .ensures ∙ ap₂ (agree addressWidth) destination announced ∙ destination-compared (s .args .packet .now) (s .pre))
-    ∙ sym (another-clauses (s .args .packet .now) ∙ and-yes _ (sym (c6 .is-announce .ensures) ∙ c4 .before .if1 .taken))
+    ∙ sym (another-clauses (s .args .packet .now) ∙ and-yes _ (sym (after-is-announce .is-announce .ensures) ∙ after-parts-of .before .if1 .taken))
 
 returns-2 : tie.Need-returns-2
 returns-2 c =

@@ -23,17 +23,17 @@ payload-requires c κs = search needs
 
 returns : tie.Need-returns
 returns c =
-    let c3 = c .before .before .before in
-    let p = c3 .before .before .args .packet .now in
-    let is = sym (c3 .is-link-proof .ensures) ∙ c .before .before .if1 .taken in
+    let after-is-link-proof = c .before .before .before in
+    let p = after-is-link-proof .before .before .args .packet .now in
+    let is = sym (after-is-link-proof .is-link-proof .ensures) ∙ c .before .before .if1 .taken in
     let long : length (payload p) ≡ leastProofLength = sym (ap length (c .before .payload .ensures)) ∙ c .if2 .taken in
     sym (proof-length-clauses p ∙ and-yes _ is ∙ ap not (or-left _ (eq-eqb (length (payload p)) leastProofLength long)))
 
 returns-2 : tie.Need-returns-2
 returns-2 c =
-    let c3 = c .before .before .before in
-    let p = c3 .before .before .args .packet .now in
-    let is = sym (c3 .is-link-proof .ensures) ∙ c .before .before .if1 .taken in
+    let after-is-link-proof = c .before .before .before in
+    let p = after-is-link-proof .before .before .args .packet .now in
+    let is = sym (after-is-link-proof .is-link-proof .ensures) ∙ c .before .before .if1 .taken in
     let other : length (payload p) ≡ leastProofLength → ⊥ = λ long. c .if2 .left (ap length (c .before .payload .ensures) ∙ long) in
     ap (λ (b : List ℕ). not (eqb (length b) longerProofLength)) (c .before .payload .ensures)
     ∙ sym (proof-length-clauses p ∙ and-yes _ is ∙ ap not (or-else _ (ne-eqb (length (payload p)) leastProofLength other)))

@@ -55,7 +55,8 @@ loop-again c =
       omega (arith, at .inv .0),
       c .greater .ensures
           ∙ ap₂ (λ (p q : ℕ). greatest p q)
-          (c .before .number-at .ensures ∙ ap number (sym (part-part (a .t1) (blobWidth * (at .i - 1)) blobWidth randomWidth emissionWidth (omega arith)))) (at .inv .1)
+          (c .before .number-at .ensures ∙ ap number (sym (part-part (a .t1) (blobWidth * (at .i - 1)) blobWidth randomWidth emissionWidth (omega arith))))
+          (at .inv .1)
           ∙ sym (ap greatestEmission (held-front (a .t1) (a .count) (c .before .before .before .before .before .pre) (at .i) some (at .inv .0))),
     )
 

@@ -24,7 +24,8 @@ returns : tie.Need-returns
 unfolding identityHash
 returns c =
     c .first-sixteen .ensures
-    ∙ ap (take addressWidth) (c .before .hash-start .ensures ∙ ap sha256-of (take-length (c .before .before .keys .result .now) ∙ c .before .before .keys .ensures))
+    ∙ ap (take addressWidth) (c .before .hash-start .ensures
+    ∙ ap sha256-of (take-length (c .before .before .keys .result .now) ∙ c .before .before .keys .ensures))
 
 pub identity-hash-spec : {M : Type 1} → statement M
 identity-hash-spec =

@@ -19,7 +19,8 @@ returns c =
     rw (refused, refused-reads longestPacket p (λ (e : readingRefusal longestPacket p ≡ 0). c .if1 .taken (refused ∙ e)))
 
 link-id-of-requires : tie.Need-link-id-of-requires
-link-id-of-requires c κs = accepted-reads longestPacket (c .before .before .before .args .packet .now) (sym (c .before .reading-refusal .ensures) ∙ c .if1 .left)
+link-id-of-requires c κs =
+    accepted-reads longestPacket (c .before .before .before .args .packet .now) (sym (c .before .reading-refusal .ensures) ∙ c .if1 .left)
 
 returns-2 : tie.Need-returns-2
 unfolding linkIdAnswer _then_otherwise_

@@ -38,10 +38,10 @@ first-sixteen-requires c κs = search needs
 
 returns : tie.Need-returns
 returns c =
-    let c3 = c .before .before .before in
-    let start = c3 .before .before .before in
+    let after-payload-start = c .before .before .before in
+    let start = after-payload-start .before .before .before in
     let p = start .args .packet .now in
-    rw (c .first-sixteen .ensures, c .before .hash-behind .ensures, c .before .before .part-of .ensures, c3 .payload-start .ensures)
+    rw (c .first-sixteen .ensures, c .before .hash-behind .ensures, c .before .before .part-of .ensures, after-payload-start .payload-start .ensures)
     (sym (link-hashed p (reads-readable longestPacket p (start .pre) .whole)))
 
 pub link-id-of-spec : {M : Type 1} → statement M

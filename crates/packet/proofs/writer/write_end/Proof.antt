@@ -31,10 +31,10 @@ returns : tie.Need-returns
 returns c =
     let a = c .before .before .before .before .before .before .before .before .before .before .before .before .before .before .before .args in
     let wide : length (a .t1) ≡ addressWidth = search needs in
-    let c6 = c .before .before .before .before .before .before in
-    let c10 = c6 .before .before .before .before in
-    rw (c .before .before .copy-at2 .ensures, c6 .set-at .ensures, c10 .copy-at .ensures)
-    (end-written (a .output .now) (a .at) (a .t1) (a .context) (a .payload .now) wide (c10 .before .before .before .before .before .pre))
+    let after-set-at = c .before .before .before .before .before .before in
+    let after-copy-at = after-set-at .before .before .before .before in
+    rw (c .before .before .copy-at2 .ensures, after-set-at .set-at .ensures, after-copy-at .copy-at .ensures)
+    (end-written (a .output .now) (a .at) (a .t1) (a .context) (a .payload .now) wide (after-copy-at .before .before .before .before .before .pre))
 
 pub write-end-spec : {M : Type 1} → statement M
 write-end-spec =

@@ -24,8 +24,10 @@ number-at-requires c κs = search needs
 returns : tie.Need-returns
 unfolding lengthOf
 returns c =
-    let c2 = c .before .before in
-    c .number-at .ensures ∙ ap (λ (k : ℕ). number (part (c2 .args .file .now) (k + offsetWidth) lengthWidth)) (sym (add-zero (contentsStart + rowWidth headWidth * c2 .args .i)))
+    let start = c .before .before in
+    c .number-at .ensures
+    ∙ ap (λ (k : ℕ). number (part (start .args .file .now) (k + offsetWidth) lengthWidth))
+    (sym (add-zero (contentsStart + rowWidth headWidth * start .args .i)))
 
 pub length-of-spec : {M : Type 1} → statement M
 length-of-spec =

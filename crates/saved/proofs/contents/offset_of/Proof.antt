@@ -21,8 +21,9 @@ number-at-requires c κs = search needs
 returns : tie.Need-returns
 unfolding offsetOf
 returns c =
-    let c2 = c .before .before in
-    c .number-at .ensures ∙ ap (λ (k : ℕ). number (part (c2 .args .file .now) k offsetWidth)) (sym (add-zero (contentsStart + rowWidth headWidth * c2 .args .i)))
+    let start = c .before .before in
+    c .number-at .ensures
+    ∙ ap (λ (k : ℕ). number (part (start .args .file .now) k offsetWidth)) (sym (add-zero (contentsStart + rowWidth headWidth * start .args .i)))
 
 pub offset-of-spec : {M : Type 1} → statement M
 offset-of-spec = tie.close (tie.spec mul-number-at add-number-at number-at-requires returns)

@@ -11,9 +11,12 @@ number-at-requires c κs = search needs
 
 cast-result : tie.Need-cast-result
 cast-result c =
-    let c2 = c .before .before in
-    let f = c2 .args .file .now in
-    record { fits = omega (arith, c .number-at .ensures, part-lt f (c2 .args .at) counterWidth (known-bytes f (c .before .shared-slice-known .given)) (c2 .pre)) }
+    let start = c .before .before in
+    let f = start .args .file .now in
+    record {
+      fits = omega
+          (arith, c .number-at .ensures, part-lt f (start .args .at) counterWidth (known-bytes f (c .before .shared-slice-known .given)) (start .pre));
+    }
 
 returns : tie.Need-returns
 returns c = search needs

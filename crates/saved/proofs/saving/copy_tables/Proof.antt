@@ -65,7 +65,8 @@ returns c =
     let room = a .room .now in
     let tables = a .tables .now in
     c .before .before .copy-at2 .ensures
-    ∙ ap (λ (r : List ℕ). patch r (bodiesAt + firstPart) (part tables firstPart (tableSize - firstPart))) (c .before .before .before .before .before .before .before .copy-at .ensures)
+    ∙ ap (λ (r : List ℕ). patch r (bodiesAt + firstPart) (part tables firstPart (tableSize - firstPart)))
+    (c .before .before .before .before .before .before .before .copy-at .ensures)
     ∙ in-two room tables firstPart (start .pre .0) (omega arith) (start .pre .1)
 
 pub copy-tables-spec : {M : Type 1} → statement M

@@ -22,12 +22,12 @@ number-of-8-at-requires-2 c κs = search needs
 returns-2 : tie.Need-returns-2
 unfolding rateEntryOk pathOf _and_
 returns-2 c =
-    let c2 = c .before .before in
-    let c3 = c2 .before in
+    let after-number-of-8-at = c .before .before in
+    let after-shared-slice-known = after-number-of-8-at .before in
     rw (
-      ← c2 .number-of-8-at .ensures,
+      ← after-number-of-8-at .number-of-8-at .ensures,
       lt-ltb _ _ (c .before .if1 .left),
-      lt-ltb _ 256 (c3 .shared-slice-known .given (pathRateAt + timeWidth) .fits),
+      lt-ltb _ 256 (after-shared-slice-known .shared-slice-known .given (pathRateAt + timeWidth) .fits),
       ← c .number-of-8-at2 .ensures,
     )
 
