@@ -5,6 +5,7 @@ mod refusing;
 mod settings;
 mod writing;
 
+pub use log::places::LOG_SIZE;
 pub use packets::mark_path_unresponsive;
 pub use packets::take_packet;
 pub use settings::add_local;
@@ -13,4 +14,3 @@ pub use settings::remove_local;
 pub use settings::renumber;
 pub use settings::set_port;
 pub use settings::set_rate;
-pub use log::places::LOG_SIZE;

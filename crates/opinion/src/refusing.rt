@@ -1,10 +1,10 @@
 // The rows of the refusal table that more than one call has.
-use numbers::CLOCK_LIMIT;
-use numbers::LEAST_OUTPUT;
-use numbers::refusals;
 use log::last_clock;
 use log::places::LIST_LIMIT;
 use log::port_at;
+use numbers::CLOCK_LIMIT;
+use numbers::LEAST_OUTPUT;
+use numbers::refusals;
 ghost use mathlib.Core.Path.{_≡_};
 ghost use Prim.Native.Nat.{_≤_};
 ghost use lib.ListN.{length};

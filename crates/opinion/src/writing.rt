@@ -1,8 +1,6 @@
 // Writing the log: one more entry, and a fresh log.
 use codes::mark_of;
 use judging::Arrived;
-use numbers::ADDRESS_WIDTH;
-use rules::RateSettings;
 use log::places::ADDS;
 use log::places::BODY_AT;
 use log::places::CAME;
@@ -24,6 +22,8 @@ use log::places::RENUMBERS;
 use log::places::SETS_PORT;
 use log::places::SETS_RATE;
 use log::places::TARGET_WIDTH;
+use numbers::ADDRESS_WIDTH;
+use rules::RateSettings;
 ghost use mathlib.Core.Path.{_≡_};
 ghost use mathlib.Core.Bool.{true};
 ghost use mathlib.Core.List.{_++_};
