@@ -4,7 +4,7 @@ use numbers::LEAST_OUTPUT;
 use numbers::LONGEST_PACKET;
 use numbers::refusals;
 use packet::places::KEYS_WIDTH;
-use packet::places::LEAST_PAYLOAD;
+use packet::places::LEAST_ANNOUNCE;
 use packet::places::NAME_HASH_WIDTH;
 use packet::places::RANDOM_WIDTH;
 use packet::places::RATCHET_WIDTH;
@@ -16,7 +16,7 @@ ghost use Rattle.announcing.specs.Announcing.{wrongLengths, announceRows
 ghost use Rattle.announcing.specs.Steps.{announceLength};
 
 // The announce without a ratchet and app data.
-pub const LEAST_LENGTH: usize = TYPE_ONE_START + LEAST_PAYLOAD;
+pub const LEAST_LENGTH: usize = TYPE_ONE_START + LEAST_ANNOUNCE;
 
 // Whether one of these lengths is wrong. A ratchet may be missing.
 fn wrong_lengths(

@@ -23,7 +23,7 @@ use Rattle.outgoing.proofs.LeavingLaws.{whole}
 use Rattle.forms.specs.Form.{formOf}
 use Rattle.forms.specs.declared.Form.{Form}
 use Rattle.forms.specs.declared.Form.the-variants.{Good, Bad}
-use Rattle.numbers.specs.Numbers.{addressWidth, leastProofLength, longerProofLength}
+use Rattle.numbers.specs.Numbers.{addressWidth, shorterLinkProof, longerLinkProof}
 
 -- what the clauses behind the first n say
 unfoldable pub formFrom : ℕ → List ℕ → Form
@@ -57,7 +57,7 @@ module _ (p : List ℕ) where
   link-proof-clauses = refl
 
   pub proof-length-clauses : linkProofLength p
-      ≡ (isLinkProof p and not (eqb (length (payload p)) leastProofLength or eqb (length (payload p)) longerProofLength))
+      ≡ (isLinkProof p and not (eqb (length (payload p)) shorterLinkProof or eqb (length (payload p)) longerLinkProof))
   unfolding linkProofLength
   proof-length-clauses = refl
 

@@ -34,7 +34,7 @@ abbrev pub arrivalOf : List ℕ → Arrived → Arrival
 arrivalOf bytes m = record { bytes = bytes; port = m .port; clock = m .clock; signed = m .signed }
 
 -- ---- the records, under the key that they were looked for by
--- of a path's blobs: a place for each that it may hold
+-- the bytes of a path's blobs: a place for each that it may hold
 abbrev pub blobBytes : ℕ
 blobBytes = blobWidth * blobLimit
 

@@ -1,5 +1,5 @@
 // Where the parts of the log lie, how wide they are, and the kinds of its entries: those of specs/Log.antt, in code.
-// Each number once.
+// Each number once. How many calls are listed is `listLimit`, history/specs/Opinion.antt.
 use numbers::ADDRESS_WIDTH;
 use numbers::LONGEST_PACKET;
 

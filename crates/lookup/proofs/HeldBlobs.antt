@@ -1,5 +1,5 @@
 -- Loops over the blobs that a path holds.
-use Prim.Native.Nat.{ℕ, zero, suc, _+_, _-_, _*_, _%_, _≤_, _<_}
+use Prim.Native.Nat.{ℕ, zero, suc, _+_, _-_, _*_, _%_, _^_, _≤_, _<_}
 use native.Mathlib.Nat.{not-suc-le-zero, le-of-suc-le-suc}
 use native.Mathlib.Numerals.{add-one}
 use native.Mathlib.Omega.{arith}
@@ -19,7 +19,7 @@ use Rattle.octets.proofs.ListOf.{listOf-length, listOf-at}
 use Rattle.octets.proofs.Part.{part-length, part-part, part-eight}
 use Rattle.packet.specs.Announce.{emissionOf}
 use Rattle.packet.specs.Places.{emissionWidth}
-use Rattle.numbers.specs.Numbers.{blobLimit, clockLimit}
+use Rattle.numbers.specs.Numbers.{blobLimit}
 use Rattle.rules.specs.Blobs.{held, isAmong, greatest, greatestEmission}
 use Rattle.codes.proofs.Law.{sees-part}
 use Rattle.codes.proofs.Single.{octets-lawful}
@@ -56,6 +56,10 @@ lastWordAt = blobWidth - wordWidth
 abbrev pub emissionAt : ℕ
 emissionAt = wordWidth - emissionWidth
 
+-- what the bytes of an emission hold
+abbrev pub emissionLimit : ℕ
+emissionLimit = 256 ^ emissionWidth
+
 -- ---- the last eight bytes first: where those at a place are not the blob's, it is another
 pub other-blob : (b x : List ℕ) (at : ℕ) → at + blobWidth ≤ length b → length x ≡ blobWidth → (word (part b (at + lastWordAt) wordWidth) ≡ lastWord x → ⊥)
     → false ≡ agree (length x) (part b at (length x)) x
@@ -88,14 +92,14 @@ greatest-more h i l = sym (ap greatestEmission (drop-cons h i [] l))
 
 -- ---- a blob's emission is the low five of its last eight bytes
 pub low-five : (t : List ℕ) (a : ℕ) → Bytes t → a + wordWidth ≤ length t
-    → number (part t a wordWidth) % clockLimit ≡ number (part t (a + emissionAt) emissionWidth)
+    → number (part t a wordWidth) % emissionLimit ≡ number (part t (a + emissionAt) emissionWidth)
 unfolding number numberFrom part
 low-five t a h l =
     let eight = part-eight t a l in
     let five : number (part t (a + emissionAt) emissionWidth) ≡ number
     (getD t (a + 3) 0 ∷ getD t (a + 4) 0 ∷ getD t (a + 5) 0 ∷ getD t (a + 6) 0 ∷ getD t (a + 7) 0 ∷ []) =
     ap number (sym (part-part t a wordWidth emissionAt emissionWidth (omega arith)) ∙ ap (λ (x : List ℕ). part x emissionAt emissionWidth) eight) in
-    ap (λ (x : List ℕ). number x % clockLimit) eight ∙ omega (arith, h (a + 3), h (a + 4), h (a + 5), h (a + 6), h (a + 7)) ∙ sym five
+    ap (λ (x : List ℕ). number x % emissionLimit) eight ∙ omega (arith, h (a + 3), h (a + 4), h (a + 5), h (a + 6), h (a + 7)) ∙ sym five
 
 -- ---- the record b of a path
 module _ (b : List ℕ) where

@@ -60,14 +60,14 @@ abbrev pub localCount : ℕ
 localCount = 16
 
 -- test 3: a link request with a "payload under 64"; a link proof "whose payload isn't 96 or 99"
-abbrev pub leastRequestLength : ℕ
-leastRequestLength = 64
+abbrev pub leastLinkRequest : ℕ
+leastLinkRequest = 64
 
-abbrev pub leastProofLength : ℕ
-leastProofLength = 96
+abbrev pub shorterLinkProof : ℕ
+shorterLinkProof = 96
 
-abbrev pub longerProofLength : ℕ
-longerProofLength = 99
+abbrev pub longerLinkProof : ℕ
+longerLinkProof = 99
 
 -- test 5: "Hops 128 or more"
 abbrev pub hopsLimit : ℕ

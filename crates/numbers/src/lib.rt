@@ -69,11 +69,11 @@ pub const PROVED_LIFETIME: u64 = 720;
 pub const HOP_LIFETIME: u64 = 6;
 
 // Test 3: the least payload of a link request, and the two lengths that a link proof's may have.
-pub const LEAST_REQUEST_LENGTH: usize = 64;
+pub const LEAST_LINK_REQUEST: usize = 64;
 
-pub const LEAST_PROOF_LENGTH: usize = 96;
+pub const SHORTER_LINK_PROOF: usize = 96;
 
-pub const LONGER_PROOF_LENGTH: usize = 99;
+pub const LONGER_LINK_PROOF: usize = 99;
 
 // A packet with so many hops goes no further.
 pub const HOPS_LIMIT: u8 = 128;

@@ -34,7 +34,7 @@ use Rattle.history.specs.After.{called}
 use Rattle.history.specs.Opinion.{listLimit, packetRefused, callRows}
 use Rattle.log.specs.Log.{addressWidth, countAt, logSize, ownIn, callsIn, listedIn, knownIn}
 use Rattle.opinion.specs.Calls.{Opines, Settles, IsFresh}
-use Rattle.opinion.specs.Steps.{headBytes, rateBytes, withEntry, Adds}
+use Rattle.opinion.specs.Steps.{headBytes, rateBody, withEntry, Adds}
 use Rattle.opinion.specs.Agreeing.{Asked}
 use Rattle.opinion.proofs.Written.{fresh-log}
 use Rattle.opinion.proofs.Put.{put-long, came-put, port-put, rate-put, added-put, removed-put, mark-put, map-put}
@@ -92,7 +92,7 @@ module _ (log : List ℕ) (n : ℕ) (long : length log ≡ logSize) (few : n < l
   can-list k (sets-rate target grace penalty) wide (fine, _) = (
     _,
     rate-put log n long few (makeRateSettings target grace penalty) (not-false _ fine),
-    put-long log n long few 3 0 false 0 0 0 (rateBytes target grace penalty) (omega arith),
+    put-long log n long few 3 0 false 0 0 0 (rateBody target grace penalty) (omega arith),
   )
   can-list k (adds address) wide _ =
       (_, added-put log n long few address wide, put-long log n long few 4 0 false 0 0 0 address (omega arith))

@@ -26,7 +26,7 @@ use Rattle.judging.specs.Seen.{arrivalOf}
 use Rattle.history.specs.After.{Entry, came, called}
 use Rattle.history.specs.Opinion.{listLimit}
 use Rattle.log.specs.Log.{entryWidth, logSize, packetIn, rateIn, addressIn, kindIn, entryOf, bodyAt, targetWidth, penaltyWidth}
-use Rattle.opinion.specs.Steps.{headBytes, rateBytes, withEntry, Adds}
+use Rattle.opinion.specs.Steps.{headBytes, rateBody, withEntry, Adds}
 use Rattle.log.proofs.Entries.{kind-came, kind-rate, kind-other, entry-came, entry-port, entry-rate, entry-added, entry-removed, entry-marked, entry-renumbered}
 use Rattle.opinion.proofs.Written.{entry-long, adds-entry, written, head-port, head-word, head-clock, head-length, head-body}
 
@@ -116,15 +116,18 @@ module _ (log : List ℕ) (n : ℕ) (size : length log ≡ logSize) (few : n < l
         (λ rest. entry-marked _ (plain-kind 6 _ refl refl (omega arith))
         ∙ ap₂ (λ (x : List ℕ) (t : ℕ). called (marks x t)) (there 6 clock rest) (head-clock 6 0 false 0 clock 0 (address ++ rest) small))
 
-    pub map-put : oneToOne address ≡ true → Adds log n (called (renumbers address)) (withEntry log n (headBytes 0 0 false 0 0 0 ++ address))
-    map-put one =
-        put 0 0 false 0 0 0 address (omega arith) (called (renumbers address))
-        (λ rest. entry-renumbered _ (plain-kind 0 _ refl refl (omega arith))
-        ∙ ap (λ (x : List ℕ). called (renumbers x))
-        (ap (map (λ x. x % portCount)) (there 0 0 rest) ∙ small-map address (λ i l. image-below address one i (subst (λ (k : ℕ). i < k) wide l))))
+  -- a map: the sixteen images stand where an address does
+  pub map-put : (images : List ℕ) → length images ≡ portCount → oneToOne images ≡ true
+      → Adds log n (called (renumbers images)) (withEntry log n (headBytes 0 0 false 0 0 0 ++ images))
+  map-put images wide one =
+      put 0 0 false 0 0 0 images (omega arith) (called (renumbers images))
+      (λ rest. entry-renumbered _ (plain-kind 0 _ refl refl (omega arith))
+      ∙ ap (λ (x : List ℕ). called (renumbers x))
+      (ap (map (λ x. x % portCount)) (there images wide 0 0 rest)
+      ∙ small-map images (λ i l. image-below images one i (subst (λ (k : ℕ). i < k) wide l))))
 
   pub rate-put : (s : RateSettings) → rateSettingsOk s ≡ true → Adds log n (called (sets-rate (s .target) (s .grace) (s .penalty)))
-      (withEntry log n (headBytes 3 0 false 0 0 0 ++ rateBytes (s .target) (s .grace) (s .penalty)))
+      (withEntry log n (headBytes 3 0 false 0 0 0 ++ rateBody (s .target) (s .grace) (s .penalty)))
   unfolding rateSettingsOk bigEndian part
   rate-put s ok =
       put 3 0 false 0 0 0 body (omega arith) (called (sets-rate (s .target) (s .grace) (s .penalty))) read
@@ -139,7 +142,7 @@ module _ (log : List ℕ) (n : ℕ) (size : length log ≡ logSize) (few : n < l
       penalty = leb-true _ _ (and-right _ _ (and-right _ _ ok))
 
       body : List ℕ
-      body = rateBytes (s .target) (s .grace) (s .penalty)
+      body = rateBody (s .target) (s .grace) (s .penalty)
 
       whole : (rest : List ℕ) → rateIn (written 3 0 false 0 0 0 (body ++ rest)) ≡ s
       whole rest = λ i.

@@ -19,8 +19,8 @@ headBytes kind port word mode clock length =
     kind ∷ port ∷ (word then 1 otherwise 0) ∷ mode ∷ (bigEndian clockWidth clock ++ bigEndian lengthWidth length)
 
 -- the body of an entry that sets the rate
-abbrev pub rateBytes : ℕ → ℕ → ℕ → List ℕ
-rateBytes target grace penalty = bigEndian targetWidth target ++ (bigEndian graceWidth grace ++ bigEndian penaltyWidth penalty)
+abbrev pub rateBody : ℕ → ℕ → ℕ → List ℕ
+rateBody target grace penalty = bigEndian targetWidth target ++ (bigEndian graceWidth grace ++ bigEndian penaltyWidth penalty)
 
 unfoldable pub withEntry : List ℕ → ℕ → List ℕ → List ℕ
 withEntry log n bytes = patch (patch log (entriesAt + entryWidth * n) bytes) countAt ((n + 1) ∷ [])

@@ -34,12 +34,12 @@ module _ (test : ℕ → Bool) where
     unfolding portSet
     set-end l m = inv ∙ ap (setBelow test) (le-antisymm l m)
 
--- ---- one port
+-- ---- one port, in the sixteen bits of a set
 module _ (port : ℕ) (l : port < portCount) where
-  pub one-shifted : (1 * 2 ^ port) % 2 ^ portCount ≡ 2 ^ port
-  one-shifted = shl-exact {a = 1} 1 port portCount (lit< tt) (omega arith) ∙ one-mul (2 ^ port)
+  pub one-shifted : (1 * 2 ^ port) % 2 ^ 16 ≡ 2 ^ port
+  one-shifted = shl-exact {a = 1} 1 port 16 (lit< tt) (omega arith) ∙ one-mul (2 ^ port)
 
-  pub port-fits : (ports : ℕ) → ports < 2 ^ port → ports + 2 ^ port < 2 ^ portCount
+  pub port-fits : (ports : ℕ) → ports < 2 ^ port → ports + 2 ^ port < 2 ^ 16
   port-fits ports b =
-      let most : 2 ^ suc port ≤ 2 ^ portCount = pow-mono {i = suc port} {j = portCount} (omega arith) in
+      let most : 2 ^ suc port ≤ 2 ^ 16 = pow-mono {i = suc port} {j = 16} (omega arith) in
       omega (arith, b, most, two-pow-succ port)

@@ -105,7 +105,7 @@ module _ (size : ℕ) (p : List ℕ) (h : reads size p ≡ true) where
   -- another hops byte
   module _ (hops : ℕ) where
     hops-header : headerOf p ≡ headerOf (set p hopsAt hops)
-    hops-header = sym (getD-set-other p 1 0 hops 0 (λ (e : 0 ≡ hopsAt). omega arith))
+    hops-header = sym (getD-set-other p hopsAt 0 hops 0 (λ (e : 0 ≡ hopsAt). omega arith))
 
     hops-behind : drop (payloadStart (headerOf p) - endWidth) p ≡ drop (payloadStart (headerOf p) - endWidth) (set p hopsAt hops)
     hops-behind = sym (drop-set-lt (payloadStart (headerOf p) - endWidth) p hopsAt hops (omega (arith, start-least (headerOf p))))

@@ -1,5 +1,5 @@
 -- Document 01, "Packet layout", and source 000's order of an announce's payload: how wide the fields are and where they stand. Definitions, contracts and
--- laws use these names; the bytes that the documents number stand in the comments, and `as-numbered` has them.
+-- laws use these names; the bytes that the documents number stand in the comments, and in the equations at the end.
 use Prim.Native.Nat.{ℕ, _+_}
 use mathlib.Core.Path.{_≡_, refl}
 pub use Rattle.numbers.specs.Numbers.{addressWidth, digestWidth, blobWidth}
@@ -72,7 +72,11 @@ abbrev pub signatureWidth : ℕ
 signatureWidth = 64
 
 -- ---- the documents' own numbers
-pub as-numbered : (secondAddressAt ≡ 18)
-    × ((typeOneContextAt ≡ 18) × ((typeTwoContextAt ≡ 34) × ((typeOneStart ≡ 19) × ((typeTwoStart ≡ 35)
-    × ((blobAt ≡ 74) × ((blobEnd ≡ 84) × (randomWidth + emissionWidth ≡ blobWidth)))))))
-as-numbered = (refl, (refl, (refl, (refl, (refl, (refl, (refl, refl)))))))
+pub packet-numbered : (addressAt ≡ 2) × ((secondAddressAt ≡ 18) × ((typeOneContextAt ≡ 18) × ((typeTwoContextAt ≡ 34)
+    × ((typeOneStart ≡ 19) × (typeTwoStart ≡ 35)))))
+packet-numbered = (refl, (refl, (refl, (refl, (refl, refl)))))
+
+-- an announce's least payload: 148, or 180 with a ratchet
+pub announce-numbered : (nameHashAt ≡ 64) × ((blobAt ≡ 74) × ((blobEnd ≡ 84) × ((randomWidth + emissionWidth ≡ blobWidth)
+    × ((blobEnd + signatureWidth ≡ 148) × (blobEnd + ratchetWidth + signatureWidth ≡ 180)))))
+announce-numbered = (refl, (refl, (refl, (refl, (refl, refl)))))

@@ -6,8 +6,8 @@ use super::places::BLOB_AT;
 use super::places::BLOB_END;
 use super::places::EMISSION_WIDTH;
 use super::places::KEYS_WIDTH;
-use super::places::LEAST_PAYLOAD;
-use super::places::LEAST_WITH_RATCHET;
+use super::places::LEAST_ANNOUNCE;
+use super::places::LEAST_ANNOUNCE_WITH_RATCHET;
 use super::places::NAME_HASH_AT;
 use super::places::NAME_HASH_WIDTH;
 use super::places::RANDOM_WIDTH;
@@ -55,9 +55,9 @@ pub fn least_announce(header: u8) -> usize
     ensures { λ r. ⌜ r ≡ leastAnnounce header ⌝ }
 {
     if context_flag(header) {
-        return LEAST_WITH_RATCHET;
+        return LEAST_ANNOUNCE_WITH_RATCHET;
     }
-    LEAST_PAYLOAD
+    LEAST_ANNOUNCE
 }
 
 fn identity_hash(body: &[u8]) -> [u8; 16]

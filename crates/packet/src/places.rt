@@ -1,5 +1,5 @@
 // How wide the fields of a packet and of an announce's payload are, and where they stand: those of specs/Places.antt,
-// in code.
+// in code, and the sums that code needs as one number.
 use numbers::ADDRESS_WIDTH;
 use numbers::BLOB_WIDTH;
 
@@ -41,14 +41,14 @@ pub const RANDOM_WIDTH: usize = 5;
 
 pub const EMISSION_WIDTH: usize = 5;
 
-// The ratchet, where there is one, and the signature.
+// Where the blob ends; behind it the ratchet, where there is one, and the signature.
 pub const BLOB_END: usize = BLOB_AT + BLOB_WIDTH;
 
 pub const RATCHET_WIDTH: usize = 32;
 
 pub const SIGNATURE_WIDTH: usize = 64;
 
-// The least payload, without a ratchet and with one: all fields but the app data.
-pub const LEAST_PAYLOAD: usize = BLOB_END + SIGNATURE_WIDTH;
+// An announce's least payload, without a ratchet and with one: all fields but the app data.
+pub const LEAST_ANNOUNCE: usize = BLOB_END + SIGNATURE_WIDTH;
 
-pub const LEAST_WITH_RATCHET: usize = LEAST_PAYLOAD + RATCHET_WIDTH;
+pub const LEAST_ANNOUNCE_WITH_RATCHET: usize = LEAST_ANNOUNCE + RATCHET_WIDTH;

@@ -16,7 +16,7 @@ use Rattle.octets.proofs.ListOf.{listOf-length, listOf-at, listOf-cong}
 use Rattle.octets.proofs.Joined.{joined-length}
 use Rattle.octets.proofs.Part.{part-part, part-mid, part-at, part-whole, part-one, part-again, part-split}
 use Rattle.recording.specs.Shape.{entryPlace, sumBelow, lengthWidth, lengthLimit}
-use Rattle.recording.specs.Format.{Entry, headWidth, entryBody, fileOf, RecordableEntry, noEntry, Recordable, longestFile, clockLimit}
+use Rattle.recording.specs.Format.{Entry, headWidth, entryBody, fileOf, RecordableEntry, noEntry, Recordable, longestFile, recordedClockLimit}
 use Rattle.recording.specs.Writer.{givenWidth, givenCount, givenClock, givenPort, givenWord, givenLength, givenStart, givenEntry, givenEntries, givenRow, givenOf, bodiesOf, fileLength, givenClockWidth, givenPortAt, givenWordAt, givenLengthAt}
 use Rattle.recording.proofs.Sums.{sum-cong, joined-rows, joined-sum, joined-found, joined-row, part-last}
 use Rattle.recording.proofs.ShapeLaws.{longOf, part-three}
@@ -53,7 +53,7 @@ module _ (x : ℕ → Entry) (n : ℕ) where
   given-byte i k l m =
       sym (part-at given (givenWidth * i) givenWidth k m) ∙ ap (λ (r : List ℕ). getD r k 0) (given-row i l)
 
-  clock-back : (i : ℕ) → i < n → x i .clock < clockLimit → givenClock given i ≡ x i .clock
+  clock-back : (i : ℕ) → i < n → x i .clock < recordedClockLimit → givenClock given i ≡ x i .clock
   unfolding givenClock givenRow
   clock-back i l small =
       ap number
@@ -108,7 +108,7 @@ module _ (x : ℕ → Entry) (n : ℕ) where
         let below : (i : ℕ) → i < givenCount given → i < n = λ i m. subst (λ (k : ℕ). i < k) given-count m in
         record {
           words = λ i m. subst (λ (k : ℕ). k < 2) (sym (word-back i (below i m))) (each i (below i m) .word);
-          clocks = λ i m. subst (λ (k : ℕ). k < clockLimit) (sym (clock-back i (below i m) (each i (below i m) .clock))) (each i (below i m) .clock);
+          clocks = λ i m. subst (λ (k : ℕ). k < recordedClockLimit) (sym (clock-back i (below i m) (each i (below i m) .clock))) (each i (below i m) .clock);
           whole = ap (λ (k : ℕ). k % givenWidth) given-length ∙ mul-mod-right givenWidth n;
           adds = ap (givenStart given) given-count ∙ start-back n (le-refl n) ∙ sym (joined-sum entryBody x n);
           short = subst (λ (k : ℕ). k ≤ longestFile) (sym given-fileLength) short;

@@ -16,7 +16,7 @@ use Rattle.octets.proofs.BigEndian.{bigEndian-length, number-bigEndian}
 use Rattle.octets.proofs.ListOf.{listOf-cong}
 use Rattle.octets.proofs.Part.{part-part, part-mid, part-at}
 use Rattle.recording.specs.Shape.{entryPlace, shapeOf, countOf, offsetOf, lengthOf, sumBelow, countLimit, offsetLimit, lengthLimit}
-use Rattle.recording.specs.Format.{Entry, headWidth, headOf, entryBody, fileOf, RecordableEntry, Recordable, longestFile, clockWidth, portAt, wordAt, clockLimit}
+use Rattle.recording.specs.Format.{Entry, headWidth, headOf, entryBody, fileOf, RecordableEntry, Recordable, longestFile, clockWidth, portAt, wordAt, recordedClockLimit}
 use Rattle.recording.specs.Reader.{clockOf, portOf, wordOf, isThere, entryOf, entriesOf}
 use Rattle.recording.proofs.Sums.{sum-within}
 use Rattle.recording.proofs.ShapeLaws.{part-lt, longOf, shape-again, shape-length, shape-head, shape-offset, shape-long, shape-body, shape-kind, shape-edition, shape-count, shape-shaped, shape-bytes}
@@ -43,7 +43,7 @@ module _ (x : ℕ → Entry) (n : ℕ) where
   made-byte i k l m =
       sym (part-at made (entryPlace headWidth i) headWidth k m) ∙ ap (λ (r : List ℕ). getD r k 0) (made-head i l)
 
-  made-clock : (i : ℕ) → i < n → x i .clock < clockLimit → clockOf made i ≡ x i .clock
+  made-clock : (i : ℕ) → i < n → x i .clock < recordedClockLimit → clockOf made i ≡ x i .clock
   unfolding clockOf headOf
   made-clock i l small =
       ap number

@@ -24,7 +24,7 @@ use Rattle.octets.proofs.Index.{and-left, and-right, and-both, and-no, and-yes,
 use Rattle.octets.proofs.Listed.{here, past, allGive, refuses, rest-alike, rows-passed, none-first}
 use Rattle.octets.proofs.Part.{part-split, part-one, part-again, part-length, part-whole, patch-join}
 use Rattle.recording.specs.Shape.{entryPlace, rowOf, sumBelow, countAt, countWidth, contentsStart, offsetWidth, lengthWidth, lengthLimit, longestBody}
-use Rattle.recording.specs.Format.{recordingKind, recordingEdition, headWidth, headOf, entryBody, fileOf, longestFile, clockWidth, wordAt, lengthAt, entryWidth, mostEntries, clockBits, clockLimit}
+use Rattle.recording.specs.Format.{recordingKind, recordingEdition, headWidth, headOf, entryBody, fileOf, longestFile, clockWidth, wordAt, lengthAt, entryWidth, mostEntries, clockBits, recordedClockLimit}
 use Rattle.recording.specs.Writer.{givenWidth, givenCount, givenClock, givenPort, givenWord, givenLength, givenStart, givenEntry, givenEntries, givenWordsWrong, givenClocksWrong, addUp, fileLength, writingRows, writingRefusal, writing, givenPortAt, givenWordAt, givenLengthAt, givenHeadAt}
 use Rattle.recording.specs.Steps.{headRows, lengthRows, startBytes, copiedRow, copiedRows}
 use Rattle.recording.proofs.Sums.{sum-none, sum-more, sum-bound, sum-within, sum-cong, sum-const, joined-cong, joined-none, joined-more, joined-cut, joined-sum, patch-three}
@@ -110,7 +110,7 @@ module _ (g bodies : List ℕ) (room : ℕ) where
 pub record HeadsPassed (g : List ℕ) (words clocks i : ℕ) : Type 0 where
   pub within : i ≤ givenCount g
   pub smallWords : ltb words 2 ≡ allBelow (λ j. ltb (givenWord g j) 2) i
-  pub smallClocks : ltb clocks clockLimit ≡ allBelow (λ j. ltb (givenClock g j) clockLimit) i
+  pub smallClocks : ltb clocks recordedClockLimit ≡ allBelow (λ j. ltb (givenClock g j) recordedClockLimit) i
 
 pub heads-none : (g : List ℕ) → HeadsPassed g 0 0 0
 unfolding allBelow
@@ -130,9 +130,9 @@ module _ {g : List ℕ} {words clocks i : ℕ} (p : HeadsPassed g words clocks i
     unfolding givenWordsWrong
     words-decide = ap not (sym (p .smallWords ∙ ap (allBelow (λ j. ltb (givenWord g j) 2)) (le-antisymm (p .within) l)))
 
-    clocks-decide : givenClocksWrong g ≡ not (ltb clocks clockLimit)
+    clocks-decide : givenClocksWrong g ≡ not (ltb clocks recordedClockLimit)
     unfolding givenClocksWrong
-    clocks-decide = ap not (sym (p .smallClocks ∙ ap (allBelow (λ j. ltb (givenClock g j) clockLimit)) (le-antisymm (p .within) l)))
+    clocks-decide = ap not (sym (p .smallClocks ∙ ap (allBelow (λ j. ltb (givenClock g j) recordedClockLimit)) (le-antisymm (p .within) l)))
 
     pub refused-word : 1 < words → firstOf (headRows g) 0 ≡ 23
     refused-word h = here _ 23 _ 0 (words-decide ∙ ap not (le-ltb words 2 h))
@@ -141,16 +141,16 @@ module _ {g : List ℕ} {words clocks i : ℕ} (p : HeadsPassed g words clocks i
       words-small : givenWordsWrong g ≡ false
       words-small = words-decide ∙ ap not (lt-ltb words 2 (omega arith))
 
-      pub refused-clock : clockLimit ≤ clocks → firstOf (headRows g) 0 ≡ 5
-      refused-clock k = past _ 23 _ 0 words-small ∙ here _ 5 _ 0 (clocks-decide ∙ ap not (le-ltb clocks clockLimit k))
+      pub refused-clock : recordedClockLimit ≤ clocks → firstOf (headRows g) 0 ≡ 5
+      refused-clock k = past _ 23 _ 0 words-small ∙ here _ 5 _ 0 (clocks-decide ∙ ap not (le-ltb clocks recordedClockLimit k))
 
-      pub heads-taken : clocks < clockLimit → firstOf (headRows g) 0 ≡ 0
-      heads-taken k = none-first (headRows g) 0 (words-small, (clocks-decide ∙ ap not (lt-ltb clocks clockLimit k), tt))
+      pub heads-taken : clocks < recordedClockLimit → firstOf (headRows g) 0 ≡ 0
+      heads-taken k = none-first (headRows g) 0 (words-small, (clocks-decide ∙ ap not (lt-ltb clocks recordedClockLimit k), tt))
 
 -- ---- what the writer takes
 pub record Writable (g bodies : List ℕ) (room : ℕ) : Type 0 where
   pub words : (i : ℕ) → i < givenCount g → givenWord g i < 2
-  pub clocks : (i : ℕ) → i < givenCount g → givenClock g i < clockLimit
+  pub clocks : (i : ℕ) → i < givenCount g → givenClock g i < recordedClockLimit
   pub whole : length g % givenWidth ≡ 0
   pub adds : givenStart g (givenCount g) ≡ length bodies
   pub short : fileLength g bodies ≤ longestFile
@@ -168,7 +168,7 @@ module _ (g bodies : List ℕ) (room : ℕ) where
       let up = not-false _ (or-no-left _ _ a) in
       record {
         words = λ i l. ltb-true (givenWord g i) 2 (all-at (λ j. ltb (givenWord g j) 2) (givenCount g) i (not-false _ v) l);
-        clocks = λ i l. ltb-true (givenClock g i) clockLimit (all-at (λ j. ltb (givenClock g j) clockLimit) (givenCount g) i (not-false _ c) l);
+        clocks = λ i l. ltb-true (givenClock g i) recordedClockLimit (all-at (λ j. ltb (givenClock g j) recordedClockLimit) (givenCount g) i (not-false _ c) l);
         whole = eqb-true _ 0 (and-left _ _ up);
         adds = eqb-true _ _ (and-right _ _ up);
         short = ltb-false longestFile (fileLength g bodies) (or-no-right _ _ a);
@@ -179,7 +179,8 @@ module _ (g bodies : List ℕ) (room : ℕ) where
   unfolding givenWordsWrong givenClocksWrong
   writes w =
       let words = ap not (all-intro (λ i. ltb (givenWord g i) 2) (givenCount g) (λ i l. lt-ltb (givenWord g i) 2 (w .words i l))) in
-      let clocks = ap not (all-intro (λ i. ltb (givenClock g i) clockLimit) (givenCount g) (λ i l. lt-ltb (givenClock g i) clockLimit (w .clocks i l))) in
+      let clocks = ap not (all-intro (λ i. ltb (givenClock g i) recordedClockLimit) (givenCount g)
+      (λ i l. lt-ltb (givenClock g i) recordedClockLimit (w .clocks i l))) in
       lengths-decide g bodies room (past _ 23 _ 0 words ∙ past _ 5 [] 0 clocks ∙ none-first [] 0 tt)
       ∙ lengths-taken g bodies room (add-up g bodies (w .whole) (w .adds)) (w .short) (w .roomy)
 

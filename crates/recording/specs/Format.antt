@@ -48,12 +48,12 @@ entryWidth = rowWidth headWidth
 abbrev pub mostEntries : ℕ
 mostEntries = (longestFile - contentsStart) / entryWidth
 
--- a clock has the bits of its five bytes
+-- what the five bytes of a clock hold; document 01's limit on clocks is the same number
 abbrev pub clockBits : ℕ
 clockBits = 8 * clockWidth
 
-abbrev pub clockLimit : ℕ
-clockLimit = 2 ^ clockBits
+abbrev pub recordedClockLimit : ℕ
+recordedClockLimit = 2 ^ clockBits
 
 unfoldable pub headOf : Entry → List ℕ
 headOf e = bigEndian clockWidth (e .clock) ++ (e .port ∷ e .word ∷ [])
@@ -66,7 +66,7 @@ fileOf es = shapeOf recordingKind recordingEdition headWidth headOf entryBody es
 
 -- ---- what a recording can hold: an entry's numbers have no bounds of their own here
 pub record RecordableEntry (e : Entry) : Type 0 where
-  pub clock : e .clock < clockLimit
+  pub clock : e .clock < recordedClockLimit
   pub port : e .port < 256
   pub word : e .word < 2
   pub body : Bytes (e .body)

@@ -78,7 +78,7 @@ kindOf f = getD f 0 0
 unfoldable pub editionOf : List ℕ → ℕ
 editionOf f = getD f 1 0
 
--- before the contents' start there is no whole count: 0
+-- a file that ends before the contents' start has no whole count: 0
 unfoldable pub countOf : List ℕ → ℕ
 countOf f = ltb (length f) contentsStart then 0 otherwise number (part f countAt countWidth)
 

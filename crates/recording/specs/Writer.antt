@@ -11,7 +11,7 @@ use Rattle.octets.specs.Listed.{Test, _gives_otherwise_, firstOf}
 use Rattle.octets.specs.Part.{part, patch, joined}
 use Rattle.octets.specs.BigEndian.{number, bigEndian}
 use Rattle.recording.specs.Shape.{lengthWidth, entryPlace, sumBelow}
-use Rattle.recording.specs.Format.{Entry, longestFile, clockWidth, headWidth, clockLimit, entryBody, fileOf}
+use Rattle.recording.specs.Format.{Entry, longestFile, clockWidth, headWidth, recordedClockLimit, entryBody, fileOf}
 use Rattle.recording.specs.declared.Written.{Written}
 
 abbrev pub givenClockWidth : ℕ
@@ -70,7 +70,7 @@ unfoldable pub givenWordsWrong : List ℕ → Bool
 givenWordsWrong g = not (allBelow (λ i. ltb (givenWord g i) 2) (givenCount g))
 
 unfoldable pub givenClocksWrong : List ℕ → Bool
-givenClocksWrong g = not (allBelow (λ i. ltb (givenClock g i) clockLimit) (givenCount g))
+givenClocksWrong g = not (allBelow (λ i. ltb (givenClock g i) recordedClockLimit) (givenCount g))
 
 -- no entry is cut, and the bodies are as long as the lengths' sum
 unfoldable pub addUp : List ℕ → List ℕ → Bool

@@ -48,7 +48,7 @@ pub const LENGTH_AT: usize = OFFSET_AT + OFFSET_WIDTH;
 
 pub const LENGTH_WIDTH: usize = 2;
 
-// What a length's two bytes hold.
+// The most that a length's two bytes hold.
 pub const LONGEST_BODY: usize = 65_535;
 
 pub const ENTRY_WIDTH: usize = LENGTH_AT + LENGTH_WIDTH;
@@ -56,7 +56,8 @@ pub const ENTRY_WIDTH: usize = LENGTH_AT + LENGTH_WIDTH;
 // The most entries that a file has room for.
 pub const MOST_ENTRIES: usize = (LONGEST_FILE - CONTENTS_START) / ENTRY_WIDTH;
 
-// A saved relay has the same shape: entries without a head, as many in every edition.
+// A saved relay has the same shape: entries without a head, as many in every edition (`bodyCount`, editions/specs). It
+// stands here because the survey's program may name this crate and not that one.
 pub const SAVED_BODIES: usize = 8;
 
 // The longest file of so many entries: in any edition a saved relay has at most so many bytes.

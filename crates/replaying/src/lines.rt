@@ -43,7 +43,7 @@ pub fn with_ports(line: Text, ports: u16) -> Text
     grown
 }
 
-// The line with a verdict's words: no more than a text has room for behind any number.
+// The line with a verdict's words, which are no longer than the longest answer: a text has room for them.
 fn with_verdict(line: Text, verdict: Verdict) -> Text
     ensures { λ r. ⌜ (r ≡ appended line (spaced (verdictWords verdict)))
         × (length (spaced (verdictWords verdict)) ≤ longestAnswer) ⌝ }

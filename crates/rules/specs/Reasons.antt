@@ -20,7 +20,7 @@ use Rattle.rules.specs.declared.Verdict.{Verdict}
 use Rattle.rules.specs.declared.Verdict.the-variants.{Drop, Deliver, Forward, Spread, Kept}
 use Rattle.rules.specs.declared.Answer.{Answer}
 use Rattle.rules.specs.declared.Answer.the-variants.{Refused, Judged}
-use Rattle.numbers.specs.Numbers.{leastRequestLength, leastProofLength}
+use Rattle.numbers.specs.Numbers.{leastLinkRequest, shorterLinkProof}
 
 -- ---- what an answer tells. A refusal is no drop
 -- it is a drop by test n
@@ -71,8 +71,8 @@ clauses p =
     announceTooShort p gives leastAnnounce (headerOf p) otherwise
     announceOfAnother p gives 0 otherwise
     requestOfKindLink p gives 0 otherwise
-    requestTooShort p gives leastRequestLength otherwise
-    linkProofLength p gives leastProofLength otherwise
+    requestTooShort p gives leastLinkRequest otherwise
+    linkProofLength p gives shorterLinkProof otherwise
     []
 
 -- ---- test 6's sentences, 6.1 to 6.6. No two hold together

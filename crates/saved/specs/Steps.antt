@@ -24,7 +24,7 @@ entryBytes offset i = bigEndian offsetWidth offset ++ bigEndian lengthWidth (wid
 unfoldable pub contentsBytes : ℕ → List ℕ
 contentsBytes n = joined (λ i. entryBytes (bodiesAt + sumBelow (widthAt current) i) i) (listOf (λ i. i) n)
 
--- where a counter stands in it
+-- where a counter stands in the tally's body
 abbrev pub counterAt : String → ℕ
 counterAt name = placeOf tallyForm name
 

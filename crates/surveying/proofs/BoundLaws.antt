@@ -25,7 +25,7 @@ use Rattle.rules.proofs.Choices.{either}
 use Rattle.relay.specs.Promise.{JudgementOn}
 use Rattle.relay.proofs.LengthLaws.{lengths-on}
 use Rattle.recording.specs.Shape.{contentsStart, entryPlace, countOf}
-use Rattle.recording.specs.Format.{Entry, longestFile, headWidth}
+use Rattle.recording.specs.Format.{Entry, longestFile, headWidth, mostEntries}
 use Rattle.recording.specs.Reader.{fileRefusal, bodyOf, entryOf, entriesOf}
 use Rattle.recording.proofs.ReadLaws.{taken}
 use Rattle.replaying.specs.Promise.{entryCall, ReplayOn, goesOn, replayFrom}
@@ -94,9 +94,6 @@ replay-small k (e ∷ es) h n t y =
 
 -- ---- a recording that is read; one that is refused adds nothing
 -- the entries whose contents the longest file has room for: 4,615
-abbrev pub mostEntries : ℕ
-mostEntries = (longestFile - contentsStart) / (entryPlace headWidth 1 - contentsStart)
-
 module _ (k : ℕ) (start f : List ℕ) where
   taken-small : fileRefusal f ≡ 0 → sumOver (countedAt k) (answersFrom start f) ≤ longestFile * mostEntries
   unfolding answersFrom entriesOf

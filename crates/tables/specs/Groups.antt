@@ -18,7 +18,7 @@ abbrev pub groupSize : ℕ
 groupSize = 128
 
 abbrev pub pathGroupSize : ℕ
-pathGroupSize = wordWidth
+pathGroupSize = 8
 
 -- the OR of f 0, .., f (n - 1)
 unfoldable pub together : (ℕ → ℕ) → ℕ → ℕ

@@ -64,10 +64,10 @@ same-length-3 c = search needs
 returns-3 : tie.Need-returns-3
 returns-3 c =
     let else2 = c .before .before .before in
-    let c6 = e1 else2 in
-    let a = s1 c6 .args in
+    let else1 = e1 else2 in
+    let a = s1 else1 .args in
     let t = a .tables .now in
-    call-refused (notes-path (a .note) (a .destination) (a .clock)) t (well c6) (known-bytes t (c6 .before .before .before .slice-known .given))
+    call-refused (notes-path (a .note) (a .destination) (a .clock)) t (well else1) (known-bytes t (else1 .before .before .before .slice-known .given))
     12 (λ e. omega arith) (note-nowhere t (a .note) (a .destination) (a .clock) _ (c .before .path-place .ensures) (fine else2) (c .if3 .taken))
 
 path-notes-requires : tie.Need-path-notes-requires
@@ -98,17 +98,17 @@ returns-4 c =
     let after-put-notes = after-set-clock .before .before .before .before in
     let after-path-notes = after-put-notes .before .before .before in
     let else3 = after-path-notes .before .before in
-    let c14 = e2 else3 in
-    let c17 = e1 c14 in
-    let a = s1 c17 .args in
+    let else2 = e2 else3 in
+    let else1 = e1 else2 in
+    let a = s1 else1 .args in
     let t = a .tables .now in
     let place = else3 .before .path-place .ensures in
-    let known = known-bytes t (c17 .before .before .before .slice-known .given) in
+    let known = known-bytes t (else1 .before .before .before .slice-known .given) in
     let now = after-put-notes .before .before .noted .ensures ∙ ap (noted (a .note)) (after-path-notes .path-notes .ensures) in
     let put = after-put-notes .put-notes .ensures ∙ ap (notesWritten t _) now in
-    let after = note-set t (a .note) (a .destination) (a .clock) _ place (else3 .if3 .left) (well c17) known _ _ put (after-set-clock .set-clock .ensures) in
-    call-done (notes-path (a .note) (a .destination) (a .clock)) t (well c17)
-    (note-accepted t (a .note) (a .destination) (a .clock) _ place (else3 .if3 .left) (fine c14)) after
+    let after = note-set t (a .note) (a .destination) (a .clock) _ place (else3 .if3 .left) (well else1) known _ _ put (after-set-clock .set-clock .ensures) in
+    call-done (notes-path (a .note) (a .destination) (a .clock)) t (well else1)
+    (note-accepted t (a .note) (a .destination) (a .clock) _ place (else3 .if3 .left) (fine else2)) after
 
 pub note-path-spec : {M : Type 1} → statement M
 note-path-spec =

@@ -13,7 +13,7 @@ use Rattle.forms.proofs.FormLaws.{proof-length-clauses}
 use borrow.Author.Needs.{needs}
 use Rattle.forms.proofs.bad_form.link_proof_length.Statement.{statement}
 use Rattle.forms.proofs.bad_form.link_proof_length.Tie as tie
-use Rattle.numbers.specs.Numbers.{leastProofLength, longerProofLength}
+use Rattle.numbers.specs.Numbers.{shorterLinkProof, longerLinkProof}
 
 is-link-proof-requires : tie.Need-is-link-proof-requires
 is-link-proof-requires c κs = search needs
@@ -26,17 +26,17 @@ returns c =
     let after-is-link-proof = c .before .before .before in
     let p = after-is-link-proof .before .before .args .packet .now in
     let is = sym (after-is-link-proof .is-link-proof .ensures) ∙ c .before .before .if1 .taken in
-    let long : length (payload p) ≡ leastProofLength = sym (ap length (c .before .payload .ensures)) ∙ c .if2 .taken in
-    sym (proof-length-clauses p ∙ and-yes _ is ∙ ap not (or-left _ (eq-eqb (length (payload p)) leastProofLength long)))
+    let long : length (payload p) ≡ shorterLinkProof = sym (ap length (c .before .payload .ensures)) ∙ c .if2 .taken in
+    sym (proof-length-clauses p ∙ and-yes _ is ∙ ap not (or-left _ (eq-eqb (length (payload p)) shorterLinkProof long)))
 
 returns-2 : tie.Need-returns-2
 returns-2 c =
     let after-is-link-proof = c .before .before .before in
     let p = after-is-link-proof .before .before .args .packet .now in
     let is = sym (after-is-link-proof .is-link-proof .ensures) ∙ c .before .before .if1 .taken in
-    let other : length (payload p) ≡ leastProofLength → ⊥ = λ long. c .if2 .left (ap length (c .before .payload .ensures) ∙ long) in
-    ap (λ (b : List ℕ). not (eqb (length b) longerProofLength)) (c .before .payload .ensures)
-    ∙ sym (proof-length-clauses p ∙ and-yes _ is ∙ ap not (or-else _ (ne-eqb (length (payload p)) leastProofLength other)))
+    let other : length (payload p) ≡ shorterLinkProof → ⊥ = λ long. c .if2 .left (ap length (c .before .payload .ensures) ∙ long) in
+    ap (λ (b : List ℕ). not (eqb (length b) longerLinkProof)) (c .before .payload .ensures)
+    ∙ sym (proof-length-clauses p ∙ and-yes _ is ∙ ap not (or-else _ (ne-eqb (length (payload p)) shorterLinkProof other)))
 
 returns-3 : tie.Need-returns-3
 returns-3 c =

@@ -36,8 +36,8 @@ returns c =
     let good = c .before .before .before .before .before .before .before .before .good in
     let destination-width : length (q .destination) ≡ addressWidth = search needs in
     let relay-width : length (q .relay) ≡ addressWidth = search needs in
-    let c3 = c .before .before .before in
-    let start = c3 .before .before .before .before .before in
+    let after-with-way = c .before .before .before in
+    let start = after-with-way .before .before .before .before .before in
     let size = start .args .size in
     let h = q .header in
     let fit = parts-fit q size (omega arith) destination-width relay-width (start .pre) in
@@ -46,9 +46,9 @@ returns c =
       c .with-character .ensures,
       c .before .with-relay .ensures,
       c .before .before .with-payload .ensures,
-      c3 .with-way .ensures,
-      c3 .before .with-names .ensures,
-      c3 .before .before .type-line .ensures,
+      after-with-way .with-way .ensures,
+      after-with-way .before .with-names .ensures,
+      after-with-way .before .before .type-line .ensures,
     )
     (simp words-appended (line-appended (typeName h) words fit))
 

@@ -10,12 +10,11 @@ use Rattle.packet.specs.Announce.{emissionOf}
 use Rattle.packet.specs.Places.{emissionWidth, randomWidth}
 use Rattle.tables.specs.Places.{blobWidth}
 use Rattle.tables.specs.Fields.{pathPlacesAt}
-use Rattle.lookup.proofs.HeldBlobs.{low-five, lastWordAt, emissionAt}
+use Rattle.lookup.proofs.HeldBlobs.{emissionLimit, low-five, lastWordAt, emissionAt}
 use native.Mathlib.Omega.{arith}
 use borrow.Author.Needs.{needs}
 use Rattle.lookup.proofs.blobs.emission_at.Statement.{statement}
 use Rattle.lookup.proofs.blobs.emission_at.Tie as tie
-use Rattle.numbers.specs.Numbers.{clockLimit}
 
 mul-number-of-8-at : tie.Need-mul-number-of-8-at
 mul-number-of-8-at c = search needs
@@ -37,7 +36,7 @@ returns c =
     let at : ℕ = pathPlacesAt + blobWidth * a .i in
     let fits : at + lastWordAt + wordWidth ≤ length b = omega (arith, c .before .before .pre .0, c .before .before .pre .1) in
     let place : at + lastWordAt + emissionAt ≡ at + randomWidth = omega arith in
-    ap (λ (n : ℕ). n % clockLimit) (c .number-of-8-at .ensures)
+    ap (λ (n : ℕ). n % emissionLimit) (c .number-of-8-at .ensures)
     ∙ low-five b (at + lastWordAt) (known-bytes b (c .before .shared-slice-known .given)) fits
     ∙ ap (λ (k : ℕ). number (part b k emissionWidth)) place
     ∙ ap number (sym (part-part b at blobWidth randomWidth emissionWidth (lit≤ tt)))

@@ -6,7 +6,6 @@ use Rattle.outgoing.proofs.PortLaws.{one-shifted, port-fits}
 use borrow.Author.Needs.{needs}
 use Rattle.outgoing.proofs.ports.with_port.Statement.{statement}
 use Rattle.outgoing.proofs.ports.with_port.Tie as tie
-use Rattle.numbers.specs.Numbers.{portCount}
 
 shl-result : tie.Need-shl-result
 shl-result c = search needs
@@ -15,7 +14,7 @@ add-result : tie.Need-add-result
 add-result c =
     let a = c .before .args in
     let (low, fits) = c .before .pre in
-    record { fits = subst (λ (k : ℕ). a .ports + k < 2 ^ portCount) (sym (one-shifted (a .port) low)) (port-fits (a .port) low (a .ports) fits) }
+    record { fits = subst (λ (k : ℕ). a .ports + k < 2 ^ 16) (sym (one-shifted (a .port) low)) (port-fits (a .port) low (a .ports) fits) }
 
 returns : tie.Need-returns
 returns c =

@@ -16,8 +16,8 @@ number-at-requires c κs = search needs
 
 returns-2 : tie.Need-returns-2
 returns-2 c =
-    let c3 = c .before .before .before in
-    c .number-at .ensures ∙ sym (count-read (c3 .args .file .now) (c .before .if1 .left))
+    let start = c .before .before .before in
+    c .number-at .ensures ∙ sym (count-read (start .args .file .now) (c .before .if1 .left))
 
 pub count-spec : {M : Type 1} → statement M
 count-spec = tie.close (tie.spec returns number-at-requires returns-2)

@@ -24,9 +24,9 @@ number-at-requires c κs = search needs
 returns : tie.Need-returns
 unfolding lengthOf
 returns c =
-    let c2 = c .before .before in
-    c .number-at .ensures ∙ ap (λ (k : ℕ). number (part (c2 .args .file .now) k lengthWidth))
-    (sym (add-assoc (entryPlace headWidth (c2 .args .i)) headWidth offsetWidth))
+    let start = c .before .before in
+    c .number-at .ensures ∙ ap (λ (k : ℕ). number (part (start .args .file .now) k lengthWidth))
+    (sym (add-assoc (entryPlace headWidth (start .args .i)) headWidth offsetWidth))
 
 pub length-of-spec : {M : Type 1} → statement M
 length-of-spec =
