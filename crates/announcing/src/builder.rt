@@ -43,8 +43,8 @@ fn write_fields(
     room: &mut [u8],
     at: usize,
 )
-    requires { ⌜ (length (now keys) ≡ keysWidth) × (length (now «name_hash») ≡ nameHashWidth) × (length (now random) ≡ randomWidth)
-        × (at + blobEnd + length (now ratchet) ≤ length (now room)) ⌝ }
+    requires { ⌜ (length (now keys) ≡ keysWidth) × (length (now «name_hash») ≡ nameHashWidth)
+        × (length (now random) ≡ randomWidth) × (at + blobEnd + length (now ratchet) ≤ length (now room)) ⌝ }
     ensures { λ _. ⌜ now (room .exit)
         ≡ patch (now (room .entry)) at
         (fields (now (keys .entry)) (now («name_hash» .entry)) (now (random .entry)) clock (now (ratchet .entry))) ⌝ }
