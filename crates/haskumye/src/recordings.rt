@@ -4,6 +4,7 @@ use crossing::REFUSAL_SPAN;
 use crossing::answer_number;
 use crossing::tally_in;
 use crossing::tally_numbers;
+use numbers::refusals;
 ghost use mathlib.Core.Path.{_≡_};
 ghost use Rattle.recording.specs.Shape.{countOf};
 ghost use Rattle.recording.specs.Reader.{fileRefusal, bodyOf};
@@ -42,7 +43,7 @@ pub extern "C" fn haskumye_recording_entry(file: &[u8], index: u64, entry: &mut 
         *entry = numbers;
         return 0;
     }
-    recording::PLACE_REFUSED
+    refusals::FILE_PLACE
 }
 
 // Writes the recording of these entries and bodies at the start of the room, which a refusal leaves as it was.

@@ -1,5 +1,4 @@
 // The calls that are judged by what the packets listed did.
-use super::refusing::LIST_FULL;
 use super::refusing::clock_bad;
 use super::refusing::packet_refusal;
 use super::writing::put_came;
@@ -33,9 +32,6 @@ ghost use Rattle.log.specs.Log.{logSize, knownIn};
 ghost use Rattle.opinion.specs.Calls.{Opines, Settles};
 ghost use Rattle.log.specs.Steps.{viewBy};
 ghost use Rattle.opinion.specs.Steps.{arrivalBy};
-
-// Marking with no live path.
-const NO_LIVE_PATH: u8 = 12;
 
 // The verdict on an accepted packet when n calls are listed, with the packet that leaves at the output's start.
 fn judged(log: &[u8], n: usize, packet: &[u8], arrived: Arrived, output: &mut [u8]) -> Verdict
@@ -103,13 +99,13 @@ pub fn mark_path_unresponsive(log: &mut [u8; LOG_SIZE], destination: [u8; 16], c
 {
     let n = listed(log);
     if n >= LIST_LIMIT {
-        return LIST_FULL;
+        return refusals::LIST_FULL;
     }
     if clock_bad(log, n, clock) {
         return refusals::CLOCK;
     }
     if !has_path(log, n, destination, clock) {
-        return NO_LIVE_PATH;
+        return refusals::NO_LIVE_PATH;
     }
     put_mark(log, n, destination, clock);
     refusals::NONE

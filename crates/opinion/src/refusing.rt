@@ -12,9 +12,6 @@ ghost use Rattle.history.specs.Opinion.{listLimit, clockBad};
 ghost use Rattle.log.specs.Log.{logSize, knownIn};
 ghost use Rattle.opinion.specs.Steps.{RefusesAs};
 
-// A call when 64 are listed.
-pub const LIST_FULL: u8 = 28;
-
 // Whether a clock is 2^40 or more, or below the last accepted clock.
 pub fn clock_bad(log: &[u8], n: usize, clock: u64) -> bool
     requires { ⌜ (length (now log) ≡ logSize) × (n ≤ listLimit) ⌝ }
@@ -32,7 +29,7 @@ pub fn packet_refusal(log: &[u8], n: usize, packet: &[u8], port: u64, clock: u64
     ensures { λ r. ⌜ RefusesAs (now (log .entry)) n (now (packet .entry)) port clock room r ⌝ }
 {
     if n >= LIST_LIMIT {
-        return LIST_FULL;
+        return refusals::LIST_FULL;
     }
     if room < LEAST_OUTPUT {
         return refusals::OUTPUT;

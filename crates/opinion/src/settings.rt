@@ -1,5 +1,4 @@
 // The calls that need no packet. Each returns a refusal's number, or 0; a refusal changes no byte of the log.
-use super::refusing::LIST_FULL;
 use super::writing::put_added;
 use super::writing::put_fresh;
 use super::writing::put_map;
@@ -52,7 +51,7 @@ pub fn set_port(log: &mut [u8; LOG_SIZE], port: u64, on: bool, mode: u64, size: 
 {
     let n = listed(log);
     if n >= LIST_LIMIT {
-        return LIST_FULL;
+        return refusals::LIST_FULL;
     }
     if setting_bad(port, mode, size) {
         return refusals::SETTING;
@@ -67,7 +66,7 @@ pub fn set_rate(log: &mut [u8; LOG_SIZE], target: u64, grace: u64, penalty: u64)
 {
     let n = listed(log);
     if n >= LIST_LIMIT {
-        return LIST_FULL;
+        return refusals::LIST_FULL;
     }
     let rate = RateSettings {
         target,
@@ -87,7 +86,7 @@ pub fn add_local(log: &mut [u8; LOG_SIZE], address: [u8; 16]) -> u8
 {
     let n = listed(log);
     if n >= LIST_LIMIT {
-        return LIST_FULL;
+        return refusals::LIST_FULL;
     }
     if is_local(log, n, address) {
         return refusals::LOCAL_ADDRESS;
@@ -105,7 +104,7 @@ pub fn remove_local(log: &mut [u8; LOG_SIZE], address: [u8; 16]) -> u8
 {
     let n = listed(log);
     if n >= LIST_LIMIT {
-        return LIST_FULL;
+        return refusals::LIST_FULL;
     }
     if !is_local(log, n, address) {
         return refusals::LOCAL_ADDRESS;
@@ -120,7 +119,7 @@ pub fn renumber(log: &mut [u8; LOG_SIZE], map: [u8; 16]) -> u8
 {
     let n = listed(log);
     if n >= LIST_LIMIT {
-        return LIST_FULL;
+        return refusals::LIST_FULL;
     }
     if !one_to_one(&map) {
         return refusals::MAP;

@@ -1,23 +1,20 @@
 // Reading a recording: its refusals, and one entry by its place.
 use super::Fields;
-use super::numbers::CLOCK_WIDTH;
-use super::numbers::CONTENTS_START;
-use super::numbers::COUNT_AT;
-use super::numbers::COUNT_WIDTH;
-use super::numbers::EDITION;
-use super::numbers::ENTRY_WIDTH;
-use super::numbers::KIND;
-use super::numbers::KIND_REFUSED;
-use super::numbers::LENGTH_AT;
-use super::numbers::LENGTH_REFUSED;
-use super::numbers::LENGTH_WIDTH;
-use super::numbers::LONGEST_FILE;
-use super::numbers::OFFSET_AT;
-use super::numbers::OFFSET_WIDTH;
-use super::numbers::PLACE_REFUSED;
-use super::numbers::PORT_AT;
-use super::numbers::WORD_AT;
-use super::numbers::WORD_REFUSED;
+use super::places::CLOCK_WIDTH;
+use super::places::CONTENTS_START;
+use super::places::COUNT_AT;
+use super::places::COUNT_WIDTH;
+use super::places::EDITION;
+use super::places::ENTRY_WIDTH;
+use super::places::KIND;
+use super::places::LENGTH_AT;
+use super::places::LENGTH_WIDTH;
+use super::places::LONGEST_FILE;
+use super::places::OFFSET_AT;
+use super::places::OFFSET_WIDTH;
+use super::places::PORT_AT;
+use super::places::WORD_AT;
+use numbers::refusals;
 ghost use mathlib.Core.Path.{_≡_};
 ghost use Prim.Native.Nat.{_+_, _≤_, _<_};
 ghost use lib.ListN.{length};
@@ -84,17 +81,17 @@ fn contents_refusal(file: &[u8], n: usize) -> u8
     let mut i = 0;
     while i < n {
         if offset_of(file, i) != place {
-            return PLACE_REFUSED;
+            return refusals::FILE_PLACE;
         }
         place += length_of(file, i);
         words = words | word_of(file, i);
         i += 1;
     }
     if place != file.len() {
-        return PLACE_REFUSED;
+        return refusals::FILE_PLACE;
     }
     if words > 1 {
-        return WORD_REFUSED;
+        return refusals::SIGNATURE_WORD;
     }
     0
 }
@@ -104,20 +101,20 @@ pub fn check(file: &[u8]) -> u8
     ensures { λ r. ⌜ r ≡ fileRefusal (now (file .entry)) ⌝ }
 {
     if file.len() > LONGEST_FILE {
-        return LENGTH_REFUSED;
+        return refusals::FILE_LENGTH;
     }
     if file.len() < CONTENTS_START {
-        return LENGTH_REFUSED;
+        return refusals::FILE_LENGTH;
     }
     let n = count(file);
     if file.len() < entry_place(n) {
-        return LENGTH_REFUSED;
+        return refusals::FILE_LENGTH;
     }
     if file[0] != KIND {
-        return KIND_REFUSED;
+        return refusals::FILE_KIND;
     }
     if file[1] != EDITION {
-        return KIND_REFUSED;
+        return refusals::FILE_KIND;
     }
     contents_refusal(file, n)
 }

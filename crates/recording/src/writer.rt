@@ -1,25 +1,22 @@
 // Writing a recording.
 use super::Written;
-use super::numbers::CLOCK_LIMIT;
-use super::numbers::CLOCK_REFUSED;
-use super::numbers::COUNT_AT;
-use super::numbers::COUNT_WIDTH;
-use super::numbers::EDITION;
-use super::numbers::GIVEN_HEAD_AT;
-use super::numbers::GIVEN_LENGTH_AT;
-use super::numbers::GIVEN_WIDTH;
-use super::numbers::GIVEN_WORD_AT;
-use super::numbers::KIND;
-use super::numbers::LENGTH_AT;
-use super::numbers::LENGTH_REFUSED;
-use super::numbers::LENGTH_WIDTH;
-use super::numbers::LONGEST_FILE;
-use super::numbers::MOST_ENTRIES;
-use super::numbers::OFFSET_AT;
-use super::numbers::OFFSET_WIDTH;
-use super::numbers::ROOM_REFUSED;
-use super::numbers::WORD_REFUSED;
+use super::places::COUNT_AT;
+use super::places::COUNT_WIDTH;
+use super::places::EDITION;
+use super::places::GIVEN_HEAD_AT;
+use super::places::GIVEN_LENGTH_AT;
+use super::places::GIVEN_WIDTH;
+use super::places::GIVEN_WORD_AT;
+use super::places::KIND;
+use super::places::LENGTH_AT;
+use super::places::LENGTH_WIDTH;
+use super::places::LONGEST_FILE;
+use super::places::MOST_ENTRIES;
+use super::places::OFFSET_AT;
+use super::places::OFFSET_WIDTH;
 use super::reader::entry_place;
+use numbers::CLOCK_LIMIT;
+use numbers::refusals;
 ghost use mathlib.Core.Path.{_≡_};
 ghost use Prim.Native.Nat.{_+_, _≤_, _<_};
 ghost use lib.ListN.{length};
@@ -58,10 +55,10 @@ fn heads_refusal(entries: &[u8]) -> u8
         i += 1;
     }
     if words > 1 {
-        return WORD_REFUSED;
+        return refusals::SIGNATURE_WORD;
     }
     if clocks >= CLOCK_LIMIT {
-        return CLOCK_REFUSED;
+        return refusals::CLOCK;
     }
     0
 }
@@ -85,21 +82,21 @@ fn lengths_refusal(entries: &[u8], bodies: &[u8], room: usize) -> u8
     ensures { λ r. ⌜ r ≡ firstOf (lengthRows (now (entries .entry)) (now (bodies .entry)) room) 0 ⌝ }
 {
     if entries.len() % GIVEN_WIDTH != 0 {
-        return LENGTH_REFUSED;
+        return refusals::FILE_LENGTH;
     }
     let n = given_count(entries);
     if n > MOST_ENTRIES {
-        return LENGTH_REFUSED;
+        return refusals::FILE_LENGTH;
     }
     if given_end(entries, n) != bodies.len() {
-        return LENGTH_REFUSED;
+        return refusals::FILE_LENGTH;
     }
     let length = entry_place(n) + bodies.len();
     if length > LONGEST_FILE {
-        return LENGTH_REFUSED;
+        return refusals::FILE_LENGTH;
     }
     if room < length {
-        return ROOM_REFUSED;
+        return refusals::ROOM;
     }
     0
 }

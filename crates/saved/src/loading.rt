@@ -3,12 +3,7 @@ use super::Loaded;
 use super::contents::entry_place;
 use super::contents::length_of;
 use super::contents::offset_of;
-use super::format::BODY_REFUSED;
 use super::format::KIND;
-use super::format::KIND_REFUSED;
-use super::format::LENGTH_REFUSED;
-use super::format::PLACE_REFUSED;
-use super::format::ROOM_REFUSED;
 use super::format::TALLY_AT;
 use editions::EDITION;
 use editions::bodies_fine;
@@ -121,22 +116,22 @@ fn load_refusal(file: &[u8], size: usize) -> u8
     ensures { λ r. ⌜ r ≡ loadRefusal (now (file .entry)) size ⌝ }
 {
     if length_wrong(file) {
-        return LENGTH_REFUSED;
+        return refusals::FILE_LENGTH;
     }
     if file[0] != KIND {
-        return KIND_REFUSED;
+        return refusals::FILE_KIND;
     }
     if !is_known(file[1]) {
-        return KIND_REFUSED;
+        return refusals::FILE_KIND;
     }
     if contents_wrong(file) {
-        return PLACE_REFUSED;
+        return refusals::FILE_PLACE;
     }
     if bodies_wrong(file) {
-        return BODY_REFUSED;
+        return refusals::FILE_BODY;
     }
     if size != TABLE_SIZE {
-        return ROOM_REFUSED;
+        return refusals::ROOM;
     }
     refusals::NONE
 }

@@ -2,7 +2,6 @@
 use super::Saved;
 use super::contents::entry_place;
 use super::format::KIND;
-use super::format::ROOM_REFUSED;
 use super::format::SAVED_SIZE;
 use super::format::TALLY_AT;
 use editions::EDITION;
@@ -150,7 +149,7 @@ pub fn save(tables: &[u8], tally: Tally, room: &mut [u8]) -> Saved
     }
     if room.len() < SAVED_SIZE {
         return Saved {
-            refusal: ROOM_REFUSED,
+            refusal: refusals::ROOM,
             length: 0,
         };
     }

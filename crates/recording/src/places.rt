@@ -1,30 +1,10 @@
-// The refusals' numbers, and the file's: specs/Format.antt, Shape.antt and Writer.antt in code. Each number once.
-
-// A clock past five bytes.
-pub const CLOCK_REFUSED: u8 = 5;
-
-// A file too long or shorter than its contents; entries and bodies that don't add up.
-pub const LENGTH_REFUSED: u8 = 20;
-
-// Another kind or edition.
-pub const KIND_REFUSED: u8 = 21;
-
-// An offset, a length or the file's end that breaks the rule.
-pub const PLACE_REFUSED: u8 = 22;
-
-// A signature word that is neither 0 nor 1.
-pub const WORD_REFUSED: u8 = 23;
-
-// Too little room.
-pub const ROOM_REFUSED: u8 = 25;
+// The file's numbers: specs/Format.antt, Shape.antt and Writer.antt in code. Each number once.
 
 pub const KIND: u8 = 1;
 
 pub const EDITION: u8 = 1;
 
 pub const LONGEST_FILE: usize = 60_000;
-
-pub const CLOCK_LIMIT: u64 = 1_099_511_627_776;
 
 // The file's head: kind, edition, count.
 pub const COUNT_AT: usize = 2;
