@@ -46,13 +46,13 @@ open-requires : tie.Need-open-requires
 open-requires c κs =
     let start = c .before .before .before .before .before in
     let a = start .args in
-    let start = c .before .before .start-width .ensures in
+    let width = c .before .before .start-width .ensures in
     let most = start-most (a .edition) in
-    let long = range-length (a .file .now) bodiesAt (c .before .before .start-width .result) (omega (arith, start, start .pre .1)) in
+    let long = range-length (a .file .now) bodiesAt (c .before .before .start-width .result) (omega (arith, width, start .pre .1)) in
     let lent = zeros-lent (a .front .now) pathsAt portsAt (start .pre .2) (omega arith) in
     let zeros = ap length lent ∙ length-replicate {A = ℕ} portsAt 0 in (
       omega (arith, long),
-      omega (arith, long, start, most, zeros),
+      omega (arith, long, width, most, zeros),
       lent ∙ ap (λ (n : ℕ). replicate n 0) (sym zeros),
     )
 
