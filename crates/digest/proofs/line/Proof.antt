@@ -44,8 +44,14 @@ returns-2 c =
     let wide : length (d .bytes) ≡ 32 = search needs in
     let fit : length (wordsLine (hexadecimal (d .bytes) ∷ [])) ≤ 160 =
     omega (arith, line-most (hexadecimal (d .bytes)) [] (64 ∷ []) (omega (arith, hexadecimal-length (d .bytes)), tt)) in
-    let c3 = c .before .before .before in
-    rw (c .with-character .ensures, c .before .with-hexadecimal .ensures, c3 .empty .ensures, eq-eqb (d .refusal) 0 (c3 .before .before .if1 .left))
+    let after-empty = c .before .before .before in
+    rw (
+      c .with-character .ensures,
+      c .before .with-hexadecimal .ensures,
+      after-empty .empty .ensures,
+      eq-eqb (d .refusal) 0
+          (after-empty .before .before .if1 .left),
+    )
     (ap (λ (t : Text). appended t (newline ∷ [])) (sym (appended-none _)) ∙ line-appended (hexadecimal (d .bytes)) [] fit)
 
 pub line-spec : {M : Type 1} → statement M

@@ -47,18 +47,18 @@ with-character-requires c κs = search needs
 
 returns : tie.Need-returns
 returns c =
-    let c3 = c .before .before .before in
-    let c5 = c3 .before .before in
-    let c7 = c5 .before .before in
-    let n = c7 .before .args .refusal in
-    let grown = c3 .with-word .ensures in
+    let after-with-word = c .before .before .before in
+    let after-with-text = after-with-word .before .before in
+    let after-empty = after-with-text .before .before in
+    let n = after-empty .before .args .refusal in
+    let grown = after-with-word .with-word .ensures in
     rw (
       c .with-character .ensures,
       c .before .with-number .ensures,
       c .before .before .wide .ensures,
       grown,
-      c5 .with-text .ensures,
-      c7 .empty .ensures,
+      after-with-text .with-text .ensures,
+      after-empty .empty .ensures,
       words-appended,
     )
     (line-appended tablesWord (refusedWord ∷ decimal n ∷ []) (fits n (omega arith)))

@@ -34,11 +34,11 @@ copy-requires c κs = search needs
 
 returns-2 : tie.Need-returns-2
 returns-2 c =
-    let c3 = c .before .before .before in
-    let c5 = c3 .before .before in
-    let p = c5 .before .args in
-    let h = sym (c3 .before .check .ensures) ∙ not-false _ (c3 .if1 .left) in
-    let told = rate-told (p .tables .now) h (known-bytes (p .tables .now) (c5 .shared-slice-known .given)) (p .settings .now) in
+    let else1 = c .before .before .before in
+    let after-shared-slice-known = else1 .before .before in
+    let p = after-shared-slice-known .before .args in
+    let h = sym (else1 .before .check .ensures) ∙ not-false _ (else1 .if1 .left) in
+    let told = rate-told (p .tables .now) h (known-bytes (p .tables .now) (after-shared-slice-known .shared-slice-known .given)) (p .settings .now) in
     (told .0, c .copy .ensures ∙ part-range (p .tables .now) rateAt (code rateSettingsForm .width) ∙ told .1)
 
 pub rate-settings-spec : {M : Type 1} → statement M
