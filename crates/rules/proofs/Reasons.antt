@@ -14,7 +14,6 @@ use Rattle.octets.specs.Listed.{Test, firstOf, anyHolds, valued}
 use Rattle.octets.proofs.Index.{and-both, and-no, and-assoc, and-true}
 use Rattle.octets.proofs.Listed.{allGive, all-first, past-first}
 use Rattle.packet.specs.Header.{typeTwo, ofKindLink, packetKind, isData, isAnnounce, isLinkRequest, isProof}
-use Rattle.packet.specs.Read.{headerOf}
 use Rattle.rules.specs.Relay.{Slot, empty, used, Path, Return, Relay}
 use Rattle.rules.specs.View.{View, viewAt}
 use Rattle.rules.specs.Arrival.{Arrival, header, hops, destination, isLinkProof}

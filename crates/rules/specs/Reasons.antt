@@ -5,7 +5,7 @@ use mathlib.Core.Bool.{Bool, true, false, not}
 use mathlib.Core.List.{List, [], _∷_}
 use lib.Dec.{eqb}
 use Rattle.octets.specs.Index.{_and_}
-use Rattle.octets.specs.Choice.{_then_otherwise_, _or_}
+use Rattle.octets.specs.Choice.{_or_}
 use Rattle.octets.specs.Listed.{Test, _gives_otherwise_}
 use Rattle.packet.specs.Header.{typeTwo, ofKindLink, isData, isAnnounce, isLinkRequest, isProof}
 use Rattle.packet.specs.Read.{headerOf}

@@ -1,5 +1,5 @@
 -- The file that an edition makes loads, and holds what was saved; a file of the current one that loads is the one that is made of what it holds.
-use Prim.Native.Nat.{ℕ, _+_, _^_, _<_}
+use Prim.Native.Nat.{ℕ, _+_, _<_}
 use native.Mathlib.Nat.{le-refl}
 use native.Mathlib.Omega.{arith}
 use mathlib.Core.Bool.{true, false}

@@ -4,7 +4,7 @@ use native.Mathlib.Nat.{div-lt-self}
 use lib.Dec.{lit≤}
 use lib.ListN.{length-set}
 use Rattle.text.proofs.NumeralLaws.{place-left, rest-fits, decimal-turn, decimal-last}
-use Prim.Native.Nat.{_+_, _^_, _≤_, _<_}
+use Prim.Native.Nat.{_+_, _^_, _<_}
 use mathlib.Core.Path.{_≡_, sym}
 use mathlib.Core.List.{_++_}
 use lib.ListN.{length, drop}
