@@ -427,12 +427,7 @@ fn limits_are_those_of_the_crate_of_numbers() {
         assert_eq!(texts.damaged(NUMBERS, &from, &to).differences(), line);
     }
     assert_seen(&[
-        (
-            NUMBERS,
-            "FILE_PLACE: u8 = 22",
-            "FILE_PLACE: u8 = 24",
-            "HASKUMYE_REFUSAL_FILE_PLACE is 22 in the header, 24 in the numbers",
-        ),
+        (NUMBERS, "FILE_PLACE: u8 = 22", "FILE_PLACE: u8 = 24", "HASKUMYE_REFUSAL_FILE_PLACE is 22 in the header, 24 in the numbers"),
         (NUMBERS, "FILE_BODY: u8 = 24", "FILE_BODY: u8 = 23", "HASKUMYE_REFUSAL_FILE_BODY is 24 in the header, 23 in the numbers"),
         (NUMBERS, "60_000", "60_001", "HASKUMYE_RECORDING_SIZE is 60000 in the header, 60001 in the numbers"),
         (
