@@ -30,7 +30,7 @@ use Rattle.rules.specs.Run.{EachCall, Call, renumbering, Reply, answered, numbe
 use Rattle.rules.specs.declared.Answer.{Answer}
 use Rattle.rules.specs.declared.Answer.the-variants.{Refused}
 use Rattle.rules.specs.declared.Tally.{Tally}
-use Rattle.rules.proofs.History.{Fits, CountsHistory}
+use Rattle.rules.proofs.History.{TallyFits, CountsHistory}
 use Rattle.rules.proofs.Images.{image-port, image-other, image-below}
 use Rattle.tables.specs.Layout.{relayOf, bytesOf, wellFormed}
 use Rattle.tables.specs.Called.{Called}
@@ -220,7 +220,7 @@ module _ (f t : List ℕ) (tally : Tally) (b : Bytes f) (e : fileRefusal f ≡ 0
         let q = follows-the-rules (callsOf f) t tally (calls-given f b e) bt h in
         (p .answers ∙ ap (map answerIn) (q .answers), p .tables ∙ q .tables, p .tally ∙ q .tally)
 
-    pub replay-counts-history : Fits tally → CountsHistory (repliesOn (callsOf f) t tally) tally (replayOn f t tally .tally)
+    pub replay-counts-history : TallyFits tally → CountsHistory (repliesOn (callsOf f) t tally) tally (replayOn f t tally .tally)
     unfolding callsOf
     replay-counts-history fits =
         subst (λ (x : Tally). CountsHistory (repliesOn (callsOf f) t tally) tally x) (sym (replay-performed f t tally e .tally))

@@ -38,7 +38,7 @@ use Rattle.opinion.specs.Steps.{headBytes, rateBody, withEntry, Adds}
 use Rattle.opinion.specs.Agreeing.{Asked}
 use Rattle.opinion.proofs.Written.{fresh-log}
 use Rattle.opinion.proofs.Put.{put-long, came-put, port-put, rate-put, added-put, removed-put, mark-put, map-put}
-use Rattle.opinion.proofs.Settled.{entries-length, Accepted, accepted-packet, packet-refused, packet-judged, full, refused, accepted, none-of-one}
+use Rattle.opinion.proofs.Settled.{entries-length, NotRefused, accepted-packet, packet-refused, packet-judged, full, refused, accepted, none-of-one}
 use Rattle.opinion.proofs.Agreement.{engine-agrees}
 
 -- ---- every packet call is met
@@ -58,7 +58,7 @@ some-reply log long a output = go (eqb refusal 0) refl
     go : (b : Bool) → eqb refusal 0 ≡ b
         → (answer : Answer) × (after : List ℕ) × (out : List ℕ) × Opines log a output answer after out × (length after ≡ logSize)
     go true none =
-        let fine : Accepted log n a (length output) = accepted-packet log n a (length output) none in
+        let fine : NotRefused log n a (length output) = accepted-packet log n a (length output) none in
         let v = seenAt (a .clock) (knownIn log n) in
         let added = came-put log n long (fine .few) (a .bytes) m (fine .readable) (fine .port) (fine .clock) in
         let fits = reads-readable longestPacket (a .bytes) (fine .readable) .fits in (

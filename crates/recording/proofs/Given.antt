@@ -17,15 +17,15 @@ use Rattle.octets.proofs.Joined.{joined-length}
 use Rattle.octets.proofs.Part.{part-part, part-mid, part-at, part-whole, part-one, part-again, part-split}
 use Rattle.recording.specs.Shape.{entryPlace, sumBelow, lengthWidth, lengthLimit}
 use Rattle.recording.specs.Format.{Entry, headWidth, entryBody, fileOf, RecordableEntry, noEntry, Recordable, longestFile, recordedClockLimit}
-use Rattle.recording.specs.Writer.{givenWidth, givenCount, givenClock, givenPort, givenWord, givenLength, givenStart, givenEntry, givenEntries, givenRow, givenOf, bodiesOf, fileLength, givenClockWidth, givenPortAt, givenWordAt, givenLengthAt}
-use Rattle.recording.proofs.Sums.{sum-cong, joined-rows, joined-sum, joined-found, joined-row, part-last}
+use Rattle.recording.specs.Writer.{givenWidth, givenCount, givenClock, givenPort, givenWord, givenLength, givenStart, givenEntry, givenEntries, givenItem, givenOf, bodiesOf, fileLength, givenClockWidth, givenPortAt, givenWordAt, givenLengthAt}
+use Rattle.recording.proofs.Sums.{sum-cong, joined-items, joined-sum, joined-found, joined-item, part-last}
 use Rattle.recording.proofs.ShapeLaws.{longOf, part-three}
 use Rattle.recording.proofs.WriteLaws.{given-within, given-whole, Writable, body-given, sum-given}
 use Rattle.recording.proofs.Made.{made-length, small}
 
 -- ---- the entries as the writer is given them
-given-wide : (e : Entry) → length (givenRow e) ≡ givenWidth
-unfolding givenRow
+given-wide : (e : Entry) → length (givenItem e) ≡ givenWidth
+unfolding givenItem
 given-wide e = simp (length-append, bigEndian-length)
 
 -- given and taken apart again
@@ -35,26 +35,26 @@ module _ (x : ℕ → Entry) (n : ℕ) where
 
   given-length : length given ≡ givenWidth * n
   unfolding givenOf
-  given-length = joined-length givenRow givenWidth given-wide (listOf x n) ∙ ap (λ (k : ℕ). givenWidth * k) (listOf-length x n)
+  given-length = joined-length givenItem givenWidth given-wide (listOf x n) ∙ ap (λ (k : ℕ). givenWidth * k) (listOf-length x n)
 
   given-count : givenCount given ≡ n
   unfolding givenCount
   given-count = ap (λ (k : ℕ). k / givenWidth) given-length ∙ mul-div-cancel-left n (lit< tt)
 
-  given-row : (i : ℕ) → i < n → part given (givenWidth * i) givenWidth ≡ givenRow (x i)
+  given-item : (i : ℕ) → i < n → part given (givenWidth * i) givenWidth ≡ givenItem (x i)
   unfolding givenOf
-  given-row i l = joined-row givenRow x givenWidth n i (λ j. given-wide (x j)) l
+  given-item i l = joined-item givenItem x givenWidth n i (λ j. given-wide (x j)) l
 
-  given-part : (i k m : ℕ) → i < n → k + m ≤ givenWidth → part given (givenWidth * i + k) m ≡ part (givenRow (x i)) k m
+  given-part : (i k m : ℕ) → i < n → k + m ≤ givenWidth → part given (givenWidth * i + k) m ≡ part (givenItem (x i)) k m
   given-part i k m l h =
-      sym (part-part given (givenWidth * i) givenWidth k m h) ∙ ap (λ (r : List ℕ). part r k m) (given-row i l)
+      sym (part-part given (givenWidth * i) givenWidth k m h) ∙ ap (λ (r : List ℕ). part r k m) (given-item i l)
 
-  given-byte : (i k : ℕ) → i < n → k < givenWidth → getD given (givenWidth * i + k) 0 ≡ getD (givenRow (x i)) k 0
+  given-byte : (i k : ℕ) → i < n → k < givenWidth → getD given (givenWidth * i + k) 0 ≡ getD (givenItem (x i)) k 0
   given-byte i k l m =
-      sym (part-at given (givenWidth * i) givenWidth k m) ∙ ap (λ (r : List ℕ). getD r k 0) (given-row i l)
+      sym (part-at given (givenWidth * i) givenWidth k m) ∙ ap (λ (r : List ℕ). getD r k 0) (given-item i l)
 
   clock-back : (i : ℕ) → i < n → x i .clock < recordedClockLimit → givenClock given i ≡ x i .clock
-  unfolding givenClock givenRow
+  unfolding givenClock givenItem
   clock-back i l small =
       ap number
       (ap (λ (k : ℕ). part given k givenClockWidth) (sym (add-zero (givenWidth * i)))
@@ -64,15 +64,15 @@ module _ (x : ℕ → Entry) (n : ℕ) where
       ∙ number-bigEndian givenClockWidth (x i .clock) (omega (arith, small))
 
   port-back : (i : ℕ) → i < n → givenPort given i ≡ x i .port
-  unfolding givenPort givenRow bigEndian
+  unfolding givenPort givenItem bigEndian
   port-back i l = given-byte i givenPortAt l (lit< tt)
 
   word-back : (i : ℕ) → i < n → givenWord given i ≡ x i .word
-  unfolding givenWord givenRow bigEndian
+  unfolding givenWord givenItem bigEndian
   word-back i l = given-byte i givenWordAt l (lit< tt)
 
   length-back : (i : ℕ) → i < n → longOf entryBody x i < lengthLimit → givenLength given i ≡ longOf entryBody x i
-  unfolding givenLength givenRow
+  unfolding givenLength givenItem
   length-back i l small =
       ap number
       (given-part i givenLengthAt lengthWidth l (lit≤ tt)
@@ -143,9 +143,9 @@ module _ (g bodies : List ℕ) (room : ℕ) (bg : Bytes g) (bb : Bytes bodies) (
         short = subst (λ (k : ℕ). k ≤ longestFile) (sym file-length) (w .short);
       }
 
-  row-again : (i : ℕ) → i < givenCount g → givenRow (givenEntry g bodies i) ≡ part g (0 + givenWidth * i) givenWidth
-  unfolding givenRow givenEntry givenClock givenPort givenWord givenLength
-  row-again i l =
+  item-again : (i : ℕ) → i < givenCount g → givenItem (givenEntry g bodies i) ≡ part g (0 + givenWidth * i) givenWidth
+  unfolding givenItem givenEntry givenClock givenPort givenWord givenLength
+  item-again i l =
       let a : ℕ = givenWidth * i in
       let inside : a + givenWidth ≤ length g = given-within g i l in
       let long : bigEndian lengthWidth (longOf entryBody (givenEntry g bodies) i) ≡ part g (a + givenLengthAt) lengthWidth =
@@ -162,5 +162,5 @@ module _ (g bodies : List ℕ) (room : ℕ) (bg : Bytes g) (bb : Bytes bodies) (
   pub given-again : givenOf (givenEntries g bodies) ≡ g
   unfolding givenOf givenEntries
   given-again =
-      joined-rows givenRow (givenEntry g bodies) g 0 givenWidth (givenCount g) row-again
+      joined-items givenItem (givenEntry g bodies) g 0 givenWidth (givenCount g) item-again
       ∙ part-whole g (givenWidth * givenCount g) (given-whole g (w .whole))

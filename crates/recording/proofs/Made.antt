@@ -20,7 +20,7 @@ use Rattle.recording.specs.Format.{Entry, headWidth, headOf, entryBody, 
 use Rattle.recording.specs.Reader.{clockOf, portOf, wordOf, isThere, entryOf, entriesOf}
 use Rattle.recording.proofs.Sums.{sum-within}
 use Rattle.recording.proofs.ShapeLaws.{part-lt, longOf, shape-again, shape-length, shape-head, shape-offset, shape-long, shape-body, shape-kind, shape-edition, shape-count, shape-shaped, shape-bytes}
-use Rattle.recording.proofs.ReadLaws.{Taken, taken-there, there-row, entry-there, head-there, entries-length, entries-at}
+use Rattle.recording.proofs.ReadLaws.{Taken, taken-there, there-item, entry-there, head-there, entries-length, entries-at}
 
 -- ---- the file of entries, read
 head-wide : (e : Entry) → length (headOf e) ≡ headWidth
@@ -129,7 +129,7 @@ module _ (f : List ℕ) (b : Bytes f) (t : Taken f) where
   unfolding clockOf portOf
   read-entry i l =
       let there = taken-there f t i l in
-      let row = there-row f i there in
+      let item = there-item f i there in
       rw (entry-there f i there)
       record {
         clock = part-lt f (entryPlace headWidth i) clockWidth b (omega arith);

@@ -101,13 +101,13 @@ module _ (f : List ℕ) where
     contents-taken e = none-first (contentsRows f) 0 (p, (e, tt))
 
 -- ---- the loop over the contents, where it has passed i entries: no offset was wrong, and `words` is the OR of their signature words
-pub record Passed (f : List ℕ) (words place i : ℕ) : Type 0 where
+pub record EntriesPassed (f : List ℕ) (words place i : ℕ) : Type 0 where
   pub within : i ≤ countOf f
   pub running : place ≡ runningPlace headWidth f i
   pub offsets : allBelow (stands f) i ≡ true
   pub small : ltb words 2 ≡ allBelow (λ j. ltb (wordOf f j) 2) i
 
-pub passed-none : (f : List ℕ) (place : ℕ) → place ≡ entryPlace headWidth (countOf f) → Passed f 0 place 0
+pub passed-none : (f : List ℕ) (place : ℕ) → place ≡ entryPlace headWidth (countOf f) → EntriesPassed f 0 place 0
 unfolding runningPlace allBelow
 passed-none f place e =
     record {
@@ -117,8 +117,8 @@ passed-none f place e =
       small = refl;
     }
 
-module _ {f : List ℕ} {words place i : ℕ} (p : Passed f words place i) where
-  pub passed-more : i < countOf f → offsetOf headWidth f i ≡ place → Passed f (bitOr words (wordOf f i)) (place + lengthOf headWidth f i) (i + 1)
+module _ {f : List ℕ} {words place i : ℕ} (p : EntriesPassed f words place i) where
+  pub passed-more : i < countOf f → offsetOf headWidth f i ≡ place → EntriesPassed f (bitOr words (wordOf f i)) (place + lengthOf headWidth f i) (i + 1)
   unfolding runningPlace
   passed-more l e =
       record {
@@ -216,9 +216,9 @@ module _ (f : List ℕ) (i : ℕ) where
   not-counted l = and-no _ (le-ltb i (countOf f) l)
 
   module _ (l : i < countOf f) where
-    pub row-outside : length f < entryPlace headWidth (i + 1) → isThere f i ≡ false
+    pub item-outside : length f < entryPlace headWidth (i + 1) → isThere f i ≡ false
     unfolding isThere
-    row-outside m = and-yes _ (lt-ltb i (countOf f) l) ∙ and-no _ (lt-leb (entryPlace headWidth (i + 1)) (length f) m)
+    item-outside m = and-yes _ (lt-ltb i (countOf f) l) ∙ and-no _ (lt-leb (entryPlace headWidth (i + 1)) (length f) m)
 
     module _ (m : entryPlace headWidth (i + 1) ≤ length f) where
       pub body-outside : length f < offsetOf headWidth f i + lengthOf headWidth f i → isThere f i ≡ false
@@ -258,9 +258,9 @@ module _ (f : List ℕ) (i : ℕ) where
   body-length = part-length f (fieldsOf f i .start) (fieldsOf f i .length) fields-within
 
   module _ (e : isThere f i ≡ true) where
-    pub there-row : entryPlace headWidth (i + 1) ≤ length f
+    pub there-item : entryPlace headWidth (i + 1) ≤ length f
     unfolding isThere
-    there-row = leb-true _ _ (and-left _ _ (and-right _ _ e))
+    there-item = leb-true _ _ (and-left _ _ (and-right _ _ e))
 
     pub entry-there : entryOf f i
         ≡ record { clock = clockOf f i; port = portOf f i; word = wordOf f i; body = part f (offsetOf headWidth f i) (lengthOf headWidth f i) }
@@ -272,8 +272,8 @@ module _ (f : List ℕ) (i : ℕ) where
     head-there b =
         let at : ℕ = entryPlace headWidth i in
         ap headOf entry-there
-        ∙ ap₂ (λ (p q : List ℕ). p ++ q) (part-again f at clockWidth b (omega (arith, there-row)))
-        (ap₂ (λ (p q : List ℕ). p ++ q) (sym (part-one f (at + portAt) (omega (arith, there-row)))) (sym (part-one f (at + wordAt) (omega (arith, there-row)))))
+        ∙ ap₂ (λ (p q : List ℕ). p ++ q) (part-again f at clockWidth b (omega (arith, there-item)))
+        (ap₂ (λ (p q : List ℕ). p ++ q) (sym (part-one f (at + portAt) (omega (arith, there-item)))) (sym (part-one f (at + wordAt) (omega (arith, there-item)))))
         ∙ ap (λ (k : ℕ). part f at clockWidth ++ (part f (at + portAt) 1 ++ part f k 1)) (sym (add-assoc at clockWidth 1))
         ∙ part-three f at clockWidth 1 1
 

@@ -20,8 +20,8 @@ use Rattle.octets.proofs.Choice.{then-false}
 use Rattle.octets.proofs.Joined.{part-joined, joined-length}
 use Rattle.octets.proofs.ListOf.{listOf-length, listOf-at}
 use Rattle.octets.proofs.Part.{part-length, part-split, part-part, part-mid, part-one, part-again, part-whole}
-use Rattle.recording.specs.Shape.{entryPlace, Placed, placed, rowOf, contentsOf, shapeOf, kindOf, editionOf, countOf, offsetOf, lengthOf, sumBelow, runningPlace, countAt, countWidth, contentsStart, offsetWidth, lengthWidth, rowWidth, countLimit, offsetLimit, lengthLimit}
-use Rattle.recording.proofs.Sums.{sum-within, sum-cong, joined-cut, joined-rows, joined-sum, joined-each-bytes, joined-found, part-last, part-back}
+use Rattle.recording.specs.Shape.{entryPlace, Placed, placed, itemOf, contentsOf, shapeOf, kindOf, editionOf, countOf, offsetOf, lengthOf, sumBelow, runningPlace, countAt, countWidth, contentsStart, offsetWidth, lengthWidth, itemWidth, countLimit, offsetLimit, lengthLimit}
+use Rattle.recording.proofs.Sums.{sum-within, sum-cong, joined-cut, joined-items, joined-sum, joined-each-bytes, joined-found, part-last, part-back}
 
 -- ---- what the file says of itself
 module _ (f : List ℕ) (long : contentsStart ≤ length f) where
@@ -41,7 +41,7 @@ count-lt f b = go (ltb (length f) contentsStart) refl
     go true e = lit< tt
     go false e = part-lt f countAt countWidth b (omega (arith, ltb-false (length f) contentsStart e))
 
-module _ (w : ℕ) (f : List ℕ) (i : ℕ) (b : Bytes f) (l : entryPlace w i + rowWidth w ≤ length f) where
+module _ (w : ℕ) (f : List ℕ) (i : ℕ) (b : Bytes f) (l : entryPlace w i + itemWidth w ≤ length f) where
   pub offset-lt : offsetOf w f i < offsetLimit
   unfolding offsetOf
   offset-lt = part-lt f (entryPlace w i + w) offsetWidth b (omega arith)
@@ -58,8 +58,8 @@ pub record Shaped (w : ℕ) (f : List ℕ) : Type 0 where
   pub ends : runningPlace w f (countOf f) ≡ length f
 
 -- entry i of n stands before the n's end
-pub row-within : (w i n : ℕ) → i < n → entryPlace w i + rowWidth w ≤ entryPlace w n
-row-within w i n l = omega (arith, mul-suc (rowWidth w) i, mul-le-mul-left (rowWidth w) l)
+pub item-within : (w i n : ℕ) → i < n → entryPlace w i + itemWidth w ≤ entryPlace w n
+item-within w i n l = omega (arith, mul-suc (itemWidth w) i, mul-le-mul-left (itemWidth w) l)
 
 -- each body lies within the file
 pub body-within : (w : ℕ) (f : List ℕ) → Shaped w f → (i : ℕ) → i < countOf f → offsetOf w f i + lengthOf w f i ≤ length f
@@ -91,10 +91,10 @@ module _ {A : Type 0} (body : A → List ℕ) where
       placed-more at (listOf x n) (x n)
       ∙ ap₂ (λ (p : List (Placed A)) (k : ℕ). p ++ (record { offset = at + k; entry = x n } ∷ [])) (placed-listOf x at n) (joined-sum body x n)
 
--- the file of n entries, as its count, its rows and its bodies
+-- the file of n entries, as its count, its items and its bodies
 module _ {A : Type 0} (kind edition w : ℕ) (head body : A → List ℕ) (x : ℕ → A) (n : ℕ) where
   pub shape-listOf : shapeOf kind edition w head body (listOf x n)
-      ≡ kind ∷ edition ∷ (bigEndian countWidth n ++ (joined (rowOf head body) (listOf (placeOf body x (entryPlace w n)) n) ++ joined body (listOf x n)))
+      ≡ kind ∷ edition ∷ (bigEndian countWidth n ++ (joined (itemOf head body) (listOf (placeOf body x (entryPlace w n)) n) ++ joined body (listOf x n)))
   unfolding shapeOf contentsOf
   shape-listOf = rw (listOf-length x n, placed-listOf body x (entryPlace w n) n)
 
@@ -124,10 +124,10 @@ module _ {A : Type 0} (w : ℕ) (head body : A → List ℕ) (x : ℕ → A) (f 
       ap (λ (k : ℕ). entryPlace w (countOf f) + k) (sum-cong (longOf body x) (lengthOf w f) i (λ j m. long-again j (omega arith)))
       ∙ sym (s .offsets i l)
 
-  row-again : (i : ℕ) → i < countOf f → rowOf head body (placeOf body x (entryPlace w (countOf f)) i) ≡ part f (entryPlace w i) (rowWidth w)
-  unfolding rowOf offsetOf lengthOf
-  row-again i l =
-      let inside : entryPlace w i + rowWidth w ≤ length f = omega (arith, row-within w i (countOf f) l, s .whole) in
+  item-again : (i : ℕ) → i < countOf f → itemOf head body (placeOf body x (entryPlace w (countOf f)) i) ≡ part f (entryPlace w i) (itemWidth w)
+  unfolding itemOf offsetOf lengthOf
+  item-again i l =
+      let inside : entryPlace w i + itemWidth w ≤ length f = omega (arith, item-within w i (countOf f) l, s .whole) in
       ap (λ (r : List ℕ). r ++ (bigEndian offsetWidth (entryPlace w (countOf f) + sumBelow (longOf body x) i) ++ bigEndian lengthWidth (longOf body x i)))
       (heads i l)
       ∙ ap₂ (λ (p q : ℕ). part f (entryPlace w i) w ++ (bigEndian offsetWidth p ++ bigEndian lengthWidth q)) (place-again i l) (long-again i l)
@@ -143,30 +143,30 @@ module _ {A : Type 0} (w : ℕ) (head body : A → List ℕ) (x : ℕ → A) (f 
       shape-listOf (kindOf f) (editionOf f) w head body x n
       ∙ ap₂ (λ (p q : List ℕ). kindOf f ∷ editionOf f ∷ (p ++ (q ++ joined body (listOf x n))))
       (ap (bigEndian countWidth) (count-read f (s .start)) ∙ part-again f countAt countWidth b (omega (arith, s .start)))
-      (joined-rows (rowOf head body) (placeOf body x (entryPlace w n)) f contentsStart (rowWidth w) n row-again)
-      ∙ ap (λ (r : List ℕ). kindOf f ∷ editionOf f ∷ (part f countAt countWidth ++ (part f contentsStart (rowWidth w * n) ++ r)))
+      (joined-items (itemOf head body) (placeOf body x (entryPlace w n)) f contentsStart (itemWidth w) n item-again)
+      ∙ ap (λ (r : List ℕ). kindOf f ∷ editionOf f ∷ (part f countAt countWidth ++ (part f contentsStart (itemWidth w * n) ++ r)))
       (joined-cut body x f (entryPlace w n) (lengthOf w f) n (λ i l. bodies i l ∙ ap (λ (k : ℕ). part f k (lengthOf w f i)) (s .offsets i l)))
-      ∙ ap (λ (r : List ℕ). r ++ (part f contentsStart (rowWidth w * n) ++ part f (entryPlace w n) sum)) (start-again f (s .start))
-      ∙ part-three f 0 contentsStart (rowWidth w * n) sum
-      ∙ part-whole f (contentsStart + rowWidth w * n + sum) (sym (s .ends))
+      ∙ ap (λ (r : List ℕ). r ++ (part f contentsStart (itemWidth w * n) ++ part f (entryPlace w n) sum)) (start-again f (s .start))
+      ∙ part-three f 0 contentsStart (itemWidth w * n) sum
+      ∙ part-whole f (contentsStart + itemWidth w * n + sum) (sym (s .ends))
 
 -- ---- put together and read again
 module _ {A : Type 0} (kind edition w : ℕ) (head body : A → List ℕ) (wide : (e : A) → length (head e) ≡ w) (x : ℕ → A) (n : ℕ) where
   abbrev made : List ℕ
   made = shapeOf kind edition w head body (listOf x n)
 
-  abbrev rows : List ℕ
-  rows = joined (rowOf head body) (listOf (placeOf body x (entryPlace w n)) n)
+  abbrev items : List ℕ
+  items = joined (itemOf head body) (listOf (placeOf body x (entryPlace w n)) n)
 
-  row-wide : (p : Placed A) → length (rowOf head body p) ≡ rowWidth w
-  unfolding rowOf
-  row-wide p =
+  item-wide : (p : Placed A) → length (itemOf head body p) ≡ itemWidth w
+  unfolding itemOf
+  item-wide p =
       simp (length-append, bigEndian-length) (omega (arith, wide (p .entry)))
 
-  rows-length : length rows ≡ rowWidth w * n
-  rows-length =
-      joined-length (rowOf head body) (rowWidth w) row-wide (listOf (placeOf body x (entryPlace w n)) n)
-      ∙ ap (λ (k : ℕ). rowWidth w * k) (listOf-length (placeOf body x (entryPlace w n)) n)
+  items-length : length items ≡ itemWidth w * n
+  items-length =
+      joined-length (itemOf head body) (itemWidth w) item-wide (listOf (placeOf body x (entryPlace w n)) n)
+      ∙ ap (λ (k : ℕ). itemWidth w * k) (listOf-length (placeOf body x (entryPlace w n)) n)
 
   start-length : length (kind ∷ edition ∷ bigEndian countWidth n) ≡ contentsStart
   start-length = omega (arith, bigEndian-length countWidth n)
@@ -174,43 +174,43 @@ module _ {A : Type 0} (kind edition w : ℕ) (head body : A → List ℕ) (wide 
   pub shape-length : length made ≡ entryPlace w n + sumBelow (longOf body x) n
   shape-length =
       ap length (shape-listOf kind edition w head body x n)
-      ∙ simp (length-append, bigEndian-length) (omega (arith, rows-length, joined-sum body x n))
+      ∙ simp (length-append, bigEndian-length) (omega (arith, items-length, joined-sum body x n))
 
-  shape-row : (i : ℕ) → i < n → part made (entryPlace w i) (rowWidth w) ≡ rowOf head body (placeOf body x (entryPlace w n) i)
-  shape-row i l =
-      ap (λ (r : List ℕ). part r (entryPlace w i) (rowWidth w)) (shape-listOf kind edition w head body x n)
-      ∙ part-joined (rowOf head body) (rowWidth w) row-wide (kind ∷ edition ∷ bigEndian countWidth n) (joined body (listOf x n)) contentsStart
+  shape-item : (i : ℕ) → i < n → part made (entryPlace w i) (itemWidth w) ≡ itemOf head body (placeOf body x (entryPlace w n) i)
+  shape-item i l =
+      ap (λ (r : List ℕ). part r (entryPlace w i) (itemWidth w)) (shape-listOf kind edition w head body x n)
+      ∙ part-joined (itemOf head body) (itemWidth w) item-wide (kind ∷ edition ∷ bigEndian countWidth n) (joined body (listOf x n)) contentsStart
       (listOf (placeOf body x (entryPlace w n)) n) i (placeOf body x (entryPlace w n) i) start-length
       (subst (λ (k : ℕ). i < k) (sym (listOf-length (placeOf body x (entryPlace w n)) n)) l)
-      ∙ ap (rowOf head body) (listOf-at (placeOf body x (entryPlace w n)) n i (placeOf body x (entryPlace w n) i) l)
+      ∙ ap (itemOf head body) (listOf-at (placeOf body x (entryPlace w n)) n i (placeOf body x (entryPlace w n) i) l)
 
   pub shape-head : (i : ℕ) → i < n → part made (entryPlace w i) w ≡ head (x i)
-  unfolding rowOf
+  unfolding itemOf
   shape-head i l =
       ap (λ (k : ℕ). part made k w) (sym (add-zero (entryPlace w i)))
-      ∙ sym (part-part made (entryPlace w i) (rowWidth w) 0 w (omega arith))
-      ∙ ap (λ (r : List ℕ). part r 0 w) (shape-row i l)
+      ∙ sym (part-part made (entryPlace w i) (itemWidth w) 0 w (omega arith))
+      ∙ ap (λ (r : List ℕ). part r 0 w) (shape-item i l)
       ∙ part-mid [] (head (x i)) _ 0 w refl (wide (x i))
 
   pub shape-offset : (i : ℕ) → i < n → entryPlace w n + sumBelow (longOf body x) n < offsetLimit
       → offsetOf w made i ≡ entryPlace w n + sumBelow (longOf body x) i
-  unfolding offsetOf rowOf
+  unfolding offsetOf itemOf
   shape-offset i l small =
       ap number
-      (sym (part-part made (entryPlace w i) (rowWidth w) w offsetWidth (omega arith))
-      ∙ ap (λ (r : List ℕ). part r w offsetWidth) (shape-row i l)
+      (sym (part-part made (entryPlace w i) (itemWidth w) w offsetWidth (omega arith))
+      ∙ ap (λ (r : List ℕ). part r w offsetWidth) (shape-item i l)
       ∙ part-mid (head (x i)) (bigEndian offsetWidth (entryPlace w n + sumBelow (longOf body x) i)) _ w offsetWidth
       (wide (x i)) (bigEndian-length offsetWidth _))
       ∙ number-bigEndian offsetWidth (entryPlace w n + sumBelow (longOf body x) i) (omega (arith, sum-within (longOf body x) n i l))
 
   pub shape-long : (i : ℕ) → i < n → longOf body x i < lengthLimit → lengthOf w made i ≡ longOf body x i
-  unfolding lengthOf rowOf
+  unfolding lengthOf itemOf
   shape-long i l small =
       let at : List ℕ = bigEndian offsetWidth (entryPlace w n + sumBelow (longOf body x) i) in
       ap number
       (ap (λ (k : ℕ). part made k lengthWidth) (add-assoc (entryPlace w i) w offsetWidth)
-      ∙ sym (part-part made (entryPlace w i) (rowWidth w) (w + offsetWidth) lengthWidth (omega arith))
-      ∙ ap (λ (r : List ℕ). part r (w + offsetWidth) lengthWidth) (shape-row i l ∙ sym (append-assoc (head (x i)) at (bigEndian lengthWidth (longOf body x i))))
+      ∙ sym (part-part made (entryPlace w i) (itemWidth w) (w + offsetWidth) lengthWidth (omega arith))
+      ∙ ap (λ (r : List ℕ). part r (w + offsetWidth) lengthWidth) (shape-item i l ∙ sym (append-assoc (head (x i)) at (bigEndian lengthWidth (longOf body x i))))
       ∙ part-last (head (x i) ++ at) (bigEndian lengthWidth (longOf body x i)) (w + offsetWidth) lengthWidth
       (simp (length-append, bigEndian-length) (omega (arith, wide (x i)))) (bigEndian-length lengthWidth _))
       ∙ number-bigEndian lengthWidth (longOf body x i) small
@@ -218,9 +218,9 @@ module _ {A : Type 0} (kind edition w : ℕ) (head body : A → List ℕ) (wide 
   pub shape-body : (i : ℕ) → i < n → part made (entryPlace w n + sumBelow (longOf body x) i) (longOf body x i) ≡ body (x i)
   shape-body i l =
       ap (λ (r : List ℕ). part r (entryPlace w n + sumBelow (longOf body x) i) (longOf body x i))
-      (shape-listOf kind edition w head body x n ∙ sym (append-assoc (kind ∷ edition ∷ bigEndian countWidth n) rows (joined body (listOf x n))))
-      ∙ part-back (kind ∷ edition ∷ (bigEndian countWidth n ++ rows)) (joined body (listOf x n)) (entryPlace w n) (sumBelow (longOf body x) i) (longOf body x i)
-      (simp (length-append, bigEndian-length) (omega (arith, rows-length)))
+      (shape-listOf kind edition w head body x n ∙ sym (append-assoc (kind ∷ edition ∷ bigEndian countWidth n) items (joined body (listOf x n))))
+      ∙ part-back (kind ∷ edition ∷ (bigEndian countWidth n ++ items)) (joined body (listOf x n)) (entryPlace w n) (sumBelow (longOf body x) i) (longOf body x i)
+      (simp (length-append, bigEndian-length) (omega (arith, items-length)))
       ∙ joined-found body x n i l
 
   pub shape-kind : kindOf made ≡ kind
@@ -237,7 +237,7 @@ module _ {A : Type 0} (kind edition w : ℕ) (head body : A → List ℕ) (wide 
     shape-count =
         count-read made (omega (arith, shape-length))
         ∙ ap (λ (r : List ℕ). number (part r countAt countWidth)) (shape-listOf kind edition w head body x n)
-        ∙ ap number (part-mid (kind ∷ edition ∷ []) (bigEndian countWidth n) (rows ++ joined body (listOf x n)) countAt countWidth
+        ∙ ap number (part-mid (kind ∷ edition ∷ []) (bigEndian countWidth n) (items ++ joined body (listOf x n)) countAt countWidth
         refl (bigEndian-length countWidth n))
         ∙ number-bigEndian countWidth n few
 
@@ -260,17 +260,17 @@ module _ {A : Type 0} (kind edition w : ℕ) (head body : A → List ℕ) (wide 
           }
 
   pub shape-bytes : kind < 256 → edition < 256 → ((i : ℕ) → i < n → Bytes (head (x i))) → ((i : ℕ) → i < n → Bytes (body (x i))) → Bytes made
-  unfolding rowOf
+  unfolding itemOf
   shape-bytes k e heads bodies =
-      let rest : List ℕ = bigEndian countWidth n ++ (rows ++ joined body (listOf x n)) in
+      let rest : List ℕ = bigEndian countWidth n ++ (items ++ joined body (listOf x n)) in
       let at : ℕ → List ℕ = λ i. bigEndian offsetWidth (entryPlace w n + sumBelow (longOf body x) i) in
       let long : ℕ → List ℕ = λ i. bigEndian lengthWidth (longOf body x i) in
       subst Bytes (sym (shape-listOf kind edition w head body x n))
       (cons-bytes kind (edition ∷ rest) k
       (cons-bytes edition rest e
-      (append-bytes (bigEndian countWidth n) (rows ++ joined body (listOf x n)) (bigEndian-bytes countWidth n)
-      (append-bytes rows (joined body (listOf x n))
-      (joined-each-bytes (rowOf head body) (placeOf body x (entryPlace w n)) n
+      (append-bytes (bigEndian countWidth n) (items ++ joined body (listOf x n)) (bigEndian-bytes countWidth n)
+      (append-bytes items (joined body (listOf x n))
+      (joined-each-bytes (itemOf head body) (placeOf body x (entryPlace w n)) n
       (λ i l.
       append-bytes (head (x i)) (at i ++ long i) (heads i l) (append-bytes (at i) (long i) (bigEndian-bytes offsetWidth _) (bigEndian-bytes lengthWidth _))))
       (joined-each-bytes body x n bodies)))))

@@ -23,10 +23,10 @@ use Rattle.octets.proofs.Choice.{then-true, then-false, or-left, or-right, or-n
 use Rattle.octets.proofs.Index.{and-left, and-right, and-both, and-no, and-yes, all-at, all-intro}
 use Rattle.octets.proofs.Listed.{here, past, allGive, refuses, rest-alike, rows-passed, none-first}
 use Rattle.octets.proofs.Part.{part-split, part-one, part-again, part-length, part-whole, patch-join}
-use Rattle.recording.specs.Shape.{entryPlace, rowOf, sumBelow, countAt, countWidth, contentsStart, offsetWidth, lengthWidth, lengthLimit, longestBody}
+use Rattle.recording.specs.Shape.{entryPlace, itemOf, sumBelow, countAt, countWidth, contentsStart, offsetWidth, lengthWidth, lengthLimit, longestBody}
 use Rattle.recording.specs.Format.{recordingKind, recordingEdition, headWidth, headOf, entryBody, fileOf, longestFile, clockWidth, wordAt, lengthAt, entryWidth, mostEntries, clockBits, recordedClockLimit}
 use Rattle.recording.specs.Writer.{givenWidth, givenCount, givenClock, givenPort, givenWord, givenLength, givenStart, givenEntry, givenEntries, givenWordsWrong, givenClocksWrong, addUp, fileLength, writingRows, writingRefusal, writing, givenPortAt, givenWordAt, givenLengthAt, givenHeadAt}
-use Rattle.recording.specs.Steps.{headRows, lengthRows, startBytes, copiedRow, copiedRows}
+use Rattle.recording.specs.Steps.{headRows, lengthRows, startBytes, copiedItem, copiedItems}
 use Rattle.recording.proofs.Sums.{sum-none, sum-more, sum-bound, sum-within, sum-cong, sum-const, joined-cong, joined-none, joined-more, joined-cut, joined-sum, patch-three}
 use Rattle.recording.proofs.Ors.{or-turn}
 use Rattle.recording.proofs.ShapeLaws.{part-lt, longOf, placeOf, shape-listOf, part-three}
@@ -252,10 +252,10 @@ module _ (g bodies : List ℕ) (b : Bytes g) where
         (λ i l. ap (λ (k : ℕ). part bodies k (givenLength g i)) (sym (zero-add (sumBelow (givenLength g) i))))
         ∙ part-whole bodies (sumBelow (givenLength g) (givenCount g)) (sym adds)
 
-    row-given : (at i : ℕ) → i < givenCount g
-        → copiedRow g (at + givenStart g i) i ≡ rowOf headOf entryBody (placeOf entryBody (givenEntry g bodies) at i)
-    unfolding copiedRow rowOf givenLength
-    row-given at i l =
+    item-given : (at i : ℕ) → i < givenCount g
+        → copiedItem g (at + givenStart g i) i ≡ itemOf headOf entryBody (placeOf entryBody (givenEntry g bodies) at i)
+    unfolding copiedItem itemOf givenLength
+    item-given at i l =
         let long : part g (givenWidth * i + givenLengthAt) lengthWidth ≡ bigEndian lengthWidth (longOf entryBody (givenEntry g bodies) i) =
         sym (part-again g (givenWidth * i + givenLengthAt) lengthWidth b (omega (arith, given-within g i l)))
         ∙ ap (bigEndian lengthWidth) (sym (body-given i l)) in
@@ -263,14 +263,14 @@ module _ (g bodies : List ℕ) (b : Bytes g) where
         ∙ ap (λ (k : ℕ). headOf (givenEntry g bodies i) ++ (bigEndian offsetWidth (at + k) ++ bigEndian lengthWidth (longOf entryBody (givenEntry g bodies) i)))
         (sym (sum-given i (omega arith)))
 
-    -- count, rows and bodies are the file
-    file-given : startBytes (givenCount g) ++ (copiedRows g (entryPlace headWidth (givenCount g)) (givenCount g) ++ bodies) ≡ fileOf (givenEntries g bodies)
-    unfolding fileOf givenEntries copiedRows
+    -- count, items and bodies are the file
+    file-given : startBytes (givenCount g) ++ (copiedItems g (entryPlace headWidth (givenCount g)) (givenCount g) ++ bodies) ≡ fileOf (givenEntries g bodies)
+    unfolding fileOf givenEntries copiedItems
     file-given =
         let n : ℕ = givenCount g in
         let at : ℕ = entryPlace headWidth n in
-        let rows = joined-cong (λ i. copiedRow g (at + givenStart g i) i) (λ i. i) (rowOf headOf entryBody) (placeOf entryBody (givenEntry g bodies) at) n in
-        ap₂ (λ (p q : List ℕ). startBytes n ++ (p ++ q)) (rows (row-given at)) (sym bodies-given)
+        let items = joined-cong (λ i. copiedItem g (at + givenStart g i) i) (λ i. i) (itemOf headOf entryBody) (placeOf entryBody (givenEntry g bodies) at) n in
+        ap₂ (λ (p q : List ℕ). startBytes n ++ (p ++ q)) (items (item-given at)) (sym bodies-given)
         ∙ sym (shape-listOf recordingKind recordingEdition headWidth headOf entryBody (givenEntry g bodies) n)
 
 -- ---- the code's writes, one after the other, are one
@@ -289,8 +289,8 @@ start-written room n l =
 pub entry-written : (g room : List ℕ) (at offset i : ℕ) → i < givenCount g → at + entryWidth ≤ length room
     → patch (patch (patch room at (part g (givenWidth * i + givenHeadAt) headWidth)) (at + headWidth) (bigEndian offsetWidth offset)) (at + lengthAt)
     (part g (givenWidth * i + givenLengthAt) lengthWidth)
-    ≡ patch room at (copiedRow g offset i)
-unfolding copiedRow
+    ≡ patch room at (copiedItem g offset i)
+unfolding copiedItem
 entry-written g room at offset i l h =
     let inside = given-within g i l in
     let head = part-length g (givenWidth * i + givenHeadAt) headWidth (omega arith) in
@@ -300,44 +300,44 @@ entry-written g room at offset i l h =
     (omega arith) (omega (arith, bigEndian-length offsetWidth offset)) (omega arith)
 
 module _ (g : List ℕ) (at : ℕ) where
-  copied-length : (offset i : ℕ) → i < givenCount g → length (copiedRow g offset i) ≡ entryWidth
-  unfolding copiedRow
+  copied-length : (offset i : ℕ) → i < givenCount g → length (copiedItem g offset i) ≡ entryWidth
+  unfolding copiedItem
   copied-length offset i l =
       let inside = given-within g i l in
       let head = part-length g (givenWidth * i + givenHeadAt) headWidth (omega arith) in
       let long = part-length g (givenWidth * i + givenLengthAt) lengthWidth (omega arith) in
       simp (length-append, bigEndian-length) (omega arith)
 
-  rows-length : (n : ℕ) → n ≤ givenCount g → length (copiedRows g at n) ≡ entryWidth * n
-  unfolding copiedRows
-  rows-length n l =
-      joined-sum (λ i. copiedRow g (at + givenStart g i) i) (λ i. i) n
-      ∙ sum-cong (λ i. length (copiedRow g (at + givenStart g i) i)) (λ i. entryWidth) n (λ i m. copied-length (at + givenStart g i) i (omega arith))
+  items-length : (n : ℕ) → n ≤ givenCount g → length (copiedItems g at n) ≡ entryWidth * n
+  unfolding copiedItems
+  items-length n l =
+      joined-sum (λ i. copiedItem g (at + givenStart g i) i) (λ i. i) n
+      ∙ sum-cong (λ i. length (copiedItem g (at + givenStart g i) i)) (λ i. entryWidth) n (λ i m. copied-length (at + givenStart g i) i (omega arith))
       ∙ sum-const entryWidth n
 
-  pub rows-none : (room : List ℕ) → room ≡ patch room contentsStart (copiedRows g at 0)
-  unfolding copiedRows patch
-  rows-none room =
+  pub items-none : (room : List ℕ) → room ≡ patch room contentsStart (copiedItems g at 0)
+  unfolding copiedItems patch
+  items-none room =
       sym (take-append-drop contentsStart room)
       ∙ ap (λ (r : List ℕ). take contentsStart room ++ (r ++ drop (contentsStart + length r) room))
-      (sym (joined-none (λ i. copiedRow g (at + givenStart g i) i) (λ i. i)))
+      (sym (joined-none (λ i. copiedItem g (at + givenStart g i) i) (λ i. i)))
 
-  pub rows-more : (room : List ℕ) (i : ℕ) → i < givenCount g → entryPlace headWidth (i + 1) ≤ length room
-      → patch (patch room contentsStart (copiedRows g at i)) (entryPlace headWidth i) (copiedRow g (at + givenStart g i) i)
-      ≡ patch room contentsStart (copiedRows g at (i + 1))
-  unfolding copiedRows
-  rows-more room i l m =
-      patch-join room contentsStart (entryPlace headWidth i) (copiedRows g at i) (copiedRow g (at + givenStart g i) i)
-      (omega (arith, rows-length i (omega arith))) (omega (arith, copied-length (at + givenStart g i) i l))
-      ∙ ap (patch room contentsStart) (sym (joined-more (λ j. copiedRow g (at + givenStart g j) j) (λ j. j) i) ∙ ap (copiedRows g at) (sym (add-one i)))
+  pub items-more : (room : List ℕ) (i : ℕ) → i < givenCount g → entryPlace headWidth (i + 1) ≤ length room
+      → patch (patch room contentsStart (copiedItems g at i)) (entryPlace headWidth i) (copiedItem g (at + givenStart g i) i)
+      ≡ patch room contentsStart (copiedItems g at (i + 1))
+  unfolding copiedItems
+  items-more room i l m =
+      patch-join room contentsStart (entryPlace headWidth i) (copiedItems g at i) (copiedItem g (at + givenStart g i) i)
+      (omega (arith, items-length i (omega arith))) (omega (arith, copied-length (at + givenStart g i) i l))
+      ∙ ap (patch room contentsStart) (sym (joined-more (λ j. copiedItem g (at + givenStart g j) j) (λ j. j) i) ∙ ap (copiedItems g at) (sym (add-one i)))
 
 module _ (g bodies room : List ℕ) (b : Bytes g) (w : Writable g bodies (length room)) where
   -- start, contents and bodies
   pub file-written : (n at : ℕ) → n ≡ givenCount g → at ≡ entryPlace headWidth n
-      → patch (patch (patch room 0 (startBytes n)) contentsStart (copiedRows g at n)) at bodies ≡ patch room 0 (fileOf (givenEntries g bodies))
+      → patch (patch (patch room 0 (startBytes n)) contentsStart (copiedItems g at n)) at bodies ≡ patch room 0 (fileOf (givenEntries g bodies))
   unfolding fileLength
   file-written n at en ea =
-      patch-three room 0 contentsStart at (startBytes n) (copiedRows g at n) bodies
-      (omega (arith, bigEndian-length countWidth n)) (omega (arith, rows-length g at n (omega arith))) (omega (arith, w .roomy))
+      patch-three room 0 contentsStart at (startBytes n) (copiedItems g at n) bodies
+      (omega (arith, bigEndian-length countWidth n)) (omega (arith, items-length g at n (omega arith))) (omega (arith, w .roomy))
       ∙ ap (patch room 0)
-      (ap₂ (λ (k j : ℕ). startBytes k ++ (copiedRows g j k ++ bodies)) en (ea ∙ ap (entryPlace headWidth) en) ∙ file-given g bodies b (w .adds))
+      (ap₂ (λ (k j : ℕ). startBytes k ++ (copiedItems g j k ++ bodies)) en (ea ∙ ap (entryPlace headWidth) en) ∙ file-given g bodies b (w .adds))

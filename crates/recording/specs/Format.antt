@@ -6,7 +6,7 @@ use mathlib.Core.List.{List, [], _∷_, _++_}
 use lib.ListN.{length, getD}
 use Rattle.octets.specs.Bytes.{Bytes}
 use Rattle.octets.specs.BigEndian.{bigEndian}
-use Rattle.recording.specs.Shape.{contentsStart, offsetWidth, rowWidth, shapeOf}
+use Rattle.recording.specs.Shape.{contentsStart, offsetWidth, itemWidth, shapeOf}
 
 -- a packet call's clock, arrival port, signature word and packet
 pub record Entry : Type 0 where
@@ -42,7 +42,7 @@ abbrev pub lengthAt : ℕ
 lengthAt = headWidth + offsetWidth
 
 abbrev pub entryWidth : ℕ
-entryWidth = rowWidth headWidth
+entryWidth = itemWidth headWidth
 
 -- the most entries that a file has room for
 abbrev pub mostEntries : ℕ

@@ -29,9 +29,9 @@ offsetWidth = 4
 abbrev pub lengthWidth : ℕ
 lengthWidth = 2
 
--- an entry in the contents, its head w bytes wide
-abbrev pub rowWidth : ℕ → ℕ
-rowWidth w = w + offsetWidth + lengthWidth
+-- an item of the contents, for an entry whose head is w bytes wide
+abbrev pub itemWidth : ℕ → ℕ
+itemWidth w = w + offsetWidth + lengthWidth
 
 -- what so many bytes hold: each count, offset and length is below
 abbrev pub countLimit : ℕ
@@ -48,7 +48,7 @@ longestBody = lengthLimit - 1
 
 -- where entry i stands in the contents; at the count, where the contents end
 abbrev pub entryPlace : ℕ → ℕ → ℕ
-entryPlace w i = contentsStart + rowWidth w * i
+entryPlace w i = contentsStart + itemWidth w * i
 
 -- ---- the file of a list of entries, each with its head and its body
 pub record Placed (A : Type 0) : Type 0 where
@@ -60,12 +60,12 @@ unfoldable pub placed : {A : Type 0} → (A → List ℕ) → ℕ → List A →
 placed body at [] = []
 placed body at (x ∷ xs) = record { offset = at; entry = x } ∷ placed body (at + length (body x)) xs
 
--- what stands in the contents for an entry
-unfoldable pub rowOf : {A : Type 0} → (A → List ℕ) → (A → List ℕ) → Placed A → List ℕ
-rowOf head body p = head (p .entry) ++ (bigEndian offsetWidth (p .offset) ++ bigEndian lengthWidth (length (body (p .entry))))
+-- what stands in the contents for an entry: an item of them
+unfoldable pub itemOf : {A : Type 0} → (A → List ℕ) → (A → List ℕ) → Placed A → List ℕ
+itemOf head body p = head (p .entry) ++ (bigEndian offsetWidth (p .offset) ++ bigEndian lengthWidth (length (body (p .entry))))
 
 unfoldable pub contentsOf : {A : Type 0} → ℕ → (A → List ℕ) → (A → List ℕ) → List A → List ℕ
-contentsOf w head body xs = joined (rowOf head body) (placed body (entryPlace w (length xs)) xs)
+contentsOf w head body xs = joined (itemOf head body) (placed body (entryPlace w (length xs)) xs)
 
 unfoldable pub shapeOf : {A : Type 0} → ℕ → ℕ → ℕ → (A → List ℕ) → (A → List ℕ) → List A → List ℕ
 shapeOf kind edition w head body xs =

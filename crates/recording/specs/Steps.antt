@@ -31,10 +31,10 @@ startBytes n = recordingKind ∷ recordingEdition ∷ bigEndian countWidth n
 
 -- what the writer puts into the contents for entry i, whose body it puts at `offset`: the clock's low five bytes, port and signature word as given,
 -- the offset, and the length as given
-unfoldable pub copiedRow : List ℕ → ℕ → ℕ → List ℕ
-copiedRow g offset i =
+unfoldable pub copiedItem : List ℕ → ℕ → ℕ → List ℕ
+copiedItem g offset i =
     part g (givenWidth * i + givenHeadAt) headWidth ++ (bigEndian offsetWidth offset ++ part g (givenWidth * i + givenLengthAt) lengthWidth)
 
 -- the same for the first n entries, the first body at `at`
-unfoldable pub copiedRows : List ℕ → ℕ → ℕ → List ℕ
-copiedRows g at n = joined (λ i. copiedRow g (at + givenStart g i) i) (listOf (λ i. i) n)
+unfoldable pub copiedItems : List ℕ → ℕ → ℕ → List ℕ
+copiedItems g at n = joined (λ i. copiedItem g (at + givenStart g i) i) (listOf (λ i. i) n)

@@ -102,11 +102,11 @@ writing g bodies room =
     otherwise record { answer = record { refusal = writingRefusal g bodies (length room); length = 0 }; room = room }
 
 -- ---- a list of entries as the writer is given it
-unfoldable pub givenRow : Entry → List ℕ
-givenRow e = bigEndian givenClockWidth (e .clock) ++ (e .port ∷ e .word ∷ bigEndian lengthWidth (length (e .body)))
+unfoldable pub givenItem : Entry → List ℕ
+givenItem e = bigEndian givenClockWidth (e .clock) ++ (e .port ∷ e .word ∷ bigEndian lengthWidth (length (e .body)))
 
 unfoldable pub givenOf : List Entry → List ℕ
-givenOf es = joined givenRow es
+givenOf es = joined givenItem es
 
 unfoldable pub bodiesOf : List Entry → List ℕ
 bodiesOf es = joined entryBody es

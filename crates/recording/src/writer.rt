@@ -25,7 +25,7 @@ ghost use Rattle.octets.specs.Part.{patch};
 ghost use Rattle.recording.specs.Shape.{contentsStart, countLimit, entryPlace};
 ghost use Rattle.recording.specs.Format.{longestFile, headWidth, fileOf};
 ghost use Rattle.recording.specs.Writer.{givenCount, givenLength, givenStart, givenEntries, writingRefusal, writing};
-ghost use Rattle.recording.specs.Steps.{headRows, lengthRows, startBytes, copiedRow, copiedRows};
+ghost use Rattle.recording.specs.Steps.{headRows, lengthRows, startBytes, copiedItem, copiedItems};
 
 // How many whole entries are given.
 fn given_count(entries: &[u8]) -> usize
@@ -127,7 +127,7 @@ fn write_entry(entries: &[u8], i: usize, offset: usize, room: &mut [u8])
     requires { ⌜ (i < givenCount (now entries)) × (i < countLimit)
         × (entryPlace headWidth (i + 1) ≤ length (now room)) ⌝ }
     ensures { λ _. ⌜ now (room .exit)
-        ≡ patch (now (room .entry)) (entryPlace headWidth i) (copiedRow (now (entries .entry)) offset i) ⌝ }
+        ≡ patch (now (room .entry)) (entryPlace headWidth i) (copiedItem (now (entries .entry)) offset i) ⌝ }
 {
     let at = entry_place(i);
     let from = GIVEN_WIDTH * i;
@@ -149,7 +149,7 @@ fn write_contents(entries: &[u8], n: usize, at: usize, room: &mut [u8])
     requires { ⌜ (n ≤ givenCount (now entries)) × (n < countLimit) × (at ≤ longestFile)
         × (entryPlace headWidth n ≤ length (now room)) ⌝ }
     ensures { λ _. ⌜ now (room .exit)
-        ≡ patch (now (room .entry)) contentsStart (copiedRows (now (entries .entry)) at n) ⌝ }
+        ≡ patch (now (room .entry)) contentsStart (copiedItems (now (entries .entry)) at n) ⌝ }
 {
     let mut offset = at;
     let mut i = 0;

@@ -18,7 +18,7 @@ use Rattle.octets.proofs.Index.{and-left, and-right, and-both, and-no, and-yes,
 use Rattle.octets.proofs.Listed.{here, past, allGive, refuses, rows-passed, none-first}
 use Rattle.codes.specs.Form.{Form, code}
 use Rattle.codes.proofs.Forms.{lawful}
-use Rattle.recording.specs.Shape.{entryPlace, kindOf, editionOf, countOf, offsetOf, lengthOf, sumBelow, runningPlace, offsetsRight, endRight, contentsStart, rowWidth, longestBody}
+use Rattle.recording.specs.Shape.{entryPlace, kindOf, editionOf, countOf, offsetOf, lengthOf, sumBelow, runningPlace, offsetsRight, endRight, contentsStart, itemWidth, longestBody}
 use Rattle.recording.proofs.Sums.{sum-none, sum-more, sum-bound, sum-cong}
 use Rattle.recording.proofs.ShapeLaws.{length-lt, Shaped}
 use Rattle.rules.specs.declared.Tally.{Tally}
@@ -116,13 +116,13 @@ lengths-most f n b l =
     sum-bound (lengthOf headWidth f) longestBody n (λ j m. le-of-suc-le-suc (length-lt headWidth f j b (omega arith)))
 
 -- the loop over the contents, where it has passed i entries
-pub record Passed (f : List ℕ) (place i : ℕ) : Type 0 where
+pub record EntriesPassed (f : List ℕ) (place i : ℕ) : Type 0 where
   pub count : countOf f ≡ bodyCount
   pub within : i ≤ bodyCount
   pub running : place ≡ runningPlace headWidth f i
   pub offsets : allBelow (stands f) i ≡ true
 
-pub passed-none : (f : List ℕ) → countOf f ≡ bodyCount → Passed f bodiesAt 0
+pub passed-none : (f : List ℕ) → countOf f ≡ bodyCount → EntriesPassed f bodiesAt 0
 unfolding runningPlace
 passed-none f n =
     record {
@@ -132,8 +132,8 @@ passed-none f n =
       offsets = all-none (stands f);
     }
 
-module _ {f : List ℕ} {place i : ℕ} (p : Passed f place i) where
-  pub passed-more : i < bodyCount → offsetOf headWidth f i ≡ place → Passed f (place + lengthOf headWidth f i) (i + 1)
+module _ {f : List ℕ} {place i : ℕ} (p : EntriesPassed f place i) where
+  pub passed-more : i < bodyCount → offsetOf headWidth f i ≡ place → EntriesPassed f (place + lengthOf headWidth f i) (i + 1)
   unfolding runningPlace
   passed-more l e =
       record {
@@ -143,7 +143,7 @@ module _ {f : List ℕ} {place i : ℕ} (p : Passed f place i) where
         offsets = all-more (stands f) i (p .offsets) (eq-eqb _ _ (e ∙ p .running));
       }
 
-  pub passed-lt : Bytes f → entryPlace headWidth i + rowWidth headWidth ≤ length f → place ≤ bodiesAt + longestBody * i
+  pub passed-lt : Bytes f → entryPlace headWidth i + itemWidth headWidth ≤ length f → place ≤ bodiesAt + longestBody * i
   unfolding runningPlace
   passed-lt b h = omega (arith, p .running, p .count, lengths-most f i b (omega arith))
 

@@ -16,7 +16,7 @@ use Rattle.octets.proofs.Part.{part-nil, part-part}
 use Rattle.codes.specs.Form.{code}
 use Rattle.codes.proofs.Law.{passes-at, back-at}
 use Rattle.codes.proofs.Forms.{lawful}
-use Rattle.recording.specs.Shape.{entryPlace, editionOf, countOf, offsetOf, lengthOf, sumBelow, runningPlace, rowOf, shapeOf, countWidth, lengthLimit, offsetLimit, countLimit}
+use Rattle.recording.specs.Shape.{entryPlace, editionOf, countOf, offsetOf, lengthOf, sumBelow, runningPlace, itemOf, shapeOf, countWidth, lengthLimit, offsetLimit, countLimit}
 use Rattle.recording.proofs.Sums.{sum-cong, part-last}
 use Rattle.recording.proofs.ShapeLaws.{longOf, placeOf, shape-listOf, shape-again, shape-length, shape-long, shape-kind, shape-edition, shape-count, shape-shaped, shape-bytes}
 use Rattle.tables.specs.Forms.{today}
@@ -66,13 +66,13 @@ module _ (n : ℕ) (held : Held) where
   part-in : part (fileIn n held) bodiesAt (code (editionAt n) .width) ≡ code (editionAt n) .write held
   unfolding fileIn
   part-in =
-      let rows : List ℕ = joined (rowOf noHead wholeBody) (listOf (placeOf wholeBody body bodiesAt) bodyCount) in
-      let front : List ℕ = savedKind ∷ n ∷ (bigEndian countWidth bodyCount ++ rows) in
+      let items : List ℕ = joined (itemOf noHead wholeBody) (listOf (placeOf wholeBody body bodiesAt) bodyCount) in
+      let front : List ℕ = savedKind ∷ n ∷ (bigEndian countWidth bodyCount ++ items) in
       let saved : List ℕ = code (editionAt n) .write held in
       let whole : fileIn n held ≡ front ++ saved =
       shape-listOf savedKind n headWidth noHead wholeBody body bodyCount
-      ∙ ap (λ (r : List ℕ). savedKind ∷ n ∷ (bigEndian countWidth bodyCount ++ (rows ++ r))) (bodies-joined n held)
-      ∙ ap (λ (r : List ℕ). savedKind ∷ n ∷ r) (sym (append-assoc (bigEndian countWidth bodyCount) rows saved)) in
+      ∙ ap (λ (r : List ℕ). savedKind ∷ n ∷ (bigEndian countWidth bodyCount ++ (items ++ r))) (bodies-joined n held)
+      ∙ ap (λ (r : List ℕ). savedKind ∷ n ∷ r) (sym (append-assoc (bigEndian countWidth bodyCount) items saved)) in
       let lengths : length front + length saved ≡ bodiesAt + code (editionAt n) .width = sym (length-append front saved) ∙ ap length (sym whole) ∙ file-long in
       ap (λ (r : List ℕ). part r bodiesAt (code (editionAt n) .width)) whole
       ∙ part-last front saved bodiesAt (code (editionAt n) .width) (omega (arith, lengths, saved-length n held)) (saved-length n held)

@@ -20,7 +20,7 @@ use Rattle.octets.proofs.Part.{part-length, part-whole, patch-join}
 use Rattle.codes.specs.Form.{code}
 use Rattle.codes.proofs.Forms.{lawful}
 use Rattle.codes.proofs.Pieces.{fields-written}
-use Rattle.recording.specs.Shape.{entryPlace, sumBelow, rowOf, contentsStart, countAt, countWidth, offsetWidth, lengthWidth, rowWidth}
+use Rattle.recording.specs.Shape.{entryPlace, sumBelow, itemOf, contentsStart, countAt, countWidth, offsetWidth, lengthWidth, itemWidth}
 use Rattle.recording.proofs.Sums.{sum-cong, sum-const, joined-cong, joined-none, joined-more, joined-cut, joined-sum, patch-three}
 use Rattle.recording.proofs.ShapeLaws.{longOf, placeOf, shape-listOf}
 use Rattle.rules.specs.declared.Tally.{Tally}
@@ -96,10 +96,10 @@ module _ (n : ℕ) (held : Held) where
 
 -- ---- the current edition's file, put together: start, contents, bodies
 module _ (held : Held) where
-  row-made : (i : ℕ) → i < bodyCount
-      → entryBytes (bodiesAt + sumBelow (widthAt current) i) i ≡ rowOf noHead wholeBody (placeOf wholeBody (bodyOf current held) bodiesAt i)
-  unfolding entryBytes rowOf
-  row-made i l =
+  item-made : (i : ℕ) → i < bodyCount
+      → entryBytes (bodiesAt + sumBelow (widthAt current) i) i ≡ itemOf noHead wholeBody (placeOf wholeBody (bodyOf current held) bodiesAt i)
+  unfolding entryBytes itemOf
+  item-made i l =
       ap₂ (λ (p q : ℕ). bigEndian offsetWidth (bodiesAt + p) ++ bigEndian lengthWidth q)
       (sym (body-place currentEdition held i (omega arith))) (sym (body-length currentEdition held i l))
 
@@ -109,7 +109,7 @@ module _ (held : Held) where
       shape-listOf savedKind currentEdition headWidth noHead wholeBody (bodyOf current held) bodyCount
       ∙ ap₂ (λ (p q : List ℕ). startBytes ++ (p ++ q))
       (sym (joined-cong (λ i. entryBytes (bodiesAt + sumBelow (widthAt current) i) i) (λ i. i)
-      (rowOf noHead wholeBody) (placeOf wholeBody (bodyOf current held) bodiesAt) bodyCount row-made))
+      (itemOf noHead wholeBody) (placeOf wholeBody (bodyOf current held) bodiesAt) bodyCount item-made))
       (bodies-joined currentEdition held)
 
 -- ---- the code's writes, one after the other, are one
@@ -119,23 +119,23 @@ start-written room l =
     patch-three room 0 1 countAt (savedKind ∷ []) (currentEdition ∷ []) (bigEndian countWidth bodyCount) refl refl
     (omega (arith, bigEndian-length countWidth bodyCount))
 
-pub entry-written : (room : List ℕ) (at offset i : ℕ) → at + rowWidth headWidth ≤ length room
+pub entry-written : (room : List ℕ) (at offset i : ℕ) → at + itemWidth headWidth ≤ length room
     → patch (patch room at (bigEndian offsetWidth offset)) (at + offsetWidth) (bigEndian lengthWidth (widthAt current i)) ≡ patch room at (entryBytes offset i)
 unfolding entryBytes
 entry-written room at offset i l =
     patch-join room at (at + offsetWidth) (bigEndian offsetWidth offset) (bigEndian lengthWidth (widthAt current i))
     (omega (arith, bigEndian-length offsetWidth offset)) (omega (arith, bigEndian-length lengthWidth (widthAt current i)))
 
-entry-length : (offset i : ℕ) → length (entryBytes offset i) ≡ rowWidth headWidth
+entry-length : (offset i : ℕ) → length (entryBytes offset i) ≡ itemWidth headWidth
 unfolding entryBytes
 entry-length offset i = simp (length-append, bigEndian-length) refl
 
-pub contents-length : (n : ℕ) → length (contentsBytes n) ≡ rowWidth headWidth * n
+pub contents-length : (n : ℕ) → length (contentsBytes n) ≡ itemWidth headWidth * n
 unfolding contentsBytes
 contents-length n =
     joined-sum (λ i. entryBytes (bodiesAt + sumBelow (widthAt current) i) i) (λ i. i) n
-    ∙ sum-cong (λ i. length (entryBytes (bodiesAt + sumBelow (widthAt current) i) i)) (λ i. rowWidth headWidth) n (λ i m. entry-length _ i)
-    ∙ sum-const (rowWidth headWidth) n
+    ∙ sum-cong (λ i. length (entryBytes (bodiesAt + sumBelow (widthAt current) i) i)) (λ i. itemWidth headWidth) n (λ i m. entry-length _ i)
+    ∙ sum-const (itemWidth headWidth) n
 
 pub contents-none : (room : List ℕ) → room ≡ patch room contentsStart (contentsBytes 0)
 unfolding contentsBytes patch

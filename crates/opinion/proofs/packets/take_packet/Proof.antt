@@ -1,4 +1,4 @@
-use Rattle.opinion.proofs.Settled.{Accepted, accepted-packet, packet-refused, packet-judged}
+use Rattle.opinion.proofs.Settled.{NotRefused, accepted-packet, packet-refused, packet-judged}
 use Rattle.opinion.specs.Steps.{arrivalBy}
 use Rattle.log.specs.Log.{ownIn, entriesOf}
 use Rattle.rules.specs.Arrival.{Arrival}
@@ -46,7 +46,7 @@ refusal-so c = c .packet-refusal .ensures (first c .args .signed)
 none : (c : tie.Else1) → eqb (refusal (first (c .before)) (count (c .before))) 0 ≡ true
 none c = eq-eqb _ 0 (sym (refusal-so (c .before)) ∙ c .if1 .left)
 
-fine : (c : tie.Else1) → Accepted (log (first (c .before))) (count (c .before)) (came (first (c .before))) (room (first (c .before)))
+fine : (c : tie.Else1) → NotRefused (log (first (c .before))) (count (c .before)) (came (first (c .before))) (room (first (c .before)))
 fine c = accepted-packet _ _ _ _ (none c)
 
 listed-requires : tie.Need-listed-requires

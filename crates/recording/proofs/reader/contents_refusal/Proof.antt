@@ -6,13 +6,13 @@ use Rattle.octets.proofs.Bytes.{known-bytes}
 use Rattle.recording.specs.Shape.{entryPlace, countOf}
 use Rattle.recording.specs.Format.{headWidth}
 use Rattle.recording.proofs.ShapeLaws.{length-lt}
-use Rattle.recording.proofs.ReadLaws.{Passed, passed-none, passed-more, passed-lt, passed-wrong, ended-wrong, ended-word, ended-taken}
+use Rattle.recording.proofs.ReadLaws.{EntriesPassed, passed-none, passed-more, passed-lt, passed-wrong, ended-wrong, ended-word, ended-taken}
 use borrow.Author.Needs.{needs}
 use Rattle.recording.proofs.reader.contents_refusal.Statement.{statement}
 use Rattle.recording.proofs.reader.contents_refusal.Tie as tie
 
 abbrev Inv-loop : tie.InvT-loop
-Inv-loop file n words₀ place₀ i₀ words place i = Passed file words place i
+Inv-loop file n words₀ place₀ i₀ words place i = EntriesPassed file words place i
 
 abbrev μ-loop : tie.MeasureT-loop
 μ-loop file n words₀ place₀ i₀ words place i = n - i

@@ -9,7 +9,7 @@ use Rattle.recording.specs.Shape.{entryPlace, countOf}
 use Rattle.recording.specs.Format.{headWidth, clockWidth, portAt, entryWidth}
 use Rattle.recording.specs.Reader.{clockOf, portOf}
 use Rattle.recording.proofs.ShapeLaws.{count-lt, offset-lt, length-lt}
-use Rattle.recording.proofs.ReadLaws.{not-counted, row-outside, body-outside, stands-there, fields-none, fields-there}
+use Rattle.recording.proofs.ReadLaws.{not-counted, item-outside, body-outside, stands-there, fields-none, fields-there}
 use borrow.Author.Needs.{needs}
 use Rattle.recording.proofs.reader.entry.Statement.{statement}
 use Rattle.recording.proofs.reader.entry.Tie as tie
@@ -56,7 +56,7 @@ returns-2 c =
     let f = start .args .file .now in
     let i = start .args .i in
     let counted : i < countOf f = omega (arith, after-count .count .ensures, else1 .if1 .left) in
-    c .no-fields2 .ensures ∙ sym (fields-none f i (row-outside f i counted (omega (arith, after-entry-place .entry-place .ensures, c .before .if2 .taken))))
+    c .no-fields2 .ensures ∙ sym (fields-none f i (item-outside f i counted (omega (arith, after-entry-place .entry-place .ensures, c .before .if2 .taken))))
 
 offset-of-requires : tie.Need-offset-of-requires
 offset-of-requires c κs = search needs
@@ -73,9 +73,9 @@ add-if3 c =
     let f = start .args .file .now in
     let i = start .args .i in
     let b = known-bytes f (after-shared-slice-known .shared-slice-known .given) in
-    let row : entryPlace headWidth i + entryWidth ≤ length f = omega (arith, after-entry-place .entry-place .ensures, else2 .if2 .left) in
-    let start = offset-lt headWidth f i b row in
-    let long = length-lt headWidth f i b row in
+    let item : entryPlace headWidth i + entryWidth ≤ length f = omega (arith, after-entry-place .entry-place .ensures, else2 .if2 .left) in
+    let start = offset-lt headWidth f i b item in
+    let long = length-lt headWidth f i b item in
     record { fits = omega (arith, c .before .offset-of .ensures, c .length-of .ensures) }
 
 no-fields-requires-3 : tie.Need-no-fields-requires-3
@@ -93,8 +93,8 @@ returns-3 c =
     let f = start .args .file .now in
     let i = start .args .i in
     let counted : i < countOf f = omega (arith, after-count .count .ensures, else1 .if1 .left) in
-    let row : entryPlace headWidth (i + 1) ≤ length f = omega (arith, after-entry-place .entry-place .ensures, else2 .if2 .left) in
-    let past = body-outside f i counted row (omega (arith, after-offset-of .offset-of .ensures, after-length-of .length-of .ensures, c .before .if3 .taken)) in
+    let item : entryPlace headWidth (i + 1) ≤ length f = omega (arith, after-entry-place .entry-place .ensures, else2 .if2 .left) in
+    let past = body-outside f i counted item (omega (arith, after-offset-of .offset-of .ensures, after-length-of .length-of .ensures, c .before .if3 .taken)) in
     c .no-fields3 .ensures ∙ sym (fields-none f i past)
 
 number-at-requires : tie.Need-number-at-requires
@@ -124,8 +124,8 @@ returns-4 c =
     let f = start .args .file .now in
     let i = start .args .i in
     let counted : i < countOf f = omega (arith, after-count .count .ensures, else1 .if1 .left) in
-    let row : entryPlace headWidth (i + 1) ≤ length f = omega (arith, after-entry-place .entry-place .ensures, else2 .if2 .left) in
-    let there = stands-there f i counted row (omega (arith, after-offset-of .offset-of .ensures, after-length-of .length-of .ensures, else3 .if3 .left)) in
+    let item : entryPlace headWidth (i + 1) ≤ length f = omega (arith, after-entry-place .entry-place .ensures, else2 .if2 .left) in
+    let there = stands-there f i counted item (omega (arith, after-offset-of .offset-of .ensures, after-length-of .length-of .ensures, else3 .if3 .left)) in
     let at = after-entry-place .entry-place .ensures in
     let clock : after-number-at .number-at .result ≡ clockOf f i = after-number-at .number-at .ensures ∙ ap (λ (k : ℕ). number (part f k clockWidth)) at in
     let port : getD f (after-entry-place .entry-place .result + portAt) 0 ≡ portOf f i = ap (λ (k : ℕ). getD f (k + portAt) 0) at in

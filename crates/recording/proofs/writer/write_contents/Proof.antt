@@ -9,15 +9,15 @@ use Rattle.octets.proofs.Bytes.{known-bytes}
 use Rattle.recording.specs.Shape.{entryPlace, contentsStart}
 use Rattle.recording.specs.Format.{headWidth}
 use Rattle.recording.specs.Writer.{givenCount, givenStart}
-use Rattle.recording.specs.Steps.{copiedRow, copiedRows}
-use Rattle.recording.proofs.WriteLaws.{given-start-none, given-start-more, given-start-most, given-long, rows-none, rows-more}
+use Rattle.recording.specs.Steps.{copiedItem, copiedItems}
+use Rattle.recording.proofs.WriteLaws.{given-start-none, given-start-more, given-start-most, given-long, items-none, items-more}
 use borrow.Author.Needs.{needs}
 use Rattle.recording.proofs.writer.write_contents.Statement.{statement}
 use Rattle.recording.proofs.writer.write_contents.Tie as tie
 
 abbrev Inv-loop : tie.InvT-loop
 Inv-loop entries n at room₀ offset₀ i₀ room offset i =
-    (i ≤ n) × ((length room ≡ length room₀) × ((offset ≡ at + givenStart entries i) × (room ≡ patch room₀ contentsStart (copiedRows entries at i))))
+    (i ≤ n) × ((length room ≡ length room₀) × ((offset ≡ at + givenStart entries i) × (room ≡ patch room₀ contentsStart (copiedItems entries at i))))
 
 abbrev μ-loop : tie.MeasureT-loop
 μ-loop entries n at room₀ offset₀ i₀ room offset i = n - i
@@ -28,7 +28,7 @@ loop-holds c =
     let g = start .args .entries .now in
     let at = start .args .at in
     let none = sym (add-zero at) ∙ ap (λ (k : ℕ). at + k) (given-start-none g) in
-    (search needs, (refl, (none, rows-none g at (start .args .room .now))))
+    (search needs, (refl, (none, items-none g at (start .args .room .now))))
 
 write-entry-requires : tie.Need-write-entry-requires Inv-loop μ-loop
 write-entry-requires c κs =
@@ -76,9 +76,9 @@ loop-again c =
     let within : i < givenCount g = omega (arith, start .pre .0, in-loop .loop-test .taken) in
     let offset = at-loop .loop .inv .1 .1 .0 in
     let next = ap₂ (λ (p q : ℕ). p + q) offset (c .given-length .ensures) ∙ add-assoc at _ _ ∙ ap (λ (k : ℕ). at + k) (given-start-more g i) in
-    let row = ap₂ (λ (r : List ℕ) (k : ℕ). patch r (entryPlace headWidth i) (copiedRow g k i)) (at-loop .loop .inv .1 .1 .1) offset in
-    let more = rows-more g at (start .args .room .now) i within (omega (arith, start .pre .3, in-loop .loop-test .taken)) in
-    (search needs, (search needs, (next, after-write-entry .write-entry .ensures ∙ row ∙ more)))
+    let item = ap₂ (λ (r : List ℕ) (k : ℕ). patch r (entryPlace headWidth i) (copiedItem g k i)) (at-loop .loop .inv .1 .1 .1) offset in
+    let more = items-more g at (start .args .room .now) i within (omega (arith, start .pre .3, in-loop .loop-test .taken)) in
+    (search needs, (search needs, (next, after-write-entry .write-entry .ensures ∙ item ∙ more)))
 
 same-length : tie.Need-same-length Inv-loop μ-loop
 same-length c = search needs
@@ -88,7 +88,7 @@ returns c =
     let start = c .before .before .before .before in
     let a = start .args in
     let all = le-antisymm (c .before .loop .inv .0) (c .loop-test .left) in
-    c .before .loop .inv .1 .1 .1 ∙ ap (λ (k : ℕ). patch (a .room .now) contentsStart (copiedRows (a .entries .now) (a .at) k)) all
+    c .before .loop .inv .1 .1 .1 ∙ ap (λ (k : ℕ). patch (a .room .now) contentsStart (copiedItems (a .entries .now) (a .at) k)) all
 
 pub write-contents-spec : {M : Type 1} → statement M
 write-contents-spec =

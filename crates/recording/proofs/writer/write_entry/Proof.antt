@@ -5,7 +5,7 @@ use native.Mathlib.Omega.{arith}
 use Rattle.octets.specs.Part.{patch}
 use Rattle.octets.specs.BigEndian.{bigEndian}
 use Rattle.recording.specs.Writer.{givenWidth, givenLengthAt, givenHeadAt}
-use Rattle.recording.specs.Steps.{copiedRow}
+use Rattle.recording.specs.Steps.{copiedItem}
 use Rattle.recording.specs.Shape.{offsetWidth, lengthWidth}
 use Rattle.recording.specs.Format.{headWidth, lengthAt}
 use Rattle.recording.proofs.WriteLaws.{given-within, given-range, entry-written}
@@ -90,7 +90,7 @@ returns c =
     after-copy-at2 .copy-at2 .ensures
     ∙ ap₂ (λ (r s : List ℕ). patch r (at + lengthAt) s) offset (given-range g from givenLengthAt lengthWidth)
     ∙ entry-written g room at (a .offset) (a .i) (start .pre .0) (omega (arith, after-entry-place .entry-place .ensures, start .pre .2))
-    ∙ ap (λ (k : ℕ). patch room k (copiedRow g (a .offset) (a .i))) (after-entry-place .entry-place .ensures)
+    ∙ ap (λ (k : ℕ). patch room k (copiedItem g (a .offset) (a .i))) (after-entry-place .entry-place .ensures)
 
 pub write-entry-spec : {M : Type 1} → statement M
 write-entry-spec =

@@ -6,7 +6,7 @@ use native.Mathlib.Omega.{arith}
 use Rattle.octets.specs.Part.{patch}
 use Rattle.octets.proofs.Bytes.{known-bytes}
 use Rattle.recording.specs.Writer.{fileLength}
-use Rattle.recording.specs.Steps.{copiedRows}
+use Rattle.recording.specs.Steps.{copiedItems}
 use Rattle.recording.specs.Shape.{contentsStart}
 use Rattle.recording.proofs.WriteLaws.{writable, written-few, file-written}
 use borrow.Author.Needs.{needs}
@@ -71,8 +71,8 @@ returns c =
     let room = a .room .now in
     let n = after-given-count .given-count .ensures in
     let start = after-write-start .write-start .ensures in
-    let rows = copiedRows g (after-entry-place .entry-place .result) (after-given-count .given-count .result) in
-    let contents = after-write-contents .write-contents .ensures ∙ ap (λ (r : List ℕ). patch r contentsStart rows) start in
+    let items = copiedItems g (after-entry-place .entry-place .result) (after-given-count .given-count .result) in
+    let contents = after-write-contents .write-contents .ensures ∙ ap (λ (r : List ℕ). patch r contentsStart items) start in
     after-copy-at .copy-at .ensures
     ∙ ap (λ (r : List ℕ). patch r (after-entry-place .entry-place .result) (a .bodies .now)) contents
     ∙ file-written g (a .bodies .now) room (known-bytes g (after-shared-slice-known .shared-slice-known .given)) w _ _ n

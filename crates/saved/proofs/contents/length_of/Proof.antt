@@ -3,7 +3,7 @@ use Prim.Native.Nat.{ℕ, _+_, _*_}
 use native.Mathlib.Nat.{add-zero}
 use Rattle.octets.specs.Part.{part}
 use Rattle.octets.specs.BigEndian.{number}
-use Rattle.recording.specs.Shape.{lengthOf, contentsStart, offsetWidth, lengthWidth, rowWidth}
+use Rattle.recording.specs.Shape.{lengthOf, contentsStart, offsetWidth, lengthWidth, itemWidth}
 use borrow.Author.Needs.{needs}
 use Rattle.saved.proofs.contents.length_of.Statement.{statement}
 use Rattle.saved.proofs.contents.length_of.Tie as tie
@@ -27,7 +27,7 @@ returns c =
     let start = c .before .before in
     c .number-at .ensures
     ∙ ap (λ (k : ℕ). number (part (start .args .file .now) (k + offsetWidth) lengthWidth))
-    (sym (add-zero (contentsStart + rowWidth headWidth * start .args .i)))
+    (sym (add-zero (contentsStart + itemWidth headWidth * start .args .i)))
 
 pub length-of-spec : {M : Type 1} → statement M
 length-of-spec =

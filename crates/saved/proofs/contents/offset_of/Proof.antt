@@ -3,7 +3,7 @@ use Prim.Native.Nat.{ℕ, _+_, _*_}
 use native.Mathlib.Nat.{add-zero}
 use Rattle.octets.specs.Part.{part}
 use Rattle.octets.specs.BigEndian.{number}
-use Rattle.recording.specs.Shape.{offsetOf, contentsStart, offsetWidth, rowWidth}
+use Rattle.recording.specs.Shape.{offsetOf, contentsStart, offsetWidth, itemWidth}
 use borrow.Author.Needs.{needs}
 use Rattle.saved.proofs.contents.offset_of.Statement.{statement}
 use Rattle.saved.proofs.contents.offset_of.Tie as tie
@@ -23,7 +23,7 @@ unfolding offsetOf
 returns c =
     let start = c .before .before in
     c .number-at .ensures
-    ∙ ap (λ (k : ℕ). number (part (start .args .file .now) k offsetWidth)) (sym (add-zero (contentsStart + rowWidth headWidth * start .args .i)))
+    ∙ ap (λ (k : ℕ). number (part (start .args .file .now) k offsetWidth)) (sym (add-zero (contentsStart + itemWidth headWidth * start .args .i)))
 
 pub offset-of-spec : {M : Type 1} → statement M
 offset-of-spec = tie.close (tie.spec mul-number-at add-number-at number-at-requires returns)

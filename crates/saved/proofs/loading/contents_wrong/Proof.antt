@@ -4,17 +4,17 @@ use native.Mathlib.Nat.{le-antisymm}
 use lib.ListN.{length}
 use Rattle.octets.specs.Index.{allBelow}
 use Rattle.octets.proofs.Bytes.{known-bytes}
-use Rattle.recording.specs.Shape.{entryPlace, rowWidth}
+use Rattle.recording.specs.Shape.{entryPlace, itemWidth}
 use Rattle.recording.proofs.ShapeLaws.{length-lt}
 use Rattle.saved.specs.File.{headWidth, bodyCount}
-use Rattle.saved.proofs.LoadLaws.{stands, other-count, contents-right, Passed, passed-none, passed-more, passed-lt, passed-wrong}
+use Rattle.saved.proofs.LoadLaws.{stands, other-count, contents-right, EntriesPassed, passed-none, passed-more, passed-lt, passed-wrong}
 use native.Mathlib.Omega.{arith}
 use borrow.Author.Needs.{needs}
 use Rattle.saved.proofs.loading.contents_wrong.Statement.{statement}
 use Rattle.saved.proofs.loading.contents_wrong.Tie as tie
 
 abbrev Inv-loop : tie.InvT-loop
-Inv-loop file place₀ i₀ place i = Passed file place i
+Inv-loop file place₀ i₀ place i = EntriesPassed file place i
 
 abbrev μ-loop : tie.MeasureT-loop
 μ-loop file place₀ i₀ place i = bodyCount - i
@@ -59,7 +59,7 @@ add-place c =
     let f = start .args .file .now in
     let b = known-bytes f (after-shared-slice-known .shared-slice-known .given) in
     let i = at-loop .loop .i in
-    let inside : entryPlace headWidth i + rowWidth headWidth ≤ length f = omega (arith, start .pre, at-loop .loop .inv .count, in-loop .loop-test .taken) in
+    let inside : entryPlace headWidth i + itemWidth headWidth ≤ length f = omega (arith, start .pre, at-loop .loop .inv .count, in-loop .loop-test .taken) in
     let long = length-lt headWidth f i b inside in
     record { fits = omega (arith, passed-lt (at-loop .loop .inv) b inside, c .length-of .ensures, in-loop .loop-test .taken) }
 

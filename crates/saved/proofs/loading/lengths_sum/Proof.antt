@@ -3,7 +3,7 @@ use Prim.Native.Nat.{ℕ, _+_, _-_, _≤_}
 use native.Mathlib.Nat.{le-antisymm}
 use lib.ListN.{length}
 use Rattle.octets.proofs.Bytes.{known-bytes}
-use Rattle.recording.specs.Shape.{entryPlace, lengthOf, sumBelow, rowWidth}
+use Rattle.recording.specs.Shape.{entryPlace, lengthOf, sumBelow, itemWidth}
 use Rattle.recording.proofs.Sums.{sum-none, sum-more}
 use Rattle.recording.proofs.ShapeLaws.{length-lt}
 use Rattle.saved.specs.File.{headWidth}
@@ -33,7 +33,7 @@ add-sum c =
     let f = start .args .file .now in
     let b = known-bytes f (after-shared-slice-known .shared-slice-known .given) in
     let i = at-loop .loop .i in
-    let inside : entryPlace headWidth i + rowWidth headWidth ≤ length f = omega (arith, start .pre .0, c .before .loop-test .taken) in
+    let inside : entryPlace headWidth i + itemWidth headWidth ≤ length f = omega (arith, start .pre .0, c .before .loop-test .taken) in
     let most = lengths-most f i b (omega arith) in
     let long = length-lt headWidth f i b inside in
     record { fits = omega (arith, at-loop .loop .inv .1, c .length-of .ensures, start .pre .1, c .before .loop-test .taken) }
