@@ -20,7 +20,7 @@ use Rattle.packet.specs.Read.{headerOf, longestPacket, readingRows, readingRefu
 use Rattle.packet.specs.Write.{leastOutput, packetOf, writingRows, writingRefusal, Writing, writing}
 use Rattle.packet.specs.Hash.{packetHashAnswer, linkIdAnswer}
 use Rattle.packet.specs.declared.Parts.{Parts}
-use Rattle.packet.specs.Places.{typeOneStart, typeTwoStart}
+use Rattle.packet.specs.Places.{typeOneStart, typeTwoStart, signatureWidth}
 use Rattle.numbers.specs.Numbers.{portCount, localCount, modeCount, isSize, clockLimit}
 use Rattle.rules.specs.Relay.{makeRateSettings, Port, Slot, empty, used, Relay}
 use Rattle.rules.specs.View.{portOn, portSize, isLocal, viewAt}
@@ -48,6 +48,7 @@ use Rattle.saved.specs.Load.{lengthWrong, kindWrong, contentsWrong, bodiesWrong
 use Rattle.saved.specs.Format.{saving, loading}
 use Rattle.recording.specs.Reader.{lengthWrong as recordingLengthWrong, kindWrong as recordingKindWrong, placesWrong, wordsWrong, fileRows, fileRefusal}
 use Rattle.surveying.specs.Promise.{startOn, recordingOn}
+use Rattle.surveying.specs.Survey.{recordingLimit}
 use Rattle.surveying.proofs.StartLaws.{not-begun, start-refusal}
 use Rattle.surveying.proofs.SurveyLaws.{recording-refusal, refused-leaves}
 use Rattle.announcing.specs.Announcing.{Announce, signedBytes, announceWith, wrongLengths, announceRows, announceRefusal, anySignature, signing, building}
@@ -295,10 +296,10 @@ hashing-rows m = go (ltb longestMessage (length m)) refl
 pub reading-rows : (size : ℕ) (p : List ℕ)
     → reading size p .refusal
     ≡ (not (isSize size) then 9 otherwise
-    ltb (length p) 19 then 1 otherwise
+    ltb (length p) typeOneStart then 1 otherwise
     ltb size (length p) then 2 otherwise
     accessCode (headerOf p) then 3 otherwise
-    typeTwo (headerOf p) and ltb (length p) 35 then 1 otherwise 0)
+    typeTwo (headerOf p) and ltb (length p) typeTwoStart then 1 otherwise 0)
 unfolding reading readingRefusal readingRows firstOf
 reading-rows size p = refl
 
@@ -354,7 +355,7 @@ module _ (a : Announce) (signature room : List ℕ) where
 
 -- "for the signing bytes too": as the announce, whatever the signature's 64 bytes
 module _ (a : Announce) (room : List ℕ) where
-  pub signing-rows : (signature : List ℕ) → length signature ≡ 64 → signing a room .answer .refusal ≡ building a signature room .answer .refusal
+  pub signing-rows : (signature : List ℕ) → length signature ≡ signatureWidth → signing a room .answer .refusal ≡ building a signature room .answer .refusal
   unfolding signing building
   signing-rows signature e =
       laid-refusal _ (signedBytes a) room
@@ -391,7 +392,7 @@ module _ (file start work counts refusals : List ℕ) where
   settings-stay = not-begun file start work counts refusals
 
   pub recording-rows : recordingOn file start work counts refusals .refusal
-      ≡ (leb 16 (getD refusals 0 0) then 29 otherwise
+      ≡ (leb recordingLimit (getD refusals 0 0) then 29 otherwise
       recordingLengthWrong file then 20 otherwise
       recordingKindWrong file then 21 otherwise
       placesWrong file then 22 otherwise
