@@ -11,6 +11,7 @@ use Rattle.sha256.specs.Sha256.{sha256-of}
 use Rattle.sha256.proofs.Promise.{digest-byte}
 use Rattle.octets.specs.Bytes.{Bytes}
 use Rattle.octets.specs.Part.{patch}
+use Rattle.octets.specs.BigEndian.{wordWidth}
 use Rattle.octets.proofs.Choice.{then-true}
 use Rattle.octets.proofs.Bytes.{take-bytes}
 use Rattle.octets.proofs.Part.{part-again, part-split, part-whole}
@@ -18,8 +19,9 @@ use Rattle.octets.proofs.Index.{and-yes}
 use Rattle.packet.specs.Header.{isData, isLinkRequest}
 use Rattle.packet.specs.Read.{partsOf, payload}
 use Rattle.packet.specs.Hash.{hashedPart, packetHash, linkId}
+use Rattle.packet.specs.Places.{linkPayloadWidth}
 use Rattle.packet.proofs.Widths.{link-id-length}
-use Rattle.numbers.specs.Numbers.{pathCount, linkCount, returnCount}
+use Rattle.numbers.specs.Numbers.{pathCount, linkCount, returnCount, addressWidth}
 use Rattle.rules.specs.Relay.{Path, Return, Relay}
 use Rattle.rules.specs.View.{View, viewAt, freeLink, linkPlace}
 use Rattle.rules.specs.Arrival.{Arrival, header, destination}
@@ -51,8 +53,8 @@ use Rattle.act.proofs.Inverted.{inverted, at-place}
 pub link-id-bytes : (p : List ℕ) → Bytes (linkId p)
 unfolding linkId
 link-id-bytes p =
-    let m : List ℕ = hashedPart (partsOf p) (take 64 (payload p)) in
-    take-bytes 16 (sha256-of m) (digest-byte m)
+    let m : List ℕ = hashedPart (partsOf p) (take linkPayloadWidth (payload p)) in
+    take-bytes addressWidth (sha256-of m) (digest-byte m)
 
 module _ (packet : List ℕ) (m : Arrived) (t : List ℕ) (ok : AcceptedOn packet m t) where
   abbrev a : Arrival
@@ -113,7 +115,8 @@ module _ (packet : List ℕ) (m : Arrived) (t : List ℕ) (ok : AcceptedOn packe
     unfolding outgoing leavingPort returnKey returnPut
     data-left b port n output u o q1 q2 q3 hash is q4 =
         forwarded (by-path (pathAt t i)) (data-record .1) (by-path-forwards (pathAt t i)) port n _ output u o q1 refl q2 q3
-        (return-written v a t b (ok .formed) (pathAt t i) (take 16 hash) port (r .returns .next) u (data-record .2) (ap (take 16) is) q1 refl q4)
+        (return-written v a t b (ok .formed) (pathAt t i) (take addressWidth hash) port (r .returns .next) u (data-record .2)
+        (ap (take addressWidth) is) q1 refl q4)
 
   -- ---- a link request by the path at a place
   module _ (i place high low : ℕ) (d : decision r a ≡ Request i place high low) where
@@ -139,9 +142,10 @@ module _ (packet : List ℕ) (m : Arrived) (t : List ℕ) (ok : AcceptedOn packe
         let id : List ℕ = linkId packet in
         let size = link-id-length packet in
         ap₂ addressBy (k .5) (k .6)
-        ∙ ap₂ _++_ (part-again id 0 8 (link-id-bytes packet) (omega (arith, size))) (part-again id 8 8 (link-id-bytes packet) (omega (arith, size)))
-        ∙ sym (part-split id 0 8 8)
-        ∙ part-whole id 16 size
+        ∙ ap₂ _++_ (part-again id 0 wordWidth (link-id-bytes packet) (omega (arith, size)))
+        (part-again id wordWidth wordWidth (link-id-bytes packet) (omega (arith, size)))
+        ∙ sym (part-split id 0 wordWidth wordWidth)
+        ∙ part-whole id addressWidth size
 
     pub asked-left : Bytes t → (port n : ℕ) (x : Link) (output u o : List ℕ) → port ≡ pathAt t i .port → x ≡ linkRecord a (pathAt t i)
         → n ≡ length (forwardedOn packet t i) → o ≡ patch output 0 (forwardedOn packet t i)

@@ -15,6 +15,7 @@ use Rattle.octets.proofs.Choice.{then-true, then-false, or-left, or-right, or-n
 use Rattle.octets.proofs.Part.{part-length}
 use Rattle.packet.specs.Read.{longestPacket, payload, reads}
 use Rattle.packet.specs.Announce.{blobOf}
+use Rattle.packet.specs.Places.{blobEnd}
 use Rattle.numbers.specs.Numbers.{pathCount}
 use Rattle.rules.specs.Relay.{Slot, empty, used, Blobs, Path, Relay}
 use Rattle.rules.specs.View.{View, viewAt, portOn, portSize}
@@ -106,7 +107,7 @@ module _ (packet : List ℕ) (m : Arrived) (t : List ℕ) (ok : AcceptedOn packe
   pub announce-can-leave : CanLeave packet
   announce-can-leave = let k = inverted r a (Announce place known) d in can-leave packet m t ok (everywhere (k .0)) (k .1)
 
-  pub announce-body : 84 ≤ length (payload packet)
+  pub announce-body : blobEnd ≤ length (payload packet)
   announce-body =
       let k = inverted r a (Announce place known) d in
       let q = passed v a (everywhere (k .0)) (k .1) in

@@ -6,9 +6,9 @@ use mathlib.Core.List.{List, _++_}
 use lib.ListN.{take}
 use Rattle.octets.specs.Index.{_and_}
 use Rattle.octets.specs.Choice.{_then_otherwise_}
-use Rattle.octets.specs.BigEndian.{bigEndian}
+use Rattle.octets.specs.BigEndian.{bigEndian, wordWidth}
 use Rattle.packet.specs.Announce.{emissionOf}
-use Rattle.numbers.specs.Numbers.{blobLimit, hashLifetime, returnLifetime}
+use Rattle.numbers.specs.Numbers.{blobLimit, hashLifetime, returnLifetime, addressWidth}
 use Rattle.rules.specs.Relay.{Blobs, Path}
 use Rattle.rules.specs.Exempt.{exempt}
 use Rattle.rules.specs.Blobs.{oneBlob, storeBlob}
@@ -70,10 +70,10 @@ pathPut t place known path blob = pathWritten t place (announced path (blobsStor
 
 -- ---- a link's id
 abbrev pub addressBy : ℕ → ℕ → List ℕ
-addressBy high low = bigEndian 8 high ++ bigEndian 8 low
+addressBy high low = bigEndian wordWidth high ++ bigEndian wordWidth low
 
 -- ---- a return record, whose key is the first 16 of the hash
 unfoldable pub returnPut : List ℕ → ℕ → ℕ → List ℕ → ℕ → List ℕ
 returnPut t arrival leaving hash clock =
-    returnWritten (returnsEmptied clock (take 16 hash) t) (relayOf t .returns .next)
-    (record { key = take 16 hash; arrival = arrival; leaving = leaving; expiry = clock + returnLifetime })
+    returnWritten (returnsEmptied clock (take addressWidth hash) t) (relayOf t .returns .next)
+    (record { key = take addressWidth hash; arrival = arrival; leaving = leaving; expiry = clock + returnLifetime })

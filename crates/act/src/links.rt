@@ -1,6 +1,8 @@
 // Links: made by a link request that is forwarded, and renewed by each packet carried.
 use numbers::HOP_LIFETIME;
 use numbers::PROVED_LIFETIME;
+use octets::WORD_WIDTH;
+use packet::places::HOPS_AT;
 use plan::Arrived;
 use rules::Link;
 use rules::RemainingHops;
@@ -26,8 +28,8 @@ pub fn address_of(high: u64, low: u64) -> [u8; 16]
     ensures { λ r. ⌜ r ≡ addressBy high low ⌝ }
 {
     let mut address = [0u8; 16];
-    octets::write_number_at(&mut address, 0, 8, high);
-    octets::write_number_at(&mut address, 8, 8, low);
+    octets::write_number_at(&mut address, 0, WORD_WIDTH, high);
+    octets::write_number_at(&mut address, WORD_WIDTH, WORD_WIDTH, low);
     address
 }
 
@@ -44,7 +46,7 @@ pub fn asked_link(tables: &[u8], packet: &[u8], arrived: Arrived, path: usize, i
         id,
         asking: arrived.port,
         answering: port,
-        taken: TakenHops(packet[1]),
+        taken: TakenHops(packet[HOPS_AT]),
         remaining: RemainingHops(hops),
         proved: false,
         expiry: arrived.clock + lifetime,

@@ -11,7 +11,7 @@ use Rattle.rules.proofs.Valid.{step-ok, fresh-ok}
 use Rattle.tables.specs.Layout.{bytesOf}
 use Rattle.tables.specs.Shape.{shaped}
 use Rattle.history.specs.Opinion.{listLimit}
-use Rattle.opinion.specs.Log.{listedIn}
+use Rattle.log.specs.Log.{listedIn}
 use Rattle.opinion.specs.Agreeing.{Same, Agree}
 use Rattle.opinion.proofs.Agreement.{engine-agrees}
 use Rattle.demands.specs.Given.{CallsBytes}

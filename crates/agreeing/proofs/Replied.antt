@@ -31,11 +31,11 @@ use Rattle.history.specs.After.{Entry}
 use Rattle.history.specs.Opinion.{listLimit, onPacket, onCall, listed}
 use Rattle.history.specs.SecondOpinion.{coarseReason, coarseVerdict, coarseAnswer, coarse, RepliesAlike}
 use Rattle.history.proofs.InstanceOpinion.{Replies, listed-one}
-use Rattle.opinion.specs.Log.{logSize, listedIn}
+use Rattle.log.specs.Log.{logSize, listedIn}
 use Rattle.opinion.specs.Calls.{IsFresh}
 use Rattle.opinion.specs.Agreeing.{Asked, Same}
 use Rattle.opinion.proofs.Settled.{entries-length}
-use Rattle.opinion.proofs.Agreement.{Holds, still-holds}
+use Rattle.opinion.proofs.Agreement.{HoldsList, still-holds}
 use Rattle.opinion.proofs.Inhabited.{Sixteen, Wide, some-asked, AskedEach, some-replies, start, start-fresh, start-long}
 use Rattle.demands.specs.Given.{CallBytes, CallsBytes}
 use Rattle.demands.specs.Bytes.{repliesOn}
@@ -69,7 +69,7 @@ pub some-logs : (cs : List Call) (log : List ℕ) → length log ≡ logSize →
 some-logs cs log long given = some-replies cs log long (calls-wide cs given)
 
 -- ---- what the engine replies is what the second opinion says
-module _ (address : List ℕ) (entries : List Entry) (log : List ℕ) (h : Holds address entries log) where
+module _ (address : List ℕ) (entries : List Entry) (log : List ℕ) (h : HoldsList address entries log) where
   replied-as : (c : Call) (reply x : Reply) (after : List ℕ) → Asked log c reply after → RepliesAlike address entries c x → Asked log c (coarse x) after
   unfolding RepliesAlike coarse onCall
   replied-as (packet a output) reply x after (answer, out, is, o) alike =
@@ -84,7 +84,7 @@ module _ (address : List ℕ) (entries : List Entry) (log : List ℕ) (h : Holds
   few-listed : length entries < listLimit → listedIn log < listLimit
   few-listed few = omega (arith, entries-length log (listedIn log), ap length (h .lists))
 
-asked-so : (address : List ℕ) (cs : List Call) (entries : List Entry) (log : List ℕ) (xs : List Reply) → length log ≡ logSize → Holds address entries log
+asked-so : (address : List ℕ) (cs : List Call) (entries : List Entry) (log : List ℕ) (xs : List Reply) → length log ≡ logSize → HoldsList address entries log
     → EachCall Wide cs → Replies address entries cs xs → AskedEach cs log (map coarse xs)
 unfolding EachCall Replies AskedEach
 asked-so address [] entries log [] long h wide replied = tt
@@ -116,7 +116,7 @@ same-so log (asks q) reply core after is asked same = absurd (false≢true is)
 same-so log (saves f room) reply core after is asked same = absurd (false≢true is)
 same-so log (loads f file) reply core after is asked same = absurd (false≢true is)
 
-core-so : (address : List ℕ) (cs : List Call) (entries : List Entry) (log tables : List ℕ) (t : Tally) (xs : List Reply) → Holds address entries log
+core-so : (address : List ℕ) (cs : List Call) (entries : List Entry) (log tables : List ℕ) (t : Tally) (xs : List Reply) → HoldsList address entries log
     → length entries + length cs ≤ listLimit → eachAsked cs ≡ true → AgreeOn cs log tables t → AskedEach cs log xs → map coarse (repliesOn cs tables t) ≡ xs
 unfolding AskedEach repliesOn eachAsked
 core-so address [] entries log tables t [] h few is agree asked = refl
@@ -194,7 +194,7 @@ module _ (address : List ℕ) (wide : isBytes addressWidth address ≡ true) whe
   unfolding emptyLog
   empty-long = start-long address (is-length addressWidth address wide)
 
-  empty-holds : Holds address [] emptyLog
+  empty-holds : HoldsList address [] emptyLog
   empty-holds = record { address = empty-fresh .own; lists = empty-fresh .lists }
 
   pub engine-said : (cs : List Call) (xs : List Reply) → CallsBytes cs → Replies address [] cs xs → AskedEach cs emptyLog (map coarse xs)

@@ -11,7 +11,7 @@ use Rattle.tables.specs.Places.{addressWidth}
 use Rattle.tables.specs.Layout.{bytesOf}
 use Rattle.tables.specs.Shape.{isBytes}
 use Rattle.history.specs.Opinion.{listLimit}
-use Rattle.opinion.specs.Log.{listedIn}
+use Rattle.log.specs.Log.{listedIn}
 use Rattle.opinion.specs.Calls.{IsFresh}
 use Rattle.opinion.specs.Agreeing.{Asked, Same}
 use Rattle.demands.specs.Given.{CallsBytes}

@@ -16,6 +16,7 @@ use Rattle.packet.specs.Header.{accessCode, contextFlag, packetKind, destinatio
 use Rattle.packet.specs.Read.{headerOf, partsOf, payload}
 use Rattle.packet.specs.Write.{packetOf, readBack}
 use Rattle.packet.specs.Announce.{keysOf, nameHashOf, blobOf, emissionOf, ratchetLength, ratchetOf, signatureOf, leastAnnounce, appDataOf, identityHash, announcedDestination}
+use Rattle.packet.specs.Places.{blobWidth, keysWidth, nameHashAt, nameHashWidth, blobAt, blobEnd, emissionWidth, ratchetWidth, signatureWidth, randomWidth}
 use Rattle.packet.proofs.RoundTrip.{write-parts, write-payload}
 use Rattle.announcing.specs.Announcing.{Announce, blob, destination, payloadWith, headOf, partsFor, announceWith}
 use Rattle.announcing.proofs.Lengths.{head-either, head-one, parts-wide, ratchet-right, Buildable}
@@ -65,9 +66,10 @@ module _ (a : Announce) (signature : List ℕ) where
     pub flagged : ratchetLength (partsFor a .header) ≡ length (a .ratchet)
     unfolding ratchetLength headOf contextFlag _then_otherwise_
     flagged =
-        ratchet-right (length (a .ratchet)) (λ n. (contextFlag (headOf (destination a) n .header) then 32 otherwise 0) ≡ n) (b .lengths .ratchet) refl refl
+        ratchet-right (length (a .ratchet)) (λ n. (contextFlag (headOf (destination a) n .header) then ratchetWidth otherwise 0) ≡ n)
+        (b .lengths .ratchet) refl refl
 
-    blob-length : length (blob a) ≡ 10
+    blob-length : length (blob a) ≡ blobWidth
     unfolding blob
     blob-length = simp (length-append, bigEndian-length) (omega (arith, b .lengths .random))
 
@@ -75,7 +77,7 @@ module _ (a : Announce) (signature : List ℕ) where
     abbrev start : List ℕ
     start = a .keys ++ (a .nameHash ++ blob a)
 
-    start-length : length start ≡ 84
+    start-length : length start ≡ blobEnd
     start-length = simp length-append (omega (arith, b .lengths .keys, b .lengths .nameHash, blob-length))
 
     abbrev body : List ℕ
@@ -83,30 +85,30 @@ module _ (a : Announce) (signature : List ℕ) where
 
     pub keys-found : keysOf body ≡ a .keys
     unfolding keysOf payloadWith
-    keys-found = part-mid [] (a .keys) _ 0 64 refl (b .lengths .keys)
+    keys-found = part-mid [] (a .keys) _ 0 keysWidth refl (b .lengths .keys)
 
     pub name-found : nameHashOf body ≡ a .nameHash
     unfolding nameHashOf payloadWith
-    name-found = part-mid (a .keys) (a .nameHash) _ 64 10 (b .lengths .keys) (b .lengths .nameHash)
+    name-found = part-mid (a .keys) (a .nameHash) _ nameHashAt nameHashWidth (b .lengths .keys) (b .lengths .nameHash)
 
     pub blob-found : blobOf body ≡ blob a
     unfolding blobOf payloadWith
     blob-found =
-        let two : length (a .keys ++ a .nameHash) ≡ 74 = length-append (a .keys) (a .nameHash) ∙ omega (arith, b .lengths .keys, b .lengths .nameHash) in
-        ap (λ (r : List ℕ). part r 74 10) (sym (append-assoc (a .keys) (a .nameHash) (blob a ++ _)))
-        ∙ part-mid (a .keys ++ a .nameHash) (blob a) _ 74 10 two blob-length
+        let two : length (a .keys ++ a .nameHash) ≡ blobAt = length-append (a .keys) (a .nameHash) ∙ omega (arith, b .lengths .keys, b .lengths .nameHash) in
+        ap (λ (r : List ℕ). part r blobAt blobWidth) (sym (append-assoc (a .keys) (a .nameHash) (blob a ++ _)))
+        ∙ part-mid (a .keys ++ a .nameHash) (blob a) _ blobAt blobWidth two blob-length
 
-    pub random-found : part (blob a) 0 5 ≡ a .random
+    pub random-found : part (blob a) 0 randomWidth ≡ a .random
     unfolding blob
-    random-found = part-mid [] (a .random) (bigEndian 5 (a .clock)) 0 5 refl (b .lengths .random)
+    random-found = part-mid [] (a .random) (bigEndian emissionWidth (a .clock)) 0 randomWidth refl (b .lengths .random)
 
     pub clock-found : emissionOf (blob a) ≡ a .clock
     unfolding emissionOf blob
     clock-found =
-        let time = bigEndian 5 (a .clock) in
-        ap (λ (r : List ℕ). number (part (a .random ++ r) 5 5)) (sym (append-nil time))
-        ∙ ap number (part-mid (a .random) time [] 5 5 (b .lengths .random) (bigEndian-length 5 (a .clock)))
-        ∙ number-bigEndian 5 (a .clock) (b .clock)
+        let time = bigEndian emissionWidth (a .clock) in
+        ap (λ (r : List ℕ). number (part (a .random ++ r) randomWidth emissionWidth)) (sym (append-nil time))
+        ∙ ap number (part-mid (a .random) time [] randomWidth emissionWidth (b .lengths .random) (bigEndian-length emissionWidth (a .clock)))
+        ∙ number-bigEndian emissionWidth (a .clock) (b .clock)
 
     -- the payload behind them
     behind : body ≡ start ++ (a .ratchet ++ (signature ++ a .appData))
@@ -116,33 +118,33 @@ module _ (a : Announce) (signature : List ℕ) where
     pub ratchet-found : ratchetOf (partsFor a .header) body ≡ a .ratchet
     unfolding ratchetOf
     ratchet-found =
-        ap₂ (λ (r : List ℕ) (n : ℕ). part r 84 n) behind flagged
-        ∙ part-mid start (a .ratchet) (signature ++ a .appData) 84 (length (a .ratchet)) start-length refl
+        ap₂ (λ (r : List ℕ) (n : ℕ). part r blobEnd n) behind flagged
+        ∙ part-mid start (a .ratchet) (signature ++ a .appData) blobEnd (length (a .ratchet)) start-length refl
 
-    four-length : length (start ++ a .ratchet) ≡ 84 + length (a .ratchet)
+    four-length : length (start ++ a .ratchet) ≡ blobEnd + length (a .ratchet)
     four-length = length-append start (a .ratchet) ∙ ap (λ (n : ℕ). n + length (a .ratchet)) start-length
 
     pub signature-found : signatureOf (partsFor a .header) body ≡ signature
     unfolding signatureOf
     signature-found =
-        ap₂ (λ (r : List ℕ) (n : ℕ). part r (84 + n) 64) (behind ∙ sym (append-assoc start (a .ratchet) (signature ++ a .appData))) flagged
-        ∙ part-mid (start ++ a .ratchet) signature (a .appData) (84 + length (a .ratchet)) 64 four-length (b .lengths .signature)
+        ap₂ (λ (r : List ℕ) (n : ℕ). part r (blobEnd + n) signatureWidth) (behind ∙ sym (append-assoc start (a .ratchet) (signature ++ a .appData))) flagged
+        ∙ part-mid (start ++ a .ratchet) signature (a .appData) (blobEnd + length (a .ratchet)) signatureWidth four-length (b .lengths .signature)
 
     pub app-data-found : appDataOf (partsFor a .header) body ≡ a .appData
     unfolding appDataOf leastAnnounce
     app-data-found =
-        let five : length ((start ++ a .ratchet) ++ signature) ≡ 84 + length (a .ratchet) + 64 =
+        let five : length ((start ++ a .ratchet) ++ signature) ≡ blobEnd + length (a .ratchet) + signatureWidth =
         length-append (start ++ a .ratchet) signature ∙ omega (arith, four-length, b .lengths .signature) in
-        ap₂ (λ (r : List ℕ) (n : ℕ). drop (84 + n + 64) r)
+        ap₂ (λ (r : List ℕ) (n : ℕ). drop (blobEnd + n + signatureWidth) r)
         (behind ∙ sym (append-assoc start (a .ratchet) (signature ++ a .appData)) ∙ sym (append-assoc (start ++ a .ratchet) signature (a .appData))) flagged
-        ∙ drop-at ((start ++ a .ratchet) ++ signature) (a .appData) (84 + length (a .ratchet) + 64) five
+        ∙ drop-at ((start ++ a .ratchet) ++ signature) (a .appData) (blobEnd + length (a .ratchet) + signatureWidth) five
 
     -- the destination is the one that test 3 finds
     pub destination-found : announcedDestination body ≡ destination a
     unfolding destination keysOf nameHashOf
     destination-found =
         announced-by body (a .keys ++ a .nameHash)
-        (keys-found ∙ sym (part-mid [] (a .keys) (a .nameHash) 0 64 refl (b .lengths .keys)))
+        (keys-found ∙ sym (part-mid [] (a .keys) (a .nameHash) 0 keysWidth refl (b .lengths .keys)))
         (name-found
-        ∙ sym (part-mid (a .keys) (a .nameHash) [] 64 10 (b .lengths .keys) (b .lengths .nameHash))
-        ∙ ap (λ (r : List ℕ). part (a .keys ++ r) 64 10) (append-nil (a .nameHash)))
+        ∙ sym (part-mid (a .keys) (a .nameHash) [] nameHashAt nameHashWidth (b .lengths .keys) (b .lengths .nameHash))
+        ∙ ap (λ (r : List ℕ). part (a .keys ++ r) nameHashAt nameHashWidth) (append-nil (a .nameHash)))

@@ -17,14 +17,16 @@ use Rattle.octets.proofs.Listed.{allGive, refuses, rows-passed}
 use Rattle.packet.specs.Header.{typeTwo}
 use Rattle.packet.specs.Read.{payloadStart}
 use Rattle.packet.specs.Write.{Wide}
+use Rattle.packet.specs.Places.{addressWidth, typeOneStart, keysWidth, nameHashWidth, randomWidth, ratchetWidth, signatureWidth, emissionWidth}
 use Rattle.packet.proofs.ReadLaws.{start-one}
 use Rattle.packet.proofs.WriteLaws.{packet-length}
 use Rattle.packet.proofs.Widths.{announced-length}
 use Rattle.announcing.specs.Announcing.{Announce, blob, destination, signedBytes, payloadWith, headOf, partsFor, announceWith, wrongLengths, announceRows, announceRefusal, anySignature, laid, signing, building, Lays}
 use Rattle.announcing.specs.Steps.{announceLength}
+use Rattle.numbers.specs.Numbers.{longestPacket, leastOutput}
 
 -- ---- the head
-pub head-wide : (d : List ℕ) (n : ℕ) → length d ≡ 16 → Wide (headOf d n)
+pub head-wide : (d : List ℕ) (n : ℕ) → length d ≡ addressWidth → Wide (headOf d n)
 unfolding headOf
 head-wide d n e = record { relay = refl; destination = e }
 
@@ -41,45 +43,46 @@ pub head-one : (d : List ℕ) (n : ℕ) → typeTwo (headOf d n .header) ≡ fal
 unfolding typeTwo
 head-one d n = head-either (λ h. typeTwo h ≡ false) d n refl refl
 
-pub destination-length : (a : Announce) → length (destination a) ≡ 16
+pub destination-length : (a : Announce) → length (destination a) ≡ addressWidth
 unfolding destination
 destination-length a = announced-length (a .keys ++ a .nameHash)
 
 pub parts-wide : (a : Announce) → Wide (partsFor a)
 parts-wide a = head-wide (destination a) (length (a .ratchet)) (destination-length a)
 
-pub parts-start : (a : Announce) → payloadStart (partsFor a .header) ≡ 19
+pub parts-start : (a : Announce) → payloadStart (partsFor a .header) ≡ typeOneStart
 parts-start a = start-one (partsFor a .header) (head-one (destination a) (length (a .ratchet)))
 
 -- ---- lengths
 module _ (a : Announce) (signature : List ℕ) where
-  blob-length : length (blob a) ≡ length (a .random) + 5
+  blob-length : length (blob a) ≡ length (a .random) + emissionWidth
   unfolding blob
   blob-length = simp (length-append, bigEndian-length) (omega arith)
 
   pub payload-length : length (payloadWith a signature)
-      ≡ length (a .keys) + (length (a .nameHash) + (length (a .random) + 5 + (length (a .ratchet) + (length signature + length (a .appData)))))
+      ≡ length (a .keys) + (length (a .nameHash) + (length (a .random) + emissionWidth + (length (a .ratchet) + (length signature + length (a .appData)))))
   unfolding payloadWith
   payload-length = simp length-append (omega (arith, blob-length))
 
   pub announce-length : length (announceWith a signature)
-      ≡ 19 + (length (a .keys) + (length (a .nameHash) + (length (a .random) + 5 + (length (a .ratchet) + (length signature + length (a .appData))))))
+      ≡ typeOneStart + (length (a .keys) +
+      (length (a .nameHash) + (length (a .random) + emissionWidth + (length (a .ratchet) + (length signature + length (a .appData))))))
   unfolding announceWith
   announce-length =
       packet-length (partsFor a) (payloadWith a signature) (parts-wide a) ∙ omega (arith, parts-start a, payload-length)
 
   pub signed-length : length (signedBytes a)
-      ≡ 16 + (length (a .keys) + (length (a .nameHash) + (length (a .random) + 5 + (length (a .ratchet) + length (a .appData)))))
+      ≡ addressWidth + (length (a .keys) + (length (a .nameHash) + (length (a .random) + emissionWidth + (length (a .ratchet) + length (a .appData)))))
   unfolding signedBytes
   signed-length = simp length-append (omega (arith, blob-length, destination-length a))
 
 -- ---- 26: what is known where no length is wrong
 pub record Right (k n r t s : ℕ) : Type 0 where
-  pub keys : k ≡ 64
-  pub nameHash : n ≡ 10
-  pub random : r ≡ 5
-  pub ratchet : (eqb t 0 or eqb t 32) ≡ true
-  pub signature : s ≡ 64
+  pub keys : k ≡ keysWidth
+  pub nameHash : n ≡ nameHashWidth
+  pub random : r ≡ randomWidth
+  pub ratchet : (eqb t 0 or eqb t ratchetWidth) ≡ true
+  pub signature : s ≡ signatureWidth
 
 not-no : (t : Bool) → not t ≡ false → t ≡ true
 not-no true e = refl
@@ -93,24 +96,24 @@ module _ (k n r t s : ℕ) where
       let e2 = or-no-right _ _ e1 in
       let e3 = or-no-right _ _ e2 in
       record {
-        keys = eqb-true k 64 (not-no _ (or-no-left _ _ e));
-        nameHash = eqb-true n 10 (not-no _ (or-no-left _ _ e1));
-        random = eqb-true r 5 (not-no _ (or-no-left _ _ e2));
+        keys = eqb-true k keysWidth (not-no _ (or-no-left _ _ e));
+        nameHash = eqb-true n nameHashWidth (not-no _ (or-no-left _ _ e1));
+        random = eqb-true r randomWidth (not-no _ (or-no-left _ _ e2));
         ratchet = not-no _ (or-no-left _ _ e3);
-        signature = eqb-true s 64 (not-no _ (or-no-right _ _ e3));
+        signature = eqb-true s signatureWidth (not-no _ (or-no-right _ _ e3));
       }
 
 -- a ratchet of right length has 32 bytes or none
-pub ratchet-right : (t : ℕ) (P : ℕ → Type 0) → (eqb t 0 or eqb t 32) ≡ true → P 0 → P 32 → P t
+pub ratchet-right : (t : ℕ) (P : ℕ → Type 0) → (eqb t 0 or eqb t ratchetWidth) ≡ true → P 0 → P ratchetWidth → P t
 unfolding _or_
 ratchet-right t P e none some = go (eqb t 0) refl e
   where
-    go : (v : Bool) → eqb t 0 ≡ v → (v or eqb t 32) ≡ true → P t
+    go : (v : Bool) → eqb t 0 ≡ v → (v or eqb t ratchetWidth) ≡ true → P t
     go true z h = subst P (sym (eqb-true t 0 z)) none
-    go false z h = subst P (sym (eqb-true t 32 h)) some
+    go false z h = subst P (sym (eqb-true t ratchetWidth h)) some
 
-pub ratchet-most : (t : ℕ) → (eqb t 0 or eqb t 32) ≡ true → t ≤ 32
-ratchet-most t e = ratchet-right t (λ n. n ≤ 32) e (lit≤ tt) (lit≤ tt)
+pub ratchet-most : (t : ℕ) → (eqb t 0 or eqb t ratchetWidth) ≡ true → t ≤ ratchetWidth
+ratchet-most t e = ratchet-right t (λ n. n ≤ ratchetWidth) e (lit≤ tt) (lit≤ tt)
 
 -- ---- the refusal by lengths alone: 27 is asked only where all lengths are right
 module _ (a : Announce) (signature : List ℕ) where
@@ -139,8 +142,8 @@ module _ (a : Announce) (signature : List ℕ) where
 pub record Buildable (a : Announce) (signature : List ℕ) (room : ℕ) : Type 0 where
   pub lengths : Right (length (a .keys)) (length (a .nameHash)) (length (a .random)) (length (a .ratchet)) (length signature)
   pub clock : a .clock < 2 ^ 40
-  pub short : announceLength (length (a .ratchet)) (length (a .appData)) ≤ 500
-  pub roomy : 500 ≤ room
+  pub short : announceLength (length (a .ratchet)) (length (a .appData)) ≤ longestPacket
+  pub roomy : leastOutput ≤ room
 
 pub buildable : (a : Announce) (signature : List ℕ) (room : ℕ) → announceRefusal a signature room ≡ 0 → Buildable a signature room
 unfolding announceRows allGive refuses _and_
@@ -181,21 +184,21 @@ module _ (refusal : ℕ) (bytes room : List ℕ) where
   laid-stays z = rw z (refl, refl)
 
 -- ---- what a call says it wrote is at most 500 bytes
-laid-most : (refusal : ℕ) (bytes room : List ℕ) → (refusal ≡ 0 → length bytes ≤ 500) → laid refusal bytes room .answer .length ≤ 500
+laid-most : (refusal : ℕ) (bytes room : List ℕ) → (refusal ≡ 0 → length bytes ≤ longestPacket) → laid refusal bytes room .answer .length ≤ longestPacket
 unfolding laid _then_otherwise_
 laid-most refusal bytes room h = go (eqb refusal 0) refl
   where
-    go : (v : Bool) → eqb refusal 0 ≡ v → laid refusal bytes room .answer .length ≤ 500
+    go : (v : Bool) → eqb refusal 0 ≡ v → laid refusal bytes room .answer .length ≤ longestPacket
     go true e = rw e (h (eqb-true refusal 0 e))
     go false e = rw e (lit≤ tt)
 
-pub building-most : (a : Announce) (signature room : List ℕ) → building a signature room .answer .length ≤ 500
+pub building-most : (a : Announce) (signature room : List ℕ) → building a signature room .answer .length ≤ longestPacket
 unfolding building
 building-most a signature room =
     laid-most _ (announceWith a signature) room (λ z.
     let b = buildable a signature (length room) z in omega (arith, built-length a signature (b .lengths), b .short))
 
-pub signing-most : (a : Announce) (room : List ℕ) → signing a room .answer .length ≤ 500
+pub signing-most : (a : Announce) (room : List ℕ) → signing a room .answer .length ≤ longestPacket
 unfolding signing
 signing-most a room =
     laid-most _ (signedBytes a) room (λ z.

@@ -13,6 +13,7 @@ use Rattle.octets.specs.Part.{part}
 use Rattle.packet.specs.Read.{longestPacket, headerOf, payload, reads, reading}
 use Rattle.packet.specs.Write.{packetOf}
 use Rattle.packet.specs.Announce.{keysOf, nameHashOf, blobOf, emissionOf, ratchetOf, signatureOf, appDataOf}
+use Rattle.packet.specs.Places.{randomWidth, signatureWidth}
 use Rattle.packet.proofs.ListLaws.{patched-start}
 use Rattle.packet.proofs.ReadLaws.{accepted, reads-readable, answer-read}
 use Rattle.packet.proofs.RoundTrip.{write-reads}
@@ -25,7 +26,7 @@ pub record GivesBack (size : ℕ) (p : List ℕ) (a : Announce) (s : List ℕ) :
   pub head : reading size p ≡ record { refusal = 0; parts = partsFor a }
   pub keys : keysOf (payload p) ≡ a .keys
   pub nameHash : nameHashOf (payload p) ≡ a .nameHash
-  pub random : part (blobOf (payload p)) 0 5 ≡ a .random
+  pub random : part (blobOf (payload p)) 0 randomWidth ≡ a .random
   pub clock : emissionOf (blobOf (payload p)) ≡ a .clock
   pub ratchet : ratchetOf (headerOf p) (payload p) ≡ a .ratchet
   pub signature : signatureOf (headerOf p) (payload p) ≡ s
@@ -98,6 +99,6 @@ module _ (a : Announce) (signature room : List ℕ) (z : announceRefusal a signa
       laid-stands (announceRefusal a anySignature (length other)) (signedBytes a) other y
       ∙ sym (ap signedIn built-stands ∙ announce-signed a signature (buildable a signature (length room) z))
 
-pub refused-alike : (a : Announce) (signature : List ℕ) (room : ℕ) → length signature ≡ 64
+pub refused-alike : (a : Announce) (signature : List ℕ) (room : ℕ) → length signature ≡ signatureWidth
     → announceRefusal a anySignature room ≡ announceRefusal a signature room
 refused-alike a signature room e = refusal-by a anySignature room ∙ rw e at (sym (refusal-by a signature room))

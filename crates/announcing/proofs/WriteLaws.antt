@@ -9,6 +9,7 @@ use Rattle.octets.specs.BigEndian.{bigEndian}
 use Rattle.octets.proofs.Part.{patch-join, patch-whole}
 use Rattle.octets.proofs.BigEndian.{bigEndian-length}
 use Rattle.packet.specs.Write.{packetOf}
+use Rattle.packet.specs.Places.{addressWidth, typeOneStart, keysWidth, nameHashAt, nameHashWidth, blobAt, blobEnd, randomWidth, emissionWidth, signatureWidth}
 use Rattle.packet.proofs.WriteLaws.{packet-length, packet-behind}
 use Rattle.announcing.specs.Announcing.{Announce, blob, destination, signedBytes, payloadWith, partsFor, announceWith}
 use Rattle.announcing.specs.Steps.{fields}
@@ -21,26 +22,28 @@ filled t x y n e h =
 
 -- keys, name hash, random bytes, clock and ratchet
 module _ (out keys name random : List ℕ) (clock : ℕ) (ratchet : List ℕ) (at : ℕ)
-    (k : length keys ≡ 64) (n : length name ≡ 10) (r : length random ≡ 5) (room : at + 84 + length ratchet ≤ length out) where
-  pub fields-written : patch (patch (patch (patch (patch out at keys) (at + 64) name) (at + 64 + 10) random) (at + 64 + 10 + 5) (bigEndian 5 clock))
-      (at + 84) ratchet
+    (k : length keys ≡ keysWidth) (n : length name ≡ nameHashWidth) (r : length random ≡ randomWidth) (room : at + blobEnd + length ratchet ≤ length out) where
+  pub fields-written : patch
+      (patch (patch (patch (patch out at keys) (at + nameHashAt) name) (at + blobAt) random) (at + blobAt + randomWidth) (bigEndian emissionWidth clock))
+      (at + blobEnd) ratchet
       ≡ patch out at (fields keys name random clock ratchet)
   unfolding fields
   fields-written =
-      let time = bigEndian 5 clock in
-      let time-length : length time ≡ 5 = bigEndian-length 5 clock in
-      let two : length (keys ++ name) ≡ 74 = length-append keys name ∙ omega arith in
-      let three : length ((keys ++ name) ++ random) ≡ 79 = length-append (keys ++ name) random ∙ omega arith in
-      let four : length (((keys ++ name) ++ random) ++ time) ≡ 84 = length-append ((keys ++ name) ++ random) time ∙ omega arith in
-      ap (λ (x : List ℕ). patch (patch (patch x (at + 64 + 10) random) (at + 64 + 10 + 5) time) (at + 84) ratchet)
-      (patch-join out at (at + 64) keys name (omega arith) (omega arith))
-      ∙ ap (λ (x : List ℕ). patch (patch x (at + 64 + 10 + 5) time) (at + 84) ratchet)
-      (patch-join out at (at + 64 + 10) (keys ++ name) random (omega arith) (omega arith))
-      ∙ ap (λ (x : List ℕ). patch x (at + 84) ratchet) (patch-join out at (at + 64 + 10 + 5) ((keys ++ name) ++ random) time (omega arith) (omega arith))
-      ∙ patch-join out at (at + 84) (((keys ++ name) ++ random) ++ time) ratchet (omega arith) (omega arith)
+      let time = bigEndian emissionWidth clock in
+      let time-length : length time ≡ emissionWidth = bigEndian-length emissionWidth clock in
+      let two : length (keys ++ name) ≡ blobAt = length-append keys name ∙ omega arith in
+      let three : length ((keys ++ name) ++ random) ≡ (blobAt + randomWidth) = length-append (keys ++ name) random ∙ omega arith in
+      let four : length (((keys ++ name) ++ random) ++ time) ≡ blobEnd = length-append ((keys ++ name) ++ random) time ∙ omega arith in
+      ap (λ (x : List ℕ). patch (patch (patch x (at + blobAt) random) (at + blobAt + randomWidth) time) (at + blobEnd) ratchet)
+      (patch-join out at (at + nameHashAt) keys name (omega arith) (omega arith))
+      ∙ ap (λ (x : List ℕ). patch (patch x (at + blobAt + randomWidth) time) (at + blobEnd) ratchet)
+      (patch-join out at (at + blobAt) (keys ++ name) random (omega arith) (omega arith))
+      ∙ ap (λ (x : List ℕ). patch x (at + blobEnd) ratchet)
+      (patch-join out at (at + blobAt + randomWidth) ((keys ++ name) ++ random) time (omega arith) (omega arith))
+      ∙ patch-join out at (at + blobEnd) (((keys ++ name) ++ random) ++ time) ratchet (omega arith) (omega arith)
       ∙ ap (patch out at) (simp append-assoc)
 
-  pub fields-length : length (fields keys name random clock ratchet) ≡ 84 + length ratchet
+  pub fields-length : length (fields keys name random clock ratchet) ≡ blobEnd + length ratchet
   unfolding fields
   fields-length = simp (length-append, bigEndian-length) (omega arith)
 
@@ -48,36 +51,40 @@ module _ (a : Announce) (signature out : List ℕ) (b : Buildable a signature (l
   abbrev all : List ℕ
   all = fields (a .keys) (a .nameHash) (a .random) (a .clock) (a .ratchet)
 
-  all-length : length all ≡ 84 + length (a .ratchet)
+  all-length : length all ≡ blobEnd + length (a .ratchet)
   all-length =
       fields-length out (a .keys) (a .nameHash) (a .random) (a .clock) (a .ratchet) 0 (b .lengths .keys) (b .lengths .nameHash) (b .lengths .random)
       (omega (arith, b .short, b .roomy))
 
-  pub signed-written : patch (patch (patch out 0 (destination a)) 16 all) (16 + 84 + length (a .ratchet)) (a .appData) ≡ patch out 0 (signedBytes a)
+  pub signed-written : patch (patch (patch out 0 (destination a)) addressWidth all) (addressWidth + blobEnd + length (a .ratchet)) (a .appData)
+      ≡ patch out 0 (signedBytes a)
   unfolding signedBytes blob fields
   signed-written =
       let one = destination-length a in
-      let two : length (destination a ++ all) ≡ 100 + length (a .ratchet) = length-append (destination a) all ∙ omega (arith, all-length) in
-      ap (λ (x : List ℕ). patch x (16 + 84 + length (a .ratchet)) (a .appData))
-      (patch-join out 0 16 (destination a) all (omega arith) (omega (arith, all-length, b .short, b .roomy)))
-      ∙ patch-join out 0 (16 + 84 + length (a .ratchet)) (destination a ++ all) (a .appData) (omega arith) (omega (arith, b .short, b .roomy))
+      let two : length (destination a ++ all) ≡ addressWidth + blobEnd + length (a .ratchet) = length-append (destination a) all ∙ omega (arith, all-length) in
+      ap (λ (x : List ℕ). patch x (addressWidth + blobEnd + length (a .ratchet)) (a .appData))
+      (patch-join out 0 addressWidth (destination a) all (omega arith) (omega (arith, all-length, b .short, b .roomy)))
+      ∙ patch-join out 0 (addressWidth + blobEnd + length (a .ratchet)) (destination a ++ all) (a .appData) (omega arith) (omega (arith, b .short, b .roomy))
       ∙ ap (patch out 0) (simp append-assoc)
 
-  pub announce-written : patch (patch (patch (patch out 0 (packetOf (partsFor a) [])) 19 all) (19 + 84 + length (a .ratchet)) signature)
-      (19 + 84 + length (a .ratchet) + 64) (a .appData)
+  pub announce-written : patch
+      (patch (patch (patch out 0 (packetOf (partsFor a) [])) typeOneStart all) (typeOneStart + blobEnd + length (a .ratchet)) signature)
+      (typeOneStart + blobEnd + length (a .ratchet) + signatureWidth) (a .appData)
       ≡ patch out 0 (announceWith a signature)
   unfolding announceWith payloadWith blob fields
   announce-written =
       let head = packetOf (partsFor a) [] in
-      let one : length head ≡ 19 = packet-length (partsFor a) [] (parts-wide a) ∙ omega (arith, parts-start a) in
-      let two : length (head ++ all) ≡ 103 + length (a .ratchet) = length-append head all ∙ omega (arith, all-length) in
+      let one : length head ≡ typeOneStart = packet-length (partsFor a) [] (parts-wide a) ∙ omega (arith, parts-start a) in
+      let two : length (head ++ all) ≡ typeOneStart + blobEnd + length (a .ratchet) = length-append head all ∙ omega (arith, all-length) in
       let sixty-four = b .lengths .signature in
-      let three : length ((head ++ all) ++ signature) ≡ 167 + length (a .ratchet) = length-append (head ++ all) signature ∙ omega arith in
+      let three : length ((head ++ all) ++ signature) ≡ typeOneStart + blobEnd + signatureWidth + length (a .ratchet) = length-append (head ++ all) signature
+      ∙ omega arith in
       let t = length (a .ratchet) in
-      ap (λ (x : List ℕ). patch (patch x (19 + 84 + t) signature) (19 + 84 + t + 64) (a .appData))
-      (patch-join out 0 19 head all (omega arith) (omega (arith, all-length, b .short, b .roomy)))
-      ∙ ap (λ (x : List ℕ). patch x (19 + 84 + t + 64) (a .appData))
-      (patch-join out 0 (19 + 84 + t) (head ++ all) signature (omega arith) (omega (arith, b .short, b .roomy)))
-      ∙ patch-join out 0 (19 + 84 + t + 64) ((head ++ all) ++ signature) (a .appData) (omega arith) (omega (arith, b .short, b .roomy))
+      ap (λ (x : List ℕ). patch (patch x (typeOneStart + blobEnd + t) signature) (typeOneStart + blobEnd + t + signatureWidth) (a .appData))
+      (patch-join out 0 typeOneStart head all (omega arith) (omega (arith, all-length, b .short, b .roomy)))
+      ∙ ap (λ (x : List ℕ). patch x (typeOneStart + blobEnd + t + signatureWidth) (a .appData))
+      (patch-join out 0 (typeOneStart + blobEnd + t) (head ++ all) signature (omega arith) (omega (arith, b .short, b .roomy)))
+      ∙ patch-join out 0 (typeOneStart + blobEnd + t + signatureWidth) ((head ++ all) ++ signature) (a .appData) (omega arith)
+      (omega (arith, b .short, b .roomy))
       ∙ ap (patch out 0) (append-assoc (head ++ all) signature (a .appData) ∙ append-assoc head all (signature ++ a .appData)
       ∙ packet-behind (partsFor a) (all ++ (signature ++ a .appData)) ∙ ap (packetOf (partsFor a)) (simp append-assoc))

@@ -11,6 +11,7 @@ use Rattle.octets.specs.Listed.{Test, _gives_otherwise_, firstOf}
 use Rattle.octets.specs.Part.{patch}
 use Rattle.octets.specs.BigEndian.{bigEndian}
 use Rattle.numbers.specs.Numbers.{longestPacket, leastOutput, clockLimit}
+use Rattle.packet.specs.Places.{keysWidth, nameHashWidth, randomWidth, emissionWidth, ratchetWidth, signatureWidth}
 use Rattle.packet.specs.Read.{headerOf, partsOf, payload, noAddress}
 use Rattle.packet.specs.Write.{packetOf, Writing}
 use Rattle.packet.specs.Announce.{keysOf, nameHashOf, blobOf, ratchetOf, appDataOf, announcedDestination}
@@ -32,7 +33,7 @@ makeAnnounce keys nameHash random clock ratchet appData =
 
 -- the blob: five random bytes, then the clock in five, big-endian
 unfoldable pub blob : Announce → List ℕ
-blob a = a .random ++ bigEndian 5 (a .clock)
+blob a = a .random ++ bigEndian emissionWidth (a .clock)
 
 -- the destination: the one that test 3 finds of a payload that begins with these keys and this name hash
 unfoldable pub destination : Announce → List ℕ
@@ -63,7 +64,11 @@ announceWith a signature = packetOf (partsFor a) (payloadWith a signature)
 -- by lengths. A ratchet may be missing
 unfoldable pub wrongLengths : (keys nameHash random ratchet signature : ℕ) → Bool
 wrongLengths keys nameHash random ratchet signature =
-    not (eqb keys 64) or not (eqb nameHash 10) or not (eqb random 5) or not (eqb ratchet 0 or eqb ratchet 32) or not (eqb signature 64)
+    not (eqb keys keysWidth)
+    or not (eqb nameHash nameHashWidth)
+    or not (eqb random randomWidth)
+    or not (eqb ratchet 0 or eqb ratchet ratchetWidth)
+    or not (eqb signature signatureWidth)
 
 -- the rows, by the lengths of what is given and of what is built
 unfoldable pub announceRows : (keys nameHash random ratchet signature clock built room : ℕ) → List (Test ℕ)
@@ -84,7 +89,7 @@ announceRefusal a signature room =
 
 -- the signing bytes are refused as the announce would be with a signature of 64 bytes, whatever they are
 abbrev pub anySignature : List ℕ
-anySignature = replicate 64 0
+anySignature = replicate signatureWidth 0
 
 -- the answer, and the buffer after it: a refusal leaves it as it was, and bytes past what is written stay
 unfoldable pub laid : ℕ → List ℕ → List ℕ → Writing

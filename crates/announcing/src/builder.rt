@@ -1,34 +1,35 @@
 // Laying out the signing bytes, and building the announce.
-use super::places::ADDRESS_LENGTH;
-use super::places::EMISSION_LENGTH;
-use super::places::FIELDS_LENGTH;
-use super::places::KEYS_LENGTH;
-use super::places::LEAST_LENGTH;
-use super::places::NAME_HASH_LENGTH;
-use super::places::PAYLOAD_START;
-use super::places::RANDOM_LENGTH;
-use super::places::SIGNATURE_LENGTH;
+use super::refusing::LEAST_LENGTH;
 use super::refusing::announce_refusal;
+use numbers::ADDRESS_WIDTH;
 use numbers::refusals;
 use packet::Parts;
 use packet::Written;
+use packet::places::BLOB_AT;
+use packet::places::BLOB_END;
+use packet::places::EMISSION_WIDTH;
+use packet::places::NAME_HASH_AT;
+use packet::places::RANDOM_WIDTH;
+use packet::places::SIGNATURE_WIDTH;
+use packet::places::TYPE_ONE_START;
 ghost use mathlib.Core.Path.{_≡_};
 ghost use mathlib.Core.List.{_++_};
 ghost use Prim.Native.Nat.{_+_, _≤_};
 ghost use lib.ListN.{length};
 ghost use Rattle.octets.specs.Part.{patch};
+ghost use Rattle.packet.specs.Places.{keysWidth, nameHashWidth, randomWidth, blobEnd};
 ghost use Rattle.packet.specs.Announce.{announcedDestination};
 ghost use Rattle.announcing.specs.Announcing.{makeAnnounce, headOf, announceWith, announceRefusal, anySignature, signedBytes, signing, building, Lays};
 ghost use Rattle.announcing.specs.Steps.{fields};
 
 // The destination that keys and name hash give.
 fn destination_of(keys: &[u8], name_hash: &[u8]) -> [u8; 16]
-    requires { ⌜ (length (now keys) ≡ 64) × (length (now «name_hash») ≡ 10) ⌝ }
+    requires { ⌜ (length (now keys) ≡ keysWidth) × (length (now «name_hash») ≡ nameHashWidth) ⌝ }
     ensures { λ r. ⌜ r ≡ announcedDestination (now (keys .entry) ++ now («name_hash» .entry)) ⌝ }
 {
-    let mut start = [0u8; KEYS_LENGTH + NAME_HASH_LENGTH];
+    let mut start = [0u8; BLOB_AT];
     octets::copy_at(&mut start, 0, keys);
-    octets::copy_at(&mut start, KEYS_LENGTH, name_hash);
+    octets::copy_at(&mut start, NAME_HASH_AT, name_hash);
     packet::announced_destination(&start)
 }
 
@@ -42,18 +43,18 @@ fn write_fields(
     room: &mut [u8],
     at: usize,
 )
-    requires { ⌜ (length (now keys) ≡ 64) × (length (now «name_hash») ≡ 10) × (length (now random) ≡ 5)
-        × (at + 84 + length (now ratchet) ≤ length (now room)) ⌝ }
+    requires { ⌜ (length (now keys) ≡ keysWidth) × (length (now «name_hash») ≡ nameHashWidth)
+        × (length (now random) ≡ randomWidth) × (at + blobEnd + length (now ratchet) ≤ length (now room)) ⌝ }
     ensures { λ _. ⌜ now (room .exit)
         ≡ patch (now (room .entry)) at
         (fields (now (keys .entry)) (now («name_hash» .entry)) (now (random .entry)) clock (now (ratchet .entry))) ⌝ }
 {
     octets::copy_at(room, at, keys);
-    octets::copy_at(room, at + KEYS_LENGTH, name_hash);
-    let blob = at + KEYS_LENGTH + NAME_HASH_LENGTH;
+    octets::copy_at(room, at + NAME_HASH_AT, name_hash);
+    let blob = at + BLOB_AT;
     octets::copy_at(room, blob, random);
-    octets::write_number_at(room, blob + RANDOM_LENGTH, EMISSION_LENGTH, clock);
-    octets::copy_at(room, at + FIELDS_LENGTH, ratchet);
+    octets::write_number_at(room, blob + RANDOM_WIDTH, EMISSION_WIDTH, clock);
+    octets::copy_at(room, at + BLOB_END, ratchet);
 }
 
 // The announce's head: header 01, or 21 with a ratchet; hops and context 0.
@@ -93,20 +94,8 @@ fn write_signed(
 {
     let destination = destination_of(keys, name_hash);
     octets::copy_at(room, 0, &destination);
-    write_fields(
-        keys,
-        name_hash,
-        random,
-        clock,
-        ratchet,
-        room,
-        ADDRESS_LENGTH,
-    );
-    octets::copy_at(
-        room,
-        ADDRESS_LENGTH + FIELDS_LENGTH + ratchet.len(),
-        app_data,
-    );
+    write_fields(keys, name_hash, random, clock, ratchet, room, ADDRESS_WIDTH);
+    octets::copy_at(room, ADDRESS_WIDTH + BLOB_END + ratchet.len(), app_data);
 }
 
 // Writes the announce at the start of the room.
@@ -130,10 +119,18 @@ fn write_announce(
 {
     let parts = head(destination_of(keys, name_hash), ratchet.len());
     packet::write_packet(parts, &keys[0..0], room);
-    write_fields(keys, name_hash, random, clock, ratchet, room, PAYLOAD_START);
-    let behind = PAYLOAD_START + FIELDS_LENGTH + ratchet.len();
+    write_fields(
+        keys,
+        name_hash,
+        random,
+        clock,
+        ratchet,
+        room,
+        TYPE_ONE_START,
+    );
+    let behind = TYPE_ONE_START + BLOB_END + ratchet.len();
     octets::copy_at(room, behind, signature);
-    octets::copy_at(room, behind + SIGNATURE_LENGTH, app_data);
+    octets::copy_at(room, behind + SIGNATURE_WIDTH, app_data);
 }
 
 // Lays out the bytes that the host signs, at the start of the room.
@@ -158,7 +155,7 @@ pub fn signing_bytes(
         clock,
         ratchet.len(),
         app_data.len(),
-        SIGNATURE_LENGTH,
+        SIGNATURE_WIDTH,
         room.len(),
     );
     if refusal != refusals::NONE {
@@ -167,7 +164,7 @@ pub fn signing_bytes(
     write_signed(keys, name_hash, random, clock, ratchet, app_data, room);
     Written {
         refusal: refusals::NONE,
-        length: ADDRESS_LENGTH + FIELDS_LENGTH + ratchet.len() + app_data.len(),
+        length: ADDRESS_WIDTH + BLOB_END + ratchet.len() + app_data.len(),
     }
 }
 

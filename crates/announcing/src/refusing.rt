@@ -1,18 +1,22 @@
 // The refusals of both calls, by lengths.
-use super::places::KEYS_LENGTH;
-use super::places::LEAST_LENGTH;
-use super::places::NAME_HASH_LENGTH;
-use super::places::RANDOM_LENGTH;
-use super::places::RATCHET_LENGTH;
-use super::places::SIGNATURE_LENGTH;
 use numbers::CLOCK_LIMIT;
 use numbers::LEAST_OUTPUT;
 use numbers::LONGEST_PACKET;
 use numbers::refusals;
+use packet::places::KEYS_WIDTH;
+use packet::places::LEAST_ANNOUNCE;
+use packet::places::NAME_HASH_WIDTH;
+use packet::places::RANDOM_WIDTH;
+use packet::places::RATCHET_WIDTH;
+use packet::places::SIGNATURE_WIDTH;
+use packet::places::TYPE_ONE_START;
 ghost use mathlib.Core.Path.{_≡_};
 ghost use Rattle.octets.specs.Listed.{firstOf};
 ghost use Rattle.announcing.specs.Announcing.{wrongLengths, announceRows};
 ghost use Rattle.announcing.specs.Steps.{announceLength};
+
+// The announce without a ratchet and app data.
+pub const LEAST_LENGTH: usize = TYPE_ONE_START + LEAST_ANNOUNCE;
 
 // Whether one of these lengths is wrong. A ratchet may be missing.
 fn wrong_lengths(
@@ -24,22 +28,22 @@ fn wrong_lengths(
 ) -> bool
     ensures { λ r. ⌜ r ≡ wrongLengths keys «name_hash» random ratchet signature ⌝ }
 {
-    if keys != KEYS_LENGTH {
+    if keys != KEYS_WIDTH {
         return true;
     }
-    if name_hash != NAME_HASH_LENGTH {
+    if name_hash != NAME_HASH_WIDTH {
         return true;
     }
-    if random != RANDOM_LENGTH {
+    if random != RANDOM_WIDTH {
         return true;
     }
-    if ratchet == RATCHET_LENGTH {
-        return signature != SIGNATURE_LENGTH;
+    if ratchet == RATCHET_WIDTH {
+        return signature != SIGNATURE_WIDTH;
     }
     if ratchet != 0 {
         return true;
     }
-    signature != SIGNATURE_LENGTH
+    signature != SIGNATURE_WIDTH
 }
 
 // The refusal, or 0.

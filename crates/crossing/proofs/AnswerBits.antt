@@ -1,5 +1,5 @@
 -- The number of every packet call's answer: each field is found at its bits, and where the answer is renamed, the port bits are, and no other.
-use Prim.Native.Nat.{ℕ, _/_, _%_, _^_, _<_}
+use Prim.Native.Nat.{ℕ, _/_, _<_}
 use native.Mathlib.Omega.{arith}
 use mathlib.Core.Bool.{Bool, true, false}
 use mathlib.Core.List.{List}
@@ -19,22 +19,23 @@ use Rattle.tables.proofs.Addressed.{addressed-of}
 use Rattle.relay.specs.Promise.{JudgementOn, inBytes, packetOn}
 use Rattle.crossing.specs.Answers.{fieldsNumber, dropNumber, verdictNumber, answerNumber, renamePorts, renameNumber}
 use Rattle.crossing.specs.Packets.{payloadPlace}
+use Rattle.crossing.specs.Bits.{kindSpan, detailSpan, portsSpan, lengthSpan, startSpan, clauseSpan, valueSpan, valuePlace, kindIn, detailIn, portsIn, lengthIn, startIn, clauseIn}
 use Rattle.crossing.proofs.LosesNothing.{kind-back, detail-back, ports-back, size-back, start-back, drop-back, test-back, clause-back, value-back, place-short}
 
 -- ---- found again at their bits
 pub record FieldsAre (number kind detail ports length start : ℕ) : Type 0 where
-  pub kind-is : number % 256 ≡ kind
-  pub detail-is : number / 256 % 256 ≡ detail
-  pub ports-are : number / 65536 % 65536 ≡ ports
-  pub length-is : number / 4294967296 % 65536 ≡ length
-  pub start-is : number / 281474976710656 ≡ start
+  pub kind-is : kindIn number ≡ kind
+  pub detail-is : detailIn number ≡ detail
+  pub ports-are : portsIn number ≡ ports
+  pub length-is : lengthIn number ≡ length
+  pub start-is : startIn number ≡ start
 
 -- a drop's
 pub record DropIs (number test clause value : ℕ) : Type 0 where
-  pub kind-is : number % 256 ≡ 1
-  pub test-is : number / 256 % 256 ≡ test
-  pub clause-is : number / 65536 % 16 ≡ clause
-  pub value-is : number / 1048576 ≡ value
+  pub kind-is : kindIn number ≡ 1
+  pub test-is : detailIn number ≡ test
+  pub clause-is : clauseIn number ≡ clause
+  pub value-is : number / valuePlace ≡ value
 
 -- the number of an answer to a packet whose payload starts there
 abbrev pub FoundAgain : (start : ℕ) → Answer → Type 0
@@ -46,7 +47,7 @@ FoundAgain start (Judged (Forward port length)) = FieldsAre (answerNumber start 
 FoundAgain start (Judged (Spread ports length)) = FieldsAre (answerNumber start (Judged (Spread ports length))) 4 0 ports length 0
 FoundAgain start (Judged Kept) = FieldsAre (answerNumber start (Judged Kept)) 5 0 0 0 0
 
-found : (kind detail ports length start : ℕ) → kind < 256 → detail < 256 → ports < 65536 → length < 65536 → start < 65536
+found : (kind detail ports length start : ℕ) → kind < kindSpan → detail < detailSpan → ports < portsSpan → length < lengthSpan → start < startSpan
     → FieldsAre (fieldsNumber kind detail ports length start) kind detail ports length start
 found kind detail ports length start k d p z s =
     record {
@@ -57,7 +58,7 @@ found kind detail ports length start k d p z s =
       start-is = start-back kind detail ports length start k d p z s;
     }
 
-drop-found : (test clause value : ℕ) → test < 256 → clause < 16 → value < 2 ^ 41 → DropIs (dropNumber test clause value) test clause value
+drop-found : (test clause value : ℕ) → test < detailSpan → clause < clauseSpan → value < valueSpan → DropIs (dropNumber test clause value) test clause value
 drop-found test clause value t k x =
     record {
       kind-is = drop-back test clause value t k x;
@@ -66,7 +67,7 @@ drop-found test clause value t k x =
       value-is = value-back test clause value t k x;
     }
 
-pub found-again : (start : ℕ) → start < 65536 → (a : Answer) → AnswerFits a → FoundAgain start a
+pub found-again : (start : ℕ) → start < startSpan → (a : Answer) → AnswerFits a → FoundAgain start a
 unfolding answerNumber verdictNumber
 found-again start s (Refused number) fits = found 0 number 0 0 0 (lit< tt) fits (lit< tt) (lit< tt) (lit< tt)
 found-again start s (Judged (Drop reason)) fits =
@@ -88,11 +89,11 @@ module _ (m : List ℕ) where
       ∙ rw (f .kind-is, f .detail-is, f .ports-are, f .length-is, f .start-is) refl
 
   -- without ports
-  number-stays : (number kind : ℕ) → number % 256 ≡ kind → (eqb kind 3 or eqb kind 4) ≡ false → renameNumber m number ≡ number
+  number-stays : (number kind : ℕ) → kindIn number ≡ kind → (eqb kind 3 or eqb kind 4) ≡ false → renameNumber m number ≡ number
   unfolding renameNumber
   number-stays number kind e h = then-false _ number (ap (λ (k : ℕ). eqb k 3 or eqb k 4) e ∙ h)
 
-  module _ (start : ℕ) (s : start < 65536) where
+  module _ (start : ℕ) (s : start < startSpan) where
     answer-renamed : (a : Answer) → AnswerFits a → answerNumber start (renameAnswer m a) ≡ renameNumber m (answerNumber start a)
     unfolding answerNumber verdictNumber renameAnswer renameVerdict renamePorts _then_otherwise_ _or_
     answer-renamed (Refused number) fits = sym (number-stays _ 0 (found-again start s (Refused number) fits .kind-is) refl)
@@ -119,7 +120,7 @@ module _ (packet : List ℕ) (port clock : ℕ) (signed : Bool) (tables : List �
   abbrev start : ℕ
   start = payloadPlace packet
 
-  pub start-in-range : start < 65536
+  pub start-in-range : start < startSpan
   start-in-range = omega (arith, place-short packet)
 
   -- what a host reads from the number is the answer

@@ -1,5 +1,5 @@
 -- The text of an answer's number is the words of the answer: those of a replay's line behind its count.
-use Prim.Native.Nat.{ℕ, _/_, _%_, _≤_, _<_}
+use Prim.Native.Nat.{ℕ, _≤_, _<_}
 use native.Mathlib.Nat.{mod-eq-of-lt}
 use native.Mathlib.Omega.{arith}
 use mathlib.Core.Bool.{Bool}
@@ -16,7 +16,7 @@ use Rattle.rules.specs.declared.Answer.{Answer}
 use Rattle.rules.specs.declared.Answer.the-variants.{Refused, Judged}
 use Rattle.rules.specs.declared.Tally.{Tally}
 use Rattle.rules.proofs.AnswerFits.{AnswerFits}
-use Rattle.text.specs.Numerals.{decimal}
+use Rattle.text.specs.Numerals.{decimal, mostDigits}
 use Rattle.text.specs.Words.{space, newline, spaced, wordsLine, refusedWord}
 use Rattle.text.specs.Text.{textSize, textOf, appended}
 use Rattle.text.proofs.TextLaws.{appended-none, appended-append, appended-text}
@@ -26,14 +26,15 @@ use Rattle.relay.specs.Promise.{packetOn}
 use Rattle.numbers.specs.Numbers.{portCount}
 use Rattle.replaying.specs.Words.{forwardWord, dropWord, deliverWord, spreadWord, keptWord}
 use Rattle.replaying.proofs.LineLaws.{ports-short, word-short, reason-short}
-use Rattle.replaying.specs.Lines.{numbersOf, portsBelow, reasonWords, verdictWords, answerWords, answerLine}
+use Rattle.replaying.specs.Lines.{numbersOf, portsBelow, reasonWords, verdictWords, answerWords, answerLine, longestWord, longestAnswer}
 use Rattle.crossing.specs.Answers.{verdictNumber, answerNumber}
 use Rattle.crossing.specs.Packets.{payloadPlace}
 use Rattle.crossing.specs.Texts.{wordsText, numberWords, numberText}
+use Rattle.crossing.specs.Bits.{portsSpan, startSpan, kindIn, detailIn, portsIn, clauseIn, valueIn}
 use Rattle.crossing.proofs.AnswerBits.{found-again, answer-in-range, start-in-range}
 
 -- ---- the words
-module _ (start : ℕ) (s : start < 65536) where
+module _ (start : ℕ) (s : start < startSpan) where
   answer-words : (a : Answer) → AnswerFits a → numberWords (answerNumber start a) ≡ answerWords a
   unfolding numberWords answerWords verdictWords _then_otherwise_
   answer-words (Refused number) fits =
@@ -76,53 +77,62 @@ module _ (packet : List ℕ) (port clock : ℕ) (signed : Bool) (tables : List �
       (answer-in-range packet port clock signed tables tally output)))
 
 -- ---- texts as code makes them
-pub words-text : (w : List ℕ) (ws : List (List ℕ)) → length (spaced (w ∷ ws)) ≤ 72 → appended (appended (textOf []) w) (spaced ws) ≡ textOf (wordsText (w ∷ ws))
+pub words-text : (w : List ℕ) (ws : List (List ℕ)) → length (spaced (w ∷ ws)) ≤ longestAnswer
+    → appended (appended (textOf []) w) (spaced ws) ≡ textOf (wordsText (w ∷ ws))
 unfolding wordsText spaced joined
 words-text w ws h = appended-append (textOf []) w (spaced ws) ∙ appended-text [] (w ++ spaced ws) (omega (arith, h))
 
-pub word-text : (w : List ℕ) → length (spaced (w ∷ [])) ≤ 72 → appended (textOf []) w ≡ textOf (wordsText (w ∷ []))
+pub word-text : (w : List ℕ) → length (spaced (w ∷ [])) ≤ longestAnswer → appended (textOf []) w ≡ textOf (wordsText (w ∷ []))
 word-text w h = sym (ap (appended (appended (textOf []) w)) spaced-nil ∙ appended-none (appended (textOf []) w)) ∙ words-text w [] h
 
-number-fits : (w : List ℕ) → length w ≤ 7 → (n : ℕ) → n < 65536 → length (spaced (w ∷ decimal n ∷ [])) ≤ 72
+number-fits : (w : List ℕ) → length w ≤ longestWord → (n : ℕ) → n < portsSpan → length (spaced (w ∷ decimal n ∷ [])) ≤ longestAnswer
 number-fits w l n few =
-    omega (arith, spaced-most (w ∷ decimal n ∷ []) (7 ∷ 20 ∷ []) (l, (numeral-most 10 (lit≤ tt) 20 n (lit≤ tt) (omega (arith, few)), tt)))
+    let digits : length (decimal n) ≤ mostDigits = numeral-most 10 (lit≤ tt) mostDigits n (lit≤ tt) (omega (arith, few)) in
+    omega (arith, spaced-most (w ∷ decimal n ∷ []) (longestWord ∷ mostDigits ∷ []) (l, (digits, tt)))
 
 -- ---- by the number's kind
 module _ (n : ℕ) where
-  pub refused-made : n % 256 ≡ 0 → appended (appended (textOf []) refusedWord) (spaced (decimal (n / 256 % 256) ∷ [])) ≡ numberText n
+  pub refused-made : kindIn n ≡ 0 → appended (appended (textOf []) refusedWord) (spaced (decimal (detailIn n) ∷ [])) ≡ numberText n
   unfolding numberText numberWords _then_otherwise_
   refused-made e =
-      words-text refusedWord (decimal (n / 256 % 256) ∷ []) (number-fits refusedWord (lit≤ tt) (n / 256 % 256) (omega arith)) ∙ sym (rw e refl)
+      words-text refusedWord (decimal (detailIn n) ∷ []) (number-fits refusedWord (lit≤ tt) (detailIn n) (omega arith)) ∙ sym (rw e refl)
 
-  pub drop-made : n % 256 ≡ 1
+  pub drop-made : kindIn n ≡ 1
       → appended (appended (textOf []) dropWord)
-      (spaced (reasonWords (numbersOf (n / 256 % 256) (n / 65536 % 16) (n / 1048576 % 2199023255552))))
+      (spaced (reasonWords (numbersOf (detailIn n) (clauseIn n) (valueIn n))))
       ≡ numberText n
   unfolding numberText numberWords _then_otherwise_
   drop-made e =
-      words-text dropWord (reasonWords (numbersOf (n / 256 % 256) (n / 65536 % 16) (n / 1048576 % 2199023255552)))
-      (reason-short (n / 256 % 256) (n / 65536 % 16) (n / 1048576 % 2199023255552) (omega arith) (omega arith) (omega arith))
+      words-text dropWord (reasonWords (numbersOf (detailIn n) (clauseIn n) (valueIn n)))
+      (reason-short (detailIn n) (clauseIn n) (valueIn n) (omega arith) (omega arith) (omega arith))
       ∙ sym (rw e refl)
 
-  pub deliver-made : n % 256 ≡ 2 → appended (textOf []) deliverWord ≡ numberText n
+  pub deliver-made : kindIn n ≡ 2 → appended (textOf []) deliverWord ≡ numberText n
   unfolding numberText numberWords _then_otherwise_
   deliver-made e = word-text deliverWord (word-short deliverWord (lit≤ tt)) ∙ sym (rw e refl)
 
-  pub forward-made : n % 256 ≡ 3 → appended (appended (textOf []) forwardWord) (spaced (decimal (n / 65536 % 65536) ∷ [])) ≡ numberText n
+  pub forward-made : kindIn n ≡ 3 → appended (appended (textOf []) forwardWord) (spaced (decimal (portsIn n) ∷ [])) ≡ numberText n
   unfolding numberText numberWords _then_otherwise_
   forward-made e =
-      words-text forwardWord (decimal (n / 65536 % 65536) ∷ []) (number-fits forwardWord (lit≤ tt) (n / 65536 % 65536) (omega arith)) ∙ sym (rw e refl)
+      words-text forwardWord (decimal (portsIn n) ∷ []) (number-fits forwardWord (lit≤ tt) (portsIn n) (omega arith)) ∙ sym (rw e refl)
 
-  pub spread-made : n % 256 ≡ 4 → appended (appended (textOf []) spreadWord) (spaced (portsBelow (n / 65536 % 65536) portCount)) ≡ numberText n
+  pub spread-made : kindIn n ≡ 4 → appended (appended (textOf []) spreadWord) (spaced (portsBelow (portsIn n) portCount)) ≡ numberText n
   unfolding numberText numberWords _then_otherwise_
-  spread-made e = words-text spreadWord (portsBelow (n / 65536 % 65536) portCount) (ports-short (n / 65536 % 65536)) ∙ sym (rw e refl)
+  spread-made e = words-text spreadWord (portsBelow (portsIn n) portCount) (ports-short (portsIn n)) ∙ sym (rw e refl)
 
-  pub kept-made : n % 256 ≡ 5 → appended (textOf []) keptWord ≡ numberText n
+  pub kept-made : kindIn n ≡ 5 → appended (textOf []) keptWord ≡ numberText n
   unfolding numberText numberWords _then_otherwise_
   kept-made e = word-text keptWord (word-short keptWord (lit≤ tt)) ∙ sym (rw e refl)
 
-  pub none-made : (n % 256 ≡ 0 → ⊥) → (n % 256 ≡ 1 → ⊥) → (n % 256 ≡ 2 → ⊥) → (n % 256 ≡ 3 → ⊥) → (n % 256 ≡ 4 → ⊥) → (n % 256 ≡ 5 → ⊥)
+  pub none-made : (kindIn n ≡ 0 → ⊥) → (kindIn n ≡ 1 → ⊥) → (kindIn n ≡ 2 → ⊥) → (kindIn n ≡ 3 → ⊥) → (kindIn n ≡ 4 → ⊥) → (kindIn n ≡ 5 → ⊥)
       → textOf [] ≡ numberText n
   unfolding numberText numberWords wordsText _then_otherwise_
   none-made e₀ e₁ e₂ e₃ e₄ e₅ =
-      sym (rw (ne-eqb (n % 256) 0 e₀, ne-eqb (n % 256) 1 e₁, ne-eqb (n % 256) 2 e₂, ne-eqb (n % 256) 3 e₃, ne-eqb (n % 256) 4 e₄, ne-eqb (n % 256) 5 e₅) refl)
+      sym (rw (
+        ne-eqb (kindIn n) 0 e₀,
+        ne-eqb (kindIn n) 1 e₁,
+        ne-eqb (kindIn n) 2 e₂,
+        ne-eqb (kindIn n) 3 e₃,
+        ne-eqb (kindIn n) 4 e₄,
+        ne-eqb (kindIn n) 5 e₅,
+      ) refl)

@@ -1,5 +1,5 @@
 -- How an answer lies in one number, and what a host's packet call promises.
-use Prim.Native.Nat.{ℕ, _+_, _*_, _/_, _%_}
+use Prim.Native.Nat.{ℕ, _+_, _*_, _%_}
 use mathlib.Core.List.{List}
 use mathlib.Core.Path.{_≡_}
 use lib.Dec.{eqb}
@@ -12,16 +12,17 @@ use Rattle.rules.specs.declared.Answer.{Answer}
 use Rattle.rules.specs.declared.Answer.the-variants.{Refused, Judged}
 use Rattle.rules.specs.declared.Tally.{Tally}
 use Rattle.relay.specs.Promise.{JudgementOn}
+use Rattle.crossing.specs.Bits.{detailPlace, portsPlace, lengthSpan, lengthPlace, startSpan, startPlace, clausePlace, valueSpan, valuePlace, kindIn, detailIn, portsIn, lengthIn, startIn}
 
 -- the kind in bits 0 to 7, a refusal's number in 8 to 15, a port or a port set in 16 to 31, the length in 32 to 47, where a delivered payload
--- starts in 48 to 63
+-- starts in 48 to 63: Bits.antt
 unfoldable pub fieldsNumber : (kind detail ports length start : ℕ) → ℕ
 fieldsNumber kind detail ports length start =
-    kind + detail * 256 + ports * 65536 + length % 65536 * 4294967296 + start % 65536 * 281474976710656
+    kind + detail * detailPlace + ports * portsPlace + length % lengthSpan * lengthPlace + start % startSpan * startPlace
 
 -- a drop: the kind in bits 0 to 7, the test in 8 to 15, its clause or case in 16 to 19, the value in 20 to 60
 unfoldable pub dropNumber : (test clause value : ℕ) → ℕ
-dropNumber test clause value = 1 + test * 256 + clause * 65536 + value % 2199023255552 * 1048576
+dropNumber test clause value = 1 + test * detailPlace + clause * clausePlace + value % valueSpan * valuePlace
 
 -- of a packet whose payload starts there
 unfoldable pub verdictNumber : (start : ℕ) → Verdict → ℕ
@@ -48,7 +49,6 @@ renamePorts m kind ports =
 -- a number of another kind holds no port there
 unfoldable pub renameNumber : List ℕ → ℕ → ℕ
 renameNumber m number =
-    eqb (number % 256) 3 or eqb (number % 256) 4
-    then fieldsNumber (number % 256) (number / 256 % 256) (renamePorts m (number % 256) (number / 65536 % 65536)) (number / 4294967296 % 65536)
-    (number / 281474976710656)
+    eqb (kindIn number) 3 or eqb (kindIn number) 4
+    then fieldsNumber (kindIn number) (detailIn number) (renamePorts m (kindIn number) (portsIn number)) (lengthIn number) (startIn number)
     otherwise number

@@ -9,6 +9,7 @@ use Rattle.packet.specs.Read.{headerOf, typeTwoParts, payloadStart}
 use Rattle.packet.specs.Write.{Writing}
 use Rattle.packet.specs.declared.Parts.{Parts}
 use Rattle.packet.specs.declared.Written.{Written}
+use Rattle.crossing.specs.Bits.{refusalSpan}
 
 -- the parts in 35 bytes: header, hops, relay address, destination, context, at the places of a type 2 packet
 unfoldable pub partsBytes : Parts → List ℕ
@@ -24,7 +25,7 @@ payloadPlace p = ltb (length p) (payloadStart (headerOf p)) then length p otherw
 
 -- a writing as one number: the refusal or 0 in the low 16 bits, the length in those above
 unfoldable pub writtenNumber : Written → ℕ
-writtenNumber w = w .length * 65536 + w .refusal
+writtenNumber w = w .length * refusalSpan + w .refusal
 
 -- what a writing returned and left is this
 abbrev pub Writes : Writing → ℕ → List ℕ → Type 0

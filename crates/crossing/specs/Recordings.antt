@@ -11,6 +11,7 @@ use Rattle.text.specs.Text.{textOf}
 use Rattle.replaying.specs.Promise.{StepOn}
 use Rattle.crossing.specs.Tallies.{tallyNumbers}
 use Rattle.crossing.specs.Answers.{answerNumber}
+use Rattle.crossing.specs.Bits.{refusalSpan}
 
 -- an entry in five numbers: clock, port, signature word, and where its body starts and how long it is
 unfoldable pub entryNumbers : Fields → List ℕ
@@ -25,7 +26,7 @@ entryAfter file i old = isThere file i then entryNumbers (fieldsOf file i) other
 
 -- a writing as one number: the refusal or 0 in the low 16 bits, the file's length in those above
 unfoldable pub recordedNumber : Written → ℕ
-recordedNumber w = w .length * 65536 + w .refusal
+recordedNumber w = w .length * refusalSpan + w .refusal
 
 -- what a writing returned and left is this
 abbrev pub Records : Writing → ℕ → List ℕ → Type 0

@@ -6,10 +6,11 @@ use Rattle.saved.specs.Save.{SavedOn}
 use Rattle.saved.specs.Load.{LoadedOn}
 use Rattle.saved.specs.declared.Saved.{Saved}
 use Rattle.crossing.specs.Tallies.{tallyNumbers}
+use Rattle.crossing.specs.Bits.{refusalSpan}
 
 -- a saving as one number: the refusal or 0 in the low 16 bits, the file's length in those above
 unfoldable pub savedNumber : Saved → ℕ
-savedNumber s = s .length * 65536 + s .refusal
+savedNumber s = s .length * refusalSpan + s .refusal
 
 -- what a saving returned and left is this
 abbrev pub SavesAs : SavedOn → ℕ → List ℕ → Type 0

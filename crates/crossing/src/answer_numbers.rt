@@ -1,4 +1,13 @@
 // An answer as one number.
+use super::bits::CLAUSE_PLACE;
+use super::bits::DETAIL_PLACE;
+use super::bits::LENGTH_PLACE;
+use super::bits::LENGTH_SPAN;
+use super::bits::PORTS_PLACE;
+use super::bits::START_PLACE;
+use super::bits::START_SPAN;
+use super::bits::VALUE_PLACE;
+use super::bits::VALUE_SPAN;
 use rules::Answer;
 use rules::Verdict;
 ghost use mathlib.Core.Path.{_≡_};
@@ -9,17 +18,20 @@ pub fn fields_number(kind: u8, detail: u8, ports: u16, length: usize, start: usi
     ensures { λ r. ⌜ r ≡ fieldsNumber kind detail ports length start ⌝ }
 {
     (kind as u64)
-        + (detail as u64) * 256
-        + (ports as u64) * 65536
-        + ((length % 65536) as u64) * 4294967296
-        + ((start % 65536) as u64) * 281474976710656
+        + (detail as u64) * DETAIL_PLACE
+        + (ports as u64) * PORTS_PLACE
+        + ((length % LENGTH_SPAN) as u64) * LENGTH_PLACE
+        + ((start % START_SPAN) as u64) * START_PLACE
 }
 
 // A drop's fields in one number.
 fn drop_number(test: u8, clause: u8, value: u64) -> u64
     ensures { λ r. ⌜ r ≡ dropNumber test clause value ⌝ }
 {
-    1 + (test as u64) * 256 + (clause as u64) * 65536 + value % 2199023255552 * 1048576
+    1
+        + (test as u64) * DETAIL_PLACE
+        + (clause as u64) * CLAUSE_PLACE
+        + value % VALUE_SPAN * VALUE_PLACE
 }
 
 // The number of a verdict on a packet whose payload starts there.

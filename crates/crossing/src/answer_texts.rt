@@ -1,4 +1,13 @@
 // An answer's text, from its number.
+use super::bits::CLAUSE_PLACE;
+use super::bits::CLAUSE_SPAN;
+use super::bits::DETAIL_PLACE;
+use super::bits::DETAIL_SPAN;
+use super::bits::KIND_SPAN;
+use super::bits::PORTS_PLACE;
+use super::bits::PORTS_SPAN;
+use super::bits::VALUE_PLACE;
+use super::bits::VALUE_SPAN;
 use replaying::with_ports;
 use replaying::with_reason;
 use text::Text;
@@ -11,11 +20,11 @@ ghost use Rattle.crossing.specs.Texts.{numberText};
 pub fn number_text(answer: u64) -> Text
     ensures { λ r. ⌜ r ≡ numberText answer ⌝ }
 {
-    let kind = answer % 256;
-    let detail = (answer / 256 % 256) as u8;
-    let clause = (answer / 65536 % 16) as u8;
-    let value = answer / 1048576 % 2199023255552;
-    let ports = (answer / 65536 % 65536) as u16;
+    let kind = answer % KIND_SPAN;
+    let detail = (answer / DETAIL_PLACE % DETAIL_SPAN) as u8;
+    let clause = (answer / CLAUSE_PLACE % CLAUSE_SPAN) as u8;
+    let value = answer / VALUE_PLACE % VALUE_SPAN;
+    let ports = (answer / PORTS_PLACE % PORTS_SPAN) as u16;
     match kind {
         0 => with_number(with_text(text::empty(), b"refused"), octets::wide(detail)),
         1 => with_reason(with_text(text::empty(), b"drop"), detail, clause, value),

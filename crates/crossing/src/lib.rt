@@ -3,12 +3,15 @@
 // entry_numbers. None has a `requires`.
 mod answer_numbers;
 mod answer_texts;
+mod bits;
 mod entries;
 mod parts;
 mod tallies;
 
 pub use answer_numbers::answer_number;
 pub use answer_texts::number_text;
+pub use bits::REFUSAL_SPAN;
+pub use bits::WIDE_REFUSAL_SPAN;
 pub use entries::entry_numbers;
 pub use parts::parts_bytes;
 pub use tallies::tally_in;

@@ -14,10 +14,11 @@ use Rattle.rules.specs.declared.Link.{Link}
 use Rattle.rules.proofs.Choices.{either}
 use Rattle.rules.proofs.Passed.{passed}
 use Rattle.forms.proofs.KindLaws.{announce-long}
+use Rattle.packet.specs.Places.{blobEnd}
 
 -- what goes everywhere holds a whole blob
 abbrev pub WayBlob : Arrival → Way → Type 0
-WayBlob a (everywhere known) = 84 ≤ length (body a)
+WayBlob a (everywhere known) = blobEnd ≤ length (body a)
 WayBlob a (by-path p) = Unit {0}
 WayBlob a (along-link l) = Unit {0}
 WayBlob a (by-return t) = Unit {0}

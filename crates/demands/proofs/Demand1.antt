@@ -12,7 +12,7 @@ use Rattle.octets.specs.Bytes.{Bytes}
 use Rattle.octets.specs.Index.{_and_}
 use Rattle.octets.specs.Choice.{_then_otherwise_, _or_}
 use Rattle.octets.proofs.Choice.{then-true, then-false}
-use Rattle.sha256.specs.Sha256.{answer}
+use Rattle.sha256.specs.Sha256.{longestMessage, answer}
 use Rattle.sha256.specs.declared.Digest.{Digest}
 use Rattle.sha256.proofs.Promise.{answer-short, answer-long}
 use Rattle.packet.specs.Header.{accessCode, typeTwo}
@@ -20,6 +20,7 @@ use Rattle.packet.specs.Read.{headerOf, longestPacket, readingRows, readingRefu
 use Rattle.packet.specs.Write.{leastOutput, packetOf, writingRows, writingRefusal, Writing, writing}
 use Rattle.packet.specs.Hash.{packetHashAnswer, linkIdAnswer}
 use Rattle.packet.specs.declared.Parts.{Parts}
+use Rattle.packet.specs.Places.{typeOneStart, typeTwoStart, signatureWidth}
 use Rattle.numbers.specs.Numbers.{portCount, localCount, modeCount, isSize, clockLimit}
 use Rattle.rules.specs.Relay.{makeRateSettings, Port, Slot, empty, used, Relay}
 use Rattle.rules.specs.View.{portOn, portSize, isLocal, viewAt}
@@ -47,6 +48,7 @@ use Rattle.saved.specs.Load.{lengthWrong, kindWrong, contentsWrong, bodiesWrong
 use Rattle.saved.specs.Format.{saving, loading}
 use Rattle.recording.specs.Reader.{lengthWrong as recordingLengthWrong, kindWrong as recordingKindWrong, placesWrong, wordsWrong, fileRows, fileRefusal}
 use Rattle.surveying.specs.Promise.{startOn, recordingOn}
+use Rattle.surveying.specs.Survey.{recordingLimit}
 use Rattle.surveying.proofs.StartLaws.{not-begun, start-refusal}
 use Rattle.surveying.proofs.SurveyLaws.{recording-refusal, refused-leaves}
 use Rattle.announcing.specs.Announcing.{Announce, signedBytes, announceWith, wrongLengths, announceRows, announceRefusal, anySignature, signing, building}
@@ -170,10 +172,10 @@ pub packet-rows : (a : Arrival) (output tables : List ℕ)
     ltb (length output) leastOutput then 6 otherwise
     not (portOn (relayOf tables) (a .port)) then 4 otherwise
     leb clockLimit (a .clock) or ltb (a .clock) (relayOf tables .clock) then 5 otherwise
-    ltb (length (a .bytes)) 19 then 1 otherwise
+    ltb (length (a .bytes)) typeOneStart then 1 otherwise
     ltb (portSize (relayOf tables) (a .port)) (length (a .bytes)) then 2 otherwise
     accessCode (headerOf (a .bytes)) then 3 otherwise
-    typeTwo (headerOf (a .bytes)) and ltb (length (a .bytes)) 35 then 1 otherwise 0)
+    typeTwo (headerOf (a .bytes)) and ltb (length (a .bytes)) typeTwoStart then 1 otherwise 0)
 unfolding refusalOn afterSeven refusal refusalBy packetRows firstOf readingRefusal readingRows _then_otherwise_
 packet-rows a output tables = after-seven tables (below (isSize size)) ∙ go (wellFormed tables) refl
   where
@@ -186,10 +188,10 @@ packet-rows a output tables = after-seven tables (below (isSize size)) ∙ go (w
         not (portOn (relayOf tables) (a .port)) then 4 otherwise
         leb clockLimit (a .clock) or ltb (a .clock) (relayOf tables .clock) then 5 otherwise
         not sized then 9 otherwise
-        ltb (length (a .bytes)) 19 then 1 otherwise
+        ltb (length (a .bytes)) typeOneStart then 1 otherwise
         ltb size (length (a .bytes)) then 2 otherwise
         accessCode (headerOf (a .bytes)) then 3 otherwise
-        typeTwo (headerOf (a .bytes)) and ltb (length (a .bytes)) 35 then 1 otherwise 0
+        typeTwo (headerOf (a .bytes)) and ltb (length (a .bytes)) typeTwoStart then 1 otherwise 0
 
     go : (v : Bool) → wellFormed tables ≡ v
         → (not (wellFormed tables) then 7 otherwise below (isSize size)) ≡ (not (wellFormed tables) then 7 otherwise below true)
@@ -283,21 +285,21 @@ word-rows bytes port clock word output tables = refl
 
 -- ---- the calls that take no relay's tables
 -- hashing: 2
-pub hashing-rows : (m : List ℕ) → answer m .refusal ≡ (ltb 65535 (length m) then 2 otherwise 0)
-hashing-rows m = go (ltb 65535 (length m)) refl
+pub hashing-rows : (m : List ℕ) → answer m .refusal ≡ (ltb longestMessage (length m) then 2 otherwise 0)
+hashing-rows m = go (ltb longestMessage (length m)) refl
   where
-    go : (v : Bool) → ltb 65535 (length m) ≡ v → answer m .refusal ≡ (ltb 65535 (length m) then 2 otherwise 0)
-    go true t = ap (λ (d : Digest). d .refusal) (answer-long m (ltb-true 65535 (length m) t)) ∙ sym (then-true 2 0 t)
-    go false t = ap (λ (d : Digest). d .refusal) (answer-short m (ltb-false 65535 (length m) t)) ∙ sym (then-false 2 0 t)
+    go : (v : Bool) → ltb longestMessage (length m) ≡ v → answer m .refusal ≡ (ltb longestMessage (length m) then 2 otherwise 0)
+    go true t = ap (λ (d : Digest). d .refusal) (answer-long m (ltb-true longestMessage (length m) t)) ∙ sym (then-true 2 0 t)
+    go false t = ap (λ (d : Digest). d .refusal) (answer-short m (ltb-false longestMessage (length m) t)) ∙ sym (then-false 2 0 t)
 
 -- reading against a size: 9, 1, 2, 3, 1. The packet hash and the link id read at 500
 pub reading-rows : (size : ℕ) (p : List ℕ)
     → reading size p .refusal
     ≡ (not (isSize size) then 9 otherwise
-    ltb (length p) 19 then 1 otherwise
+    ltb (length p) typeOneStart then 1 otherwise
     ltb size (length p) then 2 otherwise
     accessCode (headerOf p) then 3 otherwise
-    typeTwo (headerOf p) and ltb (length p) 35 then 1 otherwise 0)
+    typeTwo (headerOf p) and ltb (length p) typeTwoStart then 1 otherwise 0)
 unfolding reading readingRefusal readingRows firstOf
 reading-rows size p = refl
 
@@ -353,7 +355,7 @@ module _ (a : Announce) (signature room : List ℕ) where
 
 -- "for the signing bytes too": as the announce, whatever the signature's 64 bytes
 module _ (a : Announce) (room : List ℕ) where
-  pub signing-rows : (signature : List ℕ) → length signature ≡ 64 → signing a room .answer .refusal ≡ building a signature room .answer .refusal
+  pub signing-rows : (signature : List ℕ) → length signature ≡ signatureWidth → signing a room .answer .refusal ≡ building a signature room .answer .refusal
   unfolding signing building
   signing-rows signature e =
       laid-refusal _ (signedBytes a) room
@@ -390,7 +392,7 @@ module _ (file start work counts refusals : List ℕ) where
   settings-stay = not-begun file start work counts refusals
 
   pub recording-rows : recordingOn file start work counts refusals .refusal
-      ≡ (leb 16 (getD refusals 0 0) then 29 otherwise
+      ≡ (leb recordingLimit (getD refusals 0 0) then 29 otherwise
       recordingLengthWrong file then 20 otherwise
       recordingKindWrong file then 21 otherwise
       placesWrong file then 22 otherwise

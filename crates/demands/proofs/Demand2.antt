@@ -24,7 +24,7 @@ use Rattle.rules.specs.Calls.{newTally, Setting, settle}
 use Rattle.rules.specs.Saved.{Format, saveRefusal, loadRefusal as loadRefusalOf}
 use Rattle.rules.specs.Run.{EachCall, Call, packet, on-tables, asks, saves, loads, Reply, numbered, Outcome, ofJudgement, ofSetting, ofTold, ofSaid, perform, replies, relayAfter, tallyAfter, noneLoads}
 use Rattle.rules.specs.declared.Tally.{Tally}
-use Rattle.rules.proofs.History.{Fits, CountsHistory, history, history-since-fresh}
+use Rattle.rules.proofs.History.{TallyFits, CountsHistory, history, history-since-fresh}
 use Rattle.rules.proofs.Valid.{step-ok, stays-ok, fresh-ok}
 use Rattle.tables.specs.Places.{addressWidth, tableSize}
 use Rattle.tables.specs.Layout.{relayOf, bytesOf, wellFormed}
@@ -158,7 +158,7 @@ follows-the-rules cs tables tally given b h =
 -- from there the tally counts history: each counter is what it was, plus the number of such answers among the calls' replies, modulo 2^32. An accepted load
 -- sets the tally, and history goes on from there: `counts-history-since-load`, SavedTables.antt
 pub counts-history : (cs : List Call) (tables : List ℕ) (tally : Tally) → noneLoads cs ≡ true
-    → CallsBytes cs → Bytes tables → wellFormed tables ≡ true → Fits tally → CountsHistory (repliesOn cs tables tally) tally (tallyAfterOn cs tables tally)
+    → CallsBytes cs → Bytes tables → wellFormed tables ≡ true → TallyFits tally → CountsHistory (repliesOn cs tables tally) tally (tallyAfterOn cs tables tally)
 counts-history cs tables tally none given b h fits =
     let follows = follows-the-rules cs tables tally given b h in
     rw (follows .answers, follows .tally) (history cs (relayOf tables) tally none fits)

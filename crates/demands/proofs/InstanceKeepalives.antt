@@ -165,14 +165,14 @@ record Timely (deadline : ℕ) (cs : List Call) (r : Relay) (t : Tally) : Type 0
   in-time : InTime l deadline cs r t
 
 -- what one call has to be, and the deadline behind it
-record Fits (c : Call) (r : Relay) (deadline : ℕ) (taken : Bool) (next : ℕ) : Type 0 where
+record TallyFits (c : Call) (r : Relay) (deadline : ℕ) (taken : Bool) (next : ℕ) : Type 0 where
   is : accepted c r ≡ taken
   justly : taken ≡ true → fair l deadline c ≡ true
   then : nextDeadline r l deadline c taken ≡ next
 
 -- a call, and those after it
 timely : {c : Call} {cs : List Call} {r between : Relay} {t counts : Tally} {reply : Reply} {deadline next : ℕ} {taken : Bool}
-    → perform c r t ≡ record { reply = reply; relay = between; tally = counts } → Fits c r deadline taken next
+    → perform c r t ≡ record { reply = reply; relay = between; tally = counts } → TallyFits c r deadline taken next
     → Timely next cs between counts → Timely deadline (c ∷ cs) r t
 unfolding InTime
 timely {c} {cs} {r} {between} {t} {counts} {deadline = deadline} done fits rest =
@@ -184,27 +184,27 @@ timely {c} {cs} {r} {between} {t} {counts} {deadline = deadline} done fits rest 
       );
     }
 
-first-fits : Fits first-call provedRelay 2721 true 2820
+first-fits : TallyFits first-call provedRelay 2721 true 2820
 unfolding rules accepted fair nextDeadline keepsAlive isKeepalive
 first-fits = record { is = refl; justly = λ _. refl; then = refl }
 
-again-fits : Fits again-call (upRelay (portsBy 2 500) 2100 2820) 2820 true 2920
+again-fits : TallyFits again-call (upRelay (portsBy 2 500) 2100 2820) 2820 true 2920
 unfolding rules accepted fair nextDeadline keepsAlive isKeepalive
 again-fits = record { is = refl; justly = λ _. refl; then = refl }
 
-refused-fits : Fits refused-call (upRelay (portsBy 2 500) 2200 2920) 2920 false 2920
+refused-fits : TallyFits refused-call (upRelay (portsBy 2 500) 2200 2920) 2920 false 2920
 unfolding rules accepted nextDeadline
 refused-fits = record { is = refl; justly = λ e. absurd (false≢true e); then = refl }
 
-map-fits : Fits (renumbering []) (upRelay (portsBy 2 500) 2200 2920) 2920 false 2920
+map-fits : TallyFits (renumbering []) (upRelay (portsBy 2 500) 2200 2920) 2920 false 2920
 unfolding rules accepted nextDeadline
 map-fits = record { is = refl; justly = λ e. absurd (false≢true e); then = refl }
 
-port-fits : Fits (port-setting 1 true 1 20) (upRelay (portsBy 2 500) 2200 2920) 2920 true 2920
+port-fits : TallyFits (port-setting 1 true 1 20) (upRelay (portsBy 2 500) 2200 2920) 2920 true 2920
 unfolding rules accepted fair nextDeadline
 port-fits = record { is = refl; justly = λ _. refl; then = refl }
 
-dropped-fits : Fits dropped-call (upRelay (portsBy 1 20) 2200 2920) 2920 true 2920
+dropped-fits : TallyFits dropped-call (upRelay (portsBy 1 20) 2200 2920) 2920 true 2920
 unfolding rules accepted fair nextDeadline keepsAlive isKeepalive
 dropped-fits = record { is = refl; justly = λ _. refl; then = refl }
 

@@ -24,7 +24,7 @@ use Rattle.rules.specs.declared.Tally.{Tally}
 use Rattle.rules.proofs.Unfolding.{rules}
 use Rattle.rules.proofs.Shortcut.{passes, seen-quick, goodPlan, goodJudge}
 use Rattle.rules.proofs.Passed.{ofTest}
-use Rattle.rules.proofs.History.{Fits, number, isAny, isDrop, isForward}
+use Rattle.rules.proofs.History.{TallyFits, number, isAny, isDrop, isForward}
 use Rattle.rules.proofs.Valid.{fresh-ok}
 use Rattle.rules.proofs.Scene.{own, blank, dataBytes, receiptBytes, arrives}
 use Rattle.rules.proofs.Outcomes.{forwards, judged-at}
@@ -51,7 +51,7 @@ use Rattle.demands.proofs.Instance3.{end, onePorts, one-up-ok, put-in}
 midway : Held midwayRelay
 midway = held given-before before-run
 
-fits : Fits midwayTally
+fits : TallyFits midwayTally
 fits = omega arith
 
 abbrev pub file : List ℕ

@@ -16,6 +16,7 @@ use Rattle.packet.specs.Read.{headerOf, typeOneParts, typeTwoParts, partsOf, pa
 use Rattle.packet.specs.Hash.{hashedPart, packetHash}
 use Rattle.packet.specs.Announce.{blobOf}
 use Rattle.packet.specs.declared.Parts.{Parts}
+use Rattle.packet.specs.Places.{blobEnd, addressAt, secondAddressAt, blobAt, hopsAt}
 use Rattle.packet.proofs.ReadLaws.{parts-hops, reads-readable}
 use Rattle.packet.proofs.Widths.{parts-wide, packet-hash-length, link-id-length, blob-length}
 use Rattle.sha256.proofs.Promise.{digest-byte}
@@ -48,16 +49,19 @@ all-tail ok (x ∷ xs) h = and-right _ _ h
 module _ (p : List ℕ) (b : Bytes p) where
   destination-bytes : Bytes (partsOf p .destination)
   unfolding partsOf typeOneParts typeTwoParts
-  destination-bytes = either (λ (q : Parts). Bytes (q .destination)) (typeTwo (headerOf p)) (λ _. part-bytes p 18 16 b) (λ _. part-bytes p 2 16 b)
+  destination-bytes =
+      either (λ (q : Parts). Bytes (q .destination)) (typeTwo (headerOf p)) (λ _. part-bytes p secondAddressAt addressWidth b)
+      (λ _. part-bytes p addressAt addressWidth b)
 
   relay-bytes : Bytes (partsOf p .relay)
   unfolding partsOf typeOneParts typeTwoParts
   relay-bytes =
-      either (λ (q : Parts). Bytes (q .relay)) (typeTwo (headerOf p)) (λ _. part-bytes p 2 16 b) (λ _. replicate-bytes 16 0 (lit< tt))
+      either (λ (q : Parts). Bytes (q .relay)) (typeTwo (headerOf p)) (λ _. part-bytes p addressAt addressWidth b)
+      (λ _. replicate-bytes addressWidth 0 (lit< tt))
 
-  pub blob-shaped : 84 ≤ length (payload p) → isBytes blobWidth (blobOf (payload p)) ≡ true
+  pub blob-shaped : blobEnd ≤ length (payload p) → isBytes blobWidth (blobOf (payload p)) ≡ true
   unfolding blobOf payload
-  blob-shaped l = is-bytes blobWidth _ (blob-length (payload p) l) (part-bytes (payload p) 74 10 (drop-bytes (payloadStart (headerOf p)) p b))
+  blob-shaped l = is-bytes blobWidth _ (blob-length (payload p) l) (part-bytes (payload p) blobAt blobWidth (drop-bytes (payloadStart (headerOf p)) p b))
 
   module _ (whole : payloadStart (headerOf p) ≤ length p) where
     pub destination-shaped : isBytes addressWidth (partsOf p .destination) ≡ true
@@ -110,11 +114,12 @@ module _ (a : Arrival) (b : Bytes (a .bytes)) where
   pub return-shaped : (p : Path) → returnShaped (returnRecord a p) ≡ true
   unfolding returnShaped returnRecord returnKey
   return-shaped p =
-      is-bytes addressWidth _ (length-take-le 16 (hash a) (omega (arith, packet-hash-length (a .bytes)))) (take-bytes 16 (hash a) (hash-is-bytes (a .bytes)))
+      is-bytes addressWidth _ (length-take-le addressWidth (hash a) (omega (arith, packet-hash-length (a .bytes))))
+      (take-bytes addressWidth (hash a) (hash-is-bytes (a .bytes)))
 
   hops-byte : isByte (hops a) ≡ true
   unfolding isByte
-  hops-byte = ap (λ (n : ℕ). ltb n 256) (parts-hops (a .bytes)) ∙ lt-ltb _ _ (b 1)
+  hops-byte = ap (λ (n : ℕ). ltb n 256) (parts-hops (a .bytes)) ∙ lt-ltb _ _ (b hopsAt)
 
   -- a path's hops are a byte by row 7
   path-hops-byte : (p : Path) → pathOk p ≡ true → isByte (p .hops) ≡ true
@@ -130,7 +135,7 @@ module _ (a : Arrival) (b : Bytes (a .bytes)) where
   unfolding linkShaped renewedLink
   link-renewed l h = h
 
-  module _ (whole : payloadStart (header a) ≤ length (a .bytes)) (long : 84 ≤ length (body a)) where
+  module _ (whole : payloadStart (header a) ≤ length (a .bytes)) (long : blobEnd ≤ length (body a)) where
     places-shaped : (known : Slot Path) → slotOk pathShaped known ≡ true
         → tableOk blobLimit (isBytes blobWidth) (announcedBlobs a known .places) ≡ true
     unfolding announcedBlobs slotOk pathShaped

@@ -30,7 +30,7 @@ use Rattle.rules.specs.Run.{EachCall, Call, renumbering, Reply, answered, numbe
 use Rattle.rules.specs.declared.Answer.{Answer}
 use Rattle.rules.specs.declared.Answer.the-variants.{Refused}
 use Rattle.rules.specs.declared.Tally.{Tally}
-use Rattle.rules.proofs.History.{Fits, CountsHistory}
+use Rattle.rules.proofs.History.{TallyFits, CountsHistory}
 use Rattle.rules.proofs.Images.{image-port, image-other, image-below}
 use Rattle.tables.specs.Layout.{relayOf, bytesOf, wellFormed}
 use Rattle.tables.specs.Called.{Called}
@@ -53,6 +53,7 @@ use Rattle.demands.specs.Replays.{callOf, callsOf, answerIn, IsPerformed
 use Rattle.demands.proofs.Demand1.{RefusesExactly, seven, refuses-exactly}
 use Rattle.demands.proofs.Demand2.{follows-the-rules, counts-history, stays-bytes}
 use Rattle.demands.proofs.Demand3.{renamedTables, forgets-nothing-on, renamed-by-the-call}
+use Rattle.numbers.specs.Numbers.{portCount}
 
 -- ---- demand 1, of files
 -- reading a recording: 20, 21, 22, 23
@@ -219,7 +220,7 @@ module _ (f t : List ℕ) (tally : Tally) (b : Bytes f) (e : fileRefusal f ≡ 0
         let q = follows-the-rules (callsOf f) t tally (calls-given f b e) bt h in
         (p .answers ∙ ap (map answerIn) (q .answers), p .tables ∙ q .tables, p .tally ∙ q .tally)
 
-    pub replay-counts-history : Fits tally → CountsHistory (repliesOn (callsOf f) t tally) tally (replayOn f t tally .tally)
+    pub replay-counts-history : TallyFits tally → CountsHistory (repliesOn (callsOf f) t tally) tally (replayOn f t tally .tally)
     unfolding callsOf
     replay-counts-history fits =
         subst (λ (x : Tally). CountsHistory (repliesOn (callsOf f) t tally) tally x) (sym (replay-performed f t tally e .tally))
@@ -228,11 +229,11 @@ module _ (f t : List ℕ) (tally : Tally) (b : Bytes f) (e : fileRefusal f ≡ 0
 -- ---- demand 3: the file's ports renamed
 module _ (m : List ℕ) (one : oneToOne m ≡ true) where
   image-byte : (port : ℕ) → port < 256 → image m port < 256
-  image-byte port l = go (ltb port 16) refl
+  image-byte port l = go (ltb port portCount) refl
     where
-      go : (v : Bool) → ltb port 16 ≡ v → image m port < 256
-      go true t = let p = ltb-true port 16 t in omega (arith, image-port m port p, image-below m one port p)
-      go false t = let p = ltb-false port 16 t in omega (arith, image-other m port p)
+      go : (v : Bool) → ltb port portCount ≡ v → image m port < 256
+      go true t = let p = ltb-true port portCount t in omega (arith, image-port m port p, image-below m one port p)
+      go false t = let p = ltb-false port portCount t in omega (arith, image-other m port p)
 
   each-renamed : (es : List Entry) → ((i : ℕ) → i < length es → RecordableEntry (getD es i noEntry))
       → (i : ℕ) → i < length (map (renameEntry m) es) → RecordableEntry (getD (map (renameEntry m) es) i noEntry)

@@ -16,7 +16,7 @@ use Rattle.rules.specs.Relay.{Relay}
 use Rattle.rules.specs.Renumbering.{oneToOne}
 use Rattle.rules.specs.Run.{EachCall, Call, renumbering, Reply, numbered, Outcome, ofSaid, perform, replies, relayAfter, tallyAfter, renameCall, renameReply, noCall, movesPorts, setsRelay, noneLoads}
 use Rattle.rules.specs.declared.Tally.{Tally}
-use Rattle.rules.proofs.History.{Fits, CountsHistory}
+use Rattle.rules.proofs.History.{TallyFits, CountsHistory}
 use Rattle.rules.proofs.RunRenamed.{late, relay-append, tally-append}
 use Rattle.tables.specs.Places.{tableSize}
 use Rattle.tables.specs.Layout.{relayOf, bytesOf, wellFormed}
@@ -56,7 +56,7 @@ module _ (file : List ℕ) (b : Bytes file) (ok : loadRefusal file tableSize ≡
   held = heldIn file .0
 
   -- its tables and its tally are what the demands' theorems start from, the relay's last clock with them
-  pub loaded-start : Bytes (tablesIn file) × (wellFormed (tablesIn file) ≡ true) × (relayOf (tablesIn file) ≡ held) × Fits (tallyIn file)
+  pub loaded-start : Bytes (tablesIn file) × (wellFormed (tablesIn file) ≡ true) × (relayOf (tablesIn file) ≡ held) × TallyFits (tallyIn file)
   loaded-start =
       let s = said-shaped file b ok in
       let o = said-ok file b ok in
@@ -109,7 +109,7 @@ module _ (file : List ℕ) (b : Bytes file) (ok : loadRefusal file tableSize ≡
 
 -- ---- a saved file
 module _ (t : List ℕ) (tally : Tally) (b : Bytes t) (h : wellFormed t ≡ true) where
-  pub saved-start : Fits tally → (tablesIn (fileOf (relayOf t, tally)) ≡ t) × (tallyIn (fileOf (relayOf t, tally)) ≡ tally)
+  pub saved-start : TallyFits tally → (tablesIn (fileOf (relayOf t, tally)) ≡ t) × (tallyIn (fileOf (relayOf t, tally)) ≡ tally)
   unfolding saidBy
   saved-start fits =
       let said = file-said (relayOf t) (shaped-of t b h) (ok-relay t h) tally fits in

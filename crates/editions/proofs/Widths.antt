@@ -1,5 +1,5 @@
 -- The bodies' widths: in every edition each stands in two bytes, and together they are all that is saved.
-use Prim.Native.Nat.{ℕ, zero, suc, _+_, _-_, _*_, _^_, _≤_, _<_}
+use Prim.Native.Nat.{ℕ, zero, suc, _+_, _-_, _*_, _≤_, _<_}
 use native.Mathlib.Decide.{decLt}
 use native.Mathlib.Omega.{arith}
 use mathlib.Core.Bool.{Bool, true}
@@ -11,7 +11,7 @@ use borrow.Author.Tests.{ltb-true, leb-true}
 use Rattle.octets.specs.Index.{_and_, allBelow}
 use Rattle.octets.proofs.Index.{and-left, and-right, all-at}
 use Rattle.codes.specs.Form.{code}
-use Rattle.recording.specs.Shape.{sumBelow}
+use Rattle.recording.specs.Shape.{sumBelow, lengthLimit, offsetLimit}
 use Rattle.recording.proofs.Sums.{sum-within}
 use Rattle.numbers.specs.Numbers.{portCount, pathCount}
 use Rattle.tables.specs.Forms.{Edition}
@@ -83,12 +83,12 @@ pub known-row : {B : Type 0} (value : Edition → B) (n : ℕ) → isKnown n ≡
 known-row value n h {rows} e v =
     ap (λ (r : List _). getD r (n - 1) v) e ∙ row-at value editions edition1 v (n - 1) (omega (arith, known-low n h, known-high n h))
 
-pub width-small : (n i : ℕ) → i < bodyCount → widthAt (editionAt n) i < 65536
+pub width-small : (n i : ℕ) → i < bodyCount → widthAt (editionAt n) i < lengthLimit
 unfolding allBelow _and_ widthAt
 width-small n i l =
-    let all = edition-says (λ e. allBelow (λ j. ltb (widthAt (held e) j) 65536) bodyCount) refl n in
-    ltb-true (widthAt (editionAt n) i) 65536 (all-at (λ j. ltb (widthAt (editionAt n) j) 65536) bodyCount i all l)
+    let all = edition-says (λ e. allBelow (λ j. ltb (widthAt (held e) j) lengthLimit) bodyCount) refl n in
+    ltb-true (widthAt (editionAt n) i) lengthLimit (all-at (λ j. ltb (widthAt (editionAt n) j) lengthLimit) bodyCount i all l)
 
-pub size-small : (n : ℕ) → bodiesAt + code (editionAt n) .width < 2 ^ 32
+pub size-small : (n : ℕ) → bodiesAt + code (editionAt n) .width < offsetLimit
 unfolding allBelow _and_
-size-small n = ltb-true _ _ (edition-says (λ e. ltb (bodiesAt + code (held e) .width) (2 ^ 32)) refl n)
+size-small n = ltb-true _ _ (edition-says (λ e. ltb (bodiesAt + code (held e) .width) offsetLimit) refl n)

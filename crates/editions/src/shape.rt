@@ -3,6 +3,9 @@ use numbers::HASH_COUNT;
 use numbers::LINK_COUNT;
 use numbers::LOCAL_COUNT;
 use numbers::RETURN_COUNT;
+use recording::CONTENTS_START;
+use recording::LENGTH_WIDTH;
+use recording::OFFSET_WIDTH;
 use tables::places::HASH_WIDTH;
 use tables::places::LINK_WIDTH;
 use tables::places::LINKS_AT;
@@ -11,21 +14,10 @@ use tables::places::RETURN_WIDTH;
 use tables::places::RING_WIDTH;
 use tables::places::TABLE_SIZE;
 
-// The file's head: kind, edition, count.
-pub const COUNT_AT: usize = 2;
-
-pub const COUNT_WIDTH: usize = 2;
-
-pub const CONTENTS_START: usize = COUNT_AT + COUNT_WIDTH;
-
 // An entry in the contents: offset, length.
-pub const OFFSET_WIDTH: usize = 4;
-
-pub const LENGTH_WIDTH: usize = 2;
-
 pub const ENTRY_WIDTH: usize = OFFSET_WIDTH + LENGTH_WIDTH;
 
-pub const BODY_COUNT: usize = 8;
+pub const BODY_COUNT: usize = recording::SAVED_BODIES;
 
 // The bodies' lengths, those that are one in every edition: local addresses, links, returns, hashes, tally.
 pub const LOCALS_BODY: usize = LOCAL_COUNT * LOCAL_WIDTH;

@@ -23,6 +23,7 @@ use Rattle.outgoing.proofs.LeavingLaws.{whole}
 use Rattle.forms.specs.Form.{formOf}
 use Rattle.forms.specs.declared.Form.{Form}
 use Rattle.forms.specs.declared.Form.the-variants.{Good, Bad}
+use Rattle.numbers.specs.Numbers.{addressWidth, shorterLinkProof, longerLinkProof}
 
 -- what the clauses behind the first n say
 unfoldable pub formFrom : ℕ → List ℕ → Form
@@ -55,7 +56,8 @@ module _ (p : List ℕ) where
   unfolding isLinkProof
   link-proof-clauses = refl
 
-  pub proof-length-clauses : linkProofLength p ≡ (isLinkProof p and not (eqb (length (payload p)) 96 or eqb (length (payload p)) 99))
+  pub proof-length-clauses : linkProofLength p
+      ≡ (isLinkProof p and not (eqb (length (payload p)) shorterLinkProof or eqb (length (payload p)) longerLinkProof))
   unfolding linkProofLength
   proof-length-clauses = refl
 
@@ -65,7 +67,7 @@ module _ (p : List ℕ) where
 
   -- the code compares sixteen bytes
   pub destination-compared : reads longestPacket p ≡ true
-      → agree 16 (partsOf p .destination) (announcedDestination (payload p)) ≡ same (partsOf p .destination) (announcedDestination (payload p))
+      → agree addressWidth (partsOf p .destination) (announcedDestination (payload p)) ≡ same (partsOf p .destination) (announcedDestination (payload p))
   destination-compared h =
       let wide = parts-wide p (whole longestPacket p h) in
-      sym (same-agree 16 (partsOf p .destination) (announcedDestination (payload p)) (wide .destination) (announced-length (payload p)))
+      sym (same-agree addressWidth (partsOf p .destination) (announcedDestination (payload p)) (wide .destination) (announced-length (payload p)))

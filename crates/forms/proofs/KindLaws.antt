@@ -1,5 +1,5 @@
 -- What a packet's kind and a good form rule out.
-use Prim.Native.Nat.{ℕ, _≤_, _<_}
+use Prim.Native.Nat.{ℕ, _+_, _≤_, _<_}
 use native.Mathlib.Omega.{arith}
 use mathlib.Core.Bool.{Bool, true, false}
 use mathlib.Core.Path.{_≡_, refl, sym, ap, _∙_}
@@ -12,9 +12,11 @@ use Rattle.octets.proofs.Index.{and-no, and-yes}
 use Rattle.octets.proofs.Listed.{none-any}
 use Rattle.packet.specs.Header.{contextFlag, packetKind, ofKindLink, isData, isAnnounce, isLinkRequest, isProof}
 use Rattle.packet.specs.Announce.{ratchetLength, leastAnnounce}
+use Rattle.packet.specs.Places.{blobEnd, signatureWidth, ratchetWidth, hopsAt}
 use Rattle.packet.proofs.ReadLaws.{parts-hops}
 use Rattle.rules.specs.Arrival.{Arrival, header, hops, body, isLinkProof}
 use Rattle.rules.specs.Tests.{announceTooShort, requestOfKindLink, formTests, badForm, tooManyHops}
+use Rattle.numbers.specs.Numbers.{hopsLimit}
 
 -- ---- kinds: a packet is of one of four
 pub other-kind : (n k m : ℕ) → eqb n k ≡ true → eqb k m ≡ false → eqb n m ≡ false
@@ -43,16 +45,16 @@ module _ (a : Arrival) where
 -- ---- what a good form says
 module _ (a : Arrival) (good : badForm (a .bytes) ≡ false) where
   -- an announce has room for its blob
-  pub announce-long : isAnnounce (header a) ≡ true → 84 ≤ length (body a)
+  pub announce-long : isAnnounce (header a) ≡ true → blobEnd ≤ length (body a)
   unfolding badForm formTests announceTooShort ratchetLength leastAnnounce _then_otherwise_
   announce-long is = go (contextFlag (header a)) refl
     where
       short : ltb (length (body a)) (leastAnnounce (header a)) ≡ false
       short = let (_, (_, (_, (long, _)))) = none-any (formTests (a .bytes)) good in sym (and-yes _ is) ∙ long
 
-      go : (t : Bool) → contextFlag (header a) ≡ t → 84 ≤ length (body a)
-      go true q = let l : 180 ≤ length (body a) = ltb-false _ _ (rw q at short) in omega arith
-      go false q = let l : 148 ≤ length (body a) = ltb-false _ _ (rw q at short) in omega arith
+      go : (t : Bool) → contextFlag (header a) ≡ t → blobEnd ≤ length (body a)
+      go true q = let l : blobEnd + ratchetWidth + signatureWidth ≤ length (body a) = ltb-false _ _ (rw q at short) in omega arith
+      go false q = let l : blobEnd + signatureWidth ≤ length (body a) = ltb-false _ _ (rw q at short) in omega arith
 
   -- no link request is of kind link
   pub link-no-request : ofKindLink (header a) ≡ true → isLinkRequest (header a) ≡ false
@@ -68,10 +70,10 @@ module _ (a : Arrival) (good : badForm (a .bytes) ≡ false) where
 
 -- ---- hops are byte 1
 module _ (a : Arrival) where
-  pub hops-many : 128 ≤ getD (a .bytes) 1 0 → tooManyHops (hops a) ≡ true
+  pub hops-many : hopsLimit ≤ getD (a .bytes) hopsAt 0 → tooManyHops (hops a) ≡ true
   unfolding tooManyHops
-  hops-many l = le-leb 128 (hops a) (omega (arith, l, parts-hops (a .bytes)))
+  hops-many l = le-leb hopsLimit (hops a) (omega (arith, l, parts-hops (a .bytes)))
 
-  pub hops-few : getD (a .bytes) 1 0 < 128 → tooManyHops (hops a) ≡ false
+  pub hops-few : getD (a .bytes) hopsAt 0 < hopsLimit → tooManyHops (hops a) ≡ false
   unfolding tooManyHops
-  hops-few l = lt-leb 128 (hops a) (omega (arith, l, parts-hops (a .bytes)))
+  hops-few l = lt-leb hopsLimit (hops a) (omega (arith, l, parts-hops (a .bytes)))

@@ -6,12 +6,12 @@ ghost use mathlib.Core.Path.{_≡_};
 ghost use mathlib.Core.Bool.{true};
 ghost use Prim.Native.Nat.{_≤_};
 ghost use Rattle.packet.specs.Read.{longestPacket, reads};
-ghost use Rattle.numbers.specs.Numbers.{pathLifetime};
+ghost use Rattle.numbers.specs.Numbers.{pathLifetime, boundaryLifetime};
 ghost use Rattle.rules.specs.Writes.{nextHopOf};
 
 // How long a path lives, by the mode of the arrival port: boundary, access point, roaming.
 pub fn path_lifetime(mode: u8) -> u64
-    ensures { λ r. ⌜ (r ≡ pathLifetime mode) × (r ≤ 604800) ⌝ }
+    ensures { λ r. ⌜ (r ≡ pathLifetime mode) × (r ≤ boundaryLifetime) ⌝ }
 {
     if mode == 0 {
         return BOUNDARY_LIFETIME;

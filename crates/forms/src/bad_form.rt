@@ -1,6 +1,9 @@
 // Test 3, bad form: its clauses in document 01's order. All of it needs the packet alone.
 use super::Form;
 use super::joined::both;
+use numbers::LEAST_LINK_REQUEST;
+use numbers::LONGER_LINK_PROOF;
+use numbers::SHORTER_LINK_PROOF;
 use rules::Clause;
 ghost use mathlib.Core.Path.{_≡_};
 ghost use mathlib.Core.Bool.{true};
@@ -45,10 +48,10 @@ fn link_proof_length(packet: &[u8]) -> bool
 {
     if is_link_proof(packet) {
         let n = packet::payload(packet).len();
-        if n == 96 {
+        if n == SHORTER_LINK_PROOF {
             return false;
         }
-        return n != 99;
+        return n != LONGER_LINK_PROOF;
     }
     false
 }
@@ -84,7 +87,7 @@ pub fn form_of(packet: &[u8]) -> Form
     ) {
         return Form::Bad(Clause::RequestOfKindLink);
     }
-    if both(packet::is_link_request(header), length < 64) {
+    if both(packet::is_link_request(header), length < LEAST_LINK_REQUEST) {
         return Form::Bad(Clause::RequestTooShort);
     }
     if link_proof_length(packet) {

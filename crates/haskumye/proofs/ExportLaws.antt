@@ -8,7 +8,7 @@ use lib.Dec.{ltb}
 use lib.ListN.{length, length-drop}
 use borrow.Author.Tests.{ltb-true, ltb-false, eq-eqb, ne-eqb}
 use Rattle.octets.proofs.Choice.{then-true, then-false}
-use Rattle.packet.specs.Read.{headerOf, payloadStart, payload}
+use Rattle.packet.specs.Read.{headerOf, payloadStart, payload, longestPacket}
 use Rattle.packet.specs.Write.{Writing, writing, writingRefusal}
 use Rattle.packet.specs.declared.Parts.{Parts}
 use Rattle.packet.specs.declared.Written.{Written}
@@ -52,7 +52,7 @@ pub payload-short : (p body : List ℕ) → body ≡ payload p → length body �
 payload-short p body e = omega (arith, ap length e, payload-least p)
 
 -- ---- a writing's length is at most 500
-pub written-most : (w : Written) (q : Parts) (body output : List ℕ) → w ≡ writing q body output .answer → w .length ≤ 500
+pub written-most : (w : Written) (q : Parts) (body output : List ℕ) → w ≡ writing q body output .answer → w .length ≤ longestPacket
 written-most w q body output e = go (ltb 0 refusal) refl
   where
     refusal : ℕ
@@ -61,7 +61,7 @@ written-most w q body output e = go (ltb 0 refusal) refl
     size : (x : Writing) → writing q body output ≡ x → w .length ≡ x .answer .length
     size x d = ap (λ (a : Written). a .length) e ∙ ap (λ (y : Writing). y .answer .length) d
 
-    go : (v : Bool) → ltb 0 refusal ≡ v → w .length ≤ 500
+    go : (v : Bool) → ltb 0 refusal ≡ v → w .length ≤ longestPacket
     go true t =
         let refused : 0 < refusal = ltb-true 0 refusal t in
         omega (arith, size _ (writing-refused q body output (λ (z : refusal ≡ 0). omega arith)))

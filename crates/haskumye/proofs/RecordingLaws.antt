@@ -13,6 +13,7 @@ use Rattle.recording.specs.Reader.{fieldsOf}
 use Rattle.recording.specs.Writer.{writingRefusal, Writing, writing}
 use Rattle.recording.specs.declared.Fields.{Fields}
 use Rattle.recording.specs.declared.Written.{Written}
+use Rattle.recording.specs.Format.{longestFile}
 use Rattle.recording.proofs.WriteLaws.{writable, writing-done, writing-refused}
 use Rattle.replaying.specs.Promise.{StepOn}
 use Rattle.replaying.specs.declared.Stepped.{Stepped}
@@ -35,7 +36,7 @@ module _ (f : List ℕ) (i : ℕ) (old : List ℕ) (fields : Fields) (e : fields
       (sym (then-false 0 22 t), sym (then-false _ old t))
 
 -- ---- a file's length is at most 60,000
-pub recorded-most : (w : Written) (g bodies room : List ℕ) → w ≡ writing g bodies room .answer → w .length ≤ 60000
+pub recorded-most : (w : Written) (g bodies room : List ℕ) → w ≡ writing g bodies room .answer → w .length ≤ longestFile
 recorded-most w g bodies room e = go (ltb 0 refusal) refl
   where
     refusal : ℕ
@@ -44,7 +45,7 @@ recorded-most w g bodies room e = go (ltb 0 refusal) refl
     size : (x : Writing) → writing g bodies room ≡ x → w .length ≡ x .answer .length
     size x d = ap (λ (a : Written). a .length) e ∙ ap (λ (y : Writing). y .answer .length) d
 
-    go : (v : Bool) → ltb 0 refusal ≡ v → w .length ≤ 60000
+    go : (v : Bool) → ltb 0 refusal ≡ v → w .length ≤ longestFile
     go true t =
         let some = ltb-true 0 refusal t in
         omega (arith, size _ (writing-refused g bodies room (λ (z : refusal ≡ 0). omega arith)))

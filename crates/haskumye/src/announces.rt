@@ -1,17 +1,19 @@
 // Announces of the box's own addresses. Both calls return one number: in its low 16 bits the refusal or 0, in those
 // above the length.
+use crossing::REFUSAL_SPAN;
 use packet::Written;
 ghost use mathlib.Core.Path.{_≡_};
 ghost use Prim.Native.Nat.{_≤_};
+ghost use Rattle.packet.specs.Read.{longestPacket};
 ghost use Rattle.announcing.specs.Announcing.{makeAnnounce, signing, building};
 ghost use Rattle.crossing.specs.Packets.{writtenNumber, Writes};
 
 // What was written as one number of 32 bits.
 fn written_number(written: Written) -> u32
-    requires { ⌜ written .length ≤ 500 ⌝ }
+    requires { ⌜ written .length ≤ longestPacket ⌝ }
     ensures { λ r. ⌜ r ≡ writtenNumber written ⌝ }
 {
-    (written.length as u32) * 65536 + (written.refusal as u32)
+    (written.length as u32) * REFUSAL_SPAN + (written.refusal as u32)
 }
 
 // Lays out the bytes that the host signs, at the start of the room, which a refusal leaves as it was. An empty ratchet

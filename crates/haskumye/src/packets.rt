@@ -1,4 +1,5 @@
 // Reading and writing packets, their hashes, and what an announce holds.
+use crossing::REFUSAL_SPAN;
 use crossing::parts_bytes;
 ghost use mathlib.Core.Path.{_≡_};
 ghost use Rattle.packet.specs.Read.{longestPacket, reading};
@@ -45,7 +46,7 @@ pub extern "C" fn haskumye_write(parts: &[u8; 35], payload: &[u8], output: &mut 
 {
     let q = packet::type_two_parts(parts);
     let written = packet::write(q, payload, output);
-    (written.length as u32) * 65536 + (written.refusal as u32)
+    (written.length as u32) * REFUSAL_SPAN + (written.refusal as u32)
 }
 
 // The packet hash: the refusal, 0 for none. A refusal leaves the buffer as it was.

@@ -1,8 +1,10 @@
 // Recordings: reading and writing them, and their replay entry by entry.
 use super::packets::haskumye_payload_start;
+use crossing::REFUSAL_SPAN;
 use crossing::answer_number;
 use crossing::tally_in;
 use crossing::tally_numbers;
+use numbers::refusals;
 ghost use mathlib.Core.Path.{_≡_};
 ghost use Rattle.recording.specs.Shape.{countOf};
 ghost use Rattle.recording.specs.Reader.{fileRefusal, bodyOf};
@@ -41,7 +43,7 @@ pub extern "C" fn haskumye_recording_entry(file: &[u8], index: u64, entry: &mut 
         *entry = numbers;
         return 0;
     }
-    recording::PLACE_REFUSED
+    refusals::FILE_PLACE
 }
 
 // Writes the recording of these entries and bodies at the start of the room, which a refusal leaves as it was.
@@ -52,7 +54,7 @@ pub extern "C" fn haskumye_write_recording(entries: &[u8], bodies: &[u8], room: 
         r (now (room .exit)) ⌝ }
 {
     let written = recording::write(entries, bodies, room);
-    (written.length as u32) * 65536 + (written.refusal as u32)
+    (written.length as u32) * REFUSAL_SPAN + (written.refusal as u32)
 }
 
 // The packet call of entry `index` of a recording, with an output of its own: its answer's number, as

@@ -1,4 +1,5 @@
 // Saved tables: a relay's tables and tally as a file, and back.
+use crossing::WIDE_REFUSAL_SPAN;
 use crossing::tally_in;
 use crossing::tally_numbers;
 use saved::SAVED_SIZE;
@@ -26,7 +27,7 @@ pub extern "C" fn haskumye_save(tables: &[u8], tally: &[u32; 6], room: &mut [u8]
 {
     let counts = *tally;
     let saved = saved::save(tables, tally_in(counts), room);
-    (saved.length as u64) * 65536 + octets::wide(saved.refusal)
+    (saved.length as u64) * WIDE_REFUSAL_SPAN + octets::wide(saved.refusal)
 }
 
 // Sets tables and tally to what the file holds, and returns 0; or a refusal's number, and both stay.

@@ -34,7 +34,7 @@ use Rattle.rules.proofs.ChattyScene.{hears, spreadOf, port-one, port-two, stric
 use Rattle.rules.proofs.DeadPathScene.{stranger, counting, lastRelay, first-heard, again-dropped, no-path, early-mark, marked, early-refused, revived, third-dropped, marked-blocked, late-refused, still-no-path, marked-twice, older-dropped, data-carried, revived-again, fourth-dropped}
 use Rattle.history.specs.After.{Entry}
 use Rattle.history.specs.Opinion.{listLimit, listed}
-use Rattle.history.specs.SecondOpinion.{coarseReason, coarseVerdict, coarseAnswer, coarse, RepliesAlike, Alike}
+use Rattle.history.specs.SecondOpinion.{coarseReason, coarseVerdict, coarseAnswer, coarse, RepliesAlike, AllReplyAlike}
 use Rattle.history.proofs.SecondOpinion.{second-opinion}
 
 -- the second opinion replies so to each call of a list
@@ -99,8 +99,8 @@ listed-one own entries (saves f room) = omega arith
 listed-one own entries (loads f file) = omega arith
 
 pub replies-alike : (own : List ℕ) (entries : List Entry) (cs : List Call) (r : Relay) (t : Tally)
-    → length entries + length cs ≤ listLimit → Alike own entries cs r t → Replies own entries cs (replies cs r t)
-unfolding Replies Alike replies
+    → length entries + length cs ≤ listLimit → AllReplyAlike own entries cs r t → Replies own entries cs (replies cs r t)
+unfolding Replies AllReplyAlike replies
 replies-alike own entries [] r t few h = tt
 replies-alike own entries (c ∷ cs) r t few h = (
   h .0 (omega arith),
@@ -108,13 +108,13 @@ replies-alike own entries (c ∷ cs) r t few h = (
 )
 
 replies-so : (own : List ℕ) (entries : List Entry) {cs : List Call} {r : Relay} {t : Tally} {xs : List Reply} → Run cs r t xs
-    → length entries + length cs ≤ listLimit → Alike own entries cs r t → Replies own entries cs xs
-unfolding Replies Alike
+    → length entries + length cs ≤ listLimit → AllReplyAlike own entries cs r t → Replies own entries cs xs
+unfolding Replies AllReplyAlike
 replies-so own entries done few h = tt
 replies-so own entries (_and-then_ {c = c} {cs = cs} e run) few h = (
   subst (λ (o : Outcome). RepliesAlike own entries c (o .reply)) e (h .0 (omega arith)),
   replies-so own (listed own entries c) run (omega (arith, listed-one own entries c))
-      (subst (λ (o : Outcome). Alike own (listed own entries c) cs (o .relay) (o .tally)) e (h .1)),
+      (subst (λ (o : Outcome). AllReplyAlike own (listed own entries c) cs (o .relay) (o .tally)) e (h .1)),
 )
 
 -- ---- what it replies

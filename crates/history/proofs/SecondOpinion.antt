@@ -36,7 +36,7 @@ use Rattle.history.specs.Known.{Known, seenAt}
 use Rattle.history.specs.After.{Entry, came, called, afterPacket, after, knownOf}
 use Rattle.history.specs.Opinion.{listLimit, packetRefused, callRefused, judgedBy, onPacket, onCall, listed}
 use Rattle.history.specs.Opinion as opinion
-use Rattle.history.specs.SecondOpinion.{coarse, coarseAnswer, RepliesAlike, Alike, SecondOpinion}
+use Rattle.history.specs.SecondOpinion.{coarse, coarseAnswer, RepliesAlike, AllReplyAlike, SecondOpinion}
 use Rattle.history.proofs.Coarse.{judged-coarse, known-coarse}
 use Rattle.history.proofs.Agrees.{Agrees, agrees-later, on-agrees, seen-agrees, fresh-agrees}
 use Rattle.history.proofs.Packets.{packet-agrees}
@@ -159,8 +159,8 @@ listed-longer own entries (loads f file) = le-refl (length entries)
 
 -- once 64 are listed nothing more is said
 all-alike : (own : List ℕ) (entries : List Entry) (cs : List Call) (r : Relay) (t : Tally) → noneLoads cs ≡ true → tablesOk r ≡ true → Unique r
-    → (length entries < listLimit → Follows own entries r) → Alike own entries cs r t
-unfolding Alike
+    → (length entries < listLimit → Follows own entries r) → AllReplyAlike own entries cs r t
+unfolding AllReplyAlike
 all-alike own entries [] r t none ok u h = tt
 all-alike own entries (c ∷ cs) r t none ok u h =
     let first : setsRelay c ≡ false = first-none setsRelay c cs none in (

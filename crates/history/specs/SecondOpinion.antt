@@ -54,12 +54,12 @@ RepliesAlike own entries (saves f room) reply = Unit {0}
 RepliesAlike own entries (loads f file) reply = Unit {0}
 
 -- "at each call that finds under 64 listed"
-unfoldable pub Alike : List ℕ → List Entry → List Call → Relay → Tally → Type 0
-Alike own entries [] r t = Unit {0}
-Alike own entries (c ∷ cs) r t =
+unfoldable pub AllReplyAlike : List ℕ → List Entry → List Call → Relay → Tally → Type 0
+AllReplyAlike own entries [] r t = Unit {0}
+AllReplyAlike own entries (c ∷ cs) r t =
     (length entries < listLimit → RepliesAlike own entries c (perform c r t .reply))
-    × Alike own (listed own entries c) cs (perform c r t .relay) (perform c r t .tally)
+    × AllReplyAlike own (listed own entries c) cs (perform c r t .relay) (perform c r t .tally)
 
 -- over every list of calls on a fresh relay: refused ones, questions and saves may stand among them, but of loads only refused ones
 abbrev pub SecondOpinion : Type 0
-SecondOpinion = (own : List ℕ) (cs : List Call) (t : Tally) → noneLoads cs ≡ true → Alike own [] cs (fresh own) t
+SecondOpinion = (own : List ℕ) (cs : List Call) (t : Tally) → noneLoads cs ≡ true → AllReplyAlike own [] cs (fresh own) t

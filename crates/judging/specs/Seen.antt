@@ -7,7 +7,7 @@ use lib.ListN.{getD}
 use Rattle.octets.specs.Index.{listOf}
 use Rattle.octets.specs.Part.{part}
 use Rattle.octets.specs.Choice.{_then_otherwise_}
-use Rattle.numbers.specs.Numbers.{longestPacket, blobLimit}
+use Rattle.numbers.specs.Numbers.{longestPacket, blobLimit, blobWidth}
 use Rattle.packet.specs.Header.{isLinkRequest}
 use Rattle.packet.specs.Read.{headerOf, partsOf}
 use Rattle.packet.specs.Hash.{linkId}
@@ -34,9 +34,15 @@ abbrev pub arrivalOf : List ℕ → Arrived → Arrival
 arrivalOf bytes m = record { bytes = bytes; port = m .port; clock = m .clock; signed = m .signed }
 
 -- ---- the records, under the key that they were looked for by
--- the 64 places of ten bytes
+-- the bytes of a path's blobs: a place for each that it may hold
+abbrev pub blobBytes : ℕ
+blobBytes = blobWidth * blobLimit
+
+abbrev pub placeIn : List ℕ → ℕ → List ℕ
+placeIn bytes i = part bytes (blobWidth * i) blobWidth
+
 unfoldable pub placesOf : List ℕ → List (List ℕ)
-placesOf bytes = listOf (λ i. part bytes (10 * i) 10) blobLimit
+placesOf bytes = listOf (placeIn bytes) blobLimit
 
 abbrev pub blobsIn : ℕ → List ℕ → Blobs
 blobsIn count bytes = record { count = count; places = placesOf bytes }

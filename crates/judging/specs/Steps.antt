@@ -11,6 +11,7 @@ use Rattle.octets.specs.Listed.{firstOf, valued}
 use Rattle.octets.specs.Part.{patch}
 use Rattle.packet.specs.Read.{longestPacket, reads, payload}
 use Rattle.packet.specs.Announce.{emissionOf}
+use Rattle.packet.specs.Places.{blobEnd}
 use Rattle.numbers.specs.Numbers.{blobLimit}
 use Rattle.rules.specs.Relay.{empty, used, Blobs, Path, withPathRate}
 use Rattle.rules.specs.View.{View}
@@ -65,12 +66,12 @@ provedBy (Blocked why) proved = false
 pub record CanTest (s : Seen) (packet : List ℕ) (w : SeenWay) : Type 0 where
   pub readable : reads longestPacket packet ≡ true
   pub fits : Fits s
-  pub long : w ≡ Everywhere → 84 ≤ length (payload packet)
+  pub long : w ≡ Everywhere → blobEnd ≤ length (payload packet)
 
 -- whether they are made
 pub record Tested (s : Seen) (packet : List ℕ) (m : Arrived) (w : SeenWay) (r : Bool) : Type 0 where
   pub made : r ≡ ofKnown (arrivalOf packet m) (λ p. true) (wayOf s (arrivalOf packet m) w)
-  pub long : r ≡ true → 84 ≤ length (payload packet)
+  pub long : r ≡ true → blobEnd ≤ length (payload packet)
 
 -- one of them, of the path that is seen, and what a caller shows
 abbrev pub ofSeenPath : (View → Arrival → Path → Bool) → Seen → List ℕ → Arrived → Bool
@@ -79,7 +80,7 @@ ofSeenPath test s packet m = asSeen test s packet m (pathRecord (destination (ar
 pub record CanKnow (s : Seen) (packet : List ℕ) : Type 0 where
   pub readable : reads longestPacket packet ≡ true
   pub fits : Fits s
-  pub long : 84 ≤ length (payload packet)
+  pub long : blobEnd ≤ length (payload packet)
 
 -- the plan of tests 12, 16 and 13, and of all behind 9
 unfoldable pub leavingPlan : View → Arrival → Way → Plan

@@ -1,9 +1,13 @@
 // The blobs of a path.
+use super::BLOB_BYTES;
 use super::SeenPath;
 use super::Stored;
 use forms::both;
 use forms::either;
 use numbers::BLOB_LIMIT;
+use numbers::BLOB_WIDTH;
+use packet::places::EMISSION_WIDTH;
+use packet::places::RANDOM_WIDTH;
 ghost use mathlib.Core.Path.{_≡_};
 ghost use Prim.Native.Nat.{_≤_};
 ghost use Rattle.numbers.specs.Numbers.{blobLimit};
@@ -12,10 +16,11 @@ ghost use Rattle.rules.specs.Blobs.{oneBlob, addBlob, storeBlob};
 ghost use Rattle.judging.specs.Seen.{blobsIn, blobsOf};
 ghost use Rattle.judging.specs.Steps.{blobsStored, revivedBy};
 
-const BLOB_WIDTH: usize = 10;
+// Where the last of the places is: that of the newest blob once all are used.
+const NEWEST_AT: usize = BLOB_BYTES - BLOB_WIDTH;
 
 // Whether the blob is among the first of the bytes, so many.
-pub fn holds_blob(blobs: [u8; 640], count: usize, blob: [u8; 10]) -> bool
+pub fn holds_blob(blobs: [u8; BLOB_BYTES], count: usize, blob: [u8; 10]) -> bool
     requires { ⌜ count ≤ blobLimit ⌝ }
     ensures { λ r. ⌜ r ≡ isAmong blob (held (blobsIn count blobs)) ⌝ }
 {
@@ -37,8 +42,8 @@ fn greater(x: u64, y: u64) -> u64
     x
 }
 
-// The greatest emission, which the last five bytes of a blob say, among the first of the bytes, so many.
-pub fn greatest_emission(blobs: [u8; 640], count: usize) -> u64
+// The greatest emission, which the last bytes of a blob say, among the first of the bytes, so many.
+pub fn greatest_emission(blobs: [u8; BLOB_BYTES], count: usize) -> u64
     requires { ⌜ count ≤ blobLimit ⌝ }
     ensures { λ r. ⌜ r ≡ greatestOf (held (blobsIn count blobs)) ⌝ }
 {
@@ -46,7 +51,10 @@ pub fn greatest_emission(blobs: [u8; 640], count: usize) -> u64
     let mut i = count;
     while 0 < i {
         i -= 1;
-        most = greater(octets::number_at(&blobs, BLOB_WIDTH * i + 5, 5), most);
+        most = greater(
+            octets::number_at(&blobs, BLOB_WIDTH * i + RANDOM_WIDTH, EMISSION_WIDTH),
+            most,
+        );
     }
     most
 }
@@ -65,13 +73,13 @@ pub fn revives(path: SeenPath, blob: [u8; 10]) -> bool
 pub fn one_blob(blob: [u8; 10]) -> Stored
     ensures { λ r. ⌜ (blobsStored r ≡ oneBlob blobLimit blob) × (r .count ≤ blobLimit) ⌝ }
 {
-    let mut bytes = [0u8; 640];
+    let mut bytes = [0u8; BLOB_BYTES];
     octets::copy_at(&mut bytes, 0, &blob);
     Stored { count: 1, bytes }
 }
 
-// The blobs with one more behind them. With 64 held, the one stored longest ago goes.
-fn add_blob(old: [u8; 640], count: usize, blob: [u8; 10]) -> Stored
+// The blobs with one more behind them. Where all places are used, the one stored longest ago goes.
+fn add_blob(old: [u8; BLOB_BYTES], count: usize, blob: [u8; 10]) -> Stored
     requires { ⌜ count ≤ blobLimit ⌝ }
     ensures { λ r. ⌜ (blobsStored r ≡ addBlob blobLimit blob (blobsIn count old)) × (r .count ≤ blobLimit) ⌝ }
 {
@@ -83,8 +91,8 @@ fn add_blob(old: [u8; 640], count: usize, blob: [u8; 10]) -> Stored
             bytes,
         };
     }
-    octets::copy_at(&mut bytes, 0, &old[10..640]);
-    octets::copy_at(&mut bytes, 630, &blob);
+    octets::copy_at(&mut bytes, 0, &old[BLOB_WIDTH..BLOB_BYTES]);
+    octets::copy_at(&mut bytes, NEWEST_AT, &blob);
     Stored { count, bytes }
 }
 

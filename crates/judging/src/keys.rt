@@ -2,6 +2,7 @@
 ghost use mathlib.Core.Path.{_≡_};
 ghost use mathlib.Core.Bool.{true};
 ghost use lib.ListN.{take};
+ghost use Rattle.packet.specs.Places.{addressWidth};
 ghost use Rattle.packet.specs.Read.{longestPacket, reads};
 ghost use Rattle.packet.specs.Hash.{packetHash};
 ghost use Rattle.judging.specs.Seen.{linkKeyOf};
@@ -21,7 +22,7 @@ pub fn link_key(packet: &[u8]) -> [u8; 16]
 // Of the return record that forwarded data leaves: the first 16 of its hash.
 pub fn return_key(packet: &[u8]) -> [u8; 16]
     requires { ⌜ reads longestPacket (now packet) ≡ true ⌝ }
-    ensures { λ r. ⌜ r ≡ take 16 (packetHash (now (packet .entry))) ⌝ }
+    ensures { λ r. ⌜ r ≡ take addressWidth (packetHash (now (packet .entry))) ⌝ }
 {
     let hash = packet::hash_of(packet);
     octets::address_at(&hash, 0)

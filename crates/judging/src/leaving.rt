@@ -6,6 +6,7 @@ use super::SeenWay;
 use super::sides::from_answering_side;
 use numbers::LONGEST_PACKET;
 use numbers::PORT_COUNT;
+use packet::places::HOPS_AT;
 ghost use mathlib.Core.Path.{_≡_};
 ghost use mathlib.Core.Bool.{true};
 ghost use lib.ListN.{length, getD};
@@ -60,7 +61,7 @@ pub fn leaving_port(seen: Seen, packet: &[u8], arrived: Arrived, way: SeenWay) -
         SeenWay::ByPath => seen.path.port,
         SeenWay::AlongLink => {
             let link = seen.link.link;
-            if from_answering_side(link, arrived.port, packet[1]) {
+            if from_answering_side(link, arrived.port, packet[HOPS_AT]) {
                 return link.asking;
             }
             link.answering

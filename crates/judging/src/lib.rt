@@ -20,8 +20,11 @@ use forms::Form;
 pub use keys::link_key;
 pub use keys::return_key;
 use notes::Notes;
+use numbers::BLOB_LIMIT;
+use numbers::BLOB_WIDTH;
 use numbers::HOPS_LIMIT;
 use onward::plan_onward;
+use packet::places::HOPS_AT;
 pub use records::announced_path;
 pub use records::limited_path;
 pub use records::link_record;
@@ -57,8 +60,11 @@ pub struct SeenPort {
     pub size: usize,
 }
 
-// A destination's path, if there is one. Of the blobs, ten bytes each, the one stored longest ago comes first, and what
-// lies behind the last one counts for nothing.
+// The bytes of a path's blobs: a place for each that it may hold.
+pub const BLOB_BYTES: usize = BLOB_WIDTH * BLOB_LIMIT;
+
+// A destination's path, if there is one. Of the blobs the one stored longest ago comes first, and what lies behind the
+// last one counts for nothing.
 pub struct SeenPath {
     pub there: bool,
     pub port: u8,
@@ -68,7 +74,7 @@ pub struct SeenPath {
     pub rate: RateEntry,
     pub notes: Notes,
     pub count: usize,
-    pub blobs: [u8; 640],
+    pub blobs: [u8; BLOB_BYTES],
 }
 
 // A link, if there is one.
@@ -111,7 +117,7 @@ pub enum SeenWay {
 // How many blobs a path holds, and their bytes.
 pub struct Stored {
     pub count: usize,
-    pub bytes: [u8; 640],
+    pub bytes: [u8; BLOB_BYTES],
 }
 
 // What is to be done with an accepted packet.
@@ -142,7 +148,7 @@ pub fn plan_of(seen: Seen, packet: &[u8], arrived: Arrived) -> Planned
     if delivered_here(seen, packet, arrived) {
         return Planned::Deliver;
     }
-    if packet[1] >= HOPS_LIMIT {
+    if packet[HOPS_AT] >= HOPS_LIMIT {
         return Planned::Drop(Reason::TooManyHops);
     }
     plan_onward(seen, packet, arrived)

@@ -14,6 +14,7 @@ use super::sides::from_asking_side;
 use super::ways::way_on;
 use forms::both;
 use forms::either;
+use packet::places::HOPS_AT;
 use rules::Reason;
 ghost use mathlib.Core.Path.{_≡_};
 ghost use mathlib.Core.Bool.{true, false};
@@ -60,10 +61,10 @@ fn wrong_side(seen: Seen, packet: &[u8], arrived: Arrived, way: SeenWay) -> bool
         SeenWay::ByPath => false,
         SeenWay::AlongLink => {
             let link = seen.link.link;
-            if from_answering_side(link, arrived.port, packet[1]) {
+            if from_answering_side(link, arrived.port, packet[HOPS_AT]) {
                 return false;
             }
-            let asking = from_asking_side(link, arrived.port, packet[1]);
+            let asking = from_asking_side(link, arrived.port, packet[HOPS_AT]);
             either(forms::is_link_proof(packet), !asking)
         }
         SeenWay::ByReturn => arrived.port != seen.back.leaving,
@@ -114,7 +115,7 @@ fn not_better(seen: Seen, packet: &[u8], arrived: Arrived) -> bool
     let blobs = path.blobs;
     let most = greatest_emission(blobs, path.count);
     let emission = packet::emission(packet::blob(packet::payload(packet)));
-    both(emission <= most, path.hops <= packet[1])
+    both(emission <= most, path.hops <= packet[HOPS_AT])
 }
 
 // Test 15: the rate rule.

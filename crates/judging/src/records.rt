@@ -15,6 +15,7 @@ use forms::either;
 use numbers::HOP_LIFETIME;
 use numbers::PROVED_LIFETIME;
 use numbers::RETURN_LIFETIME;
+use packet::places::HOPS_AT;
 use rules::Link;
 use rules::RateEntry;
 use rules::RateSettings;
@@ -25,6 +26,7 @@ ghost use mathlib.Core.Path.{_≡_};
 ghost use mathlib.Core.Bool.{true};
 ghost use Prim.Native.Nat.{_≤_, _<_};
 ghost use lib.ListN.{length};
+ghost use Rattle.packet.specs.Places.{blobEnd};
 ghost use Rattle.packet.specs.Read.{longestPacket, reads, payload};
 ghost use Rattle.numbers.specs.Numbers.{blobLimit, clockLimit};
 ghost use Rattle.rules.specs.Relay.{used};
@@ -85,7 +87,7 @@ pub fn announced_path(
     packet: &[u8],
     arrived: Arrived,
 ) -> SeenPath
-    requires { ⌜ (reads longestPacket (now packet) ≡ true) × (84 ≤ length (payload (now packet)))
+    requires { ⌜ (reads longestPacket (now packet) ≡ true) × (blobEnd ≤ length (payload (now packet)))
         × (rateSettingsOk settings ≡ true) × PathFits known × (arrived .clock < clockLimit) ⌝ }
     ensures { λ r. ⌜ (pathOf (destinationOf (arrivalOf (now (packet .entry)) arrived)) r
         ≡ used (announcedPath (settingsView settings mode) (arrivalOf (now (packet .entry)) arrived)
@@ -156,7 +158,7 @@ pub fn link_record(path: SeenPath, packet: &[u8], arrived: Arrived) -> Link
         id,
         asking: arrived.port,
         answering: path.port,
-        taken: TakenHops(packet[1]),
+        taken: TakenHops(packet[HOPS_AT]),
         remaining: RemainingHops(path.hops),
         proved: false,
         expiry: arrived.clock + lifetime,

@@ -1,14 +1,15 @@
 -- The line of a packet, and of bytes that don't read.
-use Prim.Native.Nat.{ℕ}
+use Prim.Native.Nat.{ℕ, _*_}
 use mathlib.Core.List.{List, [], _∷_, _++_}
 use lib.Dec.{eqb}
 use lib.ListN.{length}
 use Rattle.octets.specs.Choice.{_then_otherwise_}
+use Rattle.packet.specs.Places.{addressWidth}
 use Rattle.packet.specs.Header.{typeTwo, transport, destinationKind, packetKind}
 use Rattle.packet.specs.Read.{longestPacket, partsOf, payload, reads, readingRefusal}
 use Rattle.packet.specs.declared.Parts.{Parts}
 use Rattle.line.specs.Words.{type1Word, type2Word, broadcastWord, transportWord, singleWord, groupWord, plainWord, linkWord, dataWord, announceWord, linkrequestWord, proofWord, hopsWord, toWord, contextWord, payloadWord, byWord}
-use Rattle.text.specs.Numerals.{decimal, hexadecimal}
+use Rattle.text.specs.Numerals.{decimal, byteDigits, hexadecimal}
 use Rattle.text.specs.Words.{wordsLine, refusedWords}
 
 -- ---- the words of a packet: type1 broadcast link data hops 0 to 11111111111111111111111111111111 context fa payload 0
@@ -33,6 +34,10 @@ nameWords header =
     ∷ kindWord (destinationKind header) singleWord groupWord plainWord linkWord
     ∷ kindWord (packetKind header) dataWord announceWord linkrequestWord proofWord
     ∷ []
+
+-- an address in hexadecimal
+abbrev pub addressDigits : ℕ
+addressDigits = byteDigits * addressWidth
 
 -- hops and destination
 abbrev pub wayWords : ℕ → List ℕ → List (List ℕ)

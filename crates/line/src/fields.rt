@@ -9,6 +9,7 @@ use text::with_number;
 use text::with_word;
 ghost use mathlib.Core.Path.{_≡_};
 ghost use Prim.Native.Nat.{_<_};
+ghost use Rattle.text.specs.Numerals.{shortLimit};
 ghost use Rattle.text.specs.Words.{spaced, wordsLine};
 ghost use Rattle.text.specs.Text.{textOf, appended};
 ghost use Rattle.line.specs.Line.{wayWords, payloadWords, relayWords, partsWords};
@@ -41,7 +42,7 @@ fn with_relay(line: Text, header: u8, relay: [u8; 16]) -> Text
 
 // The line of a packet that reads.
 pub fn parts_line(parts: Parts, size: usize) -> Text
-    requires { ⌜ size < 1000 ⌝ }
+    requires { ⌜ size < shortLimit ⌝ }
     ensures { λ r. ⌜ r ≡ textOf (wordsLine (partsWords parts size)) ⌝ }
 {
     let header = parts.header;

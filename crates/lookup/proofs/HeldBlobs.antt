@@ -1,5 +1,5 @@
 -- Loops over the blobs that a path holds.
-use Prim.Native.Nat.{ℕ, zero, suc, _+_, _-_, _*_, _%_, _≤_, _<_}
+use Prim.Native.Nat.{ℕ, zero, suc, _+_, _-_, _*_, _%_, _^_, _≤_, _<_}
 use native.Mathlib.Nat.{not-suc-le-zero, le-of-suc-le-suc}
 use native.Mathlib.Numerals.{add-one}
 use native.Mathlib.Omega.{arith}
@@ -11,13 +11,14 @@ use lib.Seq.{drop-cons, length-take-le, getD-take}
 use Rattle.octets.specs.Choice.{same}
 use Rattle.octets.specs.Bytes.{Bytes}
 use Rattle.octets.specs.Part.{part}
-use Rattle.octets.specs.BigEndian.{numberFrom, number, word}
+use Rattle.octets.specs.BigEndian.{numberFrom, number, word, wordWidth}
 use Rattle.octets.specs.Index.{agree}
 use Rattle.octets.proofs.Choice.{or-left, or-right, or-no, or-no-left, or-no-right, same-agree}
 use Rattle.octets.proofs.Agree.{agree-eq}
 use Rattle.octets.proofs.ListOf.{listOf-length, listOf-at}
 use Rattle.octets.proofs.Part.{part-length, part-part, part-eight}
 use Rattle.packet.specs.Announce.{emissionOf}
+use Rattle.packet.specs.Places.{emissionWidth}
 use Rattle.numbers.specs.Numbers.{blobLimit}
 use Rattle.rules.specs.Blobs.{held, isAmong, greatest, greatestEmission}
 use Rattle.codes.proofs.Law.{sees-part}
@@ -48,8 +49,19 @@ module _ (x : List ℕ) where
   among-hit (y ∷ ys) zero (suc n) l m e = or-left _ e
   among-hit (y ∷ ys) (suc i) (suc n) l m e = or-right _ (among-hit ys i n (le-of-suc-le-suc l) (le-of-suc-le-suc m) e)
 
+-- where the last eight bytes of a blob start, and in them the emission
+abbrev pub lastWordAt : ℕ
+lastWordAt = blobWidth - wordWidth
+
+abbrev pub emissionAt : ℕ
+emissionAt = wordWidth - emissionWidth
+
+-- what the bytes of an emission hold
+abbrev pub emissionLimit : ℕ
+emissionLimit = 256 ^ emissionWidth
+
 -- ---- the last eight bytes first: where those at a place are not the blob's, it is another
-pub other-blob : (b x : List ℕ) (at : ℕ) → at + blobWidth ≤ length b → length x ≡ blobWidth → (word (part b (at + 2) 8) ≡ lastWord x → ⊥)
+pub other-blob : (b x : List ℕ) (at : ℕ) → at + blobWidth ≤ length b → length x ≡ blobWidth → (word (part b (at + lastWordAt) wordWidth) ≡ lastWord x → ⊥)
     → false ≡ agree (length x) (part b at (length x)) x
 unfolding lastWord
 other-blob b x at fits wide ne = go (agree (length x) (part b at (length x)) x) refl
@@ -57,16 +69,16 @@ other-blob b x at fits wide ne = go (agree (length x) (part b at (length x)) x) 
     go : (v : Bool) → agree (length x) (part b at (length x)) x ≡ v → false ≡ v
     go false q = refl
     go true q =
-        let tail : length x - 8 ≡ 2 = omega (arith, wide) in
+        let tail : length x - wordWidth ≡ lastWordAt = omega (arith, wide) in
         let same : part b at (length x) ≡ x = agree-eq (length x) (part b at (length x)) x (part-length b at (length x) (omega (arith, wide))) refl q in
         absurd
         (ne
-        (ap word (sym (part-part b at (length x) 2 8 (omega (arith, wide))) ∙ ap (λ (y : List ℕ). part y 2 8) same)
-        ∙ ap (λ (k : ℕ). word (part x k 8)) (sym tail)))
+        (ap word (sym (part-part b at (length x) lastWordAt wordWidth (omega (arith, wide))) ∙ ap (λ (y : List ℕ). part y lastWordAt wordWidth) same)
+        ∙ ap (λ (k : ℕ). word (part x k wordWidth)) (sym tail)))
 
-pub last-of : (x : List ℕ) → length x ≡ blobWidth → word (part x 2 8) ≡ lastWord x
+pub last-of : (x : List ℕ) → length x ≡ blobWidth → word (part x lastWordAt wordWidth) ≡ lastWord x
 unfolding lastWord
-last-of x wide = let tail : length x - 8 ≡ 2 = omega (arith, wide) in ap (λ (k : ℕ). word (part x k 8)) (sym tail)
+last-of x wide = let tail : length x - wordWidth ≡ lastWordAt = omega (arith, wide) in ap (λ (k : ℕ). word (part x k wordWidth)) (sym tail)
 
 -- ---- the greatest emission of those from i on
 greatest-none : (h : List (List ℕ)) (i : ℕ) → length h ≤ i → greatestEmission (drop i h) ≡ 0
@@ -79,13 +91,15 @@ unfolding greatestEmission
 greatest-more h i l = sym (ap greatestEmission (drop-cons h i [] l))
 
 -- ---- a blob's emission is the low five of its last eight bytes
-pub low-five : (t : List ℕ) (a : ℕ) → Bytes t → a + 8 ≤ length t → number (part t a 8) % 1099511627776 ≡ number (part t (a + 3) 5)
+pub low-five : (t : List ℕ) (a : ℕ) → Bytes t → a + wordWidth ≤ length t
+    → number (part t a wordWidth) % emissionLimit ≡ number (part t (a + emissionAt) emissionWidth)
 unfolding number numberFrom part
 low-five t a h l =
     let eight = part-eight t a l in
-    let five : number (part t (a + 3) 5) ≡ number (getD t (a + 3) 0 ∷ getD t (a + 4) 0 ∷ getD t (a + 5) 0 ∷ getD t (a + 6) 0 ∷ getD t (a + 7) 0 ∷ []) =
-    ap number (sym (part-part t a 8 3 5 (omega arith)) ∙ ap (λ (x : List ℕ). part x 3 5) eight) in
-    ap (λ (x : List ℕ). number x % 1099511627776) eight ∙ omega (arith, h (a + 3), h (a + 4), h (a + 5), h (a + 6), h (a + 7)) ∙ sym five
+    let five : number (part t (a + emissionAt) emissionWidth) ≡ number
+    (getD t (a + 3) 0 ∷ getD t (a + 4) 0 ∷ getD t (a + 5) 0 ∷ getD t (a + 6) 0 ∷ getD t (a + 7) 0 ∷ []) =
+    ap number (sym (part-part t a wordWidth emissionAt emissionWidth (omega arith)) ∙ ap (λ (x : List ℕ). part x emissionAt emissionWidth) eight) in
+    ap (λ (x : List ℕ). number x % emissionLimit) eight ∙ omega (arith, h (a + 3), h (a + 4), h (a + 5), h (a + 6), h (a + 7)) ∙ sym five
 
 -- ---- the record b of a path
 module _ (b : List ℕ) where

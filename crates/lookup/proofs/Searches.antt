@@ -12,7 +12,7 @@ use borrow.Author.Tests.{eq-eqb, eqb-false, not-true, lt-ltb, le-ltb, ltb-true, 
 use Rattle.octets.specs.Index.{_and_, allBelow, first}
 use Rattle.octets.specs.Choice.{_then_otherwise_, same}
 use Rattle.octets.specs.Part.{part}
-use Rattle.octets.specs.BigEndian.{number, word}
+use Rattle.octets.specs.BigEndian.{number, word, wordWidth}
 use Rattle.octets.proofs.Part.{part-part}
 use Rattle.octets.proofs.Choice.{ne-same}
 use Rattle.octets.proofs.Index.{and-left, and-right, and-no, and-yes, and-false, and-assoc, all-none, all-fails, first-none, first-more, first-le, first-hit, first-holds, first-before, first-absent, first-ended, first-cong}
@@ -90,14 +90,14 @@ unfolding lowestRecord
 lowest-cong p q at width n t each = first-cong _ _ n (λ i l. each (recordAt at width t i))
 
 -- ---- the last eight bytes first, for keys of any width: where those of a record are not the key's, it is not of the key
-pub other-word : (key b : List ℕ) (expiry clock : ℕ) → 8 ≤ length key
-    → (word (part b (1 + (length key - 8)) 8) ≡ lastWord key → ⊥) → false ≡ isLiveOf key expiry clock b
+pub other-word : (key b : List ℕ) (expiry clock : ℕ) → wordWidth ≤ length key
+    → (word (part b (1 + (length key - wordWidth)) wordWidth) ≡ lastWord key → ⊥) → false ≡ isLiveOf key expiry clock b
 unfolding isLiveOf hasKey lastWord
 other-word key b expiry clock l ne =
-    let tail : ℕ = length key - 8 in
+    let tail : ℕ = length key - wordWidth in
     let other : same (part b 1 (length key)) key ≡ false =
     ne-same (part b 1 (length key)) key
-    (λ q. ne (ap word (sym (part-part b 1 (length key) tail 8 (omega arith)) ∙ ap (λ (x : List ℕ). part x tail 8) q))) in
+    (λ q. ne (ap word (sym (part-part b 1 (length key) tail wordWidth (omega arith)) ∙ ap (λ (x : List ℕ). part x tail wordWidth) q))) in
     sym (and-no (live clock (number (part b expiry timeWidth))) (ap (isUsed b and_) other ∙ and-false (isUsed b)))
 
 -- ---- several words at once. The one of index k is w, read at its place
@@ -106,7 +106,7 @@ module _ (x at width : ℕ) (t : List ℕ) where
   unfolding noneIs
   none-first = all-none _
 
-  module _ (k : ℕ) {place w : ℕ} (there : place ≡ at + width * k) (read : w ≡ word (part t place 8)) where
+  module _ (k : ℕ) {place w : ℕ} (there : place ≡ at + width * k) (read : w ≡ word (part t place wordWidth)) where
     pub none-more : noneIs x at width k t ≡ true → not (eqb w x) ≡ noneIs x at width (k + 1) t
     unfolding noneIs allBelow
     none-more h = rw (add-one, read, there) (sym (and-yes _ h))
@@ -114,22 +114,22 @@ module _ (x at width : ℕ) (t : List ℕ) where
     pub one-is : (n : ℕ) → k < n → w ≡ x → false ≡ noneIs x at width n t
     unfolding noneIs
     one-is n l q =
-        let here : word (part t (at + width * k) 8) ≡ x = rw (← there) (sym read ∙ q) in
-        sym (all-fails (λ i. not (eqb (word (part t (at + width * i) 8)) x)) k n l (ap not (eq-eqb _ _ here)))
+        let here : word (part t (at + width * k) wordWidth) ≡ x = rw (← there) (sym read ∙ q) in
+        sym (all-fails (λ i. not (eqb (word (part t (at + width * i) wordWidth)) x)) k n l (ap not (eq-eqb _ _ here)))
 
 -- n records, of which none has the key's last eight bytes, are not of the key
 module _ (key : List ℕ) (expiry clock at width : ℕ) (t : List ℕ) (wide : 1 + length key ≤ width) where
-  pub others : (n tail : ℕ) → tail + 8 ≡ length key → noneIs (lastWord key) (at + 1 + tail) width n t ≡ true
+  pub others : (n tail : ℕ) → tail + wordWidth ≡ length key → noneIs (lastWord key) (at + 1 + tail) width n t ≡ true
       → lowestRecord (isLiveOf key expiry clock) at width n t ≡ n
   unfolding noneIs allBelow
   others zero tail e h = none-yet (isLiveOf key expiry clock) at width t
   others (suc n) tail e h =
-      let place : at + width * n + (1 + (length key - 8)) ≡ at + 1 + tail + width * n = omega arith in
+      let place : at + width * n + (1 + (length key - wordWidth)) ≡ at + 1 + tail + width * n = omega arith in
       let b : List ℕ = recordAt at width t n in
-      let differs : word (part b (1 + (length key - 8)) 8) ≡ lastWord key → ⊥ =
+      let differs : word (part b (1 + (length key - wordWidth)) wordWidth) ≡ lastWord key → ⊥ =
       λ q. eqb-false _ _ (not-true _ (and-right _ _ h))
-      (ap (λ (k : ℕ). word (part t k 8)) (sym place)
-      ∙ ap word (sym (part-part t (at + width * n) width (1 + (length key - 8)) 8 (omega arith))) ∙ q) in
+      (ap (λ (k : ℕ). word (part t k wordWidth)) (sym place)
+      ∙ ap word (sym (part-part t (at + width * n) width (1 + (length key - wordWidth)) wordWidth (omega arith))) ∙ q) in
       rw (← add-one)
       (not-here (isLiveOf key expiry clock) at width t n refl (other-word key b expiry clock (omega arith) differs) refl (others n tail e (and-left _ _ h)))
 

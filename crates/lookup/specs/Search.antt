@@ -8,18 +8,18 @@ use lib.ListN.{length, getD}
 use Rattle.octets.specs.Index.{_and_, allBelow, first}
 use Rattle.octets.specs.Choice.{same}
 use Rattle.octets.specs.Part.{part}
-use Rattle.octets.specs.BigEndian.{number, word}
+use Rattle.octets.specs.BigEndian.{number, word, wordWidth}
 use Rattle.numbers.specs.Numbers.{live}
 use Rattle.tables.specs.Places.{timeWidth}
 use Rattle.tables.specs.Layout.{recordAt}
 
 -- the last eight bytes of a key, as one number
 unfoldable pub lastWord : List ℕ → ℕ
-lastWord key = word (part key (length key - 8) 8)
+lastWord key = word (part key (length key - wordWidth) wordWidth)
 
 -- none of n words of eight bytes that stand `width` apart, from `at` on, is x
 unfoldable pub noneIs : ℕ → ℕ → ℕ → ℕ → List ℕ → Bool
-noneIs x at width n t = allBelow (λ i. not (eqb (word (part t (at + width * i) 8)) x)) n
+noneIs x at width n t = allBelow (λ i. not (eqb (word (part t (at + width * i) wordWidth)) x)) n
 
 -- the record b is used
 unfoldable pub isUsed : List ℕ → Bool

@@ -1,7 +1,7 @@
 // The blobs of a path, in the bytes of its record.
+use numbers::BLOB_WIDTH;
 use tables::fields::PATH_BLOB_COUNT_AT;
 use tables::fields::PATH_BLOBS_AT;
-use tables::places::BLOB_WIDTH;
 ghost use mathlib.Core.Path.{_≡_};
 ghost use Prim.Native.Nat.{_+_, _*_, _≤_, _<_};
 ghost use lib.ListN.{length};
@@ -15,6 +15,9 @@ ghost use Rattle.tables.specs.Fields.{pathPlacesAt};
 ghost use Rattle.tables.specs.Records.{blobsOf};
 ghost use Rattle.lookup.specs.Search.{lastWord};
 
+// Where the last eight bytes of a blob start.
+const LAST_WORD_AT: usize = BLOB_WIDTH - octets::WORD_WIDTH;
+
 // Whether the blob at a place is this one, of which `last` are the last eight bytes: they are compared first, as one
 // number.
 fn is_blob(b: &[u8], at: usize, blob: &[u8], last: u64) -> bool
@@ -22,7 +25,7 @@ fn is_blob(b: &[u8], at: usize, blob: &[u8], last: u64) -> bool
     ensures { λ r. ⌜ r ≡ agree (length (now (blob .entry)))
         (part (now (b .entry)) at (length (now (blob .entry)))) (now (blob .entry)) ⌝ }
 {
-    if octets::word_at(b, at + 2) != last {
+    if octets::word_at(b, at + LAST_WORD_AT) != last {
         return false;
     }
     octets::equal_at(b, at, blob)
@@ -34,7 +37,7 @@ pub fn has_blob(b: &[u8], blob: &[u8]) -> bool
         × (blobsOf (now b) .count ≤ blobLimit) ⌝ }
     ensures { λ r. ⌜ r ≡ isAmong (now (blob .entry)) (held (blobsOf (now (b .entry)))) ⌝ }
 {
-    let last = octets::word_at(blob, 2);
+    let last = octets::word_at(blob, LAST_WORD_AT);
     let count = b[PATH_BLOB_COUNT_AT] as usize;
     let mut i = 0;
     while i < count {
@@ -46,7 +49,7 @@ pub fn has_blob(b: &[u8], blob: &[u8]) -> bool
     false
 }
 
-// 256 ^ 5: below it is what five bytes write.
+// 256 ^ 5: below it is what the five bytes of an emission write.
 const FIVE_BYTES: u64 = 1_099_511_627_776;
 
 // The emission of the blob at a place, its last five bytes, by one load of its last eight.
@@ -54,7 +57,7 @@ fn emission_at(b: &[u8], i: usize) -> u64
     requires { ⌜ (length (now b) ≡ pathWidth) × (i < blobLimit) ⌝ }
     ensures { λ r. ⌜ r ≡ emissionOf (part (now (b .entry)) (pathPlacesAt + blobWidth * i) blobWidth) ⌝ }
 {
-    octets::number_of_8_at(b, PATH_BLOBS_AT + BLOB_WIDTH * i + 2) % FIVE_BYTES
+    octets::number_of_8_at(b, PATH_BLOBS_AT + BLOB_WIDTH * i + LAST_WORD_AT) % FIVE_BYTES
 }
 
 fn greater(x: u64, y: u64) -> u64

@@ -4,6 +4,7 @@ ghost use mathlib.Core.Path.{_≡_};
 ghost use mathlib.Core.Bool.{not};
 ghost use Prim.Native.Nat.{_+_, _*_, _≤_};
 ghost use lib.ListN.{length};
+ghost use Rattle.octets.specs.BigEndian.{wordWidth};
 ghost use Rattle.tables.specs.Places.{timeWidth};
 ghost use Rattle.tables.specs.Layout.{recordAt};
 ghost use Rattle.lookup.specs.Search.{lastWord, noneIs, hasKey, isLive, isLiveOf, lowestRecord};
@@ -43,10 +44,10 @@ pub fn is_live(b: &[u8], expiry: usize, clock: u64) -> bool
 // number: keys are digests, so most records are passed by this comparison, however much they share with the key before.
 fn is_live_of(b: &[u8], key: &[u8], last: u64, expiry: usize, clock: u64) -> bool
     requires { ⌜ (1 + length (now key) ≤ length (now b)) × (expiry + timeWidth ≤ length (now b))
-        × (8 ≤ length (now key)) × (last ≡ lastWord (now key)) ⌝ }
+        × (wordWidth ≤ length (now key)) × (last ≡ lastWord (now key)) ⌝ }
     ensures { λ r. ⌜ r ≡ isLiveOf (now (key .entry)) expiry clock (now (b .entry)) ⌝ }
 {
-    let tail = key.len() - 8;
+    let tail = key.len() - octets::WORD_WIDTH;
     if octets::word_at(b, 1 + tail) != last {
         return false;
     }
@@ -68,7 +69,7 @@ fn live_each(
     clock: u64,
 ) -> usize
     requires { ⌜ (at + width * count ≤ length (now tables)) × (1 + length (now key) ≤ width)
-        × (expiry + timeWidth ≤ width) × (8 ≤ length (now key)) × (last ≡ lastWord (now key)) ⌝ }
+        × (expiry + timeWidth ≤ width) × (wordWidth ≤ length (now key)) × (last ≡ lastWord (now key)) ⌝ }
     ensures { λ r. ⌜ r ≡ lowestRecord (isLiveOf (now (key .entry)) expiry clock) at width count
         (now (tables .entry)) ⌝ }
 {
@@ -86,7 +87,7 @@ fn live_each(
 
 // Whether none of four records has x for eight of its bytes. Those of the first stand at `at`.
 fn none_of_four(t: &[u8], at: usize, width: usize, x: u64) -> bool
-    requires { ⌜ at + width * 3 + 8 ≤ length (now t) ⌝ }
+    requires { ⌜ at + width * 3 + wordWidth ≤ length (now t) ⌝ }
     ensures { λ r. ⌜ r ≡ noneIs x at width 4 (now (t .entry)) ⌝ }
 {
     if octets::word_at(t, at) == x {
@@ -114,7 +115,7 @@ fn live_of_four(
     clock: u64,
 ) -> usize
     requires { ⌜ (at + width * 4 ≤ length (now tables)) × (1 + length (now key) ≤ width) × (expiry + timeWidth ≤ width)
-        × (tail + 8 ≡ length (now key)) × (last ≡ lastWord (now key)) ⌝ }
+        × (tail + wordWidth ≡ length (now key)) × (last ≡ lastWord (now key)) ⌝ }
     ensures { λ r. ⌜ r ≡ lowestRecord (isLiveOf (now (key .entry)) expiry clock) at width 4 (now (tables .entry)) ⌝ }
 {
     if none_of_four(tables, at + 1 + tail, width, last) {
@@ -135,11 +136,11 @@ pub fn live_place(
     clock: u64,
 ) -> usize
     requires { ⌜ (at + width * count ≤ length (now tables)) × (1 + length (now key) ≤ width)
-        × (expiry + timeWidth ≤ width) × (8 ≤ length (now key)) ⌝ }
+        × (expiry + timeWidth ≤ width) × (wordWidth ≤ length (now key)) ⌝ }
     ensures { λ r. ⌜ r ≡ lowestRecord (isLiveOf (now (key .entry)) expiry clock) at width count
         (now (tables .entry)) ⌝ }
 {
-    let tail = key.len() - 8;
+    let tail = key.len() - octets::WORD_WIDTH;
     let last = octets::word_at(key, tail);
     let mut i = 0;
     let mut from = at;

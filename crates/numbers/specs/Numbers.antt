@@ -9,6 +9,17 @@ use Rattle.octets.specs.Choice.{_then_otherwise_}
 abbrev pub longestPacket : ℕ
 longestPacket = 500
 
+-- "An address travels as sixteen bytes by value, a packet hash as thirty-two"
+abbrev pub addressWidth : ℕ
+addressWidth = 16
+
+abbrev pub digestWidth : ℕ
+digestWidth = 32
+
+-- a blob: ten bytes of an announce
+abbrev pub blobWidth : ℕ
+blobWidth = 10
+
 -- document 02, wish 11: "Each port gets a size from 19 to 500", of the longest packet that it carries
 abbrev pub leastSize : ℕ
 leastSize = 19
@@ -48,6 +59,20 @@ hashCount = 1024
 abbrev pub localCount : ℕ
 localCount = 16
 
+-- test 3: a link request with a "payload under 64"; a link proof "whose payload isn't 96 or 99"
+abbrev pub leastLinkRequest : ℕ
+leastLinkRequest = 64
+
+abbrev pub shorterLinkProof : ℕ
+shorterLinkProof = 96
+
+abbrev pub longerLinkProof : ℕ
+longerLinkProof = 99
+
+-- test 5: "Hops 128 or more"
+abbrev pub hopsLimit : ℕ
+hopsLimit = 128
+
 -- clock in seconds, below 2^40
 abbrev pub clockLimit : ℕ
 clockLimit = 2 ^ 40
@@ -61,10 +86,19 @@ abbrev pub modeCount : ℕ
 modeCount = 3
 
 -- path lifetime by the arrival port: boundary 604,800 s, access point 86,400, roaming 21,600
+abbrev pub boundaryLifetime : ℕ
+boundaryLifetime = 604800
+
+abbrev pub accessPointLifetime : ℕ
+accessPointLifetime = 86400
+
+abbrev pub roamingLifetime : ℕ
+roamingLifetime = 21600
+
 unfoldable pub pathLifetime : ℕ → ℕ
 pathLifetime mode =
-    eqb mode 0 then 604800 otherwise
-    eqb mode 1 then 86400 otherwise 21600
+    eqb mode 0 then boundaryLifetime otherwise
+    eqb mode 1 then accessPointLifetime otherwise roamingLifetime
 
 -- remembered hash 300 s
 abbrev pub hashLifetime : ℕ

@@ -7,6 +7,13 @@ pub const LONGEST_PACKET: usize = 500;
 
 pub const LEAST_OUTPUT: usize = 500;
 
+// How many bytes an address has, a packet hash, and a blob of an announce.
+pub const ADDRESS_WIDTH: usize = 16;
+
+pub const DIGEST_WIDTH: usize = 32;
+
+pub const BLOB_WIDTH: usize = 10;
+
 // The least size of a port; the greatest is the longest packet.
 pub const LEAST_SIZE: usize = 19;
 
@@ -60,6 +67,13 @@ pub const PROVED_LIFETIME: u64 = 720;
 
 // Seconds that an unproved link lives for each remaining hop, and one more.
 pub const HOP_LIFETIME: u64 = 6;
+
+// Test 3: the least payload of a link request, and the two lengths that a link proof's may have.
+pub const LEAST_LINK_REQUEST: usize = 64;
+
+pub const SHORTER_LINK_PROOF: usize = 96;
+
+pub const LONGER_LINK_PROOF: usize = 99;
 
 // A packet with so many hops goes no further.
 pub const HOPS_LIMIT: u8 = 128;

@@ -8,18 +8,18 @@ use Rattle.rules.specs.Run.{Call, packet, on-tables, asks, saves, loads, Reply,
 use Rattle.rules.specs.declared.Tally.{Tally}
 use Rattle.history.specs.After.{Entry}
 use Rattle.history.specs.Opinion.{listLimit, onPacket, onCall, listed}
-use Rattle.history.specs.SecondOpinion.{RepliesAlike, Alike}
+use Rattle.history.specs.SecondOpinion.{RepliesAlike, AllReplyAlike}
 use Rattle.history.proofs.SecondOpinion.{second-opinion}
-use Rattle.opinion.specs.Log.{ownIn, callsIn, listedIn}
+use Rattle.log.specs.Log.{ownIn, callsIn, listedIn}
 use Rattle.opinion.specs.Agreeing.{Asked, Same, Agree, EngineAgrees}
 use Rattle.opinion.proofs.Settled.{entries-length}
 
 -- the log holds this list
-pub record Holds (own : List ℕ) (entries : List Entry) (log : List ℕ) : Type 0 where
+pub record HoldsList (own : List ℕ) (entries : List Entry) (log : List ℕ) : Type 0 where
   pub address : ownIn log ≡ own
   pub lists : callsIn log ≡ entries
 
-module _ (own : List ℕ) (entries : List Entry) (log : List ℕ) (h : Holds own entries log) where
+module _ (own : List ℕ) (entries : List Entry) (log : List ℕ) (h : HoldsList own entries log) where
   under : listedIn log < listLimit → length entries < listLimit
   under few = subst (λ (n : ℕ). n < listLimit) (sym (entries-length log (listedIn log)) ∙ ap length (h .lists)) few
 
@@ -33,7 +33,7 @@ module _ (own : List ℕ) (entries : List Entry) (log : List ℕ) (h : Holds own
   reply-so (saves f room) reply core after asked alike = tt
   reply-so (loads f file) reply core after asked alike = tt
 
-  pub still-holds : (c : Call) (reply : Reply) (after : List ℕ) → Asked log c reply after → Holds own (listed own entries c) after
+  pub still-holds : (c : Call) (reply : Reply) (after : List ℕ) → Asked log c reply after → HoldsList own (listed own entries c) after
   unfolding listed
   still-holds (packet a output) reply after (answer, out, is, o) =
       record {
@@ -49,9 +49,9 @@ module _ (own : List ℕ) (entries : List Entry) (log : List ℕ) (h : Holds own
   still-holds (saves f room) reply after same = record { address = ap ownIn same ∙ h .address; lists = ap callsIn same ∙ h .lists }
   still-holds (loads f file) reply after same = record { address = ap ownIn same ∙ h .address; lists = ap callsIn same ∙ h .lists }
 
-agree : (cs : List Call) (own : List ℕ) (entries : List Entry) (log : List ℕ) (r : Relay) (t : Tally) → Holds own entries log → Alike own entries cs r t
+agree : (cs : List Call) (own : List ℕ) (entries : List Entry) (log : List ℕ) (r : Relay) (t : Tally) → HoldsList own entries log → AllReplyAlike own entries cs r t
     → Agree cs log r t
-unfolding Alike
+unfolding AllReplyAlike
 agree [] own entries log r t h alike = tt
 agree (c ∷ cs) own entries log r t h alike = λ reply after asked. (
   λ few. reply-so own entries log h c reply (perform c r t .reply) after asked (alike .0 (under own entries log h few)),

@@ -17,7 +17,7 @@ use Rattle.octets.proofs.Choice.{or-no-left, or-no-right}
 use Rattle.octets.proofs.Index.{and-left, and-right}
 use Rattle.octets.proofs.Listed.{NoneHolds, allGive, refuses, rows-passed}
 use Rattle.octets.proofs.Part.{patch-length}
-use Rattle.numbers.specs.Numbers.{isSize, longestPacket}
+use Rattle.numbers.specs.Numbers.{isSize, longestPacket, portCount}
 use Rattle.packet.proofs.ReadLaws.{reads-readable}
 use Rattle.rules.specs.Relay.{makeRateSettings, fresh}
 use Rattle.rules.specs.Arrival.{Arrival}
@@ -32,13 +32,13 @@ use Rattle.judging.specs.declared.Arrived.{Arrived}
 use Rattle.history.specs.Known.{Known, seenAt}
 use Rattle.history.specs.After.{called}
 use Rattle.history.specs.Opinion.{listLimit, packetRefused, callRows}
-use Rattle.opinion.specs.Log.{addressWidth, countAt, logSize, ownIn, callsIn, listedIn, knownIn}
+use Rattle.log.specs.Log.{addressWidth, countAt, logSize, ownIn, callsIn, listedIn, knownIn}
 use Rattle.opinion.specs.Calls.{Opines, Settles, IsFresh}
-use Rattle.opinion.specs.Steps.{headBytes, withEntry, Adds}
+use Rattle.opinion.specs.Steps.{headBytes, rateBody, withEntry, Adds}
 use Rattle.opinion.specs.Agreeing.{Asked}
 use Rattle.opinion.proofs.Written.{fresh-log}
 use Rattle.opinion.proofs.Put.{put-long, came-put, port-put, rate-put, added-put, removed-put, mark-put, map-put}
-use Rattle.opinion.proofs.Settled.{entries-length, Accepted, accepted-packet, packet-refused, packet-judged, full, refused, accepted, none-of-one}
+use Rattle.opinion.proofs.Settled.{entries-length, NotRefused, accepted-packet, packet-refused, packet-judged, full, refused, accepted, none-of-one}
 use Rattle.opinion.proofs.Agreement.{engine-agrees}
 
 -- ---- every packet call is met
@@ -58,7 +58,7 @@ some-reply log long a output = go (eqb refusal 0) refl
     go : (b : Bool) → eqb refusal 0 ≡ b
         → (answer : Answer) × (after : List ℕ) × (out : List ℕ) × Opines log a output answer after out × (length after ≡ logSize)
     go true none =
-        let fine : Accepted log n a (length output) = accepted-packet log n a (length output) none in
+        let fine : NotRefused log n a (length output) = accepted-packet log n a (length output) none in
         let v = seenAt (a .clock) (knownIn log n) in
         let added = came-put log n long (fine .few) (a .bytes) m (fine .readable) (fine .port) (fine .clock) in
         let fits = reads-readable longestPacket (a .bytes) (fine .readable) .fits in (
@@ -85,14 +85,14 @@ module _ (log : List ℕ) (n : ℕ) (long : length log ≡ logSize) (few : n < l
       → (after : List ℕ) × Adds log n (called c) after × (length after ≡ logSize)
   unfolding callRows isSize oneToOne bigEndian
   can-list k (sets-port port on mode size) wide (fine, _) =
-      let small = leb-false 16 port (or-no-left _ _ fine) in
+      let small = leb-false portCount port (or-no-left _ _ fine) in
       let sized = not-false _ (or-no-right _ _ (or-no-right _ _ fine)) in
-      let fits = leb-true size 500 (and-right _ _ sized) in
+      let fits = leb-true size longestPacket (and-right _ _ sized) in
       (_, port-put log n long few port on mode size small fits, put-long log n long few 2 port on mode 0 size [] (omega arith))
   can-list k (sets-rate target grace penalty) wide (fine, _) = (
     _,
     rate-put log n long few (makeRateSettings target grace penalty) (not-false _ fine),
-    put-long log n long few 3 0 false 0 0 0 (bigEndian 3 target ++ (bigEndian 1 grace ++ bigEndian 3 penalty)) (omega arith),
+    put-long log n long few 3 0 false 0 0 0 (rateBody target grace penalty) (omega arith),
   )
   can-list k (adds address) wide _ =
       (_, added-put log n long few address wide, put-long log n long few 4 0 false 0 0 0 address (omega arith))
@@ -100,7 +100,7 @@ module _ (log : List ℕ) (n : ℕ) (long : length log ≡ logSize) (few : n < l
       (_, removed-put log n long few address wide, put-long log n long few 5 0 false 0 0 0 address (omega arith))
   can-list k (renumbers images) wide (fine, _) =
       let one = not-false _ fine in
-      let sixteen = eqb-true (length images) 16 (and-left _ _ one) in
+      let sixteen = eqb-true (length images) portCount (and-left _ _ one) in
       (_, map-put log n long few images sixteen one, put-long log n long few 0 0 false 0 0 0 images (omega arith))
   can-list k (notes-path Unresponsive destination clock) wide (fine, _) =
       let small = leb-false _ clock (or-no-left _ _ fine) in

@@ -1,14 +1,6 @@
--- The laws that the walks through the log cite.
-pub mod Reading
-pub mod Entries
-pub mod Walk
-pub mod Slots
-pub mod Changes
+-- The laws that the calls cite, and that the engine agrees with the rules.
 pub mod Written
 pub mod Put
-pub mod Steps
-pub mod Views
-pub mod Judged
 pub mod Settled
 pub mod Agreement
 pub mod Inhabited

@@ -13,7 +13,7 @@ use Rattle.octets.specs.BigEndian.{bigEndian}
 use Rattle.octets.proofs.Index.{and-left, and-right}
 use Rattle.octets.proofs.Choice.{then-false}
 use Rattle.octets.proofs.BigEndian.{number-bigEndian}
-use Rattle.numbers.specs.Numbers.{longestPacket, clockLimit}
+use Rattle.numbers.specs.Numbers.{longestPacket, clockLimit, portCount, addressWidth, targetLimit, graceLimit, penaltyLimit}
 use Rattle.packet.specs.Read.{reads}
 use Rattle.packet.proofs.ReadLaws.{reads-readable}
 use Rattle.rules.specs.Refusals.{rateSettingsOk}
@@ -25,12 +25,12 @@ use Rattle.judging.specs.declared.Arrived.{Arrived}
 use Rattle.judging.specs.Seen.{arrivalOf}
 use Rattle.history.specs.After.{Entry, came, called}
 use Rattle.history.specs.Opinion.{listLimit}
-use Rattle.opinion.specs.Log.{entryWidth, logSize, packetIn, rateIn, addressIn, kindIn, entryOf}
-use Rattle.opinion.specs.Steps.{headBytes, withEntry, Adds}
-use Rattle.opinion.proofs.Entries.{kind-came, kind-rate, kind-other, entry-came, entry-port, entry-rate, entry-added, entry-removed, entry-marked, entry-renumbered}
+use Rattle.log.specs.Log.{entryWidth, logSize, packetIn, rateIn, addressIn, kindIn, entryOf, bodyAt, targetWidth, penaltyWidth}
+use Rattle.opinion.specs.Steps.{headBytes, rateBody, withEntry, Adds}
+use Rattle.log.proofs.Entries.{kind-came, kind-rate, kind-other, entry-came, entry-port, entry-rate, entry-added, entry-removed, entry-marked, entry-renumbered}
 use Rattle.opinion.proofs.Written.{entry-long, adds-entry, written, head-port, head-word, head-clock, head-length, head-body}
 
-head-wide : (kind port : ℕ) (word : Bool) (mode clock long : ℕ) → length (headBytes kind port word mode clock long) ≡ 11
+head-wide : (kind port : ℕ) (word : Bool) (mode clock long : ℕ) → length (headBytes kind port word mode clock long) ≡ bodyAt
 unfolding bigEndian
 head-wide kind port word mode clock long = refl
 
@@ -39,14 +39,14 @@ plain-kind : (kind : ℕ) (rest : List ℕ) → eqb kind 1 ≡ false → eqb kin
 plain-kind kind rest p q l =
     kind-other (kind ∷ rest) (eqb-false kind 1 p) (eqb-false kind 3 q) ∙ then-false _ _ (le-ltb 6 kind l)
 
-pub small-map : (m : List ℕ) → ((i : ℕ) → i < length m → getD m i 0 < 16) → map (λ x. x % 16) m ≡ m
+pub small-map : (m : List ℕ) → ((i : ℕ) → i < length m → getD m i 0 < portCount) → map (λ x. x % portCount) m ≡ m
 small-map [] h = refl
 small-map (x ∷ xs) h =
-    let first : x < 16 = h 0 (omega arith) in
+    let first : x < portCount = h 0 (omega arith) in
     ap₂ (λ (y : ℕ) (ys : List ℕ). y ∷ ys) (omega arith) (small-map xs (λ i l. h (suc i) (omega arith)))
 
 module _ (log : List ℕ) (n : ℕ) (size : length log ≡ logSize) (few : n < listLimit) where
-  module _ (kind port : ℕ) (word : Bool) (mode clock long : ℕ) (body : List ℕ) (short : length body ≤ 500) where
+  module _ (kind port : ℕ) (word : Bool) (mode clock long : ℕ) (body : List ℕ) (short : length body ≤ longestPacket) where
     fits-entry : length (headBytes kind port word mode clock long ++ body) ≤ entryWidth
     fits-entry =
         omega (arith, length-append (headBytes kind port word mode clock long) body, head-wide kind port word mode clock long)
@@ -61,19 +61,19 @@ module _ (log : List ℕ) (n : ℕ) (size : length log ≡ logSize) (few : n < l
         adds-entry log n (headBytes kind port word mode clock long ++ body) size few fits-entry x
         (λ rest. ap entryOf (append-assoc (headBytes kind port word mode clock long) body rest) ∙ read rest)
 
-  pub came-put : (packet : List ℕ) (m : Arrived) → reads longestPacket packet ≡ true → m .port < 16 → m .clock < clockLimit
+  pub came-put : (packet : List ℕ) (m : Arrived) → reads longestPacket packet ≡ true → m .port < portCount → m .clock < clockLimit
       → Adds log n (came (arrivalOf packet m)) (withEntry log n (headBytes 1 (m .port) (m .signed) 0 (m .clock) (length packet) ++ packet))
   came-put packet m readable port clock =
       put 1 (m .port) (m .signed) 0 (m .clock) (length packet) packet fits (came (arrivalOf packet m)) read
     where
-      fits : length packet ≤ 500
+      fits : length packet ≤ longestPacket
       fits = reads-readable longestPacket packet readable .fits
 
       read : (rest : List ℕ) → entryOf (written 1 (m .port) (m .signed) 0 (m .clock) (length packet) (packet ++ rest)) ≡ came (arrivalOf packet m)
       read rest =
           let e : List ℕ = written 1 (m .port) (m .signed) 0 (m .clock) (length packet) (packet ++ rest) in
           let there : packetIn e ≡ packet =
-          ap (part e 11) (head-length 1 (m .port) (m .signed) 0 (m .clock) (length packet) (packet ++ rest) fits)
+          ap (part e bodyAt) (head-length 1 (m .port) (m .signed) 0 (m .clock) (length packet) (packet ++ rest) fits)
           ∙ head-body 1 (m .port) (m .signed) 0 (m .clock) (length packet) (packet ++ rest) (length packet)
           ∙ take-at packet rest (length packet) refl in
           entry-came e (kind-came e refl (ap (reads longestPacket) there ∙ readable))
@@ -84,7 +84,7 @@ module _ (log : List ℕ) (n : ℕ) (size : length log ≡ logSize) (few : n < l
             signed = head-word 1 (m .port) (m .signed) 0 (m .clock) (length packet) (packet ++ rest) i;
           })
 
-  pub port-put : (port : ℕ) (on : Bool) (mode bytes : ℕ) → port < 16 → bytes ≤ 500
+  pub port-put : (port : ℕ) (on : Bool) (mode bytes : ℕ) → port < portCount → bytes ≤ longestPacket
       → Adds log n (called (sets-port port on mode bytes)) (withEntry log n (headBytes 2 port on mode 0 bytes ++ []))
   port-put port on mode bytes small fits =
       put 2 port on mode 0 bytes [] (omega arith) (called (sets-port port on mode bytes)) read
@@ -96,9 +96,9 @@ module _ (log : List ℕ) (n : ℕ) (size : length log ≡ logSize) (few : n < l
           (head-length 2 port on mode 0 bytes rest fits i)))
 
   -- an address alone
-  module _ (address : List ℕ) (wide : length address ≡ 16) where
+  module _ (address : List ℕ) (wide : length address ≡ addressWidth) where
     there : (kind clock : ℕ) (rest : List ℕ) → addressIn (written kind 0 false 0 clock 0 (address ++ rest)) ≡ address
-    there kind clock rest = head-body kind 0 false 0 clock 0 (address ++ rest) 16 ∙ take-at address rest 16 wide
+    there kind clock rest = head-body kind 0 false 0 clock 0 (address ++ rest) addressWidth ∙ take-at address rest addressWidth wide
 
     pub added-put : Adds log n (called (adds address)) (withEntry log n (headBytes 4 0 false 0 0 0 ++ address))
     added-put =
@@ -116,38 +116,40 @@ module _ (log : List ℕ) (n : ℕ) (size : length log ≡ logSize) (few : n < l
         (λ rest. entry-marked _ (plain-kind 6 _ refl refl (omega arith))
         ∙ ap₂ (λ (x : List ℕ) (t : ℕ). called (marks x t)) (there 6 clock rest) (head-clock 6 0 false 0 clock 0 (address ++ rest) small))
 
-    pub map-put : oneToOne address ≡ true → Adds log n (called (renumbers address)) (withEntry log n (headBytes 0 0 false 0 0 0 ++ address))
-    map-put one =
-        put 0 0 false 0 0 0 address (omega arith) (called (renumbers address))
-        (λ rest. entry-renumbered _ (plain-kind 0 _ refl refl (omega arith))
-        ∙ ap (λ (x : List ℕ). called (renumbers x))
-        (ap (map (λ x. x % 16)) (there 0 0 rest) ∙ small-map address (λ i l. image-below address one i (subst (λ (k : ℕ). i < k) wide l))))
+  -- a map: the sixteen images stand where an address does
+  pub map-put : (images : List ℕ) → length images ≡ portCount → oneToOne images ≡ true
+      → Adds log n (called (renumbers images)) (withEntry log n (headBytes 0 0 false 0 0 0 ++ images))
+  map-put images wide one =
+      put 0 0 false 0 0 0 images (omega arith) (called (renumbers images))
+      (λ rest. entry-renumbered _ (plain-kind 0 _ refl refl (omega arith))
+      ∙ ap (λ (x : List ℕ). called (renumbers x))
+      (ap (map (λ x. x % portCount)) (there images wide 0 0 rest)
+      ∙ small-map images (λ i l. image-below images one i (subst (λ (k : ℕ). i < k) wide l))))
 
   pub rate-put : (s : RateSettings) → rateSettingsOk s ≡ true → Adds log n (called (sets-rate (s .target) (s .grace) (s .penalty)))
-      (withEntry log n (headBytes 3 0 false 0 0 0 ++ (bigEndian 3 (s .target) ++ (bigEndian 1 (s .grace) ++ bigEndian 3 (s .penalty)))))
+      (withEntry log n (headBytes 3 0 false 0 0 0 ++ rateBody (s .target) (s .grace) (s .penalty)))
   unfolding rateSettingsOk bigEndian part
   rate-put s ok =
-      put 3 0 false 0 0 0 (bigEndian 3 (s .target) ++ (bigEndian 1 (s .grace) ++ bigEndian 3 (s .penalty))) (omega arith)
-      (called (sets-rate (s .target) (s .grace) (s .penalty))) read
+      put 3 0 false 0 0 0 body (omega arith) (called (sets-rate (s .target) (s .grace) (s .penalty))) read
     where
-      target : s .target ≤ 86400
+      target : s .target ≤ targetLimit
       target = leb-true _ _ (and-left _ _ ok)
 
-      grace : s .grace ≤ 254
+      grace : s .grace ≤ graceLimit
       grace = leb-true _ _ (and-left _ _ (and-right _ _ ok))
 
-      penalty : s .penalty ≤ 604800
+      penalty : s .penalty ≤ penaltyLimit
       penalty = leb-true _ _ (and-right _ _ (and-right _ _ ok))
 
       body : List ℕ
-      body = bigEndian 3 (s .target) ++ (bigEndian 1 (s .grace) ++ bigEndian 3 (s .penalty))
+      body = rateBody (s .target) (s .grace) (s .penalty)
 
       whole : (rest : List ℕ) → rateIn (written 3 0 false 0 0 0 (body ++ rest)) ≡ s
       whole rest = λ i.
           record {
-            target = number-bigEndian 3 (s .target) (omega (arith, target)) i;
+            target = number-bigEndian targetWidth (s .target) (omega (arith, target)) i;
             grace = small i;
-            penalty = number-bigEndian 3 (s .penalty) (omega (arith, penalty)) i;
+            penalty = number-bigEndian penaltyWidth (s .penalty) (omega (arith, penalty)) i;
           }
         where
           small : s .grace % 256 ≡ s .grace

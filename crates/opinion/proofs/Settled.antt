@@ -26,10 +26,10 @@ use Rattle.rules.specs.declared.Verdict.{Verdict}
 use Rattle.history.specs.Known.{Known, seenAt}
 use Rattle.history.specs.After.{Entry, came, called, knownOf}
 use Rattle.history.specs.Opinion.{listLimit, clockBad, packetRows, packetRefused, callRows, callRefused, judgedBy, onPacket, onCall, listed}
-use Rattle.opinion.specs.Log.{ownIn, entriesOf, listedIn, callsIn, knownIn}
+use Rattle.log.specs.Log.{ownIn, entriesOf, listedIn, callsIn, knownIn}
 use Rattle.opinion.specs.Calls.{Opines, Settles}
 use Rattle.opinion.specs.Steps.{Adds}
-use Rattle.opinion.proofs.Views.{port-beyond}
+use Rattle.log.proofs.Views.{port-beyond}
 
 pub entries-length : (log : List ℕ) (n : ℕ) → length (entriesOf log n) ≡ n
 unfolding entriesOf
@@ -80,7 +80,7 @@ module _ (log : List ℕ) (c : TableCall) where
       }
 
 -- ---- a packet
-pub record Accepted (log : List ℕ) (n : ℕ) (a : Arrival) (room : ℕ) : Type 0 where
+pub record NotRefused (log : List ℕ) (n : ℕ) (a : Arrival) (room : ℕ) : Type 0 where
   pub few : n < listLimit
   pub wide : leastOutput ≤ room
   pub port : a .port < portCount
@@ -107,7 +107,7 @@ module _ (log : List ℕ) (n : ℕ) (a : Arrival) (room : ℕ) (none : eqb (pack
   unfolding rows read packetRefused packetRows allGive refuses _and_
   passed = rows-passed rows read refl none
 
-  pub accepted-packet : Accepted log n a room
+  pub accepted-packet : NotRefused log n a room
   unfolding rows read packetRefused packetRows knownIn reads
   accepted-packet =
       let (under, (wide, (on, (inTime, _)))) = passed in

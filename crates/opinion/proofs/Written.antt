@@ -17,10 +17,10 @@ use Rattle.octets.proofs.Choice.{then-true, then-false}
 use Rattle.octets.proofs.Part.{part-at, part-length, part-mid, patch-length, patch-part}
 use Rattle.octets.proofs.BigEndian.{number-bigEndian}
 use Rattle.codes.proofs.Places.{part-ahead, part-skip}
-use Rattle.numbers.specs.Numbers.{clockLimit}
+use Rattle.numbers.specs.Numbers.{clockLimit, portCount, longestPacket}
 use Rattle.history.specs.After.{Entry}
 use Rattle.history.specs.Opinion.{listLimit}
-use Rattle.opinion.specs.Log.{addressWidth, countAt, entriesAt, entryWidth, logSize, portIn, wordIn, clockIn, lengthIn, ownIn, entryOf, entryBytes, entriesOf, listedIn}
+use Rattle.log.specs.Log.{addressWidth, countAt, entriesAt, entryWidth, logSize, portIn, wordIn, clockIn, lengthIn, ownIn, entryOf, entryBytes, entriesOf, listedIn, bodyAt, clockWidth, lengthWidth}
 use Rattle.opinion.specs.Calls.{IsFresh}
 use Rattle.opinion.specs.Steps.{headBytes, withEntry, Adds}
 
@@ -128,7 +128,7 @@ module _ (kind port : ℕ) (word : Bool) (mode clock long : ℕ) (tail : List �
   abbrev pub written : List ℕ
   written = headBytes kind port word mode clock long ++ tail
 
-  pub head-port : port < 16 → portIn written ≡ port
+  pub head-port : port < portCount → portIn written ≡ port
   head-port h = omega arith
 
   pub head-word : wordIn written ≡ word
@@ -141,13 +141,13 @@ module _ (kind port : ℕ) (word : Bool) (mode clock long : ℕ) (tail : List �
 
   pub head-clock : clock < clockLimit → clockIn written ≡ clock
   unfolding part bigEndian
-  head-clock h = number-bigEndian 5 clock h
+  head-clock h = number-bigEndian clockWidth clock h
 
-  pub head-length : long ≤ 500 → lengthIn written ≡ long
+  pub head-length : long ≤ longestPacket → lengthIn written ≡ long
   unfolding part bigEndian
-  head-length h = number-bigEndian 2 long (omega arith)
+  head-length h = number-bigEndian lengthWidth long (omega arith)
 
-  pub head-body : (n : ℕ) → part written 11 n ≡ take n tail
+  pub head-body : (n : ℕ) → part written bodyAt n ≡ take n tail
   unfolding part bigEndian
   head-body n = refl
 

@@ -10,7 +10,7 @@ use Rattle.rules.specs.declared.Answer.{Answer}
 use Rattle.rules.specs.declared.Tally.{Tally}
 use Rattle.history.specs.Opinion.{listLimit}
 use Rattle.history.specs.SecondOpinion.{coarse}
-use Rattle.opinion.specs.Log.{listedIn}
+use Rattle.log.specs.Log.{listedIn}
 use Rattle.opinion.specs.Calls.{Opines, Settles, IsFresh}
 
 -- the engine was called so on a log, replied this and left that log: what the contract of the call says. Questions, saves and loads are not asked of it

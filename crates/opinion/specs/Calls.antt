@@ -11,7 +11,7 @@ use Rattle.rules.specs.Calls.{TableCall}
 use Rattle.rules.specs.Run.{packet, on-tables, answered, numbered}
 use Rattle.rules.specs.declared.Answer.{Answer}
 use Rattle.history.specs.Opinion.{packetRefused, callRefused, onPacket, onCall, listed}
-use Rattle.opinion.specs.Log.{ownIn, callsIn}
+use Rattle.log.specs.Log.{ownIn, callsIn}
 
 -- a packet call: its answer and its output, and the log after it. A refusal changes no byte of the log
 pub record Opines (log : List ℕ) (a : Arrival) (output : List ℕ) (answer : Answer) (after : List ℕ) (outputAfter : List ℕ) : Type 0 where

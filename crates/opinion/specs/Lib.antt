@@ -1,5 +1,4 @@
--- The second opinion's log, in bytes, what is known from it, and its calls.
-pub mod Log
+-- The second opinion's calls on a log.
 pub mod Calls
 pub mod Steps
 pub mod Agreeing

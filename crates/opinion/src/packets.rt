@@ -1,19 +1,18 @@
 // The calls that are judged by what the packets listed did.
-use super::log::LIST_LIMIT;
-use super::log::LOG_SIZE;
-use super::log::listed;
-use super::outcomes::outcomes;
-use super::paths::path_of;
-use super::records::live_path;
-use super::refusing::LIST_FULL;
 use super::refusing::clock_bad;
 use super::refusing::packet_refusal;
-use super::seeing::seen;
 use super::writing::put_came;
 use super::writing::put_mark;
 use judging::Arrived;
 use judging::answer_of;
 use judging::plan_of;
+use log::listed;
+use log::live_path;
+use log::path_of;
+use log::places::LIST_LIMIT;
+use log::places::LOG_SIZE;
+use log::seen;
+use log::write_outcomes;
 use numbers::refusals;
 use rules::Answer;
 use rules::Verdict;
@@ -29,12 +28,10 @@ ghost use Rattle.rules.specs.Calls.{marks};
 ghost use Rattle.judging.specs.Seen.{arrivalOf};
 ghost use Rattle.history.specs.Known.{seenAt};
 ghost use Rattle.history.specs.Opinion.{listLimit};
-ghost use Rattle.opinion.specs.Log.{logSize, knownIn};
+ghost use Rattle.log.specs.Log.{logSize, knownIn};
 ghost use Rattle.opinion.specs.Calls.{Opines, Settles};
-ghost use Rattle.opinion.specs.Steps.{viewBy, arrivalBy};
-
-// Marking with no live path.
-const NO_LIVE_PATH: u8 = 12;
+ghost use Rattle.log.specs.Steps.{viewBy};
+ghost use Rattle.opinion.specs.Steps.{arrivalBy};
 
 // The verdict on an accepted packet when n calls are listed, with the packet that leaves at the output's start.
 fn judged(log: &[u8], n: usize, packet: &[u8], arrived: Arrived, output: &mut [u8]) -> Verdict
@@ -49,7 +46,7 @@ fn judged(log: &[u8], n: usize, packet: &[u8], arrived: Arrived, output: &mut [u
 {
     let mut effects = [0u8; LIST_LIMIT];
     let mut kept = [0u8; LIST_LIMIT];
-    outcomes(log, n, &mut effects, &mut kept);
+    write_outcomes(log, n, &mut effects, &mut kept);
     let hash = packet::hash_of(packet);
     let view = seen(log, &effects, &kept, n, packet, arrived, hash);
     let planned = plan_of(view, packet, arrived);
@@ -63,7 +60,7 @@ fn has_path(log: &[u8], n: usize, destination: [u8; 16], clock: u64) -> bool
 {
     let mut effects = [0u8; LIST_LIMIT];
     let mut kept = [0u8; LIST_LIMIT];
-    outcomes(log, n, &mut effects, &mut kept);
+    write_outcomes(log, n, &mut effects, &mut kept);
     let path = live_path(path_of(log, &effects, n, destination), clock);
     path.there
 }
@@ -102,13 +99,13 @@ pub fn mark_path_unresponsive(log: &mut [u8; LOG_SIZE], destination: [u8; 16], c
 {
     let n = listed(log);
     if n >= LIST_LIMIT {
-        return LIST_FULL;
+        return refusals::LIST_FULL;
     }
     if clock_bad(log, n, clock) {
         return refusals::CLOCK;
     }
     if !has_path(log, n, destination, clock) {
-        return NO_LIVE_PATH;
+        return refusals::NO_LIVE_PATH;
     }
     put_mark(log, n, destination, clock);
     refusals::NONE

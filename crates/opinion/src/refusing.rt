@@ -1,7 +1,7 @@
 // The rows of the refusal table that more than one call has.
-use super::clocks::last_clock;
-use super::log::LIST_LIMIT;
-use super::ports::port_at;
+use log::last_clock;
+use log::places::LIST_LIMIT;
+use log::port_at;
 use numbers::CLOCK_LIMIT;
 use numbers::LEAST_OUTPUT;
 use numbers::refusals;
@@ -9,11 +9,8 @@ ghost use mathlib.Core.Path.{_≡_};
 ghost use Prim.Native.Nat.{_≤_};
 ghost use lib.ListN.{length};
 ghost use Rattle.history.specs.Opinion.{listLimit, clockBad};
-ghost use Rattle.opinion.specs.Log.{logSize, knownIn};
+ghost use Rattle.log.specs.Log.{logSize, knownIn};
 ghost use Rattle.opinion.specs.Steps.{RefusesAs};
-
-// A call when 64 are listed.
-pub const LIST_FULL: u8 = 28;
 
 // Whether a clock is 2^40 or more, or below the last accepted clock.
 pub fn clock_bad(log: &[u8], n: usize, clock: u64) -> bool
@@ -32,7 +29,7 @@ pub fn packet_refusal(log: &[u8], n: usize, packet: &[u8], port: u64, clock: u64
     ensures { λ r. ⌜ RefusesAs (now (log .entry)) n (now (packet .entry)) port clock room r ⌝ }
 {
     if n >= LIST_LIMIT {
-        return LIST_FULL;
+        return refusals::LIST_FULL;
     }
     if room < LEAST_OUTPUT {
         return refusals::OUTPUT;

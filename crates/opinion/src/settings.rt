@@ -1,17 +1,16 @@
 // The calls that need no packet. Each returns a refusal's number, or 0; a refusal changes no byte of the log.
-use super::locals::is_local;
-use super::locals::local_number;
-use super::log::LIST_LIMIT;
-use super::log::LOG_SIZE;
-use super::log::listed;
-use super::log::rate_within;
-use super::refusing::LIST_FULL;
 use super::writing::put_added;
 use super::writing::put_fresh;
 use super::writing::put_map;
 use super::writing::put_port;
 use super::writing::put_rate;
 use super::writing::put_removed;
+use log::is_local;
+use log::listed;
+use log::local_number;
+use log::places::LIST_LIMIT;
+use log::places::LOG_SIZE;
+use log::rate_within;
 use maps::one_to_one;
 use numbers::LOCAL_COUNT;
 use numbers::MODE_COUNT;
@@ -52,7 +51,7 @@ pub fn set_port(log: &mut [u8; LOG_SIZE], port: u64, on: bool, mode: u64, size: 
 {
     let n = listed(log);
     if n >= LIST_LIMIT {
-        return LIST_FULL;
+        return refusals::LIST_FULL;
     }
     if setting_bad(port, mode, size) {
         return refusals::SETTING;
@@ -67,7 +66,7 @@ pub fn set_rate(log: &mut [u8; LOG_SIZE], target: u64, grace: u64, penalty: u64)
 {
     let n = listed(log);
     if n >= LIST_LIMIT {
-        return LIST_FULL;
+        return refusals::LIST_FULL;
     }
     let rate = RateSettings {
         target,
@@ -87,7 +86,7 @@ pub fn add_local(log: &mut [u8; LOG_SIZE], address: [u8; 16]) -> u8
 {
     let n = listed(log);
     if n >= LIST_LIMIT {
-        return LIST_FULL;
+        return refusals::LIST_FULL;
     }
     if is_local(log, n, address) {
         return refusals::LOCAL_ADDRESS;
@@ -105,7 +104,7 @@ pub fn remove_local(log: &mut [u8; LOG_SIZE], address: [u8; 16]) -> u8
 {
     let n = listed(log);
     if n >= LIST_LIMIT {
-        return LIST_FULL;
+        return refusals::LIST_FULL;
     }
     if !is_local(log, n, address) {
         return refusals::LOCAL_ADDRESS;
@@ -120,7 +119,7 @@ pub fn renumber(log: &mut [u8; LOG_SIZE], map: [u8; 16]) -> u8
 {
     let n = listed(log);
     if n >= LIST_LIMIT {
-        return LIST_FULL;
+        return refusals::LIST_FULL;
     }
     if !one_to_one(&map) {
         return refusals::MAP;

@@ -1,22 +1,28 @@
 // Writing the log: one more entry, and a fresh log.
-use super::log::ADDRESS_WIDTH;
-use super::log::ADDS;
-use super::log::BODY_AT;
-use super::log::CAME;
-use super::log::CLOCK_AT;
-use super::log::CLOCK_WIDTH;
-use super::log::COUNT_AT;
-use super::log::ENTRIES_AT;
-use super::log::ENTRY_WIDTH;
-use super::log::LENGTH_AT;
-use super::log::LENGTH_WIDTH;
-use super::log::MARKS;
-use super::log::REMOVES;
-use super::log::RENUMBERS;
-use super::log::SETS_PORT;
-use super::log::SETS_RATE;
 use codes::mark_of;
 use judging::Arrived;
+use log::places::ADDS;
+use log::places::BODY_AT;
+use log::places::CAME;
+use log::places::CLOCK_AT;
+use log::places::CLOCK_WIDTH;
+use log::places::COUNT_AT;
+use log::places::ENTRIES_AT;
+use log::places::ENTRY_WIDTH;
+use log::places::GRACE_AT;
+use log::places::GRACE_WIDTH;
+use log::places::LENGTH_AT;
+use log::places::LENGTH_WIDTH;
+use log::places::MARKS;
+use log::places::PENALTY_AT;
+use log::places::PENALTY_WIDTH;
+use log::places::RATE_WIDTH;
+use log::places::REMOVES;
+use log::places::RENUMBERS;
+use log::places::SETS_PORT;
+use log::places::SETS_RATE;
+use log::places::TARGET_WIDTH;
+use numbers::ADDRESS_WIDTH;
 use rules::RateSettings;
 ghost use mathlib.Core.Path.{_≡_};
 ghost use mathlib.Core.Bool.{true};
@@ -31,7 +37,7 @@ ghost use Rattle.rules.specs.Calls.{sets-port, sets-rate, adds, removes, renumb
 ghost use Rattle.judging.specs.Seen.{arrivalOf};
 ghost use Rattle.history.specs.After.{came, called};
 ghost use Rattle.history.specs.Opinion.{listLimit};
-ghost use Rattle.opinion.specs.Log.{logSize};
+ghost use Rattle.log.specs.Log.{logSize};
 ghost use Rattle.opinion.specs.Calls.{IsFresh};
 ghost use Rattle.opinion.specs.Steps.{headBytes, withEntry, Adds};
 
@@ -89,10 +95,10 @@ pub fn put_rate(log: &mut [u8], n: usize, rate: RateSettings)
     ensures { λ _. ⌜ Adds (now (log .entry)) n (called (sets-rate (rate .target) (rate .grace) (rate .penalty)))
         (now (log .exit)) ⌝ }
 {
-    let mut body = [0u8; 7];
-    octets::write_number_at(&mut body, 0, 3, rate.target);
-    octets::write_number_at(&mut body, 3, 1, rate.grace);
-    octets::write_number_at(&mut body, 4, 3, rate.penalty);
+    let mut body = [0u8; RATE_WIDTH];
+    octets::write_number_at(&mut body, 0, TARGET_WIDTH, rate.target);
+    octets::write_number_at(&mut body, GRACE_AT, GRACE_WIDTH, rate.grace);
+    octets::write_number_at(&mut body, PENALTY_AT, PENALTY_WIDTH, rate.penalty);
     let head = head_of(SETS_RATE, 0, false, 0, 0, 0);
     put_entry(log, n, head, &body);
 }

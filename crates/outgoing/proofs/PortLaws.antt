@@ -10,6 +10,7 @@ use lib.Pow.{pow-mono, shl-exact}
 use Rattle.octets.specs.Choice.{_then_otherwise_}
 use Rattle.rules.specs.Answers.{setBelow, portSet}
 use Rattle.rules.proofs.PortSets.{set-below}
+use Rattle.numbers.specs.Numbers.{portCount}
 
 -- ---- the loop
 module _ (test : ℕ → Bool) where
@@ -29,12 +30,12 @@ module _ (test : ℕ → Bool) where
     set-more = rw (add-one, inv)
 
     -- after the sixteenth it is the whole set
-    pub set-end : i ≤ 16 → 16 ≤ i → ports ≡ portSet test
+    pub set-end : i ≤ portCount → portCount ≤ i → ports ≡ portSet test
     unfolding portSet
     set-end l m = inv ∙ ap (setBelow test) (le-antisymm l m)
 
--- ---- one port
-module _ (port : ℕ) (l : port < 16) where
+-- ---- one port, in the sixteen bits of a set
+module _ (port : ℕ) (l : port < portCount) where
   pub one-shifted : (1 * 2 ^ port) % 2 ^ 16 ≡ 2 ^ port
   one-shifted = shl-exact {a = 1} 1 port 16 (lit< tt) (omega arith) ∙ one-mul (2 ^ port)
 

@@ -1,5 +1,8 @@
 // The packets that leave, written at the start of the output.
 use packet::Parts;
+use packet::places::HOPS_AT;
+use packet::places::TYPE_ONE_START;
+use packet::places::TYPE_TWO_START;
 ghost use mathlib.Core.Path.{_≡_};
 ghost use Prim.Native.Nat.{_+_, _≤_};
 ghost use lib.ListN.{length};
@@ -48,7 +51,7 @@ fn rewrite(packet: &[u8], header: u8, relay: [u8; 16], output: &mut [u8]) -> usi
 pub fn spread_length(packet: &[u8]) -> usize
     ensures { λ r. ⌜ r ≡ spreadLength (now (packet .entry)) ⌝ }
 {
-    35 + packet::payload(packet).len()
+    TYPE_TWO_START + packet::payload(packet).len()
 }
 
 // Spreads an announce: the head, which is a packet without payload, and behind it, from byte 35 on, the payload.
@@ -60,8 +63,8 @@ pub fn spread(packet: &[u8], own: [u8; 16], output: &mut [u8]) -> usize
     let head = rewritten_parts(packet, spread_header(packet[0]), own);
     packet::write_packet(head, &packet[0..0], output);
     let body = packet::payload(packet);
-    let end = 35 + body.len();
-    octets::copy(&mut output[35..end], body);
+    let end = TYPE_TWO_START + body.len();
+    octets::copy(&mut output[TYPE_TWO_START..end], body);
     end
 }
 
@@ -70,7 +73,7 @@ pub fn path_length(packet: &[u8], stored_hops: u8) -> usize
     ensures { λ r. ⌜ r ≡ pathLength «stored_hops» (now (packet .entry)) ⌝ }
 {
     if stored_hops == 0 {
-        return 19 + packet::payload(packet).len();
+        return TYPE_ONE_START + packet::payload(packet).len();
     }
     packet.len()
 }
@@ -102,6 +105,6 @@ pub fn carry(packet: &[u8], output: &mut [u8]) -> usize
         × (now (output .exit) ≡ patch (now (output .entry)) 0 (carriedPacket (now (packet .entry)))) ⌝ }
 {
     octets::copy_at(output, 0, packet);
-    octets::set_at(output, 1, packet[1] + 1);
+    octets::set_at(output, HOPS_AT, packet[HOPS_AT] + 1);
     packet.len()
 }

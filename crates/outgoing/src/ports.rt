@@ -5,10 +5,11 @@ ghost use lib.Dec.{eqb, ltb};
 ghost use Prim.Native.Nat.{_+_, _^_, _<_};
 ghost use Rattle.octets.specs.Index.{_and_};
 ghost use Rattle.octets.specs.Choice.{_then_otherwise_};
+ghost use Rattle.numbers.specs.Numbers.{portCount};
 
 // Adds a port to a set of lower ones, if it belongs there.
 pub fn with_port(ports: u16, port: u8, belongs: bool) -> u16
-    requires { ⌜ (port < 16) × (ports < 2 ^ port) ⌝ }
+    requires { ⌜ (port < portCount) × (ports < 2 ^ port) ⌝ }
     ensures { λ r. ⌜ r ≡ ports + (belongs then 2 ^ port otherwise 0) ⌝ }
 {
     if belongs {
@@ -27,7 +28,7 @@ pub fn with_spread_port(
     arrival: u8,
     length: usize,
 ) -> u16
-    requires { ⌜ (port < 16) × (ports < 2 ^ port) ⌝ }
+    requires { ⌜ (port < portCount) × (ports < 2 ^ port) ⌝ }
     ensures { λ r. ⌜ r ≡ ports + (on and not (eqb port arrival) and not (ltb size length) then 2 ^ port otherwise 0) ⌝ }
 {
     if on {

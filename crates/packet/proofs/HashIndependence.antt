@@ -20,6 +20,7 @@ use Rattle.packet.specs.declared.Parts.{Parts}
 use Rattle.packet.proofs.ReadLaws.{start-two, start-least, reads-readable}
 use Rattle.packet.proofs.HashLaws.{packet-hashed, link-hashed}
 use Rattle.packet.specs.Write.{Wide}
+use Rattle.packet.specs.Places.{addressWidth, hopsAt, addressAt, secondAddressAt, typeTwoStart, endWidth, linkPayloadWidth}
 use Rattle.packet.proofs.RoundTrip.{write-parts, write-payload}
 
 -- what is hashed of the parts is alike: header modulo 16, destination and context, whatever hops and relay address are
@@ -41,8 +42,9 @@ module _ (p s : List ℕ) (parts : HashedAlike (partsOf p) (partsOf s)) (body : 
   pub alike-link-id : linkId p ≡ linkId s
   unfolding linkId
   alike-link-id =
-      ap (λ (m : List ℕ). take 16 (sha256-of m))
-      (hashed-alike (partsOf p) (partsOf s) (take 64 (payload p)) parts ∙ ap (λ (b : List ℕ). hashedPart (partsOf s) (take 64 b)) body)
+      ap (λ (m : List ℕ). take addressWidth (sha256-of m))
+      (hashed-alike (partsOf p) (partsOf s) (take linkPayloadWidth (payload p)) parts
+      ∙ ap (λ (b : List ℕ). hashedPart (partsOf s) (take linkPayloadWidth b)) body)
 
 -- ---- over parts that are written
 back-hashed : (q : Parts) → HashedAlike (readBack q) q
@@ -73,16 +75,16 @@ module _ (q r : Parts) (body : List ℕ) (wq : Wide q) (wr : Wide r) (e : Hashed
 
 -- ---- over the bytes of a packet that reads: two with one header and the same bytes from the destination on
 module _ (p s : List ℕ) (wp : payloadStart (headerOf p) ≤ length p) (long : length p ≡ length s) (header : headerOf p ≡ headerOf s)
-    (behind : drop (payloadStart (headerOf p) - 17) p ≡ drop (payloadStart (headerOf p) - 17) s) where
+    (behind : drop (payloadStart (headerOf p) - endWidth) p ≡ drop (payloadStart (headerOf p) - endWidth) s) where
   ws : payloadStart (headerOf s) ≤ length s
   ws = subst (λ (h : ℕ). payloadStart h ≤ length s) header (omega arith)
 
   message : List ℕ → List ℕ
-  message t = headerOf t % 16 ∷ drop (payloadStart (headerOf t) - 17) t
+  message t = headerOf t % 16 ∷ drop (payloadStart (headerOf t) - endWidth) t
 
   one-message : message p ≡ message s
   unfolding message
-  one-message = ap (λ (r : List ℕ). headerOf p % 16 ∷ r) behind ∙ ap (λ (h : ℕ). h % 16 ∷ drop (payloadStart h - 17) s) header
+  one-message = ap (λ (r : List ℕ). headerOf p % 16 ∷ r) behind ∙ ap (λ (h : ℕ). h % 16 ∷ drop (payloadStart h - endWidth) s) header
 
   bytes-packet-hash : packetHash p ≡ packetHash s
   unfolding message
@@ -92,8 +94,8 @@ module _ (p s : List ℕ) (wp : payloadStart (headerOf p) ≤ length p) (long : 
   unfolding part
   bytes-link-id =
       link-hashed p wp
-      ∙ ap (λ (r : List ℕ). take 16 (sha256-of (headerOf p % 16 ∷ take 81 r))) behind
-      ∙ ap (λ (h : ℕ). take 16 (sha256-of (h % 16 ∷ take 81 (drop (payloadStart h - 17) s)))) header
+      ∙ ap (λ (r : List ℕ). take addressWidth (sha256-of (headerOf p % 16 ∷ take (endWidth + linkPayloadWidth) r))) behind
+      ∙ ap (λ (h : ℕ). take addressWidth (sha256-of (h % 16 ∷ take (endWidth + linkPayloadWidth) (drop (payloadStart h - endWidth) s)))) header
       ∙ sym (link-hashed s ws)
 
 module _ (size : ℕ) (p : List ℕ) (h : reads size p ≡ true) where
@@ -102,42 +104,49 @@ module _ (size : ℕ) (p : List ℕ) (h : reads size p ≡ true) where
 
   -- another hops byte
   module _ (hops : ℕ) where
-    hops-header : headerOf p ≡ headerOf (set p 1 hops)
-    hops-header = sym (getD-set-other p 1 0 hops 0 (λ (e : 0 ≡ 1). omega arith))
+    hops-header : headerOf p ≡ headerOf (set p hopsAt hops)
+    hops-header = sym (getD-set-other p hopsAt 0 hops 0 (λ (e : 0 ≡ hopsAt). omega arith))
 
-    hops-behind : drop (payloadStart (headerOf p) - 17) p ≡ drop (payloadStart (headerOf p) - 17) (set p 1 hops)
-    hops-behind = sym (drop-set-lt (payloadStart (headerOf p) - 17) p 1 hops (omega (arith, start-least (headerOf p))))
+    hops-behind : drop (payloadStart (headerOf p) - endWidth) p ≡ drop (payloadStart (headerOf p) - endWidth) (set p hopsAt hops)
+    hops-behind = sym (drop-set-lt (payloadStart (headerOf p) - endWidth) p hopsAt hops (omega (arith, start-least (headerOf p))))
 
-    pub hops-packet-hash : packetHash p ≡ packetHash (set p 1 hops)
-    hops-packet-hash = bytes-packet-hash p (set p 1 hops) whole (sym (length-set p 1 hops)) hops-header hops-behind
+    pub hops-packet-hash : packetHash p ≡ packetHash (set p hopsAt hops)
+    hops-packet-hash = bytes-packet-hash p (set p hopsAt hops) whole (sym (length-set p hopsAt hops)) hops-header hops-behind
 
-    pub hops-link-id : linkId p ≡ linkId (set p 1 hops)
-    hops-link-id = bytes-link-id p (set p 1 hops) whole (sym (length-set p 1 hops)) hops-header hops-behind
+    pub hops-link-id : linkId p ≡ linkId (set p hopsAt hops)
+    hops-link-id = bytes-link-id p (set p hopsAt hops) whole (sym (length-set p hopsAt hops)) hops-header hops-behind
 
   -- another relay address in type 2
-  module _ (relay : List ℕ) (two : typeTwo (headerOf p) ≡ true) (wide : length relay ≡ 16) where
-    long : 35 ≤ length p
+  module _ (relay : List ℕ) (two : typeTwo (headerOf p) ≡ true) (wide : length relay ≡ addressWidth) where
+    long : typeTwoStart ≤ length p
     long = omega (arith, start-two (headerOf p) two, whole)
 
-    relay-length : length p ≡ length (patch p 2 relay)
-    relay-length = sym (patch-length p 2 relay (omega (arith, long)))
+    relay-length : length p ≡ length (patch p addressAt relay)
+    relay-length = sym (patch-length p addressAt relay (omega (arith, long)))
 
-    relay-header : headerOf p ≡ headerOf (patch p 2 relay)
+    relay-header : headerOf p ≡ headerOf (patch p addressAt relay)
     unfolding patch
     relay-header =
         sym
-        (List·getD-append (take 2 p) (relay ++ drop (2 + length relay) p) 0 0 (omega (arith, length-take-le 2 p (omega (arith, long))))
-        ∙ getD-take 2 p 0 0 (lit< tt))
+        (List·getD-append (take addressAt p) (relay ++ drop (addressAt + length relay) p) 0 0 (omega (arith, length-take-le addressAt p (omega (arith, long))))
+        ∙ getD-take addressAt p 0 0 (lit< tt))
 
-    relay-behind : drop (payloadStart (headerOf p) - 17) p ≡ drop (payloadStart (headerOf p) - 17) (patch p 2 relay)
+    relay-behind : drop (payloadStart (headerOf p) - endWidth) p ≡ drop (payloadStart (headerOf p) - endWidth) (patch p addressAt relay)
     unfolding patch
     relay-behind =
-        let head : length (take 2 p ++ relay) ≡ 18 = length-append (take 2 p) relay ∙ omega (arith, wide, length-take-le 2 p (omega (arith, long))) in
-        let start : payloadStart (headerOf p) - 17 ≡ 18 = omega (arith, start-two (headerOf p) two) in
-        rw (start, ← append-assoc (take 2 p) relay (drop (2 + length relay) p), drop-at (take 2 p ++ relay) (drop (2 + length relay) p) 18 head, wide)
+        let head : length (take addressAt p ++ relay) ≡ secondAddressAt = length-append (take addressAt p) relay
+        ∙ omega (arith, wide, length-take-le addressAt p (omega (arith, long))) in
+        let start : payloadStart (headerOf p) - endWidth ≡ secondAddressAt = omega (arith, start-two (headerOf p) two) in
+        rw (
+          start,
+          ← append-assoc (take addressAt p) relay (drop (addressAt + length relay) p),
+          drop-at (take addressAt p ++ relay)
+              (drop (addressAt + length relay) p) secondAddressAt head,
+          wide,
+        )
 
-    pub relay-packet-hash : packetHash p ≡ packetHash (patch p 2 relay)
-    relay-packet-hash = bytes-packet-hash p (patch p 2 relay) whole relay-length relay-header relay-behind
+    pub relay-packet-hash : packetHash p ≡ packetHash (patch p addressAt relay)
+    relay-packet-hash = bytes-packet-hash p (patch p addressAt relay) whole relay-length relay-header relay-behind
 
-    pub relay-link-id : linkId p ≡ linkId (patch p 2 relay)
-    relay-link-id = bytes-link-id p (patch p 2 relay) whole relay-length relay-header relay-behind
+    pub relay-link-id : linkId p ≡ linkId (patch p addressAt relay)
+    relay-link-id = bytes-link-id p (patch p addressAt relay) whole relay-length relay-header relay-behind

@@ -8,44 +8,46 @@ use lib.ListN.{length, getD, take, drop, length-take, length-drop, length-append
 use lib.Seq.{take-add, take-all, take-suc, drop-drop, drop-length, take-at, drop-at, getD-at, getD-drop}
 use Rattle.octets.specs.Part.{part, patch}
 use Rattle.octets.proofs.Part.{part-mid, patch-join}
+use Rattle.packet.specs.Places.{addressWidth, endWidth}
 
 -- ---- a list from place a on: sixteen bytes, one byte, and the first k of what is left
-in-three : (l : List ℕ) (k : ℕ) → 17 ≤ length l → take 16 l ++ (getD l 16 0 ∷ take k (drop 17 l)) ≡ take (17 + k) l
+in-three : (l : List ℕ) (k : ℕ) → endWidth ≤ length l → take addressWidth l ++ (getD l addressWidth 0 ∷ take k (drop endWidth l)) ≡ take (endWidth + k) l
 in-three l k h =
-    sym (append-assoc (take 16 l) (getD l 16 0 ∷ []) (take k (drop 17 l)))
-    ∙ ap (λ (r : List ℕ). r ++ take k (drop 17 l)) (sym (take-suc l 16 0 h))
-    ∙ sym (take-add 17 k l)
+    sym (append-assoc (take addressWidth l) (getD l addressWidth 0 ∷ []) (take k (drop endWidth l)))
+    ∙ ap (λ (r : List ℕ). r ++ take k (drop endWidth l)) (sym (take-suc l addressWidth 0 h))
+    ∙ sym (take-add endWidth k l)
 
-module _ (p : List ℕ) (a : ℕ) (long : a + 17 ≤ length p) where
-  pub behind-cut : (k : ℕ) → part p a 16 ++ (getD p (a + 16) 0 ∷ take k (drop (a + 17) p)) ≡ take (17 + k) (drop a p)
+module _ (p : List ℕ) (a : ℕ) (long : a + endWidth ≤ length p) where
+  pub behind-cut : (k : ℕ) → part p a addressWidth ++ (getD p (a + addressWidth) 0 ∷ take k (drop (a + endWidth) p)) ≡ take (endWidth + k) (drop a p)
   unfolding part
   behind-cut k =
-      ap₂ (λ (x : ℕ) (r : List ℕ). take 16 (drop a p) ++ (x ∷ take k r)) (sym (getD-drop a p 16 0)) (sym (drop-drop 17 a p))
+      ap₂ (λ (x : ℕ) (r : List ℕ). take addressWidth (drop a p) ++ (x ∷ take k r)) (sym (getD-drop a p addressWidth 0)) (sym (drop-drop endWidth a p))
       ∙ in-three (drop a p) k (simp length-drop (omega arith))
 
-  pub behind : part p a 16 ++ (getD p (a + 16) 0 ∷ drop (a + 17) p) ≡ drop a p
+  pub behind : part p a addressWidth ++ (getD p (a + addressWidth) 0 ∷ drop (a + endWidth) p) ≡ drop a p
   behind =
-      ap (λ (r : List ℕ). part p a 16 ++ (getD p (a + 16) 0 ∷ r)) (sym (take-all (length p) (drop (a + 17) p) (simp length-drop (omega arith))))
+      ap (λ (r : List ℕ). part p a addressWidth ++ (getD p (a + addressWidth) 0 ∷ r))
+      (sym (take-all (length p) (drop (a + endWidth) p) (simp length-drop (omega arith))))
       ∙ behind-cut (length p)
-      ∙ take-all (17 + length p) (drop a p) (simp length-drop (omega arith))
+      ∙ take-all (endWidth + length p) (drop a p) (simp length-drop (omega arith))
 
 -- the same the other way: where such a list stands behind a bytes, its three pieces are found there
-module _ (x y : List ℕ) (v : ℕ) (z : List ℕ) (a : ℕ) (ex : length x ≡ a) (ey : length y ≡ 16) where
-  joined-length : length (x ++ y) ≡ a + 16
+module _ (x y : List ℕ) (v : ℕ) (z : List ℕ) (a : ℕ) (ex : length x ≡ a) (ey : length y ≡ addressWidth) where
+  joined-length : length (x ++ y) ≡ a + addressWidth
   joined-length = length-append x y ∙ ap₂ (λ (m n : ℕ). m + n) ex ey
 
-  pub found-part : part (x ++ (y ++ (v ∷ z))) a 16 ≡ y
-  found-part = part-mid x y (v ∷ z) a 16 ex ey
+  pub found-part : part (x ++ (y ++ (v ∷ z))) a addressWidth ≡ y
+  found-part = part-mid x y (v ∷ z) a addressWidth ex ey
 
-  pub found-byte : getD (x ++ (y ++ (v ∷ z))) (a + 16) 0 ≡ v
-  found-byte = ap (λ (l : List ℕ). getD l (a + 16) 0) (sym (append-assoc x y (v ∷ z))) ∙ getD-at (x ++ y) v z 0 (a + 16) joined-length
+  pub found-byte : getD (x ++ (y ++ (v ∷ z))) (a + addressWidth) 0 ≡ v
+  found-byte = ap (λ (l : List ℕ). getD l (a + addressWidth) 0) (sym (append-assoc x y (v ∷ z))) ∙ getD-at (x ++ y) v z 0 (a + addressWidth) joined-length
 
-  pub found-rest : drop (a + 17) (x ++ (y ++ (v ∷ z))) ≡ z
+  pub found-rest : drop (a + endWidth) (x ++ (y ++ (v ∷ z))) ≡ z
   found-rest =
-      let q : a + 17 ≡ a + 16 + 1 = omega arith in
+      let q : a + endWidth ≡ a + addressWidth + 1 = omega arith in
       ap₂ drop q (sym (append-assoc x y (v ∷ z)))
-      ∙ sym (drop-drop 1 (a + 16) (x ++ y ++ (v ∷ z)))
-      ∙ ap (drop 1) (drop-at (x ++ y) (v ∷ z) (a + 16) joined-length)
+      ∙ sym (drop-drop 1 (a + addressWidth) (x ++ y ++ (v ∷ z)))
+      ∙ ap (drop 1) (drop-at (x ++ y) (v ∷ z) (a + addressWidth) joined-length)
 
 -- ---- parts that reach past the end
 pub to-end : (s : List ℕ) (at : ℕ) → take (length s - at) (drop at s) ≡ drop at s

@@ -16,28 +16,29 @@ use Rattle.octets.proofs.Listed.{allGive, refuses, here, past, none-first, rows
 use Rattle.packet.specs.Header.{accessCode, typeTwo}
 use Rattle.packet.specs.Read.{longestPacket, headerOf, typeOneParts, typeTwoParts, partsOf, payloadStart, payload, readingRows, readingRefusal, reads, noParts, reading}
 use Rattle.packet.specs.declared.Parts.{Parts}
+use Rattle.packet.specs.Places.{hopsAt, typeOneStart, typeTwoStart}
 
 -- ---- where the payload starts
 module _ (header : ℕ) where
-  pub start-two : typeTwo header ≡ true → payloadStart header ≡ 35
+  pub start-two : typeTwo header ≡ true → payloadStart header ≡ typeTwoStart
   unfolding payloadStart
-  start-two t = then-true 35 19 t
+  start-two t = then-true typeTwoStart typeOneStart t
 
-  pub start-one : typeTwo header ≡ false → payloadStart header ≡ 19
+  pub start-one : typeTwo header ≡ false → payloadStart header ≡ typeOneStart
   unfolding payloadStart
-  start-one t = then-false 35 19 t
+  start-one t = then-false typeTwoStart typeOneStart t
 
-  pub start-least : 19 ≤ payloadStart header
+  pub start-least : typeOneStart ≤ payloadStart header
   start-least = go (typeTwo header) refl
     where
-      go : (v : Bool) → typeTwo header ≡ v → 19 ≤ payloadStart header
+      go : (v : Bool) → typeTwo header ≡ v → typeOneStart ≤ payloadStart header
       go true e = omega (arith, start-two e)
       go false e = omega (arith, start-one e)
 
-  pub start-most : payloadStart header ≤ 35
+  pub start-most : payloadStart header ≤ typeTwoStart
   start-most = go (typeTwo header) refl
     where
-      go : (v : Bool) → typeTwo header ≡ v → payloadStart header ≤ 35
+      go : (v : Bool) → typeTwo header ≡ v → payloadStart header ≤ typeTwoStart
       go true e = omega (arith, start-two e)
       go false e = omega (arith, start-one e)
 
@@ -59,9 +60,9 @@ pub record Readable (size : ℕ) (p : List ℕ) : Type 0 where
   pub whole : payloadStart (headerOf p) ≤ length p
 
 module _ (size : ℕ) (p : List ℕ) where
-  pub refused-short : isSize size ≡ true → length p < 19 → readingRefusal size p ≡ 1
+  pub refused-short : isSize size ≡ true → length p < typeOneStart → readingRefusal size p ≡ 1
   unfolding readingRefusal readingRows
-  refused-short h s = past _ _ _ _ (ap not h) ∙ here _ _ _ _ (lt-ltb (length p) 19 s)
+  refused-short h s = past _ _ _ _ (ap not h) ∙ here _ _ _ _ (lt-ltb (length p) typeOneStart s)
 
   pub readable : readingRefusal size p ≡ 0 → Readable size p
   unfolding readingRefusal readingRows allGive refuses _and_
@@ -71,12 +72,12 @@ module _ (size : ℕ) (p : List ℕ) where
         within = size-most size (not-false _ sized);
         fits = ltb-false size (length p) fits;
         free = free;
-        whole = go (typeTwo (headerOf p)) refl (ltb-false (length p) 19 long) two;
+        whole = go (typeTwo (headerOf p)) refl (ltb-false (length p) typeOneStart long) two;
       }
     where
-      go : (t : Bool) → typeTwo (headerOf p) ≡ t → 19 ≤ length p → (typeTwo (headerOf p) and ltb (length p) 35) ≡ false
+      go : (t : Bool) → typeTwo (headerOf p) ≡ t → typeOneStart ≤ length p → (typeTwo (headerOf p) and ltb (length p) typeTwoStart) ≡ false
           → payloadStart (headerOf p) ≤ length p
-      go true et long two = omega (arith, start-two (headerOf p) et, ltb-false (length p) 35 (sym (and-yes _ et) ∙ two))
+      go true et long two = omega (arith, start-two (headerOf p) et, ltb-false (length p) typeTwoStart (sym (and-yes _ et) ∙ two))
       go false et long two = omega (arith, start-one (headerOf p) et)
 
   pub accepted : Readable size p → readingRefusal size p ≡ 0
@@ -84,14 +85,14 @@ module _ (size : ℕ) (p : List ℕ) where
   accepted r =
       none-first (readingRows size p) 0 (
         ap not (size-is size (omega (arith, long, r .fits)) (r .within)),
-        (le-ltb (length p) 19 long, (le-ltb size (length p) (r .fits), (r .free, (go (typeTwo (headerOf p)) refl, tt)))),
+        (le-ltb (length p) typeOneStart long, (le-ltb size (length p) (r .fits), (r .free, (go (typeTwo (headerOf p)) refl, tt)))),
       )
     where
-      long : 19 ≤ length p
+      long : typeOneStart ≤ length p
       long = omega (arith, start-least (headerOf p), r .whole)
 
-      go : (t : Bool) → typeTwo (headerOf p) ≡ t → (typeTwo (headerOf p) and ltb (length p) 35) ≡ false
-      go true e = and-yes _ e ∙ le-ltb (length p) 35 (omega (arith, start-two (headerOf p) e, r .whole))
+      go : (t : Bool) → typeTwo (headerOf p) ≡ t → (typeTwo (headerOf p) and ltb (length p) typeTwoStart) ≡ false
+      go true e = and-yes _ e ∙ le-ltb (length p) typeTwoStart (omega (arith, start-two (headerOf p) e, r .whole))
       go false e = and-no _ e
 
   pub accepted-reads : readingRefusal size p ≡ 0 → reads size p ≡ true
@@ -138,11 +139,11 @@ module _ (p : List ℕ) where
       go false e = ap (λ (q : Parts). q .header) (parts-one e)
 
   -- and hops are byte 1
-  pub parts-hops : partsOf p .hops ≡ getD p 1 0
+  pub parts-hops : partsOf p .hops ≡ getD p hopsAt 0
   unfolding typeOneParts typeTwoParts
   parts-hops = go (typeTwo (headerOf p)) refl
     where
-      go : (t : Bool) → typeTwo (headerOf p) ≡ t → partsOf p .hops ≡ getD p 1 0
+      go : (t : Bool) → typeTwo (headerOf p) ≡ t → partsOf p .hops ≡ getD p hopsAt 0
       go true e = ap (λ (q : Parts). q .hops) (parts-two e)
       go false e = ap (λ (q : Parts). q .hops) (parts-one e)
 

@@ -21,32 +21,33 @@ use Rattle.packet.specs.declared.Reading.{Reading}
 use Rattle.packet.proofs.ListLaws.{behind, found-part, found-byte, found-rest, patched-start}
 use Rattle.packet.proofs.ReadLaws.{start-two, start-one, accepted, reads-readable, readable-reads, parts-two, parts-one, parts-header, answer-read}
 use Rattle.packet.specs.Write.{Wide}
+use Rattle.packet.specs.Places.{addressWidth, hopsAt, addressAt, secondAddressAt, typeOneContextAt, typeTwoContextAt, typeOneStart, typeTwoStart}
 use Rattle.packet.proofs.WriteLaws.{packet-two, packet-one, packet-length, Writable, writable, accepted-writing, writing-done}
 
 -- ---- read, then written
-head-drop : (p : List ℕ) → 2 ≤ length p → headerOf p ∷ getD p 1 0 ∷ drop 2 p ≡ p
+head-drop : (p : List ℕ) → addressAt ≤ length p → headerOf p ∷ getD p hopsAt 0 ∷ drop addressAt p ≡ p
 head-drop p h =
-    ap (λ (r : List ℕ). headerOf p ∷ r) (sym (drop-cons p 1 0 h)) ∙ sym (drop-cons p 0 0 (omega arith))
+    ap (λ (r : List ℕ). headerOf p ∷ r) (sym (drop-cons p hopsAt 0 h)) ∙ sym (drop-cons p 0 0 (omega arith))
 
 module _ (p : List ℕ) (whole : payloadStart (headerOf p) ≤ length p) where
   again-two : typeTwo (headerOf p) ≡ true → packetOf (partsOf p) (payload p) ≡ p
   unfolding typeTwoParts payload part
   again-two t =
-      let start : payloadStart (headerOf p) ≡ 35 = start-two (headerOf p) t in
+      let start : payloadStart (headerOf p) ≡ typeTwoStart = start-two (headerOf p) t in
       ap₂ (λ (q : Parts) (n : ℕ). packetOf q (drop n p)) (parts-two p t) start
-      ∙ packet-two (typeTwoParts p) (drop 35 p) t
-      ∙ ap (λ (r : List ℕ). headerOf p ∷ getD p 1 0 ∷ (part p 2 16 ++ r)) (behind p 18 (omega arith))
-      ∙ ap (λ (r : List ℕ). headerOf p ∷ getD p 1 0 ∷ (take 16 (drop 2 p) ++ r)) (sym (drop-drop 16 2 p))
-      ∙ ap (λ (r : List ℕ). headerOf p ∷ getD p 1 0 ∷ r) (take-append-drop 16 (drop 2 p))
+      ∙ packet-two (typeTwoParts p) (drop typeTwoStart p) t
+      ∙ ap (λ (r : List ℕ). headerOf p ∷ getD p hopsAt 0 ∷ (part p addressAt addressWidth ++ r)) (behind p secondAddressAt (omega arith))
+      ∙ ap (λ (r : List ℕ). headerOf p ∷ getD p hopsAt 0 ∷ (take addressWidth (drop addressAt p) ++ r)) (sym (drop-drop addressWidth addressAt p))
+      ∙ ap (λ (r : List ℕ). headerOf p ∷ getD p hopsAt 0 ∷ r) (take-append-drop addressWidth (drop addressAt p))
       ∙ head-drop p (omega arith)
 
   again-one : typeTwo (headerOf p) ≡ false → packetOf (partsOf p) (payload p) ≡ p
   unfolding typeOneParts payload
   again-one t =
-      let start : payloadStart (headerOf p) ≡ 19 = start-one (headerOf p) t in
+      let start : payloadStart (headerOf p) ≡ typeOneStart = start-one (headerOf p) t in
       ap₂ (λ (q : Parts) (n : ℕ). packetOf q (drop n p)) (parts-one p t) start
-      ∙ packet-one (typeOneParts p) (drop 19 p) t
-      ∙ ap (λ (r : List ℕ). headerOf p ∷ getD p 1 0 ∷ r) (behind p 2 (omega arith))
+      ∙ packet-one (typeOneParts p) (drop typeOneStart p) t
+      ∙ ap (λ (r : List ℕ). headerOf p ∷ getD p hopsAt 0 ∷ r) (behind p addressAt (omega arith))
       ∙ head-drop p (omega arith)
 
   again : packetOf (partsOf p) (payload p) ≡ p
@@ -84,11 +85,12 @@ module _ (q : Parts) (body : List ℕ) (wide : Wide q) where
   found-two t =
       let head : List ℕ = q .header ∷ q .hops ∷ q .relay in
       let p : List ℕ = head ++ (q .destination ++ (q .context ∷ body)) in
-      let eh : length head ≡ 18 = omega (arith, wide .relay) in
-      let relay : part p 2 16 ≡ q .relay = take-at (q .relay) (q .destination ++ (q .context ∷ body)) 16 (wide .relay) in
-      let destination : part p 18 16 ≡ q .destination = found-part head (q .destination) (q .context) body 18 eh (wide .destination) in
-      let context : getD p 34 0 ≡ q .context = found-byte head (q .destination) (q .context) body 18 eh (wide .destination) in
-      let rest : drop 35 p ≡ body = found-rest head (q .destination) (q .context) body 18 eh (wide .destination) in (
+      let eh : length head ≡ secondAddressAt = omega (arith, wide .relay) in
+      let relay : part p addressAt addressWidth ≡ q .relay = take-at (q .relay) (q .destination ++ (q .context ∷ body)) addressWidth (wide .relay) in
+      let destination : part p secondAddressAt addressWidth ≡ q .destination =
+      found-part head (q .destination) (q .context) body secondAddressAt eh (wide .destination) in
+      let context : getD p typeTwoContextAt 0 ≡ q .context = found-byte head (q .destination) (q .context) body secondAddressAt eh (wide .destination) in
+      let rest : drop typeTwoStart p ≡ body = found-rest head (q .destination) (q .context) body secondAddressAt eh (wide .destination) in (
         ap partsOf (packet-two q body t) ∙ parts-two p t ∙ rw (relay, destination, context) (sym (then-true _ _ t)),
         ap payload (packet-two q body t) ∙ ap (λ (n : ℕ). drop n p) (start-two (q .header) t) ∙ rest,
       )
@@ -98,9 +100,10 @@ module _ (q : Parts) (body : List ℕ) (wide : Wide q) where
   found-one t =
       let head : List ℕ = q .header ∷ q .hops ∷ [] in
       let p : List ℕ = head ++ (q .destination ++ (q .context ∷ body)) in
-      let destination : part p 2 16 ≡ q .destination = found-part head (q .destination) (q .context) body 2 refl (wide .destination) in
-      let context : getD p 18 0 ≡ q .context = found-byte head (q .destination) (q .context) body 2 refl (wide .destination) in
-      let rest : drop 19 p ≡ body = found-rest head (q .destination) (q .context) body 2 refl (wide .destination) in (
+      let destination : part p addressAt addressWidth ≡ q .destination =
+      found-part head (q .destination) (q .context) body addressAt refl (wide .destination) in
+      let context : getD p typeOneContextAt 0 ≡ q .context = found-byte head (q .destination) (q .context) body addressAt refl (wide .destination) in
+      let rest : drop typeOneStart p ≡ body = found-rest head (q .destination) (q .context) body addressAt refl (wide .destination) in (
         ap partsOf (packet-one q body t) ∙ parts-one p t ∙ rw (destination, context) (sym (then-false _ _ t)),
         ap payload (packet-one q body t) ∙ ap (λ (n : ℕ). drop n p) (start-one (q .header) t) ∙ rest,
       )

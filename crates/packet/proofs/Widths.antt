@@ -15,25 +15,26 @@ use Rattle.packet.specs.Hash.{packetHash, linkId}
 use Rattle.packet.specs.Announce.{blobOf, announcedDestination}
 use Rattle.packet.proofs.ReadLaws.{start-two, start-one, parts-two, parts-one}
 use Rattle.packet.specs.Write.{Wide}
+use Rattle.packet.specs.Places.{addressWidth, digestWidth, blobWidth, secondAddressAt, typeOneStart, typeTwoStart, blobAt, blobEnd, addressAt}
 
-first-sixteen : (m : List ℕ) → length (take 16 (sha256-of m)) ≡ 16
-first-sixteen m = length-take-le 16 (sha256-of m) (omega (arith, digest-length m))
+first-sixteen : (m : List ℕ) → length (take addressWidth (sha256-of m)) ≡ addressWidth
+first-sixteen m = length-take-le addressWidth (sha256-of m) (omega (arith, digest-length m))
 
-pub packet-hash-length : (p : List ℕ) → length (packetHash p) ≡ 32
+pub packet-hash-length : (p : List ℕ) → length (packetHash p) ≡ digestWidth
 unfolding packetHash
 packet-hash-length p = digest-length _
 
-pub link-id-length : (p : List ℕ) → length (linkId p) ≡ 16
+pub link-id-length : (p : List ℕ) → length (linkId p) ≡ addressWidth
 unfolding linkId
 link-id-length p = first-sixteen _
 
-pub announced-length : (body : List ℕ) → length (announcedDestination body) ≡ 16
+pub announced-length : (body : List ℕ) → length (announcedDestination body) ≡ addressWidth
 unfolding announcedDestination
 announced-length body = first-sixteen _
 
-pub blob-length : (body : List ℕ) → 84 ≤ length body → length (blobOf body) ≡ 10
+pub blob-length : (body : List ℕ) → blobEnd ≤ length body → length (blobOf body) ≡ blobWidth
 unfolding blobOf
-blob-length body h = part-length body 74 10 h
+blob-length body h = part-length body blobAt blobWidth h
 
 -- the addresses of a packet that reads
 pub parts-wide : (p : List ℕ) → payloadStart (headerOf p) ≤ length p → Wide (partsOf p)
@@ -42,8 +43,12 @@ parts-wide p h = go (typeTwo (headerOf p)) refl
   where
     go : (t : Bool) → typeTwo (headerOf p) ≡ t → Wide (partsOf p)
     go true e =
-        let start : payloadStart (headerOf p) ≡ 35 = start-two (headerOf p) e in
-        rw (parts-two p e) (record { relay = part-length p 2 16 (omega arith); destination = part-length p 18 16 (omega arith) })
+        let start : payloadStart (headerOf p) ≡ typeTwoStart = start-two (headerOf p) e in
+        rw (parts-two p e) (record {
+          relay = part-length p addressAt addressWidth (omega arith);
+          destination =
+              part-length p secondAddressAt addressWidth (omega arith);
+        })
     go false e =
-        let start : payloadStart (headerOf p) ≡ 19 = start-one (headerOf p) e in
-        rw (parts-one p e) (record { relay = refl; destination = part-length p 2 16 (omega arith) })
+        let start : payloadStart (headerOf p) ≡ typeOneStart = start-one (headerOf p) e in
+        rw (parts-one p e) (record { relay = refl; destination = part-length p addressAt addressWidth (omega arith) })

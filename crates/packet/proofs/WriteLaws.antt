@@ -15,6 +15,7 @@ use Rattle.packet.specs.Header.{accessCode, typeTwo}
 use Rattle.packet.specs.Read.{payloadStart, longestPacket}
 use Rattle.packet.specs.Write.{Wide, addresses, packetOf, leastOutput, writingRows, writingRefusal, writing}
 use Rattle.packet.specs.declared.Parts.{Parts}
+use Rattle.packet.specs.Places.{addressWidth, secondAddressAt, typeOneStart, typeTwoStart, endWidth, hopsAt, addressAt}
 use Rattle.packet.proofs.ReadLaws.{start-two, start-one}
 
 -- a packet is its head, and the payload behind it
@@ -79,40 +80,41 @@ module _ (q : Parts) (body output : List ℕ) where
   writing-refused ne = then-false _ _ (ne-eqb (writingRefusal (length output) q body) 0 ne)
 
 -- ---- what the code of writing leaves: bytes written one after the other are one write
-module _ (out : List ℕ) (at : ℕ) (destination : List ℕ) (context : ℕ) (body : List ℕ) (wide : length destination ≡ 16)
-    (room : at + 17 + length body ≤ length out) where
-  pub end-written : patch (patch (patch out at destination) (at + 16) (context ∷ [])) (at + 17) body ≡ patch out at (destination ++ (context ∷ body))
+module _ (out : List ℕ) (at : ℕ) (destination : List ℕ) (context : ℕ) (body : List ℕ) (wide : length destination ≡ addressWidth)
+    (room : at + endWidth + length body ≤ length out) where
+  pub end-written : patch (patch (patch out at destination) (at + addressWidth) (context ∷ [])) (at + endWidth) body
+      ≡ patch out at (destination ++ (context ∷ body))
   end-written =
-      ap (λ (r : List ℕ). patch r (at + 17) body) (patch-join out at (at + 16) destination (context ∷ []) (omega arith) (omega arith))
-      ∙ patch-join out at (at + 17) (destination ++ (context ∷ [])) body (omega (arith, length-append destination (context ∷ []))) (omega arith)
+      ap (λ (r : List ℕ). patch r (at + endWidth) body) (patch-join out at (at + addressWidth) destination (context ∷ []) (omega arith) (omega arith))
+      ∙ patch-join out at (at + endWidth) (destination ++ (context ∷ [])) body (omega (arith, length-append destination (context ∷ []))) (omega arith)
       ∙ ap (patch out at) (append-assoc destination (context ∷ []) body)
 
 module _ (out : List ℕ) (q : Parts) (body : List ℕ) (wide : Wide q) (room : payloadStart (q .header) + length body ≤ length out) where
   -- what both types begin and end with
   abbrev begun : List ℕ
-  begun = patch (patch out 0 (q .header ∷ [])) 1 (q .hops ∷ [])
+  begun = patch (patch out 0 (q .header ∷ [])) hopsAt (q .hops ∷ [])
 
   abbrev end : List ℕ
   end = q .destination ++ (q .context ∷ body)
 
-  end-length : length end ≡ 17 + length body
+  end-length : length end ≡ endWidth + length body
   end-length = length-append (q .destination) (q .context ∷ body) ∙ omega (arith, wide .destination)
 
-  begun-written : 2 ≤ length out → begun ≡ patch out 0 (q .header ∷ q .hops ∷ [])
-  begun-written l = patch-join out 0 1 (q .header ∷ []) (q .hops ∷ []) refl l
+  begun-written : addressAt ≤ length out → begun ≡ patch out 0 (q .header ∷ q .hops ∷ [])
+  begun-written l = patch-join out 0 hopsAt (q .header ∷ []) (q .hops ∷ []) refl l
 
-  pub one-written : typeTwo (q .header) ≡ false → patch begun 2 end ≡ patch out 0 (packetOf q body)
+  pub one-written : typeTwo (q .header) ≡ false → patch begun addressAt end ≡ patch out 0 (packetOf q body)
   one-written t =
-      let start : payloadStart (q .header) ≡ 19 = start-one (q .header) t in
-      ap (λ (r : List ℕ). patch r 2 end) (begun-written (omega arith))
-      ∙ patch-join out 0 2 (q .header ∷ q .hops ∷ []) end refl (omega (arith, end-length))
+      let start : payloadStart (q .header) ≡ typeOneStart = start-one (q .header) t in
+      ap (λ (r : List ℕ). patch r addressAt end) (begun-written (omega arith))
+      ∙ patch-join out 0 addressAt (q .header ∷ q .hops ∷ []) end refl (omega (arith, end-length))
       ∙ ap (patch out 0) (sym (packet-one q body t))
 
-  pub two-written : typeTwo (q .header) ≡ true → patch (patch begun 2 (q .relay)) 18 end ≡ patch out 0 (packetOf q body)
+  pub two-written : typeTwo (q .header) ≡ true → patch (patch begun addressAt (q .relay)) secondAddressAt end ≡ patch out 0 (packetOf q body)
   two-written t =
-      let start : payloadStart (q .header) ≡ 35 = start-two (q .header) t in
-      let relayed = patch-join out 0 2 (q .header ∷ q .hops ∷ []) (q .relay) refl (omega (arith, wide .relay)) in
-      ap (λ (r : List ℕ). patch (patch r 2 (q .relay)) 18 end) (begun-written (omega arith))
-      ∙ ap (λ (r : List ℕ). patch r 18 end) relayed
-      ∙ patch-join out 0 18 (q .header ∷ q .hops ∷ q .relay) end (omega (arith, wide .relay)) (omega (arith, end-length))
+      let start : payloadStart (q .header) ≡ typeTwoStart = start-two (q .header) t in
+      let relayed = patch-join out 0 addressAt (q .header ∷ q .hops ∷ []) (q .relay) refl (omega (arith, wide .relay)) in
+      ap (λ (r : List ℕ). patch (patch r addressAt (q .relay)) secondAddressAt end) (begun-written (omega arith))
+      ∙ ap (λ (r : List ℕ). patch r secondAddressAt end) relayed
+      ∙ patch-join out 0 secondAddressAt (q .header ∷ q .hops ∷ q .relay) end (omega (arith, wide .relay)) (omega (arith, end-length))
       ∙ ap (patch out 0) (sym (packet-two q body t))

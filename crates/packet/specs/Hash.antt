@@ -4,6 +4,7 @@ use mathlib.Core.List.{List, _∷_, _++_}
 use lib.ListN.{take, replicate}
 use Rattle.sha256.specs.Sha256.{sha256-of}
 use Rattle.octets.specs.Choice.{_then_otherwise_}
+use Rattle.packet.specs.Places.{addressWidth, digestWidth, linkPayloadWidth}
 use Rattle.packet.specs.Read.{partsOf, payload, readingRefusal, reads}
 use Rattle.packet.specs.declared.Parts.{Parts}
 use Rattle.packet.specs.declared.PacketHash.{PacketHash}
@@ -18,13 +19,13 @@ packetHash p = sha256-of (hashedPart (partsOf p) (payload p))
 
 -- the same with the payload cut to 64 bytes, first 16 bytes of the result
 unfoldable pub linkId : List ℕ → List ℕ
-linkId p = take 16 (sha256-of (hashedPart (partsOf p) (take 64 (payload p))))
+linkId p = take addressWidth (sha256-of (hashedPart (partsOf p) (take linkPayloadWidth (payload p))))
 
 -- both refuse like reading, with zeros beside the number; the calls read at 500
 unfoldable pub packetHashAnswer : ℕ → List ℕ → PacketHash
 packetHashAnswer size p =
-    record { refusal = readingRefusal size p; bytes = reads size p then packetHash p otherwise replicate 32 0 }
+    record { refusal = readingRefusal size p; bytes = reads size p then packetHash p otherwise replicate digestWidth 0 }
 
 unfoldable pub linkIdAnswer : ℕ → List ℕ → LinkId
 linkIdAnswer size p =
-    record { refusal = readingRefusal size p; bytes = reads size p then linkId p otherwise replicate 16 0 }
+    record { refusal = readingRefusal size p; bytes = reads size p then linkId p otherwise replicate addressWidth 0 }

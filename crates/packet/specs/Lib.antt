@@ -1,4 +1,5 @@
 -- The packet layout of document 01, over lists of bytes.
+pub mod Places
 pub mod Header
 pub mod Read
 pub mod Write

@@ -12,6 +12,7 @@ use Rattle.octets.specs.Listed.{Test, _gives_otherwise_, firstOf}
 pub use Rattle.numbers.specs.Numbers.{longestPacket}
 use Rattle.numbers.specs.Numbers.{isSize}
 use Rattle.packet.specs.Header.{accessCode, typeTwo}
+use Rattle.packet.specs.Places.{addressWidth, hopsAt, addressAt, secondAddressAt, typeOneContextAt, typeTwoContextAt, typeOneStart, typeTwoStart}
 use Rattle.packet.specs.declared.Parts.{Parts}
 use Rattle.packet.specs.declared.Reading.{Reading}
 
@@ -21,24 +22,36 @@ headerOf p = getD p 0 0
 
 -- sixteen bytes of zeros: what the relay address of type 1 reads as
 abbrev pub noAddress : List ℕ
-noAddress = replicate 16 0
+noAddress = replicate addressWidth 0
 
 -- bytes 1, 2..17, 18: hops, destination, context
 unfoldable pub typeOneParts : List ℕ → Parts
 typeOneParts p =
-    record { header = headerOf p; hops = getD p 1 0; relay = noAddress; destination = part p 2 16; context = getD p 18 0 }
+    record {
+      header = headerOf p;
+      hops = getD p hopsAt 0;
+      relay = noAddress;
+      destination = part p addressAt addressWidth;
+      context = getD p typeOneContextAt 0;
+    }
 
 -- bytes 1, 2..17, 18..33, 34: hops, relay address, destination, context
 unfoldable pub typeTwoParts : List ℕ → Parts
 typeTwoParts p =
-    record { header = headerOf p; hops = getD p 1 0; relay = part p 2 16; destination = part p 18 16; context = getD p 34 0 }
+    record {
+      header = headerOf p;
+      hops = getD p hopsAt 0;
+      relay = part p addressAt addressWidth;
+      destination = part p secondAddressAt addressWidth;
+      context = getD p typeTwoContextAt 0;
+    }
 
 unfoldable pub partsOf : List ℕ → Parts
 partsOf p = typeTwo (headerOf p) then typeTwoParts p otherwise typeOneParts p
 
--- where the payload starts, by the header
+-- where the payload starts, by the header: 35 or 19
 unfoldable pub payloadStart : ℕ → ℕ
-payloadStart header = typeTwo header then 35 otherwise 19
+payloadStart header = typeTwo header then typeTwoStart otherwise typeOneStart
 
 -- the payload: all bytes from there on, none where the packet is shorter
 unfoldable pub payload : List ℕ → List ℕ
@@ -49,10 +62,10 @@ payload p = drop (payloadStart (headerOf p)) p
 unfoldable pub readingRows : ℕ → List ℕ → List (Test ℕ)
 readingRows size p =
     not (isSize size) gives 9 otherwise
-    ltb (length p) 19 gives 1 otherwise
+    ltb (length p) typeOneStart gives 1 otherwise
     ltb size (length p) gives 2 otherwise
     accessCode (headerOf p) gives 3 otherwise
-    typeTwo (headerOf p) and ltb (length p) 35 gives 1 otherwise
+    typeTwo (headerOf p) and ltb (length p) typeTwoStart gives 1 otherwise
     []
 
 -- the refusal's number, or 0

@@ -9,14 +9,15 @@ use Rattle.octets.specs.Choice.{_then_otherwise_}
 use Rattle.octets.specs.Listed.{Test, _gives_otherwise_, firstOf}
 pub use Rattle.numbers.specs.Numbers.{leastOutput}
 use Rattle.packet.specs.Header.{accessCode, typeTwo}
+use Rattle.packet.specs.Places.{addressWidth}
 use Rattle.packet.specs.Read.{longestPacket, noAddress}
 use Rattle.packet.specs.declared.Parts.{Parts}
 use Rattle.packet.specs.declared.Written.{Written}
 
 -- both addresses are sixteen bytes, as a value of the code always has them
 pub record Wide (q : Parts) : Type 0 where
-  pub relay : length (q .relay) ≡ 16
-  pub destination : length (q .destination) ≡ 16
+  pub relay : length (q .relay) ≡ addressWidth
+  pub destination : length (q .destination) ≡ addressWidth
 
 -- the addresses: in type 1 writing ignores the relay address
 unfoldable pub addresses : Parts → List ℕ

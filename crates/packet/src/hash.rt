@@ -1,6 +1,8 @@
 // Packet hash and link id.
 use super::LinkId;
 use super::PacketHash;
+use super::places::END_WIDTH;
+use super::places::LINK_PART_WIDTH;
 use super::reader::from;
 use super::reader::part_of;
 use super::reader::payload_start;
@@ -10,15 +12,16 @@ use numbers::refusals;
 ghost use mathlib.Core.Path.{_≡_};
 ghost use mathlib.Core.Bool.{true};
 ghost use mathlib.Core.List.{_∷_};
-ghost use Prim.Native.Nat.{_≤_};
+ghost use Prim.Native.Nat.{_+_, _≤_};
 ghost use lib.ListN.{length, take};
-ghost use Rattle.sha256.specs.Sha256.{sha256-of};
+ghost use Rattle.sha256.specs.Sha256.{sha256-of, longestMessage};
+ghost use Rattle.packet.specs.Places.{addressWidth};
 ghost use Rattle.packet.specs.Read.{longestPacket, reads};
 ghost use Rattle.packet.specs.Hash.{packetHash, linkId, packetHashAnswer, linkIdAnswer};
 
 // SHA-256 of the first n bytes of a buffer.
 pub fn hash_start(buffer: &[u8], n: usize) -> [u8; 32]
-    requires { ⌜ (n ≤ length (now buffer)) × (n ≤ 65535) ⌝ }
+    requires { ⌜ (n ≤ length (now buffer)) × (n ≤ longestMessage) ⌝ }
     ensures { λ r. ⌜ r ≡ sha256-of (take n (now (buffer .entry))) ⌝ }
 {
     let digest = sha256::sha256(&buffer[0..n]);
@@ -27,14 +30,14 @@ pub fn hash_start(buffer: &[u8], n: usize) -> [u8; 32]
 
 // The first 16 bytes of a hash.
 pub fn first_sixteen(hash: [u8; 32]) -> [u8; 16]
-    ensures { λ r. ⌜ r ≡ take 16 hash ⌝ }
+    ensures { λ r. ⌜ r ≡ take addressWidth hash ⌝ }
 {
     octets::address_at(&hash, 0)
 }
 
 // SHA-256 of one byte and the bytes behind it.
 fn hash_behind(first: u8, rest: &[u8]) -> [u8; 32]
-    requires { ⌜ length (now rest) ≤ 499 ⌝ }
+    requires { ⌜ 1 + length (now rest) ≤ longestPacket ⌝ }
     ensures { λ r. ⌜ r ≡ sha256-of (first ∷ now (rest .entry)) ⌝ }
 {
     let mut buffer = [0u8; LONGEST_PACKET];
@@ -49,7 +52,7 @@ pub fn hash_of(packet: &[u8]) -> [u8; 32]
     ensures { λ r. ⌜ r ≡ packetHash (now (packet .entry)) ⌝ }
 {
     let header = packet[0];
-    let at = payload_start(header) - 17;
+    let at = payload_start(header) - END_WIDTH;
     hash_behind(header % 16, from(packet, at))
 }
 
@@ -59,8 +62,8 @@ pub fn link_id_of(packet: &[u8]) -> [u8; 16]
     ensures { λ r. ⌜ r ≡ linkId (now (packet .entry)) ⌝ }
 {
     let header = packet[0];
-    let at = payload_start(header) - 17;
-    first_sixteen(hash_behind(header % 16, part_of(packet, at, 81)))
+    let at = payload_start(header) - END_WIDTH;
+    first_sixteen(hash_behind(header % 16, part_of(packet, at, LINK_PART_WIDTH)))
 }
 
 // The packet hash of any bytes: those that don't read are refused.

@@ -5,6 +5,7 @@
 mod announce;
 mod hash;
 mod header;
+pub mod places;
 mod reader;
 mod writer;
 

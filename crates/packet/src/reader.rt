@@ -3,6 +3,13 @@ use super::Parts;
 use super::Reading;
 use super::header::access_code;
 use super::header::type_two;
+use super::places::ADDRESS_AT;
+use super::places::HOPS_AT;
+use super::places::SECOND_ADDRESS_AT;
+use super::places::TYPE_ONE_CONTEXT_AT;
+use super::places::TYPE_ONE_START;
+use super::places::TYPE_TWO_CONTEXT_AT;
+use super::places::TYPE_TWO_START;
 use numbers::LEAST_SIZE;
 use numbers::LONGEST_PACKET;
 use numbers::refusals;
@@ -11,6 +18,7 @@ ghost use Prim.Native.Nat.{_≤_};
 ghost use lib.ListN.{length, drop};
 ghost use Rattle.octets.specs.Part.{part};
 ghost use Rattle.numbers.specs.Numbers.{isSize};
+ghost use Rattle.packet.specs.Places.{typeOneStart, typeTwoStart};
 ghost use Rattle.packet.specs.Read.{headerOf, typeOneParts, typeTwoParts, partsOf, payloadStart, payload as payloadOf, readingRefusal, noParts, reading};
 
 // The header of a packet, 0 where it has no byte.
@@ -28,9 +36,9 @@ pub fn payload_start(header: u8) -> usize
     ensures { λ r. ⌜ r ≡ payloadStart header ⌝ }
 {
     if type_two(header) {
-        return 35;
+        return TYPE_TWO_START;
     }
-    19
+    TYPE_ONE_START
 }
 
 // The bytes of s from place at on, none where s is shorter.
@@ -80,7 +88,7 @@ pub fn reading_refusal(packet: &[u8], size: usize) -> u8
     if !is_size(size) {
         return refusals::SETTING;
     }
-    if packet.len() < 19 {
+    if packet.len() < TYPE_ONE_START {
         return refusals::TOO_SHORT;
     }
     if size < packet.len() {
@@ -91,7 +99,7 @@ pub fn reading_refusal(packet: &[u8], size: usize) -> u8
         return refusals::ACCESS_CODE;
     }
     if type_two(header) {
-        if packet.len() < 35 {
+        if packet.len() < TYPE_TWO_START {
             return refusals::TOO_SHORT;
         }
     }
@@ -99,32 +107,32 @@ pub fn reading_refusal(packet: &[u8], size: usize) -> u8
 }
 
 fn type_one_parts(packet: &[u8]) -> Parts
-    requires { ⌜ 19 ≤ length (now packet) ⌝ }
+    requires { ⌜ typeOneStart ≤ length (now packet) ⌝ }
     ensures { λ r. ⌜ r ≡ typeOneParts (now (packet .entry)) ⌝ }
 {
-    let destination = octets::address_at(packet, 2);
+    let destination = octets::address_at(packet, ADDRESS_AT);
     Parts {
         header: packet[0],
-        hops: packet[1],
+        hops: packet[HOPS_AT],
         relay: [0; 16],
         destination,
-        context: packet[18],
+        context: packet[TYPE_ONE_CONTEXT_AT],
     }
 }
 
 // The parts at the places of type 2, whatever the header says.
 pub fn type_two_parts(packet: &[u8]) -> Parts
-    requires { ⌜ 35 ≤ length (now packet) ⌝ }
+    requires { ⌜ typeTwoStart ≤ length (now packet) ⌝ }
     ensures { λ r. ⌜ r ≡ typeTwoParts (now (packet .entry)) ⌝ }
 {
-    let relay = octets::address_at(packet, 2);
-    let destination = octets::address_at(packet, 18);
+    let relay = octets::address_at(packet, ADDRESS_AT);
+    let destination = octets::address_at(packet, SECOND_ADDRESS_AT);
     Parts {
         header: packet[0],
-        hops: packet[1],
+        hops: packet[HOPS_AT],
         relay,
         destination,
-        context: packet[34],
+        context: packet[TYPE_TWO_CONTEXT_AT],
     }
 }
 

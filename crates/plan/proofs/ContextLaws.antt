@@ -8,9 +8,10 @@ use Rattle.octets.proofs.Choice.{then-true, then-false}
 use Rattle.packet.specs.Hash.{packetHash}
 use Rattle.rules.specs.Exempt.{exempt}
 use Rattle.plan.specs.Decided.{usedHash}
+use Rattle.numbers.specs.Numbers.{digestWidth}
 
 module _ (p : List ℕ) where
-  pub used-none : exempt p ≡ true → usedHash p ≡ replicate 32 0
+  pub used-none : exempt p ≡ true → usedHash p ≡ replicate digestWidth 0
   unfolding usedHash
   used-none is = then-true _ _ is
 

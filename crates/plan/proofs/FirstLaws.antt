@@ -143,10 +143,10 @@ module _ (r : Relay) (a : Arrival) where
 
 -- the code compares sixteen bytes
 pub own-compared : (t : List ℕ) (a : Arrival) → length t ≡ tableSize → reads longestPacket (a .bytes) ≡ true → {own : List ℕ} → own ≡ relayOf t .own
-    → not (agree 16 (relayAddress a) own) ≡ not (same (relayAddress a) (relayOf t .own))
+    → not (agree addressWidth (relayAddress a) own) ≡ not (same (relayAddress a) (relayOf t .own))
 unfolding relayOf
 own-compared t a size readable e =
     let wide = parts-wide (a .bytes) (whole longestPacket (a .bytes) readable) in
     let own-wide = part-length t ownAt addressWidth (omega (arith, size)) in
-    ap (λ (x : List ℕ). not (agree 16 (relayAddress a) x)) e
-    ∙ ap not (sym (same-agree 16 (relayAddress a) (relayOf t .own) (wide .relay) own-wide))
+    ap (λ (x : List ℕ). not (agree addressWidth (relayAddress a) x)) e
+    ∙ ap not (sym (same-agree addressWidth (relayAddress a) (relayOf t .own) (wide .relay) own-wide))

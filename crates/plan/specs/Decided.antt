@@ -8,14 +8,14 @@ use lib.ListN.{length, replicate}
 use Rattle.octets.specs.Choice.{_then_otherwise_}
 use Rattle.octets.specs.Index.{_and_}
 use Rattle.octets.specs.Part.{part}
-use Rattle.octets.specs.BigEndian.{number}
+use Rattle.octets.specs.BigEndian.{number, wordWidth}
 use Rattle.packet.specs.Header.{isData}
 use Rattle.packet.specs.Read.{longestPacket, reads}
 use Rattle.packet.specs.Hash.{packetHash, linkId}
 use Rattle.rules.specs.Relay.{Path, Return, Relay}
 use Rattle.rules.specs.View.{View, viewAt, pathPlace, linkPlace, returnPlace, freeLink}
 use Rattle.rules.specs.Arrival.{Arrival, header, destination, hash}
-use Rattle.numbers.specs.Numbers.{pathCount}
+use Rattle.numbers.specs.Numbers.{pathCount, digestWidth}
 use Rattle.rules.specs.Exempt.{exempt}
 use Rattle.rules.specs.Rate.{rated}
 use Rattle.rules.specs.Refusals.{rateSettingsOk, pathOk}
@@ -39,10 +39,10 @@ arrivalOf bytes m = record { bytes = bytes; port = m .port; clock = m .clock; si
 
 -- the halves of an address, as numbers
 abbrev pub highOf : List ℕ → ℕ
-highOf address = number (part address 0 8)
+highOf address = number (part address 0 wordWidth)
 
 abbrev pub lowOf : List ℕ → ℕ
-lowOf address = number (part address 8 8)
+lowOf address = number (part address wordWidth wordWidth)
 
 -- ---- the records that the tables hold
 abbrev pub pathAt : List ℕ → ℕ → Path
@@ -73,7 +73,7 @@ pub record CanKnow (t : List ℕ) (place : ℕ) : Type 0 where
 
 -- ---- the hash that goes with a packet: nothing uses an exempt packet's, and zeros stand in its place
 unfoldable pub usedHash : List ℕ → List ℕ
-usedHash packet = exempt packet then replicate 32 0 otherwise packetHash packet
+usedHash packet = exempt packet then replicate digestWidth 0 otherwise packetHash packet
 
 -- .. and whether it is live: an exempt packet's is not looked for
 unfoldable pub hashLive : View → Arrival → Bool

@@ -3,6 +3,7 @@ use super::Arrived;
 use super::Decision;
 use super::marked::revives;
 use numbers::PATH_COUNT;
+use packet::places::HOPS_AT;
 use rules::Rated;
 use rules::Reason;
 ghost use mathlib.Core.Path.{_≡_};
@@ -11,6 +12,7 @@ ghost use Prim.Native.Nat.{_≤_};
 ghost use lib.ListN.{length};
 ghost use Rattle.packet.specs.Header.{isAnnounce};
 ghost use Rattle.packet.specs.Read.{headerOf, partsOf, payload};
+ghost use Rattle.packet.specs.Places.{blobEnd};
 ghost use Rattle.packet.specs.Announce.{emissionOf};
 ghost use Rattle.rules.specs.Tests.{badForm};
 ghost use Rattle.tables.specs.Places.{tableSize};
@@ -43,7 +45,7 @@ fn not_better(tables: &[u8], packet: &[u8], place: usize, blob: [u8; 10]) -> boo
         return false;
     }
     let stored = lookup::path_hops(tables, place);
-    let hops = packet[1];
+    let hops = packet[HOPS_AT];
     stored <= hops
 }
 
@@ -60,7 +62,7 @@ pub fn rate_at(tables: &[u8], place: usize, clock: u64) -> Rated
 // The known path at a place: tests 10, 11 and 15, unless the announce revives it.
 fn known_path(tables: &[u8], packet: &[u8], arrived: Arrived, place: usize) -> Decision
     requires { ⌜ CanRead (now packet) (now tables) × CanKnow (now tables) place
-        × (84 ≤ length (payload (now packet))) ⌝ }
+        × (blobEnd ≤ length (payload (now packet))) ⌝ }
     ensures { λ r. ⌜ r ≡ knownPath (relayOf (now (tables .entry))) (arrivalOf (now (packet .entry)) arrived)
         (pathAt (now (tables .entry)) place) place ⌝ }
 {

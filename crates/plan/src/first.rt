@@ -8,6 +8,7 @@ use forms::form_of;
 use numbers::HASH_COUNT;
 use numbers::HOPS_LIMIT;
 use numbers::LOCAL_COUNT;
+use packet::places::HOPS_AT;
 use rules::Reason;
 ghost use mathlib.Core.Path.{_≡_};
 ghost use Rattle.packet.specs.Read.{partsOf};
@@ -117,7 +118,7 @@ pub fn first_tests(tables: &[u8], packet: &[u8], arrived: Arrived, live: bool) -
     if delivered_here(tables, packet, arrived) {
         return Early::Delivered;
     }
-    if packet[1] >= HOPS_LIMIT {
+    if packet[HOPS_AT] >= HOPS_LIMIT {
         return Early::Dropped(Reason::TooManyHops);
     }
     Early::Undecided

@@ -4,6 +4,7 @@ use super::Decision;
 use super::leaving::leave;
 use forms::is_link_proof;
 use numbers::LINK_COUNT;
+use packet::places::HOPS_AT;
 use rules::Blocked;
 use rules::Link;
 use rules::Reason;
@@ -27,7 +28,7 @@ fn from_answering_side(link: Link, packet: &[u8], arrived: Arrived) -> bool
         return false;
     }
     let remaining = link.remaining;
-    packet[1] == remaining.0
+    packet[HOPS_AT] == remaining.0
 }
 
 // From the asking port with hops = taken.
@@ -39,7 +40,7 @@ fn from_asking_side(link: Link, packet: &[u8], arrived: Arrived) -> bool
         return false;
     }
     let taken = link.taken;
-    packet[1] == taken.0
+    packet[HOPS_AT] == taken.0
 }
 
 // The link at a place, by a port: tests 12 and 16.

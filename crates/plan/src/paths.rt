@@ -4,6 +4,7 @@ use super::Decision;
 use super::leaving::leave;
 use numbers::LINK_COUNT;
 use numbers::PATH_COUNT;
+use octets::WORD_WIDTH;
 use rules::Blocked;
 use rules::Reason;
 ghost use mathlib.Core.Path.{_≡_};
@@ -42,7 +43,7 @@ fn new_link(tables: &[u8], clock: u64, id: [u8; 16], place: usize) -> Decision
             path: place,
             place: free,
             high: octets::number_of_8_at(&id, 0),
-            low: octets::number_of_8_at(&id, 8),
+            low: octets::number_of_8_at(&id, WORD_WIDTH),
         };
     }
     Decision::Drop(Reason::NoRoom)

@@ -1,10 +1,17 @@
 // The numbers of a reason: document 01's test, document 02's clause or case, and the value that goes with it.
+use numbers::LEAST_LINK_REQUEST;
+use numbers::SHORTER_LINK_PROOF;
 use rules::Blocked;
 use rules::Clause;
 use rules::Reason;
 ghost use mathlib.Core.Path.{_≡_};
 ghost use Rattle.rules.specs.Answers.{clauseNumber, leastLength, caseNumber, greatestExpiry};
 ghost use Rattle.rules.specs.Answers.{reasonNumber, reasonNumbers};
+
+// What test 3 asks of a link request and of a link proof, as the value that goes with the reason.
+const LEAST_REQUEST: u64 = LEAST_LINK_REQUEST as u64;
+
+const LEAST_PROOF: u64 = SHORTER_LINK_PROOF as u64;
 
 // 0 where there is no clause or case, and where no value goes with it.
 struct Numbers {
@@ -39,8 +46,8 @@ fn least_length(clause: Clause) -> u64
         Clause::AnnounceTooShort(least) => least as u64,
         Clause::AnnounceOfAnother => 0,
         Clause::RequestOfKindLink => 0,
-        Clause::RequestTooShort => 64,
-        Clause::LinkProofLength => 96,
+        Clause::RequestTooShort => LEAST_REQUEST,
+        Clause::LinkProofLength => LEAST_PROOF,
     }
 }
 

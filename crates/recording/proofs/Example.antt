@@ -8,10 +8,10 @@ use Rattle.octets.specs.Choice.{_or_, _then_otherwise_}
 use Rattle.octets.specs.Listed.{firstOf}
 use Rattle.octets.specs.Part.{part, patch, joined}
 use Rattle.octets.specs.BigEndian.{numberFrom, number, bigEndian}
-use Rattle.recording.specs.Shape.{placed, rowOf, contentsOf, shapeOf, kindOf, editionOf, countOf, offsetOf, lengthOf, sumBelow, runningPlace, offsetsRight, endRight}
+use Rattle.recording.specs.Shape.{placed, itemOf, contentsOf, shapeOf, kindOf, editionOf, countOf, offsetOf, lengthOf, sumBelow, runningPlace, offsetsRight, endRight}
 use Rattle.recording.specs.Format.{Entry, headOf, fileOf}
 use Rattle.recording.specs.Reader.{clockOf, portOf, wordOf, lengthWrong, kindWrong, placesWrong, wordsWrong, fileRows, fileRefusal, isThere, fieldsOf, bodyOf, entryOf, entriesOf}
-use Rattle.recording.specs.Writer.{givenCount, givenClock, givenPort, givenWord, givenLength, givenStart, givenEntry, givenEntries, givenWordsWrong, givenClocksWrong, addUp, fileLength, writingRows, writingRefusal, writing, givenRow, givenOf}
+use Rattle.recording.specs.Writer.{givenCount, givenClock, givenPort, givenWord, givenLength, givenStart, givenEntry, givenEntries, givenWordsWrong, givenClocksWrong, addUp, fileLength, writingRows, writingRefusal, writing, givenItem, givenOf}
 
 -- ---- what is computed with
 unfoldable computing : Unit {0}
@@ -19,7 +19,7 @@ unfolding number numberFrom bigEndian part patch joined listOf allBelow sumBelow
 computing = tt
 
 unfoldable making : Unit {0}
-unfolding computing fileOf shapeOf contentsOf placed rowOf headOf
+unfolding computing fileOf shapeOf contentsOf placed itemOf headOf
 making = tt
 
 unfoldable reading : Unit {0}
@@ -29,7 +29,7 @@ reading = tt
 
 unfoldable giving : Unit {0}
 unfolding making writing writingRefusal writingRows givenWordsWrong givenClocksWrong addUp fileLength givenCount givenClock
-    givenPort givenWord givenLength givenStart givenEntry givenEntries givenOf givenRow
+    givenPort givenWord givenLength givenStart givenEntry givenEntries givenOf givenItem
 giving = tt
 
 -- ---- two packets, of three bytes and of one

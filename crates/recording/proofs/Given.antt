@@ -1,5 +1,5 @@
 -- Entries as the writer is given them.
-use Prim.Native.Nat.{ℕ, _+_, _*_, _/_, _%_, _^_, _≤_, _<_}
+use Prim.Native.Nat.{ℕ, _+_, _*_, _/_, _%_, _≤_, _<_}
 use native.Mathlib.Nat.{zero-add, add-zero, add-assoc, le-refl, mul-div-cancel-left, mul-mod-right}
 use native.Mathlib.Omega.{arith}
 use mathlib.Core.List.{List, [], _∷_, _++_, append-assoc}
@@ -15,17 +15,17 @@ use Rattle.octets.proofs.BigEndian.{bigEndian-length, number-bigEndian}
 use Rattle.octets.proofs.ListOf.{listOf-length, listOf-at, listOf-cong}
 use Rattle.octets.proofs.Joined.{joined-length}
 use Rattle.octets.proofs.Part.{part-part, part-mid, part-at, part-whole, part-one, part-again, part-split}
-use Rattle.recording.specs.Shape.{entryPlace, sumBelow}
-use Rattle.recording.specs.Format.{Entry, headWidth, entryBody, fileOf, RecordableEntry, noEntry, Recordable}
-use Rattle.recording.specs.Writer.{givenWidth, givenCount, givenClock, givenPort, givenWord, givenLength, givenStart, givenEntry, givenEntries, givenRow, givenOf, bodiesOf, fileLength}
-use Rattle.recording.proofs.Sums.{sum-cong, joined-rows, joined-sum, joined-found, joined-row, part-last}
+use Rattle.recording.specs.Shape.{entryPlace, sumBelow, lengthWidth, lengthLimit}
+use Rattle.recording.specs.Format.{Entry, headWidth, entryBody, fileOf, RecordableEntry, noEntry, Recordable, longestFile, recordedClockLimit}
+use Rattle.recording.specs.Writer.{givenWidth, givenCount, givenClock, givenPort, givenWord, givenLength, givenStart, givenEntry, givenEntries, givenItem, givenOf, bodiesOf, fileLength, givenClockWidth, givenPortAt, givenWordAt, givenLengthAt}
+use Rattle.recording.proofs.Sums.{sum-cong, joined-items, joined-sum, joined-found, joined-item, part-last}
 use Rattle.recording.proofs.ShapeLaws.{longOf, part-three}
 use Rattle.recording.proofs.WriteLaws.{given-within, given-whole, Writable, body-given, sum-given}
 use Rattle.recording.proofs.Made.{made-length, small}
 
 -- ---- the entries as the writer is given them
-given-wide : (e : Entry) → length (givenRow e) ≡ givenWidth
-unfolding givenRow
+given-wide : (e : Entry) → length (givenItem e) ≡ givenWidth
+unfolding givenItem
 given-wide e = simp (length-append, bigEndian-length)
 
 -- given and taken apart again
@@ -35,52 +35,54 @@ module _ (x : ℕ → Entry) (n : ℕ) where
 
   given-length : length given ≡ givenWidth * n
   unfolding givenOf
-  given-length = joined-length givenRow givenWidth given-wide (listOf x n) ∙ ap (λ (k : ℕ). givenWidth * k) (listOf-length x n)
+  given-length = joined-length givenItem givenWidth given-wide (listOf x n) ∙ ap (λ (k : ℕ). givenWidth * k) (listOf-length x n)
 
   given-count : givenCount given ≡ n
   unfolding givenCount
   given-count = ap (λ (k : ℕ). k / givenWidth) given-length ∙ mul-div-cancel-left n (lit< tt)
 
-  given-row : (i : ℕ) → i < n → part given (givenWidth * i) givenWidth ≡ givenRow (x i)
+  given-item : (i : ℕ) → i < n → part given (givenWidth * i) givenWidth ≡ givenItem (x i)
   unfolding givenOf
-  given-row i l = joined-row givenRow x givenWidth n i (λ j. given-wide (x j)) l
+  given-item i l = joined-item givenItem x givenWidth n i (λ j. given-wide (x j)) l
 
-  given-part : (i k m : ℕ) → i < n → k + m ≤ givenWidth → part given (givenWidth * i + k) m ≡ part (givenRow (x i)) k m
+  given-part : (i k m : ℕ) → i < n → k + m ≤ givenWidth → part given (givenWidth * i + k) m ≡ part (givenItem (x i)) k m
   given-part i k m l h =
-      sym (part-part given (givenWidth * i) givenWidth k m h) ∙ ap (λ (r : List ℕ). part r k m) (given-row i l)
+      sym (part-part given (givenWidth * i) givenWidth k m h) ∙ ap (λ (r : List ℕ). part r k m) (given-item i l)
 
-  given-byte : (i k : ℕ) → i < n → k < givenWidth → getD given (givenWidth * i + k) 0 ≡ getD (givenRow (x i)) k 0
+  given-byte : (i k : ℕ) → i < n → k < givenWidth → getD given (givenWidth * i + k) 0 ≡ getD (givenItem (x i)) k 0
   given-byte i k l m =
-      sym (part-at given (givenWidth * i) givenWidth k m) ∙ ap (λ (r : List ℕ). getD r k 0) (given-row i l)
+      sym (part-at given (givenWidth * i) givenWidth k m) ∙ ap (λ (r : List ℕ). getD r k 0) (given-item i l)
 
-  clock-back : (i : ℕ) → i < n → x i .clock < 2 ^ 40 → givenClock given i ≡ x i .clock
-  unfolding givenClock givenRow
+  clock-back : (i : ℕ) → i < n → x i .clock < recordedClockLimit → givenClock given i ≡ x i .clock
+  unfolding givenClock givenItem
   clock-back i l small =
       ap number
-      (ap (λ (k : ℕ). part given k 8) (sym (add-zero (givenWidth * i)))
-      ∙ given-part i 0 8 l (lit≤ tt)
-      ∙ part-mid [] (bigEndian 8 (x i .clock)) (x i .port ∷ x i .word ∷ bigEndian 2 (length (x i .body))) 0 8 refl (bigEndian-length 8 (x i .clock)))
-      ∙ number-bigEndian 8 (x i .clock) (omega (arith, small))
+      (ap (λ (k : ℕ). part given k givenClockWidth) (sym (add-zero (givenWidth * i)))
+      ∙ given-part i 0 givenClockWidth l (lit≤ tt)
+      ∙ part-mid [] (bigEndian givenClockWidth (x i .clock)) (x i .port ∷ x i .word ∷ bigEndian lengthWidth (length (x i .body))) 0 givenClockWidth
+      refl (bigEndian-length givenClockWidth (x i .clock)))
+      ∙ number-bigEndian givenClockWidth (x i .clock) (omega (arith, small))
 
   port-back : (i : ℕ) → i < n → givenPort given i ≡ x i .port
-  unfolding givenPort givenRow bigEndian
-  port-back i l = given-byte i 8 l (lit< tt)
+  unfolding givenPort givenItem bigEndian
+  port-back i l = given-byte i givenPortAt l (lit< tt)
 
   word-back : (i : ℕ) → i < n → givenWord given i ≡ x i .word
-  unfolding givenWord givenRow bigEndian
-  word-back i l = given-byte i 9 l (lit< tt)
+  unfolding givenWord givenItem bigEndian
+  word-back i l = given-byte i givenWordAt l (lit< tt)
 
-  length-back : (i : ℕ) → i < n → longOf entryBody x i < 65536 → givenLength given i ≡ longOf entryBody x i
-  unfolding givenLength givenRow
+  length-back : (i : ℕ) → i < n → longOf entryBody x i < lengthLimit → givenLength given i ≡ longOf entryBody x i
+  unfolding givenLength givenItem
   length-back i l small =
       ap number
-      (given-part i 10 2 l (lit≤ tt)
-      ∙ ap (λ (r : List ℕ). part r 10 2) (sym (append-assoc (bigEndian 8 (x i .clock)) (x i .port ∷ x i .word ∷ []) (bigEndian 2 (longOf entryBody x i))))
-      ∙ part-last (bigEndian 8 (x i .clock) ++ (x i .port ∷ x i .word ∷ [])) (bigEndian 2 (longOf entryBody x i)) 10 2
-      (simp (length-append, bigEndian-length)) (bigEndian-length 2 (longOf entryBody x i)))
-      ∙ number-bigEndian 2 (longOf entryBody x i) small
+      (given-part i givenLengthAt lengthWidth l (lit≤ tt)
+      ∙ ap (λ (r : List ℕ). part r givenLengthAt lengthWidth)
+      (sym (append-assoc (bigEndian givenClockWidth (x i .clock)) (x i .port ∷ x i .word ∷ []) (bigEndian lengthWidth (longOf entryBody x i))))
+      ∙ part-last (bigEndian givenClockWidth (x i .clock) ++ (x i .port ∷ x i .word ∷ [])) (bigEndian lengthWidth (longOf entryBody x i))
+      givenLengthAt lengthWidth (simp (length-append, bigEndian-length)) (bigEndian-length lengthWidth (longOf entryBody x i)))
+      ∙ number-bigEndian lengthWidth (longOf entryBody x i) small
 
-  module _ (each : (i : ℕ) → i < n → RecordableEntry (x i)) (short : length (fileOf (listOf x n)) ≤ 60000) where
+  module _ (each : (i : ℕ) → i < n → RecordableEntry (x i)) (short : length (fileOf (listOf x n)) ≤ longestFile) where
     start-back : (i : ℕ) → i ≤ n → givenStart given i ≡ sumBelow (longOf entryBody x) i
     unfolding givenStart
     start-back i l = sum-cong (givenLength given) (longOf entryBody x) i (λ j m. length-back j (omega arith) (small x n each short j (omega arith)))
@@ -106,10 +108,10 @@ module _ (x : ℕ → Entry) (n : ℕ) where
         let below : (i : ℕ) → i < givenCount given → i < n = λ i m. subst (λ (k : ℕ). i < k) given-count m in
         record {
           words = λ i m. subst (λ (k : ℕ). k < 2) (sym (word-back i (below i m))) (each i (below i m) .word);
-          clocks = λ i m. subst (λ (k : ℕ). k < 2 ^ 40) (sym (clock-back i (below i m) (each i (below i m) .clock))) (each i (below i m) .clock);
+          clocks = λ i m. subst (λ (k : ℕ). k < recordedClockLimit) (sym (clock-back i (below i m) (each i (below i m) .clock))) (each i (below i m) .clock);
           whole = ap (λ (k : ℕ). k % givenWidth) given-length ∙ mul-mod-right givenWidth n;
           adds = ap (givenStart given) given-count ∙ start-back n (le-refl n) ∙ sym (joined-sum entryBody x n);
-          short = subst (λ (k : ℕ). k ≤ 60000) (sym given-fileLength) short;
+          short = subst (λ (k : ℕ). k ≤ longestFile) (sym given-fileLength) short;
           roomy = subst (λ (k : ℕ). k ≤ room) (sym given-fileLength) l;
         }
 
@@ -126,7 +128,7 @@ module _ (g bodies : List ℕ) (room : ℕ) (bg : Bytes g) (bb : Bytes bodies) (
   entry-recordable i l =
       record {
         clock = w .clocks i l;
-        port = bg (givenWidth * i + 8);
+        port = bg (givenWidth * i + givenPortAt);
         word = w .words i l;
         body = part-bytes bodies (givenStart g i) (givenLength g i) bb;
       }
@@ -138,26 +140,27 @@ module _ (g bodies : List ℕ) (room : ℕ) (bg : Bytes g) (bb : Bytes bodies) (
         each = λ i l.
             let m : i < givenCount g = subst (λ (k : ℕ). i < k) (listOf-length (givenEntry g bodies) (givenCount g)) l in
             subst RecordableEntry (sym (listOf-at (givenEntry g bodies) (givenCount g) i noEntry m)) (entry-recordable i m);
-        short = subst (λ (k : ℕ). k ≤ 60000) (sym file-length) (w .short);
+        short = subst (λ (k : ℕ). k ≤ longestFile) (sym file-length) (w .short);
       }
 
-  row-again : (i : ℕ) → i < givenCount g → givenRow (givenEntry g bodies i) ≡ part g (0 + givenWidth * i) givenWidth
-  unfolding givenRow givenEntry givenClock givenPort givenWord givenLength
-  row-again i l =
+  item-again : (i : ℕ) → i < givenCount g → givenItem (givenEntry g bodies i) ≡ part g (0 + givenWidth * i) givenWidth
+  unfolding givenItem givenEntry givenClock givenPort givenWord givenLength
+  item-again i l =
       let a : ℕ = givenWidth * i in
-      let inside : a + 12 ≤ length g = given-within g i l in
-      let long : bigEndian 2 (longOf entryBody (givenEntry g bodies) i) ≡ part g (a + 10) 2 =
-      ap (bigEndian 2) (body-given g bodies bg (w .adds) i l) ∙ part-again g (a + 10) 2 bg (omega arith) in
-      ap₂ (λ (p q : List ℕ). p ++ (givenPort g i ∷ givenWord g i ∷ q)) (part-again g a 8 bg (omega arith)) long
-      ∙ ap₂ (λ (p q : List ℕ). part g a 8 ++ (p ++ (q ++ part g (a + 10) 2))) (sym (part-one g (a + 8) (omega arith))) (sym (part-one g (a + 9) (omega arith)))
-      ∙ ap₂ (λ (j k : ℕ). part g a 8 ++ (part g (a + 8) 1 ++ (part g j 1 ++ part g k 2)))
-      (sym (add-assoc a 8 1)) (sym (add-assoc (a + 8) 1 1 ∙ add-assoc a 8 2))
-      ∙ ap (λ (r : List ℕ). part g a 8 ++ r) (part-three g (a + 8) 1 1 2)
-      ∙ sym (part-split g a 8 4)
+      let inside : a + givenWidth ≤ length g = given-within g i l in
+      let long : bigEndian lengthWidth (longOf entryBody (givenEntry g bodies) i) ≡ part g (a + givenLengthAt) lengthWidth =
+      ap (bigEndian lengthWidth) (body-given g bodies bg (w .adds) i l) ∙ part-again g (a + givenLengthAt) lengthWidth bg (omega arith) in
+      ap₂ (λ (p q : List ℕ). p ++ (givenPort g i ∷ givenWord g i ∷ q)) (part-again g a givenClockWidth bg (omega arith)) long
+      ∙ ap₂ (λ (p q : List ℕ). part g a givenClockWidth ++ (p ++ (q ++ part g (a + givenLengthAt) lengthWidth)))
+      (sym (part-one g (a + givenPortAt) (omega arith))) (sym (part-one g (a + givenWordAt) (omega arith)))
+      ∙ ap₂ (λ (j k : ℕ). part g a givenClockWidth ++ (part g (a + givenPortAt) 1 ++ (part g j 1 ++ part g k lengthWidth)))
+      (sym (add-assoc a givenClockWidth 1)) (sym (add-assoc (a + givenPortAt) 1 1 ∙ add-assoc a givenPortAt (1 + 1)))
+      ∙ ap (λ (r : List ℕ). part g a givenClockWidth ++ r) (part-three g (a + givenPortAt) 1 1 lengthWidth)
+      ∙ sym (part-split g a givenClockWidth (1 + 1 + lengthWidth))
       ∙ ap (λ (k : ℕ). part g k givenWidth) (sym (zero-add a))
 
   pub given-again : givenOf (givenEntries g bodies) ≡ g
   unfolding givenOf givenEntries
   given-again =
-      joined-rows givenRow (givenEntry g bodies) g 0 givenWidth (givenCount g) row-again
+      joined-items givenItem (givenEntry g bodies) g 0 givenWidth (givenCount g) item-again
       ∙ part-whole g (givenWidth * givenCount g) (given-whole g (w .whole))

@@ -1,5 +1,5 @@
 -- The file of entries, read; and a file, read and made again.
-use Prim.Native.Nat.{ℕ, _+_, _^_, _≤_, _<_}
+use Prim.Native.Nat.{ℕ, _+_, _≤_, _<_}
 use native.Mathlib.Nat.{add-zero}
 use native.Mathlib.Omega.{arith}
 use mathlib.Core.Bool.{true}
@@ -15,12 +15,12 @@ use Rattle.octets.proofs.Bytes.{part-bytes, nil-bytes, cons-bytes, append-bytes
 use Rattle.octets.proofs.BigEndian.{bigEndian-length, number-bigEndian}
 use Rattle.octets.proofs.ListOf.{listOf-cong}
 use Rattle.octets.proofs.Part.{part-part, part-mid, part-at}
-use Rattle.recording.specs.Shape.{entryPlace, shapeOf, countOf, offsetOf, lengthOf, sumBelow}
-use Rattle.recording.specs.Format.{Entry, headWidth, headOf, entryBody, fileOf, RecordableEntry, Recordable}
+use Rattle.recording.specs.Shape.{entryPlace, shapeOf, countOf, offsetOf, lengthOf, sumBelow, countLimit, offsetLimit, lengthLimit}
+use Rattle.recording.specs.Format.{Entry, headWidth, headOf, entryBody, fileOf, RecordableEntry, Recordable, longestFile, clockWidth, portAt, wordAt, recordedClockLimit}
 use Rattle.recording.specs.Reader.{clockOf, portOf, wordOf, isThere, entryOf, entriesOf}
 use Rattle.recording.proofs.Sums.{sum-within}
 use Rattle.recording.proofs.ShapeLaws.{part-lt, longOf, shape-again, shape-length, shape-head, shape-offset, shape-long, shape-body, shape-kind, shape-edition, shape-count, shape-shaped, shape-bytes}
-use Rattle.recording.proofs.ReadLaws.{Taken, taken-there, there-row, entry-there, head-there, entries-length, entries-at}
+use Rattle.recording.proofs.ReadLaws.{Taken, taken-there, there-item, entry-there, head-there, entries-length, entries-at}
 
 -- ---- the file of entries, read
 head-wide : (e : Entry) → length (headOf e) ≡ headWidth
@@ -43,32 +43,32 @@ module _ (x : ℕ → Entry) (n : ℕ) where
   made-byte i k l m =
       sym (part-at made (entryPlace headWidth i) headWidth k m) ∙ ap (λ (r : List ℕ). getD r k 0) (made-head i l)
 
-  made-clock : (i : ℕ) → i < n → x i .clock < 2 ^ 40 → clockOf made i ≡ x i .clock
+  made-clock : (i : ℕ) → i < n → x i .clock < recordedClockLimit → clockOf made i ≡ x i .clock
   unfolding clockOf headOf
   made-clock i l small =
       ap number
-      (ap (λ (k : ℕ). part made k 5) (sym (add-zero (entryPlace headWidth i)))
-      ∙ sym (part-part made (entryPlace headWidth i) headWidth 0 5 (omega arith))
-      ∙ ap (λ (r : List ℕ). part r 0 5) (made-head i l)
-      ∙ part-mid [] (bigEndian 5 (x i .clock)) (x i .port ∷ x i .word ∷ []) 0 5 refl (bigEndian-length 5 (x i .clock)))
-      ∙ number-bigEndian 5 (x i .clock) small
+      (ap (λ (k : ℕ). part made k clockWidth) (sym (add-zero (entryPlace headWidth i)))
+      ∙ sym (part-part made (entryPlace headWidth i) headWidth 0 clockWidth (omega arith))
+      ∙ ap (λ (r : List ℕ). part r 0 clockWidth) (made-head i l)
+      ∙ part-mid [] (bigEndian clockWidth (x i .clock)) (x i .port ∷ x i .word ∷ []) 0 clockWidth refl (bigEndian-length clockWidth (x i .clock)))
+      ∙ number-bigEndian clockWidth (x i .clock) small
 
   made-port : (i : ℕ) → i < n → portOf made i ≡ x i .port
   unfolding portOf headOf bigEndian
-  made-port i l = made-byte i 5 l (lit< tt)
+  made-port i l = made-byte i portAt l (lit< tt)
 
   made-word : (i : ℕ) → i < n → wordOf made i ≡ x i .word
   unfolding wordOf headOf bigEndian
-  made-word i l = made-byte i 6 l (lit< tt)
+  made-word i l = made-byte i wordAt l (lit< tt)
 
-  module _ (each : (i : ℕ) → i < n → RecordableEntry (x i)) (short : length made ≤ 60000) where
-    few : n < 65536
+  module _ (each : (i : ℕ) → i < n → RecordableEntry (x i)) (short : length made ≤ longestFile) where
+    few : n < countLimit
     few = omega (arith, made-length)
 
-    pub small : (i : ℕ) → i < n → longOf entryBody x i < 65536
+    pub small : (i : ℕ) → i < n → longOf entryBody x i < lengthLimit
     small i l = omega (arith, made-length, sum-within (longOf entryBody x) n i l)
 
-    fits : entryPlace headWidth n + sumBelow (longOf entryBody x) n < 2 ^ 32
+    fits : entryPlace headWidth n + sumBelow (longOf entryBody x) n < offsetLimit
     fits = omega (arith, made-length)
 
     made-count : countOf made ≡ n
@@ -107,7 +107,7 @@ module _ (x : ℕ → Entry) (n : ℕ) where
     made-bytes =
         shape-bytes 1 1 headWidth headOf entryBody head-wide x n (lit< tt) (lit< tt)
         (λ i l.
-        append-bytes (bigEndian 5 (x i .clock)) (x i .port ∷ x i .word ∷ []) (bigEndian-bytes 5 (x i .clock))
+        append-bytes (bigEndian clockWidth (x i .clock)) (x i .port ∷ x i .word ∷ []) (bigEndian-bytes clockWidth (x i .clock))
         (cons-bytes (x i .port) (x i .word ∷ []) (each i l .port) (cons-bytes (x i .word) [] (omega (arith, each i l .word)) nil-bytes)))
         (λ i l. each i l .body)
 
@@ -129,11 +129,11 @@ module _ (f : List ℕ) (b : Bytes f) (t : Taken f) where
   unfolding clockOf portOf
   read-entry i l =
       let there = taken-there f t i l in
-      let row = there-row f i there in
+      let item = there-item f i there in
       rw (entry-there f i there)
       record {
-        clock = part-lt f (entryPlace headWidth i) 5 b (omega arith);
-        port = b (entryPlace headWidth i + 5);
+        clock = part-lt f (entryPlace headWidth i) clockWidth b (omega arith);
+        port = b (entryPlace headWidth i + portAt);
         word = t .words i l;
         body = part-bytes f (offsetOf headWidth f i) (lengthOf headWidth f i) b;
       }
@@ -144,5 +144,5 @@ module _ (f : List ℕ) (b : Bytes f) (t : Taken f) where
         each = λ i l.
             let m : i < countOf f = subst (λ (k : ℕ). i < k) (entries-length f) l in
             subst RecordableEntry (sym (entries-at f i m)) (read-entry i m);
-        short = subst (λ (g : List ℕ). length g ≤ 60000) (sym again) (t .short);
+        short = subst (λ (g : List ℕ). length g ≤ longestFile) (sym again) (t .short);
       }

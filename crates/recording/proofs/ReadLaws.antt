@@ -18,8 +18,8 @@ use Rattle.octets.proofs.Index.{and-left, and-right, and-both, and-no, and-yes,
 use Rattle.octets.proofs.Listed.{here, past, allGive, refuses, rows-passed, none-first}
 use Rattle.octets.proofs.ListOf.{listOf-length, listOf-at}
 use Rattle.octets.proofs.Part.{part-again, part-one, part-length}
-use Rattle.recording.specs.Shape.{entryPlace, kindOf, editionOf, countOf, offsetOf, lengthOf, runningPlace, offsetsRight, endRight}
-use Rattle.recording.specs.Format.{headWidth, headOf, noEntry}
+use Rattle.recording.specs.Shape.{entryPlace, kindOf, editionOf, countOf, offsetOf, lengthOf, runningPlace, offsetsRight, endRight, contentsStart, longestBody}
+use Rattle.recording.specs.Format.{headWidth, headOf, noEntry, longestFile, clockWidth, portAt, wordAt}
 use Rattle.recording.specs.Reader.{clockOf, portOf, wordOf, lengthWrong, kindWrong, placesWrong, wordsWrong, fileRows, fileRefusal, isThere, noFields, fieldsOf, bodyOf, entryOf, entriesOf}
 use Rattle.recording.specs.Steps.{contentsRows}
 use Rattle.recording.proofs.Ors.{or-turn}
@@ -32,23 +32,23 @@ stands f i = eqb (offsetOf headWidth f i) (runningPlace headWidth f i)
 
 -- ---- each refusal, in the rows' order
 module _ (f : List ℕ) where
-  pub too-long : 60000 < length f → lengthWrong f ≡ true
+  pub too-long : longestFile < length f → lengthWrong f ≡ true
   unfolding lengthWrong
-  too-long l = or-left _ (lt-ltb 60000 (length f) l)
+  too-long l = or-left _ (lt-ltb longestFile (length f) l)
 
-  pub too-short : length f < 4 → lengthWrong f ≡ true
+  pub too-short : length f < contentsStart → lengthWrong f ≡ true
   unfolding lengthWrong
-  too-short l = or-right _ (or-left _ (lt-ltb (length f) 4 l))
+  too-short l = or-right _ (or-left _ (lt-ltb (length f) contentsStart l))
 
   pub contents-cut : length f < entryPlace headWidth (countOf f) → lengthWrong f ≡ true
   unfolding lengthWrong
   contents-cut l = or-right _ (or-right _ (lt-ltb (length f) (entryPlace headWidth (countOf f)) l))
 
-  pub length-right : length f ≤ 60000 → 4 ≤ length f → entryPlace headWidth (countOf f) ≤ length f → lengthWrong f ≡ false
+  pub length-right : length f ≤ longestFile → contentsStart ≤ length f → entryPlace headWidth (countOf f) ≤ length f → lengthWrong f ≡ false
   unfolding lengthWrong
   length-right l m k =
-      or-no (le-ltb 60000 (length f) l)
-      (or-no (le-ltb (length f) 4 m) (le-ltb (length f) (entryPlace headWidth (countOf f)) k))
+      or-no (le-ltb longestFile (length f) l)
+      (or-no (le-ltb (length f) contentsStart m) (le-ltb (length f) (entryPlace headWidth (countOf f)) k))
 
   pub other-kind : (kindOf f ≡ 1 → ⊥) → kindWrong f ≡ true
   unfolding kindWrong
@@ -101,13 +101,13 @@ module _ (f : List ℕ) where
     contents-taken e = none-first (contentsRows f) 0 (p, (e, tt))
 
 -- ---- the loop over the contents, where it has passed i entries: no offset was wrong, and `words` is the OR of their signature words
-pub record Passed (f : List ℕ) (words place i : ℕ) : Type 0 where
+pub record EntriesPassed (f : List ℕ) (words place i : ℕ) : Type 0 where
   pub within : i ≤ countOf f
   pub running : place ≡ runningPlace headWidth f i
   pub offsets : allBelow (stands f) i ≡ true
   pub small : ltb words 2 ≡ allBelow (λ j. ltb (wordOf f j) 2) i
 
-pub passed-none : (f : List ℕ) (place : ℕ) → place ≡ entryPlace headWidth (countOf f) → Passed f 0 place 0
+pub passed-none : (f : List ℕ) (place : ℕ) → place ≡ entryPlace headWidth (countOf f) → EntriesPassed f 0 place 0
 unfolding runningPlace allBelow
 passed-none f place e =
     record {
@@ -117,8 +117,8 @@ passed-none f place e =
       small = refl;
     }
 
-module _ {f : List ℕ} {words place i : ℕ} (p : Passed f words place i) where
-  pub passed-more : i < countOf f → offsetOf headWidth f i ≡ place → Passed f (bitOr words (wordOf f i)) (place + lengthOf headWidth f i) (i + 1)
+module _ {f : List ℕ} {words place i : ℕ} (p : EntriesPassed f words place i) where
+  pub passed-more : i < countOf f → offsetOf headWidth f i ≡ place → EntriesPassed f (bitOr words (wordOf f i)) (place + lengthOf headWidth f i) (i + 1)
   unfolding runningPlace
   passed-more l e =
       record {
@@ -128,11 +128,11 @@ module _ {f : List ℕ} {words place i : ℕ} (p : Passed f words place i) where
         small = or-turn 1 (wordOf f) i words (p .small);
       }
 
-  pub passed-lt : Bytes f → entryPlace headWidth (countOf f) ≤ length f → place ≤ entryPlace headWidth (countOf f) + 65535 * i
+  pub passed-lt : Bytes f → entryPlace headWidth (countOf f) ≤ length f → place ≤ entryPlace headWidth (countOf f) + longestBody * i
   unfolding runningPlace
   passed-lt b h =
-      let each : (j : ℕ) → j < i → lengthOf headWidth f j ≤ 65535 = λ j l. le-of-suc-le-suc (length-lt headWidth f j b (omega (arith, p .within))) in
-      omega (arith, p .running, sum-bound (lengthOf headWidth f) 65535 i each)
+      let each : (j : ℕ) → j < i → lengthOf headWidth f j ≤ longestBody = λ j l. le-of-suc-le-suc (length-lt headWidth f j b (omega (arith, p .within))) in
+      omega (arith, p .running, sum-bound (lengthOf headWidth f) longestBody i each)
 
   pub passed-wrong : i < countOf f → (offsetOf headWidth f i ≡ place → ⊥) → firstOf (contentsRows f) 0 ≡ 22
   passed-wrong l ne = refused-place f (offset-wrong f i l (λ q. ne (q ∙ sym (p .running))))
@@ -168,7 +168,7 @@ module _ {f : List ℕ} {words place i : ℕ} (p : Passed f words place i) where
 
 -- ---- what a file that the reader takes is
 pub record Taken (f : List ℕ) : Type 0 where
-  pub short : length f ≤ 60000
+  pub short : length f ≤ longestFile
   pub shaped : Shaped headWidth f
   pub kind : kindOf f ≡ 1
   pub edition : editionOf f ≡ 1
@@ -187,10 +187,10 @@ module _ (f : List ℕ) where
       let kinds = not-false _ k in
       let places = not-false _ p in
       record {
-        short = ltb-false 60000 (length f) (or-no-left _ _ a);
+        short = ltb-false longestFile (length f) (or-no-left _ _ a);
         shaped =
             record {
-              start = ltb-false (length f) 4 (or-no-left _ _ long);
+              start = ltb-false (length f) contentsStart (or-no-left _ _ long);
               whole = ltb-false (length f) (entryPlace headWidth (countOf f)) (or-no-right _ _ long);
               offsets = λ i l. eqb-true _ _ (all-at (stands f) (countOf f) i (and-left _ _ places) l);
               ends = eqb-true _ _ (and-right _ _ places);
@@ -216,9 +216,9 @@ module _ (f : List ℕ) (i : ℕ) where
   not-counted l = and-no _ (le-ltb i (countOf f) l)
 
   module _ (l : i < countOf f) where
-    pub row-outside : length f < entryPlace headWidth (i + 1) → isThere f i ≡ false
+    pub item-outside : length f < entryPlace headWidth (i + 1) → isThere f i ≡ false
     unfolding isThere
-    row-outside m = and-yes _ (lt-ltb i (countOf f) l) ∙ and-no _ (lt-leb (entryPlace headWidth (i + 1)) (length f) m)
+    item-outside m = and-yes _ (lt-ltb i (countOf f) l) ∙ and-no _ (lt-leb (entryPlace headWidth (i + 1)) (length f) m)
 
     module _ (m : entryPlace headWidth (i + 1) ≤ length f) where
       pub body-outside : length f < offsetOf headWidth f i + lengthOf headWidth f i → isThere f i ≡ false
@@ -258,9 +258,9 @@ module _ (f : List ℕ) (i : ℕ) where
   body-length = part-length f (fieldsOf f i .start) (fieldsOf f i .length) fields-within
 
   module _ (e : isThere f i ≡ true) where
-    pub there-row : entryPlace headWidth (i + 1) ≤ length f
+    pub there-item : entryPlace headWidth (i + 1) ≤ length f
     unfolding isThere
-    there-row = leb-true _ _ (and-left _ _ (and-right _ _ e))
+    there-item = leb-true _ _ (and-left _ _ (and-right _ _ e))
 
     pub entry-there : entryOf f i
         ≡ record { clock = clockOf f i; port = portOf f i; word = wordOf f i; body = part f (offsetOf headWidth f i) (lengthOf headWidth f i) }
@@ -272,10 +272,10 @@ module _ (f : List ℕ) (i : ℕ) where
     head-there b =
         let at : ℕ = entryPlace headWidth i in
         ap headOf entry-there
-        ∙ ap₂ (λ (p q : List ℕ). p ++ q) (part-again f at 5 b (omega (arith, there-row)))
-        (ap₂ (λ (p q : List ℕ). p ++ q) (sym (part-one f (at + 5) (omega (arith, there-row)))) (sym (part-one f (at + 6) (omega (arith, there-row)))))
-        ∙ ap (λ (k : ℕ). part f at 5 ++ (part f (at + 5) 1 ++ part f k 1)) (sym (add-assoc at 5 1))
-        ∙ part-three f at 5 1 1
+        ∙ ap₂ (λ (p q : List ℕ). p ++ q) (part-again f at clockWidth b (omega (arith, there-item)))
+        (ap₂ (λ (p q : List ℕ). p ++ q) (sym (part-one f (at + portAt) (omega (arith, there-item)))) (sym (part-one f (at + wordAt) (omega (arith, there-item)))))
+        ∙ ap (λ (k : ℕ). part f at clockWidth ++ (part f (at + portAt) 1 ++ part f k 1)) (sym (add-assoc at clockWidth 1))
+        ∙ part-three f at clockWidth 1 1
 
 -- ---- the list of entries, of any bytes
 module _ (f : List ℕ) where

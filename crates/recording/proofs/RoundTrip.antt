@@ -18,7 +18,7 @@ use Rattle.octets.specs.Index.{listOf}
 use Rattle.octets.specs.Part.{patch, joined}
 use Rattle.octets.proofs.ListOf.{listOf-getD}
 use Rattle.recording.specs.Shape.{entryPlace, countOf}
-use Rattle.recording.specs.Format.{Entry, headWidth, entryBody, fileOf, RecordableEntry, noEntry, Recordable}
+use Rattle.recording.specs.Format.{Entry, headWidth, entryBody, fileOf, RecordableEntry, noEntry, Recordable, longestFile}
 use Rattle.recording.specs.Reader.{fileRefusal, fieldsOf, entriesOf}
 use Rattle.recording.specs.Writer.{givenEntries, givenOf, bodiesOf, fileLength, writingRefusal, writing}
 use Rattle.recording.specs.declared.Fields.{Fields}
@@ -44,8 +44,8 @@ file-size es =
     ∙ ap (λ (s : List Entry). entryPlace headWidth (length es) + length (joined entryBody s)) (listed es)
 
 module _ (es : List Entry) (r : Recordable es) where
-  listed-short : length (fileOf (listOf (entryAt es) (length es))) ≤ 60000
-  listed-short = subst (λ (s : List Entry). length (fileOf s) ≤ 60000) (sym (listed es)) (r .short)
+  listed-short : length (fileOf (listOf (entryAt es) (length es))) ≤ longestFile
+  listed-short = subst (λ (s : List Entry). length (fileOf s) ≤ longestFile) (sym (listed es)) (r .short)
 
   pub file-taken : fileRefusal (fileOf es) ≡ 0
   file-taken =
@@ -67,7 +67,7 @@ module _ (f : List ℕ) (b : Bytes f) (e : fileRefusal f ≡ 0) where
   entries-recordable = read-recordable f b (taken f e)
 
 -- ---- the calls: entries that can be recorded, given to the writer
-made-written : (x : ℕ → Entry) (n : ℕ) → ((i : ℕ) → i < n → RecordableEntry (x i)) → length (fileOf (listOf x n)) ≤ 60000
+made-written : (x : ℕ → Entry) (n : ℕ) → ((i : ℕ) → i < n → RecordableEntry (x i)) → length (fileOf (listOf x n)) ≤ longestFile
     → (room : List ℕ) → length (fileOf (listOf x n)) ≤ length room
     → writing (givenOf (listOf x n)) (bodiesOf (listOf x n)) room
     ≡ record { answer = record { refusal = 0; length = length (fileOf (listOf x n)) }; room = patch room 0 (fileOf (listOf x n)) }

@@ -101,8 +101,8 @@ module _ {A : Type 0} (code : A → List ℕ) (x : ℕ → A) where
         ∙ sym (part-split t base (sumBelow long n) (long n))
 
   -- the same where all have one width
-  pub joined-rows : (t : List ℕ) (base w n : ℕ) → ((i : ℕ) → i < n → code (x i) ≡ part t (base + w * i) w) → joined code (listOf x n) ≡ part t base (w * n)
-  joined-rows t base w n e =
+  pub joined-items : (t : List ℕ) (base w n : ℕ) → ((i : ℕ) → i < n → code (x i) ≡ part t (base + w * i) w) → joined code (listOf x n) ≡ part t base (w * n)
+  joined-items t base w n e =
       joined-cut t base (λ i. w) n (λ i l. e i l ∙ ap (λ (k : ℕ). part t (base + k) w) (sym (sum-const w i)))
       ∙ ap (part t base) (sum-const w n)
 
@@ -134,8 +134,8 @@ module _ {A : Type 0} (code : A → List ℕ) (x : ℕ → A) where
       (eq-or-lt-of-le (le-of-suc-le-suc l))
 
   -- the same where all have one width
-  pub joined-row : (w n i : ℕ) → ((j : ℕ) → length (code (x j)) ≡ w) → i < n → part (joined code (listOf x n)) (w * i) w ≡ code (x i)
-  joined-row w n i wide l =
+  pub joined-item : (w n i : ℕ) → ((j : ℕ) → length (code (x j)) ≡ w) → i < n → part (joined code (listOf x n)) (w * i) w ≡ code (x i)
+  joined-item w n i wide l =
       ap₂ (part (joined code (listOf x n)))
       (sym (sum-cong (λ j. length (code (x j))) (λ j. w) i (λ j m. wide j) ∙ sum-const w i)) (sym (wide i))
       ∙ joined-found n i l

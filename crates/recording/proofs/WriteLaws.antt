@@ -1,5 +1,5 @@
 -- The laws of writing: each refusal, what the writer takes, and what its code leaves.
-use Prim.Native.Nat.{ℕ, zero, suc, _+_, _-_, _*_, _/_, _%_, _^_, _≤_, _<_, zero-le}
+use Prim.Native.Nat.{ℕ, zero, suc, _+_, _-_, _*_, _/_, _%_, _≤_, _<_, zero-le}
 use native.Mathlib.Nat.{le-antisymm, le-of-suc-le-suc, zero-add, add-suc, add-assoc, mul-div-le, div-add-mod}
 use native.Mathlib.Numerals.{add-one}
 use native.Mathlib.Omega.{arith}
@@ -23,23 +23,23 @@ use Rattle.octets.proofs.Choice.{then-true, then-false, or-left, or-right, or-n
 use Rattle.octets.proofs.Index.{and-left, and-right, and-both, and-no, and-yes, all-at, all-intro}
 use Rattle.octets.proofs.Listed.{here, past, allGive, refuses, rest-alike, rows-passed, none-first}
 use Rattle.octets.proofs.Part.{part-split, part-one, part-again, part-length, part-whole, patch-join}
-use Rattle.recording.specs.Shape.{entryPlace, rowOf, sumBelow}
-use Rattle.recording.specs.Format.{recordingKind, recordingEdition, headWidth, headOf, entryBody, fileOf}
-use Rattle.recording.specs.Writer.{givenWidth, givenCount, givenClock, givenPort, givenWord, givenLength, givenStart, givenEntry, givenEntries, givenWordsWrong, givenClocksWrong, addUp, fileLength, writingRows, writingRefusal, writing}
-use Rattle.recording.specs.Steps.{headRows, lengthRows, startBytes, copiedRow, copiedRows}
+use Rattle.recording.specs.Shape.{entryPlace, itemOf, sumBelow, countAt, countWidth, contentsStart, offsetWidth, lengthWidth, lengthLimit, longestBody}
+use Rattle.recording.specs.Format.{recordingKind, recordingEdition, headWidth, headOf, entryBody, fileOf, longestFile, clockWidth, wordAt, lengthAt, entryWidth, mostEntries, clockBits, recordedClockLimit}
+use Rattle.recording.specs.Writer.{givenWidth, givenCount, givenClock, givenPort, givenWord, givenLength, givenStart, givenEntry, givenEntries, givenWordsWrong, givenClocksWrong, addUp, fileLength, writingRows, writingRefusal, writing, givenPortAt, givenWordAt, givenLengthAt, givenHeadAt}
+use Rattle.recording.specs.Steps.{headRows, lengthRows, startBytes, copiedItem, copiedItems}
 use Rattle.recording.proofs.Sums.{sum-none, sum-more, sum-bound, sum-within, sum-cong, sum-const, joined-cong, joined-none, joined-more, joined-cut, joined-sum, patch-three}
 use Rattle.recording.proofs.Ors.{or-turn}
 use Rattle.recording.proofs.ShapeLaws.{part-lt, longOf, placeOf, shape-listOf, part-three}
 
 -- ---- the whole entries that are given
 module _ (g : List ℕ) where
-  pub given-within : (i : ℕ) → i < givenCount g → givenWidth * i + 12 ≤ length g
+  pub given-within : (i : ℕ) → i < givenCount g → givenWidth * i + givenWidth ≤ length g
   unfolding givenCount
-  given-within i l = omega (arith, mul-div-le (length g) 12)
+  given-within i l = omega (arith, mul-div-le (length g) givenWidth)
 
   pub given-whole : length g % givenWidth ≡ 0 → length g ≡ givenWidth * givenCount g
   unfolding givenCount
-  given-whole e = omega (arith, div-add-mod (length g) 12)
+  given-whole e = omega (arith, div-add-mod (length g) givenWidth)
 
   pub given-start-more : (i : ℕ) → givenStart g i + givenLength g i ≡ givenStart g (i + 1)
   unfolding givenStart
@@ -49,13 +49,13 @@ module _ (g : List ℕ) where
   unfolding givenStart
   given-start-none = sym (sum-none (givenLength g))
 
-  pub given-long : (i : ℕ) → Bytes g → i < givenCount g → givenLength g i < 65536
+  pub given-long : (i : ℕ) → Bytes g → i < givenCount g → givenLength g i < lengthLimit
   unfolding givenLength
-  given-long i b l = part-lt g (givenWidth * i + 10) 2 b (omega (arith, given-within i l))
+  given-long i b l = part-lt g (givenWidth * i + givenLengthAt) lengthWidth b (omega (arith, given-within i l))
 
-  pub given-start-most : (i : ℕ) → Bytes g → i ≤ givenCount g → givenStart g i ≤ 65535 * i
+  pub given-start-most : (i : ℕ) → Bytes g → i ≤ givenCount g → givenStart g i ≤ longestBody * i
   unfolding givenStart
-  given-start-most i b l = sum-bound (givenLength g) 65535 i (λ j m. le-of-suc-le-suc (given-long j b (omega arith)))
+  given-start-most i b l = sum-bound (givenLength g) longestBody i (λ j m. le-of-suc-le-suc (given-long j b (omega arith)))
 
 -- ---- each refusal, in the rows' order
 module _ (g bodies : List ℕ) where
@@ -77,21 +77,21 @@ module _ (g bodies : List ℕ) (room : ℕ) where
   pub refused-apart : addUp g bodies ≡ false → firstOf (lengthRows g bodies room) 0 ≡ 20
   refused-apart e = here _ 20 _ 0 (or-left _ (ap not e))
 
-  pub refused-long : 60000 < fileLength g bodies → firstOf (lengthRows g bodies room) 0 ≡ 20
-  refused-long l = here _ 20 _ 0 (or-right (not (addUp g bodies)) (lt-ltb 60000 (fileLength g bodies) l))
+  pub refused-long : longestFile < fileLength g bodies → firstOf (lengthRows g bodies room) 0 ≡ 20
+  refused-long l = here _ 20 _ 0 (or-right (not (addUp g bodies)) (lt-ltb longestFile (fileLength g bodies) l))
 
-  pub refused-many : 4615 < givenCount g → firstOf (lengthRows g bodies room) 0 ≡ 20
+  pub refused-many : mostEntries < givenCount g → firstOf (lengthRows g bodies room) 0 ≡ 20
   unfolding fileLength
   refused-many l = refused-long (omega arith)
 
-  module _ (a : addUp g bodies ≡ true) (s : fileLength g bodies ≤ 60000) where
+  module _ (a : addUp g bodies ≡ true) (s : fileLength g bodies ≤ longestFile) where
     pub refused-room : room < fileLength g bodies → firstOf (lengthRows g bodies room) 0 ≡ 25
-    refused-room l = past _ 20 _ 0 (or-no (ap not a) (le-ltb 60000 (fileLength g bodies) s)) ∙ here _ 25 _ 0 (lt-ltb room (fileLength g bodies) l)
+    refused-room l = past _ 20 _ 0 (or-no (ap not a) (le-ltb longestFile (fileLength g bodies) s)) ∙ here _ 25 _ 0 (lt-ltb room (fileLength g bodies) l)
 
     pub lengths-taken : fileLength g bodies ≤ room → firstOf (lengthRows g bodies room) 0 ≡ 0
     lengths-taken l =
         none-first (lengthRows g bodies room) 0
-        (or-no (ap not a) (le-ltb 60000 (fileLength g bodies) s), (le-ltb room (fileLength g bodies) l, tt))
+        (or-no (ap not a) (le-ltb longestFile (fileLength g bodies) s), (le-ltb room (fileLength g bodies) l, tt))
 
 -- rows 23 and 5 decide, or those below them do
 module _ (g bodies : List ℕ) (room : ℕ) where
@@ -110,7 +110,7 @@ module _ (g bodies : List ℕ) (room : ℕ) where
 pub record HeadsPassed (g : List ℕ) (words clocks i : ℕ) : Type 0 where
   pub within : i ≤ givenCount g
   pub smallWords : ltb words 2 ≡ allBelow (λ j. ltb (givenWord g j) 2) i
-  pub smallClocks : ltb clocks (2 ^ 40) ≡ allBelow (λ j. ltb (givenClock g j) (2 ^ 40)) i
+  pub smallClocks : ltb clocks recordedClockLimit ≡ allBelow (λ j. ltb (givenClock g j) recordedClockLimit) i
 
 pub heads-none : (g : List ℕ) → HeadsPassed g 0 0 0
 unfolding allBelow
@@ -122,7 +122,7 @@ module _ {g : List ℕ} {words clocks i : ℕ} (p : HeadsPassed g words clocks i
       record {
         within = omega arith;
         smallWords = or-turn 1 (givenWord g) i words (p .smallWords);
-        smallClocks = or-turn 40 (givenClock g) i clocks (p .smallClocks);
+        smallClocks = or-turn clockBits (givenClock g) i clocks (p .smallClocks);
       }
 
   module _ (l : givenCount g ≤ i) where
@@ -130,9 +130,9 @@ module _ {g : List ℕ} {words clocks i : ℕ} (p : HeadsPassed g words clocks i
     unfolding givenWordsWrong
     words-decide = ap not (sym (p .smallWords ∙ ap (allBelow (λ j. ltb (givenWord g j) 2)) (le-antisymm (p .within) l)))
 
-    clocks-decide : givenClocksWrong g ≡ not (ltb clocks (2 ^ 40))
+    clocks-decide : givenClocksWrong g ≡ not (ltb clocks recordedClockLimit)
     unfolding givenClocksWrong
-    clocks-decide = ap not (sym (p .smallClocks ∙ ap (allBelow (λ j. ltb (givenClock g j) (2 ^ 40))) (le-antisymm (p .within) l)))
+    clocks-decide = ap not (sym (p .smallClocks ∙ ap (allBelow (λ j. ltb (givenClock g j) recordedClockLimit)) (le-antisymm (p .within) l)))
 
     pub refused-word : 1 < words → firstOf (headRows g) 0 ≡ 23
     refused-word h = here _ 23 _ 0 (words-decide ∙ ap not (le-ltb words 2 h))
@@ -141,19 +141,19 @@ module _ {g : List ℕ} {words clocks i : ℕ} (p : HeadsPassed g words clocks i
       words-small : givenWordsWrong g ≡ false
       words-small = words-decide ∙ ap not (lt-ltb words 2 (omega arith))
 
-      pub refused-clock : 2 ^ 40 ≤ clocks → firstOf (headRows g) 0 ≡ 5
-      refused-clock k = past _ 23 _ 0 words-small ∙ here _ 5 _ 0 (clocks-decide ∙ ap not (le-ltb clocks (2 ^ 40) k))
+      pub refused-clock : recordedClockLimit ≤ clocks → firstOf (headRows g) 0 ≡ 5
+      refused-clock k = past _ 23 _ 0 words-small ∙ here _ 5 _ 0 (clocks-decide ∙ ap not (le-ltb clocks recordedClockLimit k))
 
-      pub heads-taken : clocks < 2 ^ 40 → firstOf (headRows g) 0 ≡ 0
-      heads-taken k = none-first (headRows g) 0 (words-small, (clocks-decide ∙ ap not (lt-ltb clocks (2 ^ 40) k), tt))
+      pub heads-taken : clocks < recordedClockLimit → firstOf (headRows g) 0 ≡ 0
+      heads-taken k = none-first (headRows g) 0 (words-small, (clocks-decide ∙ ap not (lt-ltb clocks recordedClockLimit k), tt))
 
 -- ---- what the writer takes
 pub record Writable (g bodies : List ℕ) (room : ℕ) : Type 0 where
   pub words : (i : ℕ) → i < givenCount g → givenWord g i < 2
-  pub clocks : (i : ℕ) → i < givenCount g → givenClock g i < 2 ^ 40
+  pub clocks : (i : ℕ) → i < givenCount g → givenClock g i < recordedClockLimit
   pub whole : length g % givenWidth ≡ 0
   pub adds : givenStart g (givenCount g) ≡ length bodies
-  pub short : fileLength g bodies ≤ 60000
+  pub short : fileLength g bodies ≤ longestFile
   pub roomy : fileLength g bodies ≤ room
 
 module _ (g bodies : List ℕ) (room : ℕ) where
@@ -168,10 +168,10 @@ module _ (g bodies : List ℕ) (room : ℕ) where
       let up = not-false _ (or-no-left _ _ a) in
       record {
         words = λ i l. ltb-true (givenWord g i) 2 (all-at (λ j. ltb (givenWord g j) 2) (givenCount g) i (not-false _ v) l);
-        clocks = λ i l. ltb-true (givenClock g i) (2 ^ 40) (all-at (λ j. ltb (givenClock g j) (2 ^ 40)) (givenCount g) i (not-false _ c) l);
+        clocks = λ i l. ltb-true (givenClock g i) recordedClockLimit (all-at (λ j. ltb (givenClock g j) recordedClockLimit) (givenCount g) i (not-false _ c) l);
         whole = eqb-true _ 0 (and-left _ _ up);
         adds = eqb-true _ _ (and-right _ _ up);
-        short = ltb-false 60000 (fileLength g bodies) (or-no-right _ _ a);
+        short = ltb-false longestFile (fileLength g bodies) (or-no-right _ _ a);
         roomy = ltb-false room (fileLength g bodies) r;
       }
 
@@ -179,11 +179,12 @@ module _ (g bodies : List ℕ) (room : ℕ) where
   unfolding givenWordsWrong givenClocksWrong
   writes w =
       let words = ap not (all-intro (λ i. ltb (givenWord g i) 2) (givenCount g) (λ i l. lt-ltb (givenWord g i) 2 (w .words i l))) in
-      let clocks = ap not (all-intro (λ i. ltb (givenClock g i) (2 ^ 40)) (givenCount g) (λ i l. lt-ltb (givenClock g i) (2 ^ 40) (w .clocks i l))) in
+      let clocks = ap not (all-intro (λ i. ltb (givenClock g i) recordedClockLimit) (givenCount g)
+      (λ i l. lt-ltb (givenClock g i) recordedClockLimit (w .clocks i l))) in
       lengths-decide g bodies room (past _ 23 _ 0 words ∙ past _ 5 [] 0 clocks ∙ none-first [] 0 tt)
       ∙ lengths-taken g bodies room (add-up g bodies (w .whole) (w .adds)) (w .short) (w .roomy)
 
-pub written-few : {g bodies : List ℕ} {room : ℕ} → Writable g bodies room → givenCount g < 4616
+pub written-few : {g bodies : List ℕ} {room : ℕ} → Writable g bodies room → givenCount g ≤ mostEntries
 unfolding fileLength
 written-few w = omega (arith, w .short)
 
@@ -217,21 +218,22 @@ low-again t k (suc n) b h =
     ∙ ap (part t k) (add-one n)
 
 module _ (g bodies : List ℕ) (b : Bytes g) where
-  low-clock : (i : ℕ) → i < givenCount g → bigEndian 5 (givenClock g i) ≡ part g (givenWidth * i + 3) 5
+  low-clock : (i : ℕ) → i < givenCount g → bigEndian clockWidth (givenClock g i) ≡ part g (givenWidth * i + givenHeadAt) clockWidth
   unfolding givenClock part
   low-clock i l =
-      low-again (drop (givenWidth * i) g) 3 5 (drop-bytes (givenWidth * i) g b) (rw length-drop (omega (arith, given-within g i l)))
-      ∙ ap (λ (r : List ℕ). take 5 r) (drop-drop 3 (givenWidth * i) g)
+      low-again (drop (givenWidth * i) g) givenHeadAt clockWidth (drop-bytes (givenWidth * i) g b) (rw length-drop (omega (arith, given-within g i l)))
+      ∙ ap (λ (r : List ℕ). take clockWidth r) (drop-drop givenHeadAt (givenWidth * i) g)
 
-  pub head-given : (i : ℕ) → i < givenCount g → headOf (givenEntry g bodies i) ≡ part g (givenWidth * i + 3) 7
+  pub head-given : (i : ℕ) → i < givenCount g → headOf (givenEntry g bodies i) ≡ part g (givenWidth * i + givenHeadAt) headWidth
   unfolding headOf givenEntry givenPort givenWord
   head-given i l =
       let at : ℕ = givenWidth * i in
       ap₂ (λ (p q : List ℕ). p ++ q) (low-clock i l)
       (ap₂ (λ (p q : List ℕ). p ++ q)
-      (sym (part-one g (at + 8) (omega (arith, given-within g i l)))) (sym (part-one g (at + 9) (omega (arith, given-within g i l)))))
-      ∙ ap₂ (λ (j k : ℕ). part g (at + 3) 5 ++ (part g j 1 ++ part g k 1)) (sym (add-assoc at 3 5)) (sym (add-assoc (at + 3) 5 1 ∙ add-assoc at 3 6))
-      ∙ part-three g (at + 3) 5 1 1
+      (sym (part-one g (at + givenPortAt) (omega (arith, given-within g i l)))) (sym (part-one g (at + givenWordAt) (omega (arith, given-within g i l)))))
+      ∙ ap₂ (λ (j k : ℕ). part g (at + givenHeadAt) clockWidth ++ (part g j 1 ++ part g k 1)) (sym (add-assoc at givenHeadAt clockWidth))
+      (sym (add-assoc (at + givenHeadAt) clockWidth 1 ∙ add-assoc at givenHeadAt wordAt))
+      ∙ part-three g (at + givenHeadAt) clockWidth 1 1
 
   module _ (adds : givenStart g (givenCount g) ≡ length bodies) where
     pub body-given : (i : ℕ) → i < givenCount g → longOf entryBody (givenEntry g bodies) i ≡ givenLength g i
@@ -250,24 +252,25 @@ module _ (g bodies : List ℕ) (b : Bytes g) where
         (λ i l. ap (λ (k : ℕ). part bodies k (givenLength g i)) (sym (zero-add (sumBelow (givenLength g) i))))
         ∙ part-whole bodies (sumBelow (givenLength g) (givenCount g)) (sym adds)
 
-    row-given : (at i : ℕ) → i < givenCount g
-        → copiedRow g (at + givenStart g i) i ≡ rowOf headOf entryBody (placeOf entryBody (givenEntry g bodies) at i)
-    unfolding copiedRow rowOf givenLength
-    row-given at i l =
-        let long : part g (givenWidth * i + 10) 2 ≡ bigEndian 2 (longOf entryBody (givenEntry g bodies) i) =
-        sym (part-again g (givenWidth * i + 10) 2 b (omega (arith, given-within g i l))) ∙ ap (bigEndian 2) (sym (body-given i l)) in
-        ap₂ (λ (p q : List ℕ). p ++ (bigEndian 4 (at + givenStart g i) ++ q)) (sym (head-given i l)) long
-        ∙ ap (λ (k : ℕ). headOf (givenEntry g bodies i) ++ (bigEndian 4 (at + k) ++ bigEndian 2 (longOf entryBody (givenEntry g bodies) i)))
+    item-given : (at i : ℕ) → i < givenCount g
+        → copiedItem g (at + givenStart g i) i ≡ itemOf headOf entryBody (placeOf entryBody (givenEntry g bodies) at i)
+    unfolding copiedItem itemOf givenLength
+    item-given at i l =
+        let long : part g (givenWidth * i + givenLengthAt) lengthWidth ≡ bigEndian lengthWidth (longOf entryBody (givenEntry g bodies) i) =
+        sym (part-again g (givenWidth * i + givenLengthAt) lengthWidth b (omega (arith, given-within g i l)))
+        ∙ ap (bigEndian lengthWidth) (sym (body-given i l)) in
+        ap₂ (λ (p q : List ℕ). p ++ (bigEndian offsetWidth (at + givenStart g i) ++ q)) (sym (head-given i l)) long
+        ∙ ap (λ (k : ℕ). headOf (givenEntry g bodies i) ++ (bigEndian offsetWidth (at + k) ++ bigEndian lengthWidth (longOf entryBody (givenEntry g bodies) i)))
         (sym (sum-given i (omega arith)))
 
-    -- count, rows and bodies are the file
-    file-given : startBytes (givenCount g) ++ (copiedRows g (entryPlace headWidth (givenCount g)) (givenCount g) ++ bodies) ≡ fileOf (givenEntries g bodies)
-    unfolding fileOf givenEntries copiedRows
+    -- count, items and bodies are the file
+    file-given : startBytes (givenCount g) ++ (copiedItems g (entryPlace headWidth (givenCount g)) (givenCount g) ++ bodies) ≡ fileOf (givenEntries g bodies)
+    unfolding fileOf givenEntries copiedItems
     file-given =
         let n : ℕ = givenCount g in
         let at : ℕ = entryPlace headWidth n in
-        let rows = joined-cong (λ i. copiedRow g (at + givenStart g i) i) (λ i. i) (rowOf headOf entryBody) (placeOf entryBody (givenEntry g bodies) at) n in
-        ap₂ (λ (p q : List ℕ). startBytes n ++ (p ++ q)) (rows (row-given at)) (sym bodies-given)
+        let items = joined-cong (λ i. copiedItem g (at + givenStart g i) i) (λ i. i) (itemOf headOf entryBody) (placeOf entryBody (givenEntry g bodies) at) n in
+        ap₂ (λ (p q : List ℕ). startBytes n ++ (p ++ q)) (items (item-given at)) (sym bodies-given)
         ∙ sym (shape-listOf recordingKind recordingEdition headWidth headOf entryBody (givenEntry g bodies) n)
 
 -- ---- the code's writes, one after the other, are one
@@ -278,59 +281,63 @@ given-range g from a n =
     let long : from + (a + n) - (from + a) ≡ n = omega arith in
     ap (λ (k : ℕ). take k (drop (from + a) g)) long
 
-pub start-written : (room : List ℕ) (n : ℕ) → 4 ≤ length room
-    → patch (patch (patch room 0 (recordingKind ∷ [])) 1 (recordingEdition ∷ [])) 2 (bigEndian 2 n) ≡ patch room 0 (startBytes n)
+pub start-written : (room : List ℕ) (n : ℕ) → contentsStart ≤ length room
+    → patch (patch (patch room 0 (recordingKind ∷ [])) 1 (recordingEdition ∷ [])) countAt (bigEndian countWidth n) ≡ patch room 0 (startBytes n)
 start-written room n l =
-    patch-three room 0 1 2 (recordingKind ∷ []) (recordingEdition ∷ []) (bigEndian 2 n) refl refl (omega (arith, bigEndian-length 2 n))
+    patch-three room 0 1 countAt (recordingKind ∷ []) (recordingEdition ∷ []) (bigEndian countWidth n) refl refl (omega (arith, bigEndian-length countWidth n))
 
-pub entry-written : (g room : List ℕ) (at offset i : ℕ) → i < givenCount g → at + 13 ≤ length room
-    → patch (patch (patch room at (part g (givenWidth * i + 3) 7)) (at + 7) (bigEndian 4 offset)) (at + 11) (part g (givenWidth * i + 10) 2)
-    ≡ patch room at (copiedRow g offset i)
-unfolding copiedRow
+pub entry-written : (g room : List ℕ) (at offset i : ℕ) → i < givenCount g → at + entryWidth ≤ length room
+    → patch (patch (patch room at (part g (givenWidth * i + givenHeadAt) headWidth)) (at + headWidth) (bigEndian offsetWidth offset)) (at + lengthAt)
+    (part g (givenWidth * i + givenLengthAt) lengthWidth)
+    ≡ patch room at (copiedItem g offset i)
+unfolding copiedItem
 entry-written g room at offset i l h =
     let inside = given-within g i l in
-    let head = part-length g (givenWidth * i + 3) 7 (omega arith) in
-    let long = part-length g (givenWidth * i + 10) 2 (omega arith) in
-    patch-three room at (at + 7) (at + 11) (part g (givenWidth * i + 3) 7) (bigEndian 4 offset) (part g (givenWidth * i + 10) 2)
-    (omega arith) (omega (arith, bigEndian-length 4 offset)) (omega arith)
+    let head = part-length g (givenWidth * i + givenHeadAt) headWidth (omega arith) in
+    let long = part-length g (givenWidth * i + givenLengthAt) lengthWidth (omega arith) in
+    patch-three room at (at + headWidth) (at + lengthAt) (part g (givenWidth * i + givenHeadAt) headWidth) (bigEndian offsetWidth offset)
+    (part g (givenWidth * i + givenLengthAt) lengthWidth)
+    (omega arith) (omega (arith, bigEndian-length offsetWidth offset)) (omega arith)
 
 module _ (g : List ℕ) (at : ℕ) where
-  copied-length : (offset i : ℕ) → i < givenCount g → length (copiedRow g offset i) ≡ 13
-  unfolding copiedRow
+  copied-length : (offset i : ℕ) → i < givenCount g → length (copiedItem g offset i) ≡ entryWidth
+  unfolding copiedItem
   copied-length offset i l =
       let inside = given-within g i l in
-      let head = part-length g (givenWidth * i + 3) 7 (omega arith) in
-      let long = part-length g (givenWidth * i + 10) 2 (omega arith) in
+      let head = part-length g (givenWidth * i + givenHeadAt) headWidth (omega arith) in
+      let long = part-length g (givenWidth * i + givenLengthAt) lengthWidth (omega arith) in
       simp (length-append, bigEndian-length) (omega arith)
 
-  rows-length : (n : ℕ) → n ≤ givenCount g → length (copiedRows g at n) ≡ 13 * n
-  unfolding copiedRows
-  rows-length n l =
-      joined-sum (λ i. copiedRow g (at + givenStart g i) i) (λ i. i) n
-      ∙ sum-cong (λ i. length (copiedRow g (at + givenStart g i) i)) (λ i. 13) n (λ i m. copied-length (at + givenStart g i) i (omega arith))
-      ∙ sum-const 13 n
+  items-length : (n : ℕ) → n ≤ givenCount g → length (copiedItems g at n) ≡ entryWidth * n
+  unfolding copiedItems
+  items-length n l =
+      joined-sum (λ i. copiedItem g (at + givenStart g i) i) (λ i. i) n
+      ∙ sum-cong (λ i. length (copiedItem g (at + givenStart g i) i)) (λ i. entryWidth) n (λ i m. copied-length (at + givenStart g i) i (omega arith))
+      ∙ sum-const entryWidth n
 
-  pub rows-none : (room : List ℕ) → room ≡ patch room 4 (copiedRows g at 0)
-  unfolding copiedRows patch
-  rows-none room =
-      sym (take-append-drop 4 room)
-      ∙ ap (λ (r : List ℕ). take 4 room ++ (r ++ drop (4 + length r) room)) (sym (joined-none (λ i. copiedRow g (at + givenStart g i) i) (λ i. i)))
+  pub items-none : (room : List ℕ) → room ≡ patch room contentsStart (copiedItems g at 0)
+  unfolding copiedItems patch
+  items-none room =
+      sym (take-append-drop contentsStart room)
+      ∙ ap (λ (r : List ℕ). take contentsStart room ++ (r ++ drop (contentsStart + length r) room))
+      (sym (joined-none (λ i. copiedItem g (at + givenStart g i) i) (λ i. i)))
 
-  pub rows-more : (room : List ℕ) (i : ℕ) → i < givenCount g → entryPlace headWidth (i + 1) ≤ length room
-      → patch (patch room 4 (copiedRows g at i)) (entryPlace headWidth i) (copiedRow g (at + givenStart g i) i) ≡ patch room 4 (copiedRows g at (i + 1))
-  unfolding copiedRows
-  rows-more room i l m =
-      patch-join room 4 (entryPlace headWidth i) (copiedRows g at i) (copiedRow g (at + givenStart g i) i)
-      (omega (arith, rows-length i (omega arith))) (omega (arith, copied-length (at + givenStart g i) i l))
-      ∙ ap (patch room 4) (sym (joined-more (λ j. copiedRow g (at + givenStart g j) j) (λ j. j) i) ∙ ap (copiedRows g at) (sym (add-one i)))
+  pub items-more : (room : List ℕ) (i : ℕ) → i < givenCount g → entryPlace headWidth (i + 1) ≤ length room
+      → patch (patch room contentsStart (copiedItems g at i)) (entryPlace headWidth i) (copiedItem g (at + givenStart g i) i)
+      ≡ patch room contentsStart (copiedItems g at (i + 1))
+  unfolding copiedItems
+  items-more room i l m =
+      patch-join room contentsStart (entryPlace headWidth i) (copiedItems g at i) (copiedItem g (at + givenStart g i) i)
+      (omega (arith, items-length i (omega arith))) (omega (arith, copied-length (at + givenStart g i) i l))
+      ∙ ap (patch room contentsStart) (sym (joined-more (λ j. copiedItem g (at + givenStart g j) j) (λ j. j) i) ∙ ap (copiedItems g at) (sym (add-one i)))
 
 module _ (g bodies room : List ℕ) (b : Bytes g) (w : Writable g bodies (length room)) where
   -- start, contents and bodies
   pub file-written : (n at : ℕ) → n ≡ givenCount g → at ≡ entryPlace headWidth n
-      → patch (patch (patch room 0 (startBytes n)) 4 (copiedRows g at n)) at bodies ≡ patch room 0 (fileOf (givenEntries g bodies))
+      → patch (patch (patch room 0 (startBytes n)) contentsStart (copiedItems g at n)) at bodies ≡ patch room 0 (fileOf (givenEntries g bodies))
   unfolding fileLength
   file-written n at en ea =
-      patch-three room 0 4 at (startBytes n) (copiedRows g at n) bodies
-      (omega (arith, bigEndian-length 2 n)) (omega (arith, rows-length g at n (omega arith))) (omega (arith, w .roomy))
+      patch-three room 0 contentsStart at (startBytes n) (copiedItems g at n) bodies
+      (omega (arith, bigEndian-length countWidth n)) (omega (arith, items-length g at n (omega arith))) (omega (arith, w .roomy))
       ∙ ap (patch room 0)
-      (ap₂ (λ (k j : ℕ). startBytes k ++ (copiedRows g j k ++ bodies)) en (ea ∙ ap (entryPlace headWidth) en) ∙ file-given g bodies b (w .adds))
+      (ap₂ (λ (k j : ℕ). startBytes k ++ (copiedItems g j k ++ bodies)) en (ea ∙ ap (entryPlace headWidth) en) ∙ file-given g bodies b (w .adds))

@@ -10,18 +10,18 @@ use Rattle.octets.specs.Listed.{Test, _gives_otherwise_, firstOf}
 use Rattle.octets.specs.Part.{part}
 use Rattle.octets.specs.BigEndian.{number}
 use Rattle.recording.specs.Shape.{contentsStart, entryPlace, kindOf, editionOf, countOf, offsetOf, lengthOf, offsetsRight, endRight}
-use Rattle.recording.specs.Format.{Entry, recordingKind, recordingEdition, longestFile, headWidth}
+use Rattle.recording.specs.Format.{Entry, recordingKind, recordingEdition, longestFile, clockWidth, portAt, wordAt, headWidth}
 use Rattle.recording.specs.declared.Fields.{Fields}
 
--- ---- the head of entry i: clock (5), port (1), signature word (1)
+-- ---- the head of entry i
 unfoldable pub clockOf : List ℕ → ℕ → ℕ
-clockOf f i = number (part f (entryPlace headWidth i) 5)
+clockOf f i = number (part f (entryPlace headWidth i) clockWidth)
 
 unfoldable pub portOf : List ℕ → ℕ → ℕ
-portOf f i = getD f (entryPlace headWidth i + 5) 0
+portOf f i = getD f (entryPlace headWidth i + portAt) 0
 
 unfoldable pub wordOf : List ℕ → ℕ → ℕ
-wordOf f i = getD f (entryPlace headWidth i + 6) 0
+wordOf f i = getD f (entryPlace headWidth i + wordAt) 0
 
 -- ---- "Refusals, in order: 20 file too long or shorter than its contents, 21 kind or edition, 22 offset, length or file end that breaks the rule,
 -- 23 signature word"

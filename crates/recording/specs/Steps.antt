@@ -8,9 +8,10 @@ use Rattle.octets.specs.Choice.{_or_}
 use Rattle.octets.specs.Listed.{Test, _gives_otherwise_}
 use Rattle.octets.specs.Part.{part, joined}
 use Rattle.octets.specs.BigEndian.{bigEndian}
-use Rattle.recording.specs.Format.{recordingKind, recordingEdition, longestFile}
+use Rattle.recording.specs.Shape.{countWidth, offsetWidth, lengthWidth}
+use Rattle.recording.specs.Format.{recordingKind, recordingEdition, longestFile, headWidth}
 use Rattle.recording.specs.Reader.{placesWrong, wordsWrong}
-use Rattle.recording.specs.Writer.{givenWidth, givenStart, givenWordsWrong, givenClocksWrong, addUp, fileLength}
+use Rattle.recording.specs.Writer.{givenLengthAt, givenWidth, givenHeadAt, givenStart, givenWordsWrong, givenClocksWrong, addUp, fileLength}
 
 -- the reader's rows 22 and 23, and the writer's 23 and 5, and 20 and 25, by themselves
 abbrev pub contentsRows : List ℕ → List (Test ℕ)
@@ -26,13 +27,14 @@ lengthRows g bodies room =
 
 -- what the writer puts at the start of the file: kind, edition and count
 abbrev pub startBytes : ℕ → List ℕ
-startBytes n = recordingKind ∷ recordingEdition ∷ bigEndian 2 n
+startBytes n = recordingKind ∷ recordingEdition ∷ bigEndian countWidth n
 
 -- what the writer puts into the contents for entry i, whose body it puts at `offset`: the clock's low five bytes, port and signature word as given,
 -- the offset, and the length as given
-unfoldable pub copiedRow : List ℕ → ℕ → ℕ → List ℕ
-copiedRow g offset i = part g (givenWidth * i + 3) 7 ++ (bigEndian 4 offset ++ part g (givenWidth * i + 10) 2)
+unfoldable pub copiedItem : List ℕ → ℕ → ℕ → List ℕ
+copiedItem g offset i =
+    part g (givenWidth * i + givenHeadAt) headWidth ++ (bigEndian offsetWidth offset ++ part g (givenWidth * i + givenLengthAt) lengthWidth)
 
 -- the same for the first n entries, the first body at `at`
-unfoldable pub copiedRows : List ℕ → ℕ → ℕ → List ℕ
-copiedRows g at n = joined (λ i. copiedRow g (at + givenStart g i) i) (listOf (λ i. i) n)
+unfoldable pub copiedItems : List ℕ → ℕ → ℕ → List ℕ
+copiedItems g at n = joined (λ i. copiedItem g (at + givenStart g i) i) (listOf (λ i. i) n)

@@ -1,6 +1,6 @@
 -- Document 02, Wish 1: writing a recording. The writer is given the entries as bytes of one width, clock (8), port (1), signature word (1), length (2),
 -- big-endian too, and the bodies one after another in a second slice.
-use Prim.Native.Nat.{ℕ, _+_, _*_, _/_, _%_, _^_}
+use Prim.Native.Nat.{ℕ, _+_, _-_, _*_, _/_, _%_}
 use mathlib.Core.Bool.{Bool, not}
 use mathlib.Core.List.{List, [], _∷_, _++_}
 use lib.Dec.{eqb, ltb}
@@ -10,28 +10,44 @@ use Rattle.octets.specs.Choice.{_or_, _then_otherwise_}
 use Rattle.octets.specs.Listed.{Test, _gives_otherwise_, firstOf}
 use Rattle.octets.specs.Part.{part, patch, joined}
 use Rattle.octets.specs.BigEndian.{number, bigEndian}
-use Rattle.recording.specs.Shape.{entryPlace, sumBelow}
-use Rattle.recording.specs.Format.{Entry, longestFile, headWidth, entryBody, fileOf}
+use Rattle.recording.specs.Shape.{lengthWidth, entryPlace, sumBelow}
+use Rattle.recording.specs.Format.{Entry, longestFile, clockWidth, headWidth, recordedClockLimit, entryBody, fileOf}
 use Rattle.recording.specs.declared.Written.{Written}
 
+abbrev pub givenClockWidth : ℕ
+givenClockWidth = 8
+
+abbrev pub givenPortAt : ℕ
+givenPortAt = givenClockWidth
+
+abbrev pub givenWordAt : ℕ
+givenWordAt = givenPortAt + 1
+
+abbrev pub givenLengthAt : ℕ
+givenLengthAt = givenWordAt + 1
+
 abbrev pub givenWidth : ℕ
-givenWidth = 8 + 1 + 1 + 2
+givenWidth = givenLengthAt + lengthWidth
+
+-- where the bytes start that are an entry's head in the file: the clock's low five, port and signature word
+abbrev pub givenHeadAt : ℕ
+givenHeadAt = givenClockWidth - clockWidth
 
 -- how many whole entries are given
 unfoldable pub givenCount : List ℕ → ℕ
 givenCount g = length g / givenWidth
 
 unfoldable pub givenClock : List ℕ → ℕ → ℕ
-givenClock g i = number (part g (givenWidth * i) 8)
+givenClock g i = number (part g (givenWidth * i) givenClockWidth)
 
 unfoldable pub givenPort : List ℕ → ℕ → ℕ
-givenPort g i = getD g (givenWidth * i + 8) 0
+givenPort g i = getD g (givenWidth * i + givenPortAt) 0
 
 unfoldable pub givenWord : List ℕ → ℕ → ℕ
-givenWord g i = getD g (givenWidth * i + 9) 0
+givenWord g i = getD g (givenWidth * i + givenWordAt) 0
 
 unfoldable pub givenLength : List ℕ → ℕ → ℕ
-givenLength g i = number (part g (givenWidth * i + 10) 2)
+givenLength g i = number (part g (givenWidth * i + givenLengthAt) lengthWidth)
 
 -- where body i starts among the bodies; at the count, where the last ends
 unfoldable pub givenStart : List ℕ → ℕ → ℕ
@@ -54,7 +70,7 @@ unfoldable pub givenWordsWrong : List ℕ → Bool
 givenWordsWrong g = not (allBelow (λ i. ltb (givenWord g i) 2) (givenCount g))
 
 unfoldable pub givenClocksWrong : List ℕ → Bool
-givenClocksWrong g = not (allBelow (λ i. ltb (givenClock g i) (2 ^ 40)) (givenCount g))
+givenClocksWrong g = not (allBelow (λ i. ltb (givenClock g i) recordedClockLimit) (givenCount g))
 
 -- no entry is cut, and the bodies are as long as the lengths' sum
 unfoldable pub addUp : List ℕ → List ℕ → Bool
@@ -86,11 +102,11 @@ writing g bodies room =
     otherwise record { answer = record { refusal = writingRefusal g bodies (length room); length = 0 }; room = room }
 
 -- ---- a list of entries as the writer is given it
-unfoldable pub givenRow : Entry → List ℕ
-givenRow e = bigEndian 8 (e .clock) ++ (e .port ∷ e .word ∷ bigEndian 2 (length (e .body)))
+unfoldable pub givenItem : Entry → List ℕ
+givenItem e = bigEndian givenClockWidth (e .clock) ++ (e .port ∷ e .word ∷ bigEndian lengthWidth (length (e .body)))
 
 unfoldable pub givenOf : List Entry → List ℕ
-givenOf es = joined givenRow es
+givenOf es = joined givenItem es
 
 unfoldable pub bodiesOf : List Entry → List ℕ
 bodiesOf es = joined entryBody es

@@ -1,11 +1,17 @@
 // Recordings, as document 02's Wish 1 has them: the file's reader and its writer.
 // Entry points: check, count, entry, body, write. Each ends on any bytes of any length.
-mod numbers;
+mod places;
 mod reader;
 mod writer;
 
-pub use numbers::LONGEST_FILE;
-pub use numbers::PLACE_REFUSED;
+pub use places::CONTENTS_START;
+pub use places::COUNT_AT;
+pub use places::COUNT_WIDTH;
+pub use places::LENGTH_WIDTH;
+pub use places::LONGEST_FILE;
+pub use places::LONGEST_SAVED;
+pub use places::OFFSET_WIDTH;
+pub use places::SAVED_BODIES;
 pub use reader::body;
 pub use reader::check;
 pub use reader::count;

@@ -1,28 +1,25 @@
 // Reading a recording: its refusals, and one entry by its place.
 use super::Fields;
-use super::numbers::CLOCK_WIDTH;
-use super::numbers::CONTENTS_START;
-use super::numbers::COUNT_AT;
-use super::numbers::COUNT_WIDTH;
-use super::numbers::EDITION;
-use super::numbers::ENTRY_WIDTH;
-use super::numbers::KIND;
-use super::numbers::KIND_REFUSED;
-use super::numbers::LENGTH_AT;
-use super::numbers::LENGTH_REFUSED;
-use super::numbers::LENGTH_WIDTH;
-use super::numbers::LONGEST_FILE;
-use super::numbers::OFFSET_AT;
-use super::numbers::OFFSET_WIDTH;
-use super::numbers::PLACE_REFUSED;
-use super::numbers::PORT_AT;
-use super::numbers::WORD_AT;
-use super::numbers::WORD_REFUSED;
+use super::places::CLOCK_WIDTH;
+use super::places::CONTENTS_START;
+use super::places::COUNT_AT;
+use super::places::COUNT_WIDTH;
+use super::places::EDITION;
+use super::places::ENTRY_WIDTH;
+use super::places::KIND;
+use super::places::LENGTH_AT;
+use super::places::LENGTH_WIDTH;
+use super::places::LONGEST_FILE;
+use super::places::OFFSET_AT;
+use super::places::OFFSET_WIDTH;
+use super::places::PORT_AT;
+use super::places::WORD_AT;
+use numbers::refusals;
 ghost use mathlib.Core.Path.{_≡_};
 ghost use Prim.Native.Nat.{_+_, _≤_, _<_};
 ghost use lib.ListN.{length};
 ghost use Rattle.octets.specs.Listed.{firstOf};
-ghost use Rattle.recording.specs.Shape.{entryPlace, countOf, offsetOf, lengthOf};
+ghost use Rattle.recording.specs.Shape.{countLimit, entryPlace, countOf, offsetOf, lengthOf};
 ghost use Rattle.recording.specs.Format.{headWidth};
 ghost use Rattle.recording.specs.Reader.{wordOf, fileRefusal, noFields, fieldsOf, bodyOf};
 ghost use Rattle.recording.specs.Steps.{contentsRows};
@@ -39,7 +36,7 @@ pub fn count(file: &[u8]) -> usize
 
 // Where entry i stands in the contents; at the count, where the contents end.
 pub fn entry_place(i: usize) -> usize
-    requires { ⌜ i < 65536 ⌝ }
+    requires { ⌜ i < countLimit ⌝ }
     ensures { λ r. ⌜ r ≡ entryPlace headWidth i ⌝ }
 {
     CONTENTS_START + ENTRY_WIDTH * i
@@ -76,7 +73,7 @@ fn word_of(file: &[u8], i: usize) -> u8
 
 // Refusals 22 and 23 of a file that has the contents of its n entries. An OR over the words is under 2 where each is.
 fn contents_refusal(file: &[u8], n: usize) -> u8
-    requires { ⌜ (n ≡ countOf (now file)) × (entryPlace headWidth n ≤ length (now file)) × (n < 65536) ⌝ }
+    requires { ⌜ (n ≡ countOf (now file)) × (entryPlace headWidth n ≤ length (now file)) × (n < countLimit) ⌝ }
     ensures { λ r. ⌜ r ≡ firstOf (contentsRows (now (file .entry))) 0 ⌝ }
 {
     let mut words: u8 = 0;
@@ -84,17 +81,17 @@ fn contents_refusal(file: &[u8], n: usize) -> u8
     let mut i = 0;
     while i < n {
         if offset_of(file, i) != place {
-            return PLACE_REFUSED;
+            return refusals::FILE_PLACE;
         }
         place += length_of(file, i);
         words = words | word_of(file, i);
         i += 1;
     }
     if place != file.len() {
-        return PLACE_REFUSED;
+        return refusals::FILE_PLACE;
     }
     if words > 1 {
-        return WORD_REFUSED;
+        return refusals::SIGNATURE_WORD;
     }
     0
 }
@@ -104,20 +101,20 @@ pub fn check(file: &[u8]) -> u8
     ensures { λ r. ⌜ r ≡ fileRefusal (now (file .entry)) ⌝ }
 {
     if file.len() > LONGEST_FILE {
-        return LENGTH_REFUSED;
+        return refusals::FILE_LENGTH;
     }
     if file.len() < CONTENTS_START {
-        return LENGTH_REFUSED;
+        return refusals::FILE_LENGTH;
     }
     let n = count(file);
     if file.len() < entry_place(n) {
-        return LENGTH_REFUSED;
+        return refusals::FILE_LENGTH;
     }
     if file[0] != KIND {
-        return KIND_REFUSED;
+        return refusals::FILE_KIND;
     }
     if file[1] != EDITION {
-        return KIND_REFUSED;
+        return refusals::FILE_KIND;
     }
     contents_refusal(file, n)
 }

@@ -1,34 +1,31 @@
 // Writing a recording.
 use super::Written;
-use super::numbers::CLOCK_LIMIT;
-use super::numbers::CLOCK_REFUSED;
-use super::numbers::COUNT_AT;
-use super::numbers::COUNT_WIDTH;
-use super::numbers::EDITION;
-use super::numbers::GIVEN_HEAD_AT;
-use super::numbers::GIVEN_LENGTH_AT;
-use super::numbers::GIVEN_WIDTH;
-use super::numbers::GIVEN_WORD_AT;
-use super::numbers::KIND;
-use super::numbers::LENGTH_AT;
-use super::numbers::LENGTH_REFUSED;
-use super::numbers::LENGTH_WIDTH;
-use super::numbers::LONGEST_FILE;
-use super::numbers::MOST_ENTRIES;
-use super::numbers::OFFSET_AT;
-use super::numbers::OFFSET_WIDTH;
-use super::numbers::ROOM_REFUSED;
-use super::numbers::WORD_REFUSED;
+use super::places::COUNT_AT;
+use super::places::COUNT_WIDTH;
+use super::places::EDITION;
+use super::places::GIVEN_HEAD_AT;
+use super::places::GIVEN_LENGTH_AT;
+use super::places::GIVEN_WIDTH;
+use super::places::GIVEN_WORD_AT;
+use super::places::KIND;
+use super::places::LENGTH_AT;
+use super::places::LENGTH_WIDTH;
+use super::places::LONGEST_FILE;
+use super::places::MOST_ENTRIES;
+use super::places::OFFSET_AT;
+use super::places::OFFSET_WIDTH;
 use super::reader::entry_place;
+use numbers::CLOCK_LIMIT;
+use numbers::refusals;
 ghost use mathlib.Core.Path.{_≡_};
 ghost use Prim.Native.Nat.{_+_, _≤_, _<_};
 ghost use lib.ListN.{length};
 ghost use Rattle.octets.specs.Listed.{firstOf};
 ghost use Rattle.octets.specs.Part.{patch};
-ghost use Rattle.recording.specs.Shape.{contentsStart, entryPlace};
+ghost use Rattle.recording.specs.Shape.{contentsStart, countLimit, entryPlace};
 ghost use Rattle.recording.specs.Format.{longestFile, headWidth, fileOf};
 ghost use Rattle.recording.specs.Writer.{givenCount, givenLength, givenStart, givenEntries, writingRefusal, writing};
-ghost use Rattle.recording.specs.Steps.{headRows, lengthRows, startBytes, copiedRow, copiedRows};
+ghost use Rattle.recording.specs.Steps.{headRows, lengthRows, startBytes, copiedItem, copiedItems};
 
 // How many whole entries are given.
 fn given_count(entries: &[u8]) -> usize
@@ -58,17 +55,17 @@ fn heads_refusal(entries: &[u8]) -> u8
         i += 1;
     }
     if words > 1 {
-        return WORD_REFUSED;
+        return refusals::SIGNATURE_WORD;
     }
     if clocks >= CLOCK_LIMIT {
-        return CLOCK_REFUSED;
+        return refusals::CLOCK;
     }
     0
 }
 
 // The sum of the lengths of n entries.
 fn given_end(entries: &[u8], n: usize) -> usize
-    requires { ⌜ (n ≤ givenCount (now entries)) × (n < 65536) ⌝ }
+    requires { ⌜ (n ≤ givenCount (now entries)) × (n < countLimit) ⌝ }
     ensures { λ r. ⌜ r ≡ givenStart (now (entries .entry)) n ⌝ }
 {
     let mut end = 0;
@@ -85,21 +82,21 @@ fn lengths_refusal(entries: &[u8], bodies: &[u8], room: usize) -> u8
     ensures { λ r. ⌜ r ≡ firstOf (lengthRows (now (entries .entry)) (now (bodies .entry)) room) 0 ⌝ }
 {
     if entries.len() % GIVEN_WIDTH != 0 {
-        return LENGTH_REFUSED;
+        return refusals::FILE_LENGTH;
     }
     let n = given_count(entries);
     if n > MOST_ENTRIES {
-        return LENGTH_REFUSED;
+        return refusals::FILE_LENGTH;
     }
     if given_end(entries, n) != bodies.len() {
-        return LENGTH_REFUSED;
+        return refusals::FILE_LENGTH;
     }
     let length = entry_place(n) + bodies.len();
     if length > LONGEST_FILE {
-        return LENGTH_REFUSED;
+        return refusals::FILE_LENGTH;
     }
     if room < length {
-        return ROOM_REFUSED;
+        return refusals::ROOM;
     }
     0
 }
@@ -127,9 +124,10 @@ fn write_start(n: usize, room: &mut [u8])
 
 // Writes entry i into the contents. What stands there is given in the same bytes, but for the offset.
 fn write_entry(entries: &[u8], i: usize, offset: usize, room: &mut [u8])
-    requires { ⌜ (i < givenCount (now entries)) × (i < 65536) × (entryPlace headWidth (i + 1) ≤ length (now room)) ⌝ }
+    requires { ⌜ (i < givenCount (now entries)) × (i < countLimit)
+        × (entryPlace headWidth (i + 1) ≤ length (now room)) ⌝ }
     ensures { λ _. ⌜ now (room .exit)
-        ≡ patch (now (room .entry)) (entryPlace headWidth i) (copiedRow (now (entries .entry)) offset i) ⌝ }
+        ≡ patch (now (room .entry)) (entryPlace headWidth i) (copiedItem (now (entries .entry)) offset i) ⌝ }
 {
     let at = entry_place(i);
     let from = GIVEN_WIDTH * i;
@@ -148,10 +146,10 @@ fn write_entry(entries: &[u8], i: usize, offset: usize, room: &mut [u8])
 
 // Writes the contents of n entries, the first body at place at.
 fn write_contents(entries: &[u8], n: usize, at: usize, room: &mut [u8])
-    requires { ⌜ (n ≤ givenCount (now entries)) × (n < 65536) × (at ≤ longestFile)
+    requires { ⌜ (n ≤ givenCount (now entries)) × (n < countLimit) × (at ≤ longestFile)
         × (entryPlace headWidth n ≤ length (now room)) ⌝ }
     ensures { λ _. ⌜ now (room .exit)
-        ≡ patch (now (room .entry)) contentsStart (copiedRows (now (entries .entry)) at n) ⌝ }
+        ≡ patch (now (room .entry)) contentsStart (copiedItems (now (entries .entry)) at n) ⌝ }
 {
     let mut offset = at;
     let mut i = 0;

@@ -17,9 +17,6 @@ ghost use Rattle.replaying.specs.Promise.{stepsOn};
 ghost use Rattle.text.specs.Text.{textOf};
 ghost use Rattle.replay.specs.Line.{tablesRefused};
 
-// The longest file of eight entries: in any edition a saved relay has at most so many bytes.
-const LONGEST_SAVED: usize = 52 + 8 * 65535;
-
 fn tables_refused(refusal: u8) -> Text
     ensures { λ r. ⌜ r ≡ textOf (tablesRefused refusal) ⌝ }
 {
@@ -48,7 +45,7 @@ fn replay(file: &[u8], tables: &mut [u8], counts: Tally)
 // The buffers have one byte more than the longest recording and the longest saved relay, so that longer files show.
 fn main() {
     let mut file = [0u8; recording::LONGEST_FILE + 1];
-    let mut stored = [0u8; LONGEST_SAVED + 1];
+    let mut stored = [0u8; recording::LONGEST_SAVED + 1];
     let mut tables = [0u8; TABLE_SIZE];
     let size = read_file(2, &mut file);
     let refusal = recording::check(&file[..size]);

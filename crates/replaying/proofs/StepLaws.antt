@@ -21,6 +21,7 @@ use Rattle.text.specs.Text.{textOf}
 use Rattle.text.specs.declared.Text.{Text}
 use Rattle.replaying.specs.Lines.{answerLine}
 use Rattle.replaying.specs.Promise.{entryCall, StepOn, stepOf, stepOn, Steps}
+use Rattle.numbers.specs.Numbers.{leastOutput}
 
 module _ (f : List ℕ) (i : ℕ) where
   there-is : fieldsOf f i .there ≡ isThere f i
@@ -41,7 +42,7 @@ module _ (f : List ℕ) (i : ℕ) where
 
     -- the call that the code makes is the entry's
     pub called : (t : List ℕ) (tally : Tally) (body : List ℕ) → body ≡ bodyOf f i → (port : ℕ) → port ≡ fields .port
-        → packetOn body port (fields .clock) (eqb (fields .word) 1) t tally (replicate 500 0) ≡ entryCall (entryOf f i) t tally
+        → packetOn body port (fields .clock) (eqb (fields .word) 1) t tally (replicate leastOutput 0) ≡ entryCall (entryOf f i) t tally
     unfolding entryCall entryOf
     called t tally body same-body port same-port = rw (same-body, same-port, e)
 

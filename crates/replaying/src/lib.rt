@@ -6,8 +6,8 @@ mod reasons;
 pub use lines::line_of;
 pub use lines::with_ports;
 use numbers::LEAST_OUTPUT;
+use numbers::refusals;
 pub use reasons::with_reason;
-use recording::PLACE_REFUSED;
 use rules::Answer;
 use rules::Tally;
 use text::Text;
@@ -46,7 +46,7 @@ pub fn step(file: &[u8], i: usize, tables: &mut [u8], tally: Tally) -> Stepped
     if !fields.there {
         return Stepped {
             there: false,
-            answer: Answer::Refused(PLACE_REFUSED),
+            answer: Answer::Refused(refusals::FILE_PLACE),
             tally,
             line: text::empty(),
         };

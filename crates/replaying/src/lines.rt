@@ -16,7 +16,7 @@ ghost use Rattle.numbers.specs.Numbers.{portCount};
 ghost use Rattle.text.specs.Numerals.{decimal};
 ghost use Rattle.text.specs.Words.{spaced};
 ghost use Rattle.text.specs.Text.{textOf, appended};
-ghost use Rattle.replaying.specs.Lines.{portsBelow, verdictWords, answerWords, answerLine};
+ghost use Rattle.replaying.specs.Lines.{longestAnswer, portsBelow, verdictWords, answerWords, answerLine};
 
 // The line with a port, if it is named.
 fn with_port(line: Text, port: u64, named: bool) -> Text
@@ -43,10 +43,10 @@ pub fn with_ports(line: Text, ports: u16) -> Text
     grown
 }
 
-// The line with a verdict's words: at most 72 bytes.
+// The line with a verdict's words, which are no longer than the longest answer: a text has room for them.
 fn with_verdict(line: Text, verdict: Verdict) -> Text
     ensures { λ r. ⌜ (r ≡ appended line (spaced (verdictWords verdict)))
-        × (length (spaced (verdictWords verdict)) ≤ 72) ⌝ }
+        × (length (spaced (verdictWords verdict)) ≤ longestAnswer) ⌝ }
 {
     match verdict {
         Verdict::Drop(reason) => {
@@ -69,7 +69,7 @@ fn with_verdict(line: Text, verdict: Verdict) -> Text
 // The line with an answer's words.
 fn with_answer(line: Text, answer: Answer) -> Text
     ensures { λ r. ⌜ (r ≡ appended line (spaced (answerWords answer)))
-        × (length (spaced (answerWords answer)) ≤ 72) ⌝ }
+        × (length (spaced (answerWords answer)) ≤ longestAnswer) ⌝ }
 {
     match answer {
         Answer::Refused(number) => with_number(with_word(line, b"refused"), octets::wide(number)),

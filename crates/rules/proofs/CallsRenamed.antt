@@ -33,6 +33,7 @@ use Rattle.rules.proofs.TestsRenamed.{isThere-renamed}
 use Rattle.rules.proofs.PlanRenamed.{renamePlan, plan-renamed, verdict-renamed, output-renamed}
 use Rattle.rules.proofs.WritesRenamed.{note-renamed, enact-renamed}
 use Rattle.rules.proofs.QuestionsRenamed.{sixteen-ports, packetRefusal-renamed, tell-renamed}
+use Rattle.numbers.specs.Numbers.{portCount}
 
 -- ---- a refusal's number and a relay, renamed
 unfoldable renameJudgement : List ℕ → Judgement → Judgement
@@ -70,7 +71,7 @@ addresses-renamed m (notes-path note destination clock) = refl
 
 -- ---- one call
 module _ (m : List ℕ) (ok : oneToOne m ≡ true) (r : Relay) (fine : tablesOk r ≡ true) (fine′ : tablesOk (renumbered m r) ≡ true) where
-  judged-renamed : (v : View) (a : Arrival) (todo : Plan) (t : Tally) (output : List ℕ) → v .on 16 ≡ false
+  judged-renamed : (v : View) (a : Arrival) (todo : Plan) (t : Tally) (output : List ℕ) → v .on portCount ≡ false
       → judged (renameArrival m a) (renamePlan m todo) (renameView m v) (renumbered m r) t output ≡ renameJudgement m (judged a todo v r t output)
   unfolding judged renameJudgement renameAnswer
   judged-renamed v a todo t output none-on = λ i.

@@ -119,7 +119,7 @@ module _ (kind : Verdict → Bool) (counter : Tally → ℕ)
       after-calls cs (perform c r t .relay) (perform c r t .tally) (others-none setsRelay c cs none) l ∙ omega arith
 
 -- ---- all six
-pub record Fits (t : Tally) : Type 0 where
+pub record TallyFits (t : Tally) : Type 0 where
   pub total : t .total < 2 ^ 32
   pub dropped : t .dropped < 2 ^ 32
   pub delivered : t .delivered < 2 ^ 32
@@ -153,7 +153,7 @@ by-kind (Spread ports length) t = refl
 by-kind Kept t = refl
 
 -- the tally counts history, over calls among which no load is accepted
-pub history : (cs : List Call) (r : Relay) (t : Tally) → noneLoads cs ≡ true → Fits t → CountsHistory (replies cs r t) t (tallyAfter cs r t)
+pub history : (cs : List Call) (r : Relay) (t : Tally) → noneLoads cs ≡ true → TallyFits t → CountsHistory (replies cs r t) t (tallyAfter cs r t)
 history cs r t none small =
     record {
       total = after-calls isAny (λ t. t .total) (λ v t. ap (λ (t : Tally). t .total) (by-kind v t)) cs r t none (small .total);

@@ -13,6 +13,7 @@ use Rattle.octets.specs.Choice.{_then_otherwise_}
 use Rattle.octets.proofs.Index.{and-left, and-right, and-both, all-at, all-intro, first-only, first-holds, first-le, first-before, first-absent, first-cong}
 use Rattle.octets.proofs.ListOf.{listOf-length, listOf-at}
 use Rattle.rules.specs.Renumbering.{image, differsBefore, oneToOne, preimage, composed}
+use Rattle.numbers.specs.Numbers.{portCount}
 
 -- two comparisons that hold together are equal
 pub eqb-both : (a b c d : ℕ) → (a ≡ b → c ≡ d) → (c ≡ d → a ≡ b) → eqb a b ≡ eqb c d
@@ -22,51 +23,51 @@ eqb-both a b c d to from = go (eqb c d) refl
     go true h = eq-eqb a b (from (eqb-true c d h)) ∙ sym h
     go false h = ne-eqb a b (λ e. eqb-false c d h (to e)) ∙ sym h
 
-pub image-port : (m : List ℕ) (n : ℕ) → n < 16 → image m n ≡ getD m n 0
+pub image-port : (m : List ℕ) (n : ℕ) → n < portCount → image m n ≡ getD m n 0
 unfolding image _then_otherwise_
-image-port m n l = rw (lt-ltb n 16 l)
+image-port m n l = rw (lt-ltb n portCount l)
 
-pub image-other : (m : List ℕ) (n : ℕ) → 16 ≤ n → image m n ≡ n
+pub image-other : (m : List ℕ) (n : ℕ) → portCount ≤ n → image m n ≡ n
 unfolding image _then_otherwise_
-image-other m n l = rw (le-ltb n 16 l)
+image-other m n l = rw (le-ltb n portCount l)
 
 -- where a number comes from: one that is no port stays
 unfoldable pub source : List ℕ → ℕ → ℕ
-source m n = ltb n 16 then preimage m n otherwise n
+source m n = ltb n portCount then preimage m n otherwise n
 
-pub source-port : (m : List ℕ) (n : ℕ) → n < 16 → source m n ≡ preimage m n
+pub source-port : (m : List ℕ) (n : ℕ) → n < portCount → source m n ≡ preimage m n
 unfolding source _then_otherwise_
-source-port m n l = rw (lt-ltb n 16 l)
+source-port m n l = rw (lt-ltb n portCount l)
 
-pub source-other : (m : List ℕ) (n : ℕ) → 16 ≤ n → source m n ≡ n
+pub source-other : (m : List ℕ) (n : ℕ) → portCount ≤ n → source m n ≡ n
 unfolding source _then_otherwise_
-source-other m n l = rw (le-ltb n 16 l)
+source-other m n l = rw (le-ltb n portCount l)
 
 -- a preimage that is a port has the image
-pub preimage-holds : (m : List ℕ) (n : ℕ) → preimage m n < 16 → getD m (preimage m n) 0 ≡ n
+pub preimage-holds : (m : List ℕ) (n : ℕ) → preimage m n < portCount → getD m (preimage m n) 0 ≡ n
 unfolding preimage
-preimage-holds m n l = eqb-true (getD m (preimage m n) 0) n (first-holds (λ i. eqb (getD m i 0) n) 16 l)
+preimage-holds m n l = eqb-true (getD m (preimage m n) 0) n (first-holds (λ i. eqb (getD m i 0) n) portCount l)
 
-pub preimage-le : (m : List ℕ) (n : ℕ) → preimage m n ≤ 16
+pub preimage-le : (m : List ℕ) (n : ℕ) → preimage m n ≤ portCount
 unfolding preimage
-preimage-le m n = first-le (λ i. eqb (getD m i 0) n) 16
+preimage-le m n = first-le (λ i. eqb (getD m i 0) n) portCount
 
 module _ (m : List ℕ) (ok : oneToOne m ≡ true) where
-  each-port : (i : ℕ) → i < 16 → (ltb (getD m i 0) 16 and differsBefore m i) ≡ true
+  each-port : (i : ℕ) → i < portCount → (ltb (getD m i 0) portCount and differsBefore m i) ≡ true
   unfolding oneToOne
-  each-port i l = all-at (λ i. ltb (getD m i 0) 16 and differsBefore m i) 16 i (and-right _ _ ok) l
+  each-port i l = all-at (λ i. ltb (getD m i 0) portCount and differsBefore m i) portCount i (and-right _ _ ok) l
 
-  pub image-below : (i : ℕ) → i < 16 → getD m i 0 < 16
-  image-below i l = ltb-true (getD m i 0) 16 (and-left _ _ (each-port i l))
+  pub image-below : (i : ℕ) → i < portCount → getD m i 0 < portCount
+  image-below i l = ltb-true (getD m i 0) portCount (and-left _ _ (each-port i l))
 
-  apart : (i j : ℕ) → i < 16 → j < i → getD m j 0 ≡ getD m i 0 → ⊥
+  apart : (i j : ℕ) → i < portCount → j < i → getD m j 0 ≡ getD m i 0 → ⊥
   unfolding differsBefore
   apart i j l b e =
       eqb-false (getD m j 0) (getD m i 0)
       (not-true _ (all-at (λ j. not (eqb (getD m j 0) (getD m i 0))) i j (and-right _ _ (each-port i l)) b))
       e
 
-  pub port-injective : (i j : ℕ) → i < 16 → j < 16 → getD m i 0 ≡ getD m j 0 → i ≡ j
+  pub port-injective : (i j : ℕ) → i < portCount → j < portCount → getD m i 0 ≡ getD m j 0 → i ≡ j
   port-injective i j l k e = go (decLt i j) (decLt j i)
     where
       go : Dec (i < j) → Dec (j < i) → i ≡ j
@@ -75,16 +76,16 @@ module _ (m : List ℕ) (ok : oneToOne m ≡ true) where
       go (no a) (no b) = omega arith
 
   -- a port comes from where it goes
-  pub preimage-image : (i : ℕ) → i < 16 → preimage m (getD m i 0) ≡ i
+  pub preimage-image : (i : ℕ) → i < portCount → preimage m (getD m i 0) ≡ i
   unfolding preimage
   preimage-image i l =
-      first-only (λ k. eqb (getD m k 0) (getD m i 0)) 16 i l (eq-eqb (getD m i 0) (getD m i 0) refl)
+      first-only (λ k. eqb (getD m k 0) (getD m i 0)) portCount i l (eq-eqb (getD m i 0) (getD m i 0) refl)
       (λ j k e. port-injective j i k l (eqb-true (getD m j 0) (getD m i 0) e))
 
   pub source-image : (n : ℕ) → source m (image m n) ≡ n
-  source-image n = go (decLt n 16)
+  source-image n = go (decLt n portCount)
     where
-      go : Dec (n < 16) → source m (image m n) ≡ n
+      go : Dec (n < portCount) → source m (image m n) ≡ n
       go (yes l) = ap (source m) (image-port m n l) ∙ source-port m (getD m n 0) (image-below n l) ∙ preimage-image n l
       go (no l) = ap (source m) (image-other m n (omega arith)) ∙ source-other m n (omega arith)
 
@@ -95,28 +96,28 @@ module _ (m : List ℕ) (ok : oneToOne m ≡ true) where
   image-eqb i j = eqb-both (image m i) (image m j) i j (image-injective i j) (ap (image m))
 
   -- what is a port stays one, and what is none stays none
-  pub image-leb : (n : ℕ) → leb 16 (image m n) ≡ leb 16 n
-  image-leb n = go (decLt n 16)
+  pub image-leb : (n : ℕ) → leb portCount (image m n) ≡ leb portCount n
+  image-leb n = go (decLt n portCount)
     where
-      go : Dec (n < 16) → leb 16 (image m n) ≡ leb 16 n
+      go : Dec (n < portCount) → leb portCount (image m n) ≡ leb portCount n
       go (yes l) =
-          ap (leb 16) (image-port m n l)
-          ∙ lt-leb 16 (getD m n 0) (image-below n l)
-          ∙ sym (lt-leb 16 n l)
-      go (no l) = ap (leb 16) (image-other m n (omega arith))
+          ap (leb portCount) (image-port m n l)
+          ∙ lt-leb portCount (getD m n 0) (image-below n l)
+          ∙ sym (lt-leb portCount n l)
+      go (no l) = ap (leb portCount) (image-other m n (omega arith))
 
 -- ---- the composed map
 module _ (one two : List ℕ) (ok-one : oneToOne one ≡ true) (ok-two : oneToOne two ≡ true) where
-  pub composed-at : (i : ℕ) → i < 16 → getD (composed one two) i 0 ≡ getD two (getD one i 0) 0
+  pub composed-at : (i : ℕ) → i < portCount → getD (composed one two) i 0 ≡ getD two (getD one i 0) 0
   unfolding composed
   composed-at i l =
-      listOf-at (λ k. image two (getD one k 0)) 16 i 0 l
+      listOf-at (λ k. image two (getD one k 0)) portCount i 0 l
       ∙ image-port two (getD one i 0) (image-below one ok-one i l)
 
   pub image-composed : (n : ℕ) → image two (image one n) ≡ image (composed one two) n
-  image-composed n = go (decLt n 16)
+  image-composed n = go (decLt n portCount)
     where
-      go : Dec (n < 16) → image two (image one n) ≡ image (composed one two) n
+      go : Dec (n < portCount) → image two (image one n) ≡ image (composed one two) n
       go (yes l) =
           ap (image two) (image-port one n l)
           ∙ image-port two (getD one n 0) (image-below one ok-one n l)
@@ -126,9 +127,9 @@ module _ (one two : List ℕ) (ok-one : oneToOne one ≡ true) (ok-two : oneToOn
           ∙ image-other two n (omega arith)
           ∙ sym (image-other (composed one two) n (omega arith))
 
-  unlike : (i j : ℕ) → i < 16 → j < i → getD (composed one two) j 0 ≡ getD (composed one two) i 0 → ⊥
+  unlike : (i j : ℕ) → i < portCount → j < i → getD (composed one two) j 0 ≡ getD (composed one two) i 0 → ⊥
   unlike i j l b e =
-      let k : j < 16 = omega arith in
+      let k : j < portCount = omega arith in
       apart one ok-one i j l b
       (port-injective two ok-two (getD one j 0) (getD one i 0) (image-below one ok-one j k) (image-below one ok-one i l)
       (sym (composed-at j k) ∙ e ∙ composed-at i l))
@@ -136,32 +137,32 @@ module _ (one two : List ℕ) (ok-one : oneToOne one ≡ true) (ok-two : oneToOn
   pub composed-one-to-one : oneToOne (composed one two) ≡ true
   unfolding oneToOne differsBefore composed
   composed-one-to-one =
-      and-both (eq-eqb (length (composed one two)) 16 (listOf-length (λ i. image two (getD one i 0)) 16))
-      (all-intro (λ i. ltb (getD (composed one two) i 0) 16 and differsBefore (composed one two) i) 16
+      and-both (eq-eqb (length (composed one two)) portCount (listOf-length (λ i. image two (getD one i 0)) portCount))
+      (all-intro (λ i. ltb (getD (composed one two) i 0) portCount and differsBefore (composed one two) i) portCount
       (λ i l.
       and-both
-      (ap (λ (x : ℕ). ltb x 16) (composed-at i l)
-      ∙ lt-ltb (getD two (getD one i 0) 0) 16 (image-below two ok-two (getD one i 0) (image-below one ok-one i l)))
+      (ap (λ (x : ℕ). ltb x portCount) (composed-at i l)
+      ∙ lt-ltb (getD two (getD one i 0) 0) portCount (image-below two ok-two (getD one i 0) (image-below one ok-one i l)))
       (all-intro (λ j. not (eqb (getD (composed one two) j 0) (getD (composed one two) i 0))) i
       (λ j b. ap not (ne-eqb (getD (composed one two) j 0) (getD (composed one two) i 0) (λ e. unlike i j l b e))))))
 
   -- where n comes from k by the second map, what comes from k by the first is what comes from n by the composed one
-  pub preimage-composed : (n : ℕ) → preimage two n < 16 → preimage one (preimage two n) ≡ preimage (composed one two) n
+  pub preimage-composed : (n : ℕ) → preimage two n < portCount → preimage one (preimage two n) ≡ preimage (composed one two) n
   unfolding preimage
   preimage-composed n l =
       let k : ℕ = preimage two n in
       let e : getD two k 0 ≡ n = preimage-holds two n l in
-      first-cong _ _ 16
+      first-cong _ _ portCount
       (λ i b.
       eqb-both (getD one i 0) k (getD (composed one two) i 0) n
       (λ q. composed-at i b ∙ ap (λ (x : ℕ). getD two x 0) q ∙ e)
       (λ q. port-injective two ok-two (getD one i 0) k (image-below one ok-one i b) l (sym (composed-at i b) ∙ q ∙ sym e)))
 
   -- what comes from nowhere by the second map comes from nowhere
-  pub preimage-composed-none : (n : ℕ) → 16 ≤ preimage two n → preimage (composed one two) n ≡ 16
+  pub preimage-composed-none : (n : ℕ) → portCount ≤ preimage two n → preimage (composed one two) n ≡ portCount
   unfolding preimage
   preimage-composed-none n l =
-      first-absent (λ i. eqb (getD (composed one two) i 0) n) 16
+      first-absent (λ i. eqb (getD (composed one two) i 0) n) portCount
       (λ i b.
       ap (λ (x : ℕ). eqb x n) (composed-at i b)
-      ∙ first-before (λ j. eqb (getD two j 0) n) 16 (getD one i 0) (let h : getD one i 0 < 16 = image-below one ok-one i b in omega arith))
+      ∙ first-before (λ j. eqb (getD two j 0) n) portCount (getD one i 0) (let h : getD one i 0 < portCount = image-below one ok-one i b in omega arith))

@@ -15,10 +15,11 @@ use Rattle.octets.specs.Index.{_and_}
 use Rattle.octets.specs.Choice.{_or_}
 use Rattle.octets.proofs.Index.{and-left, and-right, and-both, and-yes, all-intro}
 use Rattle.octets.proofs.Choice.{then-true, then-false, or-left, or-right, or-no-right}
-use Rattle.numbers.specs.Numbers.{portCount}
+use Rattle.numbers.specs.Numbers.{portCount, addressWidth}
 use Rattle.packet.specs.Header.{typeTwo, isAnnounce}
 use Rattle.packet.specs.Read.{longestPacket, headerOf, noAddress, partsOf, payloadStart, payload, reads}
 use Rattle.packet.specs.Write.{Wide}
+use Rattle.packet.specs.Places.{typeOneStart, typeTwoStart}
 use Rattle.packet.proofs.ReadLaws.{start-two, start-one, reads-readable, parts-hops}
 use Rattle.packet.proofs.WriteLaws.{packet-length}
 use Rattle.packet.proofs.Widths.{parts-wide}
@@ -55,14 +56,14 @@ spread-header-two header =
     let bit : (64 + header / 32 % 2 * 32 + 16 + header % 16) / 64 % 2 ≡ 1 = omega arith in
     ap (λ (k : ℕ). eqb k 1) bit
 
-pub last-hop-start : (header : ℕ) → payloadStart (header % 16) ≡ 19
+pub last-hop-start : (header : ℕ) → payloadStart (header % 16) ≡ typeOneStart
 last-hop-start header = start-one (header % 16) (last-hop-one header)
 
-pub spread-start : (header : ℕ) → payloadStart (spreadHeader header) ≡ 35
+pub spread-start : (header : ℕ) → payloadStart (spreadHeader header) ≡ typeTwoStart
 spread-start header = start-two (spreadHeader header) (spread-header-two header)
 
 -- the payload starts at one of two places
-start-is : (P : ℕ → Type 0) (header : ℕ) → P 19 → P 35 → P (payloadStart header)
+start-is : (P : ℕ → Type 0) (header : ℕ) → P typeOneStart → P typeTwoStart → P (payloadStart header)
 start-is P header one two = go (typeTwo header) refl
   where
     go : (t : Bool) → typeTwo header ≡ t → P (payloadStart header)
@@ -76,7 +77,7 @@ module _ (size : ℕ) (p : List ℕ) (h : reads size p ≡ true) where
   body-length = simp length-drop (omega (arith, reads-readable size p h .whole))
 
   -- under another header and relay address
-  module _ (header : ℕ) (relay : List ℕ) (wide : length relay ≡ 16) where
+  module _ (header : ℕ) (relay : List ℕ) (wide : length relay ≡ addressWidth) where
     pub rewritten-wide : Wide
         (record { header = header; hops = partsOf p .hops + 1; relay = relay; destination = partsOf p .destination; context = partsOf p .context })
     rewritten-wide = record { relay = wide; destination = parts-wide p (reads-readable size p h .whole) .destination }
@@ -110,12 +111,12 @@ module _ (p : List ℕ) (n : ℕ) where
   unfolding forwardedLength
   as-it-came e = or-left _ (eq-eqb n (length p) e)
 
-  sixteen-shorter : n + 16 ≡ length p → forwardedLength p n ≡ true
+  sixteen-shorter : n + addressWidth ≡ length p → forwardedLength p n ≡ true
   unfolding forwardedLength
-  sixteen-shorter e = or-right _ (eq-eqb (n + 16) (length p) e)
+  sixteen-shorter e = or-right _ (eq-eqb (n + addressWidth) (length p) e)
 
 module _ (p : List ℕ) (h : reads longestPacket p ≡ true) where
-  path-length : (hops : ℕ) (nextHop : List ℕ) → length nextHop ≡ 16 → forwardedLength p (length (pathPacket hops nextHop p)) ≡ true
+  path-length : (hops : ℕ) (nextHop : List ℕ) → length nextHop ≡ addressWidth → forwardedLength p (length (pathPacket hops nextHop p)) ≡ true
   path-length hops nextHop wide = go (eqb hops 0) refl
     where
       -- on the last hop a packet of type 2 loses its relay address
@@ -133,13 +134,13 @@ module _ (p : List ℕ) (h : reads longestPacket p ≡ true) where
           ∙ rewritten-length longestPacket p h (headerOf p) nextHop wide
           ∙ body-length longestPacket p h)
 
-  spread-length : (own : List ℕ) → length own ≡ 16 → grownLength p (length (spreadPacket own p)) ≡ true
+  spread-length : (own : List ℕ) → length own ≡ addressWidth → grownLength p (length (spreadPacket own p)) ≡ true
   unfolding spreadPacket grownLength
   spread-length own wide =
       let long = rewritten-length longestPacket p h (spreadHeader (headerOf p)) own wide in
       let n : ℕ = length (rewritten (spreadHeader (headerOf p)) own p) in
-      start-is (λ s. s + length (payload p) ≡ length p → (eqb n (length p) or eqb n (length p + 16)) ≡ true) (headerOf p)
-      (λ b. or-right _ (eq-eqb n (length p + 16) (omega (arith, b, long, spread-start (headerOf p)))))
+      start-is (λ s. s + length (payload p) ≡ length p → (eqb n (length p) or eqb n (length p + addressWidth)) ≡ true) (headerOf p)
+      (λ b. or-right _ (eq-eqb n (length p + addressWidth) (omega (arith, b, long, spread-start (headerOf p)))))
       (λ b. or-left _ (eq-eqb n (length p) (omega (arith, b, long, spread-start (headerOf p)))))
       (body-length longestPacket p h)
 
@@ -151,9 +152,9 @@ module _ (p : List ℕ) (h : reads longestPacket p ≡ true) where
       fits : length p ≤ longestPacket
       fits = reads-readable longestPacket p h .fits
 
-      go : (z : Bool) → eqb n (length p) ≡ z → (z or eqb (n + 16) (length p)) ≡ true → n ≤ longestPacket
+      go : (z : Bool) → eqb n (length p) ≡ z → (z or eqb (n + addressWidth) (length p)) ≡ true → n ≤ longestPacket
       go true e f = omega (arith, eqb-true n (length p) e, fits)
-      go false e f = omega (arith, eqb-true (n + 16) (length p) f, fits)
+      go false e f = omega (arith, eqb-true (n + addressWidth) (length p) f, fits)
 
 -- ---- which packets go which way: announces everywhere, and no others; by a path those whose destination has it
 module _ (v : View) (a : Arrival) where
@@ -188,8 +189,8 @@ module _ (v : View) (a : Arrival) where
       (λ _. either Sent _ (λ _. tt) (λ _. sent-path n _ refl _))))
 
 -- ---- what leaves
-module _ (v : View) (a : Arrival) (h : reads longestPacket (a .bytes) ≡ true) (own : length (v .own) ≡ 16)
-    (hop : (p : Path) → v .path (destination a) ≡ used p → length (p .nextHop) ≡ 16) where
+module _ (v : View) (a : Arrival) (h : reads longestPacket (a .bytes) ≡ true) (own : length (v .own) ≡ addressWidth)
+    (hop : (p : Path) → v .path (destination a) ≡ used p → length (p .nextHop) ≡ addressWidth) where
   forwarded : isAnnounce (header a) ≡ false → (n : ℕ) → forwardedLength (a .bytes) n ≡ true
       → (leb n longestPacket and not (isAnnounce (header a)) and forwardedLength (a .bytes) n) ≡ true
   forwarded none n f = and-both (le-leb n longestPacket (forwarded-short (a .bytes) h n f)) (and-both (ap not none) f)
@@ -216,14 +217,15 @@ module _ (v : View) (a : Arrival) (h : reads longestPacket (a .bytes) ≡ true) 
 
 -- ---- the theorem: of every packet call on a relay whose addresses are addresses
 module _ (r : Relay) (wide : addressed r ≡ true) where
-  own-wide : length (r .own) ≡ 16
+  own-wide : length (r .own) ≡ addressWidth
   unfolding addressed isAddress
-  own-wide = eqb-true _ 16 (and-left _ _ wide)
+  own-wide = eqb-true _ addressWidth (and-left _ _ wide)
 
-  hop-wide : (clock : ℕ) (destination : List ℕ) (p : Path) → viewAt clock r .path destination ≡ used p → length (p .nextHop) ≡ 16
+  hop-wide : (clock : ℕ) (destination : List ℕ) (p : Path) → viewAt clock r .path destination ≡ used p → length (p .nextHop) ≡ addressWidth
   unfolding viewAt addressed byAddress isAddress slotOk
   hop-wide clock destination p e =
-      eqb-true _ 16 (subst (λ (s : Slot Path). slotOk byAddress s ≡ true) e (all-getD (slotOk byAddress) (r .paths) _ empty (and-right _ _ wide) refl))
+      eqb-true _ addressWidth
+      (subst (λ (s : Slot Path). slotOk byAddress s ≡ true) e (all-getD (slotOk byAddress) (r .paths) _ empty (and-right _ _ wide) refl))
 
   pub judged-length : (a : Arrival) (room : ℕ) → eqb (packetRefusal r a room) 0 ≡ true
       → verdictLengthOk (a .bytes) (verdict (viewAt (a .clock) r) a (plan (viewAt (a .clock) r) a)) ≡ true

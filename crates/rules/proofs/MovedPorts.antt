@@ -11,20 +11,21 @@ use Rattle.octets.proofs.ListOf.{listOf-at, listOf-length, listOf-cong}
 use Rattle.rules.specs.Relay.{Port, noPort}
 use Rattle.rules.specs.Renumbering.{image, oneToOne, preimage, movedPorts, composed}
 use Rattle.rules.proofs.Images.{image-port, image-other, image-below, preimage-image, preimage-holds, source, source-port, source-other, preimage-composed, preimage-composed-none}
+use Rattle.numbers.specs.Numbers.{portCount}
 
-moved-length : (m : List ℕ) (ports : List Port) → length (movedPorts m ports) ≡ 16
+moved-length : (m : List ℕ) (ports : List Port) → length (movedPorts m ports) ≡ portCount
 unfolding movedPorts
-moved-length m ports = listOf-length (λ n. getD ports (preimage m n) noPort) 16
+moved-length m ports = listOf-length (λ n. getD ports (preimage m n) noPort) portCount
 
-moved-port : (m : List ℕ) (ports : List Port) (n : ℕ) → n < 16 → getD (movedPorts m ports) n noPort ≡ getD ports (preimage m n) noPort
+moved-port : (m : List ℕ) (ports : List Port) (n : ℕ) → n < portCount → getD (movedPorts m ports) n noPort ≡ getD ports (preimage m n) noPort
 unfolding movedPorts
-moved-port m ports n l = listOf-at (λ n. getD ports (preimage m n) noPort) 16 n noPort l
+moved-port m ports n l = listOf-at (λ n. getD ports (preimage m n) noPort) portCount n noPort l
 
-module _ (m : List ℕ) (ports : List Port) (sixteen : length ports ≡ 16) where
+module _ (m : List ℕ) (ports : List Port) (sixteen : length ports ≡ portCount) where
   pub moved-at : (n : ℕ) → getD (movedPorts m ports) n noPort ≡ getD ports (source m n) noPort
-  moved-at n = go (decLt n 16)
+  moved-at n = go (decLt n portCount)
     where
-      go : Dec (n < 16) → getD (movedPorts m ports) n noPort ≡ getD ports (source m n) noPort
+      go : Dec (n < portCount) → getD (movedPorts m ports) n noPort ≡ getD ports (source m n) noPort
       go (yes l) = moved-port m ports n l ∙ ap (λ (k : ℕ). getD ports k noPort) (sym (source-port m n l))
       go (no l) =
           List·getD-eq-default (movedPorts m ports) noPort {n = n} (omega (arith, moved-length m ports))
@@ -32,9 +33,9 @@ module _ (m : List ℕ) (ports : List Port) (sixteen : length ports ≡ 16) wher
 
   -- a port's settings are set where they moved to
   pub moved-set : oneToOne m ≡ true → (port : ℕ) (x : Port) → set (movedPorts m ports) (image m port) x ≡ movedPorts m (set ports port x)
-  moved-set ok port x = go (decLt port 16)
+  moved-set ok port x = go (decLt port portCount)
     where
-      at : port < 16 → (n : ℕ) → n < 16 → Dec (n ≡ getD m port 0)
+      at : port < portCount → (n : ℕ) → n < portCount → Dec (n ≡ getD m port 0)
           → getD (set (movedPorts m ports) (getD m port 0) x) n noPort ≡ getD (set ports port x) (preimage m n) noPort
       at l n b (yes e) =
           ap (λ (k : ℕ). getD (set (movedPorts m ports) (getD m port 0) x) k noPort) e
@@ -46,14 +47,14 @@ module _ (m : List ℕ) (ports : List Port) (sixteen : length ports ≡ 16) wher
           getD-set-other (movedPorts m ports) (getD m port 0) n x noPort e
           ∙ moved-port m ports n b
           ∙ sym (getD-set-other ports port (preimage m n) x noPort
-          (λ q. e (sym (preimage-holds m n (subst (λ (k : ℕ). k < 16) (sym q) l)) ∙ ap (λ (k : ℕ). getD m k 0) q)))
+          (λ q. e (sym (preimage-holds m n (subst (λ (k : ℕ). k < portCount) (sym q) l)) ∙ ap (λ (k : ℕ). getD m k 0) q)))
 
-      go : Dec (port < 16) → set (movedPorts m ports) (image m port) x ≡ movedPorts m (set ports port x)
+      go : Dec (port < portCount) → set (movedPorts m ports) (image m port) x ≡ movedPorts m (set ports port x)
       go (yes l) =
           ap (λ (k : ℕ). set (movedPorts m ports) k x) (image-port m port l)
           ∙ ext-getD noPort _ _ (length-set (movedPorts m ports) (getD m port 0) x ∙ moved-length m ports ∙ sym (moved-length m (set ports port x)))
           (λ n b.
-          let c : n < 16 = omega (arith, length-set (movedPorts m ports) (getD m port 0) x, moved-length m ports) in
+          let c : n < portCount = omega (arith, length-set (movedPorts m ports) (getD m port 0) x, moved-length m ports) in
           at l n c (ℕ-discrete n (getD m port 0)) ∙ sym (moved-port m (set ports port x) n c))
       go (no l) =
           ap (λ (k : ℕ). set (movedPorts m ports) k x) (image-other m port (omega arith))
@@ -61,14 +62,14 @@ module _ (m : List ℕ) (ports : List Port) (sixteen : length ports ≡ 16) wher
           ∙ ap (movedPorts m) (sym (set-out ports port x (omega arith)))
 
 -- moved by one map, then by another
-pub moved-twice : (one two : List ℕ) (ports : List Port) → oneToOne one ≡ true → oneToOne two ≡ true → length ports ≡ 16
+pub moved-twice : (one two : List ℕ) (ports : List Port) → oneToOne one ≡ true → oneToOne two ≡ true → length ports ≡ portCount
     → movedPorts two (movedPorts one ports) ≡ movedPorts (composed one two) ports
 unfolding movedPorts
-moved-twice one two ports ok-one ok-two sixteen = listOf-cong _ _ 16 (λ n l. go n (decLt (preimage two n) 16))
+moved-twice one two ports ok-one ok-two sixteen = listOf-cong _ _ portCount (λ n l. go n (decLt (preimage two n) portCount))
   where
-    go : (n : ℕ) → Dec (preimage two n < 16) → getD (movedPorts one ports) (preimage two n) noPort ≡ getD ports (preimage (composed one two) n) noPort
+    go : (n : ℕ) → Dec (preimage two n < portCount) → getD (movedPorts one ports) (preimage two n) noPort ≡ getD ports (preimage (composed one two) n) noPort
     go n (yes b) = moved-port one ports (preimage two n) b ∙ ap (λ (k : ℕ). getD ports k noPort) (preimage-composed one two ok-one ok-two n b)
     go n (no b) =
         List·getD-eq-default (movedPorts one ports) noPort {n = preimage two n} (omega (arith, moved-length one ports))
         ∙ sym (ap (λ (k : ℕ). getD ports k noPort) (preimage-composed-none one two ok-one ok-two n (omega arith))
-        ∙ List·getD-eq-default ports noPort {n = 16} (omega arith))
+        ∙ List·getD-eq-default ports noPort {n = portCount} (omega arith))

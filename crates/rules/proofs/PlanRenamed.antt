@@ -27,6 +27,7 @@ use Rattle.rules.proofs.Images.{image-port, image-eqb, preimage-holds, 
 use Rattle.rules.proofs.PortSets.{image-set, image-set-empty}
 use Rattle.rules.proofs.ViewRenamed.{renameView}
 use Rattle.rules.proofs.TestsRenamed.{renameWay, wayOn-renamed, notOurs-renamed, duplicate-renamed, bytes-renamed, ownAnnounce-renamed, deliveredHere-renamed, noWayOn-renamed, whyBlocked-renamed, alreadyKnown-renamed, wrongSide-renamed, notSigned-renamed, knownTests-renamed, leavingPort-renamed, portOff-renamed, tooLongForPort-renamed, noRoom-renamed, outgoing-renamed}
+use Rattle.numbers.specs.Numbers.{portCount}
 
 unfoldable pub renamePlan : List ℕ → Plan → Plan
 renamePlan m (dropped reason) = dropped reason
@@ -69,7 +70,7 @@ module _ (m : List ℕ) (ok : oneToOne m ≡ true) where
 
   -- ---- the answer
   -- the ports on but the arrival port that carry the announce, by their new numbers
-  spreadPorts-renamed : (v : View) (a : Arrival) → v .on 16 ≡ false → spreadPorts (renameView m v) (renameArrival m a) ≡ imageSet m (spreadPorts v a)
+  spreadPorts-renamed : (v : View) (a : Arrival) → v .on portCount ≡ false → spreadPorts (renameView m v) (renameArrival m a) ≡ imageSet m (spreadPorts v a)
   unfolding spreadPorts renameView renameArrival
   spreadPorts-renamed v a none-on =
       let carried : ℕ → Bool = λ port. not (exceeds (spreadPacket (v .own) (a .bytes)) (v .size port)) in
@@ -86,7 +87,7 @@ module _ (m : List ℕ) (ok : oneToOne m ≡ true) where
   unfolding spreadVerdict renameVerdict
   spreadVerdict-renamed f packet = rw (image-set-empty m ok f) (sym (then-ap (renameVerdict m) _ _ _))
 
-  wayVerdict-renamed : (v : View) (a : Arrival) (w : Way) → v .on 16 ≡ false
+  wayVerdict-renamed : (v : View) (a : Arrival) (w : Way) → v .on portCount ≡ false
       → wayVerdict (renameView m v) (renameArrival m a) (renameWay m w) ≡ renameVerdict m (wayVerdict v a w)
   unfolding wayVerdict renameVerdict renameWay spreadPorts
   wayVerdict-renamed v a (everywhere known) none-on =
@@ -100,7 +101,7 @@ module _ (m : List ℕ) (ok : oneToOne m ≡ true) where
       ap₂ Forward (leavingPort-renamed m ok a (by-return t)) (ap length (outgoing-renamed m v a (by-return t)))
   wayVerdict-renamed v a (blocked why) none-on = refl
 
-  pub verdict-renamed : (v : View) (a : Arrival) (todo : Plan) → v .on 16 ≡ false
+  pub verdict-renamed : (v : View) (a : Arrival) (todo : Plan) → v .on portCount ≡ false
       → verdict (renameView m v) (renameArrival m a) (renamePlan m todo) ≡ renameVerdict m (verdict v a todo)
   unfolding verdict renameVerdict renamePlan
   verdict-renamed v a (dropped reason) none-on = refl
@@ -116,7 +117,7 @@ module _ (m : List ℕ) (ok : oneToOne m ≡ true) where
   leaves-renamed (Spread ports length) = refl
   leaves-renamed Kept = refl
 
-  pub output-renamed : (v : View) (a : Arrival) (todo : Plan) (output : List ℕ) → v .on 16 ≡ false
+  pub output-renamed : (v : View) (a : Arrival) (todo : Plan) (output : List ℕ) → v .on portCount ≡ false
       → outputAfter (renameView m v) (renameArrival m a) (renamePlan m todo) output ≡ outputAfter v a todo output
   unfolding outputAfter renamePlan
   output-renamed v a (dropped reason) output none-on = refl

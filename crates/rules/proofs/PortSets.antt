@@ -14,6 +14,7 @@ use Rattle.octets.specs.Choice.{_then_otherwise_}
 use Rattle.rules.specs.Renumbering.{image, oneToOne, preimage}
 use Rattle.rules.specs.Answers.{setBelow, portSet, inSet, imageSet}
 use Rattle.rules.proofs.Images.{eqb-both, image-port, image-below, preimage-le, preimage-image}
+use Rattle.numbers.specs.Numbers.{portCount}
 
 pub set-below : (f : ℕ → Bool) (n : ℕ) → setBelow f n < 2 ^ n
 unfolding setBelow _then_otherwise_
@@ -74,32 +75,32 @@ set-none f zero h = refl
 set-none f (suc n) h = rw (set-none f n (λ k l. h k (omega arith)), h n (le-refl (suc n)))
 
 -- an empty set has no port
-none-in : (f : ℕ → Bool) → portSet f ≡ 0 → (k : ℕ) → k < 16 → f k ≡ false
+none-in : (f : ℕ → Bool) → portSet f ≡ 0 → (k : ℕ) → k < portCount → f k ≡ false
 unfolding portSet
-none-in f e k l = sym (in-set f 16 k l) ∙ ap (λ (x : ℕ). inSet x k) e ∙ in-zero k
+none-in f e k l = sym (in-set f portCount k l) ∙ ap (λ (x : ℕ). inSet x k) e ∙ in-zero k
 
 module _ (m : List ℕ) (ok : oneToOne m ≡ true) where
   -- a port is in a set exactly if its image is in the renamed set
-  pub in-image-set : (set p : ℕ) → p < 16 → inSet (imageSet m set) (image m p) ≡ inSet set p
+  pub in-image-set : (set p : ℕ) → p < portCount → inSet (imageSet m set) (image m p) ≡ inSet set p
   unfolding imageSet portSet
   in-image-set set p l =
       ap (inSet (imageSet m set)) (image-port m p l)
-      ∙ in-set (λ n. inSet set (preimage m n)) 16 (getD m p 0) (image-below m ok p l)
+      ∙ in-set (λ n. inSet set (preimage m n)) portCount (getD m p 0) (image-below m ok p l)
       ∙ ap (inSet set) (preimage-image m ok p l)
 
   -- the set of those ports that come from a port of the set
   pub image-set : (f g : ℕ → Bool)
-      → ((n : ℕ) → n < 16 → preimage m n < 16 → g n ≡ f (preimage m n))
-      → ((n : ℕ) → n < 16 → preimage m n ≡ 16 → g n ≡ false)
+      → ((n : ℕ) → n < portCount → preimage m n < portCount → g n ≡ f (preimage m n))
+      → ((n : ℕ) → n < portCount → preimage m n ≡ portCount → g n ≡ false)
       → portSet g ≡ imageSet m (portSet f)
   unfolding portSet imageSet
-  image-set f g some none-there = set-cong g (λ n. inSet (portSet f) (preimage m n)) 16 (λ n l. go n l (decLt (preimage m n) 16))
+  image-set f g some none-there = set-cong g (λ n. inSet (portSet f) (preimage m n)) portCount (λ n l. go n l (decLt (preimage m n) portCount))
     where
-      go : (n : ℕ) → n < 16 → Dec (preimage m n < 16) → g n ≡ inSet (setBelow f 16) (preimage m n)
-      go n l (yes b) = some n l b ∙ sym (in-set f 16 (preimage m n) b)
+      go : (n : ℕ) → n < portCount → Dec (preimage m n < portCount) → g n ≡ inSet (setBelow f portCount) (preimage m n)
+      go n l (yes b) = some n l b ∙ sym (in-set f portCount (preimage m n) b)
       go n l (no b) =
           none-there n l (le-antisymm (preimage-le m n) (omega arith))
-          ∙ sym (not-in f 16 (preimage m n) (omega arith))
+          ∙ sym (not-in f portCount (preimage m n) (omega arith))
 
   -- a set is empty if and only if its image is
   pub image-set-empty : (f : ℕ → Bool) → eqb (imageSet m (portSet f)) 0 ≡ eqb (portSet f) 0
@@ -107,9 +108,9 @@ module _ (m : List ℕ) (ok : oneToOne m ≡ true) where
   image-set-empty f =
       eqb-both (imageSet m (portSet f)) 0 (portSet f) 0
       (λ e.
-      set-none f 16
+      set-none f portCount
       (λ k l.
-      sym (in-set f 16 k l)
+      sym (in-set f portCount k l)
       ∙ ap (inSet (portSet f)) (sym (preimage-image m ok k l))
       ∙ none-in (λ n. inSet (portSet f) (preimage m n)) e (getD m k 0) (image-below m ok k l)))
-      (λ e. set-none (λ n. inSet (portSet f) (preimage m n)) 16 (λ n l. ap (λ (x : ℕ). inSet x (preimage m n)) e ∙ in-zero (preimage m n)))
+      (λ e. set-none (λ n. inSet (portSet f) (preimage m n)) portCount (λ n l. ap (λ (x : ℕ). inSet x (preimage m n)) e ∙ in-zero (preimage m n)))

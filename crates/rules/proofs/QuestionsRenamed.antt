@@ -27,9 +27,9 @@ use Rattle.rules.proofs.ViewRenamed.{on-image, size-image, path-renamed
 use Rattle.rules.proofs.PlanRenamed.{renamePlan, plan-renamed}
 
 -- a relay that row 7 doesn't name has sixteen ports
-pub sixteen-ports : (r : Relay) → tablesOk r ≡ true → length (r .ports) ≡ 16
+pub sixteen-ports : (r : Relay) → tablesOk r ≡ true → length (r .ports) ≡ portCount
 unfolding tablesOk tableOk
-sixteen-ports r fine = eqb-true (length (r .ports)) 16 (and-left _ _ (and-left _ _ (and-right _ _ (and-right _ _ fine))))
+sixteen-ports r fine = eqb-true (length (r .ports)) portCount (and-left _ _ (and-left _ _ (and-right _ _ (and-right _ _ fine))))
 
 -- what a renamed slot holds, told
 told-renamed : {A : Type 0} (m : List ℕ) (rename : A → A) (tells : A → Told) → ((x : A) → renameTold m (tells x) ≡ tells (rename x))

@@ -1,5 +1,5 @@
 -- Each record that a call makes of records that keep row 7 keeps it too: its ports, counts and times stay in their ranges.
-use Prim.Native.Nat.{ℕ, _+_, _*_, _%_, _≤_, _<_}
+use Prim.Native.Nat.{ℕ, _+_, _%_, _≤_, _<_}
 use native.Mathlib.Nat.{mod-lt}
 use native.Mathlib.Omega.{arith}
 use mathlib.Core.Bool.{Bool, true, false}
@@ -9,7 +9,7 @@ use lib.Dec.{ltb, lit≤}
 use borrow.Author.Tests.{lt-ltb, ltb-true, le-leb, leb-true, leb-false}
 use Rattle.octets.proofs.Index.{and-left, and-right, and-both, all-at}
 use Rattle.octets.proofs.Choice.{then-true}
-use Rattle.numbers.specs.Numbers.{portCount, blobLimit, clockLimit, timeLimit, targetLimit, graceLimit, penaltyLimit, violationLimit, blockedLimit, pathLifetime}
+use Rattle.numbers.specs.Numbers.{portCount, blobLimit, clockLimit, timeLimit, targetLimit, graceLimit, penaltyLimit, violationLimit, blockedLimit, pathLifetime, hopsLimit, boundaryLifetime, unprovedLifetime}
 use Rattle.rules.specs.Relay.{Slot, empty, used, Path, Return, Ring, withPathRate, holds}
 use Rattle.rules.specs.View.{View}
 use Rattle.rules.specs.Renumbering.{image, oneToOne, renamePath, renameLink, renameReturn, renameSlot}
@@ -106,11 +106,11 @@ module _ (s : RateSettings) (e : RateEntry) (clock : ℕ) (sound : rateSettingsO
   dropped-rate-ok = and-both (lt-ltb _ _ (within .last)) (and-both (lt-ltb _ _ (rated-small .0)) (le-leb _ _ (rated-small .1)))
 
 -- ---- what an accepted packet makes
-lifetime-small : (mode : ℕ) → pathLifetime mode ≤ 604800
+lifetime-small : (mode : ℕ) → pathLifetime mode ≤ boundaryLifetime
 unfolding pathLifetime
 lifetime-small mode =
-    either (λ (n : ℕ). n ≤ 604800) _ (λ _. lit≤ tt)
-    (λ _. either (λ (n : ℕ). n ≤ 604800) _ (λ _. lit≤ tt) (λ _. lit≤ tt))
+    either (λ (n : ℕ). n ≤ boundaryLifetime) _ (λ _. lit≤ tt)
+    (λ _. either (λ (n : ℕ). n ≤ boundaryLifetime) _ (λ _. lit≤ tt) (λ _. lit≤ tt))
 
 module _ (p : Path) (h : pathOk p ≡ true) where
   path-port : ltb (p .port) portCount ≡ true
@@ -160,7 +160,7 @@ module _ (a : Arrival) (port : a .port < portCount) (clock : a .clock < clockLim
   arrival-port : ltb (a .port) portCount ≡ true
   arrival-port = lt-ltb _ _ port
 
-  pub time-small : (lifetime : ℕ) → lifetime ≤ 604800 → timeOk (a .clock + lifetime) ≡ true
+  pub time-small : (lifetime : ℕ) → lifetime ≤ boundaryLifetime → timeOk (a .clock + lifetime) ≡ true
   unfolding timeOk
   time-small lifetime l = le-leb (a .clock + lifetime) timeLimit (omega arith)
 
@@ -176,7 +176,7 @@ module _ (a : Arrival) (port : a .port < portCount) (clock : a .clock < clockLim
       → pathOk (announcedPath v a known) ≡ true
   unfolding pathOk announcedPath tooManyHops
   announced-ok v known sound few h =
-      let l : hops a < 128 = leb-false 128 (hops a) few in
+      let l : hops a < hopsLimit = leb-false hopsLimit (hops a) few in
       let c : Counted blobLimit (announcedBlobs a known .count) = announced-counted a known h in
       and-both arrival-port
       (and-both (lt-ltb (hops a) 256 (omega arith))
@@ -192,7 +192,7 @@ module _ (a : Arrival) (port : a .port < portCount) (clock : a .clock < clockLim
   unfolding linkOk linkRecord
   link-ok p h =
       let l : p .hops < 256 = path-hops p h in
-      and-both arrival-port (and-both (path-port p h) (time-small (6 * (p .hops + 1)) (omega arith)))
+      and-both arrival-port (and-both (path-port p h) (time-small (unprovedLifetime (p .hops)) (omega arith)))
 
   pub renewed-ok : (l : Link) → linkOk l ≡ true → linkOk (renewedLink a l) ≡ true
   unfolding linkOk renewedLink

@@ -14,6 +14,7 @@ use Rattle.octets.proofs.Listed.{allGive, all-first, refuses, rows-passed}
 use Rattle.packet.specs.Header.{contextFlag}
 use Rattle.packet.specs.Read.{headerOf}
 use Rattle.packet.specs.Announce.{ratchetLength, leastAnnounce}
+use Rattle.packet.specs.Places.{blobEnd, signatureWidth}
 use Rattle.numbers.specs.Numbers.{pathCount, timeLimit}
 use Rattle.rules.specs.Relay.{Slot, empty, used, Path, Relay}
 use Rattle.rules.specs.View.{isExpiredPath, expiryIf, expiredPath, View, viewAt}
@@ -51,7 +52,7 @@ fits-of reason h =
 -- ---- the clauses
 least-small : (h : ℕ) → ltb (leastAnnounce h) (2 ^ 41) ≡ true
 unfolding leastAnnounce ratchetLength
-least-small h = either (λ n. ltb (64 + 10 + 10 + n + 64) (2 ^ 41) ≡ true) (contextFlag h) (λ _. refl) (λ _. refl)
+least-small h = either (λ n. ltb (blobEnd + n + signatureWidth) (2 ^ 41) ≡ true) (contextFlag h) (λ _. refl) (λ _. refl)
 
 clause-fits : (p : List ℕ) → inBits (BadForm (failing p)) ≡ true
 unfolding failing formTests allGive _and_

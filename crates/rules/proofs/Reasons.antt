@@ -13,9 +13,7 @@ use Rattle.octets.specs.Choice.{_then_otherwise_, _or_}
 use Rattle.octets.specs.Listed.{Test, firstOf, anyHolds, valued}
 use Rattle.octets.proofs.Index.{and-both, and-no, and-assoc, and-true}
 use Rattle.octets.proofs.Listed.{allGive, all-first, past-first}
-use Rattle.packet.specs.Header.{typeTwo, contextFlag, ofKindLink, packetKind, isData, isAnnounce, isLinkRequest, isProof}
-use Rattle.packet.specs.Read.{headerOf}
-use Rattle.packet.specs.Announce.{ratchetLength, leastAnnounce}
+use Rattle.packet.specs.Header.{typeTwo, ofKindLink, packetKind, isData, isAnnounce, isLinkRequest, isProof}
 use Rattle.rules.specs.Relay.{Slot, empty, used, Path, Return, Relay}
 use Rattle.rules.specs.View.{View, viewAt}
 use Rattle.rules.specs.Arrival.{Arrival, header, hops, destination, isLinkProof}
@@ -88,21 +86,11 @@ first-told n k x (t ∷ ts) rest g = go (t .holds) (first-told (n + 1) k x ts re
     go true below = rw (g .0) refl
     go false below = below
 
--- 148, or 180 with the context flag
-least-is : (h : ℕ) → leastAnnounce h ≡ (contextFlag h then 180 otherwise 148)
-unfolding leastAnnounce ratchetLength _then_otherwise_
-least-is h = go (contextFlag h)
-  where
-    go : (b : Bool) → 64 + 10 + 10 + (b then 32 otherwise 0) + 64 ≡ (b then 180 otherwise 148)
-    go true = refl
-    go false = refl
-
 form-told : (p : List ℕ) (k x : ℕ)
     → (badForm p and eqb (clauseNumber (failing p)) k and eqb (leastLength (failing p)) x) ≡ tellsFrom 1 k x (clauses p)
 unfolding badForm failing formTests clauses valued numbered
 form-told p k x =
     first-told 1 k x (formTests p) TypeTwoProof (refl, (refl, (refl, (refl, (refl, (refl, (refl, (refl, tt))))))))
-    ∙ rw (least-is (headerOf p)) refl
 
 -- ---- verdicts
 -- where the first test fails, what the others give decides

@@ -10,6 +10,7 @@ use Rattle.rules.specs.declared.Link.{Link}
 use Rattle.rules.proofs.Images.{image-composed}
 use Rattle.rules.proofs.MovedPorts.{moved-twice}
 use Rattle.rules.proofs.SlotsRenamed.{slots-twice}
+use Rattle.numbers.specs.Numbers.{portCount}
 
 module _ (one two : List ℕ) (ok-one : oneToOne one ≡ true) (ok-two : oneToOne two ≡ true) where
   path-twice : (p : Path) → renamePath two (renamePath one p) ≡ renamePath (composed one two) p
@@ -49,7 +50,7 @@ module _ (one two : List ℕ) (ok-one : oneToOne one ≡ true) (ok-two : oneToOn
         expiry = t .expiry;
       }
 
-  pub renumbered-twice : (r : Relay) → length (r .ports) ≡ 16 → renumbered two (renumbered one r) ≡ renumbered (composed one two) r
+  pub renumbered-twice : (r : Relay) → length (r .ports) ≡ portCount → renumbered two (renumbered one r) ≡ renumbered (composed one two) r
   unfolding renumbered
   renumbered-twice r sixteen = λ i.
       record {

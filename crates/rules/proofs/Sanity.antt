@@ -27,7 +27,7 @@ abbrev pub oneUp : List ℕ
 oneUp = 1 ∷ 2 ∷ 3 ∷ 4 ∷ 5 ∷ 6 ∷ 7 ∷ 8 ∷ 9 ∷ 10 ∷ 11 ∷ 12 ∷ 13 ∷ 14 ∷ 15 ∷ 0 ∷ []
 
 -- after `before`, a packet that comes in by one port leaves by another; and where the renumbering comes first, by their new numbers
-pub record Leaves (before : Outcome) (sent : ℕ → Call) (from : ℕ) (reply : ℕ → Reply) (by : ℕ) : Type 0 where
+pub record LeavesBy (before : Outcome) (sent : ℕ → Call) (from : ℕ) (reply : ℕ → Reply) (by : ℕ) : Type 0 where
   pub at-once : replies (sent from ∷ []) (before .relay) (before .tally) ≡ reply by ∷ []
   pub renumbered-first : replies (renumbering oneUp ∷ sent (from + 1) ∷ []) (before .relay) (before .tally) ≡ numbered 0 ∷ reply (by + 1) ∷ []
 
@@ -57,7 +57,7 @@ module _ (bytes : List ℕ) (clock : ℕ) (r : Relay) (t : Tally)
       → tableRefusal (renumbers oneUp) r ≡ 0
       → packetRefusal (renumbered oneUp r) (arrival bytes clock (from + 1)) (length blank) ≡ 0
       → judgedOn (renumbered oneUp r) (from + 1) .reply ≡ reply (by + 1)
-      → Leaves (record { reply = last; relay = r; tally = t }) (arrives bytes clock) from reply by
+      → LeavesBy (record { reply = last; relay = r; tally = t }) (arrives bytes clock) from reply by
   unfolding replies judgedOn
   leaves from reply by last accepted here ok taken there =
       record {
@@ -69,12 +69,12 @@ module _ (bytes : List ℕ) (clock : ℕ) (r : Relay) (t : Tally)
       }
 
 -- a fresh relay with two ports on spreads a good announce
-pub announce-spreads : Leaves prepared (arrives announceBytes 1000) 1 (spreads spreadBytes) 2
+pub announce-spreads : LeavesBy prepared (arrives announceBytes 1000) 1 (spreads spreadBytes) 2
 unfolding rules goodPlan goodJudge ofTest judgedOn
 announce-spreads = rw prepared-is (leaves announceBytes 1000 preparedRelay newTally announce-new announce-form 1 _ 2 _ refl refl refl refl refl)
 
 -- data to that destination is forwarded
-pub data-forwarded : Leaves announced (arrives dataBytes 2000) 2 (forwards dataLastHop) 1
+pub data-forwarded : LeavesBy announced (arrives dataBytes 2000) 2 (forwards dataLastHop) 1
 unfolding rules goodPlan goodJudge ofTest judgedOn
 data-forwarded = rw announced-is (leaves dataBytes 2000 announcedRelay (tallyOf 1 0) data-new refl 2 _ 1 _ refl refl refl refl refl)
 
@@ -83,19 +83,19 @@ receipt-new : viewAt 2500 (carriedRelay dataKey) .remembered (packetHash (receip
 unfolding rules passes
 receipt-new = seen-quick 2500 (carriedRelay dataKey) (packetHash (receiptBytes 5)) refl
 
-pub receipt-comes-home : Leaves carried (arrives (receiptBytes 5) 2500) 1 (forwards (receiptBytes 6)) 2
+pub receipt-comes-home : LeavesBy carried (arrives (receiptBytes 5) 2500) 1 (forwards (receiptBytes 6)) 2
 unfolding rules goodPlan goodJudge ofTest judgedOn
 receipt-comes-home =
     rw carried-is
     (leaves (receiptBytes 5) 2500 (carriedRelay dataKey) (tallyOf 1 1) receipt-new refl 1 _ 2 _ refl refl refl refl refl)
 
 -- a link request is forwarded
-pub request-forwarded : Leaves announced (arrives requestBytes 2000) 2 (forwards requestLastHop) 1
+pub request-forwarded : LeavesBy announced (arrives requestBytes 2000) 2 (forwards requestLastHop) 1
 unfolding rules goodPlan goodJudge ofTest judgedOn
 request-forwarded = rw announced-is (leaves requestBytes 2000 announcedRelay (tallyOf 1 0) request-new refl 2 _ 1 _ refl refl refl refl refl)
 
 -- its proof comes back
-pub proof-comes-back : Leaves asked (arrives (linkProofBytes 0) 2001) 1 (forwards (linkProofBytes 1)) 2
+pub proof-comes-back : LeavesBy asked (arrives (linkProofBytes 0) 2001) 1 (forwards (linkProofBytes 1)) 2
 unfolding rules goodPlan goodJudge ofTest judgedOn
 proof-comes-back = rw asked-is (leaves (linkProofBytes 0) 2001 (askedRelay link) (tallyOf 1 1) proof-new refl 1 _ 2 _ refl refl refl refl refl)
 
@@ -125,11 +125,11 @@ link-new : (hops : ℕ) → viewAt 2400 provedRelay .remembered (packetHash (lin
 unfolding rules passes
 link-new hops = seen-quick 2400 provedRelay (packetHash (linkBytes hops)) refl
 
-pub data-to-asking-side : Leaves proved (arrives (linkBytes 0) 2400) 1 (forwards (linkBytes 1)) 2
+pub data-to-asking-side : LeavesBy proved (arrives (linkBytes 0) 2400) 1 (forwards (linkBytes 1)) 2
 unfolding rules goodPlan goodJudge ofTest judgedOn
 data-to-asking-side = rw proved-is (leaves (linkBytes 0) 2400 provedRelay (tallyOf 1 2) (link-new 0) refl 1 _ 2 _ refl refl refl refl refl)
 
-pub data-to-answering-side : Leaves proved (arrives (linkBytes 3) 2400) 2 (forwards (linkBytes 4)) 1
+pub data-to-answering-side : LeavesBy proved (arrives (linkBytes 3) 2400) 2 (forwards (linkBytes 4)) 1
 unfolding rules goodPlan goodJudge ofTest judgedOn
 data-to-answering-side = rw proved-is (leaves (linkBytes 3) 2400 provedRelay (tallyOf 1 2) (link-new 3) refl 2 _ 1 _ refl refl refl refl refl)
 

@@ -22,6 +22,7 @@ use Rattle.rules.specs.declared.Link.{Link}
 use Rattle.rules.specs.declared.Blocked.the-variants.{NotProved}
 use Rattle.rules.proofs.Images.{image-other, image-eqb, source, source-image}
 use Rattle.rules.proofs.ViewRenamed.{renameView}
+use Rattle.numbers.specs.Numbers.{portCount}
 
 unfoldable pub renameWay : List ℕ → Way → Way
 renameWay m (everywhere known) = everywhere (renameSlot (renamePath m) known)
@@ -172,13 +173,13 @@ module _ (m : List ℕ) (ok : oneToOne m ≡ true) where
 
   pub leavingPort-renamed : (a : Arrival) (w : Way) → leavingPort (renameArrival m a) (renameWay m w) ≡ image m (leavingPort a w)
   unfolding leavingPort renameWay renamePath renameLink renameReturn
-  leavingPort-renamed a (everywhere known) = sym (image-other m 16 (le-refl 16))
+  leavingPort-renamed a (everywhere known) = sym (image-other m portCount (le-refl portCount))
   leavingPort-renamed a (by-path p) = refl
   leavingPort-renamed a (along-link l) =
       ap (λ (b : Bool). b then image m (l .asking) otherwise image m (l .answering)) (answering-renamed l a)
       ∙ sym (then-ap (image m) (fromAnsweringSide l a) (l .asking) (l .answering))
   leavingPort-renamed a (by-return t) = refl
-  leavingPort-renamed a (blocked why) = sym (image-other m 16 (le-refl 16))
+  leavingPort-renamed a (blocked why) = sym (image-other m portCount (le-refl portCount))
 
   -- where the leaving port was
   leaving-source : (a : Arrival) (w : Way) → source m (leavingPort (renameArrival m a) (renameWay m w)) ≡ leavingPort a w

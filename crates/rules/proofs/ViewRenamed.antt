@@ -17,6 +17,7 @@ use Rattle.rules.proofs.Images.{source, source-other, source-image}
 use Rattle.rules.proofs.MovedPorts.{moved-at}
 use Rattle.rules.proofs.Latest.{latest-cong}
 use Rattle.rules.proofs.SlotsRenamed.{slot-renamed, lowest-renamed, lowestFree-renamed}
+use Rattle.numbers.specs.Numbers.{portCount, pathCount, linkCount, returnCount, hashCount}
 
 -- a view whose ports have other numbers
 unfoldable pub renameView : List ℕ → View → View
@@ -38,31 +39,31 @@ renameView m v =
     }
 
 -- 16 is no port
-pub no-port-on : (clock : ℕ) (r : Relay) → viewAt clock r .on 16 ≡ false
+pub no-port-on : (clock : ℕ) (r : Relay) → viewAt clock r .on portCount ≡ false
 unfolding viewAt portOn
-no-port-on clock r = and-no (getD (r .ports) 16 noPort .on) refl
+no-port-on clock r = and-no (getD (r .ports) portCount noPort .on) refl
 
 -- ---- the places where records lie
 module _ (m : List ℕ) (clock : ℕ) (r : Relay) where
   pub pathPlace-renamed : (destination : List ℕ) → pathPlace clock (renumbered m r) destination ≡ pathPlace clock r destination
   unfolding pathPlace isLivePath renumbered renamePath
-  pathPlace-renamed destination = lowest-renamed (renamePath m) (isLivePath clock destination) (λ p. refl) 64 (r .paths)
+  pathPlace-renamed destination = lowest-renamed (renamePath m) (isLivePath clock destination) (λ p. refl) pathCount (r .paths)
 
   pub linkPlace-renamed : (id : List ℕ) → linkPlace clock (renumbered m r) id ≡ linkPlace clock r id
   unfolding linkPlace isLiveLink renumbered renameLink
-  linkPlace-renamed id = lowest-renamed (renameLink m) (isLiveLink clock id) (λ l. refl) 64 (r .links)
+  linkPlace-renamed id = lowest-renamed (renameLink m) (isLiveLink clock id) (λ l. refl) linkCount (r .links)
 
   pub returnPlace-renamed : (key : List ℕ) → returnPlace clock (renumbered m r) key ≡ returnPlace clock r key
   unfolding returnPlace isLiveReturn renumbered renameReturn
-  returnPlace-renamed key = lowest-renamed (renameReturn m) (isLiveReturn clock key) (λ t. refl) 512 (r .returns .slots)
+  returnPlace-renamed key = lowest-renamed (renameReturn m) (isLiveReturn clock key) (λ t. refl) returnCount (r .returns .slots)
 
   pub freePath-renamed : freePath clock (renumbered m r) ≡ freePath clock r
   unfolding freePath renumbered renamePath
-  freePath-renamed = lowestFree-renamed (renamePath m) (λ p. ltb clock (p .expiry)) (λ p. refl) 64 (r .paths)
+  freePath-renamed = lowestFree-renamed (renamePath m) (λ p. ltb clock (p .expiry)) (λ p. refl) pathCount (r .paths)
 
   pub freeLink-renamed : freeLink clock (renumbered m r) ≡ freeLink clock r
   unfolding freeLink renumbered renameLink
-  freeLink-renamed = lowestFree-renamed (renameLink m) (λ l. ltb clock (l .expiry)) (λ l. refl) 64 (r .links)
+  freeLink-renamed = lowestFree-renamed (renameLink m) (λ l. ltb clock (l .expiry)) (λ l. refl) linkCount (r .links)
 
   pub path-renamed : (destination : List ℕ)
       → viewAt clock (renumbered m r) .path destination ≡ renameSlot (renamePath m) (viewAt clock r .path destination)
@@ -81,7 +82,7 @@ module _ (m : List ℕ) (clock : ℕ) (r : Relay) where
   expired-renamed : (destination : List ℕ) → viewAt clock (renumbered m r) .expired destination ≡ viewAt clock r .expired destination
   unfolding viewAt expiredPath renumbered
   expired-renamed destination =
-      latest-cong _ _ 64
+      latest-cong _ _ pathCount
       (λ i l.
       ap (expiryIf (isExpiredPath clock destination)) (slot-renamed (renamePath m) (r .paths) i)
       ∙ same-expiry destination (getD (r .paths) i empty))
@@ -99,7 +100,7 @@ module _ (m : List ℕ) (clock : ℕ) (r : Relay) where
       ∙ slot-renamed (renameReturn m) (r .returns .slots) (returnPlace clock r key)
 
   -- ---- a relay of sixteen ports
-  module _ (sixteen : length (r .ports) ≡ 16) where
+  module _ (sixteen : length (r .ports) ≡ portCount) where
     mode-renamed : (n : ℕ) → portMode (renumbered m r) n ≡ portMode r (source m n)
     unfolding portMode renumbered
     mode-renamed n = ap (λ (p : Port). p .mode) (moved-at m (r .ports) sixteen n)
@@ -111,17 +112,17 @@ module _ (m : List ℕ) (clock : ℕ) (r : Relay) where
     -- a number below 16 may come from nowhere; then it comes from 16, which is as noPort
     on-renamed : (n : ℕ) → portOn (renumbered m r) n ≡ portOn r (source m n)
     unfolding portOn renumbered
-    on-renamed n = ap (λ (p : Port). ltb n 16 and p .on) (moved-at m (r .ports) sixteen n) ∙ go (decLt n 16) (decLt (source m n) 16)
+    on-renamed n = ap (λ (p : Port). ltb n portCount and p .on) (moved-at m (r .ports) sixteen n) ∙ go (decLt n portCount) (decLt (source m n) portCount)
       where
-        go : Dec (n < 16) → Dec (source m n < 16)
-            → (ltb n 16 and getD (r .ports) (source m n) noPort .on) ≡ (ltb (source m n) 16 and getD (r .ports) (source m n) noPort .on)
-        go (yes a) (yes b) = and-yes _ (lt-ltb n 16 a) ∙ sym (and-yes _ (lt-ltb (source m n) 16 b))
+        go : Dec (n < portCount) → Dec (source m n < portCount)
+            → (ltb n portCount and getD (r .ports) (source m n) noPort .on) ≡ (ltb (source m n) portCount and getD (r .ports) (source m n) noPort .on)
+        go (yes a) (yes b) = and-yes _ (lt-ltb n portCount a) ∙ sym (and-yes _ (lt-ltb (source m n) portCount b))
         go (yes a) (no b) =
-            and-yes _ (lt-ltb n 16 a)
+            and-yes _ (lt-ltb n portCount a)
             ∙ ap (λ (p : Port). p .on) (List·getD-eq-default (r .ports) noPort {n = source m n} (omega arith))
-            ∙ sym (and-no _ (le-ltb (source m n) 16 (omega arith)))
+            ∙ sym (and-no _ (le-ltb (source m n) portCount (omega arith)))
         go (no a) b =
-            ap (λ (k : ℕ). ltb n 16 and getD (r .ports) k noPort .on) (source-other m n (omega arith))
+            ap (λ (k : ℕ). ltb n portCount and getD (r .ports) k noPort .on) (source-other m n (omega arith))
             ∙ sym (ap (portOn r) (source-other m n (omega arith)))
 
     pub on-image : oneToOne m ≡ true → (n : ℕ) → portOn (renumbered m r) (image m n) ≡ portOn r n
@@ -140,11 +141,11 @@ module _ (m : List ℕ) (clock : ℕ) (r : Relay) where
           mode = λ n. mode-renamed n i;
           size = λ n. size-renamed n i;
           local = isLocal r;
-          remembered = λ hash. ltb (hashPlace clock r hash) 1024;
+          remembered = λ hash. ltb (hashPlace clock r hash) hashCount;
           path = λ destination. path-renamed destination i;
           expired = λ destination. expired-renamed destination i;
           link = λ id. link-renamed id i;
           return = λ key. return-renamed key i;
-          roomForPath = ltb (freePath-renamed i) 64;
-          roomForLink = ltb (freeLink-renamed i) 64;
+          roomForPath = ltb (freePath-renamed i) pathCount;
+          roomForLink = ltb (freeLink-renamed i) linkCount;
         }

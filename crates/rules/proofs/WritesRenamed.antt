@@ -8,7 +8,7 @@ use Rattle.octets.specs.Index.{_and_}
 use Rattle.octets.specs.Choice.{_then_otherwise_}
 use Rattle.octets.proofs.Choice.{then-ap}
 use Rattle.packet.specs.Header.{typeTwo, isData}
-use Rattle.numbers.specs.Numbers.{pathLifetime}
+use Rattle.numbers.specs.Numbers.{pathLifetime, returnCount}
 use Rattle.notes.specs.Notes.{noNotes}
 use Rattle.rules.specs.Relay.{Slot, empty, used, Path, Return, withPathRate, Relay, withClock, withPaths, withLinks, withReturns, withHashes}
 use Rattle.rules.specs.View.{View, viewAt, isLiveReturn, pathPlace, linkPlace, returnPlace, freeLink}
@@ -106,7 +106,7 @@ module _ (m : List ℕ) where
   putReturn-renamed a p r =
       let others : Return → Bool = isLiveReturn (a .clock) (returnKey a) in
       let next : ℕ = r .returns .next in
-      ap (λ (slots : List (Slot Return)). withReturns (record { slots = slots; next = (next + 1) % 512 }) (renumbered m r))
+      ap (λ (slots : List (Slot Return)). withReturns (record { slots = slots; next = (next + 1) % returnCount }) (renumbered m r))
       (ap₂ (λ (slots : List (Slot Return)) (t : Return). set slots next (used t))
       (emptied-renamed (renameReturn m) others (λ t. refl) (r .returns .slots))
       (returnRecord-renamed a p)

@@ -5,7 +5,7 @@ use mathlib.Core.List.{List}
 use lib.Dec.{eqb}
 use Rattle.octets.specs.Index.{_and_}
 use Rattle.octets.specs.Choice.{_then_otherwise_, _or_}
-use Rattle.numbers.specs.Numbers.{portCount}
+use Rattle.numbers.specs.Numbers.{portCount, leastLinkRequest, shorterLinkProof}
 use Rattle.rules.specs.Renumbering.{image, preimage}
 use Rattle.rules.specs.declared.Clause.{Clause}
 use Rattle.rules.specs.declared.Clause.the-variants.{TypeTwoProof, TypeTwoOfKindLink, AnnounceNotSingle, AnnounceTooShort, AnnounceOfAnother, RequestOfKindLink, RequestTooShort, LinkProofLength}
@@ -37,8 +37,8 @@ leastLength AnnounceNotSingle = 0
 leastLength (AnnounceTooShort least) = least
 leastLength AnnounceOfAnother = 0
 leastLength RequestOfKindLink = 0
-leastLength RequestTooShort = 64
-leastLength LinkProofLength = 96
+leastLength RequestTooShort = leastLinkRequest
+leastLength LinkProofLength = shorterLinkProof
 
 -- "6.1 type 1 packet not asking to be relayed; 6.2 no path record; 6.3 only expired path records lying in their slots, with the greatest expiry; 6.4 no
 -- live link; 6.5 link not proved yet; 6.6 no live return record"

@@ -7,6 +7,7 @@ use lib.ListN.{take, drop, set, replicate}
 use Rattle.octets.specs.Choice.{_then_otherwise_, _or_, same}
 use Rattle.packet.specs.Announce.{emissionOf}
 use Rattle.rules.specs.Relay.{Blobs}
+use Rattle.numbers.specs.Numbers.{blobWidth}
 
 -- the blobs that are held
 unfoldable pub held : Blobs → List (List ℕ)
@@ -26,7 +27,7 @@ greatestEmission (x ∷ xs) = greatest (emissionOf x) (greatestEmission xs)
 
 -- a spare blob place of a new path
 abbrev pub noBlob : List ℕ
-noBlob = replicate 10 0
+noBlob = replicate blobWidth 0
 
 -- a new path's blobs: one, and spare places of zeros
 unfoldable pub oneBlob : ℕ → List ℕ → Blobs

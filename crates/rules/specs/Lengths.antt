@@ -9,7 +9,7 @@ use Rattle.octets.specs.Index.{_and_, allBelow}
 use Rattle.octets.specs.Choice.{_or_}
 use Rattle.packet.specs.Header.{isAnnounce}
 use Rattle.packet.specs.Read.{longestPacket, headerOf}
-use Rattle.numbers.specs.Numbers.{portCount}
+use Rattle.numbers.specs.Numbers.{portCount, addressWidth}
 use Rattle.rules.specs.Relay.{Path, Relay}
 use Rattle.rules.specs.View.{portSize}
 use Rattle.rules.specs.Refusals.{slotOk, all}
@@ -21,7 +21,7 @@ use Rattle.rules.specs.declared.Answer.the-variants.{Refused, Judged}
 
 -- "An address travels as sixteen bytes": our own, and each path's next hop. No bytes of tables can hold others
 unfoldable pub isAddress : List ℕ → Bool
-isAddress address = eqb (length address) 16
+isAddress address = eqb (length address) addressWidth
 
 unfoldable pub byAddress : Path → Bool
 byAddress p = isAddress (p .nextHop)
@@ -32,11 +32,11 @@ addressed r = isAddress (r .own) and all (slotOk byAddress) (r .paths)
 -- ---- p is the packet as it came in, n the length of what leaves
 -- "Forwarded packets keep their length or lose sixteen bytes"
 unfoldable pub forwardedLength : List ℕ → ℕ → Bool
-forwardedLength p n = eqb n (length p) or eqb (n + 16) (length p)
+forwardedLength p n = eqb n (length p) or eqb (n + addressWidth) (length p)
 
 -- an announce of type 2 keeps its length, one of type 1 gains a relay address
 unfoldable pub grownLength : List ℕ → ℕ → Bool
-grownLength p n = eqb n (length p) or eqb n (length p + 16)
+grownLength p n = eqb n (length p) or eqb n (length p + addressWidth)
 
 -- what leaves is at most 500 bytes long; "announces alone grow"
 unfoldable pub verdictLengthOk : List ℕ → Verdict → Bool

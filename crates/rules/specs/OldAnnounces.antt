@@ -10,6 +10,7 @@ use lib.ListN.{length}
 use Rattle.octets.specs.Index.{_and_}
 use Rattle.packet.specs.Header.{isAnnounce}
 use Rattle.packet.specs.Announce.{emissionOf}
+use Rattle.packet.specs.Places.{blobEnd}
 use Rattle.rules.specs.Relay.{Slot, empty, used, Path, Return, Relay, fresh}
 use Rattle.rules.specs.View.{View, viewAt}
 use Rattle.rules.specs.Refusals.{packetRefusal}
@@ -51,7 +52,7 @@ LivePath d p a r = viewAt (a .clock) r .path d ≡ used p
 pub record HeldAnnounce (d : List ℕ) (p : Path) (a : Arrival) : Type 0 where
   pub announce : isAnnounce (header a) ≡ true
   pub for-it : destination a ≡ d
-  pub has-blob : 84 ≤ length (body a)
+  pub has-blob : blobEnd ≤ length (body a)
   pub is-held : isAmong (blob a) (held (p .blobs)) ≡ true
 
 -- ---- 1. "while a destination's path is live and unmarked, a packet dropped as duplicate, and an announce for it whose blob it holds, leave its port, next

@@ -5,10 +5,11 @@ use mathlib.Core.Bool.{Bool, true, false, not}
 use mathlib.Core.List.{List, [], _∷_}
 use lib.Dec.{eqb}
 use Rattle.octets.specs.Index.{_and_}
-use Rattle.octets.specs.Choice.{_then_otherwise_, _or_}
+use Rattle.octets.specs.Choice.{_or_}
 use Rattle.octets.specs.Listed.{Test, _gives_otherwise_}
-use Rattle.packet.specs.Header.{typeTwo, contextFlag, ofKindLink, isData, isAnnounce, isLinkRequest, isProof}
+use Rattle.packet.specs.Header.{typeTwo, ofKindLink, isData, isAnnounce, isLinkRequest, isProof}
 use Rattle.packet.specs.Read.{headerOf}
+use Rattle.packet.specs.Announce.{leastAnnounce}
 use Rattle.rules.specs.Relay.{Slot, empty, used}
 use Rattle.rules.specs.View.{View}
 use Rattle.rules.specs.Arrival.{Arrival, header, hops, destination, isLinkProof}
@@ -19,6 +20,7 @@ use Rattle.rules.specs.declared.Verdict.{Verdict}
 use Rattle.rules.specs.declared.Verdict.the-variants.{Drop, Deliver, Forward, Spread, Kept}
 use Rattle.rules.specs.declared.Answer.{Answer}
 use Rattle.rules.specs.declared.Answer.the-variants.{Refused, Judged}
+use Rattle.numbers.specs.Numbers.{leastLinkRequest, shorterLinkProof}
 
 -- ---- what an answer tells. A refusal is no drop
 -- it is a drop by test n
@@ -66,11 +68,11 @@ clauses p =
     typeTwoProof p gives 0 otherwise
     typeTwoOfKindLink p gives 0 otherwise
     announceNotSingle p gives 0 otherwise
-    announceTooShort p gives (contextFlag (headerOf p) then 180 otherwise 148) otherwise
+    announceTooShort p gives leastAnnounce (headerOf p) otherwise
     announceOfAnother p gives 0 otherwise
     requestOfKindLink p gives 0 otherwise
-    requestTooShort p gives 64 otherwise
-    linkProofLength p gives 96 otherwise
+    requestTooShort p gives leastLinkRequest otherwise
+    linkProofLength p gives shorterLinkProof otherwise
     []
 
 -- ---- test 6's sentences, 6.1 to 6.6. No two hold together

@@ -13,7 +13,7 @@ use Rattle.packet.specs.Header.{typeTwo, ofKindSingle, ofKindLink, isData, isAn
 use Rattle.packet.specs.Read.{headerOf, partsOf, payload}
 use Rattle.packet.specs.Hash.{linkId}
 use Rattle.packet.specs.Announce.{emissionOf, leastAnnounce, announcedDestination}
-use Rattle.numbers.specs.Numbers.{portCount}
+use Rattle.numbers.specs.Numbers.{portCount, hopsLimit, leastLinkRequest, shorterLinkProof, longerLinkProof}
 use Rattle.rules.specs.Relay.{Slot, empty, used, Path}
 use Rattle.rules.specs.View.{View}
 use Rattle.rules.specs.Arrival.{Arrival, header, hops, relayAddress, destination, hash, blob, isLinkProof}
@@ -76,11 +76,11 @@ requestOfKindLink p = isLinkRequest (headerOf p) and ofKindLink (headerOf p)
 
 -- or payload under 64;
 unfoldable pub requestTooShort : List ℕ → Bool
-requestTooShort p = isLinkRequest (headerOf p) and ltb (length (payload p)) 64
+requestTooShort p = isLinkRequest (headerOf p) and ltb (length (payload p)) leastLinkRequest
 
 -- a link proof whose payload isn't 96 or 99.
 unfoldable pub linkProofLength : List ℕ → Bool
-linkProofLength p = isLinkProof p and not (eqb (length (payload p)) 96 or eqb (length (payload p)) 99)
+linkProofLength p = isLinkProof p and not (eqb (length (payload p)) shorterLinkProof or eqb (length (payload p)) longerLinkProof)
 
 unfoldable pub formTests : List ℕ → List (Test Clause)
 formTests p =
@@ -111,7 +111,7 @@ deliveredHere v a = (isData (header a) or isLinkRequest (header a)) and not (ofK
 
 -- 5. Hops 128 or more.
 unfoldable pub tooManyHops : ℕ → Bool
-tooManyHops hops = leb 128 hops
+tooManyHops hops = leb hopsLimit hops
 
 -- 6. No way on: Ways.antt finds the case
 unfoldable pub noWayOn : Way → Bool

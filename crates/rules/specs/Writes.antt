@@ -9,7 +9,7 @@ use Rattle.octets.specs.Choice.{_then_otherwise_, _or_}
 use Rattle.packet.specs.Header.{typeTwo, isData}
 use Rattle.packet.specs.Read.{headerOf, partsOf}
 use Rattle.packet.specs.Hash.{linkId}
-use Rattle.numbers.specs.Numbers.{blobLimit, returnCount, hashCount, pathLifetime, hashLifetime, returnLifetime, unprovedLifetime, provedLifetime}
+use Rattle.numbers.specs.Numbers.{blobLimit, returnCount, hashCount, pathLifetime, hashLifetime, returnLifetime, unprovedLifetime, provedLifetime, addressWidth}
 use Rattle.notes.specs.Notes.{noNotes}
 use Rattle.rules.specs.Relay.{Slot, empty, used, Ring, makeRing, withSlots, makePath, withPathRate, withNote, makeLink, withLinkState, makeReturn, makeRemembered, Blobs, Path, Return, Relay, holds, withClock, withPaths, withLinks, withReturns, withHashes}
 use Rattle.rules.specs.View.{View, viewAt, isLiveReturn, pathPlace, linkPlace, returnPlace, freePath, freeLink}
@@ -108,7 +108,7 @@ notePath note destination clock r =
 -- ---- return records
 -- first 16 of packet hash, arrival port, leaving port
 unfoldable pub returnKey : Arrival → List ℕ
-returnKey a = take 16 (hash a)
+returnKey a = take addressWidth (hash a)
 
 unfoldable pub returnRecord : Arrival → Path → Return
 returnRecord a p = makeReturn (returnKey a) (a .port) (p .port) (a .clock + returnLifetime)

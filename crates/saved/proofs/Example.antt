@@ -24,7 +24,7 @@ use Rattle.rules.specs.Relay.{freshPort, noPort, noRateSettings, noRateEntry, S
 use Rattle.rules.specs.Blobs.{noBlob}
 use Rattle.rules.specs.Refusals.{tablesOk}
 use Rattle.rules.specs.declared.Tally.{Tally}
-use Rattle.rules.proofs.History.{Fits}
+use Rattle.rules.proofs.History.{TallyFits}
 use Rattle.rules.proofs.Unfolding.{rules}
 use Rattle.rules.proofs.Outcomes.{relayOf, knownPath, linkOf, returnOf}
 use Rattle.tables.specs.Forms.{blobWidth, portFormIn, pathFormIn, pathForm, relayFormIn, relayForm}
@@ -82,7 +82,7 @@ are-bytes = bytes-bytes relay shape ok
 abbrev pub tally : Tally
 tally = record { total = 4294967295; dropped = 0; delivered = 0; forwarded = 1; spread = 1; kept = 7 }
 
-pub small : Fits tally
+pub small : TallyFits tally
 small = record { total = lit< tt; dropped = lit< tt; delivered = lit< tt; forwarded = lit< tt; spread = lit< tt; kept = lit< tt }
 
 -- eight bytes more than the file has; tables and a tally that hold something else
@@ -124,8 +124,8 @@ loaded-well =
 
 -- ---- the contents, computed: kind, edition, count; then the offset and the length of each body. Where editions differ, the
 -- layout tells the length: in edition 5 the first body is 36 bytes long, the ports' 64, and the paths' 44,928
-abbrev row : ℕ → ℕ → List ℕ
-row offset long = bigEndian 4 offset ++ bigEndian 2 long
+abbrev item : ℕ → ℕ → List ℕ
+item offset long = bigEndian 4 offset ++ bigEndian 2 long
 
 abbrev firstLong : ℕ
 firstLong = portsAt
@@ -141,14 +141,14 @@ contents =
     let locals = 52 + firstLong + portsLong in
     let links = locals + 272 + pathsLong in
     2 ∷ currentEdition ∷ 0 ∷ 8 ∷
-    (row 52 firstLong
-    ++ (row (52 + firstLong) portsLong
-    ++ (row locals 272
-    ++ (row (locals + 272) pathsLong
-    ++ (row links 1920
-    ++ (row (links + 1920) 13826
-    ++ (row (links + 1920 + 13826) 41986
-    ++ row (links + 1920 + 13826 + 41986) 24)))))))
+    (item 52 firstLong
+    ++ (item (52 + firstLong) portsLong
+    ++ (item locals 272
+    ++ (item (locals + 272) pathsLong
+    ++ (item links 1920
+    ++ (item (links + 1920) 13826
+    ++ (item (links + 1920 + 13826) 41986
+    ++ item (links + 1920 + 13826 + 41986) 24)))))))
 
 start : startBytes ++ contentsBytes bodyCount ≡ contents
 unfolding computing

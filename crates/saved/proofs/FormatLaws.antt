@@ -15,7 +15,7 @@ use Rattle.rules.specs.Refusals.{tablesOk}
 use Rattle.rules.specs.Saved.{saveRefusal as saveRefusalOf, loadRefusal as loadRefusalOf}
 use Rattle.rules.specs.Calls.{newTally}
 use Rattle.rules.specs.declared.Tally.{Tally}
-use Rattle.rules.proofs.History.{Fits}
+use Rattle.rules.proofs.History.{TallyFits}
 use Rattle.tables.specs.Places.{tableSize}
 use Rattle.tables.specs.Layout.{relayOf, bytesOf}
 use Rattle.tables.specs.Shape.{shaped}
@@ -55,10 +55,10 @@ module _ (f : List ℕ) (b : Bytes f) where
     pub said-shaped : shaped (heldIn f .0) ≡ true
     said-shaped = ap shaped (sym held) ∙ shaped-of _ (loaded-bytes f into newTally b loads) (loaded-formed f into newTally b loads)
 
-    pub said-fits : Fits (heldIn f .1)
+    pub said-fits : TallyFits (heldIn f .1)
     unfolding into
     said-fits =
-        subst Fits (ap (λ (x : LoadedOn). x .tally)
+        subst TallyFits (ap (λ (x : LoadedOn). x .tally)
         (load-done f into newTally (ap (loadRefusal f) (length-replicate {A = ℕ} tableSize 0) ∙ ok)))
         (loaded-fits f into newTally b loads)
 
@@ -74,7 +74,7 @@ module _ (f : List ℕ) (b : Bytes f) where
       go false e = then-false _ _ e
 
 -- the file of a relay and a tally
-module _ (r : Relay) (s : shaped r ≡ true) (ok : tablesOk r ≡ true) (t : Tally) (fits : Fits t) where
+module _ (r : Relay) (s : shaped r ≡ true) (ok : tablesOk r ≡ true) (t : Tally) (fits : TallyFits t) where
   good : code current .Good (r, t)
   good = subst (λ (x : Relay). code current .Good (x, t)) (back r s ok) (held-right (bytesOf r) t (bytes-bytes r s ok) (ok-bytes r s ok) fits)
 

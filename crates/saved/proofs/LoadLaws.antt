@@ -18,7 +18,7 @@ use Rattle.octets.proofs.Index.{and-left, and-right, and-both, and-no, and-yes,
 use Rattle.octets.proofs.Listed.{here, past, allGive, refuses, rows-passed, none-first}
 use Rattle.codes.specs.Form.{Form, code}
 use Rattle.codes.proofs.Forms.{lawful}
-use Rattle.recording.specs.Shape.{entryPlace, kindOf, editionOf, countOf, offsetOf, lengthOf, sumBelow, runningPlace, offsetsRight, endRight}
+use Rattle.recording.specs.Shape.{entryPlace, kindOf, editionOf, countOf, offsetOf, lengthOf, sumBelow, runningPlace, offsetsRight, endRight, contentsStart, itemWidth, longestBody}
 use Rattle.recording.proofs.Sums.{sum-none, sum-more, sum-bound, sum-cong}
 use Rattle.recording.proofs.ShapeLaws.{length-lt, Shaped}
 use Rattle.rules.specs.declared.Tally.{Tally}
@@ -26,11 +26,11 @@ use Rattle.tables.specs.Forms.{Edition, relayFormIn}
 use Rattle.tables.specs.Places.{tableSize}
 use Rattle.tables.specs.Layout.{relayOf, bytesOf, wellFormed}
 use Rattle.tables.proofs.Whole.{again}
-use Rattle.editions.specs.Editions.{Held, tallyForm, isKnownBy, isKnown, numbered, held, widthAt}
+use Rattle.editions.specs.Editions.{Held, tallyForm, isKnownBy, isKnown, numbered, held, widthAt, counterWidth}
 use Rattle.saved.specs.File.{savedKind, bodyCount, headWidth, bodiesAt}
 use Rattle.saved.specs.Load.{lengthWrong, kindWrongBy, kindWrong, contentsWrong, sizesRight, bodiesWrong, loadRows, loadRefusal, heldIn, LoadedOn, loadOn}
 use Rattle.editions.specs.Steps.{tallyPlace, sizeIn, tablesNow, bodiesFine}
-use Rattle.saved.specs.Steps.{tallyAt}
+use Rattle.saved.specs.Steps.{tallyAt, counterAt}
 use Rattle.editions.proofs.Widths.{widths-in, size-in}
 use Rattle.editions.proofs.EachBrings.{each-brings}
 use Rattle.editions.proofs.EditionLaws.{now-relay, now-formed, now-bytes, relay-decides}
@@ -43,7 +43,7 @@ module _ (f : List ℕ) where
       let end : ℕ = runningPlace headWidth f (countOf f) in
       ap not (ne-eqb end (length f) (λ (q : end ≡ length f). omega (arith, q, l)))
 
-  pub too-short : length f < 4 → lengthWrong f ≡ true
+  pub too-short : length f < contentsStart → lengthWrong f ≡ true
   too-short l = cut-short (omega arith)
 
   pub sum-decides : lengthWrong f ≡ not (eqb (entryPlace headWidth (countOf f) + sumBelow (lengthOf headWidth f) (countOf f)) (length f))
@@ -59,7 +59,7 @@ module _ (f : List ℕ) where
     unfolding runningPlace
     has-contents = omega (arith, ends-right)
 
-    pub has-start : 4 ≤ length f
+    pub has-start : contentsStart ≤ length f
     has-start = omega (arith, has-contents)
 
 -- ---- 21
@@ -111,18 +111,18 @@ module _ (f : List ℕ) where
     offsets-right i l = eqb-true _ _ (all-at (stands f) (countOf f) i (and-right _ _ (not-false _ h)) l)
 
 -- lengths of n entries that stand in the file, added up
-pub lengths-most : (f : List ℕ) (n : ℕ) → Bytes f → entryPlace headWidth n ≤ length f → sumBelow (lengthOf headWidth f) n ≤ 65535 * n
+pub lengths-most : (f : List ℕ) (n : ℕ) → Bytes f → entryPlace headWidth n ≤ length f → sumBelow (lengthOf headWidth f) n ≤ longestBody * n
 lengths-most f n b l =
-    sum-bound (lengthOf headWidth f) 65535 n (λ j m. le-of-suc-le-suc (length-lt headWidth f j b (omega arith)))
+    sum-bound (lengthOf headWidth f) longestBody n (λ j m. le-of-suc-le-suc (length-lt headWidth f j b (omega arith)))
 
 -- the loop over the contents, where it has passed i entries
-pub record Passed (f : List ℕ) (place i : ℕ) : Type 0 where
+pub record EntriesPassed (f : List ℕ) (place i : ℕ) : Type 0 where
   pub count : countOf f ≡ bodyCount
   pub within : i ≤ bodyCount
   pub running : place ≡ runningPlace headWidth f i
   pub offsets : allBelow (stands f) i ≡ true
 
-pub passed-none : (f : List ℕ) → countOf f ≡ bodyCount → Passed f bodiesAt 0
+pub passed-none : (f : List ℕ) → countOf f ≡ bodyCount → EntriesPassed f bodiesAt 0
 unfolding runningPlace
 passed-none f n =
     record {
@@ -132,8 +132,8 @@ passed-none f n =
       offsets = all-none (stands f);
     }
 
-module _ {f : List ℕ} {place i : ℕ} (p : Passed f place i) where
-  pub passed-more : i < bodyCount → offsetOf headWidth f i ≡ place → Passed f (place + lengthOf headWidth f i) (i + 1)
+module _ {f : List ℕ} {place i : ℕ} (p : EntriesPassed f place i) where
+  pub passed-more : i < bodyCount → offsetOf headWidth f i ≡ place → EntriesPassed f (place + lengthOf headWidth f i) (i + 1)
   unfolding runningPlace
   passed-more l e =
       record {
@@ -143,7 +143,7 @@ module _ {f : List ℕ} {place i : ℕ} (p : Passed f place i) where
         offsets = all-more (stands f) i (p .offsets) (eq-eqb _ _ (e ∙ p .running));
       }
 
-  pub passed-lt : Bytes f → entryPlace headWidth i + 6 ≤ length f → place ≤ bodiesAt + 65535 * i
+  pub passed-lt : Bytes f → entryPlace headWidth i + itemWidth headWidth ≤ length f → place ≤ bodiesAt + longestBody * i
   unfolding runningPlace
   passed-lt b h = omega (arith, p .running, p .count, lengths-most f i b (omega arith))
 
@@ -303,16 +303,22 @@ module _ (f : List ℕ) (size : ℕ) (t : Taken f size) where
 -- counter by counter
 pub tally-read : (f : List ℕ) (at : ℕ)
     → record {
-      total = number (part f at 4);
-      dropped = number (part f (at + 4) 4);
-      delivered = number (part f (at + 8) 4);
-      forwarded = number (part f (at + 12) 4);
-      spread = number (part f (at + 16) 4);
-      kept = number (part f (at + 20) 4);
+      total = number (part f at counterWidth);
+      dropped = number (part f (at + counterAt "dropped") counterWidth);
+      delivered = number (part f (at + counterAt "delivered") counterWidth);
+      forwarded = number (part f (at + counterAt "forwarded") counterWidth);
+      spread = number (part f (at + counterAt "spread") counterWidth);
+      kept = number (part f (at + counterAt "kept") counterWidth);
     }
     ≡ tallyAt f at
 unfolding tallyAt
-tally-read f at = rw (add-assoc at 4 4, add-assoc at 8 4, add-assoc at 12 4, add-assoc at 16 4)
+tally-read f at =
+    rw (
+      add-assoc at (counterAt "dropped") counterWidth,
+      add-assoc at (counterAt "delivered") counterWidth,
+      add-assoc at (counterAt "forwarded") counterWidth,
+      add-assoc at (counterAt "spread") counterWidth,
+    )
 
 -- ---- `loadOn`, by its refusal
 module _ (f tables : List ℕ) (tally : Tally) where

@@ -1,5 +1,5 @@
 -- The file that an edition makes loads, and holds what was saved; a file of the current one that loads is the one that is made of what it holds.
-use Prim.Native.Nat.{ℕ, _+_, _^_, _<_}
+use Prim.Native.Nat.{ℕ, _+_, _<_}
 use native.Mathlib.Nat.{le-refl}
 use native.Mathlib.Omega.{arith}
 use mathlib.Core.Bool.{true, false}
@@ -16,7 +16,7 @@ use Rattle.octets.proofs.Part.{part-nil, part-part}
 use Rattle.codes.specs.Form.{code}
 use Rattle.codes.proofs.Law.{passes-at, back-at}
 use Rattle.codes.proofs.Forms.{lawful}
-use Rattle.recording.specs.Shape.{entryPlace, editionOf, countOf, offsetOf, lengthOf, sumBelow, runningPlace, rowOf, shapeOf}
+use Rattle.recording.specs.Shape.{entryPlace, editionOf, countOf, offsetOf, lengthOf, sumBelow, runningPlace, itemOf, shapeOf, countWidth, lengthLimit, offsetLimit, countLimit}
 use Rattle.recording.proofs.Sums.{sum-cong, part-last}
 use Rattle.recording.proofs.ShapeLaws.{longOf, placeOf, shape-listOf, shape-again, shape-length, shape-long, shape-kind, shape-edition, shape-count, shape-shaped, shape-bytes}
 use Rattle.tables.specs.Forms.{today}
@@ -42,17 +42,17 @@ module _ (n : ℕ) (held : Held) where
   no-head : (b : List ℕ) → length (noHead b) ≡ headWidth
   no-head b = refl
 
-  small : (i : ℕ) → i < bodyCount → longOf wholeBody body i < 65536
-  small i l = subst (λ (k : ℕ). k < 65536) (sym (body-length n held i l)) (width-small n i l)
+  small : (i : ℕ) → i < bodyCount → longOf wholeBody body i < lengthLimit
+  small i l = subst (λ (k : ℕ). k < lengthLimit) (sym (body-length n held i l)) (width-small n i l)
 
   whole-sum : sumBelow (longOf wholeBody body) bodyCount ≡ code (editionAt n) .width
   whole-sum = body-place n held bodyCount (le-refl bodyCount) ∙ widths-in (numbered n)
 
-  few : bodyCount < 65536
+  few : bodyCount < countLimit
   few = lit< tt
 
-  fits : entryPlace headWidth bodyCount + sumBelow (longOf wholeBody body) bodyCount < 2 ^ 32
-  fits = subst (λ (k : ℕ). bodiesAt + k < 2 ^ 32) (sym whole-sum) (size-small n)
+  fits : entryPlace headWidth bodyCount + sumBelow (longOf wholeBody body) bodyCount < offsetLimit
+  fits = subst (λ (k : ℕ). bodiesAt + k < offsetLimit) (sym whole-sum) (size-small n)
 
   pub file-long : length (fileIn n held) ≡ bodiesAt + code (editionAt n) .width
   unfolding fileIn
@@ -66,13 +66,13 @@ module _ (n : ℕ) (held : Held) where
   part-in : part (fileIn n held) bodiesAt (code (editionAt n) .width) ≡ code (editionAt n) .write held
   unfolding fileIn
   part-in =
-      let rows : List ℕ = joined (rowOf noHead wholeBody) (listOf (placeOf wholeBody body bodiesAt) bodyCount) in
-      let front : List ℕ = savedKind ∷ n ∷ (bigEndian 2 bodyCount ++ rows) in
+      let items : List ℕ = joined (itemOf noHead wholeBody) (listOf (placeOf wholeBody body bodiesAt) bodyCount) in
+      let front : List ℕ = savedKind ∷ n ∷ (bigEndian countWidth bodyCount ++ items) in
       let saved : List ℕ = code (editionAt n) .write held in
       let whole : fileIn n held ≡ front ++ saved =
       shape-listOf savedKind n headWidth noHead wholeBody body bodyCount
-      ∙ ap (λ (r : List ℕ). savedKind ∷ n ∷ (bigEndian 2 bodyCount ++ (rows ++ r))) (bodies-joined n held)
-      ∙ ap (λ (r : List ℕ). savedKind ∷ n ∷ r) (sym (append-assoc (bigEndian 2 bodyCount) rows saved)) in
+      ∙ ap (λ (r : List ℕ). savedKind ∷ n ∷ (bigEndian countWidth bodyCount ++ (items ++ r))) (bodies-joined n held)
+      ∙ ap (λ (r : List ℕ). savedKind ∷ n ∷ r) (sym (append-assoc (bigEndian countWidth bodyCount) items saved)) in
       let lengths : length front + length saved ≡ bodiesAt + code (editionAt n) .width = sym (length-append front saved) ∙ ap length (sym whole) ∙ file-long in
       ap (λ (r : List ℕ). part r bodiesAt (code (editionAt n) .width)) whole
       ∙ part-last front saved bodiesAt (code (editionAt n) .width) (omega (arith, lengths, saved-length n held)) (saved-length n held)

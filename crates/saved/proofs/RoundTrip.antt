@@ -22,7 +22,7 @@ use Rattle.codes.specs.Form.{code}
 use Rattle.recording.specs.Shape.{editionOf}
 use Rattle.rules.specs.Relay.{Relay}
 use Rattle.rules.specs.declared.Tally.{Tally}
-use Rattle.rules.proofs.History.{Fits}
+use Rattle.rules.proofs.History.{TallyFits}
 use Rattle.tables.specs.Places.{tableSize}
 use Rattle.tables.specs.Layout.{relayOf, bytesOf, wellFormed}
 use Rattle.tables.proofs.Whole.{again, relay-good}
@@ -36,7 +36,7 @@ use Rattle.saved.proofs.LoadLaws.{newer-edition, Taken, taken, takes, e
 use Rattle.saved.proofs.Made.{taken-in, held-in, file-length, made-edition, made-taken, made-whole, made-held, made-bytes, long-now, file-again}
 
 -- ---- saved, then loaded
-module _ (t : List ℕ) (tally : Tally) (b : Bytes t) (h : wellFormed t ≡ true) (s : Fits tally) where
+module _ (t : List ℕ) (tally : Tally) (b : Bytes t) (h : wellFormed t ≡ true) (s : TallyFits tally) where
   pub held-right : code current .Good (relayOf t, tally)
   held-right = (relay-good t b h, (s .total, (s .dropped, (s .delivered, (s .forwarded, (s .spread, s .kept))))))
 
@@ -97,10 +97,10 @@ module _ (f tables : List ℕ) (old : Tally) (b : Bytes f) (loads : loadOn f tab
   pub loaded-formed : wellFormed (loadOn f tables old .tables) ≡ true
   loaded-formed = ap wellFormed loaded-now ∙ held-formed f (length tables) file-taken
 
-  pub loaded-fits : Fits (loadOn f tables old .tally)
+  pub loaded-fits : TallyFits (loadOn f tables old .tally)
   loaded-fits =
       let g = tally-good f (length tables) file-taken b in
-      subst Fits (sym (ap (λ (x : LoadedOn). x .tally) done))
+      subst TallyFits (sym (ap (λ (x : LoadedOn). x .tally) done))
       (record {
         total = g .0;
         dropped = g .1 .0;

@@ -20,17 +20,17 @@ use Rattle.octets.proofs.Part.{part-length, part-whole, patch-join}
 use Rattle.codes.specs.Form.{code}
 use Rattle.codes.proofs.Forms.{lawful}
 use Rattle.codes.proofs.Pieces.{fields-written}
-use Rattle.recording.specs.Shape.{entryPlace, sumBelow, rowOf}
+use Rattle.recording.specs.Shape.{entryPlace, sumBelow, itemOf, contentsStart, countAt, countWidth, offsetWidth, lengthWidth, itemWidth}
 use Rattle.recording.proofs.Sums.{sum-cong, sum-const, joined-cong, joined-none, joined-more, joined-cut, joined-sum, patch-three}
 use Rattle.recording.proofs.ShapeLaws.{longOf, placeOf, shape-listOf}
 use Rattle.rules.specs.declared.Tally.{Tally}
 use Rattle.tables.specs.Places.{tableSize}
 use Rattle.tables.specs.Layout.{relayOf, bytesOf, wellFormed}
 use Rattle.tables.proofs.Whole.{again, formed}
-use Rattle.editions.specs.Editions.{Held, tallyForm, numbered, editionAt, currentEdition, current, widthAt}
+use Rattle.editions.specs.Editions.{Held, tallyForm, numbered, editionAt, currentEdition, current, widthAt, counterWidth}
 use Rattle.saved.specs.File.{savedKind, bodyCount, headWidth, noHead, wholeBody, bodiesAt, bodyOf, fileIn, fileOf, savedSize}
 use Rattle.saved.specs.Save.{saveRows, saveRefusal, SavedOn, saveOn}
-use Rattle.saved.specs.Steps.{startBytes, entryBytes, contentsBytes, tallyBytes}
+use Rattle.saved.specs.Steps.{startBytes, entryBytes, contentsBytes, tallyBytes, counterAt}
 use Rattle.editions.proofs.Widths.{widths-in, width-within}
 
 -- ---- the rows, in their order
@@ -96,11 +96,11 @@ module _ (n : ℕ) (held : Held) where
 
 -- ---- the current edition's file, put together: start, contents, bodies
 module _ (held : Held) where
-  row-made : (i : ℕ) → i < bodyCount
-      → entryBytes (bodiesAt + sumBelow (widthAt current) i) i ≡ rowOf noHead wholeBody (placeOf wholeBody (bodyOf current held) bodiesAt i)
-  unfolding entryBytes rowOf
-  row-made i l =
-      ap₂ (λ (p q : ℕ). bigEndian 4 (bodiesAt + p) ++ bigEndian 2 q)
+  item-made : (i : ℕ) → i < bodyCount
+      → entryBytes (bodiesAt + sumBelow (widthAt current) i) i ≡ itemOf noHead wholeBody (placeOf wholeBody (bodyOf current held) bodiesAt i)
+  unfolding entryBytes itemOf
+  item-made i l =
+      ap₂ (λ (p q : ℕ). bigEndian offsetWidth (bodiesAt + p) ++ bigEndian lengthWidth q)
       (sym (body-place currentEdition held i (omega arith))) (sym (body-length currentEdition held i l))
 
   pub file-made : fileOf held ≡ startBytes ++ (contentsBytes bodyCount ++ code current .write held)
@@ -109,78 +109,80 @@ module _ (held : Held) where
       shape-listOf savedKind currentEdition headWidth noHead wholeBody (bodyOf current held) bodyCount
       ∙ ap₂ (λ (p q : List ℕ). startBytes ++ (p ++ q))
       (sym (joined-cong (λ i. entryBytes (bodiesAt + sumBelow (widthAt current) i) i) (λ i. i)
-      (rowOf noHead wholeBody) (placeOf wholeBody (bodyOf current held) bodiesAt) bodyCount row-made))
+      (itemOf noHead wholeBody) (placeOf wholeBody (bodyOf current held) bodiesAt) bodyCount item-made))
       (bodies-joined currentEdition held)
 
 -- ---- the code's writes, one after the other, are one
-pub start-written : (room : List ℕ) → 4 ≤ length room
-    → patch (patch (patch room 0 (savedKind ∷ [])) 1 (currentEdition ∷ [])) 2 (bigEndian 2 bodyCount) ≡ patch room 0 startBytes
+pub start-written : (room : List ℕ) → contentsStart ≤ length room
+    → patch (patch (patch room 0 (savedKind ∷ [])) 1 (currentEdition ∷ [])) countAt (bigEndian countWidth bodyCount) ≡ patch room 0 startBytes
 start-written room l =
-    patch-three room 0 1 2 (savedKind ∷ []) (currentEdition ∷ []) (bigEndian 2 bodyCount) refl refl (omega (arith, bigEndian-length 2 bodyCount))
+    patch-three room 0 1 countAt (savedKind ∷ []) (currentEdition ∷ []) (bigEndian countWidth bodyCount) refl refl
+    (omega (arith, bigEndian-length countWidth bodyCount))
 
-pub entry-written : (room : List ℕ) (at offset i : ℕ) → at + 6 ≤ length room
-    → patch (patch room at (bigEndian 4 offset)) (at + 4) (bigEndian 2 (widthAt current i)) ≡ patch room at (entryBytes offset i)
+pub entry-written : (room : List ℕ) (at offset i : ℕ) → at + itemWidth headWidth ≤ length room
+    → patch (patch room at (bigEndian offsetWidth offset)) (at + offsetWidth) (bigEndian lengthWidth (widthAt current i)) ≡ patch room at (entryBytes offset i)
 unfolding entryBytes
 entry-written room at offset i l =
-    patch-join room at (at + 4) (bigEndian 4 offset) (bigEndian 2 (widthAt current i))
-    (omega (arith, bigEndian-length 4 offset)) (omega (arith, bigEndian-length 2 (widthAt current i)))
+    patch-join room at (at + offsetWidth) (bigEndian offsetWidth offset) (bigEndian lengthWidth (widthAt current i))
+    (omega (arith, bigEndian-length offsetWidth offset)) (omega (arith, bigEndian-length lengthWidth (widthAt current i)))
 
-entry-length : (offset i : ℕ) → length (entryBytes offset i) ≡ 6
+entry-length : (offset i : ℕ) → length (entryBytes offset i) ≡ itemWidth headWidth
 unfolding entryBytes
 entry-length offset i = simp (length-append, bigEndian-length) refl
 
-pub contents-length : (n : ℕ) → length (contentsBytes n) ≡ 6 * n
+pub contents-length : (n : ℕ) → length (contentsBytes n) ≡ itemWidth headWidth * n
 unfolding contentsBytes
 contents-length n =
     joined-sum (λ i. entryBytes (bodiesAt + sumBelow (widthAt current) i) i) (λ i. i) n
-    ∙ sum-cong (λ i. length (entryBytes (bodiesAt + sumBelow (widthAt current) i) i)) (λ i. 6) n (λ i m. entry-length _ i)
-    ∙ sum-const 6 n
+    ∙ sum-cong (λ i. length (entryBytes (bodiesAt + sumBelow (widthAt current) i) i)) (λ i. itemWidth headWidth) n (λ i m. entry-length _ i)
+    ∙ sum-const (itemWidth headWidth) n
 
-pub contents-none : (room : List ℕ) → room ≡ patch room 4 (contentsBytes 0)
+pub contents-none : (room : List ℕ) → room ≡ patch room contentsStart (contentsBytes 0)
 unfolding contentsBytes patch
 contents-none room =
-    sym (take-append-drop 4 room)
-    ∙ ap (λ (r : List ℕ). take 4 room ++ (r ++ drop (4 + length r) room))
+    sym (take-append-drop contentsStart room)
+    ∙ ap (λ (r : List ℕ). take contentsStart room ++ (r ++ drop (contentsStart + length r) room))
     (sym (joined-none (λ i. entryBytes (bodiesAt + sumBelow (widthAt current) i) i) (λ i. i)))
 
 pub contents-more : (room : List ℕ) (i : ℕ) → entryPlace headWidth (i + 1) ≤ length room
-    → patch (patch room 4 (contentsBytes i)) (entryPlace headWidth i) (entryBytes (bodiesAt + sumBelow (widthAt current) i) i)
-    ≡ patch room 4 (contentsBytes (i + 1))
+    → patch (patch room contentsStart (contentsBytes i)) (entryPlace headWidth i) (entryBytes (bodiesAt + sumBelow (widthAt current) i) i)
+    ≡ patch room contentsStart (contentsBytes (i + 1))
 unfolding contentsBytes
 contents-more room i l =
     let offset : ℕ = bodiesAt + sumBelow (widthAt current) i in
-    patch-join room 4 (entryPlace headWidth i) (contentsBytes i) (entryBytes offset i)
+    patch-join room contentsStart (entryPlace headWidth i) (contentsBytes i) (entryBytes offset i)
     (omega (arith, contents-length i)) (omega (arith, entry-length offset i))
-    ∙ ap (patch room 4)
+    ∙ ap (patch room contentsStart)
     (sym (joined-more (λ j. entryBytes (bodiesAt + sumBelow (widthAt current) j) j) (λ j. j) i) ∙ ap contentsBytes (sym (add-one i)))
 
 -- counter by counter
-pub tally-written : (tally : Tally) (room : List ℕ) (at : ℕ) → at + 24 ≤ length room
+pub tally-written : (tally : Tally) (room : List ℕ) (at : ℕ) → at + code tallyForm .width ≤ length room
     → patch
     (patch
     (patch
-    (patch (patch (patch room at (bigEndian 4 (tally .total))) (at + 4) (bigEndian 4 (tally .dropped))) (at + 8) (bigEndian 4 (tally .delivered)))
-    (at + 12) (bigEndian 4 (tally .forwarded)))
-    (at + 16) (bigEndian 4 (tally .spread)))
-    (at + 20) (bigEndian 4 (tally .kept))
+    (patch (patch (patch room at (bigEndian counterWidth (tally .total))) (at + counterAt "dropped") (bigEndian counterWidth (tally .dropped)))
+    (at + counterAt "delivered") (bigEndian counterWidth (tally .delivered)))
+    (at + counterAt "forwarded") (bigEndian counterWidth (tally .forwarded)))
+    (at + counterAt "spread") (bigEndian counterWidth (tally .spread)))
+    (at + counterAt "kept") (bigEndian counterWidth (tally .kept))
     ≡ patch room at (tallyBytes tally)
 unfolding tallyBytes
 tally-written tally room at l = rw (sym (fields-written tallyForm tally room at l), add-zero at)
 
 -- start, contents, tables and tally
 pub file-written : (tables : List ℕ) (tally : Tally) (room : List ℕ) → Bytes tables → wellFormed tables ≡ true → savedSize ≤ length room
-    → patch (patch (patch (patch room 0 startBytes) 4 (contentsBytes bodyCount)) 52 tables) (bodiesAt + tableSize) (tallyBytes tally)
+    → patch (patch (patch (patch room 0 startBytes) contentsStart (contentsBytes bodyCount)) bodiesAt tables) (bodiesAt + tableSize) (tallyBytes tally)
     ≡ patch room 0 (fileOf (relayOf tables, tally))
 unfolding bytesOf tallyBytes
 file-written tables tally room b h l =
     let size = formed tables h .size in
     let wide = lawful tallyForm .wide tally in
     let contents = contents-length bodyCount in
-    let start = bigEndian-length 2 bodyCount in
+    let start = bigEndian-length countWidth bodyCount in
     let front : List ℕ = startBytes ++ (contentsBytes bodyCount ++ tables) in
     let long : length front ≡ (bodiesAt + tableSize) = simp length-append (omega arith) in
     ap (λ (r : List ℕ). patch r (bodiesAt + tableSize) (tallyBytes tally))
-    (patch-three room 0 4 52 startBytes (contentsBytes bodyCount) tables (omega arith) (omega arith) (omega arith))
+    (patch-three room 0 contentsStart bodiesAt startBytes (contentsBytes bodyCount) tables (omega arith) (omega arith) (omega arith))
     ∙ patch-join room 0 (bodiesAt + tableSize) front (tallyBytes tally) (omega (arith, long)) (omega arith)
     ∙ ap (patch room 0)
     (append-assoc startBytes (contentsBytes bodyCount ++ tables) (tallyBytes tally)

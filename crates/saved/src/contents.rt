@@ -1,17 +1,17 @@
 // The file's contents: where an entry stands, and what it says.
-use editions::shape::CONTENTS_START;
 use editions::shape::ENTRY_WIDTH;
-use editions::shape::LENGTH_WIDTH;
-use editions::shape::OFFSET_WIDTH;
+use recording::CONTENTS_START;
+use recording::LENGTH_WIDTH;
+use recording::OFFSET_WIDTH;
 ghost use mathlib.Core.Path.{_≡_};
 ghost use Prim.Native.Nat.{_+_, _≤_, _<_};
 ghost use lib.ListN.{length};
-ghost use Rattle.recording.specs.Shape.{entryPlace, offsetOf, lengthOf};
+ghost use Rattle.recording.specs.Shape.{entryPlace, offsetOf, lengthOf, countLimit};
 ghost use Rattle.saved.specs.File.{headWidth};
 
 // Where entry i stands in the contents; at the count, where the contents end.
 pub fn entry_place(i: usize) -> usize
-    requires { ⌜ i < 65536 ⌝ }
+    requires { ⌜ i < countLimit ⌝ }
     ensures { λ r. ⌜ r ≡ entryPlace headWidth i ⌝ }
 {
     CONTENTS_START + ENTRY_WIDTH * i

@@ -3,24 +3,19 @@ use super::Loaded;
 use super::contents::entry_place;
 use super::contents::length_of;
 use super::contents::offset_of;
-use super::format::BODY_REFUSED;
 use super::format::KIND;
-use super::format::KIND_REFUSED;
-use super::format::LENGTH_REFUSED;
-use super::format::PLACE_REFUSED;
-use super::format::ROOM_REFUSED;
 use super::format::TALLY_AT;
 use editions::EDITION;
 use editions::bodies_fine;
 use editions::is_known;
 use editions::shape::BODIES_AT;
 use editions::shape::BODY_COUNT;
-use editions::shape::CONTENTS_START;
 use editions::shape::COUNTER_WIDTH;
 use editions::shape::TALLY_BODY;
 use editions::width_of;
 use editions::write_tables;
 use numbers::refusals;
+use recording::CONTENTS_START;
 use rules::Tally;
 use tables::places::TABLE_SIZE;
 ghost use mathlib.Core.Path.{_≡_};
@@ -30,7 +25,7 @@ ghost use lib.ListN.{length};
 ghost use Rattle.octets.specs.Part.{part};
 ghost use Rattle.octets.specs.BigEndian.{number};
 ghost use Rattle.codes.specs.Form.{code};
-ghost use Rattle.recording.specs.Shape.{entryPlace, countOf, editionOf, lengthOf, sumBelow};
+ghost use Rattle.recording.specs.Shape.{entryPlace, countOf, editionOf, lengthOf, sumBelow, countLimit};
 ghost use Rattle.tables.specs.Layout.{bytesOf};
 ghost use Rattle.editions.specs.Editions.{counterWidth, tallyForm, isKnown, editionAt};
 ghost use Rattle.saved.specs.File.{headWidth, bodiesAt};
@@ -39,7 +34,7 @@ ghost use Rattle.saved.specs.Steps.{ContentsRight, tallyAt};
 
 // The sum of the lengths of n entries.
 fn lengths_sum(file: &[u8], n: usize) -> usize
-    requires { ⌜ (entryPlace headWidth n ≤ length (now file)) × (n < 65536) ⌝ }
+    requires { ⌜ (entryPlace headWidth n ≤ length (now file)) × (n < countLimit) ⌝ }
     ensures { λ r. ⌜ r ≡ sumBelow (lengthOf headWidth (now (file .entry))) n ⌝ }
 {
     let mut sum = 0;
@@ -121,22 +116,22 @@ fn load_refusal(file: &[u8], size: usize) -> u8
     ensures { λ r. ⌜ r ≡ loadRefusal (now (file .entry)) size ⌝ }
 {
     if length_wrong(file) {
-        return LENGTH_REFUSED;
+        return refusals::FILE_LENGTH;
     }
     if file[0] != KIND {
-        return KIND_REFUSED;
+        return refusals::FILE_KIND;
     }
     if !is_known(file[1]) {
-        return KIND_REFUSED;
+        return refusals::FILE_KIND;
     }
     if contents_wrong(file) {
-        return PLACE_REFUSED;
+        return refusals::FILE_PLACE;
     }
     if bodies_wrong(file) {
-        return BODY_REFUSED;
+        return refusals::FILE_BODY;
     }
     if size != TABLE_SIZE {
-        return ROOM_REFUSED;
+        return refusals::ROOM;
     }
     refusals::NONE
 }

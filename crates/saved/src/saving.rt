@@ -2,19 +2,18 @@
 use super::Saved;
 use super::contents::entry_place;
 use super::format::KIND;
-use super::format::ROOM_REFUSED;
 use super::format::SAVED_SIZE;
 use super::format::TALLY_AT;
 use editions::EDITION;
 use editions::shape::BODIES_AT;
 use editions::shape::BODY_COUNT;
-use editions::shape::COUNT_AT;
-use editions::shape::COUNT_WIDTH;
 use editions::shape::COUNTER_WIDTH;
-use editions::shape::LENGTH_WIDTH;
-use editions::shape::OFFSET_WIDTH;
 use editions::width_of;
 use numbers::refusals;
+use recording::COUNT_AT;
+use recording::COUNT_WIDTH;
+use recording::LENGTH_WIDTH;
+use recording::OFFSET_WIDTH;
 use rules::Tally;
 use tables::places::TABLE_SIZE;
 ghost use mathlib.Core.Path.{_≡_};
@@ -150,7 +149,7 @@ pub fn save(tables: &[u8], tally: Tally, room: &mut [u8]) -> Saved
     }
     if room.len() < SAVED_SIZE {
         return Saved {
-            refusal: ROOM_REFUSED,
+            refusal: refusals::ROOM,
             length: 0,
         };
     }

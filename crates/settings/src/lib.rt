@@ -40,9 +40,6 @@ ghost use Rattle.tables.specs.Layout.{relayOf};
 ghost use Rattle.tables.specs.Called.{Returns};
 ghost use Rattle.settings.specs.Calls.{freshOn, setPortOn, setRateOn, addLocalOn, removeLocalOn, noteOn, markOn};
 
-// Marking with no live path.
-const NO_LIVE_PATH: u8 = 12;
-
 // The tables of a relay with its own address, all ports off, boundary and of size 500, clock 0, tables empty.
 pub fn fresh(tables: &mut [u8], own: [u8; 16]) -> u8
     ensures { λ r. ⌜ Returns (freshOn (now (tables .entry)) own) r (now (tables .exit)) ⌝ }
@@ -159,7 +156,7 @@ pub fn note_path(tables: &mut [u8], note: Note, destination: [u8; 16], clock: u6
     }
     let place = path_place(tables, destination, clock);
     if place >= PATH_COUNT {
-        return NO_LIVE_PATH;
+        return refusals::NO_LIVE_PATH;
     }
     let notes = notes::noted(path_notes(tables, place), note);
     put_notes(tables, place, notes);

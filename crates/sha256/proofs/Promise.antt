@@ -8,17 +8,17 @@ use borrow.Author.Tests.{le-leb, lt-leb}
 use lib.ListN.{length, getD, replicate}
 use Rattle.sha256.specs.declared.state.State.{State}
 use Rattle.sha256.specs.Bytes.{bytes4}
-use Rattle.sha256.specs.Sha256.{digestBytes, sha256-of, answer}
+use Rattle.sha256.specs.Sha256.{digestBytes, sha256-of, longestMessage, answer}
 
 pub digest-length : (m : List ℕ) → length (sha256-of m) ≡ 32
 unfolding sha256-of
 digest-length m = refl
 
-pub answer-short : (m : List ℕ) → length m ≤ 65535 → answer m ≡ record { refusal = 0; bytes = sha256-of m }
-answer-short m h = rw (le-leb (length m) 65535 h)
+pub answer-short : (m : List ℕ) → length m ≤ longestMessage → answer m ≡ record { refusal = 0; bytes = sha256-of m }
+answer-short m h = rw (le-leb (length m) longestMessage h)
 
-pub answer-long : (m : List ℕ) → 65535 < length m → answer m ≡ record { refusal = 2; bytes = replicate 32 0 }
-answer-long m h = rw (lt-leb (length m) 65535 h)
+pub answer-long : (m : List ℕ) → longestMessage < length m → answer m ≡ record { refusal = 2; bytes = replicate 32 0 }
+answer-long m h = rw (lt-leb (length m) longestMessage h)
 
 Below : List ℕ → Type 0
 Below l = (i : ℕ) → getD l i 0 < 256

@@ -23,7 +23,7 @@ use Rattle.rules.specs.Relay.{Slot, empty, holds}
 use Rattle.rules.specs.View.{pathPlace, viewAt}
 use Rattle.rules.specs.Questions.{Question, port-settings, rate-settings, local-at, path-at, link-at, live-path, live-returns, live-hashes, last-clock, Told, an-address, a-path, a-link, toldOf, countBelow, countOf, rowSeven, questionRule, questionRefusal, tell}
 use Rattle.rules.proofs.Counting.{count-cong, count-le}
-use Rattle.tables.specs.Places.{timeWidth, rateAt, portsAt, portWidth, localsAt, localWidth, pathsAt, pathWidth, linksAt, linkWidth, returnsAt, returnWidth, hashesAt, hashWidth, tableSize}
+use Rattle.tables.specs.Places.{timeWidth, rateAt, portsAt, portWidth, localsAt, localWidth, pathsAt, pathWidth, linksAt, linkWidth, returnsAt, returnWidth, hashesAt, hashWidth, tableSize, addressWidth}
 use Rattle.codes.specs.Form.{code}
 use Rattle.tables.specs.Forms.{rateSettingsForm, linkForm}
 use Rattle.tables.specs.Fields.{returnExpiryAt, hashExpiryAt}
@@ -142,7 +142,7 @@ module _ (t : List ℕ) (h : wellFormed t ≡ true) where
   no-local place old l =
       outside (local-at place) an-address (relayOf t .locals) place old (asked (local-at place) refl) (rw (locals-length t) l)
 
-  pub local-told : (place : ℕ) (old : List ℕ) → place < localCount → length old ≡ 16
+  pub local-told : (place : ℕ) (old : List ℕ) → place < localCount → length old ≡ addressWidth
       → (let b = recordAt localsAt localWidth t place in Tells (tellOn t (local-at place)) old (putNumber b) (putBytes b old))
   unfolding questionRefusal questionRule toldNumber
   local-told place old l n =

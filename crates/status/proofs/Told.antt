@@ -18,7 +18,7 @@ use Rattle.rules.specs.Questions.{Told, a-port, a-rate, an-address, a-path, a-l
 use Rattle.rules.specs.Refusals.{rateSettingsOk}
 use Rattle.tables.specs.Forms.{rateSettingsForm, portForm, pathForm, linkForm}
 use Rattle.tables.specs.Layout.{rateSettingsIn}
-use Rattle.tables.specs.Places.{rateAt, portsAt, portWidth, pathWidth, linkWidth}
+use Rattle.tables.specs.Places.{rateAt, portsAt, portWidth, pathWidth, linkWidth, addressWidth}
 use Rattle.tables.specs.Records.{slotOf, portOf, localOf, pathOf, linkOf, portBytesOk, pathBytesOk, linkBytesOk}
 use Rattle.tables.specs.Asked.{toldPathWidth, toldNumber, toldBytes, Tells}
 use Rattle.tables.proofs.Tests.{used-fine}
@@ -46,7 +46,7 @@ module _ (b : List ℕ) (bytes : Bytes b) where
     unfolding toldBytes linkOf linkBytesOk
     link-bytes wide fine old = lawful linkForm .again b 1 bytes (omega (arith, wide)) (used-fine linkForm b q fine)
 
-pub local-bytes : (b old : List ℕ) → toldBytes (an-address (localOf b)) old ≡ part b 1 16
+pub local-bytes : (b old : List ℕ) → toldBytes (an-address (localOf b)) old ≡ part b 1 addressWidth
 unfolding toldBytes localOf
 local-bytes b old = refl
 

@@ -9,9 +9,6 @@ use surveying::RECORDING_LIMIT;
 use surveying::REFUSAL_COUNT;
 use tables::places::TABLE_SIZE;
 
-// The longest file of eight entries: in any edition a saved relay has at most so many bytes.
-const LONGEST_SAVED: usize = 52 + 8 * 65535;
-
 // The arguments before the recordings: the program's name and the settings.
 const RECORDINGS_FROM: usize = 2;
 
@@ -46,7 +43,7 @@ fn print_lines(counts: &[u64; COUNTER_COUNT], refusals: &[u8; REFUSAL_COUNT]) {
 }
 
 fn main() {
-    let mut stored = [0u8; LONGEST_SAVED + 1];
+    let mut stored = [0u8; recording::LONGEST_SAVED + 1];
     let mut start = [0u8; TABLE_SIZE];
     let mut work = [0u8; TABLE_SIZE];
     let mut counts = [0u64; COUNTER_COUNT];

@@ -1,5 +1,5 @@
 -- No counter of a survey can reach 2^64: a recording has at most 60,000 bytes, and what an entry adds is at most as much.
-use Prim.Native.Nat.{ℕ, zero, suc, _+_, _-_, _*_, _/_, _≤_}
+use Prim.Native.Nat.{ℕ, zero, suc, _+_, _-_, _*_, _≤_}
 use native.Mathlib.Omega.{arith}
 use mathlib.Core.Bool.{Bool, true, false, not}
 use mathlib.Core.List.{List, [], _∷_, _++_}
@@ -24,8 +24,8 @@ use Rattle.rules.specs.declared.Tally.{Tally}
 use Rattle.rules.proofs.Choices.{either}
 use Rattle.relay.specs.Promise.{JudgementOn}
 use Rattle.relay.proofs.LengthLaws.{lengths-on}
-use Rattle.recording.specs.Shape.{contentsStart, entryPlace, countOf}
-use Rattle.recording.specs.Format.{Entry, longestFile, headWidth}
+use Rattle.recording.specs.Shape.{countOf}
+use Rattle.recording.specs.Format.{Entry, longestFile, mostEntries}
 use Rattle.recording.specs.Reader.{fileRefusal, bodyOf, entryOf, entriesOf}
 use Rattle.recording.proofs.ReadLaws.{taken}
 use Rattle.replaying.specs.Promise.{entryCall, ReplayOn, goesOn, replayFrom}
@@ -94,9 +94,6 @@ replay-small k (e ∷ es) h n t y =
 
 -- ---- a recording that is read; one that is refused adds nothing
 -- the entries whose contents the longest file has room for: 4,615
-abbrev pub mostEntries : ℕ
-mostEntries = (longestFile - contentsStart) / (entryPlace headWidth 1 - contentsStart)
-
 module _ (k : ℕ) (start f : List ℕ) where
   taken-small : fileRefusal f ≡ 0 → sumOver (countedAt k) (answersFrom start f) ≤ longestFile * mostEntries
   unfolding answersFrom entriesOf

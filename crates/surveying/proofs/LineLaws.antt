@@ -5,7 +5,7 @@ use mathlib.Core.List.{List, [], _∷_, _++_}
 use mathlib.Core.Path.{_≡_, sym, ap, _∙_}
 use lib.Dec.{lit≤}
 use lib.ListN.{length, length-append}
-use Rattle.text.specs.Numerals.{decimal}
+use Rattle.text.specs.Numerals.{decimal, mostDigits}
 use Rattle.text.specs.Words.{newline, spaced, wordsLine, refusedWord}
 use Rattle.text.specs.Text.{textSize, textOf, appended}
 use Rattle.text.proofs.NumeralLaws.{numeral-most}
@@ -14,10 +14,6 @@ use Rattle.text.proofs.WordLaws.{spaced-nil, line-most, line-appended}
 use Rattle.surveying.specs.Words.{surveyWord, settingsWord, recordingWord, portWord, packetsWord, inWord, outWord, droppedWord, reasonWord, stroke}
 use Rattle.surveying.specs.Lines.{fractionWord}
 use Rattle.surveying.specs.declared.Fraction.{Fraction}
-
--- a number of 64 bits has at most so many digits
-abbrev mostDigits : ℕ
-mostDigits = 20
 
 digits : (n : ℕ) → n < 2 ^ 64 → length (decimal n) ≤ mostDigits
 digits n few = numeral-most 10 (lit≤ tt) mostDigits n (lit≤ tt) (omega (arith, few))

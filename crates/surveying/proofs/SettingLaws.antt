@@ -1,5 +1,5 @@
 -- Setting a relay as another is set: the calls one after another, and what each is told.
-use Prim.Native.Nat.{ℕ, _+_, _*_, _^_, _≤_, _<_}
+use Prim.Native.Nat.{ℕ, _+_, _^_, _≤_, _<_}
 use native.Mathlib.Numerals.{add-one}
 use native.Mathlib.Omega.{arith}
 use mathlib.Core.Bool.{Bool, true, false}
@@ -33,7 +33,7 @@ use Rattle.tables.specs.Asked.{tellOn, toldNumber, toldBytes, Tells}
 use Rattle.tables.proofs.Whole.{ok-relay}
 use Rattle.status.proofs.Asked.{asked}
 use Rattle.surveying.specs.Start.{portCall, rateCall, localCalls, settingCalls, tablesAfter}
-use Rattle.surveying.specs.Steps.{sizeAt, sizeTold, rateTold}
+use Rattle.surveying.specs.Steps.{sizeAt, sizeTold, rateTold, graceAt, penaltyAt}
 
 -- ---- calls one after another
 after-append : (cs ds : List TableCall) (t : List ℕ) → tablesAfter (cs ++ ds) t ≡ tablesAfter ds (tablesAfter cs t)
@@ -150,12 +150,12 @@ module _ (t : List ℕ) (h : wellFormed t ≡ true) where
       let long-z : length z ≡ settingWidth = bigEndian-length settingWidth (s .penalty) in
       let first : part told 0 settingWidth ≡ x =
       ap (λ (b : List ℕ). part b 0 settingWidth) bytes ∙ part-mid [] x (y ++ z) 0 settingWidth refl long-x in
-      let second : part told settingWidth settingWidth ≡ y =
-      ap (λ (b : List ℕ). part b settingWidth settingWidth) bytes ∙ part-mid x y z settingWidth settingWidth long-x long-y in
-      let wide : length (x ++ y) ≡ 2 * settingWidth = omega (arith, length-append x y, long-x, long-y) in
-      let third : part told (2 * settingWidth) settingWidth ≡ z =
-      ap (λ (b : List ℕ). part b (2 * settingWidth) settingWidth) (bytes ∙ sym (append-assoc x y z) ∙ ap (λ (b : List ℕ). (x ++ y) ++ b) (sym (append-nil z)))
-      ∙ part-mid (x ++ y) z [] (2 * settingWidth) settingWidth wide long-z in
+      let second : part told graceAt settingWidth ≡ y =
+      ap (λ (b : List ℕ). part b graceAt settingWidth) bytes ∙ part-mid x y z graceAt settingWidth long-x long-y in
+      let wide : length (x ++ y) ≡ penaltyAt = omega (arith, length-append x y, long-x, long-y) in
+      let third : part told penaltyAt settingWidth ≡ z =
+      ap (λ (b : List ℕ). part b penaltyAt settingWidth) (bytes ∙ sym (append-assoc x y z) ∙ ap (λ (b : List ℕ). (x ++ y) ++ b) (sym (append-nil z)))
+      ∙ part-mid (x ++ y) z [] penaltyAt settingWidth wide long-z in
       λ i.
       record {
         target = (ap number first ∙ number-bigEndian settingWidth (s .target) (omega (arith, one))) i;

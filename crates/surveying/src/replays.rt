@@ -3,6 +3,7 @@ use super::COUNTER_COUNT;
 use super::RECORDING_LIMIT;
 use super::REFUSAL_COUNT;
 use super::counting::add_one;
+use numbers::refusals::SURVEY_FULL;
 use replaying::new_tally;
 use tables::places::TABLE_SIZE;
 ghost use mathlib.Core.Path.{_≡_};
@@ -15,9 +16,6 @@ ghost use Rattle.replaying.specs.Promise.{stepsOn};
 ghost use Rattle.surveying.specs.Counts.{answered};
 ghost use Rattle.surveying.specs.Survey.{recordingLimit};
 ghost use Rattle.surveying.specs.Promise.{addAll, noted, recordingOn, Surveys};
-
-// A 17th recording.
-const ONE_TOO_MANY: u8 = 29;
 
 // Makes the calls of a recording's entries, with a new tally, and gives the counters with what they answer.
 fn replay(file: &[u8], work: &mut [u8], counts: [u64; COUNTER_COUNT]) -> [u64; COUNTER_COUNT]
@@ -69,8 +67,8 @@ pub fn add_recording(
 {
     let read = refusals[0];
     if read >= RECORDING_LIMIT as u8 {
-        refusals[RECORDING_LIMIT + 1] = ONE_TOO_MANY;
-        return ONE_TOO_MANY;
+        refusals[RECORDING_LIMIT + 1] = SURVEY_FULL;
+        return SURVEY_FULL;
     }
     let refusal = recording::check(file);
     note(refusals, refusal);

@@ -1,5 +1,5 @@
 -- Four records at once: the laws of `together`, plain records keep row 7, and what is left to test where only ports and times are plain.
-use Prim.Native.Nat.{ℕ, zero, suc, _+_, _*_, _%_, _^_, _≤_, _<_}
+use Prim.Native.Nat.{ℕ, zero, suc, _+_, _*_, _-_, _%_, _^_, _≤_, _<_}
 use native.Mathlib.Nat.{zero-mod, add-zero}
 use native.Mathlib.Numerals.{add-one}
 use native.Mathlib.Omega.{arith}
@@ -15,7 +15,7 @@ use Rattle.octets.specs.Bytes.{Bytes}
 use Rattle.octets.specs.Index.{_and_, allBelow}
 use Rattle.octets.specs.Choice.{_or_}
 use Rattle.octets.specs.Part.{part}
-use Rattle.octets.specs.BigEndian.{number}
+use Rattle.octets.specs.BigEndian.{number, wordWidth}
 use Rattle.octets.proofs.Agree.{or-ltb}
 use Rattle.octets.proofs.BigEndian.{number-lt}
 use Rattle.octets.proofs.Bytes.{part-bytes}
@@ -56,13 +56,13 @@ together-plain f n =
 -- the numbers one after the other: the one of index k is x, read at its place
 module _ (t : List ℕ) (at w : ℕ) where
   abbrev pub numberOf : ℕ → ℕ
-  numberOf k = number (part t (at + w * k) 8)
+  numberOf k = number (part t (at + w * k) wordWidth)
 
   pub none-together : 0 ≡ together numberOf 0
   unfolding together
   none-together = refl
 
-  pub one-together : (k : ℕ) {place x before : ℕ} → place ≡ at + w * k → x ≡ number (part t place 8)
+  pub one-together : (k : ℕ) {place x before : ℕ} → place ≡ at + w * k → x ≡ number (part t place wordWidth)
       → before ≡ together numberOf k → bitOr before x ≡ together numberOf (k + 1)
   unfolding together
   one-together k there read h = rw (add-one, read, there, h)
@@ -84,33 +84,33 @@ module _ (t : List ℕ) (at w mark : ℕ) where
     mark-fails n l ne = sym (all-fails marked k n l (ap (λ (i : ℕ). eqb (getD t i 0) mark) (sym there) ∙ ne-eqb _ _ ne))
 
 -- ---- the marks and the numbers of n records, where they stand in the tables
-module _ (p : ℕ → Bool) (at a w n : ℕ) (t : List ℕ) (fits : a + 8 ≤ w) where
+module _ (p : ℕ → Bool) (at a w n : ℕ) (t : List ℕ) (fits : a + wordWidth ≤ w) where
   abbrev tested : List ℕ → Bool
-  tested b = eqb (getD b 0 0) 1 and p (number (part b a 8))
+  tested b = eqb (getD b 0 0) 1 and p (number (part b a wordWidth))
 
-  field : (k : ℕ) → number (part (recordAt at w t k) a 8) ≡ number (part t (at + a + w * k) 8)
-  field k = ap number (part-part t (at + w * k) w a 8 fits ∙ ap (λ (i : ℕ). part t i 8) (omega arith))
+  field : (k : ℕ) → number (part (recordAt at w t k) a wordWidth) ≡ number (part t (at + a + w * k) wordWidth)
+  field k = ap number (part-part t (at + w * k) w a wordWidth fits ∙ ap (λ (i : ℕ). part t i wordWidth) (omega arith))
 
   pub records-apart : recordsOk tested at w n t
-      ≡ (allBelow (λ k. eqb (getD t (at + w * k) 0) 1) n and allBelow (λ k. p (number (part t (at + a + w * k) 8))) n)
+      ≡ (allBelow (λ k. eqb (getD t (at + w * k) 0) 1) n and allBelow (λ k. p (number (part t (at + a + w * k) wordWidth))) n)
   unfolding recordsOk
   records-apart =
-      all-cong (λ k. tested (recordAt at w t k)) (λ k. eqb (getD t (at + w * k) 0) 1 and p (number (part t (at + a + w * k) 8))) n
+      all-cong (λ k. tested (recordAt at w t k)) (λ k. eqb (getD t (at + w * k) 0) 1 and p (number (part t (at + a + w * k) wordWidth))) n
       (λ k l. ap₂ (λ (x y : ℕ). eqb x 1 and p y)
       (part-at t (at + w * k) w 0 (omega arith) ∙ ap (λ (i : ℕ). getD t i 0) (add-zero (at + w * k))) (field k))
-      ∙ all-both (λ k. eqb (getD t (at + w * k) 0) 1) (λ k. p (number (part t (at + a + w * k) 8))) n
+      ∙ all-both (λ k. eqb (getD t (at + w * k) 0) 1) (λ k. p (number (part t (at + a + w * k) wordWidth))) n
 
   -- where the numbers of n records pass, a test that is equal to `ok` on such a record takes its place
   pub records-left : (ok left : List ℕ → Bool)
-      → ((k : ℕ) → k < n → p (number (part (recordAt at w t k) a 8)) ≡ true → ok (recordAt at w t k) ≡ left (recordAt at w t k))
-      → allBelow (λ k. p (number (part t (at + a + w * k) 8))) n ≡ true → recordsOk left at w n t ≡ recordsOk ok at w n t
+      → ((k : ℕ) → k < n → p (number (part (recordAt at w t k) a wordWidth)) ≡ true → ok (recordAt at w t k) ≡ left (recordAt at w t k))
+      → allBelow (λ k. p (number (part t (at + a + w * k) wordWidth))) n ≡ true → recordsOk left at w n t ≡ recordsOk ok at w n t
   unfolding recordsOk
   records-left ok left same h =
       all-cong (λ k. left (recordAt at w t k)) (λ k. ok (recordAt at w t k)) n
-      (λ k l. sym (same k l (ap p (field k) ∙ all-at (λ j. p (number (part t (at + a + w * j) 8))) n k h l)))
+      (λ k l. sym (same k l (ap p (field k) ∙ all-at (λ j. p (number (part t (at + a + w * j) wordWidth))) n k h l)))
 
 -- ---- plain records keep row 7
-time-plain : (x : ℕ) → x < 2 ^ 40 → timeOk x ≡ true
+time-plain : (x : ℕ) → x < clockLimit → timeOk x ≡ true
 unfolding timeOk
 time-plain x h = le-leb x _ (omega arith)
 
@@ -138,27 +138,38 @@ module _ (b : List ℕ) (bytes : Bytes b) (size : length b ≡ returnWidth) wher
   below : (a n : ℕ) → a + n ≤ length b → number (part b a n) < 256 ^ n
   below a n l = number-lt (part b a n) n (part-bytes b a n bytes) (part-length b a n l)
 
-  ways : waysPlain (number (part b returnArrivalAt 8)) ≡ true → returnOk (returnOf b) ≡ true
+  -- of the word that starts with the arrival port: what is behind it, and behind the leaving port, which is the expiry but for its last bytes
+  abbrev behindArrival : ℕ
+  behindArrival = wordWidth - 1
+
+  abbrev expirySeen : ℕ
+  expirySeen = behindArrival - 1
+
+  abbrev expiryRest : ℕ
+  expiryRest = timeWidth - expirySeen
+
+  ways : waysPlain (number (part b returnArrivalAt wordWidth)) ≡ true → returnOk (returnOf b) ≡ true
   unfolding waysPlain returnOk returnOf
   ways h =
-      let x : ℕ = number (part b returnArrivalAt 8) in
-      let first : number (part b returnArrivalAt 8) ≡ getD b returnArrivalAt 0 * 256 ^ 7 + number (part b returnLeavingAt 7) =
-      number-part b returnArrivalAt 1 7 (omega arith)
-      ∙ ap (λ (k : ℕ). k * 256 ^ 7 + number (part b returnLeavingAt 7)) (number-one b returnArrivalAt (omega arith)) in
-      let second : number (part b returnLeavingAt 7) ≡ getD b returnLeavingAt 0 * 256 ^ 6 + number (part b returnExpiryAt 6) =
-      number-part b returnLeavingAt 1 6 (omega arith)
-      ∙ ap (λ (k : ℕ). k * 256 ^ 6 + number (part b returnExpiryAt 6)) (number-one b returnLeavingAt (omega arith)) in
-      let third : number (part b returnExpiryAt 8) ≡ number (part b returnExpiryAt 6) * 256 ^ 2 + number (part b (returnExpiryAt + 6) 2) =
-      number-part b returnExpiryAt 6 2 (omega arith) in
+      let x : ℕ = number (part b returnArrivalAt wordWidth) in
+      let first : number (part b returnArrivalAt wordWidth) ≡ getD b returnArrivalAt 0 * 256 ^ behindArrival + number (part b returnLeavingAt behindArrival) =
+      number-part b returnArrivalAt 1 behindArrival (omega arith)
+      ∙ ap (λ (k : ℕ). k * 256 ^ behindArrival + number (part b returnLeavingAt behindArrival)) (number-one b returnArrivalAt (omega arith)) in
+      let second : number (part b returnLeavingAt behindArrival) ≡ getD b returnLeavingAt 0 * 256 ^ expirySeen + number (part b returnExpiryAt expirySeen) =
+      number-part b returnLeavingAt 1 expirySeen (omega arith)
+      ∙ ap (λ (k : ℕ). k * 256 ^ expirySeen + number (part b returnExpiryAt expirySeen)) (number-one b returnLeavingAt (omega arith)) in
+      let third : number (part b returnExpiryAt timeWidth)
+      ≡ number (part b returnExpiryAt expirySeen) * 256 ^ expiryRest + number (part b (returnExpiryAt + expirySeen) expiryRest) =
+      number-part b returnExpiryAt expirySeen expiryRest (omega arith) in
       let l1 : x < 2 ^ 60 = ltb-true _ _ (and-left _ _ h) in
       let l2 : x % 2 ^ 56 < 2 ^ 52 = ltb-true _ _ (and-left _ _ (and-right _ _ h)) in
       let l3 : x % 2 ^ 48 < 2 ^ 24 = ltb-true _ _ (and-right _ _ (and-right _ _ h)) in
-      let s1 = below returnLeavingAt 7 (omega arith) in
-      let s2 = below returnExpiryAt 6 (omega arith) in
-      let s3 = below (returnExpiryAt + 6) 2 (omega arith) in
+      let s1 = below returnLeavingAt behindArrival (omega arith) in
+      let s2 = below returnExpiryAt expirySeen (omega arith) in
+      let s3 = below (returnExpiryAt + expirySeen) expiryRest (omega arith) in
       let arrival : getD b returnArrivalAt 0 < portCount = omega arith in
       let leaving : getD b returnLeavingAt 0 < portCount = omega arith in
-      let expiry : number (part b returnExpiryAt 8) < 2 ^ 40 = omega arith in
+      let expiry : number (part b returnExpiryAt timeWidth) < clockLimit = omega arith in
       and-both (lt-ltb _ _ arrival) (and-both (lt-ltb _ _ leaving) (time-plain _ expiry))
 
   pub return-plain : returnPlain b ≡ true → returnBytesOk b ≡ true
@@ -166,7 +177,7 @@ module _ (b : List ℕ) (bytes : Bytes b) (size : length b ≡ returnWidth) wher
   return-plain h =
       return-test b ∙ slot-used returnWidth _ b (eqb-true _ _ (and-left _ _ h)) ∙ ways (and-right _ _ h)
 
-  pub return-left : waysPlain (number (part b returnArrivalAt 8)) ≡ true → returnBytesOk b ≡ usedOrZero b
+  pub return-left : waysPlain (number (part b returnArrivalAt wordWidth)) ≡ true → returnBytesOk b ≡ usedOrZero b
   return-left h =
       return-test b ∙ ap (λ (w : ℕ). slotBytesOk w (λ s. returnOk (returnOf s)) b) (sym size)
       ∙ used-left (λ s. returnOk (returnOf s)) b (omega arith) (ways h)

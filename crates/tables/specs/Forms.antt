@@ -8,6 +8,7 @@ use mathlib.Core.Path.{refl}
 use lib.Dec.{ltb, leb}
 use Rattle.codes.specs.Form.{Form, byte, mark, numberIn, octetsIn, field, _&_, many, firstsOf, slot, that, asRecord}
 use Rattle.numbers.specs.Numbers.{portCount, localCount, pathCount, blobLimit, linkCount, returnCount, hashCount}
+pub use Rattle.numbers.specs.Numbers.{addressWidth, digestWidth, blobWidth}
 use Rattle.notes.specs.Notes.{notesForm}
 use Rattle.rules.specs.Relay.{Port, noPort, Slot, empty, Blobs, Path, Return, Remembered, Ring, Relay, makePort, makeRateSettings, makeRateEntry, makePath, makeLink, withLinkState, makeReturn, makeRemembered, makeRing, makeRelay}
 use Rattle.rules.specs.Blobs.{noBlob}
@@ -17,18 +18,9 @@ use Rattle.rules.specs.declared.RateSettings.{RateSettings}
 use Rattle.rules.specs.declared.RateEntry.{RateEntry}
 use Rattle.notes.specs.declared.Notes.{Notes}
 
--- ---- widths of fields, in bytes
-abbrev pub addressWidth : ℕ
-addressWidth = 16
-
-abbrev pub digestWidth : ℕ
-digestWidth = 32
-
+-- ---- widths of fields, in bytes; those of addresses, digests and blobs are document 01's
 abbrev pub timeWidth : ℕ
 timeWidth = 8
-
-abbrev pub blobWidth : ℕ
-blobWidth = 10
 
 abbrev pub ringWidth : ℕ
 ringWidth = 2

@@ -9,7 +9,7 @@ use lib.ListN.{length, getD}
 use Rattle.octets.specs.Index.{_and_, zeros}
 use Rattle.octets.specs.Choice.{_or_}
 use Rattle.octets.specs.Part.{part}
-use Rattle.octets.specs.BigEndian.{number}
+use Rattle.octets.specs.BigEndian.{number, wordWidth}
 use Rattle.numbers.specs.Numbers.{clockLimit}
 use Rattle.tables.specs.Places.{timeWidth}
 use Rattle.tables.specs.Fields.{returnArrivalAt, hashExpiryAt}
@@ -31,7 +31,7 @@ unfoldable pub waysPlain : ℕ → Bool
 waysPlain x = ltb x (2 ^ 60) and ltb (x % 2 ^ 56) (2 ^ 52) and ltb (x % 2 ^ 48) (2 ^ 24)
 
 unfoldable pub returnPlain : List ℕ → Bool
-returnPlain b = eqb (getD b 0 0) 1 and waysPlain (number (part b returnArrivalAt 8))
+returnPlain b = eqb (getD b 0 0) 1 and waysPlain (number (part b returnArrivalAt wordWidth))
 
 unfoldable pub hashPlain : List ℕ → Bool
 hashPlain b = eqb (getD b 0 0) 1 and ltb (number (part b hashExpiryAt timeWidth)) clockLimit

@@ -1,9 +1,9 @@
 // Where each field stands in its record: specs/Fields.antt in code. Each number once. A record's first byte is its
 // mark, used or not; a port's is its on mark.
-use super::places::ADDRESS_WIDTH;
-use super::places::DIGEST_WIDTH;
 use super::places::TIME_WIDTH;
 use notes::NOTES_WIDTH;
+use numbers::ADDRESS_WIDTH;
+use numbers::DIGEST_WIDTH;
 
 pub const PORT_ON_AT: usize = 0;
 

@@ -4,7 +4,9 @@ use super::fields::LINK_EXPIRY_AT;
 use super::fields::PATH_BLOBS_AT;
 use super::fields::PORT_SIZE_AT;
 use super::fields::RETURN_EXPIRY_AT;
+use numbers::ADDRESS_WIDTH;
 use numbers::BLOB_LIMIT;
+use numbers::BLOB_WIDTH;
 use numbers::HASH_COUNT;
 use numbers::LINK_COUNT;
 use numbers::LOCAL_COUNT;
@@ -13,13 +15,7 @@ use numbers::PATH_COUNT;
 use numbers::PORT_COUNT;
 use numbers::RETURN_COUNT;
 
-pub const ADDRESS_WIDTH: usize = 16;
-
-pub const DIGEST_WIDTH: usize = 32;
-
 pub const TIME_WIDTH: usize = 8;
-
-pub const BLOB_WIDTH: usize = 10;
 
 pub const RING_WIDTH: usize = 2;
 

@@ -13,7 +13,7 @@ ghost use lib.Dec.{eqb};
 ghost use lib.ListN.{length, getD};
 ghost use Rattle.octets.specs.Index.{allBelow};
 ghost use Rattle.octets.specs.Part.{part};
-ghost use Rattle.octets.specs.BigEndian.{number};
+ghost use Rattle.octets.specs.BigEndian.{wordWidth, number};
 ghost use Rattle.tables.specs.Places.{returnWidth, hashWidth};
 ghost use Rattle.tables.specs.Layout.{recordsOk};
 ghost use Rattle.tables.specs.Groups.{together, waysPlain, returnPlain, hashPlain, usedOrZero};
@@ -37,8 +37,8 @@ pub fn four_marked(t: &[u8], at: usize, width: usize, mark: u8) -> bool
 
 // The OR of four numbers of eight bytes: the first from a place on, each so much behind the one before it.
 pub fn four_together(t: &[u8], at: usize, width: usize) -> u64
-    requires { ⌜ at + width * 3 + 8 ≤ length (now t) ⌝ }
-    ensures { λ r. ⌜ r ≡ together (λ k. number (part (now (t .entry)) (at + width * k) 8)) 4 ⌝ }
+    requires { ⌜ at + width * 3 + wordWidth ≤ length (now t) ⌝ }
+    ensures { λ r. ⌜ r ≡ together (λ k. number (part (now (t .entry)) (at + width * k) wordWidth)) 4 ⌝ }
 {
     octets::number_of_8_at(t, at)
         | octets::number_of_8_at(t, at + width)

@@ -19,7 +19,7 @@ use Rattle.octets.specs.Part.{joined}
 use Rattle.octets.specs.Choice.{_then_otherwise_}
 use Rattle.octets.proofs.Choice.{then-true, then-false}
 use Rattle.octets.proofs.Joined.{joined-append, joined-one, joined-length}
-use Rattle.text.specs.Numerals.{digit, numeralWithin, numeral, hexadecimalByte, hexadecimal}
+use Rattle.text.specs.Numerals.{digit, numeralWithin, numeral, hexadecimalByte, hexadecimal, byteDigits}
 
 -- ---- digits
 module _ (n : ℕ) where
@@ -227,7 +227,7 @@ module _ (digits : List ℕ) (at rest c : ℕ) (whole : List ℕ) (l : at < leng
       sym (place-written digits at c [] whole l next)
 
 -- ---- hexadecimal: two digits a byte
-byte-length : (x : ℕ) → length (hexadecimalByte x) ≡ 2
+byte-length : (x : ℕ) → length (hexadecimalByte x) ≡ byteDigits
 unfolding hexadecimalByte
 byte-length x = refl
 
@@ -235,9 +235,9 @@ pub byte-digits : (x : ℕ) → digit (x / 16) ∷ digit (x % 16) ∷ [] ≡ hex
 unfolding hexadecimalByte
 byte-digits x = refl
 
-pub hexadecimal-length : (t : List ℕ) → length (hexadecimal t) ≡ 2 * length t
+pub hexadecimal-length : (t : List ℕ) → length (hexadecimal t) ≡ byteDigits * length t
 unfolding hexadecimal
-hexadecimal-length t = joined-length hexadecimalByte 2 byte-length t
+hexadecimal-length t = joined-length hexadecimalByte byteDigits byte-length t
 
 -- `with_hexadecimal`, from the start and one byte more
 pub hexadecimal-none : (t : List ℕ) → hexadecimal (take 0 t) ≡ []
@@ -271,9 +271,9 @@ hexadecimal-injective [] (y ∷ t) bs bt e = absurd (omega (arith, ap length e, 
 hexadecimal-injective (x ∷ s) [] bs bt e = absurd (omega (arith, ap length e, length-append (hexadecimalByte x) (joined hexadecimalByte s), byte-length x))
 hexadecimal-injective (x ∷ s) (y ∷ t) bs bt e =
     let first : hexadecimalByte x ≡ hexadecimalByte y =
-    sym (take-at (hexadecimalByte x) _ 2 (byte-length x)) ∙ ap (take 2) e ∙ take-at (hexadecimalByte y) _ 2 (byte-length y) in
+    sym (take-at (hexadecimalByte x) _ byteDigits (byte-length x)) ∙ ap (take byteDigits) e ∙ take-at (hexadecimalByte y) _ byteDigits (byte-length y) in
     let rest : hexadecimal s ≡ hexadecimal t =
-    sym (drop-at (hexadecimalByte x) _ 2 (byte-length x)) ∙ ap (drop 2) e ∙ drop-at (hexadecimalByte y) _ 2 (byte-length y) in
+    sym (drop-at (hexadecimalByte x) _ byteDigits (byte-length x)) ∙ ap (drop byteDigits) e ∙ drop-at (hexadecimalByte y) _ byteDigits (byte-length y) in
     ap₂ (λ (a : ℕ) (r : List ℕ). a ∷ r)
     (sym (byte-value x (bs 0)) ∙ ap (value 16) first ∙ byte-value y (bt 0))
     (hexadecimal-injective s t (λ i. bs (suc i)) (λ i. bt (suc i)) rest)

@@ -86,10 +86,10 @@ module _ (t : Text) where
 pub appended-text : (x y : List ℕ) → length x + length y ≤ textSize → appended (textOf x) y ≡ textOf (x ++ y)
 unfolding textOf
 appended-text x y room =
-    let n : ℕ = 160 - length (x ++ y) in
-    let zeros : 160 - length x ≡ length y + n = omega (arith, length-append x y) in
-    let wide : length (x ++ replicate (160 - length x) 0) ≡ 160 =
-    omega (arith, length-append x (replicate (160 - length x) 0), length-replicate {A = ℕ} (160 - length x) 0) in
+    let n : ℕ = textSize - length (x ++ y) in
+    let zeros : textSize - length x ≡ length y + n = omega (arith, length-append x y) in
+    let wide : length (x ++ replicate (textSize - length x) 0) ≡ textSize =
+    omega (arith, length-append x (replicate (textSize - length x) 0), length-replicate {A = ℕ} (textSize - length x) 0) in
     sym (appended-whole (textOf x) y (omega arith))
     ∙ ap₂ made
     (ap (λ (r : List ℕ). patch (x ++ r) (length x) y) (ap (λ (k : ℕ). replicate k 0) zeros ∙ sym (replicate-append-replicate (length y) n 0))
@@ -101,7 +101,7 @@ appended-text x y room =
 module _ (t : Text) (x : List ℕ) (e : t ≡ textOf x) where
   pub text-within : t .length ≤ length (t .bytes)
   unfolding textOf
-  text-within = subst (λ (s : Text). s .length ≤ length (s .bytes)) (sym e) (omega (arith, length-append x (replicate (160 - length x) 0)))
+  text-within = subst (λ (s : Text). s .length ≤ length (s .bytes)) (sym e) (omega (arith, length-append x (replicate (textSize - length x) 0)))
 
   pub text-part : t .length ≡ length (take (t .length) (t .bytes))
   text-part = sym (length-take-le (t .length) (t .bytes) text-within)

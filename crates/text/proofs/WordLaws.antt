@@ -10,7 +10,7 @@ use Rattle.octets.proofs.Joined.{joined-append}
 use Rattle.text.specs.Words.{space, newline, spaced, wordsLine, refusedWord, refusedWords}
 use Rattle.text.specs.Text.{textSize, textOf, appended}
 use Rattle.text.specs.declared.Text.{Text}
-use Rattle.text.specs.Numerals.{decimal}
+use Rattle.text.specs.Numerals.{decimal, shortDigits, shortLimit}
 use Rattle.text.proofs.NumeralLaws.{numeral-most}
 use Rattle.text.proofs.TextLaws.{appended-append, appended-text}
 
@@ -74,6 +74,10 @@ line-appended w ws room =
     ∙ appended-text [] (w ++ (spaced ws ++ (newline ∷ []))) (omega arith)
 
 -- a refusal's number has three digits at most
-pub refused-fit : (n : ℕ) → n < 1000 → length (wordsLine (refusedWords n)) ≤ textSize
+pub refused-fit : (n : ℕ) → n < shortLimit → length (wordsLine (refusedWords n)) ≤ textSize
 refused-fit n few =
-    omega (arith, line-most refusedWord (decimal n ∷ []) (7 ∷ 3 ∷ []) (lit≤ tt, (numeral-most 10 (lit≤ tt) 3 n (lit≤ tt) few, tt)))
+    omega (
+      arith,
+      line-most refusedWord (decimal n ∷ []) (length refusedWord ∷ shortDigits ∷ [])
+          (lit≤ tt, (numeral-most 10 (lit≤ tt) shortDigits n (lit≤ tt) few, tt)),
+    )

@@ -1,5 +1,5 @@
 -- Numbers as text: any number in digits without leading zeros, and bytes in lower-case hexadecimal.
-use Prim.Native.Nat.{ℕ, zero, suc, _+_, _/_, _%_}
+use Prim.Native.Nat.{ℕ, zero, suc, _+_, _/_, _%_, _^_}
 use mathlib.Core.List.{List, [], _∷_, _++_}
 use lib.Dec.{ltb}
 use Rattle.octets.specs.Choice.{_then_otherwise_}
@@ -23,7 +23,21 @@ numeral base x = numeralWithin base x x
 abbrev pub decimal : ℕ → List ℕ
 decimal x = numeral 10 x
 
+-- how many digits a number of 64 bits has at most, in decimal
+abbrev pub mostDigits : ℕ
+mostDigits = 20
+
+-- bytes and lengths of packets are short numbers, of three digits at most
+abbrev pub shortDigits : ℕ
+shortDigits = 3
+
+abbrev pub shortLimit : ℕ
+shortLimit = 10 ^ shortDigits
+
 -- a byte is two digits
+abbrev pub byteDigits : ℕ
+byteDigits = 2
+
 unfoldable pub hexadecimalByte : ℕ → List ℕ
 hexadecimalByte x = digit (x / 16) ∷ digit (x % 16) ∷ []
 

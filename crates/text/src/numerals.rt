@@ -4,8 +4,13 @@ use super::with_text;
 ghost use mathlib.Core.Path.{_≡_};
 ghost use Prim.Native.Nat.{_<_, _≤_};
 ghost use lib.ListN.{length, drop};
-ghost use Rattle.text.specs.Numerals.{digit as digitOf, decimal, hexadecimalByte, hexadecimal};
+ghost use Rattle.text.specs.Numerals.{digit as digitOf, decimal, mostDigits, hexadecimalByte, hexadecimal};
 ghost use Rattle.text.specs.Text.{appended};
+
+// `mostDigits` of specs/ in code: how many digits the largest number has, in decimal.
+const MOST_DIGITS: usize = 20;
+
+const LAST_DIGIT: usize = MOST_DIGITS - 1;
 
 // The character of a digit: 0 to 9, a to f.
 fn digit(n: u64) -> u8
@@ -18,13 +23,13 @@ fn digit(n: u64) -> u8
     (87 + n) as u8
 }
 
-// Writes x in decimal at the end of 20 bytes, as many as the largest number has digits, and says where it starts.
+// Writes x in decimal at the end of the bytes, and says where it starts.
 fn write_decimal(digits: &mut [u8], x: u64) -> usize
-    requires { ⌜ length (now digits) ≡ 20 ⌝ }
-    ensures { λ r. ⌜ (r ≤ 20) × (drop r (now (digits .exit)) ≡ decimal x) ⌝ }
+    requires { ⌜ length (now digits) ≡ mostDigits ⌝ }
+    ensures { λ r. ⌜ (r ≤ mostDigits) × (drop r (now (digits .exit)) ≡ decimal x) ⌝ }
 {
     let mut rest = x;
-    let mut at = 19;
+    let mut at = LAST_DIGIT;
     while 9 < rest {
         digits[at] = digit(rest % 10);
         rest = rest / 10;
@@ -38,7 +43,7 @@ fn write_decimal(digits: &mut [u8], x: u64) -> usize
 pub fn with_decimal(text: Text, x: u64) -> Text
     ensures { λ r. ⌜ r ≡ appended text (decimal x) ⌝ }
 {
-    let mut digits = [0u8; 20];
+    let mut digits = [0u8; MOST_DIGITS];
     let start = write_decimal(&mut digits, x);
     with_text(text, &digits[start..])
 }

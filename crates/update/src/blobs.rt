@@ -1,6 +1,6 @@
 // The blobs of a path's record: their count, and behind it the blob places, the blob stored longest ago first.
 use numbers::BLOB_LIMIT;
-use tables::places::BLOB_WIDTH;
+use numbers::BLOB_WIDTH;
 ghost use mathlib.Core.Path.{_≡_};
 ghost use mathlib.Core.List.{_++_};
 ghost use Prim.Native.Nat.{_+_};

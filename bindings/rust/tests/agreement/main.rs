@@ -19,7 +19,7 @@ const LENGTHS: [&str; 9] = [
     "crates/tables/src/places.rt",
     "crates/surveying/src/counting.rt",
     "crates/surveying/src/lib.rt",
-    "crates/opinion/src/log.rt",
+    "crates/log/src/places.rt",
 ];
 
 /// The texts of the three sources, and of the numbers of documents 01 and 02.
@@ -54,11 +54,9 @@ impl Texts {
             rust: text("bindings/rust/src/lib.rs") + &text("bindings/rust/src/raw.rs"),
             rattle: LENGTHS.iter().map(|path| text(path)).collect::<String>() + &rattle_texts("crates/haskumye/src"),
             numbers: rattle_texts("crates/numbers/src")
-                + &text("crates/recording/src/numbers.rt")
-                + &text("crates/saved/src/format.rt")
+                + &text("crates/recording/src/places.rt")
                 + &rattle_texts("crates/surveying/src")
-                + &text("crates/opinion/src/log.rt")
-                + &text("crates/opinion/src/refusing.rt"),
+                + &text("crates/log/src/places.rt"),
         }
     }
 
@@ -139,17 +137,8 @@ fn named_as_in_rust(header: &Interface) -> Interface {
     renamed
 }
 
-/// What the crates `recording` and `saved` call a number, and what the header does.
-const FILES: [(&str, &str); 8] = [
-    ("LONGEST_FILE", "RECORDING_SIZE"),
-    ("CLOCK_REFUSED", "CLOCK"),
-    ("LENGTH_REFUSED", "FILE_LENGTH"),
-    ("KIND_REFUSED", "FILE_KIND"),
-    ("PLACE_REFUSED", "FILE_PLACE"),
-    ("WORD_REFUSED", "SIGNATURE_WORD"),
-    ("BODY_REFUSED", "FILE_BODY"),
-    ("ROOM_REFUSED", "ROOM"),
-];
+/// What the crate `recording` calls a number, and what the header does.
+const FILES: [(&str, &str); 1] = [("LONGEST_FILE", "RECORDING_SIZE")];
 
 const HEADER: fn(&mut Texts) -> &mut String = |texts| &mut texts.header;
 const RUST: fn(&mut Texts) -> &mut String = |texts| &mut texts.rust;
@@ -438,13 +427,8 @@ fn limits_are_those_of_the_crate_of_numbers() {
         assert_eq!(texts.damaged(NUMBERS, &from, &to).differences(), line);
     }
     assert_seen(&[
-        (
-            NUMBERS,
-            "end that breaks the rule.\npub const PLACE_REFUSED: u8 = 22;",
-            "\npub const PLACE_REFUSED: u8 = 24;",
-            "HASKUMYE_REFUSAL_FILE_PLACE is 22 in the header, 24 in the numbers",
-        ),
-        (NUMBERS, "u8 = 24;", "u8 = 23;", "HASKUMYE_REFUSAL_FILE_BODY is 24 in the header, 23 in the numbers"),
+        (NUMBERS, "FILE_PLACE: u8 = 22", "FILE_PLACE: u8 = 24", "HASKUMYE_REFUSAL_FILE_PLACE is 22 in the header, 24 in the numbers"),
+        (NUMBERS, "FILE_BODY: u8 = 24", "FILE_BODY: u8 = 23", "HASKUMYE_REFUSAL_FILE_BODY is 24 in the header, 23 in the numbers"),
         (NUMBERS, "60_000", "60_001", "HASKUMYE_RECORDING_SIZE is 60000 in the header, 60001 in the numbers"),
         (
             NUMBERS,

@@ -23,10 +23,10 @@ carry-out-requires c κs = search needs
 
 stamp-requires : tie.Need-stamp-requires
 stamp-requires c κs =
-    let c10 = c .before .before .before .before .before .before .before .before .before .before in
-    let s = c10 .before .before .before .before .before in
+    let after-next-hash = c .before .before .before .before .before .before .before .before .before .before in
+    let s = after-next-hash .before .before .before .before .before in
     let size = formed _ (s .pre .0 .accepted .formed) .size in
-    let within = subst (λ (k : ℕ). k < hashCount) (sym (c10 .next-hash .ensures)) (hash-next-within _ (s .pre .0 .accepted .formed)) in
+    let within = subst (λ (k : ℕ). k < hashCount) (sym (after-next-hash .next-hash .ensures)) (hash-next-within _ (s .pre .0 .accepted .formed)) in
     (search needs, within, s .pre .0 .accepted .clock)
 
 same-length : tie.Need-same-length
@@ -37,16 +37,16 @@ same-length-2 c = search needs
 
 returns : tie.Need-returns
 returns c =
-    let c8 = c .before .before .before .before .before .before .before .before in
-    let c11 = c8 .before .before .before in
-    let c13 = c11 .before .before in
-    let c16 = c13 .before .before .before in
-    let s = c16 .before .before in
-    let left = c8 .carry-out .ensures in
-    let remembered = c11 .remembers .ensures ∙ remembered-by _ _ _ _ (s .pre .0 .decided) in
+    let after-carry-out = c .before .before .before .before .before .before .before .before in
+    let after-remembers = after-carry-out .before .before .before in
+    let after-next-hash = after-remembers .before .before in
+    let after-slice-known = after-next-hash .before .before .before in
+    let s = after-slice-known .before .before in
+    let left = after-carry-out .carry-out .ensures in
+    let remembered = after-remembers .remembers .ensures ∙ remembered-by _ _ _ _ (s .pre .0 .decided) in
     let stamped =
-    stamp-left _ _ _ (s .pre .0 .accepted) (known-bytes (s .args .tables .now) (c16 .slice-known .given)) _ _ _ _ (s .pre .1) (left .1)
-    (c13 .next-hash .ensures) remembered in
+    stamp-left _ _ _ (s .pre .0 .accepted) (known-bytes (s .args .tables .now) (after-slice-known .slice-known .given)) _ _ _ _ (s .pre .1) (left .1)
+    (after-next-hash .next-hash .ensures) remembered in
     (left .0, c .before .before .stamp .ensures ∙ stamped, left .2)
 
 pub act-spec : {M : Type 1} → statement M

@@ -68,12 +68,12 @@ same-length c = search needs
 
 returns : tie.Need-returns
 returns c =
-    let c2 = c .before .before in
-    let c5 = c2 .before .before .before in
-    let c8 = c5 .before .before .before in
-    let s = c8 .before .before in
-    drop-left _ _ _ (s .pre .0 .accepted) (known-bytes (s .args .tables .now) (c8 .slice-known .given)) _ _
-    (s .pre .0 .decided ∙ c5 .decision .given .1) _ _ (c2 .drop-packet .ensures .0) (c2 .drop-packet .ensures .1)
+    let after-drop-packet = c .before .before in
+    let after-decision = after-drop-packet .before .before .before in
+    let after-slice-known = after-decision .before .before .before in
+    let s = after-slice-known .before .before in
+    drop-left _ _ _ (s .pre .0 .accepted) (known-bytes (s .args .tables .now) (after-slice-known .slice-known .given)) _ _
+    (s .pre .0 .decided ∙ after-decision .decision .given .1) _ _ (after-drop-packet .drop-packet .ensures .0) (after-drop-packet .drop-packet .ensures .1)
 
 returns-2 : tie.Need-returns-2
 returns-2 c =

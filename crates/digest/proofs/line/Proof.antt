@@ -1,13 +1,13 @@
-use Prim.Native.Nat.{_≤_}
+use Prim.Native.Nat.{_*_, _≤_}
 use mathlib.Core.List.{[], _∷_}
 use mathlib.Core.Path.{_≡_, sym, ap, _∙_}
 use lib.ListN.{length}
 use borrow.Author.Tests.{eq-eqb, ne-eqb}
 use Rattle.octets.specs.Choice.{_then_otherwise_}
 use Rattle.octets.specs.Part.{joined}
-use Rattle.text.specs.Numerals.{hexadecimal}
+use Rattle.text.specs.Numerals.{hexadecimal, byteDigits}
 use Rattle.text.specs.Words.{newline, spaced, wordsLine}
-use Rattle.text.specs.Text.{appended}
+use Rattle.text.specs.Text.{appended, textSize}
 use Rattle.text.specs.declared.Text.{Text}
 use Rattle.text.proofs.NumeralLaws.{hexadecimal-length}
 use Rattle.text.proofs.TextLaws.{appended-none}
@@ -42,10 +42,16 @@ unfolding digestLine _then_otherwise_ spaced joined
 returns-2 c =
     let d = c .before .before .before .before .before .before .before .args .digest in
     let wide : length (d .bytes) ≡ 32 = search needs in
-    let fit : length (wordsLine (hexadecimal (d .bytes) ∷ [])) ≤ 160 =
-    omega (arith, line-most (hexadecimal (d .bytes)) [] (64 ∷ []) (omega (arith, hexadecimal-length (d .bytes)), tt)) in
-    let c3 = c .before .before .before in
-    rw (c .with-character .ensures, c .before .with-hexadecimal .ensures, c3 .empty .ensures, eq-eqb (d .refusal) 0 (c3 .before .before .if1 .left))
+    let fit : length (wordsLine (hexadecimal (d .bytes) ∷ [])) ≤ textSize =
+    omega (arith, line-most (hexadecimal (d .bytes)) [] (byteDigits * 32 ∷ []) (omega (arith, hexadecimal-length (d .bytes)), tt)) in
+    let after-empty = c .before .before .before in
+    rw (
+      c .with-character .ensures,
+      c .before .with-hexadecimal .ensures,
+      after-empty .empty .ensures,
+      eq-eqb (d .refusal) 0
+          (after-empty .before .before .if1 .left),
+    )
     (ap (λ (t : Text). appended t (newline ∷ [])) (sym (appended-none _)) ∙ line-appended (hexadecimal (d .bytes)) [] fit)
 
 pub line-spec : {M : Type 1} → statement M

@@ -29,11 +29,11 @@ shared-slice-read-if1-2 c = search needs
 returns : tie.Need-returns Inv-loop μ-loop
 unfolding differsBefore
 returns c =
-    let c3 = c .before .before .before in
-    let c4 = c3 .before in
-    let c5 = c4 .before in
-    sym (all-fails (λ k. not (eqb (getD (c5 .args .map .now) k 0) (getD (c5 .args .map .now) (c5 .args .i) 0))) (c4 .loop .j) (c5 .args .i)
-    (c3 .loop-test .taken) (ap not (eq-eqb _ _ (c .if1 .taken))))
+    let in-loop = c .before .before .before in
+    let at-loop = in-loop .before in
+    let start = at-loop .before in
+    sym (all-fails (λ k. not (eqb (getD (start .args .map .now) k 0) (getD (start .args .map .now) (start .args .i) 0))) (at-loop .loop .j) (start .args .i)
+    (in-loop .loop-test .taken) (ap not (eq-eqb _ _ (c .if1 .taken))))
 
 add-j : tie.Need-add-j Inv-loop μ-loop
 add-j c = search needs
@@ -43,11 +43,11 @@ loop-less c = search needs
 
 loop-again : tie.Need-loop-again Inv-loop μ-loop
 loop-again c =
-    let c4 = c .before .before .before .before in
-    let c5 = c4 .before in (
+    let at-loop = c .before .before .before .before in
+    let start = at-loop .before in (
       search needs,
-      all-more (λ k. not (eqb (getD (c5 .args .map .now) k 0) (getD (c5 .args .map .now) (c5 .args .i) 0))) (c4 .loop .j)
-          (c4 .loop .inv .1) (ap not (ne-eqb _ _ (c .if1 .left))),
+      all-more (λ k. not (eqb (getD (start .args .map .now) k 0) (getD (start .args .map .now) (start .args .i) 0))) (at-loop .loop .j)
+          (at-loop .loop .inv .1) (ap not (ne-eqb _ _ (c .if1 .left))),
     )
 
 returns-2 : tie.Need-returns-2 Inv-loop μ-loop

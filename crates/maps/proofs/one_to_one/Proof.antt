@@ -30,10 +30,10 @@ cast-if1 c = search needs
 returns : tie.Need-returns Inv-loop μ-loop
 unfolding oneToOne
 returns c =
-    let c3 = c .before .before .before in
-    let c5 = c3 .before .before in
-    sym (and-yes _ (eq-eqb _ _ (c5 .pre)) ∙ all-fails (λ k. ltb (getD (c5 .args .map .now) k 0) portCount and differsBefore (c5 .args .map .now) k)
-    (c3 .loop .i) portCount (c .before .before .loop-test .taken) (and-no _ (le-ltb _ _ (c .if1 .taken))))
+    let at-loop = c .before .before .before in
+    let start = at-loop .before .before in
+    sym (and-yes _ (eq-eqb _ _ (start .pre)) ∙ all-fails (λ k. ltb (getD (start .args .map .now) k 0) portCount and differsBefore (start .args .map .now) k)
+    (at-loop .loop .i) portCount (c .before .before .loop-test .taken) (and-no _ (le-ltb _ _ (c .if1 .taken))))
 
 differs-before-requires : tie.Need-differs-before-requires Inv-loop μ-loop
 differs-before-requires c κs = search needs
@@ -41,11 +41,11 @@ differs-before-requires c κs = search needs
 returns-2 : tie.Need-returns-2 Inv-loop μ-loop
 unfolding oneToOne
 returns-2 c =
-    let c4 = c .before .before .before .before in
-    let c5 = c4 .before in
-    let c7 = c5 .before .before in
-    sym (and-yes _ (eq-eqb _ _ (c7 .pre)) ∙ all-fails (λ k. ltb (getD (c7 .args .map .now) k 0) portCount and differsBefore (c7 .args .map .now) k)
-    (c5 .loop .i) portCount (c4 .loop-test .taken) (and-yes _ (lt-ltb _ _ (c .before .before .if1 .left)) ∙ sym (c .before .differs-before .ensures)
+    let in-loop = c .before .before .before .before in
+    let at-loop = in-loop .before in
+    let start = at-loop .before .before in
+    sym (and-yes _ (eq-eqb _ _ (start .pre)) ∙ all-fails (λ k. ltb (getD (start .args .map .now) k 0) portCount and differsBefore (start .args .map .now) k)
+    (at-loop .loop .i) portCount (in-loop .loop-test .taken) (and-yes _ (lt-ltb _ _ (c .before .before .if1 .left)) ∙ sym (c .before .differs-before .ensures)
     ∙ not-true _ (c .if2 .taken)))
 
 add-i : tie.Need-add-i Inv-loop μ-loop
@@ -56,20 +56,20 @@ loop-less c = search needs
 
 loop-again : tie.Need-loop-again Inv-loop μ-loop
 loop-again c =
-    let c5 = c .before .before .before .before .before in
-    let c7 = c5 .before .before in (
+    let at-loop = c .before .before .before .before .before in
+    let start = at-loop .before .before in (
       search needs,
-      all-more (λ k. ltb (getD (c7 .args .map .now) k 0) portCount and differsBefore (c7 .args .map .now) k) (c5 .loop .i)
-          (c5 .loop .inv .1) (and-yes _ (lt-ltb _ _ (c .before .before .if1 .left)) ∙ sym (c .before .differs-before .ensures) ∙ not-false _
+      all-more (λ k. ltb (getD (start .args .map .now) k 0) portCount and differsBefore (start .args .map .now) k) (at-loop .loop .i)
+          (at-loop .loop .inv .1) (and-yes _ (lt-ltb _ _ (c .before .before .if1 .left)) ∙ sym (c .before .differs-before .ensures) ∙ not-false _
           (c .if2 .left)),
     )
 
 returns-3 : tie.Need-returns-3 Inv-loop μ-loop
 unfolding oneToOne
 returns-3 c =
-    let c3 = c .before .before .before in
-    ended (allBelow (λ k. ltb (getD (c3 .args .map .now) k 0) portCount and differsBefore (c3 .args .map .now) k)) (c .before .loop .inv .0)
-    (c .loop-test .left) (c .before .loop .inv .1) ∙ sym (and-yes _ (eq-eqb _ _ (c3 .pre)))
+    let start = c .before .before .before in
+    ended (allBelow (λ k. ltb (getD (start .args .map .now) k 0) portCount and differsBefore (start .args .map .now) k)) (c .before .loop .inv .0)
+    (c .loop-test .left) (c .before .loop .inv .1) ∙ sym (and-yes _ (eq-eqb _ _ (start .pre)))
 
 pub one-to-one-spec : {M : Type 1} → statement M
 one-to-one-spec =

@@ -30,9 +30,10 @@ cast-if1 c = omega (arith, c .shared-slice-known .given (c .before .before .loop
 returns : tie.Need-returns Inv-loop μ-loop
 unfolding preimage
 returns c =
-    let c3 = c .before .before .before in
-    let c4 = c3 .before in
-    sym (first-hit (λ k. eqb (getD (c4 .args .map .now) k 0) (c4 .args .n)) (c3 .loop .i) portCount (c3 .loop .inv .1) (eq-eqb _ _ (c .if1 .taken))
+    let at-loop = c .before .before .before in
+    let start = at-loop .before in
+    sym (first-hit (λ k. eqb (getD (start .args .map .now) k 0) (start .args .n)) (at-loop .loop .i) portCount (at-loop .loop .inv .1)
+    (eq-eqb _ _ (c .if1 .taken))
     (c .before .before .loop-test .taken))
 
 add-i : tie.Need-add-i Inv-loop μ-loop
@@ -43,9 +44,12 @@ loop-less c = search needs
 
 loop-again : tie.Need-loop-again Inv-loop μ-loop
 loop-again c =
-    let c3 = c .before .before .before in
-    let c4 = c3 .before in
-    (search needs, first-more (λ k. eqb (getD (c4 .args .map .now) k 0) (c4 .args .n)) (c3 .loop .i) (c3 .loop .inv .1) (ne-eqb _ _ (c .if1 .left)))
+    let at-loop = c .before .before .before in
+    let start = at-loop .before in (
+      search needs,
+      first-more (λ k. eqb (getD (start .args .map .now) k 0) (start .args .n)) (at-loop .loop .i) (at-loop .loop .inv .1)
+          (ne-eqb _ _ (c .if1 .left)),
+    )
 
 returns-2 : tie.Need-returns-2 Inv-loop μ-loop
 unfolding preimage

@@ -60,21 +60,21 @@ word-of-4-requires-2 c κs = search needs
 mul-result : tie.Need-mul-result
 unfolding word
 mul-result c =
-    let c9 = c .before .before .before .before .before .before .before .before .before in
-    let known = c9 .before .shared-slice-known .given in
-    let at = c9 .before .before .args .at in
+    let after-shared-slice-known2 = c .before .before .before .before .before .before .before .before .before in
+    let known = after-shared-slice-known2 .before .shared-slice-known .given in
+    let at = after-shared-slice-known2 .before .before .args .at in
     omega (arith, c .word-of-42 .ensures, known (at + 4), known (at + 5), known (at + 6), known (at + 7))
 
 add-result : tie.Need-add-result
 unfolding word
 add-result c =
-    let c5 = c .before .before .before .before .before in
-    let c9 = c5 .before .before .before .before in
-    let known = c9 .before .shared-slice-known .given in
-    let at = c9 .before .before .args .at in
+    let after-word-of-4 = c .before .before .before .before .before in
+    let after-shared-slice-known2 = after-word-of-4 .before .before .before .before in
+    let known = after-shared-slice-known2 .before .shared-slice-known .given in
+    let at = after-shared-slice-known2 .before .before .args .at in
     omega (
       arith,
-      c5 .word-of-4 .ensures,
+      after-word-of-4 .word-of-4 .ensures,
       c .word-of-42 .ensures,
       known at,
       known (at + 1),
@@ -89,9 +89,9 @@ add-result c =
 returns : tie.Need-returns
 unfolding word
 returns c =
-    let c5 = c .before .before .before .before .before in
-    let c11 = c5 .before .before .before .before .before .before in
-    rw (part-eight (c11 .args .t .now) (c11 .args .at) (c11 .pre)) (omega (arith, c5 .word-of-4 .ensures, c .word-of-42 .ensures))
+    let after-word-of-4 = c .before .before .before .before .before in
+    let start = after-word-of-4 .before .before .before .before .before .before in
+    rw (part-eight (start .args .t .now) (start .args .at) (start .pre)) (omega (arith, after-word-of-4 .word-of-4 .ensures, c .word-of-42 .ensures))
 
 pub word-at-spec : {M : Type 1} → statement M
 word-at-spec =

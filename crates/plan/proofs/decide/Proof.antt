@@ -46,16 +46,16 @@ decide-onward-requires c κs = let s = s1 c in (s .pre .0, first-goes-on (r s) (
 
 returns : tie.Need-returns
 returns c =
-    let c3 = c .before .before .before in
-    let s = c3 .before .before .before in
+    let after-first-tests = c .before .before .before in
+    let s = after-first-tests .before .before .before in
     let reason = c .before .reason .given in
-    sym (first-dropped (r s) (a s) (reason .0 .0) (sym (reason .1) ∙ c3 .first-tests .ensures))
+    sym (first-dropped (r s) (a s) (reason .0 .0) (sym (reason .1) ∙ after-first-tests .first-tests .ensures))
 
 returns-2 : tie.Need-returns-2
 returns-2 c =
-    let c2 = c .before .before in
-    let s = c2 .before .before .before in
-    sym (first-deliver (r s) (a s) (sym (c .enum-told .given .1) ∙ c2 .first-tests .ensures))
+    let after-first-tests = c .before .before in
+    let s = after-first-tests .before .before .before in
+    sym (first-deliver (r s) (a s) (sym (c .enum-told .given .1) ∙ after-first-tests .first-tests .ensures))
 
 returns-3 : tie.Need-returns-3
 returns-3 c =

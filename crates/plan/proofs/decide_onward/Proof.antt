@@ -25,9 +25,9 @@ of-kind-link-requires c κs = search needs
 
 decide-of-link-requires : tie.Need-decide-of-link-requires
 decide-of-link-requires c κs =
-    let c2 = c .before .before in
-    let s = c2 .before .before .before .before .before in
-    let other = sym (c2 .before .is-announce .ensures) ∙ c2 .if1 .left in
+    let else1 = c .before .before in
+    let s = else1 .before .before .before .before .before in
+    let other = sym (else1 .before .is-announce .ensures) ∙ else1 .if1 .left in
     (s .pre .0, s .pre .1, other, sym (c .before .of-kind-link .ensures) ∙ c .if2 .taken)
 
 returns-2 : tie.Need-returns-2
@@ -38,9 +38,9 @@ is-proof-requires c κs = search needs
 
 decide-proof-requires : tie.Need-decide-proof-requires
 decide-proof-requires c κs =
-    let c2 = c .before .before in
-    let s = c2 .before .before .before .before .before .before .before in
-    let kind = sym (c2 .before .of-kind-link .ensures) ∙ c2 .if2 .left in
+    let else2 = c .before .before in
+    let s = else2 .before .before .before .before .before .before .before in
+    let kind = sym (else2 .before .of-kind-link .ensures) ∙ else2 .if2 .left in
     (s .pre .0, kind, sym (c .before .is-proof .ensures) ∙ c .if3 .taken)
 
 returns-3 : tie.Need-returns-3
@@ -48,11 +48,11 @@ returns-3 c = search needs
 
 decide-by-path-requires : tie.Need-decide-by-path-requires
 decide-by-path-requires c κs =
-    let c2 = c .before .before in
-    let c4 = c2 .before .before in
-    let s = c4 .before .before .before .before .before in
-    let other = sym (c4 .before .is-announce .ensures) ∙ c4 .if1 .left in
-    let kind = sym (c2 .before .of-kind-link .ensures) ∙ c2 .if2 .left in
+    let else2 = c .before .before in
+    let else1 = else2 .before .before in
+    let s = else1 .before .before .before .before .before in
+    let other = sym (else1 .before .is-announce .ensures) ∙ else1 .if1 .left in
+    let kind = sym (else2 .before .of-kind-link .ensures) ∙ else2 .if2 .left in
     (s .pre .0, other, kind, sym (c .before .is-proof .ensures) ∙ c .if3 .left)
 
 returns-4 : tie.Need-returns-4

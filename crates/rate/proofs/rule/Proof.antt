@@ -15,21 +15,21 @@ returns c = rw (c .drops .ensures, lt-ltb _ _ (c .before .if1 .taken))
 
 add-if2 : tie.Need-add-if2
 add-if2 c =
-    let c4 = c .before .before .before .before in
-    let w = settings-within _ (c4 .pre .0) in
-    let e = entry-within _ (c4 .pre .1) in
+    let start = c .before .before .before .before in
+    let w = settings-within _ (start .pre .0) in
+    let e = entry-within _ (start .pre .1) in
     search (needs, w .target, e .last)
 
 violated-requires : tie.Need-violated-requires
 violated-requires c κs =
-    let c5 = c .before .before .before .before .before in
-    (c5 .pre .0, entry-within _ (c5 .pre .1) .last)
+    let start = c .before .before .before .before .before in
+    (start .pre .0, entry-within _ (start .pre .1) .last)
 
 returns-2 : tie.Need-returns-2
 unfolding rated violated _then_otherwise_
 returns-2 c =
-    let c1 = c .before in
-    rw (c .violated .ensures, le-ltb _ _ (c1 .before .before .before .if1 .left), lt-ltb _ _ (c1 .if2 .taken))
+    let then2 = c .before in
+    rw (c .violated .ensures, le-ltb _ _ (then2 .before .before .before .if1 .left), lt-ltb _ _ (then2 .if2 .taken))
 
 one-less-requires : tie.Need-one-less-requires
 one-less-requires c κs = search needs
@@ -40,8 +40,8 @@ lets-by-requires c κs = search needs
 returns-3 : tie.Need-returns-3
 unfolding rated _then_otherwise_
 returns-3 c =
-    let c2 = c .before .before in
-    rw (c .lets-by .ensures, c .before .one-less .ensures, le-ltb _ _ (c2 .before .before .before .if1 .left), le-ltb _ _ (c2 .if2 .left))
+    let else2 = c .before .before in
+    rw (c .lets-by .ensures, c .before .one-less .ensures, le-ltb _ _ (else2 .before .before .before .if1 .left), le-ltb _ _ (else2 .if2 .left))
 
 pub rule-spec : {M : Type 1} → statement M
 rule-spec =

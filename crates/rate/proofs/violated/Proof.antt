@@ -16,15 +16,15 @@ wide-requires c κs = search needs
 
 add-drops : tie.Need-add-drops
 add-drops c =
-    let c5 = c .before .before .before .before .before in
-    let w = settings-within _ (c5 .pre .0) in
-    search (needs, w .target, c5 .pre .1)
+    let start = c .before .before .before .before .before in
+    let w = settings-within _ (start .pre .0) in
+    search (needs, w .target, start .pre .1)
 
 add-drops-2 : tie.Need-add-drops-2
 add-drops-2 c =
-    let c6 = c .before .before .before .before .before .before in
-    let w = settings-within _ (c6 .pre .0) in
-    search (needs, w .target, w .penalty, c6 .pre .1)
+    let start = c .before .before .before .before .before .before in
+    let w = settings-within _ (start .pre .0) in
+    search (needs, w .target, w .penalty, start .pre .1)
 
 drops-requires : tie.Need-drops-requires
 drops-requires c κs = search needs
@@ -32,11 +32,12 @@ drops-requires c κs = search needs
 returns : tie.Need-returns
 unfolding violated _then_otherwise_
 returns c =
-    let c3 = c .before .before .before in
-    let c6 = c3 .before .before .before in
-    let a = c6 .before .args in
-    let above : a .settings .grace < oneMore (a .violations) = omega (arith, c3 .if1 .taken, c3 .before .before .wide .ensures, c6 .one-more .ensures) in
-    rw (c .drops .ensures, c6 .one-more .ensures, lt-ltb _ _ above)
+    let then1 = c .before .before .before in
+    let after-one-more = then1 .before .before .before in
+    let a = after-one-more .before .args in
+    let above : a .settings .grace < oneMore (a .violations) =
+    omega (arith, then1 .if1 .taken, then1 .before .before .wide .ensures, after-one-more .one-more .ensures) in
+    rw (c .drops .ensures, after-one-more .one-more .ensures, lt-ltb _ _ above)
 
 lets-by-requires : tie.Need-lets-by-requires
 lets-by-requires c κs = search needs
@@ -44,11 +45,11 @@ lets-by-requires c κs = search needs
 returns-2 : tie.Need-returns-2
 unfolding violated _then_otherwise_
 returns-2 c =
-    let c4 = c .before .before .before .before in
-    let a = c4 .before .args in
+    let after-one-more = c .before .before .before .before in
+    let a = after-one-more .before .args in
     let within : oneMore (a .violations) ≤ a .settings .grace =
-    omega (arith, c .before .if1 .left, c .before .before .before .wide .ensures, c4 .one-more .ensures) in
-    rw (c .lets-by .ensures, c4 .one-more .ensures, le-ltb _ _ within)
+    omega (arith, c .before .if1 .left, c .before .before .before .wide .ensures, after-one-more .one-more .ensures) in
+    rw (c .lets-by .ensures, after-one-more .one-more .ensures, le-ltb _ _ within)
 
 pub violated-spec : {M : Type 1} → statement M
 violated-spec =

@@ -39,11 +39,11 @@ same-length c = search needs
 
 returns : tie.Need-returns
 returns c =
-    let c4 = c .before .before .before .before in
-    let c6 = c4 .before .before in
-    let p = c6 .args in
+    let after-slice-known = c .before .before .before .before in
+    let start = after-slice-known .before .before in
+    let p = start .args in
     refused-promised (p .packet .now) (p .port) (p .clock) (p .signed) (p .tables .now) (p .tally) (p .output .now)
-    (known-bytes (p .tables .now) (c4 .slice-known .given)) _ (c .before .refusal .ensures) (c .if1 .taken)
+    (known-bytes (p .tables .now) (after-slice-known .slice-known .given)) _ (c .before .refusal .ensures) (c .if1 .taken)
 
 low-byte-requires : tie.Need-low-byte-requires
 low-byte-requires c κs = search needs
@@ -62,13 +62,14 @@ same-length-2 c = search needs
 
 returns-2 : tie.Need-returns-2
 returns-2 c =
-    let c5 = c .before .before .before .before .before in
-    let c8 = c5 .before .before .before in
-    let c9 = c8 .before in
-    let c13 = c9 .before .before .before .before in
-    let p = s1 c9 .args in
-    not-ours-promised (p .packet .now) (p .port) (p .clock) (p .signed) (p .tables .now) (p .tally) (p .output .now) (accepts c9) _ (same-port c8)
-    refl refl (known-bytes (p .tables .now) (c13 .slice-known .given)) (sym (c5 .before .not-ours .ensures) ∙ c5 .if2 .taken) _ _
+    let then2 = c .before .before .before .before .before in
+    let after-low-byte = then2 .before .before .before in
+    let else1 = after-low-byte .before in
+    let after-slice-known = else1 .before .before .before .before in
+    let p = s1 else1 .args in
+    not-ours-promised (p .packet .now) (p .port) (p .clock) (p .signed) (p .tables .now) (p .tally) (p .output .now) (accepts else1) _
+    (same-port after-low-byte)
+    refl refl (known-bytes (p .tables .now) (after-slice-known .slice-known .given)) (sym (then2 .before .not-ours .ensures) ∙ then2 .if2 .taken) _ _
     (c .before .before .before .set-clock .ensures) (c .counted .ensures)
 
 used-hash-requires : tie.Need-used-hash-requires
@@ -82,15 +83,24 @@ decide-requires c κs = (judges (c .before .before .before .before .before .befo
 
 act-requires : tie.Need-act-requires
 act-requires c κs =
-    let c4 = c .before .before .before .before in
-    let c6 = c4 .before .before in
-    let c10 = c6 .before .before .before .before in
-    let c11 = c10 .before in
-    let p = s1 c11 .args in
+    let after-hash-live = c .before .before .before .before in
+    let after-used-hash = after-hash-live .before .before in
+    let after-low-byte = after-used-hash .before .before .before .before in
+    let else1 = after-low-byte .before in
+    let p = s1 else1 .args in
     let ok =
-    accepted (p .packet .now) (p .port) (p .clock) (p .signed) (p .tables .now) (p .tally) (p .output .now) (accepts c11) _ (same-port c10) refl refl in
-    let roomy = accepted-roomy _ _ _ _ _ (accepts c11) in
-    (record { accepted = ok; roomy = roomy; decided = sym (c .before .before .decide .ensures) }, c6 .used-hash .ensures, c4 .hash-live .ensures)
+    accepted (p .packet .now) (p .port) (p .clock) (p .signed) (p .tables .now) (p .tally) (p .output .now) (accepts else1) _
+    (same-port after-low-byte) refl refl in
+    let roomy = accepted-roomy _ _ _ _ _ (accepts else1) in (
+      record {
+        accepted = ok;
+        roomy = roomy;
+        decided =
+            sym (c .before .before .decide .ensures);
+      },
+      after-used-hash .used-hash .ensures,
+      after-hash-live .hash-live .ensures,
+    )
 
 counted-requires-2 : tie.Need-counted-requires-2
 counted-requires-2 c κs = search needs
@@ -103,12 +113,12 @@ same-length-4 c = search needs
 
 returns-3 : tie.Need-returns-3
 returns-3 c =
-    let c5 = c .before .before .before .before .before in
-    let c16 = c5 .before .before .before .before .before .before .before .before .before .before .before in
-    let c17 = c16 .before in
-    let p = s1 c17 .args in
-    let left = c5 .act .ensures in
-    judged-promised (p .packet .now) (p .port) (p .clock) (p .signed) (p .tables .now) (p .tally) (p .output .now) (accepts c17) _ (same-port c16)
+    let after-act = c .before .before .before .before .before in
+    let after-low-byte = after-act .before .before .before .before .before .before .before .before .before .before .before in
+    let else1 = after-low-byte .before in
+    let p = s1 else1 .args in
+    let left = after-act .act .ensures in
+    judged-promised (p .packet .now) (p .port) (p .clock) (p .signed) (p .tables .now) (p .tally) (p .output .now) (accepts else1) _ (same-port after-low-byte)
     refl refl _ _ _ _ (left .0) (left .1) (left .2) (c .counted2 .ensures)
 
 pub judge-spec : {M : Type 1} → statement M

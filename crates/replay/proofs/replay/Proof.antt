@@ -33,11 +33,11 @@ step-requires c κs = search needs
 
 print-requires : tie.Need-print-requires Inv-loop μ-loop
 print-requires c κs =
-    let c4 = c .before .before .before .before in
-    let c7 = c4 .before .before .before in
-    let c11 = c7 .before .before .before .before in
-    let s : StepOn = stepOn (c11 .args .file .now) (c7 .loop .i) (c7 .loop .tables) (c7 .loop .tally) in
-    text-within (c4 .step .result .line) (s .line) (ap (λ (x : Stepped). x .line) (c4 .step .ensures .0))
+    let after-step = c .before .before .before .before in
+    let at-loop = after-step .before .before .before in
+    let start = at-loop .before .before .before .before in
+    let s : StepOn = stepOn (start .args .file .now) (at-loop .loop .i) (at-loop .loop .tables) (at-loop .loop .tally) in
+    text-within (after-step .step .result .line) (s .line) (ap (λ (x : Stepped). x .line) (after-step .step .ensures .0))
 
 add-i : tie.Need-add-i Inv-loop μ-loop
 add-i c = search needs
@@ -70,12 +70,13 @@ same-length c = search needs
 
 returns : tie.Need-returns Inv-loop μ-loop
 returns c =
-    let c2 = c .before .before in
-    let a = c2 .before .before .before .args in
+    let after-count = c .before .before in
+    let a = after-count .before .before .before .args in
     let f : List ℕ = a .file .now in
     let t : List ℕ = a .tables .now in
     let l = c .before .loop in
-    let end : l .i ≡ countOf f = le-antisymm (omega (arith, c2 .count .ensures, l .inv .0)) (omega (arith, c2 .count .ensures, c .loop-test .left)) in
+    let end : l .i ≡ countOf f =
+    le-antisymm (omega (arith, after-count .count .ensures, l .inv .0)) (omega (arith, after-count .count .ensures, c .loop-test .left)) in
     l .inv .2 ∙ ap (λ (n : ℕ). stepsOn f n t (a .counts) .tables) end
 
 pub replay-spec : {M : Type 1} → statement M

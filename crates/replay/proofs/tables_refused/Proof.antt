@@ -3,8 +3,9 @@ use mathlib.Core.List.{[], _∷_}
 use native.Mathlib.Omega.{arith}
 use lib.Dec.{lit≤}
 use lib.ListN.{length}
-use Rattle.text.specs.Numerals.{decimal}
+use Rattle.text.specs.Numerals.{decimal, shortDigits, shortLimit}
 use Rattle.text.specs.Words.{refusedWord}
+use Rattle.text.specs.Text.{textSize}
 use Rattle.text.proofs.NumeralLaws.{numeral-most}
 use Rattle.text.proofs.WordLaws.{line-most, words-appended, line-appended}
 use Rattle.replay.specs.Line.{tablesWord, tablesRefused}
@@ -12,12 +13,12 @@ use borrow.Author.Needs.{needs}
 use Rattle.replay.proofs.tables_refused.Statement.{statement}
 use Rattle.replay.proofs.tables_refused.Tie as tie
 
-fits : (n : ℕ) → n < 1000 → length (tablesRefused n) ≤ 160
+fits : (n : ℕ) → n < shortLimit → length (tablesRefused n) ≤ textSize
 fits n small =
     omega (
       arith,
-      line-most tablesWord (refusedWord ∷ decimal n ∷ []) (6 ∷ 7 ∷ 3 ∷ [])
-          (lit≤ tt, (lit≤ tt, (numeral-most 10 (lit≤ tt) 3 n (lit≤ tt) small, tt))),
+      line-most tablesWord (refusedWord ∷ decimal n ∷ []) (length tablesWord ∷ length refusedWord ∷ shortDigits ∷ [])
+          (lit≤ tt, (lit≤ tt, (numeral-most 10 (lit≤ tt) shortDigits n (lit≤ tt) small, tt))),
     )
 
 empty-requires : tie.Need-empty-requires
@@ -46,18 +47,18 @@ with-character-requires c κs = search needs
 
 returns : tie.Need-returns
 returns c =
-    let c3 = c .before .before .before in
-    let c5 = c3 .before .before in
-    let c7 = c5 .before .before in
-    let n = c7 .before .args .refusal in
-    let grown = c3 .with-word .ensures in
+    let after-with-word = c .before .before .before in
+    let after-with-text = after-with-word .before .before in
+    let after-empty = after-with-text .before .before in
+    let n = after-empty .before .args .refusal in
+    let grown = after-with-word .with-word .ensures in
     rw (
       c .with-character .ensures,
       c .before .with-number .ensures,
       c .before .before .wide .ensures,
       grown,
-      c5 .with-text .ensures,
-      c7 .empty .ensures,
+      after-with-text .with-text .ensures,
+      after-empty .empty .ensures,
       words-appended,
     )
     (line-appended tablesWord (refusedWord ∷ decimal n ∷ []) (fits n (omega arith)))

@@ -16,11 +16,12 @@ empty-requires c κs = search needs
 
 returns : tie.Need-returns
 returns c =
-    let c3 = c .before .before .before in
-    let c6 = c3 .before .before .before in
-    let a = c6 .args in
+    let after-entry = c .before .before .before in
+    let start = after-entry .before .before .before in
+    let a = start .args in
     not-stepped (a .file .now) (a .i) (a .tables .now) (a .tally)
-    (sym (found (a .file .now) (a .i) (c3 .entry .result) (c3 .entry .ensures)) ∙ not-true _ (c .before .if1 .taken)) (c .empty .result) (c .empty .ensures)
+    (sym (found (a .file .now) (a .i) (after-entry .entry .result) (after-entry .entry .ensures))
+    ∙ not-true _ (c .before .if1 .taken)) (c .empty .result) (c .empty .ensures)
 
 body-requires : tie.Need-body-requires
 body-requires c κs = search needs
@@ -36,14 +37,14 @@ judge-requires c κs = search needs
 
 add-line-of : tie.Need-add-line-of
 add-line-of c =
-    let c10 = c .before .before .before .before .before .before .before .before .before .before in
-    let c12 = c10 .before .before in
-    let c14 = c12 .before .before in
-    let c15 = c14 .before in
-    let f = c15 .args .file .now in
-    let i = c15 .args .i in
-    let counted = there-counted f i (sym (found f i (c12 .entry .result) (c12 .entry .ensures)) ∙ not-false _ (c10 .if1 .left)) in
-    omega (arith, count-lt f (known-bytes f (c14 .shared-slice-known .given)))
+    let else1 = c .before .before .before .before .before .before .before .before .before .before in
+    let after-entry = else1 .before .before in
+    let after-shared-slice-known = after-entry .before .before in
+    let start = after-shared-slice-known .before in
+    let f = start .args .file .now in
+    let i = start .args .i in
+    let counted = there-counted f i (sym (found f i (after-entry .entry .result) (after-entry .entry .ensures)) ∙ not-false _ (else1 .if1 .left)) in
+    omega (arith, count-lt f (known-bytes f (after-shared-slice-known .shared-slice-known .given)))
 
 line-of-requires : tie.Need-line-of-requires
 line-of-requires c κs = search needs
@@ -53,19 +54,19 @@ same-length c = search needs
 
 returns-2 : tie.Need-returns-2
 returns-2 c =
-    let c5 = c .before .before .before .before .before in
-    let c9 = c5 .before .before .before .before in
-    let c10 = c9 .before in
-    let c11 = c10 .before in
-    let c13 = c11 .before .before in
-    let c16 = c13 .before .before .before in
-    let a = c16 .args in
+    let after-judge = c .before .before .before .before .before in
+    let after-wide = after-judge .before .before .before .before in
+    let after-body = after-wide .before in
+    let else1 = after-body .before in
+    let after-entry = else1 .before .before in
+    let start = after-entry .before .before .before in
+    let a = start .args in
     let f = a .file .now in
-    let fields = c13 .entry .result in
-    let there = sym (found f (a .i) fields (c13 .entry .ensures)) ∙ not-false _ (c11 .if1 .left) in
+    let fields = after-entry .entry .result in
+    let there = sym (found f (a .i) fields (after-entry .entry .ensures)) ∙ not-false _ (else1 .if1 .left) in
     stepped f (a .i) (a .tables .now) (a .tally) there _
-    (called f (a .i) fields (c13 .entry .ensures) (a .tables .now) (a .tally) _ (c10 .body .ensures) _ (c9 .wide .ensures))
-    _ _ _ _ (c5 .judge .ensures) _ (c .line-of .ensures)
+    (called f (a .i) fields (after-entry .entry .ensures) (a .tables .now) (a .tally) _ (after-body .body .ensures) _ (after-wide .wide .ensures))
+    _ _ _ _ (after-judge .judge .ensures) _ (c .line-of .ensures)
 
 pub step-spec : {M : Type 1} → statement M
 step-spec =

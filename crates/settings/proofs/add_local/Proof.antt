@@ -36,22 +36,22 @@ same-length-2 c = search needs
 returns-2 : tie.Need-returns-2
 unfolding ruleOf firstOf _then_otherwise_
 returns-2 c =
-    let c3 = c .before .before .before in
-    let c4 = c3 .before in
-    let c6 = c4 .before .before in
-    let c7 = c6 .before in
-    let a = c7 .args in
+    let else1 = c .before .before .before in
+    let after-check = else1 .before in
+    let after-slice-known = after-check .before .before in
+    let start = after-slice-known .before in
+    let a = start .args in
     let t = a .tables .now in
-    let ok = sym (c4 .check .ensures) ∙ not-false _ (c3 .if1 .left) in
-    call-refused (adds (a .address)) t ok (known-bytes t (c6 .slice-known .given)) 11 (λ e. omega arith)
+    let ok = sym (after-check .check .ensures) ∙ not-false _ (else1 .if1 .left) in
+    call-refused (adds (a .address)) t ok (known-bytes t (after-slice-known .slice-known .given)) 11 (λ e. omega arith)
     (rw (sym (c .before .is-local .ensures) ∙ c .if2 .taken))
 
 empty-local-requires : tie.Need-empty-local-requires
 empty-local-requires c κs =
-    let c4 = c .before .before .before .before in
-    let c5 = c4 .before in
-    let c8 = c5 .before .before .before in
-    size-of (c8 .args .tables .now) (sym (c5 .check .ensures) ∙ not-false _ (c4 .if1 .left))
+    let else1 = c .before .before .before .before in
+    let after-check = else1 .before in
+    let start = after-check .before .before .before in
+    size-of (start .args .tables .now) (sym (after-check .check .ensures) ∙ not-false _ (else1 .if1 .left))
 
 same-length-3 : tie.Need-same-length-3
 same-length-3 c = search needs
@@ -59,25 +59,25 @@ same-length-3 c = search needs
 returns-3 : tie.Need-returns-3
 unfolding ruleOf firstOf _then_otherwise_
 returns-3 c =
-    let c3 = c .before .before .before in
-    let c4 = c3 .before in
-    let c6 = c4 .before .before in
-    let c7 = c6 .before in
-    let c9 = c7 .before .before in
-    let c10 = c9 .before in
-    let a = c10 .args in
+    let else2 = c .before .before .before in
+    let after-is-local = else2 .before in
+    let else1 = after-is-local .before .before in
+    let after-check = else1 .before in
+    let after-slice-known = after-check .before .before in
+    let start = after-slice-known .before in
+    let a = start .args in
     let t = a .tables .now in
-    let ok = sym (c7 .check .ensures) ∙ not-false _ (c6 .if1 .left) in
-    let new = sym (c4 .is-local .ensures) ∙ c3 .if2 .left in
+    let ok = sym (after-check .check .ensures) ∙ not-false _ (else1 .if1 .left) in
+    let new = sym (after-is-local .is-local .ensures) ∙ else2 .if2 .left in
     let full = le-leb localCount (emptyLocal (relayOf t)) (let e = c .before .empty-local .ensures in let l = c .if3 .taken in omega (arith, e, l)) in
-    call-refused (adds (a .address)) t ok (known-bytes t (c9 .slice-known .given)) 10 (λ e. omega arith) (rw (new, full))
+    call-refused (adds (a .address)) t ok (known-bytes t (after-slice-known .slice-known .given)) 10 (λ e. omega arith) (rw (new, full))
 
 put-local-requires : tie.Need-put-local-requires
 put-local-requires c κs =
-    let c7 = c .before .before .before .before .before .before .before in
-    let c8 = c7 .before in
-    let c11 = c8 .before .before .before in
-    (size-of (c11 .args .tables .now) (sym (c8 .check .ensures) ∙ not-false _ (c7 .if1 .left)), c .before .if3 .left)
+    let else1 = c .before .before .before .before .before .before .before in
+    let after-check = else1 .before in
+    let start = after-check .before .before .before in
+    (size-of (start .args .tables .now) (sym (after-check .check .ensures) ∙ not-false _ (else1 .if1 .left)), c .before .if3 .left)
 
 same-length-4 : tie.Need-same-length-4
 same-length-4 c = search needs
@@ -85,22 +85,23 @@ same-length-4 c = search needs
 returns-4 : tie.Need-returns-4
 unfolding ruleOf firstOf _then_otherwise_
 returns-4 c =
-    let c4 = c .before .before .before .before in
-    let c5 = c4 .before in
-    let c7 = c5 .before .before in
-    let c8 = c7 .before in
-    let c10 = c8 .before .before in
-    let c11 = c10 .before in
-    let c13 = c11 .before .before in
-    let c14 = c13 .before in
-    let a = c14 .args in
+    let else3 = c .before .before .before .before in
+    let after-empty-local = else3 .before in
+    let else2 = after-empty-local .before .before in
+    let after-is-local = else2 .before in
+    let else1 = after-is-local .before .before in
+    let after-check = else1 .before in
+    let after-slice-known = after-check .before .before in
+    let start = after-slice-known .before in
+    let a = start .args in
     let t = a .tables .now in
-    let ok = sym (c11 .check .ensures) ∙ not-false _ (c10 .if1 .left) in
-    let new = sym (c8 .is-local .ensures) ∙ c7 .if2 .left in
-    let place = c5 .empty-local .ensures in
-    let room = lt-leb localCount (emptyLocal (relayOf t)) (let e = c5 .empty-local .ensures in let l = c4 .if3 .left in omega (arith, e, l)) in
-    let after = c .before .before .put-local .ensures ∙ local-set t ok (known-bytes t (c13 .slice-known .given)) (used (a .address)) _
-    (emptyLocal (relayOf t)) place (c4 .if3 .left) in
+    let ok = sym (after-check .check .ensures) ∙ not-false _ (else1 .if1 .left) in
+    let new = sym (after-is-local .is-local .ensures) ∙ else2 .if2 .left in
+    let place = after-empty-local .empty-local .ensures in
+    let room = lt-leb localCount (emptyLocal (relayOf t))
+    (let e = after-empty-local .empty-local .ensures in let l = else3 .if3 .left in omega (arith, e, l)) in
+    let after = c .before .before .put-local .ensures ∙ local-set t ok (known-bytes t (after-slice-known .slice-known .given)) (used (a .address)) _
+    (emptyLocal (relayOf t)) place (else3 .if3 .left) in
     call-done (adds (a .address)) t ok (rw (new, room)) after
 
 pub add-local-spec : {M : Type 1} → statement M

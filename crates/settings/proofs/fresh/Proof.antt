@@ -28,14 +28,14 @@ same-length c = search needs
 
 returns-2 : tie.Need-returns-2
 returns-2 c =
-    let c6 = c .before .before .before .before .before .before in
-    let c11 = c6 .before .before .before .before .before in
-    let c13 = c11 .before .before in
-    let c15 = c13 .before .before in
-    let a = c15 .args in
+    let after-copy-at = c .before .before .before .before .before .before in
+    let after-clear = after-copy-at .before .before .before .before .before in
+    let else1 = after-clear .before .before in
+    let start = else1 .before .before in
+    let a = start .args in
     let wide : length (a .t2) ≡ addressWidth = search needs in
-    answers-after (rw (c .before .before .put-fresh-ports .ensures, c6 .copy-at .ensures, c11 .clear .ensures))
-    (fresh-done (a .tables .now) (a .t2) (c13 .if1 .left) wide)
+    answers-after (rw (c .before .before .put-fresh-ports .ensures, after-copy-at .copy-at .ensures, after-clear .clear .ensures))
+    (fresh-done (a .tables .now) (a .t2) (else1 .if1 .left) wide)
 
 pub fresh-spec : {M : Type 1} → statement M
 fresh-spec =

@@ -49,10 +49,10 @@ same-length-2 c = search needs
 
 returns-2 : tie.Need-returns-2
 returns-2 c =
-    let c3 = c .before .before .before in
-    let a = s1 c3 .args in
+    let else1 = c .before .before .before in
+    let a = s1 else1 .args in
     let t = a .tables .now in
-    call-refused (notes-path (a .note) (a .destination) (a .clock)) t (well c3) (known-bytes t (c3 .before .before .before .slice-known .given))
+    call-refused (notes-path (a .note) (a .destination) (a .clock)) t (well else1) (known-bytes t (else1 .before .before .before .slice-known .given))
     5 (λ e. omega arith) (note-early t (a .note) (a .destination) (a .clock) (sym (c .before .clock-bad .ensures) ∙ c .if2 .taken))
 
 path-place-requires : tie.Need-path-place-requires
@@ -63,30 +63,30 @@ same-length-3 c = search needs
 
 returns-3 : tie.Need-returns-3
 returns-3 c =
-    let c3 = c .before .before .before in
-    let c6 = e1 c3 in
-    let a = s1 c6 .args in
+    let else2 = c .before .before .before in
+    let else1 = e1 else2 in
+    let a = s1 else1 .args in
     let t = a .tables .now in
-    call-refused (notes-path (a .note) (a .destination) (a .clock)) t (well c6) (known-bytes t (c6 .before .before .before .slice-known .given))
-    12 (λ e. omega arith) (note-nowhere t (a .note) (a .destination) (a .clock) _ (c .before .path-place .ensures) (fine c3) (c .if3 .taken))
+    call-refused (notes-path (a .note) (a .destination) (a .clock)) t (well else1) (known-bytes t (else1 .before .before .before .slice-known .given))
+    12 (λ e. omega arith) (note-nowhere t (a .note) (a .destination) (a .clock) _ (c .before .path-place .ensures) (fine else2) (c .if3 .taken))
 
 path-notes-requires : tie.Need-path-notes-requires
 path-notes-requires c κs =
-    let c1 = c .before in
-    (size-of (s1 (e1 (e2 c1)) .args .tables .now) (well (e1 (e2 c1))), c1 .if3 .left)
+    let else3 = c .before in
+    (size-of (s1 (e1 (e2 else3)) .args .tables .now) (well (e1 (e2 else3))), else3 .if3 .left)
 
 noted-requires : tie.Need-noted-requires
 noted-requires c κs = search needs
 
 put-notes-requires : tie.Need-put-notes-requires
 put-notes-requires c κs =
-    let c4 = c .before .before .before .before in
-    (size-of (s1 (e1 (e2 c4)) .args .tables .now) (well (e1 (e2 c4))), c4 .if3 .left)
+    let else3 = c .before .before .before .before in
+    (size-of (s1 (e1 (e2 else3)) .args .tables .now) (well (e1 (e2 else3))), else3 .if3 .left)
 
 set-clock-requires : tie.Need-set-clock-requires
 set-clock-requires c κs =
-    let c8 = c .before .before .before .before .before .before .before .before in
-    let size = size-of (s1 (e1 (e2 c8)) .args .tables .now) (well (e1 (e2 c8))) in
+    let else3 = c .before .before .before .before .before .before .before .before in
+    let size = size-of (s1 (e1 (e2 else3)) .args .tables .now) (well (e1 (e2 else3))) in
     search needs
 
 same-length-4 : tie.Need-same-length-4
@@ -94,21 +94,21 @@ same-length-4 c = search needs
 
 returns-4 : tie.Need-returns-4
 returns-4 c =
-    let c2 = c .before .before in
-    let c6 = c2 .before .before .before .before in
-    let c9 = c6 .before .before .before in
-    let c11 = c9 .before .before in
-    let c14 = e2 c11 in
-    let c17 = e1 c14 in
-    let a = s1 c17 .args in
+    let after-set-clock = c .before .before in
+    let after-put-notes = after-set-clock .before .before .before .before in
+    let after-path-notes = after-put-notes .before .before .before in
+    let else3 = after-path-notes .before .before in
+    let else2 = e2 else3 in
+    let else1 = e1 else2 in
+    let a = s1 else1 .args in
     let t = a .tables .now in
-    let place = c11 .before .path-place .ensures in
-    let known = known-bytes t (c17 .before .before .before .slice-known .given) in
-    let now = c6 .before .before .noted .ensures ∙ ap (noted (a .note)) (c9 .path-notes .ensures) in
-    let put = c6 .put-notes .ensures ∙ ap (notesWritten t _) now in
-    let after = note-set t (a .note) (a .destination) (a .clock) _ place (c11 .if3 .left) (well c17) known _ _ put (c2 .set-clock .ensures) in
-    call-done (notes-path (a .note) (a .destination) (a .clock)) t (well c17)
-    (note-accepted t (a .note) (a .destination) (a .clock) _ place (c11 .if3 .left) (fine c14)) after
+    let place = else3 .before .path-place .ensures in
+    let known = known-bytes t (else1 .before .before .before .slice-known .given) in
+    let now = after-put-notes .before .before .noted .ensures ∙ ap (noted (a .note)) (after-path-notes .path-notes .ensures) in
+    let put = after-put-notes .put-notes .ensures ∙ ap (notesWritten t _) now in
+    let after = note-set t (a .note) (a .destination) (a .clock) _ place (else3 .if3 .left) (well else1) known _ _ put (after-set-clock .set-clock .ensures) in
+    call-done (notes-path (a .note) (a .destination) (a .clock)) t (well else1)
+    (note-accepted t (a .note) (a .destination) (a .clock) _ place (else3 .if3 .left) (fine else2)) after
 
 pub note-path-spec : {M : Type 1} → statement M
 note-path-spec =

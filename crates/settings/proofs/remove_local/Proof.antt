@@ -36,23 +36,23 @@ same-length-2 c = search needs
 returns-2 : tie.Need-returns-2
 unfolding isLocal ruleOf firstOf _then_otherwise_
 returns-2 c =
-    let c3 = c .before .before .before in
-    let c4 = c3 .before in
-    let c6 = c4 .before .before in
-    let c7 = c6 .before in
-    let a = c7 .args in
+    let else1 = c .before .before .before in
+    let after-check = else1 .before in
+    let after-slice-known = after-check .before .before in
+    let start = after-slice-known .before in
+    let a = start .args in
     let t = a .tables .now in
-    let ok = sym (c4 .check .ensures) ∙ not-false _ (c3 .if1 .left) in
+    let ok = sym (after-check .check .ensures) ∙ not-false _ (else1 .if1 .left) in
     let none = le-ltb (localPlace (relayOf t) (a .address)) localCount
     (let e = c .before .local-place .ensures in let l = c .if2 .taken in omega (arith, e, l)) in
-    call-refused (removes (a .address)) t ok (known-bytes t (c6 .slice-known .given)) 11 (λ e. omega arith) (rw none)
+    call-refused (removes (a .address)) t ok (known-bytes t (after-slice-known .slice-known .given)) 11 (λ e. omega arith) (rw none)
 
 empty-place-requires : tie.Need-empty-place-requires
 empty-place-requires c κs =
-    let c4 = c .before .before .before .before in
-    let c5 = c4 .before in
-    let c8 = c5 .before .before .before in
-    (size-of (c8 .args .tables .now) (sym (c5 .check .ensures) ∙ not-false _ (c4 .if1 .left)), c .before .if2 .left)
+    let else1 = c .before .before .before .before in
+    let after-check = else1 .before in
+    let start = after-check .before .before .before in
+    (size-of (start .args .tables .now) (sym (after-check .check .ensures) ∙ not-false _ (else1 .if1 .left)), c .before .if2 .left)
 
 same-length-3 : tie.Need-same-length-3
 same-length-3 c = search needs
@@ -60,18 +60,19 @@ same-length-3 c = search needs
 returns-3 : tie.Need-returns-3
 unfolding isLocal ruleOf firstOf _then_otherwise_
 returns-3 c =
-    let c4 = c .before .before .before .before in
-    let c5 = c4 .before in
-    let c7 = c5 .before .before in
-    let c8 = c7 .before in
-    let c10 = c8 .before .before in
-    let c11 = c10 .before in
-    let a = c11 .args in
+    let else2 = c .before .before .before .before in
+    let after-local-place = else2 .before in
+    let else1 = after-local-place .before .before in
+    let after-check = else1 .before in
+    let after-slice-known = after-check .before .before in
+    let start = after-slice-known .before in
+    let a = start .args in
     let t = a .tables .now in
-    let ok = sym (c8 .check .ensures) ∙ not-false _ (c7 .if1 .left) in
-    let there = lt-ltb (localPlace (relayOf t) (a .address)) localCount (let e = c5 .local-place .ensures in let l = c4 .if2 .left in omega (arith, e, l)) in
-    let after = c .before .before .empty-place .ensures ∙ local-set t ok (known-bytes t (c10 .slice-known .given)) empty _
-    (localPlace (relayOf t) (a .address)) (c5 .local-place .ensures) (c4 .if2 .left) in
+    let ok = sym (after-check .check .ensures) ∙ not-false _ (else1 .if1 .left) in
+    let there = lt-ltb (localPlace (relayOf t) (a .address)) localCount
+    (let e = after-local-place .local-place .ensures in let l = else2 .if2 .left in omega (arith, e, l)) in
+    let after = c .before .before .empty-place .ensures ∙ local-set t ok (known-bytes t (after-slice-known .slice-known .given)) empty _
+    (localPlace (relayOf t) (a .address)) (after-local-place .local-place .ensures) (else2 .if2 .left) in
     call-done (removes (a .address)) t ok (rw there) after
 
 pub remove-local-spec : {M : Type 1} → statement M

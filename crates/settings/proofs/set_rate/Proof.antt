@@ -32,19 +32,19 @@ same-length-2 c = search needs
 returns-2 : tie.Need-returns-2
 unfolding ruleOf firstOf _then_otherwise_
 returns-2 c =
-    let c3 = c .before .before .before in
-    let c5 = c3 .before .before in
-    let a = c5 .before .args in
+    let after-check = c .before .before .before in
+    let after-slice-known = after-check .before .before in
+    let a = after-slice-known .before .args in
     let t = a .tables .now in
-    let ok = sym (c3 .check .ensures) ∙ not-false _ (c .before .before .if1 .left) in
-    call-refused (sets-rate (a .target) (a .grace) (a .penalty)) t ok (known-bytes t (c5 .slice-known .given)) 9 (λ e. omega arith)
+    let ok = sym (after-check .check .ensures) ∙ not-false _ (c .before .before .if1 .left) in
+    call-refused (sets-rate (a .target) (a .grace) (a .penalty)) t ok (known-bytes t (after-slice-known .slice-known .given)) 9 (λ e. omega arith)
     (rw (ap not (sym (c .before .rate-within .ensures)) ∙ c .if2 .taken))
 
 put-rate-requires : tie.Need-put-rate-requires
 put-rate-requires c κs =
-    let c3 = c .before .before .before in
-    let c4 = c3 .before in
-    size-of (c4 .before .before .before .args .tables .now) (sym (c4 .check .ensures) ∙ not-false _ (c3 .if1 .left))
+    let else1 = c .before .before .before in
+    let after-check = else1 .before in
+    size-of (after-check .before .before .before .args .tables .now) (sym (after-check .check .ensures) ∙ not-false _ (else1 .if1 .left))
 
 same-length-3 : tie.Need-same-length-3
 same-length-3 c = search needs
@@ -52,14 +52,15 @@ same-length-3 c = search needs
 returns-3 : tie.Need-returns-3
 unfolding ruleOf firstOf _then_otherwise_
 returns-3 c =
-    let c4 = c .before .before .before .before in
-    let c7 = c4 .before .before .before in
-    let c9 = c7 .before .before in
-    let a = c9 .before .args in
+    let else2 = c .before .before .before .before in
+    let after-check = else2 .before .before .before in
+    let after-slice-known = after-check .before .before in
+    let a = after-slice-known .before .args in
     let t = a .tables .now in
-    let ok = sym (c7 .check .ensures) ∙ not-false _ (c4 .before .before .if1 .left) in
-    let after = c .before .before .put-rate .ensures ∙ rate-set t ok (known-bytes t (c9 .slice-known .given)) (a .target) (a .grace) (a .penalty) in
-    call-done (sets-rate (a .target) (a .grace) (a .penalty)) t ok (rw (ap not (sym (c4 .before .rate-within .ensures)) ∙ c4 .if2 .left)) after
+    let ok = sym (after-check .check .ensures) ∙ not-false _ (else2 .before .before .if1 .left) in
+    let after = c .before .before .put-rate .ensures
+    ∙ rate-set t ok (known-bytes t (after-slice-known .slice-known .given)) (a .target) (a .grace) (a .penalty) in
+    call-done (sets-rate (a .target) (a .grace) (a .penalty)) t ok (rw (ap not (sym (else2 .before .rate-within .ensures)) ∙ else2 .if2 .left)) after
 
 pub set-rate-spec : {M : Type 1} → statement M
 set-rate-spec =

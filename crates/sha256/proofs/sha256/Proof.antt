@@ -5,7 +5,7 @@ use borrow.Author.Tests.{le-leb, lt-leb}
 use native.Mathlib.Omega.{arith}
 use denote.Ref.{now}
 use lib.ListN.{length}
-use Rattle.sha256.specs.Sha256.{sha256-of}
+use Rattle.sha256.specs.Sha256.{sha256-of, longestMessage}
 use Rattle.sha256.proofs.sha256.Statement.{statement}
 use Rattle.sha256.proofs.sha256.Tie as tie
 
@@ -20,10 +20,10 @@ digest-bytes-requires c κs = search needs
 
 returns : tie.Need-returns
 unfolding sha256-of
-returns c = rw (le-leb (length (now (c .before .before .before .before .before .args .message))) 65535 (omega arith)) (cc)
+returns c = rw (le-leb (length (now (c .before .before .before .before .before .args .message))) longestMessage (omega arith)) (cc)
 
 returns-2 : tie.Need-returns-2
-returns-2 c = rw (lt-leb _ 65535 (c .if1 .left))
+returns-2 c = rw (lt-leb _ longestMessage (c .if1 .left))
 
 pub sha256-spec : {M : Type 1} → statement M
 sha256-spec =

@@ -20,8 +20,8 @@ path-place-requires c κs = formed _ (sym (c .before .check .ensures) ∙ not-fa
 
 returns-2 : tie.Need-returns-2
 returns-2 c =
-    let c2 = c .before .before in
-    no-live-path _ (sym (c2 .before .check .ensures) ∙ not-false _ (c2 .if1 .left)) _ _ _ _ (c .before .path-place .ensures) (c .if2 .taken)
+    let else1 = c .before .before in
+    no-live-path _ (sym (else1 .before .check .ensures) ∙ not-false _ (else1 .if1 .left)) _ _ _ _ (c .before .path-place .ensures) (c .if2 .taken)
 
 put-record-requires : tie.Need-put-record-requires
 put-record-requires c κs =
@@ -30,13 +30,13 @@ put-record-requires c κs =
 
 returns-3 : tie.Need-returns-3
 returns-3 c =
-    let c3 = c .before .before .before in
-    let c6 = c3 .before .before .before in
-    let p = c6 .before .args in
-    let h = sym (c3 .before .before .check .ensures) ∙ not-false _ (c3 .before .if1 .left) in
-    let bytes = known-bytes (p .tables .now) (c6 .shared-slice-known .given) in
+    let after-path-place = c .before .before .before in
+    let after-shared-slice-known = after-path-place .before .before .before in
+    let p = after-shared-slice-known .before .args in
+    let h = sym (after-path-place .before .before .check .ensures) ∙ not-false _ (after-path-place .before .if1 .left) in
+    let bytes = known-bytes (p .tables .now) (after-shared-slice-known .shared-slice-known .given) in
     let told =
-    live-path-told (p .tables .now) h bytes (p .destination) (p .clock) _ (p .path .now) (c3 .path-place .ensures) (c .before .before .if2 .left)
+    live-path-told (p .tables .now) h bytes (p .destination) (p .clock) _ (p .path .now) (after-path-place .path-place .ensures) (c .before .before .if2 .left)
     (omega arith) in
     (c .put-record .ensures .0 ∙ told .0, c .put-record .ensures .1 ∙ told .1)
 

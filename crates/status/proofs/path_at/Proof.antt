@@ -25,11 +25,11 @@ put-record-requires c κs =
 
 returns-3 : tie.Need-returns-3
 returns-3 c =
-    let c3 = c .before .before .before in
-    let c5 = c3 .before .before in
-    let p = c5 .before .args in
-    let h = sym (c3 .before .check .ensures) ∙ not-false _ (c3 .if1 .left) in
-    let bytes = known-bytes (p .tables .now) (c5 .shared-slice-known .given) in
+    let else1 = c .before .before .before in
+    let after-shared-slice-known = else1 .before .before in
+    let p = after-shared-slice-known .before .args in
+    let h = sym (else1 .before .check .ensures) ∙ not-false _ (else1 .if1 .left) in
+    let bytes = known-bytes (p .tables .now) (after-shared-slice-known .shared-slice-known .given) in
     let told = path-told (p .tables .now) h bytes (p .place) (p .path .now) (c .before .before .if2 .left) (omega arith) in
     (c .put-record .ensures .0 ∙ told .0, c .put-record .ensures .1 ∙ told .1)
 

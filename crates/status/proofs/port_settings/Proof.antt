@@ -28,12 +28,12 @@ copy-requires c κs = search needs
 
 returns-3 : tie.Need-returns-3
 returns-3 c =
-    let c3 = c .before .before .before in
-    let c6 = c3 .before .before .before in
-    let p = c6 .before .args in
-    let h = sym (c3 .before .before .check .ensures) ∙ not-false _ (c3 .before .if1 .left) in
-    let bytes = known-bytes (p .tables .now) (c6 .shared-slice-known .given) in
-    let told = port-told (p .tables .now) h bytes (p .port) (p .settings .now) (c3 .if2 .left) in
+    let else2 = c .before .before .before in
+    let after-shared-slice-known = else2 .before .before .before in
+    let p = after-shared-slice-known .before .args in
+    let h = sym (else2 .before .before .check .ensures) ∙ not-false _ (else2 .before .if1 .left) in
+    let bytes = known-bytes (p .tables .now) (after-shared-slice-known .shared-slice-known .given) in
+    let told = port-told (p .tables .now) h bytes (p .port) (p .settings .now) (else2 .if2 .left) in
     (told .0, c .copy .ensures ∙ c .before .record-at .ensures .0 ∙ told .1)
 
 pub port-settings-spec : {M : Type 1} → statement M

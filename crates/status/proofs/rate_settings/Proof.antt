@@ -3,6 +3,8 @@ use borrow.Author.Tests.{not-true, not-false}
 use Rattle.octets.proofs.Bytes.{known-bytes}
 use Rattle.octets.proofs.Part.{part-range}
 use Rattle.tables.specs.Places.{rateAt}
+use Rattle.codes.specs.Form.{code}
+use Rattle.tables.specs.Forms.{rateSettingsForm}
 use Rattle.tables.proofs.Whole.{formed}
 use Rattle.rules.specs.Questions.{rate-settings}
 use Rattle.status.proofs.Asked.{refused-7, rate-told}
@@ -32,12 +34,12 @@ copy-requires c κs = search needs
 
 returns-2 : tie.Need-returns-2
 returns-2 c =
-    let c3 = c .before .before .before in
-    let c5 = c3 .before .before in
-    let p = c5 .before .args in
-    let h = sym (c3 .before .check .ensures) ∙ not-false _ (c3 .if1 .left) in
-    let told = rate-told (p .tables .now) h (known-bytes (p .tables .now) (c5 .shared-slice-known .given)) (p .settings .now) in
-    (told .0, c .copy .ensures ∙ part-range (p .tables .now) rateAt 12 ∙ told .1)
+    let else1 = c .before .before .before in
+    let after-shared-slice-known = else1 .before .before in
+    let p = after-shared-slice-known .before .args in
+    let h = sym (else1 .before .check .ensures) ∙ not-false _ (else1 .if1 .left) in
+    let told = rate-told (p .tables .now) h (known-bytes (p .tables .now) (after-shared-slice-known .shared-slice-known .given)) (p .settings .now) in
+    (told .0, c .copy .ensures ∙ part-range (p .tables .now) rateAt (code rateSettingsForm .width) ∙ told .1)
 
 pub rate-settings-spec : {M : Type 1} → statement M
 rate-settings-spec =

@@ -3,12 +3,13 @@ use Rattle.text.proofs.TextLaws.{text-within}
 use borrow.Author.Needs.{needs}
 use Rattle.survey.proofs.print_lines.Statement.{statement}
 use Rattle.survey.proofs.print_lines.Tie as tie
+use Rattle.surveying.specs.Promise.{lineCount}
 
 abbrev Inv-loop : tie.InvT-loop
-Inv-loop counts refusals i₀ i = i ≤ 49
+Inv-loop counts refusals i₀ i = i ≤ lineCount
 
 abbrev μ-loop : tie.MeasureT-loop
-μ-loop counts refusals i₀ i = 49 - i
+μ-loop counts refusals i₀ i = lineCount - i
 
 loop-holds : tie.Need-loop-holds Inv-loop μ-loop
 loop-holds c = search needs

@@ -1,12 +1,13 @@
-use Prim.Native.Nat.{_≤_, _-_}
+use Prim.Native.Nat.{_+_, _-_}
 use mathlib.Core.Path.{_≡_}
 use lib.ListN.{length}
 use borrow.Author.Needs.{needs}
 use Rattle.survey.proofs.read_recordings.Statement.{statement}
 use Rattle.survey.proofs.read_recordings.Tie as tie
+use Rattle.recording.specs.Format.{longestFile}
 
 abbrev Inv-loop : tie.InvT-loop
-Inv-loop start work₀ counts₀ refusals₀ file₀ n i₀ work counts refusals file i = (2 ≤ i) × (length file ≡ 60001)
+Inv-loop start work₀ counts₀ refusals₀ file₀ n i₀ work counts refusals file i = length file ≡ longestFile + 1
 
 abbrev μ-loop : tie.MeasureT-loop
 μ-loop start work₀ counts₀ refusals₀ file₀ n i₀ work counts refusals file i = n - i

@@ -22,10 +22,10 @@ paths-ok-requires c κs = search needs
 
 returns-3 : tie.Need-returns-3
 returns-3 c =
-    let c3 = c .before .before .before in
-    let c4 = c3 .before in
-    sym (clauses _ ∙ and-yes _ (eq-eqb _ _ (c4 .if1 .left)) ∙ and-yes _
-    (sym (c3 .front-ok .ensures) ∙ not-false _ (c .before .before .if2 .left)) ∙ and-no _
+    let after-front-ok = c .before .before .before in
+    let else1 = after-front-ok .before in
+    sym (clauses _ ∙ and-yes _ (eq-eqb _ _ (else1 .if1 .left)) ∙ and-yes _
+    (sym (after-front-ok .front-ok .ensures) ∙ not-false _ (c .before .before .if2 .left)) ∙ and-no _
     (sym (c .before .paths-ok .ensures) ∙ not-true _ (c .if3 .taken)))
 
 back-ok-requires : tie.Need-back-ok-requires
@@ -33,11 +33,12 @@ back-ok-requires c κs = search needs
 
 returns-4 : tie.Need-returns-4
 returns-4 c =
-    let c2 = c .before .before in
-    let c4 = c2 .before .before in
+    let after-paths-ok = c .before .before in
+    let after-front-ok = after-paths-ok .before .before in
     c .back-ok .ensures
-    ∙ sym (clauses _ ∙ and-yes _ (eq-eqb _ _ (c4 .before .if1 .left)) ∙ and-yes _ (sym (c4 .front-ok .ensures) ∙ not-false _ (c2 .before .if2 .left))
-    ∙ and-yes _ (sym (c2 .paths-ok .ensures) ∙ not-false _ (c .before .if3 .left)))
+    ∙ sym (clauses _ ∙ and-yes _ (eq-eqb _ _ (after-front-ok .before .if1 .left))
+    ∙ and-yes _ (sym (after-front-ok .front-ok .ensures) ∙ not-false _ (after-paths-ok .before .if2 .left))
+    ∙ and-yes _ (sym (after-paths-ok .paths-ok .ensures) ∙ not-false _ (c .before .if3 .left)))
 
 pub check-spec : {M : Type 1} → statement M
 check-spec =

@@ -4,6 +4,7 @@ use mathlib.Core.Path.{sym, ap, subst, _∙_}
 use lib.ListN.{length}
 use Rattle.octets.proofs.Bytes.{known-bytes}
 use Rattle.packet.specs.Announce.{blobOf}
+use Rattle.packet.specs.Places.{blobEnd}
 use Rattle.tables.proofs.Whole.{formed}
 use Rattle.act.proofs.Spreads.{announce-can-leave, announce-body, announce-room, announce-known, announce-left}
 use borrow.Author.Needs.{needs}
@@ -12,37 +13,37 @@ use Rattle.act.proofs.announces.announce.Tie as tie
 
 spread-requires : tie.Need-spread-requires
 spread-requires c κs =
-    let c5 = c .before .before .before .before .before in
-    (announce-can-leave _ _ _ (c5 .pre .accepted) _ _ (c5 .pre .decided), formed _ (c5 .pre .accepted .formed) .size, c5 .pre .roomy)
+    let start = c .before .before .before .before .before in
+    (announce-can-leave _ _ _ (start .pre .accepted) _ _ (start .pre .decided), formed _ (start .pre .accepted .formed) .size, start .pre .roomy)
 
 payload-requires : tie.Need-payload-requires
 payload-requires c κs = search needs
 
 blob-requires : tie.Need-blob-requires
 blob-requires c κs =
-    let c3 = c .before .before .before in
-    let c9 = c3 .before .before .before .before .before .before in
-    subst (λ (s : List ℕ). 84 ≤ length s) (sym (c .payload .ensures)) (announce-body _ _ _ (c9 .pre .accepted) _ _ (c9 .pre .decided))
+    let after-spread = c .before .before .before in
+    let start = after-spread .before .before .before .before .before .before in
+    subst (λ (s : List ℕ). blobEnd ≤ length s) (sym (c .payload .ensures)) (announce-body _ _ _ (start .pre .accepted) _ _ (start .pre .decided))
 
 announced-rate-requires : tie.Need-announced-rate-requires
 announced-rate-requires c κs =
-    let c5 = c .before .before .before .before .before in
-    let c11 = c5 .before .before .before .before .before .before in
-    (formed _ (c11 .pre .accepted .formed) .size, announce-known _ _ _ (c11 .pre .accepted) _ _ (c11 .pre .decided))
+    let after-spread = c .before .before .before .before .before in
+    let start = after-spread .before .before .before .before .before .before in
+    (formed _ (start .pre .accepted .formed) .size, announce-known _ _ _ (start .pre .accepted) _ _ (start .pre .decided))
 
 announced-path-requires : tie.Need-announced-path-requires
 announced-path-requires c κs =
-    let c7 = c .before .before .before .before .before .before .before in
-    let c13 = c7 .before .before .before .before .before .before in
-    let ok = c13 .pre .accepted in
+    let after-spread = c .before .before .before .before .before .before .before in
+    let start = after-spread .before .before .before .before .before .before in
+    let ok = start .pre .accepted in
     (record { readable = ok .readable; size = formed _ (ok .formed) .size }, ok .port, ok .clock)
 
 put-path-requires : tie.Need-put-path-requires
 put-path-requires c κs =
-    let c7 = c .before .before .before .before .before .before .before in
-    let c15 = c7 .before .before .before .before .before .before .before .before in
-    let ok = c15 .pre .accepted in
-    (formed _ (ok .formed) .size, announce-room _ _ _ ok _ _ (c15 .pre .decided), announce-known _ _ _ ok _ _ (c15 .pre .decided))
+    let after-slice-known3 = c .before .before .before .before .before .before .before in
+    let start = after-slice-known3 .before .before .before .before .before .before .before .before in
+    let ok = start .pre .accepted in
+    (formed _ (ok .formed) .size, announce-room _ _ _ ok _ _ (start .pre .decided), announce-known _ _ _ ok _ _ (start .pre .decided))
 
 same-length : tie.Need-same-length
 same-length c = search needs
@@ -52,16 +53,18 @@ same-length-2 c = search needs
 
 returns : tie.Need-returns
 returns c =
-    let c4 = c .before .before .before .before in
-    let c6 = c4 .before .before in
-    let c8 = c6 .before .before in
-    let c9 = c8 .before in
-    let c12 = c9 .before .before .before in
-    let c16 = c12 .before .before .before .before in
-    let c18 = c16 .before .before in
-    announce-left _ _ _ (c18 .pre .accepted) _ _ (c18 .pre .decided) _ _ _ (c4 .announced-path .ensures) (c6 .announced-rate .ensures)
-    (c8 .blob .ensures ∙ ap blobOf (c9 .payload .ensures)) (known-bytes (c18 .args .tables .now) (c16 .slice-known .given)) _ _ _ _
-    (c12 .spread .ensures) (c .before .before .put-path .ensures)
+    let after-announced-path = c .before .before .before .before in
+    let after-announced-rate = after-announced-path .before .before in
+    let after-blob = after-announced-rate .before .before in
+    let after-payload = after-blob .before in
+    let after-spread = after-payload .before .before .before in
+    let after-slice-known = after-spread .before .before .before .before in
+    let start = after-slice-known .before .before in
+    announce-left _ _ _ (start .pre .accepted) _ _ (start .pre .decided) _ _ _ (after-announced-path .announced-path .ensures)
+    (after-announced-rate .announced-rate .ensures)
+    (after-blob .blob .ensures
+    ∙ ap blobOf (after-payload .payload .ensures)) (known-bytes (start .args .tables .now) (after-slice-known .slice-known .given)) _ _ _ _
+    (after-spread .spread .ensures) (c .before .before .put-path .ensures)
 
 pub announce-spec : {M : Type 1} → statement M
 announce-spec =

@@ -27,10 +27,10 @@ add-t10 c = search needs
 returns : tie.Need-returns
 unfolding announcedBy viewAt
 returns c =
-    let c4 = c .before .before .before .before in
+    let after-next-hop-of = c .before .before .before .before in
     let mode = c .before .before .port-mode .ensures in
     let wide = c .before .before .before .wide .ensures in
-    rw (c4 .next-hop-of .ensures, c .before .path-lifetime .ensures .0, mode, wide, c4 .before .before .parts-of .ensures)
+    rw (after-next-hop-of .next-hop-of .ensures, c .before .path-lifetime .ensures .0, mode, wide, after-next-hop-of .before .before .parts-of .ensures)
 
 pub announced-path-spec : {M : Type 1} → statement M
 announced-path-spec =

@@ -12,27 +12,27 @@ revives-requires c κs =
 
 path-rate-requires : tie.Need-path-rate-requires
 path-rate-requires c κs =
-    let c2 = c .before .before in
-    let s = c2 .before .before in
-    (s .pre .0, s .pre .1 (c2 .if1 .taken) .within)
+    let then1 = c .before .before in
+    let s = then1 .before .before in
+    (s .pre .0, s .pre .1 (then1 .if1 .taken) .within)
 
 returns : tie.Need-returns
 unfolding rateStored rateKnown entryRevived _then_otherwise_
 returns c =
-    let c1 = c .before in
-    rw (c .path-rate .ensures, c1 .before .before .if1 .taken, sym (c1 .before .revives .ensures) ∙ c1 .if2 .taken)
+    let then2 = c .before in
+    rw (c .path-rate .ensures, then2 .before .before .if1 .taken, sym (then2 .before .revives .ensures) ∙ then2 .if2 .taken)
 
 rate-at-requires : tie.Need-rate-at-requires
 rate-at-requires c κs =
-    let c2 = c .before .before in
-    let s = c2 .before .before in
-    (s .pre .0, s .pre .1 (c2 .if1 .taken))
+    let then1 = c .before .before in
+    let s = then1 .before .before in
+    (s .pre .0, s .pre .1 (then1 .if1 .taken))
 
 returns-2 : tie.Need-returns-2
 unfolding rateStored rateKnown entryAccepted _then_otherwise_
 returns-2 c =
-    let c1 = c .before in
-    rw (c .rate-at .ensures, c1 .before .before .if1 .taken, sym (c1 .before .revives .ensures) ∙ c1 .if2 .left)
+    let else2 = c .before in
+    rw (c .rate-at .ensures, else2 .before .before .if1 .taken, sym (else2 .before .revives .ensures) ∙ else2 .if2 .left)
 
 returns-3 : tie.Need-returns-3
 unfolding rateStored _then_otherwise_

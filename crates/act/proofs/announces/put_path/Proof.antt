@@ -50,10 +50,11 @@ same-length c = search needs
 
 returns : tie.Need-returns
 returns c =
-    let c2 = c .before .before in
-    let c4 = c2 .before .before in
-    let c5 = c4 .before in
-    c2 .put-kept-path .ensures ∙ kept _ _ _ _ _ (c5 .before .before .if1 .taken) (sym (c5 .holds-blob .ensures) ∙ c4 .if2 .taken)
+    let after-put-kept-path = c .before .before in
+    let then2 = after-put-kept-path .before .before in
+    let after-holds-blob = then2 .before in
+    after-put-kept-path .put-kept-path .ensures
+    ∙ kept _ _ _ _ _ (after-holds-blob .before .before .if1 .taken) (sym (after-holds-blob .holds-blob .ensures) ∙ then2 .if2 .taken)
 
 put-known-path-requires : tie.Need-put-known-path-requires
 put-known-path-requires c κs = search needs
@@ -63,10 +64,11 @@ same-length-2 c = search needs
 
 returns-2 : tie.Need-returns-2
 returns-2 c =
-    let c2 = c .before .before in
-    let c4 = c2 .before .before in
-    let c5 = c4 .before in
-    c2 .put-known-path .ensures ∙ stored _ _ _ _ _ (c5 .before .before .if1 .taken) (sym (c5 .holds-blob .ensures) ∙ c4 .if2 .left)
+    let after-put-known-path = c .before .before in
+    let else2 = after-put-known-path .before .before in
+    let after-holds-blob = else2 .before in
+    after-put-known-path .put-known-path .ensures
+    ∙ stored _ _ _ _ _ (after-holds-blob .before .before .if1 .taken) (sym (after-holds-blob .holds-blob .ensures) ∙ else2 .if2 .left)
 
 put-new-path-requires : tie.Need-put-new-path-requires
 put-new-path-requires c κs = search needs

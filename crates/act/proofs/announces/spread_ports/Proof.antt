@@ -8,12 +8,13 @@ use Rattle.outgoing.proofs.PortLaws.{set-begin, set-room, set-more, set-end}
 use Rattle.act.specs.Acted.{spreadsTo}
 use Rattle.act.proofs.announces.spread_ports.Statement.{statement}
 use Rattle.act.proofs.announces.spread_ports.Tie as tie
+use Rattle.numbers.specs.Numbers.{portCount}
 
 abbrev Inv-loop : tie.InvT-loop
-Inv-loop tables arrival long ports₀ i₀ ports i = (i ≤ 16) × (ports ≡ setBelow (spreadsTo (relayOf tables) arrival long) i)
+Inv-loop tables arrival long ports₀ i₀ ports i = (i ≤ portCount) × (ports ≡ setBelow (spreadsTo (relayOf tables) arrival long) i)
 
 abbrev μ-loop : tie.MeasureT-loop
-μ-loop tables arrival long ports₀ i₀ ports i = 16 - i
+μ-loop tables arrival long ports₀ i₀ ports i = portCount - i
 
 loop-holds : tie.Need-loop-holds Inv-loop μ-loop
 loop-holds c = (omega arith, set-begin _)

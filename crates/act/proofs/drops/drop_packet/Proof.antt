@@ -16,18 +16,22 @@ same-length c = search needs
 
 returns : tie.Need-returns
 returns c =
-    let c2 = c .before .before in
-    let c5 = c2 .before .before .before in
-    let s = c5 .before .before .before in
-    let b = known-bytes (s .args .tables .now) (c5 .before .slice-known .given) in
-    (refl, c2 .limit .ensures ∙ drop-limited _ (s .args .arrived) _ (s .pre .formed) b _ (sym (c5 .reason-number .ensures) ∙ c2 .before .before .if1 .taken))
+    let after-limit = c .before .before in
+    let after-reason-number = after-limit .before .before .before in
+    let s = after-reason-number .before .before .before in
+    let b = known-bytes (s .args .tables .now) (after-reason-number .before .slice-known .given) in (
+      refl,
+      after-limit .limit .ensures
+          ∙ drop-limited _ (s .args .arrived) _ (s .pre .formed) b _ (sym (after-reason-number .reason-number .ensures)
+          ∙ after-limit .before .before .if1 .taken),
+    )
 
 returns-2 : tie.Need-returns-2
 returns-2 c =
-    let c1 = c .before in
-    let s = c1 .before .before .before in
-    let b = known-bytes (s .args .tables .now) (c1 .before .slice-known .given) in
-    (refl, drop-stays _ (s .args .arrived) _ (s .pre .formed) b _ (λ n. c .if1 .left (c1 .reason-number .ensures ∙ n)))
+    let after-reason-number = c .before in
+    let s = after-reason-number .before .before .before in
+    let b = known-bytes (s .args .tables .now) (after-reason-number .before .slice-known .given) in
+    (refl, drop-stays _ (s .args .arrived) _ (s .pre .formed) b _ (λ n. c .if1 .left (after-reason-number .reason-number .ensures ∙ n)))
 
 pub drop-packet-spec : {M : Type 1} → statement M
 drop-packet-spec =

@@ -34,36 +34,37 @@ path-place-requires c κs = formed _ (c .before .before .before .before .before 
 
 dropped-entry-requires : tie.Need-dropped-entry-requires
 dropped-entry-requires c κs =
-    let c2 = c .before .before in
-    let s = s1 c2 in
-    (formed _ (s .pre .formed) .size, can-know _ _ _ _ (found c2) (s .pre .formed) (c .before .if1 .taken))
+    let after-path-place = c .before .before in
+    let s = s1 after-path-place in
+    (formed _ (s .pre .formed) .size, can-know _ _ _ _ (found after-path-place) (s .pre .formed) (c .before .if1 .taken))
 
 put-rate-requires : tie.Need-put-rate-requires
 put-rate-requires c κs =
-    let c4 = c .before .before .before .before in
-    (formed _ (s1 c4 .pre .formed) .size, c .before .before .before .if1 .taken)
+    let after-path-place = c .before .before .before .before in
+    (formed _ (s1 after-path-place .pre .formed) .size, c .before .before .before .if1 .taken)
 
 same-length : tie.Need-same-length
 same-length c = search needs
 
 returns : tie.Need-returns
 returns c =
-    let c2 = c .before .before in
-    let c7 = c2 .before .before .before .before .before in
-    let s = s1 c7 in
+    let after-put-rate = c .before .before in
+    let after-path-place = after-put-rate .before .before .before .before .before in
+    let s = s1 after-path-place in
     limit-left _ (s .args .arrived) _ (s .pre .formed)
-    (known-bytes (s .args .tables .now) (c7 .before .before .before .before .slice-known .given)) _ (found c7)
-    (c2 .before .before .before .before .if1 .taken) _ _ (c2 .before .before .dropped-entry .ensures) (c2 .put-rate .ensures)
+    (known-bytes (s .args .tables .now) (after-path-place .before .before .before .before .slice-known .given)) _ (found after-path-place)
+    (after-put-rate .before .before .before .before .if1 .taken) _ _ (after-put-rate .before .before .dropped-entry .ensures)
+    (after-put-rate .put-rate .ensures)
 
 same-length-2 : tie.Need-same-length-2
 same-length-2 c = search needs
 
 returns-2 : tie.Need-returns-2
 returns-2 c =
-    let c1 = c .before in
-    let s = s1 c1 in
+    let after-path-place = c .before in
+    let s = s1 after-path-place in
     limit-none _ (s .args .arrived) _ (s .pre .formed)
-    (known-bytes (s .args .tables .now) (c1 .before .before .before .before .slice-known .given)) _ (found c1)
+    (known-bytes (s .args .tables .now) (after-path-place .before .before .before .before .slice-known .given)) _ (found after-path-place)
     (c .if1 .left)
 
 pub limit-spec : {M : Type 1} → statement M

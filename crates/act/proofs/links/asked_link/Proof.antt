@@ -33,9 +33,9 @@ add-t9 c = search needs
 returns : tie.Need-returns
 unfolding linkRecord
 returns c =
-    let c3 = c .before .before .before in
-    let s = c3 .before .before .before .before in
-    rw (s .pre .3, c3 .before .path-port .ensures, c .before .before .wide .ensures, c3 .path-hops .ensures, parts-hops)
+    let after-path-hops = c .before .before .before in
+    let s = after-path-hops .before .before .before .before in
+    rw (s .pre .3, after-path-hops .before .path-port .ensures, c .before .before .wide .ensures, after-path-hops .path-hops .ensures, parts-hops)
 
 pub asked-link-spec : {M : Type 1} → statement M
 asked-link-spec =

@@ -8,21 +8,21 @@ use Rattle.act.proofs.links.carry.Tie as tie
 
 link-at-requires : tie.Need-link-at-requires
 link-at-requires c κs =
-    let c4 = c .before .before .before .before in
-    (formed _ (c4 .pre .accepted .formed) .size, carry-record _ _ _ (c4 .pre .accepted) _ _ (c4 .pre .decided) .0)
+    let start = c .before .before .before .before in
+    (formed _ (start .pre .accepted .formed) .size, carry-record _ _ _ (start .pre .accepted) _ _ (start .pre .decided) .0)
 
 renewed-link-requires : tie.Need-renewed-link-requires
 renewed-link-requires c κs = let ok = c .before .before .before .before .before .pre .accepted in (ok .readable, ok .clock)
 
 carry-requires : tie.Need-carry-requires
 carry-requires c κs =
-    let c7 = c .before .before .before .before .before .before .before in
-    (can-leave _ _ _ (c7 .pre .accepted) _ (carry-record _ _ _ (c7 .pre .accepted) _ _ (c7 .pre .decided) .1), c7 .pre .roomy)
+    let start = c .before .before .before .before .before .before .before in
+    (can-leave _ _ _ (start .pre .accepted) _ (carry-record _ _ _ (start .pre .accepted) _ _ (start .pre .decided) .1), start .pre .roomy)
 
 put-link-requires : tie.Need-put-link-requires
 put-link-requires c κs =
-    let c11 = c .before .before .before .before .before .before .before .before .before .before .before in
-    (formed _ (c11 .pre .accepted .formed) .size, carry-record _ _ _ (c11 .pre .accepted) _ _ (c11 .pre .decided) .0)
+    let start = c .before .before .before .before .before .before .before .before .before .before .before in
+    (formed _ (start .pre .accepted .formed) .size, carry-record _ _ _ (start .pre .accepted) _ _ (start .pre .decided) .0)
 
 same-length : tie.Need-same-length
 same-length c = search needs
@@ -32,13 +32,13 @@ same-length-2 c = search needs
 
 returns : tie.Need-returns
 returns c =
-    let c6 = c .before .before .before .before .before .before in
-    let c8 = c6 .before .before in
-    let c9 = c8 .before in
-    let c12 = c9 .before .before .before in
-    let c14 = c12 .before .before in
-    carry-left _ _ _ (c14 .pre .accepted) _ _ (c14 .pre .decided) (known-bytes (c14 .args .tables .now) (c12 .slice-known .given)) _ _ _ _ _
-    (c8 .renewed-link .ensures ∙ rw (c9 .link-at .ensures)) (c6 .carry .ensures .0) (c6 .carry .ensures .1)
+    let after-carry = c .before .before .before .before .before .before in
+    let after-renewed-link = after-carry .before .before in
+    let after-link-at = after-renewed-link .before in
+    let after-slice-known = after-link-at .before .before .before in
+    let start = after-slice-known .before .before in
+    carry-left _ _ _ (start .pre .accepted) _ _ (start .pre .decided) (known-bytes (start .args .tables .now) (after-slice-known .slice-known .given)) _ _ _ _ _
+    (after-renewed-link .renewed-link .ensures ∙ rw (after-link-at .link-at .ensures)) (after-carry .carry .ensures .0) (after-carry .carry .ensures .1)
     (c .before .before .put-link .ensures)
 
 pub carry-spec : {M : Type 1} → statement M

@@ -17,10 +17,10 @@ same-length c = search needs
 
 returns : tie.Need-returns
 returns c =
-    let c4 = c .before .before .before .before in
+    let after-path-next-hop = c .before .before .before .before in
     let sent = c .before .before .forward-by-path .ensures in (
-      sent .0 ∙ rw (c4 .before .path-hops .ensures, c4 .path-next-hop .ensures),
-      sent .1 ∙ rw (c4 .before .path-hops .ensures, c4 .path-next-hop .ensures),
+      sent .0 ∙ rw (after-path-next-hop .before .path-hops .ensures, after-path-next-hop .path-next-hop .ensures),
+      sent .1 ∙ rw (after-path-next-hop .before .path-hops .ensures, after-path-next-hop .path-next-hop .ensures),
     )
 
 pub forward-spec : {M : Type 1} → statement M

@@ -9,8 +9,8 @@ use Rattle.act.proofs.paths.request.Tie as tie
 
 path-port-requires : tie.Need-path-port-requires
 path-port-requires c κs =
-    let c4 = c .before .before .before .before in
-    (formed _ (c4 .pre .accepted .formed) .size, request-record _ _ _ (c4 .pre .accepted) _ _ _ _ (c4 .pre .decided) .0)
+    let start = c .before .before .before .before in
+    (formed _ (start .pre .accepted .formed) .size, request-record _ _ _ (start .pre .accepted) _ _ _ _ (start .pre .decided) .0)
 
 address-of-requires : tie.Need-address-of-requires
 address-of-requires c κs = search needs
@@ -25,14 +25,14 @@ asked-link-requires c κs =
 
 forward-requires : tie.Need-forward-requires
 forward-requires c κs =
-    let c10 = c .before .before .before .before .before .before .before .before .before .before in
-    let d = request-record _ _ _ (c10 .pre .accepted) _ _ _ _ (c10 .pre .decided) in
-    (can-leave _ _ _ (c10 .pre .accepted) _ (d .1), formed _ (c10 .pre .accepted .formed) .size, d .0, c10 .pre .roomy)
+    let start = c .before .before .before .before .before .before .before .before .before .before in
+    let d = request-record _ _ _ (start .pre .accepted) _ _ _ _ (start .pre .decided) in
+    (can-leave _ _ _ (start .pre .accepted) _ (d .1), formed _ (start .pre .accepted .formed) .size, d .0, start .pre .roomy)
 
 put-link-requires : tie.Need-put-link-requires
 put-link-requires c κs =
-    let c14 = c .before .before .before .before .before .before .before .before .before .before .before .before .before .before in
-    (formed _ (c14 .pre .accepted .formed) .size, request-room _ _ _ (c14 .pre .accepted) _ _ _ _ (c14 .pre .decided))
+    let start = c .before .before .before .before .before .before .before .before .before .before .before .before .before .before in
+    (formed _ (start .pre .accepted .formed) .size, request-room _ _ _ (start .pre .accepted) _ _ _ _ (start .pre .decided))
 
 same-length : tie.Need-same-length
 same-length c = search needs
@@ -42,13 +42,14 @@ same-length-2 c = search needs
 
 returns : tie.Need-returns
 returns c =
-    let c6 = c .before .before .before .before .before .before in
-    let c9 = c6 .before .before .before in
-    let c12 = c9 .before .before .before in
-    let c15 = c12 .before .before .before in
-    let c17 = c15 .before .before in
-    asked-left _ _ _ (c17 .pre .accepted) _ _ _ _ (c17 .pre .decided) (known-bytes (c17 .args .tables .now) (c15 .slice-known .given)) _ _ _ _ _ _
-    (c12 .path-port .ensures) (c9 .asked-link .ensures) (c6 .forward .ensures .0) (c6 .forward .ensures .1)
+    let after-forward = c .before .before .before .before .before .before in
+    let after-asked-link = after-forward .before .before .before in
+    let after-path-port = after-asked-link .before .before .before in
+    let after-slice-known = after-path-port .before .before .before in
+    let start = after-slice-known .before .before in
+    asked-left _ _ _ (start .pre .accepted) _ _ _ _ (start .pre .decided)
+    (known-bytes (start .args .tables .now) (after-slice-known .slice-known .given)) _ _ _ _ _ _
+    (after-path-port .path-port .ensures) (after-asked-link .asked-link .ensures) (after-forward .forward .ensures .0) (after-forward .forward .ensures .1)
     (c .before .before .put-link .ensures)
 
 pub request-spec : {M : Type 1} → statement M

@@ -7,14 +7,14 @@ use Rattle.act.proofs.paths.send.Tie as tie
 
 path-port-requires : tie.Need-path-port-requires
 path-port-requires c κs =
-    let c4 = c .before .before .before .before in
-    (formed _ (c4 .pre .0 .accepted .formed) .size, data-record _ _ _ (c4 .pre .0 .accepted) _ (c4 .pre .0 .decided) .0)
+    let start = c .before .before .before .before in
+    (formed _ (start .pre .0 .accepted .formed) .size, data-record _ _ _ (start .pre .0 .accepted) _ (start .pre .0 .decided) .0)
 
 forward-requires : tie.Need-forward-requires
 forward-requires c κs =
-    let c7 = c .before .before .before .before .before .before .before in
-    let d = data-record _ _ _ (c7 .pre .0 .accepted) _ (c7 .pre .0 .decided) in
-    (can-leave _ _ _ (c7 .pre .0 .accepted) _ (d .1), formed _ (c7 .pre .0 .accepted .formed) .size, d .0, c7 .pre .0 .roomy)
+    let start = c .before .before .before .before .before .before .before in
+    let d = data-record _ _ _ (start .pre .0 .accepted) _ (start .pre .0 .decided) in
+    (can-leave _ _ _ (start .pre .0 .accepted) _ (d .1), formed _ (start .pre .0 .accepted .formed) .size, d .0, start .pre .0 .roomy)
 
 put-return-requires : tie.Need-put-return-requires
 put-return-requires c κs = search needs
@@ -27,12 +27,14 @@ same-length-2 c = search needs
 
 returns : tie.Need-returns
 returns c =
-    let c6 = c .before .before .before .before .before .before in
-    let c9 = c6 .before .before .before in
-    let c12 = c9 .before .before .before in
-    let c14 = c12 .before .before in
-    data-left _ _ _ (c14 .pre .0 .accepted) _ (c14 .pre .0 .decided) (known-bytes (c14 .args .tables .now) (c12 .slice-known .given)) _ _ _ _ _
-    (c9 .path-port .ensures) (c6 .forward .ensures .0) (c6 .forward .ensures .1) _ (c14 .pre .1) (c .before .before .put-return .ensures)
+    let after-forward = c .before .before .before .before .before .before in
+    let after-path-port = after-forward .before .before .before in
+    let after-slice-known = after-path-port .before .before .before in
+    let start = after-slice-known .before .before in
+    data-left _ _ _ (start .pre .0 .accepted) _ (start .pre .0 .decided)
+    (known-bytes (start .args .tables .now) (after-slice-known .slice-known .given)) _ _ _ _ _
+    (after-path-port .path-port .ensures) (after-forward .forward .ensures .0) (after-forward .forward .ensures .1) _ (start .pre .1)
+    (c .before .before .put-return .ensures)
 
 pub send-spec : {M : Type 1} → statement M
 send-spec =

@@ -26,10 +26,10 @@ add-put-return c = search needs
 
 put-return-requires : tie.Need-put-return-requires
 put-return-requires c κs =
-    let c5 = c .before .before .before .before .before in
-    let s = c5 .before .before .before .before .before in
+    let after-next-return = c .before .before .before .before .before in
+    let s = after-next-return .before .before .before .before .before in
     let size = formed _ (s .pre .0) .size in
-    (search needs, subst (λ (k : ℕ). k < returnCount) (sym (c5 .next-return .ensures)) (return-next-within _ (s .pre .0)))
+    (search needs, subst (λ (k : ℕ). k < returnCount) (sym (after-next-return .next-return .ensures)) (return-next-within _ (s .pre .0)))
 
 same-length : tie.Need-same-length
 same-length c = search needs
@@ -37,9 +37,10 @@ same-length c = search needs
 returns : tie.Need-returns
 unfolding returnPut part
 returns c =
-    let c6 = c .before .before .before .before .before .before in
-    let c8 = c6 .before .before in
-    c .before .before .put-return .ensures ∙ rw (c6 .empty-returns .ensures, c8 .before .before .address-at .ensures, c8 .next-return .ensures)
+    let after-empty-returns = c .before .before .before .before .before .before in
+    let after-next-return = after-empty-returns .before .before in
+    c .before .before .put-return .ensures
+    ∙ rw (after-empty-returns .empty-returns .ensures, after-next-return .before .before .address-at .ensures, after-next-return .next-return .ensures)
 
 pub put-return-spec : {M : Type 1} → statement M
 put-return-spec =

@@ -38,18 +38,18 @@ decision-remembers-requires c κs = search needs
 
 already-live-requires : tie.Need-already-live-requires
 already-live-requires c κs =
-    let c2 = c .before .before in
-    let s = c2 .before .before .before .before in
-    (s .pre .0, sym (c2 .before .exempt .ensures) ∙ c2 .if1 .left, s .pre .1)
+    let else1 = c .before .before in
+    let s = else1 .before .before .before .before in
+    (s .pre .0, sym (else1 .before .exempt .ensures) ∙ else1 .if1 .left, s .pre .1)
 
 returns-2 : tie.Need-returns-2
 returns-2 c =
-    let c1 = c .before in
-    let c3 = c1 .before .before in
-    let s = c3 .before .before .before .before in
+    let then2 = c .before in
+    let else1 = then2 .before .before in
+    let s = else1 .before .before .before .before in
     ap not (c .already-live .ensures)
     ∙ sym (unless-live (s .args .packet .now) (s .args .arrived) (s .args .tables .now) (s .args .decision)
-    (sym (c3 .before .exempt .ensures) ∙ c3 .if1 .left) (sym (c1 .before .decision-remembers .ensures) ∙ c1 .if2 .taken))
+    (sym (else1 .before .exempt .ensures) ∙ else1 .if1 .left) (sym (then2 .before .decision-remembers .ensures) ∙ then2 .if2 .taken))
 
 returns-3 : tie.Need-returns-3
 returns-3 c =

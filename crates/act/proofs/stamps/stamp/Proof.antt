@@ -20,9 +20,9 @@ same-length c = search needs
 returns : tie.Need-returns
 unfolding stamped _then_otherwise_
 returns c =
-    let c4 = c .before .before .before .before in
-    let c7 = c4 .before .before .before in
-    c .before .before .remember .ensures ∙ rw (c7 .set-clock .ensures, c4 .if1 .taken)
+    let then1 = c .before .before .before .before in
+    let after-set-clock = then1 .before .before .before in
+    c .before .before .remember .ensures ∙ rw (after-set-clock .set-clock .ensures, then1 .if1 .taken)
 
 same-length-2 : tie.Need-same-length-2
 same-length-2 c = search needs

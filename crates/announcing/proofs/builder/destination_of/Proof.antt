@@ -2,6 +2,7 @@ use mathlib.Core.Path.{ap}
 use Prim.Native.Nat.{ℕ}
 use lib.ListN.{replicate, length-replicate}
 use Rattle.packet.specs.Announce.{announcedDestination}
+use Rattle.packet.specs.Places.{nameHashAt, blobAt}
 use Rattle.announcing.proofs.WriteLaws.{filled}
 use native.Mathlib.Omega.{arith}
 use borrow.Author.Needs.{needs}
@@ -28,12 +29,13 @@ announced-destination-requires c κs = search needs
 
 returns : tie.Need-returns
 returns c =
-    let c3 = c .before .before .before in
-    let c6 = c3 .before .before .before in
-    let a = c6 .before .before .before .before .args in
-    let pre = c6 .before .before .before .before .pre in
-    rw (c .announced-destination .ensures, c3 .copy-at2 .ensures, c6 .copy-at .ensures)
-    (ap announcedDestination (filled (replicate 74 0) (a .keys .now) (a .name-hash .now) 64 (pre .0) (omega (arith, pre .1, length-replicate {A = ℕ} 74 0))))
+    let after-copy-at2 = c .before .before .before in
+    let after-copy-at = after-copy-at2 .before .before .before in
+    let a = after-copy-at .before .before .before .before .args in
+    let pre = after-copy-at .before .before .before .before .pre in
+    rw (c .announced-destination .ensures, after-copy-at2 .copy-at2 .ensures, after-copy-at .copy-at .ensures)
+    (ap announcedDestination
+    (filled (replicate blobAt 0) (a .keys .now) (a .name-hash .now) nameHashAt (pre .0) (omega (arith, pre .1, length-replicate {A = ℕ} blobAt 0))))
 
 pub destination-of-spec : {M : Type 1} → statement M
 destination-of-spec =

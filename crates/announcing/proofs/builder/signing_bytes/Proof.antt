@@ -7,6 +7,7 @@ use native.Mathlib.Omega.{arith}
 use borrow.Author.Needs.{needs}
 use Rattle.announcing.proofs.builder.signing_bytes.Statement.{statement}
 use Rattle.announcing.proofs.builder.signing_bytes.Tie as tie
+use Rattle.packet.specs.Places.{addressWidth, blobEnd}
 
 abbrev given : tie.Start → Announce
 given s =
@@ -54,7 +55,7 @@ returns-2 c =
     let s = start (c .before .before .before .before .before) in
     let zero = sym (number (c .before .before .before .before .before)) ∙ c .before .before .before .before .if1 .left in
     let w = buildable (given s) anySignature (length (s .args .room .now)) zero .lengths in
-    let long : length (signedBytes (given s)) ≡ 100 + length (s .args .ratchet .now) + length (s .args .app-data .now) =
+    let long : length (signedBytes (given s)) ≡ addressWidth + blobEnd + length (s .args .ratchet .now) + length (s .args .app-data .now) =
     signed-length (given s) anySignature ∙ omega (arith, w .keys, w .nameHash, w .random) in
     laid-done (signedBytes (given s)) (s .args .room .now) zero (sym long) (c .before .before .write-signed .ensures)
 

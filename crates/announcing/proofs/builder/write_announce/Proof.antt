@@ -45,24 +45,27 @@ add-behind c = search needs
 
 add-behind-2 : tie.Need-add-behind-2
 add-behind-2 c =
-    let c9 = c .before .before .before .before .before .before .before .before .before in
-    record { fits = omega (arith, able (c9 .before .before .before .before .before .before .before .before .before) .short) }
+    let after-head = c .before .before .before .before .before .before .before .before .before in
+    record { fits = omega (arith, able (after-head .before .before .before .before .before .before .before .before .before) .short) }
 
 copy-at-requires : tie.Need-copy-at-requires
 copy-at-requires c κs =
-    let c9 = c .before .before .before .before .before .before .before .before .before in
-    let b = able (c9 .before .before .before .before .before .before .before .before .before .before) in
+    let after-write-packet-arg = c .before .before .before .before .before .before .before .before .before in
+    let b = able (after-write-packet-arg .before .before .before .before .before .before .before .before .before .before) in
     omega (arith, b .short, b .roomy, b .lengths .signature)
 
 add-copy-at : tie.Need-add-copy-at
 add-copy-at c =
-    let c12 = c .before .before .before .before .before .before .before .before .before .before .before .before in
-    record { fits = omega (arith, able (c12 .before .before .before .before .before .before .before .before .before .before .before) .short) }
+    let after-write-packet-arg2 = c .before .before .before .before .before .before .before .before .before .before .before .before in
+    record {
+      fits = omega
+          (arith, able (after-write-packet-arg2 .before .before .before .before .before .before .before .before .before .before .before) .short);
+    }
 
 copy-at-requires-2 : tie.Need-copy-at-requires-2
 copy-at-requires-2 c κs =
-    let c12 = c .before .before .before .before .before .before .before .before .before .before .before .before in
-    let b = able (c12 .before .before .before .before .before .before .before .before .before .before .before) in
+    let after-write-packet-arg2 = c .before .before .before .before .before .before .before .before .before .before .before .before in
+    let b = able (after-write-packet-arg2 .before .before .before .before .before .before .before .before .before .before .before) in
     omega (arith, b .short, b .roomy)
 
 same-length : tie.Need-same-length
@@ -71,19 +74,19 @@ same-length c = search needs
 returns : tie.Need-returns
 unfolding destination
 returns c =
-    let c2 = c .before .before in
-    let c6 = c2 .before .before .before .before in
-    let c10 = c6 .before .before .before .before in
-    let c14 = c10 .before .before .before .before in
-    let c17 = c14 .before .before .before in
-    let s = c17 .before .before .before .before .before .before .before .before .before in
+    let after-copy-at2 = c .before .before in
+    let after-copy-at = after-copy-at2 .before .before .before .before in
+    let after-write-fields = after-copy-at .before .before .before .before in
+    let after-write-packet = after-write-fields .before .before .before .before in
+    let after-head = after-write-packet .before .before .before in
+    let s = after-head .before .before .before .before .before .before .before .before .before in
     rw (
-      c2 .copy-at2 .ensures,
-      c6 .copy-at .ensures,
-      c10 .write-fields .ensures,
-      c14 .write-packet .ensures,
-      c17 .head .ensures,
-      c17 .before .destination-of .ensures,
+      after-copy-at2 .copy-at2 .ensures,
+      after-copy-at .copy-at .ensures,
+      after-write-fields .write-fields .ensures,
+      after-write-packet .write-packet .ensures,
+      after-head .head .ensures,
+      after-head .before .destination-of .ensures,
     )
     (announce-written (given s) (s .args .signature .now) (s .args .room .now) (able s))
 

@@ -15,9 +15,6 @@ copy-at-requires-2 c κs = search needs
 add-blob : tie.Need-add-blob
 add-blob c = search needs
 
-add-blob-2 : tie.Need-add-blob-2
-add-blob-2 c = search needs
-
 copy-at-requires-3 : tie.Need-copy-at-requires-3
 copy-at-requires-3 c κs = search needs
 
@@ -38,15 +35,21 @@ same-length c = search needs
 
 returns : tie.Need-returns
 returns c =
-    let c2 = c .before .before in
-    let c6 = c2 .before .before .before .before in
-    let c10 = c6 .before .before .before .before in
-    let c14 = c10 .before .before .before .before in
-    let c18 = c14 .before .before .before .before in
-    let start = c18 .before .before .before .before .before .before .before in
+    let after-copy-at4 = c .before .before in
+    let after-write-number-at = after-copy-at4 .before .before .before .before in
+    let after-copy-at3 = after-write-number-at .before .before .before .before in
+    let after-copy-at2 = after-copy-at3 .before .before .before .before in
+    let after-copy-at = after-copy-at2 .before .before .before .before in
+    let start = after-copy-at .before .before .before .before .before .before .before in
     let a = start .args in
     let pre = start .pre in
-    rw (c2 .copy-at4 .ensures, c6 .write-number-at .ensures, c10 .copy-at3 .ensures, c14 .copy-at2 .ensures, c18 .copy-at .ensures)
+    rw (
+      after-copy-at4 .copy-at4 .ensures,
+      after-write-number-at .write-number-at .ensures,
+      after-copy-at3 .copy-at3 .ensures,
+      after-copy-at2 .copy-at2 .ensures,
+      after-copy-at .copy-at .ensures,
+    )
     (fields-written (a .room .now) (a .keys .now) (a .name-hash .now) (a .random .now) (a .clock) (a .ratchet .now) (a .at)
     (pre .0) (pre .1) (pre .2) (pre .3))
 
@@ -58,7 +61,6 @@ write-fields-spec =
     add-copy-at
     copy-at-requires-2
     add-blob
-    add-blob-2
     copy-at-requires-3
     add-write-number-at
     write-number-at-requires

@@ -7,6 +7,7 @@ use native.Mathlib.Omega.{arith}
 use borrow.Author.Needs.{needs}
 use Rattle.announcing.proofs.builder.write_signed.Statement.{statement}
 use Rattle.announcing.proofs.builder.write_signed.Tie as tie
+use Rattle.packet.specs.Places.{addressWidth}
 
 abbrev given : tie.Start → Announce
 given s =
@@ -23,7 +24,7 @@ slice-aggregate-copy-at c = search needs
 
 copy-at-requires : tie.Need-copy-at-requires
 copy-at-requires c κs =
-    let wide : length (c .before .before .destination-of .result) ≡ 16 = search needs in
+    let wide : length (c .before .before .destination-of .result) ≡ addressWidth = search needs in
     omega (arith, able (c .before .before .before .before .before .before .before .before .before) .roomy)
 
 write-fields-requires : tie.Need-write-fields-requires
@@ -48,12 +49,18 @@ same-length c = search needs
 returns : tie.Need-returns
 unfolding destination
 returns c =
-    let c2 = c .before .before in
-    let c6 = c2 .before .before .before .before in
-    let c10 = c6 .before .before .before .before in
-    let c13 = c10 .before .before .before in
-    let s = c13 .before .before .before .before .before .before .before in
-    rw (c2 .copy-at2 .ensures, c6 .write-fields .ensures, c10 .copy-at .ensures, c13 .destination-of .ensures)
+    let after-copy-at2 = c .before .before in
+    let after-write-fields = after-copy-at2 .before .before .before .before in
+    let after-copy-at = after-write-fields .before .before .before .before in
+    let after-destination-of = after-copy-at .before .before .before in
+    let s = after-destination-of .before .before .before .before .before .before .before in
+    rw (
+      after-copy-at2 .copy-at2 .ensures,
+      after-write-fields .write-fields .ensures,
+      after-copy-at .copy-at .ensures,
+      after-destination-of .destination-of
+          .ensures,
+    )
     (signed-written (given s) anySignature (s .args .room .now) (able s))
 
 pub write-signed-spec : {M : Type 1} → statement M

@@ -9,6 +9,7 @@ use Rattle.announcing.proofs.Lengths.{right, ratchet-most}
 use borrow.Author.Needs.{needs}
 use Rattle.announcing.proofs.refusing.announce_refusal.Statement.{statement}
 use Rattle.announcing.proofs.refusing.announce_refusal.Tie as tie
+use Rattle.numbers.specs.Numbers.{longestPacket, leastOutput, clockLimit}
 
 wrong-lengths-requires : tie.Need-wrong-lengths-requires
 wrong-lengths-requires c κs = search needs
@@ -21,7 +22,7 @@ returns-2 : tie.Need-returns-2
 unfolding announceRows firstOf _then_otherwise_
 returns-2 c =
     let wrong = sym (c .before .before .wrong-lengths .ensures) ∙ c .before .if1 .left in
-    rw (wrong, le-leb 1099511627776 (c .before .before .before .args .clock) (c .if2 .taken))
+    rw (wrong, le-leb clockLimit (c .before .before .before .args .clock) (c .if2 .taken))
 
 sub-if3 : tie.Need-sub-if3
 sub-if3 c = search needs
@@ -34,42 +35,42 @@ sub-if3-2 c =
 returns-3 : tie.Need-returns-3
 unfolding announceRows firstOf _then_otherwise_
 returns-3 c =
-    let c2 = c .before .before in
-    let a = c2 .before .before .args in
-    let wrong = sym (c2 .before .wrong-lengths .ensures) ∙ c2 .if1 .left in
+    let else1 = c .before .before in
+    let a = else1 .before .before .args in
+    let wrong = sym (else1 .before .wrong-lengths .ensures) ∙ else1 .if1 .left in
     let most = ratchet-most (a .ratchet) (right _ _ _ _ _ wrong .ratchet) in
     rw (
       wrong,
-      lt-leb 1099511627776 (a .clock) (c .before .if2 .left),
-      lt-ltb 500 (announceLength (a .ratchet) (a .app-data)) (omega (arith, c .if3 .taken)),
+      lt-leb clockLimit (a .clock) (c .before .if2 .left),
+      lt-ltb longestPacket (announceLength (a .ratchet) (a .app-data)) (omega (arith, c .if3 .taken)),
     )
 
 returns-4 : tie.Need-returns-4
 unfolding announceRows firstOf _then_otherwise_
 returns-4 c =
-    let c3 = c .before .before .before in
-    let a = c3 .before .before .args in
-    let wrong = sym (c3 .before .wrong-lengths .ensures) ∙ c3 .if1 .left in
+    let else1 = c .before .before .before in
+    let a = else1 .before .before .args in
+    let wrong = sym (else1 .before .wrong-lengths .ensures) ∙ else1 .if1 .left in
     let most = ratchet-most (a .ratchet) (right _ _ _ _ _ wrong .ratchet) in
     rw (
       wrong,
-      lt-leb 1099511627776 (a .clock) (c .before .before .if2 .left),
-      le-ltb 500 (announceLength (a .ratchet) (a .app-data)) (omega (arith, c .before .if3 .left)),
-      lt-ltb (a .room) 500 (c .if4 .taken),
+      lt-leb clockLimit (a .clock) (c .before .before .if2 .left),
+      le-ltb longestPacket (announceLength (a .ratchet) (a .app-data)) (omega (arith, c .before .if3 .left)),
+      lt-ltb (a .room) leastOutput (c .if4 .taken),
     )
 
 returns-5 : tie.Need-returns-5
 unfolding announceRows firstOf _then_otherwise_
 returns-5 c =
-    let c3 = c .before .before .before in
-    let a = c3 .before .before .args in
-    let wrong = sym (c3 .before .wrong-lengths .ensures) ∙ c3 .if1 .left in
+    let else1 = c .before .before .before in
+    let a = else1 .before .before .args in
+    let wrong = sym (else1 .before .wrong-lengths .ensures) ∙ else1 .if1 .left in
     let most = ratchet-most (a .ratchet) (right _ _ _ _ _ wrong .ratchet) in
     rw (
       wrong,
-      lt-leb 1099511627776 (a .clock) (c .before .before .if2 .left),
-      le-ltb 500 (announceLength (a .ratchet) (a .app-data)) (omega (arith, c .before .if3 .left)),
-      le-ltb (a .room) 500 (c .if4 .left),
+      lt-leb clockLimit (a .clock) (c .before .before .if2 .left),
+      le-ltb longestPacket (announceLength (a .ratchet) (a .app-data)) (omega (arith, c .before .if3 .left)),
+      le-ltb (a .room) leastOutput (c .if4 .left),
     )
 
 pub announce-refusal-spec : {M : Type 1} → statement M

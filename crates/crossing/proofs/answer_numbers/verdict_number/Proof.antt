@@ -49,9 +49,10 @@ fields-number-requires-4 c κs = search needs
 returns : tie.Need-returns
 unfolding verdictNumber
 returns c =
-    let c3 = c .before .before .before in
-    rw (c3 .before .before .verdict .given .1)
-    (c .drop-number .ensures ∙ rw (c3 .reason-number .ensures, c .before .before .reason-clause .ensures, c .before .reason-value .ensures) refl)
+    let after-reason-number = c .before .before .before in
+    rw (after-reason-number .before .before .verdict .given .1)
+    (c .drop-number .ensures
+    ∙ rw (after-reason-number .reason-number .ensures, c .before .before .reason-clause .ensures, c .before .reason-value .ensures) refl)
 
 returns-2 : tie.Need-returns-2
 unfolding verdictNumber

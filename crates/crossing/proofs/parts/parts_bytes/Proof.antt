@@ -4,6 +4,7 @@ use mathlib.Core.Path.{ap, _∙_}
 use lib.ListN.{replicate, length-replicate}
 use Rattle.octets.specs.Part.{patch}
 use Rattle.packet.specs.Write.{Wide}
+use Rattle.packet.specs.Places.{hopsAt, addressAt, secondAddressAt, typeTwoContextAt, typeTwoStart}
 use Rattle.crossing.proofs.PartsLaws.{parts-written}
 use native.Mathlib.Omega.{arith}
 use borrow.Author.Needs.{needs}
@@ -33,9 +34,9 @@ slice-aggregate-copy-at-2 c = search needs
 
 copy-at-requires : tie.Need-copy-at-requires
 copy-at-requires c κs =
-    let c3 = c .before .before .before in
-    let c6 = c3 .before .before .before in
-    omega (arith, wide (c6 .before .before .before .before) .relay, c6 .set-at .kept .0, c3 .set-at2 .kept .0)
+    let after-set-at2 = c .before .before .before in
+    let after-set-at = after-set-at2 .before .before .before in
+    omega (arith, wide (after-set-at .before .before .before .before) .relay, after-set-at .set-at .kept .0, after-set-at2 .set-at2 .kept .0)
 
 slice-aggregate-copy-at-3 : tie.Need-slice-aggregate-copy-at-3
 slice-aggregate-copy-at-3 c = search needs
@@ -45,10 +46,16 @@ slice-aggregate-copy-at-4 c = search needs
 
 copy-at-requires-2 : tie.Need-copy-at-requires-2
 copy-at-requires-2 c κs =
-    let c3 = c .before .before .before in
-    let c7 = c3 .before .before .before .before in
-    let c10 = c7 .before .before .before in
-    omega (arith, wide (c10 .before .before .before .before) .destination, c10 .set-at .kept .0, c7 .set-at2 .kept .0, c3 .copy-at .kept .0)
+    let after-copy-at = c .before .before .before in
+    let after-set-at2 = after-copy-at .before .before .before .before in
+    let after-set-at = after-set-at2 .before .before .before in
+    omega (
+      arith,
+      wide (after-set-at .before .before .before .before) .destination,
+      after-set-at .set-at .kept .0,
+      after-set-at2 .set-at2 .kept .0,
+      after-copy-at .copy-at .kept .0,
+    )
 
 slice-aggregate-set-at-3 : tie.Need-slice-aggregate-set-at-3
 slice-aggregate-set-at-3 c = search needs
@@ -58,18 +65,18 @@ set-at-requires-3 c κs = search needs
 
 returns : tie.Need-returns
 returns c =
-    let c4 = c .before .before .before .before in
-    let c8 = c4 .before .before .before .before in
-    let c12 = c8 .before .before .before .before in
-    let c15 = c12 .before .before .before in
-    let s = c15 .before .before .before .before in
+    let after-copy-at2 = c .before .before .before .before in
+    let after-copy-at = after-copy-at2 .before .before .before .before in
+    let after-set-at2 = after-copy-at .before .before .before .before in
+    let after-set-at = after-set-at2 .before .before .before in
+    let s = after-set-at .before .before .before .before in
     let q = s .args .parts in
-    let hops = c12 .set-at2 .ensures ∙ ap (λ (r : List ℕ). patch r 1 (q .hops ∷ [])) (c15 .set-at .ensures) in
-    let relay = c8 .copy-at .ensures ∙ ap (λ (r : List ℕ). patch r 2 (q .relay)) hops in
-    let destination = c4 .copy-at2 .ensures ∙ ap (λ (r : List ℕ). patch r 18 (q .destination)) relay in
+    let hops = after-set-at2 .set-at2 .ensures ∙ ap (λ (r : List ℕ). patch r hopsAt (q .hops ∷ [])) (after-set-at .set-at .ensures) in
+    let relay = after-copy-at .copy-at .ensures ∙ ap (λ (r : List ℕ). patch r addressAt (q .relay)) hops in
+    let destination = after-copy-at2 .copy-at2 .ensures ∙ ap (λ (r : List ℕ). patch r secondAddressAt (q .destination)) relay in
     c .before .set-at3 .ensures
-    ∙ ap (λ (r : List ℕ). patch r 34 (q .context ∷ [])) destination
-    ∙ parts-written (replicate 35 0) (length-replicate {A = ℕ} 35 0) q (wide s)
+    ∙ ap (λ (r : List ℕ). patch r typeTwoContextAt (q .context ∷ [])) destination
+    ∙ parts-written (replicate typeTwoStart 0) (length-replicate {A = ℕ} typeTwoStart 0) q (wide s)
 
 pub parts-bytes-spec : {M : Type 1} → statement M
 parts-bytes-spec =

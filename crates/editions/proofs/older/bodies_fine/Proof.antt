@@ -18,23 +18,23 @@ front-ok-requires c κs = search needs
 
 returns : tie.Need-returns
 returns c =
-    let c3 = c .before .before .before in
-    let c5 = c3 .before .before in
-    let a = c5 .args in
-    let front = ap frontOk (sym (c3 .front-now .ensures)) ∙ sym (c .before .front-ok .ensures) in
-    sym (bodies-clauses (a .edition) (a .file .now) (c5 .pre .1) ∙ and-no _ (front ∙ not-true _ (c .if1 .taken)))
+    let after-front-now = c .before .before .before in
+    let start = after-front-now .before .before in
+    let a = start .args in
+    let front = ap frontOk (sym (after-front-now .front-now .ensures)) ∙ sym (c .before .front-ok .ensures) in
+    sym (bodies-clauses (a .edition) (a .file .now) (start .pre .1) ∙ and-no _ (front ∙ not-true _ (c .if1 .taken)))
 
 paths-fine-requires : tie.Need-paths-fine-requires
 paths-fine-requires c κs = search needs
 
 returns-2 : tie.Need-returns-2
 returns-2 c =
-    let c3 = c .before .before .before in
-    let c5 = c3 .before .before in
-    let c7 = c5 .before .before in
-    let a = c7 .args in
-    let front = ap frontOk (sym (c5 .front-now .ensures)) ∙ sym (c3 .front-ok .ensures) in
-    sym (bodies-clauses (a .edition) (a .file .now) (c7 .pre .1)
+    let after-front-ok = c .before .before .before in
+    let after-front-now = after-front-ok .before .before in
+    let start = after-front-now .before .before in
+    let a = start .args in
+    let front = ap frontOk (sym (after-front-now .front-now .ensures)) ∙ sym (after-front-ok .front-ok .ensures) in
+    sym (bodies-clauses (a .edition) (a .file .now) (start .pre .1)
     ∙ and-yes _ (front ∙ not-false _ (c .before .before .if1 .left))
     ∙ and-no _ (sym (c .before .paths-fine .ensures) ∙ not-true _ (c .if2 .taken)))
 
@@ -46,17 +46,17 @@ back-ok-requires c κs = search needs
 
 returns-3 : tie.Need-returns-3
 returns-3 c =
-    let c3 = c .before .before .before in
-    let c5 = c3 .before .before in
-    let c7 = c5 .before .before in
-    let c9 = c7 .before .before in
-    let a = c9 .args in
-    let front = ap frontOk (sym (c7 .front-now .ensures)) ∙ sym (c5 .front-ok .ensures) in
+    let after-paths-fine = c .before .before .before in
+    let after-front-ok = after-paths-fine .before .before in
+    let after-front-now = after-front-ok .before .before in
+    let start = after-front-now .before .before in
+    let a = start .args in
+    let front = ap frontOk (sym (after-front-now .front-now .ensures)) ∙ sym (after-front-ok .front-ok .ensures) in
     c .back-ok .ensures
     ∙ ap (backOk (a .file .now)) (c .before .back-place .ensures)
-    ∙ sym (bodies-clauses (a .edition) (a .file .now) (c9 .pre .1)
-    ∙ and-yes _ (front ∙ not-false _ (c3 .before .if1 .left))
-    ∙ and-yes _ (sym (c3 .paths-fine .ensures) ∙ not-false _ (c .before .before .if2 .left)))
+    ∙ sym (bodies-clauses (a .edition) (a .file .now) (start .pre .1)
+    ∙ and-yes _ (front ∙ not-false _ (after-paths-fine .before .if1 .left))
+    ∙ and-yes _ (sym (after-paths-fine .paths-fine .ensures) ∙ not-false _ (c .before .before .if2 .left)))
 
 pub bodies-fine-spec : {M : Type 1} → statement M
 bodies-fine-spec =

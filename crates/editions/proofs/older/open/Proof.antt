@@ -45,16 +45,16 @@ same-length c = search needs
 returns : tie.Need-returns
 unfolding part
 returns c =
-    let c2 = c .before .before in
-    let c7 = c2 .before .before .before .before .before in
-    let a = c7 .before .before .before .before .before .args in
-    let pre = c7 .before .before .before .before .before .pre in
+    let after-copy-at2 = c .before .before in
+    let after-copy-at = after-copy-at2 .before .before .before .before .before in
+    let a = after-copy-at .before .before .before .before .before .args in
+    let pre = after-copy-at .before .before .before .before .before .pre in
     let to = a .to .now in
     let from = a .from .now in
     let all : a .at - 0 ≡ a .at = omega arith in
-    c2 .copy-at2 .ensures
+    after-copy-at2 .copy-at2 .ensures
     ∙ ap (λ (r : List ℕ). patch r (a .at + (length to - length from)) (part from (a .at) (length from - a .at)))
-    (c7 .copy-at .ensures ∙ ap (λ (n : ℕ). patch to 0 (take n (drop 0 from))) all)
+    (after-copy-at .copy-at .ensures ∙ ap (λ (n : ℕ). patch to 0 (take n (drop 0 from))) all)
     ∙ opened-written to from (a .at) (pre .0) (pre .1) (pre .2)
 
 pub open-spec : {M : Type 1} → statement M

@@ -16,8 +16,8 @@ paths-each-requires c κs = search needs
 returns : tie.Need-returns
 unfolding pathFine
 returns c =
-    let c3 = c .before .before .before in
-    let one = one-path (c3 .args .path .now) (c3 .pre .1) in
+    let start = c .before .before .before in
+    let one = one-path (start .args .path .now) (start .pre .1) in
     sym (and-no _ (one ∙ sym (c .before .paths-each .ensures) ∙ not-true _ (c .if1 .taken)))
 
 shared-slice-read-result : tie.Need-shared-slice-read-result
@@ -29,11 +29,11 @@ most-blobs-requires c κs = search needs
 returns-2 : tie.Need-returns-2
 unfolding pathFine
 returns-2 c =
-    let c2 = c .before .before in
-    let c5 = c2 .before .before .before in
-    let b = c5 .args .path .now in
+    let else1 = c .before .before in
+    let start = else1 .before .before .before in
+    let b = start .args .path .now in
     ap (leb (getD b pathBlobsAt 0)) (c .most-blobs .ensures)
-    ∙ sym (and-yes _ (one-path b (c5 .pre .1) ∙ sym (c2 .before .paths-each .ensures) ∙ not-false _ (c2 .if1 .left)))
+    ∙ sym (and-yes _ (one-path b (start .pre .1) ∙ sym (else1 .before .paths-each .ensures) ∙ not-false _ (else1 .if1 .left)))
 
 pub path-fine-spec : {M : Type 1} → statement M
 path-fine-spec = tie.close (tie.spec paths-each-requires returns shared-slice-read-result most-blobs-requires returns-2)

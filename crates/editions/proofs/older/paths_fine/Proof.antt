@@ -31,11 +31,11 @@ path-fine-requires c κs = search needs
 
 returns : tie.Need-returns Inv-loop μ-loop
 returns c =
-    let c3 = c .before .before .before in
-    let c5 = c3 .before .before in
-    let a = c5 .before .before .args in
-    let seen = ap (pathFine (numbered (a .edition))) (sym (c3 .path-now .ensures)) ∙ sym (c .before .path-fine .ensures) in
-    sym (fine-fails (numbered (a .edition)) (a .file .now) (c5 .loop .i) (c3 .before .loop-test .taken) (seen ∙ not-true _ (c .if1 .taken)))
+    let after-path-now = c .before .before .before in
+    let at-loop = after-path-now .before .before in
+    let a = at-loop .before .before .args in
+    let seen = ap (pathFine (numbered (a .edition))) (sym (after-path-now .path-now .ensures)) ∙ sym (c .before .path-fine .ensures) in
+    sym (fine-fails (numbered (a .edition)) (a .file .now) (at-loop .loop .i) (after-path-now .before .loop-test .taken) (seen ∙ not-true _ (c .if1 .taken)))
 
 add-i : tie.Need-add-i Inv-loop μ-loop
 add-i c = search needs
@@ -45,16 +45,16 @@ loop-less c = search needs
 
 loop-again : tie.Need-loop-again Inv-loop μ-loop
 loop-again c =
-    let c3 = c .before .before .before in
-    let c5 = c3 .before .before in
-    let a = c5 .before .before .args in
-    let seen = ap (pathFine (numbered (a .edition))) (sym (c3 .path-now .ensures)) ∙ sym (c .before .path-fine .ensures) in
-    (search needs, fine-more (numbered (a .edition)) (a .file .now) (c5 .loop .i) (c5 .loop .inv .1) (seen ∙ not-false _ (c .if1 .left)))
+    let after-path-now = c .before .before .before in
+    let at-loop = after-path-now .before .before in
+    let a = at-loop .before .before .args in
+    let seen = ap (pathFine (numbered (a .edition))) (sym (after-path-now .path-now .ensures)) ∙ sym (c .before .path-fine .ensures) in
+    (search needs, fine-more (numbered (a .edition)) (a .file .now) (at-loop .loop .i) (at-loop .loop .inv .1) (seen ∙ not-false _ (c .if1 .left)))
 
 returns-2 : tie.Need-returns-2 Inv-loop μ-loop
 returns-2 c =
-    let c3 = c .before .before .before in
-    ended (pathsFine (numbered (c3 .args .edition)) (c3 .args .file .now)) (c .before .loop .inv .0) (c .loop-test .left) (c .before .loop .inv .1)
+    let start = c .before .before .before in
+    ended (pathsFine (numbered (start .args .edition)) (start .args .file .now)) (c .before .loop .inv .0) (c .loop-test .left) (c .before .loop .inv .1)
 
 pub paths-fine-spec : {M : Type 1} → statement M
 paths-fine-spec =

@@ -38,32 +38,33 @@ part-open-start-2 c = search needs
 
 part-open-end-2 : tie.Need-part-open-end-2
 part-open-end-2 c =
-    let c4 = c .before .before .before .before in
-    let long = ap length (c4 .pre .2) ∙ length-replicate {A = ℕ} pathsAt 0 in
+    let start = c .before .before .before .before in
+    let long = ap length (start .pre .2) ∙ length-replicate {A = ℕ} pathsAt 0 in
     omega (arith, long)
 
 open-requires : tie.Need-open-requires
 open-requires c κs =
-    let c5 = c .before .before .before .before .before in
-    let a = c5 .args in
-    let start = c .before .before .start-width .ensures in
+    let start = c .before .before .before .before .before in
+    let a = start .args in
+    let width = c .before .before .start-width .ensures in
     let most = start-most (a .edition) in
-    let long = range-length (a .file .now) bodiesAt (c .before .before .start-width .result) (omega (arith, start, c5 .pre .1)) in
-    let lent = zeros-lent (a .front .now) pathsAt portsAt (c5 .pre .2) (omega arith) in
+    let long = range-length (a .file .now) bodiesAt (c .before .before .start-width .result) (omega (arith, width, start .pre .1)) in
+    let lent = zeros-lent (a .front .now) pathsAt portsAt (start .pre .2) (omega arith) in
     let zeros = ap length lent ∙ length-replicate {A = ℕ} portsAt 0 in (
       omega (arith, long),
-      omega (arith, long, start, most, zeros),
+      omega (arith, long, width, most, zeros),
       lent ∙ ap (λ (n : ℕ). replicate n 0) (sym zeros),
     )
 
 write-ports-requires : tie.Need-write-ports-requires
 write-ports-requires c κs =
-    let c6 = c .before .before .before .before .before .before in
-    let c9 = c6 .before .before .before in
-    let a = c9 .args in
+    let after-start-width = c .before .before .before .before .before .before in
+    let start = after-start-width .before .before .before in
+    let a = start .args in
     let f = a .file .now in
-    let size = c9 .pre .1 in
-    let written = start-written (a .edition) f (a .front .now) _ size (c9 .pre .2) (c6 .start-width .ensures) (c .before .before .before .«open» .ensures) in
+    let size = start .pre .1 in
+    let written = start-written (a .edition) f (a .front .now) _ size (start .pre .2) (after-start-width .start-width .ensures)
+    (c .before .before .before .«open» .ensures) in
     (search needs, search needs, zeros-length (numbered (a .edition)) f (each-brings (a .edition - 1)) size _ written)
 
 locals-place-requires : tie.Need-locals-place-requires
@@ -83,15 +84,16 @@ part-copy-at-end c = search needs
 
 copy-at-requires : tie.Need-copy-at-requires
 copy-at-requires c κs =
-    let c5 = c .before .before .before .before .before in
-    let c9 = c5 .before .before .before .before in
-    let c12 = c9 .before .before .before in
-    let c15 = c12 .before .before .before in
-    let a = c15 .args in
+    let after-write-ports = c .before .before .before .before .before in
+    let after-open = after-write-ports .before .before .before .before in
+    let after-start-width = after-open .before .before .before in
+    let start = after-start-width .before .before .before in
+    let a = start .args in
     let f = a .file .now in
-    let size = c15 .pre .1 in
-    let written = start-written (a .edition) f (a .front .now) _ size (c15 .pre .2) (c12 .start-width .ensures) (c9 .«open» .ensures) in
-    let long = ap length (c5 .write-ports .ensures) ∙ ports-written-length (numbered (a .edition)) f (each-brings (a .edition - 1)) size _ written in
+    let size = start .pre .1 in
+    let written = start-written (a .edition) f (a .front .now) _ size (start .pre .2) (after-start-width .start-width .ensures) (after-open .«open» .ensures) in
+    let long = ap length (after-write-ports .write-ports .ensures)
+    ∙ ports-written-length (numbered (a .edition)) f (each-brings (a .edition - 1)) size _ written in
     let locals = range-length f (c .before .before .locals-place .result) localsWidth (omega (arith, c .before .before .locals-place .ensures, size)) in
     omega (arith, long, locals)
 
@@ -100,19 +102,21 @@ same-length c = search needs
 
 returns : tie.Need-returns
 returns c =
-    let c5 = c .before .before .before .before .before in
-    let c8 = c5 .before .before .before in
-    let c12 = c8 .before .before .before .before in
-    let c15 = c12 .before .before .before in
-    let c18 = c15 .before .before .before in
-    let a = c18 .args in
+    let after-locals-place = c .before .before .before .before .before in
+    let after-write-ports = after-locals-place .before .before .before in
+    let after-open = after-write-ports .before .before .before .before in
+    let after-start-width = after-open .before .before .before in
+    let start = after-start-width .before .before .before in
+    let a = start .args in
     let e = numbered (a .edition) in
     let f = a .file .now in
-    let written = start-written (a .edition) f (a .front .now) _ (c18 .pre .1) (c18 .pre .2) (c15 .start-width .ensures) (c12 .«open» .ensures) in
-    let locals = part-range f (c5 .locals-place .result) localsWidth ∙ ap (λ (k : ℕ). part f k localsWidth) (c5 .locals-place .ensures) in
+    let written = start-written (a .edition) f (a .front .now) _ (start .pre .1) (start .pre .2) (after-start-width .start-width .ensures)
+    (after-open .«open» .ensures) in
+    let locals = part-range f (after-locals-place .locals-place .result) localsWidth
+    ∙ ap (λ (k : ℕ). part f k localsWidth) (after-locals-place .locals-place .ensures) in
     c .before .before .copy-at .ensures
-    ∙ ap₂ (λ (t b : List ℕ). patch t localsAt b) (c8 .write-ports .ensures) locals
-    ∙ front-written e f (each-brings (a .edition - 1)) (c18 .pre .1) _ written
+    ∙ ap₂ (λ (t b : List ℕ). patch t localsAt b) (after-write-ports .write-ports .ensures) locals
+    ∙ front-written e f (each-brings (a .edition - 1)) (start .pre .1) _ written
 
 pub write-front-spec : {M : Type 1} → statement M
 write-front-spec =

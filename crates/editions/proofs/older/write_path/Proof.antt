@@ -25,16 +25,16 @@ paths-place-requires c κs = search needs
 
 mul-at : tie.Need-mul-at
 mul-at c =
-    let c4 = c .before .before .before .before in
-    let a = c4 .args in
-    let room = path-room (a .edition) (a .file .now) (c4 .pre .1) (a .i) (c4 .pre .2) (c .before .path-width .ensures) (c .paths-place .ensures) in
+    let start = c .before .before .before .before in
+    let a = start .args in
+    let room = path-room (a .edition) (a .file .now) (start .pre .1) (a .i) (start .pre .2) (c .before .path-width .ensures) (c .paths-place .ensures) in
     search needs
 
 add-at : tie.Need-add-at
 add-at c =
-    let c4 = c .before .before .before .before in
-    let a = c4 .args in
-    let room = path-room (a .edition) (a .file .now) (c4 .pre .1) (a .i) (c4 .pre .2) (c .before .path-width .ensures) (c .paths-place .ensures) in
+    let start = c .before .before .before .before in
+    let a = start .args in
+    let room = path-room (a .edition) (a .file .now) (start .pre .1) (a .i) (start .pre .2) (c .before .path-width .ensures) (c .paths-place .ensures) in
     search needs
 
 blobs-width-requires : tie.Need-blobs-width-requires
@@ -45,10 +45,10 @@ add-end c = search needs
 
 add-open : tie.Need-add-open
 add-open c =
-    let c5 = c .before .before .before .before .before in
-    let a = c5 .args in
+    let start = c .before .before .before .before .before in
+    let a = start .args in
     let room =
-    path-room (a .edition) (a .file .now) (c5 .pre .1) (a .i) (c5 .pre .2) (c .before .before .path-width .ensures) (c .before .paths-place .ensures) in
+    path-room (a .edition) (a .file .now) (start .pre .1) (a .i) (start .pre .2) (c .before .before .path-width .ensures) (c .before .paths-place .ensures) in
     search needs
 
 sub-open : tie.Need-sub-open
@@ -59,10 +59,10 @@ part-open-start c = search needs
 
 part-open-end : tie.Need-part-open-end
 part-open-end c =
-    let c5 = c .before .before .before .before .before in
-    let a = c5 .args in
+    let start = c .before .before .before .before .before in
+    let a = start .args in
     let room =
-    path-room (a .edition) (a .file .now) (c5 .pre .1) (a .i) (c5 .pre .2) (c .before .before .path-width .ensures) (c .before .paths-place .ensures) in
+    path-room (a .edition) (a .file .now) (start .pre .1) (a .i) (start .pre .2) (c .before .before .path-width .ensures) (c .before .paths-place .ensures) in
     search needs
 
 before-blobs-requires : tie.Need-before-blobs-requires
@@ -76,30 +76,30 @@ part-open-start-2 c = search needs
 
 part-open-end-2 : tie.Need-part-open-end-2
 part-open-end-2 c =
-    let c2 = c .before .before in
-    let c7 = c2 .before .before .before .before .before in
-    let ends = path-ends (c7 .args .edition) in
-    let long = ap length (c7 .pre .3) ∙ length-replicate {A = ℕ} pathWidth 0 in
-    let wide = c2 .blobs-width .ensures in
+    let after-blobs-width = c .before .before in
+    let start = after-blobs-width .before .before .before .before .before in
+    let ends = path-ends (start .args .edition) in
+    let long = ap length (start .pre .3) ∙ length-replicate {A = ℕ} pathWidth 0 in
+    let wide = after-blobs-width .blobs-width .ensures in
     search needs
 
 open-requires : tie.Need-open-requires
 open-requires c κs =
-    let c3 = c .before .before .before in
-    let c4 = c3 .before in
-    let c5 = c4 .before in
-    let c8 = c5 .before .before .before in
-    let a = c8 .args in
+    let after-blobs-width = c .before .before .before in
+    let after-paths-place = after-blobs-width .before in
+    let after-path-width = after-paths-place .before in
+    let start = after-path-width .before .before .before in
+    let a = start .args in
     let f = a .file .now in
-    let wide = c5 .path-width .ensures in
-    let width = c5 .path-width .result in
+    let wide = after-path-width .path-width .ensures in
+    let width = after-path-width .path-width .result in
     let most = before-most (a .edition) in
-    let blobs = c3 .blobs-width .ensures in
+    let blobs = after-blobs-width .blobs-width .ensures in
     let ends = path-ends (a .edition) in
-    let room = path-room (a .edition) f (c8 .pre .1) (a .i) (c8 .pre .2) wide (c4 .paths-place .ensures) in
-    let long = range-length f (c4 .paths-place .result + width * a .i) width room in
-    let end : ℕ = pathBlobsAt + c3 .blobs-width .result in
-    let lent = zeros-lent (a .path .now) pathWidth end (c8 .pre .3) (omega (arith, blobs, ends)) in
+    let room = path-room (a .edition) f (start .pre .1) (a .i) (start .pre .2) wide (after-paths-place .paths-place .ensures) in
+    let long = range-length f (after-paths-place .paths-place .result + width * a .i) width room in
+    let end : ℕ = pathBlobsAt + after-blobs-width .blobs-width .result in
+    let lent = zeros-lent (a .path .now) pathWidth end (start .pre .3) (omega (arith, blobs, ends)) in
     let zeros = ap length lent ∙ length-replicate {A = ℕ} end 0 in (
       omega (arith, long, wide, c .before .before-blobs .ensures),
       omega (arith, long, wide, most, blobs, zeros),
@@ -112,32 +112,34 @@ same-length c = search needs
 returns : tie.Need-returns
 unfolding pathNow
 returns c =
-    let c4 = c .before .before .before .before in
-    let c6 = c4 .before .before in
-    let c7 = c6 .before in
-    let c8 = c7 .before in
-    let c11 = c8 .before .before .before in
-    let a = c11 .args in
+    let after-before-blobs = c .before .before .before .before in
+    let after-blobs-width = after-before-blobs .before .before in
+    let after-paths-place = after-blobs-width .before in
+    let after-path-width = after-paths-place .before in
+    let start = after-path-width .before .before .before in
+    let a = start .args in
     let f = a .file .now in
     let e = numbered (a .edition) in
     let most = before-most (a .edition) in
-    let blobs = c6 .blobs-width .ensures in
+    let blobs = after-blobs-width .blobs-width .ensures in
     let ends = path-ends (a .edition) in
-    let end : ℕ = pathBlobsAt + c6 .blobs-width .result in
-    let lent = zeros-lent (a .path .now) pathWidth end (c11 .pre .3) (omega (arith, blobs, ends)) in
+    let end : ℕ = pathBlobsAt + after-blobs-width .blobs-width .result in
+    let lent = zeros-lent (a .path .now) pathWidth end (start .pre .3) (omega (arith, blobs, ends)) in
     let zeros = ap length lent ∙ length-replicate {A = ℕ} end 0 in
-    let place = ap₂ (λ (p w : ℕ). p + w * a .i) (c7 .paths-place .ensures) (c8 .path-width .ensures) in
-    let room = path-room (a .edition) f (c11 .pre .1) (a .i) (c11 .pre .2) (c8 .path-width .ensures) (c7 .paths-place .ensures) in
+    let place = ap₂ (λ (p w : ℕ). p + w * a .i) (after-paths-place .paths-place .ensures) (after-path-width .path-width .ensures) in
+    let room = path-room (a .edition) f (start .pre .1) (a .i) (start .pre .2) (after-path-width .path-width .ensures)
+    (after-paths-place .paths-place .ensures) in
     let opening =
     c .before .before .«open» .ensures
-    ∙ opened-lent f _ (pathBlobsAt - beforeBlobs e) (length (take (end - 0) (drop 0 (a .path .now)))) (c4 .before-blobs .ensures) (c8 .path-width .ensures)
-    (omega (arith, room, c8 .path-width .ensures)) (omega (arith, most, blobs, zeros))
+    ∙ opened-lent f _ (pathBlobsAt - beforeBlobs e) (length (take (end - 0) (drop 0 (a .path .now)))) (after-before-blobs .before-blobs .ensures)
+    (after-path-width .path-width .ensures)
+    (omega (arith, room, after-path-width .path-width .ensures)) (omega (arith, most, blobs, zeros))
     ∙ ap (λ (k : ℕ). opened (beforeBlobs e) (pathBlobsAt - beforeBlobs e) (part f k (pathWidthIn e))) place in
     let front : List ℕ = opened (beforeBlobs e) (pathBlobsAt - beforeBlobs e) (part f (pathsPlace e + pathWidthIn e * a .i) (pathWidthIn e)) in
-    let long = path-front e (each-brings (a .edition - 1)) f (c11 .pre .1) (a .i) (c11 .pre .2) in
+    let long = path-front e (each-brings (a .edition - 1)) f (start .pre .1) (a .i) (start .pre .2) in
     let behind : pathWidth - end ≡ blobsWidth - blobsWidthIn e = omega (arith, blobs) in
     ap (putMid 0 (end - 0) (a .path .now)) opening
-    ∙ zeros-behind-put (a .path .now) front pathWidth end (c11 .pre .3) (omega (arith, long, blobs)) (omega (arith, blobs, ends))
+    ∙ zeros-behind-put (a .path .now) front pathWidth end (start .pre .3) (omega (arith, long, blobs)) (omega (arith, blobs, ends))
     ∙ ap (λ (n : ℕ). front ++ replicate n 0) behind
 
 pub write-path-spec : {M : Type 1} → statement M

@@ -42,15 +42,15 @@ slice-aggregate-copy-at c = search needs
 
 copy-at-requires : tie.Need-copy-at-requires Inv-loop μ-loop
 copy-at-requires c κs =
-    let c2 = c .before .before in
-    let c4 = c2 .before .before in
-    let c6 = c4 .before .before .before in
-    let a = c6 .args in
+    let after-path-now = c .before .before in
+    let at-loop = after-path-now .before .before in
+    let start = at-loop .before .before .before in
+    let a = start .args in
     let e = numbered (a .edition) in
-    let i = c4 .loop .i in
-    let l = c2 .before .loop-test .taken in
-    let wide = ap length (c2 .path-now .ensures) ∙ path-length e (each-brings (a .edition - 1)) (a .file .now) (c6 .pre .1) i l in
-    omega (arith, wide, c4 .loop .inv .1 .0, c6 .pre .2, many-end pathWidth pathCount i l)
+    let i = at-loop .loop .i in
+    let l = after-path-now .before .loop-test .taken in
+    let wide = ap length (after-path-now .path-now .ensures) ∙ path-length e (each-brings (a .edition - 1)) (a .file .now) (start .pre .1) i l in
+    omega (arith, wide, at-loop .loop .inv .1 .0, start .pre .2, many-end pathWidth pathCount i l)
 
 add-i : tie.Need-add-i Inv-loop μ-loop
 add-i c = search needs
@@ -60,19 +60,19 @@ loop-less c = search needs
 
 loop-again : tie.Need-loop-again Inv-loop μ-loop
 loop-again c =
-    let c3 = c .before .before .before in
-    let c5 = c3 .before .before in
-    let c7 = c5 .before .before in
-    let c9 = c7 .before .before .before in
-    let a = c9 .args in
-    let i = c7 .loop .i in
-    let l = c5 .before .loop-test .taken in
-    let more = paths-more (numbered (a .edition)) (a .file .now) (each-brings (a .edition - 1)) (c9 .pre .1) (a .tables .now) i l (c9 .pre .2) in (
+    let after-path = c .before .before .before in
+    let after-path-now = after-path .before .before in
+    let at-loop = after-path-now .before .before in
+    let start = at-loop .before .before .before in
+    let a = start .args in
+    let i = at-loop .loop .i in
+    let l = after-path-now .before .loop-test .taken in
+    let more = paths-more (numbered (a .edition)) (a .file .now) (each-brings (a .edition - 1)) (start .pre .1) (a .tables .now) i l (start .pre .2) in (
       search needs,
       (
         search needs,
         c .before .before .copy-at .ensures
-            ∙ ap₂ (λ (t b : List ℕ). patch t (pathsAt + pathWidth * i) b) (c7 .loop .inv .1 .1) (c5 .path-now .ensures)
+            ∙ ap₂ (λ (t b : List ℕ). patch t (pathsAt + pathWidth * i) b) (at-loop .loop .inv .1 .1) (after-path-now .path-now .ensures)
             ∙ more,
       ),
     )
@@ -82,8 +82,8 @@ same-length c = search needs
 
 returns : tie.Need-returns Inv-loop μ-loop
 returns c =
-    let c3 = c .before .before .before in
-    let a = c3 .before .args in
+    let after-shared-slice-known = c .before .before .before in
+    let a = after-shared-slice-known .before .args in
     c .before .loop .inv .1 .1
     ∙ ap (λ (k : ℕ). patch (a .tables .now) pathsAt (pathsNow (numbered (a .edition)) (a .file .now) k))
     (le-antisymm (c .before .loop .inv .0) (c .loop-test .left))

@@ -42,15 +42,15 @@ slice-aggregate-copy-at c = search needs
 
 copy-at-requires : tie.Need-copy-at-requires Inv-loop μ-loop
 copy-at-requires c κs =
-    let c2 = c .before .before in
-    let c4 = c2 .before .before in
-    let c6 = c4 .before .before .before in
-    let a = c6 .args in
+    let after-port-now = c .before .before in
+    let at-loop = after-port-now .before .before in
+    let start = at-loop .before .before .before in
+    let a = start .args in
     let e = numbered (a .edition) in
-    let i = c4 .loop .i in
-    let l = c2 .before .loop-test .taken in
-    let wide = ap length (c2 .port-now .ensures) ∙ port-length e (each-brings (a .edition - 1)) (a .file .now) (c6 .pre .1) i l in
-    omega (arith, wide, c4 .loop .inv .1 .0, c6 .pre .2, many-end portWidth portCount i l)
+    let i = at-loop .loop .i in
+    let l = after-port-now .before .loop-test .taken in
+    let wide = ap length (after-port-now .port-now .ensures) ∙ port-length e (each-brings (a .edition - 1)) (a .file .now) (start .pre .1) i l in
+    omega (arith, wide, at-loop .loop .inv .1 .0, start .pre .2, many-end portWidth portCount i l)
 
 add-i : tie.Need-add-i Inv-loop μ-loop
 add-i c = search needs
@@ -60,19 +60,19 @@ loop-less c = search needs
 
 loop-again : tie.Need-loop-again Inv-loop μ-loop
 loop-again c =
-    let c3 = c .before .before .before in
-    let c5 = c3 .before .before in
-    let c7 = c5 .before .before in
-    let c9 = c7 .before .before .before in
-    let a = c9 .args in
-    let i = c7 .loop .i in
-    let l = c5 .before .loop-test .taken in
-    let more = ports-more (numbered (a .edition)) (a .file .now) (each-brings (a .edition - 1)) (c9 .pre .1) (a .front .now) i l (c9 .pre .2) in (
+    let after-port = c .before .before .before in
+    let after-port-now = after-port .before .before in
+    let at-loop = after-port-now .before .before in
+    let start = at-loop .before .before .before in
+    let a = start .args in
+    let i = at-loop .loop .i in
+    let l = after-port-now .before .loop-test .taken in
+    let more = ports-more (numbered (a .edition)) (a .file .now) (each-brings (a .edition - 1)) (start .pre .1) (a .front .now) i l (start .pre .2) in (
       search needs,
       (
         search needs,
         c .before .before .copy-at .ensures
-            ∙ ap₂ (λ (t b : List ℕ). patch t (portsAt + portWidth * i) b) (c7 .loop .inv .1 .1) (c5 .port-now .ensures)
+            ∙ ap₂ (λ (t b : List ℕ). patch t (portsAt + portWidth * i) b) (at-loop .loop .inv .1 .1) (after-port-now .port-now .ensures)
             ∙ more,
       ),
     )
@@ -82,8 +82,8 @@ same-length c = search needs
 
 returns : tie.Need-returns Inv-loop μ-loop
 returns c =
-    let c3 = c .before .before .before in
-    let a = c3 .before .args in
+    let after-shared-slice-known = c .before .before .before in
+    let a = after-shared-slice-known .before .args in
     c .before .loop .inv .1 .1
     ∙ ap (λ (k : ℕ). patch (a .front .now) portsAt (portsNow (numbered (a .edition)) (a .file .now) k))
     (le-antisymm (c .before .loop .inv .0) (c .loop-test .left))

@@ -49,20 +49,20 @@ same-length c = search needs
 returns : tie.Need-returns
 unfolding part
 returns c =
-    let c5 = c .before .before .before .before .before in
-    let c8 = c5 .before .before .before in
-    let c12 = c8 .before .before .before .before in
-    let c15 = c12 .before .before .before in
-    let c18 = c15 .before .before .before in
-    let a = c18 .args in
+    let after-back-place = c .before .before .before .before .before in
+    let after-write-paths = after-back-place .before .before .before in
+    let after-copy-at = after-write-paths .before .before .before .before in
+    let after-front-now = after-copy-at .before .before .before in
+    let start = after-front-now .before .before .before in
+    let a = start .args in
     let f = a .file .now in
     let e = numbered (a .edition) in
-    let front = c12 .copy-at .ensures ∙ ap (patch (a .tables .now) 0) (c15 .front-now .ensures) in
-    let paths = c8 .write-paths .ensures ∙ ap (λ (t : List ℕ). patch t pathsAt (pathsNow e f pathCount)) front in
-    let back = part-range f (c5 .back-place .result) backWidth ∙ ap (λ (k : ℕ). part f k backWidth) (c5 .back-place .ensures) in
+    let front = after-copy-at .copy-at .ensures ∙ ap (patch (a .tables .now) 0) (after-front-now .front-now .ensures) in
+    let paths = after-write-paths .write-paths .ensures ∙ ap (λ (t : List ℕ). patch t pathsAt (pathsNow e f pathCount)) front in
+    let back = part-range f (after-back-place .back-place .result) backWidth ∙ ap (λ (k : ℕ). part f k backWidth) (after-back-place .back-place .ensures) in
     c .before .before .copy-at2 .ensures
     ∙ ap₂ (λ (t b : List ℕ). patch t linksAt b) paths back
-    ∙ now-written e f (each-brings (a .edition - 1)) (c18 .pre .1) (a .tables .now) (c18 .pre .2)
+    ∙ now-written e f (each-brings (a .edition - 1)) (start .pre .1) (a .tables .now) (start .pre .2)
 
 pub write-tables-spec : {M : Type 1} → statement M
 write-tables-spec =

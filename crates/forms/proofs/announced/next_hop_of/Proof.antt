@@ -20,15 +20,15 @@ type-two-requires c κs = search needs
 
 returns : tie.Need-returns
 returns c =
-    let c2 = c .before .before in
-    ap (λ (q : Parts). q .relay) (c2 .before .before .parts-of .ensures)
-    ∙ sym (then-true _ _ (sym (c2 .type-two .ensures) ∙ c .before .if1 .taken))
+    let after-type-two = c .before .before in
+    ap (λ (q : Parts). q .relay) (after-type-two .before .before .parts-of .ensures)
+    ∙ sym (then-true _ _ (sym (after-type-two .type-two .ensures) ∙ c .before .if1 .taken))
 
 returns-2 : tie.Need-returns-2
 returns-2 c =
-    let c2 = c .before .before in
-    ap (λ (q : Parts). q .destination) (c2 .before .before .parts-of .ensures)
-    ∙ sym (then-false _ _ (sym (c2 .type-two .ensures) ∙ c .before .if1 .left))
+    let after-type-two = c .before .before in
+    ap (λ (q : Parts). q .destination) (after-type-two .before .before .parts-of .ensures)
+    ∙ sym (then-false _ _ (sym (after-type-two .type-two .ensures) ∙ c .before .if1 .left))
 
 pub next-hop-of-spec : {M : Type 1} → statement M
 next-hop-of-spec =

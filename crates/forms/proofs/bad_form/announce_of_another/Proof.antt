@@ -11,6 +11,7 @@ use Rattle.outgoing.proofs.LeavingLaws.{long, whole}
 use Rattle.forms.proofs.FormLaws.{another-clauses, destination-compared}
 use Rattle.forms.proofs.bad_form.announce_of_another.Statement.{statement}
 use Rattle.forms.proofs.bad_form.announce_of_another.Tie as tie
+use Rattle.numbers.specs.Numbers.{addressWidth}
 
 shared-slice-read-is-announce : tie.Need-shared-slice-read-is-announce
 shared-slice-read-is-announce c = let s = c .before .before in omega (arith, long longestPacket (s .args .packet .now) (s .pre))
@@ -32,13 +33,13 @@ equal16-requires c κs = search needs
 
 returns : tie.Need-returns
 returns c =
-    let c4 = c .before .before .before .before in
-    let c6 = c4 .before .before in
-    let s = c6 .before .before .before in
-    let destination = ap (λ (q : Parts). q .destination) (c4 .parts-of .ensures) in
+    let after-parts-of = c .before .before .before .before in
+    let after-is-announce = after-parts-of .before .before in
+    let s = after-is-announce .before .before .before in
+    let destination = ap (λ (q : Parts). q .destination) (after-parts-of .parts-of .ensures) in
     let announced = c .before .announced-destination .ensures ∙ ap announcedDestination (c .before .before .payload .ensures) in
-    ap not (c .equal16 .ensures ∙ ap₂ (agree 16) destination announced ∙ destination-compared (s .args .packet .now) (s .pre))
-    ∙ sym (another-clauses (s .args .packet .now) ∙ and-yes _ (sym (c6 .is-announce .ensures) ∙ c4 .before .if1 .taken))
+    ap not (c .equal16 .ensures ∙ ap₂ (agree addressWidth) destination announced ∙ destination-compared (s .args .packet .now) (s .pre))
+    ∙ sym (another-clauses (s .args .packet .now) ∙ and-yes _ (sym (after-is-announce .is-announce .ensures) ∙ after-parts-of .before .if1 .taken))
 
 returns-2 : tie.Need-returns-2
 returns-2 c =

@@ -19,6 +19,7 @@ use Rattle.forms.specs.declared.Form.the-variants.{Bad}
 use Rattle.forms.proofs.FormLaws.{formFrom}
 use Rattle.forms.proofs.bad_form.form_of.Statement.{statement}
 use Rattle.forms.proofs.bad_form.form_of.Tie as tie
+use Rattle.numbers.specs.Numbers.{leastLinkRequest}
 
 abbrev bytes : tie.After-payload → List ℕ
 bytes s = s .before .before .before .args .packet .now
@@ -102,7 +103,8 @@ past-6 c = past-5 (c .before .before .before .before) ∙ past _ _ _ _ (sym (tes
 
 test-7 : (c : tie.After-both6) → c .both6 .result ≡ requestTooShort (bytes (s7 c))
 unfolding requestTooShort
-test-7 c = c .both6 .ensures ∙ ap₂ _and_ (c .before .is-link-request2 .ensures) (ap (λ (b : List ℕ). ltb (length b) 64) (s7 c .payload .ensures))
+test-7 c = c .both6 .ensures
+    ∙ ap₂ _and_ (c .before .is-link-request2 .ensures) (ap (λ (b : List ℕ). ltb (length b) leastLinkRequest) (s7 c .payload .ensures))
 
 past-7 : (c : tie.Else7) → Left 7 (s7 (c .before))
 unfolding formOf formFrom formTests valued

@@ -26,19 +26,19 @@ parts-of-requires c κs =
 
 returns : tie.Need-returns
 returns c =
-    let c3 = c .before .before .before in
-    let c5 = c3 .before .before in
-    let p = c5 .before .before .before .args .packet .now in
-    let proof = sym (c5 .is-proof .ensures) ∙ c3 .before .if1 .taken in
-    let kind = sym (c3 .of-kind-link .ensures) ∙ c .before .before .if2 .taken in
+    let after-of-kind-link = c .before .before .before in
+    let after-is-proof = after-of-kind-link .before .before in
+    let p = after-is-proof .before .before .before .args .packet .now in
+    let proof = sym (after-is-proof .is-proof .ensures) ∙ after-of-kind-link .before .if1 .taken in
+    let kind = sym (after-of-kind-link .of-kind-link .ensures) ∙ c .before .before .if2 .taken in
     ap (λ (q : Parts). eqb (q .context) 255) (c .before .parts-of .ensures)
     ∙ sym (link-proof-clauses p ∙ and-yes _ proof ∙ and-yes _ kind)
 
 returns-2 : tie.Need-returns-2
 returns-2 c =
-    let c3 = c .before .before .before in
-    let p = c3 .before .before .before .args .packet .now in
-    let proof = sym (c3 .is-proof .ensures) ∙ c .before .before .if1 .taken in
+    let after-is-proof = c .before .before .before in
+    let p = after-is-proof .before .before .before .args .packet .now in
+    let proof = sym (after-is-proof .is-proof .ensures) ∙ c .before .before .if1 .taken in
     sym (link-proof-clauses p ∙ and-yes _ proof ∙ and-no _ (sym (c .before .of-kind-link .ensures) ∙ c .if2 .left))
 
 returns-3 : tie.Need-returns-3

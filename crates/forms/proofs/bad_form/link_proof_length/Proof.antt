@@ -13,6 +13,7 @@ use Rattle.forms.proofs.FormLaws.{proof-length-clauses}
 use borrow.Author.Needs.{needs}
 use Rattle.forms.proofs.bad_form.link_proof_length.Statement.{statement}
 use Rattle.forms.proofs.bad_form.link_proof_length.Tie as tie
+use Rattle.numbers.specs.Numbers.{shorterLinkProof, longerLinkProof}
 
 is-link-proof-requires : tie.Need-is-link-proof-requires
 is-link-proof-requires c κs = search needs
@@ -22,20 +23,20 @@ payload-requires c κs = search needs
 
 returns : tie.Need-returns
 returns c =
-    let c3 = c .before .before .before in
-    let p = c3 .before .before .args .packet .now in
-    let is = sym (c3 .is-link-proof .ensures) ∙ c .before .before .if1 .taken in
-    let long : length (payload p) ≡ 96 = sym (ap length (c .before .payload .ensures)) ∙ c .if2 .taken in
-    sym (proof-length-clauses p ∙ and-yes _ is ∙ ap not (or-left _ (eq-eqb (length (payload p)) 96 long)))
+    let after-is-link-proof = c .before .before .before in
+    let p = after-is-link-proof .before .before .args .packet .now in
+    let is = sym (after-is-link-proof .is-link-proof .ensures) ∙ c .before .before .if1 .taken in
+    let long : length (payload p) ≡ shorterLinkProof = sym (ap length (c .before .payload .ensures)) ∙ c .if2 .taken in
+    sym (proof-length-clauses p ∙ and-yes _ is ∙ ap not (or-left _ (eq-eqb (length (payload p)) shorterLinkProof long)))
 
 returns-2 : tie.Need-returns-2
 returns-2 c =
-    let c3 = c .before .before .before in
-    let p = c3 .before .before .args .packet .now in
-    let is = sym (c3 .is-link-proof .ensures) ∙ c .before .before .if1 .taken in
-    let other : length (payload p) ≡ 96 → ⊥ = λ long. c .if2 .left (ap length (c .before .payload .ensures) ∙ long) in
-    ap (λ (b : List ℕ). not (eqb (length b) 99)) (c .before .payload .ensures)
-    ∙ sym (proof-length-clauses p ∙ and-yes _ is ∙ ap not (or-else _ (ne-eqb (length (payload p)) 96 other)))
+    let after-is-link-proof = c .before .before .before in
+    let p = after-is-link-proof .before .before .args .packet .now in
+    let is = sym (after-is-link-proof .is-link-proof .ensures) ∙ c .before .before .if1 .taken in
+    let other : length (payload p) ≡ shorterLinkProof → ⊥ = λ long. c .if2 .left (ap length (c .before .payload .ensures) ∙ long) in
+    ap (λ (b : List ℕ). not (eqb (length b) longerLinkProof)) (c .before .payload .ensures)
+    ∙ sym (proof-length-clauses p ∙ and-yes _ is ∙ ap not (or-else _ (ne-eqb (length (payload p)) shorterLinkProof other)))
 
 returns-3 : tie.Need-returns-3
 returns-3 c =

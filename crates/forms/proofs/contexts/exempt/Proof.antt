@@ -23,9 +23,9 @@ exempt-context-requires c κs = search needs
 
 returns : tie.Need-returns
 returns c =
-    let c2 = c .before .before in
+    let then1 = c .before .before in
     let context = ap (λ (q : Parts). exemptContext (q .context)) (c .before .parts-of .ensures) in
-    c .exempt-context .ensures ∙ context ∙ sym (exempt-by-context _ (sym (c2 .before .of-kind-link .ensures) ∙ c2 .if1 .taken))
+    c .exempt-context .ensures ∙ context ∙ sym (exempt-by-context _ (sym (then1 .before .of-kind-link .ensures) ∙ then1 .if1 .taken))
 
 returns-2 : tie.Need-returns-2
 returns-2 c = sym (never-exempt _ (sym (c .before .of-kind-link .ensures) ∙ c .if1 .left))

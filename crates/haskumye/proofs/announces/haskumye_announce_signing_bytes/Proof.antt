@@ -1,6 +1,7 @@
 use mathlib.Core.Path.{sym, ap, subst, _∙_}
 use Prim.Native.Nat.{_≤_}
 use Rattle.packet.specs.declared.Written.{Written}
+use Rattle.packet.specs.Read.{longestPacket}
 use Rattle.announcing.proofs.Lengths.{signing-most}
 use Rattle.crossing.specs.Packets.{writtenNumber}
 use borrow.Author.Needs.{needs}
@@ -12,7 +13,7 @@ signing-bytes-requires c κs = search needs
 
 written-number-requires : tie.Need-written-number-requires
 written-number-requires c κs =
-    subst (λ (w : Written). w .length ≤ 500) (sym (c .before .before .signing-bytes .ensures .0)) (signing-most _ _)
+    subst (λ (w : Written). w .length ≤ longestPacket) (sym (c .before .before .signing-bytes .ensures .0)) (signing-most _ _)
 
 same-length : tie.Need-same-length
 same-length c = search needs

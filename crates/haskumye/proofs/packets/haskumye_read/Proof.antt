@@ -15,11 +15,11 @@ parts-bytes-requires c κs = search needs
 
 returns : tie.Need-returns
 returns c =
-    let c3 = c .before .before .before in
-    let s = c3 .read in
+    let after-read = c .before .before .before in
+    let s = after-read .read in
     let refused = ap (λ (a : Reading). a .refusal) (s .ensures) in
     let bytes = c .parts-bytes .ensures ∙ ap (λ (a : Reading). partsBytes (a .parts)) (s .ensures) in
-    written (s .result .refusal) _ refused _ (now (c3 .before .before .args .parts)) (c .parts-bytes .result) bytes (c .before .before .if1 .taken)
+    written (s .result .refusal) _ refused _ (now (after-read .before .before .args .parts)) (c .parts-bytes .result) bytes (c .before .before .if1 .taken)
 
 returns-2 : tie.Need-returns-2
 returns-2 c =

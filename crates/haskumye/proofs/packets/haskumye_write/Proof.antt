@@ -1,6 +1,7 @@
 use mathlib.Core.Path.{ap, _∙_}
 use Rattle.packet.specs.Write.{Writing, writing}
 use Rattle.packet.specs.declared.Parts.{Parts}
+use Rattle.packet.specs.Read.{longestPacket}
 use Rattle.crossing.specs.Packets.{writtenNumber}
 use Rattle.haskumye.proofs.ExportLaws.{written-most}
 use native.Mathlib.Omega.{arith}
@@ -10,7 +11,7 @@ use Rattle.haskumye.proofs.packets.haskumye_write.Statement.{statement}
 use Rattle.haskumye.proofs.packets.haskumye_write.Tie as tie
 
 -- what is written is at most 500 bytes
-most : (c : tie.After-write) → c .write .result .length ≤ 500
+most : (c : tie.After-write) → c .write .result .length ≤ longestPacket
 most c =
     let a = c .before .before .before .before .before .before .args in
     written-most (c .write .result) (c .before .before .type-two-parts .result) (a .payload .now) (a .output .now) (c .write .ensures .0)

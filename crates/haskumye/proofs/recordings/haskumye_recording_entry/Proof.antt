@@ -11,8 +11,8 @@ entry-numbers-requires c κs = search needs
 
 returns : tie.Need-returns
 returns c =
-    let c4 = c .before .before .before .before in
-    let a = c4 .args in
+    let start = c .before .before .before .before in
+    let a = start .args in
     entry-given (a .file .now) (a .index) (a .entry .now) (c .before .before .entry .result) (c .before .before .entry .ensures)
     (c .before .if1 .taken) _ (c .entry-numbers .ensures)
 

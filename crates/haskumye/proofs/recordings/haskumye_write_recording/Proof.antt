@@ -6,8 +6,9 @@ use Rattle.haskumye.proofs.RecordingLaws.{recorded-most}
 use borrow.Author.Needs.{needs}
 use Rattle.haskumye.proofs.recordings.haskumye_write_recording.Statement.{statement}
 use Rattle.haskumye.proofs.recordings.haskumye_write_recording.Tie as tie
+use Rattle.recording.specs.Format.{longestFile}
 
-most : (c : tie.After-write) → c .write .result .length ≤ 60000
+most : (c : tie.After-write) → c .write .result .length ≤ longestFile
 most c =
     let a = c .before .before .before .before .before .args in
     recorded-most (c .write .result) (a .entries .now) (a .bodies .now) (a .room .now) (c .write .ensures .0)

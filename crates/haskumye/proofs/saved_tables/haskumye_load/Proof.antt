@@ -19,12 +19,12 @@ same-length c = search needs
 
 returns : tie.Need-returns
 returns c =
-    let c4 = c .before .before .before .before in
-    let c5 = c4 .before in
-    let c10 = c5 .before .before .before .before .before in
-    let a = c10 .args in
-    let l = c4 .load in
-    let same = ap (loadOn (a .file .now) (a .tables .now)) (c5 .tally-in .ensures) in (
+    let after-load = c .before .before .before .before in
+    let after-tally-in = after-load .before in
+    let start = after-tally-in .before .before .before .before .before in
+    let a = start .args in
+    let l = after-load .load in
+    let same = ap (loadOn (a .file .now) (a .tables .now)) (after-tally-in .tally-in .ensures) in (
       l .ensures .0 ∙ ap (λ (x : LoadedOn). x .refusal) same,
       l .ensures .1 ∙ ap (λ (x : LoadedOn). x .tables) same,
       c .tally-numbers .ensures ∙ ap tallyNumbers (l .ensures .2 ∙ ap (λ (x : LoadedOn). x .tally) same),

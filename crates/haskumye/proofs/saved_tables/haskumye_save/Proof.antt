@@ -7,6 +7,7 @@ use Rattle.saved.specs.File.{savedSize}
 use Rattle.saved.specs.declared.Saved.{Saved}
 use Rattle.saved.proofs.SaveLaws.{save-most}
 use Rattle.crossing.specs.Saved.{savedNumber}
+use Rattle.crossing.specs.Bits.{refusalSpan}
 use native.Mathlib.Omega.{arith}
 use borrow.Author.Needs.{needs}
 use Rattle.haskumye.proofs.saved_tables.haskumye_save.Statement.{statement}
@@ -14,11 +15,11 @@ use Rattle.haskumye.proofs.saved_tables.haskumye_save.Tie as tie
 
 most : (c : tie.After-save) → c .save .result .length ≤ savedSize
 most c =
-    let c2 = c .before .before in
-    let c6 = c2 .before .before .before .before in
-    let a = c6 .args in
+    let after-tally-in = c .before .before in
+    let start = after-tally-in .before .before .before .before in
+    let a = start .args in
     let long = ap (λ (s : Saved). s .length) (c .save .ensures .0) in
-    omega (arith, long, save-most (a .tables .now) (c2 .tally-in .result) (a .room .now))
+    omega (arith, long, save-most (a .tables .now) (after-tally-in .tally-in .result) (a .room .now))
 
 tally-in-requires : tie.Need-tally-in-requires
 tally-in-requires c κs = search needs
@@ -28,16 +29,16 @@ save-requires c κs = search needs
 
 mul-result : tie.Need-mul-result
 mul-result c =
-    let c2 = c .before .before in
-    record { fits = omega (arith, most (c2)) }
+    let after-save = c .before .before in
+    record { fits = omega (arith, most (after-save)) }
 
 wide-requires : tie.Need-wide-requires
 wide-requires c κs = search needs
 
 add-result : tie.Need-add-result
 add-result c =
-    let c3 = c .before .before .before in
-    record { fits = omega (arith, most (c3), c .wide .ensures) }
+    let after-save = c .before .before .before in
+    record { fits = omega (arith, most (after-save), c .wide .ensures) }
 
 same-length : tie.Need-same-length
 same-length c = search needs
@@ -45,13 +46,13 @@ same-length c = search needs
 returns : tie.Need-returns
 unfolding savedNumber
 returns c =
-    let c3 = c .before .before .before in
-    let c5 = c3 .before .before in
-    let c9 = c5 .before .before .before .before in
-    let a = c9 .args in
-    let s = c3 .save in
-    let same = ap (λ (t : Tally). saveOn (a .tables .now) t (a .room .now)) (c5 .tally-in .ensures) in
-    let number = ap (λ (n : ℕ). s .result .length * 65536 + n) (c .wide .ensures) in
+    let after-save = c .before .before .before in
+    let after-tally-in = after-save .before .before in
+    let start = after-tally-in .before .before .before .before in
+    let a = start .args in
+    let s = after-save .save in
+    let same = ap (λ (t : Tally). saveOn (a .tables .now) t (a .room .now)) (after-tally-in .tally-in .ensures) in
+    let number = ap (λ (n : ℕ). s .result .length * refusalSpan + n) (c .wide .ensures) in
     (number ∙ ap savedNumber (s .ensures .0 ∙ ap (λ (x : SavedOn). x .answer) same), s .ensures .1 ∙ ap (λ (x : SavedOn). x .room) same)
 
 pub haskumye-save-spec : {M : Type 1} → statement M

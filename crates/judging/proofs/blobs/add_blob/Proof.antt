@@ -4,12 +4,13 @@ use mathlib.Core.List.{List}
 use lib.ListN.{length, drop, length-drop}
 use lib.Seq.{length-take-le}
 use Rattle.octets.specs.Part.{part, patch}
-use Rattle.judging.specs.Seen.{blobsIn}
-use Rattle.judging.proofs.BlobBytes.{added, pushed}
+use Rattle.judging.specs.Seen.{blobsIn, blobBytes}
+use Rattle.judging.proofs.BlobBytes.{added, pushed, newestAt}
 use native.Mathlib.Omega.{arith}
 use borrow.Author.Needs.{needs}
 use Rattle.judging.proofs.blobs.add_blob.Statement.{statement}
 use Rattle.judging.proofs.blobs.add_blob.Tie as tie
+use Rattle.numbers.specs.Numbers.{blobWidth}
 
 slice-aggregate-copy-at : tie.Need-slice-aggregate-copy-at
 slice-aggregate-copy-at c = search needs
@@ -22,8 +23,8 @@ slice-aggregate-copy-at-2 c = search needs
 
 copy-at-requires : tie.Need-copy-at-requires
 copy-at-requires c κs =
-    let old : length (c .before .before .before .args .t1) ≡ 640 = search needs in
-    let new : length (c .before .before .before .args .t3) ≡ 10 = search needs in
+    let old : length (c .before .before .before .args .t1) ≡ blobBytes = search needs in
+    let new : length (c .before .before .before .args .t3) ≡ blobWidth = search needs in
     omega (arith, old, new, c .before .before .if1 .taken)
 
 add-t12 : tie.Need-add-t12
@@ -33,8 +34,8 @@ returns : tie.Need-returns
 returns c =
     let then1 = c .before .before .before .before in
     let start = then1 .before in
-    let old : length (start .args .t1) ≡ 640 = search needs in
-    let new : length (start .args .t3) ≡ 10 = search needs in (
+    let old : length (start .args .t1) ≡ blobBytes = search needs in
+    let new : length (start .args .t3) ≡ blobWidth = search needs in (
       ap (blobsIn (start .args .count + 1)) (c .before .copy-at .ensures)
           ∙ added (start .args .t1) (start .args .t3) old new (start .args .count) (then1 .if1 .taken),
       omega (arith, then1 .if1 .taken),
@@ -55,9 +56,9 @@ part-copy-at-end c = search needs
 copy-at-requires-2 : tie.Need-copy-at-requires-2
 copy-at-requires-2 c κs =
     let start = c .before .before .before .before in
-    let old : length (start .args .t1) ≡ 640 = search needs in
-    let new : length (start .args .t3) ≡ 10 = search needs in
-    omega (arith, old, length-take-le 630 (drop 10 (start .args .t1)) (omega (arith, old, length-drop 10 (start .args .t1))))
+    let old : length (start .args .t1) ≡ blobBytes = search needs in
+    let new : length (start .args .t3) ≡ blobWidth = search needs in
+    omega (arith, old, length-take-le newestAt (drop blobWidth (start .args .t1)) (omega (arith, old, length-drop blobWidth (start .args .t1))))
 
 slice-aggregate-copy-at-4 : tie.Need-slice-aggregate-copy-at-4
 slice-aggregate-copy-at-4 c = search needs
@@ -74,10 +75,10 @@ returns-2 c =
     let after-copy-at2 = c .before .before .before .before .before in
     let else1 = after-copy-at2 .before .before .before .before in
     let start = else1 .before in
-    let old : length (start .args .t1) ≡ 640 = search needs in
-    let new : length (start .args .t3) ≡ 10 = search needs in (
+    let old : length (start .args .t1) ≡ blobBytes = search needs in
+    let new : length (start .args .t3) ≡ blobWidth = search needs in (
       ap (blobsIn (start .args .count))
-          (c .before .copy-at3 .ensures ∙ ap (λ (y : List ℕ). patch y 630 (start .args .t3)) (after-copy-at2 .copy-at2 .ensures))
+          (c .before .copy-at3 .ensures ∙ ap (λ (y : List ℕ). patch y newestAt (start .args .t3)) (after-copy-at2 .copy-at2 .ensures))
           ∙ pushed (start .args .t1) (start .args .t3) old new (start .args .count) (else1 .if1 .left),
       start .pre,
     )

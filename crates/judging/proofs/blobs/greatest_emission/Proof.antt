@@ -1,16 +1,18 @@
 use mathlib.Core.Path.{_≡_, sym, ap, ap₂, _∙_}
 use Prim.Native.Nat.{ℕ, _*_, _-_, _≤_, _<_}
 use lib.ListN.{length, drop}
-use Rattle.judging.specs.Seen.{blobsIn}
+use Rattle.judging.specs.Seen.{blobsIn, blobBytes}
 use Rattle.octets.specs.BigEndian.{number}
 use Rattle.octets.proofs.Part.{part-part}
 use Rattle.packet.specs.Announce.{emissionOf}
+use Rattle.packet.specs.Places.{randomWidth, emissionWidth}
 use Rattle.rules.specs.Blobs.{held, greatest, greatestEmission}
 use Rattle.judging.proofs.BlobBytes.{held-end, held-front}
 use native.Mathlib.Omega.{arith}
 use borrow.Author.Needs.{needs}
 use Rattle.judging.proofs.blobs.greatest_emission.Statement.{statement}
 use Rattle.judging.proofs.blobs.greatest_emission.Tie as tie
+use Rattle.numbers.specs.Numbers.{blobWidth}
 
 abbrev Inv-loop : tie.InvT-loop
 Inv-loop count blobs most₀ i₀ most i = (i ≤ count) × (most ≡ greatestEmission (drop i (held (blobsIn count blobs))))
@@ -48,12 +50,13 @@ unfolding greatestEmission emissionOf
 loop-again c =
     let a = c .before .before .before .before .before .args in
     let at = c .before .before .before .before .loop in
-    let old : length (a .t1) ≡ 640 = search needs in
+    let old : length (a .t1) ≡ blobBytes = search needs in
     let some : 0 < at .i = c .before .before .before .loop-test .taken in (
       omega (arith, at .inv .0),
       c .greater .ensures
           ∙ ap₂ (λ (p q : ℕ). greatest p q)
-          (c .before .number-at .ensures ∙ ap number (sym (part-part (a .t1) (10 * (at .i - 1)) 10 5 5 (omega arith)))) (at .inv .1)
+          (c .before .number-at .ensures ∙ ap number (sym (part-part (a .t1) (blobWidth * (at .i - 1)) blobWidth randomWidth emissionWidth (omega arith))))
+          (at .inv .1)
           ∙ sym (ap greatestEmission (held-front (a .t1) (a .count) (c .before .before .before .before .before .pre) (at .i) some (at .inv .0))),
     )
 

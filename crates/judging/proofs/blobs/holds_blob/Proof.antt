@@ -2,13 +2,14 @@ use mathlib.Core.Path.{_≡_, sym, ap, ap₂, _∙_}
 use Rattle.octets.specs.Choice.{_or_}
 use Prim.Native.Nat.{ℕ, _-_, _≤_, _<_}
 use lib.ListN.{length, drop}
-use Rattle.judging.specs.Seen.{blobsIn}
+use Rattle.judging.specs.Seen.{blobsIn, blobBytes}
 use Rattle.rules.specs.Blobs.{held, isAmong}
 use Rattle.judging.proofs.BlobBytes.{held-end, held-front, compared}
 use native.Mathlib.Omega.{arith}
 use borrow.Author.Needs.{needs}
 use Rattle.judging.proofs.blobs.holds_blob.Statement.{statement}
 use Rattle.judging.proofs.blobs.holds_blob.Tie as tie
+use Rattle.numbers.specs.Numbers.{blobLimit, blobWidth}
 
 abbrev Inv-loop : tie.InvT-loop
 Inv-loop count blobs blob found₀ i₀ found i = (i ≤ count) × (found ≡ isAmong blob (drop i (held (blobsIn count blobs))))
@@ -49,10 +50,10 @@ loop-again c =
     let start = at-loop .before in
     let a = start .args in
     let at = at-loop .loop in
-    let old : length (a .t1) ≡ 640 = search needs in
-    let new : length (a .t3) ≡ 10 = search needs in
+    let old : length (a .t1) ≡ blobBytes = search needs in
+    let new : length (a .t3) ≡ blobWidth = search needs in
     let some : 0 < at .i = in-loop .loop-test .taken in
-    let below : at .i - 1 < 64 = omega (arith, some, at .inv .0, start .pre) in (
+    let below : at .i - 1 < blobLimit = omega (arith, some, at .inv .0, start .pre) in (
       omega (arith, at .inv .0),
       c .either .ensures
           ∙ ap₂ _or_ (c .before .equal-at .ensures ∙ compared (a .t1) (a .count) (start .pre) (a .t3) old new (at .i - 1) below) (at .inv .1)

@@ -6,6 +6,7 @@ use native.Mathlib.Omega.{arith}
 use borrow.Author.Needs.{needs}
 use Rattle.judging.proofs.blobs.one_blob.Statement.{statement}
 use Rattle.judging.proofs.blobs.one_blob.Tie as tie
+use Rattle.numbers.specs.Numbers.{blobWidth}
 
 slice-aggregate-copy-at : tie.Need-slice-aggregate-copy-at
 slice-aggregate-copy-at c = search needs
@@ -18,7 +19,7 @@ copy-at-requires c κs = search needs
 
 returns : tie.Need-returns
 returns c =
-    let wide : length (c .before .before .before .before .args .t1) ≡ 10 = search needs in
+    let wide : length (c .before .before .before .before .args .t1) ≡ blobWidth = search needs in
     (ap (blobsIn 1) (c .before .copy-at .ensures) ∙ one-written (c .before .before .before .before .args .t1) wide, omega arith)
 
 pub one-blob-spec : {M : Type 1} → statement M

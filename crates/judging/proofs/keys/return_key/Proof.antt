@@ -4,6 +4,7 @@ use Rattle.octets.specs.Part.{part}
 use borrow.Author.Needs.{needs}
 use Rattle.judging.proofs.keys.return_key.Statement.{statement}
 use Rattle.judging.proofs.keys.return_key.Tie as tie
+use Rattle.numbers.specs.Numbers.{addressWidth}
 
 hash-of-requires : tie.Need-hash-of-requires
 hash-of-requires c κs = search needs
@@ -16,7 +17,7 @@ address-at-requires c κs = search needs
 
 returns : tie.Need-returns
 unfolding part
-returns c = c .address-at .ensures ∙ ap (take 16) (c .before .before .hash-of .ensures)
+returns c = c .address-at .ensures ∙ ap (take addressWidth) (c .before .before .hash-of .ensures)
 
 pub return-key-spec : {M : Type 1} → statement M
 return-key-spec =

@@ -32,14 +32,15 @@ both-requires c κs = search needs
 
 returns : tie.Need-returns
 returns c =
-    let c3 = c .before .before .before in
-    let c4 = c3 .before in
-    let c5 = c4 .before in
-    let c6 = c5 .before in
-    let s = c6 .before .before .before .before in
-    let emitted = c3 .emission .ensures ∙ ap emissionOf (c4 .blob .ensures ∙ ap blobOf (c5 .payload .ensures)) in
+    let after-emission = c .before .before .before in
+    let after-blob = after-emission .before in
+    let after-payload = after-blob .before in
+    let after-greatest-emission = after-payload .before in
+    let s = after-greatest-emission .before .before .before .before in
+    let emitted = after-emission .emission .ensures ∙ ap emissionOf (after-blob .blob .ensures ∙ ap blobOf (after-payload .payload .ensures)) in
     c .both .ensures
-    ∙ ap₂ _and_ (ap₂ leb emitted (c6 .greatest-emission .ensures)) (ap (leb (s .args .seen .path .hops)) (sym (parts-hops (s .args .packet .now))))
+    ∙ ap₂ _and_ (ap₂ leb emitted (after-greatest-emission .greatest-emission .ensures))
+    (ap (leb (s .args .seen .path .hops)) (sym (parts-hops (s .args .packet .now))))
 
 pub not-better-spec : {M : Type 1} → statement M
 not-better-spec =

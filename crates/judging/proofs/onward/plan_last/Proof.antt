@@ -64,9 +64,9 @@ plan-leaving-requires c κs = search needs
 
 returns : tie.Need-returns
 returns c =
-    let c2 = c .before .before in
-    let s = c2 .before .before in
-    c .plan-leaving .ensures ∙ sym (past-known (v s) (a s) (w s) (sym (c2 .tested .ensures .made) ∙ not-true _ (c .before .if1 .taken)))
+    let after-tested = c .before .before in
+    let s = after-tested .before .before in
+    c .plan-leaving .ensures ∙ sym (past-known (v s) (a s) (w s) (sym (after-tested .tested .ensures .made) ∙ not-true _ (c .before .if1 .taken)))
 
 replay-requires : tie.Need-replay-requires
 replay-requires c κs = can-know c

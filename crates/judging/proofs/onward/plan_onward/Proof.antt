@@ -6,6 +6,7 @@ use lib.ListN.{length}
 use types.Run.{OneOf, miss}
 use denote.Enum.Declared.{tagOf}
 use Rattle.packet.specs.Read.{payload}
+use Rattle.packet.specs.Places.{blobEnd}
 use Rattle.rules.specs.Arrival.{Arrival}
 use Rattle.rules.specs.Tests.{badForm, noWayOn, whyBlocked}
 use Rattle.rules.specs.Ways.{Way, wayOn}
@@ -37,7 +38,7 @@ goes-on s a (Blocked why) is = absurd (miss onward 4 tt is)
 
 -- only an announce goes everywhere, and its form is good
 announced : (s : Seen) (a : Arrival) {w : SeenWay} → wayOf s a w ≡ wayOn (viewOf s a) a → badForm (a .bytes) ≡ false → w ≡ Everywhere
-    → 84 ≤ length (payload (a .bytes))
+    → blobEnd ≤ length (payload (a .bytes))
 announced s a e good is = announce-long a good (announce-way (viewOf s a) a _ (sym e ∙ ap (wayOf s a) is))
 
 way-on-requires : tie.Need-way-on-requires

@@ -13,6 +13,7 @@ use native.Mathlib.Omega.{arith}
 use borrow.Author.Needs.{needs}
 use Rattle.judging.proofs.sending.spread.Statement.{statement}
 use Rattle.judging.proofs.sending.spread.Tie as tie
+use Rattle.numbers.specs.Numbers.{addressWidth}
 
 returns : tie.Need-returns
 unfolding spreadVerdict leaves _then_otherwise_
@@ -25,7 +26,7 @@ returns-2 : tie.Need-returns-2
 unfolding spreadVerdict leaves _then_otherwise_
 returns-2 c =
     let start = c .before .before .before .before .before in
-    let own : length (start .args .own) ≡ 16 = search needs in (
+    let own : length (start .args .own) ≡ addressWidth = search needs in (
       sym (then-true _ _ (or-right _ (spread-exceeds (start .args .own) (start .args .packet .now) (start .pre .0 .readable) own longestPacket
           ∙ lt-ltb longestPacket (spreadLength (start .args .packet .now)) (omega (arith, c .before .spread-length .ensures, c .if2 .taken))))),
       refl,
@@ -45,7 +46,7 @@ returns-3 c =
     let after-spread-length = else2 .before in
     let else1 = after-spread-length .before in
     let start = else1 .before .before .before in
-    let own : length (start .args .own) ≡ 16 = search needs in
+    let own : length (start .args .own) ≡ addressWidth = search needs in
     let goes = or-no (ne-eqb _ 0 (else1 .if1 .left)) (spread-exceeds (start .args .own) (start .args .packet .now) (start .pre .0 .readable) own longestPacket
     ∙ le-ltb longestPacket (spreadLength (start .args .packet .now)) (omega (arith, after-spread-length .spread-length .ensures, else2 .if2 .left))) in
     (ap (Spread (start .args .ports)) (after-spread .spread .ensures .0) ∙ sym (then-false _ _ goes), after-spread .spread .ensures .1)

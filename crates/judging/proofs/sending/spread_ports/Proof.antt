@@ -7,12 +7,13 @@ use native.Mathlib.Omega.{arith}
 use borrow.Author.Needs.{needs}
 use Rattle.judging.proofs.sending.spread_ports.Statement.{statement}
 use Rattle.judging.proofs.sending.spread_ports.Tie as tie
+use Rattle.numbers.specs.Numbers.{portCount}
 
 abbrev Inv-loop : tie.InvT-loop
-Inv-loop ports arrival long set₀ i₀ set i = (i ≤ 16) × (set ≡ setBelow (spreadsTo ports arrival long) i)
+Inv-loop ports arrival long set₀ i₀ set i = (i ≤ portCount) × (set ≡ setBelow (spreadsTo ports arrival long) i)
 
 abbrev μ-loop : tie.MeasureT-loop
-μ-loop ports arrival long set₀ i₀ set i = 16 - i
+μ-loop ports arrival long set₀ i₀ set i = portCount - i
 
 loop-holds : tie.Need-loop-holds Inv-loop μ-loop
 loop-holds c = (omega arith, set-begin _)

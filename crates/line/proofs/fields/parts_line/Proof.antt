@@ -9,6 +9,7 @@ use native.Mathlib.Omega.{arith}
 use borrow.Author.Needs.{needs}
 use Rattle.line.proofs.fields.parts_line.Statement.{statement}
 use Rattle.line.proofs.fields.parts_line.Tie as tie
+use Rattle.packet.specs.Places.{addressWidth}
 
 type-line-requires : tie.Need-type-line-requires
 type-line-requires c κs = search needs
@@ -33,10 +34,10 @@ unfolding partsWords
 returns c =
     let q = c .before .before .before .before .before .before .before .before .args .parts in
     let good = c .before .before .before .before .before .before .before .before .good in
-    let destination-width : length (q .destination) ≡ 16 = search needs in
-    let relay-width : length (q .relay) ≡ 16 = search needs in
-    let c3 = c .before .before .before in
-    let start = c3 .before .before .before .before .before in
+    let destination-width : length (q .destination) ≡ addressWidth = search needs in
+    let relay-width : length (q .relay) ≡ addressWidth = search needs in
+    let after-with-way = c .before .before .before in
+    let start = after-with-way .before .before .before .before .before in
     let size = start .args .size in
     let h = q .header in
     let fit = parts-fit q size (omega arith) destination-width relay-width (start .pre) in
@@ -45,9 +46,9 @@ returns c =
       c .with-character .ensures,
       c .before .with-relay .ensures,
       c .before .before .with-payload .ensures,
-      c3 .with-way .ensures,
-      c3 .before .with-names .ensures,
-      c3 .before .before .type-line .ensures,
+      after-with-way .with-way .ensures,
+      after-with-way .before .with-names .ensures,
+      after-with-way .before .before .type-line .ensures,
     )
     (simp words-appended (line-appended (typeName h) words fit))
 

@@ -26,8 +26,8 @@ with-number-requires c κs = search needs
 
 returns : tie.Need-returns
 returns c =
-    let c3 = c .before .before .before in
-    rw (c .with-number .ensures, c .before .with-word2 .ensures, c3 .with-bytes .ensures, c3 .before .before .with-word .ensures)
+    let after-with-bytes = c .before .before .before in
+    rw (c .with-number .ensures, c .before .with-word2 .ensures, after-with-bytes .with-bytes .ensures, after-with-bytes .before .before .with-word .ensures)
     (simp words-appended)
 
 pub with-payload-spec : {M : Type 1} → statement M

@@ -28,8 +28,8 @@ with-bytes-requires c κs = search needs
 returns : tie.Need-returns
 unfolding relayWords _then_otherwise_
 returns c =
-    let c5 = c .before .before .before .before .before in
-    let two : typeTwo (c5 .before .args .header) ≡ true = sym (c5 .type-two .ensures) ∙ c .before .before .before .before .if1 .taken in
+    let after-type-two = c .before .before .before .before .before in
+    let two : typeTwo (after-type-two .before .args .header) ≡ true = sym (after-type-two .type-two .ensures) ∙ c .before .before .before .before .if1 .taken in
     rw (c .with-bytes .ensures, c .before .before .with-word .ensures, two, words-appended)
 
 returns-2 : tie.Need-returns-2

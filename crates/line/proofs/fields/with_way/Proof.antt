@@ -26,8 +26,8 @@ with-bytes-requires c κs = search needs
 
 returns : tie.Need-returns
 returns c =
-    let c4 = c .before .before .before .before in
-    rw (c .with-bytes .ensures, c .before .before .with-word2 .ensures, c4 .with-number .ensures, c4 .before .with-word .ensures)
+    let after-with-number = c .before .before .before .before in
+    rw (c .with-bytes .ensures, c .before .before .with-word2 .ensures, after-with-number .with-number .ensures, after-with-number .before .with-word .ensures)
     (simp words-appended)
 
 pub with-way-spec : {M : Type 1} → statement M

@@ -22,9 +22,9 @@ with-text-requires c κs = search needs
 returns : tie.Need-returns
 unfolding typeName _then_otherwise_
 returns c =
-    let c4 = c .before .before .before .before in
-    let two : typeTwo (c4 .before .args .header) ≡ true = sym (c .before .before .before .type-two .ensures) ∙ c .before .before .if1 .taken in
-    rw (c .with-text .ensures, c4 .empty .ensures, two)
+    let after-empty = c .before .before .before .before in
+    let two : typeTwo (after-empty .before .args .header) ≡ true = sym (c .before .before .before .type-two .ensures) ∙ c .before .before .if1 .taken in
+    rw (c .with-text .ensures, after-empty .empty .ensures, two)
 
 slice-aggregate-with-text-2 : tie.Need-slice-aggregate-with-text-2
 slice-aggregate-with-text-2 c = search needs
@@ -35,9 +35,9 @@ with-text-requires-2 c κs = search needs
 returns-2 : tie.Need-returns-2
 unfolding typeName _then_otherwise_
 returns-2 c =
-    let c4 = c .before .before .before .before in
-    let one : typeTwo (c4 .before .args .header) ≡ false = sym (c .before .before .before .type-two .ensures) ∙ c .before .before .if1 .left in
-    rw (c .with-text2 .ensures, c4 .empty .ensures, one)
+    let after-empty = c .before .before .before .before in
+    let one : typeTwo (after-empty .before .args .header) ≡ false = sym (c .before .before .before .type-two .ensures) ∙ c .before .before .if1 .left in
+    rw (c .with-text2 .ensures, after-empty .empty .ensures, one)
 
 pub type-line-spec : {M : Type 1} → statement M
 type-line-spec =

@@ -28,8 +28,8 @@ returns-3 : tie.Need-returns-3
 unfolding kindWord _then_otherwise_
 returns-3 c =
     let kind = c .before .before .before .before .before .before .before .before .args .kind in
-    let c2 = c .before .before in
-    rw (c .with-word3 .ensures, ne-eqb kind 0 (c2 .before .if1 .left), ne-eqb kind 1 (c2 .if2 .left), eq-eqb kind 2 (c .before .if3 .taken))
+    let else2 = c .before .before in
+    rw (c .with-word3 .ensures, ne-eqb kind 0 (else2 .before .if1 .left), ne-eqb kind 1 (else2 .if2 .left), eq-eqb kind 2 (c .before .if3 .taken))
 
 with-word-requires-4 : tie.Need-with-word-requires-4
 with-word-requires-4 c κs = search needs
@@ -38,8 +38,8 @@ returns-4 : tie.Need-returns-4
 unfolding kindWord _then_otherwise_
 returns-4 c =
     let kind = c .before .before .before .before .before .before .before .before .args .kind in
-    let c2 = c .before .before in
-    rw (c .with-word4 .ensures, ne-eqb kind 0 (c2 .before .if1 .left), ne-eqb kind 1 (c2 .if2 .left), ne-eqb kind 2 (c .before .if3 .left))
+    let else2 = c .before .before in
+    rw (c .with-word4 .ensures, ne-eqb kind 0 (else2 .before .if1 .left), ne-eqb kind 1 (else2 .if2 .left), ne-eqb kind 2 (c .before .if3 .left))
 
 pub with-kind-spec : {M : Type 1} → statement M
 with-kind-spec =

@@ -44,14 +44,14 @@ with-kind-requires-2 c κs = search needs
 
 returns : tie.Need-returns
 returns c =
-    let c5 = c .before .before .before .before .before in
-    let c10 = c5 .before .before .before .before .before in
+    let after-with-kind = c .before .before .before .before .before in
+    let after-with-transport = after-with-kind .before .before .before .before .before in
     rw (
       c .with-kind2 .ensures,
-      c5 .with-kind .ensures,
-      c10 .with-transport .ensures,
-      c10 .before .before .destination-kind .ensures,
-      c10 .before .packet-kind .ensures,
+      after-with-kind .with-kind .ensures,
+      after-with-transport .with-transport .ensures,
+      after-with-transport .before .before .destination-kind .ensures,
+      after-with-transport .before .packet-kind .ensures,
     )
     (simp words-appended)
 

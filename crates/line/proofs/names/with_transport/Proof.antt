@@ -19,8 +19,8 @@ with-word-requires c κs = search needs
 returns : tie.Need-returns
 unfolding transportName _then_otherwise_
 returns c =
-    let c3 = c .before .before .before in
-    let on : transport (c3 .before .args .header) ≡ true = sym (c3 .transport .ensures) ∙ c .before .before .if1 .taken in
+    let after-transport = c .before .before .before in
+    let on : transport (after-transport .before .args .header) ≡ true = sym (after-transport .transport .ensures) ∙ c .before .before .if1 .taken in
     rw (c .with-word .ensures, on)
 
 slice-aggregate-with-word-2 : tie.Need-slice-aggregate-with-word-2
@@ -32,8 +32,8 @@ with-word-requires-2 c κs = search needs
 returns-2 : tie.Need-returns-2
 unfolding transportName _then_otherwise_
 returns-2 c =
-    let c3 = c .before .before .before in
-    let off : transport (c3 .before .args .header) ≡ false = sym (c3 .transport .ensures) ∙ c .before .before .if1 .left in
+    let after-transport = c .before .before .before in
+    let off : transport (after-transport .before .args .header) ≡ false = sym (after-transport .transport .ensures) ∙ c .before .before .if1 .left in
     rw (c .with-word2 .ensures, off)
 
 pub with-transport-spec : {M : Type 1} → statement M

@@ -2,14 +2,15 @@ use Prim.Native.Nat.{ℕ, _+_, _*_, _%_, _≤_}
 use mathlib.Core.Path.{_≡_, sym, ap, _∙_}
 use lib.Dec.{lit≤}
 use lib.ListN.{length}
-use Rattle.octets.specs.BigEndian.{number}
+use Rattle.octets.specs.BigEndian.{number, wordWidth}
 use Rattle.octets.specs.Part.{part}
 use Rattle.octets.proofs.Bytes.{known-bytes}
 use Rattle.octets.proofs.Part.{part-part}
 use Rattle.packet.specs.Announce.{emissionOf}
+use Rattle.packet.specs.Places.{emissionWidth, randomWidth}
 use Rattle.tables.specs.Places.{blobWidth}
 use Rattle.tables.specs.Fields.{pathPlacesAt}
-use Rattle.lookup.proofs.HeldBlobs.{low-five}
+use Rattle.lookup.proofs.HeldBlobs.{emissionLimit, low-five, lastWordAt, emissionAt}
 use native.Mathlib.Omega.{arith}
 use borrow.Author.Needs.{needs}
 use Rattle.lookup.proofs.blobs.emission_at.Statement.{statement}
@@ -33,12 +34,12 @@ returns c =
     let a = c .before .before .args in
     let b = a .b .now in
     let at : ℕ = pathPlacesAt + blobWidth * a .i in
-    let fits : at + 2 + 8 ≤ length b = omega (arith, c .before .before .pre .0, c .before .before .pre .1) in
-    let place : at + 2 + 3 ≡ at + 5 = omega arith in
-    ap (λ (n : ℕ). n % 1099511627776) (c .number-of-8-at .ensures)
-    ∙ low-five b (at + 2) (known-bytes b (c .before .shared-slice-known .given)) fits
-    ∙ ap (λ (k : ℕ). number (part b k 5)) place
-    ∙ ap number (sym (part-part b at blobWidth 5 5 (lit≤ tt)))
+    let fits : at + lastWordAt + wordWidth ≤ length b = omega (arith, c .before .before .pre .0, c .before .before .pre .1) in
+    let place : at + lastWordAt + emissionAt ≡ at + randomWidth = omega arith in
+    ap (λ (n : ℕ). n % emissionLimit) (c .number-of-8-at .ensures)
+    ∙ low-five b (at + lastWordAt) (known-bytes b (c .before .shared-slice-known .given)) fits
+    ∙ ap (λ (k : ℕ). number (part b k emissionWidth)) place
+    ∙ ap number (sym (part-part b at blobWidth randomWidth emissionWidth (lit≤ tt)))
 
 pub emission-at-spec : {M : Type 1} → statement M
 emission-at-spec =

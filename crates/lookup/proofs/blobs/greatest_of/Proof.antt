@@ -40,10 +40,10 @@ loop-less c = search needs
 
 loop-again : tie.Need-loop-again Inv-loop μ-loop
 loop-again c =
-    let c3 = c .before .before .before in
-    let c6 = c3 .before .before .before in
-    let s = c6 in
-    let at = c3 in (
+    let at-loop = c .before .before .before in
+    let start = at-loop .before .before .before in
+    let s = start in
+    let at = at-loop in (
       search needs,
       c .greater .ensures ∙ ap₂ (λ (p q : ℕ). greatest p q) (c .before .emission-at .ensures) (at .loop .inv .1) ∙ held-more
           (s .args .b .now) (s .pre .1) (at .loop .i) (c .before .before .loop-test .taken) (at .loop .inv .0),

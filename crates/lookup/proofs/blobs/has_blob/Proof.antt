@@ -45,17 +45,17 @@ add-is-blob c = search needs
 is-blob-requires : tie.Need-is-blob-requires Inv-loop μ-loop
 unfolding blobsOf
 is-blob-requires c κs =
-    let c3 = c .before .before .before in
-    let s = c3 .before .before .before in
-    (search needs, search needs, c3 .word-at .ensures ∙ last-of (s .args .blob .now) (s .pre .1))
+    let after-word-at = c .before .before .before in
+    let s = after-word-at .before .before .before in
+    (search needs, search needs, after-word-at .word-at .ensures ∙ last-of (s .args .blob .now) (s .pre .1))
 
 returns : tie.Need-returns Inv-loop μ-loop
 unfolding held blobsOf
 returns c =
-    let c3 = c .before .before .before in
-    let s = c3 .before .before .before .before .before in
+    let at-loop = c .before .before .before in
+    let s = at-loop .before .before .before .before .before in
     let a = s .args in
-    let i = c3 .loop .i in
+    let i = at-loop .loop .i in
     let l : i < blobLimit = omega arith in
     sym (blob-here (a .b .now) (a .blob .now) (s .pre .0) (s .pre .1) i l (c .before .is-blob .ensures) (blobsOf (a .b .now) .count)
     (c .before .before .loop-test .taken) (c .if1 .taken))

@@ -12,9 +12,9 @@ word-at-requires c κs = search needs
 
 returns : tie.Need-returns
 returns c =
-    let c4 = c .before .before .before .before in
-    let a = c4 .args in
-    other-blob (a .b .now) (a .blob .now) (a .at) (c4 .pre .0) (c4 .pre .1) (λ q. c .if1 .taken (c .before .word-at .ensures ∙ q ∙ sym (c4 .pre .2)))
+    let start = c .before .before .before .before in
+    let a = start .args in
+    other-blob (a .b .now) (a .blob .now) (a .at) (start .pre .0) (start .pre .1) (λ q. c .if1 .taken (c .before .word-at .ensures ∙ q ∙ sym (start .pre .2)))
 
 equal-at-requires : tie.Need-equal-at-requires
 equal-at-requires c κs = search needs

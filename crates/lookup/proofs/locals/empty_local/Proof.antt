@@ -29,12 +29,12 @@ shared-slice-read-if1 c = search needs
 
 returns : tie.Need-returns Inv-loop μ-loop
 returns c =
-    let c3 = c .before .before .before in
-    let c4 = c3 .before in
-    let c6 = c4 .before .before in
-    let s = c6 in
-    let at = c4 in
-    found-here _ _ _ _ _ (c .before .before .record-at .ensures .0) refl localCount (c3 .loop-test .taken) (eq-eqb _ _ (c .if1 .taken))
+    let in-loop = c .before .before .before in
+    let at-loop = in-loop .before in
+    let start = at-loop .before .before in
+    let s = start in
+    let at = at-loop in
+    found-here _ _ _ _ _ (c .before .before .record-at .ensures .0) refl localCount (in-loop .loop-test .taken) (eq-eqb _ _ (c .if1 .taken))
     (at .loop .inv .1) ∙ empty-lowest (s .args .tables .now)
 
 add-i : tie.Need-add-i Inv-loop μ-loop

@@ -26,13 +26,13 @@ has-key-requires c κs = search needs
 
 returns : tie.Need-returns Inv-loop μ-loop
 returns c =
-    let c3 = c .before .before .before in
-    let c4 = c3 .before in
-    let c7 = c4 .before .before .before in
-    let s = c7 in
-    let at = c4 in
+    let in-loop = c .before .before .before in
+    let at-loop = in-loop .before in
+    let start = at-loop .before .before .before in
+    let s = start in
+    let at = at-loop in
     let a = s .args in
-    found-here _ _ _ _ _ (c .before .before .record-at .ensures .0) (c .before .has-key .ensures) localCount (c3 .loop-test .taken) (c .if1 .taken)
+    found-here _ _ _ _ _ (c .before .before .record-at .ensures .0) (c .before .has-key .ensures) localCount (in-loop .loop-test .taken) (c .if1 .taken)
     (at .loop .inv .1) ∙ local-lowest (a .tables .now) (a .address .now) (s .pre .1)
 
 add-i : tie.Need-add-i Inv-loop μ-loop

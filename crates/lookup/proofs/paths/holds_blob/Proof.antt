@@ -17,8 +17,8 @@ slice-aggregate-has-blob c = search needs
 has-blob-requires : tie.Need-has-blob-requires
 unfolding pathOf blobsOf
 has-blob-requires c κs =
-    let c3 = c .before .before .before in
-    (search needs, search needs, subst (λ (b : List ℕ). blobsOf b .count ≤ blobLimit) (sym (c .before .record-at .ensures .0)) (c3 .pre .2))
+    let start = c .before .before .before in
+    (search needs, search needs, subst (λ (b : List ℕ). blobsOf b .count ≤ blobLimit) (sym (c .before .record-at .ensures .0)) (start .pre .2))
 
 returns : tie.Need-returns
 unfolding pathOf blobsOf

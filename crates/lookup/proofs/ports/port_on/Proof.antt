@@ -23,8 +23,8 @@ shared-slice-read-result c = search needs
 
 returns-2 : tie.Need-returns-2
 returns-2 c =
-    let c4 = c .before .before .before .before in
-    let s = c4 in
+    let start = c .before .before .before .before in
+    let s = start in
     ap (λ (b : List ℕ). eqb (getD b 0 0) 1) (c .before .record-at .ensures .0) ∙ sym
     (on-seen (s .args .tables .now) (s .args .port) (c .before .before .if1 .left))
 

@@ -28,10 +28,10 @@ is-live-requires c κs = search needs
 
 returns : tie.Need-returns Inv-loop μ-loop
 returns c =
-    let c3 = c .before .before .before in
-    let c4 = c3 .before in
-    let at = c4 in
-    found-here _ _ _ _ _ (c .before .before .record-at .ensures .0) (ap not (c .before .is-live .ensures)) _ (c3 .loop-test .taken) (c .if1 .taken)
+    let in-loop = c .before .before .before in
+    let at-loop = in-loop .before in
+    let at = at-loop in
+    found-here _ _ _ _ _ (c .before .before .record-at .ensures .0) (ap not (c .before .is-live .ensures)) _ (in-loop .loop-test .taken) (c .if1 .taken)
     (at .loop .inv .1)
 
 add-i : tie.Need-add-i Inv-loop μ-loop

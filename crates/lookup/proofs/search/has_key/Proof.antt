@@ -23,8 +23,8 @@ equal-at-requires c κs = search needs
 returns-2 : tie.Need-returns-2
 unfolding hasKey isUsed _and_
 returns-2 c =
-    let c5 = c .before .before .before .before .before in
-    let s = c5 in
+    let start = c .before .before .before .before .before in
+    let s = start in
     let a = s .args in
     let b = a .b .now in
     let key = a .key .now in

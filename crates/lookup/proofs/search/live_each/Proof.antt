@@ -34,9 +34,9 @@ loop-holds c = (search needs, none-yet _ _ _ _, omega arith)
 
 add-is-live-of : tie.Need-add-is-live-of Inv-loop μ-loop
 add-is-live-of c =
-    let c4 = c .before .before .before .before in
-    let a = c4 .args in
-    let w = within (a .tables .now) (a .at) (a .width) (a .count) (c .before .loop .i) (c .before .loop .from) (c4 .pre .0) (c .loop-test .taken)
+    let start = c .before .before .before .before in
+    let a = start .args in
+    let w = within (a .tables .now) (a .at) (a .width) (a .count) (c .before .loop .i) (c .before .loop .from) (start .pre .0) (c .loop-test .taken)
     (c .before .loop .inv .2) in
     search needs
 
@@ -48,37 +48,39 @@ part-is-live-of-start c = search needs
 
 part-is-live-of-end : tie.Need-part-is-live-of-end Inv-loop μ-loop
 part-is-live-of-end c =
-    let c4 = c .before .before .before .before in
-    let a = c4 .args in
-    let w = within (a .tables .now) (a .at) (a .width) (a .count) (c .before .loop .i) (c .before .loop .from) (c4 .pre .0) (c .loop-test .taken)
+    let start = c .before .before .before .before in
+    let a = start .args in
+    let w = within (a .tables .now) (a .at) (a .width) (a .count) (c .before .loop .i) (c .before .loop .from) (start .pre .0) (c .loop-test .taken)
     (c .before .loop .inv .2) in
     search needs
 
 is-live-of-requires : tie.Need-is-live-of-requires Inv-loop μ-loop
 is-live-of-requires c κs =
-    let c5 = c .before .before .before .before .before in
-    let a = c5 .args in
-    let w = within (a .tables .now) (a .at) (a .width) (a .count) (c .before .before .loop .i) (c .before .before .loop .from) (c5 .pre .0)
+    let start = c .before .before .before .before .before in
+    let a = start .args in
+    let w = within (a .tables .now) (a .at) (a .width) (a .count) (c .before .before .loop .i) (c .before .before .loop .from) (start .pre .0)
     (c .before .loop-test .taken) (c .before .before .loop .inv .2) in
     let wide = range-length (a .tables .now) (c .before .before .loop .from) (a .width) w in
-    (omega (arith, wide, c5 .pre .1), omega (arith, wide, c5 .pre .2), c5 .pre .3, c5 .pre .4)
+    (omega (arith, wide, start .pre .1), omega (arith, wide, start .pre .2), start .pre .3, start .pre .4)
 
 returns : tie.Need-returns Inv-loop μ-loop
 returns c =
-    let c3 = c .before .before .before in
-    let c4 = c3 .before in
-    let c7 = c4 .before .before .before in
-    let a = c7 .args in
-    found-here _ _ _ _ _ (lent-record (a .tables .now) (a .at) (a .width) (c4 .loop .i) (c4 .loop .from) (c4 .loop .inv .2)) (c .before .is-live-of .ensures)
-    _ (c3 .loop-test .taken) (c .if1 .taken) (c4 .loop .inv .1)
+    let in-loop = c .before .before .before in
+    let at-loop = in-loop .before in
+    let start = at-loop .before .before .before in
+    let a = start .args in
+    found-here _ _ _ _ _ (lent-record (a .tables .now) (a .at) (a .width) (at-loop .loop .i) (at-loop .loop .from) (at-loop .loop .inv .2))
+    (c .before .is-live-of .ensures)
+    _ (in-loop .loop-test .taken) (c .if1 .taken) (at-loop .loop .inv .1)
 
 add-from : tie.Need-add-from Inv-loop μ-loop
 add-from c =
-    let c3 = c .before .before .before in
-    let c4 = c3 .before in
-    let c7 = c4 .before .before .before in
-    let a = c7 .args in
-    let w = within (a .tables .now) (a .at) (a .width) (a .count) (c4 .loop .i) (c4 .loop .from) (c7 .pre .0) (c3 .loop-test .taken) (c4 .loop .inv .2) in
+    let in-loop = c .before .before .before in
+    let at-loop = in-loop .before in
+    let start = at-loop .before .before .before in
+    let a = start .args in
+    let w = within (a .tables .now) (a .at) (a .width) (a .count) (at-loop .loop .i) (at-loop .loop .from) (start .pre .0) (in-loop .loop-test .taken)
+    (at-loop .loop .inv .2) in
     search needs
 
 add-i : tie.Need-add-i Inv-loop μ-loop
@@ -89,13 +91,14 @@ loop-less c = search needs
 
 loop-again : tie.Need-loop-again Inv-loop μ-loop
 loop-again c =
-    let c4 = c .before .before .before .before in
-    let c7 = c4 .before .before .before in
-    let a = c7 .args in (
+    let at-loop = c .before .before .before .before in
+    let start = at-loop .before .before .before in
+    let a = start .args in (
       search needs,
-      not-here _ _ _ _ _ (lent-record (a .tables .now) (a .at) (a .width) (c4 .loop .i) (c4 .loop .from) (c4 .loop .inv .2)) (c .before .is-live-of .ensures)
-          (c .if1 .left) (c4 .loop .inv .1),
-      omega (arith, c4 .loop .inv .2, mul-suc (a .width) (c4 .loop .i)),
+      not-here _ _ _ _ _ (lent-record (a .tables .now) (a .at) (a .width) (at-loop .loop .i) (at-loop .loop .from) (at-loop .loop .inv .2))
+          (c .before .is-live-of .ensures)
+          (c .if1 .left) (at-loop .loop .inv .1),
+      omega (arith, at-loop .loop .inv .2, mul-suc (a .width) (at-loop .loop .i)),
     )
 
 returns-2 : tie.Need-returns-2 Inv-loop μ-loop

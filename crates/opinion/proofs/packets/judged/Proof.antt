@@ -1,17 +1,17 @@
-use Rattle.opinion.proofs.Judged.{verdict-so, output-so}
+use Rattle.log.proofs.Judged.{verdict-so, output-so}
 use mathlib.Core.Path.{_∙_}
 use borrow.Author.Needs.{needs}
 use Rattle.opinion.proofs.packets.judged.Statement.{statement}
 use Rattle.opinion.proofs.packets.judged.Tie as tie
 
-slice-aggregate-outcomes : tie.Need-slice-aggregate-outcomes
-slice-aggregate-outcomes c = search needs
+slice-aggregate-write-outcomes : tie.Need-slice-aggregate-write-outcomes
+slice-aggregate-write-outcomes c = search needs
 
-slice-aggregate-outcomes-2 : tie.Need-slice-aggregate-outcomes-2
-slice-aggregate-outcomes-2 c = search needs
+slice-aggregate-write-outcomes-2 : tie.Need-slice-aggregate-write-outcomes-2
+slice-aggregate-write-outcomes-2 c = search needs
 
-outcomes-requires : tie.Need-outcomes-requires
-outcomes-requires c κs =
+write-outcomes-requires : tie.Need-write-outcomes-requires
+write-outcomes-requires c κs =
     let start = c .before .before .before .before .before in
     (start .pre .0, start .pre .1, search needs, search needs)
 
@@ -26,9 +26,9 @@ slice-aggregate-seen-2 c = search needs
 
 seen-requires : tie.Need-seen-requires
 seen-requires c κs =
-    let after-outcomes = c .before .before .before .before .before in
-    let start = after-outcomes .before .before .before .before .before .before in
-    let (can-ask, long, kept) = after-outcomes .outcomes .ensures in
+    let after-write-outcomes = c .before .before .before .before .before in
+    let start = after-write-outcomes .before .before .before .before .before .before in
+    let (can-ask, long, kept) = after-write-outcomes .write-outcomes .ensures in
     ((can-ask, long, kept, start .pre .2, start .pre .3, start .pre .4), c .before .before .hash-of .ensures)
 
 plan-of-requires : tie.Need-plan-of-requires
@@ -54,9 +54,9 @@ pub judged-spec : {M : Type 1} → statement M
 judged-spec =
     tie.close
     (tie.spec
-    slice-aggregate-outcomes
-    slice-aggregate-outcomes-2
-    outcomes-requires
+    slice-aggregate-write-outcomes
+    slice-aggregate-write-outcomes-2
+    write-outcomes-requires
     hash-of-requires
     slice-aggregate-seen
     slice-aggregate-seen-2

@@ -1,5 +1,5 @@
 use Rattle.opinion.proofs.Settled.{full, refused, accepted, none-of-two}
-use Rattle.opinion.specs.Log.{knownIn}
+use Rattle.log.specs.Log.{knownIn}
 use Rattle.history.specs.Opinion.{clockBad, callRows}
 use Rattle.history.specs.Known.{seenAt}
 use Rattle.rules.specs.Tests.{isThere}

@@ -1,6 +1,6 @@
-use Rattle.opinion.proofs.Settled.{Accepted, accepted-packet, packet-refused, packet-judged}
+use Rattle.opinion.proofs.Settled.{NotRefused, accepted-packet, packet-refused, packet-judged}
 use Rattle.opinion.specs.Steps.{arrivalBy}
-use Rattle.opinion.specs.Log.{ownIn, entriesOf}
+use Rattle.log.specs.Log.{ownIn, entriesOf}
 use Rattle.rules.specs.Arrival.{Arrival}
 use Rattle.history.specs.Opinion.{packetRefused}
 use borrow.Author.Tests.{eq-eqb}
@@ -14,6 +14,7 @@ use native.Mathlib.Omega.{arith}
 use borrow.Author.Needs.{needs}
 use Rattle.opinion.proofs.packets.take_packet.Statement.{statement}
 use Rattle.opinion.proofs.packets.take_packet.Tie as tie
+use Rattle.numbers.specs.Numbers.{portCount}
 
 -- ---- the packet that came, the log that it finds and the room that it lends
 abbrev came : tie.Start → Arrival
@@ -45,7 +46,7 @@ refusal-so c = c .packet-refusal .ensures (first c .args .signed)
 none : (c : tie.Else1) → eqb (refusal (first (c .before)) (count (c .before))) 0 ≡ true
 none c = eq-eqb _ 0 (sym (refusal-so (c .before)) ∙ c .if1 .left)
 
-fine : (c : tie.Else1) → Accepted (log (first (c .before))) (count (c .before)) (came (first (c .before))) (room (first (c .before)))
+fine : (c : tie.Else1) → NotRefused (log (first (c .before))) (count (c .before)) (came (first (c .before))) (room (first (c .before)))
 fine c = accepted-packet _ _ _ _ (none c)
 
 listed-requires : tie.Need-listed-requires
@@ -61,7 +62,7 @@ returns c =
 
 cast-t17 : tie.Need-cast-t17
 cast-t17 c =
-    let small : first (c .before) .args .port < 16 = fine c .port in
+    let small : first (c .before) .args .port < portCount = fine c .port in
     record { fits = omega arith }
 
 judged-requires : tie.Need-judged-requires

@@ -1,6 +1,6 @@
 use Rattle.opinion.proofs.Settled.{full, refused, accepted, none-of-two}
 use lib.Dec.{leb}
-use Rattle.opinion.specs.Log.{knownIn}
+use Rattle.log.specs.Log.{knownIn}
 use Rattle.history.specs.Opinion.{callRows}
 use Rattle.octets.proofs.Listed.{here, past}
 use mathlib.Core.Path.{refl, sym, ap, _∙_}
@@ -10,6 +10,7 @@ use native.Mathlib.Omega.{arith}
 use borrow.Author.Needs.{needs}
 use Rattle.opinion.proofs.settings.add_local.Statement.{statement}
 use Rattle.opinion.proofs.settings.add_local.Tie as tie
+use Rattle.numbers.specs.Numbers.{localCount}
 
 listed-requires : tie.Need-listed-requires
 listed-requires c κs = search needs
@@ -42,8 +43,8 @@ returns-3 c =
     refused _ _ (omega (arith, after-listed .listed .ensures .0)) 10
     (past _ _ _ _ (ap (λ (m : ℕ). knownIn (start .args .log .now) m .local (start .args .address)) (sym
     (after-listed .listed .ensures .0)) ∙ sym (after-is-local .is-local .ensures) ∙ else2 .if2 .left)
-    ∙ here _ _ _ _ (ap (λ (m : ℕ). leb 16 (knownIn (start .args .log .now) m .locals)) (sym (after-listed .listed .ensures .0))
-    ∙ ap (leb 16) (sym (c .before .local-number .ensures)) ∙ le-leb _ _ (c .if3 .taken))) (eqb-false 10 0 refl)
+    ∙ here _ _ _ _ (ap (λ (m : ℕ). leb localCount (knownIn (start .args .log .now) m .locals)) (sym (after-listed .listed .ensures .0))
+    ∙ ap (leb localCount) (sym (c .before .local-number .ensures)) ∙ le-leb _ _ (c .if3 .taken))) (eqb-false 10 0 refl)
 
 put-added-requires : tie.Need-put-added-requires
 put-added-requires c κs = (search needs, omega arith)
@@ -58,8 +59,8 @@ returns-4 c =
     let start = after-listed .before .before .before in
     accepted _ _ (omega (arith, after-listed .listed .ensures .0)) (none-of-two _ _ 11 10 (ap (λ (m : ℕ). knownIn (start .args .log .now) m .local
     (start .args .address)) (sym (after-listed .listed .ensures .0)) ∙ sym (after-is-local .is-local .ensures)
-    ∙ else2 .if2 .left) (ap (λ (m : ℕ). leb 16 (knownIn (start .args .log .now) m .locals)) (sym (after-listed .listed .ensures .0))
-    ∙ ap (leb 16) (sym (after-local-number .local-number .ensures))
+    ∙ else2 .if2 .left) (ap (λ (m : ℕ). leb localCount (knownIn (start .args .log .now) m .locals)) (sym (after-listed .listed .ensures .0))
+    ∙ ap (leb localCount) (sym (after-local-number .local-number .ensures))
     ∙ lt-leb _ _ (c .before .before .if3 .left))) (after-listed .listed .result) (after-listed .listed .ensures .0) _ (c .put-added .ensures)
 
 pub add-local-spec : {M : Type 1} → statement M

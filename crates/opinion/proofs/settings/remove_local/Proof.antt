@@ -1,6 +1,6 @@
 use Rattle.opinion.proofs.Settled.{full, refused, accepted, none-of-one}
 use mathlib.Core.Bool.{not}
-use Rattle.opinion.specs.Log.{knownIn}
+use Rattle.log.specs.Log.{knownIn}
 use Rattle.history.specs.Opinion.{callRows}
 use Rattle.octets.proofs.Listed.{here}
 use mathlib.Core.Path.{refl, sym, ap, _∙_}

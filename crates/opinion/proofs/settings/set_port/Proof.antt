@@ -10,6 +10,7 @@ use Prim.Native.Nat.{_<_}
 use borrow.Author.Needs.{needs}
 use Rattle.opinion.proofs.settings.set_port.Statement.{statement}
 use Rattle.opinion.proofs.settings.set_port.Tie as tie
+use Rattle.numbers.specs.Numbers.{portCount, modeCount}
 
 listed-requires : tie.Need-listed-requires
 listed-requires c κs = search needs
@@ -29,13 +30,13 @@ returns-2 c =
 cast-put-port : tie.Need-cast-put-port
 cast-put-port c =
     let fine = (sym (c .before .before .setting-bad .ensures) ∙ c .before .if2 .left) in
-    let small : c .before .before .before .before .before .before .before .args .port < 16 = leb-false _ _ (or-no-left _ _ fine) in
+    let small : c .before .before .before .before .before .before .before .args .port < portCount = leb-false _ _ (or-no-left _ _ fine) in
     record { fits = omega arith }
 
 cast-put-port-2 : tie.Need-cast-put-port-2
 cast-put-port-2 c =
     let fine = (sym (c .before .before .setting-bad .ensures) ∙ c .before .if2 .left) in
-    let small : c .before .before .before .before .before .before .before .args .mode < 3 = leb-false _ _ (or-no-left _ _ (or-no-right _ _ fine)) in
+    let small : c .before .before .before .before .before .before .before .args .mode < modeCount = leb-false _ _ (or-no-left _ _ (or-no-right _ _ fine)) in
     record { fits = omega arith }
 
 put-port-requires : tie.Need-put-port-requires

@@ -1,4 +1,5 @@
 use Rattle.opinion.specs.Steps.{withEntry}
+use Rattle.log.specs.Log.{bodyAt, countAt, entriesAt, entryWidth}
 use Rattle.octets.proofs.Part.{patch-join}
 use Rattle.octets.specs.Part.{patch}
 use lib.ListN.{length}
@@ -50,12 +51,12 @@ returns c =
     let n : ℕ = start .args .n in
     let head = start .args .t3 in
     let body = start .args .body .now in
-    let wide : length head ≡ 11 = search needs in
+    let wide : length head ≡ bodyAt = search needs in
     c .before .before .set-at .ensures
-    ∙ ap (λ (t : List ℕ). patch t 16 ((n + 1) ∷ []))
+    ∙ ap (λ (t : List ℕ). patch t countAt ((n + 1) ∷ []))
     (after-copy-at2 .copy-at2 .ensures
-    ∙ ap (λ (t : List ℕ). patch t (17 + 511 * n + 11) body) (after-copy-at .copy-at .ensures)
-    ∙ patch-join log (17 + 511 * n) (17 + 511 * n + 11) head body (omega arith) (omega arith))
+    ∙ ap (λ (t : List ℕ). patch t (entriesAt + entryWidth * n + bodyAt) body) (after-copy-at .copy-at .ensures)
+    ∙ patch-join log (entriesAt + entryWidth * n) (entriesAt + entryWidth * n + bodyAt) head body (omega arith) (omega arith))
 
 pub put-entry-spec : {M : Type 1} → statement M
 put-entry-spec =

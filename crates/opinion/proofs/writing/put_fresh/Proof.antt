@@ -1,5 +1,6 @@
 use Rattle.opinion.proofs.Written.{fresh-log}
 use Rattle.opinion.specs.Calls.{IsFresh}
+use Rattle.log.specs.Log.{countAt}
 use Rattle.octets.specs.Part.{patch}
 use lib.ListN.{length}
 use mathlib.Core.Path.{_≡_, sym, ap, subst, _∙_}
@@ -8,6 +9,7 @@ use Prim.Native.Nat.{ℕ}
 use borrow.Author.Needs.{needs}
 use Rattle.opinion.proofs.writing.put_fresh.Statement.{statement}
 use Rattle.opinion.proofs.writing.put_fresh.Tie as tie
+use Rattle.numbers.specs.Numbers.{addressWidth}
 
 slice-aggregate-copy-at : tie.Need-slice-aggregate-copy-at
 slice-aggregate-copy-at c = search needs
@@ -25,9 +27,9 @@ returns : tie.Need-returns
 returns c =
     let after-copy-at = c .before .before .before .before .before .before in
     let start = after-copy-at .before .before .before .before in
-    let wide : length (start .args .t2) ≡ 16 = search needs in
+    let wide : length (start .args .t2) ≡ addressWidth = search needs in
     subst (IsFresh (start .args .t2)) (sym (c .before .before .set-at .ensures
-    ∙ ap (λ (t : List ℕ). patch t 16 (0 ∷ [])) (after-copy-at .copy-at .ensures))) (fresh-log (start .args .log .now) (start .args .t2) (start .pre) wide)
+    ∙ ap (λ (t : List ℕ). patch t countAt (0 ∷ [])) (after-copy-at .copy-at .ensures))) (fresh-log (start .args .log .now) (start .args .t2) (start .pre) wide)
 
 pub put-fresh-spec : {M : Type 1} → statement M
 put-fresh-spec =

@@ -9,6 +9,7 @@ use mathlib.Core.Path.{_≡_, sym, ap, subst, _∙_}
 use borrow.Author.Needs.{needs}
 use Rattle.opinion.proofs.writing.put_map.Statement.{statement}
 use Rattle.opinion.proofs.writing.put_map.Tie as tie
+use Rattle.numbers.specs.Numbers.{portCount}
 
 head-of-requires : tie.Need-head-of-requires
 head-of-requires c κs = search needs
@@ -28,11 +29,11 @@ returns c =
     let start = after-head-of .before .before in
     let log = start .args .log .now in
     let n : ℕ = start .args .n in
-    let address = start .args .t3 in
-    let wide : length address ≡ 16 = search needs in
-    subst (Adds log n (called (renumbers address)))
-    (sym (c .before .before .put-entry .ensures ∙ ap (λ (h : List ℕ). withEntry log n (h ++ address)) (after-head-of .head-of .ensures)))
-    (map-put log n (start .pre .0) (start .pre .1) address wide (start .pre .2))
+    let images = start .args .t3 in
+    let wide : length images ≡ portCount = search needs in
+    subst (Adds log n (called (renumbers images)))
+    (sym (c .before .before .put-entry .ensures ∙ ap (λ (h : List ℕ). withEntry log n (h ++ images)) (after-head-of .head-of .ensures)))
+    (map-put log n (start .pre .0) (start .pre .1) images wide (start .pre .2))
 
 pub put-map-spec : {M : Type 1} → statement M
 put-map-spec =

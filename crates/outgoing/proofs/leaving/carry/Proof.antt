@@ -35,13 +35,13 @@ same-length c = search needs
 
 returns : tie.Need-returns
 returns c =
-    let c7 = c .before .before .before .before .before .before .before in
-    let s = c7 .before .before .before .before in
+    let after-copy-at = c .before .before .before .before .before .before .before in
+    let s = after-copy-at .before .before .before .before in
     let p = s .args .packet .now in
     let two : 1 < length p = omega (arith, long longestPacket p (s .pre .0 .readable)) in (
       sym (carried-length p),
       c .before .before .set-at .ensures
-          ∙ ap (λ (o : List ℕ). patch o 1 ((getD p 1 0 + 1) ∷ [])) (c7 .copy-at .ensures)
+          ∙ ap (λ (o : List ℕ). patch o 1 ((getD p 1 0 + 1) ∷ [])) (after-copy-at .copy-at .ensures)
           ∙ carried-written p (s .args .output .now) two,
     )
 

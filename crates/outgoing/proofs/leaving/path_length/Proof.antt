@@ -8,6 +8,7 @@ use Rattle.octets.proofs.Choice.{then-true, then-false}
 use Rattle.outgoing.specs.Leaving.{pathLength}
 use Rattle.outgoing.proofs.leaving.path_length.Statement.{statement}
 use Rattle.outgoing.proofs.leaving.path_length.Tie as tie
+use Rattle.packet.specs.Places.{typeOneStart}
 
 payload-requires : tie.Need-payload-requires
 payload-requires c κs = search needs
@@ -17,7 +18,7 @@ add-result c = search needs
 
 returns : tie.Need-returns
 unfolding pathLength
-returns c = ap (λ (b : List ℕ). 19 + length b) (c .payload .ensures) ∙ sym (then-true _ _ (eq-eqb _ 0 (c .before .if1 .taken)))
+returns c = ap (λ (b : List ℕ). typeOneStart + length b) (c .payload .ensures) ∙ sym (then-true _ _ (eq-eqb _ 0 (c .before .if1 .taken)))
 
 returns-2 : tie.Need-returns-2
 unfolding pathLength

@@ -13,6 +13,7 @@ use borrow.Author.Needs.{needs}
 use Rattle.packet.specs.Read.{longestPacket}
 use Rattle.outgoing.proofs.leaving.rewrite.Statement.{statement}
 use Rattle.outgoing.proofs.leaving.rewrite.Tie as tie
+use Rattle.numbers.specs.Numbers.{addressWidth}
 
 rewritten-parts-requires : tie.Need-rewritten-parts-requires
 rewritten-parts-requires c κs = search needs
@@ -22,9 +23,9 @@ payload-requires c κs = search needs
 
 write-packet-requires : tie.Need-write-packet-requires
 write-packet-requires c κs =
-    let c2 = c .before .before in
-    let start = ap (λ (q : Parts). payloadStart (q .header)) (c2 .rewritten-parts .ensures) in
-    omega (arith, start, ap length (c .before .payload .ensures), c2 .before .before .before .pre .1)
+    let after-rewritten-parts = c .before .before in
+    let start = ap (λ (q : Parts). payloadStart (q .header)) (after-rewritten-parts .rewritten-parts .ensures) in
+    omega (arith, start, ap length (c .before .payload .ensures), after-rewritten-parts .before .before .before .pre .1)
 
 payload-start-requires : tie.Need-payload-start-requires
 payload-start-requires c κs = search needs
@@ -38,15 +39,15 @@ same-length c = search needs
 returns : tie.Need-returns
 unfolding rewritten
 returns c =
-    let c3 = c .before .before .before in
-    let c5 = c3 .before .before in
-    let s = c5 .before .before .before .before in
+    let after-write-packet = c .before .before .before in
+    let after-payload = after-write-packet .before .before in
+    let s = after-payload .before .before .before .before in
     let a = s .args in
-    let wide : length (a .relay) ≡ 16 = search needs in
+    let wide : length (a .relay) ≡ addressWidth = search needs in
     let long = rewritten-length longestPacket (a .packet .now) (s .pre .0 .readable) (a .header) (a .relay) wide in
     let packet : Parts → List ℕ → List ℕ = λ q b. patch (a .output .now) 0 (packetOf q b) in (
-      ap₂ (λ (k : ℕ) (b : List ℕ). k + length b) (c .payload-start .ensures) (c5 .payload .ensures) ∙ sym long,
-      c3 .write-packet .ensures ∙ ap₂ packet (c5 .before .rewritten-parts .ensures) (c5 .payload .ensures),
+      ap₂ (λ (k : ℕ) (b : List ℕ). k + length b) (c .payload-start .ensures) (after-payload .payload .ensures) ∙ sym long,
+      after-write-packet .write-packet .ensures ∙ ap₂ packet (after-payload .before .rewritten-parts .ensures) (after-payload .payload .ensures),
     )
 
 pub rewrite-spec : {M : Type 1} → statement M

@@ -14,8 +14,10 @@ use Rattle.outgoing.proofs.LeavingLaws.{long, spread-result, spread-wri
 use native.Mathlib.Omega.{arith}
 use borrow.Author.Needs.{needs}
 use Rattle.packet.specs.Read.{longestPacket}
+use Rattle.packet.specs.Places.{typeTwoStart}
 use Rattle.outgoing.proofs.leaving.spread.Statement.{statement}
 use Rattle.outgoing.proofs.leaving.spread.Tie as tie
+use Rattle.numbers.specs.Numbers.{addressWidth}
 
 shared-slice-read-spread-header : tie.Need-shared-slice-read-spread-header
 shared-slice-read-spread-header c = let s = c .before .before .before in omega (arith, long longestPacket (s .args .packet .now) (s .pre .0 .readable))
@@ -38,9 +40,10 @@ part-write-packet-end c = search needs
 write-packet-requires : tie.Need-write-packet-requires
 unfolding spreadLength
 write-packet-requires c κs =
-    let c2 = c .before .before in
-    let s = c2 .before .before .before .before .before in
-    let start = ap (λ (q : Parts). payloadStart (q .header)) (c2 .rewritten-parts .ensures) ∙ ap payloadStart (c2 .before .spread-header .ensures) in
+    let after-rewritten-parts = c .before .before in
+    let s = after-rewritten-parts .before .before .before .before .before in
+    let start = ap (λ (q : Parts). payloadStart (q .header)) (after-rewritten-parts .rewritten-parts .ensures)
+    ∙ ap payloadStart (after-rewritten-parts .before .spread-header .ensures) in
     omega (arith, start ∙ spread-start (headerOf (s .args .packet .now)), s .pre .1)
 
 payload-requires : tie.Need-payload-requires
@@ -58,9 +61,9 @@ part-copy-start c = search needs
 part-copy-end : tie.Need-part-copy-end
 unfolding spreadLength
 part-copy-end c =
-    let c3 = c .before .before .before in
-    let s = c3 .before .before .before .before .before .before .before .before in
-    omega (arith, ap length (c .payload .ensures), c3 .write-packet .kept, s .pre .1)
+    let after-write-packet = c .before .before .before in
+    let s = after-write-packet .before .before .before .before .before .before .before .before in
+    omega (arith, ap length (c .payload .ensures), after-write-packet .write-packet .kept, s .pre .1)
 
 copy-requires : tie.Need-copy-requires
 copy-requires c κs = search needs
@@ -70,22 +73,23 @@ same-length c = search needs
 
 returns : tie.Need-returns
 returns c =
-    let c4 = c .before .before .before .before in
-    let c7 = c4 .before .before .before in
-    let c10 = c7 .before .before .before in
-    let s = c10 .before .before .before .before .before in
+    let after-payload = c .before .before .before .before in
+    let after-write-packet = after-payload .before .before .before in
+    let after-rewritten-parts = after-write-packet .before .before .before in
+    let s = after-rewritten-parts .before .before .before .before .before in
     let p = s .args .packet .now in
     let out = s .args .output .now in
     let own = s .args .own in
-    let wide : length own ≡ 16 = search needs in
-    let written : List ℕ = c7 .write-packet .last .1 .1 .0 in
-    let body : List ℕ = c4 .payload .result .now in
-    let head = c10 .rewritten-parts .ensures ∙ ap (λ (h : ℕ). rewrittenParts h own p) (c10 .before .spread-header .ensures) in
-    let before = c7 .write-packet .ensures ∙ ap (λ (q : Parts). patch out 0 (packetOf q [])) head in (
-      spread-result longestPacket p (s .pre .0 .readable) own wide body (c4 .payload .ensures),
-      ap (putMid 35 (35 + length body - 35) written) (c .before .before .copy .ensures)
-          ∙ patch-range written 35 (length body) body refl
-          ∙ ap₂ (λ (o b : List ℕ). patch o 35 b) before (c4 .payload .ensures)
+    let wide : length own ≡ addressWidth = search needs in
+    let written : List ℕ = after-write-packet .write-packet .last .1 .1 .0 in
+    let body : List ℕ = after-payload .payload .result .now in
+    let head = after-rewritten-parts .rewritten-parts .ensures
+    ∙ ap (λ (h : ℕ). rewrittenParts h own p) (after-rewritten-parts .before .spread-header .ensures) in
+    let before = after-write-packet .write-packet .ensures ∙ ap (λ (q : Parts). patch out 0 (packetOf q [])) head in (
+      spread-result longestPacket p (s .pre .0 .readable) own wide body (after-payload .payload .ensures),
+      ap (putMid typeTwoStart (typeTwoStart + length body - typeTwoStart) written) (c .before .before .copy .ensures)
+          ∙ patch-range written typeTwoStart (length body) body refl
+          ∙ ap₂ (λ (o b : List ℕ). patch o typeTwoStart b) before (after-payload .payload .ensures)
           ∙ spread-written longestPacket out own p (s .pre .0 .readable) wide (s .pre .1),
     )
 

@@ -1,4 +1,5 @@
 use Rattle.packet.specs.Announce.{nameHashOf, announcedDestination}
+use Rattle.packet.specs.Places.{addressWidth, nameHashAt, nameHashWidth}
 use Rattle.packet.proofs.ListLaws.{part-most, two-patches}
 use mathlib.Core.Path.{_≡_, refl, ap, ap₂, _∙_}
 use lib.Dec.{lit≤}
@@ -12,9 +13,9 @@ use borrow.Author.Needs.{needs}
 use Rattle.packet.proofs.announce.announced_destination.Statement.{statement}
 use Rattle.packet.proofs.announce.announced_destination.Tie as tie
 
-name-short : (body name : List ℕ) → name ≡ nameHashOf body → length name ≤ 10
+name-short : (body name : List ℕ) → name ≡ nameHashOf body → length name ≤ nameHashWidth
 unfolding nameHashOf
-name-short body name e = rw e (part-most body 64 10 10 (lit≤ tt))
+name-short body name e = rw e (part-most body nameHashAt nameHashWidth nameHashWidth (lit≤ tt))
 
 name-hash-requires : tie.Need-name-hash-requires
 name-hash-requires c κs = search needs
@@ -36,9 +37,9 @@ slice-aggregate-copy-at-3 c = search needs
 
 copy-at-requires-2 : tie.Need-copy-at-requires-2
 copy-at-requires-2 c κs =
-    let wide : length (c .before .before .before .before .before .identity-hash .result) ≡ 16 = search needs in
-    let c6 = c .before .before .before .before .before .before in
-    omega (arith, name-short _ _ (c6 .name-hash .ensures), c .before .before .before .copy-at .kept .0)
+    let wide : length (c .before .before .before .before .before .identity-hash .result) ≡ addressWidth = search needs in
+    let after-name-hash = c .before .before .before .before .before .before in
+    omega (arith, name-short _ _ (after-name-hash .name-hash .ensures), c .before .before .before .copy-at .kept .0)
 
 slice-aggregate-hash-start : tie.Need-slice-aggregate-hash-start
 slice-aggregate-hash-start c = search needs
@@ -48,9 +49,9 @@ add-hash-start c = search needs
 
 hash-start-requires : tie.Need-hash-start-requires
 hash-start-requires c κs =
-    let c6 = c .before .before .before .before .before .before in
-    let short = name-short _ _ (c6 .before .before .before .name-hash .ensures) in
-    (omega (arith, c6 .copy-at .kept .0, c .before .before .copy-at2 .kept .0), omega arith)
+    let after-copy-at = c .before .before .before .before .before .before in
+    let short = name-short _ _ (after-copy-at .before .before .before .name-hash .ensures) in
+    (omega (arith, after-copy-at .copy-at .kept .0, c .before .before .copy-at2 .kept .0), omega arith)
 
 first-sixteen-requires : tie.Need-first-sixteen-requires
 first-sixteen-requires c κs = search needs
@@ -58,17 +59,20 @@ first-sixteen-requires c κs = search needs
 returns : tie.Need-returns
 unfolding announcedDestination
 returns c =
-    let wide : length (c .before .before .before .before .before .before .before .before .before .before .identity-hash .result) ≡ 16 = search needs in
-    let c8 = c .before .before .before .before .before .before .before .before in
-    let name = c8 .before .before .before .name-hash in
-    let id = c8 .before .before .identity-hash in
+    let wide : length (c .before .before .before .before .before .before .before .before .before .before .identity-hash .result) ≡ addressWidth =
+    search needs in
+    let after-copy-at = c .before .before .before .before .before .before .before .before in
+    let name = after-copy-at .before .before .before .name-hash in
+    let id = after-copy-at .before .before .identity-hash in
     let n = length (name .result .now) in
-    let short : n ≤ 10 = name-short _ _ (name .ensures) in
-    let long : n + 16 ≡ n + length (id .result) = omega arith in
-    let room : n + length (id .result) ≤ length (replicate {A = ℕ} 26 0) = omega (arith, length-replicate {A = ℕ} 26 0) in
-    rw (c .first-sixteen .ensures, c .before .hash-start .ensures, c .before .before .before .before .copy-at2 .ensures, c8 .copy-at .ensures, long)
-    (ap (λ (m : List ℕ). take 16 (sha256-of m))
-    (two-patches (replicate 26 0) (name .result .now) (id .result) n refl room ∙ ap₂ (λ (x y : List ℕ). x ++ y) (name .ensures) (id .ensures)))
+    let short : n ≤ nameHashWidth = name-short _ _ (name .ensures) in
+    let long : n + addressWidth ≡ n + length (id .result) = omega arith in
+    let room : n + length (id .result) ≤ length (replicate {A = ℕ} (nameHashWidth + addressWidth) 0) =
+    omega (arith, length-replicate {A = ℕ} (nameHashWidth + addressWidth) 0) in
+    rw (c .first-sixteen .ensures, c .before .hash-start .ensures, c .before .before .before .before .copy-at2 .ensures, after-copy-at .copy-at .ensures, long)
+    (ap (λ (m : List ℕ). take addressWidth (sha256-of m))
+    (two-patches (replicate (nameHashWidth + addressWidth) 0) (name .result .now) (id .result) n refl room
+    ∙ ap₂ (λ (x y : List ℕ). x ++ y) (name .ensures) (id .ensures)))
 
 pub announced-destination-spec : {M : Type 1} → statement M
 announced-destination-spec =

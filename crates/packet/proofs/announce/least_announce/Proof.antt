@@ -1,4 +1,5 @@
 use Rattle.packet.specs.Announce.{ratchetLength, leastAnnounce}
+use Rattle.packet.specs.Places.{blobEnd, ratchetWidth, signatureWidth}
 use Rattle.octets.proofs.Choice.{then-true, then-false}
 use mathlib.Core.Path.{sym, ap, _∙_}
 use Prim.Native.Nat.{ℕ, _+_}
@@ -11,11 +12,11 @@ context-flag-requires c κs = search needs
 
 returns : tie.Need-returns
 unfolding ratchetLength leastAnnounce
-returns c = ap (λ (n : ℕ). 64 + 10 + 10 + n + 64) (sym (then-true 32 0 (sym (c .before .context-flag .ensures) ∙ c .if1 .taken)))
+returns c = ap (λ (n : ℕ). blobEnd + n + signatureWidth) (sym (then-true ratchetWidth 0 (sym (c .before .context-flag .ensures) ∙ c .if1 .taken)))
 
 returns-2 : tie.Need-returns-2
 unfolding ratchetLength leastAnnounce
-returns-2 c = ap (λ (n : ℕ). 64 + 10 + 10 + n + 64) (sym (then-false 32 0 (sym (c .before .context-flag .ensures) ∙ c .if1 .left)))
+returns-2 c = ap (λ (n : ℕ). blobEnd + n + signatureWidth) (sym (then-false ratchetWidth 0 (sym (c .before .context-flag .ensures) ∙ c .if1 .left)))
 
 pub least-announce-spec : {M : Type 1} → statement M
 least-announce-spec = tie.close (tie.spec context-flag-requires returns returns-2)

@@ -9,6 +9,7 @@ use native.Mathlib.Omega.{arith}
 use borrow.Author.Needs.{needs}
 use Rattle.packet.proofs.hash.hash_behind.Statement.{statement}
 use Rattle.packet.proofs.hash.hash_behind.Tie as tie
+use Rattle.numbers.specs.Numbers.{longestPacket}
 
 slice-aggregate-set-at : tie.Need-slice-aggregate-set-at
 slice-aggregate-set-at c = search needs
@@ -33,12 +34,12 @@ hash-start-requires c κs = search needs
 
 returns : tie.Need-returns
 returns c =
-    let c6 = c .before .before .before .before .before .before in
-    let start = c6 .before .before .before in
+    let after-set-at = c .before .before .before .before .before .before in
+    let start = after-set-at .before .before .before in
     let rest = start .args .rest .now in
-    let room : 1 + length rest ≤ length (replicate {A = ℕ} 500 0) = omega (arith, length-replicate {A = ℕ} 500 0, start .pre) in
-    rw (c .hash-start .ensures, c .before .before .before .copy-at .ensures, c6 .set-at .ensures)
-    (ap sha256-of (two-patches (replicate 500 0) (start .args .first ∷ []) rest 1 refl room))
+    let room : 1 + length rest ≤ length (replicate {A = ℕ} longestPacket 0) = omega (arith, length-replicate {A = ℕ} longestPacket 0, start .pre) in
+    rw (c .hash-start .ensures, c .before .before .before .copy-at .ensures, after-set-at .set-at .ensures)
+    (ap sha256-of (two-patches (replicate longestPacket 0) (start .args .first ∷ []) rest 1 refl room))
 
 pub hash-behind-spec : {M : Type 1} → statement M
 hash-behind-spec =

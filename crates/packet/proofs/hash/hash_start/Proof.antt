@@ -3,7 +3,7 @@ use mathlib.Core.Path.{ap, _∙_}
 use Prim.Native.Nat.{ℕ, _-_, _≤_}
 use mathlib.Core.List.{List}
 use lib.ListN.{length, take, length-take}
-use Rattle.sha256.specs.Sha256.{sha256-of}
+use Rattle.sha256.specs.Sha256.{sha256-of, longestMessage}
 use Rattle.sha256.specs.declared.Digest.{Digest}
 use Rattle.sha256.proofs.Promise.{answer-short}
 use native.Mathlib.Omega.{arith}
@@ -27,7 +27,7 @@ returns : tie.Need-returns
 returns c =
     let a = c .before .before .before .before .args in
     let m : List ℕ = take (a .n - 0) (a .buffer .now) in
-    let short : length m ≤ 65535 = simp length-take (omega arith) in
+    let short : length m ≤ longestMessage = simp length-take (omega arith) in
     ap (λ (d : Digest). d .bytes) (c .before .sha256 .ensures ∙ answer-short m short)
     ∙ ap (λ (k : ℕ). sha256-of (take k (a .buffer .now))) (sub-zero (a .n))
 

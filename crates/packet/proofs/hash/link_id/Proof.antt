@@ -6,6 +6,7 @@ use Rattle.octets.specs.Choice.{_then_otherwise_}
 use borrow.Author.Needs.{needs}
 use Rattle.packet.proofs.hash.link_id.Statement.{statement}
 use Rattle.packet.proofs.hash.link_id.Tie as tie
+use Rattle.numbers.specs.Numbers.{longestPacket}
 
 reading-refusal-requires : tie.Need-reading-refusal-requires
 reading-refusal-requires c κs = search needs
@@ -15,17 +16,18 @@ unfolding linkIdAnswer _then_otherwise_
 returns c =
     let p = c .before .before .before .args .packet .now in
     let refused = c .before .reading-refusal .ensures in
-    rw (refused, refused-reads 500 p (λ (e : readingRefusal 500 p ≡ 0). c .if1 .taken (refused ∙ e)))
+    rw (refused, refused-reads longestPacket p (λ (e : readingRefusal longestPacket p ≡ 0). c .if1 .taken (refused ∙ e)))
 
 link-id-of-requires : tie.Need-link-id-of-requires
-link-id-of-requires c κs = accepted-reads 500 (c .before .before .before .args .packet .now) (sym (c .before .reading-refusal .ensures) ∙ c .if1 .left)
+link-id-of-requires c κs =
+    accepted-reads longestPacket (c .before .before .before .args .packet .now) (sym (c .before .reading-refusal .ensures) ∙ c .if1 .left)
 
 returns-2 : tie.Need-returns-2
 unfolding linkIdAnswer _then_otherwise_
 returns-2 c =
     let p = c .before .before .before .before .args .packet .now in
-    let zero : readingRefusal 500 p ≡ 0 = sym (c .before .before .reading-refusal .ensures) ∙ c .before .if1 .left in
-    rw (zero, accepted-reads 500 p zero, c .link-id-of .ensures)
+    let zero : readingRefusal longestPacket p ≡ 0 = sym (c .before .before .reading-refusal .ensures) ∙ c .before .if1 .left in
+    rw (zero, accepted-reads longestPacket p zero, c .link-id-of .ensures)
 
 pub link-id-spec : {M : Type 1} → statement M
 link-id-spec = tie.close (tie.spec reading-refusal-requires returns link-id-of-requires returns-2)

@@ -1,7 +1,8 @@
 use Rattle.packet.proofs.ReadLaws.{reads-readable, start-least}
 use mathlib.Core.Path.{sym}
-use Prim.Native.Nat.{_-_}
+use Prim.Native.Nat.{_+_, _-_}
 use Rattle.packet.specs.Read.{headerOf}
+use Rattle.packet.specs.Places.{endWidth, linkPayloadWidth}
 use Rattle.packet.proofs.HashLaws.{link-hashed}
 use Rattle.packet.proofs.ListLaws.{part-most}
 use lib.Dec.{lit≤}
@@ -9,11 +10,12 @@ use native.Mathlib.Omega.{arith}
 use borrow.Author.Needs.{needs}
 use Rattle.packet.proofs.hash.link_id_of.Statement.{statement}
 use Rattle.packet.proofs.hash.link_id_of.Tie as tie
+use Rattle.numbers.specs.Numbers.{longestPacket}
 
 shared-slice-read-header : tie.Need-shared-slice-read-header
 shared-slice-read-header c =
     let p = c .before .before .args .packet .now in
-    omega (arith, start-least (headerOf p), reads-readable 500 p (c .before .before .pre) .whole)
+    omega (arith, start-least (headerOf p), reads-readable longestPacket p (c .before .before .pre) .whole)
 
 payload-start-requires : tie.Need-payload-start-requires
 payload-start-requires c κs = search needs
@@ -26,18 +28,21 @@ part-of-requires c κs = search needs
 
 hash-behind-requires : tie.Need-hash-behind-requires
 hash-behind-requires c κs =
-    rw (c .part-of .ensures) (part-most (c .before .before .before .before .args .packet .now) (c .before .payload-start .result - 17) 81 499 (lit≤ tt))
+    let p = c .before .before .before .before .args .packet .now in
+    let start = c .before .payload-start .result in
+    let short = part-most p (start - endWidth) (endWidth + linkPayloadWidth) (endWidth + linkPayloadWidth) (lit≤ tt) in
+    rw (c .part-of .ensures) (omega (arith, short))
 
 first-sixteen-requires : tie.Need-first-sixteen-requires
 first-sixteen-requires c κs = search needs
 
 returns : tie.Need-returns
 returns c =
-    let c3 = c .before .before .before in
-    let start = c3 .before .before .before in
+    let after-payload-start = c .before .before .before in
+    let start = after-payload-start .before .before .before in
     let p = start .args .packet .now in
-    rw (c .first-sixteen .ensures, c .before .hash-behind .ensures, c .before .before .part-of .ensures, c3 .payload-start .ensures)
-    (sym (link-hashed p (reads-readable 500 p (start .pre) .whole)))
+    rw (c .first-sixteen .ensures, c .before .hash-behind .ensures, c .before .before .part-of .ensures, after-payload-start .payload-start .ensures)
+    (sym (link-hashed p (reads-readable longestPacket p (start .pre) .whole)))
 
 pub link-id-of-spec : {M : Type 1} → statement M
 link-id-of-spec =

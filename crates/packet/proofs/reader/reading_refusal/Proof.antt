@@ -15,15 +15,16 @@ use Rattle.octets.proofs.Listed.{here}
 use Rattle.numbers.specs.Numbers.{isSize}
 use Rattle.packet.specs.Header.{accessCode, typeTwo}
 use Rattle.packet.specs.Read.{headerOf, readingRows, readingRefusal}
+use Rattle.packet.specs.Places.{typeOneStart, typeTwoStart}
 use Rattle.packet.proofs.ReadLaws.{refused-short}
 use Rattle.packet.proofs.reader.reading_refusal.Statement.{statement}
 use Rattle.packet.proofs.reader.reading_refusal.Tie as tie
 
 -- the last row decides where the others passed
-last-row : (size : ℕ) (p : List ℕ) → isSize size ≡ true → 19 ≤ length p → length p ≤ size → accessCode (headerOf p) ≡ false
-    → readingRefusal size p ≡ (typeTwo (headerOf p) and ltb (length p) 35 then 1 otherwise 0)
+last-row : (size : ℕ) (p : List ℕ) → isSize size ≡ true → typeOneStart ≤ length p → length p ≤ size → accessCode (headerOf p) ≡ false
+    → readingRefusal size p ≡ (typeTwo (headerOf p) and ltb (length p) typeTwoStart then 1 otherwise 0)
 unfolding readingRefusal readingRows firstOf _then_otherwise_
-last-row size p sized long fits free = rw (sized, le-ltb (length p) 19 long, le-ltb size (length p) fits, free)
+last-row size p sized long fits free = rw (sized, le-ltb (length p) typeOneStart long, le-ltb size (length p) fits, free)
 
 is-size-requires : tie.Need-is-size-requires
 is-size-requires c κs = search needs
@@ -41,7 +42,7 @@ returns-3 c =
     let start = c .before .before .before .before .before in
     let n = length (start .args .packet .now) in
     let sized : isSize (start .args .size) ≡ true = sym (c .before .before .before .is-size .ensures) ∙ not-false _ (c .before .before .if1 .left) in
-    rw (sized, le-ltb n 19 (c .before .if2 .left), lt-ltb (start .args .size) n (c .if3 .taken))
+    rw (sized, le-ltb n typeOneStart (c .before .if2 .left), lt-ltb (start .args .size) n (c .if3 .taken))
 
 shared-slice-read-header : tie.Need-shared-slice-read-header
 shared-slice-read-header c = search needs
@@ -57,7 +58,7 @@ returns-4 c =
     let n = length (start .args .packet .now) in
     let sized : isSize (start .args .size) ≡ true = sym (else1 .before .is-size .ensures) ∙ not-false _ (else1 .if1 .left) in
     let code : accessCode (headerOf (start .args .packet .now)) ≡ true = sym (c .before .access-code .ensures) ∙ c .if4 .taken in
-    rw (sized, le-ltb n 19 (c .before .before .before .before .if2 .left), le-ltb (start .args .size) n (c .before .before .before .if3 .left), code)
+    rw (sized, le-ltb n typeOneStart (c .before .before .before .before .if2 .left), le-ltb (start .args .size) n (c .before .before .before .if3 .left), code)
 
 type-two-requires : tie.Need-type-two-requires
 type-two-requires c κs = search needs
@@ -70,7 +71,7 @@ returns-5 c =
     let sized = sym (else1 .before .is-size .ensures) ∙ not-false _ (else1 .if1 .left) in
     let last = last-row _ _ sized (else3 .before .if2 .left) (else3 .if3 .left) (sym (else4 .before .access-code .ensures) ∙ else4 .if4 .left) in
     let two = sym (c .before .before .type-two .ensures) ∙ c .before .if5 .taken in
-    sym (last ∙ then-true 1 0 (and-yes _ two ∙ lt-ltb _ 35 (c .if6 .taken)))
+    sym (last ∙ then-true 1 0 (and-yes _ two ∙ lt-ltb _ typeTwoStart (c .if6 .taken)))
 
 returns-6 : tie.Need-returns-6
 returns-6 c =
@@ -80,7 +81,7 @@ returns-6 c =
     let sized = sym (else1 .before .is-size .ensures) ∙ not-false _ (else1 .if1 .left) in
     let last = last-row _ _ sized (else3 .before .if2 .left) (else3 .if3 .left) (sym (else4 .before .access-code .ensures) ∙ else4 .if4 .left) in
     let two = sym (c .before .before .type-two .ensures) ∙ c .before .if5 .taken in
-    sym (last ∙ then-false 1 0 (and-yes _ two ∙ le-ltb _ 35 (c .if6 .left)))
+    sym (last ∙ then-false 1 0 (and-yes _ two ∙ le-ltb _ typeTwoStart (c .if6 .left)))
 
 returns-7 : tie.Need-returns-7
 returns-7 c =

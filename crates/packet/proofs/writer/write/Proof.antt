@@ -42,10 +42,11 @@ returns-2 : tie.Need-returns-2
 returns-2 c =
     let a = c .before .before .before .before .before .before .before .before .before .args in
     let wide : Wide (a .parts) = record { relay = search needs; destination = search needs } in
-    let c3 = c .before .before .before in
-    let zero = sym (c3 .before .before .before .writing-refusal .ensures) ∙ c3 .before .before .if1 .left in
+    let after-write-packet = c .before .before .before in
+    let zero = sym (after-write-packet .before .before .before .writing-refusal .ensures) ∙ after-write-packet .before .before .if1 .left in
     let long = packet-length (a .parts) (a .payload .now) wide in
-    rw (writing-done (a .parts) (a .payload .now) (a .output .now) zero, c3 .write-packet .ensures, c .payload-start .ensures, long) (refl, refl)
+    rw (writing-done (a .parts) (a .payload .now) (a .output .now) zero, after-write-packet .write-packet .ensures, c .payload-start .ensures, long)
+    (refl, refl)
 
 pub write-spec : {M : Type 1} → statement M
 write-spec =

@@ -4,6 +4,7 @@ use lib.ListN.{length}
 use borrow.Author.Needs.{needs}
 use Rattle.packet.proofs.writer.write_end.Statement.{statement}
 use Rattle.packet.proofs.writer.write_end.Tie as tie
+use Rattle.packet.specs.Places.{addressWidth}
 
 slice-aggregate-copy-at : tie.Need-slice-aggregate-copy-at
 slice-aggregate-copy-at c = search needs
@@ -29,11 +30,11 @@ same-length c = search needs
 returns : tie.Need-returns
 returns c =
     let a = c .before .before .before .before .before .before .before .before .before .before .before .before .before .before .before .args in
-    let wide : length (a .t1) ≡ 16 = search needs in
-    let c6 = c .before .before .before .before .before .before in
-    let c10 = c6 .before .before .before .before in
-    rw (c .before .before .copy-at2 .ensures, c6 .set-at .ensures, c10 .copy-at .ensures)
-    (end-written (a .output .now) (a .at) (a .t1) (a .context) (a .payload .now) wide (c10 .before .before .before .before .before .pre))
+    let wide : length (a .t1) ≡ addressWidth = search needs in
+    let after-set-at = c .before .before .before .before .before .before in
+    let after-copy-at = after-set-at .before .before .before .before in
+    rw (c .before .before .copy-at2 .ensures, after-set-at .set-at .ensures, after-copy-at .copy-at .ensures)
+    (end-written (a .output .now) (a .at) (a .t1) (a .context) (a .payload .now) wide (after-copy-at .before .before .before .before .before .pre))
 
 pub write-end-spec : {M : Type 1} → statement M
 write-end-spec =

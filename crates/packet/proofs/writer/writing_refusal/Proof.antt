@@ -14,10 +14,11 @@ use native.Mathlib.Omega.{arith}
 use borrow.Author.Needs.{needs}
 use Rattle.packet.proofs.writer.writing_refusal.Statement.{statement}
 use Rattle.packet.proofs.writer.writing_refusal.Tie as tie
+use Rattle.numbers.specs.Numbers.{longestPacket, leastOutput}
 
 returns : tie.Need-returns
 unfolding writingRefusal writingRows firstOf _then_otherwise_
-returns c = rw (lt-ltb (c .before .before .args .room) 500 (c .if1 .taken))
+returns c = rw (lt-ltb (c .before .before .args .room) leastOutput (c .if1 .taken))
 
 payload-start-requires : tie.Need-payload-start-requires
 payload-start-requires c κs = search needs
@@ -33,8 +34,8 @@ returns-2 c =
     let n = length (packetOf (a .parts) (a .payload .now)) in
     let long : n ≡ payloadStart (a .parts .header) + length (a .payload .now) = packet-length (a .parts) (a .payload .now) wide in
     rw (
-      le-ltb (a .room) 500 (c .before .before .if1 .left),
-      lt-ltb 500 n (omega (arith, start-most (a .parts .header), c .before .payload-start .ensures, c .if2 .taken)),
+      le-ltb (a .room) leastOutput (c .before .before .if1 .left),
+      lt-ltb longestPacket n (omega (arith, start-most (a .parts .header), c .before .payload-start .ensures, c .if2 .taken)),
     )
 
 access-code-requires : tie.Need-access-code-requires
@@ -49,8 +50,8 @@ returns-3 c =
     let long : n ≡ payloadStart (a .parts .header) + length (a .payload .now) = packet-length (a .parts) (a .payload .now) wide in
     let code : accessCode (a .parts .header) ≡ true = sym (c .before .access-code .ensures) ∙ c .if3 .taken in
     rw (
-      le-ltb (a .room) 500 (c .before .before .before .before .if1 .left),
-      le-ltb 500 n (omega (arith, start-most (a .parts .header), c .before .before .before .payload-start .ensures, c .before .before .if2 .left)),
+      le-ltb (a .room) leastOutput (c .before .before .before .before .if1 .left),
+      le-ltb longestPacket n (omega (arith, start-most (a .parts .header), c .before .before .before .payload-start .ensures, c .before .before .if2 .left)),
       code,
     )
 
@@ -63,8 +64,8 @@ returns-4 c =
     let long : n ≡ payloadStart (a .parts .header) + length (a .payload .now) = packet-length (a .parts) (a .payload .now) wide in
     let free : accessCode (a .parts .header) ≡ false = sym (c .before .access-code .ensures) ∙ c .if3 .left in
     rw (
-      le-ltb (a .room) 500 (c .before .before .before .before .if1 .left),
-      le-ltb 500 n (omega (arith, start-most (a .parts .header), c .before .before .before .payload-start .ensures, c .before .before .if2 .left)),
+      le-ltb (a .room) leastOutput (c .before .before .before .before .if1 .left),
+      le-ltb longestPacket n (omega (arith, start-most (a .parts .header), c .before .before .before .payload-start .ensures, c .before .before .if2 .left)),
       free,
     )
 

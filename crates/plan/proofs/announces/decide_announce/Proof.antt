@@ -45,31 +45,32 @@ path-place-requires c κs = let s = c .before .before .before .before .before .b
 
 known-path-requires : tie.Need-known-path-requires
 known-path-requires c κs =
-    let c1 = c .before in
-    let s = s1 c1 in
+    let after-path-place = c .before in
+    let s = s1 after-path-place in
     let (judged, good, is) = s .pre in
     let clock = s .args .arrived .clock in (
       record { readable = judged .readable; size = formed (t s) (judged .formed) .size },
-      can-know (t s) clock _ (c1 .path-place .result) (c1 .path-place .ensures) (judged .formed) (c .if2 .taken),
+      can-know (t s) clock _ (after-path-place .path-place .result) (after-path-place .path-place .ensures) (judged .formed) (c .if2 .taken),
       announce-long (a s) good is,
     )
 
 returns-2 : tie.Need-returns-2
 returns-2 c =
-    let c2 = c .before .before in
-    let s = s1 c2 in
+    let after-path-place = c .before .before in
+    let s = s1 after-path-place in
     c .known-path .ensures
-    ∙ announce-at (t s) (a s) (s .pre .2) (not-false _ (c2 .before .before .before .if1 .left)) (found c2) (c .before .if2 .taken)
+    ∙ announce-at (t s) (a s) (s .pre .2) (not-false _ (after-path-place .before .before .before .if1 .left)) (found after-path-place) (c .before .if2 .taken)
 
 new-path-requires : tie.Need-new-path-requires
 new-path-requires c κs = let s = s1 (c .before) in formed (t s) (s .pre .0 .formed) .size
 
 returns-3 : tie.Need-returns-3
 returns-3 c =
-    let c2 = c .before .before in
-    let s = s1 c2 in
+    let after-path-place = c .before .before in
+    let s = s1 after-path-place in
     c .new-path .ensures
-    ∙ announce-nowhere (t s) (a s) (s .pre .2) (not-false _ (c2 .before .before .before .if1 .left)) (found c2) (c .before .if2 .left)
+    ∙ announce-nowhere (t s) (a s) (s .pre .2) (not-false _ (after-path-place .before .before .before .if1 .left)) (found after-path-place)
+    (c .before .if2 .left)
 
 pub decide-announce-spec : {M : Type 1} → statement M
 decide-announce-spec =

@@ -111,9 +111,9 @@ revives-requires c κs = let s = c .before .before .before .before in (s .pre .0
 
 returns : tie.Need-returns
 returns c =
-    let c1 = c .before in
-    let x = s1 c1 in
-    known-revived (a x) (p x) (read-blob c1) (r x) (x .args .place) (sym (c1 .revives .ensures) ∙ c .if1 .taken)
+    let after-revives = c .before in
+    let x = s1 after-revives in
+    known-revived (a x) (p x) (read-blob after-revives) (r x) (x .args .place) (sym (after-revives .revives .ensures) ∙ c .if1 .taken)
 
 holds-blob-requires : tie.Need-holds-blob-requires
 holds-blob-requires c κs =

@@ -37,12 +37,12 @@ shared-slice-read-hops c =
 returns-2 : tie.Need-returns-2
 unfolding worseThan
 returns-2 c =
-    let c2 = c .before .before in
-    let s = c2 .before .before .before .before .before in
+    let else1 = c .before .before in
+    let s = else1 .before .before .before .before .before in
     ap₂ leb (c .before .path-hops .ensures) (sym (parts-hops (s .args .packet .now)))
     ∙ sym
     (and-yes _
-    (ap₂ leb (sym (c2 .before .before .emission .ensures)) (sym (c2 .before .greatest-emission .ensures)) ∙ le-leb _ _ (c2 .if1 .left)))
+    (ap₂ leb (sym (else1 .before .before .emission .ensures)) (sym (else1 .before .greatest-emission .ensures)) ∙ le-leb _ _ (else1 .if1 .left)))
 
 pub not-better-spec : {M : Type 1} → statement M
 not-better-spec =

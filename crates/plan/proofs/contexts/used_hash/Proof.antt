@@ -15,8 +15,8 @@ hash-of-requires c κs = search needs
 
 returns-2 : tie.Need-returns-2
 returns-2 c =
-    let c2 = c .before in
-    c .hash-of .ensures ∙ sym (used-own _ (sym (c2 .before .exempt .ensures) ∙ c2 .if1 .left))
+    let else1 = c .before in
+    c .hash-of .ensures ∙ sym (used-own _ (sym (else1 .before .exempt .ensures) ∙ else1 .if1 .left))
 
 pub used-hash-spec : {M : Type 1} → statement M
 used-hash-spec = tie.close (tie.spec exempt-requires returns hash-of-requires returns-2)

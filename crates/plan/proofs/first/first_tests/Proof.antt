@@ -60,8 +60,9 @@ past-2 c = past-1 (c .before .before) ∙ past _ _ _ _ (sym (c .before .duplicat
 past-3 : (c : tie.After-enum-told) → Left 3 (s3 (c .before .before))
 unfolding firstTests earlyFrom earlyTests valued
 past-3 c =
-    let c2 = c .before .before in
-    past-2 (c2 .before) ∙ past _ _ _ _ (form-good (s3 c2 .args .packet .now) (sym (c .enum-told .given .1) ∙ c2 .form-of .ensures))
+    let after-form-of = c .before .before in
+    past-2 (after-form-of .before)
+    ∙ past _ _ _ _ (form-good (s3 after-form-of .args .packet .now) (sym (c .enum-told .given .1) ∙ after-form-of .form-of .ensures))
 
 past-4 : (c : tie.Else3) → Left 4 (s4 (c .before))
 unfolding firstTests earlyFrom earlyTests valued
@@ -99,9 +100,9 @@ enum-known-clause c = search needs
 returns-3 : tie.Need-returns-3
 unfolding earlyFrom earlyTests early valued
 returns-3 c =
-    let c3 = c .before .before .before in
-    let (bad, named) = form-bad (s3 c3 .args .packet .now) (sym (c .before .clause .given .1) ∙ c3 .form-of .ensures) in
-    ap (λ (clause : Clause). Dropped (BadForm clause)) named ∙ sym (past-2 (c3 .before) ∙ here _ _ _ _ bad)
+    let after-form-of = c .before .before .before in
+    let (bad, named) = form-bad (s3 after-form-of .args .packet .now) (sym (c .before .clause .given .1) ∙ after-form-of .form-of .ensures) in
+    ap (λ (clause : Clause). Dropped (BadForm clause)) named ∙ sym (past-2 (after-form-of .before) ∙ here _ _ _ _ bad)
 
 enum-told : tie.Need-enum-told
 enum-told c = search needs

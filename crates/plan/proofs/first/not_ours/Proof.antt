@@ -16,6 +16,7 @@ use Rattle.rules.specs.Arrival.{Arrival, header}
 use Rattle.rules.specs.Relay.{Relay}
 use Rattle.plan.proofs.first.not_ours.Statement.{statement}
 use Rattle.plan.proofs.first.not_ours.Tie as tie
+use Rattle.numbers.specs.Numbers.{addressWidth}
 
 abbrev r : tie.Start → Relay
 r s = relayOf (s .args .tables .now)
@@ -46,9 +47,9 @@ is-announce-requires c κs = search needs
 
 returns-2 : tie.Need-returns-2
 returns-2 c =
-    let c2 = c .before .before in
-    let s = c2 .before .before .before .before .before in
-    sym (ours-clauses (r s) (a s) ∙ and-yes _ (two c2) ∙ and-no _ (ap not (sym (c .before .is-announce .ensures) ∙ c .if2 .taken)))
+    let else1 = c .before .before in
+    let s = else1 .before .before .before .before .before in
+    sym (ours-clauses (r s) (a s) ∙ and-yes _ (two else1) ∙ and-no _ (ap not (sym (c .before .is-announce .ensures) ∙ c .if2 .taken)))
 
 parts-of-requires : tie.Need-parts-of-requires
 parts-of-requires c κs =
@@ -63,12 +64,12 @@ equal16-requires c κs = search needs
 
 returns-3 : tie.Need-returns-3
 returns-3 c =
-    let c4 = c .before .before .before .before in
-    let s = c4 .before .before .before .before .before .before .before in
-    let relay = ap (λ (q : Parts). agree 16 (q .relay) (c .before .own-address .result)) (c .before .before .before .parts-of .ensures) in
+    let else2 = c .before .before .before .before in
+    let s = else2 .before .before .before .before .before .before .before in
+    let relay = ap (λ (q : Parts). agree addressWidth (q .relay) (c .before .own-address .result)) (c .before .before .before .parts-of .ensures) in
     ap not (c .equal16 .ensures ∙ relay)
     ∙ own-compared (s .args .tables .now) (a s) (s .pre .size) (s .pre .readable) (c .before .own-address .ensures)
-    ∙ sym (ours-clauses (r s) (a s) ∙ and-yes _ (two (c4 .before .before)) ∙ and-yes _ (other c4))
+    ∙ sym (ours-clauses (r s) (a s) ∙ and-yes _ (two (else2 .before .before)) ∙ and-yes _ (other else2))
 
 pub not-ours-spec : {M : Type 1} → statement M
 not-ours-spec =

@@ -57,26 +57,26 @@ prove-requires c κs = sized (s1 (c .before .before .before .before))
 
 returns-2 : tie.Need-returns-2
 returns-2 c =
-    let c3 = c .before .before .before in
-    let c5 = c3 .before .before in
-    let s = s1 c5 in
+    let after-link-at = c .before .before .before in
+    let after-link-place = after-link-at .before .before in
+    let s = s1 after-link-place in
     let (_, good, other, kind) = s .pre in
     let is = sym (c .before .before .is-link-proof .ensures) ∙ c .before .if2 .taken in
     c .prove .ensures
-    ∙ proof-at (t s) (a s) good other kind (found c5) (c3 .before .if1 .left) (c3 .link-at .ensures) is
+    ∙ proof-at (t s) (a s) good other kind (found after-link-place) (after-link-at .before .if1 .left) (after-link-at .link-at .ensures) is
 
 pass-requires : tie.Need-pass-requires
 pass-requires c κs = sized (s1 (c .before .before .before .before))
 
 returns-3 : tie.Need-returns-3
 returns-3 c =
-    let c3 = c .before .before .before in
-    let c5 = c3 .before .before in
-    let s = s1 c5 in
+    let after-link-at = c .before .before .before in
+    let after-link-place = after-link-at .before .before in
+    let s = s1 after-link-place in
     let (_, good, other, kind) = s .pre in
     let not-proof = sym (c .before .before .is-link-proof .ensures) ∙ c .before .if2 .left in
     c .pass .ensures
-    ∙ other-at (t s) (a s) good other kind (found c5) (c3 .before .if1 .left) (c3 .link-at .ensures) not-proof
+    ∙ other-at (t s) (a s) good other kind (found after-link-place) (after-link-at .before .if1 .left) (after-link-at .link-at .ensures) not-proof
 
 pub decide-of-link-spec : {M : Type 1} → statement M
 decide-of-link-spec =

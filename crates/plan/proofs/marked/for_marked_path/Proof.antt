@@ -56,9 +56,9 @@ of-kind-single-requires c κs = search needs
 
 returns-2 : tie.Need-returns-2
 returns-2 c =
-    let c2 = c .before .before in
-    let s = c2 .before .before .before .before .before in
-    not-single (relayOf (t s)) (a s) (is c2) (sym (c .before .of-kind-single .ensures) ∙ not-true _ (c .if2 .taken))
+    let else1 = c .before .before in
+    let s = else1 .before .before .before .before .before in
+    not-single (relayOf (t s)) (a s) (is else1) (sym (c .before .of-kind-single .ensures) ∙ not-true _ (c .if2 .taken))
 
 parts-of-requires : tie.Need-parts-of-requires
 parts-of-requires c κs =
@@ -73,19 +73,19 @@ path-notes-requires c κs = search needs
 
 returns-3 : tie.Need-returns-3
 returns-3 c =
-    let c2 = c .before .before in
-    let s = s1 c2 in
-    let e2 = c2 .before .before .before in
+    let after-path-place = c .before .before in
+    let s = s1 after-path-place in
+    let e2 = after-path-place .before .before .before in
     ap (λ (n : Notes). n .marked) (c .path-notes .ensures)
-    ∙ marked-at (t s) (a s) (found c2) (c .before .if3 .taken)
+    ∙ marked-at (t s) (a s) (found after-path-place) (c .before .if3 .taken)
     ∙ by-path (relayOf (t s)) (a s) (is (e2 .before .before)) (single e2)
 
 returns-4 : tie.Need-returns-4
 returns-4 c =
-    let c1 = c .before in
-    let s = s1 c1 in
-    let e2 = c1 .before .before .before in
-    marked-nowhere (t s) (a s) (found c1) (c .if3 .left)
+    let after-path-place = c .before in
+    let s = s1 after-path-place in
+    let e2 = after-path-place .before .before .before in
+    marked-nowhere (t s) (a s) (found after-path-place) (c .if3 .left)
     ∙ by-path (relayOf (t s)) (a s) (is (e2 .before .before)) (single e2)
 
 pub for-marked-path-spec : {M : Type 1} → statement M

@@ -22,9 +22,9 @@ emission-requires c κs = search needs
 returns : tie.Need-returns
 unfolding revivedBy
 returns c =
-    let c2 = c .before .before in
+    let then1 = c .before .before in
     ap₂ leb (c .before .greatest-emission .ensures) (c .emission .ensures)
-    ∙ sym (and-yes _ (sym (ap (λ (n : Notes). n .marked) (c2 .before .path-notes .ensures)) ∙ c2 .if1 .taken))
+    ∙ sym (and-yes _ (sym (ap (λ (n : Notes). n .marked) (then1 .before .path-notes .ensures)) ∙ then1 .if1 .taken))
 
 returns-2 : tie.Need-returns-2
 unfolding revivedBy

@@ -72,41 +72,41 @@ no-path-requires c κs = sized (s1 (c .before)) .size
 
 returns-2 : tie.Need-returns-2
 returns-2 c =
-    let c1 = c .before .before in
-    let s = s1 c1 in
+    let after-path-place = c .before .before in
+    let s = s1 after-path-place in
     let (_, other, kind, proof) = s .pre in
     let why : Parts → Blocked = λ q. noPath (expiredPath (s .args .arrived .clock) (relayOf (t s)) (q .destination)) in
-    ap (λ (b : Blocked). Drop (NoWayOn b)) (c .no-path .ensures ∙ ap why (c1 .before .before .parts-of .ensures))
-    ∙ path-nowhere (t s) (a s) other kind proof (two (c1 .before .before .before)) (sized s) (found c1) (c .before .if2 .taken)
+    ap (λ (b : Blocked). Drop (NoWayOn b)) (c .no-path .ensures ∙ ap why (after-path-place .before .before .parts-of .ensures))
+    ∙ path-nowhere (t s) (a s) other kind proof (two (after-path-place .before .before .before)) (sized s) (found after-path-place) (c .before .if2 .taken)
 
 is-data-requires : tie.Need-is-data-requires
 is-data-requires c κs = search needs
 
 leave-by-requires : tie.Need-leave-by-requires
-leave-by-requires c κs = let c2 = c .before .before in (sized (s1 (c2 .before)) .size, c2 .if2 .left)
+leave-by-requires c κs = let else2 = c .before .before in (sized (s1 (else2 .before)) .size, else2 .if2 .left)
 
 returns-3 : tie.Need-returns-3
 returns-3 c =
-    let c3 = c .before .before .before in
-    let c4 = c3 .before in
-    let s = s1 c4 in
+    let else2 = c .before .before .before in
+    let after-path-place = else2 .before in
+    let s = s1 after-path-place in
     let (_, other, kind, proof) = s .pre in
     let is = sym (c .before .before .is-data .ensures) ∙ c .before .if3 .taken in
     c .leave-by .ensures
-    ∙ data-at (t s) (a s) other kind proof (two (c4 .before .before .before)) (sized s) (found c4) (c3 .if2 .left) is
+    ∙ data-at (t s) (a s) other kind proof (two (after-path-place .before .before .before)) (sized s) (found after-path-place) (else2 .if2 .left) is
 
 request-requires : tie.Need-request-requires
-request-requires c κs = let c2 = c .before .before in (sized (s1 (c2 .before)), c2 .if2 .left)
+request-requires c κs = let else2 = c .before .before in (sized (s1 (else2 .before)), else2 .if2 .left)
 
 returns-4 : tie.Need-returns-4
 returns-4 c =
-    let c3 = c .before .before .before in
-    let c4 = c3 .before in
-    let s = s1 c4 in
+    let else2 = c .before .before .before in
+    let after-path-place = else2 .before in
+    let s = s1 after-path-place in
     let (_, other, kind, proof) = s .pre in
     let not-data = sym (c .before .before .is-data .ensures) ∙ c .before .if3 .left in
     c .request .ensures
-    ∙ request-at (t s) (a s) other kind proof (two (c4 .before .before .before)) (sized s) (found c4) (c3 .if2 .left)
+    ∙ request-at (t s) (a s) other kind proof (two (after-path-place .before .before .before)) (sized s) (found after-path-place) (else2 .if2 .left)
     not-data
 
 pub decide-by-path-spec : {M : Type 1} → statement M

@@ -49,11 +49,12 @@ leave-by-requires c κs = search needs
 
 returns-2 : tie.Need-returns-2
 returns-2 c =
-    let c2 = c .before .before in
-    let s = s1 (c2 .before) in
-    let new = id-free (t s) (s .args .arrived .clock) _ (found (c2 .before)) (c2 .if1 .left) in
+    let else1 = c .before .before in
+    let s = s1 (else1 .before) in
+    let new = id-free (t s) (s .args .arrived .clock) _ (found (else1 .before)) (else1 .if1 .left) in
     let link =
-    c .before .new-link .ensures ∙ ap (λ (id : List ℕ). linking (relayOf (t s)) (a s .clock) id (s .args .place)) (c2 .before .before .link-id-of .ensures) in
+    c .before .new-link .ensures
+    ∙ ap (λ (id : List ℕ). linking (relayOf (t s)) (a s .clock) id (s .args .place)) (else1 .before .before .link-id-of .ensures) in
     c .leave-by .ensures
     ∙ ap (λ (d : Decision). leavingBy (relayOf (t s)) (p s) (a s .bytes) d) link
     ∙ request-new (relayOf (t s)) (a s) (p s) (s .args .place) new

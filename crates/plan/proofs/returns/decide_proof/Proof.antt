@@ -45,10 +45,10 @@ receipt-requires c κs = (size (s1 (c .before)), c .if1 .taken)
 
 returns : tie.Need-returns
 returns c =
-    let c2 = c .before .before in
-    let s = s1 c2 in
+    let after-return-place = c .before .before in
+    let s = s1 after-return-place in
     let (_, kind, proof) = s .pre in
-    c .receipt .ensures ∙ return-at (t s) (a s) kind proof (found c2) (c .before .if1 .taken)
+    c .receipt .ensures ∙ return-at (t s) (a s) kind proof (found after-return-place) (c .before .if1 .taken)
 
 returns-2 : tie.Need-returns-2
 returns-2 c =

@@ -16,11 +16,11 @@ entry-requires c κs = search needs
 
 add-end : tie.Need-add-end
 add-end c =
-    let c3 = c .before .before .before in
-    let f = c3 .args .file .now in
+    let start = c .before .before .before in
+    let f = start .args .file .now in
     let r = c .before .entry .result in
     let within : r .start + r .length ≤ length f =
-    subst (λ (s : Fields). s .start + s .length ≤ length f) (sym (c .before .entry .ensures)) (fields-within f (c3 .args .i)) in
+    subst (λ (s : Fields). s .start + s .length ≤ length f) (sym (c .before .entry .ensures)) (fields-within f (start .args .i)) in
     record { fits = omega arith }
 
 sub-result : tie.Need-sub-result
@@ -31,21 +31,21 @@ part-result-start c = search needs
 
 part-result-end : tie.Need-part-result-end
 part-result-end c =
-    let c3 = c .before .before .before in
-    let f = c3 .args .file .now in
+    let start = c .before .before .before in
+    let f = start .args .file .now in
     let r = c .before .entry .result in
     let within : r .start + r .length ≤ length f =
-    subst (λ (s : Fields). s .start + s .length ≤ length f) (sym (c .before .entry .ensures)) (fields-within f (c3 .args .i)) in
+    subst (λ (s : Fields). s .start + s .length ≤ length f) (sym (c .before .entry .ensures)) (fields-within f (start .args .i)) in
     search needs
 
 returns : tie.Need-returns
 unfolding bodyOf
 returns c =
-    let c2 = c .before .before in
-    let c4 = c2 .before .before in
-    let f = c4 .args .file .now in
-    let r = c2 .entry .result in
-    part-range f (r .start) (r .length) ∙ ap (λ (s : Fields). part f (s .start) (s .length)) (c2 .entry .ensures)
+    let after-entry = c .before .before in
+    let start = after-entry .before .before in
+    let f = start .args .file .now in
+    let r = after-entry .entry .result in
+    part-range f (r .start) (r .length) ∙ ap (λ (s : Fields). part f (s .start) (s .length)) (after-entry .entry .ensures)
 
 pub body-spec : {M : Type 1} → statement M
 body-spec =

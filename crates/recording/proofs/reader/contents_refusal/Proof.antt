@@ -6,13 +6,13 @@ use Rattle.octets.proofs.Bytes.{known-bytes}
 use Rattle.recording.specs.Shape.{entryPlace, countOf}
 use Rattle.recording.specs.Format.{headWidth}
 use Rattle.recording.proofs.ShapeLaws.{length-lt}
-use Rattle.recording.proofs.ReadLaws.{Passed, passed-none, passed-more, passed-lt, passed-wrong, ended-wrong, ended-word, ended-taken}
+use Rattle.recording.proofs.ReadLaws.{EntriesPassed, passed-none, passed-more, passed-lt, passed-wrong, ended-wrong, ended-word, ended-taken}
 use borrow.Author.Needs.{needs}
 use Rattle.recording.proofs.reader.contents_refusal.Statement.{statement}
 use Rattle.recording.proofs.reader.contents_refusal.Tie as tie
 
 abbrev Inv-loop : tie.InvT-loop
-Inv-loop file n words₀ place₀ i₀ words place i = Passed file words place i
+Inv-loop file n words₀ place₀ i₀ words place i = EntriesPassed file words place i
 
 abbrev μ-loop : tie.MeasureT-loop
 μ-loop file n words₀ place₀ i₀ words place i = n - i
@@ -22,34 +22,34 @@ entry-place-requires c κs = search needs
 
 loop-holds : tie.Need-loop-holds Inv-loop μ-loop
 loop-holds c =
-    let c2 = c .before .before in
-    passed-none (c2 .args .file .now) (c .entry-place .result) (c .entry-place .ensures ∙ ap (entryPlace headWidth) (c2 .pre .0))
+    let start = c .before .before in
+    passed-none (start .args .file .now) (c .entry-place .result) (c .entry-place .ensures ∙ ap (entryPlace headWidth) (start .pre .0))
 
 offset-of-requires : tie.Need-offset-of-requires Inv-loop μ-loop
 offset-of-requires c κs = search needs
 
 returns : tie.Need-returns Inv-loop μ-loop
 returns c =
-    let c2 = c .before .before in
-    let c3 = c2 .before in
-    let c6 = c3 .before .before .before in
-    sym (passed-wrong (c3 .loop .inv) (omega (arith, c6 .pre .0, c2 .loop-test .taken)) (λ q. c .if1 .taken (c .before .offset-of .ensures ∙ q)))
+    let in-loop = c .before .before in
+    let at-loop = in-loop .before in
+    let start = at-loop .before .before .before in
+    sym (passed-wrong (at-loop .loop .inv) (omega (arith, start .pre .0, in-loop .loop-test .taken)) (λ q. c .if1 .taken (c .before .offset-of .ensures ∙ q)))
 
 length-of-requires : tie.Need-length-of-requires Inv-loop μ-loop
 length-of-requires c κs = search needs
 
 add-place : tie.Need-add-place Inv-loop μ-loop
 add-place c =
-    let c3 = c .before .before .before in
-    let c4 = c3 .before in
-    let c6 = c4 .before .before in
-    let c7 = c6 .before in
-    let f = c7 .args .file .now in
-    let b = known-bytes f (c6 .shared-slice-known .given) in
-    let n = c7 .pre .0 in
-    let whole : entryPlace headWidth (countOf f) ≤ length f = omega (arith, c7 .pre .1) in
-    let long = length-lt headWidth f (c4 .loop .i) b (omega (arith, c3 .loop-test .taken)) in
-    record { fits = omega (arith, passed-lt (c4 .loop .inv) b whole, c .length-of .ensures, c7 .pre .2, c3 .loop-test .taken) }
+    let in-loop = c .before .before .before in
+    let at-loop = in-loop .before in
+    let after-shared-slice-known = at-loop .before .before in
+    let start = after-shared-slice-known .before in
+    let f = start .args .file .now in
+    let b = known-bytes f (after-shared-slice-known .shared-slice-known .given) in
+    let n = start .pre .0 in
+    let whole : entryPlace headWidth (countOf f) ≤ length f = omega (arith, start .pre .1) in
+    let long = length-lt headWidth f (at-loop .loop .i) b (omega (arith, in-loop .loop-test .taken)) in
+    record { fits = omega (arith, passed-lt (at-loop .loop .inv) b whole, c .length-of .ensures, start .pre .2, in-loop .loop-test .taken) }
 
 word-of-requires : tie.Need-word-of-requires Inv-loop μ-loop
 word-of-requires c κs = search needs
@@ -62,33 +62,33 @@ loop-less c = search needs
 
 loop-again : tie.Need-loop-again Inv-loop μ-loop
 loop-again c =
-    let c2 = c .before .before in
-    let c3 = c2 .before in
-    let c4 = c3 .before in
-    let c5 = c4 .before in
-    let c8 = c5 .before .before .before in
+    let else1 = c .before .before in
+    let after-offset-of = else1 .before in
+    let in-loop = after-offset-of .before in
+    let at-loop = in-loop .before in
+    let start = at-loop .before .before .before in
     rw (c .word-of .ensures, c .before .length-of .ensures)
-    (passed-more (c5 .loop .inv) (omega (arith, c8 .pre .0, c4 .loop-test .taken)) (sym (c3 .offset-of .ensures) ∙ c2 .if1 .left))
+    (passed-more (at-loop .loop .inv) (omega (arith, start .pre .0, in-loop .loop-test .taken)) (sym (after-offset-of .offset-of .ensures) ∙ else1 .if1 .left))
 
 returns-2 : tie.Need-returns-2 Inv-loop μ-loop
 returns-2 c =
-    let c2 = c .before .before in
-    let c5 = c2 .before .before .before in
-    sym (ended-wrong (c2 .loop .inv) (omega (arith, c5 .pre .0, c .before .loop-test .left)) (c .if2 .taken))
+    let at-loop = c .before .before in
+    let start = at-loop .before .before .before in
+    sym (ended-wrong (at-loop .loop .inv) (omega (arith, start .pre .0, c .before .loop-test .left)) (c .if2 .taken))
 
 returns-3 : tie.Need-returns-3 Inv-loop μ-loop
 returns-3 c =
-    let c2 = c .before .before in
-    let c3 = c2 .before in
-    let c6 = c3 .before .before .before in
-    sym (ended-word (c3 .loop .inv) (omega (arith, c6 .pre .0, c2 .loop-test .left)) (c .before .if2 .left) (c .if3 .taken))
+    let after-loop = c .before .before in
+    let at-loop = after-loop .before in
+    let start = at-loop .before .before .before in
+    sym (ended-word (at-loop .loop .inv) (omega (arith, start .pre .0, after-loop .loop-test .left)) (c .before .if2 .left) (c .if3 .taken))
 
 returns-4 : tie.Need-returns-4 Inv-loop μ-loop
 returns-4 c =
-    let c2 = c .before .before in
-    let c3 = c2 .before in
-    let c6 = c3 .before .before .before in
-    sym (ended-taken (c3 .loop .inv) (omega (arith, c6 .pre .0, c2 .loop-test .left)) (c .before .if2 .left) (c .if3 .left))
+    let after-loop = c .before .before in
+    let at-loop = after-loop .before in
+    let start = at-loop .before .before .before in
+    sym (ended-taken (at-loop .loop .inv) (omega (arith, start .pre .0, after-loop .loop-test .left)) (c .before .if2 .left) (c .if3 .left))
 
 pub contents-refusal-spec : {M : Type 1} → statement M
 contents-refusal-spec =

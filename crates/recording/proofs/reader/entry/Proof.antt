@@ -6,10 +6,10 @@ use Rattle.octets.specs.Part.{part}
 use Rattle.octets.specs.BigEndian.{number}
 use Rattle.octets.proofs.Bytes.{known-bytes}
 use Rattle.recording.specs.Shape.{entryPlace, countOf}
-use Rattle.recording.specs.Format.{headWidth}
+use Rattle.recording.specs.Format.{headWidth, clockWidth, portAt, entryWidth}
 use Rattle.recording.specs.Reader.{clockOf, portOf}
 use Rattle.recording.proofs.ShapeLaws.{count-lt, offset-lt, length-lt}
-use Rattle.recording.proofs.ReadLaws.{not-counted, row-outside, body-outside, stands-there, fields-none, fields-there}
+use Rattle.recording.proofs.ReadLaws.{not-counted, item-outside, body-outside, stands-there, fields-none, fields-there}
 use borrow.Author.Needs.{needs}
 use Rattle.recording.proofs.reader.entry.Statement.{statement}
 use Rattle.recording.proofs.reader.entry.Tie as tie
@@ -22,41 +22,41 @@ no-fields-requires c κs = search needs
 
 returns : tie.Need-returns
 returns c =
-    let c2 = c .before .before in
-    let c4 = c2 .before .before in
-    let f = c4 .args .file .now in
-    let i = c4 .args .i in
-    c .no-fields .ensures ∙ sym (fields-none f i (not-counted f i (omega (arith, c2 .count .ensures, c .before .if1 .taken))))
+    let after-count = c .before .before in
+    let start = after-count .before .before in
+    let f = start .args .file .now in
+    let i = start .args .i in
+    c .no-fields .ensures ∙ sym (fields-none f i (not-counted f i (omega (arith, after-count .count .ensures, c .before .if1 .taken))))
 
 entry-place-requires : tie.Need-entry-place-requires
 entry-place-requires c κs =
-    let c2 = c .before .before in
-    let c3 = c2 .before in
-    let f = c3 .args .file .now in
-    omega (arith, count-lt f (known-bytes f (c2 .shared-slice-known .given)), c .before .count .ensures, c .if1 .left)
+    let after-shared-slice-known = c .before .before in
+    let start = after-shared-slice-known .before in
+    let f = start .args .file .now in
+    omega (arith, count-lt f (known-bytes f (after-shared-slice-known .shared-slice-known .given)), c .before .count .ensures, c .if1 .left)
 
 add-if2 : tie.Need-add-if2
 add-if2 c =
-    let c2 = c .before .before in
-    let c3 = c2 .before in
-    let c4 = c3 .before in
-    let f = c4 .args .file .now in
-    let few = count-lt f (known-bytes f (c3 .shared-slice-known .given)) in
-    record { fits = omega (arith, c2 .count .ensures, c .before .if1 .left, c .entry-place .ensures) }
+    let after-count = c .before .before in
+    let after-shared-slice-known = after-count .before in
+    let start = after-shared-slice-known .before in
+    let f = start .args .file .now in
+    let few = count-lt f (known-bytes f (after-shared-slice-known .shared-slice-known .given)) in
+    record { fits = omega (arith, after-count .count .ensures, c .before .if1 .left, c .entry-place .ensures) }
 
 no-fields-requires-2 : tie.Need-no-fields-requires-2
 no-fields-requires-2 c κs = search needs
 
 returns-2 : tie.Need-returns-2
 returns-2 c =
-    let c2 = c .before .before in
-    let c3 = c2 .before in
-    let c4 = c3 .before in
-    let c6 = c4 .before .before in
-    let f = c6 .args .file .now in
-    let i = c6 .args .i in
-    let counted : i < countOf f = omega (arith, c4 .count .ensures, c3 .if1 .left) in
-    c .no-fields2 .ensures ∙ sym (fields-none f i (row-outside f i counted (omega (arith, c2 .entry-place .ensures, c .before .if2 .taken))))
+    let after-entry-place = c .before .before in
+    let else1 = after-entry-place .before in
+    let after-count = else1 .before in
+    let start = after-count .before .before in
+    let f = start .args .file .now in
+    let i = start .args .i in
+    let counted : i < countOf f = omega (arith, after-count .count .ensures, else1 .if1 .left) in
+    c .no-fields2 .ensures ∙ sym (fields-none f i (item-outside f i counted (omega (arith, after-entry-place .entry-place .ensures, c .before .if2 .taken))))
 
 offset-of-requires : tie.Need-offset-of-requires
 offset-of-requires c κs = search needs
@@ -66,16 +66,16 @@ length-of-requires c κs = search needs
 
 add-if3 : tie.Need-add-if3
 add-if3 c =
-    let c2 = c .before .before in
-    let c3 = c2 .before in
-    let c6 = c3 .before .before .before in
-    let c7 = c6 .before in
-    let f = c7 .args .file .now in
-    let i = c7 .args .i in
-    let b = known-bytes f (c6 .shared-slice-known .given) in
-    let row : entryPlace headWidth i + 13 ≤ length f = omega (arith, c3 .entry-place .ensures, c2 .if2 .left) in
-    let start = offset-lt headWidth f i b row in
-    let long = length-lt headWidth f i b row in
+    let else2 = c .before .before in
+    let after-entry-place = else2 .before in
+    let after-shared-slice-known = after-entry-place .before .before .before in
+    let start = after-shared-slice-known .before in
+    let f = start .args .file .now in
+    let i = start .args .i in
+    let b = known-bytes f (after-shared-slice-known .shared-slice-known .given) in
+    let item : entryPlace headWidth i + entryWidth ≤ length f = omega (arith, after-entry-place .entry-place .ensures, else2 .if2 .left) in
+    let start = offset-lt headWidth f i b item in
+    let long = length-lt headWidth f i b item in
     record { fits = omega (arith, c .before .offset-of .ensures, c .length-of .ensures) }
 
 no-fields-requires-3 : tie.Need-no-fields-requires-3
@@ -83,18 +83,18 @@ no-fields-requires-3 c κs = search needs
 
 returns-3 : tie.Need-returns-3
 returns-3 c =
-    let c2 = c .before .before in
-    let c3 = c2 .before in
-    let c4 = c3 .before in
-    let c5 = c4 .before in
-    let c6 = c5 .before in
-    let c7 = c6 .before in
-    let c9 = c7 .before .before in
-    let f = c9 .args .file .now in
-    let i = c9 .args .i in
-    let counted : i < countOf f = omega (arith, c7 .count .ensures, c6 .if1 .left) in
-    let row : entryPlace headWidth (i + 1) ≤ length f = omega (arith, c5 .entry-place .ensures, c4 .if2 .left) in
-    let past = body-outside f i counted row (omega (arith, c3 .offset-of .ensures, c2 .length-of .ensures, c .before .if3 .taken)) in
+    let after-length-of = c .before .before in
+    let after-offset-of = after-length-of .before in
+    let else2 = after-offset-of .before in
+    let after-entry-place = else2 .before in
+    let else1 = after-entry-place .before in
+    let after-count = else1 .before in
+    let start = after-count .before .before in
+    let f = start .args .file .now in
+    let i = start .args .i in
+    let counted : i < countOf f = omega (arith, after-count .count .ensures, else1 .if1 .left) in
+    let item : entryPlace headWidth (i + 1) ≤ length f = omega (arith, after-entry-place .entry-place .ensures, else2 .if2 .left) in
+    let past = body-outside f i counted item (omega (arith, after-offset-of .offset-of .ensures, after-length-of .length-of .ensures, c .before .if3 .taken)) in
     c .no-fields3 .ensures ∙ sym (fields-none f i past)
 
 number-at-requires : tie.Need-number-at-requires
@@ -112,24 +112,24 @@ word-of-requires c κs = search needs
 returns-4 : tie.Need-returns-4
 unfolding clockOf portOf
 returns-4 c =
-    let c2 = c .before .before in
-    let c3 = c2 .before in
-    let c4 = c3 .before in
-    let c5 = c4 .before in
-    let c6 = c5 .before in
-    let c7 = c6 .before in
-    let c8 = c7 .before in
-    let c9 = c8 .before in
-    let c11 = c9 .before .before in
-    let f = c11 .args .file .now in
-    let i = c11 .args .i in
-    let counted : i < countOf f = omega (arith, c9 .count .ensures, c8 .if1 .left) in
-    let row : entryPlace headWidth (i + 1) ≤ length f = omega (arith, c7 .entry-place .ensures, c6 .if2 .left) in
-    let there = stands-there f i counted row (omega (arith, c5 .offset-of .ensures, c4 .length-of .ensures, c3 .if3 .left)) in
-    let at = c7 .entry-place .ensures in
-    let clock : c2 .number-at .result ≡ clockOf f i = c2 .number-at .ensures ∙ ap (λ (k : ℕ). number (part f k 5)) at in
-    let port : getD f (c7 .entry-place .result + 5) 0 ≡ portOf f i = ap (λ (k : ℕ). getD f (k + 5) 0) at in
-    rw (clock, port, c .word-of .ensures, c5 .offset-of .ensures, c4 .length-of .ensures) (sym (fields-there f i there))
+    let after-number-at = c .before .before in
+    let else3 = after-number-at .before in
+    let after-length-of = else3 .before in
+    let after-offset-of = after-length-of .before in
+    let else2 = after-offset-of .before in
+    let after-entry-place = else2 .before in
+    let else1 = after-entry-place .before in
+    let after-count = else1 .before in
+    let start = after-count .before .before in
+    let f = start .args .file .now in
+    let i = start .args .i in
+    let counted : i < countOf f = omega (arith, after-count .count .ensures, else1 .if1 .left) in
+    let item : entryPlace headWidth (i + 1) ≤ length f = omega (arith, after-entry-place .entry-place .ensures, else2 .if2 .left) in
+    let there = stands-there f i counted item (omega (arith, after-offset-of .offset-of .ensures, after-length-of .length-of .ensures, else3 .if3 .left)) in
+    let at = after-entry-place .entry-place .ensures in
+    let clock : after-number-at .number-at .result ≡ clockOf f i = after-number-at .number-at .ensures ∙ ap (λ (k : ℕ). number (part f k clockWidth)) at in
+    let port : getD f (after-entry-place .entry-place .result + portAt) 0 ≡ portOf f i = ap (λ (k : ℕ). getD f (k + portAt) 0) at in
+    rw (clock, port, c .word-of .ensures, after-offset-of .offset-of .ensures, after-length-of .length-of .ensures) (sym (fields-there f i there))
 
 pub entry-spec : {M : Type 1} → statement M
 entry-spec =

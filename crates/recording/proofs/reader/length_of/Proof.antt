@@ -1,9 +1,10 @@
 use mathlib.Core.Path.{sym, ap, _∙_}
-use Prim.Native.Nat.{ℕ, _+_, _*_}
+use Prim.Native.Nat.{ℕ}
 use native.Mathlib.Nat.{add-assoc}
 use Rattle.octets.specs.Part.{part}
 use Rattle.octets.specs.BigEndian.{number}
-use Rattle.recording.specs.Shape.{lengthOf}
+use Rattle.recording.specs.Shape.{entryPlace, lengthOf, offsetWidth, lengthWidth}
+use Rattle.recording.specs.Format.{headWidth}
 use borrow.Author.Needs.{needs}
 use Rattle.recording.proofs.reader.length_of.Statement.{statement}
 use Rattle.recording.proofs.reader.length_of.Tie as tie
@@ -23,8 +24,9 @@ number-at-requires c κs = search needs
 returns : tie.Need-returns
 unfolding lengthOf
 returns c =
-    let c2 = c .before .before in
-    c .number-at .ensures ∙ ap (λ (k : ℕ). number (part (c2 .args .file .now) k 2)) (sym (add-assoc (4 + 13 * c2 .args .i) 7 4))
+    let start = c .before .before in
+    c .number-at .ensures ∙ ap (λ (k : ℕ). number (part (start .args .file .now) k lengthWidth))
+    (sym (add-assoc (entryPlace headWidth (start .args .i)) headWidth offsetWidth))
 
 pub length-of-spec : {M : Type 1} → statement M
 length-of-spec =

@@ -20,20 +20,20 @@ loop-holds c = (search needs, given-start-none _)
 
 given-length-requires : tie.Need-given-length-requires Inv-loop μ-loop
 given-length-requires c κs =
-    let c3 = c .before .before .before in
-    omega (arith, c3 .pre .0, c .loop-test .taken)
+    let start = c .before .before .before in
+    omega (arith, start .pre .0, c .loop-test .taken)
 
 add-end : tie.Need-add-end Inv-loop μ-loop
 add-end c =
-    let c2 = c .before .before in
-    let c3 = c2 .before in
-    let c4 = c3 .before in
-    let g = c4 .args .entries .now in
-    let i = c2 .loop .i in
-    let b = known-bytes g (c3 .shared-slice-known .given) in
-    let within : i < givenCount g = omega (arith, c4 .pre .0, c .before .loop-test .taken) in
+    let at-loop = c .before .before in
+    let after-shared-slice-known = at-loop .before in
+    let start = after-shared-slice-known .before in
+    let g = start .args .entries .now in
+    let i = at-loop .loop .i in
+    let b = known-bytes g (after-shared-slice-known .shared-slice-known .given) in
+    let within : i < givenCount g = omega (arith, start .pre .0, c .before .loop-test .taken) in
     let most = given-start-most g i b (omega arith) in
-    record { fits = omega (arith, given-long g i b within, c .given-length .ensures, c4 .pre .1) }
+    record { fits = omega (arith, given-long g i b within, c .given-length .ensures, start .pre .1) }
 
 add-i : tie.Need-add-i Inv-loop μ-loop
 add-i c = search needs
@@ -43,15 +43,15 @@ loop-less c = search needs
 
 loop-again : tie.Need-loop-again Inv-loop μ-loop
 loop-again c =
-    let c2 = c .before .before in
-    let c4 = c2 .before .before in
-    let g = c4 .args .entries .now in
-    (search needs, ap₂ (λ (p q : ℕ). p + q) (c2 .loop .inv .1) (c .given-length .ensures) ∙ given-start-more g (c2 .loop .i))
+    let at-loop = c .before .before in
+    let start = at-loop .before .before in
+    let g = start .args .entries .now in
+    (search needs, ap₂ (λ (p q : ℕ). p + q) (at-loop .loop .inv .1) (c .given-length .ensures) ∙ given-start-more g (at-loop .loop .i))
 
 returns : tie.Need-returns Inv-loop μ-loop
 returns c =
-    let c3 = c .before .before .before in
-    c .before .loop .inv .1 ∙ ap (givenStart (c3 .args .entries .now)) (le-antisymm (c .before .loop .inv .0) (c .loop-test .left))
+    let start = c .before .before .before in
+    c .before .loop .inv .1 ∙ ap (givenStart (start .args .entries .now)) (le-antisymm (c .before .loop .inv .0) (c .loop-test .left))
 
 pub given-end-spec : {M : Type 1} → statement M
 given-end-spec =

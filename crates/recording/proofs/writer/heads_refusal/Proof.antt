@@ -18,41 +18,41 @@ given-count-requires c κs = search needs
 
 loop-holds : tie.Need-loop-holds Inv-loop μ-loop
 loop-holds c =
-    let c2 = c .before .before in
-    (c .given-count .ensures, heads-none (c2 .args .entries .now))
+    let start = c .before .before in
+    (c .given-count .ensures, heads-none (start .args .entries .now))
 
 mul-words : tie.Need-mul-words Inv-loop μ-loop
 mul-words c =
-    let c4 = c .before .before .before .before in
-    let within : c .before .loop .i < givenCount (c4 .args .entries .now) = omega (arith, c .before .loop .inv .0, c .loop-test .taken) in
-    record { fits = omega (arith, given-within (c4 .args .entries .now) (c .before .loop .i) within) }
+    let start = c .before .before .before .before in
+    let within : c .before .loop .i < givenCount (start .args .entries .now) = omega (arith, c .before .loop .inv .0, c .loop-test .taken) in
+    record { fits = omega (arith, given-within (start .args .entries .now) (c .before .loop .i) within) }
 
 add-words : tie.Need-add-words Inv-loop μ-loop
 add-words c =
-    let c4 = c .before .before .before .before in
-    let within : c .before .loop .i < givenCount (c4 .args .entries .now) = omega (arith, c .before .loop .inv .0, c .loop-test .taken) in
-    record { fits = omega (arith, given-within (c4 .args .entries .now) (c .before .loop .i) within) }
+    let start = c .before .before .before .before in
+    let within : c .before .loop .i < givenCount (start .args .entries .now) = omega (arith, c .before .loop .inv .0, c .loop-test .taken) in
+    record { fits = omega (arith, given-within (start .args .entries .now) (c .before .loop .i) within) }
 
 shared-slice-read-words : tie.Need-shared-slice-read-words Inv-loop μ-loop
 shared-slice-read-words c =
-    let c2 = c .before .before in
-    let c5 = c2 .before .before .before in
-    let within : c2 .loop .i < givenCount (c5 .args .entries .now) = omega (arith, c2 .loop .inv .0, c .before .loop-test .taken) in
-    omega (arith, given-within (c5 .args .entries .now) (c2 .loop .i) within)
+    let at-loop = c .before .before in
+    let start = at-loop .before .before .before in
+    let within : at-loop .loop .i < givenCount (start .args .entries .now) = omega (arith, at-loop .loop .inv .0, c .before .loop-test .taken) in
+    omega (arith, given-within (start .args .entries .now) (at-loop .loop .i) within)
 
 mul-number-of-8-at : tie.Need-mul-number-of-8-at Inv-loop μ-loop
 mul-number-of-8-at c =
-    let c2 = c .before .before in
-    let c5 = c2 .before .before .before in
-    let within : c2 .loop .i < givenCount (c5 .args .entries .now) = omega (arith, c2 .loop .inv .0, c .before .loop-test .taken) in
-    record { fits = omega (arith, given-within (c5 .args .entries .now) (c2 .loop .i) within) }
+    let at-loop = c .before .before in
+    let start = at-loop .before .before .before in
+    let within : at-loop .loop .i < givenCount (start .args .entries .now) = omega (arith, at-loop .loop .inv .0, c .before .loop-test .taken) in
+    record { fits = omega (arith, given-within (start .args .entries .now) (at-loop .loop .i) within) }
 
 number-of-8-at-requires : tie.Need-number-of-8-at-requires Inv-loop μ-loop
 number-of-8-at-requires c κs =
-    let c2 = c .before .before in
-    let c5 = c2 .before .before .before in
-    let within : c2 .loop .i < givenCount (c5 .args .entries .now) = omega (arith, c2 .loop .inv .0, c .before .loop-test .taken) in
-    omega (arith, given-within (c5 .args .entries .now) (c2 .loop .i) within)
+    let at-loop = c .before .before in
+    let start = at-loop .before .before .before in
+    let within : at-loop .loop .i < givenCount (start .args .entries .now) = omega (arith, at-loop .loop .inv .0, c .before .loop-test .taken) in
+    omega (arith, given-within (start .args .entries .now) (at-loop .loop .i) within)
 
 add-i : tie.Need-add-i Inv-loop μ-loop
 add-i c = search needs
@@ -63,28 +63,28 @@ loop-less c = search needs
 loop-again : tie.Need-loop-again Inv-loop μ-loop
 unfolding givenWord givenClock
 loop-again c =
-    let c2 = c .before .before in
-    let c3 = c2 .before in
-    let c6 = c3 .before .before .before in
-    let within : c3 .loop .i < givenCount (c6 .args .entries .now) = omega (arith, c3 .loop .inv .0, c2 .loop-test .taken) in
-    (c3 .loop .inv .0, rw (c .number-of-8-at .ensures) (heads-more (c3 .loop .inv .1) within))
+    let in-loop = c .before .before in
+    let at-loop = in-loop .before in
+    let start = at-loop .before .before .before in
+    let within : at-loop .loop .i < givenCount (start .args .entries .now) = omega (arith, at-loop .loop .inv .0, in-loop .loop-test .taken) in
+    (at-loop .loop .inv .0, rw (c .number-of-8-at .ensures) (heads-more (at-loop .loop .inv .1) within))
 
 returns : tie.Need-returns Inv-loop μ-loop
 returns c =
-    let c2 = c .before .before in
-    sym (refused-word (c2 .loop .inv .1) (omega (arith, c2 .loop .inv .0, c .before .loop-test .left)) (c .if1 .taken))
+    let at-loop = c .before .before in
+    sym (refused-word (at-loop .loop .inv .1) (omega (arith, at-loop .loop .inv .0, c .before .loop-test .left)) (c .if1 .taken))
 
 returns-2 : tie.Need-returns-2 Inv-loop μ-loop
 returns-2 c =
-    let c2 = c .before .before in
-    let c3 = c2 .before in
-    sym (refused-clock (c3 .loop .inv .1) (omega (arith, c3 .loop .inv .0, c2 .loop-test .left)) (c .before .if1 .left) (c .if2 .taken))
+    let after-loop = c .before .before in
+    let at-loop = after-loop .before in
+    sym (refused-clock (at-loop .loop .inv .1) (omega (arith, at-loop .loop .inv .0, after-loop .loop-test .left)) (c .before .if1 .left) (c .if2 .taken))
 
 returns-3 : tie.Need-returns-3 Inv-loop μ-loop
 returns-3 c =
-    let c2 = c .before .before in
-    let c3 = c2 .before in
-    sym (heads-taken (c3 .loop .inv .1) (omega (arith, c3 .loop .inv .0, c2 .loop-test .left)) (c .before .if1 .left) (c .if2 .left))
+    let after-loop = c .before .before in
+    let at-loop = after-loop .before in
+    sym (heads-taken (at-loop .loop .inv .1) (omega (arith, at-loop .loop .inv .0, after-loop .loop-test .left)) (c .before .if1 .left) (c .if2 .left))
 
 pub heads-refusal-spec : {M : Type 1} → statement M
 heads-refusal-spec =

@@ -15,8 +15,8 @@ writing-refusal-requires c κs = search needs
 
 returns : tie.Need-returns
 returns c =
-    let c5 = c .before .before .before .before .before in
-    let a = c5 .args in
+    let start = c .before .before .before .before .before in
+    let a = start .args in
     let refusal = c .before .writing-refusal .ensures in
     let refused = writing-refused (a .entries .now) (a .bodies .now) (a .room .now) (λ q. c .if1 .taken (refusal ∙ q)) in
     let answer = ap (λ (n : ℕ). record { refusal = n; length = 0 }) refusal ∙ sym (ap (λ (w : Writing). w .answer) refused) in
@@ -30,22 +30,22 @@ given-count-requires c κs = search needs
 
 entry-place-requires : tie.Need-entry-place-requires
 entry-place-requires c κs =
-    let c5 = c .before .before .before .before .before in
-    let c6 = c5 .before in
-    let c10 = c6 .before .before .before .before in
-    let a = c10 .args in
-    let zero = sym (c6 .writing-refusal .ensures) ∙ c5 .if1 .left in
+    let else1 = c .before .before .before .before .before in
+    let after-writing-refusal = else1 .before in
+    let start = after-writing-refusal .before .before .before .before in
+    let a = start .args in
+    let zero = sym (after-writing-refusal .writing-refusal .ensures) ∙ else1 .if1 .left in
     let w = writable (a .entries .now) (a .bodies .now) (length (a .room .now)) zero in
     omega (arith, written-few w, c .given-count .ensures)
 
 add-t12 : tie.Need-add-t12
 unfolding fileLength
 add-t12 c =
-    let c6 = c .before .before .before .before .before .before in
-    let c7 = c6 .before in
-    let c11 = c7 .before .before .before .before in
-    let a = c11 .args in
-    let zero = sym (c7 .writing-refusal .ensures) ∙ c6 .if1 .left in
+    let else1 = c .before .before .before .before .before .before in
+    let after-writing-refusal = else1 .before in
+    let start = after-writing-refusal .before .before .before .before in
+    let a = start .args in
+    let zero = sym (after-writing-refusal .writing-refusal .ensures) ∙ else1 .if1 .left in
     let w = writable (a .entries .now) (a .bodies .now) (length (a .room .now)) zero in
     record { fits = omega (arith, w .short, c .before .given-count .ensures, c .entry-place .ensures) }
 
@@ -55,17 +55,17 @@ same-length c = search needs
 returns-2 : tie.Need-returns-2
 unfolding fileLength
 returns-2 c =
-    let c4 = c .before .before .before .before in
-    let c6 = c4 .before .before in
-    let c7 = c6 .before in
-    let c11 = c7 .before .before .before .before in
-    let a = c11 .args in
-    let zero = sym (c7 .writing-refusal .ensures) ∙ c6 .if1 .left in
+    let after-write-file = c .before .before .before .before in
+    let else1 = after-write-file .before .before in
+    let after-writing-refusal = else1 .before in
+    let start = after-writing-refusal .before .before .before .before in
+    let a = start .args in
+    let zero = sym (after-writing-refusal .writing-refusal .ensures) ∙ else1 .if1 .left in
     let done = writing-done (a .entries .now) (a .bodies .now) (a .room .now) zero in
     let at = c .entry-place .ensures ∙ ap (entryPlace headWidth) (c .before .given-count .ensures) in
     let long = ap (λ (k : ℕ). k + length (a .bodies .now)) at in
     let answer = ap (λ (k : ℕ). record { refusal = 0; length = k }) long ∙ sym (ap (λ (w : Writing). w .answer) done) in
-    (answer, c4 .write-file .ensures ∙ sym (ap (λ (w : Writing). w .room) done))
+    (answer, after-write-file .write-file .ensures ∙ sym (ap (λ (w : Writing). w .room) done))
 
 pub write-spec : {M : Type 1} → statement M
 write-spec =

@@ -4,8 +4,10 @@ use mathlib.Core.List.{List}
 use native.Mathlib.Omega.{arith}
 use Rattle.octets.specs.Part.{patch}
 use Rattle.octets.specs.BigEndian.{bigEndian}
-use Rattle.recording.specs.Writer.{givenWidth}
-use Rattle.recording.specs.Steps.{copiedRow}
+use Rattle.recording.specs.Writer.{givenWidth, givenLengthAt, givenHeadAt}
+use Rattle.recording.specs.Steps.{copiedItem}
+use Rattle.recording.specs.Shape.{offsetWidth, lengthWidth}
+use Rattle.recording.specs.Format.{headWidth, lengthAt}
 use Rattle.recording.proofs.WriteLaws.{given-within, given-range, entry-written}
 use borrow.Author.Needs.{needs}
 use Rattle.recording.proofs.writer.write_entry.Statement.{statement}
@@ -31,8 +33,8 @@ part-copy-at-start c = search needs
 
 part-copy-at-end : tie.Need-part-copy-at-end
 part-copy-at-end c =
-    let c4 = c .before .before .before .before in
-    let inside = given-within (c4 .args .entries .now) (c4 .args .i) (c4 .pre .0) in
+    let start = c .before .before .before .before in
+    let inside = given-within (start .args .entries .now) (start .args .i) (start .pre .0) in
     search needs
 
 copy-at-requires : tie.Need-copy-at-requires
@@ -61,8 +63,8 @@ part-copy-at-start-2 c = search needs
 
 part-copy-at-end-2 : tie.Need-part-copy-at-end-2
 part-copy-at-end-2 c =
-    let c13 = c .before .before .before .before .before .before .before .before .before .before .before .before .before in
-    let inside = given-within (c13 .args .entries .now) (c13 .args .i) (c13 .pre .0) in
+    let start = c .before .before .before .before .before .before .before .before .before .before .before .before .before in
+    let inside = given-within (start .args .entries .now) (start .args .i) (start .pre .0) in
     search needs
 
 copy-at-requires-2 : tie.Need-copy-at-requires-2
@@ -73,22 +75,22 @@ same-length c = search needs
 
 returns : tie.Need-returns
 returns c =
-    let c2 = c .before .before in
-    let c7 = c2 .before .before .before .before .before in
-    let c11 = c7 .before .before .before .before in
-    let c14 = c11 .before .before .before in
-    let c17 = c14 .before .before .before in
-    let a = c17 .args in
+    let after-copy-at2 = c .before .before in
+    let after-write-number-at = after-copy-at2 .before .before .before .before .before in
+    let after-copy-at = after-write-number-at .before .before .before .before in
+    let after-entry-place = after-copy-at .before .before .before in
+    let start = after-entry-place .before .before .before in
+    let a = start .args in
     let g = a .entries .now in
     let room = a .room .now in
-    let at = c14 .entry-place .result in
+    let at = after-entry-place .entry-place .result in
     let from : ℕ = givenWidth * a .i in
-    let head = c11 .copy-at .ensures ∙ ap (patch room at) (given-range g from 3 7) in
-    let offset = c7 .write-number-at .ensures ∙ ap (λ (r : List ℕ). patch r (at + 7) (bigEndian 4 (a .offset))) head in
-    c2 .copy-at2 .ensures
-    ∙ ap₂ (λ (r s : List ℕ). patch r (at + 11) s) offset (given-range g from 10 2)
-    ∙ entry-written g room at (a .offset) (a .i) (c17 .pre .0) (omega (arith, c14 .entry-place .ensures, c17 .pre .2))
-    ∙ ap (λ (k : ℕ). patch room k (copiedRow g (a .offset) (a .i))) (c14 .entry-place .ensures)
+    let head = after-copy-at .copy-at .ensures ∙ ap (patch room at) (given-range g from givenHeadAt headWidth) in
+    let offset = after-write-number-at .write-number-at .ensures ∙ ap (λ (r : List ℕ). patch r (at + headWidth) (bigEndian offsetWidth (a .offset))) head in
+    after-copy-at2 .copy-at2 .ensures
+    ∙ ap₂ (λ (r s : List ℕ). patch r (at + lengthAt) s) offset (given-range g from givenLengthAt lengthWidth)
+    ∙ entry-written g room at (a .offset) (a .i) (start .pre .0) (omega (arith, after-entry-place .entry-place .ensures, start .pre .2))
+    ∙ ap (λ (k : ℕ). patch room k (copiedItem g (a .offset) (a .i))) (after-entry-place .entry-place .ensures)
 
 pub write-entry-spec : {M : Type 1} → statement M
 write-entry-spec =

@@ -4,6 +4,7 @@ use mathlib.Core.List.{List, [], _∷_}
 use Rattle.octets.specs.Part.{patch}
 use Rattle.octets.specs.BigEndian.{bigEndian}
 use Rattle.recording.specs.Format.{recordingEdition}
+use Rattle.recording.specs.Shape.{countAt, countWidth}
 use Rattle.recording.proofs.WriteLaws.{start-written}
 use borrow.Author.Needs.{needs}
 use Rattle.recording.proofs.writer.write_start.Statement.{statement}
@@ -23,13 +24,14 @@ same-length c = search needs
 
 returns : tie.Need-returns
 returns c =
-    let c2 = c .before .before in
-    let c6 = c2 .before .before .before .before in
-    let c10 = c6 .before .before .before .before in
-    let c13 = c10 .before .before .before in
-    let a = c13 .args in
-    let edition = c6 .set-at2 .ensures ∙ ap (λ (r : List ℕ). patch r 1 (recordingEdition ∷ [])) (c10 .set-at .ensures) in
-    c2 .write-number-at .ensures ∙ ap (λ (r : List ℕ). patch r 2 (bigEndian 2 (a .n))) edition ∙ start-written (a .room .now) (a .n) (c13 .pre)
+    let after-write-number-at = c .before .before in
+    let after-set-at2 = after-write-number-at .before .before .before .before in
+    let after-set-at = after-set-at2 .before .before .before .before in
+    let start = after-set-at .before .before .before in
+    let a = start .args in
+    let edition = after-set-at2 .set-at2 .ensures ∙ ap (λ (r : List ℕ). patch r 1 (recordingEdition ∷ [])) (after-set-at .set-at .ensures) in
+    after-write-number-at .write-number-at .ensures ∙ ap (λ (r : List ℕ). patch r countAt (bigEndian countWidth (a .n))) edition
+    ∙ start-written (a .room .now) (a .n) (start .pre)
 
 pub write-start-spec : {M : Type 1} → statement M
 write-start-spec =

@@ -9,10 +9,10 @@ heads-refusal-requires c κs = search needs
 
 returns : tie.Need-returns
 returns c =
-    let c4 = c .before .before .before .before in
-    let g = c4 .args .entries .now in
-    let bodies = c4 .args .bodies .now in
-    let room = c4 .args .room in
+    let start = c .before .before .before .before in
+    let g = start .args .entries .now in
+    let bodies = start .args .bodies .now in
+    let room = start .args .room in
     let heads = c .before .heads-refusal .ensures in
     heads ∙ sym (heads-decide g bodies room (λ q. c .if1 .taken (heads ∙ q)))
 
@@ -21,12 +21,12 @@ lengths-refusal-requires c κs = search needs
 
 returns-2 : tie.Need-returns-2
 returns-2 c =
-    let c2 = c .before .before in
-    let c5 = c2 .before .before .before in
-    let g = c5 .args .entries .now in
-    let bodies = c5 .args .bodies .now in
-    let room = c5 .args .room in
-    c .lengths-refusal .ensures ∙ sym (lengths-decide g bodies room (sym (c2 .heads-refusal .ensures) ∙ c .before .if1 .left))
+    let after-heads-refusal = c .before .before in
+    let start = after-heads-refusal .before .before .before in
+    let g = start .args .entries .now in
+    let bodies = start .args .bodies .now in
+    let room = start .args .room in
+    c .lengths-refusal .ensures ∙ sym (lengths-decide g bodies room (sym (after-heads-refusal .heads-refusal .ensures) ∙ c .before .if1 .left))
 
 pub writing-refusal-spec : {M : Type 1} → statement M
 writing-refusal-spec =

@@ -36,22 +36,22 @@ port-on-requires c κs = formed _ (well (c .before)) .size
 
 returns-3 : tie.Need-returns-3
 returns-3 c =
-    let c2 = c .before .before in
-    refused-4 _ _ _ _ _ (well (c2 .before)) (c2 .if2 .left) (sym (c .before .port-on .ensures) ∙ not-true _ (c .if3 .taken))
+    let else2 = c .before .before in
+    refused-4 _ _ _ _ _ (well (else2 .before)) (else2 .if2 .left) (sym (c .before .port-on .ensures) ∙ not-true _ (c .if3 .taken))
 
 returns-4 : tie.Need-returns-4
 returns-4 c =
-    let c3 = c .before .before .before in
-    refused-late _ _ _ _ _ (well (c3 .before)) (c3 .if2 .left) (on (c .before)) (c .if4 .taken)
+    let else2 = c .before .before .before in
+    refused-late _ _ _ _ _ (well (else2 .before)) (else2 .if2 .left) (on (c .before)) (c .if4 .taken)
 
 last-clock-requires : tie.Need-last-clock-requires
 last-clock-requires c κs = formed _ (well (c .before .before .before .before)) .size
 
 returns-5 : tie.Need-returns-5
 returns-5 c =
-    let c3 = c .before .before .before in
-    let c5 = c3 .before .before in
-    refused-before _ _ _ _ _ (well (c5 .before)) (c5 .if2 .left) (on c3) (c .before .before .if4 .left)
+    let else3 = c .before .before .before in
+    let else2 = else3 .before .before in
+    refused-before _ _ _ _ _ (well (else2 .before)) (else2 .if2 .left) (on else3) (c .before .before .if4 .left)
     (rw (← c .before .last-clock .ensures) (c .if5 .taken))
 
 port-size-requires : tie.Need-port-size-requires
@@ -62,10 +62,10 @@ reading-refusal-requires c κs = search needs
 
 returns-6 : tie.Need-returns-6
 returns-6 c =
-    let c5 = c .before .before .before .before .before in
+    let else3 = c .before .before .before .before .before in
     c .reading-refusal .ensures
-    ∙ ap (λ (size : ℕ). readingRefusal size (s3 c5 .args .packet .now)) (c .before .port-size .ensures)
-    ∙ refused-reading _ _ _ _ _ (well (c5 .before .before .before)) (c5 .before .before .if2 .left) (on c5)
+    ∙ ap (λ (size : ℕ). readingRefusal size (s3 else3 .args .packet .now)) (c .before .port-size .ensures)
+    ∙ refused-reading _ _ _ _ _ (well (else3 .before .before .before)) (else3 .before .before .if2 .left) (on else3)
     (c .before .before .before .before .if4 .left) (rw (← c .before .before .before .last-clock .ensures) (c .before .before .if5 .left))
 
 pub refusal-spec : {M : Type 1} → statement M

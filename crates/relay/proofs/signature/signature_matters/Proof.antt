@@ -40,9 +40,9 @@ not-ours-requires c κs = reads (c .before)
 
 returns-2 : tie.Need-returns-2
 returns-2 c =
-    let c2 = c .before .before in
-    let p = s1 (c2 .before) .args in
-    word-not-ours (p .packet .now) (p .port) (p .clock) (p .tables .now) (p .room) (accepts (c2 .before)) _ (same-port c2) refl refl
+    let after-low-byte = c .before .before in
+    let p = s1 (after-low-byte .before) .args in
+    word-not-ours (p .packet .now) (p .port) (p .clock) (p .tables .now) (p .room) (accepts (after-low-byte .before)) _ (same-port after-low-byte) refl refl
     (sym (c .before .not-ours .ensures) ∙ c .if2 .taken)
 
 used-hash-requires : tie.Need-used-hash-requires
@@ -59,9 +59,9 @@ decision-tells-requires c κs = search needs
 
 returns-3 : tie.Need-returns-3
 returns-3 c =
-    let c5 = c .before .before .before .before .before .before in
-    let p = s1 (c5 .before) .args in
-    word-decided (p .packet .now) (p .port) (p .clock) (p .tables .now) (p .room) (accepts (c5 .before)) _ (same-port c5) refl refl
+    let after-low-byte = c .before .before .before .before .before .before in
+    let p = s1 (after-low-byte .before) .args in
+    word-decided (p .packet .now) (p .port) (p .clock) (p .tables .now) (p .room) (accepts (after-low-byte .before)) _ (same-port after-low-byte) refl refl
     _ (c .before .decide .ensures) _ (c .decision-tells .ensures)
 
 pub signature-matters-spec : {M : Type 1} → statement M

@@ -53,21 +53,21 @@ loop-less c = search needs
 
 loop-again : tie.Need-loop-again Inv-loop μ-loop
 loop-again c =
-    let c4 = c .before .before .before .before in
-    let c5 = c4 .before in
-    let c6 = c5 .before in
-    let c7 = c6 .before in
-    let c10 = c7 .before .before .before in
-    let a = c10 .args in
-    let s = c7 .loop in
+    let after-settings-of = c .before .before .before .before in
+    let after-preimage-of = after-settings-of .before in
+    let in-loop = after-preimage-of .before in
+    let at-loop = in-loop .before in
+    let start = at-loop .before .before .before in
+    let a = start .args in
+    let s = at-loop .loop in
     let ports = relayOf (a .tables .now) .ports in
-    let settings = c4 .settings-of .ensures ∙ ap (λ (i : ℕ). portBytes (getD ports i noPort)) (c5 .preimage-of .ensures) in (
+    let settings = after-settings-of .settings-of .ensures ∙ ap (λ (i : ℕ). portBytes (getD ports i noPort)) (after-preimage-of .preimage-of .ensures) in (
       search needs,
       (
         search needs,
         c .before .copy-at .ensures
             ∙ ap (patch (s .moved) (portWidth * s .n)) settings
-            ∙ moved-more (a .map .now) ports _ (search needs) (s .n) (s .moved) (s .inv .1 .1) (c6 .loop-test .taken),
+            ∙ moved-more (a .map .now) ports _ (search needs) (s .n) (s .moved) (s .inv .1 .1) (in-loop .loop-test .taken),
       ),
     )
 

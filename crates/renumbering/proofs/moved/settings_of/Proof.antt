@@ -42,14 +42,14 @@ copy-requires c κs = search needs
 
 returns-2 : tie.Need-returns-2
 returns-2 c =
-    let c4 = c .before .before .before .before in
-    let c5 = c4 .before in
-    let c6 = c5 .before in
-    let a = c6 .args in
+    let else1 = c .before .before .before .before in
+    let after-shared-slice-known = else1 .before in
+    let start = after-shared-slice-known .before in
+    let a = start .args in
     let t = a .tables .now in
     c .before .copy .ensures
     ∙ part-range t (portsAt + portWidth * a .i) portWidth
-    ∙ settings-there t (known-bytes t (c5 .shared-slice-known .given)) (c6 .pre .0) (a .i) (c4 .if1 .left)
+    ∙ settings-there t (known-bytes t (after-shared-slice-known .shared-slice-known .given)) (start .pre .0) (a .i) (else1 .if1 .left)
 
 pub settings-of-spec : {M : Type 1} → statement M
 settings-of-spec =

@@ -21,10 +21,10 @@ cast-first c = omega (arith, c .before .before .before .before .slice-known .giv
 
 shared-slice-read-first : tie.Need-shared-slice-read-first
 shared-slice-read-first c =
-    let c5 = c .before .before .before .before .before in
-    let c6 = c5 .before in
-    let h = link-ports-small (c6 .args .b .now) (c6 .args .map .now) (known-bytes (c6 .args .b .now) (c5 .slice-known .given))
-    (c .before .before .if1 .taken) (c6 .pre .0) in omega (arith, h .0, c6 .pre .2)
+    let after-slice-known = c .before .before .before .before .before in
+    let start = after-slice-known .before in
+    let h = link-ports-small (start .args .b .now) (start .args .map .now) (known-bytes (start .args .b .now) (after-slice-known .slice-known .given))
+    (c .before .before .if1 .taken) (start .pre .0) in omega (arith, h .0, start .pre .2)
 
 slice-read-second : tie.Need-slice-read-second
 slice-read-second c = search needs
@@ -34,11 +34,12 @@ cast-second c = omega (arith, c .before .before .before .before .before .before 
 
 shared-slice-read-second : tie.Need-shared-slice-read-second
 shared-slice-read-second c =
-    let c4 = c .before .before .before .before in
-    let c7 = c4 .before .before .before in
-    let c8 = c7 .before in
-    let h = link-ports-small (c8 .args .b .now) (c8 .args .map .now) (known-bytes (c8 .args .b .now) (c7 .slice-known .given)) (c4 .if1 .taken)
-    (c8 .pre .0) in omega (arith, h .1, c8 .pre .2)
+    let then1 = c .before .before .before .before in
+    let after-slice-known = then1 .before .before .before in
+    let start = after-slice-known .before in
+    let h = link-ports-small (start .args .b .now) (start .args .map .now) (known-bytes (start .args .b .now) (after-slice-known .slice-known .given))
+    (then1 .if1 .taken)
+    (start .pre .0) in omega (arith, h .1, start .pre .2)
 
 set-at-requires : tie.Need-set-at-requires
 set-at-requires c κs = search needs
@@ -51,19 +52,19 @@ same-length c = search needs
 
 returns : tie.Need-returns
 returns c =
-    let c6 = c .before .before .before .before .before .before in
-    let c12 = c6 .before .before .before .before .before .before in
-    let c15 = c12 .before .before .before in
-    let c16 = c15 .before in
-    link-renamed (c16 .args .b .now) (c16 .args .map .now) (known-bytes (c16 .args .b .now) (c15 .slice-known .given)) (c12 .if1 .taken)
-    (c16 .pre .0) (c16 .pre .1) _ _ (c6 .set-at .ensures) (c .before .before .set-at2 .ensures)
+    let after-set-at = c .before .before .before .before .before .before in
+    let then1 = after-set-at .before .before .before .before .before .before in
+    let after-slice-known = then1 .before .before .before in
+    let start = after-slice-known .before in
+    link-renamed (start .args .b .now) (start .args .map .now) (known-bytes (start .args .b .now) (after-slice-known .slice-known .given)) (then1 .if1 .taken)
+    (start .pre .0) (start .pre .1) _ _ (after-set-at .set-at .ensures) (c .before .before .set-at2 .ensures)
 
 returns-2 : tie.Need-returns-2
 returns-2 c =
-    let c3 = c .before .before .before in
-    let c4 = c3 .before in
-    unused-stays linkWidth linkBytes linkOf link-lent (renameLink (c4 .args .map .now)) (c4 .args .b .now)
-    (known-bytes (c4 .args .b .now) (c3 .slice-known .given)) (c4 .pre .1) (c4 .pre .0) (c .if1 .left)
+    let after-slice-known = c .before .before .before in
+    let start = after-slice-known .before in
+    unused-stays linkWidth linkBytes linkOf link-lent (renameLink (start .args .map .now)) (start .args .b .now)
+    (known-bytes (start .args .b .now) (after-slice-known .slice-known .given)) (start .pre .1) (start .pre .0) (c .if1 .left)
 
 pub rename-link-spec : {M : Type 1} → statement M
 rename-link-spec =

@@ -21,10 +21,10 @@ cast-first c = omega (arith, c .before .before .before .before .slice-known .giv
 
 shared-slice-read-first : tie.Need-shared-slice-read-first
 shared-slice-read-first c =
-    let c5 = c .before .before .before .before .before in
-    let c6 = c5 .before in
-    let h = path-port-small (c6 .args .b .now) (c6 .args .map .now) (known-bytes (c6 .args .b .now) (c5 .slice-known .given))
-    (c .before .before .if1 .taken) (c6 .pre .0) in omega (arith, h, c6 .pre .2)
+    let after-slice-known = c .before .before .before .before .before in
+    let start = after-slice-known .before in
+    let h = path-port-small (start .args .b .now) (start .args .map .now) (known-bytes (start .args .b .now) (after-slice-known .slice-known .given))
+    (c .before .before .if1 .taken) (start .pre .0) in omega (arith, h, start .pre .2)
 
 set-at-requires : tie.Need-set-at-requires
 set-at-requires c κs = search needs
@@ -34,18 +34,19 @@ same-length c = search needs
 
 returns : tie.Need-returns
 returns c =
-    let c6 = c .before .before .before .before .before .before in
-    let c9 = c6 .before .before .before in
-    let c10 = c9 .before in
-    path-renamed (c10 .args .b .now) (c10 .args .map .now) (known-bytes (c10 .args .b .now) (c9 .slice-known .given)) (c6 .if1 .taken) (c10 .pre .0)
-    (c10 .pre .1) _ (c .before .before .set-at .ensures)
+    let then1 = c .before .before .before .before .before .before in
+    let after-slice-known = then1 .before .before .before in
+    let start = after-slice-known .before in
+    path-renamed (start .args .b .now) (start .args .map .now) (known-bytes (start .args .b .now) (after-slice-known .slice-known .given)) (then1 .if1 .taken)
+    (start .pre .0)
+    (start .pre .1) _ (c .before .before .set-at .ensures)
 
 returns-2 : tie.Need-returns-2
 returns-2 c =
-    let c3 = c .before .before .before in
-    let c4 = c3 .before in
-    unused-stays pathWidth pathBytes pathOf path-lent (renamePath (c4 .args .map .now)) (c4 .args .b .now)
-    (known-bytes (c4 .args .b .now) (c3 .slice-known .given)) (c4 .pre .1) (c4 .pre .0) (c .if1 .left)
+    let after-slice-known = c .before .before .before in
+    let start = after-slice-known .before in
+    unused-stays pathWidth pathBytes pathOf path-lent (renamePath (start .args .map .now)) (start .args .b .now)
+    (known-bytes (start .args .b .now) (after-slice-known .slice-known .given)) (start .pre .1) (start .pre .0) (c .if1 .left)
 
 pub rename-path-spec : {M : Type 1} → statement M
 rename-path-spec =

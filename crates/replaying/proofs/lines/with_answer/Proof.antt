@@ -33,8 +33,8 @@ with-verdict-requires c κs = search needs
 returns : tie.Need-returns
 unfolding answerWords
 returns c =
-    let c5 = c .before .before .before .before .before in
-    rw (c5 .answer .given .1) (
+    let after-answer = c .before .before .before .before .before in
+    rw (after-answer .answer .given .1) (
       rw (c .with-number .ensures, c .before .wide .ensures, c .before .before .with-word .ensures, words-appended) refl,
       number-short refusedWord (lit≤ tt) _ (omega arith),
     )

@@ -12,13 +12,14 @@ use native.Mathlib.Omega.{arith}
 use borrow.Author.Needs.{needs}
 use Rattle.replaying.proofs.lines.with_ports.Statement.{statement}
 use Rattle.replaying.proofs.lines.with_ports.Tie as tie
+use Rattle.numbers.specs.Numbers.{portCount}
 
 abbrev Inv-loop : tie.InvT-loop
 Inv-loop ports grown₀ rest₀ port₀ grown rest port =
-    (port ≤ 16) × (rest ≡ ports / 2 ^ port) × (grown ≡ appended grown₀ (spaced (portsBelow ports port)))
+    (port ≤ portCount) × (rest ≡ ports / 2 ^ port) × (grown ≡ appended grown₀ (spaced (portsBelow ports port)))
 
 abbrev μ-loop : tie.MeasureT-loop
-μ-loop ports grown₀ rest₀ port₀ grown rest port = 16 - port
+μ-loop ports grown₀ rest₀ port₀ grown rest port = portCount - port
 
 loop-holds : tie.Need-loop-holds Inv-loop μ-loop
 unfolding portsBelow
@@ -46,7 +47,7 @@ loop-again c =
 returns : tie.Need-returns Inv-loop μ-loop
 returns c =
     let l = c .before .loop in
-    let end : l .port ≡ 16 = omega arith in
+    let end : l .port ≡ portCount = omega arith in
     l .inv .2 ∙ ap (λ (n : ℕ). appended (c .before .before .args .line) (spaced (portsBelow (c .before .before .args .ports) n))) end
 
 pub with-ports-spec : {M : Type 1} → statement M

@@ -81,10 +81,10 @@ returns c =
     let value = c .before .reason-value in
     let clause = c .before .before .reason-clause in
     let test = c .before .before .before .reason-number in
-    let c4 = c .before .before .before .before in
-    rw (c4 .before .before .before .verdict .given .1)
+    let after-with-word = c .before .before .before .before in
+    rw (after-with-word .before .before .before .verdict .given .1)
     (drop-words (test .result) (clause .result) (value .result) (omega arith) (omega arith) (omega arith) _ (test .ensures) (clause .ensures) (value .ensures)
-    _ _ (c .with-reason .ensures ∙ rw (c4 .with-word .ensures) (words-appended _ _ _)))
+    _ _ (c .with-reason .ensures ∙ rw (after-with-word .with-word .ensures) (words-appended _ _ _)))
 
 returns-2 : tie.Need-returns-2
 unfolding verdictWords

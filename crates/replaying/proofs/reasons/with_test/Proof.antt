@@ -29,11 +29,17 @@ with-decimal-requires c κs = search needs
 returns-2 : tie.Need-returns-2
 unfolding testWord _then_otherwise_
 returns-2 c =
-    let c2 = c .before .before in
-    let c4 = c2 .before .before in
-    rw (ne-eqb _ _ (c2 .before .if1 .left))
+    let after-with-character = c .before .before in
+    let after-with-number = after-with-character .before .before in
+    rw (ne-eqb _ _ (after-with-character .before .if1 .left))
     (c .with-decimal .ensures
-    ∙ rw (c .before .wide2 .ensures, c2 .with-character .ensures, c4 .with-number .ensures, c4 .before .wide .ensures) (word-grown _ _ _ _))
+    ∙ rw (
+      c .before .wide2 .ensures,
+      after-with-character .with-character .ensures,
+      after-with-number .with-number .ensures,
+      after-with-number .before .wide
+          .ensures,
+    ) (word-grown _ _ _ _))
 
 pub with-test-spec : {M : Type 1} → statement M
 with-test-spec =

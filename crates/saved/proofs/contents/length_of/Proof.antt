@@ -3,10 +3,11 @@ use Prim.Native.Nat.{ℕ, _+_, _*_}
 use native.Mathlib.Nat.{add-zero}
 use Rattle.octets.specs.Part.{part}
 use Rattle.octets.specs.BigEndian.{number}
-use Rattle.recording.specs.Shape.{lengthOf}
+use Rattle.recording.specs.Shape.{lengthOf, contentsStart, offsetWidth, lengthWidth, itemWidth}
 use borrow.Author.Needs.{needs}
 use Rattle.saved.proofs.contents.length_of.Statement.{statement}
 use Rattle.saved.proofs.contents.length_of.Tie as tie
+use Rattle.saved.specs.File.{headWidth}
 
 mul-number-at : tie.Need-mul-number-at
 mul-number-at c = search needs
@@ -23,8 +24,10 @@ number-at-requires c κs = search needs
 returns : tie.Need-returns
 unfolding lengthOf
 returns c =
-    let c2 = c .before .before in
-    c .number-at .ensures ∙ ap (λ (k : ℕ). number (part (c2 .args .file .now) (k + 4) 2)) (sym (add-zero (4 + 6 * c2 .args .i)))
+    let start = c .before .before in
+    c .number-at .ensures
+    ∙ ap (λ (k : ℕ). number (part (start .args .file .now) (k + offsetWidth) lengthWidth))
+    (sym (add-zero (contentsStart + itemWidth headWidth * start .args .i)))
 
 pub length-of-spec : {M : Type 1} → statement M
 length-of-spec =

@@ -3,10 +3,11 @@ use Prim.Native.Nat.{ℕ, _+_, _*_}
 use native.Mathlib.Nat.{add-zero}
 use Rattle.octets.specs.Part.{part}
 use Rattle.octets.specs.BigEndian.{number}
-use Rattle.recording.specs.Shape.{offsetOf}
+use Rattle.recording.specs.Shape.{offsetOf, contentsStart, offsetWidth, itemWidth}
 use borrow.Author.Needs.{needs}
 use Rattle.saved.proofs.contents.offset_of.Statement.{statement}
 use Rattle.saved.proofs.contents.offset_of.Tie as tie
+use Rattle.saved.specs.File.{headWidth}
 
 mul-number-at : tie.Need-mul-number-at
 mul-number-at c = search needs
@@ -20,8 +21,9 @@ number-at-requires c κs = search needs
 returns : tie.Need-returns
 unfolding offsetOf
 returns c =
-    let c2 = c .before .before in
-    c .number-at .ensures ∙ ap (λ (k : ℕ). number (part (c2 .args .file .now) k 4)) (sym (add-zero (4 + 6 * c2 .args .i)))
+    let start = c .before .before in
+    c .number-at .ensures
+    ∙ ap (λ (k : ℕ). number (part (start .args .file .now) k offsetWidth)) (sym (add-zero (contentsStart + itemWidth headWidth * start .args .i)))
 
 pub offset-of-spec : {M : Type 1} → statement M
 offset-of-spec = tie.close (tie.spec mul-number-at add-number-at number-at-requires returns)

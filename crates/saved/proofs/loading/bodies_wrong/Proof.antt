@@ -13,15 +13,15 @@ use Rattle.saved.proofs.loading.bodies_wrong.Tie as tie
 
 shared-slice-read-sizes-right : tie.Need-shared-slice-read-sizes-right
 shared-slice-read-sizes-right c =
-    let c2 = c .before .before in
-    omega (arith, has-start (c2 .args .file .now) (c2 .pre .1 .0))
+    let start = c .before .before in
+    omega (arith, has-start (start .args .file .now) (start .pre .1 .0))
 
 sizes-right-requires : tie.Need-sizes-right-requires
 unfolding editionOf
 sizes-right-requires c κs =
-    let c2 = c .before .before in
-    let f = c2 .args .file .now in
-    (c2 .pre .0, has-entries f (c2 .pre .1 .0) (counts-eight f (c2 .pre .1 .1)))
+    let start = c .before .before in
+    let f = start .args .file .now in
+    (start .pre .0, has-entries f (start .pre .1 .0) (counts-eight f (start .pre .1 .1)))
 
 returns : tie.Need-returns
 unfolding editionOf
@@ -31,8 +31,8 @@ returns c =
 
 shared-slice-read-if2 : tie.Need-shared-slice-read-if2
 shared-slice-read-if2 c =
-    let c5 = c .before .before .before .before .before in
-    omega (arith, has-start (c5 .args .file .now) (c5 .pre .1 .0))
+    let start = c .before .before .before .before .before in
+    omega (arith, has-start (start .args .file .now) (start .pre .1 .0))
 
 sub-check : tie.Need-sub-check
 sub-check c = search needs
@@ -65,8 +65,8 @@ returns-2 c =
 
 shared-slice-read-bodies-fine : tie.Need-shared-slice-read-bodies-fine
 shared-slice-read-bodies-fine c =
-    let c7 = c .before .before .before .before .before .before .before in
-    omega (arith, has-start (c7 .args .file .now) (c7 .pre .1 .0))
+    let start = c .before .before .before .before .before .before .before in
+    omega (arith, has-start (start .args .file .now) (start .pre .1 .0))
 
 bodies-fine-requires : tie.Need-bodies-fine-requires
 unfolding editionOf

@@ -4,15 +4,19 @@ use native.Mathlib.Omega.{arith}
 use borrow.Author.Needs.{needs}
 use Rattle.saved.proofs.loading.counter_at.Statement.{statement}
 use Rattle.saved.proofs.loading.counter_at.Tie as tie
+use Rattle.editions.specs.Editions.{counterWidth}
 
 number-at-requires : tie.Need-number-at-requires
 number-at-requires c κs = search needs
 
 cast-result : tie.Need-cast-result
 cast-result c =
-    let c2 = c .before .before in
-    let f = c2 .args .file .now in
-    record { fits = omega (arith, c .number-at .ensures, part-lt f (c2 .args .at) 4 (known-bytes f (c .before .shared-slice-known .given)) (c2 .pre)) }
+    let start = c .before .before in
+    let f = start .args .file .now in
+    record {
+      fits = omega
+          (arith, c .number-at .ensures, part-lt f (start .args .at) counterWidth (known-bytes f (c .before .shared-slice-known .given)) (start .pre));
+    }
 
 returns : tie.Need-returns
 returns c = search needs

@@ -15,56 +15,56 @@ use Rattle.saved.proofs.loading.length_wrong.Tie as tie
 
 returns : tie.Need-returns
 returns c =
-    let c2 = c .before .before in
-    sym (too-short (c2 .args .file .now) (c .if1 .taken))
+    let start = c .before .before in
+    sym (too-short (start .args .file .now) (c .if1 .taken))
 
 count-requires : tie.Need-count-requires
 count-requires c κs = search needs
 
 entry-place-requires : tie.Need-entry-place-requires
 entry-place-requires c κs =
-    let c2 = c .before .before in
-    let c3 = c2 .before in
-    let f = c3 .args .file .now in
-    omega (arith, count-lt f (known-bytes f (c2 .shared-slice-known .given)), c .count .ensures)
+    let after-shared-slice-known = c .before .before in
+    let start = after-shared-slice-known .before in
+    let f = start .args .file .now in
+    omega (arith, count-lt f (known-bytes f (after-shared-slice-known .shared-slice-known .given)), c .count .ensures)
 
 returns-2 : tie.Need-returns-2
 returns-2 c =
-    let c2 = c .before .before in
-    let c5 = c2 .before .before .before in
-    sym (cut-short (c5 .args .file .now) (omega (arith, c .if2 .taken, c .before .entry-place .ensures, c2 .count .ensures)))
+    let after-count = c .before .before in
+    let start = after-count .before .before .before in
+    sym (cut-short (start .args .file .now) (omega (arith, c .if2 .taken, c .before .entry-place .ensures, after-count .count .ensures)))
 
 lengths-sum-requires : tie.Need-lengths-sum-requires
 lengths-sum-requires c κs =
-    let c2 = c .before .before in
-    let c4 = c2 .before .before in
-    let c5 = c4 .before in
-    let f = c5 .args .file .now in
-    let few = count-lt f (known-bytes f (c4 .shared-slice-known .given)) in
-    (omega (arith, c .if2 .left, c .before .entry-place .ensures), omega (arith, c2 .count .ensures))
+    let after-count = c .before .before in
+    let after-shared-slice-known = after-count .before .before in
+    let start = after-shared-slice-known .before in
+    let f = start .args .file .now in
+    let few = count-lt f (known-bytes f (after-shared-slice-known .shared-slice-known .given)) in
+    (omega (arith, c .if2 .left, c .before .entry-place .ensures), omega (arith, after-count .count .ensures))
 
 add-result : tie.Need-add-result
 add-result c =
-    let c2 = c .before .before in
-    let c3 = c2 .before in
-    let c5 = c3 .before .before in
-    let c6 = c5 .before in
-    let f = c6 .args .file .now in
-    let b = known-bytes f (c5 .shared-slice-known .given) in
-    let n = c3 .count .result in
-    let inside : entryPlace headWidth n ≤ length f = omega (arith, c .before .if2 .left, c2 .entry-place .ensures) in
+    let after-entry-place = c .before .before in
+    let after-count = after-entry-place .before in
+    let after-shared-slice-known = after-count .before .before in
+    let start = after-shared-slice-known .before in
+    let f = start .args .file .now in
+    let b = known-bytes f (after-shared-slice-known .shared-slice-known .given) in
+    let n = after-count .count .result in
+    let inside : entryPlace headWidth n ≤ length f = omega (arith, c .before .if2 .left, after-entry-place .entry-place .ensures) in
     let few = count-lt f b in
-    record { fits = omega (arith, lengths-most f n b inside, c .lengths-sum .ensures, c2 .entry-place .ensures, c3 .count .ensures) }
+    record { fits = omega (arith, lengths-most f n b inside, c .lengths-sum .ensures, after-entry-place .entry-place .ensures, after-count .count .ensures) }
 
 returns-3 : tie.Need-returns-3
 returns-3 c =
-    let c2 = c .before .before in
-    let c3 = c2 .before in
-    let c6 = c3 .before .before .before in
-    let f = c6 .args .file .now in
-    let n = c3 .count .ensures in
+    let after-entry-place = c .before .before in
+    let after-count = after-entry-place .before in
+    let start = after-count .before .before .before in
+    let f = start .args .file .now in
+    let n = after-count .count .ensures in
     ap₂ (λ (p q : ℕ). not (eqb (p + q) (length f)))
-    (c2 .entry-place .ensures ∙ ap (entryPlace headWidth) n) (c .lengths-sum .ensures ∙ ap (sumBelow (lengthOf headWidth f)) n)
+    (after-entry-place .entry-place .ensures ∙ ap (entryPlace headWidth) n) (c .lengths-sum .ensures ∙ ap (sumBelow (lengthOf headWidth f)) n)
     ∙ sym (sum-decides f)
 
 pub length-wrong-spec : {M : Type 1} → statement M

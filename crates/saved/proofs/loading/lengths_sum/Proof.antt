@@ -3,7 +3,7 @@ use Prim.Native.Nat.{ℕ, _+_, _-_, _≤_}
 use native.Mathlib.Nat.{le-antisymm}
 use lib.ListN.{length}
 use Rattle.octets.proofs.Bytes.{known-bytes}
-use Rattle.recording.specs.Shape.{entryPlace, lengthOf, sumBelow}
+use Rattle.recording.specs.Shape.{entryPlace, lengthOf, sumBelow, itemWidth}
 use Rattle.recording.proofs.Sums.{sum-none, sum-more}
 use Rattle.recording.proofs.ShapeLaws.{length-lt}
 use Rattle.saved.specs.File.{headWidth}
@@ -27,16 +27,16 @@ length-of-requires c κs = search needs
 
 add-sum : tie.Need-add-sum Inv-loop μ-loop
 add-sum c =
-    let c2 = c .before .before in
-    let c3 = c2 .before in
-    let c4 = c3 .before in
-    let f = c4 .args .file .now in
-    let b = known-bytes f (c3 .shared-slice-known .given) in
-    let i = c2 .loop .i in
-    let inside : entryPlace headWidth i + 6 ≤ length f = omega (arith, c4 .pre .0, c .before .loop-test .taken) in
+    let at-loop = c .before .before in
+    let after-shared-slice-known = at-loop .before in
+    let start = after-shared-slice-known .before in
+    let f = start .args .file .now in
+    let b = known-bytes f (after-shared-slice-known .shared-slice-known .given) in
+    let i = at-loop .loop .i in
+    let inside : entryPlace headWidth i + itemWidth headWidth ≤ length f = omega (arith, start .pre .0, c .before .loop-test .taken) in
     let most = lengths-most f i b (omega arith) in
     let long = length-lt headWidth f i b inside in
-    record { fits = omega (arith, c2 .loop .inv .1, c .length-of .ensures, c4 .pre .1, c .before .loop-test .taken) }
+    record { fits = omega (arith, at-loop .loop .inv .1, c .length-of .ensures, start .pre .1, c .before .loop-test .taken) }
 
 add-i : tie.Need-add-i Inv-loop μ-loop
 add-i c = search needs
@@ -46,16 +46,16 @@ loop-less c = search needs
 
 loop-again : tie.Need-loop-again Inv-loop μ-loop
 loop-again c =
-    let c2 = c .before .before in
-    let c4 = c2 .before .before in
-    let f = c4 .args .file .now in
-    let i = c2 .loop .i in
-    (search needs, ap₂ (λ (p q : ℕ). p + q) (c2 .loop .inv .1) (c .length-of .ensures) ∙ sym (sum-more (lengthOf headWidth f) i))
+    let at-loop = c .before .before in
+    let start = at-loop .before .before in
+    let f = start .args .file .now in
+    let i = at-loop .loop .i in
+    (search needs, ap₂ (λ (p q : ℕ). p + q) (at-loop .loop .inv .1) (c .length-of .ensures) ∙ sym (sum-more (lengthOf headWidth f) i))
 
 returns : tie.Need-returns Inv-loop μ-loop
 returns c =
-    let c3 = c .before .before .before in
-    c .before .loop .inv .1 ∙ ap (sumBelow (lengthOf headWidth (c3 .args .file .now))) (le-antisymm (c .before .loop .inv .0) (c .loop-test .left))
+    let start = c .before .before .before in
+    c .before .loop .inv .1 ∙ ap (sumBelow (lengthOf headWidth (start .args .file .now))) (le-antisymm (c .before .loop .inv .0) (c .loop-test .left))
 
 pub lengths-sum-spec : {M : Type 1} → statement M
 lengths-sum-spec =

@@ -12,8 +12,8 @@ load-refusal-requires c κs = search needs
 
 returns : tie.Need-returns
 returns c =
-    let c4 = c .before .before .before .before in
-    let a = c4 .args in
+    let start = c .before .before .before .before in
+    let a = start .args in
     let refusal = c .before .load-refusal .ensures in
     let refused = load-refused (a .file .now) (a .tables .now) (a .tally) (λ q. c .if1 .taken (refusal ∙ q)) in (
       refusal ∙ sym (ap (λ (x : LoadedOn). x .refusal) refused),

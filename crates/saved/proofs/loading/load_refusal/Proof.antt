@@ -13,31 +13,31 @@ length-wrong-requires c κs = search needs
 
 returns : tie.Need-returns
 returns c =
-    let c3 = c .before .before .before in
-    sym (refused-length (c3 .args .file .now) (c3 .args .size) (sym (c .before .length-wrong .ensures) ∙ c .if1 .taken))
+    let start = c .before .before .before in
+    sym (refused-length (start .args .file .now) (start .args .size) (sym (c .before .length-wrong .ensures) ∙ c .if1 .taken))
 
 shared-slice-read-if2 : tie.Need-shared-slice-read-if2
 shared-slice-read-if2 c =
-    let c2 = c .before .before in
-    let c4 = c2 .before .before in
-    omega (arith, has-start (c4 .args .file .now) (sym (c2 .length-wrong .ensures) ∙ c .before .if1 .left))
+    let after-length-wrong = c .before .before in
+    let start = after-length-wrong .before .before in
+    omega (arith, has-start (start .args .file .now) (sym (after-length-wrong .length-wrong .ensures) ∙ c .before .if1 .left))
 
 returns-2 : tie.Need-returns-2
 unfolding kindOf editionOf
 returns-2 c =
-    let c2 = c .before .before in
-    let c3 = c2 .before in
-    let c5 = c3 .before .before in
-    let f = c5 .args .file .now in
-    let a = sym (c3 .length-wrong .ensures) ∙ c2 .if1 .left in
-    sym (refused-kind f (c5 .args .size) a (other-kind f (c .if2 .taken)))
+    let else1 = c .before .before in
+    let after-length-wrong = else1 .before in
+    let start = after-length-wrong .before .before in
+    let f = start .args .file .now in
+    let a = sym (after-length-wrong .length-wrong .ensures) ∙ else1 .if1 .left in
+    sym (refused-kind f (start .args .size) a (other-kind f (c .if2 .taken)))
 
 shared-slice-read-is-known : tie.Need-shared-slice-read-is-known
 shared-slice-read-is-known c =
-    let c3 = c .before .before .before in
-    let c4 = c3 .before in
-    let c6 = c4 .before .before in
-    omega (arith, has-start (c6 .args .file .now) (sym (c4 .length-wrong .ensures) ∙ c3 .if1 .left))
+    let else1 = c .before .before .before in
+    let after-length-wrong = else1 .before in
+    let start = after-length-wrong .before .before in
+    omega (arith, has-start (start .args .file .now) (sym (after-length-wrong .length-wrong .ensures) ∙ else1 .if1 .left))
 
 is-known-requires : tie.Need-is-known-requires
 is-known-requires c κs = search needs
@@ -45,101 +45,101 @@ is-known-requires c κs = search needs
 returns-3 : tie.Need-returns-3
 unfolding kindOf editionOf
 returns-3 c =
-    let c3 = c .before .before .before in
-    let c5 = c3 .before .before in
-    let c6 = c5 .before in
-    let c8 = c6 .before .before in
-    let f = c8 .args .file .now in
-    let a = sym (c6 .length-wrong .ensures) ∙ c5 .if1 .left in
-    let k = edition-decides f (c3 .if2 .left) ∙ ap not (sym (c .before .is-known .ensures)) ∙ c .if3 .taken in
-    sym (refused-kind f (c8 .args .size) a k)
+    let else2 = c .before .before .before in
+    let else1 = else2 .before .before in
+    let after-length-wrong = else1 .before in
+    let start = after-length-wrong .before .before in
+    let f = start .args .file .now in
+    let a = sym (after-length-wrong .length-wrong .ensures) ∙ else1 .if1 .left in
+    let k = edition-decides f (else2 .if2 .left) ∙ ap not (sym (c .before .is-known .ensures)) ∙ c .if3 .taken in
+    sym (refused-kind f (start .args .size) a k)
 
 contents-wrong-requires : tie.Need-contents-wrong-requires
 contents-wrong-requires c κs =
-    let c5 = c .before .before .before .before .before in
-    let c6 = c5 .before in
-    let c8 = c6 .before .before in
-    has-contents (c8 .args .file .now) (sym (c6 .length-wrong .ensures) ∙ c5 .if1 .left)
+    let else1 = c .before .before .before .before .before in
+    let after-length-wrong = else1 .before in
+    let start = after-length-wrong .before .before in
+    has-contents (start .args .file .now) (sym (after-length-wrong .length-wrong .ensures) ∙ else1 .if1 .left)
 
 returns-4 : tie.Need-returns-4
 unfolding kindOf editionOf
 returns-4 c =
-    let c2 = c .before .before in
-    let c3 = c2 .before in
-    let c5 = c3 .before .before in
-    let c7 = c5 .before .before in
-    let c8 = c7 .before in
-    let c10 = c8 .before .before in
-    let f = c10 .args .file .now in
-    let a = sym (c8 .length-wrong .ensures) ∙ c7 .if1 .left in
-    let k = edition-decides f (c5 .if2 .left) ∙ ap not (sym (c3 .is-known .ensures)) ∙ c2 .if3 .left in
-    sym (refused-place f (c10 .args .size) a k (sym (c .before .contents-wrong .ensures) ∙ c .if4 .taken))
+    let else3 = c .before .before in
+    let after-is-known = else3 .before in
+    let else2 = after-is-known .before .before in
+    let else1 = else2 .before .before in
+    let after-length-wrong = else1 .before in
+    let start = after-length-wrong .before .before in
+    let f = start .args .file .now in
+    let a = sym (after-length-wrong .length-wrong .ensures) ∙ else1 .if1 .left in
+    let k = edition-decides f (else2 .if2 .left) ∙ ap not (sym (after-is-known .is-known .ensures)) ∙ else3 .if3 .left in
+    sym (refused-place f (start .args .size) a k (sym (c .before .contents-wrong .ensures) ∙ c .if4 .taken))
 
 bodies-wrong-requires : tie.Need-bodies-wrong-requires
 unfolding kindOf editionOf
 bodies-wrong-requires c κs =
-    let c2 = c .before .before in
-    let c3 = c2 .before in
-    let c7 = c3 .before .before .before .before in
-    let c8 = c7 .before in (
-      sym (c3 .is-known .ensures) ∙ not-false _ (c2 .if3 .left),
-      (sym (c8 .length-wrong .ensures) ∙ c7 .if1 .left, sym (c .before .contents-wrong .ensures) ∙ c .if4 .left),
+    let else3 = c .before .before in
+    let after-is-known = else3 .before in
+    let else1 = after-is-known .before .before .before .before in
+    let after-length-wrong = else1 .before in (
+      sym (after-is-known .is-known .ensures) ∙ not-false _ (else3 .if3 .left),
+      (sym (after-length-wrong .length-wrong .ensures) ∙ else1 .if1 .left, sym (c .before .contents-wrong .ensures) ∙ c .if4 .left),
     )
 
 returns-5 : tie.Need-returns-5
 unfolding kindOf editionOf
 returns-5 c =
-    let c2 = c .before .before in
-    let c3 = c2 .before in
-    let c4 = c3 .before in
-    let c5 = c4 .before in
-    let c7 = c5 .before .before in
-    let c9 = c7 .before .before in
-    let c10 = c9 .before in
-    let c12 = c10 .before .before in
-    let f = c12 .args .file .now in
-    let a = sym (c10 .length-wrong .ensures) ∙ c9 .if1 .left in
-    let k = edition-decides f (c7 .if2 .left) ∙ ap not (sym (c5 .is-known .ensures)) ∙ c4 .if3 .left in
-    let p = sym (c3 .contents-wrong .ensures) ∙ c2 .if4 .left in
-    sym (refused-body f (c12 .args .size) a k p (sym (c .before .bodies-wrong .ensures) ∙ c .if5 .taken))
+    let else4 = c .before .before in
+    let after-contents-wrong = else4 .before in
+    let else3 = after-contents-wrong .before in
+    let after-is-known = else3 .before in
+    let else2 = after-is-known .before .before in
+    let else1 = else2 .before .before in
+    let after-length-wrong = else1 .before in
+    let start = after-length-wrong .before .before in
+    let f = start .args .file .now in
+    let a = sym (after-length-wrong .length-wrong .ensures) ∙ else1 .if1 .left in
+    let k = edition-decides f (else2 .if2 .left) ∙ ap not (sym (after-is-known .is-known .ensures)) ∙ else3 .if3 .left in
+    let p = sym (after-contents-wrong .contents-wrong .ensures) ∙ else4 .if4 .left in
+    sym (refused-body f (start .args .size) a k p (sym (c .before .bodies-wrong .ensures) ∙ c .if5 .taken))
 
 returns-6 : tie.Need-returns-6
 unfolding kindOf editionOf
 returns-6 c =
-    let c2 = c .before .before in
-    let c3 = c2 .before in
-    let c4 = c3 .before in
-    let c5 = c4 .before in
-    let c6 = c5 .before in
-    let c8 = c6 .before .before in
-    let c10 = c8 .before .before in
-    let c11 = c10 .before in
-    let c13 = c11 .before .before in
-    let f = c13 .args .file .now in
-    let a = sym (c11 .length-wrong .ensures) ∙ c10 .if1 .left in
-    let k = edition-decides f (c8 .if2 .left) ∙ ap not (sym (c6 .is-known .ensures)) ∙ c5 .if3 .left in
-    let p = sym (c4 .contents-wrong .ensures) ∙ c3 .if4 .left in
-    let w = sym (c2 .bodies-wrong .ensures) ∙ c .before .if5 .left in
-    sym (refused-size f (c13 .args .size) a k p w (c .if6 .taken))
+    let after-bodies-wrong = c .before .before in
+    let else4 = after-bodies-wrong .before in
+    let after-contents-wrong = else4 .before in
+    let else3 = after-contents-wrong .before in
+    let after-is-known = else3 .before in
+    let else2 = after-is-known .before .before in
+    let else1 = else2 .before .before in
+    let after-length-wrong = else1 .before in
+    let start = after-length-wrong .before .before in
+    let f = start .args .file .now in
+    let a = sym (after-length-wrong .length-wrong .ensures) ∙ else1 .if1 .left in
+    let k = edition-decides f (else2 .if2 .left) ∙ ap not (sym (after-is-known .is-known .ensures)) ∙ else3 .if3 .left in
+    let p = sym (after-contents-wrong .contents-wrong .ensures) ∙ else4 .if4 .left in
+    let w = sym (after-bodies-wrong .bodies-wrong .ensures) ∙ c .before .if5 .left in
+    sym (refused-size f (start .args .size) a k p w (c .if6 .taken))
 
 returns-7 : tie.Need-returns-7
 unfolding kindOf editionOf
 returns-7 c =
-    let c2 = c .before .before in
-    let c3 = c2 .before in
-    let c4 = c3 .before in
-    let c5 = c4 .before in
-    let c6 = c5 .before in
-    let c8 = c6 .before .before in
-    let c10 = c8 .before .before in
-    let c11 = c10 .before in
-    let c13 = c11 .before .before in
-    let f = c13 .args .file .now in
-    let a = sym (c11 .length-wrong .ensures) ∙ c10 .if1 .left in
-    let k = edition-decides f (c8 .if2 .left) ∙ ap not (sym (c6 .is-known .ensures)) ∙ c5 .if3 .left in
-    let p = sym (c4 .contents-wrong .ensures) ∙ c3 .if4 .left in
-    let w = sym (c2 .bodies-wrong .ensures) ∙ c .before .if5 .left in
-    sym (not-refused f (c13 .args .size) a k p w (c .if6 .left))
+    let after-bodies-wrong = c .before .before in
+    let else4 = after-bodies-wrong .before in
+    let after-contents-wrong = else4 .before in
+    let else3 = after-contents-wrong .before in
+    let after-is-known = else3 .before in
+    let else2 = after-is-known .before .before in
+    let else1 = else2 .before .before in
+    let after-length-wrong = else1 .before in
+    let start = after-length-wrong .before .before in
+    let f = start .args .file .now in
+    let a = sym (after-length-wrong .length-wrong .ensures) ∙ else1 .if1 .left in
+    let k = edition-decides f (else2 .if2 .left) ∙ ap not (sym (after-is-known .is-known .ensures)) ∙ else3 .if3 .left in
+    let p = sym (after-contents-wrong .contents-wrong .ensures) ∙ else4 .if4 .left in
+    let w = sym (after-bodies-wrong .bodies-wrong .ensures) ∙ c .before .if5 .left in
+    sym (not-refused f (start .args .size) a k p w (c .if6 .left))
 
 pub load-refusal-spec : {M : Type 1} → statement M
 load-refusal-spec =

@@ -24,8 +24,8 @@ address-at-requires c κs =
 returns-2 : tie.Need-returns-2
 unfolding ownIn heldIn
 returns-2 c =
-    let c1 = c .before in
-    c .address-at .ensures ∙ sym (then-true _ _ (eq-eqb _ 0 (sym (c1 .before .load-refusal .ensures) ∙ c1 .if1 .left)))
+    let else1 = c .before in
+    c .address-at .ensures ∙ sym (then-true _ _ (eq-eqb _ 0 (sym (else1 .before .load-refusal .ensures) ∙ else1 .if1 .left)))
 
 pub own-address-spec : {M : Type 1} → statement M
 own-address-spec = tie.close (tie.spec load-refusal-requires returns address-at-requires returns-2)

@@ -30,12 +30,12 @@ width-of-requires c κs = search needs
 
 returns : tie.Need-returns Inv-loop μ-loop
 returns c =
-    let c2 = c .before .before in
-    let c3 = c2 .before in
-    let c4 = c3 .before in
-    let c6 = c4 .before .before in
-    sym (size-wrong (c6 .args .file .now) (editionAt (c6 .args .edition)) (c4 .loop .body) (omega (arith, c3 .loop-test .taken))
-    (λ q. c .if1 .taken (c2 .length-of .ensures ∙ q ∙ sym (c .before .width-of .ensures))))
+    let after-length-of = c .before .before in
+    let in-loop = after-length-of .before in
+    let at-loop = in-loop .before in
+    let start = at-loop .before .before in
+    sym (size-wrong (start .args .file .now) (editionAt (start .args .edition)) (at-loop .loop .body) (omega (arith, in-loop .loop-test .taken))
+    (λ q. c .if1 .taken (after-length-of .length-of .ensures ∙ q ∙ sym (c .before .width-of .ensures))))
 
 add-body : tie.Need-add-body Inv-loop μ-loop
 add-body c = search needs
@@ -45,18 +45,18 @@ loop-less c = search needs
 
 loop-again : tie.Need-loop-again Inv-loop μ-loop
 loop-again c =
-    let c2 = c .before .before in
-    let c4 = c2 .before .before in
-    let c6 = c4 .before .before in
-    let f = c6 .args .file .now in
-    let right = sym (c2 .length-of .ensures) ∙ c .if1 .left ∙ c .before .width-of .ensures in
-    (search needs, all-more (sized f (editionAt (c6 .args .edition))) (c4 .loop .body) (c4 .loop .inv .1) (eq-eqb _ _ right))
+    let after-length-of = c .before .before in
+    let at-loop = after-length-of .before .before in
+    let start = at-loop .before .before in
+    let f = start .args .file .now in
+    let right = sym (after-length-of .length-of .ensures) ∙ c .if1 .left ∙ c .before .width-of .ensures in
+    (search needs, all-more (sized f (editionAt (start .args .edition))) (at-loop .loop .body) (at-loop .loop .inv .1) (eq-eqb _ _ right))
 
 returns-2 : tie.Need-returns-2 Inv-loop μ-loop
 returns-2 c =
-    let c3 = c .before .before .before in
-    let f = c3 .args .file .now in
-    let form = editionAt (c3 .args .edition) in
+    let start = c .before .before .before in
+    let f = start .args .file .now in
+    let form = editionAt (start .args .edition) in
     sym (sizes-right f form (ap (allBelow (sized f form)) (sym (le-antisymm (c .before .loop .inv .0) (c .loop-test .left))) ∙ c .before .loop .inv .1))
 
 pub sizes-right-spec : {M : Type 1} → statement M

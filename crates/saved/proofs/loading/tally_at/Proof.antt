@@ -50,16 +50,24 @@ counter-at-requires-6 c κs = search needs
 
 returns : tie.Need-returns
 returns c =
-    let c2 = c .before .before in
-    let c3 = c2 .before in
-    let c4 = c3 .before in
-    let c5 = c4 .before in
-    let c7 = c5 .before .before in
-    let c1 = c .before in
-    let f = c7 .args .file .now in
+    let after-counter-at4 = c .before .before in
+    let after-counter-at3 = after-counter-at4 .before in
+    let after-counter-at2 = after-counter-at3 .before in
+    let after-counter-at = after-counter-at2 .before in
+    let start = after-counter-at .before .before in
+    let after-counter-at5 = c .before in
+    let f = start .args .file .now in
     let last = c .counter-at6 .ensures in
-    rw (c5 .counter-at .ensures, c4 .counter-at2 .ensures, c3 .counter-at3 .ensures, c2 .counter-at4 .ensures, c1 .counter-at5 .ensures, last)
-    (tally-read f (c7 .args .at))
+    rw (
+      after-counter-at .counter-at .ensures,
+      after-counter-at2 .counter-at2 .ensures,
+      after-counter-at3 .counter-at3 .ensures,
+      after-counter-at4 .counter-at4
+          .ensures,
+      after-counter-at5 .counter-at5 .ensures,
+      last,
+    )
+    (tally-read f (start .args .at))
 
 pub tally-at-spec : {M : Type 1} → statement M
 tally-at-spec =

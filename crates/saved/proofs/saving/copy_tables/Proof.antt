@@ -1,5 +1,5 @@
 -- in two parts, the first of k bytes
-use Prim.Native.Nat.{ℕ, _+_, _-_, _≤_}
+use Prim.Native.Nat.{ℕ, _+_, _-_, _%_, _≤_}
 use native.Mathlib.Nat.{zero-add}
 use mathlib.Core.List.{List, _++_}
 use mathlib.Core.Path.{_≡_, sym, ap, _∙_}
@@ -53,6 +53,10 @@ copy-at-requires-2 c κs = search needs
 same-length : tie.Need-same-length
 same-length c = search needs
 
+-- what stands before the next multiple of 16 in the file
+abbrev firstPart : ℕ
+firstPart = 16 - bodiesAt % 16
+
 returns : tie.Need-returns
 unfolding part
 returns c =
@@ -61,8 +65,9 @@ returns c =
     let room = a .room .now in
     let tables = a .tables .now in
     c .before .before .copy-at2 .ensures
-    ∙ ap (λ (r : List ℕ). patch r 64 (part tables 12 (tableSize - 12))) (c .before .before .before .before .before .before .before .copy-at .ensures)
-    ∙ in-two room tables 12 (start .pre .0) (omega arith) (start .pre .1)
+    ∙ ap (λ (r : List ℕ). patch r (bodiesAt + firstPart) (part tables firstPart (tableSize - firstPart)))
+    (c .before .before .before .before .before .before .before .copy-at .ensures)
+    ∙ in-two room tables firstPart (start .pre .0) (omega arith) (start .pre .1)
 
 pub copy-tables-spec : {M : Type 1} → statement M
 copy-tables-spec =

@@ -4,7 +4,7 @@ use Prim.Native.Nat.{ℕ, _+_, _-_, _≤_}
 use native.Mathlib.Nat.{le-antisymm}
 use lib.ListN.{length}
 use Rattle.octets.specs.Part.{patch}
-use Rattle.recording.specs.Shape.{entryPlace, sumBelow}
+use Rattle.recording.specs.Shape.{entryPlace, sumBelow, contentsStart}
 use Rattle.recording.proofs.Sums.{sum-none, sum-more}
 use Rattle.editions.specs.Editions.{current, widthAt}
 use Rattle.saved.specs.File.{bodyCount, headWidth, bodiesAt}
@@ -19,7 +19,8 @@ use Rattle.saved.proofs.saving.write_contents.Tie as tie
 
 abbrev Inv-loop : tie.InvT-loop
 Inv-loop room₀ offset₀ i₀ room offset i =
-    (i ≤ bodyCount) × ((length room ≡ length room₀) × ((offset ≡ bodiesAt + sumBelow (widthAt current) i) × (room ≡ patch room₀ 4 (contentsBytes i))))
+    (i ≤ bodyCount) × ((length room ≡ length room₀) ×
+    ((offset ≡ bodiesAt + sumBelow (widthAt current) i) × (room ≡ patch room₀ contentsStart (contentsBytes i))))
 
 abbrev μ-loop : tie.MeasureT-loop
 μ-loop room₀ offset₀ i₀ room offset i = bodyCount - i
@@ -29,19 +30,19 @@ loop-holds c = (search needs, (refl, (omega (arith, sum-none (widthAt current)),
 
 write-entry-requires : tie.Need-write-entry-requires Inv-loop μ-loop
 write-entry-requires c κs =
-    let c2 = c .before .before in
-    let c4 = c2 .before .before in
-    (c .before .loop-test .taken, omega (arith, c4 .pre, c2 .loop .inv .1 .0))
+    let at-loop = c .before .before in
+    let start = at-loop .before .before in
+    (c .before .loop-test .taken, omega (arith, start .pre, at-loop .loop .inv .1 .0))
 
 width-of-requires : tie.Need-width-of-requires Inv-loop μ-loop
 width-of-requires c κs = search (now-known, needs)
 
 add-offset : tie.Need-add-offset Inv-loop μ-loop
 add-offset c =
-    let c5 = c .before .before .before .before .before in
-    let c6 = c5 .before in
-    let within = width-within today (c6 .loop .i) (c5 .loop-test .taken) in
-    record { fits = omega (arith, c .width-of .ensures, c6 .loop .inv .1 .1 .0) }
+    let in-loop = c .before .before .before .before .before in
+    let at-loop = in-loop .before in
+    let within = width-within today (at-loop .loop .i) (in-loop .loop-test .taken) in
+    record { fits = omega (arith, c .width-of .ensures, at-loop .loop .inv .1 .1 .0) }
 
 add-i : tie.Need-add-i Inv-loop μ-loop
 add-i c = search needs
@@ -51,24 +52,33 @@ loop-less c = search needs
 
 loop-again : tie.Need-loop-again Inv-loop μ-loop
 loop-again c =
-    let c3 = c .before .before .before in
-    let c5 = c3 .before .before in
-    let c6 = c5 .before in
-    let c8 = c6 .before .before in
-    let i = c6 .loop .i in
-    let offset = c6 .loop .inv .1 .1 .0 in
-    let more = contents-more (c8 .args .room .now) i (omega (arith, c8 .pre, c5 .loop-test .taken)) in
-    let entry = ap₂ (λ (r : List ℕ) (k : ℕ). patch r (entryPlace headWidth i) (entryBytes k i)) (c6 .loop .inv .1 .1 .1) offset in
-    (search needs, (search needs, (omega (arith, offset, c .width-of .ensures, sum-more (widthAt current) i), c3 .write-entry .ensures ∙ entry ∙ more)))
+    let after-write-entry = c .before .before .before in
+    let in-loop = after-write-entry .before .before in
+    let at-loop = in-loop .before in
+    let start = at-loop .before .before in
+    let i = at-loop .loop .i in
+    let offset = at-loop .loop .inv .1 .1 .0 in
+    let more = contents-more (start .args .room .now) i (omega (arith, start .pre, in-loop .loop-test .taken)) in
+    let entry = ap₂ (λ (r : List ℕ) (k : ℕ). patch r (entryPlace headWidth i) (entryBytes k i)) (at-loop .loop .inv .1 .1 .1) offset in (
+      search needs,
+      (
+        search needs,
+        (
+          omega (arith, offset, c .width-of .ensures, sum-more (widthAt current) i),
+          after-write-entry .write-entry .ensures ∙ entry
+              ∙ more,
+        ),
+      ),
+    )
 
 same-length : tie.Need-same-length Inv-loop μ-loop
 same-length c = search needs
 
 returns : tie.Need-returns Inv-loop μ-loop
 returns c =
-    let c3 = c .before .before .before in
+    let start = c .before .before .before in
     c .before .loop .inv .1 .1 .1
-    ∙ ap (λ (k : ℕ). patch (c3 .args .room .now) 4 (contentsBytes k)) (le-antisymm (c .before .loop .inv .0) (c .loop-test .left))
+    ∙ ap (λ (k : ℕ). patch (start .args .room .now) contentsStart (contentsBytes k)) (le-antisymm (c .before .loop .inv .0) (c .loop-test .left))
 
 pub write-contents-spec : {M : Type 1} → statement M
 write-contents-spec =

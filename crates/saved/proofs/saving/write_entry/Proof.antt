@@ -10,6 +10,7 @@ use native.Mathlib.Omega.{arith}
 use borrow.Author.Needs.{needs}
 use Rattle.saved.proofs.saving.write_entry.Statement.{statement}
 use Rattle.saved.proofs.saving.write_entry.Tie as tie
+use Rattle.recording.specs.Shape.{offsetWidth, lengthWidth}
 
 entry-place-requires : tie.Need-entry-place-requires
 entry-place-requires c κs = search needs
@@ -31,17 +32,18 @@ same-length c = search needs
 
 returns : tie.Need-returns
 returns c =
-    let c2 = c .before .before in
-    let c3 = c2 .before in
-    let c7 = c3 .before .before .before .before in
-    let c9 = c7 .before .before in
-    let c11 = c9 .before .before in
-    let a = c11 .args in
-    let at = c9 .entry-place .result in
-    c2 .write-number-at2 .ensures
-    ∙ ap₂ (λ (r : List ℕ) (k : ℕ). patch r (at + 4) (bigEndian 2 k)) (c7 .write-number-at .ensures) (c3 .width-of .ensures)
-    ∙ entry-written (a .room .now) at (a .offset) (a .i) (omega (arith, c9 .entry-place .ensures, c11 .pre .0, c11 .pre .1))
-    ∙ ap (λ (k : ℕ). patch (a .room .now) k (entryBytes (a .offset) (a .i))) (c9 .entry-place .ensures)
+    let after-write-number-at2 = c .before .before in
+    let after-width-of = after-write-number-at2 .before in
+    let after-write-number-at = after-width-of .before .before .before .before in
+    let after-entry-place = after-write-number-at .before .before in
+    let start = after-entry-place .before .before in
+    let a = start .args in
+    let at = after-entry-place .entry-place .result in
+    after-write-number-at2 .write-number-at2 .ensures
+    ∙ ap₂ (λ (r : List ℕ) (k : ℕ). patch r (at + offsetWidth) (bigEndian lengthWidth k)) (after-write-number-at .write-number-at .ensures)
+    (after-width-of .width-of .ensures)
+    ∙ entry-written (a .room .now) at (a .offset) (a .i) (omega (arith, after-entry-place .entry-place .ensures, start .pre .0, start .pre .1))
+    ∙ ap (λ (k : ℕ). patch (a .room .now) k (entryBytes (a .offset) (a .i))) (after-entry-place .entry-place .ensures)
 
 pub write-entry-spec : {M : Type 1} → statement M
 write-entry-spec =

@@ -12,6 +12,7 @@ use Rattle.saved.proofs.SaveLaws.{file-written}
 use borrow.Author.Needs.{needs}
 use Rattle.saved.proofs.saving.write_file.Statement.{statement}
 use Rattle.saved.proofs.saving.write_file.Tie as tie
+use Rattle.recording.specs.Shape.{contentsStart}
 
 write-start-requires : tie.Need-write-start-requires
 write-start-requires c κs = search needs
@@ -21,12 +22,12 @@ write-contents-requires c κs = search needs
 
 copy-tables-requires : tie.Need-copy-tables-requires
 copy-tables-requires c κs =
-    let c3 = c .before .before .before in
-    let c7 = c3 .before .before .before .before in
-    let c11 = c7 .before .before .before .before in
-    let tables = c11 .args .tables .now in
-    let size = c3 .write-contents .kept .0 ∙ c7 .write-start .kept .0 in
-    (formed tables (c11 .pre .0) .size, omega (arith, size, c11 .pre .1))
+    let after-write-contents = c .before .before .before in
+    let after-write-start = after-write-contents .before .before .before .before in
+    let start = after-write-start .before .before .before .before in
+    let tables = start .args .tables .now in
+    let size = after-write-contents .write-contents .kept .0 ∙ after-write-start .write-start .kept .0 in
+    (formed tables (start .pre .0) .size, omega (arith, size, start .pre .1))
 
 write-tally-requires : tie.Need-write-tally-requires
 write-tally-requires c κs = search needs
@@ -36,19 +37,20 @@ same-length c = search needs
 
 returns : tie.Need-returns
 returns c =
-    let c2 = c .before .before in
-    let c6 = c2 .before .before .before .before in
-    let c10 = c6 .before .before .before .before in
-    let c14 = c10 .before .before .before .before in
-    let c17 = c14 .before .before .before in
-    let c18 = c17 .before in
-    let a = c18 .args in
+    let after-write-tally = c .before .before in
+    let after-copy-tables = after-write-tally .before .before .before .before in
+    let after-write-contents = after-copy-tables .before .before .before .before in
+    let after-write-start = after-write-contents .before .before .before .before in
+    let after-shared-slice-known = after-write-start .before .before .before in
+    let start = after-shared-slice-known .before in
+    let a = start .args in
     let tables = a .tables .now in
-    let contents = c10 .write-contents .ensures ∙ ap (λ (r : List ℕ). patch r 4 (contentsBytes bodyCount)) (c14 .write-start .ensures) in
-    let copied = c6 .copy-tables .ensures ∙ ap (λ (r : List ℕ). patch r 52 tables) contents in
-    c2 .write-tally .ensures
+    let contents = after-write-contents .write-contents .ensures
+    ∙ ap (λ (r : List ℕ). patch r contentsStart (contentsBytes bodyCount)) (after-write-start .write-start .ensures) in
+    let copied = after-copy-tables .copy-tables .ensures ∙ ap (λ (r : List ℕ). patch r bodiesAt tables) contents in
+    after-write-tally .write-tally .ensures
     ∙ ap (λ (r : List ℕ). patch r (bodiesAt + tableSize) (tallyBytes (a .tally))) copied
-    ∙ file-written tables (a .tally) (a .room .now) (known-bytes tables (c17 .shared-slice-known .given)) (c18 .pre .0) (c18 .pre .1)
+    ∙ file-written tables (a .tally) (a .room .now) (known-bytes tables (after-shared-slice-known .shared-slice-known .given)) (start .pre .0) (start .pre .1)
 
 pub write-file-spec : {M : Type 1} → statement M
 write-file-spec =

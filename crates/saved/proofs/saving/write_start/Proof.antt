@@ -9,6 +9,7 @@ use Rattle.saved.proofs.SaveLaws.{start-written}
 use borrow.Author.Needs.{needs}
 use Rattle.saved.proofs.saving.write_start.Statement.{statement}
 use Rattle.saved.proofs.saving.write_start.Tie as tie
+use Rattle.recording.specs.Shape.{countAt, countWidth}
 
 set-at-requires : tie.Need-set-at-requires
 set-at-requires c κs = search needs
@@ -24,12 +25,13 @@ same-length c = search needs
 
 returns : tie.Need-returns
 returns c =
-    let c2 = c .before .before in
-    let c6 = c2 .before .before .before .before in
-    let c10 = c6 .before .before .before .before in
-    let c13 = c10 .before .before .before in
-    let edition = c6 .set-at2 .ensures ∙ ap (λ (r : List ℕ). patch r 1 (currentEdition ∷ [])) (c10 .set-at .ensures) in
-    c2 .write-number-at .ensures ∙ ap (λ (r : List ℕ). patch r 2 (bigEndian 2 bodyCount)) edition ∙ start-written (c13 .args .room .now) (c13 .pre)
+    let after-write-number-at = c .before .before in
+    let after-set-at2 = after-write-number-at .before .before .before .before in
+    let after-set-at = after-set-at2 .before .before .before .before in
+    let start = after-set-at .before .before .before in
+    let edition = after-set-at2 .set-at2 .ensures ∙ ap (λ (r : List ℕ). patch r 1 (currentEdition ∷ [])) (after-set-at .set-at .ensures) in
+    after-write-number-at .write-number-at .ensures ∙ ap (λ (r : List ℕ). patch r countAt (bigEndian countWidth bodyCount)) edition
+    ∙ start-written (start .args .room .now) (start .pre)
 
 pub write-start-spec : {M : Type 1} → statement M
 write-start-spec =

@@ -33,11 +33,12 @@ loop-less c = search needs
 
 loop-again : tie.Need-loop-again Inv-loop μ-loop
 loop-again c =
-    let c4 = c .before .before .before .before in
-    let c5 = c4 .before in
-    let c7 = c5 .before .before in
-    let s = c5 .loop in
-    let wrote = c .before .before .put-port .ensures ∙ ports-more (c7 .args .tables .now) (c7 .pre) (s .tables) (s .i) (s .inv .1 .1) (c4 .loop-test .taken) in
+    let in-loop = c .before .before .before .before in
+    let at-loop = in-loop .before in
+    let start = at-loop .before .before in
+    let s = at-loop .loop in
+    let wrote = c .before .before .put-port .ensures
+    ∙ ports-more (start .args .tables .now) (start .pre) (s .tables) (s .i) (s .inv .1 .1) (in-loop .loop-test .taken) in
     (search needs, (search needs, wrote))
 
 same-length : tie.Need-same-length Inv-loop μ-loop

@@ -35,13 +35,13 @@ same-length c = search needs
 returns : tie.Need-returns
 unfolding localBytes
 returns c =
-    let c7 = c .before .before .before .before .before .before .before in
-    let c10 = c7 .before .before .before in
-    let a = c10 .args in
+    let after-set-at = c .before .before .before .before .before .before .before in
+    let start = after-set-at .before .before .before in
+    let a = start .args in
     let wide : length (a .t3) ≡ addressWidth = search needs in
     let at : ℕ = localsAt + localWidth * a .place in
-    let all = record-written localForm (a .t3) (a .tables .now) at (omega (arith, c10 .pre .0, c10 .pre .1)) in
-    rw (c .before .before .copy-at .ensures, c7 .set-at .ensures) (rw (exactly-same addressWidth (a .t3) wide) at all)
+    let all = record-written localForm (a .t3) (a .tables .now) at (omega (arith, start .pre .0, start .pre .1)) in
+    rw (c .before .before .copy-at .ensures, after-set-at .set-at .ensures) (rw (exactly-same addressWidth (a .t3) wide) at all)
 
 pub put-local-spec : {M : Type 1} → statement M
 put-local-spec =

@@ -21,13 +21,13 @@ same-length c = search needs
 
 returns : tie.Need-returns
 returns c =
-    let c2 = c .before .before in
-    let c6 = c2 .before .before .before .before in
-    let c10 = c6 .before .before .before .before in
-    let c13 = c10 .before .before .before in
-    let a = c13 .args in
-    rw (c2 .write-number-at3 .ensures, c6 .write-number-at2 .ensures, c10 .write-number-at .ensures)
-    (fields-written rateSettingsForm (makeRateSettings (a .target) (a .grace) (a .penalty)) (a .tables .now) rateAt (omega (arith, c13 .pre)))
+    let after-write-number-at3 = c .before .before in
+    let after-write-number-at2 = after-write-number-at3 .before .before .before .before in
+    let after-write-number-at = after-write-number-at2 .before .before .before .before in
+    let start = after-write-number-at .before .before .before in
+    let a = start .args in
+    rw (after-write-number-at3 .write-number-at3 .ensures, after-write-number-at2 .write-number-at2 .ensures, after-write-number-at .write-number-at .ensures)
+    (fields-written rateSettingsForm (makeRateSettings (a .target) (a .grace) (a .penalty)) (a .tables .now) rateAt (omega (arith, start .pre)))
 
 pub put-rate-spec : {M : Type 1} → statement M
 put-rate-spec =

@@ -46,10 +46,11 @@ loop-less c = search needs
 
 loop-again : tie.Need-loop-again Inv-loop μ-loop
 loop-again c =
-    let c3 = c .before .before .before in
-    let at = c3 .before .before in (
+    let after-record-at = c .before .before .before in
+    let at = after-record-at .before .before in (
       search needs,
-      counted-more _ _ _ _ _ (at .loop .i) (at .loop .inv .1) (c3 .record-at .ensures .0) (c .before .before .is-live .ensures) (c .before .mark-of .ensures)
+      counted-more _ _ _ _ _ (at .loop .i) (at .loop .inv .1) (after-record-at .record-at .ensures .0) (c .before .before .is-live .ensures)
+          (c .before .mark-of .ensures)
           (c .wide .ensures),
     )
 

@@ -34,8 +34,8 @@ same-length c = search needs
 
 returns-2 : tie.Need-returns-2
 returns-2 c =
-    let c5 = c .before .before .before .before .before in
-    put-some _ _ _ (c5 .before .before .record-at .ensures .0) (c5 .if1 .left) _ (c .before .before .copy .ensures ∙ part-range _ 1 _)
+    let else1 = c .before .before .before .before .before in
+    put-some _ _ _ (else1 .before .before .record-at .ensures .0) (else1 .if1 .left) _ (c .before .before .copy .ensures ∙ part-range _ 1 _)
 
 pub put-record-spec : {M : Type 1} → statement M
 put-record-spec =

@@ -50,17 +50,17 @@ loop-less c = search needs
 
 loop-again : tie.Need-loop-again Inv-loop μ-loop
 loop-again c =
-    let c2 = c .before .before in
-    let c3 = c2 .before in
-    let c4 = c3 .before in
-    let a = c4 .args in
-    let good = c4 .good in
-    let l = c3 .loop in
+    let in-loop = c .before .before in
+    let at-loop = in-loop .before in
+    let start = at-loop .before in
+    let a = start .args in
+    let good = start .good in
+    let l = at-loop .loop in
     let long : length (a .counts) ≡ counterCount = search needs in
     let x : Answered = entry (a .came) (a .size) (a .answer) in (
       search needs,
       simp length-set (omega (arith, l .inv .1)),
-      one-more (a .counts) x long (l .grown) (l .counter) (l .inv .2) (c2 .loop-test .taken) _ _ (c .wrapping-add-u64 .ensures)
+      one-more (a .counts) x long (l .grown) (l .counter) (l .inv .2) (in-loop .loop-test .taken) _ _ (c .wrapping-add-u64 .ensures)
           (c .before .counted-at .ensures),
     )
 

@@ -26,9 +26,9 @@ leaving-by-requires c κs = search needs
 returns-3 : tie.Need-returns-3
 unfolding countedAt packetsOn bytesInOn bytesOutBy droppedOn droppedBy acceptedOn _then_otherwise_
 returns-3 c =
-    let c2 = c .before .before in
-    let c3 = c2 .before in
-    rw (le-ltb _ _ (c3 .if1 .left), le-ltb _ _ (c2 .if2 .left), lt-ltb _ _ (c .before .if3 .taken)) (c .leaving-by .ensures)
+    let else2 = c .before .before in
+    let else1 = else2 .before in
+    rw (le-ltb _ _ (else1 .if1 .left), le-ltb _ _ (else2 .if2 .left), lt-ltb _ _ (c .before .if3 .taken)) (c .leaving-by .ensures)
 
 dropped-on-requires : tie.Need-dropped-on-requires
 dropped-on-requires c κs = search needs
@@ -36,10 +36,10 @@ dropped-on-requires c κs = search needs
 returns-4 : tie.Need-returns-4
 unfolding countedAt packetsOn bytesInOn bytesOutBy droppedOn droppedBy acceptedOn _then_otherwise_
 returns-4 c =
-    let c2 = c .before .before in
-    let c3 = c2 .before in
-    let c4 = c3 .before in
-    rw (le-ltb _ _ (c4 .if1 .left), le-ltb _ _ (c3 .if2 .left), le-ltb _ _ (c2 .if3 .left), lt-ltb _ _ (c .before .if4 .taken))
+    let else3 = c .before .before in
+    let else2 = else3 .before in
+    let else1 = else2 .before in
+    rw (le-ltb _ _ (else1 .if1 .left), le-ltb _ _ (else2 .if2 .left), le-ltb _ _ (else3 .if3 .left), lt-ltb _ _ (c .before .if4 .taken))
     (c .dropped-on .ensures)
 
 dropped-by-requires : tie.Need-dropped-by-requires
@@ -48,10 +48,10 @@ dropped-by-requires c κs = search needs
 returns-5 : tie.Need-returns-5
 unfolding countedAt packetsOn bytesInOn bytesOutBy droppedOn droppedBy acceptedOn _then_otherwise_
 returns-5 c =
-    let c2 = c .before .before in
-    let c3 = c2 .before in
-    let c4 = c3 .before in
-    rw (le-ltb _ _ (c4 .if1 .left), le-ltb _ _ (c3 .if2 .left), le-ltb _ _ (c2 .if3 .left), le-ltb _ _ (c .before .if4 .left))
+    let else3 = c .before .before in
+    let else2 = else3 .before in
+    let else1 = else2 .before in
+    rw (le-ltb _ _ (else1 .if1 .left), le-ltb _ _ (else2 .if2 .left), le-ltb _ _ (else3 .if3 .left), le-ltb _ _ (c .before .if4 .left))
     (c .dropped-by .ensures)
 
 pub counted-at-spec : {M : Type 1} → statement M

@@ -22,9 +22,9 @@ amount-on-requires c κs = search needs
 returns-2 : tie.Need-returns-2
 unfolding _then_otherwise_ _and_
 returns-2 c =
-    let c2 = c .before .before in
-    let a = c2 .before .args in
-    rw (ne-eqb (testOf (a .answer)) 0 (λ q. c .before .if1 .left (c2 .test-of .ensures ∙ q))) (c .amount-on .ensures)
+    let after-test-of = c .before .before in
+    let a = after-test-of .before .args in
+    rw (ne-eqb (testOf (a .answer)) 0 (λ q. c .before .if1 .left (after-test-of .test-of .ensures ∙ q))) (c .amount-on .ensures)
 
 pub dropped-on-spec : {M : Type 1} → statement M
 dropped-on-spec = tie.close (tie.spec test-of-requires returns amount-on-requires returns-2)

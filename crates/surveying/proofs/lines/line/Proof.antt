@@ -25,9 +25,9 @@ port-at-requires c κs = search needs
 returns-3 : tie.Need-returns-3
 unfolding lineAt _then_otherwise_
 returns-3 c =
-    let c2 = c .before .before in
-    let c3 = c2 .before in
-    rw (ne-eqb _ _ (c3 .if1 .left), le-ltb _ _ (c2 .if2 .left), lt-ltb _ _ (c .before .if3 .taken)) (c .port-at .ensures)
+    let else2 = c .before .before in
+    let else1 = else2 .before in
+    rw (ne-eqb _ _ (else1 .if1 .left), le-ltb _ _ (else2 .if2 .left), lt-ltb _ _ (c .before .if3 .taken)) (c .port-at .ensures)
 
 test-at-requires : tie.Need-test-at-requires
 test-at-requires c κs = search needs
@@ -35,10 +35,10 @@ test-at-requires c κs = search needs
 returns-4 : tie.Need-returns-4
 unfolding lineAt _then_otherwise_
 returns-4 c =
-    let c2 = c .before .before in
-    let c3 = c2 .before in
-    let c4 = c3 .before in
-    rw (ne-eqb _ _ (c4 .if1 .left), le-ltb _ _ (c3 .if2 .left), le-ltb _ _ (c2 .if3 .left), lt-ltb _ _ (c .before .if4 .taken))
+    let else3 = c .before .before in
+    let else2 = else3 .before in
+    let else1 = else2 .before in
+    rw (ne-eqb _ _ (else1 .if1 .left), le-ltb _ _ (else2 .if2 .left), le-ltb _ _ (else3 .if3 .left), lt-ltb _ _ (c .before .if4 .taken))
     (c .test-at .ensures)
 
 empty-requires : tie.Need-empty-requires
@@ -47,10 +47,10 @@ empty-requires c κs = search needs
 returns-5 : tie.Need-returns-5
 unfolding lineAt _then_otherwise_
 returns-5 c =
-    let c2 = c .before .before in
-    let c3 = c2 .before in
-    let c4 = c3 .before in
-    rw (ne-eqb _ _ (c4 .if1 .left), le-ltb _ _ (c3 .if2 .left), le-ltb _ _ (c2 .if3 .left), le-ltb _ _ (c .before .if4 .left))
+    let else3 = c .before .before in
+    let else2 = else3 .before in
+    let else1 = else2 .before in
+    rw (ne-eqb _ _ (else1 .if1 .left), le-ltb _ _ (else2 .if2 .left), le-ltb _ _ (else3 .if3 .left), le-ltb _ _ (c .before .if4 .left))
     (c .empty .ensures)
 
 pub line-spec : {M : Type 1} → statement M

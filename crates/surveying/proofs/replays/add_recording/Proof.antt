@@ -65,28 +65,28 @@ replay-requires c κs = search needs
 
 returns-3 : tie.Need-returns-3
 returns-3 c =
-    let c3 = c .before .before .before in
-    let c6 = c3 .before .before .before in
-    let c7 = c6 .before in
-    let c9 = c7 .before .before in
-    let c10 = c9 .before in
-    let c13 = c10 .before .before .before in
-    let a = c13 .args in
+    let after-copy = c .before .before .before in
+    let else2 = after-copy .before .before .before in
+    let after-note = else2 .before in
+    let after-check = after-note .before .before in
+    let else1 = after-check .before in
+    let start = else1 .before .before .before in
+    let a = start .args in
     let f = a .file .now in
     let n = countOf f in
-    let none : fileRefusal f ≡ 0 = sym (c9 .check .ensures) ∙ c6 .if2 .left in
+    let none : fileRefusal f ≡ 0 = sym (after-check .check .ensures) ∙ else2 .if2 .left in
     let is =
-    is-read f (a .start .now) (a .work .now) (a .counts .now) (a .refusals .now) (omega (arith, c10 .if1 .left))
+    is-read f (a .start .now) (a .work .now) (a .counts .now) (a .refusals .now) (omega (arith, else1 .if1 .left))
     ∙ read-taken f (a .start .now) (a .work .now) (a .counts .now) (a .refusals .now) none in (
       sym none ∙ sym (ap (λ (s : SurveyOn). s .refusal) is),
       sym (ap (λ (s : SurveyOn). s .start) is),
       c .replay .ensures .1
-          ∙ ap (λ (t : List ℕ). stepsOn f n t newTally .tables) (c3 .copy .ensures)
+          ∙ ap (λ (t : List ℕ). stepsOn f n t newTally .tables) (after-copy .copy .ensures)
           ∙ sym (ap (λ (s : SurveyOn). s .work) is),
       c .replay .ensures .0
-          ∙ ap (λ (t : List ℕ). addAll (a .counts .now) (answered (entriesOf f) (stepsOn f n t newTally .answers))) (c3 .copy .ensures)
+          ∙ ap (λ (t : List ℕ). addAll (a .counts .now) (answered (entriesOf f) (stepsOn f n t newTally .answers))) (after-copy .copy .ensures)
           ∙ sym (ap (λ (s : SurveyOn). s .counts) is),
-      c7 .note .ensures ∙ ap (noted (a .refusals .now)) (c9 .check .ensures) ∙ sym (ap (λ (s : SurveyOn). s .refusals) is),
+      after-note .note .ensures ∙ ap (noted (a .refusals .now)) (after-check .check .ensures) ∙ sym (ap (λ (s : SurveyOn). s .refusals) is),
     )
 
 pub add-recording-spec : {M : Type 1} → statement M

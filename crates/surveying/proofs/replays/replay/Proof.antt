@@ -80,19 +80,20 @@ same-length c = search needs
 returns : tie.Need-returns Inv-loop μ-loop
 unfolding answersUpTo entriesOf
 returns c =
-    let c2 = c .before .before in
-    let c3 = c2 .before in
-    let c6 = c3 .before .before .before in
-    let a = c6 .args in
+    let after-new-tally = c .before .before in
+    let after-count = after-new-tally .before in
+    let start = after-count .before .before .before in
+    let a = start .args in
     let f : List ℕ = a .file .now in
     let w : List ℕ = a .work .now in
-    let y : Tally = c2 .new-tally .result in
+    let y : Tally = after-new-tally .new-tally .result in
     let l = c .before .loop in
-    let end : l .i ≡ countOf f = le-antisymm (omega (arith, c3 .count .ensures, l .inv .0)) (omega (arith, c3 .count .ensures, c .loop-test .left)) in (
+    let end : l .i ≡ countOf f =
+    le-antisymm (omega (arith, after-count .count .ensures, l .inv .0)) (omega (arith, after-count .count .ensures, c .loop-test .left)) in (
       l .inv .4
           ∙ ap (λ (n : ℕ). addAll (a .counts) (answersUpTo f w y n)) end
-          ∙ ap (λ (z : Tally). addAll (a .counts) (answersUpTo f w z (countOf f))) (c2 .new-tally .ensures),
-      l .inv .2 ∙ ap (λ (n : ℕ). stepsOn f n w y .tables) end ∙ ap (λ (z : Tally). stepsOn f (countOf f) w z .tables) (c2 .new-tally .ensures),
+          ∙ ap (λ (z : Tally). addAll (a .counts) (answersUpTo f w z (countOf f))) (after-new-tally .new-tally .ensures),
+      l .inv .2 ∙ ap (λ (n : ℕ). stepsOn f n w y .tables) end ∙ ap (λ (z : Tally). stepsOn f (countOf f) w z .tables) (after-new-tally .new-tally .ensures),
     )
 
 pub replay-spec : {M : Type 1} → statement M

@@ -15,12 +15,13 @@ same-length c = search needs
 
 returns : tie.Need-returns
 returns c =
-    let c2 = c .before .before in
-    let c4 = c2 .before .before in
-    let c5 = c4 .before in
-    let c9 = c5 .before .before .before .before in
-    let a = c9 .args in
-    c2 .add-local .ensures .1 ∙ local-there (a .from .now) (c9 .pre .0) (a .place) _ _ _ (a .to .now) (c5 .local-at .ensures) (c4 .if1 .taken)
+    let after-add-local = c .before .before in
+    let then1 = after-add-local .before .before in
+    let after-local-at = then1 .before in
+    let start = after-local-at .before .before .before .before in
+    let a = start .args in
+    after-add-local .add-local .ensures .1
+    ∙ local-there (a .from .now) (start .pre .0) (a .place) _ _ _ (a .to .now) (after-local-at .local-at .ensures) (then1 .if1 .taken)
 
 returns-2 : tie.Need-returns-2
 returns-2 c =

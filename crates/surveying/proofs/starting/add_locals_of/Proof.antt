@@ -32,17 +32,17 @@ loop-less c = search needs
 
 loop-again : tie.Need-loop-again Inv-loop μ-loop
 loop-again c =
-    let c2 = c .before .before in
-    let c4 = c2 .before .before in
-    let c5 = c4 .before in
-    let c8 = c5 .before .before .before in
-    let a = c8 .args in
-    let l = c5 .loop in
+    let after-add-local-of = c .before .before in
+    let in-loop = after-add-local-of .before .before in
+    let at-loop = in-loop .before in
+    let start = at-loop .before .before .before in
+    let a = start .args in
+    let l = at-loop .loop in
     let all = locals-length (a .from .now) in (
       search needs,
       search needs,
-      local-more (relayOf (a .from .now) .locals) (a .to .now) (l .to) (l .place) (omega (arith, all, c4 .loop-test .taken)) (l .inv .2) _
-          (c2 .add-local-of .ensures),
+      local-more (relayOf (a .from .now) .locals) (a .to .now) (l .to) (l .place) (omega (arith, all, in-loop .loop-test .taken)) (l .inv .2) _
+          (after-add-local-of .add-local-of .ensures),
     )
 
 same-length : tie.Need-same-length Inv-loop μ-loop

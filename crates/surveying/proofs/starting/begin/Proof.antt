@@ -19,12 +19,12 @@ load-requires c κs = search needs
 
 returns : tie.Need-returns
 returns c =
-    let c2 = c .before .before in
-    let c5 = c2 .before .before .before in
-    let a = c5 .args in
+    let after-new-tally = c .before .before in
+    let start = after-new-tally .before .before .before in
+    let a = start .args in
     let f = a .file .now in
     let work = a .work .now in
-    let tally = c2 .new-tally .result in
+    let tally = after-new-tally .new-tally .result in
     let wide : length work ≡ tableSize = search needs in
     let number : c .before .load .result .refusal ≡ loadRefusal f tableSize =
     c .before .load .ensures .0 ∙ load-number f work tally ∙ ap (loadRefusal f) wide in
@@ -46,20 +46,22 @@ fresh-requires c κs = search needs
 
 set-as-requires : tie.Need-set-as-requires
 set-as-requires c κs =
-    let c6 = c .before .before .before .before .before .before in
-    let c7 = c6 .before in
-    let c8 = c7 .before in
-    let c10 = c8 .before .before in
-    let c11 = c10 .before in
-    let a = c11 .args in
+    let else1 = c .before .before .before .before .before .before in
+    let after-load = else1 .before in
+    let after-new-tally = after-load .before in
+    let after-shared-slice-known = after-new-tally .before .before in
+    let start = after-shared-slice-known .before in
+    let a = start .args in
     let f = a .file .now in
     let work = a .work .now in
-    let tally = c8 .new-tally .result in
+    let tally = after-new-tally .new-tally .result in
     let wide : length work ≡ tableSize = search needs in
-    let number : c7 .load .result .refusal ≡ loadRefusal f tableSize = c7 .load .ensures .0 ∙ load-number f work tally ∙ ap (loadRefusal f) wide in
-    let none : loadRefusal f tableSize ≡ 0 = sym number ∙ c6 .if1 .left in
+    let number : after-load .load .result .refusal ≡ loadRefusal f tableSize = after-load .load .ensures .0 ∙ load-number f work tally
+    ∙ ap (loadRefusal f) wide in
+    let none : loadRefusal f tableSize ≡ 0 = sym number ∙ else1 .if1 .left in
     let done = load-done f work tally (ap (loadRefusal f) wide ∙ none) in
-    ap wellFormed (c7 .load .ensures .1 ∙ ap (λ (x : LoadedOn). x .tables) done) ∙ held-formed f (known-bytes f (c10 .shared-slice-known .given)) none
+    ap wellFormed (after-load .load .ensures .1 ∙ ap (λ (x : LoadedOn). x .tables) done)
+    ∙ held-formed f (known-bytes f (after-shared-slice-known .shared-slice-known .given)) none
 
 returns-2 : tie.Need-returns-2
 returns-2 c =
@@ -69,22 +71,23 @@ returns-2 c =
     let work = a .work .now in
     let wide : length work ≡ tableSize = search needs in
     let long : length start ≡ tableSize = search needs in
-    let c2 = c .before .before in
-    let c6 = c2 .before .before .before .before in
-    let c7 = c6 .before in
-    let c9 = c7 .before .before in
-    let c10 = c9 .before in
-    let c11 = c10 .before in
-    let c13 = c11 .before .before in
-    let tally = c11 .new-tally .result in
-    let number : c10 .load .result .refusal ≡ loadRefusal f tableSize = c10 .load .ensures .0 ∙ load-number f work tally ∙ ap (loadRefusal f) wide in
-    let none : loadRefusal f tableSize ≡ 0 = sym number ∙ c9 .if1 .left in
+    let after-set-as = c .before .before in
+    let after-fresh = after-set-as .before .before .before .before in
+    let after-own-address = after-fresh .before in
+    let else1 = after-own-address .before .before in
+    let after-load = else1 .before in
+    let after-new-tally = after-load .before in
+    let after-shared-slice-known = after-new-tally .before .before in
+    let tally = after-new-tally .new-tally .result in
+    let number : after-load .load .result .refusal ≡ loadRefusal f tableSize = after-load .load .ensures .0 ∙ load-number f work tally
+    ∙ ap (loadRefusal f) wide in
+    let none : loadRefusal f tableSize ≡ 0 = sym number ∙ else1 .if1 .left in
     let done = load-done f work tally (ap (loadRefusal f) wide ∙ none) in
-    let loaded = c10 .load .ensures .1 ∙ ap (λ (x : LoadedOn). x .tables) done in
+    let loaded = after-load .load .ensures .1 ∙ ap (λ (x : LoadedOn). x .tables) done in
     let is = begun f start work (a .counts .now) (a .refusals .now) none in
-    let b = known-bytes f (c13 .shared-slice-known .given) in (
+    let b = known-bytes f (after-shared-slice-known .shared-slice-known .given) in (
       sym (ap (λ (s : SurveyOn). s .refusal) is),
-      start-made f b none start _ _ _ _ long (c7 .own-address .ensures) (c6 .fresh .ensures .1) loaded (c2 .set-as .ensures)
+      start-made f b none start _ _ _ _ long (after-own-address .own-address .ensures) (after-fresh .fresh .ensures .1) loaded (after-set-as .set-as .ensures)
           ∙ sym (ap (λ (s : SurveyOn). s .start) is),
       loaded ∙ sym (ap (λ (s : SurveyOn). s .work) is),
       sym (ap (λ (s : SurveyOn). s .counts) is),

@@ -18,12 +18,13 @@ same-length c = search needs
 
 returns : tie.Need-returns
 returns c =
-    let c2 = c .before .before in
-    let c6 = c2 .before .before .before .before in
-    let c10 = c6 .before .before .before .before in
-    let c14 = c10 .before .before .before .before in
-    let a = c14 .args in
-    all-set (relayOf (a .from .now)) (a .to .now) _ _ _ (c10 .set-ports-as .ensures) (c6 .set-rate-as .ensures) (c2 .add-locals-of .ensures)
+    let after-add-locals-of = c .before .before in
+    let after-set-rate-as = after-add-locals-of .before .before .before .before in
+    let after-set-ports-as = after-set-rate-as .before .before .before .before in
+    let start = after-set-ports-as .before .before .before .before in
+    let a = start .args in
+    all-set (relayOf (a .from .now)) (a .to .now) _ _ _ (after-set-ports-as .set-ports-as .ensures) (after-set-rate-as .set-rate-as .ensures)
+    (after-add-locals-of .add-locals-of .ensures)
 
 pub set-as-spec : {M : Type 1} → statement M
 set-as-spec =

@@ -29,15 +29,15 @@ same-length c = search needs
 
 returns : tie.Need-returns
 returns c =
-    let c2 = c .before .before in
-    let c3 = c2 .before in
-    let c5 = c3 .before .before in
-    let c6 = c5 .before in
-    let c10 = c6 .before .before .before .before in
-    let a = c10 .args in
-    (rw (c3 .wide .ensures, c5 .size-in .ensures) at (c2 .set-port .ensures .1))
+    let after-set-port = c .before .before in
+    let after-wide = after-set-port .before in
+    let after-size-in = after-wide .before .before in
+    let after-port-settings = after-size-in .before in
+    let start = after-port-settings .before .before .before .before in
+    let a = start .args in
+    (rw (after-wide .wide .ensures, after-size-in .size-in .ensures) at (after-set-port .set-port .ensures .1))
     ∙ ap (λ (k : TableCall). callOn (a .to .now) k .tables)
-    (port-told-as (a .from .now) (c10 .pre .0) (a .port) (c10 .pre .1) _ _ (c6 .port-settings .ensures .1))
+    (port-told-as (a .from .now) (start .pre .0) (a .port) (start .pre .1) _ _ (after-port-settings .port-settings .ensures .1))
 
 pub set-port-as-spec : {M : Type 1} → statement M
 set-port-as-spec =

@@ -23,14 +23,14 @@ same-length c = search needs
 returns : tie.Need-returns
 unfolding rateCall
 returns c =
-    let c2 = c .before .before in
-    let c4 = c2 .before .before in
-    let c5 = c4 .before in
-    let c9 = c5 .before .before .before .before in
-    let a = c9 .args in
-    c2 .set-rate .ensures .1
+    let after-set-rate = c .before .before in
+    let after-rate-in = after-set-rate .before .before in
+    let after-rate-settings = after-rate-in .before in
+    let start = after-rate-settings .before .before .before .before in
+    let a = start .args in
+    after-set-rate .set-rate .ensures .1
     ∙ ap (λ (s : RateSettings). callOn (a .to .now) (sets-rate (s .target) (s .grace) (s .penalty)) .tables)
-    (c4 .rate-in .ensures ∙ rate-told-as (a .from .now) (c9 .pre) _ _ (c5 .rate-settings .ensures .1))
+    (after-rate-in .rate-in .ensures ∙ rate-told-as (a .from .now) (start .pre) _ _ (after-rate-settings .rate-settings .ensures .1))
 
 pub set-rate-as-spec : {M : Type 1} → statement M
 set-rate-as-spec =

@@ -31,11 +31,11 @@ four-together-requires c κs = search needs
 returns-2 : tie.Need-returns-2
 unfolding hashPlain
 returns-2 c =
-    let c2 = c .before .before in
-    let a = c2 .before .before .args in
+    let after-four-marked = c .before .before in
+    let a = after-four-marked .before .before .args in
     ap (λ x. ltb x clockLimit) (c .four-together .ensures) ∙ together-ltb 40 _ 4
     ∙ sym (records-apart (λ x. ltb x clockLimit) (a .at) hashExpiryAt hashWidth 4 (a .t .now) (omega arith)
-    ∙ and-yes _ (sym (c2 .four-marked .ensures) ∙ not-false _ (c .before .if1 .left)))
+    ∙ and-yes _ (sym (after-four-marked .four-marked .ensures) ∙ not-false _ (c .before .if1 .left)))
 
 pub four-hashes-plain-spec : {M : Type 1} → statement M
 four-hashes-plain-spec =

@@ -32,11 +32,11 @@ ways-plain-requires c κs = search needs
 returns-2 : tie.Need-returns-2
 unfolding returnPlain
 returns-2 c =
-    let c2 = c .before .before in
-    let a = c2 .before .before .before .args in
+    let else1 = c .before .before in
+    let a = else1 .before .before .before .args in
     c .ways-plain .ensures ∙ ap waysPlain (c .before .four-together .ensures) ∙ together-plain _ 4
     ∙ sym (records-apart waysPlain (a .at) returnArrivalAt returnWidth 4 (a .t .now) (omega arith)
-    ∙ and-yes _ (sym (c2 .before .four-marked .ensures) ∙ not-false _ (c2 .if1 .left)))
+    ∙ and-yes _ (sym (else1 .before .four-marked .ensures) ∙ not-false _ (else1 .if1 .left)))
 
 pub four-returns-plain-spec : {M : Type 1} → statement M
 four-returns-plain-spec =

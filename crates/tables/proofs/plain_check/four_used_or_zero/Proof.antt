@@ -52,13 +52,13 @@ loop-less c = search needs
 
 loop-again : tie.Need-loop-again Inv-loop μ-loop
 loop-again c =
-    let c4 = c .before .before .before .before in
-    (search needs, record-passes usedOrZero _ _ _ _ (c .before .used-or-zero .ensures) (c .if1 .left) (c4 .loop .inv .1))
+    let at-loop = c .before .before .before .before in
+    (search needs, record-passes usedOrZero _ _ _ _ (c .before .used-or-zero .ensures) (c .if1 .left) (at-loop .loop .inv .1))
 
 returns-2 : tie.Need-returns-2 Inv-loop μ-loop
 returns-2 c =
-    let c3 = c .before .before .before in
-    ended (λ (k : ℕ). recordsOk usedOrZero (c3 .args .at) (c3 .args .width) k (c3 .args .t .now)) (c .before .loop .inv .0)
+    let start = c .before .before .before in
+    ended (λ (k : ℕ). recordsOk usedOrZero (start .args .at) (start .args .width) k (start .args .t .now)) (c .before .loop .inv .0)
     (c .loop-test .left) (c .before .loop .inv .1)
 
 pub four-used-or-zero-spec : {M : Type 1} → statement M

@@ -18,9 +18,9 @@ is-zero-requires c κs = search needs
 
 returns : tie.Need-returns
 returns c =
-    let c4 = c .before .before .before .before in
-    let b = c4 .args .b .now in
-    c .is-zero .ensures ∙ ap (λ (k : ℕ). zeros k b) (c4 .pre) ∙ sym (hash-test b ∙ slot-unused hashWidth _ b (omega arith) (c .before .if1 .taken))
+    let start = c .before .before .before .before in
+    let b = start .args .b .now in
+    c .is-zero .ensures ∙ ap (λ (k : ℕ). zeros k b) (start .pre) ∙ sym (hash-test b ∙ slot-unused hashWidth _ b (omega arith) (c .before .if1 .taken))
 
 number-of-8-at-requires : tie.Need-number-of-8-at-requires
 number-of-8-at-requires c κs = search needs

@@ -19,9 +19,9 @@ is-zero-requires c κs = search needs
 
 returns : tie.Need-returns
 returns c =
-    let c4 = c .before .before .before .before in
-    let b = c4 .args .b .now in
-    c .is-zero .ensures ∙ ap (λ (k : ℕ). zeros k b) (c4 .pre) ∙ sym (link-test b ∙ slot-unused linkWidth _ b (omega arith) (c .before .if1 .taken))
+    let start = c .before .before .before .before in
+    let b = start .args .b .now in
+    c .is-zero .ensures ∙ ap (λ (k : ℕ). zeros k b) (start .pre) ∙ sym (link-test b ∙ slot-unused linkWidth _ b (omega arith) (c .before .if1 .taken))
 
 shared-slice-read-if2 : tie.Need-shared-slice-read-if2
 shared-slice-read-if2 c = search needs
@@ -42,9 +42,9 @@ cast-if3 c = search needs
 returns-3 : tie.Need-returns-3
 unfolding linkOk linkOf _and_
 returns-3 c =
-    let c3 = c .before .before .before in
-    let c5 = c3 .before .before in
-    rw (link-test _, slot-used linkWidth _ _ (c5 .if1 .left), lt-ltb _ _ (c3 .if2 .left), two-ports, le-ltb _ _ (c .if3 .taken))
+    let else2 = c .before .before .before in
+    let else1 = else2 .before .before in
+    rw (link-test _, slot-used linkWidth _ _ (else1 .if1 .left), lt-ltb _ _ (else2 .if2 .left), two-ports, le-ltb _ _ (c .if3 .taken))
 
 number-of-8-at-requires : tie.Need-number-of-8-at-requires
 number-of-8-at-requires c κs = search needs
@@ -52,12 +52,12 @@ number-of-8-at-requires c κs = search needs
 returns-4 : tie.Need-returns-4
 unfolding linkOk linkOf timeOk _and_
 returns-4 c =
-    let c4 = c .before .before .before .before in
-    let c6 = c4 .before .before in
+    let else2 = c .before .before .before .before in
+    let else1 = else2 .before .before in
     rw (
       link-test _,
-      slot-used linkWidth _ _ (c6 .if1 .left),
-      lt-ltb _ _ (c4 .if2 .left),
+      slot-used linkWidth _ _ (else1 .if1 .left),
+      lt-ltb _ _ (else2 .if2 .left),
       two-ports,
       lt-ltb _ _ (c .before .if3 .left),
       ← c .number-of-8-at .ensures,

@@ -16,9 +16,9 @@ is-zero-requires c κs = search needs
 
 returns : tie.Need-returns
 returns c =
-    let c4 = c .before .before .before .before in
-    let b = c4 .args .b .now in
-    c .is-zero .ensures ∙ ap (λ (k : ℕ). zeros k b) (c4 .pre) ∙ sym (local-test b ∙ slot-unused localWidth _ b (omega arith) (c .before .if1 .taken))
+    let start = c .before .before .before .before in
+    let b = start .args .b .now in
+    c .is-zero .ensures ∙ ap (λ (k : ℕ). zeros k b) (start .pre) ∙ sym (local-test b ∙ slot-unused localWidth _ b (omega arith) (c .before .if1 .taken))
 
 returns-2 : tie.Need-returns-2
 returns-2 c = sym (local-test _ ∙ slot-used localWidth _ _ (c .if1 .left))

@@ -23,9 +23,9 @@ is-zero-requires c κs = search needs
 
 returns : tie.Need-returns
 returns c =
-    let c4 = c .before .before .before .before in
-    let b = c4 .args .b .now in
-    c .is-zero .ensures ∙ ap (λ (k : ℕ). zeros k b) (c4 .pre) ∙ sym (path-test b ∙ slot-unused pathWidth _ b (omega arith) (c .before .if1 .taken))
+    let start = c .before .before .before .before in
+    let b = start .args .b .now in
+    c .is-zero .ensures ∙ ap (λ (k : ℕ). zeros k b) (start .pre) ∙ sym (path-test b ∙ slot-unused pathWidth _ b (omega arith) (c .before .if1 .taken))
 
 are-fine-requires : tie.Need-are-fine-requires
 are-fine-requires c κs = search needs
@@ -46,9 +46,9 @@ cast-if3 c = search needs
 returns-3 : tie.Need-returns-3
 unfolding pathOk pathOf blobsOf timeOk _and_
 returns-3 c =
-    let c2 = c .before .before in
-    let c4 = c2 .before .before in
-    rw (path-test _, slot-used pathWidth _ _ (c4 .if1 .left), noted-fine c2, le-ltb _ _ (c .if3 .taken))
+    let else2 = c .before .before in
+    let else1 = else2 .before .before in
+    rw (path-test _, slot-used pathWidth _ _ (else1 .if1 .left), noted-fine else2, le-ltb _ _ (c .if3 .taken))
 
 shared-slice-read-if4 : tie.Need-shared-slice-read-if4
 shared-slice-read-if4 c = search needs
@@ -56,16 +56,16 @@ shared-slice-read-if4 c = search needs
 returns-4 : tie.Need-returns-4
 unfolding pathOk pathOf blobsOf timeOk _and_
 returns-4 c =
-    let c2 = c .before .before in
-    let c4 = c2 .before .before in
-    let c6 = c4 .before .before in
-    let c8 = c6 .before .before in
+    let else3 = c .before .before in
+    let else2 = else3 .before .before in
+    let else1 = else2 .before .before in
+    let after-shared-slice-known = else1 .before .before in
     rw (
       path-test _,
-      slot-used pathWidth _ _ (c6 .if1 .left),
-      noted-fine c4,
-      lt-ltb _ _ (c2 .if3 .left),
-      lt-ltb _ 256 (c8 .shared-slice-known .given pathHopsAt .fits),
+      slot-used pathWidth _ _ (else1 .if1 .left),
+      noted-fine else2,
+      lt-ltb _ _ (else3 .if3 .left),
+      lt-ltb _ 256 (after-shared-slice-known .shared-slice-known .given pathHopsAt .fits),
       lt-leb _ _ (c .if4 .taken),
     )
 
@@ -78,18 +78,18 @@ cast-if5 c = search needs
 returns-5 : tie.Need-returns-5
 unfolding pathOk pathOf blobsOf timeOk _and_
 returns-5 c =
-    let c2 = c .before .before in
-    let c4 = c2 .before .before in
-    let c6 = c4 .before .before in
-    let c8 = c6 .before .before in
-    let c10 = c8 .before .before in
+    let else4 = c .before .before in
+    let else3 = else4 .before .before in
+    let else2 = else3 .before .before in
+    let else1 = else2 .before .before in
+    let after-shared-slice-known = else1 .before .before in
     rw (
       path-test _,
-      slot-used pathWidth _ _ (c8 .if1 .left),
-      noted-fine c6,
-      lt-ltb _ _ (c4 .if3 .left),
-      lt-ltb _ 256 (c10 .shared-slice-known .given pathHopsAt .fits),
-      le-leb _ _ (c2 .if4 .left),
+      slot-used pathWidth _ _ (else1 .if1 .left),
+      noted-fine else2,
+      lt-ltb _ _ (else3 .if3 .left),
+      lt-ltb _ 256 (after-shared-slice-known .shared-slice-known .given pathHopsAt .fits),
+      le-leb _ _ (else4 .if4 .left),
       lt-leb _ _ (c .if5 .taken),
     )
 
@@ -99,20 +99,20 @@ number-of-8-at-requires c κs = search needs
 returns-6 : tie.Need-returns-6
 unfolding pathOk pathOf blobsOf timeOk _and_
 returns-6 c =
-    let c2 = c .before .before in
-    let c4 = c2 .before .before in
-    let c6 = c4 .before .before in
-    let c8 = c6 .before .before in
-    let c10 = c8 .before .before in
-    let c12 = c10 .before .before in
+    let else5 = c .before .before in
+    let else4 = else5 .before .before in
+    let else3 = else4 .before .before in
+    let else2 = else3 .before .before in
+    let else1 = else2 .before .before in
+    let after-shared-slice-known = else1 .before .before in
     rw (
       path-test _,
-      slot-used pathWidth _ _ (c10 .if1 .left),
-      noted-fine c8,
-      lt-ltb _ _ (c6 .if3 .left),
-      lt-ltb _ 256 (c12 .shared-slice-known .given pathHopsAt .fits),
-      le-leb _ _ (c4 .if4 .left),
-      le-leb _ _ (c2 .if5 .left),
+      slot-used pathWidth _ _ (else1 .if1 .left),
+      noted-fine else2,
+      lt-ltb _ _ (else3 .if3 .left),
+      lt-ltb _ 256 (after-shared-slice-known .shared-slice-known .given pathHopsAt .fits),
+      le-leb _ _ (else4 .if4 .left),
+      le-leb _ _ (else5 .if5 .left),
       ← c .before .number-of-8-at .ensures,
       lt-leb _ _ (c .if6 .taken),
     )
@@ -123,20 +123,20 @@ rate-ok-requires c κs = search needs
 returns-7 : tie.Need-returns-7
 unfolding pathOk pathOf blobsOf timeOk _and_
 returns-7 c =
-    let c3 = c .before .before .before in
-    let c5 = c3 .before .before in
-    let c7 = c5 .before .before in
-    let c9 = c7 .before .before in
-    let c11 = c9 .before .before in
-    let c13 = c11 .before .before in
+    let else5 = c .before .before .before in
+    let else4 = else5 .before .before in
+    let else3 = else4 .before .before in
+    let else2 = else3 .before .before in
+    let else1 = else2 .before .before in
+    let after-shared-slice-known = else1 .before .before in
     rw (
       path-test _,
-      slot-used pathWidth _ _ (c11 .if1 .left),
-      noted-fine c9,
-      lt-ltb _ _ (c7 .if3 .left),
-      lt-ltb _ 256 (c13 .shared-slice-known .given pathHopsAt .fits),
-      le-leb _ _ (c5 .if4 .left),
-      le-leb _ _ (c3 .if5 .left),
+      slot-used pathWidth _ _ (else1 .if1 .left),
+      noted-fine else2,
+      lt-ltb _ _ (else3 .if3 .left),
+      lt-ltb _ 256 (after-shared-slice-known .shared-slice-known .given pathHopsAt .fits),
+      le-leb _ _ (else4 .if4 .left),
+      le-leb _ _ (else5 .if5 .left),
       ← c .before .before .number-of-8-at .ensures,
       le-leb _ _ (c .before .if6 .left),
     )

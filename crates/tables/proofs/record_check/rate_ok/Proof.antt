@@ -3,6 +3,7 @@ use Rattle.octets.specs.Index.{_and_}
 use Rattle.rules.specs.Refusals.{rateEntryOk}
 use Rattle.tables.specs.Records.{pathOf}
 use Rattle.tables.specs.Fields.{pathRateAt}
+use Rattle.tables.specs.Forms.{timeWidth}
 use Prim.Native.Nat.{_+_}
 use borrow.Author.Needs.{needs}
 use Rattle.tables.proofs.record_check.rate_ok.Statement.{statement}
@@ -21,12 +22,12 @@ number-of-8-at-requires-2 c κs = search needs
 returns-2 : tie.Need-returns-2
 unfolding rateEntryOk pathOf _and_
 returns-2 c =
-    let c2 = c .before .before in
-    let c3 = c2 .before in
+    let after-number-of-8-at = c .before .before in
+    let after-shared-slice-known = after-number-of-8-at .before in
     rw (
-      ← c2 .number-of-8-at .ensures,
+      ← after-number-of-8-at .number-of-8-at .ensures,
       lt-ltb _ _ (c .before .if1 .left),
-      lt-ltb _ 256 (c3 .shared-slice-known .given (pathRateAt + 8) .fits),
+      lt-ltb _ 256 (after-shared-slice-known .shared-slice-known .given (pathRateAt + timeWidth) .fits),
       ← c .number-of-8-at2 .ensures,
     )
 

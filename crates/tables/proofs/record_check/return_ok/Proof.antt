@@ -19,9 +19,9 @@ is-zero-requires c κs = search needs
 
 returns : tie.Need-returns
 returns c =
-    let c4 = c .before .before .before .before in
-    let b = c4 .args .b .now in
-    c .is-zero .ensures ∙ ap (λ (k : ℕ). zeros k b) (c4 .pre) ∙ sym (return-test b ∙ slot-unused returnWidth _ b (omega arith) (c .before .if1 .taken))
+    let start = c .before .before .before .before in
+    let b = start .args .b .now in
+    c .is-zero .ensures ∙ ap (λ (k : ℕ). zeros k b) (start .pre) ∙ sym (return-test b ∙ slot-unused returnWidth _ b (omega arith) (c .before .if1 .taken))
 
 shared-slice-read-ports : tie.Need-shared-slice-read-ports
 shared-slice-read-ports c = search needs
@@ -42,8 +42,8 @@ number-of-8-at-requires c κs = search needs
 returns-3 : tie.Need-returns-3
 unfolding returnOk returnOf timeOk _and_
 returns-3 c =
-    let c4 = c .before .before .before .before in
-    rw (return-test _, slot-used returnWidth _ _ (c4 .if1 .left), two-ports, lt-ltb _ _ (c .before .if2 .left), ← c .number-of-8-at .ensures)
+    let else1 = c .before .before .before .before in
+    rw (return-test _, slot-used returnWidth _ _ (else1 .if1 .left), two-ports, lt-ltb _ _ (c .before .if2 .left), ← c .number-of-8-at .ensures)
 
 pub return-ok-spec : {M : Type 1} → statement M
 return-ok-spec =

@@ -26,9 +26,9 @@ number-at-requires c κs = search needs
 
 returns-2 : tie.Need-returns-2
 returns-2 c =
-    let c2 = c .before .before in
+    let else1 = c .before .before in
     sym (back-clauses _ _
-    ∙ and-yes _ (sym (c2 .before .links-ok .ensures) ∙ not-false _ (c2 .if1 .left))
+    ∙ and-yes _ (sym (else1 .before .links-ok .ensures) ∙ not-false _ (else1 .if1 .left))
     ∙ and-no _ (ap (λ (n : ℕ). ltb n returnCount) (sym (c .before .number-at .ensures)) ∙ le-ltb _ _ (c .if2 .taken)))
 
 add-returns-ok : tie.Need-add-returns-ok
@@ -39,11 +39,11 @@ returns-ok-requires c κs = search needs
 
 returns-3 : tie.Need-returns-3
 returns-3 c =
-    let c2 = c .before .before in
-    let c4 = c2 .before .before in
+    let else2 = c .before .before in
+    let else1 = else2 .before .before in
     sym (back-clauses _ _
-    ∙ and-yes _ (sym (c4 .before .links-ok .ensures) ∙ not-false _ (c4 .if1 .left))
-    ∙ and-yes _ (ap (λ (n : ℕ). ltb n returnCount) (sym (c2 .before .number-at .ensures)) ∙ lt-ltb _ _ (c2 .if2 .left))
+    ∙ and-yes _ (sym (else1 .before .links-ok .ensures) ∙ not-false _ (else1 .if1 .left))
+    ∙ and-yes _ (ap (λ (n : ℕ). ltb n returnCount) (sym (else2 .before .number-at .ensures)) ∙ lt-ltb _ _ (else2 .if2 .left))
     ∙ and-no _ (sym (c .before .returns-ok .ensures) ∙ not-true _ (c .if3 .taken)))
 
 mul-hashes : tie.Need-mul-hashes
@@ -60,13 +60,13 @@ number-at-requires-2 c κs = search needs
 
 returns-4 : tie.Need-returns-4
 returns-4 c =
-    let c2 = c .before .before in
-    let c4 = c2 .before .before in
-    let c6 = c4 .before .before in
+    let else3 = c .before .before in
+    let else2 = else3 .before .before in
+    let else1 = else2 .before .before in
     sym (back-clauses _ _
-    ∙ and-yes _ (sym (c6 .before .links-ok .ensures) ∙ not-false _ (c6 .if1 .left))
-    ∙ and-yes _ (ap (λ (n : ℕ). ltb n returnCount) (sym (c4 .before .number-at .ensures)) ∙ lt-ltb _ _ (c4 .if2 .left))
-    ∙ and-yes _ (sym (c2 .before .returns-ok .ensures) ∙ not-false _ (c2 .if3 .left))
+    ∙ and-yes _ (sym (else1 .before .links-ok .ensures) ∙ not-false _ (else1 .if1 .left))
+    ∙ and-yes _ (ap (λ (n : ℕ). ltb n returnCount) (sym (else2 .before .number-at .ensures)) ∙ lt-ltb _ _ (else2 .if2 .left))
+    ∙ and-yes _ (sym (else3 .before .returns-ok .ensures) ∙ not-false _ (else3 .if3 .left))
     ∙ and-no _ (ap (λ (n : ℕ). ltb n hashCount) (sym (c .before .number-at2 .ensures)) ∙ le-ltb _ _ (c .if4 .taken)))
 
 add-hashes-ok : tie.Need-add-hashes-ok
@@ -77,16 +77,16 @@ hashes-ok-requires c κs = search needs
 
 returns-5 : tie.Need-returns-5
 returns-5 c =
-    let c1 = c .before in
-    let c3 = c1 .before .before in
-    let c5 = c3 .before .before in
-    let c7 = c5 .before .before in
+    let else4 = c .before in
+    let else3 = else4 .before .before in
+    let else2 = else3 .before .before in
+    let else1 = else2 .before .before in
     c .hashes-ok .ensures
     ∙ sym (back-clauses _ _
-    ∙ and-yes _ (sym (c7 .before .links-ok .ensures) ∙ not-false _ (c7 .if1 .left))
-    ∙ and-yes _ (ap (λ (n : ℕ). ltb n returnCount) (sym (c5 .before .number-at .ensures)) ∙ lt-ltb _ _ (c5 .if2 .left))
-    ∙ and-yes _ (sym (c3 .before .returns-ok .ensures) ∙ not-false _ (c3 .if3 .left))
-    ∙ and-yes _ (ap (λ (n : ℕ). ltb n hashCount) (sym (c1 .before .number-at2 .ensures)) ∙ lt-ltb _ _ (c1 .if4 .left)))
+    ∙ and-yes _ (sym (else1 .before .links-ok .ensures) ∙ not-false _ (else1 .if1 .left))
+    ∙ and-yes _ (ap (λ (n : ℕ). ltb n returnCount) (sym (else2 .before .number-at .ensures)) ∙ lt-ltb _ _ (else2 .if2 .left))
+    ∙ and-yes _ (sym (else3 .before .returns-ok .ensures) ∙ not-false _ (else3 .if3 .left))
+    ∙ and-yes _ (ap (λ (n : ℕ). ltb n hashCount) (sym (else4 .before .number-at2 .ensures)) ∙ lt-ltb _ _ (else4 .if4 .left)))
 
 pub back-ok-spec : {M : Type 1} → statement M
 back-ok-spec =

@@ -26,14 +26,14 @@ four-used-or-zero-requires c κs = search needs
 
 returns : tie.Need-returns
 returns c =
-    let c2 = c .before .before in
-    let c4 = c2 .before .before in
-    let t = c4 .args .t .now in
-    let at = c4 .args .at in
+    let after-four-together = c .before .before in
+    let start = after-four-together .before .before in
+    let t = start .args .t .now in
+    let at = start .args .at in
     c .four-used-or-zero .ensures
     ∙ records-left (λ x. ltb x clockLimit) at hashExpiryAt hashWidth 4 t (omega arith) hashBytesOk usedOrZero
-    (λ k l. hash-left _ (part-length t (at + hashWidth * k) hashWidth (omega (arith, c4 .pre, many-end hashWidth 4 k l))))
-    (sym (together-ltb 40 _ 4) ∙ ap (λ x. ltb x clockLimit) (sym (c2 .four-together .ensures)) ∙ lt-ltb _ _ (c .before .if1 .taken))
+    (λ k l. hash-left _ (part-length t (at + hashWidth * k) hashWidth (omega (arith, start .pre, many-end hashWidth 4 k l))))
+    (sym (together-ltb 40 _ 4) ∙ ap (λ x. ltb x clockLimit) (sym (after-four-together .four-together .ensures)) ∙ lt-ltb _ _ (c .before .if1 .taken))
 
 four-hashes-each-requires : tie.Need-four-hashes-each-requires
 four-hashes-each-requires c κs = search needs

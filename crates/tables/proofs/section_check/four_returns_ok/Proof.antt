@@ -27,16 +27,17 @@ four-used-or-zero-requires c κs = search needs
 
 returns : tie.Need-returns
 returns c =
-    let c3 = c .before .before .before in
-    let c5 = c3 .before .before in
-    let t = c5 .args .t .now in
-    let at = c5 .args .at in
-    let bytes = known-bytes t (c3 .before .shared-slice-known .given) in
+    let after-four-together = c .before .before .before in
+    let start = after-four-together .before .before in
+    let t = start .args .t .now in
+    let at = start .args .at in
+    let bytes = known-bytes t (after-four-together .before .shared-slice-known .given) in
     c .four-used-or-zero .ensures
     ∙ records-left waysPlain at returnArrivalAt returnWidth 4 t (omega arith) returnBytesOk usedOrZero
     (λ k l. return-left _ (part-bytes t (at + returnWidth * k) returnWidth bytes)
-    (part-length t (at + returnWidth * k) returnWidth (omega (arith, c5 .pre, many-end returnWidth 4 k l))))
-    (sym (together-plain _ 4) ∙ ap waysPlain (sym (c3 .four-together .ensures)) ∙ sym (c .before .before .ways-plain .ensures) ∙ c .before .if1 .taken)
+    (part-length t (at + returnWidth * k) returnWidth (omega (arith, start .pre, many-end returnWidth 4 k l))))
+    (sym (together-plain _ 4) ∙ ap waysPlain (sym (after-four-together .four-together .ensures)) ∙ sym (c .before .before .ways-plain .ensures)
+    ∙ c .before .if1 .taken)
 
 four-returns-each-requires : tie.Need-four-returns-each-requires
 four-returns-each-requires c κs = search needs

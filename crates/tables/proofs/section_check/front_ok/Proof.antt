@@ -19,8 +19,8 @@ ports-ok-requires c κs = search needs
 returns-2 : tie.Need-returns-2
 unfolding frontOk
 returns-2 c =
-    let c3 = c .before .before .before in
-    sym (and-yes _ (sym (c3 .start-ok .ensures) ∙ not-false _ (c .before .before .if1 .left))
+    let after-start-ok = c .before .before .before in
+    sym (and-yes _ (sym (after-start-ok .start-ok .ensures) ∙ not-false _ (c .before .before .if1 .left))
     ∙ and-no _ (sym (c .before .ports-ok .ensures) ∙ not-true _ (c .if2 .taken)))
 
 locals-ok-requires : tie.Need-locals-ok-requires
@@ -29,11 +29,11 @@ locals-ok-requires c κs = search needs
 returns-3 : tie.Need-returns-3
 unfolding frontOk
 returns-3 c =
-    let c2 = c .before .before in
-    let c4 = c2 .before .before in
+    let after-ports-ok = c .before .before in
+    let after-start-ok = after-ports-ok .before .before in
     c .locals-ok .ensures
-    ∙ sym (and-yes _ (sym (c4 .start-ok .ensures) ∙ not-false _ (c2 .before .if1 .left))
-    ∙ and-yes _ (sym (c2 .ports-ok .ensures) ∙ not-false _ (c .before .if2 .left)))
+    ∙ sym (and-yes _ (sym (after-start-ok .start-ok .ensures) ∙ not-false _ (after-ports-ok .before .if1 .left))
+    ∙ and-yes _ (sym (after-ports-ok .ports-ok .ensures) ∙ not-false _ (c .before .if2 .left)))
 
 pub front-ok-spec : {M : Type 1} → statement M
 front-ok-spec =

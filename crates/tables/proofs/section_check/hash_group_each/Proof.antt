@@ -35,8 +35,9 @@ four-hashes-ok-requires c κs = search needs
 
 returns : tie.Need-returns Inv-loop μ-loop
 returns c =
-    let c3 = c .before .before .before in
-    records-fail hashBytesOk _ hashWidth 4 _ (c3 .loop .i) (c .before .four-hashes-ok .ensures) (c3 .loop .inv .1) groupSize (omega arith) (c .if1 .taken)
+    let at-loop = c .before .before .before in
+    records-fail hashBytesOk _ hashWidth 4 _ (at-loop .loop .i) (c .before .four-hashes-ok .ensures) (at-loop .loop .inv .1) groupSize (omega arith)
+    (c .if1 .taken)
 
 add-i : tie.Need-add-i Inv-loop μ-loop
 add-i c = search needs
@@ -46,13 +47,13 @@ loop-less c = search needs
 
 loop-again : tie.Need-loop-again Inv-loop μ-loop
 loop-again c =
-    let c3 = c .before .before .before in
-    (search needs, records-pass hashBytesOk _ hashWidth 4 _ (c3 .loop .i) (c .before .four-hashes-ok .ensures) (c3 .loop .inv .1) (c .if1 .left))
+    let at-loop = c .before .before .before in
+    (search needs, records-pass hashBytesOk _ hashWidth 4 _ (at-loop .loop .i) (c .before .four-hashes-ok .ensures) (at-loop .loop .inv .1) (c .if1 .left))
 
 returns-2 : tie.Need-returns-2 Inv-loop μ-loop
 returns-2 c =
-    let c3 = c .before .before .before in
-    ended (λ (k : ℕ). recordsOk hashBytesOk (c3 .args .at) hashWidth (4 * k) (c3 .args .t .now)) (c .before .loop .inv .0)
+    let start = c .before .before .before in
+    ended (λ (k : ℕ). recordsOk hashBytesOk (start .args .at) hashWidth (4 * k) (start .args .t .now)) (c .before .loop .inv .0)
     (c .loop-test .left) (c .before .loop .inv .1)
 
 pub hash-group-each-spec : {M : Type 1} → statement M

@@ -38,8 +38,8 @@ is-zero-requires c κs = search needs
 returns : tie.Need-returns
 unfolding hashBytesOk
 returns c =
-    let c6 = c .before .before .before .before .before .before in
-    section-free hashBytesOk (c6 .args .at) hashWidth groupSize (c6 .args .t .now) (unused hashForm) (omega (arith, c6 .pre))
+    let start = c .before .before .before .before .before .before in
+    section-free hashBytesOk (start .args .at) hashWidth groupSize (start .args .t .now) (unused hashForm) (omega (arith, start .pre))
     (c .before .is-zero .ensures) (c .if2 .taken)
 
 hash-group-plain-requires : tie.Need-hash-group-plain-requires

@@ -52,13 +52,13 @@ loop-less c = search needs
 
 loop-again : tie.Need-loop-again Inv-loop μ-loop
 loop-again c =
-    let c4 = c .before .before .before .before in
-    (search needs, record-passes linkBytesOk _ linkWidth _ _ (c .before .link-ok .ensures) (c .if1 .left) (c4 .loop .inv .1))
+    let at-loop = c .before .before .before .before in
+    (search needs, record-passes linkBytesOk _ linkWidth _ _ (c .before .link-ok .ensures) (c .if1 .left) (at-loop .loop .inv .1))
 
 returns-2 : tie.Need-returns-2 Inv-loop μ-loop
 returns-2 c =
-    let c3 = c .before .before .before in
-    ended (λ (k : ℕ). recordsOk linkBytesOk (c3 .args .at) linkWidth k (c3 .args .t .now)) (c .before .loop .inv .0)
+    let start = c .before .before .before in
+    ended (λ (k : ℕ). recordsOk linkBytesOk (start .args .at) linkWidth k (start .args .t .now)) (c .before .loop .inv .0)
     (c .loop-test .left) (c .before .loop .inv .1)
 
 pub links-each-spec : {M : Type 1} → statement M

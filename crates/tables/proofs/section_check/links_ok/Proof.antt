@@ -33,8 +33,8 @@ is-zero-requires c κs = search needs
 returns : tie.Need-returns
 unfolding linkBytesOk
 returns c =
-    let c6 = c .before .before .before .before .before .before in
-    section-free linkBytesOk (c6 .args .at) linkWidth linkCount (c6 .args .t .now) (unused linkForm) (omega (arith, c6 .pre))
+    let start = c .before .before .before .before .before .before in
+    section-free linkBytesOk (start .args .at) linkWidth linkCount (start .args .t .now) (unused linkForm) (omega (arith, start .pre))
     (c .before .is-zero .ensures) (c .if2 .taken)
 
 links-each-requires : tie.Need-links-each-requires

@@ -43,8 +43,8 @@ local-ok-requires c κs = search needs
 
 returns : tie.Need-returns Inv-loop μ-loop
 returns c =
-    let c3 = c .before .before .before in
-    record-fails localBytesOk localsAt localWidth _ _ (c .before .local-ok .ensures) localCount (c3 .loop-test .taken) (c .if1 .taken)
+    let in-loop = c .before .before .before in
+    record-fails localBytesOk localsAt localWidth _ _ (c .before .local-ok .ensures) localCount (in-loop .loop-test .taken) (c .if1 .taken)
 
 add-i : tie.Need-add-i Inv-loop μ-loop
 add-i c = search needs
@@ -54,13 +54,14 @@ loop-less c = search needs
 
 loop-again : tie.Need-loop-again Inv-loop μ-loop
 loop-again c =
-    let c4 = c .before .before .before .before in
-    (search needs, record-passes localBytesOk localsAt localWidth _ _ (c .before .local-ok .ensures) (c .if1 .left) (c4 .loop .inv .1))
+    let at-loop = c .before .before .before .before in
+    (search needs, record-passes localBytesOk localsAt localWidth _ _ (c .before .local-ok .ensures) (c .if1 .left) (at-loop .loop .inv .1))
 
 returns-2 : tie.Need-returns-2 Inv-loop μ-loop
 returns-2 c =
-    let c3 = c .before .before .before in
-    ended (λ (k : ℕ). recordsOk localBytesOk localsAt localWidth k (c3 .args .t .now)) (c .before .loop .inv .0) (c .loop-test .left) (c .before .loop .inv .1)
+    let start = c .before .before .before in
+    ended (λ (k : ℕ). recordsOk localBytesOk localsAt localWidth k (start .args .t .now)) (c .before .loop .inv .0) (c .loop-test .left)
+    (c .before .loop .inv .1)
 
 pub locals-ok-spec : {M : Type 1} → statement M
 locals-ok-spec =

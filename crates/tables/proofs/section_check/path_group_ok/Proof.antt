@@ -36,8 +36,8 @@ is-zero-requires c κs = search needs
 returns : tie.Need-returns
 unfolding pathBytesOk
 returns c =
-    let c6 = c .before .before .before .before .before .before in
-    section-free pathBytesOk (c6 .args .at) pathWidth pathGroupSize (c6 .args .t .now) (unused pathForm) (omega (arith, c6 .pre))
+    let start = c .before .before .before .before .before .before in
+    section-free pathBytesOk (start .args .at) pathWidth pathGroupSize (start .args .t .now) (unused pathForm) (omega (arith, start .pre))
     (c .before .is-zero .ensures) (c .if2 .taken)
 
 paths-each-requires : tie.Need-paths-each-requires

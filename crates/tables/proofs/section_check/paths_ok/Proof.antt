@@ -36,8 +36,8 @@ path-group-ok-requires c κs = search needs
 
 returns : tie.Need-returns Inv-loop μ-loop
 returns c =
-    let c3 = c .before .before .before in
-    records-fail pathBytesOk _ pathWidth pathGroupSize _ _ (c .before .path-group-ok .ensures) (c3 .loop .inv .1) pathCount (omega arith) (c .if1 .taken)
+    let at-loop = c .before .before .before in
+    records-fail pathBytesOk _ pathWidth pathGroupSize _ _ (c .before .path-group-ok .ensures) (at-loop .loop .inv .1) pathCount (omega arith) (c .if1 .taken)
 
 add-g : tie.Need-add-g Inv-loop μ-loop
 add-g c = search needs
@@ -47,13 +47,13 @@ loop-less c = search needs
 
 loop-again : tie.Need-loop-again Inv-loop μ-loop
 loop-again c =
-    let c3 = c .before .before .before in
-    (search needs, records-pass pathBytesOk _ pathWidth pathGroupSize _ _ (c .before .path-group-ok .ensures) (c3 .loop .inv .1) (c .if1 .left))
+    let at-loop = c .before .before .before in
+    (search needs, records-pass pathBytesOk _ pathWidth pathGroupSize _ _ (c .before .path-group-ok .ensures) (at-loop .loop .inv .1) (c .if1 .left))
 
 returns-2 : tie.Need-returns-2 Inv-loop μ-loop
 returns-2 c =
-    let c3 = c .before .before .before in
-    ended (λ (k : ℕ). recordsOk pathBytesOk pathsAt pathWidth (pathGroupSize * k) (c3 .args .t .now)) (c .before .loop .inv .0) (c .loop-test .left)
+    let start = c .before .before .before in
+    ended (λ (k : ℕ). recordsOk pathBytesOk pathsAt pathWidth (pathGroupSize * k) (start .args .t .now)) (c .before .loop .inv .0) (c .loop-test .left)
     (c .before .loop .inv .1)
 
 pub paths-ok-spec : {M : Type 1} → statement M

@@ -42,8 +42,8 @@ is-zero-requires c κs = search needs
 returns : tie.Need-returns
 unfolding returnBytesOk
 returns c =
-    let c6 = c .before .before .before .before .before .before in
-    section-free returnBytesOk (c6 .args .at) returnWidth groupSize (c6 .args .t .now) (unused returnForm) (omega (arith, c6 .pre))
+    let start = c .before .before .before .before .before .before in
+    section-free returnBytesOk (start .args .at) returnWidth groupSize (start .args .t .now) (unused returnForm) (omega (arith, start .pre))
     (c .before .is-zero .ensures) (c .if2 .taken)
 
 return-group-plain-requires : tie.Need-return-group-plain-requires
@@ -51,13 +51,13 @@ return-group-plain-requires c κs = search needs
 
 returns-2 : tie.Need-returns-2
 returns-2 c =
-    let c5 = c .before .before .before .before .before in
-    let t = c5 .args .t .now in
-    let at = c5 .args .at in
+    let start = c .before .before .before .before .before in
+    let t = start .args .t .now in
+    let at = start .args .at in
     let bytes = known-bytes t (c .before .before .before .before .shared-slice-known .given) in
     records-kept returnPlain returnBytesOk at returnWidth groupSize t
     (λ i l. return-plain _ (part-bytes t (at + returnWidth * i) returnWidth bytes)
-    (part-length t (at + returnWidth * i) returnWidth (omega (arith, c5 .pre, many-end returnWidth groupSize i l))))
+    (part-length t (at + returnWidth * i) returnWidth (omega (arith, start .pre, many-end returnWidth groupSize i l))))
     (sym (c .before .return-group-plain .ensures) ∙ c .if3 .taken)
 
 return-group-each-requires : tie.Need-return-group-each-requires

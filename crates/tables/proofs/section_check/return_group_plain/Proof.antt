@@ -37,9 +37,9 @@ four-returns-plain-requires c κs = search needs
 
 returns : tie.Need-returns Inv-loop μ-loop
 returns c =
-    let c3 = c .before .before .before in
-    records-fail returnPlain _ returnWidth 4 _ (c3 .loop .i * 2)
-    (c .before .four-returns-plain .ensures) (c3 .loop .inv .1) groupSize (omega arith) (c .if1 .taken)
+    let at-loop = c .before .before .before in
+    records-fail returnPlain _ returnWidth 4 _ (at-loop .loop .i * 2)
+    (c .before .four-returns-plain .ensures) (at-loop .loop .inv .1) groupSize (omega arith) (c .if1 .taken)
 
 mul-four-returns-plain-4 : tie.Need-mul-four-returns-plain-4 Inv-loop μ-loop
 mul-four-returns-plain-4 c = search needs
@@ -61,10 +61,10 @@ four-returns-plain-requires-2 c κs = search needs
 
 returns-2 : tie.Need-returns-2 Inv-loop μ-loop
 returns-2 c =
-    let c3 = c .before .before .before in
-    let i = c3 .before .before .loop .i in
+    let after-four-returns-plain = c .before .before .before in
+    let i = after-four-returns-plain .before .before .loop .i in
     let first = records-pass returnPlain _ returnWidth 4 _ (i * 2)
-    (c3 .four-returns-plain .ensures) (c3 .before .before .loop .inv .1) (c .before .before .if1 .left) in
+    (after-four-returns-plain .four-returns-plain .ensures) (after-four-returns-plain .before .before .loop .inv .1) (c .before .before .if1 .left) in
     records-fail returnPlain _ returnWidth 4 _ (i * 2 + 1) (c .before .four-returns-plain2 .ensures) first groupSize (omega arith) (c .if2 .taken)
 
 add-i : tie.Need-add-i Inv-loop μ-loop
@@ -75,17 +75,18 @@ loop-less c = search needs
 
 loop-again : tie.Need-loop-again Inv-loop μ-loop
 loop-again c =
-    let c3 = c .before .before .before in
-    let loop = c3 .before .before .loop in (
+    let after-four-returns-plain = c .before .before .before in
+    let loop = after-four-returns-plain .before .before .loop in (
       search needs,
-      records-pass-twice returnPlain _ returnWidth 4 _ (loop .i) (c3 .four-returns-plain .ensures) (c .before .four-returns-plain2 .ensures) (loop .inv .1)
+      records-pass-twice returnPlain _ returnWidth 4 _ (loop .i) (after-four-returns-plain .four-returns-plain .ensures)
+          (c .before .four-returns-plain2 .ensures) (loop .inv .1)
           (c .before .before .if1 .left) (c .if2 .left),
     )
 
 returns-3 : tie.Need-returns-3 Inv-loop μ-loop
 returns-3 c =
-    let c3 = c .before .before .before in
-    ended (λ (k : ℕ). recordsOk returnPlain (c3 .args .at) returnWidth (4 * (k * 2)) (c3 .args .t .now)) (c .before .loop .inv .0)
+    let start = c .before .before .before in
+    ended (λ (k : ℕ). recordsOk returnPlain (start .args .at) returnWidth (4 * (k * 2)) (start .args .t .now)) (c .before .loop .inv .0)
     (c .loop-test .left) (c .before .loop .inv .1)
 
 pub return-group-plain-spec : {M : Type 1} → statement M

@@ -19,9 +19,9 @@ number-at-requires c κs = search needs
 returns-2 : tie.Need-returns-2
 unfolding startOk timeOk rateSettingsOk rateSettingsIn _and_
 returns-2 c =
-    let c3 = c .before .before .before in
+    let after-number-of-8-at = c .before .before .before in
     rw (
-      ← c3 .number-of-8-at .ensures,
+      ← after-number-of-8-at .number-of-8-at .ensures,
       le-leb _ _ (c .before .before .if1 .left),
       ← c .before .number-at .ensures,
       lt-leb _ _ (c .if2 .taken),
@@ -33,12 +33,12 @@ number-at-requires-2 c κs = search needs
 returns-3 : tie.Need-returns-3
 unfolding startOk timeOk rateSettingsOk rateSettingsIn _and_
 returns-3 c =
-    let c3 = c .before .before .before in
-    let c5 = c3 .before .before in
+    let after-number-at = c .before .before .before in
+    let after-number-of-8-at = after-number-at .before .before in
     rw (
-      ← c5 .number-of-8-at .ensures,
-      le-leb _ _ (c3 .before .if1 .left),
-      ← c3 .number-at .ensures,
+      ← after-number-of-8-at .number-of-8-at .ensures,
+      le-leb _ _ (after-number-at .before .if1 .left),
+      ← after-number-at .number-at .ensures,
       le-leb _ _ (c .before .before .if2 .left),
       ← c .before .number-at2 .ensures,
       lt-leb _ _ (c .if3 .taken),
@@ -50,15 +50,15 @@ number-at-requires-3 c κs = search needs
 returns-4 : tie.Need-returns-4
 unfolding startOk timeOk rateSettingsOk rateSettingsIn _and_
 returns-4 c =
-    let c2 = c .before .before in
-    let c4 = c2 .before .before in
-    let c6 = c4 .before .before in
+    let after-number-at2 = c .before .before in
+    let after-number-at = after-number-at2 .before .before in
+    let after-number-of-8-at = after-number-at .before .before in
     rw (
-      ← c6 .number-of-8-at .ensures,
-      le-leb _ _ (c4 .before .if1 .left),
-      ← c4 .number-at .ensures,
-      le-leb _ _ (c2 .before .if2 .left),
-      ← c2 .number-at2 .ensures,
+      ← after-number-of-8-at .number-of-8-at .ensures,
+      le-leb _ _ (after-number-at .before .if1 .left),
+      ← after-number-at .number-at .ensures,
+      le-leb _ _ (after-number-at2 .before .if2 .left),
+      ← after-number-at2 .number-at2 .ensures,
       le-leb _ _ (c .before .if3 .left),
       ← c .number-at3 .ensures,
     )

@@ -5,6 +5,7 @@ use native.Mathlib.Omega.{arith}
 use borrow.Author.Needs.{needs}
 use Rattle.text.proofs.numerals.with_decimal.Statement.{statement}
 use Rattle.text.proofs.numerals.with_decimal.Tie as tie
+use Rattle.text.specs.Numerals.{mostDigits}
 
 slice-aggregate-write-decimal : tie.Need-slice-aggregate-write-decimal
 slice-aggregate-write-decimal c = search needs
@@ -27,7 +28,7 @@ with-text-requires c κs = search needs
 returns : tie.Need-returns
 returns c =
     let w = c .before .before .before .before .write-decimal in
-    cc (take-all (20 - w .result) (drop (w .result) (w .last .0)) (simp length-drop (omega arith)), w .ensures .1)
+    cc (take-all (mostDigits - w .result) (drop (w .result) (w .last .0)) (simp length-drop (omega arith)), w .ensures .1)
 
 pub with-decimal-spec : {M : Type 1} → statement M
 with-decimal-spec =

@@ -4,11 +4,11 @@ use native.Mathlib.Nat.{div-lt-self}
 use lib.Dec.{lit≤}
 use lib.ListN.{length-set}
 use Rattle.text.proofs.NumeralLaws.{place-left, rest-fits, decimal-turn, decimal-last}
-use Prim.Native.Nat.{_+_, _^_, _≤_, _<_}
+use Prim.Native.Nat.{_+_, _^_, _<_}
 use mathlib.Core.Path.{_≡_, sym}
 use mathlib.Core.List.{_++_}
 use lib.ListN.{length, drop}
-use Rattle.text.specs.Numerals.{decimal}
+use Rattle.text.specs.Numerals.{decimal, mostDigits}
 use native.Mathlib.Omega.{arith}
 use borrow.Author.Needs.{needs}
 use Rattle.text.proofs.numerals.write_decimal.Statement.{statement}
@@ -16,13 +16,15 @@ use Rattle.text.proofs.numerals.write_decimal.Tie as tie
 
 abbrev Inv-loop : tie.InvT-loop
 Inv-loop digits₀ x rest₀ at₀ digits rest at =
-    (at ≤ 19) × (length digits ≡ length digits₀) × (rest < 10 ^ (at + 1)) × (decimal x ≡ decimal rest ++ drop (at + 1) digits)
+    (at < mostDigits) × (length digits ≡ length digits₀) × (rest < 10 ^ (at + 1)) × (decimal x ≡ decimal rest ++ drop (at + 1) digits)
 
 abbrev μ-loop : tie.MeasureT-loop
 μ-loop digits₀ x rest₀ at₀ digits rest at = rest
 
 loop-holds : tie.Need-loop-holds Inv-loop μ-loop
-loop-holds c = (search needs, search needs, search needs, sym (rw (drop-of-length-le (c .before .args .digits .now) {i = 20} (omega arith)) (append-nil _)))
+loop-holds c =
+    let none = drop-of-length-le (c .before .args .digits .now) {i = mostDigits} (omega arith) in
+    (search needs, search needs, search needs, sym (rw none (append-nil _)))
 
 digit-requires : tie.Need-digit-requires Inv-loop μ-loop
 digit-requires c κs = search needs

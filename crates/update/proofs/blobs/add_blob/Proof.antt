@@ -37,12 +37,12 @@ same-length c = search needs
 
 returns : tie.Need-returns
 returns c =
-    let c7 = c .before .before .before .before .before .before .before in
-    let c9 = c7 .before .before in
-    let c12 = c9 .before .before .before in
-    let a = c12 .args in
+    let after-set-at = c .before .before .before .before .before .before .before in
+    let then1 = after-set-at .before .before in
+    let start = then1 .before .before .before in
+    let a = start .args in
     let wide : length (a .t2) ≡ blobWidth = search needs in
-    rw (c .before .before .copy-at .ensures, c7 .set-at .ensures) (added (a .s .now) (c12 .pre) (a .t2) wide (c9 .if1 .taken))
+    rw (c .before .before .copy-at .ensures, after-set-at .set-at .ensures) (added (a .s .now) (start .pre) (a .t2) wide (then1 .if1 .taken))
 
 push-blob-requires : tie.Need-push-blob-requires
 push-blob-requires c κs = search needs
@@ -52,11 +52,11 @@ same-length-2 c = search needs
 
 returns-2 : tie.Need-returns-2
 returns-2 c =
-    let c4 = c .before .before .before .before in
-    let c7 = c4 .before .before .before in
-    let a = c7 .args in
+    let else1 = c .before .before .before .before in
+    let start = else1 .before .before .before in
+    let a = start .args in
     let wide : length (a .t2) ≡ blobWidth = search needs in
-    pushed (a .s .now) (c7 .pre) (a .t2) wide _ (c4 .if1 .left) (c .before .before .push-blob .ensures)
+    pushed (a .s .now) (start .pre) (a .t2) wide _ (else1 .if1 .left) (c .before .before .push-blob .ensures)
 
 pub add-blob-spec : {M : Type 1} → statement M
 add-blob-spec =

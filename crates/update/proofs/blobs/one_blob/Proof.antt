@@ -26,12 +26,13 @@ same-length c = search needs
 
 returns : tie.Need-returns
 returns c =
-    let c7 = c .before .before .before .before .before .before .before in
-    let c12 = c7 .before .before .before .before .before in
-    let c15 = c12 .before .before .before in
-    let a = c15 .args in
+    let after-copy-at = c .before .before .before .before .before .before .before in
+    let after-set-at = after-copy-at .before .before .before .before .before in
+    let start = after-set-at .before .before .before in
+    let a = start .args in
     let wide : length (a .t2) ≡ blobWidth = search needs in
-    rw (c .before .before .copy-at2 .ensures, c7 .copy-at .ensures, c12 .set-at .ensures) (one-written (a .s .now) (a .t2) (c15 .pre) wide)
+    rw (c .before .before .copy-at2 .ensures, after-copy-at .copy-at .ensures, after-set-at .set-at .ensures)
+    (one-written (a .s .now) (a .t2) (start .pre) wide)
 
 pub one-blob-spec : {M : Type 1} → statement M
 one-blob-spec =

@@ -48,13 +48,13 @@ same-length c = search needs
 
 returns : tie.Need-returns
 returns c =
-    let c7 = c .before .before .before .before .before .before .before in
-    let c11 = c7 .before .before .before .before in
-    let c16 = c11 .before .before .before .before .before in
-    let a = c16 .args in
+    let after-copy-at = c .before .before .before .before .before .before .before in
+    let after-copy = after-copy-at .before .before .before .before in
+    let start = after-copy .before .before .before .before .before in
+    let a = start .args in
     let wide : length (a .t2) ≡ blobWidth = search needs in
-    let kept = c11 .copy .ensures ∙ part-range (a .s .now) (blobPlacesAt + blobWidth) newerWidth in
-    rw (c .before .before .copy-at2 .ensures, c7 .copy-at .ensures, kept) (all-moved (a .s .now) (c16 .pre) (a .t2) wide)
+    let kept = after-copy .copy .ensures ∙ part-range (a .s .now) (blobPlacesAt + blobWidth) newerWidth in
+    rw (c .before .before .copy-at2 .ensures, after-copy-at .copy-at .ensures, kept) (all-moved (a .s .now) (start .pre) (a .t2) wide)
 
 pub push-blob-spec : {M : Type 1} → statement M
 push-blob-spec =

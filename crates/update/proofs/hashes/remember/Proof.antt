@@ -49,16 +49,22 @@ same-length c = search needs
 returns : tie.Need-returns
 unfolding hashWritten hashBytes
 returns c =
-    let c6 = c .before .before .before .before .before .before in
-    let c10 = c6 .before .before .before .before in
-    let c15 = c10 .before .before .before .before .before in
-    let c18 = c15 .before .before .before in
-    let a = c18 .args in
+    let after-write-number-at = c .before .before .before .before .before .before in
+    let after-copy-at = after-write-number-at .before .before .before .before in
+    let after-set-at = after-copy-at .before .before .before .before .before in
+    let start = after-set-at .before .before .before in
+    let a = start .args in
     let wide : length (a .t3) ≡ digestWidth = search needs in
     let at : ℕ = hashesAt + hashWidth * a .place in
     let m = makeRemembered (a .t3) (a .expiry) in
-    let all = record-written hashForm m (a .tables .now) at (omega (arith, c18 .pre .0, c18 .pre .1)) in
-    rw (c .before .before .write-number-at2 .ensures, c6 .write-number-at .ensures, c10 .copy-at .ensures, c15 .set-at .ensures)
+    let all = record-written hashForm m (a .tables .now) at (omega (arith, start .pre .0, start .pre .1)) in
+    rw (
+      c .before .before .write-number-at2 .ensures,
+      after-write-number-at .write-number-at .ensures,
+      after-copy-at .copy-at .ensures,
+      after-set-at .set-at
+          .ensures,
+    )
     (rw (rw (exactly-same digestWidth (a .t3) wide) at all))
 
 pub remember-spec : {M : Type 1} → statement M

@@ -22,10 +22,10 @@ same-length c = search needs
 returns : tie.Need-returns
 unfolding pathWritten
 returns c =
-    let c2 = c .before .before in
-    let c5 = c2 .before .before .before in
-    let a = c5 .args in
-    path-kept (a .tables .now) _ (pathsAt + pathWidth * a .place) (a .path) (omega (arith, c5 .pre .0, c5 .pre .1)) (c2 .put-start .ensures)
+    let after-put-start = c .before .before in
+    let start = after-put-start .before .before .before in
+    let a = start .args in
+    path-kept (a .tables .now) _ (pathsAt + pathWidth * a .place) (a .path) (omega (arith, start .pre .0, start .pre .1)) (after-put-start .put-start .ensures)
 
 pub put-kept-path-spec : {M : Type 1} → statement M
 put-kept-path-spec =

@@ -47,14 +47,14 @@ same-length c = search needs
 returns : tie.Need-returns
 unfolding pathWritten
 returns c =
-    let c6 = c .before .before .before .before .before .before in
-    let c9 = c6 .before .before .before in
-    let a = c9 .args in
+    let after-put-start = c .before .before .before .before .before .before in
+    let start = after-put-start .before .before .before in
+    let a = start .args in
     let at : ℕ = pathsAt + pathWidth * a .place in
-    let fits : at + pathWidth ≤ length (a .tables .now) = omega (arith, c9 .pre .0, c9 .pre .1) in
-    path-put (a .tables .now) _ at (a .path) fits (c6 .put-start .ensures) _ _
+    let fits : at + pathWidth ≤ length (a .tables .now) = omega (arith, start .pre .0, start .pre .1) in
+    path-put (a .tables .now) _ at (a .path) fits (after-put-start .put-start .ensures) _ _
     (c .before .before .add-blob .ensures ∙ ap (λ (s : Blobs). blobsBytes (addBlob blobLimit (a .blob) s))
-    (blobs-kept (a .tables .now) _ at (a .path) fits (c6 .put-start .ensures)))
+    (blobs-kept (a .tables .now) _ at (a .path) fits (after-put-start .put-start .ensures)))
 
 pub put-known-path-spec : {M : Type 1} → statement M
 put-known-path-spec =

@@ -40,11 +40,12 @@ same-length c = search needs
 returns : tie.Need-returns
 unfolding pathWritten
 returns c =
-    let c6 = c .before .before .before .before .before .before in
-    let c9 = c6 .before .before .before in
-    let a = c9 .args in
+    let after-put-start = c .before .before .before .before .before .before in
+    let start = after-put-start .before .before .before in
+    let a = start .args in
     let at : ℕ = pathsAt + pathWidth * a .place in
-    path-put (a .tables .now) _ at (a .path) (omega (arith, c9 .pre .0, c9 .pre .1)) (c6 .put-start .ensures) _ _ (c .before .before .one-blob .ensures)
+    path-put (a .tables .now) _ at (a .path) (omega (arith, start .pre .0, start .pre .1)) (after-put-start .put-start .ensures) _ _
+    (c .before .before .one-blob .ensures)
 
 pub put-new-path-spec : {M : Type 1} → statement M
 put-new-path-spec =

@@ -28,13 +28,14 @@ same-length c = search needs
 returns : tie.Need-returns
 unfolding rateBytes
 returns c =
-    let c2 = c .before .before in
-    let c6 = c2 .before .before .before .before in
-    let c10 = c6 .before .before .before .before in
-    let c13 = c10 .before .before .before in
-    let a = c13 .args in
-    let all = fields-written rateEntryForm (a .rate) (a .tables .now) (a .at) (omega (arith, c13 .pre)) in
-    rw (c2 .write-number-at2 .ensures, c6 .set-at .ensures, c10 .write-number-at .ensures) (rw (add-zero (a .at)) at all)
+    let after-write-number-at2 = c .before .before in
+    let after-set-at = after-write-number-at2 .before .before .before .before in
+    let after-write-number-at = after-set-at .before .before .before .before in
+    let start = after-write-number-at .before .before .before in
+    let a = start .args in
+    let all = fields-written rateEntryForm (a .rate) (a .tables .now) (a .at) (omega (arith, start .pre)) in
+    rw (after-write-number-at2 .write-number-at2 .ensures, after-set-at .set-at .ensures, after-write-number-at .write-number-at .ensures)
+    (rw (add-zero (a .at)) at all)
 
 pub write-rate-spec : {M : Type 1} → statement M
 write-rate-spec =

@@ -39,16 +39,17 @@ loop-less c = search needs
 
 loop-again : tie.Need-loop-again Inv-loop μ-loop
 loop-again c =
-    let c4 = c .before .before .before .before in
-    let c5 = c4 .before in
-    let c7 = c5 .before .before in
-    let c8 = c7 .before in
-    let a = c8 .args in (
+    let in-loop = c .before .before .before .before in
+    let at-loop = in-loop .before in
+    let after-slice-known = at-loop .before .before in
+    let start = after-slice-known .before in
+    let a = start .args in (
       search needs,
       (
         search needs,
-        sweep-more (a .clock) (a .key .now) (a .tables .now) (known-bytes (a .tables .now) (c7 .slice-known .given))
-            (c8 .pre .0) (c5 .loop .tables) (c5 .loop .i) (c4 .loop-test .taken) (c5 .loop .inv .1 .1) _ (c .before .before .empty-if-live .ensures),
+        sweep-more (a .clock) (a .key .now) (a .tables .now) (known-bytes (a .tables .now) (after-slice-known .slice-known .given))
+            (start .pre .0) (at-loop .loop .tables) (at-loop .loop .i) (in-loop .loop-test .taken) (at-loop .loop .inv .1 .1) _
+            (c .before .before .empty-if-live .ensures),
       ),
     )
 

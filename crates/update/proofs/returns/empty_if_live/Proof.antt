@@ -42,13 +42,13 @@ same-length c = search needs
 returns : tie.Need-returns
 unfolding emptiedIfLive
 returns c =
-    let c4 = c .before .before .before .before in
-    let c5 = c4 .before in
-    let c10 = c5 .before .before .before .before .before in
-    let a = c10 .args in
+    let then1 = c .before .before .before .before in
+    let after-is-live = then1 .before in
+    let start = after-is-live .before .before .before .before .before in
+    let a = start .args in
     c .before .before .empty-return .ensures ∙ sym (then-true _ _ (ap (λ (x : List ℕ). holds (isLiveReturn (a .clock) (a .key .now))
-    (slotOf returnOf x)) (sym (part-range (a .tables .now) (returnsAt + returnWidth * a .place) returnWidth)) ∙ sym (c5 .is-live .ensures) ∙
-    c4 .if1 .taken))
+    (slotOf returnOf x)) (sym (part-range (a .tables .now) (returnsAt + returnWidth * a .place) returnWidth)) ∙ sym (after-is-live .is-live .ensures) ∙
+    then1 .if1 .taken))
 
 same-length-2 : tie.Need-same-length-2
 same-length-2 c = search needs
@@ -56,8 +56,8 @@ same-length-2 c = search needs
 returns-2 : tie.Need-returns-2
 unfolding emptiedIfLive
 returns-2 c =
-    let c6 = c .before .before .before .before .before .before in
-    let a = c6 .args in
+    let start = c .before .before .before .before .before .before in
+    let a = start .args in
     sym (then-false _ _ (ap (λ (x : List ℕ). holds (isLiveReturn (a .clock) (a .key .now)) (slotOf returnOf x))
     (sym (part-range (a .tables .now) (returnsAt + returnWidth * a .place) returnWidth)) ∙ sym (c .before .is-live .ensures) ∙ c .if1 .left))
 

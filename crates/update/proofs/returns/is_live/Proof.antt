@@ -24,9 +24,9 @@ equal-at-requires c κs = search needs
 returns-2 : tie.Need-returns-2
 unfolding holds slotOf isLiveReturn returnOf _then_otherwise_
 returns-2 c =
-    let c6 = c .before .before .before .before .before .before in
-    let a = c6 .args in
-    rw (ne-eqb _ _ (c .before .before .if1 .left)) (sym (and-no _ (key-seen (a .b .now) (a .key .now) (c6 .pre .0) (c6 .pre .1) ∙ sym
+    let start = c .before .before .before .before .before .before in
+    let a = start .args in
+    rw (ne-eqb _ _ (c .before .before .if1 .left)) (sym (and-no _ (key-seen (a .b .now) (a .key .now) (start .pre .0) (start .pre .1) ∙ sym
     (c .before .equal-at .ensures) ∙ not-true _ (c .if2 .taken))))
 
 number-of-8-at-requires : tie.Need-number-of-8-at-requires
@@ -35,11 +35,11 @@ number-of-8-at-requires c κs = search needs
 returns-3 : tie.Need-returns-3
 unfolding holds slotOf isLiveReturn returnOf _then_otherwise_
 returns-3 c =
-    let c3 = c .before .before .before in
-    let c7 = c3 .before .before .before .before in
-    let a = c7 .args in
-    rw (ne-eqb _ _ (c3 .if1 .left)) (ap (ltb (a .clock)) (c .number-of-8-at .ensures) ∙ sym
-    (and-yes _ (key-seen (a .b .now) (a .key .now) (c7 .pre .0) (c7 .pre .1) ∙ sym (c .before .before .equal-at .ensures) ∙ not-false _
+    let else1 = c .before .before .before in
+    let start = else1 .before .before .before .before in
+    let a = start .args in
+    rw (ne-eqb _ _ (else1 .if1 .left)) (ap (ltb (a .clock)) (c .number-of-8-at .ensures) ∙ sym
+    (and-yes _ (key-seen (a .b .now) (a .key .now) (start .pre .0) (start .pre .1) ∙ sym (c .before .before .equal-at .ensures) ∙ not-false _
     (c .before .if2 .left))))
 
 pub is-live-spec : {M : Type 1} → statement M

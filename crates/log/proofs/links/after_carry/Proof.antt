@@ -1,0 +1,98 @@
+use Rattle.rules.specs.Writes.{renewedLink}
+use Rattle.log.proofs.Steps.{entry-reads, entry-whole, entry-arrival, packet-arrival, carry-step, another-carry}
+use Rattle.judging.specs.Seen.{linkOf}
+use Rattle.rules.specs.declared.Link.{Link}
+use Rattle.packet.specs.declared.Parts.{Parts}
+use Rattle.packet.specs.Read.{partsOf}
+use Rattle.octets.specs.Choice.{same, _then_otherwise_}
+use mathlib.Core.List.{List}
+use Prim.Native.Nat.{ℕ, _<_}
+use mathlib.Core.Path.{_≡_, refl, sym, ap, subst, _∙_}
+use borrow.Author.Needs.{needs}
+use Rattle.log.proofs.links.after_carry.Statement.{statement}
+use Rattle.log.proofs.links.after_carry.Tie as tie
+use Rattle.numbers.specs.Numbers.{portCount}
+
+entry-at-requires : tie.Need-entry-at-requires
+entry-at-requires c κs = (c .before .pre .0, c .before .pre .1)
+
+packet-in-requires : tie.Need-packet-in-requires
+packet-in-requires c κs = c .entry-at .ensures .1
+
+parts-of-requires : tie.Need-parts-of-requires
+parts-of-requires c κs =
+    let start = c .before .before .before in
+    let log = start .args .log .now in
+    let i : ℕ = start .args .i in
+    entry-whole log i _ _ (c .before .entry-at .ensures .0) (c .packet-in .ensures .0) 5 refl (start .pre .2)
+
+is-same-requires : tie.Need-is-same-requires
+is-same-requires c κs = search needs
+
+arrived-in-requires : tie.Need-arrived-in-requires
+arrived-in-requires c κs = c .before .before .before .before .before .before .entry-at .ensures .1
+
+renewed-link-requires : tie.Need-renewed-link-requires
+renewed-link-requires c κs =
+    let after-packet-in = c .before .before .before .before .before .before in
+    let after-entry-at = after-packet-in .before in
+    let start = after-entry-at .before .before in
+    let log = start .args .log .now in
+    let i : ℕ = start .args .i in
+    (entry-reads log i _ _ (after-entry-at .entry-at .ensures .0) (after-packet-in .packet-in .ensures .0) 5 refl (start .pre .2), c .arrived-in .ensures .2)
+
+returns : tie.Need-returns
+unfolding linkOf renewedLink _then_otherwise_
+returns c =
+    let then1 = c .before .before .before in
+    let after-is-same = then1 .before in
+    let after-parts-of = after-is-same .before .before in
+    let after-packet-in = after-parts-of .before in
+    let after-entry-at = after-packet-in .before in
+    let start = after-entry-at .before .before in
+    let log = start .args .log .now in
+    let i : ℕ = start .args .i in
+    let there : after-parts-of .parts-of .result .destination ≡ partsOf (after-packet-in .packet-in .result .now) .destination = ap
+    (λ (x : Parts). x .destination)
+    (after-parts-of .parts-of .ensures) in
+    let found = ap (λ (x : List ℕ). same x (start .args .id)) (sym there) ∙ sym (after-is-same .is-same .ensures) in
+    let made = c .renewed-link .ensures in
+    record {
+      is = carry-step log i (start .args .id) (start .args .before) (start .pre .3 .is) _ (entry-arrival log i _ _ (after-entry-at .entry-at .ensures .0)
+          (after-packet-in .packet-in .ensures .0) (c .before .arrived-in .result) (c .before .arrived-in .ensures .0)) (start .pre .2)
+          (found ∙ then1 .if1 .taken) _ made;
+      asking = subst (λ (l : Link). l .asking < portCount) (sym made) (start .pre .3 .asking);
+      answering = subst (λ (l : Link). l .answering < portCount) (sym made) (start .pre .3 .answering);
+    }
+
+returns-2 : tie.Need-returns-2
+returns-2 c =
+    let after-parts-of = c .before .before .before in
+    let after-packet-in = after-parts-of .before in
+    let after-entry-at = after-packet-in .before in
+    let start = after-entry-at .before .before in
+    let log = start .args .log .now in
+    let i : ℕ = start .args .i in
+    let there : after-parts-of .parts-of .result .destination ≡ partsOf (after-packet-in .packet-in .result .now) .destination = ap
+    (λ (x : Parts). x .destination)
+    (after-parts-of .parts-of .ensures) in
+    let found = ap (λ (x : List ℕ). same x (start .args .id)) (sym there) ∙ sym (c .before .is-same .ensures) in
+    record {
+      is = another-carry log i (start .args .id) (start .args .before) (start .pre .3 .is) _ (packet-arrival log i _ _ (after-entry-at .entry-at .ensures .0)
+          (after-packet-in .packet-in .ensures .0)) (start .pre .2) (found ∙ c .if1 .left);
+      asking = start .pre .3 .asking;
+      answering = start .pre .3 .answering;
+    }
+
+pub after-carry-spec : {M : Type 1} → statement M
+after-carry-spec =
+    tie.close
+    (tie.spec
+    entry-at-requires
+    packet-in-requires
+    parts-of-requires
+    is-same-requires
+    arrived-in-requires
+    renewed-link-requires
+    returns
+    returns-2)
