@@ -49,7 +49,8 @@ module _ (own : List ℕ) (entries : List Entry) (log : List ℕ) (h : HoldsList
   still-holds (saves f room) reply after same = record { address = ap ownIn same ∙ h .address; lists = ap callsIn same ∙ h .lists }
   still-holds (loads f file) reply after same = record { address = ap ownIn same ∙ h .address; lists = ap callsIn same ∙ h .lists }
 
-agree : (cs : List Call) (own : List ℕ) (entries : List Entry) (log : List ℕ) (r : Relay) (t : Tally) → HoldsList own entries log → AllReplyAlike own entries cs r t
+agree : (cs : List Call) (own : List ℕ) (entries : List Entry) (log : List ℕ) (r : Relay) (t : Tally) → HoldsList own entries log
+    → AllReplyAlike own entries cs r t
     → Agree cs log r t
 unfolding AllReplyAlike
 agree [] own entries log r t h alike = tt

@@ -273,7 +273,8 @@ module _ (f : List ℕ) (i : ℕ) where
         let at : ℕ = entryPlace headWidth i in
         ap headOf entry-there
         ∙ ap₂ (λ (p q : List ℕ). p ++ q) (part-again f at clockWidth b (omega (arith, there-item)))
-        (ap₂ (λ (p q : List ℕ). p ++ q) (sym (part-one f (at + portAt) (omega (arith, there-item)))) (sym (part-one f (at + wordAt) (omega (arith, there-item)))))
+        (ap₂ (λ (p q : List ℕ). p ++ q) (sym (part-one f (at + portAt) (omega (arith, there-item))))
+        (sym (part-one f (at + wordAt) (omega (arith, there-item)))))
         ∙ ap (λ (k : ℕ). part f at clockWidth ++ (part f (at + portAt) 1 ++ part f k 1)) (sym (add-assoc at clockWidth 1))
         ∙ part-three f at clockWidth 1 1
 

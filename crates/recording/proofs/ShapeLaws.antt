@@ -210,7 +210,8 @@ module _ {A : Type 0} (kind edition w : ℕ) (head body : A → List ℕ) (wide 
       ap number
       (ap (λ (k : ℕ). part made k lengthWidth) (add-assoc (entryPlace w i) w offsetWidth)
       ∙ sym (part-part made (entryPlace w i) (itemWidth w) (w + offsetWidth) lengthWidth (omega arith))
-      ∙ ap (λ (r : List ℕ). part r (w + offsetWidth) lengthWidth) (shape-item i l ∙ sym (append-assoc (head (x i)) at (bigEndian lengthWidth (longOf body x i))))
+      ∙ ap (λ (r : List ℕ). part r (w + offsetWidth) lengthWidth)
+      (shape-item i l ∙ sym (append-assoc (head (x i)) at (bigEndian lengthWidth (longOf body x i))))
       ∙ part-last (head (x i) ++ at) (bigEndian lengthWidth (longOf body x i)) (w + offsetWidth) lengthWidth
       (simp (length-append, bigEndian-length) (omega (arith, wide (x i)))) (bigEndian-length lengthWidth _))
       ∙ number-bigEndian lengthWidth (longOf body x i) small
@@ -219,7 +220,8 @@ module _ {A : Type 0} (kind edition w : ℕ) (head body : A → List ℕ) (wide 
   shape-body i l =
       ap (λ (r : List ℕ). part r (entryPlace w n + sumBelow (longOf body x) i) (longOf body x i))
       (shape-listOf kind edition w head body x n ∙ sym (append-assoc (kind ∷ edition ∷ bigEndian countWidth n) items (joined body (listOf x n))))
-      ∙ part-back (kind ∷ edition ∷ (bigEndian countWidth n ++ items)) (joined body (listOf x n)) (entryPlace w n) (sumBelow (longOf body x) i) (longOf body x i)
+      ∙ part-back (kind ∷ edition ∷ (bigEndian countWidth n ++ items)) (joined body (listOf x n)) (entryPlace w n) (sumBelow (longOf body x) i)
+      (longOf body x i)
       (simp (length-append, bigEndian-length) (omega (arith, items-length)))
       ∙ joined-found body x n i l
 
