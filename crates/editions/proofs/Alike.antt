@@ -18,7 +18,7 @@ use Rattle.octets.specs.Part.{part, patch}
 use Rattle.octets.proofs.Index.{and-left, and-right, and-yes, all-plus, all-intro, all-cong}
 use Rattle.octets.proofs.Agree.{zeros-replicate}
 use Rattle.octets.proofs.ListOf.{listOf-length, listOf-at, listOf-cong}
-use Rattle.octets.proofs.Part.{part-length, part-part, part-mid, part-split, part-whole, part-range, patch-mid, patch-range}
+use Rattle.octets.proofs.Part.{part-length, part-part, part-mid, part-zeros, part-split, part-whole, part-range, patch-mid, patch-range}
 use Rattle.recording.proofs.Sums.{part-last}
 use Rattle.codes.specs.Codes.{Slot, empty, used, fill}
 use Rattle.codes.specs.Form.{Form, given, field, _&_, many, firstsOf, slot, that, asRecord, code}
@@ -150,17 +150,6 @@ opened-written to from k l m e =
     ∙ ap (λ (y : List ℕ). x ++ (gap ++ y)) (append-nil z)
 
 -- ---- zeros that stay around what is written
-part-zeros : (n k m : ℕ) → k + m ≤ n → part (replicate n 0) k m ≡ replicate m 0
-part-zeros n k m l =
-    let r : ℕ = n - (k + m) in
-    let zero : (i : ℕ) → length (replicate {A = ℕ} i 0) ≡ i = λ i. length-replicate {A = ℕ} i 0 in
-    let all : n ≡ k + (m + r) = omega arith in
-    ap (λ (x : List ℕ). part x k m)
-    (ap (λ (i : ℕ). replicate i 0) all
-    ∙ sym (replicate-append-replicate k (m + r) 0)
-    ∙ ap (λ (y : List ℕ). replicate k 0 ++ y) (sym (replicate-append-replicate m r 0)))
-    ∙ part-mid (replicate k 0) (replicate m 0) (replicate r 0) k m (zero k) (zero m)
-
 pub zeros-lent : (t : List ℕ) (n k : ℕ) → t ≡ replicate n 0 → k ≤ n → take (k - 0) (drop 0 t) ≡ replicate k 0
 unfolding part
 zeros-lent t n k e l =

@@ -5,7 +5,7 @@ use mathlib.Core.Bool.{Bool, true, false}
 use mathlib.Core.List.{List, [], _∷_, _++_, append-assoc, append-nil}
 use mathlib.Core.Path.{_≡_, refl, sym, ap, ap₂, subst, _∙_}
 use lib.Dec.{eqb, ltb}
-use lib.ListN.{length, getD, set, take, drop, replicate, length-append, length-set, drop-of-length-le, take-append-drop, length-replicate, getD-replicate, replicate-append-replicate}
+use lib.ListN.{length, getD, set, take, drop, replicate, length-append, length-set, drop-of-length-le, take-append-drop, length-replicate, getD-replicate}
 use lib.Seq.{drop-cons, drop-drop, drop-at, length-take-le, getD-take, ext-getD, getD-set-same, getD-set-other}
 use borrow.Author.Tests.{lt-ltb, le-ltb, ltb-true, ltb-false, eqb-true, eqb-false}
 use Rattle.octets.specs.Index.{listOf}
@@ -14,7 +14,7 @@ use Rattle.octets.specs.Index.{agree}
 use Rattle.octets.specs.Choice.{same}
 use Rattle.octets.proofs.Choice.{then-true, then-false, same-agree}
 use Rattle.octets.proofs.ListOf.{listOf-length, listOf-at, listOf-cong, listOf-first}
-use Rattle.octets.proofs.Part.{part-length, part-part, part-mid, part-front, patch-join, patch-whole}
+use Rattle.octets.proofs.Part.{part-length, part-part, part-mid, part-zeros, part-front, patch-join, patch-whole}
 use Rattle.numbers.specs.Numbers.{blobLimit, blobWidth}
 use Rattle.rules.specs.Blobs.{held, noBlob, oneBlob, addBlob}
 use Rattle.judging.specs.Seen.{blobBytes, placeIn, placesOf, blobsIn}
@@ -148,16 +148,6 @@ module _ (b x : List ℕ) (lb : length b ≡ blobBytes) (lx : length x ≡ blobW
       ∙ sym (then-false _ _ (le-ltb n blobLimit l))
 
 -- a new path's
-part-zeros : (m a n : ℕ) → a + n ≤ m → part (replicate m 0) a n ≡ replicate n 0
-part-zeros m a n h =
-    let k : ℕ = m - a - n in
-    let all : m ≡ a + (n + k) = omega arith in
-    ap (λ (r : List ℕ). part r a n)
-    (ap (λ (j : ℕ). replicate j 0) all
-    ∙ sym (replicate-append-replicate a (n + k) 0)
-    ∙ ap (λ (r : List ℕ). replicate a 0 ++ r) (sym (replicate-append-replicate n k 0)))
-    ∙ part-mid (replicate a 0) (replicate n 0) (replicate k 0) a n (length-replicate a 0) (length-replicate n 0)
-
 abbrev spare : List ℕ
 spare = replicate blobBytes 0
 

@@ -6,7 +6,7 @@ use mathlib.Core.Bool.{Bool, true}
 use mathlib.Core.List.{List, [], _∷_, map}
 use mathlib.Core.Path.{_≡_, refl, sym, ap, ap₂, _∙_}
 use lib.ListN.{length, getD, List·getD-eq-default}
-use borrow.Author.Tests.{ltb-true, lt-ltb, eq-eqb, ne-eqb}
+use borrow.Author.Tests.{ltb-true, eq-eqb, ne-eqb}
 use Rattle.octets.specs.Bytes.{Bytes}
 use Rattle.octets.specs.Choice.{_then_otherwise_}
 use Rattle.octets.specs.Part.{part, patch, joined, fields}
@@ -24,6 +24,7 @@ use Rattle.rules.specs.Relay.{Port, noPort, Slot, empty, Return, withSlots, Rel
 use Rattle.rules.specs.Refusals.{pathOk, linkOk, returnOk}
 use Rattle.rules.specs.Renumbering.{image, preimage, movedPorts, renamePath, renameLink, renameReturn, renameSlot, renumbered}
 use Rattle.rules.specs.declared.Link.{Link}
+use Rattle.rules.proofs.Images.{image-port}
 use Rattle.tables.specs.Forms.{pathForm, linkForm, returnForm, relayForm}
 use Rattle.tables.specs.Places.{portWidth, pathWidth, linkWidth, returnWidth, portsAt, pathsAt, linksAt, returnsAt}
 use Rattle.tables.specs.Fields.{pathPortAt, linkAskingAt, linkAnsweringAt, returnArrivalAt, returnLeavingAt}
@@ -62,10 +63,6 @@ byte-over : {A : Type 0} (f : Form A) (s : Inside f byte) (x : A) (p : ℕ) → 
     → patch (1 ∷ code f .write x) (1 + s .place .offset) (p ∷ []) ≡ 1 ∷ code f .write (s .place .put p x)
 byte-over f s x p h =
     patch-skip (1 ∷ []) (code f .write x) 1 refl (s .place .offset) (p ∷ []) ∙ ap (λ (r : List ℕ). 1 ∷ r) (s .place .patched x p h)
-
-image-port : (m : List ℕ) (q : ℕ) → q < portCount → image m q ≡ getD m q 0
-unfolding image _then_otherwise_
-image-port m q l = rw (lt-ltb q portCount l)
 
 module _ (b m : List ℕ) (bs : Bytes b) (mark : getD b 0 0 ≡ 0 → ⊥) where
   -- ---- a path
