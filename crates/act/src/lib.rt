@@ -1,6 +1,8 @@
 // What is done with an accepted packet once it is decided, one function for each record that is written, and one stamp.
 // Entry points: none. Every function is a helper of the packet call: the caller shows that the packet is accepted, and
 // what was decided.
+#![tactic(auto)]
+
 mod announces;
 mod drops;
 mod links;

@@ -1,5 +1,7 @@
 // What the programs read and write: a file that an argument names, and a text on standard output.
 // Entry points: read_file, print. What is printed lies within its text, which the programs show of every line.
+#![tactic(auto)]
+
 ghost use Rattle.std.specs.Prelude.{◌≤◌, length};
 ghost use Rattle.io.specs.Counts.{IsPrefixLen};
 

@@ -1,6 +1,8 @@
 // How what crosses to hosts lies in numbers and bytes: an answer as one number and as text, a tally, the parts of a
 // packet, an entry of a recording. Entry points: answer_number, number_text, tally_in, tally_numbers, parts_bytes,
 // entry_numbers. None has a `requires`.
+#![tactic(auto)]
+
 mod answer_numbers;
 mod answer_texts;
 mod bits;

@@ -1,5 +1,7 @@
 // Reads a message on standard input and writes its SHA-256 digest as a line of hexadecimal digits.
 // A message of more than 65,535 bytes gives the line `refused 2`.
+#![tactic(auto)]
+
 ghost use Rattle.std.specs.Prelude.{◌≡◌};
 ghost use Rattle.text.specs.Text.{text_of};
 ghost use Rattle.digest.specs.Line.{digest_line};

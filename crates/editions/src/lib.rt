@@ -6,6 +6,8 @@
 // and proofs/EachBrings.antt (how it was brought); a form that every edition so far has alike becomes a field of
 // `Edition` and of `Brings`. What isn't zeros in older files, or lies in a port, is a conversion of its own in
 // older.rt.
+#![tactic(auto)]
+
 mod older;
 mod rows;
 pub mod shape;

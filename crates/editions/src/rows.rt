@@ -18,7 +18,7 @@ const OLDER_BLOB_LIMIT: usize = 16;
 
 // How long the first body is, how wide a port's settings are, how much of a path's record stands before its blobs, and
 // how many of these it can hold.
-#[derive(Drop)]
+#[derive(Clone, Copy)]
 pub struct Widths {
     pub start: usize,
     pub port: usize,

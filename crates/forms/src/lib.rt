@@ -1,6 +1,8 @@
 // What needs no tables: a packet's form, whether it is a link proof or exempt from test 2, and what an announce sets of
 // its path by itself.
 // Entry points: none. Where a function has a `requires`, the caller shows that the packet reads.
+#![tactic(auto)]
+
 mod announced;
 mod bad_form;
 mod contexts;
@@ -13,7 +15,7 @@ pub use joined::{both, either};
 use rules::Clause;
 
 // What test 3 finds: a good form, or the first clause that fails.
-#[derive(Drop)]
+#[derive(Clone, Copy)]
 pub enum Form {
     Good,
     Bad(Clause),

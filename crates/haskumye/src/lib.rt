@@ -3,6 +3,8 @@
 // table_calls, questions, packets, announces, recordings, saved_tables, surveys, opinions and hashing. None has a
 // `requires`; each ends on any bytes, returns a refusal as its number, and leaves the caller's buffers as they were
 // where it refuses; a survey notes the refusal of a recording. include/haskumye.h declares them for C.
+#![tactic(auto)]
+
 mod announces;
 mod answer_texts;
 mod hashing;

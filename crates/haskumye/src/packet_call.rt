@@ -9,7 +9,7 @@ use crossing::answer_number;
 use rules::Tally;
 
 // What the call by value returns.
-#[derive(Drop)]
+#[derive(Clone, Copy)]
 pub struct Numbered {
     pub number: u64,
     pub tally: Tally,

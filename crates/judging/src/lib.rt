@@ -2,6 +2,8 @@
 // The code goes as document 01's tests do, in their order, and each test is a function of its own. What is seen comes
 // as a struct by value: who makes it shows that it is what there is to see (specs/Seen.antt).
 // Entry points: none. The caller shows that the packet reads, and that what is seen keeps refusal 7's bounds.
+#![tactic(auto)]
+
 mod blobs;
 mod early;
 mod keys;
@@ -31,7 +33,7 @@ use rules::{Blocked, Link, RateEntry, RateSettings, Reason, Verdict};
 use sending::send;
 
 // How a packet came: the arrival port, the clock, and the host's word on the signature.
-#[derive(Drop)]
+#[derive(Clone, Copy)]
 pub struct Arrived {
     pub port: u8,
     pub clock: u64,
@@ -39,7 +41,7 @@ pub struct Arrived {
 }
 
 // A port's settings.
-#[derive(Drop)]
+#[derive(Clone, Copy)]
 pub struct SeenPort {
     pub on: bool,
     pub mode: u8,
@@ -51,7 +53,7 @@ pub const BLOB_BYTES: usize = BLOB_WIDTH * BLOB_LIMIT;
 
 // A destination's path, if there is one. Of the blobs the one stored longest ago comes first, and what lies behind the
 // last one counts for nothing.
-#[derive(Drop)]
+#[derive(Clone, Copy)]
 pub struct SeenPath {
     pub there: bool,
     pub port: u8,
@@ -65,14 +67,14 @@ pub struct SeenPath {
 }
 
 // A link, if there is one.
-#[derive(Drop)]
+#[derive(Clone, Copy)]
 pub struct SeenLink {
     pub there: bool,
     pub link: Link,
 }
 
 // A return record, if there is one.
-#[derive(Drop)]
+#[derive(Clone, Copy)]
 pub struct SeenReturn {
     pub there: bool,
     pub arrival: u8,
@@ -83,7 +85,7 @@ pub struct SeenReturn {
 // What is seen for one packet at its clock: our own address, the rate settings and the ports; whether the packet's
 // destination is local, and whether its hash is remembered; the live path and the live return record of its
 // destination, and the live link of its destination or, for a link request, of the id that it would have.
-#[derive(Drop)]
+#[derive(Clone, Copy)]
 pub struct Seen {
     pub own: [u8; 16],
     pub rate: RateSettings,
@@ -96,7 +98,7 @@ pub struct Seen {
 }
 
 // What a packet would follow, by the record that is seen, or why there is no way on.
-#[derive(Drop)]
+#[derive(Clone, Copy)]
 pub enum SeenWay {
     Everywhere,
     ByPath,
@@ -106,14 +108,14 @@ pub enum SeenWay {
 }
 
 // How many blobs a path holds, and their bytes.
-#[derive(Drop)]
+#[derive(Clone, Copy)]
 pub struct Stored {
     pub count: usize,
     pub bytes: [u8; BLOB_BYTES],
 }
 
 // What is to be done with an accepted packet.
-#[derive(Drop)]
+#[derive(Clone, Copy)]
 pub enum Planned {
     Drop(Reason),
     Deliver,

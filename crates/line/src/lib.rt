@@ -1,5 +1,7 @@
 // The line by which the showing program tells a packet.
 // Entry point: line_of. Every other function is a helper: the caller shows what it requires.
+#![tactic(auto)]
+
 mod fields;
 mod names;
 

@@ -1,6 +1,8 @@
 // What judging reads from the tables' bytes: own address and clock, ports, the place of a live record in each table,
 // and its fields. Every function here is a helper: the caller shows the tables' size and that a place is within its
 // table. No entry points.
+#![tactic(auto)]
+
 mod blobs;
 mod expired;
 mod hashes;
@@ -30,7 +32,7 @@ pub use search::{is_live, record_at};
 use tables::places::{CLOCK_AT, GRACE_AT, PENALTY_AT, SETTING_WIDTH, TARGET_AT};
 
 // A time, or none: then it is 0.
-#[derive(Drop)]
+#[derive(Clone, Copy)]
 pub struct Latest {
     pub there: bool,
     pub time: u64,

@@ -1,5 +1,7 @@
 // Maps of the ports: whether one is one-to-one on 0..15, and the port that goes to a number.
 // Helpers: the caller shows that a map has sixteen images.
+#![tactic(auto)]
+
 ghost use Rattle.std.specs.Prelude.{◌≡◌, ◌<◌, length};
 ghost use Rattle.numbers.specs.Numbers.{port_count};
 ghost use Rattle.rules.specs.Renumbering.{differs_before, one_to_one, preimage};

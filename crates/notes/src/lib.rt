@@ -1,19 +1,21 @@
 // What the host notes of a path: the record, what each note changes in it, and how it lies in the path's bytes. The
 // tables take it whole, and the rules but for the mark, so that a new note is said here.
 // Entry points: none. The tables' check, reads and writes, the host's call and the second opinion rest on these.
+#![tactic(auto)]
+
 ghost use Rattle.std.specs.Prelude.{◌≡◌, ◌+◌, ◌≤◌, length};
 ghost use Rattle.octets.specs.Part.{patch};
 ghost use Rattle.codes.specs.Form.{code};
 ghost use Rattle.notes.specs.Notes.{no_notes, noted as notedAfter, notes_form, notes_width, notes_bytes};
 
 // What the host has noted of a path, in its record: whether it is marked unresponsive.
-#[derive(Drop)]
+#[derive(Clone, Copy)]
 pub struct Notes {
     pub marked: bool,
 }
 
 // What the host may note of a destination's live path.
-#[derive(Drop)]
+#[derive(Clone, Copy)]
 pub enum Note {
     Unresponsive,
 }

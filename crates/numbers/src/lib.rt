@@ -1,5 +1,7 @@
 // Document 01's numbers, in code: specs/Numbers.antt has the same as definitions, and each contract that uses one is
 // proved with those. No function stands here.
+#![tactic(auto)]
+
 pub mod refusals;
 
 // The longest packet, and the least output buffer, which has room for it.

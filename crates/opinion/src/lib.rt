@@ -1,5 +1,7 @@
 // The second opinion: calls that are answered from a log of those accepted before, and listed in it.
 // Entry points: fresh, take_packet, set_port, set_rate, add_local, remove_local, renumber, mark_path_unresponsive.
+#![tactic(auto)]
+
 mod packets;
 mod refusing;
 mod settings;

@@ -2,6 +2,8 @@
 // question is one walk through the log: no tables, slots or rings.
 // Entry points: none. The caller shows that the log has its size and, to ask about paths, links and return records,
 // what each packet listed did.
+#![tactic(auto)]
+
 mod clocks;
 mod effects;
 mod hashes;

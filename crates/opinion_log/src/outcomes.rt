@@ -15,7 +15,7 @@ use judging::{Planned, SeenWay, plan_of, remembers};
 use rules::Reason;
 
 // The effect and whether the hash is kept: 1 or 0.
-#[derive(Drop)]
+#[derive(Clone, Copy)]
 pub struct Outcome {
     pub effect: u8,
     pub kept: u8,

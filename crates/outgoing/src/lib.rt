@@ -1,5 +1,7 @@
 // What leaves the relay, and port sets.
 // Every function here is a helper of the packet call: where it has a `requires`, the caller shows it. No entry points.
+#![tactic(auto)]
+
 mod leaving;
 mod ports;
 

@@ -2,6 +2,8 @@
 // Entry points: read, reading_refusal, is_size, payload, payload_start, write, packet_hash, link_id,
 // announced_destination, least_announce, emission, and the header's bits. parts_of, type_two_parts, hash_of,
 // link_id_of, blob and write_packet are helpers: the caller shows what they require.
+#![tactic(auto)]
+
 mod announce;
 mod hash;
 mod header;
@@ -22,7 +24,7 @@ pub use reader::{
 pub use writer::{write, write_packet};
 
 // What the bytes of a packet before its payload say. Type 1: the relay address is zeros.
-#[derive(Drop)]
+#[derive(Clone, Copy)]
 pub struct Parts {
     pub header: u8,
     pub hops: u8,
@@ -32,28 +34,28 @@ pub struct Parts {
 }
 
 // A reading: refusal 0 and the parts, or a refusal's number and parts of zeros.
-#[derive(Drop)]
+#[derive(Clone, Copy)]
 pub struct Reading {
     pub refusal: u8,
     pub parts: Parts,
 }
 
 // A writing: refusal 0 and the packet's length, or a refusal's number and 0.
-#[derive(Drop)]
+#[derive(Clone, Copy)]
 pub struct Written {
     pub refusal: u8,
     pub length: usize,
 }
 
 // A packet hash: refusal 0 and the hash, or a refusal's number and zeros.
-#[derive(Drop)]
+#[derive(Clone, Copy)]
 pub struct PacketHash {
     pub refusal: u8,
     pub bytes: [u8; 32],
 }
 
 // A link id: refusal 0 and the id, or a refusal's number and zeros.
-#[derive(Drop)]
+#[derive(Clone, Copy)]
 pub struct LinkId {
     pub refusal: u8,
     pub bytes: [u8; 16],

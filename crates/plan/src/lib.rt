@@ -2,6 +2,8 @@
 // Every function here is a helper of the packet call: the caller shows that the tables are well formed and that the
 // packet reads. Entry points: none. The packet call decides by `not_ours`, before it hashes, and by `decide`;
 // `reason_number` stands here for all above.
+#![tactic(auto)]
+
 mod announces;
 mod contexts;
 mod first;
@@ -29,7 +31,7 @@ use returns::decide_proof;
 use rules::Reason;
 
 // How a packet came: the arrival port, the clock, and the host's word on the signature.
-#[derive(Drop)]
+#[derive(Clone, Copy)]
 pub struct Arrived {
     pub port: u8,
     pub clock: u64,
@@ -37,7 +39,7 @@ pub struct Arrived {
 }
 
 // What tests 1 to 5 say, with delivery at test 4's place.
-#[derive(Drop)]
+#[derive(Clone, Copy)]
 pub enum Early {
     Dropped(Reason),
     Delivered,
@@ -46,7 +48,7 @@ pub enum Early {
 
 // The rules' plan, with the places of the records that it concerns. (An enum that holds an array isn't covered:
 // addresses are read again where they are written, and a link id, which is hashed, comes as two numbers.)
-#[derive(Drop)]
+#[derive(Clone, Copy)]
 pub enum Decision {
     Drop(Reason),
     Deliver,

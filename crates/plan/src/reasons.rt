@@ -12,7 +12,7 @@ const LEAST_REQUEST: u64 = LEAST_LINK_REQUEST as u64;
 const LEAST_PROOF: u64 = SHORTER_LINK_PROOF as u64;
 
 // 0 where there is no clause or case, and where no value goes with it.
-#[derive(Drop)]
+#[derive(Clone, Copy)]
 struct Numbers {
     test: u8,
     clause: u8,

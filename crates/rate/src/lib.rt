@@ -1,5 +1,7 @@
 // Document 02, Wish 5: the rate rule, over numbers alone. What it reads stands in the tables: crates/plan.
 // Entry points: none. `rule` is a helper of the packet call: the caller shows refusal 7's bounds.
+#![tactic(auto)]
+
 ghost use Rattle.std.specs.Prelude.{◌≡◌, true, ◌-◌, ◌<◌};
 ghost use Rattle.numbers.specs.Numbers.{clock_limit};
 ghost use Rattle.rules.specs.Relay.{make_rate_entry};

@@ -1,5 +1,7 @@
 // Recordings, as document 02's Wish 1 has them: the file's reader and its writer.
 // Entry points: check, count, entry, body, write. Each ends on any bytes of any length.
+#![tactic(auto)]
+
 mod places;
 mod reader;
 mod writer;
@@ -12,7 +14,7 @@ pub use reader::{body, check, count, entry};
 pub use writer::write;
 
 // Entry i of a file: clock, port and signature word, and its body's place. All is zero where it isn't there.
-#[derive(Drop)]
+#[derive(Clone, Copy)]
 pub struct Fields {
     pub there: bool,
     pub clock: u64,
@@ -23,7 +25,7 @@ pub struct Fields {
 }
 
 // A writing: refusal 0 and the file's length, or a refusal's number and 0.
-#[derive(Drop)]
+#[derive(Clone, Copy)]
 pub struct Written {
     pub refusal: u8,
     pub length: usize,

@@ -1,6 +1,8 @@
 // The packet call: a packet is refused, or decided, acted on and counted.
 // Entry points: judge, with the tally by value (crates/haskumye lends it to hosts by `&mut`), signature_matters,
 // reason_number, reason_clause and reason_value. They have no `requires`, and end on any bytes.
+#![tactic(auto)]
+
 mod refusals;
 mod signature;
 mod tallies;
@@ -15,7 +17,7 @@ pub use signature::{MATTERS, signature_matters};
 use tallies::counted;
 
 // What a packet call returns where the tally goes in by value.
-#[derive(Drop)]
+#[derive(Clone, Copy)]
 pub struct Answered {
     pub answer: Answer,
     pub tally: Tally,

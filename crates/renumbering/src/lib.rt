@@ -1,5 +1,7 @@
 // Renumbering: the ports get other numbers, by a one-to-one map of 0..15.
 // Entry point: renumber. It returns a refusal's number, or 0; a refusal changes no byte.
+#![tactic(auto)]
+
 mod moved;
 mod renamed;
 

@@ -1,6 +1,8 @@
 // Replays a recording over a saved relay, `replay TABLES RECORDING`: a line for each entry on standard output. A
 // recording that is refused gives one line, `refused` and the number, and so does a file of tables that can't be
 // loaded, `tables refused` and the load's number. The recording's refusal comes first.
+#![tactic(auto)]
+
 ghost use Rattle.std.specs.Prelude.{◌≡◌};
 ghost use Rattle.recording.specs.Shape.{count_of};
 ghost use Rattle.replaying.specs.Promise.{steps_on};

@@ -1,5 +1,7 @@
 // The replay of a recording, as document 02's Wish 1 has it: one step for each entry, and the line that it prints.
 // Entry points: new_tally, step, line_of, with_reason, with_ports. They have no `requires`, and end on any bytes.
+#![tactic(auto)]
+
 mod lines;
 mod reasons;
 
@@ -14,7 +16,7 @@ use rules::{Answer, Tally};
 use text::Text;
 
 // A step: whether the entry was there, what the packet call answered, the tally after it, and the entry's line.
-#[derive(Drop)]
+#[derive(Clone, Copy)]
 pub struct Stepped {
     pub there: bool,
     pub answer: Answer,

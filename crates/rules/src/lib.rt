@@ -1,8 +1,9 @@
 // The types that the rules of document 01 and the code share. The rules themselves are definitions, in specs/: no
 // function stands here.
+#![tactic(auto)]
 
 // Which clause of test 3 a packet's form breaks, in document 01's order: 3.1 to 3.8 in document 02.
-#[derive(Drop)]
+#[derive(Clone, Copy)]
 pub enum Clause {
     TypeTwoProof,
     TypeTwoOfKindLink,
@@ -16,7 +17,7 @@ pub enum Clause {
 }
 
 // Why there is no way on: the cases of test 6, in document 01's order, 6.1 to 6.6 in document 02.
-#[derive(Drop)]
+#[derive(Clone, Copy)]
 pub enum Blocked {
     // A type 1 data packet or link request not of kind link.
     NotAsking,
@@ -34,7 +35,7 @@ pub enum Blocked {
 
 // Why a packet was dropped: the tests in their order, document 02's 15 after 11 and 16 after 12. `reason_numbers` of
 // specs/Answers.antt gives the numbers.
-#[derive(Drop)]
+#[derive(Clone, Copy)]
 pub enum Reason {
     NotOurs,
     Duplicate,
@@ -54,7 +55,7 @@ pub enum Reason {
 }
 
 // What was decided of an accepted packet. A length is that of the packet that stands at the output's start.
-#[derive(Drop)]
+#[derive(Clone, Copy)]
 pub enum Verdict {
     Drop(Reason),
     Deliver,
@@ -64,23 +65,23 @@ pub enum Verdict {
 }
 
 // What a packet call returns: a refusal's number, or the verdict.
-#[derive(Drop)]
+#[derive(Clone, Copy)]
 pub enum Answer {
     Refused(u8),
     Judged(Verdict),
 }
 
 // The hops that a link request had taken when it came here: compared only with packets from the asking side.
-#[derive(Drop)]
+#[derive(Clone, Copy)]
 pub struct TakenHops(pub u8);
 
 // The hops that remain to the destination, by the path: compared only with packets from the answering side.
-#[derive(Drop)]
+#[derive(Clone, Copy)]
 pub struct RemainingHops(pub u8);
 
 // A link: its id, the port of the side that asked for it and of the side that answers, both hop counts, whether it is
 // proved, and when it ends.
-#[derive(Drop)]
+#[derive(Clone, Copy)]
 pub struct Link {
     pub id: [u8; 16],
     pub asking: u8,
@@ -92,7 +93,7 @@ pub struct Link {
 }
 
 // How often destinations may announce, set for the relay: target interval, grace and penalty.
-#[derive(Drop)]
+#[derive(Clone, Copy)]
 pub struct RateSettings {
     pub target: u64,
     pub grace: u64,
@@ -101,7 +102,7 @@ pub struct RateSettings {
 
 // What a path's record has of its destination's announces: when the last one was accepted, the violations, and until
 // when they are dropped.
-#[derive(Drop)]
+#[derive(Clone, Copy)]
 pub struct RateEntry {
     pub last: u64,
     pub violations: u8,
@@ -109,7 +110,7 @@ pub struct RateEntry {
 }
 
 // What the rate rule says of an announce: whether it is dropped, and the two fields after it.
-#[derive(Drop)]
+#[derive(Clone, Copy)]
 pub struct Rated {
     pub dropped: bool,
     pub violations: u8,
@@ -119,7 +120,7 @@ pub struct Rated {
 // Packet calls since fresh, each modulo 2^32: all accepted ones, and those of each answer. A host's tally is six
 // counters in this order.
 #[repr(C)]
-#[derive(Drop)]
+#[derive(Clone, Copy)]
 pub struct Tally {
     pub total: u32,
     pub dropped: u32,

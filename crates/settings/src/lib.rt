@@ -2,6 +2,8 @@
 // addresses, and marking a path.
 // Entry points: fresh, set_port, set_rate, add_local, remove_local, note_path, mark_path_unresponsive. Each returns
 // a refusal's number, or 0, and a refusal changes no byte.
+#![tactic(auto)]
+
 mod writes;
 
 ghost use Rattle.std.specs.Prelude.{◌≡◌, length};

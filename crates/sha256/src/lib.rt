@@ -1,5 +1,7 @@
 // SHA-256 of FIPS 180-4, of messages up to 65,535 bytes.
 // Entry point: sha256. The other functions are private helpers.
+#![tactic(auto)]
+
 mod compress;
 mod pad;
 mod schedule;
@@ -14,7 +16,7 @@ use pad::last_blocks;
 use state::{State, digest_bytes, initial_hash};
 
 // The refusal number, 0 for none, and the digest.
-#[derive(Drop)]
+#[derive(Clone, Copy)]
 pub struct Digest {
     pub refusal: u8,
     pub bytes: [u8; 32],

@@ -8,7 +8,7 @@ use super::words::{big_sigma0, big_sigma1, ch, maj};
 use std::num::wrapping_add_u32;
 
 // The words H0 to H7 of a hash value, or the working variables a to h.
-#[derive(Drop)]
+#[derive(Clone, Copy)]
 pub struct State {
     pub a: u32,
     pub b: u32,

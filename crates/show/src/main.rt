@@ -1,4 +1,6 @@
 // Shows the packet on standard input as one line on standard output.
+#![tactic(auto)]
+
 use libc::{STDIN_FILENO, STDOUT_FILENO};
 
 // One byte more than the longest packet: what is longer is refused by its first 501 bytes, and read no further.

@@ -3,6 +3,8 @@
 // Entry points: port_settings, rate_settings, local_at, path_at, link_at, live_path, live_returns, live_hashes,
 // last_clock. Each returns refusal 7, 0 where what is asked for stands in the buffer lent, or NOTHING, and then leaves
 // the buffer.
+#![tactic(auto)]
+
 mod counting;
 mod records;
 

@@ -1,6 +1,8 @@
 // Surveys a site's recordings, `survey SETTINGS RECORDING..`: the lines of the survey on standard output. SETTINGS is a
 // saved relay, of which own address, ports, announce rate and local addresses are taken. One that can't be loaded gives
 // one line, `settings refused` and the load's number.
+#![tactic(auto)]
+
 use console::{print, read_file};
 use surveying::{COUNTER_COUNT, LINE_COUNT, RECORDING_LIMIT, REFUSAL_COUNT};
 use tables::places::TABLE_SIZE;

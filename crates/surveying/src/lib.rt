@@ -3,6 +3,8 @@
 // Entry points: begin, add_recording, line, settings_refused, over what the caller lends: the tables that each
 // recording starts from, tables to replay over, the counters, and the recordings' refusals. They have no `requires`,
 // and end on any bytes and any numbers.
+#![tactic(auto)]
+
 mod counting;
 mod fractions;
 mod lines;
@@ -21,7 +23,7 @@ pub const RECORDING_LIMIT: usize = 16;
 pub const REFUSAL_COUNT: usize = 2 + RECORDING_LIMIT;
 
 // A fraction of two numbers.
-#[derive(Drop)]
+#[derive(Clone, Copy)]
 pub struct Fraction {
     pub above: u64,
     pub below: u64,

@@ -1,5 +1,7 @@
 // The relay's tables as bytes that a caller lends: their layout, and refusal 7.
 // Entry point: check. The other functions are helpers. docs/LAYOUT.md draws the layout.
+#![tactic(auto)]
+
 pub mod fields;
 pub mod places;
 mod plain_check;

@@ -1,6 +1,8 @@
 // Texts of at most 160 bytes, as they grow by characters, words and numbers.
 // Entry points: all. What there is no room for is left out, so nothing is required; who promises `text_of` of some words
 // shows once, of the whole, that they fit.
+#![tactic(auto)]
+
 mod numerals;
 
 ghost use Rattle.std.specs.Prelude.{◌≡◌, [], ◌∷◌};
@@ -14,7 +16,7 @@ pub use numerals::{with_decimal, with_hexadecimal};
 pub const SIZE: usize = 160;
 
 // The first `length` bytes are the text, the rest zeros.
-#[derive(Drop)]
+#[derive(Clone, Copy)]
 pub struct Text {
     pub bytes: [u8; SIZE],
     pub length: usize,

@@ -1,6 +1,8 @@
 // What an accepted packet writes into the tables' bytes: the last clock, and one record of a table.
 // Every function here is a helper: the caller shows the tables' size and that a place is within its table. No entry
 // points.
+#![tactic(auto)]
+
 mod blobs;
 mod hashes;
 mod links;
@@ -19,7 +21,7 @@ use rules::RateEntry;
 use tables::places::{CLOCK_AT, TIME_WIDTH};
 
 // What an announce sets of a path, beside its blob.
-#[derive(Drop)]
+#[derive(Clone, Copy)]
 pub struct Announced {
     pub destination: [u8; 16],
     pub port: u8,
