@@ -112,7 +112,7 @@ fn spread(packet: &[u8], tables: &[u8], arrived: Arrived, output: &mut [u8]) -> 
     ensures { (result ≡ spread_verdict_on packet.now arrived tables.now)
         × (output.new ≡ (leaves result
         then patch output.old 0 (spread_on packet.now tables.now)
-        otherwise (λ x. x.now) output.entry)) }
+        otherwise output.old)) }
 {
     let long = outgoing::spread_length(packet);
     if long > LONGEST_PACKET {

@@ -88,6 +88,8 @@ asked_so : (address : List ℕ) (cs : List Call) (entries : List Entry) (log : L
     → EachCall Wide cs → Replies address entries cs xs → AskedEach cs log (map coarse xs)
 unfolding EachCall Replies AskedEach
 asked_so address [] entries log [] long h wide replied = tt
+asked_so address [] entries log (x ∷ xs) long h wide replied = elim replied [ ]
+asked_so address (c ∷ cs) entries log [] long h wide replied = elim replied [ ]
 asked_so address (c ∷ cs) entries log (x ∷ xs) long h wide replied =
     let (reply, after, asked, size) = some_asked log long c wide.0 in
     let holds = still_holds address entries log h c reply after asked in (
@@ -120,6 +122,8 @@ core_so : (address : List ℕ) (cs : List Call) (entries : List Entry) (log tabl
     → length entries + length cs ≤ list_limit → each_asked cs ≡ true → AgreeOn cs log tables t → AskedEach cs log xs → map coarse (replies_on cs tables t) ≡ xs
 unfolding AskedEach replies_on each_asked
 core_so address [] entries log tables t [] h few is agree asked = refl
+core_so address [] entries log tables t (x ∷ xs) h few is agree asked = elim asked [ ]
+core_so address (c ∷ cs) entries log tables t [] h few is agree asked = elim asked [ ]
 core_so address (c ∷ cs) entries log tables t (x ∷ xs) h few is agree (after, asked, rest) =
     let (same, agreeLater) = agree x after asked in
     ap₂ (λ (y : Reply) (ys : List Reply). y ∷ ys)

@@ -38,7 +38,7 @@ fn spread(own: [u8; 16], ports: u16, packet: &[u8], output: &mut [u8]) -> Verdic
     requires { CanLeave packet.now × (longest_packet ≤ length output.old) }
     ensures { (result ≡ spread_verdict ports (spread_packet own packet.now))
         × (output.new ≡ (leaves result then patch output.old 0 (spread_packet own packet.now)
-        otherwise (λ x. x.now) output.entry)) }
+        otherwise output.old)) }
 {
     if ports == 0 {
         return Verdict::Kept;

@@ -27,8 +27,8 @@ abbrev pub hash_width : ℕ
 hash_width = (code (slot hash_form)).width
 
 -- ---- sections
-abbrev pub field_own : ℕ
-field_own = place_of relay_form "own"
+abbrev pub own_at : ℕ
+own_at = place_of relay_form "own"
 
 abbrev pub clock_at : ℕ
 clock_at = place_of relay_form "clock"
