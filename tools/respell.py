@@ -21,6 +21,13 @@ DECLARED = re.compile(
 )
 TOKEN = re.compile(NAME)
 PROOF = ("Proof.antt", "Answers.antt", "Invariants.antt")
+# Of names that fall together, those that are no lemma: what a host asks.
+BY_HAND = {
+    "last-clock": "the_last_clock",
+    "path-at": "path_at",
+    "rate-settings": "rate_settings",
+    "word-matters": "whether_word_matters",
+}
 CRATES = {"log": "opinion_log"}
 
 
@@ -68,7 +75,7 @@ def renames(found):
         first = name.lstrip("◌")[:1]
         if first.isupper() or snake(name) == name:
             continue
-        new[name] = snake(name)
+        new[name] = BY_HAND.get(name, snake(name))
     together = collections.defaultdict(set)
     for name in found:
         together[new.get(name, name)].add(name)
@@ -78,7 +85,7 @@ def renames(found):
         # The definition, in camel case, takes the spelling; of two others the one that has it already.
         ranked = sorted(names, key=lambda n: (not re.search("[A-Z]", n), n != spelling, n))
         for name in ranked[1:]:
-            new[name] = spelling + "_lem"
+            new[name] = BY_HAND.get(name, spelling + "_lem")
     return new
 
 
@@ -90,7 +97,7 @@ def turned(path, text, new):
     for line in text.split("\n"):
         at = comment_at(line, mark)
         code, said = line[:at], line[at:]
-        out.append(turn_code(code, new, proof) + turn_comment(said, new))
+        out.append(turn_code(code, new, proof, path.endswith(".rt")) + turn_comment(said, new))
     return "\n".join(out)
 
 
@@ -100,10 +107,13 @@ def comment_at(line, mark):
     return m.start() if m else len(line)
 
 
-def turn_code(code, new, proof):
+def turn_code(code, new, proof, rust):
     def one(m):
         word = m[0]
         if word not in new:
+            return word
+        # Rust's own names are in snake case, and stay.
+        if rust and snake(word) == word:
             return word
         # A field of a context, that Rattle makes of the source, has dashes too.
         if proof and "-" in word and m.start() and code[m.start() - 1] == "." and not re.search("[A-Z]", word):

@@ -31,7 +31,7 @@ use Rattle.rules.specs.Refusals.{rate_settings_ok, tables_ok, empty_local, packe
 use Rattle.octets.specs.Listed.{first_of}
 use Rattle.rules.specs.Calls.{Setting, packet_call, judge, judged, settled, rule_of, table_refusal, settle}
 use Rattle.rules.specs.Run.{Call, packet, on_tables, asks, saves, loads, port_setting, rate_setting, adding, removing, renumbering, marking, answered, save_reply}
-use Rattle.rules.specs.Questions.{Question, port_settings, rate_settings_lem, local_at, path_at_lem, link_at, live_path, live_returns, live_hashes, last_clock_lem, word_matters_lem, Told, none, a_port, an_address, a_path, a_link, came_with, told_of, row_seven, question_rule, question_refusal, tell}
+use Rattle.rules.specs.Questions.{Question, port_settings, rate_settings, local_at, path_at, link_at, live_path, live_returns, live_hashes, the_last_clock, whether_word_matters, Told, none, a_port, an_address, a_path, a_link, came_with, told_of, row_seven, question_rule, question_refusal, tell}
 use Rattle.rules.specs.declared.Answer.TheVariants.{Refused}
 use Rattle.rules.specs.declared.Tally.{Tally}
 use Rattle.rules.proofs.Accepted.{arrival_size}
@@ -87,15 +87,15 @@ port_given false p = refl
 answer_given : (q : Question) (r : Relay) → is_refused ((question_rule q).answer r) ≡ false
 unfolding question_rule is_refused ◌then◌otherwise◌
 answer_given (port_settings port) r = port_given (leb port_count port) _
-answer_given rate_settings_lem r = refl
+answer_given rate_settings r = refl
 answer_given (local_at place) r = slot_given an_address (λ _. refl) _
-answer_given (path_at_lem place) r = slot_given a_path (λ _. refl) _
+answer_given (path_at place) r = slot_given a_path (λ _. refl) _
 answer_given (link_at place) r = slot_given a_link (λ _. refl) _
 answer_given (live_path destination clock) r = slot_given a_path (λ _. refl) _
 answer_given (live_returns clock) r = refl
 answer_given (live_hashes clock) r = refl
-answer_given last_clock_lem r = refl
-answer_given (word_matters_lem bytes port clock room) r = refl
+answer_given the_last_clock r = refl
+answer_given (whether_word_matters bytes port clock room) r = refl
 
 module _ (t : List ℕ) (tally : Tally) (b : Bytes t) (h : well_formed t ≡ true) where
   setting_refused : (n : ℕ) (after : Relay) (call : Relay → Setting) → call (relay_of t) ≡ settled n (relay_of t) after → eqb n 0 ≡ false
@@ -264,14 +264,14 @@ load_rows_lem file tables = refl
 pub question_rows : (tables : List ℕ)
     → (let seven : ℕ = not (well_formed tables) then 7 otherwise 0 in
     ((port : ℕ) → refusal_on (asks (port_settings port)) tables ≡ seven)
-    × (refusal_on (asks rate_settings_lem) tables ≡ seven)
+    × (refusal_on (asks rate_settings) tables ≡ seven)
     × ((place : ℕ) → refusal_on (asks (local_at place)) tables ≡ seven)
-    × ((place : ℕ) → refusal_on (asks (path_at_lem place)) tables ≡ seven)
+    × ((place : ℕ) → refusal_on (asks (path_at place)) tables ≡ seven)
     × ((place : ℕ) → refusal_on (asks (link_at place)) tables ≡ seven)
     × ((destination : List ℕ) (clock : ℕ) → refusal_on (asks (live_path destination clock)) tables ≡ seven)
     × ((clock : ℕ) → refusal_on (asks (live_returns clock)) tables ≡ seven)
     × ((clock : ℕ) → refusal_on (asks (live_hashes clock)) tables ≡ seven)
-    × (refusal_on (asks last_clock_lem) tables ≡ seven))
+    × (refusal_on (asks the_last_clock) tables ≡ seven))
 unfolding refusal_on after_seven refusal question_refusal question_rule row_seven first_of
 question_rows tables =
     let row = after_seven_lem tables 0 in
@@ -279,7 +279,7 @@ question_rows tables =
 
 -- whether the signature word matters: as the packet, whatever its word
 pub word_rows : (bytes : List ℕ) (port clock : ℕ) (word : Bool) (output tables : List ℕ)
-    → refusal_on (asks (word_matters_lem bytes port clock (length output))) tables ≡ refusal_on (packet (came_with bytes port clock word) output) tables
+    → refusal_on (asks (whether_word_matters bytes port clock (length output))) tables ≡ refusal_on (packet (came_with bytes port clock word) output) tables
 unfolding refusal_on after_seven refusal question_refusal question_rule
 word_rows bytes port clock word output tables = refl
 

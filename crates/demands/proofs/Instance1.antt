@@ -13,7 +13,7 @@ use Rattle.rules.specs.Relay.{used, Relay, make_relay}
 use Rattle.rules.specs.Calls.{new_tally, rule_of}
 use Rattle.rules.specs.Saved.{save_refusal}
 use Rattle.rules.specs.Run.{Call, packet, asks, port_setting, rate_setting, adding, removing, renumbering, marking, Reply, numbered}
-use Rattle.rules.specs.Questions.{last_clock_lem, word_matters_lem}
+use Rattle.rules.specs.Questions.{the_last_clock, whether_word_matters}
 use Rattle.rules.specs.declared.Tally.{Tally}
 use Rattle.rules.proofs.Unfolding.{rules}
 use Rattle.rules.proofs.Scene.{own, destination, data_bytes, receipt_bytes, arrival, arrives}
@@ -78,9 +78,9 @@ pub seven : RefusedOn [] (arrives (receipt_bytes 5) 2500 1) 7
 unfolding refusal_on after_seven well_formed ◌then◌otherwise◌ rules
 seven = by_row [] (λ i. lit< tt) (arrives (receipt_bytes 5) 2500 1) 7 refl refl
 
-pub seven_asked : RefusedOn [] (asks last_clock_lem) 7
+pub seven_asked : RefusedOn [] (asks the_last_clock) 7
 unfolding refusal_on after_seven well_formed ◌then◌otherwise◌ rules
-seven_asked = by_row [] (λ i. lit< tt) (asks last_clock_lem) 7 refl refl
+seven_asked = by_row [] (λ i. lit< tt) (asks the_last_clock) 7 refl refl
 
 -- sixteen local addresses
 abbrev full_relay : Relay
@@ -123,9 +123,9 @@ pub rows : Refused (packet (arrival (receipt_bytes 5) 2500 1) (replicate 499 0xe
     × Refused (adding guest) 11
     × Refused (removing own) 11
     × Refused (renumbering []) 8
-    × Refused (asks (word_matters_lem (receipt_bytes 5) 1 2500 499)) 6
-    × Refused (asks (word_matters_lem (receipt_bytes 5) 77 2500 500)) 4
-    × Refused (asks (word_matters_lem (take 34 data_bytes) 1 2500 500)) 1
+    × Refused (asks (whether_word_matters (receipt_bytes 5) 1 2500 499)) 6
+    × Refused (asks (whether_word_matters (receipt_bytes 5) 77 2500 500)) 4
+    × Refused (asks (whether_word_matters (take 34 data_bytes) 1 2500 500)) 1
     × Refused (saving short_room) 25
     × Refused (loading []) 20
 unfolding CallBytes rule_of is_bytes is_byte refusal rules said_by computing

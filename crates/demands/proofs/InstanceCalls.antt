@@ -17,7 +17,7 @@ use Rattle.rules.specs.Refusals.{all, table_ok, tables_ok}
 use Rattle.rules.specs.Saved.{save_refusal}
 use Rattle.rules.specs.Judging.{Plan}
 use Rattle.rules.specs.Calls.{new_tally, packet_call, rule_of}
-use Rattle.rules.specs.Questions.{rate_settings_lem, a_rate, path_at_lem, link_at, word_matters_lem, Told, none, a_path, yes_or_no, came_with, tell}
+use Rattle.rules.specs.Questions.{rate_settings, a_rate, path_at, link_at, whether_word_matters, Told, none, a_path, yes_or_no, came_with, tell}
 use Rattle.rules.specs.Run.{EachCall, Call, asks, port_setting, rate_setting, adding, removing, renumbering, marking, Reply, answered, numbered, told, saved, unsaved, save_reply, Outcome, of_setting, of_told, perform, replies, relay_after, tally_after, no_call, sets_relay, none_loads}
 use Rattle.rules.specs.declared.Reason.TheVariants.{Duplicate}
 use Rattle.rules.specs.declared.Verdict.TheVariants.{Drop}
@@ -86,9 +86,9 @@ later_by from port =
     ∷ marking destination 2500
     ∷ marking guest 2500
     -- the announce rate; the path; whether the announce's signature would matter, now that it is remembered no more; and what is no place
-    ∷ asks rate_settings_lem
-    ∷ asks (path_at_lem 0)
-    ∷ asks (word_matters_lem announce_bytes from 3000 500)
+    ∷ asks rate_settings
+    ∷ asks (path_at 0)
+    ∷ asks (whether_word_matters announce_bytes from 3000 500)
     ∷ asks (link_at 64)
     -- no file: 20
     ∷ loading []
@@ -332,12 +332,12 @@ no_path_lem : perform (marking guest 2500) (last_relay plain_ports 1) last_tally
 unfolding rules
 no_path_lem = refl
 
-rate_told_lem : perform (asks rate_settings_lem) (last_relay plain_ports 1) last_tally
+rate_told_lem : perform (asks rate_settings) (last_relay plain_ports 1) last_tally
     ≡ record { reply = told (a_rate hourly); relay = last_relay plain_ports 1; tally = last_tally }
 unfolding rules
 rate_told_lem = refl
 
-path_told : perform (asks (path_at_lem 0)) (last_relay plain_ports 1) last_tally
+path_told : perform (asks (path_at 0)) (last_relay plain_ports 1) last_tally
     ≡ record { reply = told (a_path marked_path); relay = last_relay plain_ports 1; tally = last_tally }
 unfolding rules
 path_told = refl
@@ -346,7 +346,7 @@ announce_forgotten : (view_at 3000 (last_relay plain_ports 1)).remembered (packe
 unfolding rules passes
 announce_forgotten = seen_quick 3000 (last_relay plain_ports 1) (packet_hash announce_bytes) refl
 
-word_yes : tell (word_matters_lem announce_bytes 1 3000 500) (last_relay plain_ports 1) ≡ yes_or_no true
+word_yes : tell (whether_word_matters announce_bytes 1 3000 500) (last_relay plain_ports 1) ≡ yes_or_no true
 unfolding rules good_plan
 word_yes =
     ap (λ (todo : Plan). yes_or_no (of_test 9 todo))
@@ -357,7 +357,7 @@ pub words_differ : (packet_call (came_with announce_bytes 1 3000 true) (last_rel
     ≡ (packet_call (came_with announce_bytes 1 3000 false) (last_relay plain_ports 1) last_tally blank).answer → ⊥
 words_differ = (word_matters_exactly (came_with announce_bytes 1 3000 false) (last_relay plain_ports 1) last_tally blank).yes_differs word_yes
 
-word_told : perform (asks (word_matters_lem announce_bytes 1 3000 500)) (last_relay plain_ports 1) last_tally
+word_told : perform (asks (whether_word_matters announce_bytes 1 3000 500)) (last_relay plain_ports 1) last_tally
     ≡ record { reply = told (yes_or_no true); relay = last_relay plain_ports 1; tally = last_tally }
 unfolding perform of_told
 word_told = ap (λ (x : Told). record { reply = told x; relay = last_relay plain_ports 1; tally = last_tally }) word_yes

@@ -232,9 +232,9 @@ stays_marked =
 abbrev last_tables_lem : List ℕ
 last_tables_lem = tables_after_on since_mark mark.tables mark.tally
 
-last_clock_lem : (relay_of last_tables_lem).clock ≡ 2200
+the_last_clock : (relay_of last_tables_lem).clock ≡ 2200
 unfolding with_rate
-last_clock_lem =
+the_last_clock =
     let h = held (both_given until_mark _ given_mark (both_given until_block _ given_block (both_given again since_mark given_again given_since)))
     (mark_run then_runs (block_run then_runs (again_run then_runs since_run))) in
     ap (λ (o : OutcomeOn). (relay_of (tables_after_on since_mark o.tables o.tally)).clock) mark_is
@@ -243,7 +243,7 @@ last_clock_lem =
 
 -- in the last second before the path expires, too
 pub still_marked_lem : MarkedAt destination 22850 22849 (relay_of last_tables_lem)
-still_marked_lem = stays_marked 22849 (subst (λ (n : ℕ). n ≤ 22849) (sym last_clock_lem) (lit≤ tt)) (lit≤ tt)
+still_marked_lem = stays_marked 22849 (subst (λ (n : ℕ). n ≤ 22849) (sym the_last_clock) (lit≤ tt)) (lit≤ tt)
 
 -- ---- clock-history: the last clock is the mark's, and then that of the data
 none_load_again : none_loads again ≡ true

@@ -2,7 +2,7 @@
 // stands in the buffer lent, 7 where the tables are refused, and 255 where there is none: a place outside its table or
 // an empty one, a number that is no port, no live path. Then the buffer stays too.
 ghost use Rattle.std.specs.Prelude.{◌≡◌};
-ghost use Rattle.rules.specs.Questions.{port_settings, rate_settings_lem, local_at, path_at_lem, link_at, live_path, live_returns, live_hashes, last_clock_lem, word_matters_lem};
+ghost use Rattle.rules.specs.Questions.{port_settings, rate_settings, local_at, path_at, link_at, live_path, live_returns, live_hashes, the_last_clock, whether_word_matters};
 ghost use Rattle.tables.specs.Asked.{tell_on, told_number, Tells, TellsNumber};
 
 // A port's settings: on, 1 or 0, its mode, and its size in two bytes, the highest first.
@@ -17,7 +17,7 @@ pub extern "C" fn haskumye_port(tables: &[u8], port: u64, settings: &mut [u8; 4]
 // The announce rate's settings: target interval, grace, penalty, each as 4 bytes, the highest first. Never none.
 #[unsafe(no_mangle)]
 pub extern "C" fn haskumye_announce_rate(tables: &[u8], settings: &mut [u8; 12]) -> u8
-    ensures { Tells (tell_on tables.now rate_settings_lem)
+    ensures { Tells (tell_on tables.now rate_settings)
         settings.old result settings.new }
 {
     status::rate_settings(tables, settings)
@@ -36,7 +36,7 @@ pub extern "C" fn haskumye_local(tables: &[u8], place: u64, address: &mut [u8; 1
 // blocked-until, marked unresponsive, 1 or 0, and the number of blobs. A time has 8 bytes, the highest first.
 #[unsafe(no_mangle)]
 pub extern "C" fn haskumye_path(tables: &[u8], place: u64, path: &mut [u8; 61]) -> u8
-    ensures { Tells (tell_on tables.now (path_at_lem place))
+    ensures { Tells (tell_on tables.now (path_at place))
         path.old result path.new }
 {
     status::path_at(tables, place, path)
@@ -88,7 +88,7 @@ pub extern "C" fn haskumye_live_hashes(tables: &[u8], clock: u64, count: &mut u6
 // The last accepted clock.
 #[unsafe(no_mangle)]
 pub extern "C" fn haskumye_last_clock(tables: &[u8], clock: &mut u64) -> u8
-    ensures { TellsNumber (tell_on tables.now last_clock_lem)
+    ensures { TellsNumber (tell_on tables.now the_last_clock)
         clock.old result clock.new }
 {
     status::last_clock(tables, clock)
@@ -105,7 +105,7 @@ pub extern "C" fn haskumye_signature_matters(
     room: usize,
 ) -> u8
     ensures { result
-        ≡ told_number (tell_on tables.now (word_matters_lem packet.now port clock room)) }
+        ≡ told_number (tell_on tables.now (whether_word_matters packet.now port clock room)) }
 {
     relay::signature_matters(packet, port, clock, tables, room)
 }

@@ -12,7 +12,7 @@ use numbers::VIOLATION_LIMIT;
 use rules::{RateEntry, RateSettings, Rated};
 
 // One violation more: they stop at 255.
-fn one_more_lem(violations: u8) -> u8
+fn one_more(violations: u8) -> u8
     ensures { result ≡ one_more violations }
 {
     if violations < VIOLATION_LIMIT {
@@ -41,7 +41,7 @@ fn drops(violations: u8, blocked_until: u64) -> Rated
     }
 }
 
-fn lets_by_lem(violations: u8, blocked_until: u64) -> Rated
+fn lets_by(violations: u8, blocked_until: u64) -> Rated
     ensures { result ≡ lets_by violations blocked_until }
 {
     Rated {
@@ -57,11 +57,11 @@ fn violated(settings: RateSettings, last: u64, blocked_until: u64, violations: u
     ensures { result
         ≡ violatedBy settings (make_rate_entry last violations blocked_until) (one_more violations) }
 {
-    let count = one_more_lem(violations);
+    let count = one_more(violations);
     if settings.grace < octets::wide(count) {
         return drops(count, last + settings.target + settings.penalty);
     }
-    lets_by_lem(count, blocked_until)
+    lets_by(count, blocked_until)
 }
 
 // What the rule says of an announce at a clock, by the settings and its path's entry.
@@ -75,5 +75,5 @@ pub fn rule(settings: RateSettings, clock: u64, entry: RateEntry) -> Rated
     if clock < entry.last + settings.target {
         return violated(settings, entry.last, entry.blocked_until, entry.violations);
     }
-    lets_by_lem(one_less(entry.violations), entry.blocked_until)
+    lets_by(one_less(entry.violations), entry.blocked_until)
 }

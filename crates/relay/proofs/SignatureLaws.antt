@@ -10,7 +10,7 @@ use Rattle.rules.specs.Ways.{everywhere, by_path, along_link, by_return, blocked
 use Rattle.rules.specs.Tests.{not_ours}
 use Rattle.rules.specs.Judging.{Plan, dropped, delivered, follows, early_tests, plan}
 use Rattle.rules.specs.Refusals.{packet_refusal}
-use Rattle.rules.specs.Questions.{word_matters_lem, came_with, of_test, word_matters, question_rule, question_refusal, tell}
+use Rattle.rules.specs.Questions.{whether_word_matters, came_with, of_test, word_matters, question_rule, question_refusal, tell}
 use Rattle.tables.specs.Layout.{relay_of, well_formed}
 use Rattle.tables.specs.Asked.{tell_on, told_number}
 use Rattle.plan.specs.declared.Arrived.{Arrived}
@@ -39,7 +39,7 @@ module _ (r : Relay) (a : Arrival) where
 
 module _ (packet : List ℕ) (port clock : ℕ) (t : List ℕ) (room : ℕ) where
   abbrev told : ℕ
-  told = told_number (tell_on t (word_matters_lem packet port clock room))
+  told = told_number (tell_on t (whether_word_matters packet port clock room))
 
   abbrev a : Arrival
   a = came_with packet port clock false

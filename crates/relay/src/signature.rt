@@ -1,6 +1,6 @@
 // Whether the signature word matters, so that a host verifies a signature only where it does.
 ghost use Rattle.std.specs.Prelude.{◌≡◌};
-ghost use Rattle.rules.specs.Questions.{word_matters_lem};
+ghost use Rattle.rules.specs.Questions.{whether_word_matters};
 ghost use Rattle.tables.specs.Asked.{tell_on, told_number};
 ghost use Rattle.relay.specs.Signature.{reason_tells, decision_tells};
 
@@ -45,7 +45,7 @@ fn decision_tells(decision: Decision) -> u8
 // refusal's number as that call gives it, MATTERS, or 0. Nothing is written.
 pub fn signature_matters(packet: &[u8], port: u64, clock: u64, tables: &[u8], room: usize) -> u8
     ensures { result
-        ≡ told_number (tell_on tables.now (word_matters_lem packet.now port clock room)) }
+        ≡ told_number (tell_on tables.now (whether_word_matters packet.now port clock room)) }
 {
     let refused = refusal(packet, port, clock, tables, room);
     if refused != 0 {

@@ -17,7 +17,7 @@ use Rattle.rules.specs.Renumbering.{image, one_to_one, rename_path, rename_link,
 use Rattle.rules.specs.Refusals.{table_ok, tables_ok, packet_rows, packet_refusal, refusal_by}
 use Rattle.rules.specs.Arrival.{Arrival}
 use Rattle.rules.specs.Judging.{Plan, dropped, delivered, follows, plan}
-use Rattle.rules.specs.Questions.{Question, port_settings, rate_settings_lem, local_at, path_at_lem, link_at, live_path, live_returns, live_hashes, last_clock_lem, word_matters_lem, Told, refused, none, a_port, a_rate, an_address, a_path, a_link, a_number, yes_or_no, told_of, count_of, came_with, of_test, word_matters, row_seven, question_rule, question_refusal, tell, rename_told}
+use Rattle.rules.specs.Questions.{Question, port_settings, rate_settings, local_at, path_at, link_at, live_path, live_returns, live_hashes, the_last_clock, whether_word_matters, Told, refused, none, a_port, a_rate, an_address, a_path, a_link, a_number, yes_or_no, told_of, count_of, came_with, of_test, word_matters, row_seven, question_rule, question_refusal, tell, rename_told}
 use Rattle.rules.specs.Run.{rename_arrival}
 use Rattle.rules.proofs.Images.{image_leb, source_image}
 use Rattle.rules.proofs.MovedPorts.{moved_at}
@@ -77,24 +77,24 @@ module _ (m : List ℕ) (ok : one_to_one m ≡ true) (r : Relay) (fine : tables_
   refusal_renamed : (q : Question) → question_refusal ((question_rule q).renamed m) (renumbered m r) ≡ question_refusal q r
   unfolding question_refusal question_rule rename_arrival
   refusal_renamed (port_settings port) = row_renamed
-  refusal_renamed rate_settings_lem = row_renamed
+  refusal_renamed rate_settings = row_renamed
   refusal_renamed (local_at place) = row_renamed
-  refusal_renamed (path_at_lem place) = row_renamed
+  refusal_renamed (path_at place) = row_renamed
   refusal_renamed (link_at place) = row_renamed
   refusal_renamed (live_path destination clock) = row_renamed
   refusal_renamed (live_returns clock) = row_renamed
   refusal_renamed (live_hashes clock) = row_renamed
-  refusal_renamed last_clock_lem = row_renamed
-  refusal_renamed (word_matters_lem bytes port clock room) = packet_refusal_renamed (came_with bytes port clock false) room
+  refusal_renamed the_last_clock = row_renamed
+  refusal_renamed (whether_word_matters bytes port clock room) = packet_refusal_renamed (came_with bytes port clock false) room
 
   answer_renamed : (q : Question) → (question_rule ((question_rule q).renamed m)).answer (renumbered m r) ≡ rename_told m ((question_rule q).answer r)
   unfolding question_rule rename_told renumbered rename_arrival rename_return count_of
   answer_renamed (port_settings port) =
       ap₂ (λ (b : Bool) (p : Port). b then none otherwise a_port p) (image_leb m ok port) (port_renamed port)
       ∙ sym (then_ap (rename_told m) (leb port_count port) none (a_port (get_or r.ports port no_port)))
-  answer_renamed rate_settings_lem = refl
+  answer_renamed rate_settings = refl
   answer_renamed (local_at place) = address_stays m (get_or r.locals place empty)
-  answer_renamed (path_at_lem place) =
+  answer_renamed (path_at place) =
       ap (told_of a_path) (slot_renamed (rename_path m) r.paths place) ∙ told_renamed m (rename_path m) a_path (λ x. refl) (get_or r.paths place empty)
   answer_renamed (link_at place) =
       ap (told_of a_link) (slot_renamed (rename_link m) r.links place) ∙ told_renamed m (rename_link m) a_link (λ x. refl) (get_or r.links place empty)
@@ -104,8 +104,8 @@ module _ (m : List ℕ) (ok : one_to_one m ≡ true) (r : Relay) (fine : tables_
   answer_renamed (live_returns clock) =
       ap a_number (count_cong _ _ return_count (λ i l. holds_at (rename_return m) (λ t. live clock t.expiry) (λ x. refl) r.returns.slots i))
   answer_renamed (live_hashes clock) = refl
-  answer_renamed last_clock_lem = refl
-  answer_renamed (word_matters_lem bytes port clock room) = ap yes_or_no (word_matters_renamed (came_with bytes port clock false))
+  answer_renamed the_last_clock = refl
+  answer_renamed (whether_word_matters bytes port clock room) = ap yes_or_no (word_matters_renamed (came_with bytes port clock false))
 
   pub tell_renamed : (q : Question) → tell ((question_rule q).renamed m) (renumbered m r) ≡ rename_told m (tell q r)
   unfolding tell rename_told

@@ -25,7 +25,7 @@ use Rattle.rules.specs.Outgoing.{spread_ports, outgoing, exceeds}
 use Rattle.rules.specs.Judging.{Plan, dropped, delivered, follows, early_tests, onward_tests, plan, onward_plan, verdict, way_verdict, spread_verdict}
 use Rattle.rules.specs.Writes.{limit_path, is_rate_drop, write_drop}
 use Rattle.rules.specs.Calls.{Judgement, judged, judge, packet_call}
-use Rattle.rules.specs.Questions.{word_matters_lem, Told, refused, yes_or_no, came_with, of_test, word_matters, question_rule, question_refusal, tell}
+use Rattle.rules.specs.Questions.{whether_word_matters, Told, refused, yes_or_no, came_with, of_test, word_matters, question_rule, question_refusal, tell}
 use Rattle.rules.specs.declared.Reason.{Reason}
 use Rattle.rules.specs.declared.Reason.TheVariants.{NotSigned}
 use Rattle.rules.specs.declared.Verdict.{Verdict}
@@ -320,7 +320,7 @@ module _ (a : Arrival) (r : Relay) (t : Tally) (output : List ℕ) where
       }
 
   -- ---- the theorems, for every relay, tally and output
-  pub word_matters_exactly : WordMattersExactly a r t output (tell (word_matters_lem a.bytes a.port a.clock (length output)) r)
+  pub word_matters_exactly : WordMattersExactly a r t output (tell (whether_word_matters a.bytes a.port a.clock (length output)) r)
   unfolding tell question_refusal question_rule
   word_matters_exactly = exactly_so accepted refl
 

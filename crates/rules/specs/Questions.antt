@@ -18,19 +18,19 @@ pub data Question : Type 0 where
   -- a port's settings
   port_settings : (port : ℕ) → Question
   -- the announce rate: target interval, grace, penalty
-  rate_settings_lem : Question
+  rate_settings : Question
   -- the local address, the path and the link at a place; an expired record is told too
   local_at : (place : ℕ) → Question
-  path_at_lem : (place : ℕ) → Question
+  path_at : (place : ℕ) → Question
   link_at : (place : ℕ) → Question
   -- a destination's live path at a clock
   live_path : (destination : List ℕ) (clock : ℕ) → Question
   -- the number of live return records, and of live hashes, at a clock
   live_returns : (clock : ℕ) → Question
   live_hashes : (clock : ℕ) → Question
-  last_clock_lem : Question
+  the_last_clock : Question
   -- whether the signature word matters for a packet, with an output buffer of `room` bytes
-  word_matters_lem : (bytes : List ℕ) (port clock room : ℕ) → Question
+  whether_word_matters : (bytes : List ℕ) (port clock room : ℕ) → Question
 
 pub data Told : Type 0 where
   refused : (number : ℕ) → Told
@@ -94,11 +94,11 @@ question_rule (port_settings port) =
       answer = λ r. leb port_count port then none otherwise a_port (get_or r.ports port no_port);
       renamed = λ m. port_settings (image m port);
     }
-question_rule rate_settings_lem = record { refusal = row_seven; answer = λ r. a_rate r.rate; renamed = λ m. rate_settings_lem }
+question_rule rate_settings = record { refusal = row_seven; answer = λ r. a_rate r.rate; renamed = λ m. rate_settings }
 question_rule (local_at place) =
     record { refusal = row_seven; answer = λ r. told_of an_address (get_or r.locals place empty); renamed = λ m. local_at place }
-question_rule (path_at_lem place) =
-    record { refusal = row_seven; answer = λ r. told_of a_path (get_or r.paths place empty); renamed = λ m. path_at_lem place }
+question_rule (path_at place) =
+    record { refusal = row_seven; answer = λ r. told_of a_path (get_or r.paths place empty); renamed = λ m. path_at place }
 question_rule (link_at place) =
     record { refusal = row_seven; answer = λ r. told_of a_link (get_or r.links place empty); renamed = λ m. link_at place }
 question_rule (live_path destination clock) =
@@ -115,13 +115,13 @@ question_rule (live_hashes clock) =
       answer = λ r. a_number (count_of (λ h. live clock h.expiry) hash_count r.hashes.slots);
       renamed = λ m. live_hashes clock;
     }
-question_rule last_clock_lem = record { refusal = row_seven; answer = λ r. a_number r.clock; renamed = λ m. last_clock_lem }
+question_rule the_last_clock = record { refusal = row_seven; answer = λ r. a_number r.clock; renamed = λ m. the_last_clock }
 -- 7, 6, 4, 5, 1, 2, 3, 1: as the packet call
-question_rule (word_matters_lem bytes port clock room) =
+question_rule (whether_word_matters bytes port clock room) =
     record {
       refusal = λ r. packet_refusal r (came_with bytes port clock false) room;
       answer = λ r. yes_or_no (word_matters r (came_with bytes port clock false));
-      renamed = λ m. word_matters_lem bytes (image m port) clock room;
+      renamed = λ m. whether_word_matters bytes (image m port) clock room;
     }
 
 unfoldable pub question_refusal : Question → Relay → ℕ

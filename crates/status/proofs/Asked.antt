@@ -21,7 +21,7 @@ use Rattle.octets.proofs.Part.{part_length}
 use Rattle.numbers.specs.Numbers.{port_count, local_count, path_count, link_count, return_count, hash_count, live}
 use Rattle.rules.specs.Relay.{Slot, empty, holds}
 use Rattle.rules.specs.View.{path_place, view_at}
-use Rattle.rules.specs.Questions.{Question, port_settings, rate_settings_lem, local_at, path_at_lem, link_at, live_path, live_returns, live_hashes, last_clock_lem, Told, an_address, a_path, a_link, told_of, count_below, count_of, row_seven, question_rule, question_refusal, tell}
+use Rattle.rules.specs.Questions.{Question, port_settings, rate_settings, local_at, path_at, link_at, live_path, live_returns, live_hashes, the_last_clock, Told, an_address, a_path, a_link, told_of, count_below, count_of, row_seven, question_rule, question_refusal, tell}
 use Rattle.rules.proofs.Counting.{count_cong, count_le}
 use Rattle.tables.specs.Places.{time_width, rate_at, ports_at, port_width, locals_at, local_width, paths_at, path_width, links_at, link_width, returns_at, return_width, hashes_at, hash_width, table_size, address_width}
 use Rattle.codes.specs.Form.{code}
@@ -119,11 +119,11 @@ module _ (t : List ℕ) (h : well_formed t ≡ true) where
       rw (asked (port_settings port) refl, lt-leb port_count port l, port_seen_lem t port l)
       (refl, sym (port_bytes_lem b (part_bytes t _ _ bytes) wide fine old))
 
-  pub rate_told_lem : Bytes t → (old : List ℕ) → Tells (tell_on t rate_settings_lem) old 0 (part t rate_at (code rate_settings_form).width)
+  pub rate_told_lem : Bytes t → (old : List ℕ) → Tells (tell_on t rate_settings) old 0 (part t rate_at (code rate_settings_form).width)
   unfolding question_refusal question_rule told_number relay_of rate_settings_in
   rate_told_lem bytes old =
       let size = (formed t h).size in
-      rw (asked rate_settings_lem refl) (refl, sym (rate_bytes_lem t bytes (omega (arith, size)) (formed t h).rate old))
+      rw (asked rate_settings refl) (refl, sym (rate_bytes_lem t bytes (omega (arith, size)) (formed t h).rate old))
 
   -- ---- the record at a place
   outside : {A : Type 0} (q : Question) (tells : A → Told) (slots : List (Slot A)) (place : ℕ) (old : List ℕ)
@@ -149,10 +149,10 @@ module _ (t : List ℕ) (h : well_formed t ≡ true) where
       inside (local_at place) an_address local_of _ _ old (asked (local_at place) refl) (local_seen t place l) refl
       (λ _. local_bytes_lem _ old ∙ ap (part _ 1) (sym n))
 
-  pub no_path_lem : (place : ℕ) (old : List ℕ) → path_count ≤ place → Tells (tell_on t (path_at_lem place)) old 255 old
+  pub no_path_lem : (place : ℕ) (old : List ℕ) → path_count ≤ place → Tells (tell_on t (path_at place)) old 255 old
   unfolding question_refusal question_rule
   no_path_lem place old l =
-      outside (path_at_lem place) a_path (relay_of t).paths place old (asked (path_at_lem place) refl) (rw (paths_length t) l)
+      outside (path_at place) a_path (relay_of t).paths place old (asked (path_at place) refl) (rw (paths_length t) l)
 
   pub no_link : (place : ℕ) (old : List ℕ) → link_count ≤ place → Tells (tell_on t (link_at place)) old 255 old
   unfolding question_refusal question_rule
@@ -177,10 +177,10 @@ module _ (t : List ℕ) (h : well_formed t ≡ true) where
         path_bytes_lem b (part_bytes t _ _ bytes) u (record_length paths_at path_width path_count place (lit≤ tt) l) fine old ∙ ap (part b 1) (sym n)
 
     pub path_told : (place : ℕ) (old : List ℕ) → place < path_count → length old ≡ told_path_width
-        → (let b = record_at paths_at path_width t place in Tells (tell_on t (path_at_lem place)) old (put_number b) (put_bytes b old))
+        → (let b = record_at paths_at path_width t place in Tells (tell_on t (path_at place)) old (put_number b) (put_bytes b old))
     unfolding question_refusal question_rule told_number
     path_told place old l n =
-        inside (path_at_lem place) a_path path_of _ _ old (asked (path_at_lem place) refl) (path_seen t place l) refl (path_part place old l n)
+        inside (path_at place) a_path path_of _ _ old (asked (path_at place) refl) (path_seen t place l) refl (path_part place old l n)
 
     pub live_path_told : (destination : List ℕ) (clock place : ℕ) (old : List ℕ) → place ≡ path_place clock (relay_of t) destination
         → place < path_count → length old ≡ told_path_width
@@ -203,9 +203,9 @@ module _ (t : List ℕ) (h : well_formed t ≡ true) where
         ∙ ap (part b 1) (sym n))
 
   -- ---- numbers
-  pub clock_told : (n old : ℕ) → n ≡ (relay_of t).clock → TellsNumber (tell_on t last_clock_lem) old 0 n
+  pub clock_told : (n old : ℕ) → n ≡ (relay_of t).clock → TellsNumber (tell_on t the_last_clock) old 0 n
   unfolding question_refusal question_rule told_number told_count
-  clock_told n old e = rw (asked last_clock_lem refl) (refl, e)
+  clock_told n old e = rw (asked the_last_clock refl) (refl, e)
 
   pub returns_told : (clock n old : ℕ) → n ≡ live_records returns_at return_width return_count return_expiry_at clock t
       → TellsNumber (tell_on t (live_returns clock)) old 0 n

@@ -8,7 +8,7 @@
 mod counting;
 mod records;
 
-ghost use Rattle.rules.specs.Questions.{port_settings, rate_settings_lem, local_at, path_at_lem, link_at, live_path, live_returns, live_hashes, last_clock_lem};
+ghost use Rattle.rules.specs.Questions.{port_settings, rate_settings, local_at, path_at, link_at, live_path, live_returns, live_hashes, the_last_clock};
 ghost use Rattle.tables.specs.Asked.{tell_on, Tells, TellsNumber};
 
 use counting::live_count;
@@ -50,7 +50,7 @@ pub fn port_settings(tables: &[u8], port: u64, settings: &mut [u8; 4]) -> u8
 
 // The announce rate's settings: target interval, grace, penalty, each in four bytes.
 pub fn rate_settings(tables: &[u8], settings: &mut [u8; 12]) -> u8
-    ensures { Tells (tell_on tables.now rate_settings_lem)
+    ensures { Tells (tell_on tables.now rate_settings)
         settings.old result settings.new }
 {
     if !check(tables) {
@@ -77,7 +77,7 @@ pub fn local_at(tables: &[u8], place: u64, address: &mut [u8; 16]) -> u8
 // The path at a place, live or not: destination, port, hops, next hop, expiry, last accepted announce, violations,
 // blocked-until, marked unresponsive or not, number of blobs.
 pub fn path_at(tables: &[u8], place: u64, path: &mut [u8; PATH_TOLD]) -> u8
-    ensures { Tells (tell_on tables.now (path_at_lem place))
+    ensures { Tells (tell_on tables.now (path_at place))
         path.old result path.new }
 {
     if !check(tables) {
@@ -158,7 +158,7 @@ pub fn live_hashes(tables: &[u8], clock: u64, count: &mut u64) -> u8
 
 // The last accepted clock.
 pub fn last_clock(tables: &[u8], clock: &mut u64) -> u8
-    ensures { TellsNumber (tell_on tables.now last_clock_lem)
+    ensures { TellsNumber (tell_on tables.now the_last_clock)
         clock.old result clock.new }
 {
     if !check(tables) {

@@ -13,7 +13,7 @@ use Rattle.numbers.specs.Numbers.{longest_packet, is_size, port_count, target_li
 use Rattle.rules.specs.Relay.{Port, no_port, Slot, empty, used, Relay}
 use Rattle.rules.specs.Refusals.{port_ok, rate_settings_ok, tables_ok}
 use Rattle.rules.specs.Calls.{TableCall, sets_port, sets_rate, adds}
-use Rattle.rules.specs.Questions.{port_settings, rate_settings_lem, local_at, Told, none, a_port, a_rate, an_address, told_of, question_rule, question_refusal}
+use Rattle.rules.specs.Questions.{port_settings, rate_settings, local_at, Told, none, a_port, a_rate, an_address, told_of, question_rule, question_refusal}
 use Rattle.rules.specs.declared.RateSettings.{RateSettings}
 use Rattle.rules.proofs.Accepted.{no_port_ok}
 use Rattle.rules.proofs.Tables.{table_get_d}
@@ -125,7 +125,7 @@ module _ (t : List ℕ) (h : well_formed t ≡ true) where
   unfolding tables_ok
   rate_fine = and_left _ _ (and_right _ _ (ok_relay t h))
 
-  pub rate_told_as : (old told : List ℕ) → told ≡ told_bytes (tell_on t rate_settings_lem) old → rate_told told ≡ (relay_of t).rate
+  pub rate_told_as : (old told : List ℕ) → told ≡ told_bytes (tell_on t rate_settings) old → rate_told told ≡ (relay_of t).rate
   unfolding rate_told rate_settings_ok question_refusal question_rule told_bytes
   rate_told_as old told q =
       let s : RateSettings = (relay_of t).rate in
@@ -136,7 +136,7 @@ module _ (t : List ℕ) (h : well_formed t ≡ true) where
       let x : List ℕ = big_endian setting_width s.target in
       let y : List ℕ = big_endian setting_width s.grace in
       let z : List ℕ = big_endian setting_width s.penalty in
-      let bytes : told ≡ x ++ (y ++ z) = q ∙ ap (λ (v : Told). told_bytes v old) (asked t h rate_settings_lem refl) in
+      let bytes : told ≡ x ++ (y ++ z) = q ∙ ap (λ (v : Told). told_bytes v old) (asked t h rate_settings refl) in
       let long-x : length x ≡ setting_width = big_endian_length setting_width s.target in
       let long-y : length y ≡ setting_width = big_endian_length setting_width s.grace in
       let long-z : length z ≡ setting_width = big_endian_length setting_width s.penalty in

@@ -24,7 +24,7 @@ const SIZE_AT: usize = 2;
 const SIZE_WIDTH: usize = 2;
 
 // The size among a port's settings as they are told.
-fn size_in_lem(told: [u8; 4]) -> u64
+fn size_in(told: [u8; 4]) -> u64
     ensures { result ≡ size_told told }
 {
     octets::number_at(&told, SIZE_AT, SIZE_WIDTH)
@@ -38,7 +38,7 @@ fn set_port_as(from: &[u8], to: &mut [u8], port: usize)
 {
     let mut told = [0u8; 4];
     status::port_settings(from, port as u64, &mut told);
-    let size = size_in_lem(told);
+    let size = size_in(told);
     settings::set_port(to, port as u64, told[0] == 1, octets::wide(told[1]), size);
 }
 

@@ -2,8 +2,8 @@ use borrow.Author.Tests.{lt-ltb, le-ltb}
 use Rattle.octets.specs.Choice.{◌then◌otherwise◌}
 use Rattle.rules.specs.Rate.{one_more}
 use borrow.Author.Rules.{rules}
-use Rattle.rate.proofs.one_more_lem.Statement.{statement}
-use Rattle.rate.proofs.one_more_lem.Tie as tie
+use Rattle.rate.proofs.one_more.Statement.{statement}
+use Rattle.rate.proofs.one_more.Tie as tie
 
 add-result : tie.Need-overflow-add-result
 add-result c = search rules

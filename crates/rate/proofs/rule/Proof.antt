@@ -41,7 +41,7 @@ returns-3 : tie.Need-returns-3
 unfolding rated ◌then◌otherwise◌
 returns-3 c =
     let else2 = c.before.before in
-    rw (c.lets_by_lem.ensures, c.before.one_less.ensures, le-ltb _ _ else2.before.before.before.if1.false, le-ltb _ _ else2.if2.false)
+    rw (c.lets_by.ensures, c.before.one_less.ensures, le-ltb _ _ else2.before.before.before.if1.false, le-ltb _ _ else2.if2.false)
 
 pub rule-spec : {M : Type 1} → statement M
 rule-spec =

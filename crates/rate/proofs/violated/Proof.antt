@@ -36,8 +36,8 @@ returns c =
     let after-one-more = then1.before.before.before in
     let a = after-one-more.before.args in
     let above : a.settings.grace < one_more a.violations =
-    omega (arith, then1.if1.true, then1.before.before.wide.ensures, after-one-more.one_more_lem.ensures) in
-    rw (c.drops.ensures, after-one-more.one_more_lem.ensures, lt-ltb _ _ above)
+    omega (arith, then1.if1.true, then1.before.before.wide.ensures, after-one-more.one_more.ensures) in
+    rw (c.drops.ensures, after-one-more.one_more.ensures, lt-ltb _ _ above)
 
 lets-by-requires : tie.Need-lets-by-requires
 lets-by-requires c κs = search rules
@@ -48,8 +48,8 @@ returns-2 c =
     let after-one-more = c.before.before.before.before in
     let a = after-one-more.before.args in
     let within : one_more a.violations ≤ a.settings.grace =
-    omega (arith, c.before.if1.false, c.before.before.before.wide.ensures, after-one-more.one_more_lem.ensures) in
-    rw (c.lets_by_lem.ensures, after-one-more.one_more_lem.ensures, le-ltb _ _ within)
+    omega (arith, c.before.if1.false, c.before.before.before.wide.ensures, after-one-more.one_more.ensures) in
+    rw (c.lets_by.ensures, after-one-more.one_more.ensures, le-ltb _ _ within)
 
 pub violated-spec : {M : Type 1} → statement M
 violated-spec =

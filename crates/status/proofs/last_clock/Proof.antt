@@ -1,7 +1,7 @@
 use mathlib.Core.Path.{sym, ◌∙◌}
 use borrow.Author.Tests.{not-true, not-false}
 use Rattle.tables.proofs.Whole.{formed}
-use Rattle.rules.specs.Questions.{last_clock_lem}
+use Rattle.rules.specs.Questions.{the_last_clock}
 use Rattle.status.proofs.Asked.{number_refused_7, clock_told}
 use borrow.Author.Rules.{rules}
 use Rattle.status.proofs.last_clock.Statement.{statement}
@@ -11,7 +11,7 @@ check-requires : tie.Need-check-requires
 check-requires c κs = search rules
 
 returns : tie.Need-returns
-returns c = number_refused_7 _ last_clock_lem _ (sym c.before.check.ensures ∙ not-true _ c.if1.true)
+returns c = number_refused_7 _ the_last_clock _ (sym c.before.check.ensures ∙ not-true _ c.if1.true)
 
 last-clock-requires : tie.Need-last-clock-requires
 last-clock-requires c κs = (formed _ (sym c.before.check.ensures ∙ not-false _ c.if1.false)).size

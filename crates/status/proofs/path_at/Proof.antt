@@ -2,7 +2,7 @@ use mathlib.Core.Path.{sym, ◌∙◌}
 use borrow.Author.Tests.{not-true, not-false}
 use Rattle.octets.proofs.Bytes.{known_bytes}
 use Rattle.tables.proofs.Whole.{formed}
-use Rattle.rules.specs.Questions.{path_at_lem}
+use Rattle.rules.specs.Questions.{path_at}
 use Rattle.status.proofs.Asked.{refused_7, no_path_lem, path_told}
 use native.Mathlib.Omega.{arith}
 use borrow.Author.Rules.{rules}
@@ -13,7 +13,7 @@ check-requires : tie.Need-check-requires
 check-requires c κs = search rules
 
 returns : tie.Need-returns
-returns c = refused_7 _ (path_at_lem _) _ (sym c.before.check.ensures ∙ not-true _ c.if1.true)
+returns c = refused_7 _ (path_at _) _ (sym c.before.check.ensures ∙ not-true _ c.if1.true)
 
 returns-2 : tie.Need-returns-2
 returns-2 c = no_path_lem _ (sym c.before.before.check.ensures ∙ not-false _ c.before.if1.false) _ _ c.if2.true

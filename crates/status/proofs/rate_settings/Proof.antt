@@ -6,7 +6,7 @@ use Rattle.tables.specs.Places.{rate_at}
 use Rattle.codes.specs.Form.{code}
 use Rattle.tables.specs.Forms.{rate_settings_form}
 use Rattle.tables.proofs.Whole.{formed}
-use Rattle.rules.specs.Questions.{rate_settings_lem}
+use Rattle.rules.specs.Questions.{rate_settings}
 use Rattle.status.proofs.Asked.{refused_7, rate_told_lem}
 use borrow.Author.Rules.{rules}
 use Rattle.status.proofs.rate_settings.Statement.{statement}
@@ -16,7 +16,7 @@ check-requires : tie.Need-check-requires
 check-requires c κs = search rules
 
 returns : tie.Need-returns
-returns c = refused_7 _ rate_settings_lem _ (sym c.before.check.ensures ∙ not-true _ c.if1.true)
+returns c = refused_7 _ rate_settings _ (sym c.before.check.ensures ∙ not-true _ c.if1.true)
 
 sub-copy : tie.Need-overflow-sub-copy
 sub-copy c = search rules

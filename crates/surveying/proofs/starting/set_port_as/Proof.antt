@@ -34,7 +34,7 @@ returns c =
     let after-port-settings = after-size-in.before in
     let start = after-port-settings.before.before.before.before in
     let a = start.args in
-    (rw (after-wide.wide.ensures, after-size-in.size_in_lem.ensures) at after-set-port.set-port.ensures.1)
+    (rw (after-wide.wide.ensures, after-size-in.size_in.ensures) at after-set-port.set-port.ensures.1)
     ∙ ap (λ (k : TableCall). (call_on a.to.now k).tables)
     (port_told_as a.from.now start.requires.0 a.port start.requires.1 _ _ after-port-settings.port-settings.ensures.1)
 

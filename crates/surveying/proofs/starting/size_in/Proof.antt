@@ -1,7 +1,7 @@
 use Rattle.surveying.specs.Steps.{size_told}
 use Rattle.std.proofs.Common.{rules}
-use Rattle.surveying.proofs.starting.size_in_lem.Statement.{statement}
-use Rattle.surveying.proofs.starting.size_in_lem.Tie as tie
+use Rattle.surveying.proofs.starting.size_in.Statement.{statement}
+use Rattle.surveying.proofs.starting.size_in.Tie as tie
 
 slice-aggregate-number-at : tie.Need-slice-aggregate-number-at
 slice-aggregate-number-at c = search rules
