@@ -19,7 +19,7 @@ const LENGTHS: [&str; 9] = [
     "crates/tables/src/places.rt",
     "crates/surveying/src/counting.rt",
     "crates/surveying/src/lib.rt",
-    "crates/log/src/places.rt",
+    "crates/opinion_log/src/places.rt",
 ];
 
 /// The texts of the three sources, and of the numbers of documents 01 and 02.
@@ -56,7 +56,7 @@ impl Texts {
             numbers: rattle_texts("crates/numbers/src")
                 + &text("crates/recording/src/places.rt")
                 + &rattle_texts("crates/surveying/src")
-                + &text("crates/log/src/places.rt"),
+                + &text("crates/opinion_log/src/places.rt"),
         }
     }
 
