@@ -15,7 +15,7 @@ DESTDIR ?=
 ## make            proves the core, writes the library to target/      twelve minutes of one processor once, then what changed
 lib: target/libhaskumye.a target/libhaskumye.so
 
-target/libhaskumye.a: crates.txt scripts/library $(shell find crates -name '*.rt' -o -name '*.antt')
+target/libhaskumye.a: crates.txt scripts/library $(shell find crates -name out -prune -o -name '*.rt' -print -o -name '*.antt' -print)
 	@scripts/library
 
 target/libhaskumye.so: target/libhaskumye.a include/haskumye.h scripts/shared
@@ -61,9 +61,9 @@ soak:
 memcheck:
 	@scripts/memcheck
 
-## make clean      removes target/, and with it all that is proved     a second
+## make clean      removes target/, and all that is proved             a second
 clean:
-	@rm -rf target
+	@rm -rf target crates/*/out
 
 ## make help       this list
 help:
