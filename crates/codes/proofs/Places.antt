@@ -12,7 +12,7 @@ use Rattle.octets.specs.Choice.{◌then◌otherwise◌}
 use Rattle.octets.specs.Part.{part, patch, fields}
 use Rattle.octets.proofs.Index.{and_left, and_right, all_at}
 use Rattle.octets.proofs.ListOf.{list_of_at}
-use Rattle.octets.proofs.Part.{part_part, part_mid, part_whole, patch_mid, patch_whole, patch_part}
+use Rattle.octets.proofs.Part.{part_part, part_whole, patch_mid, patch_whole, patch_part}
 use Rattle.octets.proofs.Joined.{patch_field}
 use Rattle.codes.specs.Code.{Code}
 use Rattle.codes.specs.Codes.{both_code, many_code, Slot, empty, used, slot_bytes, slot_code, InUse, record_of, that_code, as_code}
