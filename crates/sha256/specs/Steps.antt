@@ -1,7 +1,7 @@
 -- For the contracts of private helpers, which do a part of the standard's steps. Not part of what a reader must believe:
 -- the proofs show that the parts make up the definitions of Compression.
 -- Assumes nothing.
-use Rattle.std.specs.Prelude.{ℕ, zero, suc, ◌+◌, List, set, slice_index, slice_set}
+use Rattle.std.specs.Prelude.{ℕ, zero, suc, ◌+◌, List, slice_index, slice_set}
 use Rattle.sha256.specs.declared.state.State.{State}
 use Rattle.sha256.specs.Compression.{expanded_word, after_round}
 
