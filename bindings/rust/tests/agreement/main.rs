@@ -178,7 +178,7 @@ fn a_missing_function_is_seen() {
         (RUST, "pub fn haskumye_check_tables(tables: *const u8, length: usize) -> u8;", "", "haskumye_check_tables is missing in Rust"),
         (
             RATTLE,
-            "#[no_mangle]\npub extern \"C\" fn haskumye_check_tables",
+            "#[unsafe(no_mangle)]\npub extern \"C\" fn haskumye_check_tables",
             "pub fn haskumye_check_tables",
             "haskumye_check_tables is missing in the crate",
         ),

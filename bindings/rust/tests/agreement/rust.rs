@@ -7,7 +7,7 @@ use std::collections::BTreeMap;
 /// How a function that crosses begins in Rust's extern block.
 pub const IN_RUST: &str = "pub fn";
 /// How it begins in Rattle.
-pub const IN_RATTLE: &str = "# [ no_mangle ] pub extern \" C \" fn";
+pub const IN_RATTLE: &str = "# [ unsafe ( no_mangle ) ] pub extern \" C \" fn";
 
 /// `signed` is a keyword of C.
 const RENAMED: [(&str, &str); 1] = [("signed", "signed_well")];
