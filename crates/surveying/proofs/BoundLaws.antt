@@ -1,5 +1,5 @@
 -- No counter of a survey can reach 2^64: a recording has at most 60,000 bytes, and what an entry adds is at most as much.
-use Rattle.std.proofs.Common.{◌≡◌, ℕ, zero, suc, ◌+◌, ◌-◌, ◌*◌, ◌≤◌, Bool, true, false, not, eqb, ltb, leb, List, [], ◌∷◌, ◌++◌, length, get_or, drop, sym, refl, ap, ◌∙◌, subst, arith, lit≤, length-drop, length-take, eqb-true, leb-true}
+use Rattle.std.proofs.Common.{◌≡◌, ℕ, zero, suc, ◌+◌, ◌-◌, ◌*◌, ◌≤◌, Bool, true, false, not, eqb, ltb, List, [], ◌∷◌, ◌++◌, length, sym, refl, ap, subst, arith, lit≤, length-drop, length-take, eqb-true, leb-true}
 use borrow.Author.Tests.{eqb-false}
 use Rattle.octets.specs.Index.{◌and◌, list_of}
 use Rattle.octets.specs.Choice.{◌then◌otherwise◌}
@@ -24,7 +24,7 @@ use Rattle.recording.specs.Reader.{file_refusal, body_of, entry_of, entries_of}
 use Rattle.recording.proofs.ReadLaws.{taken}
 use Rattle.replaying.specs.Promise.{entry_call, ReplayOn, goes_on, replay_from}
 use Rattle.replaying.proofs.Replay.{replay_calls}
-use Rattle.surveying.specs.Counts.{Answered, answered_as, answered, sent_by, leaving_by, test_of, accepted_on, packets_on, bytes_in_on, bytes_out_by, dropped_on, dropped_by, sum_over, test_order}
+use Rattle.surveying.specs.Counts.{Answered, answered_as, answered, sent_by, leaving_by, test_of, accepted_on, packets_on, bytes_in_on, bytes_out_by, dropped_on, dropped_by, sum_over}
 use Rattle.surveying.specs.Survey.{answers_from}
 use Rattle.surveying.specs.Promise.{bytes_in_at, bytes_out_at, dropped_at, tests_at, counted_at}
 use Rattle.surveying.proofs.ReplayLaws.{refused_answers}

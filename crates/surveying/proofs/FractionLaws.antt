@@ -1,14 +1,13 @@
 -- The greatest common divisor divides both numbers, and none that does is greater; Euclid's step and end. A fraction in lowest terms.
-use Rattle.std.proofs.Common.{◌≡◌, ℕ, zero, suc, ◌+◌, ◌*◌, ◌/◌, ◌%◌, ◌<◌, ◌≤◌, Bool, true, false, eqb, sym, refl, ap, ◌∙◌, subst, mul_assoc, mul_comm, le_antisymm, one-mul, le_of_mul-le-mul_right, arith, lit≤, eq-eqb, ne_eqb, eqb-true}
+use Rattle.std.proofs.Common.{◌≡◌, ℕ, zero, suc, ◌+◌, ◌*◌, ◌/◌, ◌%◌, ◌<◌, ◌≤◌, Bool, true, sym, refl, ap, ◌∙◌, subst, mul_assoc, mul_comm, le_antisymm, one-mul, le_of_mul-le-mul_right, arith, lit≤, eq-eqb, ne_eqb, eqb-true}
 use Prim.Native.Nat.{◌∣◌}
 use native.Mathlib.Nat.{le_of_dvd, dvd_refl, dvd-zero, one-dvd, dvd-add, dvd-mod_iff, dvd_of_mod-eq-zero, mod-eq-zero_of_dvd, div-mul_cancel, div_self, zero-div, zero-mod, mul-dvd-mul_right}
 use mathlib.Core.Bool.{false≢true}
 use Rattle.octets.specs.Choice.{◌then◌otherwise◌}
-use Rattle.octets.proofs.Choice.{then_true, then_false}
+use Rattle.octets.proofs.Choice.{then_false}
 use Rattle.octets.proofs.Index.{and_left, and_right, and_both}
 use Rattle.rules.proofs.Choices.{either}
 use Rattle.surveying.specs.Fraction.{greatest_up_to, divides_both, greatest_common_divisor, lowest_terms, share}
-use Rattle.surveying.specs.declared.Fraction.{Fraction}
 
 -- ---- the greatest that passes
 module _ (test : ℕ → Bool) where

@@ -1,7 +1,7 @@
 -- The laws of a survey's lines: that each fits a text, whatever its numbers.
-use Rattle.std.proofs.Common.{◌≡◌, ℕ, ◌+◌, ◌^◌, ◌<◌, ◌≤◌, List, [], ◌∷◌, ◌++◌, length, sym, ap, ◌∙◌, arith, lit≤, length-append}
+use Rattle.std.proofs.Common.{◌≡◌, ℕ, ◌+◌, ◌^◌, ◌<◌, ◌≤◌, [], ◌∷◌, length, sym, ap, ◌∙◌, arith, lit≤, length-append}
 use Rattle.text.specs.Numerals.{decimal, most_digits}
-use Rattle.text.specs.Words.{newline, spaced, words_line, refused_word}
+use Rattle.text.specs.Words.{newline, words_line, refused_word}
 use Rattle.text.specs.Text.{text_size, text_of, appended}
 use Rattle.text.proofs.NumeralLaws.{numeral_most}
 use Rattle.text.proofs.TextLaws.{appended_none}

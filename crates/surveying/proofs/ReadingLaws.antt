@@ -1,5 +1,5 @@
 -- What a survey holds after any recordings: the counters are the answers' sums, and each recording's refusal has its place.
-use Rattle.std.proofs.Common.{◌≡◌, ℕ, zero, suc, ◌+◌, ◌^◌, ◌<◌, ◌≤◌, Bool, true, false, eqb, ltb, leb, List, [], ◌∷◌, ◌++◌, length, get_or, take, set, replicate, sym, refl, ap, ◌∙◌, subst, ap₂, append_assoc, append-nil, zero-add, arith, lit≤, length-append, length-set, length-take, take_all, get_or-set_other, get_or-set_same, ltb-false, ltb-true, le-ltb, lt-ltb}
+use Rattle.std.proofs.Common.{◌≡◌, ℕ, ◌+◌, ◌^◌, ◌<◌, ◌≤◌, Bool, true, false, ltb, List, [], ◌∷◌, ◌++◌, length, get_or, set, replicate, sym, refl, ap, ◌∙◌, subst, ap₂, append_assoc, append-nil, zero-add, arith, lit≤, length-append, length-set, length-take, take_all, get_or-set_other, get_or-set_same, ltb-false, ltb-true, le-ltb, lt-ltb}
 use lib.ListN.{length-replicate, get_or-replicate, get_or-append}
 use lib.Seq.{take-append-le, get_or_at}
 use Rattle.octets.specs.Index.{list_of}

@@ -1,5 +1,5 @@
 -- A refused recording adds nothing but its line; a 17th adds its line, isn't read, and ends the reading.
-use Rattle.std.proofs.Common.{◌≡◌, ℕ, ◌+◌, ◌<◌, ◌≤◌, eqb, List, [], ◌∷◌, ◌++◌, length, sym, refl, ap, ◌∙◌, zero-add, arith, length-append, take_all, lt-ltb}
+use Rattle.std.proofs.Common.{◌≡◌, ℕ, ◌+◌, ◌<◌, eqb, List, [], ◌∷◌, ◌++◌, length, sym, ap, ◌∙◌, zero-add, arith, length-append, take_all, lt-ltb}
 use mathlib.Core.Path.{fun_ext}
 use lib.Seq.{take-append-le}
 use Rattle.octets.specs.Choice.{◌then◌otherwise◌}

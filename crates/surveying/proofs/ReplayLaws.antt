@@ -12,7 +12,7 @@ use Rattle.recording.specs.Shape.{count_of}
 use Rattle.recording.specs.Format.{Entry}
 use Rattle.recording.specs.Reader.{file_refusal, fields_of, body_of, entry_of, entries_of}
 use Rattle.recording.specs.declared.Fields.{Fields}
-use Rattle.replaying.specs.Promise.{StepOn, step_on, ReplayOn, replay_on, one_more, steps_on}
+use Rattle.replaying.specs.Promise.{step_on, ReplayOn, replay_on, one_more, steps_on}
 use Rattle.replaying.proofs.Replay.{steps_replay, replay_refused}
 use Rattle.surveying.specs.Counts.{Answered, answered_as, answered}
 use Rattle.surveying.specs.Survey.{recording_limit, late_number, one_too_many, answers_from}

@@ -1,19 +1,19 @@
 -- Setting a relay as another is set: the calls one after another, and what each is told.
-use Rattle.std.proofs.Common.{◌≡◌, ℕ, ◌+◌, ◌^◌, ◌<◌, ◌≤◌, Bool, true, false, eqb, leb, List, [], ◌∷◌, ◌++◌, length, get_or, take, sym, refl, ap, ◌∙◌, append_assoc, append-nil, add-one, arith, length-append, take_all, take-suc, leb-true}
+use Rattle.std.proofs.Common.{◌≡◌, ℕ, ◌+◌, ◌<◌, ◌≤◌, Bool, true, false, eqb, leb, List, [], ◌∷◌, ◌++◌, length, get_or, take, sym, refl, ap, ◌∙◌, append_assoc, append-nil, add-one, arith, length-append, take_all, take-suc, leb-true}
 use borrow.Author.Tests.{lt-leb}
 use Rattle.octets.specs.Index.{◌and◌, list_of}
 use Rattle.octets.specs.Choice.{◌then◌otherwise◌}
 use Rattle.octets.specs.Part.{part}
 use Rattle.octets.specs.BigEndian.{number, big_endian}
 use Rattle.octets.proofs.Index.{and_left, and_right}
-use Rattle.octets.proofs.Choice.{then_true, then_false}
+use Rattle.octets.proofs.Choice.{then_false}
 use Rattle.octets.proofs.Part.{part_mid}
 use Rattle.octets.proofs.BigEndian.{big_endian_length, number_big_endian}
 use Rattle.numbers.specs.Numbers.{longest_packet, is_size, port_count, target_limit, grace_limit, penalty_limit}
 use Rattle.rules.specs.Relay.{Port, no_port, Slot, empty, used, Relay}
 use Rattle.rules.specs.Refusals.{port_ok, rate_settings_ok, tables_ok}
-use Rattle.rules.specs.Calls.{TableCall, sets_port, sets_rate, adds}
-use Rattle.rules.specs.Questions.{port_settings, rate_settings, local_at, Told, none, a_port, a_rate, an_address, told_of, question_rule, question_refusal}
+use Rattle.rules.specs.Calls.{TableCall, sets_port, adds}
+use Rattle.rules.specs.Questions.{port_settings, rate_settings, local_at, Told, none, a_port, an_address, told_of, question_rule, question_refusal}
 use Rattle.rules.specs.declared.RateSettings.{RateSettings}
 use Rattle.rules.proofs.Accepted.{no_port_ok}
 use Rattle.rules.proofs.Tables.{table_get_d}

@@ -1,5 +1,5 @@
 -- After a start and any recordings, the lines are the survey's text; and what a refused recording leaves.
-use Rattle.std.proofs.Common.{◌≡◌, ℕ, zero, suc, ◌+◌, ◌-◌, ◌<◌, ◌≤◌, Bool, true, false, eqb, ltb, leb, List, [], ◌∷◌, ◌++◌, length, get_or, set, replicate, sym, refl, ap, ◌∙◌, subst, ap₂, append_assoc, append-nil, add-zero, add-suc, arith, lit≤, ltb-false, ltb-true, le-ltb, lt-ltb, eq-eqb, ne_eqb}
+use Rattle.std.proofs.Common.{◌≡◌, ℕ, zero, suc, ◌+◌, ◌-◌, ◌<◌, ◌≤◌, Bool, true, false, eqb, ltb, leb, List, [], ◌∷◌, ◌++◌, length, get_or, sym, refl, ap, ◌∙◌, subst, ap₂, append_assoc, append-nil, add-zero, add-suc, arith, lit≤, ltb-false, ltb-true, le-ltb, lt-ltb, eq-eqb, ne_eqb}
 use mathlib.Core.Path.{fun_ext}
 use borrow.Author.Tests.{lt-leb}
 use Rattle.octets.specs.Index.{list_of}
@@ -15,8 +15,8 @@ use Rattle.saved.specs.Load.{load_refusal, held_in}
 use Rattle.surveying.specs.Counts.{Answered, packets_on, bytes_in_on, bytes_out_by, dropped_on, dropped_by, test_order, test_count}
 use Rattle.surveying.specs.Start.{start_of}
 use Rattle.surveying.specs.Lines.{survey_line, settings_line, recording_line, port_line, reason_line}
-use Rattle.surveying.specs.Survey.{recording_limit, late_number, one_too_many, read_of, answers_from, total, refused_lines, last_line, port_totals, test_total, survey_text, survey}
-use Rattle.surveying.specs.Promise.{bytes_in_at, bytes_out_at, dropped_at, tests_at, counter_count, counted_at, add_all, SurveyOn, start_on, read_on, recording_on, recordings_on, ports_from, tests_from, line_count, recording_at, port_at, test_at, line_at, text_on}
+use Rattle.surveying.specs.Survey.{recording_limit, late_number, one_too_many, read_of, total, refused_lines, last_line, port_totals, test_total, survey_text, survey}
+use Rattle.surveying.specs.Promise.{bytes_in_at, bytes_out_at, dropped_at, tests_at, counter_count, counted_at, SurveyOn, start_on, read_on, recording_on, recordings_on, ports_from, tests_from, line_count, recording_at, port_at, test_at, line_at, text_on}
 use Rattle.surveying.proofs.ReplayLaws.{too_many, is_read, read_refused}
 use Rattle.surveying.proofs.StartLaws.{not_begun, begun}
 use Rattle.surveying.proofs.ReadingLaws.{read_length, Reading, none_read, reading_all, counts_exact}

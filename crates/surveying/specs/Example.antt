@@ -1,12 +1,12 @@
 -- Document 02, Wish 14: its lines, whole, and the numbers of a short list of answers.
-use Rattle.std.specs.Prelude.{◌≡◌, ℕ, not, List, [], ◌∷◌, ◌++◌, refl}
+use Rattle.std.specs.Prelude.{◌≡◌, ℕ, List, [], ◌∷◌, refl}
 use Rattle.octets.specs.Part.{joined}
 use Rattle.octets.specs.Choice.{◌then◌otherwise◌}
 use Rattle.octets.specs.Index.{◌and◌}
 use Rattle.rules.specs.Answers.{in_set}
 use Rattle.rules.specs.declared.Blocked.TheVariants.{OnlyExpired}
 use Rattle.rules.specs.declared.Reason.TheVariants.{Duplicate, NoWayOn, TooLongForPort}
-use Rattle.rules.specs.declared.Verdict.TheVariants.{Drop, Deliver, Forward, Spread, Kept}
+use Rattle.rules.specs.declared.Verdict.TheVariants.{Drop, Deliver, Forward, Spread}
 use Rattle.rules.specs.declared.Answer.{Answer}
 use Rattle.rules.specs.declared.Answer.TheVariants.{Refused, Judged}
 use Rattle.text.specs.Numerals.{digit, numeral_within, numeral}

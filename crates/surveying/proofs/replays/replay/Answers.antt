@@ -1,0 +1,49 @@
+use Rattle.std.proofs.Common.{◌≡◌, ℕ, List, sym, refl, ap, ◌∙◌, le_antisymm, arith, rules}
+use Rattle.rules.specs.declared.Tally.{Tally}
+use Rattle.recording.specs.Shape.{count_of}
+use Rattle.recording.specs.Reader.{entries_of}
+use Rattle.replaying.specs.Promise.{steps_on}
+use Rattle.replaying.specs.declared.Stepped.{Stepped}
+use Rattle.surveying.specs.Promise.{add_all}
+use Rattle.surveying.proofs.ReplayLaws.{answers_up_to, no_answers, next_tables, next_tally, next_counts}
+use Rattle.surveying.proofs.replays.replay.Goals as goal
+
+pub loop-i-init : goal.loop-i-init
+unfolding steps_on add_all
+loop-i-init c =
+    let a = c.args in
+    (search rules, refl, refl, refl, sym (ap (add_all a.counts) (no_answers a.file.now a.work.now c.new_tally-tally.result)))
+
+pub loop-i-preserved : goal.loop-i-preserved
+loop-i-preserved c =
+    let a = c.args in
+    let f = a.file.now in
+    let w = a.work.now in
+    let y = c.new_tally-tally.result in
+    let l = c.loop-i in
+    let fields = c.entry-fields.ensures in
+    let body = c.body-size.ensures in
+    let step = c.step-stepped.ensures in (
+      search rules,
+      search rules,
+      next_tables f w y l.i l.work l.tally l.invariant.2 l.invariant.3 _ step.1,
+      next_tally f w y l.i l.work l.tally l.invariant.2 l.invariant.3 _ (ap (λ (x : Stepped). x.tally) step.0),
+      next_counts f w y l.i l.work l.tally l.invariant.2 l.invariant.3 a.counts l.grown _ l.invariant.4 _ fields _ body _
+          (ap (λ (x : Stepped). x.answer) step.0) c.add_one-more.ensures,
+    )
+
+pub returns : goal.returns
+unfolding answers_up_to entries_of
+returns c =
+    let a = c.args in
+    let f : List ℕ = a.file.now in
+    let w : List ℕ = a.work.now in
+    let y : Tally = c.new_tally-tally.result in
+    let l = c.loop-i in
+    let end : l.i ≡ count_of f =
+    le_antisymm (omega (arith, c.count-n.ensures, l.invariant.0)) (omega (arith, c.count-n.ensures, c.loop-i-test.false)) in (
+      l.invariant.4
+          ∙ ap (λ (n : ℕ). add_all a.counts (answers_up_to f w y n)) end
+          ∙ ap (λ (z : Tally). add_all a.counts (answers_up_to f w z (count_of f))) c.new_tally-tally.ensures,
+      l.invariant.2 ∙ ap (λ (n : ℕ). (steps_on f n w y).tables) end ∙ ap (λ (z : Tally). (steps_on f (count_of f) w z).tables) c.new_tally-tally.ensures,
+    )
