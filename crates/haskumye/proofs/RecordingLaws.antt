@@ -7,7 +7,6 @@ use mathlib.Core.Path.{◌≡◌, refl, sym, ap, ◌∙◌}
 use lib.Dec.{ltb}
 use lib.ListN.{length}
 use borrow.Author.Tests.{ltb-true, ltb-false}
-use Rattle.octets.specs.Choice.{◌then◌otherwise◌}
 use Rattle.octets.proofs.Choice.{then_true, then_false}
 use Rattle.recording.specs.Reader.{fields_of}
 use Rattle.recording.specs.Writer.{writing_refusal, Writing, writing}

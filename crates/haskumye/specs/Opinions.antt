@@ -5,7 +5,7 @@ use Rattle.rules.specs.declared.Answer.{Answer}
 use Rattle.crossing.specs.Answers.{answer_number}
 use Rattle.opinion.specs.Calls.{Opines}
 
--- the engine's packet call with its answer as one number, the packet's payload starting there. The engine has one answer Opines.replied, so the number
+-- the engine's packet call with its answer as one number, the packet's payload starting there. The engine has one answer (Opines.replied), so the number
 -- is one
 pub record OpinesBy (log : List ℕ) (a : Arrival) (start : ℕ) (output : List ℕ) (number : ℕ) (after : List ℕ) (output_after : List ℕ) : Type 0 where
   pub answer : Answer
