@@ -1,5 +1,5 @@
 -- The refusals of a packet call on bytes, row by row; and what they leave.
-use Rattle.std.proofs.Common.{◌≡◌, ℕ, ◌%◌, ◌<◌, ◌≤◌, Bool, true, false, eqb, List, sym, refl, ap, ◌∙◌, arith, ltb-false, ltb-true, le-ltb, lt-ltb, eq-eqb, le-leb, leb-false}
+use Rattle.std.proofs.Common.{◌≡◌, ℕ, ◌%◌, ◌<◌, ◌≤◌, Bool, true, false, eqb, List, sym, refl, ◌∙◌, arith, ltb-false, ltb-true, le-ltb, lt-ltb, eq-eqb, le-leb, leb-false}
 use borrow.Author.Tests.{lt-leb, not-false}
 use Rattle.octets.specs.Index.{◌and◌}
 use Rattle.octets.specs.Choice.{◌then◌otherwise◌, ◌or◌}
