@@ -19,7 +19,7 @@ use Rattle.octets.proofs.Listed.{all_give}
 use Rattle.numbers.specs.Numbers.{hash_count}
 use Rattle.rules.specs.Relay.{Relay}
 use Rattle.rules.specs.View.{View, hash_place, is_local, view_at}
-use Rattle.rules.specs.Arrival.{Arrival, header, relay_address, destination, hash}
+use Rattle.rules.specs.Arrival.{Arrival, header, relay_address, destination}
 use Rattle.rules.specs.Exempt.{exempt}
 use Rattle.rules.specs.Tests.{not_ours, for_marked_path, tested_as_duplicate, duplicate, bad_form, own_announce, delivered_here}
 use Rattle.rules.specs.Ways.{way_on}

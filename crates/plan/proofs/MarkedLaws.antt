@@ -9,7 +9,7 @@ use Rattle.packet.specs.Header.{of_kind_single, is_announce}
 use Rattle.numbers.specs.Numbers.{path_count}
 use Rattle.rules.specs.Relay.{Relay}
 use Rattle.rules.specs.View.{path_place, view_at}
-use Rattle.rules.specs.Arrival.{Arrival, header, destination, hash}
+use Rattle.rules.specs.Arrival.{Arrival, header, destination}
 use Rattle.rules.specs.Exempt.{exempt}
 use Rattle.rules.specs.Tests.{is_marked, for_marked_path}
 use Rattle.rules.specs.Writes.{already_live}

@@ -18,7 +18,7 @@ use Rattle.rules.specs.declared.Reason.TheVariants.{NoWayOn, AlreadyKnown, Wrong
 use Rattle.outgoing.specs.Leaving.{path_length}
 use Rattle.plan.specs.declared.Decision.{Decision}
 use Rattle.plan.specs.Decided.{high_of, low_of}
-use Rattle.plan.specs.declared.Decision.TheVariants.{Drop, Announce, Data, Request, Carry, Receipt}
+use Rattle.plan.specs.declared.Decision.TheVariants.{Drop, Announce, Request, Carry, Receipt}
 
 -- ---- a signed announce
 -- of a new path: 13
