@@ -24,7 +24,7 @@ use Rattle.rules.specs.Run.{answered, numbered}
 use Rattle.rules.specs.declared.Answer.TheVariants.{Refused, Judged}
 use Rattle.rules.specs.declared.Verdict.{Verdict}
 use Rattle.history.specs.Known.{Known, seen_at}
-use Rattle.history.specs.After.{Entry, came, called, known_of}
+use Rattle.history.specs.After.{came, called, known_of}
 use Rattle.history.specs.Opinion.{list_limit, clock_bad, packet_rows, packet_refused, call_rows, call_refused, judged_by, on_packet, on_call, listed}
 use Rattle.opinion_log.specs.Log.{own_in, entries_of, listed_in, calls_in, known_in}
 use Rattle.opinion.specs.Calls.{Opines, Settles}

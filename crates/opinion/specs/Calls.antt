@@ -1,6 +1,6 @@
 -- Document 02, wish 13: the engine's calls on a log. What each replies, and the list after it, are the definitions of crate `history`, over the list that
 -- the log holds.
-use Rattle.std.specs.Prelude.{ℕ, Bool, true, false, List, [], ◌≡◌, eqb, length}
+use Rattle.std.specs.Prelude.{ℕ, false, List, [], ◌≡◌, eqb, length}
 use Rattle.rules.specs.Arrival.{Arrival}
 use Rattle.rules.specs.Calls.{TableCall}
 use Rattle.rules.specs.Run.{packet, on_tables, answered, numbered}

@@ -16,9 +16,9 @@ ghost use Rattle.opinion.specs.Steps.{arrival_by};
 use super::refusing::{clock_bad, packet_refusal};
 use super::writing::{put_came, put_mark};
 use judging::{Arrived, answer_of, plan_of};
+use numbers::refusals;
 use opinion_log::places::{LIST_LIMIT, LOG_SIZE};
 use opinion_log::{listed, live_path, path_of, seen, write_outcomes};
-use numbers::refusals;
 use rules::{Answer, Verdict};
 
 // The verdict on an accepted packet when n calls are listed, with the packet that leaves at the output's start.

@@ -4,9 +4,9 @@ ghost use Rattle.history.specs.Opinion.{list_limit, clock_bad};
 ghost use Rattle.opinion_log.specs.Log.{log_size, known_in};
 ghost use Rattle.opinion.specs.Steps.{RefusesAs};
 
+use numbers::{CLOCK_LIMIT, LEAST_OUTPUT, refusals};
 use opinion_log::places::LIST_LIMIT;
 use opinion_log::{last_clock, port_at};
-use numbers::{CLOCK_LIMIT, LEAST_OUTPUT, refusals};
 
 // Whether a clock is 2^40 or more, or below the last accepted clock.
 pub fn clock_bad(log: &[u8], n: usize, clock: u64) -> bool

@@ -6,10 +6,10 @@ ghost use Rattle.rules.specs.Calls.{sets_port, sets_rate, adds, removes, renumbe
 ghost use Rattle.opinion.specs.Calls.{IsFresh, Settles};
 
 use super::writing::{put_added, put_fresh, put_map, put_port, put_rate, put_removed};
-use opinion_log::places::{LIST_LIMIT, LOG_SIZE};
-use opinion_log::{is_local, listed, local_number, rate_within};
 use maps::one_to_one;
 use numbers::{LOCAL_COUNT, MODE_COUNT, PORT_COUNT, refusals};
+use opinion_log::places::{LIST_LIMIT, LOG_SIZE};
+use opinion_log::{is_local, listed, local_number, rate_within};
 use rules::RateSettings;
 
 // Makes a fresh log. What it held is not read.

@@ -14,12 +14,12 @@ ghost use Rattle.opinion.specs.Steps.{head_bytes, with_entry, Adds};
 
 use codes::mark_of;
 use judging::Arrived;
+use numbers::ADDRESS_WIDTH;
 use opinion_log::places::{
     ADDS, BODY_AT, CAME, CLOCK_AT, CLOCK_WIDTH, COUNT_AT, ENTRIES_AT, ENTRY_WIDTH, GRACE_AT,
     GRACE_WIDTH, LENGTH_AT, LENGTH_WIDTH, MARKS, PENALTY_AT, PENALTY_WIDTH, RATE_WIDTH, REMOVES,
     RENUMBERS, SETS_PORT, SETS_RATE, TARGET_WIDTH,
 };
-use numbers::ADDRESS_WIDTH;
 use rules::RateSettings;
 
 // The bytes before the body.

@@ -1,0 +1,21 @@
+use Rattle.rules.specs.Calls.{marks}
+use Rattle.history.specs.After.{called}
+use lib.ListN.{length}
+use Rattle.opinion.proofs.Put.{mark_put}
+use Rattle.opinion.specs.Steps.{Adds, with_entry}
+use Prim.Native.Nat.{ℕ}
+use mathlib.Core.List.{List, ◌++◌}
+use mathlib.Core.Path.{◌≡◌, sym, ap, subst, ◌∙◌}
+use borrow.Author.Rules.{rules}
+use Rattle.numbers.specs.Numbers.{address_width}
+use Rattle.opinion.proofs.writing.put_mark.Goals as goal
+
+pub returns : goal.returns
+returns c =
+    let log = c.args.log.now in
+    let n : ℕ = c.args.n in
+    let address = c.args.destination in
+    let wide : length address ≡ address_width = search rules in
+    subst (Adds log n (called (marks address c.args.clock)))
+    (sym (c.put_entry.ensures ∙ ap (λ (h : List ℕ). with_entry log n (h ++ address)) c.head_of-head.ensures))
+    (mark_put log n c.requires.0 c.requires.1 address wide c.args.clock c.requires.2)
