@@ -5,11 +5,11 @@ use mathlib.Core.Logic.{inl, inr}
 use mathlib.Core.Path.{◌≡◌, sym}
 use types.Run.{OneOf}
 use borrow.Author.Tests.{ne_eqb}
+use borrow.Author.Rules.{rules}
 use Rattle.octets.specs.Choice.{◌or◌}
 use Rattle.octets.proofs.Choice.{or_no}
 use Rattle.rules.specs.Exempt.{exempt_context}
-use Rattle.forms.proofs.contexts.exempt_context.Statement.{statement}
-use Rattle.forms.proofs.contexts.exempt_context.Tie as tie
+use Rattle.forms.proofs.contexts.exempt_context.Goals as goal
 
 abbrev contexts : List ℕ
 contexts = 0x01 ∷ 0x03 ∷ 0x05 ∷ 0x08 ∷ 0x0e ∷ 0xfa ∷ []
@@ -33,11 +33,8 @@ unlisted x none =
     (or_no (ne_eqb x 0x0e (λ e. none (inr (inr (inr (inr (inl e)))))))
     (ne_eqb x 0xfa (λ e. none (inr (inr (inr (inr (inr e)))))))))))
 
-returns : tie.Need-returns
-returns c = listed c.before.args.context c.match.keys1
+pub returns-in-1 : goal.returns-in-1
+returns-in-1 c = listed c.args.context c.in-1.is
 
-returns-2 : tie.Need-returns-2
-returns-2 c = sym (unlisted c.before.args.context c.match.rest.1)
-
-pub exempt-context-spec : {M : Type 1} → statement M
-exempt-context-spec = tie.close (tie.spec returns returns-2)
+pub returns-in_default : goal.returns-in_default
+returns-in_default c = sym (unlisted c.args.context (search rules))
