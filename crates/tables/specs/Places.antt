@@ -1,6 +1,5 @@
 -- Where each section of the tables stands, and how wide its records are, as the layout has it.
-use Rattle.std.specs.Prelude.{◌≡◌, refl, ℕ, ◌+◌, ◌*◌, ◌≤◌}
-use Rattle.std.proofs.Common.{lit≤}
+use Rattle.std.specs.Prelude.{◌≡◌, refl, ℕ, ◌+◌, ◌*◌}
 use Rattle.codes.specs.Form.{slot, code, place_of}
 use Rattle.numbers.specs.Numbers.{path_count, blob_limit, return_count, hash_count}
 use Rattle.tables.specs.Forms.{port_form, local_form, path_form, link_form, return_form, hash_form, ring_form, back_form, relay_form}
