@@ -1,0 +1,13 @@
+use mathlib.Core.Path.{sym, ap, ◌∙◌}
+use lib.Dec.{ltb}
+use borrow.Author.Tests.{le-leb, lt-leb}
+use Rattle.octets.proofs.Choice.{or_left, or_else}
+use Rattle.numbers.specs.Numbers.{clock_limit}
+use Rattle.settings.proofs.clock_bad.Goals as goal
+
+pub returns-then-clock-ge-CLOCK_LIMIT : goal.returns-then-clock-ge-CLOCK_LIMIT
+returns-then-clock-ge-CLOCK_LIMIT c = sym (or_left _ (le-leb clock_limit _ c.if-clock-ge-CLOCK_LIMIT.true))
+
+pub returns : goal.returns
+returns c =
+    ap (ltb c.args.clock) c.last_clock.ensures ∙ sym (or_else _ (lt-leb clock_limit _ c.if-clock-ge-CLOCK_LIMIT.false))

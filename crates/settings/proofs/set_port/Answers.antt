@@ -1,0 +1,62 @@
+use mathlib.Core.Bool.{not}
+use mathlib.Core.Path.{sym, ap, ◌∙◌}
+use native.Mathlib.Omega.{arith}
+use borrow.Author.Tests.{le-leb, lt-leb}
+use Rattle.octets.specs.Choice.{◌then◌otherwise◌}
+use Rattle.octets.specs.Listed.{first_of}
+use Rattle.octets.proofs.Bytes.{known_bytes}
+use Rattle.octets.proofs.Choice.{or_left, or_right, or_no}
+use Rattle.rules.specs.Calls.{sets_port, rule_of}
+use Rattle.tables.proofs.Called.{size_of, call_bad, call_refused_lem, call_done}
+use Rattle.settings.proofs.Answered.{port_set_lem}
+use Rattle.settings.proofs.set_port.Goals as goal
+
+pub returns-then-not-check : goal.returns-then-not-check
+returns-then-not-check c =
+    let a = c.args in
+    call_bad (sets_port a.port a.on a.mode a.size) a.tables.now (sym c.check.ensures ∙ c.if-not-check.true)
+
+pub returns-then-port : goal.returns-then-port
+unfolding rule_of first_of ◌then◌otherwise◌
+returns-then-port c =
+    let a = c.args in
+    let t = a.tables.now in
+    let ok = sym c.check.ensures ∙ c.if-not-check.false in
+    call_refused_lem (sets_port a.port a.on a.mode a.size) t ok (known_bytes t c.slice_known-1.given)
+    9 (λ e. omega arith) (rw (or_left _ (le-leb _ _ c.if-port.true)))
+
+pub returns-then-mode : goal.returns-then-mode
+unfolding rule_of first_of ◌then◌otherwise◌
+returns-then-mode c =
+    let a = c.args in
+    let t = a.tables.now in
+    let ok = sym c.check.ensures ∙ c.if-not-check.false in
+    call_refused_lem (sets_port a.port a.on a.mode a.size) t ok (known_bytes t c.slice_known-1.given)
+    9 (λ e. omega arith) (rw (or_right _ (or_left _ (le-leb _ _ c.if-mode.true))))
+
+pub returns-then-not-is_size : goal.returns-then-not-is_size
+unfolding rule_of first_of ◌then◌otherwise◌
+returns-then-not-is_size c =
+    let a = c.args in
+    let t = a.tables.now in
+    let ok = sym c.check.ensures ∙ c.if-not-check.false in
+    call_refused_lem (sets_port a.port a.on a.mode a.size) t ok (known_bytes t c.slice_known-1.given)
+    9 (λ e. omega arith) (rw (or_right _ (or_right _ (ap not (sym c.is_size.ensures) ∙ (ap not c.if-not-is_size.true)))))
+
+pub put_port-requires : goal.put_port-requires
+put_port-requires c =
+    let ok = sym c.check.ensures ∙ c.if-not-check.false in
+    (size_of c.args.tables.now ok, c.if-port.false)
+
+pub returns : goal.returns
+unfolding rule_of first_of ◌then◌otherwise◌
+returns c =
+    let a = c.args in
+    let t = a.tables.now in
+    let ok = sym c.check.ensures ∙ c.if-not-check.false in
+    let sized = ap not (sym c.is_size.ensures) ∙ (ap not c.if-not-is_size.false) in
+    let after =
+    c.put_port.ensures
+    ∙ port_set_lem t ok (known_bytes t c.slice_known-1.given) a.port a.on a.mode a.size c.if-port.false in
+    call_done (sets_port a.port a.on a.mode a.size) t ok
+    (rw (or_no (lt-leb _ _ c.if-port.false) (or_no (lt-leb _ _ c.if-mode.false) sized))) after
