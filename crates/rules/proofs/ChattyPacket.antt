@@ -11,7 +11,6 @@ use Rattle.octets.specs.Choice.{◌then◌otherwise◌}
 use Rattle.octets.proofs.Index.{and_left, and_right, and_both, and_no, and_false}
 use Rattle.octets.proofs.Choice.{then_false}
 use Rattle.packet.specs.Header.{is_announce}
-use Rattle.numbers.specs.Numbers.{live}
 use Rattle.rules.specs.Relay.{Slot, empty, used, Path, with_path_rate, Relay, with_paths}
 use Rattle.rules.specs.View.{View, view_at, path_place}
 use Rattle.rules.specs.Arrival.{Arrival, header, destination}

@@ -23,7 +23,7 @@ use Rattle.rules.specs.Refusals.{packet_refusal}
 use Rattle.rules.specs.Arrival.{Arrival, header, hops, destination, blob}
 use Rattle.rules.specs.Blobs.{held, is_among, greatest_emission, store_blob}
 use Rattle.rules.specs.Ways.{everywhere, way_on}
-use Rattle.rules.specs.Tests.{duplicate, announce_not_single, form_tests, bad_form, own_announce, too_many_hops, no_way_on, wrong_side, not_signed, revives, of_known, is_replay, known_tests, port_off, too_long_for_port, no_room}
+use Rattle.rules.specs.Tests.{announce_not_single, form_tests, bad_form, own_announce, too_many_hops, no_way_on, wrong_side, not_signed, revives, of_known, is_replay, known_tests, port_off, too_long_for_port, no_room}
 use Rattle.rules.specs.Answers.{verdict_kind, reason_number}
 use Rattle.rules.specs.Outgoing.{spread_ports, outgoing, exceeds}
 use Rattle.rules.specs.Judging.{Plan, dropped, delivered, follows, early_tests, onward_tests, onward_plan, plan, spread_verdict, way_verdict, verdict}

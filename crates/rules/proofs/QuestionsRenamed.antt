@@ -17,7 +17,7 @@ use Rattle.rules.specs.Renumbering.{image, one_to_one, rename_path, rename_link,
 use Rattle.rules.specs.Refusals.{table_ok, tables_ok, packet_rows, packet_refusal, refusal_by}
 use Rattle.rules.specs.Arrival.{Arrival}
 use Rattle.rules.specs.Judging.{Plan, dropped, delivered, follows, plan}
-use Rattle.rules.specs.Questions.{Question, port_settings, rate_settings, local_at, path_at, link_at, live_path, live_returns, live_hashes, the_last_clock, whether_word_matters, Told, refused, none, a_port, a_rate, an_address, a_path, a_link, a_number, yes_or_no, told_of, count_of, came_with, of_test, word_matters, row_seven, question_rule, question_refusal, tell, rename_told}
+use Rattle.rules.specs.Questions.{Question, port_settings, rate_settings, local_at, path_at, link_at, live_path, live_returns, live_hashes, the_last_clock, whether_word_matters, Told, refused, none, a_port, an_address, a_path, a_link, a_number, yes_or_no, told_of, count_of, came_with, of_test, word_matters, row_seven, question_rule, question_refusal, tell, rename_told}
 use Rattle.rules.specs.Run.{rename_arrival}
 use Rattle.rules.proofs.Images.{image_leb, source_image}
 use Rattle.rules.proofs.MovedPorts.{moved_at}

@@ -1,15 +1,15 @@
 -- The numbers of every reason that is given fit their bits: the test a byte, the clause or case 4 bits, the value 41.
-use Prim.Native.Nat.{ℕ, ◌+◌, ◌≤◌, ◌<◌, ◌^◌}
+use Prim.Native.Nat.{ℕ, ◌+◌, ◌<◌, ◌^◌}
 use native.Mathlib.Omega.{arith}
-use mathlib.Core.Bool.{Bool, true, false, not}
+use mathlib.Core.Bool.{Bool, true}
 use mathlib.Core.List.{List}
-use mathlib.Core.Path.{◌≡◌, refl, sym, ap, subst, ◌∙◌}
-use lib.Dec.{eqb, ltb, lit<}
+use mathlib.Core.Path.{◌≡◌, refl, sym, ap, ◌∙◌}
+use lib.Dec.{eqb, ltb}
 use lib.ListN.{get_or}
 use borrow.Author.Tests.{lt-ltb, ltb-true, not-false}
 use Rattle.octets.specs.Index.{◌and◌}
-use Rattle.octets.specs.Choice.{◌then◌otherwise◌, ◌or◌}
-use Rattle.octets.proofs.Index.{and_left, and_right, and_both}
+use Rattle.octets.specs.Choice.{◌or◌}
+use Rattle.octets.proofs.Index.{and_left, and_right}
 use Rattle.octets.proofs.Listed.{all_give, all_first, refuses, rows_passed}
 use Rattle.packet.specs.Header.{context_flag}
 use Rattle.packet.specs.Read.{header_of}
@@ -18,18 +18,15 @@ use Rattle.packet.specs.Places.{blob_end, signature_width}
 use Rattle.numbers.specs.Numbers.{path_count, time_limit}
 use Rattle.rules.specs.Relay.{Slot, empty, used, Path, Relay}
 use Rattle.rules.specs.View.{is_expired_path, expiry_if, expired_path, View, view_at}
-use Rattle.rules.specs.Arrival.{Arrival, header, is_link_proof}
+use Rattle.rules.specs.Arrival.{Arrival, is_link_proof}
 use Rattle.rules.specs.Refusals.{slot_ok, path_ok, packet_rows, refusal_by, packet_refusal}
-use Rattle.rules.specs.Ways.{Way, everywhere, by_path, along_link, by_return, blocked, no_path, path_way, link_way, return_way, way_on}
+use Rattle.rules.specs.Ways.{Way, no_path, path_way, link_way, return_way, way_on}
 use Rattle.rules.specs.Tests.{form_tests, failing, why_blocked, known_tests}
 use Rattle.rules.specs.Answers.{reason_numbers}
 use Rattle.rules.specs.Judging.{Plan, dropped, delivered, follows, early_tests, onward_tests, onward_plan, plan}
 use Rattle.rules.specs.declared.Link.{Link}
 use Rattle.rules.specs.Relay.{Return}
-use Rattle.rules.specs.declared.Clause.{Clause}
 use Rattle.rules.specs.declared.Clause.TheVariants.{TypeTwoProof}
-use Rattle.rules.specs.declared.Blocked.{Blocked}
-use Rattle.rules.specs.declared.Blocked.TheVariants.{NotAsking, NoPath, OnlyExpired, NoLink, NotProved, NoReturn}
 use Rattle.rules.specs.declared.Reason.{Reason}
 use Rattle.rules.specs.declared.Reason.TheVariants.{BadForm, NoWayOn}
 use Rattle.rules.proofs.Choices.{either}

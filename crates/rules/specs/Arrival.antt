@@ -1,5 +1,5 @@
 -- A packet call's input, and the packet's parts by their names.
-use Rattle.std.specs.Prelude.{ℕ, Bool, true, false, List, eqb}
+use Rattle.std.specs.Prelude.{ℕ, Bool, List, eqb}
 use Rattle.octets.specs.Index.{◌and◌}
 use Rattle.packet.specs.Header.{of_kind_link, is_proof}
 use Rattle.packet.specs.Read.{header_of, parts_of, payload}

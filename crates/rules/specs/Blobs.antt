@@ -1,5 +1,5 @@
 -- The blobs of a path, for any limit of one or more.
-use Rattle.std.specs.Prelude.{ℕ, ◌+◌, ◌-◌, Bool, true, false, List, [], ◌∷◌, ◌++◌, ltb, take, drop, set, replicate}
+use Rattle.std.specs.Prelude.{ℕ, ◌+◌, ◌-◌, Bool, false, List, [], ◌∷◌, ◌++◌, ltb, take, drop, set, replicate}
 use Rattle.octets.specs.Choice.{◌then◌otherwise◌, ◌or◌, same}
 use Rattle.packet.specs.Announce.{emission_of}
 use Rattle.rules.specs.Relay.{Blobs}

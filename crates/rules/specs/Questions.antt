@@ -1,6 +1,6 @@
 -- What a host asks of a relay. A question reads: relay and tally stay. It is refused with 7 where the tables break row 7; whether the signature word
 -- matters is refused as the packet call is. A question's clock may be any number, and at 2^40 + 604,799 or later nothing is live.
-use Rattle.std.specs.Prelude.{ℕ, zero, suc, ◌+◌, Bool, true, false, not, List, [], eqb, leb, get_or}
+use Rattle.std.specs.Prelude.{ℕ, zero, suc, ◌+◌, Bool, false, not, List, [], eqb, leb, get_or}
 use Rattle.octets.specs.Choice.{◌then◌otherwise◌}
 use Rattle.octets.specs.Listed.{◌gives◌otherwise◌, first_of}
 use Rattle.numbers.specs.Numbers.{port_count, return_count, hash_count, live}

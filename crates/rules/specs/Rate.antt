@@ -1,6 +1,6 @@
 -- Document 02, Wish 5: "Add source document 000's rate rule: target interval, grace and penalty, set for the relay. Last accepted announce, violations
 -- and blocked-until live in the path record". An announce of a destination that has a live path is let through or dropped by it: test 15.
-use Rattle.std.specs.Prelude.{ℕ, ◌+◌, ◌-◌, Bool, true, false, ltb}
+use Rattle.std.specs.Prelude.{ℕ, ◌+◌, ◌-◌, true, false, ltb}
 use Rattle.octets.specs.Choice.{◌then◌otherwise◌}
 use Rattle.numbers.specs.Numbers.{violation_limit}
 use Rattle.rules.specs.Relay.{make_rate_entry}

@@ -1,6 +1,6 @@
 -- Document 02, Wish 10, what a drop tells: each clause of test 3 and each case of test 6 by its own sentence, with its value. Proved in
 -- proofs/Reasons.antt of what the rules answer.
-use Rattle.std.specs.Prelude.{ℕ, zero, suc, ◌+◌, Bool, true, false, not, List, [], ◌∷◌, eqb}
+use Rattle.std.specs.Prelude.{ℕ, zero, suc, Bool, false, not, List, [], ◌∷◌, eqb}
 use Rattle.octets.specs.Index.{◌and◌}
 use Rattle.octets.specs.Choice.{◌or◌}
 use Rattle.octets.specs.Listed.{Test, ◌gives◌otherwise◌}

@@ -1,5 +1,5 @@
 -- Document 01, "Numbered refusals": the rows in order, for each call those that concern it. 0 stands for no refusal.
-use Rattle.std.specs.Prelude.{ℕ, Bool, true, false, not, List, [], ◌∷◌, eqb, ltb, leb, length}
+use Rattle.std.specs.Prelude.{ℕ, Bool, true, not, List, [], ◌∷◌, eqb, ltb, leb, length}
 use Rattle.octets.specs.Index.{◌and◌}
 use Rattle.octets.specs.Choice.{◌or◌}
 use Rattle.packet.specs.Read.{reading_refusal}

@@ -1,5 +1,5 @@
 -- Renumbering: the ports of a relay get other numbers, by a map of 0..15 to itself, given as the list of the sixteen images.
-use Rattle.std.specs.Prelude.{ℕ, Bool, true, false, not, List, map, eqb, ltb, length, get_or}
+use Rattle.std.specs.Prelude.{ℕ, Bool, not, List, map, eqb, ltb, length, get_or}
 use Rattle.octets.specs.Index.{◌and◌, all_below, first, list_of}
 use Rattle.octets.specs.Choice.{◌then◌otherwise◌}
 use Rattle.numbers.specs.Numbers.{port_count}

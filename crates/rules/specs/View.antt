@@ -1,6 +1,6 @@
 -- What judging a packet reads of a relay, at a clock, and nothing else. A record that isn't live counts as no record; of two live records
 -- of one key the lower place counts. Cases 6.2 and 6.3 alone read expired records: document 02's Wish 10 has them told apart.
-use Rattle.std.specs.Prelude.{ℕ, zero, suc, Bool, true, false, not, List, ltb, get_or}
+use Rattle.std.specs.Prelude.{ℕ, zero, suc, Bool, not, List, ltb, get_or}
 use Rattle.octets.specs.Index.{◌and◌}
 use Rattle.octets.specs.Choice.{◌then◌otherwise◌, same}
 use Rattle.numbers.specs.Numbers.{port_count, local_count, path_count, link_count, return_count, hash_count, live}

@@ -1,5 +1,5 @@
 -- What a packet that is not for this relay itself would follow, or why there is no way on: `Blocked` of src/lib.rt has the cases of test 6.
-use Rattle.std.specs.Prelude.{ℕ, Bool, true, false, not}
+use Rattle.std.specs.Prelude.{ℕ, Bool, not}
 use Rattle.octets.specs.Choice.{◌then◌otherwise◌, ◌or◌}
 use Rattle.packet.specs.Header.{type_two, of_kind_link, is_announce, is_proof}
 use Rattle.rules.specs.Relay.{Slot, empty, used, Path, Return}
