@@ -2,10 +2,10 @@
 use Prim.Native.Nat.{ℕ, ◌+◌, ◌-◌, ◌%◌, ◌≤◌, ◌<◌}
 use native.Mathlib.Omega.{arith}
 use mathlib.Core.Bool.{Bool}
-use mathlib.Core.List.{List, map}
+use mathlib.Core.List.{List}
 use mathlib.Core.Path.{◌≡◌, sym, ap, subst, ◌∙◌}
 use lib.Dec.{eqb}
-use lib.ListN.{length, get_or, take, drop, length-drop, get_or-map}
+use lib.ListN.{length, get_or, drop, length-drop, get_or-map}
 use lib.Seq.{take_all}
 use Rattle.octets.specs.Index.{agree}
 use Rattle.octets.specs.Part.{part}
@@ -19,7 +19,7 @@ use Rattle.numbers.specs.Numbers.{clock_limit, port_count, longest_packet}
 use Rattle.rules.specs.Renumbering.{image}
 use Rattle.rules.proofs.Images.{image_port}
 use Rattle.rules.proofs.Choices.{either}
-use Rattle.opinion_log.specs.Log.{body_at, address_width, entry_width, clock_in, address_in, images_in, clock_at, clock_width}
+use Rattle.opinion_log.specs.Log.{body_at, address_width, entry_width, clock_in, images_in, clock_at, clock_width}
 
 pub clock_small : (e : List ℕ) → Bytes e → length e ≡ entry_width → clock_in e < clock_limit
 clock_small e b h = number_lt (part e clock_at clock_width) clock_width (part_bytes e clock_at clock_width b) (part_length e clock_at clock_width (omega arith))

@@ -8,17 +8,15 @@ use lib.Dec.{eqb, ltb}
 use lib.ListN.{length, get_or, set, get_or-eq_default}
 use lib.Seq.{get_or-set_same, get_or-set_other}
 use borrow.Author.Tests.{ne_eqb, eqb-true, eqb-false, ltb-true, ltb-false}
-use Rattle.octets.specs.Index.{◌and◌, first}
-use Rattle.octets.specs.Choice.{◌then◌otherwise◌}
+use Rattle.octets.specs.Index.{◌and◌}
 use Rattle.octets.proofs.Index.{and_false, first_absent}
 use Rattle.packet.specs.Header.{is_data}
-use Rattle.rules.specs.Relay.{Port, fresh_port}
-use Rattle.rules.specs.Renumbering.{preimage, image}
+use Rattle.rules.specs.Relay.{fresh_port}
+use Rattle.rules.specs.Renumbering.{preimage}
 use Rattle.rules.specs.Arrival.{Arrival, header}
 use Rattle.rules.proofs.Images.{image_port}
 use Rattle.rules.proofs.Choices.{either}
 use Rattle.judging.specs.declared.Seen.{Seen}
-use Rattle.judging.specs.declared.SeenWay.{SeenWay}
 use Rattle.judging.specs.declared.SeenWay.TheVariants.{Everywhere, ByPath, AlongLink, ByReturn, Blocked}
 use Rattle.judging.specs.declared.Planned.{Planned}
 use Rattle.judging.specs.declared.Planned.TheVariants.{Drop, Deliver, Follow}

@@ -1,0 +1,75 @@
+use Rattle.opinion_log.proofs.Steps.{entry_reads, entry_whole, entry_arrival, packet_arrival, ask_step, another_ask}
+use Rattle.judging.specs.Seen.{path_of, link_of}
+use Rattle.rules.specs.Writes.{link_record}
+use Rattle.rules.specs.declared.Link.{Link}
+use Rattle.packet.specs.declared.Parts.{Parts}
+use Rattle.packet.specs.Read.{parts_of}
+use Rattle.octets.specs.Choice.{same, ◌then◌otherwise◌}
+use Rattle.opinion_log.specs.Log.{known_in}
+use mathlib.Core.List.{List}
+use Prim.Native.Nat.{ℕ, ◌<◌}
+use mathlib.Core.Path.{◌≡◌, refl, sym, ap, subst, ◌∙◌}
+use Rattle.numbers.specs.Numbers.{port_count}
+use Rattle.opinion_log.proofs.links.after_request.Goals as goal
+
+pub entry_at-e-requires : goal.entry_at-e-requires
+entry_at-e-requires c = (c.requires.0.0, c.requires.1)
+
+pub packet_in-packet-requires : goal.packet_in-packet-requires
+packet_in-packet-requires c = c.entry_at-e.ensures.1
+
+pub link_id_of-made-requires : goal.link_id_of-made-requires
+link_id_of-made-requires c =
+    let log = c.args.log.now in
+    let i : ℕ = c.args.i in
+    entry_reads log i _ _ c.entry_at-e.ensures.0 c.packet_in-packet.ensures.0 4 refl c.requires.2
+
+pub parts_of-parts-requires : goal.parts_of-parts-requires
+parts_of-parts-requires c =
+    let log = c.args.log.now in
+    let i : ℕ = c.args.i in
+    entry_whole log i _ _ c.entry_at-e.ensures.0 c.packet_in-packet.ensures.0 4 refl c.requires.2
+
+pub path_of-path-requires : goal.path_of-path-requires
+path_of-path-requires c = c.requires.0
+
+pub arrived_in-requires : goal.arrived_in-requires
+arrived_in-requires c = c.entry_at-e.ensures.1
+
+pub link_record-link-requires : goal.link_record-link-requires
+link_record-link-requires c =
+    let log = c.args.log.now in
+    let i : ℕ = c.args.i in
+    (entry_reads log i _ _ c.entry_at-e.ensures.0 c.packet_in-packet.ensures.0 4 refl c.requires.2, c.arrived_in.ensures.2)
+
+pub returns-then-is_same : goal.returns-then-is_same
+unfolding link_of ◌then◌otherwise◌ link_record
+returns-then-is_same c =
+    let log = c.args.log.now in
+    let i : ℕ = c.args.i in
+    let found = ap (λ (x : List ℕ). same x c.args.id) (sym c.link_id_of-made.ensures) ∙ sym c.is_same.ensures in
+    let made = c.link_record-link.ensures in
+    let there : c.parts_of-parts.result.destination ≡ (parts_of c.packet_in-packet.result.now).destination = ap
+    (λ (x : Parts). x.destination)
+    c.parts_of-parts.ensures in
+    record {
+      is = ask_step log i c.args.id c.args.before c.requires.3.is _ (entry_arrival log i _ _ c.entry_at-e.ensures.0
+          c.packet_in-packet.ensures.0 c.arrived_in.result c.arrived_in.ensures.0) c.requires.2 (found
+          ∙ c.if-is_same.true) c.path_of-path.result _
+          (subst (λ (d : List ℕ). path_of d c.path_of-path.result ≡ (known_in log i).path d) there
+          c.path_of-path.ensures.is) made;
+      asking = subst (λ (l : Link). l.asking < port_count) (sym made) c.arrived_in.ensures.1;
+      answering = subst (λ (l : Link). l.answering < port_count) (sym made) c.path_of-path.ensures.port;
+    }
+
+pub returns : goal.returns
+returns c =
+    let log = c.args.log.now in
+    let i : ℕ = c.args.i in
+    let found = ap (λ (x : List ℕ). same x c.args.id) (sym c.link_id_of-made.ensures) ∙ sym c.is_same.ensures in
+    record {
+      is = another_ask log i c.args.id c.args.before c.requires.3.is _ (packet_arrival log i _ _ c.entry_at-e.ensures.0
+          c.packet_in-packet.ensures.0) c.requires.2 (found ∙ c.if-is_same.false);
+      asking = c.requires.3.asking;
+      answering = c.requires.3.answering;
+    }
