@@ -14,7 +14,7 @@ use Rattle.rules.proofs.Choices.{either}
 use Rattle.rules.specs.declared.Answer.{Answer}
 use Rattle.text.specs.Numerals.{decimal, most_digits, short_digits, short_limit}
 use Rattle.text.specs.Words.{space, newline, spaced, words_line}
-use Rattle.text.specs.Text.{text_size, text_of, appended}
+use Rattle.text.specs.Text.{text_of, appended}
 use Rattle.text.specs.declared.Text.{Text}
 use Rattle.text.proofs.NumeralLaws.{numeral_most}
 use Rattle.text.proofs.TextLaws.{appended_append}

@@ -1,10 +1,10 @@
 -- A replay is its steps in order: for a file that the reader takes, the steps over entries 0 to count - 1 answer, print and leave what the replay does, whose
 -- answers, tables and tally are those of the entries' packet calls, one by one. A refused file has no step: nothing changes.
-use Prim.Native.Nat.{ℕ, zero, suc, ◌+◌, ◌≤◌, ◌<◌}
+use Prim.Native.Nat.{ℕ, zero, suc, ◌+◌, ◌≤◌}
 use native.Mathlib.Omega.{arith}
 use mathlib.Core.Bool.{true}
 use mathlib.Core.List.{List, [], ◌∷◌, ◌++◌, append-nil, append_assoc}
-use mathlib.Core.Path.{◌≡◌, refl, sym, ap, ap₂, ◌∙◌}
+use mathlib.Core.Path.{◌≡◌, refl, sym, ap, ◌∙◌}
 use lib.ListN.{length}
 use borrow.Author.Tests.{eq-eqb, ne_eqb}
 use Rattle.octets.specs.Index.{list_of}
@@ -14,7 +14,7 @@ use Rattle.rules.specs.declared.Tally.{Tally}
 use Rattle.relay.specs.Promise.{JudgementOn}
 use Rattle.recording.specs.Shape.{count_of}
 use Rattle.recording.specs.Format.{Entry}
-use Rattle.recording.specs.Reader.{file_refusal, is_there, entry_of, entries_of}
+use Rattle.recording.specs.Reader.{file_refusal, entry_of, entries_of}
 use Rattle.recording.proofs.ReadLaws.{taken, taken_there}
 use Rattle.text.specs.Words.{words_line, refused_words}
 use Rattle.replaying.specs.Lines.{answer_line, lines_from}

@@ -6,8 +6,6 @@ use mathlib.Core.Path.{◌≡◌, refl, sym, ap, ◌∙◌}
 use lib.Dec.{eqb}
 use lib.ListN.{replicate}
 use borrow.Author.Tests.{ltb-true}
-use Rattle.octets.specs.Index.{◌and◌}
-use Rattle.octets.specs.Choice.{◌then◌otherwise◌}
 use Rattle.octets.proofs.Index.{and_left}
 use Rattle.octets.proofs.Choice.{then_true, then_false}
 use Rattle.rules.specs.declared.Answer.{Answer}
@@ -20,7 +18,7 @@ use Rattle.recording.specs.declared.Fields.{Fields}
 use Rattle.text.specs.Text.{text_of}
 use Rattle.text.specs.declared.Text.{Text}
 use Rattle.replaying.specs.Lines.{answer_line}
-use Rattle.replaying.specs.Promise.{entry_call, StepOn, step_of, step_on, Steps}
+use Rattle.replaying.specs.Promise.{entry_call, step_of, step_on, Steps}
 use Rattle.numbers.specs.Numbers.{least_output}
 
 module _ (f : List ℕ) (i : ℕ) where

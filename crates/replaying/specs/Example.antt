@@ -1,5 +1,5 @@
 -- Document 02's lines, whole: Wish 1's `1 forward 4`, `3 deliver`, `4 spread 1 5`, `5 kept`, `6 refused 1`, and Wish 10's drops.
-use Rattle.std.specs.Prelude.{ℕ, List, [], ◌∷◌, ◌++◌, ◌≡◌, refl}
+use Rattle.std.specs.Prelude.{ℕ, List, [], ◌∷◌, ◌≡◌, refl}
 use Rattle.octets.specs.Part.{joined}
 use Rattle.octets.specs.Choice.{◌then◌otherwise◌, ◌or◌}
 use Rattle.octets.specs.Index.{◌and◌}

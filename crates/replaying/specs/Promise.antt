@@ -8,12 +8,10 @@ use Rattle.rules.specs.declared.Answer.{Answer}
 use Rattle.rules.specs.declared.Answer.TheVariants.{Refused}
 use Rattle.rules.specs.declared.Tally.{Tally}
 use Rattle.relay.specs.Promise.{JudgementOn, packet_on}
-use Rattle.recording.specs.Shape.{count_of}
 use Rattle.recording.specs.Format.{Entry}
 use Rattle.recording.specs.Reader.{file_refusal, is_there, entry_of, entries_of}
 use Rattle.text.specs.Text.{text_of}
 use Rattle.text.specs.Words.{words_line, refused_words}
-use Rattle.text.specs.declared.Text.{Text}
 use Rattle.replaying.specs.Lines.{answer_line}
 use Rattle.replaying.specs.declared.Stepped.{Stepped}
 
