@@ -5,12 +5,11 @@ use native.Mathlib.Omega.{arith}
 use mathlib.Core.Bool.{Bool}
 use mathlib.Core.List.{List, [], ◌∷◌, ◌++◌}
 use mathlib.Core.Path.{◌≡◌, refl, sym, ap, ◌∙◌}
-use lib.Dec.{eqb, lit≤}
+use lib.Dec.{lit≤}
 use borrow.Author.Tests.{ne_eqb}
-use lib.ListN.{length, length-append}
+use lib.ListN.{length}
 use Rattle.octets.specs.Choice.{◌then◌otherwise◌}
 use Rattle.octets.specs.Part.{joined}
-use Rattle.rules.specs.Answers.{reason_numbers}
 use Rattle.rules.specs.declared.Verdict.TheVariants.{Drop, Deliver, Forward, Spread, Kept}
 use Rattle.rules.specs.declared.Answer.{Answer}
 use Rattle.rules.specs.declared.Answer.TheVariants.{Refused, Judged}
@@ -18,7 +17,7 @@ use Rattle.rules.specs.declared.Tally.{Tally}
 use Rattle.rules.proofs.AnswerFits.{AnswerFits}
 use Rattle.text.specs.Numerals.{decimal, most_digits}
 use Rattle.text.specs.Words.{space, newline, spaced, words_line, refused_word}
-use Rattle.text.specs.Text.{text_size, text_of, appended}
+use Rattle.text.specs.Text.{text_of, appended}
 use Rattle.text.proofs.TextLaws.{appended_none, appended_append, appended_text}
 use Rattle.text.proofs.NumeralLaws.{numeral_most}
 use Rattle.text.proofs.WordLaws.{spaced_nil, spaced_most}
@@ -27,7 +26,7 @@ use Rattle.numbers.specs.Numbers.{port_count}
 use Rattle.replaying.specs.Words.{forward_word, drop_word, deliver_word, spread_word, kept_word}
 use Rattle.replaying.proofs.LineLaws.{ports_short, word_short, reason_short}
 use Rattle.replaying.specs.Lines.{numbers_of, ports_below, reason_words, verdict_words, answer_words, answer_line, longest_word, longest_answer}
-use Rattle.crossing.specs.Answers.{verdict_number, answer_number}
+use Rattle.crossing.specs.Answers.{answer_number}
 use Rattle.crossing.specs.Packets.{payload_place}
 use Rattle.crossing.specs.Texts.{words_text, number_words, number_text}
 use Rattle.crossing.specs.Bits.{ports_span, start_span, kind_in, detail_in, ports_in, clause_in, value_in}

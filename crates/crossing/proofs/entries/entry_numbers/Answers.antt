@@ -1,0 +1,6 @@
+use Rattle.crossing.specs.Recordings.{entry_numbers}
+use Rattle.crossing.proofs.entries.entry_numbers.Goals as goal
+
+pub returns : goal.returns
+unfolding entry_numbers
+returns c = rw (c.wide.ensures, c.wide-2.ensures)
