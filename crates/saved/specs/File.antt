@@ -1,7 +1,6 @@
 -- Document 02, Wish 4: "Save and load in the recordings' shape with kind byte 2: eight entries (..), own address and last clock, ports, local addresses,
 -- paths, links, returns, hashes, tally, in that order, each with offset (4) and length (2), then the bodies."
-use Rattle.std.specs.Prelude.{◌≡◌, refl, ℕ, ◌+◌, ◌*◌, ◌≤◌, List, []}
-use Rattle.std.proofs.Common.{lit≤}
+use Rattle.std.specs.Prelude.{◌≡◌, refl, ℕ, ◌+◌, List, []}
 use Rattle.octets.specs.Index.{list_of}
 use Rattle.octets.specs.Part.{part}
 use Rattle.recording.specs.Shape.{sum_below, shape_of}
