@@ -101,6 +101,22 @@ def turned(path, text, new):
     return "\n".join(out)
 
 
+def locals_turned(path, text):
+    """The text with the file's own variables, and the names that it gives by `as`, in snake case where that is free."""
+    if path.endswith(".edit"):
+        return text
+    mark = "//" if path.endswith(".rt") else "--"
+    code = "\n".join(line[: comment_at(line, mark)] for line in text.split("\n"))
+    words = set(TOKEN.findall(code))
+    own = {w for w in words if re.fullmatch(r"[a-z][a-z0-9]*(?:[A-Z][A-Za-z0-9]*)+'?", w)}
+    if path.endswith(".antt"):
+        own |= set(re.findall(r" as ([a-z0-9]+(?:-[a-z0-9]+)+)", code))
+    new = {w: snake(w) for w in own if snake(w) not in words}
+    lines = text.split("\n")
+    ends = [comment_at(line, mark) for line in lines]
+    return "\n".join(TOKEN.sub(lambda m: new.get(m[0], m[0]), li[:at]) + turn_comment(li[at:], new) for li, at in zip(lines, ends))
+
+
 def comment_at(line, mark):
     """Where the line's comment begins: at the mark, behind nothing or a space."""
     m = re.search(rf"(?:^|(?<=\s)){re.escape(mark)}(?=\s|$|!|/)", line)
@@ -179,7 +195,7 @@ def main():
         f.writelines(f"{old}\t{name}\n" for old, name in sorted(new.items()))
     for path in files((".antt", ".rt", ".edit")):
         text = read(path)
-        write(path, text, turned(path, text, new))
+        write(path, text, locals_turned(path, turned(path, text, new)))
     move_crates()
     print(f"{len(new)} names")
     return 0

@@ -76,8 +76,8 @@ pub data Slot (A : Type 0) : Type 0 where
   used : A → Slot A
 
 unfoldable pub slot_bytes : {A : Type 0} → ℕ → (A → List ℕ) → Slot A → List ℕ
-slot_bytes width recordBytes empty = replicate width 0
-slot_bytes width recordBytes (used x) = 1 ∷ recordBytes x
+slot_bytes width record_bytes empty = replicate width 0
+slot_bytes width record_bytes (used x) = 1 ∷ record_bytes x
 
 abbrev pub GoodSlot : {A : Type 0} → (A → Type 0) → Slot A → Type 0
 GoodSlot Good empty = Unit

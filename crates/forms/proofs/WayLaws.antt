@@ -26,10 +26,10 @@ unfolding path_way
 path_elsewhere empty expired = refl
 path_elsewhere (used p) expired = refl
 
-link_elsewhere : (linkProof : Bool) (s : Slot Link) → Elsewhere (link_way linkProof s)
+link_elsewhere : (link_proof : Bool) (s : Slot Link) → Elsewhere (link_way link_proof s)
 unfolding link_way
-link_elsewhere linkProof empty = refl
-link_elsewhere linkProof (used l) = either Elsewhere _ (λ _. refl) (λ _. refl)
+link_elsewhere link_proof empty = refl
+link_elsewhere link_proof (used l) = either Elsewhere _ (λ _. refl) (λ _. refl)
 
 return_elsewhere : (s : Slot Return) → Elsewhere (return_way s)
 unfolding return_way

@@ -1,7 +1,7 @@
 // Packets that are neither tested as duplicates nor remembered.
 ghost use Rattle.std.specs.Prelude.{◌≡◌, true};
 ghost use Rattle.packet.specs.Read.{longest_packet, reads};
-ghost use Rattle.rules.specs.Exempt.{exempt_context, exempt as isExempt};
+ghost use Rattle.rules.specs.Exempt.{exempt_context, exempt as is_exempt};
 
 // RESOURCE, RESOURCE_REQ, RESOURCE_PRF, CACHE_REQUEST, CHANNEL and KEEPALIVE.
 fn exempt_context(context: u8) -> bool
@@ -16,7 +16,7 @@ fn exempt_context(context: u8) -> bool
 // A packet of kind link with one of these contexts.
 pub fn exempt(packet: &[u8]) -> bool
     requires { reads longest_packet packet.now ≡ true }
-    ensures { result ≡ isExempt packet.now }
+    ensures { result ≡ is_exempt packet.now }
 {
     if packet::of_kind_link(packet[0]) {
         let parts = packet::parts_of(packet);

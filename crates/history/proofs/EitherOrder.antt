@@ -198,7 +198,7 @@ free_room clock r i l f = go (dec_lt (free_path clock r) path_count)
         absurd (false≢true (sym (first_before (λ i. free (λ p. live clock p.expiry) (get_or r.paths i empty)) path_count i (omega arith)) ∙ f))
 
 -- ---- the other announce, on what the first left
-module _ (r : Relay) (t : Tally) (a b : Arrival) (outA outB : List ℕ) (m : Meet r t a b outA outB) where
+module _ (r : Relay) (t : Tally) (a b : Arrival) (out_a out_b : List ℕ) (m : Meet r t a b out_a out_b) where
   abbrev v : View
   v = view_at b.clock r
 
@@ -208,17 +208,17 @@ module _ (r : Relay) (t : Tally) (a b : Arrival) (outA outB : List ℕ) (m : Mee
   valid : Valid r
   valid = valid_of r m.ok
 
-  accepted_b : eqb (packet_refusal r b (length outB)) 0 ≡ true
-  accepted_b = is_accepted_lem b r t outB m.other_alone
+  accepted_b : eqb (packet_refusal r b (length out_b)) 0 ≡ true
+  accepted_b = is_accepted_lem b r t out_b m.other_alone
 
   planned_b : plan v b ≡ follows (everywhere (v.path (destination b)))
-  planned_b = is_planned b r t outB m.other_alone
+  planned_b = is_planned b r t out_b m.other_alone
 
-  first_relay : (perform (packet a outA) r t).relay ≡ one a r
-  first_relay = is_one a r t outA (is_accepted_lem a r t outA m.one_alone) (is_planned a r t outA m.one_alone)
+  first_relay : (perform (packet a out_a) r t).relay ≡ one a r
+  first_relay = is_one a r t out_a (is_accepted_lem a r t out_a m.one_alone) (is_planned a r t out_a m.one_alone)
 
   first_ok : tables_ok (one a r) ≡ true
-  first_ok = subst (λ (s : Relay). tables_ok s ≡ true) first_relay (step_ok (packet a outA) r t m.ok)
+  first_ok = subst (λ (s : Relay). tables_ok s ≡ true) first_relay (step_ok (packet a out_a) r t m.ok)
 
   -- of two free slots one is left
   room_before : free_path a.clock r < path_count
@@ -303,41 +303,41 @@ module _ (r : Relay) (t : Tally) (a b : Arrival) (outA outB : List ℕ) (m : Mee
         ),
       )
 
-  accepted_second : eqb (packet_refusal (one a r) b (length outB)) 0 ≡ true
+  accepted_second : eqb (packet_refusal (one a r) b (length out_b)) 0 ≡ true
   unfolding refusal_by packet_rows port_on port_size changed
   accepted_second =
       ap (λ (n : ℕ). eqb n 0)
       (past _ 7 _ _ (ap not first_ok)
       ∙ ap (λ (late : Bool).
       first_of
-      (ltb (length outB) least_output gives 6 otherwise not (port_on r b.port) gives 4 otherwise leb clock_limit b.clock or late gives 5 otherwise [])
+      (ltb (length out_b) least_output gives 6 otherwise not (port_on r b.port) gives 4 otherwise leb clock_limit b.clock or late gives 5 otherwise [])
       (reading_refusal (port_size r b.port) b.bytes))
-      (le-ltb b.clock a.clock (omega (arith, m.clock)) ∙ sym (le-ltb b.clock r.clock (accepted_packet r b (length outB) accepted_b).not_before))
+      (le-ltb b.clock a.clock (omega (arith, m.clock)) ∙ sym (le-ltb b.clock r.clock (accepted_packet r b (length out_b) accepted_b).not_before))
       ∙ sym (past _ 7 _ _ (ap not m.ok)))
       ∙ accepted_b
 
   -- ---- and answered, output bytes too
-  same_reply : (s : Slot Path) → answered (Judged (verdict v' b (follows (everywhere s)))) (output_after v' b (follows (everywhere s)) outB)
-      ≡ answered (Judged (verdict v b (follows (everywhere s)))) (output_after v b (follows (everywhere s)) outB)
+  same_reply : (s : Slot Path) → answered (Judged (verdict v' b (follows (everywhere s)))) (output_after v' b (follows (everywhere s)) out_b)
+      ≡ answered (Judged (verdict v b (follows (everywhere s)))) (output_after v b (follows (everywhere s)) out_b)
   unfolding verdict output_after way_verdict outgoing spread_packet spread_ports view_at port_on port_size changed
   same_reply s = refl
 
-  second_reply : (u : Tally) → (perform (packet b outB) (one a r) u).reply ≡ (perform (packet b outB) r t).reply
+  second_reply : (u : Tally) → (perform (packet b out_b) (one a r) u).reply ≡ (perform (packet b out_b) r t).reply
   second_reply u =
-      judged_reply b (one a r) u outB accepted_second
-      ∙ ap (λ (todo : Plan). answered (Judged (verdict v' b todo)) (output_after v' b todo outB)) planned_second
+      judged_reply b (one a r) u out_b accepted_second
+      ∙ ap (λ (todo : Plan). answered (Judged (verdict v' b todo)) (output_after v' b todo out_b)) planned_second
       ∙ same_reply (v.path (destination b))
-      ∙ sym (judged_reply b r t outB accepted_b
-      ∙ ap (λ (todo : Plan). answered (Judged (verdict v b todo)) (output_after v b todo outB)) planned_b)
+      ∙ sym (judged_reply b r t out_b accepted_b
+      ∙ ap (λ (todo : Plan). answered (Judged (verdict v b todo)) (output_after v b todo out_b)) planned_b)
 
-  answered_second : (next b outB (perform (packet a outA) r t)).reply ≡ (perform (packet b outB) r t).reply
+  answered_second : (next b out_b (perform (packet a out_a) r t)).reply ≡ (perform (packet b out_b) r t).reply
   answered_second = rw first_relay (second_reply _)
 
   -- ---- and its path is the same
-  second_relay : (next b outB (perform (packet a outA) r t)).relay ≡ one b (one a r)
+  second_relay : (next b out_b (perform (packet a out_a) r t)).relay ≡ one b (one a r)
   second_relay =
       rw first_relay
-      (is_one b (one a r) _ outB accepted_second (planned_second ∙ ap (λ (s : Slot Path). follows (everywhere s)) (sym same_path)))
+      (is_one b (one a r) _ out_b accepted_second (planned_second ∙ ap (λ (s : Slot Path). follows (everywhere s)) (sym same_path)))
 
   given_alike : (s : Slot Path) → announced_path v' b s ≡ announced_path v b s
   unfolding announced_path announced_rate view_at port_mode changed
@@ -347,7 +347,7 @@ module _ (r : Relay) (t : Tally) (a b : Arrival) (outA outB : List ℕ) (m : Mee
   same_given : given b (one a r) ≡ given b r
   same_given = ap (announced_path v' b) same_path ∙ given_alike (v.path (destination b))
 
-  paths_second : (d : List ℕ) → (view_at b.clock (next b outB (perform (packet a outA) r t)).relay).path d
+  paths_second : (d : List ℕ) → (view_at b.clock (next b out_b (perform (packet a out_a) r t)).relay).path d
       ≡ now_under (destination b) (used (given b r)) (now_under (destination a) (used (given a r)) v.path) d
   unfolding now_under
   paths_second d =
@@ -356,8 +356,8 @@ module _ (r : Relay) (t : Tally) (a b : Arrival) (outA outB : List ℕ) (m : Mee
       ∙ ap₂ (λ (p : Path) (s : Slot Path). same (destination b) d then used p otherwise s) same_given (paths_between d)
 
 -- ---- the other way round
-swapped : (r : Relay) (t : Tally) (a b : Arrival) (outA outB : List ℕ) → Meet r t a b outA outB → Meet r t b a outB outA
-swapped r t a b outA outB m =
+swapped : (r : Relay) (t : Tally) (a b : Arrival) (out_a out_b : List ℕ) → Meet r t a b out_a out_b → Meet r t b a out_b out_a
+swapped r t a b out_a out_b m =
     record {
       ok = m.ok;
       clock = sym m.clock;
@@ -387,15 +387,15 @@ under_both {A} j k apart x y f d = go (same j d) refl (same k d) refl
 
 -- THE CLAIM
 pub either_order : EitherOrder
-either_order r t a b outA outB m =
-    let n : Meet r t b a outB outA = swapped r t a b outA outB m in
+either_order r t a b out_a out_b m =
+    let n : Meet r t b a out_b out_a = swapped r t a b out_a out_b m in
     record {
-      one_second = answered_second r t b a outB outA n;
-      other_second = answered_second r t a b outA outB m;
+      one_second = answered_second r t b a out_b out_a n;
+      other_second = answered_second r t a b out_a out_b m;
       paths = λ d.
-          subst (λ (c : ℕ). (view_at c (next b outB (perform (packet a outA) r t)).relay).path d
+          subst (λ (c : ℕ). (view_at c (next b out_b (perform (packet a out_a) r t)).relay).path d
           ≡ now_under (destination b) (used (given b r)) (now_under (destination a) (used (given a r)) (view_at c r).path) d)
-          (sym m.clock) (paths_second r t a b outA outB m d)
+          (sym m.clock) (paths_second r t a b out_a out_b m d)
           ∙ under_both (destination a) (destination b) m.destinations _ _ _ d
-          ∙ sym (paths_second r t b a outB outA n d);
+          ∙ sym (paths_second r t b a out_b out_a n d);
     }

@@ -20,13 +20,13 @@ free_at clock r i = free (λ p. live clock p.expiry) (get_or r.paths i empty)
 
 -- what is given of the two, a and b, and of the relay that both find: any tables that keep refusal 7, two live records of one key among them. `says_accepted`:
 -- spread or Kept
-pub record Meet (r : Relay) (t : Tally) (a b : Arrival) (outA outB : List ℕ) : Type 0 where
+pub record Meet (r : Relay) (t : Tally) (a b : Arrival) (out_a out_b : List ℕ) : Type 0 where
   pub ok : tables_ok r ≡ true
   pub clock : a.clock ≡ b.clock
   pub destinations : destination a ≡ destination b → ⊥
   pub hashes : hash a ≡ hash b → ⊥
-  pub one_alone : says_accepted (perform (packet a outA) r t).reply ≡ true
-  pub other_alone : says_accepted (perform (packet b outB) r t).reply ≡ true
+  pub one_alone : says_accepted (perform (packet a out_a) r t).reply ≡ true
+  pub other_alone : says_accepted (perform (packet b out_b) r t).reply ≡ true
   -- the two slots
   pub i : ℕ
   pub j : ℕ
@@ -41,10 +41,10 @@ abbrev pub SamePaths : ℕ → Relay → Relay → Type 0
 SamePaths clock r s = (d : List ℕ) → (view_at clock r).path d ≡ (view_at clock s).path d
 
 -- "may come in either order": whichever comes second is answered as it is alone, output bytes too
-pub record InEitherOrder (r : Relay) (t : Tally) (a b : Arrival) (outA outB : List ℕ) : Type 0 where
-  pub one_second : (next a outA (perform (packet b outB) r t)).reply ≡ (perform (packet a outA) r t).reply
-  pub other_second : (next b outB (perform (packet a outA) r t)).reply ≡ (perform (packet b outB) r t).reply
-  pub paths : SamePaths a.clock (next b outB (perform (packet a outA) r t)).relay (next a outA (perform (packet b outB) r t)).relay
+pub record InEitherOrder (r : Relay) (t : Tally) (a b : Arrival) (out_a out_b : List ℕ) : Type 0 where
+  pub one_second : (next a out_a (perform (packet b out_b) r t)).reply ≡ (perform (packet a out_a) r t).reply
+  pub other_second : (next b out_b (perform (packet a out_a) r t)).reply ≡ (perform (packet b out_b) r t).reply
+  pub paths : SamePaths a.clock (next b out_b (perform (packet a out_a) r t)).relay (next a out_a (perform (packet b out_b) r t)).relay
 
 abbrev pub EitherOrder : Type 0
-EitherOrder = (r : Relay) (t : Tally) (a b : Arrival) (outA outB : List ℕ) → Meet r t a b outA outB → InEitherOrder r t a b outA outB
+EitherOrder = (r : Relay) (t : Tally) (a b : Arrival) (out_a out_b : List ℕ) → Meet r t a b out_a out_b → InEitherOrder r t a b out_a out_b

@@ -37,9 +37,9 @@ use Rattle.judging.specs.Seen.{arrival_of, blobs_in, blobs_of, path_record, retu
 
 -- ---- the way on, by the record that is seen
 unfoldable pub link_way_by : Bool → SeenLink → SeenWay
-link_way_by linkProof s =
+link_way_by link_proof s =
     not s.there then Blocked NoLink otherwise
-    s.link.proved or linkProof then AlongLink otherwise
+    s.link.proved or link_proof then AlongLink otherwise
     Blocked NotProved
 
 unfoldable pub return_way_by : SeenReturn → SeenWay

@@ -1,7 +1,7 @@
 // The blobs of a path.
 ghost use Rattle.std.specs.Prelude.{◌≡◌, ◌≤◌};
 ghost use Rattle.numbers.specs.Numbers.{blob_limit};
-ghost use Rattle.rules.specs.Blobs.{held, is_among, greatest, greatest_emission as greatestOf};
+ghost use Rattle.rules.specs.Blobs.{held, is_among, greatest, greatest_emission as greatest_of};
 ghost use Rattle.rules.specs.Blobs.{one_blob, add_blob, store_blob};
 ghost use Rattle.judging.specs.Seen.{blobs_in, blobs_of};
 ghost use Rattle.judging.specs.Steps.{blobs_stored, revived_by};
@@ -40,7 +40,7 @@ fn greater(x: u64, y: u64) -> u64
 // The greatest emission, which the last bytes of a blob say, among the first of the bytes, so many.
 pub fn greatest_emission(blobs: [u8; BLOB_BYTES], count: usize) -> u64
     requires { count ≤ blob_limit }
-    ensures { result ≡ greatestOf (held (blobs_in count blobs)) }
+    ensures { result ≡ greatest_of (held (blobs_in count blobs)) }
 {
     let mut most: u64 = 0;
     let mut i = count;

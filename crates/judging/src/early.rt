@@ -2,7 +2,7 @@
 ghost use Rattle.std.specs.Prelude.{◌≡◌, true};
 ghost use Rattle.octets.specs.Choice.{same};
 ghost use Rattle.packet.specs.Read.{longest_packet, reads};
-ghost use Rattle.rules.specs.Tests.{not_ours, for_marked_path, duplicate as isDuplicate, own_announce, delivered_here};
+ghost use Rattle.rules.specs.Tests.{not_ours, for_marked_path, duplicate as is_duplicate, own_announce, delivered_here};
 ghost use Rattle.judging.specs.Seen.{as_seen};
 
 use super::{Arrived, Seen};
@@ -47,7 +47,7 @@ pub fn for_marked_path(seen: Seen, packet: &[u8], arrived: Arrived) -> bool
 // Test 2: not exempt, not an announce for a marked path, and the hash is remembered.
 pub fn duplicate(seen: Seen, packet: &[u8], arrived: Arrived) -> bool
     requires { reads longest_packet packet.now ≡ true }
-    ensures { result ≡ as_seen isDuplicate seen packet.now arrived }
+    ensures { result ≡ as_seen is_duplicate seen packet.now arrived }
 {
     let marked = for_marked_path(seen, packet, arrived);
     let tested = both(!forms::exempt(packet), !marked);

@@ -2,7 +2,7 @@
 ghost use Rattle.std.specs.Prelude.{◌≡◌, true, length, get_or};
 ghost use Rattle.packet.specs.Read.{longest_packet, reads};
 ghost use Rattle.rules.specs.Tests.{leaving_port};
-ghost use Rattle.rules.specs.Outgoing.{spread_packet, path_packet, outgoing as leavingPacket};
+ghost use Rattle.rules.specs.Outgoing.{spread_packet, path_packet, outgoing as leaving_packet};
 ghost use Rattle.judging.specs.Seen.{arrival_of, no_seen_port, way_of, on_seen_way};
 
 use super::sides::from_answering_side;
@@ -68,7 +68,7 @@ pub fn leaving_port(seen: Seen, packet: &[u8], arrived: Arrived, way: SeenWay) -
 
 pub fn leaving_length(seen: Seen, packet: &[u8], arrived: Arrived, way: SeenWay) -> usize
     requires { reads longest_packet packet.now ≡ true }
-    ensures { result ≡ length (on_seen_way leavingPacket seen packet.now arrived way) }
+    ensures { result ≡ length (on_seen_way leaving_packet seen packet.now arrived way) }
 {
     match way {
         SeenWay::Everywhere => {

@@ -5,10 +5,10 @@ ghost use Rattle.packet.specs.Places.{blob_end};
 ghost use Rattle.packet.specs.Read.{longest_packet, reads, payload};
 ghost use Rattle.numbers.specs.Numbers.{blob_limit, clock_limit};
 ghost use Rattle.rules.specs.Relay.{used};
-ghost use Rattle.rules.specs.Arrival.{destination as destinationOf};
+ghost use Rattle.rules.specs.Arrival.{destination as destination_of};
 ghost use Rattle.rules.specs.Refusals.{rate_settings_ok, rate_entry_ok};
 ghost use Rattle.rules.specs.Writes.{link_record, renewed_link, announced_path};
-ghost use Rattle.rules.specs.Writes.{remembers as isRemembered};
+ghost use Rattle.rules.specs.Writes.{remembers as is_remembered};
 ghost use Rattle.judging.specs.Seen.{arrival_of, path_record, path_of, PathFits, plan_of, as_seen};
 ghost use Rattle.judging.specs.Steps.{settings_view, blobs_stored, rate_announced, blobs_announced};
 ghost use Rattle.judging.specs.Steps.{LimitsPath, LeavesReturn, plan_remembers};
@@ -72,9 +72,9 @@ pub fn announced_path(
 ) -> SeenPath
     requires { (reads longest_packet packet.now ≡ true) × (blob_end ≤ length (payload packet.now))
         × (rate_settings_ok settings ≡ true) × PathFits known × (arrived.clock < clock_limit) }
-    ensures { (path_of (destinationOf (arrival_of packet.now arrived)) result
+    ensures { (path_of (destination_of (arrival_of packet.now arrived)) result
         ≡ used (announced_path (settings_view settings mode) (arrival_of packet.now arrived)
-        (path_of (destinationOf (arrival_of packet.now arrived)) known))) × PathFits result }
+        (path_of (destination_of (arrival_of packet.now arrived)) known))) × PathFits result }
 {
     let parts = packet::parts_of(packet);
     let next_hop = forms::next_hop_of(packet);
@@ -133,7 +133,7 @@ pub fn return_record(path: SeenPath, arrived: Arrived) -> SeenReturn
 pub fn link_record(path: SeenPath, packet: &[u8], arrived: Arrived) -> Link
     requires { (reads longest_packet packet.now ≡ true) × (arrived.clock < clock_limit) }
     ensures { result ≡ link_record (arrival_of packet.now arrived)
-        (path_record (destinationOf (arrival_of packet.now arrived)) path) }
+        (path_record (destination_of (arrival_of packet.now arrived)) path) }
 {
     let id = packet::link_id_of(packet);
     let lifetime = HOP_LIFETIME * (octets::wide(path.hops) + 1);
@@ -185,7 +185,7 @@ fn plan_remembers(planned: Planned) -> bool
 // Whether the packet's hash is remembered: an exempt packet's is not, nor one that is already live.
 pub fn remembers(seen: Seen, packet: &[u8], arrived: Arrived, planned: Planned) -> bool
     requires { reads longest_packet packet.now ≡ true }
-    ensures { result ≡ as_seen isRemembered seen packet.now arrived
+    ensures { result ≡ as_seen is_remembered seen packet.now arrived
         (plan_of seen (arrival_of packet.now arrived) planned) }
 {
     let live = both(for_marked_path(seen, packet, arrived), seen.remembered);

@@ -42,18 +42,18 @@ way_words hops destination = hops_word ∷ decimal hops ∷ to_word ∷ hexadeci
 
 -- context and the payload's length
 abbrev pub payload_words : ℕ → ℕ → List (List ℕ)
-payload_words context payloadLength = context_word ∷ hexadecimal (context ∷ []) ∷ payload_word ∷ decimal payloadLength ∷ []
+payload_words context payload_length = context_word ∷ hexadecimal (context ∷ []) ∷ payload_word ∷ decimal payload_length ∷ []
 
 -- type 2 adds ` by` and the relay address at the end
 unfoldable pub relay_words : ℕ → List ℕ → List (List ℕ)
 relay_words header relay = type_two header then by_word ∷ hexadecimal relay ∷ [] otherwise []
 
 unfoldable pub parts_words : Parts → ℕ → List (List ℕ)
-parts_words q payloadLength =
+parts_words q payload_length =
     type_name q.header
     ∷ (name_words q.header
     ++ (way_words q.hops q.destination
-    ++ (payload_words q.context payloadLength
+    ++ (payload_words q.context payload_length
     ++ relay_words q.header q.relay)))
 
 -- a bad packet: `refused` and the number. Wish 11: "Callers of the packet reader say which size they mean, the showing program and the edges 500"

@@ -6,7 +6,7 @@
 ghost use Rattle.std.specs.Prelude.{◌≡◌, ◌+◌, ◌≤◌, length};
 ghost use Rattle.octets.specs.Part.{patch};
 ghost use Rattle.codes.specs.Form.{code};
-ghost use Rattle.notes.specs.Notes.{no_notes, noted as notedAfter, notes_form, notes_width, notes_bytes};
+ghost use Rattle.notes.specs.Notes.{no_notes, noted as noted_after, notes_form, notes_width, notes_bytes};
 
 // What the host has noted of a path, in its record: whether it is marked unresponsive.
 #[derive(Clone, Copy)]
@@ -32,7 +32,7 @@ pub fn none() -> Notes
 
 // What is noted after a note.
 pub fn noted(notes: Notes, note: Note) -> Notes
-    ensures { result ≡ notedAfter note notes }
+    ensures { result ≡ noted_after note notes }
 {
     match note {
         Note::Unresponsive => Notes { marked: true },

@@ -110,12 +110,12 @@ module _ (log : List ℕ) (n : ℕ) (a : Arrival) (room : ℕ) (none : eqb (pack
   pub accepted_packet : NotRefused log n a room
   unfolding rows read packet_refused packet_rows known_in reads
   accepted_packet =
-      let (under, (wide, (on, (inTime, _)))) = passed in
+      let (under, (wide, (on, (in_time, _)))) = passed in
       record {
         few = omega (arith, leb-false list_limit (length (entries_of log n)) under, entries_length log n);
         wide = ltb-false room least_output wide;
         port = on_port log n a.port (not-false _ on);
-        clock = leb-false clock_limit a.clock (or_no_left _ _ inTime);
+        clock = leb-false clock_limit a.clock (or_no_left _ _ in_time);
         readable = reads_longest ((known_of (own_in log) (entries_of log n)).port a.port).size a.bytes
             (sym (ap (λ (x : ℕ). eqb x 0) (none_first rows read passed)) ∙ none);
       }

@@ -14,8 +14,8 @@ pub record CanLeave (p : List ℕ) : Type 0 where
 
 -- the parts of the packet under another header and relay address, hops + 1
 abbrev pub rewritten_parts : ℕ → List ℕ → List ℕ → Parts
-rewritten_parts newHeader relay p =
-    record { header = newHeader; hops = (parts_of p).hops + 1; relay = relay; destination = (parts_of p).destination; context = (parts_of p).context }
+rewritten_parts new_header relay p =
+    record { header = new_header; hops = (parts_of p).hops + 1; relay = relay; destination = (parts_of p).destination; context = (parts_of p).context }
 
 -- how long an announce is once spread: as a packet of type 2
 unfoldable pub spread_length : List ℕ → ℕ

@@ -1,7 +1,7 @@
 // The packets that leave, written at the start of the output.
 ghost use Rattle.std.specs.Prelude.{◌≡◌, ◌+◌, ◌≤◌, length};
 ghost use Rattle.octets.specs.Part.{patch};
-ghost use Rattle.packet.specs.Read.{longest_packet, payload_start, payload as payloadOf};
+ghost use Rattle.packet.specs.Read.{longest_packet, payload_start, payload as payload_of};
 ghost use Rattle.rules.specs.Outgoing.{spread_header, rewritten, spread_packet, path_packet, carried_packet};
 ghost use Rattle.outgoing.specs.Leaving.{CanLeave, rewritten_parts, spread_length, path_length};
 
@@ -34,7 +34,7 @@ fn rewritten_parts(packet: &[u8], header: u8, relay: [u8; 16]) -> Parts
 // Writes a packet under another header and relay address, hops + 1, and says how long it is.
 fn rewrite(packet: &[u8], header: u8, relay: [u8; 16], output: &mut [u8]) -> usize
     requires { CanLeave packet.now
-        × (payload_start header + length (payloadOf packet.now) ≤ length output.old) }
+        × (payload_start header + length (payload_of packet.now) ≤ length output.old) }
     ensures { (result ≡ length (rewritten header relay packet.now))
         × (output.new ≡ patch output.old 0 (rewritten header relay packet.now)) }
 {

@@ -1,6 +1,6 @@
 // The bits of the header byte.
 ghost use Rattle.std.specs.Prelude.{◌≡◌};
-ghost use Rattle.packet.specs.Header.{access_code, type_two, context_flag, transport as transportBit, destination_kind, of_kind_single, of_kind_link, packet_kind, is_data, is_announce, is_link_request, is_proof};
+ghost use Rattle.packet.specs.Header.{access_code, type_two, context_flag, transport as transport_bit, destination_kind, of_kind_single, of_kind_link, packet_kind, is_data, is_announce, is_link_request, is_proof};
 
 // Bit 7.
 pub fn access_code(header: u8) -> bool
@@ -25,7 +25,7 @@ pub fn context_flag(header: u8) -> bool
 
 // Bit 4.
 pub fn transport(header: u8) -> bool
-    ensures { result ≡ transportBit header }
+    ensures { result ≡ transport_bit header }
 {
     header / 16 % 2 == 1
 }

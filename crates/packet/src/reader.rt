@@ -3,7 +3,7 @@ ghost use Rattle.std.specs.Prelude.{◌≡◌, ◌≤◌, length, drop};
 ghost use Rattle.octets.specs.Part.{part};
 ghost use Rattle.numbers.specs.Numbers.{is_size};
 ghost use Rattle.packet.specs.Places.{type_one_start, type_two_start};
-ghost use Rattle.packet.specs.Read.{header_of, type_one_parts, type_two_parts, parts_of, payload_start, payload as payloadOf, reading_refusal, no_parts, reading};
+ghost use Rattle.packet.specs.Read.{header_of, type_one_parts, type_two_parts, parts_of, payload_start, payload as payload_of, reading_refusal, no_parts, reading};
 
 use super::header::{access_code, type_two};
 use super::places::{
@@ -57,7 +57,7 @@ pub fn part_of(s: &[u8], at: usize, n: usize) -> &[u8]
 
 // The payload: a part of the packet that was lent, not a copy.
 pub fn payload(packet: &[u8]) -> &[u8]
-    ensures { result.now ≡ payloadOf packet.now }
+    ensures { result.now ≡ payload_of packet.now }
 {
     let at = payload_start(header_of(packet));
     from(packet, at)

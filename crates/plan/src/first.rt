@@ -2,7 +2,7 @@
 ghost use Rattle.std.specs.Prelude.{◌≡◌};
 ghost use Rattle.packet.specs.Read.{parts_of};
 ghost use Rattle.rules.specs.View.{is_local};
-ghost use Rattle.rules.specs.Tests.{not_ours, duplicate as isDuplicate, own_announce, delivered_here};
+ghost use Rattle.rules.specs.Tests.{not_ours, duplicate as is_duplicate, own_announce, delivered_here};
 ghost use Rattle.tables.specs.Layout.{relay_of};
 ghost use Rattle.plan.specs.Decided.{arrival_of, CanRead, used_hash, hash_live, seen};
 ghost use Rattle.plan.specs.First.{first_tests};
@@ -46,7 +46,7 @@ pub fn hash_live(tables: &[u8], packet: &[u8], arrived: Arrived, hash: [u8; 32])
 fn duplicate(tables: &[u8], packet: &[u8], arrived: Arrived, live: bool) -> bool
     requires { CanRead packet.now tables.now
         × (live ≡ hash_live (seen arrived tables.now) (arrival_of packet.now arrived)) }
-    ensures { result ≡ isDuplicate (seen arrived tables.now) (arrival_of packet.now arrived) }
+    ensures { result ≡ is_duplicate (seen arrived tables.now) (arrival_of packet.now arrived) }
 {
     if live {
         return !for_marked_path(tables, packet, arrived);

@@ -5,7 +5,7 @@
 ghost use Rattle.std.specs.Prelude.{◌≡◌, true, ◌-◌, ◌<◌};
 ghost use Rattle.numbers.specs.Numbers.{clock_limit};
 ghost use Rattle.rules.specs.Relay.{make_rate_entry};
-ghost use Rattle.rules.specs.Rate.{drops as dropsWith, lets_by, one_more, violated as violatedBy, rated};
+ghost use Rattle.rules.specs.Rate.{drops as drops_with, lets_by, one_more, violated as violated_by, rated};
 ghost use Rattle.rules.specs.Refusals.{rate_settings_ok, rate_entry_ok};
 
 use numbers::VIOLATION_LIMIT;
@@ -32,7 +32,7 @@ fn one_less(violations: u8) -> u8
 }
 
 fn drops(violations: u8, blocked_until: u64) -> Rated
-    ensures { result ≡ dropsWith violations blocked_until }
+    ensures { result ≡ drops_with violations blocked_until }
 {
     Rated {
         dropped: true,
@@ -55,7 +55,7 @@ fn lets_by(violations: u8, blocked_until: u64) -> Rated
 fn violated(settings: RateSettings, last: u64, blocked_until: u64, violations: u8) -> Rated
     requires { (rate_settings_ok settings ≡ true) × (last < clock_limit) }
     ensures { result
-        ≡ violatedBy settings (make_rate_entry last violations blocked_until) (one_more violations) }
+        ≡ violated_by settings (make_rate_entry last violations blocked_until) (one_more violations) }
 {
     let count = one_more(violations);
     if settings.grace < octets::wide(count) {

@@ -19,7 +19,7 @@ use Rattle.tables.specs.Layout.{relay_of, well_formed}
 use Rattle.tables.proofs.Whole.{again}
 use Rattle.plan.specs.declared.Arrived.{Arrived}
 use Rattle.plan.specs.declared.Decision.{Decision}
-use Rattle.plan.specs.declared.Decision.TheVariants as decided-as
+use Rattle.plan.specs.declared.Decision.TheVariants as decided_as
 use Rattle.plan.specs.Decided.{arrival_of, decided, decision}
 use Rattle.update.specs.Written.{clock_written}
 use Rattle.act.specs.Stored.{stamped}
@@ -100,10 +100,10 @@ module _ (packet : List ℕ) (port clock : ℕ) (signed : Bool) (t : List ℕ) (
         → u ≡ clock_written t m.clock → after ≡ counted (Drop NotOurs) tally → Promises promise (Judged (Drop NotOurs)) after u output
     unfolding decision decided plan early_tests first_of stamped ◌then◌otherwise◌
     not_ours_promised b ours after u q n =
-        let d : decision (relay_of t) (arrival_of packet m) ≡ decided-as.Drop NotOurs = rw ours in
+        let d : decision (relay_of t) (arrival_of packet m) ≡ decided_as.Drop NotOurs = rw ours in
         let same = drop_stays packet m t accepted.formed b NotOurs (λ e. omega (arith, e)) in
         let left = drop_left packet m t accepted b output NotOurs d (Drop NotOurs) t refl same in
-        let drop : Decision = decided-as.Drop NotOurs in
+        let drop : Decision = decided_as.Drop NotOurs in
         let forgets : false ≡ remembered_on packet m t = sym (forgotten packet m t drop refl) ∙ remembered_by packet m t drop d in
         let stamped = stamp_left packet m t accepted b _ t _ false refl left.1 refl forgets in
         judged_promised (Drop NotOurs) after u output left.0 (q ∙ stamped) left.2 n

@@ -82,7 +82,7 @@ module _ (packet : List ℕ) (port clock : ℕ) (t : List ℕ) (room : ℕ) (non
 
   pub accepted_clock : clock < clock_limit
   unfolding packet_rows
-  accepted_clock = let (_, (_, (_, (inTime, _)))) = passed_rows in leb-false _ _ (or_no_left _ _ inTime)
+  accepted_clock = let (_, (_, (_, (in_time, _)))) = passed_rows in leb-false _ _ (or_no_left _ _ in_time)
 
   -- as a byte
   pub accepted_byte : port % 256 ≡ port

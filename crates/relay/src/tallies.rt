@@ -1,6 +1,6 @@
 // The tally of answers.
 ghost use Rattle.std.specs.Prelude.{◌≡◌};
-ghost use Rattle.rules.specs.Calls.{up as more, counted as countedBy};
+ghost use Rattle.rules.specs.Calls.{up as more, counted as counted_by};
 
 use rules::{Tally, Verdict};
 
@@ -13,7 +13,7 @@ fn up(counter: u32) -> u32
 
 // One more accepted packet, of this verdict.
 pub fn counted(verdict: Verdict, tally: Tally) -> Tally
-    ensures { result ≡ countedBy verdict tally }
+    ensures { result ≡ counted_by verdict tally }
 {
     let mut t = tally;
     t.total = up(tally.total);

@@ -41,20 +41,20 @@ use Rattle.renumbering.specs.Renamed.{renamed_paths, renamed_links, renamed_retu
 
 -- ---- one record
 -- an unused record stays; a used one is its bytes
-module _ {A : Type 0} (w : ℕ) (recordBytes : A → List ℕ) (record_of : List ℕ → A) {ok : List ℕ → Bool}
-    (c : Lent w (slot_bytes w recordBytes) (slot_of record_of) ok) (f : A → A)
+module _ {A : Type 0} (w : ℕ) (record_bytes : A → List ℕ) (record_of : List ℕ → A) {ok : List ℕ → Bool}
+    (c : Lent w (slot_bytes w record_bytes) (slot_of record_of) ok) (f : A → A)
     (b : List ℕ) (bs : Bytes b) (l : length b ≡ w) (h : ok b ≡ true) where
-  pub unused_stays : get_or b 0 0 ≡ 0 → b ≡ slot_bytes w recordBytes (rename_slot f (slot_of record_of b))
+  pub unused_stays : get_or b 0 0 ≡ 0 → b ≡ slot_bytes w record_bytes (rename_slot f (slot_of record_of b))
   unfolding slot_of rename_slot ◌then◌otherwise◌
   unused_stays z = sym (rw (eq-eqb (get_or b 0 0) 0 z) (rw (eq-eqb (get_or b 0 0) 0 z) at (c.again b bs l h)))
 
-  used_bytes : (get_or b 0 0 ≡ 0 → ⊥) → 1 ∷ recordBytes (record_of b) ≡ b
+  used_bytes : (get_or b 0 0 ≡ 0 → ⊥) → 1 ∷ record_bytes (record_of b) ≡ b
   unfolding slot_of slot_bytes ◌then◌otherwise◌
   used_bytes n = rw (ne_eqb (get_or b 0 0) 0 n) at (c.again b bs l h)
 
   -- a used record that is written over as the renaming says
-  used_renamed : (get_or b 0 0 ≡ 0 → ⊥) → (b' : List ℕ) → b' ≡ 1 ∷ recordBytes (f (record_of b))
-      → b' ≡ slot_bytes w recordBytes (rename_slot f (slot_of record_of b))
+  used_renamed : (get_or b 0 0 ≡ 0 → ⊥) → (b' : List ℕ) → b' ≡ 1 ∷ record_bytes (f (record_of b))
+      → b' ≡ slot_bytes w record_bytes (rename_slot f (slot_of record_of b))
   unfolding slot_of slot_bytes rename_slot ◌then◌otherwise◌
   used_renamed n b' e = rw (ne_eqb (get_or b 0 0) 0 n) e
 

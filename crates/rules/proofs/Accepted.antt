@@ -37,11 +37,11 @@ module _ (r : Relay) (a : Arrival) (room : ℕ) (accepted : eqb (packet_refusal 
   pub accepted_packet : Accepted r a
   unfolding refusal_by packet_rows port_on all_give refuses ◌and◌
   accepted_packet =
-      let (_, (_, (on, (inTime, _)))) = rows_passed (packet_rows r a.port a.clock room) _ refl accepted in
+      let (_, (_, (on, (in_time, _)))) = rows_passed (packet_rows r a.port a.clock room) _ refl accepted in
       record {
         port = ltb-true _ _ (and_left _ _ (not-false _ on));
-        clock = leb-false _ _ (or_no_left _ _ inTime);
-        not_before = ltb-false _ _ (or_no_right _ _ inTime);
+        clock = leb-false _ _ (or_no_left _ _ in_time);
+        not_before = ltb-false _ _ (or_no_right _ _ in_time);
       }
 
   -- the packet reads at the arrival port's size

@@ -439,10 +439,10 @@ module _ (l : Link) (deadline : ℕ) where
 -- ---- the second theorem: from any relay that has the link up, over any list in which its keepalives come in time
 pub keepalives_keep : (l : Link) (cs : List Call) (deadline : ℕ) (r : Relay) (t : Tally) → Starts l deadline r → InTime l deadline cs r t → Lasts l cs r t
 unfolding InTime Lasts
-keepalives_keep l [] deadline r t s inTime = tt
-keepalives_keep l (c ∷ cs) deadline r t s inTime =
-    let next : Starts l (next_deadline r l deadline c (accepted c r)) (perform c r t).relay = call_up l deadline c r t s inTime.0 in (
-      call_carried l deadline c r t s inTime.0,
+keepalives_keep l [] deadline r t s in_time = tt
+keepalives_keep l (c ∷ cs) deadline r t s in_time =
+    let next : Starts l (next_deadline r l deadline c (accepted c r)) (perform c r t).relay = call_up l deadline c r t s in_time.0 in (
+      call_carried l deadline c r t s in_time.0,
       (next.expiry, next.up.lives),
-      keepalives_keep l cs (next_deadline r l deadline c (accepted c r)) (perform c r t).relay (perform c r t).tally next inTime.1,
+      keepalives_keep l cs (next_deadline r l deadline c (accepted c r)) (perform c r t).relay (perform c r t).tally next in_time.1,
     )

@@ -11,9 +11,9 @@ use Rattle.rules.specs.Answers.{port_set}
 
 -- p are a packet's bytes: the packet under another header and relay address, hops + 1
 unfoldable pub rewritten : ℕ → List ℕ → List ℕ → List ℕ
-rewritten newHeader relay p =
+rewritten new_header relay p =
     packet_of
-    (record { header = newHeader; hops = (parts_of p).hops + 1; relay = relay; destination = (parts_of p).destination; context = (parts_of p).context })
+    (record { header = new_header; hops = (parts_of p).hops + 1; relay = relay; destination = (parts_of p).destination; context = (parts_of p).context })
     (payload p)
 
 -- bits 6 and 4 set, low six otherwise as received

@@ -28,8 +28,8 @@ path_way empty expired = blocked (no_path expired)
 path_way (used p) expired = by_path p
 
 unfoldable pub link_way : Bool → Slot Link → Way
-link_way linkProof empty = blocked NoLink
-link_way linkProof (used l) = l.proved or linkProof then along_link l otherwise blocked NotProved
+link_way link_proof empty = blocked NoLink
+link_way link_proof (used l) = l.proved or link_proof then along_link l otherwise blocked NotProved
 
 unfoldable pub return_way : Slot Return → Way
 return_way empty = blocked NoReturn

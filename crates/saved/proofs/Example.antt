@@ -29,7 +29,7 @@ use Rattle.rules.proofs.Unfolding.{rules}
 use Rattle.rules.proofs.Outcomes.{relay_of, known_path, link_of, return_of}
 use Rattle.tables.specs.Forms.{blob_width, port_form_in, path_form_in, path_form, relay_form_in, relay_form}
 use Rattle.tables.specs.Places.{port_width, path_width, ports_at, table_size}
-use Rattle.tables.specs.Layout.{relay_of as layoutRelay, bytes_of, well_formed}
+use Rattle.tables.specs.Layout.{relay_of as layout_relay, bytes_of, well_formed}
 use Rattle.tables.specs.Shape.{is_byte, is_bytes, notes_shaped, path_shaped, link_shaped, return_shaped, hash_shaped, shaped}
 use Rattle.tables.proofs.Whole.{relay_good, back, ok_bytes, bytes_bytes}
 use Rattle.editions.specs.Editions.{older_blob_limit, edition1, current_edition, is_known_by, is_known, held, current, width_at}
@@ -159,9 +159,9 @@ unfolding big_endian
 begins =
     ap (take 52)
     (written_file tables tally are_bytes well small room large
-    ∙ file_made (layoutRelay tables, tally)
-    ∙ sym (append_assoc start_bytes (contents_bytes body_count) ((code current).write (layoutRelay tables, tally)))
-    ∙ ap (λ (r : List ℕ). r ++ (code current).write (layoutRelay tables, tally)) start)
+    ∙ file_made (layout_relay tables, tally)
+    ∙ sym (append_assoc start_bytes (contents_bytes body_count) ((code current).write (layout_relay tables, tally)))
+    ∙ ap (λ (r : List ℕ). r ++ (code current).write (layout_relay tables, tally)) start)
 
 -- ---- the refusals of a load
 -- eight empty bodies: nothing is wrong with the contents

@@ -12,7 +12,7 @@ use Rattle.octets.specs.Choice.{◌then◌otherwise◌}
 use Rattle.octets.proofs.Choice.{then_true, then_false}
 use Rattle.rules.specs.Relay.{Relay}
 use Rattle.rules.specs.Refusals.{tables_ok}
-use Rattle.rules.specs.Saved.{save_refusal as saveRefusalOf, load_refusal as loadRefusalOf}
+use Rattle.rules.specs.Saved.{save_refusal as save_refusal_of, load_refusal as load_refusal_of}
 use Rattle.rules.specs.Calls.{new_tally}
 use Rattle.rules.specs.declared.Tally.{Tally}
 use Rattle.rules.proofs.History.{TallyFits}
@@ -31,8 +31,8 @@ use Rattle.saved.proofs.Made.{made_taken, made_held, made_bytes}
 use Rattle.saved.proofs.RoundTrip.{held_right, loaded_formed, loaded_bytes, loaded_fits, loaded_relay}
 
 -- a save of a relay's bytes is refused as that of the relay
-pub save_refused_alike : (r : Relay) → shaped r ≡ true → tables_ok r ≡ true → (room : ℕ) → save_refusal (bytes_of r) room ≡ saveRefusalOf saved_format room r
-unfolding save_refusal save_rows saveRefusalOf
+pub save_refused_alike : (r : Relay) → shaped r ≡ true → tables_ok r ≡ true → (room : ℕ) → save_refusal (bytes_of r) room ≡ save_refusal_of saved_format room r
+unfolding save_refusal save_rows save_refusal_of
 save_refused_alike r s ok room = rw (ok, ok_bytes r s ok)
 
 module _ (f : List ℕ) (b : Bytes f) where
@@ -62,8 +62,8 @@ module _ (f : List ℕ) (b : Bytes f) where
         (load_done f into new_tally (ap (load_refusal f) (length-replicate {A = ℕ} table_size 0) ∙ ok)))
         (loaded_fits f into new_tally b loads)
 
-  pub load_refused_alike : loadRefusalOf (said_by f) ≡ load_refusal f table_size
-  unfolding loadRefusalOf said_by
+  pub load_refused_alike : load_refusal_of (said_by f) ≡ load_refusal f table_size
+  unfolding load_refusal_of said_by
   load_refused_alike = go (eqb (load_refusal f table_size) 0) refl
     where
       go : (v : Bool) → eqb (load_refusal f table_size) 0 ≡ v

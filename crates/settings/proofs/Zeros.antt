@@ -55,15 +55,15 @@ number_zeros zero = nil_zeros
 number_zeros (suc n) = append_zeros (number_zeros n) (record { each = one_each })
 
 -- a table of unused records
-module _ {A : Type 0} (w : ℕ) (recordBytes : A → List ℕ) where
-  joined_zeros : (n : ℕ) → Zeros (joined (slot_bytes w recordBytes) (replicate n empty))
+module _ {A : Type 0} (w : ℕ) (record_bytes : A → List ℕ) where
+  joined_zeros : (n : ℕ) → Zeros (joined (slot_bytes w record_bytes) (replicate n empty))
   unfolding joined slot_bytes
   joined_zeros zero = nil_zeros
   joined_zeros (suc n) = append_zeros (all_zeros w) (joined_zeros n)
 
-  slots_zeros : (n : ℕ) → Zeros (fields (slot_bytes w recordBytes) n empty (replicate n empty))
+  slots_zeros : (n : ℕ) → Zeros (fields (slot_bytes w record_bytes) n empty (replicate n empty))
   slots_zeros n =
-      subst Zeros (sym (fields_all (slot_bytes w recordBytes) n empty (replicate n empty) (length-replicate n empty))) (joined_zeros n)
+      subst Zeros (sym (fields_all (slot_bytes w record_bytes) n empty (replicate n empty) (length-replicate n empty))) (joined_zeros n)
 
 same_zeros : (x y : List ℕ) → length x ≡ length y → Zeros x → Zeros y → x ≡ y
 same_zeros x y e p q = ext_get_or 0 x y e (λ i l. p.each i ∙ sym (q.each i))

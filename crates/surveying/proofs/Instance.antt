@@ -13,7 +13,7 @@ use Rattle.rules.specs.Relay.{no_port, empty, used, Relay, with_locals}
 use Rattle.rules.specs.View.{is_local}
 use Rattle.rules.specs.Refusals.{tables_ok}
 use Rattle.rules.proofs.Unfolding.{rules}
-use Rattle.rules.proofs.Outcomes.{relay_of as relayAt, known_path}
+use Rattle.rules.proofs.Outcomes.{relay_of as relay_at, known_path}
 use Rattle.tables.specs.Places.{address_width}
 use Rattle.tables.specs.Layout.{relay_of}
 use Rattle.tables.specs.Shape.{is_byte, is_bytes, notes_shaped, path_shaped, shaped}
@@ -79,7 +79,7 @@ abbrev guest : List ℕ
 guest = replicate address_width 0x0b
 
 abbrev site : Relay
-site = with_locals (set (replicate local_count empty) 3 (used guest)) (relayAt 2000 (used known_path ∷ []) [] [] [])
+site = with_locals (set (replicate local_count empty) 3 (used guest)) (relay_at 2000 (used known_path ∷ []) [] [] [])
 
 site_shaped : shaped site ≡ true
 unfolding rules shaped is_bytes is_byte path_shaped notes_shaped

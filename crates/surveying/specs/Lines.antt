@@ -22,10 +22,10 @@ unfoldable pub fraction_word : Fraction → List ℕ
 fraction_word f = decimal f.above ++ (stroke ∷ decimal f.below)
 
 -- "one line for each of the sixteen ports, rising, as `port 3 packets 10 in 900 out 450 dropped 1/5`"
-abbrev pub port_line : (port packets bytesIn bytesOut dropped : ℕ) → List ℕ
-port_line port packets bytesIn bytesOut dropped =
+abbrev pub port_line : (port packets bytes_in bytes_out dropped : ℕ) → List ℕ
+port_line port packets bytes_in bytes_out dropped =
     words_line
-    (port_word ∷ decimal port ∷ packets_word ∷ decimal packets ∷ in_word ∷ decimal bytesIn ∷ out_word ∷ decimal bytesOut ∷ dropped_word ∷
+    (port_word ∷ decimal port ∷ packets_word ∷ decimal packets ∷ in_word ∷ decimal bytes_in ∷ out_word ∷ decimal bytes_out ∷ dropped_word ∷
     fraction_word (share dropped packets) ∷ [])
 
 -- "one for each test .., as `reason 2 2`"

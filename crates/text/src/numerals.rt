@@ -1,6 +1,6 @@
 // Numbers in digits.
 ghost use Rattle.std.specs.Prelude.{◌≡◌, ◌<◌, ◌≤◌, length, drop};
-ghost use Rattle.text.specs.Numerals.{digit as digitOf, decimal, most_digits, hexadecimal_byte, hexadecimal};
+ghost use Rattle.text.specs.Numerals.{digit as digit_of, decimal, most_digits, hexadecimal_byte, hexadecimal};
 ghost use Rattle.text.specs.Text.{appended};
 
 use super::{Text, with_text};
@@ -13,7 +13,7 @@ const LAST_DIGIT: usize = MOST_DIGITS - 1;
 // The character of a digit: 0 to 9, a to f.
 fn digit(n: u64) -> u8
     requires { n < 16 }
-    ensures { result ≡ digitOf n }
+    ensures { result ≡ digit_of n }
 {
     if n < 10 {
         return (48 + n) as u8;

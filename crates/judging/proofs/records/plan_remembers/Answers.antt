@@ -5,8 +5,8 @@ use Prim.Native.Nat.{ℕ}
 use mathlib.Core.List.{List, [], ◌∷◌}
 use types.Run.{OneOf, miss}
 use denote.Enum.Declared.{tag_of}
-use Rattle.rules.specs.contracts.Reason.{the_type as reason-type}
-use Rattle.judging.specs.contracts.Planned.{the_type as planned-type}
+use Rattle.rules.specs.contracts.Reason.{the_type as reason_type}
+use Rattle.judging.specs.contracts.Planned.{the_type as planned_type}
 use Rattle.rules.specs.declared.Reason.{Reason}
 use Rattle.rules.specs.declared.Reason.TheVariants.{NotOurs, Duplicate, BadForm, OwnAnnounce, TooManyHops, NoWayOn, AlreadyKnown, WrongSide, NotSigned, Replay, NotBetter, RateLimited, PortOff, TooLongForPort, NoRoom}
 use Rattle.rules.specs.Writes.{remembers_drop}
@@ -22,13 +22,13 @@ abbrev later : List ℕ
 later = 2 ∷ 3 ∷ 4 ∷ 5 ∷ 6 ∷ 7 ∷ 8 ∷ 9 ∷ 10 ∷ 11 ∷ 12 ∷ 13 ∷ 14 ∷ []
 
 -- all but a drop
-remembered : (d : Planned) → OneOf others (tag_of planned-type d) → true ≡ plan_remembers d
+remembered : (d : Planned) → OneOf others (tag_of planned_type d) → true ≡ plan_remembers d
 remembered (Drop reason) is = absurd (miss others 0 tt is)
 remembered Deliver is = refl
 remembered (Follow w) is = refl
 
 -- all drops but 1 and 2
-behind : (reason : Reason) → OneOf later (tag_of reason-type reason) → true ≡ remembers_drop reason
+behind : (reason : Reason) → OneOf later (tag_of reason_type reason) → true ≡ remembers_drop reason
 behind NotOurs is = absurd (miss later 0 tt is)
 behind Duplicate is = absurd (miss later 1 tt is)
 behind (BadForm clause) is = refl

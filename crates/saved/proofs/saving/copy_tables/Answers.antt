@@ -22,8 +22,8 @@ in_two room tables k size split fits =
     ∙ sym (part_split tables 0 k (table_size - k)) ∙ ap (part tables 0) split ∙ part_whole tables table_size size)
 
 -- what stands before the next multiple of 16 in the file
-abbrev firstPart : ℕ
-firstPart = 16 - bodies_at % 16
+abbrev first_part : ℕ
+first_part = 16 - bodies_at % 16
 
 pub returns : goal.returns
 unfolding part
@@ -32,6 +32,6 @@ returns c =
     let room = a.room.now in
     let tables = a.tables.now in
     c.copy_at-2.ensures
-    ∙ ap (λ (r : List ℕ). patch r (bodies_at + firstPart) (part tables firstPart (table_size - firstPart)))
+    ∙ ap (λ (r : List ℕ). patch r (bodies_at + first_part) (part tables first_part (table_size - first_part)))
     c.copy_at.ensures
-    ∙ in_two room tables firstPart c.requires.0 (omega arith) c.requires.1
+    ∙ in_two room tables first_part c.requires.0 (omega arith) c.requires.1
