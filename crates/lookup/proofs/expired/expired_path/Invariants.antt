@@ -1,0 +1,13 @@
+use Prim.Native.Nat.{◌-◌, ◌≤◌}
+use mathlib.Core.Path.{◌≡◌}
+use Rattle.numbers.specs.Numbers.{path_count}
+use Rattle.rules.specs.View.{latest}
+use Rattle.lookup.specs.Expired.{latest_of, expiry_at}
+use Rattle.lookup.proofs.expired.expired_path.Given as goal
+
+abbrev pub invariant-loop-i : goal.invariant-loop-i
+invariant-loop-i l =
+    (l.i ≤ path_count) × (l.latest ≡ latest_of (latest (expiry_at l.clock l.destination l.tables) l.i))
+
+abbrev pub decreases-loop-i : goal.decreases-loop-i
+decreases-loop-i l = path_count - l.i

@@ -1,0 +1,6 @@
+use Rattle.tables.specs.Records.{path_of}
+use Rattle.lookup.proofs.paths.rate_of.Goals as goal
+
+pub returns : goal.returns
+unfolding path_of
+returns c = rw (c.number_of_8_at-last.ensures, c.number_of_8_at-blocked_until.ensures)
