@@ -5,7 +5,6 @@ use mathlib.Core.List.{List}
 use mathlib.Core.Path.{◌≡◌, ap, ◌∙◌}
 use lib.ListN.{length, get_or, set}
 use borrow.Author.Tests.{ltb-true}
-use Rattle.octets.specs.Choice.{◌then◌otherwise◌}
 use Rattle.octets.specs.Part.{patch}
 use Rattle.octets.specs.BigEndian.{big_endian}
 use Rattle.numbers.specs.Numbers.{path_count, link_count, return_count, hash_count}
