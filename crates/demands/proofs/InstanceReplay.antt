@@ -1,8 +1,8 @@
 -- The theorems on a recording: a packet that is refused, an announce, the same once more, which drops, and data that is carried.
-use Prim.Native.Nat.{ℕ, zero, suc, ◌+◌, ◌≤◌, ◌<◌}
+use Prim.Native.Nat.{ℕ, zero, suc, ◌<◌}
 use native.Mathlib.Omega.{arith}
 use mathlib.Core.Bool.{Bool, true, false}
-use mathlib.Core.List.{List, [], ◌∷◌, ◌++◌, map}
+use mathlib.Core.List.{List, [], ◌∷◌, map}
 use mathlib.Core.Path.{◌≡◌, refl, sym, ap, subst, ◌∙◌}
 use lib.Dec.{eqb, lit<}
 use lib.ListN.{length, get_or, replicate}
@@ -12,7 +12,6 @@ use Rattle.octets.specs.Choice.{◌then◌otherwise◌, ◌or◌}
 use Rattle.octets.specs.Part.{joined}
 use Rattle.packet.specs.Write.{least_output}
 use Rattle.rules.specs.Relay.{Relay}
-use Rattle.rules.specs.Renumbering.{one_to_one}
 use Rattle.rules.specs.Answers.{tells_value, in_set, image_set, rename_verdict, rename_answer}
 use Rattle.rules.specs.Arrival.{Arrival}
 use Rattle.rules.specs.Refusals.{all, table_ok, packet_refusal}
@@ -25,14 +24,14 @@ use Rattle.rules.specs.declared.Answer.TheVariants.{Refused, Judged}
 use Rattle.rules.specs.declared.Tally.{Tally}
 use Rattle.rules.proofs.Unfolding.{rules}
 use Rattle.rules.proofs.Scene.{blank, announce_bytes, data_bytes, data_key, arrives}
-use Rattle.rules.proofs.Outcomes.{prepared_relay, announced_relay, carried_relay}
+use Rattle.rules.proofs.Outcomes.{prepared_relay, carried_relay}
 use Rattle.rules.proofs.Sanity.{one_up}
 use Rattle.tables.specs.Layout.{relay_of, bytes_of, well_formed}
 use Rattle.tables.specs.Shape.{is_byte, is_bytes, shaped}
 use Rattle.tables.proofs.All.{is_each}
 use Rattle.tables.proofs.Whole.{back, ok_bytes, bytes_bytes}
 use Rattle.recording.specs.Format.{Entry, file_of, RecordableEntry, no_entry, Recordable}
-use Rattle.recording.specs.Reader.{file_refusal, entry_of, entries_of}
+use Rattle.recording.specs.Reader.{file_refusal, entry_of}
 use Rattle.recording.specs.Writer.{bodies_of}
 use Rattle.recording.proofs.ReadLaws.{entries_length, entries_at}
 use Rattle.recording.proofs.RoundTrip.{file_size, file_taken, file_entries, file_bytes}

@@ -9,7 +9,7 @@ use lib.ListN.{take, drop, replicate}
 use Rattle.octets.specs.Index.{◌and◌, all_below}
 use Rattle.octets.specs.Choice.{◌or◌}
 use Rattle.packet.specs.Hash.{packet_hash}
-use Rattle.rules.specs.Relay.{Port, fresh_port, make_port, make_return, make_relay, used, Relay, fresh}
+use Rattle.rules.specs.Relay.{fresh_port, make_port, make_return, make_relay, used, Relay, fresh}
 use Rattle.rules.specs.View.{view_at, port_size}
 use Rattle.rules.specs.Refusals.{all, table_ok}
 use Rattle.rules.specs.Answers.{in_set, image_set, rename_verdict, rename_answer}

@@ -1,11 +1,9 @@
 -- Wish 14's numbers on two recordings: the one of InstanceReplay, with a packet that is refused, an announce that is spread, the same once more, which is
 -- dropped, and data that is forwarded; and one without bytes, which is refused.
-use Prim.Native.Nat.{ℕ, ◌+◌}
+use Prim.Native.Nat.{ℕ}
 use native.Mathlib.Omega.{arith}
-use mathlib.Core.Bool.{not}
 use mathlib.Core.List.{List, [], ◌∷◌}
 use mathlib.Core.Path.{◌≡◌, refl, ap, ap₂, ◌∙◌}
-use lib.ListN.{length}
 use Rattle.octets.specs.Choice.{◌then◌otherwise◌, ◌or◌}
 use Rattle.octets.specs.Index.{◌and◌}
 use Rattle.octets.specs.Listed.{first_of}

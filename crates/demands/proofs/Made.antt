@@ -25,7 +25,7 @@ use Rattle.rules.specs.Relay.{Slot, empty, used, Blobs, Path, Return, Relay}
 use Rattle.rules.specs.View.{View}
 use Rattle.rules.specs.Renumbering.{rename_path, rename_link, rename_return}
 use Rattle.rules.specs.Refusals.{path_ok, slot_ok, all, table_ok, packet_refusal}
-use Rattle.rules.specs.Arrival.{Arrival, header, hops, destination, body, hash, blob}
+use Rattle.rules.specs.Arrival.{Arrival, header, hops, body, hash, blob}
 use Rattle.rules.specs.Blobs.{held, is_among, no_blob, one_blob, add_blob, store_blob}
 use Rattle.rules.specs.Writes.{announced_blobs, announced_path, return_key, return_record, link_record, renewed_link}
 use Rattle.rules.specs.declared.Link.{Link}

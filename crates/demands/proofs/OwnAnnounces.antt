@@ -21,7 +21,7 @@ use Rattle.packet.specs.Read.{header_of, parts_of, payload}
 use Rattle.packet.specs.Announce.{ratchet_length, least_announce, announced_destination}
 use Rattle.packet.specs.declared.Parts.{Parts}
 use Rattle.rules.specs.View.{View, view_at}
-use Rattle.rules.specs.Arrival.{Arrival, hops, is_link_proof}
+use Rattle.rules.specs.Arrival.{Arrival, is_link_proof}
 use Rattle.rules.specs.Ways.{Way, everywhere, by_path, along_link, by_return, blocked, way_on}
 use Rattle.rules.specs.Tests.{not_ours, duplicate, type_two_proof, type_two_of_kind_link, announce_not_single, announce_too_short, announce_of_another, request_of_kind_link, request_too_short, link_proof_length, form_tests, bad_form, own_announce, delivered_here, too_many_hops, known_tests}
 use Rattle.rules.specs.Judging.{Plan, dropped, follows, early_tests, onward_tests, onward_plan, plan, spread_verdict, way_verdict, verdict}

@@ -8,7 +8,7 @@ use Rattle.rules.specs.declared.Answer.TheVariants.{Refused}
 use Rattle.rules.specs.declared.Tally.{Tally}
 use Rattle.recording.specs.Format.{Entry, file_of}
 use Rattle.recording.specs.Reader.{entries_of}
-use Rattle.replaying.specs.Promise.{ReplayOn, step_on}
+use Rattle.replaying.specs.Promise.{ReplayOn}
 use Rattle.demands.specs.Bytes.{replies_on, tables_after_on, tally_after_on}
 
 -- ---- the calls: an entry's packet, port, clock and signature word, with an output of 500 zeros
