@@ -15,7 +15,7 @@ use Rattle.opinion_log.specs.Log.{listed_in}
 use Rattle.opinion.specs.Agreeing.{Same, Agree}
 use Rattle.opinion.proofs.Agreement.{engine_agrees}
 use Rattle.demands.specs.Given.{CallsBytes}
-use Rattle.demands.specs.Bytes.{OutcomeOn, perform_on}
+use Rattle.demands.specs.Bytes.{OutcomeOn}
 use Rattle.demands.proofs.Demand2.{outcome_on, call_on_lem}
 use Rattle.demands.proofs.Shape.{step_shaped, fresh_shaped}
 use Rattle.agreeing.specs.Agreeing.{AgreeOn, EngineAndCore}

@@ -22,7 +22,6 @@ use Rattle.rules.specs.declared.Answer.{Answer}
 use Rattle.rules.specs.declared.Answer.TheVariants.{Refused, Judged}
 use Rattle.rules.specs.declared.Tally.{Tally}
 use Rattle.rules.proofs.Choices.{either}
-use Rattle.rules.proofs.Scene.{own}
 use Rattle.tables.specs.Places.{address_width}
 use Rattle.tables.specs.Layout.{bytes_of}
 use Rattle.tables.specs.Shape.{is_bytes}
