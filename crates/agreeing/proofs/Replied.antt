@@ -124,11 +124,11 @@ core_so address [] entries log tables t [] h few is agree asked = refl
 core_so address [] entries log tables t (x ∷ xs) h few is agree asked = elim asked [ ]
 core_so address (c ∷ cs) entries log tables t [] h few is agree asked = elim asked [ ]
 core_so address (c ∷ cs) entries log tables t (x ∷ xs) h few is agree (after, asked, rest) =
-    let (same, agreeLater) = agree x after asked in
+    let (same, agree_later) = agree x after asked in
     ap₂ (λ (y : Reply) (ys : List Reply). y ∷ ys)
     (same_so log c x _ after (and_left _ _ is) asked (same (few_listed address entries log h (omega arith))))
     (core_so address cs (listed address entries c) after _ _ xs (still_holds address entries log h c x after asked)
-    (omega (arith, listed_one address entries c)) (and_right _ _ is) agreeLater rest)
+    (omega (arith, listed_one address entries c)) (and_right _ _ is) agree_later rest)
 
 -- .. and exactly that, where the engine never says 6.2
 unfoldable pub reason_no_path : Reason → Bool

@@ -46,7 +46,7 @@ use Rattle.saved.specs.File.{saved_size}
 use Rattle.saved.specs.Save.{save_rows, save_refusal}
 use Rattle.saved.specs.Load.{length_wrong, kind_wrong, contents_wrong, bodies_wrong, load_rows, load_refusal, load_on}
 use Rattle.saved.specs.Format.{saving, loading}
-use Rattle.recording.specs.Reader.{length_wrong as recordingLengthWrong, kind_wrong as recordingKindWrong, places_wrong, words_wrong, file_rows, file_refusal}
+use Rattle.recording.specs.Reader.{length_wrong as recording_length_wrong, kind_wrong as recording_kind_wrong, places_wrong, words_wrong, file_rows, file_refusal}
 use Rattle.surveying.specs.Promise.{start_on, recording_on}
 use Rattle.surveying.specs.Survey.{recording_limit}
 use Rattle.surveying.proofs.StartLaws.{not_begun, start_refusal}
@@ -393,8 +393,8 @@ module _ (file start work counts refusals : List ℕ) where
 
   pub recording_rows : (recording_on file start work counts refusals).refusal
       ≡ (leb recording_limit (get_or refusals 0 0) then 29 otherwise
-      recordingLengthWrong file then 20 otherwise
-      recordingKindWrong file then 21 otherwise
+      recording_length_wrong file then 20 otherwise
+      recording_kind_wrong file then 21 otherwise
       places_wrong file then 22 otherwise
       words_wrong file then 23 otherwise 0)
   unfolding file_refusal file_rows first_of

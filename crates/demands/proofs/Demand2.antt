@@ -21,7 +21,7 @@ use Rattle.packet.proofs.RoundTrip.{reading_writing, writing_reading, write_payl
 use Rattle.rules.specs.Relay.{Relay, fresh}
 use Rattle.rules.specs.Refusals.{tables_ok}
 use Rattle.rules.specs.Calls.{new_tally, Setting, settle}
-use Rattle.rules.specs.Saved.{Format, save_refusal, load_refusal as loadRefusalOf}
+use Rattle.rules.specs.Saved.{Format, save_refusal, load_refusal as load_refusal_of}
 use Rattle.rules.specs.Run.{EachCall, Call, packet, on_tables, asks, saves, loads, Reply, numbered, Outcome, of_judgement, of_setting, of_told, of_said, perform, replies, relay_after, tally_after, none_loads}
 use Rattle.rules.specs.declared.Tally.{Tally}
 use Rattle.rules.proofs.History.{TallyFits, CountsHistory, history, history_since_fresh}
@@ -68,7 +68,7 @@ module _ (r : Relay) (s : shaped r ≡ true) (ok : tables_ok r ≡ true) where
   refusal_bytes (loads format file) given =
       ap (load_refusal file) (bytes_length r)
       ∙ sym (load_refused_alike file given.1)
-      ∙ ap (λ (f : Format). loadRefusalOf (f.says file)) (sym given.0)
+      ∙ ap (λ (f : Format). load_refusal_of (f.says file)) (sym given.0)
 
 -- an outcome with the relay's bytes
 unfoldable pub outcome_on : Outcome → OutcomeOn

@@ -22,7 +22,7 @@ use Rattle.tables.specs.Layout.{bytes_of, well_formed}
 use Rattle.tables.specs.Shape.{is_byte, is_bytes, shaped}
 use Rattle.tables.proofs.Whole.{bytes_bytes}
 use Rattle.saved.specs.File.{saved_size}
-use Rattle.saved.specs.Save.{save_rows, save_refusal as saveRefusalOn}
+use Rattle.saved.specs.Save.{save_rows, save_refusal as save_refusal_on}
 use Rattle.saved.specs.Format.{said_by, saved_format, saving, loading}
 use Rattle.saved.proofs.Example.{computing}
 use Rattle.demands.specs.Given.{CallBytes}
@@ -103,7 +103,7 @@ short_room_lem =
 
 -- row 7 is a save's too
 pub seven_saved : RefusedOn [] (saving []) 7
-unfolding refusal_on saveRefusalOn save_rows well_formed ◌then◌otherwise◌ rules
+unfolding refusal_on save_refusal_on save_rows well_formed ◌then◌otherwise◌ rules
 seven_saved = by_row [] nil_bytes (saving []) 7 refl refl
 
 pub rows : Refused (packet (arrival (receipt_bytes 5) 2500 1) (replicate 499 0xee)) 6

@@ -29,8 +29,8 @@ end = last_relay plain_ports 1
 
 -- ---- forgets-nothing-fresh, behind calls of which it is given what they reply, by a map of which it is given what the last calls, their replies and the end
 -- become
-module _ (early : List Call) (saidEarly : List Reply) (given_early : CallsBytes early) (All-Said : length saidEarly ≡ length early)
-    (run : Runs (early ++ later) (fresh own) new_tally (saidEarly ++ said_later 2 1 end) end last_tally)
+module _ (early : List Call) (said_early : List Reply) (given_early : CallsBytes early) (All-Said : length said_early ≡ length early)
+    (run : Runs (early ++ later) (fresh own) new_tally (said_early ++ said_later 2 1 end) end last_tally)
     (m : List ℕ) (ok : one_to_one m ≡ true) {from port by path : ℕ} {ports : List Port}
     (calls : map (rename_call m) later ≡ later_by from port)
     (said : map (rename_reply m) (said_later 2 1 end) ≡ said_later by path (last_relay ports path))
@@ -43,7 +43,7 @@ module _ (early : List Call) (saidEarly : List Reply) (given_early : CallsBytes 
       let tables-hold = held given_all run in
       ap relay_of (goes given_all run).tables ∙ back end tables-hold.shape tables-hold.ok
 
-  pub put_in : Goes (early ++ (renumbering m ∷ later_by from port)) (saidEarly ++ (numbered 0 ∷ said_later by path (last_relay ports path)))
+  pub put_in : Goes (early ++ (renumbering m ∷ later_by from port)) (said_early ++ (numbered 0 ∷ said_later by path (last_relay ports path)))
       (last_relay ports path) last_tally
   unfolding rules no_call moves_ports
   put_in =
@@ -57,8 +57,8 @@ module _ (early : List Call) (saidEarly : List Reply) (given_early : CallsBytes 
             ∙ holds.answers
             ∙ ap (λ (x : List Reply). take (length early) x ++ (numbered 0 ∷ map (rename_reply m) (drop (length early) x))) plain.answers
             ∙ ap₂ (λ (x y : List Reply). x ++ (numbered 0 ∷ map (rename_reply m) y))
-            (take_at saidEarly _ (length early) All-Said) (drop_at saidEarly _ (length early) All-Said)
-            ∙ ap (λ (x : List Reply). saidEarly ++ (numbered 0 ∷ x)) said;
+            (take_at said_early _ (length early) All-Said) (drop_at said_early _ (length early) All-Said)
+            ∙ ap (λ (x : List Reply). said_early ++ (numbered 0 ∷ x)) said;
         tables =
             ap (λ (cs : List Call). tables_after_on cs start new_tally) changed
             ∙ holds.tables

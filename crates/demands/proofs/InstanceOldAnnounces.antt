@@ -17,7 +17,7 @@ use Rattle.rules.specs.Relay.{make_path, make_rate_entry, used, Path, Return, Re
 use Rattle.rules.specs.View.{View, view_at}
 use Rattle.rules.specs.Rate.{starts_at}
 use Rattle.rules.specs.Refusals.{all, table_ok, packet_refusal}
-use Rattle.rules.specs.Arrival.{Arrival, hops, hash, destination as destinationOf}
+use Rattle.rules.specs.Arrival.{Arrival, hops, hash, destination as destination_of}
 use Rattle.rules.specs.Ways.{by_return}
 use Rattle.rules.specs.Tests.{not_ours, tested_as_duplicate, duplicate, bad_form, own_announce, delivered_here, too_many_hops, not_signed, port_off, too_long_for_port}
 use Rattle.rules.specs.Calls.{new_tally, rule_of}
@@ -199,7 +199,7 @@ record_live : (view_at 2500 midway_relay).return data_key ≡ used (return_of da
 unfolding rules
 record_live = refl
 
-record_there : (port : ℕ) → (view_at 2500 midway_relay).return (destinationOf (receipt port)) ≡ used (return_of data_key)
+record_there : (port : ℕ) → (view_at 2500 midway_relay).return (destination_of (receipt port)) ≡ used (return_of data_key)
 unfolding lists layout
 record_there port = record_live
 
@@ -250,7 +250,7 @@ unfolding rules is_ordinary_proof no_call sets_relay
 returned_narrow =
     holds_behind narrow_given (before_then (narrow_set first no_call_lem)) (receipt 1) (receipt_given 1) ProofReturns proof_returns_fresh refl refl refl
 
-narrow_record : (view_at 2500 narrow_relay).return (destinationOf (receipt 1)) ≡ used (return_of data_key)
+narrow_record : (view_at 2500 narrow_relay).return (destination_of (receipt 1)) ≡ used (return_of data_key)
 unfolding rules
 narrow_record = refl
 

@@ -34,7 +34,7 @@ use Rattle.tables.specs.Layout.{bytes_of}
 use Rattle.tables.specs.Shape.{is_byte, is_bytes}
 use Rattle.tables.proofs.Whole.{ok_bytes, bytes_bytes}
 use Rattle.saved.specs.File.{file_of, saved_size}
-use Rattle.saved.specs.Load.{load_refusal as loadRefusalOn}
+use Rattle.saved.specs.Load.{load_refusal as load_refusal_on}
 use Rattle.saved.specs.Format.{said_by, saving, loading, in_room}
 use Rattle.saved.proofs.FormatLaws.{file_bytes, file_said}
 use Rattle.demands.specs.Given.{CallBytes, CallsBytes}
@@ -137,7 +137,7 @@ unfolding in_room
 stored = refl
 
 -- ---- counts-history-since-load: three were counted when it was saved, and two since it was loaded
-taken : loadRefusalOn file table_size ≡ 0
+taken : load_refusal_on file table_size ≡ 0
 unfolding said_by
 taken = ap (λ (s : Said). s.refusal) said
 

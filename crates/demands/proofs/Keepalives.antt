@@ -79,7 +79,7 @@ module _ (tables : List ℕ) (tally : Tally) (b : Bytes tables) (h : well_formed
   -- and where such keepalives come in time, the link lives through any list of calls
   pub keepalives_keep_on : (l : Link) (cs : List Call) (deadline : ℕ) → CallsBytes cs
       → Starts l deadline (relay_of tables) → InTime l deadline cs (relay_of tables) tally → LastsOn l cs tables tally
-  keepalives_keep_on l cs deadline given starts inTime =
+  keepalives_keep_on l cs deadline given starts in_time =
       subst (λ (x : List ℕ). LastsOn l cs x tally) (again tables b h)
       (lasts_on l cs (relay_of tables) tally given (ok_relay tables h) (shaped_of tables b h)
-      (keepalives_keep l cs deadline (relay_of tables) tally starts inTime))
+      (keepalives_keep l cs deadline (relay_of tables) tally starts in_time))

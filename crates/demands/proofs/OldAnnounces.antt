@@ -14,8 +14,8 @@ use Rattle.rules.specs.Run.{packet, relay_after, tally_after}
 use Rattle.rules.specs.OldAnnounces.{Sentence, OfPacket, FromFresh, OldLeavesPath, ProofReturns, MarkedTakesAgain}
 use Rattle.rules.specs.declared.Tally.{Tally}
 use Rattle.rules.proofs.Valid.{stays_ok, fresh_ok}
-use Rattle.rules.proofs.OldAnnounces.{old_leaves_path, old_leaves_path_fresh as leaves-fresh, marked_takes_again, marked_takes_again_fresh as takes-fresh}
-use Rattle.rules.proofs.ReturnedProofs.{proof_returns, proof_returns_fresh as returns-fresh}
+use Rattle.rules.proofs.OldAnnounces.{old_leaves_path, old_leaves_path_fresh as leaves_fresh, marked_takes_again, marked_takes_again_fresh as takes_fresh}
+use Rattle.rules.proofs.ReturnedProofs.{proof_returns, proof_returns_fresh as returns_fresh}
 use Rattle.tables.specs.Layout.{relay_of, bytes_of, well_formed}
 use Rattle.tables.proofs.Whole.{back, ok_bytes, bytes_bytes}
 use Rattle.demands.specs.Given.{CallBytes}
@@ -47,17 +47,17 @@ from_fresh says so buffer own size sixteen cs given none a output b =
 -- 1. while a destination's path is live and unmarked, a packet dropped as duplicate, and an announce for it whose blob it holds, leave its port, next hop,
 -- hops, expiry and blobs as they were
 pub old_leaves_path_fresh : FromFreshOn OldLeavesPath
-old_leaves_path_fresh = from_fresh OldLeavesPath leaves-fresh
+old_leaves_path_fresh = from_fresh OldLeavesPath leaves_fresh
 
 -- 2. an ordinary proof is forwarded only by the arrival port of the live return record, and exactly if that record's leaving port is where it came in and tests
 -- 1 to 5 and 12 let it by
 pub proof_returns_fresh : FromFreshOn ProofReturns
-proof_returns_fresh = from_fresh ProofReturns returns-fresh
+proof_returns_fresh = from_fresh ProofReturns returns_fresh
 
 -- 3. an announce for a live marked path that holds its blob is spread or Kept exactly if its emission is the greatest held and tests 3, 4, 5 and 9 let it by;
 -- the blobs then stay
 pub marked_takes_again_fresh : FromFreshOn MarkedTakesAgain
-marked_takes_again_fresh = from_fresh MarkedTakesAgain takes-fresh
+marked_takes_again_fresh = from_fresh MarkedTakesAgain takes_fresh
 
 -- ---- the same on any tables that are well formed, loaded ones too: of two live records of one key the lower place counts
 module _ (tables : List ℕ) (tally : Tally) (b : Bytes tables) (h : well_formed tables ≡ true) (a : Arrival) (output : List ℕ)

@@ -9,8 +9,8 @@ use Rattle.rules.specs.Saved.{save_refusal, load_refusal}
 use Rattle.rules.specs.Run.{Call, packet, on_tables, asks, saves, loads, Reply, answered, numbered, told, saved, unsaved}
 use Rattle.rules.specs.declared.Answer.TheVariants.{Refused, Judged}
 use Rattle.tables.specs.Layout.{relay_of, well_formed}
-use Rattle.saved.specs.Save.{save_refusal as saveRefusalOn}
-use Rattle.saved.specs.Load.{load_refusal as loadRefusalOn}
+use Rattle.saved.specs.Save.{save_refusal as save_refusal_on}
+use Rattle.saved.specs.Load.{load_refusal as load_refusal_on}
 
 -- "Tests run in this row order, each call making those that concern it (8 to 11 come after 7; 11 before 10)"
 unfoldable pub refusal : Call → Relay → ℕ
@@ -29,8 +29,8 @@ refusal_on (packet arrival output) tables = after_seven (packet arrival output) 
 refusal_on (on_tables c) tables = after_seven (on_tables c) tables
 refusal_on (asks q) tables = after_seven (asks q) tables
 -- document 02, Wish 4: "saving gives 7, then 25"; a load is refused by its file, and "25 .. for a load not the tables' size, what it held unread"
-refusal_on (saves format room) tables = saveRefusalOn tables (length room)
-refusal_on (loads format file) tables = loadRefusalOn file (length tables)
+refusal_on (saves format room) tables = save_refusal_on tables (length room)
+refusal_on (loads format file) tables = load_refusal_on file (length tables)
 
 -- "Each returns its number alone": the reply that refuses a call, with the output as it was
 unfoldable pub refusing : Call → ℕ → Reply
