@@ -42,8 +42,11 @@ impl SurveyCalls for SurveyProgram {
         let settings = self.written("settings", settings);
         let recordings = recordings.iter().enumerate().map(|(number, file)| self.written(&format!("recording-{number}"), file));
         let program = Path::new(env!("CARGO_MANIFEST_DIR")).join("../target/bin/survey");
-        let output =
-            Command::new(program).arg(settings).args(recordings).output().expect("target/bin/survey runs: rt check survey makes it");
+        let output = Command::new(program)
+            .arg(settings)
+            .args(recordings)
+            .output()
+            .expect("target/bin/survey runs: scripts/programs survey makes it");
         assert!(output.status.success(), "survey: {}", output.status);
         String::from_utf8(output.stdout).expect("a survey's text")
     }
