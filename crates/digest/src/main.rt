@@ -2,13 +2,20 @@
 // A message of more than 65,535 bytes gives the line `refused 2`.
 #![tactic(auto)]
 
-ghost use Rattle.std.specs.Prelude.{◌≡◌};
+ghost use Rattle.std.specs.Prelude.{◌≡◌, IfSome, OnOk};
+ghost use Rattle.std.specs.Io.KnownBytes.{Appends};
+ghost use Rattle.sha256.specs.Sha256.{answer};
 ghost use Rattle.text.specs.Text.{text_of};
 ghost use Rattle.digest.specs.Line.{digest_line};
 
-use libc::{STDIN_FILENO, STDOUT_FILENO};
+use console::{print, read_full};
 use sha256::Digest;
+use std::io;
+use std::io::{Read, Write};
 use text::Text;
+
+// The longest message and one byte more, so that a longer one shows.
+const ROOM: usize = 65_536;
 
 fn line(digest: Digest) -> Text
     ensures { result ≡ text_of (digest_line digest) }
@@ -16,16 +23,19 @@ fn line(digest: Digest) -> Text
     if digest.refusal != 0 {
         return text::refused_line(digest.refusal);
     }
-    let bytes = digest.bytes;
-    text::with_character(text::with_hexadecimal(text::empty(), &bytes), b'\n')
+    text::with_character(text::with_hexadecimal(text::empty(), &digest.bytes), b'\n')
 }
 
-// The buffer has one byte more than the longest message, so that a longer one shows.
-fn main() {
-    let mut buffer = io::large_buffer();
-    let n = io::read_full(STDIN_FILENO, &mut buffer);
-    let shown = line(sha256::sha256(&buffer[..n]));
-    let bytes = shown.bytes;
-    let length = shown.length;
-    io::write_all(STDOUT_FILENO, &bytes[..length]);
+// Writes the line of the message that the input is, or of as much as could be read of it, and then fails.
+fn write_digest<R: Read, W: Write>(input: &mut R, out: &mut W) -> io::Result<()>
+    ensures { OnOk result (IfSome (R.remaining input.old) (λ message. Appends (W.contents out.old) (W.contents out.new) (digest_line (answer message)))) }
+{
+    let mut buffer = [0u8; ROOM];
+    let (n, read) = read_full(input, &mut buffer);
+    let printed = print(out, line(sha256::sha256(&buffer[..n])));
+    read.and(printed)
+}
+
+fn main(rt: HostRuntime) -> io::Result<()> {
+    write_digest(&mut rt.reader(), &mut io::writer(&rt))
 }

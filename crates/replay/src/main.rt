@@ -3,17 +3,30 @@
 // loaded, `tables refused` and the load's number. The recording's refusal comes first.
 #![tactic(auto)]
 
-ghost use Rattle.std.specs.Prelude.{◌≡◌};
+ghost use Rattle.std.specs.Prelude.{◌≡◌, ℕ, List, OnOk};
+ghost use Rattle.std.specs.Io.KnownBytes.{Appends};
 ghost use Rattle.recording.specs.Shape.{count_of};
 ghost use Rattle.replaying.specs.Promise.{steps_on};
 ghost use Rattle.text.specs.Text.{text_of};
+ghost use Rattle.recording.specs.Reader.{file_refusal};
 ghost use Rattle.replay.specs.Line.{tables_refused};
+ghost use Rattle.replay.specs.Replayed.{replayed};
 
-use console::{print, read_file};
+use console::{print, read_file, zeros};
+use recording::{LONGEST_FILE, LONGEST_SAVED};
 use replaying::new_tally;
 use rules::Tally;
+use std::env::Env;
+use std::io;
+use std::io::Write;
+use std::rt::Files;
 use tables::places::TABLE_SIZE;
 use text::{Text, with_character, with_number, with_text, with_word};
+
+// One byte more than the longest saved relay and the longest recording, so that longer files show.
+const SAVED_ROOM: usize = LONGEST_SAVED + 1;
+
+const RECORDING_ROOM: usize = LONGEST_FILE + 1;
 
 fn tables_refused(refusal: u8) -> Text
     ensures { result ≡ text_of (tables_refused refusal) }
@@ -22,41 +35,54 @@ fn tables_refused(refusal: u8) -> Text
     with_character(with_number(start, octets::wide(refusal)), b'\n')
 }
 
-// Replays all entries, and prints the line of each. What the calls leave in the tables is what all steps leave.
-fn replay(file: &[u8], tables: &mut [u8], counts: Tally)
-    ensures { tables.new
-        ≡ (steps_on file.now (count_of file.now) tables.old counts).tables }
+// Replays all entries, and prints the line of each. What the calls leave in the tables is what all steps leave, also
+// where a line can't be printed: that fails once all steps are made.
+fn replay<W: Write>(out: &mut W, file: &[u8], tables: &mut [u8], counts: Tally) -> io::Result<()>
+    ensures tables { tables.new ≡ (steps_on file.now (count_of file.now) tables.old counts).tables }
+    ensures lines { OnOk result (Appends (W.contents out.old) (W.contents out.new) (steps_on file.now (count_of file.now) tables.old counts).text) }
 {
-    let n = recording::count(file);
     let mut tally = counts;
-    let mut i = 0;
-    while i < n {
+    let mut printed = Ok(());
+    for i in 0..recording::count(file) {
         let stepped = replaying::step(file, i, tables, tally);
-        let line = stepped.line;
-        let after = stepped.tally;
-        print(line);
-        tally = after;
-        i += 1;
+        printed = printed.and(print(out, stepped.line));
+        tally = stepped.tally;
     }
+    printed
 }
 
-// The buffers have one byte more than the longest recording and the longest saved relay, so that longer files show.
-fn main() {
-    let mut file = [0u8; recording::LONGEST_FILE + 1];
-    let mut stored = [0u8; recording::LONGEST_SAVED + 1];
+// Loads the saved relay, and replays the recording over it.
+fn replay_over<W: Write>(out: &mut W, stored: &[u8], file: &[u8]) -> io::Result<()>
+    requires { file_refusal file.now ≡ 0 }
+    ensures { OnOk result (Appends (W.contents out.old) (W.contents out.new) (replayed stored.now file.now)) }
+{
     let mut tables = [0u8; TABLE_SIZE];
-    let size = read_file(2, &mut file);
-    let refusal = recording::check(&file[..size]);
-    if refusal != 0 {
-        print(text::refused_line(refusal));
-        return;
-    }
-    let held = read_file(1, &mut stored);
-    let loaded = saved::load(&stored[..held], &mut tables, new_tally());
+    let loaded = saved::load(stored, &mut tables, new_tally());
     if loaded.refusal != 0 {
-        print(tables_refused(loaded.refusal));
-        return;
+        return print(out, tables_refused(loaded.refusal));
     }
-    let counts = loaded.tally;
-    replay(&file[..size], &mut tables, counts);
+    replay(out, file, &mut tables, loaded.tally)
+}
+
+// Answers a recording. The saved relay is read only where the recording isn't refused.
+fn answer<R: Env + Files + Eprint + Alloc, W: Write>(
+    rt: &R,
+    out: &mut W,
+    file: &[u8],
+) -> io::Result<()>
+    ensures { (stored : List ℕ) × OnOk result (Appends (W.contents out.old) (W.contents out.new) (replayed stored file.now)) }
+{
+    let refusal = recording::check(file);
+    if refusal != 0 {
+        return print(out, text::refused_line(refusal));
+    }
+    let mut stored: [u8; SAVED_ROOM] = zeros();
+    let held = read_file(rt, 1, &mut stored);
+    replay_over(out, &stored[..held], file)
+}
+
+fn main(rt: HostRuntime) -> io::Result<()> {
+    let mut file: [u8; RECORDING_ROOM] = zeros();
+    let size = read_file(&rt, 2, &mut file);
+    answer(&rt, &mut io::writer(&rt), &file[..size])
 }
