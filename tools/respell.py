@@ -8,7 +8,8 @@ usage: tools/respell.py        at the top of the repository, once, after /opt/ra
 Names that begin with a capital (types, facts) stay, and so does all that Rust declares: functions, fields,
 constants. Where a lemma and a definition would fall together, the lemma ends in `_lem`. Where a file
 of specs/ or of lemmas has a new spelling already, it says so; of ours, `nextHop` and the field `next_hop` alone.
-The list of the names goes to tools/respelled.tsv. The crate `log` becomes `opinion_log`, since the kit has a library named log.
+tools/respelled.tsv lists each name of the older commit with what it is now, port.py's among them. The crate `log` becomes
+`opinion_log`, since the kit has a library named log.
 """
 import collections
 import os
@@ -28,6 +29,8 @@ BY_HAND = {
     "rate-settings": "rate_settings",
     "word-matters": "whether_word_matters",
 }
+# A name that stands in comments as a word.
+ENGLISH = {"one-to-one"}
 CRATES = {"log": "opinion_log"}
 
 
@@ -90,7 +93,7 @@ def renames(found):
 
 
 def turned(path, text, new):
-    """The text with the new names. In comments only names in camel case, or in backquotes, are names."""
+    """The text with the new names."""
     proof = os.path.basename(path) in PROOF and "/proofs/" in path
     mark = "//" if path.endswith(".rt") else "--"
     out = []
@@ -144,6 +147,9 @@ def turn_comment(said, new):
         return "`" + TOKEN.sub(lambda t: new.get(t[0], t[0]), m[1]) + "`"
 
     said = re.sub(r"`([^`\n]*)`", quoted, said)
+    said = re.sub(
+        r"(?<![\w`'-])[a-z]\w*(?:-\w+)+(?![\w'-])", lambda m: m[0] if m[0] in ENGLISH else new.get(m[0], m[0]), said
+    )
     return re.sub(
         r"(?<![\w`'-])[a-z][a-z0-9]*(?:[A-Z][a-z0-9]*)+(?![\w'-])", lambda m: new.get(m[0], m[0]), said
     )
@@ -191,8 +197,6 @@ def main():
     new = renames(found)
     for path, old, name in clashes(new):
         print(f"look: {path}: {old} becomes {name}, which stands there already")
-    with open("tools/respelled.tsv", "w", encoding="utf-8") as f:
-        f.writelines(f"{old}\t{name}\n" for old, name in sorted(new.items()))
     for path in files((".antt", ".rt", ".edit")):
         text = read(path)
         write(path, text, locals_turned(path, turned(path, text, new)))

@@ -1,8 +1,8 @@
 -- Wish 12: "reading it gives the parts back", and the signing bytes are those of the announce that is built. For all that is given, signatures, rooms
 -- and sizes:
---   built-read      what stands in the room after a building that nothing refused reads, at every size no smaller than it, and gives the parts back;
---   signed-exactly  what stands in the room after the signing bytes were laid out is what the announce's own parts say is signed;
---   refused-alike   the signing bytes are refused as the announce is, whatever the signature's 64 bytes.
+--   built_read      what stands in the room after a building that nothing refused reads, at every size no smaller than it, and gives the parts back;
+--   signed_exactly  what stands in the room after the signing bytes were laid out is what the announce's own parts say is signed;
+--   refused_alike   the signing bytes are refused as the announce is, whatever the signature's 64 bytes.
 use Prim.Native.Nat.{ℕ, ◌≤◌}
 use mathlib.Core.List.{List}
 use mathlib.Core.Path.{◌≡◌, refl, sym, ap, subst, ◌∙◌}

@@ -123,13 +123,13 @@ module _ (r : Relay) (t : Tally) (ok : tables_ok r ≡ true) (s : shaped r ≡ t
       }
 
   two_are_one_bytes : (one two : List ℕ) → one_to_one one ≡ true → one_to_one two ≡ true → TwoAreOneOn one two before later (bytes_of r) t
-  two_are_one_bytes one two ok-one ok-two =
+  two_are_one_bytes one two ok_one ok_two =
       let once : List Call = before ++ (renumbering (composed one two) ∷ later) in
       let twice : List Call = before ++ (renumbering one ∷ renumbering two ∷ later) in
       let p : FollowsTheRules once (bytes_of r) t r = run_on once r t (both_given before _ b (after_map (composed one two) later l)) ok s in
       let q : FollowsTheRules twice (bytes_of r) t r =
       run_on twice r t (both_given before _ b (after_map one _ (after_map two later l))) ok s in
-      let f : TwoAreOne one two before later r t = two_are_one one two before later r t ok-one ok-two ok in
+      let f : TwoAreOne one two before later r t = two_are_one one two before later r t ok_one ok_two ok in
       record {
         one_to_one_lem = f.one_to_one_lem;
         answers =
@@ -154,9 +154,9 @@ module _ (before later : List Call) (b : CallsBytes before) (l : CallsBytes late
 
     -- two in a row are one, at any place of any list, whatever calls stand after it
     pub two_are_one_on : (one two : List ℕ) → one_to_one one ≡ true → one_to_one two ≡ true → TwoAreOneOn one two before later tables tally
-    two_are_one_on one two ok-one ok-two =
+    two_are_one_on one two ok_one ok_two =
         subst (λ (x : List ℕ). TwoAreOneOn one two before later x tally) (again tables bytes h)
-        (two_are_one_bytes (relay_of tables) tally (ok_relay tables h) (shaped_of tables bytes h) before later b l one two ok-one ok-two)
+        (two_are_one_bytes (relay_of tables) tally (ok_relay tables h) (shaped_of tables bytes h) before later b l one two ok_one ok_two)
 
   -- "Both runs start from the same fresh relay, tally 0": the bytes that `fresh` makes
   module _ (buffer own : List ℕ) (size : length buffer ≡ table_size) (sixteen : is_bytes address_width own ≡ true) where
@@ -168,9 +168,9 @@ module _ (before later : List Call) (b : CallsBytes before) (l : CallsBytes late
 
     pub two_are_one_fresh : (one two : List ℕ) → one_to_one one ≡ true → one_to_one two ≡ true
         → TwoAreOneOn one two before later (fresh_on buffer own).tables new_tally
-    two_are_one_fresh one two ok-one ok-two =
+    two_are_one_fresh one two ok_one ok_two =
         subst (λ (x : Called). TwoAreOneOn one two before later x.tables new_tally) (sym (fresh_made buffer own size))
-        (two_are_one_bytes (fresh own) new_tally (fresh_ok own) (fresh_shaped own sixteen) before later b l one two ok-one ok-two)
+        (two_are_one_bytes (fresh own) new_tally (fresh_ok own) (fresh_shaped own sixteen) before later b l one two ok_one ok_two)
 
 -- tables renamed are what the renumbering call writes: no second renaming is defined
 pub renamed_by_the_call : (m tables : List ℕ) → well_formed tables ≡ true → one_to_one m ≡ true

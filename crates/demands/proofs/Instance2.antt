@@ -55,7 +55,7 @@ pub record Goes (cs : List Call) (said : List Reply) (after : Relay) (counts : T
   pub tables : tables_after_on cs start new_tally ≡ bytes_of after
   pub tally : tally_after_on cs start new_tally ≡ counts
 
--- ---- follows-the-rules-fresh
+-- ---- follows_the_rules_fresh
 pub goes : {cs : List Call} {said : List Reply} {after : Relay} {counts : Tally}
     → CallsBytes cs → Runs cs (fresh own) new_tally said after counts → Goes cs said after counts
 goes {cs} given run =
@@ -86,7 +86,7 @@ given = both_given before later given_before (given_later 1 5)
 pub plain : Goes (before ++ later) (said_before ++ said_later 2 1 (last_relay plain_ports 1)) (last_relay plain_ports 1) last_tally
 plain = goes given plain_run
 
--- ---- counts-history-fresh: five of the replies are verdicts
+-- ---- counts_history_fresh: five of the replies are verdicts
 abbrev last : Tally
 last = tally_after_on (before ++ later) start new_tally
 
@@ -111,7 +111,7 @@ counted =
       history.kept ∙ ap (λ (x : List Reply). (0 + number is_kept x) % 2 ^ 32) plain.answers,
     )
 
--- ---- counts-history: from the greatest counters an announce goes on to zeros, in those that count it
+-- ---- counts_history: from the greatest counters an announce goes on to zeros, in those that count it
 abbrev greatest : Tally
 greatest =
     record {
@@ -154,7 +154,7 @@ counted_on =
       history.dropped ∙ ap (λ (x : List Reply). (0xffff_ffff + number is_drop x) % 2 ^ 32) (announce_said greatest),
     )
 
--- ---- read-then-written: data of type 2
+-- ---- read_then_written: data of type 2
 abbrev data_parts : Parts
 data_parts = record { header = 0x50; hops = 3; relay = own; destination = destination; context = 0x00 }
 
@@ -166,7 +166,7 @@ pub data_written : writing data_parts data_body blank ≡ record { answer = reco
 unfolding lists layout
 data_written = ap (λ (q : Parts). writing q data_body blank) (sym data_read) ∙ read_then_written longest_packet data_bytes blank refl (lit≤ tt)
 
--- ---- written-then-read: a receipt of type 1, whose relay address is not written
+-- ---- written_then_read: a receipt of type 1, whose relay address is not written
 abbrev receipt_parts : List ℕ → Parts
 receipt_parts relay = record { header = 0x03; hops = 5; relay = relay; destination = data_key; context = 0x00 }
 

@@ -27,9 +27,9 @@ use Rattle.demands.proofs.Instance2.{buffer, size, sixteen, start, Goes, goes, h
 abbrev pub end : Relay
 end = last_relay plain_ports 1
 
--- ---- forgets-nothing-fresh, behind calls of which it is given what they reply, by a map of which it is given what the last calls, their replies and the end
+-- ---- forgets_nothing_fresh, behind calls of which it is given what they reply, by a map of which it is given what the last calls, their replies and the end
 -- become
-module _ (early : List Call) (said_early : List Reply) (given_early : CallsBytes early) (All-Said : length said_early ≡ length early)
+module _ (early : List Call) (said_early : List Reply) (given_early : CallsBytes early) (all_said : length said_early ≡ length early)
     (run : Runs (early ++ later) (fresh own) new_tally (said_early ++ said_later 2 1 end) end last_tally)
     (m : List ℕ) (ok : one_to_one m ≡ true) {from port by path : ℕ} {ports : List Port}
     (calls : map (rename_call m) later ≡ later_by from port)
@@ -40,8 +40,8 @@ module _ (early : List Call) (said_early : List Reply) (given_early : CallsBytes
 
   end_held : relay_of (tables_after_on (early ++ later) start new_tally) ≡ end
   end_held =
-      let tables-hold = held given_all run in
-      ap relay_of (goes given_all run).tables ∙ back end tables-hold.shape tables-hold.ok
+      let tables_hold = held given_all run in
+      ap relay_of (goes given_all run).tables ∙ back end tables_hold.shape tables_hold.ok
 
   pub put_in : Goes (early ++ (renumbering m ∷ later_by from port)) (said_early ++ (numbered 0 ∷ said_later by path (last_relay ports path)))
       (last_relay ports path) last_tally
@@ -57,7 +57,7 @@ module _ (early : List Call) (said_early : List Reply) (given_early : CallsBytes
             ∙ holds.answers
             ∙ ap (λ (x : List Reply). take (length early) x ++ (numbered 0 ∷ map (rename_reply m) (drop (length early) x))) plain.answers
             ∙ ap₂ (λ (x y : List Reply). x ++ (numbered 0 ∷ map (rename_reply m) y))
-            (take_at said_early _ (length early) All-Said) (drop_at said_early _ (length early) All-Said)
+            (take_at said_early _ (length early) all_said) (drop_at said_early _ (length early) all_said)
             ∙ ap (λ (x : List Reply). said_early ++ (numbered 0 ∷ x)) said;
         tables =
             ap (λ (cs : List Call). tables_after_on cs start new_tally) changed
@@ -83,7 +83,7 @@ pub one_up_lem : Goes (before ++ (renumbering one_up ∷ later_by 2 6)) (said_be
 unfolding rules rename_call rename_arrival rename_reply rename_answer rename_verdict rename_told
 one_up_lem = put_in before said_before given_before refl plain_run one_up one_up_ok refl refl refl
 
--- ---- two-are-one-fresh: one up, and then 2 and 3 change places
+-- ---- two_are_one_fresh: one up, and then 2 and 3 change places
 abbrev swap : List ℕ
 swap = 0 ∷ 1 ∷ 3 ∷ 2 ∷ 4 ∷ 5 ∷ 6 ∷ 7 ∷ 8 ∷ 9 ∷ 10 ∷ 11 ∷ 12 ∷ 13 ∷ 14 ∷ 15 ∷ []
 

@@ -48,7 +48,7 @@ built =
 pub spread : replies_on (arrives (built_in given signature blank accepted) 1000 1 ∷ []) (bytes_of prepared_relay) new_tally ≡ spreads spread_bytes 2 ∷ []
 spread = ap (λ (p : List ℕ). replies_on (arrives p 1000 1 ∷ []) (bytes_of prepared_relay) new_tally) built ∙ announce_said new_tally
 
--- ---- never-dropped, where it is spread and where it is refused
+-- ---- never_dropped, where it is spread and where it is refused
 pub passes : (dropped_by 3 (answered_to given signature blank accepted 1 1000 true (bytes_of prepared_relay) new_tally blank) ≡ false)
     × (dropped_by 5 (answered_to given signature blank accepted 77 1000 true [] new_tally blank) ≡ false)
 passes = (

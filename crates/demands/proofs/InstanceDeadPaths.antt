@@ -160,7 +160,7 @@ last_run = revived_again_lem first fourth_dropped first no_call_lem
 pub all_said : Goes calls (said_mark ++ (said_block ++ ((numbered 0 ∷ []) ++ (said_since_lem ++ said_last)))) last_relay (counting 4 1 3)
 all_said = goes given (mark_run then_runs (block_run then_runs (again_run then_runs (since_run then_runs last_run))))
 
--- ---- new-enough-revives-on: the announce whose hash is live and whose blob is stored
+-- ---- new_enough_revives_on: the announce whose hash is live and whose blob is stored
 marked_held : Held marked_relay
 marked_held = held given_mark mark_run
 
@@ -176,7 +176,7 @@ second_revives =
     new_enough_revives_on (bytes_of marked_relay) (counting 1 0 1) (bytes_bytes marked_relay s ok) (ok_bytes marked_relay s ok) (with_path_mark one_path)
     (arrival (sent 2) 1250 1) blank given_second (subst (NewEnough (with_path_mark one_path) (arrival (sent 2) 1250 1) blank) (sym there) as_new_first)
 
--- ---- mark-stays-on: through the calls after the second mark
+-- ---- mark_stays_on: through the calls after the second mark
 blocked_held : Held blocked_relay
 blocked_held = held given_blocked (mark_run then_runs block_run)
 
@@ -245,7 +245,7 @@ the_last_clock =
 pub still_marked_lem : MarkedAt destination 22850 22849 (relay_of last_tables_lem)
 still_marked_lem = stays_marked 22849 (subst (λ (n : ℕ). n ≤ 22849) (sym the_last_clock) (lit≤ tt)) (lit≤ tt)
 
--- ---- clock-history: the last clock is the mark's, and then that of the data
+-- ---- clock_history: the last clock is the mark's, and then that of the data
 none_load_again : none_loads again ≡ true
 unfolding no_call sets_relay ◌and◌
 none_load_again = refl

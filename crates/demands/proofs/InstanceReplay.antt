@@ -189,7 +189,7 @@ gives =
     (first_entry announce_bytes 1000 1 announce_dropped
     (first_entry data_bytes 2000 2 data_carried no_entry_lem)))
 
--- ---- demand 2: replay-follows-the-rules
+-- ---- demand 2: replay_follows_the_rules
 pub replayed : ((replay_on file start new_tally).answers ≡ answers_by 4 1)
     × ((replay_on file start new_tally).tables ≡ bytes_of after)
     × ((replay_on file start new_tally).tally ≡ counting 1 1 1)
@@ -232,7 +232,7 @@ no_tables =
     (replay_of_no_tables file [] new_tally given taken (λ i. lit< tt) refl).0
     ∙ ap (λ (n : ℕ). replicate n (Refused 7)) (sym (entries_length file) ∙ ap length (file_entries entries recordable))
 
--- ---- demand 1: replay-refuses-exactly, of the first entry
+-- ---- demand 1: replay_refuses_exactly, of the first entry
 first_is : entry_of file 0 ≡ recorded data_bytes 900 77
 first_is =
     sym (entries_at file 0 (omega (arith, entries_length file, ap length (file_entries entries recordable))))
@@ -250,7 +250,7 @@ first_refused =
     here.refused (ap (λ (n : ℕ). eqb n 0) four)
     ∙ ap (λ (n : ℕ). record { reply = refusing (call_of (recorded data_bytes 900 77)) n; tables = start; tally = new_tally }) four
 
--- ---- demand 3: replay-forgets-nothing. Every port moves one up: the spread leaves by 3, the data by 2, and port 77 stays
+-- ---- demand 3: replay_forgets_nothing. Every port moves one up: the spread leaves by 3, the data by 2, and port 77 stays
 pub moved : ((replay_on (renamed_file one_up file) (renamed_tables one_up start) new_tally).answers ≡ answers_by 8 2)
     × ((replay_on (renamed_file one_up file) (renamed_tables one_up start) new_tally).tally ≡ counting 1 1 1)
 unfolding rules rename_answer rename_verdict image_set in_set

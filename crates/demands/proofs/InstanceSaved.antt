@@ -127,7 +127,7 @@ both_run =
     before_then (all_saved midway_relay midway_tally midway.ok first (later_run then_runs
     (late_refused first loaded_at end last_tally first since_run)))
 
--- ---- demand 2: follows-the-rules-fresh, on the bytes
+-- ---- demand 2: follows_the_rules_fresh, on the bytes
 pub both : Goes (until ++ (loading file ∷ since)) (said_until ++ (numbered 0 ∷ said_since)) (hosting received_relay) (counting 2 2 1)
 both = goes given_both both_run
 
@@ -136,7 +136,7 @@ pub stored : in_room (saved midway_relay midway_tally room) ≡ record { answer 
 unfolding in_room
 stored = refl
 
--- ---- counts-history-since-load: three were counted when it was saved, and two since it was loaded
+-- ---- counts_history_since_load: three were counted when it was saved, and two since it was loaded
 taken : load_refusal_on file table_size ≡ 0
 unfolding said_by
 taken = ap (λ (s : Said). s.refusal) said
@@ -167,7 +167,7 @@ counted_on =
       history.forwarded ∙ ap₂ (λ (t : Tally) (x : List Reply). (t.forwarded + number is_forward x) % 2 ^ 32) tally_held since_said,
     )
 
--- ---- demand 3: forgets-nothing-fresh, with a load before the renumbering, and behind it a save, which is of the renamed tables
+-- ---- demand 3: forgets_nothing_fresh, with a load before the renumbering, and behind it a save, which is of the renamed tables
 abbrev pub early : List Call
 early = before ++ (loading file ∷ [])
 

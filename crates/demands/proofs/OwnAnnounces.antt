@@ -1,7 +1,7 @@
 -- Document 02, Wish 12, about the packet call: "What is built passes tests 3 and 5 of any other relay that doesn't refuse it or own the address".
---   form-passed, hops-passed    tests 3 and 5 don't hold of what is built;
+--   form_passed, hops_passed    tests 3 and 5 don't hold of what is built;
 --   goes_on                     by the rules: any relay that doesn't own the address judges it as a duplicate, or by tests 6 to 13 on its way everywhere;
---   never-dropped               about the bytes: on any tables no packet call answers it with a drop by 3 or 5, whatever port, clock, word and buffers.
+--   never_dropped               about the bytes: on any tables no packet call answers it with a drop by 3 or 5, whatever port, clock, word and buffers.
 use Prim.Native.Nat.{ℕ}
 use native.Mathlib.Omega.{arith}
 use mathlib.Core.Bool.{Bool, true, false, not, false≢true}

@@ -1,6 +1,6 @@
 -- Document 02, Wish 10, about the bytes: of every packet call, on any bytes,
---   three-on, six-on    the answer is a drop by test 3, and by test 6, exactly where that test's condition holds and none before it;
---   clause-on, case-on  it names clause k + 1 of test 3, or case k + 1 of test 6, with the value x, exactly where that one's own sentence holds, none
+--   three_on, six_on    the answer is a drop by test 3, and by test 6, exactly where that test's condition holds and none before it;
+--   clause_on, case_on  it names clause k + 1 of test 3, or case k + 1 of test 6, with the value x, exactly where that one's own sentence holds, none
 --                       before it does, and x is its value.
 use Prim.Native.Nat.{ℕ, ◌+◌}
 use mathlib.Core.Bool.{Bool, true, false}

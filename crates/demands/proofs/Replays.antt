@@ -1,13 +1,13 @@
 -- Demands 1 to 3 of a replay (document 02, Wish 1: "In demands 2 and 3 a replay counts as the calls it makes, one by one."), from all tables:
---   replay-performed, step-performed
+--   replay_performed, step_performed
 --                    a replay is its entries' packet calls, one by one, and each of its steps is one of them;
---   recording-rows, recorded-rows, recorded-stays, missing-entry, refused-file
+--   recording_rows, recorded_rows, recorded_stays, missing_entry, refused_file
 --                    demand 1, of files: their refusals, in order; a refusal changes nothing;
---   replay-refuses-exactly
+--   replay_refuses_exactly
 --                    demand 1, of each call;
---   replay-follows-the-rules, replay-counts-history, replay-of-no-tables
+--   replay_follows_the_rules, replay_counts_history, replay_of_no_tables
 --                    demand 2, from well-formed tables; from all others each entry is refused with 7, and nothing changes;
---   renamed-taken, renamed-entries, renamed-length, renamed-calls, replay-forgets-nothing
+--   renamed_taken, renamed_entries, renamed_length, renamed_calls, replay_forgets_nothing
 --                    demand 3: the file's ports renamed give the answers renamed.
 use Prim.Native.Nat.{ℕ, zero, suc, ◌+◌, ◌≤◌, ◌<◌}
 use native.Mathlib.Omega.{arith}

@@ -1,8 +1,8 @@
 -- Document 02, Wish 4, about lists of calls on the bytes:
---   starts-again, loaded-start, counts-history-since-load
+--   starts_again, loaded_start, counts_history_since_load
 --                  "After a load, demands 2 and 3 start again from the saved tables, last clock included, and the saved tally, which counts on";
---   saved-start    where the file was saved, these are the tables and the tally that were saved, byte for byte;
---   save-renamed   demand 3: "a save among them is of the renamed tables".
+--   saved_start    where the file was saved, these are the tables and the tally that were saved, byte for byte;
+--   save_renamed   demand 3: "a save among them is of the renamed tables".
 use Prim.Native.Nat.{ℕ}
 use mathlib.Core.Bool.{true}
 use mathlib.Core.List.{List, [], ◌∷◌, ◌++◌}

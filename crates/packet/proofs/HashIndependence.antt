@@ -1,5 +1,5 @@
 -- Neither packet hash nor link id depends on hops or relay address.
--- Over parts: same-packet-hash, same-link-id. Over the bytes of a packet: hops-packet-hash, hops-link-id, relay-packet-hash, relay-link-id.
+-- Over parts: same_packet_hash, same_link_id. Over the bytes of a packet: hops_packet_hash, hops_link_id, relay_packet_hash, relay_link_id.
 use Prim.Native.Nat.{ℕ, ◌+◌, ◌-◌, ◌%◌, ◌≤◌}
 use native.Mathlib.Omega.{arith}
 use mathlib.Core.Bool.{Bool, true, false}

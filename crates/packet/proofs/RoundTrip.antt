@@ -1,9 +1,9 @@
 -- Reading and writing undo each other. For all bytes, parts, payloads and sizes:
---   read-write      what is read and then written is the packet, byte for byte;
---   write-reads, write-parts, write-payload
+--   read_write      what is read and then written is the packet, byte for byte;
+--   write_reads, write_parts, write_payload
 --                   what is written reads again, at every size no smaller than it, and gives the parts and the payload back, a relay
 --                   address in type 1 as zeros.
--- The same of the answers and buffers of the calls: reading-writing and writing-reading.
+-- The same of the answers and buffers of the calls: reading_writing and writing_reading.
 use Prim.Native.Nat.{ℕ, ◌≤◌}
 use native.Mathlib.Omega.{arith}
 use mathlib.Core.Bool.{Bool, true, false}

@@ -1,12 +1,12 @@
 -- Reader and writer undo each other, over whole files. For all bytes, entries, bodies and rooms:
---   entries-file, entries-recordable
+--   entries_file, entries_recordable
 --                    the file of the entries read is the file, byte for byte, for every file that the reader takes;
---   file-taken, file-entries
+--   file_taken, file_entries
 --                    the reader takes the file of all entries that can be recorded, and reads them back;
---   read-written     the entries read, given to the writer, make it write the file;
---   written-taken, written-entries, written-given, written-bodies
+--   read_written     the entries read, given to the writer, make it write the file;
+--   written_taken, written_entries, written_given, written_bodies
 --                    what is written into the room reads without a refusal and gives entries and bodies back, for all that the writer takes.
--- And what any caller of the reader can rely on: places-within, all_there.
+-- And what any caller of the reader can rely on: places_within, all_there.
 use mathlib.Core.Bool.{true}
 use Prim.Native.Nat.{ℕ, ◌+◌, ◌≤◌, ◌<◌}
 use mathlib.Core.List.{List}

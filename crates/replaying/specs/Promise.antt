@@ -77,7 +77,7 @@ replay_on file tables tally =
     otherwise
     record { refusal = file_refusal file; answers = []; text = words_line (refused_words (file_refusal file)); tables = tables; tally = tally }
 
--- ---- the first n steps in order, each on what the one before left. For a file that isn't refused, all of them are the replay (Replay, steps-replay)
+-- ---- the first n steps in order, each on what the one before left. For a file that isn't refused, all of them are the replay (Replay, steps_replay)
 unfoldable pub one_more : ReplayOn → StepOn → ReplayOn
 one_more r s =
     record {

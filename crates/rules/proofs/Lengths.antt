@@ -1,8 +1,8 @@
 -- Document 02, wish 9: "Forwarded packets keep their length or lose sixteen bytes; announces alone grow, and past 500 they're Kept." And wish 11.
---   rewritten-length, carried-length    how long a packet is under another header, and with its hops raised;
---   sent-way                            which packets go which way;
---   lengths-kept                        what a packet call answers has the lengths of the wish, for any relay whose addresses are addresses;
---   sizes-kept                          what leaves by a port is never longer than that port carries, for any relay.
+--   rewritten_length, carried_length    how long a packet is under another header, and with its hops raised;
+--   sent_way                            which packets go which way;
+--   lengths_kept                        what a packet call answers has the lengths of the wish, for any relay whose addresses are addresses;
+--   sizes_kept                          what leaves by a port is never longer than that port carries, for any relay.
 use Prim.Native.Nat.{ℕ, ◌+◌, ◌*◌, ◌/◌, ◌%◌, ◌≤◌, ◌<◌}
 use native.Mathlib.Omega.{arith}
 use mathlib.Core.Bool.{Bool, true, false, not}

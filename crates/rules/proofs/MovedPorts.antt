@@ -65,11 +65,11 @@ module _ (m : List ℕ) (ports : List Port) (sixteen : length ports ≡ port_cou
 pub moved_twice : (one two : List ℕ) (ports : List Port) → one_to_one one ≡ true → one_to_one two ≡ true → length ports ≡ port_count
     → moved_ports two (moved_ports one ports) ≡ moved_ports (composed one two) ports
 unfolding moved_ports
-moved_twice one two ports ok-one ok-two sixteen = list_of_cong _ _ port_count (λ n l. go n (dec_lt (preimage two n) port_count))
+moved_twice one two ports ok_one ok_two sixteen = list_of_cong _ _ port_count (λ n l. go n (dec_lt (preimage two n) port_count))
   where
     go : (n : ℕ) → Dec (preimage two n < port_count) → get_or (moved_ports one ports) (preimage two n) no_port ≡ get_or ports (preimage (composed one two) n) no_port
-    go n (yes b) = moved_port one ports (preimage two n) b ∙ ap (λ (k : ℕ). get_or ports k no_port) (preimage_composed one two ok-one ok-two n b)
+    go n (yes b) = moved_port one ports (preimage two n) b ∙ ap (λ (k : ℕ). get_or ports k no_port) (preimage_composed one two ok_one ok_two n b)
     go n (no b) =
         get_or-eq_default (moved_ports one ports) no_port {n = preimage two n} (omega (arith, moved_length one ports))
-        ∙ sym (ap (λ (k : ℕ). get_or ports k no_port) (preimage_composed_none one two ok-one ok-two n (omega arith))
+        ∙ sym (ap (λ (k : ℕ). get_or ports k no_port) (preimage_composed_none one two ok_one ok_two n (omega arith))
         ∙ get_or-eq_default ports no_port {n = port_count} (omega arith))

@@ -80,14 +80,14 @@ forgets_nothing m before later r t ok still kept fine =
 -- two in a row are one, at any place of any list, whatever calls stand after it
 pub two_are_one : (one two : List ℕ) (before later : List Call) (r : Relay) (t : Tally)
     → one_to_one one ≡ true → one_to_one two ≡ true → tables_ok r ≡ true → TwoAreOne one two before later r t
-two_are_one one two before later r t ok-one ok-two fine =
+two_are_one one two before later r t ok_one ok_two fine =
     let s : Relay = relay_after before r t in
     let u : Tally = tally_after before r t in
     let fine-then : tables_ok s ≡ true = stays_ok before r t fine in
-    let fine-between : tables_ok (renumbered one s) ≡ true = renumbered_ok one ok-one s fine-then in
-    let ok : one_to_one (composed one two) ≡ true = composed_one_to_one one two ok-one ok-two in
+    let fine-between : tables_ok (renumbered one s) ≡ true = renumbered_ok one ok_one s fine-then in
+    let ok : one_to_one (composed one two) ≡ true = composed_one_to_one one two ok_one ok_two in
     let same : renumbered two (renumbered one s) ≡ renumbered (composed one two) s =
-    renumbered_twice one two ok-one ok-two s (sixteen_ports s fine-then) in
+    renumbered_twice one two ok_one ok_two s (sixteen_ports s fine-then) in
     let once : List Call = renumbering (composed one two) ∷ later in
     let answered-once : replies once s u ≡ numbered 0 ∷ replies later (renumbered (composed one two) s) u =
     replies_after (composed one two) ok later s u fine-then in
@@ -96,22 +96,22 @@ two_are_one one two before later r t ok-one ok-two fine =
       answers =
           replies_append before (renumbering one ∷ renumbering two ∷ later) r t
           ∙ ap₂ (λ (x y : List Reply). x ++ y) (sym (early before once r t))
-          (replies_after one ok-one (renumbering two ∷ later) s u fine-then
+          (replies_after one ok_one (renumbering two ∷ later) s u fine-then
           ∙ ap (λ (l : List Reply). numbered 0 ∷ l)
-          (replies_after two ok-two later (renumbered one s) u fine-between
+          (replies_after two ok_two later (renumbered one s) u fine-between
           ∙ ap (λ (x : Relay). numbered 0 ∷ replies later x u) same
           ∙ sym (late before once r t ∙ answered-once)));
       acceptance = ap (take 1) (late before once r t ∙ answered-once);
       relay =
           relay_append before (renumbering one ∷ renumbering two ∷ later) r t
-          ∙ relay_after_lem one ok-one (renumbering two ∷ later) s u fine-then
-          ∙ relay_after_lem two ok-two later (renumbered one s) u fine-between
+          ∙ relay_after_lem one ok_one (renumbering two ∷ later) s u fine-then
+          ∙ relay_after_lem two ok_two later (renumbered one s) u fine-between
           ∙ ap (λ (x : Relay). relay_after later x u) same
           ∙ sym (relay_append before once r t ∙ relay_after_lem (composed one two) ok later s u fine-then);
       tally =
           tally_append before (renumbering one ∷ renumbering two ∷ later) r t
-          ∙ tally_after_lem one ok-one (renumbering two ∷ later) s u fine-then
-          ∙ tally_after_lem two ok-two later (renumbered one s) u fine-between
+          ∙ tally_after_lem one ok_one (renumbering two ∷ later) s u fine-then
+          ∙ tally_after_lem two ok_two later (renumbered one s) u fine-between
           ∙ ap (λ (x : Relay). tally_after later x u) same
           ∙ sym (tally_append before once r t ∙ tally_after_lem (composed one two) ok later s u fine-then);
     }
@@ -123,4 +123,4 @@ forgets_nothing_fresh own m before later ok still kept = forgets_nothing m befor
 
 pub two_are_one_fresh : (own one two : List ℕ) (before later : List Call)
     → one_to_one one ≡ true → one_to_one two ≡ true → TwoAreOne one two before later (fresh own) new_tally
-two_are_one_fresh own one two before later ok-one ok-two = two_are_one one two before later (fresh own) new_tally ok-one ok-two (fresh_ok own)
+two_are_one_fresh own one two before later ok_one ok_two = two_are_one one two before later (fresh own) new_tally ok_one ok_two (fresh_ok own)

@@ -1,13 +1,13 @@
 -- Document 02, Wish 4: "Saving and loading give equal tables byte for byte; a file of the current edition that loads is the file that saving those tables
 -- would give." For all bytes, tables, tallies and rooms:
---   save-then-load     what is saved into any room that is large enough loads, and gives tables and tally back, byte for byte, whatever stood in the
+--   save_then_load     what is saved into any room that is large enough loads, and gives tables and tally back, byte for byte, whatever stood in the
 --                      tables that are lent for it;
---   load-then-save     a file of the current edition that loads is what saving writes, from the tables and the tally that were loaded;
---   loaded-formed, loaded_bytes, loaded-fits
+--   load_then_save     a file of the current edition that loads is what saving writes, from the tables and the tally that were loaded;
+--   loaded_formed, loaded_bytes, loaded_fits
 --                      loaded tables pass refusal 7, and are bytes; each counter of the loaded tally fits its four bytes;
---   earlier-refuses    a program of an earlier edition refuses what is saved with 21;
---   older-loads        what an edition can hold, in a file of that edition, loads, and is then in the tables;
---   load-unread        what stood in the tables, and the tally that was given, matter nothing to a load that is not refused.
+--   earlier_refuses    a program of an earlier edition refuses what is saved with 21;
+--   older_loads        what an edition can hold, in a file of that edition, loads, and is then in the tables;
+--   load_unread        what stood in the tables, and the tally that was given, matter nothing to a load that is not refused.
 use Prim.Native.Nat.{ℕ, ◌≤◌, ◌<◌}
 use mathlib.Core.Bool.{true, false}
 use mathlib.Core.List.{List}

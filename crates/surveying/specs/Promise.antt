@@ -1,5 +1,5 @@
 -- What the calls of a survey return, and what they leave in what their caller lends: the tables of the start, tables to replay over, counters of 64 bits, and
--- the recordings' refusals. After a start and any recordings, the lines are the survey's text (SurveyLaws, survey-printed).
+-- the recordings' refusals. After a start and any recordings, the lines are the survey's text (SurveyLaws, survey_printed).
 use Rattle.std.specs.Prelude.{◌≡◌, ℕ, ◌+◌, ◌-◌, ◌*◌, ◌%◌, ◌^◌, List, [], ◌∷◌, replicate, ◌==◌, nat_le, nat_lt, slice_index, slice_set}
 use Rattle.octets.specs.Choice.{◌then◌otherwise◌}
 use Rattle.octets.specs.Index.{list_of}
@@ -41,7 +41,7 @@ counted_at k x =
     nat_lt k tests_at then dropped_on (k - dropped_at) x otherwise
     dropped_by (slice_index test_order (k - tests_at)) x
 
--- the counters with one answered entry more, modulo 2^64: any lent counters have an answer. Those of a survey never reach 2^64 (CountLaws, counts-exact)
+-- the counters with one answered entry more, modulo 2^64: any lent counters have an answer. Those of a survey never reach 2^64 (CountLaws, counts_exact)
 unfoldable pub add_one : List ℕ → Answered → List ℕ
 add_one counts x = list_of (λ k. (slice_index counts k + counted_at k x) % 2 ^ 64) counter_count
 

@@ -39,7 +39,7 @@ unfoldable pub start_of : Relay → List ℕ
 start_of r = tables_after (setting_calls r) (bytes_of (fresh r.own))
 
 -- ---- what these tables hold: own address, ports, announce rate and local addresses of r, and all else of a fresh relay, clock 0 too. The addresses may
--- lie in other places (StartLaws, starts-as)
+-- lie in other places (StartLaws, starts_as)
 pub record StartsAs (r start : Relay) : Type 0 where
   pub own : start.own ≡ r.own
   pub ports : start.ports ≡ r.ports

@@ -14,7 +14,7 @@ numeral_within base (suc left) x =
     let more : List ℕ = numeral_within base left (x / base) ++ (digit (x % base) ∷ []) in
     ltb x base then digit x ∷ [] otherwise more
 
--- x in a base from 2 to 16. `left` doesn't run out: x has at most x digits (NumeralLaws, numeral-one and numeral-more)
+-- x in a base from 2 to 16. `left` doesn't run out: x has at most x digits (NumeralLaws, numeral_one and numeral_more)
 unfoldable pub numeral : ℕ → ℕ → List ℕ
 numeral base x = numeral_within base x x
 
