@@ -12,7 +12,7 @@ DESTDIR ?=
 
 .PHONY: lib demo show replay survey install dist test bench soak memcheck clean help
 
-## make            proves the core, writes the library to target/      twelve minutes of one processor once, then what changed
+## make            proves the core, writes the library to target/      seventeen minutes of one processor once, then what changed
 lib: target/libhaskumye.a target/libhaskumye.so
 
 target/libhaskumye.a: crates.txt scripts/library $(shell find crates -name out -prune -o -name '*.rt' -print -o -name '*.antt' -print)
@@ -25,15 +25,15 @@ target/libhaskumye.so: target/libhaskumye.a include/haskumye.h scripts/shared
 demo:
 	@scripts/demo
 
-## make show       packets and a file's digest, by proved programs     two minutes once; FILE=README.md
+## make show       packets and a file's digest, by proved programs     some minutes once; FILE=README.md
 show:
 	@scripts/show "$(FILE)"
 
-## make replay     the lines of a recording, by a proved program       eight minutes once; TABLES= and RECORDING=, else the demo's
+## make replay     the lines of a recording, by a proved program       a quarter of an hour once; TABLES= and RECORDING=, else the demo's
 replay:
 	@scripts/replay "$(TABLES)" "$(RECORDING)"
 
-## make survey     a site's recordings by port and by reason, the same    nine minutes once; SETTINGS= and RECORDINGS=, else the demo's
+## make survey     a site's recordings by port and by reason, the same    a quarter of an hour once; SETTINGS= and RECORDINGS=, else the demo's
 survey:
 	@scripts/survey "$(SETTINGS)" $(RECORDINGS)
 
@@ -45,7 +45,7 @@ install: lib
 dist: lib
 	@scripts/dist
 
-## make test       the gate: proves all from nothing, then tests       forty minutes on two processors
+## make test       the gate: proves what it has not yet, then tests  twenty-five minutes on four processors
 test:
 	@scripts/test
 
