@@ -51,7 +51,7 @@ module _ (m : List ℕ) (s : State) (b : List ℕ) (e : s ≡ hash_after m (leng
       c')
 
 -- the rest of a message after its whole blocks, as the program lends it, and its padding, in a buffer of 128 bytes
-module _ (m b : List ℕ) (end : ℕ) (h : length m < 65536) (e : end ≡ length m % 64 + 9 + zero_bytes (length m))
+module _ (m b : List ℕ) (end : ℕ) (e : end ≡ length m % 64 + 9 + zero_bytes (length m))
     (q : b ≡ (take (length m - 64 * (length m / 64)) (drop (64 * (length m / 64)) m) ++ padding (length m)) ++ replicate (128 - end) 0)
   where
     rest : take (length m - 64 * (length m / 64)) (drop (64 * (length m / 64)) m) ≡ drop (64 * (length m / 64)) m
@@ -61,4 +61,4 @@ module _ (m b : List ℕ) (end : ℕ) (h : length m < 65536) (e : end ≡ length
     rest_length = length-drop (64 * (length m / 64)) m ∙ omega arith
 
     pub buffer_front : take end b ≡ drop (64 * (length m / 64)) m ++ padding (length m)
-    buffer_front = padded_rest_take (drop (64 * (length m / 64)) m) (length m) end rest_length h e b (rw rest at q)
+    buffer_front = padded_rest_take (drop (64 * (length m / 64)) m) (length m) end rest_length e b (rw rest at q)

@@ -6,3 +6,4 @@ pub mod ScheduleLaws
 pub mod RoundLaws
 pub mod PaddingLaws
 pub mod BlockLaws
+pub mod WordBytes

@@ -1,8 +1,11 @@
 -- The padding: what the stores behind the rest of a message leave, and the lengths.
 -- Assumes nothing.
-use Rattle.std.proofs.Common.{◌≡◌, ℕ, suc, ◌+◌, ◌-◌, ◌*◌, ◌/◌, ◌%◌, ◌^◌, ◌<◌, List, [], ◌∷◌, ◌++◌, length, take, set, replicate, sym, refl, ap, ◌∙◌, append_assoc, arith, length-append, take_at}
+use Rattle.std.proofs.Common.{◌≡◌, ℕ, suc, ◌+◌, ◌-◌, ◌*◌, ◌/◌, ◌%◌, ◌^◌, List, ◌∷◌, ◌++◌, length, take, drop, set, replicate, sym, refl, ap, ◌∙◌, append_assoc, arith, length-append, take_at}
 use lib.ListN.{length-replicate, replicate-append-replicate}
 use lib.Seq.{set_at}
+use borrow.Rule.Slice.PartMut.{put_mid}
+use Rattle.std.proofs.lemmas.List.{drop_at, drop-replicate}
+use Rattle.std.specs.Int.{to_be_bytes, w64}
 use Rattle.sha256.specs.Bytes.{bytes8}
 use Rattle.sha256.specs.Padding.{zero_bytes, padding, padded}
 
@@ -17,62 +20,50 @@ pub padded_length : (m : List ℕ) → length (padded m) ≡ length m + (9 + zer
 unfolding padded
 padded_length m = length-append m (padding (length m)) ∙ ap (λ (k : ℕ). length m + k) (padding_length (length m))
 
--- three stores in a row
-three : (p q : List ℕ) (a b c x y w : ℕ)
-    → set (set (set (p ++ (a ∷ b ∷ c ∷ q)) (length p) x) (suc (length p)) y) (suc (suc (length p))) w ≡ p ++ (x ∷ y ∷ w ∷ q)
-three [] q a b c x y w = refl
-three (d ∷ p) q a b c x y w = ap {B = List ℕ} (λ r. d ∷ r) (three p q a b c x y w)
-
--- where five zeros and three bytes are the length
-joined : (rest zs left : List ℕ) (x y w : ℕ)
-    → (rest ++ (128 ∷ (zs ++ (0 ∷ 0 ∷ 0 ∷ 0 ∷ 0 ∷ [])))) ++ (x ∷ y ∷ w ∷ left)
-    ≡ (rest ++ ((128 ∷ zs) ++ (0 ∷ 0 ∷ 0 ∷ 0 ∷ 0 ∷ x ∷ y ∷ w ∷ []))) ++ left
-joined rest zs left x y w =
-    let five : List ℕ = 0 ∷ 0 ∷ 0 ∷ 0 ∷ 0 ∷ [] in
-    let eight : List ℕ = 0 ∷ 0 ∷ 0 ∷ 0 ∷ 0 ∷ x ∷ y ∷ w ∷ [] in
-    append_assoc rest (128 ∷ (zs ++ five)) (x ∷ y ∷ w ∷ left)
-    ∙ ap (λ (t : List ℕ). rest ++ (128 ∷ t)) (append_assoc zs five (x ∷ y ∷ w ∷ left) ∙ sym (append_assoc zs eight left))
-    ∙ sym (append_assoc rest ((128 ∷ zs) ++ eight) left)
-
--- the length of a short message in bits: five of the eight bytes are zero
-length_bytes : (n : ℕ) → n < 65536 → 0 ∷ 0 ∷ 0 ∷ 0 ∷ 0 ∷ 8 * n / 65536 ∷ 8 * n / 256 % 256 ∷ 8 * n % 256 ∷ [] ≡ bytes8 (8 * n)
-length_bytes n h =
-    let e₁ : 8 * n / 2 ^ 32 ≡ 0 = omega arith in
-    let e₂ : 8 * n / 2 ^ 24 % 256 ≡ 0 = omega arith in
-    let e₃ : 8 * n / 2 ^ 16 % 256 ≡ 8 * n / 65536 = omega arith in
+-- the length in bits, as the library writes a number of 64 bits
+length_bytes : (x : ℕ) → to_be_bytes w64 x ≡ bytes8 x
+length_bytes x =
+    let e₁ : x / 2 ^ 56 % 256 ≡ x / 2 ^ 32 / 2 ^ 24 % 256 = omega arith in
+    let e₂ : x / 2 ^ 48 % 256 ≡ x / 2 ^ 32 / 2 ^ 16 % 256 = omega arith in
+    let e₃ : x / 2 ^ 40 % 256 ≡ x / 2 ^ 32 / 2 ^ 8 % 256 = omega arith in
     rw (e₁, e₂, e₃)
 
-module _ (rest : List ℕ) (n end : ℕ) (r : length rest ≡ n % 64) (h : n < 65536) (e : end ≡ n % 64 + 9 + zero_bytes n) where
-  -- the zeros behind the byte 0x80: some of the padding, five of the length, three that are stored over, and what is left
-  split_zeros : replicate {A = ℕ} (127 - length rest) 0
-      ≡ (replicate (zero_bytes n) 0 ++ (0 ∷ 0 ∷ 0 ∷ 0 ∷ 0 ∷ [])) ++ (0 ∷ 0 ∷ 0 ∷ replicate (128 - end) 0)
-  split_zeros =
-      let z = zero_bytes n in
-      let k : 127 - length rest ≡ z + 5 + suc (suc (suc (128 - end))) = omega arith in
-      ap (λ (x : ℕ). replicate x 0) k
-      ∙ sym (replicate-append-replicate (z + 5) (suc (suc (suc (128 - end)))) 0)
-      ∙ ap (λ (x : List ℕ). x ++ (0 ∷ 0 ∷ 0 ∷ replicate (128 - end) 0)) (sym (replicate-append-replicate z 5 0))
+module _ (rest : List ℕ) (n end : ℕ) (r : length rest ≡ n % 64) (e : end ≡ n % 64 + 9 + zero_bytes n) where
+  front : List ℕ
+  front = rest ++ (128 ∷ replicate (zero_bytes n) 0)
 
-  pub padded_rest_law : (b : List ℕ) → b ≡ rest ++ replicate (128 - length rest) 0
-      → set (set (set (set b (length rest) 128) (end - 3) (8 * n / 65536)) (end - 2) (8 * n / 256 % 256)) (end - 1) (8 * n % 256)
-      ≡ (rest ++ padding n) ++ replicate (128 - end) 0
-  unfolding padding
-  padded_rest_law b q =
+  front_length : length front ≡ end - 8
+  unfolding front
+  front_length = length-append rest (128 ∷ replicate (zero_bytes n) 0) ∙ omega (arith, length-replicate {A = ℕ} (zero_bytes n) 0)
+
+  -- behind the rest the byte 0x80, the padding's zeros, and those that the length is stored over
+  marked : (b : List ℕ) → b ≡ rest ++ replicate (128 - length rest) 0 → set b (length rest) 128 ≡ front ++ replicate (8 + (128 - end)) 0
+  unfolding front
+  marked b q =
       let z = zero_bytes n in
-      let zeros : List ℕ = replicate z 0 ++ (0 ∷ 0 ∷ 0 ∷ 0 ∷ 0 ∷ []) in
-      let left : List ℕ = replicate (128 - end) 0 in
-      let p : List ℕ = rest ++ (128 ∷ zeros) in
       let e₁ : 128 - length rest ≡ suc (127 - length rest) = omega arith in
-      let s₁ : set b (length rest) 128 ≡ rest ++ (128 ∷ replicate (127 - length rest) 0) =
-      rw (q, e₁) (set_at rest 0 (replicate (127 - length rest) 0) 128 (length rest) refl) in
-      let s₂ : set b (length rest) 128 ≡ p ++ (0 ∷ 0 ∷ 0 ∷ left) =
-      s₁ ∙ ap (λ (x : List ℕ). rest ++ (128 ∷ x)) split_zeros ∙ sym (append_assoc rest (128 ∷ zeros) (0 ∷ 0 ∷ 0 ∷ left)) in
-      let l₁ : length zeros ≡ z + 5 = length-append (replicate z 0) (0 ∷ 0 ∷ 0 ∷ 0 ∷ 0 ∷ []) ∙ ap (λ (k : ℕ). k + 5) (length-replicate z 0) in
-      let l : length p ≡ end - 3 = length-append rest (128 ∷ zeros) ∙ omega arith in
-      let e₂ : end - 2 ≡ suc (end - 3) = omega arith in
-      let e₃ : end - 1 ≡ suc (suc (end - 3)) = omega arith in
-      rw (s₂, e₂, e₃, ← l, three p left 0 0 0 (8 * n / 65536) (8 * n / 256 % 256) (8 * n % 256), ← length_bytes n h)
-      (joined rest (replicate z 0) left (8 * n / 65536) (8 * n / 256 % 256) (8 * n % 256))
+      let e₂ : 127 - length rest ≡ z + (8 + (128 - end)) = omega arith in
+      rw (q, e₁)
+      (set_at rest 0 (replicate (127 - length rest) 0) 128 (length rest) refl
+      ∙ ap (λ (x : List ℕ). rest ++ (128 ∷ x)) (ap (λ (k : ℕ). replicate k 0) e₂ ∙ sym (replicate-append-replicate z (8 + (128 - end)) 0))
+      ∙ sym (append_assoc rest (128 ∷ replicate z 0) (replicate (8 + (128 - end)) 0)))
+
+  pub padded_rest_law : (b s : List ℕ) → b ≡ rest ++ replicate (128 - length rest) 0 → s ≡ to_be_bytes w64 (8 * n)
+      → put_mid (end - 8) (end - (end - 8)) (set b (length rest) 128) s ≡ (rest ++ padding n) ++ replicate (128 - end) 0
+  unfolding padding front
+  padded_rest_law b s q w =
+      let zs : List ℕ = replicate (zero_bytes n) 0 in
+      let over : List ℕ = replicate (8 + (128 - end)) 0 in
+      let left : List ℕ = replicate (128 - end) 0 in
+      let l : length (rest ++ (128 ∷ zs)) ≡ end - 8 = front_length in
+      let k : end - (end - 8) ≡ 8 = omega arith in
+      let d : drop 8 over ≡ left = drop-replicate 8 (8 + (128 - end)) 0 ∙ ap (λ (m : ℕ). replicate m 0) (omega arith) in
+      let number : List ℕ = bytes8 (8 * n) in
+      let v : s ≡ number = w ∙ length_bytes (8 * n) in
+      rw (marked b q, k, take_at (rest ++ (128 ∷ zs)) over (end - 8) l, drop_at (rest ++ (128 ∷ zs)) over (end - 8) l, d, v)
+      (append_assoc rest (128 ∷ zs) (number ++ left)
+      ∙ ap (λ (t : List ℕ). rest ++ (128 ∷ t)) (sym (append_assoc zs number left))
+      ∙ sym (append_assoc rest (128 ∷ (zs ++ number)) left))
 
   ends : length (rest ++ padding n) ≡ end
   ends = length-append rest (padding n) ∙ omega (arith, padding_length n)

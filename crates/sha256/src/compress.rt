@@ -103,11 +103,9 @@ fn rounds(s: State, block: &[u8]) -> State
     let k = K;
     let mut w = first_words(block);
     let mut r = s;
-    let mut t: usize = 0;
-    while t < 48 {
+    for t in (0..48).step_by(8) {
         extend(&mut w, t + 16);
         r = eight_rounds(r, &k, &w, t);
-        t += 8;
     }
     let q = eight_rounds(r, &k, &w, 48);
     eight_rounds(q, &k, &w, 56)

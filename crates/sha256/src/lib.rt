@@ -26,13 +26,9 @@ pub struct Digest {
 fn whole_blocks(message: &[u8]) -> State
     ensures { result ≡ hash_after message.now (length message.now / 64) }
 {
-    let n = message.len() / 64;
     let mut s = initial_hash();
-    let mut i: usize = 0;
-    while i < n {
-        let at = 64 * i;
-        s = compress(s, &message[at..at + 64]);
-        i += 1;
+    for block in message.chunks_exact(64) {
+        s = compress(s, block);
     }
     s
 }

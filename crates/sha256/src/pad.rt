@@ -12,16 +12,11 @@ fn zero_filled(s: &[u8]) -> [u8; 128]
     ensures { result ≡ s.now ++ replicate (128 - length s.now) 0 }
 {
     let mut b = [0u8; 128];
-    let mut i: usize = 0;
-    while i < s.len() {
-        b[i] = s[i];
-        i += 1;
-    }
+    b[..s.len()].copy_from_slice(s);
     b
 }
 
 // The rest of a message of n bytes and its padding, which ends at end; zeros behind it.
-// The length in bits fills three bytes at most, so only these are stored.
 fn padded_rest(rest: &[u8], n: usize, end: usize) -> [u8; 128]
     requires { (length rest.now ≡ n % 64) × (n < 65536) × (end ≡ n % 64 + 9 + zero_bytes n) }
     ensures { result ≡ (rest.now ++ padding n) ++ replicate (128 - end) 0 }
@@ -29,9 +24,7 @@ fn padded_rest(rest: &[u8], n: usize, end: usize) -> [u8; 128]
     let mut b = zero_filled(rest);
     let bits = 8 * n;
     b[rest.len()] = 128;
-    b[end - 3] = (bits / 65536) as u8;
-    b[end - 2] = (bits / 256 % 256) as u8;
-    b[end - 1] = (bits % 256) as u8;
+    b[end - 8..end].copy_from_slice(&bits.to_be_bytes());
     b
 }
 

@@ -5,7 +5,6 @@ ghost use Rattle.sha256.specs.Compression.{T₁, T₂, after_round, intermediate
 ghost use Rattle.sha256.specs.Sha256.{digest_bytes};
 
 use super::words::{big_sigma0, big_sigma1, ch, maj};
-use std::num::wrapping_add_u32;
 
 // The words H0 to H7 of a hash value, or the working variables a to h.
 #[derive(Clone, Copy)]
@@ -39,15 +38,16 @@ pub fn initial_hash() -> State
 fn temporary1(s: State, k: u32, w: u32) -> u32
     ensures { result ≡ T₁ s k w }
 {
-    let x = wrapping_add_u32(s.h, big_sigma1(s.e));
-    let y = wrapping_add_u32(x, ch(s.e, s.f, s.g));
-    wrapping_add_u32(wrapping_add_u32(y, k), w)
+    s.h.wrapping_add(big_sigma1(s.e))
+        .wrapping_add(ch(s.e, s.f, s.g))
+        .wrapping_add(k)
+        .wrapping_add(w)
 }
 
 fn temporary2(s: State) -> u32
     ensures { result ≡ T₂ s }
 {
-    wrapping_add_u32(big_sigma0(s.a), maj(s.a, s.b, s.c))
+    big_sigma0(s.a).wrapping_add(maj(s.a, s.b, s.c))
 }
 
 // One round, with its constant k and its word w of the schedule.
@@ -57,11 +57,11 @@ pub fn round(s: State, k: u32, w: u32) -> State
     let t1 = temporary1(s, k, w);
     let t2 = temporary2(s);
     State {
-        a: wrapping_add_u32(t1, t2),
+        a: t1.wrapping_add(t2),
         b: s.a,
         c: s.b,
         d: s.c,
-        e: wrapping_add_u32(s.d, t1),
+        e: s.d.wrapping_add(t1),
         f: s.e,
         g: s.f,
         h: s.g,
@@ -73,14 +73,14 @@ pub fn intermediate_hash(s: State, r: State) -> State
     ensures { result ≡ intermediate_hash s r }
 {
     State {
-        a: wrapping_add_u32(r.a, s.a),
-        b: wrapping_add_u32(r.b, s.b),
-        c: wrapping_add_u32(r.c, s.c),
-        d: wrapping_add_u32(r.d, s.d),
-        e: wrapping_add_u32(r.e, s.e),
-        f: wrapping_add_u32(r.f, s.f),
-        g: wrapping_add_u32(r.g, s.g),
-        h: wrapping_add_u32(r.h, s.h),
+        a: r.a.wrapping_add(s.a),
+        b: r.b.wrapping_add(s.b),
+        c: r.c.wrapping_add(s.c),
+        d: r.d.wrapping_add(s.d),
+        e: r.e.wrapping_add(s.e),
+        f: r.f.wrapping_add(s.f),
+        g: r.g.wrapping_add(s.g),
+        h: r.h.wrapping_add(s.h),
     }
 }
 
@@ -88,38 +88,10 @@ pub fn intermediate_hash(s: State, r: State) -> State
 pub fn digest_bytes(s: State) -> [u8; 32]
     ensures { result ≡ digest_bytes s }
 {
-    [
-        (s.a / 16777216 % 256) as u8,
-        (s.a / 65536 % 256) as u8,
-        (s.a / 256 % 256) as u8,
-        (s.a % 256) as u8,
-        (s.b / 16777216 % 256) as u8,
-        (s.b / 65536 % 256) as u8,
-        (s.b / 256 % 256) as u8,
-        (s.b % 256) as u8,
-        (s.c / 16777216 % 256) as u8,
-        (s.c / 65536 % 256) as u8,
-        (s.c / 256 % 256) as u8,
-        (s.c % 256) as u8,
-        (s.d / 16777216 % 256) as u8,
-        (s.d / 65536 % 256) as u8,
-        (s.d / 256 % 256) as u8,
-        (s.d % 256) as u8,
-        (s.e / 16777216 % 256) as u8,
-        (s.e / 65536 % 256) as u8,
-        (s.e / 256 % 256) as u8,
-        (s.e % 256) as u8,
-        (s.f / 16777216 % 256) as u8,
-        (s.f / 65536 % 256) as u8,
-        (s.f / 256 % 256) as u8,
-        (s.f % 256) as u8,
-        (s.g / 16777216 % 256) as u8,
-        (s.g / 65536 % 256) as u8,
-        (s.g / 256 % 256) as u8,
-        (s.g % 256) as u8,
-        (s.h / 16777216 % 256) as u8,
-        (s.h / 65536 % 256) as u8,
-        (s.h / 256 % 256) as u8,
-        (s.h % 256) as u8,
-    ]
+    let words = [s.a, s.b, s.c, s.d, s.e, s.f, s.g, s.h];
+    let mut bytes = [0u8; 32];
+    for i in 0..8 {
+        bytes[4 * i..4 * i + 4].copy_from_slice(&words[i].to_be_bytes());
+    }
+    bytes
 }

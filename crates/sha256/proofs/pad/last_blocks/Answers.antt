@@ -20,13 +20,13 @@ pub returns-then-n-lt56 : goal.returns-then-n-lt56
 returns-then-n-lt56 c =
     let t = c.padded_rest-b in
     let m = c.args.message.now in
-    let front = buffer_front m t.result 64 c.requires.0 (omega arith) t.ensures in
+    let front = buffer_front m t.result 64 (omega arith) t.ensures in
     one_block m c.args.s t.result c.requires.1 c.compress.result (omega arith) front c.compress.ensures
 
 pub returns-else-n-lt56 : goal.returns-else-n-lt56
 returns-else-n-lt56 c =
     let t = c.padded_rest-b-else-n-lt56 in
     let m = c.args.message.now in
-    let front = buffer_front m t.result 128 c.requires.0 (omega arith) t.ensures in
+    let front = buffer_front m t.result 128 (omega arith) t.ensures in
     two_blocks m c.args.s t.result c.requires.1 c.compress-r.result c.compress-else-n-lt56.result (omega arith) (omega arith) front
     c.compress-r.ensures c.compress-else-n-lt56.ensures
