@@ -186,46 +186,30 @@ module _ (base : ℕ) (two : 2 ≤ base) where
   pub numeral_injective : base ≤ 16 → (x y : ℕ) → numeral base x ≡ numeral base y → x ≡ y
   numeral_injective few x y e = sym (numeral_value few x) ∙ ap (value base) e ∙ numeral_value few y
 
--- ---- `write_decimal`: the places from at + 1 on are written, those up to at are for the digits of the rest
-module _ (at rest : ℕ) (few : rest < 10 ^ (at + 1)) (more : 9 < rest) where
-  pub place_left : 0 < at
-  place_left = go at few
-    where
-      go : (k : ℕ) → rest < 10 ^ (k + 1) → 0 < k
-      go zero h = absurd (omega arith)
-      go (suc k) h = omega arith
+-- ---- `write_decimal`: the places from at on are written, and the one before is the next
+pub rest_fits : (at rest : ℕ) → 0 < at → rest < 10 ^ at → rest / 10 < 10 ^ (at - 1)
+rest_fits zero rest some few = absurd (omega arith)
+rest_fits (suc at) rest some few =
+    let e : suc at - 1 ≡ at = omega arith in
+    rw e ((div-lt_iff_lt-mul {k = 10} (lit≤ tt)).1 (subst (λ (n : ℕ). rest < n) (pow-suc 10 at) few))
 
-  pub rest_fits : rest / 10 < 10 ^ (at - 1 + 1)
-  rest_fits =
-      let k : at - 1 + 1 ≡ at = omega (arith, place_left) in
-      subst (λ (n : ℕ). rest / 10 < 10 ^ n) (sym k)
-      ((div-lt_iff_lt-mul {k = 10} (lit≤ tt)).1 (subst (λ (n : ℕ). rest < n) (ap (λ (n : ℕ). 10 ^ n) (add-one at) ∙ pow-suc 10 at) few))
-
--- one more digit is written
-place_written : (digits : List ℕ) (at c : ℕ) (front whole : List ℕ) → at < length digits
-    → whole ≡ front ++ (c ∷ []) ++ drop (at + 1) digits → whole ≡ front ++ drop at (set digits at c)
-place_written digits at c front whole l e =
-    e
-    ∙ append_assoc front (c ∷ []) (drop (at + 1) digits)
-    ∙ ap (λ (k : ℕ). front ++ (c ∷ drop k digits)) (add-one at)
-    ∙ ap (λ (r : List ℕ). front ++ r) (sym (drop_set digits at c l))
-
-module _ (digits : List ℕ) (at rest c : ℕ) (whole : List ℕ) (l : at < length digits) (e : whole ≡ numeral 10 rest ++ drop (at + 1) digits) where
-  pub decimal_turn : 9 < rest → 0 < at → c ≡ digit (rest % 10) → whole ≡ numeral 10 (rest / 10) ++ drop (at - 1 + 1) (set digits at c)
-  decimal_turn more some ec =
-      let k : at - 1 + 1 ≡ at = omega arith in
-      let next : whole ≡ numeral 10 (rest / 10) ++ (c ∷ []) ++ drop (at + 1) digits =
+module _ (digits : List ℕ) (at rest c : ℕ) (whole : List ℕ) (some : 0 < at) (l : at ≤ length digits) (e : whole ≡ numeral 10 rest ++ drop at digits) where
+  -- one more digit is written
+  place_written : (front : List ℕ) → numeral 10 rest ≡ front ++ (c ∷ []) → whole ≡ front ++ drop (at - 1) (set digits (at - 1) c)
+  place_written front q =
+      let k : at ≡ suc (at - 1) = omega arith in
       e
-      ∙ ap (λ (r : List ℕ). r ++ drop (at + 1) digits)
-      (numeral_more 10 (lit≤ tt) rest more ∙ ap (λ (d : ℕ). numeral 10 (rest / 10) ++ (d ∷ [])) (sym ec)) in
-      place_written digits at c (numeral 10 (rest / 10)) whole l next
-      ∙ ap (λ (n : ℕ). numeral 10 (rest / 10) ++ drop n (set digits at c)) (sym k)
+      ∙ ap (λ (r : List ℕ). r ++ drop at digits) q
+      ∙ append_assoc front (c ∷ []) (drop at digits)
+      ∙ ap (λ (n : ℕ). front ++ (c ∷ drop n digits)) k
+      ∙ ap (λ (r : List ℕ). front ++ r) (sym (drop_set digits (at - 1) c (omega arith)))
 
-  pub decimal_last : rest ≤ 9 → c ≡ digit rest → drop at (set digits at c) ≡ whole
-  decimal_last last ec =
-      let next : whole ≡ (c ∷ []) ++ drop (at + 1) digits =
-      e ∙ ap (λ (r : List ℕ). r ++ drop (at + 1) digits) (numeral_one 10 (lit≤ tt) rest (omega arith) ∙ ap (λ (d : ℕ). d ∷ []) (sym ec)) in
-      sym (place_written digits at c [] whole l next)
+  pub decimal_turn : 10 ≤ rest → c ≡ digit (rest % 10) → whole ≡ numeral 10 (rest / 10) ++ drop (at - 1) (set digits (at - 1) c)
+  decimal_turn more ec =
+      place_written (numeral 10 (rest / 10)) (numeral_more 10 (lit≤ tt) rest more ∙ ap (λ (d : ℕ). numeral 10 (rest / 10) ++ (d ∷ [])) (sym ec))
+
+  pub decimal_last : rest < 10 → c ≡ digit rest → drop (at - 1) (set digits (at - 1) c) ≡ whole
+  decimal_last last ec = sym (place_written [] (numeral_one 10 (lit≤ tt) rest last ∙ ap (λ (d : ℕ). d ∷ []) (sym ec)))
 
 -- ---- hexadecimal: two digits a byte
 byte_length : (x : ℕ) → length (hexadecimal_byte x) ≡ byte_digits

@@ -1,5 +1,5 @@
 -- The laws of a text that grows. Each holds whatever there is room for, but that a whole text is `text_of` it, where it fits.
-use Prim.Native.Nat.{ℕ, zero, suc, ◌+◌, ◌-◌, ◌≤◌, ◌<◌}
+use Prim.Native.Nat.{min, ℕ, zero, suc, ◌+◌, ◌-◌, ◌≤◌, ◌<◌}
 use native.Mathlib.Nat.{add-zero, sub-zero, suc-sub-suc}
 use native.Mathlib.Omega.{arith}
 use mathlib.Core.Bool.{Bool, true, false}
@@ -8,6 +8,7 @@ use mathlib.Core.Path.{◌≡◌, refl, sym, ap, ap₂, subst, ◌∙◌}
 use lib.Dec.{ltb}
 use lib.ListN.{length, take, drop, replicate, length-append, length-take, length-replicate, take-append-drop, replicate-append-replicate}
 use lib.Seq.{take-nil, take_all, length-take-le}
+use Rattle.std.proofs.lemmas.List.{take_min}
 use borrow.Author.Tests.{ltb-true, ltb-false}
 use Rattle.octets.specs.Part.{patch}
 use Rattle.octets.proofs.Part.{patch_join, patch_length, patch_mid}
@@ -52,12 +53,14 @@ module _ (t : Text) where
   appended_whole x l =
       ap (λ (f : List ℕ). made (patch t.bytes t.length f) (t.length + length f)) (sym (take_all (length t.bytes - t.length) x (omega arith)))
 
-  pub appended_cut : (x : List ℕ) → t.length ≤ length t.bytes → length t.bytes ≤ t.length + length x
-      → made (patch t.bytes t.length (take (length t.bytes - t.length) x)) (length t.bytes) ≡ appended t x
+  -- what there is room for, as code takes it
+  pub appended_least : (x : List ℕ) (n : ℕ) → n ≡ min (length x) (length t.bytes - t.length)
+      → made (patch t.bytes t.length (take n x)) (t.length + length (take n x)) ≡ appended t x
   unfolding appended fitting
-  appended_cut x l m =
-      let room : ℕ = length t.bytes - t.length in
-      ap (made (patch t.bytes t.length (take room x))) (omega (arith, length-take room x))
+  appended_least x n e =
+      let room = length t.bytes - t.length in
+      let r : take n x ≡ take room x = ap (λ (k : ℕ). take k x) (omega arith) ∙ take_min room x in
+      ap (λ (f : List ℕ). made (patch t.bytes t.length f) (t.length + length f)) r
 
   -- text, and then more text
   pub appended_append : (x y : List ℕ) → appended (appended t x) y ≡ appended t (x ++ y)

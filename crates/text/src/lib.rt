@@ -16,6 +16,7 @@ pub use numerals::{with_decimal, with_hexadecimal};
 pub const SIZE: usize = 160;
 
 // The first `length` bytes are the text, the rest zeros.
+// Kept: no heap is a rule of the project, so a text of fixed size and its length stand in a String's place.
 #[derive(Clone, Copy)]
 pub struct Text {
     pub bytes: [u8; SIZE],
@@ -36,22 +37,15 @@ pub fn empty() -> Text
 pub fn with_text(text: Text, more: &[u8]) -> Text
     ensures { result ≡ appended text more.now }
 {
-    let at = text.length;
-    if SIZE <= at {
+    if SIZE <= text.length {
         return text;
     }
+    let fitting = &more[..more.len().min(SIZE - text.length)];
     let mut bytes = text.bytes;
-    if SIZE - at < more.len() {
-        octets::copy_at(&mut bytes, at, &more[0..SIZE - at]);
-        return Text {
-            bytes,
-            length: SIZE,
-        };
-    }
-    octets::copy_at(&mut bytes, at, more);
+    octets::copy_at(&mut bytes, text.length, fitting);
     Text {
         bytes,
-        length: at + more.len(),
+        length: text.length + fitting.len(),
     }
 }
 
@@ -88,6 +82,5 @@ pub fn refused_line(refusal: u8) -> Text
     ensures { result ≡ text_of (words_line (refused_words refusal)) }
 {
     let start = with_text(empty(), b"refused");
-    let whole = with_number(start, refusal as u64);
-    with_character(whole, b'\n')
+    with_character(with_number(start, u64::from(refusal)), b'\n')
 }

@@ -1,5 +1,5 @@
 // Numbers in digits.
-ghost use Rattle.std.specs.Prelude.{◌≡◌, ◌<◌, ◌≤◌, length, drop};
+ghost use Rattle.std.specs.Prelude.{◌≡◌, ◌<◌, ◌≤◌, drop};
 ghost use Rattle.text.specs.Numerals.{digit as digit_of, decimal, most_digits, hexadecimal_byte, hexadecimal};
 ghost use Rattle.text.specs.Text.{appended};
 
@@ -8,33 +8,33 @@ use super::{Text, with_text};
 // `most_digits` of specs/ in code: how many digits the largest number has, in decimal.
 const MOST_DIGITS: usize = 20;
 
-const LAST_DIGIT: usize = MOST_DIGITS - 1;
+const LARGEST_DIGIT: u64 = 9;
 
 // The character of a digit: 0 to 9, a to f.
-fn digit(n: u64) -> u8
+fn digit(n: u8) -> u8
     requires { n < 16 }
     ensures { result ≡ digit_of n }
 {
     if n < 10 {
-        return (48 + n) as u8;
+        return b'0' + n;
     }
-    (87 + n) as u8
+    b'a' + (n - 10)
 }
 
 // Writes x in decimal at the end of the bytes, and says where it starts.
-fn write_decimal(digits: &mut [u8], x: u64) -> usize
-    requires { length digits.old ≡ most_digits }
+fn write_decimal(digits: &mut [u8; MOST_DIGITS], x: u64) -> usize
     ensures { (result ≤ most_digits) × (drop result digits.new ≡ decimal x) }
 {
     let mut rest = x;
-    let mut at = LAST_DIGIT;
-    while 9 < rest {
-        digits[at] = digit(rest % 10);
-        rest = rest / 10;
-        at -= 1;
+    for at in (1..MOST_DIGITS).rev() {
+        digits[at] = digit((rest % 10) as u8);
+        if rest <= LARGEST_DIGIT {
+            return at;
+        }
+        rest /= 10;
     }
-    digits[at] = digit(rest);
-    at
+    digits[0] = digit(rest as u8);
+    0
 }
 
 // The text with a number at its end, in decimal.
@@ -50,10 +50,7 @@ pub fn with_decimal(text: Text, x: u64) -> Text
 fn with_byte(text: Text, byte: u8) -> Text
     ensures { result ≡ appended text (hexadecimal_byte byte) }
 {
-    let n = octets::wide(byte);
-    let high = digit(n / 16);
-    let low = digit(n % 16);
-    with_text(text, &[high, low])
+    with_text(text, &[digit(byte / 16), digit(byte % 16)])
 }
 
 // The text with bytes at its end, in hexadecimal.
@@ -61,10 +58,8 @@ pub fn with_hexadecimal(text: Text, bytes: &[u8]) -> Text
     ensures { result ≡ appended text (hexadecimal bytes.now) }
 {
     let mut grown = text;
-    let mut i = 0;
-    while i < bytes.len() {
-        grown = with_byte(grown, bytes[i]);
-        i += 1;
+    for byte in bytes {
+        grown = with_byte(grown, *byte);
     }
     grown
 }
