@@ -1,5 +1,4 @@
 pub mod Sums
-pub mod Ors
 pub mod ShapeLaws
 pub mod ReadLaws
 pub mod WriteLaws

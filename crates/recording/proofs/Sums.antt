@@ -1,12 +1,14 @@
 -- The laws of `sum_below`, and of runs of bytes of given lengths, one after the other.
 use Prim.Native.Nat.{ℕ, zero, suc, ◌+◌, ◌*◌, ◌≤◌, ◌<◌}
-use native.Mathlib.Nat.{le_refl, mul-zero, mul-suc, not-suc-le-zero, eq-or-lt_of_le, le_of_suc-le-suc}
+use native.Mathlib.Nat.{le_refl, mul-zero, mul-suc, not-suc-le-zero, zero-add, eq-or-lt_of_le, le_of_suc-le-suc}
 use native.Mathlib.Numerals.{add-one}
 use native.Mathlib.Omega.{arith}
-use mathlib.Core.List.{List, [], ◌∷◌, ◌++◌, append-nil, append_assoc}
+use mathlib.Core.List.{List, [], ◌∷◌, ◌++◌, append-nil, append_assoc, map}
 use mathlib.Core.Logic.{⊎_elim}
 use mathlib.Core.Path.{◌≡◌, refl, sym, ap, ap₂, subst, ◌∙◌}
 use lib.ListN.{length, length-append, take, drop}
+use Rattle.std.specs.List.{sum, range_with_len}
+use Rattle.std.proofs.lemmas.List.FromFn.{sum_by-map-range_with_len_more}
 use lib.Seq.{drop-append-add}
 use Rattle.octets.specs.Bytes.{Bytes}
 use Rattle.octets.specs.Index.{list_of}
@@ -43,6 +45,15 @@ module _ (g : ℕ → ℕ) where
   pub sum_more : (i : ℕ) → sum_below g (i + 1) ≡ sum_below g i + g i
   unfolding sum_below
   sum_more i = ap (sum_below g) (add-one i)
+
+  -- the sum of a chain over 0..n
+  pub sum_over : (n : ℕ) → sum (map g (range_with_len 0 n)) ≡ sum_below g n
+  unfolding sum_below
+  sum_over zero = refl
+  sum_over (suc n) =
+      ap (λ (k : ℕ). sum (map g (range_with_len 0 k))) (sym (add-one n))
+      ∙ sum_by-map-range_with_len_more (λ x. x) g 0 n n (zero-add n)
+      ∙ ap (λ (k : ℕ). k + g n) (sum_over n)
 
   -- what ends at i ends within the whole
   pub sum_within : (n i : ℕ) → i < n → sum_below g i + g i ≤ sum_below g n

@@ -60,26 +60,22 @@ fn word_of(file: &[u8], i: usize) -> u8
     file[CONTENTS_START + ENTRY_WIDTH * i + WORD_AT]
 }
 
-// Refusals 22 and 23 of a file that has the contents of its n entries. An OR over the words is under 2 where each is.
+// Refusals 22 and 23 of a file that has the contents of its n entries.
 fn contents_refusal(file: &[u8], n: usize) -> u8
     requires { (n ≡ count_of file.now) × (entry_place head_width n ≤ length file.now) × (n < count_limit) }
     ensures { result ≡ first_of (contents_rows file.now) 0 }
 {
-    let mut words: u8 = 0;
     let mut place = entry_place(n);
-    let mut i = 0;
-    while i < n {
+    for i in 0..n {
         if offset_of(file, i) != place {
             return refusals::FILE_PLACE;
         }
         place += length_of(file, i);
-        words = words | word_of(file, i);
-        i += 1;
     }
     if place != file.len() {
         return refusals::FILE_PLACE;
     }
-    if words > 1 {
+    if !(0..n).all(|i| word_of(file, i) < 2) {
         return refusals::SIGNATURE_WORD;
     }
     0
@@ -89,20 +85,14 @@ fn contents_refusal(file: &[u8], n: usize) -> u8
 pub fn check(file: &[u8]) -> u8
     ensures { result ≡ file_refusal file.now }
 {
-    if file.len() > LONGEST_FILE {
-        return refusals::FILE_LENGTH;
-    }
-    if file.len() < CONTENTS_START {
+    if file.len() > LONGEST_FILE || file.len() < CONTENTS_START {
         return refusals::FILE_LENGTH;
     }
     let n = count(file);
     if file.len() < entry_place(n) {
         return refusals::FILE_LENGTH;
     }
-    if file[0] != KIND {
-        return refusals::FILE_KIND;
-    }
-    if file[1] != EDITION {
+    if file[0] != KIND || file[1] != EDITION {
         return refusals::FILE_KIND;
     }
     contents_refusal(file, n)
@@ -152,7 +142,5 @@ pub fn body(file: &[u8], i: usize) -> &[u8]
     ensures { result.now ≡ body_of file.now i }
 {
     let fields = entry(file, i);
-    let start = fields.start;
-    let end = start + fields.length;
-    &file[start..end]
+    &file[fields.start..fields.start + fields.length]
 }

@@ -4,7 +4,7 @@ ghost use Rattle.octets.specs.Listed.{first_of};
 ghost use Rattle.octets.specs.Part.{patch};
 ghost use Rattle.recording.specs.Shape.{contents_start, count_limit, entry_place};
 ghost use Rattle.recording.specs.Format.{longest_file, head_width, file_of};
-ghost use Rattle.recording.specs.Writer.{given_count, given_length, given_start, given_entries, writing_refusal, writing};
+ghost use Rattle.recording.specs.Writer.{given_count, given_word, given_clock, given_length, given_start, given_entries, writing_refusal, writing};
 ghost use Rattle.recording.specs.Steps.{head_rows, length_rows, start_bytes, copied_item, copied_items};
 
 use super::Written;
@@ -22,6 +22,20 @@ fn given_count(entries: &[u8]) -> usize
     entries.len() / GIVEN_WIDTH
 }
 
+fn given_word(entries: &[u8], i: usize) -> u8
+    requires { i < given_count entries.now }
+    ensures { result ≡ given_word entries.now i }
+{
+    entries[GIVEN_WIDTH * i + GIVEN_WORD_AT]
+}
+
+fn given_clock(entries: &[u8], i: usize) -> u64
+    requires { i < given_count entries.now }
+    ensures { result ≡ given_clock entries.now i }
+{
+    octets::number_of_8_at(entries, GIVEN_WIDTH * i)
+}
+
 fn given_length(entries: &[u8], i: usize) -> usize
     requires { i < given_count entries.now }
     ensures { result ≡ given_length entries.now i }
@@ -29,23 +43,15 @@ fn given_length(entries: &[u8], i: usize) -> usize
     octets::number_at(entries, GIVEN_WIDTH * i + GIVEN_LENGTH_AT, LENGTH_WIDTH) as usize
 }
 
-// Refusals 23 and 5, over all entries that are given. An OR over numbers is under a power of two where each of them is.
+// Refusals 23 and 5, over all entries that are given.
 fn heads_refusal(entries: &[u8]) -> u8
     ensures { result ≡ first_of (head_rows entries.now) 0 }
 {
     let n = given_count(entries);
-    let mut words: u8 = 0;
-    let mut clocks: u64 = 0;
-    let mut i = 0;
-    while i < n {
-        words = words | entries[GIVEN_WIDTH * i + GIVEN_WORD_AT];
-        clocks = clocks | octets::number_of_8_at(entries, GIVEN_WIDTH * i);
-        i += 1;
-    }
-    if words > 1 {
+    if !(0..n).all(|i| given_word(entries, i) < 2) {
         return refusals::SIGNATURE_WORD;
     }
-    if clocks >= CLOCK_LIMIT {
+    if !(0..n).all(|i| given_clock(entries, i) < CLOCK_LIMIT) {
         return refusals::CLOCK;
     }
     0
@@ -56,27 +62,18 @@ fn given_end(entries: &[u8], n: usize) -> usize
     requires { (n ≤ given_count entries.now) × (n < count_limit) }
     ensures { result ≡ given_start entries.now n }
 {
-    let mut end = 0;
-    let mut i = 0;
-    while i < n {
-        end += given_length(entries, i);
-        i += 1;
-    }
-    end
+    (0..n).map(|i| given_length(entries, i)).sum()
 }
 
 // Refusals 20 and 25. More entries than a file has room for are refused before their lengths are added up.
 fn lengths_refusal(entries: &[u8], bodies: &[u8], room: usize) -> u8
     ensures { result ≡ first_of (length_rows entries.now bodies.now room) 0 }
 {
-    if entries.len() % GIVEN_WIDTH != 0 {
-        return refusals::FILE_LENGTH;
-    }
     let n = given_count(entries);
-    if n > MOST_ENTRIES {
-        return refusals::FILE_LENGTH;
-    }
-    if given_end(entries, n) != bodies.len() {
+    if entries.len() % GIVEN_WIDTH != 0
+        || n > MOST_ENTRIES
+        || given_end(entries, n) != bodies.len()
+    {
         return refusals::FILE_LENGTH;
     }
     let length = entry_place(n) + bodies.len();
@@ -140,11 +137,9 @@ fn write_contents(entries: &[u8], n: usize, at: usize, room: &mut [u8])
         ≡ patch room.old contents_start (copied_items entries.now at n) }
 {
     let mut offset = at;
-    let mut i = 0;
-    while i < n {
+    for i in 0..n {
         write_entry(entries, i, offset, room);
         offset += given_length(entries, i);
-        i += 1;
     }
 }
 

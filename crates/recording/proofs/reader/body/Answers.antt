@@ -10,8 +10,8 @@ use Rattle.recording.proofs.ReadLaws.{fields_within}
 use borrow.Author.Rules.{rules}
 use Rattle.recording.proofs.reader.body.Goals as goal
 
-pub overflow_add-end : goal.overflow_add-end
-overflow_add-end c =
+pub overflow_add-result : goal.overflow_add-result
+overflow_add-result c =
     let f = c.args.file.now in
     let r = c.entry-fields.result in
     let within : r.start + r.length ≤ length f =

@@ -1,52 +1,54 @@
-use mathlib.Core.Path.{sym}
-use Prim.Native.Nat.{◌<◌}
-use native.Mathlib.Omega.{arith}
+use mathlib.Core.Path.{◌≡◌, sym, ap, ◌∙◌}
+use mathlib.Core.Bool.{Bool}
+use mathlib.Core.List.{List}
+use Prim.Native.Nat.{ℕ}
+use lib.Dec.{ltb}
+use borrow.Author.Tests.{tests}
+use borrow.Author.Rules.{rules}
+use Rattle.std.proofs.lemmas.Iterator.{YieldsList-from_range}
+use Rattle.std.proofs.lemmas.Iterator.Search.{all_from_yields_List}
+use Rattle.octets.specs.Index.{all_below}
+use Rattle.octets.proofs.Chains.{all_over}
+use Rattle.recording.specs.Format.{recorded_clock_limit}
 use Rattle.recording.specs.Writer.{given_count, given_word, given_clock}
-use Rattle.recording.proofs.WriteLaws.{given_within, heads_none, heads_more, refused_word_lem, refused_clock, heads_taken}
+use Rattle.recording.proofs.WriteLaws.{refused_word_lem, refused_clock, heads_taken}
 use Rattle.recording.proofs.writer.heads_refusal.Goals as goal
 
-pub loop-i-init : goal.loop-i-init
-loop-i-init c = (c.given_count-n.ensures, heads_none c.args.entries.now)
+abbrev small : List ℕ → ℕ → Bool
+small g i = ltb (given_word g i) 2
 
-pub overflow_mul-words : goal.overflow_mul-words
-overflow_mul-words c =
-    let within : c.loop-i.i < given_count c.args.entries.now = omega (arith, c.loop-i.invariant.0, c.loop-i-test.true) in
-    record { fits = omega (arith, given_within c.args.entries.now c.loop-i.i within) }
+abbrev in_time : List ℕ → ℕ → Bool
+in_time g i = ltb (given_clock g i) recorded_clock_limit
 
-pub overflow_add-words : goal.overflow_add-words
-overflow_add-words c =
-    let within : c.loop-i.i < given_count c.args.entries.now = omega (arith, c.loop-i.invariant.0, c.loop-i-test.true) in
-    record { fits = omega (arith, given_within c.args.entries.now c.loop-i.i within) }
+pub returns-then-not-all : goal.returns-then-not-all
+returns-then-not-all c =
+    let g = c.args.entries.now in
+    let n = c.given_count-n.result in
+    let words : c.all.result ≡ all_below (small g) (given_count g) =
+    all_from_yields_List (small g) _ _ _ c.all.ensures.ran (YieldsList-from_range 0 n n (search rules) (search rules)) (λ x b q k. search (rules, tests))
+    ∙ all_over (small g) n ∙ ap (all_below (small g)) c.given_count-n.ensures in
+    sym (refused_word_lem g (sym words ∙ c.if-not-all.true))
 
-pub bounds-entries-i : goal.bounds-entries-i
-bounds-entries-i c =
-    let within : c.loop-i.i < given_count c.args.entries.now = omega (arith, c.loop-i.invariant.0, c.loop-i-test.true) in
-    omega (arith, given_within c.args.entries.now c.loop-i.i within)
-
-pub overflow_mul-i : goal.overflow_mul-i
-overflow_mul-i c =
-    let within : c.loop-i.i < given_count c.args.entries.now = omega (arith, c.loop-i.invariant.0, c.loop-i-test.true) in
-    record { fits = omega (arith, given_within c.args.entries.now c.loop-i.i within) }
-
-pub number_of_8_at-clocks-requires : goal.number_of_8_at-clocks-requires
-number_of_8_at-clocks-requires c =
-    let within : c.loop-i.i < given_count c.args.entries.now = omega (arith, c.loop-i.invariant.0, c.loop-i-test.true) in
-    omega (arith, given_within c.args.entries.now c.loop-i.i within)
-
-pub loop-i-preserved : goal.loop-i-preserved
-unfolding given_word given_clock
-loop-i-preserved c =
-    let within : c.loop-i.i < given_count c.args.entries.now = omega (arith, c.loop-i.invariant.0, c.loop-i-test.true) in
-    (c.loop-i.invariant.0, rw c.number_of_8_at-clocks.ensures (heads_more c.loop-i.invariant.1 within))
-
-pub returns-then-words-gt1 : goal.returns-then-words-gt1
-returns-then-words-gt1 c =
-    sym (refused_word_lem c.loop-i.invariant.1 (omega (arith, c.loop-i.invariant.0, c.loop-i-test.false)) c.if-words-gt1.true)
-
-pub returns-then-clocks-ge-CLOCK_LIMIT : goal.returns-then-clocks-ge-CLOCK_LIMIT
-returns-then-clocks-ge-CLOCK_LIMIT c =
-    sym (refused_clock c.loop-i.invariant.1 (omega (arith, c.loop-i.invariant.0, c.loop-i-test.false)) c.if-words-gt1.false c.if-clocks-ge-CLOCK_LIMIT.true)
+pub returns-then-not-all-2 : goal.returns-then-not-all-2
+returns-then-not-all-2 c =
+    let g = c.args.entries.now in
+    let n = c.given_count-n.result in
+    let words : c.all.result ≡ all_below (small g) (given_count g) =
+    all_from_yields_List (small g) _ _ _ c.all.ensures.ran (YieldsList-from_range 0 n n (search rules) (search rules)) (λ x b q k. search (rules, tests))
+    ∙ all_over (small g) n ∙ ap (all_below (small g)) c.given_count-n.ensures in
+    let clocks : c.all-2.result ≡ all_below (in_time g) (given_count g) =
+    all_from_yields_List (in_time g) _ _ _ c.all-2.ensures.ran (YieldsList-from_range 0 n n (search rules) (search rules)) (λ x b q k. search (rules, tests))
+    ∙ all_over (in_time g) n ∙ ap (all_below (in_time g)) c.given_count-n.ensures in
+    sym (refused_clock g (sym words ∙ c.if-not-all.false) (sym clocks ∙ c.if-not-all-2.true))
 
 pub returns : goal.returns
 returns c =
-    sym (heads_taken c.loop-i.invariant.1 (omega (arith, c.loop-i.invariant.0, c.loop-i-test.false)) c.if-words-gt1.false c.if-clocks-ge-CLOCK_LIMIT.false)
+    let g = c.args.entries.now in
+    let n = c.given_count-n.result in
+    let words : c.all.result ≡ all_below (small g) (given_count g) =
+    all_from_yields_List (small g) _ _ _ c.all.ensures.ran (YieldsList-from_range 0 n n (search rules) (search rules)) (λ x b q k. search (rules, tests))
+    ∙ all_over (small g) n ∙ ap (all_below (small g)) c.given_count-n.ensures in
+    let clocks : c.all-2.result ≡ all_below (in_time g) (given_count g) =
+    all_from_yields_List (in_time g) _ _ _ c.all-2.ensures.ran (YieldsList-from_range 0 n n (search rules) (search rules)) (λ x b q k. search (rules, tests))
+    ∙ all_over (in_time g) n ∙ ap (all_below (in_time g)) c.given_count-n.ensures in
+    sym (heads_taken g (sym words ∙ c.if-not-all.false) (sym clocks ∙ c.if-not-all-2.false))

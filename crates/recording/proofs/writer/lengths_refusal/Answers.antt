@@ -4,6 +4,7 @@ use native.Mathlib.Omega.{arith}
 use Rattle.recording.specs.Writer.{given_start, file_length}
 use Rattle.recording.specs.Format.{longest_file}
 use Rattle.recording.proofs.WriteLaws.{entry_cut, bodies_differ, add_up_lem, refused_apart, refused_long, refused_many, refused_room, lengths_taken}
+use Rattle.recording.proofs.writer.lengths_refusal.Goals.{then-entries-ne0-via-then-entries-ne0, then-entries-ne0-via-else-entries-ne0+then-n-gt-MOST_ENTRIES, then-entries-ne0-via-else-entries-ne0+else-n-gt-MOST_ENTRIES+then-given_end-bodies}
 use Rattle.recording.proofs.writer.lengths_refusal.Goals as goal
 
 pub returns-then-entries-ne0 : goal.returns-then-entries-ne0
@@ -11,22 +12,15 @@ returns-then-entries-ne0 c =
     let g = c.args.entries.now in
     let bodies = c.args.bodies.now in
     let room = c.args.room in
-    sym (refused_apart g bodies room (entry_cut g bodies c.if-entries-ne0.true))
-
-pub returns-then-n-gt-MOST_ENTRIES : goal.returns-then-n-gt-MOST_ENTRIES
-returns-then-n-gt-MOST_ENTRIES c =
-    let g = c.args.entries.now in
-    let bodies = c.args.bodies.now in
-    let room = c.args.room in
-    sym (refused_many g bodies room (omega (arith, c.given_count-n.ensures, c.if-n-gt-MOST_ENTRIES.true)))
-
-pub returns-then-given_end-bodies : goal.returns-then-given_end-bodies
-returns-then-given_end-bodies c =
-    let g = c.args.entries.now in
-    let bodies = c.args.bodies.now in
-    let room = c.args.room in
-    let end = c.given_end.ensures ∙ ap (given_start g) c.given_count-n.ensures in
-    sym (refused_apart g bodies room (bodies_differ g bodies c.if-entries-ne0.false (λ q. c.if-given_end-bodies.true (end ∙ q))))
+    let n = c.given_count-n.ensures in
+    sym
+    (elim c.then-entries-ne0.branch [
+      | then-entries-ne0-via-then-entries-ne0 w ↦ refused_apart g bodies room (entry_cut g bodies w.if-entries-ne0.true)
+      | then-entries-ne0-via-else-entries-ne0+then-n-gt-MOST_ENTRIES w ↦ refused_many g bodies room (omega (arith, n, w.if-n-gt-MOST_ENTRIES.true))
+      | then-entries-ne0-via-else-entries-ne0+else-n-gt-MOST_ENTRIES+then-given_end-bodies w ↦
+          let end = w.given_end.ensures ∙ ap (given_start g) n in
+          refused_apart g bodies room (bodies_differ g bodies w.if-entries-ne0.false (λ q. w.if-given_end-bodies.true (end ∙ q)))
+    ])
 
 pub returns-then-length-gt-LONGEST_FILE : goal.returns-then-length-gt-LONGEST_FILE
 unfolding file_length

@@ -18,12 +18,12 @@ loop-i-init c =
     let g = c.args.entries.now in
     let at = c.args.at in
     let none = sym (add-zero at) ∙ ap (λ (k : ℕ). at + k) (given_start_none g) in
-    (search rules, (refl, (none, items_none g at c.args.room.now)))
+    record { length = refl; offset = none; written = items_none g at c.args.room.now }
 
 pub write_entry-requires : goal.write_entry-requires
 write_entry-requires c =
     let i = c.loop-i-test.true in
-    let same = c.loop-i.invariant.1.0 in
+    let same = c.loop-i.invariant.length in
     (omega (arith, c.requires.0), omega (arith, c.requires.1), omega (arith, c.requires.3))
 
 pub given_length-offset-requires : goal.given_length-offset-requires
@@ -37,7 +37,7 @@ overflow_add-offset c =
     let within : i < given_count g = omega (arith, c.requires.0, c.loop-i-test.true) in
     let most = given_start_most g i b (omega arith) in
     let long = given_long g i b within in
-    record { fits = omega (arith, c.given_length-offset.ensures, c.requires.1, c.requires.2, c.loop-i.invariant.1.1.0) }
+    record { fits = omega (arith, c.given_length-offset.ensures, c.requires.1, c.requires.2, c.loop-i.invariant.offset) }
 
 pub loop-i-preserved : goal.loop-i-preserved
 loop-i-preserved c =
@@ -45,14 +45,14 @@ loop-i-preserved c =
     let at = c.args.at in
     let i = c.loop-i.i in
     let within : i < given_count g = omega (arith, c.requires.0, c.loop-i-test.true) in
-    let offset = c.loop-i.invariant.1.1.0 in
+    let offset = c.loop-i.invariant.offset in
     let next = ap₂ (λ (p q : ℕ). p + q) offset c.given_length-offset.ensures ∙ add_assoc at _ _ ∙ ap (λ (k : ℕ). at + k) (given_start_more g i) in
-    let item = ap₂ (λ (r : List ℕ) (k : ℕ). patch r (entry_place head_width i) (copied_item g k i)) c.loop-i.invariant.1.1.1 offset in
+    let item = ap₂ (λ (r : List ℕ) (k : ℕ). patch r (entry_place head_width i) (copied_item g k i)) c.loop-i.invariant.written offset in
     let more = items_more g at c.args.room.now i within (omega (arith, c.requires.3, c.loop-i-test.true)) in
-    (search rules, (search rules, (next, c.write_entry.ensures ∙ item ∙ more)))
+    record { length = search rules; offset = next; written = c.write_entry.ensures ∙ item ∙ more }
 
 pub returns : goal.returns
 returns c =
     let a = c.args in
-    let all = le_antisymm c.loop-i.invariant.0 c.loop-i-test.false in
-    c.loop-i.invariant.1.1.1 ∙ ap (λ (k : ℕ). patch a.room.now contents_start (copied_items a.entries.now a.at k)) all
+    let all = le_antisymm c.loop-i.auto.i-end c.loop-i-test.false in
+    c.loop-i.invariant.written ∙ ap (λ (k : ℕ). patch a.room.now contents_start (copied_items a.entries.now a.at k)) all

@@ -1,5 +1,5 @@
 use mathlib.Core.Path.{◌≡◌}
-use Prim.Native.Nat.{◌+◌, ◌-◌, ◌≤◌}
+use Prim.Native.Nat.{◌+◌}
 use lib.ListN.{length}
 use Rattle.octets.specs.Part.{patch}
 use Rattle.recording.specs.Shape.{contents_start}
@@ -9,7 +9,8 @@ use Rattle.recording.proofs.writer.write_contents.Given as goal
 
 abbrev pub invariant-loop-i : goal.invariant-loop-i
 invariant-loop-i l =
-    (l.i ≤ l.n) × ((length l.room ≡ length l.initial.room) × ((l.offset ≡ l.at + given_start l.entries l.i) × (l.room ≡ patch l.initial.room contents_start (copied_items l.entries l.at l.i))))
-
-abbrev pub decreases-loop-i : goal.decreases-loop-i
-decreases-loop-i l = l.n - l.i
+    record {
+      length : length l.room ≡ length l.initial.room;
+      offset : l.offset ≡ l.at + given_start l.entries l.i;
+      written : l.room ≡ patch l.initial.room contents_start (copied_items l.entries l.at l.i);
+    }
