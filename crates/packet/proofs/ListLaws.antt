@@ -1,11 +1,10 @@
--- Parts of plain lists: sixteen bytes, one byte and the rest, as both packet types end; parts that a slice is too short for.
-use Prim.Native.Nat.{ℕ, ◌+◌, ◌-◌, ◌≤◌, ◌<◌}
-use native.Mathlib.Nat.{sub-zero}
+-- Parts of plain lists: sixteen bytes, one byte and the rest, as both packet types end.
+use Prim.Native.Nat.{ℕ, ◌+◌, ◌≤◌}
 use native.Mathlib.Omega.{arith}
 use mathlib.Core.List.{List, [], ◌∷◌, ◌++◌, append_assoc}
 use mathlib.Core.Path.{◌≡◌, sym, ap, ap₂, ◌∙◌}
-use lib.ListN.{length, get_or, take, drop, length-take, length-drop, length-append, drop_of_length-le}
-use lib.Seq.{take-add, take_all, take-suc, drop-drop, drop-length, take_at, drop_at, get_or_at, get_or-drop}
+use lib.ListN.{length, get_or, take, drop, length-take, length-drop, length-append}
+use lib.Seq.{take-add, take_all, take-suc, drop-drop, take_at, drop_at, get_or_at, get_or-drop}
 use Rattle.octets.specs.Part.{part, patch}
 use Rattle.octets.proofs.Part.{part_mid, patch_join}
 use Rattle.packet.specs.Places.{address_width, end_width}
@@ -49,25 +48,10 @@ module _ (x y : List ℕ) (v : ℕ) (z : List ℕ) (a : ℕ) (ex : length x ≡ 
       ∙ sym (drop-drop 1 (a + address_width) (x ++ y ++ (v ∷ z)))
       ∙ ap (drop 1) (drop_at (x ++ y) (v ∷ z) (a + address_width) joined_length)
 
--- ---- parts that reach past the end
-pub to_end : (s : List ℕ) (at : ℕ) → take (length s - at) (drop at s) ≡ drop at s
-to_end s at = take_all (length s - at) (drop at s) (simp length-drop (omega arith))
-
-pub past_end : (s : List ℕ) (at : ℕ) → length s < at → take (length s - length s) (drop (length s) s) ≡ drop at s
-past_end s at l = to_end s (length s) ∙ drop-length s ∙ sym (drop_of_length-le s {i = at} (omega arith))
-
-module _ (s : List ℕ) (at n : ℕ) where
-  pub part_short : length (drop at s) < n → drop at s ≡ part s at n
-  unfolding part
-  part_short l = sym (take_all n (drop at s) (omega arith))
-
-  pub part_cut : take (n - 0) (drop at s) ≡ part s at n
-  unfolding part
-  part_cut = ap (λ (k : ℕ). take k (drop at s)) (sub-zero n)
-
-  pub part_most : (k : ℕ) → n ≤ k → length (part s at n) ≤ k
-  unfolding part
-  part_most k h = simp length-take (omega arith)
+-- ---- a part is no longer than it is asked to be
+pub part_most : (s : List ℕ) (at n k : ℕ) → n ≤ k → length (part s at n) ≤ k
+unfolding part
+part_most s at n k h = simp length-take (omega arith)
 
 -- ---- what is written at the start of a buffer
 pub patched_start : (t bs : List ℕ) (n : ℕ) → length bs ≡ n → take n (patch t 0 bs) ≡ bs

@@ -1,10 +1,9 @@
 -- The laws of reading: where the payload starts, and what a packet that reads is.
-use Prim.Native.Nat.{ℕ, ◌≤◌, ◌<◌, zero-le}
-use native.Mathlib.Nat.{not-suc-le-zero}
+use Prim.Native.Nat.{ℕ, ◌≤◌, ◌<◌}
 use native.Mathlib.Omega.{arith}
 use mathlib.Core.Bool.{Bool, true, false, not}
-use mathlib.Core.List.{List, [], ◌∷◌}
-use mathlib.Core.Path.{◌≡◌, refl, sym, ap, ap₂, subst, ◌∙◌}
+use mathlib.Core.List.{List}
+use mathlib.Core.Path.{◌≡◌, refl, sym, ap, ap₂, ◌∙◌}
 use lib.Dec.{ltb}
 use lib.ListN.{length, get_or, length-drop}
 use borrow.Author.Tests.{lt-ltb, le-ltb, ltb-false, le-leb, leb-true, eq-eqb, ne_eqb, eqb-true, not-false}
@@ -153,10 +152,6 @@ unfolding payload
 payload_least p = simp length-drop (omega arith)
 
 -- ---- what the code of reading asks
-pub header_none : (p : List ℕ) → length p ≡ 0 → 0 ≡ header_of p
-header_none [] e = refl
-header_none (x ∷ p) e = absurd (not-suc-le-zero (subst (λ (n : ℕ). n ≤ 0) (sym e) zero-le))
-
 module _ (size : ℕ) (p : List ℕ) (q : Parts) where
   pub answer_refused : (n : ℕ) → n ≡ reading_refusal size p → (n ≡ 0 → ⊥) → q ≡ no_parts → record { refusal = n; parts = q } ≡ reading size p
   unfolding reading

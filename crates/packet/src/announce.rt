@@ -32,7 +32,7 @@ pub fn blob(body: &[u8]) -> [u8; 10]
     ensures { result ≡ blob_of body.now }
 {
     let mut r = [0u8; 10];
-    octets::copy(&mut r, &body[BLOB_AT..BLOB_END]);
+    r.copy_from_slice(&body[BLOB_AT..BLOB_END]);
     r
 }
 

@@ -15,8 +15,7 @@ pub fn hash_start(buffer: &[u8], n: usize) -> [u8; 32]
     requires { (n ≤ length buffer.now) × (n ≤ longest_message) }
     ensures { result ≡ sha256_of (take n buffer.now) }
 {
-    let digest = sha256::sha256(&buffer[0..n]);
-    digest.bytes
+    sha256::sha256(&buffer[..n]).bytes
 }
 
 // The first 16 bytes of a hash.

@@ -17,10 +17,7 @@ use numbers::{LEAST_SIZE, LONGEST_PACKET, refusals};
 fn header_of(packet: &[u8]) -> u8
     ensures { result ≡ header_of packet.now }
 {
-    if packet.len() == 0 {
-        return 0;
-    }
-    packet[0]
+    packet.first().copied().unwrap_or(0)
 }
 
 // Where the payload starts.
@@ -37,11 +34,7 @@ pub fn payload_start(header: u8) -> usize
 pub fn from(s: &[u8], at: usize) -> &[u8]
     ensures { result.now ≡ drop at s.now }
 {
-    if s.len() < at {
-        let end = s.len();
-        return &s[end..];
-    }
-    &s[at..]
+    &s[at.min(s.len())..]
 }
 
 // The n bytes of s from place at on, or those of them that s has.
@@ -49,28 +42,21 @@ pub fn part_of(s: &[u8], at: usize, n: usize) -> &[u8]
     ensures { result.now ≡ part s.now at n }
 {
     let rest = from(s, at);
-    if rest.len() < n {
-        return rest;
-    }
-    &rest[0..n]
+    &rest[..n.min(rest.len())]
 }
 
 // The payload: a part of the packet that was lent, not a copy.
 pub fn payload(packet: &[u8]) -> &[u8]
     ensures { result.now ≡ payload_of packet.now }
 {
-    let at = payload_start(header_of(packet));
-    from(packet, at)
+    from(packet, payload_start(header_of(packet)))
 }
 
 // Whether a port may have this size.
 pub fn is_size(size: usize) -> bool
     ensures { result ≡ is_size size }
 {
-    if size < LEAST_SIZE {
-        return false;
-    }
-    size <= LONGEST_PACKET
+    LEAST_SIZE <= size && size <= LONGEST_PACKET
 }
 
 // The refusal of a packet that is read against a size, or 0.
@@ -90,10 +76,8 @@ pub fn reading_refusal(packet: &[u8], size: usize) -> u8
     if access_code(header) {
         return refusals::ACCESS_CODE;
     }
-    if type_two(header) {
-        if packet.len() < TYPE_TWO_START {
-            return refusals::TOO_SHORT;
-        }
+    if type_two(header) && packet.len() < TYPE_TWO_START {
+        return refusals::TOO_SHORT;
     }
     refusals::NONE
 }
@@ -157,12 +141,13 @@ pub fn read(packet: &[u8], size: usize) -> Reading
 {
     let refusal = reading_refusal(packet, size);
     if refusal != refusals::NONE {
-        let parts = no_parts();
-        return Reading { refusal, parts };
+        return Reading {
+            refusal,
+            parts: no_parts(),
+        };
     }
-    let parts = parts_of(packet);
     Reading {
         refusal: refusals::NONE,
-        parts,
+        parts: parts_of(packet),
     }
 }

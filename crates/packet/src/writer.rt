@@ -44,14 +44,12 @@ pub fn write_packet(parts: Parts, payload: &[u8], output: &mut [u8])
     requires { payload_start parts.header + length payload.now ≤ length output.old }
     ensures { output.new ≡ patch output.old 0 (packet_of parts payload.now) }
 {
-    let destination = parts.destination;
     octets::set_at(output, 0, parts.header);
     octets::set_at(output, HOPS_AT, parts.hops);
     if type_two(parts.header) {
-        let relay = parts.relay;
-        octets::copy_at(output, ADDRESS_AT, &relay);
+        octets::copy_at(output, ADDRESS_AT, &parts.relay);
         write_end(
-            destination,
+            parts.destination,
             parts.context,
             payload,
             output,
@@ -59,7 +57,13 @@ pub fn write_packet(parts: Parts, payload: &[u8], output: &mut [u8])
         );
         return;
     }
-    write_end(destination, parts.context, payload, output, ADDRESS_AT);
+    write_end(
+        parts.destination,
+        parts.context,
+        payload,
+        output,
+        ADDRESS_AT,
+    );
 }
 
 // Writes the packet of these parts and this payload at the start of the output.

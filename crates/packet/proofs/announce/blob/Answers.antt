@@ -4,4 +4,4 @@ use Rattle.packet.proofs.announce.blob.Goals as goal
 
 pub returns : goal.returns
 unfolding blob_of part
-returns c = c.copy.ensures
+returns c = c.copy_from_slice.ensures.after

@@ -1,16 +1,13 @@
-use Rattle.packet.proofs.ListLaws.{part_short, part_cut}
 use mathlib.Core.Path.{ap, ◌∙◌}
-use Prim.Native.Nat.{◌-◌}
-use lib.ListN.{length, take}
-use native.Mathlib.Omega.{arith}
+use Prim.Native.Nat.{ℕ}
+use lib.ListN.{take}
+use Rattle.std.proofs.lemmas.List.{take_min}
+use Rattle.octets.specs.Part.{part}
 use Rattle.packet.proofs.reader.part_of.Goals as goal
 
-pub returns-then-rest-n : goal.returns-then-rest-n
-returns-then-rest-n c =
-    let a = c.args in
-    c.from-rest.ensures ∙ part_short a.s.now a.at a.n (omega (arith, ap length c.from-rest.ensures, c.if-rest-n.true))
-
 pub returns : goal.returns
+unfolding part
 returns c =
     let a = c.args in
-    ap (take (a.n - 0)) c.from-rest.ensures ∙ part_cut a.s.now a.at a.n
+    let rest = c.from-rest.result.now in
+    ap (λ (k : ℕ). take k rest) c.min.ensures ∙ take_min a.n rest ∙ ap (take a.n) c.from-rest.ensures

@@ -16,6 +16,7 @@ use Rattle.packet.specs.Header.{access_code, type_two}
 use Rattle.packet.specs.Read.{header_of, reading_rows, reading_refusal}
 use Rattle.packet.specs.Places.{type_one_start, type_two_start}
 use Rattle.packet.proofs.ReadLaws.{refused_short}
+use Rattle.packet.proofs.reader.reading_refusal.Goals.{else-type_two-via-then-type_two+else-packet-lt-TYPE_TWO_START, else-type_two-via-else-type_two}
 use Rattle.packet.proofs.reader.reading_refusal.Goals as goal
 
 -- the last row decides where the others passed
@@ -53,15 +54,15 @@ returns-then-packet-lt-TYPE_TWO_START c =
     let two = sym c.type_two.ensures ∙ c.if-type_two.true in
     sym (last ∙ then_true 1 0 (and_yes _ two ∙ lt-ltb _ type_two_start c.if-packet-lt-TYPE_TWO_START.true))
 
-pub returns-else-packet-lt-TYPE_TWO_START : goal.returns-else-packet-lt-TYPE_TWO_START
-returns-else-packet-lt-TYPE_TWO_START c =
+pub returns : goal.returns
+returns c =
     let sized = sym c.is_size.ensures ∙ c.if-not-is_size.false in
     let last = last_row _ _ sized c.if-packet-lt-TYPE_ONE_START.false c.if-size-packet.false (sym c.access_code.ensures ∙ c.if-access_code.false) in
-    let two = sym c.type_two.ensures ∙ c.if-type_two.true in
-    sym (last ∙ then_false 1 0 (and_yes _ two ∙ le-ltb _ type_two_start c.if-packet-lt-TYPE_TWO_START.false))
-
-pub returns-else-type_two : goal.returns-else-type_two
-returns-else-type_two c =
-    let sized = sym c.is_size.ensures ∙ c.if-not-is_size.false in
-    let last = last_row _ _ sized c.if-packet-lt-TYPE_ONE_START.false c.if-size-packet.false (sym c.access_code.ensures ∙ c.if-access_code.false) in
-    sym (last ∙ then_false 1 0 (and_no _ (sym c.type_two.ensures ∙ c.if-type_two.false)))
+    let two = sym c.type_two.ensures in
+    sym
+    (last ∙ then_false 1 0
+    (elim c.else-type_two.branch [
+      | else-type_two-via-then-type_two+else-packet-lt-TYPE_TWO_START w ↦
+          and_yes _ (two ∙ w.if-type_two.true) ∙ le-ltb _ type_two_start w.if-packet-lt-TYPE_TWO_START.false
+      | else-type_two-via-else-type_two w ↦ and_no _ (two ∙ w.if-type_two.false)
+    ]))
