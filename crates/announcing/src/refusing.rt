@@ -1,9 +1,9 @@
 // The refusals of both calls, by lengths.
-ghost use Rattle.std.specs.Prelude.{◌≡◌};
-ghost use Rattle.octets.specs.Listed.{first_of};
-ghost use Rattle.announcing.specs.Announcing.{wrong_lengths, announce_rows};
-ghost use Rattle.announcing.specs.Steps.{announce_length};
+ghost use Rattle.std.specs.Prelude.{◌≡◌, length};
+ghost use Rattle.announcing.specs.Announcing.{wrong_lengths};
+ghost use Rattle.announcing.specs.Steps.{refusal_by};
 
+use super::Announce;
 use numbers::{CLOCK_LIMIT, LEAST_OUTPUT, LONGEST_PACKET, refusals};
 use packet::places::{
     KEYS_WIDTH, LEAST_ANNOUNCE, NAME_HASH_WIDTH, RANDOM_WIDTH, RATCHET_WIDTH, SIGNATURE_WIDTH,
@@ -13,60 +13,36 @@ use packet::places::{
 // The announce without a ratchet and app data.
 pub const LEAST_LENGTH: usize = TYPE_ONE_START + LEAST_ANNOUNCE;
 
-// Whether one of these lengths is wrong. A ratchet may be missing.
-fn wrong_lengths(
-    keys: usize,
-    name_hash: usize,
-    random: usize,
-    ratchet: usize,
-    signature: usize,
-) -> bool
-    ensures { result ≡ wrong_lengths keys name_hash random ratchet signature }
-{
-    if keys != KEYS_WIDTH {
-        return true;
+impl Announce<'_> {
+    // Whether a length is wrong, the signature's among them. A ratchet may be missing.
+    fn wrong_lengths(&self, signature: usize) -> bool
+        ensures { result
+            ≡ wrong_lengths (length self.now.keys) (length self.now.name_hash) (length self.now.random)
+            (length self.now.ratchet) signature }
+    {
+        self.keys.len() != KEYS_WIDTH
+            || self.name_hash.len() != NAME_HASH_WIDTH
+            || self.random.len() != RANDOM_WIDTH
+            || self.ratchet.len() != 0 && self.ratchet.len() != RATCHET_WIDTH
+            || signature != SIGNATURE_WIDTH
     }
-    if name_hash != NAME_HASH_WIDTH {
-        return true;
-    }
-    if random != RANDOM_WIDTH {
-        return true;
-    }
-    if ratchet == RATCHET_WIDTH {
-        return signature != SIGNATURE_WIDTH;
-    }
-    if ratchet != 0 {
-        return true;
-    }
-    signature != SIGNATURE_WIDTH
-}
 
-// The refusal, or 0.
-pub fn announce_refusal(
-    keys: usize,
-    name_hash: usize,
-    random: usize,
-    clock: u64,
-    ratchet: usize,
-    app_data: usize,
-    signature: usize,
-    room: usize,
-) -> u8
-    ensures { result
-        ≡ first_of (announce_rows keys name_hash random ratchet signature clock (announce_length ratchet app_data)
-        room) 0 }
-{
-    if wrong_lengths(keys, name_hash, random, ratchet, signature) {
-        return refusals::ANNOUNCE_PART;
+    // The refusal with a signature of this length and so much room, or 0.
+    pub fn refusal(&self, signature: usize, room: usize) -> u8
+        ensures { result ≡ refusal_by self.now signature room }
+    {
+        if self.wrong_lengths(signature) {
+            return refusals::ANNOUNCE_PART;
+        }
+        if self.clock >= CLOCK_LIMIT {
+            return refusals::CLOCK;
+        }
+        if self.app_data.len() > LONGEST_PACKET - LEAST_LENGTH - self.ratchet.len() {
+            return refusals::ANNOUNCE_TOO_LONG;
+        }
+        if room < LEAST_OUTPUT {
+            return refusals::OUTPUT;
+        }
+        refusals::NONE
     }
-    if clock >= CLOCK_LIMIT {
-        return refusals::CLOCK;
-    }
-    if app_data > LONGEST_PACKET - LEAST_LENGTH - ratchet {
-        return refusals::ANNOUNCE_TOO_LONG;
-    }
-    if room < LEAST_OUTPUT {
-        return refusals::OUTPUT;
-    }
-    refusals::NONE
 }
