@@ -13,7 +13,7 @@ use text::{Text, with_bytes, with_character, with_number, with_word};
 fn with_way(line: Text, hops: u8, destination: [u8; 16]) -> Text
     ensures { result ≡ appended line (spaced (way_words hops destination)) }
 {
-    let sent = with_number(with_word(line, b"hops"), hops as u64);
+    let sent = with_number(with_word(line, b"hops"), u64::from(hops));
     with_bytes(with_word(sent, b"to"), &destination)
 }
 
@@ -41,12 +41,9 @@ pub fn parts_line(parts: Parts, size: usize) -> Text
     ensures { result ≡ text_of (words_line (parts_words parts size)) }
 {
     let header = parts.header;
-    let destination = parts.destination;
-    let relay = parts.relay;
-    let typed = type_line(header);
-    let named = with_names(typed, header);
-    let sent = with_way(named, parts.hops, destination);
+    let named = with_names(type_line(header), header);
+    let sent = with_way(named, parts.hops, parts.destination);
     let loaded = with_payload(sent, parts.context, size);
-    let whole = with_relay(loaded, header, relay);
+    let whole = with_relay(loaded, header, parts.relay);
     with_character(whole, b'\n')
 }

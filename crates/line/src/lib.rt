@@ -18,11 +18,8 @@ pub fn line_of(packet: &[u8]) -> Text
     ensures { result ≡ text_of (line_text packet.now) }
 {
     let reading = packet::read(packet, LONGEST_PACKET);
-    let refusal = reading.refusal;
-    if refusal != 0 {
-        return text::refused_line(refusal);
+    if reading.refusal != 0 {
+        return text::refused_line(reading.refusal);
     }
-    let parts = reading.parts;
-    let payload = packet::payload(packet);
-    parts_line(parts, payload.len())
+    parts_line(reading.parts, packet::payload(packet).len())
 }

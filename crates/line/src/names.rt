@@ -32,16 +32,13 @@ fn with_kind(line: Text, kind: u8, zero: &[u8], one: &[u8], two: &[u8], three: &
     ensures { result ≡ appended line
         (spaced (kind_word kind zero.now one.now two.now three.now ∷ [])) }
 {
-    if kind == 0 {
-        return with_word(line, zero);
-    }
-    if kind == 1 {
-        return with_word(line, one);
-    }
-    if kind == 2 {
-        return with_word(line, two);
-    }
-    with_word(line, three)
+    let word = match kind {
+        0 => zero,
+        1 => one,
+        2 => two,
+        _ => three,
+    };
+    with_word(line, word)
 }
 
 // The line with the header's other names.

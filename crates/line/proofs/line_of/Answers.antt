@@ -12,28 +12,28 @@ use Rattle.packet.specs.declared.Parts.{Parts}
 use native.Mathlib.Omega.{arith}
 use Rattle.line.proofs.line_of.Goals as goal
 
-pub returns-then-refusal-ne0 : goal.returns-then-refusal-ne0
-returns-then-refusal-ne0 c =
+pub returns-then-reading-ne0 : goal.returns-then-reading-ne0
+returns-then-reading-ne0 c =
     let after_read = c.read-reading in
     let p = c.args.packet.now in
     let number : after_read.result.refusal ≡ reading_refusal longest_packet p = read_refusal p after_read.result after_read.ensures in
     c.refused_line.ensures
     ∙ ap (λ (n : ℕ). text_of (words_line (refused_words n))) number
-    ∙ ap text_of (sym (line_refused p (λ (e : reading_refusal longest_packet p ≡ 0). c.if-refusal-ne0.true (number ∙ e))))
+    ∙ ap text_of (sym (line_refused p (λ (e : reading_refusal longest_packet p ≡ 0). c.if-reading-ne0.true (number ∙ e))))
 
 pub parts_line-requires : goal.parts_line-requires
 parts_line-requires c =
     let after_read = c.read-reading in
     let p = c.args.packet.now in
-    omega (arith, ap length c.payload-payload.ensures, payload_least p, read_short p after_read.result after_read.ensures c.if-refusal-ne0.false)
+    omega (arith, ap length c.payload.ensures, payload_least p, read_short p after_read.result after_read.ensures c.if-reading-ne0.false)
 
 pub returns : goal.returns
 returns c =
     let after_read = c.read-reading in
-    let after-payload = c.payload-payload in
+    let after-payload = c.payload in
     let p = c.args.packet.now in
-    let read : after_read.result.parts ≡ parts_of p = read_parts p after_read.result after_read.ensures c.if-refusal-ne0.false in
+    let read : after_read.result.parts ≡ parts_of p = read_parts p after_read.result after_read.ensures c.if-reading-ne0.false in
     c.parts_line.ensures
     ∙ ap (λ (q : Parts). text_of (words_line (parts_words q (length after-payload.result.now)))) read
     ∙ ap (λ (l : List ℕ). text_of (words_line (parts_words (parts_of p) (length l)))) after-payload.ensures
-    ∙ ap text_of (sym (line_read p (sym (read_refusal p after_read.result after_read.ensures) ∙ c.if-refusal-ne0.false)))
+    ∙ ap text_of (sym (line_read p (sym (read_refusal p after_read.result after_read.ensures) ∙ c.if-reading-ne0.false)))

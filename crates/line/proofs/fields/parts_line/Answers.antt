@@ -26,6 +26,6 @@ returns c =
       c.with_payload-loaded.ensures,
       c.with_way-sent.ensures,
       c.with_names-named.ensures,
-      c.type_line-typed.ensures,
+      c.type_line.ensures,
     )
     (simp words_appended (line_appended (type_name h) words fit))

@@ -1,26 +1,25 @@
-use borrow.Author.Tests.{eq-eqb, ne_eqb}
+use mathlib.Core.Path.{◌≡◌, ap, ◌∙◌}
+use mathlib.Core.List.{List, [], ◌∷◌}
+use Prim.Native.Nat.{ℕ}
+use borrow.Author.Tests.{ne_eqb}
 use Rattle.octets.specs.Choice.{◌then◌otherwise◌}
+use Rattle.text.specs.Text.{appended}
+use Rattle.text.specs.Words.{spaced}
 use Rattle.line.specs.Line.{kind_word}
+use Rattle.line.proofs.names.with_kind.Goals.{in-0, in-1, in-2, in_default}
 use Rattle.line.proofs.names.with_kind.Goals as goal
-
-pub returns-then-kind-eq0 : goal.returns-then-kind-eq0
-unfolding kind_word ◌then◌otherwise◌
-returns-then-kind-eq0 c = rw (c.with_word.ensures, eq-eqb c.args.kind 0 c.if-kind-eq0.true)
-
-pub returns-then-kind-eq1 : goal.returns-then-kind-eq1
-unfolding kind_word ◌then◌otherwise◌
-returns-then-kind-eq1 c =
-    let kind = c.args.kind in
-    rw (c.with_word-then-kind-eq1.ensures, ne_eqb kind 0 c.if-kind-eq0.false, eq-eqb kind 1 c.if-kind-eq1.true)
-
-pub returns-then-kind-eq2 : goal.returns-then-kind-eq2
-unfolding kind_word ◌then◌otherwise◌
-returns-then-kind-eq2 c =
-    let kind = c.args.kind in
-    rw (c.with_word-then-kind-eq2.ensures, ne_eqb kind 0 c.if-kind-eq0.false, ne_eqb kind 1 c.if-kind-eq1.false, eq-eqb kind 2 c.if-kind-eq2.true)
 
 pub returns : goal.returns
 unfolding kind_word ◌then◌otherwise◌
 returns c =
-    let kind = c.args.kind in
-    rw (c.with_word-2.ensures, ne_eqb kind 0 c.if-kind-eq0.false, ne_eqb kind 1 c.if-kind-eq1.false, ne_eqb kind 2 c.if-kind-eq2.false)
+    let a = c.args in
+    let word : c.match-kind.word.now ≡ kind_word a.kind a.zero.now a.one.now a.two.now a.three.now =
+    elim c.match-kind.branch [
+      | in-0 w ↦ rw (w.word-is, w.in-0.is)
+      | in-1 w ↦ rw (w.word-is, w.in-1.is)
+      | in-2 w ↦ rw (w.word-is, w.in-2.is)
+      | in_default w ↦
+          let d = w.in_default in
+          rw (w.word-is, ne_eqb a.kind 0 d.not-0, ne_eqb a.kind 1 d.not-1, ne_eqb a.kind 2 d.not-2)
+    ] in
+    c.with_word.ensures ∙ ap (λ (l : List ℕ). appended a.line (spaced (l ∷ []))) word
