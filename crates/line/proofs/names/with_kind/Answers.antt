@@ -1,6 +1,7 @@
 use mathlib.Core.Path.{◌≡◌, ap, ◌∙◌}
 use mathlib.Core.List.{List, [], ◌∷◌}
 use Prim.Native.Nat.{ℕ}
+use borrow.Author.Rules.{rules}
 use borrow.Author.Tests.{ne_eqb}
 use Rattle.octets.specs.Choice.{◌then◌otherwise◌}
 use Rattle.text.specs.Text.{appended}
@@ -19,7 +20,7 @@ returns c =
       | in-1 w ↦ rw (w.word-is, w.in-1.is)
       | in-2 w ↦ rw (w.word-is, w.in-2.is)
       | in_default w ↦
-          let d = w.in_default in
-          rw (w.word-is, ne_eqb a.kind 0 d.not-0, ne_eqb a.kind 1 d.not-1, ne_eqb a.kind 2 d.not-2)
+          let none = w.in_default in
+          rw (w.word-is, ne_eqb a.kind 0 (search rules), ne_eqb a.kind 1 (search rules), ne_eqb a.kind 2 (search rules))
     ] in
     c.with_word.ensures ∙ ap (λ (l : List ℕ). appended a.line (spaced (l ∷ []))) word
