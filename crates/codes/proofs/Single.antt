@@ -15,6 +15,7 @@ use Rattle.octets.proofs.Bytes.{nil_bytes, cons_bytes, part_bytes, big_endian_by
 use Rattle.octets.proofs.BigEndian.{big_endian_length, number_big_endian, number_lt}
 use Rattle.octets.proofs.ListOf.{list_of_length, list_of_get_d}
 use Rattle.octets.proofs.Part.{part_length, part_nil, part_one, part_whole, part_again}
+use mir.Val.{bool_byte}
 use Rattle.codes.specs.Codes.{byte_code, mark_of, mark_code, number_code, exactly, octets_code, given_code}
 use Rattle.codes.proofs.Same.{same_byte}
 use Rattle.codes.proofs.Law.{Lawful}
@@ -34,6 +35,12 @@ byte_lawful =
     }
 
 -- ---- a mark
+-- `u8::from(x)` is x's mark
+pub byte_mark : (x : Bool) → bool_byte x ≡ mark_of x
+unfolding mark_of ◌then◌otherwise◌
+byte_mark true = refl
+byte_mark false = refl
+
 mark_again : (m : ℕ) → ltb m 2 ≡ true → mark_of (eqb m 1) ≡ m
 unfolding mark_of ◌then◌otherwise◌
 mark_again zero h = refl

@@ -26,6 +26,7 @@ pub fn print<W: Write>(out: &mut W, line: Text) -> io::Result<()>
 
 // Reads until the buffer is full, the input ends or a read fails. Returns how many bytes it put at the buffer's start,
 // and whether a read failed: what was read before it stays.
+// Kept: the library's read_exact doesn't say how many bytes it read before the input ended or a read failed.
 pub fn read_full<R: Read>(input: &mut R, buffer: &mut [u8]) -> (usize, io::Result<()>)
     ensures fits { result.0 ≤ length buffer.new }
     ensures same_length { length buffer.new ≡ length buffer.old }

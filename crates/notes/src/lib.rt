@@ -58,6 +58,5 @@ pub fn write(b: &mut [u8], at: usize, notes: Notes)
     requires { at + notes_width ≤ length b.old }
     ensures { b.new ≡ patch b.old at (notes_bytes notes) }
 {
-    let bytes: [u8; NOTES_WIDTH] = [codes::mark_of(notes.marked)];
-    octets::copy_at(b, at, &bytes);
+    octets::copy_at(b, at, &[u8::from(notes.marked)]);
 }

@@ -32,7 +32,7 @@ fn tables_refused(refusal: u8) -> Text
     ensures { result ≡ text_of (tables_refused refusal) }
 {
     let start = with_word(with_text(text::empty(), b"tables"), b"refused");
-    with_character(with_number(start, octets::wide(refusal)), b'\n')
+    with_character(with_number(start, u64::from(refusal)), b'\n')
 }
 
 // Replays all entries, and prints the line of each. What the calls leave in the tables is what all steps leave, also

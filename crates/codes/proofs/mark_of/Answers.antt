@@ -1,11 +1,6 @@
-use Rattle.octets.specs.Choice.{◌then◌otherwise◌}
-use Rattle.codes.specs.Codes.{mark_of}
+use mathlib.Core.Path.{◌∙◌}
+use Rattle.codes.proofs.Single.{byte_mark}
 use Rattle.codes.proofs.mark_of.Goals as goal
 
-pub returns-then-answer : goal.returns-then-answer
-unfolding mark_of ◌then◌otherwise◌
-returns-then-answer c = rw c.if-answer.true
-
 pub returns : goal.returns
-unfolding mark_of ◌then◌otherwise◌
-returns c = rw c.if-answer.false
+returns c = c.from.ensures ∙ byte_mark c.args.answer
