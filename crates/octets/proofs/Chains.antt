@@ -34,7 +34,7 @@ pub equal_is_agree : (n : ℕ) (a b : List ℕ) → length a ≡ n → length b 
 equal_is_agree n a b l m = equal_is_same a b ∙ same_agree n a b l m
 
 -- ---- `all`, `find` and `position`: the first index before the others
-all_front : (p : ℕ → Bool) (n : ℕ) → all_below p (suc n) ≡ (p 0 and all_below (λ k. p (suc k)) n)
+pub all_front : (p : ℕ → Bool) (n : ℕ) → all_below p (suc n) ≡ (p 0 and all_below (λ k. p (suc k)) n)
 unfolding all_below ◌and◌
 all_front p zero = sym (and_true (p 0))
 all_front p (suc n) =

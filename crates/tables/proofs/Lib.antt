@@ -4,6 +4,7 @@ pub mod Tests
 pub mod Lent
 pub mod Seen
 pub mod Loops
+pub mod Chunks
 pub mod Plain
 pub mod Section
 pub mod Patches
