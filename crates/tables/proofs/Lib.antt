@@ -3,7 +3,6 @@ pub mod All
 pub mod Tests
 pub mod Lent
 pub mod Seen
-pub mod Loops
 pub mod Chunks
 pub mod Plain
 pub mod Section

@@ -1,6 +1,6 @@
 -- Four records at once: the laws of `together`, plain records keep row 7, and what is left to test where only ports and times are plain.
 use Prim.Native.Nat.{ℕ, zero, suc, ◌+◌, ◌*◌, ◌-◌, ◌%◌, ◌^◌, ◌≤◌, ◌<◌}
-use native.Mathlib.Nat.{zero-mod, add-zero}
+use native.Mathlib.Nat.{zero-mod}
 use native.Mathlib.Numerals.{add-one}
 use native.Mathlib.Omega.{arith}
 use mathlib.Core.Bool.{Bool, true, false}
@@ -10,7 +10,7 @@ use lib.Bits.{bit_or, or_mod}
 use lib.Dec.{eqb, ltb}
 use lib.ListN.{length, get_or}
 use lib.Pow.{pow_pos}
-use borrow.Author.Tests.{lt-ltb, ltb-true, le-leb, eq-eqb, ne_eqb, eqb-true, eqb-false}
+use borrow.Author.Tests.{lt-ltb, ltb-true, le-leb, eqb-true, eqb-false}
 use Rattle.octets.specs.Bytes.{Bytes}
 use Rattle.octets.specs.Index.{◌and◌, all_below}
 use Rattle.octets.specs.Choice.{◌or◌}
@@ -19,16 +19,17 @@ use Rattle.octets.specs.BigEndian.{number, word_width}
 use Rattle.octets.proofs.Agree.{or_ltb}
 use Rattle.octets.proofs.BigEndian.{number_lt}
 use Rattle.octets.proofs.Bytes.{part_bytes}
-use Rattle.octets.proofs.Index.{and_left, and_right, and_both, and_yes, all_at, all_both, all_cong, all_fails}
+use Rattle.octets.proofs.Index.{and_left, and_right, and_both, all_at, all_both, all_cong}
 use Rattle.octets.proofs.Part.{part_at, part_part, part_length, number_part, number_one}
-use Rattle.numbers.specs.Numbers.{port_count, clock_limit}
+use Rattle.numbers.specs.Numbers.{port_count, return_count, hash_count, clock_limit}
 use Rattle.rules.specs.Refusals.{time_ok, return_ok, hash_ok}
 use Rattle.tables.specs.Places.{time_width, return_width, hash_width}
 use Rattle.tables.specs.Fields.{return_arrival_at, return_leaving_at, return_expiry_at, hash_expiry_at}
 use Rattle.tables.specs.Records.{return_of, return_bytes_ok, hash_of, hash_bytes_ok}
 use Rattle.tables.specs.Layout.{record_at, records_ok}
-use Rattle.tables.specs.Groups.{together, ways_plain, return_plain, hash_plain, used_or_zero}
-use Rattle.tables.proofs.Tests.{slot_bytes_ok, slot_unused, slot_used, return_test, hash_test}
+use Rattle.tables.specs.Groups.{together, ways_plain, plain, used_or_zero, Grouped}
+use Rattle.tables.specs.Forms.{return_form, hash_form}
+use Rattle.tables.proofs.Tests.{slot_bytes_ok, slot_unused, slot_used, return_test, hash_test, unused}
 
 -- ---- `together`: an OR is tested in place of its numbers
 pub together_ltb : (k : ℕ) (f : ℕ → ℕ) (n : ℕ) → ltb (together f n) (2 ^ k) ≡ all_below (λ i. ltb (f i) (2 ^ k)) n
@@ -67,47 +68,28 @@ module _ (t : List ℕ) (at w : ℕ) where
   unfolding together
   one_together k there read h = rw (add-one, read, there, h)
 
--- ---- marks, one after the other: the one of index k stands at its place
-module _ (t : List ℕ) (at w mark : ℕ) where
-  abbrev pub marked : ℕ → Bool
-  marked k = eqb (get_or t (at + w * k) 0) mark
+-- ---- the marks and the numbers of n records, one after the other
+module _ (p : ℕ → Bool) (a w n : ℕ) (t : List ℕ) (fits : a + word_width ≤ w) where
+  field : (k : ℕ) → number (part (record_at 0 w t k) a word_width) ≡ number (part t (a + w * k) word_width)
+  field k = ap number (part_part t (0 + w * k) w a word_width fits ∙ ap (λ (i : ℕ). part t i word_width) (omega arith))
 
-  module _ (k : ℕ) {place : ℕ} (there : place ≡ at + w * k) where
-    pub mark_last : all_below marked k ≡ true → eqb (get_or t place 0) mark ≡ all_below marked (k + 1)
-    unfolding all_below
-    mark_last h = rw (add-one, there) (sym (and_yes _ h))
-
-    pub mark_more : all_below marked k ≡ true → get_or t place 0 ≡ mark → all_below marked (k + 1) ≡ true
-    mark_more h e = sym (mark_last h) ∙ eq-eqb _ _ e
-
-    pub mark_fails : (n : ℕ) → k < n → (get_or t place 0 ≡ mark → ⊥) → false ≡ all_below marked n
-    mark_fails n l ne = sym (all_fails marked k n l (ap (λ (i : ℕ). eqb (get_or t i 0) mark) (sym there) ∙ ne_eqb _ _ ne))
-
--- ---- the marks and the numbers of n records, where they stand in the tables
-module _ (p : ℕ → Bool) (at a w n : ℕ) (t : List ℕ) (fits : a + word_width ≤ w) where
-  abbrev tested : List ℕ → Bool
-  tested b = eqb (get_or b 0 0) 1 and p (number (part b a word_width))
-
-  field : (k : ℕ) → number (part (record_at at w t k) a word_width) ≡ number (part t (at + a + w * k) word_width)
-  field k = ap number (part_part t (at + w * k) w a word_width fits ∙ ap (λ (i : ℕ). part t i word_width) (omega arith))
-
-  pub records_apart : records_ok tested at w n t
-      ≡ (all_below (λ k. eqb (get_or t (at + w * k) 0) 1) n and all_below (λ k. p (number (part t (at + a + w * k) word_width))) n)
-  unfolding records_ok
-  records_apart =
-      all_cong (λ k. tested (record_at at w t k)) (λ k. eqb (get_or t (at + w * k) 0) 1 and p (number (part t (at + a + w * k) word_width))) n
+  pub plain_apart : records_ok (plain a p) 0 w n t
+      ≡ (all_below (λ k. eqb (get_or t (w * k) 0) 1) n and all_below (λ k. p (number (part t (a + w * k) word_width))) n)
+  unfolding records_ok plain
+  plain_apart =
+      all_cong (λ k. plain a p (record_at 0 w t k)) (λ k. eqb (get_or t (w * k) 0) 1 and p (number (part t (a + w * k) word_width))) n
       (λ k l. ap₂ (λ (x y : ℕ). eqb x 1 and p y)
-      (part_at t (at + w * k) w 0 (omega arith) ∙ ap (λ (i : ℕ). get_or t i 0) (add-zero (at + w * k))) (field k))
-      ∙ all_both (λ k. eqb (get_or t (at + w * k) 0) 1) (λ k. p (number (part t (at + a + w * k) word_width))) n
+      (part_at t (0 + w * k) w 0 (omega arith) ∙ ap (λ (i : ℕ). get_or t i 0) (omega arith)) (field k))
+      ∙ all_both (λ k. eqb (get_or t (w * k) 0) 1) (λ k. p (number (part t (a + w * k) word_width))) n
 
   -- where the numbers of n records pass, a test that is equal to `ok` on such a record takes its place
   pub records_left : (ok left : List ℕ → Bool)
-      → ((k : ℕ) → k < n → p (number (part (record_at at w t k) a word_width)) ≡ true → ok (record_at at w t k) ≡ left (record_at at w t k))
-      → all_below (λ k. p (number (part t (at + a + w * k) word_width))) n ≡ true → records_ok left at w n t ≡ records_ok ok at w n t
+      → ((k : ℕ) → k < n → p (number (part (record_at 0 w t k) a word_width)) ≡ true → ok (record_at 0 w t k) ≡ left (record_at 0 w t k))
+      → all_below (λ k. p (number (part t (a + w * k) word_width))) n ≡ true → records_ok left 0 w n t ≡ records_ok ok 0 w n t
   unfolding records_ok
   records_left ok left same h =
-      all_cong (λ k. left (record_at at w t k)) (λ k. ok (record_at at w t k)) n
-      (λ k l. sym (same k l (ap p (field k) ∙ all_at (λ j. p (number (part t (at + a + w * j) word_width))) n k h l)))
+      all_cong (λ k. left (record_at 0 w t k)) (λ k. ok (record_at 0 w t k)) n
+      (λ k l. sym (same k l (ap p (field k) ∙ all_at (λ j. p (number (part t (a + w * j) word_width))) n k h l)))
 
 -- ---- plain records keep row 7
 time_plain : (x : ℕ) → x < clock_limit → time_ok x ≡ true
@@ -128,11 +110,6 @@ unfolding hash_ok hash_of
 hash_left b size h =
     hash_test b ∙ ap (λ (w : ℕ). slot_bytes_ok w (λ s. hash_ok (hash_of s)) b) (sym size)
     ∙ used_left (λ s. hash_ok (hash_of s)) b (omega arith) (time_plain _ (ltb-true _ _ h))
-
-pub hash_plain_lem : (b : List ℕ) → hash_plain b ≡ true → hash_bytes_ok b ≡ true
-unfolding hash_plain hash_ok hash_of
-hash_plain_lem b h =
-    hash_test b ∙ slot_used hash_width _ b (eqb-true _ _ (and_left _ _ h)) ∙ time_plain _ (ltb-true _ _ (and_right _ _ h))
 
 module _ (b : List ℕ) (bytes : Bytes b) (size : length b ≡ return_width) where
   below : (a n : ℕ) → a + n ≤ length b → number (part b a n) < 256 ^ n
@@ -172,12 +149,41 @@ module _ (b : List ℕ) (bytes : Bytes b) (size : length b ≡ return_width) whe
       let expiry : number (part b return_expiry_at time_width) < clock_limit = omega arith in
       and_both (lt-ltb _ _ arrival) (and_both (lt-ltb _ _ leaving) (time_plain _ expiry))
 
-  pub return_plain_lem : return_plain b ≡ true → return_bytes_ok b ≡ true
-  unfolding return_plain
-  return_plain_lem h =
-      return_test b ∙ slot_used return_width _ b (eqb-true _ _ (and_left _ _ h)) ∙ ways (and_right _ _ h)
-
   pub return_left : ways_plain (number (part b return_arrival_at word_width)) ≡ true → return_bytes_ok b ≡ used_or_zero b
   return_left h =
       return_test b ∙ ap (λ (w : ℕ). slot_bytes_ok w (λ s. return_ok (return_of s)) b) (sym size)
       ∙ used_left (λ s. return_ok (return_of s)) b (omega arith) (ways h)
+
+-- a plain one is used, so that neither is left to test
+pub plain_kept : (at : ℕ) (small : ℕ → Bool) (ok : List ℕ → Bool) (b : List ℕ) → (small (number (part b at word_width)) ≡ true → ok b ≡ used_or_zero b) → plain at small b ≡ true → ok b ≡ true
+unfolding plain used_or_zero ◌or◌
+plain_kept at small ok b left h = left (and_right _ _ h) ∙ rw (and_left _ _ h)
+
+-- ---- both rings
+pub returns_grouped : (from : ℕ) → from ≤ 16 → Grouped return_count return_width return_arrival_at from return_bytes_ok ways_plain
+unfolding return_bytes_ok
+returns_grouped from near = record {
+  whole = refl;
+  few = omega arith;
+  wide = omega arith;
+  narrow = omega arith;
+  within = omega arith;
+  near = near;
+  unused = unused return_form;
+  at_once = together_plain;
+  left = λ b bytes size h. return_left b bytes size h;
+}
+
+pub hashes_grouped : (from : ℕ) → from ≤ 16 → Grouped hash_count hash_width hash_expiry_at from hash_bytes_ok (λ x. ltb x clock_limit)
+unfolding hash_bytes_ok
+hashes_grouped from near = record {
+  whole = refl;
+  few = omega arith;
+  wide = omega arith;
+  narrow = omega arith;
+  within = omega arith;
+  near = near;
+  unused = unused hash_form;
+  at_once = together_ltb 40;
+  left = λ b bytes size h. hash_left b size h;
+}

@@ -15,7 +15,7 @@ use Rattle.octets.proofs.Part.{patch_length, patch_join, part_range, patch_range
 use Rattle.octets.proofs.Joined.{joined_append, joined_one, joined_length, fields_all}
 use Rattle.tables.specs.Layout.{record_at, records, records_ok}
 use Rattle.tables.proofs.Lent.{Lent, record_end}
-use Rattle.tables.proofs.Loops.{range}
+use Rattle.tables.proofs.Chunks.{range}
 use Rattle.tables.proofs.Seen.{record_seen, records_length}
 
 -- what is written leaves what stands behind it

@@ -6,6 +6,7 @@ pub mod fields;
 pub mod places;
 mod plain_check;
 mod record_check;
+mod ring_check;
 mod section_check;
 
 ghost use Rattle.std.specs.Prelude.{◌≡◌};
@@ -19,14 +20,5 @@ pub use section_check::{back_ok, front_ok, paths_each};
 pub fn check(tables: &[u8]) -> bool
     ensures { result ≡ well_formed tables.now }
 {
-    if tables.len() != TABLE_SIZE {
-        return false;
-    }
-    if !front_ok(tables) {
-        return false;
-    }
-    if !paths_ok(tables) {
-        return false;
-    }
-    back_ok(tables, LINKS_AT)
+    tables.len() == TABLE_SIZE && front_ok(tables) && paths_ok(tables) && back_ok(tables, LINKS_AT)
 }

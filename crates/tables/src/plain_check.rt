@@ -5,30 +5,14 @@ ghost use Rattle.std.specs.Prelude.{◌≡◌, ◌+◌, ◌*◌, ◌≤◌, ◌<
 ghost use Rattle.octets.specs.Index.{all_below};
 ghost use Rattle.octets.specs.Part.{part};
 ghost use Rattle.octets.specs.BigEndian.{word_width, number};
-ghost use Rattle.tables.specs.Places.{return_width, hash_width};
-ghost use Rattle.tables.specs.Layout.{records_ok};
-ghost use Rattle.tables.specs.Groups.{together, ways_plain, return_plain, hash_plain, used_or_zero};
+ghost use Rattle.tables.specs.Groups.{together, ways_plain};
 
-use super::fields::{HASH_EXPIRY_AT, RETURN_ARRIVAL_AT};
-use super::places::{HASH_WIDTH, RETURN_WIDTH};
-use super::record_check::used_or_zero;
-use numbers::CLOCK_LIMIT;
-
-// Whether four records have this mark: the first stands at a place, each so much behind the one before it.
-pub fn four_marked(t: &[u8], at: usize, width: usize, mark: u8) -> bool
-    requires { at + width * 3 < length t.now }
-    ensures { result ≡ all_below (λ k. eqb (get_or t.now (at + width * k) 0) mark) 4 }
+// Whether four records have this mark: the first stands at the start, each so much behind the one before it.
+pub fn four_marked(t: &[u8], width: usize, mark: u8) -> bool
+    requires { width * 3 < length t.now }
+    ensures { result ≡ all_below (λ k. eqb (get_or t.now (width * k) 0) mark) 4 }
 {
-    if t[at] != mark {
-        return false;
-    }
-    if t[at + width] != mark {
-        return false;
-    }
-    if t[at + width * 2] != mark {
-        return false;
-    }
-    t[at + width * 3] == mark
+    t[0] == mark && t[width] == mark && t[width * 2] == mark && t[width * 3] == mark
 }
 
 // The OR of four numbers of eight bytes: the first from a place on, each so much behind the one before it.
@@ -47,48 +31,7 @@ pub fn four_together(t: &[u8], at: usize, width: usize) -> u64
 pub fn ways_plain(x: u64) -> bool
     ensures { result ≡ ways_plain x }
 {
-    if x >= 1152921504606846976 {
-        return false;
-    }
-    if x % 72057594037927936 >= 4503599627370496 {
-        return false;
-    }
-    x % 281474976710656 < 16777216
-}
-
-pub fn four_returns_plain(t: &[u8], at: usize) -> bool
-    requires { at + return_width * 4 ≤ length t.now }
-    ensures { result ≡ records_ok return_plain at return_width 4 t.now }
-{
-    if !four_marked(t, at, RETURN_WIDTH, 1) {
-        return false;
-    }
-    ways_plain(four_together(t, at + RETURN_ARRIVAL_AT, RETURN_WIDTH))
-}
-
-pub fn four_hashes_plain(t: &[u8], at: usize) -> bool
-    requires { at + hash_width * 4 ≤ length t.now }
-    ensures { result ≡ records_ok hash_plain at hash_width 4 t.now }
-{
-    if !four_marked(t, at, HASH_WIDTH, 1) {
-        return false;
-    }
-    four_together(t, at + HASH_EXPIRY_AT, HASH_WIDTH) < CLOCK_LIMIT
-}
-
-// What is left to test of four records whose ports and times are plain, as those of unused ones are. A mark is looked
-// at once, and of a used record, as the compiler has it, no more.
-pub fn four_used_or_zero(t: &[u8], at: usize, width: usize) -> bool
-    requires { (16 ≤ width) × (at + width * 4 ≤ length t.now) }
-    ensures { result ≡ records_ok used_or_zero at width 4 t.now }
-{
-    let mut i = 0;
-    while i < 4 {
-        let start = at + width * i;
-        if !used_or_zero(&t[start..start + width]) {
-            return false;
-        }
-        i += 1;
-    }
-    true
+    x < 1152921504606846976
+        && x % 72057594037927936 < 4503599627370496
+        && x % 281474976710656 < 16777216
 }

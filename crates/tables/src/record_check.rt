@@ -19,23 +19,16 @@ pub fn port_ok(b: &[u8]) -> bool
     requires { length b.now ≡ port_width }
     ensures { result ≡ port_bytes_ok b.now }
 {
-    if b[0] >= 2 {
-        return false;
-    }
-    if b[PORT_MODE_AT] >= MODE_COUNT {
-        return false;
-    }
-    packet::is_size(octets::number_at(b, PORT_SIZE_AT, SIZE_WIDTH) as usize)
+    b[0] < 2
+        && b[PORT_MODE_AT] < MODE_COUNT
+        && packet::is_size(octets::number_at(b, PORT_SIZE_AT, SIZE_WIDTH) as usize)
 }
 
 pub fn local_ok(b: &[u8]) -> bool
     requires { length b.now ≡ local_width }
     ensures { result ≡ local_bytes_ok b.now }
 {
-    if b[0] != 1 {
-        return octets::is_zero(b, 16);
-    }
-    true
+    b[0] == 1 || octets::is_zero(b, 16)
 }
 
 // A path's last accepted announce and blocked-until. Its violations are any byte.
@@ -43,10 +36,8 @@ fn rate_ok(b: &[u8]) -> bool
     requires { length b.now ≡ path_width }
     ensures { result ≡ rate_entry_ok (path_of b.now).rate }
 {
-    if octets::number_of_8_at(b, PATH_LAST_AT) >= CLOCK_LIMIT {
-        return false;
-    }
-    octets::number_of_8_at(b, PATH_BLOCKED_UNTIL_AT) <= BLOCKED_LIMIT
+    octets::number_of_8_at(b, PATH_LAST_AT) < CLOCK_LIMIT
+        && octets::number_of_8_at(b, PATH_BLOCKED_UNTIL_AT) <= BLOCKED_LIMIT
 }
 
 pub fn path_ok(b: &[u8]) -> bool
@@ -56,22 +47,12 @@ pub fn path_ok(b: &[u8]) -> bool
     if b[0] != 1 {
         return octets::is_zero(b, 16);
     }
-    if !notes::are_fine(b, PATH_NOTES_AT) {
-        return false;
-    }
-    if b[PATH_PORT_AT] >= PORT_COUNT as u8 {
-        return false;
-    }
-    if b[PATH_BLOB_COUNT_AT] < 1 {
-        return false;
-    }
-    if b[PATH_BLOB_COUNT_AT] > BLOB_LIMIT as u8 {
-        return false;
-    }
-    if octets::number_of_8_at(b, PATH_EXPIRY_AT) > TIME_LIMIT {
-        return false;
-    }
-    rate_ok(b)
+    notes::are_fine(b, PATH_NOTES_AT)
+        && b[PATH_PORT_AT] < PORT_COUNT as u8
+        && 1 <= b[PATH_BLOB_COUNT_AT]
+        && b[PATH_BLOB_COUNT_AT] <= BLOB_LIMIT as u8
+        && octets::number_of_8_at(b, PATH_EXPIRY_AT) <= TIME_LIMIT
+        && rate_ok(b)
 }
 
 pub fn link_ok(b: &[u8]) -> bool
@@ -81,14 +62,9 @@ pub fn link_ok(b: &[u8]) -> bool
     if b[0] != 1 {
         return octets::is_zero(b, 16);
     }
-    if b[LINK_PROVED_AT] >= 2 {
-        return false;
-    }
-    let ports = b[LINK_ASKING_AT] | b[LINK_ANSWERING_AT];
-    if ports >= PORT_COUNT as u8 {
-        return false;
-    }
-    octets::number_of_8_at(b, LINK_EXPIRY_AT) <= TIME_LIMIT
+    b[LINK_PROVED_AT] < 2
+        && b[LINK_ASKING_AT] | b[LINK_ANSWERING_AT] < PORT_COUNT as u8
+        && octets::number_of_8_at(b, LINK_EXPIRY_AT) <= TIME_LIMIT
 }
 
 pub fn return_ok(b: &[u8]) -> bool
@@ -98,11 +74,8 @@ pub fn return_ok(b: &[u8]) -> bool
     if b[0] != 1 {
         return octets::is_zero(b, 16);
     }
-    let ports = b[RETURN_ARRIVAL_AT] | b[RETURN_LEAVING_AT];
-    if ports >= PORT_COUNT as u8 {
-        return false;
-    }
-    octets::number_of_8_at(b, RETURN_EXPIRY_AT) <= TIME_LIMIT
+    b[RETURN_ARRIVAL_AT] | b[RETURN_LEAVING_AT] < PORT_COUNT as u8
+        && octets::number_of_8_at(b, RETURN_EXPIRY_AT) <= TIME_LIMIT
 }
 
 pub fn hash_ok(b: &[u8]) -> bool
@@ -122,8 +95,5 @@ pub fn used_or_zero(b: &[u8]) -> bool
     ensures { result ≡ used_or_zero b.now }
 {
     let zero = octets::is_zero(b, 16);
-    if b[0] != 1 {
-        return zero;
-    }
-    true
+    b[0] == 1 || zero
 }
