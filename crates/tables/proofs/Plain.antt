@@ -21,6 +21,7 @@ use Rattle.octets.proofs.BigEndian.{number_lt}
 use Rattle.octets.proofs.Bytes.{part_bytes}
 use Rattle.octets.proofs.Index.{and_left, and_right, and_both, all_at, all_both, all_cong}
 use Rattle.octets.proofs.Part.{part_at, part_part, part_length, number_part, number_one}
+use Rattle.codes.proofs.Many.{many_end}
 use Rattle.numbers.specs.Numbers.{port_count, return_count, hash_count, clock_limit}
 use Rattle.rules.specs.Refusals.{time_ok, return_ok, hash_ok}
 use Rattle.tables.specs.Places.{time_width, return_width, hash_width}
@@ -29,6 +30,7 @@ use Rattle.tables.specs.Records.{return_of, return_bytes_ok, hash_of, hash_bytes
 use Rattle.tables.specs.Layout.{record_at, records_ok}
 use Rattle.tables.specs.Groups.{together, ways_plain, plain, used_or_zero, Grouped}
 use Rattle.tables.specs.Forms.{return_form, hash_form}
+use Rattle.tables.proofs.Chunks.{records_kept}
 use Rattle.tables.proofs.Tests.{slot_bytes_ok, slot_unused, slot_used, return_test, hash_test, unused}
 
 -- ---- `together`: an OR is tested in place of its numbers
@@ -154,10 +156,21 @@ module _ (b : List ℕ) (bytes : Bytes b) (size : length b ≡ return_width) whe
       return_test b ∙ ap (λ (w : ℕ). slot_bytes_ok w (λ s. return_ok (return_of s)) b) (sym size)
       ∙ used_left (λ s. return_ok (return_of s)) b (omega arith) (ways h)
 
--- a plain one is used, so that neither is left to test
-pub plain_kept : (at : ℕ) (small : ℕ → Bool) (ok : List ℕ → Bool) (b : List ℕ) → (small (number (part b at word_width)) ≡ true → ok b ≡ used_or_zero b) → plain at small b ≡ true → ok b ≡ true
-unfolding plain used_or_zero ◌or◌
-plain_kept at small ok b left h = left (and_right _ _ h) ∙ rw (and_left _ _ h)
+-- ---- n records of a ring
+module _ {count w at from : ℕ} {fine : List ℕ → Bool} {small : ℕ → Bool} (ring : Grouped count w at from fine small)
+    (n : ℕ) (t : List ℕ) (bytes : Bytes t) (long : length t ≡ w * n) where
+  left_of : (k : ℕ) → k < n → small (number (part (record_at 0 w t k) at word_width)) ≡ true → fine (record_at 0 w t k) ≡ used_or_zero (record_at 0 w t k)
+  left_of k l =
+      ring.left (record_at 0 w t k) (part_bytes t (0 + w * k) w bytes) (part_length t (0 + w * k) w (omega (arith, long, many_end w n k l)))
+
+  -- where the numbers of all are small, a test of mark and zeros takes the place of row 7
+  pub small_left : all_below (λ k. small (number (part t (at + w * k) word_width))) n ≡ true → records_ok used_or_zero 0 w n t ≡ records_ok fine 0 w n t
+  small_left h = records_left small at w n t ring.within fine used_or_zero left_of h
+
+  -- plain ones keep row 7
+  pub plain_fine : records_ok (plain at small) 0 w n t ≡ true → records_ok fine 0 w n t ≡ true
+  unfolding plain used_or_zero ◌or◌
+  plain_fine = records_kept (plain at small) fine w n t (λ k l h. left_of k l (and_right _ _ h) ∙ rw (and_left _ _ h))
 
 -- ---- both rings
 pub returns_grouped : (from : ℕ) → from ≤ 16 → Grouped return_count return_width return_arrival_at from return_bytes_ok ways_plain

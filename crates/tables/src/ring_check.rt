@@ -58,7 +58,7 @@ pub trait InRing {
         requires { length b.now ≡ WIDTH }
         ensures { result ≡ fine b.now };
 
-    // Whether those eight bytes are a plain one's, or those of any of several records whose numbers are put together by OR.
+    // Whether these eight bytes, as one number, are small as a plain one's. An OR of several is where each of them is.
     fn is_small(word: u64) -> bool
         ensures { result ≡ small word };
 }

@@ -1,17 +1,15 @@
 use native.Mathlib.Omega.{arith}
 use native.Mathlib.Nat.{mul_assoc}
-use Prim.Native.Nat.{ℕ, ◌+◌, ◌*◌}
+use Prim.Native.Nat.{ℕ, ◌*◌}
 use mathlib.Core.Bool.{true, false≢true}
 use mathlib.Core.Path.{◌≡◌, sym, ap, ◌∙◌}
 use Rattle.std.proofs.Common.{rules, length}
 use Rattle.octets.specs.Index.{zeros}
-use Rattle.octets.proofs.Bytes.{known_bytes, part_bytes}
-use Rattle.octets.proofs.Part.{part_length}
-use Rattle.codes.proofs.Many.{many_end}
-use Rattle.tables.specs.Layout.{record_at, records_ok}
+use Rattle.octets.proofs.Bytes.{known_bytes}
+use Rattle.tables.specs.Layout.{records_ok}
 use Rattle.tables.specs.Groups.{group_size, plain}
-use Rattle.tables.proofs.Plain.{plain_kept}
-use Rattle.tables.proofs.Chunks.{every_chunk, groups_are_records, all_unused, records_kept}
+use Rattle.tables.proofs.Chunks.{every_chunk, groups_are_records, all_unused}
+use Rattle.tables.proofs.Plain.{plain_fine}
 use Rattle.tables.proofs.ring_check.group_ok.Goals as goal
 use Rattle.tables.proofs.ring_check.group_ok.Goals.{then-is_zero, else-is_zero, then-four_marked, else-four_marked}
 
@@ -19,8 +17,6 @@ pub returns-then-all : goal.returns-then-all
 returns-then-all g c =
     let R = g.R.InRing in
     let t = c.args.group.now in
-    let bytes = known_bytes t c.type_inv.group in
-    let long : length t ≡ R.WIDTH * 8 * 16 = c.requires.long ∙ sym (mul_assoc R.WIDTH 8 16) in
     elim c.if-is_zero.branch [
       | then-is_zero w ↦ elim c.if-four_marked.branch [
         | then-four_marked v ↦
@@ -29,23 +25,20 @@ returns-then-all g c =
         | else-four_marked v ↦ absurd (false≢true (sym v.if-four_marked.false ∙ sym v.value-is ∙ w.if-is_zero.true))
       ]
       | else-is_zero w ↦
-          let width = w.chunks_exact.ensures.size ∙ ap (λ (k : ℕ). k * 8) w.WIDTH-else-is_zero.ensures in
           let p = plain R.WORD_AT R.small in
-          let plainly = every_chunk (records_ok p 0 R.WIDTH 8) (R.WIDTH * 8) 16 w.all.ensures.ran width (omega (arith, c.requires.grouped.wide)) (λ x b q k. search rules) t w.chunks_exact.ensures.rest long
-          ∙ groups_are_records p 0 R.WIDTH 8 t 16 in
+          let chunks = w.chunks_exact.ensures in
+          let eights = every_chunk (records_ok p 0 R.WIDTH 8) (R.WIDTH * 8) 16 w.all.ensures.ran (chunks.size ∙ ap (λ (k : ℕ). k * 8) w.WIDTH-else-is_zero.ensures)
+          (omega (arith, c.requires.grouped.wide)) (λ x b q k. search rules) t chunks.rest (c.requires.long ∙ sym (mul_assoc R.WIDTH 8 16)) in
           c.if-all.true
-          ∙ sym (records_kept p R.fine R.WIDTH group_size t
-          (λ i l. plain_kept R.WORD_AT R.small R.fine (record_at 0 R.WIDTH t i)
-          (c.requires.grouped.left _ (part_bytes t (0 + R.WIDTH * i) R.WIDTH bytes)
-          (part_length t (0 + R.WIDTH * i) R.WIDTH (omega (arith, c.requires.long, many_end R.WIDTH group_size i l)))))
-          (sym plainly ∙ sym w.value-is ∙ c.if-all.true))
+          ∙ sym (plain_fine c.requires.grouped group_size t (known_bytes t c.type_inv.group) c.requires.long
+          (sym (groups_are_records p 0 R.WIDTH 8 t 16) ∙ sym eights ∙ sym w.value-is ∙ c.if-all.true))
     ]
 
 pub returns-else-all : goal.returns-else-all
 returns-else-all g c =
     let R = g.R.InRing in
     let t = c.args.group.now in
-    let width = c.chunks_exact-else-all.ensures.size ∙ ap (λ (k : ℕ). k * 4) c.WIDTH-else-all.ensures in
-    every_chunk (records_ok R.fine 0 R.WIDTH 4) (R.WIDTH * 4) 32 c.all-else-all.ensures.ran width (omega (arith, c.requires.grouped.wide)) (λ x b q k. search rules)
-    t c.chunks_exact-else-all.ensures.rest (c.requires.long ∙ sym (mul_assoc R.WIDTH 4 32))
+    let chunks = c.chunks_exact-else-all.ensures in
+    every_chunk (records_ok R.fine 0 R.WIDTH 4) (R.WIDTH * 4) 32 c.all-else-all.ensures.ran (chunks.size ∙ ap (λ (k : ℕ). k * 4) c.WIDTH-else-all.ensures)
+    (omega (arith, c.requires.grouped.wide)) (λ x b q k. search rules) t chunks.rest (c.requires.long ∙ sym (mul_assoc R.WIDTH 4 32))
     ∙ groups_are_records R.fine 0 R.WIDTH 4 t 32

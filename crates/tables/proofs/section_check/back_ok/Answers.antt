@@ -32,11 +32,12 @@ before : (c : Joined-links_ok) → c.if-links_ok.value
 unfolding ◌and◌
 before c =
     let t = c.args.t.now in
+    let a : ℕ = c.args.at + link_width * link_count in
     let links = c.links_ok.ensures ∙ ap (records_ok link_bytes_ok 0 link_width link_count) (part_range t c.args.at (link_width * link_count))
     ∙ records_of_part link_bytes_ok c.args.at link_width link_count t in
     elim c.if-links_ok.branch [
       | then-links_ok w ↦
-          let returns = w.ring_ok.ensures ∙ ring_in return_bytes_ok (c.args.at + link_width * link_count) return_width return_count t (omega arith) (omega arith) in
+          let returns = w.ring_ok.ensures ∙ ring_in return_bytes_ok a return_width return_count t (omega arith) (omega arith) in
           grind (arith, common_steps, tests)
       | else-links_ok w ↦ grind (arith, common_steps, tests)
     ]
