@@ -1,53 +1,42 @@
 -- Loops over the blobs that a path holds.
-use Prim.Native.Nat.{ℕ, zero, suc, ◌+◌, ◌-◌, ◌*◌, ◌%◌, ◌^◌, ◌≤◌, ◌<◌}
-use native.Mathlib.Nat.{not-suc-le-zero, le_of_suc-le-suc}
-use native.Mathlib.Numerals.{add-one}
+use Prim.Native.Nat.{ℕ, ◌+◌, ◌-◌, ◌*◌, ◌%◌, ◌^◌, ◌≤◌, ◌<◌, max}
 use native.Mathlib.Omega.{arith}
 use mathlib.Core.Bool.{Bool, true, false}
 use mathlib.Core.List.{List, [], ◌∷◌}
 use mathlib.Core.Path.{◌≡◌, refl, sym, ap, ◌∙◌}
-use lib.ListN.{length, get_or, take, drop, drop_of_length-le}
-use lib.Seq.{drop-cons, length-take-le, get_or-take}
-use Rattle.octets.specs.Choice.{same}
+use lib.ListN.{length, get_or, take}
+use lib.Dec.{ltb}
+use lib.Seq.{length-take-le, get_or-take}
+use borrow.Author.Tests.{ltb-true, ltb-false}
+use Rattle.std.specs.Simd.{first_chunks}
+use Rattle.std.specs.List.{fold, list_any}
+use Rattle.std.proofs.lemmas.List.{ext_get_or}
+use Rattle.octets.specs.Choice.{◌then◌otherwise◌, ◌or◌, same}
 use Rattle.octets.specs.Bytes.{Bytes}
 use Rattle.octets.specs.Part.{part}
 use Rattle.octets.specs.BigEndian.{number_from, number, word, word_width}
-use Rattle.octets.specs.Index.{agree}
-use Rattle.octets.proofs.Choice.{or_left, or_right, or_no, or_no_left, or_no_right, same_agree}
-use Rattle.octets.proofs.Agree.{agree_eq}
+use Rattle.octets.proofs.Choice.{ne_same}
+use Rattle.octets.proofs.Chains.{either_is_or}
+use Rattle.codes.proofs.Many.{many_end}
+use Rattle.tables.proofs.Chunks.{chunk_count, chunk_at}
 use Rattle.octets.proofs.ListOf.{list_of_length, list_of_at}
-use Rattle.octets.proofs.Part.{part_length, part_part, part_eight}
+use Rattle.octets.proofs.Part.{part_part, part_eight}
 use Rattle.packet.specs.Announce.{emission_of}
 use Rattle.packet.specs.Places.{emission_width}
 use Rattle.numbers.specs.Numbers.{blob_limit}
 use Rattle.rules.specs.Blobs.{held, is_among, greatest, greatest_emission}
 use Rattle.codes.proofs.Law.{sees_part}
 use Rattle.codes.proofs.Single.{octets_lawful}
-use Rattle.tables.specs.Places.{path_width, blob_width}
+use Rattle.tables.specs.Places.{blob_width}
 use Rattle.tables.specs.Fields.{path_places_at}
 use Rattle.tables.specs.Records.{blobs_of}
 use Rattle.lookup.specs.Search.{last_word}
 
--- ---- whether a blob is among the first i
-module _ (x : List ℕ) where
-  among_none : (ys : List (List ℕ)) → is_among x (take 0 ys) ≡ false
-  unfolding is_among
-  among_none ys = refl
-
-  among_more : (ys : List (List ℕ)) (i : ℕ) → i < length ys → is_among x (take i ys) ≡ false → same (get_or ys i []) x ≡ false
-      → is_among x (take (suc i) ys) ≡ false
-  unfolding is_among
-  among_more [] i l h e = absurd (not-suc-le-zero l)
-  among_more (y ∷ ys) zero l h e = or_no e refl
-  among_more (y ∷ ys) (suc i) l h e =
-      or_no (or_no_left _ _ h) (among_more ys i (le_of_suc-le-suc l) (or_no_right _ _ h) e)
-
-  among_hit : (ys : List (List ℕ)) (i n : ℕ) → i < n → i < length ys → same (get_or ys i []) x ≡ true → is_among x (take n ys) ≡ true
-  unfolding is_among
-  among_hit ys i zero l m e = absurd (not-suc-le-zero l)
-  among_hit [] i (suc n) l m e = absurd (not-suc-le-zero m)
-  among_hit (y ∷ ys) zero (suc n) l m e = or_left _ e
-  among_hit (y ∷ ys) (suc i) (suc n) l m e = or_right _ (among_hit ys i n (le_of_suc-le-suc l) (le_of_suc-le-suc m) e)
+-- ---- whether a blob is among those
+pub any_among : (x : List ℕ) (ys : List (List ℕ)) → list_any (λ y. same y x) ys ≡ is_among x ys
+unfolding is_among
+any_among x [] = refl
+any_among x (y ∷ ys) = either_is_or (same y x) (list_any (λ z. same z x) ys) ∙ ap (λ (b : Bool). same y x or b) (any_among x ys)
 
 -- where the last eight bytes of a blob start, and in them the emission
 abbrev pub last_word_at : ℕ
@@ -61,34 +50,33 @@ abbrev pub emission_limit : ℕ
 emission_limit = 256 ^ emission_width
 
 -- ---- the last eight bytes first: where those at a place are not the blob's, it is another
-pub other_blob : (b x : List ℕ) (at : ℕ) → at + blob_width ≤ length b → length x ≡ blob_width → (word (part b (at + last_word_at) word_width) ≡ last_word x → ⊥)
-    → false ≡ agree (length x) (part b at (length x)) x
+pub other_blob : (y x : List ℕ) → length y ≡ blob_width → length x ≡ blob_width → (word (part y last_word_at word_width) ≡ last_word x → ⊥) → false ≡ same y x
 unfolding last_word
-other_blob b x at fits wide ne = go (agree (length x) (part b at (length x)) x) refl
-  where
-    go : (v : Bool) → agree (length x) (part b at (length x)) x ≡ v → false ≡ v
-    go false q = refl
-    go true q =
-        let tail : length x - word_width ≡ last_word_at = omega (arith, wide) in
-        let same : part b at (length x) ≡ x = agree_eq (length x) (part b at (length x)) x (part_length b at (length x) (omega (arith, wide))) refl q in
-        absurd
-        (ne
-        (ap word (sym (part_part b at (length x) last_word_at word_width (omega (arith, wide))) ∙ ap (λ (y : List ℕ). part y last_word_at word_width) same)
-        ∙ ap (λ (k : ℕ). word (part x k word_width)) (sym tail)))
+other_blob y x wide other ne =
+    let tail : length x - word_width ≡ last_word_at = omega (arith, other) in
+    sym (ne_same y x (λ q. ne (ap (λ (b : List ℕ). word (part b last_word_at word_width)) q ∙ ap (λ (k : ℕ). word (part x k word_width)) (sym tail))))
 
 pub last_of : (x : List ℕ) → length x ≡ blob_width → word (part x last_word_at word_width) ≡ last_word x
 unfolding last_word
 last_of x wide = let tail : length x - word_width ≡ last_word_at = omega (arith, wide) in ap (λ (k : ℕ). word (part x k word_width)) (sym tail)
 
--- ---- the greatest emission of those from i on
-greatest_none : (h : List (List ℕ)) (i : ℕ) → length h ≤ i → greatest_emission (drop i h) ≡ 0
-unfolding greatest_emission
-greatest_none h i l = ap greatest_emission (drop_of_length-le h {i = i} l)
+-- ---- the greatest emission
+greatest_is_max : (x y : ℕ) → greatest x y ≡ max x y
+unfolding greatest ◌then◌otherwise◌
+greatest_is_max x y = go (ltb x y) refl
+  where
+    go : (b : Bool) → ltb x y ≡ b → greatest x y ≡ max x y
+    go true q = rw q (omega (arith, ltb-true x y q))
+    go false q = rw q (omega (arith, ltb-false x y q))
 
-greatest_more : (h : List (List ℕ)) (i : ℕ) → i < length h
-    → greatest (emission_of (get_or h i [])) (greatest_emission (drop (suc i) h)) ≡ greatest_emission (drop i h)
+greatest_behind : (m : ℕ) (ys : List (List ℕ)) → fold (λ n y. max (emission_of y) n) m ys ≡ max m (greatest_emission ys)
 unfolding greatest_emission
-greatest_more h i l = sym (ap greatest_emission (drop-cons h i [] l))
+greatest_behind m [] = omega arith
+greatest_behind m (y ∷ ys) =
+    greatest_behind (max (emission_of y) m) ys ∙ omega (arith, greatest_is_max (emission_of y) (greatest_emission ys))
+
+pub greatest_folded : (ys : List (List ℕ)) → fold (λ n y. max (emission_of y) n) 0 ys ≡ greatest_emission ys
+greatest_folded ys = greatest_behind 0 ys ∙ omega arith
 
 -- ---- a blob's emission is the low five of its last eight bytes
 pub low_five : (t : List ℕ) (a : ℕ) → Bytes t → a + word_width ≤ length t
@@ -113,44 +101,18 @@ module _ (b : List ℕ) where
       list_of_at (λ k. part (part b (path_places_at + blob_width * k) blob_width) 0 blob_width) blob_limit i [] l
       ∙ sees_part (octets_lawful blob_width) b (path_places_at + blob_width * i)
 
-  module _ (x : List ℕ) (wide : length b ≡ path_width) (wx : length x ≡ blob_width) where
-    -- what the comparison with the blob at place i says
-    blob_compared : (i : ℕ) → i < blob_limit → (r : Bool) → r ≡ agree (length x) (part b (path_places_at + blob_width * i) (length x)) x
-        → same (get_or (blobs_of b).places i []) x ≡ r
-    blob_compared i l r e =
-        ap (λ (y : List ℕ). same y x) (blob_at_lem i l)
-        ∙ same_agree blob_width (part b (path_places_at + blob_width * i) blob_width) x (part_length b (path_places_at + blob_width * i) blob_width (omega arith)) wx
-        ∙ sym (e ∙ ap (λ (k : ℕ). agree k (part b (path_places_at + blob_width * i) k) x) wx)
-
-    pub blob_none : is_among x (take 0 (blobs_of b).places) ≡ false
-    blob_none = among_none x (blobs_of b).places
-
-    module _ (i : ℕ) (l : i < blob_limit) {r : Bool} (e : r ≡ agree (length x) (part b (path_places_at + blob_width * i) (length x)) x) where
-      pub blob_not_here : r ≡ false → is_among x (take i (blobs_of b).places) ≡ false → is_among x (take (i + 1) (blobs_of b).places) ≡ false
-      blob_not_here q h =
-          let m : i < length (blobs_of b).places = omega (arith, places_length) in
-          rw (add-one) (among_more x (blobs_of b).places i m h (blob_compared i l r e ∙ q))
-
-      pub blob_here : (n : ℕ) → i < n → r ≡ true → is_among x (take n (blobs_of b).places) ≡ true
-      blob_here n k q = among_hit x (blobs_of b).places i n k (omega (arith, places_length)) (blob_compared i l r e ∙ q)
-
-  module _ (most : (blobs_of b).count ≤ blob_limit) where
-    held_length : length (held (blobs_of b)) ≡ (blobs_of b).count
-    unfolding held
-    held_length = length-take-le (blobs_of b).count (blobs_of b).places (omega (arith, places_length))
-
-    pub held_none : greatest_emission (drop (blobs_of b).count (held (blobs_of b))) ≡ 0
-    held_none = greatest_none (held (blobs_of b)) (blobs_of b).count (omega (arith, held_length))
-
-    pub held_more : (i : ℕ) → 0 < i → i ≤ (blobs_of b).count
-        → greatest (emission_of (part b (path_places_at + blob_width * (i - 1)) blob_width)) (greatest_emission (drop i (held (blobs_of b))))
-        ≡ greatest_emission (drop (i - 1) (held (blobs_of b)))
-    unfolding held
-    held_more i some l =
-        let here : i - 1 < (blobs_of b).count = omega arith in
-        let next : suc (i - 1) ≡ i = omega arith in
-        let there : get_or (held (blobs_of b)) (i - 1) [] ≡ part b (path_places_at + blob_width * (i - 1)) blob_width =
-        get_or-take (blobs_of b).count (blobs_of b).places (i - 1) [] here ∙ blob_at_lem (i - 1) (omega arith) in
-        ap (λ (y : List ℕ). greatest (emission_of y) (greatest_emission (drop i (held (blobs_of b))))) (sym there)
-        ∙ ap (λ (k : ℕ). greatest (emission_of (get_or (held (blobs_of b)) (i - 1) [])) (greatest_emission (drop k (held (blobs_of b))))) (sym next)
-        ∙ greatest_more (held (blobs_of b)) (i - 1) (omega (arith, held_length))
+  pub held_chunks : (blobs_of b).count ≤ blob_limit
+      → first_chunks blob_width (blobs_of b).count (part b path_places_at (blob_width * (blobs_of b).count)) ≡ held (blobs_of b)
+  unfolding held
+  held_chunks most =
+      let n : ℕ = (blobs_of b).count in
+      let places = (blobs_of b).places in
+      let xs : List ℕ = part b path_places_at (blob_width * n) in
+      let size : length (take n places) ≡ n = length-take-le n places (omega (arith, places_length)) in
+      ext_get_or [] (first_chunks blob_width n xs) (take n places) (chunk_count blob_width n xs ∙ sym size)
+      (λ i l.
+      let below : i < n = omega (arith, chunk_count blob_width n xs) in
+      chunk_at blob_width n xs i below
+      ∙ part_part b path_places_at (blob_width * n) (0 + blob_width * i) blob_width (omega (arith, many_end blob_width n i below))
+      ∙ ap (λ (k : ℕ). part b k blob_width) (omega arith)
+      ∙ sym (get_or-take n places i [] below ∙ blob_at_lem i (omega arith)))

@@ -1,13 +1,13 @@
 -- A search through records of one width: as its loop goes, and as the rules see it.
 use Prim.Native.Nat.{ℕ, zero, suc, ◌+◌, ◌-◌, ◌*◌, ◌≤◌, ◌<◌}
-use native.Mathlib.Nat.{add-zero, add-suc, mul-add}
+use native.Mathlib.Nat.{add-zero, add-suc, mul-add, mul_assoc}
 use native.Mathlib.Numerals.{add-one}
 use native.Mathlib.Omega.{arith}
 use mathlib.Core.Bool.{Bool, true, false, not}
 use mathlib.Core.List.{List}
 use mathlib.Core.Path.{◌≡◌, refl, sym, ap, subst, ◌∙◌}
 use lib.Dec.{eqb, ltb}
-use lib.ListN.{length, get_or}
+use lib.ListN.{length, take, drop, get_or, length-take, length-drop}
 use borrow.Author.Tests.{eq-eqb, eqb-false, not-true, lt-ltb, le-ltb, ltb-true, ltb-false}
 use Rattle.octets.specs.Index.{◌and◌, all_below, first}
 use Rattle.octets.specs.Choice.{◌then◌otherwise◌, same}
@@ -16,13 +16,31 @@ use Rattle.octets.specs.BigEndian.{number, word, word_width}
 use Rattle.octets.proofs.Part.{part_part}
 use Rattle.octets.proofs.Choice.{ne_same}
 use Rattle.octets.proofs.Index.{and_left, and_right, and_no, and_yes, and_false, and_assoc, all_none, all_fails, first_none, first_more, first_le, first_hit, first_holds, first_before, first_absent, first_ended, first_cong}
+use Rattle.codes.proofs.Many.{many_end}
 use Rattle.numbers.specs.Numbers.{live}
 use Rattle.rules.specs.Relay.{holds, free, lowest, lowest_free}
 use Rattle.tables.specs.Places.{time_width}
 use Rattle.tables.specs.Records.{slot_of}
 use Rattle.tables.specs.Layout.{record_at, records}
 use Rattle.tables.proofs.Seen.{lowest_seen, free_seen}
+use Rattle.tables.proofs.Chunks.{is_part}
 use Rattle.lookup.specs.Search.{last_word, none_is, is_used, has_key, is_live_of, lowest_record}
+
+-- ---- within a part
+pub lowest_of_part : (test : List ℕ → Bool) (at width n : ℕ) (t : List ℕ)
+    → lowest_record test 0 width n (part t at (width * n)) ≡ lowest_record test at width n t
+unfolding lowest_record
+lowest_of_part test at width n t =
+    first_cong _ _ n
+    (λ k l. ap test
+    (part_part t at (width * n) (0 + width * k) width (omega (arith, many_end width n k l)) ∙ ap (λ (a : ℕ). part t a width) (omega arith)))
+
+-- the place that a chain over the chunks xs found
+pub seen_in : (test : List ℕ → Bool) (at width n : ℕ) (t : List ℕ) {xs : List ℕ} {k : ℕ} → k ≡ first (λ i. test (record_at 0 width xs i)) n
+    → xs ≡ part t at (width * n) → k ≡ lowest_record test at width n t
+unfolding lowest_record
+seen_in test at width n t e bytes =
+    e ∙ ap (λ (ys : List ℕ). first (λ i. test (record_at 0 width ys i)) n) bytes ∙ lowest_of_part test at width n t
 
 -- ---- the loop
 module _ (test : List ℕ → Bool) (at width : ℕ) (t : List ℕ) where
@@ -83,6 +101,53 @@ module _ (test : List ℕ → Bool) (at width : ℕ) (t : List ℕ) (i n : ℕ) 
       let p : ℕ → Bool = λ x. test (record_at at width t x) in
       sym (first_hit p (i + k) count (first_absent p (i + k) (λ j b. first_before p (i + n) j (subst (λ (x : ℕ). j < x) (sym runs) b)))
       (ap p (sym runs) ∙ first_holds p (i + n) (subst (λ (x : ℕ). x < i + n) (sym runs) (omega arith))) (omega arith))
+
+-- fours of which none has one that passes
+pub fours_passed : (test : List ℕ → Bool) (width : ℕ) (t : List ℕ) (m : ℕ)
+    → ((j : ℕ) → j < m → ltb (lowest_record test 0 width 4 (record_at 0 (width * 4) t j)) 4 ≡ false) → lowest_record test 0 width (m * 4) t ≡ m * 4
+fours_passed test width t zero h = none_yet test 0 width t
+fours_passed test width t (suc m) h =
+    let from : ℕ = 0 + width * 4 * m in
+    let stands : from ≡ 0 + width * (m * 4) = ap (λ (n : ℕ). 0 + n) (mul_assoc width 4 m ∙ ap (λ (n : ℕ). width * n) (omega arith)) in
+    let more : suc m * 4 ≡ m * 4 + 4 = omega arith in
+    let last = ltb-false _ _ (ap (λ (k : ℕ). ltb k 4) (sym (lowest_of_part test from width 4 t)) ∙ h m (omega arith)) in
+    ap (λ (n : ℕ). lowest_record test 0 width n t) more
+    ∙ run_passed test 0 width t (m * 4) 4 stands (fours_passed test width t m (λ j l. h j (omega arith))) refl last
+    ∙ sym more
+
+-- m fours of the n records xs, behind which the first that passes is k
+module _ (test : List ℕ → Bool) (at width n fours : ℕ) (tables : List ℕ) {xs : List ℕ} (bytes : xs ≡ part tables at (width * n))
+    (long : length xs ≡ width * n) (count : n ≡ 4 * fours) {m : ℕ}
+    (passed : m ≡ first (λ g. ltb (lowest_record test 0 width 4 (record_at 0 (width * 4) xs g)) 4) fours) where
+  abbrev pub before : ℕ
+  before = m * 4
+
+  pub no_more : before ≤ n
+  no_more = omega (arith, passed, first_le (λ g. ltb (lowest_record test 0 width 4 (record_at 0 (width * 4) xs g)) 4) fours)
+
+  behind : length xs - width * before ≡ width * (n - before)
+  behind =
+      let all : before + (n - before) ≡ n = omega (arith, no_more) in
+      omega (arith, long, mul-add width before (n - before), ap (λ (k : ℕ). width * k) all)
+
+  pub long_behind : length (take (length xs - width * before) (drop (width * before) xs)) ≡ width * (n - before)
+  long_behind =
+      let rest : List ℕ = drop (width * before) xs in
+      omega (arith, length-take (length xs - width * before) rest, length-drop (width * before) xs, behind)
+
+  pub found_behind : {k : ℕ}
+      → k ≡ first (λ i. test (record_at 0 width (take (length xs - width * before) (drop (width * before) xs)) i)) (n - before)
+      → before + k ≡ lowest_record test at width n tables
+  found_behind e =
+      let none = fours_passed test width xs m
+      (λ j l. first_before (λ g. ltb (lowest_record test 0 width 4 (record_at 0 (width * 4) xs g)) 4) fours j (subst (λ (k : ℕ). j < k) passed l)) in
+      let here = seen_in test (width * before) width (n - before) xs e
+      (is_part (length xs - width * before) (width * before) xs ∙ ap (part xs (width * before)) behind) in
+      let all : before + (n - before) ≡ n = omega (arith, no_more) in
+      sym (runs test 0 width xs before (n - before) (omega arith) none here)
+      ∙ ap (λ (k : ℕ). lowest_record test 0 width k xs) all
+      ∙ ap (λ (ys : List ℕ). lowest_record test 0 width n ys) bytes
+      ∙ lowest_of_part test at width n tables
 
 pub lowest_cong : (p q : List ℕ → Bool) (at width n : ℕ) (t : List ℕ) → ((b : List ℕ) → p b ≡ q b)
     → lowest_record p at width n t ≡ lowest_record q at width n t

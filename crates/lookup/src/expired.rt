@@ -12,6 +12,11 @@ use numbers::PATH_COUNT;
 use tables::fields::PATH_EXPIRY_AT;
 use tables::places::{PATH_WIDTH, PATHS_AT};
 
+const NONE: Latest = Latest {
+    there: false,
+    time: 0,
+};
+
 // The expiry of the path at a place, if it is used, of the destination and not live.
 fn expiry_at(tables: &[u8], destination: &[u8], place: usize, clock: u64) -> Latest
     requires { (length tables.now ≡ table_size) × (length destination.now ≡ address_width) × (place < path_count) }
@@ -19,17 +24,11 @@ fn expiry_at(tables: &[u8], destination: &[u8], place: usize, clock: u64) -> Lat
 {
     let b = record_at(tables, PATHS_AT, PATH_WIDTH, place);
     if !has_key(b, destination) {
-        return Latest {
-            there: false,
-            time: 0,
-        };
+        return NONE;
     }
     let expiry = octets::number_of_8_at(b, PATH_EXPIRY_AT);
     if clock < expiry {
-        return Latest {
-            there: false,
-            time: 0,
-        };
+        return NONE;
     }
     Latest {
         there: true,
@@ -59,17 +58,12 @@ pub fn expired_path(tables: &[u8], destination: [u8; 16], clock: u64) -> Latest
     requires { length tables.now ≡ table_size }
     ensures { result ≡ latest_of (expired_path clock (relay_of tables.now) destination) }
 {
-    let mut latest = Latest {
-        there: false,
-        time: 0,
-    };
-    let mut i = 0;
-    while i < PATH_COUNT {
+    let mut latest = NONE;
+    for i in 0..PATH_COUNT {
         let expired = expiry_at(tables, &destination, i, clock);
         if expired.there {
             latest = later(latest, expired);
         }
-        i += 1;
     }
     latest
 }

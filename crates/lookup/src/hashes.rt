@@ -4,23 +4,22 @@ ghost use Rattle.rules.specs.View.{hash_place};
 ghost use Rattle.tables.specs.Places.{table_size};
 ghost use Rattle.tables.specs.Layout.{relay_of};
 
-use super::search::live_place;
+use super::search::{Table, live_place};
 use numbers::HASH_COUNT;
 use tables::fields::HASH_EXPIRY_AT;
 use tables::places::{HASH_WIDTH, HASHES_AT};
+
+const HASHES: Table = Table {
+    at: HASHES_AT,
+    width: HASH_WIDTH,
+    count: HASH_COUNT,
+    expiry: HASH_EXPIRY_AT,
+};
 
 // The lowest place of a hash that is remembered, or 1,024.
 pub fn hash_place(tables: &[u8], hash: [u8; 32], clock: u64) -> usize
     requires { length tables.now ≡ table_size }
     ensures { result ≡ hash_place clock (relay_of tables.now) hash }
 {
-    live_place(
-        tables,
-        HASHES_AT,
-        HASH_WIDTH,
-        HASH_COUNT,
-        HASH_EXPIRY_AT,
-        &hash,
-        clock,
-    )
+    live_place(tables, HASHES, &hash, clock)
 }

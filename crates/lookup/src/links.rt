@@ -6,7 +6,7 @@ ghost use Rattle.tables.specs.Places.{table_size, links_at, link_width};
 ghost use Rattle.tables.specs.Records.{link_of};
 ghost use Rattle.tables.specs.Layout.{record_at, relay_of};
 
-use super::search::{free_place, live_place, record_at};
+use super::search::{Table, free_place, live_place, record_at};
 use numbers::LINK_COUNT;
 use rules::{Link, RemainingHops, TakenHops};
 use tables::fields::{
@@ -15,20 +15,19 @@ use tables::fields::{
 };
 use tables::places::{LINK_WIDTH, LINKS_AT};
 
+const LINKS: Table = Table {
+    at: LINKS_AT,
+    width: LINK_WIDTH,
+    count: LINK_COUNT,
+    expiry: LINK_EXPIRY_AT,
+};
+
 // The lowest live link of an id, or 64.
 pub fn link_place(tables: &[u8], id: [u8; 16], clock: u64) -> usize
     requires { length tables.now ≡ table_size }
     ensures { result ≡ link_place clock (relay_of tables.now) id }
 {
-    live_place(
-        tables,
-        LINKS_AT,
-        LINK_WIDTH,
-        LINK_COUNT,
-        LINK_EXPIRY_AT,
-        &id,
-        clock,
-    )
+    live_place(tables, LINKS, &id, clock)
 }
 
 // The lowest place that is empty or expired, or 64.
@@ -36,14 +35,7 @@ pub fn free_link(tables: &[u8], clock: u64) -> usize
     requires { length tables.now ≡ table_size }
     ensures { result ≡ free_link clock (relay_of tables.now) }
 {
-    free_place(
-        tables,
-        LINKS_AT,
-        LINK_WIDTH,
-        LINK_COUNT,
-        LINK_EXPIRY_AT,
-        clock,
-    )
+    free_place(tables, LINKS, clock)
 }
 
 fn link_of(b: &[u8]) -> Link

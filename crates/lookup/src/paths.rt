@@ -8,7 +8,7 @@ ghost use Rattle.tables.specs.Records.{path_of};
 ghost use Rattle.tables.specs.Layout.{record_at, relay_of};
 
 use super::blobs::{greatest_of, has_blob};
-use super::search::{free_place, live_place, record_at};
+use super::search::{Table, free_place, live_place, record_at};
 use notes::Notes;
 use numbers::PATH_COUNT;
 use rules::RateEntry;
@@ -18,20 +18,19 @@ use tables::fields::{
 };
 use tables::places::{PATH_WIDTH, PATHS_AT};
 
+const PATHS: Table = Table {
+    at: PATHS_AT,
+    width: PATH_WIDTH,
+    count: PATH_COUNT,
+    expiry: PATH_EXPIRY_AT,
+};
+
 // The lowest live path to a destination, or 64.
 pub fn path_place(tables: &[u8], destination: [u8; 16], clock: u64) -> usize
     requires { length tables.now ≡ table_size }
     ensures { result ≡ path_place clock (relay_of tables.now) destination }
 {
-    live_place(
-        tables,
-        PATHS_AT,
-        PATH_WIDTH,
-        PATH_COUNT,
-        PATH_EXPIRY_AT,
-        &destination,
-        clock,
-    )
+    live_place(tables, PATHS, &destination, clock)
 }
 
 // The lowest place that is empty or expired, or 64.
@@ -39,14 +38,7 @@ pub fn free_path(tables: &[u8], clock: u64) -> usize
     requires { length tables.now ≡ table_size }
     ensures { result ≡ free_path clock (relay_of tables.now) }
 {
-    free_place(
-        tables,
-        PATHS_AT,
-        PATH_WIDTH,
-        PATH_COUNT,
-        PATH_EXPIRY_AT,
-        clock,
-    )
+    free_place(tables, PATHS, clock)
 }
 
 // ---- the fields of the path at a place

@@ -6,25 +6,24 @@ ghost use Rattle.tables.specs.Places.{table_size, returns_at, return_width};
 ghost use Rattle.tables.specs.Records.{return_of};
 ghost use Rattle.tables.specs.Layout.{record_at, relay_of};
 
-use super::search::{live_place, record_at};
+use super::search::{Table, live_place, record_at};
 use numbers::RETURN_COUNT;
 use tables::fields::{RETURN_ARRIVAL_AT, RETURN_EXPIRY_AT, RETURN_LEAVING_AT};
 use tables::places::{RETURN_WIDTH, RETURNS_AT};
+
+const RETURNS: Table = Table {
+    at: RETURNS_AT,
+    width: RETURN_WIDTH,
+    count: RETURN_COUNT,
+    expiry: RETURN_EXPIRY_AT,
+};
 
 // The lowest live return record of a key, or 512.
 pub fn return_place(tables: &[u8], key: [u8; 16], clock: u64) -> usize
     requires { length tables.now ≡ table_size }
     ensures { result ≡ return_place clock (relay_of tables.now) key }
 {
-    live_place(
-        tables,
-        RETURNS_AT,
-        RETURN_WIDTH,
-        RETURN_COUNT,
-        RETURN_EXPIRY_AT,
-        &key,
-        clock,
-    )
+    live_place(tables, RETURNS, &key, clock)
 }
 
 // ---- the fields of the record at a place

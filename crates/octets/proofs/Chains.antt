@@ -60,7 +60,7 @@ first_of_both : (p : ℕ → Bool) (n : ℕ) (b : Bool) → p 0 ≡ b → first 
 first_of_both p n true h = first_there p n h
 first_of_both p n false h = first_behind p n h
 
-first_front : (p : ℕ → Bool) (n : ℕ) → first p (suc n) ≡ cond (p 0) 0 (suc (first (λ k. p (suc k)) n))
+pub first_front : (p : ℕ → Bool) (n : ℕ) → first p (suc n) ≡ cond (p 0) 0 (suc (first (λ k. p (suc k)) n))
 first_front p n = first_of_both p n (p 0) refl
 
 -- over a..a + n
@@ -88,7 +88,7 @@ all_over_list p d (x ∷ xs) =
     ∙ sym (all_front (λ k. p (get_or (x ∷ xs) k d)) (length xs))
 
 -- the place of the first element that passes, or the number of elements
-place_turned : (b : Bool) (m n : ℕ) → m ≡ n → cond (not b) (1 + m) 0 ≡ cond b 0 (suc n)
+pub place_turned : (b : Bool) (m n : ℕ) → m ≡ n → cond (not b) (1 + m) 0 ≡ cond b 0 (suc n)
 place_turned true m n e = refl
 place_turned false m n e = omega arith
 
@@ -98,7 +98,7 @@ place_in_list p d (x ∷ xs) =
     place_turned (p x) (position_or_len p xs) (first (λ k. p (get_or xs k d)) (length xs)) (place_in_list p d xs)
     ∙ sym (first_front (λ k. p (get_or (x ∷ xs) k d)) (length xs))
 
-place_or : (m n : ℕ) → m ≤ n → unwrap_or (cond (ltb m n) (Some m) None) n ≡ m
+pub place_or : (m n : ℕ) → m ≤ n → unwrap_or (cond (ltb m n) (Some m) None) n ≡ m
 place_or m n l =
     ⊎_elim
     (λ (e : m ≡ n). ap (λ (b : Bool). unwrap_or (cond b (Some m) None) n) (le-ltb m n (omega arith)) ∙ sym e)

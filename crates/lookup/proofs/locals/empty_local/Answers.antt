@@ -1,23 +1,23 @@
-use mathlib.Core.Path.{refl, ◌∙◌}
-use borrow.Author.Tests.{eq-eqb, ne_eqb}
+use native.Mathlib.Omega.{arith}
+use borrow.Author.Tests.{tests}
+use Prim.Native.Nat.{ℕ, ◌*◌}
+use lib.ListN.{get_or}
+use lib.Dec.{eqb}
+use mathlib.Core.List.{List}
+use mathlib.Core.Path.{◌∙◌}
+use Rattle.std.proofs.Common.{rules, lit<}
+use Rattle.octets.proofs.Part.{part_range}
 use Rattle.numbers.specs.Numbers.{local_count}
-use Rattle.lookup.proofs.Searches.{none_yet, not_here, found_here, nowhere}
+use Rattle.tables.specs.Places.{locals_at, local_width}
+use Rattle.tables.proofs.Chunks.{chunk_place}
+use Rattle.lookup.proofs.Searches.{seen_in}
 use Rattle.lookup.proofs.Tables.{empty_lowest}
-use borrow.Author.Rules.{rules}
 use Rattle.lookup.proofs.locals.empty_local.Goals as goal
-
-pub loop-i-init : goal.loop-i-init
-loop-i-init c = (search rules, none_yet _ _ _ _)
-
-pub returns-then-b-eq0 : goal.returns-then-b-eq0
-returns-then-b-eq0 c =
-    found_here _ _ _ _ _ c.record_at-b.ensures.0 refl local_count c.loop-i-test.true (eq-eqb _ _ c.if-b-eq0.true)
-    c.loop-i.invariant.1 ∙ empty_lowest c.args.tables.now
-
-pub loop-i-preserved : goal.loop-i-preserved
-loop-i-preserved c =
-    (search rules, not_here _ _ _ _ _ c.record_at-b.ensures.0 refl (ne_eqb _ _ c.if-b-eq0.false) c.loop-i.invariant.1)
 
 pub returns : goal.returns
 returns c =
-    nowhere _ _ _ _ c.loop-i.invariant.0 c.loop-i-test.false c.loop-i.invariant.1 ∙ empty_lowest c.args.tables.now
+    let t = c.args.tables.now in
+    let p = λ (b : List ℕ). eqb (get_or b 0 0) 0 in
+    let place = c.unwrap_or.ensures ∙ chunk_place p local_width local_count c.chunks_exact.ensures.size (lit< tt) (λ x b q k. search (rules, tests))
+    _ c.chunks_exact.ensures.rest (omega arith) c.position-place.ensures.ran in
+    seen_in p locals_at local_width local_count t place (part_range t locals_at (local_width * local_count)) ∙ empty_lowest t

@@ -1,15 +1,14 @@
-use Prim.Native.Nat.{ℕ}
-use mathlib.Core.Path.{ap}
-use lib.Dec.{ltb}
-use borrow.Author.Tests.{eq-eqb, ne_eqb}
+use Rattle.std.proofs.lemmas.Grind.{common_steps}
+use native.Mathlib.Omega.{arith}
+use borrow.Author.Tests.{tests}
 use Rattle.octets.specs.Index.{◌and◌}
 use Rattle.lookup.specs.Search.{is_used, is_live}
 use Rattle.lookup.proofs.search.is_live.Goals as goal
 
-pub returns-then-b-eq0 : goal.returns-then-b-eq0
+pub returns-then-b-ne0 : goal.returns-then-b-ne0
 unfolding is_live is_used ◌and◌
-returns-then-b-eq0 c = rw (eq-eqb _ _ c.if-b-eq0.true)
+returns-then-b-ne0 c = grind (arith, common_steps, tests)
 
-pub returns : goal.returns
+pub returns-else-b-ne0 : goal.returns-else-b-ne0
 unfolding is_live is_used ◌and◌
-returns c = rw (ne_eqb _ _ c.if-b-eq0.false) (ap (λ (n : ℕ). ltb c.args.clock n) c.number_of_8_at.ensures)
+returns-else-b-ne0 c = grind (arith, common_steps, tests)

@@ -1,77 +1,59 @@
-use Prim.Native.Nat.{ℕ, ◌+◌, ◌*◌, ◌-◌, ◌≤◌}
-use native.Mathlib.Nat.{mul-add}
+use Rattle.std.proofs.iter.Serving.{serving}
 use native.Mathlib.Omega.{arith}
+use Prim.Native.Nat.{ℕ, ◌-◌, ◌*◌, ◌/◌}
+use lib.Dec.{ltb}
 use mathlib.Core.List.{List}
+use mathlib.Core.Bool.{Bool}
 use mathlib.Core.Path.{◌≡◌, sym, ap, ◌∙◌}
-use lib.ListN.{length}
+use Rattle.std.proofs.Common.{rules}
+use Rattle.octets.specs.Index.{first}
+use Rattle.tables.specs.Layout.{record_at}
+use Rattle.tables.proofs.Chunks.{chunk_place}
 use Rattle.lookup.specs.Search.{last_word, is_live_of, lowest_record}
-use Rattle.lookup.proofs.Searches.{none_yet, within_run, runs, run_passed, run_found}
-use borrow.Author.Rules.{rules}
+use native.Mathlib.Nat.{mul-le-mul_left, mul_assoc}
+use Rattle.lookup.proofs.Searches.{no_more, long_behind, found_behind}
 use Rattle.lookup.proofs.search.live_place.Goals as goal
-use Rattle.lookup.proofs.search.live_place.Goals.{In-loop-i}
+use Rattle.lookup.proofs.search.live_place.Goals.{After-unwrap_or-passed}
 
--- the n records from place i on end within the tables
-within : (tables : List ℕ) (at width count i n from : ℕ) → at + width * count ≤ length tables → i + n ≤ count → from ≡ at + width * i
-    → from + width * n ≤ length tables
-within tables at width count i n from fits l e =
-    let all : i + n + (count - (i + n)) ≡ count = omega arith in
-    omega (arith, mul-add width i n, mul-add width (i + n) (count - (i + n)), ap (λ (x : ℕ). width * x) all)
-
-four-within : (c : In-loop-i) → c.loop-i.from + c.args.width * 4 ≤ length c.args.tables.now
-four-within c =
+-- the fours before the first that has a live record of the key
+passed : (c : After-unwrap_or-passed) → c.unwrap_or-passed.result
+    ≡ first
+    (λ g. ltb (lowest_record (is_live_of c.args.key.now c.args.table.expiry c.args.clock) 0 c.args.table.width 4
+    (record_at 0 (c.args.table.width * 4) c.records_of-records.result.now g)) 4) (c.args.table.count / 4)
+passed c =
     let a = c.args in
-    within a.tables.now a.at a.width a.count c.loop-i.i 4 c.loop-i.from c.requires.0
-    (omega (arith, c.loop-i-test.true)) c.loop-i.invariant.2
+    let w = a.table.width in
+    c.unwrap_or-passed.ensures
+    ∙ chunk_place (λ four. ltb (lowest_record (is_live_of a.key.now a.table.expiry a.clock) 0 w 4 four) 4) (w * 4) (a.table.count / 4)
+    c.chunks_exact.ensures.size (omega arith) (λ x b q k. search rules) c.records_of-records.result.now c.chunks_exact.ensures.rest
+    (c.records_of-records.ensures.long ∙ ap (λ (n : ℕ). w * n) c.requires.5 ∙ sym (mul_assoc w 4 (a.table.count / 4))) c.position-fours.ensures.ran
 
-pub loop-i-init : goal.loop-i-init
-loop-i-init c = (search rules, none_yet _ _ _ _, omega arith)
-
-pub live_of_four-k-requires : goal.live_of_four-k-requires
+pub position-fours-requires-clause-callable : goal.position-fours-requires-clause-callable
 unfolding last_word
-live_of_four-k-requires c =
-    (four-within (goal.at.live_of_four-k-requires c).In-loop-i, c.requires.1, c.requires.2, omega (arith, c.requires.3), c.word_at-last.ensures)
+position-fours-requires-clause-callable c = grind serving
 
-pub returns-then-k-lt4 : goal.returns-then-k-lt4
-returns-then-k-lt4 c =
-    let a = c.args in
-    run_found _ _ _ _ c.loop-i.i 4 c.loop-i.invariant.2 c.loop-i.invariant.1 c.live_of_four-k.ensures _
-    (omega (arith, c.loop-i-test.true)) c.if-k-lt4.true
+pub overflow_mul-table : goal.overflow_mul-table
+overflow_mul-table c = let l = mul-le-mul_left c.args.table.width c.requires.4 in search rules
 
-pub overflow_mul-from : goal.overflow_mul-from
-overflow_mul-from c = let w = four-within (goal.at.overflow_mul-from c).In-loop-i in search rules
-
-pub overflow_add-from : goal.overflow_add-from
-overflow_add-from c = let w = four-within (goal.at.overflow_add-from c).In-loop-i in search rules
-
-pub loop-i-preserved : goal.loop-i-preserved
-loop-i-preserved c =
-    let a = c.args in (
-      search rules,
-      run_passed _ _ _ _ c.loop-i.i 4 c.loop-i.invariant.2 c.loop-i.invariant.1 c.live_of_four-k.ensures c.if-k-lt4.false,
-      omega (arith, c.loop-i.invariant.2, mul-add a.width c.loop-i.i 4),
-    )
-
-pub live_each-requires : goal.live_each-requires
+pub position-place-requires-clause-callable : goal.position-place-requires-clause-callable
 unfolding last_word
-live_each-requires c =
-    let a = c.args in (
-      within a.tables.now a.at a.width a.count c.loop-i.i (a.count - c.loop-i.i) c.loop-i.from c.requires.0
-          (omega (arith, c.loop-i.invariant.0)) c.loop-i.invariant.2,
-      c.requires.1,
-      c.requires.2,
-      c.requires.3,
-      c.word_at-last.ensures,
-    )
+position-place-requires-clause-callable c = grind serving
 
-pub overflow_add-result-2 : goal.overflow_add-result-2
-overflow_add-result-2 c =
+pub overflow_sub-table : goal.overflow_sub-table
+overflow_sub-table c =
     let a = c.args in
-    let w = within_run _ _ _ _ c.loop-i.i (a.count - c.loop-i.i) c.loop-i.invariant.2 c.loop-i.invariant.1 c.live_each.ensures in
-    search rules
+    no_more (is_live_of a.key.now a.table.expiry a.clock) a.table.at a.table.width a.table.count (a.table.count / 4) a.tables.now
+    c.records_of-records.ensures.bytes c.records_of-records.ensures.long c.requires.5 (passed (goal.at.overflow_sub-table c).After-unwrap_or-passed)
 
 pub returns : goal.returns
 returns c =
     let a = c.args in
-    let all : c.loop-i.i + (a.count - c.loop-i.i) ≡ a.count = omega (arith, c.loop-i.invariant.0) in
-    sym (runs _ _ _ _ c.loop-i.i (a.count - c.loop-i.i) c.loop-i.invariant.2 c.loop-i.invariant.1 c.live_each.ensures)
-    ∙ ap (λ (n : ℕ). lowest_record (is_live_of a.key.now a.expiry a.clock) a.at a.width n a.tables.now) all
+    let w = a.table.width in
+    let p : List ℕ → Bool = is_live_of a.key.now a.table.expiry a.clock in
+    let records = c.records_of-records in
+    let fours = passed (goal.at.returns c).After-unwrap_or-passed in
+    let n : ℕ = a.table.count - c.unwrap_or-passed.result * 4 in
+    let long = long_behind p a.table.at w a.table.count (a.table.count / 4) a.tables.now records.ensures.bytes records.ensures.long c.requires.5 fours in
+    found_behind p a.table.at w a.table.count (a.table.count / 4) a.tables.now records.ensures.bytes records.ensures.long c.requires.5 fours
+    (c.unwrap_or.ensures
+    ∙ chunk_place p w n c.chunks_exact-2.ensures.size (omega arith) (λ x b q k. search rules) _ c.chunks_exact-2.ensures.rest long c.position-place.ensures.ran)
