@@ -8,7 +8,7 @@ use mathlib.Core.List.{List}
 use mathlib.Core.Path.{◌≡◌, refl, sym, ap, subst, ◌∙◌}
 use lib.Dec.{eqb, ltb}
 use lib.ListN.{length, take, drop, get_or, length-take, length-drop}
-use borrow.Author.Tests.{eq-eqb, eqb-false, not-true, lt-ltb, le-ltb, ltb-true, ltb-false}
+use borrow.Author.Tests.{eq-eqb, eqb-false, not-true, not-false, lt-ltb, le-ltb, ltb-true, ltb-false}
 use Rattle.octets.specs.Index.{◌and◌, all_below, first}
 use Rattle.octets.specs.Choice.{◌then◌otherwise◌, same}
 use Rattle.octets.specs.Part.{part}
@@ -102,52 +102,49 @@ module _ (test : List ℕ → Bool) (at width : ℕ) (t : List ℕ) (i n : ℕ) 
       sym (first_hit p (i + k) count (first_absent p (i + k) (λ j b. first_before p (i + n) j (subst (λ (x : ℕ). j < x) (sym runs) b)))
       (ap p (sym runs) ∙ first_holds p (i + n) (subst (λ (x : ℕ). x < i + n) (sym runs) (omega arith))) (omega arith))
 
--- fours of which none has one that passes
-pub fours_passed : (test : List ℕ → Bool) (width : ℕ) (t : List ℕ) (m : ℕ)
-    → ((j : ℕ) → j < m → ltb (lowest_record test 0 width 4 (record_at 0 (width * 4) t j)) 4 ≡ false) → lowest_record test 0 width (m * 4) t ≡ m * 4
-fours_passed test width t zero h = none_yet test 0 width t
-fours_passed test width t (suc m) h =
-    let from : ℕ = 0 + width * 4 * m in
-    let stands : from ≡ 0 + width * (m * 4) = ap (λ (n : ℕ). 0 + n) (mul_assoc width 4 m ∙ ap (λ (n : ℕ). width * n) (omega arith)) in
-    let more : suc m * 4 ≡ m * 4 + 4 = omega arith in
-    let last = ltb-false _ _ (ap (λ (k : ℕ). ltb k 4) (sym (lowest_of_part test from width 4 t)) ∙ h m (omega arith)) in
-    ap (λ (n : ℕ). lowest_record test 0 width n t) more
-    ∙ run_passed test 0 width t (m * 4) 4 stands (fours_passed test width t m (λ j l. h j (omega arith))) refl last
-    ∙ sym more
+-- ---- fours that one test of all four passes by
+module _ (test four : List ℕ → Bool) (width : ℕ) (t : List ℕ) (none : (j : ℕ) → four (record_at 0 (width * 4) t j) ≡ false
+    → lowest_record test 0 width 4 (record_at 0 (width * 4) t j) ≡ 4) where
+  fours_passed : (m : ℕ) → ((j : ℕ) → j < m → four (record_at 0 (width * 4) t j) ≡ false) → lowest_record test 0 width (m * 4) t ≡ m * 4
+  fours_passed zero h = none_yet test 0 width t
+  fours_passed (suc m) h =
+      let from : ℕ = 0 + width * 4 * m in
+      let stands : from ≡ 0 + width * (m * 4) = ap (λ (n : ℕ). 0 + n) (mul_assoc width 4 m ∙ ap (λ (n : ℕ). width * n) (omega arith)) in
+      let more : suc m * 4 ≡ m * 4 + 4 = omega arith in
+      ap (λ (n : ℕ). lowest_record test 0 width n t) more
+      ∙ run_passed test 0 width t (m * 4) 4 stands (fours_passed m (λ j l. h j (omega arith)))
+      (sym (none m (h m (omega arith))) ∙ lowest_of_part test from width 4 t) (omega arith)
+      ∙ sym more
 
--- m fours of the n records xs, behind which the first that passes is k
-module _ (test : List ℕ → Bool) (at width n fours : ℕ) (tables : List ℕ) {xs : List ℕ} (bytes : xs ≡ part tables at (width * n))
-    (long : length xs ≡ width * n) (count : n ≡ 4 * fours) {m : ℕ}
-    (passed : m ≡ first (λ g. ltb (lowest_record test 0 width 4 (record_at 0 (width * 4) xs g)) 4) fours) where
-  abbrev pub before : ℕ
-  before = m * 4
+  -- m fours of the n records, behind which the first that passes is k
+  module _ (at n fours : ℕ) (tables : List ℕ) (bytes : t ≡ part tables at (width * n)) (long : length t ≡ width * n) (count : n ≡ 4 * fours)
+      {m : ℕ} (passed : m ≡ first (λ g. four (record_at 0 (width * 4) t g)) fours) where
+    pub no_more : m * 4 ≤ n
+    no_more = omega (arith, passed, first_le (λ g. four (record_at 0 (width * 4) t g)) fours)
 
-  pub no_more : before ≤ n
-  no_more = omega (arith, passed, first_le (λ g. ltb (lowest_record test 0 width 4 (record_at 0 (width * 4) xs g)) 4) fours)
+    behind : length t - width * (m * 4) ≡ width * (n - m * 4)
+    behind =
+        let all : m * 4 + (n - m * 4) ≡ n = omega (arith, no_more) in
+        omega (arith, long, mul-add width (m * 4) (n - m * 4), ap (λ (k : ℕ). width * k) all)
 
-  behind : length xs - width * before ≡ width * (n - before)
-  behind =
-      let all : before + (n - before) ≡ n = omega (arith, no_more) in
-      omega (arith, long, mul-add width before (n - before), ap (λ (k : ℕ). width * k) all)
+    pub long_behind : length (take (length t - width * (m * 4)) (drop (width * (m * 4)) t)) ≡ width * (n - m * 4)
+    long_behind =
+        let rest : List ℕ = drop (width * (m * 4)) t in
+        omega (arith, length-take (length t - width * (m * 4)) rest, length-drop (width * (m * 4)) t, behind)
 
-  pub long_behind : length (take (length xs - width * before) (drop (width * before) xs)) ≡ width * (n - before)
-  long_behind =
-      let rest : List ℕ = drop (width * before) xs in
-      omega (arith, length-take (length xs - width * before) rest, length-drop (width * before) xs, behind)
-
-  pub found_behind : {k : ℕ}
-      → k ≡ first (λ i. test (record_at 0 width (take (length xs - width * before) (drop (width * before) xs)) i)) (n - before)
-      → before + k ≡ lowest_record test at width n tables
-  found_behind e =
-      let none = fours_passed test width xs m
-      (λ j l. first_before (λ g. ltb (lowest_record test 0 width 4 (record_at 0 (width * 4) xs g)) 4) fours j (subst (λ (k : ℕ). j < k) passed l)) in
-      let here = seen_in test (width * before) width (n - before) xs e
-      (is_part (length xs - width * before) (width * before) xs ∙ ap (part xs (width * before)) behind) in
-      let all : before + (n - before) ≡ n = omega (arith, no_more) in
-      sym (runs test 0 width xs before (n - before) (omega arith) none here)
-      ∙ ap (λ (k : ℕ). lowest_record test 0 width k xs) all
-      ∙ ap (λ (ys : List ℕ). lowest_record test 0 width n ys) bytes
-      ∙ lowest_of_part test at width n tables
+    pub found_behind : {k : ℕ}
+        → k ≡ first (λ i. test (record_at 0 width (take (length t - width * (m * 4)) (drop (width * (m * 4)) t)) i)) (n - m * 4)
+        → m * 4 + k ≡ lowest_record test at width n tables
+    found_behind e =
+        let front = fours_passed m
+        (λ j l. first_before (λ g. four (record_at 0 (width * 4) t g)) fours j (subst (λ (k : ℕ). j < k) passed l)) in
+        let here = seen_in test (width * (m * 4)) width (n - m * 4) t e
+        (is_part (length t - width * (m * 4)) (width * (m * 4)) t ∙ ap (part t (width * (m * 4))) behind) in
+        let all : m * 4 + (n - m * 4) ≡ n = omega (arith, no_more) in
+        sym (runs test 0 width t (m * 4) (n - m * 4) (omega arith) front here)
+        ∙ ap (λ (k : ℕ). lowest_record test 0 width k t) all
+        ∙ ap (λ (ys : List ℕ). lowest_record test 0 width n ys) bytes
+        ∙ lowest_of_part test at width n tables
 
 pub lowest_cong : (p q : List ℕ → Bool) (at width n : ℕ) (t : List ℕ) → ((b : List ℕ) → p b ≡ q b)
     → lowest_record p at width n t ≡ lowest_record q at width n t
@@ -197,6 +194,16 @@ module _ (key : List ℕ) (expiry clock at width : ℕ) (t : List ℕ) (wide : 1
       ∙ ap word (sym (part_part t (at + width * n) width (1 + (length key - word_width)) word_width (omega arith))) ∙ q) in
       rw (← add-one)
       (not_here (is_live_of key expiry clock) at width t n refl (other_word key b expiry clock (omega arith) differs) refl (others n tail e (and_left _ _ h)))
+
+-- the same of four, as the code tests them
+pub others_four : (key : List ℕ) (expiry clock width : ℕ) (four : List ℕ) (last : ℕ) → 1 + length key ≤ width → word_width ≤ length key → last ≡ last_word key
+    → not (none_is last (1 + (length key - word_width)) width 4 four) ≡ false → lowest_record (is_live_of key expiry clock) 0 width 4 four ≡ 4
+others_four key expiry clock width four last wide long e h =
+    let tail : ℕ = length key - word_width in
+    let place : 0 + 1 + tail ≡ 1 + tail = omega arith in
+    let last_is : last_word key ≡ last = sym e in
+    others key expiry clock 0 width four wide 4 tail (omega arith)
+    ((λ i. none_is (last_is i) (place i) width 4 four) ∙ not-false _ h)
 
 -- ---- the rules' searches
 module _ {A : Type 0} (test : A → Bool) (read : List ℕ → A) where

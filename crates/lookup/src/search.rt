@@ -1,6 +1,6 @@
 // The searches that the tables share: records of one width, from one place of the tables on, each with its mark first
 // and its key behind it.
-ghost use Rattle.std.specs.Prelude.{◌≡◌, not, ◌+◌, ◌*◌, ◌/◌, ◌≤◌, ltb, length};
+ghost use Rattle.std.specs.Prelude.{◌≡◌, not, ◌+◌, ◌*◌, ◌/◌, ◌≤◌, length};
 ghost use Rattle.octets.specs.Part.{part};
 ghost use Rattle.octets.specs.BigEndian.{word_width};
 ghost use Rattle.tables.specs.Places.{time_width};
@@ -74,22 +74,8 @@ fn none_of_four(four: &[u8], at: usize, width: usize, x: u64) -> bool
         && octets::word_at(four, at + width * 3) != x
 }
 
-// Whether one of four records is a live one of the key. Most often none has the key's last eight bytes, and no more is
-// read. `tail` is how many stand before these: taken from the key here, it would be read anew for each four.
-fn has_live(four: &[u8], table: Table, key: &[u8], tail: usize, last: u64, clock: u64) -> bool
-    requires { (length four.now ≡ table.width * 4) × (1 + length key.now ≤ table.width)
-        × (table.expiry + time_width ≤ table.width) × (tail + word_width ≡ length key.now)
-        × (last ≡ last_word key.now) }
-    ensures { result ≡ ltb (lowest_record (is_live_of key.now table.expiry clock) 0 table.width 4 four.now) 4 }
-{
-    !none_of_four(four, 1 + tail, table.width, last)
-        && four
-            .chunks_exact(table.width)
-            .any(|b| is_live_of(b, key, last, table.expiry, clock))
-}
-
-// The lowest place of a live record of the key, or the count. Four records a step, for a step costs more than a
-// comparison.
+// The lowest place of a live record of the key, or the count. The fours of which none has the key's last eight bytes are
+// passed first: four records a step, for a step costs more than a comparison.
 pub fn live_place(tables: &[u8], table: Table, key: &[u8], clock: u64) -> usize
     requires { (table.at + table.width * table.count ≤ length tables.now) × (1 + length key.now ≤ table.width)
         × (table.expiry + time_width ≤ table.width) × (word_width ≤ length key.now)
@@ -102,7 +88,7 @@ pub fn live_place(tables: &[u8], table: Table, key: &[u8], clock: u64) -> usize
     let records = records_of(tables, table);
     let fours = records
         .chunks_exact(table.width * 4)
-        .position(|four| has_live(four, table, key, tail, last, clock));
+        .position(|four| !none_of_four(four, 1 + tail, table.width, last));
     let passed = fours.unwrap_or(table.count / 4) * 4;
     let place = records[table.width * passed..]
         .chunks_exact(table.width)
