@@ -9,6 +9,7 @@ use borrow.Author.Tests.{lt-ltb, le-ltb}
 use borrow.Rule.Slice.PartMut.{put_mid}
 use Rattle.octets.specs.Index.{list_of}
 use Rattle.octets.specs.Choice.{◌then◌otherwise◌}
+use Rattle.std.specs.List.{copy_within}
 use Rattle.octets.specs.Part.{part, patch, joined, fields}
 use Rattle.octets.proofs.ListOf.{list_of_length, list_of_cong, list_of_first}
 use Rattle.octets.proofs.Part.{part_length, part_one, part_part, part_split, part_whole, patch_length, patch_join, patch_whole, patch_mid, part_range, patch_range}
@@ -49,6 +50,15 @@ spare (suc n) =
     ap₂ (λ (x y : List ℕ). x ++ y) (exactly_same blob_width no_blob refl) (spare n)
     ∙ replicate-append-replicate blob_width (blob_width * n) 0
     ∙ ap (λ (k : ℕ). replicate k 0) (let e : blob_width + blob_width * n ≡ blob_width * suc n = omega arith in e)
+
+-- n bytes from a place on, copied to another
+pub moved : (s : List ℕ) (to from n : ℕ) → from + n ≤ length s → copy_within s from (from + n) to ≡ patch s to (part s from n)
+unfolding part patch
+moved s to from n fits =
+    let e : from + n - from ≡ n = omega arith in
+    let l : from + n - from ≡ length (take n (drop from s)) = e ∙ sym (part_length s from n fits) in
+    append_assoc (take to s) (take (from + n - from) (drop from s)) (drop (to + (from + n - from)) s)
+    ∙ (λ i. take to s ++ (take (e i) (drop from s) ++ drop (to + l i) s))
 
 pub one_written : (s blob : List ℕ) → length s ≡ blobs_width → length blob ≡ blob_width
     → patch (patch (patch s 0 (1 ∷ [])) blob_places_at blob) (blob_places_at + blob_width) (replicate newer_width 0) ≡ blobs_bytes (one_blob blob_limit blob)

@@ -22,10 +22,9 @@ pub fn one_blob(s: &mut [u8], blob: [u8; 10])
     requires { length s.old ≡ blobs_width }
     ensures { s.new ≡ blobs_bytes (one_blob blob_limit blob) }
 {
-    let spare = [0u8; NEWER];
     octets::set_at(s, 0, 1);
     octets::copy_at(s, PLACES_AT, &blob);
-    octets::copy_at(s, SECOND_AT, &spare);
+    s[SECOND_AT..SECOND_AT + NEWER].fill(0);
 }
 
 // Moves all blobs one place down, over the oldest, and puts the new one into the last place.
@@ -34,9 +33,7 @@ fn push_blob(s: &mut [u8], blob: [u8; 10])
     ensures { s.new ≡ patch s.old blob_places_at
         (part s.old (blob_places_at + blob_width) newer_width ++ blob) }
 {
-    let mut newer = [0u8; NEWER];
-    octets::copy(&mut newer, &s[SECOND_AT..SECOND_AT + NEWER]);
-    octets::copy_at(s, PLACES_AT, &newer);
+    s.copy_within(SECOND_AT..SECOND_AT + NEWER, PLACES_AT);
     octets::copy_at(s, PLACES_AT + NEWER, &blob);
 }
 
@@ -45,12 +42,11 @@ pub fn add_blob(s: &mut [u8], blob: [u8; 10])
     requires { length s.old ≡ blobs_width }
     ensures { s.new ≡ blobs_bytes (add_blob blob_limit blob (blobs_in s.old)) }
 {
-    let count = s[0];
-    let i = count as usize;
-    if i < BLOB_LIMIT {
-        octets::set_at(s, 0, count + 1);
-        octets::copy_at(s, PLACES_AT + BLOB_WIDTH * i, &blob);
-        return;
+    let count = usize::from(s[0]);
+    if count < BLOB_LIMIT {
+        s[0] += 1;
+        octets::copy_at(s, PLACES_AT + BLOB_WIDTH * count, &blob);
+    } else {
+        push_blob(s, blob);
     }
-    push_blob(s, blob);
 }

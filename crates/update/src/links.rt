@@ -18,15 +18,12 @@ pub fn put_link(tables: &mut [u8], place: usize, link: Link)
     ensures { tables.new ≡ link_written tables.old place link }
 {
     let at = LINKS_AT + LINK_WIDTH * place;
-    let id = link.id;
-    let taken = link.taken;
-    let remaining = link.remaining;
     octets::set_at(tables, at, 1);
-    octets::copy_at(tables, at + LINK_ID_AT, &id);
+    octets::copy_at(tables, at + LINK_ID_AT, &link.id);
     octets::set_at(tables, at + LINK_ASKING_AT, link.asking);
     octets::set_at(tables, at + LINK_ANSWERING_AT, link.answering);
-    octets::set_at(tables, at + LINK_TAKEN_AT, taken.0);
-    octets::set_at(tables, at + LINK_REMAINING_AT, remaining.0);
+    octets::set_at(tables, at + LINK_TAKEN_AT, link.taken.0);
+    octets::set_at(tables, at + LINK_REMAINING_AT, link.remaining.0);
     octets::set_at(tables, at + LINK_PROVED_AT, mark_of(link.proved));
     octets::write_number_at(tables, at + LINK_EXPIRY_AT, TIME_WIDTH, link.expiry);
 }

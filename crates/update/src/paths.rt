@@ -62,13 +62,11 @@ fn put_head(tables: &mut [u8], at: usize, path: Announced)
     requires { at + head_width ≤ length tables.old }
     ensures { tables.new ≡ patch tables.old at (head_bytes path) }
 {
-    let destination = path.destination;
-    let next_hop = path.next_hop;
     octets::set_at(tables, at, 1);
-    octets::copy_at(tables, at + PATH_DESTINATION_AT, &destination);
+    octets::copy_at(tables, at + PATH_DESTINATION_AT, &path.destination);
     octets::set_at(tables, at + PATH_PORT_AT, path.port);
     octets::set_at(tables, at + PATH_HOPS_AT, path.hops);
-    octets::copy_at(tables, at + PATH_NEXT_HOP_AT, &next_hop);
+    octets::copy_at(tables, at + PATH_NEXT_HOP_AT, &path.next_hop);
     octets::write_number_at(tables, at + PATH_EXPIRY_AT, TIME_WIDTH, path.expiry);
 }
 
@@ -78,8 +76,7 @@ fn put_start(tables: &mut [u8], at: usize, path: Announced)
     ensures { tables.new ≡ patch tables.old at (start_bytes path) }
 {
     put_head(tables, at, path);
-    let rate = path.rate;
-    write_rate(tables, at + PATH_LAST_AT, rate);
+    write_rate(tables, at + PATH_LAST_AT, path.rate);
     notes::write(tables, at + PATH_NOTES_AT, notes::none());
 }
 

@@ -8,7 +8,7 @@ ghost use Rattle.tables.specs.Records.{slot_of, return_of};
 ghost use Rattle.tables.specs.Layout.{relay_of, well_formed};
 ghost use Rattle.update.specs.Written.{return_written, return_emptied, emptied_if_live, returns_emptied};
 
-use numbers::RETURN_COUNT;
+use numbers::{ADDRESS_WIDTH, RETURN_COUNT};
 use tables::fields::{RETURN_ARRIVAL_AT, RETURN_EXPIRY_AT, RETURN_KEY_AT, RETURN_LEAVING_AT};
 use tables::places::{RETURN_NEXT_AT, RETURN_WIDTH, RETURNS_AT, RING_WIDTH, TIME_WIDTH};
 
@@ -48,8 +48,8 @@ pub fn empty_return(tables: &mut [u8], place: usize)
     requires { (length tables.old ≡ table_size) × (place < return_count) }
     ensures { tables.new ≡ return_emptied tables.old place }
 {
-    let unused = [0u8; RETURN_WIDTH];
-    octets::copy_at(tables, RETURNS_AT + RETURN_WIDTH * place, &unused);
+    let at = RETURNS_AT + RETURN_WIDTH * place;
+    tables[at..at + RETURN_WIDTH].fill(0);
 }
 
 // Whether a record's bytes hold a live return record of the key.
@@ -57,13 +57,9 @@ fn is_live(b: &[u8], key: &[u8], clock: u64) -> bool
     requires { (length b.now ≡ return_width) × (length key.now ≡ address_width) }
     ensures { result ≡ holds (is_live_return clock key.now) (slot_of return_of b.now) }
 {
-    if b[0] == 0 {
-        return false;
-    }
-    if !octets::equal_at(b, RETURN_KEY_AT, key) {
-        return false;
-    }
-    clock < octets::number_of_8_at(b, RETURN_EXPIRY_AT)
+    b[0] != 0
+        && &b[RETURN_KEY_AT..RETURN_KEY_AT + ADDRESS_WIDTH] == key
+        && clock < octets::number_of_8_at(b, RETURN_EXPIRY_AT)
 }
 
 // Empties the record at a place if it is a live one of the key.
@@ -82,10 +78,8 @@ fn empty_each(tables: &mut [u8], key: &[u8], clock: u64)
     requires { (well_formed tables.old ≡ true) × (length key.now ≡ address_width) }
     ensures { tables.new ≡ returns_emptied clock key.now tables.old }
 {
-    let mut i = 0;
-    while i < RETURN_COUNT {
-        empty_if_live(tables, i, key, clock);
-        i += 1;
+    for place in 0..RETURN_COUNT {
+        empty_if_live(tables, place, key, clock);
     }
 }
 

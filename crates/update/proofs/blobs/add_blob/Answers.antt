@@ -1,22 +1,22 @@
-use mathlib.Core.Path.{◌≡◌}
-use lib.ListN.{length}
-use Rattle.tables.specs.Places.{blob_width}
-use Rattle.update.proofs.PathWrites.{added, pushed}
+use Prim.Native.Nat.{◌+◌}
 use native.Mathlib.Omega.{arith}
 use borrow.Author.Rules.{rules}
+use mathlib.Core.Path.{◌≡◌}
+use lib.ListN.{length, get_or}
+use Rattle.octets.proofs.Part.{patch_set}
+use Rattle.tables.specs.Places.{blob_width}
+use Rattle.update.proofs.PathWrites.{added, pushed}
 use Rattle.update.proofs.blobs.add_blob.Goals as goal
 
-pub overflow_cast-i : goal.overflow_cast-i
-overflow_cast-i c = omega (arith, c.type_inv.s 0)
-
-pub returns-then-i-lt-BLOB_LIMIT : goal.returns-then-i-lt-BLOB_LIMIT
-returns-then-i-lt-BLOB_LIMIT c =
+pub returns-then-count-lt-BLOB_LIMIT : goal.returns-then-count-lt-BLOB_LIMIT
+returns-then-count-lt-BLOB_LIMIT c =
     let a = c.args in
     let wide : length a.blob ≡ blob_width = search rules in
-    rw (c.copy_at.ensures, c.set_at.ensures) (added a.s.now c.requires a.blob wide c.if-i-lt-BLOB_LIMIT.true)
+    rw (c.copy_at.ensures, c.from-count.ensures, patch_set a.s.now 0 (get_or a.s.now 0 0 + 1) (omega (arith, c.requires)))
+    (added a.s.now c.requires a.blob wide (omega (arith, c.from-count.ensures, c.if-count-lt-BLOB_LIMIT.true)))
 
-pub returns : goal.returns
-returns c =
+pub returns-else-count-lt-BLOB_LIMIT : goal.returns-else-count-lt-BLOB_LIMIT
+returns-else-count-lt-BLOB_LIMIT c =
     let a = c.args in
     let wide : length a.blob ≡ blob_width = search rules in
-    pushed a.s.now c.requires a.blob wide _ c.if-i-lt-BLOB_LIMIT.false c.push_blob.ensures
+    pushed a.s.now c.requires a.blob wide _ (omega (arith, c.from-count.ensures, c.if-count-lt-BLOB_LIMIT.false)) c.push_blob.ensures

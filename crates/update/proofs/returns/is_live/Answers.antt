@@ -1,30 +1,40 @@
-use mathlib.Core.Path.{sym, ap, ◌∙◌}
-use lib.Dec.{ltb}
-use borrow.Author.Tests.{eq-eqb, ne_eqb, not-false}
-use Rattle.octets.specs.Choice.{◌then◌otherwise◌}
-use Rattle.octets.proofs.Index.{and_yes, and_no}
+use Prim.Native.Nat.{ℕ}
+use native.Mathlib.Omega.{arith}
+use borrow.Author.Tests.{tests}
+use mathlib.Core.List.{List}
+use mathlib.Core.Path.{ap, ◌∙◌}
+use Rattle.std.proofs.lemmas.Grind.{common_steps}
+use Rattle.octets.specs.Index.{◌and◌}
+use Rattle.octets.specs.Choice.{same, ◌then◌otherwise◌}
+use Rattle.octets.proofs.Part.{part_range}
+use Rattle.octets.proofs.Chains.{equal_is_same}
+use Rattle.tables.specs.Places.{address_width}
 use Rattle.rules.specs.Relay.{holds}
 use Rattle.rules.specs.View.{is_live_return}
 use Rattle.tables.specs.Records.{slot_of, return_of}
-use Rattle.update.proofs.Sweep.{key_seen}
-use mathlib.Core.Bool.{not}
 use Rattle.update.proofs.returns.is_live.Goals as goal
+use Rattle.update.proofs.returns.is_live.Goals.{then-b-ne0, else-b-ne0}
 
-pub returns-then-b-eq0 : goal.returns-then-b-eq0
-unfolding holds slot_of ◌then◌otherwise◌
-returns-then-b-eq0 c = rw (eq-eqb _ _ c.if-b-eq0.true)
+pub returns-then-eq : goal.returns-then-eq
+unfolding holds slot_of is_live_return return_of ◌then◌otherwise◌ ◌and◌
+returns-then-eq c =
+    let b = c.args.b.now in
+    let key = c.args.key.now in
+    elim c.if-b-ne0.branch [
+      | then-b-ne0 w ↦
+          let seen = w.eq.ensures ∙ equal_is_same _ key ∙ ap (λ (x : List ℕ). same x key) (part_range b 1 address_width) in
+          grind (arith, common_steps, tests)
+      | else-b-ne0 w ↦ grind (arith, common_steps, tests)
+    ]
 
-pub returns-then-not-equal_at : goal.returns-then-not-equal_at
-unfolding holds slot_of is_live_return return_of ◌then◌otherwise◌
-returns-then-not-equal_at c =
-    let a = c.args in
-    rw (ne_eqb _ _ c.if-b-eq0.false) (sym (and_no _ (key_seen a.b.now a.key.now c.requires.0 c.requires.1 ∙ sym
-    c.equal_at.ensures ∙ c.if-not-equal_at.true)))
-
-pub returns : goal.returns
-unfolding holds slot_of is_live_return return_of ◌then◌otherwise◌
-returns c =
-    let a = c.args in
-    rw (ne_eqb _ _ c.if-b-eq0.false) (ap (ltb a.clock) c.number_of_8_at.ensures ∙ sym
-    (and_yes _ (key_seen a.b.now a.key.now c.requires.0 c.requires.1 ∙ sym c.equal_at.ensures ∙ not-false _
-    (ap not c.if-not-equal_at.false))))
+pub returns-else-eq : goal.returns-else-eq
+unfolding holds slot_of is_live_return return_of ◌then◌otherwise◌ ◌and◌
+returns-else-eq c =
+    let b = c.args.b.now in
+    let key = c.args.key.now in
+    elim c.if-b-ne0.branch [
+      | then-b-ne0 w ↦
+          let seen = w.eq.ensures ∙ equal_is_same _ key ∙ ap (λ (x : List ℕ). same x key) (part_range b 1 address_width) in
+          grind (arith, common_steps, tests)
+      | else-b-ne0 w ↦ grind (arith, common_steps, tests)
+    ]
