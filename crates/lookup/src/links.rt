@@ -42,16 +42,14 @@ fn link_of(b: &[u8]) -> Link
     requires { length b.now ≡ link_width }
     ensures { result ≡ link_of b.now }
 {
-    let id = octets::address_at(b, LINK_ID_AT);
-    let expiry = octets::number_of_8_at(b, LINK_EXPIRY_AT);
     Link {
-        id,
+        id: octets::address_at(b, LINK_ID_AT),
         asking: b[LINK_ASKING_AT],
         answering: b[LINK_ANSWERING_AT],
         taken: TakenHops(b[LINK_TAKEN_AT]),
         remaining: RemainingHops(b[LINK_REMAINING_AT]),
         proved: b[LINK_PROVED_AT] == 1,
-        expiry,
+        expiry: octets::number_of_8_at(b, LINK_EXPIRY_AT),
     }
 }
 

@@ -43,42 +43,43 @@ pub fn free_path(tables: &[u8], clock: u64) -> usize
 
 // ---- the fields of the path at a place
 
+// Its bytes.
+fn path_at(tables: &[u8], place: usize) -> &[u8]
+    requires { (length tables.now ≡ table_size) × (place < path_count) }
+    ensures { (result.now ≡ record_at paths_at path_width tables.now place) × (length result.now ≡ path_width) }
+{
+    record_at(tables, PATHS_AT, PATH_WIDTH, place)
+}
+
 pub fn path_port(tables: &[u8], place: usize) -> u8
     requires { (length tables.now ≡ table_size) × (place < path_count) }
     ensures { result ≡ (path_of (record_at paths_at path_width tables.now place)).port }
 {
-    let b = record_at(tables, PATHS_AT, PATH_WIDTH, place);
-    b[PATH_PORT_AT]
+    path_at(tables, place)[PATH_PORT_AT]
 }
 
 pub fn path_hops(tables: &[u8], place: usize) -> u8
     requires { (length tables.now ≡ table_size) × (place < path_count) }
     ensures { result ≡ (path_of (record_at paths_at path_width tables.now place)).hops }
 {
-    let b = record_at(tables, PATHS_AT, PATH_WIDTH, place);
-    b[PATH_HOPS_AT]
+    path_at(tables, place)[PATH_HOPS_AT]
 }
 
 pub fn path_next_hop(tables: &[u8], place: usize) -> [u8; 16]
     requires { (length tables.now ≡ table_size) × (place < path_count) }
     ensures { result ≡ (path_of (record_at paths_at path_width tables.now place)).next_hop }
 {
-    octets::address_at(
-        record_at(tables, PATHS_AT, PATH_WIDTH, place),
-        PATH_NEXT_HOP_AT,
-    )
+    octets::address_at(path_at(tables, place), PATH_NEXT_HOP_AT)
 }
 
 fn rate_of(b: &[u8]) -> RateEntry
     requires { length b.now ≡ path_width }
     ensures { result ≡ (path_of b.now).rate }
 {
-    let last = octets::number_of_8_at(b, PATH_LAST_AT);
-    let blocked_until = octets::number_of_8_at(b, PATH_BLOCKED_UNTIL_AT);
     RateEntry {
-        last,
+        last: octets::number_of_8_at(b, PATH_LAST_AT),
         violations: b[PATH_VIOLATIONS_AT],
-        blocked_until,
+        blocked_until: octets::number_of_8_at(b, PATH_BLOCKED_UNTIL_AT),
     }
 }
 
@@ -87,7 +88,7 @@ pub fn path_rate(tables: &[u8], place: usize) -> RateEntry
     requires { (length tables.now ≡ table_size) × (place < path_count) }
     ensures { result ≡ (path_of (record_at paths_at path_width tables.now place)).rate }
 {
-    rate_of(record_at(tables, PATHS_AT, PATH_WIDTH, place))
+    rate_of(path_at(tables, place))
 }
 
 // What the host has noted of it.
@@ -95,10 +96,7 @@ pub fn path_notes(tables: &[u8], place: usize) -> Notes
     requires { (length tables.now ≡ table_size) × (place < path_count) }
     ensures { result ≡ (path_of (record_at paths_at path_width tables.now place)).notes }
 {
-    notes::read(
-        record_at(tables, PATHS_AT, PATH_WIDTH, place),
-        PATH_NOTES_AT,
-    )
+    notes::read(path_at(tables, place), PATH_NOTES_AT)
 }
 
 // Whether the path holds the blob.
@@ -108,7 +106,7 @@ pub fn holds_blob(tables: &[u8], place: usize, blob: [u8; 10]) -> bool
     ensures { result ≡ is_among blob (held (path_of
         (record_at paths_at path_width tables.now place)).blobs) }
 {
-    has_blob(record_at(tables, PATHS_AT, PATH_WIDTH, place), &blob)
+    has_blob(path_at(tables, place), &blob)
 }
 
 // The greatest emission among the path's blobs.
@@ -118,5 +116,5 @@ pub fn greatest_emission(tables: &[u8], place: usize) -> u64
     ensures { result ≡ greatest_emission (held
         (path_of (record_at paths_at path_width tables.now place)).blobs) }
 {
-    greatest_of(record_at(tables, PATHS_AT, PATH_WIDTH, place))
+    greatest_of(path_at(tables, place))
 }

@@ -7,7 +7,7 @@ ghost use Rattle.tables.specs.Layout.{relay_of};
 
 use super::search::record_at;
 use numbers::{LONGEST_PACKET, PORT_COUNT};
-use tables::fields::PORT_SIZE_AT;
+use tables::fields::{PORT_MODE_AT, PORT_ON_AT, PORT_SIZE_AT};
 use tables::places::{PORT_WIDTH, PORTS_AT, SIZE_WIDTH};
 
 // Whether a port is one of the sixteen, and on.
@@ -15,19 +15,15 @@ pub fn port_on(tables: &[u8], port: u64) -> bool
     requires { length tables.now ≡ table_size }
     ensures { result ≡ port_on (relay_of tables.now) port }
 {
-    if port >= PORT_COUNT as u64 {
-        return false;
-    }
-    let b = record_at(tables, PORTS_AT, PORT_WIDTH, port as usize);
-    b[0] == 1
+    port < PORT_COUNT as u64
+        && record_at(tables, PORTS_AT, PORT_WIDTH, port as usize)[PORT_ON_AT] == 1
 }
 
 pub fn port_mode(tables: &[u8], port: u64) -> u8
     requires { (length tables.now ≡ table_size) × (port < port_count) }
     ensures { result ≡ port_mode (relay_of tables.now) port }
 {
-    let b = record_at(tables, PORTS_AT, PORT_WIDTH, port as usize);
-    b[1]
+    record_at(tables, PORTS_AT, PORT_WIDTH, port as usize)[PORT_MODE_AT]
 }
 
 // How long a packet is at most that a port carries.

@@ -32,14 +32,12 @@ pub fn return_arrival(tables: &[u8], place: usize) -> u8
     requires { (length tables.now ≡ table_size) × (place < return_count) }
     ensures { result ≡ (return_of (record_at returns_at return_width tables.now place)).arrival }
 {
-    let b = record_at(tables, RETURNS_AT, RETURN_WIDTH, place);
-    b[RETURN_ARRIVAL_AT]
+    record_at(tables, RETURNS_AT, RETURN_WIDTH, place)[RETURN_ARRIVAL_AT]
 }
 
 pub fn return_leaving(tables: &[u8], place: usize) -> u8
     requires { (length tables.now ≡ table_size) × (place < return_count) }
     ensures { result ≡ (return_of (record_at returns_at return_width tables.now place)).leaving }
 {
-    let b = record_at(tables, RETURNS_AT, RETURN_WIDTH, place);
-    b[RETURN_LEAVING_AT]
+    record_at(tables, RETURNS_AT, RETURN_WIDTH, place)[RETURN_LEAVING_AT]
 }

@@ -7,7 +7,4 @@ use Rattle.lookup.proofs.expired.expired_path.Given as goal
 
 abbrev pub invariant-loop-i : goal.invariant-loop-i
 invariant-loop-i l =
-    (l.i ≤ path_count) × (l.latest ≡ latest_of (latest (expiry_at l.clock l.destination l.tables) l.i))
-
-abbrev pub decreases-loop-i : goal.decreases-loop-i
-decreases-loop-i l = path_count - l.i
+    l.latest ≡ latest_of (latest (expiry_at l.clock l.destination l.tables) l.i)

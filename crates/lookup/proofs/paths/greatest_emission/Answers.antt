@@ -9,8 +9,8 @@ use Rattle.lookup.proofs.paths.greatest_emission.Goals as goal
 
 pub greatest_of-requires : goal.greatest_of-requires
 unfolding path_of blobs_of
-greatest_of-requires c = (search rules, subst (λ (b : List ℕ). (blobs_of b).count ≤ blob_limit) (sym c.record_at.ensures.0) c.requires.2)
+greatest_of-requires c = (search rules, subst (λ (b : List ℕ). (blobs_of b).count ≤ blob_limit) (sym c.path_at.ensures.0) c.requires.2)
 
 pub returns : goal.returns
 unfolding path_of blobs_of
-returns c = c.greatest_of.ensures ∙ ap (λ (b : List ℕ). greatest_emission (held (blobs_of b))) c.record_at.ensures.0
+returns c = c.greatest_of.ensures ∙ ap (λ (b : List ℕ). greatest_emission (held (blobs_of b))) c.path_at.ensures.0

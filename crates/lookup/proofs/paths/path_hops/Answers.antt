@@ -6,4 +6,4 @@ use Rattle.lookup.proofs.paths.path_hops.Goals as goal
 
 pub returns : goal.returns
 unfolding path_of
-returns c = ap (λ (b : List ℕ). (path_of b).hops) c.record_at-b.ensures.0
+returns c = ap (λ (b : List ℕ). (path_of b).hops) c.path_at.ensures.0

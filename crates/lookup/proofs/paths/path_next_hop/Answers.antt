@@ -6,4 +6,4 @@ use Rattle.lookup.proofs.paths.path_next_hop.Goals as goal
 
 pub returns : goal.returns
 unfolding path_of
-returns c = c.address_at.ensures ∙ ap (λ (b : List ℕ). (path_of b).next_hop) c.record_at.ensures.0
+returns c = c.address_at.ensures ∙ ap (λ (b : List ℕ). (path_of b).next_hop) c.path_at.ensures.0

@@ -6,4 +6,4 @@ use Rattle.lookup.proofs.paths.path_notes.Goals as goal
 
 pub returns : goal.returns
 unfolding path_of
-returns c = c.read.ensures ∙ ap (λ (b : List ℕ). (path_of b).notes) c.record_at.ensures.0
+returns c = c.read.ensures ∙ ap (λ (b : List ℕ). (path_of b).notes) c.path_at.ensures.0

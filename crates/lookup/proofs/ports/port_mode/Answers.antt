@@ -7,4 +7,4 @@ use Rattle.lookup.proofs.ports.port_mode.Goals as goal
 
 pub returns : goal.returns
 returns c =
-    ap (λ (b : List ℕ). get_or b 1 0) c.record_at-b.ensures.0 ∙ sym (mode_seen c.args.tables.now c.args.port c.requires.1)
+    ap (λ (b : List ℕ). get_or b 1 0) c.record_at.ensures.0 ∙ sym (mode_seen c.args.tables.now c.args.port c.requires.1)

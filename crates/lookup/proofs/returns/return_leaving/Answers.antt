@@ -6,4 +6,4 @@ use Rattle.lookup.proofs.returns.return_leaving.Goals as goal
 
 pub returns : goal.returns
 unfolding return_of
-returns c = ap (λ (b : List ℕ). (return_of b).leaving) c.record_at-b.ensures.0
+returns c = ap (λ (b : List ℕ). (return_of b).leaving) c.record_at.ensures.0
