@@ -1,3 +1,4 @@
 pub mod LeavingLaws
+pub mod Steps
 pub mod RuleLaws
 pub mod PortLaws

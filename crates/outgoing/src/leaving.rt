@@ -12,7 +12,7 @@ use packet::places::{HOPS_AT, TYPE_ONE_START, TYPE_TWO_START};
 pub fn spread_header(header: u8) -> u8
     ensures { result ≡ spread_header header }
 {
-    64 + header / 32 % 2 * 32 + 16 + header % 16
+    header & 0b0010_1111 | 0b0101_0000
 }
 
 // The parts of a packet under another header and relay address, hops + 1.
@@ -21,13 +21,11 @@ fn rewritten_parts(packet: &[u8], header: u8, relay: [u8; 16]) -> Parts
     ensures { result ≡ rewritten_parts header relay packet.now }
 {
     let parts = packet::parts_of(packet);
-    let destination = parts.destination;
     Parts {
         header,
         hops: parts.hops + 1,
         relay,
-        destination,
-        context: parts.context,
+        ..parts
     }
 }
 
@@ -61,7 +59,7 @@ pub fn spread(packet: &[u8], own: [u8; 16], output: &mut [u8]) -> usize
     packet::write_packet(head, &packet[0..0], output);
     let body = packet::payload(packet);
     let end = TYPE_TWO_START + body.len();
-    octets::copy(&mut output[TYPE_TWO_START..end], body);
+    output[TYPE_TWO_START..end].copy_from_slice(body);
     end
 }
 

@@ -4,17 +4,6 @@ ghost use Rattle.octets.specs.Index.{◌and◌};
 ghost use Rattle.octets.specs.Choice.{◌then◌otherwise◌};
 ghost use Rattle.numbers.specs.Numbers.{port_count};
 
-// Adds a port to a set of lower ones, if it belongs there.
-pub fn with_port(ports: u16, port: u8, belongs: bool) -> u16
-    requires { (port < port_count) × (ports < 2 ^ port) }
-    ensures { result ≡ ports + (belongs then 2 ^ port otherwise 0) }
-{
-    if belongs {
-        return ports + (1u16 << port);
-    }
-    ports
-}
-
 // Adds a port to the set of those that an announce of this length is spread to: the ports on but the arrival port that
 // carry it.
 pub fn with_spread_port(
@@ -28,10 +17,8 @@ pub fn with_spread_port(
     requires { (port < port_count) × (ports < 2 ^ port) }
     ensures { result ≡ ports + (on and not (eqb port arrival) and not (ltb size length) then 2 ^ port otherwise 0) }
 {
-    if on {
-        if port != arrival {
-            return with_port(ports, port, !(size < length));
-        }
+    if on && port != arrival && length <= size {
+        return ports + (1u16 << port);
     }
     ports
 }

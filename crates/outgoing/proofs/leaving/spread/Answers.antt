@@ -28,9 +28,9 @@ write_packet-requires c =
     ∙ ap payload_start c.spread_header.ensures in
     omega (arith, start ∙ spread_start (header_of c.args.packet.now), c.requires.1)
 
-pub slice_bounds-copy-end : goal.slice_bounds-copy-end
+pub slice_bounds-copy_from_slice-end : goal.slice_bounds-copy_from_slice-end
 unfolding spread_length
-slice_bounds-copy-end c = omega (arith, ap length c.payload-body.ensures, c.write_packet.auto, c.requires.1)
+slice_bounds-copy_from_slice-end c = omega (arith, ap length c.payload-body.ensures, c.write_packet.auto, c.requires.1)
 
 pub returns : goal.returns
 returns c =
@@ -44,7 +44,7 @@ returns c =
     ∙ ap (λ (h : ℕ). rewritten_parts h own p) c.spread_header.ensures in
     let before = c.write_packet.ensures ∙ ap (λ (q : Parts). patch out 0 (packet_of q [])) head in (
       spread_result longest_packet p c.requires.0.readable own wide body c.payload-body.ensures,
-      ap (put_mid type_two_start (type_two_start + length body - type_two_start) written) c.copy.ensures
+      ap (put_mid type_two_start (type_two_start + length body - type_two_start) written) c.copy_from_slice.ensures.after
           ∙ patch_range written type_two_start (length body) body refl
           ∙ ap₂ (λ (o b : List ℕ). patch o type_two_start b) before c.payload-body.ensures
           ∙ spread_written longest_packet out own p c.requires.0.readable wide c.requires.1,

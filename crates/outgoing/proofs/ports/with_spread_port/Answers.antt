@@ -1,26 +1,22 @@
-use mathlib.Core.Path.{◌≡◌, sym, ap, ◌∙◌}
-use mathlib.Core.Bool.{Bool, false, not}
-use Prim.Native.Nat.{ℕ, ◌+◌, ◌^◌}
 use native.Mathlib.Nat.{add-zero}
-use borrow.Author.Tests.{eq-eqb, ne_eqb}
+use borrow.Author.Tests.{eq-eqb, ne_eqb, lt-ltb, le-ltb}
+use Rattle.octets.specs.Index.{◌and◌}
 use Rattle.octets.specs.Choice.{◌then◌otherwise◌}
-use Rattle.octets.proofs.Choice.{then_false}
-use Rattle.octets.proofs.Index.{and_yes, and_no}
+use Rattle.outgoing.proofs.PortLaws.{one_shifted}
 use Rattle.outgoing.proofs.ports.with_spread_port.Goals as goal
+use Rattle.outgoing.proofs.ports.with_spread_port.Goals.{else-on-via-then-on+then-port-arrival+else-length-size, else-on-via-then-on+else-port-arrival, else-on-via-else-on}
 
--- a port that doesn't belong there
-left_out : (ports port : ℕ) {belongs : Bool} → belongs ≡ false → ports ≡ ports + (belongs then 2 ^ port otherwise 0)
-left_out ports port e = sym (ap (λ (k : ℕ). ports + k) (then_false (2 ^ port) 0 e) ∙ add-zero ports)
+pub returns-then-length-size : goal.returns-then-length-size
+unfolding ◌and◌ ◌then◌otherwise◌
+returns-then-length-size c =
+    rw (c.if-on.true, ne_eqb _ _ c.if-port-arrival.true, le-ltb _ _ c.if-length-size.true, one_shifted c.args.port c.requires.0)
 
-pub returns-then-port-arrival : goal.returns-then-port-arrival
-returns-then-port-arrival c =
-    let a = c.args in
-    c.with_port.ensures
-    ∙ ap (λ (t : Bool). a.ports + (t then 2 ^ a.port otherwise 0))
-    (sym (and_yes _ c.if-on.true ∙ and_yes _ (ap not (ne_eqb a.port a.arrival c.if-port-arrival.true))))
-
-pub returns-else-port-arrival : goal.returns-else-port-arrival
-returns-else-port-arrival c = left_out _ _ (and_yes _ c.if-on.true ∙ and_no _ (ap not (eq-eqb _ _ c.if-port-arrival.false)))
-
-pub returns-else-on : goal.returns-else-on
-returns-else-on c = left_out _ _ (and_no _ c.if-on.false)
+pub returns : goal.returns
+unfolding ◌and◌ ◌then◌otherwise◌
+returns c =
+    elim c.else-on.branch [
+      | else-on-via-then-on+then-port-arrival+else-length-size w ↦
+          rw (w.if-on.true, ne_eqb _ _ w.if-port-arrival.true, lt-ltb _ _ w.if-length-size.false, add-zero)
+      | else-on-via-then-on+else-port-arrival w ↦ rw (w.if-on.true, eq-eqb _ _ w.if-port-arrival.false, add-zero)
+      | else-on-via-else-on w ↦ rw (w.if-on.false, add-zero)
+    ]
