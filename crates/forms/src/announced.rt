@@ -7,16 +7,15 @@ ghost use Rattle.rules.specs.Writes.{next_hop_of};
 use numbers::{ACCESS_POINT_LIFETIME, BOUNDARY_LIFETIME, ROAMING_LIFETIME};
 
 // How long a path lives, by the mode of the arrival port: boundary, access point, roaming.
+#[tactic(auto, using(outgoing::proofs::Steps::joined), unfolding(numbers::specs::Numbers::path_lifetime))]
 pub fn path_lifetime(mode: u8) -> u64
     ensures { (result ≡ path_lifetime mode) × (result ≤ boundary_lifetime) }
 {
-    if mode == 0 {
-        return BOUNDARY_LIFETIME;
+    match mode {
+        0 => BOUNDARY_LIFETIME,
+        1 => ACCESS_POINT_LIFETIME,
+        _ => ROAMING_LIFETIME,
     }
-    if mode == 1 {
-        return ACCESS_POINT_LIFETIME;
-    }
-    ROAMING_LIFETIME
 }
 
 // The next hop: the relay address, or the destination if type 1.

@@ -7,20 +7,14 @@ ghost use Rattle.rules.specs.Exempt.{exempt_context, exempt as is_exempt};
 fn exempt_context(context: u8) -> bool
     ensures { result ≡ exempt_context context }
 {
-    match context {
-        0x01 | 0x03 | 0x05 | 0x08 | 0x0e | 0xfa => true,
-        _ => false,
-    }
+    matches!(context, 0x01 | 0x03 | 0x05 | 0x08 | 0x0e | 0xfa)
 }
 
 // A packet of kind link with one of these contexts.
+#[tactic(auto, using(outgoing::proofs::Steps::reading), unfolding(rules::specs::Exempt::exempt))]
 pub fn exempt(packet: &[u8]) -> bool
     requires { reads longest_packet packet.now ≡ true }
     ensures { result ≡ is_exempt packet.now }
 {
-    if packet::of_kind_link(packet[0]) {
-        let parts = packet::parts_of(packet);
-        return exempt_context(parts.context);
-    }
-    false
+    packet::of_kind_link(packet[0]) && exempt_context(packet::parts_of(packet).context)
 }

@@ -3,20 +3,16 @@ ghost use Rattle.std.specs.Prelude.{◌≡◌};
 ghost use Rattle.octets.specs.Index.{◌and◌};
 ghost use Rattle.octets.specs.Choice.{◌or◌};
 
+#[tactic(auto, using(outgoing::proofs::Steps::joined))]
 pub fn both(one: bool, other: bool) -> bool
     ensures { result ≡ (one and other) }
 {
-    if one {
-        return other;
-    }
-    false
+    one && other
 }
 
+#[tactic(auto, using(outgoing::proofs::Steps::joined))]
 pub fn either(one: bool, other: bool) -> bool
     ensures { result ≡ (one or other) }
 {
-    if one {
-        return true;
-    }
-    other
+    one || other
 }
