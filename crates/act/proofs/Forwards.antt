@@ -1,8 +1,7 @@
 -- What is left by a packet that is forwarded, from what the code wrote: verdict, tables and output.
 use Prim.Native.Nat.{ℕ, ◌<◌}
 use mathlib.Core.Bool.{true, false, not}
-use native.Mathlib.Omega.{arith}
-use mathlib.Core.List.{List, ◌++◌}
+use mathlib.Core.List.{List}
 use mathlib.Core.Path.{◌≡◌, refl, sym, ap, ap₂, subst, ◌∙◌}
 use lib.Dec.{ltb}
 use lib.ListN.{length, take}
@@ -11,16 +10,13 @@ use Rattle.sha256.specs.Sha256.{sha256_of}
 use Rattle.sha256.proofs.Promise.{digest_byte}
 use Rattle.octets.specs.Bytes.{Bytes}
 use Rattle.octets.specs.Part.{patch}
-use Rattle.octets.specs.BigEndian.{word_width}
 use Rattle.octets.proofs.Choice.{then_true}
 use Rattle.octets.proofs.Bytes.{take_bytes}
-use Rattle.octets.proofs.Part.{part_again, part_split, part_whole}
 use Rattle.octets.proofs.Index.{and_yes}
 use Rattle.packet.specs.Header.{is_data, is_link_request}
 use Rattle.packet.specs.Read.{parts_of, payload}
 use Rattle.packet.specs.Hash.{hashed_part, packet_hash, link_id}
 use Rattle.packet.specs.Places.{link_payload_width}
-use Rattle.packet.proofs.Widths.{link_id_length}
 use Rattle.numbers.specs.Numbers.{path_count, link_count, return_count, address_width}
 use Rattle.rules.specs.Relay.{Path, Return, Relay}
 use Rattle.rules.specs.View.{View, view_at, free_link, link_place}
@@ -44,7 +40,7 @@ use Rattle.plan.specs.Decided.{used_hash, link_at, return_at, seen, path_at, arr
 use Rattle.forms.proofs.KindLaws.{request_left}
 use Rattle.forms.proofs.ContextLaws.{never_exempt}
 use Rattle.plan.proofs.ContextLaws.{used_own}
-use Rattle.act.specs.Stored.{address_by, return_put}
+use Rattle.act.specs.Stored.{return_put}
 use Rattle.act.specs.Acted.{AcceptedOn, plan_on, verdict_on, written_on, output_on, CarriesOut, forwarded_on}
 use Rattle.rules.proofs.Passed.{passed}
 use Rattle.act.proofs.Inverted.{inverted, at_place}
@@ -119,10 +115,10 @@ module _ (packet : List ℕ) (m : Arrived) (t : List ℕ) (ok : AcceptedOn packe
         (ap (take address_width) is) q1 refl q4)
 
   -- ---- a link request by the path at a place
-  module _ (i place high low : ℕ) (d : decision r a ≡ Request i place high low) where
+  module _ (i place : ℕ) (id : List ℕ) (d : decision r a ≡ Request i place id) where
     pub request_record : (i < path_count) × (plan_on packet m t ≡ follows (by_path (path_at t i))) × (is_data (header a) ≡ false) × (place ≡ free_link m.clock r)
     request_record =
-        let k = inverted r a (Request i place high low) d in
+        let k = inverted r a (Request i place id) d in
         let f : Planned v a (follows (by_path k.0)) = subst (Planned v a) k.1 (planned v a) in
         let q = at_place i path_count f.found.0 (path_found t m.clock (destination a) i k.3) (path_missing t m.clock (destination a) i k.3) in
         (q.0, k.1 ∙ ap (λ (p : Path). follows (by_path p)) q.1, k.2, k.4)
@@ -130,22 +126,14 @@ module _ (packet : List ℕ) (m : Arrived) (t : List ℕ) (ok : AcceptedOn packe
     pub request_room : place < link_count
     unfolding no_room view_at
     request_room =
-        let k = inverted r a (Request i place high low) d in
+        let k = inverted r a (Request i place id) d in
         let f : Planned v a (follows (by_path k.0)) = subst (Planned v a) k.1 (planned v a) in
         let asks : is_link_request (header a) ≡ true = request_left (header a) k.2 f.found.1 f.found.2 in
         let room : not (ltb (free_link m.clock r) link_count) ≡ false = sym (and_yes _ asks) ∙ (passed v a (by_path k.0) k.1).1.room in
         subst (λ (n : ℕ). n < link_count) (sym k.4) (ltb-true _ _ (not-false _ room))
 
-    pub request_id : address_by high low ≡ link_id packet
-    request_id =
-        let k = inverted r a (Request i place high low) d in
-        let id : List ℕ = link_id packet in
-        let size = link_id_length packet in
-        ap₂ address_by k.5 k.6
-        ∙ ap₂ ◌++◌ (part_again id 0 word_width (link_id_bytes packet) (omega (arith, size)))
-        (part_again id word_width word_width (link_id_bytes packet) (omega (arith, size)))
-        ∙ sym (part_split id 0 word_width word_width)
-        ∙ part_whole id address_width size
+    pub request_id : id ≡ link_id packet
+    request_id = (inverted r a (Request i place id) d).5
 
     pub asked_left : Bytes t → (port n : ℕ) (x : Link) (output u o : List ℕ) → port ≡ (path_at t i).port → x ≡ link_record a (path_at t i)
         → n ≡ length (forwarded_on packet t i) → o ≡ patch output 0 (forwarded_on packet t i)

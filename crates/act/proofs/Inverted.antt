@@ -19,7 +19,7 @@ use Rattle.rules.proofs.Choices.{either}
 use Rattle.rules.proofs.Passed.{passed}
 use Rattle.plan.specs.declared.Decision.{Decision}
 use Rattle.plan.specs.declared.Decision.TheVariants.{Drop, Deliver, Announce, Data, Request, Carry, Receipt}
-use Rattle.plan.specs.Decided.{high_of, low_of, decided_way, decided, decision}
+use Rattle.plan.specs.Decided.{decided_way, decided, decision}
 
 -- ---- the plan behind a decision
 module _ (r : Relay) (a : Arrival) where
@@ -33,9 +33,9 @@ module _ (r : Relay) (a : Arrival) where
       (s : Slot Path) × (plan view a ≡ follows (everywhere s)) × (place ≡ announced_place a s r) × (is_there s ≡ known)
   Inverted (Data i) =
       (p : Path) × (plan view a ≡ follows (by_path p)) × (is_data (header a) ≡ true) × (i ≡ path_place a.clock r (destination a))
-  Inverted (Request i place high low) =
+  Inverted (Request i place id) =
       (p : Path) × (plan view a ≡ follows (by_path p)) × (is_data (header a) ≡ false) × (i ≡ path_place a.clock r (destination a))
-      × (place ≡ free_link a.clock r) × (high ≡ high_of (link_id a.bytes)) × (low ≡ low_of (link_id a.bytes))
+      × (place ≡ free_link a.clock r) × (id ≡ link_id a.bytes)
   Inverted (Carry i port) =
       (l : Link) × (plan view a ≡ follows (along_link l)) × (i ≡ link_place a.clock r (destination a)) × (port ≡ leaving_port a (along_link l))
   Inverted (Receipt i port) =
@@ -47,7 +47,7 @@ module _ (r : Relay) (a : Arrival) where
   inverted_plan delivered e = e
   inverted_plan (follows (everywhere s)) e = (s, e, refl, refl)
   inverted_plan (follows (by_path p)) e =
-      either Inverted (is_data (header a)) (λ yes. (p, e, yes, refl)) (λ no. (p, e, no, refl, refl, refl, refl))
+      either Inverted (is_data (header a)) (λ yes. (p, e, yes, refl)) (λ no. (p, e, no, refl, refl, refl))
   inverted_plan (follows (along_link l)) e = (l, e, refl, refl)
   inverted_plan (follows (by_return t)) e = (t, e, refl, refl)
   inverted_plan (follows (blocked why)) e = absurd (false≢true (sym (passed view a (blocked why) e).1.some_way))

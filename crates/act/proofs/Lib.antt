@@ -1,3 +1,4 @@
+pub mod Announced
 pub mod Inverted
 pub mod Forwards
 pub mod Spreads

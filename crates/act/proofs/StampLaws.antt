@@ -42,7 +42,7 @@ module _ (packet : List ℕ) (m : Arrived) (t : List ℕ) where
   remembered_by Deliver e = ap (remembers v a) (sym (inverted r a Deliver e))
   remembered_by (Announce place known) e = ap (remembers v a) (sym (inverted r a (Announce place known) e).1)
   remembered_by (Data path) e = ap (remembers v a) (sym (inverted r a (Data path) e).1)
-  remembered_by (Request path place high low) e = ap (remembers v a) (sym (inverted r a (Request path place high low) e).1)
+  remembered_by (Request path place id) e = ap (remembers v a) (sym (inverted r a (Request path place id) e).1)
   remembered_by (Carry link port) e = ap (remembers v a) (sym (inverted r a (Carry link port) e).1)
   remembered_by (Receipt place port) e = ap (remembers v a) (sym (inverted r a (Receipt place port) e).1)
 

@@ -1,11 +1,14 @@
 -- What is left by a packet that goes nowhere: dropped, or delivered; and what a drop writes.
 use Prim.Native.Nat.{ℕ, ◌≤◌, ◌<◌}
-use mathlib.Core.Bool.{true}
+use mathlib.Core.Bool.{true, false}
 use mathlib.Core.List.{List}
 use mathlib.Core.Path.{◌≡◌, sym, ap, ◌∙◌}
 use lib.ListN.{get_or}
-use borrow.Author.Tests.{eq-eqb, ne_eqb}
-use Rattle.octets.proofs.Choice.{then_true, then_false}
+use lib.Dec.{eqb}
+use Rattle.std.proofs.lemmas.Bool.Decides.{nat_tests}
+use native.Mathlib.Omega.{arith}
+use Rattle.octets.specs.Choice.{◌then◌otherwise◌}
+use Rattle.octets.proofs.Choice.{then_false}
 use Rattle.numbers.specs.Numbers.{path_count}
 use Rattle.octets.specs.Bytes.{Bytes}
 use Rattle.rules.specs.Relay.{Slot, empty, Path, Relay}
@@ -17,6 +20,7 @@ use Rattle.rules.specs.Judging.{Plan, dropped, delivered, verdict, output_after}
 use Rattle.rules.specs.Writes.{limit_path, write_drop, write_plan}
 use Rattle.rules.specs.declared.RateEntry.{RateEntry}
 use Rattle.rules.specs.declared.Reason.{Reason}
+use Rattle.rules.specs.declared.Reason.TheVariants.{RateLimited}
 use Rattle.rules.specs.declared.Verdict.{Verdict}
 use Rattle.rules.specs.declared.Verdict.TheVariants.{Drop, Deliver}
 use Rattle.tables.specs.Layout.{relay_of, bytes_of, well_formed}
@@ -61,6 +65,9 @@ module _ (packet : List ℕ) (m : Arrived) (t : List ℕ) (ok : AcceptedOn packe
       )
 
 -- ---- test 15's
+not_limited : (reason : Reason) → (reason ≡ RateLimited → ⊥) → eqb (reason_number reason) 15 ≡ false
+not_limited reason other = grind (arith, nat_tests)
+
 module _ (packet : List ℕ) (m : Arrived) (t : List ℕ) (h : well_formed t ≡ true) (b : Bytes t) where
   abbrev came : Arrival
   came = arrival_of packet m
@@ -82,10 +89,10 @@ module _ (packet : List ℕ) (m : Arrived) (t : List ℕ) (h : well_formed t ≡
         ∙ ap (λ (s : Slot Path). bytes_of (limit_path (seen m t) came s (relay_of t)))
         (sym (path_missing t m.clock (destination came) place e l))
 
-  pub drop_limited : (reason : Reason) → reason_number reason ≡ 15 → limited_on packet m t ≡ dropped_on packet m reason t
-  unfolding limited_on dropped_on write_drop
-  drop_limited reason n = ap bytes_of (sym (then_true _ _ (eq-eqb _ 15 n)))
+  pub drop_limited : (reason : Reason) → reason ≡ RateLimited → limited_on packet m t ≡ dropped_on packet m reason t
+  unfolding limited_on dropped_on write_drop ◌then◌otherwise◌
+  drop_limited reason e = rw e
 
-  pub drop_stays : (reason : Reason) → (reason_number reason ≡ 15 → ⊥) → t ≡ dropped_on packet m reason t
+  pub drop_stays : (reason : Reason) → (reason ≡ RateLimited → ⊥) → t ≡ dropped_on packet m reason t
   unfolding dropped_on write_drop
-  drop_stays reason n = sym (again t b h) ∙ ap bytes_of (sym (then_false _ _ (ne_eqb _ 15 n)))
+  drop_stays reason other = sym (again t b h) ∙ ap bytes_of (sym (then_false _ _ (not_limited reason other)))

@@ -1,9 +1,8 @@
 -- What the writes of an accepted packet leave in the tables' bytes t: a record of its own, and then the stamp of clock and hash.
 -- For the contracts of helpers: not part of what a reader must believe.
-use Rattle.std.specs.Prelude.{ℕ, ◌+◌, Bool, true, not, List, ◌++◌, take}
+use Rattle.std.specs.Prelude.{ℕ, ◌+◌, Bool, true, not, List, take}
 use Rattle.octets.specs.Index.{◌and◌}
 use Rattle.octets.specs.Choice.{◌then◌otherwise◌}
-use Rattle.octets.specs.BigEndian.{big_endian, word_width}
 use Rattle.packet.specs.Announce.{emission_of}
 use Rattle.numbers.specs.Numbers.{blob_limit, hash_lifetime, return_lifetime, address_width}
 use Rattle.rules.specs.Relay.{Blobs, Path}
@@ -30,7 +29,7 @@ decision_remembers (Drop reason) = remembers_drop reason
 decision_remembers Deliver = true
 decision_remembers (Announce place known) = true
 decision_remembers (Data path) = true
-decision_remembers (Request path place high low) = true
+decision_remembers (Request path place id) = true
 decision_remembers (Carry link port) = true
 decision_remembers (Receipt place port) = true
 
@@ -64,10 +63,6 @@ rate_stored t place known clock blob = known then rate_known t (path_at t place)
 
 unfoldable pub path_put : List ℕ → ℕ → Bool → Announced → List ℕ → List ℕ
 path_put t place known path blob = path_written t place (announced path (blobs_stored t place known blob))
-
--- ---- a link's id
-abbrev pub address_by : ℕ → ℕ → List ℕ
-address_by high low = big_endian word_width high ++ big_endian word_width low
 
 -- ---- a return record, whose key is the first 16 of the hash
 unfoldable pub return_put : List ℕ → ℕ → ℕ → List ℕ → ℕ → List ℕ

@@ -26,30 +26,30 @@ const PORTS: u8 = PORT_COUNT as u8;
 
 // Last accepted announce, violations and blocked-until of its path: a new one starts with none, and where test 15 isn't
 // made, the other two stay.
+#[tactic(auto, using(crate::proofs::Announced::announced_steps))]
 fn announced_rate(tables: &[u8], clock: u64, place: usize, known: bool, blob: [u8; 10]) -> RateEntry
     requires { (length tables.now ≡ table_size) × (known ≡ true → CanKnow tables.now place) }
     ensures { result ≡ rate_stored tables.now place known clock blob }
 {
-    if known {
-        if plan::revives(tables, place, blob) {
-            let entry = lookup::path_rate(tables, place);
-            return RateEntry {
-                last: clock,
-                violations: entry.violations,
-                blocked_until: entry.blocked_until,
-            };
-        }
-        let rated = plan::rate_at(tables, place, clock);
+    if !known {
         return RateEntry {
             last: clock,
-            violations: rated.violations,
-            blocked_until: rated.blocked_until,
+            violations: 0,
+            blocked_until: 0,
         };
     }
+    if plan::revives(tables, place, blob) {
+        let entry = lookup::path_rate(tables, place);
+        return RateEntry {
+            last: clock,
+            ..entry
+        };
+    }
+    let rated = plan::rate_at(tables, place, clock);
     RateEntry {
         last: clock,
-        violations: 0,
-        blocked_until: 0,
+        violations: rated.violations,
+        blocked_until: rated.blocked_until,
     }
 }
 
@@ -62,7 +62,7 @@ fn announced_path(tables: &[u8], packet: &[u8], arrived: Arrived, rate: RateEntr
     let parts = packet::parts_of(packet);
     let destination = parts.destination;
     let next_hop = forms::next_hop_of(packet);
-    let lifetime = forms::path_lifetime(lookup::port_mode(tables, octets::wide(arrived.port)));
+    let lifetime = forms::path_lifetime(lookup::port_mode(tables, u64::from(arrived.port)));
     Announced {
         destination,
         port: arrived.port,
@@ -79,15 +79,13 @@ fn put_path(tables: &mut [u8], place: usize, known: bool, path: Announced, blob:
         × (known ≡ true → CanKnow tables.old place) }
     ensures { tables.new ≡ path_put tables.old place known path blob }
 {
-    if known {
-        if lookup::holds_blob(tables, place, blob) {
-            update::put_kept_path(tables, place, path);
-            return;
-        }
+    if !known {
+        update::put_new_path(tables, place, path, blob);
+    } else if lookup::holds_blob(tables, place, blob) {
+        update::put_kept_path(tables, place, path);
+    } else {
         update::put_known_path(tables, place, path, blob);
-        return;
     }
-    update::put_new_path(tables, place, path, blob);
 }
 
 // The ports that an announce of this length is spread to: all that are on but the arrival port, and carry it.
@@ -95,13 +93,11 @@ fn spread_ports(tables: &[u8], arrival: u8, long: usize) -> u16
     requires { length tables.now ≡ table_size }
     ensures { result ≡ port_set (spreads_to (relay_of tables.now) arrival long) }
 {
-    let mut ports: u16 = 0;
-    let mut i: u8 = 0;
-    while i < PORTS {
-        let on = lookup::port_on(tables, octets::wide(i));
-        let size = lookup::port_size(tables, octets::wide(i));
-        ports = outgoing::with_spread_port(ports, i, on, size, arrival, long);
-        i += 1;
+    let mut ports = 0;
+    for port in 0..PORTS {
+        let on = lookup::port_on(tables, u64::from(port));
+        let size = lookup::port_size(tables, u64::from(port));
+        ports = outgoing::with_spread_port(ports, port, on, size, arrival, long);
     }
     ports
 }

@@ -11,9 +11,8 @@ use numbers::PATH_COUNT;
 use plan::Arrived;
 use rules::{RateEntry, Reason, Verdict};
 
-const RATE_LIMITED: u8 = 15;
-
 // The fields of the path at a place once an announce for it is dropped by test 15.
+#[tactic(auto, using(outgoing::proofs::Steps::joined), unfolding(rules::specs::Rate::entry_dropped))]
 fn dropped_entry(tables: &[u8], place: usize, clock: u64) -> RateEntry
     requires { (length tables.now ≡ table_size) × CanKnow tables.now place }
     ensures { result ≡ entry_dropped (relay_of tables.now).rate clock
@@ -22,9 +21,9 @@ fn dropped_entry(tables: &[u8], place: usize, clock: u64) -> RateEntry
     let entry = lookup::path_rate(tables, place);
     let rated = plan::rate_at(tables, place, clock);
     RateEntry {
-        last: entry.last,
         violations: rated.violations,
         blocked_until: rated.blocked_until,
+        ..entry
     }
 }
 
@@ -33,8 +32,7 @@ fn limit(packet: &[u8], arrived: Arrived, tables: &mut [u8])
     requires { CanJudge packet.now tables.old }
     ensures { tables.new ≡ limited_on packet.now arrived tables.old }
 {
-    let parts = packet::parts_of(packet);
-    let destination = parts.destination;
+    let destination = packet::parts_of(packet).destination;
     let place = lookup::path_place(tables, destination, arrived.clock);
     if place < PATH_COUNT {
         let entry = dropped_entry(tables, place, arrived.clock);
@@ -48,7 +46,7 @@ pub fn drop_packet(packet: &[u8], arrived: Arrived, reason: Reason, tables: &mut
     ensures { (result ≡ Drop reason)
         × (tables.new ≡ dropped_on packet.now arrived reason tables.old) }
 {
-    if plan::reason_number(reason) == RATE_LIMITED {
+    if matches!(reason, Reason::RateLimited) {
         limit(packet, arrived, tables);
     }
     Verdict::Drop(reason)

@@ -45,12 +45,9 @@ fn carry_out(
             announce(packet, arrived, place, known, tables, output)
         }
         Decision::Data { path } => send(packet, arrived, hash, path, tables, output),
-        Decision::Request {
-            path,
-            place,
-            high,
-            low,
-        } => request(packet, arrived, path, place, high, low, tables, output),
+        Decision::Request { path, place, id } => {
+            request(packet, arrived, path, place, id, tables, output)
+        }
         Decision::Carry { link, port } => carry(packet, arrived, link, port, tables, output),
         Decision::Receipt { place, port } => {
             receipt(packet, arrived, place, port, tables, output)

@@ -9,12 +9,13 @@ ghost use Rattle.outgoing.specs.Leaving.{CanLeave};
 ghost use Rattle.plan.specs.declared.Decision.TheVariants.{Data, Request};
 ghost use Rattle.act.specs.Acted.{CanCarryOut, CarriesOut, forwarded_on};
 
-use super::links::{address_of, asked_link};
+use super::links::asked_link;
 use super::returns::put_return;
 use plan::Arrived;
 use rules::Verdict;
 
 // Writes what leaves by the path at a place, and says how long it is.
+#[tactic(auto, using(outgoing::proofs::Steps::joined))]
 fn forward(packet: &[u8], tables: &[u8], path: usize, output: &mut [u8]) -> usize
     requires { CanLeave packet.now × (length tables.now ≡ table_size) × (path < path_count)
         × (longest_packet ≤ length output.old) }
@@ -53,17 +54,16 @@ pub fn request(
     arrived: Arrived,
     path: usize,
     place: usize,
-    high: u64,
-    low: u64,
+    id: [u8; 16],
     tables: &mut [u8],
     output: &mut [u8],
 ) -> Verdict
-    requires { CanCarryOut packet.now arrived tables.old output.old (Request path place high low) }
+    requires { CanCarryOut packet.now arrived tables.old output.old (Request path place id) }
     ensures { CarriesOut packet.now arrived tables.old output.old
         result tables.new output.new }
 {
     let port = lookup::path_port(tables, path);
-    let link = asked_link(tables, packet, arrived, path, address_of(high, low));
+    let link = asked_link(tables, packet, arrived, path, id);
     let length = forward(packet, tables, path, output);
     update::put_link(tables, place, link);
     Verdict::Forward { port, length }

@@ -1,34 +1,36 @@
 -- An announce: tests 9, 10, 11, 15 and 13 are all that can hold of it.
 use Prim.Native.Nat.{ℕ, ◌≤◌, ◌<◌}
-use native.Mathlib.Omega.{arith}
 use mathlib.Core.Bool.{Bool, true, false, not}
 use mathlib.Core.Path.{◌≡◌, refl, sym, ap, ◌∙◌}
 use mathlib.Core.List.{List}
-use borrow.Author.Tests.{lt-ltb, le-ltb}
 use Rattle.octets.specs.Index.{◌and◌}
 use Rattle.octets.specs.Choice.{◌or◌, ◌then◌otherwise◌}
-use Rattle.octets.proofs.Choice.{then_true, then_false}
+use Rattle.octets.proofs.Choice.{then_true}
 use Rattle.packet.specs.Header.{packet_kind, is_announce, is_link_request}
 use Rattle.packet.specs.Announce.{emission_of}
 use Rattle.octets.specs.Listed.{first_of, valued}
-use Rattle.octets.proofs.Index.{and_no, and_yes}
-use Rattle.octets.proofs.Listed.{none_first}
 use Rattle.rules.specs.Relay.{Slot, empty, used, Path, Relay}
-use Rattle.rules.specs.View.{View, path_place, free_path, view_at}
-use Rattle.rules.specs.Arrival.{Arrival, header, destination, blob, is_link_proof}
+use Rattle.rules.specs.View.{View, path_place, view_at}
+use Rattle.rules.specs.Arrival.{Arrival, header, hops, destination, blob, is_link_proof}
 use Rattle.rules.specs.Ways.{Way, everywhere, way_on}
 use Rattle.rules.specs.Tests.{is_there, no_way_on, already_known, wrong_side, not_signed, revives, of_known, known_tests, port_off, too_long_for_port, no_room}
 use Rattle.rules.specs.Judging.{Plan, dropped, follows, onward_plan, onward_tests}
 use Rattle.rules.specs.Writes.{announced_place}
-use Rattle.rules.specs.declared.Reason.TheVariants.{NotSigned, NoRoom}
-use Rattle.numbers.specs.Numbers.{path_count}
-use Rattle.octets.proofs.JoinedTests.{joined_first, none_valued}
-use Rattle.rules.proofs.Passed.{none_known}
+use Rattle.rules.specs.Blobs.{held, is_among}
+use Rattle.rules.specs.Rate.{rated}
+use Rattle.rules.specs.declared.Reason.TheVariants.{NotSigned, Replay, NotBetter, RateLimited, NoRoom}
+use Rattle.numbers.specs.Numbers.{path_count, blob_limit}
+use Rattle.octets.proofs.JoinedTests.{joined_first}
+use Rattle.rules.specs.Refusals.{rate_entry_ok}
+use Rattle.rules.proofs.Ranges.{path_counted, path_rate}
+use Rattle.outgoing.proofs.Steps.{reading}
 use Rattle.tables.specs.Layout.{rate_settings_in, relay_of, well_formed}
 use Rattle.tables.proofs.Whole.{formed}
 use Rattle.lookup.proofs.Found.{path_found, path_missing, path_ok_lem}
+use Rattle.plan.proofs.Judged.{judging}
+use Rattle.forms.proofs.KindLaws.{announce_long}
 use Rattle.plan.specs.Decided.{CanKnow, path_at, decided_way, decided, onward}
-use Rattle.plan.specs.Kinds.{new_path, revived_by, known_path}
+use Rattle.plan.specs.Kinds.{new_path, revived_by, worse_than, known_path}
 use Rattle.plan.specs.declared.Decision.TheVariants.{Drop, Announce}
 use Rattle.forms.proofs.KindLaws.{other_kind, no_link_proof}
 use Rattle.plan.proofs.KindLaws.{decided_test, decided_first}
@@ -37,6 +39,15 @@ use Rattle.plan.proofs.KindLaws.{decided_test, decided_first}
 pub can_know : (t : List ℕ) (clock : ℕ) (to : List ℕ) (i : ℕ) → i ≡ path_place clock (relay_of t) to → well_formed t ≡ true → i < path_count → CanKnow t i
 unfolding relay_of rate_settings_in
 can_know t clock to i e h l = record { within = l; fine = path_ok_lem t clock to i e h l; sound = (formed t h).rate }
+
+-- .. counts its blobs, and keeps the rate rule's bounds
+pub few_blobs : (t : List ℕ) (i : ℕ) → CanKnow t i → (path_at t i).blobs.count ≤ blob_limit
+few_blobs t i known = (path_counted _ known.fine).most
+
+pub sound_entry : (t : List ℕ) (i : ℕ) → CanKnow t i → rate_entry_ok (path_at t i).rate ≡ true
+sound_entry t i known = path_rate _ known.fine
+
+pub ruleset knowing = (reading, few_blobs, sound_entry)
 
 module _ (a : Arrival) (is : is_announce (header a) ≡ true) where
   no_request : is_link_request (header a) ≡ false
@@ -92,33 +103,23 @@ module _ (t : List ℕ) (a : Arrival) (is : is_announce (header a) ≡ true) (si
   pub announce_nowhere : path_count ≤ i → new_path a.clock (relay_of t) ≡ onward (relay_of t) a
   announce_nowhere l = announce_new a is (relay_of t) signed (path_missing t a.clock (destination a) i e l)
 
--- ---- a new path, by the lowest free place
-module _ (clock : ℕ) (r : Relay) {place : ℕ} (e : place ≡ free_path clock r) where
-  pub new_room : place < path_count → Announce place false ≡ new_path clock r
-  unfolding new_path
-  new_room l =
-      ap (λ (k : ℕ). Announce k false) e
-      ∙ sym (then_false _ _ (ap not (lt-ltb (free_path clock r) path_count (omega (arith, e, l)))))
+-- ---- the tests of a known path, as the code makes them: none where the announce revives it
+unless : {A : Type 0} (b t u w : Bool) (x y z rest : A)
+    → (not b and t then x otherwise not b and u then y otherwise not b and w then z otherwise rest)
+    ≡ (b then rest otherwise t then x otherwise u then y otherwise w then z otherwise rest)
+unfolding ◌and◌ ◌then◌otherwise◌
+unless true t u w x y z rest = refl
+unless false t u w x y z rest = refl
 
-  pub new_full : path_count ≤ place → Drop NoRoom ≡ new_path clock r
-  unfolding new_path
-  new_full l = sym (then_true _ _ (ap not (le-ltb (free_path clock r) path_count (omega (arith, e, l)))))
+pub known_clauses : (r : Relay) (a : Arrival) (p : Path) (place : ℕ) → known_path r a p place
+    ≡ (revived_by (emission_of (blob a)) p then Announce place true otherwise
+    is_among (blob a) (held p.blobs) then Drop Replay otherwise
+    worse_than (emission_of (blob a)) (hops a) p then Drop NotBetter otherwise
+    (rated r.rate a.clock p.rate).dropped then Drop RateLimited otherwise
+    Announce place true)
+unfolding known_path first_of valued known_tests of_known revives revived_by worse_than view_at
+known_clauses r a p place = unless _ _ _ _ _ _ _ _
 
--- ---- a known path, by what was read of the announce
-module _ (a : Arrival) (p : Path) {b : List ℕ} (read : b ≡ blob a) where
-  revived_is : revives a p ≡ revived_by (emission_of b) p
-  unfolding revives revived_by
-  revived_is = ap (λ (x : List ℕ). revived_by (emission_of x) p) (sym read)
+pub ruleset known_steps = (known_clauses, knowing)
 
-  -- it is revived: no test is made
-  pub known_revived : (r : Relay) (place : ℕ) → revived_by (emission_of b) p ≡ true → Announce place true ≡ known_path r a p place
-  unfolding known_path of_known
-  known_revived r place q =
-      sym
-      (none_first (valued Drop (known_tests (view_at a.clock r) a (everywhere (used p)))) _
-      (none_valued Drop _ (none_known (view_at a.clock r) a (everywhere (used p)) (and_no _ (ap not (revived_is ∙ q))))))
-
-  -- it isn't: a test says what it says of the path
-  pub known_made : revived_by (emission_of b) p ≡ false → (test : Path → Bool) → of_known a test (everywhere (used p)) ≡ test p
-  unfolding of_known
-  known_made q test = and_yes _ (ap not (revived_is ∙ q))
+pub ruleset announce_steps = (announce_unsigned, announce_at, announce_nowhere, can_know, announce_long, judging)

@@ -1,3 +1,4 @@
+pub mod Judged
 pub mod KindLaws
 pub mod ContextLaws
 pub mod FirstLaws

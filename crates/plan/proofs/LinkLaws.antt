@@ -3,15 +3,12 @@ use Prim.Native.Nat.{ℕ, ◌≤◌, ◌<◌}
 use mathlib.Core.Bool.{Bool, true, false, not}
 use mathlib.Core.Path.{◌≡◌, refl, sym, ap, ◌∙◌}
 use mathlib.Core.List.{List}
-use lib.Dec.{eqb, ltb}
-use lib.ListN.{length, get_or}
-use borrow.Author.Tests.{eq-eqb, ne_eqb}
+use lib.Dec.{ltb}
+use lib.ListN.{length}
 use Rattle.octets.specs.Index.{◌and◌}
 use Rattle.octets.specs.Choice.{◌or◌, ◌then◌otherwise◌}
 use Rattle.octets.proofs.Choice.{then_true, then_false, or_right}
-use Rattle.octets.proofs.Index.{and_no, and_yes}
 use Rattle.packet.specs.Header.{of_kind_link, is_announce}
-use Rattle.packet.proofs.ReadLaws.{parts_hops}
 use Rattle.octets.specs.Listed.{first_of}
 use Rattle.rules.specs.Relay.{empty, used, Relay}
 use Rattle.rules.specs.View.{View, link_place, view_at}
@@ -27,6 +24,7 @@ use Rattle.rules.proofs.Lengths.{carried_length}
 use Rattle.numbers.specs.Numbers.{link_count}
 use Rattle.tables.specs.Layout.{relay_of}
 use Rattle.lookup.proofs.Found.{link_found, link_missing}
+use Rattle.plan.proofs.Judged.{judging}
 use Rattle.plan.specs.Decided.{link_at, decided_way, decided, onward}
 use Rattle.plan.specs.Kinds.{leaving, carried, proving, carrying}
 use Rattle.plan.specs.declared.Decision.TheVariants.{Drop, Carry}
@@ -114,60 +112,4 @@ module _ (t : List ℕ) (a : Arrival) (good : bad_form a.bytes ≡ false)
     pub other_at : is_link_proof a.bytes ≡ false → carrying (relay_of t) a link i ≡ onward (relay_of t) a
     other_at other = ap (carrying (relay_of t) a link) e ∙ link_other a good announce kind (relay_of t) link found other
 
--- ---- the sides
-module _ (l : Link) (a : Arrival) where
-  pub answering_elsewhere : (a.port ≡ l.answering → ⊥) → false ≡ from_answering_side l a
-  unfolding from_answering_side
-  answering_elsewhere ne = sym (and_no _ (ne_eqb a.port l.answering ne))
-
-  pub answering_hops : a.port ≡ l.answering → eqb (get_or a.bytes 1 0) l.remaining.0 ≡ from_answering_side l a
-  unfolding from_answering_side
-  answering_hops e =
-      ap (λ (n : ℕ). eqb n l.remaining.0) (sym (parts_hops a.bytes)) ∙ sym (and_yes _ (eq-eqb a.port l.answering e))
-
-  pub asking_elsewhere : (a.port ≡ l.asking → ⊥) → false ≡ from_asking_side l a
-  unfolding from_asking_side
-  asking_elsewhere ne = sym (and_no _ (ne_eqb a.port l.asking ne))
-
-  pub asking_hops : a.port ≡ l.asking → eqb (get_or a.bytes 1 0) l.taken.0 ≡ from_asking_side l a
-  unfolding from_asking_side
-  asking_hops e =
-      ap (λ (n : ℕ). eqb n l.taken.0) (sym (parts_hops a.bytes)) ∙ sym (and_yes _ (eq-eqb a.port l.asking e))
-
--- ---- a link proof, and any other packet of the link, test by test
-module _ (r : Relay) (a : Arrival) (l : Link) (place : ℕ) where
-  pub prove_known : l.proved ≡ true → Drop AlreadyKnown ≡ proving r a l place
-  unfolding proving
-  prove_known e = sym (then_true _ _ e)
-
-  module _ (unproved : l.proved ≡ false) where
-    pub prove_wrong_side : from_answering_side l a ≡ false → Drop WrongSide ≡ proving r a l place
-    unfolding proving
-    prove_wrong_side e = sym (then_false _ _ unproved ∙ then_true _ _ (ap not e))
-
-    module _ (side : from_answering_side l a ≡ true) where
-      pub prove_unsigned : a.signed ≡ false → Drop NotSigned ≡ proving r a l place
-      unfolding proving
-      prove_unsigned e = sym (then_false _ _ unproved ∙ then_false _ _ (ap not side) ∙ then_true _ _ (ap not e))
-
-      pub prove_carried : a.signed ≡ true → carried r a.bytes l.asking place ≡ proving r a l place
-      unfolding proving
-      prove_carried e = sym (then_false _ _ unproved ∙ then_false _ _ (ap not side) ∙ then_false _ _ (ap not e))
-
-  pub pass_unproved : l.proved ≡ false → Drop (NoWayOn NotProved) ≡ carrying r a l place
-  unfolding carrying
-  pass_unproved e = sym (then_true _ _ (ap not e))
-
-  module _ (proved : l.proved ≡ true) where
-    pub pass_back : from_answering_side l a ≡ true → carried r a.bytes l.asking place ≡ carrying r a l place
-    unfolding carrying
-    pass_back e = sym (then_false _ _ (ap not proved) ∙ then_true _ _ e)
-
-    module _ (side : from_answering_side l a ≡ false) where
-      pub pass_forth : from_asking_side l a ≡ true → carried r a.bytes l.answering place ≡ carrying r a l place
-      unfolding carrying
-      pass_forth e = sym (then_false _ _ (ap not proved) ∙ then_false _ _ side ∙ then_true _ _ e)
-
-      pub pass_wrong_side : from_asking_side l a ≡ false → Drop WrongSide ≡ carrying r a l place
-      unfolding carrying
-      pass_wrong_side e = sym (then_false _ _ (ap not proved) ∙ then_false _ _ side ∙ then_false _ _ e)
+pub ruleset link_steps = (link_nowhere, proof_at, other_at, judging)

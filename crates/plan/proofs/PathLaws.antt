@@ -2,11 +2,10 @@
 use Prim.Native.Nat.{ℕ, ◌+◌, ◌*◌, ◌≤◌, ◌<◌}
 use native.Mathlib.Omega.{arith}
 use mathlib.Core.Bool.{true, false, not, false≢true}
-use mathlib.Core.Path.{◌≡◌, refl, sym, ap, ap₂, ◌∙◌}
+use mathlib.Core.Path.{◌≡◌, refl, sym, ap, ◌∙◌}
 use mathlib.Core.List.{List}
 use lib.Dec.{ltb}
 use lib.ListN.{length}
-use borrow.Author.Tests.{lt-ltb, le-ltb}
 use Rattle.octets.specs.Index.{◌and◌}
 use Rattle.octets.specs.Choice.{◌or◌, ◌then◌otherwise◌}
 use Rattle.octets.proofs.Choice.{then_true, then_false, or_false}
@@ -34,9 +33,10 @@ use Rattle.lookup.specs.declared.Latest.{Latest}
 use Rattle.outgoing.specs.Leaving.{path_length}
 use Rattle.outgoing.proofs.LeavingLaws.{path_length_lem}
 use Rattle.lookup.proofs.Found.{path_found, path_missing, link_found, link_missing}
-use Rattle.plan.specs.Decided.{CanRead, path_at, high_of, low_of, decided_way, decided, onward}
+use Rattle.plan.proofs.Judged.{judging}
+use Rattle.plan.specs.Decided.{CanRead, path_at, decided_way, decided, onward}
 use Rattle.plan.specs.Kinds.{leaving, leaving_by, linking, requesting}
-use Rattle.plan.specs.declared.Decision.TheVariants.{Drop, Data, Request}
+use Rattle.plan.specs.declared.Decision.TheVariants.{Drop, Data}
 use Rattle.forms.proofs.KindLaws.{other_kind, request_left, no_link_proof}
 use Rattle.plan.proofs.KindLaws.{decided_test}
 
@@ -150,19 +150,6 @@ module _ (t : List ℕ) (clock : ℕ) (id : List ℕ) {i : ℕ} (e : i ≡ link_
   unfolding is_there
   id_free l = ap is_there (link_missing t clock id i e l)
 
--- ---- a new link, by what was read
-module _ (r : Relay) (clock : ℕ) (id : List ℕ) (place : ℕ) {free : ℕ} (e : free ≡ free_link clock r) where
-  pub link_room : {high low : ℕ} → high ≡ high_of id → low ≡ low_of id → free < link_count → Request place free high low ≡ linking r clock id place
-  unfolding linking
-  link_room {high} {low} q1 q2 l =
-      ap (λ (k : ℕ). Request place k high low) e
-      ∙ ap₂ (Request place (free_link clock r)) q1 q2
-      ∙ sym (then_false _ _ (ap not (lt-ltb (free_link clock r) link_count (omega (arith, e, l)))))
-
-  pub link_full : link_count ≤ free → Drop NoRoom ≡ linking r clock id place
-  unfolding linking
-  link_full l = sym (then_true _ _ (ap not (le-ltb (free_link clock r) link_count (omega (arith, e, l)))))
-
 -- ---- a link request
 module _ (r : Relay) (a : Arrival) (p : Path) (place : ℕ) where
   pub request_known : is_there ((view_at a.clock r).link (link_id a.bytes)) ≡ true → Drop AlreadyKnown ≡ requesting r a p place
@@ -173,3 +160,5 @@ module _ (r : Relay) (a : Arrival) (p : Path) (place : ℕ) where
       → leaving_by r p a.bytes (linking r a.clock (link_id a.bytes) place) ≡ requesting r a p place
   unfolding requesting
   request_new new = sym (then_false _ _ new)
+
+pub ruleset path_steps = (path_not_asking, path_nowhere, data_at, request_at, judging)

@@ -5,7 +5,6 @@ use mathlib.Core.Path.{◌≡◌, refl, sym, ap, ◌∙◌}
 use mathlib.Core.List.{List}
 use lib.Dec.{ltb}
 use lib.ListN.{length}
-use borrow.Author.Tests.{eq-eqb, ne_eqb}
 use Rattle.octets.specs.Index.{◌and◌}
 use Rattle.octets.specs.Choice.{◌or◌, ◌then◌otherwise◌}
 use Rattle.octets.proofs.Choice.{then_true, then_false}
@@ -24,9 +23,10 @@ use Rattle.rules.proofs.Lengths.{carried_length}
 use Rattle.numbers.specs.Numbers.{return_count}
 use Rattle.tables.specs.Layout.{relay_of}
 use Rattle.lookup.proofs.Found.{return_found, return_missing}
+use Rattle.plan.proofs.Judged.{judging}
 use Rattle.plan.specs.Decided.{return_at, decided_way, decided, onward}
 use Rattle.plan.specs.Kinds.{leaving, returning}
-use Rattle.plan.specs.declared.Decision.TheVariants.{Drop, Receipt}
+use Rattle.plan.specs.declared.Decision.TheVariants.{Drop}
 use Rattle.forms.proofs.KindLaws.{other_kind, no_link_proof_kind}
 use Rattle.plan.proofs.KindLaws.{decided_test}
 
@@ -81,15 +81,4 @@ module _ (t : List ℕ) (a : Arrival) (kind : of_kind_link (header a) ≡ false)
       ap (returning (relay_of t) a.bytes a.port (return_at t i)) e
       ∙ return_there a kind proof (relay_of t) (return_at t i) (return_found t a.clock (destination a) i e l)
 
--- ---- by what was read of the record
-module _ (r : Relay) (packet : List ℕ) (port : ℕ) (t : Return) (place : ℕ) {leaves : ℕ} (read : leaves ≡ t.leaving) where
-  pub receipt_wrong_side : (port ≡ leaves → ⊥) → Drop WrongSide ≡ returning r packet port t place
-  unfolding returning
-  receipt_wrong_side ne = sym (then_true _ _ (ap not (ne_eqb port t.leaving (λ e. ne (e ∙ sym read)))))
-
-  pub receipt_right_side : port ≡ leaves → {arrival : ℕ} → arrival ≡ t.arrival
-      → leaving r arrival (length packet) (Receipt place arrival) ≡ returning r packet port t place
-  unfolding returning
-  receipt_right_side side e =
-      ap (λ (k : ℕ). leaving r k (length packet) (Receipt place k)) e
-      ∙ sym (then_false _ _ (ap not (eq-eqb port t.leaving (side ∙ read))))
+pub ruleset return_steps = (return_nowhere, return_at_lem, judging)

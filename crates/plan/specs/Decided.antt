@@ -3,8 +3,6 @@
 use Rattle.std.specs.Prelude.{ℕ, ◌<◌, Bool, true, not, List, ◌≡◌, length, replicate}
 use Rattle.octets.specs.Choice.{◌then◌otherwise◌}
 use Rattle.octets.specs.Index.{◌and◌}
-use Rattle.octets.specs.Part.{part}
-use Rattle.octets.specs.BigEndian.{number, word_width}
 use Rattle.packet.specs.Header.{is_data}
 use Rattle.packet.specs.Read.{longest_packet, reads}
 use Rattle.packet.specs.Hash.{packet_hash, link_id}
@@ -32,13 +30,6 @@ use Rattle.plan.specs.declared.Decision.TheVariants.{Drop, Deliver, Announce, Da
 -- a packet's bytes, and how they came
 abbrev pub arrival_of : List ℕ → Arrived → Arrival
 arrival_of bytes m = record { bytes = bytes; port = m.port; clock = m.clock; signed = m.signed }
-
--- the halves of an address, as numbers
-abbrev pub high_of : List ℕ → ℕ
-high_of address = number (part address 0 word_width)
-
-abbrev pub low_of : List ℕ → ℕ
-low_of address = number (part address word_width word_width)
 
 -- ---- the records that the tables hold
 abbrev pub path_at : List ℕ → ℕ → Path
@@ -90,7 +81,7 @@ decided_way r a (everywhere known) = Announce (announced_place a known r) (is_th
 decided_way r a (by_path p) =
     is_data (header a)
     then Data (path_place a.clock r (destination a))
-    otherwise Request (path_place a.clock r (destination a)) (free_link a.clock r) (high_of (link_id a.bytes)) (low_of (link_id a.bytes))
+    otherwise Request (path_place a.clock r (destination a)) (free_link a.clock r) (link_id a.bytes)
 decided_way r a (along_link l) = Carry (link_place a.clock r (destination a)) (leaving_port a (along_link l))
 decided_way r a (by_return t) = Receipt (return_place a.clock r (destination a)) (leaving_port a (by_return t))
 decided_way r a (blocked why) = Drop (NoWayOn why)

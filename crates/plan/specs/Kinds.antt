@@ -17,7 +17,6 @@ use Rattle.rules.specs.declared.Blocked.TheVariants.{NotProved}
 use Rattle.rules.specs.declared.Reason.TheVariants.{NoWayOn, AlreadyKnown, WrongSide, NotSigned, PortOff, TooLongForPort, NoRoom}
 use Rattle.outgoing.specs.Leaving.{path_length}
 use Rattle.plan.specs.declared.Decision.{Decision}
-use Rattle.plan.specs.Decided.{high_of, low_of}
 use Rattle.plan.specs.declared.Decision.TheVariants.{Drop, Announce, Request, Carry, Receipt}
 
 -- ---- a signed announce
@@ -55,7 +54,7 @@ leaving_by r p packet decision = leaving r p.port (path_length p.hops packet) de
 unfoldable pub linking : Relay → ℕ → List ℕ → ℕ → Decision
 linking r clock id place =
     not (ltb (free_link clock r) link_count) then Drop NoRoom otherwise
-    Request place (free_link clock r) (high_of id) (low_of id)
+    Request place (free_link clock r) id
 
 -- 7, 12, 16, 13
 unfoldable pub requesting : Relay → Arrival → Path → ℕ → Decision

@@ -17,6 +17,7 @@ use packet::places::HOPS_AT;
 use rules::{Rated, Reason};
 
 // A new path: test 13.
+#[tactic(auto, using(outgoing::proofs::Steps::joined), unfolding(crate::specs::Kinds::new_path))]
 fn new_path(tables: &[u8], clock: u64) -> Decision
     requires { length tables.now ≡ table_size }
     ensures { result ≡ new_path clock (relay_of tables.now) }
@@ -32,20 +33,18 @@ fn new_path(tables: &[u8], clock: u64) -> Decision
 }
 
 // Test 11, of the path at a place and an announce with this blob.
+#[tactic(auto, using(crate::proofs::AnnounceLaws::knowing), unfolding(crate::specs::Kinds::worse_than))]
 fn not_better(tables: &[u8], packet: &[u8], place: usize, blob: [u8; 10]) -> bool
     requires { CanRead packet.now tables.now × CanKnow tables.now place }
     ensures { result ≡ worse_than (emission_of blob) (parts_of packet.now).hops
         (path_at tables.now place) }
 {
-    if packet::emission(blob) > lookup::greatest_emission(tables, place) {
-        return false;
-    }
-    let stored = lookup::path_hops(tables, place);
-    let hops = packet[HOPS_AT];
-    stored <= hops
+    packet::emission(blob) <= lookup::greatest_emission(tables, place)
+        && lookup::path_hops(tables, place) <= packet[HOPS_AT]
 }
 
 // What the rate rule says of an announce at a clock for the path at a place.
+#[tactic(auto, using(crate::proofs::AnnounceLaws::knowing))]
 pub fn rate_at(tables: &[u8], place: usize, clock: u64) -> Rated
     requires { (length tables.now ≡ table_size) × CanKnow tables.now place }
     ensures { result ≡ rated_on tables.now place clock }
@@ -56,6 +55,7 @@ pub fn rate_at(tables: &[u8], place: usize, clock: u64) -> Rated
 }
 
 // The known path at a place: tests 10, 11 and 15, unless the announce revives it.
+#[tactic(auto, using(crate::proofs::AnnounceLaws::known_steps))]
 fn known_path(tables: &[u8], packet: &[u8], arrived: Arrived, place: usize) -> Decision
     requires { CanRead packet.now tables.now × CanKnow tables.now place
         × (blob_end ≤ length (payload packet.now)) }
@@ -79,6 +79,7 @@ fn known_path(tables: &[u8], packet: &[u8], arrived: Arrived, place: usize) -> D
     Decision::Announce { place, known: true }
 }
 
+#[tactic(auto, using(crate::proofs::AnnounceLaws::announce_steps))]
 pub fn decide_announce(tables: &[u8], packet: &[u8], arrived: Arrived) -> Decision
     requires { CanJudge packet.now tables.now × (bad_form packet.now ≡ false)
         × (is_announce (header_of packet.now) ≡ true) }
@@ -87,8 +88,7 @@ pub fn decide_announce(tables: &[u8], packet: &[u8], arrived: Arrived) -> Decisi
     if !arrived.signed {
         return Decision::Drop(Reason::NotSigned);
     }
-    let parts = packet::parts_of(packet);
-    let destination = parts.destination;
+    let destination = packet::parts_of(packet).destination;
     let place = lookup::path_place(tables, destination, arrived.clock);
     if place < PATH_COUNT {
         return known_path(tables, packet, arrived, place);

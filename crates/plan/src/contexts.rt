@@ -4,6 +4,7 @@ ghost use Rattle.packet.specs.Read.{longest_packet, reads};
 ghost use Rattle.plan.specs.Decided.{used_hash};
 
 // The packet hash, or zeros in the place of one that nothing uses.
+#[tactic(auto, using(outgoing::proofs::Steps::joined), unfolding(crate::specs::Decided::used_hash))]
 pub fn used_hash(packet: &[u8]) -> [u8; 32]
     requires { reads longest_packet packet.now ≡ true }
     ensures { result ≡ used_hash packet.now }

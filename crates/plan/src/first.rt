@@ -8,114 +8,97 @@ ghost use Rattle.plan.specs.Decided.{arrival_of, CanRead, used_hash, hash_live, 
 ghost use Rattle.plan.specs.First.{first_tests};
 
 use super::marked::for_marked_path;
-use super::{Arrived, Early};
+use super::{Arrived, Decision};
 use forms::{Form, exempt, form_of};
-use numbers::{HASH_COUNT, HOPS_LIMIT, LOCAL_COUNT};
+use numbers::{HASH_COUNT, HOPS_LIMIT};
 use packet::places::HOPS_AT;
 use rules::Reason;
 
 // Test 1.
+#[tactic(auto, using(crate::proofs::FirstLaws::first_steps))]
 pub fn not_ours(tables: &[u8], packet: &[u8], arrived: Arrived) -> bool
     requires { CanRead packet.now tables.now }
     ensures { result ≡ not_ours (seen arrived tables.now) (arrival_of packet.now arrived) }
 {
     let header = packet[0];
-    if !packet::type_two(header) {
-        return false;
-    }
-    if packet::is_announce(header) {
-        return false;
-    }
-    let parts = packet::parts_of(packet);
-    let relay = parts.relay;
-    !octets::equal16(relay, lookup::own_address(tables))
+    packet::type_two(header)
+        && !packet::is_announce(header)
+        && packet::parts_of(packet).relay != lookup::own_address(tables)
 }
 
 // Whether the packet's hash is live: test 2 asks, and so does what remembers it. An exempt packet's is not looked for.
+#[tactic(auto, using(crate::proofs::FirstLaws::first_steps))]
 pub fn hash_live(tables: &[u8], packet: &[u8], arrived: Arrived, hash: [u8; 32]) -> bool
     requires { CanRead packet.now tables.now × (hash ≡ used_hash packet.now) }
     ensures { result ≡ hash_live (seen arrived tables.now) (arrival_of packet.now arrived) }
 {
-    if exempt(packet) {
-        return false;
-    }
-    lookup::hash_place(tables, hash, arrived.clock) < HASH_COUNT
+    !exempt(packet) && lookup::hash_place(tables, hash, arrived.clock) < HASH_COUNT
 }
 
 // Test 2. An announce for a marked path is no duplicate.
+#[tactic(auto, using(crate::proofs::FirstLaws::first_steps))]
 fn duplicate(tables: &[u8], packet: &[u8], arrived: Arrived, live: bool) -> bool
     requires { CanRead packet.now tables.now
         × (live ≡ hash_live (seen arrived tables.now) (arrival_of packet.now arrived)) }
     ensures { result ≡ is_duplicate (seen arrived tables.now) (arrival_of packet.now arrived) }
 {
-    if live {
-        return !for_marked_path(tables, packet, arrived);
-    }
-    false
+    live && !for_marked_path(tables, packet, arrived)
 }
 
 // Whether the packet's destination is local.
+#[tactic(auto, using(crate::proofs::FirstLaws::first_steps))]
 fn is_local(tables: &[u8], packet: &[u8]) -> bool
     requires { CanRead packet.now tables.now }
     ensures { result ≡ is_local (relay_of tables.now) (parts_of packet.now).destination }
 {
-    let parts = packet::parts_of(packet);
-    let destination = parts.destination;
-    lookup::local_place(tables, destination) < LOCAL_COUNT
+    lookup::is_local(tables, packet::parts_of(packet).destination)
 }
 
 // Test 4.
+#[tactic(auto, using(crate::proofs::FirstLaws::first_steps))]
 fn own_announce(tables: &[u8], packet: &[u8], arrived: Arrived) -> bool
     requires { CanRead packet.now tables.now }
     ensures { result ≡ own_announce (seen arrived tables.now) (arrival_of packet.now arrived) }
 {
-    if packet::is_announce(packet[0]) {
-        return is_local(tables, packet);
-    }
-    false
+    packet::is_announce(packet[0]) && is_local(tables, packet)
 }
 
 // Data and link requests to a local address, kind link excepted.
+#[tactic(auto, using(crate::proofs::FirstLaws::first_steps))]
 fn delivered_here(tables: &[u8], packet: &[u8], arrived: Arrived) -> bool
     requires { CanRead packet.now tables.now }
     ensures { result ≡ delivered_here (seen arrived tables.now)
         (arrival_of packet.now arrived) }
 {
     let header = packet[0];
-    if packet::of_kind_link(header) {
-        return false;
-    }
-    if packet::is_data(header) {
-        return is_local(tables, packet);
-    }
-    if packet::is_link_request(header) {
-        return is_local(tables, packet);
-    }
-    false
+    (packet::is_data(header) || packet::is_link_request(header))
+        && !packet::of_kind_link(header)
+        && is_local(tables, packet)
 }
 
-pub fn first_tests(tables: &[u8], packet: &[u8], arrived: Arrived, live: bool) -> Early
+#[tactic(auto, using(crate::proofs::FirstLaws::first_steps), unfolding(rules::specs::Tests::too_many_hops))]
+pub fn first_tests(tables: &[u8], packet: &[u8], arrived: Arrived, live: bool) -> Option<Decision>
     requires { CanRead packet.now tables.now
         × (live ≡ hash_live (seen arrived tables.now) (arrival_of packet.now arrived)) }
     ensures { result ≡ first_tests (seen arrived tables.now) (arrival_of packet.now arrived) }
 {
     if not_ours(tables, packet, arrived) {
-        return Early::Dropped(Reason::NotOurs);
+        return Some(Decision::Drop(Reason::NotOurs));
     }
     if duplicate(tables, packet, arrived, live) {
-        return Early::Dropped(Reason::Duplicate);
+        return Some(Decision::Drop(Reason::Duplicate));
     }
     if let Form::Bad(clause) = form_of(packet) {
-        return Early::Dropped(Reason::BadForm(clause));
+        return Some(Decision::Drop(Reason::BadForm(clause)));
     }
     if own_announce(tables, packet, arrived) {
-        return Early::Dropped(Reason::OwnAnnounce);
+        return Some(Decision::Drop(Reason::OwnAnnounce));
     }
     if delivered_here(tables, packet, arrived) {
-        return Early::Delivered;
+        return Some(Decision::Deliver);
     }
     if packet[HOPS_AT] >= HOPS_LIMIT {
-        return Early::Dropped(Reason::TooManyHops);
+        return Some(Decision::Drop(Reason::TooManyHops));
     }
-    Early::Undecided
+    None
 }

@@ -38,16 +38,8 @@ pub struct Arrived {
     pub signed: bool,
 }
 
-// What tests 1 to 5 say, with delivery at test 4's place.
-#[derive(Clone, Copy)]
-pub enum Early {
-    Dropped(Reason),
-    Delivered,
-    Undecided,
-}
-
-// The rules' plan, with the places of the records that it concerns. (An enum that holds an array isn't covered:
-// addresses are read again where they are written, and a link id, which is hashed, comes as two numbers.)
+// The rules' plan, with the places of the records that it concerns. Addresses are read again where they are written,
+// but for a link id, which is hashed.
 #[derive(Clone, Copy)]
 pub enum Decision {
     Drop(Reason),
@@ -61,12 +53,11 @@ pub enum Decision {
     Data {
         path: usize,
     },
-    // A link request by the path at a place, the slot for its link, and the halves of its id.
+    // A link request by the path at a place, the slot for its link, and its id.
     Request {
         path: usize,
         place: usize,
-        high: u64,
-        low: u64,
+        id: [u8; 16],
     },
     // A packet of the link at a place, and the port to leave by.
     Carry {
@@ -81,6 +72,7 @@ pub enum Decision {
 }
 
 // Tests 6 to 13, by the way that the packet would follow.
+#[tactic(auto, using(crate::proofs::Judged::judging))]
 fn decide_onward(tables: &[u8], packet: &[u8], arrived: Arrived) -> Decision
     requires { CanJudge packet.now tables.now × (bad_form packet.now ≡ false) }
     ensures { result ≡ onward_on packet.now arrived tables.now }
@@ -104,9 +96,8 @@ pub fn decide(tables: &[u8], packet: &[u8], arrived: Arrived, live: bool) -> Dec
         × (live ≡ hash_live (seen arrived tables.now) (arrival_of packet.now arrived)) }
     ensures { result ≡ decision_on packet.now arrived tables.now }
 {
-    match first_tests(tables, packet, arrived, live) {
-        Early::Dropped(reason) => Decision::Drop(reason),
-        Early::Delivered => Decision::Deliver,
-        Early::Undecided => decide_onward(tables, packet, arrived),
+    if let Some(decision) = first_tests(tables, packet, arrived, live) {
+        return decision;
     }
+    decide_onward(tables, packet, arrived)
 }

@@ -16,30 +16,25 @@ use packet::places::HOPS_AT;
 use rules::{Blocked, Link, Reason};
 
 // From the answering port with hops = remaining.
+#[tactic(auto, using(outgoing::proofs::Steps::reading), unfolding(rules::specs::Tests::from_answering_side))]
 fn from_answering_side(link: Link, packet: &[u8], arrived: Arrived) -> bool
     requires { reads longest_packet packet.now ≡ true }
     ensures { result ≡ from_answering_side link (arrival_of packet.now arrived) }
 {
-    if arrived.port != link.answering {
-        return false;
-    }
-    let remaining = link.remaining;
-    packet[HOPS_AT] == remaining.0
+    arrived.port == link.answering && packet[HOPS_AT] == link.remaining.0
 }
 
 // From the asking port with hops = taken.
+#[tactic(auto, using(outgoing::proofs::Steps::reading), unfolding(rules::specs::Tests::from_asking_side))]
 fn from_asking_side(link: Link, packet: &[u8], arrived: Arrived) -> bool
     requires { reads longest_packet packet.now ≡ true }
     ensures { result ≡ from_asking_side link (arrival_of packet.now arrived) }
 {
-    if arrived.port != link.asking {
-        return false;
-    }
-    let taken = link.taken;
-    packet[HOPS_AT] == taken.0
+    arrived.port == link.asking && packet[HOPS_AT] == link.taken.0
 }
 
 // The link at a place, by a port: tests 12 and 16.
+#[tactic(auto, using(outgoing::proofs::Steps::joined), unfolding(crate::specs::Kinds::carried))]
 fn carry(tables: &[u8], packet: &[u8], place: usize, port: u8) -> Decision
     requires { length tables.now ≡ table_size }
     ensures { result ≡ carried (relay_of tables.now) packet.now port place }
@@ -53,6 +48,7 @@ fn carry(tables: &[u8], packet: &[u8], place: usize, port: u8) -> Decision
 }
 
 // A link proof, of the link at a place: tests 7, 8, 9, 12 and 16.
+#[tactic(auto, using(outgoing::proofs::Steps::joined), unfolding(crate::specs::Kinds::proving))]
 fn prove(tables: &[u8], packet: &[u8], arrived: Arrived, link: Link, place: usize) -> Decision
     requires { CanRead packet.now tables.now }
     ensures { result ≡ proving (relay_of tables.now) (arrival_of packet.now arrived)
@@ -71,6 +67,7 @@ fn prove(tables: &[u8], packet: &[u8], arrived: Arrived, link: Link, place: usiz
 }
 
 // Any other packet of the link at a place: tests 6, 8, 12 and 16.
+#[tactic(auto, using(outgoing::proofs::Steps::joined), unfolding(crate::specs::Kinds::carrying))]
 fn pass(tables: &[u8], packet: &[u8], arrived: Arrived, link: Link, place: usize) -> Decision
     requires { CanRead packet.now tables.now }
     ensures { result ≡ carrying (relay_of tables.now) (arrival_of packet.now arrived)
@@ -88,13 +85,13 @@ fn pass(tables: &[u8], packet: &[u8], arrived: Arrived, link: Link, place: usize
     Decision::Drop(Reason::WrongSide)
 }
 
+#[tactic(auto, using(crate::proofs::LinkLaws::link_steps))]
 pub fn decide_of_link(tables: &[u8], packet: &[u8], arrived: Arrived) -> Decision
     requires { CanJudge packet.now tables.now × (bad_form packet.now ≡ false)
         × (is_announce (header_of packet.now) ≡ false) × (of_kind_link (header_of packet.now) ≡ true) }
     ensures { result ≡ onward_on packet.now arrived tables.now }
 {
-    let parts = packet::parts_of(packet);
-    let destination = parts.destination;
+    let destination = packet::parts_of(packet).destination;
     let place = lookup::link_place(tables, destination, arrived.clock);
     if place >= LINK_COUNT {
         return Decision::Drop(Reason::NoWayOn(Blocked::NoLink));

@@ -12,48 +12,37 @@ use super::Arrived;
 use numbers::PATH_COUNT;
 
 // Whether the packet is an announce of kind single whose destination has a live path, and that is marked.
+#[tactic(auto, using(outgoing::proofs::Steps::reading), unfolding(rules::specs::Tests::for_marked_path))]
 pub fn for_marked_path(tables: &[u8], packet: &[u8], arrived: Arrived) -> bool
     requires { CanRead packet.now tables.now }
     ensures { result ≡ for_marked_path (seen arrived tables.now)
         (arrival_of packet.now arrived) }
 {
     let header = packet[0];
-    if !packet::is_announce(header) {
+    if !(packet::is_announce(header) && packet::of_kind_single(header)) {
         return false;
     }
-    if !packet::of_kind_single(header) {
-        return false;
-    }
-    let parts = packet::parts_of(packet);
-    let destination = parts.destination;
+    let destination = packet::parts_of(packet).destination;
     let place = lookup::path_place(tables, destination, arrived.clock);
-    if place < PATH_COUNT {
-        let notes = lookup::path_notes(tables, place);
-        return notes.marked;
-    }
-    false
+    place < PATH_COUNT && lookup::path_notes(tables, place).marked
 }
 
 // Whether the packet is such an announce, and its hash is live.
+#[tactic(auto, using(crate::proofs::MarkedLaws::live_steps))]
 pub fn already_live(tables: &[u8], packet: &[u8], arrived: Arrived, live: bool) -> bool
     requires { CanRead packet.now tables.now × (exempt packet.now ≡ false)
         × (live ≡ hash_live (seen arrived tables.now) (arrival_of packet.now arrived)) }
     ensures { result ≡ already_live (seen arrived tables.now) (arrival_of packet.now arrived) }
 {
-    if live {
-        return for_marked_path(tables, packet, arrived);
-    }
-    false
+    live && for_marked_path(tables, packet, arrived)
 }
 
 // Whether an announce with this blob revives the path at a place: it is marked, and holds none that was emitted later.
+#[tactic(auto, using(crate::proofs::AnnounceLaws::knowing), unfolding(crate::specs::Kinds::revived_by))]
 pub fn revives(tables: &[u8], place: usize, blob: [u8; 10]) -> bool
     requires { (length tables.now ≡ table_size) × CanKnow tables.now place }
     ensures { result ≡ revived_by (emission_of blob) (path_at tables.now place) }
 {
-    let notes = lookup::path_notes(tables, place);
-    if notes.marked {
-        return lookup::greatest_emission(tables, place) <= packet::emission(blob);
-    }
-    false
+    lookup::path_notes(tables, place).marked
+        && lookup::greatest_emission(tables, place) <= packet::emission(blob)
 }

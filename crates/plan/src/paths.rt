@@ -13,10 +13,10 @@ ghost use Rattle.plan.specs.Kinds.{leaving_by, linking, requesting};
 use super::leaving::leave;
 use super::{Arrived, Decision};
 use numbers::{LINK_COUNT, PATH_COUNT};
-use octets::WORD_WIDTH;
 use rules::{Blocked, Reason};
 
 // What was decided, by the path at a place: tests 12 and 16.
+#[tactic(auto, using(outgoing::proofs::Steps::joined))]
 fn leave_by(tables: &[u8], packet: &[u8], place: usize, decision: Decision) -> Decision
     requires { (length tables.now ≡ table_size) × (place < path_count) }
     ensures { result ≡ leaving_by (relay_of tables.now) (path_at tables.now place)
@@ -28,6 +28,7 @@ fn leave_by(tables: &[u8], packet: &[u8], place: usize, decision: Decision) -> D
 }
 
 // A new link, by the path at a place: test 13.
+#[tactic(auto, using(outgoing::proofs::Steps::joined), unfolding(crate::specs::Kinds::linking))]
 fn new_link(tables: &[u8], clock: u64, id: [u8; 16], place: usize) -> Decision
     requires { length tables.now ≡ table_size }
     ensures { result ≡ linking (relay_of tables.now) clock id place }
@@ -37,14 +38,14 @@ fn new_link(tables: &[u8], clock: u64, id: [u8; 16], place: usize) -> Decision
         return Decision::Request {
             path: place,
             place: free,
-            high: octets::number_of_8_at(&id, 0),
-            low: octets::number_of_8_at(&id, WORD_WIDTH),
+            id,
         };
     }
     Decision::Drop(Reason::NoRoom)
 }
 
 // A link request by the path at a place: tests 7, 12, 16 and 13.
+#[tactic(auto, using(outgoing::proofs::Steps::joined), unfolding(crate::specs::Kinds::requesting))]
 fn request(tables: &[u8], packet: &[u8], arrived: Arrived, place: usize) -> Decision
     requires { CanRead packet.now tables.now × (place < path_count) }
     ensures { result ≡ requesting (relay_of tables.now) (arrival_of packet.now arrived)
@@ -74,6 +75,7 @@ fn no_path(tables: &[u8], destination: [u8; 16], clock: u64) -> Blocked
     Blocked::NoPath
 }
 
+#[tactic(auto, using(crate::proofs::PathLaws::path_steps))]
 pub fn decide_by_path(tables: &[u8], packet: &[u8], arrived: Arrived) -> Decision
     requires { CanJudge packet.now tables.now × (is_announce (header_of packet.now) ≡ false)
         × (of_kind_link (header_of packet.now) ≡ false) × (is_proof (header_of packet.now) ≡ false) }
@@ -83,8 +85,7 @@ pub fn decide_by_path(tables: &[u8], packet: &[u8], arrived: Arrived) -> Decisio
     if !packet::type_two(header) {
         return Decision::Drop(Reason::NoWayOn(Blocked::NotAsking));
     }
-    let parts = packet::parts_of(packet);
-    let destination = parts.destination;
+    let destination = packet::parts_of(packet).destination;
     let place = lookup::path_place(tables, destination, arrived.clock);
     if place >= PATH_COUNT {
         return Decision::Drop(Reason::NoWayOn(no_path(tables, destination, arrived.clock)));

@@ -14,6 +14,7 @@ use numbers::RETURN_COUNT;
 use rules::{Blocked, Reason};
 
 // A proof for the return record at a place, which came in by a port: tests 8, 12 and 16.
+#[tactic(auto, using(outgoing::proofs::Steps::joined), unfolding(crate::specs::Kinds::returning))]
 fn receipt(tables: &[u8], packet: &[u8], place: usize, port: u8) -> Decision
     requires { (length tables.now ≡ table_size) × (place < return_count) }
     ensures { result ≡ returning (relay_of tables.now) packet.now port
@@ -34,13 +35,13 @@ fn receipt(tables: &[u8], packet: &[u8], place: usize, port: u8) -> Decision
     )
 }
 
+#[tactic(auto, using(crate::proofs::ReturnLaws::return_steps))]
 pub fn decide_proof(tables: &[u8], packet: &[u8], arrived: Arrived) -> Decision
     requires { CanJudge packet.now tables.now × (of_kind_link (header_of packet.now) ≡ false)
         × (is_proof (header_of packet.now) ≡ true) }
     ensures { result ≡ onward_on packet.now arrived tables.now }
 {
-    let parts = packet::parts_of(packet);
-    let destination = parts.destination;
+    let destination = packet::parts_of(packet).destination;
     let place = lookup::return_place(tables, destination, arrived.clock);
     if place < RETURN_COUNT {
         return receipt(tables, packet, place, arrived.port);

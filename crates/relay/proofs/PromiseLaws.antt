@@ -1,5 +1,5 @@
 -- The promise, from what refusing and acting give.
-use Rattle.std.proofs.Common.{◌≡◌, ℕ, ◌<◌, Bool, true, false, List, length, sym, refl, ap, ◌∙◌, subst, arith, ne_eqb}
+use Rattle.std.proofs.Common.{◌≡◌, ℕ, ◌<◌, Bool, true, false, List, length, sym, refl, ap, ◌∙◌, subst, ne_eqb}
 use Rattle.octets.specs.Bytes.{Bytes}
 use Rattle.octets.specs.Choice.{◌then◌otherwise◌}
 use Rattle.numbers.specs.Numbers.{port_count, clock_limit}
@@ -101,7 +101,7 @@ module _ (packet : List ℕ) (port clock : ℕ) (signed : Bool) (t : List ℕ) (
     unfolding decision decided plan early_tests first_of stamped ◌then◌otherwise◌
     not_ours_promised b ours after u q n =
         let d : decision (relay_of t) (arrival_of packet m) ≡ decided_as.Drop NotOurs = rw ours in
-        let same = drop_stays packet m t accepted.formed b NotOurs (λ e. omega (arith, e)) in
+        let same = drop_stays packet m t accepted.formed b NotOurs (λ e. cc) in
         let left = drop_left packet m t accepted b output NotOurs d (Drop NotOurs) t refl same in
         let drop : Decision = decided_as.Drop NotOurs in
         let forgets : false ≡ remembered_on packet m t = sym (forgotten packet m t drop refl) ∙ remembered_by packet m t drop d in

@@ -1,6 +1,7 @@
 -- The refusals of a packet call on bytes, row by row; and what they leave.
-use Rattle.std.proofs.Common.{◌≡◌, ℕ, ◌%◌, ◌<◌, ◌≤◌, Bool, true, false, eqb, List, sym, refl, ◌∙◌, arith, ltb-false, ltb-true, le-ltb, lt-ltb, eq-eqb, le-leb, leb-false}
+use Rattle.std.proofs.Common.{◌≡◌, ℕ, ◌%◌, ◌<◌, ◌≤◌, Bool, true, false, eqb, not, leb, ltb, length, List, sym, refl, ◌∙◌, arith, ltb-false, ltb-true, le-ltb, lt-ltb, eq-eqb, le-leb, leb-false}
 use borrow.Author.Tests.{lt-leb, not-false}
+use Rattle.outgoing.proofs.Steps.{joined}
 use Rattle.octets.specs.Index.{◌and◌}
 use Rattle.octets.specs.Choice.{◌then◌otherwise◌, ◌or◌}
 use Rattle.octets.proofs.Index.{and_left}
@@ -9,46 +10,45 @@ use Rattle.octets.proofs.Listed.{all_give, NoneHolds, refuses, rows_passed}
 use Rattle.packet.specs.Read.{longest_packet, reading_refusal}
 use Rattle.packet.specs.Write.{least_output}
 use Rattle.numbers.specs.Numbers.{port_count, clock_limit}
+use Rattle.rules.specs.Relay.{Relay}
 use Rattle.rules.specs.View.{port_on, port_size}
 use Rattle.rules.specs.Questions.{came_with}
 use Rattle.rules.proofs.Accepted.{accepted_reads}
 use Rattle.octets.specs.Listed.{first_of}
 use Rattle.rules.specs.Refusals.{packet_rows, refusal_by}
 use Rattle.tables.specs.Layout.{relay_of, well_formed}
-use Rattle.tables.proofs.Whole.{ok_relay}
+use Rattle.tables.specs.Places.{table_size}
+use Rattle.tables.proofs.Whole.{ok_relay, formed}
 use Rattle.plan.specs.Decided.{CanJudge}
 use Rattle.relay.specs.Refusal.{packet_refusal_on}
 
-module _ (packet : List ℕ) (port clock : ℕ) (t : List ℕ) (room : ℕ) where
-  pub refused_7 : well_formed t ≡ false → 7 ≡ packet_refusal_on packet port clock t room
-  unfolding packet_refusal_on ◌then◌otherwise◌
-  refused_7 e = rw e
+-- ---- the rows, as the code tests them
+pub refusal_rows : (packet : List ℕ) (port clock : ℕ) (t : List ℕ) (room : ℕ) → packet_refusal_on packet port clock t room
+    ≡ (not (well_formed t) then 7 otherwise
+    ltb room least_output then 6 otherwise
+    not (port_on (relay_of t) port) then 4 otherwise
+    leb clock_limit clock or ltb clock (relay_of t).clock then 5 otherwise
+    reading_refusal (port_size (relay_of t) port) packet)
+unfolding packet_refusal_on refusal_by packet_rows first_of ◌then◌otherwise◌ ◌or◌
+refusal_rows packet port clock t room = go (well_formed t) refl
+  where
+    go : (b : Bool) → well_formed t ≡ b → (b then refusal_by (relay_of t) packet port clock room otherwise 7)
+        ≡ (not b then 7 otherwise
+        ltb room least_output then 6 otherwise
+        not (port_on (relay_of t) port) then 4 otherwise
+        leb clock_limit clock or ltb clock (relay_of t).clock then 5 otherwise
+        reading_refusal (port_size (relay_of t) port) packet)
+    go true h = rw (ok_relay t h)
+    go false h = refl
 
-  module _ (h : well_formed t ≡ true) where
-    pub refused_6 : room < least_output → 6 ≡ packet_refusal_on packet port clock t room
-    unfolding packet_refusal_on refusal_by packet_rows first_of ◌then◌otherwise◌
-    refused_6 l = rw (h, ok_relay t h, lt-ltb room least_output l)
+pub well_sized : (t : List ℕ) → well_formed t ≡ true → length t ≡ table_size
+well_sized t h = (formed t h).size
 
-    module _ (roomy : least_output ≤ room) where
-      pub refused_4 : port_on (relay_of t) port ≡ false → 4 ≡ packet_refusal_on packet port clock t room
-      unfolding packet_refusal_on refusal_by packet_rows first_of ◌then◌otherwise◌
-      refused_4 e = rw (h, ok_relay t h, le-ltb room least_output roomy, e)
+pub port_within : (r : Relay) (port : ℕ) → port_on r port ≡ true → port < port_count
+unfolding port_on
+port_within r port on = ltb-true _ _ (and_left _ _ on)
 
-      module _ (on : port_on (relay_of t) port ≡ true) where
-        pub refused_late : clock_limit ≤ clock → 5 ≡ packet_refusal_on packet port clock t room
-        unfolding packet_refusal_on refusal_by packet_rows first_of ◌then◌otherwise◌ ◌or◌
-        refused_late l = rw (h, ok_relay t h, le-ltb room least_output roomy, on, le-leb clock_limit clock l)
-
-        module _ (early : clock < clock_limit) where
-          pub refused_before : clock < (relay_of t).clock → 5 ≡ packet_refusal_on packet port clock t room
-          unfolding packet_refusal_on refusal_by packet_rows first_of ◌then◌otherwise◌ ◌or◌
-          refused_before l =
-              rw (h, ok_relay t h, le-ltb room least_output roomy, on, lt-leb clock_limit clock early, lt-ltb clock (relay_of t).clock l)
-
-          pub refused_reading : (relay_of t).clock ≤ clock → reading_refusal (port_size (relay_of t) port) packet ≡ packet_refusal_on packet port clock t room
-          unfolding packet_refusal_on refusal_by packet_rows first_of ◌then◌otherwise◌ ◌or◌
-          refused_reading l =
-              rw (h, ok_relay t h, le-ltb room least_output roomy, on, lt-leb clock_limit clock early, le-ltb clock (relay_of t).clock l)
+pub ruleset refusal_steps = (refusal_rows, well_sized, port_within, le-leb, lt-leb, joined)
 
 -- ---- what is known of a call that isn't refused
 module _ (packet : List ℕ) (port clock : ℕ) (t : List ℕ) (room : ℕ) (none : packet_refusal_on packet port clock t room ≡ 0) where
@@ -83,7 +83,3 @@ module _ (packet : List ℕ) (port clock : ℕ) (t : List ℕ) (room : ℕ) (non
   pub accepted_clock : clock < clock_limit
   unfolding packet_rows
   accepted_clock = let (_, (_, (_, (in_time, _)))) = passed_rows in leb-false _ _ (or_no_left _ _ in_time)
-
-  -- as a byte
-  pub accepted_byte : port % 256 ≡ port
-  accepted_byte = omega (arith, accepted_port)

@@ -16,6 +16,6 @@ decision_tells (Drop reason) = reason_tells reason
 decision_tells Deliver = 0
 decision_tells (Announce place known) = 0
 decision_tells (Data path) = 0
-decision_tells (Request path place high low) = 0
+decision_tells (Request path place id) = 0
 decision_tells (Carry link port) = 0
 decision_tells (Receipt place port) = 0

@@ -9,9 +9,8 @@ mod tallies;
 
 ghost use Rattle.relay.specs.Promise.{Promises, packet_on};
 
-use plan::Arrived;
 pub use plan::{reason_clause, reason_number, reason_value};
-use refusals::refusal;
+use refusals::accepted;
 use rules::{Answer, Reason, Tally, Verdict};
 pub use signature::{MATTERS, signature_matters};
 use tallies::counted;
@@ -39,20 +38,17 @@ pub fn judge(
         (packet_on packet.now port clock signed tables.old tally output.old)
         result.answer result.tally tables.new output.new }
 {
-    let refused = refusal(packet, port, clock, tables, output.len());
-    if refused != 0 {
-        return Answered {
-            answer: Answer::Refused(refused),
-            tally,
-        };
-    }
-    let arrived = Arrived {
-        port: octets::low_byte(port),
-        clock,
-        signed,
+    let arrived = match accepted(packet, port, clock, signed, tables, output.len()) {
+        Ok(arrived) => arrived,
+        Err(refused) => {
+            return Answered {
+                answer: Answer::Refused(refused),
+                tally,
+            };
+        }
     };
     if plan::not_ours(tables, packet, arrived) {
-        update::set_clock(tables, clock);
+        update::set_clock(tables, arrived.clock);
         let dropped = Verdict::Drop(Reason::NotOurs);
         return Answered {
             answer: Answer::Judged(dropped),

@@ -1,45 +1,38 @@
 // The tally of answers.
 ghost use Rattle.std.specs.Prelude.{◌≡◌};
-ghost use Rattle.rules.specs.Calls.{up as more, counted as counted_by};
+ghost use Rattle.rules.specs.Calls.{counted as counted_by};
 
 use rules::{Tally, Verdict};
 
-// One more, modulo 2^32.
-fn up(counter: u32) -> u32
-    ensures { result ≡ more counter }
-{
-    std::num::wrapping_add_u32(counter, 1)
-}
-
-// One more accepted packet, of this verdict.
+// One more accepted packet, of this verdict. Each counter goes round at 2^32.
+#[tactic(auto, unfolding(rules::specs::Calls::counted, rules::specs::Calls::up))]
 pub fn counted(verdict: Verdict, tally: Tally) -> Tally
     ensures { result ≡ counted_by verdict tally }
 {
-    let mut t = tally;
-    t.total = up(tally.total);
+    let t = Tally {
+        total: tally.total.wrapping_add(1),
+        ..tally
+    };
     match verdict {
-        Verdict::Drop(_) => {
-            t.dropped = up(tally.dropped);
-            t
-        }
-        Verdict::Deliver => {
-            t.delivered = up(tally.delivered);
-            t
-        }
-        Verdict::Forward { port: _, length: _ } => {
-            t.forwarded = up(tally.forwarded);
-            t
-        }
-        Verdict::Spread {
-            ports: _,
-            length: _,
-        } => {
-            t.spread = up(tally.spread);
-            t
-        }
-        Verdict::Kept => {
-            t.kept = up(tally.kept);
-            t
-        }
+        Verdict::Drop(_) => Tally {
+            dropped: t.dropped.wrapping_add(1),
+            ..t
+        },
+        Verdict::Deliver => Tally {
+            delivered: t.delivered.wrapping_add(1),
+            ..t
+        },
+        Verdict::Forward { .. } => Tally {
+            forwarded: t.forwarded.wrapping_add(1),
+            ..t
+        },
+        Verdict::Spread { .. } => Tally {
+            spread: t.spread.wrapping_add(1),
+            ..t
+        },
+        Verdict::Kept => Tally {
+            kept: t.kept.wrapping_add(1),
+            ..t
+        },
     }
 }

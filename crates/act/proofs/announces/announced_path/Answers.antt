@@ -11,5 +11,5 @@ pub returns : goal.returns
 unfolding announced_by view_at
 returns c =
     let mode = c.port_mode.ensures in
-    let wide = c.wide.ensures in
+    let wide = c.from.ensures in
     rw (c.next_hop_of-next_hop.ensures, c.path_lifetime-lifetime.ensures.0, mode, wide, c.parts_of-parts.ensures)

@@ -35,19 +35,19 @@ module _ (t : List ℕ) (place : ℕ) (known : Bool) (path : Announced) (blob : 
       ap (λ (y : Blobs). path_written t place (announced path y))
       (sym (then_true (store_blob blob_limit blob blobs) (one_blob blob_limit blob) is ∙ then_false blobs (add_blob blob_limit blob blobs) q))
 
+pub returns-then-not-known : goal.returns-then-not-known
+unfolding path_put blobs_stored ◌then◌otherwise◌
+returns-then-not-known c = c.put_new_path.ensures ∙ rw c.if-not-known.true
+
 pub holds_blob-requires : goal.holds_blob-requires
-holds_blob-requires c = (c.requires.0, c.requires.1, (path_counted _ (c.requires.2 c.if-known.true).fine).most)
+holds_blob-requires c = (c.requires.0, c.requires.1, (path_counted _ (c.requires.2 c.if-not-known.false).fine).most)
 
 pub returns-then-holds_blob : goal.returns-then-holds_blob
 returns-then-holds_blob c =
     c.put_kept_path.ensures
-    ∙ kept _ _ _ _ _ c.if-known.true (sym c.holds_blob.ensures ∙ c.if-holds_blob.true)
+    ∙ kept _ _ _ _ _ c.if-not-known.false (sym c.holds_blob.ensures ∙ c.if-holds_blob.true)
 
-pub returns-then-known : goal.returns-then-known
-returns-then-known c =
+pub returns-else-holds_blob : goal.returns-else-holds_blob
+returns-else-holds_blob c =
     c.put_known_path.ensures
-    ∙ stored _ _ _ _ _ c.if-known.true (sym c.holds_blob.ensures ∙ c.if-holds_blob.false)
-
-pub returns : goal.returns
-unfolding path_put blobs_stored ◌then◌otherwise◌
-returns c = c.put_new_path.ensures ∙ rw c.if-known.false
+    ∙ stored _ _ _ _ _ c.if-not-known.false (sym c.holds_blob.ensures ∙ c.if-holds_blob.false)

@@ -19,10 +19,10 @@ found : (c : After-path_place-place) → c.path_place-place.result
     ≡ path_place c.args.arrived.clock (relay_of c.args.tables.now) (destination (arrival_of c.args.packet.now c.args.arrived))
 found c =
     let place : Parts → ℕ = λ q. path_place c.args.arrived.clock (relay_of c.args.tables.now) q.destination in
-    c.path_place-place.ensures ∙ ap place c.parts_of-parts.ensures
+    c.path_place-place.ensures ∙ ap place c.parts_of.ensures
 
-pub parts_of-parts-requires : goal.parts_of-parts-requires
-parts_of-parts-requires c = (reads_readable longest_packet _ c.requires.readable).whole
+pub parts_of-requires : goal.parts_of-requires
+parts_of-requires c = (reads_readable longest_packet _ c.requires.readable).whole
 
 pub path_place-place-requires : goal.path_place-place-requires
 path_place-place-requires c = (formed _ c.requires.formed).size
