@@ -7,6 +7,7 @@ use mathlib.Core.Bool.{Bool, true, false}
 use mathlib.Core.List.{List, [], ◌∷◌, ◌++◌, append-nil}
 use mathlib.Core.Path.{◌≡◌, sym, ap, subst, ◌∙◌}
 use lib.Dec.{eqb, lit≤}
+use borrow.Author.Tests.{eq-eqb, ne_eqb}
 use lib.ListN.{length, replicate, length-append}
 use Rattle.octets.specs.Choice.{◌then◌otherwise◌}
 use Rattle.rules.specs.Answers.{ReasonNumbers, tells_value, in_set}
@@ -23,14 +24,19 @@ use Rattle.replaying.specs.Words.{drop_word, spread_word, point}
 use Rattle.replaying.specs.Lines.{ports_below, numbers_of, test_word, reason_words, answer_words, answer_line, longest_word, longest_answer}
 use Rattle.numbers.specs.Numbers.{port_count}
 
--- ---- the ports of a set: `rest` is the set without its bits below i
-module _ (set i rest : ℕ) (e : rest ≡ set / 2 ^ i) where
-  pub ports_more : (t : Text)
-      → appended (appended t (spaced (ports_below set i))) (spaced (eqb (rest % 2) 1 then decimal i ∷ [] otherwise []))
-      ≡ appended t (spaced (ports_below set (i + 1)))
-  unfolding ports_below in_set
-  ports_more t = words_appended t _ _ ∙ rw (e, add-one)
+-- ---- the ports of a set, one more at a time
+module _ (set i : ℕ) (t : Text) where
+  pub port_named : set / 2 ^ i % 2 ≡ 1
+      → appended (appended t (spaced (ports_below set i))) (spaced (decimal i ∷ [])) ≡ appended t (spaced (ports_below set (i + 1)))
+  unfolding ports_below in_set ◌then◌otherwise◌
+  port_named e = words_appended t _ _ ∙ rw (add-one, eq-eqb _ _ e)
 
+  pub port_unnamed : (set / 2 ^ i % 2 ≡ 1 → ⊥) → appended t (spaced (ports_below set i)) ≡ appended t (spaced (ports_below set (i + 1)))
+  unfolding ports_below in_set ◌then◌otherwise◌
+  port_unnamed ne = rw (add-one, ne_eqb _ _ ne, append-nil)
+
+-- `rest` is the set without its bits below i
+module _ (set i rest : ℕ) (e : rest ≡ set / 2 ^ i) where
   pub rest_more : rest / 2 ≡ set / 2 ^ (i + 1)
   rest_more = rw (e, add-one, pow-suc) (div-div-eq-div-mul set (2 ^ i) 2)
 

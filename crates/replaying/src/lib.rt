@@ -56,19 +56,17 @@ pub fn step(file: &[u8], i: usize, tables: &mut [u8], tally: Tally) -> Stepped
     let mut output = [0u8; LEAST_OUTPUT];
     let judged = relay::judge(
         body,
-        octets::wide(fields.port),
+        u64::from(fields.port),
         fields.clock,
         fields.word == 1,
         tables,
         &mut output,
         tally,
     );
-    let answer = judged.answer;
-    let after = judged.tally;
     Stepped {
         there: true,
-        answer,
-        tally: after,
-        line: line_of(i as u64 + 1, answer),
+        answer: judged.answer,
+        tally: judged.tally,
+        line: line_of(i as u64 + 1, judged.answer),
     }
 }

@@ -1,8 +1,6 @@
 // The line of an answer.
-ghost use Rattle.std.specs.Prelude.{◌≡◌, [], ◌∷◌, ◌≤◌, length};
-ghost use Rattle.octets.specs.Choice.{◌then◌otherwise◌};
+ghost use Rattle.std.specs.Prelude.{◌≡◌, ◌≤◌, length};
 ghost use Rattle.numbers.specs.Numbers.{port_count};
-ghost use Rattle.text.specs.Numerals.{decimal};
 ghost use Rattle.text.specs.Words.{spaced};
 ghost use Rattle.text.specs.Text.{text_of, appended};
 ghost use Rattle.replaying.specs.Lines.{longest_answer, ports_below, verdict_words, answer_words, answer_line};
@@ -12,27 +10,15 @@ use numbers::PORT_COUNT;
 use rules::{Answer, Verdict};
 use text::{Text, with_character, with_number, with_word};
 
-// The line with a port, if it is named.
-fn with_port(line: Text, port: u64, named: bool) -> Text
-    ensures { result ≡ appended line (spaced (named then decimal port ∷ [] otherwise [])) }
-{
-    if named {
-        return with_number(line, port);
-    }
-    line
-}
-
 // The line with the ports of a set, rising.
 pub fn with_ports(line: Text, ports: u16) -> Text
     ensures { result ≡ appended line (spaced (ports_below ports port_count)) }
 {
     let mut grown = line;
-    let mut rest = ports;
-    let mut port = 0;
-    while port < PORT_COUNT {
-        grown = with_port(grown, port as u64, rest % 2 == 1);
-        rest = rest / 2;
-        port += 1;
+    for port in 0..PORT_COUNT {
+        if (ports >> port) % 2 == 1 {
+            grown = with_number(grown, port as u64);
+        }
     }
     grown
 }
@@ -52,10 +38,8 @@ fn with_verdict(line: Text, verdict: Verdict) -> Text
             )
         }
         Verdict::Deliver => with_word(line, b"deliver"),
-        Verdict::Forward { port, length: _ } => {
-            with_number(with_word(line, b"forward"), port as u64)
-        }
-        Verdict::Spread { ports, length: _ } => with_ports(with_word(line, b"spread"), ports),
+        Verdict::Forward { port, .. } => with_number(with_word(line, b"forward"), u64::from(port)),
+        Verdict::Spread { ports, .. } => with_ports(with_word(line, b"spread"), ports),
         Verdict::Kept => with_word(line, b"kept"),
     }
 }
@@ -66,7 +50,7 @@ fn with_answer(line: Text, answer: Answer) -> Text
         × (length (spaced (answer_words answer)) ≤ longest_answer) }
 {
     match answer {
-        Answer::Refused(number) => with_number(with_word(line, b"refused"), octets::wide(number)),
+        Answer::Refused(number) => with_number(with_word(line, b"refused"), u64::from(number)),
         Answer::Judged(verdict) => with_verdict(line, verdict),
     }
 }

@@ -27,5 +27,5 @@ returns c =
     let fields = c.entry-fields.result in
     let there = sym (found f a.i fields c.entry-fields.ensures) ∙ not-false _ c.if-not-fields.false in
     stepped f a.i a.tables.now a.tally there _
-    (called f a.i fields c.entry-fields.ensures a.tables.now a.tally _ c.body-body.ensures _ c.wide.ensures)
+    (called f a.i fields c.entry-fields.ensures a.tables.now a.tally _ c.body-body.ensures _ c.from.ensures)
     _ _ _ _ c.judge-judged.ensures _ c.line_of.ensures

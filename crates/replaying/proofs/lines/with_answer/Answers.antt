@@ -11,7 +11,7 @@ pub returns-in-Refused : goal.returns-in-Refused
 unfolding answer_words
 returns-in-Refused c =
     rw c.in-Refused.is (
-      rw (c.with_number.ensures, c.wide.ensures, c.with_word.ensures, words_appended) refl,
+      rw (c.with_number.ensures, c.from.ensures, c.with_word.ensures, words_appended) refl,
       number_short refused_word (lit≤ tt) _ (omega arith),
     )
 

@@ -25,7 +25,7 @@ pub returns-in-Forward : goal.returns-in-Forward
 unfolding verdict_words
 returns-in-Forward c =
     rw c.in-Forward.is
-    (rw (c.with_number.ensures, c.with_word-in-Forward.ensures, words_appended) refl, number_short forward_word (lit≤ tt) _ (omega arith))
+    (rw (c.with_number.ensures, c.from.ensures, c.with_word-in-Forward.ensures, words_appended) refl, number_short forward_word (lit≤ tt) _ (omega arith))
 
 pub returns-in-Spread : goal.returns-in-Spread
 unfolding verdict_words
