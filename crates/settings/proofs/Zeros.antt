@@ -3,13 +3,12 @@ use Prim.Native.Nat.{ℕ, zero, suc, ◌+◌, ◌*◌, ◌≤◌, ◌<◌}
 use native.Mathlib.Omega.{arith}
 use mathlib.Core.List.{List, [], ◌∷◌, ◌++◌, append_assoc}
 use mathlib.Core.Path.{◌≡◌, refl, sym, ap, ap₂, subst, ◌∙◌}
-use lib.ListN.{length, get_or, set, drop, replicate, length-append, length-drop, length-replicate, get_or-replicate}
+use lib.ListN.{length, get_or, drop, replicate, length-append, length-drop, length-replicate, get_or-replicate}
 use lib.Seq.{ext_get_or, get_or-drop}
 use Rattle.octets.specs.Part.{patch, joined, fields}
 use Rattle.octets.specs.BigEndian.{big_endian}
 use Rattle.octets.proofs.BigEndian.{big_endian_length}
 use Rattle.octets.proofs.Part.{patch_mid}
-use Rattle.octets.proofs.ListOf.{mixed, mixed_more, mixed_all}
 use Rattle.octets.proofs.Joined.{fields_all}
 use Rattle.numbers.specs.Numbers.{port_count, local_count, path_count, link_count, return_count, hash_count}
 use Rattle.rules.specs.Relay.{Port, fresh_port, no_port, empty, fresh}
@@ -122,13 +121,3 @@ module _ (t₀ : List ℕ) (size : length t₀ ≡ table_size) (t : List ℕ) (i
   pub ports_all : port_count ≤ i → t ≡ patch t₀ ports_at fresh_ports
   unfolding fresh_ports
   ports_all l = e ∙ up_all port_lent ports_at (replicate port_count fresh_port) t₀ i l
-
--- ---- a loop that writes zeros
-pub clear_more : (s₀ s : List ℕ) (i : ℕ) → i < length s₀ → s ≡ mixed i (replicate (length s₀) 0) s₀ → set s i 0 ≡ mixed (i + 1) (replicate (length s₀) 0) s₀
-clear_more s₀ s i l e =
-    ap (λ (r : List ℕ). set r i 0) e
-    ∙ ap (λ (v : ℕ). set (mixed i (replicate (length s₀) 0) s₀) i v) (sym (get_or-replicate (length s₀) i 0 0 l))
-    ∙ mixed_more (replicate (length s₀) 0) s₀ (length-replicate (length s₀) 0) i 0 l
-
-pub clear_all : (s₀ s : List ℕ) (i : ℕ) → length s₀ ≤ i → s ≡ mixed i (replicate (length s₀) 0) s₀ → s ≡ replicate (length s₀) 0
-clear_all s₀ s i l e = e ∙ mixed_all (replicate (length s₀) 0) s₀ (length-replicate (length s₀) 0) i l

@@ -23,7 +23,7 @@ use numbers::{
 use tables::check;
 use tables::places::{OWN_AT, TABLE_SIZE};
 use update::{put_notes, set_clock};
-use writes::{clear, empty_place, put_fresh_ports, put_local, put_port, put_rate};
+use writes::{empty_place, put_fresh_ports, put_local, put_port, put_rate};
 
 // The tables of a relay with its own address, all ports off, boundary and of size 500, clock 0, tables empty.
 pub fn fresh(tables: &mut [u8], own: [u8; 16]) -> u8
@@ -32,7 +32,7 @@ pub fn fresh(tables: &mut [u8], own: [u8; 16]) -> u8
     if tables.len() != TABLE_SIZE {
         return refusals::TABLES;
     }
-    clear(tables);
+    tables.fill(0);
     octets::copy_at(tables, OWN_AT, &own);
     put_fresh_ports(tables);
     refusals::NONE
@@ -45,13 +45,7 @@ pub fn set_port(tables: &mut [u8], port: u64, on: bool, mode: u64, size: u64) ->
     if !check(tables) {
         return refusals::TABLES;
     }
-    if port >= PORT_COUNT as u64 {
-        return refusals::SETTING;
-    }
-    if mode >= MODE_COUNT as u64 {
-        return refusals::SETTING;
-    }
-    if !packet::is_size(size as usize) {
+    if port >= PORT_COUNT as u64 || mode >= MODE_COUNT as u64 || !packet::is_size(size as usize) {
         return refusals::SETTING;
     }
     put_port(tables, port as usize, on, mode as u8, size);
@@ -62,13 +56,7 @@ pub fn set_port(tables: &mut [u8], port: u64, on: bool, mode: u64, size: u64) ->
 fn rate_within(target: u64, grace: u64, penalty: u64) -> bool
     ensures { result ≡ rate_settings_ok (make_rate_settings target grace penalty) }
 {
-    if target > TARGET_LIMIT {
-        return false;
-    }
-    if grace > GRACE_LIMIT {
-        return false;
-    }
-    penalty <= PENALTY_LIMIT
+    target <= TARGET_LIMIT && grace <= GRACE_LIMIT && penalty <= PENALTY_LIMIT
 }
 
 // Sets the announce rate: target interval, grace and penalty.
@@ -123,10 +111,7 @@ fn clock_bad(tables: &[u8], clock: u64) -> bool
     requires { length tables.now ≡ table_size }
     ensures { result ≡ clock_bad (relay_of tables.now) clock }
 {
-    if clock >= CLOCK_LIMIT {
-        return true;
-    }
-    clock < last_clock(tables)
+    clock >= CLOCK_LIMIT || clock < last_clock(tables)
 }
 
 // Notes something of a destination's live path, and sets the last clock.

@@ -1,5 +1,5 @@
-// Writes of a port's settings, of the announce rate, of a local address, and of zeros.
-ghost use Rattle.std.specs.Prelude.{◌≡◌, ◌+◌, ◌*◌, ◌<◌, length, replicate};
+// Writes of a port's settings, of the announce rate, of a local address, and of an empty place.
+ghost use Rattle.std.specs.Prelude.{◌≡◌, ◌+◌, ◌*◌, ◌<◌, length};
 ghost use Rattle.octets.specs.Part.{patch};
 ghost use Rattle.numbers.specs.Numbers.{port_count, local_count};
 ghost use Rattle.codes.specs.Form.{code};
@@ -44,10 +44,8 @@ pub fn put_fresh_ports(tables: &mut [u8])
     requires { length tables.old ≡ table_size }
     ensures { tables.new ≡ patch tables.old ports_at fresh_ports }
 {
-    let mut i = 0;
-    while i < PORT_COUNT {
+    for i in 0..PORT_COUNT {
         put_port(tables, i, false, 0, LONGEST_PACKET as u64);
-        i += 1;
     }
 }
 
@@ -66,17 +64,6 @@ pub fn empty_place(tables: &mut [u8], place: usize)
     ensures { tables.new ≡ patch tables.old (locals_at + local_width * place)
         (slot_bytes local_width local_bytes empty) }
 {
-    let zeros = [0u8; LOCAL_WIDTH];
-    octets::copy_at(tables, LOCALS_AT + LOCAL_WIDTH * place, &zeros);
-}
-
-// Zeros over the whole of s.
-pub fn clear(s: &mut [u8])
-    ensures { s.new ≡ replicate (length s.old) 0 }
-{
-    let mut i = 0;
-    while i < s.len() {
-        s[i] = 0;
-        i += 1;
-    }
+    let at = LOCALS_AT + LOCAL_WIDTH * place;
+    tables[at..at + LOCAL_WIDTH].fill(0);
 }

@@ -13,5 +13,5 @@ pub returns : goal.returns
 returns c =
     let a = c.args in
     let wide : length a.own ≡ address_width = search rules in
-    answers_after (rw (c.put_fresh_ports.ensures, c.copy_at.ensures, c.clear.ensures))
+    answers_after (rw (c.put_fresh_ports.ensures, c.copy_at.ensures, c.fill.ensures.after (λ y e. e)))
     (fresh_done a.tables.now a.own c.if-tables-ne-TABLE_SIZE.false wide)

@@ -9,6 +9,7 @@ use Rattle.octets.proofs.Choice.{or_left, or_right, or_no}
 use Rattle.rules.specs.Calls.{sets_port, rule_of}
 use Rattle.tables.proofs.Called.{size_of, call_bad, call_refused_lem, call_done}
 use Rattle.settings.proofs.Answered.{port_set_lem}
+use Rattle.settings.proofs.set_port.Goals.{then-port-via-then-port, then-port-via-else-port+then-mode, then-port-via-else-port+else-mode+then-not-is_size}
 use Rattle.settings.proofs.set_port.Goals as goal
 
 pub returns-then-not-check : goal.returns-then-not-check
@@ -22,26 +23,13 @@ returns-then-port c =
     let a = c.args in
     let t = a.tables.now in
     let ok = sym c.check.ensures ∙ c.if-not-check.false in
-    call_refused_lem (sets_port a.port a.on a.mode a.size) t ok (known_bytes t c.slice_known-1.given)
-    9 (λ e. omega arith) (rw (or_left _ (le-leb _ _ c.if-port.true)))
-
-pub returns-then-mode : goal.returns-then-mode
-unfolding rule_of first_of ◌then◌otherwise◌
-returns-then-mode c =
-    let a = c.args in
-    let t = a.tables.now in
-    let ok = sym c.check.ensures ∙ c.if-not-check.false in
-    call_refused_lem (sets_port a.port a.on a.mode a.size) t ok (known_bytes t c.slice_known-1.given)
-    9 (λ e. omega arith) (rw (or_right _ (or_left _ (le-leb _ _ c.if-mode.true))))
-
-pub returns-then-not-is_size : goal.returns-then-not-is_size
-unfolding rule_of first_of ◌then◌otherwise◌
-returns-then-not-is_size c =
-    let a = c.args in
-    let t = a.tables.now in
-    let ok = sym c.check.ensures ∙ c.if-not-check.false in
-    call_refused_lem (sets_port a.port a.on a.mode a.size) t ok (known_bytes t c.slice_known-1.given)
-    9 (λ e. omega arith) (rw (or_right _ (or_right _ (ap not (sym c.is_size.ensures) ∙ (ap not c.if-not-is_size.true)))))
+    call_refused_lem (sets_port a.port a.on a.mode a.size) t ok (known_bytes t c.slice_known-1.given) 9 (λ e. omega arith)
+    (elim c.then-port.branch [
+      | then-port-via-then-port w ↦ rw (or_left _ (le-leb _ _ w.if-port.true))
+      | then-port-via-else-port+then-mode w ↦ rw (or_right _ (or_left _ (le-leb _ _ w.if-mode.true)))
+      | then-port-via-else-port+else-mode+then-not-is_size w ↦
+          rw (or_right _ (or_right _ (ap not (sym w.is_size.ensures ∙ w.if-not-is_size.true))))
+    ])
 
 pub put_port-requires : goal.put_port-requires
 put_port-requires c =
