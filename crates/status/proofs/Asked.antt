@@ -1,14 +1,14 @@
 -- What each question to the tables is told, by the record that it is about.
-use Prim.Native.Nat.{ℕ, ◌+◌, ◌*◌, ◌≤◌, ◌<◌}
-use native.Mathlib.Numerals.{add-one}
-use native.Mathlib.Nat.{le_antisymm}
+use Prim.Native.Nat.{ℕ, zero, suc, ◌+◌, ◌*◌, ◌≤◌, ◌<◌}
 use native.Mathlib.Omega.{arith}
-use mathlib.Core.Bool.{Bool, true, false}
+use mathlib.Core.Bool.{Bool, true, false, cond}
 use mathlib.Core.List.{List}
-use mathlib.Core.Path.{◌≡◌, refl, sym, ap, ◌∙◌}
+use mathlib.Core.Path.{◌≡◌, refl, sym, ap, ap₂, ◌∙◌}
 use lib.Dec.{eqb, lit≤}
 use lib.ListN.{length, get_or, get_or-eq_default}
 use borrow.Author.Tests.{le-leb, lt-leb}
+use Rattle.std.specs.List.{count_by, filter, range_with_len}
+use Rattle.std.proofs.lemmas.List.Sums.{length-filter, sum_by-cons}
 use Rattle.octets.specs.Bytes.{Bytes}
 use Rattle.octets.specs.Index.{◌and◌}
 use Rattle.octets.specs.Choice.{◌then◌otherwise◌}
@@ -22,12 +22,12 @@ use Rattle.numbers.specs.Numbers.{port_count, local_count, path_count, link_coun
 use Rattle.rules.specs.Relay.{Slot, empty, holds}
 use Rattle.rules.specs.View.{path_place, view_at}
 use Rattle.rules.specs.Questions.{Question, port_settings, rate_settings, local_at, path_at, link_at, live_path, live_returns, live_hashes, the_last_clock, Told, an_address, a_path, a_link, told_of, count_below, count_of, row_seven, question_rule, question_refusal, tell}
-use Rattle.rules.proofs.Counting.{count_cong, count_le}
+use Rattle.rules.proofs.Counting.{count_cong}
 use Rattle.tables.specs.Places.{time_width, rate_at, ports_at, port_width, locals_at, local_width, paths_at, path_width, links_at, link_width, returns_at, return_width, hashes_at, hash_width, table_size, address_width}
 use Rattle.codes.specs.Form.{code}
 use Rattle.tables.specs.Forms.{rate_settings_form, link_form}
 use Rattle.tables.specs.Fields.{return_expiry_at, hash_expiry_at}
-use Rattle.tables.specs.Records.{mark_of, slot_of, local_of, path_of, link_of, return_of, hash_of, port_bytes_ok, path_bytes_ok, link_bytes_ok}
+use Rattle.tables.specs.Records.{slot_of, local_of, path_of, link_of, return_of, hash_of, port_bytes_ok, path_bytes_ok, link_bytes_ok}
 use Rattle.tables.specs.Layout.{rate_settings_in, record_at, records_ok, relay_of, well_formed}
 use Rattle.tables.specs.Asked.{tell_on, told_path_width, told_number, told_bytes, told_count, Tells, TellsNumber}
 use Rattle.tables.proofs.Lent.{record_end}
@@ -46,35 +46,32 @@ pub number_refused_7 : (t : List ℕ) (q : Question) (old : ℕ) → well_formed
 unfolding tell_on told_number told_count ◌then◌otherwise◌
 number_refused_7 t q old e = rw e (refl, refl)
 
-pub mark_le : (answer : Bool) → mark_of answer ≤ 1
-unfolding mark_of ◌then◌otherwise◌
-mark_le true = lit≤ tt
-mark_le false = lit≤ tt
+-- ---- how many records of a section are live: as the code counts, and as the rules do
+count_front : (p : ℕ → Bool) (n : ℕ) → count_below p (suc n) ≡ (p 0 then 1 otherwise 0) + count_below (λ k. p (suc k)) n
+unfolding count_below
+count_front p zero = omega arith
+count_front p (suc n) = rw (count_front p n) (omega arith)
 
--- ---- how many records of a section are live: as its loop counts, and as the rules do
-module _ (at width expiry clock : ℕ) (t : List ℕ) where
-  pub none_counted : live_records at width 0 expiry clock t ≡ 0
-  unfolding live_records count_below
-  none_counted = refl
+one_or_none : (b : Bool) → ◌≡◌ {A = ℕ} (cond b 1 0) (b then 1 otherwise 0)
+unfolding ◌then◌otherwise◌
+one_or_none true = refl
+one_or_none false = refl
 
-  one_counted : (i : ℕ) → live_records at width (i + 1) expiry clock t
-      ≡ live_records at width i expiry clock t + (is_live expiry clock (record_at at width t i) then 1 otherwise 0)
-  unfolding live_records count_below
-  one_counted i = rw (add-one i)
+counted_from : (p : ℕ → Bool) (a n : ℕ) → count_by p (range_with_len a n) ≡ count_below (λ k. p (a + k)) n
+unfolding count_below
+counted_from p a zero = refl
+counted_from p a (suc n) =
+    sum_by-cons (λ x. cond (p x) 1 0) a (range_with_len (a + 1) n)
+    ∙ ap₂ (λ (x y : ℕ). x + y) (one_or_none (p a) ∙ ap (λ (k : ℕ). p k then 1 otherwise 0) {x = a} {y = a + 0} (omega arith))
+    (counted_from p (a + 1) n ∙ count_cong (λ k. p (a + 1 + k)) (λ k. p (a + suc k)) n (λ i l. ap p (omega arith)))
+    ∙ sym (count_front (λ k. p (a + k)) n)
 
-  -- record i, by what the loop reads of it
-  pub counted_more : (i : ℕ) {b : List ℕ} {alive : Bool} {before mark more : ℕ} → before ≡ live_records at width i expiry clock t
-      → b ≡ record_at at width t i → alive ≡ is_live expiry clock b → mark ≡ mark_of alive → more ≡ mark
-      → before + more ≡ live_records at width (i + 1) expiry clock t
-  unfolding mark_of
-  counted_more i counted row e marked wide = rw (one_counted i, ← row, ← e, ← counted, wide, marked)
-
-  pub counted_all : {i n before : ℕ} → i ≤ n → n ≤ i → before ≡ live_records at width i expiry clock t → before ≡ live_records at width n expiry clock t
-  counted_all l m e = e ∙ ap (λ (k : ℕ). live_records at width k expiry clock t) (le_antisymm l m)
-
-  pub counted_le : (i : ℕ) → live_records at width i expiry clock t ≤ i
-  unfolding live_records
-  counted_le i = count_le (λ k. is_live expiry clock (record_at at width t k)) i
+pub live_counted : (at width n expiry clock : ℕ) (t : List ℕ)
+    → length (filter (λ i. is_live expiry clock (record_at at width t i)) (range_with_len 0 n)) ≡ live_records at width n expiry clock t
+unfolding live_records
+live_counted at width n expiry clock t =
+    let p : ℕ → Bool = λ i. is_live expiry clock (record_at at width t i) in
+    length-filter p (range_with_len 0 n) ∙ counted_from p 0 n ∙ count_cong (λ k. p (0 + k)) p n (λ i l. ap p (omega arith))
 
 -- the slot of a record's bytes, of which the rule reads the expiry
 module _ {A : Type 0} (read : List ℕ → A) (alive : A → Bool) (expiry clock : ℕ)

@@ -3,7 +3,6 @@ ghost use Rattle.std.specs.Prelude.{◌≡◌, ◌+◌, ◌*◌, ◌≤◌, leng
 ghost use Rattle.tables.specs.Places.{time_width};
 ghost use Rattle.status.specs.Put.{live_records};
 
-use codes::mark_of;
 use lookup::{is_live, record_at};
 
 // The number of live records among `count` of one width.
@@ -18,12 +17,7 @@ pub fn live_count(
     requires { (at + width * count ≤ length tables.now) × (expiry + time_width ≤ width) }
     ensures { result ≡ live_records at width count expiry clock tables.now }
 {
-    let mut live: u64 = 0;
-    let mut i = 0;
-    while i < count {
-        let b = record_at(tables, at, width, i);
-        live += octets::wide(mark_of(is_live(b, expiry, clock)));
-        i += 1;
-    }
-    live
+    (0..count)
+        .filter(|i| is_live(record_at(tables, at, width, *i), expiry, clock))
+        .count() as u64
 }

@@ -41,10 +41,7 @@ pub fn port_settings(tables: &[u8], port: u64, settings: &mut [u8; 4]) -> u8
     if port >= PORT_COUNT as u64 {
         return NOTHING;
     }
-    octets::copy(
-        settings,
-        record_at(tables, PORTS_AT, PORT_WIDTH, port as usize),
-    );
+    settings.copy_from_slice(record_at(tables, PORTS_AT, PORT_WIDTH, port as usize));
     refusals::NONE
 }
 
@@ -56,7 +53,7 @@ pub fn rate_settings(tables: &[u8], settings: &mut [u8; 12]) -> u8
     if !check(tables) {
         return refusals::TABLES;
     }
-    octets::copy(settings, &tables[TARGET_AT..PORTS_AT]);
+    settings.copy_from_slice(&tables[TARGET_AT..PORTS_AT]);
     refusals::NONE
 }
 

@@ -18,6 +18,6 @@ pub fn put_record(tables: &[u8], at: usize, width: usize, place: usize, out: &mu
         return NOTHING;
     }
     let end = 1 + out.len();
-    octets::copy(out, &b[1..end]);
+    out.copy_from_slice(&b[1..end]);
     refusals::NONE
 }

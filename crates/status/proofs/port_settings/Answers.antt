@@ -23,4 +23,4 @@ returns c =
     let h = sym c.check.ensures ∙ c.if-not-check.false in
     let bytes = known_bytes p.tables.now c.type_inv.tables in
     let told = port_told p.tables.now h bytes p.port p.settings.now c.if-port.false in
-    (told.0, c.copy.ensures ∙ c.record_at.ensures.0 ∙ told.1)
+    (told.0, c.copy_from_slice.ensures.after ∙ c.record_at.ensures.0 ∙ told.1)

@@ -1,32 +1,21 @@
-use mathlib.Core.Path.{sym}
-use Rattle.tables.proofs.Lent.{record_end}
-use Rattle.status.proofs.Asked.{mark_le, none_counted, counted_more, counted_all, counted_le}
-use native.Mathlib.Omega.{arith}
+use Prim.Native.Nat.{ℕ}
+use mathlib.Core.Bool.{Bool}
+use mathlib.Core.Path.{◌∙◌}
 use borrow.Author.Rules.{rules}
+use borrow.Author.Tests.{tests}
+use Rattle.std.proofs.lemmas.Iterator.{YieldsList-from_range}
+use Rattle.std.proofs.lemmas.Iterator.Consumers.{YieldsList-at, YieldsList-from_filter, count_from_yields_List}
+use Rattle.tables.specs.Layout.{record_at}
+use Rattle.lookup.specs.Search.{is_live}
+use Rattle.status.proofs.Asked.{live_counted}
 use Rattle.status.proofs.counting.live_count.Goals as goal
 
-pub loop-i-init : goal.loop-i-init
-loop-i-init c = (search rules, sym (none_counted _ _ _ _ _))
-
-pub record_at-b-requires : goal.record_at-b-requires
-record_at-b-requires c =
-    let a = c.args in
-    omega (arith, record_end a.at a.width a.count c.loop-i.i c.loop-i-test.true)
-
-pub overflow_add-live : goal.overflow_add-live
-overflow_add-live c =
-    let a = c.args in
-    let le = counted_le a.at a.width a.expiry a.clock a.tables.now c.loop-i.i in
-    let one = mark_le c.is_live.result in
-    search rules
-
-pub loop-i-preserved : goal.loop-i-preserved
-loop-i-preserved c = (
-  search rules,
-  counted_more _ _ _ _ _ c.loop-i.i c.loop-i.invariant.1 c.record_at-b.ensures.0 c.is_live.ensures
-      c.mark_of.ensures
-      c.wide-live.ensures,
-)
-
 pub returns : goal.returns
-returns c = counted_all _ _ _ _ _ c.loop-i.invariant.0 c.loop-i-test.false c.loop-i.invariant.1
+returns c =
+    let a = c.args in
+    let test : ℕ → Bool = λ i. is_live a.expiry a.clock (record_at a.at a.width a.tables.now i) in
+    count_from_yields_List c.filter.result c.count.result c.count.ensures.ran
+    (YieldsList-from_filter _ test
+    (YieldsList-at c.filter.ensures.source (YieldsList-from_range 0 a.count a.count (search rules) (search rules)))
+    c.filter.ensures.closure (λ x r q k. search (rules, tests)))
+    ∙ live_counted a.at a.width a.count a.expiry a.clock a.tables.now

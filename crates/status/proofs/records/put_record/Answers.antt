@@ -7,4 +7,4 @@ pub returns-then-b-eq0 : goal.returns-then-b-eq0
 returns-then-b-eq0 c = put_none _ _ _ c.record_at-b.ensures.0 c.if-b-eq0.true
 
 pub returns : goal.returns
-returns c = put_some _ _ _ c.record_at-b.ensures.0 c.if-b-eq0.false _ (c.copy.ensures ∙ part_range _ 1 _)
+returns c = put_some _ _ _ c.record_at-b.ensures.0 c.if-b-eq0.false _ (c.copy_from_slice.ensures.after ∙ part_range _ 1 _)
