@@ -2,137 +2,34 @@
 use Prim.Native.Nat.{ℕ, ◌+◌, ◌*◌, ◌≤◌, ◌<◌}
 use native.Mathlib.Nat.{zero-add}
 use native.Mathlib.Omega.{arith}
-use mathlib.Core.Bool.{Bool, true}
-use mathlib.Core.List.{List, [], ◌∷◌, map}
-use mathlib.Core.Path.{◌≡◌, refl, sym, ap, ap₂, ◌∙◌}
+use mathlib.Core.Bool.{true}
+use mathlib.Core.List.{List, map}
+use mathlib.Core.Path.{◌≡◌, sym, ap, ap₂, ◌∙◌}
 use lib.ListN.{length, get_or, get_or-eq_default}
-use borrow.Author.Tests.{ltb-true, eq-eqb, ne_eqb}
 use Rattle.octets.specs.Bytes.{Bytes}
-use Rattle.octets.specs.Choice.{◌then◌otherwise◌}
 use Rattle.octets.specs.Part.{part, patch, joined, fields}
-use Rattle.octets.proofs.Index.{and_left, and_right}
 use Rattle.octets.proofs.ListOf.{list_of_length, list_of_at}
 use Rattle.octets.proofs.Part.{patch_whole}
 use Rattle.octets.proofs.Joined.{joined_length, fields_all}
-use Rattle.codes.specs.Form.{Form, byte, many, slot, code}
+use Rattle.codes.specs.Form.{many, slot, code}
 use Rattle.codes.proofs.Law.{back_at, passes_at}
 use Rattle.codes.proofs.Forms.{lawful}
-use Rattle.codes.proofs.Places.{patch_skip}
-use Rattle.codes.proofs.Inside.{Inside, item, ◌within◌, named}
+use Rattle.codes.proofs.Inside.{item, ◌within◌}
 use Rattle.numbers.specs.Numbers.{port_count, link_count, return_count}
 use Rattle.rules.specs.Relay.{Port, no_port, Slot, empty, Return, with_slots, Relay, with_ports, with_paths, with_links, with_returns}
-use Rattle.rules.specs.Refusals.{path_ok, link_ok, return_ok}
-use Rattle.rules.specs.Renumbering.{image, preimage, moved_ports, rename_path, rename_link, rename_return, rename_slot, renumbered}
+use Rattle.rules.specs.Renumbering.{preimage, moved_ports, rename_path, rename_link, rename_return, rename_slot, renumbered}
 use Rattle.rules.specs.declared.Link.{Link}
-use Rattle.rules.proofs.Images.{image_port}
-use Rattle.tables.specs.Forms.{path_form, link_form, return_form, relay_form}
-use Rattle.tables.specs.Places.{port_width, path_width, link_width, return_width, ports_at, paths_at, links_at, returns_at}
-use Rattle.tables.specs.Fields.{path_port_at, link_asking_at, link_answering_at, return_arrival_at, return_leaving_at}
-use Rattle.tables.specs.Records.{port_bytes, slot_of, slot_bytes, path_of, path_bytes, path_bytes_ok, link_of, link_bytes, link_bytes_ok, return_of, return_bytes, return_bytes_ok}
+use Rattle.tables.specs.Forms.{link_form, return_form, relay_form}
+use Rattle.tables.specs.Places.{port_width, link_width, return_width, ports_at, paths_at, links_at, returns_at}
+use Rattle.tables.specs.Records.{port_bytes, slot_of, slot_bytes, path_of, link_of, link_bytes, link_bytes_ok, return_of, return_bytes, return_bytes_ok}
 use Rattle.tables.specs.Layout.{record_at, records, records_ok, relay_of, bytes_of, well_formed}
-use Rattle.tables.proofs.Tests.{path_kept, link_kept, return_kept}
-use Rattle.tables.proofs.Lent.{Lent, port_lent, path_lent, link_lent, return_lent}
+use Rattle.tables.proofs.Lent.{port_lent}
 use Rattle.tables.proofs.Whole.{again, relay_good}
 use Rattle.tables.proofs.Patches.{ports_in_lem, links_in, returns_in, patch_ports, patch_paths, patch_links, patch_returns}
 use Rattle.tables.proofs.Seen.{ports_length}
 use Rattle.tables.proofs.Section.{up_to, up_more, up_all}
 use Rattle.rules.specs.Calls.{renumbers, rule_of}
 use Rattle.renumbering.specs.Renamed.{renamed_paths, renamed_links, renamed_returns}
-
--- ---- one record
--- an unused record stays; a used one is its bytes
-module _ {A : Type 0} (w : ℕ) (record_bytes : A → List ℕ) (record_of : List ℕ → A) {ok : List ℕ → Bool}
-    (c : Lent w (slot_bytes w record_bytes) (slot_of record_of) ok) (f : A → A)
-    (b : List ℕ) (bs : Bytes b) (l : length b ≡ w) (h : ok b ≡ true) where
-  pub unused_stays : get_or b 0 0 ≡ 0 → b ≡ slot_bytes w record_bytes (rename_slot f (slot_of record_of b))
-  unfolding slot_of rename_slot ◌then◌otherwise◌
-  unused_stays z = sym (rw (eq-eqb (get_or b 0 0) 0 z) (rw (eq-eqb (get_or b 0 0) 0 z) at (c.again b bs l h)))
-
-  used_bytes : (get_or b 0 0 ≡ 0 → ⊥) → 1 ∷ record_bytes (record_of b) ≡ b
-  unfolding slot_of slot_bytes ◌then◌otherwise◌
-  used_bytes n = rw (ne_eqb (get_or b 0 0) 0 n) at (c.again b bs l h)
-
-  -- a used record that is written over as the renaming says
-  used_renamed : (get_or b 0 0 ≡ 0 → ⊥) → (b' : List ℕ) → b' ≡ 1 ∷ record_bytes (f (record_of b))
-      → b' ≡ slot_bytes w record_bytes (rename_slot f (slot_of record_of b))
-  unfolding slot_of slot_bytes rename_slot ◌then◌otherwise◌
-  used_renamed n b' e = rw (ne_eqb (get_or b 0 0) 0 n) e
-
--- one byte of a used record is written over
-byte_over : {A : Type 0} (f : Form A) (s : Inside f byte) (x : A) (p : ℕ) → s.place.Has x
-    → patch (1 ∷ (code f).write x) (1 + s.place.offset) (p ∷ []) ≡ 1 ∷ (code f).write (s.place.put p x)
-byte_over f s x p h =
-    patch_skip (1 ∷ []) ((code f).write x) 1 refl s.place.offset (p ∷ []) ∙ ap (λ (r : List ℕ). 1 ∷ r) (s.place.patched x p h)
-
-module _ (b m : List ℕ) (bs : Bytes b) (mark : get_or b 0 0 ≡ 0 → ⊥) where
-  -- ---- a path
-  pub path_port_small : path_bytes_ok b ≡ true → get_or b path_port_at 0 < port_count
-  unfolding path_ok path_of
-  path_port_small h = ltb-true _ port_count (and_left _ _ (path_kept b (ne_eqb (get_or b 0 0) 0 mark) h))
-
-  pub path_renamed : path_bytes_ok b ≡ true → length b ≡ path_width → (b' : List ℕ) → b' ≡ patch b path_port_at (get_or m (get_or b path_port_at 0) 0 ∷ [])
-      → b' ≡ slot_bytes path_width path_bytes (rename_slot (rename_path m) (slot_of path_of b))
-  unfolding rename_path path_bytes path_of
-  path_renamed h l b' e =
-      used_renamed path_width path_bytes path_of path_lent (rename_path m) b bs l h mark b'
-      (e
-      ∙ ap₂ (λ (x : List ℕ) (p : ℕ). patch x path_port_at (p ∷ []))
-      (sym (used_bytes path_width path_bytes path_of path_lent (rename_path m) b bs l h mark))
-      (sym (image_port m (get_or b path_port_at 0) (path_port_small h)))
-      ∙ byte_over path_form (named path_form "port").inside (path_of b) (image m (path_of b).port) tt)
-
-  -- ---- a link
-  pub link_ports_small : link_bytes_ok b ≡ true → (get_or b link_asking_at 0 < port_count) × (get_or b link_answering_at 0 < port_count)
-  unfolding link_ok link_of
-  link_ports_small h =
-      let k = link_kept b (ne_eqb (get_or b 0 0) 0 mark) h in
-      (ltb-true _ port_count (and_left _ _ k), ltb-true _ port_count (and_left _ _ (and_right _ _ k)))
-
-  pub link_renamed : link_bytes_ok b ≡ true → length b ≡ link_width → (b1 b' : List ℕ)
-      → b1 ≡ patch b link_asking_at (get_or m (get_or b link_asking_at 0) 0 ∷ []) → b' ≡ patch b1 link_answering_at (get_or m (get_or b link_answering_at 0) 0 ∷ [])
-      → b' ≡ slot_bytes link_width link_bytes (rename_slot (rename_link m) (slot_of link_of b))
-  unfolding rename_link link_bytes link_of
-  link_renamed h l b1 b' e1 e2 =
-      let asking-in : Inside link_form byte = (named link_form "asking").inside in
-      let p : ℕ = image m (link_of b).asking in
-      let first_done : b1 ≡ 1 ∷ link_bytes (asking-in.place.put p (link_of b)) =
-      e1
-      ∙ ap₂ (λ (x : List ℕ) (q : ℕ). patch x link_asking_at (q ∷ []))
-      (sym (used_bytes link_width link_bytes link_of link_lent (rename_link m) b bs l h mark))
-      (sym (image_port m (get_or b link_asking_at 0) (link_ports_small h).0))
-      ∙ byte_over link_form asking-in (link_of b) p tt in
-      used_renamed link_width link_bytes link_of link_lent (rename_link m) b bs l h mark b'
-      (e2
-      ∙ ap₂ (λ (x : List ℕ) (q : ℕ). patch x link_answering_at (q ∷ [])) first_done
-      (sym (image_port m (get_or b link_answering_at 0) (link_ports_small h).1))
-      ∙ byte_over link_form (named link_form "answering").inside (asking-in.place.put p (link_of b)) (image m (link_of b).answering) tt)
-
-  -- ---- a return
-  pub return_ports_small : return_bytes_ok b ≡ true → (get_or b return_arrival_at 0 < port_count) × (get_or b return_leaving_at 0 < port_count)
-  unfolding return_ok return_of
-  return_ports_small h =
-      let k = return_kept b (ne_eqb (get_or b 0 0) 0 mark) h in
-      (ltb-true _ port_count (and_left _ _ k), ltb-true _ port_count (and_left _ _ (and_right _ _ k)))
-
-  pub return_renamed : return_bytes_ok b ≡ true → length b ≡ return_width → (b1 b' : List ℕ)
-      → b1 ≡ patch b return_arrival_at (get_or m (get_or b return_arrival_at 0) 0 ∷ [])
-      → b' ≡ patch b1 return_leaving_at (get_or m (get_or b return_leaving_at 0) 0 ∷ [])
-      → b' ≡ slot_bytes return_width return_bytes (rename_slot (rename_return m) (slot_of return_of b))
-  unfolding rename_return return_bytes return_of
-  return_renamed h l b1 b' e1 e2 =
-      let arrival-in : Inside return_form byte = (named return_form "arrival").inside in
-      let p : ℕ = image m (return_of b).arrival in
-      let first_done : b1 ≡ 1 ∷ return_bytes (arrival-in.place.put p (return_of b)) =
-      e1
-      ∙ ap₂ (λ (x : List ℕ) (q : ℕ). patch x return_arrival_at (q ∷ []))
-      (sym (used_bytes return_width return_bytes return_of return_lent (rename_return m) b bs l h mark))
-      (sym (image_port m (get_or b return_arrival_at 0) (return_ports_small h).0))
-      ∙ byte_over return_form arrival-in (return_of b) p tt in
-      used_renamed return_width return_bytes return_of return_lent (rename_return m) b bs l h mark b'
-      (e2
-      ∙ ap₂ (λ (x : List ℕ) (q : ℕ). patch x return_leaving_at (q ∷ [])) first_done
-      (sym (image_port m (get_or b return_leaving_at 0) (return_ports_small h).1))
-      ∙ byte_over return_form (named return_form "leaving").inside (arrival-in.place.put p (return_of b)) (image m (return_of b).leaving) tt)
 
 -- ---- the ports' settings
 pub settings_none : (t : List ℕ) (i : ℕ) → port_count ≤ i → port_bytes no_port ≡ port_bytes (get_or (relay_of t).ports i no_port)

@@ -22,7 +22,7 @@ fn settings_of(tables: &[u8], i: usize) -> [u8; PORT_WIDTH]
     }
     let mut settings = [0u8; PORT_WIDTH];
     let at = PORTS_AT + PORT_WIDTH * i;
-    octets::copy(&mut settings, &tables[at..at + PORT_WIDTH]);
+    settings.copy_from_slice(&tables[at..at + PORT_WIDTH]);
     settings
 }
 
@@ -33,12 +33,10 @@ pub fn moved_ports(tables: &[u8], map: &[u8]) -> [u8; PORT_COUNT * PORT_WIDTH]
         (moved_ports map.now (relay_of tables.now).ports) }
 {
     let mut moved = [0u8; PORT_COUNT * PORT_WIDTH];
-    let mut n = 0;
-    while n < PORT_COUNT {
+    for n in 0..PORT_COUNT {
         let i = preimage_of(map, n);
         let settings = settings_of(tables, i);
         octets::copy_at(&mut moved, PORT_WIDTH * n, &settings);
-        n += 1;
     }
     moved
 }

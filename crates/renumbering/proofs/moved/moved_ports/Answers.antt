@@ -16,28 +16,20 @@ use Rattle.renumbering.proofs.moved.moved_ports.Goals as goal
 pub loop-n-init : goal.loop-n-init
 loop-n-init c =
     let a = c.args in
-    (search rules, (search rules, up_none port_lent 0 (moved_ports a.map.now (relay_of a.tables.now).ports) _))
-
-pub settings_of-settings-requires : goal.settings_of-settings-requires
-settings_of-settings-requires c = (c.requires.0, c.requires.1)
+    up_none port_lent 0 (moved_ports a.map.now (relay_of a.tables.now).ports) _
 
 pub loop-n-preserved : goal.loop-n-preserved
 loop-n-preserved c =
     let a = c.args in
     let s = c.loop-n in
     let ports = (relay_of a.tables.now).ports in
-    let settings = c.settings_of-settings.ensures ∙ ap (λ (i : ℕ). port_bytes (get_or ports i no_port)) c.preimage_of-i.ensures in (
-      search rules,
-      (
-        search rules,
-        c.copy_at.ensures
-            ∙ ap (patch s.moved (port_width * s.n)) settings
-            ∙ moved_more a.map.now ports _ (search rules) s.n s.moved s.invariant.1.1 c.loop-n-test.true,
-      ),
-    )
+    let settings = c.settings_of-settings.ensures ∙ ap (λ (i : ℕ). port_bytes (get_or ports i no_port)) c.preimage_of-i.ensures in
+    c.copy_at.ensures
+    ∙ ap (patch s.moved (port_width * s.n)) settings
+    ∙ moved_more a.map.now ports _ (search rules) s.n s.moved s.invariant c.loop-n-test.true
 
 pub returns : goal.returns
 returns c =
     let a = c.args in
     let s = c.loop-n in
-    moved_all a.map.now (relay_of a.tables.now).ports _ (search rules) s.n s.moved s.invariant.1.1 c.loop-n-test.false
+    moved_all a.map.now (relay_of a.tables.now).ports _ (search rules) s.n s.moved s.invariant c.loop-n-test.false

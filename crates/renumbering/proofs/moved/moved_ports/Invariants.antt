@@ -1,17 +1,9 @@
-use Prim.Native.Nat.{◌≤◌, ◌-◌, ◌*◌}
 use mathlib.Core.Path.{◌≡◌}
-use lib.ListN.{length}
-use Rattle.numbers.specs.Numbers.{port_count}
 use Rattle.rules.specs.Renumbering.{moved_ports}
-use Rattle.tables.specs.Places.{port_width}
 use Rattle.tables.specs.Records.{port_bytes}
 use Rattle.tables.specs.Layout.{relay_of}
 use Rattle.tables.proofs.Section.{up_to}
 use Rattle.renumbering.proofs.moved.moved_ports.Given as goal
 
 abbrev pub invariant-loop-n : goal.invariant-loop-n
-invariant-loop-n l =
-    (l.n ≤ port_count) × ((length l.moved ≡ port_width * port_count) × (l.moved ≡ up_to port_bytes 0 (moved_ports l.map (relay_of l.tables).ports) l.initial.moved l.n))
-
-abbrev pub decreases-loop-n : goal.decreases-loop-n
-decreases-loop-n l = port_count - l.n
+invariant-loop-n l = l.moved ≡ up_to port_bytes 0 (moved_ports l.map (relay_of l.tables).ports) l.initial.moved l.n

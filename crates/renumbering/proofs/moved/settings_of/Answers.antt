@@ -17,6 +17,6 @@ pub returns : goal.returns
 returns c =
     let a = c.args in
     let t = a.tables.now in
-    c.copy.ensures
+    c.copy_from_slice.ensures.after
     ∙ part_range t (ports_at + port_width * a.i) port_width
     ∙ settings_there t (known_bytes t c.type_inv.tables) c.requires.0 a.i c.if-i-ge-PORT_COUNT.false

@@ -1,48 +1,27 @@
-use Prim.Native.Nat.{◌≤◌, ◌+◌, ◌*◌}
-use lib.ListN.{length}
-use Rattle.octets.proofs.Part.{range_length}
-use Rattle.numbers.specs.Numbers.{return_count}
-use Rattle.rules.specs.Relay.{empty}
-use Rattle.rules.specs.Renumbering.{rename_return, rename_slot}
-use Rattle.tables.specs.Places.{return_width, returns_at}
-use Rattle.tables.proofs.Lent.{return_lent}
-use Rattle.tables.proofs.Section.{up_none, lent_ok, changed_more, changed_length, changed_all}
-use Rattle.renumbering.specs.Renamed.{new_returns, renamed_returns}
+use mathlib.Core.Path.{ap, ◌∙◌}
 use native.Mathlib.Omega.{arith}
-use borrow.Author.Rules.{rules}
+use Rattle.octets.specs.Part.{patch}
+use Rattle.octets.proofs.Bytes.{known_bytes}
+use Rattle.numbers.specs.Numbers.{return_count}
+use Rattle.tables.specs.Places.{returns_at}
+use Rattle.renumbering.specs.Renamed.{renamed_returns}
+use Rattle.renumbering.proofs.Images.{returns_ported, each_has, each_same}
 use Rattle.renumbering.proofs.renamed.rename_returns.Goals as goal
 
-pub loop-i-init : goal.loop-i-init
-loop-i-init c =
-    let a = c.args in
-    (search rules, (search rules, up_none return_lent returns_at (new_returns a.map.now a.t.now) a.t.now))
-
-pub rename_return-requires : goal.rename_return-requires
-rename_return-requires c =
-    let a = c.args in
-    let s = c.loop-i in
-    let size = s.invariant.1.0 in
-    let l = c.loop-i-test.true in
-    let same = lent_ok return_lent returns_at return_count empty (rename_slot (rename_return a.map.now)) a.t.now (omega (arith, c.requires.1)) in
-    let long = range_length s.t (returns_at + return_width * s.i) return_width (omega (arith, size, l)) in
-    (same s.t s.i l s.invariant.1.1 c.requires.0, long, c.requires.2)
-
-pub loop-i-preserved : goal.loop-i-preserved
-loop-i-preserved c =
-    let a = c.args in
-    let s = c.loop-i in
-    let map = rename_slot (rename_return a.map.now) in
-    let fits : returns_at + return_width * return_count ≤ length a.t.now = omega (arith, c.requires.1) in
-    let wrote = changed_more return_lent returns_at return_count empty map a.t.now fits s.t s.i c.loop-i-test.true s.invariant.1.1 _
-    c.rename_return.ensures in
-    let long = changed_length return_lent returns_at return_count empty map a.t.now fits s.t s.i c.loop-i-test.true s.invariant.1.1 _
-    c.rename_return.ensures in
-    (search rules, (omega (arith, long, c.requires.1), wrote))
+pub rename_records-requires : goal.rename_records-requires
+rename_records-requires c =
+    let t = c.args.t.now in
+    let bytes = known_bytes t c.slice_known-1.given in (
+      each_has (returns_ported c.args.map.now) returns_at return_count t bytes (omega (arith, c.requires.1)) c.requires.0,
+      omega (arith, c.requires.1),
+      omega arith,
+      c.requires.2,
+    )
 
 pub returns : goal.returns
 unfolding renamed_returns
 returns c =
-    let a = c.args in
-    let s = c.loop-i in
-    changed_all return_lent returns_at return_count empty (rename_slot (rename_return a.map.now)) a.t.now (omega (arith, c.requires.1)) s.t s.i
-    c.loop-i-test.false s.invariant.1.1
+    let t = c.args.t.now in
+    let bytes = known_bytes t c.slice_known-1.given in
+    c.rename_records.ensures
+    ∙ ap (patch t returns_at) (each_same (returns_ported c.args.map.now) returns_at return_count t bytes (omega (arith, c.requires.1)) c.requires.0)
