@@ -12,9 +12,9 @@ use rules::{Answer, Verdict};
 pub fn fields_number(kind: u8, detail: u8, ports: u16, length: usize, start: usize) -> u64
     ensures { result ≡ fields_number kind detail ports length start }
 {
-    (kind as u64)
-        + (detail as u64) * DETAIL_PLACE
-        + (ports as u64) * PORTS_PLACE
+    u64::from(kind)
+        + u64::from(detail) * DETAIL_PLACE
+        + u64::from(ports) * PORTS_PLACE
         + ((length % LENGTH_SPAN) as u64) * LENGTH_PLACE
         + ((start % START_SPAN) as u64) * START_PLACE
 }
@@ -23,8 +23,8 @@ pub fn fields_number(kind: u8, detail: u8, ports: u16, length: usize, start: usi
 fn drop_number(test: u8, clause: u8, value: u64) -> u64
     ensures { result ≡ drop_number test clause value }
 {
-    1 + (test as u64) * DETAIL_PLACE
-        + (clause as u64) * CLAUSE_PLACE
+    1 + u64::from(test) * DETAIL_PLACE
+        + u64::from(clause) * CLAUSE_PLACE
         + value % VALUE_SPAN * VALUE_PLACE
 }
 
@@ -41,7 +41,7 @@ pub fn verdict_number(verdict: Verdict, start: usize) -> u64
             )
         }
         Verdict::Deliver => fields_number(2, 0, 0, 0, start),
-        Verdict::Forward { port, length } => fields_number(3, 0, port as u16, length, 0),
+        Verdict::Forward { port, length } => fields_number(3, 0, u16::from(port), length, 0),
         Verdict::Spread { ports, length } => fields_number(4, 0, ports, length, 0),
         Verdict::Kept => fields_number(5, 0, 0, 0, 0),
     }

@@ -19,10 +19,10 @@ pub fn number_text(answer: u64) -> Text
     let value = answer / VALUE_PLACE % VALUE_SPAN;
     let ports = (answer / PORTS_PLACE % PORTS_SPAN) as u16;
     match kind {
-        0 => with_number(with_text(text::empty(), b"refused"), octets::wide(detail)),
+        0 => with_number(with_text(text::empty(), b"refused"), u64::from(detail)),
         1 => with_reason(with_text(text::empty(), b"drop"), detail, clause, value),
         2 => with_text(text::empty(), b"deliver"),
-        3 => with_number(with_text(text::empty(), b"forward"), ports as u64),
+        3 => with_number(with_text(text::empty(), b"forward"), u64::from(ports)),
         4 => with_ports(with_text(text::empty(), b"spread"), ports),
         5 => with_text(text::empty(), b"kept"),
         _ => text::empty(),

@@ -10,8 +10,8 @@ pub fn entry_numbers(fields: Fields) -> [u64; 5]
 {
     [
         fields.clock,
-        octets::wide(fields.port),
-        octets::wide(fields.word),
+        u64::from(fields.port),
+        u64::from(fields.word),
         fields.start as u64,
         fields.length as u64,
     ]

@@ -15,7 +15,7 @@ returns-in-Deliver c = rw (c.in-Deliver.is, c.fields_number.ensures)
 
 pub returns-in-Forward : goal.returns-in-Forward
 unfolding verdict_number
-returns-in-Forward c = rw (c.in-Forward.is, c.fields_number-in-Forward.ensures)
+returns-in-Forward c = rw (c.in-Forward.is, c.fields_number-in-Forward.ensures, c.from.ensures)
 
 pub returns-in-Spread : goal.returns-in-Spread
 unfolding verdict_number

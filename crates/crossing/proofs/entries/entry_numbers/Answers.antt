@@ -3,4 +3,4 @@ use Rattle.crossing.proofs.entries.entry_numbers.Goals as goal
 
 pub returns : goal.returns
 unfolding entry_numbers
-returns c = rw (c.wide.ensures, c.wide-2.ensures)
+returns c = rw (c.from.ensures, c.from-2.ensures)
