@@ -2,7 +2,7 @@
 use Prim.Native.Nat.{ℕ, ◌+◌, ◌-◌, ◌*◌, ◌≤◌, ◌<◌}
 use native.Mathlib.Nat.{zero-add, le_refl}
 use native.Mathlib.Omega.{arith}
-use mathlib.Core.Bool.{true, false}
+use mathlib.Core.Bool.{true}
 use mathlib.Core.List.{List, [], ◌++◌, append-nil}
 use mathlib.Core.Path.{◌≡◌, refl, sym, ap, ap₂, ◌∙◌}
 use lib.Dec.{lit<}
@@ -13,7 +13,7 @@ use Rattle.octets.specs.Bytes.{Bytes}
 use Rattle.octets.specs.Index.{◌and◌, zeros}
 use Rattle.octets.specs.Part.{part, patch}
 use Rattle.octets.specs.BigEndian.{number}
-use Rattle.octets.proofs.Index.{and_left, and_right, and_both, all_none, all_more, all_fails, all_at, all_intro, all_cong}
+use Rattle.octets.proofs.Index.{and_left, and_right, and_both, all_at, all_intro, all_cong}
 use Rattle.octets.proofs.Bytes.{append_bytes, drop_bytes, replicate_bytes, part_bytes}
 use Rattle.octets.proofs.Part.{part_length, part_part, part_mid, part_front, part_whole, part_range, patch_length, patch_join, patch_mid, patch_whole}
 use Rattle.codes.specs.Form.{octets_in, number_in, many, slot, that, code}
@@ -366,18 +366,6 @@ module _ (e : Edition) (h : Brings e) where
 
 -- ---- record by record
 module _ (e : Edition) (f : List ℕ) where
-  pub fine_none : paths_fine e f 0 ≡ true
-  unfolding paths_fine
-  fine_none = all_none (λ i. path_fine e (path_now e f i))
-
-  pub fine_more : (i : ℕ) → paths_fine e f i ≡ true → path_fine e (path_now e f i) ≡ true → paths_fine e f (i + 1) ≡ true
-  unfolding paths_fine
-  fine_more i = all_more (λ k. path_fine e (path_now e f k)) i
-
-  pub fine_fails : (i : ℕ) → i < path_count → path_fine e (path_now e f i) ≡ false → paths_fine e f path_count ≡ false
-  unfolding paths_fine
-  fine_fails i = all_fails (λ k. path_fine e (path_now e f k)) i path_count
-
   pub paths_none : (t : List ℕ) → t ≡ patch t paths_at (paths_now e f 0)
   unfolding paths_now
   paths_none t = records_none (path_now e f) t paths_at

@@ -1,8 +1,8 @@
 // What each edition has, in numbers: a row for each, the last one for today's. The next edition adds its row, and where
 // a width of today's grows, older rows are rewritten so that they keep their numbers. A path's new fields stand before
 // its blobs, new blob places behind them, and the first body's and a port's new fields at their ends.
-ghost use Rattle.std.specs.Prelude.{◌≡◌, true, ◌<◌};
-ghost use Rattle.editions.specs.Editions.{is_known, numbered, edition_at, width_at, body_count};
+ghost use Rattle.std.specs.Prelude.{◌≡◌, true, false, MatchOption, ◌<◌};
+ghost use Rattle.editions.specs.Editions.{is_known, current_edition, numbered, edition_at, width_at, body_count};
 ghost use Rattle.editions.specs.Steps.{start_width, port_width_in, before_blobs, most_blobs, widths_in, blobs_width_in, path_width_in, ports_place, locals_place, paths_place, back_place};
 
 use super::shape::{BODIES_AT, HASHES_BODY, LINKS_BODY, LOCALS_BODY, RETURNS_BODY, TALLY_BODY};
@@ -63,110 +63,114 @@ const WIDTHS: [Widths; EDITION as usize] = [
     },
 ];
 
-pub fn is_known(edition: u8) -> bool
-    ensures { result ≡ is_known edition }
-{
-    if edition == 0 {
-        return false;
+// A known edition, by its number: 1 to the current one.
+#[derive(Clone, Copy)]
+pub struct KnownEdition {
+    pub number: u8,
+    pub ghost known: { is_known number ≡ true },
+}
+
+impl KnownEdition {
+    pub fn current() -> KnownEdition
+        ensures { result.number ≡ current_edition }
+    {
+        KnownEdition { number: EDITION }
     }
-    edition <= EDITION
-}
 
-// An edition's row.
-fn row_of(edition: u8) -> Widths
-    requires { is_known edition ≡ true }
-    ensures { result ≡ widths_in (numbered edition) }
-{
-    WIDTHS[edition as usize - 1]
-}
-
-pub fn start_width(edition: u8) -> usize
-    requires { is_known edition ≡ true }
-    ensures { result ≡ start_width (numbered edition) }
-{
-    row_of(edition).start
-}
-
-pub fn port_width(edition: u8) -> usize
-    requires { is_known edition ≡ true }
-    ensures { result ≡ port_width_in (numbered edition) }
-{
-    row_of(edition).port
-}
-
-pub fn before_blobs(edition: u8) -> usize
-    requires { is_known edition ≡ true }
-    ensures { result ≡ before_blobs (numbered edition) }
-{
-    row_of(edition).before
-}
-
-pub fn most_blobs(edition: u8) -> u8
-    requires { is_known edition ≡ true }
-    ensures { result ≡ most_blobs (numbered edition).blob_room }
-{
-    row_of(edition).blobs
-}
-
-// ---- what follows from these
-
-// How wide a path's blobs are, with their count.
-pub fn blobs_width(edition: u8) -> usize
-    requires { is_known edition ≡ true }
-    ensures { result ≡ blobs_width_in (numbered edition) }
-{
-    1 + BLOB_WIDTH * (most_blobs(edition) as usize)
-}
-
-pub fn path_width(edition: u8) -> usize
-    requires { is_known edition ≡ true }
-    ensures { result ≡ path_width_in (numbered edition) }
-{
-    before_blobs(edition) + blobs_width(edition)
-}
-
-// How long body i is.
-pub fn width_of(edition: u8, i: usize) -> usize
-    requires { (is_known edition ≡ true) × (i < body_count) }
-    ensures { result ≡ width_at (edition_at edition) i }
-{
-    match i {
-        0 => start_width(edition),
-        1 => port_width(edition) * PORT_COUNT,
-        2 => LOCALS_BODY,
-        3 => path_width(edition) * PATH_COUNT,
-        4 => LINKS_BODY,
-        5 => RETURNS_BODY,
-        6 => HASHES_BODY,
-        _ => TALLY_BODY,
+    pub fn numbered(number: u8) -> Option<KnownEdition>
+        ensures { MatchOption result (is_known number ≡ false) (λ e. e.number ≡ number) }
+    {
+        if number == 0 || number > EDITION {
+            return None;
+        }
+        Some(KnownEdition { number })
     }
-}
 
-// Where ports, local addresses and paths stand in the file, and what is behind them.
-pub fn ports_place(edition: u8) -> usize
-    requires { is_known edition ≡ true }
-    ensures { result ≡ ports_place (numbered edition) }
-{
-    BODIES_AT + start_width(edition)
-}
+    // Its row.
+    fn widths(self) -> Widths
+        ensures { result ≡ widths_in (numbered self.number) }
+    {
+        WIDTHS[usize::from(self.number) - 1]
+    }
 
-pub fn locals_place(edition: u8) -> usize
-    requires { is_known edition ≡ true }
-    ensures { result ≡ locals_place (numbered edition) }
-{
-    ports_place(edition) + port_width(edition) * PORT_COUNT
-}
+    pub fn start_width(self) -> usize
+        ensures { result ≡ start_width (numbered self.number) }
+    {
+        self.widths().start
+    }
 
-pub fn paths_place(edition: u8) -> usize
-    requires { is_known edition ≡ true }
-    ensures { result ≡ paths_place (numbered edition) }
-{
-    locals_place(edition) + LOCALS_BODY
-}
+    pub fn port_width(self) -> usize
+        ensures { result ≡ port_width_in (numbered self.number) }
+    {
+        self.widths().port
+    }
 
-pub fn back_place(edition: u8) -> usize
-    requires { is_known edition ≡ true }
-    ensures { result ≡ back_place (numbered edition) }
-{
-    paths_place(edition) + path_width(edition) * PATH_COUNT
+    pub fn before_blobs(self) -> usize
+        ensures { result ≡ before_blobs (numbered self.number) }
+    {
+        self.widths().before
+    }
+
+    pub fn most_blobs(self) -> u8
+        ensures { result ≡ most_blobs (numbered self.number).blob_room }
+    {
+        self.widths().blobs
+    }
+
+    // ---- what follows from these
+
+    // How wide a path's blobs are, with their count.
+    pub fn blobs_width(self) -> usize
+        ensures { result ≡ blobs_width_in (numbered self.number) }
+    {
+        1 + BLOB_WIDTH * usize::from(self.most_blobs())
+    }
+
+    pub fn path_width(self) -> usize
+        ensures { result ≡ path_width_in (numbered self.number) }
+    {
+        self.before_blobs() + self.blobs_width()
+    }
+
+    // How long a body is.
+    pub fn width_of(self, body: usize) -> usize
+        requires { body < body_count }
+        ensures { result ≡ width_at (edition_at self.number) body }
+    {
+        match body {
+            0 => self.start_width(),
+            1 => self.port_width() * PORT_COUNT,
+            2 => LOCALS_BODY,
+            3 => self.path_width() * PATH_COUNT,
+            4 => LINKS_BODY,
+            5 => RETURNS_BODY,
+            6 => HASHES_BODY,
+            _ => TALLY_BODY,
+        }
+    }
+
+    // Where ports, local addresses and paths stand in the file, and what is behind them.
+    pub fn ports_place(self) -> usize
+        ensures { result ≡ ports_place (numbered self.number) }
+    {
+        BODIES_AT + self.start_width()
+    }
+
+    pub fn locals_place(self) -> usize
+        ensures { result ≡ locals_place (numbered self.number) }
+    {
+        self.ports_place() + self.port_width() * PORT_COUNT
+    }
+
+    pub fn paths_place(self) -> usize
+        ensures { result ≡ paths_place (numbered self.number) }
+    {
+        self.locals_place() + LOCALS_BODY
+    }
+
+    pub fn back_place(self) -> usize
+        ensures { result ≡ back_place (numbered self.number) }
+    {
+        self.paths_place() + self.path_width() * PATH_COUNT
+    }
 }

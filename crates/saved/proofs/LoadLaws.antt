@@ -1,5 +1,5 @@
 -- The laws of loading: each refusal, and what a file that is not refused is.
-use Prim.Native.Nat.{ℕ, ◌+◌, ◌-◌, ◌*◌, ◌≤◌, ◌<◌, zero-le}
+use Prim.Native.Nat.{ℕ, zero, suc, ◌+◌, ◌-◌, ◌*◌, ◌≤◌, ◌<◌, zero-le}
 use native.Mathlib.Nat.{add_assoc, le_of_suc-le-suc}
 use native.Mathlib.Omega.{arith}
 use mathlib.Core.Bool.{Bool, true, false, not}
@@ -8,6 +8,8 @@ use mathlib.Core.Path.{◌≡◌, refl, sym, ap, ap₂, ◌∙◌}
 use lib.Dec.{eqb, ltb}
 use lib.ListN.{length}
 use borrow.Author.Tests.{lt-leb, eq-eqb, ne_eqb, eqb-true, not-false}
+use Rattle.std.specs.List.{sum_by, range_with_len}
+use Rattle.std.proofs.lemmas.List.Sums.{sum_by-cons}
 use Rattle.octets.specs.Bytes.{Bytes}
 use Rattle.octets.specs.Index.{◌and◌, all_below}
 use Rattle.octets.specs.Choice.{◌then◌otherwise◌}
@@ -115,6 +117,23 @@ pub lengths_most : (f : List ℕ) (n : ℕ) → Bytes f → entry_place head_wid
 lengths_most f n b l =
     sum_bound (length_of head_width f) longest_body n (λ j m. le_of_suc-le-suc (length_lt head_width f j b (omega arith)))
 
+-- over the entries by the library's words
+sum_first : (g : ℕ → ℕ) (n : ℕ) → sum_below g (suc n) ≡ g 0 + sum_below (λ k. g (suc k)) n
+unfolding sum_below
+sum_first g zero = omega arith
+sum_first g (suc n) = rw (sum_first g n) (omega arith)
+
+lengths_from : (g : ℕ → ℕ) (a n : ℕ) → sum_by g (range_with_len a n) ≡ sum_below (λ k. g (a + k)) n
+lengths_from g a zero = sym (sum_none (λ k. g (a + k)))
+lengths_from g a (suc n) =
+    sum_by-cons g a (range_with_len (a + 1) n)
+    ∙ ap₂ (λ (p q : ℕ). p + q) (ap g (omega arith))
+    (lengths_from g (a + 1) n ∙ sum_cong (λ k. g (a + 1 + k)) (λ k. g (a + suc k)) n (λ i l. ap g (omega arith)))
+    ∙ sym (sum_first (λ k. g (a + k)) n)
+
+pub lengths_added : (g : ℕ → ℕ) (n : ℕ) → sum_by g (range_with_len 0 n) ≡ sum_below g n
+lengths_added g n = lengths_from g 0 n ∙ sum_cong (λ k. g (0 + k)) g n (λ i l. ap g (omega arith))
+
 -- the loop over the contents, where it has passed i entries
 pub record EntriesPassed (f : List ℕ) (place i : ℕ) : Type 0 where
   pub count : count_of f ≡ body_count
@@ -155,14 +174,6 @@ module _ (f : List ℕ) (form : Form Held) where
   -- body i has its size
   abbrev pub sized : ℕ → Bool
   sized i = eqb (length_of head_width f i) (width_at form i)
-
-  pub size_wrong : (i : ℕ) → i < body_count → (length_of head_width f i ≡ width_at form i → ⊥) → sizes_right form f ≡ false
-  unfolding sizes_right
-  size_wrong i l ne = all_fails sized i body_count l (ne_eqb _ _ ne)
-
-  pub sizes_right_lem : all_below sized body_count ≡ true → sizes_right form f ≡ true
-  unfolding sizes_right
-  sizes_right_lem a = a
 
   pub size_at_lem : sizes_right form f ≡ true → (i : ℕ) → i < body_count → length_of head_width f i ≡ width_at form i
   unfolding sizes_right

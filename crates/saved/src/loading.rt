@@ -1,11 +1,11 @@
 // Loading a saved relay: everything is checked before a byte of the tables is written.
-ghost use Rattle.std.specs.Prelude.{◌≡◌, true, ◌+◌, ◌≤◌, ◌<◌, length};
+ghost use Rattle.std.specs.Prelude.{◌≡◌, MatchResult, ◌+◌, ◌≤◌, ◌<◌, length};
 ghost use Rattle.octets.specs.Part.{part};
 ghost use Rattle.octets.specs.BigEndian.{number};
 ghost use Rattle.codes.specs.Form.{code};
 ghost use Rattle.recording.specs.Shape.{entry_place, count_of, edition_of, length_of, sum_below, count_limit};
 ghost use Rattle.tables.specs.Layout.{bytes_of};
-ghost use Rattle.editions.specs.Editions.{counter_width, tally_form, is_known, edition_at};
+ghost use Rattle.editions.specs.Editions.{counter_width, tally_form, edition_at};
 ghost use Rattle.saved.specs.File.{head_width, bodies_at};
 ghost use Rattle.saved.specs.Load.{length_wrong, contents_wrong, sizes_right, bodies_wrong, load_refusal, held_in, Loads, load_on, own_in};
 ghost use Rattle.saved.specs.Steps.{ContentsRight, tally_at};
@@ -14,7 +14,7 @@ use super::Loaded;
 use super::contents::{entry_place, length_of, offset_of};
 use super::format::{KIND, TALLY_AT};
 use editions::shape::{BODIES_AT, BODY_COUNT, COUNTER_WIDTH, TALLY_BODY};
-use editions::{EDITION, bodies_fine, is_known, width_of, write_tables};
+use editions::{Bodies, EDITION, KnownEdition};
 use numbers::refusals;
 use recording::CONTENTS_START;
 use rules::Tally;
@@ -25,13 +25,7 @@ fn lengths_sum(file: &[u8], n: usize) -> usize
     requires { (entry_place head_width n ≤ length file.now) × (n < count_limit) }
     ensures { result ≡ sum_below (length_of head_width file.now) n }
 {
-    let mut sum = 0;
-    let mut i = 0;
-    while i < n {
-        sum += length_of(file, i);
-        i += 1;
-    }
-    sum
+    (0..n).map(|i| length_of(file, i)).sum()
 }
 
 // Refusal 20.
@@ -43,10 +37,7 @@ fn length_wrong(file: &[u8]) -> bool
     }
     let n = recording::count(file);
     let at = entry_place(n);
-    if file.len() < at {
-        return true;
-    }
-    at + lengths_sum(file, n) != file.len()
+    file.len() < at || at + lengths_sum(file, n) != file.len()
 }
 
 // Refusal 22, of a file that has its contents.
@@ -58,70 +49,62 @@ fn contents_wrong(file: &[u8]) -> bool
         return true;
     }
     let mut place = BODIES_AT;
-    let mut i = 0;
-    while i < BODY_COUNT {
+    for i in 0..BODY_COUNT {
         if offset_of(file, i) != place {
             return true;
         }
         place += length_of(file, i);
-        i += 1;
     }
     false
 }
 
 // Whether each body has its size.
-fn sizes_right(file: &[u8], edition: u8) -> bool
-    requires { (is_known edition ≡ true) × (bodies_at ≤ length file.now) }
-    ensures { result ≡ sizes_right (edition_at edition) file.now }
+fn sizes_right(file: &[u8], edition: KnownEdition) -> bool
+    requires { bodies_at ≤ length file.now }
+    ensures { result ≡ sizes_right (edition_at edition.number) file.now }
 {
-    let mut body = 0;
-    while body < BODY_COUNT {
-        if length_of(file, body) != width_of(edition, body) {
-            return false;
-        }
-        body += 1;
-    }
-    true
+    (0..BODY_COUNT).all(|i| length_of(file, i) == edition.width_of(i))
 }
 
 // Refusal 24, of a file that breaks none of the refusals before it. In the current edition the bodies but the last are
 // the tables as they are.
-fn bodies_wrong(file: &[u8]) -> bool
-    requires { (is_known (edition_of file.now) ≡ true) × ContentsRight file.now }
+fn bodies_wrong(file: &[u8], edition: KnownEdition) -> bool
+    requires { (edition.number ≡ edition_of file.now) × ContentsRight file.now }
     ensures { result ≡ bodies_wrong file.now }
 {
-    if !sizes_right(file, file[1]) {
+    if !sizes_right(file, edition) {
         return true;
     }
-    if file[1] == EDITION {
+    if edition.number == EDITION {
         return !tables::check(&file[BODIES_AT..TALLY_AT]);
     }
-    !bodies_fine(file, file[1])
+    !Bodies { file, edition }.are_fine()
 }
 
-// The refusal of a load into so many bytes, or 0.
-fn load_refusal(file: &[u8], size: usize) -> u8
-    ensures { result ≡ load_refusal file.now size }
+// The edition of a file that a load into so many bytes takes, or its refusal.
+fn accepted(file: &[u8], size: usize) -> Result<KnownEdition, u8>
+    ensures { MatchResult result (λ e. (load_refusal file.now size ≡ 0) × (e.number ≡ edition_of file.now))
+        (λ refusal. (refusal ≡ load_refusal file.now size) × (refusal ≡ 0 → ⊥)) }
 {
     if length_wrong(file) {
-        return refusals::FILE_LENGTH;
+        return Err(refusals::FILE_LENGTH);
     }
     if file[0] != KIND {
-        return refusals::FILE_KIND;
+        return Err(refusals::FILE_KIND);
     }
-    if !is_known(file[1]) {
-        return refusals::FILE_KIND;
-    }
+    let Some(edition) = KnownEdition::numbered(file[1]) else {
+        return Err(refusals::FILE_KIND);
+    };
     if contents_wrong(file) {
-        return refusals::FILE_PLACE;
+        return Err(refusals::FILE_PLACE);
     }
-    if bodies_wrong(file) {
-        return refusals::FILE_BODY;
+    if bodies_wrong(file, edition) {
+        return Err(refusals::FILE_BODY);
     }
     if size != TABLE_SIZE {
-        return refusals::ROOM;
+        return Err(refusals::ROOM);
     }
-    refusals::NONE
+    Ok(edition)
 }
 
 fn counter_at(file: &[u8], at: usize) -> u32
@@ -147,15 +130,15 @@ fn tally_at(file: &[u8], at: usize) -> Tally
 }
 
 // Writes the tables of a file that is not refused: those of the current edition by one copy.
-fn write_held(file: &[u8], tables: &mut [u8])
-    requires { load_refusal file.now (length tables.old) ≡ 0 }
+fn write_held(file: &[u8], edition: KnownEdition, tables: &mut [u8])
+    requires { (load_refusal file.now (length tables.old) ≡ 0) × (edition.number ≡ edition_of file.now) }
     ensures { tables.new ≡ bytes_of (held_in file.now).0 }
 {
-    if file[1] == EDITION {
-        octets::copy(tables, &file[BODIES_AT..TALLY_AT]);
+    if edition.number == EDITION {
+        tables.copy_from_slice(&file[BODIES_AT..TALLY_AT]);
         return;
     }
-    write_tables(file, file[1], tables);
+    Bodies { file, edition }.write_tables(tables);
 }
 
 // Loads tables and tally, the own address and the last clock too. No clock is tested.
@@ -163,14 +146,15 @@ pub fn load(file: &[u8], tables: &mut [u8], tally: Tally) -> Loaded
     ensures { Loads (load_on file.now tables.old tally)
         result.refusal tables.new result.tally }
 {
-    let refusal = load_refusal(file, tables.len());
-    if refusal != refusals::NONE {
-        return Loaded { refusal, tally };
-    }
-    write_held(file, tables);
-    Loaded {
-        refusal: refusals::NONE,
-        tally: tally_at(file, file.len() - TALLY_BODY),
+    match accepted(file, tables.len()) {
+        Err(refusal) => Loaded { refusal, tally },
+        Ok(edition) => {
+            write_held(file, edition, tables);
+            Loaded {
+                refusal: refusals::NONE,
+                tally: tally_at(file, file.len() - TALLY_BODY),
+            }
+        }
     }
 }
 
@@ -179,8 +163,8 @@ pub fn load(file: &[u8], tables: &mut [u8], tally: Tally) -> Loaded
 pub fn own_address(file: &[u8]) -> [u8; 16]
     ensures { result ≡ own_in file.now }
 {
-    if load_refusal(file, TABLE_SIZE) != refusals::NONE {
-        return [0; 16];
+    match accepted(file, TABLE_SIZE) {
+        Err(_) => [0; 16],
+        Ok(_) => octets::address_at(file, BODIES_AT),
     }
-    octets::address_at(file, BODIES_AT)
 }

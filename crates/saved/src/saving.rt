@@ -1,11 +1,12 @@
 // Saving a relay.
 ghost use Rattle.std.specs.Prelude.{◌≡◌, true, ◌+◌, ◌≤◌, ◌<◌, length};
 ghost use Rattle.octets.specs.Part.{patch};
+ghost use Rattle.octets.specs.BigEndian.{big_endian};
 ghost use Rattle.codes.specs.Form.{code};
 ghost use Rattle.recording.specs.Shape.{contents_start, entry_place};
 ghost use Rattle.tables.specs.Places.{table_size};
 ghost use Rattle.tables.specs.Layout.{well_formed, relay_of};
-ghost use Rattle.editions.specs.Editions.{tally_form};
+ghost use Rattle.editions.specs.Editions.{counter_width, tally_form};
 ghost use Rattle.saved.specs.File.{body_count, head_width, bodies_at, saved_size, file_of};
 ghost use Rattle.saved.specs.Save.{Saves, save_on};
 ghost use Rattle.saved.specs.Steps.{start_bytes, entry_bytes, contents_bytes, tally_bytes};
@@ -14,7 +15,7 @@ use super::Saved;
 use super::contents::entry_place;
 use super::format::{KIND, SAVED_SIZE, TALLY_AT};
 use editions::shape::{BODIES_AT, BODY_COUNT, COUNTER_WIDTH};
-use editions::{EDITION, width_of};
+use editions::{EDITION, KnownEdition};
 use numbers::refusals;
 use recording::{COUNT_AT, COUNT_WIDTH, LENGTH_WIDTH, OFFSET_WIDTH};
 use rules::Tally;
@@ -41,12 +42,8 @@ fn write_entry(room: &mut [u8], i: usize, offset: usize)
 {
     let at = entry_place(i);
     octets::write_number_at(room, at, OFFSET_WIDTH, offset as u64);
-    octets::write_number_at(
-        room,
-        at + OFFSET_WIDTH,
-        LENGTH_WIDTH,
-        width_of(EDITION, i) as u64,
-    );
+    let length = KnownEdition::current().width_of(i);
+    octets::write_number_at(room, at + OFFSET_WIDTH, LENGTH_WIDTH, length as u64);
 }
 
 // Writes the contents.
@@ -55,12 +52,17 @@ fn write_contents(room: &mut [u8])
     ensures { room.new ≡ patch room.old contents_start (contents_bytes body_count) }
 {
     let mut offset = BODIES_AT;
-    let mut i = 0;
-    while i < BODY_COUNT {
+    for i in 0..BODY_COUNT {
         write_entry(room, i, offset);
-        offset += width_of(EDITION, i);
-        i += 1;
+        offset += KnownEdition::current().width_of(i);
     }
+}
+
+fn write_counter(room: &mut [u8], at: usize, counter: u32)
+    requires { at + counter_width ≤ length room.old }
+    ensures { room.new ≡ patch room.old at (big_endian counter_width counter) }
+{
+    octets::write_number_at(room, at, COUNTER_WIDTH, u64::from(counter));
 }
 
 // Writes the tally at a place.
@@ -68,37 +70,12 @@ fn write_tally(room: &mut [u8], at: usize, tally: Tally)
     requires { at + (code tally_form).width ≤ length room.old }
     ensures { room.new ≡ patch room.old at (tally_bytes tally) }
 {
-    octets::write_number_at(room, at, COUNTER_WIDTH, tally.total as u64);
-    octets::write_number_at(
-        room,
-        at + COUNTER_WIDTH,
-        COUNTER_WIDTH,
-        tally.dropped as u64,
-    );
-    octets::write_number_at(
-        room,
-        at + 2 * COUNTER_WIDTH,
-        COUNTER_WIDTH,
-        tally.delivered as u64,
-    );
-    octets::write_number_at(
-        room,
-        at + 3 * COUNTER_WIDTH,
-        COUNTER_WIDTH,
-        tally.forwarded as u64,
-    );
-    octets::write_number_at(
-        room,
-        at + 4 * COUNTER_WIDTH,
-        COUNTER_WIDTH,
-        tally.spread as u64,
-    );
-    octets::write_number_at(
-        room,
-        at + 5 * COUNTER_WIDTH,
-        COUNTER_WIDTH,
-        tally.kept as u64,
-    );
+    write_counter(room, at, tally.total);
+    write_counter(room, at + COUNTER_WIDTH, tally.dropped);
+    write_counter(room, at + 2 * COUNTER_WIDTH, tally.delivered);
+    write_counter(room, at + 3 * COUNTER_WIDTH, tally.forwarded);
+    write_counter(room, at + 4 * COUNTER_WIDTH, tally.spread);
+    write_counter(room, at + 5 * COUNTER_WIDTH, tally.kept);
 }
 
 // Copies the tables into the file, in two parts, of which the second starts at a multiple of 16 in the room: a copy is

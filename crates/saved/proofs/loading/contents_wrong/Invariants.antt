@@ -1,10 +1,5 @@
-use Prim.Native.Nat.{◌-◌}
-use Rattle.saved.specs.File.{body_count}
 use Rattle.saved.proofs.LoadLaws.{EntriesPassed}
 use Rattle.saved.proofs.loading.contents_wrong.Given as goal
 
 abbrev pub invariant-loop-i : goal.invariant-loop-i
 invariant-loop-i l = EntriesPassed l.file l.place l.i
-
-abbrev pub decreases-loop-i : goal.decreases-loop-i
-decreases-loop-i l = body_count - l.i

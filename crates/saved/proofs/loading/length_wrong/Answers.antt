@@ -4,6 +4,7 @@ use Prim.Native.Nat.{ℕ, ◌+◌, ◌≤◌}
 use native.Mathlib.Omega.{arith}
 use lib.Dec.{eqb}
 use lib.ListN.{length}
+use borrow.Author.Tests.{lt-ltb}
 use Rattle.octets.proofs.Bytes.{known_bytes}
 use Rattle.recording.specs.Shape.{entry_place, length_of, sum_below}
 use Rattle.recording.proofs.ShapeLaws.{count_lt}
@@ -21,7 +22,8 @@ entry_place-at-requires c =
 
 pub returns-then-file-at : goal.returns-then-file-at
 returns-then-file-at c =
-    sym (cut_short c.args.file.now (omega (arith, c.if-file-at.true, c.entry_place-at.ensures, c.count-n.ensures)))
+    lt-ltb _ _ c.if-file-at.true
+    ∙ sym (cut_short c.args.file.now (omega (arith, c.if-file-at.true, c.entry_place-at.ensures, c.count-n.ensures)))
 
 pub lengths_sum-requires : goal.lengths_sum-requires
 lengths_sum-requires c =
@@ -38,8 +40,8 @@ overflow_add-result c =
     let few = count_lt f b in
     record { fits = omega (arith, lengths_most f n b inside, c.lengths_sum.ensures, c.entry_place-at.ensures, c.count-n.ensures) }
 
-pub returns : goal.returns
-returns c =
+pub returns-else-file-at : goal.returns-else-file-at
+returns-else-file-at c =
     let f = c.args.file.now in
     let n = c.count-n.ensures in
     ap₂ (λ (p q : ℕ). not (eqb (p + q) (length f)))

@@ -7,16 +7,13 @@ use Rattle.saved.specs.Load.{held_in, own_in}
 use Rattle.saved.proofs.LoadLaws.{taken}
 use Rattle.saved.proofs.loading.own_address.Goals as goal
 
-pub returns-then-load_refusal-ne-NONE : goal.returns-then-load_refusal-ne-NONE
+pub returns-in-Err : goal.returns-in-Err
 unfolding own_in
-returns-then-load_refusal-ne-NONE c = sym (then_false _ _ (ne_eqb _ 0 (λ q. c.if-load_refusal-ne-NONE.true (c.load_refusal.ensures ∙ q))))
+returns-in-Err c = sym (then_false _ _ (ne_eqb _ 0 (λ q. c.in-Err.ensures.1 (c.in-Err.ensures.0 ∙ q))))
 
 pub address_at-requires : goal.address_at-requires
-address_at-requires c =
-    let f = c.args.file.now in
-    omega (arith, (taken f table_size (sym c.load_refusal.ensures ∙ c.if-load_refusal-ne-NONE.false)).long)
+address_at-requires c = omega (arith, (taken c.args.file.now table_size c.in-Ok.ensures.0).long)
 
-pub returns : goal.returns
+pub returns-in-Ok : goal.returns-in-Ok
 unfolding own_in held_in
-returns c =
-    c.address_at.ensures ∙ sym (then_true _ _ (eq-eqb _ 0 (sym c.load_refusal.ensures ∙ c.if-load_refusal-ne-NONE.false)))
+returns-in-Ok c = c.address_at.ensures ∙ sym (then_true _ _ (eq-eqb _ 0 c.in-Ok.ensures.0))

@@ -1,30 +1,20 @@
-use native.Mathlib.Omega.{arith}
-use mathlib.Core.Path.{sym, ap, ◌∙◌}
-use native.Mathlib.Nat.{le_antisymm}
-use borrow.Author.Tests.{eq-eqb}
-use Rattle.octets.specs.Index.{all_below}
-use Rattle.octets.proofs.Index.{all_none, all_more}
-use Rattle.editions.specs.Editions.{edition_at}
-use Rattle.saved.proofs.LoadLaws.{sized, size_wrong, sizes_right_lem}
+use mathlib.Core.Path.{◌∙◌}
 use borrow.Author.Rules.{rules}
+use borrow.Author.Tests.{tests}
+use Rattle.std.proofs.lemmas.Iterator.{YieldsList-from_range}
+use Rattle.std.proofs.lemmas.Iterator.Search.{all_from_yields_List}
+use Rattle.octets.proofs.Chains.{all_over}
+use Rattle.editions.specs.Editions.{edition_at}
+use Rattle.saved.specs.File.{body_count}
+use Rattle.saved.specs.Load.{sizes_right}
+use Rattle.saved.proofs.LoadLaws.{sized}
 use Rattle.saved.proofs.loading.sizes_right.Goals as goal
 
-pub loop-body-init : goal.loop-body-init
-loop-body-init c = (search rules, all_none (sized c.args.file.now (edition_at c.args.edition)))
-
-pub returns-then-length_of-width_of : goal.returns-then-length_of-width_of
-returns-then-length_of-width_of c =
-    sym (size_wrong c.args.file.now (edition_at c.args.edition) c.loop-body.body (omega (arith, c.loop-body-test.true))
-    (λ q. c.if-length_of-width_of.true (c.length_of.ensures ∙ q ∙ sym c.width_of.ensures)))
-
-pub loop-body-preserved : goal.loop-body-preserved
-loop-body-preserved c =
-    let f = c.args.file.now in
-    let right = sym c.length_of.ensures ∙ c.if-length_of-width_of.false ∙ c.width_of.ensures in
-    (search rules, all_more (sized f (edition_at c.args.edition)) c.loop-body.body c.loop-body.invariant.1 (eq-eqb _ _ right))
-
 pub returns : goal.returns
+unfolding sizes_right
 returns c =
     let f = c.args.file.now in
-    let form = edition_at c.args.edition in
-    sym (sizes_right_lem f form (ap (all_below (sized f form)) (sym (le_antisymm c.loop-body.invariant.0 c.loop-body-test.false)) ∙ c.loop-body.invariant.1))
+    let form = edition_at c.args.edition.number in
+    all_from_yields_List (sized f form) _ _ _ c.all.ensures.ran (YieldsList-from_range 0 body_count body_count (search rules) (search rules))
+    (λ x b q k. search (rules, tests))
+    ∙ all_over (sized f form) body_count

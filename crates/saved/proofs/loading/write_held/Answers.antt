@@ -3,67 +3,57 @@ use Rattle.tables.specs.Places.{table_size}
 use Rattle.octets.proofs.Part.{part_length}
 use Rattle.saved.proofs.CurrentLaws.{current_fits, current_held}
 use Rattle.saved.proofs.LoadLaws.{taken, has_tables, tables_held}
-use Rattle.recording.specs.Shape.{edition_of}
+use Rattle.editions.specs.Editions.{numbered}
+use Rattle.editions.specs.Steps.{tally_place, tables_now}
 use Rattle.octets.proofs.Bytes.{known_bytes}
 use Rattle.octets.specs.Part.{part}
 use lib.ListN.{length}
-use mathlib.Core.Path.{sym, ◌∙◌}
+use Prim.Native.Nat.{ℕ, ◌≤◌}
+use mathlib.Core.Path.{sym, ap, subst, ◌∙◌}
 use native.Mathlib.Omega.{arith}
 use Rattle.saved.proofs.loading.write_held.Goals as goal
 
-pub bounds-file-1 : goal.bounds-file-1
-bounds-file-1 c =
+pub slice_bounds-copy_from_slice-end : goal.slice_bounds-copy_from_slice-end
+slice_bounds-copy_from_slice-end c =
     let a = c.args in
     let f = a.file.now in
-    let t = taken f (length a.tables.now) c.requires in
-    omega (arith, t.long)
+    let t = taken f (length a.tables.now) c.requires.0 in
+    omega (arith, current_fits f (sym c.requires.1 ∙ c.if-edition-eq-EDITION.true) _ t)
 
-pub slice_bounds-copy-end : goal.slice_bounds-copy-end
-unfolding edition_of
-slice_bounds-copy-end c =
+pub copy_from_slice-requires : goal.copy_from_slice-requires
+unfolding part
+copy_from_slice-requires c =
     let a = c.args in
     let f = a.file.now in
-    let t = taken f (length a.tables.now) c.requires in
-    omega (arith, current_fits f c.if-file-eq-EDITION.true _ t)
+    let t = taken f (length a.tables.now) c.requires.0 in
+    t.room ∙ sym (part_length f bodies_at table_size (current_fits f (sym c.requires.1 ∙ c.if-edition-eq-EDITION.true) _ t))
 
-pub copy-requires : goal.copy-requires
-unfolding edition_of part
-copy-requires c =
+pub returns-then-edition-eq-EDITION : goal.returns-then-edition-eq-EDITION
+unfolding part
+returns-then-edition-eq-EDITION c =
     let a = c.args in
     let f = a.file.now in
-    let t = taken f (length a.tables.now) c.requires in
-    t.room ∙ sym (part_length f bodies_at table_size (current_fits f c.if-file-eq-EDITION.true _ t))
+    let t = taken f (length a.tables.now) c.requires.0 in
+    c.copy_from_slice.ensures.after
+    ∙ current_held f (sym c.requires.1 ∙ c.if-edition-eq-EDITION.true) _ t (known_bytes f c.type_inv.file)
 
-pub returns-then-file-eq-EDITION : goal.returns-then-file-eq-EDITION
-unfolding edition_of part
-returns-then-file-eq-EDITION c =
+pub invariant_of-write_tables : goal.invariant_of-write_tables
+invariant_of-write_tables c =
     let a = c.args in
     let f = a.file.now in
-    let t = taken f (length a.tables.now) c.requires in
-    c.copy.ensures
-    ∙ current_held f c.if-file-eq-EDITION.true _ t
-    (known_bytes f c.type_inv.file)
-
-pub bounds-file-1-2 : goal.bounds-file-1-2
-bounds-file-1-2 c =
-    let a = c.args in
-    let f = a.file.now in
-    let t = taken f (length a.tables.now) c.requires in
-    omega (arith, t.long)
+    let long = has_tables f (length a.tables.now) (taken f (length a.tables.now) c.requires.0) in
+    record { there = subst (λ (n : ℕ). tally_place (numbered n) ≤ length f) (sym c.requires.1) long }
 
 pub write_tables-requires : goal.write_tables-requires
-unfolding edition_of
 write_tables-requires c =
     let a = c.args in
-    let f = a.file.now in
-    let t = taken f (length a.tables.now) c.requires in
-    (t.known, has_tables f (length a.tables.now) t, t.room)
+    (taken a.file.now (length a.tables.now) c.requires.0).room
 
 pub returns : goal.returns
-unfolding edition_of
 returns c =
     let a = c.args in
     let f = a.file.now in
-    let t = taken f (length a.tables.now) c.requires in
+    let t = taken f (length a.tables.now) c.requires.0 in
     c.write_tables.ensures
+    ∙ ap (λ (n : ℕ). tables_now (numbered n) f) c.requires.1
     ∙ tables_held f _ t (known_bytes f c.type_inv.file)

@@ -1,6 +1,0 @@
-use mathlib.Core.Path.{refl}
-use borrow.Author.Rules.{rules}
-use Rattle.editions.proofs.older.path_now.Goals as goal
-
-pub write_path-requires : goal.write_path-requires
-write_path-requires c = (search rules, search rules, search rules, refl)

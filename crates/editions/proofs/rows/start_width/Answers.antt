@@ -1,6 +1,0 @@
-use mathlib.Core.Path.{ap}
-use Rattle.editions.specs.declared.rows.Widths.{Widths}
-use Rattle.editions.proofs.rows.start_width.Goals as goal
-
-pub returns : goal.returns
-returns c = ap (λ (w : Widths). w.start) c.row_of.ensures
