@@ -9,6 +9,7 @@ use super::bits::{
 use rules::{Answer, Verdict};
 
 // Five fields in one number.
+#[tactic(auto, unfolding(crate::specs::Answers::fields_number))]
 pub fn fields_number(kind: u8, detail: u8, ports: u16, length: usize, start: usize) -> u64
     ensures { result ≡ fields_number kind detail ports length start }
 {
@@ -20,6 +21,7 @@ pub fn fields_number(kind: u8, detail: u8, ports: u16, length: usize, start: usi
 }
 
 // A drop's fields in one number.
+#[tactic(auto, unfolding(crate::specs::Answers::drop_number))]
 fn drop_number(test: u8, clause: u8, value: u64) -> u64
     ensures { result ≡ drop_number test clause value }
 {
@@ -29,6 +31,7 @@ fn drop_number(test: u8, clause: u8, value: u64) -> u64
 }
 
 // The number of a verdict on a packet whose payload starts there.
+#[tactic(auto, unfolding(crate::specs::Answers::verdict_number))]
 pub fn verdict_number(verdict: Verdict, start: usize) -> u64
     ensures { result ≡ verdict_number start verdict }
 {
@@ -48,6 +51,7 @@ pub fn verdict_number(verdict: Verdict, start: usize) -> u64
 }
 
 // The number of an answer to a packet whose payload starts there.
+#[tactic(auto, unfolding(crate::specs::Answers::answer_number))]
 pub fn answer_number(answer: Answer, start: usize) -> u64
     ensures { result ≡ answer_number start answer }
 {

@@ -5,6 +5,7 @@ ghost use Rattle.crossing.specs.Recordings.{entry_numbers};
 use recording::Fields;
 
 // An entry in five numbers.
+#[tactic(auto, unfolding(crate::specs::Recordings::entry_numbers))]
 pub fn entry_numbers(fields: Fields) -> [u64; 5]
     ensures { result ≡ entry_numbers fields }
 {

@@ -8,6 +8,7 @@ use rules::Tally;
 const TALLY_COUNT: usize = 6;
 
 // The tally that six numbers are.
+#[tactic(auto, unfolding(crate::specs::Tallies::tally_in))]
 pub fn tally_in(counts: [u32; TALLY_COUNT]) -> Tally
     ensures { result ≡ tally_in counts }
 {
@@ -23,6 +24,7 @@ pub fn tally_in(counts: [u32; TALLY_COUNT]) -> Tally
 }
 
 // A tally as six numbers.
+#[tactic(auto, unfolding(crate::specs::Tallies::tally_numbers))]
 pub fn tally_numbers(tally: Tally) -> [u32; TALLY_COUNT]
     ensures { result ≡ tally_numbers tally }
 {

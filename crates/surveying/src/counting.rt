@@ -3,7 +3,7 @@ ghost use Rattle.std.specs.Prelude.{◌≡◌, ◌<◌, not, ◌==◌, nat_eq, s
 ghost use Rattle.octets.specs.Choice.{◌then◌otherwise◌};
 ghost use Rattle.octets.specs.Index.{◌and◌};
 ghost use Rattle.rules.specs.Answers.{in_set};
-ghost use Rattle.surveying.specs.Counts.{is_accepted, sent_by, leaving_by, verdict_test, test_of, test_order, test_count};
+ghost use Rattle.surveying.specs.Counts.{is_accepted, sent_by, leaving_by, test_of, test_order, test_count};
 ghost use Rattle.surveying.specs.Promise.{counter_count, counted_at, add_one};
 
 use numbers::PORT_COUNT;
@@ -31,79 +31,47 @@ pub const TEST_ORDER: [u8; TEST_COUNT] = [1, 2, 3, 4, 5, 6, 7, 8, 9, 10, 11, 15,
 fn in_set(ports: u16, port: usize) -> bool
     ensures { result ≡ in_set ports port }
 {
-    let mut rest = ports;
-    let mut i = 0;
-    while i < port {
-        rest = rest / 2;
-        i += 1;
-    }
-    rest % 2 == 1
+    port < PORT_COUNT && ports >> port & 1 == 1
 }
 
 // The bytes of what leaves by a port.
+#[tactic(auto, unfolding(crate::specs::Counts::sent_by))]
 fn sent_by(port: usize, verdict: Verdict) -> u64
     ensures { result ≡ sent_by port verdict }
 {
     match verdict {
-        Verdict::Drop(_) => 0,
-        Verdict::Deliver => 0,
-        Verdict::Forward { port: by, length } => {
-            if by as usize == port {
-                return length as u64;
-            }
-            0
-        }
-        Verdict::Spread { ports, length } => {
-            if in_set(ports, port) {
-                return length as u64;
-            }
-            0
-        }
-        Verdict::Kept => 0,
+        Verdict::Forward { port: by, length } if usize::from(by) == port => length as u64,
+        Verdict::Spread { ports, length } if in_set(ports, port) => length as u64,
+        _ => 0,
     }
 }
 
+#[tactic(auto, unfolding(crate::specs::Counts::leaving_by))]
 fn leaving_by(port: usize, answer: Answer) -> u64
     ensures { result ≡ leaving_by port answer }
 {
     match answer {
-        Answer::Refused(_) => 0,
         Answer::Judged(verdict) => sent_by(port, verdict),
+        Answer::Refused(_) => 0,
     }
 }
 
 // The test that dropped the packet, 0 where it wasn't dropped.
-fn verdict_test(verdict: Verdict) -> u8
-    ensures { result ≡ verdict_test verdict }
-{
-    match verdict {
-        Verdict::Drop(reason) => relay::reason_number(reason),
-        Verdict::Deliver => 0,
-        Verdict::Forward { port: _, length: _ } => 0,
-        Verdict::Spread {
-            ports: _,
-            length: _,
-        } => 0,
-        Verdict::Kept => 0,
-    }
-}
-
+#[tactic(auto, unfolding(crate::specs::Counts::test_of, crate::specs::Counts::verdict_test))]
 fn test_of(answer: Answer) -> u8
     ensures { result ≡ test_of answer }
 {
     match answer {
-        Answer::Refused(_) => 0,
-        Answer::Judged(verdict) => verdict_test(verdict),
+        Answer::Judged(Verdict::Drop(reason)) => relay::reason_number(reason),
+        _ => 0,
     }
 }
 
+#[tactic(auto, unfolding(crate::specs::Counts::is_accepted))]
 fn is_accepted(answer: Answer) -> bool
     ensures { result ≡ is_accepted answer }
 {
-    match answer {
-        Answer::Refused(_) => false,
-        Answer::Judged(_) => true,
-    }
+    matches!(answer, Answer::Judged(_))
 }
 
 // ---- what an entry adds, that came by a port and was so answered
@@ -111,10 +79,7 @@ fn is_accepted(answer: Answer) -> bool
 fn accepted_on(port: usize, came: u8, answer: Answer) -> bool
     ensures { result ≡ (is_accepted answer and nat_eq came port) }
 {
-    if is_accepted(answer) {
-        return came as usize == port;
-    }
-    false
+    is_accepted(answer) && usize::from(came) == port
 }
 
 // An amount, if the packet was accepted on the port.
@@ -122,9 +87,10 @@ fn amount_on(port: usize, came: u8, answer: Answer, amount: u64) -> u64
     ensures { result ≡ (is_accepted answer and nat_eq came port then amount otherwise 0) }
 {
     if accepted_on(port, came, answer) {
-        return amount;
+        amount
+    } else {
+        0
     }
-    0
 }
 
 fn dropped_on(port: usize, came: u8, answer: Answer) -> u64
@@ -140,10 +106,7 @@ fn dropped_by(place: usize, answer: Answer) -> u64
     requires { place < test_count }
     ensures { result ≡ (test_of answer == slice_index test_order place then 1 otherwise 0) }
 {
-    if test_of(answer) == TEST_ORDER[place] {
-        return 1;
-    }
-    0
+    u64::from(test_of(answer) == TEST_ORDER[place])
 }
 
 // ---- the counters
@@ -168,21 +131,12 @@ fn counted_at(counter: usize, came: u8, size: usize, answer: Answer) -> u64
     dropped_by(counter - TESTS_AT, answer)
 }
 
-// The counters with the entry added to each, modulo 2^64. A survey's counters never reach that.
-pub fn add_one(
-    counts: [u64; COUNTER_COUNT],
-    came: u8,
-    size: usize,
-    answer: Answer,
-) -> [u64; COUNTER_COUNT]
-    ensures { result ≡ add_one counts (record { port = came; size = size; answer = answer }) }
+// The entry added to each counter, modulo 2^64. A survey's counters never reach that.
+pub fn add_one(counts: &mut [u64; COUNTER_COUNT], came: u8, size: usize, answer: Answer)
+    ensures { counts.new ≡ add_one counts.old (record { port = came; size = size; answer = answer }) }
 {
-    let mut grown = counts;
-    let mut counter = 0;
-    while counter < COUNTER_COUNT {
+    for counter in 0..COUNTER_COUNT {
         let amount = counted_at(counter, came, size, answer);
-        grown[counter] = std::num::wrapping_add_u64(grown[counter], amount);
-        counter += 1;
+        counts[counter] = counts[counter].wrapping_add(amount);
     }
-    grown
 }

@@ -35,7 +35,7 @@ pub fn settings_refused(refusal: u8) -> Text
     ensures { result ≡ text_of (settings_line refusal) }
 {
     let start = with_word(with_text(text::empty(), b"settings"), b"refused");
-    with_character(with_number(start, octets::wide(refusal)), b'\n')
+    with_character(with_number(start, u64::from(refusal)), b'\n')
 }
 
 // The line of a recording that is refused.
@@ -43,7 +43,7 @@ fn recording_refused(number: u64, refusal: u8) -> Text
     ensures { result ≡ text_of (recording_line number refusal) }
 {
     let counted = with_number(with_text(text::empty(), b"recording"), number);
-    let refused = with_number(with_word(counted, b"refused"), octets::wide(refusal));
+    let refused = with_number(with_word(counted, b"refused"), u64::from(refusal));
     with_character(refused, b'\n')
 }
 
@@ -82,6 +82,7 @@ fn port_line(port: u64, packets: u64, received: u64, sent: u64, dropped: u64) ->
     with_character(with_fraction(left, share(dropped, packets)), b'\n')
 }
 
+#[tactic(auto, unfolding(crate::specs::Promise::port_at))]
 fn port_at(counts: &[u64; COUNTER_COUNT], port: usize) -> Text
     requires { port < port_count }
     ensures { result ≡ text_of (port_at counts.now port) }
@@ -103,11 +104,12 @@ fn reason_line(test: u64, drops: u64) -> Text
     with_character(with_number(named, drops), b'\n')
 }
 
+#[tactic(auto, unfolding(crate::specs::Promise::test_at))]
 fn test_at(counts: &[u64; COUNTER_COUNT], place: usize) -> Text
     requires { place < test_count }
     ensures { result ≡ text_of (test_at counts.now place) }
 {
-    reason_line(octets::wide(TEST_ORDER[place]), counts[TESTS_AT + place])
+    reason_line(u64::from(TEST_ORDER[place]), counts[TESTS_AT + place])
 }
 
 // The line at a place: without characters where a recording wasn't refused, and past the last.

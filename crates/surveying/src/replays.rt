@@ -14,38 +14,31 @@ use numbers::refusals::SURVEY_FULL;
 use replaying::new_tally;
 use tables::places::TABLE_SIZE;
 
-// Makes the calls of a recording's entries, with a new tally, and gives the counters with what they answer.
-fn replay(file: &[u8], work: &mut [u8], counts: [u64; COUNTER_COUNT]) -> [u64; COUNTER_COUNT]
-    ensures { (result ≡ add_all counts (answered (entries_of file.now)
+// Makes the calls of a recording's entries, with a new tally, and counts what they answer.
+fn replay(file: &[u8], work: &mut [u8], counts: &mut [u64; COUNTER_COUNT])
+    ensures { (counts.new ≡ add_all counts.old (answered (entries_of file.now)
         (steps_on file.now (count_of file.now) work.old new_tally).answers))
         × (work.new
         ≡ (steps_on file.now (count_of file.now) work.old new_tally).tables) }
 {
-    let n = recording::count(file);
-    let mut grown = counts;
     let mut tally = new_tally();
-    let mut i = 0;
-    while i < n {
-        let fields = recording::entry(file, i);
+    for i in 0..recording::count(file) {
+        let port = recording::entry(file, i).port;
         let size = recording::body(file, i).len();
         let stepped = replaying::step(file, i, work, tally);
-        let answer = stepped.answer;
-        let after = stepped.tally;
-        let more = add_one(grown, fields.port, size, answer);
-        grown = more;
-        tally = after;
-        i += 1;
+        add_one(counts, port, size, stepped.answer);
+        tally = stepped.tally;
     }
-    grown
 }
 
 // Notes the refusal of the next recording, or 0, and that it was read.
+#[tactic(auto, unfolding(crate::specs::Promise::noted))]
 fn note(refusals: &mut [u8; REFUSAL_COUNT], refusal: u8)
     requires { slice_index refusals.old 0 < recording_limit }
     ensures { refusals.new ≡ noted refusals.old refusal }
 {
     let number = refusals[0] + 1;
-    refusals[number as usize] = refusal;
+    refusals[usize::from(number)] = refusal;
     refusals[0] = number;
 }
 
@@ -62,8 +55,7 @@ pub fn add_recording(
         refusals.old)
         result start.now work.new counts.new refusals.new }
 {
-    let read = refusals[0];
-    if read >= RECORDING_LIMIT as u8 {
+    if usize::from(refusals[0]) >= RECORDING_LIMIT {
         refusals[RECORDING_LIMIT + 1] = SURVEY_FULL;
         return SURVEY_FULL;
     }
@@ -72,9 +64,7 @@ pub fn add_recording(
     if refusal != 0 {
         return refusal;
     }
-    octets::copy(work, start);
-    let held = *counts;
-    let grown = replay(file, work, held);
-    *counts = grown;
+    *work = *start;
+    replay(file, work, counts);
     0
 }

@@ -24,6 +24,7 @@ const SIZE_AT: usize = 2;
 const SIZE_WIDTH: usize = 2;
 
 // The size among a port's settings as they are told.
+#[tactic(auto, unfolding(crate::specs::Steps::size_told))]
 fn size_in(told: [u8; 4]) -> u64
     ensures { result ≡ size_told told }
 {
@@ -38,8 +39,13 @@ fn set_port_as(from: &[u8], to: &mut [u8], port: usize)
 {
     let mut told = [0u8; 4];
     status::port_settings(from, port as u64, &mut told);
-    let size = size_in(told);
-    settings::set_port(to, port as u64, told[0] == 1, octets::wide(told[1]), size);
+    settings::set_port(
+        to,
+        port as u64,
+        told[0] == 1,
+        u64::from(told[1]),
+        size_in(told),
+    );
 }
 
 fn set_ports_as(from: &[u8], to: &mut [u8])
@@ -47,14 +53,13 @@ fn set_ports_as(from: &[u8], to: &mut [u8])
     ensures { to.new
         ≡ tables_after (list_of (port_call (relay_of from.now)) port_count) to.old }
 {
-    let mut port = 0;
-    while port < PORT_COUNT {
+    for port in 0..PORT_COUNT {
         set_port_as(from, to, port);
-        port += 1;
     }
 }
 
 // The announce rate's settings as they are told: four bytes a number.
+#[tactic(auto, unfolding(crate::specs::Steps::rate_told))]
 fn rate_in(told: [u8; 12]) -> RateSettings
     ensures { result ≡ rate_told told }
 {
@@ -93,10 +98,8 @@ fn add_locals_of(from: &[u8], to: &mut [u8])
     ensures { to.new
         ≡ tables_after (local_calls (relay_of from.now).locals) to.old }
 {
-    let mut place = 0;
-    while place < LOCAL_COUNT {
+    for place in 0..LOCAL_COUNT {
         add_local_of(from, to, place);
-        place += 1;
     }
 }
 
@@ -124,8 +127,7 @@ pub fn begin(
         refusals.old)
         result start.new work.new counts.new refusals.new }
 {
-    let loaded = saved::load(file, work, new_tally());
-    let refusal = loaded.refusal;
+    let refusal = saved::load(file, work, new_tally()).refusal;
     if refusal != 0 {
         return refusal;
     }

@@ -1,16 +1,12 @@
-use Rattle.std.proofs.Common.{◌≡◌, ℕ, ◌-◌, ◌≤◌, length}
+use Rattle.std.proofs.Common.{◌≡◌, ℕ}
 use Rattle.octets.proofs.ListOf.{mixed}
 use Rattle.rules.specs.declared.Answer.{Answer}
 use Rattle.surveying.specs.Counts.{Answered}
-use Rattle.surveying.specs.Promise.{counter_count, add_one}
+use Rattle.surveying.specs.Promise.{add_one}
 use Rattle.surveying.proofs.counting.add_one.Given as goal
 
 abbrev pub entry : ℕ → ℕ → Answer → Answered
 entry came size answer = record { port = came; size = size; answer = answer }
 
 abbrev pub invariant-loop-counter : goal.invariant-loop-counter
-invariant-loop-counter l =
-    (l.counter ≤ counter_count) × (length l.grown ≡ length l.initial.grown) × (l.grown ≡ mixed l.counter (add_one l.initial.grown (entry l.came l.size l.answer)) l.initial.grown)
-
-abbrev pub decreases-loop-counter : goal.decreases-loop-counter
-decreases-loop-counter l = counter_count - l.counter
+invariant-loop-counter l = l.counts ≡ mixed l.counter (add_one l.initial.counts (entry l.came l.size l.answer)) l.initial.counts

@@ -6,6 +6,6 @@ pub returns-then-accepted_on : goal.returns-then-accepted_on
 unfolding ◌then◌otherwise◌
 returns-then-accepted_on c = rw (sym c.accepted_on.ensures ∙ c.if-accepted_on.true)
 
-pub returns : goal.returns
+pub returns-else-accepted_on : goal.returns-else-accepted_on
 unfolding ◌then◌otherwise◌
-returns c = rw (sym c.accepted_on.ensures ∙ c.if-accepted_on.false)
+returns-else-accepted_on c = rw (sym c.accepted_on.ensures ∙ c.if-accepted_on.false)

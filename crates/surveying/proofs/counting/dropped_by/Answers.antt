@@ -1,16 +1,14 @@
-use Rattle.std.proofs.Common.{get_or, sym, ◌∙◌, eq-eqb, ne_eqb}
+use Rattle.std.proofs.Common.{◌≡◌, ℕ, Bool, true, false, eqb, get_or, refl, ap, ◌∙◌}
+use mir.Val.{bool_byte}
 use Rattle.octets.specs.Choice.{◌then◌otherwise◌}
-use Rattle.surveying.specs.Counts.{test_of, test_order}
+use Rattle.surveying.specs.Counts.{test_order}
 use Rattle.surveying.proofs.counting.dropped_by.Goals as goal
 
-pub returns-then-test_of-place : goal.returns-then-test_of-place
+one_or_none : (b : Bool) → bool_byte b ≡ (b then 1 otherwise 0)
 unfolding ◌then◌otherwise◌
-returns-then-test_of-place c =
-    let a = c.args in
-    rw (eq-eqb (test_of a.answer) (get_or test_order a.place 0) (sym c.test_of.ensures ∙ c.if-test_of-place.true))
+one_or_none true = refl
+one_or_none false = refl
 
 pub returns : goal.returns
-unfolding ◌then◌otherwise◌
 returns c =
-    let a = c.args in
-    rw (ne_eqb (test_of a.answer) (get_or test_order a.place 0) (λ q. c.if-test_of-place.false (c.test_of.ensures ∙ q)))
+    c.from.ensures ∙ one_or_none _ ∙ ap (λ (n : ℕ). eqb n (get_or test_order c.args.place 0) then 1 otherwise 0) c.test_of.ensures

@@ -3,30 +3,18 @@ use Rattle.octets.specs.Choice.{◌then◌otherwise◌}
 use Rattle.surveying.specs.Counts.{sent_by}
 use Rattle.surveying.proofs.counting.sent_by.Goals as goal
 
-pub returns-then-by-port : goal.returns-then-by-port
+pub returns-in-Forward : goal.returns-in-Forward
 unfolding sent_by ◌then◌otherwise◌
-returns-then-by-port c = rw (c.in-Forward.is, eq-eqb _ _ c.if-by-port.true)
+returns-in-Forward c = rw (c.in-Forward.is, eq-eqb _ _ (sym c.from.ensures ∙ c.if-from-port.true))
 
-pub returns-then-in_set : goal.returns-then-in_set
+pub returns-in-Spread : goal.returns-in-Spread
 unfolding sent_by ◌then◌otherwise◌
-returns-then-in_set c = rw (c.in-Spread.is, sym c.in_set.ensures ∙ c.if-in_set.true)
+returns-in-Spread c = rw (c.in-Spread.is, sym c.in_set.ensures ∙ c.if-in_set.true)
 
-pub returns-in-Drop : goal.returns-in-Drop
-unfolding sent_by
-returns-in-Drop c = rw c.in-Drop.is
-
-pub returns-in-Deliver : goal.returns-in-Deliver
-unfolding sent_by
-returns-in-Deliver c = rw c.in-Deliver.is
-
-pub returns-else-by-port : goal.returns-else-by-port
+pub returns-in_default : goal.returns-in_default
 unfolding sent_by ◌then◌otherwise◌
-returns-else-by-port c = rw (c.in-Forward.is, ne_eqb _ _ c.if-by-port.false)
+returns-in_default c = rw (c.in-Forward.is, ne_eqb _ _ (λ q. c.if-from-port.false (c.from.ensures ∙ q)))
 
-pub returns-else-in_set : goal.returns-else-in_set
+pub returns-in_default-2 : goal.returns-in_default-2
 unfolding sent_by ◌then◌otherwise◌
-returns-else-in_set c = rw (c.in-Spread.is, sym c.in_set.ensures ∙ c.if-in_set.false)
-
-pub returns-in-Kept : goal.returns-in-Kept
-unfolding sent_by
-returns-in-Kept c = rw c.in-Kept.is
+returns-in_default-2 c = rw (c.in-Spread.is, sym c.in_set.ensures ∙ c.if-in_set.false)

@@ -12,7 +12,7 @@ returns c =
     rw (
       c.with_character.ensures,
       c.with_number-refused.ensures,
-      c.wide.ensures,
+      c.from.ensures,
       c.with_word.ensures,
       c.with_number-counted.ensures,
       c.with_text.ensures,

@@ -1,17 +1,14 @@
-use Rattle.std.proofs.Common.{◌≡◌, ℕ, List, sym, ap, ◌∙◌, arith}
-use Rattle.rules.specs.Calls.{new_tally}
+use Rattle.std.proofs.Common.{◌≡◌, sym, ap, ◌∙◌, arith}
 use Rattle.recording.specs.Shape.{count_of}
-use Rattle.recording.specs.Reader.{file_refusal, entries_of}
-use Rattle.replaying.specs.Promise.{steps_on}
-use Rattle.surveying.specs.Counts.{answered}
-use Rattle.surveying.specs.Promise.{add_all, noted, SurveyOn}
+use Rattle.recording.specs.Reader.{file_refusal}
+use Rattle.surveying.specs.Promise.{noted, SurveyOn}
 use Rattle.surveying.proofs.ReplayLaws.{too_many, is_read, read_refused, read_taken}
 use Rattle.surveying.proofs.replays.add_recording.Goals as goal
 
-pub returns-then-read : goal.returns-then-read
-returns-then-read c =
+pub returns-then-from-ge-RECORDING_LIMIT : goal.returns-then-from-ge-RECORDING_LIMIT
+returns-then-from-ge-RECORDING_LIMIT c =
     let a = c.args in
-    let is = too_many a.file.now a.start.now a.work.now a.counts.now a.refusals.now c.if-read.true in (
+    let is = too_many a.file.now a.start.now a.work.now a.counts.now a.refusals.now (omega (arith, c.from.ensures, c.if-from-ge-RECORDING_LIMIT.true)) in (
       sym (ap (λ (s : SurveyOn). s.refusal) is),
       sym (ap (λ (s : SurveyOn). s.start) is),
       sym (ap (λ (s : SurveyOn). s.work) is),
@@ -20,7 +17,7 @@ returns-then-read c =
     )
 
 pub note-requires : goal.note-requires
-note-requires c = omega (arith, c.if-read.false)
+note-requires c = omega (arith, c.from.ensures, c.if-from-ge-RECORDING_LIMIT.false)
 
 pub returns-then-refusal-ne0 : goal.returns-then-refusal-ne0
 returns-then-refusal-ne0 c =
@@ -28,7 +25,7 @@ returns-then-refusal-ne0 c =
     let f = a.file.now in
     let some : file_refusal f ≡ 0 → ⊥ = λ q. c.if-refusal-ne0.true (c.check-refusal.ensures ∙ q) in
     let is =
-    is_read f a.start.now a.work.now a.counts.now a.refusals.now (omega (arith, c.if-read.false))
+    is_read f a.start.now a.work.now a.counts.now a.refusals.now (omega (arith, c.from.ensures, c.if-from-ge-RECORDING_LIMIT.false))
     ∙ read_refused f a.start.now a.work.now a.counts.now a.refusals.now some in (
       c.check-refusal.ensures ∙ sym (ap (λ (s : SurveyOn). s.refusal) is),
       sym (ap (λ (s : SurveyOn). s.start) is),
@@ -44,15 +41,13 @@ returns c =
     let n = count_of f in
     let none : file_refusal f ≡ 0 = sym c.check-refusal.ensures ∙ c.if-refusal-ne0.false in
     let is =
-    is_read f a.start.now a.work.now a.counts.now a.refusals.now (omega (arith, c.if-read.false))
+    is_read f a.start.now a.work.now a.counts.now a.refusals.now (omega (arith, c.from.ensures, c.if-from-ge-RECORDING_LIMIT.false))
     ∙ read_taken f a.start.now a.work.now a.counts.now a.refusals.now none in (
       sym none ∙ sym (ap (λ (s : SurveyOn). s.refusal) is),
       sym (ap (λ (s : SurveyOn). s.start) is),
-      c.replay-grown.ensures.1
-          ∙ ap (λ (t : List ℕ). (steps_on f n t new_tally).tables) c.copy.ensures
+      c.replay.ensures.1
           ∙ sym (ap (λ (s : SurveyOn). s.work) is),
-      c.replay-grown.ensures.0
-          ∙ ap (λ (t : List ℕ). add_all a.counts.now (answered (entries_of f) (steps_on f n t new_tally).answers)) c.copy.ensures
+      c.replay.ensures.0
           ∙ sym (ap (λ (s : SurveyOn). s.counts) is),
       c.note.ensures ∙ ap (noted a.refusals.now) c.check-refusal.ensures ∙ sym (ap (λ (s : SurveyOn). s.refusals) is),
     )

@@ -1,4 +1,4 @@
-use Rattle.std.proofs.Common.{◌≡◌, ℕ, List, sym, refl, ap, ◌∙◌, le_antisymm, arith, rules}
+use Rattle.std.proofs.Common.{◌≡◌, ℕ, List, sym, refl, ap, ◌∙◌, le_antisymm, arith}
 use Rattle.rules.specs.declared.Tally.{Tally}
 use Rattle.recording.specs.Shape.{count_of}
 use Rattle.recording.specs.Reader.{entries_of}
@@ -12,7 +12,7 @@ pub loop-i-init : goal.loop-i-init
 unfolding steps_on add_all
 loop-i-init c =
     let a = c.args in
-    (search rules, refl, refl, refl, sym (ap (add_all a.counts) (no_answers a.file.now a.work.now c.new_tally-tally.result)))
+    (refl, refl, sym (ap (add_all a.counts.now) (no_answers a.file.now a.work.now c.new_tally-tally.result)))
 
 pub loop-i-preserved : goal.loop-i-preserved
 loop-i-preserved c =
@@ -21,15 +21,13 @@ loop-i-preserved c =
     let w = a.work.now in
     let y = c.new_tally-tally.result in
     let l = c.loop-i in
-    let fields = c.entry-fields.ensures in
+    let fields = c.entry-port.ensures in
     let body = c.body-size.ensures in
     let step = c.step-stepped.ensures in (
-      search rules,
-      search rules,
-      next_tables f w y l.i l.work l.tally l.invariant.2 l.invariant.3 _ step.1,
-      next_tally f w y l.i l.work l.tally l.invariant.2 l.invariant.3 _ (ap (λ (x : Stepped). x.tally) step.0),
-      next_counts f w y l.i l.work l.tally l.invariant.2 l.invariant.3 a.counts l.grown _ l.invariant.4 _ fields _ body _
-          (ap (λ (x : Stepped). x.answer) step.0) c.add_one-more.ensures,
+      next_tables f w y l.i l.work l.tally l.invariant.0 l.invariant.1 _ step.1,
+      next_tally f w y l.i l.work l.tally l.invariant.0 l.invariant.1 _ (ap (λ (x : Stepped). x.tally) step.0),
+      next_counts f w y l.i l.work l.tally l.invariant.0 l.invariant.1 a.counts.now l.counts _ l.invariant.2 _ fields _ body _
+          (ap (λ (x : Stepped). x.answer) step.0) c.add_one.ensures,
     )
 
 pub returns : goal.returns
@@ -41,9 +39,9 @@ returns c =
     let y : Tally = c.new_tally-tally.result in
     let l = c.loop-i in
     let end : l.i ≡ count_of f =
-    le_antisymm (omega (arith, c.count-n.ensures, l.invariant.0)) (omega (arith, c.count-n.ensures, c.loop-i-test.false)) in (
-      l.invariant.4
-          ∙ ap (λ (n : ℕ). add_all a.counts (answers_up_to f w y n)) end
-          ∙ ap (λ (z : Tally). add_all a.counts (answers_up_to f w z (count_of f))) c.new_tally-tally.ensures,
-      l.invariant.2 ∙ ap (λ (n : ℕ). (steps_on f n w y).tables) end ∙ ap (λ (z : Tally). (steps_on f (count_of f) w z).tables) c.new_tally-tally.ensures,
+    le_antisymm (omega (arith, c.count-i-end.ensures, l.auto.i-end)) (omega (arith, c.count-i-end.ensures, c.loop-i-test.false)) in (
+      l.invariant.2
+          ∙ ap (λ (n : ℕ). add_all a.counts.now (answers_up_to f w y n)) end
+          ∙ ap (λ (z : Tally). add_all a.counts.now (answers_up_to f w z (count_of f))) c.new_tally-tally.ensures,
+      l.invariant.0 ∙ ap (λ (n : ℕ). (steps_on f n w y).tables) end ∙ ap (λ (z : Tally). (steps_on f (count_of f) w z).tables) c.new_tally-tally.ensures,
     )

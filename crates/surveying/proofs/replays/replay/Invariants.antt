@@ -1,4 +1,4 @@
-use Rattle.std.proofs.Common.{◌≡◌, ◌-◌, ◌≤◌, length}
+use Rattle.std.proofs.Common.{◌≡◌}
 use Rattle.replaying.specs.Promise.{steps_on}
 use Rattle.surveying.specs.Promise.{add_all}
 use Rattle.surveying.proofs.ReplayLaws.{answers_up_to}
@@ -6,11 +6,6 @@ use Rattle.surveying.proofs.replays.replay.Given as goal
 
 abbrev pub invariant-loop-i : goal.invariant-loop-i
 invariant-loop-i l =
-    (l.i ≤ l.n)
-    × (length l.work ≡ length l.initial.work)
-    × (l.work ≡ (steps_on l.file l.i l.initial.work l.initial.tally).tables)
+    (l.work ≡ (steps_on l.file l.i l.initial.work l.initial.tally).tables)
     × (l.tally ≡ (steps_on l.file l.i l.initial.work l.initial.tally).tally)
-    × (l.grown ≡ add_all l.initial.grown (answers_up_to l.file l.initial.work l.initial.tally l.i))
-
-abbrev pub decreases-loop-i : goal.decreases-loop-i
-decreases-loop-i l = l.n - l.i
+    × (l.counts ≡ add_all l.initial.counts (answers_up_to l.file l.initial.work l.initial.tally l.i))

@@ -15,14 +15,14 @@ returns-then-refusal-ne0 c =
     let work = a.work.now in
     let tally = c.new_tally.result in
     let wide : length work ≡ table_size = search rules in
-    let number : c.load-loaded.result.refusal ≡ load_refusal f table_size =
-    c.load-loaded.ensures.0 ∙ load_number f work tally ∙ ap (load_refusal f) wide in
+    let number : c.load-refusal.result.refusal ≡ load_refusal f table_size =
+    c.load-refusal.ensures.0 ∙ load_number f work tally ∙ ap (load_refusal f) wide in
     let some : load_refusal f table_size ≡ 0 → ⊥ = λ q. c.if-refusal-ne0.true (number ∙ q) in
     let same = load_refused f work tally (λ q. some (sym (ap (load_refusal f) wide) ∙ q)) in
     let is = not_begun f a.start.now work a.counts.now a.refusals.now some in (
       number ∙ sym (ap (λ (s : SurveyOn). s.refusal) is),
       sym (ap (λ (s : SurveyOn). s.start) is),
-      c.load-loaded.ensures.1 ∙ ap (λ (x : LoadedOn). x.tables) same ∙ sym (ap (λ (s : SurveyOn). s.work) is),
+      c.load-refusal.ensures.1 ∙ ap (λ (x : LoadedOn). x.tables) same ∙ sym (ap (λ (s : SurveyOn). s.work) is),
       sym (ap (λ (s : SurveyOn). s.counts) is),
       sym (ap (λ (s : SurveyOn). s.refusals) is),
     )
@@ -34,11 +34,11 @@ set_as-requires c =
     let work = a.work.now in
     let tally = c.new_tally.result in
     let wide : length work ≡ table_size = search rules in
-    let number : c.load-loaded.result.refusal ≡ load_refusal f table_size = c.load-loaded.ensures.0 ∙ load_number f work tally
+    let number : c.load-refusal.result.refusal ≡ load_refusal f table_size = c.load-refusal.ensures.0 ∙ load_number f work tally
     ∙ ap (load_refusal f) wide in
     let none : load_refusal f table_size ≡ 0 = sym number ∙ c.if-refusal-ne0.false in
     let done = load_done f work tally (ap (load_refusal f) wide ∙ none) in
-    ap well_formed (c.load-loaded.ensures.1 ∙ ap (λ (x : LoadedOn). x.tables) done)
+    ap well_formed (c.load-refusal.ensures.1 ∙ ap (λ (x : LoadedOn). x.tables) done)
     ∙ held_formed f (known_bytes f c.type_inv.file) none
 
 pub returns : goal.returns
@@ -50,11 +50,11 @@ returns c =
     let wide : length work ≡ table_size = search rules in
     let long : length start ≡ table_size = search rules in
     let tally = c.new_tally.result in
-    let number : c.load-loaded.result.refusal ≡ load_refusal f table_size = c.load-loaded.ensures.0 ∙ load_number f work tally
+    let number : c.load-refusal.result.refusal ≡ load_refusal f table_size = c.load-refusal.ensures.0 ∙ load_number f work tally
     ∙ ap (load_refusal f) wide in
     let none : load_refusal f table_size ≡ 0 = sym number ∙ c.if-refusal-ne0.false in
     let done = load_done f work tally (ap (load_refusal f) wide ∙ none) in
-    let loaded = c.load-loaded.ensures.1 ∙ ap (λ (x : LoadedOn). x.tables) done in
+    let loaded = c.load-refusal.ensures.1 ∙ ap (λ (x : LoadedOn). x.tables) done in
     let is = begun f start work a.counts.now a.refusals.now none in
     let b = known_bytes f c.type_inv.file in (
       sym (ap (λ (s : SurveyOn). s.refusal) is),

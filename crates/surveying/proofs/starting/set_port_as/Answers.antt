@@ -7,6 +7,6 @@ use Rattle.surveying.proofs.starting.set_port_as.Goals as goal
 pub returns : goal.returns
 returns c =
     let a = c.args in
-    (rw (c.wide.ensures, c.size_in-size.ensures) at c.set_port.ensures.1)
+    (rw (c.from.ensures, c.size_in.ensures) at c.set_port.ensures.1)
     ∙ ap (λ (k : TableCall). (call_on a.to.now k).tables)
     (port_told_as a.from.now c.requires.0 a.port c.requires.1 _ _ c.port_settings.ensures.1)
