@@ -62,75 +62,29 @@ byte_over : {A : Type 0} (f : Form A) (s : Inside f byte) (x : A) (p : ℕ) → 
 byte_over f s x p h =
     patch_skip (1 ∷ []) ((code f).write x) 1 refl s.place.offset (p ∷ []) ∙ ap (λ (r : List ℕ). 1 ∷ r) (s.place.patched x p h)
 
-module _ (b m : List ℕ) (bs : Bytes b) (mark : get_or b 0 0 ≡ 0 → ⊥) where
-  -- ---- a path
-  pub path_port_small : path_bytes_ok b ≡ true → get_or b path_port_at 0 < port_count
+-- by the image of a port, in bytes that hold x
+image_put : {A : Type 0} (f : Form A) (s : Inside f byte) (m b : List ℕ) (x : A) → b ≡ 1 ∷ (code f).write x → s.place.Has x → (n : ℕ) → n < port_count
+    → patch b (1 + s.place.offset) (get_or m n 0 ∷ []) ≡ 1 ∷ (code f).write (s.place.put (image m n) x)
+image_put f s m b x there has n small =
+    ap₂ (λ (t : List ℕ) (p : ℕ). patch t (1 + s.place.offset) (p ∷ [])) there (sym (image_port m n small)) ∙ byte_over f s x (image m n) has
+
+-- the ports of a used record
+module _ (b : List ℕ) (mark : get_or b 0 0 ≡ 0 → ⊥) where
+  path_port_small : path_bytes_ok b ≡ true → get_or b path_port_at 0 < port_count
   unfolding path_ok path_of
   path_port_small h = ltb-true _ port_count (and_left _ _ (path_kept b (ne_eqb (get_or b 0 0) 0 mark) h))
 
-  pub path_renamed : path_bytes_ok b ≡ true → length b ≡ path_width → (b' : List ℕ) → b' ≡ patch b path_port_at (get_or m (get_or b path_port_at 0) 0 ∷ [])
-      → b' ≡ slot_bytes path_width path_bytes (rename_slot (rename_path m) (slot_of path_of b))
-  unfolding rename_path path_bytes path_of
-  path_renamed h l b' e =
-      used_renamed path_width path_bytes path_of path_lent (rename_path m) b bs l h mark b'
-      (e
-      ∙ ap₂ (λ (x : List ℕ) (p : ℕ). patch x path_port_at (p ∷ []))
-      (sym (used_bytes path_width path_bytes path_of path_lent (rename_path m) b bs l h mark))
-      (sym (image_port m (get_or b path_port_at 0) (path_port_small h)))
-      ∙ byte_over path_form (named path_form "port").inside (path_of b) (image m (path_of b).port) tt)
-
-  -- ---- a link
-  pub link_ports_small : link_bytes_ok b ≡ true → (get_or b link_asking_at 0 < port_count) × (get_or b link_answering_at 0 < port_count)
+  link_ports_small : link_bytes_ok b ≡ true → (get_or b link_asking_at 0 < port_count) × (get_or b link_answering_at 0 < port_count)
   unfolding link_ok link_of
   link_ports_small h =
       let k = link_kept b (ne_eqb (get_or b 0 0) 0 mark) h in
       (ltb-true _ port_count (and_left _ _ k), ltb-true _ port_count (and_left _ _ (and_right _ _ k)))
 
-  pub link_renamed : link_bytes_ok b ≡ true → length b ≡ link_width → (b1 b' : List ℕ)
-      → b1 ≡ patch b link_asking_at (get_or m (get_or b link_asking_at 0) 0 ∷ []) → b' ≡ patch b1 link_answering_at (get_or m (get_or b link_answering_at 0) 0 ∷ [])
-      → b' ≡ slot_bytes link_width link_bytes (rename_slot (rename_link m) (slot_of link_of b))
-  unfolding rename_link link_bytes link_of
-  link_renamed h l b1 b' e1 e2 =
-      let asking-in : Inside link_form byte = (named link_form "asking").inside in
-      let p : ℕ = image m (link_of b).asking in
-      let first_done : b1 ≡ 1 ∷ link_bytes (asking-in.place.put p (link_of b)) =
-      e1
-      ∙ ap₂ (λ (x : List ℕ) (q : ℕ). patch x link_asking_at (q ∷ []))
-      (sym (used_bytes link_width link_bytes link_of link_lent (rename_link m) b bs l h mark))
-      (sym (image_port m (get_or b link_asking_at 0) (link_ports_small h).0))
-      ∙ byte_over link_form asking-in (link_of b) p tt in
-      used_renamed link_width link_bytes link_of link_lent (rename_link m) b bs l h mark b'
-      (e2
-      ∙ ap₂ (λ (x : List ℕ) (q : ℕ). patch x link_answering_at (q ∷ [])) first_done
-      (sym (image_port m (get_or b link_answering_at 0) (link_ports_small h).1))
-      ∙ byte_over link_form (named link_form "answering").inside (asking-in.place.put p (link_of b)) (image m (link_of b).answering) tt)
-
-  -- ---- a return
-  pub return_ports_small : return_bytes_ok b ≡ true → (get_or b return_arrival_at 0 < port_count) × (get_or b return_leaving_at 0 < port_count)
+  return_ports_small : return_bytes_ok b ≡ true → (get_or b return_arrival_at 0 < port_count) × (get_or b return_leaving_at 0 < port_count)
   unfolding return_ok return_of
   return_ports_small h =
       let k = return_kept b (ne_eqb (get_or b 0 0) 0 mark) h in
       (ltb-true _ port_count (and_left _ _ k), ltb-true _ port_count (and_left _ _ (and_right _ _ k)))
-
-  pub return_renamed : return_bytes_ok b ≡ true → length b ≡ return_width → (b1 b' : List ℕ)
-      → b1 ≡ patch b return_arrival_at (get_or m (get_or b return_arrival_at 0) 0 ∷ [])
-      → b' ≡ patch b1 return_leaving_at (get_or m (get_or b return_leaving_at 0) 0 ∷ [])
-      → b' ≡ slot_bytes return_width return_bytes (rename_slot (rename_return m) (slot_of return_of b))
-  unfolding rename_return return_bytes return_of
-  return_renamed h l b1 b' e1 e2 =
-      let arrival-in : Inside return_form byte = (named return_form "arrival").inside in
-      let p : ℕ = image m (return_of b).arrival in
-      let first_done : b1 ≡ 1 ∷ return_bytes (arrival-in.place.put p (return_of b)) =
-      e1
-      ∙ ap₂ (λ (x : List ℕ) (q : ℕ). patch x return_arrival_at (q ∷ []))
-      (sym (used_bytes return_width return_bytes return_of return_lent (rename_return m) b bs l h mark))
-      (sym (image_port m (get_or b return_arrival_at 0) (return_ports_small h).0))
-      ∙ byte_over return_form arrival-in (return_of b) p tt in
-      used_renamed return_width return_bytes return_of return_lent (rename_return m) b bs l h mark b'
-      (e2
-      ∙ ap₂ (λ (x : List ℕ) (q : ℕ). patch x return_leaving_at (q ∷ [])) first_done
-      (sym (image_port m (get_or b return_leaving_at 0) (return_ports_small h).1))
-      ∙ byte_over return_form (named return_form "leaving").inside (arrival-in.place.put p (return_of b)) (image m (return_of b).leaving) tt)
 
 -- ---- any table's records, by their bytes
 pub bytes_lent : (w : ℕ) (ok : List ℕ → Bool) → Lent w (exactly w) (λ b. b) ok
@@ -266,35 +220,51 @@ module _ {A : Type 0} {w : ℕ} {record_bytes : A → List ℕ} {record_of : Lis
             get_or-map g (records read at w n t) i d e (omega (arith, records_length read at w n t)) ∙ ap g (record_seen read at w n t i d l)
 
 pub paths_ported : (m : List ℕ) → Ported path_width path_bytes path_of path_bytes_ok (rename_path m) m (path_port_at ∷ [])
+unfolding rename_path path_bytes path_of
 paths_ported m =
+    let port : Inside path_form byte = (named path_form "port").inside in
     record {
       lent = path_lent;
-      stand = λ b bs l h mark. one_stands m b path_port_at (omega (arith, l)) (path_port_small b m bs mark h);
-      put = λ b bs l h mark. path_renamed b m bs mark h l _ (one_put m b path_port_at (omega (arith, l)) (path_port_small b m bs mark h));
+      stand = λ b bs l h mark. one_stands m b path_port_at (omega (arith, l)) (path_port_small b mark h);
+      put = λ b bs l h mark.
+          let small = path_port_small b mark h in
+          let there = sym (used_bytes path_width path_bytes path_of path_lent (rename_path m) b bs l h mark) in
+          used_renamed path_width path_bytes path_of path_lent (rename_path m) b bs l h mark _
+          (one_put m b path_port_at (omega (arith, l)) small ∙ image_put path_form port m b (path_of b) there tt _ small);
     }
 
 pub links_ported : (m : List ℕ) → Ported link_width link_bytes link_of link_bytes_ok (rename_link m) m (link_asking_at ∷ link_answering_at ∷ [])
+unfolding rename_link link_bytes link_of
 links_ported m =
+    let asking : Inside link_form byte = (named link_form "asking").inside in
+    let answering : Inside link_form byte = (named link_form "answering").inside in
     record {
       lent = link_lent;
       stand = λ b bs l h mark.
-          two_stand m b link_asking_at (omega (arith, l)) (link_ports_small b m bs mark h).0 link_answering_at (λ e. omega (arith, e)) (omega (arith, l))
-          (link_ports_small b m bs mark h).1;
+          let small = link_ports_small b mark h in
+          two_stand m b link_asking_at (omega (arith, l)) small.0 link_answering_at (λ e. omega (arith, e)) (omega (arith, l)) small.1;
       put = λ b bs l h mark.
-          link_renamed b m bs mark h l _ _ refl
-          (two_put m b link_asking_at (omega (arith, l)) (link_ports_small b m bs mark h).0 link_answering_at (λ e. omega (arith, e)) (omega (arith, l))
-          (link_ports_small b m bs mark h).1);
+          let small = link_ports_small b mark h in
+          let there = sym (used_bytes link_width link_bytes link_of link_lent (rename_link m) b bs l h mark) in
+          used_renamed link_width link_bytes link_of link_lent (rename_link m) b bs l h mark _
+          (two_put m b link_asking_at (omega (arith, l)) small.0 link_answering_at (λ e. omega (arith, e)) (omega (arith, l)) small.1
+          ∙ image_put link_form answering m _ _ (image_put link_form asking m b (link_of b) there tt _ small.0) tt _ small.1);
     }
 
 pub returns_ported : (m : List ℕ) → Ported return_width return_bytes return_of return_bytes_ok (rename_return m) m (return_arrival_at ∷ return_leaving_at ∷ [])
+unfolding rename_return return_bytes return_of
 returns_ported m =
+    let arrival : Inside return_form byte = (named return_form "arrival").inside in
+    let leaving : Inside return_form byte = (named return_form "leaving").inside in
     record {
       lent = return_lent;
       stand = λ b bs l h mark.
-          two_stand m b return_arrival_at (omega (arith, l)) (return_ports_small b m bs mark h).0 return_leaving_at (λ e. omega (arith, e)) (omega (arith, l))
-          (return_ports_small b m bs mark h).1;
+          let small = return_ports_small b mark h in
+          two_stand m b return_arrival_at (omega (arith, l)) small.0 return_leaving_at (λ e. omega (arith, e)) (omega (arith, l)) small.1;
       put = λ b bs l h mark.
-          return_renamed b m bs mark h l _ _ refl
-          (two_put m b return_arrival_at (omega (arith, l)) (return_ports_small b m bs mark h).0 return_leaving_at (λ e. omega (arith, e)) (omega (arith, l))
-          (return_ports_small b m bs mark h).1);
+          let small = return_ports_small b mark h in
+          let there = sym (used_bytes return_width return_bytes return_of return_lent (rename_return m) b bs l h mark) in
+          used_renamed return_width return_bytes return_of return_lent (rename_return m) b bs l h mark _
+          (two_put m b return_arrival_at (omega (arith, l)) small.0 return_leaving_at (λ e. omega (arith, e)) (omega (arith, l)) small.1
+          ∙ image_put return_form leaving m _ _ (image_put return_form arrival m b (return_of b) there tt _ small.0) tt _ small.1);
     }
