@@ -20,6 +20,7 @@ pub use starting::begin;
 pub const RECORDING_LIMIT: usize = 16;
 
 // The recordings' refusals: how many were read, then the refusal of each, or 0, and that of one too many.
+// Kept: bytes with their count first, as hosts lend them.
 pub const REFUSAL_COUNT: usize = 2 + RECORDING_LIMIT;
 
 // A fraction of two numbers.
