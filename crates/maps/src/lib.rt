@@ -13,31 +13,14 @@ fn differs_before(map: &[u8], i: usize) -> bool
     requires { i < length map.now }
     ensures { result ≡ differs_before map.now i }
 {
-    let mut j = 0;
-    while j < i {
-        if map[j] == map[i] {
-            return false;
-        }
-        j += 1;
-    }
-    true
+    (0..i).all(|j| map[j] != map[i])
 }
 
 pub fn one_to_one(map: &[u8]) -> bool
     requires { length map.now ≡ port_count }
     ensures { result ≡ one_to_one map.now }
 {
-    let mut i = 0;
-    while i < PORT_COUNT {
-        if map[i] >= PORT_COUNT as u8 {
-            return false;
-        }
-        if !differs_before(map, i) {
-            return false;
-        }
-        i += 1;
-    }
-    true
+    (0..PORT_COUNT).all(|i| usize::from(map[i]) < PORT_COUNT && differs_before(map, i))
 }
 
 // The port whose image is n, or 16.
@@ -45,12 +28,7 @@ pub fn preimage_of(map: &[u8], n: usize) -> usize
     requires { length map.now ≡ port_count }
     ensures { result ≡ preimage map.now n }
 {
-    let mut i = 0;
-    while i < PORT_COUNT {
-        if map[i] as usize == n {
-            return i;
-        }
-        i += 1;
-    }
-    PORT_COUNT
+    map.iter()
+        .position(|image| usize::from(*image) == n)
+        .unwrap_or(PORT_COUNT)
 }

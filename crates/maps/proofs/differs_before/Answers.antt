@@ -1,33 +1,15 @@
-use mathlib.Core.Path.{sym, ap}
-use mathlib.Core.Bool.{not}
-use lib.Dec.{eqb}
-use lib.ListN.{get_or}
-use borrow.Author.Tests.{eq-eqb, ne_eqb}
-use Rattle.octets.specs.Index.{all_below}
-use Rattle.octets.proofs.Index.{all_none, all_more, all_fails, ended}
+use Rattle.std.proofs.Common.{rules, ◌∙◌, ℕ, Bool, not, eqb, get_or}
+use Rattle.std.proofs.lemmas.Iterator.{YieldsList-from_range}
+use Rattle.std.proofs.lemmas.Iterator.Search.{all_from_yields_List}
+use borrow.Author.Tests.{tests}
+use Rattle.octets.proofs.Chains.{all_over}
 use Rattle.rules.specs.Renumbering.{differs_before}
-use borrow.Author.Rules.{rules}
 use Rattle.maps.proofs.differs_before.Goals as goal
-
-pub loop-j-init : goal.loop-j-init
-loop-j-init c = (search rules, all_none _)
-
-pub returns-then-map-j : goal.returns-then-map-j
-unfolding differs_before
-returns-then-map-j c =
-    sym (all_fails (λ k. not (eqb (get_or c.args.map.now k 0) (get_or c.args.map.now c.args.i 0))) c.loop-j.j c.args.i
-    c.loop-j-test.true (ap not (eq-eqb _ _ c.if-map-j.true)))
-
-pub loop-j-preserved : goal.loop-j-preserved
-loop-j-preserved c = (
-  search rules,
-  all_more (λ k. not (eqb (get_or c.args.map.now k 0) (get_or c.args.map.now c.args.i 0))) c.loop-j.j
-      c.loop-j.invariant.1 (ap not (ne_eqb _ _ c.if-map-j.false)),
-)
 
 pub returns : goal.returns
 unfolding differs_before
 returns c =
-    ended (all_below (λ k. not (eqb (get_or c.args.map.now k 0)
-    (get_or c.args.map.now c.args.i 0)))) c.loop-j.invariant.0 c.loop-j-test.false
-    c.loop-j.invariant.1
+    let differs : ℕ → Bool = λ j. not (eqb (get_or c.args.map.now j 0) (get_or c.args.map.now c.args.i 0)) in
+    all_from_yields_List differs _ _ _ c.all.ensures.ran
+    (YieldsList-from_range 0 c.args.i c.args.i (search rules) (search rules)) (λ x b q k. search (rules, tests))
+    ∙ all_over differs c.args.i
