@@ -1,5 +1,2 @@
-pub mod SeenLaws
-pub mod PlanLaws
-pub mod BlobBytes
-pub mod AnnouncedLaws
 pub mod Narrow
+pub mod HeldBlobs

@@ -1,9 +1,7 @@
 -- What the structs of src/lib.rt stand for, and when a struct says what a view shows to one packet.
-use Rattle.std.specs.Prelude.{ℕ, ◌*◌, ◌≤◌, true, false, List, ◌≡◌, get_or}
-use Rattle.octets.specs.Index.{list_of}
-use Rattle.octets.specs.Part.{part}
+use Rattle.std.specs.Prelude.{ℕ, ◌≤◌, true, false, Option, Some, None, List, ◌≡◌, get_or}
 use Rattle.octets.specs.Choice.{◌then◌otherwise◌}
-use Rattle.numbers.specs.Numbers.{longest_packet, blob_limit, blob_width}
+use Rattle.numbers.specs.Numbers.{longest_packet, blob_limit}
 use Rattle.packet.specs.Header.{is_link_request}
 use Rattle.packet.specs.Read.{header_of, parts_of}
 use Rattle.packet.specs.Hash.{link_id}
@@ -14,10 +12,10 @@ use Rattle.rules.specs.Refusals.{rate_settings_ok, rate_entry_ok}
 use Rattle.rules.specs.Ways.{Way, everywhere, by_path, along_link, by_return, blocked}
 use Rattle.rules.specs.Judging.{Plan, dropped, delivered, follows}
 use Rattle.rules.specs.declared.Link.{Link}
+use Rattle.judging.specs.declared.Stored.{Stored}
 use Rattle.judging.specs.declared.Arrived.{Arrived}
 use Rattle.judging.specs.declared.SeenPort.{SeenPort}
 use Rattle.judging.specs.declared.SeenPath.{SeenPath}
-use Rattle.judging.specs.declared.SeenLink.{SeenLink}
 use Rattle.judging.specs.declared.SeenReturn.{SeenReturn}
 use Rattle.judging.specs.declared.Seen.{Seen}
 use Rattle.judging.specs.declared.SeenWay.{SeenWay}
@@ -30,36 +28,27 @@ abbrev pub arrival_of : List ℕ → Arrived → Arrival
 arrival_of bytes m = record { bytes = bytes; port = m.port; clock = m.clock; signed = m.signed }
 
 -- ---- the records, under the key that they were looked for by
--- the bytes of a path's blobs: a place for each that it may hold
-abbrev pub blob_bytes : ℕ
-blob_bytes = blob_width * blob_limit
-
-abbrev pub place_in : List ℕ → ℕ → List ℕ
-place_in bytes i = part bytes (blob_width * i) blob_width
-
-unfoldable pub places_of : List ℕ → List (List ℕ)
-places_of bytes = list_of (place_in bytes) blob_limit
-
-abbrev pub blobs_in : ℕ → List ℕ → Blobs
-blobs_in count bytes = record { count = count; places = places_of bytes }
-
-abbrev pub blobs_of : SeenPath → Blobs
-blobs_of s = blobs_in s.count s.blobs
+abbrev pub blobs_of : Stored → Blobs
+blobs_of s = record { count = s.count; places = s.places }
 
 abbrev pub path_record : List ℕ → SeenPath → Path
-path_record destination s = make_path destination s.port s.hops s.next_hop s.expiry s.rate s.notes (blobs_of s)
-
-unfoldable pub path_of : List ℕ → SeenPath → Slot Path
-path_of destination s = s.there then used (path_record destination s) otherwise empty
-
-unfoldable pub link_of : SeenLink → Slot Link
-link_of s = s.there then used s.link otherwise empty
+path_record destination s = make_path destination s.port s.hops s.next_hop s.expiry s.rate s.notes (blobs_of s.blobs)
 
 abbrev pub return_record_of : List ℕ → SeenReturn → Return
 return_record_of key s = make_return key s.arrival s.leaving s.expiry
 
-unfoldable pub return_of : List ℕ → SeenReturn → Slot Return
-return_of key s = s.there then used (return_record_of key s) otherwise empty
+abbrev pub slot_of : {A B : Type 0} → (A → B) → Option A → Slot B
+slot_of record_of None = empty
+slot_of record_of (Some s) = used (record_of s)
+
+abbrev pub path_of : List ℕ → Option SeenPath → Slot Path
+path_of destination = slot_of (path_record destination)
+
+abbrev pub link_of : Option Link → Slot Link
+link_of = slot_of (λ l. l)
+
+abbrev pub return_of : List ℕ → Option SeenReturn → Slot Return
+return_of key = slot_of (return_record_of key)
 
 -- ---- the view of one packet
 -- judging looks for one link: a link request's own, for test 7, and the destination's of any other packet
@@ -114,18 +103,22 @@ pub record Sees (s : Seen) (v : View) (a : Arrival) : Type 0 where
 -- refusal 7's bounds, as far as judging needs them
 pub record PathFits (s : SeenPath) : Type 0 where
   pub entry : rate_entry_ok s.rate ≡ true
-  pub blobs : s.count ≤ blob_limit
+  pub blobs : s.blobs.count ≤ blob_limit
+
+abbrev pub EachFits : Option SeenPath → Type 0
+EachFits None = Unit {0}
+EachFits (Some s) = PathFits s
 
 pub record Fits (s : Seen) : Type 0 where
   pub settings : rate_settings_ok s.rate ≡ true
-  pub path : PathFits s.path
+  pub path : EachFits s.path
 
 -- ---- plans, by the records that are seen
 abbrev pub way_of : Seen → Arrival → SeenWay → Way
 way_of s a Everywhere = everywhere (path_of (destination a) s.path)
-way_of s a ByPath = by_path (path_record (destination a) s.path)
-way_of s a AlongLink = along_link s.link.link
-way_of s a ByReturn = by_return (return_record_of (destination a) s.back)
+way_of s a (ByPath p) = by_path (path_record (destination a) p)
+way_of s a (AlongLink l) = along_link l
+way_of s a (ByReturn t) = by_return (return_record_of (destination a) t)
 way_of s a (Blocked why) = blocked why
 
 abbrev pub plan_of : Seen → Arrival → Planned → Plan

@@ -1,14 +1,14 @@
 -- For the contracts of helpers: not part of what a reader must believe, but for `settings_view`, `LeavesReturn` and `LimitsPath`.
-use Rattle.std.specs.Prelude.{ℕ, ◌≤◌, Bool, true, false, not, List, [], ◌≡◌, eqb, ltb, leb, length, get_or}
+use Rattle.std.specs.Prelude.{ℕ, ◌≤◌, Option, Some, None, Bool, true, false, not, List, [], ◌≡◌, eqb, ltb, leb, length, get_or}
 use Rattle.octets.specs.Index.{◌and◌}
-use Rattle.octets.specs.Choice.{◌then◌otherwise◌, ◌or◌}
-use Rattle.octets.specs.Listed.{first_of, valued}
+use Rattle.octets.specs.Choice.{◌then◌otherwise◌}
+use Rattle.octets.specs.Listed.{◌each_give◌otherwise◌, first_of}
 use Rattle.octets.specs.Part.{patch}
 use Rattle.packet.specs.Read.{longest_packet, reads, payload}
 use Rattle.packet.specs.Announce.{emission_of}
 use Rattle.packet.specs.Places.{blob_end}
 use Rattle.numbers.specs.Numbers.{blob_limit}
-use Rattle.rules.specs.Relay.{empty, used, Blobs, Path, with_path_rate}
+use Rattle.rules.specs.Relay.{empty, Blobs, Path, with_path_rate}
 use Rattle.rules.specs.View.{View}
 use Rattle.rules.specs.Arrival.{Arrival, destination}
 use Rattle.rules.specs.Blobs.{held, greatest_emission, one_blob, store_blob}
@@ -21,40 +21,16 @@ use Rattle.rules.specs.Writes.{return_key, return_record, remembers_drop}
 use Rattle.rules.specs.declared.RateSettings.{RateSettings}
 use Rattle.rules.specs.declared.RateEntry.{RateEntry}
 use Rattle.rules.specs.declared.Verdict.{Verdict}
-use Rattle.rules.specs.declared.Blocked.TheVariants.{NoPath, NoLink, NotProved, NoReturn}
 use Rattle.judging.specs.declared.Arrived.{Arrived}
 use Rattle.judging.specs.declared.SeenPort.{SeenPort}
 use Rattle.judging.specs.declared.SeenPath.{SeenPath}
-use Rattle.judging.specs.declared.SeenLink.{SeenLink}
 use Rattle.judging.specs.declared.SeenReturn.{SeenReturn}
 use Rattle.judging.specs.declared.Seen.{Seen}
 use Rattle.judging.specs.declared.SeenWay.{SeenWay}
-use Rattle.judging.specs.declared.SeenWay.TheVariants.{Everywhere, ByPath, AlongLink, ByReturn, Blocked}
+use Rattle.judging.specs.declared.SeenWay.TheVariants.{Everywhere}
 use Rattle.judging.specs.declared.Planned.{Planned}
 use Rattle.judging.specs.declared.Planned.TheVariants.{Drop, Deliver, Follow}
-use Rattle.judging.specs.declared.Stored.{Stored}
-use Rattle.judging.specs.Seen.{arrival_of, blobs_in, blobs_of, path_record, return_of, no_seen_port, view_of, Fits, way_of, as_seen}
-
--- ---- the way on, by the record that is seen
-unfoldable pub link_way_by : Bool → SeenLink → SeenWay
-link_way_by link_proof s =
-    not s.there then Blocked NoLink otherwise
-    s.link.proved or link_proof then AlongLink otherwise
-    Blocked NotProved
-
-unfoldable pub return_way_by : SeenReturn → SeenWay
-return_way_by s = s.there then ByReturn otherwise Blocked NoReturn
-
-unfoldable pub path_way_by : SeenPath → SeenWay
-path_way_by s = s.there then ByPath otherwise Blocked NoPath
-
--- whether a way is a link that is proved
-abbrev pub proved_by : SeenWay → Bool → Bool
-proved_by Everywhere proved = false
-proved_by ByPath proved = false
-proved_by AlongLink proved = proved
-proved_by ByReturn proved = false
-proved_by (Blocked why) proved = false
+use Rattle.judging.specs.Seen.{arrival_of, blobs_of, path_record, return_record_of, no_seen_port, view_of, PathFits, Fits, way_of}
 
 -- ---- the tests of a known path
 -- what a caller shows: only an announce goes everywhere, and its form is good
@@ -63,26 +39,30 @@ pub record CanTest (s : Seen) (packet : List ℕ) (w : SeenWay) : Type 0 where
   pub fits : Fits s
   pub long : w ≡ Everywhere → blob_end ≤ length (payload packet)
 
--- whether they are made
-pub record Tested (s : Seen) (packet : List ℕ) (m : Arrived) (w : SeenWay) (r : Bool) : Type 0 where
-  pub made : r ≡ of_known (arrival_of packet m) (λ p. true) (way_of s (arrival_of packet m) w)
-  pub long : r ≡ true → blob_end ≤ length (payload packet)
-
--- one of them, of the path that is seen, and what a caller shows
-abbrev pub of_seen_path : (View → Arrival → Path → Bool) → Seen → List ℕ → Arrived → Bool
-of_seen_path test s packet m = as_seen test s packet m (path_record (destination (arrival_of packet m)) s.path)
-
-pub record CanKnow (s : Seen) (packet : List ℕ) : Type 0 where
+-- what they are made of
+pub record CanKnow (s : SeenPath) (packet : List ℕ) : Type 0 where
   pub readable : reads longest_packet packet ≡ true
-  pub fits : Fits s
+  pub fits : PathFits s
   pub long : blob_end ≤ length (payload packet)
+
+-- one of them, of a path that is seen
+abbrev pub of_seen_path : (Arrival → Path → Bool) → SeenPath → List ℕ → Arrived → Bool
+of_seen_path test s packet m = test (arrival_of packet m) (path_record (destination (arrival_of packet m)) s)
+
+-- the path that they are made of, if they are
+abbrev pub Tested : Seen → List ℕ → Arrived → SeenWay → Option SeenPath → Type 0
+Tested s packet m w None = (test : Path → Bool) → of_known (arrival_of packet m) test (way_of s (arrival_of packet m) w) ≡ false
+Tested s packet m w (Some p) =
+    CanKnow p packet
+    × ((test : Arrival → Path → Bool)
+    → of_known (arrival_of packet m) (test (arrival_of packet m)) (way_of s (arrival_of packet m) w) ≡ of_seen_path test p packet m)
 
 -- the plan of tests 12, 16 and 13, and of all behind 9
 unfoldable pub leaving_plan : View → Arrival → Way → Plan
 leaving_plan v a w = first_of (leaving_tests v a w) (follows w)
 
 unfoldable pub last_plan : View → Arrival → Way → Plan
-last_plan v a w = first_of (valued dropped (known_tests v a w)) (leaving_plan v a w)
+last_plan v a w = first_of (known_tests v a w each_give dropped otherwise leaving_tests v a w) (follows w)
 
 -- ---- what leaves
 -- whether an announce that came in by a port, and is so long once spread, leaves by another
@@ -116,30 +96,26 @@ settings_view settings mode =
       room_for_link = true;
     }
 
-abbrev pub blobs_stored : Stored → Blobs
-blobs_stored s = blobs_in s.count s.bytes
-
 abbrev pub revived_by : SeenPath → List ℕ → Bool
-revived_by s blob = s.notes.marked and leb (greatest_emission (held (blobs_of s))) (emission_of blob)
+revived_by s blob = s.notes.marked and leb (greatest_emission (held (blobs_of s.blobs))) (emission_of blob)
 
-unfoldable pub rate_announced : RateSettings → SeenPath → List ℕ → ℕ → RateEntry
-rate_announced settings s blob clock =
-    not s.there then starts_at clock otherwise
-    revived_by s blob then entry_revived clock s.rate otherwise
-    entry_accepted settings clock s.rate
+abbrev pub rate_announced : RateSettings → Option SeenPath → List ℕ → ℕ → RateEntry
+rate_announced settings None blob clock = starts_at clock
+rate_announced settings (Some s) blob clock = revived_by s blob then entry_revived clock s.rate otherwise entry_accepted settings clock s.rate
 
-unfoldable pub blobs_announced : SeenPath → List ℕ → Blobs
-blobs_announced s blob = s.there then store_blob blob_limit blob (blobs_of s) otherwise one_blob blob_limit blob
+abbrev pub blobs_announced : Option SeenPath → List ℕ → Blobs
+blobs_announced None blob = one_blob blob_limit blob
+blobs_announced (Some s) blob = store_blob blob_limit blob (blobs_of s.blobs)
 
 -- wish 5: "A rate drop changes violations and blocked-until alone, besides what every drop changes"
-pub record LimitsPath (settings : RateSettings) (clock : ℕ) (s r : SeenPath) : Type 0 where
-  pub there : r.there ≡ s.there
-  pub limited : (destination : List ℕ) → path_record destination r ≡ with_path_rate (entry_dropped settings clock s.rate) (path_record destination s)
+abbrev pub LimitsPath : RateSettings → ℕ → SeenPath → SeenPath → Type 0
+LimitsPath settings clock s r =
+    (destination : List ℕ) → path_record destination r ≡ with_path_rate (entry_dropped settings clock s.rate) (path_record destination s)
 
 -- the return record of any packet that so came and goes by the path
 abbrev pub LeavesReturn : SeenPath → Arrived → SeenReturn → Type 0
 LeavesReturn s m r = (bytes : List ℕ)
-    → return_of (return_key (arrival_of bytes m)) r ≡ used (return_record (arrival_of bytes m) (path_record (destination (arrival_of bytes m)) s))
+    → return_record_of (return_key (arrival_of bytes m)) r ≡ return_record (arrival_of bytes m) (path_record (destination (arrival_of bytes m)) s)
 
 abbrev pub plan_remembers : Planned → Bool
 plan_remembers (Drop reason) = remembers_drop reason

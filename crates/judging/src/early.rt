@@ -1,33 +1,19 @@
 // Tests 1, 2 and 4, and what is delivered here.
 ghost use Rattle.std.specs.Prelude.{◌≡◌, true};
-ghost use Rattle.octets.specs.Choice.{same};
 ghost use Rattle.packet.specs.Read.{longest_packet, reads};
 ghost use Rattle.rules.specs.Tests.{not_ours, for_marked_path, duplicate as is_duplicate, own_announce, delivered_here};
 ghost use Rattle.judging.specs.Seen.{as_seen};
 
 use super::{Arrived, Seen};
-use forms::{both, either};
-
-fn same_address(one: [u8; 16], other: [u8; 16]) -> bool
-    ensures { result ≡ same one other }
-{
-    octets::equal16(one, other)
-}
 
 // Test 1: type 2, not an announce, relay address not our own.
 pub fn not_ours(seen: Seen, packet: &[u8], arrived: Arrived) -> bool
     requires { reads longest_packet packet.now ≡ true }
     ensures { result ≡ as_seen not_ours seen packet.now arrived }
 {
-    let header = packet[0];
-    let parts = packet::parts_of(packet);
-    let relay = parts.relay;
-    let own = seen.own;
-    let ours = same_address(relay, own);
-    both(
-        packet::type_two(header),
-        both(!packet::is_announce(header), !ours),
-    )
+    packet::type_two(packet[0])
+        && !packet::is_announce(packet[0])
+        && packet::parts_of(packet).relay != seen.own
 }
 
 // An announce of kind single whose destination has a live path, and that is marked.
@@ -35,13 +21,9 @@ pub fn for_marked_path(seen: Seen, packet: &[u8], arrived: Arrived) -> bool
     requires { reads longest_packet packet.now ≡ true }
     ensures { result ≡ as_seen for_marked_path seen packet.now arrived }
 {
-    let header = packet[0];
-    let path = seen.path;
-    let marked = both(path.there, path.notes.marked);
-    both(
-        packet::is_announce(header),
-        both(packet::of_kind_single(header), marked),
-    )
+    packet::is_announce(packet[0])
+        && packet::of_kind_single(packet[0])
+        && seen.path.is_some_and(|path| path.notes.marked)
 }
 
 // Test 2: not exempt, not an announce for a marked path, and the hash is remembered.
@@ -49,9 +31,7 @@ pub fn duplicate(seen: Seen, packet: &[u8], arrived: Arrived) -> bool
     requires { reads longest_packet packet.now ≡ true }
     ensures { result ≡ as_seen is_duplicate seen packet.now arrived }
 {
-    let marked = for_marked_path(seen, packet, arrived);
-    let tested = both(!forms::exempt(packet), !marked);
-    both(tested, seen.remembered)
+    !forms::exempt(packet) && !for_marked_path(seen, packet, arrived) && seen.remembered
 }
 
 // Test 4: an announce whose destination is local.
@@ -59,7 +39,7 @@ pub fn own_announce(seen: Seen, packet: &[u8], arrived: Arrived) -> bool
     requires { reads longest_packet packet.now ≡ true }
     ensures { result ≡ as_seen own_announce seen packet.now arrived }
 {
-    both(packet::is_announce(packet[0]), seen.local)
+    packet::is_announce(packet[0]) && seen.local
 }
 
 // Data and link requests to a local address, kind link excepted.
@@ -68,6 +48,7 @@ pub fn delivered_here(seen: Seen, packet: &[u8], arrived: Arrived) -> bool
     ensures { result ≡ as_seen delivered_here seen packet.now arrived }
 {
     let header = packet[0];
-    let kind = either(packet::is_data(header), packet::is_link_request(header));
-    both(kind, both(!packet::of_kind_link(header), seen.local))
+    (packet::is_data(header) || packet::is_link_request(header))
+        && !packet::of_kind_link(header)
+        && seen.local
 }

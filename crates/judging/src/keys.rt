@@ -13,8 +13,7 @@ pub fn link_key(packet: &[u8]) -> [u8; 16]
     if packet::is_link_request(packet[0]) {
         return packet::link_id_of(packet);
     }
-    let parts = packet::parts_of(packet);
-    parts.destination
+    packet::parts_of(packet).destination
 }
 
 // Of the return record that forwarded data leaves: the first 16 of its hash.
@@ -22,6 +21,5 @@ pub fn return_key(packet: &[u8]) -> [u8; 16]
     requires { reads longest_packet packet.now ≡ true }
     ensures { result ≡ take address_width (packet_hash packet.now) }
 {
-    let hash = packet::hash_of(packet);
-    octets::address_at(&hash, 0)
+    octets::address_at(&packet::hash_of(packet), 0)
 }

@@ -6,8 +6,8 @@ ghost use Rattle.rules.specs.Outgoing.{spread_packet, path_packet, outgoing as l
 ghost use Rattle.judging.specs.Seen.{arrival_of, no_seen_port, way_of, on_seen_way};
 
 use super::sides::from_answering_side;
-use super::{Arrived, Seen, SeenPort, SeenWay};
-use numbers::{LONGEST_PACKET, PORT_COUNT};
+use super::{Arrived, PORT_OFF, Seen, SeenPort, SeenWay};
+use numbers::PORT_COUNT;
 use packet::places::HOPS_AT;
 
 // 16, as a byte: what leaves by no one port has this number, which no port has.
@@ -17,15 +17,7 @@ const NO_PORT: u8 = PORT_COUNT as u8;
 pub fn port_at(ports: [SeenPort; 16], port: u8) -> SeenPort
     ensures { result ≡ get_or ports port no_seen_port }
 {
-    if port < NO_PORT {
-        let i = port as usize;
-        return ports[i];
-    }
-    SeenPort {
-        on: false,
-        mode: 0,
-        size: LONGEST_PACKET,
-    }
+    ports.get(usize::from(port)).copied().unwrap_or(PORT_OFF)
 }
 
 // How long an announce is once spread.
@@ -52,17 +44,15 @@ pub fn leaving_port(seen: Seen, packet: &[u8], arrived: Arrived, way: SeenWay) -
         (way_of seen (arrival_of packet.now arrived) way) }
 {
     match way {
-        SeenWay::Everywhere => NO_PORT,
-        SeenWay::ByPath => seen.path.port,
-        SeenWay::AlongLink => {
-            let link = seen.link.link;
+        SeenWay::ByPath(path) => path.port,
+        SeenWay::AlongLink(link) => {
             if from_answering_side(link, arrived.port, packet[HOPS_AT]) {
                 return link.asking;
             }
             link.answering
         }
-        SeenWay::ByReturn => seen.back.arrival,
-        SeenWay::Blocked(_) => NO_PORT,
+        SeenWay::ByReturn(back) => back.arrival,
+        SeenWay::Everywhere | SeenWay::Blocked(_) => NO_PORT,
     }
 }
 
@@ -71,17 +61,9 @@ pub fn leaving_length(seen: Seen, packet: &[u8], arrived: Arrived, way: SeenWay)
     ensures { result ≡ length (on_seen_way leaving_packet seen packet.now arrived way) }
 {
     match way {
-        SeenWay::Everywhere => {
-            let own = seen.own;
-            spread_length(packet, own)
-        }
-        SeenWay::ByPath => {
-            let path = seen.path;
-            let next_hop = path.next_hop;
-            path_length(packet, path.hops, next_hop)
-        }
-        SeenWay::AlongLink => packet.len(),
-        SeenWay::ByReturn => packet.len(),
+        SeenWay::Everywhere => spread_length(packet, seen.own),
+        SeenWay::ByPath(path) => path_length(packet, path.hops, path.next_hop),
+        SeenWay::AlongLink(_) | SeenWay::ByReturn(_) => packet.len(),
         SeenWay::Blocked(_) => 0,
     }
 }

@@ -2,7 +2,7 @@
 // The code goes as document 01's tests do, in their order, and each test is a function of its own. What is seen comes
 // as a struct by value: who makes it shows that it is what there is to see (specs/Seen.antt).
 // Entry points: none. The caller shows that the packet reads, and that what is seen keeps refusal 7's bounds.
-#![tactic(auto)]
+#![tactic(auto, using(outgoing::proofs::LeavingLaws::long, outgoing::proofs::LeavingLaws::whole))]
 
 mod blobs;
 mod early;
@@ -23,7 +23,7 @@ use early::{delivered_here, duplicate, not_ours, own_announce};
 use forms::Form;
 pub use keys::{link_key, return_key};
 use notes::Notes;
-use numbers::{BLOB_LIMIT, BLOB_WIDTH, HOPS_LIMIT};
+use numbers::{BLOB_LIMIT, BLOB_WIDTH, HOPS_LIMIT, LONGEST_PACKET};
 use onward::plan_onward;
 use packet::places::HOPS_AT;
 pub use records::{
@@ -48,35 +48,36 @@ pub struct SeenPort {
     pub size: usize,
 }
 
-// The bytes of a path's blobs: a place for each that it may hold.
-pub const BLOB_BYTES: usize = BLOB_WIDTH * BLOB_LIMIT;
+// A port of which nothing was set, and a number that no port has: off.
+pub const PORT_OFF: SeenPort = SeenPort {
+    on: false,
+    mode: 0,
+    size: LONGEST_PACKET,
+};
 
-// A destination's path, if there is one. Of the blobs the one stored longest ago comes first, and what lies behind the
-// last one counts for nothing.
+// The blobs of a path: so many of the places hold one, the one stored longest ago first. What the others hold counts
+// for nothing.
+#[derive(Clone, Copy)]
+pub struct Stored {
+    pub count: usize,
+    pub places: [[u8; BLOB_WIDTH]; BLOB_LIMIT],
+}
+
+// A destination's path.
 #[derive(Clone, Copy)]
 pub struct SeenPath {
-    pub there: bool,
     pub port: u8,
     pub hops: u8,
     pub next_hop: [u8; 16],
     pub expiry: u64,
     pub rate: RateEntry,
     pub notes: Notes,
-    pub count: usize,
-    pub blobs: [u8; BLOB_BYTES],
+    pub blobs: Stored,
 }
 
-// A link, if there is one.
-#[derive(Clone, Copy)]
-pub struct SeenLink {
-    pub there: bool,
-    pub link: Link,
-}
-
-// A return record, if there is one.
+// A return record.
 #[derive(Clone, Copy)]
 pub struct SeenReturn {
-    pub there: bool,
     pub arrival: u8,
     pub leaving: u8,
     pub expiry: u64,
@@ -92,26 +93,19 @@ pub struct Seen {
     pub ports: [SeenPort; 16],
     pub local: bool,
     pub remembered: bool,
-    pub path: SeenPath,
-    pub link: SeenLink,
-    pub back: SeenReturn,
+    pub path: Option<SeenPath>,
+    pub link: Option<Link>,
+    pub back: Option<SeenReturn>,
 }
 
-// What a packet would follow, by the record that is seen, or why there is no way on.
+// What a packet would follow, with the record that is seen, or why there is no way on.
 #[derive(Clone, Copy)]
 pub enum SeenWay {
     Everywhere,
-    ByPath,
-    AlongLink,
-    ByReturn,
+    ByPath(SeenPath),
+    AlongLink(Link),
+    ByReturn(SeenReturn),
     Blocked(Blocked),
-}
-
-// How many blobs a path holds, and their bytes.
-#[derive(Clone, Copy)]
-pub struct Stored {
-    pub count: usize,
-    pub bytes: [u8; BLOB_BYTES],
 }
 
 // What is to be done with an accepted packet.

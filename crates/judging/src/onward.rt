@@ -1,33 +1,29 @@
 // Tests 6 to 13, 15 and 16, on the way that the packet would follow.
 ghost use Rattle.std.specs.Prelude.{◌≡◌, true, false};
 ghost use Rattle.packet.specs.Read.{longest_packet, reads};
-ghost use Rattle.rules.specs.Tests.{bad_form, already_known, wrong_side, not_signed};
+ghost use Rattle.rules.specs.Arrival.{Arrival, destination};
+ghost use Rattle.rules.specs.Tests.{bad_form, follows_proved_link, already_known, wrong_side, not_signed};
 ghost use Rattle.rules.specs.Tests.{is_replay, is_not_better, is_rate_limited, port_off, too_long_for_port};
 ghost use Rattle.rules.specs.Ways.{way_on};
 ghost use Rattle.rules.specs.Judging.{onward_plan};
-ghost use Rattle.judging.specs.Seen.{arrival_of, Fits, way_of, plan_of, as_seen, on_seen_way};
-ghost use Rattle.judging.specs.Steps.{proved_by, CanTest, Tested, CanKnow, of_seen_path, last_plan, leaving_plan};
+ghost use Rattle.judging.specs.declared.Arrived.{Arrived};
+ghost use Rattle.judging.specs.declared.Seen.{Seen};
+ghost use Rattle.judging.specs.Seen.{arrival_of, path_record, Fits, way_of, plan_of, as_seen, on_seen_way};
+ghost use Rattle.judging.specs.Steps.{CanTest, Tested, CanKnow, of_seen_path, last_plan, leaving_plan};
 
-use super::blobs::{greatest_emission, holds_blob, revives};
+use super::blobs::revives;
 use super::leaving::{leaving_length, leaving_port, port_at};
 use super::sides::{from_answering_side, from_asking_side};
 use super::ways::way_on;
-use super::{Arrived, Planned, Seen, SeenWay};
-use forms::{both, either};
+use super::{Arrived, Planned, Seen, SeenPath, SeenWay};
 use packet::places::HOPS_AT;
 use rules::Reason;
 
 // Whether the way is a link, and that is proved.
-fn follows_proved_link(seen: Seen, way: SeenWay) -> bool
-    ensures { result ≡ proved_by way seen.link.link.proved }
+fn follows_proved_link(way: SeenWay) -> bool
+    ensures { (s : Seen) (a : Arrival) → result ≡ follows_proved_link (way_of s a way) }
 {
-    match way {
-        SeenWay::Everywhere => false,
-        SeenWay::ByPath => false,
-        SeenWay::AlongLink => seen.link.link.proved,
-        SeenWay::ByReturn => false,
-        SeenWay::Blocked(_) => false,
-    }
+    matches!(way, SeenWay::AlongLink(link) if link.proved)
 }
 
 // Test 7: link request whose id is live; link proof for a proved link.
@@ -35,9 +31,8 @@ fn already_known(seen: Seen, packet: &[u8], arrived: Arrived, way: SeenWay) -> b
     requires { reads longest_packet packet.now ≡ true }
     ensures { result ≡ on_seen_way already_known seen packet.now arrived way }
 {
-    let requested = both(packet::is_link_request(packet[0]), seen.link.there);
-    let proved = follows_proved_link(seen, way);
-    either(requested, both(forms::is_link_proof(packet), proved))
+    packet::is_link_request(packet[0]) && seen.link.is_some()
+        || forms::is_link_proof(packet) && follows_proved_link(way)
 }
 
 // Test 8: a link packet from neither side, a link proof not from the answering side, an ordinary proof not by the
@@ -48,18 +43,13 @@ fn wrong_side(seen: Seen, packet: &[u8], arrived: Arrived, way: SeenWay) -> bool
         (way_of seen (arrival_of packet.now arrived) way) }
 {
     match way {
-        SeenWay::Everywhere => false,
-        SeenWay::ByPath => false,
-        SeenWay::AlongLink => {
-            let link = seen.link.link;
-            if from_answering_side(link, arrived.port, packet[HOPS_AT]) {
-                return false;
-            }
-            let asking = from_asking_side(link, arrived.port, packet[HOPS_AT]);
-            either(forms::is_link_proof(packet), !asking)
+        SeenWay::AlongLink(link) => {
+            let hops = packet[HOPS_AT];
+            !from_answering_side(link, arrived.port, hops)
+                && (forms::is_link_proof(packet) || !from_asking_side(link, arrived.port, hops))
         }
-        SeenWay::ByReturn => arrived.port != seen.back.leaving,
-        SeenWay::Blocked(_) => false,
+        SeenWay::ByReturn(back) => arrived.port != back.leaving,
+        _ => false,
     }
 }
 
@@ -68,56 +58,44 @@ fn not_signed(packet: &[u8], arrived: Arrived) -> bool
     requires { reads longest_packet packet.now ≡ true }
     ensures { result ≡ not_signed (arrival_of packet.now arrived) }
 {
-    let asked = either(packet::is_announce(packet[0]), forms::is_link_proof(packet));
-    both(asked, !arrived.signed)
+    (packet::is_announce(packet[0]) || forms::is_link_proof(packet)) && !arrived.signed
 }
 
-// Whether the tests of a known path are made: of an announce whose destination has one, unless it revives that.
-fn tested(seen: Seen, packet: &[u8], arrived: Arrived, way: SeenWay) -> bool
+// The path whose tests are made: an announce's, where its destination has one, unless it revives that.
+fn tested(seen: Seen, packet: &[u8], arrived: Arrived, way: SeenWay) -> Option<SeenPath>
     requires { CanTest seen packet.now way }
     ensures { Tested seen packet.now arrived way result }
 {
     let SeenWay::Everywhere = way else {
-        return false;
+        return None;
     };
-    let path = seen.path;
-    if !path.there {
-        return false;
-    }
-    !revives(path, packet::blob(packet::payload(packet)))
+    let blob = packet::blob(packet::payload(packet));
+    seen.path.filter(|path| !revives(path, blob))
 }
 
 // Test 10: the blob is stored.
-fn replay(seen: Seen, packet: &[u8], arrived: Arrived) -> bool
-    requires { CanKnow seen packet.now }
-    ensures { result ≡ of_seen_path (λ v. is_replay) seen packet.now arrived }
+fn replay(path: SeenPath, packet: &[u8], arrived: Arrived) -> bool
+    requires { CanKnow path packet.now }
+    ensures { result ≡ of_seen_path is_replay path packet.now arrived }
 {
-    let path = seen.path;
-    let blobs = path.blobs;
-    holds_blob(blobs, path.count, packet::blob(packet::payload(packet)))
+    path.blobs.holds(packet::blob(packet::payload(packet)))
 }
 
 // Test 11: emission not above the greatest among stored blobs, and hops not below the stored hops.
-fn not_better(seen: Seen, packet: &[u8], arrived: Arrived) -> bool
-    requires { CanKnow seen packet.now }
-    ensures { result ≡ of_seen_path (λ v. is_not_better) seen packet.now arrived }
+fn not_better(path: SeenPath, packet: &[u8], arrived: Arrived) -> bool
+    requires { CanKnow path packet.now }
+    ensures { result ≡ of_seen_path is_not_better path packet.now arrived }
 {
-    let path = seen.path;
-    let blobs = path.blobs;
-    let most = greatest_emission(blobs, path.count);
     let emission = packet::emission(packet::blob(packet::payload(packet)));
-    both(emission <= most, path.hops <= packet[HOPS_AT])
+    emission <= path.blobs.greatest_emission() && path.hops <= packet[HOPS_AT]
 }
 
 // Test 15: the rate rule.
-fn rate_limited(seen: Seen, packet: &[u8], arrived: Arrived) -> bool
-    requires { CanKnow seen packet.now }
-    ensures { result ≡ of_seen_path is_rate_limited seen packet.now arrived }
+fn rate_limited(seen: Seen, path: SeenPath, packet: &[u8], arrived: Arrived) -> bool
+    requires { Fits seen × CanKnow path packet.now }
+    ensures { result ≡ of_seen_path (as_seen (λ v a. is_rate_limited v) seen packet.now arrived) path packet.now arrived }
 {
-    let settings = seen.rate;
-    let entry = seen.path.rate;
-    let rated = rate::rule(settings, arrived.clock, entry);
-    rated.dropped
+    rate::rule(seen.rate, arrived.clock, path.rate).dropped
 }
 
 // Test 12: the port to leave by is off. Announces skip this.
@@ -125,9 +103,8 @@ fn port_off(seen: Seen, packet: &[u8], arrived: Arrived, way: SeenWay) -> bool
     requires { reads longest_packet packet.now ≡ true }
     ensures { result ≡ on_seen_way port_off seen packet.now arrived way }
 {
-    let ports = seen.ports;
-    let port = port_at(ports, leaving_port(seen, packet, arrived, way));
-    both(!packet::is_announce(packet[0]), !port.on)
+    let port = leaving_port(seen, packet, arrived, way);
+    !packet::is_announce(packet[0]) && !port_at(seen.ports, port).on
 }
 
 // Test 16: too long for the port to leave by, as rewritten. Announces skip this too.
@@ -135,10 +112,9 @@ fn too_long_for_port(seen: Seen, packet: &[u8], arrived: Arrived, way: SeenWay) 
     requires { reads longest_packet packet.now ≡ true }
     ensures { result ≡ on_seen_way too_long_for_port seen packet.now arrived way }
 {
-    let ports = seen.ports;
-    let port = port_at(ports, leaving_port(seen, packet, arrived, way));
+    let port = leaving_port(seen, packet, arrived, way);
     let length = leaving_length(seen, packet, arrived, way);
-    both(!packet::is_announce(packet[0]), port.size < length)
+    !packet::is_announce(packet[0]) && port_at(seen.ports, port).size < length
 }
 
 // Tests 12 and 16 of what leaves by one port. Test 13 has nothing to find: what is seen has room.
@@ -162,16 +138,16 @@ fn plan_last(seen: Seen, packet: &[u8], arrived: Arrived, way: SeenWay) -> Plann
     ensures { plan_of seen (arrival_of packet.now arrived) result
         ≡ on_seen_way last_plan seen packet.now arrived way }
 {
-    if !tested(seen, packet, arrived, way) {
+    let Some(path) = tested(seen, packet, arrived, way) else {
         return plan_leaving(seen, packet, arrived, way);
-    }
-    if replay(seen, packet, arrived) {
+    };
+    if replay(path, packet, arrived) {
         return Planned::Drop(Reason::Replay);
     }
-    if not_better(seen, packet, arrived) {
+    if not_better(path, packet, arrived) {
         return Planned::Drop(Reason::NotBetter);
     }
-    if rate_limited(seen, packet, arrived) {
+    if rate_limited(seen, path, packet, arrived) {
         return Planned::Drop(Reason::RateLimited);
     }
     plan_leaving(seen, packet, arrived, way)

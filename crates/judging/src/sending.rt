@@ -24,11 +24,9 @@ fn spread_ports(ports: [SeenPort; 16], arrival: u8, long: usize) -> u16
     ensures { result ≡ port_set (spreads_to ports arrival long) }
 {
     let mut set: u16 = 0;
-    let mut i: u8 = 0;
-    while i < PORTS {
+    for i in 0..PORTS {
         let port = port_at(ports, i);
         set = outgoing::with_spread_port(set, i, port.on, port.size, arrival, long);
-        i += 1;
     }
     set
 }
@@ -40,10 +38,7 @@ fn spread(own: [u8; 16], ports: u16, packet: &[u8], output: &mut [u8]) -> Verdic
         × (output.new ≡ (leaves result then patch output.old 0 (spread_packet own packet.now)
         otherwise output.old)) }
 {
-    if ports == 0 {
-        return Verdict::Kept;
-    }
-    if outgoing::spread_length(packet) > LONGEST_PACKET {
+    if ports == 0 || outgoing::spread_length(packet) > LONGEST_PACKET {
         return Verdict::Kept;
     }
     let length = outgoing::spread(packet, own, output);
@@ -58,8 +53,7 @@ fn forward(path: SeenPath, packet: &[u8], output: &mut [u8]) -> Verdict
         × (output.new
         ≡ patch output.old 0 (path_packet path.hops path.next_hop packet.now)) }
 {
-    let next_hop = path.next_hop;
-    let length = outgoing::forward_by_path(packet, path.hops, next_hop, output);
+    let length = outgoing::forward_by_path(packet, path.hops, path.next_hop, output);
     Verdict::Forward {
         port: path.port,
         length,
@@ -81,20 +75,15 @@ pub fn send(seen: Seen, packet: &[u8], arrived: Arrived, way: SeenWay, output: &
     ensures { Sends seen (arrival_of packet.now arrived) way output.old
         result output.new }
 {
-    let port = leaving_port(seen, packet, arrived, way);
     match way {
         SeenWay::Everywhere => {
-            let own = seen.own;
-            let ports = seen.ports;
-            let set = spread_ports(ports, arrived.port, spread_length(packet, own));
-            spread(own, set, packet, output)
+            let set = spread_ports(seen.ports, arrived.port, spread_length(packet, seen.own));
+            spread(seen.own, set, packet, output)
         }
-        SeenWay::ByPath => {
-            let path = seen.path;
-            forward(path, packet, output)
+        SeenWay::ByPath(path) => forward(path, packet, output),
+        SeenWay::AlongLink(_) | SeenWay::ByReturn(_) => {
+            carry(packet, leaving_port(seen, packet, arrived, way), output)
         }
-        SeenWay::AlongLink => carry(packet, port, output),
-        SeenWay::ByReturn => carry(packet, port, output),
         SeenWay::Blocked(why) => Verdict::Drop(Reason::NoWayOn(why)),
     }
 }

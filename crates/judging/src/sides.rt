@@ -8,14 +8,12 @@ use rules::Link;
 pub fn from_answering_side(link: Link, port: u8, hops: u8) -> bool
     ensures { result ≡ (eqb port link.answering and eqb hops link.remaining.0) }
 {
-    let remaining = link.remaining;
-    forms::both(port == link.answering, hops == remaining.0)
+    port == link.answering && hops == link.remaining.0
 }
 
 // From the asking port with hops = taken.
 pub fn from_asking_side(link: Link, port: u8, hops: u8) -> bool
     ensures { result ≡ (eqb port link.asking and eqb hops link.taken.0) }
 {
-    let taken = link.taken;
-    forms::both(port == link.asking, hops == taken.0)
+    port == link.asking && hops == link.taken.0
 }

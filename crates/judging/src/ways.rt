@@ -1,46 +1,44 @@
 // The way on, or why there is none: test 6.
 ghost use Rattle.std.specs.Prelude.{◌≡◌, true};
 ghost use Rattle.packet.specs.Read.{longest_packet, reads};
-ghost use Rattle.rules.specs.Ways.{way_on};
-ghost use Rattle.judging.specs.Seen.{as_seen, arrival_of, way_of};
-ghost use Rattle.judging.specs.Steps.{link_way_by, return_way_by, path_way_by};
+ghost use Rattle.rules.specs.Relay.{empty};
+ghost use Rattle.rules.specs.Arrival.{Arrival, destination};
+ghost use Rattle.rules.specs.Ways.{link_way, return_way, path_way, way_on};
+ghost use Rattle.judging.specs.declared.Seen.{Seen};
+ghost use Rattle.judging.specs.Seen.{as_seen, arrival_of, link_of, return_of, path_of, way_of};
 
-use super::{Arrived, Seen, SeenLink, SeenPath, SeenReturn, SeenWay};
-use forms::either;
-use rules::Blocked;
+use super::{Arrived, Seen, SeenPath, SeenReturn, SeenWay};
+use rules::{Blocked, Link};
 
 // For kind link: no live link, or an unproved one, except for a link proof.
-fn link_way(link: SeenLink, link_proof: bool) -> SeenWay
-    ensures { result ≡ link_way_by link_proof link }
+fn link_way(link: Option<Link>, link_proof: bool) -> SeenWay
+    ensures { (s : Seen) (a : Arrival) → way_of s a result ≡ link_way link_proof (link_of link) }
 {
-    if !link.there {
-        return SeenWay::Blocked(Blocked::NoLink);
+    match link {
+        None => SeenWay::Blocked(Blocked::NoLink),
+        Some(link) if link.proved || link_proof => SeenWay::AlongLink(link),
+        Some(_) => SeenWay::Blocked(Blocked::NotProved),
     }
-    let record = link.link;
-    if either(record.proved, link_proof) {
-        return SeenWay::AlongLink;
-    }
-    SeenWay::Blocked(Blocked::NotProved)
 }
 
 // For an ordinary proof: no live return record.
-fn return_way(back: SeenReturn) -> SeenWay
-    ensures { result ≡ return_way_by back }
+fn return_way(back: Option<SeenReturn>) -> SeenWay
+    ensures { (s : Seen) (a : Arrival) → way_of s a result ≡ return_way (return_of (destination a) back) }
 {
-    if back.there {
-        return SeenWay::ByReturn;
+    match back {
+        None => SeenWay::Blocked(Blocked::NoReturn),
+        Some(back) => SeenWay::ByReturn(back),
     }
-    SeenWay::Blocked(Blocked::NoReturn)
 }
 
 // For data and link requests of type 2: no live path.
-fn path_way(path: SeenPath) -> SeenWay
-    ensures { result ≡ path_way_by path }
+fn path_way(path: Option<SeenPath>) -> SeenWay
+    ensures { (s : Seen) (a : Arrival) → way_of s a result ≡ path_way (path_of (destination a) path) empty }
 {
-    if path.there {
-        return SeenWay::ByPath;
+    match path {
+        None => SeenWay::Blocked(Blocked::NoPath),
+        Some(path) => SeenWay::ByPath(path),
     }
-    SeenWay::Blocked(Blocked::NoPath)
 }
 
 pub fn way_on(seen: Seen, packet: &[u8], arrived: Arrived) -> SeenWay
@@ -53,16 +51,13 @@ pub fn way_on(seen: Seen, packet: &[u8], arrived: Arrived) -> SeenWay
         return SeenWay::Everywhere;
     }
     if packet::of_kind_link(header) {
-        let link = seen.link;
-        return link_way(link, forms::is_link_proof(packet));
+        return link_way(seen.link, forms::is_link_proof(packet));
     }
     if packet::is_proof(header) {
-        let back = seen.back;
-        return return_way(back);
+        return return_way(seen.back);
     }
     if !packet::type_two(header) {
         return SeenWay::Blocked(Blocked::NotAsking);
     }
-    let path = seen.path;
-    path_way(path)
+    path_way(seen.path)
 }

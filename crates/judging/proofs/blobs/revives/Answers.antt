@@ -1,13 +1,12 @@
-use mathlib.Core.Path.{ap₂, ◌∙◌}
+use Rattle.std.proofs.Common.{arith}
+use borrow.Author.Tests.{tests}
 use Rattle.octets.specs.Index.{◌and◌}
-use Prim.Native.Nat.{ℕ}
-use lib.Dec.{leb}
 use Rattle.judging.proofs.blobs.revives.Goals as goal
 
-pub greatest_emission-most-requires : goal.greatest_emission-most-requires
-greatest_emission-most-requires c = c.requires
+pub returns-then-path : goal.returns-then-path
+unfolding ◌and◌
+returns-then-path c = grind (arith, tests)
 
-pub returns : goal.returns
-returns c =
-    c.both.ensures ∙ ap₂ (λ (m n : ℕ). c.args.path.notes.marked and leb m n) c.greatest_emission-most.ensures
-    c.emission.ensures
+pub returns-else-path : goal.returns-else-path
+unfolding ◌and◌
+returns-else-path c = grind (arith, tests)

@@ -1,12 +1,14 @@
-use mathlib.Core.Path.{ap, ap₂, ◌∙◌}
-use mathlib.Core.Bool.{Bool, not}
-use Rattle.octets.specs.Index.{◌and◌}
+use Rattle.std.proofs.Common.{arith}
+use borrow.Author.Tests.{tests}
+use Rattle.rules.specs.Tests.{duplicate, tested_as_duplicate}
 use Rattle.judging.specs.Seen.{view_of}
-use Rattle.rules.specs.Tests.{tested_as_duplicate, duplicate}
+use Rattle.octets.specs.Index.{◌and◌}
 use Rattle.judging.proofs.early.duplicate.Goals as goal
 
-pub returns : goal.returns
-unfolding duplicate tested_as_duplicate view_of
-returns c =
-    let tested = c.both-tested.ensures ∙ ap₂ ◌and◌ (ap not c.exempt.ensures) (ap not c.for_marked_path-marked.ensures) in
-    c.both.ensures ∙ ap (λ (t : Bool). t and c.args.seen.remembered) tested
+pub returns-then-not-for_marked_path : goal.returns-then-not-for_marked_path
+unfolding duplicate tested_as_duplicate view_of ◌and◌
+returns-then-not-for_marked_path c = grind (arith, tests)
+
+pub returns-else-not-for_marked_path : goal.returns-else-not-for_marked_path
+unfolding duplicate tested_as_duplicate view_of ◌and◌
+returns-else-not-for_marked_path c = grind (arith, tests)

@@ -1,16 +1,14 @@
-use mathlib.Core.Path.{ap, ◌∙◌}
-use mathlib.Core.Bool.{Bool}
-use Rattle.octets.specs.Index.{◌and◌}
-use Rattle.packet.specs.Read.{longest_packet}
-use Rattle.outgoing.proofs.LeavingLaws.{long}
-use Rattle.judging.specs.Seen.{view_of}
+use Rattle.std.proofs.Common.{arith}
+use borrow.Author.Tests.{tests}
 use Rattle.rules.specs.Tests.{own_announce}
-use native.Mathlib.Omega.{arith}
+use Rattle.judging.specs.Seen.{view_of}
+use Rattle.octets.specs.Index.{◌and◌}
 use Rattle.judging.proofs.early.own_announce.Goals as goal
 
-pub bounds-packet-0 : goal.bounds-packet-0
-bounds-packet-0 c = omega (arith, long longest_packet c.args.packet.now c.requires)
+pub returns-then-is_announce : goal.returns-then-is_announce
+unfolding own_announce view_of ◌and◌
+returns-then-is_announce c = grind (arith, tests)
 
-pub returns : goal.returns
-unfolding own_announce view_of
-returns c = c.both.ensures ∙ ap (λ (t : Bool). t and c.args.seen.local) c.is_announce.ensures
+pub returns-else-is_announce : goal.returns-else-is_announce
+unfolding own_announce view_of ◌and◌
+returns-else-is_announce c = grind (arith, tests)

@@ -6,4 +6,4 @@ use Rattle.judging.proofs.keys.return_key.Goals as goal
 
 pub returns : goal.returns
 unfolding part
-returns c = c.address_at.ensures ∙ ap (take address_width) c.hash_of-hash.ensures
+returns c = c.address_at.ensures ∙ ap (take address_width) c.hash_of.ensures

@@ -1,19 +1,16 @@
-use mathlib.Core.Path.{sym, ap}
-use Rattle.judging.specs.declared.SeenWay.{SeenWay}
-use Rattle.judging.specs.Steps.{proved_by}
+use Rattle.std.proofs.Common.{arith}
+use borrow.Author.Tests.{tests}
+use Rattle.rules.specs.Tests.{follows_proved_link}
 use Rattle.judging.proofs.onward.follows_proved_link.Goals as goal
 
-pub returns-in-Everywhere : goal.returns-in-Everywhere
-returns-in-Everywhere c = sym (ap (λ (w : SeenWay). proved_by w c.args.seen.link.link.proved) c.in-Everywhere.is)
-
-pub returns-in-ByPath : goal.returns-in-ByPath
-returns-in-ByPath c = sym (ap (λ (w : SeenWay). proved_by w c.args.seen.link.link.proved) c.in-ByPath.is)
-
 pub returns-in-AlongLink : goal.returns-in-AlongLink
-returns-in-AlongLink c = sym (ap (λ (w : SeenWay). proved_by w c.args.seen.link.link.proved) c.in-AlongLink.is)
+unfolding follows_proved_link
+returns-in-AlongLink c = grind (arith, tests)
 
-pub returns-in-ByReturn : goal.returns-in-ByReturn
-returns-in-ByReturn c = sym (ap (λ (w : SeenWay). proved_by w c.args.seen.link.link.proved) c.in-ByReturn.is)
+pub returns-in_default : goal.returns-in_default
+unfolding follows_proved_link
+returns-in_default c = grind (arith, tests)
 
-pub returns-in-Blocked : goal.returns-in-Blocked
-returns-in-Blocked c = sym (ap (λ (w : SeenWay). proved_by w c.args.seen.link.link.proved) c.in-Blocked.is)
+pub returns-in_default-2 : goal.returns-in_default-2
+unfolding follows_proved_link
+returns-in_default-2 c = grind (arith, tests)

@@ -1,64 +1,27 @@
-use mathlib.Core.Path.{sym, ap, ap₂, ◌∙◌}
-use mathlib.Core.Bool.{not}
-use Rattle.octets.specs.Choice.{◌or◌}
-use Rattle.packet.specs.Read.{longest_packet}
-use Rattle.outgoing.proofs.LeavingLaws.{long}
-use Rattle.judging.specs.Seen.{arrival_of, way_of}
-use Rattle.judging.specs.declared.SeenWay.{SeenWay}
-use Rattle.octets.proofs.Choice.{then_true, then_false}
-use Rattle.rules.specs.Tests.{wrong_side}
-use Rattle.judging.proofs.SeenLaws.{answering_side, asking_side}
-use native.Mathlib.Omega.{arith}
+use Rattle.std.proofs.Common.{arith}
+use borrow.Author.Tests.{tests}
+use Rattle.rules.specs.Tests.{wrong_side, from_answering_side, from_asking_side}
+use Rattle.octets.specs.Index.{◌and◌}
+use Rattle.octets.specs.Choice.{◌or◌, ◌then◌otherwise◌}
+use Rattle.packet.proofs.ReadLaws.{parts_hops}
 use Rattle.judging.proofs.onward.wrong_side.Goals as goal
 
-pub bounds-packet-1 : goal.bounds-packet-1
-bounds-packet-1 c = omega (arith, long longest_packet c.args.packet.now c.requires)
+pub returns-then-is_link_proof : goal.returns-then-is_link_proof
+unfolding wrong_side from_answering_side from_asking_side ◌and◌ ◌or◌ ◌then◌otherwise◌
+returns-then-is_link_proof c = grind (arith, tests, parts_hops)
 
-pub returns-then-from_answering_side : goal.returns-then-from_answering_side
-unfolding wrong_side
-returns-then-from_answering_side c =
-    let a = arrival_of c.args.packet.now c.args.arrived in
-    let s = c.args.seen in
-    sym (ap (λ (w : SeenWay). wrong_side a (way_of s a w)) c.in-AlongLink.is
-    ∙ then_true _ _ (answering_side s a s.link.link ∙ sym c.from_answering_side.ensures ∙ c.if-from_answering_side.true))
+pub returns-else-is_link_proof : goal.returns-else-is_link_proof
+unfolding wrong_side from_answering_side from_asking_side ◌and◌ ◌or◌ ◌then◌otherwise◌
+returns-else-is_link_proof c = grind (arith, tests, parts_hops)
 
-pub bounds-packet-1-in-AlongLink : goal.bounds-packet-1-in-AlongLink
-bounds-packet-1-in-AlongLink c = omega (arith, long longest_packet c.args.packet.now c.requires)
-
-pub returns-in-Everywhere : goal.returns-in-Everywhere
-unfolding wrong_side
-returns-in-Everywhere c =
-    let a = arrival_of c.args.packet.now c.args.arrived in
-    let s = c.args.seen in
-    sym (ap (λ (w : SeenWay). wrong_side a (way_of s a w)) c.in-Everywhere.is)
-
-pub returns-in-ByPath : goal.returns-in-ByPath
-unfolding wrong_side
-returns-in-ByPath c =
-    let a = arrival_of c.args.packet.now c.args.arrived in
-    let s = c.args.seen in
-    sym (ap (λ (w : SeenWay). wrong_side a (way_of s a w)) c.in-ByPath.is)
-
-pub returns-else-from_answering_side : goal.returns-else-from_answering_side
-unfolding wrong_side
-returns-else-from_answering_side c =
-    let a = arrival_of c.args.packet.now c.args.arrived in
-    let s = c.args.seen in
-    c.either.ensures
-    ∙ ap₂ ◌or◌ c.is_link_proof.ensures (ap not (c.from_asking_side-asking.ensures ∙ sym (asking_side s a s.link.link)))
-    ∙ sym (ap (λ (w : SeenWay). wrong_side a (way_of s a w)) c.in-AlongLink.is
-    ∙ then_false _ _ (answering_side s a s.link.link ∙ sym c.from_answering_side.ensures ∙ c.if-from_answering_side.false))
+pub returns-else-not-from_answering_side : goal.returns-else-not-from_answering_side
+unfolding wrong_side from_answering_side from_asking_side ◌and◌ ◌or◌ ◌then◌otherwise◌
+returns-else-not-from_answering_side c = grind (arith, tests, parts_hops)
 
 pub returns-in-ByReturn : goal.returns-in-ByReturn
-unfolding wrong_side
-returns-in-ByReturn c =
-    let a = arrival_of c.args.packet.now c.args.arrived in
-    let s = c.args.seen in
-    sym (ap (λ (w : SeenWay). wrong_side a (way_of s a w)) c.in-ByReturn.is)
+unfolding wrong_side from_answering_side from_asking_side ◌and◌ ◌or◌ ◌then◌otherwise◌
+returns-in-ByReturn c = grind (arith, tests, parts_hops)
 
-pub returns-in-Blocked : goal.returns-in-Blocked
-unfolding wrong_side
-returns-in-Blocked c =
-    let a = arrival_of c.args.packet.now c.args.arrived in
-    let s = c.args.seen in
-    sym (ap (λ (w : SeenWay). wrong_side a (way_of s a w)) c.in-Blocked.is)
+pub returns-in_default : goal.returns-in_default
+unfolding wrong_side from_answering_side from_asking_side ◌and◌ ◌or◌ ◌then◌otherwise◌
+returns-in_default c = grind (arith, tests, parts_hops)

@@ -1,33 +1,31 @@
-use mathlib.Core.Path.{sym, ◌∙◌}
-use Rattle.octets.proofs.Choice.{then_true, then_false}
-use Rattle.rules.specs.Rate.{entry_accepted, entry_revived}
+use Rattle.std.proofs.Common.{rules, arith, ℕ, ◌<◌, true, ◌≡◌, refl}
+use borrow.Author.Tests.{tests, lt-ltb}
+use Rattle.octets.specs.Index.{◌and◌}
+use Rattle.octets.specs.Choice.{◌then◌otherwise◌}
+use Rattle.octets.proofs.Index.{and_both, and_right}
+use Rattle.numbers.specs.Numbers.{clock_limit}
+use Rattle.rules.specs.Rate.{starts_at, entry_revived, entry_accepted}
+use Rattle.rules.specs.Refusals.{rate_entry_ok}
+use Rattle.rules.specs.declared.RateEntry.{RateEntry}
 use Rattle.rules.proofs.Ranges.{accepted_rate_ok}
-use Rattle.judging.specs.Steps.{rate_announced}
-use Rattle.judging.proofs.AnnouncedLaws.{started_ok, revived_ok}
 use Rattle.judging.proofs.records.announced_rate.Goals as goal
 
-pub returns-then-not-known : goal.returns-then-not-known
-unfolding rate_announced
-returns-then-not-known c = (sym (then_true _ _ c.if-not-known.true), started_ok c.args.clock c.requires.2)
+module _ (clock : ℕ) (l : clock < clock_limit) where
+  started_ok : rate_entry_ok (starts_at clock) ≡ true
+  unfolding rate_entry_ok ◌and◌
+  started_ok = and_both (lt-ltb clock clock_limit l) refl
 
-pub revives-requires : goal.revives-requires
-revives-requires c = c.requires.1.blobs
+  revived_ok : (e : RateEntry) → rate_entry_ok e ≡ true → rate_entry_ok (entry_revived clock e) ≡ true
+  unfolding rate_entry_ok entry_revived
+  revived_ok e ok = and_both (lt-ltb clock clock_limit l) (and_right _ _ ok)
+
+pub returns-in_default : goal.returns-in_default
+returns-in_default c = (search rules, started_ok c.args.clock c.requires.2)
 
 pub returns-then-revives : goal.returns-then-revives
-unfolding rate_announced entry_revived
-returns-then-revives c = (
-  sym (then_false _ _ c.if-not-known.false ∙ then_true _ _ (sym c.revives.ensures
-      ∙ c.if-revives.true)),
-  revived_ok c.args.clock c.requires.2 c.args.known.rate c.requires.1.entry,
-)
-
-pub rule-rated-requires : goal.rule-rated-requires
-rule-rated-requires c = (c.requires.0, c.requires.1.entry)
+unfolding entry_revived ◌then◌otherwise◌
+returns-then-revives c = grind (arith, tests, revived_ok c.args.clock c.requires.2)
 
 pub returns : goal.returns
-unfolding rate_announced entry_accepted
-returns c =
-    let s = c.args in (
-      rw c.rule-rated.ensures (sym (then_false _ _ c.if-not-known.false ∙ then_false _ _ (sym c.revives.ensures ∙ c.if-revives.false))),
-      rw c.rule-rated.ensures (accepted_rate_ok s.settings s.known.rate s.clock c.requires.0 c.requires.1.entry c.requires.2),
-    )
+unfolding entry_accepted ◌then◌otherwise◌
+returns c = grind (arith, tests, accepted_rate_ok)

@@ -1,16 +1,17 @@
-use mathlib.Core.Path.{sym, ◌∙◌}
-use Rattle.octets.proofs.Choice.{then_true, then_false}
-use Rattle.judging.specs.Steps.{link_way_by}
+use Rattle.std.proofs.Common.{arith}
+use borrow.Author.Tests.{tests}
+use Rattle.rules.specs.Ways.{link_way}
+use Rattle.octets.specs.Choice.{◌then◌otherwise◌, ◌or◌}
 use Rattle.judging.proofs.ways.link_way.Goals as goal
 
-pub returns-then-not-link : goal.returns-then-not-link
-unfolding link_way_by
-returns-then-not-link c = sym (then_true _ _ c.if-not-link.true)
+pub returns-in-None : goal.returns-in-None
+unfolding link_way ◌then◌otherwise◌ ◌or◌
+returns-in-None c = grind (arith, tests)
 
-pub returns-then-either : goal.returns-then-either
-unfolding link_way_by
-returns-then-either c = sym (then_false _ _ c.if-not-link.false ∙ then_true _ _ (sym c.either.ensures ∙ c.if-either.true))
+pub returns-in-Some : goal.returns-in-Some
+unfolding link_way ◌then◌otherwise◌ ◌or◌
+returns-in-Some c = grind (arith, tests)
 
-pub returns : goal.returns
-unfolding link_way_by
-returns c = sym (then_false _ _ c.if-not-link.false ∙ then_false _ _ (sym c.either.ensures ∙ c.if-either.false))
+pub returns-in-Some-2 : goal.returns-in-Some-2
+unfolding link_way ◌then◌otherwise◌ ◌or◌
+returns-in-Some-2 c = grind (arith, tests)

@@ -1,12 +1,12 @@
-use mathlib.Core.Path.{sym}
-use Rattle.octets.proofs.Choice.{then_true, then_false}
-use Rattle.judging.specs.Steps.{path_way_by}
+use Rattle.std.proofs.Common.{arith}
+use borrow.Author.Tests.{tests}
+use Rattle.rules.specs.Ways.{path_way, no_path}
 use Rattle.judging.proofs.ways.path_way.Goals as goal
 
-pub returns-then-path : goal.returns-then-path
-unfolding path_way_by
-returns-then-path c = sym (then_true _ _ c.if-path.true)
+pub returns-in-None : goal.returns-in-None
+unfolding path_way no_path
+returns-in-None c = grind (arith, tests)
 
-pub returns : goal.returns
-unfolding path_way_by
-returns c = sym (then_false _ _ c.if-path.false)
+pub returns-in-Some : goal.returns-in-Some
+unfolding path_way no_path
+returns-in-Some c = grind (arith, tests)
