@@ -1,5 +1,5 @@
--- For the contracts of helpers: not part of what a reader must believe, but for `settings_view`, `LeavesReturn` and `LimitsPath`.
-use Rattle.std.specs.Prelude.{ℕ, ◌≤◌, Option, Some, None, Bool, true, false, not, List, [], ◌≡◌, eqb, ltb, leb, length, get_or}
+-- For the contracts of helpers: not part of what a reader must believe, but for `settings_view`, `left_return` and `limited`.
+use Rattle.std.specs.Prelude.{ℕ, ◌+◌, ◌≤◌, Option, Some, None, Bool, true, false, not, List, [], ◌≡◌, eqb, ltb, leb, length, get_or}
 use Rattle.octets.specs.Index.{◌and◌}
 use Rattle.octets.specs.Choice.{◌then◌otherwise◌}
 use Rattle.octets.specs.Listed.{◌each_give◌otherwise◌, first_of}
@@ -7,8 +7,8 @@ use Rattle.octets.specs.Part.{patch}
 use Rattle.packet.specs.Read.{longest_packet, reads, payload}
 use Rattle.packet.specs.Announce.{emission_of}
 use Rattle.packet.specs.Places.{blob_end}
-use Rattle.numbers.specs.Numbers.{blob_limit}
-use Rattle.rules.specs.Relay.{empty, Blobs, Path, with_path_rate}
+use Rattle.numbers.specs.Numbers.{blob_limit, return_lifetime}
+use Rattle.rules.specs.Relay.{empty, Blobs, Path}
 use Rattle.rules.specs.View.{View}
 use Rattle.rules.specs.Arrival.{Arrival, destination}
 use Rattle.rules.specs.Blobs.{held, greatest_emission, one_blob, store_blob}
@@ -17,7 +17,7 @@ use Rattle.rules.specs.Tests.{of_known, known_tests}
 use Rattle.rules.specs.Ways.{Way}
 use Rattle.rules.specs.Outgoing.{outgoing}
 use Rattle.rules.specs.Judging.{Plan, dropped, follows, leaving_tests, way_verdict, leaves}
-use Rattle.rules.specs.Writes.{return_key, return_record, remembers_drop}
+use Rattle.rules.specs.Writes.{remembers_drop}
 use Rattle.rules.specs.declared.RateSettings.{RateSettings}
 use Rattle.rules.specs.declared.RateEntry.{RateEntry}
 use Rattle.rules.specs.declared.Verdict.{Verdict}
@@ -108,14 +108,12 @@ blobs_announced None blob = one_blob blob_limit blob
 blobs_announced (Some s) blob = store_blob blob_limit blob (blobs_of s.blobs)
 
 -- wish 5: "A rate drop changes violations and blocked-until alone, besides what every drop changes"
-abbrev pub LimitsPath : RateSettings → ℕ → SeenPath → SeenPath → Type 0
-LimitsPath settings clock s r =
-    (destination : List ℕ) → path_record destination r ≡ with_path_rate (entry_dropped settings clock s.rate) (path_record destination s)
+abbrev pub limited : RateSettings → ℕ → SeenPath → SeenPath
+limited settings clock s = record s { rate = entry_dropped settings clock s.rate }
 
--- the return record of any packet that so came and goes by the path
-abbrev pub LeavesReturn : SeenPath → Arrived → SeenReturn → Type 0
-LeavesReturn s m r = (bytes : List ℕ)
-    → return_record_of (return_key (arrival_of bytes m)) r ≡ return_record (arrival_of bytes m) (path_record (destination (arrival_of bytes m)) s)
+-- the return record of any packet that so came and goes by the path: `return_left`, proofs/Left.antt
+abbrev pub left_return : SeenPath → Arrived → SeenReturn
+left_return s m = record { arrival = m.port; leaving = s.port; expiry = m.clock + return_lifetime }
 
 abbrev pub plan_remembers : Planned → Bool
 plan_remembers (Drop reason) = remembers_drop reason

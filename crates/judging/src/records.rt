@@ -10,7 +10,7 @@ ghost use Rattle.rules.specs.Writes.{link_record, renewed_link, announced_path};
 ghost use Rattle.rules.specs.Writes.{remembers as is_remembered};
 ghost use Rattle.judging.specs.Seen.{arrival_of, blobs_of, path_record, path_of, PathFits, EachFits, plan_of, as_seen};
 ghost use Rattle.judging.specs.Steps.{settings_view, rate_announced, blobs_announced};
-ghost use Rattle.judging.specs.Steps.{LimitsPath, LeavesReturn, plan_remembers};
+ghost use Rattle.judging.specs.Steps.{limited, left_return, plan_remembers};
 
 use super::blobs::revives;
 use super::early::for_marked_path;
@@ -95,7 +95,7 @@ pub fn announced_path(
 // else.
 pub fn limited_path(settings: RateSettings, known: SeenPath, clock: u64) -> SeenPath
     requires { (rate_settings_ok settings ≡ true) × PathFits known }
-    ensures { LimitsPath settings clock known result × PathFits result }
+    ensures { (result ≡ limited settings clock known) × PathFits result }
 {
     let rated = rate::rule(settings, clock, known.rate);
     let rate = RateEntry {
@@ -110,7 +110,7 @@ pub fn limited_path(settings: RateSettings, known: SeenPath, clock: u64) -> Seen
 // The return record that data forwarded by a path leaves, under its return key.
 pub fn return_record(path: SeenPath, arrived: Arrived) -> SeenReturn
     requires { arrived.clock < clock_limit }
-    ensures { LeavesReturn path arrived result }
+    ensures { result ≡ left_return path arrived }
 {
     SeenReturn {
         arrival: arrived.port,

@@ -1,5 +1,5 @@
 -- What an entry is, by its kind; and one step of a walk through the log.
-use Prim.Native.Nat.{ℕ, ◌+◌, ◌≤◌}
+use Prim.Native.Nat.{ℕ, ◌+◌, ◌-◌, ◌≤◌, ◌<◌}
 use native.Mathlib.Numerals.{add-one}
 use native.Mathlib.Omega.{arith}
 use mathlib.Core.Bool.{true, false, not}
@@ -140,16 +140,11 @@ module _ (e : List ℕ) where
       none : (kind_in e ≡ 1 → ⊥) → (kind_in e ≡ 2 → ⊥) → (kind_in e ≡ 3 → ⊥) → (kind_in e ≡ 4 → ⊥) → (kind_in e ≡ 5 → ⊥) → (kind_in e ≡ 6 → ⊥) → kind_in e ≡ 0
       none h₁ h₂ h₃ h₄ h₅ h₆ = omega (arith, kind_most)
 
--- ---- one step of a walk
-one_more_lem : (log : List ℕ) (i : ℕ) → known_in log (i + 1) ≡ after (entry_of (entry_bytes log i)) (known_in log i)
+-- ---- one step of a walk, from the oldest entry on
+pub one_more : (log : List ℕ) (i : ℕ) (x : Entry) → x ≡ entry_of (entry_bytes log i) → known_in log (i + 1) ≡ after x (known_in log i)
 unfolding known_in entries_of known_of
-one_more_lem log i = rw (add-one i)
+one_more log i x e = rw (add-one i, sym e)
 
-module _ {A : Type 0} (f : Known → A) {x : A} (log e : List ℕ) (i : ℕ) where
-  -- from the oldest entry on
-  pub onward : e ≡ entry_bytes log i → f (after (entry_of e) (known_in log i)) ≡ x → f (known_in log (i + 1)) ≡ x
-  onward is h = ap f (one_more_lem log i) ∙ ap (λ (b : List ℕ). f (after (entry_of b) (known_in log i))) (sym is) ∙ h
-
-  -- from the newest entry back
-  pub back : (n : ℕ) → n ≡ i + 1 → e ≡ entry_bytes log i → f (after (entry_of e) (known_in log i)) ≡ x → f (known_in log n) ≡ x
-  back n last is h = ap (λ (m : ℕ). f (known_in log m)) last ∙ onward is h
+-- .. and from the newest entry back
+pub one_back : (log : List ℕ) (i : ℕ) (x : Entry) → 0 < i → x ≡ entry_of (entry_bytes log (i - 1)) → known_in log i ≡ after x (known_in log (i - 1))
+one_back log i x h e = ap (known_in log) (omega arith) ∙ one_more log (i - 1) x e

@@ -1,5 +1,7 @@
 -- The small laws of reading an entry's bytes.
-use Prim.Native.Nat.{ℕ, ◌+◌, ◌-◌, ◌%◌, ◌≤◌, ◌<◌}
+use Prim.Native.Nat.{ℕ, ◌+◌, ◌-◌, ◌%◌, ◌≤◌, ◌<◌, min}
+use Rattle.std.proofs.Common.{⊎_elim}
+use Rattle.std.proofs.lemmas.Bool.{cases_lt}
 use native.Mathlib.Omega.{arith}
 use mathlib.Core.Bool.{Bool}
 use mathlib.Core.List.{List}
@@ -25,36 +27,16 @@ pub clock_small : (e : List ℕ) → Bytes e → length e ≡ entry_width → cl
 clock_small e b h = number_lt (part e clock_at clock_width) clock_width (part_bytes e clock_at clock_width b) (part_length e clock_at clock_width (omega arith))
 
 -- a body has no more bytes than the longest packet
-pub part_all : (e : List ℕ) (n : ℕ) → length e ≡ entry_width → longest_packet ≤ n → part e body_at longest_packet ≡ part e body_at n
+pub part_least : (e : List ℕ) (n m : ℕ) → length e ≡ entry_width → m ≡ min n longest_packet → part e body_at m ≡ part e body_at n
 unfolding part
-part_all e n h l =
+part_least e n m h l =
     let few : length (drop body_at e) ≡ longest_packet = length-drop body_at e ∙ omega arith in
-    take_all longest_packet (drop body_at e) (omega arith) ∙ sym (take_all n (drop body_at e) (omega arith))
-
--- bytes compared with those at a place of a longer run
-pub bytes_same : (w : ℕ) (t : List ℕ) (at : ℕ) (b : List ℕ) → at + w ≤ length t → length b ≡ w → (r : Bool)
-    → r ≡ agree (length b) (part t at (length b)) b → r ≡ same (part t at w) b
-bytes_same w t at b long wide r compared =
-    compared
-    ∙ ap (λ (n : ℕ). agree n (part t at n) b) wide
-    ∙ sym (same_agree w (part t at w) b (part_length t at w long) wide)
-
--- .. and with a whole one
-pub whole_same : (w : ℕ) (t : List ℕ) (b : List ℕ) → length t ≡ w → length b ≡ w → (r : Bool) → r ≡ agree (length b) (part t 0 (length b)) b → r ≡ same t b
-whole_same w t b long wide r compared =
-    bytes_same w t 0 b (omega arith) wide r compared ∙ ap (λ (s : List ℕ). same s b) (part_whole t w long)
-
-pub address_same : (a b : List ℕ) → length a ≡ address_width → length b ≡ address_width → (r : Bool) → r ≡ agree address_width a b → r ≡ same a b
-address_same a b long wide r compared = compared ∙ sym (same_agree address_width a b long wide)
+    ⊎_elim (λ (k : n < longest_packet). ap (λ (i : ℕ). part e body_at i) (omega arith))
+    (λ (k : longest_packet ≤ n). take_all m (drop body_at e) (omega arith) ∙ sym (take_all n (drop body_at e) (omega arith)))
+    (cases_lt n longest_packet)
 
 pub image_at : (e : List ℕ) (port : ℕ) → port < port_count → get_or e (body_at + port) 0 % port_count ≡ image (images_in e) port
 image_at e port l =
     ap (λ (x : ℕ). x % port_count) (sym (part_at e body_at port_count port l))
     ∙ sym (get_or-map (λ (x : ℕ). x % port_count) (part e body_at port_count) port 0)
     ∙ sym (image_port (images_in e) port l)
-
--- how many addresses are local, at most
-pub number_most : (kind b i : ℕ) → b ≤ i → (r : ℕ) → r ≡ (eqb kind 4 then b + 1 otherwise eqb kind 5 then b - 1 otherwise b) → r ≤ i + 1
-number_most kind b i h r is =
-    subst (λ (n : ℕ). n ≤ i + 1) (sym is)
-    (either (λ (n : ℕ). n ≤ i + 1) (eqb kind 4) (λ _. omega arith) (λ _. either (λ (n : ℕ). n ≤ i + 1) (eqb kind 5) (λ _. omega arith) (λ _. omega arith)))

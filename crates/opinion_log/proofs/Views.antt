@@ -11,7 +11,8 @@ use borrow.Author.Tests.{ne_eqb, eqb-true, eqb-false, ltb-true, ltb-false}
 use Rattle.octets.specs.Index.{◌and◌}
 use Rattle.octets.proofs.Index.{and_false, first_absent}
 use Rattle.packet.specs.Header.{is_data}
-use Rattle.rules.specs.Relay.{fresh_port}
+use Rattle.rules.specs.Relay.{Port, fresh_port}
+use Rattle.octets.proofs.Choice.{then_false}
 use Rattle.rules.specs.Renumbering.{preimage}
 use Rattle.rules.specs.Arrival.{Arrival, header}
 use Rattle.rules.proofs.Images.{image_port}
@@ -25,10 +26,10 @@ use Rattle.judging.specs.Seen.{no_seen_port, plan_of}
 use Rattle.history.specs.Known.{Known, fresh_known, now_path, now_link, now_return, now_until, now_clock, now_rate, now_port, now_local, change_path}
 use Rattle.history.specs.After.{Entry, came, after, after_call, renumbered_known, known_of}
 use Rattle.opinion_log.specs.Log.{port_in, images_in, kind_in, own_in, entry_of, entry_bytes, entries_of, known_in, body_at}
-use Rattle.opinion_log.specs.Steps.{way_effect, plan_effect, effect_of, keeps_hash, planned_effect, port_seen}
+use Rattle.opinion_log.specs.Steps.{port_seen}
 use Rattle.opinion_log.proofs.Reading.{image_at}
 use Rattle.opinion_log.proofs.Entries.{by_kind}
-use Rattle.opinion_log.proofs.Walk.{packet_plan, plan_stays, port_back}
+use Rattle.opinion_log.proofs.Walk.{packet_plan, plan_stays, packet_port}
 use Rattle.numbers.specs.Numbers.{port_count}
 
 -- ---- ports of no number
@@ -43,11 +44,13 @@ no_preimage e port l = first_absent (λ i. eqb (get_or (images_in e) i 0) port) 
 
 beyond_step : (e : List ℕ) (k : Known) → ((port : ℕ) → port_count ≤ port → k.port port ≡ fresh_port) → (port : ℕ) → port_count ≤ port
     → (after (entry_of e) k).port port ≡ fresh_port
+unfolding after after_call now_port now_rate now_local renumbered_known now_clock change_path now_path
 beyond_step e k known port l =
-    port_back e k port (ap (λ (b : Bool). eqb (kind_in e) 2 and b) (ne_eqb port (port_in e) other) ∙ and_false (eqb (kind_in e) 2))
-    ∙ either (λ (q : ℕ). k.port q ≡ fresh_port) (eqb (kind_in e) 0)
+    by_kind e (λ (x : Entry). (after x k).port port ≡ fresh_port)
+    (λ _. ap (λ (f : ℕ → Port). f port) (packet_port k _) ∙ known port l)
+    (λ _. then_false _ _ (ne_eqb port (port_in e) other) ∙ known port l)
+    (λ _. known port l) (λ _. known port l) (λ _. known port l) (λ _. known port l)
     (λ _. known (preimage (images_in e) port) (omega (arith, no_preimage e port l)))
-    (λ _. known port l)
   where
     other : port ≡ port_in e → ⊥
     other q = omega arith
@@ -88,17 +91,6 @@ filled P xs i x d l before here j h = go (eqb j i) refl
         let apart : j ≡ i → ⊥ = eqb-false j i q in
         subst (P j) (sym (get_or-set_other xs i j x d apart)) (before j (omega arith))
 
--- ---- the effect of a plan
-pub effect_planned : (s : Seen) (a : Arrival) (r : Planned) → planned_effect r (is_data (header a)) ≡ plan_effect a (plan_of s a r)
-unfolding plan_effect way_effect
-effect_planned s a (Drop reason) = refl
-effect_planned s a Deliver = refl
-effect_planned s a (Follow Everywhere) = refl
-effect_planned s a (Follow ByPath) = refl
-effect_planned s a (Follow AlongLink) = refl
-effect_planned s a (Follow ByReturn) = refl
-effect_planned s a (Follow (Blocked why)) = refl
-
 -- ---- all ports
 pub all_ports : (log : List ℕ) (n : ℕ) (ports : List SeenPort) → length ports ≡ port_count
     → ((port : ℕ) → port < port_count → port_seen (get_or ports port no_seen_port) ≡ (known_in log n).port port)
@@ -110,10 +102,3 @@ all_ports log n ports wide each port = go (ltb port port_count) refl
     go false q =
         let over : port_count ≤ port = ltb-false port port_count q in
         ap port_seen (get_or-eq_default ports no_seen_port (omega arith)) ∙ sym (port_beyond log n port over)
-
--- ---- an entry that is no packet
-pub idle : (e : List ℕ) (k : Known) → (kind_in e ≡ 1 → ⊥) → (0 ≡ effect_of (entry_of e) k) × (false ≡ keeps_hash (entry_of e) k)
-unfolding effect_of keeps_hash
-idle e k other =
-    by_kind e (λ (x : Entry). (0 ≡ effect_of x k) × (false ≡ keeps_hash x k))
-    (λ q. absurd (other q)) (λ _. (refl, refl)) (λ _. (refl, refl)) (λ _. (refl, refl)) (λ _. (refl, refl)) (λ _. (refl, refl)) (λ _. (refl, refl))

@@ -20,7 +20,8 @@ use Rattle.rules.specs.Writes.{remembers}
 use Rattle.rules.specs.declared.Link.{Link}
 use Rattle.rules.proofs.Choices.{either}
 use Rattle.history.specs.Known.{Known, fresh_known, seen_at, now_under, now_path, now_link, now_return, now_until, now_clock, now_rate, now_port, now_local, change_path}
-use Rattle.history.specs.After.{Entry, came, after_way, after_drop, after_plan, after_hash, after_packet, renumbered_known, after_call, after, known_of}
+use Rattle.rules.specs.Calls.{TableCall}
+use Rattle.history.specs.After.{Entry, came, called, after_way, after_drop, after_plan, after_hash, after_packet, renumbered_known, after_call, after, known_of}
 use Rattle.opinion_log.specs.Log.{port_in, word_in, mode_in, clock_in, length_in, arrival_in, rate_in, address_in, images_in, kind_in, entry_of, entries_of, known_in}
 use Rattle.opinion_log.specs.Steps.{keeps_hash}
 use Rattle.opinion_log.proofs.Entries.{entry_came, entry_port, entry_rate, entry_added, entry_removed, entry_marked, by_kind}
@@ -60,35 +61,35 @@ packet_plan f until clock k a =
     (λ _. until _ _ _ ∙ clock _ _)
     (λ _. clock _ _)
 
-packet_port : (k : Known) (a : Arrival) → (after (came a) k).port ≡ k.port
+pub packet_port : (k : Known) (a : Arrival) → (after (came a) k).port ≡ k.port
 unfolding now_path now_link now_return now_until now_clock
 packet_port k a =
     packet_plan (λ (x : Known). x.port) (λ _ _ _. refl) (λ _ _. refl) k a
     ∙ plan_stays (λ (x : Known). x.port) (λ _ _ _. refl) (λ _ _ _. refl) (λ _ _ _. refl) _ a _ k
 
-packet_rate : (k : Known) (a : Arrival) → (after (came a) k).rate ≡ k.rate
+pub packet_rate : (k : Known) (a : Arrival) → (after (came a) k).rate ≡ k.rate
 unfolding now_path now_link now_return now_until now_clock
 packet_rate k a =
     packet_plan (λ (x : Known). x.rate) (λ _ _ _. refl) (λ _ _. refl) k a
     ∙ plan_stays (λ (x : Known). x.rate) (λ _ _ _. refl) (λ _ _ _. refl) (λ _ _ _. refl) _ a _ k
 
-packet_local : (k : Known) (a : Arrival) → (after (came a) k).local ≡ k.local
+pub packet_local : (k : Known) (a : Arrival) → (after (came a) k).local ≡ k.local
 unfolding now_path now_link now_return now_until now_clock
 packet_local k a =
     packet_plan (λ (x : Known). x.local) (λ _ _ _. refl) (λ _ _. refl) k a
     ∙ plan_stays (λ (x : Known). x.local) (λ _ _ _. refl) (λ _ _ _. refl) (λ _ _ _. refl) _ a _ k
 
-packet_locals : (k : Known) (a : Arrival) → (after (came a) k).locals ≡ k.locals
+pub packet_locals : (k : Known) (a : Arrival) → (after (came a) k).locals ≡ k.locals
 unfolding now_path now_link now_return now_until now_clock
 packet_locals k a =
     packet_plan (λ (x : Known). x.locals) (λ _ _ _. refl) (λ _ _. refl) k a
     ∙ plan_stays (λ (x : Known). x.locals) (λ _ _ _. refl) (λ _ _ _. refl) (λ _ _ _. refl) _ a _ k
 
-packet_clock : (k : Known) (a : Arrival) → (after (came a) k).clock ≡ a.clock
+pub packet_clock : (k : Known) (a : Arrival) → (after (came a) k).clock ≡ a.clock
 unfolding after after_packet after_hash now_clock now_until
 packet_clock k a = either (λ (x : Known). x.clock ≡ a.clock) _ (λ _. refl) (λ _. refl)
 
-packet_until : (k : Known) (a : Arrival) (h : List ℕ)
+pub packet_until : (k : Known) (a : Arrival) (h : List ℕ)
     → (after (came a) k).until h ≡ (keeps_hash (came a) k then now_under (hash a) (a.clock + hash_lifetime) k.until h otherwise k.until h)
 unfolding after after_packet after_hash keeps_hash now_until now_clock now_path now_link now_return
 packet_until k a h = go (remembers v a (plan v a)) refl
@@ -107,123 +108,6 @@ packet_until k a h = go (remembers v a (plan v a)) refl
         ∙ ap (λ (f : List ℕ → ℕ). now_under (hash a) (a.clock + hash_lifetime) f h) stays
         ∙ sym (then_true _ _ q)
     go false q = ap (λ (x : Known). x.until h) (then_false _ _ q) ∙ ap (λ (f : List ℕ → ℕ). f h) stays ∙ sym (then_false _ _ q)
-
-module _ (e : List ℕ) (k : Known) where
-  -- ---- the last clock
-  pub clock_came : kind_in e ≡ 1 → (after (entry_of e) k).clock ≡ clock_in e
-  clock_came h = ap (λ (x : Entry). (after x k).clock) (entry_came e h) ∙ packet_clock k (arrival_in e)
-
-  pub clock_marked : kind_in e ≡ 6 → (after (entry_of e) k).clock ≡ clock_in e
-  unfolding after after_call now_clock
-  clock_marked h = ap (λ (x : Entry). (after x k).clock) (entry_marked e h)
-
-  pub clock_stays : (kind_in e ≡ 1 → ⊥) → (kind_in e ≡ 6 → ⊥) → (after (entry_of e) k).clock ≡ k.clock
-  unfolding after after_call now_port now_rate now_local renumbered_known
-  clock_stays h l =
-      by_kind e (λ (x : Entry). (after x k).clock ≡ k.clock)
-      (λ q. absurd (h q)) (λ _. refl) (λ _. refl) (λ _. refl) (λ _. refl) (λ q. absurd (l q)) (λ _. refl)
-
-  -- ---- the rate
-  pub rate_set : kind_in e ≡ 3 → (after (entry_of e) k).rate ≡ rate_in e
-  unfolding after after_call now_rate
-  rate_set h = ap (λ (x : Entry). (after x k).rate) (entry_rate e h)
-
-  pub rate_stays : (kind_in e ≡ 3 → ⊥) → (after (entry_of e) k).rate ≡ k.rate
-  unfolding after after_call now_port now_local renumbered_known now_clock change_path now_path
-  rate_stays h =
-      by_kind e (λ (x : Entry). (after x k).rate ≡ k.rate)
-      (λ _. packet_rate k _) (λ _. refl) (λ q. absurd (h q)) (λ _. refl) (λ _. refl) (λ _. refl) (λ _. refl)
-
-  -- ---- the local addresses
-  pub local_added : (address : List ℕ) → kind_in e ≡ 4 → same (address_in e) address ≡ true → (after (entry_of e) k).local address ≡ true
-  unfolding after after_call now_local now_under
-  local_added address h q = ap (λ (x : Entry). (after x k).local address) (entry_added e h) ∙ then_true _ _ q
-
-  pub local_removed : (address : List ℕ) → kind_in e ≡ 5 → same (address_in e) address ≡ true → (after (entry_of e) k).local address ≡ false
-  unfolding after after_call now_local now_under
-  local_removed address h q = ap (λ (x : Entry). (after x k).local address) (entry_removed e h) ∙ then_true _ _ q
-
-  pub local_another : (address : List ℕ) → same (address_in e) address ≡ false → (after (entry_of e) k).local address ≡ k.local address
-  unfolding after after_call now_port now_rate now_local now_under renumbered_known now_clock change_path now_path
-  local_another address q =
-      by_kind e (λ (x : Entry). (after x k).local address ≡ k.local address)
-      (λ _. ap (λ (f : List ℕ → Bool). f address) (packet_local k _)) (λ _. refl) (λ _. refl)
-      (λ _. then_false _ _ q) (λ _. then_false _ _ q) (λ _. refl) (λ _. refl)
-
-  pub local_stays : (address : List ℕ) → (kind_in e ≡ 4 → ⊥) → (kind_in e ≡ 5 → ⊥) → (after (entry_of e) k).local address ≡ k.local address
-  unfolding after after_call now_port now_rate renumbered_known now_clock change_path now_path
-  local_stays address h l =
-      by_kind e (λ (x : Entry). (after x k).local address ≡ k.local address)
-      (λ _. ap (λ (f : List ℕ → Bool). f address) (packet_local k _)) (λ _. refl) (λ _. refl) (λ q. absurd (h q)) (λ q. absurd (l q)) (λ _. refl) (λ _. refl)
-
-  pub number_more : (after (entry_of e) k).locals ≡ (eqb (kind_in e) 4 then k.locals + 1 otherwise eqb (kind_in e) 5 then k.locals - 1 otherwise k.locals)
-  unfolding after after_call now_port now_rate now_local renumbered_known now_clock change_path now_path
-  number_more =
-      by_kind e (λ (x : Entry). (after x k).locals ≡ (eqb (kind_in e) 4 then k.locals + 1 otherwise eqb (kind_in e) 5 then k.locals - 1 otherwise k.locals))
-      (λ h. packet_locals k _ ∙ sym (neither 1 h refl refl))
-      (λ h. sym (neither 2 h refl refl))
-      (λ h. sym (neither 3 h refl refl))
-      (λ h. sym (then_true _ _ (eq-eqb (kind_in e) 4 h)))
-      (λ h. sym (then_false _ _ (ap (λ (n : ℕ). eqb n 4) h) ∙ then_true _ _ (eq-eqb (kind_in e) 5 h)))
-      (λ h. sym (neither 6 h refl refl))
-      (λ h. sym (neither 0 h refl refl))
-    where
-      neither : (n : ℕ) → kind_in e ≡ n → eqb n 4 ≡ false → eqb n 5 ≡ false
-          → (eqb (kind_in e) 4 then k.locals + 1 otherwise eqb (kind_in e) 5 then k.locals - 1 otherwise k.locals) ≡ k.locals
-      neither n h p q = then_false _ _ (ap (λ (m : ℕ). eqb m 4) h ∙ p) ∙ then_false _ _ (ap (λ (m : ℕ). eqb m 5) h ∙ q)
-
-  -- ---- the ports
-  pub port_set_lem : (port : ℕ) → kind_in e ≡ 2
-      → (after (entry_of e) k).port port ≡ (eqb port (port_in e) then make_port (word_in e) (mode_in e) (length_in e) otherwise k.port port)
-  unfolding after after_call now_port
-  port_set_lem port h = ap (λ (x : Entry). (after x k).port port) (entry_port e h)
-
-  -- the port of another number, or none, is set
-  pub port_back : (port : ℕ) → (eqb (kind_in e) 2 and eqb port (port_in e)) ≡ false
-      → (after (entry_of e) k).port port ≡ k.port (eqb (kind_in e) 0 then preimage (images_in e) port otherwise port)
-  unfolding after after_call now_port now_rate now_local renumbered_known now_clock change_path now_path
-  port_back port other =
-      by_kind e (λ (x : Entry). (after x k).port port ≡ k.port (eqb (kind_in e) 0 then preimage (images_in e) port otherwise port))
-      (λ h. ap (λ (f : ℕ → Port). f port) (packet_port k _) ∙ same_name 1 h refl)
-      (λ h. then_false _ _ (sym (and_yes _ (eq-eqb (kind_in e) 2 h)) ∙ other) ∙ same_name 2 h refl)
-      (λ h. same_name 3 h refl)
-      (λ h. same_name 4 h refl)
-      (λ h. same_name 5 h refl)
-      (λ h. same_name 6 h refl)
-      (λ h. ap k.port (sym (then_true _ _ (eq-eqb (kind_in e) 0 h))))
-    where
-      same_name : (n : ℕ) → kind_in e ≡ n → eqb n 0 ≡ false → k.port port ≡ k.port (eqb (kind_in e) 0 then preimage (images_in e) port otherwise port)
-      same_name n h q = ap k.port (sym (then_false _ _ (ap (λ (m : ℕ). eqb m 0) h ∙ q)))
-
-  -- ---- the remembered hashes
-  pub until_kept : (h : List ℕ) → kind_in e ≡ 1 → keeps_hash (entry_of e) k ≡ true → same (hash (arrival_in e)) h ≡ true
-      → (after (entry_of e) k).until h ≡ clock_in e + hash_lifetime
-  unfolding now_under
-  until_kept h q kept found =
-      ap (λ (x : Entry). (after x k).until h) (entry_came e q)
-      ∙ packet_until k (arrival_in e) h
-      ∙ then_true _ _ (ap (λ (x : Entry). keeps_hash x k) (sym (entry_came e q)) ∙ kept)
-      ∙ then_true _ _ found
-
-  pub until_another : (h : List ℕ) → kind_in e ≡ 1 → same (hash (arrival_in e)) h ≡ false → (after (entry_of e) k).until h ≡ k.until h
-  unfolding now_under
-  until_another h q found =
-      ap (λ (x : Entry). (after x k).until h) (entry_came e q)
-      ∙ packet_until k (arrival_in e) h
-      ∙ either (λ (t : ℕ). t ≡ k.until h) _ (λ _. then_false _ _ found) (λ _. refl)
-
-  pub until_stays : (h : List ℕ) → keeps_hash (entry_of e) k ≡ false → (after (entry_of e) k).until h ≡ k.until h
-  unfolding after after_call now_port now_rate now_local renumbered_known now_clock change_path now_path
-  until_stays h q =
-      by_kind e (λ (x : Entry). keeps_hash x k ≡ false → (after x k).until h ≡ k.until h)
-      (λ _ n. packet_until k _ h ∙ then_false _ _ n)
-      (λ _ _. refl) (λ _ _. refl) (λ _ _. refl) (λ _ _. refl) (λ _ _. refl) (λ _ _. refl) q
-
-  pub until_called : (h : List ℕ) → (kind_in e ≡ 1 → ⊥) → (after (entry_of e) k).until h ≡ k.until h
-  unfolding after after_call now_port now_rate now_local renumbered_known now_clock change_path now_path
-  until_called h n =
-      by_kind e (λ (x : Entry). (after x k).until h ≡ k.until h)
-      (λ q. absurd (n q)) (λ _. refl) (λ _. refl) (λ _. refl) (λ _. refl) (λ _. refl) (λ _. refl)
 
 -- ---- of an empty list
 module _ (log : List ℕ) where
@@ -262,3 +146,8 @@ module _ (log : List ℕ) where
   pub fresh_return : (key : List ℕ) → empty ≡ (known_in log 0).return key
   unfolding known_in entries_of known_of fresh_known
   fresh_return key = refl
+
+-- ---- a call
+pub after_called : (c : TableCall) (k : Known) → after (called c) k ≡ after_call c k
+unfolding after
+after_called c k = refl

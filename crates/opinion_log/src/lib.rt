@@ -1,11 +1,9 @@
 // The second opinion's log: a list of accepted calls, in bytes that a host lends, and what is known from it. Each
 // question is one walk through the log: no tables, slots or rings.
-// Entry points: none. The caller shows that the log has its size and, to ask about paths, links and return records,
-// what each packet listed did.
-#![tactic(auto)]
+// Entry points: none. To ask about paths, links and return records the caller shows what each packet listed did.
+#![tactic(auto, using(outgoing::proofs::LeavingLaws::long, outgoing::proofs::LeavingLaws::whole))]
 
 mod clocks;
-mod effects;
 mod hashes;
 mod links;
 mod locals;
@@ -21,8 +19,8 @@ mod seeing;
 
 pub use clocks::last_clock;
 pub use locals::{is_local, local_number};
-pub use log::{listed, rate_within};
-pub use outcomes::write_outcomes;
+pub use log::{Entry, listed, rate_within};
+pub use outcomes::{Effect, Outcome, outcomes_of};
 pub use paths::path_of;
 pub use ports::port_at;
 pub use records::live_path;

@@ -1,30 +1,31 @@
 // The announce rate.
-ghost use Rattle.std.specs.Prelude.{true, ◌≡◌, ◌≤◌, length};
+ghost use Rattle.std.specs.Prelude.{true, ◌≡◌, ◌≤◌};
 ghost use Rattle.rules.specs.Refusals.{rate_settings_ok};
 ghost use Rattle.history.specs.Known.{Known};
 ghost use Rattle.history.specs.After.{after};
 ghost use Rattle.history.specs.Opinion.{list_limit};
-ghost use Rattle.opinion_log.specs.Log.{entry_width, entry_of, log_size, known_in};
+ghost use Rattle.opinion_log.specs.Log.{known_in};
+ghost use Rattle.opinion_log.specs.Steps.{call_of, Fine};
 
-use super::log::{entry_at, kind_in, rate_in};
-use super::places::SETS_RATE;
+use super::log::{Entry, entry_at};
+use super::places::LOG_SIZE;
 use rules::RateSettings;
 
 // Its settings after one more entry.
-fn rate_after(e: &[u8], before: RateSettings) -> RateSettings
-    requires { (length e.now ≡ entry_width) × (rate_settings_ok before ≡ true) }
-    ensures { ((k : Known) → k.rate ≡ before → (after (entry_of e.now) k).rate ≡ result)
+fn rate_after(call: Entry, before: RateSettings) -> RateSettings
+    requires { Fine call × (rate_settings_ok before ≡ true) }
+    ensures { ((k : Known) → k.rate ≡ before → (after (call_of call.entry) k).rate ≡ result)
         × (rate_settings_ok result ≡ true) }
 {
-    if kind_in(e) == SETS_RATE {
-        return rate_in(e);
+    match call {
+        Entry::SetsRate(rate) => rate,
+        _ => before,
     }
-    before
 }
 
 // .. and after the first n entries.
-pub fn rate_at(log: &[u8], n: usize) -> RateSettings
-    requires { (length log.now ≡ log_size) × (n ≤ list_limit) }
+pub fn rate_at(log: &[u8; LOG_SIZE], n: usize) -> RateSettings
+    requires { n ≤ list_limit }
     ensures { (result ≡ (known_in log.now n).rate) × (rate_settings_ok result ≡ true) }
 {
     let mut rate = RateSettings {
@@ -32,10 +33,8 @@ pub fn rate_at(log: &[u8], n: usize) -> RateSettings
         grace: 0,
         penalty: 0,
     };
-    let mut i = 0;
-    while i < n {
+    for i in 0..n {
         rate = rate_after(entry_at(log, i), rate);
-        i += 1;
     }
     rate
 }

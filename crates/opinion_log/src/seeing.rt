@@ -1,13 +1,13 @@
 // What is seen for one packet from the first n entries, at its clock.
-ghost use Rattle.std.specs.Prelude.{◌≡◌};
-ghost use Rattle.packet.specs.Hash.{packet_hash};
 ghost use Rattle.judging.specs.Seen.{arrival_of, Sees, Fits};
 ghost use Rattle.opinion_log.specs.Steps.{CanJudge, view_by};
 
 use super::hashes::until;
 use super::links::link_of;
 use super::locals::is_local;
+use super::outcomes::Outcome;
 use super::paths::path_of;
+use super::places::{LIST_LIMIT, LOG_SIZE};
 use super::ports::ports_at;
 use super::rates::rate_at;
 use super::records::{live_link, live_path, live_return};
@@ -15,37 +15,28 @@ use super::returns::return_of;
 use judging::{Arrived, Seen, link_key};
 
 pub fn seen(
-    log: &[u8],
-    effects: &[u8],
-    kept: &[u8],
+    log: &[u8; LOG_SIZE],
+    outcomes: &[Outcome; LIST_LIMIT],
     n: usize,
     packet: &[u8],
     arrived: Arrived,
-    hash: [u8; 32],
 ) -> Seen
-    requires { CanJudge log.now effects.now kept.now n packet.now arrived
-        × (hash ≡ packet_hash packet.now) }
+    requires { CanJudge log.now outcomes.now n packet.now }
     ensures { Sees result (view_by log.now n arrived) (arrival_of packet.now arrived) × Fits result }
 {
-    let parts = packet::parts_of(packet);
-    let destination = parts.destination;
+    let destination = packet::parts_of(packet).destination;
     let clock = arrived.clock;
-    let own = octets::address_at(log, 0);
-    let rate = rate_at(log, n);
-    let ports = ports_at(log, n);
-    let local = is_local(log, n, destination);
-    let remembered = clock < until(log, kept, n, hash);
-    let path = live_path(path_of(log, effects, n, destination), clock);
-    let link = live_link(link_of(log, effects, n, link_key(packet)), clock);
-    let back = live_return(return_of(log, effects, n, destination), clock);
+    let path = path_of(log, outcomes, n, destination);
+    let link = link_of(log, outcomes, n, link_key(packet));
+    let back = return_of(log, outcomes, n, destination);
     Seen {
-        own,
-        rate,
-        ports,
-        local,
-        remembered,
-        path,
-        link,
-        back,
+        own: octets::address_at(log, 0),
+        rate: rate_at(log, n),
+        ports: ports_at(log, n),
+        local: is_local(log, n, destination),
+        remembered: clock < until(log, outcomes, n, packet::hash_of(packet)),
+        path: live_path(path, clock),
+        link: live_link(link, clock),
+        back: live_return(back, clock),
     }
 }

@@ -7,4 +7,4 @@ unfolding entry_dropped
 returns c =
     let s = c.args in
     let entry = dropped_rate_ok s.settings s.known.rate s.clock c.requires.0 c.requires.1.entry in
-    ((λ d. rw c.rule-rated.ensures), record { entry = rw c.rule-rated.ensures entry; blobs = c.requires.1.blobs })
+    (rw c.rule-rated.ensures, record { entry = rw c.rule-rated.ensures entry; blobs = c.requires.1.blobs })

@@ -1,14 +1,19 @@
-use Rattle.opinion_log.proofs.Walk.{clock_came, clock_marked, clock_stays}
-use mathlib.Core.Path.{sym, ◌∙◌}
+use Rattle.std.proofs.Common.{rules, arith}
+use borrow.Author.Tests.{tests}
+use Rattle.history.specs.After.{after_call, renumbered_known}
+use Rattle.history.specs.Known.{now_port, now_rate, now_local, now_clock, change_path, now_path, now_under}
+use Rattle.octets.specs.Choice.{◌then◌otherwise◌}
+use Rattle.opinion_log.proofs.Walk.{after_called, packet_clock}
 use Rattle.opinion_log.proofs.clocks.clock_after.Goals as goal
 
-pub returns-then-kind-eq-CAME : goal.returns-then-kind-eq-CAME
-returns-then-kind-eq-CAME c = λ k h. clock_came _ k (sym c.kind_in-kind.ensures ∙ c.if-kind-eq-CAME.true) ∙ sym c.clock_in.ensures.0
+pub returns-in-Came : goal.returns-in-Came
+unfolding after_call renumbered_known now_port now_rate now_local now_clock change_path now_path now_under ◌then◌otherwise◌
+returns-in-Came c = grind (arith, tests, after_called, packet_clock)
 
-pub returns-then-kind-eq-MARKS : goal.returns-then-kind-eq-MARKS
-returns-then-kind-eq-MARKS c = λ k h. clock_marked _ k (sym c.kind_in-kind.ensures ∙ c.if-kind-eq-MARKS.true) ∙ sym c.clock_in-then-kind-eq-MARKS.ensures.0
+pub returns-in-Marks : goal.returns-in-Marks
+unfolding after_call renumbered_known now_port now_rate now_local now_clock change_path now_path now_under ◌then◌otherwise◌
+returns-in-Marks c = grind (arith, tests, after_called, packet_clock)
 
-pub returns : goal.returns
-returns c =
-    λ k h. clock_stays _ k (λ q. c.if-kind-eq-CAME.false (c.kind_in-kind.ensures ∙ q)) (λ q. c.if-kind-eq-MARKS.false (c.kind_in-kind.ensures
-    ∙ q)) ∙ h
+pub returns-in_default : goal.returns-in_default
+unfolding after_call renumbered_known now_port now_rate now_local now_clock change_path now_path now_under ◌then◌otherwise◌
+returns-in_default c = grind (arith, tests, after_called, packet_clock)

@@ -1,74 +1,95 @@
-use Rattle.opinion_log.proofs.Steps.{renumber_link, link_left}
-use Rattle.judging.specs.Seen.{link_of}
-use Rattle.rules.specs.Renumbering.{image}
-use Rattle.opinion_log.specs.Log.{images_in, kind_in}
-use mathlib.Core.List.{List}
-use Prim.Native.Nat.{ℕ}
-use mathlib.Core.Path.{sym, ap, ◌∙◌}
-use native.Mathlib.Omega.{arith}
+use Rattle.std.proofs.Common.{rules, arith}
+use borrow.Author.Tests.{tests}
+use Rattle.history.specs.After.{after_call, renumbered_known}
+use Rattle.history.specs.Known.{now_clock, change_path, now_path, now_port, now_rate, now_local, now_under, seen_at}
+use Rattle.octets.specs.Choice.{◌then◌otherwise◌}
+use Rattle.rules.specs.Renumbering.{rename_slot, rename_link}
+use Rattle.std.proofs.Common.{ℕ, List, false, get_or, ◌≡◌, sym, ap, ◌∙◌}
+use Rattle.octets.proofs.Chains.{equal_is_same}
+use Rattle.octets.specs.Choice.{same}
+use Rattle.octets.proofs.Choice.{same_eq, eq_same}
+use Rattle.numbers.specs.Numbers.{live}
+use Rattle.packet.specs.declared.Parts.{Parts}
+use Rattle.packet.specs.Hash.{link_id}
+use Rattle.rules.specs.Arrival.{destination}
+use Rattle.judging.specs.Seen.{arrival_of}
+use Rattle.history.specs.After.{Entry, came}
+use Rattle.opinion_log.specs.declared.outcomes.Effect.TheVariants.{LeavesLink, RenewsLink}
+use Rattle.opinion_log.specs.Log.{entry_of, entry_bytes, known_in}
+use Rattle.opinion_log.specs.Steps.{call_of, effect_of, idle}
+use Rattle.opinion_log.proofs.Entries.{one_more}
+use Rattle.opinion_log.proofs.Walk.{after_called}
+use Rattle.opinion_log.proofs.Changes.{seen_used, link_asked, link_carried, link_others}
 use Rattle.opinion_log.proofs.links.link_after.Goals as goal
 
-pub entry_at-e-requires : goal.entry_at-e-requires
-entry_at-e-requires c = (c.requires.0.0, c.requires.1)
+pub returns-in-LeavesLink : goal.returns-in-LeavesLink
+unfolding after_call renumbered_known now_clock change_path now_path now_port now_rate now_local now_under ◌then◌otherwise◌ rename_slot rename_link seen_at
+returns-in-LeavesLink c =
+    let k = known_in c.args.log.now c.args.i in
+    let a = arrival_of c.in-Came.packet.now c.in-Came.arrived in
+    let is : came a ≡ entry_of (entry_bytes c.args.log.now c.args.i) = sym (ap call_of c.in-Came.is) ∙ c.entry_at.ensures.0 in
+    let did : (get_or c.args.outcomes.now c.args.i idle).effect ≡ effect_of (came a) k =
+    (c.requires.0.1 c.args.i (omega arith)).0 ∙ sym (ap (λ (x : Entry). effect_of x k) is) in
+    let effect : effect_of (came a) k ≡ LeavesLink = sym did ∙ c.in-LeavesLink.is in
+    let ours : link_id a.bytes ≡ c.args.id = sym c.link_id_of.ensures ∙ same_eq _ _ (sym (equal_is_same _ _) ∙ sym c.eq.ensures ∙ c.if-eq.true) in
+    let (p, found, so) = link_asked a k effect in
+    let newest = seen_used (λ x. live a.clock x.expiry) (k.path (destination a)) p found in
+    grind (arith, tests, c.path_of-path.ensures.is, newest, so c.args.id, one_more c.args.log.now c.args.i (came a) is, ours, eq_same _ _ ours)
 
-pub kind_in-requires : goal.kind_in-requires
-kind_in-requires c = c.entry_at-e.ensures.1
+pub returns-in-RenewsLink : goal.returns-in-RenewsLink
+unfolding after_call renumbered_known now_clock change_path now_path now_port now_rate now_local now_under ◌then◌otherwise◌ rename_slot rename_link seen_at
+returns-in-RenewsLink c =
+    let k = known_in c.args.log.now c.args.i in
+    let a = arrival_of c.in-Came.packet.now c.in-Came.arrived in
+    let is : came a ≡ entry_of (entry_bytes c.args.log.now c.args.i) = sym (ap call_of c.in-Came.is) ∙ c.entry_at.ensures.0 in
+    let did : (get_or c.args.outcomes.now c.args.i idle).effect ≡ effect_of (came a) k =
+    (c.requires.0.1 c.args.i (omega arith)).0 ∙ sym (ap (λ (x : Entry). effect_of x k) is) in
+    let effect : effect_of (came a) k ≡ RenewsLink = sym did ∙ c.in-RenewsLink.is in
+    let ours : destination a ≡ c.args.id = same_eq _ _ (grind (arith, tests, equal_is_same)) in
+    let (l, found, so) = link_carried a k effect in
+    let newest = seen_used (λ x. live a.clock x.expiry) (k.link (destination a)) l found in
+    grind (arith, tests, newest, so c.args.id, one_more c.args.log.now c.args.i (came a) is, ours, eq_same _ _ ours)
 
-pub image_in-requires : goal.image_in-requires
-image_in-requires c = (c.entry_at-e.ensures.1, c.requires.2.asking)
+pub returns-in_default-effect : goal.returns-in_default-effect
+unfolding after_call renumbered_known now_clock change_path now_path now_port now_rate now_local now_under ◌then◌otherwise◌ rename_slot rename_link seen_at
+returns-in_default-effect c =
+    let k = known_in c.args.log.now c.args.i in
+    let a = arrival_of c.in-Came.packet.now c.in-Came.arrived in
+    let is : came a ≡ entry_of (entry_bytes c.args.log.now c.args.i) = sym (ap call_of c.in-Came.is) ∙ c.entry_at.ensures.0 in
+    let did : (get_or c.args.outcomes.now c.args.i idle).effect ≡ effect_of (came a) k =
+    (c.requires.0.1 c.args.i (omega arith)).0 ∙ sym (ap (λ (x : Entry). effect_of x k) is) in
+    let p : effect_of (came a) k ≡ LeavesLink → same (link_id a.bytes) c.args.id ≡ false = λ e. grind (arith, tests, equal_is_same) in
+    let q : effect_of (came a) k ≡ RenewsLink → same (destination a) c.args.id ≡ false = λ e. grind (arith, tests, equal_is_same) in
+    grind (arith, tests, link_others a k c.args.id p q, one_more c.args.log.now c.args.i (came a) is)
 
-pub image_in-requires-then-kind_in-eq-RENUMBERS : goal.image_in-requires-then-kind_in-eq-RENUMBERS
-image_in-requires-then-kind_in-eq-RENUMBERS c = (c.entry_at-e.ensures.1, c.requires.2.answering)
+pub returns-in_default-effect-2 : goal.returns-in_default-effect-2
+unfolding after_call renumbered_known now_clock change_path now_path now_port now_rate now_local now_under ◌then◌otherwise◌ rename_slot rename_link seen_at
+returns-in_default-effect-2 c =
+    let k = known_in c.args.log.now c.args.i in
+    let a = arrival_of c.in-Came.packet.now c.in-Came.arrived in
+    let is : came a ≡ entry_of (entry_bytes c.args.log.now c.args.i) = sym (ap call_of c.in-Came.is) ∙ c.entry_at.ensures.0 in
+    let did : (get_or c.args.outcomes.now c.args.i idle).effect ≡ effect_of (came a) k =
+    (c.requires.0.1 c.args.i (omega arith)).0 ∙ sym (ap (λ (x : Entry). effect_of x k) is) in
+    let p : effect_of (came a) k ≡ LeavesLink → same (link_id a.bytes) c.args.id ≡ false = λ e. grind (arith, tests, equal_is_same) in
+    let q : effect_of (came a) k ≡ RenewsLink → same (destination a) c.args.id ≡ false = λ e. grind (arith, tests, equal_is_same) in
+    grind (arith, tests, link_others a k c.args.id p q, one_more c.args.log.now c.args.i (came a) is)
 
-pub returns-then-kind_in-eq-RENUMBERS : goal.returns-then-kind_in-eq-RENUMBERS
-unfolding link_of
-returns-then-kind_in-eq-RENUMBERS c =
-    let log = c.args.log.now in
-    let i : ℕ = c.args.i in
-    record {
-      is = renumber_link log i c.args.id c.args.before c.requires.2.is
-          (sym (ap kind_in c.entry_at-e.ensures.0) ∙ sym c.kind_in.ensures
-          ∙ c.if-kind_in-eq-RENUMBERS.true) _ _ (c.image_in.ensures.0
-          ∙ ap (λ (b : List ℕ). image (images_in b) c.args.before.link.asking) c.entry_at-e.ensures.0) (c.image_in-then-kind_in-eq-RENUMBERS.ensures.0
-          ∙ ap (λ (b : List ℕ). image (images_in b) c.args.before.link.answering) c.entry_at-e.ensures.0);
-      asking = c.image_in.ensures.1;
-      answering = c.image_in-then-kind_in-eq-RENUMBERS.ensures.1;
-    }
+pub returns-in_default-effect-3 : goal.returns-in_default-effect-3
+unfolding after_call renumbered_known now_clock change_path now_path now_port now_rate now_local now_under ◌then◌otherwise◌ rename_slot rename_link seen_at
+returns-in_default-effect-3 c =
+    let k = known_in c.args.log.now c.args.i in
+    let a = arrival_of c.in-Came.packet.now c.in-Came.arrived in
+    let is : came a ≡ entry_of (entry_bytes c.args.log.now c.args.i) = sym (ap call_of c.in-Came.is) ∙ c.entry_at.ensures.0 in
+    let did : (get_or c.args.outcomes.now c.args.i idle).effect ≡ effect_of (came a) k =
+    (c.requires.0.1 c.args.i (omega arith)).0 ∙ sym (ap (λ (x : Entry). effect_of x k) is) in
+    let p : effect_of (came a) k ≡ LeavesLink → same (link_id a.bytes) c.args.id ≡ false = λ e. grind (arith, tests, equal_is_same) in
+    let q : effect_of (came a) k ≡ RenewsLink → same (destination a) c.args.id ≡ false = λ e. grind (arith, tests, equal_is_same) in
+    grind (arith, tests, link_others a k c.args.id p q, one_more c.args.log.now c.args.i (came a) is)
 
-pub bounds-effects-i : goal.bounds-effects-i
-bounds-effects-i c = omega (arith, c.requires.0.1)
+pub returns-in-Renumbers : goal.returns-in-Renumbers
+unfolding after_call renumbered_known now_clock change_path now_path now_port now_rate now_local now_under ◌then◌otherwise◌ rename_slot rename_link seen_at
+returns-in-Renumbers c = grind (arith, tests, after_called, one_more c.args.log.now c.args.i _ c.entry_at.ensures.0)
 
-pub after_request-requires : goal.after_request-requires
-after_request-requires c =
-    let log = c.args.log.now in
-    let i : ℕ = c.args.i in (
-      (c.requires.0.0, c.requires.0.1, omega (arith, c.requires.1), λ j l. c.requires.0.3 j (omega arith)),
-      c.requires.1,
-      sym (c.requires.0.3 i (omega arith))
-          ∙ c.if-effect-eq-LINKED.true,
-      c.requires.2,
-    )
-
-pub returns-then-effect-eq-LINKED : goal.returns-then-effect-eq-LINKED
-returns-then-effect-eq-LINKED c = c.after_request.ensures
-
-pub after_carry-requires : goal.after_carry-requires
-after_carry-requires c =
-    let log = c.args.log.now in
-    let i : ℕ = c.args.i in
-    (c.requires.0.0, c.requires.1, sym (c.requires.0.3 i (omega arith)) ∙ c.if-effect-eq-RENEWED.true, c.requires.2)
-
-pub returns-then-effect-eq-RENEWED : goal.returns-then-effect-eq-RENEWED
-returns-then-effect-eq-RENEWED c = c.after_carry.ensures
-
-pub returns : goal.returns
-returns c =
-    let log = c.args.log.now in
-    let i : ℕ = c.args.i in
-    record {
-      is = link_left log i c.args.id c.args.before c.requires.2.is (λ q. c.if-kind_in-eq-RENUMBERS.false (c.kind_in.ensures
-          ∙ ap kind_in c.entry_at-e.ensures.0 ∙ q)) (λ q. c.if-effect-eq-LINKED.false ((c.requires.0.3 i (omega arith))
-          ∙ q)) (λ q. c.if-effect-eq-RENEWED.false ((c.requires.0.3 i (omega arith)) ∙ q));
-      asking = c.requires.2.asking;
-      answering = c.requires.2.answering;
-    }
+pub returns-in_default : goal.returns-in_default
+unfolding after_call renumbered_known now_clock change_path now_path now_port now_rate now_local now_under ◌then◌otherwise◌ rename_slot rename_link seen_at
+returns-in_default c = grind (arith, tests, after_called, one_more c.args.log.now c.args.i _ c.entry_at.ensures.0)

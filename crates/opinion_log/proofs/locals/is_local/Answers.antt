@@ -1,32 +1,11 @@
-use Rattle.opinion_log.proofs.Entries.{onward}
+use Rattle.std.proofs.Common.{rules, arith}
+use borrow.Author.Tests.{tests}
+use Rattle.opinion_log.proofs.Entries.{one_more}
 use Rattle.opinion_log.proofs.Walk.{fresh_local}
-use Rattle.opinion_log.specs.Log.{known_in}
-use Rattle.history.specs.Known.{Known}
-use Prim.Native.Nat.{ℕ}
-use mathlib.Core.Path.{◌≡◌, sym, ap, ◌∙◌}
-use native.Mathlib.Omega.{arith}
 use Rattle.opinion_log.proofs.locals.is_local.Goals as goal
 
 pub loop-i-init : goal.loop-i-init
-loop-i-init c = (omega arith, fresh_local _ _)
-
-pub entry_at-requires : goal.entry_at-requires
-entry_at-requires c = (c.requires.0, omega arith)
-
-pub local_after-known-requires : goal.local_after-known-requires
-local_after-known-requires c = c.entry_at.ensures.1
+loop-i-init c = grind (arith, tests, one_more, fresh_local)
 
 pub loop-i-preserved : goal.loop-i-preserved
-loop-i-preserved c =
-    let log = c.args.log.now in
-    let i : ℕ = c.loop-i.i in
-    let address = c.args.address in (
-      omega arith,
-      sym (onward (λ (k : Known). k.local address) log _ i c.entry_at.ensures.0 (c.local_after-known.ensures (known_in log i) (sym
-          c.loop-i.invariant.1))),
-    )
-
-pub returns : goal.returns
-returns c =
-    let last : c.loop-i.i ≡ c.args.n = omega arith in
-    c.loop-i.invariant.1 ∙ ap (λ (k : ℕ). (known_in c.args.log.now k).local c.args.address) last
+loop-i-preserved c = grind (arith, tests, one_more, fresh_local)

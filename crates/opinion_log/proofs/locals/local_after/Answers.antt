@@ -1,20 +1,28 @@
-use Rattle.opinion_log.proofs.Walk.{local_another, local_added, local_removed, local_stays}
-use mathlib.Core.Path.{sym, ◌∙◌}
+use Rattle.std.proofs.Common.{rules, arith}
+use borrow.Author.Tests.{tests}
+use Rattle.history.specs.After.{after_call, renumbered_known}
+use Rattle.history.specs.Known.{now_port, now_rate, now_local, now_clock, change_path, now_path, now_under}
+use Rattle.octets.specs.Choice.{◌then◌otherwise◌}
+use Rattle.opinion_log.proofs.Walk.{after_called, packet_local}
+use Rattle.octets.proofs.Chains.{equal_is_same}
 use Rattle.opinion_log.proofs.locals.local_after.Goals as goal
 
-pub returns-then-not-has_address : goal.returns-then-not-has_address
-returns-then-not-has_address c = λ k h. local_another _ k _ (sym c.has_address.ensures ∙ c.if-not-has_address.true) ∙ h
+pub returns-in-Adds : goal.returns-in-Adds
+unfolding after_call renumbered_known now_port now_rate now_local now_clock change_path now_path now_under ◌then◌otherwise◌
+returns-in-Adds c = grind (arith, tests, after_called, packet_local, equal_is_same)
 
-pub returns-then-kind-eq-ADDS : goal.returns-then-kind-eq-ADDS
-returns-then-kind-eq-ADDS c =
-    λ k h. local_added _ k _ (sym c.kind_in-kind.ensures ∙ c.if-kind-eq-ADDS.true)
-    (sym c.has_address.ensures ∙ c.if-not-has_address.false)
+pub returns-in-Removes : goal.returns-in-Removes
+unfolding after_call renumbered_known now_port now_rate now_local now_clock change_path now_path now_under ◌then◌otherwise◌
+returns-in-Removes c = grind (arith, tests, after_called, packet_local, equal_is_same)
 
-pub returns-then-kind-eq-REMOVES : goal.returns-then-kind-eq-REMOVES
-returns-then-kind-eq-REMOVES c =
-    λ k h. local_removed _ k _ (sym c.kind_in-kind.ensures ∙ c.if-kind-eq-REMOVES.true)
-    (sym c.has_address.ensures ∙ c.if-not-has_address.false)
+pub returns-in_default : goal.returns-in_default
+unfolding after_call renumbered_known now_port now_rate now_local now_clock change_path now_path now_under ◌then◌otherwise◌
+returns-in_default c = grind (arith, tests, after_called, packet_local, equal_is_same)
 
-pub returns : goal.returns
-returns c =
-    λ k h. local_stays _ k _ (λ q. c.if-kind-eq-ADDS.false (c.kind_in-kind.ensures ∙ q)) (λ q. c.if-kind-eq-REMOVES.false (c.kind_in-kind.ensures ∙ q)) ∙ h
+pub returns-in_default-2 : goal.returns-in_default-2
+unfolding after_call renumbered_known now_port now_rate now_local now_clock change_path now_path now_under ◌then◌otherwise◌
+returns-in_default-2 c = grind (arith, tests, after_called, packet_local, equal_is_same)
+
+pub returns-in_default-3 : goal.returns-in_default-3
+unfolding after_call renumbered_known now_port now_rate now_local now_clock change_path now_path now_under ◌then◌otherwise◌
+returns-in_default-3 c = grind (arith, tests, after_called, packet_local, equal_is_same)

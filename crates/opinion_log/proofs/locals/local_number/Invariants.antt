@@ -1,10 +1,6 @@
+use Rattle.std.proofs.Common.{◌≡◌, ◌≤◌}
 use Rattle.opinion_log.specs.Log.{known_in}
-use Prim.Native.Nat.{◌≤◌, ◌-◌}
-use mathlib.Core.Path.{◌≡◌}
 use Rattle.opinion_log.proofs.locals.local_number.Given as goal
 
 abbrev pub invariant-loop-i : goal.invariant-loop-i
-invariant-loop-i l = (l.i ≤ l.n) × (l.number ≡ (known_in l.log l.i).locals) × (l.number ≤ l.i)
-
-abbrev pub decreases-loop-i : goal.decreases-loop-i
-decreases-loop-i l = l.n - l.i
+invariant-loop-i l = (l.number ≡ (known_in l.log l.i).locals) × (l.number ≤ l.i)

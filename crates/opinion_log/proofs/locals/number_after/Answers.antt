@@ -1,20 +1,19 @@
-use Rattle.octets.proofs.Choice.{then_true, then_false}
-use borrow.Author.Tests.{eq-eqb, ne_eqb}
-use mathlib.Core.Path.{◌≡◌, sym, ap, ◌∙◌}
-use Prim.Native.Nat.{ℕ, ◌-◌}
-use native.Mathlib.Omega.{arith}
+use Rattle.std.proofs.Common.{rules, arith}
+use borrow.Author.Tests.{tests}
+use Rattle.history.specs.After.{after_call, renumbered_known}
+use Rattle.history.specs.Known.{now_port, now_rate, now_local, now_clock, change_path, now_path, now_under}
+use Rattle.octets.specs.Choice.{◌then◌otherwise◌}
+use Rattle.opinion_log.proofs.Walk.{after_called, packet_locals}
 use Rattle.opinion_log.proofs.locals.number_after.Goals as goal
 
-pub returns-then-kind-eq-ADDS : goal.returns-then-kind-eq-ADDS
-returns-then-kind-eq-ADDS c = sym (then_true _ _ (eq-eqb _ 4 c.if-kind-eq-ADDS.true))
+pub returns-in-Adds : goal.returns-in-Adds
+unfolding after_call renumbered_known now_port now_rate now_local now_clock change_path now_path now_under ◌then◌otherwise◌
+returns-in-Adds c = grind (arith, tests, after_called, packet_locals)
 
-pub returns-then-before-gt0 : goal.returns-then-before-gt0
-returns-then-before-gt0 c = sym (then_false _ _ (ne_eqb _ 4 c.if-kind-eq-ADDS.false) ∙ then_true _ _ (eq-eqb _ 5 c.if-kind-eq-REMOVES.true))
+pub returns-in-Removes : goal.returns-in-Removes
+unfolding after_call renumbered_known now_port now_rate now_local now_clock change_path now_path now_under ◌then◌otherwise◌
+returns-in-Removes c = grind (arith, tests, after_called, packet_locals)
 
-pub returns-else-before-gt0 : goal.returns-else-before-gt0
-returns-else-before-gt0 c =
-    let none : c.args.before ≡ 0 = omega arith in
-    none ∙ sym (then_false _ _ (ne_eqb _ 4 c.if-kind-eq-ADDS.false) ∙ then_true _ _ (eq-eqb _ 5 c.if-kind-eq-REMOVES.true) ∙ ap (λ (n : ℕ). n - 1) none)
-
-pub returns-else-kind-eq-REMOVES : goal.returns-else-kind-eq-REMOVES
-returns-else-kind-eq-REMOVES c = sym (then_false _ _ (ne_eqb _ 4 c.if-kind-eq-ADDS.false) ∙ then_false _ _ (ne_eqb _ 5 c.if-kind-eq-REMOVES.false))
+pub returns-in_default : goal.returns-in_default
+unfolding after_call renumbered_known now_port now_rate now_local now_clock change_path now_path now_under ◌then◌otherwise◌
+returns-in_default c = grind (arith, tests, after_called, packet_locals)

@@ -1,23 +1,16 @@
-use Rattle.opinion_log.proofs.Reading.{part_all}
-use Rattle.octets.proofs.Part.{part_range, range_length}
+use Rattle.std.proofs.Common.{ap, ◌∙◌, arith, ℕ, min, ◌≡◌}
+use lib.Seq.{length-take-le}
 use Rattle.octets.specs.Part.{part}
-use mathlib.Core.Path.{ap, ◌∙◌}
-use native.Mathlib.Omega.{arith}
+use Rattle.octets.proofs.Part.{part_range, range_length}
 use Rattle.numbers.specs.Numbers.{longest_packet}
-use Rattle.opinion_log.specs.Log.{body_at}
+use Rattle.opinion_log.specs.Log.{body_at, length_in}
+use Rattle.opinion_log.proofs.Reading.{part_least}
 use Rattle.opinion_log.proofs.log.packet_in.Goals as goal
-
-pub returns-then-n-lt-LONGEST_PACKET : goal.returns-then-n-lt-LONGEST_PACKET
-returns-then-n-lt-LONGEST_PACKET c =
-    let e = c.args.e.now in
-    let n = c.length_in-n.result in
-    (part_range e body_at n ∙ ap (part e body_at) c.length_in-n.ensures, omega (arith, range_length e body_at n (omega arith)))
 
 pub returns : goal.returns
 returns c =
     let e = c.args.e.now in
-    let n = c.length_in-n.result in (
-      part_range e body_at longest_packet ∙ part_all e n c.requires (omega arith)
-          ∙ ap (part e body_at) c.length_in-n.ensures,
-      omega (arith, range_length e body_at longest_packet (omega arith)),
+    let least : c.min.result ≡ min (length_in e) longest_packet = c.min.ensures ∙ ap (λ (n : ℕ). min n longest_packet) c.length_in.ensures in (
+      part_range e body_at c.min.result ∙ part_least e (length_in e) c.min.result c.requires least,
+      omega (arith, range_length e body_at c.min.result (omega (arith, c.min.ensures)), c.min.ensures),
     )

@@ -1,7 +1,20 @@
+use Rattle.std.proofs.Common.{rules, arith}
+use borrow.Author.Tests.{tests}
+use Rattle.octets.specs.Choice.{◌then◌otherwise◌}
 use Rattle.opinion_log.proofs.outcomes.effect_of.Goals as goal
 
-pub returns-in-Drop : goal.returns-in-Drop
-returns-in-Drop c = rw (c.in-Drop.is, c.drop_effect.ensures)
+pub returns-in-Drop-RateLimited : goal.returns-in-Drop-RateLimited
+unfolding ◌then◌otherwise◌
+returns-in-Drop-RateLimited c = grind (arith, tests)
 
-pub returns-in-Follow : goal.returns-in-Follow
-returns-in-Follow c = rw (c.in-Follow.is, c.way_effect.ensures)
+pub returns-in-Follow-ByPath : goal.returns-in-Follow-ByPath
+unfolding ◌then◌otherwise◌
+returns-in-Follow-ByPath c = grind (arith, tests)
+
+pub returns-in-Follow-ByPath-2 : goal.returns-in-Follow-ByPath-2
+unfolding ◌then◌otherwise◌
+returns-in-Follow-ByPath-2 c = grind (arith, tests)
+
+pub returns-in_default : goal.returns-in_default
+unfolding ◌then◌otherwise◌
+returns-in_default c = grind (arith, tests)

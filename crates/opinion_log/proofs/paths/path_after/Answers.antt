@@ -1,90 +1,88 @@
-use Rattle.opinion_log.proofs.Steps.{renumber_path, mark_step, another_mark, path_left}
-use Rattle.judging.specs.Seen.{path_of, path_record}
-use Rattle.opinion_log.proofs.Slots.{slot}
-use Rattle.rules.specs.Relay.{with_path_notes}
-use Rattle.notes.specs.declared.Notes.{Notes}
-use Rattle.rules.specs.Renumbering.{image}
-use Rattle.octets.specs.Choice.{same}
-use Rattle.opinion_log.specs.Log.{address_in, images_in, kind_in}
-use mathlib.Core.List.{List}
-use Prim.Native.Nat.{ℕ}
-use mathlib.Core.Path.{sym, ap, ◌∙◌}
+use Rattle.std.proofs.Common.{rules, arith}
+use borrow.Author.Tests.{tests}
+use Rattle.history.specs.After.{after_call, renumbered_known, limited_path}
+use Rattle.history.specs.Known.{now_clock, change_path, now_path, now_port, now_rate, now_local, now_under, seen_at}
+use Rattle.octets.specs.Choice.{◌then◌otherwise◌}
+use Rattle.rules.specs.Renumbering.{rename_slot, rename_path}
+use Rattle.std.proofs.Common.{ℕ, ◌≡◌, sym, ap, ◌∙◌}
+use Rattle.octets.proofs.Chains.{equal_is_same}
+use Rattle.octets.proofs.Choice.{same_eq, eq_same}
+use Rattle.numbers.specs.Numbers.{live}
+use Rattle.packet.specs.declared.Parts.{Parts}
+use Rattle.rules.specs.Relay.{Port}
+use Rattle.rules.specs.Arrival.{destination}
+use Rattle.rules.proofs.Noted.{with_path_mark}
+use Rattle.judging.specs.Seen.{arrival_of}
+use Rattle.history.specs.Known.{Known, only_if}
+use Rattle.history.specs.After.{Entry, came}
+use Rattle.opinion_log.specs.declared.outcomes.Effect.TheVariants.{AnnouncesPath, LimitsPath}
+use Rattle.opinion_log.specs.Log.{entry_of, entry_bytes, known_in}
+use Rattle.opinion_log.specs.Steps.{call_of, effect_of}
+use Rattle.opinion_log.proofs.Entries.{one_more}
+use Rattle.opinion_log.proofs.Walk.{after_called}
+use Rattle.opinion_log.proofs.Changes.{path_announced, path_limited, path_stays, announced_body}
+use Rattle.opinion_log.proofs.Steps.{announce_step}
 use Rattle.opinion_log.proofs.paths.path_after.Goals as goal
 
-pub entry_at-e-requires : goal.entry_at-e-requires
-entry_at-e-requires c = (c.requires.0, c.requires.1)
+pub announced_path-requires : goal.announced_path-requires
+unfolding after_call renumbered_known now_clock change_path now_path now_port now_rate now_local now_under ◌then◌otherwise◌ rename_slot rename_path limited_path seen_at
+announced_path-requires c =
+    let k = known_in c.args.log.now c.args.i in
+    let a = arrival_of c.in-Came.packet.now c.in-Came.arrived in
+    let is : came a ≡ entry_of (entry_bytes c.args.log.now c.args.i) = sym (ap call_of c.in-Came.is) ∙ c.entry_at.ensures.0 in
+    let effect : effect_of (came a) k ≡ AnnouncesPath = ap (λ (x : Entry). effect_of x k) is ∙ sym c.requires.1 ∙ c.in-AnnouncesPath.is in
+    let fine = rw c.in-Came.is at c.entry_at.ensures.1 in
+    (fine.0, announced_body a k effect, c.rate_at-rate.ensures.1, c.live_path-known.ensures.1, fine.1)
 
-pub kind_in-kind-requires : goal.kind_in-kind-requires
-kind_in-kind-requires c = c.entry_at-e.ensures.1
-
-pub image_in-requires : goal.image_in-requires
-image_in-requires c = (c.entry_at-e.ensures.1, c.requires.3.port)
-
-pub returns-then-kind-eq-RENUMBERS : goal.returns-then-kind-eq-RENUMBERS
-unfolding path_of
-returns-then-kind-eq-RENUMBERS c =
-    let log = c.args.log.now in
-    let i : ℕ = c.args.i in
+pub returns-in-AnnouncesPath : goal.returns-in-AnnouncesPath
+unfolding after_call renumbered_known now_clock change_path now_path now_port now_rate now_local now_under ◌then◌otherwise◌ rename_slot rename_path limited_path seen_at
+returns-in-AnnouncesPath c =
+    let k = known_in c.args.log.now c.args.i in
+    let a = arrival_of c.in-Came.packet.now c.in-Came.arrived in
+    let is : came a ≡ entry_of (entry_bytes c.args.log.now c.args.i) = sym (ap call_of c.in-Came.is) ∙ c.entry_at.ensures.0 in
+    let effect : effect_of (came a) k ≡ AnnouncesPath = ap (λ (x : Entry). effect_of x k) is ∙ sym c.requires.1 ∙ c.in-AnnouncesPath.is in
+    let ours : destination a ≡ c.args.destination =
+    ap (λ (q : Parts). q.destination) (sym c.parts_of.ensures) ∙ same_eq _ _ (sym (equal_is_same _ _) ∙ sym c.eq.ensures ∙ c.if-eq.true) in
+    let seen = c.live_path-known.ensures.0 c.args.destination
+    ∙ ap (only_if (λ p. live a.clock p.expiry)) c.requires.2.is in
     record {
-      is = renumber_path log i c.args.destination c.args.before c.requires.3.is (sym (ap kind_in c.entry_at-e.ensures.0)
-          ∙ sym c.kind_in-kind.ensures ∙ c.if-kind-eq-RENUMBERS.true) _ (c.image_in.ensures.0
-          ∙ ap (λ (b : List ℕ). image (images_in b) c.args.before.port) c.entry_at-e.ensures.0);
-      fits = record { entry = c.requires.3.fits.entry; blobs = c.requires.3.fits.blobs };
-      port = c.image_in.ensures.1;
+      is = announce_step a k effect c.args.destination ours c.live_path-known.result seen c.rate_at-rate.result _ c.rate_at-rate.ensures.0
+          (ap (λ (p : Port). p.mode) c.port_at-mode.ensures ∙ ap (λ (n : ℕ). (k.port n).mode) c.from.ensures) c.announced_path.result c.announced_path.ensures.0
+          ∙ sym (ap (λ (x : Known). x.path c.args.destination) (one_more c.args.log.now c.args.i (came a) is));
+      fits = c.announced_path.ensures.1;
     }
 
-pub has_address-requires : goal.has_address-requires
-has_address-requires c = c.entry_at-e.ensures.1
+pub returns-in-LimitsPath : goal.returns-in-LimitsPath
+unfolding after_call renumbered_known now_clock change_path now_path now_port now_rate now_local now_under ◌then◌otherwise◌ rename_slot rename_path limited_path seen_at
+returns-in-LimitsPath c =
+    let k = known_in c.args.log.now c.args.i in
+    let a = arrival_of c.in-Came.packet.now c.in-Came.arrived in
+    let is : came a ≡ entry_of (entry_bytes c.args.log.now c.args.i) = sym (ap call_of c.in-Came.is) ∙ c.entry_at.ensures.0 in
+    let effect : effect_of (came a) k ≡ LimitsPath = ap (λ (x : Entry). effect_of x k) is ∙ sym c.requires.1 ∙ c.in-LimitsPath.is in
+    let ours : destination a ≡ c.args.destination =
+    ap (λ (q : Parts). q.destination) (sym c.parts_of.ensures) ∙ same_eq _ _ (sym (equal_is_same _ _) ∙ sym c.eq.ensures ∙ c.if-eq.true) in
+    grind (arith, tests, path_limited a k effect c.args.destination, one_more c.args.log.now c.args.i (came a) is, ours, eq_same _ _ ours)
 
-pub returns-then-has_address : goal.returns-then-has_address
-unfolding path_of
-returns-then-has_address c =
-    let log = c.args.log.now in
-    let i : ℕ = c.args.i in
-    record {
-      is = ap (λ (n : Notes). slot c.args.before.there (with_path_notes n (path_record c.args.destination c.args.before)))
-          c.noted-path.ensures
-          ∙ mark_step log i c.args.destination c.args.before c.requires.3.is (sym (ap kind_in c.entry_at-e.ensures.0)
-          ∙ sym c.kind_in-kind.ensures ∙ c.if-kind-eq-MARKS.true) (sym (c.has_address.ensures
-          ∙ ap (λ (b : List ℕ). same (address_in b) c.args.destination) c.entry_at-e.ensures.0) ∙ c.if-has_address.true);
-      fits = record { entry = c.requires.3.fits.entry; blobs = c.requires.3.fits.blobs };
-      port = c.requires.3.port;
-    }
+pub returns-in_default-effect : goal.returns-in_default-effect
+unfolding after_call renumbered_known now_clock change_path now_path now_port now_rate now_local now_under ◌then◌otherwise◌ rename_slot rename_path limited_path seen_at
+returns-in_default-effect c = grind (arith, tests, after_called, path_stays, one_more c.args.log.now c.args.i _ c.entry_at.ensures.0)
 
-pub returns-then-kind-eq-MARKS : goal.returns-then-kind-eq-MARKS
-returns-then-kind-eq-MARKS c =
-    let log = c.args.log.now in
-    let i : ℕ = c.args.i in
-    record {
-      is = another_mark log i c.args.destination c.args.before c.requires.3.is (sym (ap kind_in c.entry_at-e.ensures.0)
-          ∙ sym c.kind_in-kind.ensures ∙ c.if-kind-eq-MARKS.true) (sym (c.has_address.ensures
-          ∙ ap (λ (b : List ℕ). same (address_in b) c.args.destination) c.entry_at-e.ensures.0) ∙ c.if-has_address.false);
-      fits = c.requires.3.fits;
-      port = c.requires.3.port;
-    }
+pub returns-in-Marks : goal.returns-in-Marks
+unfolding after_call renumbered_known now_clock change_path now_path now_port now_rate now_local now_under ◌then◌otherwise◌ rename_slot rename_path limited_path seen_at
+returns-in-Marks c = grind (arith, tests, after_called, with_path_mark, equal_is_same, same_eq, one_more c.args.log.now c.args.i _ c.entry_at.ensures.0)
 
-pub after_announce-requires : goal.after_announce-requires
-after_announce-requires c = (c.requires.0, c.requires.1, sym c.requires.2 ∙ c.if-effect-eq-ANNOUNCED.true, c.requires.3)
+pub returns-in-Renumbers : goal.returns-in-Renumbers
+unfolding after_call renumbered_known now_clock change_path now_path now_port now_rate now_local now_under ◌then◌otherwise◌ rename_slot rename_path limited_path seen_at
+returns-in-Renumbers c = grind (arith, tests, after_called, one_more c.args.log.now c.args.i _ c.entry_at.ensures.0)
 
-pub returns-then-effect-eq-ANNOUNCED : goal.returns-then-effect-eq-ANNOUNCED
-returns-then-effect-eq-ANNOUNCED c = c.after_announce.ensures
+pub returns-in_default : goal.returns-in_default
+unfolding after_call renumbered_known now_clock change_path now_path now_port now_rate now_local now_under ◌then◌otherwise◌ rename_slot rename_path limited_path seen_at
+returns-in_default c = grind (arith, tests, after_called, path_stays, equal_is_same, path_announced, path_limited, one_more c.args.log.now c.args.i _ c.entry_at.ensures.0)
 
-pub after_limit-requires : goal.after_limit-requires
-after_limit-requires c = (c.requires.0, c.requires.1, sym c.requires.2 ∙ c.if-effect-eq-LIMITED.true, c.requires.3)
+pub returns-in_default-2 : goal.returns-in_default-2
+unfolding after_call renumbered_known now_clock change_path now_path now_port now_rate now_local now_under ◌then◌otherwise◌ rename_slot rename_path limited_path seen_at
+returns-in_default-2 c = grind (arith, tests, after_called, equal_is_same, one_more c.args.log.now c.args.i _ c.entry_at.ensures.0)
 
-pub returns-then-effect-eq-LIMITED : goal.returns-then-effect-eq-LIMITED
-returns-then-effect-eq-LIMITED c = c.after_limit.ensures
-
-pub returns : goal.returns
-returns c =
-    let log = c.args.log.now in
-    let i : ℕ = c.args.i in
-    record {
-      is = path_left log i c.args.destination c.args.before c.requires.3.is
-          (λ q. c.if-kind-eq-MARKS.false (c.kind_in-kind.ensures
-          ∙ ap kind_in c.entry_at-e.ensures.0 ∙ q))
-          (λ q. c.if-kind-eq-RENUMBERS.false (c.kind_in-kind.ensures ∙ ap kind_in c.entry_at-e.ensures.0
-          ∙ q)) (λ q. c.if-effect-eq-ANNOUNCED.false (c.requires.2 ∙ q)) (λ q. c.if-effect-eq-LIMITED.false (c.requires.2 ∙ q));
-      fits = c.requires.3.fits;
-      port = c.requires.3.port;
-    }
+pub returns-in_default-3 : goal.returns-in_default-3
+unfolding after_call renumbered_known now_clock change_path now_path now_port now_rate now_local now_under ◌then◌otherwise◌ rename_slot rename_path limited_path seen_at
+returns-in_default-3 c = grind (arith, tests, after_called, one_more c.args.log.now c.args.i _ c.entry_at.ensures.0)

@@ -1,15 +1,15 @@
-use Rattle.opinion_log.proofs.Entries.{rate_fits}
-use Rattle.opinion_log.proofs.Walk.{rate_set, rate_stays}
-use Rattle.rules.specs.Refusals.{rate_settings_ok}
-use mathlib.Core.Path.{sym, ap, ◌∙◌}
+use Rattle.std.proofs.Common.{rules, arith}
+use borrow.Author.Tests.{tests}
+use Rattle.history.specs.After.{after_call, renumbered_known}
+use Rattle.history.specs.Known.{now_port, now_rate, now_local, now_clock, change_path, now_path, now_under}
+use Rattle.octets.specs.Choice.{◌then◌otherwise◌}
+use Rattle.opinion_log.proofs.Walk.{after_called, packet_rate}
 use Rattle.opinion_log.proofs.rates.rate_after.Goals as goal
 
-pub returns-then-kind_in-eq-SETS_RATE : goal.returns-then-kind_in-eq-SETS_RATE
-returns-then-kind_in-eq-SETS_RATE c = (
-  λ k h. rate_set _ k (sym c.kind_in.ensures ∙ c.if-kind_in-eq-SETS_RATE.true)
-      ∙ sym c.rate_in.ensures,
-  ap rate_settings_ok c.rate_in.ensures ∙ rate_fits _ (sym c.kind_in.ensures ∙ c.if-kind_in-eq-SETS_RATE.true),
-)
+pub returns-in-SetsRate : goal.returns-in-SetsRate
+unfolding after_call renumbered_known now_port now_rate now_local now_clock change_path now_path now_under ◌then◌otherwise◌
+returns-in-SetsRate c = grind (arith, tests, after_called, packet_rate)
 
-pub returns : goal.returns
-returns c = (λ k h. rate_stays _ k (λ q. c.if-kind_in-eq-SETS_RATE.false (c.kind_in.ensures ∙ q)) ∙ h, c.requires.1)
+pub returns-in_default : goal.returns-in_default
+unfolding after_call renumbered_known now_port now_rate now_local now_clock change_path now_path now_under ◌then◌otherwise◌
+returns-in_default c = grind (arith, tests, after_called, packet_rate)
