@@ -1,12 +1,18 @@
 -- For the contracts of helpers: how a helper's write stands in the log, and what it is to refuse a packet. No reader has to believe this: the calls' contracts
 -- (specs/Calls.antt) do not speak of it.
-use Rattle.std.specs.Prelude.{ℕ, ◌+◌, ◌*◌, Bool, List, [], ◌∷◌, ◌++◌, ◌≡◌, length}
+use Rattle.std.specs.Prelude.{ℕ, ◌+◌, ◌*◌, ◌<◌, ◌≤◌, Bool, true, List, [], ◌∷◌, ◌++◌, ◌≡◌, length}
 use Rattle.octets.specs.Part.{patch}
 use Rattle.octets.specs.BigEndian.{big_endian}
 use Rattle.octets.specs.Choice.{◌then◌otherwise◌}
+use Rattle.numbers.specs.Numbers.{port_count, longest_packet, clock_limit}
+use Rattle.packet.specs.Read.{reads}
 use Rattle.rules.specs.Arrival.{Arrival}
+use Rattle.rules.specs.Refusals.{rate_settings_ok}
+use Rattle.rules.specs.Renumbering.{one_to_one}
 use Rattle.history.specs.After.{Entry}
 use Rattle.history.specs.Opinion.{packet_refused}
+use Rattle.opinion_log.specs.declared.log.Entry.{Entry as LogEntry}
+use Rattle.opinion_log.specs.declared.log.Entry.TheVariants.{Came, SetsPort, SetsRate, Adds as AddsAddress, Removes, Marks, Renumbers}
 use Rattle.opinion_log.specs.Log.{clock_width, length_width, target_width, grace_width, penalty_width, count_at, entries_at, entry_width, own_in, entries_of, calls_in}
 
 -- ---- an entry written: the bytes before the body, and the log with one more entry
@@ -20,6 +26,16 @@ rate_body target grace penalty = big_endian target_width target ++ (big_endian g
 
 unfoldable pub with_entry : List ℕ → ℕ → List ℕ → List ℕ
 with_entry log n bytes = patch (patch log (entries_at + entry_width * n) bytes) count_at ((n + 1) ∷ [])
+
+-- what a call that is written keeps to, so that it is read again
+abbrev pub CanPut : LogEntry → Type 0
+CanPut (Came packet m) = (reads longest_packet packet.now ≡ true) × (m.port < port_count) × (m.clock < clock_limit)
+CanPut (SetsPort port s) = (port < port_count) × (s.size ≤ longest_packet)
+CanPut (SetsRate rate) = rate_settings_ok rate ≡ true
+CanPut (AddsAddress address) = Unit {0}
+CanPut (Removes address) = Unit {0}
+CanPut (Marks destination clock) = clock < clock_limit
+CanPut (Renumbers images) = one_to_one images ≡ true
 
 -- the log after has one more entry than the first n of the log before
 pub record Adds (log : List ℕ) (n : ℕ) (x : Entry) (after : List ℕ) : Type 0 where

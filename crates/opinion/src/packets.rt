@@ -1,6 +1,5 @@
 // The calls that are judged by what the packets listed did.
-ghost use Rattle.std.specs.Prelude.{◌≡◌, true, ◌<◌, ◌≤◌, length};
-ghost use Rattle.numbers.specs.Numbers.{port_count, clock_limit, live};
+ghost use Rattle.std.specs.Prelude.{◌≡◌, true, ◌≤◌, length};
 ghost use Rattle.packet.specs.Read.{longest_packet, reads};
 ghost use Rattle.rules.specs.Judging.{plan, verdict, output_after};
 ghost use Rattle.rules.specs.Tests.{is_there};
@@ -8,23 +7,28 @@ ghost use Rattle.rules.specs.Calls.{marks};
 ghost use Rattle.judging.specs.Seen.{arrival_of};
 ghost use Rattle.history.specs.Known.{seen_at};
 ghost use Rattle.history.specs.Opinion.{list_limit};
-ghost use Rattle.opinion_log.specs.Log.{log_size, known_in};
+ghost use Rattle.opinion_log.specs.Log.{known_in};
 ghost use Rattle.opinion.specs.Calls.{Opines, Settles};
 ghost use Rattle.opinion_log.specs.Steps.{view_by};
 ghost use Rattle.opinion.specs.Steps.{arrival_by};
 
 use super::refusing::{clock_bad, packet_refusal};
-use super::writing::{put_came, put_mark};
+use super::writing::put;
 use judging::{Arrived, answer_of, plan_of};
 use numbers::refusals;
 use opinion_log::places::{LIST_LIMIT, LOG_SIZE};
-use opinion_log::{listed, live_path, path_of, seen, write_outcomes};
+use opinion_log::{Entry, listed, live_path, outcomes_of, path_of, seen};
 use rules::{Answer, Verdict};
 
 // The verdict on an accepted packet when n calls are listed, with the packet that leaves at the output's start.
-fn judged(log: &[u8], n: usize, packet: &[u8], arrived: Arrived, output: &mut [u8]) -> Verdict
-    requires { (length log.now ≡ log_size) × (n ≤ list_limit) × (reads longest_packet packet.now ≡ true)
-        × (arrived.port < port_count) × (arrived.clock < clock_limit) × (longest_packet ≤ length output.old) }
+fn judged(
+    log: &[u8; LOG_SIZE],
+    n: usize,
+    packet: &[u8],
+    arrived: Arrived,
+    output: &mut [u8],
+) -> Verdict
+    requires { (n ≤ list_limit) × (reads longest_packet packet.now ≡ true) × (longest_packet ≤ length output.old) }
     ensures { (result ≡ verdict (view_by log.now n arrived) (arrival_of packet.now arrived)
         (plan (view_by log.now n arrived) (arrival_of packet.now arrived)))
         × (output.new ≡ output_after (view_by log.now n arrived)
@@ -32,25 +36,18 @@ fn judged(log: &[u8], n: usize, packet: &[u8], arrived: Arrived, output: &mut [u
         (plan (view_by log.now n arrived) (arrival_of packet.now arrived))
         output.old) }
 {
-    let mut effects = [0u8; LIST_LIMIT];
-    let mut kept = [0u8; LIST_LIMIT];
-    write_outcomes(log, n, &mut effects, &mut kept);
-    let hash = packet::hash_of(packet);
-    let view = seen(log, &effects, &kept, n, packet, arrived, hash);
+    let view = seen(log, &outcomes_of(log, n), n, packet, arrived);
     let planned = plan_of(view, packet, arrived);
     answer_of(view, packet, arrived, planned, output)
 }
 
 // Whether a destination has a live path at a clock when n calls are listed.
-fn has_path(log: &[u8], n: usize, destination: [u8; 16], clock: u64) -> bool
-    requires { (length log.now ≡ log_size) × (n ≤ list_limit) }
+fn has_path(log: &[u8; LOG_SIZE], n: usize, destination: [u8; 16], clock: u64) -> bool
+    requires { n ≤ list_limit }
     ensures { result ≡ is_there ((seen_at clock (known_in log.now n)).path destination) }
 {
-    let mut effects = [0u8; LIST_LIMIT];
-    let mut kept = [0u8; LIST_LIMIT];
-    write_outcomes(log, n, &mut effects, &mut kept);
-    let path = live_path(path_of(log, &effects, n, destination), clock);
-    path.there
+    let path = path_of(log, &outcomes_of(log, n), n, destination);
+    live_path(path, clock).is_some()
 }
 
 // Takes a packet: its bytes, the arrival port, the clock and the host's word on the signature. The output has room for
@@ -77,7 +74,7 @@ pub fn take_packet(
         signed,
     };
     let verdict = judged(log, n, packet, arrived, output);
-    put_came(log, n, packet, arrived);
+    put(log, n, Entry::Came(packet, arrived));
     Answer::Judged(verdict)
 }
 
@@ -95,6 +92,6 @@ pub fn mark_path_unresponsive(log: &mut [u8; LOG_SIZE], destination: [u8; 16], c
     if !has_path(log, n, destination, clock) {
         return refusals::NO_LIVE_PATH;
     }
-    put_mark(log, n, destination, clock);
+    put(log, n, Entry::Marks(destination, clock));
     refusals::NONE
 }

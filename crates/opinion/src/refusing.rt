@@ -1,27 +1,31 @@
 // The rows of the refusal table that more than one call has.
-ghost use Rattle.std.specs.Prelude.{◌≡◌, ◌≤◌, length};
+ghost use Rattle.std.specs.Prelude.{◌≡◌, ◌≤◌};
 ghost use Rattle.history.specs.Opinion.{list_limit, clock_bad};
-ghost use Rattle.opinion_log.specs.Log.{log_size, known_in};
+ghost use Rattle.opinion_log.specs.Log.{known_in};
 ghost use Rattle.opinion.specs.Steps.{RefusesAs};
 
 use numbers::{CLOCK_LIMIT, LEAST_OUTPUT, refusals};
-use opinion_log::places::LIST_LIMIT;
+use opinion_log::places::{LIST_LIMIT, LOG_SIZE};
 use opinion_log::{last_clock, port_at};
 
 // Whether a clock is 2^40 or more, or below the last accepted clock.
-pub fn clock_bad(log: &[u8], n: usize, clock: u64) -> bool
-    requires { (length log.now ≡ log_size) × (n ≤ list_limit) }
+pub fn clock_bad(log: &[u8; LOG_SIZE], n: usize, clock: u64) -> bool
+    requires { n ≤ list_limit }
     ensures { result ≡ clock_bad (known_in log.now n) clock }
 {
-    if clock >= CLOCK_LIMIT {
-        return true;
-    }
-    clock < last_clock(log, n)
+    clock >= CLOCK_LIMIT || clock < last_clock(log, n)
 }
 
 // The refusal of a packet when n calls are listed, with an output buffer of this length, or 0.
-pub fn packet_refusal(log: &[u8], n: usize, packet: &[u8], port: u64, clock: u64, room: usize) -> u8
-    requires { (length log.now ≡ log_size) × (n ≤ list_limit) }
+pub fn packet_refusal(
+    log: &[u8; LOG_SIZE],
+    n: usize,
+    packet: &[u8],
+    port: u64,
+    clock: u64,
+    room: usize,
+) -> u8
+    requires { n ≤ list_limit }
     ensures { RefusesAs log.now n packet.now port clock room result }
 {
     if n >= LIST_LIMIT {

@@ -5,11 +5,12 @@ ghost use Rattle.numbers.specs.Numbers.{port_count, mode_count, is_size};
 ghost use Rattle.rules.specs.Calls.{sets_port, sets_rate, adds, removes, renumbers};
 ghost use Rattle.opinion.specs.Calls.{IsFresh, Settles};
 
-use super::writing::{put_added, put_fresh, put_map, put_port, put_rate, put_removed};
+use super::writing::{put, put_fresh};
+use judging::SeenPort;
 use maps::one_to_one;
 use numbers::{LOCAL_COUNT, MODE_COUNT, PORT_COUNT, refusals};
 use opinion_log::places::{LIST_LIMIT, LOG_SIZE};
-use opinion_log::{is_local, listed, local_number, rate_within};
+use opinion_log::{Entry, is_local, listed, local_number, rate_within};
 use rules::RateSettings;
 
 // Makes a fresh log. What it held is not read.
@@ -23,13 +24,7 @@ pub fn fresh(log: &mut [u8; LOG_SIZE], own: [u8; 16])
 fn setting_bad(port: u64, mode: u64, size: u64) -> bool
     ensures { result ≡ (leb port_count port or leb mode_count mode or not (is_size size)) }
 {
-    if port >= PORT_COUNT as u64 {
-        return true;
-    }
-    if mode >= MODE_COUNT as u64 {
-        return true;
-    }
-    !packet::is_size(size as usize)
+    port >= PORT_COUNT as u64 || mode >= MODE_COUNT as u64 || !packet::is_size(size as usize)
 }
 
 // Sets a port on or off, its mode and its size.
@@ -43,7 +38,12 @@ pub fn set_port(log: &mut [u8; LOG_SIZE], port: u64, on: bool, mode: u64, size: 
     if setting_bad(port, mode, size) {
         return refusals::SETTING;
     }
-    put_port(log, n, port as u8, on, mode as u8, size as usize);
+    let settings = SeenPort {
+        on,
+        mode: mode as u8,
+        size: size as usize,
+    };
+    put(log, n, Entry::SetsPort(port as u8, settings));
     refusals::NONE
 }
 
@@ -63,7 +63,7 @@ pub fn set_rate(log: &mut [u8; LOG_SIZE], target: u64, grace: u64, penalty: u64)
     if !rate_within(rate) {
         return refusals::SETTING;
     }
-    put_rate(log, n, rate);
+    put(log, n, Entry::SetsRate(rate));
     refusals::NONE
 }
 
@@ -81,7 +81,7 @@ pub fn add_local(log: &mut [u8; LOG_SIZE], address: [u8; 16]) -> u8
     if local_number(log, n) >= LOCAL_COUNT {
         return refusals::LOCAL_FULL;
     }
-    put_added(log, n, address);
+    put(log, n, Entry::Adds(address));
     refusals::NONE
 }
 
@@ -96,7 +96,7 @@ pub fn remove_local(log: &mut [u8; LOG_SIZE], address: [u8; 16]) -> u8
     if !is_local(log, n, address) {
         return refusals::LOCAL_ADDRESS;
     }
-    put_removed(log, n, address);
+    put(log, n, Entry::Removes(address));
     refusals::NONE
 }
 
@@ -111,6 +111,6 @@ pub fn renumber(log: &mut [u8; LOG_SIZE], map: [u8; 16]) -> u8
     if !one_to_one(&map) {
         return refusals::MAP;
     }
-    put_map(log, n, map);
+    put(log, n, Entry::Renumbers(map));
     refusals::NONE
 }

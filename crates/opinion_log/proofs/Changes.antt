@@ -3,9 +3,7 @@ use Prim.Native.Nat.{ℕ, ◌≤◌}
 use mathlib.Core.Bool.{Bool, true, false}
 use mathlib.Core.List.{List}
 use mathlib.Core.Path.{◌≡◌, refl, sym, ap, ◌∙◌}
-use lib.Dec.{eqb}
 use lib.ListN.{length}
-use borrow.Author.Tests.{eqb-true, eqb-false}
 use Rattle.octets.specs.Choice.{◌then◌otherwise◌, same}
 use Rattle.octets.proofs.Choice.{then_true, then_false}
 use Rattle.packet.specs.Header.{is_data}
@@ -13,22 +11,21 @@ use Rattle.packet.specs.Hash.{link_id}
 use Rattle.packet.specs.Places.{blob_end}
 use Rattle.rules.specs.Relay.{Slot, empty, used, Path, Return}
 use Rattle.rules.specs.View.{View}
-use Rattle.rules.specs.Renumbering.{rename_path, rename_link, rename_return, rename_slot}
+use Rattle.rules.specs.Renumbering.{rename_slot}
 use Rattle.rules.specs.Arrival.{Arrival, header, destination, body}
 use Rattle.rules.specs.Ways.{Way, everywhere, by_path, along_link, by_return, blocked}
 use Rattle.rules.specs.Judging.{Plan, dropped, delivered, follows, plan}
 use Rattle.rules.specs.Writes.{announced_path, return_key, return_record, link_record, renewed_link, is_rate_drop}
 use Rattle.rules.specs.declared.Link.{Link}
 use Rattle.rules.specs.declared.Reason.{Reason}
-use Rattle.rules.proofs.Noted.{with_path_mark}
 use Rattle.rules.proofs.Choices.{either}
 use Rattle.rules.proofs.Slots.{used_not_empty}
 use Rattle.rules.proofs.Passed.{passed}
 use Rattle.rules.proofs.ChattyPlan.{is_spread, spread_announce}
 use Rattle.forms.proofs.KindLaws.{announce_long}
 use Rattle.rules.proofs.Followed.{Planned, planned}
-use Rattle.history.specs.Known.{Known, only_if, seen_at, now_under, now_path, now_link, now_return, now_until, now_clock, now_rate, now_port, now_local, change_path}
-use Rattle.history.specs.After.{came, after_way, limited_path, after_drop, after_plan, renumbered_known, after_call, after}
+use Rattle.history.specs.Known.{Known, only_if, seen_at, now_under, now_path, now_link, now_return, now_until, now_clock, change_path}
+use Rattle.history.specs.After.{came, after_way, limited_path, after_drop, after_plan, after}
 use Rattle.opinion_log.specs.declared.outcomes.Effect.{Effect}
 use Rattle.opinion_log.specs.declared.outcomes.Effect.TheVariants.{Nothing, AnnouncesPath, LimitsPath, LeavesReturn, LeavesLink, RenewsLink, EmptiesReturn}
 use Rattle.opinion_log.specs.Steps.{way_effect, plan_effect, effect_of}

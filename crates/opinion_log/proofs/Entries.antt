@@ -16,7 +16,6 @@ use Rattle.packet.specs.Read.{reads}
 use Rattle.rules.specs.Refusals.{rate_settings_ok}
 use Rattle.rules.specs.Calls.{sets_port, sets_rate, adds, removes, renumbers, marks}
 use Rattle.rules.proofs.Choices.{either}
-use Rattle.history.specs.Known.{Known}
 use Rattle.history.specs.After.{Entry, came, called, after, known_of}
 use Rattle.opinion_log.specs.Log.{port_in, word_in, mode_in, clock_in, length_in, packet_in, arrival_in, rate_in, address_in, images_in, kind_in, entry_of, entry_bytes, entries_of, known_in, kind_at}
 

@@ -1,27 +1,21 @@
 -- The small laws of reading an entry's bytes.
-use Prim.Native.Nat.{ℕ, ◌+◌, ◌-◌, ◌%◌, ◌≤◌, ◌<◌, min}
+use Prim.Native.Nat.{ℕ, ◌+◌, ◌%◌, ◌≤◌, ◌<◌, min}
 use Rattle.std.proofs.Common.{⊎_elim}
 use Rattle.std.proofs.lemmas.Bool.{cases_lt}
 use native.Mathlib.Omega.{arith}
-use mathlib.Core.Bool.{Bool}
 use mathlib.Core.List.{List}
-use mathlib.Core.Path.{◌≡◌, sym, ap, subst, ◌∙◌}
-use lib.Dec.{eqb}
+use mathlib.Core.Path.{◌≡◌, sym, ap, ◌∙◌}
 use lib.ListN.{length, get_or, drop, length-drop, get_or-map}
 use lib.Seq.{take_all}
-use Rattle.octets.specs.Index.{agree}
 use Rattle.octets.specs.Part.{part}
 use Rattle.octets.specs.Bytes.{Bytes}
-use Rattle.octets.specs.Choice.{◌then◌otherwise◌, same}
-use Rattle.octets.proofs.Part.{part_length, part_at, part_whole}
+use Rattle.octets.proofs.Part.{part_length, part_at}
 use Rattle.octets.proofs.Bytes.{part_bytes}
 use Rattle.octets.proofs.BigEndian.{number_lt}
-use Rattle.octets.proofs.Choice.{same_agree}
 use Rattle.numbers.specs.Numbers.{clock_limit, port_count, longest_packet}
 use Rattle.rules.specs.Renumbering.{image}
 use Rattle.rules.proofs.Images.{image_port}
-use Rattle.rules.proofs.Choices.{either}
-use Rattle.opinion_log.specs.Log.{body_at, address_width, entry_width, clock_in, images_in, clock_at, clock_width}
+use Rattle.opinion_log.specs.Log.{body_at, entry_width, clock_in, images_in, clock_at, clock_width}
 
 pub clock_small : (e : List ℕ) → Bytes e → length e ≡ entry_width → clock_in e < clock_limit
 clock_small e b h = number_lt (part e clock_at clock_width) clock_width (part_bytes e clock_at clock_width b) (part_length e clock_at clock_width (omega arith))

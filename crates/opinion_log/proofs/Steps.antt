@@ -1,6 +1,5 @@
 -- One more packet in the walks for a path, a link and a return record: what the code makes of the record is what is known after it.
-use Rattle.std.proofs.Common.{ℕ, Option, Some, None, List, ◌≡◌, refl, sym, ap, ◌∙◌}
-use Rattle.octets.specs.Choice.{◌then◌otherwise◌, same}
+use Rattle.std.proofs.Common.{ℕ, Option, Some, List, ◌≡◌, sym, ap, ◌∙◌}
 use Rattle.octets.proofs.Choice.{then_true, eq_same}
 use Rattle.numbers.specs.Numbers.{live}
 use Rattle.rules.specs.Relay.{Slot, used, Path}

@@ -8,24 +8,17 @@ use lib.Dec.{eqb, ltb}
 use lib.ListN.{length, get_or, set, get_or-eq_default}
 use lib.Seq.{get_or-set_same, get_or-set_other}
 use borrow.Author.Tests.{ne_eqb, eqb-true, eqb-false, ltb-true, ltb-false}
-use Rattle.octets.specs.Index.{◌and◌}
-use Rattle.octets.proofs.Index.{and_false, first_absent}
-use Rattle.packet.specs.Header.{is_data}
+use Rattle.octets.proofs.Index.{first_absent}
 use Rattle.rules.specs.Relay.{Port, fresh_port}
 use Rattle.octets.proofs.Choice.{then_false}
 use Rattle.rules.specs.Renumbering.{preimage}
-use Rattle.rules.specs.Arrival.{Arrival, header}
+use Rattle.rules.specs.Arrival.{Arrival}
 use Rattle.rules.proofs.Images.{image_port}
-use Rattle.rules.proofs.Choices.{either}
-use Rattle.judging.specs.declared.Seen.{Seen}
-use Rattle.judging.specs.declared.SeenWay.TheVariants.{Everywhere, ByPath, AlongLink, ByReturn, Blocked}
-use Rattle.judging.specs.declared.Planned.{Planned}
-use Rattle.judging.specs.declared.Planned.TheVariants.{Drop, Deliver, Follow}
 use Rattle.judging.specs.declared.SeenPort.{SeenPort}
-use Rattle.judging.specs.Seen.{no_seen_port, plan_of}
+use Rattle.judging.specs.Seen.{no_seen_port}
 use Rattle.history.specs.Known.{Known, fresh_known, now_path, now_link, now_return, now_until, now_clock, now_rate, now_port, now_local, change_path}
 use Rattle.history.specs.After.{Entry, came, after, after_call, renumbered_known, known_of}
-use Rattle.opinion_log.specs.Log.{port_in, images_in, kind_in, own_in, entry_of, entry_bytes, entries_of, known_in, body_at}
+use Rattle.opinion_log.specs.Log.{port_in, images_in, own_in, entry_of, entry_bytes, entries_of, known_in, body_at}
 use Rattle.opinion_log.specs.Steps.{port_seen}
 use Rattle.opinion_log.proofs.Reading.{image_at}
 use Rattle.opinion_log.proofs.Entries.{by_kind}

@@ -1,30 +1,24 @@
 -- What one more entry changes of what is asked: the last clock, the rate, the ports, the local addresses and the remembered hashes.
-use Prim.Native.Nat.{ℕ, ◌+◌, ◌-◌}
+use Prim.Native.Nat.{ℕ, ◌+◌}
 use mathlib.Core.Bool.{Bool, true, false}
 use mathlib.Core.List.{List}
 use mathlib.Core.Path.{◌≡◌, refl, sym, ap, ◌∙◌}
-use lib.Dec.{eqb}
-use borrow.Author.Tests.{eq-eqb}
-use Rattle.octets.specs.Index.{◌and◌}
-use Rattle.octets.specs.Choice.{◌then◌otherwise◌, same}
-use Rattle.octets.proofs.Index.{and_yes}
+use Rattle.octets.specs.Choice.{◌then◌otherwise◌}
 use Rattle.octets.proofs.Choice.{then_true, then_false}
 use Rattle.numbers.specs.Numbers.{hash_lifetime}
-use Rattle.rules.specs.Relay.{Port, make_port, fresh_port, no_rate_settings, Slot, empty, Path, Return}
+use Rattle.rules.specs.Relay.{fresh_port, no_rate_settings, Slot, empty, Path, Return}
 use Rattle.rules.specs.View.{View}
-use Rattle.rules.specs.Renumbering.{preimage}
 use Rattle.rules.specs.Arrival.{Arrival, hash}
 use Rattle.rules.specs.Ways.{Way, everywhere, by_path, along_link, by_return, blocked}
 use Rattle.rules.specs.Judging.{Plan, dropped, delivered, follows, plan}
 use Rattle.rules.specs.Writes.{remembers}
 use Rattle.rules.specs.declared.Link.{Link}
 use Rattle.rules.proofs.Choices.{either}
-use Rattle.history.specs.Known.{Known, fresh_known, seen_at, now_under, now_path, now_link, now_return, now_until, now_clock, now_rate, now_port, now_local, change_path}
+use Rattle.history.specs.Known.{Known, fresh_known, seen_at, now_under, now_path, now_link, now_return, now_until, now_clock, change_path}
 use Rattle.rules.specs.Calls.{TableCall}
-use Rattle.history.specs.After.{Entry, came, called, after_way, after_drop, after_plan, after_hash, after_packet, renumbered_known, after_call, after, known_of}
-use Rattle.opinion_log.specs.Log.{port_in, word_in, mode_in, clock_in, length_in, arrival_in, rate_in, address_in, images_in, kind_in, entry_of, entries_of, known_in}
+use Rattle.history.specs.After.{came, called, after_way, after_drop, after_plan, after_hash, after_packet, after_call, after, known_of}
+use Rattle.opinion_log.specs.Log.{entries_of, known_in}
 use Rattle.opinion_log.specs.Steps.{keeps_hash}
-use Rattle.opinion_log.proofs.Entries.{entry_came, entry_port, entry_rate, entry_added, entry_removed, entry_marked, by_kind}
 
 -- ---- nothing listed
 pub none_yet : (log : List ℕ) → known_in log 0 ≡ fresh_known (known_in log 0).own

@@ -15,16 +15,10 @@ pub returns-then-room-lt-LEAST_OUTPUT : goal.returns-then-room-lt-LEAST_OUTPUT
 returns-then-room-lt-LEAST_OUTPUT c signed =
     row_room c.args.log.now c.args.n ((arrival_by c.args.packet.now c.args.port c.args.clock signed)) c.args.room (omega arith) (omega arith)
 
-pub port_at-settings-requires : goal.port_at-settings-requires
-port_at-settings-requires c = c.requires
-
 pub returns-then-not-settings : goal.returns-then-not-settings
 returns-then-not-settings c signed =
     row_port c.args.log.now c.args.n ((arrival_by c.args.packet.now c.args.port c.args.clock signed)) c.args.room (omega arith) (omega arith)
     (ap (λ (p : Port). not p.on) (sym c.port_at-settings.ensures) ∙ c.if-not-settings.true)
-
-pub clock_bad-requires : goal.clock_bad-requires
-clock_bad-requires c = c.requires
 
 pub returns-then-clock_bad : goal.returns-then-clock_bad
 returns-then-clock_bad c signed =

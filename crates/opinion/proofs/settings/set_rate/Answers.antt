@@ -1,27 +1,21 @@
-use Rattle.opinion.proofs.Settled.{full, refused, accepted, none_of_one}
-use mathlib.Core.Bool.{not}
+use Rattle.std.proofs.Common.{arith}
+use borrow.Author.Tests.{tests}
 use Rattle.history.specs.Opinion.{call_rows}
-use Rattle.octets.proofs.Listed.{here}
-use mathlib.Core.Path.{refl, sym, ap, ◌∙◌}
+use Rattle.octets.specs.Listed.{first_of}
+use Rattle.octets.specs.Choice.{◌then◌otherwise◌}
 use borrow.Author.Tests.{eqb-false}
-use native.Mathlib.Omega.{arith}
-use borrow.Author.Rules.{rules}
+use Rattle.std.proofs.Common.{refl}
+use Rattle.opinion.proofs.Settled.{full, refused, accepted}
 use Rattle.opinion.proofs.settings.set_rate.Goals as goal
 
 pub returns-then-n-ge-LIST_LIMIT : goal.returns-then-n-ge-LIST_LIMIT
+unfolding call_rows first_of ◌then◌otherwise◌
 returns-then-n-ge-LIST_LIMIT c = full _ _ (omega (arith, c.listed-n.ensures.0))
 
 pub returns-then-not-rate_within : goal.returns-then-not-rate_within
-unfolding call_rows
-returns-then-not-rate_within c =
-    refused _ _ (omega (arith, c.listed-n.ensures.0)) 9 (here _ _ _ _ (ap not (sym c.rate_within.ensures) ∙ (ap not c.if-not-rate_within.true)))
-    (eqb-false 9 0 refl)
-
-pub put_rate-requires : goal.put_rate-requires
-put_rate-requires c = (search rules, omega arith, sym c.rate_within.ensures ∙ c.if-not-rate_within.false)
+unfolding call_rows first_of ◌then◌otherwise◌
+returns-then-not-rate_within c = refused _ _ (omega (arith, c.listed-n.ensures.0)) 9 (grind (arith, tests)) (eqb-false 9 0 refl)
 
 pub returns : goal.returns
-unfolding call_rows
-returns c =
-    accepted _ _ (omega (arith, c.listed-n.ensures.0)) (none_of_one _ 9 (ap not (sym c.rate_within.ensures)
-    ∙ (ap not c.if-not-rate_within.false))) c.listed-n.result c.listed-n.ensures.0 _ c.put_rate.ensures
+unfolding call_rows first_of ◌then◌otherwise◌
+returns c = accepted _ _ (omega (arith, c.listed-n.ensures.0)) (grind (arith, tests)) c.listed-n.result c.listed-n.ensures.0 _ c.put.ensures

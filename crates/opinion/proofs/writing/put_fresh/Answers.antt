@@ -14,4 +14,4 @@ pub returns : goal.returns
 returns c =
     let wide : length c.args.own ≡ address_width = search rules in
     subst (IsFresh c.args.own) (sym (c.set_at.ensures
-    ∙ ap (λ (t : List ℕ). patch t count_at (0 ∷ [])) c.copy_at.ensures)) (fresh_log c.args.log.now c.args.own c.requires wide)
+    ∙ ap (λ (t : List ℕ). patch t count_at (0 ∷ [])) c.copy_at.ensures)) (fresh_log c.args.log.now c.args.own c.told-log wide)

@@ -1,4 +1,4 @@
-use Rattle.std.proofs.Common.{rules, arith}
+use Rattle.std.proofs.Common.{arith}
 use borrow.Author.Tests.{tests}
 use Rattle.opinion_log.proofs.Entries.{one_more}
 use Rattle.opinion_log.proofs.Walk.{fresh_local}

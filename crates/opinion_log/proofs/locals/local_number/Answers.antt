@@ -1,5 +1,4 @@
-use Rattle.std.proofs.Common.{rules, arith}
-use borrow.Author.Tests.{tests}
+use Rattle.std.proofs.Common.{arith}
 use Rattle.std.proofs.Common.{sym, ap, ◌∙◌}
 use Rattle.history.specs.Known.{Known}
 use Rattle.opinion_log.specs.Log.{known_in}

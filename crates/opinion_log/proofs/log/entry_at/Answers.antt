@@ -1,5 +1,3 @@
-use Rattle.std.proofs.Common.{rules, arith}
-use borrow.Author.Tests.{tests}
 use Rattle.std.proofs.Common.{◌+◌, ◌*◌, ap, ◌∙◌}
 use Rattle.octets.proofs.Part.{part_range}
 use Rattle.opinion_log.specs.Log.{entries_at, entry_width, entry_of}

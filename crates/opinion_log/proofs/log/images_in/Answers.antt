@@ -1,9 +1,8 @@
-use Rattle.std.proofs.Common.{ℕ, ◌<◌, ◌%◌, ◌≡◌, List, map, length, get_or, sym, ap, ◌∙◌, rules, arith}
+use Rattle.std.proofs.Common.{ℕ, ◌<◌, ◌%◌, ◌≡◌, map, length, get_or, sym, ap, ◌∙◌, rules, arith}
 use borrow.Author.Tests.{tests}
 use lib.ListN.{get_or-map, length-map}
 use lib.Seq.{ext_get_or}
 use Rattle.numbers.specs.Numbers.{port_count}
-use Rattle.opinion_log.specs.Log.{address_in}
 use Rattle.opinion_log.proofs.log.images_in.Goals as goal
 
 pub returns : goal.returns

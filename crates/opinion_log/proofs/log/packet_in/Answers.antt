@@ -1,6 +1,4 @@
 use Rattle.std.proofs.Common.{ap, ◌∙◌, arith, ℕ, min, ◌≡◌}
-use lib.Seq.{length-take-le}
-use Rattle.octets.specs.Part.{part}
 use Rattle.octets.proofs.Part.{part_range, range_length}
 use Rattle.numbers.specs.Numbers.{longest_packet}
 use Rattle.opinion_log.specs.Log.{body_at, length_in}

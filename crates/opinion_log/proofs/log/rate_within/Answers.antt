@@ -1,4 +1,4 @@
-use Rattle.std.proofs.Common.{rules, arith}
+use Rattle.std.proofs.Common.{arith}
 use borrow.Author.Tests.{tests}
 use Rattle.rules.specs.Refusals.{rate_settings_ok}
 use Rattle.octets.specs.Index.{◌and◌}

@@ -1,4 +1,4 @@
-use Rattle.std.proofs.Common.{rules, arith}
+use Rattle.std.proofs.Common.{arith}
 use borrow.Author.Tests.{tests}
 use Rattle.octets.specs.Choice.{◌then◌otherwise◌}
 use Rattle.opinion_log.proofs.outcomes.effect_of.Goals as goal

@@ -1,4 +1,4 @@
-use Rattle.std.proofs.Common.{rules, arith}
+use Rattle.std.proofs.Common.{arith}
 use borrow.Author.Tests.{tests}
 use Rattle.opinion_log.specs.Steps.{effect_of, keeps_hash}
 use Rattle.std.proofs.Common.{◌≡◌, sym, ap, ◌∙◌}

@@ -1,5 +1,4 @@
-use Rattle.std.proofs.Common.{rules, arith}
-use borrow.Author.Tests.{tests}
+use Rattle.std.proofs.Common.{arith}
 use Rattle.std.proofs.Common.{◌≡◌, ◌∙◌}
 use lib.ListN.{length-set}
 use Rattle.opinion_log.specs.Log.{entry_of, entry_bytes, known_in}

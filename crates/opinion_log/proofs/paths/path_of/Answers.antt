@@ -1,5 +1,4 @@
-use Rattle.std.proofs.Common.{rules, arith}
-use borrow.Author.Tests.{tests}
+use Rattle.std.proofs.Common.{arith}
 use Rattle.opinion_log.proofs.Walk.{fresh_path}
 use Rattle.opinion_log.proofs.paths.path_of.Goals as goal
 

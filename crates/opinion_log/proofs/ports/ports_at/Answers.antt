@@ -1,5 +1,4 @@
-use Rattle.std.proofs.Common.{rules, arith}
-use borrow.Author.Tests.{tests}
+use Rattle.std.proofs.Common.{arith}
 use Rattle.std.proofs.Common.{◌≡◌, ◌∙◌}
 use lib.ListN.{length-set}
 use Rattle.judging.specs.Seen.{no_seen_port}

@@ -1,5 +1,3 @@
-use Rattle.std.proofs.Common.{rules, arith}
-use borrow.Author.Tests.{tests}
 use Rattle.rules.specs.Refusals.{rate_settings_ok}
 use Rattle.octets.specs.Index.{◌and◌}
 use Rattle.std.proofs.Common.{sym, refl, ap, ◌∙◌}

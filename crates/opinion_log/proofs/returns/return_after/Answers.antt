@@ -1,4 +1,4 @@
-use Rattle.std.proofs.Common.{rules, arith}
+use Rattle.std.proofs.Common.{arith}
 use borrow.Author.Tests.{tests}
 use Rattle.history.specs.After.{after_call, renumbered_known}
 use Rattle.history.specs.Known.{now_clock, change_path, now_path, now_port, now_rate, now_local, now_under, seen_at}
@@ -10,8 +10,6 @@ use Rattle.octets.proofs.Chains.{equal_is_same}
 use Rattle.octets.specs.Choice.{same}
 use Rattle.octets.proofs.Choice.{same_eq, eq_same}
 use Rattle.numbers.specs.Numbers.{live}
-use Rattle.packet.specs.declared.Parts.{Parts}
-use Rattle.packet.specs.Hash.{link_id}
 use Rattle.rules.specs.Arrival.{destination}
 use Rattle.judging.specs.Seen.{arrival_of}
 use Rattle.history.specs.After.{Entry, came}

@@ -1,5 +1,3 @@
-use Rattle.std.proofs.Common.{rules, arith}
-use borrow.Author.Tests.{tests}
 use Rattle.opinion_log.proofs.Walk.{fresh_return}
 use Rattle.opinion_log.proofs.returns.return_of.Goals as goal
 

@@ -1,5 +1,3 @@
-use Rattle.std.proofs.Common.{rules, arith}
-use borrow.Author.Tests.{tests}
 use Rattle.history.specs.Known.{seen_at}
 use Rattle.std.proofs.Common.{ℕ, List, ltb, ◌≡◌, refl, sym, ap, subst, ◌∙◌}
 use Rattle.numbers.specs.Numbers.{live}
