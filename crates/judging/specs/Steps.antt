@@ -30,7 +30,7 @@ use Rattle.judging.specs.declared.SeenWay.{SeenWay}
 use Rattle.judging.specs.declared.SeenWay.TheVariants.{Everywhere}
 use Rattle.judging.specs.declared.Planned.{Planned}
 use Rattle.judging.specs.declared.Planned.TheVariants.{Drop, Deliver, Follow}
-use Rattle.judging.specs.Seen.{arrival_of, blobs_of, path_record, return_record_of, no_seen_port, view_of, PathFits, Fits, way_of}
+use Rattle.judging.specs.Seen.{arrival_of, blobs_of, path_record, no_seen_port, view_of, PathFits, Fits, way_of}
 
 -- ---- the tests of a known path
 -- what a caller shows: only an announce goes everywhere, and its form is good

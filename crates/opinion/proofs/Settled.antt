@@ -152,9 +152,6 @@ module _ (log : List ℕ) (a : Arrival) (output : List ℕ) where
 pub none_of_one : (test : Bool) (x : ℕ) → test ≡ false → first_of (test gives x otherwise []) 0 ≡ 0
 none_of_one test x p = none_first (test gives x otherwise []) 0 (p, tt)
 
-pub none_of_two : (test other : Bool) (x y : ℕ) → test ≡ false → other ≡ false → first_of (test gives x otherwise other gives y otherwise []) 0 ≡ 0
-none_of_two test other x y p q = none_first (test gives x otherwise other gives y otherwise []) 0 (p, (q, tt))
-
 -- ---- a packet's rows, one after the other
 module _ (log : List ℕ) (n : ℕ) (a : Arrival) (room : ℕ) where
   abbrev full_row : Bool

@@ -7,7 +7,7 @@ use mathlib.Core.List.{List}
 use mathlib.Core.Path.{◌≡◌, refl, sym, ap, ◌∙◌}
 use lib.Dec.{eqb, ltb}
 use lib.ListN.{get_or}
-use borrow.Author.Tests.{eq-eqb, ne_eqb, eqb-true, eqb-false, ltb-false, not-false}
+use borrow.Author.Tests.{eq-eqb, ne_eqb, eqb-true, eqb-false, ltb-false}
 use Rattle.octets.specs.Choice.{◌then◌otherwise◌}
 use Rattle.octets.proofs.Index.{and_no, and_yes}
 use Rattle.octets.proofs.Choice.{then_true, then_false}
@@ -28,23 +28,6 @@ module _ (e : List ℕ) where
       (λ _. either (λ (n : ℕ). n ≤ 6) _ (λ _. omega arith)
       (λ _. either (λ (n : ℕ). n ≤ 6) _ (λ _. omega arith) (λ h. ltb-false 6 (get_or e kind_at 0) h)))
 
-  -- a packet that came reads, and a rate set is within its limits
-  pub came_reads : kind_in e ≡ 1 → reads longest_packet (packet_in e) ≡ true
-  unfolding kind_in
-  came_reads =
-      either (λ (n : ℕ). n ≡ 1 → reads longest_packet (packet_in e) ≡ true) _ (λ _ q. absurd (eqb-false 0 1 refl q))
-      (λ h. either (λ (n : ℕ). n ≡ 1 → reads longest_packet (packet_in e) ≡ true) _ (λ _ q. absurd (eqb-false 0 1 refl q))
-      (λ _. either (λ (n : ℕ). n ≡ 1 → reads longest_packet (packet_in e) ≡ true) _ (λ _ q. absurd (eqb-false 0 1 refl q))
-      (λ _ q. not-false _ (sym (and_yes _ (eq-eqb (get_or e kind_at 0) 1 q)) ∙ h))))
-
-  pub rate_fits : kind_in e ≡ 3 → rate_settings_ok (rate_in e) ≡ true
-  unfolding kind_in
-  rate_fits =
-      either (λ (n : ℕ). n ≡ 3 → rate_settings_ok (rate_in e) ≡ true) _ (λ _ q. absurd (eqb-false 0 3 refl q))
-      (λ _. either (λ (n : ℕ). n ≡ 3 → rate_settings_ok (rate_in e) ≡ true) _ (λ _ q. absurd (eqb-false 0 3 refl q))
-      (λ h. either (λ (n : ℕ). n ≡ 3 → rate_settings_ok (rate_in e) ≡ true) _ (λ _ q. absurd (eqb-false 0 3 refl q))
-      (λ _ q. not-false _ (sym (and_yes _ (eq-eqb (get_or e kind_at 0) 3 q)) ∙ h))))
-
   -- from the first byte
   pub kind_came : get_or e kind_at 0 ≡ 1 → reads longest_packet (packet_in e) ≡ true → kind_in e ≡ 1
   unfolding kind_in
@@ -54,10 +37,6 @@ module _ (e : List ℕ) where
       ∙ then_false _ _ (ap (ltb 6) h)
       ∙ h
 
-  pub kind_not_read : get_or e kind_at 0 ≡ 1 → reads longest_packet (packet_in e) ≡ false → kind_in e ≡ 0
-  unfolding kind_in
-  kind_not_read h r = then_true _ _ (and_yes _ (eq-eqb (get_or e kind_at 0) 1 h) ∙ ap not r)
-
   pub kind_rate : get_or e kind_at 0 ≡ 3 → rate_settings_ok (rate_in e) ≡ true → kind_in e ≡ 3
   unfolding kind_in
   kind_rate h r =
@@ -65,12 +44,6 @@ module _ (e : List ℕ) where
       ∙ then_false _ _ (and_yes _ (eq-eqb (get_or e kind_at 0) 3 h) ∙ ap not r)
       ∙ then_false _ _ (ap (ltb 6) h)
       ∙ h
-
-  pub kind_over : get_or e kind_at 0 ≡ 3 → rate_settings_ok (rate_in e) ≡ false → kind_in e ≡ 0
-  unfolding kind_in
-  kind_over h r =
-      then_false _ _ (and_no _ (ne_eqb (get_or e kind_at 0) 1 (λ q. eqb-false 3 1 refl (sym h ∙ q))))
-      ∙ then_true _ _ (and_yes _ (eq-eqb (get_or e kind_at 0) 3 h) ∙ ap not r)
 
   pub kind_other : (get_or e kind_at 0 ≡ 1 → ⊥) → (get_or e kind_at 0 ≡ 3 → ⊥) → kind_in e ≡ (ltb 6 (get_or e kind_at 0) then 0 otherwise get_or e kind_at 0)
   unfolding kind_in

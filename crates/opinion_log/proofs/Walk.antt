@@ -20,11 +20,6 @@ use Rattle.history.specs.After.{came, called, after_way, after_drop, after_plan,
 use Rattle.opinion_log.specs.Log.{entries_of, known_in}
 use Rattle.opinion_log.specs.Steps.{keeps_hash}
 
--- ---- nothing listed
-pub none_yet : (log : List ℕ) → known_in log 0 ≡ fresh_known (known_in log 0).own
-unfolding known_in entries_of known_of fresh_known
-none_yet log = refl
-
 -- ---- a packet
 -- what neither paths, links nor return records tell, a plan doesn't change
 module _ {A : Type 0} (f : Known → A) (path : (d : List ℕ) (s : Slot Path) (k : Known) → f (now_path d s k) ≡ f k)
