@@ -8,14 +8,14 @@ use mathlib.Core.List.{List}
 use mathlib.Core.Path.{◌≡◌, refl, sym, ap, subst, ◌∙◌}
 use lib.Dec.{eqb, ltb}
 use lib.ListN.{length, take, drop, get_or, length-take, length-drop}
-use borrow.Author.Tests.{eq-eqb, eqb-false, not-true, not-false, lt-ltb, le-ltb, ltb-true, ltb-false}
+use borrow.Author.Tests.{eqb-false, not-true, not-false, lt-ltb, le-ltb, ltb-true, ltb-false}
 use Rattle.octets.specs.Index.{◌and◌, all_below, first}
 use Rattle.octets.specs.Choice.{◌then◌otherwise◌, same}
 use Rattle.octets.specs.Part.{part}
 use Rattle.octets.specs.BigEndian.{number, word, word_width}
 use Rattle.octets.proofs.Part.{part_part}
 use Rattle.octets.proofs.Choice.{ne_same}
-use Rattle.octets.proofs.Index.{and_left, and_right, and_no, and_yes, and_false, and_assoc, all_none, all_fails, first_none, first_more, first_le, first_hit, first_holds, first_before, first_absent, first_ended, first_cong}
+use Rattle.octets.proofs.Index.{and_left, and_right, and_no, and_false, and_assoc, first_none, first_more, first_le, first_before, first_cong}
 use Rattle.codes.proofs.Many.{many_end}
 use Rattle.numbers.specs.Numbers.{live}
 use Rattle.rules.specs.Relay.{holds, free, lowest, lowest_free}
@@ -42,7 +42,7 @@ unfolding lowest_record
 seen_in test at width n t e bytes =
     e ∙ ap (λ (ys : List ℕ). first (λ i. test (record_at 0 width ys i)) n) bytes ∙ lowest_of_part test at width n t
 
--- ---- the loop
+-- ---- one record after the other
 module _ (test : List ℕ → Bool) (at width : ℕ) (t : List ℕ) where
   pub none_yet : lowest_record test at width 0 t ≡ 0
   unfolding lowest_record
@@ -57,15 +57,7 @@ module _ (test : List ℕ → Bool) (at width : ℕ) (t : List ℕ) where
     unfolding lowest_record
     not_here q h = first_more (λ k. test (record_at at width t k)) i h (seen ∙ q)
 
-    pub found_here : (n : ℕ) → i < n → r ≡ true → lowest_record test at width i t ≡ i → i ≡ lowest_record test at width n t
-    unfolding lowest_record
-    found_here n l q h = sym (first_hit (λ k. test (record_at at width t k)) i n h (seen ∙ q) l)
-
-  pub nowhere : {i n : ℕ} → i ≤ n → n ≤ i → lowest_record test at width i t ≡ i → n ≡ lowest_record test at width n t
-  unfolding lowest_record
-  nowhere l m h = sym (first_ended (λ k. test (record_at at width t k)) l m h)
-
--- ---- the loop in runs: i records that don't pass the test, and n behind them, of which the lowest that does is k
+-- ---- in runs: i records that don't pass the test, and n behind them, of which the lowest that does is k
 first_plus : (p : ℕ → Bool) (m n : ℕ) → first p m ≡ m → first p (m + n) ≡ m + first (λ j. p (m + j)) n
 unfolding first
 first_plus p m zero h = rw (add-zero) h
@@ -94,13 +86,6 @@ module _ (test : List ℕ → Bool) (at width : ℕ) (t : List ℕ) (i n : ℕ) 
 
   pub run_passed : n ≤ k → lowest_record test at width (i + n) t ≡ i + n
   run_passed l = runs ∙ omega (arith, within_run)
-
-  pub run_found : (count : ℕ) → i + n ≤ count → k < n → i + k ≡ lowest_record test at width count t
-  unfolding lowest_record
-  run_found count l m =
-      let p : ℕ → Bool = λ x. test (record_at at width t x) in
-      sym (first_hit p (i + k) count (first_absent p (i + k) (λ j b. first_before p (i + n) j (subst (λ (x : ℕ). j < x) (sym runs) b)))
-      (ap p (sym runs) ∙ first_holds p (i + n) (subst (λ (x : ℕ). x < i + n) (sym runs) (omega arith))) (omega arith))
 
 -- ---- fours that one test of all four passes by
 module _ (test four : List ℕ → Bool) (width : ℕ) (t : List ℕ) (none : (j : ℕ) → four (record_at 0 (width * 4) t j) ≡ false
@@ -161,23 +146,6 @@ other_word key b expiry clock l ne =
     ne_same (part b 1 (length key)) key
     (λ q. ne (ap word (sym (part_part b 1 (length key) tail word_width (omega arith)) ∙ ap (λ (x : List ℕ). part x tail word_width) q))) in
     sym (and_no (live clock (number (part b expiry time_width))) (ap (is_used b and◌) other ∙ and_false (is_used b)))
-
--- ---- several words at once. The one of index k is w, read at its place
-module _ (x at width : ℕ) (t : List ℕ) where
-  pub none_first : none_is x at width 0 t ≡ true
-  unfolding none_is
-  none_first = all_none _
-
-  module _ (k : ℕ) {place w : ℕ} (there : place ≡ at + width * k) (read : w ≡ word (part t place word_width)) where
-    pub none_more : none_is x at width k t ≡ true → not (eqb w x) ≡ none_is x at width (k + 1) t
-    unfolding none_is all_below
-    none_more h = rw (add-one, read, there) (sym (and_yes _ h))
-
-    pub one_is : (n : ℕ) → k < n → w ≡ x → false ≡ none_is x at width n t
-    unfolding none_is
-    one_is n l q =
-        let here : word (part t (at + width * k) word_width) ≡ x = rw (← there) (sym read ∙ q) in
-        sym (all_fails (λ i. not (eqb (word (part t (at + width * i) word_width)) x)) k n l (ap not (eq-eqb _ _ here)))
 
 -- n records, of which none has the key's last eight bytes, are not of the key
 module _ (key : List ℕ) (expiry clock at width : ℕ) (t : List ℕ) (wide : 1 + length key ≤ width) where

@@ -2,25 +2,24 @@
 use Prim.Native.Nat.{ℕ, zero, suc, ◌+◌, ◌*◌, ◌-◌, ◌/◌, ◌≤◌, ◌<◌}
 use native.Mathlib.Nat.{add-zero, add_assoc, mul-add, mul_assoc, mul-suc, mul-div_cancel_left, add-div_left, div-eq_of_lt}
 use native.Mathlib.Omega.{arith}
-use mathlib.Core.Bool.{Bool, true, false, cond, ◌&&◌, ◌||◌}
+use mathlib.Core.Bool.{Bool, true, false, cond, ◌&&◌}
 use mathlib.Core.List.{List, [], ◌∷◌, ◌++◌}
 use mathlib.Core.Path.{◌≡◌, refl, sym, ap, ap₂, subst, ◌∙◌}
 use lib.ListN.{length, get_or, take, drop, length-append, length-drop}
 use lib.Dec.{ltb}
 use lib.Seq.{take_at, drop_at, drop-drop, take_all}
-use borrow.Author.Tests.{le-ltb, lt-ltb, tests}
 use denote.Param.Members.{Mut}
 use denote.Ref.{Bor}
 use Rattle.std.specs.Prelude.{Option, Some, None, MatchOption}
 use Rattle.std.specs.Fn.{Called}
 use Rattle.std.specs.Iterator.{YieldsThen}
-use Rattle.std.specs.List.{list_all, list_any, position_or_len, FoldsTo}
+use Rattle.std.specs.List.{list_all, position_or_len, FoldsTo}
 use Rattle.std.specs.Option.{unwrap_or}
 use Rattle.std.specs.Simd.{first_chunks}
 use Rattle.std.specs.Slice.Iter.{chunks_exact_rest, chunks_exact_size, chunks_exact_steps}
 use Rattle.std.specs.declared.slice.ChunksExact.{ChunksExact}
 use Rattle.std.proofs.lemmas.Iterator.{YieldsList}
-use Rattle.std.proofs.lemmas.Iterator.Search.{all_from_yields_List, any_from_yields_List, position_from_yields_List}
+use Rattle.std.proofs.lemmas.Iterator.Search.{all_from_yields_List, position_from_yields_List}
 use Rattle.std.proofs.lemmas.Iterator.Splits.{YieldsList-from_shown_while}
 use Rattle.octets.specs.Index.{◌and◌, all_below, first, zeros}
 use Rattle.octets.specs.Part.{part}
@@ -122,7 +121,7 @@ module _ {F : Type 0} {g : Mut F (Bor (List ℕ) × Unit {0}) Bool} {s u : Chunk
       ∙ ap (λ (xs : List ℕ). records_ok p 0 w n xs) (part_range t at (w * n))
       ∙ records_of_part p at w n t
 
--- ---- the first chunk that passes, and whether one does
+-- ---- the first chunk that passes
 pub chunk_count : (w n : ℕ) (xs : List ℕ) → length (first_chunks w n xs) ≡ n
 chunk_count w zero xs = refl
 chunk_count w (suc n) xs = ap suc (chunk_count w n (drop w xs))
@@ -140,23 +139,7 @@ place_in_chunks p w (suc n) xs =
     ∙ ap (λ (b : List ℕ). cond (p b) 0 (suc (first (λ k. p (record_at 0 w xs (suc k))) n))) (first_part w xs)
     ∙ sym (first_front (λ k. p (record_at 0 w xs k)) n)
 
-both_next : (m n : ℕ) → ltb m n ≡ ltb (suc m) (suc n)
-both_next m n = grind (arith, tests)
-
-some_turned : (b : Bool) (m n : ℕ) → (b || ltb m n) ≡ ltb (cond b 0 (suc m)) (suc n)
-some_turned true m n = sym (lt-ltb 0 (suc n) (omega arith))
-some_turned false m n = both_next m n
-
-pub any_chunk : (p : List ℕ → Bool) (w n : ℕ) (xs : List ℕ) → list_any p (first_chunks w n xs) ≡ ltb (first (λ k. p (record_at 0 w xs k)) n) n
-any_chunk p w zero xs = sym (le-ltb _ 0 (omega arith))
-any_chunk p w (suc n) xs =
-    ap (λ (b : Bool). p (take w xs) || b)
-    (any_chunk p w n (drop w xs) ∙ ap (λ (k : ℕ). ltb k n) (first_cong _ _ n (λ k l. ap p (next_part w xs k))))
-    ∙ some_turned (p (take w xs)) (first (λ k. p (record_at 0 w xs (suc k))) n) n
-    ∙ ap (λ (b : List ℕ). ltb (cond (p b) 0 (suc (first (λ k. p (record_at 0 w xs (suc k))) n))) (suc n)) (first_part w xs)
-    ∙ ap (λ (k : ℕ). ltb k (suc n)) (sym (first_front (λ k. p (record_at 0 w xs k)) n))
-
--- `xs.chunks_exact(w).position(p).unwrap_or(n)` and `xs.chunks_exact(w).any(p)`
+-- `xs.chunks_exact(w).position(p).unwrap_or(n)`
 module _ {F : Type 0} {g : Mut F (Bor (List ℕ) × Unit {0}) Bool} {s u : ChunksExact ℕ} {f : F} (p : List ℕ → Bool) (w n : ℕ)
     (size : chunks_exact_size s ≡ w) (some : 0 < w)
     (test : (x : Bor (List ℕ)) (b : Bool) (q : F) → Called g f (x, tt) b q → (q ≡ f) × (b ≡ p x.now))
@@ -172,13 +155,6 @@ module _ {F : Type 0} {g : Mut F (Bor (List ℕ) × Unit {0}) Bool} {s u : Chunk
       (position_from_yields_List p u f r ran (chunks_yield w n xs some size rest long) test
       ∙ (λ i. cond (ltb (place_in_chunks p w n xs i) (chunk_count w n xs i)) (Some (place_in_chunks p w n xs i)) None))
       ∙ place_or m n (first_le (λ k. p (record_at 0 w xs k)) n)
-
-  pub chunk_passes : {r : Bool}
-      → (ys : List (Bor (List ℕ))) × (o : Option (Bor (List ℕ))) × (j : F) × YieldsThen chunks_exact_steps s ys o u
-      × FoldsTo (λ a x b. Called g a (x, tt) false b) f ys j
-      × MatchOption o (r ≡ false) (λ x. (r ≡ true) × ((h : F) × Called g j (x, tt) true h))
-      → r ≡ ltb (first (λ k. p (record_at 0 w xs k)) n) n
-  chunk_passes {r} ran = any_from_yields_List p u f r ran (chunks_yield w n xs some size rest long) test ∙ any_chunk p w n xs
 
 -- ---- groups of m records
 module _ (p : List ℕ → Bool) (at w m : ℕ) (t : List ℕ) where

@@ -7,29 +7,21 @@ use mathlib.Core.Path.{◌≡◌, refl, sym, ap, subst, ◌∙◌}
 use lib.ListN.{length, get_or, set, length-map, get_or-map}
 use lib.Seq.{set-get_or}
 use Rattle.octets.specs.Bytes.{Bytes}
-use Rattle.octets.specs.Index.{agree}
-use Rattle.octets.specs.Choice.{◌then◌otherwise◌, same}
-use Rattle.octets.specs.Part.{part, patch}
-use Rattle.octets.proofs.Choice.{same_agree}
-use Rattle.octets.proofs.Part.{part_length}
+use Rattle.octets.specs.Choice.{◌then◌otherwise◌}
+use Rattle.octets.specs.Part.{patch}
 use Rattle.octets.proofs.ListOf.{mixed, mixed_length, mixed_at, mixed_more, mixed_all}
 use Rattle.codes.proofs.Inside.{item, ◌within◌}
 use Rattle.numbers.specs.Numbers.{return_count}
 use Rattle.rules.specs.Relay.{Slot, empty, Return, with_slots, Relay, holds, with_returns}
 use Rattle.rules.specs.View.{is_live_return}
 use Rattle.rules.specs.Writes.{emptied_if, emptied_where}
-use Rattle.tables.specs.Places.{address_width, return_width, returns_at}
+use Rattle.tables.specs.Places.{return_width, returns_at}
 use Rattle.tables.specs.Records.{slot_of, slot_bytes, return_of, return_bytes}
 use Rattle.tables.specs.Layout.{record_at, relay_of, bytes_of, well_formed}
 use Rattle.tables.proofs.Patches.{returns_in, patch_return}
 use Rattle.tables.proofs.Seen.{return_seen, returns_length}
 use Rattle.tables.proofs.Whole.{again}
 use Rattle.update.specs.Written.{return_emptied, emptied_if_live, returns_emptied}
-
--- the key as the code compares it
-pub key_seen : (b key : List ℕ) → length b ≡ return_width → length key ≡ address_width
-    → same (part b 1 address_width) key ≡ agree (length key) (part b 1 (length key)) key
-key_seen b key lb lk = rw lk (same_agree address_width (part b 1 address_width) key (part_length b 1 address_width (omega arith)) lk)
 
 -- a relay's return record, in its bytes
 there : (r : Relay) (i : ℕ) → i < return_count → length r.returns.slots ≡ return_count

@@ -1,6 +1,4 @@
-use Prim.Native.Nat.{◌-◌, ◌≤◌}
 use mathlib.Core.Path.{◌≡◌}
-use Rattle.numbers.specs.Numbers.{path_count}
 use Rattle.rules.specs.View.{latest}
 use Rattle.lookup.specs.Expired.{latest_of, expiry_at}
 use Rattle.lookup.proofs.expired.expired_path.Given as goal
