@@ -38,15 +38,15 @@ fn path_length(packet: &[u8], hops: u8, next_hop: [u8; 16]) -> usize
 
 // The path's, which may be the arrival port; from the answering side the asking port, else the answering port; the
 // return record's arrival port.
-pub fn leaving_port(seen: Seen, packet: &[u8], arrived: Arrived, way: SeenWay) -> u8
+pub fn leaving_port(seen: &Seen, packet: &[u8], arrived: Arrived, way: &SeenWay) -> u8
     requires { reads longest_packet packet.now ≡ true }
     ensures { result ≡ leaving_port (arrival_of packet.now arrived)
-        (way_of seen (arrival_of packet.now arrived) way) }
+        (way_of seen.now (arrival_of packet.now arrived) way.now) }
 {
     match way {
         SeenWay::ByPath(path) => path.port,
         SeenWay::AlongLink(link) => {
-            if from_answering_side(link, arrived.port, packet[HOPS_AT]) {
+            if from_answering_side(*link, arrived.port, packet[HOPS_AT]) {
                 return link.asking;
             }
             link.answering
@@ -56,9 +56,9 @@ pub fn leaving_port(seen: Seen, packet: &[u8], arrived: Arrived, way: SeenWay) -
     }
 }
 
-pub fn leaving_length(seen: Seen, packet: &[u8], arrived: Arrived, way: SeenWay) -> usize
+pub fn leaving_length(seen: &Seen, packet: &[u8], arrived: Arrived, way: &SeenWay) -> usize
     requires { reads longest_packet packet.now ≡ true }
-    ensures { result ≡ length (on_seen_way leaving_packet seen packet.now arrived way) }
+    ensures { result ≡ length (on_seen_way leaving_packet seen.now packet.now arrived way.now) }
 {
     match way {
         SeenWay::Everywhere => spread_length(packet, seen.own),

@@ -117,10 +117,10 @@ pub enum Planned {
 }
 
 // What is to be done with an accepted packet: tests 1 to 5, with delivery at test 4's place, and those behind them.
-pub fn plan_of(seen: Seen, packet: &[u8], arrived: Arrived) -> Planned
-    requires { (reads longest_packet packet.now ≡ true) × Fits seen }
-    ensures { plan_of seen (arrival_of packet.now arrived) result
-        ≡ as_seen plan seen packet.now arrived }
+pub fn plan_of(seen: &Seen, packet: &[u8], arrived: Arrived) -> Planned
+    requires { (reads longest_packet packet.now ≡ true) × Fits seen.now }
+    ensures { plan_of seen.now (arrival_of packet.now arrived) result
+        ≡ as_seen plan seen.now packet.now arrived }
 {
     if not_ours(seen, packet, arrived) {
         return Planned::Drop(Reason::NotOurs);
@@ -145,22 +145,22 @@ pub fn plan_of(seen: Seen, packet: &[u8], arrived: Arrived) -> Planned
 
 // The answer to a packet that was so planned, with the packet that leaves at the output's start.
 pub fn answer_of(
-    seen: Seen,
+    seen: &Seen,
     packet: &[u8],
     arrived: Arrived,
-    planned: Planned,
+    planned: &Planned,
     output: &mut [u8],
 ) -> Verdict
     requires { (reads longest_packet packet.now ≡ true) × (longest_packet ≤ length output.old)
-        × (plan_of seen (arrival_of packet.now arrived) planned
-        ≡ as_seen plan seen packet.now arrived) }
-    ensures { (result ≡ as_seen verdict seen packet.now arrived
-        (as_seen plan seen packet.now arrived))
-        × (output.new ≡ as_seen output_after seen packet.now arrived
-        (as_seen plan seen packet.now arrived) output.old) }
+        × (plan_of seen.now (arrival_of packet.now arrived) planned.now
+        ≡ as_seen plan seen.now packet.now arrived) }
+    ensures { (result ≡ as_seen verdict seen.now packet.now arrived
+        (as_seen plan seen.now packet.now arrived))
+        × (output.new ≡ as_seen output_after seen.now packet.now arrived
+        (as_seen plan seen.now packet.now arrived) output.old) }
 {
     match planned {
-        Planned::Drop(reason) => Verdict::Drop(reason),
+        Planned::Drop(reason) => Verdict::Drop(*reason),
         Planned::Deliver => Verdict::Deliver,
         Planned::Follow(way) => send(seen, packet, arrived, way, output),
     }

@@ -151,17 +151,17 @@ pub fn renewed_link(link: Link, packet: &[u8], arrived: Arrived) -> Link
 
 // ---- hashes
 // Whether what was planned lets the hash be remembered: drops 1 and 2 do not.
-fn plan_remembers(planned: Planned) -> bool
-    ensures { result ≡ plan_remembers planned }
+fn plan_remembers(planned: &Planned) -> bool
+    ensures { result ≡ plan_remembers planned.now }
 {
     !matches!(planned, Planned::Drop(Reason::NotOurs | Reason::Duplicate))
 }
 
 // Whether the packet's hash is remembered: an exempt packet's is not, nor one that is already live.
-pub fn remembers(seen: Seen, packet: &[u8], arrived: Arrived, planned: Planned) -> bool
+pub fn remembers(seen: &Seen, packet: &[u8], arrived: Arrived, planned: &Planned) -> bool
     requires { reads longest_packet packet.now ≡ true }
-    ensures { result ≡ as_seen is_remembered seen packet.now arrived
-        (plan_of seen (arrival_of packet.now arrived) planned) }
+    ensures { result ≡ as_seen is_remembered seen.now packet.now arrived
+        (plan_of seen.now (arrival_of packet.now arrived) planned.now) }
 {
     !forms::exempt(packet)
         && !(for_marked_path(seen, packet, arrived) && seen.remembered)

@@ -70,9 +70,15 @@ fn carry(packet: &[u8], port: u8, output: &mut [u8]) -> Verdict
     Verdict::Forward { port, length }
 }
 
-pub fn send(seen: Seen, packet: &[u8], arrived: Arrived, way: SeenWay, output: &mut [u8]) -> Verdict
+pub fn send(
+    seen: &Seen,
+    packet: &[u8],
+    arrived: Arrived,
+    way: &SeenWay,
+    output: &mut [u8],
+) -> Verdict
     requires { CanLeave packet.now × (longest_packet ≤ length output.old) }
-    ensures { Sends seen (arrival_of packet.now arrived) way output.old
+    ensures { Sends seen.now (arrival_of packet.now arrived) way.now output.old
         result output.new }
 {
     match way {
@@ -80,10 +86,10 @@ pub fn send(seen: Seen, packet: &[u8], arrived: Arrived, way: SeenWay, output: &
             let set = spread_ports(seen.ports, arrived.port, spread_length(packet, seen.own));
             spread(seen.own, set, packet, output)
         }
-        SeenWay::ByPath(path) => forward(path, packet, output),
+        SeenWay::ByPath(path) => forward(*path, packet, output),
         SeenWay::AlongLink(_) | SeenWay::ByReturn(_) => {
             carry(packet, leaving_port(seen, packet, arrived, way), output)
         }
-        SeenWay::Blocked(why) => Verdict::Drop(Reason::NoWayOn(why)),
+        SeenWay::Blocked(why) => Verdict::Drop(Reason::NoWayOn(*why)),
     }
 }

@@ -41,10 +41,10 @@ fn path_way(path: Option<SeenPath>) -> SeenWay
     }
 }
 
-pub fn way_on(seen: Seen, packet: &[u8], arrived: Arrived) -> SeenWay
+pub fn way_on(seen: &Seen, packet: &[u8], arrived: Arrived) -> SeenWay
     requires { reads longest_packet packet.now ≡ true }
-    ensures { way_of seen (arrival_of packet.now arrived) result
-        ≡ as_seen way_on seen packet.now arrived }
+    ensures { way_of seen.now (arrival_of packet.now arrived) result
+        ≡ as_seen way_on seen.now packet.now arrived }
 {
     let header = packet[0];
     if packet::is_announce(header) {

@@ -37,8 +37,8 @@ fn judged(
         output.old) }
 {
     let view = seen(log, &outcomes_of(log, n), n, packet, arrived);
-    let planned = plan_of(view, packet, arrived);
-    answer_of(view, packet, arrived, planned, output)
+    let planned = plan_of(&view, packet, arrived);
+    answer_of(&view, packet, arrived, &planned, output)
 }
 
 // Whether a destination has a live path at a clock when n calls are listed.

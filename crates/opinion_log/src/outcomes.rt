@@ -60,10 +60,10 @@ fn outcome_at(log: &[u8; LOG_SIZE], outcomes: &[Outcome; LIST_LIMIT], i: usize) 
         return IDLE;
     };
     let view = seen(log, outcomes, i, packet, arrived);
-    let planned = plan_of(view, packet, arrived);
+    let planned = plan_of(&view, packet, arrived);
     Outcome {
         effect: effect_of(planned, packet::is_data(packet[0])),
-        kept: remembers(view, packet, arrived, planned),
+        kept: remembers(&view, packet, arrived, &planned),
     }
 }
 

@@ -14,7 +14,7 @@ pub send-requires : goal.send-requires
 unfolding too_many_hops
 send-requires c =
     let a = arrival_of c.args.packet.now c.args.arrived in
-    let s = c.args.seen in
+    let s = c.args.seen.now in
     let v = view_of s a in
     let way = passed v a _ (sym c.requires.2 ∙ ap (plan_of s a) c.in-Follow.is) in
     (record { readable = c.requires.0; few_hops = leb-false _ _ way.1.few_hops }, c.requires.1)
@@ -23,7 +23,7 @@ pub returns-in-Drop : goal.returns-in-Drop
 unfolding verdict output_after
 returns-in-Drop c =
     let a = arrival_of c.args.packet.now c.args.arrived in
-    let s = c.args.seen in
+    let s = c.args.seen.now in
     let v = view_of s a in
     let todo = sym (ap (plan_of s a) c.in-Drop.is) ∙ c.requires.2 in
     (ap (verdict v a) todo, ap (λ (t : Plan). output_after v a t c.args.output.now) todo)
@@ -32,7 +32,7 @@ pub returns-in-Deliver : goal.returns-in-Deliver
 unfolding verdict output_after
 returns-in-Deliver c =
     let a = arrival_of c.args.packet.now c.args.arrived in
-    let s = c.args.seen in
+    let s = c.args.seen.now in
     let v = view_of s a in
     let todo = sym (ap (plan_of s a) c.in-Deliver.is) ∙ c.requires.2 in
     (ap (verdict v a) todo, ap (λ (t : Plan). output_after v a t c.args.output.now) todo)
@@ -41,7 +41,7 @@ pub returns-in-Follow : goal.returns-in-Follow
 unfolding verdict output_after
 returns-in-Follow c =
     let a = arrival_of c.args.packet.now c.args.arrived in
-    let s = c.args.seen in
+    let s = c.args.seen.now in
     let v = view_of s a in
     let todo = sym (ap (plan_of s a) c.in-Follow.is) ∙ c.requires.2 in
     let out = c.args.output.now in

@@ -20,3 +20,7 @@ returns-in-AlongLink c = grind (arith, tests, carried_length)
 pub returns-in-Blocked : goal.returns-in-Blocked
 unfolding outgoing view_of
 returns-in-Blocked c = grind (arith, tests, carried_length)
+
+pub returns-in-AlongLink-2 : goal.returns-in-AlongLink-2
+unfolding outgoing view_of
+returns-in-AlongLink-2 c = grind (arith, tests, carried_length)

@@ -25,3 +25,7 @@ returns-in-ByReturn c = grind (arith, tests, parts_hops)
 pub returns-in-Everywhere : goal.returns-in-Everywhere
 unfolding leaving_port from_answering_side ◌and◌ ◌then◌otherwise◌
 returns-in-Everywhere c = grind (arith, tests, parts_hops)
+
+pub returns-in-Everywhere-2 : goal.returns-in-Everywhere-2
+unfolding leaving_port from_answering_side ◌and◌ ◌then◌otherwise◌
+returns-in-Everywhere-2 c = grind (arith, tests, parts_hops)

@@ -30,8 +30,8 @@ returns-then-not_better c = grind (arith, tests, c.in-Some.ensures.1 is_replay, 
 
 pub returns-then-rate_limited : goal.returns-then-rate_limited
 unfolding last_plan leaving_plan known_tests first_of ◌then◌otherwise◌
-returns-then-rate_limited c = grind (arith, tests, c.in-Some.ensures.1 is_replay, c.in-Some.ensures.1 is_not_better, c.in-Some.ensures.1 (limited c.args.seen c.args.packet.now c.args.arrived))
+returns-then-rate_limited c = grind (arith, tests, c.in-Some.ensures.1 is_replay, c.in-Some.ensures.1 is_not_better, c.in-Some.ensures.1 (limited c.args.seen.now c.args.packet.now c.args.arrived))
 
 pub returns : goal.returns
 unfolding last_plan leaving_plan known_tests first_of ◌then◌otherwise◌
-returns c = grind (arith, tests, c.in-Some.ensures.1 is_replay, c.in-Some.ensures.1 is_not_better, c.in-Some.ensures.1 (limited c.args.seen c.args.packet.now c.args.arrived))
+returns c = grind (arith, tests, c.in-Some.ensures.1 is_replay, c.in-Some.ensures.1 is_not_better, c.in-Some.ensures.1 (limited c.args.seen.now c.args.packet.now c.args.arrived))

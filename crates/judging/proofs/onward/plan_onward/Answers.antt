@@ -35,7 +35,7 @@ returns c = grind (arith, tests)
 pub plan_last-requires : goal.plan_last-requires
 plan_last-requires c =
     let a = arrival_of c.args.packet.now c.args.arrived in
-    let s = c.args.seen in
+    let s = c.args.seen.now in
     record {
       readable = c.requires.0;
       fits = c.requires.1;

@@ -15,7 +15,7 @@ use Rattle.judging.proofs.sending.send.Goals as goal
 pub returns-in-Everywhere : goal.returns-in-Everywhere
 unfolding way_verdict outgoing leaving_port leaves view_of spread_ports exceeds ◌then◌otherwise◌
 returns-in-Everywhere c =
-    let s = c.args.seen in
+    let s = c.args.seen.now in
     let those = c.spread_ports-set.ensures ∙ ap (λ (n : ℕ). port_set (spreads_to s.ports c.args.arrived.port n)) c.spread_length.ensures in
     let sent = c.spread.ensures.0 ∙ ap (λ (n : ℕ). spread_verdict n (spread_packet s.own c.args.packet.now)) those in
     rw c.in-Everywhere.is (sent, c.spread.ensures.1)
