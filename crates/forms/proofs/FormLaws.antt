@@ -42,19 +42,19 @@ module _ (p : List ℕ) where
       go true q h = cc
       go false q h = q
 
-  -- ---- the clauses as the code tests them
-  pub form_clauses : form_of p
-      ≡ (type_two (header_of p) and is_proof (header_of p) then Bad TypeTwoProof otherwise
-      type_two (header_of p) and of_kind_link (header_of p) then Bad TypeTwoOfKindLink otherwise
-      is_announce (header_of p) and not (of_kind_single (header_of p)) then Bad AnnounceNotSingle otherwise
-      is_announce (header_of p) and ltb (length (payload p)) (least_announce (header_of p))
-      then Bad (AnnounceTooShort (least_announce (header_of p))) otherwise
-      announce_of_another p then Bad AnnounceOfAnother otherwise
-      is_link_request (header_of p) and of_kind_link (header_of p) then Bad RequestOfKindLink otherwise
-      is_link_request (header_of p) and ltb (length (payload p)) least_link_request then Bad RequestTooShort otherwise
-      link_proof_length p then Bad LinkProofLength otherwise
-      Good)
-  unfolding form_of first_of valued form_tests type_two_proof type_two_of_kind_link announce_not_single announce_too_short request_of_kind_link request_too_short
-  form_clauses = refl
+-- ---- the clauses as the code tests them
+pub form_clauses : (p : List ℕ) → form_of p
+    ≡ (type_two (header_of p) and is_proof (header_of p) then Bad TypeTwoProof otherwise
+    type_two (header_of p) and of_kind_link (header_of p) then Bad TypeTwoOfKindLink otherwise
+    is_announce (header_of p) and not (of_kind_single (header_of p)) then Bad AnnounceNotSingle otherwise
+    is_announce (header_of p) and ltb (length (payload p)) (least_announce (header_of p))
+    then Bad (AnnounceTooShort (least_announce (header_of p))) otherwise
+    announce_of_another p then Bad AnnounceOfAnother otherwise
+    is_link_request (header_of p) and of_kind_link (header_of p) then Bad RequestOfKindLink otherwise
+    is_link_request (header_of p) and ltb (length (payload p)) least_link_request then Bad RequestTooShort otherwise
+    link_proof_length p then Bad LinkProofLength otherwise
+    Good)
+unfolding form_of first_of valued form_tests type_two_proof type_two_of_kind_link announce_not_single announce_too_short request_of_kind_link request_too_short
+form_clauses p = refl
 
 pub ruleset form_steps = (form_clauses, reading)

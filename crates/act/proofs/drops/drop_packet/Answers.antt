@@ -8,7 +8,8 @@ pub returns-then-matches : goal.returns-then-matches
 returns-then-matches c =
     elim c.match-matches.branch [
       | in-RateLimited w ↦
-          (refl, c.limit.ensures ∙ drop_limited _ c.args.arrived _ c.requires.formed (known_bytes c.args.tables.now c.slice_known-1.given) _ w.in-RateLimited.is)
+          let b = known_bytes c.args.tables.now c.slice_known-1.given in
+          (refl, c.limit.ensures ∙ drop_limited _ c.args.arrived _ c.requires.formed b _ w.in-RateLimited.is)
       | in_default w ↦ cc
     ]
 
