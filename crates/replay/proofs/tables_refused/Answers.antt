@@ -21,7 +21,7 @@ returns c =
     rw (
       c.with_character.ensures,
       c.with_number.ensures,
-      c.wide.ensures,
+      c.from.ensures,
       c.with_word-start.ensures,
       c.with_text.ensures,
       c.empty.ensures,
