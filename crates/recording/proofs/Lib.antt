@@ -1,4 +1,5 @@
 pub mod Sums
+pub mod Ors
 pub mod ShapeLaws
 pub mod ReadLaws
 pub mod WriteLaws

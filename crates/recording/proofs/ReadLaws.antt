@@ -5,6 +5,7 @@ use native.Mathlib.Omega.{arith}
 use mathlib.Core.Bool.{Bool, true, false, not}
 use mathlib.Core.List.{List, ◌++◌}
 use mathlib.Core.Path.{◌≡◌, refl, sym, ap, ap₂, ◌∙◌}
+use lib.Bits.{bit_or}
 use lib.Dec.{ltb, eqb}
 use lib.ListN.{length, get_or}
 use borrow.Author.Tests.{lt-ltb, le-ltb, ltb-true, ltb-false, le-leb, lt-leb, leb-true, eq-eqb, ne_eqb, eqb-true, not-false}
@@ -21,6 +22,7 @@ use Rattle.recording.specs.Shape.{entry_place, kind_of, edition_of, count_of, of
 use Rattle.recording.specs.Format.{head_width, head_of, no_entry, longest_file, clock_width, port_at, word_at}
 use Rattle.recording.specs.Reader.{clock_of, port_of, word_of, length_wrong, kind_wrong, places_wrong, words_wrong, file_rows, file_refusal, is_there, no_fields, fields_of, body_of, entry_of, entries_of}
 use Rattle.recording.specs.Steps.{contents_rows}
+use Rattle.recording.proofs.Ors.{or_turn}
 use Rattle.recording.proofs.Sums.{sum_none, sum_more, sum_bound}
 use Rattle.recording.proofs.ShapeLaws.{length_lt, Shaped, body_within, part_three}
 
@@ -98,29 +100,32 @@ module _ (f : List ℕ) where
     pub contents_taken : words_wrong f ≡ false → first_of (contents_rows f) 0 ≡ 0
     contents_taken e = none_first (contents_rows f) 0 (p, (e, tt))
 
--- ---- the loop over the contents, where it has passed i entries: no offset was wrong
-pub record EntriesPassed (f : List ℕ) (place i : ℕ) : Type 0 where
+-- ---- the loop over the contents, where it has passed i entries: no offset was wrong, and `words` is the OR of their signature words
+pub record EntriesPassed (f : List ℕ) (words place i : ℕ) : Type 0 where
   pub within : i ≤ count_of f
   pub running : place ≡ running_place head_width f i
   pub offsets : all_below (stands f) i ≡ true
+  pub small : ltb words 2 ≡ all_below (λ j. ltb (word_of f j) 2) i
 
-pub passed_none : (f : List ℕ) (place : ℕ) → place ≡ entry_place head_width (count_of f) → EntriesPassed f place 0
+pub passed_none : (f : List ℕ) (place : ℕ) → place ≡ entry_place head_width (count_of f) → EntriesPassed f 0 place 0
 unfolding running_place all_below
 passed_none f place e =
     record {
       within = zero-le;
       running = e ∙ sym (ap (λ (k : ℕ). entry_place head_width (count_of f) + k) (sum_none (length_of head_width f)) ∙ add-zero (entry_place head_width (count_of f)));
       offsets = refl;
+      small = refl;
     }
 
-module _ {f : List ℕ} {place i : ℕ} (p : EntriesPassed f place i) where
-  pub passed_more : i < count_of f → offset_of head_width f i ≡ place → EntriesPassed f (place + length_of head_width f i) (i + 1)
+module _ {f : List ℕ} {words place i : ℕ} (p : EntriesPassed f words place i) where
+  pub passed_more : i < count_of f → offset_of head_width f i ≡ place → EntriesPassed f (bit_or words (word_of f i)) (place + length_of head_width f i) (i + 1)
   unfolding running_place
   passed_more l e =
       record {
         within = omega arith;
         running = omega (arith, p.running, sum_more (length_of head_width f) i);
         offsets = all_more (stands f) i p.offsets (eq-eqb _ _ (e ∙ p.running));
+        small = or_turn 1 (word_of f) i words p.small;
       }
 
   pub passed_lt : Bytes f → entry_place head_width (count_of f) ≤ length f → place ≤ entry_place head_width (count_of f) + longest_body * i
@@ -143,6 +148,9 @@ module _ {f : List ℕ} {place i : ℕ} (p : EntriesPassed f place i) where
     unfolding offsets_right
     all_right = ap (all_below (stands f)) (sym all_passed) ∙ p.offsets
 
+    all_small : all_below (λ j. ltb (word_of f j) 2) (count_of f) ≡ ltb words 2
+    all_small = ap (all_below (λ j. ltb (word_of f j) 2)) (sym all_passed) ∙ sym p.small
+
     pub ended_wrong : (place ≡ length f → ⊥) → first_of (contents_rows f) 0 ≡ 22
     ended_wrong ne = refused_place f (end_wrong f all_right (λ q. ne (ends_at ∙ q)))
 
@@ -150,13 +158,13 @@ module _ {f : List ℕ} {place i : ℕ} (p : EntriesPassed f place i) where
       right : places_wrong f ≡ false
       right = places_right f all_right (sym ends_at ∙ e)
 
-      pub ended_word : all_below (λ j. ltb (word_of f j) 2) (count_of f) ≡ false → first_of (contents_rows f) 0 ≡ 23
+      pub ended_word : 1 < words → first_of (contents_rows f) 0 ≡ 23
       unfolding words_wrong
-      ended_word h = refused_word_lem f right (ap not h)
+      ended_word h = refused_word_lem f right (ap not (all_small ∙ le-ltb words 2 h))
 
-      pub ended_taken : all_below (λ j. ltb (word_of f j) 2) (count_of f) ≡ true → first_of (contents_rows f) 0 ≡ 0
+      pub ended_taken : words ≤ 1 → first_of (contents_rows f) 0 ≡ 0
       unfolding words_wrong
-      ended_taken h = contents_taken f right (ap not h)
+      ended_taken h = contents_taken f right (ap not (all_small ∙ lt-ltb words 2 (omega arith)))
 
 -- ---- what a file that the reader takes is
 pub record Taken (f : List ℕ) : Type 0 where

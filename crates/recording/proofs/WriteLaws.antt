@@ -1,12 +1,13 @@
 -- The laws of writing: each refusal, what the writer takes, and what its code leaves.
-use Prim.Native.Nat.{ℕ, zero, suc, ◌+◌, ◌-◌, ◌*◌, ◌/◌, ◌%◌, ◌≤◌, ◌<◌}
-use native.Mathlib.Nat.{le_of_suc-le-suc, zero-add, add-suc, add_assoc, mul-div-le, div-add-mod}
+use Prim.Native.Nat.{ℕ, zero, suc, ◌+◌, ◌-◌, ◌*◌, ◌/◌, ◌%◌, ◌≤◌, ◌<◌, zero-le}
+use native.Mathlib.Nat.{le_antisymm, le_of_suc-le-suc, zero-add, add-suc, add_assoc, mul-div-le, div-add-mod}
 use native.Mathlib.Numerals.{add-one}
 use native.Mathlib.Omega.{arith}
 use mathlib.Core.Bool.{true, false, not, false≢true}
 use mathlib.Core.List.{List, [], ◌∷◌, ◌++◌}
 use mathlib.Core.Path.{◌≡◌, refl, sym, ap, ap₂, ◌∙◌}
 use lib.Arith.{digits_div, digits_mod}
+use lib.Bits.{bit_or}
 use lib.Dec.{ltb, eqb}
 use lib.ListN.{length, get_or, take, drop, length-append, length-drop, take-append-drop}
 use lib.Seq.{take-suc, drop-drop}
@@ -23,10 +24,11 @@ use Rattle.octets.proofs.Index.{and_left, and_right, and_both, and_no, and_yes, 
 use Rattle.octets.proofs.Listed.{here, past, all_give, refuses, rest_alike, rows_passed, none_first}
 use Rattle.octets.proofs.Part.{part_split, part_one, part_again, part_length, part_whole, patch_join}
 use Rattle.recording.specs.Shape.{entry_place, item_of, sum_below, count_at, count_width, contents_start, offset_width, length_width, length_limit, longest_body}
-use Rattle.recording.specs.Format.{recording_kind, recording_edition, head_width, head_of, entry_body, file_of, longest_file, clock_width, word_at, length_at, entry_width, most_entries, recorded_clock_limit}
+use Rattle.recording.specs.Format.{recording_kind, recording_edition, head_width, head_of, entry_body, file_of, longest_file, clock_width, word_at, length_at, entry_width, most_entries, clock_bits, recorded_clock_limit}
 use Rattle.recording.specs.Writer.{given_width, given_count, given_clock, given_port, given_word, given_length, given_start, given_entry, given_entries, given_words_wrong, given_clocks_wrong, add_up, file_length, writing_rows, writing_refusal, writing, given_port_at, given_word_at, given_length_at, given_head_at}
 use Rattle.recording.specs.Steps.{head_rows, length_rows, start_bytes, copied_item, copied_items}
 use Rattle.recording.proofs.Sums.{sum_none, sum_more, sum_bound, sum_within, sum_cong, sum_const, joined_cong, joined_none, joined_more, joined_cut, joined_sum, patch_three}
+use Rattle.recording.proofs.Ors.{or_turn}
 use Rattle.recording.proofs.ShapeLaws.{part_lt, long_of, place_of, shape_list_of, part_three}
 
 -- ---- the whole entries that are given
@@ -104,20 +106,46 @@ module _ (g bodies : List ℕ) (room : ℕ) where
       none_first (head_rows g) (first_of (length_rows g bodies room) 0)
       (rows_passed (head_rows g) 0 refl (eq-eqb (first_of (head_rows g) 0) 0 z))
 
--- ---- the tests of the entries' heads
-module _ (g : List ℕ) where
-  pub refused_word_lem : all_below (λ j. ltb (given_word g j) 2) (given_count g) ≡ false → first_of (head_rows g) 0 ≡ 23
-  unfolding given_words_wrong
-  refused_word_lem h = here _ 23 _ 0 (ap not h)
+-- ---- the loop over the entries' heads, where it has passed i of them: `words` and `clocks` are the ORs of theirs
+pub record HeadsPassed (g : List ℕ) (words clocks i : ℕ) : Type 0 where
+  pub within : i ≤ given_count g
+  pub small_words : ltb words 2 ≡ all_below (λ j. ltb (given_word g j) 2) i
+  pub small_clocks : ltb clocks recorded_clock_limit ≡ all_below (λ j. ltb (given_clock g j) recorded_clock_limit) i
 
-  module _ (h : all_below (λ j. ltb (given_word g j) 2) (given_count g) ≡ true) where
-    pub refused_clock : all_below (λ j. ltb (given_clock g j) recorded_clock_limit) (given_count g) ≡ false → first_of (head_rows g) 0 ≡ 5
-    unfolding given_words_wrong given_clocks_wrong
-    refused_clock k = past _ 23 _ 0 (ap not h) ∙ here _ 5 _ 0 (ap not k)
+pub heads_none : (g : List ℕ) → HeadsPassed g 0 0 0
+unfolding all_below
+heads_none g = record { within = zero-le; small_words = refl; small_clocks = refl }
 
-    pub heads_taken : all_below (λ j. ltb (given_clock g j) recorded_clock_limit) (given_count g) ≡ true → first_of (head_rows g) 0 ≡ 0
-    unfolding given_words_wrong given_clocks_wrong
-    heads_taken k = none_first (head_rows g) 0 (ap not h, (ap not k, tt))
+module _ {g : List ℕ} {words clocks i : ℕ} (p : HeadsPassed g words clocks i) where
+  pub heads_more : i < given_count g → HeadsPassed g (bit_or words (given_word g i)) (bit_or clocks (given_clock g i)) (i + 1)
+  heads_more l =
+      record {
+        within = omega arith;
+        small_words = or_turn 1 (given_word g) i words p.small_words;
+        small_clocks = or_turn clock_bits (given_clock g) i clocks p.small_clocks;
+      }
+
+  module _ (l : given_count g ≤ i) where
+    words_decide : given_words_wrong g ≡ not (ltb words 2)
+    unfolding given_words_wrong
+    words_decide = ap not (sym (p.small_words ∙ ap (all_below (λ j. ltb (given_word g j) 2)) (le_antisymm p.within l)))
+
+    clocks_decide : given_clocks_wrong g ≡ not (ltb clocks recorded_clock_limit)
+    unfolding given_clocks_wrong
+    clocks_decide = ap not (sym (p.small_clocks ∙ ap (all_below (λ j. ltb (given_clock g j) recorded_clock_limit)) (le_antisymm p.within l)))
+
+    pub refused_word_lem : 1 < words → first_of (head_rows g) 0 ≡ 23
+    refused_word_lem h = here _ 23 _ 0 (words_decide ∙ ap not (le-ltb words 2 h))
+
+    module _ (h : words ≤ 1) where
+      words_small : given_words_wrong g ≡ false
+      words_small = words_decide ∙ ap not (lt-ltb words 2 (omega arith))
+
+      pub refused_clock : recorded_clock_limit ≤ clocks → first_of (head_rows g) 0 ≡ 5
+      refused_clock k = past _ 23 _ 0 words_small ∙ here _ 5 _ 0 (clocks_decide ∙ ap not (le-ltb clocks recorded_clock_limit k))
+
+      pub heads_taken : clocks < recorded_clock_limit → first_of (head_rows g) 0 ≡ 0
+      heads_taken k = none_first (head_rows g) 0 (words_small, (clocks_decide ∙ ap not (lt-ltb clocks recorded_clock_limit k), tt))
 
 -- ---- what the writer takes
 pub record Writable (g bodies : List ℕ) (room : ℕ) : Type 0 where

@@ -43,15 +43,20 @@ fn given_length(entries: &[u8], i: usize) -> usize
     octets::number_at(entries, GIVEN_WIDTH * i + GIVEN_LENGTH_AT, LENGTH_WIDTH) as usize
 }
 
-// Refusals 23 and 5, over all entries that are given.
+// Refusals 23 and 5, over all entries that are given. An OR over numbers is under a power of two where each of them is.
 fn heads_refusal(entries: &[u8]) -> u8
     ensures { result ≡ first_of (head_rows entries.now) 0 }
 {
-    let n = given_count(entries);
-    if !(0..n).all(|i| given_word(entries, i) < 2) {
+    let mut words: u8 = 0;
+    let mut clocks: u64 = 0;
+    for i in 0..given_count(entries) {
+        words |= given_word(entries, i);
+        clocks |= given_clock(entries, i);
+    }
+    if words > 1 {
         return refusals::SIGNATURE_WORD;
     }
-    if !(0..n).all(|i| given_clock(entries, i) < CLOCK_LIMIT) {
+    if clocks >= CLOCK_LIMIT {
         return refusals::CLOCK;
     }
     0

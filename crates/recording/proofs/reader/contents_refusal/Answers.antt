@@ -1,20 +1,10 @@
-use mathlib.Core.Path.{◌≡◌, sym, ap, ◌∙◌}
-use Prim.Native.Nat.{ℕ, ◌≤◌}
-use mathlib.Core.Bool.{Bool}
-use mathlib.Core.List.{List}
-use lib.Dec.{ltb}
+use mathlib.Core.Path.{sym, ap, ◌∙◌}
+use Prim.Native.Nat.{◌≤◌}
 use lib.ListN.{length}
 use native.Mathlib.Omega.{arith}
-use borrow.Author.Tests.{tests}
-use borrow.Author.Rules.{rules}
-use Rattle.std.proofs.lemmas.Iterator.{YieldsList-from_range}
-use Rattle.std.proofs.lemmas.Iterator.Search.{all_from_yields_List}
-use Rattle.octets.specs.Index.{all_below}
 use Rattle.octets.proofs.Bytes.{known_bytes}
-use Rattle.octets.proofs.Chains.{all_over}
 use Rattle.recording.specs.Shape.{entry_place, count_of}
 use Rattle.recording.specs.Format.{head_width}
-use Rattle.recording.specs.Reader.{word_of}
 use Rattle.recording.proofs.ShapeLaws.{length_lt}
 use Rattle.recording.proofs.ReadLaws.{passed_none, passed_more, passed_lt, passed_wrong, ended_wrong, ended_word, ended_taken}
 use Rattle.recording.proofs.reader.contents_refusal.Goals as goal
@@ -38,29 +28,16 @@ overflow_add-place c =
 
 pub loop-i-preserved : goal.loop-i-preserved
 loop-i-preserved c =
-    rw c.length_of-place.ensures
+    rw (c.word_of-words.ensures, c.length_of-place.ensures)
     (passed_more c.loop-i.invariant (omega (arith, c.requires.0, c.loop-i-test.true)) (sym c.offset_of.ensures ∙ c.if-offset_of-place.false))
 
 pub returns-then-place-file : goal.returns-then-place-file
 returns-then-place-file c = sym (ended_wrong c.loop-i.invariant (omega (arith, c.requires.0, c.loop-i-test.false)) c.if-place-file.true)
 
-abbrev small : List ℕ → ℕ → Bool
-small f i = ltb (word_of f i) 2
-
-pub returns-then-not-all : goal.returns-then-not-all
-returns-then-not-all c =
-    let f = c.args.file.now in
-    let n = c.args.n in
-    let all : c.all.result ≡ all_below (small f) (count_of f) =
-    all_from_yields_List (small f) _ _ _ c.all.ensures.ran (YieldsList-from_range 0 n n (search rules) (search rules)) (λ x b q k. search (rules, tests))
-    ∙ all_over (small f) n ∙ ap (all_below (small f)) c.requires.0 in
-    sym (ended_word c.loop-i.invariant (omega (arith, c.requires.0, c.loop-i-test.false)) c.if-place-file.false (sym all ∙ c.if-not-all.true))
+pub returns-then-words-gt1 : goal.returns-then-words-gt1
+returns-then-words-gt1 c =
+    sym (ended_word c.loop-i.invariant (omega (arith, c.requires.0, c.loop-i-test.false)) c.if-place-file.false c.if-words-gt1.true)
 
 pub returns : goal.returns
 returns c =
-    let f = c.args.file.now in
-    let n = c.args.n in
-    let all : c.all.result ≡ all_below (small f) (count_of f) =
-    all_from_yields_List (small f) _ _ _ c.all.ensures.ran (YieldsList-from_range 0 n n (search rules) (search rules)) (λ x b q k. search (rules, tests))
-    ∙ all_over (small f) n ∙ ap (all_below (small f)) c.requires.0 in
-    sym (ended_taken c.loop-i.invariant (omega (arith, c.requires.0, c.loop-i-test.false)) c.if-place-file.false (sym all ∙ c.if-not-all.false))
+    sym (ended_taken c.loop-i.invariant (omega (arith, c.requires.0, c.loop-i-test.false)) c.if-place-file.false c.if-words-gt1.false)
