@@ -1,4 +1,4 @@
-use Rattle.std.proofs.Common.{rules, arith}
+use Rattle.std.proofs.Common.{rules, arith, ◌-◌}
 use borrow.Author.Tests.{tests}
 use Rattle.rules.specs.Blobs.{add_blob}
 use Rattle.octets.specs.Choice.{◌then◌otherwise◌}
@@ -15,4 +15,4 @@ pub returns-else-self-lt-BLOB_LIMIT : goal.returns-else-self-lt-BLOB_LIMIT
 unfolding add_blob ◌then◌otherwise◌
 returns-else-self-lt-BLOB_LIMIT c =
     let all : length c.args.self.now.places ≡ blob_limit = search rules in
-    grind (arith, tests, c.rotate_left.ensures.after, turned c.args.blob c.args.self.now.places 63 all)
+    grind (arith, tests, c.rotate_left.ensures.after, turned c.args.blob c.args.self.now.places (blob_limit - 1) all)
