@@ -44,7 +44,9 @@ impl Announce<'_> {
         requires { (length self.now.keys ≡ keys_width) × (length self.now.name_hash ≡ name_hash_width)
             × (length self.now.random ≡ random_width)
             × (at + blob_end + length self.now.ratchet ≤ length room.old) }
-        ensures { room.new ≡ patch room.old at (fields self.now.keys self.now.name_hash self.now.random self.now.clock self.now.ratchet) }
+        ensures { room.new
+            ≡ patch room.old at
+            (fields self.now.keys self.now.name_hash self.now.random self.now.clock self.now.ratchet) }
     {
         octets::copy_at(room, at, self.keys);
         octets::copy_at(room, at + NAME_HASH_AT, self.name_hash);
