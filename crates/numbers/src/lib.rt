@@ -1,8 +1,11 @@
 // Document 01's numbers, in code: specs/Numbers.antt has the same as definitions, and each contract that uses one is
-// proved with those. No function stands here.
+// proved with those. And the refusals, by which a call says why it did nothing.
 #![tactic(auto)]
 
+mod refusal;
 pub mod refusals;
+
+pub use refusal::{Refusal, refused_number};
 
 // The longest packet, and the least output buffer, which has room for it.
 pub const LONGEST_PACKET: usize = 500;
