@@ -11,7 +11,7 @@ use Rattle.packet.specs.Read.{header_of, parts_of, payload, no_address}
 use Rattle.packet.specs.Write.{packet_of, Writing}
 use Rattle.packet.specs.Announce.{keys_of, name_hash_of, blob_of, ratchet_of, app_data_of, announced_destination}
 use Rattle.packet.specs.declared.Parts.{Parts}
-use Rattle.packet.specs.declared.Written.{Written}
+use Rattle.numbers.specs.Refusals.{Written}
 
 -- what is given beside the signature. An empty ratchet is none
 pub record Announce : Type 0 where

@@ -1,17 +1,18 @@
 // Laying out the signing bytes, and building the announce.
 ghost use Rattle.std.specs.Prelude.{◌≡◌, ◌++◌, ◌+◌, ◌≤◌, length};
 ghost use Rattle.octets.specs.Part.{patch};
+ghost use Rattle.numbers.specs.Refusals.{written_as};
 ghost use Rattle.packet.specs.Places.{keys_width, name_hash_width, random_width, blob_end};
 ghost use Rattle.announcing.specs.Announcing.{make_announce, destination, head_of, announce_with, announce_refusal, any_signature, signed_bytes, signing, building, Lays};
 ghost use Rattle.announcing.specs.Steps.{fields};
 
 use super::Announce;
 use super::refusing::LEAST_LENGTH;
-use numbers::{ADDRESS_WIDTH, refusals};
+use numbers::{ADDRESS_WIDTH, Refusal};
+use packet::Parts;
 use packet::places::{
     BLOB_AT, BLOB_END, EMISSION_WIDTH, NAME_HASH_AT, RANDOM_WIDTH, SIGNATURE_WIDTH, TYPE_ONE_START,
 };
-use packet::{Parts, Written};
 
 // The announce's head: header 01, or 21 with a ratchet; hops and context 0.
 fn head(destination: [u8; 16], ratchet: usize) -> Parts
@@ -44,9 +45,7 @@ impl Announce<'_> {
         requires { (length self.now.keys ≡ keys_width) × (length self.now.name_hash ≡ name_hash_width)
             × (length self.now.random ≡ random_width)
             × (at + blob_end + length self.now.ratchet ≤ length room.old) }
-        ensures { room.new
-            ≡ patch room.old at
-            (fields self.now.keys self.now.name_hash self.now.random self.now.clock self.now.ratchet) }
+        ensures { room.new ≡ patch room.old at (fields self.now.keys self.now.name_hash self.now.random self.now.clock self.now.ratchet) }
     {
         octets::copy_at(room, at, self.keys);
         octets::copy_at(room, at + NAME_HASH_AT, self.name_hash);
@@ -93,11 +92,11 @@ pub fn signing_bytes(
     ratchet: &[u8],
     app_data: &[u8],
     room: &mut [u8],
-) -> Written
+) -> Result<usize, Refusal>
     ensures { Lays
         (signing (make_announce keys.now name_hash.now random.now clock
         ratchet.now app_data.now) room.old)
-        result room.new }
+        (written_as result) room.new }
 {
     let announce = Announce {
         keys,
@@ -107,15 +106,9 @@ pub fn signing_bytes(
         ratchet,
         app_data,
     };
-    let refusal = announce.refusal(SIGNATURE_WIDTH, room.len());
-    if refusal != refusals::NONE {
-        return Written { refusal, length: 0 };
-    }
+    announce.check(SIGNATURE_WIDTH, room.len())?;
     announce.write_signed(room);
-    Written {
-        refusal: refusals::NONE,
-        length: ADDRESS_WIDTH + BLOB_END + ratchet.len() + app_data.len(),
-    }
+    Ok(ADDRESS_WIDTH + BLOB_END + ratchet.len() + app_data.len())
 }
 
 // Builds the announce with the host's signature, at the start of the room.
@@ -128,11 +121,11 @@ pub fn build(
     app_data: &[u8],
     signature: &[u8],
     room: &mut [u8],
-) -> Written
+) -> Result<usize, Refusal>
     ensures { Lays
         (building (make_announce keys.now name_hash.now random.now clock
         ratchet.now app_data.now) signature.now room.old)
-        result room.new }
+        (written_as result) room.new }
 {
     let announce = Announce {
         keys,
@@ -142,13 +135,7 @@ pub fn build(
         ratchet,
         app_data,
     };
-    let refusal = announce.refusal(signature.len(), room.len());
-    if refusal != refusals::NONE {
-        return Written { refusal, length: 0 };
-    }
+    announce.check(signature.len(), room.len())?;
     announce.write_announce(signature, room);
-    Written {
-        refusal: refusals::NONE,
-        length: LEAST_LENGTH + ratchet.len() + app_data.len(),
-    }
+    Ok(LEAST_LENGTH + ratchet.len() + app_data.len())
 }

@@ -1,10 +1,11 @@
 // The refusals of both calls, by lengths.
 ghost use Rattle.std.specs.Prelude.{◌≡◌, length};
+ghost use Rattle.numbers.specs.Refusals.{refused_number};
 ghost use Rattle.announcing.specs.Announcing.{wrong_lengths};
 ghost use Rattle.announcing.specs.Steps.{refusal_by};
 
 use super::Announce;
-use numbers::{CLOCK_LIMIT, LEAST_OUTPUT, LONGEST_PACKET, refusals};
+use numbers::{CLOCK_LIMIT, LEAST_OUTPUT, LONGEST_PACKET, Refusal};
 use packet::places::{
     KEYS_WIDTH, LEAST_ANNOUNCE, NAME_HASH_WIDTH, RANDOM_WIDTH, RATCHET_WIDTH, SIGNATURE_WIDTH,
     TYPE_ONE_START,
@@ -27,22 +28,22 @@ impl Announce<'_> {
             || signature != SIGNATURE_WIDTH
     }
 
-    // The refusal with a signature of this length and so much room, or 0.
-    pub fn refusal(&self, signature: usize, room: usize) -> u8
-        ensures { result ≡ refusal_by self.now signature room }
+    // Whether the announce may be built with a signature of this length in so much room, or why not.
+    pub fn check(&self, signature: usize, room: usize) -> Result<(), Refusal>
+        ensures { refused_number result ≡ refusal_by self.now signature room }
     {
         if self.wrong_lengths(signature) {
-            return refusals::ANNOUNCE_PART;
+            return Err(Refusal::AnnouncePart);
         }
         if self.clock >= CLOCK_LIMIT {
-            return refusals::CLOCK;
+            return Err(Refusal::Clock);
         }
         if self.app_data.len() > LONGEST_PACKET - LEAST_LENGTH - self.ratchet.len() {
-            return refusals::ANNOUNCE_TOO_LONG;
+            return Err(Refusal::AnnounceTooLong);
         }
         if room < LEAST_OUTPUT {
-            return refusals::OUTPUT;
+            return Err(Refusal::Output);
         }
-        refusals::NONE
+        Ok(())
     }
 }

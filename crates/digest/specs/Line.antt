@@ -1,7 +1,7 @@
 -- The line of a digest, or of a message that is refused.
 use Rattle.std.specs.Prelude.{ℕ, List, [], ◌∷◌, eqb}
 use Rattle.octets.specs.Choice.{◌then◌otherwise◌}
-use Rattle.sha256.specs.declared.Digest.{Digest}
+use Rattle.sha256.specs.Sha256.{Digest}
 use Rattle.text.specs.Numerals.{hexadecimal}
 use Rattle.text.specs.Words.{words_line, refused_words}
 

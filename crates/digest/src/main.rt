@@ -4,12 +4,12 @@
 
 ghost use Rattle.std.specs.Prelude.{◌≡◌, IfSome, OnOk};
 ghost use Rattle.std.specs.Io.KnownBytes.{Appends};
-ghost use Rattle.sha256.specs.Sha256.{answer};
+ghost use Rattle.sha256.specs.Sha256.{answer, digest_as};
 ghost use Rattle.text.specs.Text.{text_of};
 ghost use Rattle.digest.specs.Line.{digest_line};
 
 use console::{print, read_full};
-use sha256::Digest;
+use numbers::Refusal;
 use std::io;
 use std::io::{Read, Write};
 use text::Text;
@@ -17,13 +17,15 @@ use text::Text;
 // The longest message and one byte more, so that a longer one shows.
 const ROOM: usize = 65_536;
 
-fn line(digest: Digest) -> Text
-    ensures { result ≡ text_of (digest_line digest) }
+fn line(digest: Option<[u8; 32]>) -> Text
+    ensures { result ≡ text_of (digest_line (digest_as digest)) }
 {
-    if digest.refusal != 0 {
-        return text::refused_line(digest.refusal);
+    match digest {
+        Some(bytes) => {
+            text::with_character(text::with_hexadecimal(text::empty(), &bytes), b'\n')
+        }
+        None => text::refused_line(Refusal::TooLong.number()),
     }
-    text::with_character(text::with_hexadecimal(text::empty(), &digest.bytes), b'\n')
 }
 
 // Writes the line of the message that the input is, or of as much as could be read of it, and then fails.

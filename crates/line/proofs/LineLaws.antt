@@ -11,7 +11,7 @@ use Rattle.octets.proofs.Choice.{then_true, then_false}
 use Rattle.packet.specs.Header.{type_two, transport, destination_kind, packet_kind}
 use Rattle.packet.specs.Read.{longest_packet, parts_of, payload, reading_refusal, no_parts, reading}
 use Rattle.packet.specs.declared.Parts.{Parts}
-use Rattle.packet.specs.declared.Reading.{Reading}
+use Rattle.packet.specs.Read.{Reading}
 use Rattle.packet.specs.Places.{address_width}
 use Rattle.packet.proofs.ReadLaws.{readable, accepted_reads, refused_reads}
 use Rattle.text.specs.Numerals.{decimal, hexadecimal, short_digits, short_limit, byte_digits}

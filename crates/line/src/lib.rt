@@ -17,9 +17,8 @@ use text::Text;
 pub fn line_of(packet: &[u8]) -> Text
     ensures { result ≡ text_of (line_text packet.now) }
 {
-    let reading = packet::read(packet, LONGEST_PACKET);
-    if reading.refusal != 0 {
-        return text::refused_line(reading.refusal);
+    match packet::read(packet, LONGEST_PACKET) {
+        Ok(parts) => parts_line(parts, packet::payload(packet).len()),
+        Err(refusal) => text::refused_line(refusal.number()),
     }
-    parts_line(reading.parts, packet::payload(packet).len())
 }

@@ -14,10 +14,9 @@ use lib.Seq.{drop-cons, drop-drop, take_at}
 use Rattle.octets.specs.Part.{part, patch}
 use Rattle.octets.proofs.Choice.{then_true, then_false}
 use Rattle.packet.specs.Header.{access_code, type_two}
-use Rattle.packet.specs.Read.{header_of, type_one_parts, type_two_parts, parts_of, payload_start, payload, longest_packet, reads, reading}
+use Rattle.packet.specs.Read.{Reading, header_of, type_one_parts, type_two_parts, parts_of, payload_start, payload, longest_packet, reads, reading}
 use Rattle.packet.specs.Write.{packet_of, least_output, writing_refusal, writing, read_back}
 use Rattle.packet.specs.declared.Parts.{Parts}
-use Rattle.packet.specs.declared.Reading.{Reading}
 use Rattle.packet.proofs.ListLaws.{behind, found_part, found_byte, found_rest, patched_start}
 use Rattle.packet.proofs.ReadLaws.{start_two, start_one, accepted, reads_readable, readable_reads, parts_two, parts_one, parts_header, answer_read}
 use Rattle.packet.specs.Write.{Wide}

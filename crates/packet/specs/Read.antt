@@ -1,16 +1,17 @@
 -- Document 01, "Packet layout" and refusals 1, 2 and 3, as document 02's Wish 11 amends them: reading a packet. "Callers of the packet reader say which size
 -- they mean": the arrival port's, or 500.
-use Rattle.std.specs.Prelude.{ℕ, Bool, not, List, [], eqb, ltb, length, drop, get_or, replicate}
+use Rattle.std.specs.Prelude.{ℕ, Bool, not, List, [], eqb, ltb, length, drop, get_or, replicate, Result, Ok, Err}
 use Rattle.octets.specs.Index.{◌and◌}
 use Rattle.octets.specs.Part.{part}
 use Rattle.octets.specs.Choice.{◌then◌otherwise◌}
 use Rattle.octets.specs.Listed.{Test, ◌gives◌otherwise◌, first_of}
 pub use Rattle.numbers.specs.Numbers.{longest_packet}
 use Rattle.numbers.specs.Numbers.{is_size}
+use Rattle.numbers.specs.Refusals.{number_of}
+use Rattle.numbers.specs.declared.refusal.Refusal.{Refusal}
 use Rattle.packet.specs.Header.{access_code, type_two}
 use Rattle.packet.specs.Places.{address_width, hops_at, address_at, second_address_at, type_one_context_at, type_two_context_at, type_one_start, type_two_start}
 use Rattle.packet.specs.declared.Parts.{Parts}
-use Rattle.packet.specs.declared.Reading.{Reading}
 
 -- byte 0: the header
 abbrev pub header_of : List ℕ → ℕ
@@ -75,6 +76,15 @@ reads size p = eqb (reading_refusal size p) 0
 -- a refused reading gives parts of zeros beside its number
 abbrev pub no_parts : Parts
 no_parts = record { header = 0; hops = 0; relay = no_address; destination = no_address; context = 0 }
+
+-- a reading: refusal 0 and the parts, or a refusal's number and parts of zeros
+pub record Reading : Type 0 where
+  pub refusal : ℕ
+  pub parts : Parts
+
+abbrev pub read_as : Result Parts Refusal → Reading
+read_as (Ok parts) = record { refusal = 0; parts = parts }
+read_as (Err refusal) = record { refusal = number_of refusal; parts = no_parts }
 
 unfoldable pub reading : ℕ → List ℕ → Reading
 reading size p =

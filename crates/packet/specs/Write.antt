@@ -8,7 +8,7 @@ use Rattle.packet.specs.Header.{access_code, type_two}
 use Rattle.packet.specs.Places.{address_width}
 use Rattle.packet.specs.Read.{longest_packet, no_address}
 use Rattle.packet.specs.declared.Parts.{Parts}
-use Rattle.packet.specs.declared.Written.{Written}
+use Rattle.numbers.specs.Refusals.{Written}
 
 -- both addresses are sixteen bytes, as a value of the code always has them
 pub record Wide (q : Parts) : Type 0 where

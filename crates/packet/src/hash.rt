@@ -1,21 +1,20 @@
 // Packet hash and link id.
 ghost use Rattle.std.specs.Prelude.{◌≡◌, true, ◌∷◌, ◌+◌, ◌≤◌, length, take};
 ghost use Rattle.sha256.specs.Sha256.{sha256_of, longest_message};
-ghost use Rattle.packet.specs.Places.{address_width};
+ghost use Rattle.packet.specs.Places.{address_width, digest_width};
 ghost use Rattle.packet.specs.Read.{longest_packet, reads};
-ghost use Rattle.packet.specs.Hash.{packet_hash, link_id, packet_hash_answer, link_id_answer};
+ghost use Rattle.packet.specs.Hash.{packet_hash, link_id, hashed_as, packet_hash_answer, link_id_answer};
 
 use super::places::{END_WIDTH, LINK_PART_WIDTH};
-use super::reader::{from, part_of, payload_start, reading_refusal};
-use super::{LinkId, PacketHash};
-use numbers::{LONGEST_PACKET, refusals};
+use super::reader::{check, from, part_of, payload_start};
+use numbers::{LONGEST_PACKET, Refusal};
 
 // SHA-256 of the first n bytes of a buffer.
 pub fn hash_start(buffer: &[u8], n: usize) -> [u8; 32]
     requires { (n ≤ length buffer.now) × (n ≤ longest_message) }
     ensures { result ≡ sha256_of (take n buffer.now) }
 {
-    sha256::sha256(&buffer[..n]).bytes
+    sha256::sha256(&buffer[..n]).unwrap()
 }
 
 // The first 16 bytes of a hash.
@@ -57,37 +56,17 @@ pub fn link_id_of(packet: &[u8]) -> [u8; 16]
 }
 
 // The packet hash of any bytes: those that don't read are refused.
-pub fn packet_hash(packet: &[u8]) -> PacketHash
-    ensures { result ≡ packet_hash_answer longest_packet packet.now }
+pub fn packet_hash(packet: &[u8]) -> Result<[u8; 32], Refusal>
+    ensures { hashed_as digest_width result ≡ packet_hash_answer longest_packet packet.now }
 {
-    let refusal = reading_refusal(packet, LONGEST_PACKET);
-    if refusal != refusals::NONE {
-        return PacketHash {
-            refusal,
-            bytes: [0; 32],
-        };
-    }
-    let bytes = hash_of(packet);
-    PacketHash {
-        refusal: refusals::NONE,
-        bytes,
-    }
+    check(packet, LONGEST_PACKET)?;
+    Ok(hash_of(packet))
 }
 
 // The link id of any bytes: those that don't read are refused.
-pub fn link_id(packet: &[u8]) -> LinkId
-    ensures { result ≡ link_id_answer longest_packet packet.now }
+pub fn link_id(packet: &[u8]) -> Result<[u8; 16], Refusal>
+    ensures { hashed_as address_width result ≡ link_id_answer longest_packet packet.now }
 {
-    let refusal = reading_refusal(packet, LONGEST_PACKET);
-    if refusal != refusals::NONE {
-        return LinkId {
-            refusal,
-            bytes: [0; 16],
-        };
-    }
-    let bytes = link_id_of(packet);
-    LinkId {
-        refusal: refusals::NONE,
-        bytes,
-    }
+    check(packet, LONGEST_PACKET)?;
+    Ok(link_id_of(packet))
 }

@@ -1,5 +1,5 @@
 // The packet layout of document 01: reading, writing, packet hash, link id and announce fields.
-// Entry points: read, reading_refusal, is_size, payload, payload_start, write, packet_hash, link_id,
+// Entry points: read, check, is_size, payload, payload_start, write, packet_hash, link_id,
 // announced_destination, least_announce, emission, and the header's bits. parts_of, type_two_parts, hash_of,
 // link_id_of, blob and write_packet are helpers: the caller shows what they require.
 #![tactic(auto)]
@@ -18,9 +18,7 @@ pub use header::{
     of_kind_single, packet_kind, transport, type_two,
 };
 pub use numbers::{LEAST_OUTPUT, LONGEST_PACKET};
-pub use reader::{
-    is_size, parts_of, payload, payload_start, read, reading_refusal, type_two_parts,
-};
+pub use reader::{check, is_size, parts_of, payload, payload_start, read, type_two_parts};
 pub use writer::{write, write_packet};
 
 // What the bytes of a packet before its payload say. Type 1: the relay address is zeros.
@@ -31,32 +29,4 @@ pub struct Parts {
     pub relay: [u8; 16],
     pub destination: [u8; 16],
     pub context: u8,
-}
-
-// A reading: refusal 0 and the parts, or a refusal's number and parts of zeros.
-#[derive(Clone, Copy)]
-pub struct Reading {
-    pub refusal: u8,
-    pub parts: Parts,
-}
-
-// A writing: refusal 0 and the packet's length, or a refusal's number and 0.
-#[derive(Clone, Copy)]
-pub struct Written {
-    pub refusal: u8,
-    pub length: usize,
-}
-
-// A packet hash: refusal 0 and the hash, or a refusal's number and zeros.
-#[derive(Clone, Copy)]
-pub struct PacketHash {
-    pub refusal: u8,
-    pub bytes: [u8; 32],
-}
-
-// A link id: refusal 0 and the id, or a refusal's number and zeros.
-#[derive(Clone, Copy)]
-pub struct LinkId {
-    pub refusal: u8,
-    pub bytes: [u8; 16],
 }

@@ -2,16 +2,17 @@
 ghost use Rattle.std.specs.Prelude.{◌≡◌, ◌≤◌, length, drop};
 ghost use Rattle.octets.specs.Part.{part};
 ghost use Rattle.numbers.specs.Numbers.{is_size};
+ghost use Rattle.numbers.specs.Refusals.{refused_number};
 ghost use Rattle.packet.specs.Places.{type_one_start, type_two_start};
-ghost use Rattle.packet.specs.Read.{header_of, type_one_parts, type_two_parts, parts_of, payload_start, payload as payload_of, reading_refusal, no_parts, reading};
+ghost use Rattle.packet.specs.Read.{header_of, type_one_parts, type_two_parts, parts_of, payload_start, payload as payload_of, reading_refusal, read_as, reading};
 
+use super::Parts;
 use super::header::{access_code, type_two};
 use super::places::{
     ADDRESS_AT, HOPS_AT, SECOND_ADDRESS_AT, TYPE_ONE_CONTEXT_AT, TYPE_ONE_START,
     TYPE_TWO_CONTEXT_AT, TYPE_TWO_START,
 };
-use super::{Parts, Reading};
-use numbers::{LEAST_SIZE, LONGEST_PACKET, refusals};
+use numbers::{LEAST_SIZE, LONGEST_PACKET, Refusal};
 
 // The header of a packet, 0 where it has no byte.
 fn header_of(packet: &[u8]) -> u8
@@ -59,27 +60,27 @@ pub fn is_size(size: usize) -> bool
     LEAST_SIZE <= size && size <= LONGEST_PACKET
 }
 
-// The refusal of a packet that is read against a size, or 0.
-pub fn reading_refusal(packet: &[u8], size: usize) -> u8
-    ensures { result ≡ reading_refusal size packet.now }
+// Whether a packet reads against a size, or why not.
+pub fn check(packet: &[u8], size: usize) -> Result<(), Refusal>
+    ensures { refused_number result ≡ reading_refusal size packet.now }
 {
     if !is_size(size) {
-        return refusals::SETTING;
+        return Err(Refusal::Setting);
     }
     if packet.len() < TYPE_ONE_START {
-        return refusals::TOO_SHORT;
+        return Err(Refusal::TooShort);
     }
     if size < packet.len() {
-        return refusals::TOO_LONG;
+        return Err(Refusal::TooLong);
     }
     let header = packet[0];
     if access_code(header) {
-        return refusals::ACCESS_CODE;
+        return Err(Refusal::AccessCode);
     }
     if type_two(header) && packet.len() < TYPE_TWO_START {
-        return refusals::TOO_SHORT;
+        return Err(Refusal::TooShort);
     }
-    refusals::NONE
+    Ok(())
 }
 
 fn type_one_parts(packet: &[u8]) -> Parts
@@ -123,31 +124,10 @@ pub fn parts_of(packet: &[u8]) -> Parts
     type_one_parts(packet)
 }
 
-fn no_parts() -> Parts
-    ensures { result ≡ no_parts }
-{
-    Parts {
-        header: 0,
-        hops: 0,
-        relay: [0; 16],
-        destination: [0; 16],
-        context: 0,
-    }
-}
-
 // Reads a packet against a size: the arrival port's, or 500.
-pub fn read(packet: &[u8], size: usize) -> Reading
-    ensures { result ≡ reading size packet.now }
+pub fn read(packet: &[u8], size: usize) -> Result<Parts, Refusal>
+    ensures { read_as result ≡ reading size packet.now }
 {
-    let refusal = reading_refusal(packet, size);
-    if refusal != refusals::NONE {
-        return Reading {
-            refusal,
-            parts: no_parts(),
-        };
-    }
-    Reading {
-        refusal: refusals::NONE,
-        parts: parts_of(packet),
-    }
+    check(packet, size)?;
+    Ok(parts_of(packet))
 }

@@ -1,31 +1,32 @@
 // Writing a packet.
 ghost use Rattle.std.specs.Prelude.{◌≡◌, ◌∷◌, ◌++◌, ◌+◌, ◌≤◌, length};
 ghost use Rattle.octets.specs.Part.{patch};
+ghost use Rattle.numbers.specs.Refusals.{refused_number, written_as};
 ghost use Rattle.packet.specs.Places.{end_width};
 ghost use Rattle.packet.specs.Read.{payload_start};
 ghost use Rattle.packet.specs.Write.{packet_of, writing_refusal, writing};
 
+use super::Parts;
 use super::header::{access_code, type_two};
 use super::places::{ADDRESS_AT, END_WIDTH, HOPS_AT, SECOND_ADDRESS_AT};
 use super::reader::payload_start;
-use super::{Parts, Written};
-use numbers::{ADDRESS_WIDTH, LEAST_OUTPUT, LONGEST_PACKET, refusals};
+use numbers::{ADDRESS_WIDTH, LEAST_OUTPUT, LONGEST_PACKET, Refusal};
 
-// The refusal of a writing into room bytes, or 0.
-pub fn writing_refusal(parts: Parts, payload: &[u8], room: usize) -> u8
-    ensures { result ≡ writing_refusal room parts payload.now }
+// Whether a writing fits into room bytes, or why it is refused.
+fn check_writing(parts: Parts, payload: &[u8], room: usize) -> Result<(), Refusal>
+    ensures { refused_number result ≡ writing_refusal room parts payload.now }
 {
     if room < LEAST_OUTPUT {
-        return refusals::OUTPUT;
+        return Err(Refusal::Output);
     }
     let start = payload_start(parts.header);
     if LONGEST_PACKET - start < payload.len() {
-        return refusals::TOO_LONG;
+        return Err(Refusal::TooLong);
     }
     if access_code(parts.header) {
-        return refusals::ACCESS_CODE;
+        return Err(Refusal::AccessCode);
     }
-    refusals::NONE
+    Ok(())
 }
 
 // Writes what both types end with from place at on.
@@ -66,18 +67,12 @@ pub fn write_packet(parts: Parts, payload: &[u8], output: &mut [u8])
     );
 }
 
-// Writes the packet of these parts and this payload at the start of the output.
-pub fn write(parts: Parts, payload: &[u8], output: &mut [u8]) -> Written
-    ensures { (result ≡ (writing parts payload.now output.old).answer)
+// Writes the packet of these parts and this payload at the start of the output, and says how long it is.
+pub fn write(parts: Parts, payload: &[u8], output: &mut [u8]) -> Result<usize, Refusal>
+    ensures { (written_as result ≡ (writing parts payload.now output.old).answer)
         × (output.new ≡ (writing parts payload.now output.old).output) }
 {
-    let refusal = writing_refusal(parts, payload, output.len());
-    if refusal != refusals::NONE {
-        return Written { refusal, length: 0 };
-    }
+    check_writing(parts, payload, output.len())?;
     write_packet(parts, payload, output);
-    Written {
-        refusal: refusals::NONE,
-        length: payload_start(parts.header) + payload.len(),
-    }
+    Ok(payload_start(parts.header) + payload.len())
 }

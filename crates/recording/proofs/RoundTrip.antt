@@ -21,7 +21,7 @@ use Rattle.recording.specs.Shape.{entry_place, count_of}
 use Rattle.recording.specs.Format.{Entry, head_width, entry_body, file_of, RecordableEntry, no_entry, Recordable, longest_file}
 use Rattle.recording.specs.Reader.{file_refusal, fields_of, entries_of}
 use Rattle.recording.specs.Writer.{given_entries, given_of, bodies_of, file_length, writing_refusal, writing}
-use Rattle.recording.specs.declared.Fields.{Fields}
+use Rattle.recording.specs.Reader.{Fields}
 use Rattle.recording.proofs.Sums.{joined_sum}
 use Rattle.recording.proofs.ReadLaws.{taken, takes, fields_there, fields_within, taken_there}
 use Rattle.recording.proofs.WriteLaws.{Writable, writable, writes, writing_done, bodies_given}

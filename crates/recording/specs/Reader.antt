@@ -1,5 +1,5 @@
 -- Document 02, Wish 1: reading a recording, for any bytes of any length.
-use Rattle.std.specs.Prelude.{ℕ, ◌+◌, Bool, true, false, not, List, [], eqb, ltb, leb, length, get_or}
+use Rattle.std.specs.Prelude.{ℕ, ◌+◌, Bool, true, false, not, List, [], eqb, ltb, leb, length, get_or, Option, Some, None}
 use Rattle.octets.specs.Index.{◌and◌, all_below, list_of}
 use Rattle.octets.specs.Choice.{◌or◌, ◌then◌otherwise◌}
 use Rattle.octets.specs.Listed.{Test, ◌gives◌otherwise◌, first_of}
@@ -7,7 +7,7 @@ use Rattle.octets.specs.Part.{part}
 use Rattle.octets.specs.BigEndian.{number}
 use Rattle.recording.specs.Shape.{contents_start, entry_place, kind_of, edition_of, count_of, offset_of, length_of, offsets_right, end_right}
 use Rattle.recording.specs.Format.{Entry, recording_kind, recording_edition, longest_file, clock_width, port_at, word_at, head_width}
-use Rattle.recording.specs.declared.Fields.{Fields}
+use Rattle.recording.specs.declared.EntryHead.{EntryHead}
 
 -- ---- the head of entry i
 unfoldable pub clock_of : List ℕ → ℕ → ℕ
@@ -52,6 +52,15 @@ is_there f i =
     leb (entry_place head_width (i + 1)) (length f) and
     leb (offset_of head_width f i + length_of head_width f i) (length f)
 
+-- clock, port, word and the body's place
+pub record Fields : Type 0 where
+  pub there : Bool
+  pub clock : ℕ
+  pub port : ℕ
+  pub word : ℕ
+  pub start : ℕ
+  pub length : ℕ
+
 -- one that isn't there has no clock, port, word or body
 abbrev pub no_fields : Fields
 no_fields = record { there = false; clock = 0; port = 0; word = 0; start = 0; length = 0 }
@@ -61,6 +70,11 @@ fields_of f i =
     is_there f i
     then record { there = true; clock = clock_of f i; port = port_of f i; word = word_of f i; start = offset_of head_width f i; length = length_of head_width f i }
     otherwise no_fields
+
+-- the fields as the code returns them
+abbrev pub fields_as : Option EntryHead → Fields
+fields_as None = no_fields
+fields_as (Some e) = record { there = true; clock = e.clock; port = e.port; word = e.word; start = e.start; length = e.length }
 
 unfoldable pub body_of : List ℕ → ℕ → List ℕ
 body_of f i = part f (fields_of f i).start (fields_of f i).length

@@ -8,7 +8,7 @@ use Rattle.octets.specs.Part.{part, patch, joined}
 use Rattle.octets.specs.BigEndian.{number, big_endian}
 use Rattle.recording.specs.Shape.{length_width, entry_place, sum_below}
 use Rattle.recording.specs.Format.{Entry, longest_file, clock_width, head_width, recorded_clock_limit, entry_body, file_of}
-use Rattle.recording.specs.declared.Written.{Written}
+use Rattle.numbers.specs.Refusals.{Written}
 
 abbrev pub given_clock_width : ℕ
 given_clock_width = 8

@@ -13,20 +13,12 @@ pub use places::{
 pub use reader::{body, check, count, entry};
 pub use writer::write;
 
-// Entry i of a file: clock, port and signature word, and its body's place. All is zero where it isn't there.
+// Entry i of a file: clock, port and signature word, and its body's place.
 #[derive(Clone, Copy)]
-pub struct Fields {
-    pub there: bool,
+pub struct EntryHead {
     pub clock: u64,
     pub port: u8,
     pub word: u8,
     pub start: usize,
-    pub length: usize,
-}
-
-// A writing: refusal 0 and the file's length, or a refusal's number and 0.
-#[derive(Clone, Copy)]
-pub struct Written {
-    pub refusal: u8,
     pub length: usize,
 }

@@ -1,17 +1,18 @@
 // Reading a recording: its refusals, and one entry by its place.
 ghost use Rattle.std.specs.Prelude.{◌≡◌, ◌+◌, ◌≤◌, ◌<◌, length};
 ghost use Rattle.octets.specs.Listed.{first_of};
+ghost use Rattle.numbers.specs.Refusals.{refused_number};
 ghost use Rattle.recording.specs.Shape.{count_limit, entry_place, count_of, offset_of, length_of};
 ghost use Rattle.recording.specs.Format.{head_width};
-ghost use Rattle.recording.specs.Reader.{word_of, file_refusal, no_fields, fields_of, body_of};
+ghost use Rattle.recording.specs.Reader.{word_of, file_refusal, fields_as, fields_of, body_of};
 ghost use Rattle.recording.specs.Steps.{contents_rows};
 
-use super::Fields;
+use super::EntryHead;
 use super::places::{
     CLOCK_WIDTH, CONTENTS_START, COUNT_AT, COUNT_WIDTH, EDITION, ENTRY_WIDTH, KIND, LENGTH_AT,
     LENGTH_WIDTH, LONGEST_FILE, OFFSET_AT, OFFSET_WIDTH, PORT_AT, WORD_AT,
 };
-use numbers::refusals;
+use numbers::Refusal;
 
 // The number of entries that the file says it has, 0 where it is too short to say.
 pub fn count(file: &[u8]) -> usize
@@ -62,88 +63,76 @@ fn word_of(file: &[u8], i: usize) -> u8
 
 // Refusals 22 and 23 of a file that has the contents of its n entries, in one pass over these. An OR over the words is
 // under 2 where each is.
-fn contents_refusal(file: &[u8], n: usize) -> u8
+fn check_contents(file: &[u8], n: usize) -> Result<(), Refusal>
     requires { (n ≡ count_of file.now) × (entry_place head_width n ≤ length file.now) × (n < count_limit) }
-    ensures { result ≡ first_of (contents_rows file.now) 0 }
+    ensures { refused_number result ≡ first_of (contents_rows file.now) 0 }
 {
     let mut words: u8 = 0;
     let mut place = entry_place(n);
     for i in 0..n {
         if offset_of(file, i) != place {
-            return refusals::FILE_PLACE;
+            return Err(Refusal::FilePlace);
         }
         place += length_of(file, i);
         words |= word_of(file, i);
     }
     if place != file.len() {
-        return refusals::FILE_PLACE;
+        return Err(Refusal::FilePlace);
     }
     if words > 1 {
-        return refusals::SIGNATURE_WORD;
+        return Err(Refusal::SignatureWord);
     }
-    0
+    Ok(())
 }
 
-// The refusal of a file, or 0.
-pub fn check(file: &[u8]) -> u8
-    ensures { result ≡ file_refusal file.now }
+// Whether a file is a recording, or why not.
+pub fn check(file: &[u8]) -> Result<(), Refusal>
+    ensures { refused_number result ≡ file_refusal file.now }
 {
     if file.len() > LONGEST_FILE || file.len() < CONTENTS_START {
-        return refusals::FILE_LENGTH;
+        return Err(Refusal::FileLength);
     }
     let n = count(file);
     if file.len() < entry_place(n) {
-        return refusals::FILE_LENGTH;
+        return Err(Refusal::FileLength);
     }
     if file[0] != KIND || file[1] != EDITION {
-        return refusals::FILE_KIND;
+        return Err(Refusal::FileKind);
     }
-    contents_refusal(file, n)
-}
-
-fn no_fields() -> Fields
-    ensures { result ≡ no_fields }
-{
-    Fields {
-        there: false,
-        clock: 0,
-        port: 0,
-        word: 0,
-        start: 0,
-        length: 0,
-    }
+    check_contents(file, n)
 }
 
 // Entry i of any bytes. It isn't there where it isn't counted, or its place or its body lies outside the file.
-pub fn entry(file: &[u8], i: usize) -> Fields
-    ensures { result ≡ fields_of file.now i }
+pub fn entry(file: &[u8], i: usize) -> Option<EntryHead>
+    ensures { fields_as result ≡ fields_of file.now i }
 {
     if i >= count(file) {
-        return no_fields();
+        return None;
     }
     let at = entry_place(i);
     if file.len() < at + ENTRY_WIDTH {
-        return no_fields();
+        return None;
     }
     let start = offset_of(file, i);
     let length = length_of(file, i);
     if file.len() < start + length {
-        return no_fields();
+        return None;
     }
-    Fields {
-        there: true,
+    Some(EntryHead {
         clock: octets::number_at(file, at, CLOCK_WIDTH),
         port: file[at + PORT_AT],
         word: word_of(file, i),
         start,
         length,
-    }
+    })
 }
 
 // The body of entry i: a part of the file that was lent, not a copy. Empty where the entry isn't there.
 pub fn body(file: &[u8], i: usize) -> &[u8]
     ensures { result.now ≡ body_of file.now i }
 {
-    let fields = entry(file, i);
-    &file[fields.start..fields.start + fields.length]
+    match entry(file, i) {
+        Some(head) => &file[head.start..head.start + head.length],
+        None => &[],
+    }
 }

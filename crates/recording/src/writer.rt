@@ -2,18 +2,18 @@
 ghost use Rattle.std.specs.Prelude.{◌≡◌, ◌+◌, ◌≤◌, ◌<◌, length};
 ghost use Rattle.octets.specs.Listed.{first_of};
 ghost use Rattle.octets.specs.Part.{patch};
+ghost use Rattle.numbers.specs.Refusals.{refused_number, written_as};
 ghost use Rattle.recording.specs.Shape.{contents_start, count_limit, entry_place};
 ghost use Rattle.recording.specs.Format.{longest_file, head_width, file_of};
 ghost use Rattle.recording.specs.Writer.{given_count, given_word, given_clock, given_length, given_start, given_entries, writing_refusal, writing};
 ghost use Rattle.recording.specs.Steps.{head_rows, length_rows, start_bytes, copied_item, copied_items};
 
-use super::Written;
 use super::places::{
     COUNT_AT, COUNT_WIDTH, EDITION, GIVEN_HEAD_AT, GIVEN_LENGTH_AT, GIVEN_WIDTH, GIVEN_WORD_AT,
     KIND, LENGTH_AT, LENGTH_WIDTH, LONGEST_FILE, MOST_ENTRIES, OFFSET_AT, OFFSET_WIDTH,
 };
 use super::reader::entry_place;
-use numbers::{CLOCK_LIMIT, refusals};
+use numbers::{CLOCK_LIMIT, Refusal};
 
 // How many whole entries are given.
 fn given_count(entries: &[u8]) -> usize
@@ -44,8 +44,8 @@ fn given_length(entries: &[u8], i: usize) -> usize
 }
 
 // Refusals 23 and 5, over all entries that are given. An OR over numbers is under a power of two where each of them is.
-fn heads_refusal(entries: &[u8]) -> u8
-    ensures { result ≡ first_of (head_rows entries.now) 0 }
+fn check_heads(entries: &[u8]) -> Result<(), Refusal>
+    ensures { refused_number result ≡ first_of (head_rows entries.now) 0 }
 {
     let mut words: u8 = 0;
     let mut clocks: u64 = 0;
@@ -54,12 +54,12 @@ fn heads_refusal(entries: &[u8]) -> u8
         clocks |= given_clock(entries, i);
     }
     if words > 1 {
-        return refusals::SIGNATURE_WORD;
+        return Err(Refusal::SignatureWord);
     }
     if clocks >= CLOCK_LIMIT {
-        return refusals::CLOCK;
+        return Err(Refusal::Clock);
     }
-    0
+    Ok(())
 }
 
 // The sum of the lengths of n entries.
@@ -71,35 +71,32 @@ fn given_end(entries: &[u8], n: usize) -> usize
 }
 
 // Refusals 20 and 25. More entries than a file has room for are refused before their lengths are added up.
-fn lengths_refusal(entries: &[u8], bodies: &[u8], room: usize) -> u8
-    ensures { result ≡ first_of (length_rows entries.now bodies.now room) 0 }
+fn check_lengths(entries: &[u8], bodies: &[u8], room: usize) -> Result<(), Refusal>
+    ensures { refused_number result ≡ first_of (length_rows entries.now bodies.now room) 0 }
 {
     let n = given_count(entries);
     if entries.len() % GIVEN_WIDTH != 0
         || n > MOST_ENTRIES
         || given_end(entries, n) != bodies.len()
     {
-        return refusals::FILE_LENGTH;
+        return Err(Refusal::FileLength);
     }
     let length = entry_place(n) + bodies.len();
     if length > LONGEST_FILE {
-        return refusals::FILE_LENGTH;
+        return Err(Refusal::FileLength);
     }
     if room < length {
-        return refusals::ROOM;
+        return Err(Refusal::Room);
     }
-    0
+    Ok(())
 }
 
-// The refusal of a writing into room bytes, or 0.
-fn writing_refusal(entries: &[u8], bodies: &[u8], room: usize) -> u8
-    ensures { result ≡ writing_refusal entries.now bodies.now room }
+// Whether these may be written into room bytes, or why not.
+fn check_writing(entries: &[u8], bodies: &[u8], room: usize) -> Result<(), Refusal>
+    ensures { refused_number result ≡ writing_refusal entries.now bodies.now room }
 {
-    let refusal = heads_refusal(entries);
-    if refusal != 0 {
-        return refusal;
-    }
-    lengths_refusal(entries, bodies, room)
+    check_heads(entries)?;
+    check_lengths(entries, bodies, room)
 }
 
 // Writes kind, edition and count.
@@ -161,18 +158,12 @@ fn write_file(entries: &[u8], bodies: &[u8], room: &mut [u8])
     octets::copy_at(room, at, bodies);
 }
 
-// Writes the recording of these entries and bodies at the start of the room.
-pub fn write(entries: &[u8], bodies: &[u8], room: &mut [u8]) -> Written
-    ensures { (result ≡ (writing entries.now bodies.now room.old).answer)
+// Writes the recording of these entries and bodies at the start of the room, and says how long it is.
+pub fn write(entries: &[u8], bodies: &[u8], room: &mut [u8]) -> Result<usize, Refusal>
+    ensures { (written_as result ≡ (writing entries.now bodies.now room.old).answer)
         × (room.new ≡ (writing entries.now bodies.now room.old).room) }
 {
-    let refusal = writing_refusal(entries, bodies, room.len());
-    if refusal != 0 {
-        return Written { refusal, length: 0 };
-    }
+    check_writing(entries, bodies, room.len())?;
     write_file(entries, bodies, room);
-    Written {
-        refusal: 0,
-        length: entry_place(given_count(entries)) + bodies.len(),
-    }
+    Ok(entry_place(given_count(entries)) + bodies.len())
 }

@@ -10,7 +10,7 @@ use Rattle.packet.specs.Read.{header_of, longest_packet, no_address, no_parts, r
 use Rattle.packet.specs.Hash.{packet_hash}
 use Rattle.packet.specs.Announce.{emission_of}
 use Rattle.packet.specs.declared.Parts.{Parts}
-use Rattle.packet.specs.declared.Reading.{Reading}
+use Rattle.packet.specs.Read.{Reading}
 use Rattle.rules.specs.Relay.{empty, used}
 use Rattle.rules.specs.View.{view_at}
 use Rattle.rules.specs.Refusals.{packet_refusal}

@@ -1,10 +1,10 @@
 -- What a caller may cite besides the contract's equation: a digest is 32 bytes, and which messages are refused.
 -- Assumes nothing.
-use Rattle.std.proofs.Common.{◌≡◌, ℕ, zero, suc, ◌<◌, ◌≤◌, List, [], ◌∷◌, ◌++◌, length, get_or, replicate, refl, arith, le-leb}
+use Rattle.std.proofs.Common.{Option, Some, None, ap, ◌∙◌, ◌≡◌, ℕ, zero, suc, ◌<◌, ◌≤◌, List, [], ◌∷◌, ◌++◌, length, get_or, replicate, refl, arith, le-leb}
 use borrow.Author.Tests.{lt-leb}
 use Rattle.sha256.specs.declared.state.State.{State}
 use Rattle.sha256.specs.Bytes.{bytes4}
-use Rattle.sha256.specs.Sha256.{digest_bytes, sha256_of, longest_message, answer}
+use Rattle.sha256.specs.Sha256.{Digest, digest_as, digest_bytes, sha256_of, longest_message, answer}
 
 pub digest_length : (m : List ℕ) → length (sha256_of m) ≡ 32
 unfolding sha256_of
@@ -41,3 +41,9 @@ state s =
 pub digest_byte : (m : List ℕ) (i : ℕ) → get_or (sha256_of m) i 0 < 256
 unfolding sha256_of Below
 digest_byte m i = state _ i
+
+-- a message that is no longer has its digest
+pub digest_there : (o : Option (List ℕ)) (m : List ℕ) → digest_as o ≡ answer m → length m ≤ longest_message → o ≡ Some (sha256_of m)
+digest_there (Some bytes) m e short = ap (λ (d : Digest). Some d.bytes) (e ∙ answer_short m short)
+digest_there None m e short =
+    let two_is_none : ◌≡◌ {A = ℕ} 2 0 = ap (λ (d : Digest). d.refusal) (e ∙ answer_short m short) in cc

@@ -9,18 +9,11 @@ mod state;
 mod words;
 
 ghost use Rattle.std.specs.Prelude.{◌≡◌, ◌/◌, length};
-ghost use Rattle.sha256.specs.Sha256.{hash_after, answer};
+ghost use Rattle.sha256.specs.Sha256.{hash_after, digest_as, answer};
 
 use compress::compress;
 use pad::last_blocks;
 use state::{State, digest_bytes, initial_hash};
-
-// The refusal number, 0 for none, and the digest.
-#[derive(Clone, Copy)]
-pub struct Digest {
-    pub refusal: u8,
-    pub bytes: [u8; 32],
-}
 
 // The hash value after the message's whole blocks.
 fn whole_blocks(message: &[u8]) -> State
@@ -33,21 +26,14 @@ fn whole_blocks(message: &[u8]) -> State
     s
 }
 
-// The digest of a message of at most 65,535 bytes. A longer one gets refusal 2 and a digest of zeros.
-pub fn sha256(message: &[u8]) -> Digest
-    ensures { result ≡ answer message.now }
+// The digest of a message of at most 65,535 bytes, none of a longer one.
+pub fn sha256(message: &[u8]) -> Option<[u8; 32]>
+    ensures { digest_as result ≡ answer message.now }
 {
     if message.len() <= 65535 {
         let s = last_blocks(whole_blocks(message), message);
-        let b = digest_bytes(s);
-        Digest {
-            refusal: 0,
-            bytes: b,
-        }
+        Some(digest_bytes(s))
     } else {
-        Digest {
-            refusal: 2,
-            bytes: [0; 32],
-        }
+        None
     }
 }

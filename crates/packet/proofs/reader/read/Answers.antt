@@ -1,12 +1,16 @@
+use Rattle.std.proofs.Common.{refl, sym}
+use Rattle.std.proofs.lemmas.Result.{err_from_is_err_and}
+use Rattle.numbers.proofs.RefusalNumbers.{some_number}
 use Rattle.packet.proofs.ReadLaws.{readable, answer_refused, answer_read}
-use mathlib.Core.Path.{sym, ◌∙◌}
 use Rattle.packet.proofs.reader.read.Goals as goal
 
-pub returns-then-refusal-ne-NONE : goal.returns-then-refusal-ne-NONE
-returns-then-refusal-ne-NONE c = answer_refused _ _ _ _ c.reading_refusal-refusal.ensures c.if-refusal-ne-NONE.true c.no_parts.ensures
+pub returns-in_err-check : goal.returns-in_err-check
+returns-in_err-check c =
+    let p = err_from_is_err_and c.from_residual.result c.from_residual.ensures.1 in
+    rw (p.1, p.2) (answer_refused _ _ _ _ c.in_err-check.ensures (some_number _) refl)
 
 pub parts_of-requires : goal.parts_of-requires
-parts_of-requires c = (readable _ _ (sym c.reading_refusal-refusal.ensures ∙ c.if-refusal-ne-NONE.false)).whole
+parts_of-requires c = (readable _ _ (sym c.in_ok-check.ensures)).whole
 
 pub returns : goal.returns
-returns c = answer_read _ _ _ (sym c.reading_refusal-refusal.ensures ∙ c.if-refusal-ne-NONE.false) c.parts_of.ensures
+returns c = answer_read _ _ _ (sym c.in_ok-check.ensures) c.parts_of.ensures

@@ -46,4 +46,4 @@ returns c =
     let f = c.args.file.now in
     let right = length_right f c.if-file-gt-LONGEST_FILE.false c.if-file-lt-CONTENTS_START.false
     (omega (arith, c.if-file-entry_place.false, c.entry_place.ensures, c.count-n.ensures)) in
-    c.contents_refusal.ensures ∙ sym (contents_decide f right (kind_right f c.if-file-ne-KIND.false c.if-file-ne-EDITION.false))
+    c.check_contents.ensures ∙ sym (contents_decide f right (kind_right f c.if-file-ne-KIND.false c.if-file-ne-EDITION.false))

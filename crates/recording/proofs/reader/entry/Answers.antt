@@ -16,7 +16,7 @@ pub returns-then-i-count : goal.returns-then-i-count
 returns-then-i-count c =
     let f = c.args.file.now in
     let i = c.args.i in
-    c.no_fields.ensures ∙ sym (fields_none f i (not_counted f i (omega (arith, c.count.ensures, c.if-i-count.true))))
+    sym (fields_none f i (not_counted f i (omega (arith, c.count.ensures, c.if-i-count.true))))
 
 pub entry_place-at-requires : goal.entry_place-at-requires
 entry_place-at-requires c =
@@ -34,7 +34,7 @@ returns-then-file-at c =
     let f = c.args.file.now in
     let i = c.args.i in
     let counted : i < count_of f = omega (arith, c.count.ensures, c.if-i-count.false) in
-    c.no_fields-then-file-at.ensures ∙ sym (fields_none f i (item_outside f i counted (omega (arith, c.entry_place-at.ensures, c.if-file-at.true))))
+    sym (fields_none f i (item_outside f i counted (omega (arith, c.entry_place-at.ensures, c.if-file-at.true))))
 
 pub overflow_add-start : goal.overflow_add-start
 overflow_add-start c =
@@ -53,7 +53,7 @@ returns-then-file-start c =
     let counted : i < count_of f = omega (arith, c.count.ensures, c.if-i-count.false) in
     let item : entry_place head_width (i + 1) ≤ length f = omega (arith, c.entry_place-at.ensures, c.if-file-at.false) in
     let past = body_outside f i counted item (omega (arith, c.offset_of-start.ensures, c.length_of-length.ensures, c.if-file-start.true)) in
-    c.no_fields-then-file-start.ensures ∙ sym (fields_none f i past)
+    sym (fields_none f i past)
 
 pub returns : goal.returns
 unfolding clock_of port_of

@@ -13,7 +13,7 @@ use Rattle.packet.proofs.WriteLaws.{packet_length}
 use native.Mathlib.Omega.{arith}
 use borrow.Author.Rules.{rules}
 use Rattle.numbers.specs.Numbers.{longest_packet, least_output}
-use Rattle.packet.proofs.writer.writing_refusal.Goals as goal
+use Rattle.packet.proofs.writer.check_writing.Goals as goal
 
 pub returns-then-room-lt-LEAST_OUTPUT : goal.returns-then-room-lt-LEAST_OUTPUT
 unfolding writing_refusal writing_rows first_of ◌then◌otherwise◌

@@ -8,7 +8,7 @@ use Rattle.announcing.specs.Announcing.{announce_rows}
 use Rattle.announcing.specs.Steps.{announce_length}
 use Rattle.announcing.proofs.Lengths.{right, ratchet_most}
 use Rattle.numbers.specs.Numbers.{longest_packet, least_output, clock_limit}
-use Rattle.announcing.proofs.Announce.refusal.Goals as goal
+use Rattle.announcing.proofs.Announce.check.Goals as goal
 
 pub returns-then-wrong_lengths : goal.returns-then-wrong_lengths
 unfolding announce_rows first_of ◌then◌otherwise◌

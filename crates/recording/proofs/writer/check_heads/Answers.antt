@@ -1,7 +1,7 @@
 use mathlib.Core.Path.{sym}
 use native.Mathlib.Omega.{arith}
 use Rattle.recording.proofs.WriteLaws.{heads_none, heads_more, refused_word_lem, refused_clock, heads_taken}
-use Rattle.recording.proofs.writer.heads_refusal.Goals as goal
+use Rattle.recording.proofs.writer.check_heads.Goals as goal
 
 pub loop-i-init : goal.loop-i-init
 loop-i-init c = heads_none c.args.entries.now

@@ -16,8 +16,8 @@ use Rattle.packet.specs.Header.{access_code, type_two}
 use Rattle.packet.specs.Read.{header_of, reading_rows, reading_refusal}
 use Rattle.packet.specs.Places.{type_one_start, type_two_start}
 use Rattle.packet.proofs.ReadLaws.{refused_short}
-use Rattle.packet.proofs.reader.reading_refusal.Goals.{else-type_two-via-then-type_two+else-packet-lt-TYPE_TWO_START, else-type_two-via-else-type_two}
-use Rattle.packet.proofs.reader.reading_refusal.Goals as goal
+use Rattle.packet.proofs.reader.check.Goals.{else-type_two-via-then-type_two+else-packet-lt-TYPE_TWO_START, else-type_two-via-else-type_two}
+use Rattle.packet.proofs.reader.check.Goals as goal
 
 -- the last row decides where the others passed
 last_row : (size : ℕ) (p : List ℕ) → is_size size ≡ true → type_one_start ≤ length p → length p ≤ size → access_code (header_of p) ≡ false

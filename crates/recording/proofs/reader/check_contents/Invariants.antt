@@ -1,5 +1,5 @@
 use Rattle.recording.proofs.ReadLaws.{EntriesPassed}
-use Rattle.recording.proofs.reader.contents_refusal.Given as goal
+use Rattle.recording.proofs.reader.check_contents.Given as goal
 
 abbrev pub invariant-loop-i : goal.invariant-loop-i
 invariant-loop-i l = EntriesPassed l.file l.words l.place l.i

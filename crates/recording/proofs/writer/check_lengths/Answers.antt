@@ -4,8 +4,8 @@ use native.Mathlib.Omega.{arith}
 use Rattle.recording.specs.Writer.{given_start, file_length}
 use Rattle.recording.specs.Format.{longest_file}
 use Rattle.recording.proofs.WriteLaws.{entry_cut, bodies_differ, add_up_lem, refused_apart, refused_long, refused_many, refused_room, lengths_taken}
-use Rattle.recording.proofs.writer.lengths_refusal.Goals.{then-entries-ne0-via-then-entries-ne0, then-entries-ne0-via-else-entries-ne0+then-n-gt-MOST_ENTRIES, then-entries-ne0-via-else-entries-ne0+else-n-gt-MOST_ENTRIES+then-given_end-bodies}
-use Rattle.recording.proofs.writer.lengths_refusal.Goals as goal
+use Rattle.recording.proofs.writer.check_lengths.Goals.{then-entries-ne0-via-then-entries-ne0, then-entries-ne0-via-else-entries-ne0+then-n-gt-MOST_ENTRIES, then-entries-ne0-via-else-entries-ne0+else-n-gt-MOST_ENTRIES+then-given_end-bodies}
+use Rattle.recording.proofs.writer.check_lengths.Goals as goal
 
 pub returns-then-entries-ne0 : goal.returns-then-entries-ne0
 returns-then-entries-ne0 c =

@@ -7,7 +7,7 @@ use Rattle.recording.specs.Shape.{entry_place, count_of}
 use Rattle.recording.specs.Format.{head_width}
 use Rattle.recording.proofs.ShapeLaws.{length_lt}
 use Rattle.recording.proofs.ReadLaws.{passed_none, passed_more, passed_lt, passed_wrong, ended_wrong, ended_word, ended_taken}
-use Rattle.recording.proofs.reader.contents_refusal.Goals as goal
+use Rattle.recording.proofs.reader.check_contents.Goals as goal
 
 pub loop-i-init : goal.loop-i-init
 loop-i-init c =
