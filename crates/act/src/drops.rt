@@ -7,7 +7,6 @@ ghost use Rattle.tables.specs.Layout.{relay_of};
 ghost use Rattle.plan.specs.Decided.{CanJudge, CanKnow, path_at};
 ghost use Rattle.act.specs.Acted.{limited_on, dropped_on};
 
-use numbers::PATH_COUNT;
 use plan::Arrived;
 use rules::{RateEntry, Reason, Verdict};
 
@@ -33,8 +32,7 @@ fn limit(packet: &[u8], arrived: Arrived, tables: &mut [u8])
     ensures { tables.new ≡ limited_on packet.now arrived tables.old }
 {
     let destination = packet::parts_of(packet).destination;
-    let place = lookup::path_place(tables, destination, arrived.clock);
-    if place < PATH_COUNT {
+    if let Some(place) = lookup::path_place(tables, destination, arrived.clock) {
         let entry = dropped_entry(tables, place, arrived.clock);
         update::put_rate(tables, place, entry);
     }

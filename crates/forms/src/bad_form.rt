@@ -5,7 +5,6 @@ ghost use Rattle.rules.specs.Arrival.{is_link_proof};
 ghost use Rattle.rules.specs.Tests.{announce_of_another, link_proof_length};
 ghost use Rattle.forms.specs.Form.{form_of};
 
-use super::Form;
 use numbers::{LEAST_LINK_REQUEST, LONGER_LINK_PROOF, SHORTER_LINK_PROOF};
 use rules::Clause;
 
@@ -42,37 +41,37 @@ fn link_proof_length(packet: &[u8]) -> bool
     is_link_proof(packet) && length != SHORTER_LINK_PROOF && length != LONGER_LINK_PROOF
 }
 
-// The first clause that fails, if one does.
+// The first clause that fails. None: a good form.
 #[tactic(auto, using(crate::proofs::FormLaws::form_steps))]
-pub fn form_of(packet: &[u8]) -> Form
+pub fn form_of(packet: &[u8]) -> Option<Clause>
     requires { reads longest_packet packet.now ≡ true }
     ensures { result ≡ form_of packet.now }
 {
     let header = packet[0];
     let length = packet::payload(packet).len();
     if packet::type_two(header) && packet::is_proof(header) {
-        return Form::Bad(Clause::TypeTwoProof);
+        return Some(Clause::TypeTwoProof);
     }
     if packet::type_two(header) && packet::of_kind_link(header) {
-        return Form::Bad(Clause::TypeTwoOfKindLink);
+        return Some(Clause::TypeTwoOfKindLink);
     }
     if packet::is_announce(header) && !packet::of_kind_single(header) {
-        return Form::Bad(Clause::AnnounceNotSingle);
+        return Some(Clause::AnnounceNotSingle);
     }
     if packet::is_announce(header) && length < packet::least_announce(header) {
-        return Form::Bad(Clause::AnnounceTooShort(packet::least_announce(header)));
+        return Some(Clause::AnnounceTooShort(packet::least_announce(header)));
     }
     if announce_of_another(packet) {
-        return Form::Bad(Clause::AnnounceOfAnother);
+        return Some(Clause::AnnounceOfAnother);
     }
     if packet::is_link_request(header) && packet::of_kind_link(header) {
-        return Form::Bad(Clause::RequestOfKindLink);
+        return Some(Clause::RequestOfKindLink);
     }
     if packet::is_link_request(header) && length < LEAST_LINK_REQUEST {
-        return Form::Bad(Clause::RequestTooShort);
+        return Some(Clause::RequestTooShort);
     }
     if link_proof_length(packet) {
-        return Form::Bad(Clause::LinkProofLength);
+        return Some(Clause::LinkProofLength);
     }
-    Form::Good
+    None
 }

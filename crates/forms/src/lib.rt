@@ -6,17 +6,7 @@
 mod announced;
 mod bad_form;
 mod contexts;
-mod joined;
 
 pub use announced::{next_hop_of, path_lifetime};
 pub use bad_form::{form_of, is_link_proof};
 pub use contexts::exempt;
-pub use joined::{both, either};
-use rules::Clause;
-
-// What test 3 finds: a good form, or the first clause that fails.
-#[derive(Clone, Copy)]
-pub enum Form {
-    Good,
-    Bad(Clause),
-}

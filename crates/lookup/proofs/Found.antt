@@ -1,10 +1,13 @@
 -- What the place that a search gave says of the view, for a caller that has the place in hand.
 use Prim.Native.Nat.{ℕ, ◌≤◌, ◌<◌}
+use native.Mathlib.Omega.{arith}
 use mathlib.Core.Bool.{Bool, true, false, false≢true}
 use mathlib.Core.List.{List}
 use mathlib.Core.Path.{◌≡◌, refl, sym, ap, subst, ◌∙◌}
 use lib.Dec.{eqb, ltb}
 use lib.ListN.{get_or, get_or-eq_default}
+use borrow.Author.Tests.{lt-ltb, le-ltb, ltb-true, ltb-false}
+use Rattle.std.specs.Prelude.{Some, None, is_some}
 use Rattle.octets.specs.Choice.{◌then◌otherwise◌}
 use Rattle.octets.proofs.Index.{all_at, first_holds}
 use Rattle.numbers.specs.Numbers.{path_count, link_count, return_count}
@@ -17,6 +20,45 @@ use Rattle.tables.specs.Layout.{record_at, records, records_ok, relay_of, well_f
 use Rattle.tables.proofs.Seen.{record_seen, records_length}
 use Rattle.tables.proofs.Tests.{path_kept}
 use Rattle.tables.proofs.Whole.{formed}
+use Rattle.lookup.specs.Search.{found}
+
+-- ---- what the search answered
+pub found_some : {n place p : ℕ} → Some p ≡ found n place → (p ≡ place) × (p < n)
+unfolding found ◌then◌otherwise◌
+found_some {n} {place} {p} e = go (ltb place n) refl e
+  where
+    go : (b : Bool) → ltb place n ≡ b → Some p ≡ (b then Some place otherwise None) → (p ≡ place) × (p < n)
+    go true q h = let same : p ≡ place = grind arith in (same, omega (arith, same, ltb-true place n q))
+    go false q h = grind arith
+
+pub found_below : {n p : ℕ} (place : ℕ) → Some p ≡ found n place → p < n
+found_below place e = (found_some e).1
+
+pub found_none : {n place : ℕ} → None ≡ found n place → n ≤ place
+unfolding found ◌then◌otherwise◌
+found_none {n} {place} e = go (ltb place n) refl e
+  where
+    go : (b : Bool) → ltb place n ≡ b → None ≡ (b then Some place otherwise None) → n ≤ place
+    go true q h = grind arith
+    go false q h = ltb-false place n q
+
+pub some_found : {n place k : ℕ} → place < n → place ≡ k → Some place ≡ found n k
+unfolding found ◌then◌otherwise◌
+some_found {n} {place} l e = rw (lt-ltb place n l) refl ∙ ap (found n) e
+
+pub none_found : {n k : ℕ} → n ≤ k → None ≡ found n k
+unfolding found ◌then◌otherwise◌
+none_found {n} {k} l = rw (le-ltb k n l) refl
+
+pub found_is : (n place : ℕ) → is_some (found n place) ≡ ltb place n
+unfolding found ◌then◌otherwise◌
+found_is n place = go (ltb place n)
+  where
+    go : (b : Bool) → is_some (b then Some place otherwise None) ≡ b
+    go true = refl
+    go false = refl
+
+pub ruleset answers = (found_some, found_none, found_is)
 
 -- ---- any table
 module _ {A : Type 0} (test : A → Bool) (read : List ℕ → A) where
@@ -38,9 +80,9 @@ module _ {A : Type 0} (test : A → Bool) (read : List ℕ → A) where
         (first_holds (λ k. holds test (get_or (records (slot_of read) at width n t) k empty)) n (subst (λ (k : ℕ). k < n) e l)) in
         marked (record_at at width t i) (ap (holds test) (sym (record_seen (slot_of read) at width n t i empty l)) ∙ there)
 
-    found : i < n → get_or (records (slot_of read) at width n t) i empty ≡ used (read (record_at at width t i))
+    there : i < n → get_or (records (slot_of read) at width n t) i empty ≡ used (read (record_at at width t i))
     unfolding slot_of ◌then◌otherwise◌
-    found l = record_seen (slot_of read) at width n t i empty l ∙ rw (found_marked l)
+    there l = record_seen (slot_of read) at width n t i empty l ∙ rw (found_marked l)
 
     missing : n ≤ i → get_or (records (slot_of read) at width n t) i empty ≡ empty
     missing l =
@@ -60,7 +102,7 @@ module _ (t : List ℕ) (clock : ℕ) where
     unfolding view_at path_place relay_of slot_of path_of
     path_found l =
         ap (λ (k : ℕ). get_or (relay_of t).paths k empty) (sym e)
-        ∙ found (is_live_path clock destination) path_of paths_at path_width path_count t i e l
+        ∙ there (is_live_path clock destination) path_of paths_at path_width path_count t i e l
 
     pub path_missing : path_count ≤ i → (view_at clock (relay_of t)).path destination ≡ empty
     unfolding view_at path_place relay_of slot_of path_of
@@ -79,7 +121,7 @@ module _ (t : List ℕ) (clock : ℕ) where
     unfolding view_at link_place relay_of slot_of link_of
     link_found l =
         ap (λ (k : ℕ). get_or (relay_of t).links k empty) (sym e)
-        ∙ found (is_live_link clock id) link_of links_at link_width link_count t i e l
+        ∙ there (is_live_link clock id) link_of links_at link_width link_count t i e l
 
     pub link_missing : link_count ≤ i → (view_at clock (relay_of t)).link id ≡ empty
     unfolding view_at link_place relay_of slot_of link_of
@@ -92,7 +134,7 @@ module _ (t : List ℕ) (clock : ℕ) where
     unfolding view_at return_place relay_of slot_of return_of
     return_found l =
         ap (λ (k : ℕ). get_or (relay_of t).returns.slots k empty) (sym e)
-        ∙ found (is_live_return clock key) return_of returns_at return_width return_count t i e l
+        ∙ there (is_live_return clock key) return_of returns_at return_width return_count t i e l
 
     pub return_missing : return_count ≤ i → (view_at clock (relay_of t)).return key ≡ empty
     unfolding view_at return_place relay_of slot_of return_of

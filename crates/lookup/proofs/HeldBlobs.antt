@@ -61,7 +61,7 @@ unfolding last_word
 last_of x wide = let tail : length x - word_width ≡ last_word_at = omega (arith, wide) in ap (λ (k : ℕ). word (part x k word_width)) (sym tail)
 
 -- ---- the greatest emission
-greatest_is_max : (x y : ℕ) → greatest x y ≡ max x y
+pub greatest_is_max : (x y : ℕ) → greatest x y ≡ max x y
 unfolding greatest ◌then◌otherwise◌
 greatest_is_max x y = go (ltb x y) refl
   where

@@ -3,9 +3,10 @@ use Prim.Native.Nat.{ℕ, zero, suc, ◌+◌, ◌-◌, ◌*◌, ◌≤◌, ◌<�
 use native.Mathlib.Nat.{add-zero, add-suc, mul-add, mul_assoc}
 use native.Mathlib.Numerals.{add-one}
 use native.Mathlib.Omega.{arith}
-use mathlib.Core.Bool.{Bool, true, false, not}
+use mathlib.Core.Bool.{Bool, true, false, cond, not}
 use mathlib.Core.List.{List}
 use mathlib.Core.Path.{◌≡◌, refl, sym, ap, subst, ◌∙◌}
+use Rattle.std.specs.Prelude.{Option, Some, None}
 use lib.Dec.{eqb, ltb}
 use lib.ListN.{length, take, drop, get_or, length-take, length-drop}
 use borrow.Author.Tests.{eqb-false, not-true, not-false, lt-ltb, le-ltb, ltb-true, ltb-false}
@@ -24,7 +25,8 @@ use Rattle.tables.specs.Records.{slot_of}
 use Rattle.tables.specs.Layout.{record_at, records}
 use Rattle.tables.proofs.Seen.{lowest_seen, free_seen}
 use Rattle.tables.proofs.Chunks.{is_part}
-use Rattle.lookup.specs.Search.{last_word, none_is, is_used, has_key, is_live_of, lowest_record}
+use Rattle.lookup.specs.Search.{last_word, none_is, is_used, has_key, is_live_of, lowest_record, found}
+use Rattle.lookup.proofs.Found.{found_some, found_none, some_found, none_found}
 
 -- ---- within a part
 pub lowest_of_part : (test : List ℕ → Bool) (at width n : ℕ) (t : List ℕ)
@@ -41,6 +43,15 @@ pub seen_in : (test : List ℕ → Bool) (at width n : ℕ) (t : List ℕ) {xs :
 unfolding lowest_record
 seen_in test at width n t e bytes =
     e ∙ ap (λ (ys : List ℕ). first (λ i. test (record_at 0 width ys i)) n) bytes ∙ lowest_of_part test at width n t
+
+-- what a chain that ends in `position` gives
+pub as_found : (n : ℕ) {r : Option ℕ} {m k : ℕ} → r ≡ cond (ltb m n) (Some m) None → m ≡ k → r ≡ found n k
+unfolding found ◌then◌otherwise◌
+as_found n {r} {m} e q = e ∙ go (ltb m n) ∙ ap (found n) q
+  where
+    go : (b : Bool) → cond b (Some m) None ≡ (b then Some m otherwise None)
+    go true = refl
+    go false = refl
 
 -- ---- one record after the other
 module _ (test : List ℕ → Bool) (at width : ℕ) (t : List ℕ) where
@@ -101,10 +112,19 @@ module _ (test four : List ℕ → Bool) (width : ℕ) (t : List ℕ) (none : (j
       (sym (none m (h m (omega arith))) ∙ lowest_of_part test from width 4 t) (omega arith)
       ∙ sym more
 
+  module _ (at n fours : ℕ) (tables : List ℕ) (bytes : t ≡ part tables at (width * n)) (count : n ≡ 4 * fours) where
+    pub all_passed : fours ≤ first (λ g. four (record_at 0 (width * 4) t g)) fours → lowest_record test at width n tables ≡ n
+    all_passed l =
+        let front = fours_passed fours (λ j q. first_before (λ g. four (record_at 0 (width * 4) t g)) fours j (omega arith)) in
+        let all : n ≡ fours * 4 = omega arith in
+        sym (lowest_of_part test at width n tables)
+        ∙ ap (λ (ys : List ℕ). lowest_record test 0 width n ys) (sym bytes)
+        ∙ ap (λ (k : ℕ). lowest_record test 0 width k t) all ∙ front ∙ sym all
+
   -- m fours of the n records, behind which the first that passes is k
   module _ (at n fours : ℕ) (tables : List ℕ) (bytes : t ≡ part tables at (width * n)) (long : length t ≡ width * n) (count : n ≡ 4 * fours)
       {m : ℕ} (passed : m ≡ first (λ g. four (record_at 0 (width * 4) t g)) fours) where
-    pub no_more : m * 4 ≤ n
+    no_more : m * 4 ≤ n
     no_more = omega (arith, passed, first_le (λ g. four (record_at 0 (width * 4) t g)) fours)
 
     behind : length t - width * (m * 4) ≡ width * (n - m * 4)
@@ -117,7 +137,7 @@ module _ (test four : List ℕ → Bool) (width : ℕ) (t : List ℕ) (none : (j
         let rest : List ℕ = drop (width * (m * 4)) t in
         omega (arith, length-take (length t - width * (m * 4)) rest, length-drop (width * (m * 4)) t, behind)
 
-    pub found_behind : {k : ℕ}
+    found_behind : {k : ℕ}
         → k ≡ first (λ i. test (record_at 0 width (take (length t - width * (m * 4)) (drop (width * (m * 4)) t)) i)) (n - m * 4)
         → m * 4 + k ≡ lowest_record test at width n tables
     found_behind e =
@@ -130,6 +150,22 @@ module _ (test four : List ℕ → Bool) (width : ℕ) (t : List ℕ) (none : (j
         ∙ ap (λ (k : ℕ). lowest_record test 0 width k t) all
         ∙ ap (λ (ys : List ℕ). lowest_record test 0 width n ys) bytes
         ∙ lowest_of_part test at width n tables
+
+    -- what the search of those behind answers
+    abbrev answered : Option ℕ
+    answered =
+        let xs : List ℕ = take (length t - width * (m * 4)) (drop (width * (m * 4)) t) in
+        found (n - m * 4) (first (λ i. test (record_at 0 width xs i)) (n - m * 4))
+
+    pub one_behind : {k : ℕ} → Some k ≡ answered → Some (m * 4 + k) ≡ found n (lowest_record test at width n tables)
+    one_behind e = let (same, l) = found_some e in some_found (omega arith) (found_behind same)
+
+    pub none_behind : None ≡ answered → None ≡ found n (lowest_record test at width n tables)
+    none_behind e =
+        let xs : List ℕ = take (length t - width * (m * 4)) (drop (width * (m * 4)) t) in
+        let last : n - m * 4 ≡ first (λ i. test (record_at 0 width xs i)) (n - m * 4) =
+        omega (arith, found_none e, first_le (λ i. test (record_at 0 width xs i)) (n - m * 4)) in
+        none_found (omega (arith, no_more, found_behind last))
 
 pub lowest_cong : (p q : List ℕ → Bool) (at width n : ℕ) (t : List ℕ) → ((b : List ℕ) → p b ≡ q b)
     → lowest_record p at width n t ≡ lowest_record q at width n t

@@ -68,29 +68,29 @@ module _ (t : List ℕ) where
 
   -- ---- the live record of a key
   module _ (clock : ℕ) where
-    pub path_lowest : (destination : List ℕ) → length destination ≡ address_width → {i : ℕ}
-        → i ≡ lowest_record (is_live_of destination path_expiry_at clock) paths_at path_width path_count t → i ≡ path_place clock (relay_of t) destination
+    pub path_lowest : (destination : List ℕ) → length destination ≡ address_width
+        → lowest_record (is_live_of destination path_expiry_at clock) paths_at path_width path_count t ≡ path_place clock (relay_of t) destination
     unfolding path_place relay_of is_live_path slot_of path_of
-    path_lowest destination wide e =
-        e ∙ lowest_live (is_live_path clock destination) path_of paths_at path_width path_count t address_width destination path_expiry_at clock wide (λ b. refl)
+    path_lowest destination wide =
+        lowest_live (is_live_path clock destination) path_of paths_at path_width path_count t address_width destination path_expiry_at clock wide (λ b. refl)
 
-    pub link_lowest : (id : List ℕ) → length id ≡ address_width → {i : ℕ}
-        → i ≡ lowest_record (is_live_of id link_expiry_at clock) links_at link_width link_count t → i ≡ link_place clock (relay_of t) id
+    pub link_lowest : (id : List ℕ) → length id ≡ address_width
+        → lowest_record (is_live_of id link_expiry_at clock) links_at link_width link_count t ≡ link_place clock (relay_of t) id
     unfolding link_place relay_of is_live_link slot_of link_of
-    link_lowest id wide e =
-        e ∙ lowest_live (is_live_link clock id) link_of links_at link_width link_count t address_width id link_expiry_at clock wide (λ b. refl)
+    link_lowest id wide =
+        lowest_live (is_live_link clock id) link_of links_at link_width link_count t address_width id link_expiry_at clock wide (λ b. refl)
 
-    pub return_lowest : (key : List ℕ) → length key ≡ address_width → {i : ℕ}
-        → i ≡ lowest_record (is_live_of key return_expiry_at clock) returns_at return_width return_count t → i ≡ return_place clock (relay_of t) key
+    pub return_lowest : (key : List ℕ) → length key ≡ address_width
+        → lowest_record (is_live_of key return_expiry_at clock) returns_at return_width return_count t ≡ return_place clock (relay_of t) key
     unfolding return_place relay_of is_live_return slot_of return_of
-    return_lowest key wide e =
-        e ∙ lowest_live (is_live_return clock key) return_of returns_at return_width return_count t address_width key return_expiry_at clock wide (λ b. refl)
+    return_lowest key wide =
+        lowest_live (is_live_return clock key) return_of returns_at return_width return_count t address_width key return_expiry_at clock wide (λ b. refl)
 
-    pub hash_lowest : (hash : List ℕ) → length hash ≡ digest_width → {i : ℕ}
-        → i ≡ lowest_record (is_live_of hash hash_expiry_at clock) hashes_at hash_width hash_count t → i ≡ hash_place clock (relay_of t) hash
+    pub hash_lowest : (hash : List ℕ) → length hash ≡ digest_width
+        → lowest_record (is_live_of hash hash_expiry_at clock) hashes_at hash_width hash_count t ≡ hash_place clock (relay_of t) hash
     unfolding hash_place relay_of is_live_hash slot_of hash_of
-    hash_lowest hash wide e =
-        e ∙ lowest_live (is_live_hash clock hash) hash_of hashes_at hash_width hash_count t digest_width hash hash_expiry_at clock wide (λ b. refl)
+    hash_lowest hash wide =
+        lowest_live (is_live_hash clock hash) hash_of hashes_at hash_width hash_count t digest_width hash hash_expiry_at clock wide (λ b. refl)
 
     -- ---- the lowest place empty or expired
     pub path_free : lowest_record (λ b. not (is_live path_expiry_at clock b)) paths_at path_width path_count t ≡ free_path clock (relay_of t)

@@ -1,8 +1,8 @@
 -- The tests of a record's bytes that a search makes, and the lowest record that passes one.
 -- For the contracts of helpers: not part of what a reader must believe.
-use Rattle.std.specs.Prelude.{ℕ, ◌+◌, ◌-◌, ◌*◌, Bool, not, List, eqb, length, get_or}
+use Rattle.std.specs.Prelude.{ℕ, ◌+◌, ◌-◌, ◌*◌, Bool, not, Option, Some, None, List, eqb, ltb, length, get_or}
 use Rattle.octets.specs.Index.{◌and◌, all_below, first}
-use Rattle.octets.specs.Choice.{same}
+use Rattle.octets.specs.Choice.{◌then◌otherwise◌, same}
 use Rattle.octets.specs.Part.{part}
 use Rattle.octets.specs.BigEndian.{number, word, word_width}
 use Rattle.numbers.specs.Numbers.{live}
@@ -36,3 +36,7 @@ is_live_of key expiry_at clock b = has_key key b and live clock (number (part b 
 -- the lowest of n records, each `width` wide, from `at` on, that passes the test, or n
 unfoldable pub lowest_record : (List ℕ → Bool) → ℕ → ℕ → ℕ → List ℕ → ℕ
 lowest_record test at width n t = first (λ i. test (record_at at width t i)) n
+
+-- the place at which a search of n records ended, if it found one: without, it ends at n
+unfoldable pub found : ℕ → ℕ → Option ℕ
+found n place = ltb place n then Some place otherwise None

@@ -1,8 +1,10 @@
 // The remembered hashes.
 ghost use Rattle.std.specs.Prelude.{◌≡◌, length};
+ghost use Rattle.numbers.specs.Numbers.{hash_count};
 ghost use Rattle.rules.specs.View.{hash_place};
 ghost use Rattle.tables.specs.Places.{table_size};
 ghost use Rattle.tables.specs.Layout.{relay_of};
+ghost use Rattle.lookup.specs.Search.{found};
 
 use super::search::{Table, live_place};
 use numbers::HASH_COUNT;
@@ -16,10 +18,10 @@ const HASHES: Table = Table {
     expiry: HASH_EXPIRY_AT,
 };
 
-// The lowest place of a hash that is remembered, or 1,024.
-pub fn hash_place(tables: &[u8], hash: [u8; 32], clock: u64) -> usize
+// The lowest place of a hash that is remembered.
+pub fn hash_place(tables: &[u8], hash: [u8; 32], clock: u64) -> Option<usize>
     requires { length tables.now ≡ table_size }
-    ensures { result ≡ hash_place clock (relay_of tables.now) hash }
+    ensures { result ≡ found hash_count (hash_place clock (relay_of tables.now) hash) }
 {
     live_place(tables, HASHES, &hash, clock)
 }

@@ -31,13 +31,6 @@ use rules::RateSettings;
 pub use search::{is_live, record_at};
 use tables::places::{CLOCK_AT, GRACE_AT, PENALTY_AT, SETTING_WIDTH, TARGET_AT};
 
-// A time, or none: then it is 0.
-#[derive(Clone, Copy)]
-pub struct Latest {
-    pub there: bool,
-    pub time: u64,
-}
-
 pub fn own_address(tables: &[u8]) -> [u8; 16]
     requires { length tables.now ≡ table_size }
     ensures { result ≡ (relay_of tables.now).own }

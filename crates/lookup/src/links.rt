@@ -5,6 +5,7 @@ ghost use Rattle.rules.specs.View.{link_place, free_link};
 ghost use Rattle.tables.specs.Places.{table_size, links_at, link_width};
 ghost use Rattle.tables.specs.Records.{link_of};
 ghost use Rattle.tables.specs.Layout.{record_at, relay_of};
+ghost use Rattle.lookup.specs.Search.{found};
 
 use super::search::{Table, free_place, live_place, record_at};
 use numbers::LINK_COUNT;
@@ -22,18 +23,18 @@ const LINKS: Table = Table {
     expiry: LINK_EXPIRY_AT,
 };
 
-// The lowest live link of an id, or 64.
-pub fn link_place(tables: &[u8], id: [u8; 16], clock: u64) -> usize
+// The lowest live link of an id.
+pub fn link_place(tables: &[u8], id: [u8; 16], clock: u64) -> Option<usize>
     requires { length tables.now ≡ table_size }
-    ensures { result ≡ link_place clock (relay_of tables.now) id }
+    ensures { result ≡ found link_count (link_place clock (relay_of tables.now) id) }
 {
     live_place(tables, LINKS, &id, clock)
 }
 
-// The lowest place that is empty or expired, or 64.
-pub fn free_link(tables: &[u8], clock: u64) -> usize
+// The lowest place that is empty or expired.
+pub fn free_link(tables: &[u8], clock: u64) -> Option<usize>
     requires { length tables.now ≡ table_size }
-    ensures { result ≡ free_link clock (relay_of tables.now) }
+    ensures { result ≡ found link_count (free_link clock (relay_of tables.now)) }
 {
     free_place(tables, LINKS, clock)
 }

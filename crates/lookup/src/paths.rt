@@ -6,6 +6,7 @@ ghost use Rattle.rules.specs.Blobs.{held, is_among, greatest_emission};
 ghost use Rattle.tables.specs.Places.{table_size, paths_at, path_width};
 ghost use Rattle.tables.specs.Records.{path_of};
 ghost use Rattle.tables.specs.Layout.{record_at, relay_of};
+ghost use Rattle.lookup.specs.Search.{found};
 
 use super::blobs::{greatest_of, has_blob};
 use super::search::{Table, free_place, live_place, record_at};
@@ -25,18 +26,18 @@ const PATHS: Table = Table {
     expiry: PATH_EXPIRY_AT,
 };
 
-// The lowest live path to a destination, or 64.
-pub fn path_place(tables: &[u8], destination: [u8; 16], clock: u64) -> usize
+// The lowest live path to a destination.
+pub fn path_place(tables: &[u8], destination: [u8; 16], clock: u64) -> Option<usize>
     requires { length tables.now ≡ table_size }
-    ensures { result ≡ path_place clock (relay_of tables.now) destination }
+    ensures { result ≡ found path_count (path_place clock (relay_of tables.now) destination) }
 {
     live_place(tables, PATHS, &destination, clock)
 }
 
-// The lowest place that is empty or expired, or 64.
-pub fn free_path(tables: &[u8], clock: u64) -> usize
+// The lowest place that is empty or expired.
+pub fn free_path(tables: &[u8], clock: u64) -> Option<usize>
     requires { length tables.now ≡ table_size }
-    ensures { result ≡ free_path clock (relay_of tables.now) }
+    ensures { result ≡ found path_count (free_path clock (relay_of tables.now)) }
 {
     free_place(tables, PATHS, clock)
 }

@@ -5,6 +5,7 @@ ghost use Rattle.rules.specs.View.{return_place};
 ghost use Rattle.tables.specs.Places.{table_size, returns_at, return_width};
 ghost use Rattle.tables.specs.Records.{return_of};
 ghost use Rattle.tables.specs.Layout.{record_at, relay_of};
+ghost use Rattle.lookup.specs.Search.{found};
 
 use super::search::{Table, live_place, record_at};
 use numbers::RETURN_COUNT;
@@ -18,10 +19,10 @@ const RETURNS: Table = Table {
     expiry: RETURN_EXPIRY_AT,
 };
 
-// The lowest live return record of a key, or 512.
-pub fn return_place(tables: &[u8], key: [u8; 16], clock: u64) -> usize
+// The lowest live return record of a key.
+pub fn return_place(tables: &[u8], key: [u8; 16], clock: u64) -> Option<usize>
     requires { length tables.now ≡ table_size }
-    ensures { result ≡ return_place clock (relay_of tables.now) key }
+    ensures { result ≡ found return_count (return_place clock (relay_of tables.now) key) }
 {
     live_place(tables, RETURNS, &key, clock)
 }

@@ -5,7 +5,7 @@ ghost use Rattle.octets.specs.Part.{part};
 ghost use Rattle.octets.specs.BigEndian.{word_width};
 ghost use Rattle.tables.specs.Places.{time_width};
 ghost use Rattle.tables.specs.Layout.{record_at};
-ghost use Rattle.lookup.specs.Search.{last_word, none_is, has_key, is_live, is_live_of, lowest_record};
+ghost use Rattle.lookup.specs.Search.{last_word, none_is, has_key, is_live, is_live_of, lowest_record, found};
 
 // Where the records of a table stand, how wide and how many they are, and where in one its expiry stands.
 #[derive(Clone, Copy)]
@@ -74,36 +74,35 @@ fn none_of_four(four: &[u8], at: usize, width: usize, x: u64) -> bool
         && octets::word_at(four, at + width * 3) != x
 }
 
-// The lowest place of a live record of the key, or the count. The fours of which none has the key's last eight bytes are
+// The lowest place of a live record of the key. The fours of which none has the key's last eight bytes are
 // passed first: four records a step, for a step costs more than a comparison.
-pub fn live_place(tables: &[u8], table: Table, key: &[u8], clock: u64) -> usize
+pub fn live_place(tables: &[u8], table: Table, key: &[u8], clock: u64) -> Option<usize>
     requires { (table.at + table.width * table.count ≤ length tables.now) × (1 + length key.now ≤ table.width)
         × (table.expiry + time_width ≤ table.width) × (word_width ≤ length key.now)
         × (4 ≤ table.count) × (table.count ≡ 4 * (table.count / 4)) }
-    ensures { result ≡ lowest_record (is_live_of key.now table.expiry clock) table.at table.width table.count
-        tables.now }
+    ensures { result ≡ found table.count
+        (lowest_record (is_live_of key.now table.expiry clock) table.at table.width table.count tables.now) }
 {
     let tail = key.len() - octets::WORD_WIDTH;
     let last = octets::word_at(key, tail);
     let records = records_of(tables, table);
     let fours = records
         .chunks_exact(table.width * 4)
-        .position(|four| !none_of_four(four, 1 + tail, table.width, last));
-    let passed = fours.unwrap_or(table.count / 4) * 4;
+        .position(|four| !none_of_four(four, 1 + tail, table.width, last))?;
+    let passed = fours * 4;
     let place = records[table.width * passed..]
         .chunks_exact(table.width)
-        .position(|b| is_live_of(b, key, last, table.expiry, clock));
-    passed + place.unwrap_or(table.count - passed)
+        .position(|b| is_live_of(b, key, last, table.expiry, clock))?;
+    Some(passed + place)
 }
 
-// The lowest place that is empty or expired, or the count.
-pub fn free_place(tables: &[u8], table: Table, clock: u64) -> usize
+// The lowest place that is empty or expired.
+pub fn free_place(tables: &[u8], table: Table, clock: u64) -> Option<usize>
     requires { (table.at + table.width * table.count ≤ length tables.now) × (table.expiry + time_width ≤ table.width) }
-    ensures { result ≡ lowest_record (λ b. not (is_live table.expiry clock b)) table.at table.width table.count
-        tables.now }
+    ensures { result ≡ found table.count
+        (lowest_record (λ b. not (is_live table.expiry clock b)) table.at table.width table.count tables.now) }
 {
-    let place = records_of(tables, table)
+    records_of(tables, table)
         .chunks_exact(table.width)
-        .position(|b| !is_live(b, table.expiry, clock));
-    place.unwrap_or(table.count)
+        .position(|b| !is_live(b, table.expiry, clock))
 }

@@ -1,6 +1,7 @@
 -- An announce: tests 9, 10, 11, 15 and 13 are all that can hold of it.
 use Prim.Native.Nat.{ℕ, ◌≤◌, ◌<◌}
 use mathlib.Core.Bool.{Bool, true, false, not}
+use Rattle.std.specs.Prelude.{Some, None}
 use mathlib.Core.Path.{◌≡◌, refl, sym, ap, ◌∙◌}
 use mathlib.Core.List.{List}
 use Rattle.octets.specs.Index.{◌and◌}
@@ -26,7 +27,8 @@ use Rattle.rules.proofs.Ranges.{path_counted, path_rate}
 use Rattle.outgoing.proofs.Steps.{reading}
 use Rattle.tables.specs.Layout.{rate_settings_in, relay_of, well_formed}
 use Rattle.tables.proofs.Whole.{formed}
-use Rattle.lookup.proofs.Found.{path_found, path_missing, path_ok_lem}
+use Rattle.lookup.specs.Search.{found}
+use Rattle.lookup.proofs.Found.{found_some, found_none, path_found, path_missing, path_ok_lem}
 use Rattle.plan.proofs.Judged.{judging}
 use Rattle.forms.proofs.KindLaws.{announce_long}
 use Rattle.plan.specs.Decided.{CanKnow, path_at, decided_way, decided, onward}
@@ -39,6 +41,10 @@ use Rattle.plan.proofs.KindLaws.{decided_test, decided_first}
 pub can_know : (t : List ℕ) (clock : ℕ) (to : List ℕ) (i : ℕ) → i ≡ path_place clock (relay_of t) to → well_formed t ≡ true → i < path_count → CanKnow t i
 unfolding relay_of rate_settings_in
 can_know t clock to i e h l = record { within = l; fine = path_ok_lem t clock to i e h l; sound = (formed t h).rate }
+
+pub found_known : (t : List ℕ) (clock : ℕ) (to : List ℕ) {i : ℕ} → Some i ≡ found path_count (path_place clock (relay_of t) to) → well_formed t ≡ true
+    → CanKnow t i
+found_known t clock to {i} answer h = let (e, l) = found_some answer in can_know t clock to i e h l
 
 -- .. counts its blobs, and keeps the rate rule's bounds
 pub few_blobs : (t : List ℕ) (i : ℕ) → CanKnow t i → (path_at t i).blobs.count ≤ blob_limit
@@ -92,16 +98,17 @@ module _ (a : Arrival) (is : is_announce (header a) ≡ true) where
     unfolding known_path no_room is_there announced_place ◌then◌otherwise◌
     announce_known e p there = sym (announce_onward r (used p) there ∙ rw e)
 
--- ---- on tables, where the search for the path gave place i
-module _ (t : List ℕ) (a : Arrival) (is : is_announce (header a) ≡ true) (signed : a.signed ≡ true)
-    {i : ℕ} (e : i ≡ path_place a.clock (relay_of t) (destination a)) where
-  pub announce_at : i < path_count → known_path (relay_of t) a (path_at t i) i ≡ onward (relay_of t) a
-  announce_at l =
+-- ---- on tables, by what the search for the path answered
+module _ (t : List ℕ) (a : Arrival) (is : is_announce (header a) ≡ true) (signed : a.signed ≡ true) where
+  pub announce_at : {i : ℕ} → Some i ≡ found path_count (path_place a.clock (relay_of t) (destination a))
+      → known_path (relay_of t) a (path_at t i) i ≡ onward (relay_of t) a
+  announce_at {i} found =
+      let (e, l) = found_some found in
       ap (known_path (relay_of t) a (path_at t i)) e
       ∙ announce_known a is (relay_of t) signed (path_at t i) (path_found t a.clock (destination a) i e l)
 
-  pub announce_nowhere : path_count ≤ i → new_path a.clock (relay_of t) ≡ onward (relay_of t) a
-  announce_nowhere l = announce_new a is (relay_of t) signed (path_missing t a.clock (destination a) i e l)
+  pub announce_nowhere : None ≡ found path_count (path_place a.clock (relay_of t) (destination a)) → new_path a.clock (relay_of t) ≡ onward (relay_of t) a
+  announce_nowhere none = announce_new a is (relay_of t) signed (path_missing t a.clock (destination a) _ refl (found_none none))
 
 -- ---- the tests of a known path, as the code makes them: none where the announce revives it
 unless : {A : Type 0} (b t u w : Bool) (x y z rest : A)
@@ -122,4 +129,4 @@ known_clauses r a p place = unless _ _ _ _ _ _ _ _
 
 pub ruleset known_steps = (known_clauses, knowing)
 
-pub ruleset announce_steps = (announce_unsigned, announce_at, announce_nowhere, can_know, announce_long, judging)
+pub ruleset announce_steps = (announce_unsigned, announce_at, announce_nowhere, found_known, announce_long, judging)

@@ -24,6 +24,7 @@ use Rattle.octets.proofs.Listed.{NoneHolds}
 use Rattle.rules.proofs.Passed.{stops}
 use Rattle.outgoing.proofs.Steps.{reading}
 use Rattle.forms.proofs.FormLaws.{form_bad, form_good}
+use Rattle.lookup.proofs.Found.{answers}
 use Rattle.plan.proofs.ContextLaws.{used_own}
 use Rattle.plan.proofs.MarkedLaws.{live_clauses}
 use Rattle.plan.specs.First.{early, first_tests}
@@ -102,4 +103,4 @@ pub first_clauses : (v : View) (a : Arrival) → first_tests v a
 unfolding first_tests first_of valued early early_tests
 first_clauses v a = refl
 
-pub ruleset first_steps = (ours_clauses, live_clauses, duplicate_clauses, own_clauses, here_clauses, first_clauses, form_bad, form_good, used_own, reading)
+pub ruleset first_steps = (ours_clauses, live_clauses, duplicate_clauses, own_clauses, here_clauses, first_clauses, form_bad, form_good, used_own, reading, answers)

@@ -1,6 +1,7 @@
 -- Packets of kind link: tests 6, 7, 8, 9, 12 and 16 are all that can hold of them.
-use Prim.Native.Nat.{ℕ, ◌≤◌, ◌<◌}
+use Prim.Native.Nat.{ℕ}
 use mathlib.Core.Bool.{Bool, true, false, not}
+use Rattle.std.specs.Prelude.{Some, None}
 use mathlib.Core.Path.{◌≡◌, refl, sym, ap, ◌∙◌}
 use mathlib.Core.List.{List}
 use lib.Dec.{ltb}
@@ -23,7 +24,8 @@ use Rattle.rules.specs.declared.Reason.TheVariants.{NoWayOn, AlreadyKnown, Wrong
 use Rattle.rules.proofs.Lengths.{carried_length}
 use Rattle.numbers.specs.Numbers.{link_count}
 use Rattle.tables.specs.Layout.{relay_of}
-use Rattle.lookup.proofs.Found.{link_found, link_missing}
+use Rattle.lookup.specs.Search.{found}
+use Rattle.lookup.proofs.Found.{found_some, found_below, found_none, link_found, link_missing}
 use Rattle.plan.proofs.Judged.{judging}
 use Rattle.plan.specs.Decided.{link_at, decided_way, decided, onward}
 use Rattle.plan.specs.Kinds.{leaving, carried, proving, carrying}
@@ -95,21 +97,23 @@ module _ (a : Arrival) (good : bad_form a.bytes ≡ false) (announce : is_announ
           go true p false q true s = sym (along l (way p) ∙ rw (other, q, s, p))
           go true p false q false s = sym (along l (way p) ∙ rw (other, q, s, p))
 
--- ---- on tables, where the search for the link gave place i
+-- ---- on tables, by what the search for the link answered
 module _ (t : List ℕ) (a : Arrival) (good : bad_form a.bytes ≡ false)
-    (announce : is_announce (header a) ≡ false) (kind : of_kind_link (header a) ≡ true)
-    {i : ℕ} (e : i ≡ link_place a.clock (relay_of t) (destination a)) where
-  pub link_nowhere : link_count ≤ i → Drop (NoWayOn NoLink) ≡ onward (relay_of t) a
-  link_nowhere l = link_none a good announce kind (relay_of t) (link_missing t a.clock (destination a) i e l)
+    (announce : is_announce (header a) ≡ false) (kind : of_kind_link (header a) ≡ true) where
+  pub link_nowhere : None ≡ found link_count (link_place a.clock (relay_of t) (destination a)) → Drop (NoWayOn NoLink) ≡ onward (relay_of t) a
+  link_nowhere none = link_none a good announce kind (relay_of t) (link_missing t a.clock (destination a) _ refl (found_none none))
 
-  module _ (l : i < link_count) {link : Link} (read : link ≡ link_at t i) where
-    found : (view_at a.clock (relay_of t)).link (destination a) ≡ used link
-    found = link_found t a.clock (destination a) i e l ∙ ap used (sym read)
+  module _ {i : ℕ} (answer : Some i ≡ found link_count (link_place a.clock (relay_of t) (destination a))) {link : Link} (read : link ≡ link_at t i) where
+    abbrev at : i ≡ link_place a.clock (relay_of t) (destination a)
+    at = (found_some answer).0
+
+    there : (view_at a.clock (relay_of t)).link (destination a) ≡ used link
+    there = link_found t a.clock (destination a) i at (found_below _ answer) ∙ ap used (sym read)
 
     pub proof_at : is_link_proof a.bytes ≡ true → proving (relay_of t) a link i ≡ onward (relay_of t) a
-    proof_at is = ap (proving (relay_of t) a link) e ∙ link_proof a good announce kind (relay_of t) link found is
+    proof_at is = ap (proving (relay_of t) a link) at ∙ link_proof a good announce kind (relay_of t) link there is
 
     pub other_at : is_link_proof a.bytes ≡ false → carrying (relay_of t) a link i ≡ onward (relay_of t) a
-    other_at other = ap (carrying (relay_of t) a link) e ∙ link_other a good announce kind (relay_of t) link found other
+    other_at other = ap (carrying (relay_of t) a link) at ∙ link_other a good announce kind (relay_of t) link there other
 
-pub ruleset link_steps = (link_nowhere, proof_at, other_at, judging)
+pub ruleset link_steps = (link_nowhere, proof_at, other_at, found_below, judging)

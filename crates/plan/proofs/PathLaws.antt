@@ -1,7 +1,9 @@
 -- Data and link requests: tests 6, 7, 12, 16 and 13 are all that can hold of them.
-use Prim.Native.Nat.{ℕ, ◌+◌, ◌*◌, ◌≤◌, ◌<◌}
+use Prim.Native.Nat.{ℕ, ◌+◌, ◌*◌}
 use native.Mathlib.Omega.{arith}
-use mathlib.Core.Bool.{true, false, not, false≢true}
+use mathlib.Core.Bool.{Bool, true, false, not}
+use borrow.Author.Tests.{ltb-true, ltb-false}
+use Rattle.std.specs.Prelude.{Some, None, is_some}
 use mathlib.Core.Path.{◌≡◌, refl, sym, ap, ◌∙◌}
 use mathlib.Core.List.{List}
 use lib.Dec.{ltb}
@@ -29,10 +31,10 @@ use Rattle.tables.specs.Places.{address_width, paths_at, path_width}
 use Rattle.tables.specs.Fields.{path_next_hop_at}
 use Rattle.tables.specs.Records.{path_of}
 use Rattle.lookup.specs.Expired.{latest_of}
-use Rattle.lookup.specs.declared.Latest.{Latest}
+use Rattle.lookup.specs.Search.{found}
 use Rattle.outgoing.specs.Leaving.{path_length}
 use Rattle.outgoing.proofs.LeavingLaws.{path_length_lem}
-use Rattle.lookup.proofs.Found.{path_found, path_missing, link_found, link_missing}
+use Rattle.lookup.proofs.Found.{found_some, found_below, found_none, found_is, path_found, path_missing, link_found, link_missing}
 use Rattle.plan.proofs.Judged.{judging}
 use Rattle.plan.specs.Decided.{CanRead, path_at, decided_way, decided, onward}
 use Rattle.plan.specs.Kinds.{leaving, leaving_by, linking, requesting}
@@ -99,56 +101,61 @@ module _ (a : Arrival) (announce : is_announce (header a) ≡ false) (link : of_
         unfolding requesting linking leaving decided_way ◌then◌otherwise◌ ◌and◌
         path_request other = sym (path_onward ∙ rw (request_left (header a) other announce proof, other, long))
 
--- ---- on tables, where the search for the path gave place i
+-- ---- on tables, by what the search for the path answered
 module _ (t : List ℕ) (a : Arrival) (announce : is_announce (header a) ≡ false) (link : of_kind_link (header a) ≡ false)
-    (proof : is_proof (header a) ≡ false) (two : type_two (header a) ≡ true) (read : CanRead a.bytes t)
-    {i : ℕ} (e : i ≡ path_place a.clock (relay_of t) (destination a)) where
-  pub path_nowhere : path_count ≤ i → Drop (NoWayOn (no_path (expired_path a.clock (relay_of t) (destination a)))) ≡ onward (relay_of t) a
-  path_nowhere l = path_none a announce link proof (relay_of t) two (path_missing t a.clock (destination a) i e l)
+    (proof : is_proof (header a) ≡ false) (two : type_two (header a) ≡ true) (read : CanRead a.bytes t) where
+  pub path_nowhere : None ≡ found path_count (path_place a.clock (relay_of t) (destination a))
+      → Drop (NoWayOn (no_path (expired_path a.clock (relay_of t) (destination a)))) ≡ onward (relay_of t) a
+  path_nowhere none = path_none a announce link proof (relay_of t) two (path_missing t a.clock (destination a) _ refl (found_none none))
 
-  module _ (l : i < path_count) where
+  module _ {i : ℕ} (answer : Some i ≡ found path_count (path_place a.clock (relay_of t) (destination a))) where
+    abbrev at : i ≡ path_place a.clock (relay_of t) (destination a)
+    at = (found_some answer).0
+
     there : (view_at a.clock (relay_of t)).path (destination a) ≡ used (path_at t i)
-    there = path_found t a.clock (destination a) i e l
+    there = path_found t a.clock (destination a) i at (found_below _ answer)
 
     -- how long it is that leaves by the path: its next hop is sixteen bytes
     leaves_long : length (path_packet (path_at t i).hops (path_at t i).next_hop a.bytes) ≡ path_length (path_at t i).hops a.bytes
     unfolding path_of
     leaves_long =
-        let wide : length (record_at paths_at path_width t i) ≡ path_width = part_length t (paths_at + path_width * i) path_width (omega (arith, read.size, l)) in
+        let wide : length (record_at paths_at path_width t i) ≡ path_width = part_length t (paths_at + path_width * i) path_width (omega (arith, read.size, found_below _ answer)) in
         path_length_lem longest_packet a.bytes read.readable _ _
         (part_length (record_at paths_at path_width t i) path_next_hop_at address_width (omega (arith, wide)))
 
     pub data_at : is_data (header a) ≡ true → leaving_by (relay_of t) (path_at t i) a.bytes (Data i) ≡ onward (relay_of t) a
     data_at is =
-        ap (λ (k : ℕ). leaving_by (relay_of t) (path_at t i) a.bytes (Data k)) e
+        ap (λ (k : ℕ). leaving_by (relay_of t) (path_at t i) a.bytes (Data k)) at
         ∙ path_data a announce link proof (relay_of t) two (path_at t i) there leaves_long is
 
     pub request_at : is_data (header a) ≡ false → requesting (relay_of t) a (path_at t i) i ≡ onward (relay_of t) a
     request_at other =
-        ap (requesting (relay_of t) a (path_at t i)) e
+        ap (requesting (relay_of t) a (path_at t i)) at
         ∙ path_request a announce link proof (relay_of t) two (path_at t i) there leaves_long other
 
--- ---- why there is no live path, by the latest time that the search gave
-module _ (found : Latest) where
-  pub expired_there : (s : Slot ℕ) → found ≡ latest_of s → found.there ≡ true → OnlyExpired found.time ≡ no_path s
-  unfolding latest_of no_path
-  expired_there empty e there = absurd (false≢true (sym (ap (λ (x : Latest). x.there) e) ∙ there))
-  expired_there (used t) e there = ap (λ (x : Latest). OnlyExpired x.time) e
+-- ---- why there is no live path, by the latest time that the search answered
+pub expired_there : (s : Slot ℕ) {time : ℕ} → Some time ≡ latest_of s → OnlyExpired time ≡ no_path s
+unfolding latest_of no_path
+expired_there empty e = grind arith
+expired_there (used t) e = ap OnlyExpired (grind arith)
 
-  pub expired_none : (s : Slot ℕ) → found ≡ latest_of s → found.there ≡ false → NoPath ≡ no_path s
-  unfolding latest_of no_path
-  expired_none empty e none = refl
-  expired_none (used t) e none = absurd (false≢true (sym none ∙ ap (λ (x : Latest). x.there) e))
+pub expired_none : (s : Slot ℕ) → None ≡ latest_of s → NoPath ≡ no_path s
+unfolding latest_of no_path
+expired_none empty e = refl
+expired_none (used t) e = grind arith
 
--- ---- whether an id is live, by the place that the search gave
-module _ (t : List ℕ) (clock : ℕ) (id : List ℕ) {i : ℕ} (e : i ≡ link_place clock (relay_of t) id) where
-  pub id_live : i < link_count → is_there ((view_at clock (relay_of t)).link id) ≡ true
-  unfolding is_there
-  id_live l = ap is_there (link_found t clock id i e l)
+-- ---- whether an id is live, by what the search answered
+pub id_known : (t : List ℕ) (clock : ℕ) (id : List ℕ)
+    → is_some (found link_count (link_place clock (relay_of t) id)) ≡ is_there ((view_at clock (relay_of t)).link id)
+unfolding is_there
+id_known t clock id = found_is link_count place ∙ go (ltb place link_count) refl
+  where
+    place : ℕ
+    place = link_place clock (relay_of t) id
 
-  pub id_free : link_count ≤ i → is_there ((view_at clock (relay_of t)).link id) ≡ false
-  unfolding is_there
-  id_free l = ap is_there (link_missing t clock id i e l)
+    go : (b : Bool) → ltb place link_count ≡ b → b ≡ is_there ((view_at clock (relay_of t)).link id)
+    go true q = sym (ap is_there (link_found t clock id place refl (ltb-true place link_count q)))
+    go false q = sym (ap is_there (link_missing t clock id place refl (ltb-false place link_count q)))
 
 -- ---- a link request
 module _ (r : Relay) (a : Arrival) (p : Path) (place : ℕ) where
@@ -161,4 +168,4 @@ module _ (r : Relay) (a : Arrival) (p : Path) (place : ℕ) where
   unfolding requesting
   request_new new = sym (then_false _ _ new)
 
-pub ruleset path_steps = (path_not_asking, path_nowhere, data_at, request_at, judging)
+pub ruleset path_steps = (path_not_asking, path_nowhere, data_at, request_at, found_below, judging)

@@ -1,5 +1,6 @@
 -- Ordinary proofs: tests 6, 8, 12 and 16 are all that can hold of them.
-use Prim.Native.Nat.{ℕ, ◌≤◌, ◌<◌}
+use Prim.Native.Nat.{ℕ}
+use Rattle.std.specs.Prelude.{Some, None}
 use mathlib.Core.Bool.{true, false, not}
 use mathlib.Core.Path.{◌≡◌, refl, sym, ap, ◌∙◌}
 use mathlib.Core.List.{List}
@@ -22,7 +23,8 @@ use Rattle.rules.specs.declared.Reason.TheVariants.{NoWayOn, WrongSide, PortOff,
 use Rattle.rules.proofs.Lengths.{carried_length}
 use Rattle.numbers.specs.Numbers.{return_count}
 use Rattle.tables.specs.Layout.{relay_of}
-use Rattle.lookup.proofs.Found.{return_found, return_missing}
+use Rattle.lookup.specs.Search.{found}
+use Rattle.lookup.proofs.Found.{found_some, found_below, found_none, return_found, return_missing}
 use Rattle.plan.proofs.Judged.{judging}
 use Rattle.plan.specs.Decided.{return_at, decided_way, decided, onward}
 use Rattle.plan.specs.Kinds.{leaving, returning}
@@ -70,15 +72,16 @@ module _ (a : Arrival) (kind : of_kind_link (header a) ≡ false) (proof : is_pr
         ∙ ap (decided r a) (return_plan v t)
         ∙ simp decided_test)
 
--- ---- on tables, where the search for the return record gave place i
-module _ (t : List ℕ) (a : Arrival) (kind : of_kind_link (header a) ≡ false) (proof : is_proof (header a) ≡ true)
-    {i : ℕ} (e : i ≡ return_place a.clock (relay_of t) (destination a)) where
-  pub return_nowhere : return_count ≤ i → Drop (NoWayOn NoReturn) ≡ onward (relay_of t) a
-  return_nowhere l = return_none a kind proof (relay_of t) (return_missing t a.clock (destination a) i e l)
+-- ---- on tables, by what the search for the return record answered
+module _ (t : List ℕ) (a : Arrival) (kind : of_kind_link (header a) ≡ false) (proof : is_proof (header a) ≡ true) where
+  pub return_nowhere : None ≡ found return_count (return_place a.clock (relay_of t) (destination a)) → Drop (NoWayOn NoReturn) ≡ onward (relay_of t) a
+  return_nowhere none = return_none a kind proof (relay_of t) (return_missing t a.clock (destination a) _ refl (found_none none))
 
-  pub return_at_lem : i < return_count → returning (relay_of t) a.bytes a.port (return_at t i) i ≡ onward (relay_of t) a
-  return_at_lem l =
+  pub return_at_lem : {i : ℕ} → Some i ≡ found return_count (return_place a.clock (relay_of t) (destination a))
+      → returning (relay_of t) a.bytes a.port (return_at t i) i ≡ onward (relay_of t) a
+  return_at_lem {i} answer =
+      let (e, l) = found_some answer in
       ap (returning (relay_of t) a.bytes a.port (return_at t i)) e
       ∙ return_there a kind proof (relay_of t) (return_at t i) (return_found t a.clock (destination a) i e l)
 
-pub ruleset return_steps = (return_nowhere, return_at_lem, judging)
+pub ruleset return_steps = (return_nowhere, return_at_lem, found_below, judging)

@@ -12,24 +12,22 @@ ghost use Rattle.plan.specs.Kinds.{new_path, worse_than, known_path};
 
 use super::marked::revives;
 use super::{Arrived, Decision};
-use numbers::PATH_COUNT;
 use packet::places::HOPS_AT;
 use rules::{Rated, Reason};
 
 // A new path: test 13.
-#[tactic(auto, using(outgoing::proofs::Steps::joined), unfolding(crate::specs::Kinds::new_path))]
+#[tactic(auto, using(outgoing::proofs::Steps::joined, lookup::proofs::Found::answers), unfolding(crate::specs::Kinds::new_path))]
 fn new_path(tables: &[u8], clock: u64) -> Decision
     requires { length tables.now ≡ table_size }
     ensures { result ≡ new_path clock (relay_of tables.now) }
 {
-    let place = lookup::free_path(tables, clock);
-    if place < PATH_COUNT {
-        return Decision::Announce {
-            place,
-            known: false,
-        };
+    let Some(place) = lookup::free_path(tables, clock) else {
+        return Decision::Drop(Reason::NoRoom);
+    };
+    Decision::Announce {
+        place,
+        known: false,
     }
-    Decision::Drop(Reason::NoRoom)
 }
 
 // Test 11, of the path at a place and an announce with this blob.
@@ -89,9 +87,8 @@ pub fn decide_announce(tables: &[u8], packet: &[u8], arrived: Arrived) -> Decisi
         return Decision::Drop(Reason::NotSigned);
     }
     let destination = packet::parts_of(packet).destination;
-    let place = lookup::path_place(tables, destination, arrived.clock);
-    if place < PATH_COUNT {
-        return known_path(tables, packet, arrived, place);
+    match lookup::path_place(tables, destination, arrived.clock) {
+        Some(place) => known_path(tables, packet, arrived, place),
+        None => new_path(tables, arrived.clock),
     }
-    new_path(tables, arrived.clock)
 }

@@ -9,8 +9,8 @@ ghost use Rattle.plan.specs.First.{first_tests};
 
 use super::marked::for_marked_path;
 use super::{Arrived, Decision};
-use forms::{Form, exempt, form_of};
-use numbers::{HASH_COUNT, HOPS_LIMIT};
+use forms::{exempt, form_of};
+use numbers::HOPS_LIMIT;
 use packet::places::HOPS_AT;
 use rules::Reason;
 
@@ -32,7 +32,7 @@ pub fn hash_live(tables: &[u8], packet: &[u8], arrived: Arrived, hash: [u8; 32])
     requires { CanRead packet.now tables.now × (hash ≡ used_hash packet.now) }
     ensures { result ≡ hash_live (seen arrived tables.now) (arrival_of packet.now arrived) }
 {
-    !exempt(packet) && lookup::hash_place(tables, hash, arrived.clock) < HASH_COUNT
+    !exempt(packet) && lookup::hash_place(tables, hash, arrived.clock).is_some()
 }
 
 // Test 2. An announce for a marked path is no duplicate.
@@ -88,7 +88,7 @@ pub fn first_tests(tables: &[u8], packet: &[u8], arrived: Arrived, live: bool) -
     if duplicate(tables, packet, arrived, live) {
         return Some(Decision::Drop(Reason::Duplicate));
     }
-    if let Form::Bad(clause) = form_of(packet) {
+    if let Some(clause) = form_of(packet) {
         return Some(Decision::Drop(Reason::BadForm(clause)));
     }
     if own_announce(tables, packet, arrived) {

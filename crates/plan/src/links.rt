@@ -11,7 +11,6 @@ ghost use Rattle.plan.specs.Kinds.{carried, proving, carrying};
 use super::leaving::leave;
 use super::{Arrived, Decision};
 use forms::is_link_proof;
-use numbers::LINK_COUNT;
 use packet::places::HOPS_AT;
 use rules::{Blocked, Link, Reason};
 
@@ -92,10 +91,9 @@ pub fn decide_of_link(tables: &[u8], packet: &[u8], arrived: Arrived) -> Decisio
     ensures { result ≡ onward_on packet.now arrived tables.now }
 {
     let destination = packet::parts_of(packet).destination;
-    let place = lookup::link_place(tables, destination, arrived.clock);
-    if place >= LINK_COUNT {
+    let Some(place) = lookup::link_place(tables, destination, arrived.clock) else {
         return Decision::Drop(Reason::NoWayOn(Blocked::NoLink));
-    }
+    };
     let link = lookup::link_at(tables, place);
     if is_link_proof(packet) {
         return prove(tables, packet, arrived, link, place);

@@ -9,10 +9,9 @@ ghost use Rattle.plan.specs.Decided.{arrival_of, CanRead, CanKnow, hash_live, se
 ghost use Rattle.plan.specs.Kinds.{revived_by};
 
 use super::Arrived;
-use numbers::PATH_COUNT;
 
 // Whether the packet is an announce of kind single whose destination has a live path, and that is marked.
-#[tactic(auto, using(outgoing::proofs::Steps::reading), unfolding(rules::specs::Tests::for_marked_path))]
+#[tactic(auto, using(outgoing::proofs::Steps::reading, crate::proofs::MarkedLaws::marked_at, crate::proofs::MarkedLaws::marked_nowhere), unfolding(rules::specs::Tests::for_marked_path))]
 pub fn for_marked_path(tables: &[u8], packet: &[u8], arrived: Arrived) -> bool
     requires { CanRead packet.now tables.now }
     ensures { result ≡ for_marked_path (seen arrived tables.now)
@@ -23,8 +22,10 @@ pub fn for_marked_path(tables: &[u8], packet: &[u8], arrived: Arrived) -> bool
         return false;
     }
     let destination = packet::parts_of(packet).destination;
-    let place = lookup::path_place(tables, destination, arrived.clock);
-    place < PATH_COUNT && lookup::path_notes(tables, place).marked
+    let Some(place) = lookup::path_place(tables, destination, arrived.clock) else {
+        return false;
+    };
+    lookup::path_notes(tables, place).marked
 }
 
 // Whether the packet is such an announce, and its hash is live.

@@ -12,7 +12,6 @@ ghost use Rattle.plan.specs.Kinds.{leaving_by, linking, requesting};
 
 use super::leaving::leave;
 use super::{Arrived, Decision};
-use numbers::{LINK_COUNT, PATH_COUNT};
 use rules::{Blocked, Reason};
 
 // What was decided, by the path at a place: tests 12 and 16.
@@ -28,31 +27,30 @@ fn leave_by(tables: &[u8], packet: &[u8], place: usize, decision: Decision) -> D
 }
 
 // A new link, by the path at a place: test 13.
-#[tactic(auto, using(outgoing::proofs::Steps::joined), unfolding(crate::specs::Kinds::linking))]
+#[tactic(auto, using(outgoing::proofs::Steps::joined, lookup::proofs::Found::answers), unfolding(crate::specs::Kinds::linking))]
 fn new_link(tables: &[u8], clock: u64, id: [u8; 16], place: usize) -> Decision
     requires { length tables.now ≡ table_size }
     ensures { result ≡ linking (relay_of tables.now) clock id place }
 {
-    let free = lookup::free_link(tables, clock);
-    if free < LINK_COUNT {
-        return Decision::Request {
-            path: place,
-            place: free,
-            id,
-        };
+    let Some(free) = lookup::free_link(tables, clock) else {
+        return Decision::Drop(Reason::NoRoom);
+    };
+    Decision::Request {
+        path: place,
+        place: free,
+        id,
     }
-    Decision::Drop(Reason::NoRoom)
 }
 
 // A link request by the path at a place: tests 7, 12, 16 and 13.
-#[tactic(auto, using(outgoing::proofs::Steps::joined), unfolding(crate::specs::Kinds::requesting))]
+#[tactic(auto, using(outgoing::proofs::Steps::joined, crate::proofs::PathLaws::id_known), unfolding(crate::specs::Kinds::requesting))]
 fn request(tables: &[u8], packet: &[u8], arrived: Arrived, place: usize) -> Decision
     requires { CanRead packet.now tables.now × (place < path_count) }
     ensures { result ≡ requesting (relay_of tables.now) (arrival_of packet.now arrived)
         (path_at tables.now place) place }
 {
     let id = packet::link_id_of(packet);
-    if lookup::link_place(tables, id, arrived.clock) < LINK_COUNT {
+    if lookup::link_place(tables, id, arrived.clock).is_some() {
         return Decision::Drop(Reason::AlreadyKnown);
     }
     leave_by(
@@ -64,15 +62,15 @@ fn request(tables: &[u8], packet: &[u8], arrived: Arrived, place: usize) -> Deci
 }
 
 // Why a destination has no live path: its expired ones are looked for only here.
+#[tactic(auto, using(crate::proofs::PathLaws::expired_there, crate::proofs::PathLaws::expired_none))]
 fn no_path(tables: &[u8], destination: [u8; 16], clock: u64) -> Blocked
     requires { length tables.now ≡ table_size }
     ensures { result ≡ no_path (expired_path clock (relay_of tables.now) destination) }
 {
-    let latest = lookup::expired_path(tables, destination, clock);
-    if latest.there {
-        return Blocked::OnlyExpired(latest.time);
+    match lookup::expired_path(tables, destination, clock) {
+        Some(time) => Blocked::OnlyExpired(time),
+        None => Blocked::NoPath,
     }
-    Blocked::NoPath
 }
 
 #[tactic(auto, using(crate::proofs::PathLaws::path_steps))]
@@ -86,10 +84,9 @@ pub fn decide_by_path(tables: &[u8], packet: &[u8], arrived: Arrived) -> Decisio
         return Decision::Drop(Reason::NoWayOn(Blocked::NotAsking));
     }
     let destination = packet::parts_of(packet).destination;
-    let place = lookup::path_place(tables, destination, arrived.clock);
-    if place >= PATH_COUNT {
+    let Some(place) = lookup::path_place(tables, destination, arrived.clock) else {
         return Decision::Drop(Reason::NoWayOn(no_path(tables, destination, arrived.clock)));
-    }
+    };
     if packet::is_data(header) {
         return leave_by(tables, packet, place, Decision::Data { path: place });
     }

@@ -10,7 +10,6 @@ ghost use Rattle.plan.specs.Kinds.{returning};
 
 use super::leaving::leave;
 use super::{Arrived, Decision};
-use numbers::RETURN_COUNT;
 use rules::{Blocked, Reason};
 
 // A proof for the return record at a place, which came in by a port: tests 8, 12 and 16.
@@ -42,9 +41,8 @@ pub fn decide_proof(tables: &[u8], packet: &[u8], arrived: Arrived) -> Decision
     ensures { result ≡ onward_on packet.now arrived tables.now }
 {
     let destination = packet::parts_of(packet).destination;
-    let place = lookup::return_place(tables, destination, arrived.clock);
-    if place < RETURN_COUNT {
-        return receipt(tables, packet, place, arrived.port);
-    }
-    Decision::Drop(Reason::NoWayOn(Blocked::NoReturn))
+    let Some(place) = lookup::return_place(tables, destination, arrived.clock) else {
+        return Decision::Drop(Reason::NoWayOn(Blocked::NoReturn));
+    };
+    receipt(tables, packet, place, arrived.port)
 }

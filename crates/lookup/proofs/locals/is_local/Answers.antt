@@ -1,10 +1,10 @@
-use Prim.Native.Nat.{ℕ}
-use mathlib.Core.Path.{ap}
-use lib.Dec.{ltb}
+use mathlib.Core.Path.{ap, ◌∙◌}
+use Rattle.std.specs.Prelude.{is_some}
 use Rattle.numbers.specs.Numbers.{local_count}
 use Rattle.rules.specs.View.{is_local}
+use Rattle.lookup.proofs.Found.{found_is}
 use Rattle.lookup.proofs.locals.is_local.Goals as goal
 
 pub returns : goal.returns
 unfolding is_local
-returns c = ap (λ (k : ℕ). ltb k local_count) c.local_place.ensures
+returns c = c.is_some.ensures ∙ ap is_some c.local_place.ensures ∙ found_is local_count _

@@ -1,12 +1,14 @@
-use mathlib.Core.Path.{◌≡◌}
+use mathlib.Core.Path.{◌≡◌, ap, ◌∙◌}
 use lib.ListN.{length}
-use Rattle.tables.specs.Places.{address_width}
-use Rattle.lookup.proofs.Tables.{return_lowest}
 use borrow.Author.Rules.{rules}
+use Rattle.numbers.specs.Numbers.{return_count}
+use Rattle.tables.specs.Places.{address_width}
+use Rattle.lookup.specs.Search.{found}
+use Rattle.lookup.proofs.Tables.{return_lowest}
 use Rattle.lookup.proofs.returns.return_place.Goals as goal
 
 pub returns : goal.returns
 returns c =
     let a = c.args in
     let wide : length a.key ≡ address_width = search rules in
-    return_lowest a.tables.now a.clock a.key wide c.live_place.ensures
+    c.live_place.ensures ∙ ap (found return_count) (return_lowest a.tables.now a.clock a.key wide)
