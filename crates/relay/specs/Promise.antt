@@ -1,6 +1,8 @@
 -- What the packet call promises, on the bytes that its caller lends. A crate above cites nothing else of this one.
-use Rattle.std.specs.Prelude.{◌≡◌, ℕ, Bool, List}
+use Rattle.std.specs.Prelude.{◌≡◌, ℕ, Bool, List, Result, Ok, Err}
 use Rattle.octets.specs.Choice.{◌then◌otherwise◌}
+use Rattle.numbers.specs.declared.refusal.Refusal.{Refusal}
+use Rattle.numbers.specs.Refusals.{number_of}
 use Rattle.rules.specs.Calls.{Judgement, packet_call}
 use Rattle.rules.specs.declared.Answer.{Answer}
 use Rattle.rules.specs.declared.Answer.TheVariants.{Refused}
@@ -28,3 +30,8 @@ packet_on packet port clock signed tables tally output =
     well_formed tables
     then in_bytes (packet_call (record { bytes = packet; port = port; clock = clock; signed = signed }) (relay_of tables) tally output)
     otherwise record { answer = Refused 7; tables = tables; tally = tally; output = output }
+
+-- whether the signature word matters, as the number that tells it: 255 yes, 0 no, or a refusal's
+abbrev pub word_told : Result Bool Refusal → ℕ
+word_told (Ok matters) = matters then 255 otherwise 0
+word_told (Err refusal) = number_of refusal

@@ -12,7 +12,7 @@ ghost use Rattle.relay.specs.Promise.{Promises, packet_on};
 pub use plan::{reason_clause, reason_number, reason_value};
 use refusals::accepted;
 use rules::{Answer, Reason, Tally, Verdict};
-pub use signature::{MATTERS, signature_matters};
+pub use signature::signature_matters;
 use tallies::counted;
 
 // What a packet call returns where the tally goes in by value.
@@ -40,9 +40,9 @@ pub fn judge(
 {
     let arrived = match accepted(packet, port, clock, signed, tables, output.len()) {
         Ok(arrived) => arrived,
-        Err(refused) => {
+        Err(refusal) => {
             return Answered {
-                answer: Answer::Refused(refused),
+                answer: Answer::Refused(refusal.number()),
                 tally,
             };
         }

@@ -1,13 +1,14 @@
 // The refusals of a packet call.
-ghost use Rattle.std.specs.Prelude.{◌≡◌, ◌≢◌, MatchResult};
+ghost use Rattle.std.specs.Prelude.{◌≡◌, MatchResult};
+ghost use Rattle.numbers.specs.Refusals.{number_of};
 ghost use Rattle.relay.specs.Refusal.{packet_refusal_on, Accepts};
 
-use numbers::{CLOCK_LIMIT, refusals};
+use numbers::{CLOCK_LIMIT, Refusal};
 use packet::LEAST_OUTPUT;
 use plan::Arrived;
 
-// A packet that is accepted, as it came, or the refusal's number: rows 7, 6, 4, 5, and then reading's 1, 2, 3 and 1, at
-// the arrival port's size.
+// A packet that is accepted, as it came, or why it isn't: rows 7, 6, 4, 5, and then reading's 1, 2, 3 and 1, at the
+// arrival port's size.
 #[tactic(auto, using(crate::proofs::RefusalLaws::refusal_steps))]
 pub fn accepted(
     packet: &[u8],
@@ -16,28 +17,26 @@ pub fn accepted(
     signed: bool,
     tables: &[u8],
     room: usize,
-) -> Result<Arrived, u8>
+) -> Result<Arrived, Refusal>
     ensures { MatchResult result (λ m. Accepts packet.now port clock signed tables.now room m)
-        (λ n. (n ≡ packet_refusal_on packet.now port clock tables.now room) × (n ≢ 0)) }
+        (λ refusal. number_of refusal ≡ packet_refusal_on packet.now port clock tables.now room) }
 {
     if !tables::check(tables) {
-        return Err(refusals::TABLES);
+        return Err(Refusal::Tables);
     }
     if room < LEAST_OUTPUT {
-        return Err(refusals::OUTPUT);
+        return Err(Refusal::Output);
     }
     if !lookup::port_on(tables, port) {
-        return Err(refusals::ARRIVAL_PORT);
+        return Err(Refusal::ArrivalPort);
     }
     if clock >= CLOCK_LIMIT || clock < lookup::last_clock(tables) {
-        return Err(refusals::CLOCK);
+        return Err(Refusal::Clock);
     }
-    match packet::reading_refusal(packet, lookup::port_size(tables, port)) {
-        0 => Ok(Arrived {
-            port: port as u8,
-            clock,
-            signed,
-        }),
-        refused => Err(refused),
-    }
+    packet::check(packet, lookup::port_size(tables, port))?;
+    Ok(Arrived {
+        port: port as u8,
+        clock,
+        signed,
+    })
 }

@@ -2,6 +2,7 @@
 use Prim.Native.Nat.{ℕ, ◌+◌, ◌<◌}
 use mathlib.Core.Bool.{Bool, true, false}
 use mathlib.Core.List.{List, []}
+use Rattle.std.proofs.Common.{Some, None}
 use mathlib.Core.Path.{◌≡◌, refl, sym, ap, ◌∙◌}
 use lib.Dec.{eqb}
 use lib.ListN.{replicate}
@@ -14,11 +15,11 @@ use Rattle.rules.specs.declared.Tally.{Tally}
 use Rattle.relay.specs.Promise.{JudgementOn, Promises, packet_on}
 use Rattle.recording.specs.Shape.{count_of}
 use Rattle.recording.specs.Reader.{is_there, fields_of, body_of, entry_of}
-use Rattle.recording.specs.declared.Fields.{Fields}
+use Rattle.recording.specs.Reader.{Fields}
 use Rattle.text.specs.Text.{text_of}
 use Rattle.text.specs.declared.Text.{Text}
 use Rattle.replaying.specs.Lines.{answer_line}
-use Rattle.replaying.specs.Promise.{entry_call, step_of, step_on, Steps}
+use Rattle.replaying.specs.Promise.{entry_call, step_as, step_of, step_on, Steps}
 use Rattle.numbers.specs.Numbers.{least_output}
 
 module _ (f : List ℕ) (i : ℕ) where
@@ -54,13 +55,12 @@ module _ (f : List ℕ) (i : ℕ) where
     step_there e = then_true _ _ e
 
     -- ---- what the code returns and leaves
-    pub not_stepped : is_there f i ≡ false → (line : Text) → line ≡ text_of []
-        → Steps (step_on f i t tally) (record { there = false; answer = Refused 22; tally = tally; line = line }) t
-    not_stepped e line q = rw (step_none e, q) (refl, refl)
+    pub not_stepped : is_there f i ≡ false → Steps (step_on f i t tally) (step_as (record { answer = Refused 22; tally = tally; line = None })) t
+    not_stepped e = rw (step_none e) (refl, refl)
 
     pub stepped : is_there f i ≡ true → (j : JudgementOn) → j ≡ entry_call (entry_of f i) t tally
         → (answer : Answer) (after : Tally) (u o : List ℕ) → Promises j answer after u o
         → (line : Text) → line ≡ text_of (answer_line (i + 1) answer)
-        → Steps (step_on f i t tally) (record { there = true; answer = answer; tally = after; line = line }) u
+        → Steps (step_on f i t tally) (step_as (record { answer = answer; tally = after; line = Some line })) u
     unfolding step_of
     stepped e j q answer after u o p line l = rw (step_there e, ← q, l, p.0, p.1, p.2) (refl, refl)

@@ -1,7 +1,7 @@
 -- Document 02, Wish 1: "The replay makes these calls over given tables and prints one line per entry, counted from 1 .. an entry that the core refuses
 -- prints as `6 refused 1` and the replay goes on. .. a refused file prints only `refused` and the number." A crate above cites nothing else of this one:
 -- answers hold ports, reasons and lengths, so that who counts them reads no text.
-use Rattle.std.specs.Prelude.{ℕ, zero, suc, ◌+◌, Bool, true, false, List, [], ◌∷◌, ◌++◌, ◌≡◌, eqb, replicate}
+use Rattle.std.specs.Prelude.{ℕ, zero, suc, ◌+◌, Bool, true, false, List, [], ◌∷◌, ◌++◌, ◌≡◌, eqb, replicate, Option, Some, None}
 use Rattle.octets.specs.Choice.{◌then◌otherwise◌}
 use Rattle.packet.specs.Write.{least_output}
 use Rattle.rules.specs.declared.Answer.{Answer}
@@ -11,6 +11,7 @@ use Rattle.relay.specs.Promise.{JudgementOn, packet_on}
 use Rattle.recording.specs.Format.{Entry}
 use Rattle.recording.specs.Reader.{file_refusal, is_there, entry_of, entries_of}
 use Rattle.text.specs.Text.{text_of}
+use Rattle.text.specs.declared.Text.{Text}
 use Rattle.text.specs.Words.{words_line, refused_words}
 use Rattle.replaying.specs.Lines.{answer_line}
 use Rattle.replaying.specs.declared.Stepped.{Stepped}
@@ -39,8 +40,27 @@ step_on file i tables tally =
     then step_of i (entry_call (entry_of file i) tables tally)
     otherwise record { there = false; answer = Refused 22; line = []; tables = tables; tally = tally }
 
+-- a step with whether the entry was there, and its line as a text: empty where it wasn't
+pub record Step : Type 0 where
+  pub there : Bool
+  pub answer : Answer
+  pub tally : Tally
+  pub line : Text
+
+abbrev pub has_line : Option Text → Bool
+has_line None = false
+has_line (Some line) = true
+
+abbrev pub line_in : Option Text → Text
+line_in None = text_of []
+line_in (Some line) = line
+
+-- a step as the code returns it: the entry isn't there where it has no line
+abbrev pub step_as : Stepped → Step
+step_as s = record { there = has_line s.line; answer = s.answer; tally = s.tally; line = line_in s.line }
+
 -- what a step returned and left is this
-abbrev pub Steps : StepOn → Stepped → List ℕ → Type 0
+abbrev pub Steps : StepOn → Step → List ℕ → Type 0
 Steps s r tables = (r ≡ record { there = s.there; answer = s.answer; tally = s.tally; line = text_of s.line }) × (tables ≡ s.tables)
 
 -- ---- a replay: what it answers and prints, and the tables and the tally after it

@@ -7,21 +7,20 @@ mod reasons;
 
 ghost use Rattle.std.specs.Prelude.{◌≡◌};
 ghost use Rattle.rules.specs.Calls.{new_tally};
-ghost use Rattle.replaying.specs.Promise.{Steps, step_on};
+ghost use Rattle.replaying.specs.Promise.{Steps, step_as, step_on};
 
 pub use lines::{line_of, with_ports};
-use numbers::{LEAST_OUTPUT, refusals};
+use numbers::{LEAST_OUTPUT, Refusal};
 pub use reasons::with_reason;
 use rules::{Answer, Tally};
 use text::Text;
 
-// A step: whether the entry was there, what the packet call answered, the tally after it, and the entry's line.
+// A step: what the packet call answered, the tally after it, and the entry's line, None where the entry isn't there.
 #[derive(Clone, Copy)]
 pub struct Stepped {
-    pub there: bool,
     pub answer: Answer,
     pub tally: Tally,
-    pub line: Text,
+    pub line: Option<Text>,
 }
 
 // A replay starts with this tally: none of each.
@@ -41,32 +40,29 @@ pub fn new_tally() -> Tally
 // The packet call of entry i, over the tables and the tally as they are. Where the entry isn't there: refusal 22, no
 // line, and nothing changes.
 pub fn step(file: &[u8], i: usize, tables: &mut [u8], tally: Tally) -> Stepped
-    ensures { Steps (step_on file.now i tables.old tally) result tables.new }
+    ensures { Steps (step_on file.now i tables.old tally) (step_as result) tables.new }
 {
-    let fields = recording::entry(file, i);
-    if !fields.there {
+    let Some(head) = recording::entry(file, i) else {
         return Stepped {
-            there: false,
-            answer: Answer::Refused(refusals::FILE_PLACE),
+            answer: Answer::Refused(Refusal::FilePlace.number()),
             tally,
-            line: text::empty(),
+            line: None,
         };
-    }
+    };
     let body = recording::body(file, i);
     let mut output = [0u8; LEAST_OUTPUT];
     let judged = relay::judge(
         body,
-        u64::from(fields.port),
-        fields.clock,
-        fields.word == 1,
+        u64::from(head.port),
+        head.clock,
+        head.word == 1,
         tables,
         &mut output,
         tally,
     );
     Stepped {
-        there: true,
         answer: judged.answer,
         tally: judged.tally,
-        line: line_of(i as u64 + 1, judged.answer),
+        line: Some(line_of(i as u64 + 1, judged.answer)),
     }
 }

@@ -1,5 +1,6 @@
 use Rattle.std.proofs.Common.{sym, ◌∙◌}
 use Rattle.octets.proofs.Bytes.{known_bytes}
+use Rattle.numbers.proofs.RefusalNumbers.{some_number}
 use Rattle.tables.proofs.Whole.{formed}
 use Rattle.plan.specs.Decided.{CanRead, CanJudge}
 use Rattle.relay.proofs.RefusalLaws.{accepted_judge, accepted_roomy}
@@ -17,7 +18,7 @@ pub returns-in-Err : goal.returns-in-Err
 returns-in-Err c =
     let p = c.args in
     refused_promised p.packet.now p.port p.clock p.signed p.tables.now p.tally p.output.now
-    (known_bytes p.tables.now c.slice_known-1.given) _ c.in-Err.ensures.0 c.in-Err.ensures.1
+    (known_bytes p.tables.now c.slice_known-1.given) _ (c.number.ensures ∙ c.in-Err.ensures) (λ z. some_number _ (sym c.number.ensures ∙ z))
 
 pub not_ours-requires : goal.not_ours-requires
 not_ours-requires c = reads (goal.at.not_ours-requires c).In-Ok
