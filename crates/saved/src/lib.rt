@@ -10,19 +10,4 @@ mod saving;
 
 pub use format::SAVED_SIZE;
 pub use loading::{load, own_address};
-use rules::Tally;
 pub use saving::save;
-
-// A saving: refusal 0 and the file's length, or a refusal's number and 0.
-#[derive(Clone, Copy)]
-pub struct Saved {
-    pub refusal: u8,
-    pub length: usize,
-}
-
-// A load: refusal 0 and the saved tally, or a refusal's number and the tally that was given.
-#[derive(Clone, Copy)]
-pub struct Loaded {
-    pub refusal: u8,
-    pub tally: Tally,
-}

@@ -2,20 +2,22 @@
 ghost use Rattle.std.specs.Prelude.{◌≡◌, MatchResult, ◌+◌, ◌≤◌, ◌<◌, length};
 ghost use Rattle.octets.specs.Part.{part};
 ghost use Rattle.octets.specs.BigEndian.{number};
+ghost use Rattle.numbers.specs.Refusals.{number_of, refused_number};
+ghost use Rattle.numbers.specs.Values.{value_or};
 ghost use Rattle.codes.specs.Form.{code};
 ghost use Rattle.recording.specs.Shape.{entry_place, count_of, edition_of, length_of, sum_below, count_limit};
+ghost use Rattle.rules.specs.declared.Tally.{Tally};
 ghost use Rattle.tables.specs.Layout.{bytes_of};
 ghost use Rattle.editions.specs.Editions.{counter_width, tally_form, edition_at};
 ghost use Rattle.saved.specs.File.{head_width, bodies_at};
 ghost use Rattle.saved.specs.Load.{length_wrong, contents_wrong, sizes_right, bodies_wrong, load_refusal, held_in, Loads, load_on, own_in};
 ghost use Rattle.saved.specs.Steps.{ContentsRight, tally_at};
 
-use super::Loaded;
 use super::contents::{entry_place, length_of, offset_of};
 use super::format::{KIND, TALLY_AT};
 use editions::shape::{BODIES_AT, BODY_COUNT, COUNTER_WIDTH, TALLY_BODY};
 use editions::{Bodies, EDITION, KnownEdition};
-use numbers::refusals;
+use numbers::Refusal;
 use recording::CONTENTS_START;
 use rules::Tally;
 use tables::places::TABLE_SIZE;
@@ -82,27 +84,27 @@ fn bodies_wrong(file: &[u8], edition: KnownEdition) -> bool
 }
 
 // The edition of a file that a load into so many bytes takes, or its refusal.
-fn accepted(file: &[u8], size: usize) -> Result<KnownEdition, u8>
+fn accepted(file: &[u8], size: usize) -> Result<KnownEdition, Refusal>
     ensures { MatchResult result (λ e. (load_refusal file.now size ≡ 0) × (e.number ≡ edition_of file.now))
-        (λ refusal. (refusal ≡ load_refusal file.now size) × (refusal ≡ 0 → ⊥)) }
+        (λ refusal. number_of refusal ≡ load_refusal file.now size) }
 {
     if length_wrong(file) {
-        return Err(refusals::FILE_LENGTH);
+        return Err(Refusal::FileLength);
     }
     if file[0] != KIND {
-        return Err(refusals::FILE_KIND);
+        return Err(Refusal::FileKind);
     }
     let Some(edition) = KnownEdition::numbered(file[1]) else {
-        return Err(refusals::FILE_KIND);
+        return Err(Refusal::FileKind);
     };
     if contents_wrong(file) {
-        return Err(refusals::FILE_PLACE);
+        return Err(Refusal::FilePlace);
     }
     if bodies_wrong(file, edition) {
-        return Err(refusals::FILE_BODY);
+        return Err(Refusal::FileBody);
     }
     if size != TABLE_SIZE {
-        return Err(refusals::ROOM);
+        return Err(Refusal::Room);
     }
     Ok(edition)
 }
@@ -141,21 +143,14 @@ fn write_held(file: &[u8], edition: KnownEdition, tables: &mut [u8])
     Bodies { file, edition }.write_tables(tables);
 }
 
-// Loads tables and tally, the own address and the last clock too. No clock is tested.
-pub fn load(file: &[u8], tables: &mut [u8], tally: Tally) -> Loaded
-    ensures { Loads (load_on file.now tables.old tally)
-        result.refusal tables.new result.tally }
+// Loads the tables, the own address and the last clock too, and gives the tally. No clock is tested.
+pub fn load(file: &[u8], tables: &mut [u8]) -> Result<Tally, Refusal>
+    ensures { (tally : Tally) → Loads (load_on file.now tables.old tally)
+        (refused_number result) tables.new (value_or result tally) }
 {
-    match accepted(file, tables.len()) {
-        Err(refusal) => Loaded { refusal, tally },
-        Ok(edition) => {
-            write_held(file, edition, tables);
-            Loaded {
-                refusal: refusals::NONE,
-                tally: tally_at(file, file.len() - TALLY_BODY),
-            }
-        }
-    }
+    let edition = accepted(file, tables.len())?;
+    write_held(file, edition, tables);
+    Ok(tally_at(file, file.len() - TALLY_BODY))
 }
 
 // The own address of the relay in a file, which stands first in every edition. Zeros where a load would refuse the

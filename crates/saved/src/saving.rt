@@ -2,6 +2,7 @@
 ghost use Rattle.std.specs.Prelude.{◌≡◌, true, ◌+◌, ◌≤◌, ◌<◌, length};
 ghost use Rattle.octets.specs.Part.{patch};
 ghost use Rattle.octets.specs.BigEndian.{big_endian};
+ghost use Rattle.numbers.specs.Refusals.{written_as};
 ghost use Rattle.codes.specs.Form.{code};
 ghost use Rattle.recording.specs.Shape.{contents_start, entry_place};
 ghost use Rattle.tables.specs.Places.{table_size};
@@ -11,14 +12,14 @@ ghost use Rattle.saved.specs.File.{body_count, head_width, bodies_at, saved_size
 ghost use Rattle.saved.specs.Save.{Saves, save_on};
 ghost use Rattle.saved.specs.Steps.{start_bytes, entry_bytes, contents_bytes, tally_bytes};
 
-use super::Saved;
 use super::contents::entry_place;
 use super::format::{KIND, SAVED_SIZE, TALLY_AT};
 use editions::shape::{BODIES_AT, BODY_COUNT, COUNTER_WIDTH};
 use editions::{EDITION, KnownEdition};
-use numbers::refusals;
+use numbers::Refusal;
 use recording::{COUNT_AT, COUNT_WIDTH, LENGTH_WIDTH, OFFSET_WIDTH};
 use rules::Tally;
+use tables::check_tables;
 use tables::places::TABLE_SIZE;
 
 // How many bytes of the tables stand before the next multiple of 16 in the file.
@@ -104,25 +105,14 @@ fn write_file(tables: &[u8], tally: Tally, room: &mut [u8])
     write_tally(room, TALLY_AT, tally);
 }
 
-// Saves tables and tally in the current edition.
-pub fn save(tables: &[u8], tally: Tally, room: &mut [u8]) -> Saved
-    ensures { Saves (save_on tables.now tally room.old) result room.new }
+// Saves tables and tally in the current edition, and says how long the file is.
+pub fn save(tables: &[u8], tally: Tally, room: &mut [u8]) -> Result<usize, Refusal>
+    ensures { Saves (save_on tables.now tally room.old) (written_as result) room.new }
 {
-    if !tables::check(tables) {
-        return Saved {
-            refusal: refusals::TABLES,
-            length: 0,
-        };
-    }
+    check_tables(tables)?;
     if room.len() < SAVED_SIZE {
-        return Saved {
-            refusal: refusals::ROOM,
-            length: 0,
-        };
+        return Err(Refusal::Room);
     }
     write_file(tables, tally, room);
-    Saved {
-        refusal: refusals::NONE,
-        length: SAVED_SIZE,
-    }
+    Ok(SAVED_SIZE)
 }

@@ -1,4 +1,5 @@
 -- What is told of a record is part of its bytes.
+use Rattle.std.specs.Prelude.{Option, Some, None, Ok}
 use Prim.Native.Nat.{ℕ, ◌≤◌}
 use native.Mathlib.Omega.{arith}
 use mathlib.Core.Bool.{Bool, true, false}
@@ -23,7 +24,7 @@ use Rattle.tables.specs.Records.{slot_of, port_of, local_of, path_of, link_of, p
 use Rattle.tables.specs.Asked.{told_path_width, told_number, told_bytes, Tells}
 use Rattle.tables.proofs.Tests.{used_fine}
 use Rattle.lookup.specs.Search.{is_used}
-use Rattle.status.specs.Put.{put_number, put_bytes}
+use Rattle.status.specs.Put.{asked_number, asked_or, TellsSome, record_told}
 
 module _ (b : List ℕ) (bytes : Bytes b) where
   pub port_bytes_lem : length b ≡ port_width → port_bytes_ok b ≡ true → (old : List ℕ) → told_bytes (a_port (port_of b)) old ≡ b
@@ -51,22 +52,23 @@ unfolding told_bytes local_of
 local_bytes_lem b old = refl
 
 -- ---- a slot: none, or what its bytes behind the mark say
-pub slot_told : {A : Type 0} (tells : A → Told) (read : List ℕ → A) (b old : List ℕ) → told_number (tells (read b)) ≡ 0
-    → (eqb (get_or b 0 0) 0 ≡ false → told_bytes (tells (read b)) old ≡ part b 1 (length old))
-    → Tells (told_of tells (slot_of read b)) old (put_number b) (put_bytes b old)
-unfolding told_of slot_of told_number told_bytes put_number put_bytes is_used ◌then◌otherwise◌
-slot_told tells read b old n law = go (eqb (get_or b 0 0) 0) refl
+pub slot_told : {A : Type 0} (tells : A → Told) (read : List ℕ → A) (b : List ℕ) (n : ℕ) → told_number (tells (read b)) ≡ 0
+    → (eqb (get_or b 0 0) 0 ≡ false → (old : List ℕ) → told_bytes (tells (read b)) old ≡ part b 1 n)
+    → TellsSome (told_of tells (slot_of read b)) (Ok (record_told n b))
+unfolding told_of slot_of told_number told_bytes record_told is_used ◌then◌otherwise◌
+slot_told tells read b n told law old = go (eqb (get_or b 0 0) 0) refl
   where
-    go : (m : Bool) → eqb (get_or b 0 0) 0 ≡ m → Tells (told_of tells (slot_of read b)) old (put_number b) (put_bytes b old)
+    go : (m : Bool) → eqb (get_or b 0 0) 0 ≡ m
+        → Tells (told_of tells (slot_of read b)) old (asked_number (Ok (record_told n b))) (asked_or (Ok (record_told n b)) old)
     go true e = rw e (refl, refl)
-    go false e = rw e (sym n, sym (law e))
+    go false e = rw e (sym told, sym (law e old))
 
 -- ---- the record b is read: it is empty, or its bytes behind the mark are copied
-module _ (b r old : List ℕ) (e : r ≡ b) where
-  pub put_none : get_or r 0 0 ≡ 0 → (255 ≡ put_number b) × (old ≡ put_bytes b old)
-  unfolding put_number put_bytes is_used ◌then◌otherwise◌
-  put_none z = rw (← e, z) (refl, refl)
+module _ (n : ℕ) (b r : List ℕ) (e : r ≡ b) where
+  pub none_told : get_or r 0 0 ≡ 0 → ◌≡◌ {A = Option (List ℕ)} None (record_told n b)
+  unfolding record_told is_used ◌then◌otherwise◌
+  none_told z = rw (← e, z) refl
 
-  pub put_some : (get_or r 0 0 ≡ 0 → ⊥) → (new : List ℕ) → new ≡ part r 1 (length old) → (0 ≡ put_number b) × (new ≡ put_bytes b old)
-  unfolding put_number put_bytes is_used ◌then◌otherwise◌
-  put_some z new q = rw (← e, ne_eqb (get_or r 0 0) 0 z) (refl, q)
+  pub some_told : (get_or r 0 0 ≡ 0 → ⊥) → (told : List ℕ) → told ≡ part r 1 n → Some told ≡ record_told n b
+  unfolding record_told is_used ◌then◌otherwise◌
+  some_told z told q = rw (← e, ne_eqb (get_or r 0 0) 0 z) (ap Some q)

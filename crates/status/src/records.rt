@@ -1,23 +1,25 @@
 // The record at a place, behind its mark.
 ghost use Rattle.std.specs.Prelude.{◌≡◌, ◌+◌, ◌*◌, ◌≤◌, length};
 ghost use Rattle.tables.specs.Layout.{record_at};
-ghost use Rattle.status.specs.Put.{put_number, put_bytes};
+ghost use Rattle.status.specs.Put.{record_told};
 
-use super::NOTHING;
 use lookup::record_at;
-use numbers::refusals;
 
-// Copies the first bytes of a record behind its mark, as many as `out` has; an empty one leaves it.
-pub fn put_record(tables: &[u8], at: usize, width: usize, place: usize, out: &mut [u8]) -> u8
-    requires { (at + width * place + width ≤ length tables.now) × (1 + length out.old ≤ width) }
-    ensures { (result ≡ put_number (record_at at width tables.now place))
-        × (out.new ≡ put_bytes (record_at at width tables.now place) out.old) }
+// The first N bytes of a record behind its mark. An empty one has none.
+pub fn record_told<const N: usize>(
+    tables: &[u8],
+    at: usize,
+    width: usize,
+    place: usize,
+) -> Option<[u8; N]>
+    requires { (at + width * place + width ≤ length tables.now) × (1 + N ≤ width) }
+    ensures { result ≡ record_told N (record_at at width tables.now place) }
 {
     let b = record_at(tables, at, width, place);
     if b[0] == 0 {
-        return NOTHING;
+        return None;
     }
-    let end = 1 + out.len();
-    out.copy_from_slice(&b[1..end]);
-    refusals::NONE
+    let mut told = [0u8; N];
+    told.copy_from_slice(&b[1..1 + N]);
+    Some(told)
 }

@@ -11,7 +11,6 @@ use Rattle.rules.specs.declared.Tally.{Tally}
 use Rattle.recording.specs.Shape.{count_of}
 use Rattle.recording.specs.Format.{Entry}
 use Rattle.recording.specs.Reader.{file_refusal, fields_of, body_of, entry_of, entries_of}
-use Rattle.recording.specs.declared.Fields.{Fields}
 use Rattle.replaying.specs.Promise.{step_on, ReplayOn, replay_on, one_more, steps_on}
 use Rattle.replaying.proofs.Replay.{steps_replay, replay_refused}
 use Rattle.surveying.specs.Counts.{Answered, answered_as, answered}
@@ -72,16 +71,16 @@ module _ (f t : List ℕ) (tally : Tally) where
     next_tally z q = q ∙ ap (λ (r : ReplayOn). r.tally) next
 
     pub next_counts : (counts grown more : List ℕ) → grown ≡ add_all counts (answers_up_to i)
-        → (fields : Fields) → fields ≡ fields_of f i → (body : List ℕ) → body ≡ body_of f i → (answer : Answer) → answer ≡ (step_on f i u y).answer
-        → more ≡ add_one grown (record { port = fields.port; size = length body; answer = answer })
+        → (port : ℕ) → port ≡ (fields_of f i).port → (body : List ℕ) → body ≡ body_of f i → (answer : Answer) → answer ≡ (step_on f i u y).answer
+        → more ≡ add_one grown (record { port = port; size = length body; answer = answer })
         → more ≡ add_all counts (answers_up_to (i + 1))
     unfolding answered_as entry_of
-    next_counts counts grown more held fields ef body eb answer ea q =
+    next_counts counts grown more held port ep body eb answer ea q =
         let r : ReplayOn = steps_on f i t tally in
         let same : answer ≡ (step_on f i r.tables r.tally).answer = ea ∙ ap₂ (λ (x : List ℕ) (z : Tally). (step_on f i x z).answer) eu ey in
-        let entry : record { port = fields.port; size = length body; answer = answer }
+        let entry : record { port = port; size = length body; answer = answer }
         ≡ answered_as (entry_of f i) (step_on f i r.tables r.tally).answer =
-        λ k. record { port = (ef k).port; size = length (eb k); answer = same k } in
+        λ k. record { port = ep k; size = length (eb k); answer = same k } in
         q
         ∙ ap₂ add_one held entry
         ∙ add_last (answers_up_to i) (answered_as (entry_of f i) (step_on f i r.tables r.tally).answer) counts

@@ -3,6 +3,9 @@ use Rattle.std.proofs.Common.{◌≡◌, ℕ, Bool, true, false, eqb, List, leng
 use borrow.Author.Tests.{eqb-false}
 use Rattle.octets.specs.Bytes.{Bytes}
 use Rattle.octets.proofs.Choice.{then_true, then_false}
+use Rattle.numbers.specs.Refusals.{number_of}
+use Rattle.numbers.specs.declared.refusal.Refusal.{Refusal}
+use Rattle.numbers.proofs.RefusalNumbers.{some_number}
 use Rattle.rules.specs.Relay.{Relay, fresh}
 use Rattle.tables.specs.Places.{table_size}
 use Rattle.tables.specs.Layout.{relay_of, bytes_of, well_formed}
@@ -64,3 +67,7 @@ module _ (file : List ℕ) (b : Bytes file) (none : load_refusal file table_size
       q4
       ∙ ap (λ (r : Relay). tables_after (setting_calls r) u) settings
       ∙ ap (tables_after (setting_calls (held_in file).0)) first
+
+-- ---- a refusal's number is none, for those above that don't name the crate of the refusals
+pub some_refusal : (r : Refusal) → number_of r ≡ 0 → ⊥
+some_refusal r e = some_number r e

@@ -1,8 +1,9 @@
 // Recordings one after another, each replayed from the same start.
 ghost use Rattle.std.specs.Prelude.{◌≡◌, ◌<◌, slice_index};
+ghost use Rattle.numbers.specs.Refusals.{refused_number};
 ghost use Rattle.rules.specs.Calls.{new_tally};
 ghost use Rattle.recording.specs.Shape.{count_of};
-ghost use Rattle.recording.specs.Reader.{entries_of};
+ghost use Rattle.recording.specs.Reader.{entries_of, fields_of};
 ghost use Rattle.replaying.specs.Promise.{steps_on};
 ghost use Rattle.surveying.specs.Counts.{answered};
 ghost use Rattle.surveying.specs.Survey.{recording_limit};
@@ -10,9 +11,19 @@ ghost use Rattle.surveying.specs.Promise.{add_all, noted, recording_on, Surveys}
 
 use super::counting::add_one;
 use super::{COUNTER_COUNT, RECORDING_LIMIT, REFUSAL_COUNT};
-use numbers::refusals::SURVEY_FULL;
+use numbers::{Refusal, refused_number};
 use replaying::new_tally;
 use tables::places::TABLE_SIZE;
+
+// The port that entry i came by, 0 where the entry isn't there.
+fn port_of(file: &[u8], i: usize) -> u8
+    ensures { result ≡ (fields_of file.now i).port }
+{
+    match recording::entry(file, i) {
+        Some(head) => head.port,
+        None => 0,
+    }
+}
 
 // Makes the calls of a recording's entries, with a new tally, and counts what they answer.
 fn replay(file: &[u8], work: &mut [u8], counts: &mut [u64; COUNTER_COUNT])
@@ -23,7 +34,7 @@ fn replay(file: &[u8], work: &mut [u8], counts: &mut [u64; COUNTER_COUNT])
 {
     let mut tally = new_tally();
     for i in 0..recording::count(file) {
-        let port = recording::entry(file, i).port;
+        let port = port_of(file, i);
         let size = recording::body(file, i).len();
         let stepped = replaying::step(file, i, work, tally);
         add_one(counts, port, size, stepped.answer);
@@ -49,22 +60,21 @@ pub fn add_recording(
     work: &mut [u8; TABLE_SIZE],
     counts: &mut [u64; COUNTER_COUNT],
     refusals: &mut [u8; REFUSAL_COUNT],
-) -> u8
+) -> Result<(), Refusal>
     ensures { Surveys
         (recording_on file.now start.now work.old counts.old
         refusals.old)
-        result start.now work.new counts.new refusals.new }
+        (refused_number result) start.now work.new counts.new refusals.new }
 {
     if usize::from(refusals[0]) >= RECORDING_LIMIT {
-        refusals[RECORDING_LIMIT + 1] = SURVEY_FULL;
-        return SURVEY_FULL;
+        refusals[RECORDING_LIMIT + 1] = Refusal::SurveyFull.number();
+        return Err(Refusal::SurveyFull);
     }
-    let refusal = recording::check(file);
-    note(refusals, refusal);
-    if refusal != 0 {
-        return refusal;
+    let checked = recording::check(file);
+    note(refusals, refused_number(checked));
+    if checked.is_ok() {
+        *work = *start;
+        replay(file, work, counts);
     }
-    *work = *start;
-    replay(file, work, counts);
-    0
+    checked
 }

@@ -1,7 +1,9 @@
-// The tables that every recording starts from: those of a fresh relay, set as a saved one is.
+// The tables that every recording starts from: those of a fresh relay, set as a saved one is. Well-formed tables tell
+// their settings, and no setting of theirs is refused.
 ghost use Rattle.std.specs.Prelude.{◌≡◌, ◌<◌, true, [], ◌∷◌, slice_index_or};
 ghost use Rattle.octets.specs.Index.{list_of};
 ghost use Rattle.numbers.specs.Numbers.{port_count, local_count};
+ghost use Rattle.numbers.specs.Refusals.{refused_number};
 ghost use Rattle.rules.specs.Relay.{empty};
 ghost use Rattle.tables.specs.Layout.{relay_of, well_formed};
 ghost use Rattle.tables.specs.Called.{call_on};
@@ -10,8 +12,7 @@ ghost use Rattle.surveying.specs.Promise.{start_on, Surveys};
 ghost use Rattle.surveying.specs.Steps.{size_told, rate_told};
 
 use super::{COUNTER_COUNT, REFUSAL_COUNT};
-use numbers::{LOCAL_COUNT, PORT_COUNT};
-use replaying::new_tally;
+use numbers::{LOCAL_COUNT, PORT_COUNT, Refusal};
 use rules::RateSettings;
 use tables::places::TABLE_SIZE;
 
@@ -37,9 +38,13 @@ fn set_port_as(from: &[u8], to: &mut [u8], port: usize)
     ensures { to.new
         ≡ (call_on to.old (port_call (relay_of from.now) port)).tables }
 {
-    let mut told = [0u8; 4];
-    status::port_settings(from, port as u64, &mut told);
-    settings::set_port(
+    let Ok(settings) = status::port_settings(from, port as u64) else {
+        return;
+    };
+    let Some(told) = settings else {
+        return;
+    };
+    let _ = settings::set_port(
         to,
         port as u64,
         told[0] == 1,
@@ -75,10 +80,11 @@ fn set_rate_as(from: &[u8], to: &mut [u8])
     requires { well_formed from.now ≡ true }
     ensures { to.new ≡ (call_on to.old (rate_call (relay_of from.now))).tables }
 {
-    let mut told = [0u8; 12];
-    status::rate_settings(from, &mut told);
+    let Ok(told) = status::rate_settings(from) else {
+        return;
+    };
     let rate = rate_in(told);
-    settings::set_rate(to, rate.target, rate.grace, rate.penalty);
+    let _ = settings::set_rate(to, rate.target, rate.grace, rate.penalty);
 }
 
 // Adds the local address that another relay has at a place, if there is one.
@@ -87,10 +93,13 @@ fn add_local_of(from: &[u8], to: &mut [u8], place: usize)
     ensures { to.new
         ≡ tables_after (local_calls (slice_index_or (relay_of from.now).locals place empty ∷ [])) to.old }
 {
-    let mut address = [0u8; 16];
-    if status::local_at(from, place as u64, &mut address) == 0 {
-        settings::add_local(to, address);
-    }
+    let Ok(told) = status::local_at(from, place as u64) else {
+        return;
+    };
+    let Some(address) = told else {
+        return;
+    };
+    let _ = settings::add_local(to, address);
 }
 
 fn add_locals_of(from: &[u8], to: &mut [u8])
@@ -114,26 +123,23 @@ fn set_as(from: &[u8], to: &mut [u8])
 }
 
 // Begins a survey: the saved relay's settings make the start, and nothing is counted yet. A file that can't be loaded
-// is refused by the load's number, and all stays.
+// is refused as the load is, and all stays.
 pub fn begin(
     file: &[u8],
     start: &mut [u8; TABLE_SIZE],
     work: &mut [u8; TABLE_SIZE],
     counts: &mut [u64; COUNTER_COUNT],
     refusals: &mut [u8; REFUSAL_COUNT],
-) -> u8
+) -> Result<(), Refusal>
     ensures { Surveys
         (start_on file.now start.old work.old counts.old
         refusals.old)
-        result start.new work.new counts.new refusals.new }
+        (refused_number result) start.new work.new counts.new refusals.new }
 {
-    let refusal = saved::load(file, work, new_tally()).refusal;
-    if refusal != 0 {
-        return refusal;
-    }
-    settings::fresh(start, saved::own_address(file));
+    saved::load(file, work)?;
+    let _ = settings::fresh(start, saved::own_address(file));
     set_as(work, start);
     *counts = [0; COUNTER_COUNT];
     *refusals = [0; REFUSAL_COUNT];
-    0
+    Ok(())
 }

@@ -14,7 +14,6 @@ use Rattle.std.specs.Prelude.{Option, Some, None, MatchOption}
 use Rattle.std.specs.Fn.{Called}
 use Rattle.std.specs.Iterator.{YieldsThen}
 use Rattle.std.specs.List.{list_all, position_or_len, FoldsTo}
-use Rattle.std.specs.Option.{unwrap_or}
 use Rattle.std.specs.Simd.{first_chunks}
 use Rattle.std.specs.Slice.Iter.{chunks_exact_rest, chunks_exact_size, chunks_exact_steps}
 use Rattle.std.specs.declared.slice.ChunksExact.{ChunksExact}
@@ -24,10 +23,10 @@ use Rattle.std.proofs.lemmas.Iterator.Splits.{YieldsList-from_shown_while}
 use Rattle.octets.specs.Index.{◌and◌, all_below, first, zeros}
 use Rattle.octets.specs.Part.{part}
 use Rattle.octets.specs.BigEndian.{number}
-use Rattle.octets.proofs.Index.{and_true, first_none, first_le, first_cong, all_at, all_intro, all_plus, all_cong}
+use Rattle.octets.proofs.Index.{and_true, first_none, first_cong, all_at, all_intro, all_plus, all_cong}
 use Rattle.octets.proofs.Zeros.{zeros_part}
 use Rattle.octets.proofs.Part.{part_part, part_range, range_length}
-use Rattle.octets.proofs.Chains.{both_is_and, all_front, place_turned, first_front, place_or}
+use Rattle.octets.proofs.Chains.{both_is_and, all_front, place_turned, first_front}
 use Rattle.codes.proofs.Many.{many_end}
 use Rattle.tables.specs.Places.{ring_width}
 use Rattle.tables.specs.Layout.{record_at, records_ok}
@@ -139,7 +138,7 @@ place_in_chunks p w (suc n) xs =
     ∙ ap (λ (b : List ℕ). cond (p b) 0 (suc (first (λ k. p (record_at 0 w xs (suc k))) n))) (first_part w xs)
     ∙ sym (first_front (λ k. p (record_at 0 w xs k)) n)
 
--- `xs.chunks_exact(w).position(p).unwrap_or(n)`
+-- `xs.chunks_exact(w).position(p)`
 module _ {F : Type 0} {g : Mut F (Bor (List ℕ) × Unit {0}) Bool} {s u : ChunksExact ℕ} {f : F} (p : List ℕ → Bool) (w n : ℕ)
     (size : chunks_exact_size s ≡ w) (some : 0 < w)
     (test : (x : Bor (List ℕ)) (b : Bool) (q : F) → Called g f (x, tt) b q → (q ≡ f) × (b ≡ p x.now))
@@ -148,13 +147,10 @@ module _ {F : Type 0} {g : Mut F (Bor (List ℕ) × Unit {0}) Bool} {s u : Chunk
       → (ys : List (Bor (List ℕ))) × (o : Option (Bor (List ℕ))) × (j : F) × YieldsThen chunks_exact_steps s ys o u
       × FoldsTo (λ a x b. Called g a (x, tt) false b) f ys j
       × MatchOption o (r ≡ None) (λ x. (r ≡ Some (length ys)) × ((h : F) × Called g j (x, tt) true h))
-      → unwrap_or r n ≡ first (λ k. p (record_at 0 w xs k)) n
+      → r ≡ cond (ltb (first (λ k. p (record_at 0 w xs k)) n) n) (Some (first (λ k. p (record_at 0 w xs k)) n)) None
   chunk_place {r} ran =
-      let m : ℕ = first (λ k. p (record_at 0 w xs k)) n in
-      ap (λ (o : Option ℕ). unwrap_or o n)
-      (position_from_yields_List p u f r ran (chunks_yield w n xs some size rest long) test
-      ∙ (λ i. cond (ltb (place_in_chunks p w n xs i) (chunk_count w n xs i)) (Some (place_in_chunks p w n xs i)) None))
-      ∙ place_or m n (first_le (λ k. p (record_at 0 w xs k)) n)
+      position_from_yields_List p u f r ran (chunks_yield w n xs some size rest long) test
+      ∙ (λ i. cond (ltb (place_in_chunks p w n xs i) (chunk_count w n xs i)) (Some (place_in_chunks p w n xs i)) None)
 
 -- ---- groups of m records
 module _ (p : List ℕ → Bool) (at w m : ℕ) (t : List ℕ) where

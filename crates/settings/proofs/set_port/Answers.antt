@@ -2,6 +2,7 @@ use mathlib.Core.Bool.{not}
 use mathlib.Core.Path.{sym, ap, ◌∙◌}
 use native.Mathlib.Omega.{arith}
 use borrow.Author.Tests.{le-leb, lt-leb}
+use Rattle.std.proofs.lemmas.Result.{err_from_is_err_and}
 use Rattle.octets.specs.Choice.{◌then◌otherwise◌}
 use Rattle.octets.specs.Listed.{first_of}
 use Rattle.octets.proofs.Bytes.{known_bytes}
@@ -12,17 +13,19 @@ use Rattle.settings.proofs.Answered.{port_set_lem}
 use Rattle.settings.proofs.set_port.Goals.{then-port-via-then-port, then-port-via-else-port+then-mode, then-port-via-else-port+else-mode+then-not-is_size}
 use Rattle.settings.proofs.set_port.Goals as goal
 
-pub returns-then-not-check : goal.returns-then-not-check
-returns-then-not-check c =
+pub returns-in_err-check_tables : goal.returns-in_err-check_tables
+returns-in_err-check_tables c =
     let a = c.args in
-    call_bad (sets_port a.port a.on a.mode a.size) a.tables.now (sym c.check.ensures ∙ c.if-not-check.true)
+    let p = err_from_is_err_and c.from_residual.result c.from_residual.ensures.1 in
+    let bad = c.in_err-check_tables.ensures in
+    rw (p.1, p.2, bad.0) (call_bad (sets_port a.port a.on a.mode a.size) a.tables.now bad.1)
 
 pub returns-then-port : goal.returns-then-port
 unfolding rule_of first_of ◌then◌otherwise◌
 returns-then-port c =
     let a = c.args in
     let t = a.tables.now in
-    let ok = sym c.check.ensures ∙ c.if-not-check.false in
+    let ok = c.in_ok-check_tables.ensures in
     call_refused_lem (sets_port a.port a.on a.mode a.size) t ok (known_bytes t c.slice_known-1.given) 9 (λ e. omega arith)
     (elim c.then-port.branch [
       | then-port-via-then-port w ↦ rw (or_left _ (le-leb _ _ w.if-port.true))
@@ -33,7 +36,7 @@ returns-then-port c =
 
 pub put_port-requires : goal.put_port-requires
 put_port-requires c =
-    let ok = sym c.check.ensures ∙ c.if-not-check.false in
+    let ok = c.in_ok-check_tables.ensures in
     (size_of c.args.tables.now ok, c.if-port.false)
 
 pub returns : goal.returns
@@ -41,7 +44,7 @@ unfolding rule_of first_of ◌then◌otherwise◌
 returns c =
     let a = c.args in
     let t = a.tables.now in
-    let ok = sym c.check.ensures ∙ c.if-not-check.false in
+    let ok = c.in_ok-check_tables.ensures in
     let sized = ap not (sym c.is_size.ensures) ∙ (ap not c.if-not-is_size.false) in
     let after =
     c.put_port.ensures

@@ -1,17 +1,20 @@
-use mathlib.Core.Path.{sym, ◌∙◌}
 use native.Mathlib.Omega.{arith}
+use Rattle.std.proofs.lemmas.Result.{err_from_is_err_and}
 use Rattle.tables.proofs.Whole.{formed}
 use Rattle.rules.specs.Questions.{live_hashes}
-use Rattle.status.proofs.Asked.{number_refused_7, hashes_told}
+use Rattle.status.proofs.Asked.{count_refused_7, hashes_told}
 use Rattle.status.proofs.live_hashes.Goals as goal
 
-pub returns-then-not-check : goal.returns-then-not-check
-returns-then-not-check c = number_refused_7 _ (live_hashes _) _ (sym c.check.ensures ∙ c.if-not-check.true)
+pub returns-in_err-check_tables : goal.returns-in_err-check_tables
+returns-in_err-check_tables c =
+    let p = err_from_is_err_and c.from_residual.result c.from_residual.ensures.1 in
+    let bad = c.in_err-check_tables.ensures in
+    rw (p.1, p.2, bad.0) (count_refused_7 _ (live_hashes _) bad.1)
 
 pub live_count-requires : goal.live_count-requires
 live_count-requires c =
-    let size = (formed _ (sym c.check.ensures ∙ c.if-not-check.false)).size in
+    let size = (formed _ c.in_ok-check_tables.ensures).size in
     (omega arith, omega arith)
 
 pub returns : goal.returns
-returns c = hashes_told _ (sym c.check.ensures ∙ c.if-not-check.false) _ _ _ c.live_count.ensures
+returns c = hashes_told _ c.in_ok-check_tables.ensures _ _ c.live_count.ensures

@@ -1,32 +1,36 @@
-use mathlib.Core.Path.{sym, ◌∙◌}
+use Rattle.std.proofs.lemmas.Result.{err_from_is_err_and}
+use mathlib.Core.Path.{refl}
 use Rattle.octets.proofs.Bytes.{known_bytes}
 use Rattle.tables.proofs.Whole.{formed}
 use Rattle.rules.specs.Questions.{live_path}
+use Rattle.lookup.proofs.Found.{found_some, found_below, found_none}
 use Rattle.status.proofs.Asked.{refused_7, no_live_path, live_path_told}
 use native.Mathlib.Omega.{arith}
 use Rattle.status.proofs.live_path.Goals as goal
 
-pub returns-then-not-check : goal.returns-then-not-check
-returns-then-not-check c = refused_7 _ (live_path _ _) _ (sym c.check.ensures ∙ c.if-not-check.true)
+pub returns-in_err-check_tables : goal.returns-in_err-check_tables
+returns-in_err-check_tables c =
+    let p = err_from_is_err_and c.from_residual.result c.from_residual.ensures.1 in
+    let bad = c.in_err-check_tables.ensures in
+    rw (p.1, p.2, bad.0) (refused_7 _ (live_path _ _) bad.1)
 
-pub path_place-place-requires : goal.path_place-place-requires
-path_place-place-requires c = (formed _ (sym c.check.ensures ∙ c.if-not-check.false)).size
+pub path_place-requires : goal.path_place-requires
+path_place-requires c = (formed _ c.in_ok-check_tables.ensures).size
 
-pub returns-then-place-ge-PATH_COUNT : goal.returns-then-place-ge-PATH_COUNT
-returns-then-place-ge-PATH_COUNT c =
-    no_live_path _ (sym c.check.ensures ∙ c.if-not-check.false) _ _ _ _ c.path_place-place.ensures c.if-place-ge-PATH_COUNT.true
+pub returns-in_default : goal.returns-in_default
+returns-in_default c =
+    no_live_path _ c.in_ok-check_tables.ensures _ _ _ refl (found_none c.in_default.ensures)
 
-pub put_record-requires : goal.put_record-requires
-put_record-requires c =
-    let size = (formed _ (sym c.check.ensures ∙ c.if-not-check.false)).size in
+pub record_told-requires : goal.record_told-requires
+record_told-requires c =
+    let size = (formed _ c.in_ok-check_tables.ensures).size in
+    let within = found_below _ c.in-Some.ensures in
     (omega arith, omega arith)
 
 pub returns : goal.returns
 returns c =
-    let p = c.args in
-    let h = sym c.check.ensures ∙ c.if-not-check.false in
-    let bytes = known_bytes p.tables.now c.type_inv.tables in
-    let told =
-    live_path_told p.tables.now h bytes p.destination p.clock _ p.path.now c.path_place-place.ensures c.if-place-ge-PATH_COUNT.false
-    (omega arith) in
-    (c.put_record.ensures.0 ∙ told.0, c.put_record.ensures.1 ∙ told.1)
+    let a = c.args in
+    let t = a.tables.now in
+    let (place, within) = found_some c.in-Some.ensures in
+    rw c.record_told.ensures
+    (live_path_told t c.in_ok-check_tables.ensures (known_bytes t c.type_inv.tables) a.destination a.clock _ place within)

@@ -1,4 +1,4 @@
-use mathlib.Core.Path.{sym, ◌∙◌}
+use Rattle.std.proofs.lemmas.Result.{err_from_is_err_and}
 use Rattle.octets.proofs.Bytes.{known_bytes}
 use Rattle.tables.proofs.Whole.{formed}
 use Rattle.rules.specs.Questions.{path_at}
@@ -6,21 +6,21 @@ use Rattle.status.proofs.Asked.{refused_7, no_path_lem, path_told}
 use native.Mathlib.Omega.{arith}
 use Rattle.status.proofs.path_at.Goals as goal
 
-pub returns-then-not-check : goal.returns-then-not-check
-returns-then-not-check c = refused_7 _ (path_at _) _ (sym c.check.ensures ∙ c.if-not-check.true)
+pub returns-in_err-check_tables : goal.returns-in_err-check_tables
+returns-in_err-check_tables c =
+    let p = err_from_is_err_and c.from_residual.result c.from_residual.ensures.1 in
+    let bad = c.in_err-check_tables.ensures in
+    rw (p.1, p.2, bad.0) (refused_7 _ (path_at _) bad.1)
 
 pub returns-then-place : goal.returns-then-place
-returns-then-place c = no_path_lem _ (sym c.check.ensures ∙ c.if-not-check.false) _ _ c.if-place.true
+returns-then-place c = no_path_lem _ c.in_ok-check_tables.ensures _ c.if-place.true
 
-pub put_record-requires : goal.put_record-requires
-put_record-requires c =
-    let size = (formed _ (sym c.check.ensures ∙ c.if-not-check.false)).size in
+pub record_told-requires : goal.record_told-requires
+record_told-requires c =
+    let size = (formed _ c.in_ok-check_tables.ensures).size in
     (omega arith, omega arith)
 
 pub returns : goal.returns
 returns c =
-    let p = c.args in
-    let h = sym c.check.ensures ∙ c.if-not-check.false in
-    let bytes = known_bytes p.tables.now c.type_inv.tables in
-    let told = path_told p.tables.now h bytes p.place p.path.now c.if-place.false (omega arith) in
-    (c.put_record.ensures.0 ∙ told.0, c.put_record.ensures.1 ∙ told.1)
+    let t = c.args.tables.now in
+    rw c.record_told.ensures (path_told t c.in_ok-check_tables.ensures (known_bytes t c.type_inv.tables) c.args.place c.if-place.false)

@@ -20,7 +20,7 @@ kind c =
 
 pub returns-then-length_wrong : goal.returns-then-length_wrong
 returns-then-length_wrong c =
-    (sym (refused_length c.args.file.now c.args.size (sym c.length_wrong.ensures ∙ c.if-length_wrong.true)), λ e. omega arith)
+    sym (refused_length c.args.file.now c.args.size (sym c.length_wrong.ensures ∙ c.if-length_wrong.true))
 
 pub bounds-file-0 : goal.bounds-file-0
 bounds-file-0 c = omega (arith, has_start c.args.file.now (enough (goal.at.bounds-file-0 c).Else-length_wrong))
@@ -29,7 +29,7 @@ pub returns-then-file-ne-KIND : goal.returns-then-file-ne-KIND
 unfolding kind_of edition_of
 returns-then-file-ne-KIND c =
     let f = c.args.file.now in
-    (sym (refused_kind f c.args.size (enough (goal.at.returns-then-file-ne-KIND c).Else-length_wrong) (other_kind f c.if-file-ne-KIND.true)), λ e. omega arith)
+    sym (refused_kind f c.args.size (enough (goal.at.returns-then-file-ne-KIND c).Else-length_wrong) (other_kind f c.if-file-ne-KIND.true))
 
 pub bounds-file-1 : goal.bounds-file-1
 bounds-file-1 c = omega (arith, has_start c.args.file.now (enough (goal.at.bounds-file-1 c).Else-length_wrong))
@@ -39,7 +39,7 @@ unfolding kind_of edition_of
 returns-in_default c =
     let f = c.args.file.now in
     let wrong = edition_decides f c.if-file-ne-KIND.false ∙ ap not c.in_default.ensures in
-    (sym (refused_kind f c.args.size (enough (goal.at.returns-in_default c).Else-length_wrong) wrong), λ e. omega arith)
+    sym (refused_kind f c.args.size (enough (goal.at.returns-in_default c).Else-length_wrong) wrong)
 
 pub contents_wrong-requires : goal.contents_wrong-requires
 contents_wrong-requires c = has_contents c.args.file.now (enough (goal.at.contents_wrong-requires c).Else-length_wrong)
@@ -48,7 +48,7 @@ pub returns-then-contents_wrong : goal.returns-then-contents_wrong
 returns-then-contents_wrong c =
     let at = goal.at.returns-then-contents_wrong c in
     let wrong = sym c.contents_wrong.ensures ∙ c.if-contents_wrong.true in
-    (sym (refused_place c.args.file.now c.args.size (enough at.Else-length_wrong) (kind at.In-Some) wrong), λ e. omega arith)
+    sym (refused_place c.args.file.now c.args.size (enough at.Else-length_wrong) (kind at.In-Some) wrong)
 
 pub bodies_wrong-requires : goal.bodies_wrong-requires
 unfolding edition_of
@@ -60,14 +60,14 @@ returns-then-bodies_wrong c =
     let at = goal.at.returns-then-bodies_wrong c in
     let p = sym c.contents_wrong.ensures ∙ c.if-contents_wrong.false in
     let wrong = sym c.bodies_wrong.ensures ∙ c.if-bodies_wrong.true in
-    (sym (refused_body c.args.file.now c.args.size (enough at.Else-length_wrong) (kind at.In-Some) p wrong), λ e. omega arith)
+    sym (refused_body c.args.file.now c.args.size (enough at.Else-length_wrong) (kind at.In-Some) p wrong)
 
 pub returns-then-size-ne-TABLE_SIZE : goal.returns-then-size-ne-TABLE_SIZE
 returns-then-size-ne-TABLE_SIZE c =
     let at = goal.at.returns-then-size-ne-TABLE_SIZE c in
     let p = sym c.contents_wrong.ensures ∙ c.if-contents_wrong.false in
     let w = sym c.bodies_wrong.ensures ∙ c.if-bodies_wrong.false in
-    (sym (refused_size c.args.file.now c.args.size (enough at.Else-length_wrong) (kind at.In-Some) p w c.if-size-ne-TABLE_SIZE.true), λ e. omega arith)
+    sym (refused_size c.args.file.now c.args.size (enough at.Else-length_wrong) (kind at.In-Some) p w c.if-size-ne-TABLE_SIZE.true)
 
 pub returns : goal.returns
 unfolding edition_of

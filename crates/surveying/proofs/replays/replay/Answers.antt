@@ -2,8 +2,7 @@ use Rattle.std.proofs.Common.{◌≡◌, ℕ, List, sym, refl, ap, ◌∙◌, le
 use Rattle.rules.specs.declared.Tally.{Tally}
 use Rattle.recording.specs.Shape.{count_of}
 use Rattle.recording.specs.Reader.{entries_of}
-use Rattle.replaying.specs.Promise.{steps_on}
-use Rattle.replaying.specs.declared.Stepped.{Stepped}
+use Rattle.replaying.specs.Promise.{Step, steps_on}
 use Rattle.surveying.specs.Promise.{add_all}
 use Rattle.surveying.proofs.ReplayLaws.{answers_up_to, no_answers, next_tables, next_tally, next_counts}
 use Rattle.surveying.proofs.replays.replay.Goals as goal
@@ -21,13 +20,11 @@ loop-i-preserved c =
     let w = a.work.now in
     let y = c.new_tally-tally.result in
     let l = c.loop-i in
-    let fields = c.entry-port.ensures in
-    let body = c.body-size.ensures in
     let step = c.step-stepped.ensures in (
       next_tables f w y l.i l.work l.tally l.invariant.0 l.invariant.1 _ step.1,
-      next_tally f w y l.i l.work l.tally l.invariant.0 l.invariant.1 _ (ap (λ (x : Stepped). x.tally) step.0),
-      next_counts f w y l.i l.work l.tally l.invariant.0 l.invariant.1 a.counts.now l.counts _ l.invariant.2 _ fields _ body _
-          (ap (λ (x : Stepped). x.answer) step.0) c.add_one.ensures,
+      next_tally f w y l.i l.work l.tally l.invariant.0 l.invariant.1 _ (ap (λ (x : Step). x.tally) step.0),
+      next_counts f w y l.i l.work l.tally l.invariant.0 l.invariant.1 a.counts.now l.counts _ l.invariant.2 _ c.port_of-port.ensures _ c.body-size.ensures _
+          (ap (λ (x : Step). x.answer) step.0) c.add_one.ensures,
     )
 
 pub returns : goal.returns
