@@ -20,7 +20,6 @@ ghost use Rattle.rules.specs.Judging.{plan, verdict, output_after};
 ghost use Rattle.judging.specs.Seen.{arrival_of, Fits, plan_of, as_seen};
 
 use early::{delivered_here, duplicate, not_ours, own_announce};
-use forms::Form;
 pub use keys::{link_key, return_key};
 use notes::Notes;
 use numbers::{BLOB_LIMIT, BLOB_WIDTH, HOPS_LIMIT, LONGEST_PACKET};
@@ -128,7 +127,7 @@ pub fn plan_of(seen: &Seen, packet: &[u8], arrived: Arrived) -> Planned
     if duplicate(seen, packet, arrived) {
         return Planned::Drop(Reason::Duplicate);
     }
-    if let Form::Bad(clause) = forms::form_of(packet) {
+    if let Some(clause) = forms::form_of(packet) {
         return Planned::Drop(Reason::BadForm(clause));
     }
     if own_announce(seen, packet, arrived) {

@@ -1,19 +1,21 @@
 -- For the contracts of helpers: how a helper's write stands in the log, and what it is to refuse a packet. No reader has to believe this: the calls' contracts
 -- (specs/Calls.antt) do not speak of it.
-use Rattle.std.specs.Prelude.{ℕ, ◌+◌, ◌*◌, ◌<◌, ◌≤◌, Bool, true, List, [], ◌∷◌, ◌++◌, ◌≡◌, length}
+use Rattle.std.specs.Prelude.{ℕ, ◌+◌, ◌*◌, ◌<◌, ◌≤◌, Bool, true, List, [], ◌∷◌, ◌++◌, ◌≡◌, length, Result, Ok, Err}
 use Rattle.octets.specs.Part.{patch}
 use Rattle.octets.specs.BigEndian.{big_endian}
 use Rattle.octets.specs.Choice.{◌then◌otherwise◌}
 use Rattle.numbers.specs.Numbers.{port_count, longest_packet, clock_limit}
+use Rattle.numbers.specs.declared.refusal.Refusal.{Refusal}
+use Rattle.numbers.specs.declared.refusal.Refusal.TheVariants.{ListFull}
 use Rattle.packet.specs.Read.{reads}
 use Rattle.rules.specs.Arrival.{Arrival}
 use Rattle.rules.specs.Refusals.{rate_settings_ok}
 use Rattle.rules.specs.Renumbering.{one_to_one}
 use Rattle.history.specs.After.{Entry}
-use Rattle.history.specs.Opinion.{packet_refused}
+use Rattle.history.specs.Opinion.{list_limit, packet_refused}
 use Rattle.opinion_log.specs.declared.log.Entry.{Entry as LogEntry}
 use Rattle.opinion_log.specs.declared.log.Entry.TheVariants.{Came, SetsPort, SetsRate, Adds as AddsAddress, Removes, Marks, Renumbers}
-use Rattle.opinion_log.specs.Log.{clock_width, length_width, target_width, grace_width, penalty_width, count_at, entries_at, entry_width, own_in, entries_of, calls_in}
+use Rattle.opinion_log.specs.Log.{clock_width, length_width, target_width, grace_width, penalty_width, count_at, entries_at, entry_width, own_in, entries_of, calls_in, listed_in}
 
 -- ---- an entry written: the bytes before the body, and the log with one more entry
 abbrev pub head_bytes : ℕ → ℕ → Bool → ℕ → ℕ → ℕ → List ℕ
@@ -45,6 +47,11 @@ pub record Adds (log : List ℕ) (n : ℕ) (x : Entry) (after : List ℕ) : Type
 -- a packet call's input
 abbrev pub arrival_by : List ℕ → ℕ → ℕ → Bool → Arrival
 arrival_by bytes port clock signed = record { bytes = bytes; port = port; clock = clock; signed = signed }
+
+-- how many calls are listed, if one more has room
+abbrev pub HasRoom : List ℕ → Result ℕ Refusal → Type 0
+HasRoom log (Ok n) = (n ≡ listed_in log) × (n < list_limit)
+HasRoom log (Err refusal) = (refusal ≡ ListFull) × (list_limit ≤ listed_in log)
 
 -- the refusal of a packet, whatever the host's word on its signature, when n calls are listed and the output has this room
 abbrev pub RefusesAs : List ℕ → ℕ → List ℕ → ℕ → ℕ → ℕ → ℕ → Type 0

@@ -1,6 +1,7 @@
 // The calls that are judged by what the packets listed did.
 ghost use Rattle.std.specs.Prelude.{◌≡◌, true, ◌≤◌, length};
 ghost use Rattle.packet.specs.Read.{longest_packet, reads};
+ghost use Rattle.numbers.specs.Refusals.{refused_number};
 ghost use Rattle.rules.specs.Judging.{plan, verdict, output_after};
 ghost use Rattle.rules.specs.Tests.{is_there};
 ghost use Rattle.rules.specs.Calls.{marks};
@@ -12,11 +13,11 @@ ghost use Rattle.opinion.specs.Calls.{Opines, Settles};
 ghost use Rattle.opinion_log.specs.Steps.{view_by};
 ghost use Rattle.opinion.specs.Steps.{arrival_by};
 
-use super::refusing::{clock_bad, packet_refusal};
+use super::refusing::{check_packet, clock_bad, room_in};
 use super::writing::put;
 use judging::{Arrived, answer_of, plan_of};
-use numbers::refusals;
-use opinion_log::places::{LIST_LIMIT, LOG_SIZE};
+use numbers::Refusal;
+use opinion_log::places::LOG_SIZE;
 use opinion_log::{Entry, listed, live_path, outcomes_of, path_of, seen};
 use rules::{Answer, Verdict};
 
@@ -63,11 +64,10 @@ pub fn take_packet(
     ensures { Opines log.old (arrival_by packet.now port clock signed)
         output.old result log.new output.new }
 {
-    let n = listed(log);
-    let refusal = packet_refusal(log, n, packet, port, clock, output.len());
-    if refusal != refusals::NONE {
-        return Answer::Refused(refusal);
+    if let Err(refusal) = check_packet(log, packet, port, clock, output.len()) {
+        return Answer::Refused(refusal.number());
     }
+    let n = listed(log);
     let arrived = Arrived {
         port: port as u8,
         clock,
@@ -79,19 +79,20 @@ pub fn take_packet(
 }
 
 // Marks a destination's live path unresponsive.
-pub fn mark_path_unresponsive(log: &mut [u8; LOG_SIZE], destination: [u8; 16], clock: u64) -> u8
-    ensures { Settles log.old (marks destination clock) result log.new }
+pub fn mark_path_unresponsive(
+    log: &mut [u8; LOG_SIZE],
+    destination: [u8; 16],
+    clock: u64,
+) -> Result<(), Refusal>
+    ensures { Settles log.old (marks destination clock) (refused_number result) log.new }
 {
-    let n = listed(log);
-    if n >= LIST_LIMIT {
-        return refusals::LIST_FULL;
-    }
+    let n = room_in(log)?;
     if clock_bad(log, n, clock) {
-        return refusals::CLOCK;
+        return Err(Refusal::Clock);
     }
     if !has_path(log, n, destination, clock) {
-        return refusals::NO_LIVE_PATH;
+        return Err(Refusal::NoLivePath);
     }
     put(log, n, Entry::Marks(destination, clock));
-    refusals::NONE
+    Ok(())
 }

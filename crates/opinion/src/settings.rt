@@ -1,16 +1,18 @@
-// The calls that need no packet. Each returns a refusal's number, or 0; a refusal changes no byte of the log.
+// The calls that need no packet. A refusal changes no byte of the log.
 ghost use Rattle.std.specs.Prelude.{◌≡◌, not, leb};
 ghost use Rattle.octets.specs.Choice.{◌or◌};
 ghost use Rattle.numbers.specs.Numbers.{port_count, mode_count, is_size};
+ghost use Rattle.numbers.specs.Refusals.{refused_number};
 ghost use Rattle.rules.specs.Calls.{sets_port, sets_rate, adds, removes, renumbers};
 ghost use Rattle.opinion.specs.Calls.{IsFresh, Settles};
 
+use super::refusing::room_in;
 use super::writing::{put, put_fresh};
 use judging::SeenPort;
 use maps::one_to_one;
-use numbers::{LOCAL_COUNT, MODE_COUNT, PORT_COUNT, refusals};
-use opinion_log::places::{LIST_LIMIT, LOG_SIZE};
-use opinion_log::{Entry, is_local, listed, local_number, rate_within};
+use numbers::{LOCAL_COUNT, MODE_COUNT, PORT_COUNT, Refusal};
+use opinion_log::places::LOG_SIZE;
+use opinion_log::{Entry, is_local, local_number, rate_within};
 use rules::RateSettings;
 
 // Makes a fresh log. What it held is not read.
@@ -28,15 +30,18 @@ fn setting_bad(port: u64, mode: u64, size: u64) -> bool
 }
 
 // Sets a port on or off, its mode and its size.
-pub fn set_port(log: &mut [u8; LOG_SIZE], port: u64, on: bool, mode: u64, size: u64) -> u8
-    ensures { Settles log.old (sets_port port on mode size) result log.new }
+pub fn set_port(
+    log: &mut [u8; LOG_SIZE],
+    port: u64,
+    on: bool,
+    mode: u64,
+    size: u64,
+) -> Result<(), Refusal>
+    ensures { Settles log.old (sets_port port on mode size) (refused_number result) log.new }
 {
-    let n = listed(log);
-    if n >= LIST_LIMIT {
-        return refusals::LIST_FULL;
-    }
+    let n = room_in(log)?;
     if setting_bad(port, mode, size) {
-        return refusals::SETTING;
+        return Err(Refusal::Setting);
     }
     let settings = SeenPort {
         on,
@@ -44,73 +49,66 @@ pub fn set_port(log: &mut [u8; LOG_SIZE], port: u64, on: bool, mode: u64, size: 
         size: size as usize,
     };
     put(log, n, Entry::SetsPort(port as u8, settings));
-    refusals::NONE
+    Ok(())
 }
 
 // Sets the announce rate: target interval, grace and penalty.
-pub fn set_rate(log: &mut [u8; LOG_SIZE], target: u64, grace: u64, penalty: u64) -> u8
-    ensures { Settles log.old (sets_rate target grace penalty) result log.new }
+pub fn set_rate(
+    log: &mut [u8; LOG_SIZE],
+    target: u64,
+    grace: u64,
+    penalty: u64,
+) -> Result<(), Refusal>
+    ensures { Settles log.old (sets_rate target grace penalty) (refused_number result) log.new }
 {
-    let n = listed(log);
-    if n >= LIST_LIMIT {
-        return refusals::LIST_FULL;
-    }
+    let n = room_in(log)?;
     let rate = RateSettings {
         target,
         grace,
         penalty,
     };
     if !rate_within(rate) {
-        return refusals::SETTING;
+        return Err(Refusal::Setting);
     }
     put(log, n, Entry::SetsRate(rate));
-    refusals::NONE
+    Ok(())
 }
 
 // Adds a local address.
-pub fn add_local(log: &mut [u8; LOG_SIZE], address: [u8; 16]) -> u8
-    ensures { Settles log.old (adds address) result log.new }
+pub fn add_local(log: &mut [u8; LOG_SIZE], address: [u8; 16]) -> Result<(), Refusal>
+    ensures { Settles log.old (adds address) (refused_number result) log.new }
 {
-    let n = listed(log);
-    if n >= LIST_LIMIT {
-        return refusals::LIST_FULL;
-    }
+    let n = room_in(log)?;
     if is_local(log, n, address) {
-        return refusals::LOCAL_ADDRESS;
+        return Err(Refusal::LocalAddress);
     }
     if local_number(log, n) >= LOCAL_COUNT {
-        return refusals::LOCAL_FULL;
+        return Err(Refusal::LocalFull);
     }
     put(log, n, Entry::Adds(address));
-    refusals::NONE
+    Ok(())
 }
 
 // Removes a local address.
-pub fn remove_local(log: &mut [u8; LOG_SIZE], address: [u8; 16]) -> u8
-    ensures { Settles log.old (removes address) result log.new }
+pub fn remove_local(log: &mut [u8; LOG_SIZE], address: [u8; 16]) -> Result<(), Refusal>
+    ensures { Settles log.old (removes address) (refused_number result) log.new }
 {
-    let n = listed(log);
-    if n >= LIST_LIMIT {
-        return refusals::LIST_FULL;
-    }
+    let n = room_in(log)?;
     if !is_local(log, n, address) {
-        return refusals::LOCAL_ADDRESS;
+        return Err(Refusal::LocalAddress);
     }
     put(log, n, Entry::Removes(address));
-    refusals::NONE
+    Ok(())
 }
 
 // Renumbers the ports.
-pub fn renumber(log: &mut [u8; LOG_SIZE], map: [u8; 16]) -> u8
-    ensures { Settles log.old (renumbers map) result log.new }
+pub fn renumber(log: &mut [u8; LOG_SIZE], map: [u8; 16]) -> Result<(), Refusal>
+    ensures { Settles log.old (renumbers map) (refused_number result) log.new }
 {
-    let n = listed(log);
-    if n >= LIST_LIMIT {
-        return refusals::LIST_FULL;
-    }
+    let n = room_in(log)?;
     if !one_to_one(&map) {
-        return refusals::MAP;
+        return Err(Refusal::Map);
     }
     put(log, n, Entry::Renumbers(map));
-    refusals::NONE
+    Ok(())
 }

@@ -16,7 +16,7 @@ use super::places::{
 };
 use judging::{Arrived, SeenPort};
 use numbers::{
-    ADDRESS_WIDTH, GRACE_LIMIT, LONGEST_PACKET, PENALTY_LIMIT, PORT_COUNT, TARGET_LIMIT, refusals,
+    ADDRESS_WIDTH, GRACE_LIMIT, LONGEST_PACKET, PENALTY_LIMIT, PORT_COUNT, TARGET_LIMIT,
 };
 use rules::RateSettings;
 
@@ -56,7 +56,7 @@ fn read(e: &[u8]) -> Entry<'_>
     ensures { (call_of result ≡ entry_of e.now) × Fine result }
 {
     match e[KIND_AT] {
-        CAME if packet::reading_refusal(packet_in(e), LONGEST_PACKET) == refusals::NONE => {
+        CAME if packet::check(packet_in(e), LONGEST_PACKET).is_ok() => {
             Entry::Came(packet_in(e), arrived_in(e))
         }
         SETS_PORT => Entry::SetsPort(port_in(e), settings_in(e)),

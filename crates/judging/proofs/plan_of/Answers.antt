@@ -17,9 +17,9 @@ pub returns-then-duplicate : goal.returns-then-duplicate
 unfolding plan early_tests first_of too_many_hops ◌then◌otherwise◌
 returns-then-duplicate c = grind (arith, tests)
 
-pub returns-in-Bad : goal.returns-in-Bad
+pub returns-in-Some : goal.returns-in-Some
 unfolding plan early_tests first_of too_many_hops ◌then◌otherwise◌
-returns-in-Bad c = grind (arith, tests, form_bad c.args.packet.now (sym c.in-Bad.is ∙ c.form_of.ensures))
+returns-in-Some c = grind (arith, tests, form_bad c.args.packet.now (sym c.in-Some.is ∙ c.form_of.ensures))
 
 pub returns-then-own_announce : goal.returns-then-own_announce
 unfolding plan early_tests first_of too_many_hops ◌then◌otherwise◌

@@ -5,28 +5,30 @@ use Rattle.octets.specs.Listed.{first_of}
 use Rattle.octets.specs.Choice.{◌then◌otherwise◌}
 use borrow.Author.Tests.{eqb-false}
 use Rattle.std.proofs.Common.{refl}
+use Rattle.std.proofs.lemmas.Result.{err_from_is_err_and}
 use Rattle.opinion.proofs.Settled.{full, refused, accepted}
 use Rattle.std.proofs.Common.{sym, ◌∙◌}
 use borrow.Author.Tests.{leb-false}
 use Rattle.octets.proofs.Choice.{or_no_left}
 use Rattle.opinion.proofs.packets.mark_path_unresponsive.Goals as goal
 
-pub returns-then-n-ge-LIST_LIMIT : goal.returns-then-n-ge-LIST_LIMIT
-unfolding call_rows first_of ◌then◌otherwise◌
-returns-then-n-ge-LIST_LIMIT c = full _ _ (omega (arith, c.listed-n.ensures.0))
+pub returns-in_err-n : goal.returns-in_err-n
+returns-in_err-n c =
+    let p = err_from_is_err_and c.from_residual.result c.from_residual.ensures.1 in
+    rw (p.1, p.2, c.in_err-n.ensures.0) (full _ _ c.in_err-n.ensures.1)
 
 pub returns-then-clock_bad : goal.returns-then-clock_bad
 unfolding call_rows first_of ◌then◌otherwise◌
-returns-then-clock_bad c = refused _ _ (omega (arith, c.listed-n.ensures.0)) 5 (grind (arith, tests)) (eqb-false 5 0 refl)
+returns-then-clock_bad c = refused _ _ (omega (arith, c.in_ok-n.ensures.0, c.in_ok-n.ensures.1)) 5 (grind (arith, tests)) (eqb-false 5 0 refl)
 
 pub returns-then-not-has_path : goal.returns-then-not-has_path
 unfolding call_rows first_of ◌then◌otherwise◌
-returns-then-not-has_path c = refused _ _ (omega (arith, c.listed-n.ensures.0)) 12 (grind (arith, tests)) (eqb-false 12 0 refl)
+returns-then-not-has_path c = refused _ _ (omega (arith, c.in_ok-n.ensures.0, c.in_ok-n.ensures.1)) 12 (grind (arith, tests)) (eqb-false 12 0 refl)
 
 pub put-requires : goal.put-requires
 unfolding call_rows first_of ◌then◌otherwise◌
-put-requires c = (omega arith, leb-false _ _ (or_no_left _ _ (sym c.clock_bad.ensures ∙ c.if-clock_bad.false)))
+put-requires c = (c.in_ok-n.ensures.1, leb-false _ _ (or_no_left _ _ (sym c.clock_bad.ensures ∙ c.if-clock_bad.false)))
 
 pub returns : goal.returns
 unfolding call_rows first_of ◌then◌otherwise◌
-returns c = accepted _ _ (omega (arith, c.listed-n.ensures.0)) (grind (arith, tests)) c.listed-n.result c.listed-n.ensures.0 _ c.put.ensures
+returns c = accepted _ _ (omega (arith, c.in_ok-n.ensures.0, c.in_ok-n.ensures.1)) (grind (arith, tests)) _ c.in_ok-n.ensures.0 _ c.put.ensures

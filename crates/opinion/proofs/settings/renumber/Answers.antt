@@ -5,17 +5,19 @@ use Rattle.octets.specs.Listed.{first_of}
 use Rattle.octets.specs.Choice.{◌then◌otherwise◌}
 use borrow.Author.Tests.{eqb-false}
 use Rattle.std.proofs.Common.{refl}
+use Rattle.std.proofs.lemmas.Result.{err_from_is_err_and}
 use Rattle.opinion.proofs.Settled.{full, refused, accepted}
 use Rattle.opinion.proofs.settings.renumber.Goals as goal
 
-pub returns-then-n-ge-LIST_LIMIT : goal.returns-then-n-ge-LIST_LIMIT
-unfolding call_rows first_of ◌then◌otherwise◌
-returns-then-n-ge-LIST_LIMIT c = full _ _ (omega (arith, c.listed-n.ensures.0))
+pub returns-in_err-n : goal.returns-in_err-n
+returns-in_err-n c =
+    let p = err_from_is_err_and c.from_residual.result c.from_residual.ensures.1 in
+    rw (p.1, p.2, c.in_err-n.ensures.0) (full _ _ c.in_err-n.ensures.1)
 
 pub returns-then-not-one_to_one : goal.returns-then-not-one_to_one
 unfolding call_rows first_of ◌then◌otherwise◌
-returns-then-not-one_to_one c = refused _ _ (omega (arith, c.listed-n.ensures.0)) 8 (grind (arith, tests)) (eqb-false 8 0 refl)
+returns-then-not-one_to_one c = refused _ _ (omega (arith, c.in_ok-n.ensures.0, c.in_ok-n.ensures.1)) 8 (grind (arith, tests)) (eqb-false 8 0 refl)
 
 pub returns : goal.returns
 unfolding call_rows first_of ◌then◌otherwise◌
-returns c = accepted _ _ (omega (arith, c.listed-n.ensures.0)) (grind (arith, tests)) c.listed-n.result c.listed-n.ensures.0 _ c.put.ensures
+returns c = accepted _ _ (omega (arith, c.in_ok-n.ensures.0, c.in_ok-n.ensures.1)) (grind (arith, tests)) _ c.in_ok-n.ensures.0 _ c.put.ensures

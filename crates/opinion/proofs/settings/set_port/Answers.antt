@@ -5,6 +5,7 @@ use Rattle.octets.specs.Listed.{first_of}
 use Rattle.octets.specs.Choice.{◌then◌otherwise◌}
 use borrow.Author.Tests.{eqb-false}
 use Rattle.std.proofs.Common.{refl}
+use Rattle.std.proofs.lemmas.Result.{err_from_is_err_and}
 use Rattle.opinion.proofs.Settled.{full, refused, accepted}
 use Rattle.std.proofs.Common.{◌<◌, sym, ◌∙◌}
 use borrow.Author.Tests.{not-false, leb-false}
@@ -13,13 +14,14 @@ use Rattle.numbers.specs.Numbers.{port_count, mode_count}
 use Rattle.packet.proofs.ReadLaws.{size_most}
 use Rattle.opinion.proofs.settings.set_port.Goals as goal
 
-pub returns-then-n-ge-LIST_LIMIT : goal.returns-then-n-ge-LIST_LIMIT
-unfolding call_rows first_of ◌then◌otherwise◌
-returns-then-n-ge-LIST_LIMIT c = full _ _ (omega (arith, c.listed-n.ensures.0))
+pub returns-in_err-n : goal.returns-in_err-n
+returns-in_err-n c =
+    let p = err_from_is_err_and c.from_residual.result c.from_residual.ensures.1 in
+    rw (p.1, p.2, c.in_err-n.ensures.0) (full _ _ c.in_err-n.ensures.1)
 
 pub returns-then-setting_bad : goal.returns-then-setting_bad
 unfolding call_rows first_of ◌then◌otherwise◌
-returns-then-setting_bad c = refused _ _ (omega (arith, c.listed-n.ensures.0)) 9 (grind (arith, tests)) (eqb-false 9 0 refl)
+returns-then-setting_bad c = refused _ _ (omega (arith, c.in_ok-n.ensures.0, c.in_ok-n.ensures.1)) 9 (grind (arith, tests)) (eqb-false 9 0 refl)
 
 pub overflow_cast-settings : goal.overflow_cast-settings
 unfolding call_rows first_of ◌then◌otherwise◌
@@ -39,8 +41,8 @@ pub put-requires : goal.put-requires
 unfolding call_rows first_of ◌then◌otherwise◌
 put-requires c =
     let fine = sym c.setting_bad.ensures ∙ c.if-setting_bad.false in
-    (omega arith, (leb-false _ _ (or_no_left _ _ fine), size_most _ (not-false _ (or_no_right _ _ (or_no_right _ _ fine)))))
+    (c.in_ok-n.ensures.1, (leb-false _ _ (or_no_left _ _ fine), size_most _ (not-false _ (or_no_right _ _ (or_no_right _ _ fine)))))
 
 pub returns : goal.returns
 unfolding call_rows first_of ◌then◌otherwise◌
-returns c = accepted _ _ (omega (arith, c.listed-n.ensures.0)) (grind (arith, tests)) c.listed-n.result c.listed-n.ensures.0 _ c.put.ensures
+returns c = accepted _ _ (omega (arith, c.in_ok-n.ensures.0, c.in_ok-n.ensures.1)) (grind (arith, tests)) _ c.in_ok-n.ensures.0 _ c.put.ensures
